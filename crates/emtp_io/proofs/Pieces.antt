@@ -1,7 +1,7 @@
 -- Outputs that grow piece by piece, and a file that is read piece by piece.
-use Rattle.std.proofs.Common.{◌≡◌, ℕ, ◌+◌, ◌≤◌, length, arith, length-append, List, [], ◌++◌, take, drop, refl, sym, ◌∙◌, ap, subst, append_assoc, Option, Some, None, IsSome}
+use Rattle.std.proofs.Common.{◌≡◌, ℕ, ◌+◌, ◌≤◌, length, arith, length-append, List, ◌++◌, take, drop, refl, sym, ◌∙◌, ap, subst, append_assoc, Option, Some, None, IsSome}
 use Rattle.std.proofs.Math.Seq.{take-add, take-append-add}
-use Rattle.std.proofs.lemmas.List.{take-append-le}
+use Rattle.std.proofs.lemmas.List.{take-append-le, take_rest}
 use Rattle.emtp_io.specs.declared.cabinet.Output.{Output}
 use Rattle.emtp_io.specs.declared.cabinet.Output.TheVariants.{Cfg, Dat, Note, Summary}
 use Rattle.emtp_io.specs.Cabinet.{Entry, Outputs, output, with_output, longer, appended, before_left, HasRoom, GrewByPrefix, TookFront}
@@ -37,13 +37,6 @@ before_left-before_left xs ys None = refl
 before_left-before_left xs ys (Some rest) =
     ap (λ (bytes : List ℕ). Some bytes) (sym (append_assoc xs ys rest))
 
-pub before_left-nil : (left : Option (List ℕ)) → before_left [] left ≡ left
-before_left-nil None = refl
-before_left-nil (Some rest) = refl
-
--- what the next `write` or `read` of a loop did
-pub ruleset pieces = (appended-next, before_left-before_left, before_left-nil)
-
 -- one more piece was read
 pub took-next : (xs ys : List ℕ) (first middle last : Option (List ℕ))
     → first ≡ before_left xs middle → middle ≡ before_left ys last → TookFront first last
@@ -57,6 +50,9 @@ pub opened-before : (xs : List ℕ) (first last : Option (List ℕ))
     → first ≡ before_left xs last → IsSome last → IsSome first
 opened-before xs first None p some = cc
 opened-before xs first (Some rest) p some = subst (λ (o : Option (List ℕ)). IsSome o) (sym p) some
+
+-- one more turn of a loop over `write` or `read`
+pub ruleset pieces = (appended-next, take_rest, took-next, opened-before)
 
 -- the first part stopped
 pub grew-first : (old new : Outputs) (out : Output) (xs ys : List ℕ)

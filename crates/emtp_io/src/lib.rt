@@ -20,6 +20,8 @@ mod count;
 mod disk;
 mod files;
 mod memory;
+#[cfg(test)]
+mod tests;
 mod whole;
 
 pub use cabinet::{Cabinet, Failed, Output};

@@ -7,6 +7,7 @@ use crate::{Cabinet, Failed, Output};
 use std::alloc::{AllocError, Global};
 
 /// Writes all bytes in order. It fails where a write fails; a prefix of the bytes was appended then.
+#[tactic(auto, using(crate::proofs::Pieces::pieces))]
 pub fn write_all<C: Cabinet>(cab: &mut C, out: Output, bytes: &[u8]) -> Result<(), Failed>
     ensures nature { C.nature cab.new ≡ C.nature cab.old }
     ensures cause { HasCause (C.faults_out cab.old) (C.faults_out cab.new) result }
@@ -57,6 +58,7 @@ const CHUNK: usize = 4096;
 
 /// Reads the opened file to its end, or until `bound` bytes were taken. After a refusal the bytes that
 /// were taken are given up, and the read position is after them.
+#[tactic(auto, using(crate::proofs::Pieces::pieces))]
 pub fn read_all<C: Cabinet>(alloc: Global, cab: &mut C, bound: usize) -> Result<Vec<u8>, ReadEnd>
     requires { bound ≤ 64000001 }
     ensures nature { C.nature cab.new ≡ C.nature cab.old }
