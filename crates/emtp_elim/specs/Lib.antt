@@ -1,0 +1,5 @@
+pub mod Matrix
+pub mod Rows
+pub mod Elimination
+pub mod Fault
+pub mod Outcome
