@@ -31,24 +31,24 @@ apart m n = (m - n) + (n - m)
 -- no multiple of d lies nearer to n than the rounded quotient's
 pub apart-near_abs : (n d k : ℕ) → 0 < d → apart n (near_abs n d * d) ≤ apart n (k * d)
 apart-near_abs n d k h = elim (cases_order k (near_abs n d)) [
-    | inl same ↦ rw same (omega arith)
-    | inr (inl less) ↦
-        let step : (k + 1) * d ≤ near_abs n d * d = mul-le-mul_right d (omega arith) in
-        omega (arith, near_abs-low n d h, near_abs-high n d h)
-    | inr (inr more) ↦
-        let step : (near_abs n d + 1) * d ≤ k * d = mul-le-mul_right d (omega arith) in
-        omega (arith, near_abs-low n d h, near_abs-high n d h)
-  ]
+  | inl same ↦ rw same (omega arith)
+  | inr (inl less) ↦
+      let step : (k + 1) * d ≤ near_abs n d * d = mul-le-mul_right d (omega arith) in
+      omega (arith, near_abs-low n d h, near_abs-high n d h)
+  | inr (inr more) ↦
+      let step : (near_abs n d + 1) * d ≤ k * d = mul-le-mul_right d (omega arith) in
+      omega (arith, near_abs-low n d h, near_abs-high n d h)
+]
 
 -- and one that lies as near is no greater
 pub near_abs-farther : (n d k : ℕ) → 0 < d → apart n (k * d) ≡ apart n (near_abs n d * d) → k ≤ near_abs n d
 near_abs-farther n d k h e = elim (cases_order k (near_abs n d)) [
-    | inl same ↦ omega arith
-    | inr (inl less) ↦ omega arith
-    | inr (inr more) ↦
-        let step : (near_abs n d + 1) * d ≤ k * d = mul-le-mul_right d (omega arith) in
-        absurd (omega (arith, near_abs-low n d h, near_abs-high n d h))
-  ]
+  | inl same ↦ omega arith
+  | inr (inl less) ↦ omega arith
+  | inr (inr more) ↦
+      let step : (near_abs n d + 1) * d ≤ k * d = mul-le-mul_right d (omega arith) in
+      absurd (omega (arith, near_abs-low n d h, near_abs-high n d h))
+]
 
 pub near_abs-none : (n : ℕ) → near_abs n 0 ≡ 0
 unfolding near_abs
@@ -62,29 +62,29 @@ pub near_abs-le : (n d : ℕ) → near_abs n d ≤ n
 near_abs-le zero d = rw (near_abs-zero d) (omega arith)
 near_abs-le (suc n) zero = rw (near_abs-none (suc n)) (omega arith)
 near_abs-le (suc n) (suc d) = elim (cases_lt (suc n) (near_abs (suc n) (suc d))) [
-    | inl more ↦
-        let step : (suc n + 1) * suc d ≤ near_abs (suc n) (suc d) * suc d = mul-le-mul_right (suc d) (omega arith) in
-        let most : suc n * 1 ≤ suc n * suc d = mul-le-mul_left (suc n) (omega arith) in
-        absurd (omega (arith, near_abs-low (suc n) (suc d) (omega arith)))
-    | inr less ↦ less
-  ]
+  | inl more ↦
+      let step : (suc n + 1) * suc d ≤ near_abs (suc n) (suc d) * suc d = mul-le-mul_right (suc d) (omega arith) in
+      let most : suc n * 1 ≤ suc n * suc d = mul-le-mul_left (suc n) (omega arith) in
+      absurd (omega (arith, near_abs-low (suc n) (suc d) (omega arith)))
+  | inr less ↦ less
+]
 
 pub near_abs-mono : (m n d : ℕ) → m ≤ n → near_abs m d ≤ near_abs n d
 near_abs-mono m n zero h = rw (near_abs-none m, near_abs-none n) (omega arith)
 near_abs-mono m n (suc d) h = elim (cases_lt (near_abs n (suc d)) (near_abs m (suc d))) [
-    | inl more ↦
-        let step : (near_abs n (suc d) + 1) * suc d ≤ near_abs m (suc d) * suc d = mul-le-mul_right (suc d) (omega arith) in
-        absurd (omega (arith, near_abs-low m (suc d) (omega arith), near_abs-high n (suc d) (omega arith)))
-    | inr less ↦ less
-  ]
+  | inl more ↦
+      let step : (near_abs n (suc d) + 1) * suc d ≤ near_abs m (suc d) * suc d = mul-le-mul_right (suc d) (omega arith) in
+      absurd (omega (arith, near_abs-low m (suc d) (omega arith), near_abs-high n (suc d) (omega arith)))
+  | inr less ↦ less
+]
 
 -- by an even divisor, half of it is added and the quotient is whole
 pub near_abs-even : (n h : ℕ) → 0 < h → near_abs n (2 * h) ≡ (n + h) / (2 * h)
 near_abs-even n h some =
     let twice : 0 < 2 * h = omega arith in
     near_abs_is n (2 * h) ((n + h) / (2 * h))
-        (omega (arith, div-mul-le_self (n + h) (2 * h)))
-        (omega (arith, lt-div-mul-add {a = n + h} {b = 2 * h} twice))
+    (omega (arith, div-mul-le_self (n + h) (2 * h)))
+    (omega (arith, lt-div-mul-add {a = n + h} {b = 2 * h} twice))
 
 -- ---- with signs
 

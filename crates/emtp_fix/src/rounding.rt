@@ -77,7 +77,11 @@ fn with_sign_of(a: i128, magnitude: u128) -> i128
     ensures value { (d : ℕ) → magnitude ≡ near_abs (unsigned_abs a) d → result ≡ near a (pos d) }
     ensures bound { unsigned_abs result ≤ magnitude }
 {
-    if a < 0 { -(magnitude as i128) } else { magnitude as i128 }
+    if a < 0 {
+        -(magnitude as i128)
+    } else {
+        magnitude as i128
+    }
 }
 
 fn near_micro(a: i128) -> i128
@@ -105,7 +109,10 @@ fn near_atto(a: i128) -> i128
     requires { unsigned_abs a ≤ 16 * 10 ^ 37 }
     ensures { result ≡ near a (pos (10 ^ 18)) }
 {
-    with_sign_of(a, micro_quotient(pico_quotient(a.unsigned_abs() + u128::from(ATTO / 2))))
+    with_sign_of(
+        a,
+        micro_quotient(pico_quotient(a.unsigned_abs() + u128::from(ATTO / 2))),
+    )
 }
 
 // The quotients by long division. What is left after the powers of two are shifted out is written in
