@@ -1,0 +1,6 @@
+pub mod Buffer
+pub mod Cabinet
+pub mod Calls
+pub mod Files
+pub mod Memory
+pub mod Writes
