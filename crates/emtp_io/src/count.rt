@@ -13,6 +13,7 @@ pub fn count_one(count: &mut u64) -> u64
 
 /// Counts one more fault.
 pub fn raise(count: &mut u64)
+    ensures counted { count.new ≡ one_more count.old }
     ensures later { count.old ≤ count.new }
     ensures rose { Rose count.old count.new }
 {

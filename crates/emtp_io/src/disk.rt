@@ -1,12 +1,15 @@
 // The real files of a runtime. A cabinet of these tells nothing of what they hold.
-ghost use Rattle.std.specs.Prelude.{◌≡◌, ◌<◌, ◌≤◌, length, None, IfSome};
-ghost use Rattle.emtp_io.specs.Cabinet.{untold, no_outputs};
+ghost use Rattle.std.specs.Prelude.{◌≡◌, ◌<◌, ◌≤◌, true, false, length, is_some, None, IfSome, IsTrue, IsNone, IsSome, OnSome, OnOk, OnErr, IfOk};
+ghost use Rattle.std.specs.Bool.{OnTrue, OnFalse};
+ghost use Rattle.emtp_io.specs.Cabinet.{untold, no_outputs, one_more, HasCause};
+ghost use Rattle.emtp_io.specs.Disk.{Disk, is_created, with_created};
 
 use crate::count::raise;
 use crate::{Cabinet, Failed, Output};
 use std::fs;
 use std::io;
 use std::io::{ErrorKind, Read, Write};
+use std::marker::Model;
 use std::rt::Files;
 
 /// The files of the runtime `rt`. Notes and summaries go to its standard output.
@@ -24,11 +27,21 @@ pub struct DiskCabinet<R: Files + Print + Drop> {
     faults_out: u64,
 }
 
+impl<R: Files + Print + Drop> Model for DiskCabinet<R> {
+    ghost Value = { Disk };
+
+    ghost view = { λ d. record {
+        is_open = is_some d.input; cfg = is_some d.cfg; dat = is_some d.dat;
+        note = d.note_created; summary = d.summary_created;
+        faults_in = d.faults_in; faults_out = d.faults_out } };
+}
+
 impl<R: Files + Print + Drop> DiskCabinet<R> {
     /// A cabinet over this runtime, with no file opened and no output created.
     pub fn new(rt: R) -> DiskCabinet<R>
-        ensures faults_in { result.faults_in ≡ 0 }
-        ensures faults_out { result.faults_out ≡ 0 }
+        ensures { result ≡ record {
+            is_open = false; cfg = false; dat = false; note = false; summary = false;
+            faults_in = 0; faults_out = 0 } }
     {
         DiskCabinet {
             rt,
@@ -42,16 +55,18 @@ impl<R: Files + Print + Drop> DiskCabinet<R> {
         }
     }
 
-    // Writes to the standard output, for an output that was created.
-    fn print(&self, created: bool, piece: &[u8]) -> Option<usize>
-        ensures bound { IfSome result (λ n. n ≤ length piece.now) }
-        ensures some { IfSome result (λ n. 0 < length piece.now → 0 < n) }
-    {
-        if !created {
-            return None;
-        }
-        write_some(&mut io::writer(&self.rt), piece)
+}
+
+// Writes to the standard output, for an output that was created.
+fn print_some<R: Print>(rt: &R, created: bool, piece: &[u8]) -> Option<usize>
+    ensures created { OnSome result (IsTrue created) }
+    ensures bound { IfSome result (λ n. n ≤ length piece.now) }
+    ensures some { IfSome result (λ n. 0 < length piece.now → 0 < n) }
+{
+    if !created {
+        return None;
     }
+    write_some(&mut io::writer(rt), piece)
 }
 
 // Reads once, and again where a signal interrupts it.
@@ -84,13 +99,19 @@ fn write_some<F: Write>(file: &mut F, piece: &[u8]) -> Option<usize>
     None
 }
 
+// Reads from a file that was opened.
 fn read_from<F: Read>(file: &mut Option<F>, buf: &mut [u8]) -> Option<usize>
-    ensures { IfSome result (λ n. n ≤ length buf.new) }
+    ensures opened { OnSome result (IsSome file.old) }
+    ensures same { is_some file.new ≡ is_some file.old }
+    ensures bound { IfSome result (λ n. n ≤ length buf.new) }
 {
     read_some(file.as_mut()?, buf)
 }
 
+// Writes to a file that was created.
 fn write_to<F: Write>(file: &mut Option<F>, piece: &[u8]) -> Option<usize>
+    ensures created { OnSome result (IsSome file.old) }
+    ensures same { is_some file.new ≡ is_some file.old }
     ensures bound { IfSome result (λ n. n ≤ length piece.now) }
     ensures some { IfSome result (λ n. 0 < length piece.now → 0 < n) }
 {
@@ -98,7 +119,10 @@ fn write_to<F: Write>(file: &mut Option<F>, piece: &[u8]) -> Option<usize>
 }
 
 // Makes a file empty, and puts it in place of the one before. Where that fails, the one before stays.
-fn create_file<R: Files>(rt: &R, name: &str, file: &mut Option<R::File>) -> bool {
+fn create_file<R: Files>(rt: &R, name: &str, file: &mut Option<R::File>) -> bool
+    ensures created { OnTrue result (IsSome file.new) }
+    ensures kept { OnFalse result (file.new ≡ file.old) }
+{
     match fs::create(rt, name) {
         Ok(created) => {
             *file = Some(created);
@@ -119,7 +143,12 @@ impl<R: Files + Print + Drop> Cabinet for DiskCabinet<R> {
 
     ghost outputs = { λ _. no_outputs };
 
-    fn open(&mut self, name: &str) -> Result<(), Failed> {
+    fn open(&mut self, name: &str) -> Result<(), Failed>
+        ensures cause { HasCause self.old.faults_in self.new.faults_in result }
+        ensures other { self.new.faults_out ≡ self.old.faults_out }
+        ensures ok { OnOk result (self.new ≡ record self.old { is_open = true }) }
+        ensures err { OnErr result (self.new ≡ record self.old { faults_in = one_more self.old.faults_in }) }
+    {
         match fs::open(&self.rt, name) {
             Ok(file) => {
                 self.input = Some(file);
@@ -132,7 +161,14 @@ impl<R: Files + Print + Drop> Cabinet for DiskCabinet<R> {
         }
     }
 
-    fn read(&mut self, buf: &mut [u8]) -> Result<usize, Failed> {
+    fn read(&mut self, buf: &mut [u8]) -> Result<usize, Failed>
+        ensures cause { HasCause self.old.faults_in self.new.faults_in result }
+        ensures other { self.new.faults_out ≡ self.old.faults_out }
+        ensures opened { OnOk result (IsTrue self.old.is_open) }
+        ensures bound { IfOk result (λ n. n ≤ length buf.new) }
+        ensures ok { OnOk result (self.new ≡ self.old) }
+        ensures err { OnErr result (self.new ≡ record self.old { faults_in = one_more self.old.faults_in }) }
+    {
         match read_from(&mut self.input, buf) {
             Some(count) => Ok(count),
             None => {
@@ -142,7 +178,12 @@ impl<R: Files + Print + Drop> Cabinet for DiskCabinet<R> {
         }
     }
 
-    fn create(&mut self, out: Output, name: &str) -> Result<(), Failed> {
+    fn create(&mut self, out: Output, name: &str) -> Result<(), Failed>
+        ensures cause { HasCause self.old.faults_out self.new.faults_out result }
+        ensures other { self.new.faults_in ≡ self.old.faults_in }
+        ensures ok { OnOk result (self.new ≡ with_created self.old out) }
+        ensures err { OnErr result (self.new ≡ record self.old { faults_out = one_more self.old.faults_out }) }
+    {
         let created = match out {
             Output::Cfg => create_file(&self.rt, name, &mut self.cfg),
             Output::Dat => create_file(&self.rt, name, &mut self.dat),
@@ -163,12 +204,20 @@ impl<R: Files + Print + Drop> Cabinet for DiskCabinet<R> {
         }
     }
 
-    fn write(&mut self, out: Output, piece: &[u8]) -> Result<usize, Failed> {
+    fn write(&mut self, out: Output, piece: &[u8]) -> Result<usize, Failed>
+        ensures cause { HasCause self.old.faults_out self.new.faults_out result }
+        ensures other { self.new.faults_in ≡ self.old.faults_in }
+        ensures created { OnOk result (IsTrue (is_created self.old out)) }
+        ensures bound { IfOk result (λ n. n ≤ length piece.now) }
+        ensures some { IfOk result (λ n. 0 < length piece.now → 0 < n) }
+        ensures ok { OnOk result (self.new ≡ self.old) }
+        ensures err { OnErr result (self.new ≡ record self.old { faults_out = one_more self.old.faults_out }) }
+    {
         let count = match out {
             Output::Cfg => write_to(&mut self.cfg, piece),
             Output::Dat => write_to(&mut self.dat, piece),
-            Output::Note => self.print(self.note_created, piece),
-            Output::Summary => self.print(self.summary_created, piece),
+            Output::Note => print_some(&self.rt, self.note_created, piece),
+            Output::Summary => print_some(&self.rt, self.summary_created, piece),
         };
         match count {
             Some(count) => Ok(count),

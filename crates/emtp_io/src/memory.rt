@@ -201,9 +201,7 @@ impl Cabinet for MemoryCabinet {
         ensures other { self.new.faults_out ≡ self.old.faults_out }
         ensures outputs { memory_outputs self.new ≡ memory_outputs self.old }
         ensures err { OnErr result (memory_left self.new ≡ memory_left self.old) }
-        ensures ok { IsTrue (memory_nature self.old).tells → OnOk result (memory_left self.new ≡ (memory_nature self.old).files name.now) }
-        ensures there { IsTrue (memory_nature self.old).tells → OnOk result (IsSome ((memory_nature self.old).files name.now)) }
-        ensures calm { IsTrue (memory_nature self.old).calm → IsSome ((memory_nature self.old).files name.now) → IsOk result }
+        ensures ok { OnOk result (memory_left self.new ≡ (memory_nature self.old).files name.now) }
 
         // As told, and counted.
         ensures exact { is_err result ≡ open_fails self.old name.now }
@@ -232,10 +230,8 @@ impl Cabinet for MemoryCabinet {
         ensures outputs { memory_outputs self.new ≡ memory_outputs self.old }
         ensures err { OnErr result (memory_left self.new ≡ memory_left self.old) }
         ensures bound { IfOk result (λ n. n ≤ length buf.new) }
-        ensures ok { IsTrue (memory_nature self.old).tells → IfOk result (λ n. memory_left self.old ≡ before_left (take n buf.new) (memory_left self.new)) }
-        ensures opened { IsTrue (memory_nature self.old).tells → OnOk result (IsSome (memory_left self.old)) }
-        ensures end { IsTrue (memory_nature self.old).tells → IfOk result (λ n. n ≡ 0 → 0 < length buf.new → IsAtEnd (memory_left self.new)) }
-        ensures calm { IsTrue (memory_nature self.old).calm → IsSome (memory_left self.old) → IsOk result }
+        ensures ok { IfOk result (λ n. memory_left self.old ≡ before_left (take n buf.new) (memory_left self.new)) }
+        ensures end { IfOk result (λ n. n ≡ 0 → 0 < length buf.new → IsAtEnd (memory_left self.new)) }
 
         // As told, counted, and so many bytes.
         ensures exact { is_err result ≡ read_fails self.old }
@@ -263,9 +259,8 @@ impl Cabinet for MemoryCabinet {
         ensures other { self.new.faults_in ≡ self.old.faults_in }
         ensures left { memory_left self.new ≡ memory_left self.old }
         ensures err { OnErr result (memory_outputs self.new ≡ memory_outputs self.old) }
-        ensures ok { IsTrue (memory_nature self.old).tells → OnOk result (memory_outputs self.new
+        ensures ok { OnOk result (memory_outputs self.new
             ≡ with_output (memory_outputs self.old) out (Some (record { name = name.now; bytes = [] }))) }
-        ensures calm { IsTrue (memory_nature self.old).calm → length name.now ≤ (memory_nature self.old).room → IsOk result }
 
         // As told, and counted.
         ensures exact { is_err result ≡ create_fails self.old name.now }
@@ -289,11 +284,8 @@ impl Cabinet for MemoryCabinet {
         ensures err { OnErr result (memory_outputs self.new ≡ memory_outputs self.old) }
         ensures bound { IfOk result (λ n. n ≤ length piece.now) }
         ensures some { IfOk result (λ n. 0 < length piece.now → 0 < n) }
-        ensures ok { IsTrue (memory_nature self.old).tells → IfOk result (λ n. memory_outputs self.new
+        ensures ok { IfOk result (λ n. memory_outputs self.new
             ≡ appended (memory_outputs self.old) out (take n piece.now)) }
-        ensures created { IsTrue (memory_nature self.old).tells → OnOk result (IsSome (output (memory_outputs self.old) out)) }
-        ensures calm_empty { IsTrue (memory_nature self.old).calm → IsSome (output (memory_outputs self.old) out) → length piece.now ≡ 0 → IsOk result }
-        ensures calm { IsTrue (memory_nature self.old).calm → HasRoom (output (memory_outputs self.old) out) 1 (memory_nature self.old).room → IsOk result }
 
         // As told, counted, and so many bytes.
         ensures exact { is_err result ≡ write_fails self.old out (length piece.now) }
