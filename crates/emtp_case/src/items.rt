@@ -1,8 +1,8 @@
 //! A list of records, which contracts see as the list of its items.
 
-ghost use Rattle.std.specs.Prelude.{◌≡◌, ◌++◌, [], ◌∷◌, ◌↔◌, length, IsTrue, OnOk, OnErr, IfErr};
+ghost use Rattle.std.specs.Prelude.{◌≡◌, ◌++◌, [], ◌∷◌, ◌↔◌, length, take, IsTrue, OnOk, OnErr, IfErr};
 
-use std::alloc::{AllocFailed, Global};
+use std::alloc::{AllocError, AllocFailed, Global};
 use std::marker::Model;
 
 /// A list of records. It is a `Vec` that contracts see as the list of its items, so that two records with
@@ -73,5 +73,47 @@ impl<T> Items<T> {
         ensures returned { IfErr result (λ e. e.value ≡ item) }
     {
         self.vec.push(item)
+    }
+}
+
+impl<T: Copy> Items<T> {
+    /// Puts items at the end. Where no memory is left, the list is as before.
+    pub fn extend_from_slice(&mut self, more: &[T]) -> Result<(), AllocError>
+        ensures ok { OnOk result (self.new ≡ self.old ++ more.now) }
+        ensures err { OnErr result (self.new ≡ self.old) }
+    {
+        self.vec.extend_from_slice(more)
+    }
+}
+
+impl<T: Drop> Items<T> {
+    /// Keeps the first items.
+    pub fn truncate(&mut self, len: usize)
+        ensures { self.new ≡ take len self.old }
+    {
+        self.vec.truncate(len);
+    }
+}
+
+/// Puts items at the end of one list and an item at the end of another, or leaves both where no memory is left.
+pub(crate) fn push_both<T: Copy + Drop, U: Drop>(
+    list: &mut Items<T>,
+    more: &[T],
+    other: &mut Items<U>,
+    item: U,
+) -> Result<(), AllocError>
+    ensures list_ok { OnOk result (list.new ≡ list.old ++ more.now) }
+    ensures other_ok { OnOk result (other.new ≡ other.old ++ item ∷ []) }
+    ensures list_err { OnErr result (list.new ≡ list.old) }
+    ensures other_err { OnErr result (other.new ≡ other.old) }
+{
+    let before = list.len();
+    list.extend_from_slice(more)?;
+    match other.push(item) {
+        Ok(()) => Ok(()),
+        Err(_) => {
+            list.truncate(before);
+            Err(AllocError)
+        }
     }
 }

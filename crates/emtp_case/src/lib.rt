@@ -2,8 +2,10 @@
 #![tactic(auto)]
 
 mod branch;
+mod case;
 mod channel;
 mod control;
+mod draft;
 mod expr;
 mod items;
 mod name;
@@ -13,8 +15,10 @@ mod source;
 mod switch;
 
 pub use branch::{Branch, Line, Lumped, Phase, Point, Pseudo, Trio};
+pub use case::{Case, Parts};
 pub use channel::Channel;
 pub use control::{Block, Bound, Device, Extra, Formula, Group, Input, Limiter};
+pub use draft::Draft;
 pub use expr::{BinaryOp, Expr, UnaryOp};
 pub use items::Items;
 pub use name::Name;
