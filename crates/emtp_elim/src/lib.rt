@@ -1,7 +1,10 @@
 //! Elimination in whole numbers.
 #![tactic(auto)]
 
+mod arithmetic;
+mod clearing;
 mod fault;
+mod finishing;
 mod rows;
 
 pub use fault::{PlainFault, RowCause, RowFault, SolveFault};
