@@ -6,6 +6,7 @@ mod clearing;
 mod fault;
 mod finishing;
 mod rows;
+mod storing;
 
 pub use fault::{PlainFault, RowCause, RowFault, SolveFault};
 pub use rows::Rows;
