@@ -1,5 +1,5 @@
 -- Rows that are finished: their ratios to the earlier pivots before the diagonal, their entries from it on.
-use Rattle.std.specs.Prelude.{◌≡◌, ℕ, ◌<◌, ◌≤◌, ℤ, List, length}
+use Rattle.std.specs.Prelude.{◌≡◌, ℕ, ◌+◌, ◌<◌, ◌≤◌, ℤ, List, length, take}
 use Rattle.emtp_elim.specs.Matrix.{Matrix, item, row_of, entry}
 use Rattle.emtp_elim.specs.Elimination.{ratio, stage}
 use Rattle.emtp_elim.specs.Fault.{IsGoodRow, IsCause}
@@ -41,3 +41,10 @@ pub record FinishesRow (done : Matrix) (old new : List ℤ) : Type 0 where
 -- in every such matrix the row is at fault for this cause
 pub record FaultsRow (done : Matrix) (row : List ℤ) (cause : RowCause) : Type 0 where
   pub is_cause : (rows : Matrix) → IsNext rows done row → IsCause rows (length done) cause
+
+-- the finished rows have one more, which is what elimination makes of the row
+pub record AddsRow (old new : Finished) (row : List ℤ) : Type 0 where
+  pub same_size : new.size ≡ old.size
+  pub earlier : take (length old.rows) new.rows ≡ old.rows
+  pub one_more : length new.rows ≡ length old.rows + 1
+  pub finishes : FinishesRow old.rows row (row_of new.rows (length old.rows))

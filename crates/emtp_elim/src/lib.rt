@@ -6,7 +6,9 @@ mod clearing;
 mod fault;
 mod finishing;
 mod rows;
+mod sparse;
 mod storing;
 
 pub use fault::{PlainFault, RowCause, RowFault, SolveFault};
 pub use rows::Rows;
+pub use sparse::{SparseRows, eliminate_row};
