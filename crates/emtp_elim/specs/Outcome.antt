@@ -34,22 +34,30 @@ last_below (suc n) f = or_else (f n) (last_below n f)
 abbrev pub is_within : ℕ → ℤ → Bool
 is_within limit z = nat_le (unsigned_abs z) limit
 
-abbrev pub row_in_range : Matrix → ℕ → Bool
-row_in_range rows i =
-    each_below (suc i) (λ k. each_below (length (row_of rows i)) (λ j. nat_lt j k || is_within (10 ^ 17) (entry (stage rows k) i j)))
-    && each_below i (λ k. is_within (10 ^ 18) (ratio (stage rows k) k i))
+-- row i once k columns have been cleared
+abbrev pub is_stage_in_range : Matrix → ℕ → ℕ → Bool
+is_stage_in_range rows i k = each_below (length (row_of rows i)) (λ j. nat_lt j k || is_within (10 ^ 17) (entry (stage rows k) i j))
+
+abbrev pub is_ratio_in_range : Matrix → ℕ → ℕ → Bool
+is_ratio_in_range rows i k = is_within (10 ^ 18) (ratio (stage rows k) k i)
+
+abbrev pub is_row_in_range : Matrix → ℕ → Bool
+is_row_in_range rows i = each_below (suc i) (is_stage_in_range rows i) && each_below i (is_ratio_in_range rows i)
+
+abbrev pub is_right_in_range : Matrix → List ℤ → ℕ → Bool
+is_right_in_range rows right i = each_below (suc i) (λ k. is_within (10 ^ 18) (item (stage_right rows right k) i))
 
 -- what is wrong with row i
 unfoldable pub row_fault : Matrix → ℕ → Option RowFault
 row_fault rows i =
-    if row_in_range rows i
+    if is_row_in_range rows i
     then (if nat_eq (unsigned_abs (pivot rows i)) 0 then Some (record { row = i; cause = ZeroPivot }) else None)
     else Some (record { row = i; cause = Range })
 
 -- what is wrong with the right side of row i
 unfoldable pub right_fault : Matrix → List ℤ → ℕ → Option SolveFault
 right_fault rows right i =
-    if each_below (suc i) (λ k. is_within (10 ^ 18) (item (stage_right rows right k) i)) then None else Some (record { row = i })
+    if is_right_in_range rows right i then None else Some (record { row = i })
 
 -- what is wrong with the unknown of row i
 unfoldable pub unknown_fault : Matrix → List ℤ → ℕ → Option SolveFault
