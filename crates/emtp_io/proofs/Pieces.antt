@@ -8,20 +8,25 @@ use Rattle.emtp_io.specs.Cabinet.{Entry, Outputs, output, with_output, longer, a
 
 pub longer-append : (e : Option Entry) (xs ys : List ℕ) → longer (longer e xs) ys ≡ longer e (xs ++ ys)
 longer-append None xs ys = refl
-longer-append (Some e) xs ys = ap (λ (bytes : List ℕ). Some (record e { bytes = bytes })) (append_assoc e.bytes xs ys)
+longer-append (Some e) xs ys =
+    ap (λ (bytes : List ℕ). Some (record e { bytes = bytes })) (append_assoc e.bytes xs ys)
 
 -- two pieces are one
 pub appended-append : (outs : Outputs) (out : Output) (xs ys : List ℕ)
     → appended (appended outs out xs) out ys ≡ appended outs out (xs ++ ys)
-appended-append outs Cfg xs ys = ap (λ (e : Option Entry). with_output outs Cfg e) (longer-append outs.cfg xs ys)
-appended-append outs Dat xs ys = ap (λ (e : Option Entry). with_output outs Dat e) (longer-append outs.dat xs ys)
-appended-append outs Note xs ys = ap (λ (e : Option Entry). with_output outs Note e) (longer-append outs.note xs ys)
+appended-append outs Cfg xs ys =
+    ap (λ (e : Option Entry). with_output outs Cfg e) (longer-append outs.cfg xs ys)
+appended-append outs Dat xs ys =
+    ap (λ (e : Option Entry). with_output outs Dat e) (longer-append outs.dat xs ys)
+appended-append outs Note xs ys =
+    ap (λ (e : Option Entry). with_output outs Note e) (longer-append outs.note xs ys)
 appended-append outs Summary xs ys =
     ap (λ (e : Option Entry). with_output outs Summary e) (longer-append outs.summary xs ys)
 
 -- the next piece of some bytes
 pub appended-next : (outs : Outputs) (out : Output) (bytes : List ℕ) (n m : ℕ)
-    → appended (appended outs out (take n bytes)) out (take m (drop n bytes)) ≡ appended outs out (take (n + m) bytes)
+    → appended (appended outs out (take n bytes)) out (take m (drop n bytes))
+    ≡ appended outs out (take (n + m) bytes)
 appended-next outs out bytes n m =
     appended-append outs out (take n bytes) (take m (drop n bytes))
     ∙ ap (λ (xs : List ℕ). appended outs out xs) (sym (take-add n m bytes))
@@ -29,7 +34,8 @@ appended-next outs out bytes n m =
 pub before_left-before_left : (xs ys : List ℕ) (left : Option (List ℕ))
     → before_left xs (before_left ys left) ≡ before_left (xs ++ ys) left
 before_left-before_left xs ys None = refl
-before_left-before_left xs ys (Some rest) = ap (λ (bytes : List ℕ). Some bytes) (sym (append_assoc xs ys rest))
+before_left-before_left xs ys (Some rest) =
+    ap (λ (bytes : List ℕ). Some bytes) (sym (append_assoc xs ys rest))
 
 pub before_left-nil : (left : Option (List ℕ)) → before_left [] left ≡ left
 before_left-nil None = refl
@@ -47,7 +53,8 @@ took-next xs ys first middle last p q = record {
 }
 
 -- what a piece was read from was opened
-pub opened-before : (xs : List ℕ) (first last : Option (List ℕ)) → first ≡ before_left xs last → IsSome last → IsSome first
+pub opened-before : (xs : List ℕ) (first last : Option (List ℕ))
+    → first ≡ before_left xs last → IsSome last → IsSome first
 opened-before xs first None p some = cc
 opened-before xs first (Some rest) p some = subst (λ (o : Option (List ℕ)). IsSome o) (sym p) some
 
@@ -67,13 +74,14 @@ grew-second old middle new out xs ys whole grew = record {
   count = length xs + grew.count;
   within = omega (arith, length-append xs ys, grew.within);
   grew =
-    grew.grew
-    ∙ ap (λ (outs : Outputs). appended outs out (take grew.count ys)) whole
-    ∙ appended-append old out xs (take grew.count ys)
-    ∙ ap (λ (bytes : List ℕ). appended old out bytes) (sym (take-append-add xs ys grew.count));
+      grew.grew
+      ∙ ap (λ (outs : Outputs). appended outs out (take grew.count ys)) whole
+      ∙ appended-append old out xs (take grew.count ys)
+      ∙ ap (λ (bytes : List ℕ). appended old out bytes) (sym (take-append-add xs ys grew.count));
 }
 
-room_after : (e : Option Entry) (xs : List ℕ) (more room : ℕ) → HasRoom e (length xs + more) room → HasRoom (longer e xs) more room
+room_after : (e : Option Entry) (xs : List ℕ) (more room : ℕ)
+    → HasRoom e (length xs + more) room → HasRoom (longer e xs) more room
 room_after None xs more room has = has
 room_after (Some e) xs more room has = omega (arith, length-append e.bytes xs, has)
 
@@ -86,7 +94,8 @@ room-appended old Note xs more room has = room_after old.note xs more room has
 room-appended old Summary xs more room has = room_after old.summary xs more room has
 
 -- fewer bytes have room too
-pub room_less : (e : Option Entry) (more less room : ℕ) → less ≤ more → HasRoom e more room → HasRoom e less room
+pub room_less : (e : Option Entry) (more less room : ℕ)
+    → less ≤ more → HasRoom e more room → HasRoom e less room
 room_less None more less room le has = has
 room_less (Some e) more less room le has = omega (arith, has)
 

@@ -18,7 +18,8 @@ abbrev pub after : Outputs → List Written → Outputs
 after outs [] = outs
 after outs (w ∷ ws) = after (made outs w w.bytes) ws
 
--- It stopped at one of these: those before it are whole, it isn't made or holds a prefix, and those after it aren't made.
+-- It stopped at one of these: those before it are whole, it isn't made or holds a prefix, and those
+-- after it aren't made.
 abbrev pub IsCutShort : Outputs → List Written → Outputs → Type 0
 IsCutShort outs [] new = ⊥
 IsCutShort outs (w ∷ ws) new = (new ≡ outs)

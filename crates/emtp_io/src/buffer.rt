@@ -81,10 +81,6 @@ impl OutputBuffer {
     pub fn name(&self) -> Option<&str>
         ensures { option_copied result ≡ option_map (λ e. e.name) (entry_of self.now) }
     {
-        if self.created {
-            Some(&self.name)
-        } else {
-            None
-        }
+        if self.created { Some(&self.name) } else { None }
     }
 }

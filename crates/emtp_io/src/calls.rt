@@ -61,7 +61,5 @@ impl Calls {
 fn is_listed(fails: &[Failing], op: Op, nth: u64) -> bool
     ensures { result ≡ lists fails.now op nth }
 {
-    fails
-        .iter()
-        .any(|failing| failing.op == op && u64::from(failing.nth) == nth)
+    fails.iter().any(|failing| failing.op == op && u64::from(failing.nth) == nth)
 }

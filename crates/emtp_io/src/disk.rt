@@ -6,15 +6,15 @@ ghost use Rattle.emtp_io.specs.Disk.{Disk, is_created, with_created};
 
 use crate::count::raise;
 use crate::{Cabinet, Failed, Output};
-use std::fs;
-use std::io;
 use std::io::{ErrorKind, Read, Write};
 use std::marker::Model;
 use std::rt::Files;
+use std::{fs, io};
 
 /// The files of the runtime `rt`. Notes and summaries go to its standard output.
 ///
-/// This is the trusted edge: no clause can say what a file or a terminal holds, so it is not calm and tells nothing.
+/// This is the trusted edge: no clause can say what a file or a terminal holds, so it is not calm and
+/// tells nothing of content. Its clauses say what is open and created, and when the counts rise.
 #[derive(Drop)]
 pub struct DiskCabinet<R: Files + Print + Drop> {
     rt: R,
@@ -31,17 +31,28 @@ impl<R: Files + Print + Drop> Model for DiskCabinet<R> {
     ghost Value = { Disk };
 
     ghost view = { λ d. record {
-        is_open = is_some d.input; cfg = is_some d.cfg; dat = is_some d.dat;
-        note = d.note_created; summary = d.summary_created;
-        faults_in = d.faults_in; faults_out = d.faults_out } };
+      is_open = is_some d.input;
+      cfg = is_some d.cfg;
+      dat = is_some d.dat;
+      note = d.note_created;
+      summary = d.summary_created;
+      faults_in = d.faults_in;
+      faults_out = d.faults_out;
+    } };
 }
 
 impl<R: Files + Print + Drop> DiskCabinet<R> {
     /// A cabinet over this runtime, with no file opened and no output created.
     pub fn new(rt: R) -> DiskCabinet<R>
         ensures { result ≡ record {
-            is_open = false; cfg = false; dat = false; note = false; summary = false;
-            faults_in = 0; faults_out = 0 } }
+          is_open = false;
+          cfg = false;
+          dat = false;
+          note = false;
+          summary = false;
+          faults_in = 0;
+          faults_out = 0;
+        } }
     {
         DiskCabinet {
             rt,
@@ -54,7 +65,6 @@ impl<R: Files + Print + Drop> DiskCabinet<R> {
             faults_out: 0,
         }
     }
-
 }
 
 // Writes to the standard output, for an output that was created.
@@ -147,7 +157,8 @@ impl<R: Files + Print + Drop> Cabinet for DiskCabinet<R> {
         ensures cause { HasCause self.old.faults_in self.new.faults_in result }
         ensures other { self.new.faults_out ≡ self.old.faults_out }
         ensures ok { OnOk result (self.new ≡ record self.old { is_open = true }) }
-        ensures err { OnErr result (self.new ≡ record self.old { faults_in = one_more self.old.faults_in }) }
+        ensures err { OnErr result
+            (self.new ≡ record self.old { faults_in = one_more self.old.faults_in }) }
     {
         match fs::open(&self.rt, name) {
             Ok(file) => {
@@ -167,7 +178,8 @@ impl<R: Files + Print + Drop> Cabinet for DiskCabinet<R> {
         ensures opened { OnOk result (IsTrue self.old.is_open) }
         ensures bound { IfOk result (λ n. n ≤ length buf.new) }
         ensures ok { OnOk result (self.new ≡ self.old) }
-        ensures err { OnErr result (self.new ≡ record self.old { faults_in = one_more self.old.faults_in }) }
+        ensures err { OnErr result
+            (self.new ≡ record self.old { faults_in = one_more self.old.faults_in }) }
     {
         match read_from(&mut self.input, buf) {
             Some(count) => Ok(count),
@@ -182,7 +194,8 @@ impl<R: Files + Print + Drop> Cabinet for DiskCabinet<R> {
         ensures cause { HasCause self.old.faults_out self.new.faults_out result }
         ensures other { self.new.faults_in ≡ self.old.faults_in }
         ensures ok { OnOk result (self.new ≡ with_created self.old out) }
-        ensures err { OnErr result (self.new ≡ record self.old { faults_out = one_more self.old.faults_out }) }
+        ensures err { OnErr result
+            (self.new ≡ record self.old { faults_out = one_more self.old.faults_out }) }
     {
         let created = match out {
             Output::Cfg => create_file(&self.rt, name, &mut self.cfg),
@@ -211,7 +224,8 @@ impl<R: Files + Print + Drop> Cabinet for DiskCabinet<R> {
         ensures bound { IfOk result (λ n. n ≤ length piece.now) }
         ensures some { IfOk result (λ n. 0 < length piece.now → 0 < n) }
         ensures ok { OnOk result (self.new ≡ self.old) }
-        ensures err { OnErr result (self.new ≡ record self.old { faults_out = one_more self.old.faults_out }) }
+        ensures err { OnErr result
+            (self.new ≡ record self.old { faults_out = one_more self.old.faults_out }) }
     {
         let count = match out {
             Output::Cfg => write_to(&mut self.cfg, piece),

@@ -1,9 +1,9 @@
 //! The files of the outside, behind one trait.
 //!
-//! [`Cabinet`] opens and reads named files and makes four outputs. Its clauses say what each call reads and
-//! writes, and that each refusal has its cause in a count. [`read_all`] and [`write_all`] go over a whole file
-//! and over whole texts. [`DiskCabinet`] works on real files; [`MemoryCabinet`] keeps all in memory, and fails
-//! where it is told to. It stands on std alone.
+//! [`Cabinet`] opens and reads named files and makes four outputs. Its clauses say what each call reads
+//! and writes, and that each refusal has its cause in a count. [`read_all`] and [`write_all`] go over a
+//! whole file and over whole texts. [`DiskCabinet`] works on real files; [`MemoryCabinet`] keeps all in
+//! memory, and fails where it is told to. It stands on std alone.
 //!
 //! ```text
 //! cab.open("divider.case")?;

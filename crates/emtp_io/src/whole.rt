@@ -12,10 +12,13 @@ pub fn write_all<C: Cabinet>(cab: &mut C, out: Output, bytes: &[u8]) -> Result<(
     ensures cause { HasCause (C.faults_out cab.old) (C.faults_out cab.new) result }
     ensures other { C.faults_in cab.new ≡ C.faults_in cab.old }
     ensures left { C.left cab.new ≡ C.left cab.old }
-    ensures ok { IsTrue (C.nature cab.old).tells → OnOk result (C.outputs cab.new ≡ appended (C.outputs cab.old) out bytes.now) }
-    ensures err { IsTrue (C.nature cab.old).tells → OnErr result (GrewByPrefix (C.outputs cab.old) (C.outputs cab.new) out bytes.now) }
+    ensures ok { IsTrue (C.nature cab.old).tells → OnOk result
+        (C.outputs cab.new ≡ appended (C.outputs cab.old) out bytes.now) }
+    ensures err { IsTrue (C.nature cab.old).tells → OnErr result
+        (GrewByPrefix (C.outputs cab.old) (C.outputs cab.new) out bytes.now) }
     ensures calm { IsTrue (C.nature cab.old).tells → IsTrue (C.nature cab.old).calm
-        → HasRoom (output (C.outputs cab.old) out) (length bytes.now) (C.nature cab.old).room → IsOk result }
+        → HasRoom (output (C.outputs cab.old) out) (length bytes.now) (C.nature cab.old).room
+        → IsOk result }
 {
     let mut done = 0;
     'pieces: while done < bytes.len() {
@@ -52,8 +55,8 @@ impl From<AllocError> for ReadEnd {
 /// The most bytes that one call of `read` is asked for.
 const CHUNK: usize = 4096;
 
-/// Reads the opened file to its end, or until `bound` bytes were taken. After a refusal the bytes that were
-/// taken are given up, and the read position is after them.
+/// Reads the opened file to its end, or until `bound` bytes were taken. After a refusal the bytes that
+/// were taken are given up, and the read position is after them.
 pub fn read_all<C: Cabinet>(alloc: Global, cab: &mut C, bound: usize) -> Result<Vec<u8>, ReadEnd>
     requires { bound ≤ 64000001 }
     ensures nature { C.nature cab.new ≡ C.nature cab.old }
@@ -64,12 +67,15 @@ pub fn read_all<C: Cabinet>(alloc: Global, cab: &mut C, bound: usize) -> Result<
     ensures other { C.faults_out cab.new ≡ C.faults_out cab.old }
     ensures outputs { C.outputs cab.new ≡ C.outputs cab.old }
     ensures bound { IfOk result (λ v. length v.items ≤ bound) }
-    ensures ok { IsTrue (C.nature cab.old).tells → IfOk result (λ v. IfSome (C.left cab.old) (λ bytes. v.items ≡ take bound bytes)) }
-    ensures opened { IsTrue (C.nature cab.old).tells → OnOk result (0 < bound → IsSome (C.left cab.old)) }
-    ensures position { IsTrue (C.nature cab.old).tells → IfOk result (λ v. C.left cab.old ≡ before_left v.items (C.left cab.new)) }
+    ensures ok { IsTrue (C.nature cab.old).tells → IfOk result
+        (λ v. IfSome (C.left cab.old) (λ bytes. v.items ≡ take bound bytes)) }
+    ensures opened { IsTrue (C.nature cab.old).tells → OnOk result
+        (0 < bound → IsSome (C.left cab.old)) }
+    ensures position { IsTrue (C.nature cab.old).tells → IfOk result
+        (λ v. C.left cab.old ≡ before_left v.items (C.left cab.new)) }
     ensures taken { IsTrue (C.nature cab.old).tells → TookFront (C.left cab.old) (C.left cab.new) }
-    ensures calm { IsTrue (C.nature cab.old).tells → IsTrue (C.nature cab.old).calm → IsSome (C.left cab.old)
-        → ¬ (IsErrOf result ReadEnd.Failed) }
+    ensures calm { IsTrue (C.nature cab.old).tells → IsTrue (C.nature cab.old).calm
+        → IsSome (C.left cab.old) → ¬ (IsErrOf result ReadEnd.Failed) }
 {
     let mut bytes = Vec::new(alloc);
     let mut buf = [0u8; CHUNK];

@@ -10,9 +10,9 @@ invariant-chunks g l = record {
   other : g.C.Cabinet.faults_out l.cab ≡ g.C.Cabinet.faults_out l.initial.cab;
   outputs : g.C.Cabinet.outputs l.cab ≡ g.C.Cabinet.outputs l.initial.cab;
   taken : (g.C.Cabinet.nature l.initial.cab).tells ≡ true
-    → g.C.Cabinet.left l.initial.cab ≡ before_left l.bytes.items (g.C.Cabinet.left l.cab);
+      → g.C.Cabinet.left l.initial.cab ≡ before_left l.bytes.items (g.C.Cabinet.left l.cab);
   opened : (g.C.Cabinet.nature l.initial.cab).tells ≡ true → 0 < length l.bytes.items
-    → IsSome (g.C.Cabinet.left l.initial.cab);
+      → IsSome (g.C.Cabinet.left l.initial.cab);
 }
 
 abbrev pub decreases-chunks : goal.decreases-chunks

@@ -10,7 +10,7 @@ invariant-pieces g l = record {
   other : g.C.Cabinet.faults_in l.cab ≡ g.C.Cabinet.faults_in l.initial.cab;
   left : g.C.Cabinet.left l.cab ≡ g.C.Cabinet.left l.initial.cab;
   written : (g.C.Cabinet.nature l.initial.cab).tells ≡ true
-    → g.C.Cabinet.outputs l.cab ≡ appended (g.C.Cabinet.outputs l.initial.cab) l.out (take l.done l.bytes);
+      → g.C.Cabinet.outputs l.cab ≡ appended (g.C.Cabinet.outputs l.initial.cab) l.out (take l.done l.bytes);
 }
 
 abbrev pub decreases-pieces : goal.decreases-pieces
