@@ -1,0 +1,8 @@
+mod Worked
+pub mod Stages
+pub mod Outcomes
+pub mod Products
+pub mod LessenedRows
+pub mod ClearedRows
+pub mod StoredRows
+pub mod PartRows

@@ -1,0 +1,51 @@
+-- Digits behind the point.
+use Rattle.std.proofs.Common.{◌≡◌, ◌≢◌, ℕ, zero, suc, ◌+◌, ◌-◌, ◌*◌, ◌/◌, ◌%◌, ◌^◌, ◌<◌, ◌==◌, if◌then◌else◌, List, [], ◌∷◌, ◌++◌, refl, ap, ◌∙◌, arith, pow-suc, sub-one, append_assoc}
+use Rattle.std.proofs.lemmas.Bool.Decides.{nat_tests}
+use Rattle.std.proofs.Math.Nat.{div-lt_iff_lt-mul}
+use Rattle.emtp_fix.specs.Decimal.{fraction, point_fraction}
+
+pub power-above : (n : ℕ) → 0 < 10 ^ n
+power-above zero = omega arith
+power-above (suc n) = omega (arith, pow-suc 10 n, power-above n)
+
+pub fraction-none : (places : ℕ) → fraction places 0 ≡ []
+unfolding fraction
+fraction-none zero = refl
+fraction-none (suc places) = refl
+
+-- where a digit is left, there is a place for it
+pub place-some : (places left : ℕ) → left < 10 ^ places → left ≢ 0 → 0 < places
+place-some zero left less some = absurd (some (omega arith))
+place-some (suc places) left less some = omega arith
+
+pub unit-next : (places : ℕ) → 0 < places → 10 ^ places / 10 ≡ 10 ^ (places - 1)
+unit-next zero some = absurd (omega arith)
+unit-next (suc places) some = rw sub-one (omega (arith, pow-suc 10 places))
+
+pub digit-less : (places left : ℕ) → 0 < places → left < 10 ^ places → left / 10 ^ (places - 1) < 10
+digit-less zero left some less = absurd (omega arith)
+digit-less (suc places) left some less =
+    let below : left < 10 * 10 ^ places = omega (arith, pow-suc 10 places) in
+    rw sub-one ((div-lt_iff_lt-mul (power-above places)).1 below)
+
+choose_rest : (n : ℕ) (xs ys : List ℕ) → n ≢ 0 → (if n == 0 then xs else ys) ≡ ys
+choose_rest n xs ys some = grind (arith, nat_tests)
+
+-- the first digit, and those behind it
+pub fraction-digit : (places left : ℕ) → 0 < places → left ≢ 0 → fraction places left ≡ (48 + left / 10 ^ (places - 1)) ∷ fraction (places - 1) (left % 10 ^ (places - 1))
+unfolding fraction
+fraction-digit zero left some digit = absurd (omega arith)
+fraction-digit (suc places) left some digit = rw sub-one (choose_rest left [] _ digit)
+
+-- one more digit stands, and one less is to come
+pub fraction-step : (before : List ℕ) (places left : ℕ) → 0 < places → left ≢ 0
+    → (before ++ (48 + left / 10 ^ (places - 1)) ∷ []) ++ fraction (places - 1) (left % 10 ^ (places - 1)) ≡ before ++ fraction places left
+fraction-step before places left some digit =
+    append_assoc before ((48 + left / 10 ^ (places - 1)) ∷ []) (fraction (places - 1) (left % 10 ^ (places - 1)))
+    ∙ ap (λ (digits : List ℕ). before ++ digits) (rw (fraction-digit places left some digit) refl)
+
+pub point_fraction-none : (places r : ℕ) → r ≡ 0 → point_fraction places r ≡ []
+point_fraction-none places r e = grind (arith, nat_tests)
+
+pub point_fraction-some : (places r : ℕ) → r ≢ 0 → point_fraction places r ≡ 46 ∷ fraction places r
+point_fraction-some places r e = choose_rest r [] _ e
