@@ -6,3 +6,5 @@ pub mod LessenedRows
 pub mod ClearedRows
 pub mod StoredRows
 pub mod PartRows
+pub mod RightSides
+pub mod Reduction

@@ -8,6 +8,7 @@ mod finishing;
 mod rows;
 mod sparse;
 mod storing;
+mod substitution;
 
 pub use fault::{PlainFault, RowCause, RowFault, SolveFault};
 pub use rows::Rows;
