@@ -8,3 +8,5 @@ pub mod StoredRows
 pub mod PartRows
 pub mod RightSides
 pub mod Reduction
+pub mod Remainders
+pub mod Unknowns
