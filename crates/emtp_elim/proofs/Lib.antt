@@ -10,3 +10,4 @@ pub mod RightSides
 pub mod Reduction
 pub mod Remainders
 pub mod Unknowns
+pub mod Solutions

@@ -7,17 +7,17 @@ use Rattle.emtp_elim.specs.Matrix.{Matrix, item, row_of, entry, products, AreWit
 use Rattle.emtp_elim.specs.Elimination.{unknown, last_unknowns}
 use Rattle.emtp_elim.specs.Substitution.{IsLastFault}
 
-length-last_unknowns : (rows : Matrix) (right : List ℤ) (n : ℕ) → length (last_unknowns rows right n) ≡ n
+pub length-last_unknowns : (rows : Matrix) (right : List ℤ) (n : ℕ) → length (last_unknowns rows right n) ≡ n
 unfolding last_unknowns
 length-last_unknowns rows right zero = refl
 length-last_unknowns rows right (suc n) = ap suc (length-last_unknowns rows right n)
 
-last_unknowns-more : (rows : Matrix) (right : List ℤ) (n : ℕ)
+pub last_unknowns-more : (rows : Matrix) (right : List ℤ) (n : ℕ)
     → last_unknowns rows right (suc n) ≡ unknown rows right (length rows - suc n) (last_unknowns rows right n) ∷ last_unknowns rows right n
 unfolding last_unknowns
 last_unknowns-more rows right n = refl
 
-last_unknowns-none : (rows : Matrix) (right : List ℤ) → last_unknowns rows right 0 ≡ []
+pub last_unknowns-none : (rows : Matrix) (right : List ℤ) → last_unknowns rows right 0 ≡ []
 unfolding last_unknowns
 last_unknowns-none rows right = refl
 

@@ -1,8 +1,11 @@
 -- Right sides and unknowns, by finished rows.
-use Rattle.std.specs.Prelude.{◌≡◌, ℕ, zero, suc, ◌^◌, ◌<◌, ◌≤◌, ℤ, unsigned_abs, List, length}
+use Rattle.std.specs.Prelude.{◌≡◌, ℕ, zero, suc, ◌^◌, ◌<◌, ◌≤◌, ℤ, unsigned_abs, List, length, Result}
 use Rattle.emtp_elim.specs.Matrix.{Matrix, item}
 use Rattle.emtp_elim.specs.Elimination.{less_product, stage_right, last_unknowns}
 use Rattle.emtp_elim.specs.Fault.{IsRightInRange}
+use Rattle.emtp_elim.specs.Finished.{AreAllFinished}
+use Rattle.emtp_elim.specs.Outcome.{outcome}
+use Rattle.emtp_elim.specs.declared.fault.PlainFault.{PlainFault}
 
 -- a right side less the first n products of its row's ratios and the right sides above it
 abbrev pub partial_right : ℤ → List ℤ → List ℤ → ℕ → ℤ
@@ -19,3 +22,7 @@ pub record IsLastFault (rows : Matrix) (right : List ℤ) (i : ℕ) : Type 0 whe
   pub within : i < length rows
   pub later : (h : ℕ) → i < h → h < length rows → unsigned_abs (item (last_unknowns rows right (length rows)) h) ≤ 10 ^ 18
   pub out : 10 ^ 18 < unsigned_abs (item (last_unknowns rows right (length rows)) i)
+
+-- in every matrix of which these are all finished rows, full elimination with this right side ends so
+pub record SolvesAs (done : Matrix) (right : List ℤ) (end : Result (List ℤ) PlainFault) : Type 0 where
+  pub outcome_is : (rows : Matrix) → AreAllFinished rows done → outcome rows right ≡ end

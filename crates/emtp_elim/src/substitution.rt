@@ -1,11 +1,12 @@
 // The work on the right sides, and the unknowns from the last row back.
-ghost use Rattle.std.specs.Prelude.{◌≡◌, ℕ, ◌*◌, ◌+◌, ◌-◌, ◌^◌, ◌<◌, ◌≤◌, pos, ◌*ℤ◌, ◌-ℤ◌, unsigned_abs, length, drop, IfSome, OnSome, IfNone, OnOk, IfErr};
+ghost use Rattle.std.specs.Prelude.{◌≡◌, ℕ, ◌*◌, ◌+◌, ◌-◌, ◌^◌, ◌<◌, ◌≤◌, pos, ◌*ℤ◌, ◌-ℤ◌, unsigned_abs, length, drop, IfSome, OnSome, IfNone, OnOk, IfErr, Ok, Err};
 ghost use Rattle.emtp_elim.specs.Matrix.{Matrix, item, AreWithin, products};
 ghost use Rattle.emtp_elim.specs.Elimination.{last_unknowns};
 ghost use Rattle.emtp_elim.specs.Fault.{IsRightFault};
 ghost use Rattle.emtp_elim.specs.Finished.{AreAllFinished};
 ghost use Rattle.emtp_elim.specs.Stored.{AreJumps, AreStored, rows_in};
-ghost use Rattle.emtp_elim.specs.Substitution.{partial_right, AreReduced, IsLastFault};
+ghost use Rattle.emtp_elim.specs.Substitution.{partial_right, AreReduced, IsLastFault, SolvesAs};
+ghost use Rattle.emtp_elim.specs.declared.fault.PlainFault.{PlainFault};
 
 use emtp_fix::near;
 
@@ -39,7 +40,7 @@ fn reduced(start: i128, ratios: &[i64], next: &[u16], above: &[i128]) -> Option<
 }
 
 /// Does the work of the elimination on the right sides, by the finished rows.
-pub fn reduce_right(values: &[i64], next: &[u16], right: &mut [i128]) -> Result<(), SolveFault>
+fn reduce_right(values: &[i64], next: &[u16], right: &mut [i128]) -> Result<(), SolveFault>
     requires stored { AreStored (length right.old) (length right.old) values.now next.now }
     ensures within { OnOk result (AreWithin (10 ^ 18) right.new) }
     ensures reduced { OnOk result ((rows : Matrix) → AreAllFinished rows (rows_in (length right.old) (length right.old) values.now) → AreReduced rows right.old (length right.old) right.new) }
@@ -79,7 +80,7 @@ fn remainder(right: i128, row: &[i64], next: &[u16], k: usize, x: &[i64]) -> i12
 }
 
 /// Finds the unknowns of the triangular system of the finished rows, from the last one back.
-pub fn substitute_back(
+fn substitute_back(
     values: &[i64],
     next: &[u16],
     right: &[i128],
@@ -104,4 +105,20 @@ pub fn substitute_back(
         x[k] = unknown as i64;
     }
     Ok(())
+}
+
+/// Solves the system of the finished rows. `right` and `x` hold unstated numbers after a fault.
+pub fn solve_rows(
+    values: &[i64],
+    next: &[u16],
+    right: &mut [i128],
+    x: &mut [i64],
+) -> Result<(), SolveFault>
+    requires stored { AreStored (length right.old) (length right.old) values.now next.now }
+    requires x { length x.old ≡ length right.old }
+    ensures solved { OnOk result (SolvesAs (rows_in (length right.old) (length right.old) values.now) right.old (Ok x.new)) }
+    ensures fault { IfErr result (λ fault. SolvesAs (rows_in (length right.old) (length right.old) values.now) right.old (Err (PlainFault.Solve fault))) }
+{
+    reduce_right(values, next, right)?;
+    substitute_back(values, next, right, x)
 }
