@@ -11,3 +11,4 @@ pub mod Reduction
 pub mod Remainders
 pub mod Unknowns
 pub mod Solutions
+pub mod Adding

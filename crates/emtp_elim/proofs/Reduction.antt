@@ -21,21 +21,25 @@ partial_is : (rows done : Matrix) (given right : List ℤ) (i : ℕ) → AreAllF
     → partial_right (item given i) (row_of done i) (take i right) k ≡ item (stage_right rows given k) i
 partial_is rows done given right i all inside same was zero low = ap (λ r. item r i) (sym (right_start rows given))
 partial_is rows done given right i all inside same was (suc k) low =
-    rw (partial_is rows done given right i all inside same was k (omega arith), (all.finished.finished i inside).ratios k low,
-      get_or-take i right k (pos 0) low, was.reduced k low) (sym (right_later rows given k i low (omega arith)))
+    rw (
+      partial_is rows done given right i all inside same was k (omega arith),
+      (all.finished.finished i inside).ratios k low,
+      get_or-take i right k (pos 0) low,
+      was.reduced k low,
+    ) (sym (right_later rows given k i low (omega arith)))
 
 pub reduced_start : (done : Matrix) (given : List ℤ) → AreReducedUpTo done given 0 given
 reduced_start done given = record {
-    small = λ h low. absurd (omega arith);
-    rest = λ h low. refl;
-    reduced = λ rows all. record { reduced = λ i low. absurd (omega arith); in_range = λ i low. absurd (omega arith); };
-  }
+  small = λ h low. absurd (omega arith);
+  rest = λ h low. refl;
+  reduced = λ rows all. record { reduced = λ i low. absurd (omega arith); in_range = λ i low. absurd (omega arith) };
+}
 
 pub above_small : (done : Matrix) (given right : List ℤ) (i : ℕ) → AreReducedUpTo done given i right → i ≤ length right → AreWithin (10 ^ 18) (take i right)
 above_small done given right i was inside h = elim (cases_lt h i) [
-    | inl earlier ↦ rw (get_or-take i right h (pos 0) earlier) (was.small h earlier)
-    | inr past ↦ rw (get_or_past (take i right) h (pos 0) (omega (arith, length-take-le i right inside))) (omega arith)
-  ]
+  | inl earlier ↦ rw (get_or-take i right h (pos 0) earlier) (was.small h earlier)
+  | inr past ↦ rw (get_or_past (take i right) h (pos 0) (omega (arith, length-take-le i right inside))) (omega arith)
+]
 
 pub reduced_more : (done : Matrix) (given right ratios : List ℤ) (i : ℕ) (v : ℤ) → AreReducedUpTo done given i right → i < length done → length given ≡ length done
     → length right ≡ length given → row_of done i ≡ ratios → v ≡ partial_right (item right i) ratios (take i right) i
@@ -53,18 +57,18 @@ reduced_more done given right ratios i v was inside same same_right row_is e wit
       ];
       rest = λ h low. let other : h ≢ i = omega arith in rw get_or-set_other (was.rest h (omega arith));
       reduced = λ rows all.
-        let old = was.reduced rows all in
-        let is_stage = partial_is rows done given right i all inside same old in
-        record {
-          reduced = λ h low. elim (cases_eq h i) [
-            | inl here ↦ rw (here, get_or-set_same) (v_is ∙ is_stage i (omega arith))
-            | inr other ↦ rw get_or-set_other (old.reduced h (omega arith))
-          ];
-          in_range = λ h low. elim (cases_eq h i) [
-            | inl here ↦ λ k below. rw (here, ← is_stage k (omega arith)) (small k (omega arith))
-            | inr other ↦ old.in_range h (omega arith)
-          ];
-        };
+          let old = was.reduced rows all in
+          let is_stage = partial_is rows done given right i all inside same old in
+          record {
+            reduced = λ h low. elim (cases_eq h i) [
+              | inl here ↦ rw (here, get_or-set_same) (v_is ∙ is_stage i (omega arith))
+              | inr other ↦ rw get_or-set_other (old.reduced h (omega arith))
+            ];
+            in_range = λ h low. elim (cases_eq h i) [
+              | inl here ↦ λ k below. rw (here, ← is_stage k (omega arith)) (small k (omega arith))
+              | inr other ↦ old.in_range h (omega arith)
+            ];
+          };
     }
 
 pub right_fault : (done : Matrix) (given right ratios : List ℤ) (i k : ℕ) → AreReducedUpTo done given i right → i < length done → length given ≡ length done

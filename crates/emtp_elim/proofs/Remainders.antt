@@ -11,12 +11,12 @@ use Rattle.emtp_elim.specs.Stored.{AreJumps}
 products_still : (xs ys : List ℤ) (a b : ℕ) → a ≤ b → ((h : ℕ) → a ≤ h → h < b → item xs h ≡ pos 0) → products xs ys b ≡ products xs ys a
 products_still xs ys a zero low zeros = let none : a ≡ zero = omega arith in rw none refl
 products_still xs ys a (suc b) low zeros = elim (cases_eq a (suc b)) [
-    | inl same ↦ ap (products xs ys) (sym same)
-    | inr below ↦
+  | inl same ↦ ap (products xs ys) (sym same)
+  | inr below ↦
       let product : pos 0 *ℤ item ys b ≡ pos 0 = omega (arith, ints) in
       let still : products xs ys b ≡ products xs ys a = products_still xs ys a b (omega arith) (λ h from_on before. zeros h from_on (omega arith)) in
       rw (zeros b (omega arith) (omega arith), product) (omega (arith, ints, still))
-  ]
+]
 
 -- the products of the entries after the diagonal of row k and before place j are taken away
 pub record IsRemainder (right : ℤ) (k : ℕ) (row x : List ℤ) (j : ℕ) (left : ℤ) : Type 0 where
@@ -29,8 +29,8 @@ pub remainder_start : (right : ℤ) (k : ℕ) (row x : List ℤ) (next : List �
 remainder_start right k row x next jumps inside small =
     let onwards = jumps.onwards k inside in
     let none : products (drop (k + 1) row) (drop (k + 1) x) (min (slice_index next k) (length row) - (k + 1)) ≡ pos 0 =
-      products_still (drop (k + 1) row) (drop (k + 1) x) 0 (min (slice_index next k) (length row) - (k + 1)) (omega arith) (λ h low high.
-        get_or-drop (k + 1) row h (pos 0) ∙ jumps.zeros k (k + 1 + h) inside (omega arith) (omega arith)) in
+    products_still (drop (k + 1) row) (drop (k + 1) x) 0 (min (slice_index next k) (length row) - (k + 1)) (omega arith) (λ h low high.
+    get_or-drop (k + 1) row h (pos 0) ∙ jumps.zeros k (k + 1 + h) inside (omega arith) (omega arith)) in
     record {
       further = onwards;
       value_is = rw none (omega (arith, ints));
@@ -49,8 +49,8 @@ remainder_more right k row x next j left jumps was inside small_entry small_x =
     let entry_is : item (drop (k + 1) row) n ≡ item row j = get_or-drop (k + 1) row n (pos 0) ∙ ap (item row) place in
     let x_is : item (drop (k + 1) x) n ≡ item x j = get_or-drop (k + 1) x n (pos 0) ∙ ap (item x) place in
     let still : products (drop (k + 1) row) (drop (k + 1) x) (min (slice_index next j) (length row) - (k + 1)) ≡ products (drop (k + 1) row) (drop (k + 1) x) (suc n) =
-      products_still (drop (k + 1) row) (drop (k + 1) x) (suc n) (min (slice_index next j) (length row) - (k + 1)) (omega arith) (λ h low high.
-        get_or-drop (k + 1) row h (pos 0) ∙ jumps.zeros j (k + 1 + h) inside (omega arith) (omega arith)) in
+    products_still (drop (k + 1) row) (drop (k + 1) x) (suc n) (min (slice_index next j) (length row) - (k + 1)) (omega arith) (λ h low high.
+    get_or-drop (k + 1) row h (pos 0) ∙ jumps.zeros j (k + 1 + h) inside (omega arith) (omega arith)) in
     let was_value = rw at_j at was.value_is in
     record {
       further = omega arith;

@@ -13,10 +13,10 @@ pub partial_still : (start : ℤ) (ratios above : List ℤ) (a b : ℕ) → a �
     → partial_right start ratios above b ≡ partial_right start ratios above a
 partial_still start ratios above a zero low zeros = let none : a ≡ zero = omega arith in rw none refl
 partial_still start ratios above a (suc b) low zeros = elim (cases_eq a (suc b)) [
-    | inl same ↦ ap (partial_right start ratios above) (sym same)
-    | inr below ↦ rw (zeros b (omega arith) (omega arith)) (less_product-zero_left (partial_right start ratios above b) (item above b))
-        ∙ partial_still start ratios above a b (omega arith) (λ h from_on before. zeros h from_on (omega arith))
-  ]
+  | inl same ↦ ap (partial_right start ratios above) (sym same)
+  | inr below ↦ rw (zeros b (omega arith) (omega arith)) (less_product-zero_left (partial_right start ratios above b) (item above b))
+      ∙ partial_still start ratios above a b (omega arith) (λ h from_on before. zeros h from_on (omega arith))
+]
 
 -- the products before place k are taken away
 pub record IsPartial (start : ℤ) (ratios above : List ℤ) (k : ℕ) (value : ℤ) : Type 0 where
@@ -25,9 +25,9 @@ pub record IsPartial (start : ℤ) (ratios above : List ℤ) (k : ℕ) (value : 
 
 pub partial_start : (start : ℤ) (ratios above : List ℤ) → unsigned_abs start ≤ 10 ^ 18 → IsPartial start ratios above 0 start
 partial_start start ratios above small = record {
-    value_is = let none : min 0 (length above) ≡ 0 = omega arith in rw none refl;
-    within = λ h low inside. let none : h ≡ 0 = omega arith in rw none small;
-  }
+  value_is = let none : min 0 (length above) ≡ 0 = omega arith in rw none refl;
+  within = λ h low inside. let none : h ≡ 0 = omega arith in rw none small;
+}
 
 -- one product more
 pub partial_next : (start : ℤ) (ratios above : List ℤ) (k : ℕ) (value v : ℤ) → IsPartial start ratios above k value → k < length above
@@ -43,7 +43,7 @@ partial_more start ratios above next k value v jumps was inside long e small =
     let v_is = partial_next start ratios above k value v was inside e in
     let onwards = jumps.onwards k (omega arith) in
     let still : (h : ℕ) → suc k ≤ h → h ≤ slice_index next k → partial_right start ratios above h ≡ v = λ h low high.
-      partial_still start ratios above (suc k) h low (λ g from_on before. jumps.zeros k g (omega arith) (omega arith) (omega arith)) ∙ sym v_is in
+    partial_still start ratios above (suc k) h low (λ g from_on before. jumps.zeros k g (omega arith) (omega arith) (omega arith)) ∙ sym v_is in
     record {
       value_is = sym (still (min (slice_index next k) (length above)) (omega (arith, onwards)) (omega arith));
       within = λ h high in_above. elim (cases_lt k h) [

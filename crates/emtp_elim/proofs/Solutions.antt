@@ -50,8 +50,8 @@ unknowns_last rows done given right all square same reduced (suc n) low =
     let right_is : item right k ≡ item last_right k = right_last rows given right (length done) k reduced same all.all inside in
     let pivot_is : entry done k k ≡ entry last k k = entry_last rows done all square k k inside (omega arith) inside in
     let sum_is : products (drop (suc k) (row_of done k)) later (length later) ≡ products (drop (suc k) (row_of last k)) later (length later) =
-      products_same _ _ later (length later) (λ h before.
-        get_or-drop (suc k) (row_of done k) h (pos 0) ∙ entry_last rows done all square k (suc k + h) inside (omega arith) (omega arith) ∙ sym (get_or-drop (suc k) (row_of last k) h (pos 0))) in
+    products_same _ _ later (length later) (λ h before.
+    get_or-drop (suc k) (row_of done k) h (pos 0) ∙ entry_last rows done all square k (suc k + h) inside (omega arith) (omega arith) ∙ sym (get_or-drop (suc k) (row_of last k) h (pos 0))) in
     last_unknowns-more done right n ∙ rw (earlier, right_is, sum_is, pivot_is) (sym (rw height at (last_unknowns-more last last_right n)))
 
 solution_is : (rows done : Matrix) (given right : List ℤ) → AreAllFinished rows done → IsSquare done → length given ≡ length done → AreReduced rows given (length done) right
@@ -60,18 +60,18 @@ solution_is rows done given right all square same reduced =
     unknowns_last rows done given right all square same reduced (length done) (omega arith) ∙ ap (last_unknowns (stage rows (length rows)) (stage_right rows given (length rows))) all.all
 
 all_good : (rows done : Matrix) → AreAllFinished rows done → IsGoodMatrix rows
-all_good rows done all = record { each = λ i h. all.finished.good i (omega (arith, all.all)); }
+all_good rows done all = record { each = λ i h. all.finished.good i (omega (arith, all.all)) }
 
 -- ---- what full elimination of each such matrix ends with
 
 pub solves_right_fault : (done : Matrix) (given : List ℤ) (i : ℕ) → ((rows : Matrix) → AreAllFinished rows done → IsRightFault rows given i)
     → SolvesAs done given (Err (Solve (record { row = i })))
-solves_right_fault done given i fault = record { outcome_is = λ rows all. outcome_right rows given i (all_good rows done all) (fault rows all); }
+solves_right_fault done given i fault = record { outcome_is = λ rows all. outcome_right rows given i (all_good rows done all) (fault rows all) }
 
 pub solves_unknown_fault : (done : Matrix) (given right : List ℤ) (i : ℕ) → IsSquare done → length given ≡ length done
     → ((rows : Matrix) → AreAllFinished rows done → AreReduced rows given (length given) right) → IsLastFault done right i → SolvesAs done given (Err (Solve (record { row = i })))
 solves_unknown_fault done given right i square same reduced fault = record {
-    outcome_is = λ rows all.
+  outcome_is = λ rows all.
       let same_x = solution_is rows done given right all square same (rw same at (reduced rows all)) in
       outcome_unknown rows given i (all_good rows done all) (record {
         within = omega (arith, fault.within, all.all);
@@ -79,16 +79,16 @@ solves_unknown_fault done given right i square same reduced fault = record {
         later = λ h low high. rw same_x at (fault.later h low (omega (arith, all.all)));
         out = rw same_x at fault.out;
       });
-  }
+}
 
 pub solves_ok : (done : Matrix) (given right x : List ℤ) → IsSquare done → length given ≡ length done
     → ((rows : Matrix) → AreAllFinished rows done → AreReduced rows given (length given) right) → x ≡ last_unknowns done right (length given) → AreWithin (10 ^ 18) x
     → SolvesAs done given (Ok x)
 solves_ok done given right x square same reduced x_is small = record {
-    outcome_is = λ rows all.
+  outcome_is = λ rows all.
       let same_x : x ≡ solution rows given = rw same at x_is ∙ solution_is rows done given right all square same (rw same at (reduced rows all)) in
       rw same_x (outcome_solved rows given (all_good rows done all) (λ i h. (reduced rows all).in_range i (omega (arith, all.all))) (λ i h. rw same_x at (small i)));
-  }
+}
 
 pub square-rows_in : (size : ℕ) (values : List ℤ) (next : List ℕ) → AreStored size size values next → IsSquare (rows_in size size values)
 square-rows_in size values next stored i h =

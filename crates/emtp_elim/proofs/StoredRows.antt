@@ -22,7 +22,7 @@ pub rows_in-same : (size count : ℕ) (xs ys : List ℤ)
     → ((i : ℕ) → i < count → slice_range xs (i * size) (i * size + size) ≡ slice_range ys (i * size) (i * size + size)) → rows_in size count xs ≡ rows_in size count ys
 rows_in-same size count xs ys same =
     fill_by_all (λ i. slice_range ys (i * size) (i * size + size)) (rows_in size count xs) count [] (length-rows_in size count xs)
-      (λ i h. row_of-rows_in size count xs i h ∙ same i h)
+    (λ i h. row_of-rows_in size count xs i h ∙ same i h)
 
 -- one row more
 pub rows_in-more : (size count : ℕ) (values : List ℤ) → rows_in size (count + 1) values ≡ rows_in size count values ++ slice_range values (count * size) (count * size + size) ∷ []
@@ -33,9 +33,14 @@ rows_in-more size count values = map-range_with_len_more (λ i. slice_range valu
 pub length-put_row : {X : Type 0} (size count : ℕ) (xs ys : List X) → count * size + size ≤ length xs → length ys ≡ size
     → length (put_mid (count * size) (count * size + size - count * size) xs ys) ≡ length xs
 length-put_row size count xs ys room same =
-    omega (arith, length-append (take (count * size) xs) (ys ++ drop (count * size + size - count * size) (drop (count * size) xs)),
-      length-append ys (drop (count * size + size - count * size) (drop (count * size) xs)), length-take-le (count * size) xs (omega arith),
-      length-drop (count * size + size - count * size) (drop (count * size) xs), length-drop (count * size) xs)
+    omega (
+      arith,
+      length-append (take (count * size) xs) (ys ++ drop (count * size + size - count * size) (drop (count * size) xs)),
+      length-append ys (drop (count * size + size - count * size) (drop (count * size) xs)),
+      length-take-le (count * size) xs (omega arith),
+      length-drop (count * size + size - count * size) (drop (count * size) xs),
+      length-drop (count * size) xs,
+    )
 
 pub row_put : {X : Type 0} (size count : ℕ) (xs ys : List X) → count * size + size ≤ length xs → length ys ≡ size
     → slice_range (put_mid (count * size) (count * size + size - count * size) xs ys) (count * size) (count * size + size) ≡ ys
@@ -62,43 +67,43 @@ pub record IsStoredFrom (from later : ℕ) (work row : List ℤ) (next : List �
 
 pub stored_none : (n : ℕ) (work row : List ℤ) (next : List ℕ) → n ≡ length work → IsStoredFrom n n work row next
 stored_none n work row next e = record {
-    within = omega arith;
-    clear = λ h low high. absurd (omega arith);
-    first = omega arith;
-    copied = λ h low high. absurd (omega arith);
-    onwards = λ h low high. absurd (omega arith);
-    zeros = λ h g low high. absurd (omega arith);
-  }
+  within = omega arith;
+  clear = λ h low high. absurd (omega arith);
+  first = omega arith;
+  copied = λ h low high. absurd (omega arith);
+  onwards = λ h low high. absurd (omega arith);
+  zeros = λ h g low high. absurd (omega arith);
+}
 
 pub stored_more : (n j later first : ℕ) (work row : List ℤ) (next : List ℕ) (v : ℤ) → IsStoredFrom n later work row next → n ≡ j + 1 → j < length work
     → length row ≡ length work → length next ≡ length work → v ≡ item work j → ((first ≡ j) ⊎ ((first ≡ later) × (item work j ≡ pos 0)))
     → IsStoredFrom j first work (slice_set row j v) (slice_set next j later)
 stored_more n j later first work row next v was n_is inside same_row same_next e which =
-  let in_row : j < length row = omega arith in
-  let in_next : j < length next = omega arith in
-  record {
-    within = elim which [ | inl here ↦ omega arith | inr (same, zero_here) ↦ omega (arith, was.within) ];
-    clear = λ h low high. elim which [
-      | inl here ↦ absurd (omega arith)
-      | inr (same, zero_here) ↦ elim (cases_eq h j) [
-        | inl at ↦ rw at zero_here
-        | inr other ↦ was.clear h (omega arith) (omega arith)
-      ]
-    ];
-    first = elim which [ | inl here ↦ omega arith | inr (same, zero_here) ↦ omega (arith, was.first) ];
-    copied = λ h low high. elim (cases_eq h j) [
-      | inl at ↦ rw (at, get_or-set_same) e
-      | inr other ↦ rw get_or-set_other (was.copied h (omega arith) high)
-    ];
-    onwards = λ h low high. elim (cases_eq h j) [
-      | inl at ↦ rw (at, get_or-set_same) (omega (arith, was.first))
-      | inr other ↦ rw get_or-set_other (was.onwards h (omega arith) high)
-    ];
-    zeros = λ h g low high after before. elim (cases_eq h j) [
-      | inl at ↦ was.clear g (omega arith) (rw (at, get_or-set_same) at before)
-      | inr other ↦ was.zeros h g (omega arith) high after (rw get_or-set_other at before)
-    ];
-  }
+    let in_row : j < length row = omega arith in
+    let in_next : j < length next = omega arith in
+    record {
+      within = elim which [ inl here ↦ omega arith | inr (same, zero_here) ↦ omega (arith, was.within) ];
+      clear = λ h low high. elim which [
+        | inl here ↦ absurd (omega arith)
+        | inr (same, zero_here) ↦ elim (cases_eq h j) [
+          | inl at ↦ rw at zero_here
+          | inr other ↦ was.clear h (omega arith) (omega arith)
+        ]
+      ];
+      first = elim which [ inl here ↦ omega arith | inr (same, zero_here) ↦ omega (arith, was.first) ];
+      copied = λ h low high. elim (cases_eq h j) [
+        | inl at ↦ rw (at, get_or-set_same) e
+        | inr other ↦ rw get_or-set_other (was.copied h (omega arith) high)
+      ];
+      onwards = λ h low high. elim (cases_eq h j) [
+        | inl at ↦ rw (at, get_or-set_same) (omega (arith, was.first))
+        | inr other ↦ rw get_or-set_other (was.onwards h (omega arith) high)
+      ];
+      zeros = λ h g low high after before. elim (cases_eq h j) [
+        | inl at ↦ was.clear g (omega arith) (rw (at, get_or-set_same) at before)
+        | inr other ↦ was.zeros h g (omega arith) high after (rw get_or-set_other at before)
+      ];
+    }
 
 pub stored_all : (later : ℕ) (work row : List ℤ) (next : List ℕ) → IsStoredFrom 0 later work row next → length row ≡ length work → row ≡ work
 stored_all later work row next all same_row = ext_get_or (pos 0) row work same_row (λ i h. all.copied i (omega arith) (omega arith))

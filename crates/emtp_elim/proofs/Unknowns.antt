@@ -36,10 +36,10 @@ pub record AreFound (rows : Matrix) (right : List ℤ) (k : ℕ) (x : List ℤ) 
 
 pub found_none : (rows : Matrix) (right x : List ℤ) (n : ℕ) → n ≡ length rows → length x ≡ length rows → AreFound rows right n x
 found_none rows right x n n_is same = record {
-    within = omega arith;
-    found = let none : length rows - n ≡ 0 = omega arith in drop_all n x (omega arith) ∙ sym (rw (none, last_unknowns-none) refl);
-    small = λ h low. rw (get_or_past x h (pos 0) (omega arith)) (omega arith);
-  }
+  within = omega arith;
+  found = let none : length rows - n ≡ 0 = omega arith in drop_all n x (omega arith) ∙ sym (rw (none, last_unknowns-none) refl);
+  small = λ h low. rw (get_or_past x h (pos 0) (omega arith)) (omega arith);
+}
 
 -- the value of the next unknown, from what the code adds up
 next_is : (rows : Matrix) (right x row : List ℤ) (n k : ℕ) (left v : ℤ) → AreFound rows right n x → n ≡ k + 1 → k < length rows → length x ≡ length rows
@@ -60,7 +60,7 @@ found_more rows right x row n k left v was n_is inside same row_is row_long left
     let one_more : length rows - k ≡ suc (length rows - n) = omega arith in
     let place : length rows - suc (length rows - n) ≡ k = omega arith in
     let rest : drop (k + 1) (slice_set x k v) ≡ last_unknowns rows right (length rows - n) =
-      drop-set-lt (k + 1) x k v (omega arith) ∙ ap (λ m. drop m x) (sym n_is) ∙ was.found in
+    drop-set-lt (k + 1) x k v (omega arith) ∙ ap (λ m. drop m x) (sym n_is) ∙ was.found in
     record {
       within = omega arith;
       found = drop_more (slice_set x k v) k (pos 0) (omega (arith, length-set x k v)) ∙ rw (one_more, last_unknowns-more, place, rest, get_or-set_same) (ap (λ z. z ∷ last_unknowns rows right (length rows - n)) v_next);
@@ -82,12 +82,12 @@ found_fault rows right x row n k left v was n_is inside same row_is row_long lef
     let from_k : drop k all ≡ last_unknowns rows right (suc (length rows - n)) = rw split_k at (drop-last_unknowns rows right (suc (length rows - n)) k) in
     let place : length rows - suc (length rows - n) ≡ k = omega arith in
     let here : item all k ≡ v =
-      (ap (item all) (omega arith) ∙ sym (get_or-drop k all 0 (pos 0)) ∙ rw (from_k, last_unknowns-more, place) (sym v_next)) in
+    (ap (item all) (omega arith) ∙ sym (get_or-drop k all 0 (pos 0)) ∙ rw (from_k, last_unknowns-more, place) (sym v_next)) in
     record {
       within = inside;
       later = λ h low high.
-        let split_h : n + (h - n) ≡ h = omega arith in
-        let same_h : item all h ≡ item x h = sym (ap (item all) split_h) ∙ sym (get_or-drop n all (h - n) (pos 0)) ∙ rw (from_n, ← was.found) (get_or-drop n x (h - n) (pos 0)) ∙ ap (item x) split_h in
-        rw same_h (was.small h (omega arith));
+          let split_h : n + (h - n) ≡ h = omega arith in
+          let same_h : item all h ≡ item x h = sym (ap (item all) split_h) ∙ sym (get_or-drop n all (h - n) (pos 0)) ∙ rw (from_n, ← was.found) (get_or-drop n x (h - n) (pos 0)) ∙ ap (item x) split_h in
+          rw same_h (was.small h (omega arith));
       out = rw here large;
     }

@@ -8,10 +8,9 @@ ghost use Rattle.emtp_elim.specs.Stored.{AreJumps, AreStored, rows_in};
 ghost use Rattle.emtp_elim.specs.Substitution.{partial_right, AreReduced, IsLastFault, SolvesAs};
 ghost use Rattle.emtp_elim.specs.declared.fault.PlainFault.{PlainFault};
 
-use emtp_fix::near;
-
 use crate::arithmetic::{LARGEST_VALUE, ONE, less};
 use crate::fault::SolveFault;
+use emtp_fix::near;
 
 /// A right side less the products of its row's ratios and the right sides above it, which are those of the rows before
 /// its own. None where it leaves its range.
@@ -49,7 +48,12 @@ fn reduce_right(values: &[i64], next: &[u16], right: &mut [i128]) -> Result<(), 
     let size = right.len();
     for i in 0..size {
         let at = i * size;
-        match reduced(right[i], &values[at..at + size], &next[at..at + size], &right[..i]) {
+        match reduced(
+            right[i],
+            &values[at..at + size],
+            &next[at..at + size],
+            &right[..i],
+        ) {
             Some(value) => right[i] = value,
             None => return Err(SolveFault { row: i }),
         }

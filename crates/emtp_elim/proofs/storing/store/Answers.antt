@@ -13,7 +13,7 @@ loop-j-preserved c =
     let wide : to_z w128 (of_z w128 number) ≡ number = through number (omega (arith, c.requires.numbers j)) in
     let narrow : to_z w64 (of_z w64 number) ≡ number = through_64 number (c.requires.numbers j) in
     rw (wide, narrow) (stored_more c.loop-j.j j c.loop-j.later c.first_place-later.result c.args.work.now c.loop-j.row c.loop-j.next number
-      c.loop-j.invariant (omega arith) (omega arith) (omega arith) (omega arith) refl (rw wide at c.first_place-later.ensures))
+    c.loop-j.invariant (omega arith) (omega arith) (omega arith) (omega arith) refl (rw wide at c.first_place-later.ensures))
 
 pub returns-clause-row : goal.returns-clause-row
 returns-clause-row c =

@@ -33,4 +33,4 @@ loop-i-preserved c =
     let taken = length-take-le i c.loop-i.right (omega arith) in
     let wide : to_z w128 (of_z w128 c.in-Some.value) ≡ c.in-Some.value = omega (arith, ints) in
     rw wide (reduced_more done c.args.right.now c.loop-i.right _ i c.in-Some.value c.loop-i.invariant (omega arith) (omega arith) c.loop-i.auto.right row_is
-      (rw (same, taken) at c.in-Some.ensures.value) (rw (same, taken) at c.in-Some.ensures.within))
+    (rw (same, taken) at c.in-Some.ensures.value) (rw (same, taken) at c.in-Some.ensures.within))

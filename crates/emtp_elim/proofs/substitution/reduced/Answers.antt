@@ -28,4 +28,4 @@ ratios-preserved c =
     let wide : to_z w128 (of_z w128 c.less-value.result) ≡ c.less-value.result = omega (arith, ints) in
     let small : unsigned_abs c.less-value.result ≤ 10 ^ 18 = omega (arith, ints) in
     rw (same_start, wide) (partial_more c.args.start c.args.ratios.now c.args.above.now c.args.next.now k c.ratios.value c.less-value.result c.requires.jumps was c.ratios-test.true c.requires.lengths
-      (rw (c.ratios.value-is, same_ratio, same_above) at c.less-value.ensures) small)
+    (rw (c.ratios.value-is, same_ratio, same_above) at c.less-value.ensures) small)

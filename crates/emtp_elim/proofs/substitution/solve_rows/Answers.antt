@@ -24,7 +24,7 @@ returns-clause-solved c =
     let done = rows_in size size c.args.values.now in
     let count : length done ≡ size = length-rows_in size size c.args.values.now in
     on_ok_both c.substitute_back.result (solves_ok done c.args.right.now c.reduce_right.new.right c.substitute_back.new.x (square-rows_in size c.args.values.now c.args.next.now c.requires.stored) (sym count) c.in_ok-reduce_right.ensures.reduced)
-      (rw c.reduce_right.auto.right at c.substitute_back.ensures.solved) c.substitute_back.ensures.within
+    (rw c.reduce_right.auto.right at c.substitute_back.ensures.solved) c.substitute_back.ensures.within
 
 pub returns-clause-fault : goal.returns-clause-fault
 returns-clause-fault c =
@@ -32,4 +32,4 @@ returns-clause-fault c =
     let done = rows_in size size c.args.values.now in
     let count : length done ≡ size = length-rows_in size size c.args.values.now in
     IfErr-weaker c.substitute_back.result _ _ (λ fault last. solves_unknown_fault done c.args.right.now c.reduce_right.new.right fault.row (square-rows_in size c.args.values.now c.args.next.now c.requires.stored) (sym count) c.in_ok-reduce_right.ensures.reduced last)
-      (rw c.reduce_right.auto.right at c.substitute_back.ensures.fault)
+    (rw c.reduce_right.auto.right at c.substitute_back.ensures.fault)

@@ -36,7 +36,7 @@ returns-then-unsigned_abs-gt-LARGEST_VALUE-clause-fault c =
     let wide : to_z w128 (of_z w128 c.near-unknown.result) ≡ c.near-unknown.result = omega (arith, ints) in
     let large : 10 ^ 18 < unsigned_abs c.near-unknown.result = omega (arith, ints) in
     found_fault done c.args.right.now c.loop-k.x row c.loop-k.k k c.remainder-left.result c.near-unknown.result c.loop-k.invariant (omega arith) (omega arith) (omega arith)
-      row_is (omega (arith, finished.length_is)) left_is v_is large
+    row_is (omega (arith, finished.length_is)) left_is v_is large
 
 pub loop-k-preserved : goal.loop-k-preserved
 loop-k-preserved c =
@@ -58,8 +58,8 @@ loop-k-preserved c =
     let wide : to_z w128 (of_z w128 c.near-unknown.result) ≡ c.near-unknown.result = omega (arith, ints) in
     let small : unsigned_abs c.near-unknown.result ≤ 10 ^ 18 = omega (arith, ints) in
     rw (wide, through_64 c.near-unknown.result small)
-      (found_more done c.args.right.now c.loop-k.x row c.loop-k.k k c.remainder-left.result c.near-unknown.result c.loop-k.invariant (omega arith) (omega arith) (omega arith)
-        row_is (omega (arith, finished.length_is)) left_is v_is small)
+    (found_more done c.args.right.now c.loop-k.x row c.loop-k.k k c.remainder-left.result c.near-unknown.result c.loop-k.invariant (omega arith) (omega arith) (omega arith)
+    row_is (omega (arith, finished.length_is)) left_is v_is small)
 
 pub returns-clause-solved : goal.returns-clause-solved
 returns-clause-solved c =
