@@ -1,10 +1,10 @@
 -- One finished row after another, in a matrix.
-use Rattle.std.proofs.Common.{◌≡◌, ℕ, ◌+◌, ◌<◌, ◌≤◌, ℤ, List, [], length, take, refl, ap, sym, ◌∙◌, inl, inr, arith}
+use Rattle.std.proofs.Common.{◌≡◌, ℕ, ◌+◌, ◌<◌, ◌≤◌, ℤ, List, [], length, ap, sym, ◌∙◌, inl, inr, arith}
 use Rattle.std.proofs.lemmas.List.{get_or-take}
 use Rattle.std.proofs.lemmas.Bool.{cases_eq}
 use Rattle.emtp_elim.specs.Matrix.{Matrix, row_of}
 use Rattle.emtp_elim.specs.Fault.{IsRowFault}
-use Rattle.emtp_elim.specs.Finished.{Finished, IsPartRow, AreFinished, AreAllFinished, IsNext, FinishesRow, FaultsRow, AddsRow}
+use Rattle.emtp_elim.specs.Finished.{Finished, AreFinished, AreAllFinished, IsNext, FaultsRow, AddsRow}
 use Rattle.emtp_elim.specs.declared.fault.RowCause.{RowCause}
 
 -- the first n rows are finished, and there is room for all

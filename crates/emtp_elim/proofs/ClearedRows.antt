@@ -1,11 +1,10 @@
 -- A row from which one column has been cleared.
-use Rattle.std.proofs.Common.{◌≡◌, ◌≢◌, ℕ, ◌^◌, ◌<◌, ◌≤◌, ℤ, pos, unsigned_abs, List, length, slice_set, to_z, of_z, refl, ap, sym, ◌∙◌, inl, inr, arith}
+use Rattle.std.proofs.Common.{◌≡◌, ◌≢◌, ℕ, ◌^◌, ◌<◌, ◌≤◌, ℤ, pos, unsigned_abs, List, length, slice_set, to_z, of_z, refl, sym, arith}
 use mir.Syntax.{w128}
-use Rattle.std.proofs.lemmas.Int.{ints}
 use Rattle.std.proofs.lemmas.List.{get_or-set_same, get_or-set_other}
 use Rattle.emtp_fix.proofs.Wide.{through}
 use Rattle.emtp_elim.specs.Matrix.{item}
-use Rattle.emtp_elim.specs.Elimination.{less_product, quotient}
+use Rattle.emtp_elim.specs.Elimination.{quotient}
 use Rattle.emtp_elim.specs.Clearing.{IsFinishedRow, IsLessened, IsClearedRow}
 use Rattle.emtp_elim.proofs.Products.{less_product-zero_left, quotient-zero}
 

@@ -1,15 +1,12 @@
 -- The outcome of an elimination, from what the relations say of the matrix and the right side.
-use Rattle.std.proofs.Common.{◌≡◌, ◌≢◌, ℕ, zero, suc, ◌<◌, ◌≤◌, ◌^◌, ℤ, pos, negsuc, unsigned_abs, nat_le, nat_lt, nat_eq, Bool, true, false, ◌&&◌, ◌||◌, List, length, Option, Some, None, Result, Ok, Err, refl, ap, sym, ◌∙◌, inl, inr, arith}
-use Rattle.std.proofs.lemmas.Bool.{cases_eq, cases_lt, cases_Bool, and_from, and_parts, and_left, and_right, or_left, or_right, or_cases, le-leb, lt-leb, leb-true, lt-ltb, ltb-true, eq-eqb, ne_eqb, cond-true, cond-false, true≢false, both_ways, false_from_ne_true}
+use Rattle.std.proofs.Common.{◌≡◌, ℕ, zero, suc, ◌<◌, ◌≤◌, ◌^◌, ℤ, pos, negsuc, unsigned_abs, nat_lt, Bool, true, ◌||◌, List, length, Option, Some, None, Ok, Err, refl, ap, sym, ◌∙◌, inl, inr, arith}
+use Rattle.std.proofs.lemmas.Bool.{cases_eq, cases_lt, and_from, and_parts, or_left, or_right, or_cases, le-leb, lt-leb, leb-true, lt-ltb, ltb-true, eq-eqb, ne_eqb, cond-true, cond-false, false_from_ne_true}
 use Rattle.emtp_elim.specs.Matrix.{Matrix, item, row_of, entry}
-use Rattle.emtp_elim.specs.Elimination.{ratio, stage, stage_right, solution}
+use Rattle.emtp_elim.specs.Elimination.{stage, stage_right, solution}
 use Rattle.emtp_elim.specs.Fault.{IsRowInRange, pivot, IsGoodRow, IsCause, IsRowFault, IsGoodMatrix, IsRightInRange, IsRightFault, IsUnknownFault}
-use Rattle.emtp_elim.specs.Outcome.{each_below, or_else, first_below, last_below, is_within, is_stage_in_range, is_ratio_in_range, is_row_in_range, is_right_in_range, row_fault, right_fault, unknown_fault, unless, outcome}
+use Rattle.emtp_elim.specs.Outcome.{each_below, first_below, last_below, is_within, is_stage_in_range, is_ratio_in_range, is_row_in_range, is_right_in_range, row_fault, right_fault, unknown_fault, outcome}
 use Rattle.emtp_elim.specs.declared.fault.RowCause.{RowCause}
 use Rattle.emtp_elim.specs.declared.fault.RowCause.TheVariants.{Range, ZeroPivot}
-use Rattle.emtp_elim.specs.declared.fault.RowFault.{RowFault}
-use Rattle.emtp_elim.specs.declared.fault.SolveFault.{SolveFault}
-use Rattle.emtp_elim.specs.declared.fault.PlainFault.{PlainFault}
 use Rattle.emtp_elim.specs.declared.fault.PlainFault.TheVariants.{Row, Solve}
 
 -- ---- tests and searches below a number

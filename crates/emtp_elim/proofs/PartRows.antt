@@ -1,14 +1,13 @@
 -- A row on its way to be finished.
-use Rattle.std.proofs.Common.{◌≡◌, ◌≢◌, ◌⊎◌, ℕ, zero, suc, ◌+◌, ◌^◌, ◌<◌, ◌≤◌, ℤ, pos, unsigned_abs, List, length, refl, ap, sym, ◌∙◌, inl, inr, add-one, arith}
+use Rattle.std.proofs.Common.{◌≡◌, ◌≢◌, ℕ, suc, ◌+◌, ◌^◌, ◌<◌, ◌≤◌, ℤ, pos, unsigned_abs, List, length, refl, ap, sym, ◌∙◌, inl, inr, add-one, arith}
 use Rattle.std.specs.List.{All}
 use Rattle.std.proofs.lemmas.List.{get_or_past, get_or_default}
 use Rattle.std.proofs.lemmas.Bool.{cases_eq, cases_lt}
 use Rattle.emtp_elim.specs.Matrix.{Matrix, item, row_of, entry, AreWithin}
-use Rattle.emtp_elim.specs.Elimination.{less_product, quotient, ratio, stage}
-use Rattle.emtp_elim.specs.Fault.{IsRowInRange, IsGoodRow, IsCause, pivot}
-use Rattle.emtp_elim.specs.Clearing.{IsFinishedRow, LeavesRange, IsClearedRow, LeavesRangeAt}
-use Rattle.emtp_elim.specs.Finished.{IsPartRow, AreFinished, IsNext, FinishesRow, FaultsRow}
-use Rattle.emtp_elim.specs.declared.fault.RowCause.{RowCause}
+use Rattle.emtp_elim.specs.Elimination.{quotient, ratio, stage}
+use Rattle.emtp_elim.specs.Fault.{IsRowInRange}
+use Rattle.emtp_elim.specs.Clearing.{IsFinishedRow, IsClearedRow, LeavesRangeAt}
+use Rattle.emtp_elim.specs.Finished.{IsPartRow, IsNext, FinishesRow, FaultsRow}
 use Rattle.emtp_elim.specs.declared.fault.RowCause.TheVariants.{Range, ZeroPivot}
 use Rattle.emtp_elim.proofs.Stages.{entry_start, entry_later}
 

@@ -1,11 +1,11 @@
 -- The right sides, one row after another.
-use Rattle.std.proofs.Common.{◌≡◌, ◌≢◌, ℕ, zero, suc, ◌+◌, ◌^◌, ◌<◌, ◌≤◌, ℤ, pos, unsigned_abs, List, length, take, slice_set, refl, ap, sym, ◌∙◌, inl, inr, add-one, arith}
+use Rattle.std.proofs.Common.{◌≡◌, ◌≢◌, ℕ, zero, suc, ◌+◌, ◌^◌, ◌<◌, ◌≤◌, ℤ, pos, unsigned_abs, List, length, take, slice_set, refl, ap, sym, ◌∙◌, inl, inr, arith}
 use Rattle.std.proofs.lemmas.List.{get_or-take, get_or-set_same, get_or-set_other, get_or_past, length-take-le}
 use Rattle.std.proofs.lemmas.Bool.{cases_eq, cases_lt}
 use Rattle.emtp_elim.specs.Matrix.{Matrix, item, row_of, AreWithin}
-use Rattle.emtp_elim.specs.Elimination.{less_product, ratio, stage, stage_right}
-use Rattle.emtp_elim.specs.Fault.{IsRightInRange, IsRightFault}
-use Rattle.emtp_elim.specs.Finished.{IsPartRow, AreFinished, AreAllFinished}
+use Rattle.emtp_elim.specs.Elimination.{stage_right}
+use Rattle.emtp_elim.specs.Fault.{IsRightFault}
+use Rattle.emtp_elim.specs.Finished.{AreAllFinished}
 use Rattle.emtp_elim.specs.Substitution.{partial_right, AreReduced}
 use Rattle.emtp_elim.proofs.Stages.{right_start, right_later}
 

@@ -1,12 +1,10 @@
 -- Right sides and unknowns by finished rows are those of full elimination.
-use Rattle.std.proofs.Common.{◌≡◌, ◌≢◌, ℕ, zero, suc, ◌+◌, ◌-◌, ◌*◌, ◌^◌, ◌<◌, ◌≤◌, ℤ, pos, ◌+ℤ◌, ◌-ℤ◌, ◌*ℤ◌, unsigned_abs, List, [], ◌∷◌, length, drop, slice_range, refl, ap, sym, ◌∙◌, inl, inr, Ok, Err, arith}
+use Rattle.std.proofs.Common.{◌≡◌, ℕ, zero, suc, ◌+◌, ◌-◌, ◌^◌, ◌<◌, ◌≤◌, ℤ, pos, List, length, drop, refl, ap, sym, ◌∙◌, Ok, Err, arith}
 use Rattle.std.proofs.lemmas.List.{get_or-drop}
-use Rattle.std.proofs.lemmas.Bool.{cases_eq, cases_lt}
-use Rattle.emtp_fix.specs.Rounding.{near}
 use Rattle.emtp_elim.specs.Matrix.{Matrix, item, row_of, entry, products, AreWithin, IsSquare}
-use Rattle.emtp_elim.specs.Elimination.{unknown, last_unknowns, stage, stage_right, solution}
-use Rattle.emtp_elim.specs.Fault.{IsGoodMatrix, IsRightFault, IsUnknownFault}
-use Rattle.emtp_elim.specs.Finished.{AreFinished, AreAllFinished}
+use Rattle.emtp_elim.specs.Elimination.{last_unknowns, stage, stage_right, solution}
+use Rattle.emtp_elim.specs.Fault.{IsGoodMatrix, IsRightFault}
+use Rattle.emtp_elim.specs.Finished.{AreAllFinished}
 use Rattle.emtp_elim.specs.Stored.{AreStored, rows_in}
 use Rattle.emtp_elim.specs.Substitution.{AreReduced, IsLastFault, SolvesAs}
 use Rattle.emtp_elim.specs.declared.fault.PlainFault.TheVariants.{Solve}

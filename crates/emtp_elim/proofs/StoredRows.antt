@@ -1,12 +1,12 @@
 -- Finished rows as they are kept.
 use Rattle.std.proofs.Common.{◌≡◌, ◌⊎◌, ℕ, ◌+◌, ◌*◌, ◌-◌, ◌<◌, ◌≤◌, ℤ, pos, List, [], ◌∷◌, ◌++◌, length, take, drop, length-append, length-drop, slice_range, slice_index, slice_set, refl, ap, sym, ◌∙◌, inl, inr, arith}
 use Rattle.std.proofs.lemmas.List.{length-take-le, ext_get_or, get_or-set_same, get_or-set_other}
-use Rattle.std.proofs.lemmas.List.FromFn.{length-map-range_with_len, get_or-map-range_with_len, map-range_with_len_more, fill_by_all}
+use Rattle.std.proofs.lemmas.List.FromFn.{length-map-range_with_len, get_or-map-range_with_len, map-range_with_len_more, take-map-range_with_len, fill_by_all}
 use Rattle.std.proofs.lemmas.Nat.{row_fits}
 use Rattle.std.proofs.lemmas.Slice.{between_is, between-put_mid, take-put_mid_below}
 use borrow.Rule.Slice.PartMut.{put_mid}
-use Rattle.std.proofs.lemmas.Bool.{cases_eq, cases_lt}
-use Rattle.emtp_elim.specs.Matrix.{Matrix, item, row_of}
+use Rattle.std.proofs.lemmas.Bool.{cases_eq}
+use Rattle.emtp_elim.specs.Matrix.{item, row_of}
 use Rattle.emtp_elim.specs.Clearing.{IsFinishedRow}
 use Rattle.emtp_elim.specs.Stored.{AreJumps, AreStored, rows_in}
 
@@ -27,6 +27,10 @@ rows_in-same size count xs ys same =
 -- one row more
 pub rows_in-more : (size count : ℕ) (values : List ℤ) → rows_in size (count + 1) values ≡ rows_in size count values ++ slice_range values (count * size) (count * size + size) ∷ []
 rows_in-more size count values = map-range_with_len_more (λ i. slice_range values (i * size) (i * size + size)) 0 count count (omega arith)
+
+-- fewer rows
+pub take-rows_in : (size count n : ℕ) (values : List ℤ) → n ≤ count → take n (rows_in size count values) ≡ rows_in size n values
+take-rows_in size count n values h = take-map-range_with_len _ 0 count n h
 
 -- ---- a row written in the place after `count` rows
 
@@ -141,3 +145,13 @@ stored_put size count values next row places work was room finished row_is jumps
         }
       ];
     }
+
+-- the first rows are kept as finished too
+pub stored_first : (size count n : ℕ) (values : List ℤ) (next : List ℕ) → AreStored size count values next → n ≤ count → AreStored size n values next
+stored_first size count n values next was h = record {
+  few = was.few;
+  within = omega (arith, was.within);
+  room = was.room;
+  room_next = was.room_next;
+  each = λ i low. was.each i (omega arith);
+}

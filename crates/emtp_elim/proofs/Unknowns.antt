@@ -1,9 +1,9 @@
 -- The unknowns of a triangular system, from the last row back.
-use Rattle.std.proofs.Common.{◌≡◌, ◌≢◌, ℕ, zero, suc, ◌+◌, ◌-◌, ◌*◌, ◌^◌, ◌<◌, ◌≤◌, ℤ, pos, ◌-ℤ◌, ◌*ℤ◌, unsigned_abs, List, [], ◌∷◌, length, drop, slice_set, length-set, refl, ap, sym, ◌∙◌, inl, inr, arith}
+use Rattle.std.proofs.Common.{◌≡◌, ℕ, zero, suc, ◌+◌, ◌-◌, ◌^◌, ◌<◌, ◌≤◌, ℤ, pos, ◌-ℤ◌, ◌*ℤ◌, unsigned_abs, List, [], ◌∷◌, length, drop, slice_set, length-set, refl, ap, sym, ◌∙◌, inl, inr, arith}
 use Rattle.std.proofs.lemmas.List.{get_or-drop, get_or-set_same, get_or-set_other, get_or_past, drop_more, drop-set-lt, drop_all}
-use Rattle.std.proofs.lemmas.Bool.{cases_eq, cases_lt}
+use Rattle.std.proofs.lemmas.Bool.{cases_eq}
 use Rattle.emtp_fix.specs.Rounding.{near}
-use Rattle.emtp_elim.specs.Matrix.{Matrix, item, row_of, entry, products, AreWithin}
+use Rattle.emtp_elim.specs.Matrix.{Matrix, item, row_of, products}
 use Rattle.emtp_elim.specs.Elimination.{unknown, last_unknowns}
 use Rattle.emtp_elim.specs.Substitution.{IsLastFault}
 

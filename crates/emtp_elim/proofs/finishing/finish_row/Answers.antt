@@ -1,7 +1,7 @@
-use Rattle.std.proofs.Common.{◌≡◌, ◌≢◌, ◌+◌, ◌*◌, ℤ, List, pos, length, slice_range, to_z, of_z, ◌∙◌, arith}
+use Rattle.std.proofs.Common.{◌≡◌, pos, length, arith}
 use Rattle.std.proofs.lemmas.Bool.{iff_false}
 use Rattle.std.proofs.lemmas.Int.{ints}
-use Rattle.emtp_elim.specs.Matrix.{Matrix, item}
+use Rattle.emtp_elim.specs.Matrix.{item}
 use Rattle.emtp_elim.specs.Stored.{rows_in}
 use Rattle.emtp_elim.proofs.StoredRows.{length-rows_in, row_of-rows_in}
 use Rattle.emtp_elim.proofs.PartRows.{within_from_all, underway_start, underway_more, faults_start, faults_clearing, faults_pivot, finishes}

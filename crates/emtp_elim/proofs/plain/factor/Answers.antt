@@ -1,4 +1,4 @@
-use Rattle.std.proofs.Common.{◌≡◌, ◌≤◌, ◌<◌, ℕ, length, ◌∙◌, arith}
+use Rattle.std.proofs.Common.{◌<◌, length, arith}
 use Rattle.emtp_elim.proofs.Adding.{finished_more}
 use Rattle.emtp_elim.proofs.plain.factor.Goals as goal
 

@@ -1,4 +1,4 @@
-use Rattle.std.proofs.Common.{◌≡◌, ◌≤◌, length}
+use Rattle.std.proofs.Common.{◌≡◌, length}
 use Rattle.emtp_elim.proofs.Adding.{AreFinishedUpTo}
 use Rattle.emtp_elim.proofs.plain.factor.Given as goal
 

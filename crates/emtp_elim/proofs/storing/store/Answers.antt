@@ -1,6 +1,5 @@
-use Rattle.std.proofs.Common.{◌≡◌, ◌≤◌, ◌^◌, ◌-◌, ℕ, unsigned_abs, pos, to_z, of_z, refl, ◌∙◌, arith}
+use Rattle.std.proofs.Common.{◌≡◌, ◌-◌, to_z, of_z, refl, arith}
 use mir.Syntax.{w64, w128}
-use Rattle.std.proofs.lemmas.Int.{ints}
 use Rattle.emtp_fix.proofs.Wide.{through, through_64}
 use Rattle.emtp_elim.specs.Matrix.{item}
 use Rattle.emtp_elim.proofs.StoredRows.{stored_more, stored_all}

@@ -1,4 +1,4 @@
-use Rattle.std.proofs.Common.{rules, ◌≡◌, ◌≤◌, ◌<◌, ◌+◌, ◌^◌, ℕ, length, FitsSigned, unsigned_abs, pos, to_z, of_z, ◌∙◌, arith}
+use Rattle.std.proofs.Common.{rules, ◌≡◌, length, FitsSigned, to_z, of_z, arith}
 use mir.Syntax.{w128}
 use Rattle.std.proofs.lemmas.Int.{ints, to_z-of_z}
 use Rattle.std.proofs.lemmas.List.{length-take-le}

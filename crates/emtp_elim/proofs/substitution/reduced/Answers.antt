@@ -1,10 +1,9 @@
-use Rattle.std.proofs.Common.{◌≡◌, ◌≤◌, ◌<◌, ◌+◌, ◌^◌, ℕ, suc, unsigned_abs, pos, to_z, of_z, ◌∙◌, arith}
+use Rattle.std.proofs.Common.{◌≡◌, ◌≤◌, ◌<◌, ◌^◌, suc, unsigned_abs, to_z, of_z, arith}
 use mir.Syntax.{w128}
 use Rattle.std.proofs.lemmas.Int.{ints}
 use Rattle.emtp_fix.proofs.Wide.{through}
 use Rattle.emtp_elim.specs.Matrix.{item}
-use Rattle.emtp_elim.specs.Elimination.{less_product}
-use Rattle.emtp_elim.proofs.RightSides.{partial_next, partial_more, partial_small}
+use Rattle.emtp_elim.proofs.RightSides.{partial_next, partial_more}
 use Rattle.emtp_elim.proofs.substitution.reduced.Goals as goal
 
 pub returns-then-unsigned_abs-gt-LARGEST_VALUE-2-clause-out : goal.returns-then-unsigned_abs-gt-LARGEST_VALUE-2-clause-out

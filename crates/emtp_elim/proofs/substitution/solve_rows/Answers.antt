@@ -1,9 +1,6 @@
-use Rattle.std.proofs.Common.{◌≡◌, ◌<◌, ℕ, List, length, Result, Ok, Err, OnOk, sym, arith}
+use Rattle.std.proofs.Common.{◌≡◌, length, Result, Ok, Err, OnOk, sym}
 use Rattle.std.proofs.lemmas.Result.{err_from_is_err_and, IfErr-weaker}
-use Rattle.emtp_elim.specs.Matrix.{Matrix}
-use Rattle.emtp_elim.specs.Finished.{AreAllFinished}
 use Rattle.emtp_elim.specs.Stored.{rows_in}
-use Rattle.emtp_elim.specs.Substitution.{AreReduced}
 use Rattle.emtp_elim.proofs.StoredRows.{length-rows_in}
 use Rattle.emtp_elim.proofs.Solutions.{solves_right_fault, solves_unknown_fault, solves_ok, square-rows_in}
 use Rattle.emtp_elim.proofs.substitution.solve_rows.Goals as goal

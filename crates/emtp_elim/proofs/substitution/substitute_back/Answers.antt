@@ -1,10 +1,8 @@
-use Rattle.std.proofs.Common.{◌≡◌, ◌≤◌, ◌<◌, ◌+◌, ◌-◌, ◌*◌, ◌^◌, ℕ, ℤ, ◌*ℤ◌, ◌-ℤ◌, length, drop, slice_range, unsigned_abs, pos, to_z, of_z, refl, ◌∙◌, arith}
-use mir.Syntax.{w64, w128}
+use Rattle.std.proofs.Common.{◌≡◌, ◌≤◌, ◌<◌, ◌+◌, ◌-◌, ◌*◌, ◌^◌, length, slice_range, unsigned_abs, to_z, of_z, arith}
+use mir.Syntax.{w128}
 use Rattle.std.proofs.lemmas.Int.{ints}
-use Rattle.emtp_fix.specs.Rounding.{near}
 use Rattle.emtp_fix.proofs.Wide.{through, through_64}
-use Rattle.emtp_elim.specs.Matrix.{item, products}
-use Rattle.emtp_elim.specs.Elimination.{last_unknowns}
+use Rattle.emtp_elim.specs.Matrix.{item}
 use Rattle.emtp_elim.specs.Stored.{rows_in}
 use Rattle.emtp_elim.proofs.StoredRows.{length-rows_in, row_of-rows_in}
 use Rattle.emtp_elim.proofs.Unknowns.{found_none, found_more, found_fault}

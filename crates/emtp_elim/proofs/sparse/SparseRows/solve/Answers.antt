@@ -1,7 +1,5 @@
-use Rattle.std.proofs.Common.{◌≡◌, ◌<◌, ◌≤◌, ℕ, length, OnOk, IfErr, ap, sym, ◌∙◌, arith}
-use Rattle.emtp_elim.specs.Matrix.{Matrix}
+use Rattle.std.proofs.Common.{◌≡◌, length, ap, sym, ◌∙◌}
 use Rattle.emtp_elim.specs.Finished.{Finished}
-use Rattle.emtp_elim.specs.Stored.{rows_in}
 use Rattle.emtp_elim.proofs.StoredRows.{length-rows_in}
 use Rattle.emtp_elim.proofs.sparse.SparseRows.solve.Goals as goal
 
