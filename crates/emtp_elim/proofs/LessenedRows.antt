@@ -1,5 +1,5 @@
 -- A row less a multiple of another, from one column that isn't 0 to the next.
-use Rattle.std.proofs.Common.{◌≡◌, ◌≢◌, ℕ, ◌+◌, ◌^◌, ◌<◌, ◌≤◌, ℤ, pos, unsigned_abs, List, length, slice_set, slice_index, refl, ap, sym, ◌∙◌, inl, inr, arith}
+use Rattle.std.proofs.Common.{◌≡◌, ◌≢◌, ℕ, ◌^◌, ◌<◌, ◌≤◌, ℤ, unsigned_abs, List, length, slice_set, slice_index, refl, sym, ◌∙◌, inl, inr, arith}
 use Rattle.std.proofs.lemmas.List.{get_or-set_same, get_or-set_other}
 use Rattle.std.proofs.lemmas.Bool.{cases_eq, cases_lt}
 use Rattle.emtp_elim.specs.Matrix.{item}
@@ -21,12 +21,12 @@ pub lessened_start : (m : ℤ) (k : ℕ) (old above : List ℤ) (next : List ℕ
     → ((j : ℕ) → k < j → unsigned_abs (item old j) ≤ 10 ^ 17)
     → IsLessenedUpTo m k (slice_index next k) old above old
 lessened_start m k old above next jumps inside small = record {
-    further = jumps.onwards k inside;
-    before = λ j h. refl;
-    done = λ j low high. rw (jumps.zeros k j inside low high) (sym (less_product-zero_right (item old j) m));
-    within = λ j low high. small j low;
-    rest = λ j h. refl;
-  }
+  further = jumps.onwards k inside;
+  before = λ j h. refl;
+  done = λ j low high. rw (jumps.zeros k j inside low high) (sym (less_product-zero_right (item old j) m));
+  within = λ j low high. small j low;
+  rest = λ j h. refl;
+}
 
 -- one column more, and the zeros after it
 pub lessened_more : (m : ℤ) (k j : ℕ) (old above new : List ℤ) (next : List ℕ) (v : ℤ) → AreJumps above next → IsLessenedUpTo m k j old above new
@@ -57,7 +57,7 @@ lessened_more m k j old above new next v jumps was inside same_length small e fi
 
 pub lessened_all : (m : ℤ) (k upto : ℕ) (old above new : List ℤ) → IsLessenedUpTo m k upto old above new → length old ≤ upto → IsLessened m k old above new
 lessened_all m k upto old above new was all = record {
-    before = was.before;
-    after = λ j low high. was.done j low (omega arith);
-    within = λ j low high. was.within j low (omega arith);
-  }
+  before = was.before;
+  after = λ j low high. was.done j low (omega arith);
+  within = λ j low high. was.within j low (omega arith);
+}

@@ -6,3 +6,9 @@ pub mod LessenedRows
 pub mod ClearedRows
 pub mod StoredRows
 pub mod PartRows
+pub mod RightSides
+pub mod Reduction
+pub mod Remainders
+pub mod Unknowns
+pub mod Solutions
+pub mod Adding

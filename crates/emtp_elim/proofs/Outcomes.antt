@@ -1,15 +1,12 @@
 -- The outcome of an elimination, from what the relations say of the matrix and the right side.
-use Rattle.std.proofs.Common.{◌≡◌, ◌≢◌, ℕ, zero, suc, ◌<◌, ◌≤◌, ◌^◌, ℤ, pos, negsuc, unsigned_abs, nat_le, nat_lt, nat_eq, Bool, true, false, ◌&&◌, ◌||◌, List, length, Option, Some, None, Result, Ok, Err, refl, ap, sym, ◌∙◌, inl, inr, arith}
-use Rattle.std.proofs.lemmas.Bool.{cases_eq, cases_lt, cases_Bool, and_from, and_parts, and_left, and_right, or_left, or_right, or_cases, le-leb, lt-leb, leb-true, lt-ltb, ltb-true, eq-eqb, ne_eqb, cond-true, cond-false, true≢false, both_ways, false_from_ne_true}
+use Rattle.std.proofs.Common.{◌≡◌, ℕ, zero, suc, ◌<◌, ◌≤◌, ◌^◌, ℤ, pos, negsuc, unsigned_abs, nat_lt, Bool, true, ◌||◌, List, length, Option, Some, None, Ok, Err, refl, ap, sym, ◌∙◌, inl, inr, arith}
+use Rattle.std.proofs.lemmas.Bool.{cases_eq, cases_lt, and_from, and_parts, or_left, or_right, or_cases, le-leb, lt-leb, leb-true, lt-ltb, ltb-true, eq-eqb, ne_eqb, cond-true, cond-false, false_from_ne_true}
 use Rattle.emtp_elim.specs.Matrix.{Matrix, item, row_of, entry}
-use Rattle.emtp_elim.specs.Elimination.{ratio, stage, stage_right, solution}
+use Rattle.emtp_elim.specs.Elimination.{stage, stage_right, solution}
 use Rattle.emtp_elim.specs.Fault.{IsRowInRange, pivot, IsGoodRow, IsCause, IsRowFault, IsGoodMatrix, IsRightInRange, IsRightFault, IsUnknownFault}
-use Rattle.emtp_elim.specs.Outcome.{each_below, or_else, first_below, last_below, is_within, is_stage_in_range, is_ratio_in_range, is_row_in_range, is_right_in_range, row_fault, right_fault, unknown_fault, unless, outcome}
+use Rattle.emtp_elim.specs.Outcome.{each_below, first_below, last_below, is_within, is_stage_in_range, is_ratio_in_range, is_row_in_range, is_right_in_range, row_fault, right_fault, unknown_fault, outcome}
 use Rattle.emtp_elim.specs.declared.fault.RowCause.{RowCause}
 use Rattle.emtp_elim.specs.declared.fault.RowCause.TheVariants.{Range, ZeroPivot}
-use Rattle.emtp_elim.specs.declared.fault.RowFault.{RowFault}
-use Rattle.emtp_elim.specs.declared.fault.SolveFault.{SolveFault}
-use Rattle.emtp_elim.specs.declared.fault.PlainFault.{PlainFault}
 use Rattle.emtp_elim.specs.declared.fault.PlainFault.TheVariants.{Row, Solve}
 
 -- ---- tests and searches below a number
@@ -35,9 +32,9 @@ first_below-some : {X : Type 0} (n : ℕ) (f : ℕ → Option X) (i : ℕ) (x : 
     → first_below n f ≡ Some x
 first_below-some zero f i x below earlier here = absurd (omega arith)
 first_below-some (suc n) f i x below earlier here = elim (cases_eq i n) [
-    | inl last ↦ rw (first_below-none n f (λ k h. earlier k (omega arith))) (ap f (sym last) ∙ here)
-    | inr other ↦ rw (first_below-some n f i x (omega arith) earlier here) refl
-  ]
+  | inl last ↦ rw (first_below-none n f (λ k h. earlier k (omega arith))) (ap f (sym last) ∙ here)
+  | inr other ↦ rw (first_below-some n f i x (omega arith) earlier here) refl
+]
 
 last_below-none : {X : Type 0} (n : ℕ) (f : ℕ → Option X) → ((k : ℕ) → k < n → f k ≡ None) → last_below n f ≡ None
 last_below-none zero f none = refl
@@ -47,9 +44,9 @@ last_below-some : {X : Type 0} (n : ℕ) (f : ℕ → Option X) (i : ℕ) (x : X
     → last_below n f ≡ Some x
 last_below-some zero f i x below later here = absurd (omega arith)
 last_below-some (suc n) f i x below later here = elim (cases_eq i n) [
-    | inl last ↦ rw (ap f (sym last) ∙ here) refl
-    | inr other ↦ rw (later n (omega arith) (omega arith)) (last_below-some n f i x (omega arith) (λ h low high. later h low (omega arith)) here)
-  ]
+  | inl last ↦ rw (ap f (sym last) ∙ here) refl
+  | inr other ↦ rw (later n (omega arith) (omega arith)) (last_below-some n f i x (omega arith) (λ h low high. later h low (omega arith)) here)
+]
 
 -- ---- rows
 
@@ -105,7 +102,7 @@ right_fault-some : (rows : Matrix) (right : List ℤ) (i : ℕ) → ¬ IsRightIn
 unfolding right_fault
 right_fault-some rows right i out =
     cond-false (is_right_in_range rows right i) _ _ (false_from_ne_true (is_right_in_range rows right i)
-      (λ e. out (λ k low. leb-true _ _ (each_below-at (suc i) (λ h. is_within (10 ^ 18) (item (stage_right rows right h) i)) e k (omega arith)))))
+    (λ e. out (λ k low. leb-true _ _ (each_below-at (suc i) (λ h. is_within (10 ^ 18) (item (stage_right rows right h) i)) e k (omega arith)))))
 
 unknown_fault-none : (rows : Matrix) (right : List ℤ) (i : ℕ) → unsigned_abs (item (solution rows right) i) ≤ 10 ^ 18 → unknown_fault rows right i ≡ None
 unfolding unknown_fault
@@ -141,8 +138,11 @@ pub outcome_unknown : (rows : Matrix) (right : List ℤ) (i : ℕ) → IsGoodMat
     → outcome rows right ≡ Err (Solve (record { row = i }))
 unfolding outcome
 outcome_unknown rows right i good fault =
-    rw (no_row_fault rows good, no_right_fault rows right fault.right_sides,
-      last_below-some (length rows) (unknown_fault rows right) i _ fault.within (λ h low high. unknown_fault-none rows right h (fault.later h low high)) (unknown_fault-some rows right i fault.out)) refl
+    rw (
+      no_row_fault rows good,
+      no_right_fault rows right fault.right_sides,
+      last_below-some (length rows) (unknown_fault rows right) i _ fault.within (λ h low high. unknown_fault-none rows right h (fault.later h low high)) (unknown_fault-some rows right i fault.out),
+    ) refl
 
 pub outcome_solved : (rows : Matrix) (right : List ℤ) → IsGoodMatrix rows → ((i : ℕ) → i < length rows → IsRightInRange rows right i)
     → ((i : ℕ) → i < length rows → unsigned_abs (item (solution rows right) i) ≤ 10 ^ 18)

@@ -1,7 +1,7 @@
 -- Products and ratios: those with a zero factor, and what the code computes in 128 bits.
-use Rattle.std.proofs.Common.{◌≡◌, ◌≢◌, ℕ, ◌+◌, ◌*◌, ◌^◌, ◌<◌, ◌≤◌, ℤ, pos, ◌-ℤ◌, ◌*ℤ◌, unsigned_abs, FitsSigned, to_z, of_z, refl, ap, sym, ◌∙◌, arith, lit≤}
+use Rattle.std.proofs.Common.{◌≡◌, ◌*◌, ◌^◌, ◌≤◌, ℤ, pos, ◌-ℤ◌, ◌*ℤ◌, unsigned_abs, FitsSigned, to_z, of_z, ap, ◌∙◌, arith, lit≤}
 use mir.Syntax.{w128}
-use Rattle.std.proofs.lemmas.Int.{ints, unsigned_abs-mul, to_z-of_z}
+use Rattle.std.proofs.lemmas.Int.{ints, to_z-of_z}
 use Rattle.emtp_fix.specs.Rounding.{near}
 use Rattle.emtp_fix.proofs.Nearest.{near-zero, unsigned_abs-near-le}
 use Rattle.emtp_fix.proofs.Wide.{fits, through, abs-mul-le, product_through}

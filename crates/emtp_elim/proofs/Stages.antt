@@ -1,5 +1,5 @@
 -- One more column cleared, entry by entry.
-use Rattle.std.proofs.Common.{◌≡◌, ℕ, zero, suc, ◌+◌, ◌<◌, ◌≤◌, ℤ, pos, List, [], length, map, refl, ap, sym, ◌∙◌, inl, inr, arith}
+use Rattle.std.proofs.Common.{◌≡◌, ℕ, zero, suc, ◌+◌, ◌<◌, ◌≤◌, ℤ, pos, List, [], length, refl, ap, sym, ◌∙◌, inl, inr, arith}
 use Rattle.std.proofs.lemmas.List.{get_or_past}
 use Rattle.std.proofs.lemmas.List.FromFn.{length-map-range_with_len, get_or-map-range_with_len}
 use Rattle.std.proofs.lemmas.Bool.{cases_lt}
@@ -83,7 +83,7 @@ entry_same a b n in_a in_b same (suc k) h j p =
         | inl later ↦ elim (cases_lt k j) [
           | inl right_of ↦ entry_later a k h j later right_of long_a inside
               ∙ rw (entry_same a b n in_a in_b same k h j p, entry_same a b n in_a in_b same k h k p, entry_same a b n in_a in_b same k k k (omega arith), entry_same a b n in_a in_b same k k j (omega arith))
-                (sym (entry_later b k h j later right_of long_b (omega arith)))
+              (sym (entry_later b k h j later right_of long_b (omega arith)))
           | inr left_of ↦ entry_zero a k h j later left_of long_a inside ∙ sym (entry_zero b k h j later left_of long_b (omega arith))
         ]
         | inr stays ↦ entry_stays a k h j stays long_a inside ∙ entry_same a b n in_a in_b same k h j p ∙ sym (entry_stays b k h j stays long_b (omega arith))

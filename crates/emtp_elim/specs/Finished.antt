@@ -1,9 +1,11 @@
 -- Rows that are finished: their ratios to the earlier pivots before the diagonal, their entries from it on.
-use Rattle.std.specs.Prelude.{◌≡◌, ℕ, ◌+◌, ◌<◌, ◌≤◌, ℤ, List, length, take}
+use Rattle.std.specs.Prelude.{◌≡◌, ⊤, ℕ, ◌+◌, ◌<◌, ◌≤◌, ℤ, List, length, take}
 use Rattle.emtp_elim.specs.Matrix.{Matrix, item, row_of, entry}
 use Rattle.emtp_elim.specs.Elimination.{ratio, stage}
-use Rattle.emtp_elim.specs.Fault.{IsGoodRow, IsCause}
+use Rattle.emtp_elim.specs.Fault.{IsGoodRow, IsCause, IsRowFault}
 use Rattle.emtp_elim.specs.declared.fault.RowCause.{RowCause}
+use Rattle.emtp_elim.specs.declared.fault.PlainFault.{PlainFault}
+use Rattle.emtp_elim.specs.declared.fault.PlainFault.TheVariants.{Row, Solve, NoMemory}
 
 -- how many entries a row has, and the rows that are finished so far
 pub record Finished : Type 0 where
@@ -48,3 +50,9 @@ pub record AddsRow (old new : Finished) (row : List ℤ) : Type 0 where
   pub earlier : take (length old.rows) new.rows ≡ old.rows
   pub one_more : length new.rows ≡ length old.rows + 1
   pub finishes : FinishesRow old.rows row (row_of new.rows (length old.rows))
+
+-- what may be wrong with a matrix alone
+abbrev pub IsMatrixFault : Matrix → PlainFault → Type 0
+IsMatrixFault rows (Row fault) = IsRowFault rows fault.row fault.cause
+IsMatrixFault rows (Solve fault) = ⊥
+IsMatrixFault rows NoMemory = ⊤

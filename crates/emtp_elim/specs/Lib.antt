@@ -6,3 +6,4 @@ pub mod Outcome
 pub mod Finished
 pub mod Clearing
 pub mod Stored
+pub mod Substitution

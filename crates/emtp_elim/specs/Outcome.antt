@@ -1,7 +1,7 @@
 -- How an elimination ends, as a function of the matrix and the right side: with the solution, or with the first fault
 -- in this order. The least faulty row of the matrix, out of range before a zero pivot; the least row whose right side
 -- leaves its range; the last row whose unknown does.
-use Rattle.std.specs.Prelude.{ℕ, zero, suc, ◌^◌, ℤ, unsigned_abs, nat_le, nat_lt, nat_eq, Bool, true, ◌&&◌, ◌||◌, List, length, Option, Some, None, Result, Ok, Err, if◌then◌else◌}
+use Rattle.std.specs.Prelude.{◌≡◌, ⊤, ℕ, zero, suc, ◌^◌, ℤ, unsigned_abs, nat_le, nat_lt, nat_eq, Bool, true, ◌&&◌, ◌||◌, List, length, Option, Some, None, Result, Ok, Err, if◌then◌else◌}
 use Rattle.emtp_elim.specs.Matrix.{Matrix, item, row_of, entry}
 use Rattle.emtp_elim.specs.Elimination.{ratio, stage, stage_right, solution}
 use Rattle.emtp_elim.specs.Fault.{pivot}
@@ -9,7 +9,7 @@ use Rattle.emtp_elim.specs.declared.fault.RowCause.TheVariants.{Range, ZeroPivot
 use Rattle.emtp_elim.specs.declared.fault.RowFault.{RowFault}
 use Rattle.emtp_elim.specs.declared.fault.SolveFault.{SolveFault}
 use Rattle.emtp_elim.specs.declared.fault.PlainFault.{PlainFault}
-use Rattle.emtp_elim.specs.declared.fault.PlainFault.TheVariants.{Row, Solve}
+use Rattle.emtp_elim.specs.declared.fault.PlainFault.TheVariants.{Row, Solve, NoMemory}
 
 -- the test holds of each number below n
 abbrev pub each_below : ℕ → (ℕ → Bool) → Bool
@@ -75,3 +75,9 @@ outcome rows right =
     (unless (first_below (length rows) (right_fault rows right)) Solve
     (unless (last_below (length rows) (unknown_fault rows right)) Solve
     (Ok (solution rows right))))
+
+-- the elimination ends in this fault, or the fault is that there was no memory for it
+abbrev pub EndsInFault : Result (List ℤ) PlainFault → PlainFault → Type 0
+EndsInFault end (Row fault) = end ≡ Err (Row fault)
+EndsInFault end (Solve fault) = end ≡ Err (Solve fault)
+EndsInFault end NoMemory = ⊤

@@ -1,17 +1,18 @@
 // The finished rows of a matrix, and the next row finished by them.
-ghost use Rattle.std.specs.Prelude.{◌≡◌, ◌+◌, ◌<◌, ◌≤◌, length, take, [], ◌∷◌, ◌++◌, IfOk, OnOk, OnErr, IfErr};
+ghost use Rattle.std.specs.Prelude.{◌≡◌, ◌+◌, ◌<◌, ◌≤◌, length, take, [], ◌∷◌, ◌++◌, IfOk, OnOk, OnErr, IfErr, Ok, Err};
 ghost use Rattle.emtp_elim.specs.Finished.{Finished, AddsRow, FaultsRow};
 ghost use Rattle.emtp_elim.specs.Stored.{AreStored, rows_in};
+ghost use Rattle.emtp_elim.specs.Substitution.{SolvesAs};
+ghost use Rattle.emtp_elim.specs.declared.fault.PlainFault.{PlainFault};
 
+use crate::fault::{RowCause, SolveFault};
+use crate::finishing::finish_row;
+use crate::storing::store_next;
+use crate::substitution::solve_rows;
+use emtp_fix::Steps;
 use std::alloc::{AllocError, Global};
 use std::marker::Model;
 use std::sync::ledger::Ledger;
-
-use emtp_fix::Steps;
-
-use crate::fault::RowCause;
-use crate::finishing::finish_row;
-use crate::storing::store_next;
 
 /// The finished rows of a matrix: the ratios to the pivots above before the diagonal, the entries from it on.
 ///
@@ -62,8 +63,22 @@ impl SparseRows {
         self.count = rows;
     }
 
+    /// Solves the system of the finished rows: the work of the elimination on the right sides, in units of 1e-9, and the
+    /// unknowns from the last row back. `rhs` and `x` hold unstated numbers after a fault.
+    ///
+    /// The answer is that of full elimination of any matrix of which these are the finished rows.
+    pub fn solve(&self, rhs: &mut [i128], x: &mut [i64]) -> Result<(), SolveFault>
+        requires full { length self.now.rows ≡ self.now.size }
+        requires rhs { length rhs.old ≡ self.now.size }
+        requires x { length x.old ≡ self.now.size }
+        ensures solved { OnOk result (SolvesAs self.now.rows rhs.old (Ok x.new)) }
+        ensures fault { IfErr result (λ fault. SolvesAs self.now.rows rhs.old (Err (PlainFault.Solve fault))) }
+    {
+        solve_rows(&self.values, &self.next, rhs, x)
+    }
+
     /// Finishes the next row of the matrix, and keeps it. After a refusal the rows are as before.
-    fn add(&mut self, work: &mut [i128]) -> Result<(), RowCause>
+    pub(crate) fn add(&mut self, work: &mut [i128]) -> Result<(), RowCause>
         requires size { length work.old ≡ self.old.size }
         requires room { length self.old.rows < self.old.size }
         ensures added { OnOk result (AddsRow self.old self.new work.old) }

@@ -1,7 +1,5 @@
-use Rattle.std.proofs.Common.{◌≡◌, ◌≤◌, ◌^◌, ℤ, pos, ◌*ℤ◌, ◌-ℤ◌, unsigned_abs, FitsSigned, to_z, of_z, sym, ◌∙◌, arith}
-use mir.Syntax.{w128}
+use Rattle.std.proofs.Common.{◌≡◌, pos, sym, ◌∙◌, arith}
 use Rattle.std.proofs.lemmas.Int.{ints}
-use Rattle.emtp_fix.specs.Rounding.{near}
 use Rattle.emtp_fix.proofs.Wide.{through}
 use Rattle.emtp_elim.proofs.Products.{less_product-zero_left, less_product_through, product_fits, product_is, product-le}
 use Rattle.emtp_elim.proofs.arithmetic.less.Goals as goal

@@ -1,9 +1,7 @@
-use Rattle.std.proofs.Common.{◌≡◌, ◌≤◌, ◌^◌, pos, unsigned_abs, to_z, of_z, inr, ◌∙◌, arith}
+use Rattle.std.proofs.Common.{◌≡◌, ◌≤◌, ◌^◌, pos, unsigned_abs, to_z, of_z, inr, arith}
 use mir.Syntax.{w128}
 use Rattle.std.proofs.lemmas.Int.{ints}
 use Rattle.emtp_elim.specs.Matrix.{item}
-use Rattle.emtp_elim.specs.Elimination.{quotient}
-use Rattle.emtp_elim.specs.Clearing.{LeavesRange, IsLessened}
 use Rattle.emtp_elim.proofs.ClearedRows.{cleared_nothing, cleared_lessened, ratio_read}
 use Rattle.emtp_elim.proofs.clearing.clear_column.Goals as goal
 

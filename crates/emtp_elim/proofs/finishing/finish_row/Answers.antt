@@ -1,7 +1,7 @@
-use Rattle.std.proofs.Common.{◌≡◌, ◌≢◌, ◌+◌, ◌*◌, ℤ, List, pos, length, slice_range, to_z, of_z, ◌∙◌, arith}
+use Rattle.std.proofs.Common.{◌≡◌, pos, length, arith}
 use Rattle.std.proofs.lemmas.Bool.{iff_false}
 use Rattle.std.proofs.lemmas.Int.{ints}
-use Rattle.emtp_elim.specs.Matrix.{Matrix, item}
+use Rattle.emtp_elim.specs.Matrix.{item}
 use Rattle.emtp_elim.specs.Stored.{rows_in}
 use Rattle.emtp_elim.proofs.StoredRows.{length-rows_in, row_of-rows_in}
 use Rattle.emtp_elim.proofs.PartRows.{within_from_all, underway_start, underway_more, faults_start, faults_clearing, faults_pivot, finishes}
@@ -21,7 +21,7 @@ returns-then-not-clear_column-clause-fault c =
     let count = length-rows_in size c.args.count c.args.values.now in
     let above_is = row_of-rows_in size c.args.count c.args.values.now k c.loop-k-test.true in
     faults_clearing size k done c.args.work.now c.loop-k.work _ c.loop-k.invariant (omega arith) (omega arith) c.loop-k.auto.work above_is
-      (c.requires.stored.each k c.loop-k-test.true).finished c.if-not-clear_column.ensures.out
+    (c.requires.stored.each k c.loop-k-test.true).finished c.if-not-clear_column.ensures.out
 
 pub loop-k-preserved : goal.loop-k-preserved
 loop-k-preserved c =
@@ -31,7 +31,7 @@ loop-k-preserved c =
     let count = length-rows_in size c.args.count c.args.values.now in
     let above_is = row_of-rows_in size c.args.count c.args.values.now k c.loop-k-test.true in
     underway_more size k done c.args.work.now c.loop-k.work _ c.clear_column.new.work c.loop-k.invariant (omega arith) (omega arith) c.loop-k.auto.work (omega arith) above_is
-      (c.requires.stored.each k c.loop-k-test.true).finished c.if-not-clear_column.ensures.cleared
+    (c.requires.stored.each k c.loop-k-test.true).finished c.if-not-clear_column.ensures.cleared
 
 pub returns-then-work-count-eq0-clause-fault : goal.returns-then-work-count-eq0-clause-fault
 returns-then-work-count-eq0-clause-fault c =
@@ -49,4 +49,4 @@ returns-clause-finished c =
     let count : length done ≡ c.args.count = length-rows_in size c.args.count c.args.values.now in
     let all : c.loop-k.k ≡ length done = omega arith in
     finishes size done c.args.work.now c.loop-k.work (rw all at c.loop-k.invariant) (omega arith) c.loop-k.auto.work
-      (λ e. let zero_pivot : item c.loop-k.work c.args.count ≡ pos 0 = rw count at e in omega (arith, ints))
+    (λ e. let zero_pivot : item c.loop-k.work c.args.count ≡ pos 0 = rw count at e in omega (arith, ints))

@@ -1,4 +1,4 @@
-use Rattle.std.proofs.Common.{◌≡◌, ◌≤◌, ◌+◌, ◌*◌, ℕ, length, refl, ◌∙◌, arith}
+use Rattle.std.proofs.Common.{length, refl, arith}
 use Rattle.std.proofs.lemmas.Nat.{row_fits}
 use Rattle.emtp_elim.proofs.StoredRows.{put_rows, stored_put}
 use Rattle.emtp_elim.proofs.storing.store_next.Goals as goal

@@ -1,4 +1,4 @@
-use Rattle.std.proofs.Common.{◌≡◌, ◌<◌, ◌≤◌, ℕ, length, ap, sym, ◌∙◌, arith}
+use Rattle.std.proofs.Common.{◌≡◌, length, ap, sym, ◌∙◌, arith}
 use Rattle.emtp_elim.specs.Finished.{Finished}
 use Rattle.emtp_elim.proofs.StoredRows.{length-rows_in}
 use Rattle.emtp_elim.proofs.sparse.SparseRows.add.Goals as goal
