@@ -9,3 +9,6 @@ pub mod Channel
 pub mod History
 pub mod Case
 pub mod OneProof
+pub mod Node
+pub mod ChannelName
+pub mod StepRecord

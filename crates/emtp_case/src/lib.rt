@@ -4,6 +4,7 @@
 mod branch;
 mod case;
 mod channel;
+mod channel_name;
 mod control;
 mod draft;
 mod expr;
@@ -14,7 +15,7 @@ mod run_data;
 mod source;
 mod switch;
 
-pub use branch::{Branch, Line, Lumped, Phase, Point, Pseudo, Trio};
+pub use branch::{Branch, Line, Lumped, LumpedState, Phase, Point, Pseudo, Trio};
 pub use case::{Case, Parts};
 pub use channel::Channel;
 pub use control::{Block, Bound, Device, Extra, Formula, Group, Input, Limiter};
