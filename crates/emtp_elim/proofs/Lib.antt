@@ -12,3 +12,4 @@ pub mod Remainders
 pub mod Unknowns
 pub mod Solutions
 pub mod Adding
+pub mod Prefix
