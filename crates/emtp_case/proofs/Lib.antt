@@ -4,3 +4,7 @@ pub mod Sources
 pub mod DraftSteps
 pub mod Places
 pub mod SwitchTimes
+pub mod Ordered
+pub mod NodeOrder
+pub mod RowTables
+pub mod KeyCompared

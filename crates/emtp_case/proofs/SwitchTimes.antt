@@ -66,8 +66,8 @@ pass_one at next old ss times d h within other =
       same_len = h.same_len;
       left = omega (arith, h.left, ap (λ xs. count_by is_time_switch xs) rest, counted s (drop (suc at) ss) false other);
       is_set =
-        h.is_set ∙ ap (λ xs. take at ss ++ with_times xs (drop next times)) rest ∙ ap (λ xs. take at ss ++ xs) (with_times-other s (drop (suc at) ss) (drop next times) other)
-        ∙ sym (append_assoc (take at ss) (s ∷ []) (with_times (drop (suc at) ss) (drop next times))) ∙ ap (λ xs. xs ++ with_times (drop (suc at) ss) (drop next times)) (sym front);
+          h.is_set ∙ ap (λ xs. take at ss ++ with_times xs (drop next times)) rest ∙ ap (λ xs. take at ss ++ xs) (with_times-other s (drop (suc at) ss) (drop next times) other)
+          ∙ sym (append_assoc (take at ss) (s ∷ []) (with_times (drop (suc at) ss) (drop next times))) ∙ ap (λ xs. xs ++ with_times (drop (suc at) ss) (drop next times)) (sym front);
     })
 
 -- there is an entry for the next time switch
@@ -93,11 +93,11 @@ set_one at next old ss times d e h within time =
       same_len = length-set ss at new ∙ h.same_len;
       left = omega (arith, h.left, ap (λ xs. count_by is_time_switch xs) rest, counted s (drop (suc at) ss) true time, ap (λ xs. count_by is_time_switch xs) behind);
       is_set =
-        h.is_set ∙ ap (λ xs. take at ss ++ with_times xs (drop next times)) rest ∙ ap (λ ts. take at ss ++ with_times (s ∷ drop (suc at) ss) ts) entries
-        ∙ ap (λ xs. take at ss ++ xs) (with_times-time s (drop (suc at) ss) t (drop (suc next) times) time)
-        ∙ sym (append_assoc (take at ss) (new ∷ []) (with_times (drop (suc at) ss) (drop (suc next) times)))
-        ∙ ap (λ xs. xs ++ with_times (drop (suc at) ss) (drop (suc next) times)) (sym front)
-        ∙ ap (λ xs. take (suc at) (slice_set ss at new) ++ with_times xs (drop (suc next) times)) (sym behind);
+          h.is_set ∙ ap (λ xs. take at ss ++ with_times xs (drop next times)) rest ∙ ap (λ ts. take at ss ++ with_times (s ∷ drop (suc at) ss) ts) entries
+          ∙ ap (λ xs. take at ss ++ xs) (with_times-time s (drop (suc at) ss) t (drop (suc next) times) time)
+          ∙ sym (append_assoc (take at ss) (new ∷ []) (with_times (drop (suc at) ss) (drop (suc next) times)))
+          ∙ ap (λ xs. xs ++ with_times (drop (suc at) ss) (drop (suc next) times)) (sym front)
+          ∙ ap (λ xs. take (suc at) (slice_set ss at new) ++ with_times xs (drop (suc next) times)) (sym behind);
     })
 
 -- the same for the values that a turn of the loop leaves
@@ -105,7 +105,7 @@ pub set_turn : (at next : ℕ) (old ss : List Switch) (times : List Times) (d : 
     → AreSetUpTo (at + 1) m old rs times
 set_turn at next old ss times d e new rs m h within time new_is rs_is m_is =
     subst (λ n. AreSetUpTo (at + 1) n old rs times) (sym m_is)
-      (subst (λ xs. AreSetUpTo (at + 1) (next + 1) old xs times) (sym (rs_is ∙ ap (slice_set ss at) new_is)) (set_one at next old ss times d e h within time))
+    (subst (λ xs. AreSetUpTo (at + 1) (next + 1) old xs times) (sym (rs_is ∙ ap (slice_set ss at) new_is)) (set_one at next old ss times d e h within time))
 
 pub pass_turn : (at next : ℕ) (old ss : List Switch) (times : List Times) (d : Switch) (rs : List Switch) (m : ℕ) → AreSetUpTo at next old ss times → at < length ss → is_time_switch (slice_index_or ss at d) ≡ false → rs ≡ ss → m ≡ next
     → AreSetUpTo (at + 1) m old rs times

@@ -12,3 +12,5 @@ pub mod OneProof
 pub mod Node
 pub mod ChannelName
 pub mod StepRecord
+pub mod RowTable
+pub mod RowOrder
