@@ -1,0 +1,23 @@
+//! The COMTRADE record of a run (IEEE C37.111-1999, ASCII form): configuration and data.
+//!
+//! [`scales`] gives each analog channel its multiplier, [`write_cfg`] and [`write_dat`] write the two files. Both
+//! stream through a buffer of fixed size and take no memory. It stands on the texts of `emtp_case` for the channels'
+//! names, on `emtp_machine` for the samples, on `emtp_io` for the files and on `emtp_fix` for rounding and decimals.
+//!
+//! ```text
+//! let scales = scales(case, samples);
+//! cab.create(Output::Cfg, "out.cfg")?;
+//! write_cfg(cab, case, samples, &scales)?;
+//! ```
+#![tactic(auto)]
+
+mod configuration;
+mod data;
+mod multipliers;
+mod scale;
+mod stream;
+mod text;
+
+pub use configuration::write_cfg;
+pub use data::{raw_value, write_dat};
+pub use multipliers::scales;

@@ -1,0 +1,100 @@
+// The multipliers of the analog channels of a record.
+ghost use Rattle.std.specs.Prelude.{◌≡◌, ◌≢◌, ℤ, List, false, ◌+◌, ◌≤◌, ◌<◌, ◌^◌, length, pos};
+ghost use Rattle.emtp_comtrade.specs.Record.{is_status, is_status_at, analog_before, scale_at, ScalesBelow, AreScales};
+ghost use Rattle.emtp_machine.specs.Samples.{greatest};
+ghost use Rattle.emtp_comtrade.specs.Scale.{IsScale};
+
+use crate::scale::scale;
+use emtp_case::{Case, Channel};
+use emtp_machine::Samples;
+
+/// The multipliers of the analog channels, in the order of the channels, in 1e-9 V, A or unit: the least of 1, 2
+/// and 5 times a power of ten by which each value of the channel is held in 16 bits. The entries after the last
+/// analog one are 1.
+pub fn scales(case: &Case, samples: &Samples) -> [i64; 64]
+    requires { samples.now.channels ≡ length case.now.parts.channels }
+    ensures { AreScales case.now.parts samples.now.rows result }
+{
+    let mut scales = [1; 64];
+    let mut analog = 0;
+    for place in 0..case.parts.channels.len() {
+        analog = put_scale(&mut scales, analog, case, samples, place);
+    }
+    scales
+}
+
+// Puts the multiplier of the channel at a place behind those of the analog channels before it, and answers how many
+// they are then.
+fn put_scale(
+    scales: &mut [i64; 64],
+    analog: usize,
+    case: &Case,
+    samples: &Samples,
+    place: usize,
+) -> usize
+    requires channels { samples.now.channels ≡ length case.now.parts.channels }
+    requires place { place < length case.now.parts.channels }
+    requires analog { analog ≡ analog_before case.now.parts place }
+    requires scales { ScalesBelow case.now.parts samples.now.rows place scales.old }
+    ensures analog { result ≡ analog_before case.now.parts (place + 1) }
+    ensures scales { ScalesBelow case.now.parts samples.now.rows (place + 1) scales.new }
+{
+    if is_status_at(case, place) {
+        return analog;
+    }
+    scales[analog] = multiplier(samples, place);
+    analog + 1
+}
+
+// The multiplier of the channel at a place.
+fn multiplier(samples: &Samples, place: usize) -> i64
+    requires { place < samples.now.channels }
+    ensures value { result ≡ pos (scale_at samples.now.rows place) }
+    ensures least { IsScale (greatest samples.now.rows place (length samples.now.rows))
+        (scale_at samples.now.rows place) }
+{
+    scale(greatest(samples, place)) as i64
+}
+
+/// The multiplier of the analog channel at a place, before which so many analog channels stand.
+pub fn multiplier_at(case: &Case, scales: &[i64; 64], place: usize, analog: usize) -> i64
+    requires place { place < length case.now.parts.channels }
+    requires kind { is_status_at case.now.parts place ≡ false }
+    requires analog { analog ≡ analog_before case.now.parts place }
+    ensures few { analog < 64 }
+
+    // Whatever the samples are that these are the multipliers of.
+    ensures value { (samples : List (List ℤ)) → AreScales case.now.parts samples scales.now
+        → result ≡ pos (scale_at samples place) }
+    ensures nonzero { (samples : List (List ℤ)) → AreScales case.now.parts samples scales.now
+        → result ≢ pos 0 }
+{
+    scales[analog]
+}
+
+/// Whether a status channel stands at a place.
+pub fn is_status_at(case: &Case, place: usize) -> bool
+    requires { place < length case.now.parts.channels }
+    ensures { result ≡ is_status_at case.now.parts place }
+{
+    is_status(case.parts.channels.as_slice()[place])
+}
+
+fn is_status(channel: Channel) -> bool
+    ensures { result ≡ is_status channel }
+{
+    matches!(channel, Channel::Status(_))
+}
+
+// The greatest magnitude of a channel.
+fn greatest(samples: &Samples, channel: usize) -> u64
+    requires { channel < samples.now.channels }
+    ensures value { result ≡ greatest samples.now.rows channel (length samples.now.rows) }
+    ensures bound { result ≤ 2 ^ 63 }
+{
+    let mut greatest = 0;
+    for sample in 0..samples.count() {
+        greatest = greatest.max(samples.value(sample, channel).unsigned_abs());
+    }
+    greatest
+}

@@ -1,0 +1,88 @@
+// The samples of a record.
+ghost use Rattle.std.specs.Prelude.{◌≡◌, ◌+◌, ◌*◌, ◌^◌, ◌<◌, ◌≤◌, ◌++◌, [], ◌∷◌, length, pos, slice_index_or, IfOk, vec_capacity};
+ghost use Rattle.emtp_machine.specs.Samples.{Sampled, IsReserved, rows_of, value_at};
+
+use std::alloc::{AllocError, Global};
+use std::marker::Model;
+
+/// The values of the channels at each sample of a run, in the order of the case's channels: nV, nA or 1e-9
+/// of a unit, and 0 or 1 of a status. Contracts see it as one list a sample.
+#[derive(Drop)]
+pub struct Samples {
+    channels: usize,
+    room: u32,
+    count: u32,
+    values: Vec<i64>,
+}
+
+impl Model for Samples {
+    ghost Value = { Sampled };
+
+    ghost view = { λ s. record {
+      rows = rows_of s.channels s.count s.values.items;
+      channels = s.channels;
+      room = s.room;
+    } };
+
+    ghost invariant = { λ s. IsReserved s.channels s.room s.count (length s.values.items) (vec_capacity s.values) };
+}
+
+impl Samples {
+    /// No samples yet, and room for `room` of them, each with a value for each of `channels`.
+    pub fn open(alloc: Global, channels: usize, room: u32) -> Result<Samples, AllocError>
+        requires { room * channels < 2 ^ 64 }
+        ensures { IfOk result (λ s. s ≡ record { rows = []; channels = channels; room = room }) }
+    {
+        Ok(Samples {
+            channels,
+            room,
+            count: 0,
+            values: Vec::with_capacity(alloc, room as usize * channels)?,
+        })
+    }
+
+    /// The number of samples.
+    pub fn count(&self) -> u32
+        ensures { result ≡ length self.now.rows }
+    {
+        self.count
+    }
+
+    /// The value of a channel, counted from 0, in a sample, counted from 0.
+    pub fn value(&self, sample: u32, channel: usize) -> i64
+        requires sample { sample < length self.now.rows }
+        requires channel { channel < self.now.channels }
+        ensures { result ≡ value_at self.now.rows sample channel }
+    {
+        value_in(
+            self.values.as_slice(),
+            sample as usize * self.channels + channel,
+        )
+    }
+
+    /// Takes the values of one more sample, for which there is room. It takes no memory.
+    pub fn push(&mut self, values: &[i64])
+        requires width { length values.now ≡ self.old.channels }
+        requires room { length self.old.rows < self.old.room }
+        ensures { self.new ≡ record self.old { rows = self.old.rows ++ values.now ∷ [] } }
+    {
+        put_behind(&mut self.values, values);
+        self.count += 1;
+    }
+}
+
+fn value_in(values: &[i64], at: usize) -> i64
+    requires { at < length values.now }
+    ensures { result ≡ slice_index_or values.now at (pos 0) }
+{
+    values[at]
+}
+
+// Puts values at the end, where they have room.
+fn put_behind(all: &mut Vec<i64>, values: &[i64])
+    requires { length all.old.items + length values.now ≤ vec_capacity all.old }
+    ensures items { all.new.items ≡ all.old.items ++ values.now }
+    ensures capacity { vec_capacity all.old ≤ vec_capacity all.new }
+{
+    let _ = all.extend_from_slice(values);
+}
