@@ -1,1 +1,3 @@
 pub mod Redoing
+pub mod Lawful
+mod Worked
