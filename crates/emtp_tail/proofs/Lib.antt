@@ -1,3 +1,4 @@
 pub mod Redoing
 pub mod Lawful
 mod Worked
+pub mod Running

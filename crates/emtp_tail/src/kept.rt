@@ -131,7 +131,8 @@ impl Kept {
 
     /// How many rows are good: the first ones of the matrix that was given last.
     pub fn good(&self) -> usize
-        ensures { result ≡ length self.now.rows }
+        ensures count { result ≡ length self.now.rows }
+        ensures within { result ≤ self.now.size }
     {
         self.done.rows()
     }

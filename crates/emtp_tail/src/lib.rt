@@ -13,7 +13,9 @@
 #![tactic(auto)]
 
 mod kept;
+mod runs;
 #[cfg(test)]
 mod tests;
 
 pub use kept::Kept;
+pub use runs::{Call, Reply, Unknowns, answer_all};
