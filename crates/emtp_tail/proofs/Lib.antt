@@ -1,1 +1,4 @@
 pub mod Redoing
+pub mod Lawful
+mod Worked
+pub mod Running

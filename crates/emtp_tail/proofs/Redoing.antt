@@ -1,20 +1,20 @@
 -- How far a new matrix agrees with the good rows, and the rows that are redone.
-use Rattle.std.proofs.Common.{◌≡◌, ◌≢◌, ℕ, ◌+◌, ◌-◌, ◌*◌, ◌<◌, ◌≤◌, Bool, true, false, not, ℤ, int_eq, List, [], ◌∷◌, ◌++◌, length, take, slice_range, refl, ap, sym, ◌∙◌, inl, inr, arith}
-use Rattle.std.proofs.lemmas.List.{get_or-take, length-take-le, take_more, take_all, take-take, take-append-le, ext_get_or}
+use Rattle.std.proofs.Common.{◌≡◌, ◌≢◌, ℕ, zero, suc, ◌+◌, ◌-◌, ◌*◌, ◌<◌, ◌≤◌, Bool, true, false, not, ℤ, int_eq, List, [], ◌∷◌, ◌++◌, length, take, drop, refl, ap, sym, ◌∙◌, inl, inr, arith}
+use Rattle.std.proofs.lemmas.List.{get_or-take, length-take-le, take_more, take_at, take-take, ext_get_or}
 use Rattle.std.specs.Cmp.Lexicographic.{pointwise}
 use Rattle.std.proofs.lemmas.Slice.Eq.{slice_eq-Decides}
 use Rattle.std.proofs.lemmas.Bool.Decides.{Decides-int_eq}
-use Rattle.std.proofs.lemmas.Bool.{cases_eq, both_ways, not-true, not-false}
+use Rattle.std.proofs.lemmas.Bool.{cases_eq, both_ways, not-true, not-false, cond-true, cond-false, false_from_ne_true}
 use Rattle.std.proofs.lemmas.Nat.{row_fits}
 use borrow.Rule.Slice.PartMut.{put_mid}
 use Rattle.emtp_elim.specs.Matrix.{Matrix, row_of}
-use Rattle.emtp_elim.specs.Finished.{Finished, AreFinished, AddsRow}
+use Rattle.emtp_elim.specs.Finished.{Finished, AddsRow}
 use Rattle.emtp_elim.specs.Stored.{rows_in}
-use Rattle.emtp_elim.proofs.StoredRows.{length-rows_in, row_of-rows_in, rows_in-same, take-rows_in, length-put_row, row_kept, put_rows}
-use Rattle.emtp_elim.proofs.Adding.{AreFinishedUpTo, finished_more, row_fault_next}
+use Rattle.emtp_elim.proofs.StoredRows.{length-rows_in, rows_in-same, take-rows_in, length-put_row, row_kept, put_rows}
+use Rattle.emtp_elim.proofs.Adding.{AreFinishedUpTo, finished_more}
 use Rattle.emtp_elim.proofs.Prefix.{AgreeBelow, finished_same, finished_first}
-use Rattle.emtp_tail.specs.Good.{IsFirstChange}
-use Rattle.emtp_tail.specs.Keeping.{IsKept, IsRedone}
+use Rattle.emtp_tail.specs.Good.{first_change}
+use Rattle.emtp_tail.specs.Keeping.{IsFirstChange, IsKept, IsRedone}
 
 -- ---- the first change
 
@@ -24,30 +24,47 @@ pub record IsSameUpTo (old new : Matrix) (i : ℕ) : Type 0 where
   pub same : (h : ℕ) → h < i → row_of old h ≡ row_of new h
 
 pub same_none : (old new : Matrix) → IsSameUpTo old new 0
-same_none old new = record { within = omega arith; same = λ h low. absurd (omega arith); }
+same_none old new = record { within = omega arith; same = λ h low. absurd (omega arith) }
 
 pub same_more : (old new : Matrix) (i : ℕ) → IsSameUpTo old new i → i < length old → row_of new i ≡ row_of old i → IsSameUpTo old new (i + 1)
 same_more old new i was inside here = record {
-    within = omega arith;
-    same = λ h low. elim (cases_eq h i) [
-      | inl last ↦ rw last (sym here)
-      | inr earlier ↦ was.same h (omega arith)
-    ];
-  }
+  within = omega arith;
+  same = λ h low. elim (cases_eq h i) [
+    | inl last ↦ rw last (sym here)
+    | inr earlier ↦ was.same h (omega arith)
+  ];
+}
 
 pub change_here : (old new : Matrix) (i : ℕ) → IsSameUpTo old new i → row_of new i ≢ row_of old i → IsFirstChange old new i
 change_here old new i was other = record {
-    within = was.within;
-    same = was.same;
-    differs = λ inside e. other (sym e);
-  }
+  within = was.within;
+  same = was.same;
+  differs = λ inside e. other (sym e);
+}
 
 pub change_none : (old new : Matrix) (i : ℕ) → IsSameUpTo old new i → length old ≤ i → IsFirstChange old new i
 change_none old new i was all = record {
-    within = was.within;
-    same = was.same;
-    differs = λ inside. absurd (omega arith);
-  }
+  within = was.within;
+  same = was.same;
+  differs = λ inside. absurd (omega arith);
+}
+
+-- the relation has one answer, which the function gives
+pub first_change_is : (old new : Matrix) (i : ℕ) → length old ≤ length new → IsFirstChange old new i → i ≡ first_change old new
+unfolding first_change
+first_change_is [] new i long change = omega (arith, change.within)
+first_change_is (row ∷ old) [] i long change = absurd (omega arith)
+first_change_is (row ∷ old) (other ∷ new) zero long change =
+    let decides = slice_eq-Decides Decides-int_eq row other (pointwise int_eq row other) refl in
+    sym (cond-false (pointwise int_eq row other) _ _ (false_from_ne_true (pointwise int_eq row other) (λ e. change.differs (omega arith) (decides.0 e))))
+first_change_is (row ∷ old) (other ∷ new) (suc i) long change =
+    let decides = slice_eq-Decides Decides-int_eq row other (pointwise int_eq row other) refl in
+    let rest : IsFirstChange old new i = record {
+      within = omega (arith, change.within);
+      same = λ h low. change.same (suc h) (omega arith);
+      differs = λ inside. change.differs (omega arith);
+    } in
+    ap suc (first_change_is old new i (omega arith) rest) ∙ sym (cond-true (pointwise int_eq row other) _ _ (decides.1 (change.same 0 (omega arith))))
 
 -- what the comparison of two rows says
 pub rows_differ : (xs ys : List ℤ) (r : Bool) → r ≡ not (pointwise int_eq xs ys) → r ≡ true → xs ≢ ys
@@ -82,13 +99,13 @@ redoing_start rows first given work old new ticks kept change new_is =
     let count : length given_rows ≡ good = length-rows_in (length rows) good given in
     let within : first ≤ good = omega (arith, change.within) in
     let inside : first ≤ length rows = omega (arith, kept.within) in
-    let agree : AgreeBelow first given_rows rows = record { within_a = change.within; within_b = inside; same = change.same; } in
+    let agree : AgreeBelow first given_rows rows = record { within_a = change.within; within_b = inside; same = change.same } in
     let new_count : length new.rows ≡ first = rw new_is (length-take-le first old.rows within) in
     let first_rows : rows_in (length rows) first given ≡ take first rows =
-      sym (take-rows_in (length rows) good first given within)
-      ∙ ext_get_or [] (take first given_rows) (take first rows) (length-take-le first given_rows change.within ∙ sym (length-take-le first rows inside))
-        (λ h low. let before : h < first = omega (arith, length-take-le first given_rows change.within) in
-          get_or-take first given_rows h [] before ∙ change.same h before ∙ sym (get_or-take first rows h [] before)) in
+    sym (take-rows_in (length rows) good first given within)
+    ∙ ext_get_or [] (take first given_rows) (take first rows) (length-take-le first given_rows change.within ∙ sym (length-take-le first rows inside))
+    (λ h low. let before : h < first = omega (arith, length-take-le first given_rows change.within) in
+    get_or-take first given_rows h [] before ∙ change.same h before ∙ sym (get_or-take first rows h [] before)) in
     record {
       from_first = omega arith;
       few = kept.few;
@@ -138,3 +155,25 @@ redoing_more rows first i given work row copied after old done new before ticks 
       earlier = sym same_first ∙ rw adds.earlier was.earlier;
       ticked = omega (arith, was.ticked);
     })
+
+-- what was redone is kept
+pub kept_redone : (rows : Matrix) (n : ℕ) (given work : List ℤ) (done : Finished) → length rows ≤ 1000 → n ≤ length rows → length given ≡ length rows * length rows
+    → length work ≡ length rows → IsRedone rows n given done → IsKept (length rows) given work done
+kept_redone rows n given work done few inside room room_work redone =
+    let agree : AgreeBelow n rows (take n rows) = record {
+      within_a = inside;
+      within_b = omega (arith, length-take-le n rows inside);
+      same = λ h low. sym (get_or-take n rows h [] low);
+    } in
+    record {
+      few = few;
+      room = room;
+      room_work = room_work;
+      same_size = redone.same_size;
+      within = omega (arith, redone.count);
+      finished = rw (redone.count, redone.given_first) (finished_same n rows (take n rows) done.rows agree (omega (arith, redone.count)) redone.finished);
+    }
+
+-- a `Vec` that was lent as a slice
+pub lent : {X : Type 0} (n : ℕ) (xs ys : List X) → length xs ≡ n → take n (xs ++ drop (length xs) ys) ≡ xs
+lent n xs ys same = take_at xs (drop (length xs) ys) n same

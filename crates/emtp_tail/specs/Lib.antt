@@ -1,2 +1,4 @@
 pub mod Good
 pub mod Keeping
+pub mod Tables
+pub mod Runs

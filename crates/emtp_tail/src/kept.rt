@@ -5,15 +5,14 @@ ghost use Rattle.emtp_elim.specs.Fault.{IsRowFault, IsGoodMatrix};
 ghost use Rattle.emtp_elim.specs.Outcome.{outcome};
 ghost use Rattle.emtp_elim.specs.Stored.{rows_in};
 ghost use Rattle.emtp_elim.specs.declared.fault.PlainFault.{PlainFault};
-ghost use Rattle.emtp_tail.specs.Good.{Good, IsFirstChange};
-ghost use Rattle.emtp_tail.specs.Keeping.{IsKept, IsRedone};
-
-use std::alloc::{AllocError, Global};
-use std::marker::Model;
-use std::sync::ledger::Ledger;
+ghost use Rattle.emtp_tail.specs.Good.{Good, first_change};
+ghost use Rattle.emtp_tail.specs.Keeping.{IsFirstChange, IsKept, IsRedone};
 
 use emtp_elim::{RowFault, Rows, SolveFault, SparseRows, eliminate_row};
 use emtp_fix::Steps;
+use std::alloc::{AllocError, Global};
+use std::marker::Model;
+use std::sync::ledger::Ledger;
 
 /// The finished rows of the matrix that was given last, as far as it is good.
 ///
@@ -36,7 +35,7 @@ impl Model for Kept {
 }
 
 /// The first row that differs from the good row of its number, or the number of good rows.
-fn first_change<R: Rows>(rows: &R, given: &[i128], good: usize, work: &mut [i128]) -> usize
+fn changed_row<R: Rows>(rows: &R, given: &[i128], good: usize, work: &mut [i128]) -> usize
     requires given { length given.now ≡ length (R.matrix rows.now) * length (R.matrix rows.now) }
     requires good { good ≤ length (R.matrix rows.now) }
     requires work { length work.old ≡ length (R.matrix rows.now) }
@@ -84,6 +83,31 @@ fn redo<R: Rows, L: Ledger>(
     Ok(())
 }
 
+/// Redoes what changed: the rows from the first change on.
+fn update_rows<R: Rows, L: Ledger>(
+    rows: &R,
+    given: &mut [i128],
+    work: &mut [i128],
+    done: &mut SparseRows,
+    steps: &mut Steps<L>,
+) -> Result<usize, RowFault>
+    requires { IsKept (length (R.matrix rows.now)) given.old work.old done.old }
+    ensures kept { IsKept (length (R.matrix rows.now)) given.new work.new done.new }
+    ensures redone { IfOk result (λ first. first ≡ first_change (rows_in (length (R.matrix rows.now)) (length done.old.rows) given.old) (R.matrix rows.now)) }
+    ensures rows { OnOk result (rows_in (length (R.matrix rows.now)) (length done.new.rows) given.new ≡ R.matrix rows.now) }
+    ensures good { OnOk result (IsGoodMatrix (R.matrix rows.now)) }
+    ensures ticks { OnOk result (steps.new + first_change (rows_in (length (R.matrix rows.now)) (length done.old.rows) given.old) (R.matrix rows.now) ≡ steps.old + length (R.matrix rows.now)) }
+    ensures fault { IfErr result (λ fault. IsRowFault (R.matrix rows.now) fault.row fault.cause) }
+    ensures prefix { IfErr result (λ fault. rows_in (length (R.matrix rows.now)) (length done.new.rows) given.new ≡ take fault.row (R.matrix rows.now)) }
+    ensures fault_ticks { IfErr result (λ fault. steps.new + first_change (rows_in (length (R.matrix rows.now)) (length done.old.rows) given.old) (R.matrix rows.now) ≡ steps.old + fault.row + 1) }
+{
+    let first = changed_row(rows, given, done.rows(), work);
+    match redo(rows, first, given, work, done, steps) {
+        Ok(()) => Ok(first),
+        Err(fault) => Err(fault),
+    }
+}
+
 impl Kept {
     /// Room for the factor of a matrix of this size, of which no row is good yet.
     pub fn open<R: Rows>(alloc: Global, rows: &R) -> Result<Kept, AllocError>
@@ -107,7 +131,8 @@ impl Kept {
 
     /// How many rows are good: the first ones of the matrix that was given last.
     pub fn good(&self) -> usize
-        ensures { result ≡ length self.now.rows }
+        ensures count { result ≡ length self.now.rows }
+        ensures within { result ≤ self.now.size }
     {
         self.done.rows()
     }
@@ -117,24 +142,26 @@ impl Kept {
     /// Rows are redone from the first one that differs from the good row of its number, or that is not good, and each
     /// ticks once. A fault is that of the matrix given; then the rows before the faulty one are good, and `update` may be
     /// called again.
-    pub fn update<R: Rows, L: Ledger>(&mut self, rows: &R, steps: &mut Steps<L>) -> Result<usize, RowFault>
+    pub fn update<R: Rows, L: Ledger>(
+        &mut self,
+        rows: &R,
+        steps: &mut Steps<L>,
+    ) -> Result<usize, RowFault>
         requires { self.old.size ≡ length (R.matrix rows.now) }
         ensures size { self.new.size ≡ self.old.size }
 
         // The matrix has no faulty row.
-        ensures redone { IfOk result (IsFirstChange self.old.rows (R.matrix rows.now)) }
+        ensures redone { IfOk result (λ first. first ≡ first_change self.old.rows (R.matrix rows.now)) }
         ensures rows { OnOk result (self.new.rows ≡ R.matrix rows.now) }
         ensures good { OnOk result (IsGoodMatrix (R.matrix rows.now)) }
-        ensures ticks { IfOk result (λ first. steps.new + first ≡ steps.old + self.old.size) }
+        ensures ticks { OnOk result (steps.new + first_change self.old.rows (R.matrix rows.now) ≡ steps.old + self.old.size) }
 
         // It has one.
         ensures fault { IfErr result (λ fault. IsRowFault (R.matrix rows.now) fault.row fault.cause) }
         ensures prefix { IfErr result (λ fault. self.new.rows ≡ take fault.row (R.matrix rows.now)) }
-        ensures fault_ticks { IfErr result (λ fault. (first : ℕ) → IsFirstChange self.old.rows (R.matrix rows.now) first → steps.new + first ≡ steps.old + fault.row + 1) }
+        ensures fault_ticks { IfErr result (λ fault. steps.new + first_change self.old.rows (R.matrix rows.now) ≡ steps.old + fault.row + 1) }
     {
-        let first = first_change(rows, &self.given, self.done.rows(), &mut self.work);
-        redo(rows, first, &mut self.given, &mut self.work, &mut self.done, steps)?;
-        Ok(first)
+        update_rows(rows, &mut self.given, &mut self.work, &mut self.done, steps)
     }
 
     /// Solves the system of the rows given last for one right side, in units of 1e-9, as full elimination from the first

@@ -1,4 +1,3 @@
-use Rattle.std.proofs.Common.{◌≡◌, ◌+◌, ◌*◌, length, take}
 use Rattle.emtp_tail.proofs.Redoing.{IsRedoing}
 use Rattle.emtp_tail.proofs.kept.redo.Given as goal
 
