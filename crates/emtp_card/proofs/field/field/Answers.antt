@@ -1,0 +1,7 @@
+use Rattle.std.proofs.Common.{◌∙◌, ap}
+use Rattle.emtp_card.specs.Field.{trimmed}
+use Rattle.emtp_card.proofs.Blanks.{trimmed-held}
+use Rattle.emtp_card.proofs.field.field.Goals as goal
+
+pub returns : goal.returns
+returns c = c.trim.ensures ∙ ap trimmed c.held.ensures ∙ trimmed-held c.args.line.now c.args.first c.args.last

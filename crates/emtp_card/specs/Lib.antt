@@ -1,0 +1,10 @@
+pub mod Reason
+pub mod Lines
+pub mod Cards
+pub mod Field
+pub mod Decimal
+pub mod Numeral
+pub mod Meaning
+pub mod Magnitude
+pub mod Number
+pub mod Reading
