@@ -1,0 +1,4 @@
+pub mod Growth
+pub mod Threes
+pub mod Sources
+pub mod DraftSteps

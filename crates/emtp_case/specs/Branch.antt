@@ -1,0 +1,161 @@
+-- The branches, and the numbers that their laws make of the cards.
+use Rattle.emtp_case.specs.Range.{AreEnds, IsBetween}
+use Rattle.emtp_case.specs.declared.branch.Branch.{Branch}
+use Rattle.emtp_case.specs.declared.branch.Branch.TheVariants.{Line as OfLine, Lumped as OfLumped, Phase as OfPhase, Pseudo as OfPseudo}
+use Rattle.emtp_case.specs.declared.branch.Line.{Line}
+use Rattle.emtp_case.specs.declared.branch.Lumped.{Lumped}
+use Rattle.emtp_case.specs.declared.branch.Phase.{Phase}
+use Rattle.emtp_case.specs.declared.branch.Point.{Point}
+use Rattle.emtp_case.specs.declared.branch.Pseudo.{Pseudo}
+use Rattle.emtp_case.specs.declared.branch.Trio.{Trio}
+use Rattle.emtp_case.specs.declared.run_data.RunData.{RunData}
+use Rattle.emtp_fix.specs.Rounding.{near}
+use Rattle.std.specs.Prelude.{◌≡◌, ◌+◌, ◌*◌, ◌^◌, ◌<◌, ◌≤◌, ◌∷◌, ◌+ℤ◌, ◌-ℤ◌, ◌*ℤ◌, ◌≤ℤ◌, ◌<ℤ◌, Bool, List, None, Option, Some, drop, false, length, map, pos, slice_index_or, take, true, ℕ, ℤ}
+
+-- Series branches
+
+-- zL and zC, the trapezoidal companions of an inductance and a capacitance in micro-ohm; an absent part, which is 0,
+-- gives 0
+abbrev pub inductor_impedance : ℤ → ℤ → ℤ
+inductor_impedance dt l = near (pos (2 * 10 ^ 9) *ℤ l) dt
+
+abbrev pub capacitor_impedance : ℤ → ℤ → ℤ
+capacitor_impedance dt c = near (dt *ℤ pos (10 ^ 9)) (pos 2 *ℤ c)
+
+-- Z, the impedance of the whole branch in one step
+abbrev pub series_impedance : ℤ → Lumped → ℤ
+series_impedance dt b = b.r +ℤ inductor_impedance dt b.l +ℤ capacitor_impedance dt b.c
+
+-- the numbers of a series branch, whatever its nodes
+pub record HasSeriesNumbers (dt : ℤ) (b : Lumped) : Type 0 where
+  pub r : IsBetween 0 (10 ^ 15) b.r
+  pub l : IsBetween 0 (10 ^ 15) b.l
+  pub c : IsBetween 0 (10 ^ 15) b.c
+  pub impedance : IsBetween 10 (10 ^ 15) (series_impedance dt b)
+
+pub record IsLumped (run : RunData) (nodes : ℕ) (b : Lumped) : Type 0 where
+  pub ends : AreEnds nodes b.from b.to
+  pub numbers : HasSeriesNumbers run.dt b
+
+-- Lines
+
+-- the impedance of a lossy line's end: a quarter of the resistance stands at each end of a half line
+abbrev pub line_impedance : ℤ → ℤ → ℤ
+line_impedance zc r = zc +ℤ near r (pos 4)
+
+-- the numbers of a line, or of one mode of it
+pub record HasLineNumbers (dt zc resistance travel : ℤ) : Type 0 where
+  pub surge : IsBetween 10 (10 ^ 15) zc
+  pub r : IsBetween 0 (10 ^ 15) resistance
+  pub impedance : IsBetween 10 (10 ^ 15) (line_impedance zc resistance)
+  pub long : dt ≤ℤ travel
+  pub delay : travel ≤ℤ pos (10 ^ 18)
+
+pub record IsLine (run : RunData) (nodes : ℕ) (b : Line) : Type 0 where
+  pub ends : AreEnds nodes b.from b.to
+  pub numbers : HasLineNumbers run.dt b.zc b.r b.delay
+
+-- the numbers of both modes of a three-phase line
+abbrev pub IsTrio : RunData → Trio → Type 0
+IsTrio run t =
+    (m : ℕ) → m < 2 → HasLineNumbers run.dt (slice_index_or t.zc m (pos 0)) (slice_index_or t.r m (pos 0)) (slice_index_or t.delay m (pos 0))
+
+pub record IsPhase (nodes trios : ℕ) (b : Phase) : Type 0 where
+  pub ends : AreEnds nodes b.from b.to
+  pub trio : b.trio < trios
+  pub phase : b.phase < 3
+
+-- Pseudo-nonlinear branches
+
+abbrev pub origin : Point
+origin = record { current = pos 0; other = pos 0 }
+
+-- the points from a place on
+abbrev pub points_of : List Point → ℕ → ℕ → List Point
+points_of points first count = take count (drop first points)
+
+-- the resistance in micro-ohm of a resistor's segment, or the conductance in pS of a reactor's, between two points
+abbrev pub slope_of : Bool → ℤ → Point → Point → ℤ
+slope_of false dt a b = near ((b.other -ℤ a.other) *ℤ pos (10 ^ 6)) (b.current -ℤ a.current)
+slope_of true dt a b = near (dt *ℤ (b.current -ℤ a.current) *ℤ pos 1000) (pos 2 *ℤ (b.other -ℤ a.other))
+
+abbrev pub least_slope : Bool → ℕ
+least_slope false = 10
+least_slope true = 1
+
+abbrev pub greatest_slope : Bool → ℕ
+greatest_slope false = 10 ^ 15
+greatest_slope true = 10 ^ 17
+
+-- from point a to point b both numbers rise, and the slope is in range
+pub record IsSegment (reactor : Bool) (dt : ℤ) (a b : Point) : Type 0 where
+  pub current_rises : a.current <ℤ b.current
+  pub other_rises : a.other <ℤ b.other
+  pub current_small : b.current ≤ℤ pos (10 ^ 18)
+  pub other_small : b.other ≤ℤ pos (10 ^ 18)
+  pub slope : IsBetween (least_slope reactor) (greatest_slope reactor) (slope_of reactor dt a b)
+
+-- the segments from the origin through all points
+abbrev pub IsCharacteristic : Bool → ℤ → List Point → Type 0
+IsCharacteristic reactor dt ps = (k : ℕ) → k < length ps → IsSegment reactor dt (slice_index_or (origin ∷ ps) k origin) (slice_index_or ps k origin)
+
+pub record IsPseudo (run : RunData) (nodes : ℕ) (points : List Point) (b : Pseudo) : Type 0 where
+  pub ends : AreEnds nodes b.from b.to
+  pub some : 1 ≤ b.count
+  pub few : b.count ≤ 64
+  pub there : b.first + b.count ≤ length points
+  pub characteristic : IsCharacteristic b.reactor run.dt (points_of points b.first b.count)
+
+-- All branches
+
+-- a branch among so many nodes and three-phase lines, with these points
+abbrev pub IsBranch : RunData → ℕ → ℕ → List Point → Branch → Type 0
+IsBranch run nodes trios points (OfLumped b) = IsLumped run nodes b
+IsBranch run nodes trios points (OfLine b) = IsLine run nodes b
+IsBranch run nodes trios points (OfPseudo b) = IsPseudo run nodes points b
+IsBranch run nodes trios points (OfPhase b) = IsPhase nodes trios b
+
+-- a branch that isn't the phase of a three-phase line
+abbrev pub IsSingle : Branch → Type 0
+IsSingle (OfLumped b) = Unit {0}
+IsSingle (OfLine b) = Unit {0}
+IsSingle (OfPseudo b) = Unit {0}
+IsSingle (OfPhase b) = ⊥
+
+abbrev pub from_of : Branch → ℕ
+from_of (OfLumped b) = b.from
+from_of (OfLine b) = b.from
+from_of (OfPseudo b) = b.from
+from_of (OfPhase b) = b.from
+
+abbrev pub to_of : Branch → ℕ
+to_of (OfLumped b) = b.to
+to_of (OfLine b) = b.to
+to_of (OfPseudo b) = b.to
+to_of (OfPhase b) = b.to
+
+abbrev pub line_of : Branch → ℕ
+line_of (OfLumped b) = b.line
+line_of (OfLine b) = b.line
+line_of (OfPseudo b) = b.line
+line_of (OfPhase b) = b.line
+
+-- the three-phase line and the number of a phase
+abbrev pub phase_of : Branch → Option (ℕ × ℕ)
+phase_of (OfLumped b) = None
+phase_of (OfLine b) = None
+phase_of (OfPseudo b) = None
+phase_of (OfPhase b) = Some (b.trio, b.phase)
+
+-- the same for the branch at a place
+abbrev pub phase_at : List Branch → ℕ → Option (ℕ × ℕ)
+phase_at branches at = slice_index_or (map phase_of branches) at None
+
+-- where phase 0 of a three-phase line stands
+abbrev pub first_of_trio : List Trio → ℕ → ℕ
+first_of_trio trios t = slice_index_or (map (λ (x : Trio). x.first) trios) t 0
+
+-- each three-phase line has its phases 0, 1 and 2 in three consecutive places, and no phase stands elsewhere
+pub record AreInThrees (branches : List Branch) (trios : List Trio) : Type 0 where
+  pub phases : (t p : ℕ) → t < length trios → p < 3 → phase_at branches (first_of_trio trios t + p) ≡ Some (t, p)
+  pub places : (at t p : ℕ) → phase_at branches at ≡ Some (t, p) → at ≡ first_of_trio trios t + p

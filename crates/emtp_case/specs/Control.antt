@@ -1,0 +1,170 @@
+-- The blocks, devices and formulas of the control.
+use Rattle.emtp_case.specs.Branch.{origin, points_of}
+use Rattle.emtp_case.specs.Range.{IsBetween}
+use Rattle.emtp_case.specs.declared.branch.Point.{Point}
+use Rattle.emtp_case.specs.declared.control.Block.{Block}
+use Rattle.emtp_case.specs.declared.control.Bound.{Bound}
+use Rattle.emtp_case.specs.declared.control.Bound.TheVariants.{Fixed, Named, None as NoBound}
+use Rattle.emtp_case.specs.declared.control.Device.{Device}
+use Rattle.emtp_case.specs.declared.control.Extra.{Extra}
+use Rattle.emtp_case.specs.declared.control.Extra.TheVariants.{Device as OfDevice, Formula as OfFormula}
+use Rattle.emtp_case.specs.declared.control.Formula.{Formula}
+use Rattle.emtp_case.specs.declared.control.Input.{Input}
+use Rattle.emtp_case.specs.declared.expr.Expr.{Expr}
+use Rattle.emtp_case.specs.declared.expr.Expr.TheVariants.{Binary', Number, Unary', Var}
+use Rattle.emtp_case.specs.declared.run_data.RunData.{RunData}
+use Rattle.emtp_fix.specs.Rounding.{near}
+use Rattle.std.specs.Option.{ForSome}
+use Rattle.std.specs.Prelude.{◌≡◌, ◌≢◌, ◌+◌, ◌*◌, ◌^◌, ◌<◌, ◌≤◌, ◌+ℤ◌, ◌*ℤ◌, ◌≤ℤ◌, ◌<ℤ◌, ◌⊎◌, [], All, IsSome, List, length, pos, slice_index_or, suc, unsigned_abs, zero, ℕ, ℤ}
+
+-- Blocks
+
+-- a coefficient that was taken so many times through the bilinear rule, s = (2/dt)*(1 - z)/(1 + z)
+abbrev pub bilinear : ℤ → ℤ → ℕ → ℤ
+bilinear dt x zero = x
+bilinear dt x (suc j) = near (bilinear dt x j *ℤ pos (2 * 10 ^ 12)) dt
+
+-- the sum of f 0 to f n
+abbrev pub sum_upto : (ℕ → ℤ) → ℕ → ℤ
+sum_upto f zero = f zero
+sum_upto f (suc n) = sum_upto f n +ℤ f (suc n)
+
+-- P(j) and Q(j): the coefficient of the power j of a denominator or a numerator card
+abbrev pub power_of : ℤ → List ℤ → ℕ → ℤ
+power_of dt card j = bilinear dt (slice_index_or card j (pos 0)) j
+
+-- S, by which all coefficients are divided
+abbrev pub divisor_of : ℤ → Block → ℤ
+divisor_of dt b = sum_upto (power_of dt b.bottom) b.order
+
+-- d(j) and n(j)
+abbrev pub denominator_of : ℤ → Block → ℕ → ℤ
+denominator_of dt b j = near (power_of dt b.bottom j *ℤ pos (10 ^ 12)) (divisor_of dt b)
+
+abbrev pub numerator_of : ℤ → Block → ℕ → ℤ
+numerator_of dt b j = near (power_of dt b.top j *ℤ pos (10 ^ 12)) (divisor_of dt b)
+
+-- c, which is 1 for a plain gain
+abbrev pub coefficient_sum : ℤ → Block → ℕ → ℤ
+coefficient_sum dt b zero = pos (10 ^ 12)
+coefficient_sum dt b (suc n) = sum_upto (numerator_of dt b) (suc n)
+
+-- k, the gain of a block within one step
+abbrev pub step_gain : ℤ → Block → ℤ
+step_gain dt b = near (b.gain *ℤ coefficient_sum dt b b.order) (pos (10 ^ 12))
+
+-- the coefficients of a block of order 1 to 7
+pub record HasCoefficients (dt : ℤ) (b : Block) : Type 0 where
+  pub bottom_way : (j i : ℕ) → j ≤ b.order → i ≤ j → unsigned_abs (bilinear dt (slice_index_or b.bottom j (pos 0)) i) ≤ 8 * 10 ^ 25
+  pub top_way : (j i : ℕ) → j ≤ b.order → i ≤ j → unsigned_abs (bilinear dt (slice_index_or b.top j (pos 0)) i) ≤ 8 * 10 ^ 25
+  pub divisor : divisor_of dt b ≢ pos 0
+  pub denominators : (j : ℕ) → j ≤ b.order → unsigned_abs (denominator_of dt b j) ≤ 10 ^ 18
+  pub numerators : (j : ℕ) → j ≤ b.order → unsigned_abs (numerator_of dt b j) ≤ 10 ^ 18
+
+abbrev pub IsBound : ℕ → Bound → Type 0
+IsBound vars NoBound = Unit {0}
+IsBound vars (Fixed x) = unsigned_abs x ≤ 10 ^ 18
+IsBound vars (Named v) = v < vars
+
+-- two fixed limits don't cross
+abbrev pub AreBounds : Bound → Bound → Type 0
+AreBounds low high = (x y : ℤ) → low ≡ Fixed x → high ≡ Fixed y → x ≤ℤ y
+
+-- a block among so many variables; its own isn't a standing one
+pub record IsBlock (run : RunData) (vars : ℕ) (b : Block) : Type 0 where
+  pub own : 6 ≤ b.var
+  pub there : b.var < vars
+  pub order : b.order ≤ 7
+  pub few_inputs : length b.inputs ≤ 5
+  pub inputs : All (λ (i : Input). i.var < vars) b.inputs
+  pub some_gain : b.gain ≢ pos 0
+  pub gain : unsigned_abs b.gain ≤ 10 ^ 18
+  pub top : All (λ x. unsigned_abs x ≤ 10 ^ 18) b.top
+  pub bottom : All (λ x. unsigned_abs x ≤ 10 ^ 18) b.bottom
+  pub coefficients : 1 ≤ b.order → HasCoefficients run.dt b
+  pub within_step : unsigned_abs (step_gain run.dt b) ≤ 10 ^ 18
+  pub low : IsBound vars b.low
+  pub high : IsBound vars b.high
+  pub bounds : AreBounds b.low b.high
+
+-- Devices
+
+abbrev pub IsDeviceCode : ℕ → Type 0
+IsDeviceCode code = (51 ≤ code) × (code ≤ 66) × (code ≢ 55) × (code ≢ 61)
+
+abbrev pub NeedsD : ℕ → Type 0
+NeedsD code = (code ≡ 51) ⊎ (code ≡ 52) ⊎ (code ≡ 60)
+
+-- A is a time for the delays 53 and 54, and a frequency for the effective value 66
+pub record HasRangeOfA (code : ℕ) (a : ℤ) : Type 0 where
+  pub small : unsigned_abs a ≤ 10 ^ 18
+  pub delay : 53 ≤ code → code ≤ 54 → pos 0 ≤ℤ a
+  pub frequency : code ≡ 66 → IsBetween 1 (10 ^ 13) a
+
+-- the points of a table: 2 to 64, with rising inputs
+pub record IsTable (points : List Point) : Type 0 where
+  pub some : 2 ≤ length points
+  pub few : length points ≤ 64
+  pub inputs : All (λ (p : Point). unsigned_abs p.current ≤ 10 ^ 18) points
+  pub outputs : All (λ (p : Point). unsigned_abs p.other ≤ 10 ^ 18) points
+  pub rising : (k : ℕ) → k + 1 < length points → (slice_index_or points k origin).current <ℤ (slice_index_or points (k + 1) origin).current
+
+-- 1 to 64 pairs of times: each closes before it opens, and not before the one before it opened
+pub record AreTimes (points : List Point) : Type 0 where
+  pub some : 1 ≤ length points
+  pub few : length points ≤ 64
+  pub close : All (λ (p : Point). pos 0 ≤ℤ p.current) points
+  pub «open» : All (λ (p : Point). p.other ≤ℤ pos (10 ^ 18)) points
+  pub closes_first : All (λ (p : Point). p.current <ℤ p.other) points
+  pub in_turn : (k : ℕ) → k + 1 < length points → (slice_index_or points k origin).other ≤ℤ (slice_index_or points (k + 1) origin).current
+
+-- the card of a device among so many variables; its own variable isn't a standing one
+pub record IsDeviceCard (vars : ℕ) (x : Device) : Type 0 where
+  pub own : 6 ≤ x.var
+  pub there : x.var < vars
+  pub code : IsDeviceCode x.code
+  pub few_inputs : length x.inputs ≤ 5
+  pub inputs : All (λ (i : Input). i.var < vars) x.inputs
+  pub a : HasRangeOfA x.code x.a
+  pub b : unsigned_abs x.b ≤ 10 ^ 18
+  pub c : unsigned_abs x.c ≤ 10 ^ 18
+  pub d : ForSome x.d (λ v. v < vars)
+  pub e : ForSome x.e (λ v. v < vars)
+  pub required : NeedsD x.code → IsSome x.d
+
+-- the points that a device of this code has: a table, times, or none
+pub record HasDevicePoints (code : ℕ) (points : List Point) : Type 0 where
+  pub table : code ≡ 56 → IsTable points
+  pub times : code ≡ 57 → AreTimes points
+  pub none : code ≢ 56 → code ≢ 57 → points ≡ []
+
+-- a device among so many variables, whose points are among these
+pub record IsDevice (vars : ℕ) (all : List Point) (x : Device) : Type 0 where
+  pub card : IsDeviceCard vars x
+  pub points_there : x.first + x.count ≤ length all
+  pub few_points : x.count ≤ 64
+  pub points : HasDevicePoints x.code (points_of all x.first x.count)
+
+-- Formulas
+
+-- the places in a tree are below a number, and its numbers are kept ones
+abbrev pub FitsPlaces : ℕ → Expr → Type 0
+FitsPlaces places (Number x) = unsigned_abs x ≤ 10 ^ 18
+FitsPlaces places (Var at) = at < places
+FitsPlaces places (Unary' op p a) = FitsPlaces places a
+FitsPlaces places (Binary' op p a q b) = FitsPlaces places a × FitsPlaces places b
+
+-- a formula among so many variables; its own isn't a standing one
+pub record IsFormula (vars : ℕ) (x : Formula) : Type 0 where
+  pub own : 6 ≤ x.var
+  pub there : x.var < vars
+  pub names : All (λ v. v < vars) x.vars
+  pub tree : FitsPlaces (length x.vars) x.expr
+
+abbrev pub IsExtra : ℕ → List Point → Extra → Type 0
+IsExtra vars points (OfDevice x) = IsDevice vars points x
+IsExtra vars points (OfFormula x) = IsFormula vars x
+
+abbrev pub var_of : Extra → ℕ
+var_of (OfDevice x) = x.var
+var_of (OfFormula x) = x.var

@@ -1,0 +1,11 @@
+pub mod Name
+pub mod Range
+pub mod RunData
+pub mod Branch
+pub mod Switch
+pub mod Source
+pub mod Control
+pub mod Channel
+pub mod History
+pub mod Case
+pub mod OneProof

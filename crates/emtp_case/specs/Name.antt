@@ -1,0 +1,28 @@
+-- The bytes of a name.
+use Rattle.std.specs.Prelude.{◌≡◌, ℕ, ◌-◌, ◌≤◌, List, ◌++◌, length, take, drop, replicate}
+use Rattle.std.proofs.Common.{sym, ◌∙◌, ap, arith, length-take-le, take-append-drop}
+use Rattle.emtp_case.specs.declared.name.Name.TheInside.{Inside}
+
+-- the bytes of a name
+abbrev pub bytes_of : Inside → List ℕ
+bytes_of a = take a.len a.bytes
+
+-- what the record keeps: at most six bytes, and zeros behind them
+pub record IsPadded (a : Inside) : Type 0 where
+  pub whole : length a.bytes ≡ 6
+  pub short : a.len ≤ 6
+  pub padded : drop a.len a.bytes ≡ replicate (6 - a.len) 0
+
+-- the record of the bytes
+abbrev pub name_of : List ℕ → Inside
+name_of text = record { bytes = text ++ replicate (6 - length text) 0; len = length text }
+
+-- the bytes give the record back
+pub name_of-bytes_of : (a : Inside) → IsPadded a → name_of (bytes_of a) ≡ a
+name_of-bytes_of a h =
+    let short : a.len ≤ length a.bytes = omega (arith, h.whole, h.short) in
+    let len : length (take a.len a.bytes) ≡ a.len = length-take-le a.len a.bytes short in
+    let cells : take a.len a.bytes ++ replicate (6 - a.len) 0 ≡ a.bytes =
+    ap (λ t. take a.len a.bytes ++ t) (sym h.padded) ∙ take-append-drop a.len a.bytes in
+    let made : ℕ → List ℕ → Inside = λ n xs. record { bytes = xs; len = n } in
+    ap (λ n. made n (take a.len a.bytes ++ replicate (6 - n) 0)) len ∙ ap (made a.len) cells

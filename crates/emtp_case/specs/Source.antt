@@ -1,0 +1,72 @@
+-- The sources of the network and of its control.
+use Rattle.emtp_case.specs.Range.{IsBetween}
+use Rattle.emtp_case.specs.declared.source.Shape.{Shape}
+use Rattle.emtp_case.specs.declared.source.Shape.TheVariants.{Cosine, NodeVoltage, Pulse, Ramp, Saw, Step, SwitchCurrent, SwitchStatus, Tacs}
+use Rattle.emtp_case.specs.declared.source.Source.{Source}
+use Rattle.std.specs.Option.{ForSome}
+use Rattle.std.specs.Prelude.{◌≡◌, ◌-◌, ◌^◌, ◌<◌, ◌≤◌, ◌==◌, ◌&&◌, Bool, List, Some, false, not, slice_get, unsigned_abs, ℕ}
+
+-- the numbers of a shape, whatever it refers to
+abbrev pub HasShapeNumbers : Shape → Type 0
+HasShapeNumbers Step = Unit {0}
+HasShapeNumbers (Ramp rise) = IsBetween 1 (10 ^ 18) rise
+HasShapeNumbers (Cosine freq phase) = IsBetween 0 (10 ^ 13) freq × IsBetween 0 (10 ^ 18 - 1) phase
+HasShapeNumbers (Tacs var) = Unit {0}
+HasShapeNumbers (Pulse period width) = IsBetween 1 (10 ^ 18) period × IsBetween 1 (10 ^ 18) width
+HasShapeNumbers (Saw period) = IsBetween 1 (10 ^ 18) period
+HasShapeNumbers (NodeVoltage node) = Unit {0}
+HasShapeNumbers (SwitchCurrent switch) = Unit {0}
+HasShapeNumbers (SwitchStatus switch) = Unit {0}
+
+-- the numbers of a source, whatever it refers to
+pub record HasSourceNumbers (s : Source) : Type 0 where
+  pub amplitude : unsigned_abs s.amplitude ≤ 10 ^ 18
+  pub start : unsigned_abs s.start ≤ 10 ^ 18
+  pub stop : ForSome s.stop (IsBetween 1 (10 ^ 18))
+  pub shape : HasShapeNumbers s.shape
+
+-- a shape of the network's sources, among so many variables
+abbrev pub IsNetworkShape : ℕ → Shape → Type 0
+IsNetworkShape vars Step = Unit {0}
+IsNetworkShape vars (Ramp rise) = Unit {0}
+IsNetworkShape vars (Cosine freq phase) = Unit {0}
+IsNetworkShape vars (Tacs var) = var < vars
+IsNetworkShape vars (Pulse period width) = ⊥
+IsNetworkShape vars (Saw period) = ⊥
+IsNetworkShape vars (NodeVoltage node) = ⊥
+IsNetworkShape vars (SwitchCurrent switch) = ⊥
+IsNetworkShape vars (SwitchStatus switch) = ⊥
+
+-- a shape of the control's sources, among so many nodes and switches
+abbrev pub IsControlShape : ℕ → ℕ → Shape → Type 0
+IsControlShape nodes switches Step = Unit {0}
+IsControlShape nodes switches (Ramp rise) = ⊥
+IsControlShape nodes switches (Cosine freq phase) = Unit {0}
+IsControlShape nodes switches (Tacs var) = ⊥
+IsControlShape nodes switches (Pulse period width) = Unit {0}
+IsControlShape nodes switches (Saw period) = Unit {0}
+IsControlShape nodes switches (NodeVoltage node) = (1 ≤ node) × (node ≤ nodes)
+IsControlShape nodes switches (SwitchCurrent switch) = switch < switches
+IsControlShape nodes switches (SwitchStatus switch) = switch < switches
+
+-- a source of the network, at a node other than ground
+pub record IsSource (nodes vars : ℕ) (s : Source) : Type 0 where
+  pub above_ground : 1 ≤ s.node
+  pub there : s.node ≤ nodes
+  pub numbers : HasSourceNumbers s
+  pub shape : IsNetworkShape vars s.shape
+
+-- a source of the control; its variable isn't a standing one
+pub record IsTacsSource (nodes vars switches : ℕ) (s : Source) : Type 0 where
+  pub own : 6 ≤ s.node
+  pub there : s.node < vars
+  pub numbers : HasSourceNumbers s
+  pub shape : IsControlShape nodes switches s.shape
+
+abbrev pub is_voltage_source_at : ℕ → Source → Bool
+is_voltage_source_at node s = not s.current && (s.node == node)
+
+-- no node has two voltage sources
+abbrev pub OneVoltageEach : List Source → Type 0
+OneVoltageEach sources =
+    (i j : ℕ) (a b : Source) → slice_get sources i ≡ Some a → slice_get sources j ≡ Some b → a.current ≡ false → b.current ≡ false → a.node ≡ b.node → i ≡ j

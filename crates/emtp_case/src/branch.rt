@@ -1,0 +1,105 @@
+//! The branches of a network: series branches, travelling-wave lines, pseudo-nonlinear branches and the phases of
+//! transposed three-phase lines.
+
+/// A series branch of a resistance, an inductance and a capacitance. A part of 0 is absent.
+#[derive(Clone, Copy, Debug, PartialEq, Eq)]
+pub struct Lumped {
+    /// The number of its card's line, from 1.
+    pub line: u32,
+    /// The node where the branch current enters; 0 is ground.
+    pub from: u32,
+    /// The node where the branch current leaves; 0 is ground.
+    pub to: u32,
+    /// The resistance, in micro-ohm: from 0 to 10^15.
+    pub r: i64,
+    /// The inductance, in nH: from 0 to 10^15.
+    pub l: i64,
+    /// The capacitance, in fF: from 0 to 10^15.
+    pub c: i64,
+}
+
+/// A single travelling-wave line, with its losses lumped at the two ends and in the middle.
+#[derive(Clone, Copy, Debug, PartialEq, Eq)]
+pub struct Line {
+    /// The number of its card's line, from 1.
+    pub line: u32,
+    /// The node at the sending end; 0 is ground.
+    pub from: u32,
+    /// The node at the receiving end; 0 is ground.
+    pub to: u32,
+    /// The surge impedance, in micro-ohm: from 10 to 10^15.
+    pub zc: i64,
+    /// The total resistance, in micro-ohm: from 0 to 10^15.
+    pub r: i64,
+    /// The travel time, in ps: from the time step to 10^18.
+    pub delay: i64,
+}
+
+/// A pseudo-nonlinear branch: its characteristic is a chain of straight segments, mirrored at the origin.
+#[derive(Clone, Copy, Debug, PartialEq, Eq)]
+pub struct Pseudo {
+    /// The number of its card's line, from 1.
+    pub line: u32,
+    /// The node where the branch current enters; 0 is ground.
+    pub from: u32,
+    /// The node where the branch current leaves; 0 is ground.
+    pub to: u32,
+    /// Whether it is a reactor (current over flux, type 98) and not a resistor (current over voltage, type 99).
+    pub reactor: bool,
+    /// The place of its first point among the points of the case.
+    pub first: u32,
+    /// The number of its points: from 1 to 64.
+    pub count: u32,
+}
+
+/// A point of a characteristic, of a table or of a list of times.
+#[derive(Clone, Copy, Debug, PartialEq, Eq)]
+pub struct Point {
+    /// The current in nA of a pseudo-nonlinear branch, from 1 to 10^18; the input in nano of a table, to 10^18 in
+    /// magnitude; the close time in ps of a list of times, from 0 to 10^18.
+    pub current: i64,
+    /// The voltage in nV of a resistor or the flux in pWb of a reactor, from 1 to 10^18; the output in nano of a
+    /// table, to 10^18 in magnitude; the open time in ps of a list of times, from 0 to 10^18.
+    pub other: i64,
+}
+
+/// One phase of a transposed three-phase line.
+#[derive(Clone, Copy, Debug, PartialEq, Eq)]
+pub struct Phase {
+    /// The number of its card's line, from 1.
+    pub line: u32,
+    /// The node at the sending end; 0 is ground.
+    pub from: u32,
+    /// The node at the receiving end; 0 is ground.
+    pub to: u32,
+    /// The place of its line among the trios of the case.
+    pub trio: u32,
+    /// The number of the phase: 0, 1 or 2.
+    pub phase: u8,
+}
+
+/// The modes of a transposed three-phase line: at place 0 the zero sequence, at place 1 the positive sequence.
+#[derive(Clone, Copy, Debug, PartialEq, Eq)]
+pub struct Trio {
+    /// The place of phase 0 among the branches; phases 1 and 2 follow it.
+    pub first: u32,
+    /// The surge impedances, in micro-ohm: from 10 to 10^15.
+    pub zc: [i64; 2],
+    /// The total resistances, in micro-ohm: from 0 to 10^15.
+    pub r: [i64; 2],
+    /// The travel times, in ps: from the time step to 10^18.
+    pub delay: [i64; 2],
+}
+
+/// A branch of the network.
+#[derive(Clone, Copy, Debug, PartialEq, Eq)]
+pub enum Branch {
+    /// A series branch.
+    Lumped(Lumped),
+    /// A single travelling-wave line.
+    Line(Line),
+    /// A pseudo-nonlinear branch.
+    Pseudo(Pseudo),
+    /// One phase of a transposed three-phase line.
+    Phase(Phase),
+}
