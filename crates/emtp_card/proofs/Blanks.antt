@@ -1,9 +1,9 @@
 -- Blanks at the end of a text, and those that fill a line.
-use Rattle.std.proofs.Common.{◌≡◌, ◌∙◌, sym, ap, ℕ, zero, suc, ◌+◌, ◌-◌, ◌==◌, Bool, true, false, ◌&&◌, cond, List, [], ◌∷◌, ◌++◌, take, drop, replicate, length, get_or, ◌<◌, ◌≤◌, ◌≢◌, subst, refl, arith}
+use Rattle.std.proofs.Common.{◌≡◌, ◌∙◌, sym, ap, ℕ, zero, suc, ◌+◌, ◌-◌, ◌==◌, Bool, true, false, ◌&&◌, ◌||◌, cond, List, [], ◌∷◌, ◌++◌, take, drop, replicate, length, get_or, ◌<◌, ◌≤◌, ◌≢◌, subst, refl, arith}
 use Rattle.std.proofs.lemmas.Bool.Decides.{nat_tests}
 use Rattle.std.proofs.lemmas.List.{take_more}
-use Rattle.std.specs.List.{list_all}
-use Rattle.std.proofs.lemmas.List.Folds.{list_all-append}
+use Rattle.std.specs.List.{list_all, list_any}
+use Rattle.std.proofs.lemmas.List.Folds.{list_all-append, list_any-append}
 use Rattle.emtp_card.specs.Lines.{is_blank}
 use Rattle.emtp_card.specs.Field.{without_leading, without_trailing, trimmed, columns, filled, field_of}
 
@@ -61,7 +61,7 @@ keep_none bytes end none =
     ap (λ k. without_trailing (take k bytes)) here ∙ sym (ap (λ k. take k bytes) here)
 
 -- the rest of a text with blanks behind it is the rest with blanks behind it
-record BlanksBehind (whole bytes : List ℕ) : Type 0 where
+pub record BlanksBehind (whole bytes : List ℕ) : Type 0 where
   pub blanks : List ℕ
   pub blank : list_all is_blank blanks ≡ true
   pub whole_is : whole ≡ bytes ++ blanks
@@ -82,6 +82,16 @@ blanks-take zero bytes h = refl
 blanks-take (suc n) [] h = refl
 blanks-take (suc n) (byte ∷ bytes) h = ap (λ t. t && list_all is_blank (take n bytes)) (blanks-first byte bytes h) ∙ blanks-take n bytes (blanks-rest byte bytes h)
 
+is_blank_means : (byte : ℕ) → is_blank byte ≡ true → byte ≡ 32
+is_blank_means byte h = grind (arith, nat_tests)
+
+none_blank : (p : ℕ → Bool) → p 32 ≡ false → (blanks : List ℕ) → list_all is_blank blanks ≡ true → list_any p blanks ≡ false
+none_blank p passed [] h = refl
+none_blank p passed (byte ∷ blanks) h =
+    ap (λ b. p b || list_any p blanks) (is_blank_means byte (blanks-first byte blanks h))
+    ∙ ap (λ t. t || list_any p blanks) passed
+    ∙ none_blank p passed blanks (blanks-rest byte blanks h)
+
 drop-blanks : (n : ℕ) (bytes blanks : List ℕ) → list_all is_blank blanks ≡ true → BlanksBehind (drop n (bytes ++ blanks)) (drop n bytes)
 drop-blanks zero bytes blanks h = record { blanks = blanks; blank = h; whole_is = refl }
 drop-blanks (suc n) [] blanks h = record { blanks = drop (suc n) blanks; blank = blanks-drop (suc n) blanks h; whole_is = refl }
@@ -95,12 +105,25 @@ take-blanks (suc n) (byte ∷ bytes) blanks h =
     record { blanks = behind.blanks; blank = behind.blank; whole_is = ap (λ t. byte ∷ t) behind.whole_is }
 
 -- the columns are what the line has of them, with blanks behind
-columns-held : (line : List ℕ) (first last : ℕ) → BlanksBehind (columns line first last) (take (last + 1 - first) (drop (first - 1) line))
+pub columns-held : (line : List ℕ) (first last : ℕ) → BlanksBehind (columns line first last) (take (last + 1 - first) (drop (first - 1) line))
 unfolding columns
 columns-held line first last =
     let dropped = drop-blanks (first - 1) line (replicate 80 32) refl in
     let taken = take-blanks (last + 1 - first) (drop (first - 1) line) dropped.blanks dropped.blank in
     record { blanks = taken.blanks; blank = taken.blank; whole_is = ap (take (last + 1 - first)) dropped.whole_is ∙ taken.whole_is }
+
+-- so a test that no blank passes finds among them what it finds in the line
+pub list_any-columns : (p : ℕ → Bool) → p 32 ≡ false → (line : List ℕ) (first last : ℕ) → list_any p (columns line first last) ≡ list_any p (take (last + 1 - first) (drop (first - 1) line))
+list_any-columns p passed line first last =
+    let behind = columns-held line first last in
+    let held = take (last + 1 - first) (drop (first - 1) line) in
+    ap (list_any p) behind.whole_is
+    ∙ list_any-append p held behind.blanks
+    ∙ ap (λ t. list_any p held || t) (none_blank p passed behind.blanks behind.blank)
+    ∙ or_false (list_any p held)
+  where
+    or_false : (t : Bool) → (t || false) ≡ t
+    or_false t = elim t as (λ t. (t || false) ≡ t) [ true ↦ refl | false ↦ refl ]
 
 -- so the field is what the line has of it, trimmed
 pub trimmed-held : (line : List ℕ) (first last : ℕ) → trimmed (take (last + 1 - first) (drop (first - 1) line)) ≡ field_of line first last

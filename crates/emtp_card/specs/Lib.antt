@@ -8,3 +8,5 @@ pub mod Meaning
 pub mod Magnitude
 pub mod Number
 pub mod Reading
+pub mod Whole
+pub mod Name

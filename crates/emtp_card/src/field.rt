@@ -9,7 +9,8 @@ pub(crate) fn field(line: &[u8], first: usize, last: usize) -> &[u8]
     requires first { 1 ≤ first }
     requires order { first ≤ last }
     requires last { last ≤ 80 }
-    ensures { result.now ≡ field_of line.now first last }
+    ensures value { result.now ≡ field_of line.now first last }
+    ensures short { length result.now + first ≤ last + 1 }
 {
     trim(held(line, first, last))
 }
@@ -28,13 +29,15 @@ pub(crate) fn held(line: &[u8], first: usize, last: usize) -> &[u8]
 /// A text without its outer blanks.
 #[tactic(auto, unfolding(crate::specs::Field::trimmed))]
 pub(crate) fn trim(text: &[u8]) -> &[u8]
-    ensures { result.now ≡ trimmed text.now }
+    ensures value { result.now ≡ trimmed text.now }
+    ensures short { length result.now ≤ length text.now }
 {
     trim_start(trim_end(text))
 }
 
 fn trim_start(text: &[u8]) -> &[u8]
-    ensures { result.now ≡ without_leading text.now }
+    ensures value { result.now ≡ without_leading text.now }
+    ensures short { length result.now ≤ length text.now }
 {
     let mut rest = text;
     while let [b' ', behind @ ..] = rest {
@@ -44,7 +47,8 @@ fn trim_start(text: &[u8]) -> &[u8]
 }
 
 fn trim_end(text: &[u8]) -> &[u8]
-    ensures { result.now ≡ without_trailing text.now }
+    ensures value { result.now ≡ without_trailing text.now }
+    ensures short { length result.now ≤ length text.now }
 {
     let mut end = text.len();
     while end > 0 && text[end - 1] == b' ' {

@@ -10,8 +10,8 @@ loop-end-preserved c = record {
   same = cut_blank c.args.text.now c.loop-end.end (omega arith) c.loop-end.invariant.within c.if-text-end-eq32.true ∙ c.loop-end.invariant.same;
 }
 
-pub returns : goal.returns
-returns c =
+pub returns-clause-value : goal.returns-clause-value
+returns-clause-value c =
     let text = c.args.text.now in
     let end = c.loop-end.end in
     elim c.loop-end-test.branch [
