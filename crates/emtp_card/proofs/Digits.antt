@@ -9,7 +9,7 @@ use Rattle.std.proofs.lemmas.List.Sums.{take_while-cons}
 use Rattle.emtp_card.specs.Decimal.{with_digits, number_of}
 use Rattle.emtp_card.specs.Meaning.{AreDigits}
 
-is_digit_means : (byte : ℕ) → is_ascii_digit byte ≡ true → IsAsciiDigit byte
+pub is_digit_means : (byte : ℕ) → is_ascii_digit byte ≡ true → IsAsciiDigit byte
 is_digit_means byte h = grind (arith, nat_tests)
 
 -- what is taken while it is a digit is digits

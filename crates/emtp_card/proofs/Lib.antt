@@ -4,3 +4,4 @@ pub mod Blanks
 pub mod Digits
 pub mod Cutting
 pub mod Values
+pub mod Grammar

@@ -10,3 +10,4 @@ pub mod Number
 pub mod Reading
 pub mod Whole
 pub mod Name
+pub mod Spelling

@@ -1,7 +1,10 @@
 //! Number fields, and numbers of any length.
 
-ghost use Rattle.std.specs.Prelude.{◌≡◌, ◌+◌, ◌^◌, ◌≤◌, ◌<◌, ◌≤ℤ◌, ℤ, pos, unsigned_abs, Result};
-ghost use Rattle.emtp_card.specs.Decimal.{signed};
+ghost use Rattle.std.specs.Prelude.{◌≡◌, ◌+◌, ◌^◌, ◌≤◌, ◌<◌, ◌≤ℤ◌, ◌↔◌, ℤ, pos, unsigned_abs, Some, Result};
+ghost use Rattle.emtp_card.specs.Decimal.{Decimal, signed};
+ghost use Rattle.emtp_card.specs.Field.{trimmed};
+ghost use Rattle.emtp_card.specs.Numeral.{decimal_of};
+ghost use Rattle.emtp_card.specs.Spelling.{Spells};
 ghost use Rattle.emtp_card.specs.Meaning.{meaning_of, IsNumeral};
 ghost use Rattle.emtp_card.specs.Magnitude.{magnitude_in};
 ghost use Rattle.emtp_card.specs.Number.{number_in, in_range, held_in, in_limit, number_field, held_field, read_number_of};
@@ -85,7 +88,8 @@ pub fn read_number(text: &[u8], scale: i32, limit: i128) -> Result<i128, Why>
     requires scale_high { scale ≤ℤ pos 18 }
     requires limit_low { pos 0 ≤ℤ limit }
     requires limit_high { limit ≤ℤ pos (10 ^ 36) }
-    ensures { result ≡ read_number_of text.now scale limit }
+    ensures value { result ≡ read_number_of text.now scale limit }
+    ensures spelling { (decimal : Decimal) → (decimal_of (trimmed text.now) ≡ Some decimal) ↔ Spells (trimmed text.now) decimal }
 {
     limited(value(trim(text), scale), limit)
 }
