@@ -1,12 +1,13 @@
 -- The first line of a text, and what stands behind it.
-use Rattle.std.proofs.Common.{◌≡◌, ◌∙◌, sym, ap, subst, ℕ, zero, suc, ◌+◌, ◌-◌, ◌<◌, ◌≤◌, ◌==◌, Bool, true, false, cond, List, [], ◌∷◌, Option, Some, None, length, take, drop, position, ltb, refl, arith, length-drop}
+use Rattle.std.proofs.Common.{◌≡◌, ◌≢◌, ◌++◌, ◌∙◌, sym, ap, subst, ℕ, zero, suc, ◌+◌, ◌-◌, ◌<◌, ◌≤◌, ◌==◌, Bool, true, false, cond, List, [], ◌∷◌, Option, Some, None, length, take, drop, position, ltb, refl, arith, length-drop}
+use Rattle.std.proofs.lemmas.Bool.Decides.{nat_tests}
 use Rattle.std.proofs.lemmas.Bool.{ltb-true, ltb-false}
 use Rattle.std.proofs.lemmas.List.Quantifiers.{position-Some}
 use Rattle.std.proofs.lemmas.List.Sums.{position_or_len_is, fails_before_first}
-use Rattle.std.proofs.lemmas.List.Splits.{slice_split_first, slice_split_none}
+use Rattle.std.proofs.lemmas.List.Splits.{slice_split_first, slice_split_none, slice_split_at}
 use Rattle.std.specs.List.{slice_split, onto_first, before_first, after_first, position_or_len}
 use Rattle.std.specs.Str.Lines.{lines_of_parts, strip_carriage_return}
-use Rattle.emtp_card.specs.Lines.{lines_of, is_newline}
+use Rattle.emtp_card.specs.Lines.{lines_of, is_newline, without_return, HasNoNewline, SplitsIntoLines}
 
 -- where the first LF is
 pub found_is : (xs : List ℕ) (place : ℕ) → position is_newline xs ≡ Some place → (place < length xs) × (position_or_len is_newline xs ≡ place)
@@ -49,3 +50,23 @@ last_line xs h = ap lines_of_parts (slice_split_none is_newline xs (λ k d below
 pub lines_of-nil : lines_of [] ≡ []
 unfolding lines_of
 lines_of-nil = refl
+
+last_piece : (bytes : List ℕ) → HasNoNewline bytes → bytes ≢ [] → lines_of bytes ≡ bytes ∷ []
+unfolding lines_of
+last_piece [] none some = absurd (some refl)
+last_piece (byte ∷ bytes) none some = ap lines_of_parts (slice_split_none is_newline (byte ∷ bytes) none) ∙ ap (λ t. cond t [] ((byte ∷ bytes) ∷ [])) (not_zero (length bytes))
+  where
+    not_zero : (n : ℕ) → (suc n == 0) ≡ false
+    not_zero n = grind (arith, nat_tests)
+
+ended_piece : (piece rest : List ℕ) → HasNoNewline piece → lines_of (piece ++ 10 ∷ rest) ≡ without_return piece ∷ lines_of rest
+unfolding lines_of
+ended_piece piece rest none = ap lines_of_parts (slice_split_at is_newline piece 10 rest none refl) ∙ lines_cons piece rest
+
+-- the lines, piece by piece
+pub lines_by_pieces : (bytes : List ℕ) → SplitsIntoLines bytes
+lines_by_pieces bytes = record {
+  none = λ e. ap lines_of e ∙ lines_of-nil;
+  ended = λ piece rest none is. ap lines_of is ∙ ended_piece piece rest none;
+  last = last_piece bytes;
+}

@@ -1,8 +1,7 @@
 //! The lines of a case.
 
 ghost use Rattle.std.specs.Prelude.{◌≡◌, ◌+◌, ◌<◌, ◌≤◌, [], ◌∷◌, Some, None, length, take, count_by, slice_get, position, MatchOption, IfOk, OnOk, IsTrue, ◌↔◌};
-ghost use Rattle.std.specs.Str.Lines.{strip_carriage_return};
-ghost use Rattle.emtp_card.specs.Lines.{lines_of, is_newline};
+ghost use Rattle.emtp_card.specs.Lines.{lines_of, is_newline, without_return, SplitsIntoLines};
 ghost use Rattle.emtp_card.specs.Cards.{lesser_line, line_past_bytes, size_fault, too_many_at};
 
 use crate::lines::Line;
@@ -41,6 +40,7 @@ impl<'a> Cards<'a> {
     /// The only other error is the want of memory.
     pub fn split(alloc: Global, bytes: &'a [u8]) -> Result<Cards<'a>, Refused>
         ensures lines { IfOk result (λ cards. cards ≡ lines_of bytes.now) }
+        ensures pieces { SplitsIntoLines bytes.now }
         ensures fits { OnOk result (size_fault bytes.now ≡ None) }
         ensures bad { (bad : Bad) → result ≡ Err (Refused.Bad bad) → size_fault bytes.now ≡ Some bad }
     {
@@ -163,7 +163,7 @@ fn newline(rest: &[u8]) -> Option<usize>
 
 /// A line without the one CR at its end, if it has one.
 fn without_carriage_return(line: &[u8]) -> &[u8]
-    ensures { result.now ≡ strip_carriage_return line.now }
+    ensures { result.now ≡ without_return line.now }
 {
     match line {
         [before @ .., b'\r'] => before,

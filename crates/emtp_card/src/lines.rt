@@ -1,8 +1,8 @@
 //! One line of a case: what it is, and whether its bytes may stand there.
 
-ghost use Rattle.std.specs.Prelude.{◌≡◌, ◌+◌, ◌≤◌, length};
+ghost use Rattle.std.specs.Prelude.{◌≡◌, ◌+◌, ◌≤◌, length, MatchOption};
 ghost use Rattle.std.specs.List.{list_all};
-ghost use Rattle.emtp_card.specs.Lines.{is_blank, is_comment, is_section_end, fault_of_line, fault_of_byte};
+ghost use Rattle.emtp_card.specs.Lines.{is_blank, is_comment, is_section_end, fault_of_line, fault_of_byte, IsFaultless, IsFirstFault};
 
 use crate::reason::Why;
 
@@ -37,7 +37,8 @@ fn all_blank(text: &[u8]) -> bool
 /// The first byte of a line that may not stand there: its column, counted from 1, and why.
 pub fn line_fault(line: &[u8]) -> Option<(u32, Why)>
     requires { length line.now ≤ 9000000 }
-    ensures { result ≡ fault_of_line line.now }
+    ensures value { result ≡ fault_of_line line.now }
+    ensures first { MatchOption result (IsFaultless line.now) (λ fault. IsFirstFault line.now fault.0 fault.1) }
 {
     for (place, byte) in line.iter().enumerate() {
         let column = place as u32 + 1;

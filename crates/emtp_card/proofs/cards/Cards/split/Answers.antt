@@ -4,6 +4,7 @@ use Rattle.std.specs.Borrow.{Bor}
 use Rattle.emtp_card.specs.Lines.{lines_of}
 use Rattle.emtp_card.specs.declared.cards.TheConstants.{MAX_LINES}
 use Rattle.emtp_card.specs.declared.reason.Bad.{Bad}
+use Rattle.emtp_card.proofs.Splitting.{lines_by_pieces}
 use Rattle.emtp_card.proofs.LineCount.{size_fault_by_count, size_fault_by_bytes}
 use Rattle.emtp_card.proofs.cards.Cards.split.Goals as goal
 
@@ -48,3 +49,15 @@ unfolding seen
 returns-clause-fits c =
     let few = all_seen c.loop-line.lines.items c.loop-line.rest.now c.args.bytes.now c.loop-line.invariant.lines (c.in_default.ensures {u = tt}) c.loop-line.invariant.few in
     size_fault_by_bytes c.args.bytes.now None few (c.in-None.ensures {u = tt})
+
+pub returns-then-len-eq-MAX_LINES-clause-pieces : goal.returns-then-len-eq-MAX_LINES-clause-pieces
+returns-then-len-eq-MAX_LINES-clause-pieces c = lines_by_pieces c.args.bytes.now
+
+pub returns-in_err-push-clause-pieces : goal.returns-in_err-push-clause-pieces
+returns-in_err-push-clause-pieces c = lines_by_pieces c.args.bytes.now
+
+pub returns-in-Some-far-clause-pieces : goal.returns-in-Some-far-clause-pieces
+returns-in-Some-far-clause-pieces c = lines_by_pieces c.args.bytes.now
+
+pub returns-clause-pieces : goal.returns-clause-pieces
+returns-clause-pieces c = lines_by_pieces c.args.bytes.now
