@@ -1,11 +1,11 @@
 -- Blanks at the end of a text, and those that fill a line.
-use Rattle.std.proofs.Common.{◌≡◌, ◌∙◌, sym, ap, ℕ, zero, suc, ◌+◌, ◌-◌, ◌==◌, Bool, true, false, ◌&&◌, ◌||◌, cond, List, [], ◌∷◌, ◌++◌, take, drop, replicate, length, get_or, ◌<◌, ◌≤◌, ◌≢◌, subst, refl, arith}
+use Rattle.std.proofs.Common.{◌≡◌, ◌∙◌, sym, ap, ℕ, zero, suc, ◌+◌, ◌-◌, Bool, true, false, ◌&&◌, ◌||◌, cond, List, [], ◌∷◌, ◌++◌, take, drop, replicate, length, get_or, ◌<◌, ◌≤◌, ◌≢◌, refl, arith}
 use Rattle.std.proofs.lemmas.Bool.Decides.{nat_tests}
 use Rattle.std.proofs.lemmas.List.{take_more}
 use Rattle.std.specs.List.{list_all, list_any}
 use Rattle.std.proofs.lemmas.List.Folds.{list_all-append, list_any-append}
 use Rattle.emtp_card.specs.Lines.{is_blank}
-use Rattle.emtp_card.specs.Field.{without_leading, without_trailing, trimmed, columns, filled, field_of}
+use Rattle.emtp_card.specs.Field.{without_leading, without_trailing, trimmed, columns, field_of}
 
 -- what is all blank is cut off
 pub without_trailing-blanks : (bytes : List ℕ) → list_all is_blank bytes ≡ true → without_trailing bytes ≡ []

@@ -2,13 +2,13 @@
 use Rattle.std.proofs.Math.Nat.{pow-le-pow_right}
 use Rattle.std.proofs.lemmas.Bool.{cases_lt}
 use Rattle.std.proofs.Common.{⊎_elim}
-use Rattle.std.proofs.Common.{◌≡◌, ◌∙◌, sym, ap, subst, ℕ, suc, ◌+◌, ◌-◌, ◌*◌, ◌^◌, ◌<◌, ◌≤◌, List, [], ◌∷◌, ◌++◌, take, drop, length, get_or, refl, arith, lit<, take-append-drop, length-drop, pow-suc, mul-le-mul_right}
+use Rattle.std.proofs.Common.{◌≡◌, ◌∙◌, sym, ap, subst, ℕ, suc, ◌+◌, ◌-◌, ◌*◌, ◌^◌, ◌<◌, ◌≤◌, List, ◌∷◌, ◌++◌, take, drop, length, get_or, arith, lit<, take-append-drop, length-drop, pow-suc, mul-le-mul_right}
 use Rattle.std.proofs.lemmas.List.{drop_more}
 use Rattle.std.specs.Char.{IsAsciiDigit}
 use Rattle.std.proofs.lemmas.List.Elements.{All-tail, All-drop}
 use Rattle.emtp_fix.specs.Rounding.{near_abs}
 use Rattle.emtp_fix.proofs.Nearest.{near_abs_is}
-use Rattle.emtp_card.specs.Decimal.{with_digits, number_of}
+use Rattle.emtp_card.specs.Decimal.{number_of}
 use Rattle.emtp_card.specs.Meaning.{AreDigits}
 use Rattle.emtp_card.proofs.Digits.{with_digits-append, with_digits-is, number_of-lt}
 

@@ -1,8 +1,8 @@
 -- Digits: those in front of a text, and the number that they write.
-use Rattle.std.proofs.Common.{◌≡◌, ◌∙◌, sym, ap, subst, ℕ, zero, suc, ◌+◌, ◌-◌, ◌*◌, ◌^◌, ◌<◌, ◌≤◌, Bool, true, false, cond, List, [], ◌∷◌, ◌++◌, take, drop, length, get_or, refl, arith, take-append-drop, pow-suc, mul-le-mul_right}
+use Rattle.std.proofs.Common.{◌≡◌, ◌∙◌, sym, ap, subst, ℕ, suc, ◌+◌, ◌-◌, ◌*◌, ◌^◌, ◌<◌, ◌≤◌, Bool, true, false, cond, List, [], ◌∷◌, ◌++◌, take, drop, length, get_or, refl, arith, take-append-drop, pow-suc, mul-le-mul_right}
 use Rattle.std.proofs.lemmas.List.{take_more}
 use Rattle.std.specs.Char.{is_ascii_digit, IsAsciiDigit}
-use Rattle.std.specs.List.{All, take_while}
+use Rattle.std.specs.List.{take_while}
 use Rattle.std.proofs.lemmas.Bool.Decides.{nat_tests}
 use Rattle.std.proofs.lemmas.List.Elements.{All-nil, All-cons, All-head, All-tail}
 use Rattle.std.proofs.lemmas.List.Sums.{take_while-cons}

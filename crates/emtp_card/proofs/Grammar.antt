@@ -1,9 +1,9 @@
 -- The reader reads each spelling of the grammar as what it means, and reads nothing else.
-use Rattle.std.proofs.Common.{◌≡◌, ◌≢◌, ◌∙◌, sym, ap, subst, ℕ, zero, suc, ◌+◌, ◌-◌, ◌<◌, ◌≤◌, ◌==◌, Bool, true, false, cond, not, ◌&&◌, ◌||◌, IsTrue, nat_le, ℤ, pos, List, [], ◌∷◌, ◌++◌, length, take, drop, Option, Some, None, option_map, take_while, refl, arith, length-append, append-nil}
+use Rattle.std.proofs.Common.{◌≡◌, ◌≢◌, ◌∙◌, sym, ap, subst, ℕ, ◌+◌, ◌≤◌, ◌==◌, Bool, true, false, cond, ◌&&◌, nat_le, ℤ, List, [], ◌∷◌, ◌++◌, length, drop, Option, Some, None, option_map, take_while, refl, arith}
 use Rattle.std.specs.Char.{is_ascii_digit, IsAsciiDigit}
 use Rattle.std.specs.List.{list_all}
 use Rattle.std.proofs.lemmas.Bool.Decides.{nat_tests}
-use Rattle.std.proofs.lemmas.List.Elements.{All-nil, All-cons, All-head, All-tail, All-weaker}
+use Rattle.std.proofs.lemmas.List.Elements.{All-nil, All-head, All-tail, All-weaker}
 use Rattle.std.proofs.lemmas.Option.{cond_some}
 use Rattle.std.proofs.lemmas.List.Sums.{take_while-cons, AllPass-from_list_all}
 use Rattle.emtp_card.specs.Decimal.{Decimal, signed, number_of}

@@ -1,10 +1,9 @@
 -- Whether a case is too long, told by the lines that were counted.
-use Rattle.std.proofs.Common.{◌≡◌, ◌∙◌, sym, ap, ℕ, ◌+◌, ◌<◌, ◌≤◌, List, ◌++◌, [], ◌∷◌, length, Option, Some, None, option_map, arith, length-append, append-nil}
+use Rattle.std.proofs.Common.{◌≡◌, ◌∙◌, sym, ap, ℕ, ◌+◌, ◌<◌, ◌≤◌, List, length, Option, Some, None, option_map, arith}
 use Rattle.std.proofs.lemmas.Bool.Decides.{nat_tests}
 use Rattle.emtp_card.specs.Lines.{lines_of}
 use Rattle.emtp_card.specs.Cards.{line_past_count, line_past_bytes, lesser_line, too_many_at, size_fault}
 use Rattle.emtp_card.specs.declared.cards.TheConstants.{MAX_LINES}
-use Rattle.emtp_card.specs.declared.reason.Bad.{Bad}
 
 line_past_count_some : (bytes : List ℕ) → MAX_LINES < length (lines_of bytes) → line_past_count bytes ≡ Some (MAX_LINES + 1)
 unfolding line_past_count

@@ -1,7 +1,6 @@
 -- The value of a decimal is its magnitude with its sign.
-use Rattle.std.proofs.Common.{◌≡◌, ◌∙◌, sym, ap, subst, ℕ, zero, suc, ◌+◌, ◌*◌, ◌^◌, ◌<◌, ◌≤◌, ℤ, pos, negsuc, neg_ℤ, ◌*ℤ◌, ◌+ℤ◌, ◌<ℤ◌, unsigned_abs, Bool, true, false, Result, Ok, Err, Option, Some, None, refl, arith, zero-mul}
+use Rattle.std.proofs.Common.{◌≡◌, ◌∙◌, sym, ap, ℕ, zero, suc, ◌+◌, ◌^◌, ◌<◌, ◌≤◌, ℤ, pos, negsuc, neg_ℤ, ◌+ℤ◌, Bool, true, false, refl, arith, zero-mul}
 use Rattle.std.proofs.lemmas.Int.{ints}
-use Rattle.emtp_fix.specs.Rounding.{near, near_abs}
 use Rattle.emtp_fix.proofs.Nearest.{near-neg, near-from_zero}
 use Rattle.emtp_card.specs.Decimal.{Decimal, signed, times_power, value_in}
 use Rattle.emtp_card.specs.Magnitude.{scaled, magnitude_in}

@@ -1,12 +1,11 @@
 -- Numbers of fields: the value in its unit, and what its range makes of it.
-use Rattle.std.specs.Prelude.{◌≡◌, ℕ, ◌+◌, ◌≤◌, nat_lt, ℤ, pos, neg_ℤ, ◌<ℤ◌, int_lt, unsigned_abs, Bool, ◌||◌, List, [], ◌∷◌, Option, Some, None, Result, Ok, Err, if◌then◌else◌}
+use Rattle.std.specs.Prelude.{ℕ, nat_lt, ℤ, int_lt, unsigned_abs, ◌||◌, List, [], ◌∷◌, Option, Some, None, Result, Ok, Err, if◌then◌else◌}
 use Rattle.std.specs.Int.{int_min, int_max}
 use Rattle.emtp_card.specs.Decimal.{Decimal, value_in}
 use Rattle.emtp_card.specs.Numeral.{decimal_of}
 use Rattle.emtp_card.specs.Field.{field_of, trimmed}
 use Rattle.emtp_card.specs.declared.reason.Why.{Why}
 use Rattle.emtp_card.specs.declared.reason.Why.TheVariants.{NotANumber, OutOfUnitRange}
-use Rattle.emtp_card.specs.declared.rounding.TheConstants.{MOST}
 
 abbrev pub valued : ℤ → Option Decimal → Result ℤ Why
 valued scale None = Err NotANumber

@@ -1,5 +1,5 @@
 -- Whole numbers of fields.
-use Rattle.std.specs.Prelude.{ℕ, nat_lt, ◌==◌, ◌^◌, ℤ, unsigned_abs, Bool, ◌&&◌, not, List, [], ◌∷◌, length, Option, Some, None, Result, Ok, Err, if◌then◌else◌}
+use Rattle.std.specs.Prelude.{ℕ, nat_lt, ◌==◌, ◌^◌, ℤ, unsigned_abs, Bool, ◌&&◌, not, List, length, Option, Result, Ok, Err, if◌then◌else◌}
 use Rattle.std.specs.Char.{is_ascii_digit}
 use Rattle.std.specs.List.{list_all}
 use Rattle.emtp_card.specs.Decimal.{signed, number_of}

@@ -19,3 +19,6 @@ pub use number::{field_held, field_number, read_number};
 pub use reason::{Bad, Refused, Why};
 pub use rounding::MOST;
 pub use whole::field_whole;
+
+#[cfg(test)]
+mod tests;

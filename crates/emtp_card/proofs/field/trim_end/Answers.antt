@@ -1,5 +1,4 @@
-use Rattle.std.proofs.Common.{◌≡◌, ◌∙◌, sym, ap, ℕ, take, get_or, arith}
-use Rattle.emtp_card.specs.Field.{without_trailing}
+use Rattle.std.proofs.Common.{◌∙◌, sym, arith}
 use Rattle.emtp_card.proofs.Blanks.{cut_blank, keep_last, keep_none}
 use Rattle.emtp_card.proofs.field.trim_end.Goals.{then-loop-end-test+else-text-end-eq32, else-loop-end-test}
 use Rattle.emtp_card.proofs.field.trim_end.Goals as goal

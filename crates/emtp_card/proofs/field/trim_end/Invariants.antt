@@ -1,4 +1,4 @@
-use Rattle.std.proofs.Common.{◌≡◌, ◌≤◌, ℕ, length, take}
+use Rattle.std.proofs.Common.{◌≡◌, ◌≤◌, length, take}
 use Rattle.emtp_card.specs.Field.{without_trailing}
 use Rattle.emtp_card.proofs.field.trim_end.Given as goal
 

@@ -1,4 +1,4 @@
-use Rattle.std.proofs.Common.{◌≡◌, ◌+◌, arith}
+use Rattle.std.proofs.Common.{◌+◌, arith}
 use Rattle.emtp_card.proofs.Digits.{with_digits_more, front-le}
 use Rattle.emtp_card.proofs.rounding.append_digits.Goals as goal
 

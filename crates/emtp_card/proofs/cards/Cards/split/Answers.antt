@@ -1,9 +1,8 @@
-use Rattle.std.proofs.Common.{◌≡◌, ◌∙◌, sym, ap, ℕ, ◌+◌, ◌<◌, ◌≤◌, List, [], ◌∷◌, ◌++◌, Some, None, length, map, arith, length-append, append-nil}
+use Rattle.std.proofs.Common.{◌≡◌, ◌∙◌, sym, ap, ℕ, ◌<◌, ◌≤◌, List, [], ◌∷◌, ◌++◌, Some, None, length, map, arith, length-append, append-nil}
 use Rattle.std.proofs.lemmas.List.{length-map}
 use Rattle.std.specs.Borrow.{Bor}
 use Rattle.emtp_card.specs.Lines.{lines_of}
 use Rattle.emtp_card.specs.declared.cards.TheConstants.{MAX_LINES}
-use Rattle.emtp_card.specs.declared.reason.Bad.{Bad}
 use Rattle.emtp_card.proofs.Splitting.{lines_by_pieces}
 use Rattle.emtp_card.proofs.LineCount.{size_fault_by_count, size_fault_by_bytes}
 use Rattle.emtp_card.proofs.cards.Cards.split.Goals as goal
