@@ -1,11 +1,13 @@
 -- Blanks at the end of a text, and those that fill a line.
-use Rattle.std.proofs.Common.{◌≡◌, ◌∙◌, sym, ap, ℕ, zero, suc, ◌+◌, ◌-◌, Bool, true, false, ◌&&◌, ◌||◌, cond, List, [], ◌∷◌, ◌++◌, take, drop, replicate, length, get_or, ◌<◌, ◌≤◌, ◌≢◌, refl, arith}
+use Rattle.std.proofs.Common.{◌≡◌, ◌↔◌, ◌∙◌, sym, ap, ℕ, zero, suc, ◌+◌, ◌-◌, Bool, true, false, ◌&&◌, ◌||◌, cond, List, [], ◌∷◌, ◌++◌, take, drop, replicate, length, get_or, ◌<◌, ◌≤◌, ◌≢◌, refl, arith}
 use Rattle.std.proofs.lemmas.Bool.Decides.{nat_tests}
 use Rattle.std.proofs.lemmas.List.{take_more}
 use Rattle.std.specs.List.{list_all, list_any}
 use Rattle.std.proofs.lemmas.List.Folds.{list_all-append, list_any-append}
+use Rattle.std.proofs.lemmas.List.Elements.{All-weaker}
+use Rattle.std.proofs.lemmas.List.Sums.{AllPass-from_list_all, list_all-from_AllPass}
 use Rattle.emtp_card.specs.Lines.{is_blank}
-use Rattle.emtp_card.specs.Field.{without_leading, without_trailing, trimmed, columns, field_of}
+use Rattle.emtp_card.specs.Field.{IsBlank, without_leading, without_trailing, trimmed, columns, field_of}
 
 -- what is all blank is cut off
 pub without_trailing-blanks : (bytes : List ℕ) → list_all is_blank bytes ≡ true → without_trailing bytes ≡ []
@@ -131,3 +133,34 @@ unfolding trimmed
 trimmed-held line first last =
     let behind = columns-held line first last in
     sym (ap trimmed behind.whole_is ∙ ap without_leading (without_trailing-append (take (last + 1 - first) (drop (first - 1) line)) behind.blanks behind.blank))
+
+-- a trimmed text is empty exactly where the text is blank
+and_both : (a b : Bool) → a ≡ true → b ≡ true → (a && b) ≡ true
+and_both a b h k = ap (λ t. t && b) h ∙ k
+
+blank_behind : (bytes : List ℕ) → list_all is_blank (without_trailing bytes) ≡ true → list_all is_blank bytes ≡ true
+blank_behind [] h = refl
+blank_behind (byte ∷ bytes) h = by_test byte bytes (list_all is_blank (byte ∷ bytes)) refl h (blank_behind bytes)
+  where
+    by_test : (byte : ℕ) (bytes : List ℕ) (t : Bool) → list_all is_blank (byte ∷ bytes) ≡ t → list_all is_blank (cond t [] (byte ∷ without_trailing bytes)) ≡ true → (list_all is_blank (without_trailing bytes) ≡ true → list_all is_blank bytes ≡ true) → list_all is_blank (byte ∷ bytes) ≡ true
+    by_test byte bytes true all h rest = all
+    by_test byte bytes false all h rest = and_both (is_blank byte) (list_all is_blank bytes) (blanks-first byte (without_trailing bytes) h) (rest (blanks-rest byte (without_trailing bytes) h))
+
+blank_before : (bytes : List ℕ) → without_leading bytes ≡ [] → list_all is_blank bytes ≡ true
+blank_before [] h = refl
+blank_before (byte ∷ bytes) h = by_test byte bytes (is_blank byte) h (blank_before bytes)
+  where
+    by_test : (byte : ℕ) (bytes : List ℕ) (t : Bool) → cond t (without_leading bytes) (byte ∷ bytes) ≡ [] → (without_leading bytes ≡ [] → list_all is_blank bytes ≡ true) → (t && list_all is_blank bytes) ≡ true
+    by_test byte bytes true h rest = rest h
+    by_test byte bytes false h rest = absurd (cc)
+
+pub trimmed-blank : (bytes : List ℕ) → (trimmed bytes ≡ []) ↔ IsBlank bytes
+unfolding trimmed
+trimmed-blank bytes = (
+  λ h. All-weaker (λ b. is_blank b ≡ true) (λ b. b ≡ 32) is_blank_means bytes (AllPass-from_list_all is_blank bytes (blank_behind bytes (blank_before (without_trailing bytes) h))),
+  λ h. ap without_leading (without_trailing-blanks bytes (list_all-from_AllPass is_blank bytes (All-weaker (λ b. b ≡ 32) (λ b. is_blank b ≡ true) (λ b e. ap is_blank e) bytes h))),
+)
+
+-- a test that no blank passes finds nothing in a blank text
+pub list_any-blank : (p : ℕ → Bool) → p 32 ≡ false → (bytes : List ℕ) → IsBlank bytes → list_any p bytes ≡ false
+list_any-blank p passed bytes blank = none_blank p passed bytes (list_all-from_AllPass is_blank bytes (All-weaker (λ b. b ≡ 32) (λ b. is_blank b ≡ true) (λ b e. ap is_blank e) bytes blank))

@@ -1,6 +1,7 @@
 pub mod Reason
 pub mod Lines
 pub mod Cards
+pub mod Size
 pub mod Field
 pub mod Decimal
 pub mod Numeral

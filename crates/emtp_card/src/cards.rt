@@ -1,6 +1,6 @@
 //! The lines of a case.
 
-ghost use Rattle.std.specs.Prelude.{◌≡◌, ◌+◌, ◌<◌, ◌≤◌, [], ◌∷◌, Some, None, length, take, count_by, slice_get, position, MatchOption, IfOk, OnOk, IsTrue, ◌↔◌};
+ghost use Rattle.std.specs.Prelude.{◌≡◌, ◌+◌, ◌<◌, ◌≤◌, [], ◌∷◌, Some, None, length, take, count_by, slice_get, position, MatchOption, IfSome, IfOk, OnOk, IsTrue, ◌↔◌};
 ghost use Rattle.emtp_card.specs.Lines.{lines_of, is_newline, without_return, SplitsIntoLines};
 ghost use Rattle.emtp_card.specs.Cards.{lesser_line, line_past_bytes, size_fault, too_many_at};
 
@@ -22,15 +22,15 @@ pub struct Cards<'a> {
 }
 
 impl<'a> Model for Cards<'a> {
-    ghost use Rattle.std.specs.Prelude.{List, ℕ, ◌≤◌, length, map};
-    ghost use Rattle.emtp_card.specs.declared.cards.TheConstants.{MAX_LINES};
+    ghost use Rattle.std.specs.Prelude.{List, ℕ, map};
+    ghost use Rattle.emtp_card.specs.Size.{AreInSize};
     ghost use Rattle.std.specs.Borrow.{Bor};
 
     ghost Value = { List (List ℕ) };
 
     ghost view = { λ cards. map (λ (line : Bor (List ℕ)). line.now) cards.lines.items };
 
-    ghost invariant = { λ cards. length cards.lines.items ≤ MAX_LINES };
+    ghost invariant = { λ cards. AreInSize cards.lines.items };
 }
 
 impl<'a> Cards<'a> {
@@ -81,6 +81,7 @@ impl<'a> Cards<'a> {
         requires { at < length self.now }
         ensures number { result.number ≡ at + 1 }
         ensures bytes { slice_get self.now at ≡ Some result.bytes.now }
+        ensures short { length result.bytes.now ≤ MAX_BYTES }
     {
         let bytes = self.lines[at];
         Line {
@@ -140,7 +141,8 @@ fn count_newlines(bytes: &[u8]) -> usize
 
 /// The first line and what stands behind it; none where nothing is left.
 fn next_line(rest: &[u8]) -> Option<(&[u8], &[u8])>
-    ensures { MatchOption result (lines_of rest.now ≡ []) (λ found. (lines_of rest.now ≡ found.0.now ∷ lines_of found.1.now) × (length found.1.now < length rest.now)) }
+    ensures lines { MatchOption result (lines_of rest.now ≡ []) (λ found. lines_of rest.now ≡ found.0.now ∷ lines_of found.1.now) }
+    ensures short { IfSome result (λ found. (length found.0.now ≤ length rest.now) × (length found.1.now < length rest.now)) }
 {
     match newline(rest) {
         Some(end) => Some((without_carriage_return(&rest[..end]), &rest[end + 1..])),
@@ -163,7 +165,8 @@ fn newline(rest: &[u8]) -> Option<usize>
 
 /// A line without the one CR at its end, if it has one.
 fn without_carriage_return(line: &[u8]) -> &[u8]
-    ensures { result.now ≡ without_return line.now }
+    ensures value { result.now ≡ without_return line.now }
+    ensures short { length result.now ≤ length line.now }
 {
     match line {
         [before @ .., b'\r'] => before,

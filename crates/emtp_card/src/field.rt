@@ -1,7 +1,7 @@
 //! The bytes of a field: those of its columns, without the outer blanks.
 
-ghost use Rattle.std.specs.Prelude.{◌≡◌, ◌+◌, ◌-◌, ◌≤◌, length, take, drop};
-ghost use Rattle.emtp_card.specs.Field.{columns, field_of, trimmed, without_leading, without_trailing};
+ghost use Rattle.std.specs.Prelude.{◌≡◌, ◌+◌, ◌-◌, ◌≤◌, ◌↔◌, [], length, take, drop};
+ghost use Rattle.emtp_card.specs.Field.{columns, field_of, IsBlank, trimmed, without_leading, without_trailing};
 
 /// The field in the columns from `first` to `last`, counted from 1, without its outer blanks. It is
 /// empty where these columns are blank; columns past the line's end are.
@@ -10,6 +10,7 @@ pub(crate) fn field(line: &[u8], first: usize, last: usize) -> &[u8]
     requires order { first ≤ last }
     requires last { last ≤ 80 }
     ensures value { result.now ≡ field_of line.now first last }
+    ensures blank { (result.now ≡ []) ↔ IsBlank (columns line.now first last) }
     ensures short { length result.now + first ≤ last + 1 }
 {
     trim(held(line, first, last))

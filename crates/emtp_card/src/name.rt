@@ -1,8 +1,8 @@
 //! Fields that hold names.
 
-ghost use Rattle.std.specs.Prelude.{◌≡◌, ◌+◌, ◌≤◌};
+ghost use Rattle.std.specs.Prelude.{◌≡◌, ◌+◌, ◌≤◌, ◌↔◌, Ok, None};
 ghost use Rattle.std.specs.List.{list_any};
-ghost use Rattle.emtp_card.specs.Field.{columns};
+ghost use Rattle.emtp_card.specs.Field.{columns, IsBlank};
 ghost use Rattle.emtp_card.specs.Name.{is_comma, name_field};
 
 use crate::field::{field, held};
@@ -18,7 +18,8 @@ use emtp_case::Name;
 pub fn field_name(line: &[u8], first: usize) -> Result<Option<Name>, Why>
     requires low { 1 ≤ first }
     requires high { first ≤ 75 }
-    ensures { result ≡ name_field line.now first }
+    ensures value { result ≡ name_field line.now first }
+    ensures blank { (result ≡ Ok None) ↔ IsBlank (columns line.now first (first + 5)) }
 {
     if has_comma(line, first) {
         return Err(Why::BadName);

@@ -1,8 +1,8 @@
 //! Number fields, and numbers of any length.
 
-ghost use Rattle.std.specs.Prelude.{◌≡◌, ◌+◌, ◌^◌, ◌≤◌, ◌<◌, ◌≤ℤ◌, ◌↔◌, ℤ, pos, unsigned_abs, Some, Result};
+ghost use Rattle.std.specs.Prelude.{◌≡◌, ◌+◌, ◌^◌, ◌≤◌, ◌<◌, ◌≤ℤ◌, ◌↔◌, ℤ, pos, unsigned_abs, Some, None, Ok, Result};
 ghost use Rattle.emtp_card.specs.Decimal.{Decimal, signed};
-ghost use Rattle.emtp_card.specs.Field.{trimmed};
+ghost use Rattle.emtp_card.specs.Field.{columns, trimmed, IsBlank};
 ghost use Rattle.emtp_card.specs.Numeral.{decimal_of};
 ghost use Rattle.emtp_card.specs.Spelling.{Spells};
 ghost use Rattle.emtp_card.specs.Meaning.{meaning_of, IsNumeral};
@@ -36,7 +36,8 @@ pub fn field_number(
     requires scale_low { pos 0 ≤ℤ scale }
     requires scale_high { scale ≤ℤ pos 18 }
     requires range { low ≤ℤ high }
-    ensures { result ≡ number_field line.now first last scale low high }
+    ensures value { result ≡ number_field line.now first last scale low high }
+    ensures blank { (result ≡ Ok None) ↔ IsBlank (columns line.now first last) }
 {
     let text = field(line, first, last);
     if text.is_empty() {
@@ -65,7 +66,8 @@ pub fn field_held(
     requires scale_low { pos 0 ≤ℤ scale }
     requires scale_high { scale ≤ℤ pos 18 }
     requires range { low ≤ℤ high }
-    ensures { result ≡ held_field line.now first last scale low high }
+    ensures value { result ≡ held_field line.now first last scale low high }
+    ensures blank { (result ≡ Ok None) ↔ IsBlank (columns line.now first last) }
 {
     let text = field(line, first, last);
     if text.is_empty() {

@@ -1,10 +1,11 @@
 //! Fields that hold whole numbers.
 
-ghost use Rattle.std.specs.Prelude.{◌≡◌, ◌+◌, ◌^◌, ◌≤◌, ◌<◌, pos, IsTrue};
+ghost use Rattle.std.specs.Prelude.{◌≡◌, ◌+◌, ◌^◌, ◌≤◌, ◌<◌, ◌↔◌, pos, Ok, None, IsTrue};
 ghost use Rattle.std.specs.Char.{is_ascii_digit};
 ghost use Rattle.std.specs.List.{list_all};
 ghost use Rattle.std.specs.Option.{SomeIff};
 ghost use Rattle.emtp_card.specs.Decimal.{number_of};
+ghost use Rattle.emtp_card.specs.Field.{columns, IsBlank};
 ghost use Rattle.emtp_card.specs.Meaning.{AreDigits};
 ghost use Rattle.emtp_card.specs.Whole.{all_digits, whole_in, whole_field};
 
@@ -26,7 +27,8 @@ pub fn field_whole(line: &[u8], first: usize, last: usize) -> Result<Option<i64>
     requires first { 1 ≤ first }
     requires order { first ≤ last }
     requires last { last ≤ 80 }
-    ensures { result ≡ whole_field line.now first last }
+    ensures value { result ≡ whole_field line.now first last }
+    ensures blank { (result ≡ Ok None) ↔ IsBlank (columns line.now first last) }
 {
     let text = field(line, first, last);
     if text.is_empty() {

@@ -1,10 +1,11 @@
 use Rattle.std.proofs.Common.{◌≡◌, ◌∙◌, sym, ap, ℕ, ◌<◌, ◌≤◌, List, [], ◌∷◌, ◌++◌, Some, None, length, map, arith, length-append, append-nil}
 use Rattle.std.proofs.lemmas.List.{length-map}
+use Rattle.std.proofs.lemmas.List.Elements.{All-weaker}
 use Rattle.std.specs.Borrow.{Bor}
 use Rattle.emtp_card.specs.Lines.{lines_of}
-use Rattle.emtp_card.specs.declared.cards.TheConstants.{MAX_LINES}
+use Rattle.emtp_card.specs.declared.cards.TheConstants.{MAX_LINES, MAX_BYTES}
 use Rattle.emtp_card.proofs.Splitting.{lines_by_pieces}
-use Rattle.emtp_card.proofs.LineCount.{size_fault_by_count, size_fault_by_bytes}
+use Rattle.emtp_card.proofs.LineCount.{size_fault_by_count, size_fault_by_bytes, few_bytes}
 use Rattle.emtp_card.proofs.cards.Cards.split.Goals as goal
 
 seen : List (Bor (List ℕ)) → List (List ℕ)
@@ -31,7 +32,7 @@ unfolding seen
 returns-then-len-eq-MAX_LINES-clause-bad c = λ bad is.
     let same : c.too_many_lines.result ≡ bad = cc in
     let full : length c.loop-line.lines.items ≡ MAX_LINES = omega (arith, c.len.ensures) in
-    let many = one_more c.loop-line.lines.items c.loop-line.rest.now c.args.bytes.now c.in-Some.line.now (lines_of c.in-Some.tail.now) c.loop-line.invariant.lines c.in-Some.ensures.0 full in
+    let many = one_more c.loop-line.lines.items c.loop-line.rest.now c.args.bytes.now c.in-Some.line.now (lines_of c.in-Some.tail.now) c.loop-line.invariant.lines c.in-Some.ensures.lines full in
     size_fault_by_count c.args.bytes.now c.past_bytes-far.result c.lesser-first.result many c.past_bytes-far.ensures c.lesser-first.ensures
     ∙ ap Some (sym c.too_many_lines.ensures ∙ same)
 
@@ -39,14 +40,14 @@ pub returns-in-Some-far-clause-bad : goal.returns-in-Some-far-clause-bad
 unfolding seen
 returns-in-Some-far-clause-bad c = λ bad is.
     let same : c.too_many_lines-in-Some-far.result ≡ bad = cc in
-    let few = all_seen c.loop-line.lines.items c.loop-line.rest.now c.args.bytes.now c.loop-line.invariant.lines (c.in_default.ensures {u = tt}) c.loop-line.invariant.few in
+    let few = all_seen c.loop-line.lines.items c.loop-line.rest.now c.args.bytes.now c.loop-line.invariant.lines c.in_default.ensures.lines c.loop-line.invariant.few in
     size_fault_by_bytes c.args.bytes.now (Some c.in-Some-far.line) few c.in-Some-far.ensures
     ∙ ap Some (sym c.too_many_lines-in-Some-far.ensures ∙ same)
 
 pub returns-clause-fits : goal.returns-clause-fits
 unfolding seen
 returns-clause-fits c =
-    let few = all_seen c.loop-line.lines.items c.loop-line.rest.now c.args.bytes.now c.loop-line.invariant.lines (c.in_default.ensures {u = tt}) c.loop-line.invariant.few in
+    let few = all_seen c.loop-line.lines.items c.loop-line.rest.now c.args.bytes.now c.loop-line.invariant.lines c.in_default.ensures.lines c.loop-line.invariant.few in
     size_fault_by_bytes c.args.bytes.now None few (c.in-None.ensures {u = tt})
 
 pub returns-then-len-eq-MAX_LINES-clause-pieces : goal.returns-then-len-eq-MAX_LINES-clause-pieces
@@ -60,3 +61,11 @@ returns-in-Some-far-clause-pieces c = lines_by_pieces c.args.bytes.now
 
 pub returns-clause-pieces : goal.returns-clause-pieces
 returns-clause-pieces c = lines_by_pieces c.args.bytes.now
+
+pub invariant_of-result : goal.invariant_of-result
+invariant_of-result c =
+    let bytes = few_bytes c.args.bytes.now (sym (c.in-None.ensures {u = tt})) in
+    record {
+      few = c.loop-line.invariant.few;
+      short = All-weaker (λ (line : Bor (List ℕ)). length line.now ≤ length c.args.bytes.now) (λ (line : Bor (List ℕ)). length line.now ≤ MAX_BYTES) (λ line h. omega (arith, h, bytes)) c.loop-line.lines.items c.loop-line.invariant.short;
+    }
