@@ -16,6 +16,7 @@ line_past_count_none bytes h = grind (arith, nat_tests)
 -- more lines than there may be: the first too many, or the line of the first byte too many
 pub size_fault_by_count : (bytes : List ℕ) (far : Option ℕ) (first : ℕ) → MAX_LINES < length (lines_of bytes) → far ≡ line_past_bytes bytes
     → lesser_line (Some (MAX_LINES + 1)) far ≡ Some first → size_fault bytes ≡ Some (too_many_at first)
+unfolding size_fault
 size_fault_by_count bytes far first many by_bytes lesser =
     ap (λ o. option_map too_many_at (lesser_line o (line_past_bytes bytes))) (line_past_count_some bytes many)
     ∙ ap (λ o. option_map too_many_at (lesser_line (Some (MAX_LINES + 1)) o)) (sym by_bytes)
@@ -23,6 +24,7 @@ size_fault_by_count bytes far first many by_bytes lesser =
 
 -- no more lines than there may be: the bytes decide
 pub size_fault_by_bytes : (bytes : List ℕ) (far : Option ℕ) → length (lines_of bytes) ≤ MAX_LINES → far ≡ line_past_bytes bytes → size_fault bytes ≡ option_map too_many_at far
+unfolding size_fault
 size_fault_by_bytes bytes far few by_bytes =
     ap (λ o. option_map too_many_at (lesser_line o (line_past_bytes bytes))) (line_past_count_none bytes few)
     ∙ ap (option_map too_many_at) (sym by_bytes)

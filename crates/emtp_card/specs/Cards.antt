@@ -1,9 +1,15 @@
--- When a case is too long, and the line where it is.
-use Rattle.std.specs.Prelude.{ℕ, ◌+◌, nat_lt, min, List, length, take, count_by, Option, Some, None, option_map, if◌then◌else◌}
+-- How long a case may be, and the line where it is too long.
+use Rattle.std.specs.Prelude.{ℕ, ◌+◌, ◌≤◌, nat_lt, min, List, length, take, count_by, Option, Some, None, option_map, All, if◌then◌else◌}
+use Rattle.std.specs.Borrow.{Bor}
 use Rattle.emtp_card.specs.Lines.{lines_of, is_newline}
 use Rattle.emtp_card.specs.declared.reason.Bad.{Bad}
 use Rattle.emtp_card.specs.declared.reason.Why.TheVariants.{TooManyLines}
 use Rattle.emtp_card.specs.declared.cards.TheConstants.{MAX_LINES, MAX_BYTES}
+
+-- the lines that are held: at most so many, none longer than a case may be
+pub record AreInSize (lines : List (Bor (List ℕ))) : Type 0 where
+  pub few : length lines ≤ MAX_LINES
+  pub short : All (λ (line : Bor (List ℕ)). length line.now ≤ MAX_BYTES) lines
 
 -- line 100,001, where there are so many lines
 unfoldable pub line_past_count : List ℕ → Option ℕ
@@ -24,5 +30,5 @@ abbrev pub too_many_at : ℕ → Bad
 too_many_at line = record { line = line; column = 1; why = TooManyLines }
 
 -- the refusal of a case of too many lines or bytes, at the first line that is too far
-abbrev pub size_fault : List ℕ → Option Bad
+unfoldable pub size_fault : List ℕ → Option Bad
 size_fault bytes = option_map too_many_at (lesser_line (line_past_count bytes) (line_past_bytes bytes))

@@ -1,14 +1,11 @@
 pub mod Reason
 pub mod Lines
 pub mod Cards
-pub mod Size
 pub mod Field
 pub mod Decimal
 pub mod Numeral
-pub mod Meaning
-pub mod Magnitude
+pub mod Spelling
+pub mod Rounding
 pub mod Number
-pub mod Reading
 pub mod Whole
 pub mod Name
-pub mod Spelling

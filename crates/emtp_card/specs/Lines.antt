@@ -32,11 +32,11 @@ pub record SplitsIntoLines (bytes : List ℕ) : Type 0 where
   pub last : HasNoNewline bytes → bytes ≢ [] → lines_of bytes ≡ bytes ∷ []
 
 -- `C` alone, or `C` and a blank in front
-abbrev pub is_comment : List ℕ → Bool
+unfoldable pub is_comment : List ℕ → Bool
 is_comment line = bytes_eq line (codes "C") || starts_with nat_eq line (codes "C ")
 
 -- all blank, or `BLANK` in front
-abbrev pub is_section_end : List ℕ → Bool
+unfoldable pub is_section_end : List ℕ → Bool
 is_section_end line = list_all is_blank line || starts_with nat_eq line (codes "BLANK")
 
 -- why a byte may not stand in a column, if it may not
@@ -67,5 +67,5 @@ abbrev pub first_fault : ℕ → List ℕ → Option (ℕ × Why)
 first_fault column [] = None
 first_fault column (byte ∷ bytes) = first_of (fault_of_byte column byte) column (first_fault (column + 1) bytes)
 
-abbrev pub fault_of_line : List ℕ → Option (ℕ × Why)
+unfoldable pub fault_of_line : List ℕ → Option (ℕ × Why)
 fault_of_line line = first_fault 1 line

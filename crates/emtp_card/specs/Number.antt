@@ -1,11 +1,12 @@
 -- Numbers of fields: the value in its unit, and what its range makes of it.
-use Rattle.std.specs.Prelude.{ℕ, nat_lt, ℤ, int_lt, unsigned_abs, ◌||◌, List, [], ◌∷◌, Option, Some, None, Result, Ok, Err, if◌then◌else◌}
+use Rattle.std.specs.Prelude.{◌≡◌, ℕ, ◌≤◌, nat_lt, ℤ, pos, neg_ℤ, ◌<ℤ◌, int_lt, unsigned_abs, ◌||◌, List, [], ◌∷◌, Option, Some, None, Result, Ok, Err, if◌then◌else◌}
 use Rattle.std.specs.Int.{int_min, int_max}
 use Rattle.emtp_card.specs.Decimal.{Decimal, value_in}
 use Rattle.emtp_card.specs.Numeral.{decimal_of}
 use Rattle.emtp_card.specs.Field.{field_of, trimmed}
 use Rattle.emtp_card.specs.declared.reason.Why.{Why}
 use Rattle.emtp_card.specs.declared.reason.Why.TheVariants.{NotANumber, OutOfUnitRange}
+use Rattle.emtp_card.specs.declared.rounding.TheConstants.{MOST}
 
 abbrev pub valued : ℤ → Option Decimal → Result ℤ Why
 valued scale None = Err NotANumber
@@ -52,3 +53,15 @@ held_field line first last scale low high =
 -- a text read as a number of any length
 unfoldable pub read_number_of : List ℕ → ℤ → ℤ → Result ℤ Why
 read_number_of text scale limit = in_limit limit (number_in scale (trimmed text))
+
+-- what the code reads of a value is the value, or beyond the greatest limit on the value's side
+pub record StandsFor (read value : ℤ) : Type 0 where
+  pub exact : unsigned_abs value ≤ MOST → read ≡ value
+  pub above : pos MOST <ℤ value → pos MOST <ℤ read
+  pub below : value <ℤ neg_ℤ (pos MOST) → read <ℤ neg_ℤ (pos MOST)
+
+abbrev pub Reads : Result ℤ Why → Result ℤ Why → Type 0
+Reads (Ok read) (Ok value) = StandsFor read value
+Reads (Ok read) (Err why) = ⊥
+Reads (Err cause) (Ok value) = ⊥
+Reads (Err cause) (Err why) = cause ≡ why

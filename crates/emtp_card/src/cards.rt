@@ -23,7 +23,7 @@ pub struct Cards<'a> {
 
 impl<'a> Model for Cards<'a> {
     ghost use Rattle.std.specs.Prelude.{List, ℕ, map};
-    ghost use Rattle.emtp_card.specs.Size.{AreInSize};
+    ghost use Rattle.emtp_card.specs.Cards.{AreInSize};
     ghost use Rattle.std.specs.Borrow.{Bor};
 
     ghost Value = { List (List ℕ) };

@@ -31,7 +31,6 @@ pub use lines::{Line, comment, ends_section, line_fault};
 pub use name::field_name;
 pub use number::{field_held, field_number, read_number};
 pub use reason::{Bad, Refused, Why};
-pub use rounding::MOST;
 pub use whole::field_whole;
 
 #[cfg(test)]

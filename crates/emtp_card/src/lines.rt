@@ -4,6 +4,7 @@ ghost use Rattle.std.specs.Prelude.{◌≡◌, ◌+◌, ◌≤◌, length, Match
 ghost use Rattle.std.specs.List.{list_all};
 ghost use Rattle.emtp_card.specs.Lines.{is_blank, is_comment, is_section_end, fault_of_line, fault_of_byte, IsFaultless, IsFirstFault};
 
+use crate::cards::MAX_BYTES;
 use crate::reason::Why;
 
 /// A line of a case: its number, counted from 1, and its bytes without LF or CR LF.
@@ -14,6 +15,7 @@ pub struct Line<'a> {
 }
 
 /// Whether a line is a comment: `C` alone, or `C` and a blank in front.
+#[tactic(auto, unfolding(crate::specs::Lines::is_comment))]
 pub fn comment(line: &[u8]) -> bool
     ensures { result ≡ is_comment line.now }
 {
@@ -21,6 +23,7 @@ pub fn comment(line: &[u8]) -> bool
 }
 
 /// Whether a line ends a section: it is all blank, or begins with `BLANK`.
+#[tactic(auto, unfolding(crate::specs::Lines::is_section_end))]
 pub fn ends_section(line: &[u8]) -> bool
     ensures { result ≡ is_section_end line.now }
 {
@@ -35,8 +38,9 @@ fn all_blank(text: &[u8]) -> bool
 }
 
 /// The first byte of a line that may not stand there: its column, counted from 1, and why.
+#[tactic(auto, unfolding(crate::specs::Lines::fault_of_line))]
 pub fn line_fault(line: &[u8]) -> Option<(u32, Why)>
-    requires { length line.now ≤ 9000000 }
+    requires { length line.now ≤ MAX_BYTES }
     ensures value { result ≡ fault_of_line line.now }
     ensures first { MatchOption result (IsFaultless line.now) (λ fault. IsFirstFault line.now fault.0 fault.1) }
 {

@@ -3,12 +3,10 @@
 ghost use Rattle.std.specs.Prelude.{◌≡◌, ◌+◌, ◌^◌, ◌≤◌, ◌<◌, ◌≤ℤ◌, ◌↔◌, ℤ, pos, unsigned_abs, Some, None, Ok, Result};
 ghost use Rattle.emtp_card.specs.Decimal.{Decimal, signed};
 ghost use Rattle.emtp_card.specs.Field.{columns, trimmed, IsBlank};
-ghost use Rattle.emtp_card.specs.Numeral.{decimal_of};
+ghost use Rattle.emtp_card.specs.Numeral.{decimal_of, meaning_of, IsNumeral};
 ghost use Rattle.emtp_card.specs.Spelling.{Spells};
-ghost use Rattle.emtp_card.specs.Meaning.{meaning_of, IsNumeral};
-ghost use Rattle.emtp_card.specs.Magnitude.{magnitude_in};
-ghost use Rattle.emtp_card.specs.Number.{number_in, in_range, held_in, in_limit, number_field, held_field, read_number_of};
-ghost use Rattle.emtp_card.specs.Reading.{Reads};
+ghost use Rattle.emtp_card.specs.Rounding.{magnitude_in};
+ghost use Rattle.emtp_card.specs.Number.{number_in, in_range, held_in, in_limit, number_field, held_field, read_number_of, Reads};
 ghost use Rattle.emtp_card.specs.declared.reason.Why.{Why};
 
 use crate::field::{field, trim};

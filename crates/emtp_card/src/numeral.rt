@@ -2,8 +2,7 @@
 
 ghost use Rattle.std.specs.Prelude.{◌≡◌, ◌-◌, ◌<◌, ◌≤◌, length, take_while, unsigned_abs, IfSome, option_map};
 ghost use Rattle.std.specs.Char.{is_ascii_digit, IsAsciiDigit};
-ghost use Rattle.emtp_card.specs.Numeral.{sign_of, digits_of, fraction_of, few_digits, power_of, exponent_of, decimal_of};
-ghost use Rattle.emtp_card.specs.Meaning.{meaning_of, IsNumeral, AreDigits};
+ghost use Rattle.emtp_card.specs.Numeral.{sign_of, digits_of, fraction_of, few_digits, power_of, exponent_of, decimal_of, meaning_of, IsNumeral, AreDigits};
 
 /// A spelled number: its sign, the digits before and behind the point, and its power of ten, from
 /// -999 to 999. The digits stay in the text, so their number has no limit.

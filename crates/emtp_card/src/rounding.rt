@@ -7,13 +7,13 @@ ghost use Rattle.std.specs.Prelude.{◌≡◌, ◌+◌, ◌*◌, ◌^◌, ◌<�
 ghost use Rattle.std.specs.Option.{SomeIff};
 ghost use Rattle.emtp_fix.specs.Rounding.{near_abs};
 ghost use Rattle.emtp_card.specs.Decimal.{number_of, with_digits};
-ghost use Rattle.emtp_card.specs.Meaning.{meaning_of, AreDigits, IsNumeral};
-ghost use Rattle.emtp_card.specs.Magnitude.{digits_in, magnitude_in};
+ghost use Rattle.emtp_card.specs.Numeral.{meaning_of, AreDigits, IsNumeral};
+ghost use Rattle.emtp_card.specs.Rounding.{digits_in, magnitude_in};
 
 use crate::numeral::Numeral;
 
 /// The greatest magnitude that is read, in any unit.
-pub const MOST: u128 = 1_000_000_000_000_000_000_000_000_000_000_000_000;
+pub(crate) const MOST: u128 = 1_000_000_000_000_000_000_000_000_000_000_000_000;
 
 impl Numeral<'_> {
     /// The magnitude in a unit of 10^-scale, rounded to a whole number, a half upwards. There is

@@ -6,7 +6,7 @@ ghost use Rattle.std.specs.List.{list_all};
 ghost use Rattle.std.specs.Option.{SomeIff};
 ghost use Rattle.emtp_card.specs.Decimal.{number_of};
 ghost use Rattle.emtp_card.specs.Field.{columns, IsBlank};
-ghost use Rattle.emtp_card.specs.Meaning.{AreDigits};
+ghost use Rattle.emtp_card.specs.Numeral.{AreDigits};
 ghost use Rattle.emtp_card.specs.Whole.{all_digits, whole_in, whole_field};
 
 use crate::field::field;
