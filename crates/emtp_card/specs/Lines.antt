@@ -39,7 +39,7 @@ is_comment line = bytes_eq line (codes "C") || starts_with nat_eq line (codes "C
 unfoldable pub is_section_end : List ℕ → Bool
 is_section_end line = list_all is_blank line || starts_with nat_eq line (codes "BLANK")
 
--- why a byte may not stand in a column, if it may not
+-- why a byte may not stand in a column, if it may not: it isn't from 0x20 to 0x7E, or is no blank past column 80
 abbrev pub fault_of_byte : ℕ → ℕ → Option Why
 fault_of_byte column byte = if nat_lt byte 32 || nat_lt 126 byte then Some ByteOutside else if nat_lt 80 column && not (is_blank byte) then Some PastColumn80 else None
 
@@ -57,12 +57,12 @@ pub record IsFirstFault (line : List ℕ) (column : ℕ) (why : Why) : Type 0 wh
   pub here : fault_at line (column - 1) ≡ Some why
   pub before : (place : ℕ) → place + 1 < column → fault_at line place ≡ None
 
--- the first byte that may not stand where it does, and its column, where the bytes begin at a column
 -- a fault here, or else a later one
 abbrev pub first_of : Option Why → ℕ → Option (ℕ × Why) → Option (ℕ × Why)
 first_of (Some why) column later = Some (column, why)
 first_of None column later = later
 
+-- the first byte that may not stand where it does, and its column, of bytes that begin at a column
 abbrev pub first_fault : ℕ → List ℕ → Option (ℕ × Why)
 first_fault column [] = None
 first_fault column (byte ∷ bytes) = first_of (fault_of_byte column byte) column (first_fault (column + 1) bytes)

@@ -5,7 +5,7 @@ use Rattle.std.specs.List.{list_all}
 use Rattle.emtp_card.specs.Decimal.{Decimal, signed, number_of}
 use Rattle.emtp_card.specs.declared.numeral.Numeral.{Numeral}
 
--- a sign in front or none, whether it is a minus, and what stands behind it
+-- a sign in front, `+` or `-`, or none: whether it is a minus, and what stands behind it
 abbrev pub sign_of : List ℕ → Bool × List ℕ
 sign_of [] = (false, [])
 sign_of (byte ∷ bytes) = if byte == 43 then (false, bytes) else if byte == 45 then (true, bytes) else (false, byte ∷ bytes)
@@ -14,7 +14,7 @@ sign_of (byte ∷ bytes) = if byte == 43 then (false, bytes) else if byte == 45 
 abbrev pub digits_of : List ℕ → List ℕ × List ℕ
 digits_of bytes = (take_while is_ascii_digit bytes, drop (length (take_while is_ascii_digit bytes)) bytes)
 
--- the digits behind a point in front, and what stands behind them; no digits where there is no point
+-- the digits behind a point, `.`, in front, and what stands behind them; none where there is no point
 abbrev pub fraction_of : List ℕ → List ℕ × List ℕ
 fraction_of [] = ([], [])
 fraction_of (byte ∷ bytes) = if byte == 46 then digits_of bytes else ([], byte ∷ bytes)

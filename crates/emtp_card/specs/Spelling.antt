@@ -3,6 +3,7 @@ use Rattle.std.specs.Prelude.{◌≡◌, ◌≢◌, ℕ, ◌+◌, ◌≤◌, ℤ
 use Rattle.emtp_card.specs.Decimal.{Decimal, signed, number_of}
 use Rattle.emtp_card.specs.Numeral.{composed, is_marker, AreDigits}
 
+-- a sign, `+` or `-`, or none
 pub data Sign : Type 0 where
   Unsigned : Sign
   Plus : Sign
@@ -18,7 +19,7 @@ is_minus Unsigned = false
 is_minus Plus = false
 is_minus Minus = true
 
--- a point and digits, or neither
+-- a point, `.`, and digits, or neither
 abbrev pub fraction_text : Option (List ℕ) → List ℕ
 fraction_text None = []
 fraction_text (Some digits) = 46 ∷ digits

@@ -1,5 +1,4 @@
 use Rattle.std.proofs.Common.{◌≡◌, ◌∙◌, sym, ◌+◌, true, false, refl}
-use Rattle.std.specs.List.{list_any}
 use Rattle.emtp_card.specs.Field.{columns}
 use Rattle.emtp_card.specs.Name.{is_comma}
 use Rattle.emtp_card.proofs.Blanks.{list_any-blank}
