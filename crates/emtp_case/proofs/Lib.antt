@@ -2,3 +2,9 @@ pub mod Growth
 pub mod Threes
 pub mod Sources
 pub mod DraftSteps
+pub mod Places
+pub mod SwitchTimes
+pub mod Ordered
+pub mod NodeOrder
+pub mod RowTables
+pub mod KeyCompared

@@ -9,3 +9,8 @@ pub mod Channel
 pub mod History
 pub mod Case
 pub mod OneProof
+pub mod Node
+pub mod ChannelName
+pub mod StepRecord
+pub mod RowTable
+pub mod RowOrder

@@ -3,8 +3,9 @@ use Rattle.emtp_case.specs.Range.{AreEnds, IsBetween}
 use Rattle.emtp_case.specs.declared.switch.Switch.{Switch}
 use Rattle.emtp_case.specs.declared.switch.SwitchKind.{SwitchKind}
 use Rattle.emtp_case.specs.declared.switch.SwitchKind.TheVariants.{Control, Measuring, Time, Valve}
+use Rattle.emtp_case.specs.declared.switch.Times.{Times}
 use Rattle.std.specs.Option.{ForSome}
-use Rattle.std.specs.Prelude.{◌^◌, ◌<◌, ◌≤◌, Option, unsigned_abs, ℕ, ℤ}
+use Rattle.std.specs.Prelude.{◌^◌, ◌<◌, ◌≤◌, ◌∷◌, if◌then◌else◌, [], Bool, List, Option, false, true, unsigned_abs, ℕ, ℤ}
 
 -- a closing time and an opening time, if there is one
 pub record HasTimes (close : ℤ) (open_at : Option ℤ) : Type 0 where
@@ -23,3 +24,28 @@ IsSwitchKind vars (Control control) = control < vars
 pub record IsSwitch (nodes vars : ℕ) (s : Switch) : Type 0 where
   pub ends : AreEnds nodes s.from s.to
   pub kind : IsSwitchKind vars s.kind
+
+abbrev pub is_time_kind : SwitchKind → Bool
+is_time_kind (Time close open_at margin) = true
+is_time_kind Measuring = false
+is_time_kind (Valve ignition holding control) = false
+is_time_kind (Control control) = false
+
+abbrev pub is_time_switch : Switch → Bool
+is_time_switch s = is_time_kind s.kind
+
+-- a time switch with other times
+abbrev pub kind_with : SwitchKind → Times → SwitchKind
+kind_with (Time close open_at margin) t = Time t.close t.open_at margin
+kind_with Measuring t = Measuring
+kind_with (Valve ignition holding control) t = Valve ignition holding control
+kind_with (Control control) t = Control control
+
+abbrev pub switch_with : Switch → Times → Switch
+switch_with s t = record s { kind = kind_with s.kind t }
+
+-- the switches, where each time switch has the times of its place among them
+abbrev pub with_times : List Switch → List Times → List Switch
+with_times [] times = []
+with_times (s ∷ ss) [] = s ∷ with_times ss []
+with_times (s ∷ ss) (t ∷ times) = switch_with s t ∷ with_times ss (if is_time_switch s then times else t ∷ times)

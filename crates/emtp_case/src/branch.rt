@@ -1,6 +1,8 @@
 //! The branches of a network: series branches, travelling-wave lines, pseudo-nonlinear branches and the phases of
 //! transposed three-phase lines.
 
+ghost use Rattle.std.specs.Prelude.{◌≡◌};
+
 /// A series branch of a resistance, an inductance and a capacitance. A part of 0 is absent.
 #[derive(Clone, Copy, Debug, PartialEq, Eq)]
 pub struct Lumped {
@@ -16,6 +18,19 @@ pub struct Lumped {
     pub l: i64,
     /// The capacitance, in fF: from 0 to 10^15.
     pub c: i64,
+}
+
+/// What a series branch keeps of a step.
+#[derive(Clone, Copy, Debug, PartialEq, Eq)]
+pub struct LumpedState {
+    /// The branch current, in nA: to 10^18 in magnitude.
+    pub current: i64,
+    /// The voltage of the inductance, in nV: to 10^18 in magnitude.
+    pub v_l: i64,
+    /// The voltage of the capacitance, in nV: to 10^18 in magnitude.
+    pub v_c: i64,
+    /// The voltage that drives the history current of the next step, in nV: to 10^18 in magnitude.
+    pub e: i64,
 }
 
 /// A single travelling-wave line, with its losses lumped at the two ends and in the middle.
@@ -102,4 +117,32 @@ pub enum Branch {
     Pseudo(Pseudo),
     /// One phase of a transposed three-phase line.
     Phase(Phase),
+}
+
+impl Branch {
+    ghost use Rattle.emtp_case.specs.Branch.{from_of, to_of, line_of};
+
+    /// Its two nodes, `from` and `to`; 0 is ground.
+    pub fn ends(&self) -> (u32, u32)
+        ensures { result ≡ (from_of self.now, to_of self.now) }
+    {
+        match self {
+            Branch::Lumped(b) => (b.from, b.to),
+            Branch::Line(b) => (b.from, b.to),
+            Branch::Pseudo(b) => (b.from, b.to),
+            Branch::Phase(b) => (b.from, b.to),
+        }
+    }
+
+    /// The number of its card's line.
+    pub fn line(&self) -> u32
+        ensures { result ≡ line_of self.now }
+    {
+        match self {
+            Branch::Lumped(b) => b.line,
+            Branch::Line(b) => b.line,
+            Branch::Pseudo(b) => b.line,
+            Branch::Phase(b) => b.line,
+        }
+    }
 }

@@ -1,6 +1,9 @@
 //! A case: the records of its cards, which fit each other.
 
-ghost use Rattle.std.specs.Prelude.{◌≡◌};
+ghost use Rattle.std.specs.Prelude.{◌≡◌, ◌≢◌, ◌-◌, ◌≤◌, length, count_by, position, slice_get, All, IsNone, IfSome};
+ghost use Rattle.std.specs.Str.{bytes_eq};
+ghost use Rattle.emtp_case.specs.Node.{node_of};
+ghost use Rattle.emtp_case.specs.Switch.{HasTimes, is_time_switch, with_times};
 ghost use Rattle.emtp_case.specs.Case.{IsCase};
 ghost use Rattle.emtp_case.specs.OneProof.{IsCase-prop};
 
@@ -11,7 +14,7 @@ use crate::items::Items;
 use crate::name::Name;
 use crate::run_data::RunData;
 use crate::source::Source;
-use crate::switch::Switch;
+use crate::switch::{Switch, Times};
 
 /// The records of a case, as the cards give them.
 #[derive(Debug, Drop)]
@@ -57,5 +60,47 @@ impl Case {
         ensures { result.parts ≡ parts }
     {
         Case { parts }
+    }
+
+    /// The number of the node with a name, from 1; none where no node has it.
+    pub fn node(&self, name: &str) -> Option<u32>
+        ensures value { result ≡ node_of self.now.parts name.now }
+        ensures found { IfSome result (λ n. (1 ≤ n) × (slice_get self.now.parts.nodes (n - 1) ≡ Some name.now)) }
+        ensures missing { IsNone result → All (λ node. node ≢ name.now) self.now.parts.nodes }
+    {
+        match first_place(self.parts.nodes.as_slice(), name.as_bytes()) {
+            Some(at) => Some(at as u32 + 1),
+            None => None,
+        }
+    }
+
+    /// Gives the time switches other times, one entry each, in card order. Nothing else changes.
+    pub fn set_times(&mut self, times: &[Times])
+        requires count { length times.now ≡ count_by is_time_switch self.old.parts.switches }
+        requires small { All (λ (t : Times). HasTimes t.close t.open_at) times.now }
+        ensures { self.new.parts ≡ record self.old.parts { switches = with_times self.old.parts.switches times.now } }
+    {
+        set_switch_times(&mut self.parts.switches, times);
+    }
+}
+
+/// The first place of a name.
+fn first_place(names: &[Name], name: &[u8]) -> Option<usize>
+    ensures { result ≡ position (λ n. bytes_eq n name.now) names.now }
+{
+    names.iter().position(|n| n.as_slice() == name)
+}
+
+fn set_switch_times(switches: &mut Items<Switch>, times: &[Times])
+    requires { length times.now ≡ count_by is_time_switch switches.old }
+    ensures { switches.new ≡ with_times switches.old times.now }
+{
+    let mut next = 0;
+    for at in 0..switches.len() {
+        let switch = switches.as_slice()[at];
+        if switch.is_time() {
+            switches.set(at, switch.with_times(times[next]));
+            next += 1;
+        }
     }
 }

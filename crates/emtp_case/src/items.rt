@@ -1,6 +1,6 @@
 //! A list of records, which contracts see as the list of its items.
 
-ghost use Rattle.std.specs.Prelude.{◌≡◌, ◌++◌, [], ◌∷◌, ◌↔◌, length, take, IsTrue, OnOk, OnErr, IfErr};
+ghost use Rattle.std.specs.Prelude.{◌≡◌, ◌++◌, [], ◌∷◌, ◌↔◌, ◌<◌, length, take, slice_set, IsTrue, OnOk, OnErr, IfErr};
 
 use std::alloc::{AllocError, AllocFailed, Global};
 use std::marker::Model;
@@ -87,6 +87,14 @@ impl<T: Copy> Items<T> {
 }
 
 impl<T: Drop> Items<T> {
+    /// Puts an item in the place of another.
+    pub fn set(&mut self, at: usize, item: T)
+        requires { at < length self.old }
+        ensures { self.new ≡ slice_set self.old at item }
+    {
+        self.vec[at] = item;
+    }
+
     /// Keeps the first items.
     pub fn truncate(&mut self, len: usize)
         ensures { self.new ≡ take len self.old }

@@ -1,20 +1,33 @@
 //! The records of a case: what the cards of a network and its control say, in whole numbers.
+//!
+//! A [`Case`] is its records, `case.parts`, and the fact that they fit each other: each number is in its range, each
+//! place exists, each limit is kept. It stands on `emtp_fix` alone, and every crate that reads cards or steps a
+//! network stands on it. A reader fills a [`Draft`] card by card; `CALLING.md` says how a fact is cited.
+//!
+//! ```text
+//! let mut draft = Draft::new(alloc, run)?;
+//! draft.add_node(Name::new(b"SRC"))?;
+//! draft.add_lumped(branch)?;
+//! let case = draft.finish_network();
+//! ```
 #![tactic(auto)]
 
 mod branch;
 mod case;
 mod channel;
+mod channel_name;
 mod control;
 mod draft;
 mod expr;
 mod items;
 mod name;
 mod row_kind;
+mod row_order;
 mod run_data;
 mod source;
 mod switch;
 
-pub use branch::{Branch, Line, Lumped, Phase, Point, Pseudo, Trio};
+pub use branch::{Branch, Line, Lumped, LumpedState, Phase, Point, Pseudo, Trio};
 pub use case::{Case, Parts};
 pub use channel::Channel;
 pub use control::{Block, Bound, Device, Extra, Formula, Group, Input, Limiter};
@@ -23,6 +36,7 @@ pub use expr::{BinaryOp, Expr, UnaryOp};
 pub use items::Items;
 pub use name::Name;
 pub use row_kind::RowKind;
+pub use row_order::{RowOrder, order};
 pub use run_data::RunData;
 pub use source::{Shape, Source};
 pub use switch::{Switch, SwitchKind, SwitchState, Times};

@@ -1,5 +1,7 @@
 //! The switches of a network.
 
+ghost use Rattle.std.specs.Prelude.{◌≡◌};
+
 /// A switch.
 #[derive(Clone, Copy, Debug, PartialEq, Eq)]
 pub struct Switch {
@@ -11,6 +13,33 @@ pub struct Switch {
     pub to: u32,
     /// What opens and closes it.
     pub kind: SwitchKind,
+}
+
+impl Switch {
+    ghost use Rattle.emtp_case.specs.Switch.{is_time_switch, switch_with};
+
+    /// Whether it is a time switch.
+    pub fn is_time(&self) -> bool
+        ensures { result ≡ is_time_switch self.now }
+    {
+        matches!(self.kind, SwitchKind::Time { .. })
+    }
+
+    /// The switch with other times, where it is a time switch.
+    pub(crate) fn with_times(self, times: Times) -> Switch
+        ensures { result ≡ switch_with self times }
+    {
+        let mut switch = self;
+        if let SwitchKind::Time { margin, .. } = self.kind {
+            let Times { close, open_at } = times;
+            switch.kind = SwitchKind::Time {
+                close,
+                open_at,
+                margin,
+            };
+        }
+        switch
+    }
 }
 
 /// What opens and closes a switch.

@@ -1,0 +1,15 @@
+mod Worked
+pub mod Stages
+pub mod Outcomes
+pub mod Products
+pub mod LessenedRows
+pub mod ClearedRows
+pub mod StoredRows
+pub mod PartRows
+pub mod RightSides
+pub mod Reduction
+pub mod Remainders
+pub mod Unknowns
+pub mod Solutions
+pub mod Adding
+pub mod Prefix

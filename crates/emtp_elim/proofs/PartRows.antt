@@ -1,0 +1,152 @@
+-- A row on its way to be finished.
+use Rattle.std.proofs.Common.{◌≡◌, ◌≢◌, ℕ, suc, ◌+◌, ◌^◌, ◌<◌, ◌≤◌, ℤ, pos, unsigned_abs, List, length, refl, ap, sym, ◌∙◌, inl, inr, add-one, arith}
+use Rattle.std.specs.List.{All}
+use Rattle.std.proofs.lemmas.List.{get_or_past, get_or_default}
+use Rattle.std.proofs.lemmas.Bool.{cases_eq, cases_lt}
+use Rattle.emtp_elim.specs.Matrix.{Matrix, item, row_of, entry, AreWithin}
+use Rattle.emtp_elim.specs.Elimination.{quotient, ratio, stage}
+use Rattle.emtp_elim.specs.Fault.{IsRowInRange}
+use Rattle.emtp_elim.specs.Clearing.{IsFinishedRow, IsClearedRow, LeavesRangeAt}
+use Rattle.emtp_elim.specs.Finished.{IsPartRow, IsNext, FinishesRow, FaultsRow}
+use Rattle.emtp_elim.specs.declared.fault.RowCause.TheVariants.{Range, ZeroPivot}
+use Rattle.emtp_elim.proofs.Stages.{entry_start, entry_later}
+
+-- row i stayed in range until the columns before k were cleared
+pub record IsInRangeUpTo (rows : Matrix) (i k : ℕ) : Type 0 where
+  pub entries : (h j : ℕ) → h ≤ k → h ≤ j → j < length (row_of rows i) → unsigned_abs (entry (stage rows h) i j) ≤ 10 ^ 17
+  pub ratios : (h : ℕ) → h < k → unsigned_abs (ratio (stage rows h) h i) ≤ 10 ^ 18
+
+-- the columns before k have been cleared from the row that comes after the finished ones
+pub record IsUnderWay (done : Matrix) (k : ℕ) (given work : List ℤ) : Type 0 where
+  pub ratios : (j : ℕ) → j < k → unsigned_abs (item work j) ≤ 10 ^ 18
+  pub entries : (j : ℕ) → k ≤ j → unsigned_abs (item work j) ≤ 10 ^ 17
+  pub part : (rows : Matrix) → IsNext rows done given → IsPartRow rows (length done) k work
+  pub in_range : (rows : Matrix) → IsNext rows done given → IsInRangeUpTo rows (length done) k
+
+-- ---- one step of one matrix
+
+part_start : (rows done : Matrix) (given : List ℤ) → IsNext rows done given → IsPartRow rows (length done) 0 given
+part_start rows done given next = record {
+  length_is = ap length (sym next.row_is);
+  ratios = λ j h. absurd (omega arith);
+  entries = λ j low inside. sym (entry_start rows (length done) j ∙ ap (λ row. item row j) next.row_is);
+}
+
+part_more : (rows : Matrix) (i k : ℕ) (work above new : List ℤ) → k < i → i < length rows → length above ≡ length work → length new ≡ length work
+    → IsPartRow rows i k work → IsPartRow rows k k above → IsClearedRow k work above new → k < length work → IsPartRow rows i (suc k) new
+part_more rows i k work above new later inside same_above same_new part upper cleared in_work =
+    let ratio_is : item new k ≡ ratio (stage rows k) k i = cleared.ratio_is ∙ rw (part.entries k (omega arith) in_work, upper.entries k (omega arith) (omega arith)) refl in
+    record {
+      length_is = same_new ∙ part.length_is;
+      ratios = λ j low. elim (cases_eq j k) [
+        | inl here ↦ rw here ratio_is
+        | inr other ↦ cleared.before j (omega arith) ∙ part.ratios j (omega arith)
+      ];
+      entries = λ j low in_new.
+          let in_old : j < length work = omega arith in
+          cleared.after j (omega arith) in_old
+          ∙ rw (ratio_is, part.entries j (omega arith) in_old, upper.entries j (omega arith) (omega arith))
+          (sym (entry_later rows k i j later (omega arith) inside (omega (arith, part.length_is))));
+    }
+
+in_range_more : (rows : Matrix) (i k : ℕ) (work above new : List ℤ) → length new ≡ length work → IsInRangeUpTo rows i k → IsPartRow rows i (suc k) new
+    → IsClearedRow k work above new → IsInRangeUpTo rows i (suc k)
+in_range_more rows i k work above new same_new was part cleared = record {
+  entries = λ h j low from_on inside. elim (cases_eq h (suc k)) [
+    | inl here ↦ rw (here, ← part.entries j (omega arith) (omega (arith, part.length_is))) (cleared.within j (omega arith) (omega (arith, part.length_is)))
+    | inr earlier ↦ was.entries h j (omega arith) from_on inside
+  ];
+  ratios = λ h low. elim (cases_eq h k) [
+    | inl here ↦ rw (here, ← part.ratios k (omega arith)) cleared.ratio_within
+    | inr earlier ↦ was.ratios h (omega arith)
+  ];
+}
+
+-- ---- the same, for every matrix that goes on with the row
+
+pub within_from_all : (limit : ℕ) (xs : List ℤ) → All (λ x. unsigned_abs x ≤ limit) xs → AreWithin limit xs
+within_from_all limit xs all i = elim (cases_lt i (length xs)) [
+  | inl inside ↦ all i (pos 0) inside
+  | inr outside ↦ rw (get_or_past xs i (pos 0) outside) (omega arith)
+]
+
+pub underway_start : (done : Matrix) (given : List ℤ) → AreWithin (10 ^ 17) given → IsUnderWay done 0 given given
+underway_start done given small = record {
+  ratios = λ j h. absurd (omega arith);
+  entries = λ j h. small j;
+  part = λ rows next. part_start rows done given next;
+  in_range = λ rows next. record {
+    entries = λ h j low from_on inside. let first : h ≡ 0 = omega arith in
+        rw (first, entry_start rows (length done) j, next.row_is) (small j);
+    ratios = λ h low. absurd (omega arith);
+  };
+}
+
+pub underway_more : (size k : ℕ) (done : Matrix) (given work above new : List ℤ) → IsUnderWay done k given work → k < length done → length done < size
+    → length work ≡ size → length new ≡ size → row_of done k ≡ above → IsFinishedRow size k above → IsClearedRow k work above new
+    → IsUnderWay done (k + 1) given new
+underway_more size k done given work above new was later few same_work same_new above_is finished cleared =
+    let upper : (rows : Matrix) → IsNext rows done given → IsPartRow rows k k above = λ rows next. rw above_is at (next.finished.finished k later) in
+    let part : (rows : Matrix) → IsNext rows done given → IsPartRow rows (length done) (suc k) new = λ rows next.
+    part_more rows (length done) k work above new later next.within (omega (arith, finished.length_is)) (omega arith) (was.part rows next) (upper rows next) cleared (omega arith) in
+    record {
+      ratios = λ j low. elim (cases_eq j k) [
+        | inl here ↦ rw here cleared.ratio_within
+        | inr other ↦ rw (cleared.before j (omega arith)) (was.ratios j (omega arith))
+      ];
+      entries = λ j low. elim (cases_lt j size) [
+        | inl inside ↦ cleared.within j (omega arith) (omega arith)
+        | inr outside ↦ rw (get_or_past new j (pos 0) (omega arith)) (omega arith)
+      ];
+      part = λ rows next. rw (add-one k) (part rows next);
+      in_range = λ rows next. rw (add-one k) (in_range_more rows (length done) k work above new (omega arith) (was.in_range rows next) (part rows next) cleared);
+    }
+
+-- ---- faults
+
+pub faults_start : (done : Matrix) (given : List ℤ) → (All (λ x. unsigned_abs x ≤ 10 ^ 17) given → ⊥) → FaultsRow done given Range
+faults_start done given out = record {
+  is_cause = λ rows next in_range. out (λ j d inside.
+      let same : length (row_of rows (length done)) ≡ length given = ap length next.row_is in
+      let fine = in_range.entries 0 j (omega arith) (omega arith) (omega arith) in
+      rw (get_or_default given j d (pos 0) inside) (rw (entry_start rows (length done) j, next.row_is) at fine));
+}
+
+pub faults_clearing : (size k : ℕ) (done : Matrix) (given work above : List ℤ) → IsUnderWay done k given work → k < length done → length done < size
+    → length work ≡ size → row_of done k ≡ above → IsFinishedRow size k above → LeavesRangeAt k work above → FaultsRow done given Range
+faults_clearing size k done given work above was later few same_work above_is finished out = record {
+  is_cause = λ rows next in_range.
+      let part = was.part rows next in
+      let upper : IsPartRow rows k k above = rw above_is at (next.finished.finished k later) in
+      let ratio_is : quotient (item work k) (item above k) ≡ ratio (stage rows k) k (length done) =
+      rw (part.entries k (omega arith) (omega arith), upper.entries k (omega arith) (omega (arith, finished.length_is))) refl in
+      elim out [
+        | inl ratio_out ↦ omega (arith, rw ratio_is at ratio_out, in_range.ratios k later)
+        | inr (j, low, inside, entry_out) ↦
+            let same = entry_later rows k (length done) j later low next.within (omega (arith, part.length_is)) in
+            let large = rw (ratio_is, part.entries j (omega arith) inside, upper.entries j (omega arith) (omega (arith, finished.length_is)), ← same) at entry_out in
+            omega (arith, large, in_range.entries (suc k) j (omega arith) (omega arith) (omega (arith, part.length_is)))
+      ];
+}
+
+in_range_all : (rows : Matrix) (i : ℕ) → IsInRangeUpTo rows i i → IsRowInRange rows i
+in_range_all rows i all = record { entries = all.entries; ratios = all.ratios }
+
+pub faults_pivot : (size : ℕ) (done : Matrix) (given work : List ℤ) → IsUnderWay done (length done) given work → length done < size
+    → length work ≡ size → item work (length done) ≡ pos 0 → FaultsRow done given ZeroPivot
+faults_pivot size done given work all few same_work zero_pivot = record {
+  is_cause = λ rows next. (
+    in_range_all rows (length done) (all.in_range rows next),
+    sym ((all.part rows next).entries (length done) (omega arith) (omega arith)) ∙ zero_pivot,
+  );
+}
+
+pub finishes : (size : ℕ) (done : Matrix) (given work : List ℤ) → IsUnderWay done (length done) given work → length done < size
+    → length work ≡ size → item work (length done) ≢ pos 0 → FinishesRow done given work
+finishes size done given work all few same_work nonzero = record {
+  finished = all.part;
+  good = λ rows next. record {
+    in_range = in_range_all rows (length done) (all.in_range rows next);
+    nonzero = λ e. nonzero ((all.part rows next).entries (length done) (omega arith) (omega arith) ∙ e);
+  };
+}

@@ -1,0 +1,43 @@
+-- Matrices of whole numbers, each the list of its rows.
+use Rattle.std.specs.Prelude.{◌≡◌, ℕ, zero, suc, ◌<◌, ◌≤◌, ℤ, pos, ◌+ℤ◌, ◌*ℤ◌, unsigned_abs, List, [], length, map, slice_index_or}
+use Rattle.std.specs.List.{range_with_len}
+
+abbrev pub Matrix : Type 0
+Matrix = List (List ℤ)
+
+-- the number at a place of a list, or 0 past its end
+abbrev pub item : List ℤ → ℕ → ℤ
+item xs i = slice_index_or xs i (pos 0)
+
+-- a row, which is empty past the last one
+abbrev pub row_of : Matrix → ℕ → List ℤ
+row_of rows i = slice_index_or rows i []
+
+-- the number in row i and column j, or 0 outside the matrix
+abbrev pub entry : Matrix → ℕ → ℕ → ℤ
+entry rows i j = item (row_of rows i) j
+
+-- the list of the n numbers that f gives
+abbrev pub list_of : ℕ → (ℕ → ℤ) → List ℤ
+list_of n f = map f (range_with_len 0 n)
+
+-- the matrix of the n rows that f gives
+abbrev pub rows_of : ℕ → (ℕ → List ℤ) → Matrix
+rows_of n f = map f (range_with_len 0 n)
+
+-- the matrix of n rows and n columns whose entries f gives
+abbrev pub matrix_of : ℕ → (ℕ → ℕ → ℤ) → Matrix
+matrix_of n f = rows_of n (λ i. list_of n (f i))
+
+-- each row has as many entries as there are rows
+abbrev pub IsSquare : Matrix → Type 0
+IsSquare rows = (i : ℕ) → i < length rows → length (row_of rows i) ≡ length rows
+
+-- no number of the list exceeds the limit in magnitude
+abbrev pub AreWithin : ℕ → List ℤ → Type 0
+AreWithin limit xs = (i : ℕ) → unsigned_abs (item xs i) ≤ limit
+
+-- the first n products of two lists, place by place, added up
+abbrev pub products : List ℤ → List ℤ → ℕ → ℤ
+products xs ys zero = pos 0
+products xs ys (suc n) = products xs ys n +ℤ item xs n *ℤ item ys n

@@ -1,0 +1,47 @@
+// The next row of a matrix, finished by the rows above it.
+ghost use Rattle.std.specs.Prelude.{◌≡◌, ◌↔◌, ℕ, ◌*◌, ◌+◌, ◌^◌, ◌<◌, ◌≤◌, unsigned_abs, length, OnOk, IfErr, IsTrue, All};
+ghost use Rattle.emtp_elim.specs.Matrix.{item};
+ghost use Rattle.emtp_elim.specs.Clearing.{IsFinishedRow};
+ghost use Rattle.emtp_elim.specs.Finished.{FinishesRow, FaultsRow};
+ghost use Rattle.emtp_elim.specs.Stored.{AreStored, rows_in};
+
+use crate::arithmetic::LARGEST_ENTRY;
+use crate::clearing::clear_column;
+use crate::fault::RowCause;
+
+fn are_in_range(entries: &[i128]) -> bool
+    ensures { IsTrue result ↔ All (λ entry. unsigned_abs entry ≤ 10 ^ 17) entries.now }
+{
+    entries
+        .iter()
+        .all(|entry| entry.unsigned_abs() <= LARGEST_ENTRY)
+}
+
+/// Clears the columns before its diagonal from a row, by the `count` finished rows above it.
+pub fn finish_row(
+    values: &[i64],
+    next: &[u16],
+    count: usize,
+    work: &mut [i128],
+) -> Result<(), RowCause>
+    requires stored { AreStored (length work.old) count values.now next.now }
+    requires room { count < length work.old }
+    ensures numbers { OnOk result (IsFinishedRow (length work.old) count work.new) }
+    ensures finished { OnOk result (FinishesRow (rows_in (length work.old) count values.now) work.old work.new) }
+    ensures fault { IfErr result (FaultsRow (rows_in (length work.old) count values.now) work.old) }
+{
+    if !are_in_range(work) {
+        return Err(RowCause::Range);
+    }
+    let size = work.len();
+    for k in 0..count {
+        let at = k * size;
+        if !clear_column(work, &values[at..at + size], &next[at..at + size], k) {
+            return Err(RowCause::Range);
+        }
+    }
+    if work[count] == 0 {
+        return Err(RowCause::ZeroPivot);
+    }
+    Ok(())
+}

@@ -1,0 +1,28 @@
+//! Gauss's elimination in whole numbers: from the first row on, without exchange of rows, each product and quotient
+//! rounded to the nearest whole number.
+//!
+//! A matrix comes row by row ([`Rows`]). [`eliminate_plain`] solves one system from its first row. [`SparseRows`] keeps
+//! finished rows with their ratios, [`eliminate_row`] finishes the next one by them and counts it, and
+//! [`SparseRows::solve`] solves for one right side after another. It stands on `emtp_fix`.
+//!
+//! ```text
+//! 1 0 0     100 A                                        100 V
+//! -1 2 -1   0 A      eliminate_plain(alloc, &rows, ..)    60 V
+//! 0 -1 3    0 A                                           20 V
+//! ```
+#![tactic(auto)]
+
+mod arithmetic;
+mod clearing;
+mod fault;
+mod finishing;
+mod plain;
+mod rows;
+mod sparse;
+mod storing;
+mod substitution;
+
+pub use fault::{PlainFault, RowCause, RowFault, SolveFault};
+pub use plain::eliminate_plain;
+pub use rows::Rows;
+pub use sparse::{SparseRows, eliminate_row};

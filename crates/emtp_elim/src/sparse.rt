@@ -1,0 +1,113 @@
+// The finished rows of a matrix, and the next row finished by them.
+ghost use Rattle.std.specs.Prelude.{◌≡◌, ◌+◌, ◌<◌, ◌≤◌, length, take, [], ◌∷◌, ◌++◌, IfOk, OnOk, OnErr, IfErr, Ok, Err};
+ghost use Rattle.emtp_elim.specs.Finished.{Finished, AddsRow, FaultsRow};
+ghost use Rattle.emtp_elim.specs.Stored.{AreStored, rows_in};
+ghost use Rattle.emtp_elim.specs.Substitution.{SolvesAs};
+ghost use Rattle.emtp_elim.specs.declared.fault.PlainFault.{PlainFault};
+
+use crate::fault::{RowCause, SolveFault};
+use crate::finishing::finish_row;
+use crate::storing::store_next;
+use crate::substitution::solve_rows;
+use emtp_fix::Steps;
+use std::alloc::{AllocError, Global};
+use std::marker::Model;
+use std::sync::ledger::Ledger;
+
+/// The finished rows of a matrix: the ratios to the pivots above before the diagonal, the entries from it on.
+///
+/// `values` has the rows of `size` numbers one after another, in units of 1e-12, and `next` beside each number the place
+/// in its row of the next one that isn't 0. So the work on later rows and right sides meets no zeros.
+#[derive(Drop)]
+pub struct SparseRows {
+    size: usize,
+    count: usize,
+    values: Vec<i64>,
+    next: Vec<u16>,
+}
+
+impl Model for SparseRows {
+    ghost Value = { Finished };
+
+    ghost view = { λ s. record { size = s.size; rows = rows_in s.size s.count s.values.items } };
+
+    ghost invariant = { λ s. AreStored s.size s.count s.values.items s.next.items };
+}
+
+impl SparseRows {
+    /// Room for `size` finished rows, at most 1,000.
+    pub fn open(alloc: Global, size: usize) -> Result<SparseRows, AllocError>
+        requires { size ≤ 1000 }
+        ensures { IfOk result (λ rows. rows ≡ record { size = size; rows = [] }) }
+    {
+        Ok(SparseRows {
+            size,
+            count: 0,
+            values: vec![in alloc; 0i64; size * size]?,
+            next: vec![in alloc; 0u16; size * size]?,
+        })
+    }
+
+    /// How many rows are finished.
+    pub fn rows(&self) -> usize
+        ensures { result ≡ length self.now.rows }
+    {
+        self.count
+    }
+
+    /// Keeps the first rows.
+    pub fn cut(&mut self, rows: usize)
+        requires { rows ≤ length self.old.rows }
+        ensures { self.new ≡ record self.old { rows = take rows self.old.rows } }
+    {
+        self.count = rows;
+    }
+
+    /// Solves the system of the finished rows: the work of the elimination on the right sides, in units of 1e-9, and the
+    /// unknowns from the last row back. `rhs` and `x` hold unstated numbers after a fault.
+    ///
+    /// The answer is that of full elimination of any matrix of which these are the finished rows.
+    pub fn solve(&self, rhs: &mut [i128], x: &mut [i64]) -> Result<(), SolveFault>
+        requires full { length self.now.rows ≡ self.now.size }
+        requires rhs { length rhs.old ≡ self.now.size }
+        requires x { length x.old ≡ self.now.size }
+        ensures solved { OnOk result (SolvesAs self.now.rows rhs.old (Ok x.new)) }
+        ensures fault { IfErr result (λ fault. SolvesAs self.now.rows rhs.old (Err (PlainFault.Solve fault))) }
+    {
+        solve_rows(&self.values, &self.next, rhs, x)
+    }
+
+    /// Finishes the next row of the matrix, and keeps it. After a refusal the rows are as before.
+    pub(crate) fn add(&mut self, work: &mut [i128]) -> Result<(), RowCause>
+        requires size { length work.old ≡ self.old.size }
+        requires room { length self.old.rows < self.old.size }
+        ensures added { OnOk result (AddsRow self.old self.new work.old) }
+        ensures kept { OnErr result (self.new ≡ self.old) }
+        ensures fault { IfErr result (FaultsRow self.old.rows work.old) }
+    {
+        finish_row(&self.values, &self.next, self.count, work)?;
+        store_next(&mut self.values, &mut self.next, self.count, work);
+        self.count += 1;
+        Ok(())
+    }
+}
+
+/// Finishes the next row of the matrix by the finished rows above it, and keeps it. It ticks once, whatever it answers.
+///
+/// `work` holds the row, in units of 1e-12, and unstated numbers afterwards. After a refusal the finished rows are as
+/// before. The cause is that of full elimination of any matrix that goes on with this row after these finished ones.
+pub fn eliminate_row<L: Ledger>(
+    done: &mut SparseRows,
+    work: &mut [i128],
+    steps: &mut Steps<L>,
+) -> Result<(), RowCause>
+    requires size { length work.old ≡ done.old.size }
+    requires room { length done.old.rows < done.old.size }
+    ensures steps { steps.new ≡ steps.old + 1 }
+    ensures added { OnOk result (AddsRow done.old done.new work.old) }
+    ensures kept { OnErr result (done.new ≡ done.old) }
+    ensures fault { IfErr result (FaultsRow done.old.rows work.old) }
+{
+    steps.tick();
+    done.add(work)
+}

@@ -1,0 +1,99 @@
+-- Outputs that grow piece by piece, and a file that is read piece by piece.
+use Rattle.std.proofs.Common.{◌≡◌, ℕ, ◌+◌, ◌≤◌, length, arith, length-append, List, ◌++◌, take, drop, refl, sym, ◌∙◌, ap, subst, append_assoc, Option, Some, None, IsSome}
+use Rattle.std.proofs.Math.Seq.{take-add, take-append-add}
+use Rattle.std.proofs.lemmas.List.{take-append-le, take_rest}
+use Rattle.emtp_io.specs.declared.cabinet.Output.{Output}
+use Rattle.emtp_io.specs.declared.cabinet.Output.TheVariants.{Cfg, Dat, Note, Summary}
+use Rattle.emtp_io.specs.Cabinet.{Entry, Outputs, output, with_output, longer, appended, before_left, HasRoom, GrewByPrefix, TookFront}
+
+pub longer-append : (e : Option Entry) (xs ys : List ℕ) → longer (longer e xs) ys ≡ longer e (xs ++ ys)
+longer-append None xs ys = refl
+longer-append (Some e) xs ys =
+    ap (λ (bytes : List ℕ). Some (record e { bytes = bytes })) (append_assoc e.bytes xs ys)
+
+-- two pieces are one
+pub appended-append : (outs : Outputs) (out : Output) (xs ys : List ℕ)
+    → appended (appended outs out xs) out ys ≡ appended outs out (xs ++ ys)
+appended-append outs Cfg xs ys =
+    ap (λ (e : Option Entry). with_output outs Cfg e) (longer-append outs.cfg xs ys)
+appended-append outs Dat xs ys =
+    ap (λ (e : Option Entry). with_output outs Dat e) (longer-append outs.dat xs ys)
+appended-append outs Note xs ys =
+    ap (λ (e : Option Entry). with_output outs Note e) (longer-append outs.note xs ys)
+appended-append outs Summary xs ys =
+    ap (λ (e : Option Entry). with_output outs Summary e) (longer-append outs.summary xs ys)
+
+-- the next piece of some bytes
+pub appended-next : (outs : Outputs) (out : Output) (bytes : List ℕ) (n m : ℕ)
+    → appended (appended outs out (take n bytes)) out (take m (drop n bytes))
+    ≡ appended outs out (take (n + m) bytes)
+appended-next outs out bytes n m =
+    appended-append outs out (take n bytes) (take m (drop n bytes))
+    ∙ ap (λ (xs : List ℕ). appended outs out xs) (sym (take-add n m bytes))
+
+pub before_left-before_left : (xs ys : List ℕ) (left : Option (List ℕ))
+    → before_left xs (before_left ys left) ≡ before_left (xs ++ ys) left
+before_left-before_left xs ys None = refl
+before_left-before_left xs ys (Some rest) =
+    ap (λ (bytes : List ℕ). Some bytes) (sym (append_assoc xs ys rest))
+
+-- one more piece was read
+pub took-next : (xs ys : List ℕ) (first middle last : Option (List ℕ))
+    → first ≡ before_left xs middle → middle ≡ before_left ys last → TookFront first last
+took-next xs ys first middle last p q = record {
+  front = xs ++ ys;
+  took = p ∙ ap (λ (o : Option (List ℕ)). before_left xs o) q ∙ before_left-before_left xs ys last;
+}
+
+-- what a piece was read from was opened
+pub opened-before : (xs : List ℕ) (first last : Option (List ℕ))
+    → first ≡ before_left xs last → IsSome last → IsSome first
+opened-before xs first None p some = cc
+opened-before xs first (Some rest) p some = subst (λ (o : Option (List ℕ)). IsSome o) (sym p) some
+
+-- one more turn of a loop over `write` or `read`
+pub ruleset pieces = (appended-next, take_rest, took-next, opened-before)
+
+-- the first part stopped
+pub grew-first : (old new : Outputs) (out : Output) (xs ys : List ℕ)
+    → GrewByPrefix old new out xs → GrewByPrefix old new out (xs ++ ys)
+grew-first old new out xs ys grew = record {
+  count = grew.count;
+  within = omega (arith, length-append xs ys, grew.within);
+  grew = grew.grew ∙ ap (λ (bytes : List ℕ). appended old out bytes) (sym (take-append-le grew.count xs ys grew.within));
+}
+
+-- the first part is whole, and the second stopped
+pub grew-second : (old middle new : Outputs) (out : Output) (xs ys : List ℕ)
+    → middle ≡ appended old out xs → GrewByPrefix middle new out ys → GrewByPrefix old new out (xs ++ ys)
+grew-second old middle new out xs ys whole grew = record {
+  count = length xs + grew.count;
+  within = omega (arith, length-append xs ys, grew.within);
+  grew =
+      grew.grew
+      ∙ ap (λ (outs : Outputs). appended outs out (take grew.count ys)) whole
+      ∙ appended-append old out xs (take grew.count ys)
+      ∙ ap (λ (bytes : List ℕ). appended old out bytes) (sym (take-append-add xs ys grew.count));
+}
+
+room_after : (e : Option Entry) (xs : List ℕ) (more room : ℕ)
+    → HasRoom e (length xs + more) room → HasRoom (longer e xs) more room
+room_after None xs more room has = has
+room_after (Some e) xs more room has = omega (arith, length-append e.bytes xs, has)
+
+-- what was written leaves room for the rest
+pub room-appended : (old : Outputs) (out : Output) (xs : List ℕ) (more room : ℕ)
+    → HasRoom (output old out) (length xs + more) room → HasRoom (output (appended old out xs) out) more room
+room-appended old Cfg xs more room has = room_after old.cfg xs more room has
+room-appended old Dat xs more room has = room_after old.dat xs more room has
+room-appended old Note xs more room has = room_after old.note xs more room has
+room-appended old Summary xs more room has = room_after old.summary xs more room has
+
+-- fewer bytes have room too
+pub room_less : (e : Option Entry) (more less room : ℕ)
+    → less ≤ more → HasRoom e more room → HasRoom e less room
+room_less None more less room le has = has
+room_less (Some e) more less room le has = omega (arith, has)
+
+-- a front of the next piece, as `write` and `write_all` leave it
+pub ruleset growth = (appended-append, grew-first, grew-second, room-appended)

@@ -1,0 +1,7 @@
+pub mod Buffer
+pub mod Cabinet
+pub mod Calls
+pub mod Disk
+pub mod Files
+pub mod Memory
+pub mod Writes

@@ -1,0 +1,244 @@
+// The real files of a runtime. A cabinet of these tells nothing of what they hold.
+ghost use Rattle.std.specs.Prelude.{◌≡◌, ◌<◌, ◌≤◌, true, false, length, is_some, None, IfSome, IsTrue, IsNone, IsSome, OnSome, OnOk, OnErr, IfOk};
+ghost use Rattle.std.specs.Bool.{OnTrue, OnFalse};
+ghost use Rattle.emtp_io.specs.Cabinet.{untold, no_outputs, one_more, HasCause};
+ghost use Rattle.emtp_io.specs.Disk.{Disk, is_created, with_created};
+
+use crate::count::raise;
+use crate::{Cabinet, Failed, Output};
+use std::io::{ErrorKind, Read, Write};
+use std::marker::Model;
+use std::rt::Files;
+use std::{fs, io};
+
+/// The files of the runtime `rt`. Notes and summaries go to its standard output.
+///
+/// This is the trusted edge: no clause can say what a file or a terminal holds, so it is not calm and
+/// tells nothing of content. Its clauses say what is open and created, and when the counts rise.
+#[derive(Drop)]
+pub struct DiskCabinet<R: Files + Print + Drop> {
+    rt: R,
+    input: Option<R::File>,
+    cfg: Option<R::File>,
+    dat: Option<R::File>,
+    note_created: bool,
+    summary_created: bool,
+    faults_in: u64,
+    faults_out: u64,
+}
+
+impl<R: Files + Print + Drop> Model for DiskCabinet<R> {
+    ghost Value = { Disk };
+
+    ghost view = { λ d. record {
+      is_open = is_some d.input;
+      cfg = is_some d.cfg;
+      dat = is_some d.dat;
+      note = d.note_created;
+      summary = d.summary_created;
+      faults_in = d.faults_in;
+      faults_out = d.faults_out;
+    } };
+}
+
+impl<R: Files + Print + Drop> DiskCabinet<R> {
+    /// A cabinet over this runtime, with no file opened and no output created.
+    pub fn new(rt: R) -> DiskCabinet<R>
+        ensures { result ≡ record {
+          is_open = false;
+          cfg = false;
+          dat = false;
+          note = false;
+          summary = false;
+          faults_in = 0;
+          faults_out = 0;
+        } }
+    {
+        DiskCabinet {
+            rt,
+            input: None,
+            cfg: None,
+            dat: None,
+            note_created: false,
+            summary_created: false,
+            faults_in: 0,
+            faults_out: 0,
+        }
+    }
+}
+
+// Writes to the standard output, for an output that was created.
+fn print_some<R: Print>(rt: &R, created: bool, piece: &[u8]) -> Option<usize>
+    ensures created { OnSome result (IsTrue created) }
+    ensures bound { IfSome result (λ n. n ≤ length piece.now) }
+    ensures some { IfSome result (λ n. 0 < length piece.now → 0 < n) }
+{
+    if !created {
+        return None;
+    }
+    write_some(&mut io::writer(rt), piece)
+}
+
+// Reads once, and again where a signal interrupts it.
+fn read_some<F: Read>(file: &mut F, buf: &mut [u8]) -> Option<usize>
+    ensures { IfSome result (λ n. n ≤ length buf.new) }
+{
+    for _ in 0..u64::MAX {
+        match file.read(buf) {
+            Ok(count) => return Some(count),
+            Err(error) if error.kind() == ErrorKind::Interrupted => {}
+            Err(_) => return None,
+        }
+    }
+    None
+}
+
+// Writes once, and again where a signal interrupts it. A write that takes no byte of some is a failure.
+fn write_some<F: Write>(file: &mut F, piece: &[u8]) -> Option<usize>
+    ensures bound { IfSome result (λ n. n ≤ length piece.now) }
+    ensures some { IfSome result (λ n. 0 < length piece.now → 0 < n) }
+{
+    for _ in 0..u64::MAX {
+        match file.write(piece) {
+            Ok(0) if !piece.is_empty() => return None,
+            Ok(count) => return Some(count),
+            Err(error) if error.kind() == ErrorKind::Interrupted => {}
+            Err(_) => return None,
+        }
+    }
+    None
+}
+
+// Reads from a file that was opened.
+fn read_from<F: Read>(file: &mut Option<F>, buf: &mut [u8]) -> Option<usize>
+    ensures opened { OnSome result (IsSome file.old) }
+    ensures same { is_some file.new ≡ is_some file.old }
+    ensures bound { IfSome result (λ n. n ≤ length buf.new) }
+{
+    read_some(file.as_mut()?, buf)
+}
+
+// Writes to a file that was created.
+fn write_to<F: Write>(file: &mut Option<F>, piece: &[u8]) -> Option<usize>
+    ensures created { OnSome result (IsSome file.old) }
+    ensures same { is_some file.new ≡ is_some file.old }
+    ensures bound { IfSome result (λ n. n ≤ length piece.now) }
+    ensures some { IfSome result (λ n. 0 < length piece.now → 0 < n) }
+{
+    write_some(file.as_mut()?, piece)
+}
+
+// Makes a file empty, and puts it in place of the one before. Where that fails, the one before stays.
+fn create_file<R: Files>(rt: &R, name: &str, file: &mut Option<R::File>) -> bool
+    ensures created { OnTrue result (IsSome file.new) }
+    ensures kept { OnFalse result (file.new ≡ file.old) }
+{
+    match fs::create(rt, name) {
+        Ok(created) => {
+            *file = Some(created);
+            true
+        }
+        Err(_) => false,
+    }
+}
+
+impl<R: Files + Print + Drop> Cabinet for DiskCabinet<R> {
+    ghost faults_in = { λ d. d.faults_in };
+
+    ghost faults_out = { λ d. d.faults_out };
+
+    ghost nature = { λ _. untold };
+
+    ghost left = { λ _. None };
+
+    ghost outputs = { λ _. no_outputs };
+
+    fn open(&mut self, name: &str) -> Result<(), Failed>
+        ensures cause { HasCause self.old.faults_in self.new.faults_in result }
+        ensures other { self.new.faults_out ≡ self.old.faults_out }
+        ensures ok { OnOk result (self.new ≡ record self.old { is_open = true }) }
+        ensures err { OnErr result
+            (self.new ≡ record self.old { faults_in = one_more self.old.faults_in }) }
+    {
+        match fs::open(&self.rt, name) {
+            Ok(file) => {
+                self.input = Some(file);
+                Ok(())
+            }
+            Err(_) => {
+                raise(&mut self.faults_in);
+                Err(Failed)
+            }
+        }
+    }
+
+    fn read(&mut self, buf: &mut [u8]) -> Result<usize, Failed>
+        ensures cause { HasCause self.old.faults_in self.new.faults_in result }
+        ensures other { self.new.faults_out ≡ self.old.faults_out }
+        ensures opened { OnOk result (IsTrue self.old.is_open) }
+        ensures bound { IfOk result (λ n. n ≤ length buf.new) }
+        ensures ok { OnOk result (self.new ≡ self.old) }
+        ensures err { OnErr result
+            (self.new ≡ record self.old { faults_in = one_more self.old.faults_in }) }
+    {
+        match read_from(&mut self.input, buf) {
+            Some(count) => Ok(count),
+            None => {
+                raise(&mut self.faults_in);
+                Err(Failed)
+            }
+        }
+    }
+
+    fn create(&mut self, out: Output, name: &str) -> Result<(), Failed>
+        ensures cause { HasCause self.old.faults_out self.new.faults_out result }
+        ensures other { self.new.faults_in ≡ self.old.faults_in }
+        ensures ok { OnOk result (self.new ≡ with_created self.old out) }
+        ensures err { OnErr result
+            (self.new ≡ record self.old { faults_out = one_more self.old.faults_out }) }
+    {
+        let created = match out {
+            Output::Cfg => create_file(&self.rt, name, &mut self.cfg),
+            Output::Dat => create_file(&self.rt, name, &mut self.dat),
+            Output::Note => {
+                self.note_created = true;
+                true
+            }
+            Output::Summary => {
+                self.summary_created = true;
+                true
+            }
+        };
+        if created {
+            Ok(())
+        } else {
+            raise(&mut self.faults_out);
+            Err(Failed)
+        }
+    }
+
+    fn write(&mut self, out: Output, piece: &[u8]) -> Result<usize, Failed>
+        ensures cause { HasCause self.old.faults_out self.new.faults_out result }
+        ensures other { self.new.faults_in ≡ self.old.faults_in }
+        ensures created { OnOk result (IsTrue (is_created self.old out)) }
+        ensures bound { IfOk result (λ n. n ≤ length piece.now) }
+        ensures some { IfOk result (λ n. 0 < length piece.now → 0 < n) }
+        ensures ok { OnOk result (self.new ≡ self.old) }
+        ensures err { OnErr result
+            (self.new ≡ record self.old { faults_out = one_more self.old.faults_out }) }
+    {
+        let count = match out {
+            Output::Cfg => write_to(&mut self.cfg, piece),
+            Output::Dat => write_to(&mut self.dat, piece),
+            Output::Note => print_some(&self.rt, self.note_created, piece),
+            Output::Summary => print_some(&self.rt, self.summary_created, piece),
+        };
+        match count {
+            Some(count) => Ok(count),
+            None => {
+                raise(&mut self.faults_out);
+                Err(Failed)
+            }
+        }
+    }
+}

@@ -1,0 +1,31 @@
+//! The files of the outside, behind one trait.
+//!
+//! [`Cabinet`] opens and reads named files and makes four outputs. Its clauses say what each call reads
+//! and writes, and that each refusal has its cause in a count. [`read_all`] and [`write_all`] go over a
+//! whole file and over whole texts. [`DiskCabinet`] works on real files; [`MemoryCabinet`] keeps all in
+//! memory, and fails where it is told to. It stands on std alone.
+//!
+//! ```text
+//! cab.open("divider.case")?;
+//! let bytes = read_all(alloc, cab, 9_000_001)?;
+//! cab.create(Output::Note, "")?;
+//! write_all(cab, Output::Note, b"USAGE")?;
+//! ```
+#![tactic(auto)]
+
+mod buffer;
+mod cabinet;
+mod calls;
+mod count;
+mod disk;
+mod files;
+mod memory;
+#[cfg(test)]
+mod tests;
+mod whole;
+
+pub use cabinet::{Cabinet, Failed, Output};
+pub use calls::{Failing, Op};
+pub use disk::DiskCabinet;
+pub use memory::MemoryCabinet;
+pub use whole::{ReadEnd, read_all, write_all};

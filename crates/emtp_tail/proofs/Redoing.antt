@@ -1,0 +1,140 @@
+-- How far a new matrix agrees with the good rows, and the rows that are redone.
+use Rattle.std.proofs.Common.{◌≡◌, ◌≢◌, ℕ, ◌+◌, ◌-◌, ◌*◌, ◌<◌, ◌≤◌, Bool, true, false, not, ℤ, int_eq, List, [], ◌∷◌, ◌++◌, length, take, slice_range, refl, ap, sym, ◌∙◌, inl, inr, arith}
+use Rattle.std.proofs.lemmas.List.{get_or-take, length-take-le, take_more, take_all, take-take, take-append-le, ext_get_or}
+use Rattle.std.specs.Cmp.Lexicographic.{pointwise}
+use Rattle.std.proofs.lemmas.Slice.Eq.{slice_eq-Decides}
+use Rattle.std.proofs.lemmas.Bool.Decides.{Decides-int_eq}
+use Rattle.std.proofs.lemmas.Bool.{cases_eq, both_ways, not-true, not-false}
+use Rattle.std.proofs.lemmas.Nat.{row_fits}
+use borrow.Rule.Slice.PartMut.{put_mid}
+use Rattle.emtp_elim.specs.Matrix.{Matrix, row_of}
+use Rattle.emtp_elim.specs.Finished.{Finished, AreFinished, AddsRow}
+use Rattle.emtp_elim.specs.Stored.{rows_in}
+use Rattle.emtp_elim.proofs.StoredRows.{length-rows_in, row_of-rows_in, rows_in-same, take-rows_in, length-put_row, row_kept, put_rows}
+use Rattle.emtp_elim.proofs.Adding.{AreFinishedUpTo, finished_more, row_fault_next}
+use Rattle.emtp_elim.proofs.Prefix.{AgreeBelow, finished_same, finished_first}
+use Rattle.emtp_tail.specs.Good.{IsFirstChange}
+use Rattle.emtp_tail.specs.Keeping.{IsKept, IsRedone}
+
+-- ---- the first change
+
+-- the rows before row i are the same
+pub record IsSameUpTo (old new : Matrix) (i : ℕ) : Type 0 where
+  pub within : i ≤ length old
+  pub same : (h : ℕ) → h < i → row_of old h ≡ row_of new h
+
+pub same_none : (old new : Matrix) → IsSameUpTo old new 0
+same_none old new = record { within = omega arith; same = λ h low. absurd (omega arith); }
+
+pub same_more : (old new : Matrix) (i : ℕ) → IsSameUpTo old new i → i < length old → row_of new i ≡ row_of old i → IsSameUpTo old new (i + 1)
+same_more old new i was inside here = record {
+    within = omega arith;
+    same = λ h low. elim (cases_eq h i) [
+      | inl last ↦ rw last (sym here)
+      | inr earlier ↦ was.same h (omega arith)
+    ];
+  }
+
+pub change_here : (old new : Matrix) (i : ℕ) → IsSameUpTo old new i → row_of new i ≢ row_of old i → IsFirstChange old new i
+change_here old new i was other = record {
+    within = was.within;
+    same = was.same;
+    differs = λ inside e. other (sym e);
+  }
+
+pub change_none : (old new : Matrix) (i : ℕ) → IsSameUpTo old new i → length old ≤ i → IsFirstChange old new i
+change_none old new i was all = record {
+    within = was.within;
+    same = was.same;
+    differs = λ inside. absurd (omega arith);
+  }
+
+-- what the comparison of two rows says
+pub rows_differ : (xs ys : List ℤ) (r : Bool) → r ≡ not (pointwise int_eq xs ys) → r ≡ true → xs ≢ ys
+rows_differ xs ys r e differs same =
+    let decides = slice_eq-Decides Decides-int_eq xs ys (pointwise int_eq xs ys) refl in
+    both_ways (pointwise int_eq xs ys) (not-true (pointwise int_eq xs ys) (sym e ∙ differs)) (decides.1 same)
+
+pub rows_equal : (xs ys : List ℤ) (r : Bool) → r ≡ not (pointwise int_eq xs ys) → r ≡ false → xs ≡ ys
+rows_equal xs ys r e same =
+    (slice_eq-Decides Decides-int_eq xs ys (pointwise int_eq xs ys) refl).0 (not-false (pointwise int_eq xs ys) (sym e ∙ same))
+
+-- ---- the rows that are redone
+
+-- the first i rows of the new matrix are finished, and each from `first` on has ticked
+pub record IsRedoing (rows : Matrix) (first i : ℕ) (given work : List ℤ) (old : Matrix) (done : Finished) (before ticks : ℕ) : Type 0 where
+  pub from_first : first ≤ i
+  pub few : length rows ≤ 1000
+  pub room : length given ≡ length rows * length rows
+  pub room_work : length work ≡ length rows
+  pub given_first : rows_in (length rows) i given ≡ take i rows
+  pub finished : AreFinishedUpTo rows i done
+  pub earlier : take first done.rows ≡ take first old
+  pub ticked : ticks + first ≡ before + i
+
+-- the rows before the first change stay finished
+pub redoing_start : (rows : Matrix) (first : ℕ) (given work : List ℤ) (old new : Finished) (ticks : ℕ) → IsKept (length rows) given work old
+    → IsFirstChange (rows_in (length rows) (length old.rows) given) rows first → new ≡ record old { rows = take first old.rows }
+    → IsRedoing rows first first given work old.rows new ticks ticks
+redoing_start rows first given work old new ticks kept change new_is =
+    let good = length old.rows in
+    let given_rows = rows_in (length rows) good given in
+    let count : length given_rows ≡ good = length-rows_in (length rows) good given in
+    let within : first ≤ good = omega (arith, change.within) in
+    let inside : first ≤ length rows = omega (arith, kept.within) in
+    let agree : AgreeBelow first given_rows rows = record { within_a = change.within; within_b = inside; same = change.same; } in
+    let new_count : length new.rows ≡ first = rw new_is (length-take-le first old.rows within) in
+    let first_rows : rows_in (length rows) first given ≡ take first rows =
+      sym (take-rows_in (length rows) good first given within)
+      ∙ ext_get_or [] (take first given_rows) (take first rows) (length-take-le first given_rows change.within ∙ sym (length-take-le first rows inside))
+        (λ h low. let before : h < first = omega (arith, length-take-le first given_rows change.within) in
+          get_or-take first given_rows h [] before ∙ change.same h before ∙ sym (get_or-take first rows h [] before)) in
+    record {
+      from_first = omega arith;
+      few = kept.few;
+      room = kept.room;
+      room_work = kept.room_work;
+      given_first = first_rows;
+      finished = record {
+        same_size = rw new_is kept.same_size;
+        count = new_count;
+        finished = finished_same first given_rows rows new.rows agree (omega arith) (rw new_is (finished_first first given_rows old.rows kept.finished within));
+      };
+      earlier = rw new_is (take-take first first old.rows (omega arith));
+      ticked = refl;
+    }
+
+-- the next row of the matrix is put in its place among the rows given
+pub given_more : (rows : Matrix) (i : ℕ) (given row : List ℤ) → i < length rows → length given ≡ length rows * length rows → length row ≡ length rows
+    → rows_in (length rows) i given ≡ take i rows → row ≡ row_of rows i
+    → rows_in (length rows) (i + 1) (put_mid (i * length rows) (i * length rows + length rows - i * length rows) given row) ≡ take (i + 1) rows
+given_more rows i given row inside room same_row was row_is =
+    put_rows (length rows) i given row row (row_fits i (length rows) (length rows) (length rows) inside (omega arith)) room refl same_row
+    ∙ rw (was, row_is) (sym (take_more rows i [] inside))
+
+-- and those before it stay
+pub given_kept : (rows : Matrix) (i : ℕ) (given row : List ℤ) → i < length rows → length given ≡ length rows * length rows
+    → rows_in (length rows) i given ≡ take i rows
+    → rows_in (length rows) i (put_mid (i * length rows) (i * length rows + length rows - i * length rows) given row) ≡ take i rows
+given_kept rows i given row inside room was =
+    let fits : i * length rows + length rows ≤ length rows * length rows = row_fits i (length rows) (length rows) (length rows) inside (omega arith) in
+    rows_in-same (length rows) i _ given (λ h low. row_kept (length rows) i h given row (omega arith) low) ∙ was
+
+pub redoing_more : (rows : Matrix) (first i : ℕ) (given work row copied after : List ℤ) (old : Matrix) (done new : Finished) (before ticks later : ℕ)
+    → IsRedoing rows first i given work old done before ticks → i < length rows → row ≡ row_of rows i → length row ≡ length rows → copied ≡ row
+    → AddsRow done new row → length after ≡ length rows → later ≡ ticks + 1
+    → IsRedoing rows first (i + 1) (put_mid (i * length rows) (i * length rows + length rows - i * length rows) given copied) after old new before later
+redoing_more rows first i given work row copied after old done new before ticks later was inside row_is same_row copied_is adds same_after tick =
+    let fits : i * length rows + length rows ≤ length rows * length rows = row_fits i (length rows) (length rows) (length rows) inside (omega arith) in
+    let count = was.finished.count in
+    let same_first : take first (take (length done.rows) new.rows) ≡ take first new.rows = take-take first (length done.rows) new.rows (omega (arith, was.from_first)) in
+    rw copied_is (record {
+      from_first = omega (arith, was.from_first);
+      few = was.few;
+      room = length-put_row (length rows) i given row (omega (arith, was.room)) same_row ∙ was.room;
+      room_work = same_after;
+      given_first = given_more rows i given row inside was.room same_row was.given_first row_is;
+      finished = finished_more rows i done new row was.finished inside row_is adds;
+      earlier = sym same_first ∙ rw adds.earlier was.earlier;
+      ticked = omega (arith, was.ticked);
+    })

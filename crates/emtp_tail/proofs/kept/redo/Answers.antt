@@ -1,0 +1,38 @@
+use Rattle.std.proofs.Common.{rules, ◌≡◌, ◌≤◌, ◌<◌, ◌+◌, ◌*◌, ℕ, ℤ, List, length, take, refl, sym, ◌∙◌, arith}
+use Rattle.emtp_elim.specs.Matrix.{Matrix}
+use Rattle.emtp_elim.specs.Stored.{rows_in}
+use Rattle.emtp_elim.proofs.StoredRows.{length-rows_in}
+use Rattle.emtp_tail.proofs.Redoing.{redoing_start, redoing_more, given_kept}
+use Rattle.emtp_tail.proofs.kept.redo.Goals as goal
+
+pub cut-requires : goal.cut-requires
+cut-requires g c =
+    let size = length (g.R.Rows.matrix c.args.rows.now) in
+    omega (arith, c.requires.first.within, length-rows_in size (length c.args.done.now.rows) c.args.given.now)
+
+pub loop-i-init : goal.loop-i-init
+loop-i-init g c =
+    redoing_start (g.R.Rows.matrix c.args.rows.now) c.args.first c.args.given.now c.args.work.now c.args.done.now c.cut.new.self c.args.steps.now
+      c.requires.kept c.requires.first c.cut.ensures
+
+pub returns-in-Err-clause-prefix : goal.returns-in-Err-clause-prefix
+returns-in-Err-clause-prefix g c =
+    let rows = g.R.Rows.matrix c.args.rows.now in
+    let i = c.loop-i.i in
+    let was = c.loop-i.invariant in
+    let inside : i < length rows = omega (arith, c.size-size.ensures.size) in
+    rw c.size-size.ensures.size (record {
+      same_size = rw c.in-Err.ensures.kept was.finished.same_size;
+      count = rw c.in-Err.ensures.kept was.finished.count;
+      given_first = given_kept rows i c.loop-i.given c.copy_from_slice.new.self inside was.room was.given_first;
+      finished = rw c.in-Err.ensures.kept was.finished.finished;
+    })
+
+pub loop-i-preserved : goal.loop-i-preserved
+loop-i-preserved g c =
+    let rows = g.R.Rows.matrix c.args.rows.now in
+    let i = c.loop-i.i in
+    let was = c.loop-i.invariant in
+    let inside : i < length rows = omega (arith, c.size-size.ensures.size) in
+    rw c.size-size.ensures.size (redoing_more rows c.args.first i c.loop-i.given c.loop-i.work c.row.new.out c.copy_from_slice.new.self c.eliminate_row.new.work c.args.done.now.rows
+      c.loop-i.done c.eliminate_row.new.done c.args.steps.now c.loop-i.steps c.eliminate_row.new.steps was inside c.row.ensures (omega (arith, was.room_work)) (search rules) c.in_default.ensures.added (omega (arith, was.room_work)) c.eliminate_row.ensures.steps)

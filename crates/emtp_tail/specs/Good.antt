@@ -1,0 +1,14 @@
+-- What is kept of a matrix, and how far a new one agrees with it.
+use Rattle.std.specs.Prelude.{◌≡◌, ◌≢◌, ℕ, ◌<◌, ◌≤◌, length}
+use Rattle.emtp_elim.specs.Matrix.{Matrix, row_of}
+
+-- the size, and the good rows, which are the first rows of the matrix that was given last
+pub record Good : Type 0 where
+  pub size : ℕ
+  pub rows : Matrix
+
+-- row i is the first one in which a new matrix differs from the good rows, or their number where none does
+pub record IsFirstChange (old new : Matrix) (i : ℕ) : Type 0 where
+  pub within : i ≤ length old
+  pub same : (h : ℕ) → h < i → row_of old h ≡ row_of new h
+  pub differs : i < length old → row_of old i ≢ row_of new i

@@ -1,0 +1,151 @@
+// The kept factor.
+ghost use Rattle.std.specs.Prelude.{◌≡◌, ◌+◌, ◌*◌, ◌<◌, ◌≤◌, length, take, [], IfOk, OnOk, IfErr, Ok, Err};
+ghost use Rattle.emtp_elim.specs.Matrix.{Matrix};
+ghost use Rattle.emtp_elim.specs.Fault.{IsRowFault, IsGoodMatrix};
+ghost use Rattle.emtp_elim.specs.Outcome.{outcome};
+ghost use Rattle.emtp_elim.specs.Stored.{rows_in};
+ghost use Rattle.emtp_elim.specs.declared.fault.PlainFault.{PlainFault};
+ghost use Rattle.emtp_tail.specs.Good.{Good, IsFirstChange};
+ghost use Rattle.emtp_tail.specs.Keeping.{IsKept, IsRedone};
+
+use std::alloc::{AllocError, Global};
+use std::marker::Model;
+use std::sync::ledger::Ledger;
+
+use emtp_elim::{RowFault, Rows, SolveFault, SparseRows, eliminate_row};
+use emtp_fix::Steps;
+
+/// The finished rows of the matrix that was given last, as far as it is good.
+///
+/// `given` has its rows of `size` numbers one after another, in units of 1e-12, of which the first ones are good, and
+/// `work` has room for one row.
+#[derive(Drop)]
+pub struct Kept {
+    size: usize,
+    given: Vec<i128>,
+    work: Vec<i128>,
+    done: SparseRows,
+}
+
+impl Model for Kept {
+    ghost Value = { Good };
+
+    ghost view = { λ k. record { size = k.size; rows = rows_in k.size (length k.done.rows) k.given.items } };
+
+    ghost invariant = { λ k. IsKept k.size k.given.items k.work.items k.done };
+}
+
+/// The first row that differs from the good row of its number, or the number of good rows.
+fn first_change<R: Rows>(rows: &R, given: &[i128], good: usize, work: &mut [i128]) -> usize
+    requires given { length given.now ≡ length (R.matrix rows.now) * length (R.matrix rows.now) }
+    requires good { good ≤ length (R.matrix rows.now) }
+    requires work { length work.old ≡ length (R.matrix rows.now) }
+    ensures { IsFirstChange (rows_in (length (R.matrix rows.now)) good given.now) (R.matrix rows.now) result }
+{
+    let size = rows.size();
+    for i in 0..good {
+        rows.row(i, work);
+        let at = i * size;
+        if &*work != &given[at..at + size] {
+            return i;
+        }
+    }
+    good
+}
+
+/// Finishes the rows from `first` on.
+fn redo<R: Rows, L: Ledger>(
+    rows: &R,
+    first: usize,
+    given: &mut [i128],
+    work: &mut [i128],
+    done: &mut SparseRows,
+    steps: &mut Steps<L>,
+) -> Result<(), RowFault>
+    requires kept { IsKept (length (R.matrix rows.now)) given.old work.old done.old }
+    requires first { IsFirstChange (rows_in (length (R.matrix rows.now)) (length done.old.rows) given.old) (R.matrix rows.now) first }
+    ensures redone { OnOk result (IsRedone (R.matrix rows.now) (length (R.matrix rows.now)) given.new done.new) }
+    ensures ticks { OnOk result (steps.new + first ≡ steps.old + length (R.matrix rows.now)) }
+    ensures fault { IfErr result (λ fault. IsRowFault (R.matrix rows.now) fault.row fault.cause) }
+    ensures prefix { IfErr result (λ fault. IsRedone (R.matrix rows.now) fault.row given.new done.new) }
+    ensures fault_ticks { IfErr result (λ fault. steps.new + first ≡ steps.old + fault.row + 1) }
+    ensures earlier { take first done.new.rows ≡ take first done.old.rows }
+{
+    done.cut(first);
+    let size = rows.size();
+    for i in first..size {
+        rows.row(i, work);
+        let at = i * size;
+        given[at..at + size].copy_from_slice(work);
+        if let Err(cause) = eliminate_row(done, work, steps) {
+            return Err(RowFault { row: i, cause });
+        }
+    }
+    Ok(())
+}
+
+impl Kept {
+    /// Room for the factor of a matrix of this size, of which no row is good yet.
+    pub fn open<R: Rows>(alloc: Global, rows: &R) -> Result<Kept, AllocError>
+        ensures { IfOk result (λ kept. kept ≡ record { size = length (R.matrix rows.now); rows = [] }) }
+    {
+        let size = rows.size();
+        Ok(Kept {
+            size,
+            given: vec![in alloc; 0i128; size * size]?,
+            work: vec![in alloc; 0i128; size]?,
+            done: SparseRows::open(alloc, size)?,
+        })
+    }
+
+    /// How many rows and columns the matrix has.
+    pub fn size(&self) -> usize
+        ensures { result ≡ self.now.size }
+    {
+        self.size
+    }
+
+    /// How many rows are good: the first ones of the matrix that was given last.
+    pub fn good(&self) -> usize
+        ensures { result ≡ length self.now.rows }
+    {
+        self.done.rows()
+    }
+
+    /// Makes the factor that of these rows, and answers the first row that was redone, or the size where none was.
+    ///
+    /// Rows are redone from the first one that differs from the good row of its number, or that is not good, and each
+    /// ticks once. A fault is that of the matrix given; then the rows before the faulty one are good, and `update` may be
+    /// called again.
+    pub fn update<R: Rows, L: Ledger>(&mut self, rows: &R, steps: &mut Steps<L>) -> Result<usize, RowFault>
+        requires { self.old.size ≡ length (R.matrix rows.now) }
+        ensures size { self.new.size ≡ self.old.size }
+
+        // The matrix has no faulty row.
+        ensures redone { IfOk result (IsFirstChange self.old.rows (R.matrix rows.now)) }
+        ensures rows { OnOk result (self.new.rows ≡ R.matrix rows.now) }
+        ensures good { OnOk result (IsGoodMatrix (R.matrix rows.now)) }
+        ensures ticks { IfOk result (λ first. steps.new + first ≡ steps.old + self.old.size) }
+
+        // It has one.
+        ensures fault { IfErr result (λ fault. IsRowFault (R.matrix rows.now) fault.row fault.cause) }
+        ensures prefix { IfErr result (λ fault. self.new.rows ≡ take fault.row (R.matrix rows.now)) }
+        ensures fault_ticks { IfErr result (λ fault. (first : ℕ) → IsFirstChange self.old.rows (R.matrix rows.now) first → steps.new + first ≡ steps.old + fault.row + 1) }
+    {
+        let first = first_change(rows, &self.given, self.done.rows(), &mut self.work);
+        redo(rows, first, &mut self.given, &mut self.work, &mut self.done, steps)?;
+        Ok(first)
+    }
+
+    /// Solves the system of the rows given last for one right side, in units of 1e-9, as full elimination from the first
+    /// row does. `rhs` and `x` hold unstated numbers after a fault.
+    pub fn solve(&self, rhs: &mut [i128], x: &mut [i64]) -> Result<(), SolveFault>
+        requires all { length self.now.rows ≡ self.now.size }
+        requires rhs { length rhs.old ≡ self.now.size }
+        requires x { length x.old ≡ self.now.size }
+        ensures solved { OnOk result (outcome self.now.rows rhs.old ≡ Ok x.new) }
+        ensures fault { IfErr result (λ fault. outcome self.now.rows rhs.old ≡ Err (PlainFault.Solve fault)) }
+    {
+        self.done.solve(rhs, x)
+    }
+}
