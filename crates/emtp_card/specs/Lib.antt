@@ -1,0 +1,11 @@
+pub mod Reason
+pub mod Lines
+pub mod Cards
+pub mod Field
+pub mod Decimal
+pub mod Numeral
+pub mod Spelling
+pub mod Rounding
+pub mod Number
+pub mod Whole
+pub mod Name

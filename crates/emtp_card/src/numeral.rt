@@ -1,0 +1,124 @@
+//! Numbers as cards spell them.
+
+ghost use Rattle.std.specs.Prelude.{◌≡◌, ◌-◌, ◌<◌, ◌≤◌, length, take_while, unsigned_abs, IfSome, option_map};
+ghost use Rattle.std.specs.Char.{is_ascii_digit, IsAsciiDigit};
+ghost use Rattle.emtp_card.specs.Numeral.{sign_of, digits_of, fraction_of, few_digits, power_of, exponent_of, decimal_of, meaning_of, IsNumeral, AreDigits};
+
+/// A spelled number: its sign, the digits before and behind the point, and its power of ten, from
+/// -999 to 999. The digits stay in the text, so their number has no limit.
+#[derive(Clone, Copy, Debug)]
+pub(crate) struct Numeral<'a> {
+    pub negative: bool,
+    pub whole: &'a [u8],
+    pub fraction: &'a [u8],
+    pub exponent: i32,
+}
+
+/// Reads a text as a number: an optional sign; digits with at most one point, at least one digit;
+/// then optionally an exponent, which is `E`, `e`, `D` or `d`, an optional sign and one to three
+/// digits, or a sign and one to three digits. No blank may stand inside, and no point is implied.
+#[tactic(auto, unfolding(crate::specs::Numeral::decimal_of))]
+pub(crate) fn read_numeral(text: &[u8]) -> Option<Numeral<'_>>
+    ensures value { option_map meaning_of result ≡ decimal_of text.now }
+    ensures parts { IfSome result IsNumeral }
+{
+    let (negative, rest) = sign(text);
+    let (whole, rest) = digits(rest);
+    let (fraction, rest) = fraction(rest);
+    if whole.is_empty() && fraction.is_empty() {
+        return None;
+    }
+    let exponent = exponent(rest)?;
+    Some(Numeral {
+        negative,
+        whole,
+        fraction,
+        exponent,
+    })
+}
+
+/// Whether a minus stands in front, and what stands behind the sign, if there is one.
+pub(crate) fn sign(text: &[u8]) -> (bool, &[u8])
+    ensures minus { result.0 ≡ (sign_of text.now).0 }
+    ensures rest { result.1.now ≡ (sign_of text.now).1 }
+{
+    match text {
+        [b'+', rest @ ..] => (false, rest),
+        [b'-', rest @ ..] => (true, rest),
+        _ => (false, text),
+    }
+}
+
+/// The digits in front, and what stands behind them.
+fn digits(text: &[u8]) -> (&[u8], &[u8])
+    ensures digits { result.0.now ≡ (digits_of text.now).0 }
+    ensures rest { result.1.now ≡ (digits_of text.now).1 }
+    ensures are { AreDigits result.0.now }
+{
+    text.split_at(count_digits(text))
+}
+
+fn count_digits(text: &[u8]) -> usize
+    ensures count { result ≡ length (take_while is_ascii_digit text.now) }
+    ensures within { result ≤ length text.now }
+{
+    text.iter().take_while(|byte| byte.is_ascii_digit()).count()
+}
+
+/// The digits behind a point in front, and what stands behind them.
+fn fraction(text: &[u8]) -> (&[u8], &[u8])
+    ensures digits { result.0.now ≡ (fraction_of text.now).0 }
+    ensures rest { result.1.now ≡ (fraction_of text.now).1 }
+    ensures are { AreDigits result.0.now }
+{
+    match text {
+        [b'.', rest @ ..] => digits(rest),
+        _ => (&text[..0], text),
+    }
+}
+
+/// The power of ten of a number, which is 0 where nothing stands behind its digits.
+#[tactic(auto, unfolding(crate::specs::Numeral::exponent_of))]
+fn exponent(text: &[u8]) -> Option<i32>
+    ensures value { result ≡ exponent_of text.now }
+    ensures small { IfSome result (λ power. unsigned_abs power < 1000) }
+{
+    match text {
+        [] => Some(0),
+        [b'E' | b'e' | b'D' | b'd', rest @ ..] => power(rest),
+        [b'+' | b'-', ..] => power(text),
+        _ => None,
+    }
+}
+
+/// A sign or none, and one to three digits.
+fn power(text: &[u8]) -> Option<i32>
+    ensures value { result ≡ power_of text.now }
+    ensures small { IfSome result (λ power. unsigned_abs power < 1000) }
+{
+    let (minus, rest) = sign(text);
+    let size = few_digits(rest)? as i32;
+    Some(if minus { -size } else { size })
+}
+
+fn few_digits(text: &[u8]) -> Option<u32>
+    ensures value { result ≡ few_digits text.now }
+    ensures small { IfSome result (λ size. size < 1000) }
+{
+    match text {
+        [a] if a.is_ascii_digit() => Some(digit(*a)),
+        [a, b] if a.is_ascii_digit() && b.is_ascii_digit() => Some(10 * digit(*a) + digit(*b)),
+        [a, b, c] if a.is_ascii_digit() && b.is_ascii_digit() && c.is_ascii_digit() => {
+            Some(100 * digit(*a) + 10 * digit(*b) + digit(*c))
+        }
+        _ => None,
+    }
+}
+
+fn digit(byte: u8) -> u32
+    requires { IsAsciiDigit byte }
+    ensures value { result ≡ byte - 48 }
+    ensures small { result ≤ 9 }
+{
+    u32::from(byte - b'0')
+}

@@ -1,0 +1,81 @@
+//! Fields that hold whole numbers.
+
+ghost use Rattle.std.specs.Prelude.{◌≡◌, ◌+◌, ◌^◌, ◌≤◌, ◌<◌, ◌↔◌, pos, Ok, None, IsTrue};
+ghost use Rattle.std.specs.Char.{is_ascii_digit};
+ghost use Rattle.std.specs.List.{list_all};
+ghost use Rattle.std.specs.Option.{SomeIff};
+ghost use Rattle.emtp_card.specs.Decimal.{number_of};
+ghost use Rattle.emtp_card.specs.Field.{columns, IsBlank};
+ghost use Rattle.emtp_card.specs.Numeral.{AreDigits};
+ghost use Rattle.emtp_card.specs.Whole.{all_digits, whole_in, whole_field};
+
+use crate::field::field;
+use crate::numeral::sign;
+use crate::reason::Why;
+use crate::rounding::append_digits;
+
+/// The greatest magnitude of a whole number in a field.
+const BILLION: u128 = 1_000_000_000;
+
+/// The whole number in the columns from `first` to `last`, counted from 1: an optional sign and
+/// digits. It is none exactly where these columns are blank.
+///
+/// `NotWhole` comes where the field is anything else, and `OutOfUnitRange` where the magnitude
+/// exceeds 10^9.
+#[tactic(auto, unfolding(crate::specs::Whole::whole_field))]
+pub fn field_whole(line: &[u8], first: usize, last: usize) -> Result<Option<i64>, Why>
+    requires first { 1 ≤ first }
+    requires order { first ≤ last }
+    requires last { last ≤ 80 }
+    ensures value { result ≡ whole_field line.now first last }
+    ensures blank { (result ≡ Ok None) ↔ IsBlank (columns line.now first last) }
+{
+    let text = field(line, first, last);
+    if text.is_empty() {
+        return Ok(None);
+    }
+    match whole(text) {
+        Ok(value) => Ok(Some(value)),
+        Err(why) => Err(why),
+    }
+}
+
+#[tactic(auto, unfolding(crate::specs::Whole::whole_in))]
+fn whole(text: &[u8]) -> Result<i64, Why>
+    ensures { result ≡ whole_in text.now }
+{
+    let (negative, digits) = sign(text);
+    if !only_digits(digits) {
+        return Err(Why::NotWhole);
+    }
+    match small(digits) {
+        Some(size) => Ok(if negative { -size } else { size }),
+        None => Err(Why::OutOfUnitRange),
+    }
+}
+
+/// Whether a text has digits, and nothing else.
+fn only_digits(text: &[u8]) -> bool
+    ensures value { result ≡ all_digits text.now }
+    ensures are { IsTrue result → AreDigits text.now }
+{
+    !text.is_empty() && are_digits(text)
+}
+
+fn are_digits(text: &[u8]) -> bool
+    ensures value { result ≡ list_all is_ascii_digit text.now }
+    ensures are { IsTrue result → AreDigits text.now }
+{
+    text.iter().all(|byte| byte.is_ascii_digit())
+}
+
+/// The number that digits write, where it is at most 10^9.
+fn small(digits: &[u8]) -> Option<i64>
+    requires { AreDigits digits.now }
+    ensures { SomeIff result (number_of digits.now ≤ 10 ^ 9) (pos (number_of digits.now)) }
+{
+    match append_digits(0, digits) {
+        Some(number) if number <= BILLION => Some(number as i64),
+        _ => None,
+    }
+}
