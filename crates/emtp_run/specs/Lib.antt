@@ -1,0 +1,9 @@
+pub mod Card
+pub mod Deck
+pub mod Form
+pub mod History
+pub mod Network
+pub mod Note
+pub mod Outcome
+pub mod Reading
+pub mod Words

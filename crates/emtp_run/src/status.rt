@@ -1,0 +1,20 @@
+// How a call of the program ends.
+
+/// How a call of the program ends, with the number that it exits with.
+#[derive(Clone, Copy, Debug, PartialEq, Eq)]
+pub enum Status {
+    /// The run came to its last step, and its record and note are whole.
+    Done = 0,
+    /// The words don't fit.
+    Usage = 1,
+    /// A card of the case is refused, and the note names it.
+    BadCard = 2,
+    /// The run ended early, and the note names step, cause and node. The record holds the samples before.
+    Ended = 3,
+    /// The case couldn't be opened or read, and nothing was created.
+    ReadFault = 4,
+    /// An output couldn't be created or written. It, if created, holds a prefix of its bytes.
+    WriteFault = 5,
+    /// There was not enough memory, and nothing was created.
+    NoMemory = 6,
+}
