@@ -71,9 +71,9 @@ step_kept case voltages currents bs n same low high kept made =
 -- one branch more
 pub kept_more : (voltages : List ℤ) (bs : List Branch) (n : ℕ) (d : Branch) → n < length bs → AreKept voltages bs n → is_kept (current_of voltages (get_or bs n d)) ≡ true → AreKept voltages bs (n + 1)
 kept_more voltages bs n d inside before here = λ k e below. elim (cases_eq k n) [
-    | inl same ↦ rw same (ap (λ b. is_kept (current_of voltages b)) (get_or_default bs n e d inside) ∙ here)
-    | inr ne ↦ before k e (omega arith)
-  ]
+  | inl same ↦ rw same (ap (λ b. is_kept (current_of voltages b)) (get_or_default bs n e d inside) ∙ here)
+  | inr ne ↦ before k e (omega arith)
+]
 
 pub currents_more : (voltages : List ℤ) (bs : List Branch) (n : ℕ) (d : Branch) (now before : List ℤ) (i : ℤ) → n < length bs → now ≡ before ++ i ∷ [] → before ≡ map (current_of voltages) (take n bs) → i ≡ current_of voltages (get_or bs n d)
     → now ≡ map (current_of voltages) (take (n + 1) bs)

@@ -21,16 +21,16 @@ which (Some y) b x h = inl h
 first_in : {X : Type 0} (n : ℕ) (f : ℕ → Option X) (place : X → ℕ) → ((i : ℕ) (x : X) → f i ≡ Some x → place x ≡ i) → (x : X) → first_below n f ≡ Some x → place x < n
 first_in zero f place own x found = absurd (cc)
 first_in (suc n) f place own x found = elim (which (first_below n f) (f n) x found) [
-    | inl before ↦ omega (arith, first_in n f place own x before)
-    | inr here ↦ omega (arith, own n x here)
-  ]
+  | inl before ↦ omega (arith, first_in n f place own x before)
+  | inr here ↦ omega (arith, own n x here)
+]
 
 last_in : {X : Type 0} (n : ℕ) (f : ℕ → Option X) (place : X → ℕ) → ((i : ℕ) (x : X) → f i ≡ Some x → place x ≡ i) → (x : X) → last_below n f ≡ Some x → place x < n
 last_in zero f place own x found = absurd (cc)
 last_in (suc n) f place own x found = elim (which (f n) (last_below n f) x found) [
-    | inl here ↦ omega (arith, own n x here)
-    | inr before ↦ omega (arith, last_in n f place own x before)
-  ]
+  | inl here ↦ omega (arith, own n x here)
+  | inr before ↦ omega (arith, last_in n f place own x before)
+]
 
 abbrev row_place : Option RowFault → ℕ
 row_place None = 0

@@ -11,9 +11,9 @@ AreFilled f channels row n = (k : ℕ) → k < n → item row k ≡ item (map f 
 
 pub filled_more : (f : Channel → ℤ) (channels : List Channel) (row : List ℤ) (i : ℕ) (v : ℤ) (d : Channel) → i < length row → i < length channels → v ≡ f (get_or channels i d) → AreFilled f channels row i → AreFilled f channels (slice_set row i v) (i + 1)
 filled_more f channels row i v d inside within is before = λ k below. elim (cases_eq k i) [
-    | inl same ↦ rw (same, get_or-set_same) (is ∙ sym (get_or-map f channels i d (pos 0) within))
-    | inr ne ↦ rw get_or-set_other (before k (omega arith))
-  ]
+  | inl same ↦ rw (same, get_or-set_same) (is ∙ sym (get_or-map f channels i d (pos 0) within))
+  | inr ne ↦ rw get_or-set_other (before k (omega arith))
+]
 
 pub filled_all : (f : Channel → ℤ) (channels : List Channel) (row : List ℤ) → length row ≡ length channels → ((k : ℕ) → k < length row → item row k ≡ item (map f channels) k) → row ≡ map f channels
 filled_all f channels row size each = ext_get_or (pos 0) row (map f channels) (size ∙ sym (length-map channels f)) each

@@ -95,12 +95,12 @@ first_rows case = taken case.channels case.run.every (rest case) [] (zero-mod ca
 starts : (case : Parts) (rows : List (List ℤ)) → rows ≡ values_of case.channels (rest case) ∷ [] → IsAt case 0 rows
 unfolding history_upto
 starts case rows first = record {
-    running = refl;
-    count = refl;
-    sampled = first ∙ sym (first_rows case);
-    few = let one : length rows ≡ 1 = ap length first in
-        rw one (omega arith);
-  }
+  running = refl;
+  count = refl;
+  sampled = first ∙ sym (first_rows case);
+  few = let one : length rows ≡ 1 = ap length first in
+      rw one (omega arith);
+}
 
 -- with the numbers as the program holds them
 pub started : (case : Parts) (r : Step) (before rows : List (List ℤ)) (channels : List Channel) → channels ≡ case.channels → r ≡ rest case → before ≡ [] → rows ≡ before ++ values_of channels r ∷ [] → IsAt case 0 rows
@@ -114,13 +114,13 @@ samples_on case n r rows at stepped due some =
     record {
       running = ap (λ (x : History). x.end) h ∙ at.running;
       count = let longer : length (history_upto case (suc n)).records ≡ suc (length (history_upto case n).records) = ap (λ (x : History). length x.records) h in
-        omega (arith, longer, at.count);
+          omega (arith, longer, at.count);
       sampled = ap (λ l. l ++ values_of case.channels r ∷ []) at.sampled
-        ∙ sym (taken case.channels case.run.every r (history_upto case n).records here)
-        ∙ ap (λ (x : History). samples case x) (sym h);
+          ∙ sym (taken case.channels case.run.every r (history_upto case n).records here)
+          ∙ ap (λ (x : History). samples case x) (sym h);
       few = let longer = length_push rows (values_of case.channels r) in
-        let more = one_more (length rows) n case.run.every at.few due some in
-        rw longer (omega (arith, more));
+          let more = one_more (length rows) n case.run.every at.few due some in
+          rw longer (omega (arith, more));
     }
 
 -- with the numbers as the program holds them
@@ -138,7 +138,7 @@ passes case n r rows at stepped due =
     record {
       running = ap (λ (x : History). x.end) h ∙ at.running;
       count = let longer : length (history_upto case (suc n)).records ≡ suc (length (history_upto case n).records) = ap (λ (x : History). length x.records) h in
-        omega (arith, longer, at.count);
+          omega (arith, longer, at.count);
       sampled = at.sampled ∙ sym (passed case.channels case.run.every r (history_upto case n).records here) ∙ ap (λ (x : History). samples case x) (sym h);
       few = omega (arith, at.few);
     }
@@ -158,7 +158,7 @@ finishes case n rows at last =
     record {
       samples = at.sampled ∙ ap (λ (x : History). samples case x) h;
       made = let count : length (history_upto case n).records ≡ length (history case).records = ap (λ (x : History). length x.records) h in
-        omega (arith, count, at.count);
+          omega (arith, count, at.count);
       ended = sym at.running ∙ ap (λ (x : History). x.end) h;
     }
 
@@ -172,7 +172,7 @@ ends case n fault rows at more stopped =
     record {
       samples = at.sampled ∙ ap (λ l. samples_from case.channels case.run.every l) (sym records);
       made = let count : length (history case).records ≡ n + 1 = ap length records ∙ at.count in
-        omega (arith, count);
+          omega (arith, count);
       ended = sym over ∙ ap (λ (x : History). x.end) (sym whole);
     }
 

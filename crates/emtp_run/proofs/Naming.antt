@@ -19,12 +19,12 @@ place_of nodes name = position_or_len (λ node. bytes_eq node name) nodes
 -- the list has one name more at the most
 length-with_node : (nodes : List (List ℕ)) (name : List ℕ) → length (with_node nodes name) ≤ length nodes + 1
 length-with_node nodes name = elim (cases_Bool (length name == 0)) [
-    | inl blank ↦ rw blank (omega arith)
-    | inr other ↦ elim (cases_Bool (is_named nodes name)) [
-        | inl named ↦ rw (other, named) (omega arith)
-        | inr new ↦ rw (other, new) (omega (arith, length-append nodes (name ∷ [])))
-      ]
+  | inl blank ↦ rw blank (omega arith)
+  | inr other ↦ elim (cases_Bool (is_named nodes name)) [
+    | inl named ↦ rw (other, named) (omega arith)
+    | inr new ↦ rw (other, new) (omega (arith, length-append nodes (name ∷ [])))
   ]
+]
 
 place_within : (nodes : List (List ℕ)) (name : List ℕ) → place_of nodes name ≤ length nodes
 place_within nodes name = prefix_len-le-length (λ node. not (bytes_eq node name)) nodes
@@ -92,21 +92,21 @@ push_has nodes name =
 
 with_node-keeps : (nodes : List (List ℕ)) (x name : List ℕ) → IsAmong nodes name → place_of (with_node nodes x) name ≡ place_of nodes name
 with_node-keeps nodes x name among = elim (cases_Bool (length x == 0)) [
-    | inl blank ↦ rw blank refl
-    | inr other ↦ elim (cases_Bool (is_named nodes x)) [
-        | inl named ↦ rw (other, named) refl
-        | inr new ↦ rw (other, new) (push_keeps nodes x name among)
-      ]
+  | inl blank ↦ rw blank refl
+  | inr other ↦ elim (cases_Bool (is_named nodes x)) [
+    | inl named ↦ rw (other, named) refl
+    | inr new ↦ rw (other, new) (push_keeps nodes x name among)
   ]
+]
 
 with_node-longer : (nodes : List (List ℕ)) (x : List ℕ) → length nodes ≤ length (with_node nodes x)
 with_node-longer nodes x = elim (cases_Bool (length x == 0)) [
-    | inl blank ↦ rw blank (omega arith)
-    | inr other ↦ elim (cases_Bool (is_named nodes x)) [
-        | inl named ↦ rw (other, named) (omega arith)
-        | inr new ↦ rw (other, new) (omega (arith, length-append nodes (x ∷ [])))
-      ]
+  | inl blank ↦ rw blank (omega arith)
+  | inr other ↦ elim (cases_Bool (is_named nodes x)) [
+    | inl named ↦ rw (other, named) (omega arith)
+    | inr new ↦ rw (other, new) (omega (arith, length-append nodes (x ∷ [])))
   ]
+]
 
 -- a name is blank, or a node has it
 abbrev pub IsEnd : List (List ℕ) → List ℕ → Type 0
@@ -122,12 +122,12 @@ found_among nodes name named =
 
 with_node-has : (nodes : List (List ℕ)) (name : List ℕ) → IsEnd (with_node nodes name) name
 with_node-has nodes name = elim (cases_Bool (length name == 0)) [
-    | inl blank ↦ inl blank
-    | inr other ↦ elim (cases_Bool (is_named nodes name)) [
-        | inl named ↦ inr (rw (other, named) (found_among nodes name named))
-        | inr new ↦ inr (rw (other, new) (push_has nodes name))
-      ]
+  | inl blank ↦ inl blank
+  | inr other ↦ elim (cases_Bool (is_named nodes name)) [
+    | inl named ↦ inr (rw (other, named) (found_among nodes name named))
+    | inr new ↦ inr (rw (other, new) (push_has nodes name))
   ]
+]
 
 end_keeps : (nodes : List (List ℕ)) (x name : List ℕ) → IsEnd nodes name → IsEnd (with_node nodes x) name
 end_keeps nodes x name (inl blank) = inl blank
@@ -142,17 +142,18 @@ end_stays nodes (card ∷ cards) name is =
 pub ends_there : (nodes : List (List ℕ)) (cards : List BranchCard) (i : ℕ) (d : BranchCard) → i < length cards → IsEnd (nodes_from nodes cards) (get_or cards i d).from × IsEnd (nodes_from nodes cards) (get_or cards i d).to
 ends_there nodes [] i d below = absurd (omega arith)
 ends_there nodes (card ∷ cards) zero d below =
-    let with_from = with_node nodes card.from in
-    (end_stays (with_node with_from card.to) cards card.from (end_keeps with_from card.to card.from (with_node-has nodes card.from)),
-      end_stays (with_node with_from card.to) cards card.to (with_node-has with_from card.to))
+    let with_from = with_node nodes card.from in (
+      end_stays (with_node with_from card.to) cards card.from (end_keeps with_from card.to card.from (with_node-has nodes card.from)),
+      end_stays (with_node with_from card.to) cards card.to (with_node-has with_from card.to),
+    )
 ends_there nodes (card ∷ cards) (suc i) d below = ends_there (with_node (with_node nodes card.from) card.to) cards i d (omega arith)
 
 end_within : (nodes : List (List ℕ)) (name : List ℕ) → IsEnd nodes name → node_of nodes name ≤ length nodes
 end_within nodes name (inl blank) = rw blank (omega arith)
 end_within nodes name (inr among) = elim (cases_Bool (length name == 0)) [
-    | inl blank ↦ rw blank (omega arith)
-    | inr other ↦ rw other (omega arith)
-  ]
+  | inl blank ↦ rw blank (omega arith)
+  | inr other ↦ rw other (omega arith)
+]
 
 blank_is : (name : List ℕ) → (length name == 0) ≡ true → name ≡ []
 blank_is [] h = refl
@@ -168,18 +169,18 @@ among_of nodes name (inr among) other = among
 -- two different names are two nodes
 ends_apart : (nodes : List (List ℕ)) (a b : List ℕ) → IsEnd nodes a → IsEnd nodes b → bytes_eq a b ≡ false → node_of nodes a ≢ node_of nodes b
 ends_apart nodes a b is_a is_b differ = λ same. elim (cases_Bool (length a == 0)) [
-    | inl blank_a ↦ elim (cases_Bool (length b == 0)) [
-        | inl blank_b ↦ let equal = bytes_eq-same a b (blank_is a blank_a ∙ sym (blank_is b blank_b)) in cc
-        | inr other_b ↦ let e = rw (blank_a, other_b) at same in absurd (omega arith)
-      ]
-    | inr other_a ↦ elim (cases_Bool (length b == 0)) [
-        | inl blank_b ↦ let e = rw (other_a, blank_b) at same in absurd (omega arith)
-        | inr other_b ↦
-            let e = rw (other_a, other_b) at same in
-            let equal = bytes_eq-same a b (same_place nodes a b (among_of nodes a is_a other_a) (among_of nodes b is_b other_b) (omega arith)) in
-            cc
-      ]
+  | inl blank_a ↦ elim (cases_Bool (length b == 0)) [
+    | inl blank_b ↦ let equal = bytes_eq-same a b (blank_is a blank_a ∙ sym (blank_is b blank_b)) in cc
+    | inr other_b ↦ let e = rw (blank_a, other_b) at same in absurd (omega arith)
   ]
+  | inr other_a ↦ elim (cases_Bool (length b == 0)) [
+    | inl blank_b ↦ let e = rw (other_a, blank_b) at same in absurd (omega arith)
+    | inr other_b ↦
+        let e = rw (other_a, other_b) at same in
+        let equal = bytes_eq-same a b (same_place nodes a b (among_of nodes a is_a other_a) (among_of nodes b is_b other_b) (omega arith)) in
+        cc
+  ]
+]
 
 -- the ends of a branch card are nodes that exist and differ
 pub card_ends : (cards : List BranchCard) (i : ℕ) (d : BranchCard) → i < length cards → bytes_eq (get_or cards i d).from (get_or cards i d).to ≡ false

@@ -42,9 +42,9 @@ unit_other i j ne = grind (arith, nat_tests)
 
 unit_small : (i j : ℕ) → unsigned_abs (unit i j) ≤ 10 ^ 26
 unit_small i j = elim (cases_Bool (i == j)) [
-    | inl same ↦ rw same (omega (arith, ints))
-    | inr off ↦ rw off (omega (arith, ints))
-  ]
+  | inl same ↦ rw same (omega (arith, ints))
+  | inr off ↦ rw off (omega (arith, ints))
+]
 
 past_row : (case : Parts) (i j : ℕ) → length case.nodes ≤ i → entry (nodal_matrix case) i j ≡ pos 0
 past_row case i j past = ap (λ row. item row j) (get_or_past (nodal_matrix case) i [] (omega (arith, length-nodal_matrix case)))
@@ -54,23 +54,23 @@ past_column case i j below past = get_or_past (row_of (nodal_matrix case) i) j (
 
 entry_small : (case : Parts) (i j : ℕ) → length case.branches ≤ 5000 → unsigned_abs (entry (nodal_matrix case) i j) ≤ 10 ^ 26
 entry_small case i j few = elim (cases_lt i (length case.nodes)) [
-    | inl below ↦ elim (cases_lt j (length case.nodes)) [
-        | inl within ↦ elim (cases_Bool (has_source case (node_at case i))) [
-            | inl is ↦ rw (source_entry case i j below within is) (unit_small i j)
-            | inr is ↦ rw (plain_entry case i j below within is) (total_all_small (node_at case i) (node_at case j) case.branches few)
-          ]
-        | inr past ↦ rw (past_column case i j below past) (omega (arith, ints))
-      ]
-    | inr past ↦ rw (past_row case i j past) (omega (arith, ints))
+  | inl below ↦ elim (cases_lt j (length case.nodes)) [
+    | inl within ↦ elim (cases_Bool (has_source case (node_at case i))) [
+      | inl is ↦ rw (source_entry case i j below within is) (unit_small i j)
+      | inr is ↦ rw (plain_entry case i j below within is) (total_all_small (node_at case i) (node_at case j) case.branches few)
+    ]
+    | inr past ↦ rw (past_column case i j below past) (omega (arith, ints))
   ]
+  | inr past ↦ rw (past_row case i j past) (omega (arith, ints))
+]
 
 source_row : (case : Parts) (i : ℕ) → i < length case.nodes → has_source case (node_at case i) ≡ true → IsUnitRow (nodal_matrix case) i
 source_row case i below is = record {
   own = source_entry case i i below below is ∙ unit_own i;
   others = λ j ne. elim (cases_lt j (length case.nodes)) [
-      | inl within ↦ source_entry case i j below within is ∙ unit_other i j ne
-      | inr past ↦ past_column case i j below past
-    ];
+    | inl within ↦ source_entry case i j below within is ∙ unit_other i j ne
+    | inr past ↦ past_column case i j below past
+  ];
 }
 
 fixed_within : (case : Parts) → (order_of case).fixed ≤ length case.nodes
@@ -124,9 +124,9 @@ right_side_is case i below = get_or-map-range_with_len _ 0 (length case.nodes) i
 pub right_sides_more : (case : Parts) (out : List ℤ) (i : ℕ) (v : ℤ) → i < length out → v ≡ item (right_sides case) i → ((k : ℕ) → k < i → item out k ≡ item (right_sides case) k)
     → (k : ℕ) → k < i + 1 → item (slice_set out i v) k ≡ item (right_sides case) k
 right_sides_more case out i v inside is before k below = elim (cases_eq k i) [
-    | inl same ↦ rw (same, get_or-set_same) is
-    | inr ne ↦ rw get_or-set_other (before k (omega arith))
-  ]
+  | inl same ↦ rw (same, get_or-set_same) is
+  | inr ne ↦ rw get_or-set_other (before k (omega arith))
+]
 
 pub right_sides_all : (case : Parts) (out : List ℤ) → length out ≡ length case.nodes → ((k : ℕ) → k < length out → item out k ≡ item (right_sides case) k) → out ≡ right_sides case
 right_sides_all case out size each = ext_get_or (pos 0) out (right_sides case) (size ∙ sym (length-right_sides case)) each

@@ -41,11 +41,11 @@ pub share_to_ground : (nodes : List ℕ) (out : List ℤ) (n own : ℕ) (g : ℤ
 share_to_ground nodes out n own g size is j below =
     let inside : own < length out = omega (arith, is.within) in
     elim (cases_eq j own) [
-    | inl same ↦ rw (same, get_or-set_same) (ap (λ x. item out own +ℤ x) (sym (own_column n (slice_index nodes own) 0 g is.there)))
-    | inr ne ↦
-        let here : slice_index nodes j ≢ n = λ e. ne (is.only j (omega arith) e) in
-        rw get_or-set_other (rw (ground_column n (slice_index nodes j) g here) (plus_none (item out j)))
-  ]
+      | inl same ↦ rw (same, get_or-set_same) (ap (λ x. item out own +ℤ x) (sym (own_column n (slice_index nodes own) 0 g is.there)))
+      | inr ne ↦
+          let here : slice_index nodes j ≢ n = λ e. ne (is.only j (omega arith) e) in
+          rw get_or-set_other (rw (ground_column n (slice_index nodes j) g here) (plus_none (item out j)))
+    ]
 
 -- a branch to another node
 node_share : (nodes : List ℕ) (out : List ℤ) (n other own far : ℕ) (g : ℤ) → length out ≡ length nodes → IsRowOf nodes n own → IsRowOf nodes other far → n ≢ other → other ≢ 0
@@ -57,17 +57,17 @@ node_share nodes out n other own far g size is is_far apart some j below =
     let far_apart : far ≢ own = λ e. rows_apart (sym e) in
     let long : far < length first = omega (arith, length-set {A = ℤ}, is_far.within) in
     elim (cases_eq j far) [
-    | inl same ↦
-        let here : slice_index nodes far ≢ n = λ e. far_apart (is.only far (omega (arith, is_far.within)) e) in
-        rw (same, get_or-set_same) (rw get_or-set_other (ap (λ x. item out far +ℤ x) (sym (other_column n (slice_index nodes far) other g here is_far.there some))))
-    | inr ne ↦ elim (cases_eq j own) [
+      | inl same ↦
+          let here : slice_index nodes far ≢ n = λ e. far_apart (is.only far (omega (arith, is_far.within)) e) in
+          rw (same, get_or-set_same) (rw get_or-set_other (ap (λ x. item out far +ℤ x) (sym (other_column n (slice_index nodes far) other g here is_far.there some))))
+      | inr ne ↦ elim (cases_eq j own) [
         | inl same ↦ rw get_or-set_other (rw (same, get_or-set_same) (ap (λ x. item out own +ℤ x) (sym (own_column n (slice_index nodes own) other g is.there))))
         | inr far_off ↦
             let here : slice_index nodes j ≢ n = λ e. far_off (is.only j (omega arith) e) in
             let there : slice_index nodes j ≢ other = λ e. ne (is_far.only j (omega arith) e) in
             rw get_or-set_other (rw get_or-set_other (rw (no_column n (slice_index nodes j) other g here there) (plus_none (item out j))))
       ]
-  ]
+    ]
 
 pub share_to_node : (nodes : List ℕ) (out : List ℤ) (n other own far : ℕ) (g h : ℤ) → h ≡ neg_ℤ g → length out ≡ length nodes → IsRowOf nodes n own → IsRowOf nodes other far → n ≢ other → other ≢ 0
     → (j : ℕ) → j < length out → item (slice_set (slice_set out own (item out own +ℤ g)) far (item (slice_set out own (item out own +ℤ g)) far +ℤ h)) j ≡ item out j +ℤ share_by (Some other) n (slice_index nodes j) g
@@ -82,18 +82,18 @@ same_number a b h = grind (arith, nat_tests)
 
 apart_by : (n other f t : ℕ) → Some other ≡ (if f == n then Some t else if t == n then Some f else None) → f ≢ t → n ≢ other
 apart_by n other f t is apart = λ same. elim (cases_Bool (f == n)) [
-    | inl at_from ↦
-        let e : Some other ≡ Some t = rw at_from at is in
-        let o : other ≡ t = cc in
-        apart (same_number f n at_from ∙ same ∙ o)
-    | inr off ↦ elim (cases_Bool (t == n)) [
-        | inl at_to ↦
-            let e : Some other ≡ Some f = rw (off, at_to) at is in
-            let o : other ≡ f = cc in
-            apart (sym o ∙ sym same ∙ sym (same_number t n at_to))
-        | inr none ↦ let e : Some other ≡ None = rw (off, none) at is in absurd (cc)
-      ]
+  | inl at_from ↦
+      let e : Some other ≡ Some t = rw at_from at is in
+      let o : other ≡ t = cc in
+      apart (same_number f n at_from ∙ same ∙ o)
+  | inr off ↦ elim (cases_Bool (t == n)) [
+    | inl at_to ↦
+        let e : Some other ≡ Some f = rw (off, at_to) at is in
+        let o : other ≡ f = cc in
+        apart (sym o ∙ sym same ∙ sym (same_number t n at_to))
+    | inr none ↦ let e : Some other ≡ None = rw (off, none) at is in absurd (cc)
   ]
+]
 
 -- the other end of a branch is another node, or ground
 pub other_apart : (n other : ℕ) (b : Branch) → Some other ≡ other_end n b → from_of b ≢ to_of b → n ≢ other
@@ -118,12 +118,12 @@ conductance_small (OfPhase b) = omega (arith, ints)
 share_by_small : (o : Option ℕ) (n m : ℕ) (g : ℤ) → unsigned_abs g ≤ 10 ^ 18 → unsigned_abs (share_by o n m g) ≤ 10 ^ 18
 share_by_small None n m g small = omega (arith, ints)
 share_by_small (Some other) n m g small = elim (cases_Bool (m == n)) [
-    | inl own ↦ rw own small
-    | inr off ↦ elim (cases_Bool (not (other == 0) && (m == other))) [
-        | inl far ↦ rw (off, far) (omega (arith, ints))
-        | inr none ↦ rw (off, none) (omega (arith, ints))
-      ]
+  | inl own ↦ rw own small
+  | inr off ↦ elim (cases_Bool (not (other == 0) && (m == other))) [
+    | inl far ↦ rw (off, far) (omega (arith, ints))
+    | inr none ↦ rw (off, none) (omega (arith, ints))
   ]
+]
 
 pub share_small : (n m : ℕ) (b : Branch) → unsigned_abs (share n m b) ≤ 10 ^ 18
 unfolding share

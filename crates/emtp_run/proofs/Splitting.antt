@@ -27,9 +27,9 @@ none_is bytes h =
 lines_from-cons : (part bytes : List ℕ) → lines_from (part ∷ slice_split is_line_feed bytes) ≡ line_of part ∷ lines_from (slice_split is_line_feed bytes)
 lines_from-cons part [] = refl
 lines_from-cons part (b ∷ bytes) = elim (is_line_feed b) as (λ t. lines_from (part ∷ cond t ([] ∷ slice_split is_line_feed bytes) (onto_first b (slice_split is_line_feed bytes))) ≡ line_of part ∷ lines_from (cond t ([] ∷ slice_split is_line_feed bytes) (onto_first b (slice_split is_line_feed bytes)))) [
-    | true ↦ refl
-    | false ↦ elim (slice_split is_line_feed bytes) as (λ ps. lines_from (part ∷ onto_first b ps) ≡ line_of part ∷ lines_from (onto_first b ps)) [ [] ↦ refl | q ∷ qs ↦ refl ]
-  ]
+  | true ↦ refl
+  | false ↦ elim (slice_split is_line_feed bytes) as (λ ps. lines_from (part ∷ onto_first b ps) ≡ line_of part ∷ lines_from (onto_first b ps)) [ [] ↦ refl | q ∷ qs ↦ refl ]
+]
 
 line_of-within : (bytes : List ℕ) → length bytes ≤ 80 → line_of bytes ≡ Some bytes
 line_of-within bytes short = grind (arith, nat_tests)

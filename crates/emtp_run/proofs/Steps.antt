@@ -22,15 +22,19 @@ stop_none nodes place at (line ∷ lines) none = record { stops = λ behind. rw 
 
 -- one row of places and then another
 pub passes_both : (nodes : List (List ℕ)) (ps qs : List Place) (a b c : ℕ) (lines middle left : List (Option (List ℕ))) → Passes nodes ps a lines b middle → Passes nodes qs b middle c left → Passes nodes (ps ++ qs) a lines c left
-passes_both nodes ps qs a b c lines middle left p q = record { goes_on = λ behind.
-    ap (λ places. misfit nodes a places lines) (append_assoc ps qs behind) ∙ p.goes_on (qs ++ behind) ∙ q.goes_on behind }
+passes_both nodes ps qs a b c lines middle left p q = record {
+  goes_on = λ behind.
+      ap (λ places. misfit nodes a places lines) (append_assoc ps qs behind) ∙ p.goes_on (qs ++ behind) ∙ q.goes_on behind;
+}
 
 pub stops_first : (nodes : List (List ℕ)) (ps qs : List Place) (a number : ℕ) (lines : List (Option (List ℕ))) → StopsAt nodes ps a lines number → StopsAt nodes (ps ++ qs) a lines number
 stops_first nodes ps qs a number lines p = record { stops = λ behind. ap (λ places. misfit nodes a places lines) (append_assoc ps qs behind) ∙ p.stops (qs ++ behind) }
 
 pub stops_second : (nodes : List (List ℕ)) (ps qs : List Place) (a b number : ℕ) (lines middle : List (Option (List ℕ))) → Passes nodes ps a lines b middle → StopsAt nodes qs b middle number → StopsAt nodes (ps ++ qs) a lines number
-stops_second nodes ps qs a b number lines middle p q = record { stops = λ behind.
-    ap (λ places. misfit nodes a places lines) (append_assoc ps qs behind) ∙ p.goes_on (qs ++ behind) ∙ q.stops behind }
+stops_second nodes ps qs a b number lines middle p q = record {
+  stops = λ behind.
+      ap (λ places. misfit nodes a places lines) (append_assoc ps qs behind) ∙ p.goes_on (qs ++ behind) ∙ q.stops behind;
+}
 
 -- a source card, and then the card that ends the sources
 pub source_passes : (nodes : List (List ℕ)) (a c : ℕ) (line : List ℕ) (lines middle left : List (Option (List ℕ))) → lines ≡ Some line ∷ middle → is_blank_card line ≡ false → fits_line nodes source line ≡ true

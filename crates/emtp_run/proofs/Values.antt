@@ -41,11 +41,11 @@ room_small value k most room =
 pub digits_in_front : (text : List ℕ) → list_all is_digit (take_while is_digit text) ≡ true
 digits_in_front [] = refl
 digits_in_front (d ∷ text) = elim (cases_Bool (is_digit d)) [
-    | inl digit ↦
-        let one_more : 1 + prefix_len is_digit text ≡ suc (prefix_len is_digit text) = omega arith in
-        rw (digit, one_more, digit) (digits_in_front text)
-    | inr other ↦ rw other refl
-  ]
+  | inl digit ↦
+      let one_more : 1 + prefix_len is_digit text ≡ suc (prefix_len is_digit text) = omega arith in
+      rw (digit, one_more, digit) (digits_in_front text)
+  | inr other ↦ rw other refl
+]
 
 -- both rows of digits of a number of at most ten bytes
 pub both_rooms : (w f n : ℕ) → w + f ≤ 10 → n + 1 ≤ 10 ^ w → (n + 1) * 10 ^ f ≤ 10 ^ 10

@@ -65,10 +65,10 @@ no_branch_refused bytes front left cards next number are none stops is =
     let w = has_source (line_at all (sources_at all)) in
     let count : max 1 (length (cards_of all)) ≡ 1 = omega (arith, ap length (cards_all all front left cards next are)) in
     ap (λ o. deck_by o (case_by all nodes w))
-        (ap (λ n. misfit nodes 1 (places n w) all) count
-        ∙ (are.head nodes).goes_on (replicate 1 branch ++ places_behind w)
-        ∙ (stops nodes).stops (places_behind w)
-        ∙ ap Some (sym is))
+    (ap (λ n. misfit nodes 1 (places n w) all) count
+    ∙ (are.head nodes).goes_on (replicate 1 branch ++ places_behind w)
+    ∙ (stops nodes).stops (places_behind w)
+    ∙ ap Some (sym is))
 
 -- a line behind the branch cards doesn't fit
 pub tail_refused : (bytes : List ℕ) (front left : Lines) (cards : List BranchCard) (next number : ℕ) (nodes : List (List ℕ)) → AreRead (lines_of bytes) front left cards next → 1 ≤ length cards
@@ -79,10 +79,10 @@ tail_refused bytes front left cards next number nodes are some names out =
     let w = has_source (line_at all (sources_at all)) in
     let same : nodes_from [] (cards_of all) ≡ nodes = ap (nodes_from []) (sym (cards_all all front left cards next are)) ∙ sym names in
     ap (λ o. deck_by o (case_by all (nodes_from [] (cards_of all)) w))
-        (ap (λ ns. misfit ns 1 (places (max 1 (length (cards_of all))) w) all) same
-        ∙ behind_branches all front left cards next are some nodes w
-        ∙ ap (λ line. misfit nodes next (places_behind (has_source line)) left) (sym (source_line all front left cards next are some))
-        ∙ out)
+    (ap (λ ns. misfit ns 1 (places (max 1 (length (cards_of all))) w) all) same
+    ∙ behind_branches all front left cards next are some nodes w
+    ∙ ap (λ line. misfit nodes next (places_behind (has_source line)) left) (sym (source_line all front left cards next are some))
+    ∙ out)
 
 parts_of-same : (run run' : RunData) (nodes nodes' : List (List ℕ)) (branches branches' : List Branch) (sources sources' : List Source) (output output' : ℕ)
     → run ≡ run' → nodes ≡ nodes' → branches ≡ branches' → sources ≡ sources' → output ≡ output' → parts_of run nodes branches sources output ≡ parts_of run' nodes' branches' sources' output'
@@ -111,11 +111,11 @@ all_read bytes front left cards next at nodes run source output are some names f
     let same : nodes_from [] (cards_of all) ≡ nodes = ap (nodes_from []) (sym is_cards) ∙ sym names in
     let at_is : at ≡ sources_at all = is_at ∙ sym (sources_at_is all front left cards next are some) in
     let fit = ap (λ ns. misfit ns 1 (places (max 1 (length (cards_of all))) w) all) same
-        ∙ behind_branches all front left cards next are some nodes w
-        ∙ ap (λ x. misfit nodes next (places_behind x) left) (sym w_is) ∙ fits in
+    ∙ behind_branches all front left cards next are some nodes w
+    ∙ ap (λ x. misfit nodes next (places_behind x) left) (sym w_is) ∙ fits in
     let sources = is_source ∙ ap (λ x. sources_by x nodes at (line_at left 2)) w_is ∙ ap (λ k. sources_by w nodes k (line_at left 2)) at_is ∙ ap (λ line. sources_by w nodes (sources_at all) line) behind in
     let out = is_output ∙ ap (λ x. node_of nodes (unwrap_or (line_at left (output_at x 2) and_then output_card) [])) w_is
-        ∙ ap (λ line. node_of nodes (unwrap_or (line and_then output_card) [])) (output_behind all front left cards next w are some) in
+    ∙ ap (λ line. node_of nodes (unwrap_or (line and_then output_card) [])) (output_behind all front left cards next w are some) in
     ap (λ o. deck_by o (case_by all (nodes_from [] (cards_of all)) w)) fit
     ∙ ap (λ ns. Ok (case_by all ns w)) same
     ∙ ap (λ p. Ok p) (parts_of-same _ _ _ _ _ _ _ _ _ _ (sym is_run) refl (ap (branches_of nodes 4) (sym is_cards)) (sym sources) (sym out))

@@ -119,8 +119,8 @@ unfoldable pub first_card : List ℕ → Option Times
 first_card line =
     if is_empty line 17 80
     then (number_in line 1 8 12 1000 (10 ^ 12) and_then λ dt.
-        number_in line 9 16 12 1 (10 ^ 18) and_then λ end.
-        times_of dt (unsigned_abs (near (pos end) (pos dt))))
+    number_in line 9 16 12 1 (10 ^ 18) and_then λ end.
+    times_of dt (unsigned_abs (near (pos end) (pos dt))))
     else None
 
 -- the second one: IOUT, IPLOT, and no more; IPLOT 0 means 1
@@ -141,7 +141,7 @@ unfoldable pub branch_card : List ℕ → Option BranchCard
 branch_card line =
     if is_empty line 1 2 && is_empty line 15 26 && is_empty line 33 80
     then (name_in line 3 and_then λ a. name_in line 9 and_then λ b. number_in line 27 32 6 10 (10 ^ 15) and_then λ r.
-        if bytes_eq a b then None else Some (record { from = a; to = b; r = r }))
+    if bytes_eq a b then None else Some (record { from = a; to = b; r = r }))
     else None
 
 -- a card that ends a section

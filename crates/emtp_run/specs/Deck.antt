@@ -97,8 +97,8 @@ output_at with_source at = at + lines_of_sources with_source
 abbrev pub case_by : List (Option (List ℕ)) → List (List ℕ) → Bool → Parts
 case_by lines nodes with_source =
     parts_of (run_in lines) nodes (branches_of nodes 4 (cards_of lines))
-        (sources_by with_source nodes (sources_at lines) (line_at lines (sources_at lines)))
-        (node_of nodes (unwrap_or (line_at lines (output_at with_source (sources_at lines)) and_then output_card) []))
+    (sources_by with_source nodes (sources_at lines) (line_at lines (sources_at lines)))
+    (node_of nodes (unwrap_or (line_at lines (output_at with_source (sources_at lines)) and_then output_card) []))
 
 abbrev pub deck_by : Option ℕ → Parts → Result Parts ℕ
 deck_by None case = Ok case

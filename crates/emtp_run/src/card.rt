@@ -159,7 +159,14 @@ fn value(number: Decimal, scale: u32) -> u128
 
 /// The number in these columns in units of 10^-scale, where it is one and in its range.
 #[tactic(auto, unfolding(crate::specs::Card::number_in))]
-fn read_number(line: &[u8], first: usize, last: usize, scale: u32, low: u64, high: u64) -> Option<u64>
+fn read_number(
+    line: &[u8],
+    first: usize,
+    last: usize,
+    scale: u32,
+    low: u64,
+    high: u64,
+) -> Option<u64>
     requires first { 1 ≤ first }
     requires last { first ≤ last }
     requires width { last < first + 10 }

@@ -56,12 +56,7 @@ fn fill_values(network: &Network<'_>, channels: &[Channel], row: &mut [i64])
 }
 
 /// Takes the last record as a sample.
-fn take_sample(
-    network: &Network<'_>,
-    channels: &[Channel],
-    row: &mut [i64],
-    samples: &mut Samples,
-)
+fn take_sample(network: &Network<'_>, channels: &[Channel], row: &mut [i64], samples: &mut Samples)
     requires width { length row.old ≡ length channels.now }
     requires channels { samples.old.channels ≡ length channels.now }
     requires room { length samples.old.rows < samples.old.room }

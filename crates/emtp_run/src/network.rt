@@ -64,7 +64,11 @@ fn conductance_of(r: i64) -> i128
     ensures value { result ≡ near (pos (10 ^ 18)) r }
     ensures bound { unsigned_abs result ≤ 10 ^ 18 }
 {
-    if r == 0 { 0 } else { near(SCALE, i128::from(r)) }
+    if r == 0 {
+        0
+    } else {
+        near(SCALE, i128::from(r))
+    }
 }
 
 #[tactic(auto, unfolding(crate::specs::Network::conductance))]

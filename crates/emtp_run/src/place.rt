@@ -11,7 +11,10 @@ ghost use Rattle.emtp_case.specs.Source.{IsSource};
 ghost use Rattle.emtp_run.specs.Deck.{run_in, node_of, source_of, no_source, sources_by, source_list, lines_of_sources, output_at};
 ghost use Rattle.emtp_run.specs.Reading.{Passes, StopsAt};
 
-use crate::card::{BranchCard, Times, branch_card, first_card, is_blank_card, output_card, second_card, source_card};
+use crate::card::{
+    BranchCard, Times, branch_card, first_card, is_blank_card, output_card, second_card,
+    source_card,
+};
 use crate::line::{Lines, first_line};
 use emtp_case::{Name, RunData, Shape, Source};
 use std::alloc::{AllocError, Global};
@@ -231,7 +234,11 @@ fn end(lines: &mut Lines<'_>) -> Option<()>
     ensures stops { (nodes : List (List ℕ)) → IsNone result → misfit nodes (lines.old.number + 1) [] (lines_of lines.old.rest.now) ≡ Some lines.new.number }
 {
     lines.number += 1;
-    if lines.rest.is_empty() { Some(()) } else { None }
+    if lines.rest.is_empty() {
+        Some(())
+    } else {
+        None
+    }
 }
 
 /// The cards that end the branches and the switches.

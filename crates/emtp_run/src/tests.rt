@@ -13,6 +13,25 @@ const DIVIDER: &str =
 const UNEXCITED: &str =
     "BEGIN NEW DATA CASE\n   1.E-4   3.E-4\n       1       1\n  SRC   MID                  1.0\n  MID                        1.0\nBLANK\nBLANK\n11SRC          0.0\nBLANK\n  MID\nBLANK\n";
 
+// The divider, line by line.
+const LINES: [&str; 11] = [
+    "BEGIN NEW DATA CASE",
+    "   1.E-4   3.E-4",
+    "       1       1",
+    "  SRC   MID                  1.0",
+    "  MID                        1.0",
+    "BLANK",
+    "BLANK",
+    "11SRC        100.0",
+    "BLANK",
+    "  MID",
+    "BLANK",
+];
+
+// Two resistances of 0.01 milliohm from one node to ground: their conductances together leave the range.
+const STIFF: &str =
+    "BEGIN NEW DATA CASE\n   1.E-4   1.E-4\n       1       1\n  A                        1.E-5\n  A                        1.E-5\nBLANK\nBLANK\nBLANK\n  A\nBLANK\n";
+
 // A resistance between two nodes that nothing ties to ground, for one step.
 const FLOATING: &str =
     "BEGIN NEW DATA CASE\n   1.E-4   1.E-4\n       1       1\n  A     B                    1.0\nBLANK\nBLANK\nBLANK\n  A\nBLANK\n";
@@ -117,6 +136,13 @@ fn answers_how_a_case_ends(rt: HostRuntime) -> Result<(), Fail> {
             "ENDED STEP 1 ZEROPIVOT B SAMPLES 1\n",
         ),
         (
+            STIFF,
+            Status::Ended,
+            Some(FLOATING_CFG),
+            Some("1,0,0\r\n\x1a"),
+            "ENDED STEP 1 RANGE A SAMPLES 1\n",
+        ),
+        (
             "",
             Status::BadCard,
             None,
@@ -209,6 +235,70 @@ fn keeps_a_refusal_whose_note_fails(rt: HostRuntime) -> Result<(), Fail> {
         let mut cab = cabinet(alloc, "", &[Failing { op, nth: 1 }])?;
         assert_eq!(rt; call(alloc, &["run"], &mut cab)?, Status::Usage);
         assert!(rt; is_written(&cab, Output::Note, note));
+    }
+    Ok(())
+}
+
+// The divider with another text in place of one of its lines.
+fn with_line(alloc: Global, at: usize, text: &str) -> Result<String, AllocError> {
+    let mut case = String::new(alloc);
+    for i in 0..LINES.len() {
+        case.push_str(if i == at { text } else { LINES[i] })?;
+        case.push_str("\n")?;
+    }
+    Ok(case)
+}
+
+#[test]
+fn names_the_line_that_is_broken(rt: HostRuntime) -> Result<(), Fail> {
+    let alloc = rt.alloc();
+    for (at, text, note) in [
+        (
+            0,
+            "BEGIN NEW DATA CASE ",
+            "BAD CARD LINE 1 COLUMN 1 REASON 19 NotBuilt\n",
+        ),
+        (
+            1,
+            "   1.E-4",
+            "BAD CARD LINE 2 COLUMN 1 REASON 19 NotBuilt\n",
+        ),
+        (
+            2,
+            "       1      -1",
+            "BAD CARD LINE 3 COLUMN 1 REASON 19 NotBuilt\n",
+        ),
+        (
+            3,
+            "  SRC   MID                  1.0   5.0",
+            "BAD CARD LINE 4 COLUMN 1 REASON 19 NotBuilt\n",
+        ),
+        (
+            4,
+            "  MID   MID                  1.0",
+            "BAD CARD LINE 5 COLUMN 1 REASON 19 NotBuilt\n",
+        ),
+        (
+            5,
+            "  SRC   MID",
+            "BAD CARD LINE 6 COLUMN 1 REASON 19 NotBuilt\n",
+        ),
+        (6, "blank", "BAD CARD LINE 7 COLUMN 1 REASON 19 NotBuilt\n"),
+        (
+            7,
+            "12SRC        100.0",
+            "BAD CARD LINE 8 COLUMN 1 REASON 19 NotBuilt\n",
+        ),
+        (8, " BLANK", "BAD CARD LINE 9 COLUMN 1 REASON 19 NotBuilt\n"),
+        (9, "  MIX", "BAD CARD LINE 10 COLUMN 1 REASON 19 NotBuilt\n"),
+        (10, "", "BAD CARD LINE 11 COLUMN 1 REASON 19 NotBuilt\n"),
+    ] {
+        let case = with_line(alloc, at, text)?;
+        let mut cab = cabinet(alloc, case.as_str(), &[])?;
+        assert_eq!(rt; call(alloc, &RUN, &mut cab)?, Status::BadCard);
+        assert!(rt; is_written(&cab, Output::Cfg, None));
+        assert!(rt; is_written(&cab, Output::Dat, None));
+        assert!(rt; is_written(&cab, Output::Note, Some(note)));
     }
     Ok(())
 }

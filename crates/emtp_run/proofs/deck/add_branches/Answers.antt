@@ -13,7 +13,7 @@ add_lumped-requires-clause-room c =
 pub add_lumped-requires-clause-fits : goal.add_lumped-requires-clause-fits
 add_lumped-requires-clause-fits c =
     rw (c.loop-at.invariant, c.requires.nodes, c.lumped.ensures, c.requires.names, c.index-cards-at.is)
-        (card_fits c.args.draft.now.parts.run c.args.cards.now c.loop-at.at c.index-cards-at.result c.loop-at-test.true c.requires.cards)
+    (card_fits c.args.draft.now.parts.run c.args.cards.now c.loop-at.at c.index-cards-at.result c.loop-at-test.true c.requires.cards)
 
 pub loop-at-preserved : goal.loop-at-preserved
 loop-at-preserved c =
@@ -23,4 +23,4 @@ loop-at-preserved c =
     c.in_ok-add_lumped.ensures.ok
     ∙ ap (λ (p : Parts). record p { branches = p.branches ++ OfLumped c.lumped.result ∷ [] }) c.loop-at.invariant
     ∙ ap (λ bs. record c.args.draft.now.parts { branches = bs })
-        (ap (λ b. branches_of names 4 (take at c.args.cards.now) ++ OfLumped b ∷ []) card ∙ sym (branches_of-more names c.args.cards.now at c.index-cards-at.result c.loop-at-test.true))
+    (ap (λ b. branches_of names 4 (take at c.args.cards.now) ++ OfLumped b ∷ []) card ∙ sym (branches_of-more names c.args.cards.now at c.index-cards-at.result c.loop-at-test.true))

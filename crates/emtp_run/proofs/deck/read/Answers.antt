@@ -18,21 +18,21 @@ returns-in_default-clause-bad c =
 pub returns-then-is_empty-clause-bad : goal.returns-then-is_empty-clause-bad
 returns-then-is_empty-clause-bad c =
     let are = are_read c.args.bytes.now c.new-lines.result.rest.now _ _ _ _ c.new-lines.ensures.rest (c.in-Some.ensures.left refl) c.in_ok-cards.ensures.cards c.in_ok-cards.ensures.left
-        c.in_ok-cards.ensures.number (λ nodes. c.in-Some.ensures.passes nodes refl) (λ nodes. c.in_ok-cards.ensures.passes nodes) in
+    c.in_ok-cards.ensures.number (λ nodes. c.in-Some.ensures.passes nodes refl) (λ nodes. c.in_ok-cards.ensures.passes nodes) in
     let none : length c.in_ok-cards.cards.items ≡ 0 = omega (arith, none_left _ c.if-is_empty.ensures) in
     no_branch_refused c.args.bytes.now _ _ _ _ _ are none (λ nodes. c.in_ok-cards.ensures.stops nodes none) (omega (arith, c.in_ok-cards.ensures.number, none))
 
 pub returns-in_default-read_tail-clause-bad : goal.returns-in_default-read_tail-clause-bad
 returns-in_default-read_tail-clause-bad c =
     let are = are_read c.args.bytes.now c.new-lines.result.rest.now _ _ _ _ c.new-lines.ensures.rest (c.in-Some.ensures.left refl) c.in_ok-cards.ensures.cards c.in_ok-cards.ensures.left
-        c.in_ok-cards.ensures.number (λ nodes. c.in-Some.ensures.passes nodes refl) (λ nodes. c.in_ok-cards.ensures.passes nodes) in
+    c.in_ok-cards.ensures.number (λ nodes. c.in-Some.ensures.passes nodes refl) (λ nodes. c.in_ok-cards.ensures.passes nodes) in
     let some : 1 ≤ length c.in_ok-cards.cards.items = omega (arith, some_left _ c.if-is_empty.ensures) in
     tail_refused c.args.bytes.now _ _ _ _ _ c.as_slice.result.now are some (c.as_slice.ensures ∙ c.in_ok-names.ensures.names ∙ ap (nodes_from []) c.deref.ensures.value) (c.in_default-read_tail.ensures.stops refl)
 
 pub returns-clause-ok : goal.returns-clause-ok
 returns-clause-ok c =
     let are = are_read c.args.bytes.now c.new-lines.result.rest.now _ _ _ _ c.new-lines.ensures.rest (c.in-Some.ensures.left refl) c.in_ok-cards.ensures.cards c.in_ok-cards.ensures.left
-        c.in_ok-cards.ensures.number (λ nodes. c.in-Some.ensures.passes nodes refl) (λ nodes. c.in_ok-cards.ensures.passes nodes) in
+    c.in_ok-cards.ensures.number (λ nodes. c.in-Some.ensures.passes nodes refl) (λ nodes. c.in_ok-cards.ensures.passes nodes) in
     let some : 1 ≤ length c.in_ok-cards.cards.items = omega (arith, some_left _ c.if-is_empty.ensures) in
     let names = c.as_slice.ensures ∙ c.in_ok-names.ensures.names ∙ ap (nodes_from []) c.deref.ensures.value in
     let run = c.in-Some.ensures.value ∙ ap (λ bytes. run_in (lines_of bytes)) c.new-lines.ensures.rest in

@@ -7,12 +7,12 @@ use Rattle.emtp_run.proofs.machine.simulate.Goals as goal
 
 pub loop-n-init : goal.loop-n-init
 loop-n-init c = record {
-    same_case = ap (λ b. b.now.parts) c.in_ok-network.ensures.case;
-    width = grind (arith, elements, c.take_sample.ensures.width, c.as_mut_slice.ensures.len, c.in_ok-row.ensures.len, c.in_ok-row.ensures.items, c.as_slice-channels.ensures);
-    channels = search rules;
-    room = search rules;
-    at = started c.args.case.now.parts (step_of c.in_ok-network.network.last) c.in_ok-samples.samples.rows c.take_sample.new.samples.rows c.as_slice-channels.result.now c.as_slice-channels.ensures c.in_ok-network.ensures.rest (ap (λ (s : Sampled). s.rows) c.in_ok-samples.ensures) (ap (λ (s : Sampled). s.rows) c.take_sample.ensures.samples);
-  }
+  same_case = ap (λ b. b.now.parts) c.in_ok-network.ensures.case;
+  width = grind (arith, elements, c.take_sample.ensures.width, c.as_mut_slice.ensures.len, c.in_ok-row.ensures.len, c.in_ok-row.ensures.items, c.as_slice-channels.ensures);
+  channels = search rules;
+  room = search rules;
+  at = started c.args.case.now.parts (step_of c.in_ok-network.network.last) c.in_ok-samples.samples.rows c.take_sample.new.samples.rows c.as_slice-channels.result.now c.as_slice-channels.ensures c.in_ok-network.ensures.rest (ap (λ (s : Sampled). s.rows) c.in_ok-samples.ensures) (ap (λ (s : Sampled). s.rows) c.take_sample.ensures.samples);
+}
 
 pub returns-in-Err-Fault-clause-run : goal.returns-in-Err-Fault-clause-run
 returns-in-Err-Fault-clause-run c =

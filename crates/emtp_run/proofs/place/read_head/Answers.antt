@@ -14,13 +14,13 @@ pub returns-in_err-times-clause-stops : goal.returns-in_err-times-clause-stops
 returns-in_err-times-clause-stops c = λ nodes _.
     let one : c.args.lines.now.number + 1 ≡ 1 = omega arith in
     rw one at (stops_second nodes (begin ∷ []) (first ∷ second ∷ []) _ _ _ _ _ (c.in_ok-begin.ensures.passes nodes refl)
-        (stops_first nodes (first ∷ []) (second ∷ []) _ _ _ (c.in_err-times.ensures.stops nodes refl)))
+    (stops_first nodes (first ∷ []) (second ∷ []) _ _ _ (c.in_err-times.ensures.stops nodes refl)))
 
 pub returns-in_err-every-clause-stops : goal.returns-in_err-every-clause-stops
 returns-in_err-every-clause-stops c = λ nodes _.
     let one : c.args.lines.now.number + 1 ≡ 1 = omega arith in
     rw one at (stops_second nodes (begin ∷ []) (first ∷ second ∷ []) _ _ _ _ _ (c.in_ok-begin.ensures.passes nodes refl)
-        (stops_second nodes (first ∷ []) (second ∷ []) _ _ _ _ _ (c.in_ok-times.ensures.passes nodes refl) (c.in_err-every.ensures.stops nodes refl)))
+    (stops_second nodes (first ∷ []) (second ∷ []) _ _ _ _ _ (c.in_ok-times.ensures.passes nodes refl) (c.in_err-every.ensures.stops nodes refl)))
 
 pub returns-clause-value : goal.returns-clause-value
 returns-clause-value c =
@@ -32,4 +32,4 @@ returns-clause-passes c = λ nodes _.
     let one : c.args.lines.now.number + 1 ≡ 1 = omega arith in
     let four : c.second.new.lines.number + 1 ≡ 4 = omega (arith, c.in_ok-begin.ensures.number, c.in_ok-times.ensures.number, c.in_ok-every.ensures.number) in
     rw (one, four) at (passes_both nodes (begin ∷ []) (first ∷ second ∷ []) _ _ _ _ _ _ (c.in_ok-begin.ensures.passes nodes refl)
-        (passes_both nodes (first ∷ []) (second ∷ []) _ _ _ _ _ _ (c.in_ok-times.ensures.passes nodes refl) (c.in_ok-every.ensures.passes nodes refl)))
+    (passes_both nodes (first ∷ []) (second ∷ []) _ _ _ _ _ _ (c.in_ok-times.ensures.passes nodes refl) (c.in_ok-every.ensures.passes nodes refl)))

@@ -21,7 +21,7 @@ returns-then-i-fixed c =
     let fixed : i < (order_of case).fixed = omega (arith, ap (λ (o : Rows). o.fixed) network.ordered) in
     let is = is_fixed case i (sources_first_of case network.order network.ordered network.size network.sources_first) fixed in
     row_is case i c.fill_unit.new.out below size (λ j within.
-        c.fill_unit.ensures j (omega (arith, size, rows, c.requires.size)) ∙ sym (source_entry case i j below (omega (arith, size)) is))
+    c.fill_unit.ensures j (omega (arith, size, rows, c.requires.size)) ∙ sym (source_entry case i j below (omega (arith, size)) is))
 
 pub returns-else-i-fixed : goal.returns-else-i-fixed
 returns-else-i-fixed c =
@@ -35,7 +35,7 @@ returns-else-i-fixed c =
     let is = is_plain case i (sources_first_of case network.order network.ordered network.size network.sources_first) below past in
     let node : c.node_at.result ≡ node_at case i = sym c.node_at.ensures.node ∙ ap (λ (o : Rows). slice_index o.nodes i) network.ordered in
     row_is case i c.fill_currents.new.out below size (λ j within.
-        c.fill_currents.ensures j (omega (arith, size, rows, c.requires.size))
-        ∙ ap (λ n. total (share n (slice_index network.order.nodes j)) case.branches) node
-        ∙ ap (λ (o : Rows). total (share (node_at case i) (slice_index o.nodes j)) case.branches) network.ordered
-        ∙ sym (plain_entry case i j below (omega (arith, size)) is))
+    c.fill_currents.ensures j (omega (arith, size, rows, c.requires.size))
+    ∙ ap (λ n. total (share n (slice_index network.order.nodes j)) case.branches) node
+    ∙ ap (λ (o : Rows). total (share (node_at case i) (slice_index o.nodes j)) case.branches) network.ordered
+    ∙ sym (plain_entry case i j below (omega (arith, size)) is))
