@@ -1,8 +1,10 @@
 //! The worked branches: 1 ohm with an inductance or a capacitance at 100 V, stepped by 100 microseconds.
 
-ghost use Rattle.std.specs.Prelude.{◌≡◌, ◌^◌, ◌≤◌, [], ◌∷◌, unsigned_abs, IfOk};
+ghost use Rattle.std.specs.Prelude.{◌≡◌, ◌≢◌, ◌^◌, ◌≤◌, ◌-ℤ◌, [], ◌∷◌, List, unsigned_abs, IfOk};
 ghost use Rattle.emtp_case.specs.declared.branch.Lumped.{Lumped};
-ghost use Rattle.emtp_lumped.specs.Lumping.{IsSeries};
+ghost use Rattle.emtp_case.specs.declared.branch.LumpedState.{LumpedState};
+ghost use Rattle.emtp_lumped.specs.Series.{law_of, next_state};
+ghost use Rattle.emtp_lumped.specs.Lumping.{IsSeries, StandsAt, Accepts, newest};
 ghost use Rattle.emtp_case.specs.Branch.{IsLumped};
 
 use crate::Lumps;
@@ -20,14 +22,24 @@ const RUN: RunData = RunData {
 
 const VOLT: i64 = 1_000_000_000;
 
-/// The currents of a step and the next one, at the same voltages.
-fn two_steps(lumps: &mut Lumps<'_>, branch: usize, v: i64, w: i64) -> Result<(i64, i64), OutOfRange>
-    requires series { (x : Lumped) × IsSeries lumps.old.case branch x }
+/// Two branches, one after the other: afterwards each stands for one more record, as its own law has it.
+fn two_branches(
+    lumps: &mut Lumps<'_>,
+    a: usize,
+    b: usize,
+    v: i64,
+    w: i64,
+) -> Result<(i64, i64), OutOfRange>
+    requires apart { a ≢ b }
+    requires first { (x : Lumped) × IsSeries lumps.old.case a x }
+    requires second { (x : Lumped) × IsSeries lumps.old.case b x }
     requires v { unsigned_abs v ≤ 10 ^ 18 }
     requires w { unsigned_abs w ≤ 10 ^ 18 }
+    ensures first { (x : Lumped) (past : List LumpedState) → IsSeries lumps.old.case a x → StandsAt lumps.old a past → IfOk result (λ i. Accepts (Ok i.0) lumps.new a past (next_state (law_of lumps.old.case.run.dt x) (newest past) (v -ℤ w))) }
+    ensures second { (x : Lumped) (past : List LumpedState) → IsSeries lumps.old.case b x → StandsAt lumps.old b past → IfOk result (λ i. Accepts (Ok i.1) lumps.new b past (next_state (law_of lumps.old.case.run.dt x) (newest past) (v -ℤ w))) }
 {
-    let first = lumps.accept(branch, v, w)?;
-    let second = lumps.accept(branch, v, w)?;
+    let first = lumps.accept(a, v, w)?;
+    let second = lumps.accept(b, v, w)?;
     Ok((first, second))
 }
 
