@@ -1,0 +1,4 @@
+pub mod Bounds
+pub mod Held
+pub mod Chain
+pub mod Composed
