@@ -312,6 +312,9 @@ fn solves_systems_worked_out_by_hand(rt: HostRuntime) {
     let megohm = filled(alloc, 1, 0, &[1_000_000]).expect(&rt, "memory");
     let far = eliminate_plain(alloc, &megohm, &[1_000_000_000_000_000], &mut x).map_err(named);
     assert!(rt; far == Err(Some((0, None))));
+    let stiff = filled(alloc, 1, 0, &[200_000 * P]).expect(&rt, "memory");
+    let out = eliminate_plain(alloc, &stiff, &[0], &mut x).map_err(named);
+    assert!(rt; out == Err(Some((0, Some(RowCause::Range)))));
     let mut y = [0; 2];
     let bridge = filled(alloc, 2, 0, &[3 * P, -P, -P, 2 * P]).expect(&rt, "memory");
     let solved = eliminate_plain(alloc, &bridge, &[5_000_000_000, 0], &mut y);
