@@ -13,3 +13,4 @@ pub mod Unknowns
 pub mod Solutions
 pub mod Adding
 pub mod Prefix
+pub mod FaultRows

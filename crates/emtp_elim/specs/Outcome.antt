@@ -1,7 +1,7 @@
 -- How an elimination ends, as a function of the matrix and the right side: with the solution, or with the first fault
 -- in this order. The least faulty row of the matrix, out of range before a zero pivot; the least row whose right side
 -- leaves its range; the last row whose unknown does.
-use Rattle.std.specs.Prelude.{◌≡◌, ⊤, ℕ, zero, suc, ◌^◌, ℤ, unsigned_abs, nat_le, nat_lt, nat_eq, Bool, true, ◌&&◌, ◌||◌, List, length, Option, Some, None, Result, Ok, Err, if◌then◌else◌}
+use Rattle.std.specs.Prelude.{◌≡◌, ⊤, ℕ, zero, suc, ◌^◌, ◌<◌, ℤ, unsigned_abs, nat_le, nat_lt, nat_eq, Bool, true, ◌&&◌, ◌||◌, List, length, Option, Some, None, Result, Ok, Err, if◌then◌else◌}
 use Rattle.emtp_elim.specs.Matrix.{Matrix, item, row_of, entry}
 use Rattle.emtp_elim.specs.Elimination.{ratio, stage, stage_right, solution}
 use Rattle.emtp_elim.specs.Fault.{pivot}
@@ -81,3 +81,9 @@ abbrev pub EndsInFault : Result (List ℤ) PlainFault → PlainFault → Type 0
 EndsInFault end (Row fault) = end ≡ Err (Row fault)
 EndsInFault end (Solve fault) = end ≡ Err (Solve fault)
 EndsInFault end NoMemory = ⊤
+
+-- the fault names one of n rows, or is the want of memory
+abbrev pub HasRow : ℕ → PlainFault → Type 0
+HasRow n (Row fault) = fault.row < n
+HasRow n (Solve fault) = fault.row < n
+HasRow n NoMemory = ⊤

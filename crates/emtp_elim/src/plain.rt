@@ -2,7 +2,7 @@
 ghost use Rattle.std.specs.Prelude.{◌≡◌, length, OnOk, IfOk, IfErr, Ok};
 ghost use Rattle.emtp_elim.specs.Matrix.{Matrix};
 ghost use Rattle.emtp_elim.specs.Finished.{AreAllFinished, IsMatrixFault};
-ghost use Rattle.emtp_elim.specs.Outcome.{outcome, EndsInFault};
+ghost use Rattle.emtp_elim.specs.Outcome.{outcome, EndsInFault, HasRow};
 
 use crate::fault::{PlainFault, RowFault};
 use crate::rows::Rows;
@@ -43,6 +43,7 @@ pub fn eliminate_plain<R: Rows>(
     requires x { length x.old ≡ length (R.matrix rows.now) }
     ensures solved { OnOk result (outcome (R.matrix rows.now) rhs.now ≡ Ok x.new) }
     ensures fault { IfErr result (EndsInFault (outcome (R.matrix rows.now) rhs.now)) }
+    ensures row { IfErr result (HasRow (length (R.matrix rows.now))) }
 {
     let done = factor(alloc, rows)?;
     let mut buffer = Vec::from_slice(alloc, rhs)?;

@@ -1,97 +1,29 @@
--- The row of a fault is one of the system's rows.
-use Rattle.std.proofs.Common.{◌≡◌, ◌⊎◌, sym, ap, ℕ, zero, suc, ◌<◌, ◌^◌, unsigned_abs, nat_eq, Bool, true, false, if◌then◌else◌, List, ℤ, length, Option, Some, None, Result, Ok, Err, refl, inl, inr, arith}
-use Rattle.emtp_elim.specs.Matrix.{Matrix, item}
-use Rattle.emtp_elim.specs.Elimination.{solution}
-use Rattle.emtp_elim.specs.Fault.{pivot}
-use Rattle.emtp_elim.specs.Outcome.{or_else, first_below, last_below, is_within, is_row_in_range, is_right_in_range, row_fault, right_fault, unknown_fault, unless, outcome, EndsInFault}
+-- The fault of a step: that of its elimination or of a branch, and the node that it names.
+use Rattle.std.proofs.Common.{◌≡◌, ℕ, ◌+◌, ◌==◌, ◌<◌, Bool, true, false, Option, Some, None, Result, Ok, Err, List, ℤ, All, length, map, pos, slice_index, slice_index_or, sym, ap, subst, ◌∙◌, inl, inr, refl, arith}
+use Rattle.std.proofs.lemmas.Bool.{cases_eq}
+use Rattle.std.proofs.lemmas.Bool.Decides.{nat_tests}
+use Rattle.std.proofs.lemmas.List.{get_or-map}
+use Rattle.std.proofs.lemmas.List.Elements.{All-get_or, All-from_get_or}
+use Rattle.std.proofs.lemmas.List.FromFn.{length-range_with_len, get_or-range_with_len}
+use Rattle.std.proofs.lemmas.List.Quantifiers.{position-Some}
+use Rattle.std.proofs.lemmas.List.Sorted.{All-permutation}
+use Rattle.std.specs.List.{position, range_with_len}
+use Rattle.emtp_case.specs.Branch.{from_of, to_of}
+use Rattle.emtp_case.specs.Case.{IsCase}
+use Rattle.emtp_case.specs.Range.{AreEnds}
+use Rattle.emtp_case.specs.RowOrder.{order_of}
+use Rattle.emtp_case.specs.declared.branch.Branch.{Branch}
+use Rattle.emtp_case.specs.declared.branch.Branch.TheVariants.{Lumped as OfLumped}
 use Rattle.emtp_case.specs.declared.case.Parts.{Parts}
-use Rattle.emtp_run.specs.Network.{HasRow, IfFault, nodal_matrix, right_sides, solved, stop_of, next}
-use Rattle.emtp_run.proofs.Nodal.{length-nodal_matrix}
+use Rattle.emtp_case.proofs.NodeOrder.{length-order_of, order_of-IsRowOrder}
+use Rattle.emtp_elim.specs.Outcome.{outcome, EndsInFault}
 use Rattle.emtp_elim.specs.declared.fault.PlainFault.{PlainFault}
 use Rattle.emtp_elim.specs.declared.fault.PlainFault.TheVariants.{Row, Solve, NoMemory}
-use Rattle.emtp_elim.specs.declared.fault.RowFault.{RowFault}
-use Rattle.emtp_elim.specs.declared.fault.RowCause.TheVariants.{Range, ZeroPivot}
-use Rattle.emtp_elim.specs.declared.fault.SolveFault.{SolveFault}
-
-which : {X : Type 0} (a b : Option X) (x : X) → or_else a b ≡ Some x → (a ≡ Some x) ⊎ (b ≡ Some x)
-which None b x h = inr h
-which (Some y) b x h = inl h
-
--- what is found below n has a place below n
-first_in : {X : Type 0} (n : ℕ) (f : ℕ → Option X) (place : X → ℕ) → ((i : ℕ) (x : X) → f i ≡ Some x → place x ≡ i) → (x : X) → first_below n f ≡ Some x → place x < n
-first_in zero f place own x found = absurd (cc)
-first_in (suc n) f place own x found = elim (which (first_below n f) (f n) x found) [
-  | inl before ↦ omega (arith, first_in n f place own x before)
-  | inr here ↦ omega (arith, own n x here)
-]
-
-last_in : {X : Type 0} (n : ℕ) (f : ℕ → Option X) (place : X → ℕ) → ((i : ℕ) (x : X) → f i ≡ Some x → place x ≡ i) → (x : X) → last_below n f ≡ Some x → place x < n
-last_in zero f place own x found = absurd (cc)
-last_in (suc n) f place own x found = elim (which (f n) (last_below n f) x found) [
-  | inl here ↦ omega (arith, own n x here)
-  | inr before ↦ omega (arith, last_in n f place own x before)
-]
-
-abbrev row_place : Option RowFault → ℕ
-row_place None = 0
-row_place (Some fault) = fault.row
-
-abbrev solve_place : Option SolveFault → ℕ
-solve_place None = 0
-solve_place (Some fault) = fault.row
-
-by_tests : (b c : Bool) (i : ℕ) (x : RowFault) → (if b then (if c then Some (record { row = i; cause = ZeroPivot }) else None) else Some (record { row = i; cause = Range })) ≡ Some x → x.row ≡ i
-by_tests true true i x h = ap row_place (sym h)
-by_tests true false i x h = absurd (cc)
-by_tests false c i x h = ap row_place (sym h)
-
-row_own : (rows : Matrix) (i : ℕ) (x : RowFault) → row_fault rows i ≡ Some x → x.row ≡ i
-unfolding row_fault
-row_own rows i x h = by_tests (is_row_in_range rows i) (nat_eq (unsigned_abs (pivot rows i)) 0) i x h
-
-by_test : (b : Bool) (i : ℕ) (x : SolveFault) → (if b then None else Some (record { row = i })) ≡ Some x → x.row ≡ i
-by_test true i x h = absurd (cc)
-by_test false i x h = ap solve_place (sym h)
-
-right_own : (rows : Matrix) (right : List ℤ) (i : ℕ) (x : SolveFault) → right_fault rows right i ≡ Some x → x.row ≡ i
-unfolding right_fault
-right_own rows right i x h = by_test (is_right_in_range rows right i) i x h
-
-unknown_own : (rows : Matrix) (right : List ℤ) (i : ℕ) (x : SolveFault) → unknown_fault rows right i ≡ Some x → x.row ≡ i
-unfolding unknown_fault
-unknown_own rows right i x h = by_test (is_within (10 ^ 18) (item (solution rows right) i)) i x h
-
-abbrev IfFaultBelow : ℕ → Result (List ℤ) PlainFault → Type 0
-IfFaultBelow n (Ok x) = Unit {0}
-IfFaultBelow n (Err fault) = HasRow n fault
-
-unless_below : {X : Type 0} (n : ℕ) (o : Option X) (fault : X → PlainFault) (answer : Result (List ℤ) PlainFault) → ((x : X) → o ≡ Some x → HasRow n (fault x)) → IfFaultBelow n answer → IfFaultBelow n (unless o fault answer)
-unless_below n None fault answer here later = later
-unless_below n (Some x) fault answer here later = here x refl
-
-outcome_below : (rows : Matrix) (right : List ℤ) → IfFaultBelow (length rows) (outcome rows right)
-unfolding outcome
-outcome_below rows right =
-    unless_below (length rows) (first_below (length rows) (row_fault rows)) Row _ (first_in (length rows) (row_fault rows) (λ fault. fault.row) (row_own rows))
-    (unless_below (length rows) (first_below (length rows) (right_fault rows right)) Solve _ (first_in (length rows) (right_fault rows right) (λ fault. fault.row) (right_own rows right))
-    (unless_below (length rows) (last_below (length rows) (unknown_fault rows right)) Solve _ (last_in (length rows) (unknown_fault rows right) (λ fault. fault.row) (unknown_own rows right))
-    tt))
-
-below_row : (rows : Matrix) (right : List ℤ) (fault : PlainFault) → outcome rows right ≡ Err fault → HasRow (length rows) fault
-below_row rows right fault h =
-    let below = outcome_below rows right in
-    rw h at below
-
-ends_below : (rows : Matrix) (right : List ℤ) (fault : PlainFault) → EndsInFault (outcome rows right) fault → HasRow (length rows) fault
-ends_below rows right (Row fault) h = below_row rows right (Row fault) h
-ends_below rows right (Solve fault) h = below_row rows right (Solve fault) h
-ends_below rows right NoMemory h = tt
-
-pub fault_has_row : (case : Parts) (fault : PlainFault) → EndsInFault (outcome (nodal_matrix case) (right_sides case)) fault → HasRow (length case.nodes) fault
-fault_has_row case fault h =
-    let below = ends_below (nodal_matrix case) (right_sides case) fault h in
-    let size = length-nodal_matrix case in
-    rw size at below
+use Rattle.emtp_elim.proofs.FaultRows.{NamesRow, NamesRow-outcome}
+use Rattle.emtp_run.specs.declared.network.Fault.{Fault}
+use Rattle.emtp_run.specs.Network.{IfFault, IsNode, Step, end_of, node_at, nodal_matrix, right_sides, solved, step_by, stop_of, next, voltages_of}
+use Rattle.emtp_run.proofs.Nodal.{length-nodal_matrix}
+use Rattle.emtp_run.proofs.Shares.{branch_ends}
 
 -- the fault of the elimination is that of the step
 pub fault_of_step : (case : Parts) (fault : PlainFault) → EndsInFault (outcome (nodal_matrix case) (right_sides case)) fault → IfFault (stop_of case fault) (λ named. next case ≡ Err named)
@@ -99,3 +31,62 @@ unfolding next
 fault_of_step case (Row fault) h = ap (solved case) h
 fault_of_step case (Solve fault) h = ap (solved case) h
 fault_of_step case NoMemory h = tt
+
+-- ---- the node that a fault names
+
+rows_are_nodes : (case : Parts) → All (IsNode case) (order_of case).nodes
+rows_are_nodes case =
+    All-permutation (IsNode case) (range_with_len 1 (length case.nodes)) (order_of case).nodes (order_of-IsRowOrder case).each_once
+    (All-from_get_or (IsNode case) (range_with_len 1 (length case.nodes)) 0 each)
+  where
+    each : (i : ℕ) → i < length (range_with_len 1 (length case.nodes)) → IsNode case (slice_index (range_with_len 1 (length case.nodes)) i)
+    each i within =
+        let below : i < length case.nodes = omega (arith, within, length-range_with_len 1 (length case.nodes)) in
+        let value : slice_index (range_with_len 1 (length case.nodes)) i ≡ 1 + i = get_or-range_with_len 1 (length case.nodes) i 0 below in
+        (omega (arith, value), omega (arith, value, below))
+
+IsNode-node_at : (case : Parts) (row : ℕ) → row < length case.nodes → IsNode case (node_at case row)
+IsNode-node_at case row within =
+    All-get_or (IsNode case) (order_of case).nodes row 0 (omega (arith, length-order_of case)) (rows_are_nodes case)
+
+ends_name : (case : Parts) (b : Branch) → AreEnds (length case.nodes) (from_of b) (to_of b) → IsNode case (end_of b)
+ends_name case b ends = elim (cases_eq (from_of b) 0) [
+  | inl ground ↦ let is : (from_of b == 0) ≡ true = grind (arith, nat_tests, ground) in rw is (omega (arith, ground, ends.apart), ends.to_there)
+  | inr other ↦ let isnt : (from_of b == 0) ≡ false = grind (arith, nat_tests, other) in rw isnt (omega (arith, other), ends.from_there)
+]
+
+branches_name : (case : Parts) → IsCase case → All (λ b. IsNode case (end_of b)) case.branches
+branches_name case fits i d within =
+    let b = slice_index_or case.branches i d in
+    ends_name case b (branch_ends case.run (length case.nodes) (length case.trios) case.points b (fits.network.branches i d within))
+
+-- a branch that no fault names
+abbrev nowhere : Branch
+nowhere = OfLumped (record { line = 0; «from» = 0; to = 0; r = pos 0; l = pos 0; c = pos 0 })
+
+abbrev node_of : Result Step Fault → ℕ
+node_of (Ok r) = 0
+node_of (Err fault) = fault.node
+
+by_branch : (case : Parts) → IsCase case → (voltages : List ℤ) (p : Branch → Bool) (found : Option ℕ) → position p case.branches ≡ found → (fault : Fault) → step_by case voltages found ≡ Err fault → IsNode case fault.node
+by_branch case fits voltages p None is fault h = absurd (cc)
+by_branch case fits voltages p (Some b) is fault h =
+    let within = (position-Some p case.branches b nowhere is).0 in
+    let named : slice_index (map end_of case.branches) b ≡ end_of (slice_index_or case.branches b nowhere) = get_or-map end_of case.branches b nowhere 0 within in
+    subst (IsNode case) (sym named ∙ ap node_of h) (branches_name case fits b nowhere within)
+
+by_end : (case : Parts) → IsCase case → (end : Result (List ℤ) PlainFault) → ((fault : PlainFault) → end ≡ Err fault → NamesRow (length case.nodes) fault) → (fault : Fault) → solved case end ≡ Err fault → IsNode case fault.node
+by_end case fits (Ok x) names fault h = by_branch case fits (voltages_of case x) _ _ refl fault h
+by_end case fits (Err (Row row)) names fault h = subst (IsNode case) (ap node_of h) (IsNode-node_at case row.row (names (Row row) refl))
+by_end case fits (Err (Solve row)) names fault h = subst (IsNode case) (ap node_of h) (IsNode-node_at case row.row (names (Solve row) refl))
+by_end case fits (Err NoMemory) names fault h = absurd (names NoMemory refl)
+
+pub fault_names_node : (case : Parts) → IsCase case → (fault : Fault) → next case ≡ Err fault → IsNode case fault.node
+unfolding next
+fault_names_node case fits fault h = by_end case fits (outcome (nodal_matrix case) (right_sides case)) row fault h
+  where
+    row : (fault : PlainFault) → outcome (nodal_matrix case) (right_sides case) ≡ Err fault → NamesRow (length case.nodes) fault
+    row fault is =
+        let named = NamesRow-outcome (nodal_matrix case) (right_sides case) fault is in
+        let size = length-nodal_matrix case in
+        rw size at named

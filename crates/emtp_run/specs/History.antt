@@ -1,5 +1,5 @@
 -- The records of a case from rest on, and its samples.
-use Rattle.std.specs.Prelude.{◌≡◌, ℕ, zero, suc, ◌+◌, ◌-◌, ◌*◌, ◌≤◌, ◌%◌, ◌==◌, ℤ, pos, List, [], ◌∷◌, ◌++◌, length, map, slice_index_or, Option, Some, None, Result, Ok, Err, if◌then◌else◌}
+use Rattle.std.specs.Prelude.{◌≡◌, ℕ, zero, suc, ◌+◌, ◌-◌, ◌*◌, ◌≤◌, ◌%◌, ◌==◌, ℤ, pos, List, [], ◌∷◌, ◌++◌, length, map, slice_index_or, Contains, Option, Some, None, Result, Ok, Err, if◌then◌else◌}
 use Rattle.emtp_elim.specs.Matrix.{item}
 use Rattle.emtp_case.specs.declared.case.Parts.{Parts}
 use Rattle.emtp_case.specs.declared.channel.Channel.{Channel}
@@ -38,6 +38,12 @@ history_upto case (suc n) = advanced case (history_upto case n) (history_upto ca
 -- the history of a case: all its steps, or those before its end
 abbrev pub history : Parts → History
 history case = history_upto case case.run.steps
+
+-- an end names one of the first steps and a node of the case
+pub record IsEnd (case : Parts) (steps : ℕ) (end : End) : Type 0 where
+  pub some : 1 ≤ end.step
+  pub within : end.step ≤ steps
+  pub node : Contains case.nodes end.name
 
 -- ---- samples
 

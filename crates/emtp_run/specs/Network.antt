@@ -1,5 +1,5 @@
 -- One step of a network of resistances and at most one voltage source a node.
-use Rattle.std.specs.Prelude.{ℕ, ◌+◌, ◌^◌, ◌<◌, ◌==◌, ℤ, pos, neg_ℤ, ◌+ℤ◌, ◌-ℤ◌, ◌*ℤ◌, unsigned_abs, nat_le, Bool, not, ◌&&◌, List, [], ◌∷◌, length, map, slice_index, replicate, Option, Some, None, Result, Ok, Err, unwrap_or, option_map, if◌then◌else◌}
+use Rattle.std.specs.Prelude.{ℕ, ◌+◌, ◌^◌, ◌≤◌, ◌==◌, ℤ, pos, neg_ℤ, ◌+ℤ◌, ◌-ℤ◌, ◌*ℤ◌, unsigned_abs, nat_le, Bool, not, ◌&&◌, List, [], ◌∷◌, length, map, slice_index, replicate, Option, Some, None, Result, Ok, Err, unwrap_or, option_map, if◌then◌else◌}
 use Rattle.std.specs.List.{find, position, position_or_len, range_with_len}
 use Rattle.emtp_fix.specs.Rounding.{near}
 use Rattle.emtp_elim.specs.Matrix.{Matrix, item, list_of, matrix_of}
@@ -49,6 +49,10 @@ total f (b ∷ bs) = f b +ℤ total f bs
 -- the voltage that a source keeps at a node, in nV
 abbrev pub voltage_at : Parts → ℕ → Option ℤ
 voltage_at case n = option_map (λ (s : Source). s.amplitude) (find (is_voltage_source_at n) case.sources)
+
+-- the number of a node, which ground isn't
+abbrev pub IsNode : Parts → ℕ → Type 0
+IsNode case n = (1 ≤ n) × (n ≤ length case.nodes)
 
 -- the node of a row
 abbrev pub node_at : Parts → ℕ → ℕ
@@ -114,12 +118,6 @@ abbrev pub fault_of : Parts → PlainFault → Fault
 fault_of case (Row fault) = record { node = node_at case fault.row; cause = cause_of fault.cause }
 fault_of case (Solve fault) = record { node = node_at case fault.row; cause = OfRange }
 fault_of case NoMemory = record { node = 0; cause = OfRange }
-
--- a fault names a row, and there are n
-abbrev pub HasRow : ℕ → PlainFault → Type 0
-HasRow n (Row fault) = fault.row < n
-HasRow n (Solve fault) = fault.row < n
-HasRow n NoMemory = Unit {0}
 
 abbrev pub stop_of : Parts → PlainFault → NetStop
 stop_of case (Row fault) = OfFault (fault_of case (Row fault))

@@ -106,6 +106,12 @@ MakesNothing ReadFault = Unit {0}
 MakesNothing NoMemory = Unit {0}
 MakesNothing _ = ⊥
 
+-- A read failed, or a write did; or all of the outcome was made and its status answered; or memory was wanting and nothing
+-- was made.
+abbrev pub IsComplete : Status → Outputs → Outputs → ℕ → ℕ → ℕ → ℕ → Outcome → Type 0
+IsComplete status old new in_before in_now out_before out_now o =
+    Rose in_before in_now ⊎ Rose out_before out_now ⊎ ((status ≡ o.status) × (new ≡ after old o.writes)) ⊎ ((status ≡ NoMemory) × (new ≡ old))
+
 -- neither count rose, and no failure is answered
 pub record IsCalmRun (status : Status) (in_before in_now out_before out_now : ℕ) : Type 0 where
   pub inputs : in_now ≡ in_before

@@ -26,6 +26,6 @@ mod status;
 mod tests;
 mod words;
 
-pub use law::completeness;
+pub use law::early_end;
 pub use run::emtp;
 pub use status::Status;

@@ -1,7 +1,7 @@
 // A run: the network is stepped, and each so many records one is a sample.
 ghost use Rattle.std.specs.Prelude.{◌≡◌, ◌+◌, ◌-◌, ◌*◌, ◌%◌, ◌<◌, ◌≤◌, ◌++◌, ◌∷◌, [], ◌==◌, List, Ok, Err, IfOk, IfErr, OnOk, OnErr, length, slice_index_or};
 ghost use Rattle.emtp_case.specs.RunData.{samples_of};
-ghost use Rattle.emtp_run.specs.Network.{next, step_of, IfFault};
+ghost use Rattle.emtp_run.specs.Network.{IsNode, next, step_of, IfFault};
 ghost use Rattle.emtp_run.specs.History.{IsAt, IsRunOf, end_at, name_of, value_of, values_of};
 
 use crate::network::{Cause, Fault, NetStop, Network};
@@ -69,12 +69,11 @@ fn take_sample(network: &Network<'_>, channels: &[Channel], row: &mut [i64], sam
 
 /// The name of a node.
 fn name_of(names: &[Name], node: u32) -> Name
+    requires low { 1 ≤ node }
+    requires high { node ≤ length names.now }
     ensures { result ≡ slice_index_or names.now (node - 1) [] }
 {
-    names
-        .get((node as usize).saturating_sub(1))
-        .copied()
-        .unwrap_or(Name::new(b""))
+    names[node as usize - 1]
 }
 
 /// How many samples a run has at most.
@@ -117,7 +116,8 @@ fn advance(
 
 /// The end at the step behind step `n`.
 fn end_of(case: &Case, n: u32, fault: Fault) -> End
-    requires { n < 1000000 }
+    requires step { n < 1000000 }
+    requires node { IsNode case.now.parts fault.node }
     ensures { result ≡ end_at case.now.parts (n + 1) fault }
 {
     End {

@@ -1,10 +1,10 @@
 // The top call.
-ghost use Rattle.std.specs.Prelude.{◌≡◌, ◌≢◌, ◌↔◌, ◌-◌, ◌≤◌, Some, None, Ok, length, IsTrue, IsSome, IsErrOf, OnOk, IfOk};
+ghost use Rattle.std.specs.Prelude.{◌≡◌, ◌≢◌, ◌↔◌, ◌-◌, ◌≤◌, Some, None, Ok, length, IsTrue, IsSome, IsErrOf, IfSome, OnOk, IfOk};
 ghost use Rattle.emtp_io.specs.Cabinet.{Rose};
 ghost use Rattle.emtp_io.specs.declared.whole.ReadEnd.{ReadEnd};
 ghost use Rattle.emtp_run.specs.History.{history, samples};
 ghost use Rattle.emtp_run.specs.Words.{texts, fits, files_of};
-ghost use Rattle.emtp_run.specs.Outcome.{outcome, outcome_for, outcome_of, outcome_by, case_at, status_of, Settles, HasStatusCause, MakesNothing, IsCalmRun, HasRoomFor};
+ghost use Rattle.emtp_run.specs.Outcome.{outcome, outcome_for, outcome_of, outcome_by, case_at, status_of, Settles, HasStatusCause, MakesNothing, IsComplete, IsCalmRun, HasRoomFor};
 
 use crate::deck::{Refused, read};
 use crate::machine::{Run, simulate};
@@ -30,6 +30,8 @@ pub fn emtp<C: Cabinet>(alloc: Global, words: &[String], cab: &mut C) -> Status
     ensures nothing { MakesNothing result → C.outputs cab.new ≡ C.outputs cab.old }
     ensures outcome { IsTrue (C.nature cab.old).tells → Settles result (outcome (texts words.now) (C.nature cab.old).files)
         (C.outputs cab.old) (C.outputs cab.new) (C.faults_out cab.old) (C.faults_out cab.new) }
+    ensures complete { IsTrue (C.nature cab.old).tells → IfSome (outcome (texts words.now) (C.nature cab.old).files)
+        (IsComplete result (C.outputs cab.old) (C.outputs cab.new) (C.faults_in cab.old) (C.faults_in cab.new) (C.faults_out cab.old) (C.faults_out cab.new)) }
     ensures calm { IsTrue (C.nature cab.old).tells → IsTrue (C.nature cab.old).calm
         → HasRoomFor (outcome (texts words.now) (C.nature cab.old).files) (C.nature cab.old).room
         → IsCalmRun result (C.faults_in cab.old) (C.faults_in cab.new) (C.faults_out cab.old) (C.faults_out cab.new) }

@@ -2,6 +2,7 @@ use Rattle.std.proofs.Common.{ap, rules, arith}
 use Rattle.std.proofs.lemmas.Grind.{elements}
 use Rattle.emtp_machine.specs.Samples.{Sampled}
 use Rattle.emtp_run.specs.Network.{step_of}
+use Rattle.emtp_run.proofs.Faults.{fault_names_node}
 use Rattle.emtp_run.proofs.Histories.{started, ended_here}
 use Rattle.emtp_run.proofs.machine.simulate.Goals as goal
 
@@ -13,6 +14,15 @@ loop-n-init c = record {
   room = search rules;
   at = started c.args.case.now.parts (step_of c.in_ok-network.network.last) c.in_ok-samples.samples.rows c.take_sample.new.samples.rows c.as_slice-channels.result.now c.as_slice-channels.ensures c.in_ok-network.ensures.rest (ap (λ (s : Sampled). s.rows) c.in_ok-samples.ensures) (ap (λ (s : Sampled). s.rows) c.take_sample.ensures.samples);
 }
+
+pub end_of-requires-clause-node : goal.end_of-requires-clause-node
+end_of-requires-clause-node c =
+    let told = c.in-Err-Fault.ensures.fault in
+    let stopped = rw c.in-Err-Fault.field-0-is at told in
+    let same = c.loop-n.invariant.same_case in
+    let here = rw same at stopped in
+    let node = fault_names_node c.args.case.now.parts c.args.case.now.fits c.in-Err-Fault.fault here in
+    rw c.in-Err-Fault.field-0-is node
 
 pub returns-in-Err-Fault-clause-run : goal.returns-in-Err-Fault-clause-run
 returns-in-Err-Fault-clause-run c =
