@@ -4,7 +4,7 @@
 ghost use Rattle.std.specs.Prelude.{◌≡◌};
 
 /// A series branch of a resistance, an inductance and a capacitance. A part of 0 is absent.
-#[derive(Clone, Copy, Debug, PartialEq, Eq)]
+#[derive(Clone, Copy, PartialEq, Eq)]
 pub struct Lumped {
     /// The number of its card's line, from 1.
     pub line: u32,
@@ -21,7 +21,7 @@ pub struct Lumped {
 }
 
 /// What a series branch keeps of a step.
-#[derive(Clone, Copy, Debug, PartialEq, Eq)]
+#[derive(Clone, Copy, PartialEq, Eq)]
 pub struct LumpedState {
     /// The branch current, in nA: to 10^18 in magnitude.
     pub current: i64,
@@ -34,7 +34,7 @@ pub struct LumpedState {
 }
 
 /// A single travelling-wave line, with its losses lumped at the two ends and in the middle.
-#[derive(Clone, Copy, Debug, PartialEq, Eq)]
+#[derive(Clone, Copy, PartialEq, Eq)]
 pub struct Line {
     /// The number of its card's line, from 1.
     pub line: u32,
@@ -51,7 +51,7 @@ pub struct Line {
 }
 
 /// A pseudo-nonlinear branch: its characteristic is a chain of straight segments, mirrored at the origin.
-#[derive(Clone, Copy, Debug, PartialEq, Eq)]
+#[derive(Clone, Copy, PartialEq, Eq)]
 pub struct Pseudo {
     /// The number of its card's line, from 1.
     pub line: u32,
@@ -68,7 +68,7 @@ pub struct Pseudo {
 }
 
 /// A point of a characteristic, of a table or of a list of times.
-#[derive(Clone, Copy, Debug, PartialEq, Eq)]
+#[derive(Clone, Copy, PartialEq, Eq)]
 pub struct Point {
     /// The current in nA of a pseudo-nonlinear branch, from 1 to 10^18; the input in nano of a table, to 10^18 in
     /// magnitude; the close time in ps of a list of times, from 0 to 10^18.
@@ -79,7 +79,7 @@ pub struct Point {
 }
 
 /// One phase of a transposed three-phase line.
-#[derive(Clone, Copy, Debug, PartialEq, Eq)]
+#[derive(Clone, Copy, PartialEq, Eq)]
 pub struct Phase {
     /// The number of its card's line, from 1.
     pub line: u32,
@@ -94,7 +94,7 @@ pub struct Phase {
 }
 
 /// The modes of a transposed three-phase line: at place 0 the zero sequence, at place 1 the positive sequence.
-#[derive(Clone, Copy, Debug, PartialEq, Eq)]
+#[derive(Clone, Copy, PartialEq, Eq)]
 pub struct Trio {
     /// The place of phase 0 among the branches; phases 1 and 2 follow it.
     pub first: u32,
@@ -107,7 +107,7 @@ pub struct Trio {
 }
 
 /// A branch of the network.
-#[derive(Clone, Copy, Debug, PartialEq, Eq)]
+#[derive(Clone, Copy, PartialEq, Eq)]
 pub enum Branch {
     /// A series branch.
     Lumped(Lumped),

@@ -17,7 +17,7 @@ use crate::source::Source;
 use crate::switch::{Switch, Times};
 
 /// The records of a case, as the cards give them.
-#[derive(Debug, Drop)]
+#[derive(Drop)]
 pub struct Parts {
     /// The numbers of the miscellaneous cards.
     pub run: RunData,
@@ -46,7 +46,7 @@ pub struct Parts {
 }
 
 /// A case: records whose numbers are in range and which fit each other.
-#[derive(Debug, Drop)]
+#[derive(Drop)]
 pub struct Case {
     /// The records.
     pub parts: Parts,

@@ -1,7 +1,7 @@
 //! The channels of the record.
 
 /// A channel of the record.
-#[derive(Clone, Copy, Debug, PartialEq, Eq)]
+#[derive(Clone, Copy, PartialEq, Eq)]
 pub enum Channel {
     /// The voltage of a node, from 1.
     NodeVoltage(u32),

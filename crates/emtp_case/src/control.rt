@@ -4,7 +4,7 @@ use crate::expr::Expr;
 use crate::items::Items;
 
 /// One signed input of a block or a device.
-#[derive(Clone, Copy, Debug, PartialEq, Eq)]
+#[derive(Clone, Copy, PartialEq, Eq)]
 pub struct Input {
     /// The number of the variable.
     pub var: u32,
@@ -13,7 +13,7 @@ pub struct Input {
 }
 
 /// A transfer function of order 0 to 7 with a limited output.
-#[derive(Debug, Drop)]
+#[derive(Drop)]
 pub struct Block {
     /// The number of its card's line, from 1.
     pub line: u32,
@@ -36,7 +36,7 @@ pub struct Block {
 }
 
 /// A limit of a block's output.
-#[derive(Clone, Copy, Debug, PartialEq, Eq)]
+#[derive(Clone, Copy, PartialEq, Eq)]
 pub enum Bound {
     /// No limit.
     None,
@@ -47,7 +47,7 @@ pub enum Bound {
 }
 
 /// Where the limiter of a block stands after a step.
-#[derive(Clone, Copy, Debug, PartialEq, Eq)]
+#[derive(Clone, Copy, PartialEq, Eq)]
 pub enum Limiter {
     /// Within both limits.
     Free,
@@ -58,7 +58,7 @@ pub enum Limiter {
 }
 
 /// When a supplemental card is computed: its group.
-#[derive(Clone, Copy, Debug, PartialEq, Eq)]
+#[derive(Clone, Copy, PartialEq, Eq)]
 pub enum Group {
     /// Before the blocks: the cards 99.
     Input,
@@ -69,7 +69,7 @@ pub enum Group {
 }
 
 /// A device of the supplemental cards.
-#[derive(Debug, Drop)]
+#[derive(Drop)]
 pub struct Device {
     /// The number of its card's line, from 1.
     pub line: u32,
@@ -99,7 +99,7 @@ pub struct Device {
 }
 
 /// A formula of the supplemental cards.
-#[derive(Debug, Drop)]
+#[derive(Drop)]
 pub struct Formula {
     /// The number of its card's line, from 1.
     pub line: u32,
@@ -114,7 +114,7 @@ pub struct Formula {
 }
 
 /// A supplemental card.
-#[derive(Debug, Drop)]
+#[derive(Drop)]
 pub enum Extra {
     /// A device.
     Device(Device),

@@ -26,7 +26,7 @@ use std::alloc::{AllocError, Global};
 
 /// A case in the making. What it holds fits each other at each moment; a variable may still lack the card that
 /// defines it. Each call asks for what the card has to meet. Where no memory is left, the draft is as before.
-#[derive(Debug, Drop)]
+#[derive(Drop)]
 pub struct Draft {
     /// The records so far.
     pub parts: Parts,

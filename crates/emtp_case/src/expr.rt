@@ -1,7 +1,7 @@
 //! The expressions of formulas, as trees. Parentheses and a leading `+` make no node.
 
 /// An expression over the variables of a formula.
-#[derive(Debug, Drop)]
+#[derive(Drop)]
 pub enum Expr {
     /// A number, in nano: from 0 to 10^18.
     Number(i64),
@@ -14,7 +14,7 @@ pub enum Expr {
 }
 
 /// The operators and functions of one value.
-#[derive(Clone, Copy, Debug, PartialEq, Eq)]
+#[derive(Clone, Copy, PartialEq, Eq)]
 pub enum UnaryOp {
     /// The leading `-`.
     Minus,
@@ -31,7 +31,7 @@ pub enum UnaryOp {
 }
 
 /// The operators between two values.
-#[derive(Clone, Copy, Debug, PartialEq, Eq)]
+#[derive(Clone, Copy, PartialEq, Eq)]
 pub enum BinaryOp {
     /// `+`
     Add,

@@ -7,7 +7,7 @@ use std::marker::Model;
 
 /// A list of records. It is a `Vec` that contracts see as the list of its items, so that two records with
 /// equal lists are equal.
-#[derive(Debug, Drop)]
+#[derive(Drop)]
 pub struct Items<T> {
     vec: Vec<T>,
 }

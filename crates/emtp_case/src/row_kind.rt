@@ -1,7 +1,7 @@
 //! The kinds of the rows of a nodal matrix.
 
 /// What a row of the nodal matrix says.
-#[derive(Clone, Copy, Debug, PartialEq, Eq)]
+#[derive(Clone, Copy, PartialEq, Eq)]
 pub enum RowKind {
     /// The sum of the currents that leave one node.
     Kcl,

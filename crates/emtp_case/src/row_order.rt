@@ -12,7 +12,7 @@ use std::alloc::{AllocError, Global};
 use std::marker::Model;
 
 /// Which part of the order a node belongs to.
-#[derive(Clone, Copy, Debug, PartialEq, Eq, PartialOrd, Ord)]
+#[derive(Clone, Copy, PartialEq, Eq, PartialOrd, Ord)]
 pub enum Class {
     /// It has a voltage source.
     Fixed,
@@ -23,7 +23,7 @@ pub enum Class {
 }
 
 /// By what a node is put in order.
-#[derive(Clone, Copy, Debug, PartialEq, Eq, PartialOrd, Ord)]
+#[derive(Clone, Copy, PartialEq, Eq, PartialOrd, Ord)]
 pub struct Key {
     /// Its part of the order.
     pub class: Class,
@@ -35,7 +35,7 @@ pub struct Key {
 
 /// The order of the rows: first the nodes with a voltage source, then the plain nodes by rising number of branch ends,
 /// last those that touch a switch or a pseudo-nonlinear branch. Ties go by first appearance. This project's own.
-#[derive(Debug, Drop)]
+#[derive(Drop)]
 pub struct RowOrder {
     nodes: Vec<u32>,
     rows: Vec<u32>,

@@ -1,7 +1,7 @@
 //! The numbers of the miscellaneous cards.
 
 /// The numbers of the miscellaneous cards, and the tolerance of the residual.
-#[derive(Clone, Copy, Debug, PartialEq, Eq)]
+#[derive(Clone, Copy, PartialEq, Eq)]
 pub struct RunData {
     /// The time step, in ps: from 1,000 to 10^12.
     pub dt: i64,

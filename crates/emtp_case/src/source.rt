@@ -1,7 +1,7 @@
 //! The sources of a network and of its control.
 
 /// A source: of the network, or a TACS source, where `node` is the number of its variable.
-#[derive(Clone, Copy, Debug, PartialEq, Eq)]
+#[derive(Clone, Copy, PartialEq, Eq)]
 pub struct Source {
     /// The number of its card's line, from 1.
     pub line: u32,
@@ -20,7 +20,7 @@ pub struct Source {
 }
 
 /// The course of a source's value in time. The last five stand in TACS sources alone.
-#[derive(Clone, Copy, Debug, PartialEq, Eq)]
+#[derive(Clone, Copy, PartialEq, Eq)]
 pub enum Shape {
     /// The amplitude.
     Step,

@@ -3,7 +3,7 @@
 ghost use Rattle.std.specs.Prelude.{◌≡◌};
 
 /// A switch.
-#[derive(Clone, Copy, Debug, PartialEq, Eq)]
+#[derive(Clone, Copy, PartialEq, Eq)]
 pub struct Switch {
     /// The number of its card's line, from 1.
     pub line: u32,
@@ -43,7 +43,7 @@ impl Switch {
 }
 
 /// What opens and closes a switch.
-#[derive(Clone, Copy, Debug, PartialEq, Eq)]
+#[derive(Clone, Copy, PartialEq, Eq)]
 pub enum SwitchKind {
     /// A breaker that closes and opens once, by the time.
     Time {
@@ -73,7 +73,7 @@ pub enum SwitchKind {
 }
 
 /// The times of a time switch.
-#[derive(Clone, Copy, Debug, PartialEq, Eq)]
+#[derive(Clone, Copy, PartialEq, Eq)]
 pub struct Times {
     /// The closing time, in ps, to 10^18 in magnitude; below 0 the switch starts closed.
     pub close: i64,
@@ -82,7 +82,7 @@ pub struct Times {
 }
 
 /// Where a switch stands after a step.
-#[derive(Clone, Copy, Debug, PartialEq, Eq)]
+#[derive(Clone, Copy, PartialEq, Eq)]
 pub enum SwitchState {
     /// Open, and not closed before: a time switch that waits for its closing time.
     Waiting,

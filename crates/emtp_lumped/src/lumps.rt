@@ -18,7 +18,7 @@ use std::marker::Model;
 
 /// The series branches of a case, numbered by their place among all branches. It stands for a list of records: of each
 /// branch it keeps the newest numbers.
-#[derive(Debug, Drop)]
+#[derive(Drop)]
 pub struct Lumps<'a> {
     case: &'a Case,
     laws: Vec<SeriesLaw>,
