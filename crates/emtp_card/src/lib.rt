@@ -32,6 +32,3 @@ pub use name::field_name;
 pub use number::{field_held, field_number, read_number};
 pub use reason::{Bad, Refused, Why};
 pub use whole::field_whole;
-
-#[cfg(test)]
-mod tests;

@@ -26,8 +26,6 @@ mod row_order;
 mod run_data;
 mod source;
 mod switch;
-#[cfg(test)]
-mod tests;
 
 pub use branch::{Branch, Line, Lumped, LumpedState, Phase, Point, Pseudo, Trio};
 pub use case::{Case, Parts};

@@ -14,8 +14,6 @@ mod decimal;
 mod limit;
 mod rounding;
 mod steps;
-#[cfg(test)]
-mod tests;
 
 pub use decimal::print_fixed;
 pub use limit::{OutOfRange, fit, isqrt};

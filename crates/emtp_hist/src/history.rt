@@ -57,23 +57,3 @@ fn value_at(newest_first: &HeapCircularBuffer<i64>, place: usize) -> i64
         None => 0,
     }
 }
-
-#[cfg(test)]
-mod tests {
-    use super::*;
-    use std::test::Fail;
-
-    #[test]
-    fn looks_back_over_the_last_pushes(rt: HostRuntime) -> Result<(), Fail> {
-        let mut history = History::open(rt.alloc(), 2)?;
-        assert_eq!(rt; history.back(0), 0);
-        history.push(10);
-        assert_eq!(rt; (history.back(0), history.back(1)), (10, 0));
-        history.push(-20);
-        history.push(30);
-        history.push(40);
-        history.push(-50);
-        assert_eq!(rt; (history.back(0), history.back(1)), (-50, 40));
-        Ok(())
-    }
-}

@@ -20,8 +20,6 @@ mod count;
 mod disk;
 mod files;
 mod memory;
-#[cfg(test)]
-mod tests;
 mod whole;
 
 pub use cabinet::{Cabinet, Failed, Output};

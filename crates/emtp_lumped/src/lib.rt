@@ -15,8 +15,6 @@ mod law;
 mod laws;
 mod lumps;
 mod series;
-#[cfg(test)]
-mod tests;
 
 pub use laws::{resistor_forgets, rest_stays};
 pub use lumps::Lumps;

@@ -22,8 +22,6 @@ mod outputs;
 mod place;
 mod run;
 mod status;
-#[cfg(test)]
-mod tests;
 mod words;
 
 pub use law::early_end;

@@ -1,4 +1,3 @@
 pub mod Redoing
-pub mod Lawful
 mod Worked
 pub mod Running

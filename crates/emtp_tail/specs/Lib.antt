@@ -1,4 +1,3 @@
 pub mod Good
 pub mod Keeping
-pub mod Tables
 pub mod Runs

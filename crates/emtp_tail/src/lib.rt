@@ -14,8 +14,6 @@
 
 mod kept;
 mod runs;
-#[cfg(test)]
-mod tests;
 
 pub use kept::Kept;
 pub use runs::{Call, Reply, Unknowns, answer_all};

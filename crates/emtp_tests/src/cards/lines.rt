@@ -1,0 +1,269 @@
+use emtp_card::*;
+use std::test::Fail;
+
+/// A line, whether it is a comment, whether it ends a section, and the first fault of its bytes.
+const LINES: &[(&str, bool, bool, Option<(u32, Why)>)] = &[
+    ("C", true, false, None),
+    ("C ", true, false, None),
+    ("C x", true, false, None),
+    ("C  comment", true, false, None),
+    ("CX", false, false, None),
+    ("c", false, false, None),
+    ("c ", false, false, None),
+    ("CC", false, false, None),
+    ("C1 2", false, false, None),
+    ("C\t", false, false, Some((2, Why::ByteOutside))),
+    ("C\r", false, false, Some((2, Why::ByteOutside))),
+    (" C", false, false, None),
+    ("  C ", false, false, None),
+    ("", false, true, None),
+    (" ", false, true, None),
+    ("    ", false, true, None),
+    (
+        "                                                                                ",
+        false,
+        true,
+        None,
+    ),
+    (
+        "                                                                                   ",
+        false,
+        true,
+        None,
+    ),
+    ("BLANK", false, true, None),
+    ("BLANK ", false, true, None),
+    ("BLANK CARD ENDING BRANCHES", false, true, None),
+    ("BLANKET", false, true, None),
+    ("blank", false, false, None),
+    (" BLANK", false, false, None),
+    ("BLAN", false, false, None),
+    ("BLAN K", false, false, None),
+    ("B", false, false, None),
+    ("BLANK\r", false, true, Some((6, Why::ByteOutside))),
+    ("BLANK\u{1}", false, true, Some((6, Why::ByteOutside))),
+    (
+        "BLANK                                                                                X",
+        false,
+        true,
+        Some((86, Why::PastColumn80)),
+    ),
+    (
+        "                                                                                X",
+        false,
+        false,
+        Some((81, Why::PastColumn80)),
+    ),
+    (
+        "                                                                                  X",
+        false,
+        false,
+        Some((83, Why::PastColumn80)),
+    ),
+    (
+        "                                                                                \u{7f}",
+        false,
+        false,
+        Some((81, Why::ByteOutside)),
+    ),
+    (
+        "                                                                                 \u{1f}",
+        false,
+        false,
+        Some((82, Why::ByteOutside)),
+    ),
+    ("  SRC   MID                  1.0", false, false, None),
+    ("11SRC        100.0", false, false, None),
+    ("~", false, false, None),
+    ("}", false, false, None),
+    ("\u{7f}", false, false, Some((1, Why::ByteOutside))),
+    ("\u{1f}", false, false, Some((1, Why::ByteOutside))),
+    (" \0", false, false, Some((2, Why::ByteOutside))),
+    ("\u{80}", false, false, Some((1, Why::ByteOutside))),
+    ("A\u{7f}B", false, false, Some((2, Why::ByteOutside))),
+    ("\tA", false, false, Some((1, Why::ByteOutside))),
+    ("A\t", false, false, Some((2, Why::ByteOutside))),
+    ("A\r", false, false, Some((2, Why::ByteOutside))),
+    (
+        "AAAAAAAAAAAAAAAAAAAAAAAAAAAAAAAAAAAAAAAAAAAAAAAAAAAAAAAAAAAAAAAAAAAAAAAAAAAAAAAA",
+        false,
+        false,
+        None,
+    ),
+    (
+        "AAAAAAAAAAAAAAAAAAAAAAAAAAAAAAAAAAAAAAAAAAAAAAAAAAAAAAAAAAAAAAAAAAAAAAAAAAAAAAAAA",
+        false,
+        false,
+        Some((81, Why::PastColumn80)),
+    ),
+    (
+        "AAAAAAAAAAAAAAAAAAAAAAAAAAAAAAAAAAAAAAAAAAAAAAAAAAAAAAAAAAAAAAAAAAAAAAAAAAAAAAAA ",
+        false,
+        false,
+        None,
+    ),
+    (
+        "AAAAAAAAAAAAAAAAAAAAAAAAAAAAAAAAAAAAAAAAAAAAAAAAAAAAAAAAAAAAAAAAAAAAAAAAAAAAAAAA                    ",
+        false,
+        false,
+        None,
+    ),
+    (
+        "AAAAAAAAAAAAAAAAAAAAAAAAAAAAAAAAAAAAAAAAAAAAAAAAAAAAAAAAAAAAAAAAAAAAAAAAAAAAAAAA B",
+        false,
+        false,
+        Some((82, Why::PastColumn80)),
+    ),
+    (
+        "AAAAAAAAAAAAAAAAAAAAAAAAAAAAAAAAAAAAAAAAAAAAAAAAAAAAAAAAAAAAAAAAAAAAAAAAAAAAAAA\u{1f}B",
+        false,
+        false,
+        Some((80, Why::ByteOutside)),
+    ),
+    (
+        "AAAAAAAAAAAAAAAAAAAAAAAAAAAAAAAAAAAAAAAAAAAAAAAAAAAAAAAAAAAAAAAAAAAAAAAAAAAAAAAA\u{1f}",
+        false,
+        false,
+        Some((81, Why::ByteOutside)),
+    ),
+    (
+        "AAAAAAAAAAAAAAAAAAAAAAAAAAAAAAAAAAAAAAAAAAAAAAAAAAAAAAAAAAAAAAAAAAAAAAAAAAAAAAAAB\u{1f}",
+        false,
+        false,
+        Some((81, Why::PastColumn80)),
+    ),
+    (
+        "AAAAAAAAAAAAAAAAAAAAAAAAAAAAAAAAAAAAAAAAAAAAAAAAAAAAAAAAAAAAAAAAAAAAAAAAAAAAAAAA \u{1f}B",
+        false,
+        false,
+        Some((82, Why::ByteOutside)),
+    ),
+    (
+        "\u{1f}AAAAAAAAAAAAAAAAAAAAAAAAAAAAAAAAAAAAAAAAAAAAAAAAAAAAAAAAAAAAAAAAAAAAAAAAAAAAAAAAAAAAAAAAAA",
+        false,
+        false,
+        Some((1, Why::ByteOutside)),
+    ),
+    (
+        "AAAAAAAAAAAAAAAAAAAAAAAAAAAAAAAAAAAAAAAAAAAAAAAAAAAAAAAAAAAAAAAAAAAAAAAAAAAAAAAAAA",
+        false,
+        false,
+        Some((81, Why::PastColumn80)),
+    ),
+    (
+        "                                                                               \u{7f}",
+        false,
+        false,
+        Some((80, Why::ByteOutside)),
+    ),
+    (
+        "C                                                                                X",
+        true,
+        false,
+        Some((82, Why::PastColumn80)),
+    ),
+    (
+        "C \u{7f}\u{7f}\u{7f}",
+        true,
+        false,
+        Some((3, Why::ByteOutside)),
+    ),
+    (
+        "C \0xxxxxxxxxxxxxxxxxxxxxxxxxxxxxxxxxxxxxxxxxxxxxxxxxxxxxxxxxxxxxxxxxxxxxxxxxxxxxxxxxxxxxxxxxxxxxxxxxxxx",
+        true,
+        false,
+        Some((3, Why::ByteOutside)),
+    ),
+];
+
+/// A case, and its lines.
+const CASES: &[(&str, &[&str])] = &[
+    ("", &[]),
+    ("\n", &[""]),
+    ("A", &["A"]),
+    ("A\n", &["A"]),
+    ("A\r\n", &["A"]),
+    ("A\r", &["A\r"]),
+    ("\r\n", &[""]),
+    ("\r", &["\r"]),
+    ("A\r\r\n", &["A\r"]),
+    ("\n\n", &["", ""]),
+    ("A\nB", &["A", "B"]),
+    ("A\nB\n", &["A", "B"]),
+    ("A\n\r", &["A", "\r"]),
+    ("A\r\nB\r\n", &["A", "B"]),
+    ("A\n\n B \n", &["A", "", " B "]),
+    ("\rA\n", &["\rA"]),
+];
+
+#[test]
+fn judges_lines(rt: HostRuntime) {
+    for (line, is_comment, is_end, fault) in LINES {
+        let bytes = line.as_bytes();
+        assert!(rt; bytes.len() < 1000);
+        assert_eq!(rt; comment(bytes), *is_comment, "comment: {line}");
+        assert_eq!(rt; ends_section(bytes), *is_end, "end: {line}");
+        assert_eq!(rt; line_fault(bytes), *fault, "fault: {line}");
+    }
+}
+
+#[test]
+fn splits_into_lines(rt: HostRuntime) -> Result<(), Fail> {
+    for (text, lines) in CASES {
+        let cards = Cards::split(rt.alloc(), text.as_bytes())?;
+        assert_eq!(rt; cards.len(), lines.len(), "lines of {text}");
+        for (at, line) in lines.iter().enumerate() {
+            assert!(rt; at < cards.len());
+            let read = cards.line(at);
+            assert_eq!(rt; read.number as usize, at + 1);
+            assert_eq!(rt; read.bytes, line.as_bytes(), "line {at} of {text}");
+        }
+    }
+    Ok(())
+}
+
+#[test]
+fn refuses_a_case_that_is_too_long(rt: HostRuntime) -> Result<(), Fail> {
+    let rows = [
+        ("", 0, 100_000, None),
+        ("", 0, 100_001, Some(100_001)),
+        ("", 9_000_000, 0, None),
+        ("", 9_000_000, 1, Some(1)),
+        ("\n", 9_000_000, 0, Some(2)),
+        ("\n\n", 8_950_000, 100_001, Some(50_001)),
+        ("\n\n", 8_800_000, 200_001, Some(100_001)),
+    ];
+    for (front, bytes, newlines, line) in rows {
+        let mut text = Vec::from_slice(rt.alloc(), front.as_bytes())?;
+        text.extend_from_slice(vec![in rt.alloc(); b'x'; bytes]?.as_slice())?;
+        text.extend_from_slice(vec![in rt.alloc(); b'\n'; newlines]?.as_slice())?;
+        let refused = match Cards::split(rt.alloc(), text.as_slice()) {
+            Ok(_) => None,
+            Err(Refused::Bad(bad)) => Some(bad),
+            Err(Refused::NoMemory) => Some(Bad {
+                line: 0,
+                column: 0,
+                why: Why::NotBuilt,
+            }),
+        };
+        let wanted = line.map(|line| Bad {
+            line,
+            column: 1,
+            why: Why::TooManyLines,
+        });
+        assert_eq!(rt; refused, wanted, "{bytes} bytes and {newlines} newlines");
+    }
+    Ok(())
+}
+
+#[test]
+fn names_the_reason(rt: HostRuntime) -> Result<(), Fail> {
+    let bad = Bad {
+        line: 7,
+        column: 27,
+        why: Why::NotANumber,
+    };
+    let text = format!(in rt.alloc(); "{}", Refused::Bad(bad))?;
+    assert_eq!(rt; text.as_str(), "line 7, column 27: NotANumber");
+    Ok(())
+}
