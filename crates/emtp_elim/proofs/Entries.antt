@@ -4,7 +4,7 @@ use Rattle.std.proofs.lemmas.List.{ext_get_or, get_or-set_same, get_or-set_other
 use Rattle.std.proofs.lemmas.List.FromFn.{length-map-range_with_len, get_or-map-range_with_len}
 use Rattle.std.proofs.lemmas.Bool.{cases_eq, cases_lt, cond-true, cond-false, eq-eqb, ne_eqb}
 use Rattle.emtp_elim.specs.Matrix.{item}
-use Rattle.emtp_elim.specs.Stored.{number_in, spread, AreEntries}
+use Rattle.emtp_elim.specs.Stored.{number_in, dense_row, AreEntries}
 
 -- one of the entries has this column
 abbrev pub HasColumn : List ℕ → ℕ → ℕ → ℕ → Type 0
@@ -217,11 +217,11 @@ number_in-entries row size columns values n j all inside = elim (cases_column co
   | inr none ↦ number_in-none columns values n j (λ e before. none e (omega arith) before) ∙ sym (all.others j (omega arith) inside none)
 ]
 
-pub spread_is : (row : List ℤ) (size : ℕ) (columns : List ℕ) (values : List ℤ) → AreEntries row 0 size columns values 0 (length columns) → length row ≡ size
-    → spread size columns values ≡ row
-unfolding spread
-spread_is row size columns values all same =
-    let long : length (spread size columns values) ≡ size = length-map-range_with_len _ 0 size in
-    ext_get_or (pos 0) (spread size columns values) row (long ∙ sym same) (λ j h.
+pub dense_row_is : (row : List ℤ) (size : ℕ) (columns : List ℕ) (values : List ℤ) → AreEntries row 0 size columns values 0 (length columns) → length row ≡ size
+    → dense_row size columns values ≡ row
+unfolding dense_row
+dense_row_is row size columns values all same =
+    let long : length (dense_row size columns values) ≡ size = length-map-range_with_len _ 0 size in
+    ext_get_or (pos 0) (dense_row size columns values) row (long ∙ sym same) (λ j h.
     let inside : j < size = omega arith in
     get_or-map-range_with_len _ 0 size j j (pos 0) inside (omega arith) ∙ number_in-entries row size columns values (length columns) j all inside)

@@ -3,20 +3,19 @@ use Rattle.std.proofs.Common.{◌≡◌, ◌≢◌, ℕ, ◌+◌, ◌*◌, ◌-�
 use Rattle.std.proofs.lemmas.List.{length-take-le, get_or-take, ext_get_or, get_or-set_same, get_or-set_other}
 use Rattle.std.proofs.lemmas.List.Edits.{length-between, get_or-between}
 use Rattle.std.proofs.lemmas.List.FromFn.{length-map-range_with_len, get_or-map-range_with_len, map-range_with_len_more, take-map-range_with_len, fill_by_all}
-use Rattle.std.proofs.Common.{mul-le-mul_right}
 use Rattle.std.proofs.lemmas.Nat.{row_fits}
 use Rattle.std.proofs.lemmas.Slice.{between_is}
 use Rattle.std.proofs.lemmas.Bool.{cases_eq}
 use Rattle.emtp_elim.specs.Matrix.{item, row_of}
 use Rattle.emtp_elim.specs.Clearing.{IsFinishedRow}
-use Rattle.emtp_elim.specs.Stored.{part, spread, rows_kept, AreEntries, IsStoredRow, AreStored}
-use Rattle.emtp_elim.proofs.Entries.{entries_moved, entries_joined, entries_first, entries_rest, spread_is}
+use Rattle.emtp_elim.specs.Stored.{row_part, dense_row, rows_kept, AreEntries, IsStoredRow, AreStored}
+use Rattle.emtp_elim.proofs.Entries.{entries_moved, entries_joined, entries_first, entries_rest, dense_row_is}
 
 pub length-rows_kept : (size count : ℕ) (starts columns : List ℕ) (values : List ℤ) → length (rows_kept size count starts columns values) ≡ count
 length-rows_kept size count starts columns values = length-map-range_with_len _ 0 count
 
 pub row_of-rows_kept : (size count : ℕ) (starts columns : List ℕ) (values : List ℤ) (i : ℕ) → i < count
-    → row_of (rows_kept size count starts columns values) i ≡ spread size (part starts columns i) (part starts values i)
+    → row_of (rows_kept size count starts columns values) i ≡ dense_row size (row_part starts columns i) (row_part starts values i)
 row_of-rows_kept size count starts columns values i h = get_or-map-range_with_len _ 0 count i i [] h (omega arith)
 
 -- fewer rows
@@ -39,13 +38,6 @@ stored_first size count n starts pivots columns values was h = record {
   each = λ i low. was.each i (omega arith);
 }
 
--- the entries of the first rows end within the room
-pub entries_fit : (size count : ℕ) (starts pivots columns : List ℕ) (values : List ℤ) (i : ℕ) → AreStored size count starts pivots columns values → i ≤ count
-    → slice_index starts i ≤ size * size
-entries_fit size count starts pivots columns values i stored h =
-    let few : i ≤ size = omega (arith, stored.within) in
-    omega (arith, stored.used i h, mul-le-mul_right size few)
-
 -- ---- one more row
 
 -- a part that ends before the first change is the same
@@ -67,18 +59,18 @@ pub record AddsEntries (size count : ℕ) (starts columns new_columns : List ℕ
   pub rest : AreEntries work count size new_columns new_values pivot end
 
 -- the parts of the earlier rows are the same
-part_kept : {X : Type 0} (count i end : ℕ) (starts : List ℕ) (xs ys : List X) (d : X) → i < count → slice_index starts (i + 1) ≤ slice_index starts count
+row_part_kept : {X : Type 0} (count i end : ℕ) (starts : List ℕ) (xs ys : List X) (d : X) → i < count → slice_index starts (i + 1) ≤ slice_index starts count
     → slice_index starts count ≤ length xs → length ys ≡ length xs → ((e : ℕ) → e < slice_index starts count → get_or ys e d ≡ get_or xs e d)
-    → part (slice_set starts (count + 1) end) ys i ≡ part starts xs i
-part_kept count i end starts xs ys d earlier before room long same =
+    → row_part (slice_set starts (count + 1) end) ys i ≡ row_part starts xs i
+row_part_kept count i end starts xs ys d earlier before room long same =
     let low : i ≢ count + 1 = omega arith in
     let high : i + 1 ≢ count + 1 = omega arith in
     rw (get_or-set_other starts (count + 1) i end 0 low, get_or-set_other starts (count + 1) (i + 1) end 0 high)
     (between_same ys xs (slice_index starts i) (slice_index starts (i + 1)) d long (omega arith) (λ e h. same e (omega arith)))
 
-part_put : {X : Type 0} (count end : ℕ) (starts : List ℕ) (xs : List X) → count + 1 < length starts
-    → part (slice_set starts (count + 1) end) xs count ≡ slice_range xs (slice_index starts count) end
-part_put count end starts xs room =
+row_part_put : {X : Type 0} (count end : ℕ) (starts : List ℕ) (xs : List X) → count + 1 < length starts
+    → row_part (slice_set starts (count + 1) end) xs count ≡ slice_range xs (slice_index starts count) end
+row_part_put count end starts xs room =
     let low : count ≢ count + 1 = omega arith in
     rw (get_or-set_other starts (count + 1) count end 0 low, get_or-set_same starts (count + 1) end 0 room) refl
 
@@ -89,14 +81,14 @@ entries_part row from upto columns values by first last low high end all low_is 
     entries_moved row from upto columns (slice_range columns by end) values (slice_range values by end) by first last low high all low_is high_is
     (λ e h. get_or-between columns by end e 0 (omega arith)) (λ e h. get_or-between values by end e (pos 0) (omega arith))
 
-spread_put : (size count : ℕ) (starts columns new_columns : List ℕ) (values new_values : List ℤ) (pivot end : ℕ) (work : List ℤ)
+dense_row_put : (size count : ℕ) (starts columns new_columns : List ℕ) (values new_values : List ℤ) (pivot end : ℕ) (work : List ℤ)
     → AddsEntries size count starts columns new_columns values new_values pivot end work → end ≤ length new_columns → length work ≡ size
-    → spread size (slice_range new_columns (slice_index starts count) end) (slice_range new_values (slice_index starts count) end) ≡ work
-spread_put size count starts columns new_columns values new_values pivot end work adds room same =
+    → dense_row size (slice_range new_columns (slice_index starts count) end) (slice_range new_values (slice_index starts count) end) ≡ work
+dense_row_put size count starts columns new_columns values new_values pivot end work adds room same =
     let start = slice_index starts count in
     let all = entries_joined work 0 count size new_columns new_values start pivot end adds.ratios adds.rest in
     let long : length (slice_range new_columns start end) ≡ end - start = length-between new_columns start end room in
-    spread_is work size (slice_range new_columns start end) (slice_range new_values start end)
+    dense_row_is work size (slice_range new_columns start end) (slice_range new_values start end)
     (rw long (entries_part work 0 size new_columns new_values start 0 (end - start) start end end all (omega arith) (omega (arith, all.order)) (omega arith))) same
 
 row_put : (size count : ℕ) (starts columns new_columns : List ℕ) (values new_values : List ℤ) (pivot end : ℕ) (work : List ℤ)
@@ -107,7 +99,7 @@ row_put size count starts columns new_columns values new_values pivot end work a
     let start = slice_index starts count in
     let long : length (slice_range new_columns start end) ≡ end - start = length-between new_columns start end room in
     let long_values : length (slice_range new_values start end) ≡ end - start = length-between new_values start end (omega arith) in
-    let row_is = spread_put size count starts columns new_columns values new_values pivot end work adds room finished.length_is in
+    let row_is = dense_row_put size count starts columns new_columns values new_values pivot end work adds room finished.length_is in
     let head = entries_first work count size new_columns new_values pivot end adds.rest inside finished.nonzero in
     let later = entries_rest work count size new_columns new_values pivot end adds.rest head in
     let pivot_place : start + (pivot - start) ≡ pivot = omega (arith, adds.ratios.order) in
@@ -154,14 +146,14 @@ stored_more size count starts pivots columns new_columns values new_values pivot
             rw (get_or-set_other starts (count + 1) h end 0 before, get_or-set_other starts (count + 1) i end 0 earlier) (was.rising h i low (omega arith))
       ];
       each = λ i low. elim (cases_eq i count) [
-        | inl here ↦ rw (here, part_put count end starts new_columns in_starts, part_put count end starts new_values in_starts, get_or-set_same pivots count (pivot - start) 0 in_pivots)
+        | inl here ↦ rw (here, row_part_put count end starts new_columns in_starts, row_part_put count end starts new_values in_starts, get_or-set_same pivots count (pivot - start) 0 in_pivots)
             (row_put size count starts columns new_columns values new_values pivot end work adds (omega (arith, was.room_columns, adds.long_columns)) (omega (arith, was.room_columns, was.room_values, adds.long_columns, adds.long_values)) finished inside)
         | inr other ↦
             let earlier : i < count = omega arith in
             let before : slice_index starts (i + 1) ≤ start = was.rising (i + 1) count (omega arith) (omega arith) in
             rw (
-              part_kept count i end starts columns new_columns 0 earlier before (omega (arith, was.room_columns)) adds.long_columns adds.kept_columns,
-              part_kept count i end starts values new_values (pos 0) earlier before (omega (arith, was.room_values)) adds.long_values adds.kept_values,
+              row_part_kept count i end starts columns new_columns 0 earlier before (omega (arith, was.room_columns)) adds.long_columns adds.kept_columns,
+              row_part_kept count i end starts values new_values (pos 0) earlier before (omega (arith, was.room_values)) adds.long_values adds.kept_values,
               get_or-set_other pivots count i (pivot - start) 0 other,
             ) (was.each i earlier)
       ];
@@ -179,17 +171,17 @@ rows_kept-more size count starts pivots columns new_columns values new_values pi
     let row_room : count * size + size ≤ size * size = row_fits count size size size inside (omega arith) in
     let in_starts : count + 1 < length starts = omega (arith, was.room_starts) in
     let kept : rows_kept size count new_starts new_columns new_values ≡ rows_kept size count starts columns values =
-    fill_by_all (λ i. spread size (part starts columns i) (part starts values i)) (rows_kept size count new_starts new_columns new_values) count [] (length-rows_kept size count new_starts new_columns new_values) (λ i h.
+    fill_by_all (λ i. dense_row size (row_part starts columns i) (row_part starts values i)) (rows_kept size count new_starts new_columns new_values) count [] (length-rows_kept size count new_starts new_columns new_values) (λ i h.
     let before : slice_index starts (i + 1) ≤ start = was.rising (i + 1) count (omega arith) (omega arith) in
     row_of-rows_kept size count new_starts new_columns new_values i h
     ∙ rw (
-      part_kept count i end starts columns new_columns 0 h before (omega (arith, was.room_columns)) adds.long_columns adds.kept_columns,
-      part_kept count i end starts values new_values (pos 0) h before (omega (arith, was.room_values)) adds.long_values adds.kept_values,
+      row_part_kept count i end starts columns new_columns 0 h before (omega (arith, was.room_columns)) adds.long_columns adds.kept_columns,
+      row_part_kept count i end starts values new_values (pos 0) h before (omega (arith, was.room_values)) adds.long_values adds.kept_values,
     ) refl) in
-    map-range_with_len_more (λ i. spread size (part new_starts new_columns i) (part new_starts new_values i)) 0 count count (omega arith)
+    map-range_with_len_more (λ i. dense_row size (row_part new_starts new_columns i) (row_part new_starts new_values i)) 0 count count (omega arith)
     ∙ rw (
       kept,
-      part_put count end starts new_columns in_starts,
-      part_put count end starts new_values in_starts,
-      spread_put size count starts columns new_columns values new_values pivot end work adds (omega (arith, was.room_columns, adds.long_columns)) same,
+      row_part_put count end starts new_columns in_starts,
+      row_part_put count end starts new_values in_starts,
+      dense_row_put size count starts columns new_columns values new_values pivot end work adds (omega (arith, was.room_columns, adds.long_columns)) same,
     ) refl

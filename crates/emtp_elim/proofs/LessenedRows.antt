@@ -1,7 +1,7 @@
 -- A row less a multiple of another, entry by entry.
 use Rattle.std.proofs.Common.{◌≡◌, ◌≢◌, ℕ, ◌+◌, ◌^◌, ◌<◌, ◌≤◌, ℤ, unsigned_abs, List, length, slice_set, slice_index, refl, sym, ◌∙◌, inl, inr, arith}
 use Rattle.std.proofs.lemmas.List.{get_or-set_same, get_or-set_other}
-use Rattle.std.proofs.lemmas.Bool.{cases_eq, cases_lt}
+use Rattle.std.proofs.lemmas.Bool.{cases_eq}
 use Rattle.emtp_elim.specs.Matrix.{item}
 use Rattle.emtp_elim.specs.Elimination.{less_product}
 use Rattle.emtp_elim.specs.Clearing.{IsLessened}
@@ -14,13 +14,6 @@ pub record IsLessenedUpTo (m : ℤ) (columns : List ℕ) (values : List ℤ) (fi
   pub done : (d : ℕ) → first ≤ d → d < e → item new (slice_index columns d) ≡ less_product (item old (slice_index columns d)) m (item values d)
   pub within : (d : ℕ) → first ≤ d → d < e → unsigned_abs (item new (slice_index columns d)) ≤ 10 ^ 17
   pub rest : (j : ℕ) → LacksColumn columns first e j → item new j ≡ item old j
-
-pub lessened_start : (m : ℤ) (columns : List ℕ) (values : List ℤ) (first : ℕ) (old : List ℤ) → IsLessenedUpTo m columns values first first old old
-lessened_start m columns values first old = record {
-  done = λ d low high. absurd (omega arith);
-  within = λ d low high. absurd (omega arith);
-  rest = λ j none. refl;
-}
 
 -- the column of the next entry is as it was
 pub lessened_here : (m : ℤ) (k size : ℕ) (columns : List ℕ) (values : List ℤ) (first e last : ℕ) (old above new : List ℤ)

@@ -1,5 +1,5 @@
 -- The right sides, one row after another.
-use Rattle.std.proofs.Common.{◌≡◌, ◌≢◌, ℕ, zero, suc, ◌+◌, ◌^◌, ◌<◌, ◌≤◌, ℤ, pos, unsigned_abs, List, length, slice_set, refl, ap, sym, ◌∙◌, inl, inr, arith}
+use Rattle.std.proofs.Common.{◌≡◌, ◌≢◌, ℕ, zero, suc, ◌+◌, ◌^◌, ◌<◌, ◌≤◌, ℤ, unsigned_abs, List, length, slice_set, ap, sym, ◌∙◌, inl, inr, arith}
 use Rattle.std.proofs.lemmas.List.{get_or-set_same, get_or-set_other}
 use Rattle.std.proofs.lemmas.Bool.{cases_eq}
 use Rattle.emtp_elim.specs.Matrix.{Matrix, item, row_of}
@@ -26,13 +26,6 @@ partial_is rows done given right i all inside same was (suc k) low =
       (all.finished.finished i inside).ratios k low,
       was.reduced k low,
     ) (sym (right_later rows given k i low (omega arith)))
-
-pub reduced_start : (done : Matrix) (given : List ℤ) → AreReducedUpTo done given 0 given
-reduced_start done given = record {
-  small = λ h low. absurd (omega arith);
-  rest = λ h low. refl;
-  reduced = λ rows all. record { reduced = λ i low. absurd (omega arith); in_range = λ i low. absurd (omega arith) };
-}
 
 pub reduced_more : (done : Matrix) (given right ratios : List ℤ) (i : ℕ) (v : ℤ) → AreReducedUpTo done given i right → i < length done → length given ≡ length done
     → length right ≡ length given → row_of done i ≡ ratios → v ≡ partial_right (item right i) ratios right i

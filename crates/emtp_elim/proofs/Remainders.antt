@@ -74,9 +74,3 @@ remainder_more right k size row x columns values first e last left entries was l
 pub remainder_small : (right : ℤ) (k size : ℕ) (row x : List ℤ) (columns : List ℕ) (first e last : ℕ) (left : ℤ)
     → IsRemainder right k size row x columns first e last left → e ≤ 1000 → unsigned_abs left ≤ 11 * 10 ^ 37
 remainder_small right k size row x columns first e last left was few = omega (arith, was.bound)
-
-pub remainder_all : (right : ℤ) (k size : ℕ) (row x : List ℤ) (columns : List ℕ) (values : List ℤ) (first last : ℕ) (left : ℤ)
-    → AreEntries row (k + 1) size columns values first last → IsRemainder right k size row x columns first last last left → k < size
-    → left ≡ right *ℤ pos (10 ^ 12) -ℤ products (drop (k + 1) row) (drop (k + 1) x) (size - (k + 1))
-remainder_all right k size row x columns values first last left entries was inside =
-    was.value_is size inside (omega arith) (λ d low high. entries.high d low high) (λ d low high. absurd (omega arith))

@@ -73,12 +73,3 @@ partial_more start ratios above i columns values e last value v entries was insi
         ])
       ];
     }
-
-pub partial_all : (start : ℤ) (ratios above : List ℤ) (i : ℕ) (columns : List ℕ) (values : List ℤ) (last : ℕ) (value : ℤ) → AreEntries ratios 0 i columns values 0 last
-    → IsPartial start ratios above i columns last last value → value ≡ partial_right start ratios above i
-partial_all start ratios above i columns values last value entries was =
-    was.value_is i (omega arith) (λ d low. entries.high d (omega arith) low) (λ d low high. absurd (omega arith))
-
-pub partial_within : (start : ℤ) (ratios above : List ℤ) (i : ℕ) (columns : List ℕ) (last : ℕ) (value : ℤ)
-    → IsPartial start ratios above i columns last last value → (h : ℕ) → h ≤ i → unsigned_abs (partial_right start ratios above h) ≤ 10 ^ 18
-partial_within start ratios above i columns last value was h inside = was.within h inside (λ d low high. absurd (omega arith))

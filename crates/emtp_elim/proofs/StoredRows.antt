@@ -1,13 +1,11 @@
 -- Rows of the same number of numbers that stand one after another.
-use Rattle.std.proofs.Common.{◌≡◌, ◌⊎◌, ℕ, ◌+◌, ◌*◌, ◌-◌, ◌<◌, ◌≤◌, ℤ, pos, List, [], ◌∷◌, ◌++◌, length, take, drop, length-append, length-drop, slice_range, slice_index, slice_set, refl, ap, sym, ◌∙◌, inl, inr, arith}
-use Rattle.std.proofs.lemmas.List.{length-take-le, ext_get_or, get_or-set_same, get_or-set_other}
+use Rattle.std.proofs.Common.{◌≡◌, ℕ, ◌+◌, ◌*◌, ◌-◌, ◌<◌, ◌≤◌, ℤ, List, [], ◌∷◌, ◌++◌, length, take, drop, length-append, length-drop, slice_range, refl, ap, sym, ◌∙◌, arith}
+use Rattle.std.proofs.lemmas.List.{length-take-le}
 use Rattle.std.proofs.lemmas.List.FromFn.{length-map-range_with_len, get_or-map-range_with_len, map-range_with_len_more, take-map-range_with_len, fill_by_all}
 use Rattle.std.proofs.lemmas.Nat.{row_fits}
 use Rattle.std.proofs.lemmas.Slice.{between_is, between-put_mid, take-put_mid_below}
 use borrow.Rule.Slice.PartMut.{put_mid}
-use Rattle.std.proofs.lemmas.Bool.{cases_eq}
-use Rattle.emtp_elim.specs.Matrix.{item, row_of}
-use Rattle.emtp_elim.specs.Clearing.{IsFinishedRow}
+use Rattle.emtp_elim.specs.Matrix.{row_of}
 use Rattle.emtp_elim.specs.Stored.{rows_in}
 
 pub length-rows_in : (size count : ℕ) (values : List ℤ) → length (rows_in size count values) ≡ count

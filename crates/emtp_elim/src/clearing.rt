@@ -3,7 +3,7 @@ ghost use Rattle.std.specs.Prelude.{◌≡◌, ◌≢◌, ℕ, ◌+◌, ◌^◌,
 ghost use Rattle.std.specs.Bool.{OnTrue, OnFalse};
 ghost use Rattle.emtp_elim.specs.Matrix.{item};
 ghost use Rattle.emtp_elim.specs.Clearing.{IsClearedRow, LeavesRangeAt};
-ghost use Rattle.emtp_elim.specs.Stored.{spread, IsStoredRow};
+ghost use Rattle.emtp_elim.specs.Stored.{dense_row, IsStoredRow};
 
 use crate::arithmetic::{LARGEST_ENTRY, LARGEST_RATIO, less, ratio};
 
@@ -22,8 +22,8 @@ pub fn clear_column(
     requires above { IsStoredRow (length work.old) k columns.now values.now pivot }
     requires place { k < length work.old }
     requires entries { (j : ℕ) → k ≤ j → unsigned_abs (item work.old j) ≤ 10 ^ 17 }
-    ensures cleared { OnTrue result (IsClearedRow k work.old (spread (length work.old) columns.now values.now) work.new) }
-    ensures out { OnFalse result (LeavesRangeAt k work.old (spread (length work.old) columns.now values.now)) }
+    ensures cleared { OnTrue result (IsClearedRow k work.old (dense_row (length work.old) columns.now values.now) work.new) }
+    ensures out { OnFalse result (LeavesRangeAt k work.old (dense_row (length work.old) columns.now values.now)) }
 {
     if work[k] == 0 {
         return true;

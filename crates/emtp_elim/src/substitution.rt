@@ -4,7 +4,7 @@ ghost use Rattle.emtp_elim.specs.Matrix.{Matrix, item, AreWithin, products};
 ghost use Rattle.emtp_elim.specs.Elimination.{last_unknowns};
 ghost use Rattle.emtp_elim.specs.Fault.{IsRightFault};
 ghost use Rattle.emtp_elim.specs.Finished.{AreAllFinished};
-ghost use Rattle.emtp_elim.specs.Stored.{spread, IsStoredRow, AreStored, rows_kept};
+ghost use Rattle.emtp_elim.specs.Stored.{dense_row, IsStoredRow, AreStored, rows_kept};
 ghost use Rattle.emtp_elim.specs.Substitution.{partial_right, AreReduced, IsLastFault, SolvesAs};
 ghost use Rattle.emtp_elim.specs.declared.fault.PlainFault.{PlainFault};
 
@@ -16,19 +16,13 @@ use emtp_fix::near;
 /// its range.
 ///
 /// The row is given by its numbers that aren't 0 and their columns, of which those before the place `pivot` are ratios.
-fn reduced(
-    right: &[i128],
-    i: usize,
-    columns: &[u16],
-    values: &[i64],
-    pivot: usize,
-) -> Option<i128>
+fn reduced(right: &[i128], i: usize, columns: &[u16], values: &[i64], pivot: usize) -> Option<i128>
     requires index { i < length right.now }
     requires row { IsStoredRow (length right.now) i columns.now values.now pivot }
     requires before { (k : ℕ) → k < i → unsigned_abs (item right.now k) ≤ 10 ^ 18 }
-    ensures value { IfSome result (λ v. v ≡ partial_right (item right.now i) (spread (length right.now) columns.now values.now) right.now i) }
-    ensures within { OnSome result ((k : ℕ) → k ≤ i → unsigned_abs (partial_right (item right.now i) (spread (length right.now) columns.now values.now) right.now k) ≤ 10 ^ 18) }
-    ensures out { IfNone result ((k : ℕ) × (k ≤ i) × (10 ^ 18 < unsigned_abs (partial_right (item right.now i) (spread (length right.now) columns.now values.now) right.now k))) }
+    ensures value { IfSome result (λ v. v ≡ partial_right (item right.now i) (dense_row (length right.now) columns.now values.now) right.now i) }
+    ensures within { OnSome result ((k : ℕ) → k ≤ i → unsigned_abs (partial_right (item right.now i) (dense_row (length right.now) columns.now values.now) right.now k) ≤ 10 ^ 18) }
+    ensures out { IfNone result ((k : ℕ) × (k ≤ i) × (10 ^ 18 < unsigned_abs (partial_right (item right.now i) (dense_row (length right.now) columns.now values.now) right.now k))) }
 {
     let mut value = right[i];
     if value.unsigned_abs() > LARGEST_VALUE {
@@ -93,7 +87,7 @@ fn remainder(
     requires row { IsStoredRow (length x.now) k columns.now values.now pivot }
     requires right { AreWithin (10 ^ 18) right.now }
     requires found { (j : ℕ) → k < j → unsigned_abs (item x.now j) ≤ 10 ^ 18 }
-    ensures value { result ≡ item right.now k *ℤ pos (10 ^ 12) -ℤ products (drop (k + 1) (spread (length x.now) columns.now values.now)) (drop (k + 1) x.now) (length x.now - (k + 1)) }
+    ensures value { result ≡ item right.now k *ℤ pos (10 ^ 12) -ℤ products (drop (k + 1) (dense_row (length x.now) columns.now values.now)) (drop (k + 1) x.now) (length x.now - (k + 1)) }
     ensures bound { unsigned_abs result ≤ 16 * 10 ^ 37 }
 {
     let mut left = right[k] * ONE;

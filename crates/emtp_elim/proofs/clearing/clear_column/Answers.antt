@@ -1,10 +1,10 @@
-use Rattle.std.proofs.Common.{◌≡◌, ◌+◌, ◌≤◌, ◌<◌, ◌^◌, pos, length, slice_index, unsigned_abs, to_z, of_z, inr, arith}
+use Rattle.std.proofs.Common.{◌≡◌, ◌≤◌, ◌<◌, ◌^◌, pos, length, slice_index, unsigned_abs, to_z, of_z, inr, arith}
 use mir.Syntax.{w128}
 use Rattle.std.proofs.lemmas.Int.{ints}
 use Rattle.emtp_fix.proofs.Wide.{through}
 use Rattle.emtp_elim.specs.Matrix.{item}
 use Rattle.emtp_elim.specs.Elimination.{less_product, quotient}
-use Rattle.emtp_elim.specs.Stored.{spread}
+use Rattle.emtp_elim.specs.Stored.{dense_row}
 use Rattle.emtp_elim.proofs.LessenedRows.{lessened_here, lessened_small, lessened_more, lessened_all}
 use Rattle.emtp_elim.proofs.ClearedRows.{cleared_nothing, cleared_lessened, ratio_read}
 use Rattle.emtp_elim.proofs.clearing.clear_column.Goals as goal
@@ -12,7 +12,7 @@ use Rattle.emtp_elim.proofs.clearing.clear_column.Goals as goal
 pub returns-then-work-k-eq0-clause-cleared : goal.returns-then-work-k-eq0-clause-cleared
 returns-then-work-k-eq0-clause-cleared c =
     let clear : item c.args.work.now c.args.k ≡ pos 0 = omega (arith, ints, c.requires.entries c.args.k) in
-    cleared_nothing c.args.k c.args.work.now (spread (length c.args.work.now) c.args.columns.now c.args.values.now) clear c.requires.entries
+    cleared_nothing c.args.k c.args.work.now (dense_row (length c.args.work.now) c.args.columns.now c.args.values.now) clear c.requires.entries
 
 pub less-entry-requires-clause-a : goal.less-entry-requires-clause-a
 less-entry-requires-clause-a c =
@@ -24,7 +24,7 @@ pub returns-then-unsigned_abs-gt-LARGEST_ENTRY-clause-out : goal.returns-then-un
 returns-then-unsigned_abs-gt-LARGEST_ENTRY-clause-out c =
     let e = c.loop-e.e in
     let j = slice_index c.args.columns.now e in
-    let row = spread (length c.args.work.now) c.args.columns.now c.args.values.now in
+    let row = dense_row (length c.args.work.now) c.args.columns.now c.args.values.now in
     let later = c.requires.above.later in
     let low = later.low e c.loop-e.auto.e c.loop-e-test.true in
     let high = later.high e c.loop-e.auto.e c.loop-e-test.true in
@@ -51,7 +51,7 @@ pub loop-e-preserved : goal.loop-e-preserved
 loop-e-preserved c =
     let e = c.loop-e.e in
     let j = slice_index c.args.columns.now e in
-    let row = spread (length c.args.work.now) c.args.columns.now c.args.values.now in
+    let row = dense_row (length c.args.work.now) c.args.columns.now c.args.values.now in
     let later = c.requires.above.later in
     let low = later.low e c.loop-e.auto.e c.loop-e-test.true in
     let value_is = later.value_is e c.loop-e.auto.e c.loop-e-test.true in
@@ -67,7 +67,7 @@ loop-e-preserved c =
 
 pub returns-clause-cleared : goal.returns-clause-cleared
 returns-clause-cleared c =
-    let row = spread (length c.args.work.now) c.args.columns.now c.args.values.now in
+    let row = dense_row (length c.args.work.now) c.args.columns.now c.args.values.now in
     let small_pivot : unsigned_abs (item c.args.values.now c.args.pivot) ≤ 10 ^ 17 = rw c.requires.above.pivot_is (c.requires.above.finished.entries c.args.k (omega arith)) in
     let read : c.from.result ≡ item c.args.values.now c.args.pivot = omega (arith, ints, small_pivot) in
     let m_is = ratio_read _ c.args.k c.args.work.now row c.from.result c.ratio-m.result c.requires.above.finished (c.requires.entries c.args.k (omega arith)) (rw c.requires.above.pivot_is at read) c.ratio-m.ensures in

@@ -3,7 +3,7 @@ use Rattle.std.proofs.lemmas.Bool.{iff_false}
 use Rattle.std.proofs.lemmas.Int.{ints}
 use Rattle.emtp_elim.specs.Matrix.{item}
 use Rattle.emtp_elim.specs.Clearing.{IsClearedRow, LeavesRangeAt}
-use Rattle.emtp_elim.specs.Stored.{part, spread, rows_kept}
+use Rattle.emtp_elim.specs.Stored.{row_part, dense_row, rows_kept}
 use Rattle.emtp_elim.proofs.KeptRows.{length-rows_kept, row_of-rows_kept}
 use Rattle.emtp_elim.proofs.PartRows.{within_from_all, underway_start, underway_more, faults_start, faults_clearing, faults_pivot, finishes}
 use Rattle.emtp_elim.proofs.finishing.finish_row.Goals as goal
@@ -23,7 +23,7 @@ returns-then-not-clear_column-clause-fault c =
     let above_is = row_of-rows_kept size c.args.count c.args.starts.now c.args.columns.now c.args.values.now k c.loop-k-test.true in
     faults_clearing size k done c.args.work.now c.loop-k.work _ c.loop-k.invariant (omega arith) (omega arith) c.loop-k.auto.work above_is
     (c.requires.stored.each k c.loop-k-test.true).finished
-    (subst (λ n. LeavesRangeAt k c.loop-k.work (spread n (part c.args.starts.now c.args.columns.now k) (part c.args.starts.now c.args.values.now k))) c.loop-k.auto.work c.if-not-clear_column.ensures.out)
+    (subst (λ n. LeavesRangeAt k c.loop-k.work (dense_row n (row_part c.args.starts.now c.args.columns.now k) (row_part c.args.starts.now c.args.values.now k))) c.loop-k.auto.work c.if-not-clear_column.ensures.out)
 
 pub loop-k-preserved : goal.loop-k-preserved
 loop-k-preserved c =
@@ -34,7 +34,7 @@ loop-k-preserved c =
     let above_is = row_of-rows_kept size c.args.count c.args.starts.now c.args.columns.now c.args.values.now k c.loop-k-test.true in
     underway_more size k done c.args.work.now c.loop-k.work _ c.clear_column.new.work c.loop-k.invariant (omega arith) (omega arith) c.loop-k.auto.work (omega arith) above_is
     (c.requires.stored.each k c.loop-k-test.true).finished
-    (subst (λ n. IsClearedRow k c.loop-k.work (spread n (part c.args.starts.now c.args.columns.now k) (part c.args.starts.now c.args.values.now k)) c.clear_column.new.work) c.loop-k.auto.work c.if-not-clear_column.ensures.cleared)
+    (subst (λ n. IsClearedRow k c.loop-k.work (dense_row n (row_part c.args.starts.now c.args.columns.now k) (row_part c.args.starts.now c.args.values.now k)) c.clear_column.new.work) c.loop-k.auto.work c.if-not-clear_column.ensures.cleared)
 
 pub returns-then-work-count-eq0-clause-fault : goal.returns-then-work-count-eq0-clause-fault
 returns-then-work-count-eq0-clause-fault c =

@@ -1,9 +1,9 @@
-use Rattle.std.proofs.Common.{◌≡◌, ◌≢◌, pos, refl, to_z, of_z, arith}
+use Rattle.std.proofs.Common.{◌≡◌, ◌≢◌, refl, to_z, of_z, arith}
 use mir.Syntax.{w64, w128}
 use Rattle.std.proofs.lemmas.List.{get_or-set_other}
 use Rattle.emtp_fix.proofs.Wide.{through, through_64}
 use Rattle.emtp_elim.specs.Matrix.{item}
-use Rattle.emtp_elim.proofs.Entries.{entries_skip, entries_more}
+use Rattle.emtp_elim.proofs.Entries.{entries_more}
 use Rattle.emtp_elim.proofs.storing.pack.Goals as goal
 
 pub loop-j-preserved : goal.loop-j-preserved

@@ -1,4 +1,4 @@
-use Rattle.std.proofs.Common.{◌≡◌, ◌∙◌, refl, length, slice_index, arith}
+use Rattle.std.proofs.Common.{◌∙◌, refl, length, slice_index, arith}
 use Rattle.emtp_elim.proofs.Entries.{entries_same}
 use Rattle.emtp_elim.proofs.KeptRows.{AddsEntries, stored_more, rows_kept-more}
 use Rattle.emtp_elim.proofs.storing.store_next.Goals as goal

@@ -3,15 +3,14 @@ use mir.Syntax.{w128}
 use Rattle.std.proofs.lemmas.Int.{ints, to_z-of_z}
 use Rattle.emtp_fix.proofs.Wide.{through}
 use Rattle.emtp_elim.specs.Matrix.{item}
-use Rattle.emtp_elim.specs.Elimination.{less_product}
-use Rattle.emtp_elim.specs.Stored.{spread}
-use Rattle.emtp_elim.proofs.RightSides.{partial_start, partial_next, partial_more, partial_all, partial_within}
+use Rattle.emtp_elim.specs.Stored.{dense_row}
+use Rattle.emtp_elim.proofs.RightSides.{partial_start, partial_next, partial_more}
 use Rattle.emtp_elim.proofs.substitution.reduced.Goals as goal
 
 pub loop-e-init : goal.loop-e-init
 loop-e-init c =
     let start = item c.args.right.now c.args.i in
-    let row = spread (length c.args.right.now) c.args.columns.now c.args.values.now in
+    let row = dense_row (length c.args.right.now) c.args.columns.now c.args.values.now in
     let fits : FitsSigned w128 start = search rules in
     let same = to_z-of_z w128 start fits in
     let small_wide : unsigned_abs (to_z w128 (of_z w128 start)) ≤ 10 ^ 18 = omega (arith, ints) in
@@ -22,7 +21,7 @@ pub returns-then-unsigned_abs-gt-LARGEST_VALUE-2-clause-out : goal.returns-then-
 returns-then-unsigned_abs-gt-LARGEST_VALUE-2-clause-out c =
     let e = c.loop-e.e in
     let k = slice_index c.args.columns.now e in
-    let row = spread (length c.args.right.now) c.args.columns.now c.args.values.now in
+    let row = dense_row (length c.args.right.now) c.args.columns.now c.args.values.now in
     let ratios = c.requires.row.ratios in
     let before = ratios.high e (omega arith) c.loop-e-test.true in
     let value_is = ratios.value_is e (omega arith) c.loop-e-test.true in
@@ -38,7 +37,7 @@ pub loop-e-preserved : goal.loop-e-preserved
 loop-e-preserved c =
     let e = c.loop-e.e in
     let k = slice_index c.args.columns.now e in
-    let row = spread (length c.args.right.now) c.args.columns.now c.args.values.now in
+    let row = dense_row (length c.args.right.now) c.args.columns.now c.args.values.now in
     let ratios = c.requires.row.ratios in
     let before = ratios.high e (omega arith) c.loop-e-test.true in
     let value_is = ratios.value_is e (omega arith) c.loop-e-test.true in

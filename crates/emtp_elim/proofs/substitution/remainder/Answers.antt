@@ -3,14 +3,14 @@ use mir.Syntax.{w128}
 use Rattle.std.proofs.lemmas.Int.{ints}
 use Rattle.emtp_fix.proofs.Wide.{through, fits, abs-mul-le}
 use Rattle.emtp_elim.specs.Matrix.{item}
-use Rattle.emtp_elim.specs.Stored.{spread}
-use Rattle.emtp_elim.proofs.Remainders.{remainder_start, remainder_more, remainder_small, remainder_all}
+use Rattle.emtp_elim.specs.Stored.{dense_row}
+use Rattle.emtp_elim.proofs.Remainders.{remainder_start, remainder_more, remainder_small}
 use Rattle.emtp_elim.proofs.substitution.remainder.Goals as goal
 
 pub loop-e-init : goal.loop-e-init
 loop-e-init c =
     let right = item c.args.right.now c.args.k in
-    let row = spread (length c.args.x.now) c.args.columns.now c.args.values.now in
+    let row = dense_row (length c.args.x.now) c.args.columns.now c.args.values.now in
     let small = c.requires.right c.args.k in
     let same_right : to_z w128 (of_z w128 right) ≡ right = through right (omega arith) in
     let product : to_z w128 (of_z w128 (right *ℤ pos (10 ^ 12))) ≡ right *ℤ pos (10 ^ 12) =
@@ -22,7 +22,7 @@ overflow_sub-left c =
     let e = c.loop-e.e in
     let j = slice_index c.args.columns.now e in
     let right = item c.args.right.now c.args.k in
-    let row = spread (length c.args.x.now) c.args.columns.now c.args.values.now in
+    let row = dense_row (length c.args.x.now) c.args.columns.now c.args.values.now in
     let later = c.requires.row.later in
     let low = later.low e c.loop-e.auto.e c.loop-e-test.true in
     let value_is = later.value_is e c.loop-e.auto.e c.loop-e-test.true in
@@ -44,7 +44,7 @@ loop-e-preserved c =
     let e = c.loop-e.e in
     let j = slice_index c.args.columns.now e in
     let right = item c.args.right.now c.args.k in
-    let row = spread (length c.args.x.now) c.args.columns.now c.args.values.now in
+    let row = dense_row (length c.args.x.now) c.args.columns.now c.args.values.now in
     let later = c.requires.row.later in
     let low = later.low e c.loop-e.auto.e c.loop-e-test.true in
     let value_is = later.value_is e c.loop-e.auto.e c.loop-e-test.true in

@@ -1,9 +1,9 @@
-use Rattle.std.proofs.Common.{◌≡◌, ◌≤◌, ◌<◌, ◌+◌, ◌-◌, ◌*◌, ◌^◌, ◌*ℤ◌, ◌-ℤ◌, pos, length, drop, slice_index, unsigned_abs, to_z, of_z, subst, sym, ◌∙◌, arith}
+use Rattle.std.proofs.Common.{◌≡◌, ◌≤◌, ◌<◌, ◌+◌, ◌-◌, ◌^◌, ◌*ℤ◌, ◌-ℤ◌, pos, length, drop, slice_index, unsigned_abs, to_z, of_z, subst, sym, ◌∙◌, arith}
 use mir.Syntax.{w128}
 use Rattle.std.proofs.lemmas.Int.{ints}
 use Rattle.emtp_fix.proofs.Wide.{through, through_64}
 use Rattle.emtp_elim.specs.Matrix.{item, products}
-use Rattle.emtp_elim.specs.Stored.{part, spread, rows_kept}
+use Rattle.emtp_elim.specs.Stored.{row_part, dense_row, rows_kept}
 use Rattle.emtp_elim.proofs.KeptRows.{length-rows_kept, row_of-rows_kept}
 use Rattle.emtp_elim.proofs.Unknowns.{found_none, found_more, found_fault}
 use Rattle.emtp_elim.proofs.substitution.substitute_back.Goals as goal
@@ -19,9 +19,9 @@ returns-then-unsigned_abs-gt-LARGEST_VALUE-clause-fault c =
     let size = length c.args.right.now in
     let k = c.loop-k.k - 1 in
     let done = rows_kept size size c.args.starts.now c.args.columns.now c.args.values.now in
-    let columns = part c.args.starts.now c.args.columns.now k in
-    let values = part c.args.starts.now c.args.values.now k in
-    let row = spread size columns values in
+    let columns = row_part c.args.starts.now c.args.columns.now k in
+    let values = row_part c.args.starts.now c.args.values.now k in
+    let row = dense_row size columns values in
     let count : length done ≡ size = length-rows_kept size size c.args.starts.now c.args.columns.now c.args.values.now in
     let inside : k < size = omega arith in
     let row_is = row_of-rows_kept size size c.args.starts.now c.args.columns.now c.args.values.now k inside in
@@ -30,7 +30,7 @@ returns-then-unsigned_abs-gt-LARGEST_VALUE-clause-fault c =
     let small_pivot : unsigned_abs (item values (slice_index c.args.pivots.now k)) ≤ 10 ^ 17 = rw stored.pivot_is (stored.finished.entries k (omega arith)) in
     let same_left : to_z w128 (of_z w128 c.remainder-left.result) ≡ c.remainder-left.result = through c.remainder-left.result (omega (arith, c.remainder-left.ensures.bound)) in
     let same_pivot : to_z w128 (of_z w128 c.from.result) ≡ item values (slice_index c.args.pivots.now k) = omega (arith, ints, small_pivot) in
-    let left_is = subst (λ n. c.remainder-left.result ≡ item c.args.right.now k *ℤ pos (10 ^ 12) -ℤ products (drop (k + 1) (spread n columns values)) (drop (k + 1) c.loop-k.x) (n - (k + 1))) long c.remainder-left.ensures.value in
+    let left_is = subst (λ n. c.remainder-left.result ≡ item c.args.right.now k *ℤ pos (10 ^ 12) -ℤ products (drop (k + 1) (dense_row n columns values)) (drop (k + 1) c.loop-k.x) (n - (k + 1))) long c.remainder-left.ensures.value in
     let v_is = rw (same_left, same_pivot, stored.pivot_is) at c.near-unknown.ensures.value in
     let wide : to_z w128 (of_z w128 c.near-unknown.result) ≡ c.near-unknown.result = omega (arith, ints) in
     let large : 10 ^ 18 < unsigned_abs c.near-unknown.result = omega (arith, ints) in
@@ -42,9 +42,9 @@ loop-k-preserved c =
     let size = length c.args.right.now in
     let k = c.loop-k.k - 1 in
     let done = rows_kept size size c.args.starts.now c.args.columns.now c.args.values.now in
-    let columns = part c.args.starts.now c.args.columns.now k in
-    let values = part c.args.starts.now c.args.values.now k in
-    let row = spread size columns values in
+    let columns = row_part c.args.starts.now c.args.columns.now k in
+    let values = row_part c.args.starts.now c.args.values.now k in
+    let row = dense_row size columns values in
     let count : length done ≡ size = length-rows_kept size size c.args.starts.now c.args.columns.now c.args.values.now in
     let inside : k < size = omega arith in
     let row_is = row_of-rows_kept size size c.args.starts.now c.args.columns.now c.args.values.now k inside in
@@ -53,7 +53,7 @@ loop-k-preserved c =
     let small_pivot : unsigned_abs (item values (slice_index c.args.pivots.now k)) ≤ 10 ^ 17 = rw stored.pivot_is (stored.finished.entries k (omega arith)) in
     let same_left : to_z w128 (of_z w128 c.remainder-left.result) ≡ c.remainder-left.result = through c.remainder-left.result (omega (arith, c.remainder-left.ensures.bound)) in
     let same_pivot : to_z w128 (of_z w128 c.from.result) ≡ item values (slice_index c.args.pivots.now k) = omega (arith, ints, small_pivot) in
-    let left_is = subst (λ n. c.remainder-left.result ≡ item c.args.right.now k *ℤ pos (10 ^ 12) -ℤ products (drop (k + 1) (spread n columns values)) (drop (k + 1) c.loop-k.x) (n - (k + 1))) long c.remainder-left.ensures.value in
+    let left_is = subst (λ n. c.remainder-left.result ≡ item c.args.right.now k *ℤ pos (10 ^ 12) -ℤ products (drop (k + 1) (dense_row n columns values)) (drop (k + 1) c.loop-k.x) (n - (k + 1))) long c.remainder-left.ensures.value in
     let v_is = rw (same_left, same_pivot, stored.pivot_is) at c.near-unknown.ensures.value in
     let wide : to_z w128 (of_z w128 c.near-unknown.result) ≡ c.near-unknown.result = omega (arith, ints) in
     let small : unsigned_abs c.near-unknown.result ≤ 10 ^ 18 = omega (arith, ints) in
