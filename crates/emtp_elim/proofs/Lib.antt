@@ -2,9 +2,11 @@ mod Worked
 pub mod Stages
 pub mod Outcomes
 pub mod Products
+pub mod Entries
 pub mod LessenedRows
 pub mod ClearedRows
 pub mod StoredRows
+pub mod KeptRows
 pub mod PartRows
 pub mod RightSides
 pub mod Reduction

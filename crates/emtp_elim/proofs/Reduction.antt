@@ -1,8 +1,8 @@
 -- The right sides, one row after another.
-use Rattle.std.proofs.Common.{◌≡◌, ◌≢◌, ℕ, zero, suc, ◌+◌, ◌^◌, ◌<◌, ◌≤◌, ℤ, pos, unsigned_abs, List, length, take, slice_set, refl, ap, sym, ◌∙◌, inl, inr, arith}
-use Rattle.std.proofs.lemmas.List.{get_or-take, get_or-set_same, get_or-set_other, get_or_past, length-take-le}
-use Rattle.std.proofs.lemmas.Bool.{cases_eq, cases_lt}
-use Rattle.emtp_elim.specs.Matrix.{Matrix, item, row_of, AreWithin}
+use Rattle.std.proofs.Common.{◌≡◌, ◌≢◌, ℕ, zero, suc, ◌+◌, ◌^◌, ◌<◌, ◌≤◌, ℤ, unsigned_abs, List, length, slice_set, ap, sym, ◌∙◌, inl, inr, arith}
+use Rattle.std.proofs.lemmas.List.{get_or-set_same, get_or-set_other}
+use Rattle.std.proofs.lemmas.Bool.{cases_eq}
+use Rattle.emtp_elim.specs.Matrix.{Matrix, item, row_of}
 use Rattle.emtp_elim.specs.Elimination.{stage_right}
 use Rattle.emtp_elim.specs.Fault.{IsRightFault}
 use Rattle.emtp_elim.specs.Finished.{AreAllFinished}
@@ -18,38 +18,24 @@ pub record AreReducedUpTo (done : Matrix) (given : List ℤ) (n : ℕ) (right : 
 -- a right side on its way is that of the stage
 partial_is : (rows done : Matrix) (given right : List ℤ) (i : ℕ) → AreAllFinished rows done → i < length done → length given ≡ length done
     → AreReduced rows given i right → (k : ℕ) → k ≤ i
-    → partial_right (item given i) (row_of done i) (take i right) k ≡ item (stage_right rows given k) i
+    → partial_right (item given i) (row_of done i) right k ≡ item (stage_right rows given k) i
 partial_is rows done given right i all inside same was zero low = ap (λ r. item r i) (sym (right_start rows given))
 partial_is rows done given right i all inside same was (suc k) low =
     rw (
       partial_is rows done given right i all inside same was k (omega arith),
       (all.finished.finished i inside).ratios k low,
-      get_or-take i right k (pos 0) low,
       was.reduced k low,
     ) (sym (right_later rows given k i low (omega arith)))
 
-pub reduced_start : (done : Matrix) (given : List ℤ) → AreReducedUpTo done given 0 given
-reduced_start done given = record {
-  small = λ h low. absurd (omega arith);
-  rest = λ h low. refl;
-  reduced = λ rows all. record { reduced = λ i low. absurd (omega arith); in_range = λ i low. absurd (omega arith) };
-}
-
-pub above_small : (done : Matrix) (given right : List ℤ) (i : ℕ) → AreReducedUpTo done given i right → i ≤ length right → AreWithin (10 ^ 18) (take i right)
-above_small done given right i was inside h = elim (cases_lt h i) [
-  | inl earlier ↦ rw (get_or-take i right h (pos 0) earlier) (was.small h earlier)
-  | inr past ↦ rw (get_or_past (take i right) h (pos 0) (omega (arith, length-take-le i right inside))) (omega arith)
-]
-
 pub reduced_more : (done : Matrix) (given right ratios : List ℤ) (i : ℕ) (v : ℤ) → AreReducedUpTo done given i right → i < length done → length given ≡ length done
-    → length right ≡ length given → row_of done i ≡ ratios → v ≡ partial_right (item right i) ratios (take i right) i
-    → ((k : ℕ) → k ≤ i → unsigned_abs (partial_right (item right i) ratios (take i right) k) ≤ 10 ^ 18)
+    → length right ≡ length given → row_of done i ≡ ratios → v ≡ partial_right (item right i) ratios right i
+    → ((k : ℕ) → k ≤ i → unsigned_abs (partial_right (item right i) ratios right k) ≤ 10 ^ 18)
     → AreReducedUpTo done given (i + 1) (slice_set right i v)
 reduced_more done given right ratios i v was inside same same_right row_is e within =
     let start = was.rest i (omega arith) in
     let in_right : i < length right = omega arith in
-    let v_is : v ≡ partial_right (item given i) (row_of done i) (take i right) i = rw (start, ← row_is) at e in
-    let small : (k : ℕ) → k ≤ i → unsigned_abs (partial_right (item given i) (row_of done i) (take i right) k) ≤ 10 ^ 18 = λ k low. rw (start, ← row_is) at (within k low) in
+    let v_is : v ≡ partial_right (item given i) (row_of done i) right i = rw (start, ← row_is) at e in
+    let small : (k : ℕ) → k ≤ i → unsigned_abs (partial_right (item given i) (row_of done i) right k) ≤ 10 ^ 18 = λ k low. rw (start, ← row_is) at (within k low) in
     record {
       small = λ h low. elim (cases_eq h i) [
         | inl here ↦ rw (here, get_or-set_same, v_is) (small i (omega arith))
@@ -72,7 +58,7 @@ reduced_more done given right ratios i v was inside same same_right row_is e wit
     }
 
 pub right_fault : (done : Matrix) (given right ratios : List ℤ) (i k : ℕ) → AreReducedUpTo done given i right → i < length done → length given ≡ length done
-    → row_of done i ≡ ratios → k ≤ i → 10 ^ 18 < unsigned_abs (partial_right (item right i) ratios (take i right) k)
+    → row_of done i ≡ ratios → k ≤ i → 10 ^ 18 < unsigned_abs (partial_right (item right i) ratios right k)
     → (rows : Matrix) → AreAllFinished rows done → IsRightFault rows given i
 right_fault done given right ratios i k was inside same row_is low out rows all =
     let old = was.reduced rows all in

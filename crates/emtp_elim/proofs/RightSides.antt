@@ -1,10 +1,11 @@
--- The work on right sides, from one ratio that isn't 0 to the next.
-use Rattle.std.proofs.Common.{◌≡◌, ℕ, zero, suc, ◌^◌, ◌<◌, ◌≤◌, min, ℤ, pos, unsigned_abs, List, length, slice_index, refl, ap, sym, ◌∙◌, inl, inr, arith}
+-- The work on right sides, ratio by ratio.
+use Rattle.std.proofs.Common.{◌≡◌, ℕ, zero, suc, ◌+◌, ◌^◌, ◌<◌, ◌≤◌, ℤ, pos, unsigned_abs, List, slice_index, refl, ap, sym, ◌∙◌, inl, inr, arith}
 use Rattle.std.proofs.lemmas.Bool.{cases_eq, cases_lt}
 use Rattle.emtp_elim.specs.Matrix.{item}
 use Rattle.emtp_elim.specs.Elimination.{less_product}
-use Rattle.emtp_elim.specs.Stored.{AreJumps}
+use Rattle.emtp_elim.specs.Stored.{AreEntries}
 use Rattle.emtp_elim.specs.Substitution.{partial_right}
+use Rattle.emtp_elim.proofs.Entries.{entries_gap}
 use Rattle.emtp_elim.proofs.Products.{less_product-zero_left}
 
 -- over ratios that are 0 nothing changes
@@ -17,39 +18,58 @@ partial_still start ratios above a (suc b) low zeros = elim (cases_eq a (suc b))
       ∙ partial_still start ratios above a b (omega arith) (λ h from_on before. zeros h from_on (omega arith))
 ]
 
--- the products before place k are taken away
-pub record IsPartial (start : ℤ) (ratios above : List ℤ) (k : ℕ) (value : ℤ) : Type 0 where
-  pub value_is : value ≡ partial_right start ratios above (min k (length above))
-  pub within : (h : ℕ) → h ≤ k → h ≤ length above → unsigned_abs (partial_right start ratios above h) ≤ 10 ^ 18
+-- the products of the ratios before place e are taken away, so that h columns are done for each h up to the next ratio
+pub record IsPartial (start : ℤ) (ratios above : List ℤ) (i : ℕ) (columns : List ℕ) (e last : ℕ) (value : ℤ) : Type 0 where
+  pub value_is : (h : ℕ) → h ≤ i → ((d : ℕ) → d < e → slice_index columns d < h) → ((d : ℕ) → e ≤ d → d < last → h ≤ slice_index columns d)
+      → value ≡ partial_right start ratios above h
+  pub small : unsigned_abs value ≤ 10 ^ 18
+  pub within : (h : ℕ) → h ≤ i → ((d : ℕ) → e ≤ d → d < last → h ≤ slice_index columns d) → unsigned_abs (partial_right start ratios above h) ≤ 10 ^ 18
 
-pub partial_start : (start : ℤ) (ratios above : List ℤ) → unsigned_abs start ≤ 10 ^ 18 → IsPartial start ratios above 0 start
-partial_start start ratios above small = record {
-  value_is = let none : min 0 (length above) ≡ 0 = omega arith in rw none refl;
-  within = λ h low inside. let none : h ≡ 0 = omega arith in rw none small;
-}
-
--- one product more
-pub partial_next : (start : ℤ) (ratios above : List ℤ) (k : ℕ) (value v : ℤ) → IsPartial start ratios above k value → k < length above
-    → v ≡ less_product value (item ratios k) (item above k) → v ≡ partial_right start ratios above (suc k)
-partial_next start ratios above k value v was inside e =
-    let at_k : min k (length above) ≡ k = omega arith in
-    rw (was.value_is, at_k) at e
-
-pub partial_more : (start : ℤ) (ratios above : List ℤ) (next : List ℕ) (k : ℕ) (value v : ℤ) → AreJumps ratios next → IsPartial start ratios above k value
-    → k < length above → length above ≤ length ratios → v ≡ less_product value (item ratios k) (item above k) → unsigned_abs v ≤ 10 ^ 18
-    → IsPartial start ratios above (slice_index next k) v
-partial_more start ratios above next k value v jumps was inside long e small =
-    let v_is = partial_next start ratios above k value v was inside e in
-    let onwards = jumps.onwards k (omega arith) in
-    let still : (h : ℕ) → suc k ≤ h → h ≤ slice_index next k → partial_right start ratios above h ≡ v = λ h low high.
-    partial_still start ratios above (suc k) h low (λ g from_on before. jumps.zeros k g (omega arith) (omega arith) (omega arith)) ∙ sym v_is in
+pub partial_start : (start : ℤ) (ratios above : List ℤ) (i : ℕ) (columns : List ℕ) (values : List ℤ) (last : ℕ) → AreEntries ratios 0 i columns values 0 last
+    → unsigned_abs start ≤ 10 ^ 18 → IsPartial start ratios above i columns 0 last start
+partial_start start ratios above i columns values last entries small =
+    let still : (h : ℕ) → h ≤ i → ((d : ℕ) → 0 ≤ d → d < last → h ≤ slice_index columns d) → partial_right start ratios above h ≡ start = λ h inside after.
+    partial_still start ratios above 0 h (omega arith) (λ g from_on before.
+    entries_gap ratios 0 i columns values 0 0 last g entries from_on (omega arith) (λ d low high. absurd (omega arith)) (λ d low high. omega (arith, after d low high))) in
     record {
-      value_is = sym (still (min (slice_index next k) (length above)) (omega (arith, onwards)) (omega arith));
-      within = λ h high in_above. elim (cases_lt k h) [
-        | inl later ↦ rw (still h later high) small
-        | inr earlier ↦ was.within h earlier in_above
-      ];
+      value_is = λ h inside before after. sym (still h inside after);
+      small = small;
+      within = λ h inside after. rw (still h inside after) small;
     }
 
-pub partial_small : (start : ℤ) (ratios above : List ℤ) (k : ℕ) (value : ℤ) → IsPartial start ratios above k value → unsigned_abs value ≤ 10 ^ 18
-partial_small start ratios above k value was = rw was.value_is (was.within (min k (length above)) (omega arith) (omega arith))
+-- one product more
+pub partial_next : (start : ℤ) (ratios above : List ℤ) (i : ℕ) (columns : List ℕ) (values : List ℤ) (e last : ℕ) (value v : ℤ)
+    → AreEntries ratios 0 i columns values 0 last → IsPartial start ratios above i columns e last value → e < last
+    → v ≡ less_product value (item values e) (item above (slice_index columns e)) → v ≡ partial_right start ratios above (suc (slice_index columns e))
+partial_next start ratios above i columns values e last value v entries was inside v_is =
+    let value_is = was.value_is (slice_index columns e) (omega (arith, entries.high e (omega arith) inside))
+    (λ d low. entries.rising d e (omega arith) low inside)
+    (λ d low high. elim (cases_eq d e) [
+      | inl here ↦ rw here (omega arith)
+      | inr later ↦ omega (arith, entries.rising e d (omega arith) (omega arith) high)
+    ]) in
+    rw (value_is, entries.value_is e (omega arith) inside) at v_is
+
+pub partial_more : (start : ℤ) (ratios above : List ℤ) (i : ℕ) (columns : List ℕ) (values : List ℤ) (e last : ℕ) (value v : ℤ)
+    → AreEntries ratios 0 i columns values 0 last → IsPartial start ratios above i columns e last value → e < last
+    → v ≡ less_product value (item values e) (item above (slice_index columns e)) → unsigned_abs v ≤ 10 ^ 18
+    → IsPartial start ratios above i columns (e + 1) last v
+partial_more start ratios above i columns values e last value v entries was inside v_is small =
+    let next = partial_next start ratios above i columns values e last value v entries was inside v_is in
+    let still : (h : ℕ) → h ≤ i → slice_index columns e < h → ((d : ℕ) → e + 1 ≤ d → d < last → h ≤ slice_index columns d) → partial_right start ratios above h ≡ v = λ h in_row past after.
+    partial_still start ratios above (suc (slice_index columns e)) h (omega arith) (λ g from_on before.
+    entries_gap ratios 0 i columns values 0 (e + 1) last g entries (omega arith) (omega arith) (λ d low high. elim (cases_eq d e) [
+      | inl here ↦ rw here (omega arith)
+      | inr earlier ↦ omega (arith, entries.rising d e (omega arith) (omega arith) inside)
+    ]) (λ d low high. omega (arith, after d low high))) ∙ sym next in
+    record {
+      value_is = λ h in_row before after. sym (still h in_row (before e (omega arith)) after);
+      small = small;
+      within = λ h in_row after. elim (cases_lt (slice_index columns e) h) [
+        | inl past ↦ rw (still h in_row past after) small
+        | inr reached ↦ was.within h in_row (λ d low high. elim (cases_eq d e) [
+          | inl here ↦ rw here reached
+          | inr later ↦ after d (omega arith) high
+        ])
+      ];
+    }

@@ -5,11 +5,11 @@ use Rattle.emtp_elim.specs.Matrix.{Matrix, item, row_of, entry, products, AreWit
 use Rattle.emtp_elim.specs.Elimination.{last_unknowns, stage, stage_right, solution}
 use Rattle.emtp_elim.specs.Fault.{IsGoodMatrix, IsRightFault}
 use Rattle.emtp_elim.specs.Finished.{AreAllFinished}
-use Rattle.emtp_elim.specs.Stored.{AreStored, rows_in}
+use Rattle.emtp_elim.specs.Stored.{AreStored, rows_kept}
 use Rattle.emtp_elim.specs.Substitution.{AreReduced, IsLastFault, SolvesAs}
 use Rattle.emtp_elim.specs.declared.fault.PlainFault.TheVariants.{Solve}
 use Rattle.emtp_elim.proofs.Stages.{length-stage, entry_settled, right_settled}
-use Rattle.emtp_elim.proofs.StoredRows.{length-rows_in, row_of-rows_in}
+use Rattle.emtp_elim.proofs.KeptRows.{length-rows_kept, row_of-rows_kept}
 use Rattle.emtp_elim.proofs.Outcomes.{outcome_right, outcome_unknown, outcome_solved}
 use Rattle.emtp_elim.proofs.Unknowns.{last_unknowns-none, last_unknowns-more, length-last_unknowns}
 
@@ -88,7 +88,8 @@ solves_ok done given right x square same reduced x_is small = record {
       rw same_x (outcome_solved rows given (all_good rows done all) (λ i h. (reduced rows all).in_range i (omega (arith, all.all))) (λ i h. rw same_x at (small i)));
 }
 
-pub square-rows_in : (size : ℕ) (values : List ℤ) (next : List ℕ) → AreStored size size values next → IsSquare (rows_in size size values)
-square-rows_in size values next stored i h =
-    let count : length (rows_in size size values) ≡ size = length-rows_in size size values in
-    ap length (row_of-rows_in size size values i (omega arith)) ∙ (stored.each i (omega arith)).finished.length_is ∙ sym count
+pub square-rows_kept : (size : ℕ) (starts pivots columns : List ℕ) (values : List ℤ) → AreStored size size starts pivots columns values
+    → IsSquare (rows_kept size size starts columns values)
+square-rows_kept size starts pivots columns values stored i h =
+    let count : length (rows_kept size size starts columns values) ≡ size = length-rows_kept size size starts columns values in
+    ap length (row_of-rows_kept size size starts columns values i (omega arith)) ∙ (stored.each i (omega arith)).finished.length_is ∙ sym count

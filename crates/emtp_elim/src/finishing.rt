@@ -3,7 +3,7 @@ ghost use Rattle.std.specs.Prelude.{◌≡◌, ◌↔◌, ℕ, ◌*◌, ◌+◌,
 ghost use Rattle.emtp_elim.specs.Matrix.{item};
 ghost use Rattle.emtp_elim.specs.Clearing.{IsFinishedRow};
 ghost use Rattle.emtp_elim.specs.Finished.{FinishesRow, FaultsRow};
-ghost use Rattle.emtp_elim.specs.Stored.{AreStored, rows_in};
+ghost use Rattle.emtp_elim.specs.Stored.{AreStored, rows_kept};
 
 use crate::arithmetic::LARGEST_ENTRY;
 use crate::clearing::clear_column;
@@ -19,24 +19,32 @@ fn are_in_range(entries: &[i128]) -> bool
 
 /// Clears the columns before its diagonal from a row, by the `count` finished rows above it.
 pub fn finish_row(
+    starts: &[usize],
+    pivots: &[usize],
+    columns: &[u16],
     values: &[i64],
-    next: &[u16],
     count: usize,
     work: &mut [i128],
 ) -> Result<(), RowCause>
-    requires stored { AreStored (length work.old) count values.now next.now }
+    requires stored { AreStored (length work.old) count starts.now pivots.now columns.now values.now }
     requires room { count < length work.old }
     ensures numbers { OnOk result (IsFinishedRow (length work.old) count work.new) }
-    ensures finished { OnOk result (FinishesRow (rows_in (length work.old) count values.now) work.old work.new) }
-    ensures fault { IfErr result (FaultsRow (rows_in (length work.old) count values.now) work.old) }
+    ensures finished { OnOk result (FinishesRow (rows_kept (length work.old) count starts.now columns.now values.now) work.old work.new) }
+    ensures fault { IfErr result (FaultsRow (rows_kept (length work.old) count starts.now columns.now values.now) work.old) }
 {
     if !are_in_range(work) {
         return Err(RowCause::Range);
     }
-    let size = work.len();
     for k in 0..count {
-        let at = k * size;
-        if !clear_column(work, &values[at..at + size], &next[at..at + size], k) {
+        let start = starts[k];
+        let end = starts[k + 1];
+        if !clear_column(
+            work,
+            &columns[start..end],
+            &values[start..end],
+            pivots[k],
+            k,
+        ) {
             return Err(RowCause::Range);
         }
     }

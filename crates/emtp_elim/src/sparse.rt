@@ -1,7 +1,7 @@
 // The finished rows of a matrix, and the next row finished by them.
 ghost use Rattle.std.specs.Prelude.{◌≡◌, ◌+◌, ◌<◌, ◌≤◌, length, take, [], ◌∷◌, ◌++◌, IfOk, OnOk, OnErr, IfErr, Ok, Err};
 ghost use Rattle.emtp_elim.specs.Finished.{Finished, AddsRow, FaultsRow};
-ghost use Rattle.emtp_elim.specs.Stored.{AreStored, rows_in};
+ghost use Rattle.emtp_elim.specs.Stored.{AreStored, rows_kept};
 ghost use Rattle.emtp_elim.specs.Substitution.{SolvesAs};
 ghost use Rattle.emtp_elim.specs.declared.fault.PlainFault.{PlainFault};
 
@@ -16,22 +16,25 @@ use std::sync::ledger::Ledger;
 
 /// The finished rows of a matrix: the ratios to the pivots above before the diagonal, the entries from it on.
 ///
-/// `values` has the rows of `size` numbers one after another, in units of 1e-12, and `next` beside each number the place
-/// in its row of the next one that isn't 0. So the work on later rows and right sides meets no zeros.
+/// `values` has the numbers that aren't 0, in units of 1e-12, row after row without gaps, and `columns` beside each its
+/// column. The entries of row `i` stand from place `starts[i]` on and before `starts[i + 1]`, its pivot at the place
+/// `pivots[i]` among them. So the work on later rows and right sides meets no zeros.
 #[derive(Drop)]
 pub struct SparseRows {
     size: usize,
     count: usize,
+    starts: Vec<usize>,
+    pivots: Vec<usize>,
+    columns: Vec<u16>,
     values: Vec<i64>,
-    next: Vec<u16>,
 }
 
 impl Model for SparseRows {
     ghost Value = { Finished };
 
-    ghost view = { λ s. record { size = s.size; rows = rows_in s.size s.count s.values.items } };
+    ghost view = { λ s. record { size = s.size; rows = rows_kept s.size s.count s.starts.items s.columns.items s.values.items } };
 
-    ghost invariant = { λ s. AreStored s.size s.count s.values.items s.next.items };
+    ghost invariant = { λ s. AreStored s.size s.count s.starts.items s.pivots.items s.columns.items s.values.items };
 }
 
 impl SparseRows {
@@ -43,8 +46,10 @@ impl SparseRows {
         Ok(SparseRows {
             size,
             count: 0,
+            starts: vec![in alloc; 0usize; size + 1]?,
+            pivots: vec![in alloc; 0usize; size]?,
+            columns: vec![in alloc; 0u16; size * size]?,
             values: vec![in alloc; 0i64; size * size]?,
-            next: vec![in alloc; 0u16; size * size]?,
         })
     }
 
@@ -74,7 +79,14 @@ impl SparseRows {
         ensures solved { OnOk result (SolvesAs self.now.rows rhs.old (Ok x.new)) }
         ensures fault { IfErr result (λ fault. SolvesAs self.now.rows rhs.old (Err (PlainFault.Solve fault))) }
     {
-        solve_rows(&self.values, &self.next, rhs, x)
+        solve_rows(
+            &self.starts,
+            &self.pivots,
+            &self.columns,
+            &self.values,
+            rhs,
+            x,
+        )
     }
 
     /// Finishes the next row of the matrix, and keeps it. After a refusal the rows are as before.
@@ -85,8 +97,22 @@ impl SparseRows {
         ensures kept { OnErr result (self.new ≡ self.old) }
         ensures fault { IfErr result (FaultsRow self.old.rows work.old) }
     {
-        finish_row(&self.values, &self.next, self.count, work)?;
-        store_next(&mut self.values, &mut self.next, self.count, work);
+        finish_row(
+            &self.starts,
+            &self.pivots,
+            &self.columns,
+            &self.values,
+            self.count,
+            work,
+        )?;
+        store_next(
+            &mut self.starts,
+            &mut self.pivots,
+            &mut self.columns,
+            &mut self.values,
+            self.count,
+            work,
+        );
         self.count += 1;
         Ok(())
     }

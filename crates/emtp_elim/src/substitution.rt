@@ -4,7 +4,7 @@ ghost use Rattle.emtp_elim.specs.Matrix.{Matrix, item, AreWithin, products};
 ghost use Rattle.emtp_elim.specs.Elimination.{last_unknowns};
 ghost use Rattle.emtp_elim.specs.Fault.{IsRightFault};
 ghost use Rattle.emtp_elim.specs.Finished.{AreAllFinished};
-ghost use Rattle.emtp_elim.specs.Stored.{AreJumps, AreStored, rows_in};
+ghost use Rattle.emtp_elim.specs.Stored.{dense_row, IsStoredRow, AreStored, rows_kept};
 ghost use Rattle.emtp_elim.specs.Substitution.{partial_right, AreReduced, IsLastFault, SolvesAs};
 ghost use Rattle.emtp_elim.specs.declared.fault.PlainFault.{PlainFault};
 
@@ -12,47 +12,54 @@ use crate::arithmetic::{LARGEST_VALUE, ONE, less};
 use crate::fault::SolveFault;
 use emtp_fix::near;
 
-/// A right side less the products of its row's ratios and the right sides above it, which are those of the rows before
-/// its own. None where it leaves its range.
-fn reduced(start: i128, ratios: &[i64], next: &[u16], above: &[i128]) -> Option<i128>
-    requires lengths { length above.now ≤ length ratios.now }
-    requires jumps { AreJumps ratios.now next.now }
-    requires ratios { (k : ℕ) → k < length above.now → unsigned_abs (item ratios.now k) ≤ 10 ^ 18 }
-    requires above { AreWithin (10 ^ 18) above.now }
-    ensures value { IfSome result (λ v. v ≡ partial_right start ratios.now above.now (length above.now)) }
-    ensures within { OnSome result ((k : ℕ) → k ≤ length above.now → unsigned_abs (partial_right start ratios.now above.now k) ≤ 10 ^ 18) }
-    ensures out { IfNone result ((k : ℕ) × (k ≤ length above.now) × (10 ^ 18 < unsigned_abs (partial_right start ratios.now above.now k))) }
+/// The right side of row `i` less the products of the row's ratios and the right sides before it. None where it leaves
+/// its range.
+///
+/// The row is given by its numbers that aren't 0 and their columns, of which those before the place `pivot` are ratios.
+fn reduced(right: &[i128], i: usize, columns: &[u16], values: &[i64], pivot: usize) -> Option<i128>
+    requires index { i < length right.now }
+    requires row { IsStoredRow (length right.now) i columns.now values.now pivot }
+    requires before { (k : ℕ) → k < i → unsigned_abs (item right.now k) ≤ 10 ^ 18 }
+    ensures value { IfSome result (λ v. v ≡ partial_right (item right.now i) (dense_row (length right.now) columns.now values.now) right.now i) }
+    ensures within { OnSome result ((k : ℕ) → k ≤ i → unsigned_abs (partial_right (item right.now i) (dense_row (length right.now) columns.now values.now) right.now k) ≤ 10 ^ 18) }
+    ensures out { IfNone result ((k : ℕ) × (k ≤ i) × (10 ^ 18 < unsigned_abs (partial_right (item right.now i) (dense_row (length right.now) columns.now values.now) right.now k))) }
 {
-    if start.unsigned_abs() > LARGEST_VALUE {
+    let mut value = right[i];
+    if value.unsigned_abs() > LARGEST_VALUE {
         return None;
     }
-    let mut value = start;
-    let mut k = 0;
-    'ratios: while k < above.len() {
-        value = less(value, i128::from(ratios[k]), above[k]);
+    for e in 0..pivot {
+        let k = columns[e] as usize;
+        value = less(value, i128::from(values[e]), right[k]);
         if value.unsigned_abs() > LARGEST_VALUE {
             return None;
         }
-        k = next[k] as usize;
     }
     Some(value)
 }
 
 /// Does the work of the elimination on the right sides, by the finished rows.
-fn reduce_right(values: &[i64], next: &[u16], right: &mut [i128]) -> Result<(), SolveFault>
-    requires stored { AreStored (length right.old) (length right.old) values.now next.now }
+fn reduce_right(
+    starts: &[usize],
+    pivots: &[usize],
+    columns: &[u16],
+    values: &[i64],
+    right: &mut [i128],
+) -> Result<(), SolveFault>
+    requires stored { AreStored (length right.old) (length right.old) starts.now pivots.now columns.now values.now }
     ensures within { OnOk result (AreWithin (10 ^ 18) right.new) }
-    ensures reduced { OnOk result ((rows : Matrix) → AreAllFinished rows (rows_in (length right.old) (length right.old) values.now) → AreReduced rows right.old (length right.old) right.new) }
-    ensures fault { IfErr result (λ fault. (rows : Matrix) → AreAllFinished rows (rows_in (length right.old) (length right.old) values.now) → IsRightFault rows right.old fault.row) }
+    ensures reduced { OnOk result ((rows : Matrix) → AreAllFinished rows (rows_kept (length right.old) (length right.old) starts.now columns.now values.now) → AreReduced rows right.old (length right.old) right.new) }
+    ensures fault { IfErr result (λ fault. (rows : Matrix) → AreAllFinished rows (rows_kept (length right.old) (length right.old) starts.now columns.now values.now) → IsRightFault rows right.old fault.row) }
 {
-    let size = right.len();
-    for i in 0..size {
-        let at = i * size;
+    for i in 0..right.len() {
+        let start = starts[i];
+        let end = starts[i + 1];
         match reduced(
-            right[i],
-            &values[at..at + size],
-            &next[at..at + size],
-            &right[..i],
+            right,
+            i,
+            &columns[start..end],
+            &values[start..end],
+            pivots[i],
         ) {
             Some(value) => right[i] = value,
             None => return Err(SolveFault { row: i }),
@@ -63,46 +70,56 @@ fn reduce_right(values: &[i64], next: &[u16], right: &mut [i128]) -> Result<(), 
 
 /// What is left of the right side of row `k` once the products of its later entries and their unknowns are taken away,
 /// in units of 1e-21.
-fn remainder(right: i128, row: &[i64], next: &[u16], k: usize, x: &[i64]) -> i128
-    requires lengths { length x.now ≡ length row.now }
-    requires few { length row.now ≤ 1000 }
-    requires place { k < length row.now }
-    requires jumps { AreJumps row.now next.now }
-    requires right { unsigned_abs right ≤ 10 ^ 18 }
-    requires entries { (j : ℕ) → k < j → unsigned_abs (item row.now j) ≤ 10 ^ 17 }
+///
+/// The row is given by its numbers that aren't 0 and their columns, of which those after the place `pivot` are the later
+/// entries.
+fn remainder(
+    right: &[i128],
+    k: usize,
+    columns: &[u16],
+    values: &[i64],
+    pivot: usize,
+    x: &[i64],
+) -> i128
+    requires index { k < length right.now }
+    requires lengths { length x.now ≡ length right.now }
+    requires few { length x.now ≤ 1000 }
+    requires row { IsStoredRow (length x.now) k columns.now values.now pivot }
+    requires right { AreWithin (10 ^ 18) right.now }
     requires found { (j : ℕ) → k < j → unsigned_abs (item x.now j) ≤ 10 ^ 18 }
-    ensures value { result ≡ right *ℤ pos (10 ^ 12) -ℤ products (drop (k + 1) row.now) (drop (k + 1) x.now) (length row.now - (k + 1)) }
+    ensures value { result ≡ item right.now k *ℤ pos (10 ^ 12) -ℤ products (drop (k + 1) (dense_row (length x.now) columns.now values.now)) (drop (k + 1) x.now) (length x.now - (k + 1)) }
     ensures bound { unsigned_abs result ≤ 16 * 10 ^ 37 }
 {
-    let mut left = right * ONE;
-    let mut j = next[k] as usize;
-    'later: while j < row.len() {
-        left -= i128::from(row[j]) * i128::from(x[j]);
-        j = next[j] as usize;
+    let mut left = right[k] * ONE;
+    for e in pivot + 1..columns.len() {
+        let column = columns[e] as usize;
+        left -= i128::from(values[e]) * i128::from(x[column]);
     }
     left
 }
 
 /// Finds the unknowns of the triangular system of the finished rows, from the last one back.
 fn substitute_back(
+    starts: &[usize],
+    pivots: &[usize],
+    columns: &[u16],
     values: &[i64],
-    next: &[u16],
     right: &[i128],
     x: &mut [i64],
 ) -> Result<(), SolveFault>
-    requires stored { AreStored (length right.now) (length right.now) values.now next.now }
+    requires stored { AreStored (length right.now) (length right.now) starts.now pivots.now columns.now values.now }
     requires right { AreWithin (10 ^ 18) right.now }
     requires x { length x.old ≡ length right.now }
-    ensures solved { OnOk result (x.new ≡ last_unknowns (rows_in (length right.now) (length right.now) values.now) right.now (length right.now)) }
+    ensures solved { OnOk result (x.new ≡ last_unknowns (rows_kept (length right.now) (length right.now) starts.now columns.now values.now) right.now (length right.now)) }
     ensures within { OnOk result (AreWithin (10 ^ 18) x.new) }
-    ensures fault { IfErr result (λ fault. IsLastFault (rows_in (length right.now) (length right.now) values.now) right.now fault.row) }
+    ensures fault { IfErr result (λ fault. IsLastFault (rows_kept (length right.now) (length right.now) starts.now columns.now values.now) right.now fault.row) }
 {
-    let size = right.len();
-    for k in (0..size).rev() {
-        let at = k * size;
-        let row = &values[at..at + size];
-        let left = remainder(right[k], row, &next[at..at + size], k, x);
-        let unknown = near(left, i128::from(row[k]));
+    for k in (0..right.len()).rev() {
+        let start = starts[k];
+        let end = starts[k + 1];
+        let row = &values[start..end];
+        let left = remainder(right, k, &columns[start..end], row, pivots[k], x);
+        let unknown = near(left, i128::from(row[pivots[k]]));
         if unknown.unsigned_abs() > LARGEST_VALUE {
             return Err(SolveFault { row: k });
         }
@@ -113,16 +130,18 @@ fn substitute_back(
 
 /// Solves the system of the finished rows. `right` and `x` hold unstated numbers after a fault.
 pub fn solve_rows(
+    starts: &[usize],
+    pivots: &[usize],
+    columns: &[u16],
     values: &[i64],
-    next: &[u16],
     right: &mut [i128],
     x: &mut [i64],
 ) -> Result<(), SolveFault>
-    requires stored { AreStored (length right.old) (length right.old) values.now next.now }
+    requires stored { AreStored (length right.old) (length right.old) starts.now pivots.now columns.now values.now }
     requires x { length x.old ≡ length right.old }
-    ensures solved { OnOk result (SolvesAs (rows_in (length right.old) (length right.old) values.now) right.old (Ok x.new)) }
-    ensures fault { IfErr result (λ fault. SolvesAs (rows_in (length right.old) (length right.old) values.now) right.old (Err (PlainFault.Solve fault))) }
+    ensures solved { OnOk result (SolvesAs (rows_kept (length right.old) (length right.old) starts.now columns.now values.now) right.old (Ok x.new)) }
+    ensures fault { IfErr result (λ fault. SolvesAs (rows_kept (length right.old) (length right.old) starts.now columns.now values.now) right.old (Err (PlainFault.Solve fault))) }
 {
-    reduce_right(values, next, right)?;
-    substitute_back(values, next, right, x)
+    reduce_right(starts, pivots, columns, values, right)?;
+    substitute_back(starts, pivots, columns, values, right, x)
 }

@@ -1,0 +1,227 @@
+-- The entries of a row: its numbers that are not 0, side by side, with their columns.
+use Rattle.std.proofs.Common.{◌≡◌, ◌≢◌, ◌⊎◌, ℕ, zero, suc, ◌+◌, ◌-◌, ◌<◌, ◌≤◌, nat_eq, ℤ, pos, List, length, slice_index, slice_set, refl, ap, sym, ◌∙◌, inl, inr, arith}
+use Rattle.std.proofs.lemmas.List.{ext_get_or, get_or-set_same, get_or-set_other}
+use Rattle.std.proofs.lemmas.List.FromFn.{length-map-range_with_len, get_or-map-range_with_len}
+use Rattle.std.proofs.lemmas.Bool.{cases_eq, cases_lt, cond-true, cond-false, eq-eqb, ne_eqb}
+use Rattle.emtp_elim.specs.Matrix.{item}
+use Rattle.emtp_elim.specs.Stored.{number_in, dense_row, AreEntries}
+
+-- one of the entries has this column
+abbrev pub HasColumn : List ℕ → ℕ → ℕ → ℕ → Type 0
+HasColumn columns first last j = (e : ℕ) × (first ≤ e) × (e < last) × (slice_index columns e ≡ j)
+
+-- none of them has
+abbrev pub LacksColumn : List ℕ → ℕ → ℕ → ℕ → Type 0
+LacksColumn columns first last j = (e : ℕ) → first ≤ e → e < last → slice_index columns e ≢ j
+
+pub cases_column : (columns : List ℕ) (first last j : ℕ) → HasColumn columns first last j ⊎ LacksColumn columns first last j
+cases_column columns first zero j = inr (λ e low high. absurd (omega arith))
+cases_column columns first (suc last) j = elim (cases_lt last first) [
+  | inl before ↦ inr (λ e low high. absurd (omega arith))
+  | inr inside ↦ elim (cases_eq (slice_index columns last) j) [
+    | inl here ↦ inl (last, inside, omega arith, here)
+    | inr other ↦ elim (cases_column columns first last j) [
+      | inl (e, low, high, is) ↦ inl (e, low, omega arith, is)
+      | inr none ↦ inr (λ e low high. elim (cases_eq e last) [
+        | inl at ↦ rw at other
+        | inr earlier ↦ none e low (omega arith)
+      ])
+    ]
+  ]
+]
+
+-- ---- the entries of more and more columns
+
+pub entries_none : (row : List ℤ) (from : ℕ) (columns : List ℕ) (values : List ℤ) (first : ℕ) → AreEntries row from from columns values first first
+entries_none row from columns values first = record {
+  order = omega arith;
+  few = omega arith;
+  low = λ e low high. absurd (omega arith);
+  high = λ e low high. absurd (omega arith);
+  rising = λ d e low before high. absurd (omega arith);
+  value_is = λ e low high. absurd (omega arith);
+  others = λ j low high none. absurd (omega arith);
+}
+
+-- one column more, in which the row has 0
+pub entries_skip : (row : List ℤ) (from j : ℕ) (columns : List ℕ) (values : List ℤ) (first at : ℕ) → AreEntries row from j columns values first at
+    → item row j ≡ pos 0 → AreEntries row from (j + 1) columns values first at
+entries_skip row from j columns values first at was clear = record {
+  order = was.order;
+  few = omega (arith, was.few);
+  low = was.low;
+  high = λ e low high. omega (arith, was.high e low high);
+  rising = was.rising;
+  value_is = was.value_is;
+  others = λ h low high none. elim (cases_eq h j) [
+    | inl here ↦ rw here clear
+    | inr other ↦ was.others h low (omega arith) none
+  ];
+}
+
+-- one column more, whose number is put after the entries
+pub entries_more : (row : List ℤ) (from j : ℕ) (columns : List ℕ) (values : List ℤ) (first at : ℕ) (v : ℤ) → AreEntries row from j columns values first at
+    → from ≤ j → at < length columns → at < length values → v ≡ item row j
+    → AreEntries row from (j + 1) (slice_set columns at j) (slice_set values at v) first (at + 1)
+entries_more row from j columns values first at v was low_j in_columns in_values v_is = record {
+  order = omega (arith, was.order);
+  few = omega (arith, was.few);
+  low = λ e low high. elim (cases_eq e at) [
+    | inl here ↦ rw (here, get_or-set_same) low_j
+    | inr other ↦ rw get_or-set_other (was.low e low (omega arith))
+  ];
+  high = λ e low high. elim (cases_eq e at) [
+    | inl here ↦ rw (here, get_or-set_same) (omega arith)
+    | inr other ↦ rw get_or-set_other (omega (arith, was.high e low (omega arith)))
+  ];
+  rising = λ d e low before high.
+      let earlier : d ≢ at = omega arith in
+      elim (cases_eq e at) [
+        | inl here ↦ rw (here, get_or-set_same, get_or-set_other) (was.high d low (omega arith))
+        | inr other ↦ rw (get_or-set_other columns at d j 0 earlier, get_or-set_other columns at e j 0 other) (was.rising d e low before (omega arith))
+      ];
+  value_is = λ e low high. elim (cases_eq e at) [
+    | inl here ↦ rw (here, get_or-set_same, get_or-set_same) v_is
+    | inr other ↦ rw (get_or-set_other values at e v (pos 0) other, get_or-set_other columns at e j 0 other) (was.value_is e low (omega arith))
+  ];
+  others = λ h low high none. elim (cases_eq h j) [
+    | inl here ↦ absurd (none at (omega (arith, was.order)) (omega arith) (get_or-set_same columns at j 0 in_columns ∙ sym here))
+    | inr other ↦ was.others h low (omega arith) (λ e from_on before. let earlier : e ≢ at = omega arith in rw get_or-set_other at (none e from_on (omega arith)))
+  ];
+}
+
+-- ---- the same entries elsewhere
+
+pub entries_same : (row : List ℤ) (from upto : ℕ) (columns new_columns : List ℕ) (values new_values : List ℤ) (first last : ℕ) → AreEntries row from upto columns values first last
+    → ((e : ℕ) → e < last → slice_index new_columns e ≡ slice_index columns e) → ((e : ℕ) → e < last → item new_values e ≡ item values e)
+    → AreEntries row from upto new_columns new_values first last
+entries_same row from upto columns new_columns values new_values first last was same_column same_value = record {
+  order = was.order;
+  few = was.few;
+  low = λ e low high. rw (same_column e high) (was.low e low high);
+  high = λ e low high. rw (same_column e high) (was.high e low high);
+  rising = λ d e low before high. rw (same_column d (omega arith), same_column e high) (was.rising d e low before high);
+  value_is = λ e low high. rw (same_value e high, same_column e high) (was.value_is e low high);
+  others = λ j low high none. was.others j low high (λ e from_on before. rw (same_column e before) at (none e from_on before));
+}
+
+pub entries_moved : (row : List ℤ) (from upto : ℕ) (columns new_columns : List ℕ) (values new_values : List ℤ) (by first last low_end high_end : ℕ)
+    → AreEntries row from upto columns values low_end high_end → low_end ≡ by + first → high_end ≡ by + last
+    → ((e : ℕ) → e < last → slice_index new_columns e ≡ slice_index columns (by + e)) → ((e : ℕ) → e < last → item new_values e ≡ item values (by + e))
+    → AreEntries row from upto new_columns new_values first last
+entries_moved row from upto columns new_columns values new_values by first last low_end high_end was low_is high_is same_column same_value = record {
+  order = omega (arith, was.order);
+  few = omega (arith, was.few);
+  low = λ e low high. rw (same_column e high) (was.low (by + e) (omega arith) (omega arith));
+  high = λ e low high. rw (same_column e high) (was.high (by + e) (omega arith) (omega arith));
+  rising = λ d e low before high. rw (same_column d (omega arith), same_column e high) (was.rising (by + d) (by + e) (omega arith) (omega arith) (omega arith));
+  value_is = λ e low high. rw (same_value e high, same_column e high) (was.value_is (by + e) (omega arith) (omega arith));
+  others = λ j low high none. was.others j low high (λ e from_on before.
+      let there : by + (e - by) ≡ e = omega arith in
+      rw (same_column (e - by) (omega arith), there) at (none (e - by) (omega arith) (omega arith)));
+}
+
+-- ---- entries in two parts
+
+pub entries_joined : (row : List ℤ) (a b c : ℕ) (columns : List ℕ) (values : List ℤ) (first mid last : ℕ) → AreEntries row a b columns values first mid
+    → AreEntries row b c columns values mid last → AreEntries row a c columns values first last
+entries_joined row a b c columns values first mid last left right = record {
+  order = omega (arith, left.order, right.order);
+  few = omega (arith, left.few, right.few);
+  low = λ e low high. elim (cases_lt e mid) [
+    | inl in_left ↦ left.low e low in_left
+    | inr in_right ↦ omega (arith, right.low e in_right high, left.few, left.order)
+  ];
+  high = λ e low high. elim (cases_lt e mid) [
+    | inl in_left ↦ omega (arith, left.high e low in_left, right.few, right.order)
+    | inr in_right ↦ right.high e in_right high
+  ];
+  rising = λ d e low before high. elim (cases_lt e mid) [
+    | inl in_left ↦ left.rising d e low before in_left
+    | inr in_right ↦ elim (cases_lt d mid) [
+      | inl earlier ↦ omega (arith, left.high d low earlier, right.low e in_right high)
+      | inr later ↦ right.rising d e later before high
+    ]
+  ];
+  value_is = λ e low high. elim (cases_lt e mid) [
+    | inl in_left ↦ left.value_is e low in_left
+    | inr in_right ↦ right.value_is e in_right high
+  ];
+  others = λ j low high none. elim (cases_lt j b) [
+    | inl in_left ↦ left.others j low in_left (λ e from_on before. none e from_on (omega (arith, right.order)))
+    | inr in_right ↦ right.others j in_right high (λ e from_on before. none e (omega (arith, left.order)) before)
+  ];
+}
+
+-- the first of the entries has the first column, where the row has a number there
+pub record IsFirst (i : ℕ) (columns : List ℕ) (first last : ℕ) : Type 0 where
+  pub within : first < last
+  pub column_is : slice_index columns first ≡ i
+
+pub entries_first : (row : List ℤ) (i upto : ℕ) (columns : List ℕ) (values : List ℤ) (first last : ℕ) → AreEntries row i upto columns values first last
+    → i < upto → item row i ≢ pos 0 → IsFirst i columns first last
+entries_first row i upto columns values first last all inside nonzero = elim (cases_column columns first last i) [
+  | inl (e, low, high, is) ↦ elim (cases_eq e first) [
+    | inl here ↦ record { within = omega arith; column_is = rw here at is }
+    | inr later ↦ absurd (omega (arith, all.rising first e (omega arith) (omega arith) high, all.low first (omega arith) (omega arith)))
+  ]
+  | inr none ↦ absurd (nonzero (all.others i (omega arith) inside none))
+]
+
+-- and the others have the later ones
+pub entries_rest : (row : List ℤ) (i upto : ℕ) (columns : List ℕ) (values : List ℤ) (first last : ℕ) → AreEntries row i upto columns values first last
+    → IsFirst i columns first last → AreEntries row (i + 1) upto columns values (first + 1) last
+entries_rest row i upto columns values first last all head = record {
+  order = omega (arith, head.within);
+  few = omega (arith, all.few);
+  low = λ e low high. omega (arith, all.rising first e (omega arith) (omega arith) high, head.column_is);
+  high = λ e low high. all.high e (omega arith) high;
+  rising = λ d e low before high. all.rising d e (omega arith) before high;
+  value_is = λ e low high. all.value_is e (omega arith) high;
+  others = λ j low high none. all.others j (omega arith) high (λ e from_on before. elim (cases_eq e first) [
+    | inl here ↦ rw here (λ is. omega (arith, head.column_is))
+    | inr later ↦ none e (omega arith) before
+  ]);
+}
+
+-- between two entries there is nothing but 0
+pub entries_gap : (row : List ℤ) (from upto : ℕ) (columns : List ℕ) (values : List ℤ) (first e last j : ℕ) → AreEntries row from upto columns values first last
+    → from ≤ j → j < upto → ((d : ℕ) → first ≤ d → d < e → slice_index columns d < j) → ((d : ℕ) → e ≤ d → d < last → j < slice_index columns d)
+    → item row j ≡ pos 0
+entries_gap row from upto columns values first e last j all low high before after = all.others j low high (λ d from_on below. elim (cases_lt d e) [
+  | inl earlier ↦ λ is. omega (arith, before d from_on earlier)
+  | inr later ↦ λ is. omega (arith, after d later below)
+])
+
+-- ---- the row of the entries
+
+number_in-found : (columns : List ℕ) (values : List ℤ) (n d j : ℕ) → d < n → slice_index columns d ≡ j
+    → ((e : ℕ) → d < e → e < n → slice_index columns e ≢ j) → number_in columns values n j ≡ item values d
+number_in-found columns values zero d j inside is later = absurd (omega arith)
+number_in-found columns values (suc n) d j inside is later = elim (cases_eq n d) [
+  | inl here ↦ cond-true (nat_eq (slice_index columns n) j) _ _ (eq-eqb (slice_index columns n) j (ap (slice_index columns) here ∙ is)) ∙ ap (item values) here
+  | inr other ↦ cond-false (nat_eq (slice_index columns n) j) _ _ (ne_eqb (slice_index columns n) j (later n (omega arith) (omega arith)))
+      ∙ number_in-found columns values n d j (omega arith) is (λ e low high. later e low (omega arith))
+]
+
+number_in-none : (columns : List ℕ) (values : List ℤ) (n j : ℕ) → ((e : ℕ) → e < n → slice_index columns e ≢ j) → number_in columns values n j ≡ pos 0
+number_in-none columns values zero j none = refl
+number_in-none columns values (suc n) j none =
+    cond-false (nat_eq (slice_index columns n) j) _ _ (ne_eqb (slice_index columns n) j (none n (omega arith)))
+    ∙ number_in-none columns values n j (λ e low. none e (omega arith))
+
+number_in-entries : (row : List ℤ) (size : ℕ) (columns : List ℕ) (values : List ℤ) (n j : ℕ) → AreEntries row 0 size columns values 0 n → j < size
+    → number_in columns values n j ≡ item row j
+number_in-entries row size columns values n j all inside = elim (cases_column columns 0 n j) [
+  | inl (d, low, high, is) ↦ number_in-found columns values n d j high is (λ e after before same. omega (arith, all.rising d e low after before)) ∙ all.value_is d low high ∙ ap (item row) is
+  | inr none ↦ number_in-none columns values n j (λ e before. none e (omega arith) before) ∙ sym (all.others j (omega arith) inside none)
+]
+
+pub dense_row_is : (row : List ℤ) (size : ℕ) (columns : List ℕ) (values : List ℤ) → AreEntries row 0 size columns values 0 (length columns) → length row ≡ size
+    → dense_row size columns values ≡ row
+unfolding dense_row
+dense_row_is row size columns values all same =
+    let long : length (dense_row size columns values) ≡ size = length-map-range_with_len _ 0 size in
+    ext_get_or (pos 0) (dense_row size columns values) row (long ∙ sym same) (λ j h.
+    let inside : j < size = omega arith in
+    get_or-map-range_with_len _ 0 size j j (pos 0) inside (omega arith) ∙ number_in-entries row size columns values (length columns) j all inside)
