@@ -172,6 +172,7 @@ impl Kept {
         requires x { length x.old ≡ self.now.size }
         ensures solved { OnOk result (outcome self.now.rows rhs.old ≡ Ok x.new) }
         ensures fault { IfErr result (λ fault. outcome self.now.rows rhs.old ≡ Err (PlainFault.Solve fault)) }
+        ensures row { IfErr result (λ fault. fault.row < self.now.size) }
     {
         self.done.solve(rhs, x)
     }

@@ -1,6 +1,8 @@
-use Rattle.std.proofs.Common.{◌≡◌, length, ap, sym, ◌∙◌}
+use Rattle.std.proofs.Common.{◌≡◌, length, ap, sym, ◌∙◌, arith}
 use Rattle.std.proofs.lemmas.Result.{on_ok_weaker, IfErr-weaker}
 use Rattle.emtp_elim.specs.Finished.{AreAllFinished}
+use Rattle.emtp_elim.specs.declared.fault.PlainFault.TheVariants.{Solve}
+use Rattle.emtp_elim.proofs.FaultRows.{NamesRow-outcome}
 use Rattle.emtp_elim.proofs.StoredRows.{length-rows_in}
 use Rattle.emtp_tail.specs.Good.{Good}
 use Rattle.emtp_tail.proofs.kept.Kept.solve.Goals as goal
@@ -34,3 +36,8 @@ returns-clause-fault c =
       finished = rw (← rows_are) c.self.invariant.finished;
     } in
     IfErr-weaker c.solve.result _ _ (λ fault solves. solves.outcome_is c.args.self.now.rows all) c.solve.ensures.fault
+
+pub returns-clause-row : goal.returns-clause-row
+returns-clause-row c =
+    let rows = c.args.self.now.rows in
+    IfErr-weaker c.solve.result _ _ (λ fault ends. omega (arith, NamesRow-outcome rows c.args.rhs.now (Solve fault) ends, c.requires.all)) (returns-clause-fault c)
