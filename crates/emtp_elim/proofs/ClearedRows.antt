@@ -5,8 +5,9 @@ use Rattle.std.proofs.lemmas.List.{get_or-set_same, get_or-set_other}
 use Rattle.emtp_fix.proofs.Wide.{through}
 use Rattle.emtp_elim.specs.Matrix.{item}
 use Rattle.emtp_elim.specs.Elimination.{quotient}
-use Rattle.emtp_elim.specs.Clearing.{IsFinishedRow, IsLessened, IsClearedRow}
+use Rattle.emtp_elim.specs.Clearing.{IsFinishedRow, IsClearedRow}
 use Rattle.emtp_elim.proofs.Products.{less_product-zero_left, quotient-zero}
+use Rattle.emtp_elim.proofs.LessenedRows.{IsLessened}
 
 -- where the column is clear already, nothing is to be done
 pub cleared_nothing : (k : ℕ) (old above : List ℤ) → item old k ≡ pos 0 → ((j : ℕ) → k ≤ j → unsigned_abs (item old j) ≤ 10 ^ 17)

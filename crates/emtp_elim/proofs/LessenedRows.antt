@@ -4,10 +4,15 @@ use Rattle.std.proofs.lemmas.List.{get_or-set_same, get_or-set_other}
 use Rattle.std.proofs.lemmas.Bool.{cases_eq}
 use Rattle.emtp_elim.specs.Matrix.{item}
 use Rattle.emtp_elim.specs.Elimination.{less_product}
-use Rattle.emtp_elim.specs.Clearing.{IsLessened}
 use Rattle.emtp_elim.specs.Stored.{AreEntries}
 use Rattle.emtp_elim.proofs.Entries.{LacksColumn, cases_column}
 use Rattle.emtp_elim.proofs.Products.{less_product-zero_right}
+
+-- of the columns after k, m times the row above has been taken away, and no entry left its range
+pub record IsLessened (m : ℤ) (k : ℕ) (old above new : List ℤ) : Type 0 where
+  pub before : (j : ℕ) → j ≤ k → item new j ≡ item old j
+  pub after : (j : ℕ) → k < j → j < length old → item new j ≡ less_product (item old j) m (item above j)
+  pub within : (j : ℕ) → k < j → j < length old → unsigned_abs (item new j) ≤ 10 ^ 17
 
 -- the columns of the entries before place e are done, the others are as they were
 pub record IsLessenedUpTo (m : ℤ) (columns : List ℕ) (values : List ℤ) (first e : ℕ) (old new : List ℤ) : Type 0 where

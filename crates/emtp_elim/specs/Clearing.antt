@@ -10,12 +10,6 @@ pub record IsFinishedRow (size i : ℕ) (row : List ℤ) : Type 0 where
   pub entries : (j : ℕ) → i ≤ j → unsigned_abs (item row j) ≤ 10 ^ 17
   pub nonzero : item row i ≢ pos 0
 
--- of the columns after k, m times the row above has been taken away, and no entry left its range
-pub record IsLessened (m : ℤ) (k : ℕ) (old above new : List ℤ) : Type 0 where
-  pub before : (j : ℕ) → j ≤ k → item new j ≡ item old j
-  pub after : (j : ℕ) → k < j → j < length old → item new j ≡ less_product (item old j) m (item above j)
-  pub within : (j : ℕ) → k < j → j < length old → unsigned_abs (item new j) ≤ 10 ^ 17
-
 -- an entry after column k leaves its range when m times the row above is taken away
 abbrev pub LeavesRange : ℤ → ℕ → List ℤ → List ℤ → Type 0
 LeavesRange m k old above = (j : ℕ) × (k < j) × (j < length old) × (10 ^ 17 < unsigned_abs (less_product (item old j) m (item above j)))
