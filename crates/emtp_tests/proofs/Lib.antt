@@ -1,2 +1,5 @@
-pub mod Lawful
+pub mod Characteristics
 pub mod Composed
+pub mod Definitions
+pub mod Histories
+pub mod Lawful

@@ -1,0 +1,521 @@
+//! A control with each kind of source, block and supplemental card.
+
+ghost use Rattle.std.specs.Prelude.{◌≡◌, ◌<◌, ◌≤◌, [], ◌∷◌, ◌++◌, IsSome, length, IfOk, OnOk};
+ghost use Rattle.std.specs.Option.{ForSome};
+ghost use Rattle.emtp_case.specs.Case.{empty_parts};
+ghost use Rattle.emtp_case.specs.Control.{AreTimes, HasRangeOfA, IsBlock, IsDeviceCard, IsDeviceCode, IsFormula, IsTable, FitsPlaces, NeedsD, var_of};
+ghost use Rattle.emtp_case.specs.History.{delay_steps, history_of};
+ghost use Rattle.emtp_case.specs.Source.{HasShapeNumbers, IsControlShape, IsTacsSource};
+ghost use Rattle.emtp_tests.specs.Signals.{nodes_of, outputs_of, vars_of};
+
+use emtp_case::{
+    BinaryOp, Block, Bound, Case, Device, Draft, Expr, Extra, Formula, Group, Input, Items, Name,
+    Point, RunData, Shape, Source, Switch, SwitchKind, UnaryOp,
+};
+use std::alloc::{AllocError, Global};
+use std::process::Abort;
+use std::test::Fail;
+
+/// 100 microseconds a step, three steps.
+const RUN: RunData = RunData {
+    dt: 100_000_000,
+    steps: 3,
+    every: 1,
+    tolerance: 10_000_000,
+};
+
+/// The names of all variables: six that every case has, and those of the control.
+const ALL_VARS: [&str; 20] = [
+    "TIMEX", "ISTEP", "DELTAT", "ZERO", "PLUS1", "MINUS1", "STEP", "COS", "PULSE", "SAW", "VOLT",
+    "CURR", "STAT", "DBL", "LAG", "TABLE", "TIMES", "DELAY", "MEMORY", "SUM",
+];
+
+/// The names of the variables 6 to 19.
+const VARS: [&str; 14] = [
+    "STEP", "COS", "PULSE", "SAW", "VOLT", "CURR", "STAT", "DBL", "LAG", "TABLE", "TIMES", "DELAY",
+    "MEMORY", "SUM",
+];
+
+/// The switch whose current and state are signals, from SRC to MID.
+const METER: Switch = Switch {
+    line: 11,
+    from: 1,
+    to: 2,
+    kind: SwitchKind::Measuring,
+};
+
+/// Two nodes and twenty variables.
+fn named(rt: &impl Abort, alloc: Global) -> Result<Draft, AllocError>
+    ensures nodes { IfOk result (λ draft. length draft.parts.nodes ≡ 2) }
+    ensures vars { IfOk result (λ draft. length draft.parts.vars ≡ 20) }
+    ensures rest { IfOk result (λ draft. draft.parts ≡ record (empty_parts RUN) { nodes = draft.parts.nodes; vars = draft.parts.vars }) }
+{
+    let mut draft = Draft::new(alloc, RUN)?;
+    draft.add_node(Name::new(b"SRC"))?;
+    draft.add_node(Name::new(b"MID"))?;
+    for name in VARS {
+        assert!(rt; name.len() <= 6);
+        draft.add_variable(Name::new(name.as_bytes()))?;
+    }
+    Ok(draft)
+}
+
+/// The source of a variable, of 3 units from 1 ms to 2 ms.
+fn signal(line: u32, var: u32, shape: Shape) -> Source
+    requires own { 6 ≤ var }
+    requires there { var < 20 }
+    requires numbers { HasShapeNumbers shape }
+    requires shape { IsControlShape 2 1 shape }
+    ensures fits { IsTacsSource 2 20 1 result }
+    ensures var { result.node ≡ var }
+{
+    Source {
+        line,
+        node: var,
+        current: false,
+        shape,
+        amplitude: 3_000_000_000,
+        start: 1_000_000_000,
+        stop: Some(2_000_000_000),
+    }
+}
+
+/// A step.
+fn step() -> Source
+    ensures fits { IsTacsSource 2 20 1 result }
+    ensures var { result.node ≡ 6 }
+{
+    signal(21, 6, Shape::Step)
+}
+
+/// A cosine of 60 Hz, an eighth of a turn ahead.
+fn cosine() -> Source
+    ensures fits { IsTacsSource 2 20 1 result }
+    ensures var { result.node ≡ 7 }
+{
+    let shape = Shape::Cosine {
+        freq: 60_000_000,
+        phase: 125_000_000_000_000_000,
+    };
+    signal(22, 7, shape)
+}
+
+/// Pulses of 1 ms every 5 ms.
+fn pulses() -> Source
+    ensures fits { IsTacsSource 2 20 1 result }
+    ensures var { result.node ≡ 8 }
+{
+    let shape = Shape::Pulse {
+        period: 5_000_000_000,
+        width: 1_000_000_000,
+    };
+    signal(23, 8, shape)
+}
+
+/// Teeth of 4 ms.
+fn teeth() -> Source
+    ensures fits { IsTacsSource 2 20 1 result }
+    ensures var { result.node ≡ 9 }
+{
+    let shape = Shape::Saw {
+        period: 4_000_000_000,
+    };
+    signal(24, 9, shape)
+}
+
+/// The signals whose course is given.
+fn add_given(draft: &mut Draft) -> Result<(), AllocError>
+    requires nodes { length draft.old.parts.nodes ≡ 2 }
+    requires vars { length draft.old.parts.vars ≡ 20 }
+    requires none { draft.old.parts.switches ≡ [] }
+    requires no_sources { draft.old.parts.tacs_sources ≡ [] }
+    ensures switches { OnOk result (length draft.new.parts.switches ≡ 1) }
+    ensures defined { OnOk result (nodes_of draft.new.parts.tacs_sources ≡ 6 ∷ 7 ∷ 8 ∷ 9 ∷ []) }
+    ensures others { OnOk result (draft.new.parts ≡ record draft.old.parts { switches = draft.new.parts.switches; tacs_sources = draft.new.parts.tacs_sources }) }
+{
+    draft.add_switch(METER)?;
+    draft.add_tacs_source(step())?;
+    draft.add_tacs_source(cosine())?;
+    draft.add_tacs_source(pulses())?;
+    draft.add_tacs_source(teeth())
+}
+
+/// 3 units of the voltage of MID.
+fn voltage() -> Source
+    ensures fits { IsTacsSource 2 20 1 result }
+    ensures var { result.node ≡ 10 }
+{
+    signal(25, 10, Shape::NodeVoltage { node: 2 })
+}
+
+/// The current of the switch.
+fn current() -> Source
+    ensures fits { IsTacsSource 2 20 1 result }
+    ensures var { result.node ≡ 11 }
+{
+    signal(26, 11, Shape::SwitchCurrent { switch: 0 })
+}
+
+/// The state of the switch.
+fn status() -> Source
+    ensures fits { IsTacsSource 2 20 1 result }
+    ensures var { result.node ≡ 12 }
+{
+    signal(27, 12, Shape::SwitchStatus { switch: 0 })
+}
+
+/// The signals that the network gives.
+fn add_measured(draft: &mut Draft) -> Result<(), AllocError>
+    requires nodes { length draft.old.parts.nodes ≡ 2 }
+    requires vars { length draft.old.parts.vars ≡ 20 }
+    requires switches { length draft.old.parts.switches ≡ 1 }
+    requires given { nodes_of draft.old.parts.tacs_sources ≡ 6 ∷ 7 ∷ 8 ∷ 9 ∷ [] }
+    ensures defined { OnOk result (nodes_of draft.new.parts.tacs_sources ≡ 6 ∷ 7 ∷ 8 ∷ 9 ∷ 10 ∷ 11 ∷ 12 ∷ []) }
+    ensures others { OnOk result (draft.new.parts ≡ record draft.old.parts { tacs_sources = draft.new.parts.tacs_sources }) }
+{
+    draft.add_tacs_source(voltage())?;
+    draft.add_tacs_source(current())?;
+    draft.add_tacs_source(status())
+}
+
+/// Twice STEP less COS, from -10 up to PLUS1.
+#[tactic(auto, unfolding(emtp_fix::specs::Rounding::near, emtp_fix::specs::Rounding::near_abs))]
+fn doubler(alloc: Global) -> Result<Block, AllocError>
+    ensures fits { IfOk result (λ block. IsBlock RUN 20 block) }
+    ensures var { IfOk result (λ block. block.var ≡ 13) }
+{
+    let inputs = [
+        Input {
+            var: 6,
+            minus: false,
+        },
+        Input {
+            var: 7,
+            minus: true,
+        },
+    ];
+    Ok(Block {
+        line: 31,
+        var: 13,
+        order: 0,
+        inputs: Items::from_vec(Vec::from_array(alloc, inputs)?),
+        gain: 2_000_000_000_000,
+        top: [0; 8],
+        bottom: [0; 8],
+        low: Bound::Fixed(-10_000_000_000),
+        high: Bound::Named(4),
+    })
+}
+
+/// DBL behind a lag of 0.45 ms, down to any value and up to 8.
+#[tactic(auto, unfolding(emtp_fix::specs::Rounding::near, emtp_fix::specs::Rounding::near_abs))]
+fn lag(alloc: Global) -> Result<Block, AllocError>
+    ensures fits { IfOk result (λ block. IsBlock RUN 20 block) }
+    ensures var { IfOk result (λ block. block.var ≡ 14) }
+{
+    let inputs = [Input {
+        var: 13,
+        minus: false,
+    }];
+    Ok(Block {
+        line: 32,
+        var: 14,
+        order: 1,
+        inputs: Items::from_vec(Vec::from_array(alloc, inputs)?),
+        gain: 1_000_000_000_000,
+        top: [1_000_000_000_000, 0, 0, 0, 0, 0, 0, 0],
+        bottom: [1_000_000_000_000, 450_000_000, 0, 0, 0, 0, 0, 0],
+        low: Bound::None,
+        high: Bound::Fixed(8_000_000_000),
+    })
+}
+
+/// The blocks.
+fn add_blocks(draft: &mut Draft, first: Block, second: Block) -> Result<(), AllocError>
+    requires run { draft.old.parts.run ≡ RUN }
+    requires vars { length draft.old.parts.vars ≡ 20 }
+    requires none { draft.old.parts.blocks ≡ [] }
+    requires first { IsBlock RUN 20 first }
+    requires second { IsBlock RUN 20 second }
+    ensures outputs { OnOk result (outputs_of draft.new.parts.blocks ≡ first.var ∷ second.var ∷ []) }
+    ensures others { OnOk result (draft.new.parts ≡ record draft.old.parts { blocks = draft.new.parts.blocks }) }
+{
+    draft.add_block(first)?;
+    draft.add_block(second)
+}
+
+/// A device without a number B or C.
+fn device(
+    alloc: Global,
+    line: u32,
+    var: u32,
+    code: u8,
+    a: i64,
+    d: Option<u32>,
+) -> Result<Device, AllocError>
+    requires own { 6 ≤ var }
+    requires there { var < 20 }
+    requires code { IsDeviceCode code }
+    requires a { HasRangeOfA code a }
+    requires d { ForSome d (λ v. v < 20) }
+    requires required { NeedsD code → IsSome d }
+    ensures card { IfOk result (λ x. IsDeviceCard 20 x) }
+    ensures var { IfOk result (λ x. x.var ≡ var) }
+    ensures code { IfOk result (λ x. x.code ≡ code) }
+    ensures a { IfOk result (λ x. x.a ≡ a) }
+{
+    let inputs = [Input {
+        var: 14,
+        minus: true,
+    }];
+    Ok(Device {
+        line,
+        var,
+        group: Group::Inside,
+        code,
+        inputs: Items::from_vec(Vec::from_array(alloc, inputs)?),
+        a,
+        b: 0,
+        c: 0,
+        d,
+        e: Some(7),
+        first: 77,
+        count: 99,
+    })
+}
+
+/// A table from (-1, 5) to (2, 7).
+fn table_points() -> [Point; 2]
+    ensures { IsTable result }
+{
+    [
+        Point {
+            current: -1_000_000_000,
+            other: 5_000_000_000,
+        },
+        Point {
+            current: 2_000_000_000,
+            other: 7_000_000_000,
+        },
+    ]
+}
+
+/// Closed from 1 ms to 2 ms, and from 2 ms to 4 ms.
+fn closed_times() -> [Point; 2]
+    ensures { AreTimes result }
+{
+    [
+        Point {
+            current: 1_000_000_000,
+            other: 2_000_000_000,
+        },
+        Point {
+            current: 2_000_000_000,
+            other: 4_000_000_000,
+        },
+    ]
+}
+
+/// The table and the times, with their points.
+fn add_tables(
+    draft: &mut Draft,
+    table: Device,
+    points: &[Point],
+    times: Device,
+    pairs: &[Point],
+) -> Result<(), AllocError>
+    requires vars { length draft.old.parts.vars ≡ 20 }
+    requires none { draft.old.parts.extras ≡ [] }
+    requires history { history_of draft.old.parts ≡ 0 }
+    requires table { IsDeviceCard 20 table }
+    requires table_code { table.code ≡ 56 }
+    requires points { IsTable points.now }
+    requires times { IsDeviceCard 20 times }
+    requires times_code { times.code ≡ 57 }
+    requires pairs { AreTimes pairs.now }
+    ensures vars { OnOk result (vars_of draft.new.parts.extras ≡ table.var ∷ times.var ∷ []) }
+    ensures history { OnOk result (history_of draft.new.parts ≡ 0) }
+    ensures others { OnOk result (draft.new.parts ≡ record draft.old.parts { points = draft.new.parts.points; extras = draft.new.parts.extras }) }
+{
+    draft.add_device(table, points)?;
+    draft.add_device(times, pairs)
+}
+
+/// The delay of three steps and the memory.
+fn add_plain_devices(draft: &mut Draft, delay: Device, memory: Device) -> Result<(), AllocError>
+    requires run { draft.old.parts.run ≡ RUN }
+    requires vars { length draft.old.parts.vars ≡ 20 }
+    requires room { length draft.old.parts.extras ≤ 100 }
+    requires history { history_of draft.old.parts ≡ 0 }
+    requires delay { IsDeviceCard 20 delay }
+    requires delay_code { delay.code ≡ 53 }
+    requires delay_time { delay_steps RUN.dt delay.a ≡ 3 }
+    requires memory { IsDeviceCard 20 memory }
+    requires memory_code { memory.code ≡ 60 }
+    ensures vars { OnOk result (vars_of draft.new.parts.extras ≡ vars_of draft.old.parts.extras ++ delay.var ∷ memory.var ∷ []) }
+    ensures others { OnOk result (draft.new.parts ≡ record draft.old.parts { points = draft.new.parts.points; extras = draft.new.parts.extras }) }
+{
+    draft.add_device(delay, &[])?;
+    draft.add_device(memory, &[])
+}
+
+/// STEP plus the negative of 5.
+fn tree(alloc: Global) -> Result<Expr, AllocError>
+    ensures { IfOk result (λ expr. FitsPlaces 2 expr) }
+{
+    let number = Box::new(alloc, Expr::Number(5_000_000_000))?;
+    let negative = Box::new(alloc, Expr::Unary(UnaryOp::Minus, number))?;
+    let variable = Box::new(alloc, Expr::Var(1))?;
+    Ok(Expr::Binary(BinaryOp::Add, variable, negative))
+}
+
+/// The formula of SUM over DBL and STEP.
+fn formula(alloc: Global) -> Result<Formula, AllocError>
+    ensures fits { IfOk result (λ x. IsFormula 20 x) }
+    ensures var { IfOk result (λ x. x.var ≡ 19) }
+{
+    let expr = tree(alloc)?;
+    Ok(Formula {
+        line: 45,
+        var: 19,
+        group: Group::Output,
+        expr,
+        vars: Items::from_vec(Vec::from_array(alloc, [13, 6])?),
+    })
+}
+
+/// A table of points.
+fn table(alloc: Global) -> Result<Device, AllocError>
+    ensures card { IfOk result (λ x. IsDeviceCard 20 x) }
+    ensures var { IfOk result (λ x. x.var ≡ 15) }
+    ensures code { IfOk result (λ x. x.code ≡ 56) }
+{
+    device(alloc, 41, 15, 56, 0, None)
+}
+
+/// A switch by times.
+fn timer(alloc: Global) -> Result<Device, AllocError>
+    ensures card { IfOk result (λ x. IsDeviceCard 20 x) }
+    ensures var { IfOk result (λ x. x.var ≡ 16) }
+    ensures code { IfOk result (λ x. x.code ≡ 57) }
+{
+    device(alloc, 42, 16, 57, 0, None)
+}
+
+/// A delay of three steps.
+#[tactic(auto, unfolding(emtp_fix::specs::Rounding::near, emtp_fix::specs::Rounding::near_abs))]
+fn delay(alloc: Global) -> Result<Device, AllocError>
+    ensures card { IfOk result (λ x. IsDeviceCard 20 x) }
+    ensures var { IfOk result (λ x. x.var ≡ 17) }
+    ensures code { IfOk result (λ x. x.code ≡ 53) }
+    ensures steps { IfOk result (λ x. delay_steps RUN.dt x.a ≡ 3) }
+{
+    device(alloc, 43, 17, 53, 300_000_000, None)
+}
+
+/// A memory that takes STEP.
+fn memory(alloc: Global) -> Result<Device, AllocError>
+    ensures card { IfOk result (λ x. IsDeviceCard 20 x) }
+    ensures var { IfOk result (λ x. x.var ≡ 18) }
+    ensures code { IfOk result (λ x. x.code ≡ 60) }
+{
+    device(alloc, 44, 18, 60, 0, Some(6))
+}
+
+/// The devices.
+fn add_devices(alloc: Global, draft: &mut Draft) -> Result<(), AllocError>
+    requires run { draft.old.parts.run ≡ RUN }
+    requires vars { length draft.old.parts.vars ≡ 20 }
+    requires none { draft.old.parts.extras ≡ [] }
+    requires history { history_of draft.old.parts ≡ 0 }
+    ensures vars { OnOk result (vars_of draft.new.parts.extras ≡ 15 ∷ 16 ∷ 17 ∷ 18 ∷ []) }
+    ensures others { OnOk result (draft.new.parts ≡ record draft.old.parts { points = draft.new.parts.points; extras = draft.new.parts.extras }) }
+{
+    let table = table(alloc)?;
+    let timer = timer(alloc)?;
+    let delay = delay(alloc)?;
+    let memory = memory(alloc)?;
+    add_tables(draft, table, &table_points(), timer, &closed_times())?;
+    add_plain_devices(draft, delay, memory)
+}
+
+/// The formula as the last card.
+fn add_sum(draft: &mut Draft, formula: Formula) -> Result<(), AllocError>
+    requires vars { length draft.old.parts.vars ≡ 20 }
+    requires fits { IsFormula 20 formula }
+    requires var { formula.var ≡ 19 }
+    requires given { vars_of draft.old.parts.extras ≡ 15 ∷ 16 ∷ 17 ∷ 18 ∷ [] }
+    ensures vars { OnOk result (vars_of draft.new.parts.extras ≡ 15 ∷ 16 ∷ 17 ∷ 18 ∷ 19 ∷ []) }
+    ensures others { OnOk result (draft.new.parts ≡ record draft.old.parts { extras = draft.new.parts.extras }) }
+{
+    draft.add_formula(formula)
+}
+
+/// The case, each of whose variables has its card.
+fn finished(draft: Draft) -> Case
+    requires vars { length draft.parts.vars ≡ 20 }
+    requires signals { nodes_of draft.parts.tacs_sources ≡ 6 ∷ 7 ∷ 8 ∷ 9 ∷ 10 ∷ 11 ∷ 12 ∷ [] }
+    requires blocks { outputs_of draft.parts.blocks ≡ 13 ∷ 14 ∷ [] }
+    requires extras { vars_of draft.parts.extras ≡ 15 ∷ 16 ∷ 17 ∷ 18 ∷ 19 ∷ [] }
+    ensures { result.parts ≡ draft.parts }
+{
+    draft.finish()
+}
+
+/// The draft with its signals.
+fn with_signals(rt: &impl Abort, alloc: Global) -> Result<Draft, AllocError>
+    ensures run { IfOk result (λ draft. draft.parts.run ≡ RUN) }
+    ensures vars { IfOk result (λ draft. length draft.parts.vars ≡ 20) }
+    ensures signals { IfOk result (λ draft. nodes_of draft.parts.tacs_sources ≡ 6 ∷ 7 ∷ 8 ∷ 9 ∷ 10 ∷ 11 ∷ 12 ∷ []) }
+    ensures blocks { IfOk result (λ draft. draft.parts.blocks ≡ []) }
+    ensures extras { IfOk result (λ draft. draft.parts.extras ≡ []) }
+    ensures history { IfOk result (λ draft. history_of draft.parts ≡ 0) }
+{
+    let mut draft = named(rt, alloc)?;
+    add_given(&mut draft)?;
+    add_measured(&mut draft)?;
+    Ok(draft)
+}
+
+/// The draft with its signals and blocks.
+fn with_blocks(rt: &impl Abort, alloc: Global) -> Result<Draft, AllocError>
+    ensures run { IfOk result (λ draft. draft.parts.run ≡ RUN) }
+    ensures vars { IfOk result (λ draft. length draft.parts.vars ≡ 20) }
+    ensures signals { IfOk result (λ draft. nodes_of draft.parts.tacs_sources ≡ 6 ∷ 7 ∷ 8 ∷ 9 ∷ 10 ∷ 11 ∷ 12 ∷ []) }
+    ensures blocks { IfOk result (λ draft. outputs_of draft.parts.blocks ≡ 13 ∷ 14 ∷ []) }
+    ensures extras { IfOk result (λ draft. draft.parts.extras ≡ []) }
+    ensures history { IfOk result (λ draft. history_of draft.parts ≡ 0) }
+{
+    let mut draft = with_signals(rt, alloc)?;
+    let first = doubler(alloc)?;
+    let second = lag(alloc)?;
+    add_blocks(&mut draft, first, second)?;
+    Ok(draft)
+}
+
+/// The control.
+fn control(rt: &impl Abort, alloc: Global) -> Result<Case, AllocError> {
+    let mut draft = with_blocks(rt, alloc)?;
+    add_devices(alloc, &mut draft)?;
+    let formula = formula(alloc)?;
+    add_sum(&mut draft, formula)?;
+    Ok(finished(draft))
+}
+
+#[test]
+fn reads_back_its_signals(rt: HostRuntime) -> Result<(), Fail> {
+    let case = control(&rt, rt.alloc())?;
+    let parts = &case.parts;
+    let signals = [
+        step(),
+        cosine(),
+        pulses(),
+        teeth(),
+        voltage(),
+        current(),
+        status(),
+    ];
+    assert!(rt; parts.tacs_sources.as_slice() == signals.as_slice());
+    assert!(rt; parts.run == RUN && parts.switches.as_slice() == [METER].as_slice());
+    Ok(())
+}

@@ -1,0 +1,96 @@
+//! A network of resistors, its channels and its rows.
+
+ghost use Rattle.std.specs.Prelude.{◌≡◌, ◌≢◌, ◌≤◌, [], ◌∷◌, codes, length, IfOk};
+ghost use Rattle.emtp_case.specs.Branch.{IsLumped};
+ghost use Rattle.emtp_case.specs.Case.{empty_parts};
+ghost use Rattle.emtp_case.specs.Source.{IsSource};
+
+use emtp_case::{Case, Channel, Draft, Lumped, Name, RunData, Shape, Source, order};
+use std::alloc::{AllocError, Global};
+use std::test::Fail;
+
+/// 100 microseconds a step, three steps.
+const RUN: RunData = RunData {
+    dt: 100_000_000,
+    steps: 3,
+    every: 1,
+    tolerance: 10_000_000,
+};
+
+/// The nodes SRC and MID.
+fn two_nodes(alloc: Global) -> Result<Draft, AllocError>
+    ensures { IfOk result (λ draft. draft.parts ≡ record (empty_parts RUN) { nodes = codes "SRC" ∷ codes "MID" ∷ [] }) }
+{
+    let mut draft = Draft::new(alloc, RUN)?;
+    draft.add_node(Name::new(b"SRC"))?;
+    draft.add_node(Name::new(b"MID"))?;
+    Ok(draft)
+}
+
+/// A source over two resistors, and what is recorded of them.
+fn divider(alloc: Global, a: Lumped, b: Lumped, source: Source) -> Result<Case, AllocError>
+    requires a { IsLumped RUN 2 a }
+    requires b { IsLumped RUN 2 b }
+    requires source { IsSource 2 6 source }
+    ensures nodes { IfOk result (λ case. length case.parts.nodes ≡ 2) }
+    ensures channels { IfOk result (λ case. case.parts.channels ≡ Channel.NodeVoltage 2 ∷ Channel.BranchCurrent 0 ∷ Channel.BranchVoltage 0 ∷ Channel.BranchCurrent 1 ∷ []) }
+{
+    let mut draft = two_nodes(alloc)?;
+    draft.add_lumped(a)?;
+    draft.add_lumped(b)?;
+    draft.add_source(source)?;
+    draft.add_channel(Channel::NodeVoltage(2))?;
+    draft.add_channel(Channel::BranchCurrent(0))?;
+    draft.add_channel(Channel::BranchVoltage(0))?;
+    draft.add_channel(Channel::BranchCurrent(1))?;
+    Ok(draft.finish_network())
+}
+
+/// 1 ohm.
+#[tactic(auto, unfolding(emtp_fix::specs::Rounding::near, emtp_fix::specs::Rounding::near_abs))]
+fn ohm(from: u32, to: u32) -> Lumped
+    requires from_there { from ≤ 2 }
+    requires to_there { to ≤ 2 }
+    requires apart { from ≢ to }
+    ensures { IsLumped RUN 2 result }
+{
+    Lumped {
+        line: 4,
+        from,
+        to,
+        r: 1_000_000,
+        l: 0,
+        c: 0,
+    }
+}
+
+/// 100 V at SRC.
+fn battery() -> Source
+    ensures { IsSource 2 6 result }
+{
+    Source {
+        line: 8,
+        node: 1,
+        current: false,
+        shape: Shape::Step,
+        amplitude: 100_000_000_000,
+        start: 0,
+        stop: None,
+    }
+}
+
+#[test]
+fn network_of_resistors(rt: HostRuntime) -> Result<(), Fail> {
+    let case = divider(rt.alloc(), ohm(1, 2), ohm(2, 0), battery())?;
+    let names = ["V MID", "I SRC-MID", "U SRC-MID", "I MID-0"];
+    for (channel, name) in names.iter().enumerate() {
+        let mut out = [0u8; 16];
+        let length = case.channel_name(channel, &mut out);
+        assert!(rt; &out[..length] == name.as_bytes(), "{name}");
+    }
+    assert!(rt; case.node("MID") == Some(2) && case.node("MI").is_none());
+    let rows = order(rt.alloc(), &case)?;
+    assert_eq!(rt; (rows.fixed(), rows.node_at(0), rows.node_at(1)), (1, 1, 2));
+    assert_eq!(rt; (rows.row_of(1), rows.row_of(2)), (0, 1));
+    Ok(())
+}
