@@ -5,7 +5,6 @@ pub mod Products
 pub mod Entries
 pub mod LessenedRows
 pub mod ClearedRows
-pub mod StoredRows
 pub mod KeptRows
 pub mod PartRows
 pub mod RightSides

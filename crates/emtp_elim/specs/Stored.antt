@@ -3,10 +3,6 @@ use Rattle.std.specs.Prelude.{◌≡◌, ℕ, zero, suc, ◌*◌, ◌+◌, ◌<�
 use Rattle.emtp_elim.specs.Matrix.{Matrix, item, list_of, rows_of}
 use Rattle.emtp_elim.specs.Clearing.{IsFinishedRow}
 
--- the rows of `size` numbers that stand one after another
-abbrev pub rows_in : ℕ → ℕ → List ℤ → Matrix
-rows_in size count values = rows_of count (λ i. slice_range values (i * size) (i * size + size))
-
 -- the number that the first n entries have in column j, or 0 where they have none
 abbrev pub number_in : List ℕ → List ℤ → ℕ → ℕ → ℤ
 number_in columns values zero j = pos 0

@@ -1,3 +1,4 @@
+pub mod GivenRows
 pub mod Redoing
 mod Worked
 pub mod Running

@@ -9,8 +9,8 @@ use Rattle.std.proofs.lemmas.Nat.{row_fits}
 use borrow.Rule.Slice.PartMut.{put_mid}
 use Rattle.emtp_elim.specs.Matrix.{Matrix, row_of}
 use Rattle.emtp_elim.specs.Finished.{Finished, AddsRow}
-use Rattle.emtp_elim.specs.Stored.{rows_in}
-use Rattle.emtp_elim.proofs.StoredRows.{length-rows_in, rows_in-same, take-rows_in, length-put_row, row_kept, put_rows}
+use Rattle.emtp_tail.specs.Given.{rows_in}
+use Rattle.emtp_tail.proofs.GivenRows.{length-rows_in, rows_in-same, take-rows_in, length-put_row, row_kept, put_rows}
 use Rattle.emtp_elim.proofs.Adding.{AreFinishedUpTo, finished_more}
 use Rattle.emtp_elim.proofs.Prefix.{AgreeBelow, finished_same, finished_first}
 use Rattle.emtp_tail.specs.Good.{first_change}

@@ -2,7 +2,7 @@
 use Rattle.std.specs.Prelude.{◌≡◌, ◌≢◌, ℕ, ◌*◌, ◌<◌, ◌≤◌, ℤ, List, length, take}
 use Rattle.emtp_elim.specs.Matrix.{Matrix, row_of}
 use Rattle.emtp_elim.specs.Finished.{Finished, AreFinished}
-use Rattle.emtp_elim.specs.Stored.{rows_in}
+use Rattle.emtp_tail.specs.Given.{rows_in}
 
 -- the finished rows are those of elimination of the first rows given
 pub record IsKept (size : ℕ) (given work : List ℤ) (done : Finished) : Type 0 where

@@ -1,3 +1,4 @@
+pub mod Given
 pub mod Good
 pub mod Keeping
 pub mod Runs

@@ -3,7 +3,7 @@ ghost use Rattle.std.specs.Prelude.{◌≡◌, ◌+◌, ◌*◌, ◌<◌, ◌≤
 ghost use Rattle.emtp_elim.specs.Matrix.{Matrix};
 ghost use Rattle.emtp_elim.specs.Fault.{IsRowFault, IsGoodMatrix};
 ghost use Rattle.emtp_elim.specs.Outcome.{outcome};
-ghost use Rattle.emtp_elim.specs.Stored.{rows_in};
+ghost use Rattle.emtp_tail.specs.Given.{rows_in};
 ghost use Rattle.emtp_elim.specs.declared.fault.PlainFault.{PlainFault};
 ghost use Rattle.emtp_tail.specs.Good.{Good, first_change};
 ghost use Rattle.emtp_tail.specs.Keeping.{IsFirstChange, IsKept, IsRedone};

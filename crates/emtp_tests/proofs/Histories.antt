@@ -1,13 +1,12 @@
 -- The past values of lines that are added.
 use Rattle.emtp_case.specs.Case.{phase_branches}
 use Rattle.emtp_case.specs.History.{branch_history, history_of, trio_history}
-use Rattle.emtp_case.specs.declared.branch.Branch.{Branch}
 use Rattle.emtp_case.specs.declared.branch.Phase.{Phase}
 use Rattle.emtp_case.specs.declared.branch.Trio.{Trio}
 use Rattle.emtp_case.specs.declared.case.Parts.{Parts}
 use Rattle.std.proofs.Common.{arith, ◌≡◌, ◌+◌, ◌∷◌, ◌++◌, []}
 use Rattle.std.proofs.lemmas.List.Sums.{sum_by-append}
-use Rattle.std.specs.Prelude.{length, ℕ}
+use Rattle.std.specs.Prelude.{ℕ}
 
 pub trio_added : (p : Parts) (t : ℕ) (modes : Trio) (a b c : Phase)
     → history_of (record p { branches = p.branches ++ phase_branches t a b c; trios = p.trios ++ modes ∷ [] }) ≡ history_of p + trio_history p.run.dt modes

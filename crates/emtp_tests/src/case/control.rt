@@ -8,9 +8,10 @@ ghost use Rattle.emtp_case.specs.History.{delay_steps, history_of};
 ghost use Rattle.emtp_case.specs.Source.{HasShapeNumbers, IsControlShape, IsTacsSource};
 ghost use Rattle.emtp_tests.specs.Signals.{nodes_of, outputs_of, vars_of};
 
+use super::comparing::{block_is, channels_are_named, device_is, formula_is, names_are};
 use emtp_case::{
-    BinaryOp, Block, Bound, Case, Device, Draft, Expr, Extra, Formula, Group, Input, Items, Name,
-    Point, RunData, Shape, Source, Switch, SwitchKind, UnaryOp,
+    BinaryOp, Block, Bound, Case, Channel, Device, Draft, Expr, Extra, Formula, Group, Input,
+    Items, Name, Point, RunData, Shape, Source, Switch, SwitchKind, UnaryOp,
 };
 use std::alloc::{AllocError, Global};
 use std::process::Abort;
@@ -462,6 +463,23 @@ fn finished(draft: Draft) -> Case
     draft.finish()
 }
 
+/// What is recorded: a voltage, the switch, and two variables.
+fn add_channels(draft: &mut Draft) -> Result<(), AllocError>
+    requires run { draft.old.parts.run ≡ RUN }
+    requires nodes { length draft.old.parts.nodes ≡ 2 }
+    requires vars { length draft.old.parts.vars ≡ 20 }
+    requires switches { length draft.old.parts.switches ≡ 1 }
+    requires none { draft.old.parts.channels ≡ [] }
+    ensures { OnOk result (draft.new.parts ≡ record draft.old.parts { channels = draft.new.parts.channels }) }
+{
+    draft.add_channel(Channel::NodeVoltage(1))?;
+    draft.add_channel(Channel::SwitchCurrent(0))?;
+    draft.add_channel(Channel::SwitchVoltage(0))?;
+    draft.add_channel(Channel::Tacs(13))?;
+    draft.add_channel(Channel::Tacs(14))?;
+    draft.add_channel(Channel::Status(0))
+}
+
 /// The draft with its signals.
 fn with_signals(rt: &impl Abort, alloc: Global) -> Result<Draft, AllocError>
     ensures run { IfOk result (λ draft. draft.parts.run ≡ RUN) }
@@ -474,6 +492,7 @@ fn with_signals(rt: &impl Abort, alloc: Global) -> Result<Draft, AllocError>
     let mut draft = named(rt, alloc)?;
     add_given(&mut draft)?;
     add_measured(&mut draft)?;
+    add_channels(&mut draft)?;
     Ok(draft)
 }
 
@@ -517,5 +536,56 @@ fn reads_back_its_signals(rt: HostRuntime) -> Result<(), Fail> {
     ];
     assert!(rt; parts.tacs_sources.as_slice() == signals.as_slice());
     assert!(rt; parts.run == RUN && parts.switches.as_slice() == [METER].as_slice());
+    Ok(())
+}
+
+/// The blocks are read back.
+fn blocks_are_back(rt: &impl Abort, alloc: Global, blocks: &[Block]) -> Result<(), AllocError> {
+    assert!(rt; blocks.len() == 2);
+    block_is(rt, &blocks[0], &doubler(alloc)?);
+    block_is(rt, &blocks[1], &lag(alloc)?);
+    Ok(())
+}
+
+/// The supplemental cards are read back, the devices with the places of their points.
+fn extras_are_back(rt: &impl Abort, alloc: Global, extras: &[Extra]) -> Result<(), AllocError> {
+    assert!(rt; extras.len() == 5);
+    device_is(rt, &extras[0], &table(alloc)?, 0, 2);
+    device_is(rt, &extras[1], &timer(alloc)?, 2, 2);
+    device_is(rt, &extras[2], &delay(alloc)?, 4, 0);
+    device_is(rt, &extras[3], &memory(alloc)?, 4, 0);
+    formula_is(rt, &extras[4], &formula(alloc)?);
+    Ok(())
+}
+
+/// The names and points are read back.
+fn lists_are_back(rt: &impl Abort, case: &Case) {
+    let parts = &case.parts;
+    names_are(rt, parts.nodes.as_slice(), &["SRC", "MID"]);
+    names_are(rt, parts.vars.as_slice(), &ALL_VARS);
+    let [a, b] = table_points();
+    let [c, d] = closed_times();
+    assert!(rt; parts.points.as_slice() == [a, b, c, d].as_slice());
+    channels_are_named(
+        rt,
+        case,
+        &[
+            "V SRC",
+            "I SRC-MID",
+            "U SRC-MID",
+            "T DBL",
+            "T LAG",
+            "S SRC-MID",
+        ],
+    );
+}
+
+#[test]
+fn reads_back_its_blocks_and_devices(rt: HostRuntime) -> Result<(), Fail> {
+    let alloc = rt.alloc();
+    let case = control(&rt, alloc)?;
+    lists_are_back(&rt, &case);
+    blocks_are_back(&rt, alloc, case.parts.blocks.as_slice())?;
+    extras_are_back(&rt, alloc, case.parts.extras.as_slice())?;
     Ok(())
 }

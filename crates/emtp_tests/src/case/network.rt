@@ -8,6 +8,7 @@ ghost use Rattle.emtp_case.specs.Range.{AreEnds};
 ghost use Rattle.emtp_case.specs.Source.{IsSource};
 ghost use Rattle.emtp_case.specs.Switch.{IsSwitch};
 
+use super::comparing::{channels_are_named, names_are};
 use emtp_case::{
     Branch, Case, Channel, Draft, Line, Lumped, Name, Phase, Point, Pseudo, RunData, Shape, Source,
     Switch, SwitchKind, Trio, order,
@@ -549,13 +550,14 @@ fn reads_back_its_switches_and_sources(rt: HostRuntime) -> Result<(), Fail> {
         Channel::Status(4),
     ];
     assert!(rt; parts.channels.as_slice() == channels.as_slice());
+    let names = [
+        "V END", "I A2-END", "U ARR-0", "I B2-C2", "U 0-C2", "T PLUS1", "S A1-0",
+    ];
+    channels_are_named(&rt, &case, &names);
     assert!(rt;
         parts.tacs_sources.is_empty() && parts.blocks.is_empty() && parts.extras.is_empty()
     );
-    assert!(rt; parts.vars.len() == 6);
-    for (var, name) in parts.vars.as_slice().iter().zip(STANDING) {
-        assert!(rt; var.as_slice() == name.as_bytes(), "{name}");
-    }
+    names_are(&rt, parts.vars.as_slice(), &STANDING);
     Ok(())
 }
 

@@ -5,6 +5,7 @@ ghost use Rattle.emtp_case.specs.Branch.{IsLumped};
 ghost use Rattle.emtp_case.specs.Case.{empty_parts};
 ghost use Rattle.emtp_case.specs.Source.{IsSource};
 
+use super::comparing::channels_are_named;
 use emtp_case::{Case, Channel, Draft, Lumped, Name, RunData, Shape, Source, order};
 use std::alloc::{AllocError, Global};
 use std::test::Fail;
@@ -83,11 +84,7 @@ fn battery() -> Source
 fn network_of_resistors(rt: HostRuntime) -> Result<(), Fail> {
     let case = divider(rt.alloc(), ohm(1, 2), ohm(2, 0), battery())?;
     let names = ["V MID", "I SRC-MID", "U SRC-MID", "I MID-0"];
-    for (channel, name) in names.iter().enumerate() {
-        let mut out = [0u8; 16];
-        let length = case.channel_name(channel, &mut out);
-        assert!(rt; &out[..length] == name.as_bytes(), "{name}");
-    }
+    channels_are_named(&rt, &case, &names);
     assert!(rt; case.node("MID") == Some(2) && case.node("MI").is_none());
     let rows = order(rt.alloc(), &case)?;
     assert_eq!(rt; (rows.fixed(), rows.node_at(0), rows.node_at(1)), (1, 1, 2));

@@ -1,5 +1,5 @@
 use Rattle.std.proofs.Common.{rules, ◌<◌, length, arith}
-use Rattle.emtp_elim.proofs.StoredRows.{length-rows_in}
+use Rattle.emtp_tail.proofs.GivenRows.{length-rows_in}
 use Rattle.emtp_tail.proofs.Redoing.{redoing_start, redoing_more, given_kept}
 use Rattle.emtp_tail.proofs.kept.redo.Goals as goal
 

@@ -1,6 +1,6 @@
 use Rattle.std.proofs.Common.{◌≤◌, length, arith}
-use Rattle.emtp_elim.specs.Stored.{rows_in}
-use Rattle.emtp_elim.proofs.StoredRows.{length-rows_in}
+use Rattle.emtp_tail.specs.Given.{rows_in}
+use Rattle.emtp_tail.proofs.GivenRows.{length-rows_in}
 use Rattle.emtp_tail.proofs.Redoing.{first_change_is, kept_redone}
 use Rattle.emtp_tail.proofs.kept.update_rows.Goals as goal
 

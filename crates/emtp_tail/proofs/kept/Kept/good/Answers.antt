@@ -1,5 +1,5 @@
 use Rattle.std.proofs.Common.{◌≡◌, length, ap, sym, ◌∙◌, arith}
-use Rattle.emtp_elim.proofs.StoredRows.{length-rows_in}
+use Rattle.emtp_tail.proofs.GivenRows.{length-rows_in}
 use Rattle.emtp_tail.specs.Good.{Good}
 use Rattle.emtp_tail.proofs.kept.Kept.good.Goals as goal
 

@@ -1,5 +1,4 @@
 use Rattle.std.proofs.Common.{◌≡◌, ◌≤◌, length}
-use Rattle.emtp_case.specs.Case.{standing_names}
 use Rattle.emtp_tests.proofs.case.network.add_sources.Given as goal
 
 abbrev pub invariant-loop-source : goal.invariant-loop-source
