@@ -16,6 +16,8 @@ mod kept_factor;
 #[cfg(test)]
 mod past_values;
 #[cfg(test)]
+mod record;
+#[cfg(test)]
 mod rounding;
 #[cfg(test)]
 mod series_branch;
