@@ -14,7 +14,7 @@ pub without_trailing-blanks : (bytes : List ℕ) → list_all is_blank bytes ≡
 without_trailing-blanks [] h = refl
 without_trailing-blanks (byte ∷ bytes) h = ap (λ t. cond t [] (byte ∷ without_trailing bytes)) h
 
--- blanks behind a text
+-- blanks after a text
 pub without_trailing-append : (bytes blanks : List ℕ) → list_all is_blank blanks ≡ true → without_trailing (bytes ++ blanks) ≡ without_trailing bytes
 without_trailing-append [] blanks h = without_trailing-blanks blanks h
 without_trailing-append (byte ∷ bytes) blanks h =
@@ -62,7 +62,7 @@ keep_none bytes end none =
     let here : end ≡ 0 = omega arith in
     ap (λ k. without_trailing (take k bytes)) here ∙ sym (ap (λ k. take k bytes) here)
 
--- the rest of a text with blanks behind it is the rest with blanks behind it
+-- the rest of a text with blanks after it is the rest with blanks after it
 pub record BlanksBehind (whole bytes : List ℕ) : Type 0 where
   pub blanks : List ℕ
   pub blank : list_all is_blank blanks ≡ true
@@ -103,10 +103,10 @@ take-blanks : (n : ℕ) (bytes blanks : List ℕ) → list_all is_blank blanks �
 take-blanks zero bytes blanks h = record { blanks = []; blank = refl; whole_is = refl }
 take-blanks (suc n) [] blanks h = record { blanks = take (suc n) blanks; blank = blanks-take (suc n) blanks h; whole_is = refl }
 take-blanks (suc n) (byte ∷ bytes) blanks h =
-    let behind = take-blanks n bytes blanks h in
-    record { blanks = behind.blanks; blank = behind.blank; whole_is = ap (λ t. byte ∷ t) behind.whole_is }
+    let after = take-blanks n bytes blanks h in
+    record { blanks = after.blanks; blank = after.blank; whole_is = ap (λ t. byte ∷ t) after.whole_is }
 
--- the columns are what the line has of them, with blanks behind
+-- the columns are what the line has of them, with blanks after
 pub columns-held : (line : List ℕ) (first last : ℕ) → BlanksBehind (columns line first last) (take (last + 1 - first) (drop (first - 1) line))
 unfolding columns
 columns-held line first last =
@@ -117,11 +117,11 @@ columns-held line first last =
 -- so a test that no blank passes finds among them what it finds in the line
 pub list_any-columns : (p : ℕ → Bool) → p 32 ≡ false → (line : List ℕ) (first last : ℕ) → list_any p (columns line first last) ≡ list_any p (take (last + 1 - first) (drop (first - 1) line))
 list_any-columns p passed line first last =
-    let behind = columns-held line first last in
+    let after = columns-held line first last in
     let held = take (last + 1 - first) (drop (first - 1) line) in
-    ap (list_any p) behind.whole_is
-    ∙ list_any-append p held behind.blanks
-    ∙ ap (λ t. list_any p held || t) (none_blank p passed behind.blanks behind.blank)
+    ap (list_any p) after.whole_is
+    ∙ list_any-append p held after.blanks
+    ∙ ap (λ t. list_any p held || t) (none_blank p passed after.blanks after.blank)
     ∙ or_false (list_any p held)
   where
     or_false : (t : Bool) → (t || false) ≡ t
@@ -131,16 +131,16 @@ list_any-columns p passed line first last =
 pub trimmed-held : (line : List ℕ) (first last : ℕ) → trimmed (take (last + 1 - first) (drop (first - 1) line)) ≡ field_of line first last
 unfolding trimmed
 trimmed-held line first last =
-    let behind = columns-held line first last in
-    sym (ap trimmed behind.whole_is ∙ ap without_leading (without_trailing-append (take (last + 1 - first) (drop (first - 1) line)) behind.blanks behind.blank))
+    let after = columns-held line first last in
+    sym (ap trimmed after.whole_is ∙ ap without_leading (without_trailing-append (take (last + 1 - first) (drop (first - 1) line)) after.blanks after.blank))
 
 -- a trimmed text is empty exactly where the text is blank
 and_both : (a b : Bool) → a ≡ true → b ≡ true → (a && b) ≡ true
 and_both a b h k = ap (λ t. t && b) h ∙ k
 
-blank_behind : (bytes : List ℕ) → list_all is_blank (without_trailing bytes) ≡ true → list_all is_blank bytes ≡ true
-blank_behind [] h = refl
-blank_behind (byte ∷ bytes) h = by_test byte bytes (list_all is_blank (byte ∷ bytes)) refl h (blank_behind bytes)
+blank_after : (bytes : List ℕ) → list_all is_blank (without_trailing bytes) ≡ true → list_all is_blank bytes ≡ true
+blank_after [] h = refl
+blank_after (byte ∷ bytes) h = by_test byte bytes (list_all is_blank (byte ∷ bytes)) refl h (blank_after bytes)
   where
     by_test : (byte : ℕ) (bytes : List ℕ) (t : Bool) → list_all is_blank (byte ∷ bytes) ≡ t → list_all is_blank (cond t [] (byte ∷ without_trailing bytes)) ≡ true → (list_all is_blank (without_trailing bytes) ≡ true → list_all is_blank bytes ≡ true) → list_all is_blank (byte ∷ bytes) ≡ true
     by_test byte bytes true all h rest = all
@@ -157,7 +157,7 @@ blank_before (byte ∷ bytes) h = by_test byte bytes (is_blank byte) h (blank_be
 pub trimmed-blank : (bytes : List ℕ) → (trimmed bytes ≡ []) ↔ IsBlank bytes
 unfolding trimmed
 trimmed-blank bytes = (
-  λ h. All-weaker (λ b. is_blank b ≡ true) (λ b. b ≡ 32) is_blank_means bytes (AllPass-from_list_all is_blank bytes (blank_behind bytes (blank_before (without_trailing bytes) h))),
+  λ h. All-weaker (λ b. is_blank b ≡ true) (λ b. b ≡ 32) is_blank_means bytes (AllPass-from_list_all is_blank bytes (blank_after bytes (blank_before (without_trailing bytes) h))),
   λ h. ap without_leading (without_trailing-blanks bytes (list_all-from_AllPass is_blank bytes (All-weaker (λ b. b ≡ 32) (λ b. is_blank b ≡ true) (λ b e. ap is_blank e) bytes h))),
 )
 

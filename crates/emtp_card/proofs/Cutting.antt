@@ -59,13 +59,13 @@ pub cut_is : (digits : List ℕ) (cut : ℕ) → 1 ≤ cut → cut ≤ length di
     → IsCut (number_of (take (length digits - cut) digits)) (get_or digits (length digits - cut) 0) (near_abs (number_of digits) (10 ^ cut))
 cut_is digits cut one within are =
     let mid = length digits - cut in
-    let behind = drop (mid + 1) digits in
-    let here : drop mid digits ≡ get_or digits mid 0 ∷ behind = drop_more digits mid 0 (omega arith) in
-    let count : suc (length behind) ≡ cut = omega (arith, length-drop (mid + 1) digits) in
-    let whole : take mid digits ++ get_or digits mid 0 ∷ behind ≡ digits = ap (λ t. take mid digits ++ t) (sym here) ∙ take-append-drop mid digits in
-    let digital : AreDigits (get_or digits mid 0 ∷ behind) = subst AreDigits here (All-drop IsAsciiDigit mid digits are) in
+    let after = drop (mid + 1) digits in
+    let here : drop mid digits ≡ get_or digits mid 0 ∷ after = drop_more digits mid 0 (omega arith) in
+    let count : suc (length after) ≡ cut = omega (arith, length-drop (mid + 1) digits) in
+    let whole : take mid digits ++ get_or digits mid 0 ∷ after ≡ digits = ap (λ t. take mid digits ++ t) (sym here) ∙ take-append-drop mid digits in
+    let digital : AreDigits (get_or digits mid 0 ∷ after) = subst AreDigits here (All-drop IsAsciiDigit mid digits are) in
     let P : List ℕ → ℕ → Type 0 = λ ds k. IsCut (number_of (take mid digits)) (get_or digits mid 0) (near_abs (number_of ds) (10 ^ k)) in
-    subst (λ ds. P ds cut) whole (subst (P (take mid digits ++ get_or digits mid 0 ∷ behind)) count (cut_before (take mid digits) (get_or digits mid 0) behind digital))
+    subst (λ ds. P ds cut) whole (subst (P (take mid digits ++ get_or digits mid 0 ∷ after)) count (cut_before (take mid digits) (get_or digits mid 0) after digital))
 
 -- more digits than there are
 pub cut_all : (digits : List ℕ) (cut : ℕ) → length digits < cut → AreDigits digits → near_abs (number_of digits) (10 ^ cut) ≡ 0

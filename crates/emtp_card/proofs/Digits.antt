@@ -22,21 +22,21 @@ digits_in_front (byte ∷ bytes) =
     by_first byte digits are true h = All-cons IsAsciiDigit byte digits (is_digit_means byte h) are
     by_first byte digits are false h = All-nil IsAsciiDigit
 
--- digits behind a number make it no smaller
+-- digits after a number make it no smaller
 pub le-with_digits : (n : ℕ) (digits : List ℕ) → n ≤ with_digits n digits
 le-with_digits n [] = omega arith
 le-with_digits n (digit ∷ digits) = omega (arith, le-with_digits (10 * n + (digit - 48)) digits)
 
-pub with_digits-append : (n : ℕ) (front behind : List ℕ) → with_digits n (front ++ behind) ≡ with_digits (with_digits n front) behind
-with_digits-append n [] behind = refl
-with_digits-append n (digit ∷ front) behind = with_digits-append (10 * n + (digit - 48)) front behind
+pub with_digits-append : (n : ℕ) (front after : List ℕ) → with_digits n (front ++ after) ≡ with_digits (with_digits n front) after
+with_digits-append n [] after = refl
+with_digits-append n (digit ∷ front) after = with_digits-append (10 * n + (digit - 48)) front after
 
 -- a front writes no greater number than the whole
 pub front-le : (n : ℕ) (digits : List ℕ) (count : ℕ) → with_digits n (take count digits) ≤ with_digits n digits
 front-le n digits count =
     omega (arith, le-with_digits (with_digits n (take count digits)) (drop count digits), with_digits-append n (take count digits) (drop count digits), ap (with_digits n) (take-append-drop count digits))
 
--- digits behind a number shift it by their count
+-- digits after a number shift it by their count
 pub with_digits-is : (n : ℕ) (digits : List ℕ) → with_digits n digits ≡ n * 10 ^ length digits + number_of digits
 with_digits-is n [] = omega arith
 with_digits-is n (digit ∷ digits) =

@@ -51,16 +51,16 @@ take_while-digits (digit ∷ digits) bytes are h =
     ∙ ap (λ t. cond t (digit ∷ take_while is_ascii_digit (digits ++ bytes)) []) (digit_true digit (All-head IsAsciiDigit digit digits are))
     ∙ ap (λ t. digit ∷ t) (take_while-digits digits bytes (All-tail IsAsciiDigit digit digits are) h)
 
-drop-front : (front behind : List ℕ) → drop (length front) (front ++ behind) ≡ behind
-drop-front [] behind = refl
-drop-front (byte ∷ front) behind = drop-front front behind
+drop-front : (front after : List ℕ) → drop (length front) (front ++ after) ≡ after
+drop-front [] after = refl
+drop-front (byte ∷ front) after = drop-front front after
 
 digits_of-text : (digits bytes : List ℕ) → AreDigits digits → NoDigit bytes → digits_of (digits ++ bytes) ≡ (digits, bytes)
 digits_of-text digits bytes are h =
     let front = take_while-digits digits bytes are h in
     ap (λ ds. (ds, drop (length ds) (digits ++ bytes))) front ∙ ap (λ bs. (digits, bs)) (drop-front digits bytes)
 
--- the digits behind the point
+-- the digits after the point
 fraction_of-text : (fraction : Option (List ℕ)) (bytes : List ℕ) → AreDigits (fraction_digits fraction) → NoDigit bytes → NoPoint bytes → fraction_of (fraction_text fraction ++ bytes) ≡ (fraction_digits fraction, bytes)
 fraction_of-text (Some digits) bytes are no_digit no_point = digits_of-text digits bytes are no_digit
 fraction_of-text None [] are no_digit no_point = refl
@@ -96,7 +96,7 @@ exponent_of-text (Bare Unsigned digits) h = absurd (h.0 refl)
 exponent_of-text (Bare Plus digits) h = power_of-text Plus digits h.1
 exponent_of-text (Bare Minus digits) h = power_of-text Minus digits h.1
 
--- what stands behind each part begins with nothing that would lengthen it
+-- what stands after each part begins with nothing that would lengthen it
 marker_no_digit : (letter : ℕ) → is_marker letter ≡ true → is_ascii_digit letter ≡ false
 marker_no_digit letter h = grind (arith, nat_tests)
 
@@ -149,13 +149,13 @@ some_digit m n h = grind (arith, nat_tests)
 -- each spelling is read as what it means
 decimal_of-text : (s : Spelling) → IsSpelling s → decimal_of (text_of s) ≡ Some (decimal_meant s)
 decimal_of-text s right =
-    let behind = exponent_text s.exponent in
+    let after = exponent_text s.exponent in
     let no_digit = exponent_no_digit s.exponent right.exponent in
     decimal_of-is (text_of s)
-    ∙ ap from_sign (sign_of-text s.sign (s.whole ++ (fraction_text s.fraction ++ behind)) (whole_no_sign s.whole s.fraction behind right.whole right.some))
-    ∙ ap (from_whole (is_minus s.sign)) (digits_of-text s.whole (fraction_text s.fraction ++ behind) right.whole (fraction_no_digit s.fraction behind no_digit))
-    ∙ ap (from_fraction (is_minus s.sign) s.whole) (fraction_of-text s.fraction behind right.fraction no_digit (exponent_no_point s.exponent right.exponent))
-    ∙ ap (λ t. cond t None (option_map (composed (is_minus s.sign) s.whole (fraction_digits s.fraction)) (exponent_of behind))) (some_digit (length s.whole) (length (fraction_digits s.fraction)) right.some)
+    ∙ ap from_sign (sign_of-text s.sign (s.whole ++ (fraction_text s.fraction ++ after)) (whole_no_sign s.whole s.fraction after right.whole right.some))
+    ∙ ap (from_whole (is_minus s.sign)) (digits_of-text s.whole (fraction_text s.fraction ++ after) right.whole (fraction_no_digit s.fraction after no_digit))
+    ∙ ap (from_fraction (is_minus s.sign) s.whole) (fraction_of-text s.fraction after right.fraction no_digit (exponent_no_point s.exponent right.exponent))
+    ∙ ap (λ t. cond t None (option_map (composed (is_minus s.sign) s.whole (fraction_digits s.fraction)) (exponent_of after))) (some_digit (length s.whole) (length (fraction_digits s.fraction)) right.some)
     ∙ ap (option_map (composed (is_minus s.sign) s.whole (fraction_digits s.fraction))) (exponent_of-text s.exponent right.exponent)
 
 -- a text is the sign that is read, and what is left

@@ -5,3 +5,4 @@ pub mod Digits
 pub mod Cutting
 pub mod Values
 pub mod Grammar
+pub mod Faults

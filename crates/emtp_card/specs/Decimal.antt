@@ -12,7 +12,7 @@ abbrev pub signed : Bool → ℕ → ℤ
 signed true n = neg_ℤ (pos n)
 signed false n = pos n
 
--- a number with these digits written behind it
+-- a number with these digits written after it
 abbrev pub with_digits : ℕ → List ℕ → ℕ
 with_digits n [] = n
 with_digits n (digit ∷ digits) = with_digits (10 * n + (digit - 48)) digits

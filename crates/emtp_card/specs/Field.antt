@@ -1,9 +1,9 @@
 -- The columns of a card, and the field that they hold.
-use Rattle.std.specs.Prelude.{◌≡◌, ℕ, ◌+◌, ◌-◌, List, [], ◌∷◌, ◌++◌, take, drop, replicate, All, if◌then◌else◌}
+use Rattle.std.specs.Prelude.{◌≡◌, ℕ, ◌+◌, ◌-◌, List, [], ◌∷◌, ◌++◌, take, drop, replicate, slice_index_or, All, if◌then◌else◌}
 use Rattle.std.specs.List.{list_all}
 use Rattle.emtp_card.specs.Lines.{is_blank}
 
--- a line with blanks behind its end
+-- a line with blanks after its end
 abbrev pub filled : List ℕ → List ℕ
 filled line = line ++ replicate 80 32
 
@@ -31,3 +31,7 @@ trimmed text = without_leading (without_trailing text)
 -- the field in the columns first to last, as it is read
 abbrev pub field_of : List ℕ → ℕ → ℕ → List ℕ
 field_of line first last = trimmed (columns line first last)
+
+-- the byte in a column, counted from 1; a column past the line's end is blank
+abbrev pub byte_in : List ℕ → ℕ → ℕ
+byte_in line column = slice_index_or line (column - 1) 32

@@ -9,3 +9,4 @@ pub mod Rounding
 pub mod Number
 pub mod Whole
 pub mod Name
+pub mod Fault

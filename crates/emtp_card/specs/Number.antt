@@ -1,5 +1,5 @@
 -- Numbers of fields: the value in its unit, and what its range makes of it.
-use Rattle.std.specs.Prelude.{◌≡◌, ℕ, ◌≤◌, nat_lt, ℤ, pos, neg_ℤ, ◌<ℤ◌, int_lt, unsigned_abs, ◌||◌, List, [], ◌∷◌, Option, Some, None, Result, Ok, Err, if◌then◌else◌}
+use Rattle.std.specs.Prelude.{◌≡◌, ℕ, ◌≤◌, nat_lt, ℤ, pos, neg_ℤ, ◌<ℤ◌, ◌≤ℤ◌, int_lt, unsigned_abs, ◌||◌, List, [], ◌∷◌, Option, Some, None, Result, Ok, Err, if◌then◌else◌}
 use Rattle.std.specs.Int.{int_min, int_max}
 use Rattle.emtp_card.specs.Decimal.{Decimal, value_in}
 use Rattle.emtp_card.specs.Numeral.{decimal_of}
@@ -15,6 +15,11 @@ valued scale (Some decimal) = Ok (value_in scale decimal)
 -- the value that a text spells, in a unit of 10^-scale
 unfoldable pub number_in : ℤ → List ℕ → Result ℤ Why
 number_in scale text = valued scale (decimal_of text)
+
+-- a value lies in a range, both ends of which belong to it
+pub record IsWithin (low high value : ℤ) : Type 0 where
+  pub least : low ≤ℤ value
+  pub most : value ≤ℤ high
 
 -- a value that has to lie in a range
 abbrev pub in_range : ℤ → ℤ → Result ℤ Why → Result ℤ Why

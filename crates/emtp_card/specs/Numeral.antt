@@ -5,16 +5,16 @@ use Rattle.std.specs.List.{list_all}
 use Rattle.emtp_card.specs.Decimal.{Decimal, signed, number_of}
 use Rattle.emtp_card.specs.declared.numeral.Numeral.{Numeral}
 
--- a sign in front, `+` or `-`, or none: whether it is a minus, and what stands behind it
+-- a sign in front, `+` or `-`, or none: whether it is a minus, and what stands after it
 abbrev pub sign_of : List ℕ → Bool × List ℕ
 sign_of [] = (false, [])
 sign_of (byte ∷ bytes) = if byte == 43 then (false, bytes) else if byte == 45 then (true, bytes) else (false, byte ∷ bytes)
 
--- the digits in front, and what stands behind them
+-- the digits in front, and what stands after them
 abbrev pub digits_of : List ℕ → List ℕ × List ℕ
 digits_of bytes = (take_while is_ascii_digit bytes, drop (length (take_while is_ascii_digit bytes)) bytes)
 
--- the digits behind a point, `.`, in front, and what stands behind them; none where there is no point
+-- the digits after a point, `.`, in front, and what stands after them; none where there is no point
 abbrev pub fraction_of : List ℕ → List ℕ × List ℕ
 fraction_of [] = ([], [])
 fraction_of (byte ∷ bytes) = if byte == 46 then digits_of bytes else ([], byte ∷ bytes)
@@ -39,7 +39,7 @@ unfoldable pub exponent_of : List ℕ → Option ℤ
 exponent_of [] = Some (pos 0)
 exponent_of (byte ∷ bytes) = if is_marker byte then power_of bytes else if is_sign byte then power_of (byte ∷ bytes) else None
 
--- a decimal of its parts; digits behind the point lessen the power
+-- a decimal of its parts; digits after the point lessen the power
 abbrev pub composed : Bool → List ℕ → List ℕ → ℤ → Decimal
 composed negative whole fraction exponent = record { negative = negative; digits = number_of (whole ++ fraction); power = exponent -ℤ pos (length fraction) }
 

@@ -28,7 +28,7 @@ abbrev pub fraction_digits : Option (List ℕ) → List ℕ
 fraction_digits None = []
 fraction_digits (Some digits) = digits
 
--- an exponent: none; behind a letter, with a sign or without; or with no letter, and then with a sign
+-- an exponent: none; after a letter, with a sign or without; or with no letter, and then with a sign
 pub data Exponent : Type 0 where
   Absent : Exponent
   Lettered : ℕ → Sign → List ℕ → Exponent
@@ -55,14 +55,14 @@ IsExponent Absent = Unit {0}
 IsExponent (Lettered letter sign digits) = IsTrue (is_marker letter) × AreFewDigits digits
 IsExponent (Bare sign digits) = (sign ≢ Unsigned) × AreFewDigits digits
 
--- a number taken apart: sign, digits before the point, the point and the digits behind it, exponent
+-- a number taken apart: sign, digits before the point, the point and the digits after it, exponent
 pub record Spelling : Type 0 where
   pub sign : Sign
   pub whole : List ℕ
   pub fraction : Option (List ℕ)
   pub exponent : Exponent
 
--- at least one digit stands before or behind the point
+-- at least one digit stands before or after the point
 pub record IsSpelling (s : Spelling) : Type 0 where
   pub whole : AreDigits s.whole
   pub fraction : AreDigits (fraction_digits s.fraction)

@@ -1,8 +1,9 @@
 //! The lines of a case.
 
-ghost use Rattle.std.specs.Prelude.{◌≡◌, ◌+◌, ◌<◌, ◌≤◌, [], ◌∷◌, Some, None, length, take, count_by, slice_get, position, MatchOption, IfSome, IfOk, OnOk, IsTrue, ◌↔◌};
+ghost use Rattle.std.specs.Prelude.{◌≡◌, ◌+◌, ◌<◌, ◌≤◌, [], ◌∷◌, Some, None, length, take, count_by, slice_get, position, MatchOption, IfSome, IfOk, OnOk, IsTrue, ◌↔◌, List, ℕ, map};
 ghost use Rattle.emtp_card.specs.Lines.{lines_of, is_newline, without_return, SplitsIntoLines};
-ghost use Rattle.emtp_card.specs.Cards.{lesser_line, line_past_bytes, size_fault, too_many_at};
+ghost use Rattle.std.specs.Borrow.{Bor};
+ghost use Rattle.emtp_card.specs.Cards.{AreInSize, lesser_line, line_past_bytes, size_fault, too_many_at};
 
 use crate::lines::Line;
 use crate::reason::{Bad, Refused, Why};
@@ -76,6 +77,14 @@ impl<'a> Cards<'a> {
         self.lines.is_empty()
     }
 
+    /// The bytes of all lines, in order.
+    pub fn lines(&self) -> &[&'a [u8]]
+        ensures value { map (λ (line : Bor (List ℕ)). line.now) result.now ≡ self.now }
+        ensures size { AreInSize result.now }
+    {
+        &self.lines
+    }
+
     /// The line at a place, counted from 0; its number is one more.
     pub fn line(&self, at: usize) -> Line<'_>
         requires { at < length self.now }
@@ -139,8 +148,11 @@ fn count_newlines(bytes: &[u8]) -> usize
     bytes.iter().filter(|byte| **byte == b'\n').count()
 }
 
-/// The first line and what stands behind it; none where nothing is left.
-fn next_line(rest: &[u8]) -> Option<(&[u8], &[u8])>
+/// The first line of a text and what comes after it; none where nothing is left.
+///
+/// A line ends with LF, and one CR just before it is dropped; a last piece without LF is a line as it stands. It
+/// serves every text of lines, also one that [`Cards::split`] refuses for its length.
+pub fn next_line(rest: &[u8]) -> Option<(&[u8], &[u8])>
     ensures lines { MatchOption result (lines_of rest.now ≡ []) (λ found. lines_of rest.now ≡ found.0.now ∷ lines_of found.1.now) }
     ensures short { IfSome result (λ found. (length found.0.now ≤ length rest.now) × (length found.1.now < length rest.now)) }
 {

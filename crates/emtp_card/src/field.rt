@@ -1,11 +1,11 @@
-//! The bytes of a field: those of its columns, without the outer blanks.
+//! The text of a field: the bytes of its columns, without the outer blanks.
 
 ghost use Rattle.std.specs.Prelude.{◌≡◌, ◌+◌, ◌-◌, ◌≤◌, ◌↔◌, [], length, take, drop};
-ghost use Rattle.emtp_card.specs.Field.{columns, field_of, IsBlank, trimmed, without_leading, without_trailing};
+ghost use Rattle.emtp_card.specs.Field.{byte_in, columns, field_of, IsBlank, trimmed, without_leading, without_trailing};
 
-/// The field in the columns from `first` to `last`, counted from 1, without its outer blanks. It is
-/// empty where these columns are blank; columns past the line's end are.
-pub(crate) fn field(line: &[u8], first: usize, last: usize) -> &[u8]
+/// The text in the columns from `first` to `last`, counted from 1, without its outer blanks. It is
+/// empty exactly where these columns are blank; columns past the line's end are.
+pub fn field_text(line: &[u8], first: usize, last: usize) -> &[u8]
     requires first { 1 ≤ first }
     requires order { first ≤ last }
     requires last { last ≤ 80 }
@@ -13,11 +13,22 @@ pub(crate) fn field(line: &[u8], first: usize, last: usize) -> &[u8]
     ensures blank { (result.now ≡ []) ↔ IsBlank (columns line.now first last) }
     ensures short { length result.now + first ≤ last + 1 }
 {
-    trim(held(line, first, last))
+    trim(columns(line, first, last))
 }
 
-/// The bytes that a line has in its columns from `first` to `last`.
-pub(crate) fn held(line: &[u8], first: usize, last: usize) -> &[u8]
+/// The byte in a column, counted from 1; a column past the line's end is blank.
+pub fn byte_at(line: &[u8], column: usize) -> u8
+    requires { 1 ≤ column }
+    ensures { result ≡ byte_in line.now column }
+{
+    match line.get(column - 1) {
+        Some(byte) => *byte,
+        None => b' ',
+    }
+}
+
+/// The bytes that a line has in its columns from `first` to `last`: fewer where the line ends before.
+pub(crate) fn columns(line: &[u8], first: usize, last: usize) -> &[u8]
     requires first { 1 ≤ first }
     requires order { first ≤ last }
     ensures { result.now ≡ take (last + 1 - first) (drop (first - 1) line.now) }
@@ -27,9 +38,9 @@ pub(crate) fn held(line: &[u8], first: usize, last: usize) -> &[u8]
     &line[start..end]
 }
 
-/// A text without its outer blanks.
+/// A text without its outer blanks; only the byte 0x20 is one.
 #[tactic(auto, unfolding(crate::specs::Field::trimmed))]
-pub(crate) fn trim(text: &[u8]) -> &[u8]
+pub fn trim(text: &[u8]) -> &[u8]
     ensures value { result.now ≡ trimmed text.now }
     ensures short { length result.now ≤ length text.now }
 {
@@ -41,8 +52,8 @@ fn trim_start(text: &[u8]) -> &[u8]
     ensures short { length result.now ≤ length text.now }
 {
     let mut rest = text;
-    while let [b' ', behind @ ..] = rest {
-        rest = behind;
+    while let [b' ', after @ ..] = rest {
+        rest = after;
     }
     rest
 }

@@ -10,7 +10,9 @@ use crate::reason::Why;
 /// A line of a case: its number, counted from 1, and its bytes without LF or CR LF.
 #[derive(Clone, Copy, Debug)]
 pub struct Line<'a> {
+    /// Its number, counted from 1; comments count.
     pub number: u32,
+    /// Its bytes, one a column; what is past its end is blank.
     pub bytes: &'a [u8],
 }
 

@@ -5,7 +5,7 @@ ghost use Rattle.std.specs.List.{list_any};
 ghost use Rattle.emtp_card.specs.Field.{columns, IsBlank};
 ghost use Rattle.emtp_card.specs.Name.{is_comma, name_field};
 
-use crate::field::{field, held};
+use crate::field::{columns, field_text};
 use crate::reason::Why;
 use emtp_case::Name;
 
@@ -24,7 +24,7 @@ pub fn field_name(line: &[u8], first: usize) -> Result<Option<Name>, Why>
     if has_comma(line, first) {
         return Err(Why::BadName);
     }
-    let text = field(line, first, first + 5);
+    let text = field_text(line, first, first + 5);
     if text.is_empty() {
         Ok(None)
     } else {
@@ -38,7 +38,7 @@ fn has_comma(line: &[u8], first: usize) -> bool
     requires high { first ≤ 75 }
     ensures { result ≡ list_any is_comma (columns line.now first (first + 5)) }
 {
-    any_comma(held(line, first, first + 5))
+    any_comma(columns(line, first, first + 5))
 }
 
 fn any_comma(text: &[u8]) -> bool

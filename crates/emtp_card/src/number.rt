@@ -1,15 +1,15 @@
 //! Number fields, and numbers of any length.
 
-ghost use Rattle.std.specs.Prelude.{◌≡◌, ◌+◌, ◌^◌, ◌≤◌, ◌<◌, ◌≤ℤ◌, ◌↔◌, ℤ, pos, unsigned_abs, Some, None, Ok, Result};
+ghost use Rattle.std.specs.Prelude.{◌≡◌, ◌+◌, ◌^◌, ◌≤◌, ◌<◌, ◌≤ℤ◌, ◌↔◌, ℤ, pos, unsigned_abs, Some, None, Ok, Result, IfOk, IfSome};
 ghost use Rattle.emtp_card.specs.Decimal.{Decimal, signed};
 ghost use Rattle.emtp_card.specs.Field.{columns, trimmed, IsBlank};
 ghost use Rattle.emtp_card.specs.Numeral.{decimal_of, meaning_of, IsNumeral};
 ghost use Rattle.emtp_card.specs.Spelling.{Spells};
 ghost use Rattle.emtp_card.specs.Rounding.{magnitude_in};
-ghost use Rattle.emtp_card.specs.Number.{number_in, in_range, held_in, in_limit, number_field, held_field, read_number_of, Reads};
+ghost use Rattle.emtp_card.specs.Number.{number_in, in_range, held_in, in_limit, number_field, held_field, read_number_of, unless_blank, IsWithin, Reads};
 ghost use Rattle.emtp_card.specs.declared.reason.Why.{Why};
 
-use crate::field::{field, trim};
+use crate::field::{field_text, trim};
 use crate::numeral::{Numeral, read_numeral};
 use crate::reason::Why;
 use crate::rounding::MOST;
@@ -35,16 +35,11 @@ pub fn field_number(
     requires scale_high { scale ≤ℤ pos 18 }
     requires range { low ≤ℤ high }
     ensures value { result ≡ number_field line.now first last scale low high }
+    ensures range { IfOk result (λ field. IfSome field (IsWithin low high)) }
     ensures blank { (result ≡ Ok None) ↔ IsBlank (columns line.now first last) }
 {
-    let text = field(line, first, last);
-    if text.is_empty() {
-        return Ok(None);
-    }
-    match within(value(text, scale), low, high) {
-        Ok(value) => Ok(Some(value)),
-        Err(why) => Err(why),
-    }
+    let text = field_text(line, first, last);
+    unless_blank(text, within(value(text, scale), low, high))
 }
 
 /// The number of a field as `field_number` reads it, but the nearer end of the range where the value
@@ -65,16 +60,11 @@ pub fn field_held(
     requires scale_high { scale ≤ℤ pos 18 }
     requires range { low ≤ℤ high }
     ensures value { result ≡ held_field line.now first last scale low high }
+    ensures range { IfOk result (λ field. IfSome field (IsWithin low high)) }
     ensures blank { (result ≡ Ok None) ↔ IsBlank (columns line.now first last) }
 {
-    let text = field(line, first, last);
-    if text.is_empty() {
-        return Ok(None);
-    }
-    match held(value(text, scale), low, high) {
-        Ok(value) => Ok(Some(value)),
-        Err(why) => Err(why),
-    }
+    let text = field_text(line, first, last);
+    unless_blank(text, held(value(text, scale), low, high))
 }
 
 /// A text without its outer blanks, read as a number of any length in a unit of 10^-scale, rounded
@@ -92,6 +82,20 @@ pub fn read_number(text: &[u8], scale: i32, limit: i128) -> Result<i128, Why>
     ensures spelling { (decimal : Decimal) → (decimal_of (trimmed text.now) ≡ Some decimal) ↔ Spells (trimmed text.now) decimal }
 {
     limited(value(trim(text), scale), limit)
+}
+
+/// What was read of a field's text, and nothing where the text is empty.
+pub(crate) fn unless_blank(text: &[u8], read: Result<i64, Why>) -> Result<Option<i64>, Why>
+    ensures value { result ≡ unless_blank text.now read }
+    ensures range { (low high : ℤ) → IfOk read (IsWithin low high) → IfOk result (λ field. IfSome field (IsWithin low high)) }
+{
+    if text.is_empty() {
+        return Ok(None);
+    }
+    match read {
+        Ok(value) => Ok(Some(value)),
+        Err(why) => Err(why),
+    }
 }
 
 /// The value of a text in a unit of 10^-scale. One that is greater than any limit is read as a
@@ -136,7 +140,8 @@ fn signed(negative: bool, magnitude: u128) -> i128
 
 /// A value that has to lie in a range.
 fn within(read: Result<i128, Why>, low: i64, high: i64) -> Result<i64, Why>
-    ensures { (value : Result ℤ Why) → Reads read value → result ≡ in_range low high value }
+    ensures value { (value : Result ℤ Why) → Reads read value → result ≡ in_range low high value }
+    ensures range { IfOk result (IsWithin low high) }
 {
     match read {
         Ok(value) => {
@@ -153,7 +158,8 @@ fn within(read: Result<i128, Why>, low: i64, high: i64) -> Result<i64, Why>
 /// A value that is held to the nearer end of a range that it lies outside.
 fn held(read: Result<i128, Why>, low: i64, high: i64) -> Result<i64, Why>
     requires { low ≤ℤ high }
-    ensures { (value : Result ℤ Why) → Reads read value → result ≡ held_in low high value }
+    ensures value { (value : Result ℤ Why) → Reads read value → result ≡ held_in low high value }
+    ensures range { IfOk result (IsWithin low high) }
 {
     match read {
         Ok(value) => {

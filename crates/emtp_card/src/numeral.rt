@@ -4,7 +4,7 @@ ghost use Rattle.std.specs.Prelude.{◌≡◌, ◌-◌, ◌<◌, ◌≤◌, leng
 ghost use Rattle.std.specs.Char.{is_ascii_digit, IsAsciiDigit};
 ghost use Rattle.emtp_card.specs.Numeral.{sign_of, digits_of, fraction_of, few_digits, power_of, exponent_of, decimal_of, meaning_of, IsNumeral, AreDigits};
 
-/// A spelled number: its sign, the digits before and behind the point, and its power of ten, from
+/// A spelled number: its sign, the digits before and after the point, and its power of ten, from
 /// -999 to 999. The digits stay in the text, so their number has no limit.
 #[derive(Clone, Copy, Debug)]
 pub(crate) struct Numeral<'a> {
@@ -37,7 +37,7 @@ pub(crate) fn read_numeral(text: &[u8]) -> Option<Numeral<'_>>
     })
 }
 
-/// Whether a minus stands in front, and what stands behind the sign, if there is one.
+/// Whether a minus stands in front, and what stands after the sign, if there is one.
 pub(crate) fn sign(text: &[u8]) -> (bool, &[u8])
     ensures minus { result.0 ≡ (sign_of text.now).0 }
     ensures rest { result.1.now ≡ (sign_of text.now).1 }
@@ -49,7 +49,7 @@ pub(crate) fn sign(text: &[u8]) -> (bool, &[u8])
     }
 }
 
-/// The digits in front, and what stands behind them.
+/// The digits in front, and what stands after them.
 fn digits(text: &[u8]) -> (&[u8], &[u8])
     ensures digits { result.0.now ≡ (digits_of text.now).0 }
     ensures rest { result.1.now ≡ (digits_of text.now).1 }
@@ -65,7 +65,7 @@ fn count_digits(text: &[u8]) -> usize
     text.iter().take_while(|byte| byte.is_ascii_digit()).count()
 }
 
-/// The digits behind a point in front, and what stands behind them.
+/// The digits after a point in front, and what stands after them.
 fn fraction(text: &[u8]) -> (&[u8], &[u8])
     ensures digits { result.0.now ≡ (fraction_of text.now).0 }
     ensures rest { result.1.now ≡ (fraction_of text.now).1 }
@@ -77,7 +77,7 @@ fn fraction(text: &[u8]) -> (&[u8], &[u8])
     }
 }
 
-/// The power of ten of a number, which is 0 where nothing stands behind its digits.
+/// The power of ten of a number, which is 0 where nothing stands after its digits.
 #[tactic(auto, unfolding(crate::specs::Numeral::exponent_of))]
 fn exponent(text: &[u8]) -> Option<i32>
     ensures value { result ≡ exponent_of text.now }

@@ -82,8 +82,11 @@ impl Why {
 /// A refused card: its line and column, each counted from 1, and the reason.
 #[derive(Clone, Copy, Debug, PartialEq, Eq)]
 pub struct Bad {
+    /// The line, counted from 1; comments count.
     pub line: u32,
+    /// The column, counted from 1.
     pub column: u32,
+    /// The reason.
     pub why: Why,
 }
 
@@ -100,8 +103,10 @@ impl fmt::Display for Bad {
 /// Why a case isn't read: a refused card, or no memory.
 #[derive(Debug, Drop, Error)]
 pub enum Refused {
+    /// The first card that doesn't fit, by the rules of the deck.
     #[error("{0}")]
     Bad(Bad),
+    /// Memory was wanting.
     #[error("out of memory")]
     NoMemory,
 }

@@ -111,7 +111,7 @@ impl Numeral<'_> {
     }
 }
 
-/// A number with digits written behind it, where the whole is at most `MOST`.
+/// A number with digits written after it, where the whole is at most `MOST`.
 pub(crate) fn append_digits(start: u128, digits: &[u8]) -> Option<u128>
     requires start { start ≤ MOST }
     requires digits { AreDigits digits.now }

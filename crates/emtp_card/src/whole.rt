@@ -1,15 +1,16 @@
 //! Fields that hold whole numbers.
 
-ghost use Rattle.std.specs.Prelude.{◌≡◌, ◌+◌, ◌^◌, ◌≤◌, ◌<◌, ◌↔◌, pos, Ok, None, IsTrue};
+ghost use Rattle.std.specs.Prelude.{◌≡◌, ◌+◌, ◌^◌, ◌≤◌, ◌<◌, ◌↔◌, pos, Ok, None, IsTrue, IfOk, IfSome};
 ghost use Rattle.std.specs.Char.{is_ascii_digit};
 ghost use Rattle.std.specs.List.{list_all};
 ghost use Rattle.std.specs.Option.{SomeIff};
 ghost use Rattle.emtp_card.specs.Decimal.{number_of};
 ghost use Rattle.emtp_card.specs.Field.{columns, IsBlank};
 ghost use Rattle.emtp_card.specs.Numeral.{AreDigits};
-ghost use Rattle.emtp_card.specs.Whole.{all_digits, whole_in, whole_field};
+ghost use Rattle.emtp_card.specs.Whole.{all_digits, whole_in, whole_field, IsInBillion};
 
-use crate::field::field;
+use crate::field::field_text;
+use crate::number::unless_blank;
 use crate::numeral::sign;
 use crate::reason::Why;
 use crate::rounding::append_digits;
@@ -28,21 +29,18 @@ pub fn field_whole(line: &[u8], first: usize, last: usize) -> Result<Option<i64>
     requires order { first ≤ last }
     requires last { last ≤ 80 }
     ensures value { result ≡ whole_field line.now first last }
+    ensures small { IfOk result (λ field. IfSome field IsInBillion) }
     ensures blank { (result ≡ Ok None) ↔ IsBlank (columns line.now first last) }
 {
-    let text = field(line, first, last);
-    if text.is_empty() {
-        return Ok(None);
-    }
-    match whole(text) {
-        Ok(value) => Ok(Some(value)),
-        Err(why) => Err(why),
-    }
+    let text = field_text(line, first, last);
+    unless_blank(text, whole(text))
 }
 
+/// A text read as an optional sign and digits.
 #[tactic(auto, unfolding(crate::specs::Whole::whole_in))]
 fn whole(text: &[u8]) -> Result<i64, Why>
-    ensures { result ≡ whole_in text.now }
+    ensures value { result ≡ whole_in text.now }
+    ensures small { IfOk result IsInBillion }
 {
     let (negative, digits) = sign(text);
     if !only_digits(digits) {

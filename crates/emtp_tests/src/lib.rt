@@ -8,8 +8,6 @@
 #[cfg(test)]
 mod cabinet;
 #[cfg(test)]
-mod cards;
-#[cfg(test)]
 mod case;
 #[cfg(test)]
 mod kept_factor;

@@ -6,7 +6,7 @@ use Rattle.emtp_card.specs.declared.rounding.TheConstants.{MOST}
 use Rattle.emtp_card.proofs.Digits.{le-with_digits, with_digits-append}
 use Rattle.emtp_card.proofs.numeral.Numeral.front.Goals as goal
 
--- digits that reach behind the point
+-- digits that reach after the point
 into_fraction : (whole fraction : List ℕ) (count : ℕ) → length whole < count → number_of (take count (whole ++ fraction)) ≡ with_digits (number_of whole) (take (count - length whole) fraction)
 into_fraction whole fraction count past =
     let both : length whole + (count - length whole) ≡ count = omega arith in

@@ -237,12 +237,12 @@ fn with_zeros(
     alloc: Global,
     front: &str,
     zeros: usize,
-    behind: &str,
+    after: &str,
 ) -> Result<Vec<u8>, AllocError> {
     let mut text = Vec::from_slice(alloc, front.as_bytes())?;
     let middle = vec![in alloc; b'0'; zeros]?;
     text.extend_from_slice(middle.as_slice())?;
-    text.extend_from_slice(behind.as_bytes())?;
+    text.extend_from_slice(after.as_bytes())?;
     Ok(text)
 }
 
@@ -261,12 +261,12 @@ fn reads_a_million_digits(rt: HostRuntime) -> Result<(), Fail> {
         ("49", 997, "-999", Ok(0)),
         ("1", 1_000_000, "x", Err(Why::NotANumber)),
     ];
-    for (front, zeros, behind, value) in rows {
-        let text = with_zeros(rt.alloc(), front, zeros, behind)?;
+    for (front, zeros, after, value) in rows {
+        let text = with_zeros(rt.alloc(), front, zeros, after)?;
         assert_eq!(rt;
             read_number(text.as_slice(), 0, LIMIT),
             value,
-            "at {front}0..{behind}"
+            "at {front}0..{after}"
         );
     }
     Ok(())

@@ -1,0 +1,69 @@
+-- The faults of one card, and the least of them.
+use Rattle.std.specs.Prelude.{◌≡◌, ◌⊎◌, [], ◌∷◌, false, ℕ, ◌==◌, nat_lt, Bool, ◌||◌, ◌&&◌, List, fold, Option, Some, None, option_map, Result, Ok, Err, if◌then◌else◌}
+use Rattle.emtp_card.specs.Lines.{fault_of_line, is_section_end}
+use Rattle.emtp_card.specs.Reason.{reason_number}
+use Rattle.emtp_card.specs.declared.fault.Fault.{Fault}
+use Rattle.emtp_card.specs.declared.reason.Bad.{Bad}
+use Rattle.emtp_card.specs.declared.reason.Why.{Why}
+
+-- by the lesser column, and there by the lesser number
+abbrev pub comes_before : Fault → Fault → Bool
+comes_before a b = nat_lt a.column b.column || ((a.column == b.column) && nat_lt (reason_number a.why) (reason_number b.why))
+
+-- the lesser of two faults, where they are there
+abbrev pub lesser : Option Fault → Option Fault → Option Fault
+lesser None b = b
+lesser (Some a) None = Some a
+lesser (Some a) (Some b) = if comes_before b a then Some b else Some a
+
+-- the least of the faults that are there
+unfoldable pub least : List (Option Fault) → Option Fault
+least faults = fold lesser None faults
+
+-- no fault of the list comes before this one
+abbrev pub IsNotAfter : Fault → List (Option Fault) → Type 0
+IsNotAfter f [] = Unit {0}
+IsNotAfter f (g ∷ gs) = ((x : Fault) → g ≡ Some x → comes_before x f ≡ false) × IsNotAfter f gs
+
+-- the fault is in the list
+abbrev pub IsIn : Fault → List (Option Fault) → Type 0
+IsIn f [] = ⊥
+IsIn f (g ∷ gs) = (g ≡ Some f) ⊎ IsIn f gs
+
+-- the fault is in the list, and none of the list comes before it
+pub record IsLeastOf (faults : List (Option Fault)) (f : Fault) : Type 0 where
+  pub there : IsIn f faults
+  pub first : IsNotAfter f faults
+
+-- the fault of a field that was read, in its first column
+abbrev pub fault_at : {A : Type 0} → ℕ → Result A Why → Option Fault
+fault_at column (Ok x) = None
+fault_at column (Err why) = Some (record { column = column; why = why })
+
+-- a field where blank means this value
+abbrev pub filled_with : {A : Type 0} → A → Result (Option A) Why → Result A Why
+filled_with blank (Ok None) = Ok blank
+filled_with blank (Ok (Some x)) = Ok x
+filled_with blank (Err why) = Err why
+
+-- the refusal of a fault on a line
+abbrev pub bad_at : ℕ → Fault → Bad
+bad_at line fault = record { line = line; column = fault.column; why = fault.why }
+
+-- a fault of the bytes decides first, and then the least of the fields and rules
+abbrev pub judge_by : ℕ → Option (ℕ × Why) → Option Fault → Option Bad
+judge_by number (Some f) fields = Some (record { line = number; column = f.0; why = f.1 })
+judge_by number None fields = option_map (bad_at number) fields
+
+-- what refuses the card on a line, given the least fault of its fields and rules
+abbrev pub judge : ℕ → List ℕ → Option Fault → Option Bad
+judge number line fields = judge_by number (fault_of_line line) fields
+
+-- the bytes of a line that would end a section aren't judged where a card is due whatever the line
+abbrev pub judge_due : ℕ → List ℕ → Option Fault → Option Bad
+judge_due number line fields = if is_section_end line then option_map (bad_at number) fields else judge number line fields
+
+-- the record of a card, unless it is refused
+abbrev pub unless_bad : {A : Type 0} → Option Bad → A → Result A Bad
+unless_bad (Some bad) card = Err bad
+unless_bad None card = Ok card
