@@ -6,23 +6,20 @@ use Rattle.std.proofs.lemmas.Int.{ints, to_z-of_z, unsigned_abs-mul, fits_signed
 use Rattle.std.proofs.lemmas.Nat.{mul-le}
 use Rattle.std.proofs.Math.IntN.{*ℤ-zero, *ℤ-negsuc, neg_ℤ-neg_ℤ, suc_ℤ, suc_ℤ-*ℤ, zero-*ℤ, *ℤ_comm}
 use Rattle.emtp_fix.specs.Rounding.{near}
+use Rattle.emtp_fix.specs.declared.limit.TheConstants.{LARGEST_VALUE, LARGEST_WIDE}
 use Rattle.emtp_fix.proofs.Nearest.{unsigned_abs-near-le}
 
--- 1.6e38, the greatest magnitude on the way that the limits allow
-abbrev pub Most : ℕ
-Most = 16 * 10 ^ 37
-
-pub fits : (z : ℤ) → unsigned_abs z ≤ 16 * 10 ^ 37 → FitsSigned w128 z
+pub fits : (z : ℤ) → unsigned_abs z ≤ LARGEST_WIDE → FitsSigned w128 z
 fits z h = fits_signed_from_abs w128 z (omega arith)
 
 -- a number that went to bits and was read again
-pub through : (z : ℤ) → unsigned_abs z ≤ 16 * 10 ^ 37 → to_z w128 (of_z w128 z) ≡ z
+pub through : (z : ℤ) → unsigned_abs z ≤ LARGEST_WIDE → to_z w128 (of_z w128 z) ≡ z
 through z h = to_z-of_z w128 z (fits z h)
 
-pub fits_64 : (z : ℤ) → unsigned_abs z ≤ 10 ^ 18 → FitsSigned w64 z
+pub fits_64 : (z : ℤ) → unsigned_abs z ≤ LARGEST_VALUE → FitsSigned w64 z
 fits_64 z h = fits_signed_from_abs w64 z (omega arith)
 
-pub through_64 : (z : ℤ) → unsigned_abs z ≤ 10 ^ 18 → to_z w64 (of_z w64 z) ≡ z
+pub through_64 : (z : ℤ) → unsigned_abs z ≤ LARGEST_VALUE → to_z w64 (of_z w64 z) ≡ z
 through_64 z h = to_z-of_z w64 z (fits_64 z h)
 
 -- a bound on a product
@@ -37,7 +34,7 @@ pub abs-sub-le : (a b : ℤ) → unsigned_abs (a -ℤ b) ≤ unsigned_abs a + un
 abs-sub-le a b = omega (arith, ints)
 
 -- the product of two numbers within their limits, as the code computes it
-pub product_through : (a b : ℤ) (m n : ℕ) → unsigned_abs a ≤ m → unsigned_abs b ≤ n → m * n ≤ 16 * 10 ^ 37 → m ≤ 16 * 10 ^ 37 → n ≤ 16 * 10 ^ 37
+pub product_through : (a b : ℤ) (m n : ℕ) → unsigned_abs a ≤ m → unsigned_abs b ≤ n → m * n ≤ LARGEST_WIDE → m ≤ LARGEST_WIDE → n ≤ LARGEST_WIDE
     → to_z w128 (of_z w128 (to_z w128 (of_z w128 a) *ℤ to_z w128 (of_z w128 b))) ≡ a *ℤ b
 product_through a b m n p q small small_m small_n =
     let same_a : to_z w128 (of_z w128 a) ≡ a = through a (omega arith) in
