@@ -6,7 +6,7 @@ use Rattle.emtp_case.specs.Branch.{IsBranch, IsCharacteristic, IsPseudo, IsSingl
 use Rattle.emtp_case.specs.Case.{HasCounts, IsDraft, phase_branches}
 use Rattle.emtp_case.specs.Channel.{IsChannel}
 use Rattle.emtp_case.specs.Control.{HasDevicePoints, IsBlock, IsDevice, IsDeviceCard, IsExtra, IsFormula}
-use Rattle.emtp_case.specs.History.{branch_history, device_history, extra_history, history_of, trio_history}
+use Rattle.emtp_case.specs.HistoryValues.{branch_history_values, device_history_values, extra_history_values, history_values_of, trio_history_values}
 use Rattle.emtp_case.specs.Range.{AreEnds}
 use Rattle.emtp_case.specs.Source.{IsSource, IsTacsSource, is_voltage_source_at}
 use Rattle.emtp_case.specs.Switch.{IsSwitch}
@@ -117,14 +117,14 @@ with_variable p x h room =
       channels = channels_grow (length p.nodes) (length p.nodes) (length p.branches) (length p.branches) (length p.switches) (length p.switches) (length p.vars) (length q.vars) (same (length p.nodes)) (same (length p.branches)) (same (length p.switches)) more p.channels h.channels;
     }
 
-pub with_branch : (p : Parts) (x : Branch) → IsDraft p → length p.branches < 5000 → IsSingle x → IsBranch p.run (length p.nodes) (length p.trios) p.points x → history_of p + branch_history p.run.dt x ≤ 2000000 → IsDraft (record p { branches = p.branches ++ x ∷ [] })
+pub with_branch : (p : Parts) (x : Branch) → IsDraft p → length p.branches < 5000 → IsSingle x → IsBranch p.run (length p.nodes) (length p.trios) p.points x → history_values_of p + branch_history_values p.run.dt x ≤ 2000000 → IsDraft (record p { branches = p.branches ++ x ∷ [] })
 with_branch p x h room single fits history =
     let q : Parts = record p { branches = p.branches ++ x ∷ [] } in
     let more : length p.branches ≤ length q.branches = le_push p.branches x in
     let few : length q.branches ≤ 5000 = room_push p.branches x 5000 room in
     let trios : 3 * length p.trios ≤ length q.branches = omega (arith, h.counts.trios) in
     let points : length p.points ≤ 64 * (length q.branches + length p.extras) = omega (arith, h.counts.points) in
-    let past : history_of q ≤ 2000000 = omega (arith, history, sum_by-append (branch_history p.run.dt) p.branches (x ∷ [])) in
+    let past : history_values_of q ≤ 2000000 = omega (arith, history, sum_by-append (branch_history_values p.run.dt) p.branches (x ∷ [])) in
     let counts : HasCounts q = search rules in
     record {
       run = h.run;
@@ -255,7 +255,7 @@ with_formula p x h room fits =
     let q : Parts = record p { extras = p.extras ++ OfFormula x ∷ [] } in
     let few : length q.extras ≤ 200 = room_push p.extras (OfFormula x) 200 room in
     let points : length p.points ≤ 64 * (length p.branches + length q.extras) = omega (arith, h.counts.points, le_push p.extras (OfFormula x)) in
-    let past : history_of q ≤ 2000000 = omega (arith, h.counts.history, sum_by-append (extra_history p.run.dt) p.extras (OfFormula x ∷ [])) in
+    let past : history_values_of q ≤ 2000000 = omega (arith, h.counts.history, sum_by-append (extra_history_values p.run.dt) p.extras (OfFormula x ∷ [])) in
     let counts : HasCounts q = search rules in
     record {
       run = h.run;
@@ -282,7 +282,6 @@ card_set : (vars : ℕ) (x : Device) (first count : ℕ) → IsDeviceCard vars x
 card_set vars x first count h = record {
   own = h.own;
   there = h.there;
-  code = h.code;
   few_inputs = h.few_inputs;
   inputs = h.inputs;
   a = h.a;
@@ -293,7 +292,7 @@ card_set vars x first count h = record {
   required = h.required;
 }
 
-pub with_device : (p : Parts) (x : Device) (new : List Point) → IsDraft p → length p.extras < 200 → IsDeviceCard (length p.vars) x → length new ≤ 64 → HasDevicePoints x.code new → history_of p + device_history p.run.dt x.code x.a ≤ 2000000 → IsDraft (record p { points = p.points ++ new; extras = p.extras ++ OfDevice (record x { first = length p.points; count = length new }) ∷ [] })
+pub with_device : (p : Parts) (x : Device) (new : List Point) → IsDraft p → length p.extras < 200 → IsDeviceCard (length p.vars) x → length new ≤ 64 → HasDevicePoints x.code new → history_values_of p + device_history_values p.run.dt x.code x.a ≤ 2000000 → IsDraft (record p { points = p.points ++ new; extras = p.extras ++ OfDevice (record x { first = length p.points; count = length new }) ∷ [] })
 with_device p x new h room card few points history =
     let q : Parts = record p { points = p.points ++ new; extras = p.extras ++ OfDevice (record x { first = length p.points; count = length new }) ∷ [] } in
     let set : Device = record x { first = length p.points; count = length new } in
@@ -302,7 +301,7 @@ with_device p x new h room card few points history =
     let fits : IsDevice (length p.vars) q.points set = record { card = card_set (length p.vars) x (length p.points) (length new) card; points_there = omega (arith, length-append p.points new); few_points = few; points = subst (HasDevicePoints x.code) (sym (points_behind p.points new)) points } in
     let some : length q.extras ≤ 200 = room_push p.extras (OfDevice set) 200 room in
     let all : length q.points ≤ 64 * (length p.branches + length q.extras) = omega (arith, h.counts.points, few, length-append p.points new, length-append p.extras (OfDevice set ∷ [])) in
-    let past : history_of q ≤ 2000000 = omega (arith, history, sum_by-append (extra_history p.run.dt) p.extras (OfDevice set ∷ [])) in
+    let past : history_values_of q ≤ 2000000 = omega (arith, history, sum_by-append (extra_history_values p.run.dt) p.extras (OfDevice set ∷ [])) in
     let counts : HasCounts q = search rules in
     record {
       run = h.run;
@@ -335,7 +334,7 @@ with_pseudo p x new h room ends some few rises =
     let most : length q.branches ≤ 5000 = room_push p.branches (OfPseudo set) 5000 room in
     let trios : 3 * length p.trios ≤ length q.branches = omega (arith, h.counts.trios) in
     let all : length q.points ≤ 64 * (length q.branches + length p.extras) = omega (arith, h.counts.points, few, length-append p.points new, length-append p.branches (OfPseudo set ∷ [])) in
-    let past : history_of q ≤ 2000000 = omega (arith, h.counts.history, sum_by-append (branch_history p.run.dt) p.branches (OfPseudo set ∷ [])) in
+    let past : history_values_of q ≤ 2000000 = omega (arith, h.counts.history, sum_by-append (branch_history_values p.run.dt) p.branches (OfPseudo set ∷ [])) in
     let counts : HasCounts q = search rules in
     record {
       run = h.run;
@@ -366,7 +365,7 @@ three_fit run nodes t trios ps a b c last ends0 ends1 ends2 =
     (All-push P [] (OfPhase (record b { trio = t; phase = 1 })) (All-nil P) (record { ends = ends1; trio = last; phase = lit< tt }))
     (All-push P [] (OfPhase (record c { trio = t; phase = 2 })) (All-nil P) (record { ends = ends2; trio = last; phase = lit< tt })))
 
-pub with_trio : (p : Parts) (x : Trio) (a : Phase) (b : Phase) (c : Phase) → IsDraft p → length p.branches + 3 ≤ 5000 → AreEnds (length p.nodes) a.from a.to → AreEnds (length p.nodes) b.from b.to → AreEnds (length p.nodes) c.from c.to → IsTrio p.run x → history_of p + trio_history p.run.dt x ≤ 2000000 → IsDraft (record p { branches = p.branches ++ phase_branches (length p.trios) a b c; trios = p.trios ++ record x { first = length p.branches } ∷ [] })
+pub with_trio : (p : Parts) (x : Trio) (a : Phase) (b : Phase) (c : Phase) → IsDraft p → length p.branches + 3 ≤ 5000 → AreEnds (length p.nodes) a.from a.to → AreEnds (length p.nodes) b.from b.to → AreEnds (length p.nodes) c.from c.to → IsTrio p.run x → history_values_of p + trio_history_values p.run.dt x ≤ 2000000 → IsDraft (record p { branches = p.branches ++ phase_branches (length p.trios) a b c; trios = p.trios ++ record x { first = length p.branches } ∷ [] })
 with_trio p x a b c h room ends0 ends1 ends2 modes history =
     let q : Parts = record p { branches = p.branches ++ phase_branches (length p.trios) a b c; trios = p.trios ++ record x { first = length p.branches } ∷ [] } in
     let set : Trio = record x { first = length p.branches } in
@@ -378,7 +377,7 @@ with_trio p x a b c h room ends0 ends1 ends2 modes history =
     let most : length q.branches ≤ 5000 = omega (arith, three, length-append p.branches (phase_branches (length p.trios) a b c)) in
     let trios : 3 * length q.trios ≤ length q.branches = omega (arith, h.counts.trios, three, length-append p.branches (phase_branches (length p.trios) a b c), length-append p.trios (set ∷ [])) in
     let points : length p.points ≤ 64 * (length q.branches + length p.extras) = omega (arith, h.counts.points) in
-    let past : history_of q ≤ 2000000 = omega (arith, history, sum_by-append (branch_history p.run.dt) p.branches (phase_branches (length p.trios) a b c), sum_by-append (trio_history p.run.dt) p.trios (set ∷ [])) in
+    let past : history_values_of q ≤ 2000000 = omega (arith, history, sum_by-append (branch_history_values p.run.dt) p.branches (phase_branches (length p.trios) a b c), sum_by-append (trio_history_values p.run.dt) p.trios (set ∷ [])) in
     let placed : ArePhases p.branches p.trios set (OfPhase (record a { trio = length p.trios; phase = 0 })) (OfPhase (record b { trio = length p.trios; phase = 1 })) (OfPhase (record c { trio = length p.trios; phase = 2 })) = record { first = refl; phase0 = refl; phase1 = refl; phase2 = refl } in
     let counts : HasCounts q = search rules in
     record {

@@ -119,6 +119,7 @@ pub IsTacsSource-grows : (n n' v v' w w' : ℕ) → n ≤ n' → v ≤ v' → w 
 IsTacsSource-grows n n' v v' w w' le le' le'' s h = record {
   own = h.own;
   there = omega (arith, h.there);
+  no_current = h.no_current;
   numbers = h.numbers;
   shape = IsControlShape-grows n n' w w' le le'' s.shape h.shape;
 }
@@ -153,7 +154,6 @@ pub IsDeviceCard-grows : (v v' : ℕ) → v ≤ v' → (x : Device) → IsDevice
 IsDeviceCard-grows v v' le x h = record {
   own = h.own;
   there = omega (arith, h.there);
-  code = h.code;
   few_inputs = h.few_inputs;
   inputs = inputs-grow v v' le x.inputs h.inputs;
   a = h.a;
@@ -175,7 +175,8 @@ IsExtra-grows v v' ps qs le e (OfFormula x) h = record {
   own = h.own;
   there = omega (arith, h.there);
   names = All-weaker (λ n. n < v) (λ n. n < v') (λ n small. omega arith) x.vars h.names;
-  tree = h.tree;
+  nodes = h.nodes;
+  whole = h.whole;
 }
 
 pub IsChannel-grows : (n n' b b' w w' v v' : ℕ) → n ≤ n' → b ≤ b' → w ≤ w' → v ≤ v' → (c : Channel) → IsChannel n b w v c → IsChannel n' b' w' v' c

@@ -2,7 +2,7 @@
 use Rattle.emtp_case.specs.Branch.{AreInThrees, IsBranch, IsTrio}
 use Rattle.emtp_case.specs.Channel.{IsChannel}
 use Rattle.emtp_case.specs.Control.{IsBlock, IsExtra, var_of}
-use Rattle.emtp_case.specs.History.{history_of}
+use Rattle.emtp_case.specs.HistoryValues.{history_values_of}
 use Rattle.emtp_case.specs.RunData.{IsRun, samples_of}
 use Rattle.emtp_case.specs.Source.{IsSource, IsTacsSource, OneVoltageEach}
 use Rattle.emtp_case.specs.Switch.{IsSwitch}
@@ -33,7 +33,7 @@ pub record HasCounts (p : Parts) : Type 0 where
   pub extras : length p.extras ≤ 200
   pub channels : length p.channels ≤ 64
   pub stored : length p.channels * samples_of p.run ≤ 4000000
-  pub history : history_of p ≤ 2000000
+  pub history : history_values_of p ≤ 2000000
 
 -- the branches, switches and sources
 pub record IsNetwork (p : Parts) : Type 0 where

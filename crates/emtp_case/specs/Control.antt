@@ -1,21 +1,23 @@
 -- The blocks, devices and formulas of the control.
 use Rattle.emtp_case.specs.Branch.{origin, points_of}
+use Rattle.emtp_case.specs.Expr.{FitsPlaces, IsWhole}
 use Rattle.emtp_case.specs.Range.{IsBetween}
 use Rattle.emtp_case.specs.declared.branch.Point.{Point}
 use Rattle.emtp_case.specs.declared.control.Block.{Block}
 use Rattle.emtp_case.specs.declared.control.Bound.{Bound}
 use Rattle.emtp_case.specs.declared.control.Bound.TheVariants.{Fixed, Named, None as NoBound}
 use Rattle.emtp_case.specs.declared.control.Device.{Device}
+use Rattle.emtp_case.specs.declared.control.DeviceCode.{DeviceCode}
+use Rattle.emtp_case.specs.declared.control.DeviceCode.TheVariants.{Counter, Delay, DelayedPulse, Derivative, EffectiveValue, Extreme, Gate, GateAbove, Integral, PeakHold, SampleHold, Selector, Table, Window}
 use Rattle.emtp_case.specs.declared.control.Extra.{Extra}
 use Rattle.emtp_case.specs.declared.control.Extra.TheVariants.{Device as OfDevice, Formula as OfFormula}
 use Rattle.emtp_case.specs.declared.control.Formula.{Formula}
 use Rattle.emtp_case.specs.declared.control.Input.{Input}
-use Rattle.emtp_case.specs.declared.expr.Expr.{Expr}
-use Rattle.emtp_case.specs.declared.expr.Expr.TheVariants.{Binary', Number, Unary', Var}
+use Rattle.emtp_case.specs.declared.expr.Node.{Node}
 use Rattle.emtp_case.specs.declared.run_data.RunData.{RunData}
 use Rattle.emtp_fix.specs.Rounding.{near}
 use Rattle.std.specs.Option.{ForSome}
-use Rattle.std.specs.Prelude.{◌≡◌, ◌≢◌, ◌+◌, ◌*◌, ◌^◌, ◌<◌, ◌≤◌, ◌+ℤ◌, ◌*ℤ◌, ◌≤ℤ◌, ◌<ℤ◌, ◌⊎◌, [], All, IsSome, List, length, pos, slice_index_or, suc, unsigned_abs, zero, ℕ, ℤ}
+use Rattle.std.specs.Prelude.{◌≡◌, ◌≢◌, ◌+◌, ◌*◌, ◌^◌, ◌<◌, ◌≤◌, ◌+ℤ◌, ◌*ℤ◌, ◌≤ℤ◌, ◌<ℤ◌, [], All, Bool, IsSome, IsTrue, List, false, length, pos, slice_index_or, suc, true, unsigned_abs, zero, ℕ, ℤ}
 
 -- Blocks
 
@@ -89,17 +91,29 @@ pub record IsBlock (run : RunData) (vars : ℕ) (b : Block) : Type 0 where
 
 -- Devices
 
-abbrev pub IsDeviceCode : ℕ → Type 0
-IsDeviceCode code = (51 ≤ code) × (code ≤ 66) × (code ≢ 55) × (code ≢ 61)
+-- both gates and the selector look at a variable D
+abbrev pub needs_d : DeviceCode → Bool
+needs_d Gate = true
+needs_d GateAbove = true
+needs_d Delay = false
+needs_d DelayedPulse = false
+needs_d Table = false
+needs_d Window = false
+needs_d Integral = false
+needs_d Derivative = false
+needs_d Selector = true
+needs_d SampleHold = false
+needs_d Extreme = false
+needs_d PeakHold = false
+needs_d Counter = false
+needs_d EffectiveValue = false
 
-abbrev pub NeedsD : ℕ → Type 0
-NeedsD code = (code ≡ 51) ⊎ (code ≡ 52) ⊎ (code ≡ 60)
-
--- A is a time for the delays 53 and 54, and a frequency for the effective value 66
-pub record HasRangeOfA (code : ℕ) (a : ℤ) : Type 0 where
+-- A is a time for both delays, and a frequency for the effective value
+pub record HasRangeOfA (code : DeviceCode) (a : ℤ) : Type 0 where
   pub small : unsigned_abs a ≤ 10 ^ 18
-  pub delay : 53 ≤ code → code ≤ 54 → pos 0 ≤ℤ a
-  pub frequency : code ≡ 66 → IsBetween 1 (10 ^ 13) a
+  pub delay : code ≡ Delay → pos 0 ≤ℤ a
+  pub delayed_pulse : code ≡ DelayedPulse → pos 0 ≤ℤ a
+  pub frequency : code ≡ EffectiveValue → IsBetween 1 (10 ^ 13) a
 
 -- the points of a table: 2 to 64, with rising inputs
 pub record IsTable (points : List Point) : Type 0 where
@@ -122,7 +136,6 @@ pub record AreTimes (points : List Point) : Type 0 where
 pub record IsDeviceCard (vars : ℕ) (x : Device) : Type 0 where
   pub own : 6 ≤ x.var
   pub there : x.var < vars
-  pub code : IsDeviceCode x.code
   pub few_inputs : length x.inputs ≤ 5
   pub inputs : All (λ (i : Input). i.var < vars) x.inputs
   pub a : HasRangeOfA x.code x.a
@@ -130,13 +143,13 @@ pub record IsDeviceCard (vars : ℕ) (x : Device) : Type 0 where
   pub c : unsigned_abs x.c ≤ 10 ^ 18
   pub d : ForSome x.d (λ v. v < vars)
   pub e : ForSome x.e (λ v. v < vars)
-  pub required : NeedsD x.code → IsSome x.d
+  pub required : IsTrue (needs_d x.code) → IsSome x.d
 
 -- the points that a device of this code has: a table, times, or none
-pub record HasDevicePoints (code : ℕ) (points : List Point) : Type 0 where
-  pub table : code ≡ 56 → IsTable points
-  pub times : code ≡ 57 → AreTimes points
-  pub none : code ≢ 56 → code ≢ 57 → points ≡ []
+pub record HasDevicePoints (code : DeviceCode) (points : List Point) : Type 0 where
+  pub table : code ≡ Table → IsTable points
+  pub times : code ≡ Window → AreTimes points
+  pub none : code ≢ Table → code ≢ Window → points ≡ []
 
 -- a device among so many variables, whose points are among these
 pub record IsDevice (vars : ℕ) (all : List Point) (x : Device) : Type 0 where
@@ -147,19 +160,13 @@ pub record IsDevice (vars : ℕ) (all : List Point) (x : Device) : Type 0 where
 
 -- Formulas
 
--- the places in a tree are below a number, and its numbers are kept ones
-abbrev pub FitsPlaces : ℕ → Expr → Type 0
-FitsPlaces places (Number x) = unsigned_abs x ≤ 10 ^ 18
-FitsPlaces places (Var at) = at < places
-FitsPlaces places (Unary' op p a) = FitsPlaces places a
-FitsPlaces places (Binary' op p a q b) = FitsPlaces places a × FitsPlaces places b
-
 -- a formula among so many variables; its own isn't a standing one
 pub record IsFormula (vars : ℕ) (x : Formula) : Type 0 where
   pub own : 6 ≤ x.var
   pub there : x.var < vars
   pub names : All (λ v. v < vars) x.vars
-  pub tree : FitsPlaces (length x.vars) x.expr
+  pub nodes : All (FitsPlaces (length x.vars)) x.expr
+  pub whole : IsWhole x.expr
 
 abbrev pub IsExtra : ℕ → List Point → Extra → Type 0
 IsExtra vars points (OfDevice x) = IsDevice vars points x

@@ -4,9 +4,10 @@ pub mod RunData
 pub mod Branch
 pub mod Switch
 pub mod Source
+pub mod Expr
 pub mod Control
 pub mod Channel
-pub mod History
+pub mod HistoryValues
 pub mod Case
 pub mod OneProof
 pub mod Node

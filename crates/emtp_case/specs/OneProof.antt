@@ -2,7 +2,8 @@
 use Rattle.emtp_case.specs.Branch.{IsBranch}
 use Rattle.emtp_case.specs.Case.{IsCase, IsDraft}
 use Rattle.emtp_case.specs.Channel.{IsChannel}
-use Rattle.emtp_case.specs.Control.{FitsPlaces, IsBound, IsExtra}
+use Rattle.emtp_case.specs.Control.{IsBound, IsExtra}
+use Rattle.emtp_case.specs.Expr.{FitsPlaces}
 use Rattle.emtp_case.specs.Source.{HasShapeNumbers, IsControlShape, IsNetworkShape}
 use Rattle.emtp_case.specs.Switch.{IsSwitchKind}
 use Rattle.emtp_case.specs.declared.branch.Branch.{Branch}
@@ -15,21 +16,22 @@ use Rattle.emtp_case.specs.declared.control.Bound.{Bound}
 use Rattle.emtp_case.specs.declared.control.Bound.TheVariants.{Fixed, Named, None as NoBound}
 use Rattle.emtp_case.specs.declared.control.Extra.{Extra}
 use Rattle.emtp_case.specs.declared.control.Extra.TheVariants.{Device as OfDevice, Formula as OfFormula}
-use Rattle.emtp_case.specs.declared.expr.Expr.{Expr}
-use Rattle.emtp_case.specs.declared.expr.Expr.TheVariants.{Binary', Number, Unary', Var}
+use Rattle.emtp_case.specs.declared.expr.Node.{Node}
+use Rattle.emtp_case.specs.declared.expr.Node.TheVariants.{Binary, Number, Unary, Var}
 use Rattle.emtp_case.specs.declared.run_data.RunData.{RunData}
 use Rattle.emtp_case.specs.declared.source.Shape.{Shape}
 use Rattle.emtp_case.specs.declared.source.Shape.TheVariants.{Cosine, NodeVoltage, Pulse, Ramp, Saw, Step, SwitchCurrent, SwitchStatus, Tacs}
+use Rattle.emtp_case.specs.declared.source.Source.{Source}
 use Rattle.emtp_case.specs.declared.switch.SwitchKind.{SwitchKind}
 use Rattle.emtp_case.specs.declared.switch.SwitchKind.TheVariants.{Control, Measuring, Time, Valve}
 use Rattle.std.proofs.Props.{props}
 use Rattle.std.specs.Prelude.{List, ℕ}
 
-FitsPlaces-prop : (places : ℕ) (e : Expr) → IsProp (FitsPlaces places e)
+FitsPlaces-prop : (places : ℕ) (node : Node) → IsProp (FitsPlaces places node)
 FitsPlaces-prop places (Number x) = hlevel props
 FitsPlaces-prop places (Var at) = hlevel props
-FitsPlaces-prop places (Unary' op p a) = FitsPlaces-prop places a
-FitsPlaces-prop places (Binary' op p a q b) = hlevel (props, FitsPlaces-prop places a, FitsPlaces-prop places b)
+FitsPlaces-prop places (Unary op) = hlevel props
+FitsPlaces-prop places (Binary op) = hlevel props
 
 IsBranch-prop : (run : RunData) (nodes trios : ℕ) (points : List Point) (b : Branch) → IsProp (IsBranch run nodes trios points b)
 IsBranch-prop run nodes trios points (OfLumped b) = hlevel props
@@ -43,16 +45,16 @@ IsSwitchKind-prop vars Measuring = hlevel props
 IsSwitchKind-prop vars (Valve ignition holding control) = hlevel props
 IsSwitchKind-prop vars (Control control) = hlevel props
 
-HasShapeNumbers-prop : (s : Shape) → IsProp (HasShapeNumbers s)
-HasShapeNumbers-prop Step = hlevel props
-HasShapeNumbers-prop (Ramp rise) = hlevel props
-HasShapeNumbers-prop (Cosine freq phase) = hlevel props
-HasShapeNumbers-prop (Tacs var) = hlevel props
-HasShapeNumbers-prop (Pulse period width) = hlevel props
-HasShapeNumbers-prop (Saw period) = hlevel props
-HasShapeNumbers-prop (NodeVoltage node) = hlevel props
-HasShapeNumbers-prop (SwitchCurrent switch) = hlevel props
-HasShapeNumbers-prop (SwitchStatus switch) = hlevel props
+HasShapeNumbers-prop : (s : Source) (shape : Shape) → IsProp (HasShapeNumbers s shape)
+HasShapeNumbers-prop s Step = hlevel props
+HasShapeNumbers-prop s (Ramp rise) = hlevel props
+HasShapeNumbers-prop s (Cosine freq phase) = hlevel props
+HasShapeNumbers-prop s (Tacs var) = hlevel props
+HasShapeNumbers-prop s (Pulse period width) = hlevel props
+HasShapeNumbers-prop s (Saw period) = hlevel props
+HasShapeNumbers-prop s (NodeVoltage node) = hlevel props
+HasShapeNumbers-prop s (SwitchCurrent switch) = hlevel props
+HasShapeNumbers-prop s (SwitchStatus switch) = hlevel props
 
 IsNetworkShape-prop : (vars : ℕ) (s : Shape) → IsProp (IsNetworkShape vars s)
 IsNetworkShape-prop vars Step = hlevel props

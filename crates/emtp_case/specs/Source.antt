@@ -4,26 +4,32 @@ use Rattle.emtp_case.specs.declared.source.Shape.{Shape}
 use Rattle.emtp_case.specs.declared.source.Shape.TheVariants.{Cosine, NodeVoltage, Pulse, Ramp, Saw, Step, SwitchCurrent, SwitchStatus, Tacs}
 use Rattle.emtp_case.specs.declared.source.Source.{Source}
 use Rattle.std.specs.Option.{ForSome}
-use Rattle.std.specs.Prelude.{◌≡◌, ◌-◌, ◌^◌, ◌<◌, ◌≤◌, ◌==◌, ◌&&◌, Bool, List, Some, false, not, slice_get, unsigned_abs, ℕ}
+use Rattle.std.specs.Prelude.{◌≡◌, ◌-◌, ◌^◌, ◌<◌, ◌≤◌, ◌==◌, ◌&&◌, Bool, List, None, Some, false, not, pos, slice_get, unsigned_abs, ℕ}
 
--- the numbers of a shape, whatever it refers to
-abbrev pub HasShapeNumbers : Shape → Type 0
-HasShapeNumbers Step = Unit {0}
-HasShapeNumbers (Ramp rise) = IsBetween 1 (10 ^ 18) rise
-HasShapeNumbers (Cosine freq phase) = IsBetween 0 (10 ^ 13) freq × IsBetween 0 (10 ^ 18 - 1) phase
-HasShapeNumbers (Tacs var) = Unit {0}
-HasShapeNumbers (Pulse period width) = IsBetween 1 (10 ^ 18) period × IsBetween 1 (10 ^ 18) width
-HasShapeNumbers (Saw period) = IsBetween 1 (10 ^ 18) period
-HasShapeNumbers (NodeVoltage node) = Unit {0}
-HasShapeNumbers (SwitchCurrent switch) = Unit {0}
-HasShapeNumbers (SwitchStatus switch) = Unit {0}
+-- a source whose value is measured in the network: its card has no amplitude, and it is active at all times
+pub record IsMeasured (s : Source) : Type 0 where
+  pub amplitude : s.amplitude ≡ pos 0
+  pub start : s.start ≡ pos 0
+  pub stop : s.stop ≡ None
+
+-- the numbers of a source of this shape, whatever it refers to; what its card doesn't read is 0
+abbrev pub HasShapeNumbers : Source → Shape → Type 0
+HasShapeNumbers s Step = Unit {0}
+HasShapeNumbers s (Ramp rise) = IsBetween 1 (10 ^ 18) rise
+HasShapeNumbers s (Cosine freq phase) = IsBetween 0 (10 ^ 13) freq × IsBetween 0 (10 ^ 18 - 1) phase
+HasShapeNumbers s (Tacs var) = s.amplitude ≡ pos 0
+HasShapeNumbers s (Pulse period width) = IsBetween 1 (10 ^ 18) period × IsBetween 1 (10 ^ 18) width
+HasShapeNumbers s (Saw period) = IsBetween 1 (10 ^ 18) period
+HasShapeNumbers s (NodeVoltage node) = IsMeasured s
+HasShapeNumbers s (SwitchCurrent switch) = IsMeasured s
+HasShapeNumbers s (SwitchStatus switch) = IsMeasured s
 
 -- the numbers of a source, whatever it refers to
 pub record HasSourceNumbers (s : Source) : Type 0 where
   pub amplitude : unsigned_abs s.amplitude ≤ 10 ^ 18
   pub start : unsigned_abs s.start ≤ 10 ^ 18
   pub stop : ForSome s.stop (IsBetween 1 (10 ^ 18))
-  pub shape : HasShapeNumbers s.shape
+  pub shape : HasShapeNumbers s s.shape
 
 -- a shape of the network's sources, among so many variables
 abbrev pub IsNetworkShape : ℕ → Shape → Type 0
@@ -56,10 +62,11 @@ pub record IsSource (nodes vars : ℕ) (s : Source) : Type 0 where
   pub numbers : HasSourceNumbers s
   pub shape : IsNetworkShape vars s.shape
 
--- a source of the control; its variable isn't a standing one
+-- a source of the control; its variable isn't a standing one, and it brings no current into a node
 pub record IsTacsSource (nodes vars switches : ℕ) (s : Source) : Type 0 where
   pub own : 6 ≤ s.node
   pub there : s.node < vars
+  pub no_current : s.current ≡ false
   pub numbers : HasSourceNumbers s
   pub shape : IsControlShape nodes switches s.shape
 

@@ -1,9 +1,13 @@
 -- The record of a step, and the records of a run.
 use Rattle.emtp_case.specs.declared.branch.Branch.{Branch}
 use Rattle.emtp_case.specs.declared.branch.Branch.TheVariants.{Line as OfLine, Lumped as OfLumped, Phase as OfPhase, Pseudo as OfPseudo}
+use Rattle.emtp_case.specs.declared.branch.LineState.{LineState}
 use Rattle.emtp_case.specs.declared.branch.LumpedState.{LumpedState}
+use Rattle.emtp_case.specs.declared.branch.PhaseState.{PhaseState}
+use Rattle.emtp_case.specs.declared.branch.PseudoState.{PseudoState}
 use Rattle.emtp_case.specs.declared.case.Parts.{Parts}
-use Rattle.emtp_case.specs.declared.control.Block.{Block}
+use Rattle.emtp_case.specs.declared.control.BlockState.{BlockState}
+use Rattle.emtp_case.specs.declared.control.DeviceState.{DeviceState}
 use Rattle.emtp_case.specs.declared.control.Limiter.{Limiter}
 use Rattle.emtp_case.specs.declared.control.Limiter.TheVariants.{Free}
 use Rattle.emtp_case.specs.declared.switch.Switch.{Switch}
@@ -11,32 +15,11 @@ use Rattle.emtp_case.specs.declared.switch.SwitchKind.{SwitchKind}
 use Rattle.emtp_case.specs.declared.switch.SwitchKind.TheVariants.{Control, Measuring, Time, Valve}
 use Rattle.emtp_case.specs.declared.switch.SwitchState.{SwitchState}
 use Rattle.emtp_case.specs.declared.switch.SwitchState.TheVariants.{Closed, Opened, Waiting}
-use Rattle.std.specs.Prelude.{◌+◌, ◌∷◌, if◌then◌else◌, [], Bool, List, false, int_lt, length, map, pos, replicate, slice_index_or, true, ℕ, ℤ}
+use Rattle.std.specs.Prelude.{◌+◌, ◌-◌, if◌then◌else◌, [], Bool, List, false, int_lt, length, map, pos, replicate, slice_index_or, true, ℕ, ℤ}
 
 -- Lists of records go newest first: the head is the last record, and the record k steps before it stands at place k.
 
 -- What the laws keep of a branch
-
--- both ends of a single line: the current into the line, and the wave w that leaves it
-pub record LineState : Type 0 where
-  pub from_current : ℤ
-  pub to_current : ℤ
-  pub from_wave : ℤ
-  pub to_wave : ℤ
-
--- both ends of a phase, with the wave w1 of its own; phase 0 has the waves w0 of the zero sequence besides
-pub record PhaseState : Type 0 where
-  pub from_current : ℤ
-  pub to_current : ℤ
-  pub from_wave : ℤ
-  pub to_wave : ℤ
-  pub from_zero_wave : ℤ
-  pub to_zero_wave : ℤ
-
-pub record PseudoState : Type 0 where
-  pub current : ℤ
-  pub segment : ℤ
-  pub flux : ℤ
 
 pub data BranchState : Type 0 where
   LumpedBranch : LumpedState → BranchState
@@ -45,7 +28,7 @@ pub data BranchState : Type 0 where
   PhaseBranch : PhaseState → BranchState
 
 abbrev pub no_lumped : LumpedState
-no_lumped = record { current = pos 0; v_l = pos 0; v_c = pos 0; e = pos 0 }
+no_lumped = record { current = pos 0; v_l = pos 0; v_c = pos 0; history_voltage = pos 0 }
 
 abbrev pub no_line : LineState
 no_line = record { from_current = pos 0; to_current = pos 0; from_wave = pos 0; to_wave = pos 0 }
@@ -96,16 +79,12 @@ current_of (PhaseBranch s) = s.from_current
 
 -- What the control keeps
 
--- the limiter, E(0) to E(N-1), and Y(1) to Y(N)
-pub record BlockState : Type 0 where
-  pub limiter : Limiter
-  pub errors : List ℤ
-  pub chain : List ℤ
+-- past the order of a block its errors and its chain are 0 in each record
+abbrev pub no_block : BlockState
+no_block = record { limiter = Free; errors = replicate 8 (pos 0); chain = replicate 8 (pos 0) }
 
--- s and y
-pub record DeviceState : Type 0 where
-  pub input : ℤ
-  pub output : ℤ
+abbrev pub no_device : DeviceState
+no_device = record { input = pos 0; output = pos 0 }
 
 -- Records
 
@@ -124,13 +103,13 @@ pub record StepRecord : Type 0 where
 abbrev pub before_start : StepRecord
 before_start = record { voltages = []; branches = []; switch_states = []; switch_currents = []; values = []; blocks = []; devices = [] }
 
-abbrev pub latest : List StepRecord → StepRecord
-latest [] = before_start
-latest (r ∷ H) = r
-
 -- the record so many steps before the last one
 abbrev pub record_back : List StepRecord → ℕ → StepRecord
 record_back H k = slice_index_or H k before_start
+
+-- the last record; where one more follows it, it is the record one step before that one
+abbrev pub latest : List StepRecord → StepRecord
+latest H = record_back H 0
 
 abbrev pub voltage_at : ℕ → StepRecord → ℤ
 voltage_at node r = slice_index_or r.voltages node (pos 0)
@@ -140,6 +119,10 @@ value_at var r = slice_index_or r.values var (pos 0)
 
 abbrev pub switch_current_at : ℕ → StepRecord → ℤ
 switch_current_at switch r = slice_index_or r.switch_currents switch (pos 0)
+
+-- before record 0 each switch is open
+abbrev pub switch_state_at : ℕ → StepRecord → SwitchState
+switch_state_at switch r = slice_index_or r.switch_states switch Waiting
 
 abbrev pub lumped_at : ℕ → StepRecord → LumpedState
 lumped_at branch r = slice_index_or (map lumped_of r.branches) branch no_lumped
@@ -155,6 +138,23 @@ phase_state_at branch r = slice_index_or (map phase_state_of r.branches) branch 
 
 abbrev pub branch_current_at : ℕ → StepRecord → ℤ
 branch_current_at branch r = slice_index_or (map current_of r.branches) branch (pos 0)
+
+abbrev pub block_at : ℕ → StepRecord → BlockState
+block_at block r = slice_index_or r.blocks block no_block
+
+abbrev pub limiter_at : ℕ → StepRecord → Limiter
+limiter_at block r = (block_at block r).limiter
+
+-- E(j), from j = 0
+abbrev pub error_at : ℕ → ℕ → StepRecord → ℤ
+error_at j block r = slice_index_or (block_at block r).errors j (pos 0)
+
+-- Y(j), from j = 1
+abbrev pub chain_at : ℕ → ℕ → StepRecord → ℤ
+chain_at j block r = slice_index_or (block_at block r).chain (j - 1) (pos 0)
+
+abbrev pub device_at : ℕ → StepRecord → DeviceState
+device_at extra r = slice_index_or r.devices extra no_device
 
 -- Record 0
 
@@ -176,9 +176,6 @@ branch_at_rest (OfLine b) = LineBranch no_line
 branch_at_rest (OfPseudo b) = PseudoBranch no_pseudo
 branch_at_rest (OfPhase b) = PhaseBranch no_phase
 
-abbrev pub block_at_rest : Block → BlockState
-block_at_rest b = record { limiter = Free; errors = replicate b.order (pos 0); chain = replicate b.order (pos 0) }
-
 -- the record of rest: all numbers are 0, and each switch has its starting state
 abbrev pub rest_of : Parts → StepRecord
 rest_of p = record {
@@ -187,6 +184,6 @@ rest_of p = record {
   switch_states = map (λ (s : Switch). starting_state s.kind) p.switches;
   switch_currents = replicate (length p.switches) (pos 0);
   values = replicate (length p.vars) (pos 0);
-  blocks = map block_at_rest p.blocks;
-  devices = replicate (length p.extras) (record { input = pos 0; output = pos 0 });
+  blocks = replicate (length p.blocks) no_block;
+  devices = replicate (length p.extras) no_device;
 }

@@ -30,7 +30,7 @@ pub struct LumpedState {
     /// The voltage of the capacitance, in nV: to 10^18 in magnitude.
     pub v_c: i64,
     /// The voltage that drives the history current of the next step, in nV: to 10^18 in magnitude.
-    pub e: i64,
+    pub history_voltage: i64,
 }
 
 /// A single travelling-wave line, with its losses lumped at the two ends and in the middle.
@@ -50,6 +50,20 @@ pub struct Line {
     pub delay: i64,
 }
 
+/// What a single line keeps of a step: of both ends the current, and the wave that leaves the end and comes to the
+/// other one a travel time later.
+#[derive(Clone, Copy, PartialEq, Eq)]
+pub struct LineState {
+    /// The current that enters the line at `from`, in nA: to 10^18 in magnitude.
+    pub from_current: i64,
+    /// The current that enters the line at `to`, in nA: to 10^18 in magnitude.
+    pub to_current: i64,
+    /// The wave that leaves the end at `from`, in nA: to 10^18 in magnitude.
+    pub from_wave: i64,
+    /// The wave that leaves the end at `to`, in nA: to 10^18 in magnitude.
+    pub to_wave: i64,
+}
+
 /// A pseudo-nonlinear branch: its characteristic is a chain of straight segments, mirrored at the origin.
 #[derive(Clone, Copy, PartialEq, Eq)]
 pub struct Pseudo {
@@ -65,6 +79,17 @@ pub struct Pseudo {
     pub first: u32,
     /// The number of its points: from 1 to 64.
     pub count: u32,
+}
+
+/// What a pseudo-nonlinear branch keeps of a step.
+#[derive(Clone, Copy, PartialEq, Eq)]
+pub struct PseudoState {
+    /// The branch current, in nA: to 10^18 in magnitude.
+    pub current: i64,
+    /// The segment that the next step uses: from -63 to 63.
+    pub segment: i32,
+    /// The flux, in pWb: to 10^18 in magnitude; 0 for a resistor.
+    pub flux: i64,
 }
 
 /// A point of a characteristic, of a table or of a list of times.
@@ -91,6 +116,24 @@ pub struct Phase {
     pub trio: u32,
     /// The number of the phase: 0, 1 or 2.
     pub phase: u8,
+}
+
+/// What one phase of a three-phase line keeps of a step: of both ends the current and the wave of the positive sequence.
+/// Phase 0 keeps the waves of the zero sequence besides, which all three phases share.
+#[derive(Clone, Copy, PartialEq, Eq)]
+pub struct PhaseState {
+    /// The current that enters the phase at `from`, in nA: to 10^18 in magnitude.
+    pub from_current: i64,
+    /// The current that enters the phase at `to`, in nA: to 10^18 in magnitude.
+    pub to_current: i64,
+    /// The wave of the positive sequence that leaves the end at `from`, in nA: to 10^18 in magnitude.
+    pub from_wave: i64,
+    /// The wave of the positive sequence that leaves the end at `to`, in nA: to 10^18 in magnitude.
+    pub to_wave: i64,
+    /// The wave of the zero sequence that leaves the ends at `from`, in nA: to 10^18 in magnitude; of phases 1 and 2 0.
+    pub from_zero_wave: i64,
+    /// The wave of the zero sequence that leaves the ends at `to`, in nA: to 10^18 in magnitude; of phases 1 and 2 0.
+    pub to_zero_wave: i64,
 }
 
 /// The modes of a transposed three-phase line: at place 0 the zero sequence, at place 1 the positive sequence.

@@ -7,7 +7,7 @@ ghost use Rattle.emtp_case.specs.Range.{AreEnds};
 ghost use Rattle.emtp_case.specs.Case.{IsDraft, DefinesEach, HasNoControl, empty_parts, phase_branches, standing_names};
 ghost use Rattle.emtp_case.specs.Channel.{IsChannel};
 ghost use Rattle.emtp_case.specs.Control.{IsBlock, IsDeviceCard, HasDevicePoints, IsFormula};
-ghost use Rattle.emtp_case.specs.History.{history_of, branch_history, trio_history, device_history};
+ghost use Rattle.emtp_case.specs.HistoryValues.{history_values_of, branch_history_values, trio_history_values, device_history_values};
 ghost use Rattle.emtp_case.specs.OneProof.{IsDraft-prop};
 ghost use Rattle.emtp_case.specs.RunData.{IsRun, samples_of};
 ghost use Rattle.emtp_case.specs.Source.{IsSource, IsTacsSource, is_voltage_source_at};
@@ -93,7 +93,7 @@ impl Draft {
         requires room { length self.old.parts.branches < 5000 }
         requires single { IsSingle branch }
         requires fits { IsBranch self.old.parts.run (length self.old.parts.nodes) (length self.old.parts.trios) self.old.parts.points branch }
-        requires history { history_of self.old.parts + branch_history self.old.parts.run.dt branch ≤ 2000000 }
+        requires history { history_values_of self.old.parts + branch_history_values self.old.parts.run.dt branch ≤ 2000000 }
         ensures ok { OnOk result (self.new.parts ≡ record self.old.parts { branches = self.old.parts.branches ++ branch ∷ [] }) }
         ensures err { OnErr result (self.new ≡ self.old) }
     {
@@ -133,7 +133,7 @@ impl Draft {
         requires b { AreEnds (length self.old.parts.nodes) b.from b.to }
         requires c { AreEnds (length self.old.parts.nodes) c.from c.to }
         requires modes { IsTrio self.old.parts.run modes }
-        requires history { history_of self.old.parts + trio_history self.old.parts.run.dt modes ≤ 2000000 }
+        requires history { history_values_of self.old.parts + trio_history_values self.old.parts.run.dt modes ≤ 2000000 }
         ensures ok { OnOk result (self.new.parts ≡ record self.old.parts { branches = self.old.parts.branches ++ phase_branches (length self.old.parts.trios) a b c; trios = self.old.parts.trios ++ record modes { first = length self.old.parts.branches } ∷ [] }) }
         ensures err { OnErr result (self.new ≡ self.old) }
     {
@@ -226,7 +226,7 @@ impl Draft {
         requires card { IsDeviceCard (length self.old.parts.vars) device }
         requires few { length points.now ≤ 64 }
         requires points { HasDevicePoints device.code points.now }
-        requires history { history_of self.old.parts + device_history self.old.parts.run.dt device.code device.a ≤ 2000000 }
+        requires history { history_values_of self.old.parts + device_history_values self.old.parts.run.dt device.code device.a ≤ 2000000 }
         ensures ok { OnOk result (self.new.parts ≡ record self.old.parts { points = self.old.parts.points ++ points.now; extras = self.old.parts.extras ++ Extra.Device (record device { first = length self.old.parts.points; count = length points.now }) ∷ [] }) }
         ensures err { OnErr result (self.new ≡ self.old) }
     {

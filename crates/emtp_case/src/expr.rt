@@ -1,17 +1,21 @@
-//! The expressions of formulas, as trees. Parentheses and a leading `+` make no node.
+//! The expressions of formulas, in postfix order. Parentheses and a leading `+` make no node.
 
-/// An expression over the variables of a formula.
-#[derive(Drop)]
-pub enum Expr {
+/// A node of an expression. An expression is the list of its nodes in postfix order: an operator stands after what
+/// it works on, so `A + B*2.` is A, B, 2, `*`, `+`. Such a list is read from left to right over a stack of values.
+#[derive(Clone, Copy, PartialEq, Eq)]
+pub enum Node {
     /// A number, in nano: from 0 to 10^18.
     Number(i64),
     /// The value of a variable, by its place among the formula's variables.
     Var(u32),
-    /// An operator or a function of one value.
-    Unary(UnaryOp, Box<Expr>),
-    /// An operator between two values.
-    Binary(BinaryOp, Box<Expr>, Box<Expr>),
+    /// An operator or a function of the value on top.
+    Unary(UnaryOp),
+    /// An operator between the two values on top; the upper one is its right side.
+    Binary(BinaryOp),
 }
+
+/// The most values of an expression that wait at once: five at each of 17 levels of parentheses, and one.
+pub const MOST_VALUES: usize = 86;
 
 /// The operators and functions of one value.
 #[derive(Clone, Copy, PartialEq, Eq)]

@@ -27,12 +27,18 @@ mod run_data;
 mod source;
 mod switch;
 
-pub use branch::{Branch, Line, Lumped, LumpedState, Phase, Point, Pseudo, Trio};
+pub use branch::{
+    Branch, Line, LineState, Lumped, LumpedState, Phase, PhaseState, Point, Pseudo, PseudoState,
+    Trio,
+};
 pub use case::{Case, Parts};
 pub use channel::Channel;
-pub use control::{Block, Bound, Device, Extra, Formula, Group, Input, Limiter};
+pub use control::{
+    Block, BlockState, Bound, Device, DeviceCode, DeviceState, Extra, Formula, Group, Input,
+    Limiter,
+};
 pub use draft::Draft;
-pub use expr::{BinaryOp, Expr, UnaryOp};
+pub use expr::{BinaryOp, MOST_VALUES, Node, UnaryOp};
 pub use items::Items;
 pub use name::Name;
 pub use row_kind::RowKind;

@@ -21,11 +21,11 @@ pub record IsKept (s : LumpedState) : Type 0 where
   pub current_small : unsigned_abs s.current ≤ 10 ^ 18
   pub v_l_small : unsigned_abs s.v_l ≤ 10 ^ 18
   pub v_c_small : unsigned_abs s.v_c ≤ 10 ^ 18
-  pub e_small : unsigned_abs s.e ≤ 10 ^ 18
+  pub e_small : unsigned_abs s.history_voltage ≤ 10 ^ 18
 
 -- J = g*e', the history current of the next step
 abbrev pub history_of : SeriesLaw → LumpedState → ℤ
-history_of law old = near (law.g *ℤ old.e) (pos (10 ^ 12))
+history_of law old = near (law.g *ℤ old.history_voltage) (pos (10 ^ 12))
 
 -- i = g*v + J
 abbrev pub current_of : SeriesLaw → LumpedState → ℤ → ℤ
@@ -60,7 +60,7 @@ next_state law old v = do
   v_l ← kept (v_l_of law old i)
   v_c ← kept (v_c_of law old i)
   e ← kept (e_of law i v_l v_c)
-  Some (record { current = i; v_l = v_l; v_c = v_c; e = e })
+  Some (record { current = i; v_l = v_l; v_c = v_c; history_voltage = e })
 
 -- a branch without inductance and capacitance
 pub record IsResistor (law : SeriesLaw) : Type 0 where
@@ -71,8 +71,8 @@ pub record IsResistor (law : SeriesLaw) : Type 0 where
 pub record HasNoSource (s : LumpedState) : Type 0 where
   pub no_v_l : s.v_l ≡ pos 0
   pub no_v_c : s.v_c ≡ pos 0
-  pub no_e : s.e ≡ pos 0
+  pub no_e : s.history_voltage ≡ pos 0
 
 -- a current alone, where it is in range
 abbrev pub current_alone : ℤ → Option LumpedState
-current_alone i = kept i >>= (λ i. Some (record { current = i; v_l = pos 0; v_c = pos 0; e = pos 0 }))
+current_alone i = kept i >>= (λ i. Some (record { current = i; v_l = pos 0; v_c = pos 0; history_voltage = pos 0 }))

@@ -32,7 +32,7 @@ pub(crate) fn next(law: &SeriesLaw, old: &LumpedState, v: i64) -> Option<LumpedS
         current,
         v_l,
         v_c,
-        e,
+        history_voltage: e,
     })
 }
 
@@ -43,7 +43,7 @@ pub(crate) fn history(law: &SeriesLaw, old: &LumpedState) -> i128
     ensures value { result ≡ history_of law.now old.now }
     ensures bound { unsigned_abs result ≤ 10 ^ 30 }
 {
-    scaled(law.g, old.e, PICO)
+    scaled(law.g, old.history_voltage, PICO)
 }
 
 fn current(law: &SeriesLaw, old: &LumpedState, v: i64) -> i128

@@ -31,9 +31,8 @@ impl<'a> Model for Lumps<'a> {
     ghost Value = { Lumping };
 
     ghost use Rattle.std.specs.Coded.{codes};
-    ghost use Rattle.emtp_case.specs.contracts.expr.Expr as expr;
 
-    ghost coded = { Prim.hlevel (codes, expr.the_row.coded) };
+    ghost coded = { Prim.hlevel codes };
 
     ghost view = { λ s. record { case = s.case.now.parts; states = s.states.items } };
 
@@ -121,7 +120,7 @@ const REST: LumpedState = LumpedState {
     current: 0,
     v_l: 0,
     v_c: 0,
-    e: 0,
+    history_voltage: 0,
 };
 
 fn at_rest(alloc: Global, count: usize) -> Result<Vec<LumpedState>, AllocError>
