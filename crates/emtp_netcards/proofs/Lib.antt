@@ -1,0 +1,2 @@
+pub mod Impedances
+pub mod Lines

@@ -1,0 +1,61 @@
+-- Fields that several cards share.
+use Rattle.std.specs.Prelude.{ℕ, ℤ, pos, Bool, true, false, List, Option, Some, None, Result, Ok, Err, if◌then◌else◌}
+use Rattle.std.specs.Ordering.{int_eq}
+use Rattle.std.specs.Result.{result_unwrap_or}
+use Rattle.std.specs.Str.{bytes_eq}
+use Rattle.emtp_card.specs.Fault.{filled_with}
+use Rattle.emtp_card.specs.Name.{name_field}
+use Rattle.emtp_card.specs.Number.{number_field}
+use Rattle.emtp_card.specs.Whole.{whole_field}
+use Rattle.emtp_card.specs.declared.fault.Fault.{Fault}
+use Rattle.emtp_card.specs.declared.reason.Why.{Why}
+use Rattle.emtp_card.specs.declared.reason.Why.TheVariants.{BadName, OutOfUnitRange}
+
+-- a number field that can't be blank
+abbrev pub required : {A : Type 0} → Result (Option A) Why → Result A Why
+required (Ok None) = Err OutOfUnitRange
+required (Ok (Some x)) = Ok x
+required (Err why) = Err why
+
+-- a name that can't be blank
+abbrev pub needed : Result (Option (List ℕ)) Why → Result (List ℕ) Why
+needed (Ok None) = Err BadName
+needed (Ok (Some name)) = Ok name
+needed (Err why) = Err why
+
+-- a name, where none is ground; a refused one doesn't matter
+abbrev pub name_or_ground : List ℕ → ℕ → Option (List ℕ)
+name_or_ground line first = result_unwrap_or (name_field line first) None
+
+abbrev pub is_same_name : Option (List ℕ) → Option (List ℕ) → Bool
+is_same_name (Some a) (Some b) = bytes_eq a b
+is_same_name (Some a) None = false
+is_same_name None (Some b) = false
+is_same_name None None = true
+
+-- the two ends differ, also where both are ground
+abbrev pub ends_fault : Result (Option (List ℕ)) Why → Result (Option (List ℕ)) Why → Option Fault
+ends_fault (Ok a) (Ok b) = if is_same_name a b then Some (record { column = 9; why = BadName }) else None
+ends_fault (Ok a) (Err why) = None
+ends_fault (Err why) b = None
+
+-- column 80: 0 nothing, 1 the current, 2 the voltage, 3 both
+abbrev pub asked_of : ℤ → Result ℕ Why
+asked_of n =
+    if int_eq n (pos 0) then Ok 0
+    else if int_eq n (pos 1) then Ok 1
+    else if int_eq n (pos 2) then Ok 2
+    else if int_eq n (pos 3) then Ok 3
+    else Err OutOfUnitRange
+
+abbrev pub asked_in : Result (Option ℤ) Why → Result ℕ Why
+asked_in (Ok None) = Ok 0
+asked_in (Ok (Some n)) = asked_of n
+asked_in (Err why) = Err why
+
+abbrev pub asked_field : List ℕ → Result ℕ Why
+asked_field line = asked_in (whole_field line 80 80)
+
+-- a field that is 0 or blank
+abbrev pub zero_field : List ℕ → ℕ → ℕ → Result ℤ Why
+zero_field line first last = filled_with (pos 0) (number_field line first last (pos 0) (pos 0) (pos 0))

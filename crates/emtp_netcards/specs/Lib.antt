@@ -1,0 +1,5 @@
+pub mod Fields
+pub mod RunCards
+pub mod SeriesValues
+pub mod LineValues
+pub mod BranchCard

@@ -1,0 +1,116 @@
+//! Fields that several cards share.
+
+ghost use Rattle.std.specs.Prelude.{◌≡◌, ◌^◌, ◌≤◌, ◌≤ℤ◌, pos, neg_ℤ, IfOk, IfSome};
+ghost use Rattle.emtp_card.specs.Fault.{filled_with};
+ghost use Rattle.emtp_card.specs.Name.{name_field};
+ghost use Rattle.emtp_card.specs.Number.{IsWithin, held_field, number_field};
+ghost use Rattle.emtp_netcards.specs.Fields.{asked_field, asked_of, ends_fault, is_same_name, needed, required};
+
+use emtp_card::{Fault, Why, field_held, field_name, field_number, field_whole};
+use emtp_case::Name;
+
+/// A number field that can't be blank, which is `OutOfUnitRange`; columns, scale, range and reasons are those of
+/// `field_number`.
+pub fn required(
+    line: &[u8],
+    first: usize,
+    last: usize,
+    scale: i32,
+    low: i64,
+    high: i64,
+) -> Result<i64, Why>
+    requires first { 1 ≤ first }
+    requires order { first ≤ last }
+    requires last { last ≤ 80 }
+    requires scale_low { pos 0 ≤ℤ scale }
+    requires scale_high { scale ≤ℤ pos 18 }
+    requires range { low ≤ℤ high }
+    ensures value { result ≡ required (number_field line.now first last scale low high) }
+    ensures range { IfOk result (IsWithin low high) }
+{
+    match field_number(line, first, last, scale, low, high) {
+        Ok(Some(value)) => Ok(value),
+        Ok(None) => Err(Why::OutOfUnitRange),
+        Err(why) => Err(why),
+    }
+}
+
+/// The name in six columns that can't be blank, which is `BadName`.
+pub fn needed_name(line: &[u8], first: usize) -> Result<Name, Why>
+    requires low { 1 ≤ first }
+    requires high { first ≤ 75 }
+    ensures { result ≡ needed (name_field line.now first) }
+{
+    match field_name(line, first) {
+        Ok(Some(name)) => Ok(name),
+        Ok(None) => Err(Why::BadName),
+        Err(why) => Err(why),
+    }
+}
+
+/// A time in ps that is held to 10^18 in magnitude, or a least time of 0; a blank is 0.
+pub fn held_time(line: &[u8], first: usize, last: usize, low: i64) -> Result<i64, Why>
+    requires first { 1 ≤ first }
+    requires order { first ≤ last }
+    requires last { last ≤ 80 }
+    requires low { low ≤ℤ pos 0 }
+    ensures value { result ≡ filled_with (pos 0) (held_field line.now first last (pos 12) low (pos (10 ^ 18))) }
+    ensures range { IfOk result (IsWithin low (pos (10 ^ 18))) }
+{
+    match field_held(line, first, last, 12, low, 1_000_000_000_000_000_000) {
+        Ok(Some(value)) => Ok(value),
+        Ok(None) => Ok(0),
+        Err(why) => Err(why),
+    }
+}
+
+/// What column 80 asks for: 0 or a blank nothing, 1 the current, 2 the voltage, 3 both.
+pub(crate) fn asked(line: &[u8]) -> Result<u8, Why>
+    ensures value { result ≡ asked_field line.now }
+    ensures few { IfOk result (λ asked. asked ≤ 3) }
+{
+    match field_whole(line, 80, 80) {
+        Ok(None) => Ok(0),
+        Ok(Some(number)) => asked_of(number),
+        Err(why) => Err(why),
+    }
+}
+
+fn asked_of(number: i64) -> Result<u8, Why>
+    ensures value { result ≡ asked_of number }
+    ensures few { IfOk result (λ asked. asked ≤ 3) }
+{
+    match number {
+        0 => Ok(0),
+        1 => Ok(1),
+        2 => Ok(2),
+        3 => Ok(3),
+        _ => Err(Why::OutOfUnitRange),
+    }
+}
+
+/// The two ends differ, also where both are ground.
+pub(crate) fn ends_fault(
+    from: &Result<Option<Name>, Why>,
+    to: &Result<Option<Name>, Why>,
+) -> Option<Fault>
+    ensures { result ≡ ends_fault from.now to.now }
+{
+    match (from, to) {
+        (Ok(from), Ok(to)) if is_same_name(from, to) => Some(Fault {
+            column: 9,
+            why: Why::BadName,
+        }),
+        _ => None,
+    }
+}
+
+fn is_same_name(a: &Option<Name>, b: &Option<Name>) -> bool
+    ensures { result ≡ is_same_name a.now b.now }
+{
+    match (a, b) {
+        (Some(a), Some(b)) => a == b,
+        (None, None) => true,
+        _ => false,
+    }
+}
