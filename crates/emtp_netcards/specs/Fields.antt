@@ -1,11 +1,11 @@
 -- Fields that several cards share.
-use Rattle.std.specs.Prelude.{ℕ, ℤ, pos, Bool, true, false, List, Option, Some, None, Result, Ok, Err, if◌then◌else◌}
+use Rattle.std.specs.Prelude.{ℕ, ◌^◌, ◌≤◌, ℤ, pos, neg_ℤ, unsigned_abs, Bool, true, false, List, Option, Some, None, Result, Ok, Err, if◌then◌else◌}
 use Rattle.std.specs.Ordering.{int_eq}
 use Rattle.std.specs.Result.{result_unwrap_or}
 use Rattle.std.specs.Str.{bytes_eq}
 use Rattle.emtp_card.specs.Fault.{filled_with}
 use Rattle.emtp_card.specs.Name.{name_field}
-use Rattle.emtp_card.specs.Number.{number_field}
+use Rattle.emtp_card.specs.Number.{held_field, number_field}
 use Rattle.emtp_card.specs.Whole.{whole_field}
 use Rattle.emtp_card.specs.declared.fault.Fault.{Fault}
 use Rattle.emtp_card.specs.declared.reason.Why.{Why}
@@ -22,6 +22,17 @@ abbrev pub needed : Result (Option (List ℕ)) Why → Result (List ℕ) Why
 needed (Ok None) = Err BadName
 needed (Ok (Some name)) = Ok name
 needed (Err why) = Err why
+
+-- a number of either sign, to 10^18 in magnitude, of which a blank is 0
+abbrev pub signed_number : List ℕ → ℕ → ℕ → ℤ → Result ℤ Why
+signed_number line first last scale = filled_with (pos 0) (number_field line first last scale (neg_ℤ (pos (10 ^ 18))) (pos (10 ^ 18)))
+
+-- a time in seconds, held to 10^18 ps in magnitude
+abbrev pub held_time : List ℕ → ℕ → ℕ → Result (Option ℤ) Why
+held_time line first last = held_field line first last (pos 12) (neg_ℤ (pos (10 ^ 18))) (pos (10 ^ 18))
+
+abbrev pub IsSmall : ℤ → Type 0
+IsSmall value = unsigned_abs value ≤ 10 ^ 18
 
 -- a name, where none is ground; a refused one doesn't matter
 abbrev pub name_or_ground : List ℕ → ℕ → Option (List ℕ)

@@ -3,3 +3,7 @@ pub mod RunCards
 pub mod SeriesValues
 pub mod LineValues
 pub mod BranchCard
+pub mod SwitchCard
+pub mod SourceCard
+pub mod OutputCard
+pub mod VintageCard

@@ -1,13 +1,16 @@
 //! Fields that several cards share.
 
-ghost use Rattle.std.specs.Prelude.{◌≡◌, ◌^◌, ◌≤◌, ◌≤ℤ◌, pos, neg_ℤ, IfOk, IfSome};
+ghost use Rattle.std.specs.Prelude.{◌≡◌, ◌≤◌, ◌≤ℤ◌, pos, IfOk};
+ghost use Rattle.std.specs.Option.{ForSome};
 ghost use Rattle.emtp_card.specs.Fault.{filled_with};
 ghost use Rattle.emtp_card.specs.Name.{name_field};
-ghost use Rattle.emtp_card.specs.Number.{IsWithin, held_field, number_field};
-ghost use Rattle.emtp_netcards.specs.Fields.{asked_field, asked_of, ends_fault, is_same_name, needed, required};
+ghost use Rattle.emtp_card.specs.Number.{IsWithin, number_field};
+ghost use Rattle.emtp_netcards.specs.Fields.{IsSmall, asked_field, asked_of, ends_fault, held_time, is_same_name, needed, required, signed_number};
 
-use emtp_card::{Fault, Why, field_held, field_name, field_number, field_whole};
+use emtp_card::{Fault, Why, field_held, field_name, field_number, field_whole, number_or};
 use emtp_case::Name;
+
+const EXA: i64 = 1_000_000_000_000_000_000;
 
 /// A number field that can't be blank, which is `OutOfUnitRange`; columns, scale, range and reasons are those of
 /// `field_number`.
@@ -48,16 +51,39 @@ pub fn needed_name(line: &[u8], first: usize) -> Result<Name, Why>
     }
 }
 
-/// A time in ps that is held to 10^18 in magnitude, or a least time of 0; a blank is 0.
-pub fn held_time(line: &[u8], first: usize, last: usize, low: i64) -> Result<i64, Why>
+/// A number field of either sign, to 10^18 in magnitude, of which a blank is 0.
+pub fn signed_number(line: &[u8], first: usize, last: usize, scale: i32) -> Result<i64, Why>
     requires first { 1 ≤ first }
     requires order { first ≤ last }
     requires last { last ≤ 80 }
-    requires low { low ≤ℤ pos 0 }
-    ensures value { result ≡ filled_with (pos 0) (held_field line.now first last (pos 12) low (pos (10 ^ 18))) }
-    ensures range { IfOk result (IsWithin low (pos (10 ^ 18))) }
+    requires scale_low { pos 0 ≤ℤ scale }
+    requires scale_high { scale ≤ℤ pos 18 }
+    ensures value { result ≡ signed_number line.now first last scale }
+    ensures small { IfOk result IsSmall }
 {
-    match field_held(line, first, last, 12, low, 1_000_000_000_000_000_000) {
+    number_or(0, line, first, last, scale, -EXA, EXA)
+}
+
+/// A time in seconds that is held to 10^18 ps in magnitude.
+pub fn held_time(line: &[u8], first: usize, last: usize) -> Result<Option<i64>, Why>
+    requires first { 1 ≤ first }
+    requires order { first ≤ last }
+    requires last { last ≤ 80 }
+    ensures value { result ≡ held_time line.now first last }
+    ensures small { IfOk result (λ field. ForSome field IsSmall) }
+{
+    field_held(line, first, last, 12, -EXA, EXA)
+}
+
+/// The same, of which a blank is 0.
+pub fn held_time_or_zero(line: &[u8], first: usize, last: usize) -> Result<i64, Why>
+    requires first { 1 ≤ first }
+    requires order { first ≤ last }
+    requires last { last ≤ 80 }
+    ensures value { result ≡ filled_with (pos 0) (held_time line.now first last) }
+    ensures small { IfOk result IsSmall }
+{
+    match held_time(line, first, last) {
         Ok(Some(value)) => Ok(value),
         Ok(None) => Ok(0),
         Err(why) => Err(why),

@@ -17,9 +17,17 @@ mod branch_card;
 mod fields;
 mod impedance;
 mod line_values;
+mod output_card;
 mod run_cards;
 mod series_values;
+mod source_card;
+mod switch_card;
+mod vintage_card;
 
 pub use branch_card::{BranchCard, BranchValues, branch};
-pub use fields::{held_time, needed_name, required};
+pub use fields::{held_time, held_time_or_zero, needed_name, required, signed_number};
+pub use output_card::{OutputCard, names, names_fault, outputs};
 pub use run_cards::{FirstCard, first_card, run_data, second_card, tolerance};
+pub use source_card::{SourceCard, cosine_fault, cosine_shape, source, stop};
+pub use switch_card::{SwitchCard, switch};
+pub use vintage_card::vintage;
