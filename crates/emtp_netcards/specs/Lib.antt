@@ -7,3 +7,4 @@ pub mod SwitchCard
 pub mod SourceCard
 pub mod OutputCard
 pub mod VintageCard
+pub mod PointCard
