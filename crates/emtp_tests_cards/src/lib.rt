@@ -7,3 +7,5 @@
 
 #[cfg(test)]
 mod card;
+#[cfg(test)]
+mod netcards;

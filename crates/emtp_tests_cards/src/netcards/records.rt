@@ -1,0 +1,276 @@
+//! The record of a card of each kind. The numbers are worked out by hand.
+
+ghost use Rattle.std.specs.Prelude.{◌<◌, ◌≤◌, length};
+
+use emtp_card::Line;
+use emtp_case::{Name, Point, RunData, Shape, SwitchKind};
+use emtp_netcards::*;
+
+const RUN: RunData = RunData {
+    dt: 100_000_000,
+    steps: 3,
+    every: 1,
+    tolerance: 10_000_000,
+};
+
+const BRANCHES: &[(&str, bool, BranchValues)] = &[
+    (
+        "  SRC   MID                  1.0   2.5   0.5",
+        false,
+        BranchValues::Lumped {
+            r: 1_000_000,
+            l: 2_500_000,
+            c: 500_000_000,
+        },
+    ),
+    (
+        "  SRC   MID                            1.0                            0.5",
+        true,
+        BranchValues::Lumped {
+            r: 1_000_000,
+            l: 0,
+            c: 500_000_000,
+        },
+    ),
+    (
+        "-1SRC   MID                  .1   1.0   .01   90.",
+        false,
+        BranchValues::Line {
+            zc: 316_227_766,
+            r: 9_000_000,
+            delay: 284_604_989,
+        },
+    ),
+    (
+        "-2SRC   MID                       400.2.9E+5  100. 1",
+        false,
+        BranchValues::Second {
+            zc: 400_000_000,
+            r: 0,
+            delay: 344_827_586,
+        },
+    ),
+    ("-3SRC   MID   rest isn't read", false, BranchValues::Third),
+    ("98SRC   MID", false, BranchValues::Reactor),
+    (
+        "99SRC   MID   A     B      x",
+        false,
+        BranchValues::Resistor,
+    ),
+    (
+        "-1SRC   MID   A     B      x",
+        false,
+        BranchValues::Line {
+            zc: 0,
+            r: 0,
+            delay: 0,
+        },
+    ),
+];
+
+#[test]
+fn branches(rt: HostRuntime) {
+    for (text, wide, values) in BRANCHES {
+        let line = Line {
+            number: 4,
+            bytes: text.as_bytes(),
+        };
+        assert!(rt; line.bytes.len() < 100);
+        let Ok(card) = branch(line, &RUN, *wide) else {
+            assert!(rt; false, "refused: {text}");
+            return;
+        };
+        assert_eq!(rt; card.values, *values, "at {text}");
+        assert_eq!(rt; card.line, 4);
+        assert_eq!(rt; card.asked, 0);
+    }
+}
+
+#[test]
+fn miscellaneous_cards(rt: HostRuntime) {
+    let first = Line {
+        number: 2,
+        bytes: b"  50.E-6     .02",
+    };
+    let second = Line {
+        number: 3,
+        bytes: b"       1      20",
+    };
+    let read = run_data(first, second);
+    assert!(rt;
+        read == Ok(RunData {
+            dt: 50_000_000,
+            steps: 400,
+            every: 20,
+            tolerance: 10_000_000
+        })
+    );
+}
+
+const SWITCHES: &[(&str, SwitchKind)] = &[
+    (
+        "  SRC   MID       .002",
+        SwitchKind::Time {
+            close: 2_000_000_000,
+            open_at: None,
+            margin: 0,
+        },
+    ),
+    (
+        "  SRC   MID        -1.      .006       1.5",
+        SwitchKind::Time {
+            close: -1_000_000_000_000,
+            open_at: Some(6_000_000_000),
+            margin: 1_500_000_000,
+        },
+    ),
+    (
+        "11SRC   MID        10.       .05                              FIRE",
+        SwitchKind::Valve {
+            ignition: 10_000_000_000,
+            holding: 50_000_000,
+            control: Some(0),
+        },
+    ),
+];
+
+#[test]
+fn switches(rt: HostRuntime) {
+    for (text, kind) in SWITCHES {
+        let line = Line {
+            number: 4,
+            bytes: text.as_bytes(),
+        };
+        assert!(rt; line.bytes.len() < 100);
+        let Ok(card) = switch(line) else {
+            assert!(rt; false, "refused: {text}");
+            return;
+        };
+        assert!(rt; card.kind == *kind, "at {text}");
+    }
+}
+
+const SHAPES: &[(&str, bool, Shape)] = &[
+    ("11SRC        100.", false, Shape::Step),
+    (
+        "12SRC   -1   100.              1.E-3",
+        true,
+        Shape::Ramp {
+            rise: 1_000_000_000,
+        },
+    ),
+    (
+        "14SRC        100.       50.       90.",
+        false,
+        Shape::Cosine {
+            freq: 50_000_000,
+            phase: 250_000_000_000_000_000,
+        },
+    ),
+    (
+        "14SRC        100.       50.      -90.",
+        false,
+        Shape::Cosine {
+            freq: 50_000_000,
+            phase: 750_000_000_000_000_000,
+        },
+    ),
+    ("60SRC           x", false, Shape::Tacs { var: 0 }),
+];
+
+#[test]
+fn sources(rt: HostRuntime) {
+    for (text, current, shape) in SHAPES {
+        let line = Line {
+            number: 4,
+            bytes: text.as_bytes(),
+        };
+        assert!(rt; line.bytes.len() < 100);
+        let Ok(card) = source(line) else {
+            assert!(rt; false, "refused: {text}");
+            return;
+        };
+        assert!(rt; card.shape == *shape, "at {text}");
+        assert_eq!(rt; card.current, *current, "at {text}");
+        assert_eq!(rt; card.stop, None);
+        assert_eq!(rt; card.name.as_slice(), b"SRC".as_slice());
+    }
+}
+
+const POINTS: &[(&str, PointScale, Option<Point>)] = &[
+    (
+        "             1.0             2.0",
+        PointScale::Reactor,
+        Some(Point {
+            current: 1_000_000_000,
+            other: 2_000_000_000_000,
+        }),
+    ),
+    (
+        "            -1.0             2.0",
+        PointScale::Table,
+        Some(Point {
+            current: -1_000_000_000,
+            other: 2_000_000_000,
+        }),
+    ),
+    (
+        "         9.999E3 and what follows",
+        PointScale::Resistor,
+        None,
+    ),
+    ("            9999", PointScale::Times, None),
+];
+
+#[test]
+fn points(rt: HostRuntime) {
+    for (text, scale, wanted) in POINTS {
+        let line = Line {
+            number: 4,
+            bytes: text.as_bytes(),
+        };
+        assert!(rt; line.bytes.len() < 100);
+        assert!(rt; point(line, *scale) == Ok(*wanted), "at {text}");
+    }
+}
+
+fn asks_for_all(bytes: &[u8]) -> bool
+    requires { length bytes.now ≤ 100 }
+{
+    matches!(outputs(Line { number: 4, bytes }), Ok(OutputCard::All))
+}
+
+/// The name at a place among the 13 names.
+fn name_at(bytes: &[u8], place: usize) -> Option<Name>
+    requires bytes { length bytes.now ≤ 100 }
+    requires place { place < 13 }
+{
+    match outputs(Line { number: 4, bytes }) {
+        Ok(OutputCard::Names(names)) => names[place],
+        Ok(OutputCard::All) | Err(_) => None,
+    }
+}
+
+#[test]
+fn output_cards(rt: HostRuntime) {
+    assert!(rt; asks_for_all(b" 1 A,B"));
+    let names = b"  SRC         MID";
+    assert!(rt; !asks_for_all(names));
+    assert!(rt; name_at(names, 0) == Some(Name::new(b"SRC")));
+    assert!(rt; name_at(names, 1).is_none());
+    assert!(rt; name_at(names, 2) == Some(Name::new(b"MID")));
+}
+
+#[test]
+fn vintage_cards(rt: HostRuntime) {
+    let wide = Line {
+        number: 4,
+        bytes: b"$VINTAGE, 1",
+    };
+    assert_eq!(rt; vintage(wide), Some(Ok(true)));
+    let branch = Line {
+        number: 4,
+        bytes: b"  SRC         MID",
+    };
+    assert_eq!(rt; vintage(branch), None);
+}
