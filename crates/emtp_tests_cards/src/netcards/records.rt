@@ -1,8 +1,9 @@
 //! The record of a card of each kind. The numbers are worked out by hand.
 
 ghost use Rattle.std.specs.Prelude.{◌<◌, ◌≤◌, length};
+ghost use Rattle.emtp_case.specs.RunData.{IsRun};
 
-use emtp_card::Line;
+use emtp_card::{Line, MAX_BYTES};
 use emtp_case::{Name, Point, RunData, Shape, SwitchKind};
 use emtp_netcards::*;
 
@@ -273,4 +274,31 @@ fn vintage_cards(rt: HostRuntime) {
         bytes: b"  SRC         MID",
     };
     assert_eq!(rt; vintage(branch), None);
+}
+
+fn resistance_in(values: BranchValues) -> Option<i64> {
+    match values {
+        BranchValues::Lumped { r, .. } => Some(r),
+        _ => None,
+    }
+}
+
+/// The resistance of a series branch's card, in micro-ohm, where it has one of its own.
+fn resistance(line: Line<'_>, run: &RunData) -> Option<i64>
+    requires short { length line.bytes.now ≤ MAX_BYTES }
+    requires run { IsRun run.now }
+{
+    match branch(line, run, false) {
+        Ok(card) => resistance_in(card.values),
+        Err(_) => None,
+    }
+}
+
+#[test]
+fn the_resistance_of_a_card(rt: HostRuntime) {
+    let line = Line {
+        number: 4,
+        bytes: b"  SRC   MID                  1.0",
+    };
+    assert_eq!(rt; resistance(line, &RUN), Some(1_000_000));
 }
