@@ -1,5 +1,2 @@
-pub mod Characteristics
 pub mod Composed
-pub mod Definitions
-pub mod Histories
 pub mod Lawful

@@ -10,8 +10,6 @@ mod cabinet;
 #[cfg(test)]
 mod cards;
 #[cfg(test)]
-mod case;
-#[cfg(test)]
 mod kept_factor;
 #[cfg(test)]
 mod past_values;
