@@ -1,7 +1,10 @@
 -- Bounds on what the law of a series branch computes.
 use Rattle.std.proofs.Common.{◌≡◌, ◌∙◌, ap, ℕ, ◌+◌, ◌*◌, ◌^◌, ◌<◌, ◌≤◌, ⊎_elim, ℤ, pos, ◌+ℤ◌, ◌*ℤ◌, ◌≤ℤ◌, unsigned_abs, refl, arith}
 use Rattle.std.proofs.lemmas.Bool.{cases_lt}
+use Rattle.std.proofs.lemmas.Bool.Decides.{Decides-int_eq}
 use Rattle.std.proofs.lemmas.Int.{ints}
+use Rattle.std.specs.Ordering.{int_eq}
+use Rattle.std.specs.Prelude.{◌≢◌, if◌then◌else◌, Bool, true, false}
 use Rattle.std.proofs.Math.Nat.{mul-le-mul_right}
 use Rattle.emtp_case.specs.Branch.{HasSeriesNumbers, inductor_impedance, capacitor_impedance, series_impedance}
 use Rattle.emtp_case.specs.Range.{IsBetween}
@@ -37,30 +40,43 @@ pub inductor-nonneg : (dt l : ℤ) → IsBetween 1000 (10 ^ 12) dt → IsBetween
 inductor-nonneg dt l h h' = near-nonneg (pos (2 * 10 ^ 9) *ℤ l) dt (omega (arith, ints, h'.least)) (omega (arith, ints, h.least))
 
 pub capacitor-nonneg : (dt c : ℤ) → IsBetween 1000 (10 ^ 12) dt → IsBetween 0 (10 ^ 15) c → pos 0 ≤ℤ capacitor_impedance dt c
-capacitor-nonneg dt c h h' = near-nonneg (dt *ℤ pos (10 ^ 9)) (pos 2 *ℤ c) (omega (arith, ints, h.least)) (omega (arith, ints, h'.least))
+unfolding capacitor_impedance
+capacitor-nonneg dt c h h' = either (int_eq c (pos 0))
+  where
+    either : (none : Bool) → pos 0 ≤ℤ (if none then pos 0 else near (dt *ℤ pos (10 ^ 9)) (pos 2 *ℤ c))
+    either true = omega (arith, ints)
+    either false = near-nonneg (dt *ℤ pos (10 ^ 9)) (pos 2 *ℤ c) (omega (arith, ints, h.least)) (omega (arith, ints, h'.least))
 
 -- the parts of an impedance are no larger than the whole
 pub record AreSmall (dt : ℤ) (b : Lumped) : Type 0 where
   pub inductor : unsigned_abs (inductor_impedance dt b.l) ≤ 10 ^ 15
   pub capacitor : unsigned_abs (capacitor_impedance dt b.c) ≤ 10 ^ 15
 
-pub parts_small : (dt : ℤ) (b : Lumped) → IsBetween 1000 (10 ^ 12) dt → HasSeriesNumbers dt b → AreSmall dt b
+pub parts_small : (dt : ℤ) (b : Lumped) → IsBetween 1000 (10 ^ 12) dt → HasSeriesNumbers dt b.r b.l b.c → AreSmall dt b
 parts_small dt b step h =
-    let whole : series_impedance dt b ≡ b.r +ℤ inductor_impedance dt b.l +ℤ capacitor_impedance dt b.c = refl in
-    let z_l = inductor-nonneg dt b.l step h.l in
-    let z_c = capacitor-nonneg dt b.c step h.c in
+    let whole : series_impedance dt b.r b.l b.c ≡ b.r +ℤ inductor_impedance dt b.l +ℤ capacitor_impedance dt b.c = refl in
+    let z_l = inductor-nonneg dt b.l step h.inductance in
+    let z_c = capacitor-nonneg dt b.c step h.capacitance in
     record {
-      inductor = omega (arith, ints, whole, h.impedance.most, h.r.least, z_l, z_c);
-      capacitor = omega (arith, ints, whole, h.impedance.most, h.r.least, z_l, z_c);
+      inductor = omega (arith, ints, whole, h.impedance.most, h.resistance.least, z_l, z_c);
+      capacitor = omega (arith, ints, whole, h.impedance.most, h.resistance.least, z_l, z_c);
     }
 
-pub law_of-IsLaw : (dt : ℤ) (b : Lumped) → IsBetween 1000 (10 ^ 12) dt → HasSeriesNumbers dt b → IsLaw (law_of dt b)
+pub law_of-IsLaw : (dt : ℤ) (b : Lumped) → IsBetween 1000 (10 ^ 12) dt → HasSeriesNumbers dt b.r b.l b.c → IsLaw (law_of dt b)
 law_of-IsLaw dt b step h =
     let small = parts_small dt b step h in
-    record { conductance = conductance_small (series_impedance dt b) h.impedance; inductor = small.inductor; capacitor = small.capacitor }
+    record { conductance = conductance_small (series_impedance dt b.r b.l b.c) h.impedance; inductor = small.inductor; capacitor = small.capacitor }
 
 -- an absent capacitance has no impedance
 pub capacitor-none : (dt : ℤ) → IsBetween 1000 (10 ^ 12) dt → capacitor_impedance dt (pos 0) ≡ pos 0
-capacitor-none dt h =
-    let low : pos 0 ≤ℤ (dt *ℤ pos (10 ^ 9)) = omega (arith, ints, h.least) in
-    near-from_zero (dt *ℤ pos (10 ^ 9)) 0 low ∙ ap pos (near_abs-none (unsigned_abs (dt *ℤ pos (10 ^ 9))))
+unfolding capacitor_impedance
+capacitor-none dt h = refl
+
+-- that of a capacitance
+pub capacitor-some : (dt c : ℤ) → c ≢ pos 0 → capacitor_impedance dt c ≡ near (dt *ℤ pos (10 ^ 9)) (pos 2 *ℤ c)
+unfolding capacitor_impedance
+capacitor-some dt c some = either (int_eq c (pos 0)) (Decides-int_eq c (pos 0)).0
+  where
+    either : (none : Bool) → (none ≡ true → c ≡ pos 0) → (if none then pos 0 else near (dt *ℤ pos (10 ^ 9)) (pos 2 *ℤ c)) ≡ near (dt *ℤ pos (10 ^ 9)) (pos 2 *ℤ c)
+    either true is = absurd (some (is refl))
+    either false is = refl

@@ -6,6 +6,7 @@ use Rattle.std.proofs.lemmas.Option.{slice_get_within, get_or_from_slice_get}
 use Rattle.emtp_case.specs.Branch.{IsBranch}
 use Rattle.emtp_case.specs.Case.{IsCase}
 use Rattle.emtp_case.specs.Range.{IsBetween}
+use Rattle.emtp_case.specs.Sizes.{Sizes, sizes_of}
 use Rattle.emtp_case.specs.StepRecord.{no_lumped}
 use Rattle.emtp_case.specs.declared.branch.Branch.{Branch}
 use Rattle.emtp_case.specs.declared.branch.Branch.TheVariants.{Lumped as OfLumped, Line as OfLine, Pseudo as OfPseudo, Phase as OfPhase}
@@ -19,11 +20,11 @@ use Rattle.emtp_lumped.specs.Series.{law_of, IsLaw}
 use Rattle.emtp_lumped.specs.Lumping.{Lumping, IsHeld, IsSeries, StandsAt, HasLaw, law_at, newest}
 use Rattle.emtp_lumped.proofs.Bounds.{law_of-IsLaw}
 
-pub branch_has_law : (run : RunData) (nodes trios : ℕ) (points : List Point) (b : Branch) → IsBranch run nodes trios points b → HasLaw run.dt b
-branch_has_law run nodes trios points (OfLumped b) h = h.numbers
-branch_has_law run nodes trios points (OfLine b) h = tt
-branch_has_law run nodes trios points (OfPseudo b) h = tt
-branch_has_law run nodes trios points (OfPhase b) h = tt
+pub branch_has_law : (run : RunData) (n : Sizes) (points : List Point) (b : Branch) → IsBranch run n points b → HasLaw run.dt b
+branch_has_law run n points (OfLumped b) h = h.numbers
+branch_has_law run n points (OfLine b) h = tt
+branch_has_law run n points (OfPseudo b) h = tt
+branch_has_law run n points (OfPhase b) h = tt
 
 law_at-IsLaw : (dt : ℤ) → IsBetween 1000 (10 ^ 12) dt → (b : Branch) → HasLaw dt b → IsLaw (law_at dt b)
 law_at-IsLaw dt step (OfLumped b) h = law_of-IsLaw dt b step h
@@ -34,8 +35,8 @@ law_at-IsLaw dt step (OfPhase b) h = record { conductance = omega arith; inducto
 -- the laws of all branches of a case are in range
 pub laws_in_range : (p : Parts) → IsCase p → All IsLaw (map (law_at p.run.dt) p.branches)
 laws_in_range p h = All-map IsLaw (law_at p.run.dt) p.branches
-    (All-weaker (IsBranch p.run (length p.nodes) (length p.trios) p.points) (λ b. IsLaw (law_at p.run.dt b))
-    (λ b fits. law_at-IsLaw p.run.dt h.run.dt b (branch_has_law p.run (length p.nodes) (length p.trios) p.points b fits)) p.branches h.network.branches)
+    (All-weaker (IsBranch p.run (sizes_of p) p.points) (λ b. IsLaw (law_at p.run.dt b))
+    (λ b fits. law_at-IsLaw p.run.dt h.draft.run.dt b (branch_has_law p.run (sizes_of p) p.points b fits)) p.branches h.draft.network.branches)
 
 -- the law that an index read
 pub law_read : (case : Parts) (laws : List SeriesLaw) (states : List LumpedState) → IsHeld case laws states → (b : ℕ) (x : Lumped) (r : SeriesLaw) → IsSeries case b x → r ≡ get_or laws b r → r ≡ law_of case.run.dt x

@@ -55,7 +55,7 @@ law_at dt (OfPhase b) = record { g = pos 0; z_l = pos 0; z_c = pos 0 }
 
 -- the numbers that the law of a branch needs
 abbrev pub HasLaw : ℤ → Branch → Type 0
-HasLaw dt (OfLumped b) = HasSeriesNumbers dt b
+HasLaw dt (OfLumped b) = HasSeriesNumbers dt b.r b.l b.c
 HasLaw dt (OfLine b) = Unit {0}
 HasLaw dt (OfPseudo b) = Unit {0}
 HasLaw dt (OfPhase b) = Unit {0}

@@ -8,7 +8,7 @@ use Rattle.emtp_lumped.specs.declared.series.SeriesLaw.{SeriesLaw}
 
 -- g = 1/Z, zL and zC
 abbrev pub law_of : ℤ → Lumped → SeriesLaw
-law_of dt b = record { g = near (pos (10 ^ 18)) (series_impedance dt b); z_l = inductor_impedance dt b.l; z_c = capacitor_impedance dt b.c }
+law_of dt b = record { g = near (pos (10 ^ 18)) (series_impedance dt b.r b.l b.c); z_l = inductor_impedance dt b.l; z_c = capacitor_impedance dt b.c }
 
 -- the ranges of the numbers of a law
 pub record IsLaw (law : SeriesLaw) : Type 0 where

@@ -23,7 +23,7 @@ pub struct SeriesLaw {
 /// The law of a branch at a time step in ps.
 pub(crate) fn law(dt: i64, b: &Lumped) -> SeriesLaw
     requires dt { IsBetween 1000 (10 ^ 12) dt }
-    requires branch { HasSeriesNumbers dt b.now }
+    requires branch { HasSeriesNumbers dt b.now.r b.now.l b.now.c }
     ensures { result ≡ law_of dt b.now }
 {
     let z_l = narrow(inductor(dt, b.l));

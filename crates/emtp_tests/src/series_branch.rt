@@ -6,6 +6,7 @@ ghost use Rattle.emtp_case.specs.declared.branch.LumpedState.{LumpedState};
 ghost use Rattle.emtp_lumped.specs.Series.{law_of, next_state};
 ghost use Rattle.emtp_lumped.specs.Lumping.{IsSeries, StandsAt, Accepts, newest};
 ghost use Rattle.emtp_case.specs.Branch.{IsLumped};
+ghost use Rattle.emtp_case.specs.Sizes.{sizes_with};
 
 use emtp_case::{Branch, Case, Draft, Lumped, Name, RunData};
 use emtp_fix::OutOfRange;
@@ -45,7 +46,7 @@ fn two_branches(
 
 /// A case of one branch from SRC to ground.
 fn one_branch(alloc: Global, branch: Lumped) -> Result<Case, AllocError>
-    requires { IsLumped RUN 1 branch }
+    requires { IsLumped RUN (sizes_with 1) branch }
     ensures { IfOk result (λ case. case.parts.branches ≡ Branch.Lumped branch ∷ []) }
 {
     let mut draft = Draft::new(alloc, RUN)?;
@@ -57,7 +58,7 @@ fn one_branch(alloc: Global, branch: Lumped) -> Result<Case, AllocError>
 /// 1 ohm and 0.05 mH.
 #[tactic(auto, unfolding(emtp_fix::specs::Rounding::near, emtp_fix::specs::Rounding::near_abs))]
 fn coil() -> Lumped
-    ensures { IsLumped RUN 1 result }
+    ensures { IsLumped RUN (sizes_with 1) result }
 {
     Lumped {
         line: 4,
@@ -72,7 +73,7 @@ fn coil() -> Lumped
 /// 1 ohm and 50 microfarad.
 #[tactic(auto, unfolding(emtp_fix::specs::Rounding::near, emtp_fix::specs::Rounding::near_abs))]
 fn capacitor() -> Lumped
-    ensures { IsLumped RUN 1 result }
+    ensures { IsLumped RUN (sizes_with 1) result }
 {
     Lumped {
         line: 4,
@@ -87,7 +88,7 @@ fn capacitor() -> Lumped
 /// 10 ohm and 5 nH, whose companion is 100 micro-ohm.
 #[tactic(auto, unfolding(emtp_fix::specs::Rounding::near, emtp_fix::specs::Rounding::near_abs))]
 fn short_lead() -> Lumped
-    ensures { IsLumped RUN 1 result }
+    ensures { IsLumped RUN (sizes_with 1) result }
 {
     Lumped {
         line: 4,
@@ -101,7 +102,7 @@ fn short_lead() -> Lumped
 
 /// The currents of three steps at 100 V, in A; -1 where one is out of range.
 fn three_steps(alloc: Global, branch: Lumped) -> Result<[i64; 3], AllocError>
-    requires { IsLumped RUN 1 branch }
+    requires { IsLumped RUN (sizes_with 1) branch }
 {
     let case = one_branch(alloc, branch)?;
     let mut lumps = Lumps::open(alloc, &case)?;
