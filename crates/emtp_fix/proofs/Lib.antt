@@ -1,3 +1,6 @@
 pub mod Nearest
+pub mod Quotients
 pub mod Wide
+pub mod Roots
+pub mod Ranges
 pub mod Digits

@@ -155,7 +155,7 @@ rest-like (negsuc a) p m is above below = let sign = below (omega (arith, ints))
 rest-apart : (a b y : ℤ) → apart (unsigned_abs a) (unsigned_abs y * unsigned_abs b) ≤ rest a b y
 rest-apart a b y = omega (arith, ints, unsigned_abs-mul y b)
 
-some_magnitude : (b : ℤ) → b ≢ pos 0 → 0 < unsigned_abs b
+pub some_magnitude : (b : ℤ) → b ≢ pos 0 → 0 < unsigned_abs b
 some_magnitude (pos zero) h = absurd (h refl)
 some_magnitude (pos (suc b)) h = omega arith
 some_magnitude (negsuc b) h = omega (arith, ints)

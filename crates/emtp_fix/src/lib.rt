@@ -5,17 +5,25 @@
 //! on `itoa` alone, and all other crates stand on it.
 //!
 //! ```text
-//! near(7, 2) == 4          near(-7, 2) == -4       fit(12, 10) == None
-//! isqrt(17) == 4           print_fixed(1_500, 3, ..) writes "1.5"
+//! near(7, 2) == 4          near(-7, 2) == -4       scaled(3, PICO, 2) == 1_500_000_000_000
+//! fit(12, 10) == None      isqrt(17) == 4          print_fixed(1_500, 3, ..) writes "1.5"
 //! ```
 #![tactic(auto)]
 
 mod decimal;
 mod limit;
+mod product;
+mod quotient;
+mod root;
 mod rounding;
 mod steps;
 
 pub use decimal::print_fixed;
-pub use limit::{OutOfRange, fit, isqrt};
-pub use rounding::near;
+pub use limit::{
+    ATTO, LARGEST_ENTRY, LARGEST_IMPEDANCE, LARGEST_RATIO, LARGEST_VALUE, LARGEST_WIDE,
+    LEAST_IMPEDANCE, MICRO, NANO, OutOfRange, PICO, fit, in_range,
+};
+pub use product::scaled;
+pub use root::isqrt;
+pub use rounding::{near, near_by, word_of};
 pub use steps::Steps;

@@ -1,14 +1,10 @@
 // Rounding to the nearest whole number, a half away from zero.
-ghost use Rattle.std.specs.Prelude.{◌≡◌, ◌≢◌, ◌*◌, ◌+◌, ◌-◌, ◌/◌, ◌^◌, ◌<◌, ◌≤◌, ℕ, pos, unsigned_abs};
+ghost use Rattle.std.specs.Prelude.{true, ◌≡◌, ◌≢◌, ◌*◌, ◌+◌, ◌-◌, ◌/◌, ◌^◌, ◌<◌, ◌≤◌, ℕ, pos, unsigned_abs};
 ghost use Rattle.emtp_fix.specs.Rounding.{near, near_abs, IsNearest};
+ghost use Rattle.emtp_fix.specs.declared.limit.TheConstants.{LARGEST_WIDE, MICRO, NANO, PICO, ATTO};
 
-const MICRO: u64 = 1_000_000;
-
-const NANO: u64 = 1_000_000_000;
-
-const PICO: u64 = 1_000_000_000_000;
-
-const ATTO: u64 = 1_000_000_000_000_000_000;
+use crate::limit::{ATTO, MICRO, NANO, PICO};
+use crate::quotient::{guess, is_quotient, micro_quotient, nano_quotient, pico_quotient};
 
 /// `a / b`, rounded to the nearest whole number, a half away from zero.
 ///
@@ -16,8 +12,8 @@ const ATTO: u64 = 1_000_000_000_000_000_000;
 /// every product of the simulator has it, only divisions of 64 bits are made. This project's own rule.
 pub fn near(a: i128, b: i128) -> i128
     requires nonzero { b ≢ pos 0 }
-    requires small_a { unsigned_abs a ≤ 16 * 10 ^ 37 }
-    requires small_b { unsigned_abs b ≤ 16 * 10 ^ 37 }
+    requires small_a { unsigned_abs a ≤ LARGEST_WIDE }
+    requires small_b { unsigned_abs b ≤ LARGEST_WIDE }
     ensures value { result ≡ near a b }
     ensures nearest { IsNearest a b result }
     ensures bound { unsigned_abs result ≤ unsigned_abs a }
@@ -28,17 +24,17 @@ pub fn near(a: i128, b: i128) -> i128
 /// The same, by the cheapest way for `b`.
 fn rounded(a: i128, b: i128) -> i128
     requires nonzero { b ≢ pos 0 }
-    requires small_a { unsigned_abs a ≤ 16 * 10 ^ 37 }
-    requires small_b { unsigned_abs b ≤ 16 * 10 ^ 37 }
+    requires small_a { unsigned_abs a ≤ LARGEST_WIDE }
+    requires small_b { unsigned_abs b ≤ LARGEST_WIDE }
     ensures { result ≡ near a b }
 {
-    if b == i128::from(PICO) {
+    if b == PICO {
         near_pico(a)
-    } else if b == i128::from(MICRO) {
+    } else if b == MICRO {
         near_micro(a)
-    } else if b == i128::from(NANO) {
+    } else if b == NANO {
         near_nano(a)
-    } else if b == i128::from(ATTO) {
+    } else if b == ATTO {
         near_atto(a)
     } else {
         near_signed(a, b)
@@ -48,11 +44,19 @@ fn rounded(a: i128, b: i128) -> i128
 /// By one division of 128 bits.
 fn near_signed(a: i128, b: i128) -> i128
     requires nonzero { b ≢ pos 0 }
-    requires small_a { unsigned_abs a ≤ 16 * 10 ^ 37 }
-    requires small_b { unsigned_abs b ≤ 16 * 10 ^ 37 }
+    requires small_a { unsigned_abs a ≤ LARGEST_WIDE }
+    requires small_b { unsigned_abs b ≤ LARGEST_WIDE }
     ensures { result ≡ near a b }
 {
-    let magnitude = near_magnitude(a.unsigned_abs(), b.unsigned_abs());
+    signed(a, b, near_magnitude(a.unsigned_abs(), b.unsigned_abs()))
+}
+
+/// The magnitude of a quotient with the sign of the quotient.
+fn signed(a: i128, b: i128, magnitude: u128) -> i128
+    requires small { magnitude ≤ LARGEST_WIDE }
+    requires magnitude { magnitude ≡ near_abs (unsigned_abs a) (unsigned_abs b) }
+    ensures { result ≡ near a b }
+{
     if b < 0 {
         -with_sign_of(a, magnitude)
     } else {
@@ -62,8 +66,8 @@ fn near_signed(a: i128, b: i128) -> i128
 
 fn near_magnitude(a: u128, b: u128) -> u128
     requires nonzero { 0 < b }
-    requires small_a { a ≤ 16 * 10 ^ 37 }
-    requires small_b { b ≤ 16 * 10 ^ 37 }
+    requires small_a { a ≤ LARGEST_WIDE }
+    requires small_b { b ≤ LARGEST_WIDE }
     ensures value { result ≡ near_abs a b }
     ensures bound { result ≤ a }
 {
@@ -73,7 +77,7 @@ fn near_magnitude(a: u128, b: u128) -> u128
 }
 
 fn with_sign_of(a: i128, magnitude: u128) -> i128
-    requires { magnitude ≤ 16 * 10 ^ 37 }
+    requires { magnitude ≤ LARGEST_WIDE }
     ensures value { (d : ℕ) → magnitude ≡ near_abs (unsigned_abs a) d → result ≡ near a (pos d) }
     ensures bound { unsigned_abs result ≤ magnitude }
 {
@@ -85,89 +89,101 @@ fn with_sign_of(a: i128, magnitude: u128) -> i128
 }
 
 fn near_micro(a: i128) -> i128
-    requires { unsigned_abs a ≤ 16 * 10 ^ 37 }
-    ensures { result ≡ near a (pos (10 ^ 6)) }
+    requires { unsigned_abs a ≤ LARGEST_WIDE }
+    ensures { result ≡ near a MICRO }
 {
-    with_sign_of(a, micro_quotient(a.unsigned_abs() + u128::from(MICRO / 2)))
+    with_sign_of(a, micro_quotient(a.unsigned_abs() + MICRO as u128 / 2))
 }
 
 fn near_nano(a: i128) -> i128
-    requires { unsigned_abs a ≤ 16 * 10 ^ 37 }
-    ensures { result ≡ near a (pos (10 ^ 9)) }
+    requires { unsigned_abs a ≤ LARGEST_WIDE }
+    ensures { result ≡ near a NANO }
 {
-    with_sign_of(a, nano_quotient(a.unsigned_abs() + u128::from(NANO / 2)))
+    with_sign_of(a, nano_quotient(a.unsigned_abs() + NANO as u128 / 2))
 }
 
 fn near_pico(a: i128) -> i128
-    requires { unsigned_abs a ≤ 16 * 10 ^ 37 }
-    ensures { result ≡ near a (pos (10 ^ 12)) }
+    requires { unsigned_abs a ≤ LARGEST_WIDE }
+    ensures { result ≡ near a PICO }
 {
-    with_sign_of(a, pico_quotient(a.unsigned_abs() + u128::from(PICO / 2)))
+    with_sign_of(a, pico_quotient(a.unsigned_abs() + PICO as u128 / 2))
 }
 
 fn near_atto(a: i128) -> i128
-    requires { unsigned_abs a ≤ 16 * 10 ^ 37 }
-    ensures { result ≡ near a (pos (10 ^ 18)) }
+    requires { unsigned_abs a ≤ LARGEST_WIDE }
+    ensures { result ≡ near a ATTO }
 {
     with_sign_of(
         a,
-        micro_quotient(pico_quotient(a.unsigned_abs() + u128::from(ATTO / 2))),
+        micro_quotient(pico_quotient(a.unsigned_abs() + ATTO as u128 / 2)),
     )
 }
 
-// The quotients by long division. What is left after the powers of two are shifted out is written in
-// digits of so many bits that a remainder by the power of five and one digit fill 64 bits.
-
-/// `x / 10^6`.
-fn micro_quotient(x: u128) -> u128
-    requires { x < 2 ^ 128 - 1 }
-    ensures { result ≡ x / 10 ^ 6 }
-{
-    const FIVES: u64 = 15_625;
-    const DIGIT: u128 = 1 << 48;
-    if x <= u128::from(u64::MAX) {
-        return u128::from(x as u64 / MICRO);
+/// The word by which [`near_by`] divides by `b`: a 64-bit reciprocal of it, or 0 where `b` has more than 64 bits.
+///
+/// A divisor that is used often, as a pivot or a time step, has its word made once. By Moeller and Granlund 2011.
+pub fn word_of(b: i128) -> u64 {
+    let small = (b.unsigned_abs() % (1 << 64)) as u64;
+    if small == 0 {
+        return 0;
     }
-    let scaled = x / 64;
-    let high = scaled / DIGIT;
-    let top = (high / DIGIT) as u64;
-    let middle = top % FIVES * DIGIT as u64 + (high % DIGIT) as u64;
-    let low = middle % FIVES * DIGIT as u64 + (scaled % DIGIT) as u64;
-    (u128::from(top / FIVES) * DIGIT + u128::from(middle / FIVES)) * DIGIT + u128::from(low / FIVES)
+    let up = u128::from(small) << small.leading_zeros();
+    (u128::MAX / up % (1 << 64)) as u64
 }
 
-/// `x / 10^9`.
-fn nano_quotient(x: u128) -> u128
-    requires { x < 2 ^ 128 - 1 }
-    ensures { result ≡ x / 10 ^ 9 }
+/// `a / b`, rounded as by [`near`]: without a division where the quotient fits 64 bits and `word` is [`word_of`] `b`.
+///
+/// The word gives a guess, which is checked. With any other word the answer is the same, by a division of 128 bits.
+pub fn near_by(a: i128, b: i128, word: u64) -> i128
+    requires nonzero { b ≢ pos 0 }
+    requires small_a { unsigned_abs a ≤ LARGEST_WIDE }
+    requires small_b { unsigned_abs b ≤ LARGEST_WIDE }
+    ensures value { result ≡ near a b }
+    ensures nearest { IsNearest a b result }
+    ensures bound { unsigned_abs result ≤ unsigned_abs a }
 {
-    const FIVES: u64 = 1_953_125;
-    const DIGIT: u128 = 1 << 40;
-    if x <= u128::from(u64::MAX) {
-        return u128::from(x as u64 / NANO);
-    }
-    let scaled = x / 512;
-    let high = scaled / DIGIT;
-    let top = (high / DIGIT) as u64;
-    let middle = top % FIVES * DIGIT as u64 + (high % DIGIT) as u64;
-    let low = middle % FIVES * DIGIT as u64 + (scaled % DIGIT) as u64;
-    (u128::from(top / FIVES) * DIGIT + u128::from(middle / FIVES)) * DIGIT + u128::from(low / FIVES)
+    signed_by(a, b, word)
 }
 
-/// `x / 10^12`.
-fn pico_quotient(x: u128) -> u128
-    requires { x < 2 ^ 128 - 1 }
-    ensures { result ≡ x / 10 ^ 12 }
+fn signed_by(a: i128, b: i128, word: u64) -> i128
+    requires nonzero { b ≢ pos 0 }
+    requires small_a { unsigned_abs a ≤ LARGEST_WIDE }
+    requires small_b { unsigned_abs b ≤ LARGEST_WIDE }
+    ensures { result ≡ near a b }
 {
-    const FIVES: u64 = 244_140_625;
-    const DIGIT: u128 = 1 << 36;
-    if x <= u128::from(u64::MAX) {
-        return u128::from(x as u64 / PICO);
+    signed(
+        a,
+        b,
+        near_magnitude_by(a.unsigned_abs(), b.unsigned_abs(), word),
+    )
+}
+
+fn near_magnitude_by(a: u128, b: u128, word: u64) -> u128
+    requires nonzero { 0 < b }
+    requires small_a { a ≤ LARGEST_WIDE }
+    requires small_b { b ≤ LARGEST_WIDE }
+    ensures value { result ≡ near_abs a b }
+    ensures bound { result ≤ a }
+{
+    if b <= u128::from(u64::MAX) {
+        let x = a + b / 2;
+        let guess = u128::from(guess(x, b as u64, word));
+        if is_quotient(x, b, guess) {
+            return guess;
+        }
     }
-    let scaled = x / 4096;
-    let high = scaled / DIGIT;
-    let top = (high / DIGIT) as u64;
-    let middle = top % FIVES * DIGIT as u64 + (high % DIGIT) as u64;
-    let low = middle % FIVES * DIGIT as u64 + (scaled % DIGIT) as u64;
-    (u128::from(top / FIVES) * DIGIT + u128::from(middle / FIVES)) * DIGIT + u128::from(low / FIVES)
+    near_far(a, b)
+}
+
+/// Kept apart, since it is seldom called.
+#[cold]
+#[inline(never)]
+fn near_far(a: u128, b: u128) -> u128
+    requires nonzero { 0 < b }
+    requires small_a { a ≤ LARGEST_WIDE }
+    requires small_b { b ≤ LARGEST_WIDE }
+    ensures value { result ≡ near_abs a b }
+    ensures bound { result ≤ a }
+{
+    near_magnitude(a, b)
 }

@@ -1,0 +1,60 @@
+-- Laws of numbers that are kept in range, and of their chain.
+use Rattle.std.proofs.Common.{◌≡◌, ◌∙◌, ap, refl, ◌<◌, ◌≤◌, nat_le, ℤ, neg_ℤ, unsigned_abs, Option, Some, None, Bool, true, false, if◌then◌else◌, arith}
+use Rattle.std.proofs.lemmas.Bool.Decides.{nat_tests}
+use Rattle.std.proofs.lemmas.Int.{ints}
+use Rattle.emtp_fix.specs.Limit.{in_range, ◌>>=◌}
+use Rattle.emtp_fix.specs.declared.limit.TheConstants.{LARGEST_VALUE}
+
+pub in_range-some : (x : ℤ) → unsigned_abs x ≤ LARGEST_VALUE → in_range x ≡ Some x
+in_range-some x small = by_test (nat_le (unsigned_abs x) LARGEST_VALUE) (grind (arith, nat_tests))
+  where
+    by_test : (b : Bool) → b ≡ true → (if b then Some x else None) ≡ Some x
+    by_test true e = refl
+    by_test false e = absurd (cc)
+
+pub in_range-none : (x : ℤ) → LARGEST_VALUE < unsigned_abs x → in_range x ≡ None
+in_range-none x large = by_test (nat_le (unsigned_abs x) LARGEST_VALUE) (grind (arith, nat_tests))
+  where
+    by_test : (b : Bool) → b ≡ false → (if b then Some x else None) ≡ None
+    by_test false e = refl
+    by_test true e = absurd (cc)
+
+-- what is in range is the number itself
+pub in_range-is : (x y : ℤ) → in_range x ≡ Some y → y ≡ x
+in_range-is x y e = by_test (nat_le (unsigned_abs x) LARGEST_VALUE) e
+  where
+    by_test : (b : Bool) → (if b then Some x else None) ≡ Some y → y ≡ x
+    by_test true e = cc
+    by_test false e = absurd (cc)
+
+pub in_range-small : (x y : ℤ) → in_range x ≡ Some y → unsigned_abs y ≤ LARGEST_VALUE
+in_range-small x y e = by_test (nat_le (unsigned_abs x) LARGEST_VALUE) refl e
+  where
+    by_test : (b : Bool) → nat_le (unsigned_abs x) LARGEST_VALUE ≡ b → (if b then Some x else None) ≡ Some y → unsigned_abs y ≤ LARGEST_VALUE
+    by_test true is e =
+        let same : y ≡ x = cc in
+        rw same (grind (arith, nat_tests))
+    by_test false is e = absurd (cc)
+
+-- chains whose links agree agree
+pub chain-same : {A B : Type 0} {f g : A → Option B} (o : Option A) → ((x : A) → f x ≡ g x) → o >>= f ≡ o >>= g
+chain-same None h = refl
+chain-same (Some x) h = h x
+
+-- a number turned is turned where it is kept
+pub in_range-neg : (x : ℤ) → in_range (neg_ℤ x) ≡ in_range x >>= (λ y. Some (neg_ℤ y))
+in_range-neg x =
+    let size : unsigned_abs (neg_ℤ x) ≡ unsigned_abs x = omega (arith, ints) in
+    ap (λ n. if nat_le n LARGEST_VALUE then Some (neg_ℤ x) else None) size ∙ by_test (nat_le (unsigned_abs x) LARGEST_VALUE)
+  where
+    by_test : (b : Bool) → (if b then Some (neg_ℤ x) else None) ≡ (if b then Some x else None) >>= (λ y. Some (neg_ℤ y))
+    by_test true = refl
+    by_test false = refl
+
+-- and chains that begin with a number agree where the next links agree at this number
+pub in_range-chain : {B : Type 0} (x : ℤ) (f g : ℤ → Option B) → f x ≡ g x → in_range x >>= f ≡ in_range x >>= g
+in_range-chain x f g e = by_test (nat_le (unsigned_abs x) LARGEST_VALUE)
+  where
+    by_test : (b : Bool) → (if b then Some x else None) >>= f ≡ (if b then Some x else None) >>= g
+    by_test true = e
+    by_test false = refl
