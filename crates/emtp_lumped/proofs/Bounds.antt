@@ -1,6 +1,9 @@
 -- Bounds on what a companion is made of.
 use Rattle.std.proofs.Common.{◌≡◌, ◌∙◌, ap, ◌*◌, ◌^◌, ◌≤◌, ℤ, pos, ◌+ℤ◌, ◌*ℤ◌, ◌≤ℤ◌, unsigned_abs, refl, arith}
+use Rattle.std.proofs.lemmas.Bool.Decides.{Decides-int_eq}
 use Rattle.std.proofs.lemmas.Int.{ints}
+use Rattle.std.specs.Ordering.{int_eq}
+use Rattle.std.specs.Prelude.{◌≢◌, if◌then◌else◌, Bool, true, false}
 use Rattle.emtp_case.specs.Branch.{HasSeriesNumbers, inductor_impedance, capacitor_impedance, series_impedance}
 use Rattle.emtp_case.specs.Range.{IsBetween}
 use Rattle.emtp_case.specs.declared.branch.Lumped.{Lumped}
@@ -21,22 +24,35 @@ inductor-nonneg : (dt l : ℤ) → IsBetween 1000 (10 ^ 12) dt → IsBetween 0 (
 inductor-nonneg dt l h h' = near-nonneg (pos (2 * 10 ^ 9) *ℤ l) dt (omega (arith, ints, h'.least)) (omega (arith, ints, h.least))
 
 capacitor-nonneg : (dt c : ℤ) → IsBetween 1000 (10 ^ 12) dt → IsBetween 0 (10 ^ 15) c → pos 0 ≤ℤ capacitor_impedance dt c
-capacitor-nonneg dt c h h' = near-nonneg (dt *ℤ pos (10 ^ 9)) (pos 2 *ℤ c) (omega (arith, ints, h.least)) (omega (arith, ints, h'.least))
+unfolding capacitor_impedance
+capacitor-nonneg dt c h h' = either (int_eq c (pos 0))
+  where
+    either : (none : Bool) → pos 0 ≤ℤ (if none then pos 0 else near (dt *ℤ pos (10 ^ 9)) (pos 2 *ℤ c))
+    either true = omega (arith, ints)
+    either false = near-nonneg (dt *ℤ pos (10 ^ 9)) (pos 2 *ℤ c) (omega (arith, ints, h.least)) (omega (arith, ints, h'.least))
 
 -- the numbers of a companion are in range: the parts of an impedance are no larger than the whole
-pub companion-fits : (dt : ℤ) (b : Lumped) → IsBetween 1000 (10 ^ 12) dt → HasSeriesNumbers dt b → IsCompanion (companion_of dt b)
+pub companion-fits : (dt : ℤ) (b : Lumped) → IsBetween 1000 (10 ^ 12) dt → HasSeriesNumbers dt b.r b.l b.c → IsCompanion (companion_of dt b)
 companion-fits dt b step h =
-    let whole : series_impedance dt b ≡ b.r +ℤ inductor_impedance dt b.l +ℤ capacitor_impedance dt b.c = refl in
-    let inductor = inductor-nonneg dt b.l step h.l in
-    let capacitor = capacitor-nonneg dt b.c step h.c in
+    let whole : series_impedance dt b.r b.l b.c ≡ b.r +ℤ inductor_impedance dt b.l +ℤ capacitor_impedance dt b.c = refl in
+    let inductor = inductor-nonneg dt b.l step h.inductance in
+    let capacitor = capacitor-nonneg dt b.c step h.capacitance in
     record {
-      conductance = conductance_range (series_impedance dt b) (record { least = h.impedance.least; most = h.impedance.most });
-      inductor = record { least = inductor; most = omega (arith, ints, whole, h.impedance.most, h.r.least, inductor, capacitor) };
-      capacitor = record { least = capacitor; most = omega (arith, ints, whole, h.impedance.most, h.r.least, inductor, capacitor) };
+      conductance = conductance_range (series_impedance dt b.r b.l b.c) (record { least = h.impedance.least; most = h.impedance.most });
+      inductor = record { least = inductor; most = omega (arith, ints, whole, h.impedance.most, h.resistance.least, inductor, capacitor) };
+      capacitor = record { least = capacitor; most = omega (arith, ints, whole, h.impedance.most, h.resistance.least, inductor, capacitor) };
     }
 
 -- an absent capacitance has no impedance
 pub capacitor-none : (dt : ℤ) → IsBetween 1000 (10 ^ 12) dt → capacitor_impedance dt (pos 0) ≡ pos 0
-capacitor-none dt h =
-    let low : pos 0 ≤ℤ (dt *ℤ pos (10 ^ 9)) = omega (arith, ints, h.least) in
-    near-from_zero (dt *ℤ pos (10 ^ 9)) 0 low ∙ ap pos (near_abs-none (unsigned_abs (dt *ℤ pos (10 ^ 9))))
+unfolding capacitor_impedance
+capacitor-none dt h = refl
+
+-- that of a capacitance
+pub capacitor-some : (dt c : ℤ) → c ≢ pos 0 → capacitor_impedance dt c ≡ near (dt *ℤ pos (10 ^ 9)) (pos 2 *ℤ c)
+unfolding capacitor_impedance
+capacitor-some dt c some = either (int_eq c (pos 0)) (Decides-int_eq c (pos 0)).0
+  where
+    either : (none : Bool) → (none ≡ true → c ≡ pos 0) → (if none then pos 0 else near (dt *ℤ pos (10 ^ 9)) (pos 2 *ℤ c)) ≡ near (dt *ℤ pos (10 ^ 9)) (pos 2 *ℤ c)
+    either true is = absurd (some (is refl))
+    either false is = refl

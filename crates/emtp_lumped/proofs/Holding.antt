@@ -7,6 +7,7 @@ use Rattle.std.proofs.lemmas.List.Elements.{All-map, All-set, All-weaker}
 use Rattle.std.proofs.lemmas.Option.{slice_get_within, get_or_from_slice_get}
 use Rattle.std.proofs.Math.ListN.{length-set}
 use Rattle.emtp_case.specs.Branch.{IsBranch}
+use Rattle.emtp_case.specs.Sizes.{Sizes, sizes_of}
 use Rattle.emtp_case.specs.Case.{IsCase}
 use Rattle.emtp_case.specs.Range.{IsBetween}
 use Rattle.emtp_case.specs.StepRecord.{no_lumped, lumped_of, branch_at_rest, rest_of}
@@ -53,11 +54,11 @@ no_companion-fits = record {
 
 -- ---- all branches
 
-pub branch_has_numbers : (run : RunData) (nodes trios : ℕ) (points : List Point) (b : Branch) → IsBranch run nodes trios points b → HasNumbers run.dt b
-branch_has_numbers run nodes trios points (OfLumped b) h = h.numbers
-branch_has_numbers run nodes trios points (OfLine b) h = tt
-branch_has_numbers run nodes trios points (OfPseudo b) h = tt
-branch_has_numbers run nodes trios points (OfPhase b) h = tt
+pub branch_has_numbers : (run : RunData) (n : Sizes) (points : List Point) (b : Branch) → IsBranch run n points b → HasNumbers run.dt b
+branch_has_numbers run n points (OfLumped b) h = h.numbers
+branch_has_numbers run n points (OfLine b) h = tt
+branch_has_numbers run n points (OfPseudo b) h = tt
+branch_has_numbers run n points (OfPhase b) h = tt
 
 rest-fits : (dt : ℤ) → IsBetween 1000 (10 ^ 12) dt → (b : Branch) → HasNumbers dt b → IsHeld (rest_at dt b)
 rest-fits dt step (OfLumped b) h = rest-held (companion_of dt b) (companion-fits dt b step h)
@@ -77,8 +78,8 @@ rest-lumping p held h is = subst (IsLumping p) (sym is) (record {
   one_each = length-map p.branches (rest_at p.run.dt);
   companions = λ b x series. ap (λ (k : HeldBranch). k.companion) (rest-read p b x series);
   fit = All-map IsHeld (rest_at p.run.dt) p.branches
-      (All-weaker (IsBranch p.run (length p.nodes) (length p.trios) p.points) (λ b. IsHeld (rest_at p.run.dt b))
-      (λ b fits. rest-fits p.run.dt h.run.dt b (branch_has_numbers p.run (length p.nodes) (length p.trios) p.points b fits)) p.branches h.network.branches);
+      (All-weaker (IsBranch p.run (sizes_of p) p.points) (λ b. IsHeld (rest_at p.run.dt b))
+      (λ b fits. rest-fits p.run.dt h.draft.run.dt b (branch_has_numbers p.run (sizes_of p) p.points b fits)) p.branches h.draft.network.branches);
 })
 
 -- and stand for any past whose newest numbers are all 0

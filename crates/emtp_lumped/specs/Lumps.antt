@@ -80,7 +80,7 @@ pub record Moves (old new : Lumping) (branch : ℕ) (v : ℤ) (result : Result �
 
 -- the numbers that the companion of a branch needs
 abbrev pub HasNumbers : ℤ → Branch → Type 0
-HasNumbers dt (OfLumped b) = HasSeriesNumbers dt b
+HasNumbers dt (OfLumped b) = HasSeriesNumbers dt b.r b.l b.c
 HasNumbers dt (OfLine b) = Unit {0}
 HasNumbers dt (OfPseudo b) = Unit {0}
 HasNumbers dt (OfPhase b) = Unit {0}

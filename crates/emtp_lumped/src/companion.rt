@@ -26,7 +26,7 @@ impl Companion {
     /// The companion of a branch at a time step in ps.
     pub(crate) fn of(dt: i64, b: &Lumped) -> Companion
         requires dt { IsBetween 1000 (10 ^ 12) dt }
-        requires branch { HasSeriesNumbers dt b.now }
+        requires branch { HasSeriesNumbers dt b.now.r b.now.l b.now.c }
         ensures { result ≡ companion_of dt b.now }
     {
         let inductor = narrow(inductor(dt, b.l));

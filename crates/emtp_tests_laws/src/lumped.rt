@@ -2,6 +2,7 @@
 
 ghost use Rattle.std.specs.Prelude.{◌≡◌, ◌≢◌, ◌+◌, ◌<◌, [], ◌∷◌, List, ℕ, None, length, IfOk, OnErr, IfErr};
 ghost use Rattle.emtp_case.specs.Branch.{IsLumped};
+ghost use Rattle.emtp_case.specs.Sizes.{sizes_with};
 ghost use Rattle.emtp_case.specs.StepRecord.{StepRecord};
 ghost use Rattle.emtp_case.specs.declared.branch.Lumped.{Lumped};
 ghost use Rattle.emtp_case.specs.declared.branch.LumpedState.{LumpedState};
@@ -81,9 +82,9 @@ const RUN: RunData = RunData {
 const VOLT: i64 = 1_000_000_000;
 
 /// 1 ohm and 0.05 mH.
-#[tactic(auto, unfolding(emtp_fix::specs::Rounding::near, emtp_fix::specs::Rounding::near_abs))]
+#[tactic(auto, unfolding(emtp_fix::specs::Rounding::near, emtp_fix::specs::Rounding::near_abs, emtp_case::specs::Branch::capacitor_impedance))]
 fn coil() -> Lumped
-    ensures { IsLumped RUN 1 result }
+    ensures { IsLumped RUN (sizes_with 1) result }
 {
     Lumped {
         line: 4,
@@ -96,9 +97,9 @@ fn coil() -> Lumped
 }
 
 /// 1 ohm and 50 microfarad.
-#[tactic(auto, unfolding(emtp_fix::specs::Rounding::near, emtp_fix::specs::Rounding::near_abs))]
+#[tactic(auto, unfolding(emtp_fix::specs::Rounding::near, emtp_fix::specs::Rounding::near_abs, emtp_case::specs::Branch::capacitor_impedance))]
 fn capacitor() -> Lumped
-    ensures { IsLumped RUN 1 result }
+    ensures { IsLumped RUN (sizes_with 1) result }
 {
     Lumped {
         line: 4,
@@ -111,9 +112,9 @@ fn capacitor() -> Lumped
 }
 
 /// 10 ohm and 5 nH, whose impedance is 100 micro-ohm.
-#[tactic(auto, unfolding(emtp_fix::specs::Rounding::near, emtp_fix::specs::Rounding::near_abs))]
+#[tactic(auto, unfolding(emtp_fix::specs::Rounding::near, emtp_fix::specs::Rounding::near_abs, emtp_case::specs::Branch::capacitor_impedance))]
 fn short_lead() -> Lumped
-    ensures { IsLumped RUN 1 result }
+    ensures { IsLumped RUN (sizes_with 1) result }
 {
     Lumped {
         line: 4,
@@ -126,9 +127,9 @@ fn short_lead() -> Lumped
 }
 
 /// All three parts, of numbers that don't divide evenly.
-#[tactic(auto, unfolding(emtp_fix::specs::Rounding::near, emtp_fix::specs::Rounding::near_abs))]
+#[tactic(auto, unfolding(emtp_fix::specs::Rounding::near, emtp_fix::specs::Rounding::near_abs, emtp_case::specs::Branch::capacitor_impedance))]
 fn all_parts() -> Lumped
-    ensures { IsLumped RUN 1 result }
+    ensures { IsLumped RUN (sizes_with 1) result }
 {
     Lumped {
         line: 4,
@@ -142,8 +143,8 @@ fn all_parts() -> Lumped
 
 /// A case of two branches from SRC to ground.
 fn two_branches(alloc: Global, first: Lumped, second: Lumped) -> Result<Case, AllocError>
-    requires first { IsLumped RUN 1 first }
-    requires second { IsLumped RUN 1 second }
+    requires first { IsLumped RUN (sizes_with 1) first }
+    requires second { IsLumped RUN (sizes_with 1) second }
     ensures branches { IfOk result (λ case. case.parts.branches ≡ Branch.Lumped first ∷ Branch.Lumped second ∷ []) }
     ensures nodes { IfOk result (λ case. length case.parts.nodes ≡ 1) }
 {
@@ -163,7 +164,7 @@ fn three_steps(
     branch: Lumped,
     voltages: [(i64, i64); 3],
 ) -> Result<[(i128, i64); 3], AllocError>
-    requires { IsLumped RUN 1 branch }
+    requires { IsLumped RUN (sizes_with 1) branch }
 {
     let case = two_branches(alloc, branch, branch)?;
     let mut lumps = Lumps::open(alloc, &case)?;

@@ -45,7 +45,7 @@ conductance-requires c =
     let is_l = simp to_z-of_z at c.inductor.ensures in
     let is_c = simp to_z-of_z at c.capacitor.ensures in
     let fits = companion-fits c.args.dt c.args.b.now c.requires.dt c.requires.branch in
-    let whole : series_impedance c.args.dt c.args.b.now ≡ c.args.b.now.r +ℤ inductor_impedance c.args.dt c.args.b.now.l +ℤ capacitor_impedance c.args.dt c.args.b.now.c = refl in
+    let whole : series_impedance c.args.dt c.args.b.now.r c.args.b.now.l c.args.b.now.c ≡ c.args.b.now.r +ℤ inductor_impedance c.args.dt c.args.b.now.l +ℤ capacitor_impedance c.args.dt c.args.b.now.c = refl in
     let h = c.requires.branch.impedance in
     record {
       least = omega (arith, ints, c.impedance.ensures, c.narrow-inductor.ensures, c.narrow-capacitor.ensures, is_l, is_c, fits.inductor.least, fits.inductor.most, fits.capacitor.least, fits.capacitor.most, whole, h.least);
