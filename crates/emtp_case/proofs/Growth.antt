@@ -5,6 +5,7 @@ use Rattle.emtp_case.specs.Channel.{IsChannel}
 use Rattle.emtp_case.specs.Control.{HasDevicePoints, IsBlock, IsBound, IsDeviceCard, IsExtra}
 use Rattle.emtp_case.specs.OneProof.{IsDraft-prop}
 use Rattle.emtp_case.specs.Range.{AreEnds}
+use Rattle.emtp_case.specs.Sizes.{Grows, Sizes, sizes_of}
 use Rattle.emtp_case.specs.Source.{IsControlShape, IsNetworkShape, IsSource, IsTacsSource}
 use Rattle.emtp_case.specs.Switch.{IsSwitch, IsSwitchKind}
 use Rattle.emtp_case.specs.declared.branch.Branch.{Branch}
@@ -54,139 +55,160 @@ Extends-append ps more = record {
       ap (take count) (drop-append-le first ps more (omega arith)) ∙ take-append-le count (drop first ps) more (omega (arith, length-drop first ps));
 }
 
-AreEnds-grows : (n n' i j : ℕ) → n ≤ n' → AreEnds n i j → AreEnds n' i j
-AreEnds-grows n n' i j le h = record { from_there = omega (arith, h.from_there); to_there = omega (arith, h.to_there); apart = h.apart }
+AreEnds-grows : (m n i j : ℕ) → m ≤ n → AreEnds m i j → AreEnds n i j
+AreEnds-grows m n i j le h = record { from_there = omega (arith, h.from_there); to_there = omega (arith, h.to_there); apart = h.apart }
 
-pub IsBranch-grows : (run : RunData) (n n' t t' : ℕ) (ps qs : List Point) → n ≤ n' → t ≤ t' → Extends ps qs → (b : Branch) → IsBranch run n t ps b → IsBranch run n' t' qs b
-IsBranch-grows run n n' t t' ps qs le le' e (OfLumped b) h = record { ends = AreEnds-grows n n' b.from b.to le h.ends; numbers = h.numbers }
-IsBranch-grows run n n' t t' ps qs le le' e (OfLine b) h = record { ends = AreEnds-grows n n' b.from b.to le h.ends; numbers = h.numbers }
-IsBranch-grows run n n' t t' ps qs le le' e (OfPseudo b) h = record {
-  ends = AreEnds-grows n n' b.from b.to le h.ends;
+pub IsBranch-grows : (run : RunData) (m n : Sizes) (ps qs : List Point) → Grows m n → Extends ps qs → (b : Branch) → IsBranch run m ps b → IsBranch run n qs b
+IsBranch-grows run m n ps qs g e (OfLumped b) h = record { ends = AreEnds-grows m.nodes n.nodes b.from b.to g.nodes h.ends; numbers = h.numbers }
+IsBranch-grows run m n ps qs g e (OfLine b) h = record { ends = AreEnds-grows m.nodes n.nodes b.from b.to g.nodes h.ends; numbers = h.numbers }
+IsBranch-grows run m n ps qs g e (OfPseudo b) h = record {
+  ends = AreEnds-grows m.nodes n.nodes b.from b.to g.nodes h.ends;
   some = h.some;
   few = h.few;
   there = omega (arith, h.there, e.longer);
   characteristic = subst (IsCharacteristic b.reactor run.dt) (sym (e.same b.first b.count h.there)) h.characteristic;
 }
-IsBranch-grows run n n' t t' ps qs le le' e (OfPhase b) h = record {
-  ends = AreEnds-grows n n' b.from b.to le h.ends;
-  trio = omega (arith, h.trio);
+IsBranch-grows run m n ps qs g e (OfPhase b) h = record {
+  ends = AreEnds-grows m.nodes n.nodes b.from b.to g.nodes h.ends;
+  trio = omega (arith, h.trio, g.trios);
   phase = h.phase;
 }
 
 ForSome-below : (o : Option ℕ) (v v' : ℕ) → v ≤ v' → ForSome o (λ x. x < v) → ForSome o (λ x. x < v')
 ForSome-below o v v' le h = λ x is. let small : x < v = h x is in omega arith
 
-IsSwitchKind-grows : (v v' : ℕ) → v ≤ v' → (k : SwitchKind) → IsSwitchKind v k → IsSwitchKind v' k
-IsSwitchKind-grows v v' le (Time close open_at margin) h = h
-IsSwitchKind-grows v v' le Measuring h = h
-IsSwitchKind-grows v v' le (Valve ignition holding control) h = (h.0, h.1, ForSome-below control v v' le h.2)
-IsSwitchKind-grows v v' le (Control control) h = omega arith
+IsSwitchKind-grows : (m n : Sizes) → Grows m n → (k : SwitchKind) → IsSwitchKind m k → IsSwitchKind n k
+IsSwitchKind-grows m n g (Time close open_at margin) h = h
+IsSwitchKind-grows m n g Measuring h = h
+IsSwitchKind-grows m n g (Valve ignition holding control) h = (h.0, h.1, ForSome-below control m.vars n.vars g.vars h.2)
+IsSwitchKind-grows m n g (Control control) h = omega (arith, g.vars)
 
-pub IsSwitch-grows : (n n' v v' : ℕ) → n ≤ n' → v ≤ v' → (s : Switch) → IsSwitch n v s → IsSwitch n' v' s
-IsSwitch-grows n n' v v' le le' s h = record { ends = AreEnds-grows n n' s.from s.to le h.ends; kind = IsSwitchKind-grows v v' le' s.kind h.kind }
+pub IsSwitch-grows : (m n : Sizes) → Grows m n → (s : Switch) → IsSwitch m s → IsSwitch n s
+IsSwitch-grows m n g s h = record { ends = AreEnds-grows m.nodes n.nodes s.from s.to g.nodes h.ends; kind = IsSwitchKind-grows m n g s.kind h.kind }
 
-IsNetworkShape-grows : (v v' : ℕ) → v ≤ v' → (s : Shape) → IsNetworkShape v s → IsNetworkShape v' s
-IsNetworkShape-grows v v' le Step h = h
-IsNetworkShape-grows v v' le (Ramp rise) h = h
-IsNetworkShape-grows v v' le (Cosine freq phase) h = h
-IsNetworkShape-grows v v' le (Tacs var) h = omega arith
-IsNetworkShape-grows v v' le (Pulse period width) h = h
-IsNetworkShape-grows v v' le (Saw period) h = h
-IsNetworkShape-grows v v' le (NodeVoltage node) h = h
-IsNetworkShape-grows v v' le (SwitchCurrent switch) h = h
-IsNetworkShape-grows v v' le (SwitchStatus switch) h = h
+IsNetworkShape-grows : (m n : Sizes) → Grows m n → (s : Shape) → IsNetworkShape m s → IsNetworkShape n s
+IsNetworkShape-grows m n g Step h = h
+IsNetworkShape-grows m n g (Ramp rise) h = h
+IsNetworkShape-grows m n g (Cosine freq phase) h = h
+IsNetworkShape-grows m n g (Tacs var) h = omega (arith, g.vars)
+IsNetworkShape-grows m n g (Pulse period width) h = h
+IsNetworkShape-grows m n g (Saw period) h = h
+IsNetworkShape-grows m n g (NodeVoltage node) h = h
+IsNetworkShape-grows m n g (SwitchCurrent switch) h = h
+IsNetworkShape-grows m n g (SwitchStatus switch) h = h
 
-pub IsSource-grows : (n n' v v' : ℕ) → n ≤ n' → v ≤ v' → (s : Source) → IsSource n v s → IsSource n' v' s
-IsSource-grows n n' v v' le le' s h = record {
+pub IsSource-grows : (m n : Sizes) → Grows m n → (s : Source) → IsSource m s → IsSource n s
+IsSource-grows m n g s h = record {
   above_ground = h.above_ground;
-  there = omega (arith, h.there);
+  there = omega (arith, h.there, g.nodes);
   numbers = h.numbers;
-  shape = IsNetworkShape-grows v v' le' s.shape h.shape;
+  shape = IsNetworkShape-grows m n g s.shape h.shape;
 }
 
-IsControlShape-grows : (n n' w w' : ℕ) → n ≤ n' → w ≤ w' → (s : Shape) → IsControlShape n w s → IsControlShape n' w' s
-IsControlShape-grows n n' w w' le le' Step h = h
-IsControlShape-grows n n' w w' le le' (Ramp rise) h = h
-IsControlShape-grows n n' w w' le le' (Cosine freq phase) h = h
-IsControlShape-grows n n' w w' le le' (Tacs var) h = h
-IsControlShape-grows n n' w w' le le' (Pulse period width) h = h
-IsControlShape-grows n n' w w' le le' (Saw period) h = h
-IsControlShape-grows n n' w w' le le' (NodeVoltage node) h = (h.0, omega (arith, h.1))
-IsControlShape-grows n n' w w' le le' (SwitchCurrent switch) h = omega arith
-IsControlShape-grows n n' w w' le le' (SwitchStatus switch) h = omega arith
+IsControlShape-grows : (m n : Sizes) → Grows m n → (s : Shape) → IsControlShape m s → IsControlShape n s
+IsControlShape-grows m n g Step h = h
+IsControlShape-grows m n g (Ramp rise) h = h
+IsControlShape-grows m n g (Cosine freq phase) h = h
+IsControlShape-grows m n g (Tacs var) h = h
+IsControlShape-grows m n g (Pulse period width) h = h
+IsControlShape-grows m n g (Saw period) h = h
+IsControlShape-grows m n g (NodeVoltage node) h = (h.0, omega (arith, h.1, g.nodes))
+IsControlShape-grows m n g (SwitchCurrent switch) h = omega (arith, g.switches)
+IsControlShape-grows m n g (SwitchStatus switch) h = omega (arith, g.switches)
 
-pub IsTacsSource-grows : (n n' v v' w w' : ℕ) → n ≤ n' → v ≤ v' → w ≤ w' → (s : Source) → IsTacsSource n v w s → IsTacsSource n' v' w' s
-IsTacsSource-grows n n' v v' w w' le le' le'' s h = record {
+pub IsTacsSource-grows : (m n : Sizes) → Grows m n → (s : Source) → IsTacsSource m s → IsTacsSource n s
+IsTacsSource-grows m n g s h = record {
   own = h.own;
-  there = omega (arith, h.there);
+  there = omega (arith, h.there, g.vars);
   no_current = h.no_current;
   numbers = h.numbers;
-  shape = IsControlShape-grows n n' w w' le le'' s.shape h.shape;
+  shape = IsControlShape-grows m n g s.shape h.shape;
 }
 
-IsBound-grows : (v v' : ℕ) → v ≤ v' → (b : Bound) → IsBound v b → IsBound v' b
-IsBound-grows v v' le NoBound h = h
-IsBound-grows v v' le (Fixed x) h = h
-IsBound-grows v v' le (Named x) h = omega arith
+IsBound-grows : (m n : Sizes) → Grows m n → (b : Bound) → IsBound m b → IsBound n b
+IsBound-grows m n g NoBound h = h
+IsBound-grows m n g (Fixed x) h = h
+IsBound-grows m n g (Named x) h = omega (arith, g.vars)
 
 inputs-grow : (v v' : ℕ) → v ≤ v' → (is : List Input) → All (λ (i : Input). i.var < v) is → All (λ (i : Input). i.var < v') is
 inputs-grow v v' le is h = All-weaker (λ (i : Input). i.var < v) (λ (i : Input). i.var < v') (λ i small. omega arith) is h
 
-pub IsBlock-grows : (run : RunData) (v v' : ℕ) → v ≤ v' → (b : Block) → IsBlock run v b → IsBlock run v' b
-IsBlock-grows run v v' le b h = record {
+pub IsBlock-grows : (run : RunData) (m n : Sizes) → Grows m n → (b : Block) → IsBlock run m b → IsBlock run n b
+IsBlock-grows run m n g b h = record {
   own = h.own;
-  there = omega (arith, h.there);
+  there = omega (arith, h.there, g.vars);
   order = h.order;
   few_inputs = h.few_inputs;
-  inputs = inputs-grow v v' le b.inputs h.inputs;
+  inputs = inputs-grow m.vars n.vars g.vars b.inputs h.inputs;
   some_gain = h.some_gain;
   gain = h.gain;
   top = h.top;
   bottom = h.bottom;
   coefficients = h.coefficients;
   within_step = h.within_step;
-  low = IsBound-grows v v' le b.low h.low;
-  high = IsBound-grows v v' le b.high h.high;
+  low = IsBound-grows m n g b.low h.low;
+  high = IsBound-grows m n g b.high h.high;
   bounds = h.bounds;
 }
 
-pub IsDeviceCard-grows : (v v' : ℕ) → v ≤ v' → (x : Device) → IsDeviceCard v x → IsDeviceCard v' x
-IsDeviceCard-grows v v' le x h = record {
+pub IsDeviceCard-grows : (m n : Sizes) → Grows m n → (x : Device) → IsDeviceCard m x → IsDeviceCard n x
+IsDeviceCard-grows m n g x h = record {
   own = h.own;
-  there = omega (arith, h.there);
+  there = omega (arith, h.there, g.vars);
   few_inputs = h.few_inputs;
-  inputs = inputs-grow v v' le x.inputs h.inputs;
+  inputs = inputs-grow m.vars n.vars g.vars x.inputs h.inputs;
   a = h.a;
   b = h.b;
   c = h.c;
-  d = ForSome-below x.d v v' le h.d;
-  e = ForSome-below x.e v v' le h.e;
+  d = ForSome-below x.d m.vars n.vars g.vars h.d;
+  e = ForSome-below x.e m.vars n.vars g.vars h.e;
   required = h.required;
 }
 
-pub IsExtra-grows : (v v' : ℕ) (ps qs : List Point) → v ≤ v' → Extends ps qs → (x : Extra) → IsExtra v ps x → IsExtra v' qs x
-IsExtra-grows v v' ps qs le e (OfDevice x) h = record {
-  card = IsDeviceCard-grows v v' le x h.card;
+pub IsExtra-grows : (m n : Sizes) (ps qs : List Point) → Grows m n → Extends ps qs → (x : Extra) → IsExtra m ps x → IsExtra n qs x
+IsExtra-grows m n ps qs g e (OfDevice x) h = record {
+  card = IsDeviceCard-grows m n g x h.card;
   points_there = omega (arith, h.points_there, e.longer);
   few_points = h.few_points;
   points = subst (HasDevicePoints x.code) (sym (e.same x.first x.count h.points_there)) h.points;
 }
-IsExtra-grows v v' ps qs le e (OfFormula x) h = record {
+IsExtra-grows m n ps qs g e (OfFormula x) h = record {
   own = h.own;
-  there = omega (arith, h.there);
-  names = All-weaker (λ n. n < v) (λ n. n < v') (λ n small. omega arith) x.vars h.names;
+  there = omega (arith, h.there, g.vars);
+  names = All-weaker (λ k. k < m.vars) (λ k. k < n.vars) (λ k small. omega (arith, g.vars)) x.vars h.names;
   nodes = h.nodes;
   whole = h.whole;
 }
 
-pub IsChannel-grows : (n n' b b' w w' v v' : ℕ) → n ≤ n' → b ≤ b' → w ≤ w' → v ≤ v' → (c : Channel) → IsChannel n b w v c → IsChannel n' b' w' v' c
-IsChannel-grows n n' b b' w w' v v' ln lb lw lv (NodeChannel x) h = (h.0, omega (arith, h.1))
-IsChannel-grows n n' b b' w w' v v' ln lb lw lv (BranchCurrent x) h = omega arith
-IsChannel-grows n n' b b' w w' v v' ln lb lw lv (BranchVoltage x) h = omega arith
-IsChannel-grows n n' b b' w w' v v' ln lb lw lv (CurrentChannel x) h = omega arith
-IsChannel-grows n n' b b' w w' v v' ln lb lw lv (SwitchVoltage x) h = omega arith
-IsChannel-grows n n' b b' w w' v v' ln lb lw lv (OfTacs x) h = omega arith
-IsChannel-grows n n' b b' w w' v v' ln lb lw lv (Status x) h = omega arith
+pub IsChannel-grows : (m n : Sizes) → Grows m n → (c : Channel) → IsChannel m c → IsChannel n c
+IsChannel-grows m n g (NodeChannel x) h = (h.0, omega (arith, h.1, g.nodes))
+IsChannel-grows m n g (BranchCurrent x) h = omega (arith, g.branches)
+IsChannel-grows m n g (BranchVoltage x) h = omega (arith, g.branches)
+IsChannel-grows m n g (CurrentChannel x) h = omega (arith, g.switches)
+IsChannel-grows m n g (SwitchVoltage x) h = omega (arith, g.switches)
+IsChannel-grows m n g (OfTacs x) h = omega (arith, g.vars)
+IsChannel-grows m n g (Status x) h = omega (arith, g.switches)
+
+-- the records of a draft, each among so many records and with these points
+pub record AreAmong (n : Sizes) (points : List Point) (p : Parts) : Type 0 where
+  pub branches : All (IsBranch p.run n points) p.branches
+  pub switches : All (IsSwitch n) p.switches
+  pub sources : All (IsSource n) p.sources
+  pub tacs_sources : All (IsTacsSource n) p.tacs_sources
+  pub blocks : All (IsBlock p.run n) p.blocks
+  pub extras : All (IsExtra n points) p.extras
+  pub channels : All (IsChannel n) p.channels
+
+pub grown : (p : Parts) (n : Sizes) (points : List Point) → IsDraft p → Grows (sizes_of p) n → Extends p.points points → AreAmong n points p
+grown p n points h g e = record {
+  branches = All-weaker (IsBranch p.run (sizes_of p) p.points) (IsBranch p.run n points) (IsBranch-grows p.run (sizes_of p) n p.points points g e) p.branches h.network.branches;
+  switches = All-weaker (IsSwitch (sizes_of p)) (IsSwitch n) (IsSwitch-grows (sizes_of p) n g) p.switches h.network.switches;
+  sources = All-weaker (IsSource (sizes_of p)) (IsSource n) (IsSource-grows (sizes_of p) n g) p.sources h.network.sources;
+  tacs_sources = All-weaker (IsTacsSource (sizes_of p)) (IsTacsSource n) (IsTacsSource-grows (sizes_of p) n g) p.tacs_sources h.control.tacs_sources;
+  blocks = All-weaker (IsBlock p.run (sizes_of p)) (IsBlock p.run n) (IsBlock-grows p.run (sizes_of p) n g) p.blocks h.control.blocks;
+  extras = All-weaker (IsExtra (sizes_of p) p.points) (IsExtra n points) (IsExtra-grows (sizes_of p) n p.points points g e) p.extras h.control.extras;
+  channels = All-weaker (IsChannel (sizes_of p)) (IsChannel n) (IsChannel-grows (sizes_of p) n g) p.channels h.channels;
+}
 
 -- one list longer and the other by one, or both as before
 pub both_or_not : {X Y E : Type 0} (P : List X → List Y → Type 0) (r : Result (Unit {0}) E) (old new more : List X) (old' new' : List Y) (y : Y) → OnOk r (new ≡ old ++ more) → OnOk r (new' ≡ old' ++ y ∷ []) → OnErr r (new ≡ old) → OnErr r (new' ≡ old')

@@ -5,21 +5,21 @@ use Rattle.std.specs.List.Sorted.{IsSorted}
 use Rattle.std.proofs.Common.{◌∙◌, ap, sym}
 use Rattle.emtp_case.specs.RowOrder.{class_rank, key_cmp}
 use Rattle.emtp_case.specs.declared.row_order.Class.{Class}
-use Rattle.emtp_case.specs.declared.row_order.Class.TheVariants.{Fixed, Plain, Late}
+use Rattle.emtp_case.specs.declared.row_order.Class.TheVariants.{Changing, Constant, Source as SourceClass}
 use Rattle.emtp_case.specs.declared.row_order.Key.{Key}
 use Rattle.emtp_case.specs.contracts.row_order.ClassOrd.TheImpl.{ghosts as class_ghosts}
 use Rattle.emtp_case.specs.contracts.row_order.KeyOrd.TheImpl.{ghosts as key_ghosts}
 
 class_cmp-is : (x y : Class) → class_ghosts.cmp x y ≡ nat_cmp (class_rank x) (class_rank y)
-class_cmp-is Fixed Fixed = refl
-class_cmp-is Fixed Plain = refl
-class_cmp-is Fixed Late = refl
-class_cmp-is Plain Fixed = refl
-class_cmp-is Plain Plain = refl
-class_cmp-is Plain Late = refl
-class_cmp-is Late Fixed = refl
-class_cmp-is Late Plain = refl
-class_cmp-is Late Late = refl
+class_cmp-is SourceClass SourceClass = refl
+class_cmp-is SourceClass Constant = refl
+class_cmp-is SourceClass Changing = refl
+class_cmp-is Constant SourceClass = refl
+class_cmp-is Constant Constant = refl
+class_cmp-is Constant Changing = refl
+class_cmp-is Changing SourceClass = refl
+class_cmp-is Changing Constant = refl
+class_cmp-is Changing Changing = refl
 
 key_cmp-is : (x y : Key) → key_ghosts.cmp x y ≡ key_cmp x y
 key_cmp-is x y = ap (λ o. ordering_then o (ordering_then (nat_cmp x.ends y.ends) (nat_cmp x.node y.node))) (class_cmp-is x.class y.class)

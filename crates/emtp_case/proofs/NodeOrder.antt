@@ -2,7 +2,7 @@
 use Rattle.emtp_case.proofs.Ordered.{IsOrder, IsPermutation-put_in, IsPermutation-range_more, Rises, Rises-from_sorted, Rises-put_in, Rises-sorted, rises_once, sum_by-put_in, sum_by-range_more, times_in}
 use Rattle.emtp_case.specs.RowOrder.{IsRowOrder, Rows, class_of, class_rank, goes_before, has_source, in_order, key_cmp, key_of, may_change, order_of}
 use Rattle.emtp_case.specs.declared.case.Parts.{Parts}
-use Rattle.emtp_case.specs.declared.row_order.Class.TheVariants.{Fixed as FixedClass, Late, Plain}
+use Rattle.emtp_case.specs.declared.row_order.Class.TheVariants.{Changing, Constant, Source as SourceClass}
 use Rattle.emtp_case.specs.declared.row_order.Key.{Key}
 use Rattle.std.proofs.Common.{◌∙◌, ap, arith, rules, subst, sym}
 use Rattle.std.proofs.lemmas.Bool.{true≢false}
@@ -148,16 +148,16 @@ passing_first lt test closed (x ∷ xs) up k within = passing_head lt test close
 source_before : (p : Parts) (x y : ℕ) → goes_before p y x ≡ false → has_source p y ≡ true → has_source p x ≡ true
 source_before p x y not_before there = choose (has_source p x) refl (may_change p x) refl
   where
-    first : class_of p y ≡ FixedClass
-    first = ap (λ (b : Bool). if b then FixedClass else if may_change p y then Late else Plain) there
+    first : class_of p y ≡ SourceClass
+    first = ap (λ (b : Bool). if b then SourceClass else if may_change p y then Changing else Constant) there
 
     choose : (b : Bool) → has_source p x ≡ b → (m : Bool) → may_change p x ≡ m → has_source p x ≡ true
     choose true is m changes = is
     choose false is true changes =
-        let class : class_of p x ≡ Late = ap (λ (b : Bool). if b then FixedClass else if may_change p x then Late else Plain) is ∙ ap (λ (b : Bool). if b then Late else Plain) changes in
+        let class : class_of p x ≡ Changing = ap (λ (b : Bool). if b then SourceClass else if may_change p x then Changing else Constant) is ∙ ap (λ (b : Bool). if b then Changing else Constant) changes in
         absurd (less_first (key_of p y) (key_of p x) not_before (ap class_rank first) (omega (arith, ap class_rank class)))
     choose false is false changes =
-        let class : class_of p x ≡ Plain = ap (λ (b : Bool). if b then FixedClass else if may_change p x then Late else Plain) is ∙ ap (λ (b : Bool). if b then Late else Plain) changes in
+        let class : class_of p x ≡ Constant = ap (λ (b : Bool). if b then SourceClass else if may_change p x then Changing else Constant) is ∙ ap (λ (b : Bool). if b then Changing else Constant) changes in
         absurd (less_first (key_of p y) (key_of p x) not_before (ap class_rank first) (omega (arith, ap class_rank class)))
 
 pub sources_first : (p : Parts) (n : ℕ) (nodes : List ℕ) → AreSorted p n nodes → (row : ℕ) → row < length nodes → has_source p (slice_index nodes row) ≡ nat_lt row (count_by (has_source p) (range_with_len 1 n))

@@ -2,50 +2,53 @@
 use Rattle.emtp_case.specs.Case.{standing_names}
 use Rattle.emtp_case.specs.Source.{OneVoltageEach, is_voltage_source_at}
 use Rattle.emtp_case.specs.declared.source.Source.{Source}
-use Rattle.std.proofs.Common.{◌∙◌, ap, arith, inl, inr, subst, sym, ⊎_elim}
+use Rattle.std.proofs.Common.{◌∙◌, ap, arith, inl, inr, sym}
+use Rattle.std.proofs.lemmas.Bool.{cases_Bool}
 use Rattle.std.proofs.lemmas.Bool.Decides.{nat_tests}
 use Rattle.std.proofs.lemmas.List.{length-take, take-append-le}
+use Rattle.std.proofs.lemmas.List.Sums.{sum_by-append, sum_by-cons}
 use Rattle.std.specs.List.{list_any}
-use Rattle.std.specs.Prelude.{◌≡◌, ◌≤◌, ◌∷◌, ◌++◌, ◌⊎◌, ◌||◌, [], Bool, List, Some, false, length, refl, slice_get, suc, take, true, zero, ℕ}
+use Rattle.std.specs.Prelude.{◌≡◌, ◌≤◌, ◌+◌, ◌==◌, ◌∷◌, ◌++◌, ◌&&◌, ◌||◌, if◌then◌else◌, [], Bool, List, count_by, false, length, not, refl, take, true, ℕ}
 
--- an item of a list with one more, which is either an old one or the new one
-slice_get-push : {X : Type 0} (xs : List X) (x : X) (i : ℕ) (y : X) → slice_get (xs ++ x ∷ []) i ≡ Some y → (slice_get xs i ≡ Some y) ⊎ ((i ≡ length xs) × (y ≡ x))
-slice_get-push [] x zero y e = inr (refl, cc)
-slice_get-push [] x (suc i) y e = absurd (cc)
-slice_get-push (z ∷ zs) x zero y e = inl e
-slice_get-push (z ∷ zs) x (suc i) y e = ⊎_elim inl (λ (n : (i ≡ length zs) × (y ≡ x)). inr (ap suc n.0, n.1)) (slice_get-push zs x i y e)
+both_false : (a b : Bool) → (a || b) ≡ false → (a ≡ false) × (b ≡ false)
+both_false false false h = (refl, refl)
+both_false false true h = absurd (cc)
+both_false true b h = absurd (cc)
 
-passes_none : {X : Type 0} (test : X → Bool) (xs : List X) (i : ℕ) (y : X) → list_any test xs ≡ false → slice_get xs i ≡ Some y → test y ≡ false
-passes_none test [] i y none is = absurd (cc)
-passes_none test (z ∷ zs) zero y none is = let same : z ≡ y = (cc) in subst (λ w. test w ≡ false) same (no_left (test z) (list_any test zs) none)
+none_counted : (test : Source → Bool) (ss : List Source) → list_any test ss ≡ false → count_by test ss ≡ 0
+none_counted test [] h = refl
+none_counted test (s ∷ ss) h =
+    let both = both_false (test s) (list_any test ss) h in
+    let first = sum_by-cons (λ x. if test x then 1 else 0) s ss ∙ ap (λ (b : Bool). (if b then 1 else 0) + count_by test ss) both.0 in
+    omega (arith, first, none_counted test ss both.1)
+
+voltage_test : (s : Source) (node : ℕ) → is_voltage_source_at node s ≡ true → (s.current ≡ false) × (s.node ≡ node)
+voltage_test s node h = let both = go s.current (s.node == node) h in (both.0, same s.node node both.1)
   where
-    no_left : (a b : Bool) → (a || b) ≡ false → a ≡ false
-    no_left false b h = refl
-    no_left true b h = h
-passes_none test (z ∷ zs) (suc i) y none is = passes_none test zs i y (no_right (test z) (list_any test zs) none) is
-  where
-    no_right : (a b : Bool) → (a || b) ≡ false → b ≡ false
-    no_right false b h = h
-    no_right true b h = absurd (cc)
+    go : (c b : Bool) → (not c && b) ≡ true → (c ≡ false) × (b ≡ true)
+    go false b h = (refl, h)
+    go true b h = absurd (cc)
 
-voltage_source : (a : Source) (node : ℕ) → a.current ≡ false → a.node ≡ node → is_voltage_source_at node a ≡ true
-voltage_source a node c e = rw (c, e) (grind (arith, nat_tests))
+    same : (i j : ℕ) → (i == j) ≡ true → i ≡ j
+    same i j h = grind (arith, nat_tests)
 
-alone : (ss : List Source) (x : Source) → (x.current ≡ false → list_any (is_voltage_source_at x.node) ss ≡ false) → (i : ℕ) (a : Source) → slice_get ss i ≡ Some a → a.current ≡ false → x.current ≡ false → a.node ≡ x.node → ⊥
-alone ss x one i a is c c' e = let test = passes_none (is_voltage_source_at x.node) ss i a (one c') is in let other = voltage_source a x.node c e in absurd (cc)
+-- the sources that pass a test where one more is added
+counted_push : (test : Source → Bool) (ss : List Source) (x : Source) → count_by test (ss ++ x ∷ []) ≡ count_by test ss + (if test x then 1 else 0)
+counted_push test ss x = omega (arith, sum_by-append (λ s. if test s then 1 else 0) ss (x ∷ []))
 
 pub one_more_source : (ss : List Source) (x : Source) → OneVoltageEach ss → (x.current ≡ false → list_any (is_voltage_source_at x.node) ss ≡ false) → OneVoltageEach (ss ++ x ∷ [])
-one_more_source ss x h one = λ i j a b is js ca cb e.
-    ⊎_elim
-    (λ (old : slice_get ss i ≡ Some a). ⊎_elim
-    (λ (old' : slice_get ss j ≡ Some b). h i j a b old old' ca cb e)
-    (λ (new : (j ≡ length ss) × (b ≡ x)). absurd (alone ss x one i a old ca (sym (ap (λ (s : Source). s.current) new.1) ∙ cb) (e ∙ ap (λ (s : Source). s.node) new.1)))
-    (slice_get-push ss x j b js))
-    (λ (new : (i ≡ length ss) × (a ≡ x)). ⊎_elim
-    (λ (old' : slice_get ss j ≡ Some b). absurd (alone ss x one j b old' cb (sym (ap (λ (s : Source). s.current) new.1) ∙ ca) (sym e ∙ ap (λ (s : Source). s.node) new.1)))
-    (λ (new' : (j ≡ length ss) × (b ≡ x)). new.0 ∙ sym new'.0)
-    (slice_get-push ss x j b js))
-    (slice_get-push ss x i a is)
+one_more_source ss x h one = λ node.
+    let all = counted_push (is_voltage_source_at node) ss x in
+    elim (cases_Bool (is_voltage_source_at node x)) [
+      | inl passes ↦
+          let is = voltage_test x node passes in
+          let none = none_counted (is_voltage_source_at node) ss (ap (λ n. list_any (is_voltage_source_at n) ss) (sym is.1) ∙ one is.0) in
+          let more = ap (λ (b : Bool). count_by (is_voltage_source_at node) ss + (if b then 1 else 0)) passes in
+          omega (arith, all, more, none)
+      | inr fails ↦
+          let more = ap (λ (b : Bool). count_by (is_voltage_source_at node) ss + (if b then 1 else 0)) fails in
+          omega (arith, all, more, h node)
+    ]
 
 pub standing_stay : (vars : List (List ℕ)) (x : List ℕ) → take 6 vars ≡ standing_names → take 6 (vars ++ x ∷ []) ≡ standing_names
 standing_stay vars x h = let six : 6 ≤ length vars = omega (arith, ap length h, length-take 6 vars) in take-append-le 6 vars (x ∷ []) six ∙ h

@@ -1,7 +1,7 @@
 -- The switches get their times one after another.
-use Rattle.emtp_case.specs.Case.{HasCounts, IsCase}
-use Rattle.emtp_case.specs.Channel.{IsChannel}
-use Rattle.emtp_case.specs.Source.{IsTacsSource}
+use Rattle.emtp_case.proofs.Growth.{Extends-refl, IsSwitch-grows, grown}
+use Rattle.emtp_case.specs.Case.{HasCounts, IsDraft}
+use Rattle.emtp_case.specs.Sizes.{Grows, Sizes, sizes_of}
 use Rattle.emtp_case.specs.Switch.{HasTimes, IsSwitch, IsSwitchKind, is_time_kind, is_time_switch, kind_with, switch_with, with_times}
 use Rattle.emtp_case.specs.declared.case.Parts.{Parts}
 use Rattle.emtp_case.specs.declared.switch.Switch.{Switch}
@@ -12,7 +12,7 @@ use Rattle.std.proofs.Common.{◌∙◌, add-one, ap, arith, rules, subst, sym}
 use Rattle.std.proofs.Math.ListN.{drop_of_length-le, length-set}
 use Rattle.std.proofs.Math.Seq.{drop-cons, take-suc, take-suc-set}
 use Rattle.std.proofs.lemmas.List.{append-nil, append_assoc, drop-set-lt}
-use Rattle.std.proofs.lemmas.List.Elements.{All-cons, All-head, All-nil, All-tail}
+use Rattle.std.proofs.lemmas.List.Elements.{All-cons, All-head, All-nil, All-tail, All-weaker}
 use Rattle.std.proofs.lemmas.List.Sums.{sum_by-cons}
 use Rattle.std.specs.Prelude.{◌≡◌, ◌+◌, ◌<◌, ◌≤◌, ◌∷◌, ◌++◌, if◌then◌else◌, [], All, Bool, List, count_by, drop, false, length, refl, slice_index_or, slice_set, suc, take, true, zero, ℕ}
 
@@ -113,22 +113,22 @@ pass_turn at next old ss times d rs m h within other rs_is m_is =
     subst (λ n. AreSetUpTo (at + 1) n old rs times) (sym m_is) (subst (λ xs. AreSetUpTo (at + 1) next old xs times) (sym rs_is) (pass_one at next old ss times d h within other))
 
 -- the switches with other times still fit
-pub with_times-fits : (nodes vars : ℕ) (ss : List Switch) (times : List Times) → All (IsSwitch nodes vars) ss → All (λ (t : Times). HasTimes t.close t.open_at) times → All (IsSwitch nodes vars) (with_times ss times)
-with_times-fits nodes vars [] times h small = All-nil (IsSwitch nodes vars)
-with_times-fits nodes vars (s ∷ ss) [] h small = All-cons (IsSwitch nodes vars) s (with_times ss []) (All-head (IsSwitch nodes vars) s ss h) (with_times-fits nodes vars ss [] (All-tail (IsSwitch nodes vars) s ss h) small)
-with_times-fits nodes vars (s ∷ ss) (t ∷ times) h small =
-    let here = All-head (IsSwitch nodes vars) s ss h in
-    let rest = All-tail (IsSwitch nodes vars) s ss h in
-    let fits : IsSwitch nodes vars (switch_with s t) = record { ends = here.ends; kind = kind_fits s.kind t here.kind (All-head (λ (t : Times). HasTimes t.close t.open_at) t times small) } in
-    All-cons (IsSwitch nodes vars) (switch_with s t) _ fits (behind (is_time_switch s) (with_times-fits nodes vars ss times rest (All-tail (λ (t : Times). HasTimes t.close t.open_at) t times small)) (with_times-fits nodes vars ss (t ∷ times) rest small))
+pub with_times-fits : (n : Sizes) (ss : List Switch) (times : List Times) → All (IsSwitch n) ss → All (λ (t : Times). HasTimes t.close t.open_at) times → All (IsSwitch n) (with_times ss times)
+with_times-fits n [] times h small = All-nil (IsSwitch n)
+with_times-fits n (s ∷ ss) [] h small = All-cons (IsSwitch n) s (with_times ss []) (All-head (IsSwitch n) s ss h) (with_times-fits n ss [] (All-tail (IsSwitch n) s ss h) small)
+with_times-fits n (s ∷ ss) (t ∷ times) h small =
+    let here = All-head (IsSwitch n) s ss h in
+    let rest = All-tail (IsSwitch n) s ss h in
+    let fits : IsSwitch n (switch_with s t) = record { ends = here.ends; kind = kind_fits s.kind t here.kind (All-head (λ (t : Times). HasTimes t.close t.open_at) t times small) } in
+    All-cons (IsSwitch n) (switch_with s t) _ fits (behind (is_time_switch s) (with_times-fits n ss times rest (All-tail (λ (t : Times). HasTimes t.close t.open_at) t times small)) (with_times-fits n ss (t ∷ times) rest small))
   where
-    kind_fits : (k : SwitchKind) (t : Times) → IsSwitchKind vars k → HasTimes t.close t.open_at → IsSwitchKind vars (kind_with k t)
+    kind_fits : (k : SwitchKind) (t : Times) → IsSwitchKind n k → HasTimes t.close t.open_at → IsSwitchKind n (kind_with k t)
     kind_fits (Time close open_at margin) t h small = (small, h.1)
     kind_fits Measuring t h small = h
     kind_fits (Valve ignition holding control) t h small = h
     kind_fits (Control control) t h small = h
 
-    behind : (b : Bool) → All (IsSwitch nodes vars) (with_times ss times) → All (IsSwitch nodes vars) (with_times ss (t ∷ times)) → All (IsSwitch nodes vars) (with_times ss (if b then times else t ∷ times))
+    behind : (b : Bool) → All (IsSwitch n) (with_times ss times) → All (IsSwitch n) (with_times ss (t ∷ times)) → All (IsSwitch n) (with_times ss (if b then times else t ∷ times))
     behind true used left = used
     behind false used left = left
 
@@ -141,29 +141,32 @@ length-with_times (s ∷ ss) (t ∷ times) = ap suc (behind (is_time_switch s) (
     behind true used left = used
     behind false used left = left
 
--- the case with other switches, of the same number
-pub with_switches : (p : Parts) (ss : List Switch) → IsCase p → length ss ≡ length p.switches → All (IsSwitch (length p.nodes) (length p.vars)) ss → IsCase (record p { switches = ss })
+-- the draft with other switches, of the same number
+pub with_switches : (p : Parts) (ss : List Switch) → IsDraft p → length ss ≡ length p.switches → All (IsSwitch (sizes_of p)) ss → IsDraft (record p { switches = ss })
 with_switches p ss h same fits =
     let few : length ss ≤ 500 = omega (arith, same, h.counts.switches) in
     let q : Parts = record p { switches = ss } in
     let counts : HasCounts q = search rules in
+    let g : Grows (sizes_of p) (sizes_of q) = record { nodes = omega arith; branches = omega arith; trios = omega arith; switches = omega (arith, same); vars = omega arith } in
+    let old = grown p (sizes_of q) p.points h g (Extends-refl p.points) in
     record {
       run = h.run;
       counts = counts;
       network = record {
-        branches = h.network.branches;
+        names = h.network.names;
+        branches = old.branches;
         trios = h.network.trios;
         in_threes = h.network.in_threes;
-        switches = fits;
-        sources = h.network.sources;
+        switches = All-weaker (IsSwitch (sizes_of p)) (IsSwitch (sizes_of q)) (IsSwitch-grows (sizes_of p) (sizes_of q) g) ss fits;
+        sources = old.sources;
         one_voltage = h.network.one_voltage;
       };
       control = record {
         standing = h.control.standing;
-        tacs_sources = subst (λ n. All (IsTacsSource (length p.nodes) (length p.vars) n) p.tacs_sources) (sym same) h.control.tacs_sources;
-        blocks = h.control.blocks;
-        extras = h.control.extras;
+        names = h.control.names;
+        tacs_sources = old.tacs_sources;
+        blocks = old.blocks;
+        extras = old.extras;
       };
-      defined = h.defined;
-      channels = subst (λ n. All (IsChannel (length p.nodes) (length p.branches) n (length p.vars)) p.channels) (sym same) h.channels;
+      channels = old.channels;
     }

@@ -1,5 +1,6 @@
 -- The phases of three-phase lines keep their places where branches are added.
 use Rattle.emtp_case.specs.Branch.{AreInThrees, IsBranch, IsSingle, first_of_trio, phase_at, phase_of}
+use Rattle.emtp_case.specs.Sizes.{Sizes}
 use Rattle.emtp_case.specs.declared.branch.Branch.{Branch}
 use Rattle.emtp_case.specs.declared.branch.Branch.TheVariants.{Line as OfLine, Lumped as OfLumped, Phase as OfPhase, Pseudo as OfPseudo}
 use Rattle.emtp_case.specs.declared.branch.Point.{Point}
@@ -69,17 +70,17 @@ some_same : (x y : ℕ × ℕ) → Some x ≡ Some y → x ≡ y
 some_same x y e = (cc)
 
 -- a phase names a three-phase line that is there
-trio_there : (run : RunData) (nodes trios : ℕ) (points : List Point) (bs : List Branch) (at t p : ℕ) → All (IsBranch run nodes trios points) bs → phase_at bs at ≡ Some (t, p) → t < trios
-trio_there run nodes trios points [] zero t p h e = absurd (cc)
-trio_there run nodes trios points [] (suc at) t p h e = absurd (cc)
-trio_there run nodes trios points (b ∷ bs) zero t p h e = of_branch b (All-head (IsBranch run nodes trios points) b bs h) e
+trio_there : (run : RunData) (n : Sizes) (points : List Point) (bs : List Branch) (at t p : ℕ) → All (IsBranch run n points) bs → phase_at bs at ≡ Some (t, p) → t < n.trios
+trio_there run n points [] zero t p h e = absurd (cc)
+trio_there run n points [] (suc at) t p h e = absurd (cc)
+trio_there run n points (b ∷ bs) zero t p h e = of_branch b (All-head (IsBranch run n points) b bs h) e
   where
-    of_branch : (b : Branch) → IsBranch run nodes trios points b → phase_of b ≡ Some (t, p) → t < trios
+    of_branch : (b : Branch) → IsBranch run n points b → phase_of b ≡ Some (t, p) → t < n.trios
     of_branch (OfLumped b) h e = absurd (cc)
     of_branch (OfLine b) h e = absurd (cc)
     of_branch (OfPseudo b) h e = absurd (cc)
     of_branch (OfPhase b) h e = let same : b.trio ≡ t = ap (λ (x : ℕ × ℕ). x.0) (some_same (b.trio, b.phase) (t, p) e) in omega (arith, h.trio, same)
-trio_there run nodes trios points (b ∷ bs) (suc at) t p h e = trio_there run nodes trios points bs at t p (All-tail (IsBranch run nodes trios points) b bs h) e
+trio_there run n points (b ∷ bs) (suc at) t p h e = trio_there run n points bs at t p (All-tail (IsBranch run n points) b bs h) e
 
 -- the three phases of a line that is added
 pub record ArePhases (bs : List Branch) (ts : List Trio) (x : Trio) (a b c : Branch) : Type 0 where
@@ -101,9 +102,9 @@ new_place bs ts x a b c h (suc zero) t p e = let same : (length ts, 1) ≡ (t, p
 new_place bs ts x a b c h (suc (suc zero)) t p e = let same : (length ts, 2) ≡ (t, p) = some_same _ _ (sym h.phase2 ∙ e) in (sym (ap (λ (y : ℕ × ℕ). y.0) same), sym (ap (λ (y : ℕ × ℕ). y.1) same))
 new_place bs ts x a b c h (suc (suc (suc k))) t p e = absurd (omega (arith, phase_within (a ∷ b ∷ c ∷ []) (suc (suc (suc k))) (t, p) e))
 
-pub threes_and_trio : (run : RunData) (nodes : ℕ) (points : List Point) (bs : List Branch) (ts : List Trio) (x : Trio) (a b c : Branch) → ArePhases bs ts x a b c → All (IsBranch run nodes (length ts) points) bs → AreInThrees bs ts
+pub threes_and_trio : (run : RunData) (n : Sizes) (points : List Point) (bs : List Branch) (ts : List Trio) (x : Trio) (a b c : Branch) → ArePhases bs ts x a b c → n.trios ≡ length ts → All (IsBranch run n points) bs → AreInThrees bs ts
     → AreInThrees (bs ++ a ∷ b ∷ c ∷ []) (ts ++ x ∷ [])
-threes_and_trio run nodes points bs ts x a b c new all h = record {
+threes_and_trio run n points bs ts x a b c new count all h = record {
   phases = λ t p lt lp. ⊎_elim
       (λ (old : t < length ts).
       let was = h.phases t p old lp in
@@ -117,7 +118,7 @@ threes_and_trio run nodes points bs ts x a b c new all h = record {
   places = λ at t p e. ⊎_elim
       (λ (old : at < length bs).
       let was : phase_at bs at ≡ Some (t, p) = sym (phase_at-append bs (a ∷ b ∷ c ∷ []) at old) ∙ e in
-      h.places at t p was ∙ ap (λ n. n + p) (sym (first_of_trio-append ts x t (trio_there run nodes (length ts) points bs at t p all was))))
+      h.places at t p was ∙ ap (λ n. n + p) (sym (first_of_trio-append ts x t (omega (arith, count, trio_there run n points bs at t p all was)))))
       (λ (past : length bs ≤ at).
       let k = at - length bs in
       let split : at ≡ length bs + k = omega arith in

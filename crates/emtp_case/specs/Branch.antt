@@ -1,5 +1,6 @@
 -- The branches, and the numbers that their laws make of the cards.
 use Rattle.emtp_case.specs.Range.{AreEnds, IsBetween}
+use Rattle.emtp_case.specs.Sizes.{Sizes}
 use Rattle.emtp_case.specs.declared.branch.Branch.{Branch}
 use Rattle.emtp_case.specs.declared.branch.Branch.TheVariants.{Line as OfLine, Lumped as OfLumped, Phase as OfPhase, Pseudo as OfPseudo}
 use Rattle.emtp_case.specs.declared.branch.Line.{Line}
@@ -10,7 +11,8 @@ use Rattle.emtp_case.specs.declared.branch.Pseudo.{Pseudo}
 use Rattle.emtp_case.specs.declared.branch.Trio.{Trio}
 use Rattle.emtp_case.specs.declared.run_data.RunData.{RunData}
 use Rattle.emtp_fix.specs.Rounding.{near}
-use Rattle.std.specs.Prelude.{◌≡◌, ◌+◌, ◌*◌, ◌^◌, ◌<◌, ◌≤◌, ◌∷◌, ◌+ℤ◌, ◌-ℤ◌, ◌*ℤ◌, ◌≤ℤ◌, ◌<ℤ◌, Bool, List, None, Option, Some, drop, false, length, map, pos, slice_index_or, take, true, ℕ, ℤ}
+use Rattle.std.specs.Ordering.{int_eq}
+use Rattle.std.specs.Prelude.{◌≡◌, ◌+◌, ◌*◌, ◌^◌, ◌<◌, ◌≤◌, ◌∷◌, ◌+ℤ◌, ◌-ℤ◌, ◌*ℤ◌, ◌≤ℤ◌, ◌<ℤ◌, if◌then◌else◌, Bool, List, None, Option, Some, drop, false, length, map, pos, slice_index_or, take, true, ℕ, ℤ}
 
 -- Series branches
 
@@ -19,23 +21,23 @@ use Rattle.std.specs.Prelude.{◌≡◌, ◌+◌, ◌*◌, ◌^◌, ◌<◌, ◌
 abbrev pub inductor_impedance : ℤ → ℤ → ℤ
 inductor_impedance dt l = near (pos (2 * 10 ^ 9) *ℤ l) dt
 
-abbrev pub capacitor_impedance : ℤ → ℤ → ℤ
-capacitor_impedance dt c = near (dt *ℤ pos (10 ^ 9)) (pos 2 *ℤ c)
+unfoldable pub capacitor_impedance : ℤ → ℤ → ℤ
+capacitor_impedance dt c = if int_eq c (pos 0) then pos 0 else near (dt *ℤ pos (10 ^ 9)) (pos 2 *ℤ c)
 
--- Z, the impedance of the whole branch in one step
-abbrev pub series_impedance : ℤ → Lumped → ℤ
-series_impedance dt b = b.r +ℤ inductor_impedance dt b.l +ℤ capacitor_impedance dt b.c
+-- Z, the impedance of a resistance, an inductance and a capacitance in series, in one step
+abbrev pub series_impedance : ℤ → ℤ → ℤ → ℤ → ℤ
+series_impedance dt r l c = r +ℤ inductor_impedance dt l +ℤ capacitor_impedance dt c
 
--- the numbers of a series branch, whatever its nodes
-pub record HasSeriesNumbers (dt : ℤ) (b : Lumped) : Type 0 where
-  pub r : IsBetween 0 (10 ^ 15) b.r
-  pub l : IsBetween 0 (10 ^ 15) b.l
-  pub c : IsBetween 0 (10 ^ 15) b.c
-  pub impedance : IsBetween 10 (10 ^ 15) (series_impedance dt b)
+-- the numbers of a series branch
+pub record HasSeriesNumbers (dt r l c : ℤ) : Type 0 where
+  pub resistance : IsBetween 0 (10 ^ 15) r
+  pub inductance : IsBetween 0 (10 ^ 15) l
+  pub capacitance : IsBetween 0 (10 ^ 15) c
+  pub impedance : IsBetween 10 (10 ^ 15) (series_impedance dt r l c)
 
-pub record IsLumped (run : RunData) (nodes : ℕ) (b : Lumped) : Type 0 where
-  pub ends : AreEnds nodes b.from b.to
-  pub numbers : HasSeriesNumbers run.dt b
+pub record IsLumped (run : RunData) (n : Sizes) (b : Lumped) : Type 0 where
+  pub ends : AreEnds n.nodes b.from b.to
+  pub numbers : HasSeriesNumbers run.dt b.r b.l b.c
 
 -- Lines
 
@@ -51,8 +53,8 @@ pub record HasLineNumbers (dt zc resistance travel : ℤ) : Type 0 where
   pub long : dt ≤ℤ travel
   pub delay : travel ≤ℤ pos (10 ^ 18)
 
-pub record IsLine (run : RunData) (nodes : ℕ) (b : Line) : Type 0 where
-  pub ends : AreEnds nodes b.from b.to
+pub record IsLine (run : RunData) (n : Sizes) (b : Line) : Type 0 where
+  pub ends : AreEnds n.nodes b.from b.to
   pub numbers : HasLineNumbers run.dt b.zc b.r b.delay
 
 -- the numbers of both modes of a three-phase line
@@ -60,9 +62,9 @@ abbrev pub IsTrio : RunData → Trio → Type 0
 IsTrio run t =
     (m : ℕ) → m < 2 → HasLineNumbers run.dt (slice_index_or t.zc m (pos 0)) (slice_index_or t.r m (pos 0)) (slice_index_or t.delay m (pos 0))
 
-pub record IsPhase (nodes trios : ℕ) (b : Phase) : Type 0 where
-  pub ends : AreEnds nodes b.from b.to
-  pub trio : b.trio < trios
+pub record IsPhase (n : Sizes) (b : Phase) : Type 0 where
+  pub ends : AreEnds n.nodes b.from b.to
+  pub trio : b.trio < n.trios
   pub phase : b.phase < 3
 
 -- Pseudo-nonlinear branches
@@ -99,8 +101,8 @@ pub record IsSegment (reactor : Bool) (dt : ℤ) (a b : Point) : Type 0 where
 abbrev pub IsCharacteristic : Bool → ℤ → List Point → Type 0
 IsCharacteristic reactor dt ps = (k : ℕ) → k < length ps → IsSegment reactor dt (slice_index_or (origin ∷ ps) k origin) (slice_index_or ps k origin)
 
-pub record IsPseudo (run : RunData) (nodes : ℕ) (points : List Point) (b : Pseudo) : Type 0 where
-  pub ends : AreEnds nodes b.from b.to
+pub record IsPseudo (run : RunData) (n : Sizes) (points : List Point) (b : Pseudo) : Type 0 where
+  pub ends : AreEnds n.nodes b.from b.to
   pub some : 1 ≤ b.count
   pub few : b.count ≤ 64
   pub there : b.first + b.count ≤ length points
@@ -108,12 +110,12 @@ pub record IsPseudo (run : RunData) (nodes : ℕ) (points : List Point) (b : Pse
 
 -- All branches
 
--- a branch among so many nodes and three-phase lines, with these points
-abbrev pub IsBranch : RunData → ℕ → ℕ → List Point → Branch → Type 0
-IsBranch run nodes trios points (OfLumped b) = IsLumped run nodes b
-IsBranch run nodes trios points (OfLine b) = IsLine run nodes b
-IsBranch run nodes trios points (OfPseudo b) = IsPseudo run nodes points b
-IsBranch run nodes trios points (OfPhase b) = IsPhase nodes trios b
+-- a branch among so many records, with these points
+abbrev pub IsBranch : RunData → Sizes → List Point → Branch → Type 0
+IsBranch run n points (OfLumped b) = IsLumped run n b
+IsBranch run n points (OfLine b) = IsLine run n b
+IsBranch run n points (OfPseudo b) = IsPseudo run n points b
+IsBranch run n points (OfPhase b) = IsPhase n b
 
 -- a branch that isn't the phase of a three-phase line
 abbrev pub IsSingle : Branch → Type 0

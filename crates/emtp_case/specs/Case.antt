@@ -3,7 +3,9 @@ use Rattle.emtp_case.specs.Branch.{AreInThrees, IsBranch, IsTrio}
 use Rattle.emtp_case.specs.Channel.{IsChannel}
 use Rattle.emtp_case.specs.Control.{IsBlock, IsExtra, var_of}
 use Rattle.emtp_case.specs.HistoryValues.{history_values_of}
+use Rattle.emtp_case.specs.Name.{IsName}
 use Rattle.emtp_case.specs.RunData.{IsRun, samples_of}
+use Rattle.emtp_case.specs.Sizes.{sizes_of}
 use Rattle.emtp_case.specs.Source.{IsSource, IsTacsSource, OneVoltageEach}
 use Rattle.emtp_case.specs.Switch.{IsSwitch}
 use Rattle.emtp_case.specs.declared.branch.Branch.{Branch}
@@ -37,19 +39,21 @@ pub record HasCounts (p : Parts) : Type 0 where
 
 -- the branches, switches and sources
 pub record IsNetwork (p : Parts) : Type 0 where
-  pub branches : All (IsBranch p.run (length p.nodes) (length p.trios) p.points) p.branches
+  pub names : All IsName p.nodes
+  pub branches : All (IsBranch p.run (sizes_of p) p.points) p.branches
   pub trios : All (IsTrio p.run) p.trios
   pub in_threes : AreInThrees p.branches p.trios
-  pub switches : All (IsSwitch (length p.nodes) (length p.vars)) p.switches
-  pub sources : All (IsSource (length p.nodes) (length p.vars)) p.sources
+  pub switches : All (IsSwitch (sizes_of p)) p.switches
+  pub sources : All (IsSource (sizes_of p)) p.sources
   pub one_voltage : OneVoltageEach p.sources
 
 -- the variables, and what computes them
 pub record IsControl (p : Parts) : Type 0 where
   pub standing : take 6 p.vars ≡ standing_names
-  pub tacs_sources : All (IsTacsSource (length p.nodes) (length p.vars) (length p.switches)) p.tacs_sources
-  pub blocks : All (IsBlock p.run (length p.vars)) p.blocks
-  pub extras : All (IsExtra (length p.vars) p.points) p.extras
+  pub names : All IsName p.vars
+  pub tacs_sources : All (IsTacsSource (sizes_of p)) p.tacs_sources
+  pub blocks : All (IsBlock p.run (sizes_of p)) p.blocks
+  pub extras : All (IsExtra (sizes_of p) p.points) p.extras
 
 -- the variables that the cards define
 abbrev pub defined_vars : Parts → List ℕ
@@ -60,7 +64,7 @@ abbrev pub DefinesEach : Parts → Type 0
 DefinesEach p = (v : ℕ) → 6 ≤ v → v < length p.vars → count_by (λ d. d == v) (defined_vars p) ≡ 1
 
 abbrev pub AreChannels : Parts → Type 0
-AreChannels p = All (IsChannel (length p.nodes) (length p.branches) (length p.switches) (length p.vars)) p.channels
+AreChannels p = All (IsChannel (sizes_of p)) p.channels
 
 -- the records fit each other, but for variables that no card defines yet
 pub record IsDraft (p : Parts) : Type 0 where
@@ -72,12 +76,8 @@ pub record IsDraft (p : Parts) : Type 0 where
 
 -- the records fit each other
 pub record IsCase (p : Parts) : Type 0 where
-  pub run : IsRun p.run
-  pub counts : HasCounts p
-  pub network : IsNetwork p
-  pub control : IsControl p
+  pub draft : IsDraft p
   pub defined : DefinesEach p
-  pub channels : AreChannels p
 
 -- the case of the miscellaneous cards alone
 abbrev pub empty_parts : RunData → Parts

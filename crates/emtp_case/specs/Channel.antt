@@ -1,14 +1,15 @@
 -- The channels of the record.
+use Rattle.emtp_case.specs.Sizes.{Sizes}
 use Rattle.emtp_case.specs.declared.channel.Channel.{Channel}
 use Rattle.emtp_case.specs.declared.channel.Channel.TheVariants.{BranchCurrent, BranchVoltage, SwitchCurrent as CurrentChannel, NodeVoltage as NodeChannel, Tacs as OfTacs, Status, SwitchVoltage}
-use Rattle.std.specs.Prelude.{◌<◌, ◌≤◌, ℕ}
+use Rattle.std.specs.Prelude.{◌<◌, ◌≤◌}
 
--- a channel among so many nodes, branches, switches and variables
-abbrev pub IsChannel : ℕ → ℕ → ℕ → ℕ → Channel → Type 0
-IsChannel nodes branches switches vars (NodeChannel n) = (1 ≤ n) × (n ≤ nodes)
-IsChannel nodes branches switches vars (BranchCurrent b) = b < branches
-IsChannel nodes branches switches vars (BranchVoltage b) = b < branches
-IsChannel nodes branches switches vars (CurrentChannel s) = s < switches
-IsChannel nodes branches switches vars (SwitchVoltage s) = s < switches
-IsChannel nodes branches switches vars (OfTacs v) = v < vars
-IsChannel nodes branches switches vars (Status s) = s < switches
+-- a channel among so many records
+abbrev pub IsChannel : Sizes → Channel → Type 0
+IsChannel n (NodeChannel node) = (1 ≤ node) × (node ≤ n.nodes)
+IsChannel n (BranchCurrent b) = b < n.branches
+IsChannel n (BranchVoltage b) = b < n.branches
+IsChannel n (CurrentChannel s) = s < n.switches
+IsChannel n (SwitchVoltage s) = s < n.switches
+IsChannel n (OfTacs v) = v < n.vars
+IsChannel n (Status s) = s < n.switches

@@ -2,6 +2,7 @@
 use Rattle.emtp_case.specs.Branch.{origin, points_of}
 use Rattle.emtp_case.specs.Expr.{FitsPlaces, IsWhole}
 use Rattle.emtp_case.specs.Range.{IsBetween}
+use Rattle.emtp_case.specs.Sizes.{Sizes}
 use Rattle.emtp_case.specs.declared.branch.Point.{Point}
 use Rattle.emtp_case.specs.declared.control.Block.{Block}
 use Rattle.emtp_case.specs.declared.control.Bound.{Bound}
@@ -63,30 +64,31 @@ pub record HasCoefficients (dt : ℤ) (b : Block) : Type 0 where
   pub denominators : (j : ℕ) → j ≤ b.order → unsigned_abs (denominator_of dt b j) ≤ 10 ^ 18
   pub numerators : (j : ℕ) → j ≤ b.order → unsigned_abs (numerator_of dt b j) ≤ 10 ^ 18
 
-abbrev pub IsBound : ℕ → Bound → Type 0
-IsBound vars NoBound = Unit {0}
-IsBound vars (Fixed x) = unsigned_abs x ≤ 10 ^ 18
-IsBound vars (Named v) = v < vars
+-- a limit among so many records
+abbrev pub IsBound : Sizes → Bound → Type 0
+IsBound n NoBound = Unit {0}
+IsBound n (Fixed x) = unsigned_abs x ≤ 10 ^ 18
+IsBound n (Named v) = v < n.vars
 
 -- two fixed limits don't cross
 abbrev pub AreBounds : Bound → Bound → Type 0
 AreBounds low high = (x y : ℤ) → low ≡ Fixed x → high ≡ Fixed y → x ≤ℤ y
 
--- a block among so many variables; its own isn't a standing one
-pub record IsBlock (run : RunData) (vars : ℕ) (b : Block) : Type 0 where
+-- a block among so many records; its variable isn't a standing one
+pub record IsBlock (run : RunData) (n : Sizes) (b : Block) : Type 0 where
   pub own : 6 ≤ b.var
-  pub there : b.var < vars
+  pub there : b.var < n.vars
   pub order : b.order ≤ 7
   pub few_inputs : length b.inputs ≤ 5
-  pub inputs : All (λ (i : Input). i.var < vars) b.inputs
+  pub inputs : All (λ (i : Input). i.var < n.vars) b.inputs
   pub some_gain : b.gain ≢ pos 0
   pub gain : unsigned_abs b.gain ≤ 10 ^ 18
   pub top : All (λ x. unsigned_abs x ≤ 10 ^ 18) b.top
   pub bottom : All (λ x. unsigned_abs x ≤ 10 ^ 18) b.bottom
   pub coefficients : 1 ≤ b.order → HasCoefficients run.dt b
   pub within_step : unsigned_abs (step_gain run.dt b) ≤ 10 ^ 18
-  pub low : IsBound vars b.low
-  pub high : IsBound vars b.high
+  pub low : IsBound n b.low
+  pub high : IsBound n b.high
   pub bounds : AreBounds b.low b.high
 
 -- Devices
@@ -132,17 +134,17 @@ pub record AreTimes (points : List Point) : Type 0 where
   pub closes_first : All (λ (p : Point). p.current <ℤ p.other) points
   pub in_turn : (k : ℕ) → k + 1 < length points → (slice_index_or points k origin).other ≤ℤ (slice_index_or points (k + 1) origin).current
 
--- the card of a device among so many variables; its own variable isn't a standing one
-pub record IsDeviceCard (vars : ℕ) (x : Device) : Type 0 where
+-- the card of a device among so many records; its variable isn't a standing one
+pub record IsDeviceCard (n : Sizes) (x : Device) : Type 0 where
   pub own : 6 ≤ x.var
-  pub there : x.var < vars
+  pub there : x.var < n.vars
   pub few_inputs : length x.inputs ≤ 5
-  pub inputs : All (λ (i : Input). i.var < vars) x.inputs
+  pub inputs : All (λ (i : Input). i.var < n.vars) x.inputs
   pub a : HasRangeOfA x.code x.a
   pub b : unsigned_abs x.b ≤ 10 ^ 18
   pub c : unsigned_abs x.c ≤ 10 ^ 18
-  pub d : ForSome x.d (λ v. v < vars)
-  pub e : ForSome x.e (λ v. v < vars)
+  pub d : ForSome x.d (λ v. v < n.vars)
+  pub e : ForSome x.e (λ v. v < n.vars)
   pub required : IsTrue (needs_d x.code) → IsSome x.d
 
 -- the points that a device of this code has: a table, times, or none
@@ -151,26 +153,27 @@ pub record HasDevicePoints (code : DeviceCode) (points : List Point) : Type 0 wh
   pub times : code ≡ Window → AreTimes points
   pub none : code ≢ Table → code ≢ Window → points ≡ []
 
--- a device among so many variables, whose points are among these
-pub record IsDevice (vars : ℕ) (all : List Point) (x : Device) : Type 0 where
-  pub card : IsDeviceCard vars x
+-- a device among so many records, whose points are among these
+pub record IsDevice (n : Sizes) (all : List Point) (x : Device) : Type 0 where
+  pub card : IsDeviceCard n x
   pub points_there : x.first + x.count ≤ length all
   pub few_points : x.count ≤ 64
   pub points : HasDevicePoints x.code (points_of all x.first x.count)
 
 -- Formulas
 
--- a formula among so many variables; its own isn't a standing one
-pub record IsFormula (vars : ℕ) (x : Formula) : Type 0 where
+-- a formula among so many records; its variable isn't a standing one
+pub record IsFormula (n : Sizes) (x : Formula) : Type 0 where
   pub own : 6 ≤ x.var
-  pub there : x.var < vars
-  pub names : All (λ v. v < vars) x.vars
+  pub there : x.var < n.vars
+  pub names : All (λ v. v < n.vars) x.vars
   pub nodes : All (FitsPlaces (length x.vars)) x.expr
   pub whole : IsWhole x.expr
 
-abbrev pub IsExtra : ℕ → List Point → Extra → Type 0
-IsExtra vars points (OfDevice x) = IsDevice vars points x
-IsExtra vars points (OfFormula x) = IsFormula vars x
+-- a supplemental card among so many records, with these points
+abbrev pub IsExtra : Sizes → List Point → Extra → Type 0
+IsExtra n points (OfDevice x) = IsDevice n points x
+IsExtra n points (OfFormula x) = IsFormula n x
 
 abbrev pub var_of : Extra → ℕ
 var_of (OfDevice x) = x.var

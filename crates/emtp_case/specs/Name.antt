@@ -1,7 +1,19 @@
--- The bytes of a name.
-use Rattle.std.specs.Prelude.{◌≡◌, ℕ, ◌-◌, ◌≤◌, List, ◌++◌, length, take, drop, replicate}
+-- The bytes of a name. `name_of-bytes_of` is a proof that stands here because the model of `Name` cites it.
+use Rattle.std.specs.Prelude.{◌≡◌, ◌≢◌, ℕ, ◌-◌, ◌≤◌, All, List, slice_index_or, ◌++◌, length, take, drop, replicate}
 use Rattle.std.proofs.Common.{sym, ◌∙◌, ap, arith, length-take-le, take-append-drop}
 use Rattle.emtp_case.specs.declared.name.Name.TheInside.{Inside}
+
+-- a byte that a card can give to a name: printable, and no comma
+abbrev pub IsNameByte : ℕ → Type 0
+IsNameByte b = (32 ≤ b) × (b ≤ 126) × (b ≢ 44)
+
+-- what a card can name: 1 to 6 such bytes, with no blank at either end
+pub record IsName (name : List ℕ) : Type 0 where
+  pub some : 1 ≤ length name
+  pub short : length name ≤ 6
+  pub bytes : All IsNameByte name
+  pub first : slice_index_or name 0 32 ≢ 32
+  pub last : slice_index_or name (length name - 1) 32 ≢ 32
 
 -- the bytes of a name
 abbrev pub bytes_of : Inside → List ℕ

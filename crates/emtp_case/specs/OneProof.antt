@@ -1,9 +1,10 @@
--- What a case keeps has one proof at most.
+-- What a case keeps has one proof at most. These proofs stand here because the ghost facts of `Draft` and `Case` cite them.
 use Rattle.emtp_case.specs.Branch.{IsBranch}
 use Rattle.emtp_case.specs.Case.{IsCase, IsDraft}
 use Rattle.emtp_case.specs.Channel.{IsChannel}
 use Rattle.emtp_case.specs.Control.{IsBound, IsExtra}
 use Rattle.emtp_case.specs.Expr.{FitsPlaces}
+use Rattle.emtp_case.specs.Sizes.{Sizes}
 use Rattle.emtp_case.specs.Source.{HasShapeNumbers, IsControlShape, IsNetworkShape}
 use Rattle.emtp_case.specs.Switch.{IsSwitchKind}
 use Rattle.emtp_case.specs.declared.branch.Branch.{Branch}
@@ -33,17 +34,17 @@ FitsPlaces-prop places (Var at) = hlevel props
 FitsPlaces-prop places (Unary op) = hlevel props
 FitsPlaces-prop places (Binary op) = hlevel props
 
-IsBranch-prop : (run : RunData) (nodes trios : ℕ) (points : List Point) (b : Branch) → IsProp (IsBranch run nodes trios points b)
-IsBranch-prop run nodes trios points (OfLumped b) = hlevel props
-IsBranch-prop run nodes trios points (OfLine b) = hlevel props
-IsBranch-prop run nodes trios points (OfPseudo b) = hlevel props
-IsBranch-prop run nodes trios points (OfPhase b) = hlevel props
+IsBranch-prop : (run : RunData) (n : Sizes) (points : List Point) (b : Branch) → IsProp (IsBranch run n points b)
+IsBranch-prop run n points (OfLumped b) = hlevel props
+IsBranch-prop run n points (OfLine b) = hlevel props
+IsBranch-prop run n points (OfPseudo b) = hlevel props
+IsBranch-prop run n points (OfPhase b) = hlevel props
 
-IsSwitchKind-prop : (vars : ℕ) (k : SwitchKind) → IsProp (IsSwitchKind vars k)
-IsSwitchKind-prop vars (Time close open_at margin) = hlevel props
-IsSwitchKind-prop vars Measuring = hlevel props
-IsSwitchKind-prop vars (Valve ignition holding control) = hlevel props
-IsSwitchKind-prop vars (Control control) = hlevel props
+IsSwitchKind-prop : (n : Sizes) (k : SwitchKind) → IsProp (IsSwitchKind n k)
+IsSwitchKind-prop n (Time close open_at margin) = hlevel props
+IsSwitchKind-prop n Measuring = hlevel props
+IsSwitchKind-prop n (Valve ignition holding control) = hlevel props
+IsSwitchKind-prop n (Control control) = hlevel props
 
 HasShapeNumbers-prop : (s : Source) (shape : Shape) → IsProp (HasShapeNumbers s shape)
 HasShapeNumbers-prop s Step = hlevel props
@@ -56,50 +57,49 @@ HasShapeNumbers-prop s (NodeVoltage node) = hlevel props
 HasShapeNumbers-prop s (SwitchCurrent switch) = hlevel props
 HasShapeNumbers-prop s (SwitchStatus switch) = hlevel props
 
-IsNetworkShape-prop : (vars : ℕ) (s : Shape) → IsProp (IsNetworkShape vars s)
-IsNetworkShape-prop vars Step = hlevel props
-IsNetworkShape-prop vars (Ramp rise) = hlevel props
-IsNetworkShape-prop vars (Cosine freq phase) = hlevel props
-IsNetworkShape-prop vars (Tacs var) = hlevel props
-IsNetworkShape-prop vars (Pulse period width) = hlevel props
-IsNetworkShape-prop vars (Saw period) = hlevel props
-IsNetworkShape-prop vars (NodeVoltage node) = hlevel props
-IsNetworkShape-prop vars (SwitchCurrent switch) = hlevel props
-IsNetworkShape-prop vars (SwitchStatus switch) = hlevel props
+IsNetworkShape-prop : (n : Sizes) (s : Shape) → IsProp (IsNetworkShape n s)
+IsNetworkShape-prop n Step = hlevel props
+IsNetworkShape-prop n (Ramp rise) = hlevel props
+IsNetworkShape-prop n (Cosine freq phase) = hlevel props
+IsNetworkShape-prop n (Tacs var) = hlevel props
+IsNetworkShape-prop n (Pulse period width) = hlevel props
+IsNetworkShape-prop n (Saw period) = hlevel props
+IsNetworkShape-prop n (NodeVoltage node) = hlevel props
+IsNetworkShape-prop n (SwitchCurrent switch) = hlevel props
+IsNetworkShape-prop n (SwitchStatus switch) = hlevel props
 
-IsControlShape-prop : (nodes switches : ℕ) (s : Shape) → IsProp (IsControlShape nodes switches s)
-IsControlShape-prop nodes switches Step = hlevel props
-IsControlShape-prop nodes switches (Ramp rise) = hlevel props
-IsControlShape-prop nodes switches (Cosine freq phase) = hlevel props
-IsControlShape-prop nodes switches (Tacs var) = hlevel props
-IsControlShape-prop nodes switches (Pulse period width) = hlevel props
-IsControlShape-prop nodes switches (Saw period) = hlevel props
-IsControlShape-prop nodes switches (NodeVoltage node) = hlevel props
-IsControlShape-prop nodes switches (SwitchCurrent switch) = hlevel props
-IsControlShape-prop nodes switches (SwitchStatus switch) = hlevel props
+IsControlShape-prop : (n : Sizes) (s : Shape) → IsProp (IsControlShape n s)
+IsControlShape-prop n Step = hlevel props
+IsControlShape-prop n (Ramp rise) = hlevel props
+IsControlShape-prop n (Cosine freq phase) = hlevel props
+IsControlShape-prop n (Tacs var) = hlevel props
+IsControlShape-prop n (Pulse period width) = hlevel props
+IsControlShape-prop n (Saw period) = hlevel props
+IsControlShape-prop n (NodeVoltage node) = hlevel props
+IsControlShape-prop n (SwitchCurrent switch) = hlevel props
+IsControlShape-prop n (SwitchStatus switch) = hlevel props
 
-IsBound-prop : (vars : ℕ) (b : Bound) → IsProp (IsBound vars b)
-IsBound-prop vars NoBound = hlevel props
-IsBound-prop vars (Fixed x) = hlevel props
-IsBound-prop vars (Named v) = hlevel props
+IsBound-prop : (n : Sizes) (b : Bound) → IsProp (IsBound n b)
+IsBound-prop n NoBound = hlevel props
+IsBound-prop n (Fixed x) = hlevel props
+IsBound-prop n (Named v) = hlevel props
 
-IsExtra-prop : (vars : ℕ) (points : List Point) (x : Extra) → IsProp (IsExtra vars points x)
-IsExtra-prop vars points (OfDevice x) = hlevel props
-IsExtra-prop vars points (OfFormula x) = hlevel (props, FitsPlaces-prop)
+IsExtra-prop : (n : Sizes) (points : List Point) (x : Extra) → IsProp (IsExtra n points x)
+IsExtra-prop n points (OfDevice x) = hlevel props
+IsExtra-prop n points (OfFormula x) = hlevel (props, FitsPlaces-prop)
 
-IsChannel-prop : (nodes branches switches vars : ℕ) (c : Channel) → IsProp (IsChannel nodes branches switches vars c)
-IsChannel-prop nodes branches switches vars (NodeChannel n) = hlevel props
-IsChannel-prop nodes branches switches vars (BranchCurrent b) = hlevel props
-IsChannel-prop nodes branches switches vars (BranchVoltage b) = hlevel props
-IsChannel-prop nodes branches switches vars (CurrentChannel s) = hlevel props
-IsChannel-prop nodes branches switches vars (SwitchVoltage s) = hlevel props
-IsChannel-prop nodes branches switches vars (OfTacs v) = hlevel props
-IsChannel-prop nodes branches switches vars (Status s) = hlevel props
+IsChannel-prop : (n : Sizes) (c : Channel) → IsProp (IsChannel n c)
+IsChannel-prop n (NodeChannel node) = hlevel props
+IsChannel-prop n (BranchCurrent b) = hlevel props
+IsChannel-prop n (BranchVoltage b) = hlevel props
+IsChannel-prop n (CurrentChannel s) = hlevel props
+IsChannel-prop n (SwitchVoltage s) = hlevel props
+IsChannel-prop n (OfTacs v) = hlevel props
+IsChannel-prop n (Status s) = hlevel props
 
 pub IsDraft-prop : (p : Parts) → IsProp (IsDraft p)
 IsDraft-prop p =
     hlevel (props, IsBranch-prop, IsSwitchKind-prop, HasShapeNumbers-prop, IsNetworkShape-prop, IsControlShape-prop, IsBound-prop, IsExtra-prop, IsChannel-prop)
 
 pub IsCase-prop : (p : Parts) → IsProp (IsCase p)
-IsCase-prop p =
-    hlevel (props, IsBranch-prop, IsSwitchKind-prop, HasShapeNumbers-prop, IsNetworkShape-prop, IsControlShape-prop, IsBound-prop, IsExtra-prop, IsChannel-prop)
+IsCase-prop p = hlevel (props, IsDraft-prop)

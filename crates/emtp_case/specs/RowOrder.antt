@@ -1,11 +1,12 @@
--- The order of the rows.
+-- The order of the rows. Nodes go by their numbers: it is an order by first appearance where the reader of a case numbers
+-- nodes so, which a case doesn't keep.
 use Rattle.emtp_case.specs.Branch.{from_of, to_of}
 use Rattle.emtp_case.specs.Source.{is_voltage_source_at}
 use Rattle.emtp_case.specs.declared.branch.Branch.{Branch}
 use Rattle.emtp_case.specs.declared.branch.Branch.TheVariants.{Line as OfLine, Lumped as OfLumped, Phase as OfPhase, Pseudo as OfPseudo}
 use Rattle.emtp_case.specs.declared.case.Parts.{Parts}
 use Rattle.emtp_case.specs.declared.row_order.Class.{Class}
-use Rattle.emtp_case.specs.declared.row_order.Class.TheVariants.{Fixed as FixedClass, Late, Plain}
+use Rattle.emtp_case.specs.declared.row_order.Class.TheVariants.{Changing, Constant, Source as SourceClass}
 use Rattle.emtp_case.specs.declared.row_order.Key.{Key}
 use Rattle.emtp_case.specs.declared.switch.Switch.{Switch}
 use Rattle.std.specs.List.{list_any, range_with_len}
@@ -38,22 +39,22 @@ abbrev pub may_change : Parts → ℕ → Bool
 may_change p node = list_any (is_switch_at node) p.switches || list_any (is_pseudo_at node) p.branches
 
 abbrev pub class_of : Parts → ℕ → Class
-class_of p node = if has_source p node then FixedClass else if may_change p node then Late else Plain
+class_of p node = if has_source p node then SourceClass else if may_change p node then Changing else Constant
 
--- the number of branch ends, by which only plain nodes go
+-- the number of branch ends, by which only nodes of constant rows go
 abbrev pub ends_in : Class → Parts → ℕ → ℕ
-ends_in FixedClass p node = 0
-ends_in Plain p node = sum_by (ends_at node) p.branches
-ends_in Late p node = 0
+ends_in SourceClass p node = 0
+ends_in Constant p node = sum_by (ends_at node) p.branches
+ends_in Changing p node = 0
 
--- by what a node is put in order: its class, its number of branch ends, its first appearance
+-- by what a node is put in order: its class, its number of branch ends, its own number
 abbrev pub key_of : Parts → ℕ → Key
 key_of p node = record { class = class_of p node; ends = ends_in (class_of p node) p node; node = node }
 
 abbrev pub class_rank : Class → ℕ
-class_rank FixedClass = 0
-class_rank Plain = 1
-class_rank Late = 2
+class_rank SourceClass = 0
+class_rank Constant = 1
+class_rank Changing = 2
 
 -- by class, then by ends, then by node
 abbrev pub key_cmp : Key → Key → Ordering

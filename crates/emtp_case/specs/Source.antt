@@ -1,10 +1,11 @@
 -- The sources of the network and of its control.
 use Rattle.emtp_case.specs.Range.{IsBetween}
+use Rattle.emtp_case.specs.Sizes.{Sizes}
 use Rattle.emtp_case.specs.declared.source.Shape.{Shape}
 use Rattle.emtp_case.specs.declared.source.Shape.TheVariants.{Cosine, NodeVoltage, Pulse, Ramp, Saw, Step, SwitchCurrent, SwitchStatus, Tacs}
 use Rattle.emtp_case.specs.declared.source.Source.{Source}
 use Rattle.std.specs.Option.{ForSome}
-use Rattle.std.specs.Prelude.{◌≡◌, ◌-◌, ◌^◌, ◌<◌, ◌≤◌, ◌==◌, ◌&&◌, Bool, List, None, Some, false, not, pos, slice_get, unsigned_abs, ℕ}
+use Rattle.std.specs.Prelude.{◌≡◌, ◌-◌, ◌^◌, ◌<◌, ◌≤◌, ◌==◌, ◌&&◌, Bool, List, None, count_by, false, not, pos, unsigned_abs, ℕ}
 
 -- a source whose value is measured in the network: its card has no amplitude, and it is active at all times
 pub record IsMeasured (s : Source) : Type 0 where
@@ -31,49 +32,48 @@ pub record HasSourceNumbers (s : Source) : Type 0 where
   pub stop : ForSome s.stop (IsBetween 1 (10 ^ 18))
   pub shape : HasShapeNumbers s s.shape
 
--- a shape of the network's sources, among so many variables
-abbrev pub IsNetworkShape : ℕ → Shape → Type 0
-IsNetworkShape vars Step = Unit {0}
-IsNetworkShape vars (Ramp rise) = Unit {0}
-IsNetworkShape vars (Cosine freq phase) = Unit {0}
-IsNetworkShape vars (Tacs var) = var < vars
-IsNetworkShape vars (Pulse period width) = ⊥
-IsNetworkShape vars (Saw period) = ⊥
-IsNetworkShape vars (NodeVoltage node) = ⊥
-IsNetworkShape vars (SwitchCurrent switch) = ⊥
-IsNetworkShape vars (SwitchStatus switch) = ⊥
+-- a shape of the network's sources, among so many records
+abbrev pub IsNetworkShape : Sizes → Shape → Type 0
+IsNetworkShape n Step = Unit {0}
+IsNetworkShape n (Ramp rise) = Unit {0}
+IsNetworkShape n (Cosine freq phase) = Unit {0}
+IsNetworkShape n (Tacs var) = var < n.vars
+IsNetworkShape n (Pulse period width) = ⊥
+IsNetworkShape n (Saw period) = ⊥
+IsNetworkShape n (NodeVoltage node) = ⊥
+IsNetworkShape n (SwitchCurrent switch) = ⊥
+IsNetworkShape n (SwitchStatus switch) = ⊥
 
--- a shape of the control's sources, among so many nodes and switches
-abbrev pub IsControlShape : ℕ → ℕ → Shape → Type 0
-IsControlShape nodes switches Step = Unit {0}
-IsControlShape nodes switches (Ramp rise) = ⊥
-IsControlShape nodes switches (Cosine freq phase) = Unit {0}
-IsControlShape nodes switches (Tacs var) = ⊥
-IsControlShape nodes switches (Pulse period width) = Unit {0}
-IsControlShape nodes switches (Saw period) = Unit {0}
-IsControlShape nodes switches (NodeVoltage node) = (1 ≤ node) × (node ≤ nodes)
-IsControlShape nodes switches (SwitchCurrent switch) = switch < switches
-IsControlShape nodes switches (SwitchStatus switch) = switch < switches
+-- a shape of the control's sources, among so many records
+abbrev pub IsControlShape : Sizes → Shape → Type 0
+IsControlShape n Step = Unit {0}
+IsControlShape n (Ramp rise) = ⊥
+IsControlShape n (Cosine freq phase) = Unit {0}
+IsControlShape n (Tacs var) = ⊥
+IsControlShape n (Pulse period width) = Unit {0}
+IsControlShape n (Saw period) = Unit {0}
+IsControlShape n (NodeVoltage node) = (1 ≤ node) × (node ≤ n.nodes)
+IsControlShape n (SwitchCurrent switch) = switch < n.switches
+IsControlShape n (SwitchStatus switch) = switch < n.switches
 
 -- a source of the network, at a node other than ground
-pub record IsSource (nodes vars : ℕ) (s : Source) : Type 0 where
+pub record IsSource (n : Sizes) (s : Source) : Type 0 where
   pub above_ground : 1 ≤ s.node
-  pub there : s.node ≤ nodes
+  pub there : s.node ≤ n.nodes
   pub numbers : HasSourceNumbers s
-  pub shape : IsNetworkShape vars s.shape
+  pub shape : IsNetworkShape n s.shape
 
 -- a source of the control; its variable isn't a standing one, and it brings no current into a node
-pub record IsTacsSource (nodes vars switches : ℕ) (s : Source) : Type 0 where
+pub record IsTacsSource (n : Sizes) (s : Source) : Type 0 where
   pub own : 6 ≤ s.node
-  pub there : s.node < vars
+  pub there : s.node < n.vars
   pub no_current : s.current ≡ false
   pub numbers : HasSourceNumbers s
-  pub shape : IsControlShape nodes switches s.shape
+  pub shape : IsControlShape n s.shape
 
 abbrev pub is_voltage_source_at : ℕ → Source → Bool
 is_voltage_source_at node s = not s.current && (s.node == node)
 
 -- no node has two voltage sources
 abbrev pub OneVoltageEach : List Source → Type 0
-OneVoltageEach sources =
-    (i j : ℕ) (a b : Source) → slice_get sources i ≡ Some a → slice_get sources j ≡ Some b → a.current ≡ false → b.current ≡ false → a.node ≡ b.node → i ≡ j
+OneVoltageEach sources = (node : ℕ) → count_by (is_voltage_source_at node) sources ≤ 1

@@ -8,8 +8,10 @@ ghost use Rattle.emtp_case.specs.Case.{IsDraft, DefinesEach, HasNoControl, empty
 ghost use Rattle.emtp_case.specs.Channel.{IsChannel};
 ghost use Rattle.emtp_case.specs.Control.{IsBlock, IsDeviceCard, HasDevicePoints, IsFormula};
 ghost use Rattle.emtp_case.specs.HistoryValues.{history_values_of, branch_history_values, trio_history_values, device_history_values};
+ghost use Rattle.emtp_case.specs.Name.{IsName};
 ghost use Rattle.emtp_case.specs.OneProof.{IsDraft-prop};
 ghost use Rattle.emtp_case.specs.RunData.{IsRun, samples_of};
+ghost use Rattle.emtp_case.specs.Sizes.{sizes_of};
 ghost use Rattle.emtp_case.specs.Source.{IsSource, IsTacsSource, is_voltage_source_at};
 ghost use Rattle.emtp_case.specs.Switch.{IsSwitch};
 
@@ -60,7 +62,8 @@ impl Draft {
 
     /// Adds the next node.
     pub fn add_node(&mut self, name: Name) -> Result<(), AllocError>
-        requires { length self.old.parts.nodes < 1000 }
+        requires room { length self.old.parts.nodes < 1000 }
+        requires name { IsName name }
         ensures ok { OnOk result (self.new.parts ≡ record self.old.parts { nodes = self.old.parts.nodes ++ name ∷ [] }) }
         ensures err { OnErr result (self.new ≡ self.old) }
     {
@@ -70,7 +73,8 @@ impl Draft {
 
     /// Adds the next variable.
     pub fn add_variable(&mut self, name: Name) -> Result<(), AllocError>
-        requires { length self.old.parts.vars < 606 }
+        requires room { length self.old.parts.vars < 606 }
+        requires name { IsName name }
         ensures ok { OnOk result (self.new.parts ≡ record self.old.parts { vars = self.old.parts.vars ++ name ∷ [] }) }
         ensures err { OnErr result (self.new ≡ self.old) }
     {
@@ -81,7 +85,7 @@ impl Draft {
     /// Adds a series branch.
     pub fn add_lumped(&mut self, branch: Lumped) -> Result<(), AllocError>
         requires room { length self.old.parts.branches < 5000 }
-        requires fits { IsLumped self.old.parts.run (length self.old.parts.nodes) branch }
+        requires fits { IsLumped self.old.parts.run (sizes_of self.old.parts) branch }
         ensures ok { OnOk result (self.new.parts ≡ record self.old.parts { branches = self.old.parts.branches ++ Branch.Lumped branch ∷ [] }) }
         ensures err { OnErr result (self.new ≡ self.old) }
     {
@@ -92,7 +96,7 @@ impl Draft {
     pub fn add_branch(&mut self, branch: Branch) -> Result<(), AllocError>
         requires room { length self.old.parts.branches < 5000 }
         requires single { IsSingle branch }
-        requires fits { IsBranch self.old.parts.run (length self.old.parts.nodes) (length self.old.parts.trios) self.old.parts.points branch }
+        requires fits { IsBranch self.old.parts.run (sizes_of self.old.parts) self.old.parts.points branch }
         requires history { history_values_of self.old.parts + branch_history_values self.old.parts.run.dt branch ≤ 2000000 }
         ensures ok { OnOk result (self.new.parts ≡ record self.old.parts { branches = self.old.parts.branches ++ branch ∷ [] }) }
         ensures err { OnErr result (self.new ≡ self.old) }
@@ -167,7 +171,7 @@ impl Draft {
     /// Adds a switch.
     pub fn add_switch(&mut self, switch: Switch) -> Result<(), AllocError>
         requires room { length self.old.parts.switches < 500 }
-        requires fits { IsSwitch (length self.old.parts.nodes) (length self.old.parts.vars) switch }
+        requires fits { IsSwitch (sizes_of self.old.parts) switch }
         ensures ok { OnOk result (self.new.parts ≡ record self.old.parts { switches = self.old.parts.switches ++ switch ∷ [] }) }
         ensures err { OnErr result (self.new ≡ self.old) }
     {
@@ -183,13 +187,13 @@ impl Draft {
             .sources
             .as_slice()
             .iter()
-            .any(|s| !s.current && s.node == node)
+            .any(|s| s.is_voltage_at(node))
     }
 
     /// Adds a source of the network. A second voltage source of a node is out.
     pub fn add_source(&mut self, source: Source) -> Result<(), AllocError>
         requires room { length self.old.parts.sources < 500 }
-        requires fits { IsSource (length self.old.parts.nodes) (length self.old.parts.vars) source }
+        requires fits { IsSource (sizes_of self.old.parts) source }
         requires one { source.current ≡ false → list_any (is_voltage_source_at source.node) self.old.parts.sources ≡ false }
         ensures ok { OnOk result (self.new.parts ≡ record self.old.parts { sources = self.old.parts.sources ++ source ∷ [] }) }
         ensures err { OnErr result (self.new ≡ self.old) }
@@ -201,7 +205,7 @@ impl Draft {
     /// Adds a source of the control.
     pub fn add_tacs_source(&mut self, source: Source) -> Result<(), AllocError>
         requires room { length self.old.parts.tacs_sources < 200 }
-        requires fits { IsTacsSource (length self.old.parts.nodes) (length self.old.parts.vars) (length self.old.parts.switches) source }
+        requires fits { IsTacsSource (sizes_of self.old.parts) source }
         ensures ok { OnOk result (self.new.parts ≡ record self.old.parts { tacs_sources = self.old.parts.tacs_sources ++ source ∷ [] }) }
         ensures err { OnErr result (self.new ≡ self.old) }
     {
@@ -212,7 +216,7 @@ impl Draft {
     /// Adds a block.
     pub fn add_block(&mut self, block: Block) -> Result<(), AllocError>
         requires room { length self.old.parts.blocks < 200 }
-        requires fits { IsBlock self.old.parts.run (length self.old.parts.vars) block }
+        requires fits { IsBlock self.old.parts.run (sizes_of self.old.parts) block }
         ensures ok { OnOk result (self.new.parts ≡ record self.old.parts { blocks = self.old.parts.blocks ++ block ∷ [] }) }
         ensures err { OnErr result (self.new ≡ self.old) }
     {
@@ -223,7 +227,7 @@ impl Draft {
     /// Adds a device with its points or times. Their place and number in `device` don't matter: they are set here.
     pub fn add_device(&mut self, mut device: Device, points: &[Point]) -> Result<(), AllocError>
         requires room { length self.old.parts.extras < 200 }
-        requires card { IsDeviceCard (length self.old.parts.vars) device }
+        requires card { IsDeviceCard (sizes_of self.old.parts) device }
         requires few { length points.now ≤ 64 }
         requires points { HasDevicePoints device.code points.now }
         requires history { history_values_of self.old.parts + device_history_values self.old.parts.run.dt device.code device.a ≤ 2000000 }
@@ -243,7 +247,7 @@ impl Draft {
     /// Adds a formula.
     pub fn add_formula(&mut self, formula: Formula) -> Result<(), AllocError>
         requires room { length self.old.parts.extras < 200 }
-        requires fits { IsFormula (length self.old.parts.vars) formula }
+        requires fits { IsFormula (sizes_of self.old.parts) formula }
         ensures ok { OnOk result (self.new.parts ≡ record self.old.parts { extras = self.old.parts.extras ++ Extra.Formula formula ∷ [] }) }
         ensures err { OnErr result (self.new ≡ self.old) }
     {
@@ -254,7 +258,7 @@ impl Draft {
     /// Adds a channel.
     pub fn add_channel(&mut self, channel: Channel) -> Result<(), AllocError>
         requires room { length self.old.parts.channels < 64 }
-        requires fits { IsChannel (length self.old.parts.nodes) (length self.old.parts.branches) (length self.old.parts.switches) (length self.old.parts.vars) channel }
+        requires fits { IsChannel (sizes_of self.old.parts) channel }
         requires stored { (length self.old.parts.channels + 1) * samples_of self.old.parts.run ≤ 4000000 }
         ensures ok { OnOk result (self.new.parts ≡ record self.old.parts { channels = self.old.parts.channels ++ channel ∷ [] }) }
         ensures err { OnErr result (self.new ≡ self.old) }

@@ -14,12 +14,13 @@ use std::marker::Model;
 /// Which part of the order a node belongs to.
 #[derive(Clone, Copy, PartialEq, Eq, PartialOrd, Ord)]
 pub enum Class {
-    /// It has a voltage source.
-    Fixed,
-    /// It has no voltage source, and touches nothing that changes its conductance.
-    Plain,
-    /// It has no voltage source, and touches a switch or a pseudo-nonlinear branch.
-    Late,
+    /// It has a voltage source, so that its row is known.
+    Source,
+    /// Its row is the same in all steps: it touches neither a switch nor a pseudo-nonlinear branch.
+    Constant,
+    /// Its row may change from step to step: it touches a switch or a pseudo-nonlinear branch. Such rows come last, so
+    /// that few rows are redone where one of them changes.
+    Changing,
 }
 
 /// By what a node is put in order.
@@ -27,14 +28,15 @@ pub enum Class {
 pub struct Key {
     /// Its part of the order.
     pub class: Class,
-    /// The number of its branch ends, where it is a plain node; else 0.
+    /// The number of its branch ends, where its row is constant; else 0. Few ends first keeps the factor sparse.
     pub ends: u32,
-    /// The node; nodes are numbered by first appearance.
+    /// The node. A reader of a deck numbers nodes by first appearance; nothing else here rests on that.
     pub node: u32,
 }
 
-/// The order of the rows: first the nodes with a voltage source, then the plain nodes by rising number of branch ends,
-/// last those that touch a switch or a pseudo-nonlinear branch. Ties go by first appearance. This project's own.
+/// The order of the rows: first the nodes with a voltage source, then those of constant rows by rising number of branch
+/// ends, last those of rows that may change. Ties go by the number of the node, which is first appearance where nodes are
+/// numbered so. This project's own.
 #[derive(Drop)]
 pub struct RowOrder {
     nodes: Vec<u32>,
@@ -144,7 +146,7 @@ fn key_of(parts: &Parts, node: u32) -> Key
     ensures { result ≡ key_of parts.now node }
 {
     let class = class_of(parts, node);
-    let ends = if class == Class::Plain {
+    let ends = if class == Class::Constant {
         ends_of(parts, node)
     } else {
         0
@@ -156,11 +158,11 @@ fn class_of(parts: &Parts, node: u32) -> Class
     ensures { result ≡ class_of parts.now node }
 {
     if has_source(parts, node) {
-        Class::Fixed
+        Class::Source
     } else if has_switch(parts, node) || has_pseudo(parts, node) {
-        Class::Late
+        Class::Changing
     } else {
-        Class::Plain
+        Class::Constant
     }
 }
 
@@ -171,7 +173,7 @@ fn has_source(parts: &Parts, node: u32) -> bool
         .sources
         .as_slice()
         .iter()
-        .any(|s| !s.current && s.node == node)
+        .any(|s| s.is_voltage_at(node))
 }
 
 fn has_switch(parts: &Parts, node: u32) -> bool

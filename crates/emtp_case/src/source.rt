@@ -1,5 +1,7 @@
 //! The sources of a network and of its control.
 
+ghost use Rattle.std.specs.Prelude.{◌≡◌};
+
 /// A source: of the network, or a TACS source, where `node` is the number of its variable.
 #[derive(Clone, Copy, PartialEq, Eq)]
 pub struct Source {
@@ -7,16 +9,31 @@ pub struct Source {
     pub line: u32,
     /// Its node, from 1; of a TACS source its variable, from 0.
     pub node: u32,
-    /// Whether it is a current source, which brings its value into the node, and not a voltage source.
+    /// Whether it is a current source, which brings its value into the node, and not a voltage source. A TACS source
+    /// is none.
     pub current: bool,
     /// The course of its value in time.
     pub shape: Shape,
-    /// The amplitude, in nV, nA or nano: to 10^18 in magnitude.
+    /// The amplitude, in nV, nA or nano: to 10^18 in magnitude. It is 0 where the value is that of a variable, a node or
+    /// a switch.
     pub amplitude: i64,
-    /// The time from which it is active, in ps: to 10^18 in magnitude.
+    /// The time from which it is active, in ps: to 10^18 in magnitude. It is 0 where the value is that of a node or a
+    /// switch.
     pub start: i64,
-    /// The time up to which it is active, in ps: from 1 to 10^18; none means to the end.
+    /// The time up to which it is active, in ps: from 1 to 10^18; none means to the end, as it is where the value is
+    /// that of a node or a switch.
     pub stop: Option<i64>,
+}
+
+impl Source {
+    ghost use Rattle.emtp_case.specs.Source.{is_voltage_source_at};
+
+    /// Whether it is a voltage source at a node.
+    pub fn is_voltage_at(&self, node: u32) -> bool
+        ensures { result ≡ is_voltage_source_at node self.now }
+    {
+        !self.current && self.node == node
+    }
 }
 
 /// The course of a source's value in time. The last five stand in TACS sources alone.

@@ -1,8 +1,10 @@
 -- Digits behind the point.
-use Rattle.std.proofs.Common.{◌≡◌, ◌≢◌, ℕ, zero, suc, ◌+◌, ◌-◌, ◌*◌, ◌/◌, ◌%◌, ◌^◌, ◌<◌, ◌==◌, if◌then◌else◌, List, [], ◌∷◌, ◌++◌, refl, ap, ◌∙◌, arith, pow-suc, sub-one, append_assoc}
+use Rattle.std.proofs.Common.{◌≡◌, ◌≢◌, ℕ, zero, suc, ◌+◌, ◌-◌, ◌*◌, ◌/◌, ◌%◌, ◌^◌, ◌<◌, ◌==◌, if◌then◌else◌, List, [], ◌∷◌, ◌++◌, refl, ap, ◌∙◌, inl, inr, arith, pow-suc, sub-one, append_assoc}
 use Rattle.std.proofs.lemmas.Bool.Decides.{nat_tests}
 use Rattle.std.proofs.Math.Nat.{div-lt_iff_lt-mul}
-use Rattle.emtp_fix.specs.Decimal.{fraction, point_fraction}
+use Rattle.std.proofs.lemmas.Bool.{cases_eq}
+use Rattle.std.proofs.Math.Nat.{mod-lt, div-add-mod'}
+use Rattle.emtp_fix.specs.Decimal.{fraction, written, last_digit, point_fraction}
 
 pub power-above : (n : ℕ) → 0 < 10 ^ n
 power-above zero = omega arith
@@ -49,3 +51,37 @@ point_fraction-none places r e = grind (arith, nat_tests)
 
 pub point_fraction-some : (places r : ℕ) → r ≢ 0 → point_fraction places r ≡ 46 ∷ fraction places r
 point_fraction-some places r e = choose_rest r [] _ e
+
+-- ---- read back
+
+no_places : (r : ℕ) → fraction zero r ≡ []
+unfolding fraction
+no_places r = refl
+
+digit_next : (places r : ℕ) → r ≢ 0 → fraction (suc places) r ≡ (48 + r / 10 ^ places) ∷ fraction places (r % 10 ^ places)
+digit_next places r some = rw sub-one at (fraction-digit (suc places) r (omega arith) some)
+
+-- the digits write the number that they were made of
+pub fraction-written : (places r : ℕ) → r < 10 ^ places → written places (fraction places r) ≡ r
+unfolding written
+fraction-written zero r less = omega arith
+fraction-written (suc places) r less = elim (cases_eq r 0) [
+  | inl none ↦ rw (none, fraction-none (suc places)) refl
+  | inr some ↦
+      let rest : written places (fraction places (r % 10 ^ places)) ≡ r % 10 ^ places = fraction-written places (r % 10 ^ places) (mod-lt r (power-above places)) in
+      let digit : 48 + r / 10 ^ places - 48 ≡ r / 10 ^ places = omega arith in
+      rw (digit_next places r some, rest, digit) (div-add-mod' r (10 ^ places))
+]
+
+-- and the last of them isn't 0
+pub fraction-last : (places r other : ℕ) → r < 10 ^ places → (r ≡ 0 → other ≢ 48) → last_digit other (fraction places r) ≢ 48
+fraction-last zero r other less first = rw (no_places r) (first (omega arith))
+fraction-last (suc places) r other less first = elim (cases_eq r 0) [
+  | inl none ↦ rw (none, fraction-none (suc places)) (first none)
+  | inr some ↦
+      let next = fraction-last places (r % 10 ^ places) (48 + r / 10 ^ places) (mod-lt r (power-above places)) (λ whole e. some (none places r whole (omega (arith, e)))) in
+      rw (digit_next places r some) next
+]
+  where
+    none : (places r : ℕ) → r % 10 ^ places ≡ 0 → r / 10 ^ places ≡ 0 → r ≡ 0
+    none places r whole front = let is = rw (whole, front) at (div-add-mod' r (10 ^ places)) in omega (arith, is)

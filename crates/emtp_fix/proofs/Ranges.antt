@@ -50,3 +50,11 @@ in_range-neg x =
     by_test : (b : Bool) → (if b then Some (neg_ℤ x) else None) ≡ (if b then Some x else None) >>= (λ y. Some (neg_ℤ y))
     by_test true = refl
     by_test false = refl
+
+-- and chains that begin with a number agree where the next links agree at this number
+pub in_range-chain : {B : Type 0} (x : ℤ) (f g : ℤ → Option B) → f x ≡ g x → in_range x >>= f ≡ in_range x >>= g
+in_range-chain x f g e = by_test (nat_le (unsigned_abs x) LARGEST_VALUE)
+  where
+    by_test : (b : Bool) → (if b then Some x else None) >>= f ≡ (if b then Some x else None) >>= g
+    by_test true = e
+    by_test false = refl

@@ -11,6 +11,7 @@
 #![tactic(auto)]
 
 mod decimal;
+mod laws;
 mod limit;
 mod product;
 mod quotient;
@@ -19,6 +20,7 @@ mod rounding;
 mod steps;
 
 pub use decimal::print_fixed;
+pub use laws::decimals_read_back;
 pub use limit::{
     ATTO, LARGEST_ENTRY, LARGEST_IMPEDANCE, LARGEST_RATIO, LARGEST_VALUE, LARGEST_WIDE,
     LEAST_IMPEDANCE, MICRO, NANO, OutOfRange, PICO, fit, in_range,

@@ -1,3 +1,3 @@
 pub mod Bounds
-pub mod Held
 pub mod Chain
+pub mod Holding

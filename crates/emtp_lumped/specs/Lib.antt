@@ -1,2 +1,4 @@
-pub mod Series
-pub mod Lumping
+pub mod Companion
+pub mod Step
+pub mod Held
+pub mod Lumps

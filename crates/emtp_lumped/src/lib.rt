@@ -1,7 +1,7 @@
 //! The series branches of a network: a resistance, an inductance and a capacitance in one branch.
 //!
-//! Each is Dommel's trapezoidal companion: a conductance, the same in all steps, beside a current source that
-//! stands for the past. The crate stands on `emtp_fix` and `emtp_case`; the network's step stands on it.
+//! Over one step each is its companion: a conductance, the same in all steps, beside a current source that stands for
+//! the past (Dommel 1969). The crate stands on `emtp_fix` and `emtp_case`; the network's step stands on it.
 //!
 //! ```text
 //! let mut lumps = Lumps::open(alloc, &case)?;
@@ -11,11 +11,13 @@
 //! ```
 #![tactic(auto)]
 
-mod law;
+mod companion;
+mod held;
 mod laws;
 mod lumps;
-mod series;
+mod step;
 
+pub use companion::Companion;
+pub use held::HeldBranch;
 pub use laws::{resistor_forgets, rest_stays};
 pub use lumps::Lumps;
-pub use series::SeriesLaw;

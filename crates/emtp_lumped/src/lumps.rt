@@ -1,32 +1,35 @@
 //! All series branches of a case.
 
-ghost use Rattle.std.specs.Prelude.{◌≡◌, ◌≢◌, ◌^◌, ◌≤◌, ◌<◌, ℕ, ℤ, ◌-ℤ◌, unsigned_abs, List, length, map, replicate, slice_get, Some, IfOk, OnErr};
-ghost use Rattle.emtp_case.specs.Branch.{IsBranch};
+ghost use Rattle.std.specs.Prelude.{◌≡◌, ◌^◌, ◌≤◌, ◌∷◌, [], List, ◌-ℤ◌, unsigned_abs, map, IfOk};
+ghost use Rattle.emtp_case.specs.Range.{IsBetween};
 ghost use Rattle.emtp_case.specs.RunData.{IsRun};
-ghost use Rattle.emtp_case.specs.StepRecord.{no_lumped};
+ghost use Rattle.emtp_case.specs.StepRecord.{rest_of};
 ghost use Rattle.emtp_case.specs.declared.branch.Lumped.{Lumped};
 ghost use Rattle.emtp_case.specs.declared.branch.LumpedState.{LumpedState};
-ghost use Rattle.emtp_lumped.specs.Series.{law_of, history_of, next_state};
-ghost use Rattle.emtp_lumped.specs.Lumping.{IsSeries, StandsAt, Accepts, newest, law_at, HasLaw};
+ghost use Rattle.emtp_fix.specs.declared.limit.TheConstants.{LARGEST_ENTRY};
+ghost use Rattle.emtp_lumped.specs.Companion.{companion_of};
+ghost use Rattle.emtp_lumped.specs.Held.{IsHeld};
+ghost use Rattle.emtp_lumped.specs.Lumps.{IsSeries, StandsAt, StandsFor, Moves, newest, HasNumbers, rest_at};
+ghost use Rattle.emtp_lumped.specs.Step.{history_current_of};
 
-use crate::law::{history, next};
-use crate::series::{SeriesLaw, law};
+use crate::companion::Companion;
+use crate::held::HeldBranch;
 use emtp_case::{Branch, Case, Lumped, LumpedState, RunData};
 use emtp_fix::OutOfRange;
 use std::alloc::{AllocError, Global};
 use std::marker::Model;
 
 /// The series branches of a case, numbered by their place among all branches. It stands for a list of records: of each
-/// branch it keeps the newest numbers.
+/// branch it keeps the newest numbers. A branch voltage is that of `from` less that of `to`, and all currents flow
+/// from `from` to `to` through the branch.
 #[derive(Drop)]
 pub struct Lumps<'a> {
     case: &'a Case,
-    laws: Vec<SeriesLaw>,
-    states: Vec<LumpedState>,
+    held: Vec<HeldBranch>,
 }
 
 impl<'a> Model for Lumps<'a> {
-    ghost use Rattle.emtp_lumped.specs.Lumping.{Lumping, IsHeld};
+    ghost use Rattle.emtp_lumped.specs.Lumps.{Lumping, IsLumping};
 
     ghost Value = { Lumping };
 
@@ -34,97 +37,80 @@ impl<'a> Model for Lumps<'a> {
 
     ghost coded = { Prim.hlevel codes };
 
-    ghost view = { λ s. record { case = s.case.now.parts; states = s.states.items } };
+    ghost view = { λ s. record { case = s.case.now.parts; held = s.held.items } };
 
-    ghost invariant = { λ s. IsHeld s.case.now.parts s.laws.items s.states.items };
+    ghost invariant = { λ s. IsLumping s.case.now.parts s.held.items };
 }
 
 impl<'a> Lumps<'a> {
-    /// The state of record 0: all numbers are 0.
+    /// The branches of record 0: all of their numbers are 0.
     pub fn open(alloc: Global, case: &'a Case) -> Result<Lumps<'a>, AllocError>
         ensures case { IfOk result (λ s. s.case ≡ case.now.parts) }
-        ensures rest { IfOk result (λ s. (b : ℕ) (past : List LumpedState) → b < length case.now.parts.branches → newest past ≡ no_lumped → StandsAt s b past) }
+        ensures stands { IfOk result (λ s. StandsFor s (rest_of case.now.parts ∷ [])) }
     {
-        let laws = laws_of(alloc, case)?;
-        let states = at_rest(alloc, case.parts.branches.len())?;
-        Ok(Lumps { case, laws, states })
+        let held = at_rest(alloc, case)?;
+        Ok(Lumps { case, held })
     }
 
     /// The conductance of a branch, in pS; it is the same in all steps.
     pub fn conductance(&self, branch: usize) -> i64
         requires { (x : Lumped) × IsSeries self.now.case branch x }
-        ensures { (x : Lumped) → IsSeries self.now.case branch x → result ≡ (law_of self.now.case.run.dt x).g }
+        ensures bound { IsBetween 0 LARGEST_ENTRY result }
+        ensures value { (x : Lumped) → IsSeries self.now.case branch x → result ≡ (companion_of self.now.case.run.dt x).conductance }
     {
-        self.laws[branch].g
+        self.held[branch].companion.conductance
     }
 
-    /// The history current of the next step, in nA: to 10^30 in magnitude.
+    /// The history current of the next step, in nA: to 10^30 in magnitude. It flows from `from` to `to`, so it leaves
+    /// the node `from` and enters the node `to`.
     pub fn history_current(&self, branch: usize) -> i128
         requires { (x : Lumped) × IsSeries self.now.case branch x }
         ensures bound { unsigned_abs result ≤ 10 ^ 30 }
-        ensures value { (x : Lumped) (past : List LumpedState) → IsSeries self.now.case branch x → StandsAt self.now branch past → result ≡ history_of (law_of self.now.case.run.dt x) (newest past) }
+        ensures value { (x : Lumped) (past : List LumpedState) → IsSeries self.now.case branch x → StandsAt self.now branch past → result ≡ history_current_of (companion_of self.now.case.run.dt x) (newest past) }
     {
-        history(&self.laws[branch], &self.states[branch])
+        self.held[branch].history_current
     }
 
-    /// Takes the voltages in nV of a branch's ends `from` and `to`, moves its state and answers its current in nA.
-    /// Where a kept number exceeds 10^18 it is out of range, and all states are as before.
+    /// Takes the voltages `v` and `w` in nV of a branch's ends `from` and `to`, moves the branch by one step and answers
+    /// its current in nA, from `from` to `to`. Where a number that is kept exceeds 10^18 it is out of range.
     pub fn accept(&mut self, branch: usize, v: i64, w: i64) -> Result<i64, OutOfRange>
-        requires series { (x : Lumped) × IsSeries self.old.case branch x }
-        requires v { unsigned_abs v ≤ 10 ^ 18 }
-        requires w { unsigned_abs w ≤ 10 ^ 18 }
-        ensures case { self.new.case ≡ self.old.case }
-        ensures law { (x : Lumped) (past : List LumpedState) → IsSeries self.old.case branch x → StandsAt self.old branch past → Accepts result self.new branch past (next_state (law_of self.old.case.run.dt x) (newest past) (v -ℤ w)) }
-        ensures others { (b : ℕ) (past : List LumpedState) → b ≢ branch → StandsAt self.old b past → StandsAt self.new b past }
-        ensures err { OnErr result (self.new ≡ self.old) }
+        requires { (x : Lumped) × IsSeries self.old.case branch x }
+        ensures { Moves self.old self.new branch (v -ℤ w) result }
     {
-        match next(&self.laws[branch], &self.states[branch], v - w) {
-            Some(state) => {
-                self.states[branch] = state;
-                Ok(state.current)
+        match self.held[branch].after(v as i128 - w as i128) {
+            Some(held) => {
+                self.held[branch] = held;
+                Ok(held.state.current)
             }
             None => Err(OutOfRange),
         }
     }
 }
 
-/// The law of each branch; that of another kind is all 0.
-fn laws_of(alloc: Global, case: &Case) -> Result<Vec<SeriesLaw>, AllocError>
-    ensures { IfOk result (λ laws. laws.items ≡ map (law_at case.now.parts.run.dt) case.now.parts.branches) }
+/// Each branch at rest; one of another kind has an empty companion.
+fn at_rest(alloc: Global, case: &Case) -> Result<Vec<HeldBranch>, AllocError>
+    ensures { IfOk result (λ held. held.items ≡ map (rest_at case.now.parts.run.dt) case.now.parts.branches) }
 {
-    let mut laws = Vec::new(alloc);
+    let mut held = Vec::new(alloc);
     for branch in case.parts.branches.as_slice() {
-        laws.push(law_of_branch(&case.parts.run, branch))?;
+        held.push(rest(&case.parts.run, branch))?;
     }
-    Ok(laws)
+    Ok(held)
 }
 
-fn law_of_branch(run: &RunData, branch: &Branch) -> SeriesLaw
+fn rest(run: &RunData, branch: &Branch) -> HeldBranch
     requires run { IsRun run.now }
-    requires branch { HasLaw run.now.dt branch.now }
-    ensures { result ≡ law_at run.now.dt branch.now }
+    requires branch { HasNumbers run.now.dt branch.now }
+    ensures { result ≡ rest_at run.now.dt branch.now }
 {
     match branch {
-        Branch::Lumped(b) => law(run.dt, b),
-        Branch::Line(_) | Branch::Pseudo(_) | Branch::Phase(_) => NO_LAW,
+        Branch::Lumped(b) => HeldBranch::at_rest(Companion::of(run.dt, b)),
+        Branch::Line(_) | Branch::Pseudo(_) | Branch::Phase(_) => HeldBranch::at_rest(NO_COMPANION),
     }
 }
 
-const NO_LAW: SeriesLaw = SeriesLaw {
-    g: 0,
-    z_l: 0,
-    z_c: 0,
+const NO_COMPANION: Companion = Companion {
+    conductance: 0,
+    inductor: 0,
+    capacitor: 0,
 };
-
-const REST: LumpedState = LumpedState {
-    current: 0,
-    v_l: 0,
-    v_c: 0,
-    history_voltage: 0,
-};
-
-fn at_rest(alloc: Global, count: usize) -> Result<Vec<LumpedState>, AllocError>
-    ensures { IfOk result (λ states. states.items ≡ replicate count no_lumped) }
-{
-    vec![in alloc; REST; count]
-}

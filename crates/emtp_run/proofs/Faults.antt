@@ -11,6 +11,7 @@ use Rattle.std.specs.List.{position, range_with_len}
 use Rattle.emtp_case.specs.Branch.{from_of, to_of}
 use Rattle.emtp_case.specs.Case.{IsCase}
 use Rattle.emtp_case.specs.Range.{AreEnds}
+use Rattle.emtp_case.specs.Sizes.{sizes_of}
 use Rattle.emtp_case.specs.RowOrder.{order_of}
 use Rattle.emtp_case.specs.declared.branch.Branch.{Branch}
 use Rattle.emtp_case.specs.declared.branch.Branch.TheVariants.{Lumped as OfLumped}
@@ -58,7 +59,7 @@ ends_name case b ends = elim (cases_eq (from_of b) 0) [
 branches_name : (case : Parts) → IsCase case → All (λ b. IsNode case (end_of b)) case.branches
 branches_name case fits i d within =
     let b = slice_index_or case.branches i d in
-    ends_name case b (branch_ends case.run (length case.nodes) (length case.trios) case.points b (fits.network.branches i d within))
+    ends_name case b (branch_ends case.run (sizes_of case) case.points b (fits.draft.network.branches i d within))
 
 -- a branch that no fault names
 abbrev nowhere : Branch

@@ -1,6 +1,7 @@
 pub mod Values
 pub mod Splitting
 pub mod Steps
+pub mod Names
 pub mod Naming
 pub mod Resistors
 pub mod Whole

@@ -5,6 +5,7 @@ use Rattle.std.proofs.lemmas.List.{take_more}
 use Rattle.emtp_fix.specs.Rounding.{near}
 use Rattle.emtp_fix.proofs.Nearest.{near-zero, near-from_zero, near-below_zero, near_abs-none}
 use Rattle.emtp_case.specs.Branch.{IsLumped, series_impedance, inductor_impedance, capacitor_impedance}
+use Rattle.emtp_case.specs.Sizes.{Sizes}
 use Rattle.emtp_case.specs.declared.branch.Branch.TheVariants.{Lumped as OfLumped}
 use Rattle.emtp_case.specs.declared.run_data.RunData.{RunData}
 use Rattle.emtp_run.specs.declared.card.BranchCard.{BranchCard}
@@ -35,26 +36,30 @@ pub near-by_zero : (a : ℤ) → near a (pos 0) ≡ pos 0
 near-by_zero (pos a) = near-from_zero (pos a) 0 (omega (arith, ints)) ∙ ap pos (near_abs-none a)
 near-by_zero (negsuc a) = near-below_zero (negsuc a) 0 (omega (arith, ints)) ∙ ap (λ n. neg_ℤ (pos n)) (near_abs-none (suc a))
 
-resistor_impedance : (dt : ℤ) (nodes : List (List ℕ)) (line : ℕ) (card : BranchCard) → series_impedance dt (lumped_of nodes line card) ≡ pos card.r
+no_capacitance : (dt : ℤ) → capacitor_impedance dt (pos 0) ≡ pos 0
+unfolding capacitor_impedance
+no_capacitance dt = refl
+
+resistor_impedance : (dt : ℤ) (nodes : List (List ℕ)) (line : ℕ) (card : BranchCard) → series_impedance dt (pos card.r) (pos 0) (pos 0) ≡ pos card.r
 resistor_impedance dt nodes line card =
     let no_inductor : inductor_impedance dt (pos 0) ≡ pos 0 = near-zero dt in
-    let no_capacitor : capacitor_impedance dt (pos 0) ≡ pos 0 = near-by_zero (dt *ℤ pos (10 ^ 9)) in
+    let no_capacitor : capacitor_impedance dt (pos 0) ≡ pos 0 = no_capacitance dt in
     rw (no_inductor, no_capacitor) (omega (arith, ints))
 
 -- what the case asks of the branch
-pub card_fits : (run : RunData) (cards : List BranchCard) (i : ℕ) (d : BranchCard) → i < length cards → All IsResistor cards
-    → IsLumped run (length (nodes_from [] cards)) (lumped_of (nodes_from [] cards) (4 + i) (get_or cards i d))
-card_fits run cards i d below each =
+pub card_fits : (run : RunData) (n : Sizes) (cards : List BranchCard) (i : ℕ) (d : BranchCard) → i < length cards → All IsResistor cards → n.nodes ≡ length (nodes_from [] cards)
+    → IsLumped run n (lumped_of (nodes_from [] cards) (4 + i) (get_or cards i d))
+card_fits run n cards i d below each count =
     let nodes = nodes_from [] cards in
     let card = get_or cards i d in
     let range : IsResistor card = each i d below in
     let impedance = resistor_impedance run.dt nodes (4 + i) card in
     record {
-      ends = card_ends cards i d below range.apart;
+      ends = rw count (card_ends cards i d below range.apart);
       numbers = record {
-        r = record { least = omega (arith, ints); most = omega (arith, ints, range.most) };
-        l = record { least = omega (arith, ints); most = omega (arith, ints) };
-        c = record { least = omega (arith, ints); most = omega (arith, ints) };
+        resistance = record { least = omega (arith, ints); most = omega (arith, ints, range.most) };
+        inductance = record { least = omega (arith, ints); most = omega (arith, ints) };
+        capacitance = record { least = omega (arith, ints); most = omega (arith, ints) };
         impedance = rw impedance (record { least = omega (arith, ints, range.least); most = omega (arith, ints, range.most) });
       };
     }

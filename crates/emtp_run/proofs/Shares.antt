@@ -7,6 +7,7 @@ use Rattle.std.proofs.lemmas.Bool.Decides.{nat_tests}
 use Rattle.std.proofs.lemmas.Int.{ints}
 use Rattle.emtp_case.specs.Branch.{from_of, to_of, IsBranch}
 use Rattle.emtp_case.specs.Range.{AreEnds}
+use Rattle.emtp_case.specs.Sizes.{Sizes}
 use Rattle.emtp_case.specs.declared.branch.Branch.TheVariants.{Lumped as OfLumped, Line as OfLine, Pseudo as OfPseudo, Phase as OfPhase}
 use Rattle.emtp_case.specs.declared.branch.Point.{Point}
 use Rattle.emtp_case.specs.declared.run_data.RunData.{RunData}
@@ -102,11 +103,11 @@ other_apart n other b is apart = apart_by n other (from_of b) (to_of b) is apart
 -- ---- all branches
 
 -- the ends of a branch of a case
-pub branch_ends : (run : RunData) (nodes trios : ℕ) (points : List Point) (b : Branch) → IsBranch run nodes trios points b → AreEnds nodes (from_of b) (to_of b)
-branch_ends run nodes trios points (OfLumped b) is = is.ends
-branch_ends run nodes trios points (OfLine b) is = is.ends
-branch_ends run nodes trios points (OfPseudo b) is = is.ends
-branch_ends run nodes trios points (OfPhase b) is = is.ends
+pub branch_ends : (run : RunData) (n : Sizes) (points : List Point) (b : Branch) → IsBranch run n points b → AreEnds n.nodes (from_of b) (to_of b)
+branch_ends run n points (OfLumped b) is = is.ends
+branch_ends run n points (OfLine b) is = is.ends
+branch_ends run n points (OfPseudo b) is = is.ends
+branch_ends run n points (OfPhase b) is = is.ends
 
 conductance_small : (b : Branch) → unsigned_abs (conductance b) ≤ 10 ^ 18
 unfolding conductance

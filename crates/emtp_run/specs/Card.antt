@@ -3,6 +3,7 @@ use Rattle.std.specs.Prelude.{◌≡◌, ℕ, ◌+◌, ◌-◌, ◌*◌, ◌^◌
 use Rattle.std.specs.Char.{is_ascii_digit}
 use Rattle.std.specs.List.{fold, list_all, take_while}
 use Rattle.std.specs.Str.{bytes_eq}
+use Rattle.emtp_case.specs.Name.{IsName}
 use Rattle.emtp_fix.specs.Rounding.{near}
 use Rattle.emtp_run.specs.declared.card.BranchCard.{BranchCard}
 use Rattle.emtp_run.specs.declared.card.Decimal.{Decimal}
@@ -130,11 +131,17 @@ second_card line =
     then (whole_in line 1 8 and_then λ iout. whole_in line 9 16 and_then λ iplot. if nat_le iplot 1000000 then Some (max 1 iplot) else None)
     else None
 
+-- the name of an end: blank, which is ground, or one that a case takes
+abbrev pub IsEndName : List ℕ → Type 0
+IsEndName name = 1 ≤ length name → IsName name
+
 -- what a series branch card keeps
 pub record IsResistor (card : BranchCard) : Type 0 where
   pub least : 10 ≤ card.r
   pub most : card.r ≤ 10 ^ 15
   pub apart : bytes_eq card.from card.to ≡ false
+  pub from_name : IsEndName card.from
+  pub to_name : IsEndName card.to
 
 -- a series branch card: BUS1, BUS2, R, and no more; its two nodes differ
 unfoldable pub branch_card : List ℕ → Option BranchCard

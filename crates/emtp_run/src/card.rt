@@ -2,7 +2,7 @@
 ghost use Rattle.std.specs.Prelude.{◌≡◌, ◌+◌, ◌-◌, ◌*◌, ◌^◌, ◌<◌, ◌≤◌, ℕ, List, Option, pos, unsigned_abs, length, IsTrue, take, drop, reverse, option_map, IfSome};
 ghost use Rattle.std.specs.List.{list_all, take_while};
 ghost use Rattle.emtp_fix.specs.Rounding.{near};
-ghost use Rattle.emtp_run.specs.Card.{is_blank, is_digit, blanks_in_front, without_blanks_behind, trimmed, field, is_empty, digits_of, fraction_of, exponent_of, value_behind, decimal_of, value_of, number_in, whole_in, is_name_byte, name_in, times_of, AreTimes, IsResistor, first_card, second_card, branch_card, is_blank_card, source_card, output_card};
+ghost use Rattle.emtp_run.specs.Card.{is_blank, is_digit, blanks_in_front, without_blanks_behind, trimmed, field, is_empty, digits_of, fraction_of, exponent_of, value_behind, decimal_of, value_of, number_in, whole_in, is_name_byte, name_in, times_of, AreTimes, IsEndName, IsResistor, first_card, second_card, branch_card, is_blank_card, source_card, output_card};
 
 use emtp_case::Name;
 use emtp_fix::near;
@@ -218,7 +218,8 @@ fn are_name_bytes(text: &[u8]) -> bool
 fn read_name(line: &[u8], first: usize) -> Option<Name>
     requires first { 1 ≤ first }
     requires room { first ≤ 75 }
-    ensures { result ≡ name_in line.now first }
+    ensures value { result ≡ name_in line.now first }
+    ensures name { IfSome result IsEndName }
 {
     let text = field(line, first, first + 5);
     if are_name_bytes(text) {

@@ -3,6 +3,8 @@ ghost use Rattle.std.specs.Prelude.{◌≡◌, ◌+◌, ◌*◌, ◌<◌, ◌≤
 ghost use Rattle.std.specs.List.{position_or_len};
 ghost use Rattle.std.specs.Str.{bytes_eq};
 ghost use Rattle.emtp_case.specs.RunData.{IsRun};
+ghost use Rattle.emtp_case.specs.Name.{IsName};
+ghost use Rattle.emtp_case.specs.Sizes.{sizes_of, sizes_with};
 ghost use Rattle.emtp_case.specs.Source.{IsSource};
 ghost use Rattle.emtp_run.specs.Card.{IsResistor};
 ghost use Rattle.emtp_run.specs.Form.{is_named, with_node, nodes_from};
@@ -73,6 +75,7 @@ fn end_of(nodes: &[Name], name: &Name) -> u32
 fn add_nodes(draft: &mut Draft, names: &[Name]) -> Result<(), AllocError>
     requires none { draft.old.parts.nodes ≡ [] }
     requires few { length names.now ≤ 200 }
+    requires names { All IsName names.now }
     ensures { OnOk result (draft.new.parts ≡ record draft.old.parts { nodes = names.now }) }
 {
     for name in names {
@@ -116,7 +119,7 @@ fn add_branches(draft: &mut Draft, names: &[Name], cards: &[BranchCard]) -> Resu
 
 fn add_sources(draft: &mut Draft, source: Option<Source>) -> Result<(), AllocError>
     requires none { draft.old.parts.sources ≡ [] }
-    requires range { IfSome source (IsSource (length draft.old.parts.nodes) (length draft.old.parts.vars)) }
+    requires range { IfSome source (IsSource (sizes_of draft.old.parts)) }
     ensures { OnOk result (draft.new.parts ≡ record draft.old.parts { sources = source_list source }) }
 {
     match source {
@@ -141,7 +144,7 @@ fn build(
     requires few { length cards.now ≤ 100 }
     requires names { names.now ≡ nodes_from [] cards.now }
     requires few_names { length names.now ≤ 200 }
-    requires source { IfSome tail.source (IsSource (length names.now) 6) }
+    requires source { IfSome tail.source (IsSource (sizes_with (length names.now))) }
     requires least { 1 ≤ tail.output }
     requires most { tail.output ≤ length names.now }
     ensures { IfOk result (λ case. case.parts ≡ parts_of run names.now (branches_of names.now 4 cards.now) (source_list tail.source) tail.output) }

@@ -8,6 +8,7 @@ ghost use Rattle.emtp_run.specs.Card.{◌and_then◌, AreTimes, IsResistor, firs
 ghost use Rattle.emtp_run.specs.Form.{begin, first, second, branch, blank, source, output, lines_of, line_at, has_source, source_places, places_behind, misfit, cards_in_front, is_node, fits_line};
 ghost use Rattle.emtp_case.specs.RunData.{IsRun};
 ghost use Rattle.emtp_case.specs.Source.{IsSource};
+ghost use Rattle.emtp_case.specs.Sizes.{sizes_with};
 ghost use Rattle.emtp_run.specs.Deck.{run_in, node_of, source_of, no_source, sources_by, source_list, lines_of_sources, output_at};
 ghost use Rattle.emtp_run.specs.Reading.{Passes, StopsAt};
 
@@ -190,7 +191,7 @@ fn source(line: &[u8], number: u32, nodes: &[Name]) -> Option<Source>
     requires { length nodes.now ≤ 1000 }
     ensures found { is_some result ≡ fits_line nodes.now source line.now }
     ensures value { IfSome result (λ s. s ≡ source_of nodes.now number (unwrap_or (source_card line.now) no_source)) }
-    ensures range { IfSome result (IsSource (length nodes.now) 6) }
+    ensures range { IfSome result (IsSource (sizes_with (length nodes.now))) }
 {
     let card = source_card(line)?;
     let node = node_number(nodes, &card.node)?;
@@ -213,7 +214,7 @@ fn sources(lines: &mut Lines<'_>, nodes: &[Name]) -> Option<Option<Source>>
     ensures number { IsSome result → lines.new.number ≡ lines.old.number + lines_of_sources (has_source (line_at (lines_of lines.old.rest.now) 0)) }
     ensures left { IsSome result → lines_of lines.new.rest.now ≡ drop (lines_of_sources (has_source (line_at (lines_of lines.old.rest.now) 0))) (lines_of lines.old.rest.now) }
     ensures value { IfSome result (λ s. source_list s ≡ sources_by (has_source (line_at (lines_of lines.old.rest.now) 0)) nodes.now lines.old.number (line_at (lines_of lines.old.rest.now) 0)) }
-    ensures range { IfSome result (λ s. IfSome s (IsSource (length nodes.now) 6)) }
+    ensures range { IfSome result (λ s. IfSome s (IsSource (sizes_with (length nodes.now)))) }
     ensures passes { IsSome result → Passes nodes.now (source_places (has_source (line_at (lines_of lines.old.rest.now) 0)) ++ (blank ∷ [])) (lines.old.number + 1) (lines_of lines.old.rest.now) (lines.new.number + 1) (lines_of lines.new.rest.now) }
     ensures stops { IsNone result → StopsAt nodes.now (source_places (has_source (line_at (lines_of lines.old.rest.now) 0)) ++ (blank ∷ [])) (lines.old.number + 1) (lines_of lines.old.rest.now) lines.new.number }
 {
@@ -283,7 +284,7 @@ pub fn read_tail(lines: &mut Lines<'_>, nodes: &[Name]) -> Option<Tail>
     requires number { lines.old.number < 600 }
     requires few { length nodes.now ≤ 1000 }
     ensures source { IfSome result (λ t. source_list t.source ≡ sources_by (has_source (line_at (lines_of lines.old.rest.now) 2)) nodes.now (lines.old.number + 2) (line_at (lines_of lines.old.rest.now) 2)) }
-    ensures source_range { IfSome result (λ t. IfSome t.source (IsSource (length nodes.now) 6)) }
+    ensures source_range { IfSome result (λ t. IfSome t.source (IsSource (sizes_with (length nodes.now)))) }
     ensures output { IfSome result (λ t. t.output ≡ node_of nodes.now (unwrap_or (line_at (lines_of lines.old.rest.now) (output_at (has_source (line_at (lines_of lines.old.rest.now) 2)) 2) and_then output_card) [])) }
     ensures least { IfSome result (λ t. 1 ≤ t.output) }
     ensures most { IfSome result (λ t. t.output ≤ length nodes.now) }

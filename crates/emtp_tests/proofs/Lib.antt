@@ -1,5 +1,1 @@
-pub mod Characteristics
-pub mod Composed
-pub mod Definitions
-pub mod Histories
 pub mod Lawful

@@ -8,16 +8,8 @@
 #[cfg(test)]
 mod cabinet;
 #[cfg(test)]
-mod case;
-#[cfg(test)]
 mod kept_factor;
 #[cfg(test)]
-mod past_values;
-#[cfg(test)]
 mod record;
-#[cfg(test)]
-mod rounding;
-#[cfg(test)]
-mod series_branch;
 #[cfg(test)]
 mod top_call;

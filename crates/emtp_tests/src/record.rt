@@ -4,6 +4,8 @@ ghost use Rattle.std.specs.Prelude.{◌≡◌, ◌≤◌, [], length, IfOk, OnOk
 ghost use Rattle.emtp_case.specs.Branch.{IsLumped};
 ghost use Rattle.emtp_case.specs.Case.{empty_parts, standing_names};
 ghost use Rattle.emtp_case.specs.Channel.{IsChannel};
+ghost use Rattle.emtp_case.specs.Name.{IsName};
+ghost use Rattle.emtp_case.specs.Sizes.{sizes_of, sizes_with};
 ghost use Rattle.emtp_case.specs.Switch.{IsSwitch};
 
 use emtp_case::{Case, Channel, Draft, Lumped, Name, RunData, Switch, SwitchKind};
@@ -25,7 +27,7 @@ const RUN: RunData = RunData {
 /// 1 ohm from node 1 to node 2.
 #[tactic(auto, unfolding(emtp_fix::specs::Rounding::near, emtp_fix::specs::Rounding::near_abs))]
 fn ohm() -> Lumped
-    ensures { IsLumped RUN 2 result }
+    ensures { IsLumped RUN (sizes_with 2) result }
 {
     Lumped {
         line: 4,
@@ -39,7 +41,7 @@ fn ohm() -> Lumped
 
 /// A switch from node 1 to node 2, to measure a current.
 fn meter() -> Switch
-    ensures { IsSwitch 2 6 result }
+    ensures { IsSwitch (sizes_with 2) result }
 {
     Switch {
         line: 6,
@@ -51,6 +53,8 @@ fn meter() -> Switch
 
 /// Two nodes of these names.
 fn two_nodes(alloc: Global, first: Name, second: Name) -> Result<Draft, AllocError>
+    requires first { IsName first }
+    requires second { IsName second }
     ensures nodes { IfOk result (λ draft. length draft.parts.nodes ≡ 2) }
     ensures rest { IfOk result (λ draft. draft.parts ≡ record (empty_parts RUN) { nodes = draft.parts.nodes }) }
 {
@@ -87,9 +91,9 @@ fn add_channels(
     requires branches { length draft.old.parts.branches ≡ 1 }
     requires switches { length draft.old.parts.switches ≡ 1 }
     requires none { draft.old.parts.channels ≡ [] }
-    requires first { IsChannel 2 1 1 (length draft.old.parts.vars) first }
-    requires second { IsChannel 2 1 1 (length draft.old.parts.vars) second }
-    requires third { IsChannel 2 1 1 (length draft.old.parts.vars) third }
+    requires first { IsChannel (sizes_of draft.old.parts) first }
+    requires second { IsChannel (sizes_of draft.old.parts) second }
+    requires third { IsChannel (sizes_of draft.old.parts) third }
     ensures count { OnOk result (length draft.new.parts.channels ≡ 3) }
     ensures others { OnOk result (draft.new.parts ≡ record draft.old.parts { channels = draft.new.parts.channels }) }
 {
@@ -104,9 +108,11 @@ fn recorded(
     nodes: (Name, Name),
     channels: (Channel, Channel, Channel),
 ) -> Result<Case, AllocError>
-    requires first { IsChannel 2 1 1 6 channels.0 }
-    requires second { IsChannel 2 1 1 6 channels.1 }
-    requires third { IsChannel 2 1 1 6 channels.2 }
+    requires first_node { IsName nodes.0 }
+    requires second_node { IsName nodes.1 }
+    requires first { IsChannel (record (sizes_with 2) { branches = 1; switches = 1 }) channels.0 }
+    requires second { IsChannel (record (sizes_with 2) { branches = 1; switches = 1 }) channels.1 }
+    requires third { IsChannel (record (sizes_with 2) { branches = 1; switches = 1 }) channels.2 }
     ensures { IfOk result (λ case. length case.parts.channels ≡ 3) }
 {
     let mut draft = two_nodes(alloc, nodes.0, nodes.1)?;

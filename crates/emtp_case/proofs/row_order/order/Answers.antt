@@ -12,7 +12,7 @@ pub rows_of-requires-clause-few : goal.rows_of-requires-clause-few
 rows_of-requires-clause-few c =
     let p = c.args.case.now.parts in
     let len = length_permutation (range_with_len 1 (length p.nodes)) c.in_ok-nodes.nodes.items c.in_ok-nodes.ensures.each_once in
-    omega (arith, c.args.case.now.fits.counts.nodes, len, ap length c.deref.ensures.value, length-range_with_len 1 (length p.nodes))
+    omega (arith, c.args.case.now.fits.draft.counts.nodes, len, ap length c.deref.ensures.value, length-range_with_len 1 (length p.nodes))
 
 pub rows_of-requires-clause-each_once : goal.rows_of-requires-clause-each_once
 rows_of-requires-clause-each_once c =

@@ -10,11 +10,11 @@ returns-then-not-is_status_at-clause-text c =
 
 pub push_status_line-requires-clause-few : goal.push_status_line-requires-clause-few
 push_status_line-requires-clause-few c =
-    omega (arith, c.requires.status, status_before-within c.args.case.now.parts c.args.place (length c.args.case.now.parts.channels) c.requires.place c.args.case.now.fits.counts.channels)
+    omega (arith, c.requires.status, status_before-within c.args.case.now.parts c.args.place (length c.args.case.now.parts.channels) c.requires.place c.args.case.now.fits.draft.counts.channels)
 
 pub overflow_add-result : goal.overflow_add-result
 overflow_add-result c =
-    omega (arith, c.requires.status, status_before-within c.args.case.now.parts c.args.place (length c.args.case.now.parts.channels) c.requires.place c.args.case.now.fits.counts.channels)
+    omega (arith, c.requires.status, status_before-within c.args.case.now.parts c.args.place (length c.args.case.now.parts.channels) c.requires.place c.args.case.now.fits.draft.counts.channels)
 
 pub returns-clause-text : goal.returns-clause-text
 returns-clause-text c =

@@ -6,15 +6,15 @@ use Rattle.emtp_comtrade.proofs.multipliers.multiplier_at.Goals as goal
 
 pub offset_bounds-scales-analog : goal.offset_bounds-scales-analog
 offset_bounds-scales-analog c =
-    omega (arith, analog_before-within c.args.case.now.parts c.args.place (length c.args.case.now.parts.channels) c.requires.place c.args.case.now.fits.counts.channels)
+    omega (arith, analog_before-within c.args.case.now.parts c.args.place (length c.args.case.now.parts.channels) c.requires.place c.args.case.now.fits.draft.counts.channels)
 
 pub bounds-scales-analog : goal.bounds-scales-analog
 bounds-scales-analog c =
-    omega (arith, analog_before-within c.args.case.now.parts c.args.place (length c.args.case.now.parts.channels) c.requires.place c.args.case.now.fits.counts.channels)
+    omega (arith, analog_before-within c.args.case.now.parts c.args.place (length c.args.case.now.parts.channels) c.requires.place c.args.case.now.fits.draft.counts.channels)
 
 pub returns-clause-few : goal.returns-clause-few
 returns-clause-few c =
-    omega (arith, analog_before-within c.args.case.now.parts c.args.place (length c.args.case.now.parts.channels) c.requires.place c.args.case.now.fits.counts.channels)
+    omega (arith, analog_before-within c.args.case.now.parts c.args.place (length c.args.case.now.parts.channels) c.requires.place c.args.case.now.fits.draft.counts.channels)
 
 pub returns-clause-value : goal.returns-clause-value
 returns-clause-value c = λ samples scales.

@@ -5,15 +5,15 @@ use Rattle.emtp_comtrade.proofs.multipliers.put_scale.Goals as goal
 
 pub offset_bounds-scales-analog : goal.offset_bounds-scales-analog
 offset_bounds-scales-analog c =
-    omega (arith, analog_before-within c.args.case.now.parts c.args.place (length c.args.case.now.parts.channels) c.requires.place c.args.case.now.fits.counts.channels)
+    omega (arith, analog_before-within c.args.case.now.parts c.args.place (length c.args.case.now.parts.channels) c.requires.place c.args.case.now.fits.draft.counts.channels)
 
 pub bounds-scales-analog : goal.bounds-scales-analog
 bounds-scales-analog c =
-    omega (arith, analog_before-within c.args.case.now.parts c.args.place (length c.args.case.now.parts.channels) c.requires.place c.args.case.now.fits.counts.channels)
+    omega (arith, analog_before-within c.args.case.now.parts c.args.place (length c.args.case.now.parts.channels) c.requires.place c.args.case.now.fits.draft.counts.channels)
 
 pub overflow_add-result : goal.overflow_add-result
 overflow_add-result c =
-    omega (arith, analog_before-within c.args.case.now.parts c.args.place (length c.args.case.now.parts.channels) c.requires.place c.args.case.now.fits.counts.channels)
+    omega (arith, analog_before-within c.args.case.now.parts c.args.place (length c.args.case.now.parts.channels) c.requires.place c.args.case.now.fits.draft.counts.channels)
 
 pub returns-clause-scales : goal.returns-clause-scales
 returns-clause-scales c =
@@ -23,7 +23,7 @@ returns-clause-scales c =
     let value : to_z w64 (of_z w64 c.multiplier.result) ≡ c.multiplier.result = search rules in
     let analog : is_status_at p c.args.place ≡ false = sym c.is_status_at.ensures ∙ c.if-is_status_at.false in
     let within : analog_before p c.args.place < length c.args.scales.now =
-    omega (arith, analog_before-within p c.args.place (length p.channels) c.requires.place c.args.case.now.fits.counts.channels) in
+    omega (arith, analog_before-within p c.args.place (length p.channels) c.requires.place c.args.case.now.fits.draft.counts.channels) in
     let Below : ℕ → Type 0 = λ n. ScalesBelow p rows (c.args.place + 1) (set c.args.scales.now n scale) in
     subst Below (sym c.requires.analog)
     (ScalesBelow-analog p rows c.args.place c.args.scales.now scale c.requires.scales analog within (value ∙ c.multiplier.ensures.value) c.multiplier.ensures.least)

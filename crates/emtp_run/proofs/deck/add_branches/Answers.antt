@@ -1,4 +1,4 @@
-use Rattle.std.proofs.Common.{◌∙◌, ◌+◌, ◌++◌, ◌∷◌, [], sym, ap, length, take, length-take-le, arith}
+use Rattle.std.proofs.Common.{◌∙◌, ◌+◌, ◌++◌, ◌∷◌, [], refl, sym, ap, length, take, length-take-le, arith}
 use Rattle.emtp_case.specs.declared.branch.Branch.TheVariants.{Lumped as OfLumped}
 use Rattle.emtp_case.specs.declared.case.Parts.{Parts}
 use Rattle.emtp_run.specs.Deck.{lumped_of, branches_of}
@@ -13,7 +13,7 @@ add_lumped-requires-clause-room c =
 pub add_lumped-requires-clause-fits : goal.add_lumped-requires-clause-fits
 add_lumped-requires-clause-fits c =
     rw (c.loop-at.invariant, c.requires.nodes, c.lumped.ensures, c.requires.names, c.index-cards-at.is)
-    (card_fits c.args.draft.now.parts.run c.args.cards.now c.loop-at.at c.index-cards-at.result c.loop-at-test.true c.requires.cards)
+    (card_fits c.args.draft.now.parts.run _ c.args.cards.now c.loop-at.at c.index-cards-at.result c.loop-at-test.true c.requires.cards refl)
 
 pub loop-at-preserved : goal.loop-at-preserved
 loop-at-preserved c =

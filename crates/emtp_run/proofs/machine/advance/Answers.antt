@@ -9,14 +9,14 @@ take_sample-requires-clause-room c =
     let case = c.args.network.now.case.now.parts in
     let same : c.case-case.result.now.parts ≡ case = ap (λ b. b.now.parts) (c.case-case.ensures ∙ c.step.ensures.case) in
     let due : (c.args.n + 1) % case.run.every ≡ 0 = ap (λ (p : Parts). (c.args.n + 1) % p.run.every) (sym same) ∙ c.if-n-case-eq0.true in
-    let room = has_room case c.args.n c.args.samples.now.rows c.requires.at c.requires.more due c.args.network.now.case.now.fits.run.some_every in
+    let room = has_room case c.args.n c.args.samples.now.rows c.requires.at c.requires.more due c.args.network.now.case.now.fits.draft.run.some_every in
     rw c.requires.room room
 
 pub returns-then-n-case-eq0-clause-ok : goal.returns-then-n-case-eq0-clause-ok
 returns-then-n-case-eq0-clause-ok c =
     let case = c.args.network.now.case.now.parts in
     let same : c.case-case.result.now.parts ≡ case = ap (λ b. b.now.parts) (c.case-case.ensures ∙ c.step.ensures.case) in
-    sampled_on case c.case-case.result.now.parts c.args.n _ c.args.samples.now.rows c.take_sample.new.samples.rows c.as_slice.result.now same c.requires.at c.in_ok-step.ensures.ok c.if-n-case-eq0.true c.args.network.now.case.now.fits.run.some_every c.as_slice.ensures (ap (λ (s : Sampled). s.rows) c.take_sample.ensures.samples)
+    sampled_on case c.case-case.result.now.parts c.args.n _ c.args.samples.now.rows c.take_sample.new.samples.rows c.as_slice.result.now same c.requires.at c.in_ok-step.ensures.ok c.if-n-case-eq0.true c.args.network.now.case.now.fits.draft.run.some_every c.as_slice.ensures (ap (λ (s : Sampled). s.rows) c.take_sample.ensures.samples)
 
 pub returns-else-n-case-eq0-clause-ok : goal.returns-else-n-case-eq0-clause-ok
 returns-else-n-case-eq0-clause-ok c =

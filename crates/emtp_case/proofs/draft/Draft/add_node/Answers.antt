@@ -9,5 +9,5 @@ pub invariant_of-self : goal.invariant_of-self
 invariant_of-self c =
     let p = c.args.self.now.parts in
     let P : List Name → Type 0 = λ xs. IsDraft (record p { nodes = xs }) in
-    let more = with_node p c.args.name c.args.self.now.fits c.requires in
+    let more = with_node p c.args.name c.args.self.now.fits c.requires.room c.requires.name in
     record { fits = pushed_or_not P c.push.result p.nodes c.push.new.self c.args.name c.push.ensures.ok c.push.ensures.err more c.args.self.now.fits }

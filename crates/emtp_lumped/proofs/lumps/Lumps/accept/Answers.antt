@@ -1,75 +1,62 @@
-use Rattle.std.proofs.Common.{◌≡◌, ◌∙◌, ap, sym, subst, ◌-ℤ◌, slice_set, Option, Some, None, Ok, Err, FitsSigned, to_z, of_z, arith, rules}
-use mir.Syntax.{w64}
+use Rattle.std.proofs.Common.{◌∙◌, ap, subst, ◌-ℤ◌, slice_set, Ok, Err, option_map, FitsSigned, to_z, of_z, rules, arith}
+use mir.Syntax.{w64, w128}
 use Rattle.std.proofs.lemmas.Int.{to_z-of_z}
-use Rattle.std.proofs.lemmas.List.Elements.{All-set}
-use Rattle.std.proofs.lemmas.List.{get_or-set_same}
-use Rattle.std.proofs.Math.ListN.{length-set}
-use Rattle.std.proofs.lemmas.Option.{slice_get_within}
-use Rattle.emtp_case.specs.StepRecord.{no_lumped}
-use Rattle.emtp_case.specs.declared.branch.Branch.TheVariants.{Lumped as OfLumped}
-use Rattle.emtp_case.specs.declared.branch.LumpedState.{LumpedState}
-use Rattle.emtp_lumped.specs.Series.{IsKept, law_of, next_state}
-use Rattle.emtp_lumped.specs.Lumping.{Lumping, StandsAt, IsSeries, Accepts, newest}
-use Rattle.emtp_lumped.proofs.Held.{law_read, state_read}
+use Rattle.emtp_lumped.specs.Held.{with_state}
+use Rattle.emtp_lumped.specs.Lumps.{Lumping, Moves}
+use Rattle.emtp_lumped.specs.Step.{next_state}
+use Rattle.emtp_lumped.specs.declared.held.HeldBranch.{HeldBranch}
+use Rattle.emtp_lumped.proofs.Holding.{seen_within, branch_read, lumping-moved, moves-ok, moves-out}
 use Rattle.emtp_lumped.proofs.lumps.Lumps.accept.Goals as goal
 
 pub index_mut-requires : goal.index_mut-requires
 index_mut-requires c =
-    let seen : Lumping = record { case = c.self.inside.case.now.parts; states = c.self.inside.states.items } in
-    let same : seen ≡ c.args.self.now = c.self.view_is in
-    let series = let P = λ (s : Lumping). IsSeries s.case c.args.branch c.requires.series.0 in subst P (sym same) c.requires.series.1 in
-    omega (arith, slice_get_within c.self.inside.case.now.parts.branches c.args.branch (OfLumped c.requires.series.0) series, c.self.invariant.one_each, c.self.inside.states.ok.0)
+    omega (arith, c.self.inside.held.ok.0, seen_within c.self.inside.case.now.parts c.self.inside.held.items c.args.self.now c.args.branch c.requires.0 c.self.view_is c.self.invariant c.requires.1)
 
 pub invariant_of-self : goal.invariant_of-self
-invariant_of-self c = record {
-  laws_are = c.self.invariant.laws_are;
-  one_each = length-set c.self.inside.states.items c.args.branch c.in-Some.state ∙ c.self.invariant.one_each;
-  laws_fit = c.self.invariant.laws_fit;
-  states_fit = All-set IsKept c.self.inside.states.items c.args.branch c.in-Some.state c.in-Some.ensures.kept c.self.invariant.states_fit;
-}
-
-pub returns-in-Some-clause-law : goal.returns-in-Some-clause-law
-returns-in-Some-clause-law c = λ x past series stands.
-    let seen : Lumping = record { case = c.self.inside.case.now.parts; states = c.self.inside.states.items } in
-    let left : Lumping = record { case = c.self.inside.case.now.parts; states = slice_set c.self.inside.states.items c.args.branch c.in-Some.state } in
-    let same : seen ≡ c.args.self.now = c.self.view_is in
-    let stands' = let P = λ (s : Lumping). StandsAt s c.args.branch past in subst P (sym same) stands in
-    let series' = let P = λ (s : Lumping). IsSeries s.case c.args.branch x in subst P (sym same) series in
-    let law = law_read c.self.inside.case.now.parts c.self.inside.laws.items c.self.inside.states.items c.self.invariant c.args.branch x c.index.result.now series' c.index.ensures in
-    let state = state_read seen c.args.branch past c.index-2.result.now stands' c.index-2.ensures in
+invariant_of-self c =
+    let p = c.self.inside.case.now.parts in
+    let held = c.self.inside.held.items in
+    let within = seen_within p held c.args.self.now c.args.branch c.requires.0 c.self.view_is c.self.invariant c.requires.1 in
     let v : FitsSigned w64 c.args.v = c.ranges.v in
     let w : FitsSigned w64 c.args.w = c.ranges.w in
-    let dv : FitsSigned w64 (c.args.v -ℤ c.args.w) = search rules in
+    let v' : FitsSigned w128 c.args.v = search rules in
+    let w' : FitsSigned w128 c.args.w = search rules in
+    let dv : FitsSigned w128 (c.args.v -ℤ c.args.w) = search rules in
+    let read = branch_read held c.args.branch c.index.result.now within c.index.ensures in
     let value = simp to_z-of_z at c.in-Some.ensures.value in
-    let given : next_state (law_of c.args.self.now.case.run.dt x) (newest past) (c.args.v -ℤ c.args.w) ≡ Some c.in-Some.state =
-    sym (value ∙ ap (λ l. next_state l c.index-2.result.now (c.args.v -ℤ c.args.w)) law
-    ∙ ap (λ p. next_state (law_of c.self.inside.case.now.parts.run.dt x) p (c.args.v -ℤ c.args.w)) state
-    ∙ ap (λ (s : Lumping). next_state (law_of s.case.run.dt x) (newest past) (c.args.v -ℤ c.args.w)) same) in
-    let i : FitsSigned w64 c.in-Some.state.current = search rules in
-    let A : Option LumpedState → Type 0 = λ o. Accepts (Ok (to_z w64 (of_z w64 c.in-Some.state.current))) left c.args.branch past o in
-    subst A (sym given) (
-      to_z-of_z w64 c.in-Some.state.current i,
-      record {
-        there = omega (arith, length-set c.self.inside.states.items c.args.branch c.in-Some.state, stands'.there);
-        latest = get_or-set_same c.self.inside.states.items c.args.branch c.in-Some.state no_lumped stands'.there;
-      },
-    )
+    let after = value ∙ ap (λ (k : HeldBranch). option_map (with_state k.companion) (next_state k.companion k.state (c.args.v -ℤ c.args.w))) read in
+    lumping-moved p held c.args.branch (c.args.v -ℤ c.args.w) c.in-Some.held c.self.invariant within after c.in-Some.ensures.held
 
-pub returns-in-None-clause-law : goal.returns-in-None-clause-law
-returns-in-None-clause-law c = λ x past series stands.
-    let seen : Lumping = record { case = c.self.inside.case.now.parts; states = c.self.inside.states.items } in
-    let same : seen ≡ c.args.self.now = c.self.view_is in
-    let stands' = let P = λ (s : Lumping). StandsAt s c.args.branch past in subst P (sym same) stands in
-    let series' = let P = λ (s : Lumping). IsSeries s.case c.args.branch x in subst P (sym same) series in
-    let law = law_read c.self.inside.case.now.parts c.self.inside.laws.items c.self.inside.states.items c.self.invariant c.args.branch x c.index.result.now series' c.index.ensures in
-    let state = state_read seen c.args.branch past c.index-2.result.now stands' c.index-2.ensures in
+pub returns-in-Some : goal.returns-in-Some
+returns-in-Some c =
+    let p = c.self.inside.case.now.parts in
+    let held = c.self.inside.held.items in
+    let within = seen_within p held c.args.self.now c.args.branch c.requires.0 c.self.view_is c.self.invariant c.requires.1 in
     let v : FitsSigned w64 c.args.v = c.ranges.v in
     let w : FitsSigned w64 c.args.w = c.ranges.w in
-    let dv : FitsSigned w64 (c.args.v -ℤ c.args.w) = search rules in
+    let v' : FitsSigned w128 c.args.v = search rules in
+    let w' : FitsSigned w128 c.args.w = search rules in
+    let dv : FitsSigned w128 (c.args.v -ℤ c.args.w) = search rules in
+    let read = branch_read held c.args.branch c.index.result.now within c.index.ensures in
+    let value = simp to_z-of_z at c.in-Some.ensures.value in
+    let after = value ∙ ap (λ (k : HeldBranch). option_map (with_state k.companion) (next_state k.companion k.state (c.args.v -ℤ c.args.w))) read in
+    let left : Lumping = record { case = p; held = slice_set held c.args.branch c.in-Some.held } in
+    let i : FitsSigned w64 c.in-Some.held.state.current = search rules in
+    subst (λ (s : Lumping). Moves s left c.args.branch (c.args.v -ℤ c.args.w) (Ok (to_z w64 (of_z w64 c.in-Some.held.state.current)))) c.self.view_is
+    (moves-ok p held c.args.branch (c.args.v -ℤ c.args.w) (to_z w64 (of_z w64 c.in-Some.held.state.current)) c.in-Some.held c.self.invariant within after (to_z-of_z w64 c.in-Some.held.state.current i))
+
+pub returns-in-None : goal.returns-in-None
+returns-in-None c =
+    let p = c.self.inside.case.now.parts in
+    let held = c.self.inside.held.items in
+    let within = seen_within p held c.args.self.now c.args.branch c.requires.0 c.self.view_is c.self.invariant c.requires.1 in
+    let v : FitsSigned w64 c.args.v = c.ranges.v in
+    let w : FitsSigned w64 c.args.w = c.ranges.w in
+    let v' : FitsSigned w128 c.args.v = search rules in
+    let w' : FitsSigned w128 c.args.w = search rules in
+    let dv : FitsSigned w128 (c.args.v -ℤ c.args.w) = search rules in
+    let read = branch_read held c.args.branch c.index.result.now within c.index.ensures in
     let value = simp to_z-of_z at c.in-None.ensures.value in
-    let given : next_state (law_of c.args.self.now.case.run.dt x) (newest past) (c.args.v -ℤ c.args.w) ≡ None =
-    sym (value ∙ ap (λ l. next_state l c.index-2.result.now (c.args.v -ℤ c.args.w)) law
-    ∙ ap (λ p. next_state (law_of c.self.inside.case.now.parts.run.dt x) p (c.args.v -ℤ c.args.w)) state
-    ∙ ap (λ (s : Lumping). next_state (law_of s.case.run.dt x) (newest past) (c.args.v -ℤ c.args.w)) same) in
-    let A : Option LumpedState → Type 0 = λ o. Accepts (Err (record {})) c.args.self.now c.args.branch past o in
-    subst A (sym given) tt
+    let after = value ∙ ap (λ (k : HeldBranch). option_map (with_state k.companion) (next_state k.companion k.state (c.args.v -ℤ c.args.w))) read in
+    subst (λ (s : Lumping). Moves s s c.args.branch (c.args.v -ℤ c.args.w) (Err (record {}))) c.self.view_is
+    (moves-out p held c.args.branch (c.args.v -ℤ c.args.w) (record {}) c.self.invariant after)

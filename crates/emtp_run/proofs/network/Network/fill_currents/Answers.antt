@@ -9,7 +9,7 @@ use Rattle.emtp_run.proofs.network.Network.fill_currents.Goals as goal
 
 pub add_share-requires-clause-bound : goal.add_share-requires-clause-bound
 add_share-requires-clause-bound c = λ j.
-    let few : length c.as_slice-branch-items.result.now ≤ 5000 = omega (arith, ap length c.as_slice-branch-items.ensures, c.args.self.now.case.now.fits.counts.branches) in
+    let few : length c.as_slice-branch-items.result.now ≤ 5000 = omega (arith, ap length c.as_slice-branch-items.ensures, c.args.self.now.case.now.fits.draft.counts.branches) in
     elim (cases_lt j (length c.loop-branch.out)) [
       | inl below ↦ rw (c.loop-branch.invariant j below) (total_bound c.args.node (slice_index c.args.self.now.order.nodes j) c.loop-branch.branch-index c.as_slice-branch-items.result.now (omega arith) few)
       | inr past ↦ rw (get_or_past c.loop-branch.out j (pos 0) past) (omega (arith, ints))

@@ -10,6 +10,6 @@ pub returns-clause-law : goal.returns-clause-law
 returns-clause-law c =
     let network = c.args.self.now in
     let case = network.case.now.parts in
-    let counts = network.case.now.fits.counts in
+    let counts = network.case.now.fits.draft.counts in
     let law = nodal_lawful case (sources_first_of case network.order network.ordered network.size network.sources_first) counts.nodes counts.branches in
     rw (ap (λ (o : Rows). o.fixed) network.ordered) law

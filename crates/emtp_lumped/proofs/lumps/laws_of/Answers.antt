@@ -1,9 +1,0 @@
-use Rattle.std.proofs.Common.{length, ap, arith}
-use Rattle.emtp_lumped.proofs.Held.{branch_has_law}
-use Rattle.emtp_lumped.proofs.lumps.laws_of.Goals as goal
-
-pub law_of_branch-requires-clause-branch : goal.law_of_branch-requires-clause-branch
-law_of_branch-requires-clause-branch c =
-    let p = c.args.case.now.parts in
-    let k = c.loop-branch.branch-index in
-    rw c.as_slice-branch-items.ensures (branch_has_law p.run (length p.nodes) (length p.trios) p.points _ (c.args.case.now.fits.network.branches k _ (omega (arith, ap length c.as_slice-branch-items.ensures))))

@@ -1,0 +1,18 @@
+use Rattle.std.proofs.Common.{◌≡◌, ◌∙◌, ap, ◌+ℤ◌, ◌-ℤ◌, FitsSigned, arith, rules}
+use mir.Syntax.{w64, w128}
+use Rattle.std.proofs.lemmas.Int.{ints, to_z-of_z}
+use Rattle.emtp_lumped.specs.Step.{history_voltage_of}
+use Rattle.emtp_lumped.proofs.step.history_voltage.Goals as goal
+
+pub returns : goal.returns
+returns c =
+    let i : FitsSigned w64 c.args.i = c.ranges.i in
+    let v_l : FitsSigned w64 c.args.v_l = c.ranges.v_l in
+    let v_c : FitsSigned w64 c.args.v_c = c.ranges.v_c in
+    let zl : FitsSigned w64 c.args.companion.now.inductor = search rules in
+    let zc : FitsSigned w64 c.args.companion.now.capacitor = search rules in
+    let dz : FitsSigned w64 (c.args.companion.now.inductor -ℤ c.args.companion.now.capacitor) = search rules in
+    let wide : FitsSigned w128 c.args.i = search rules in
+    let is = simp to_z-of_z at c.product.ensures.value in
+    let step : (c.args.v_l -ℤ c.args.v_c) +ℤ c.product.result ≡ history_voltage_of c.args.companion.now c.args.i c.args.v_l c.args.v_c = ap (λ z. (c.args.v_l -ℤ c.args.v_c) +ℤ z) is in
+    omega (arith, ints) ∙ step

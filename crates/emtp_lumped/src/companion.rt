@@ -1,0 +1,90 @@
+//! The companion of a series branch: what its card makes of it, the same in all steps.
+
+ghost use Rattle.std.specs.Prelude.{◌≡◌, ◌^◌, ◌≤◌, pos, ◌+ℤ◌, ◌*ℤ◌, unsigned_abs};
+ghost use Rattle.emtp_case.specs.Branch.{HasSeriesNumbers, inductor_impedance, capacitor_impedance};
+ghost use Rattle.emtp_case.specs.Range.{IsBetween};
+ghost use Rattle.emtp_fix.specs.Rounding.{near};
+ghost use Rattle.emtp_fix.specs.declared.limit.TheConstants.{ATTO, LARGEST_ENTRY, LARGEST_IMPEDANCE, LEAST_IMPEDANCE};
+ghost use Rattle.emtp_lumped.specs.Companion.{companion_of};
+
+use emtp_case::Lumped;
+use emtp_fix::{ATTO, near};
+
+/// A series branch over one step, by the trapezoidal rule: a conductance beside a current source that stands for the
+/// past (Dommel 1969).
+#[derive(Clone, Copy, Debug, PartialEq, Eq)]
+pub struct Companion {
+    /// The conductance of the whole branch, in pS: from 0 to 10^17.
+    pub conductance: i64,
+    /// The impedance of the inductance, in micro-ohm: from 0 to 10^15; 0 where there is none.
+    pub inductor: i64,
+    /// The impedance of the capacitance, in micro-ohm: from 0 to 10^15; 0 where there is none.
+    pub capacitor: i64,
+}
+
+impl Companion {
+    /// The companion of a branch at a time step in ps.
+    pub(crate) fn of(dt: i64, b: &Lumped) -> Companion
+        requires dt { IsBetween 1000 (10 ^ 12) dt }
+        requires branch { HasSeriesNumbers dt b.now.r b.now.l b.now.c }
+        ensures { result ≡ companion_of dt b.now }
+    {
+        let inductor = narrow(inductor(dt, b.l));
+        let capacitor = narrow(capacitor(dt, b.c));
+        let conductance = narrow(conductance(impedance(b.r, inductor, capacitor)));
+        Companion {
+            conductance,
+            inductor,
+            capacitor,
+        }
+    }
+}
+
+fn inductor(dt: i64, l: i64) -> i128
+    requires dt { IsBetween 1000 (10 ^ 12) dt }
+    requires l { IsBetween 0 (10 ^ 15) l }
+    ensures { result ≡ inductor_impedance dt l }
+{
+    near(2_000_000_000 * l as i128, dt as i128)
+}
+
+fn capacitor(dt: i64, c: i64) -> i128
+    requires dt { IsBetween 1000 (10 ^ 12) dt }
+    requires c { IsBetween 0 (10 ^ 15) c }
+    ensures { result ≡ capacitor_impedance dt c }
+{
+    if c == 0 { 0 } else { half_step(dt, c) }
+}
+
+/// The whole number nearest to `dt * 10^9 / (2 * c)`.
+fn half_step(dt: i64, c: i64) -> i128
+    requires dt { IsBetween 1000 (10 ^ 12) dt }
+    requires c { IsBetween 1 (10 ^ 15) c }
+    ensures { result ≡ near (dt *ℤ pos (10 ^ 9)) (pos 2 *ℤ c) }
+{
+    near(dt as i128 * 1_000_000_000, 2 * c as i128)
+}
+
+fn impedance(r: i64, inductor: i64, capacitor: i64) -> i128
+    requires r { unsigned_abs r ≤ LARGEST_IMPEDANCE }
+    requires inductor { unsigned_abs inductor ≤ LARGEST_IMPEDANCE }
+    requires capacitor { unsigned_abs capacitor ≤ LARGEST_IMPEDANCE }
+    ensures { result ≡ r +ℤ inductor +ℤ capacitor }
+{
+    r as i128 + inductor as i128 + capacitor as i128
+}
+
+fn conductance(z: i128) -> i128
+    requires { IsBetween LEAST_IMPEDANCE LARGEST_IMPEDANCE z }
+    ensures value { result ≡ near ATTO z }
+    ensures bound { unsigned_abs result ≤ LARGEST_ENTRY }
+{
+    near(ATTO, z)
+}
+
+fn narrow(z: i128) -> i64
+    requires { unsigned_abs z ≤ LARGEST_ENTRY }
+    ensures { result ≡ z }
+{
+    z as i64
+}

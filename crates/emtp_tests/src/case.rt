@@ -1,7 +1,0 @@
-//! Cases that are filled and read back.
-
-mod comparing;
-mod control;
-mod network;
-mod resistors;
-mod times;

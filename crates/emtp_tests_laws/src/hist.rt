@@ -1,0 +1,29 @@
+//! The last values of one quantity.
+
+ghost use Rattle.std.specs.Prelude.{◌≡◌, ℤ, ◌<◌, List, ◌∷◌};
+ghost use Rattle.emtp_hist.specs.History.{Remembers, value_before};
+
+use emtp_hist::History;
+use std::test::Fail;
+
+/// Takes the newest value and answers the one of so many steps before.
+fn delayed(history: &mut History, value: i64, steps: usize) -> i64
+    requires { steps < history.old.depth }
+    ensures depth { history.new.depth ≡ history.old.depth }
+    ensures past { (pushes : List ℤ) → Remembers history.old pushes → Remembers history.new (value ∷ pushes) }
+    ensures answer { (pushes : List ℤ) → Remembers history.old pushes → result ≡ value_before (value ∷ pushes) steps }
+{
+    history.push(value);
+    history.back(steps)
+}
+
+#[test]
+fn looks_back_over_the_last_pushes(rt: HostRuntime) -> Result<(), Fail> {
+    let mut history = History::open(rt.alloc(), 2)?;
+    assert_eq!(rt; history.back(0), 0);
+    assert_eq!(rt; delayed(&mut history, 10, 1), 0);
+    assert_eq!(rt; delayed(&mut history, -20, 1), 10);
+    assert_eq!(rt; delayed(&mut history, 30, 0), 30);
+    assert_eq!(rt; delayed(&mut history, 40, 1), 30);
+    Ok(())
+}

@@ -1,0 +1,276 @@
+//! The worked branches: 1 ohm with an inductance or a capacitance at 100 V, stepped by 100 microseconds.
+
+ghost use Rattle.std.specs.Prelude.{◌≡◌, ◌≢◌, ◌+◌, ◌<◌, [], ◌∷◌, List, ℕ, None, length, IfOk, OnErr, IfErr};
+ghost use Rattle.emtp_case.specs.Branch.{IsLumped};
+ghost use Rattle.emtp_case.specs.Sizes.{sizes_with};
+ghost use Rattle.emtp_case.specs.StepRecord.{StepRecord};
+ghost use Rattle.emtp_case.specs.declared.branch.Lumped.{Lumped};
+ghost use Rattle.emtp_case.specs.declared.branch.LumpedState.{LumpedState};
+ghost use Rattle.emtp_lumped.specs.Lumps.{IsSeries, StandsAt, StandsFor, HasMoved, next_of};
+ghost use Rattle.emtp_tests_laws.specs.Stepping.{voltage_of, HaveMoved, IsNext, IsFirstOut};
+
+use emtp_case::{Branch, Case, Draft, Lumped, Name, RunData};
+use emtp_fix::OutOfRange;
+use emtp_lumped::Lumps;
+use std::alloc::{AllocError, Global};
+use std::test::Fail;
+
+// One step of all series branches, as the network makes it.
+
+/// Takes the node voltages into one branch, and answers its current; 0 where it is no series branch.
+fn accept_one(
+    case: &Case,
+    lumps: &mut Lumps<'_>,
+    voltages: &[i64],
+    at: usize,
+) -> Result<i64, OutOfRange>
+    requires same { lumps.old.case ≡ case.now.parts }
+    requires each { length voltages.now ≡ length case.now.parts.nodes + 1 }
+    requires there { at < length case.now.parts.branches }
+    ensures case { lumps.new.case ≡ lumps.old.case }
+    ensures moved { (x : Lumped) (past : List LumpedState) → IsSeries case.now.parts at x → StandsAt lumps.old at past → IfOk result (HasMoved lumps.new at past (next_of case.now.parts x past (voltage_of x voltages.now))) }
+    ensures out { OnErr result ((x : Lumped) × IsSeries case.now.parts at x × ((past : List LumpedState) → StandsAt lumps.old at past → next_of case.now.parts x past (voltage_of x voltages.now) ≡ None)) }
+    ensures others { (b : ℕ) (past : List LumpedState) → b ≢ at → StandsAt lumps.old b past → StandsAt lumps.new b past }
+{
+    match case.parts.branches.as_slice()[at] {
+        Branch::Lumped(b) => {
+            match lumps.accept(at, voltages[b.from as usize], voltages[b.to as usize]) {
+                Ok(current) => Ok(current),
+                Err(e) => Err(e),
+            }
+        }
+        Branch::Line(_) => Ok(0),
+        Branch::Pseudo(_) => Ok(0),
+        Branch::Phase(_) => Ok(0),
+    }
+}
+
+/// Takes the node voltages into all series branches, in the order of the cards, and writes their currents. An error is
+/// the first branch that is out of range.
+fn accept_all(
+    case: &Case,
+    lumps: &mut Lumps<'_>,
+    voltages: &[i64],
+    currents: &mut [i64],
+) -> Result<(), usize>
+    requires same { lumps.old.case ≡ case.now.parts }
+    requires each { length voltages.now ≡ length case.now.parts.nodes + 1 }
+    requires currents { length currents.old ≡ length case.now.parts.branches }
+    ensures case { lumps.new.case ≡ lumps.old.case }
+    ensures moved { (H : List StepRecord) → StandsFor lumps.old H → IfOk result (λ done. HaveMoved case.now.parts H voltages.now lumps.new currents.new (length case.now.parts.branches)) }
+    ensures stands { (H : List StepRecord) (r : StepRecord) → StandsFor lumps.old H → IsNext case.now.parts H voltages.now r → IfOk result (λ done. StandsFor lumps.new (r ∷ H)) }
+    ensures first { (H : List StepRecord) → StandsFor lumps.old H → IfErr result (IsFirstOut case.now.parts H voltages.now) }
+{
+    for at in 0..case.parts.branches.len() {
+        match accept_one(case, lumps, voltages, at) {
+            Ok(current) => currents[at] = current,
+            Err(_) => return Err(at),
+        }
+    }
+    Ok(())
+}
+
+// Cases.
+
+const RUN: RunData = RunData {
+    dt: 100_000_000,
+    steps: 3,
+    every: 1,
+    tolerance: 10_000_000,
+};
+
+const VOLT: i64 = 1_000_000_000;
+
+/// 1 ohm and 0.05 mH.
+#[tactic(auto, unfolding(emtp_fix::specs::Rounding::near, emtp_fix::specs::Rounding::near_abs, emtp_case::specs::Branch::capacitor_impedance))]
+fn coil() -> Lumped
+    ensures { IsLumped RUN (sizes_with 1) result }
+{
+    Lumped {
+        line: 4,
+        from: 1,
+        to: 0,
+        r: 1_000_000,
+        l: 50_000,
+        c: 0,
+    }
+}
+
+/// 1 ohm and 50 microfarad.
+#[tactic(auto, unfolding(emtp_fix::specs::Rounding::near, emtp_fix::specs::Rounding::near_abs, emtp_case::specs::Branch::capacitor_impedance))]
+fn capacitor() -> Lumped
+    ensures { IsLumped RUN (sizes_with 1) result }
+{
+    Lumped {
+        line: 4,
+        from: 1,
+        to: 0,
+        r: 1_000_000,
+        l: 0,
+        c: 50_000_000_000,
+    }
+}
+
+/// 10 ohm and 5 nH, whose impedance is 100 micro-ohm.
+#[tactic(auto, unfolding(emtp_fix::specs::Rounding::near, emtp_fix::specs::Rounding::near_abs, emtp_case::specs::Branch::capacitor_impedance))]
+fn short_lead() -> Lumped
+    ensures { IsLumped RUN (sizes_with 1) result }
+{
+    Lumped {
+        line: 4,
+        from: 1,
+        to: 0,
+        r: 10_000_000,
+        l: 5,
+        c: 0,
+    }
+}
+
+/// All three parts, of numbers that don't divide evenly.
+#[tactic(auto, unfolding(emtp_fix::specs::Rounding::near, emtp_fix::specs::Rounding::near_abs, emtp_case::specs::Branch::capacitor_impedance))]
+fn all_parts() -> Lumped
+    ensures { IsLumped RUN (sizes_with 1) result }
+{
+    Lumped {
+        line: 4,
+        from: 1,
+        to: 0,
+        r: 1_234_567,
+        l: 76_543,
+        c: 9_876_543_210,
+    }
+}
+
+/// A case of two branches from SRC to ground.
+fn two_branches(alloc: Global, first: Lumped, second: Lumped) -> Result<Case, AllocError>
+    requires first { IsLumped RUN (sizes_with 1) first }
+    requires second { IsLumped RUN (sizes_with 1) second }
+    ensures branches { IfOk result (λ case. case.parts.branches ≡ Branch.Lumped first ∷ Branch.Lumped second ∷ []) }
+    ensures nodes { IfOk result (λ case. length case.parts.nodes ≡ 1) }
+{
+    let mut draft = Draft::new(alloc, RUN)?;
+    draft.add_node(Name::new(b"SRC"))?;
+    draft.add_lumped(first)?;
+    draft.add_lumped(second)?;
+    Ok(draft.finish_network())
+}
+
+/// What stands for a current that is out of range.
+const OUT: i64 = i64::MIN;
+
+/// The history current before and the current after each of three steps at these voltages of the ends.
+fn three_steps(
+    alloc: Global,
+    branch: Lumped,
+    voltages: [(i64, i64); 3],
+) -> Result<[(i128, i64); 3], AllocError>
+    requires { IsLumped RUN (sizes_with 1) branch }
+{
+    let case = two_branches(alloc, branch, branch)?;
+    let mut lumps = Lumps::open(alloc, &case)?;
+    let first = step(&mut lumps, voltages[0]);
+    let second = step(&mut lumps, voltages[1]);
+    let third = step(&mut lumps, voltages[2]);
+    Ok([first, second, third])
+}
+
+fn step(lumps: &mut Lumps<'_>, voltages: (i64, i64)) -> (i128, i64)
+    requires { (x : Lumped) × IsSeries lumps.old.case 0 x }
+    ensures { lumps.new.case ≡ lumps.old.case }
+{
+    let history = lumps.history_current(0);
+    (
+        history,
+        lumps.accept(0, voltages.0, voltages.1).unwrap_or(OUT),
+    )
+}
+
+const V: i64 = 1_000_000_000;
+
+#[test]
+fn worked_branches(rt: HostRuntime) -> Result<(), Fail> {
+    let steady = [(100 * V, 0); 3];
+    let uneven = [
+        (123_456_789_012, -987_654_321),
+        (-55_555_555_555, 7),
+        (31, 100 * V),
+    ];
+    // a difference of voltages that 64 bits don't hold
+    let far = [(i64::MAX, i64::MIN), (100 * V, 0), (V, V)];
+    let rows = [
+        (
+            coil(),
+            steady,
+            [
+                (0, 50 * V),
+                (50_000_000_000, 100 * V),
+                (50_000_000_000, 100 * V),
+            ],
+        ),
+        (
+            capacitor(),
+            steady,
+            [(0, 50 * V), (-50_000_000_000, 0), (-50_000_000_000, 0)],
+        ),
+        (
+            short_lead(),
+            steady,
+            [
+                (0, 9_999_900_001),
+                (199_996, 10_000_099_997),
+                (4, 9_999_900_005),
+            ],
+        ),
+        (
+            all_parts(),
+            uneven,
+            [
+                (0, 15_897_496_659),
+                (-14_344_598_538, -21_441_695_325),
+                (-7_433_275_679, -20_208_049_890),
+            ],
+        ),
+        (
+            coil(),
+            far,
+            [(0, OUT), (0, 50 * V), (50_000_000_000, 50 * V)],
+        ),
+    ];
+    for (branch, voltages, expected) in rows {
+        assert_eq!(rt; three_steps(rt.alloc(), branch, voltages)?, expected);
+    }
+    Ok(())
+}
+
+#[test]
+fn conductances(rt: HostRuntime) -> Result<(), Fail> {
+    let case = two_branches(rt.alloc(), coil(), short_lead())?;
+    let lumps = Lumps::open(rt.alloc(), &case)?;
+    assert_eq!(rt; lumps.conductance(0), 500_000_000_000);
+    // 10^18 over 10,000,100 micro-ohm
+    assert_eq!(rt; lumps.conductance(1), 99_999_000_010);
+    Ok(())
+}
+
+#[test]
+fn all_branches_step_by_step(rt: HostRuntime) -> Result<(), Fail> {
+    let case = two_branches(rt.alloc(), short_lead(), coil())?;
+    let mut lumps = Lumps::open(rt.alloc(), &case)?;
+    let mut currents = [0; 2];
+    assert_eq!(rt;
+        accept_all(&case, &mut lumps, &[0, 100 * V], &mut currents),
+        Ok(())
+    );
+    assert_eq!(rt; currents, [9_999_900_001, 50 * V]);
+    // 5 GV: 0.5 GA through the short lead is in range, 2.5 GA through the coil isn't
+    assert_eq!(rt;
+        accept_all(
+            &case,
+            &mut lumps,
+            &[0, 5_000_000_000_000_000_000],
+            &mut currents
+        ),
+        Err(1)
+    );
+    Ok(())
+}
