@@ -1,8 +1,8 @@
 // The real files of a runtime. A cabinet of these tells nothing of what they hold.
 ghost use Rattle.std.specs.Prelude.{◌≡◌, ◌<◌, ◌≤◌, true, false, length, is_some, None, IfSome, IsTrue, IsNone, IsSome, OnSome, OnOk, OnErr, IfOk};
 ghost use Rattle.std.specs.Bool.{OnTrue, OnFalse};
-ghost use Rattle.emtp_io.specs.Cabinet.{untold, no_outputs, one_more, HasCause};
-ghost use Rattle.emtp_io.specs.Disk.{Disk, is_created, with_created};
+ghost use Rattle.emtp_io.specs.Cabinet.{one_more, HasCause};
+ghost use Rattle.emtp_io.specs.Disk.{Disk, disk_state, is_created, with_created};
 
 use crate::count::raise;
 use crate::{Cabinet, Failed, Output};
@@ -143,15 +143,7 @@ fn create_file<R: Files>(rt: &R, name: &str, file: &mut Option<R::File>) -> bool
 }
 
 impl<R: Files + Print + Drop> Cabinet for DiskCabinet<R> {
-    ghost faults_in = { λ d. d.faults_in };
-
-    ghost faults_out = { λ d. d.faults_out };
-
-    ghost nature = { λ _. untold };
-
-    ghost left = { λ _. None };
-
-    ghost outputs = { λ _. no_outputs };
+    ghost state = { disk_state };
 
     fn open(&mut self, name: &str) -> Result<(), Failed>
         ensures cause { HasCause self.old.faults_in self.new.faults_in result }
