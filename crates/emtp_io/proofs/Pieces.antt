@@ -1,5 +1,5 @@
 -- Outputs that grow piece by piece, and a file that is read piece by piece.
-use Rattle.std.proofs.Common.{◌≡◌, ◌≢◌, ℕ, ◌+◌, ◌≤◌, length, arith, length-append, List, ◌++◌, take, drop, refl, sym, ◌∙◌, ap, subst, append_assoc, Option, Some, None, IsSome}
+use Rattle.std.proofs.Common.{◌≡◌, ◌≢◌, ℕ, ◌+◌, ◌≤◌, length, arith, length-append, List, ◌++◌, take, drop, refl, sym, ◌∙◌, ap, subst, append_assoc, append-nil, [], Option, Some, None, IsSome}
 use Rattle.std.proofs.Math.Seq.{take-add, take-append-add}
 use Rattle.std.proofs.lemmas.List.{take-append-le, take_rest}
 use Rattle.emtp_io.specs.declared.cabinet.Output.{Output}
@@ -23,6 +23,18 @@ appended-append outs Note xs ys =
     ap (λ (e : Option CreatedOutput). with_output outs Note e) (with_bytes-append outs.note xs ys)
 appended-append outs Summary xs ys =
     ap (λ (e : Option CreatedOutput). with_output outs Summary e) (with_bytes-append outs.summary xs ys)
+
+with_bytes-nil : (e : Option CreatedOutput) → with_bytes e [] ≡ e
+with_bytes-nil None = refl
+with_bytes-nil (Some e) = ap (λ (bytes : List ℕ). Some (record e { bytes = bytes })) (append-nil e.bytes)
+
+-- no piece leaves all as it was
+pub appended-nil : (outputs : Outputs) (out : Output) → appended outputs out [] ≡ outputs
+appended-nil outputs Cfg = ap (λ (e : Option CreatedOutput). with_output outputs Cfg e) (with_bytes-nil outputs.cfg)
+appended-nil outputs Dat = ap (λ (e : Option CreatedOutput). with_output outputs Dat e) (with_bytes-nil outputs.dat)
+appended-nil outputs Note = ap (λ (e : Option CreatedOutput). with_output outputs Note e) (with_bytes-nil outputs.note)
+appended-nil outputs Summary =
+    ap (λ (e : Option CreatedOutput). with_output outputs Summary e) (with_bytes-nil outputs.summary)
 
 -- the next piece of some bytes
 pub appended-next : (outs : Outputs) (out : Output) (bytes : List ℕ) (n m : ℕ)
