@@ -1,6 +1,5 @@
-pub mod CfgText
 pub mod Lines
-pub mod MultiplierLemmas
+pub mod ChannelMultipliers
 pub mod Places
-pub mod ScaleLemmas
+pub mod LeastMultiplier
 pub mod Streams

@@ -18,10 +18,11 @@ call-call {new = new} {result = result} first second = record {
   others = λ other ne. second.others other ne ∙ first.others other ne;
 }
 
--- a call that was refused, whatever its caller answers then
-pub call-refused : {T E T' E' : Type 0} {old new : CabinetState} {out : Output} {fault : E} {fault' : E'}
-    → IsOutputCall {T = T} {E = E} old new out (Err fault) → IsOutputCall {T = T'} {E = E'} old new out (Err fault')
-call-refused call = record {
+-- a call that was refused, and a refusal that its caller answers then
+pub call-refused : {T E T' E' : Type 0} {old new : CabinetState} {out : Output} {fault : E} (result : Result T' E') → IsErr result
+    → IsOutputCall {T = T} {E = E} old new out (Err fault) → IsOutputCall old new out result
+call-refused (Ok value) err call = cc
+call-refused (Err fault') err call = record {
   nature = call.nature;
   unread = call.unread;
   faults_in = call.faults_in;
@@ -56,11 +57,12 @@ appends-append {old = old} {middle = middle} {new = new} {out = out} {xs = xs} {
       (subst (λ (n : Nature). HasRoom (output middle.outputs out) (length ys) n.room) (sym first.call.nature) there);
 }
 
--- the first text was cut short, whatever was to follow
-pub appends-front : {T E T' E' : Type 0} {old new : CabinetState} {out : Output} {xs : List ℕ} {fault : E} {fault' : E'} (ys : List ℕ)
-    → Appends {T = T} {E = E} old new out xs (Err fault) → Appends {T = T'} {E = E'} old new out (xs ++ ys) (Err fault')
-appends-front {old = old} {new = new} {out = out} {xs = xs} ys first = record {
-  call = call-refused first.call;
+-- the first text was cut short, and the caller answers a refusal
+pub appends-front : {T E T' E' : Type 0} {old new : CabinetState} {out : Output} {xs : List ℕ} {fault : E} (ys : List ℕ) (result : Result T' E')
+    → IsErr result → Appends {T = T} {E = E} old new out xs (Err fault) → Appends old new out (xs ++ ys) result
+appends-front ys (Ok value) err first = cc
+appends-front {old = old} {new = new} {out = out} {xs = xs} ys (Err fault') err first = record {
+  call = call-refused (Err fault') err first.call;
   ok = first.ok;
   err = λ tells. grew-first old.outputs new.outputs out xs ys (first.err tells);
   calm = λ tells calm fits.

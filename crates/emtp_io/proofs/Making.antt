@@ -56,13 +56,15 @@ makes-one {old = old} {middle = middle} {new = new} {out = out} {name = name} {b
           (subst (λ (outputs : Outputs). HasRoom (output outputs out) (length bytes) middle.nature.room) (sym (is tells)) room);
     }
 
--- an output couldn't be created, whatever its caller answers then
-pub makes-none : {T E T' E' : Type 0} {old new : CabinetState} {out : Output} {name bytes : List ℕ} {fault : E} {fault' : E'}
+-- an output couldn't be created, and the caller answers a refusal
+pub makes-none : {T E T' E' : Type 0} {old new : CabinetState} {out : Output} {name : List ℕ} {fault : E} (bytes : List ℕ) (result : Result T' E')
+    → IsErr result
     → IsOutputCall {T = T} {E = E} old new out (Err fault)
     → new.outputs ≡ old.outputs
-    → (IsTrue old.nature.calm → length name ≤ old.nature.room → IsOk {T = T} (Err fault))
-    → Makes {T = T'} {E = E'} old new (record { out = out; name = name; bytes = bytes } ∷ []) (Err fault')
-makes-none call same never = record {
+    → (IsTrue old.nature.calm → length name ≤ old.nature.room → IsOk {T = T} {E = E} (Err fault))
+    → Makes old new (record { out = out; name = name; bytes = bytes } ∷ []) result
+makes-none bytes (Ok value) err call same never = cc
+makes-none bytes (Err fault') err call same never = record {
   nature = call.nature;
   faults_in = call.faults_in;
   cause = record { later = call.cause.later; ok = call.cause.ok; failed = call.cause.failed };
@@ -124,10 +126,11 @@ makes-append {old = old} {middle = middle} {new = new} {xs = xs} {ys = ys} {resu
       (subst (λ (n : Nature). AllFit ys n.room) (sym first.nature) parts.1);
 }
 
--- it stopped at one of the first outputs, whatever was to follow
-pub makes-front : {T E T' E' : Type 0} {old new : CabinetState} {xs : List Written} {fault : E} {fault' : E'} (ys : List Written)
-    → Makes {T = T} {E = E} old new xs (Err fault) → Makes {T = T'} {E = E'} old new (xs ++ ys) (Err fault')
-makes-front {old = old} {new = new} {xs = xs} ys first = record {
+-- it stopped at one of the first outputs, and the caller answers a refusal
+pub makes-front : {T E T' E' : Type 0} {old new : CabinetState} {xs : List Written} {fault : E} (ys : List Written) (result : Result T' E')
+    → IsErr result → Makes {T = T} {E = E} old new xs (Err fault) → Makes old new (xs ++ ys) result
+makes-front ys (Ok value) err first = cc
+makes-front {old = old} {new = new} {xs = xs} ys (Err fault') err first = record {
   nature = first.nature;
   faults_in = first.faults_in;
   cause = record { later = first.cause.later; ok = first.cause.ok; failed = first.cause.failed };

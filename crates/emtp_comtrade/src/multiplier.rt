@@ -1,28 +1,28 @@
-// The scale of an analog channel.
+// The multiplier of an analog channel.
 ghost use Rattle.std.specs.Prelude.{◌≡◌, ◌≤◌, ◌^◌, IfSome};
-ghost use Rattle.emtp_comtrade.specs.Scale.{scale_in, scale_of, IsScale};
+ghost use Rattle.emtp_comtrade.specs.Multiplier.{multiplier_in, multiplier_of, IsMultiplier};
 
 /// The least of 1, 2 and 5 times a power of ten by which a magnitude is held in 16 bits.
-#[tactic(auto, using(crate::proofs::ScaleLemmas::searching))]
-pub fn scale(greatest: u64) -> u64
+#[tactic(auto, using(crate::proofs::LeastMultiplier::searching))]
+pub fn least_multiplier(greatest: u64) -> u64
     requires { greatest ≤ 2 ^ 63 }
-    ensures value { result ≡ scale_of greatest }
-    ensures least { IsScale greatest result }
+    ensures value { result ≡ multiplier_of greatest }
+    ensures least { IsMultiplier greatest result }
     ensures bound { result ≤ 10 ^ 15 }
 {
     for power in 0..15 {
-        if let Some(scale) = scale_in(greatest, power_of_ten(power)) {
-            return scale;
+        if let Some(multiplier) = multiplier_in(greatest, power_of_ten(power)) {
+            return multiplier;
         }
     }
     1_000_000_000_000_000
 }
 
 /// The first of 1, 2 and 5 units that holds the magnitude.
-fn scale_in(greatest: u64, unit: u64) -> Option<u64>
+fn multiplier_in(greatest: u64, unit: u64) -> Option<u64>
     requires { unit ≤ 10 ^ 14 }
-    ensures value { result ≡ scale_in unit greatest }
-    ensures bound { IfSome result (λ scale. scale ≤ 10 ^ 15) }
+    ensures value { result ≡ multiplier_in unit greatest }
+    ensures bound { IfSome result (λ multiplier. multiplier ≤ 10 ^ 15) }
 {
     if greatest <= 32767 * unit {
         Some(unit)
@@ -35,7 +35,7 @@ fn scale_in(greatest: u64, unit: u64) -> Option<u64>
     }
 }
 
-#[tactic(auto, using(crate::proofs::ScaleLemmas::powers))]
+#[tactic(auto, using(crate::proofs::LeastMultiplier::powers))]
 fn power_of_ten(power: u32) -> u64
     requires { power ≤ 14 }
     ensures value { result ≡ 10 ^ power }
