@@ -25,7 +25,7 @@ MultipliersBelow-status p samples n multipliers below status = record {
       | inr more ↦ absurd (omega arith)
     ]
   ];
-  behind = λ c le less. below.behind c (omega (arith, le, analog_before-status p n status)) less;
+  after = λ c le less. below.after c (omega (arith, le, analog_before-status p n status)) less;
   least = λ place less analog. elim (cases_order place n) as (λ _. IsMultiplier (greatest samples place (length samples)) (multiplier_at samples place)) [
     | inl same ↦ let both : true ≡ false = sym status ∙ ap (is_status_at p) (sym same) ∙ analog in cc
     | inr order ↦ elim order as (λ _. IsMultiplier (greatest samples place (length samples)) (multiplier_at samples place)) [
@@ -35,7 +35,7 @@ MultipliersBelow-status p samples n multipliers below status = record {
   ];
 }
 
--- the multiplier of an analog channel stands behind those of the ones before it
+-- the multiplier of an analog channel stands after those of the ones before it
 pub MultipliersBelow-analog : (p : Parts) (samples : List (List ℤ)) (n : ℕ) (multipliers : List ℤ) (multiplier : ℤ)
     → MultipliersBelow p samples n multipliers → is_status_at p n ≡ false → analog_before p n < length multipliers → multiplier ≡ pos (multiplier_at samples n)
     → IsMultiplier (greatest samples n (length samples)) (multiplier_at samples n)
@@ -55,10 +55,10 @@ MultipliersBelow-analog p samples n multipliers multiplier below analog within i
       | inr more ↦ absurd (omega arith)
     ]
   ];
-  behind = λ c le less.
+  after = λ c le less.
       let before = analog_before-analog p n analog in
       get_or-set_other multipliers (analog_before p n) c multiplier (pos 0) (λ e. absurd (omega (arith, e, le, before)))
-      ∙ below.behind c (omega (arith, le, before)) less;
+      ∙ below.after c (omega (arith, le, before)) less;
   least = λ place less' analog'. elim (cases_order place n) as (λ _. IsMultiplier (greatest samples place (length samples)) (multiplier_at samples place)) [
     | inl same ↦
         let Least : ℕ → Type 0 = λ m. IsMultiplier (greatest samples m (length samples)) (multiplier_at samples m) in
@@ -74,7 +74,7 @@ MultipliersBelow-analog p samples n multipliers multiplier below analog within i
 pub MultipliersBelow-none : (p : Parts) (samples : List (List ℤ)) → MultipliersBelow p samples 0 (replicate 64 (pos 1))
 MultipliersBelow-none p samples = record {
   analog = λ place less analog. absurd (omega arith);
-  behind = λ c le less. get_or-replicate 64 c (pos 1) (pos 0) less;
+  after = λ c le less. get_or-replicate 64 c (pos 1) (pos 0) less;
   least = λ place less analog. absurd (omega arith);
 }
 

@@ -12,7 +12,7 @@ use Rattle.emtp_comtrade.specs.Multiplier.{multiplier_of, IsMultiplier}
 
 -- ---- places
 
--- what stands at 0, at 1 and so on below n, one behind the other
+-- what stands at 0, at 1 and so on below n, one after the other
 abbrev pub joined : ℕ → (ℕ → List ℕ) → List ℕ
 joined zero at = []
 joined (suc n) at = joined n at ++ at n
@@ -57,15 +57,15 @@ status_before p place = count_below (is_status_at p) place
 abbrev pub multiplier_at : List (List ℤ) → ℕ → ℕ
 multiplier_at samples place = multiplier_of (greatest samples place (length samples))
 
--- the multipliers of the analog channels below a place, in order, and 1 behind them
+-- the multipliers of the analog channels below a place, in order, and 1 after them
 pub record MultipliersBelow (p : Parts) (samples : List (List ℤ)) (n : ℕ) (multipliers : List ℤ) : Type 0 where
   pub analog : (place : ℕ) → place < n → is_status_at p place ≡ false
       → slice_index_or multipliers (analog_before p place) (pos 0) ≡ pos (multiplier_at samples place)
-  pub behind : (c : ℕ) → analog_before p n ≤ c → c < 64 → slice_index_or multipliers c (pos 0) ≡ pos 1
+  pub after : (c : ℕ) → analog_before p n ≤ c → c < 64 → slice_index_or multipliers c (pos 0) ≡ pos 1
   pub least : (place : ℕ) → place < n → is_status_at p place ≡ false
       → IsMultiplier (greatest samples place (length samples)) (multiplier_at samples place)
 
--- the multipliers of the analog channels, in order, and 1 behind them
+-- the multipliers of the analog channels, in order, and 1 after them
 abbrev pub AreMultipliers : Parts → List (List ℤ) → List ℤ → Type 0
 AreMultipliers p samples multipliers = MultipliersBelow p samples (length p.channels) multipliers
 

@@ -23,7 +23,7 @@ const RAW_ROOM: usize = NUMBER_ROOM + 1;
 const STATE_ROOM: usize = 2;
 
 /// The raw value of an analog channel: the nearest whole number of multipliers, a half away from zero. It lies at
-/// most half a multiplier from the value.
+/// most half a multiplier from the value, and within -32767 to 32767 for a multiplier of [`scales`](crate::scales).
 #[tactic(auto, using(crate::proofs::Lines::rounding))]
 pub fn raw_value(value: i64, multiplier: i64) -> i128
     requires { multiplier ≢ pos 0 }

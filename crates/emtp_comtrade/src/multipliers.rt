@@ -1,8 +1,8 @@
 // The multipliers of the analog channels of a record.
-ghost use Rattle.std.specs.Prelude.{◌≡◌, ◌≢◌, ℤ, List, false, ◌+◌, ◌≤◌, ◌<◌, ◌^◌, length, pos};
+ghost use Rattle.std.specs.Prelude.{◌≡◌, ◌≢◌, ℕ, ℤ, List, false, ◌+◌, ◌≤◌, ◌<◌, ◌^◌, length, pos};
 ghost use Rattle.emtp_comtrade.specs.Record.{is_status, is_status_at, analog_before, multiplier_at, MultipliersBelow, AreMultipliers};
-ghost use Rattle.emtp_machine.specs.Samples.{greatest};
-ghost use Rattle.emtp_comtrade.specs.Multiplier.{IsMultiplier};
+ghost use Rattle.emtp_machine.specs.Samples.{value_at, greatest};
+ghost use Rattle.emtp_comtrade.specs.Multiplier.{IsMultiplier, IsHeld};
 
 use crate::multiplier::least_multiplier;
 use emtp_case::{Case, Channel};
@@ -10,10 +10,13 @@ use emtp_machine::Samples;
 
 /// The multipliers of the analog channels, in the order of the channels, in 1e-9 V, A or unit: the least of 1, 2
 /// and 5 times a power of ten by which each value of the channel is held in 16 bits. The entries after the last
-/// analog one are 1.
+/// analog one are 1. A raw value is at most 32,767 in magnitude, and at most half a multiplier off.
 pub fn scales(case: &Case, samples: &Samples) -> [i64; 64]
     requires { samples.now.channels ≡ length case.now.parts.channels }
-    ensures { AreMultipliers case.now.parts samples.now.rows result }
+    ensures multipliers { AreMultipliers case.now.parts samples.now.rows result }
+    ensures held { (sample place : ℕ) → sample < length samples.now.rows → place < length case.now.parts.channels
+        → is_status_at case.now.parts place ≡ false
+        → IsHeld (value_at samples.now.rows sample place) (multiplier_at samples.now.rows place) }
 {
     let mut multipliers = [1; 64];
     let mut analog = 0;
