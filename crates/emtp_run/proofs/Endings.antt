@@ -29,7 +29,7 @@ usage-ends {old = old} {new = new} result is told =
     record {
       nature = makes.nature;
       cause = (makes.faults_in , makes.cause.later);
-      leaves = keeps_record result makes;
+      no_record = keeps_record result makes;
       outcome = λ tells. (refl , whole_or_cut result makes tells);
       calm = λ tells calm fit. record {
         inputs = makes.faults_in;
@@ -47,7 +47,7 @@ card-ends {old = old} {new = new} line result is told =
     record {
       nature = makes.nature;
       cause = (makes.faults_in , makes.cause.later);
-      leaves = keeps_record result makes;
+      no_record = keeps_record result makes;
       outcome = λ tells. (refl , whole_or_cut result makes tells);
       calm = λ tells calm fit. record {
         inputs = makes.faults_in;

@@ -1,5 +1,6 @@
 -- What a call comes to, by its words and the bytes of the case.
 use Rattle.std.specs.Prelude.{◌≡◌, ◌≢◌, ◌⊎◌, ℕ, ◌≤◌, ℤ, List, [], ◌∷◌, take, IsTrue, Option, Some, None, IsSomeAnd, option_map, Result, Ok, Err}
+use Rattle.std.specs.Option.{option_and_then}
 use Rattle.emtp_io.specs.Cabinet.{CabinetState, Rose}
 use Rattle.emtp_io.specs.Writes.{Written, with_all, IsCutShort, AllFit}
 use Rattle.emtp_io.specs.declared.cabinet.Output.TheVariants.{Cfg, Dat, Note}
@@ -64,9 +65,21 @@ abbrev pub outcome_for : Option RunFiles → (List ℕ → Option (List ℕ)) �
 outcome_for None files = Some usage
 outcome_for (Some run) files = option_map (λ bytes. outcome_of run bytes) (case_at run.case files)
 
--- over these files; nothing where the case isn't among them
+-- what a call comes to over these files; nothing where the case isn't among them
 abbrev pub outcome : List (List ℕ) → (List ℕ → Option (List ℕ)) → Option Outcome
 outcome words files = outcome_for (fits words) files
+
+abbrev pub accepted : Result Parts ℕ → Option Parts
+accepted (Ok case) = Some case
+accepted (Err line) = None
+
+abbrev pub case_for : Option RunFiles → (List ℕ → Option (List ℕ)) → Option Parts
+case_for None files = None
+case_for (Some run) files = option_and_then (λ bytes. accepted (deck bytes)) (case_at run.case files)
+
+-- the case that is run: nothing where the words don't fit, its file isn't among these or a card of it is refused
+abbrev pub case_of : List (List ℕ) → (List ℕ → Option (List ℕ)) → Option Parts
+case_of words files = case_for (fits words) files
 
 -- the run came to its end, by itself or early
 abbrev pub IsFinished : Status → Type 0
@@ -140,7 +153,7 @@ HasRoomFor o room = IsSomeAnd o (λ o. AllFit o.writes room)
 pub record Ends (status : Status) (o : Option Outcome) (old new : CabinetState) : Type 0 where
   pub nature : new.nature ≡ old.nature
   pub cause : HasStatusCause status old new
-  pub leaves : Leaves status old new
+  pub no_record : Leaves status old new
   pub outcome : IsTrue old.nature.tells → Settles status o old new
   pub calm : IsTrue old.nature.tells → IsTrue old.nature.calm → HasRoomFor o old.nature.room → IsCalmRun status old new
 

@@ -2,9 +2,10 @@
 ghost use Rattle.std.specs.Prelude.{◌≡◌, ◌≢◌, ◌↔◌, ◌-◌, ◌≤◌, Some, None, Ok, length, IsTrue, IsSome, IsErrOf, IfSome, OnOk, IfOk};
 ghost use Rattle.emtp_io.specs.Cabinet.{Rose};
 ghost use Rattle.emtp_io.specs.declared.whole.ReadEnd.{ReadEnd};
-ghost use Rattle.emtp_run.specs.History.{history, samples};
+ghost use Rattle.emtp_run.specs.Deck.{deck};
+ghost use Rattle.emtp_run.specs.History.{history, samples, EndsWithin};
 ghost use Rattle.emtp_run.specs.Words.{texts, fits, files_of};
-ghost use Rattle.emtp_run.specs.Outcome.{outcome, outcome_for, outcome_of, outcome_by, case_at, status_of, Settles, HasStatusCause, Leaves, IsComplete, IsCalmRun, HasRoomFor, Ends};
+ghost use Rattle.emtp_run.specs.Outcome.{accepted, case_for, case_of, outcome, outcome_for, outcome_of, outcome_by, case_at, status_of, Settles, HasStatusCause, Leaves, IsComplete, IsCalmRun, HasRoomFor, Ends};
 
 use crate::deck::{Refused, read};
 use crate::machine::{Run, simulate};
@@ -35,6 +36,8 @@ pub fn emtp<C: Cabinet>(alloc: Global, words: &[String], cabinet: &mut C) -> Sta
     ensures outcome { IsTrue (C.state cabinet.old).nature.tells →
         Settles result (outcome (texts words.now) (C.state cabinet.old).nature.files)
         (C.state cabinet.old) (C.state cabinet.new) }
+    ensures early_end { IsTrue (C.state cabinet.old).nature.tells → result ≡ Status.Ended →
+        IfSome (case_of (texts words.now) (C.state cabinet.old).nature.files) EndsWithin }
     ensures complete { IsTrue (C.state cabinet.old).nature.tells →
         IfSome (outcome (texts words.now) (C.state cabinet.old).nature.files)
         (IsComplete result (C.state cabinet.old) (C.state cabinet.new)) }
@@ -54,6 +57,8 @@ pub fn emtp<C: Cabinet>(alloc: Global, words: &[String], cabinet: &mut C) -> Sta
 /// Reads the file of the case, and runs it.
 fn run_files<C: Cabinet>(alloc: Global, words: RunWords<'_>, cabinet: &mut C) -> Status
     ensures no_usage { result ≢ Status.Usage }
+    ensures early_end { IsTrue (C.state cabinet.old).nature.tells → result ≡ Status.Ended →
+        IfSome (case_for (Some (files_of words.entry)) (C.state cabinet.old).nature.files) EndsWithin }
     ensures ends { Ends result (outcome_for (Some (files_of words.entry)) (C.state cabinet.old).nature.files)
         (C.state cabinet.old) (C.state cabinet.new) }
 {
@@ -85,6 +90,7 @@ fn read_case<C: Cabinet>(alloc: Global, name: &str, cabinet: &mut C) -> Result<V
 fn run_bytes<C: Cabinet>(alloc: Global, words: RunWords<'_>, bytes: &[u8], cabinet: &mut C) -> Status
     ensures no_usage { result ≢ Status.Usage }
     ensures no_read_fault { result ≢ Status.ReadFault }
+    ensures early_end { result ≡ Status.Ended → IfSome (accepted (deck bytes.now)) EndsWithin }
     ensures ends { Ends result (Some (outcome_of (files_of words.entry) bytes.now))
         (C.state cabinet.old) (C.state cabinet.new) }
 {
@@ -99,9 +105,11 @@ fn run_bytes<C: Cabinet>(alloc: Global, words: RunWords<'_>, bytes: &[u8], cabin
 }
 
 /// Steps the case, and makes its record and note.
+#[tactic(auto, using(crate::proofs::Ends::ends))]
 fn run_case<C: Cabinet>(alloc: Global, words: RunWords<'_>, case: &Case, cabinet: &mut C) -> Status
     ensures no_usage { result ≢ Status.Usage }
     ensures no_read_fault { result ≢ Status.ReadFault }
+    ensures early_end { EndsWithin case.now.parts }
     ensures ends { Ends result (Some (outcome_by (files_of words.entry) (Ok case.now.parts)))
         (C.state cabinet.old) (C.state cabinet.new) }
 {
