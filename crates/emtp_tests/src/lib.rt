@@ -6,8 +6,6 @@
 #![tactic(auto)]
 
 #[cfg(test)]
-mod cabinet;
-#[cfg(test)]
 mod cards;
 #[cfg(test)]
 mod case;
@@ -16,10 +14,6 @@ mod kept_factor;
 #[cfg(test)]
 mod past_values;
 #[cfg(test)]
-mod record;
-#[cfg(test)]
 mod rounding;
 #[cfg(test)]
 mod series_branch;
-#[cfg(test)]
-mod top_call;

@@ -135,14 +135,14 @@ fn sampled(
 }
 
 /// Makes both files of a record.
-fn make_record(cab: &mut MemoryCabinet, case: &Case, samples: &Samples) -> Result<(), Failed>
+fn make_record(cabinet: &mut MemoryCabinet, case: &Case, samples: &Samples) -> Result<(), Failed>
     requires { samples.now.channels ≡ length case.now.parts.channels }
 {
-    let scales = scales(case, samples);
-    cab.create(Output::Cfg, "a.cfg")?;
-    write_cfg(cab, case, samples, &scales)?;
-    cab.create(Output::Dat, "a.dat")?;
-    write_dat(cab, case, samples, &scales)
+    let multipliers = scales(case, samples);
+    cabinet.create(Output::Cfg, "a.cfg")?;
+    write_cfg(cabinet, case, samples, &multipliers)?;
+    cabinet.create(Output::Dat, "a.dat")?;
+    write_dat(cabinet, case, samples, &multipliers)
 }
 
 /// The record of these samples has these bytes.
@@ -158,18 +158,35 @@ fn record_is(
     requires few { length rows.now ≤ 1000 }
 {
     let samples = sampled(rt, alloc, 3, rows)?;
-    let mut cab = MemoryCabinet::new(alloc, Vec::new(alloc), Vec::new(alloc), 4096, 4096)?;
-    assert!(rt; make_record(&mut cab, case, &samples).is_ok());
-    assert!(rt; cab.written(Output::Cfg) == Some(cfg.as_bytes()));
-    assert!(rt; cab.written(Output::Dat) == Some(dat.as_bytes()));
+    let mut cabinet = MemoryCabinet::new(alloc, Vec::new(alloc), Vec::new(alloc), 4096, 4096)?;
+    assert!(rt; make_record(&mut cabinet, case, &samples).is_ok());
+    assert!(rt; cabinet.written(Output::Cfg) == Some(cfg.as_bytes()));
+    assert!(rt; cabinet.written(Output::Dat) == Some(dat.as_bytes()));
     Ok(())
 }
 
-const BRANCH_CFG: &str =
-    "EMTP,CASE,1999\r\n3,3A,0D\r\n1,V MID,,,V,0.002,0,0,-32767,32767,1,1,P\r\n2,I SRC-MID,,,A,0.002,0,0,-32767,32767,1,1,P\r\n3,U SRC-MID,,,V,0.002,0,0,-32767,32767,1,1,P\r\n60\r\n0\r\n0,4\r\n01/01/2000,00:00:00.000000\r\n01/01/2000,00:00:00.000000\r\nASCII\r\n100\r\n";
+const BRANCH_CFG: &str = concat!(
+    "EMTP,CASE,1999\r\n",
+    "3,3A,0D\r\n",
+    "1,V MID,,,V,0.002,0,0,-32767,32767,1,1,P\r\n",
+    "2,I SRC-MID,,,A,0.002,0,0,-32767,32767,1,1,P\r\n",
+    "3,U SRC-MID,,,V,0.002,0,0,-32767,32767,1,1,P\r\n",
+    "60\r\n",
+    "0\r\n",
+    "0,4\r\n",
+    "01/01/2000,00:00:00.000000\r\n",
+    "01/01/2000,00:00:00.000000\r\n",
+    "ASCII\r\n",
+    "100\r\n",
+);
 
-const BRANCH_DAT: &str =
-    "1,0,0,0,0\r\n2,1,25000,25000,25000\r\n3,2,25000,25000,25000\r\n4,3,25000,25000,25000\r\n\x1a";
+const BRANCH_DAT: &str = concat!(
+    "1,0,0,0,0\r\n",
+    "2,1,25000,25000,25000\r\n",
+    "3,2,25000,25000,25000\r\n",
+    "4,3,25000,25000,25000\r\n",
+    "\x1a",
+);
 
 /// The node, current and voltage of a branch that carries 50 A at 50 V.
 fn branch_record(rt: &impl Abort, alloc: Global) -> Result<(), AllocError> {
@@ -197,13 +214,32 @@ fn writes_the_record_of_a_branch(rt: HostRuntime) -> Result<(), Fail> {
     Ok(())
 }
 
-const SWITCH_CFG: &str =
-    "EMTP,CASE,1999\r\n3,2A,1D\r\n1,I A-B,,,A,0.005,0,0,-32767,32767,1,1,P\r\n2,U A-B,,,V,0.000000001,0,0,-32767,32767,1,1,P\r\n1,S A-B,,,0\r\n60\r\n0\r\n0,6\r\n01/01/2000,00:00:00.000000\r\n01/01/2000,00:00:00.000000\r\nASCII\r\n100\r\n";
+const SWITCH_CFG: &str = concat!(
+    "EMTP,CASE,1999\r\n",
+    "3,2A,1D\r\n",
+    "1,I A-B,,,A,0.005,0,0,-32767,32767,1,1,P\r\n",
+    "2,U A-B,,,V,0.000000001,0,0,-32767,32767,1,1,P\r\n",
+    "1,S A-B,,,0\r\n",
+    "60\r\n",
+    "0\r\n",
+    "0,6\r\n",
+    "01/01/2000,00:00:00.000000\r\n",
+    "01/01/2000,00:00:00.000000\r\n",
+    "ASCII\r\n",
+    "100\r\n",
+);
 
-const SWITCH_DAT: &str =
-    "1,0,0,0,1\r\n2,1,15000,0,1\r\n3,2,5000,0,1\r\n4,3,-5000,0,1\r\n5,4,0,0,0\r\n6,5,0,0,0\r\n\x1a";
+const SWITCH_DAT: &str = concat!(
+    "1,0,0,0,1\r\n",
+    "2,1,15000,0,1\r\n",
+    "3,2,5000,0,1\r\n",
+    "4,3,-5000,0,1\r\n",
+    "5,4,0,0,0\r\n",
+    "6,5,0,0,0\r\n",
+    "\x1a",
+);
 
-/// The current, voltage and state of a breaker that opens at a current zero behind 75 A.
+/// The current, voltage and state of a breaker that opens at a current zero after 75 A.
 fn switch_record(rt: &impl Abort, alloc: Global) -> Result<(), AllocError> {
     let nodes = (Name::new(b"A"), Name::new(b"B"));
     let channels = (

@@ -6,7 +6,7 @@ use std::alloc::{AllocError, Global};
 use std::test::Fail;
 
 // The one file `case`, of seven bytes, read and written by three bytes at most.
-fn cabinet(alloc: Global, fails: &[Failing], room: usize) -> Result<MemoryCabinet, AllocError> {
+fn seven_bytes(alloc: Global, fails: &[Failing], room: usize) -> Result<MemoryCabinet, AllocError> {
     let mut files = Vec::new(alloc);
     files.push((
         String::from_str(alloc, "case")?,
@@ -18,23 +18,26 @@ fn cabinet(alloc: Global, fails: &[Failing], room: usize) -> Result<MemoryCabine
 #[test]
 fn reads_and_writes_whole(rt: HostRuntime) -> Result<(), Fail> {
     let alloc = rt.alloc();
-    let mut cab = cabinet(alloc, &[], 8)?;
-    assert_eq!(rt; cab.open("none"), Err(Failed));
-    assert_eq!(rt; read_all(alloc, &mut cab, 9), Err(ReadEnd::Failed));
-    cab.open("case")?;
+    let mut cabinet = seven_bytes(alloc, &[], 8)?;
+    assert_eq!(rt; cabinet.open("none"), Err(Failed));
+    assert_eq!(rt; read_all(alloc, &mut cabinet, 9), Err(ReadEnd::Failed));
+    cabinet.open("case")?;
     assert_eq!(rt;
-        read_all(alloc, &mut cab, 5)?.as_slice(),
+        read_all(alloc, &mut cabinet, 5)?.as_slice(),
         b"abcde".as_slice()
     );
-    assert_eq!(rt; read_all(alloc, &mut cab, 9)?.as_slice(), b"fg".as_slice());
-    assert_eq!(rt; write_all(&mut cab, Output::Dat, b"x"), Err(Failed));
-    assert_eq!(rt; cab.create(Output::Dat, "too_long_"), Err(Failed));
-    cab.create(Output::Dat, "a.dat")?;
-    write_all(&mut cab, Output::Dat, b"1234567")?;
-    assert_eq!(rt; write_all(&mut cab, Output::Dat, b"89"), Err(Failed));
-    assert!(rt; cab.written(Output::Dat) == Some(b"12345678".as_slice()));
-    assert!(rt; cab.name(Output::Dat) == Some("a.dat"));
-    assert!(rt; cab.written(Output::Cfg).is_none());
+    assert_eq!(rt;
+        read_all(alloc, &mut cabinet, 9)?.as_slice(),
+        b"fg".as_slice()
+    );
+    assert_eq!(rt; write_all(&mut cabinet, Output::Dat, b"x"), Err(Failed));
+    assert_eq!(rt; cabinet.create(Output::Dat, "too_long_"), Err(Failed));
+    cabinet.create(Output::Dat, "a.dat")?;
+    write_all(&mut cabinet, Output::Dat, b"1234567")?;
+    assert_eq!(rt; write_all(&mut cabinet, Output::Dat, b"89"), Err(Failed));
+    assert!(rt; cabinet.written(Output::Dat) == Some(b"12345678".as_slice()));
+    assert!(rt; cabinet.name(Output::Dat) == Some("a.dat"));
+    assert!(rt; cabinet.written(Output::Cfg).is_none());
     Ok(())
 }
 
@@ -48,17 +51,17 @@ fn fails_where_it_is_told_to(rt: HostRuntime) -> Result<(), Fail> {
         (Op::Write, 2, "abcdefg", true, "123"),
         (Op::Write, 4, "abcdefg", true, "1234567"),
     ] {
-        let mut cab = cabinet(alloc, &[Failing { op, nth }], 8)?;
-        let bytes = match cab.open("case") {
-            Ok(()) => read_all(alloc, &mut cab, 100).unwrap_or(Vec::new(alloc)),
+        let mut cabinet = seven_bytes(alloc, &[Failing { op, nth }], 8)?;
+        let bytes = match cabinet.open("case") {
+            Ok(()) => read_all(alloc, &mut cabinet, 100).unwrap_or(Vec::new(alloc)),
             Err(Failed) => Vec::new(alloc),
         };
         assert_eq!(rt; bytes.as_slice(), read.as_bytes());
-        let is_created = cab.create(Output::Note, "").is_ok();
+        let is_created = cabinet.create(Output::Note, "").is_ok();
         assert_eq!(rt; is_created, created);
-        let _ = write_all(&mut cab, Output::Note, b"1234567");
+        let _ = write_all(&mut cabinet, Output::Note, b"1234567");
         assert_eq!(rt;
-            cab.written(Output::Note).unwrap_or(b"".as_slice()),
+            cabinet.written(Output::Note).unwrap_or(b"".as_slice()),
             written.as_bytes()
         );
     }

@@ -1,5 +1,5 @@
 use Rattle.std.proofs.Common.{◌≡◌, length}
-use Rattle.emtp_tests.proofs.record.sampled.Given as goal
+use Rattle.emtp_tests_record.proofs.comtrade.sampled.Given as goal
 
 abbrev pub invariant-loop-row : goal.invariant-loop-row
 invariant-loop-row g l = record {
