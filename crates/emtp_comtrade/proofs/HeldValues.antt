@@ -1,8 +1,8 @@
 -- A multiplier that holds the greatest magnitude holds each value.
-use Rattle.std.proofs.Common.{◌≡◌, ◌≢◌, inl, inr, ℕ, zero, suc, ◌+◌, ◌*◌, ◌<◌, ◌≤◌, ℤ, pos, unsigned_abs, List, arith, ap}
+use Rattle.std.proofs.Common.{◌≢◌, inl, inr, ℕ, zero, suc, ◌*◌, ◌<◌, ◌≤◌, ℤ, pos, unsigned_abs, List, arith, ap}
 use Rattle.std.proofs.lemmas.Bool.{cases_order}
 use Rattle.std.proofs.Math.Nat.{mul-le-mul_right}
-use Rattle.emtp_fix.specs.Rounding.{near, near_abs}
+use Rattle.emtp_fix.specs.Rounding.{near_abs}
 use Rattle.emtp_fix.proofs.Nearest.{near_abs-low, near-rest, unsigned_abs-near}
 use Rattle.emtp_machine.specs.Samples.{value_at, greatest}
 use Rattle.emtp_comtrade.specs.Multiplier.{IsMultiplier, IsHeld}

@@ -1,5 +1,5 @@
 -- A text that is written as it grows, line by line.
-use Rattle.std.proofs.Common.{◌≡◌, inl, inr, ℕ, zero, suc, ◌+◌, ◌<◌, List, [], ◌++◌, length, add-one, append_assoc, append-nil, arith, refl, sym, ◌∙◌, ap, subst, Result, Ok, Err, IsErr, OnOk}
+use Rattle.std.proofs.Common.{◌≡◌, inl, inr, ℕ, zero, suc, ◌+◌, ◌<◌, List, [], ◌++◌, add-one, append_assoc, append-nil, arith, refl, sym, ◌∙◌, ap, subst, Result, Ok, Err, IsErr, OnOk}
 use Rattle.std.proofs.lemmas.Bool.{cases_order}
 use Rattle.emtp_io.specs.declared.cabinet.Output.{Output}
 use Rattle.emtp_io.specs.Cabinet.{CabinetState}

@@ -1,4 +1,4 @@
-// The configuration of a record.
+//! The configuration of a record.
 ghost use Rattle.std.specs.Prelude.{◌≡◌, ◌+◌, ◌<◌, ◌≤◌, ◌++◌, pos, ◌*ℤ◌, length, OnOk};
 ghost use Rattle.emtp_case.specs.ChannelName.{name_of_channel};
 ghost use Rattle.emtp_case.specs.RunData.{IsRun};
@@ -38,7 +38,7 @@ pub fn write_cfg<C: Cabinet>(
     flush(cabinet, Output::Cfg, &mut text)
 }
 
-// Puts the station and the numbers of channels after the text.
+/// Puts the station and the numbers of channels after the text.
 #[tactic(auto, unfolding(crate::specs::Record::cfg_head))]
 fn push_head(text: &mut Text, case: &Case)
     requires { length text.old + CHANNEL_ROOM ≤ TEXT_ROOM }
@@ -54,7 +54,7 @@ fn push_head(text: &mut Text, case: &Case)
     text.push(b"D\r\n");
 }
 
-// The number of analog channels.
+/// The number of analog channels.
 fn analog_count(case: &Case) -> usize
     ensures { result ≡ analog_before case.now.parts (length case.now.parts.channels) }
 {
@@ -65,7 +65,7 @@ fn analog_count(case: &Case) -> usize
     analog
 }
 
-// The number of status channels.
+/// The number of status channels.
 fn status_count(case: &Case) -> usize
     ensures { result ≡ status_before case.now.parts (length case.now.parts.channels) }
 {
@@ -76,7 +76,7 @@ fn status_count(case: &Case) -> usize
     status
 }
 
-// Puts a line for each analog channel after the text, which is written where it grows long.
+/// Puts a line for each analog channel after the text, which is written where it grows long.
 fn write_analog_lines<C: Cabinet>(
     cabinet: &mut C,
     text: &mut Text,
@@ -100,8 +100,8 @@ fn write_analog_lines<C: Cabinet>(
     Ok(())
 }
 
-// Puts a line after the text, where an analog channel stands at the place. Answers how many analog channels stand up
-// to there.
+/// Puts a line after the text, where an analog channel stands at the place. Answers how many analog channels stand up
+/// to there.
 fn push_analog(
     text: &mut Text,
     case: &Case,
@@ -153,7 +153,7 @@ fn unit_at(case: &Case, place: usize) -> &'static [u8]
     unit(case.parts.channels.as_slice()[place])
 }
 
-// The unit of a channel; a status channel has none.
+/// The unit of a channel; a status channel has none.
 fn unit(channel: Channel) -> &'static [u8]
     ensures unit { result.now ≡ unit_of channel }
     ensures short { length result.now ≤ 2 }
@@ -166,7 +166,7 @@ fn unit(channel: Channel) -> &'static [u8]
     }
 }
 
-// Puts the name of a channel after the text.
+/// Puts the name of a channel after the text.
 fn push_name(text: &mut Text, case: &Case, place: usize)
     requires place { place < length case.now.parts.channels }
     requires room { length text.old + NAME_ROOM ≤ TEXT_ROOM }
@@ -178,8 +178,12 @@ fn push_name(text: &mut Text, case: &Case, place: usize)
     text.push(&name[..len]);
 }
 
-// Puts a line for each status channel after the text, which is written where it grows long.
-fn write_status_lines<C: Cabinet>(cabinet: &mut C, text: &mut Text, case: &Case) -> Result<(), Failed>
+/// Puts a line for each status channel after the text, which is written where it grows long.
+fn write_status_lines<C: Cabinet>(
+    cabinet: &mut C,
+    text: &mut Text,
+    case: &Case,
+) -> Result<(), Failed>
     requires room { length text.old + LINE_ROOM ≤ TEXT_ROOM }
     ensures text { Gathers (C.state cabinet.old) (C.state cabinet.new) Output.Cfg
         (text.old ++ joined (length case.now.parts.channels) (status_line_at case.now.parts)) text.new result }
@@ -193,8 +197,8 @@ fn write_status_lines<C: Cabinet>(cabinet: &mut C, text: &mut Text, case: &Case)
     Ok(())
 }
 
-// Puts a line after the text, where a status channel stands at the place. Answers how many status channels stand up
-// to there.
+/// Puts a line after the text, where a status channel stands at the place. Answers how many status channels stand up
+/// to there.
 fn push_status(text: &mut Text, case: &Case, place: usize, status: usize) -> usize
     requires place { place < length case.now.parts.channels }
     requires status { status ≡ status_before case.now.parts place }
@@ -225,7 +229,7 @@ fn push_status_line(text: &mut Text, case: &Case, place: usize, status: usize)
     text.push(b",,,0\r\n");
 }
 
-// Puts what stands after the channels after the text.
+/// Puts what stands after the channels after the text.
 #[tactic(auto, unfolding(crate::specs::Record::cfg_tail))]
 fn push_tail(text: &mut Text, case: &Case, samples: u32)
     requires { length text.old + LINE_ROOM ≤ TEXT_ROOM }
@@ -238,7 +242,7 @@ fn push_tail(text: &mut Text, case: &Case, samples: u32)
     text.push(b"\r\n");
 }
 
-// The time between two samples in ps.
+/// The time between two samples in ps.
 fn sample_time(case: &Case) -> i64
     ensures { result ≡ pos case.now.parts.run.every *ℤ case.now.parts.run.dt }
 {

@@ -1,4 +1,4 @@
-// The lines of the data.
+//! The lines of the data.
 ghost use Rattle.std.specs.Prelude.{◌≡◌, ◌≢◌, ◌+◌, ◌*◌, ◌<◌, ◌≤◌, ◌++◌, pos, ◌-ℤ◌, ◌*ℤ◌, unsigned_abs, length, ◌==◌, OnOk};
 ghost use Rattle.emtp_fix.specs.Rounding.{near};
 ghost use Rattle.emtp_io.specs.Whole.{Appends};
@@ -52,7 +52,7 @@ pub fn write_dat<C: Cabinet>(
     flush(cabinet, Output::Dat, &mut text)
 }
 
-// Puts a line a sample after the text, which is written where it grows long.
+/// Puts a line a sample after the text, which is written where it grows long.
 fn write_samples<C: Cabinet>(
     cabinet: &mut C,
     text: &mut Text,
@@ -76,7 +76,13 @@ fn write_samples<C: Cabinet>(
 
 /// Puts the line of a sample after the text.
 #[tactic(auto, unfolding(crate::specs::Record::dat_line))]
-pub fn push_sample(text: &mut Text, case: &Case, samples: &Samples, multipliers: &[i64; 64], sample: u32)
+pub fn push_sample(
+    text: &mut Text,
+    case: &Case,
+    samples: &Samples,
+    multipliers: &[i64; 64],
+    sample: u32,
+)
     requires channels { samples.now.channels ≡ length case.now.parts.channels }
     requires multipliers { AreMultipliers case.now.parts samples.now.rows multipliers.now }
     requires sample { sample < length samples.now.rows }
@@ -92,7 +98,7 @@ pub fn push_sample(text: &mut Text, case: &Case, samples: &Samples, multipliers:
     text.push(b"\r\n");
 }
 
-// Puts a comma and the raw value of each analog channel after the text.
+/// Puts a comma and the raw value of each analog channel after the text.
 fn push_raws(text: &mut Text, case: &Case, samples: &Samples, multipliers: &[i64; 64], sample: u32)
     requires channels { samples.now.channels ≡ length case.now.parts.channels }
     requires multipliers { AreMultipliers case.now.parts samples.now.rows multipliers.now }
@@ -108,8 +114,8 @@ fn push_raws(text: &mut Text, case: &Case, samples: &Samples, multipliers: &[i64
     }
 }
 
-// Puts a comma and the raw value after the text, where an analog channel stands at the place. Answers
-// how many analog channels stand up to there.
+/// Puts a comma and the raw value after the text, where an analog channel stands at the place. Answers
+/// how many analog channels stand up to there.
 fn push_raw(
     text: &mut Text,
     case: &Case,
@@ -138,7 +144,7 @@ fn push_raw(
     analog + 1
 }
 
-// Puts a comma and the state of each status channel after the text.
+/// Puts a comma and the state of each status channel after the text.
 fn push_states(text: &mut Text, case: &Case, samples: &Samples, sample: u32)
     requires channels { samples.now.channels ≡ length case.now.parts.channels }
     requires sample { sample < length samples.now.rows }
@@ -152,7 +158,7 @@ fn push_states(text: &mut Text, case: &Case, samples: &Samples, sample: u32)
     }
 }
 
-// Puts a comma and the state after the text, where a status channel stands at the place.
+/// Puts a comma and the state after the text, where a status channel stands at the place.
 fn push_state(text: &mut Text, case: &Case, samples: &Samples, sample: u32, place: usize)
     requires channels { samples.now.channels ≡ length case.now.parts.channels }
     requires sample { sample < length samples.now.rows }

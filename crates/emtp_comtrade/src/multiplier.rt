@@ -1,4 +1,4 @@
-// The multiplier of an analog channel.
+//! The multiplier of an analog channel.
 ghost use Rattle.std.specs.Prelude.{◌≡◌, ◌≤◌, ◌^◌, IfSome};
 ghost use Rattle.emtp_comtrade.specs.Multiplier.{multiplier_in, multiplier_of, IsMultiplier};
 
@@ -15,6 +15,7 @@ pub fn least_multiplier(greatest: u64) -> u64
             return multiplier;
         }
     }
+    // 32,767 times this exceeds 2^63, so that nothing greater is needed.
     1_000_000_000_000_000
 }
 

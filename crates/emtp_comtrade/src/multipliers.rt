@@ -1,4 +1,4 @@
-// The multipliers of the analog channels of a record.
+//! The multipliers of the analog channels of a record.
 ghost use Rattle.std.specs.Prelude.{◌≡◌, ◌≢◌, ℕ, ℤ, List, false, ◌+◌, ◌≤◌, ◌<◌, ◌^◌, length, pos};
 ghost use Rattle.emtp_comtrade.specs.Record.{is_status, is_status_at, analog_before, multiplier_at, MultipliersBelow, AreMultipliers};
 ghost use Rattle.emtp_machine.specs.Samples.{value_at, greatest};
@@ -26,8 +26,8 @@ pub fn scales(case: &Case, samples: &Samples) -> [i64; 64]
     multipliers
 }
 
-// Puts the multiplier of the channel at a place after those of the analog channels before it, and answers how many
-// they are then.
+/// Puts the multiplier of the channel at a place after those of the analog channels before it, and answers how many
+/// they are then.
 fn put_multiplier(
     multipliers: &mut [i64; 64],
     analog: usize,
@@ -49,7 +49,7 @@ fn put_multiplier(
     analog + 1
 }
 
-// The multiplier of the channel at a place.
+/// The multiplier of the channel at a place.
 fn channel_multiplier(samples: &Samples, place: usize) -> i64
     requires { place < samples.now.channels }
     ensures value { result ≡ pos (multiplier_at samples.now.rows place) }
@@ -89,7 +89,7 @@ fn is_status(channel: Channel) -> bool
     matches!(channel, Channel::Status(_))
 }
 
-// The greatest magnitude of a channel.
+/// The greatest magnitude of a channel.
 fn greatest(samples: &Samples, channel: usize) -> u64
     requires { channel < samples.now.channels }
     ensures value { result ≡ greatest samples.now.rows channel (length samples.now.rows) }

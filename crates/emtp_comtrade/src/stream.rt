@@ -1,4 +1,4 @@
-// Texts that are written as they grow.
+//! Texts that are written as they grow.
 ghost use Rattle.std.specs.Prelude.{◌≡◌, ◌+◌, ◌≤◌, [], length, OnOk};
 ghost use Rattle.emtp_io.specs.Whole.{Appends};
 ghost use Rattle.emtp_comtrade.specs.Stream.{Gathers};

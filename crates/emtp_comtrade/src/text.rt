@@ -1,4 +1,4 @@
-// A text that waits to be written.
+//! A text that waits to be written.
 ghost use Rattle.std.specs.Prelude.{◌≡◌, ◌+◌, ◌≤◌, ◌++◌, [], length};
 ghost use Rattle.emtp_fix.specs.Decimal.{fixed_text};
 
@@ -70,6 +70,7 @@ impl Text {
         ensures text { self.new ≡ self.old ++ bytes.now }
         ensures length { length self.new ≡ length self.old + length bytes.now }
     {
+        // There is room, so that this can't fail.
         let _ = self.bytes.try_extend_from_slice(bytes);
     }
 

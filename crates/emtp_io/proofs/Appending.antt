@@ -1,9 +1,9 @@
 -- Texts that are written by one call after another.
-use Rattle.std.proofs.Common.{◌≡◌, ◌≢◌, ℕ, ◌+◌, ◌≤◌, length, arith, length-append, List, [], ◌++◌, refl, sym, ◌∙◌, ap, subst, Result, Ok, Err, IsErr, IsOk, OnOk, OnErr, IsTrue}
+use Rattle.std.proofs.Common.{◌≡◌, ℕ, ◌+◌, length, arith, length-append, List, [], ◌++◌, refl, sym, ◌∙◌, ap, subst, Result, Ok, Err, IsErr, IsTrue}
 use Rattle.std.proofs.lemmas.Result.{on_ok_weaker, on_err_weaker}
 use Rattle.emtp_io.specs.declared.cabinet.Output.{Output}
 use Rattle.emtp_io.specs.Cabinet.{CabinetState, Nature, Outputs, output, appended, HasRoom, HasCause, IsOutputCall}
-use Rattle.emtp_io.specs.Whole.{Appends, GrewByPrefix}
+use Rattle.emtp_io.specs.Whole.{Appends}
 use Rattle.emtp_io.proofs.Pieces.{appended-nil, appended-append, grew-first, grew-second, room-appended, room_less}
 
 -- a call that worked, and the next one

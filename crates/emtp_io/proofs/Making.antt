@@ -1,10 +1,10 @@
 -- Outputs that are made one after the other.
-use Rattle.std.proofs.Common.{◌≡◌, ◌≢◌, inl, inr, ℕ, ◌+◌, ◌≤◌, arith, length, List, [], ◌∷◌, ◌++◌, take, refl, sym, ◌∙◌, ap, subst, Some, Result, Ok, Err, IsErr, IsOk, OnOk, OnErr, IsTrue}
+use Rattle.std.proofs.Common.{◌≡◌, inl, inr, ℕ, ◌≤◌, arith, length, List, [], ◌∷◌, ◌++◌, take, refl, sym, ◌∙◌, ap, subst, Some, Result, Ok, Err, IsErr, IsOk, IsTrue}
 use Rattle.std.proofs.lemmas.Result.{on_ok_weaker, on_err_weaker}
 use Rattle.emtp_io.specs.declared.cabinet.Output.{Output}
 use Rattle.emtp_io.specs.declared.cabinet.Output.TheVariants.{Cfg, Dat, Note, Summary}
 use Rattle.emtp_io.specs.Cabinet.{CabinetState, Nature, Outputs, output, with_output, appended, HasRoom, HasCause, IsOutputCall}
-use Rattle.emtp_io.specs.Whole.{Appends, GrewByPrefix}
+use Rattle.emtp_io.specs.Whole.{Appends}
 use Rattle.emtp_io.specs.Writes.{Written, with_written, with_all, IsCutShort, AllFit, IsOther, Makes}
 use Rattle.emtp_io.proofs.Appending.{call-call, tells-later, calm-later}
 
@@ -44,9 +44,13 @@ makes-one {old = old} {middle = middle} {new = new} {out = out} {name = name} {b
           ∙ ap (λ (outputs : Outputs). appended outputs out bytes) (is tells)
           ∙ appended-created old.outputs out name bytes)
           (second.ok (tells-later first.nature tells));
-      err = λ tells. on_err_weaker result (λ grew. inr (inl (grew.count , grew.within , grew.grew
-          ∙ ap (λ (outputs : Outputs). appended outputs out (take grew.count bytes)) (is tells)
-          ∙ appended-created old.outputs out name (take grew.count bytes))))
+      err = λ tells. on_err_weaker result (λ grew. inr (inl (
+        grew.count,
+        grew.within,
+        grew.grew
+            ∙ ap (λ (outputs : Outputs). appended outputs out (take grew.count bytes)) (is tells)
+            ∙ appended-created old.outputs out name (take grew.count bytes),
+      )))
           (second.err (tells-later first.nature tells));
       calm = λ tells calm fits.
           let room : HasRoom (output (created old.outputs out name) out) (length bytes) middle.nature.room =
@@ -90,16 +94,16 @@ cut-front outputs new (x ∷ xs) ys (inr (inl part)) = inr (inl part)
 cut-front outputs new (x ∷ xs) ys (inr (inr later)) = inr (inr (cut-front (with_written outputs x x.bytes) new xs ys later))
 
 fit-parts : (xs ys : List Written) (room : ℕ) → AllFit (xs ++ ys) room → AllFit xs room × AllFit ys room
-fit-parts [] ys room fit = (tt , fit)
+fit-parts [] ys room fit = (tt, fit)
 fit-parts (x ∷ xs) ys room fit =
     let rest = fit-parts xs ys room fit.2 in
-    ((fit.0 , fit.1 , rest.0) , rest.1)
+    ((fit.0, fit.1, rest.0), rest.1)
 
 other-parts : (other : Output) (xs ys : List Written) → IsOther other (xs ++ ys) → IsOther other xs × IsOther other ys
-other-parts other [] ys is = (tt , is)
+other-parts other [] ys is = (tt, is)
 other-parts other (x ∷ xs) ys is =
     let rest = other-parts other xs ys is.1 in
-    ((is.0 , rest.0) , rest.1)
+    ((is.0, rest.0), rest.1)
 
 -- the first outputs are whole, and then the others were made
 pub makes-append : {T E T' E' : Type 0} {old middle new : CabinetState} {xs ys : List Written} {value : T} {result : Result T' E'}

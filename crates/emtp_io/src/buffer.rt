@@ -1,4 +1,4 @@
-// One output in memory.
+//! One output in memory.
 ghost use Rattle.std.specs.Prelude.{◌≡◌, ◌↔◌, ◌+◌, ◌≤◌, [], Some, None, length, IsTrue, IfOk, option_map, string_capacity, vec_capacity};
 
 use std::alloc::{AllocError, Global};
@@ -6,9 +6,13 @@ use std::alloc::{AllocError, Global};
 /// An output, with room for `room` bytes and a name of as many.
 #[derive(Drop)]
 pub struct OutputBuffer {
+    /// How many bytes it has room for, and how many its name.
     pub room: usize,
+    /// Whether it was created.
     pub created: bool,
+    /// Its name, where it was created.
     pub name: String,
+    /// The bytes written to it since it was created.
     pub bytes: Vec<u8>,
     ghost name_room: { room ≤ string_capacity name },
     ghost bytes_room: { room ≤ vec_capacity bytes },
@@ -41,6 +45,7 @@ impl OutputBuffer {
         ensures room { self.new.room ≡ self.old.room }
     {
         self.name.clear();
+        // The room was reserved, so that this can't fail.
         let _ = self.name.push_str(name);
         self.bytes.clear();
         self.created = true;
@@ -63,6 +68,7 @@ impl OutputBuffer {
         ensures grown { created_of self.new ≡ with_bytes (created_of self.old) piece.now }
         ensures room { self.new.room ≡ self.old.room }
     {
+        // The room was reserved, so that this can't fail.
         let _ = self.bytes.extend_from_slice(piece);
     }
 

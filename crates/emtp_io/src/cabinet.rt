@@ -1,4 +1,4 @@
-// The one trait of the outside.
+//! The one trait of the outside.
 ghost use Rattle.std.specs.Prelude.{◌≡◌, ◌<◌, ◌≤◌, [], Some, length, take, IsTrue, IsSome, IsOk, OnOk, OnErr, IfOk};
 ghost use Rattle.emtp_io.specs.Cabinet.{CabinetState, output, with_output, appended, put_back, IsAtEnd, HasRoom, IsInputCall, IsOutputCall};
 

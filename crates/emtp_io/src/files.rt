@@ -1,4 +1,4 @@
-// Files in memory, by name.
+//! Files in memory, by name.
 ghost use Rattle.std.specs.Prelude.{◌≡◌, min, length, take, is_some, position};
 ghost use Rattle.std.specs.Option.{option_copied};
 ghost use Rattle.emtp_io.specs.Files.{is_named, file_named, unread_of};

@@ -1,4 +1,4 @@
-// A cabinet in memory.
+//! A cabinet in memory.
 ghost use Rattle.std.specs.Prelude.{◌≡◌, ◌≢◌, ◌+◌, ◌<◌, ◌≤◌, ◌||◌, [], Some, None, length, take, is_err, is_none, IsTrue, IsSome, OnSome, OnOk, OnErr, IfOk, IfSome, AllPairs, string_bytes, option_map};
 ghost use Rattle.std.specs.Option.{option_copied};
 ghost use Rattle.emtp_io.specs.Buffer.{created_of};
@@ -133,7 +133,7 @@ impl MemoryCabinet {
         }
     }
 
-    // Makes an output empty under this name, for which there is room.
+    /// Makes an output empty under this name, for which there is room.
     fn make_empty(&mut self, out: Output, name: &str)
         requires { length name.now ≤ self.old.room }
         ensures { self.new ≡ record self.old {
@@ -148,7 +148,7 @@ impl MemoryCabinet {
         }
     }
 
-    // How many more bytes have room in an output, where it was created.
+    /// How many more bytes have room in an output, where it was created.
     fn spare(&self, out: Output) -> Option<usize>
         ensures { result ≡ spare_in self.now out }
     {
@@ -160,7 +160,7 @@ impl MemoryCabinet {
         }
     }
 
-    // How many of so many bytes a write takes, where it isn't told to fail.
+    /// How many of so many bytes a write takes, where it isn't told to fail.
     fn allowance(&self, out: Output, len: usize) -> Option<usize>
         ensures fits { IfSome result (λ n. HasRoom (output self.now.outputs out) n self.now.room) }
         ensures bound { IfSome result (λ n. n ≤ len) }
@@ -176,7 +176,7 @@ impl MemoryCabinet {
         }
     }
 
-    // Appends a piece, for which there is room, to an output.
+    /// Appends a piece, for which there is room, to an output.
     fn append(&mut self, out: Output, piece: &[u8])
         requires { HasRoom (output self.old.outputs out) (length piece.now) self.old.room }
         ensures { self.new ≡ record self.old { outputs = appended self.old.outputs out piece.now } }

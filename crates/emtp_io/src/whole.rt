@@ -1,4 +1,4 @@
-// All of a file, and all of some bytes.
+//! All of a file, and all of some bytes.
 ghost use Rattle.std.specs.Prelude.{◌≡◌};
 ghost use Rattle.emtp_io.specs.Whole.{Appends, ReadsAll};
 ghost use Rattle.emtp_io.specs.declared.whole.ReadEnd.{ReadEnd};
@@ -49,7 +49,11 @@ const CHUNK: usize = 4096;
 /// Reads the opened file to its end, or until `bound` bytes were taken. After a refusal the bytes that
 /// were taken are given up, and the read position is after them.
 #[tactic(auto, using(crate::proofs::Pieces::pieces))]
-pub fn read_all<C: Cabinet>(alloc: Global, cabinet: &mut C, bound: usize) -> Result<Vec<u8>, ReadEnd>
+pub fn read_all<C: Cabinet>(
+    alloc: Global,
+    cabinet: &mut C,
+    bound: usize,
+) -> Result<Vec<u8>, ReadEnd>
     ensures { ReadsAll (C.state cabinet.old) (C.state cabinet.new) bound result }
 {
     let mut bytes = Vec::new(alloc);

@@ -10,11 +10,11 @@ use Rattle.emtp_run.specs.declared.status.Status.TheVariants.{Usage, BadCard}
 whole_or_cut : {T E : Type 0} {old new : CabinetState} {writes : List Written} (result : Result T E)
     → Makes old new writes result → IsTrue old.nature.tells → IsWholeOrCut writes old new
 whole_or_cut (Ok value) makes tells = inl (makes.ok tells)
-whole_or_cut (Err fault) makes tells = inr (makes.cause.failed , makes.err tells)
+whole_or_cut (Err fault) makes tells = inr (makes.cause.failed, makes.err tells)
 
 keeps_record : {T E : Type 0} {old new : CabinetState} {text : List ℕ} (result : Result T E)
     → Makes old new (note text ∷ []) result → KeepsRecord old new
-keeps_record result makes = (makes.others Cfg ((λ same. cc) , tt) , makes.others Dat ((λ same. cc) , tt))
+keeps_record result makes = (makes.others Cfg ((λ same. cc), tt), makes.others Dat ((λ same. cc), tt))
 
 no_fault : {T E : Type 0} {old new : CabinetState} {writes : List Written} (result : Result T E)
     → Makes old new writes result → IsOk result → new.faults_out ≡ old.faults_out
@@ -28,9 +28,9 @@ usage-ends {old = old} {new = new} result is told =
     let makes : Makes old new (note usage_note ∷ []) result = subst (λ (text : List ℕ). Makes old new (note text ∷ []) result) is told in
     record {
       nature = makes.nature;
-      cause = (makes.faults_in , makes.cause.later);
+      cause = (makes.faults_in, makes.cause.later);
       no_record = keeps_record result makes;
-      outcome = λ tells. (refl , whole_or_cut result makes tells);
+      outcome = λ tells. (refl, whole_or_cut result makes tells);
       calm = λ tells calm fit. record {
         inputs = makes.faults_in;
         outputs = no_fault result makes (makes.calm tells calm fit);
@@ -46,9 +46,9 @@ card-ends {old = old} {new = new} line result is told =
     let makes : Makes old new (note (card_note line) ∷ []) result = subst (λ (text : List ℕ). Makes old new (note text ∷ []) result) is told in
     record {
       nature = makes.nature;
-      cause = (makes.faults_in , makes.cause.later);
+      cause = (makes.faults_in, makes.cause.later);
       no_record = keeps_record result makes;
-      outcome = λ tells. (refl , whole_or_cut result makes tells);
+      outcome = λ tells. (refl, whole_or_cut result makes tells);
       calm = λ tells calm fit. record {
         inputs = makes.faults_in;
         outputs = no_fault result makes (makes.calm tells calm fit);

@@ -1,4 +1,4 @@
-// The outputs of a call, each made after the one before it is whole.
+//! The outputs of a call, each made after the one before it is whole.
 ghost use Rattle.std.specs.Prelude.{◌≡◌, ◌-◌, [], ◌∷◌, Some, length};
 ghost use Rattle.emtp_io.specs.Writes.{Makes};
 ghost use Rattle.emtp_comtrade.specs.Record.{AreMultipliers};

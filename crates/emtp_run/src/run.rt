@@ -1,4 +1,4 @@
-// The top call.
+//! The top call.
 ghost use Rattle.std.specs.Prelude.{◌≡◌, ◌≢◌, ◌↔◌, ◌-◌, ◌≤◌, Some, None, Ok, length, IsTrue, IsSome, IsErrOf, IfSome, OnOk, IfOk};
 ghost use Rattle.emtp_io.specs.Cabinet.{Rose};
 ghost use Rattle.emtp_io.specs.declared.whole.ReadEnd.{ReadEnd};
@@ -87,7 +87,12 @@ fn read_case<C: Cabinet>(alloc: Global, name: &str, cabinet: &mut C) -> Result<V
 }
 
 /// Runs the case that these bytes give.
-fn run_bytes<C: Cabinet>(alloc: Global, words: RunWords<'_>, bytes: &[u8], cabinet: &mut C) -> Status
+fn run_bytes<C: Cabinet>(
+    alloc: Global,
+    words: RunWords<'_>,
+    bytes: &[u8],
+    cabinet: &mut C,
+) -> Status
     ensures no_usage { result ≢ Status.Usage }
     ensures no_read_fault { result ≢ Status.ReadFault }
     ensures early_end { result ≡ Status.Ended → IfSome (accepted (deck bytes.now)) EndsWithin }

@@ -1,4 +1,4 @@
-// How a call of the program ends.
+//! How a call of the program ends.
 
 /// How a call of the program ends, with the number that it exits with.
 #[derive(Clone, Copy, Debug, PartialEq, Eq)]

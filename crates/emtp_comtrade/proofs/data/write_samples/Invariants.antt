@@ -1,4 +1,4 @@
-use Rattle.std.proofs.Common.{◌≡◌, ◌+◌, ◌≤◌, ◌++◌, length, Ok}
+use Rattle.std.proofs.Common.{◌+◌, ◌≤◌, ◌++◌, length, Ok}
 use Rattle.emtp_io.specs.declared.cabinet.Failed.{Failed}
 use Rattle.emtp_io.specs.declared.cabinet.Output.TheVariants.{Dat}
 use Rattle.emtp_comtrade.specs.Record.{joined, dat_line}

@@ -1,5 +1,5 @@
 use Rattle.std.proofs.Common.{◌≡◌, ◌<◌, ◌≤◌, ◌-◌, length, true, vec_len, IsSome}
-use Rattle.emtp_io.specs.Cabinet.{CabinetState, put_back}
+use Rattle.emtp_io.specs.Cabinet.{put_back}
 use Rattle.emtp_io.proofs.whole.read_all.Given as goal
 
 abbrev pub invariant-chunks : goal.invariant-chunks

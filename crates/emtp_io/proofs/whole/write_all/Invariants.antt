@@ -1,5 +1,5 @@
 use Rattle.std.proofs.Common.{◌≡◌, ◌≢◌, ◌≤◌, ◌-◌, length, take, true}
-use Rattle.emtp_io.specs.Cabinet.{CabinetState, output, appended}
+use Rattle.emtp_io.specs.Cabinet.{output, appended}
 use Rattle.emtp_io.specs.declared.cabinet.Output.{Output}
 use Rattle.emtp_io.proofs.whole.write_all.Given as goal
 
