@@ -1,8 +1,8 @@
 -- How a call ends that makes a note and nothing else.
-use Rattle.std.proofs.Common.{◌≡◌, ◌≢◌, ◌⊎◌, inl, inr, ℕ, ◌≤◌, List, [], ◌∷◌, refl, sym, subst, Some, Result, Ok, Err, IsTrue, IsOk}
-use Rattle.emtp_io.specs.Cabinet.{CabinetState, Rose}
-use Rattle.emtp_io.specs.Writes.{Written, IsCutShort, AllFit, Makes}
-use Rattle.emtp_io.specs.declared.cabinet.Output.TheVariants.{Cfg, Dat, Note}
+use Rattle.std.proofs.Common.{◌≡◌, inl, inr, ℕ, List, [], ◌∷◌, refl, subst, Some, Result, Ok, Err, IsTrue, IsOk}
+use Rattle.emtp_io.specs.Cabinet.{CabinetState}
+use Rattle.emtp_io.specs.Writes.{Written, Makes}
+use Rattle.emtp_io.specs.declared.cabinet.Output.TheVariants.{Cfg, Dat}
 use Rattle.emtp_run.specs.Note.{usage_note, card_note}
 use Rattle.emtp_run.specs.Outcome.{note, usage, bad_card, IsWholeOrCut, KeepsRecord, Ends}
 use Rattle.emtp_run.specs.declared.status.Status.TheVariants.{Usage, BadCard}
