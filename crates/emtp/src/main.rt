@@ -36,8 +36,8 @@ fn main(rt: HostRuntime) -> ExitCode {
     let alloc = rt.alloc();
     match words(&rt) {
         Ok(words) => {
-            let mut cab = DiskCabinet::new(rt);
-            ExitCode::from(emtp(alloc, &words, &mut cab) as u8)
+            let mut cabinet = DiskCabinet::new(rt);
+            ExitCode::from(emtp(alloc, &words, &mut cabinet) as u8)
         }
         Err(_) => ExitCode::from(Status::NoMemory as u8),
     }

@@ -1,6 +1,6 @@
-pub mod CfgText
 pub mod Lines
-pub mod MultiplierLemmas
+pub mod ChannelMultipliers
 pub mod Places
-pub mod ScaleLemmas
+pub mod HeldValues
+pub mod LeastMultiplier
 pub mod Streams

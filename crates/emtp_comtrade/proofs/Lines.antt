@@ -4,7 +4,7 @@ use Rattle.std.specs.Fmt.{signed_decimal}
 use Rattle.emtp_case.specs.declared.case.Parts.{Parts}
 use Rattle.emtp_fix.specs.Rounding.{near}
 use Rattle.emtp_fix.proofs.Nearest.{near-rest}
-use Rattle.emtp_comtrade.specs.Record.{joined, is_status_at, raw_at, state_at, scale_at, analog_line, analog_line_at, status_line, status_line_at}
+use Rattle.emtp_comtrade.specs.Record.{joined, is_status_at, raw_at, state_at, multiplier_at, analog_line, analog_line_at, status_line, status_line_at}
 use Rattle.emtp_machine.specs.Samples.{value_at}
 
 -- the raw value lies at most half a multiplier from the value
@@ -48,15 +48,15 @@ pub raw_at-none : (p : Parts) (samples : List (List ℤ)) (sample place : ℕ) (
     → b ≡ is_status_at p place → b ≡ true → text ≡ text ++ raw_at p samples sample place
 unfolding raw_at
 raw_at-none p samples sample place text b is status =
-    let choice : Bool → List ℕ = λ b. cond b [] (codes "," ++ signed_decimal (near (value_at samples sample place) (pos (scale_at samples place)))) in
+    let choice : Bool → List ℕ = λ b. cond b [] (codes "," ++ signed_decimal (near (value_at samples sample place) (pos (multiplier_at samples place)))) in
     sym (append-nil text) ∙ ap (λ (xs : List ℕ). text ++ xs) (ap choice (sym status ∙ is))
 
 pub raw_at-some : (p : Parts) (samples : List (List ℤ)) (sample place : ℕ) (text comma next : List ℕ) (b : Bool) (raw : ℤ)
-    → b ≡ is_status_at p place → b ≡ false → raw ≡ near (value_at samples sample place) (pos (scale_at samples place))
+    → b ≡ is_status_at p place → b ≡ false → raw ≡ near (value_at samples sample place) (pos (multiplier_at samples place))
     → comma ≡ text ++ codes "," → next ≡ comma ++ signed_decimal raw → next ≡ text ++ raw_at p samples sample place
 unfolding raw_at
 raw_at-some p samples sample place text comma next b raw is analog value put_comma put_raw =
-    let choice : Bool → List ℕ = λ b. cond b [] (codes "," ++ signed_decimal (near (value_at samples sample place) (pos (scale_at samples place)))) in
+    let choice : Bool → List ℕ = λ b. cond b [] (codes "," ++ signed_decimal (near (value_at samples sample place) (pos (multiplier_at samples place)))) in
     put_raw
     ∙ ap (λ (xs : List ℕ). xs ++ signed_decimal raw) put_comma
     ∙ append_assoc text (codes ",") (signed_decimal raw)
@@ -69,15 +69,15 @@ pub analog_line_at-none : (p : Parts) (samples : List (List ℤ)) (place : ℕ) 
     → b ≡ is_status_at p place → b ≡ true → text ≡ text ++ analog_line_at p samples place
 unfolding analog_line_at
 analog_line_at-none p samples place text b is status =
-    let choice : Bool → List ℕ = λ b. cond b [] (analog_line p (pos (scale_at samples place)) place) in
+    let choice : Bool → List ℕ = λ b. cond b [] (analog_line p (pos (multiplier_at samples place)) place) in
     sym (append-nil text) ∙ ap (λ (xs : List ℕ). text ++ xs) (ap choice (sym status ∙ is))
 
 pub analog_line_at-some : (p : Parts) (samples : List (List ℤ)) (place : ℕ) (text next : List ℕ) (b : Bool) (multiplier : ℤ)
-    → b ≡ is_status_at p place → b ≡ false → multiplier ≡ pos (scale_at samples place)
+    → b ≡ is_status_at p place → b ≡ false → multiplier ≡ pos (multiplier_at samples place)
     → next ≡ text ++ analog_line p multiplier place → next ≡ text ++ analog_line_at p samples place
 unfolding analog_line_at
 analog_line_at-some p samples place text next b multiplier is analog value put =
-    let choice : Bool → List ℕ = λ b. cond b [] (analog_line p (pos (scale_at samples place)) place) in
+    let choice : Bool → List ℕ = λ b. cond b [] (analog_line p (pos (multiplier_at samples place)) place) in
     put
     ∙ ap (λ (m : ℤ). text ++ analog_line p m place) value
     ∙ ap (λ (xs : List ℕ). text ++ xs) (ap choice (sym analog ∙ is))

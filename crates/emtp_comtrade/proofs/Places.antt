@@ -1,4 +1,4 @@
--- Places that pass a test, and what stands at places one behind the other.
+-- Places that pass a test, and what stands at places one after the other.
 use Rattle.std.proofs.Common.{◌≡◌, ℕ, zero, suc, ◌+◌, ◌<◌, ◌≤◌, Bool, true, false, cond, inl, inr, add-one, arith, sym, ◌∙◌, ap}
 use Rattle.std.proofs.lemmas.Bool.{cases_order}
 use Rattle.emtp_comtrade.specs.Record.{count_below}

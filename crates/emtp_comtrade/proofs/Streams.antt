@@ -1,194 +1,125 @@
 -- A text that is written as it grows, line by line.
-use Rattle.std.proofs.Common.{◌≡◌, inl, inr, ℕ, zero, suc, ◌+◌, ◌<◌, List, [], ◌++◌, length, Option, Some, None, add-one, append_assoc, append-nil, length-append, arith, refl, sym, ◌∙◌, ap, subst}
+use Rattle.std.proofs.Common.{◌≡◌, inl, inr, ℕ, zero, suc, ◌+◌, ◌<◌, List, [], ◌++◌, add-one, append_assoc, append-nil, arith, refl, sym, ◌∙◌, ap, subst, Result, Ok, Err, IsErr, OnOk}
 use Rattle.std.proofs.lemmas.Bool.{cases_order}
 use Rattle.emtp_io.specs.declared.cabinet.Output.{Output}
-use Rattle.emtp_io.specs.declared.cabinet.Output.TheVariants.{Cfg, Dat, Note, Summary}
-use Rattle.emtp_io.specs.Cabinet.{Entry, Outputs, output, with_output, longer, appended, HasRoom, GrewByPrefix}
-use Rattle.emtp_io.proofs.Pieces.{appended-append, grew-first, grew-second, room-appended, room_less}
+use Rattle.emtp_io.specs.Cabinet.{CabinetState}
+use Rattle.emtp_io.specs.Whole.{Appends}
+use Rattle.emtp_io.proofs.Appending.{appends-nothing, appends-append, appends-front}
 use Rattle.emtp_comtrade.specs.Record.{joined}
-use Rattle.emtp_comtrade.specs.Stream.{IsGathered}
-
-longer-nil : (e : Option Entry) → longer e [] ≡ e
-longer-nil None = refl
-longer-nil (Some e) = ap (λ (bytes : List ℕ). Some (record e { bytes = bytes })) (append-nil e.bytes)
-
-appended-nil : (outs : Outputs) (out : Output) → appended outs out [] ≡ outs
-appended-nil outs Cfg = ap (λ (e : Option Entry). with_output outs Cfg e) (longer-nil outs.cfg)
-appended-nil outs Dat = ap (λ (e : Option Entry). with_output outs Dat e) (longer-nil outs.dat)
-appended-nil outs Note = ap (λ (e : Option Entry). with_output outs Note e) (longer-nil outs.note)
-appended-nil outs Summary = ap (λ (e : Option Entry). with_output outs Summary e) (longer-nil outs.summary)
+use Rattle.emtp_comtrade.specs.Stream.{Gathers}
 
 -- all of a text waits
-pub gathered-none : (outs new : Outputs) (out : Output) (text : List ℕ) → new ≡ outs → IsGathered outs new out text text
-gathered-none outs new out text same = record { written = []; split = refl; wrote = same ∙ sym (appended-nil outs out) }
+pub gathers-none : {T E : Type 0} {state : CabinetState} {out : Output} {text : List ℕ} {value : T}
+    → Gathers {T = T} {E = E} state state out text text (Ok value)
+gathers-none {text = text} = record { front = []; rest = text; split = refl; appends = appends-nothing; waits = refl }
 
 -- no byte waits
-pub gathered-all : (old new : Outputs) (out : Output) (text waiting : List ℕ) → new ≡ appended old out text → waiting ≡ []
-    → IsGathered old new out text waiting
-gathered-all old new out text waiting wrote none =
-    record { written = text; split = sym (ap (λ (xs : List ℕ). text ++ xs) none ∙ append-nil text); wrote = wrote }
+pub gathers-all : {T E : Type 0} {old new : CabinetState} {out : Output} {text waiting : List ℕ} {result : Result T E}
+    → Appends old new out text result → OnOk result (waiting ≡ []) → Gathers old new out text waiting result
+gathers-all {text = text} appends none =
+    record { front = text; rest = []; split = sym (append-nil text); appends = appends; waits = none }
 
--- a text and then what was put behind the bytes that waited
-pub gathered-more : (old middle new : Outputs) (out : Output) (text waiting more left : List ℕ)
-    → IsGathered old middle out text waiting → IsGathered middle new out (waiting ++ more) left
-    → IsGathered old new out (text ++ more) left
-gathered-more old middle new out text waiting more left first second = record {
-  written = first.written ++ second.written;
+-- a text, and then what was put after the bytes that waited
+pub gathers-more : {T E T' E' : Type 0} {old middle new : CabinetState} {out : Output} {text waiting last : List ℕ} {value : T} {result : Result T' E'} (more : List ℕ)
+    → Gathers {T = T} {E = E} old middle out text waiting (Ok value) → Gathers middle new out (waiting ++ more) last result
+    → Gathers old new out (text ++ more) last result
+gathers-more more first second = record {
+  front = first.front ++ second.front;
+  rest = second.rest;
   split =
-      ap (λ (xs : List ℕ). xs ++ more) first.split
-      ∙ append_assoc first.written waiting more
-      ∙ ap (λ (xs : List ℕ). first.written ++ xs) second.split
-      ∙ sym (append_assoc first.written second.written left);
-  wrote =
-      second.wrote
-      ∙ ap (λ (outs : Outputs). appended outs out second.written) first.wrote
-      ∙ appended-append old out first.written second.written;
+      ap (λ (xs : List ℕ). xs ++ more) (first.split ∙ ap (λ (xs : List ℕ). first.front ++ xs) (sym first.waits))
+      ∙ append_assoc first.front _ more
+      ∙ ap (λ (xs : List ℕ). first.front ++ xs) second.split
+      ∙ sym (append_assoc first.front second.front second.rest);
+  appends = appends-append first.appends second.appends;
+  waits = second.waits;
 }
 
-whole : (old middle : Outputs) (out : Output) (text waiting more : List ℕ) (first : IsGathered old middle out text waiting)
-    → text ++ more ≡ first.written ++ (waiting ++ more)
-whole old middle out text waiting more first =
-    ap (λ (xs : List ℕ). xs ++ more) first.split ∙ append_assoc first.written waiting more
+-- a text that was cut short, and the caller answers a refusal
+pub gathers-front : {T E T' E' : Type 0} {old new : CabinetState} {out : Output} {text waiting : List ℕ} {fault : E}
+    (more waiting' : List ℕ) (result : Result T' E')
+    → IsErr result → Gathers {T = T} {E = E} old new out text waiting (Err fault) → Gathers old new out (text ++ more) waiting' result
+gathers-front more waiting' (Ok value) err first = cc
+gathers-front {text = text} more waiting' (Err fault') err first = record {
+  front = first.front ++ (first.rest ++ more);
+  rest = [];
+  split =
+      ap (λ (xs : List ℕ). xs ++ more) first.split
+      ∙ append_assoc first.front first.rest more
+      ∙ sym (append-nil (first.front ++ (first.rest ++ more)));
+  appends = appends-front (first.rest ++ more) (Err fault') err first.appends;
+  waits = tt;
+}
 
-pub gathered-grew : (old middle new : Outputs) (out : Output) (text waiting more : List ℕ)
-    → IsGathered old middle out text waiting → GrewByPrefix middle new out (waiting ++ more)
-    → GrewByPrefix old new out (text ++ more)
-gathered-grew old middle new out text waiting more first grew =
-    let Grew : List ℕ → Type 0 = λ xs. GrewByPrefix old new out xs in
-    subst Grew (sym (whole old middle out text waiting more first))
-    (grew-second old middle new out first.written (waiting ++ more) first.wrote grew)
+-- the end of a text was written with what waited
+pub appends-end : {T E T' E' : Type 0} {old middle new : CabinetState} {out : Output} {text waiting last : List ℕ} {value : T} {result : Result T' E'} (more : List ℕ)
+    → Gathers {T = T} {E = E} old middle out text waiting (Ok value) → last ≡ waiting ++ more → Appends middle new out last result
+    → Appends old new out (text ++ more) result
+appends-end {old = old} {new = new} {out = out} {text = text} {waiting = waiting} {result = result} more first is second =
+    let whole : first.front ++ (waiting ++ more) ≡ text ++ more =
+    sym (append_assoc first.front waiting more)
+    ∙ ap (λ (xs : List ℕ). (first.front ++ xs) ++ more) first.waits
+    ∙ ap (λ (xs : List ℕ). xs ++ more) (sym first.split) in
+    subst (λ (xs : List ℕ). Appends old new out xs result) (ap (λ (xs : List ℕ). first.front ++ xs) is ∙ whole)
+    (appends-append first.appends second)
 
-pub gathered-room : (old middle : Outputs) (out : Output) (text waiting more : List ℕ) (room : ℕ)
-    → IsGathered old middle out text waiting → HasRoom (output old out) (length (text ++ more)) room
-    → HasRoom (output middle out) (length (waiting ++ more)) room
-gathered-room old middle out text waiting more room first has =
-    let size : length (text ++ more) ≡ length first.written + length (waiting ++ more) =
-    ap length (whole old middle out text waiting more first) ∙ length-append first.written (waiting ++ more) in
-    let Has : Outputs → Type 0 = λ outs. HasRoom (output outs out) (length (waiting ++ more)) room in
-    let fits : HasRoom (output old out) (length first.written + length (waiting ++ more)) room =
-    room_less (output old out) (length (text ++ more)) (length first.written + length (waiting ++ more)) room (omega (arith, size)) has in
-    subst Has (sym first.wrote) (room-appended old out first.written (length (waiting ++ more)) room fits)
+-- a text was cut short before its end, and the caller answers a refusal
+pub appends-stopped : {T E T' E' : Type 0} {old new : CabinetState} {out : Output} {text waiting : List ℕ} {fault : E} (more : List ℕ) (result : Result T' E')
+    → IsErr result → Gathers {T = T} {E = E} old new out text waiting (Err fault) → Appends old new out (text ++ more) result
+appends-stopped {old = old} {new = new} {out = out} more result err first =
+    let whole = ap (λ (xs : List ℕ). xs ++ more) first.split ∙ append_assoc first.front first.rest more in
+    subst (λ (xs : List ℕ). Appends old new out xs result) (sym whole) (appends-front (first.rest ++ more) result err first.appends)
 
 -- ---- lines
 
+-- no line was put after the text yet
+pub gathers-start : {T E : Type 0} {state : CabinetState} {out : Output} {text : List ℕ} {value : T} (at : ℕ → List ℕ)
+    → Gathers {T = T} {E = E} state state out (text ++ joined 0 at) text (Ok value)
+gathers-start {T = T} {E = E} {state = state} {out = out} {text = text} {value = value} at =
+    subst (λ (xs : List ℕ). Gathers {T = T} {E = E} state state out xs text (Ok value)) (sym (append-nil text)) gathers-none
+
+-- one more line was put after the text
+pub gathers-line : {T E T' E' : Type 0} {old middle new : CabinetState} {out : Output} {waiting pushed last : List ℕ} {value : T} {result : Result T' E'}
+    (start : List ℕ) (at : ℕ → List ℕ) (n : ℕ)
+    → Gathers {T = T} {E = E} old middle out (start ++ joined n at) waiting (Ok value) → pushed ≡ waiting ++ at n
+    → Gathers middle new out pushed last result → Gathers old new out (start ++ joined (n + 1) at) last result
+gathers-line {old = old} {middle = middle} {new = new} {out = out} {last = last} {result = result} start at n first is second =
+    let text : (start ++ joined n at) ++ at n ≡ start ++ joined (n + 1) at =
+    append_assoc start (joined n at) (at n) ∙ ap (λ (m : ℕ). start ++ joined m at) (sym (add-one n)) in
+    subst (λ (xs : List ℕ). Gathers old new out xs last result) text
+    (gathers-more (at n) first (subst (λ (xs : List ℕ). Gathers middle new out xs last result) is second))
+
 -- a text begins with another one
-pub record IsFront (front text : List ℕ) : Type 0 where
-  pub behind : List ℕ
-  pub split : text ≡ front ++ behind
+record IsFront (front text : List ℕ) : Type 0 where
+  rest : List ℕ
+  split : text ≡ front ++ rest
 
 front-more : (front text more : List ℕ) → IsFront front text → IsFront front (text ++ more)
 front-more front text more is = record {
-  behind = is.behind ++ more;
-  split = ap (λ (xs : List ℕ). xs ++ more) is.split ∙ append_assoc front is.behind more;
+  rest = is.rest ++ more;
+  split = ap (λ (xs : List ℕ). xs ++ more) is.split ∙ append_assoc front is.rest more;
 }
 
-front-joined : (at : ℕ → List ℕ) (n count : ℕ) → n < count → IsFront (joined n at ++ at n) (joined count at)
+front-joined : (at : ℕ → List ℕ) (n count : ℕ) → n < count → IsFront (joined (n + 1) at) (joined count at)
 front-joined at n zero less = absurd (omega arith)
 front-joined at n (suc count) less =
-    elim (cases_order n count) as (λ _. IsFront (joined n at ++ at n) (joined (suc count) at)) [
+    elim (cases_order n count) as (λ _. IsFront (joined (n + 1) at) (joined (suc count) at)) [
       | inl same ↦ record {
-        behind = [];
-        split = sym (append-nil (joined n at ++ at n) ∙ ap (λ (m : ℕ). joined m at ++ at m) same);
+        rest = [];
+        split = sym (append-nil (joined (n + 1) at) ∙ ap (λ (m : ℕ). joined m at) (add-one n ∙ ap (λ (m : ℕ). suc m) same));
       }
-      | inr order ↦ elim order as (λ _. IsFront (joined n at ++ at n) (joined (suc count) at)) [
-        | inl below ↦ front-more (joined n at ++ at n) (joined count at) (at count) (front-joined at n count below)
+      | inr order ↦ elim order as (λ _. IsFront (joined (n + 1) at) (joined (suc count) at)) [
+        | inl below ↦ front-more (joined (n + 1) at) (joined count at) (at count) (front-joined at n count below)
         | inr above ↦ absurd (omega arith)
       ]
     ]
 
-pub grew-front : (old new : Outputs) (out : Output) (front text : List ℕ) → IsFront front text
-    → GrewByPrefix old new out front → GrewByPrefix old new out text
-grew-front old new out front text is grew =
-    let Grew : List ℕ → Type 0 = λ xs. GrewByPrefix old new out xs in
-    subst Grew (sym is.split) (grew-first old new out front is.behind grew)
-
-pub room-front : (e : Option Entry) (front text : List ℕ) (room : ℕ) → IsFront front text
-    → HasRoom e (length text) room → HasRoom e (length front) room
-room-front e front text room is has =
-    room_less e (length text) (length front) room (omega (arith, ap length is.split, length-append front is.behind)) has
-
--- the text up to a line begins the whole text
-front-line : (start : List ℕ) (at : ℕ → List ℕ) (n count : ℕ) → n < count
-    → IsFront ((start ++ joined n at) ++ at n) (start ++ joined count at)
-front-line start at n count less =
+-- the text was cut short at a line, others would have followed, and the caller answers a refusal
+pub gathers-stopped : {T E T' E' : Type 0} {old new : CabinetState} {out : Output} {waiting : List ℕ} {fault : E}
+    (start : List ℕ) (at : ℕ → List ℕ) (n count : ℕ) (waiting' : List ℕ) (result : Result T' E')
+    → n < count → IsErr result → Gathers {T = T} {E = E} old new out (start ++ joined (n + 1) at) waiting (Err fault)
+    → Gathers old new out (start ++ joined count at) waiting' result
+gathers-stopped {old = old} {new = new} {out = out} start at n count waiting' result less err first =
     let front = front-joined at n count less in
-    record {
-      behind = front.behind;
-      split =
-          ap (λ (xs : List ℕ). start ++ xs) front.split
-          ∙ sym (append_assoc start (joined n at ++ at n) front.behind)
-          ∙ ap (λ (xs : List ℕ). xs ++ front.behind) (sym (append_assoc start (joined n at) (at n)));
-    }
-
-pub gathered-line : (old middle new : Outputs) (out : Output) (start waiting pushed left : List ℕ) (at : ℕ → List ℕ) (n : ℕ)
-    → IsGathered old middle out (start ++ joined n at) waiting → pushed ≡ waiting ++ at n → IsGathered middle new out pushed left
-    → IsGathered old new out (start ++ joined (n + 1) at) left
-gathered-line old middle new out start waiting pushed left at n first is second =
-    let Second : List ℕ → Type 0 = λ xs. IsGathered middle new out xs left in
-    let Text : List ℕ → Type 0 = λ xs. IsGathered old new out xs left in
-    let text : (start ++ joined n at) ++ at n ≡ start ++ joined (n + 1) at =
-    append_assoc start (joined n at) (at n) ∙ ap (λ (m : ℕ). start ++ joined m at) (sym (add-one n)) in
-    subst Text text (gathered-more old middle new out (start ++ joined n at) waiting (at n) left first (subst Second is second))
-
-pub grew-line : (old middle new : Outputs) (out : Output) (start waiting pushed : List ℕ) (at : ℕ → List ℕ) (n count : ℕ)
-    → IsGathered old middle out (start ++ joined n at) waiting → pushed ≡ waiting ++ at n → n < count
-    → GrewByPrefix middle new out pushed → GrewByPrefix old new out (start ++ joined count at)
-grew-line old middle new out start waiting pushed at n count first is less grew =
-    let Grew : List ℕ → Type 0 = λ xs. GrewByPrefix middle new out xs in
-    grew-front old new out ((start ++ joined n at) ++ at n) (start ++ joined count at) (front-line start at n count less)
-    (gathered-grew old middle new out (start ++ joined n at) waiting (at n) first (subst Grew is grew))
-
-pub room-line : (old middle : Outputs) (out : Output) (start waiting pushed : List ℕ) (at : ℕ → List ℕ) (n count room : ℕ)
-    → IsGathered old middle out (start ++ joined n at) waiting → pushed ≡ waiting ++ at n → n < count
-    → HasRoom (output old out) (length (start ++ joined count at)) room → HasRoom (output middle out) (length pushed) room
-room-line old middle out start waiting pushed at n count room first is less has =
-    let Has : List ℕ → Type 0 = λ xs. HasRoom (output middle out) (length xs) room in
-    let front = room-front (output old out) ((start ++ joined n at) ++ at n) (start ++ joined count at) room (front-line start at n count less) has in
-    subst Has (sym is) (gathered-room old middle out (start ++ joined n at) waiting (at n) room first front)
-
-pub ruleset gathering = (gathered-none, gathered-all)
-
--- no line was put behind the text yet
-pub gathered-start : (outs new : Outputs) (out : Output) (text : List ℕ) (at : ℕ → List ℕ) → new ≡ outs → IsGathered outs new out (text ++ joined 0 at) text
-gathered-start outs new out text at same =
-    let Text : List ℕ → Type 0 = λ xs. IsGathered outs new out xs text in
-    subst Text (sym (append-nil text)) (gathered-none outs new out text same)
-
-pub ruleset lines = (gathered-start, gathered-line, grew-line, room-line)
-
--- the end of a text was written with what waited
-pub closed : (old middle new : Outputs) (out : Output) (text waiting more last : List ℕ)
-    → IsGathered old middle out text waiting → last ≡ waiting ++ more → new ≡ appended middle out last
-    → new ≡ appended old out (text ++ more)
-closed old middle new out text waiting more last first is wrote =
-    wrote
-    ∙ ap (λ (xs : List ℕ). appended middle out xs) is
-    ∙ ap (λ (outs : Outputs). appended outs out (waiting ++ more)) first.wrote
-    ∙ appended-append old out first.written (waiting ++ more)
-    ∙ ap (λ (xs : List ℕ). appended old out xs) (sym (whole old middle out text waiting more first))
-
-pub closed-grew : (old middle new : Outputs) (out : Output) (text waiting more last : List ℕ)
-    → IsGathered old middle out text waiting → last ≡ waiting ++ more → GrewByPrefix middle new out last
-    → GrewByPrefix old new out (text ++ more)
-closed-grew old middle new out text waiting more last first is grew =
-    let Grew : List ℕ → Type 0 = λ xs. GrewByPrefix middle new out xs in
-    gathered-grew old middle new out text waiting more first (subst Grew is grew)
-
-pub closed-room : (old middle : Outputs) (out : Output) (text waiting more last : List ℕ) (room : ℕ)
-    → IsGathered old middle out text waiting → last ≡ waiting ++ more → HasRoom (output old out) (length (text ++ more)) room
-    → HasRoom (output middle out) (length last) room
-closed-room old middle out text waiting more last room first is has =
-    let Has : List ℕ → Type 0 = λ xs. HasRoom (output middle out) (length xs) room in
-    subst Has (sym is) (gathered-room old middle out text waiting more room first has)
-
-pub ruleset closing = (closed, closed-grew, closed-room)
-
--- ---- sections
-
--- a section stopped, and others would have followed
-pub section-stopped : (old new : Outputs) (out : Output) (start section more last : List ℕ)
-    → GrewByPrefix old new out (start ++ section) → GrewByPrefix old new out (((start ++ section) ++ more) ++ last)
-section-stopped old new out start section more last grew =
-    grew-first old new out ((start ++ section) ++ more) last (grew-first old new out (start ++ section) more grew)
-
-pub ruleset sections = (section-stopped, gathered-more, gathered-grew, gathered-room, closed, closed-grew, closed-room)
+    let whole = ap (λ (xs : List ℕ). start ++ xs) front.split ∙ sym (append_assoc start (joined (n + 1) at) front.rest) in
+    subst (λ (xs : List ℕ). Gathers old new out xs waiting' result) (sym whole) (gathers-front front.rest waiting' result err first)

@@ -1,3 +1,3 @@
 pub mod Record
-pub mod Scale
+pub mod Multiplier
 pub mod Stream

@@ -8,11 +8,11 @@ use Rattle.emtp_case.specs.declared.channel.Channel.TheVariants.{BranchCurrent, 
 use Rattle.emtp_fix.specs.Decimal.{fixed_text}
 use Rattle.emtp_fix.specs.Rounding.{near}
 use Rattle.emtp_machine.specs.Samples.{value_at, greatest}
-use Rattle.emtp_comtrade.specs.Scale.{scale_of, IsScale}
+use Rattle.emtp_comtrade.specs.Multiplier.{multiplier_of, IsMultiplier}
 
 -- ---- places
 
--- what stands at 0, at 1 and so on below n, one behind the other
+-- what stands at 0, at 1 and so on below n, one after the other
 abbrev pub joined : ℕ → (ℕ → List ℕ) → List ℕ
 joined zero at = []
 joined (suc n) at = joined n at ++ at n
@@ -54,20 +54,20 @@ abbrev pub status_before : Parts → ℕ → ℕ
 status_before p place = count_below (is_status_at p) place
 
 -- the multiplier of the channel at a place, in 1e-9
-abbrev pub scale_at : List (List ℤ) → ℕ → ℕ
-scale_at samples place = scale_of (greatest samples place (length samples))
+abbrev pub multiplier_at : List (List ℤ) → ℕ → ℕ
+multiplier_at samples place = multiplier_of (greatest samples place (length samples))
 
--- the multipliers of the analog channels below a place, in order, and 1 behind them
-pub record ScalesBelow (p : Parts) (samples : List (List ℤ)) (n : ℕ) (scales : List ℤ) : Type 0 where
+-- the multipliers of the analog channels below a place, in order, and 1 after them
+pub record MultipliersBelow (p : Parts) (samples : List (List ℤ)) (n : ℕ) (multipliers : List ℤ) : Type 0 where
   pub analog : (place : ℕ) → place < n → is_status_at p place ≡ false
-      → slice_index_or scales (analog_before p place) (pos 0) ≡ pos (scale_at samples place)
-  pub behind : (c : ℕ) → analog_before p n ≤ c → c < 64 → slice_index_or scales c (pos 0) ≡ pos 1
+      → slice_index_or multipliers (analog_before p place) (pos 0) ≡ pos (multiplier_at samples place)
+  pub after : (c : ℕ) → analog_before p n ≤ c → c < 64 → slice_index_or multipliers c (pos 0) ≡ pos 1
   pub least : (place : ℕ) → place < n → is_status_at p place ≡ false
-      → IsScale (greatest samples place (length samples)) (scale_at samples place)
+      → IsMultiplier (greatest samples place (length samples)) (multiplier_at samples place)
 
--- the multipliers of the analog channels, in order, and 1 behind them
-abbrev pub AreScales : Parts → List (List ℤ) → List ℤ → Type 0
-AreScales p samples scales = ScalesBelow p samples (length p.channels) scales
+-- the multipliers of the analog channels, in order, and 1 after them
+abbrev pub AreMultipliers : Parts → List (List ℤ) → List ℤ → Type 0
+AreMultipliers p samples multipliers = MultipliersBelow p samples (length p.channels) multipliers
 
 -- ---- the configuration
 
@@ -88,7 +88,7 @@ status_line p place =
 
 unfoldable pub analog_line_at : Parts → List (List ℤ) → ℕ → List ℕ
 analog_line_at p samples place =
-    if is_status_at p place then [] else analog_line p (pos (scale_at samples place)) place
+    if is_status_at p place then [] else analog_line p (pos (multiplier_at samples place)) place
 
 unfoldable pub status_line_at : Parts → ℕ → List ℕ
 status_line_at p place = if is_status_at p place then status_line p place else []
@@ -120,7 +120,7 @@ cfg_text p samples =
 unfoldable pub raw_at : Parts → List (List ℤ) → ℕ → ℕ → List ℕ
 raw_at p samples sample place =
     if is_status_at p place then []
-    else codes "," ++ signed_decimal (near (value_at samples sample place) (pos (scale_at samples place)))
+    else codes "," ++ signed_decimal (near (value_at samples sample place) (pos (multiplier_at samples place)))
 
 -- a comma and the state of a status channel
 unfoldable pub state_at : Parts → List (List ℤ) → ℕ → ℕ → List ℕ

@@ -1,56 +1,49 @@
-// The configuration of a record.
-ghost use Rattle.std.specs.Prelude.{◌≡◌, ◌+◌, ◌<◌, ◌≤◌, ◌++◌, pos, ◌*ℤ◌, length, IsTrue, IsOk, OnOk, OnErr};
+//! The configuration of a record.
+ghost use Rattle.std.specs.Prelude.{◌≡◌, ◌+◌, ◌<◌, ◌≤◌, ◌++◌, pos, ◌*ℤ◌, length, OnOk};
 ghost use Rattle.emtp_case.specs.ChannelName.{name_of_channel};
 ghost use Rattle.emtp_case.specs.RunData.{IsRun};
-ghost use Rattle.emtp_io.specs.Cabinet.{output, appended, HasCause, HasRoom, GrewByPrefix};
-ghost use Rattle.emtp_comtrade.specs.Record.{joined, unit_of, unit_at, analog_before, status_before, analog_line, analog_line_at, status_line, status_line_at, cfg_head, cfg_tail, cfg_text, AreScales};
-ghost use Rattle.emtp_comtrade.specs.Stream.{IsGathered};
+ghost use Rattle.emtp_io.specs.Whole.{Appends};
+ghost use Rattle.emtp_comtrade.specs.Record.{joined, unit_of, unit_at, analog_before, status_before, analog_line, analog_line_at, status_line, status_line_at, cfg_head, cfg_tail, cfg_text, AreMultipliers};
+ghost use Rattle.emtp_comtrade.specs.Stream.{Gathers};
 
 use crate::multipliers::{is_status_at, multiplier_at};
 use crate::stream::{flush, make_room};
-use crate::text::Text;
+use crate::text::{CHANNEL_ROOM, LINE_ROOM, TEXT_ROOM, Text};
 use emtp_case::{Case, Channel, RunData};
 use emtp_io::{Cabinet, Failed, Output};
 use emtp_machine::Samples;
 
+/// The most bytes of the name of a channel: a letter, a blank and two names of six bytes joined by a dash.
+const NAME_ROOM: usize = 16;
+
 /// Writes the configuration: the station, the channels, the number of samples and their times. The caller created
 /// `Cfg`. It takes no memory.
-#[tactic(auto, using(crate::proofs::Streams::sections), unfolding(crate::specs::Record::cfg_text))]
+#[tactic(auto, unfolding(crate::specs::Record::cfg_text))]
 pub fn write_cfg<C: Cabinet>(
-    cab: &mut C,
+    cabinet: &mut C,
     case: &Case,
     samples: &Samples,
-    scales: &[i64; 64],
+    multipliers: &[i64; 64],
 ) -> Result<(), Failed>
     requires channels { samples.now.channels ≡ length case.now.parts.channels }
-    requires scales { AreScales case.now.parts samples.now.rows scales.now }
-    ensures nature { C.nature cab.new ≡ C.nature cab.old }
-    ensures cause { HasCause (C.faults_out cab.old) (C.faults_out cab.new) result }
-    ensures other { C.faults_in cab.new ≡ C.faults_in cab.old }
-    ensures left { C.left cab.new ≡ C.left cab.old }
-    ensures ok { IsTrue (C.nature cab.old).tells → OnOk result
-        (C.outputs cab.new ≡ appended (C.outputs cab.old) Output.Cfg (cfg_text case.now.parts samples.now.rows)) }
-    ensures err { IsTrue (C.nature cab.old).tells → OnErr result
-        (GrewByPrefix (C.outputs cab.old) (C.outputs cab.new) Output.Cfg (cfg_text case.now.parts samples.now.rows)) }
-    ensures calm { IsTrue (C.nature cab.old).tells → IsTrue (C.nature cab.old).calm
-        → HasRoom (output (C.outputs cab.old) Output.Cfg) (length (cfg_text case.now.parts samples.now.rows))
-        (C.nature cab.old).room
-        → IsOk result }
+    requires multipliers { AreMultipliers case.now.parts samples.now.rows multipliers.now }
+    ensures { Appends (C.state cabinet.old) (C.state cabinet.new) Output.Cfg
+        (cfg_text case.now.parts samples.now.rows) result }
 {
     let mut text = Text::new();
     push_head(&mut text, case);
-    write_analog_lines(cab, &mut text, case, samples, scales)?;
-    write_status_lines(cab, &mut text, case)?;
+    write_analog_lines(cabinet, &mut text, case, samples, multipliers)?;
+    write_status_lines(cabinet, &mut text, case)?;
     push_tail(&mut text, case, samples.count());
-    flush(cab, Output::Cfg, &mut text)
+    flush(cabinet, Output::Cfg, &mut text)
 }
 
-// Puts the station and the numbers of channels behind the text.
+/// Puts the station and the numbers of channels after the text.
 #[tactic(auto, unfolding(crate::specs::Record::cfg_head))]
 fn push_head(text: &mut Text, case: &Case)
-    requires { length text.old + 200 ≤ 8192 }
+    requires { length text.old + CHANNEL_ROOM ≤ TEXT_ROOM }
     ensures text { text.new ≡ text.old ++ cfg_head case.now.parts }
-    ensures length { length text.new ≤ length text.old + 200 }
+    ensures length { length text.new ≤ length text.old + CHANNEL_ROOM }
 {
     text.push(b"EMTP,CASE,1999\r\n");
     text.push_number(case.parts.channels.len());
@@ -61,7 +54,7 @@ fn push_head(text: &mut Text, case: &Case)
     text.push(b"D\r\n");
 }
 
-// The number of analog channels.
+/// The number of analog channels.
 fn analog_count(case: &Case) -> usize
     ensures { result ≡ analog_before case.now.parts (length case.now.parts.channels) }
 {
@@ -72,7 +65,7 @@ fn analog_count(case: &Case) -> usize
     analog
 }
 
-// The number of status channels.
+/// The number of status channels.
 fn status_count(case: &Case) -> usize
     ensures { result ≡ status_before case.now.parts (length case.now.parts.channels) }
 {
@@ -83,68 +76,52 @@ fn status_count(case: &Case) -> usize
     status
 }
 
-// Puts a line for each analog channel behind the text, which is written where it grows long.
-#[tactic(auto, using(crate::proofs::Streams::lines))]
+/// Puts a line for each analog channel after the text, which is written where it grows long.
 fn write_analog_lines<C: Cabinet>(
-    cab: &mut C,
+    cabinet: &mut C,
     text: &mut Text,
     case: &Case,
     samples: &Samples,
-    scales: &[i64; 64],
+    multipliers: &[i64; 64],
 ) -> Result<(), Failed>
     requires channels { samples.now.channels ≡ length case.now.parts.channels }
-    requires scales { AreScales case.now.parts samples.now.rows scales.now }
-    requires room { length text.old + 4096 ≤ 8192 }
-    ensures nature { C.nature cab.new ≡ C.nature cab.old }
-    ensures cause { HasCause (C.faults_out cab.old) (C.faults_out cab.new) result }
-    ensures other { C.faults_in cab.new ≡ C.faults_in cab.old }
-    ensures left { C.left cab.new ≡ C.left cab.old }
-    ensures room { OnOk result (length text.new + 4096 ≤ 8192) }
-    ensures ok { IsTrue (C.nature cab.old).tells → OnOk result
-        (IsGathered (C.outputs cab.old) (C.outputs cab.new) Output.Cfg
+    requires multipliers { AreMultipliers case.now.parts samples.now.rows multipliers.now }
+    requires room { length text.old + LINE_ROOM ≤ TEXT_ROOM }
+    ensures text { Gathers (C.state cabinet.old) (C.state cabinet.new) Output.Cfg
         (text.old ++ joined (length case.now.parts.channels)
-        (analog_line_at case.now.parts samples.now.rows)) text.new) }
-    ensures err { IsTrue (C.nature cab.old).tells → OnErr result
-        (GrewByPrefix (C.outputs cab.old) (C.outputs cab.new) Output.Cfg
-        (text.old ++ joined (length case.now.parts.channels)
-        (analog_line_at case.now.parts samples.now.rows))) }
-    ensures calm { IsTrue (C.nature cab.old).tells → IsTrue (C.nature cab.old).calm
-        → HasRoom (output (C.outputs cab.old) Output.Cfg)
-        (length (text.old ++ joined (length case.now.parts.channels)
-        (analog_line_at case.now.parts samples.now.rows)))
-        (C.nature cab.old).room
-        → IsOk result }
+        (analog_line_at case.now.parts samples.now.rows)) text.new result }
+    ensures room { OnOk result (length text.new + LINE_ROOM ≤ TEXT_ROOM) }
 {
     let mut analog = 0;
     for place in 0..case.parts.channels.len() {
-        analog = push_analog(text, case, samples, scales, place, analog);
-        make_room(cab, Output::Cfg, text)?;
+        analog = push_analog(text, case, samples, multipliers, place, analog);
+        make_room(cabinet, Output::Cfg, text)?;
     }
     Ok(())
 }
 
-// Puts a line behind the text, where an analog channel stands at the place. Answers how many analog channels stand up
-// to there.
+/// Puts a line after the text, where an analog channel stands at the place. Answers how many analog channels stand up
+/// to there.
 fn push_analog(
     text: &mut Text,
     case: &Case,
     samples: &Samples,
-    scales: &[i64; 64],
+    multipliers: &[i64; 64],
     place: usize,
     analog: usize,
 ) -> usize
-    requires scales { AreScales case.now.parts samples.now.rows scales.now }
+    requires multipliers { AreMultipliers case.now.parts samples.now.rows multipliers.now }
     requires place { place < length case.now.parts.channels }
     requires analog { analog ≡ analog_before case.now.parts place }
-    requires room { length text.old + 200 ≤ 8192 }
+    requires room { length text.old + CHANNEL_ROOM ≤ TEXT_ROOM }
     ensures text { text.new ≡ text.old ++ analog_line_at case.now.parts samples.now.rows place }
-    ensures length { length text.new ≤ length text.old + 200 }
+    ensures length { length text.new ≤ length text.old + CHANNEL_ROOM }
     ensures analog { result ≡ analog_before case.now.parts (place + 1) }
 {
     if is_status_at(case, place) {
         return analog;
     }
-    let multiplier = multiplier_at(case, scales, place, analog);
+    let multiplier = multiplier_at(case, multipliers, place, analog);
     push_analog_line(text, case, place, analog, multiplier);
     analog + 1
 }
@@ -154,9 +131,9 @@ fn push_analog_line(text: &mut Text, case: &Case, place: usize, analog: usize, m
     requires place { place < length case.now.parts.channels }
     requires analog { analog ≡ analog_before case.now.parts place }
     requires few { analog < 64 }
-    requires room { length text.old + 200 ≤ 8192 }
+    requires room { length text.old + CHANNEL_ROOM ≤ TEXT_ROOM }
     ensures text { text.new ≡ text.old ++ analog_line case.now.parts multiplier place }
-    ensures length { length text.new ≤ length text.old + 200 }
+    ensures length { length text.new ≤ length text.old + CHANNEL_ROOM }
 {
     text.push_number(analog + 1);
     text.push(b",");
@@ -176,7 +153,7 @@ fn unit_at(case: &Case, place: usize) -> &'static [u8]
     unit(case.parts.channels.as_slice()[place])
 }
 
-// The unit of a channel; a status channel has none.
+/// The unit of a channel; a status channel has none.
 fn unit(channel: Channel) -> &'static [u8]
     ensures unit { result.now ≡ unit_of channel }
     ensures short { length result.now ≤ 2 }
@@ -189,55 +166,45 @@ fn unit(channel: Channel) -> &'static [u8]
     }
 }
 
-// Puts the name of a channel behind the text.
+/// Puts the name of a channel after the text.
 fn push_name(text: &mut Text, case: &Case, place: usize)
     requires place { place < length case.now.parts.channels }
-    requires room { length text.old + 16 ≤ 8192 }
+    requires room { length text.old + NAME_ROOM ≤ TEXT_ROOM }
     ensures text { text.new ≡ text.old ++ name_of_channel case.now.parts place }
-    ensures length { length text.new ≤ length text.old + 16 }
+    ensures length { length text.new ≤ length text.old + NAME_ROOM }
 {
-    let mut name = [0; 16];
+    let mut name = [0; NAME_ROOM];
     let len = case.channel_name(place, &mut name);
     text.push(&name[..len]);
 }
 
-// Puts a line for each status channel behind the text, which is written where it grows long.
-#[tactic(auto, using(crate::proofs::Streams::lines))]
-fn write_status_lines<C: Cabinet>(cab: &mut C, text: &mut Text, case: &Case) -> Result<(), Failed>
-    requires room { length text.old + 4096 ≤ 8192 }
-    ensures nature { C.nature cab.new ≡ C.nature cab.old }
-    ensures cause { HasCause (C.faults_out cab.old) (C.faults_out cab.new) result }
-    ensures other { C.faults_in cab.new ≡ C.faults_in cab.old }
-    ensures left { C.left cab.new ≡ C.left cab.old }
-    ensures room { OnOk result (length text.new + 4096 ≤ 8192) }
-    ensures ok { IsTrue (C.nature cab.old).tells → OnOk result
-        (IsGathered (C.outputs cab.old) (C.outputs cab.new) Output.Cfg
-        (text.old ++ joined (length case.now.parts.channels) (status_line_at case.now.parts)) text.new) }
-    ensures err { IsTrue (C.nature cab.old).tells → OnErr result
-        (GrewByPrefix (C.outputs cab.old) (C.outputs cab.new) Output.Cfg
-        (text.old ++ joined (length case.now.parts.channels) (status_line_at case.now.parts))) }
-    ensures calm { IsTrue (C.nature cab.old).tells → IsTrue (C.nature cab.old).calm
-        → HasRoom (output (C.outputs cab.old) Output.Cfg)
-        (length (text.old ++ joined (length case.now.parts.channels) (status_line_at case.now.parts)))
-        (C.nature cab.old).room
-        → IsOk result }
+/// Puts a line for each status channel after the text, which is written where it grows long.
+fn write_status_lines<C: Cabinet>(
+    cabinet: &mut C,
+    text: &mut Text,
+    case: &Case,
+) -> Result<(), Failed>
+    requires room { length text.old + LINE_ROOM ≤ TEXT_ROOM }
+    ensures text { Gathers (C.state cabinet.old) (C.state cabinet.new) Output.Cfg
+        (text.old ++ joined (length case.now.parts.channels) (status_line_at case.now.parts)) text.new result }
+    ensures room { OnOk result (length text.new + LINE_ROOM ≤ TEXT_ROOM) }
 {
     let mut status = 0;
     for place in 0..case.parts.channels.len() {
         status = push_status(text, case, place, status);
-        make_room(cab, Output::Cfg, text)?;
+        make_room(cabinet, Output::Cfg, text)?;
     }
     Ok(())
 }
 
-// Puts a line behind the text, where a status channel stands at the place. Answers how many status channels stand up
-// to there.
+/// Puts a line after the text, where a status channel stands at the place. Answers how many status channels stand up
+/// to there.
 fn push_status(text: &mut Text, case: &Case, place: usize, status: usize) -> usize
     requires place { place < length case.now.parts.channels }
     requires status { status ≡ status_before case.now.parts place }
-    requires room { length text.old + 100 ≤ 8192 }
+    requires room { length text.old + CHANNEL_ROOM ≤ TEXT_ROOM }
     ensures text { text.new ≡ text.old ++ status_line_at case.now.parts place }
-    ensures length { length text.new ≤ length text.old + 100 }
+    ensures length { length text.new ≤ length text.old + CHANNEL_ROOM }
     ensures status { result ≡ status_before case.now.parts (place + 1) }
 {
     if !is_status_at(case, place) {
@@ -252,9 +219,9 @@ fn push_status_line(text: &mut Text, case: &Case, place: usize, status: usize)
     requires place { place < length case.now.parts.channels }
     requires status { status ≡ status_before case.now.parts place }
     requires few { status < 64 }
-    requires room { length text.old + 100 ≤ 8192 }
+    requires room { length text.old + CHANNEL_ROOM ≤ TEXT_ROOM }
     ensures text { text.new ≡ text.old ++ status_line case.now.parts place }
-    ensures length { length text.new ≤ length text.old + 100 }
+    ensures length { length text.new ≤ length text.old + CHANNEL_ROOM }
 {
     text.push_number(status + 1);
     text.push(b",");
@@ -262,10 +229,10 @@ fn push_status_line(text: &mut Text, case: &Case, place: usize, status: usize)
     text.push(b",,,0\r\n");
 }
 
-// Puts what stands behind the channels behind the text.
+/// Puts what stands after the channels after the text.
 #[tactic(auto, unfolding(crate::specs::Record::cfg_tail))]
 fn push_tail(text: &mut Text, case: &Case, samples: u32)
-    requires { length text.old + 4096 ≤ 8192 }
+    requires { length text.old + LINE_ROOM ≤ TEXT_ROOM }
     ensures text { text.new ≡ text.old ++ cfg_tail case.now.parts samples }
 {
     text.push(b"60\r\n0\r\n0,");
@@ -275,7 +242,7 @@ fn push_tail(text: &mut Text, case: &Case, samples: u32)
     text.push(b"\r\n");
 }
 
-// The time between two samples in ps.
+/// The time between two samples in ps.
 fn sample_time(case: &Case) -> i64
     ensures { result ≡ pos case.now.parts.run.every *ℤ case.now.parts.run.dt }
 {

@@ -1,20 +1,29 @@
-// The lines of the data.
-ghost use Rattle.std.specs.Prelude.{◌≡◌, ◌≢◌, ◌+◌, ◌*◌, ◌<◌, ◌≤◌, ◌++◌, pos, ◌-ℤ◌, ◌*ℤ◌, unsigned_abs, length, ◌==◌, IsTrue, IsOk, OnOk, OnErr};
+//! The lines of the data.
+ghost use Rattle.std.specs.Prelude.{◌≡◌, ◌≢◌, ◌+◌, ◌*◌, ◌<◌, ◌≤◌, ◌++◌, pos, ◌-ℤ◌, ◌*ℤ◌, unsigned_abs, length, ◌==◌, OnOk};
 ghost use Rattle.emtp_fix.specs.Rounding.{near};
-ghost use Rattle.emtp_io.specs.Cabinet.{output, appended, HasCause, HasRoom, GrewByPrefix};
-ghost use Rattle.emtp_comtrade.specs.Record.{joined, is_status_at, analog_before, raw_at, state_at, dat_line, dat_text, AreScales};
-ghost use Rattle.emtp_comtrade.specs.Stream.{IsGathered};
+ghost use Rattle.emtp_io.specs.Whole.{Appends};
+ghost use Rattle.emtp_comtrade.specs.Record.{joined, is_status_at, analog_before, raw_at, state_at, dat_line, dat_text, AreMultipliers};
+ghost use Rattle.emtp_comtrade.specs.Stream.{Gathers};
 
 use crate::multipliers::{is_status_at, multiplier_at};
 use crate::stream::{flush, make_room};
-use crate::text::Text;
+use crate::text::{LINE_ROOM, NUMBER_ROOM, TEXT_ROOM, Text};
 use emtp_case::Case;
 use emtp_fix::near;
 use emtp_io::{Cabinet, Failed, Output};
 use emtp_machine::Samples;
 
+/// The most channels of a case.
+const CHANNELS: usize = 64;
+
+/// The most bytes of a comma and a raw value.
+const RAW_ROOM: usize = NUMBER_ROOM + 1;
+
+/// The bytes of a comma and a state.
+const STATE_ROOM: usize = 2;
+
 /// The raw value of an analog channel: the nearest whole number of multipliers, a half away from zero. It lies at
-/// most half a multiplier from the value.
+/// most half a multiplier from the value, and within -32767 to 32767 for a multiplier of [`scales`](crate::scales).
 #[tactic(auto, using(crate::proofs::Lines::rounding))]
 pub fn raw_value(value: i64, multiplier: i64) -> i128
     requires { multiplier ≢ pos 0 }
@@ -25,156 +34,138 @@ pub fn raw_value(value: i64, multiplier: i64) -> i128
 }
 
 /// Writes the data: a line a sample, and the end mark. The caller created `Dat`. It takes no memory.
-#[tactic(auto, using(crate::proofs::Streams::closing), unfolding(crate::specs::Record::dat_text))]
+#[tactic(auto, unfolding(crate::specs::Record::dat_text))]
 pub fn write_dat<C: Cabinet>(
-    cab: &mut C,
+    cabinet: &mut C,
     case: &Case,
     samples: &Samples,
-    scales: &[i64; 64],
+    multipliers: &[i64; 64],
 ) -> Result<(), Failed>
     requires channels { samples.now.channels ≡ length case.now.parts.channels }
-    requires scales { AreScales case.now.parts samples.now.rows scales.now }
-    ensures nature { C.nature cab.new ≡ C.nature cab.old }
-    ensures cause { HasCause (C.faults_out cab.old) (C.faults_out cab.new) result }
-    ensures other { C.faults_in cab.new ≡ C.faults_in cab.old }
-    ensures left { C.left cab.new ≡ C.left cab.old }
-    ensures ok { IsTrue (C.nature cab.old).tells → OnOk result
-        (C.outputs cab.new ≡ appended (C.outputs cab.old) Output.Dat (dat_text case.now.parts samples.now.rows)) }
-    ensures err { IsTrue (C.nature cab.old).tells → OnErr result
-        (GrewByPrefix (C.outputs cab.old) (C.outputs cab.new) Output.Dat (dat_text case.now.parts samples.now.rows)) }
-    ensures calm { IsTrue (C.nature cab.old).tells → IsTrue (C.nature cab.old).calm
-        → HasRoom (output (C.outputs cab.old) Output.Dat) (length (dat_text case.now.parts samples.now.rows))
-        (C.nature cab.old).room
-        → IsOk result }
+    requires multipliers { AreMultipliers case.now.parts samples.now.rows multipliers.now }
+    ensures { Appends (C.state cabinet.old) (C.state cabinet.new) Output.Dat
+        (dat_text case.now.parts samples.now.rows) result }
 {
     let mut text = Text::new();
-    write_samples(cab, &mut text, case, samples, scales)?;
+    write_samples(cabinet, &mut text, case, samples, multipliers)?;
     text.push(b"\x1a");
-    flush(cab, Output::Dat, &mut text)
+    flush(cabinet, Output::Dat, &mut text)
 }
 
-// Puts a line a sample behind the text, which is written where it grows long.
-#[tactic(auto, using(crate::proofs::Streams::lines))]
+/// Puts a line a sample after the text, which is written where it grows long.
 fn write_samples<C: Cabinet>(
-    cab: &mut C,
+    cabinet: &mut C,
     text: &mut Text,
     case: &Case,
     samples: &Samples,
-    scales: &[i64; 64],
+    multipliers: &[i64; 64],
 ) -> Result<(), Failed>
     requires channels { samples.now.channels ≡ length case.now.parts.channels }
-    requires scales { AreScales case.now.parts samples.now.rows scales.now }
-    requires room { length text.old + 4096 ≤ 8192 }
-    ensures nature { C.nature cab.new ≡ C.nature cab.old }
-    ensures cause { HasCause (C.faults_out cab.old) (C.faults_out cab.new) result }
-    ensures other { C.faults_in cab.new ≡ C.faults_in cab.old }
-    ensures left { C.left cab.new ≡ C.left cab.old }
-    ensures room { OnOk result (length text.new + 4096 ≤ 8192) }
-    ensures ok { IsTrue (C.nature cab.old).tells → OnOk result
-        (IsGathered (C.outputs cab.old) (C.outputs cab.new) Output.Dat
-        (text.old ++ joined (length samples.now.rows) (dat_line case.now.parts samples.now.rows)) text.new) }
-    ensures err { IsTrue (C.nature cab.old).tells → OnErr result
-        (GrewByPrefix (C.outputs cab.old) (C.outputs cab.new) Output.Dat
-        (text.old ++ joined (length samples.now.rows) (dat_line case.now.parts samples.now.rows))) }
-    ensures calm { IsTrue (C.nature cab.old).tells → IsTrue (C.nature cab.old).calm
-        → HasRoom (output (C.outputs cab.old) Output.Dat)
-        (length (text.old ++ joined (length samples.now.rows) (dat_line case.now.parts samples.now.rows)))
-        (C.nature cab.old).room
-        → IsOk result }
+    requires multipliers { AreMultipliers case.now.parts samples.now.rows multipliers.now }
+    requires room { length text.old + LINE_ROOM ≤ TEXT_ROOM }
+    ensures text { Gathers (C.state cabinet.old) (C.state cabinet.new) Output.Dat
+        (text.old ++ joined (length samples.now.rows) (dat_line case.now.parts samples.now.rows)) text.new result }
+    ensures room { OnOk result (length text.new + LINE_ROOM ≤ TEXT_ROOM) }
 {
     for sample in 0..samples.count() {
-        push_sample(text, case, samples, scales, sample);
-        make_room(cab, Output::Dat, text)?;
+        push_sample(text, case, samples, multipliers, sample);
+        make_room(cabinet, Output::Dat, text)?;
     }
     Ok(())
 }
 
-/// Puts the line of a sample behind the text.
+/// Puts the line of a sample after the text.
 #[tactic(auto, unfolding(crate::specs::Record::dat_line))]
-pub fn push_sample(text: &mut Text, case: &Case, samples: &Samples, scales: &[i64; 64], sample: u32)
+pub fn push_sample(
+    text: &mut Text,
+    case: &Case,
+    samples: &Samples,
+    multipliers: &[i64; 64],
+    sample: u32,
+)
     requires channels { samples.now.channels ≡ length case.now.parts.channels }
-    requires scales { AreScales case.now.parts samples.now.rows scales.now }
+    requires multipliers { AreMultipliers case.now.parts samples.now.rows multipliers.now }
     requires sample { sample < length samples.now.rows }
-    requires room { length text.old + 4096 ≤ 8192 }
+    requires room { length text.old + LINE_ROOM ≤ TEXT_ROOM }
     ensures text { text.new ≡ text.old ++ dat_line case.now.parts samples.now.rows sample }
-    ensures length { length text.new ≤ length text.old + 4096 }
+    ensures length { length text.new ≤ length text.old + LINE_ROOM }
 {
     text.push_number(u64::from(sample) + 1);
     text.push(b",");
     text.push_number(sample);
-    push_raws(text, case, samples, scales, sample);
+    push_raws(text, case, samples, multipliers, sample);
     push_states(text, case, samples, sample);
     text.push(b"\r\n");
 }
 
-// Puts a comma and the raw value of each analog channel behind the text.
-fn push_raws(text: &mut Text, case: &Case, samples: &Samples, scales: &[i64; 64], sample: u32)
+/// Puts a comma and the raw value of each analog channel after the text.
+fn push_raws(text: &mut Text, case: &Case, samples: &Samples, multipliers: &[i64; 64], sample: u32)
     requires channels { samples.now.channels ≡ length case.now.parts.channels }
-    requires scales { AreScales case.now.parts samples.now.rows scales.now }
+    requires multipliers { AreMultipliers case.now.parts samples.now.rows multipliers.now }
     requires sample { sample < length samples.now.rows }
-    requires room { length text.old + 3000 ≤ 8192 }
+    requires room { length text.old + CHANNELS * RAW_ROOM ≤ TEXT_ROOM }
     ensures text { text.new ≡ text.old
         ++ joined (length case.now.parts.channels) (raw_at case.now.parts samples.now.rows sample) }
-    ensures length { length text.new ≤ length text.old + 41 * 64 }
+    ensures length { length text.new ≤ length text.old + CHANNELS * RAW_ROOM }
 {
     let mut analog = 0;
     for place in 0..case.parts.channels.len() {
-        analog = push_raw(text, case, samples, scales, sample, place, analog);
+        analog = push_raw(text, case, samples, multipliers, sample, place, analog);
     }
 }
 
-// Puts a comma and the raw value behind the text, where an analog channel stands at the place. Answers
-// how many analog channels stand up to there.
+/// Puts a comma and the raw value after the text, where an analog channel stands at the place. Answers
+/// how many analog channels stand up to there.
 fn push_raw(
     text: &mut Text,
     case: &Case,
     samples: &Samples,
-    scales: &[i64; 64],
+    multipliers: &[i64; 64],
     sample: u32,
     place: usize,
     analog: usize,
 ) -> usize
     requires channels { samples.now.channels ≡ length case.now.parts.channels }
-    requires scales { AreScales case.now.parts samples.now.rows scales.now }
+    requires multipliers { AreMultipliers case.now.parts samples.now.rows multipliers.now }
     requires sample { sample < length samples.now.rows }
     requires place { place < length case.now.parts.channels }
     requires analog { analog ≡ analog_before case.now.parts place }
-    requires room { length text.old + 41 ≤ 8192 }
+    requires room { length text.old + RAW_ROOM ≤ TEXT_ROOM }
     ensures text { text.new ≡ text.old ++ raw_at case.now.parts samples.now.rows sample place }
-    ensures length { length text.new ≤ length text.old + 41 }
+    ensures length { length text.new ≤ length text.old + RAW_ROOM }
     ensures analog { result ≡ analog_before case.now.parts (place + 1) }
 {
     if is_status_at(case, place) {
         return analog;
     }
     text.push(b",");
-    let multiplier = multiplier_at(case, scales, place, analog);
+    let multiplier = multiplier_at(case, multipliers, place, analog);
     text.push_number(raw_value(samples.value(sample, place), multiplier));
     analog + 1
 }
 
-// Puts a comma and the state of each status channel behind the text.
+/// Puts a comma and the state of each status channel after the text.
 fn push_states(text: &mut Text, case: &Case, samples: &Samples, sample: u32)
     requires channels { samples.now.channels ≡ length case.now.parts.channels }
     requires sample { sample < length samples.now.rows }
-    requires room { length text.old + 200 ≤ 8192 }
+    requires room { length text.old + CHANNELS * STATE_ROOM ≤ TEXT_ROOM }
     ensures text { text.new ≡ text.old
         ++ joined (length case.now.parts.channels) (state_at case.now.parts samples.now.rows sample) }
-    ensures length { length text.new ≤ length text.old + 2 * 64 }
+    ensures length { length text.new ≤ length text.old + CHANNELS * STATE_ROOM }
 {
     for place in 0..case.parts.channels.len() {
         push_state(text, case, samples, sample, place);
     }
 }
 
-// Puts a comma and the state behind the text, where a status channel stands at the place.
+/// Puts a comma and the state after the text, where a status channel stands at the place.
 fn push_state(text: &mut Text, case: &Case, samples: &Samples, sample: u32, place: usize)
     requires channels { samples.now.channels ≡ length case.now.parts.channels }
     requires sample { sample < length samples.now.rows }
     requires place { place < length case.now.parts.channels }
-    requires room { length text.old + 2 ≤ 8192 }
+    requires room { length text.old + STATE_ROOM ≤ TEXT_ROOM }
     ensures text { text.new ≡ text.old ++ state_at case.now.parts samples.now.rows sample place }
-    ensures length { length text.new ≤ length text.old + 2 }
+    ensures length { length text.new ≤ length text.old + STATE_ROOM }
 {
     if !is_status_at(case, place) {
         return;

@@ -5,16 +5,16 @@
 //! names, on `emtp_machine` for the samples, on `emtp_io` for the files and on `emtp_fix` for rounding and decimals.
 //!
 //! ```text
-//! let scales = scales(case, samples);
-//! cab.create(Output::Cfg, "out.cfg")?;
-//! write_cfg(cab, case, samples, &scales)?;
+//! let multipliers = scales(case, samples);
+//! cabinet.create(Output::Cfg, "out.cfg")?;
+//! write_cfg(cabinet, case, samples, &multipliers)?;
 //! ```
 #![tactic(auto)]
 
 mod configuration;
 mod data;
+mod multiplier;
 mod multipliers;
-mod scale;
 mod stream;
 mod text;
 

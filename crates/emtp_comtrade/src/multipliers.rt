@@ -1,32 +1,35 @@
-// The multipliers of the analog channels of a record.
-ghost use Rattle.std.specs.Prelude.{◌≡◌, ◌≢◌, ℤ, List, false, ◌+◌, ◌≤◌, ◌<◌, ◌^◌, length, pos};
-ghost use Rattle.emtp_comtrade.specs.Record.{is_status, is_status_at, analog_before, scale_at, ScalesBelow, AreScales};
-ghost use Rattle.emtp_machine.specs.Samples.{greatest};
-ghost use Rattle.emtp_comtrade.specs.Scale.{IsScale};
+//! The multipliers of the analog channels of a record.
+ghost use Rattle.std.specs.Prelude.{◌≡◌, ◌≢◌, ℕ, ℤ, List, false, ◌+◌, ◌≤◌, ◌<◌, ◌^◌, length, pos};
+ghost use Rattle.emtp_comtrade.specs.Record.{is_status, is_status_at, analog_before, multiplier_at, MultipliersBelow, AreMultipliers};
+ghost use Rattle.emtp_machine.specs.Samples.{value_at, greatest};
+ghost use Rattle.emtp_comtrade.specs.Multiplier.{IsMultiplier, IsHeld};
 
-use crate::scale::scale;
+use crate::multiplier::least_multiplier;
 use emtp_case::{Case, Channel};
 use emtp_machine::Samples;
 
 /// The multipliers of the analog channels, in the order of the channels, in 1e-9 V, A or unit: the least of 1, 2
 /// and 5 times a power of ten by which each value of the channel is held in 16 bits. The entries after the last
-/// analog one are 1.
+/// analog one are 1. A raw value is at most 32,767 in magnitude, and at most half a multiplier off.
 pub fn scales(case: &Case, samples: &Samples) -> [i64; 64]
     requires { samples.now.channels ≡ length case.now.parts.channels }
-    ensures { AreScales case.now.parts samples.now.rows result }
+    ensures multipliers { AreMultipliers case.now.parts samples.now.rows result }
+    ensures held { (sample place : ℕ) → sample < length samples.now.rows → place < length case.now.parts.channels
+        → is_status_at case.now.parts place ≡ false
+        → IsHeld (value_at samples.now.rows sample place) (multiplier_at samples.now.rows place) }
 {
-    let mut scales = [1; 64];
+    let mut multipliers = [1; 64];
     let mut analog = 0;
     for place in 0..case.parts.channels.len() {
-        analog = put_scale(&mut scales, analog, case, samples, place);
+        analog = put_multiplier(&mut multipliers, analog, case, samples, place);
     }
-    scales
+    multipliers
 }
 
-// Puts the multiplier of the channel at a place behind those of the analog channels before it, and answers how many
-// they are then.
-fn put_scale(
-    scales: &mut [i64; 64],
+/// Puts the multiplier of the channel at a place after those of the analog channels before it, and answers how many
+/// they are then.
+fn put_multiplier(
+    multipliers: &mut [i64; 64],
     analog: usize,
     case: &Case,
     samples: &Samples,
@@ -35,41 +38,41 @@ fn put_scale(
     requires channels { samples.now.channels ≡ length case.now.parts.channels }
     requires place { place < length case.now.parts.channels }
     requires analog { analog ≡ analog_before case.now.parts place }
-    requires scales { ScalesBelow case.now.parts samples.now.rows place scales.old }
+    requires multipliers { MultipliersBelow case.now.parts samples.now.rows place multipliers.old }
     ensures analog { result ≡ analog_before case.now.parts (place + 1) }
-    ensures scales { ScalesBelow case.now.parts samples.now.rows (place + 1) scales.new }
+    ensures multipliers { MultipliersBelow case.now.parts samples.now.rows (place + 1) multipliers.new }
 {
     if is_status_at(case, place) {
         return analog;
     }
-    scales[analog] = multiplier(samples, place);
+    multipliers[analog] = channel_multiplier(samples, place);
     analog + 1
 }
 
-// The multiplier of the channel at a place.
-fn multiplier(samples: &Samples, place: usize) -> i64
+/// The multiplier of the channel at a place.
+fn channel_multiplier(samples: &Samples, place: usize) -> i64
     requires { place < samples.now.channels }
-    ensures value { result ≡ pos (scale_at samples.now.rows place) }
-    ensures least { IsScale (greatest samples.now.rows place (length samples.now.rows))
-        (scale_at samples.now.rows place) }
+    ensures value { result ≡ pos (multiplier_at samples.now.rows place) }
+    ensures least { IsMultiplier (greatest samples.now.rows place (length samples.now.rows))
+        (multiplier_at samples.now.rows place) }
 {
-    scale(greatest(samples, place)) as i64
+    least_multiplier(greatest(samples, place)) as i64
 }
 
 /// The multiplier of the analog channel at a place, before which so many analog channels stand.
-pub fn multiplier_at(case: &Case, scales: &[i64; 64], place: usize, analog: usize) -> i64
+pub fn multiplier_at(case: &Case, multipliers: &[i64; 64], place: usize, analog: usize) -> i64
     requires place { place < length case.now.parts.channels }
     requires kind { is_status_at case.now.parts place ≡ false }
     requires analog { analog ≡ analog_before case.now.parts place }
     ensures few { analog < 64 }
 
     // Whatever the samples are that these are the multipliers of.
-    ensures value { (samples : List (List ℤ)) → AreScales case.now.parts samples scales.now
-        → result ≡ pos (scale_at samples place) }
-    ensures nonzero { (samples : List (List ℤ)) → AreScales case.now.parts samples scales.now
+    ensures value { (samples : List (List ℤ)) → AreMultipliers case.now.parts samples multipliers.now
+        → result ≡ pos (multiplier_at samples place) }
+    ensures nonzero { (samples : List (List ℤ)) → AreMultipliers case.now.parts samples multipliers.now
         → result ≢ pos 0 }
 {
-    scales[analog]
+    multipliers[analog]
 }
 
 /// Whether a status channel stands at a place.
@@ -86,7 +89,7 @@ fn is_status(channel: Channel) -> bool
     matches!(channel, Channel::Status(_))
 }
 
-// The greatest magnitude of a channel.
+/// The greatest magnitude of a channel.
 fn greatest(samples: &Samples, channel: usize) -> u64
     requires { channel < samples.now.channels }
     ensures value { result ≡ greatest samples.now.rows channel (length samples.now.rows) }

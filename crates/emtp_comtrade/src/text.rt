@@ -1,28 +1,36 @@
-// A text that waits to be written.
-ghost use Rattle.std.specs.Prelude.{◌≡◌, ◌+◌, ◌≤◌, ◌++◌, [], take, length, ◌==◌};
+//! A text that waits to be written.
+ghost use Rattle.std.specs.Prelude.{◌≡◌, ◌+◌, ◌≤◌, ◌++◌, [], length};
 ghost use Rattle.emtp_fix.specs.Decimal.{fixed_text};
 
+use arrayvec::ArrayVec;
 use emtp_fix::print_fixed;
 use itoa::{Buffer, Integer};
 use std::marker::Model;
 
-const CAPACITY: usize = 8192;
+/// The most bytes that wait: a line after others that are not yet worth a call.
+pub const TEXT_ROOM: usize = 8192;
 
-/// The front of a text, of at most 8,192 bytes, that waits to be written. It takes no memory.
+/// The most bytes of a line: 64 channels of a number each, and what stands before and after them.
+pub const LINE_ROOM: usize = 4096;
+
+/// The most bytes of a channel's line in the configuration.
+pub const CHANNEL_ROOM: usize = 200;
+
+/// The most bytes of a number.
+pub const NUMBER_ROOM: usize = 40;
+
+/// The front of a text that waits to be written. It takes no memory.
 #[derive(Drop)]
 pub struct Text {
-    bytes: [u8; CAPACITY],
-    len: usize,
+    bytes: ArrayVec<u8, TEXT_ROOM>,
 }
 
 impl Model for Text {
-    ghost use Rattle.std.specs.Prelude.{ℕ, List, ◌≤◌, take};
+    ghost use Rattle.std.specs.Prelude.{ℕ, List};
 
     ghost Value = { List ℕ };
 
-    ghost view = { λ t. take t.len t.bytes };
-
-    ghost invariant = { λ t. t.len ≤ 8192 };
+    ghost view = { λ t. t.bytes.items };
 }
 
 impl Text {
@@ -31,8 +39,7 @@ impl Text {
         ensures { result ≡ [] }
     {
         Text {
-            bytes: [0; CAPACITY],
-            len: 0,
+            bytes: ArrayVec::new(),
         }
     }
 
@@ -40,59 +47,51 @@ impl Text {
     pub fn as_slice(&self) -> &[u8]
         ensures { result.now ≡ self.now }
     {
-        &self.bytes[..self.len]
+        self.bytes.as_slice()
     }
 
     /// How many bytes wait.
     pub fn len(&self) -> usize
         ensures { result ≡ length self.now }
     {
-        self.len
-    }
-
-    /// Whether no byte waits.
-    pub fn is_empty(&self) -> bool
-        ensures { result ≡ (length self.now == 0) }
-    {
-        self.len == 0
+        self.bytes.len()
     }
 
     /// Takes all bytes away.
     pub fn clear(&mut self)
         ensures { self.new ≡ [] }
     {
-        self.len = 0;
+        self.bytes.clear();
     }
 
-    /// Puts bytes behind the text.
+    /// Puts bytes after the text, for which there is room.
     pub fn push(&mut self, bytes: &[u8])
-        requires { length self.old + length bytes.now ≤ 8192 }
+        requires { length self.old + length bytes.now ≤ TEXT_ROOM }
         ensures text { self.new ≡ self.old ++ bytes.now }
         ensures length { length self.new ≡ length self.old + length bytes.now }
     {
-        let end = self.len + bytes.len();
-        self.bytes[self.len..end].copy_from_slice(bytes);
-        self.len = end;
+        // There is room, so that this can't fail.
+        let _ = self.bytes.try_extend_from_slice(bytes);
     }
 
-    /// Puts a whole number behind the text.
+    /// Puts a whole number after the text.
     pub fn push_number<I: Integer>(&mut self, number: I)
-        requires { length self.old + 40 ≤ 8192 }
+        requires { length self.old + NUMBER_ROOM ≤ TEXT_ROOM }
         ensures text { self.new ≡ self.old ++ I.text number }
-        ensures length { length self.new ≤ length self.old + 40 }
+        ensures length { length self.new ≤ length self.old + NUMBER_ROOM }
     {
         let mut buffer = Buffer::new();
         self.push(buffer.format(number).as_bytes());
     }
 
-    /// Puts a decimal behind the text: a whole number of units of 10^-places.
+    /// Puts a decimal after the text: a whole number of units of 10^-places.
     pub fn push_fixed(&mut self, number: i64, places: usize)
-        requires room { length self.old + 40 ≤ 8192 }
+        requires room { length self.old + NUMBER_ROOM ≤ TEXT_ROOM }
         requires places { places ≤ 18 }
         ensures text { self.new ≡ self.old ++ fixed_text number places }
-        ensures length { length self.new ≤ length self.old + 40 }
+        ensures length { length self.new ≤ length self.old + NUMBER_ROOM }
     {
-        let mut digits = [0; 40];
+        let mut digits = [0; NUMBER_ROOM];
         let len = print_fixed(number, places, &mut digits);
         self.push(&digits[..len]);
     }

@@ -6,8 +6,8 @@ use Rattle.std.proofs.Math.Seq.{take-length}
 use Rattle.std.proofs.lemmas.List.{drop_min, drop-drop, take-append-drop}
 use Rattle.std.proofs.lemmas.List.Folds.{find_at}
 use Rattle.std.proofs.lemmas.Option.{slice_get_past, slice_get-get_or, slice_get_read}
-use Rattle.emtp_io.specs.Cabinet.{before_left}
-use Rattle.emtp_io.specs.Files.{File, is_named, file_named, left_of}
+use Rattle.emtp_io.specs.Cabinet.{put_back}
+use Rattle.emtp_io.specs.Files.{File, is_named, file_named, unread_of}
 
 -- the bytes of a file from a position on, if there is a file
 abbrev rest : ℕ → Option File → Option (List ℕ)
@@ -17,19 +17,19 @@ rest position file = option_map (λ f. drop position f.1.items) file
 abbrev place : (File → Bool) → List File → Bool → Option ℕ
 place p files found = cond found (Some (position_or_len p files)) None
 
-left_of-first : (p : File → Bool) (files : List File) (found : Bool)
+unread_of-first : (p : File → Bool) (files : List File) (found : Bool)
     → nat_lt (position_or_len p files) (length files) ≡ found
-    → left_of files (place p files found) 0 ≡ rest 0 (find p files)
-left_of-first p files true lt = ap (λ (o : Option File). rest 0 o) (sym (find_at p files))
-left_of-first p files false lt =
+    → unread_of files (place p files found) 0 ≡ rest 0 (find p files)
+unread_of-first p files true lt = ap (λ (o : Option File). rest 0 o) (sym (find_at p files))
+unread_of-first p files false lt =
     let past : length files ≤ position_or_len p files = grind arith in
     let none : find p files ≡ None = find_at p files ∙ slice_get_past files (position_or_len p files) past in
     sym (ap (λ (o : Option File). rest 0 o) none)
 
 -- from its first byte, a file is read whole
-pub left_of-position : (files : List File) (name : List ℕ)
-    → left_of files (position (is_named name) files) 0 ≡ file_named files name
-left_of-position files name = left_of-first (is_named name) files _ refl
+pub unread_of-position : (files : List File) (name : List ℕ)
+    → unread_of files (position (is_named name) files) 0 ≡ file_named files name
+unread_of-position files name = unread_of-first (is_named name) files _ refl
 
 is_some-first : (p : File → Bool) (files : List File) (found : Bool)
     → nat_lt (position_or_len p files) (length files) ≡ found
@@ -52,17 +52,17 @@ pub is_some-position : (files : List File) (name : List ℕ)
 is_some-position files name = is_some-first (is_named name) files _ refl
 
 -- what stands at a place is left from a position on
-pub left_of-place : (files : List File) (opened : Option ℕ) (at position : ℕ) (file : File)
+pub unread_of-place : (files : List File) (opened : Option ℕ) (at position : ℕ) (file : File)
     → opened ≡ Some at → at < length files → file ≡ get_or files at file
-    → left_of files opened position ≡ Some (drop position file.1.items)
-left_of-place files opened at position file is lt read =
-    ap (λ (o : Option ℕ). left_of files o position) is
+    → unread_of files opened position ≡ Some (drop position file.1.items)
+unread_of-place files opened at position file is lt read =
+    ap (λ (o : Option ℕ). unread_of files o position) is
     ∙ ap (λ (o : Option File). rest position o) (slice_get_read files (length files) at file refl lt read)
 
-pub left_of-past : (files : List File) (opened : Option ℕ) (at position : ℕ)
-    → opened ≡ Some at → length files ≤ at → left_of files opened position ≡ None
-left_of-past files opened at position is le =
-    ap (λ (o : Option ℕ). left_of files o position) is
+pub unread_of-past : (files : List File) (opened : Option ℕ) (at position : ℕ)
+    → opened ≡ Some at → length files ≤ at → unread_of files opened position ≡ None
+unread_of-past files opened at position is le =
+    ap (λ (o : Option ℕ). unread_of files o position) is
     ∙ ap (λ (o : Option File). rest position o) (slice_get_past files at le)
 
 -- the bytes from a place within a file on
@@ -75,11 +75,11 @@ rest-min position bytes =
     ∙ take-length (drop at bytes)
     ∙ drop_min position bytes
 
-pub ruleset places = (left_of-place, left_of-past, rest-min)
+pub ruleset places = (unread_of-place, unread_of-past, rest-min)
 
 rest-read : (file : Option File) (position n : ℕ) (bytes front : List ℕ)
     → rest position file ≡ Some bytes → front ≡ take n bytes
-    → rest position file ≡ before_left front (rest (position + n) file)
+    → rest position file ≡ put_back front (rest (position + n) file)
 rest-read None position n bytes front left is = refl
 rest-read (Some file) position n bytes front left is =
     let whole : drop position file.1.items ≡ bytes = cc in
@@ -90,11 +90,11 @@ rest-read (Some file) position n bytes front left is =
     cc
 
 -- the first bytes of what was left were read
-pub left_of-read : (files : List File) (opened : Option ℕ) (position n : ℕ) (bytes front : List ℕ)
-    → left_of files opened position ≡ Some bytes → front ≡ take n bytes
-    → left_of files opened position ≡ before_left front (left_of files opened (position + n))
-left_of-read files None position n bytes front left is = refl
-left_of-read files (Some at) position n bytes front left is =
+pub unread_of-read : (files : List File) (opened : Option ℕ) (position n : ℕ) (bytes front : List ℕ)
+    → unread_of files opened position ≡ Some bytes → front ≡ take n bytes
+    → unread_of files opened position ≡ put_back front (unread_of files opened (position + n))
+unread_of-read files None position n bytes front left is = refl
+unread_of-read files (Some at) position n bytes front left is =
     rest-read (slice_get files at) position n bytes front left is
 
-pub ruleset reading = (left_of-read)
+pub ruleset reading = (unread_of-read)

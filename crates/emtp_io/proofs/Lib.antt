@@ -1,2 +1,4 @@
+pub mod Appending
 pub mod FilesLemmas
+pub mod Making
 pub mod Pieces

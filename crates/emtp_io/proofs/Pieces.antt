@@ -1,27 +1,40 @@
 -- Outputs that grow piece by piece, and a file that is read piece by piece.
-use Rattle.std.proofs.Common.{◌≡◌, ℕ, ◌+◌, ◌≤◌, length, arith, length-append, List, ◌++◌, take, drop, refl, sym, ◌∙◌, ap, subst, append_assoc, Option, Some, None, IsSome}
+use Rattle.std.proofs.Common.{◌≡◌, ℕ, ◌+◌, ◌≤◌, length, arith, length-append, List, ◌++◌, take, drop, refl, sym, ◌∙◌, ap, subst, append_assoc, append-nil, [], Option, Some, None, IsSome}
 use Rattle.std.proofs.Math.Seq.{take-add, take-append-add}
 use Rattle.std.proofs.lemmas.List.{take-append-le, take_rest}
 use Rattle.emtp_io.specs.declared.cabinet.Output.{Output}
 use Rattle.emtp_io.specs.declared.cabinet.Output.TheVariants.{Cfg, Dat, Note, Summary}
-use Rattle.emtp_io.specs.Cabinet.{Entry, Outputs, output, with_output, longer, appended, before_left, HasRoom, GrewByPrefix, TookFront}
+use Rattle.emtp_io.specs.Cabinet.{CreatedOutput, Outputs, output, with_output, with_bytes, appended, put_back, HasRoom}
+use Rattle.emtp_io.specs.Whole.{GrewByPrefix, TookFront}
 
-pub longer-append : (e : Option Entry) (xs ys : List ℕ) → longer (longer e xs) ys ≡ longer e (xs ++ ys)
-longer-append None xs ys = refl
-longer-append (Some e) xs ys =
+pub with_bytes-append : (e : Option CreatedOutput) (xs ys : List ℕ) → with_bytes (with_bytes e xs) ys ≡ with_bytes e (xs ++ ys)
+with_bytes-append None xs ys = refl
+with_bytes-append (Some e) xs ys =
     ap (λ (bytes : List ℕ). Some (record e { bytes = bytes })) (append_assoc e.bytes xs ys)
 
 -- two pieces are one
 pub appended-append : (outs : Outputs) (out : Output) (xs ys : List ℕ)
     → appended (appended outs out xs) out ys ≡ appended outs out (xs ++ ys)
 appended-append outs Cfg xs ys =
-    ap (λ (e : Option Entry). with_output outs Cfg e) (longer-append outs.cfg xs ys)
+    ap (λ (e : Option CreatedOutput). with_output outs Cfg e) (with_bytes-append outs.cfg xs ys)
 appended-append outs Dat xs ys =
-    ap (λ (e : Option Entry). with_output outs Dat e) (longer-append outs.dat xs ys)
+    ap (λ (e : Option CreatedOutput). with_output outs Dat e) (with_bytes-append outs.dat xs ys)
 appended-append outs Note xs ys =
-    ap (λ (e : Option Entry). with_output outs Note e) (longer-append outs.note xs ys)
+    ap (λ (e : Option CreatedOutput). with_output outs Note e) (with_bytes-append outs.note xs ys)
 appended-append outs Summary xs ys =
-    ap (λ (e : Option Entry). with_output outs Summary e) (longer-append outs.summary xs ys)
+    ap (λ (e : Option CreatedOutput). with_output outs Summary e) (with_bytes-append outs.summary xs ys)
+
+with_bytes-nil : (e : Option CreatedOutput) → with_bytes e [] ≡ e
+with_bytes-nil None = refl
+with_bytes-nil (Some e) = ap (λ (bytes : List ℕ). Some (record e { bytes = bytes })) (append-nil e.bytes)
+
+-- no piece leaves all as it was
+pub appended-nil : (outputs : Outputs) (out : Output) → appended outputs out [] ≡ outputs
+appended-nil outputs Cfg = ap (λ (e : Option CreatedOutput). with_output outputs Cfg e) (with_bytes-nil outputs.cfg)
+appended-nil outputs Dat = ap (λ (e : Option CreatedOutput). with_output outputs Dat e) (with_bytes-nil outputs.dat)
+appended-nil outputs Note = ap (λ (e : Option CreatedOutput). with_output outputs Note e) (with_bytes-nil outputs.note)
+appended-nil outputs Summary =
+    ap (λ (e : Option CreatedOutput). with_output outputs Summary e) (with_bytes-nil outputs.summary)
 
 -- the next piece of some bytes
 pub appended-next : (outs : Outputs) (out : Output) (bytes : List ℕ) (n m : ℕ)
@@ -31,23 +44,23 @@ appended-next outs out bytes n m =
     appended-append outs out (take n bytes) (take m (drop n bytes))
     ∙ ap (λ (xs : List ℕ). appended outs out xs) (sym (take-add n m bytes))
 
-pub before_left-before_left : (xs ys : List ℕ) (left : Option (List ℕ))
-    → before_left xs (before_left ys left) ≡ before_left (xs ++ ys) left
-before_left-before_left xs ys None = refl
-before_left-before_left xs ys (Some rest) =
+pub put_back-put_back : (xs ys : List ℕ) (unread : Option (List ℕ))
+    → put_back xs (put_back ys unread) ≡ put_back (xs ++ ys) unread
+put_back-put_back xs ys None = refl
+put_back-put_back xs ys (Some rest) =
     ap (λ (bytes : List ℕ). Some bytes) (sym (append_assoc xs ys rest))
 
 -- one more piece was read
 pub took-next : (xs ys : List ℕ) (first middle last : Option (List ℕ))
-    → first ≡ before_left xs middle → middle ≡ before_left ys last → TookFront first last
+    → first ≡ put_back xs middle → middle ≡ put_back ys last → TookFront first last
 took-next xs ys first middle last p q = record {
   front = xs ++ ys;
-  took = p ∙ ap (λ (o : Option (List ℕ)). before_left xs o) q ∙ before_left-before_left xs ys last;
+  took = p ∙ ap (λ (o : Option (List ℕ)). put_back xs o) q ∙ put_back-put_back xs ys last;
 }
 
 -- what a piece was read from was opened
 pub opened-before : (xs : List ℕ) (first last : Option (List ℕ))
-    → first ≡ before_left xs last → IsSome last → IsSome first
+    → first ≡ put_back xs last → IsSome last → IsSome first
 opened-before xs first None p some = cc
 opened-before xs first (Some rest) p some = subst (λ (o : Option (List ℕ)). IsSome o) (sym p) some
 
@@ -76,8 +89,8 @@ grew-second old middle new out xs ys whole grew = record {
       ∙ ap (λ (bytes : List ℕ). appended old out bytes) (sym (take-append-add xs ys grew.count));
 }
 
-room_after : (e : Option Entry) (xs : List ℕ) (more room : ℕ)
-    → HasRoom e (length xs + more) room → HasRoom (longer e xs) more room
+room_after : (e : Option CreatedOutput) (xs : List ℕ) (more room : ℕ)
+    → HasRoom e (length xs + more) room → HasRoom (with_bytes e xs) more room
 room_after None xs more room has = has
 room_after (Some e) xs more room has = omega (arith, length-append e.bytes xs, has)
 
@@ -90,7 +103,7 @@ room-appended old Note xs more room has = room_after old.note xs more room has
 room-appended old Summary xs more room has = room_after old.summary xs more room has
 
 -- fewer bytes have room too
-pub room_less : (e : Option Entry) (more less room : ℕ)
+pub room_less : (e : Option CreatedOutput) (more less room : ℕ)
     → less ≤ more → HasRoom e more room → HasRoom e less room
 room_less None more less room le has = has
 room_less (Some e) more less room le has = omega (arith, has)

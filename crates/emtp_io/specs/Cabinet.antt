@@ -1,5 +1,5 @@
 -- What a cabinet holds, and what its calls do to it.
-use Rattle.std.specs.Prelude.{◌≡◌, ℕ, ◌+◌, ◌-◌, ◌^◌, ◌≤◌, min, Bool, false, List, [], ◌++◌, length, take, Option, Some, None, Result, OnOk, OnErr}
+use Rattle.std.specs.Prelude.{◌≡◌, ◌≢◌, ℕ, ◌+◌, ◌-◌, ◌^◌, ◌≤◌, min, Bool, false, List, [], ◌++◌, length, Option, Some, None, Result, OnOk, OnErr}
 use Rattle.emtp_io.specs.declared.cabinet.Output.{Output}
 use Rattle.emtp_io.specs.declared.cabinet.Output.TheVariants.{Cfg, Dat, Note, Summary}
 
@@ -15,47 +15,58 @@ pub record Nature : Type 0 where
   pub files : List ℕ → Option (List ℕ)
 
 -- an output that was created
-pub record Entry : Type 0 where
+pub record CreatedOutput : Type 0 where
   pub name : List ℕ
   pub bytes : List ℕ
 
 -- each output, where it was created
 pub record Outputs : Type 0 where
-  pub cfg : Option Entry
-  pub dat : Option Entry
-  pub note : Option Entry
-  pub summary : Option Entry
+  pub cfg : Option CreatedOutput
+  pub dat : Option CreatedOutput
+  pub note : Option CreatedOutput
+  pub summary : Option CreatedOutput
 
-abbrev pub output : Outputs → Output → Option Entry
-output outs Cfg = outs.cfg
-output outs Dat = outs.dat
-output outs Note = outs.note
-output outs Summary = outs.summary
+-- what clauses see of a cabinet
+pub record CabinetState : Type 0 where
+  pub nature : Nature
+  -- the bytes of the opened file that are not yet read; none before a file was opened
+  pub unread : Option (List ℕ)
+  pub outputs : Outputs
+  -- how often `open` and `read` have failed
+  pub faults_in : ℕ
+  -- how often `create` and `write` have failed
+  pub faults_out : ℕ
+
+abbrev pub output : Outputs → Output → Option CreatedOutput
+output outputs Cfg = outputs.cfg
+output outputs Dat = outputs.dat
+output outputs Note = outputs.note
+output outputs Summary = outputs.summary
 
 -- the outputs with this one in its place
-abbrev pub with_output : Outputs → Output → Option Entry → Outputs
-with_output outs Cfg e = record outs { cfg = e }
-with_output outs Dat e = record outs { dat = e }
-with_output outs Note e = record outs { note = e }
-with_output outs Summary e = record outs { summary = e }
+abbrev pub with_output : Outputs → Output → Option CreatedOutput → Outputs
+with_output outputs Cfg e = record outputs { cfg = e }
+with_output outputs Dat e = record outputs { dat = e }
+with_output outputs Note e = record outputs { note = e }
+with_output outputs Summary e = record outputs { summary = e }
 
 -- an output, with these bytes after its own
-abbrev pub longer : Option Entry → List ℕ → Option Entry
-longer None bytes = None
-longer (Some e) bytes = Some (record e { bytes = e.bytes ++ bytes })
+abbrev pub with_bytes : Option CreatedOutput → List ℕ → Option CreatedOutput
+with_bytes None bytes = None
+with_bytes (Some e) bytes = Some (record e { bytes = e.bytes ++ bytes })
 
 -- the outputs, with these bytes appended to one of them
 abbrev pub appended : Outputs → Output → List ℕ → Outputs
-appended outs out bytes = with_output outs out (longer (output outs out) bytes)
+appended outputs out bytes = with_output outputs out (with_bytes (output outputs out) bytes)
 
--- these bytes, and then what is left
-abbrev pub before_left : List ℕ → Option (List ℕ) → Option (List ℕ)
-before_left bytes None = None
-before_left bytes (Some rest) = Some (bytes ++ rest)
+-- these bytes, and then what is unread
+abbrev pub put_back : List ℕ → Option (List ℕ) → Option (List ℕ)
+put_back bytes None = None
+put_back bytes (Some rest) = Some (bytes ++ rest)
 
--- nothing is left of the opened file
+-- no byte of the opened file is unread
 abbrev pub IsAtEnd : Option (List ℕ) → Type 0
-IsAtEnd left = left ≡ Some []
+IsAtEnd unread = unread ≡ Some []
 
 -- a count after one more, which stays at its last value
 abbrev pub one_more : ℕ → ℕ
@@ -71,8 +82,23 @@ pub record HasCause {T E : Type 0} (before now : ℕ) (result : Result T E) : Ty
   pub ok : OnOk result (now ≡ before)
   pub failed : OnErr result (Rose before now)
 
+-- a call on the opened file changes what is unread of it, or is refused with a cause; all else stays
+pub record IsInputCall {T E : Type 0} (old new : CabinetState) (result : Result T E) : Type 0 where
+  pub nature : new.nature ≡ old.nature
+  pub outputs : new.outputs ≡ old.outputs
+  pub faults_out : new.faults_out ≡ old.faults_out
+  pub cause : HasCause old.faults_in new.faults_in result
+
+-- a call on an output changes this one, or is refused with a cause; all else stays
+pub record IsOutputCall {T E : Type 0} (old new : CabinetState) (out : Output) (result : Result T E) : Type 0 where
+  pub nature : new.nature ≡ old.nature
+  pub unread : new.unread ≡ old.unread
+  pub faults_in : new.faults_in ≡ old.faults_in
+  pub cause : HasCause old.faults_out new.faults_out result
+  pub others : (other : Output) → other ≢ out → output new.outputs other ≡ output old.outputs other
+
 -- the output was created, and so many more bytes have room in it
-abbrev pub HasRoom : Option Entry → ℕ → ℕ → Type 0
+abbrev pub HasRoom : Option CreatedOutput → ℕ → ℕ → Type 0
 HasRoom None more room = ⊥
 HasRoom (Some e) more room = length e.bytes + more ≤ room
 
@@ -82,14 +108,3 @@ untold = record { tells = false; calm = false; room = 0; files = λ _. None }
 
 abbrev pub no_outputs : Outputs
 no_outputs = record { cfg = None; dat = None; note = None; summary = None }
-
--- a front of these bytes was appended to one output
-pub record GrewByPrefix (old new : Outputs) (out : Output) (bytes : List ℕ) : Type 0 where
-  pub count : ℕ
-  pub within : count ≤ length bytes
-  pub grew : new ≡ appended old out (take count bytes)
-
--- a front of what was left has been read
-pub record TookFront (old new : Option (List ℕ)) : Type 0 where
-  pub front : List ℕ
-  pub took : old ≡ before_left front new

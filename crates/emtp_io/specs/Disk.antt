@@ -1,5 +1,6 @@
 -- What a cabinet of real files has opened and created.
-use Rattle.std.specs.Prelude.{ℕ, Bool, true}
+use Rattle.std.specs.Prelude.{ℕ, Bool, true, false, List, [], Option, Some, None}
+use Rattle.emtp_io.specs.Cabinet.{CabinetState, CreatedOutput, untold}
 use Rattle.emtp_io.specs.declared.cabinet.Output.{Output}
 use Rattle.emtp_io.specs.declared.cabinet.Output.TheVariants.{Cfg, Dat, Note, Summary}
 
@@ -24,3 +25,27 @@ with_created d Cfg = record d { cfg = true }
 with_created d Dat = record d { dat = true }
 with_created d Note = record d { note = true }
 with_created d Summary = record d { summary = true }
+
+-- what is told of an output: that it was created, and nothing of its name and bytes
+abbrev pub created_where : Bool → Option CreatedOutput
+created_where false = None
+created_where true = Some (record { name = []; bytes = [] })
+
+-- what is told of a file: that it is open, and nothing of its bytes
+abbrev pub open_where : Bool → Option (List ℕ)
+open_where false = None
+open_where true = Some []
+
+abbrev pub disk_state : Disk → CabinetState
+disk_state d = record {
+  nature = untold;
+  unread = open_where d.is_open;
+  outputs = record {
+    cfg = created_where d.cfg;
+    dat = created_where d.dat;
+    note = created_where d.note;
+    summary = created_where d.summary;
+  };
+  faults_in = d.faults_in;
+  faults_out = d.faults_out;
+}

@@ -16,6 +16,6 @@ abbrev pub file_named : List File → List ℕ → Option (List ℕ)
 file_named files name = option_map (λ f. f.1.items) (find (is_named name) files)
 
 -- the bytes of the file at this place, from a position on
-abbrev pub left_of : List File → Option ℕ → ℕ → Option (List ℕ)
-left_of files None position = None
-left_of files (Some at) position = option_map (λ f. drop position f.1.items) (slice_get files at)
+abbrev pub unread_of : List File → Option ℕ → ℕ → Option (List ℕ)
+unread_of files None position = None
+unread_of files (Some at) position = option_map (λ f. drop position f.1.items) (slice_get files at)

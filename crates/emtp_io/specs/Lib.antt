@@ -4,4 +4,5 @@ pub mod Calls
 pub mod Disk
 pub mod Files
 pub mod Memory
+pub mod Whole
 pub mod Writes

@@ -1,7 +1,7 @@
 -- What a cabinet in memory holds, and which of its calls fail.
 use Rattle.std.specs.Prelude.{ℕ, min, List, Bool, true, ◌||◌, ◌&&◌, ◌==◌, nat_lt, length, Option, Some, None, is_none, option_map}
 use Rattle.emtp_io.specs.Buffer.{spare_of}
-use Rattle.emtp_io.specs.Cabinet.{Nature, Outputs, output, one_more}
+use Rattle.emtp_io.specs.Cabinet.{CabinetState, Nature, Outputs, output, one_more}
 use Rattle.emtp_io.specs.Calls.{calls_of, lists}
 use Rattle.emtp_io.specs.Files.{File, file_named}
 use Rattle.emtp_io.specs.declared.cabinet.Output.{Output}
@@ -20,7 +20,7 @@ pub record Memory : Type 0 where
   -- how many bytes an output has room for, and how many its name
   pub room : ℕ
   -- the bytes of the opened file that are not yet read
-  pub left : Option (List ℕ)
+  pub unread : Option (List ℕ)
   -- each output, where it was created
   pub outputs : Outputs
   -- how often each kind of call was made
@@ -35,6 +35,15 @@ abbrev pub nature_of : Memory → Nature
 nature_of m =
     record { tells = true; calm = length m.fails == 0; room = m.room; files = file_named m.files }
 
+abbrev pub memory_state : Memory → CabinetState
+memory_state m = record {
+  nature = nature_of m;
+  unread = m.unread;
+  outputs = m.outputs;
+  faults_in = m.faults_in;
+  faults_out = m.faults_out;
+}
+
 -- whether the next call of this kind is told to fail
 abbrev pub is_told_to_fail : Memory → Op → Bool
 is_told_to_fail m op = lists m.fails op (one_more (calls_of m.calls op))
@@ -43,7 +52,7 @@ abbrev pub open_fails : Memory → List ℕ → Bool
 open_fails m name = is_told_to_fail m Open || is_none (file_named m.files name)
 
 abbrev pub read_fails : Memory → Bool
-read_fails m = is_told_to_fail m Read || is_none m.left
+read_fails m = is_told_to_fail m Read || is_none m.unread
 
 abbrev pub create_fails : Memory → List ℕ → Bool
 create_fails m name = is_told_to_fail m Create || nat_lt m.room (length name)
@@ -62,7 +71,7 @@ write_fails m out len = is_told_to_fail m Write || is_full_for (spare_in m out) 
 
 -- how many bytes a call reads into so many
 abbrev pub read_count : Memory → ℕ → Option ℕ
-read_count m len = option_map (λ bytes. min (min (length bytes) len) m.piece) m.left
+read_count m len = option_map (λ bytes. min (min (length bytes) len) m.piece) m.unread
 
 -- how many of so many bytes a call writes
 abbrev pub write_count : Memory → Output → ℕ → Option ℕ

@@ -1,6 +1,6 @@
 -- Outputs that are made one after the other.
-use Rattle.std.specs.Prelude.{◌≡◌, ◌⊎◌, ℕ, ◌≤◌, List, [], ◌∷◌, length, take, Some}
-use Rattle.emtp_io.specs.Cabinet.{Outputs, with_output}
+use Rattle.std.specs.Prelude.{◌≡◌, ◌≢◌, ◌⊎◌, ℕ, ◌≤◌, List, [], ◌∷◌, length, take, Some, Result, IsTrue, IsOk, OnOk, OnErr}
+use Rattle.emtp_io.specs.Cabinet.{CabinetState, Outputs, output, with_output, HasCause}
 use Rattle.emtp_io.specs.declared.cabinet.Output.{Output}
 
 -- an output to be made, with its name and all its bytes
@@ -10,23 +10,39 @@ pub record Written : Type 0 where
   pub bytes : List ℕ
 
 -- the outputs with this one, as far as these bytes
-abbrev pub made : Outputs → Written → List ℕ → Outputs
-made outs w bytes = with_output outs w.out (Some (record { name = w.name; bytes = bytes }))
+abbrev pub with_written : Outputs → Written → List ℕ → Outputs
+with_written outputs w bytes = with_output outputs w.out (Some (record { name = w.name; bytes = bytes }))
 
 -- the outputs after all of these were made
-abbrev pub after : Outputs → List Written → Outputs
-after outs [] = outs
-after outs (w ∷ ws) = after (made outs w w.bytes) ws
+abbrev pub with_all : Outputs → List Written → Outputs
+with_all outputs [] = outputs
+with_all outputs (w ∷ writes) = with_all (with_written outputs w w.bytes) writes
 
 -- It stopped at one of these: those before it are whole, it isn't made or holds a prefix, and those
 -- after it aren't made.
 abbrev pub IsCutShort : Outputs → List Written → Outputs → Type 0
-IsCutShort outs [] new = ⊥
-IsCutShort outs (w ∷ ws) new = (new ≡ outs)
-    ⊎ ((k : ℕ) × (k ≤ length w.bytes) × (new ≡ made outs w (take k w.bytes)))
-    ⊎ IsCutShort (made outs w w.bytes) ws new
+IsCutShort outputs [] new = ⊥
+IsCutShort outputs (w ∷ writes) new = (new ≡ outputs)
+    ⊎ ((k : ℕ) × (k ≤ length w.bytes) × (new ≡ with_written outputs w (take k w.bytes)))
+    ⊎ IsCutShort (with_written outputs w w.bytes) writes new
 
 -- each of these, and its name, has room
 abbrev pub AllFit : List Written → ℕ → Type 0
 AllFit [] room = Unit {0}
-AllFit (w ∷ ws) room = (length w.name ≤ room) × (length w.bytes ≤ room) × AllFit ws room
+AllFit (w ∷ writes) room = (length w.name ≤ room) × (length w.bytes ≤ room) × AllFit writes room
+
+-- an output that is none of these
+abbrev pub IsOther : Output → List Written → Type 0
+IsOther other [] = Unit {0}
+IsOther other (w ∷ writes) = (other ≢ w.out) × IsOther other writes
+
+-- these outputs were made one after the other, or it stopped at one of them and a call failed; all else stays
+pub record Makes {T E : Type 0} (old new : CabinetState) (writes : List Written) (result : Result T E) : Type 0 where
+  pub nature : new.nature ≡ old.nature
+  pub faults_in : new.faults_in ≡ old.faults_in
+  pub cause : HasCause old.faults_out new.faults_out result
+  pub unread : new.unread ≡ old.unread
+  pub others : (other : Output) → IsOther other writes → output new.outputs other ≡ output old.outputs other
+  pub ok : IsTrue old.nature.tells → OnOk result (new.outputs ≡ with_all old.outputs writes)
+  pub err : IsTrue old.nature.tells → OnErr result (IsCutShort old.outputs writes new.outputs)
+  pub calm : IsTrue old.nature.tells → IsTrue old.nature.calm → AllFit writes old.nature.room → IsOk result

@@ -1,6 +1,6 @@
-// The one trait of the outside.
-ghost use Rattle.std.specs.Prelude.{◌≡◌, ◌≢◌, ℕ, ◌<◌, ◌≤◌, [], List, Option, Some, length, take, IsTrue, IsSome, IsOk, OnOk, OnErr, IfOk};
-ghost use Rattle.emtp_io.specs.Cabinet.{Nature, Outputs, output, with_output, appended, before_left, IsAtEnd, HasCause, HasRoom};
+//! The one trait of the outside.
+ghost use Rattle.std.specs.Prelude.{◌≡◌, ◌<◌, ◌≤◌, [], Some, length, take, IsTrue, IsSome, IsOk, OnOk, OnErr, IfOk};
+ghost use Rattle.emtp_io.specs.Cabinet.{CabinetState, output, with_output, appended, put_back, IsAtEnd, HasRoom, IsInputCall, IsOutputCall};
 
 /// A file could not be opened, read, created or written.
 #[derive(Clone, Copy, Debug, PartialEq, Eq)]
@@ -26,80 +26,57 @@ pub enum Output {
 /// is known only where the cabinet tells it; a calm cabinet fails only as the clauses named `calm` allow.
 /// A count that has reached its last value, 2 ^ 64 - 1, stays there.
 pub trait Cabinet {
-    /// How often `open` and `read` have failed.
-    ghost faults_in: { Self → ℕ };
-
-    /// How often `create` and `write` have failed.
-    ghost faults_out: { Self → ℕ };
-
-    /// What no call changes: whether it tells what it holds, whether it is calm, its room, its files.
-    ghost nature: { Self → Nature };
-
-    /// The bytes of the opened file that are not yet read; none before a file was opened.
-    ghost left: { Self → Option (List ℕ) };
-
-    /// The outputs that were created, each with its name and the bytes written to it.
-    ghost outputs: { Self → Outputs };
+    /// What clauses see: its nature, what is unread of the opened file, the outputs, and both counts.
+    ghost state: { Self → CabinetState };
 
     /// Makes the named file the one that is read, from its first byte. It fails where the file isn't
     /// there.
     fn open(&mut self, name: &str) -> Result<(), Failed>
-        ensures nature { nature self.new ≡ nature self.old }
-        ensures cause { HasCause (faults_in self.old) (faults_in self.new) result }
-        ensures other { faults_out self.new ≡ faults_out self.old }
-        ensures outputs { outputs self.new ≡ outputs self.old }
-        ensures err { OnErr result (left self.new ≡ left self.old) }
-        ensures ok { IsTrue (nature self.old).tells → OnOk result
-            (left self.new ≡ (nature self.old).files name.now) }
-        ensures there { IsTrue (nature self.old).tells → OnOk result
-            (IsSome ((nature self.old).files name.now)) }
-        ensures calm { IsTrue (nature self.old).calm →
-            IsSome ((nature self.old).files name.now) → IsOk result };
+        ensures call { IsInputCall (state self.old) (state self.new) result }
+        ensures err { OnErr result ((state self.new).unread ≡ (state self.old).unread) }
+        ensures ok { IsTrue (state self.old).nature.tells → OnOk result
+            ((state self.new).unread ≡ (state self.old).nature.files name.now) }
+        ensures there { IsTrue (state self.old).nature.tells → OnOk result
+            (IsSome ((state self.old).nature.files name.now)) }
+        ensures calm { IsTrue (state self.old).nature.calm →
+            IsSome ((state self.old).nature.files name.now) → IsOk result };
 
     /// Puts the next bytes of the opened file at the start of `buf`, and answers how many. It answers 0
     /// for a `buf` that isn't empty only at the end of the file. It fails before a file was opened.
     fn read(&mut self, buf: &mut [u8]) -> Result<usize, Failed>
-        ensures nature { nature self.new ≡ nature self.old }
-        ensures cause { HasCause (faults_in self.old) (faults_in self.new) result }
-        ensures other { faults_out self.new ≡ faults_out self.old }
-        ensures outputs { outputs self.new ≡ outputs self.old }
-        ensures err { OnErr result (left self.new ≡ left self.old) }
+        ensures call { IsInputCall (state self.old) (state self.new) result }
+        ensures err { OnErr result ((state self.new).unread ≡ (state self.old).unread) }
         ensures bound { IfOk result (λ n. n ≤ length buf.new) }
-        ensures ok { IsTrue (nature self.old).tells → IfOk result
-            (λ n. left self.old ≡ before_left (take n buf.new) (left self.new)) }
-        ensures opened { IsTrue (nature self.old).tells → OnOk result (IsSome (left self.old)) }
-        ensures end { IsTrue (nature self.old).tells → IfOk result
-            (λ n. n ≡ 0 → 0 < length buf.new → IsAtEnd (left self.new)) }
-        ensures calm { IsTrue (nature self.old).calm → IsSome (left self.old) → IsOk result };
+        ensures ok { IsTrue (state self.old).nature.tells → IfOk result
+            (λ n. (state self.old).unread ≡ put_back (take n buf.new) (state self.new).unread) }
+        ensures opened { IsTrue (state self.old).nature.tells → OnOk result
+            (IsSome (state self.old).unread) }
+        ensures end { IsTrue (state self.old).nature.tells → IfOk result
+            (λ n. n ≡ 0 → 0 < length buf.new → IsAtEnd (state self.new).unread) }
+        ensures calm { IsTrue (state self.old).nature.calm → IsSome (state self.old).unread → IsOk result };
 
     /// Makes an output empty, under this name, and leaves the others.
     fn create(&mut self, out: Output, name: &str) -> Result<(), Failed>
-        ensures nature { nature self.new ≡ nature self.old }
-        ensures cause { HasCause (faults_out self.old) (faults_out self.new) result }
-        ensures other { faults_in self.new ≡ faults_in self.old }
-        ensures left { left self.new ≡ left self.old }
-        ensures err { OnErr result (outputs self.new ≡ outputs self.old) }
-        ensures ok { IsTrue (nature self.old).tells → OnOk result (outputs self.new
-            ≡ with_output (outputs self.old) out (Some (record { name = name.now; bytes = [] }))) }
-        ensures calm { IsTrue (nature self.old).calm →
-            length name.now ≤ (nature self.old).room → IsOk result };
+        ensures call { IsOutputCall (state self.old) (state self.new) out result }
+        ensures err { OnErr result ((state self.new).outputs ≡ (state self.old).outputs) }
+        ensures ok { IsTrue (state self.old).nature.tells → OnOk result ((state self.new).outputs
+            ≡ with_output (state self.old).outputs out (Some (record { name = name.now; bytes = [] }))) }
+        ensures calm { IsTrue (state self.old).nature.calm →
+            length name.now ≤ (state self.old).nature.room → IsOk result };
 
     /// Appends the first bytes of a piece to an output, and answers how many: at least one of a piece
     /// that isn't empty. It leaves the other outputs, and fails where the output wasn't created.
     fn write(&mut self, out: Output, piece: &[u8]) -> Result<usize, Failed>
-        ensures nature { nature self.new ≡ nature self.old }
-        ensures cause { HasCause (faults_out self.old) (faults_out self.new) result }
-        ensures other { faults_in self.new ≡ faults_in self.old }
-        ensures left { left self.new ≡ left self.old }
-        ensures err { OnErr result (outputs self.new ≡ outputs self.old) }
+        ensures call { IsOutputCall (state self.old) (state self.new) out result }
+        ensures err { OnErr result ((state self.new).outputs ≡ (state self.old).outputs) }
         ensures bound { IfOk result (λ n. n ≤ length piece.now) }
         ensures some { IfOk result (λ n. 0 < length piece.now → 0 < n) }
-        ensures ok { IsTrue (nature self.old).tells → IfOk result (λ n. outputs self.new
-            ≡ appended (outputs self.old) out (take n piece.now)) }
-        ensures created { IsTrue (nature self.old).tells → OnOk result
-            (IsSome (output (outputs self.old) out)) }
-        ensures calm_empty { IsTrue (nature self.old).calm →
-            IsSome (output (outputs self.old) out) → length piece.now ≡ 0 → IsOk result }
-        ensures calm { IsTrue (nature self.old).calm →
-            HasRoom (output (outputs self.old) out) 1 (nature self.old).room → IsOk result };
+        ensures ok { IsTrue (state self.old).nature.tells → IfOk result (λ n. (state self.new).outputs
+            ≡ appended (state self.old).outputs out (take n piece.now)) }
+        ensures created { IsTrue (state self.old).nature.tells → OnOk result
+            (IsSome (output (state self.old).outputs out)) }
+        ensures calm_empty { IsTrue (state self.old).nature.calm →
+            IsSome (output (state self.old).outputs out) → length piece.now ≡ 0 → IsOk result }
+        ensures calm { IsTrue (state self.old).nature.calm →
+            HasRoom (output (state self.old).outputs out) 1 (state self.old).nature.room → IsOk result };
 }

@@ -1,4 +1,4 @@
-// Calls that are counted, and those that are told to fail.
+//! Calls that are counted, and those that are told to fail.
 ghost use Rattle.std.specs.Prelude.{◌≡◌};
 ghost use Rattle.emtp_io.specs.Calls.{calls_of, counted, lists};
 
@@ -29,9 +29,13 @@ pub struct Failing {
 /// How often each kind of call was made. Each count stays at its last value once it has reached it.
 #[derive(Clone, Copy, Debug, PartialEq, Eq)]
 pub struct Calls {
+    /// Calls of `open`.
     pub opens: u64,
+    /// Calls of `read`.
     pub reads: u64,
+    /// Calls of `create`.
     pub creates: u64,
+    /// Calls of `write`.
     pub writes: u64,
 }
 
@@ -44,7 +48,7 @@ impl Calls {
         is_listed(fails, op, self.count(op))
     }
 
-    // Counts a call of this kind, and answers which one it is.
+    /// Counts a call of this kind, and answers which one it is.
     fn count(&mut self, op: Op) -> u64
         ensures calls { self.new ≡ counted self.old op }
         ensures nth { result ≡ calls_of self.new op }

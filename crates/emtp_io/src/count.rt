@@ -1,4 +1,4 @@
-// Counts that stay at their last value.
+//! Counts that stay at their last value.
 ghost use Rattle.std.specs.Prelude.{◌≡◌, ◌≤◌};
 ghost use Rattle.emtp_io.specs.Cabinet.{one_more, Rose};
 

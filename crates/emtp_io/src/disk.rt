@@ -1,8 +1,8 @@
-// The real files of a runtime. A cabinet of these tells nothing of what they hold.
+//! The real files of a runtime. A cabinet of these tells nothing of what they hold.
 ghost use Rattle.std.specs.Prelude.{◌≡◌, ◌<◌, ◌≤◌, true, false, length, is_some, None, IfSome, IsTrue, IsNone, IsSome, OnSome, OnOk, OnErr, IfOk};
 ghost use Rattle.std.specs.Bool.{OnTrue, OnFalse};
-ghost use Rattle.emtp_io.specs.Cabinet.{untold, no_outputs, one_more, HasCause};
-ghost use Rattle.emtp_io.specs.Disk.{Disk, is_created, with_created};
+ghost use Rattle.emtp_io.specs.Cabinet.{one_more, HasCause};
+ghost use Rattle.emtp_io.specs.Disk.{Disk, disk_state, is_created, with_created};
 
 use crate::count::raise;
 use crate::{Cabinet, Failed, Output};
@@ -14,7 +14,8 @@ use std::{fs, io};
 /// The files of the runtime `rt`. Notes and summaries go to its standard output.
 ///
 /// This is the trusted edge: no clause can say what a file or a terminal holds, so it is not calm and
-/// tells nothing of content. Its clauses say what is open and created, and when the counts rise.
+/// tells nothing of content. What clauses see of it is whether a file is open, which outputs were
+/// created, and both counts.
 #[derive(Drop)]
 pub struct DiskCabinet<R: Files + Print + Drop> {
     rt: R,
@@ -67,7 +68,7 @@ impl<R: Files + Print + Drop> DiskCabinet<R> {
     }
 }
 
-// Writes to the standard output, for an output that was created.
+/// Writes to the standard output, for an output that was created.
 fn print_some<R: Print>(rt: &R, created: bool, piece: &[u8]) -> Option<usize>
     ensures created { OnSome result (IsTrue created) }
     ensures bound { IfSome result (λ n. n ≤ length piece.now) }
@@ -79,7 +80,7 @@ fn print_some<R: Print>(rt: &R, created: bool, piece: &[u8]) -> Option<usize>
     write_some(&mut io::writer(rt), piece)
 }
 
-// Reads once, and again where a signal interrupts it.
+/// Reads once, and again where a signal interrupts it.
 fn read_some<F: Read>(file: &mut F, buf: &mut [u8]) -> Option<usize>
     ensures { IfSome result (λ n. n ≤ length buf.new) }
 {
@@ -93,7 +94,7 @@ fn read_some<F: Read>(file: &mut F, buf: &mut [u8]) -> Option<usize>
     None
 }
 
-// Writes once, and again where a signal interrupts it. A write that takes no byte of some is a failure.
+/// Writes once, and again where a signal interrupts it. A write that takes no byte of some is a failure.
 fn write_some<F: Write>(file: &mut F, piece: &[u8]) -> Option<usize>
     ensures bound { IfSome result (λ n. n ≤ length piece.now) }
     ensures some { IfSome result (λ n. 0 < length piece.now → 0 < n) }
@@ -109,7 +110,7 @@ fn write_some<F: Write>(file: &mut F, piece: &[u8]) -> Option<usize>
     None
 }
 
-// Reads from a file that was opened.
+/// Reads from a file that was opened.
 fn read_from<F: Read>(file: &mut Option<F>, buf: &mut [u8]) -> Option<usize>
     ensures opened { OnSome result (IsSome file.old) }
     ensures same { is_some file.new ≡ is_some file.old }
@@ -118,7 +119,7 @@ fn read_from<F: Read>(file: &mut Option<F>, buf: &mut [u8]) -> Option<usize>
     read_some(file.as_mut()?, buf)
 }
 
-// Writes to a file that was created.
+/// Writes to a file that was created.
 fn write_to<F: Write>(file: &mut Option<F>, piece: &[u8]) -> Option<usize>
     ensures created { OnSome result (IsSome file.old) }
     ensures same { is_some file.new ≡ is_some file.old }
@@ -128,7 +129,7 @@ fn write_to<F: Write>(file: &mut Option<F>, piece: &[u8]) -> Option<usize>
     write_some(file.as_mut()?, piece)
 }
 
-// Makes a file empty, and puts it in place of the one before. Where that fails, the one before stays.
+/// Makes a file empty, and puts it in place of the one before. Where that fails, the one before stays.
 fn create_file<R: Files>(rt: &R, name: &str, file: &mut Option<R::File>) -> bool
     ensures created { OnTrue result (IsSome file.new) }
     ensures kept { OnFalse result (file.new ≡ file.old) }
@@ -143,15 +144,7 @@ fn create_file<R: Files>(rt: &R, name: &str, file: &mut Option<R::File>) -> bool
 }
 
 impl<R: Files + Print + Drop> Cabinet for DiskCabinet<R> {
-    ghost faults_in = { λ d. d.faults_in };
-
-    ghost faults_out = { λ d. d.faults_out };
-
-    ghost nature = { λ _. untold };
-
-    ghost left = { λ _. None };
-
-    ghost outputs = { λ _. no_outputs };
+    ghost state = { disk_state };
 
     fn open(&mut self, name: &str) -> Result<(), Failed>
         ensures cause { HasCause self.old.faults_in self.new.faults_in result }

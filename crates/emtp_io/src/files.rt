@@ -1,11 +1,11 @@
-// Files in memory, by name.
+//! Files in memory, by name.
 ghost use Rattle.std.specs.Prelude.{◌≡◌, min, length, take, is_some, position};
 ghost use Rattle.std.specs.Option.{option_copied};
-ghost use Rattle.emtp_io.specs.Files.{is_named, file_named, left_of};
+ghost use Rattle.emtp_io.specs.Files.{is_named, file_named, unread_of};
 
 /// The place of the file of this name.
 pub fn find(files: &[(String, Vec<u8>)], name: &str) -> Option<usize>
-    ensures bytes { left_of files.now result 0 ≡ file_named files.now name.now }
+    ensures bytes { unread_of files.now result 0 ≡ file_named files.now name.now }
     ensures there { is_some result ≡ is_some (file_named files.now name.now) }
 {
     first_named(files, name)
@@ -20,7 +20,7 @@ fn first_named(files: &[(String, Vec<u8>)], name: &str) -> Option<usize>
 /// The bytes of the file at this place, from a position on.
 #[tactic(auto, using(crate::proofs::FilesLemmas::places))]
 pub fn rest_of(files: &[(String, Vec<u8>)], opened: Option<usize>, position: usize) -> Option<&[u8]>
-    ensures { option_copied result ≡ left_of files.now opened position }
+    ensures { option_copied result ≡ unread_of files.now opened position }
 {
     match opened {
         Some(at) if at < files.len() => {

@@ -6,10 +6,10 @@
 //! memory, and fails where it is told to. It stands on std alone.
 //!
 //! ```text
-//! cab.open("divider.case")?;
-//! let bytes = read_all(alloc, cab, 9_000_001)?;
-//! cab.create(Output::Note, "")?;
-//! write_all(cab, Output::Note, b"USAGE")?;
+//! cabinet.open("divider.case")?;
+//! let bytes = read_all(alloc, cabinet, 9_000_001)?;
+//! cabinet.create(Output::Note, "")?;
+//! write_all(cabinet, Output::Note, b"USAGE")?;
 //! ```
 #![tactic(auto)]
 

@@ -1,11 +1,11 @@
-// A cabinet in memory.
+//! A cabinet in memory.
 ghost use Rattle.std.specs.Prelude.{◌≡◌, ◌≢◌, ◌+◌, ◌<◌, ◌≤◌, ◌||◌, [], Some, None, length, take, is_err, is_none, IsTrue, IsSome, OnSome, OnOk, OnErr, IfOk, IfSome, AllPairs, string_bytes, option_map};
 ghost use Rattle.std.specs.Option.{option_copied};
-ghost use Rattle.emtp_io.specs.Buffer.{entry_of};
-ghost use Rattle.emtp_io.specs.Cabinet.{no_outputs, output, with_output, appended, before_left, one_more, IsAtEnd, HasCause, HasRoom};
+ghost use Rattle.emtp_io.specs.Buffer.{created_of};
+ghost use Rattle.emtp_io.specs.Cabinet.{no_outputs, output, with_output, appended, put_back, one_more, IsAtEnd, HasCause, HasRoom};
 ghost use Rattle.emtp_io.specs.Calls.{counted};
-ghost use Rattle.emtp_io.specs.Files.{file_named, left_of};
-ghost use Rattle.emtp_io.specs.Memory.{Memory, nature_of, open_fails, read_fails, read_count, create_fails, spare_in, is_full_for, write_fails, write_count};
+ghost use Rattle.emtp_io.specs.Files.{file_named, unread_of};
+ghost use Rattle.emtp_io.specs.Memory.{Memory, memory_state, open_fails, read_fails, read_count, create_fails, spare_in, is_full_for, write_fails, write_count};
 
 use crate::buffer::OutputBuffer;
 use crate::calls::{Calls, Failing, Op};
@@ -46,12 +46,12 @@ impl Model for MemoryCabinet {
       fails = m.fails.items;
       piece = m.piece;
       room = m.room;
-      left = left_of m.files.items m.opened m.position;
+      unread = unread_of m.files.items m.opened m.position;
       outputs = record {
-        cfg = entry_of m.cfg;
-        dat = entry_of m.dat;
-        note = entry_of m.note;
-        summary = entry_of m.summary;
+        cfg = created_of m.cfg;
+        dat = created_of m.dat;
+        note = created_of m.note;
+        summary = created_of m.summary;
       };
       calls = m.calls;
       faults_in = m.faults_in;
@@ -80,7 +80,7 @@ impl MemoryCabinet {
           fails = fails.items;
           piece = piece;
           room = room;
-          left = None;
+          unread = None;
           outputs = no_outputs;
           calls = record { opens = 0; reads = 0; creates = 0; writes = 0 };
           faults_in = 0;
@@ -133,7 +133,7 @@ impl MemoryCabinet {
         }
     }
 
-    // Makes an output empty under this name, for which there is room.
+    /// Makes an output empty under this name, for which there is room.
     fn make_empty(&mut self, out: Output, name: &str)
         requires { length name.now ≤ self.old.room }
         ensures { self.new ≡ record self.old {
@@ -148,7 +148,7 @@ impl MemoryCabinet {
         }
     }
 
-    // How many more bytes have room in an output, where it was created.
+    /// How many more bytes have room in an output, where it was created.
     fn spare(&self, out: Output) -> Option<usize>
         ensures { result ≡ spare_in self.now out }
     {
@@ -160,7 +160,7 @@ impl MemoryCabinet {
         }
     }
 
-    // How many of so many bytes a write takes, where it isn't told to fail.
+    /// How many of so many bytes a write takes, where it isn't told to fail.
     fn allowance(&self, out: Output, len: usize) -> Option<usize>
         ensures fits { IfSome result (λ n. HasRoom (output self.now.outputs out) n self.now.room) }
         ensures bound { IfSome result (λ n. n ≤ len) }
@@ -176,7 +176,7 @@ impl MemoryCabinet {
         }
     }
 
-    // Appends a piece, for which there is room, to an output.
+    /// Appends a piece, for which there is room, to an output.
     fn append(&mut self, out: Output, piece: &[u8])
         requires { HasRoom (output self.old.outputs out) (length piece.now) self.old.room }
         ensures { self.new ≡ record self.old { outputs = appended self.old.outputs out piece.now } }
@@ -191,21 +191,13 @@ impl MemoryCabinet {
 }
 
 impl Cabinet for MemoryCabinet {
-    ghost faults_in = { λ m. m.faults_in };
-
-    ghost faults_out = { λ m. m.faults_out };
-
-    ghost nature = { nature_of };
-
-    ghost left = { λ m. m.left };
-
-    ghost outputs = { λ m. m.outputs };
+    ghost state = { memory_state };
 
     fn open(&mut self, name: &str) -> Result<(), Failed>
         ensures exact { is_err result ≡ open_fails self.old name.now }
         ensures cause { HasCause self.old.faults_in self.new.faults_in result }
         ensures ok { OnOk result (self.new ≡ record self.old {
-          left = file_named self.old.files name.now;
+          unread = file_named self.old.files name.now;
           calls = counted self.old.calls Op.Open;
         }) }
         ensures err { OnErr result (self.new ≡ record self.old {
@@ -233,10 +225,10 @@ impl Cabinet for MemoryCabinet {
         ensures cause { HasCause self.old.faults_in self.new.faults_in result }
         ensures count { IfOk result (λ n. Some n ≡ read_count self.old (length buf.new)) }
         ensures bound { IfOk result (λ n. n ≤ length buf.new) }
-        ensures bytes { IfOk result (λ n. self.old.left ≡ before_left (take n buf.new) self.new.left) }
-        ensures end { IfOk result (λ n. n ≡ 0 → 0 < length buf.new → IsAtEnd self.new.left) }
+        ensures bytes { IfOk result (λ n. self.old.unread ≡ put_back (take n buf.new) self.new.unread) }
+        ensures end { IfOk result (λ n. n ≡ 0 → 0 < length buf.new → IsAtEnd self.new.unread) }
         ensures ok { OnOk result (self.new ≡ record self.old {
-          left = self.new.left;
+          unread = self.new.unread;
           calls = counted self.old.calls Op.Read;
         }) }
         ensures err { OnErr result (self.new ≡ record self.old {

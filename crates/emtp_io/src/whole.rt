@@ -1,6 +1,6 @@
-// All of a file, and all of some bytes.
-ghost use Rattle.std.specs.Prelude.{◌≡◌, ℕ, ◌<◌, ◌≤◌, length, take, IsTrue, IsSome, IfSome, IsOk, IsErrOf, OnOk, OnErr, IfOk};
-ghost use Rattle.emtp_io.specs.Cabinet.{output, appended, before_left, Rose, HasCause, HasRoom, GrewByPrefix, TookFront};
+//! All of a file, and all of some bytes.
+ghost use Rattle.std.specs.Prelude.{◌≡◌};
+ghost use Rattle.emtp_io.specs.Whole.{Appends, ReadsAll};
 ghost use Rattle.emtp_io.specs.declared.whole.ReadEnd.{ReadEnd};
 
 use crate::{Cabinet, Failed, Output};
@@ -8,22 +8,12 @@ use std::alloc::{AllocError, Global};
 
 /// Writes all bytes in order. It fails where a write fails; a prefix of the bytes was appended then.
 #[tactic(auto, using(crate::proofs::Pieces::pieces))]
-pub fn write_all<C: Cabinet>(cab: &mut C, out: Output, bytes: &[u8]) -> Result<(), Failed>
-    ensures nature { C.nature cab.new ≡ C.nature cab.old }
-    ensures cause { HasCause (C.faults_out cab.old) (C.faults_out cab.new) result }
-    ensures other { C.faults_in cab.new ≡ C.faults_in cab.old }
-    ensures left { C.left cab.new ≡ C.left cab.old }
-    ensures ok { IsTrue (C.nature cab.old).tells → OnOk result
-        (C.outputs cab.new ≡ appended (C.outputs cab.old) out bytes.now) }
-    ensures err { IsTrue (C.nature cab.old).tells → OnErr result
-        (GrewByPrefix (C.outputs cab.old) (C.outputs cab.new) out bytes.now) }
-    ensures calm { IsTrue (C.nature cab.old).tells → IsTrue (C.nature cab.old).calm
-        → HasRoom (output (C.outputs cab.old) out) (length bytes.now) (C.nature cab.old).room
-        → IsOk result }
+pub fn write_all<C: Cabinet>(cabinet: &mut C, out: Output, bytes: &[u8]) -> Result<(), Failed>
+    ensures { Appends (C.state cabinet.old) (C.state cabinet.new) out bytes.now result }
 {
     let mut done = 0;
     'pieces: while done < bytes.len() {
-        done += cab.write(out, &bytes[done..])?;
+        done += cabinet.write(out, &bytes[done..])?;
     }
     Ok(())
 }
@@ -59,31 +49,18 @@ const CHUNK: usize = 4096;
 /// Reads the opened file to its end, or until `bound` bytes were taken. After a refusal the bytes that
 /// were taken are given up, and the read position is after them.
 #[tactic(auto, using(crate::proofs::Pieces::pieces))]
-pub fn read_all<C: Cabinet>(alloc: Global, cab: &mut C, bound: usize) -> Result<Vec<u8>, ReadEnd>
-    requires { bound ≤ 64000001 }
-    ensures nature { C.nature cab.new ≡ C.nature cab.old }
-    ensures later { C.faults_in cab.old ≤ C.faults_in cab.new }
-    ensures failed { IsErrOf result ReadEnd.Failed → Rose (C.faults_in cab.old) (C.faults_in cab.new) }
-    ensures memory { IsErrOf result ReadEnd.NoMemory → C.faults_in cab.new ≡ C.faults_in cab.old }
-    ensures count { OnOk result (C.faults_in cab.new ≡ C.faults_in cab.old) }
-    ensures other { C.faults_out cab.new ≡ C.faults_out cab.old }
-    ensures outputs { C.outputs cab.new ≡ C.outputs cab.old }
-    ensures bound { IfOk result (λ v. length v.items ≤ bound) }
-    ensures ok { IsTrue (C.nature cab.old).tells → IfOk result
-        (λ v. IfSome (C.left cab.old) (λ bytes. v.items ≡ take bound bytes)) }
-    ensures opened { IsTrue (C.nature cab.old).tells → OnOk result
-        (0 < bound → IsSome (C.left cab.old)) }
-    ensures position { IsTrue (C.nature cab.old).tells → IfOk result
-        (λ v. C.left cab.old ≡ before_left v.items (C.left cab.new)) }
-    ensures taken { IsTrue (C.nature cab.old).tells → TookFront (C.left cab.old) (C.left cab.new) }
-    ensures calm { IsTrue (C.nature cab.old).tells → IsTrue (C.nature cab.old).calm
-        → IsSome (C.left cab.old) → ¬ (IsErrOf result ReadEnd.Failed) }
+pub fn read_all<C: Cabinet>(
+    alloc: Global,
+    cabinet: &mut C,
+    bound: usize,
+) -> Result<Vec<u8>, ReadEnd>
+    ensures { ReadsAll (C.state cabinet.old) (C.state cabinet.new) bound result }
 {
     let mut bytes = Vec::new(alloc);
     let mut buf = [0u8; CHUNK];
     'chunks: while bytes.len() < bound {
         let room = CHUNK.min(bound - bytes.len());
-        let count = cab.read(&mut buf[..room])?;
+        let count = cabinet.read(&mut buf[..room])?;
         if count == 0 {
             break;
         }

@@ -46,3 +46,5 @@ upto case fits (suc n) = by_end case fits n (history_upto case n) (upto case fit
 
 pub IsEnd-history : (case : Parts) → IsCase case → IfSome (history case).end (IsEnd case case.run.steps)
 IsEnd-history case fits = (upto case fits case.run.steps).early
+
+pub ruleset ends = (IsEnd-history)

@@ -12,5 +12,5 @@ pub mod Faults
 pub mod Stepping
 pub mod Histories
 pub mod Filling
-pub mod Completeness
+pub mod Endings
 pub mod Ends

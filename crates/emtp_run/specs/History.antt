@@ -1,5 +1,5 @@
 -- The records of a case from rest on, and its samples.
-use Rattle.std.specs.Prelude.{◌≡◌, ℕ, zero, suc, ◌+◌, ◌-◌, ◌*◌, ◌≤◌, ◌%◌, ◌==◌, ℤ, pos, List, [], ◌∷◌, ◌++◌, length, map, slice_index_or, Contains, Option, Some, None, Result, Ok, Err, if◌then◌else◌}
+use Rattle.std.specs.Prelude.{◌≡◌, ℕ, zero, suc, ◌+◌, ◌-◌, ◌*◌, ◌≤◌, ◌%◌, ◌==◌, ℤ, pos, List, [], ◌∷◌, ◌++◌, length, map, slice_index_or, Contains, Option, Some, None, IfSome, Result, Ok, Err, if◌then◌else◌}
 use Rattle.emtp_elim.specs.Matrix.{item}
 use Rattle.emtp_case.specs.declared.case.Parts.{Parts}
 use Rattle.emtp_case.specs.declared.channel.Channel.{Channel}
@@ -44,6 +44,10 @@ pub record IsEnd (case : Parts) (steps : ℕ) (end : End) : Type 0 where
   pub some : 1 ≤ end.step
   pub within : end.step ≤ steps
   pub node : Contains case.nodes end.name
+
+-- where the run ends early, its end names one of the steps and a node of the case
+abbrev pub EndsWithin : Parts → Type 0
+EndsWithin case = IfSome (history case).end (IsEnd case case.run.steps)
 
 -- ---- samples
 

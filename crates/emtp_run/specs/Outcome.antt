@@ -1,7 +1,8 @@
 -- What a call comes to, by its words and the bytes of the case.
-use Rattle.std.specs.Prelude.{◌≡◌, ◌≢◌, ◌⊎◌, ℕ, ℤ, List, [], ◌∷◌, take, Option, Some, None, IsSomeAnd, option_map, Result, Ok, Err}
-use Rattle.emtp_io.specs.Cabinet.{Outputs, Rose}
-use Rattle.emtp_io.specs.Writes.{Written, after, IsCutShort, AllFit}
+use Rattle.std.specs.Prelude.{◌≡◌, ◌≢◌, ◌⊎◌, ℕ, ◌≤◌, ℤ, List, [], ◌∷◌, take, IsTrue, Option, Some, None, IsSomeAnd, option_map, Result, Ok, Err}
+use Rattle.std.specs.Option.{option_and_then}
+use Rattle.emtp_io.specs.Cabinet.{CabinetState, Rose}
+use Rattle.emtp_io.specs.Writes.{Written, with_all, IsCutShort, AllFit}
 use Rattle.emtp_io.specs.declared.cabinet.Output.TheVariants.{Cfg, Dat, Note}
 use Rattle.emtp_run.specs.declared.status.Status.{Status}
 use Rattle.emtp_run.specs.declared.status.Status.TheVariants.{Done, Usage, BadCard, Ended, ReadFault, WriteFault, NoMemory}
@@ -23,6 +24,10 @@ note text = record { out = Note; name = []; bytes = text }
 abbrev pub usage : Outcome
 usage = record { status = Usage; writes = note usage_note ∷ [] }
 
+-- the line of a card was refused
+abbrev pub bad_card : ℕ → Outcome
+bad_card line = record { status = BadCard; writes = note (card_note line) ∷ [] }
+
 -- the status of a run that ended early or not
 abbrev pub status_of : {X : Type 0} → Option X → Status
 status_of None = Done
@@ -41,7 +46,7 @@ writes_of files case h =
     cfg files.cfg case (samples case h) ∷ dat files.dat case (samples case h) ∷ note (run_note case h) ∷ []
 
 abbrev pub outcome_by : RunFiles → Result Parts ℕ → Outcome
-outcome_by files (Err line) = record { status = BadCard; writes = note (card_note line) ∷ [] }
+outcome_by files (Err line) = bad_card line
 outcome_by files (Ok case) = record { status = status_of (history case).end; writes = writes_of files case (history case) }
 
 -- of a case of these bytes
@@ -60,65 +65,101 @@ abbrev pub outcome_for : Option RunFiles → (List ℕ → Option (List ℕ)) �
 outcome_for None files = Some usage
 outcome_for (Some run) files = option_map (λ bytes. outcome_of run bytes) (case_at run.case files)
 
--- over these files; nothing where the case isn't among them
+-- what a call comes to over these files; nothing where the case isn't among them
 abbrev pub outcome : List (List ℕ) → (List ℕ → Option (List ℕ)) → Option Outcome
 outcome words files = outcome_for (fits words) files
+
+abbrev pub accepted : Result Parts ℕ → Option Parts
+accepted (Ok case) = Some case
+accepted (Err line) = None
+
+abbrev pub case_for : Option RunFiles → (List ℕ → Option (List ℕ)) → Option Parts
+case_for None files = None
+case_for (Some run) files = option_and_then (λ bytes. accepted (deck bytes)) (case_at run.case files)
+
+-- the case that is run: nothing where the words don't fit, its file isn't among these or a card of it is refused
+abbrev pub case_of : List (List ℕ) → (List ℕ → Option (List ℕ)) → Option Parts
+case_of words files = case_for (fits words) files
 
 -- the run came to its end, by itself or early
 abbrev pub IsFinished : Status → Type 0
 IsFinished Done = Unit {0}
+IsFinished Usage = ⊥
+IsFinished BadCard = ⊥
 IsFinished Ended = Unit {0}
-IsFinished _ = ⊥
+IsFinished ReadFault = ⊥
+IsFinished WriteFault = ⊥
+IsFinished NoMemory = ⊥
 
 -- all of it was made
-abbrev pub IsMade : Option Outcome → Status → Outputs → Outputs → Type 0
-IsMade o status old new = IsSomeAnd o (λ o. (o.status ≡ status) × (new ≡ after old o.writes))
+abbrev pub IsMade : Option Outcome → Status → CabinetState → CabinetState → Type 0
+IsMade o status old new = IsSomeAnd o (λ o. (o.status ≡ status) × (new.outputs ≡ with_all old.outputs o.writes))
 
--- a note is whole, or a write failed and it is cut short
-abbrev pub IsWholeOrCut : Outputs → List Written → Outputs → ℕ → ℕ → Type 0
-IsWholeOrCut old writes new before now = (new ≡ after old writes) ⊎ (Rose before now × IsCutShort old writes new)
+-- all is whole, or a call on an output failed and it is cut short
+abbrev pub IsWholeOrCut : List Written → CabinetState → CabinetState → Type 0
+IsWholeOrCut writes old new =
+    (new.outputs ≡ with_all old.outputs writes) ⊎ (Rose old.faults_out new.faults_out × IsCutShort old.outputs writes new.outputs)
 
 -- a refusal, with its note
-abbrev pub IsNoted : Option Outcome → Status → Outputs → Outputs → ℕ → ℕ → Type 0
-IsNoted o status old new before now = IsSomeAnd o (λ o. (o.status ≡ status) × IsWholeOrCut old o.writes new before now)
+abbrev pub IsNoted : Option Outcome → Status → CabinetState → CabinetState → Type 0
+IsNoted o status old new = IsSomeAnd o (λ o. (o.status ≡ status) × IsWholeOrCut o.writes old new)
 
--- What a status says of the outputs of a call with this outcome. The numbers are the failures of outputs, before and now.
-abbrev pub Settles : Status → Option Outcome → Outputs → Outputs → ℕ → ℕ → Type 0
-Settles Done o old new before now = IsMade o Done old new
-Settles Ended o old new before now = IsMade o Ended old new
-Settles Usage o old new before now = IsNoted o Usage old new before now
-Settles BadCard o old new before now = IsNoted o BadCard old new before now
-Settles WriteFault o old new before now = IsSomeAnd o (λ o. IsFinished o.status × IsCutShort old o.writes new)
-Settles ReadFault o old new before now = new ≡ old
-Settles NoMemory o old new before now = new ≡ old
+-- what a status says of the outputs of a call with this outcome
+abbrev pub Settles : Status → Option Outcome → CabinetState → CabinetState → Type 0
+Settles Done o old new = IsMade o Done old new
+Settles Usage o old new = IsNoted o Usage old new
+Settles BadCard o old new = IsNoted o BadCard old new
+Settles Ended o old new = IsMade o Ended old new
+Settles ReadFault o old new = new.outputs ≡ old.outputs
+Settles WriteFault o old new = IsSomeAnd o (λ o. IsFinished o.status × IsCutShort old.outputs o.writes new.outputs)
+Settles NoMemory o old new = new.outputs ≡ old.outputs
 
--- What a status says of the counts of failures, of inputs and of outputs, before and now.
-abbrev pub HasStatusCause : Status → ℕ → ℕ → ℕ → ℕ → Type 0
-HasStatusCause ReadFault in_before in_now out_before out_now = Rose in_before in_now × (out_now ≡ out_before)
-HasStatusCause WriteFault in_before in_now out_before out_now = (in_now ≡ in_before) × Rose out_before out_now
-HasStatusCause Usage in_before in_now out_before out_now = in_now ≡ in_before
-HasStatusCause BadCard in_before in_now out_before out_now = in_now ≡ in_before
-HasStatusCause _ in_before in_now out_before out_now = (in_now ≡ in_before) × (out_now ≡ out_before)
+-- what a status says of the counts of faults
+abbrev pub HasStatusCause : Status → CabinetState → CabinetState → Type 0
+HasStatusCause Done old new = (new.faults_in ≡ old.faults_in) × (new.faults_out ≡ old.faults_out)
+HasStatusCause Usage old new = (new.faults_in ≡ old.faults_in) × (old.faults_out ≤ new.faults_out)
+HasStatusCause BadCard old new = (new.faults_in ≡ old.faults_in) × (old.faults_out ≤ new.faults_out)
+HasStatusCause Ended old new = (new.faults_in ≡ old.faults_in) × (new.faults_out ≡ old.faults_out)
+HasStatusCause ReadFault old new = Rose old.faults_in new.faults_in × (new.faults_out ≡ old.faults_out)
+HasStatusCause WriteFault old new = (new.faults_in ≡ old.faults_in) × Rose old.faults_out new.faults_out
+HasStatusCause NoMemory old new = (new.faults_in ≡ old.faults_in) × (new.faults_out ≡ old.faults_out)
 
--- nothing is made
-abbrev pub MakesNothing : Status → Type 0
-MakesNothing ReadFault = Unit {0}
-MakesNothing NoMemory = Unit {0}
-MakesNothing _ = ⊥
+-- the record of a run is as it was
+abbrev pub KeepsRecord : CabinetState → CabinetState → Type 0
+KeepsRecord old new = (new.outputs.cfg ≡ old.outputs.cfg) × (new.outputs.dat ≡ old.outputs.dat)
 
--- A read failed, or a write did; or all of the outcome was made and its status answered; or memory was wanting and nothing
--- was made.
-abbrev pub IsComplete : Status → Outputs → Outputs → ℕ → ℕ → ℕ → ℕ → Outcome → Type 0
-IsComplete status old new in_before in_now out_before out_now o =
-    Rose in_before in_now ⊎ Rose out_before out_now ⊎ ((status ≡ o.status) × (new ≡ after old o.writes)) ⊎ ((status ≡ NoMemory) × (new ≡ old))
+-- what a status says of the outputs over any cabinet, whether it tells what they hold or not
+abbrev pub Leaves : Status → CabinetState → CabinetState → Type 0
+Leaves Done old new = Unit {0}
+Leaves Usage old new = KeepsRecord old new
+Leaves BadCard old new = KeepsRecord old new
+Leaves Ended old new = Unit {0}
+Leaves ReadFault old new = new.outputs ≡ old.outputs
+Leaves WriteFault old new = Unit {0}
+Leaves NoMemory old new = new.outputs ≡ old.outputs
 
 -- neither count rose, and no failure is answered
-pub record IsCalmRun (status : Status) (in_before in_now out_before out_now : ℕ) : Type 0 where
-  pub inputs : in_now ≡ in_before
-  pub outputs : out_now ≡ out_before
+pub record IsCalmRun (status : Status) (old new : CabinetState) : Type 0 where
+  pub inputs : new.faults_in ≡ old.faults_in
+  pub outputs : new.faults_out ≡ old.faults_out
   pub read : status ≢ ReadFault
   pub write : status ≢ WriteFault
 
 -- the outcome has room
 abbrev pub HasRoomFor : Option Outcome → ℕ → Type 0
 HasRoomFor o room = IsSomeAnd o (λ o. AllFit o.writes room)
+
+-- how a call with this outcome ends, whatever it answers
+pub record Ends (status : Status) (o : Option Outcome) (old new : CabinetState) : Type 0 where
+  pub nature : new.nature ≡ old.nature
+  pub cause : HasStatusCause status old new
+  pub no_record : Leaves status old new
+  pub outcome : IsTrue old.nature.tells → Settles status o old new
+  pub calm : IsTrue old.nature.tells → IsTrue old.nature.calm → HasRoomFor o old.nature.room → IsCalmRun status old new
+
+-- A call on the case failed, or one on an output did; or all of the outcome was made and its status answered; or memory
+-- was wanting and nothing was made.
+abbrev pub IsComplete : Status → CabinetState → CabinetState → Outcome → Type 0
+IsComplete status old new o =
+    Rose old.faults_in new.faults_in ⊎ Rose old.faults_out new.faults_out
+    ⊎ ((status ≡ o.status) × (new.outputs ≡ with_all old.outputs o.writes)) ⊎ ((status ≡ NoMemory) × (new.outputs ≡ old.outputs))

@@ -13,7 +13,6 @@
 
 mod card;
 mod deck;
-mod law;
 mod line;
 mod machine;
 mod network;
@@ -24,6 +23,5 @@ mod run;
 mod status;
 mod words;
 
-pub use law::early_end;
 pub use run::emtp;
 pub use status::Status;

@@ -1,4 +1,4 @@
-// The texts of the notes.
+//! The texts of the notes.
 ghost use Rattle.std.specs.Prelude.{◌≡◌, ◌+◌, ◌≤◌, ◌++◌, length, decimal};
 ghost use Rattle.emtp_run.specs.Note.{usage_note, card_note, cause_word, done_note, ended_note, note_by};
 
@@ -8,7 +8,13 @@ use arrayvec::ArrayVec;
 use itoa::Buffer;
 
 /// One line on how a call ended. It is short, and takes no memory.
-pub type Note = ArrayVec<u8, 160>;
+pub type Note = ArrayVec<u8, NOTE_ROOM>;
+
+/// The most bytes of a note; the longest line has some 120.
+const NOTE_ROOM: usize = 160;
+
+/// The most bytes of a number.
+const NUMBER_ROOM: usize = 40;
 
 /// The note of words that don't fit.
 #[tactic(auto, unfolding(crate::specs::Note::usage_note))]
@@ -32,7 +38,7 @@ pub fn bad_card(line: u32) -> Note
     note
 }
 
-/// The note of a run of so many steps and samples, with the end of the step behind them, if it came.
+/// The note of a run of so many steps and samples, with the end of the step after them, if it came.
 pub fn of_run(end: Option<End>, steps: u32, samples: u32) -> Note
     ensures { result.items ≡ note_by end steps samples }
 {
@@ -83,17 +89,18 @@ fn cause_word(cause: Cause) -> &'static [u8]
 }
 
 fn push(note: &mut Note, piece: &[u8])
-    requires { length note.old.items + length piece.now ≤ 160 }
+    requires { length note.old.items + length piece.now ≤ NOTE_ROOM }
     ensures text { note.new.items ≡ note.old.items ++ piece.now }
     ensures length { length note.new.items ≡ length note.old.items + length piece.now }
 {
+    // There is room, so that this can't fail.
     let _ = note.try_extend_from_slice(piece);
 }
 
 fn push_number(note: &mut Note, number: u32)
-    requires { length note.old.items + 40 ≤ 160 }
+    requires { length note.old.items + NUMBER_ROOM ≤ NOTE_ROOM }
     ensures text { note.new.items ≡ note.old.items ++ decimal number }
-    ensures length { length note.new.items ≤ length note.old.items + 40 }
+    ensures length { length note.new.items ≤ length note.old.items + NUMBER_ROOM }
 {
     let mut buffer = Buffer::new();
     push(note, buffer.format(number).as_bytes());

@@ -1,9 +1,9 @@
-// How a call of the program ends.
+//! How a call of the program ends.
 
 /// How a call of the program ends, with the number that it exits with.
 #[derive(Clone, Copy, Debug, PartialEq, Eq)]
 pub enum Status {
-    /// The run came to its last step, and its record and note are whole.
+    /// The run came to its last step; its record and note are whole.
     Done = 0,
     /// The words don't fit.
     Usage = 1,
@@ -13,7 +13,8 @@ pub enum Status {
     Ended = 3,
     /// The case couldn't be opened or read, and nothing was created.
     ReadFault = 4,
-    /// An output couldn't be created or written. It, if created, holds a prefix of its bytes.
+    /// An output couldn't be created or written. It wasn't created, or holds the first of its bytes; those before it are
+    /// whole, and those after it weren't created.
     WriteFault = 5,
     /// There was not enough memory, and nothing was created.
     NoMemory = 6,

@@ -1,4 +1,4 @@
-// The words of a command line.
+//! The words of a command line.
 ghost use Rattle.std.specs.Prelude.{◌≡◌, option_map};
 ghost use Rattle.emtp_run.specs.Words.{texts, is_name, differ, fits, files_of};
 

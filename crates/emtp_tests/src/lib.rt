@@ -6,10 +6,4 @@
 #![tactic(auto)]
 
 #[cfg(test)]
-mod cabinet;
-#[cfg(test)]
 mod kept_factor;
-#[cfg(test)]
-mod record;
-#[cfg(test)]
-mod top_call;

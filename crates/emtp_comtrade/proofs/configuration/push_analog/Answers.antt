@@ -1,7 +1,7 @@
 use Rattle.std.proofs.Common.{rules, w64, to_z, of_z, ◌≡◌, false, pos, arith, sym, ◌∙◌}
-use Rattle.emtp_comtrade.specs.Record.{is_status_at, scale_at}
+use Rattle.emtp_comtrade.specs.Record.{is_status_at, multiplier_at}
 use Rattle.emtp_comtrade.proofs.Lines.{analog_line_at-none, analog_line_at-some}
-use Rattle.emtp_comtrade.proofs.MultiplierLemmas.{analog_before-analog}
+use Rattle.emtp_comtrade.proofs.ChannelMultipliers.{analog_before-analog}
 use Rattle.emtp_comtrade.proofs.configuration.push_analog.Goals as goal
 
 pub returns-then-is_status_at-clause-text : goal.returns-then-is_status_at-clause-text
@@ -10,10 +10,10 @@ returns-then-is_status_at-clause-text c =
 
 pub returns-clause-text : goal.returns-clause-text
 returns-clause-text c =
-    let multiplier = c.multiplier_at-multiplier.ensures.value c.args.samples.now.rows c.requires.scales in
-    let scale : to_z w64 (of_z w64 c.multiplier_at-multiplier.result) ≡ pos (scale_at c.args.samples.now.rows c.args.place) = search (rules, multiplier) in
+    let multiplier = c.multiplier_at-multiplier.ensures.value c.args.samples.now.rows c.requires.multipliers in
+    let multiplier : to_z w64 (of_z w64 c.multiplier_at-multiplier.result) ≡ pos (multiplier_at c.args.samples.now.rows c.args.place) = search (rules, multiplier) in
     analog_line_at-some c.args.case.now.parts c.args.samples.now.rows c.args.place c.args.text.now c.push_analog_line.new.text c.is_status_at.result (to_z w64 (of_z w64 c.multiplier_at-multiplier.result))
-    c.is_status_at.ensures c.if-is_status_at.false scale c.push_analog_line.ensures.text
+    c.is_status_at.ensures c.if-is_status_at.false multiplier c.push_analog_line.ensures.text
 
 pub returns-clause-analog : goal.returns-clause-analog
 returns-clause-analog c =

@@ -1,7 +1,7 @@
 use Rattle.std.proofs.Common.{◌≡◌, true, arith, length, sym, ◌∙◌}
 use Rattle.emtp_comtrade.specs.Record.{is_status_at}
 use Rattle.emtp_comtrade.proofs.Lines.{status_line_at-none, status_line_at-some}
-use Rattle.emtp_comtrade.proofs.MultiplierLemmas.{status_before-status, status_before-within}
+use Rattle.emtp_comtrade.proofs.ChannelMultipliers.{status_before-status, status_before-within}
 use Rattle.emtp_comtrade.proofs.configuration.push_status.Goals as goal
 
 pub returns-then-not-is_status_at-clause-text : goal.returns-then-not-is_status_at-clause-text

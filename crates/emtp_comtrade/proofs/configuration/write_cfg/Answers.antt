@@ -1,28 +1,37 @@
-use Rattle.std.proofs.Common.{◌≡◌, ℕ, List, ◌++◌, true, length, ap, ◌∙◌}
-use Rattle.std.proofs.lemmas.Result.{on_err_weaker}
-use Rattle.emtp_comtrade.specs.Record.{cfg_head, cfg_tail}
-use Rattle.emtp_comtrade.proofs.CfgText.{cfg-status-grew, cfg-tail-grew, on_err}
+use Rattle.std.proofs.Common.{◌≡◌, ◌∙◌, ◌++◌, ℕ, List, length, ap, subst}
+use Rattle.emtp_io.specs.declared.cabinet.Output.TheVariants.{Cfg}
+use Rattle.emtp_io.specs.Whole.{Appends}
+use Rattle.emtp_comtrade.specs.Record.{joined, analog_line_at, status_line_at, cfg_head, cfg_tail, cfg_text}
+use Rattle.emtp_comtrade.proofs.Streams.{gathers-more, appends-end, appends-stopped}
 use Rattle.emtp_comtrade.proofs.configuration.write_cfg.Goals as goal
 
-pub returns-in_err-write_status_lines-clause-err :
-    goal.returns-in_err-write_status_lines-clause-err
-returns-in_err-write_status_lines-clause-err g c = λ tells.
-    let told : (g.C.Cabinet.nature c.write_analog_lines.new.cab).tells ≡ true = cc in
-    let head : c.push_head.new.text ≡ cfg_head c.args.case.now.parts =
-    c.push_head.ensures.text ∙ ap (λ (xs : List ℕ). xs ++ cfg_head c.args.case.now.parts) c.new-text.ensures in
-    on_err c.from_residual-in_err-write_status_lines.result _
-    (cfg-status-grew c.args.case.now.parts c.args.samples.now.rows _ _ _ c.push_head.new.text c.write_analog_lines.new.text head
-    (c.in_ok-write_analog_lines.ensures.ok tells) (c.in_err-write_status_lines.ensures.err told))
+pub returns-in_err-write_status_lines : goal.returns-in_err-write_status_lines
+unfolding cfg_text
+returns-in_err-write_status_lines g c =
+    let p = c.args.case.now.parts in
+    let rows = c.args.samples.now.rows in
+    let analog = joined (length p.channels) (analog_line_at p rows) in
+    let status = joined (length p.channels) (status_line_at p) in
+    let tail = cfg_tail p (length rows) in
+    let result = c.from_residual-in_err-write_status_lines.result in
+    let head : c.push_head.new.text ≡ cfg_head p = c.push_head.ensures.text ∙ ap (λ (xs : List ℕ). xs ++ cfg_head p) c.new-text.ensures in
+    let both = gathers-more status c.in_ok-write_analog_lines.ensures.text c.in_err-write_status_lines.ensures.text in
+    subst (λ (xs : List ℕ). Appends (g.C.Cabinet.state c.args.cabinet.now) (g.C.Cabinet.state c.write_status_lines.new.cabinet) Cfg (((xs ++ analog) ++ status) ++ tail) result)
+    head
+    (appends-stopped tail result c.from_residual-in_err-write_status_lines.ensures.0 both)
 
-pub returns-clause-err : goal.returns-clause-err
-returns-clause-err g c = λ tells.
-    let told : (g.C.Cabinet.nature c.write_analog_lines.new.cab).tells ≡ true = cc in
-    let told' : (g.C.Cabinet.nature c.write_status_lines.new.cab).tells ≡ true = cc in
-    let head : c.push_head.new.text ≡ cfg_head c.args.case.now.parts =
-    c.push_head.ensures.text ∙ ap (λ (xs : List ℕ). xs ++ cfg_head c.args.case.now.parts) c.new-text.ensures in
-    let tail : c.push_tail.new.text ≡ c.write_status_lines.new.text ++ cfg_tail c.args.case.now.parts (length c.args.samples.now.rows) =
-    c.push_tail.ensures.text ∙ ap (λ (n : ℕ). c.write_status_lines.new.text ++ cfg_tail c.args.case.now.parts n) c.count.ensures in
-    on_err_weaker c.flush.result (λ grew.
-    cfg-tail-grew c.args.case.now.parts c.args.samples.now.rows _ _ _ _ c.push_head.new.text c.write_analog_lines.new.text c.write_status_lines.new.text c.push_tail.new.text head
-    (c.in_ok-write_analog_lines.ensures.ok tells) (c.in_ok-write_status_lines.ensures.ok told) tail grew)
-    (c.flush.ensures.err told')
+pub returns : goal.returns
+unfolding cfg_text
+returns g c =
+    let p = c.args.case.now.parts in
+    let rows = c.args.samples.now.rows in
+    let analog = joined (length p.channels) (analog_line_at p rows) in
+    let status = joined (length p.channels) (status_line_at p) in
+    let tail = cfg_tail p (length rows) in
+    let head : c.push_head.new.text ≡ cfg_head p = c.push_head.ensures.text ∙ ap (λ (xs : List ℕ). xs ++ cfg_head p) c.new-text.ensures in
+    let end : c.push_tail.new.text ≡ c.write_status_lines.new.text ++ tail =
+    c.push_tail.ensures.text ∙ ap (λ (n : ℕ). c.write_status_lines.new.text ++ cfg_tail p n) c.count.ensures in
+    let both = gathers-more status c.in_ok-write_analog_lines.ensures.text c.in_ok-write_status_lines.ensures.text in
+    subst (λ (xs : List ℕ). Appends (g.C.Cabinet.state c.args.cabinet.now) (g.C.Cabinet.state c.flush.new.cabinet) Cfg (((xs ++ analog) ++ status) ++ tail) c.flush.result)
+    head
+    (appends-end tail both end c.flush.ensures.written)

@@ -1,18 +1,15 @@
-use Rattle.std.proofs.Common.{◌≡◌, ◌+◌, ◌≤◌, ◌++◌, length, true}
+use Rattle.std.proofs.Common.{◌≡◌, ◌+◌, ◌≤◌, ◌++◌, length, Ok}
+use Rattle.emtp_io.specs.declared.cabinet.Failed.{Failed}
 use Rattle.emtp_io.specs.declared.cabinet.Output.TheVariants.{Cfg}
 use Rattle.emtp_comtrade.specs.Record.{joined, status_line_at, status_before}
-use Rattle.emtp_comtrade.specs.Stream.{IsGathered}
+use Rattle.emtp_comtrade.specs.Stream.{Gathers}
+use Rattle.emtp_comtrade.specs.declared.text.TheConstants.{LINE_ROOM, TEXT_ROOM}
 use Rattle.emtp_comtrade.proofs.configuration.write_status_lines.Given as goal
 
 abbrev pub invariant-loop-place : goal.invariant-loop-place
 invariant-loop-place g l = record {
-  room : length l.text + 4096 ≤ 8192;
-  place : l.status ≡ status_before l.case.parts l.place;
-  nature : g.C.Cabinet.nature l.cab ≡ g.C.Cabinet.nature l.initial.cab;
-  count : g.C.Cabinet.faults_out l.cab ≡ g.C.Cabinet.faults_out l.initial.cab;
-  other : g.C.Cabinet.faults_in l.cab ≡ g.C.Cabinet.faults_in l.initial.cab;
-  left : g.C.Cabinet.left l.cab ≡ g.C.Cabinet.left l.initial.cab;
-  gathered : (g.C.Cabinet.nature l.initial.cab).tells ≡ true
-      → IsGathered (g.C.Cabinet.outputs l.initial.cab) (g.C.Cabinet.outputs l.cab) Cfg
-      (l.initial.text ++ joined l.place (status_line_at l.case.parts)) l.text;
+  room : length l.text + LINE_ROOM ≤ TEXT_ROOM;
+  status : l.status ≡ status_before l.case.parts l.place;
+  text : Gathers {T = Unit {0}} {E = Failed} (g.C.Cabinet.state l.initial.cabinet) (g.C.Cabinet.state l.cabinet) Cfg
+      (l.initial.text ++ joined l.place (status_line_at l.case.parts)) l.text (Ok tt);
 }

@@ -1,10 +1,10 @@
 use Rattle.std.proofs.Common.{rules, w64, to_z, of_z, ◌≡◌, false, ℤ, pos, ap, arith, sym, ◌∙◌}
 use mir.Syntax.{w128}
 use Rattle.emtp_fix.specs.Rounding.{near}
-use Rattle.emtp_comtrade.specs.Record.{scale_at, is_status_at}
+use Rattle.emtp_comtrade.specs.Record.{multiplier_at, is_status_at}
 use Rattle.emtp_machine.specs.Samples.{value_at}
 use Rattle.emtp_comtrade.proofs.Lines.{raw_at-none, raw_at-some}
-use Rattle.emtp_comtrade.proofs.MultiplierLemmas.{analog_before-analog}
+use Rattle.emtp_comtrade.proofs.ChannelMultipliers.{analog_before-analog}
 use Rattle.emtp_comtrade.proofs.data.push_raw.Goals as goal
 
 pub returns-then-is_status_at-clause-text : goal.returns-then-is_status_at-clause-text
@@ -14,13 +14,13 @@ returns-then-is_status_at-clause-text c =
 pub returns-clause-text : goal.returns-clause-text
 returns-clause-text c =
     let value : to_z w64 (of_z w64 c.value.result) ≡ value_at c.args.samples.now.rows c.args.sample c.args.place = search (rules, c.value.ensures) in
-    let multiplier = c.multiplier_at-multiplier.ensures.value c.args.samples.now.rows c.requires.scales in
-    let scale : to_z w64 (of_z w64 c.multiplier_at-multiplier.result) ≡ pos (scale_at c.args.samples.now.rows c.args.place) = search (rules, multiplier) in
-    let raw : c.raw_value.result ≡ near (value_at c.args.samples.now.rows c.args.sample c.args.place) (pos (scale_at c.args.samples.now.rows c.args.place)) =
+    let multiplier = c.multiplier_at-multiplier.ensures.value c.args.samples.now.rows c.requires.multipliers in
+    let multiplier : to_z w64 (of_z w64 c.multiplier_at-multiplier.result) ≡ pos (multiplier_at c.args.samples.now.rows c.args.place) = search (rules, multiplier) in
+    let raw : c.raw_value.result ≡ near (value_at c.args.samples.now.rows c.args.sample c.args.place) (pos (multiplier_at c.args.samples.now.rows c.args.place)) =
     c.raw_value.ensures.value
     ∙ ap (λ (z : ℤ). near z (to_z w64 (of_z w64 c.multiplier_at-multiplier.result))) value
-    ∙ ap (λ (m : ℤ). near (value_at c.args.samples.now.rows c.args.sample c.args.place) m) scale in
-    let held : to_z w128 (of_z w128 c.raw_value.result) ≡ near (value_at c.args.samples.now.rows c.args.sample c.args.place) (pos (scale_at c.args.samples.now.rows c.args.place)) = search (rules, raw) in
+    ∙ ap (λ (m : ℤ). near (value_at c.args.samples.now.rows c.args.sample c.args.place) m) multiplier in
+    let held : to_z w128 (of_z w128 c.raw_value.result) ≡ near (value_at c.args.samples.now.rows c.args.sample c.args.place) (pos (multiplier_at c.args.samples.now.rows c.args.place)) = search (rules, raw) in
     raw_at-some c.args.case.now.parts c.args.samples.now.rows c.args.sample c.args.place c.args.text.now c.push.new.self c.push_number.new.self c.is_status_at.result (to_z w128 (of_z w128 c.raw_value.result))
     c.is_status_at.ensures c.if-is_status_at.false held c.push.ensures.text c.push_number.ensures.text
 
@@ -32,4 +32,4 @@ returns-clause-analog c =
 pub raw_value-requires : goal.raw_value-requires
 raw_value-requires c = λ zero.
     let same : to_z w64 (of_z w64 c.multiplier_at-multiplier.result) ≡ c.multiplier_at-multiplier.result = search rules in
-    c.multiplier_at-multiplier.ensures.nonzero c.args.samples.now.rows c.requires.scales (sym same ∙ zero)
+    c.multiplier_at-multiplier.ensures.nonzero c.args.samples.now.rows c.requires.multipliers (sym same ∙ zero)

@@ -1,9 +1,9 @@
 use Rattle.std.proofs.Common.{◌≡◌}
-use Rattle.emtp_comtrade.specs.Record.{ScalesBelow, analog_before}
+use Rattle.emtp_comtrade.specs.Record.{MultipliersBelow, analog_before}
 use Rattle.emtp_comtrade.proofs.multipliers.scales.Given as goal
 
 abbrev pub invariant-loop-place : goal.invariant-loop-place
 invariant-loop-place l = record {
   analog : l.analog ≡ analog_before l.case.parts l.place;
-  scales : ScalesBelow l.case.parts l.samples.rows l.place l.scales;
+  multipliers : MultipliersBelow l.case.parts l.samples.rows l.place l.multipliers;
 }

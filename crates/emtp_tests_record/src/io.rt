@@ -1,0 +1,69 @@
+//! That the calls which take memory can succeed, and one row for each way to fail.
+ghost use Rattle.std.specs.Prelude.{◌<◌, ◌≢◌, length, AllPairs, string_bytes, IfOk};
+
+use emtp_io::{Cabinet, Failed, Failing, MemoryCabinet, Op, Output, ReadEnd, read_all, write_all};
+use std::alloc::{AllocError, Global};
+use std::test::Fail;
+
+// The one file `case`, of seven bytes, read and written by three bytes at most.
+fn seven_bytes(alloc: Global, fails: &[Failing], room: usize) -> Result<MemoryCabinet, AllocError> {
+    let mut files = Vec::new(alloc);
+    files.push((
+        String::from_str(alloc, "case")?,
+        Vec::from_slice(alloc, b"abcdefg")?,
+    ))?;
+    MemoryCabinet::new(alloc, files, Vec::from_slice(alloc, fails)?, 3, room)
+}
+
+#[test]
+fn reads_and_writes_whole(rt: HostRuntime) -> Result<(), Fail> {
+    let alloc = rt.alloc();
+    let mut cabinet = seven_bytes(alloc, &[], 8)?;
+    assert_eq!(rt; cabinet.open("none"), Err(Failed));
+    assert_eq!(rt; read_all(alloc, &mut cabinet, 9), Err(ReadEnd::Failed));
+    cabinet.open("case")?;
+    assert_eq!(rt;
+        read_all(alloc, &mut cabinet, 5)?.as_slice(),
+        b"abcde".as_slice()
+    );
+    assert_eq!(rt;
+        read_all(alloc, &mut cabinet, 9)?.as_slice(),
+        b"fg".as_slice()
+    );
+    assert_eq!(rt; write_all(&mut cabinet, Output::Dat, b"x"), Err(Failed));
+    assert_eq!(rt; cabinet.create(Output::Dat, "too_long_"), Err(Failed));
+    cabinet.create(Output::Dat, "a.dat")?;
+    write_all(&mut cabinet, Output::Dat, b"1234567")?;
+    assert_eq!(rt; write_all(&mut cabinet, Output::Dat, b"89"), Err(Failed));
+    assert!(rt; cabinet.written(Output::Dat) == Some(b"12345678".as_slice()));
+    assert!(rt; cabinet.name(Output::Dat) == Some("a.dat"));
+    assert!(rt; cabinet.written(Output::Cfg).is_none());
+    Ok(())
+}
+
+#[test]
+fn fails_where_it_is_told_to(rt: HostRuntime) -> Result<(), Fail> {
+    let alloc = rt.alloc();
+    for (op, nth, read, created, written) in [
+        (Op::Open, 1, "", true, "1234567"),
+        (Op::Read, 3, "", true, "1234567"),
+        (Op::Create, 1, "abcdefg", false, ""),
+        (Op::Write, 2, "abcdefg", true, "123"),
+        (Op::Write, 4, "abcdefg", true, "1234567"),
+    ] {
+        let mut cabinet = seven_bytes(alloc, &[Failing { op, nth }], 8)?;
+        let bytes = match cabinet.open("case") {
+            Ok(()) => read_all(alloc, &mut cabinet, 100).unwrap_or(Vec::new(alloc)),
+            Err(Failed) => Vec::new(alloc),
+        };
+        assert_eq!(rt; bytes.as_slice(), read.as_bytes());
+        let is_created = cabinet.create(Output::Note, "").is_ok();
+        assert_eq!(rt; is_created, created);
+        let _ = write_all(&mut cabinet, Output::Note, b"1234567");
+        assert_eq!(rt;
+            cabinet.written(Output::Note).unwrap_or(b"".as_slice()),
+            written.as_bytes()
+        );
+    }
+    Ok(())
+}
