@@ -25,22 +25,19 @@ pub(crate) fn is_quotient(x: u128, b: u128, guess: u128) -> bool
 /// A guess of `x / b` by a reciprocal word. It is right where the quotient fits 64 bits and `word` is that of `b`.
 pub(crate) fn guess(x: u128, b: u64, word: u64) -> u64 {
     let shift = b.leading_zeros() % 64;
-    let up = b.wrapping_shl(shift);
-    let u = x.wrapping_shl(shift);
-    let high = u / (1 << 64);
-    let low = (u % (1 << 64)) as u64;
-    let t = u128::from(word).wrapping_mul(high).wrapping_add(u);
-    let rest = (t % (1 << 64)) as u64;
-    let first = ((t / (1 << 64)) as u64).wrapping_add(1);
-    let left = low.wrapping_sub(first.wrapping_mul(up));
-    if left > rest {
-        let second = left.wrapping_add(up);
-        if second >= up {
-            first
-        } else {
-            first.wrapping_sub(1)
-        }
-    } else if left >= up {
+    let divisor = b.wrapping_shl(shift);
+    let shifted = x.wrapping_shl(shift);
+    let low = (shifted % (1 << 64)) as u64;
+    let product = u128::from(word)
+        .wrapping_mul(shifted / (1 << 64))
+        .wrapping_add(shifted);
+    let first = ((product / (1 << 64)) as u64).wrapping_add(1);
+    let left = low.wrapping_sub(first.wrapping_mul(divisor));
+    if left > (product % (1 << 64)) as u64 {
+        // one too many, unless a divisor or more is left once one is added back
+        let under = left.wrapping_add(divisor) < divisor;
+        if under { first.wrapping_sub(1) } else { first }
+    } else if left >= divisor {
         first.wrapping_add(1)
     } else {
         first

@@ -11,13 +11,13 @@ use emtp_case::LumpedState;
 
 /// A series branch between two steps. The history current is made once a step.
 #[derive(Clone, Copy)]
-pub struct HeldBranch {
+pub(crate) struct HeldBranch {
     /// The companion.
-    pub companion: Companion,
+    pub(crate) companion: Companion,
     /// The numbers of the last record.
-    pub state: LumpedState,
+    pub(crate) state: LumpedState,
     /// The history current of the next step, in nA.
-    pub history_current: i128,
+    pub(crate) history_current: i128,
 }
 
 const REST: LumpedState = LumpedState {

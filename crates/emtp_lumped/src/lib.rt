@@ -18,6 +18,5 @@ mod lumps;
 mod step;
 
 pub use companion::Companion;
-pub use held::HeldBranch;
 pub use laws::{resistor_forgets, rest_stays};
 pub use lumps::Lumps;
