@@ -56,7 +56,7 @@ fn one_branch(alloc: Global, branch: Lumped) -> Result<Case, AllocError>
 }
 
 /// 1 ohm and 0.05 mH.
-#[tactic(auto, unfolding(emtp_fix::specs::Rounding::near, emtp_fix::specs::Rounding::near_abs))]
+#[tactic(auto, unfolding(emtp_fix::specs::Rounding::near, emtp_fix::specs::Rounding::near_abs, emtp_case::specs::Branch::capacitor_impedance))]
 fn coil() -> Lumped
     ensures { IsLumped RUN (sizes_with 1) result }
 {
@@ -71,7 +71,7 @@ fn coil() -> Lumped
 }
 
 /// 1 ohm and 50 microfarad.
-#[tactic(auto, unfolding(emtp_fix::specs::Rounding::near, emtp_fix::specs::Rounding::near_abs))]
+#[tactic(auto, unfolding(emtp_fix::specs::Rounding::near, emtp_fix::specs::Rounding::near_abs, emtp_case::specs::Branch::capacitor_impedance))]
 fn capacitor() -> Lumped
     ensures { IsLumped RUN (sizes_with 1) result }
 {
@@ -86,7 +86,7 @@ fn capacitor() -> Lumped
 }
 
 /// 10 ohm and 5 nH, whose companion is 100 micro-ohm.
-#[tactic(auto, unfolding(emtp_fix::specs::Rounding::near, emtp_fix::specs::Rounding::near_abs))]
+#[tactic(auto, unfolding(emtp_fix::specs::Rounding::near, emtp_fix::specs::Rounding::near_abs, emtp_case::specs::Branch::capacitor_impedance))]
 fn short_lead() -> Lumped
     ensures { IsLumped RUN (sizes_with 1) result }
 {
