@@ -4,6 +4,7 @@ pub mod Sources
 pub mod DraftSteps
 pub mod Places
 pub mod SwitchTimes
+pub mod Impedances
 pub mod Ordered
 pub mod NodeOrder
 pub mod RowTables

@@ -19,6 +19,8 @@ mod channel_name;
 mod control;
 mod draft;
 mod expr;
+mod history_values;
+mod impedance;
 mod items;
 mod name;
 mod row_kind;
@@ -39,6 +41,9 @@ pub use control::{
 };
 pub use draft::Draft;
 pub use expr::{BinaryOp, MOST_VALUES, Node, UnaryOp};
+pub use impedance::{
+    capacitor_impedance, inductor_impedance, line_impedance, series_impedance, slope,
+};
 pub use items::Items;
 pub use name::Name;
 pub use row_kind::RowKind;
