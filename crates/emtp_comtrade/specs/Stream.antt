@@ -5,7 +5,8 @@ use Rattle.emtp_io.specs.Whole.{Appends}
 use Rattle.emtp_io.specs.declared.cabinet.Output.{Output}
 
 -- a text was appended to an output, but for the bytes at its end that wait; or a front of it, and a write failed
-pub record Gathers {T E : Type 0} (old new : CabinetState) (out : Output) (text waiting : List ℕ) (result : Result T E) : Type 0 where
+pub record Gathers {T E : Type 0} (old new : CabinetState) (out : Output) (text waiting : List ℕ) (result : Result T E)
+    : Type 0 where
   pub front : List ℕ
   pub rest : List ℕ
   pub split : text ≡ front ++ rest

@@ -13,16 +13,16 @@ with_bytes-append (Some e) xs ys =
     ap (λ (bytes : List ℕ). Some (record e { bytes = bytes })) (append_assoc e.bytes xs ys)
 
 -- two pieces are one
-pub appended-append : (outs : Outputs) (out : Output) (xs ys : List ℕ)
-    → appended (appended outs out xs) out ys ≡ appended outs out (xs ++ ys)
-appended-append outs Cfg xs ys =
-    ap (λ (e : Option CreatedOutput). with_output outs Cfg e) (with_bytes-append outs.cfg xs ys)
-appended-append outs Dat xs ys =
-    ap (λ (e : Option CreatedOutput). with_output outs Dat e) (with_bytes-append outs.dat xs ys)
-appended-append outs Note xs ys =
-    ap (λ (e : Option CreatedOutput). with_output outs Note e) (with_bytes-append outs.note xs ys)
-appended-append outs Summary xs ys =
-    ap (λ (e : Option CreatedOutput). with_output outs Summary e) (with_bytes-append outs.summary xs ys)
+pub appended-append : (outputs : Outputs) (out : Output) (xs ys : List ℕ)
+    → appended (appended outputs out xs) out ys ≡ appended outputs out (xs ++ ys)
+appended-append outputs Cfg xs ys =
+    ap (λ (e : Option CreatedOutput). with_output outputs Cfg e) (with_bytes-append outputs.cfg xs ys)
+appended-append outputs Dat xs ys =
+    ap (λ (e : Option CreatedOutput). with_output outputs Dat e) (with_bytes-append outputs.dat xs ys)
+appended-append outputs Note xs ys =
+    ap (λ (e : Option CreatedOutput). with_output outputs Note e) (with_bytes-append outputs.note xs ys)
+appended-append outputs Summary xs ys =
+    ap (λ (e : Option CreatedOutput). with_output outputs Summary e) (with_bytes-append outputs.summary xs ys)
 
 with_bytes-nil : (e : Option CreatedOutput) → with_bytes e [] ≡ e
 with_bytes-nil None = refl
@@ -37,12 +37,12 @@ appended-nil outputs Summary =
     ap (λ (e : Option CreatedOutput). with_output outputs Summary e) (with_bytes-nil outputs.summary)
 
 -- the next piece of some bytes
-pub appended-next : (outs : Outputs) (out : Output) (bytes : List ℕ) (n m : ℕ)
-    → appended (appended outs out (take n bytes)) out (take m (drop n bytes))
-    ≡ appended outs out (take (n + m) bytes)
-appended-next outs out bytes n m =
-    appended-append outs out (take n bytes) (take m (drop n bytes))
-    ∙ ap (λ (xs : List ℕ). appended outs out xs) (sym (take-add n m bytes))
+pub appended-next : (outputs : Outputs) (out : Output) (bytes : List ℕ) (n m : ℕ)
+    → appended (appended outputs out (take n bytes)) out (take m (drop n bytes))
+    ≡ appended outputs out (take (n + m) bytes)
+appended-next outputs out bytes n m =
+    appended-append outputs out (take n bytes) (take m (drop n bytes))
+    ∙ ap (λ (xs : List ℕ). appended outputs out xs) (sym (take-add n m bytes))
 
 pub put_back-put_back : (xs ys : List ℕ) (unread : Option (List ℕ))
     → put_back xs (put_back ys unread) ≡ put_back (xs ++ ys) unread
@@ -84,7 +84,7 @@ grew-second old middle new out xs ys whole grew = record {
   within = omega (arith, length-append xs ys, grew.within);
   grew =
       grew.grew
-      ∙ ap (λ (outs : Outputs). appended outs out (take grew.count ys)) whole
+      ∙ ap (λ (outputs : Outputs). appended outputs out (take grew.count ys)) whole
       ∙ appended-append old out xs (take grew.count ys)
       ∙ ap (λ (bytes : List ℕ). appended old out bytes) (sym (take-append-add xs ys grew.count));
 }
@@ -107,6 +107,3 @@ pub room_less : (e : Option CreatedOutput) (more less room : ℕ)
     → less ≤ more → HasRoom e more room → HasRoom e less room
 room_less None more less room le has = has
 room_less (Some e) more less room le has = omega (arith, has)
-
--- a front of the next piece, as `write` and `write_all` leave it
-pub ruleset growth = (appended-append, grew-first, grew-second, room-appended)

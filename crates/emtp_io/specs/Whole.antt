@@ -13,7 +13,8 @@ pub record GrewByPrefix (old new : Outputs) (out : Output) (bytes : List ℕ) : 
   pub grew : new ≡ appended old out (take count bytes)
 
 -- these bytes were appended to an output, or a front of them and a write failed
-pub record Appends {T E : Type 0} (old new : CabinetState) (out : Output) (bytes : List ℕ) (result : Result T E) : Type 0 where
+pub record Appends {T E : Type 0} (old new : CabinetState) (out : Output) (bytes : List ℕ) (result : Result T E)
+    : Type 0 where
   pub call : IsOutputCall old new out result
   pub ok : IsTrue old.nature.tells → OnOk result (new.outputs ≡ appended old.outputs out bytes)
   pub err : IsTrue old.nature.tells → OnErr result (GrewByPrefix old.outputs new.outputs out bytes)

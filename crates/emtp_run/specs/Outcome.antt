@@ -47,7 +47,8 @@ writes_of files case h =
 
 abbrev pub outcome_by : RunFiles → Result Parts ℕ → Outcome
 outcome_by files (Err line) = bad_card line
-outcome_by files (Ok case) = record { status = status_of (history case).end; writes = writes_of files case (history case) }
+outcome_by files (Ok case) =
+    record { status = status_of (history case).end; writes = writes_of files case (history case) }
 
 -- of a case of these bytes
 abbrev pub outcome_of : RunFiles → List ℕ → Outcome
@@ -98,7 +99,8 @@ IsMade o status old new = IsSomeAnd o (λ o. (o.status ≡ status) × (new.outpu
 -- all is whole, or a call on an output failed and it is cut short
 abbrev pub IsWholeOrCut : List Written → CabinetState → CabinetState → Type 0
 IsWholeOrCut writes old new =
-    (new.outputs ≡ with_all old.outputs writes) ⊎ (Rose old.faults_out new.faults_out × IsCutShort old.outputs writes new.outputs)
+    (new.outputs ≡ with_all old.outputs writes)
+    ⊎ (Rose old.faults_out new.faults_out × IsCutShort old.outputs writes new.outputs)
 
 -- a refusal, with its note
 abbrev pub IsNoted : Option Outcome → Status → CabinetState → CabinetState → Type 0
@@ -162,4 +164,5 @@ pub record Ends (status : Status) (o : Option Outcome) (old new : CabinetState) 
 abbrev pub IsComplete : Status → CabinetState → CabinetState → Outcome → Type 0
 IsComplete status old new o =
     Rose old.faults_in new.faults_in ⊎ Rose old.faults_out new.faults_out
-    ⊎ ((status ≡ o.status) × (new.outputs ≡ with_all old.outputs o.writes)) ⊎ ((status ≡ NoMemory) × (new.outputs ≡ old.outputs))
+    ⊎ ((status ≡ o.status) × (new.outputs ≡ with_all old.outputs o.writes))
+    ⊎ ((status ≡ NoMemory) × (new.outputs ≡ old.outputs))

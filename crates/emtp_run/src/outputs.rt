@@ -25,7 +25,8 @@ fn make_cfg<C: Cabinet>(
 ) -> Result<(), Failed>
     requires channels { samples.now.channels ≡ length case.now.parts.channels }
     requires multipliers { AreMultipliers case.now.parts samples.now.rows multipliers.now }
-    ensures { Makes (C.state cabinet.old) (C.state cabinet.new) (cfg name.now case.now.parts samples.now.rows ∷ []) result }
+    ensures { Makes (C.state cabinet.old) (C.state cabinet.new)
+        (cfg name.now case.now.parts samples.now.rows ∷ []) result }
 {
     cabinet.create(Output::Cfg, name)?;
     write_cfg(cabinet, case, samples, multipliers)
@@ -41,7 +42,8 @@ fn make_dat<C: Cabinet>(
 ) -> Result<(), Failed>
     requires channels { samples.now.channels ≡ length case.now.parts.channels }
     requires multipliers { AreMultipliers case.now.parts samples.now.rows multipliers.now }
-    ensures { Makes (C.state cabinet.old) (C.state cabinet.new) (dat name.now case.now.parts samples.now.rows ∷ []) result }
+    ensures { Makes (C.state cabinet.old) (C.state cabinet.new)
+        (dat name.now case.now.parts samples.now.rows ∷ []) result }
 {
     cabinet.create(Output::Dat, name)?;
     write_dat(cabinet, case, samples, multipliers)

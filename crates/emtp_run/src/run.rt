@@ -74,8 +74,10 @@ fn read_case<C: Cabinet>(alloc: Global, name: &str, cabinet: &mut C) -> Result<V
     ensures nature { (C.state cabinet.new).nature ≡ (C.state cabinet.old).nature }
     ensures outputs { (C.state cabinet.new).outputs ≡ (C.state cabinet.old).outputs }
     ensures faults_out { (C.state cabinet.new).faults_out ≡ (C.state cabinet.old).faults_out }
-    ensures failed { IsErrOf result ReadEnd.Failed → Rose (C.state cabinet.old).faults_in (C.state cabinet.new).faults_in }
-    ensures memory { IsErrOf result ReadEnd.NoMemory → (C.state cabinet.new).faults_in ≡ (C.state cabinet.old).faults_in }
+    ensures failed { IsErrOf result ReadEnd.Failed →
+        Rose (C.state cabinet.old).faults_in (C.state cabinet.new).faults_in }
+    ensures memory { IsErrOf result ReadEnd.NoMemory →
+        (C.state cabinet.new).faults_in ≡ (C.state cabinet.old).faults_in }
     ensures count { OnOk result ((C.state cabinet.new).faults_in ≡ (C.state cabinet.old).faults_in) }
     ensures bytes { IsTrue (C.state cabinet.old).nature.tells →
         IfOk result (λ v. case_at name.now (C.state cabinet.old).nature.files ≡ Some v.items) }
