@@ -1,2 +1,1 @@
-pub mod Impedances
 pub mod Lines

@@ -1,7 +1,7 @@
 -- The numbers of a line's card are in their ranges.
-use Rattle.std.proofs.Common.{◌≡◌, ◌∙◌, subst, sym, ap, ℕ, ◌*◌, ◌^◌, ◌≤◌, ◌≤ℤ◌, ℤ, pos, negsuc, ◌*ℤ◌, ◌+ℤ◌, unsigned_abs, arith}
+use Rattle.std.proofs.Common.{◌≡◌, ◌∙◌, subst, sym, ap, ℕ, ◌*◌, ◌^◌, ◌≤◌, ◌≤ℤ◌, ℤ, pos, negsuc, ◌*ℤ◌, ◌+ℤ◌, unsigned_abs, refl, arith}
 use Rattle.std.proofs.lemmas.Int.{ints}
-use Rattle.emtp_case.specs.Branch.{HasLineNumbers, HasSeriesNumbers, capacitor_impedance, inductor_impedance, line_impedance}
+use Rattle.emtp_case.specs.Branch.{HasLineNumbers, HasSeriesNumbers, capacitor_impedance, inductor_impedance, line_impedance, series_impedance}
 use Rattle.emtp_case.specs.Range.{IsBetween}
 use Rattle.emtp_fix.specs.Root.{isqrt}
 use Rattle.emtp_fix.specs.Rounding.{near}
@@ -9,9 +9,7 @@ use Rattle.emtp_fix.proofs.Nearest.{near-zero, unsigned_abs-near-le}
 use Rattle.emtp_fix.proofs.Quotients.{near-nonneg, near-small, near-times_zero}
 use Rattle.emtp_fix.proofs.Roots.{isqrt-nonneg, isqrt-within}
 use Rattle.emtp_fix.proofs.Wide.{abs-mul-le}
-use Rattle.emtp_netcards.proofs.Impedances.{capacitor-none}
 use Rattle.emtp_netcards.specs.LineValues.{IsLineValues, IsSurge, any_surge}
-use Rattle.emtp_netcards.specs.SeriesValues.{HasSeries, impedance_of}
 
 -- ---- products of numbers from 0 on
 
@@ -73,22 +71,26 @@ any_line_right dt h = let s = any_surge_right in record {
   delay = omega (arith, ints, h.most);
 }
 
-pub any_series_right : (dt : ℤ) → IsBetween 1000 (10 ^ 12) dt → HasSeries dt (pos 10) (pos 0) (pos 0)
-any_series_right dt h =
+no_capacitor : (dt : ℤ) → capacitor_impedance dt (pos 0) ≡ pos 0
+unfolding capacitor_impedance
+no_capacitor dt = refl
+
+pub any_series_right : (dt : ℤ) → HasSeriesNumbers dt (pos 10) (pos 0) (pos 0)
+any_series_right dt =
     let inductor : inductor_impedance dt (pos 0) ≡ pos 0 = near-times_zero (pos (2 * 10 ^ 9)) dt in
-    let capacitor : capacitor_impedance dt (pos 0) ≡ pos 0 = capacitor-none dt h in
+    let capacitor = no_capacitor dt in
     record {
-      r = record { least = omega (arith, ints); most = omega (arith, ints) };
-      l = record { least = omega (arith, ints); most = omega (arith, ints) };
-      c = record { least = omega (arith, ints); most = omega (arith, ints) };
+      resistance = record { least = omega (arith, ints); most = omega (arith, ints) };
+      inductance = record { least = omega (arith, ints); most = omega (arith, ints) };
+      capacitance = record { least = omega (arith, ints); most = omega (arith, ints) };
       impedance = record { least = omega (arith, ints, inductor, capacitor); most = omega (arith, ints, inductor, capacitor) };
     }
 
 -- the numbers of a series branch whose impedance was found in range
-pub series_right : (dt r l c z r' l' c' : ℤ) → r' ≡ r → l' ≡ l → c' ≡ c → IsBetween 0 (10 ^ 15) r → IsBetween 0 (10 ^ 15) l → IsBetween 0 (10 ^ 15) c → z ≡ impedance_of dt r l c → IsBetween 10 (10 ^ 15) z → HasSeries dt r' l' c'
+pub series_right : (dt r l c z r' l' c' : ℤ) → r' ≡ r → l' ≡ l → c' ≡ c → IsBetween 0 (10 ^ 15) r → IsBetween 0 (10 ^ 15) l → IsBetween 0 (10 ^ 15) c → z ≡ series_impedance dt r l c → IsBetween 10 (10 ^ 15) z → HasSeriesNumbers dt r' l' c'
 series_right dt r l c z r' l' c' er el ec hr hl hc is range =
-    let numbers : HasSeries dt r l c = record { r = hr; l = hl; c = hc; impedance = subst (IsBetween 10 (10 ^ 15)) is range } in
-    subst (λ x. HasSeries dt x l' c') (sym er) (subst (λ x. HasSeries dt r x c') (sym el) (subst (λ x. HasSeries dt r l x) (sym ec) numbers))
+    let numbers : HasSeriesNumbers dt r l c = record { resistance = hr; inductance = hl; capacitance = hc; impedance = subst (IsBetween 10 (10 ^ 15)) is range } in
+    subst (λ x. HasSeriesNumbers dt x l' c') (sym er) (subst (λ x. HasSeriesNumbers dt r x c') (sym el) (subst (λ x. HasSeriesNumbers dt r l x) (sym ec) numbers))
 
 -- the numbers of a line that were found in range
 pub surge_right : (zc r end : ℤ) → pos 0 ≤ℤ r → IsBetween 10 (10 ^ 15) zc → r ≤ℤ pos (10 ^ 15) → end ≡ line_impedance zc r → IsBetween 10 (10 ^ 15) end → IsSurge (record { zc = zc; r = r })

@@ -9,10 +9,10 @@ use Rattle.emtp_card.specs.declared.fault.Fault.{Fault}
 use Rattle.emtp_card.specs.declared.reason.Bad.{Bad}
 use Rattle.emtp_card.specs.declared.reason.Why.{Why}
 use Rattle.emtp_card.specs.declared.reason.Why.TheVariants.{BadType}
-use Rattle.emtp_case.specs.Branch.{HasLineNumbers}
+use Rattle.emtp_case.specs.Branch.{HasLineNumbers, HasSeriesNumbers}
 use Rattle.emtp_netcards.specs.Fields.{asked_field, ends_fault, name_or_ground, zero_field}
 use Rattle.emtp_netcards.specs.LineValues.{line_fault, line_values}
-use Rattle.emtp_netcards.specs.SeriesValues.{HasSeries, series_fault, series_values}
+use Rattle.emtp_netcards.specs.SeriesValues.{series_fault, series_values}
 use Rattle.emtp_netcards.specs.declared.branch_card.BranchCard.{BranchCard}
 use Rattle.emtp_netcards.specs.declared.branch_card.BranchKind.{BranchKind}
 use Rattle.emtp_netcards.specs.declared.branch_card.BranchKind.TheVariants.{Line as LineKind, Reactor as ReactorKind, Resistor as ResistorKind, Second as SecondKind, Series as SeriesKind, Third as ThirdKind}
@@ -129,7 +129,7 @@ branch_card number line dt wide =
 
 -- what the numbers of a card keep
 abbrev pub HasValues : ℤ → BranchValues → Type 0
-HasValues dt (LumpedCard r l c) = HasSeries dt r l c
+HasValues dt (LumpedCard r l c) = HasSeriesNumbers dt r l c
 HasValues dt (LineCard zc r delay) = HasLineNumbers dt zc r delay
 HasValues dt (SecondCard zc r delay) = HasLineNumbers dt zc r delay
 HasValues dt ThirdCard = Unit {0}

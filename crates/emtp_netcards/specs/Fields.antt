@@ -10,6 +10,7 @@ use Rattle.emtp_card.specs.Whole.{whole_field}
 use Rattle.emtp_card.specs.declared.fault.Fault.{Fault}
 use Rattle.emtp_card.specs.declared.reason.Why.{Why}
 use Rattle.emtp_card.specs.declared.reason.Why.TheVariants.{BadName, OutOfUnitRange}
+use Rattle.emtp_case.specs.Sizes.{Sizes}
 
 -- a number field that can't be blank
 abbrev pub required : {A : Type 0} → Result (Option A) Why → Result A Why
@@ -70,3 +71,7 @@ asked_field line = asked_in (whole_field line 80 80)
 -- a field that is 0 or blank
 abbrev pub zero_field : List ℕ → ℕ → ℕ → Result ℤ Why
 zero_field line first last = filled_with (pos 0) (number_field line first last (pos 0) (pos 0) (pos 0))
+
+-- the sizes of a case with one variable, which stands for that of a name that isn't resolved
+abbrev pub one_variable : Sizes
+one_variable = record { nodes = 0; branches = 0; trios = 0; switches = 0; vars = 1 }

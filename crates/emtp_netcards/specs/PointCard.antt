@@ -1,5 +1,5 @@
 -- Point cards, cards of times, and the ending card of their group.
-use Rattle.std.specs.Prelude.{◌≡◌, ℕ, ◌^◌, ◌==◌, nat_lt, ℤ, pos, neg_ℤ, int_le, int_lt, ◌≤ℤ◌, ◌<ℤ◌, Bool, true, false, ◌||◌, List, [], ◌∷◌, Option, Some, None, Result, Ok, Err, if◌then◌else◌}
+use Rattle.std.specs.Prelude.{◌≡◌, ℕ, ◌^◌, ◌==◌, nat_lt, ℤ, pos, neg_ℤ, int_le, int_lt, Bool, true, false, ◌||◌, List, [], ◌∷◌, Option, Some, None, Result, Ok, Err, if◌then◌else◌}
 use Rattle.std.specs.Ordering.{int_eq}
 use Rattle.std.specs.Result.{result_unwrap_or}
 use Rattle.emtp_card.specs.Fault.{fault_at, judge_due, least, unless_bad}
@@ -8,7 +8,7 @@ use Rattle.emtp_card.specs.declared.fault.Fault.{Fault}
 use Rattle.emtp_card.specs.declared.reason.Bad.{Bad}
 use Rattle.emtp_card.specs.declared.reason.Why.{Why}
 use Rattle.emtp_card.specs.declared.reason.Why.TheVariants.{BadPoints}
-use Rattle.emtp_case.specs.Branch.{greatest_slope, least_slope, origin, slope_of}
+use Rattle.emtp_case.specs.Branch.{IsRise, greatest_slope, least_slope, origin, slope_of}
 use Rattle.emtp_case.specs.declared.branch.Point.{Point}
 use Rattle.emtp_netcards.specs.declared.point_card.PointScale.{PointScale}
 use Rattle.emtp_netcards.specs.declared.point_card.PointScale.TheVariants.{Reactor, Resistor, Table, Times}
@@ -158,12 +158,6 @@ IsValueOf Times x = IsWithin (pos 0) (pos (10 ^ 18)) x
 pub record IsPointOf (scale : PointScale) (p : Point) : Type 0 where
   pub current : IsValueOf scale p.current
   pub other : IsValueOf scale p.other
-
--- a number above the one before
-pub record IsRise (before value : ℤ) : Type 0 where
-  pub low : pos 0 ≤ℤ before
-  pub above : before <ℤ value
-  pub most : value ≤ℤ pos (10 ^ 18)
 
 abbrev pub IsFirstAfter : PointScale → Option Point → ℤ → Type 0
 IsFirstAfter Resistor before x = IsRise (origin_or before).current x

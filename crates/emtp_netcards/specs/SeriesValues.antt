@@ -7,7 +7,6 @@ use Rattle.emtp_card.specs.declared.fault.Fault.{Fault}
 use Rattle.emtp_card.specs.declared.reason.Why.{Why}
 use Rattle.emtp_card.specs.declared.reason.Why.TheVariants.{BadImpedance}
 use Rattle.emtp_case.specs.Branch.{HasSeriesNumbers, series_impedance}
-use Rattle.emtp_case.specs.declared.branch.Lumped.{Lumped}
 use Rattle.emtp_netcards.specs.declared.series_values.SeriesValues.{SeriesValues}
 
 -- a field from 0 to 10^15 in its unit, of which a blank is 0
@@ -29,13 +28,9 @@ c_field line wide = part_field line (if wide then 59 else 39) (if wide then 74 e
 abbrev pub is_branch_impedance : ℤ → Bool
 is_branch_impedance z = int_le (pos 10) z && int_le z (pos (10 ^ 15))
 
--- the impedance of these values in one step
-abbrev pub impedance_of : ℤ → ℤ → ℤ → ℤ → ℤ
-impedance_of dt r l c = series_impedance dt (record { line = 0; «from» = 0; to = 0; r = r; l = l; c = c })
-
 -- the values, where the impedance of one step is in its range
 abbrev pub series_of : ℤ → ℤ → ℤ → ℤ → Result SeriesValues Why
-series_of dt r l c = if is_branch_impedance (impedance_of dt r l c) then Ok (record { r = r; l = l; c = c }) else Err BadImpedance
+series_of dt r l c = if is_branch_impedance (series_impedance dt r l c) then Ok (record { r = r; l = l; c = c }) else Err BadImpedance
 
 -- values that stand for those of a refused card
 abbrev pub any_series : SeriesValues
@@ -62,9 +57,6 @@ series_fault line dt wide =
 abbrev pub series_values : List ℕ → ℤ → Bool → SeriesValues
 series_values line dt wide = result_unwrap_or (series_field line dt wide) any_series
 
--- the numbers of a series branch, whatever its nodes
-abbrev pub HasSeries : ℤ → ℤ → ℤ → ℤ → Type 0
-HasSeries dt r l c = HasSeriesNumbers dt (record { line = 0; «from» = 0; to = 0; r = r; l = l; c = c })
-
+-- the numbers of a series branch
 abbrev pub IsSeries : ℤ → SeriesValues → Type 0
-IsSeries dt s = HasSeries dt s.r s.l s.c
+IsSeries dt s = HasSeriesNumbers dt s.r s.l s.c

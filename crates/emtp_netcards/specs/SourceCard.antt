@@ -17,7 +17,7 @@ use Rattle.emtp_case.specs.declared.source.Shape.{Shape}
 use Rattle.emtp_case.specs.declared.source.Shape.TheVariants.{Cosine, NodeVoltage, Pulse, Ramp, Saw, Step, SwitchCurrent, SwitchStatus, Tacs}
 use Rattle.emtp_case.specs.declared.source.Source.{Source}
 use Rattle.emtp_fix.specs.Rounding.{near}
-use Rattle.emtp_netcards.specs.Fields.{held_time, needed, required, signed_number, zero_field}
+use Rattle.emtp_netcards.specs.Fields.{held_time, needed, one_variable, required, signed_number, zero_field}
 use Rattle.emtp_netcards.specs.declared.source_card.SourceCard.{SourceCard}
 use Rattle.emtp_netcards.specs.declared.source_card.SourceType.{SourceType}
 use Rattle.emtp_netcards.specs.declared.source_card.SourceType.TheVariants.{Cosine as CosineType, Ramp as RampType, Step as StepType, Tacs as TacsType}
@@ -192,4 +192,4 @@ IsShapeOf (Err why) shape = shape ≡ Step
 -- what a card keeps: the numbers of a source of the network, whose variable stands for that of its name
 pub record HasSourceCardNumbers (card : SourceCard) : Type 0 where
   pub numbers : HasSourceNumbers (source_of card)
-  pub shape : IsNetworkShape 1 card.shape
+  pub shape : IsNetworkShape one_variable card.shape

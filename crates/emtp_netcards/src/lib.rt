@@ -15,7 +15,6 @@
 
 mod branch_card;
 mod fields;
-mod impedance;
 mod line_values;
 mod output_card;
 mod point_card;

@@ -1,14 +1,13 @@
 //! Point cards, cards of times, and the ending card of their group.
 
-ghost use Rattle.std.specs.Prelude.{◌≡◌, ◌^◌, ◌≤◌, ◌≤ℤ◌, ◌-ℤ◌, ◌*ℤ◌, length, pos, unsigned_abs, true, false, IfOk, IfSome};
+ghost use Rattle.std.specs.Prelude.{◌≡◌, ◌^◌, ◌≤◌, ◌≤ℤ◌, length, pos, IfOk, IfSome};
 ghost use Rattle.emtp_card.specs.Number.{IsWithin};
+ghost use Rattle.emtp_case.specs.Branch.{IsRise};
 ghost use Rattle.emtp_case.specs.Range.{IsBetween};
-ghost use Rattle.emtp_fix.specs.Rounding.{near};
-ghost use Rattle.emtp_netcards.specs.PointCard.{IsFirstAfter, IsPointOf, IsRise, IsSecondAfter, IsValueOf, bad_points, fewest_fault, first_by, first_field, goes_on, is_ending, is_outside, is_pair, next_fault, next_point, origin_or, point_card, point_fault, point_of, second_by, second_field, segment_fault, slope_between, value_field};
+ghost use Rattle.emtp_netcards.specs.PointCard.{IsFirstAfter, IsPointOf, IsSecondAfter, IsValueOf, bad_points, fewest_fault, first_by, first_field, goes_on, is_ending, is_outside, is_pair, next_fault, next_point, origin_or, point_card, point_fault, point_of, second_by, second_field, segment_fault, slope_between, value_field};
 
 use emtp_card::{Bad, Fault, Line, MAX_BYTES, Why, fault_at, field_number, judge_due, least};
-use emtp_case::Point;
-use emtp_fix::near;
+use emtp_case::{Point, slope};
 
 const EXA: i64 = 1_000_000_000_000_000_000;
 
@@ -276,8 +275,10 @@ fn segment_fault(
     ensures { result ≡ segment_fault scale before.now first.now second.now dt }
 {
     match (scale, first, second) {
-        (PointScale::Resistor, Ok(x), Ok(y)) => resistance_fault(&start_of(before), *x, *y),
-        (PointScale::Reactor, Ok(x), Ok(y)) => conductance_fault(&start_of(before), *x, *y, dt),
+        (PointScale::Resistor, Ok(x), Ok(y)) => {
+            slope_fault(false, dt, &start_of(before), *x, *y)
+        },
+        (PointScale::Reactor, Ok(x), Ok(y)) => { slope_fault(true, dt, &start_of(before), *x, *y) },
         _ => None,
     }
 }
@@ -295,69 +296,23 @@ fn start_of(before: &Option<Point>) -> Point
     }
 }
 
-fn resistance_fault(start: &Point, current: i64, voltage: i64) -> Option<Fault>
+/// The slope of the segment from a point to the numbers of the next one.
+fn slope_fault(reactor: bool, dt: i64, start: &Point, current: i64, other: i64) -> Option<Fault>
+    requires dt { IsBetween 1000 (10 ^ 12) dt }
     requires current { IsRise start.now.current current }
-    requires voltage { IsRise start.now.other voltage }
-    ensures { result ≡ slope_between false (pos 0) start.now current voltage }
+    requires other { IsRise start.now.other other }
+    ensures { result ≡ slope_between reactor dt start.now current other }
 {
-    let slope = resistance(rise(start.current, current), rise(start.other, voltage));
-    bad_points(is_no_resistance(slope))
+    let slope = slope(reactor, dt, *start, Point { current, other });
+    bad_points(is_outside(reactor, slope))
 }
 
-fn conductance_fault(start: &Point, current: i64, flux: i64, dt: i64) -> Option<Fault>
-    requires current { IsRise start.now.current current }
-    requires flux { IsRise start.now.other flux }
-    requires dt { IsBetween 1000 (10 ^ 12) dt }
-    ensures { result ≡ slope_between true dt start.now current flux }
+fn is_outside(reactor: bool, slope: i128) -> bool
+    ensures { result ≡ is_outside reactor slope }
 {
-    let slope = conductance(dt, rise(start.current, current), rise(start.other, flux));
-    bad_points(is_no_conductance(slope))
-}
-
-fn rise(before: i64, value: i64) -> i64
-    requires { IsRise before value }
-    ensures value { result ≡ value -ℤ before }
-    ensures range { IsBetween 1 (10 ^ 18) result }
-{
-    value - before
-}
-
-/// The resistance of a segment, in micro-ohm.
-fn resistance(current: i64, voltage: i64) -> i128
-    requires current { IsBetween 1 (10 ^ 18) current }
-    requires voltage { IsBetween 1 (10 ^ 18) voltage }
-    ensures { result ≡ near (voltage *ℤ pos (10 ^ 6)) current }
-{
-    near(voltage as i128 * 1_000_000, current as i128)
-}
-
-/// The conductance of a reactor's segment for one step, in pS.
-fn conductance(dt: i64, current: i64, flux: i64) -> i128
-    requires dt { IsBetween 1000 (10 ^ 12) dt }
-    requires current { IsBetween 1 (10 ^ 18) current }
-    requires flux { IsBetween 1 (10 ^ 18) flux }
-    ensures { result ≡ near (dt *ℤ current *ℤ pos 1000) (pos 2 *ℤ flux) }
-{
-    near(thousandfold(dt, current), 2 * flux as i128)
-}
-
-fn thousandfold(dt: i64, current: i64) -> i128
-    requires dt { IsBetween 1000 (10 ^ 12) dt }
-    requires current { IsBetween 1 (10 ^ 18) current }
-    ensures value { result ≡ dt *ℤ current *ℤ pos 1000 }
-    ensures small { unsigned_abs result ≤ 10 ^ 33 }
-{
-    dt as i128 * current as i128 * 1000
-}
-
-fn is_no_resistance(slope: i128) -> bool
-    ensures { result ≡ is_outside false slope }
-{
-    slope < 10 || 1_000_000_000_000_000 < slope
-}
-
-fn is_no_conductance(slope: i128) -> bool
-    ensures { result ≡ is_outside true slope }
-{
-    slope < 1 || 100_000_000_000_000_000 < slope
+    if reactor {
+        slope < 1 || 100_000_000_000_000_000 < slope
+    } else {
+        slope < 10 || 1_000_000_000_000_000 < slope
+    }
 }

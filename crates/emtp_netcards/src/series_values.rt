@@ -2,10 +2,10 @@
 
 ghost use Rattle.std.specs.Prelude.{◌≡◌, ◌^◌, pos, IfOk, IsTrue};
 ghost use Rattle.emtp_case.specs.Range.{IsBetween};
-ghost use Rattle.emtp_netcards.specs.SeriesValues.{HasSeries, IsSeries, c_field, is_branch_impedance, l_field, r_field, series_by, series_field, series_fault, series_of, series_values};
+ghost use Rattle.emtp_netcards.specs.SeriesValues.{IsSeries, c_field, is_branch_impedance, l_field, r_field, series_by, series_field, series_fault, series_of, series_values};
 
-use crate::impedance::impedance;
 use emtp_card::{Fault, Why, fault_at, least, number_or};
+use emtp_case::series_impedance;
 
 const PETA: i64 = 1_000_000_000_000_000;
 
@@ -67,7 +67,7 @@ fn series_of(dt: i64, r: i64, l: i64, c: i64) -> Result<SeriesValues, Why>
     ensures value { result ≡ series_of dt r l c }
     ensures numbers { IfOk result (IsSeries dt) }
 {
-    if is_branch_impedance(impedance(dt, r, l, c)) {
+    if is_branch_impedance(series_impedance(dt, r, l, c)) {
         Ok(SeriesValues { r, l, c })
     } else {
         Err(Why::BadImpedance)

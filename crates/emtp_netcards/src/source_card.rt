@@ -5,7 +5,7 @@ ghost use Rattle.std.specs.Option.{ForSome};
 ghost use Rattle.emtp_card.specs.Whole.{whole_field};
 ghost use Rattle.emtp_case.specs.Range.{IsBetween};
 ghost use Rattle.emtp_case.specs.Source.{IsNetworkShape};
-ghost use Rattle.emtp_netcards.specs.Fields.{IsSmall};
+ghost use Rattle.emtp_netcards.specs.Fields.{IsSmall, one_variable};
 ghost use Rattle.emtp_netcards.specs.SourceCard.{HasSourceCardNumbers, IsCosine, IsRamp, IsShapeOf, amplitude_field, cosine_fault, cosine_shape, fields_fault, frequency_field, is_current, named, phase_field, phase_of, ramp_shape, rise_field, shape_fault, source_card, source_shape, stop_field, type_field, type_of};
 
 use crate::fields::{held_time_or_zero, needed_name, required, signed_number};
@@ -184,7 +184,7 @@ pub fn cosine_fault(line: &[u8]) -> Option<Fault>
 
 fn source_shape(line: &[u8], kind: &Result<SourceType, Why>) -> Shape
     ensures value { result ≡ source_shape line.now kind.now }
-    ensures numbers { IsNetworkShape 1 result }
+    ensures numbers { IsNetworkShape one_variable result }
     ensures range { IsShapeOf kind.now result }
 {
     match kind {

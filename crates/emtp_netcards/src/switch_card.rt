@@ -4,6 +4,7 @@ ghost use Rattle.std.specs.Prelude.{◌≡◌, ◌^◌, ◌<◌, ◌≤◌, leng
 ghost use Rattle.std.specs.Option.{ForSome};
 ghost use Rattle.emtp_case.specs.Range.{IsBetween};
 ghost use Rattle.emtp_case.specs.Switch.{IsSwitchKind};
+ghost use Rattle.emtp_netcards.specs.Fields.{one_variable};
 ghost use Rattle.emtp_netcards.specs.SwitchCard.{HasSwitchNumbers, control_fault, control_name, fields_fault, is_measuring, kind_fault, number_of_control, part_field, switch_card, switch_kind, time_fault, time_kind, times_fault, type_field, type_of, valve_fault, valve_kind, word_field};
 
 use crate::fields::{asked, ends_fault, held_time, held_time_or_zero, needed_name};
@@ -184,7 +185,7 @@ fn part(line: &[u8], first: usize, last: usize) -> Result<i64, Why>
 
 fn switch_kind(line: &[u8], kind: &Result<SwitchType, Why>) -> SwitchKind
     ensures value { result ≡ switch_kind line.now kind.now }
-    ensures numbers { IsSwitchKind 1 result }
+    ensures numbers { IsSwitchKind one_variable result }
 {
     match kind {
         Ok(SwitchType::Valve) => valve_kind(line),
@@ -195,7 +196,7 @@ fn switch_kind(line: &[u8], kind: &Result<SwitchType, Why>) -> SwitchKind
 
 fn time_kind(line: &[u8]) -> SwitchKind
     ensures value { result ≡ time_kind line.now }
-    ensures numbers { IsSwitchKind 1 result }
+    ensures numbers { IsSwitchKind one_variable result }
 {
     if is_measuring(line) {
         return SwitchKind::Measuring;
@@ -209,7 +210,7 @@ fn time_kind(line: &[u8]) -> SwitchKind
 
 fn valve_kind(line: &[u8]) -> SwitchKind
     ensures value { result ≡ valve_kind line.now }
-    ensures numbers { IsSwitchKind 1 result }
+    ensures numbers { IsSwitchKind one_variable result }
 {
     SwitchKind::Valve {
         ignition: part(line, 15, 24).unwrap_or(0),
