@@ -6,3 +6,4 @@ pub mod Cutting
 pub mod Values
 pub mod Grammar
 pub mod Faults
+pub mod Names

@@ -1,8 +1,10 @@
 //! Fields that hold names.
 
-ghost use Rattle.std.specs.Prelude.{◌≡◌, ◌+◌, ◌≤◌, ◌↔◌, Ok, None};
+ghost use Rattle.std.specs.Prelude.{◌≡◌, ◌+◌, ◌≤◌, ◌↔◌, Ok, None, IfOk, IfSome};
 ghost use Rattle.std.specs.List.{list_any};
+ghost use Rattle.emtp_case.specs.Name.{IsName};
 ghost use Rattle.emtp_card.specs.Field.{columns, IsBlank};
+ghost use Rattle.emtp_card.specs.Lines.{fault_of_line};
 ghost use Rattle.emtp_card.specs.Name.{is_comma, name_field};
 
 use crate::field::{columns, field_text};
@@ -13,13 +15,14 @@ use emtp_case::Name;
 /// blanks. Inner blanks belong to the name, and small and capital letters differ. It is none exactly
 /// where these columns are blank.
 ///
-/// `BadName` comes where a comma is among them.
+/// `BadName` comes where a comma is among them. On a line without a fault of its bytes it is a name of a case.
 #[tactic(auto, unfolding(crate::specs::Name::name_field))]
 pub fn field_name(line: &[u8], first: usize) -> Result<Option<Name>, Why>
     requires low { 1 ≤ first }
     requires high { first ≤ 75 }
     ensures value { result ≡ name_field line.now first }
     ensures blank { (result ≡ Ok None) ↔ IsBlank (columns line.now first (first + 5)) }
+    ensures name { fault_of_line line.now ≡ None → IfOk result (λ field. IfSome field IsName) }
 {
     if has_comma(line, first) {
         return Err(Why::BadName);
