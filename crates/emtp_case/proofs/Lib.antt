@@ -4,6 +4,10 @@ pub mod Sources
 pub mod DraftSteps
 pub mod Places
 pub mod SwitchTimes
+pub mod Impedances
+pub mod Points
+pub mod Defined
+pub mod Records
 pub mod Ordered
 pub mod NodeOrder
 pub mod RowTables

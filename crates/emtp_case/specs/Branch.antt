@@ -89,6 +89,12 @@ abbrev pub greatest_slope : Bool → ℕ
 greatest_slope false = 10 ^ 15
 greatest_slope true = 10 ^ 17
 
+-- a number from 0 on and a larger one, to 10^18
+pub record IsRise (low high : ℤ) : Type 0 where
+  pub least : pos 0 ≤ℤ low
+  pub rises : low <ℤ high
+  pub most : high ≤ℤ pos (10 ^ 18)
+
 -- from point a to point b both numbers rise, and the slope is in range
 pub record IsSegment (reactor : Bool) (dt : ℤ) (a b : Point) : Type 0 where
   pub current_rises : a.current <ℤ b.current

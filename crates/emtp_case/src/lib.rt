@@ -19,7 +19,10 @@ mod channel_name;
 mod control;
 mod draft;
 mod expr;
+mod history_values;
+mod impedance;
 mod items;
+mod laws;
 mod name;
 mod row_kind;
 mod row_order;
@@ -39,7 +42,13 @@ pub use control::{
 };
 pub use draft::Draft;
 pub use expr::{BinaryOp, MOST_VALUES, Node, UnaryOp};
+pub use impedance::{
+    capacitor_impedance, inductor_impedance, line_impedance, series_impedance, slope,
+};
 pub use items::Items;
+pub use laws::{
+    defined_in_turn, one_back, one_more_in_table, one_more_pair, one_more_point, two_modes,
+};
 pub use name::Name;
 pub use row_kind::RowKind;
 pub use row_order::{RowOrder, order};

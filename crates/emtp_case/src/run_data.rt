@@ -1,5 +1,7 @@
 //! The numbers of the miscellaneous cards.
 
+ghost use Rattle.std.specs.Prelude.{◌≡◌, ◌≤◌};
+
 /// The numbers of the miscellaneous cards, and the tolerance of the residual.
 #[derive(Clone, Copy, PartialEq, Eq)]
 pub struct RunData {
@@ -11,4 +13,18 @@ pub struct RunData {
     pub every: u32,
     /// The greatest residual of a node's currents, in nA: from 0 to 10^12.
     pub tolerance: i64,
+}
+
+impl RunData {
+    ghost use Rattle.emtp_case.specs.RunData.{samples_of};
+
+    /// The number of samples: record 0, and each `every`th one after it.
+    pub fn samples(&self) -> u32
+        requires some { 1 ≤ self.now.every }
+        requires few { self.now.steps ≤ 1000000 }
+        ensures value { result ≡ samples_of self.now }
+        ensures few { result ≤ 1000001 }
+    {
+        self.steps / self.every + 1
+    }
 }

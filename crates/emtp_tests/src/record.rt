@@ -25,7 +25,7 @@ const RUN: RunData = RunData {
 };
 
 /// 1 ohm from node 1 to node 2.
-#[tactic(auto, unfolding(emtp_fix::specs::Rounding::near, emtp_fix::specs::Rounding::near_abs))]
+#[tactic(auto, unfolding(emtp_fix::specs::Rounding::near, emtp_fix::specs::Rounding::near_abs, emtp_case::specs::Branch::capacitor_impedance))]
 fn ohm() -> Lumped
     ensures { IsLumped RUN (sizes_with 2) result }
 {
