@@ -5,6 +5,9 @@ pub mod DraftSteps
 pub mod Places
 pub mod SwitchTimes
 pub mod Impedances
+pub mod Points
+pub mod Defined
+pub mod Records
 pub mod Ordered
 pub mod NodeOrder
 pub mod RowTables

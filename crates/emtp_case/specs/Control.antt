@@ -18,7 +18,7 @@ use Rattle.emtp_case.specs.declared.expr.Node.{Node}
 use Rattle.emtp_case.specs.declared.run_data.RunData.{RunData}
 use Rattle.emtp_fix.specs.Rounding.{near}
 use Rattle.std.specs.Option.{ForSome}
-use Rattle.std.specs.Prelude.{◌≡◌, ◌≢◌, ◌+◌, ◌*◌, ◌^◌, ◌<◌, ◌≤◌, ◌+ℤ◌, ◌*ℤ◌, ◌≤ℤ◌, ◌<ℤ◌, [], All, Bool, IsSome, IsTrue, List, false, length, pos, slice_index_or, suc, true, unsigned_abs, zero, ℕ, ℤ}
+use Rattle.std.specs.Prelude.{◌≡◌, ◌≢◌, ◌+◌, ◌-◌, ◌*◌, ◌^◌, ◌<◌, ◌≤◌, ◌+ℤ◌, ◌*ℤ◌, ◌≤ℤ◌, ◌<ℤ◌, [], All, Bool, IsSome, IsTrue, List, false, length, pos, slice_index_or, suc, true, unsigned_abs, zero, ℕ, ℤ}
 
 -- Blocks
 
@@ -133,6 +133,21 @@ pub record AreTimes (points : List Point) : Type 0 where
   pub «open» : All (λ (p : Point). p.other ≤ℤ pos (10 ^ 18)) points
   pub closes_first : All (λ (p : Point). p.current <ℤ p.other) points
   pub in_turn : (k : ℕ) → k + 1 < length points → (slice_index_or points k origin).other ≤ℤ (slice_index_or points (k + 1) origin).current
+
+-- the numbers of one more point of a table, whose input is above the last one
+pub record FollowsInTable (points : List Point) (p : Point) : Type 0 where
+  pub room : length points < 64
+  pub input : unsigned_abs p.current ≤ 10 ^ 18
+  pub output : unsigned_abs p.other ≤ 10 ^ 18
+  pub rises : (slice_index_or points (length points - 1) origin).current <ℤ p.current
+
+-- one more pair of times, which closes no earlier than the last one opened
+pub record FollowsInTime (points : List Point) (p : Point) : Type 0 where
+  pub room : length points < 64
+  pub close : pos 0 ≤ℤ p.current
+  pub «open» : p.other ≤ℤ pos (10 ^ 18)
+  pub closes_first : p.current <ℤ p.other
+  pub in_turn : (slice_index_or points (length points - 1) origin).other ≤ℤ p.current
 
 -- the card of a device among so many records; its variable isn't a standing one
 pub record IsDeviceCard (n : Sizes) (x : Device) : Type 0 where

@@ -129,8 +129,8 @@ impl Draft {
         )
     }
 
-    /// Adds a three-phase line: its modes and the cards of its phases. The place in `modes`, and the line and number
-    /// in each phase, don't matter: they are set here.
+    /// Adds a three-phase line: its modes and the cards of its phases. The place in `modes`, and the trio and the number
+    /// in each phase, don't matter: they are set here. The number of each card's line is the caller's.
     pub fn add_trio(&mut self, modes: Trio, a: Phase, b: Phase, c: Phase) -> Result<(), AllocError>
         requires room { length self.old.parts.branches + 3 ≤ 5000 }
         requires a { AreEnds (length self.old.parts.nodes) a.from a.to }

@@ -22,6 +22,7 @@ mod expr;
 mod history_values;
 mod impedance;
 mod items;
+mod laws;
 mod name;
 mod row_kind;
 mod row_order;
@@ -45,6 +46,9 @@ pub use impedance::{
     capacitor_impedance, inductor_impedance, line_impedance, series_impedance, slope,
 };
 pub use items::Items;
+pub use laws::{
+    defined_in_turn, one_back, one_more_in_table, one_more_pair, one_more_point, two_modes,
+};
 pub use name::Name;
 pub use row_kind::RowKind;
 pub use row_order::{RowOrder, order};

@@ -1,15 +1,13 @@
 -- Bounds on what a companion is made of.
-use Rattle.std.proofs.Common.{◌≡◌, ◌∙◌, ap, ◌*◌, ◌^◌, ◌≤◌, ℤ, pos, ◌+ℤ◌, ◌*ℤ◌, ◌≤ℤ◌, unsigned_abs, refl, arith}
-use Rattle.std.proofs.lemmas.Bool.Decides.{Decides-int_eq}
+use Rattle.std.proofs.Common.{◌≡◌, ◌*◌, ◌^◌, ◌≤◌, ℤ, pos, ◌+ℤ◌, ◌*ℤ◌, ◌≤ℤ◌, unsigned_abs, refl, arith}
 use Rattle.std.proofs.lemmas.Int.{ints}
 use Rattle.std.specs.Ordering.{int_eq}
-use Rattle.std.specs.Prelude.{◌≢◌, if◌then◌else◌, Bool, true, false}
+use Rattle.std.specs.Prelude.{if◌then◌else◌, Bool, true, false}
 use Rattle.emtp_case.specs.Branch.{HasSeriesNumbers, inductor_impedance, capacitor_impedance, series_impedance}
 use Rattle.emtp_case.specs.Range.{IsBetween}
 use Rattle.emtp_case.specs.declared.branch.Lumped.{Lumped}
 use Rattle.emtp_fix.specs.Rounding.{near}
 use Rattle.emtp_fix.specs.declared.limit.TheConstants.{ATTO, LARGEST_ENTRY, LARGEST_IMPEDANCE, LEAST_IMPEDANCE}
-use Rattle.emtp_fix.proofs.Nearest.{near-from_zero, near_abs-none}
 use Rattle.emtp_fix.proofs.Quotients.{conductance-small, near-nonneg}
 use Rattle.emtp_lumped.specs.Companion.{companion_of, IsCompanion}
 
@@ -42,17 +40,3 @@ companion-fits dt b step h =
       inductor = record { least = inductor; most = omega (arith, ints, whole, h.impedance.most, h.resistance.least, inductor, capacitor) };
       capacitor = record { least = capacitor; most = omega (arith, ints, whole, h.impedance.most, h.resistance.least, inductor, capacitor) };
     }
-
--- an absent capacitance has no impedance
-pub capacitor-none : (dt : ℤ) → IsBetween 1000 (10 ^ 12) dt → capacitor_impedance dt (pos 0) ≡ pos 0
-unfolding capacitor_impedance
-capacitor-none dt h = refl
-
--- that of a capacitance
-pub capacitor-some : (dt c : ℤ) → c ≢ pos 0 → capacitor_impedance dt c ≡ near (dt *ℤ pos (10 ^ 9)) (pos 2 *ℤ c)
-unfolding capacitor_impedance
-capacitor-some dt c some = either (int_eq c (pos 0)) (Decides-int_eq c (pos 0)).0
-  where
-    either : (none : Bool) → (none ≡ true → c ≡ pos 0) → (if none then pos 0 else near (dt *ℤ pos (10 ^ 9)) (pos 2 *ℤ c)) ≡ near (dt *ℤ pos (10 ^ 9)) (pos 2 *ℤ c)
-    either true is = absurd (some (is refl))
-    either false is = refl

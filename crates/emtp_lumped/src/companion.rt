@@ -1,13 +1,13 @@
 //! The companion of a series branch: what its card makes of it, the same in all steps.
 
 ghost use Rattle.std.specs.Prelude.{◌≡◌, ◌^◌, ◌≤◌, pos, ◌+ℤ◌, ◌*ℤ◌, unsigned_abs};
-ghost use Rattle.emtp_case.specs.Branch.{HasSeriesNumbers, inductor_impedance, capacitor_impedance};
+ghost use Rattle.emtp_case.specs.Branch.{HasSeriesNumbers};
 ghost use Rattle.emtp_case.specs.Range.{IsBetween};
 ghost use Rattle.emtp_fix.specs.Rounding.{near};
 ghost use Rattle.emtp_fix.specs.declared.limit.TheConstants.{ATTO, LARGEST_ENTRY, LARGEST_IMPEDANCE, LEAST_IMPEDANCE};
 ghost use Rattle.emtp_lumped.specs.Companion.{companion_of};
 
-use emtp_case::Lumped;
+use emtp_case::{Lumped, capacitor_impedance, inductor_impedance};
 use emtp_fix::{ATTO, near};
 
 /// A series branch over one step, by the trapezoidal rule: a conductance beside a current source that stands for the
@@ -29,8 +29,8 @@ impl Companion {
         requires branch { HasSeriesNumbers dt b.now.r b.now.l b.now.c }
         ensures { result ≡ companion_of dt b.now }
     {
-        let inductor = narrow(inductor(dt, b.l));
-        let capacitor = narrow(capacitor(dt, b.c));
+        let inductor = narrow(inductor_impedance(dt, b.l));
+        let capacitor = narrow(capacitor_impedance(dt, b.c));
         let conductance = narrow(conductance(impedance(b.r, inductor, capacitor)));
         Companion {
             conductance,
@@ -38,31 +38,6 @@ impl Companion {
             capacitor,
         }
     }
-}
-
-fn inductor(dt: i64, l: i64) -> i128
-    requires dt { IsBetween 1000 (10 ^ 12) dt }
-    requires l { IsBetween 0 (10 ^ 15) l }
-    ensures { result ≡ inductor_impedance dt l }
-{
-    near(2_000_000_000 * l as i128, dt as i128)
-}
-
-fn capacitor(dt: i64, c: i64) -> i128
-    requires dt { IsBetween 1000 (10 ^ 12) dt }
-    requires c { IsBetween 0 (10 ^ 15) c }
-    ensures { result ≡ capacitor_impedance dt c }
-{
-    if c == 0 { 0 } else { half_step(dt, c) }
-}
-
-/// The whole number nearest to `dt * 10^9 / (2 * c)`.
-fn half_step(dt: i64, c: i64) -> i128
-    requires dt { IsBetween 1000 (10 ^ 12) dt }
-    requires c { IsBetween 1 (10 ^ 15) c }
-    ensures { result ≡ near (dt *ℤ pos (10 ^ 9)) (pos 2 *ℤ c) }
-{
-    near(dt as i128 * 1_000_000_000, 2 * c as i128)
 }
 
 fn impedance(r: i64, inductor: i64, capacitor: i64) -> i128

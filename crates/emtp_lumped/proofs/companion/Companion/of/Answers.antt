@@ -9,7 +9,7 @@ pub narrow-inductor-requires : goal.narrow-inductor-requires
 narrow-inductor-requires c =
     let dt : FitsSigned w64 c.args.dt = c.ranges.dt in
     let l : FitsSigned w64 c.args.b.now.l = search rules in
-    let is = simp to_z-of_z at c.inductor.ensures in
+    let is = simp to_z-of_z at c.inductor_impedance.ensures.value in
     let range = (companion-fits c.args.dt c.args.b.now c.requires.dt c.requires.branch).inductor in
     omega (arith, ints, ap unsigned_abs is, range.least, range.most)
 
@@ -17,7 +17,7 @@ pub narrow-capacitor-requires : goal.narrow-capacitor-requires
 narrow-capacitor-requires c =
     let dt : FitsSigned w64 c.args.dt = c.ranges.dt in
     let cap : FitsSigned w64 c.args.b.now.c = search rules in
-    let is = simp to_z-of_z at c.capacitor.ensures in
+    let is = simp to_z-of_z at c.capacitor_impedance.ensures.value in
     let range = (companion-fits c.args.dt c.args.b.now c.requires.dt c.requires.branch).capacitor in
     omega (arith, ints, ap unsigned_abs is, range.least, range.most)
 
@@ -25,7 +25,7 @@ pub impedance-requires-clause-inductor : goal.impedance-requires-clause-inductor
 impedance-requires-clause-inductor c =
     let dt : FitsSigned w64 c.args.dt = c.ranges.dt in
     let l : FitsSigned w64 c.args.b.now.l = search rules in
-    let is = simp to_z-of_z at c.inductor.ensures in
+    let is = simp to_z-of_z at c.inductor_impedance.ensures.value in
     let range = (companion-fits c.args.dt c.args.b.now c.requires.dt c.requires.branch).inductor in
     omega (arith, ints, c.narrow-inductor.ensures, ap unsigned_abs is, range.least, range.most)
 
@@ -33,7 +33,7 @@ pub impedance-requires-clause-capacitor : goal.impedance-requires-clause-capacit
 impedance-requires-clause-capacitor c =
     let dt : FitsSigned w64 c.args.dt = c.ranges.dt in
     let cap : FitsSigned w64 c.args.b.now.c = search rules in
-    let is = simp to_z-of_z at c.capacitor.ensures in
+    let is = simp to_z-of_z at c.capacitor_impedance.ensures.value in
     let range = (companion-fits c.args.dt c.args.b.now c.requires.dt c.requires.branch).capacitor in
     omega (arith, ints, c.narrow-capacitor.ensures, ap unsigned_abs is, range.least, range.most)
 
@@ -42,8 +42,8 @@ conductance-requires c =
     let dt : FitsSigned w64 c.args.dt = c.ranges.dt in
     let l : FitsSigned w64 c.args.b.now.l = search rules in
     let cap : FitsSigned w64 c.args.b.now.c = search rules in
-    let is_l = simp to_z-of_z at c.inductor.ensures in
-    let is_c = simp to_z-of_z at c.capacitor.ensures in
+    let is_l = simp to_z-of_z at c.inductor_impedance.ensures.value in
+    let is_c = simp to_z-of_z at c.capacitor_impedance.ensures.value in
     let fits = companion-fits c.args.dt c.args.b.now c.requires.dt c.requires.branch in
     let whole : series_impedance c.args.dt c.args.b.now.r c.args.b.now.l c.args.b.now.c ≡ c.args.b.now.r +ℤ inductor_impedance c.args.dt c.args.b.now.l +ℤ capacitor_impedance c.args.dt c.args.b.now.c = refl in
     let h = c.requires.branch.impedance in

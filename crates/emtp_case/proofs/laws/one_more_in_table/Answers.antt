@@ -1,0 +1,5 @@
+use Rattle.emtp_case.proofs.Points.{one_more_in_table}
+use Rattle.emtp_case.proofs.laws.one_more_in_table.Goals as goal
+
+pub returns : goal.returns
+returns c = one_more_in_table c.args.points.now c.args.p c.requires.points c.requires.next
