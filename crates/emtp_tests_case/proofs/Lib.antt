@@ -1,0 +1,2 @@
+pub mod Characteristics
+pub mod Histories
