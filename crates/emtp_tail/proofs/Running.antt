@@ -17,8 +17,8 @@ run_more matrix old mid new (c ∷ calls) (r ∷ replies) call reply run step = 
 
 -- the size stays
 pub size_after : {R : Type 0} (matrix : R → Matrix) (old new : Good) (call : Call R) (reply : Reply) → Step matrix old call reply new → new.size ≡ old.size
-size_after matrix old new (Update rows) (Redone first) step = ap (λ (k : Good). k.size) step.2
-size_after matrix old new (Update rows) (Faulty fault) step = ap (λ (k : Good). k.size) step.1
+size_after matrix old new (Update rows) (Redone first) step = step.2.0
+size_after matrix old new (Update rows) (Faulty fault) step = step.1.0
 size_after matrix old new (Update rows) (Solved x) step = absurd step
 size_after matrix old new (Update rows) (TooLarge fault) step = absurd step
 size_after matrix old new (Update rows) NotReady step = absurd step

@@ -4,10 +4,11 @@ use Rattle.std.specs.Cmp.Lexicographic.{pointwise}
 use Rattle.std.specs.Ordering.{int_eq}
 use Rattle.emtp_elim.specs.Matrix.{Matrix, row_of}
 
--- the size, and the good rows, which are the first rows of the matrix that was given last
+-- the size; the good rows, which are the first rows of the matrix that was given last; what elimination makes of them
 pub record Good : Type 0 where
   pub size : ℕ
   pub rows : Matrix
+  pub done : Matrix
 
 -- the first row in which a new matrix differs from the old rows, or the number of old rows where none does
 unfoldable pub first_change : Matrix → Matrix → ℕ

@@ -2,6 +2,7 @@
 use Rattle.std.specs.Prelude.{◌≡◌, ◌<◌, ℕ, ℤ, List, [], ◌∷◌, length, take, vec_len, Ok, Err}
 use Rattle.emtp_elim.specs.Matrix.{Matrix}
 use Rattle.emtp_elim.specs.Fault.{IsRowFault, IsGoodMatrix}
+use Rattle.emtp_elim.specs.Finished.{AreFinished}
 use Rattle.emtp_elim.specs.Outcome.{outcome}
 use Rattle.emtp_elim.specs.declared.fault.PlainFault.{PlainFault}
 use Rattle.emtp_tail.specs.Good.{Good, first_change}
@@ -23,13 +24,17 @@ SolvesTo kept right (Redone first) = ⊥
 SolvesTo kept right (Faulty fault) = ⊥
 SolvesTo kept right NotReady = ⊥
 
+-- these rows are good, of so many
+abbrev pub HasGood : ℕ → Matrix → Good → Type 0
+HasGood size rows kept = (kept.size ≡ size) × (kept.rows ≡ rows) × AreFinished rows kept.done
+
 -- with these rows good, the call may be answered so, and then those rows are good
 abbrev pub Step : {R : Type 0} → (R → Matrix) → Good → Call R → Reply → Good → Type 0
 -- a matrix without a fault is good as a whole
 Step matrix old (Update rows) (Redone first) new =
-    IsGoodMatrix (matrix rows) × (first ≡ first_change old.rows (matrix rows)) × (new ≡ record old { rows = matrix rows })
+    IsGoodMatrix (matrix rows) × (first ≡ first_change old.rows (matrix rows)) × HasGood old.size (matrix rows) new
 -- one with a fault is good up to it
-Step matrix old (Update rows) (Faulty fault) new = IsRowFault (matrix rows) fault.row fault.cause × (new ≡ record old { rows = take fault.row (matrix rows) })
+Step matrix old (Update rows) (Faulty fault) new = IsRowFault (matrix rows) fault.row fault.cause × HasGood old.size (take fault.row (matrix rows)) new
 -- a right side is solved for as full elimination does
 Step matrix old (Solve right) (Solved x) new = SolvesTo old right.items (Solved x) × (new ≡ old)
 Step matrix old (Solve right) (TooLarge fault) new = SolvesTo old right.items (TooLarge fault) × (new ≡ old)

@@ -2,6 +2,7 @@
 ghost use Rattle.std.specs.Prelude.{◌≡◌, ◌+◌, ◌*◌, ◌^◌, ◌<◌, ◌≤◌, ℤ, List, length, take, [], IfOk, OnOk, IfErr, Ok, Err};
 ghost use Rattle.emtp_elim.specs.Matrix.{Matrix, AreWithin};
 ghost use Rattle.emtp_elim.specs.Fault.{IsRowFault, IsGoodMatrix};
+ghost use Rattle.emtp_elim.specs.Finished.{AreFinished};
 ghost use Rattle.emtp_elim.specs.Outcome.{outcome};
 ghost use Rattle.emtp_tail.specs.Given.{rows_in};
 ghost use Rattle.emtp_elim.specs.declared.fault.PlainFault.{PlainFault};
@@ -29,7 +30,7 @@ pub struct Kept {
 impl Model for Kept {
     ghost Value = { Good };
 
-    ghost view = { λ k. record { size = k.size; rows = rows_in k.size (length k.done.rows) k.given.items } };
+    ghost view = { λ k. record { size = k.size; rows = rows_in k.size (length k.done.rows) k.given.items; done = k.done.rows } };
 
     ghost invariant = { λ k. IsKept k.size k.given.items k.work.items k.done };
 }
@@ -96,7 +97,7 @@ fn redo<R: Rows, L: Ledger>(
 impl Kept {
     /// Room for the factor of a matrix of this size, of which no row is good yet.
     pub fn open<R: Rows>(alloc: Global, rows: &R) -> Result<Kept, AllocError>
-        ensures { IfOk result (λ kept. kept ≡ record { size = length (R.matrix rows.now); rows = [] }) }
+        ensures { IfOk result (λ kept. kept ≡ record { size = length (R.matrix rows.now); rows = []; done = [] }) }
     {
         let size = rows.size();
         Ok(Kept {
@@ -150,6 +151,8 @@ impl Kept {
         requires size { self.old.size ≡ length (R.matrix rows.now) }
         requires first { first ≡ first_change self.old.rows (R.matrix rows.now) }
         ensures size { self.new.size ≡ self.old.size }
+        ensures finished { AreFinished self.new.rows self.new.done }
+        ensures earlier { take first self.new.done ≡ take first self.old.done }
 
         // The matrix has no faulty row.
         ensures rows { OnOk result (self.new.rows ≡ R.matrix rows.now) }
@@ -184,6 +187,8 @@ impl Kept {
     ) -> Result<usize, RowFault>
         requires { self.old.size ≡ length (R.matrix rows.now) }
         ensures size { self.new.size ≡ self.old.size }
+        ensures finished { AreFinished self.new.rows self.new.done }
+        ensures earlier { take (first_change self.old.rows (R.matrix rows.now)) self.new.done ≡ take (first_change self.old.rows (R.matrix rows.now)) self.old.done }
 
         // The matrix has no faulty row.
         ensures redone { IfOk result (λ first. first ≡ first_change self.old.rows (R.matrix rows.now)) }
