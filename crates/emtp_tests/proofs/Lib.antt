@@ -2,4 +2,3 @@ pub mod Characteristics
 pub mod Composed
 pub mod Definitions
 pub mod Histories
-pub mod Lawful

@@ -10,13 +10,9 @@ mod cabinet;
 #[cfg(test)]
 mod case;
 #[cfg(test)]
-mod kept_factor;
-#[cfg(test)]
 mod past_values;
 #[cfg(test)]
 mod record;
-#[cfg(test)]
-mod rounding;
 #[cfg(test)]
 mod series_branch;
 #[cfg(test)]

@@ -1,7 +1,7 @@
 use Rattle.std.proofs.Common.{inl, inr, sym, ◌∙◌, arith}
 use Rattle.std.proofs.lemmas.Bool.{cases_lt}
-use Rattle.emtp_tests.proofs.Lawful.{length-table_rows, row_of-table_rows_fixed, row_of-table_rows}
-use Rattle.emtp_tests.proofs.kept_factor.TableRows.row.Goals as goal
+use Rattle.emtp_tests_numbers.proofs.Lawful.{length-table_rows, row_of-table_rows_fixed, row_of-table_rows}
+use Rattle.emtp_tests_numbers.proofs.table.TableRows.row.Goals as goal
 
 pub fill_row-requires : goal.fill_row-requires
 fill_row-requires c =

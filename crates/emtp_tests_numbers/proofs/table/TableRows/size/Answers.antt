@@ -1,6 +1,6 @@
 use Rattle.std.proofs.Common.{sym, arith}
-use Rattle.emtp_tests.proofs.Lawful.{length-table_rows, lawful_table}
-use Rattle.emtp_tests.proofs.kept_factor.TableRows.size.Goals as goal
+use Rattle.emtp_tests_numbers.proofs.Lawful.{length-table_rows, lawful_table}
+use Rattle.emtp_tests_numbers.proofs.table.TableRows.size.Goals as goal
 
 pub returns-clause-size : goal.returns-clause-size
 returns-clause-size c =

@@ -7,7 +7,7 @@ use Rattle.std.proofs.lemmas.Nat.{row_fits}
 use Rattle.std.proofs.lemmas.Bool.{cases_eq, cases_lt, cond-true, cond-false, lt-ltb, le-ltb}
 use Rattle.emtp_elim.specs.Matrix.{item, row_of, AreWithin}
 use Rattle.emtp_elim.specs.Rows.{IsLawful}
-use Rattle.emtp_tests.specs.Tables.{unit_row, table_rows}
+use Rattle.emtp_tests_numbers.specs.Tables.{unit_row, table_rows}
 
 pub length-table_rows : (size fixed : ℕ) (cells : List ℤ) → length (table_rows size fixed cells) ≡ size
 length-table_rows size fixed cells = length-map-range_with_len _ 0 size

@@ -1,7 +1,7 @@
 use Rattle.std.proofs.Common.{length, ap, sym, ◌∙◌}
 use Rattle.std.proofs.lemmas.Result.{on_ok_weaker}
-use Rattle.emtp_tests.proofs.Lawful.{length-table_rows}
-use Rattle.emtp_tests.proofs.kept_factor.redone.Goals as goal
+use Rattle.emtp_tests_numbers.proofs.Lawful.{length-table_rows}
+use Rattle.emtp_tests_numbers.proofs.tail.redone.Goals as goal
 
 pub update-requires : goal.update-requires
 update-requires g c =
