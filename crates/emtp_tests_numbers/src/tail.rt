@@ -1,5 +1,6 @@
 //! The kept factor and plain elimination side by side, and whole runs of calls.
-ghost use Rattle.std.specs.Prelude.{◌≡◌, ◌<◌, length, IfOk, OnOk};
+ghost use Rattle.std.specs.Prelude.{◌≡◌, ◌<◌, length, IfOk, OnOk, IfErr, Ok, Err};
+ghost use Rattle.emtp_elim.specs.Outcome.{outcome};
 ghost use Rattle.emtp_tail.specs.Runs.{FitsSize};
 ghost use Rattle.emtp_tests_numbers.specs.Tables.{table_rows};
 
@@ -92,7 +93,31 @@ const CHANGES: [[i64; 9]; 12] = [
     [P, 0, 0, 100_000 * P, P, 0, 0, 0, P],
 ];
 
-/// The solution by the kept factor.
+/// The voltages of this step, in nV, from the factor of the step before.
+fn voltages<R: Rows, L: Ledger>(
+    kept: &mut Kept,
+    rows: &R,
+    currents: &mut [i128],
+    voltages: &mut [i64],
+    steps: &mut Steps<L>,
+) -> Result<(), PlainFault>
+    requires size { kept.old.size ≡ length (R.matrix rows.now) }
+    requires currents { length currents.old ≡ length (R.matrix rows.now) }
+    requires voltages { length voltages.old ≡ length (R.matrix rows.now) }
+    ensures size { kept.new.size ≡ kept.old.size }
+    ensures solved { OnOk result (outcome (R.matrix rows.now) currents.old ≡ Ok voltages.new) }
+    ensures fault { IfErr result (λ fault. outcome (R.matrix rows.now) currents.old ≡ Err fault) }
+{
+    if let Err(fault) = kept.update(rows, steps) {
+        return Err(PlainFault::Row(fault));
+    }
+    match kept.solve(currents, voltages) {
+        Ok(()) => Ok(()),
+        Err(fault) => Err(PlainFault::Solve(fault)),
+    }
+}
+
+/// The solution of a table by the kept factor.
 fn solved<L: Ledger>(
     kept: &mut Kept,
     rows: &Table,
@@ -105,13 +130,7 @@ fn solved<L: Ledger>(
     requires x { length x.old ≡ rows.now.size }
     ensures { kept.new.size ≡ kept.old.size }
 {
-    if let Err(fault) = redone(kept, rows, steps) {
-        return Err(PlainFault::Row(fault));
-    }
-    match kept.solve(right, x) {
-        Ok(()) => Ok(()),
-        Err(fault) => Err(PlainFault::Solve(fault)),
-    }
+    voltages(kept, rows, right, x, steps)
 }
 
 /// The kept factor and plain elimination, at each of the matrices in turn.

@@ -1,4 +1,4 @@
-use Rattle.std.proofs.Common.{rules, ◌≡◌, length, sym, ◌∙◌, arith}
+use Rattle.std.proofs.Common.{rules, ◌≡◌, length, sym, ◌∙◌}
 use Rattle.emtp_tests_numbers.proofs.Lawful.{length-table_rows}
 use Rattle.emtp_tests_numbers.proofs.elim.fault_of.Goals as goal
 

@@ -1,5 +1,4 @@
 use Rattle.std.proofs.Common.{rules, ◌≡◌, ℕ, zero, suc, ◌<◌, List, [], ◌∷◌, length, slice_index_or, ◌∙◌, arith}
-use Rattle.std.specs.Prelude.{vec_len}
 use Rattle.emtp_tail.specs.Runs.{FitsSize}
 use Rattle.emtp_tail.specs.declared.runs.Call.TheVariants.{Solve}
 use Rattle.emtp_tests_numbers.specs.Tables.{table_rows}
