@@ -1,5 +1,5 @@
 -- The least fault of a table is in it, and none comes before it.
-use Rattle.std.proofs.Common.{subst, IfSome, ◌≡◌, ◌∙◌, sym, ap, ℕ, ◌==◌, Bool, true, false, ◌||◌, ◌&&◌, List, [], ◌∷◌, Option, Some, None, option_map, ◌⊎◌, inl, inr, refl, arith}
+use Rattle.std.proofs.Common.{subst, IfSome, ◌≡◌, sym, ℕ, ◌==◌, Bool, true, false, ◌||◌, ◌&&◌, List, [], ◌∷◌, Option, Some, None, option_map, ◌⊎◌, inl, inr, refl, arith}
 use Rattle.std.specs.Prelude.{fold, nat_lt, if◌then◌else◌}
 use Rattle.std.proofs.lemmas.Bool.Decides.{nat_tests}
 use Rattle.emtp_card.specs.Lines.{fault_of_line, is_section_end}

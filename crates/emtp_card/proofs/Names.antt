@@ -1,5 +1,5 @@
 -- A field that holds a name on a card without fault is a name of a case.
-use Rattle.std.proofs.Common.{◌≡◌, ◌≢◌, ◌∙◌, sym, subst, ap, ℕ, suc, ◌+◌, ◌-◌, ◌≤◌, Bool, true, false, ◌&&◌, ◌||◌, not, cond, List, [], ◌∷◌, ◌++◌, length, take, drop, replicate, All, Option, Some, None, Result, Ok, Err, IfOk, IfSome, refl, arith}
+use Rattle.std.proofs.Common.{◌≡◌, ◌≢◌, ◌∙◌, sym, subst, ap, ℕ, suc, ◌+◌, ◌-◌, ◌≤◌, Bool, true, false, ◌&&◌, ◌||◌, not, cond, List, [], ◌∷◌, length, drop, replicate, All, Option, Some, None, refl, arith}
 use Rattle.std.specs.Prelude.{slice_index_or, nat_lt, if◌then◌else◌}
 use Rattle.std.proofs.lemmas.Bool.Decides.{nat_tests}
 use Rattle.std.proofs.lemmas.List.Elements.{All-append, All-cons, All-drop, All-nil, All-replicate, All-take}
@@ -7,7 +7,7 @@ use Rattle.std.specs.List.{list_all, list_any}
 use Rattle.emtp_case.specs.Name.{IsName, IsNameByte}
 use Rattle.emtp_card.specs.Field.{columns, filled, trimmed, without_leading, without_trailing}
 use Rattle.emtp_card.specs.Lines.{fault_of_byte, fault_of_line, first_fault, first_of, is_blank}
-use Rattle.emtp_card.specs.Name.{is_comma, name_field, named}
+use Rattle.emtp_card.specs.Name.{is_comma}
 use Rattle.emtp_card.specs.declared.reason.Why.{Why}
 use Rattle.emtp_card.specs.declared.reason.Why.TheVariants.{ByteOutside, PastColumn80}
 

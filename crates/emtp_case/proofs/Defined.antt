@@ -4,7 +4,7 @@ use Rattle.emtp_case.specs.Control.{var_of}
 use Rattle.emtp_case.specs.declared.case.Parts.{Parts}
 use Rattle.emtp_case.specs.declared.control.Block.{Block}
 use Rattle.emtp_case.specs.declared.source.Source.{Source}
-use Rattle.std.proofs.Common.{arith, ◌∙◌, ap, inl, inr, refl, sym}
+use Rattle.std.proofs.Common.{arith, ◌∙◌, ap, inl, inr, refl}
 use Rattle.std.proofs.lemmas.Bool.{cases_eq, eq-eqb, ne_eqb}
 use Rattle.std.proofs.lemmas.List.Sums.{sum_by-cons}
 use Rattle.std.specs.List.{range_with_len}

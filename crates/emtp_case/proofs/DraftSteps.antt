@@ -1,5 +1,5 @@
 -- A draft with one more record still fits.
-use Rattle.emtp_case.proofs.Growth.{Extends, Extends-append, Extends-refl, IsBlock-grows, IsBranch-grows, IsChannel-grows, IsDeviceCard-grows, IsExtra-grows, IsSource-grows, IsSwitch-grows, IsTacsSource-grows, grown}
+use Rattle.emtp_case.proofs.Growth.{Extends-append, Extends-refl, IsBranch-grows, IsSwitch-grows, grown}
 use Rattle.emtp_case.proofs.Sources.{one_more_source, standing_stay}
 use Rattle.emtp_case.proofs.Threes.{ArePhases, threes_and_single, threes_and_trio}
 use Rattle.emtp_case.specs.Branch.{IsBranch, IsCharacteristic, IsPseudo, IsSingle, IsTrio, points_of}
@@ -20,7 +20,6 @@ use Rattle.emtp_case.specs.declared.branch.Trio.{Trio}
 use Rattle.emtp_case.specs.declared.case.Parts.{Parts}
 use Rattle.emtp_case.specs.declared.control.Block.{Block}
 use Rattle.emtp_case.specs.declared.control.Device.{Device}
-use Rattle.emtp_case.specs.declared.control.Extra.{Extra}
 use Rattle.emtp_case.specs.declared.control.Extra.TheVariants.{Device as OfDevice, Formula as OfFormula}
 use Rattle.emtp_case.specs.declared.control.Formula.{Formula}
 use Rattle.emtp_case.specs.declared.name.Name.{Name}

@@ -1,6 +1,5 @@
 -- Records of steps, newest first.
-use Rattle.emtp_case.specs.StepRecord.{StepRecord, before_start, block_at, device_at, latest, line_at, lumped_at, no_block, no_device, no_line, no_lumped, no_phase, no_pseudo, phase_state_at, pseudo_at, record_back, switch_state_at}
-use Rattle.emtp_case.specs.declared.switch.SwitchState.TheVariants.{Waiting}
+use Rattle.emtp_case.specs.StepRecord.{StepRecord, before_start, latest, record_back}
 use Rattle.std.proofs.lemmas.List.{get_or_past}
 use Rattle.std.specs.Prelude.{◌≡◌, ◌≤◌, ◌∷◌, List, length, refl, suc, ℕ}
 

@@ -14,7 +14,6 @@ use Rattle.emtp_case.specs.declared.control.Extra.{Extra}
 use Rattle.emtp_case.specs.declared.control.Extra.TheVariants.{Device as OfDevice, Formula as OfFormula}
 use Rattle.emtp_case.specs.declared.control.Formula.{Formula}
 use Rattle.emtp_case.specs.declared.control.Input.{Input}
-use Rattle.emtp_case.specs.declared.expr.Node.{Node}
 use Rattle.emtp_case.specs.declared.run_data.RunData.{RunData}
 use Rattle.emtp_fix.specs.Rounding.{near}
 use Rattle.std.specs.Option.{ForSome}

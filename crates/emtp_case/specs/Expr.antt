@@ -2,7 +2,7 @@
 use Rattle.emtp_case.specs.Range.{IsBetween}
 use Rattle.emtp_case.specs.declared.expr.Node.{Node}
 use Rattle.emtp_case.specs.declared.expr.Node.TheVariants.{Binary, Number, Unary, Var}
-use Rattle.std.specs.Prelude.{◌≡◌, ◌+◌, ◌^◌, ◌<◌, ◌≤◌, [], ◌∷◌, List, Option, Some, None, nat_lt, suc, zero, ℕ, if◌then◌else◌}
+use Rattle.std.specs.Prelude.{◌≡◌, ◌+◌, ◌^◌, ◌<◌, [], ◌∷◌, List, Option, Some, None, nat_lt, suc, zero, ℕ, if◌then◌else◌}
 
 -- a place is below the number of places, and a number is in range; a sign is a node of its own
 abbrev pub FitsPlaces : ℕ → Node → Type 0

@@ -6,7 +6,7 @@ use Rattle.emtp_case.specs.declared.switch.SwitchKind.{SwitchKind}
 use Rattle.emtp_case.specs.declared.switch.SwitchKind.TheVariants.{Control, Measuring, Time, Valve}
 use Rattle.emtp_case.specs.declared.switch.Times.{Times}
 use Rattle.std.specs.Option.{ForSome}
-use Rattle.std.specs.Prelude.{◌^◌, ◌<◌, ◌≤◌, ◌∷◌, if◌then◌else◌, [], Bool, List, Option, false, true, unsigned_abs, ℕ, ℤ}
+use Rattle.std.specs.Prelude.{◌^◌, ◌<◌, ◌≤◌, ◌∷◌, if◌then◌else◌, [], Bool, List, Option, false, true, unsigned_abs, ℤ}
 
 -- a closing time and an opening time, if there is one
 pub record HasTimes (close : ℤ) (open_at : Option ℤ) : Type 0 where

@@ -5,9 +5,10 @@ use Rattle.std.proofs.lemmas.List.{get_or_past, get_or_default}
 use Rattle.std.proofs.lemmas.Bool.{cases_eq, cases_lt}
 use Rattle.emtp_elim.specs.Matrix.{Matrix, item, row_of, entry, AreWithin}
 use Rattle.emtp_elim.specs.Elimination.{quotient, ratio, stage}
-use Rattle.emtp_elim.specs.Fault.{IsRowInRange}
+use Rattle.emtp_elim.specs.Fault.{IsRowInRange, IsCause}
 use Rattle.emtp_elim.specs.Clearing.{IsFinishedRow, IsClearedRow, LeavesRangeAt}
 use Rattle.emtp_elim.specs.Finished.{IsPartRow, IsNext, FinishesRow, FaultsRow}
+use Rattle.emtp_elim.specs.declared.fault.RowCause.{RowCause}
 use Rattle.emtp_elim.specs.declared.fault.RowCause.TheVariants.{Range, ZeroPivot}
 use Rattle.emtp_elim.proofs.Stages.{entry_start, entry_later}
 
@@ -104,42 +105,45 @@ underway_more size k done given work above new was later few same_work same_new 
 
 -- ---- faults
 
-pub faults_start : (done : Matrix) (given : List ℤ) → (All (λ x. unsigned_abs x ≤ 10 ^ 17) given → ⊥) → FaultsRow done given Range
-faults_start done given out = record {
-  is_cause = λ rows next in_range. out (λ j d inside.
-      let same : length (row_of rows (length done)) ≡ length given = ap length next.row_is in
-      let fine = in_range.entries 0 j (omega arith) (omega arith) (omega arith) in
-      rw (get_or_default given j d (pos 0) inside) (rw (entry_start rows (length done) j, next.row_is) at fine));
+faults_for : (done : Matrix) (row : List ℤ) (cause : RowCause) → ((rows : Matrix) → IsNext rows done row → IsCause rows (length done) cause) → FaultsRow done row cause
+faults_for done row cause is_cause = record {
+  row_fault = λ rows next. record {
+    within = next.within;
+    earlier = next.finished.good;
+    is_cause = is_cause rows next;
+  };
 }
+
+pub faults_start : (done : Matrix) (given : List ℤ) → (All (λ x. unsigned_abs x ≤ 10 ^ 17) given → ⊥) → FaultsRow done given Range
+faults_start done given out = faults_for done given Range (λ rows next in_range. out (λ j d inside.
+    let same : length (row_of rows (length done)) ≡ length given = ap length next.row_is in
+    let fine = in_range.entries 0 j (omega arith) (omega arith) (omega arith) in
+    rw (get_or_default given j d (pos 0) inside) (rw (entry_start rows (length done) j, next.row_is) at fine)))
 
 pub faults_clearing : (size k : ℕ) (done : Matrix) (given work above : List ℤ) → IsUnderWay done k given work → k < length done → length done < size
     → length work ≡ size → row_of done k ≡ above → IsFinishedRow size k above → LeavesRangeAt k work above → FaultsRow done given Range
-faults_clearing size k done given work above was later few same_work above_is finished out = record {
-  is_cause = λ rows next in_range.
-      let part = was.part rows next in
-      let upper : IsPartRow rows k k above = rw above_is at (next.finished.finished k later) in
-      let ratio_is : quotient (item work k) (item above k) ≡ ratio (stage rows k) k (length done) =
-      rw (part.entries k (omega arith) (omega arith), upper.entries k (omega arith) (omega (arith, finished.length_is))) refl in
-      elim out [
-        | inl ratio_out ↦ omega (arith, rw ratio_is at ratio_out, in_range.ratios k later)
-        | inr (j, low, inside, entry_out) ↦
-            let same = entry_later rows k (length done) j later low next.within (omega (arith, part.length_is)) in
-            let large = rw (ratio_is, part.entries j (omega arith) inside, upper.entries j (omega arith) (omega (arith, finished.length_is)), ← same) at entry_out in
-            omega (arith, large, in_range.entries (suc k) j (omega arith) (omega arith) (omega (arith, part.length_is)))
-      ];
-}
+faults_clearing size k done given work above was later few same_work above_is finished out = faults_for done given Range (λ rows next in_range.
+    let part = was.part rows next in
+    let upper : IsPartRow rows k k above = rw above_is at (next.finished.finished k later) in
+    let ratio_is : quotient (item work k) (item above k) ≡ ratio (stage rows k) k (length done) =
+    rw (part.entries k (omega arith) (omega arith), upper.entries k (omega arith) (omega (arith, finished.length_is))) refl in
+    elim out [
+      | inl ratio_out ↦ omega (arith, rw ratio_is at ratio_out, in_range.ratios k later)
+      | inr (j, low, inside, entry_out) ↦
+          let same = entry_later rows k (length done) j later low next.within (omega (arith, part.length_is)) in
+          let large = rw (ratio_is, part.entries j (omega arith) inside, upper.entries j (omega arith) (omega (arith, finished.length_is)), ← same) at entry_out in
+          omega (arith, large, in_range.entries (suc k) j (omega arith) (omega arith) (omega (arith, part.length_is)))
+    ])
 
 in_range_all : (rows : Matrix) (i : ℕ) → IsInRangeUpTo rows i i → IsRowInRange rows i
 in_range_all rows i all = record { entries = all.entries; ratios = all.ratios }
 
 pub faults_pivot : (size : ℕ) (done : Matrix) (given work : List ℤ) → IsUnderWay done (length done) given work → length done < size
     → length work ≡ size → item work (length done) ≡ pos 0 → FaultsRow done given ZeroPivot
-faults_pivot size done given work all few same_work zero_pivot = record {
-  is_cause = λ rows next. (
-    in_range_all rows (length done) (all.in_range rows next),
-    sym ((all.part rows next).entries (length done) (omega arith) (omega arith)) ∙ zero_pivot,
-  );
-}
+faults_pivot size done given work all few same_work zero_pivot = faults_for done given ZeroPivot (λ rows next. (
+  in_range_all rows (length done) (all.in_range rows next),
+  sym ((all.part rows next).entries (length done) (omega arith) (omega arith)) ∙ zero_pivot,
+))
 
 pub finishes : (size : ℕ) (done : Matrix) (given work : List ℤ) → IsUnderWay done (length done) given work → length done < size
     → length work ≡ size → item work (length done) ≢ pos 0 → FinishesRow done given work

@@ -2,7 +2,7 @@
 use Rattle.std.specs.Prelude.{◌≡◌, ⊤, ℕ, ◌+◌, ◌<◌, ◌≤◌, ℤ, List, length, take}
 use Rattle.emtp_elim.specs.Matrix.{Matrix, item, row_of, entry}
 use Rattle.emtp_elim.specs.Elimination.{ratio, stage}
-use Rattle.emtp_elim.specs.Fault.{IsGoodRow, IsCause, IsRowFault}
+use Rattle.emtp_elim.specs.Fault.{IsGoodRow, IsRowFault}
 use Rattle.emtp_elim.specs.declared.fault.RowCause.{RowCause}
 use Rattle.emtp_elim.specs.declared.fault.PlainFault.{PlainFault}
 use Rattle.emtp_elim.specs.declared.fault.PlainFault.TheVariants.{Row, Solve, NoMemory}
@@ -40,16 +40,23 @@ pub record FinishesRow (done : Matrix) (old new : List ℤ) : Type 0 where
   pub finished : (rows : Matrix) → IsNext rows done old → IsPartRow rows (length done) (length done) new
   pub good : (rows : Matrix) → IsNext rows done old → IsGoodRow rows (length done)
 
--- in every such matrix the row is at fault for this cause
+-- every such matrix has its first fault in this row, for this cause
 pub record FaultsRow (done : Matrix) (row : List ℤ) (cause : RowCause) : Type 0 where
-  pub is_cause : (rows : Matrix) → IsNext rows done row → IsCause rows (length done) cause
+  pub row_fault : (rows : Matrix) → IsNext rows done row → IsRowFault rows (length done) cause
 
 -- the finished rows have one more, which is what elimination makes of the row
-pub record AddsRow (old new : Finished) (row : List ℤ) : Type 0 where
+pub record IsRowAdded (old new : Finished) (row : List ℤ) : Type 0 where
   pub same_size : new.size ≡ old.size
   pub earlier : take (length old.rows) new.rows ≡ old.rows
   pub one_more : length new.rows ≡ length old.rows + 1
   pub finishes : FinishesRow old.rows row (row_of new.rows (length old.rows))
+
+-- the finished rows have one more, and are those of every matrix that goes on with the row after the old ones
+pub record AddsRow (old new : Finished) (row : List ℤ) : Type 0 where
+  pub same_size : new.size ≡ old.size
+  pub earlier : take (length old.rows) new.rows ≡ old.rows
+  pub one_more : length new.rows ≡ length old.rows + 1
+  pub finished : (rows : Matrix) → IsNext rows old.rows row → AreFinished rows new.rows
 
 -- what may be wrong with a matrix alone
 abbrev pub IsMatrixFault : Matrix → PlainFault → Type 0

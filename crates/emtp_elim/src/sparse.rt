@@ -1,6 +1,7 @@
 // The finished rows of a matrix, and the next row finished by them.
-ghost use Rattle.std.specs.Prelude.{◌≡◌, ◌+◌, ◌<◌, ◌≤◌, length, take, [], ◌∷◌, ◌++◌, IfOk, OnOk, OnErr, IfErr, Ok, Err};
-ghost use Rattle.emtp_elim.specs.Finished.{Finished, AddsRow, FaultsRow};
+ghost use Rattle.std.specs.Prelude.{◌≡◌, ◌+◌, ◌^◌, ◌<◌, ◌≤◌, length, take, [], ◌∷◌, ◌++◌, IfOk, OnOk, OnErr, IfErr, Ok, Err};
+ghost use Rattle.emtp_elim.specs.Matrix.{AreWithin};
+ghost use Rattle.emtp_elim.specs.Finished.{Finished, IsRowAdded, AddsRow, FaultsRow};
 ghost use Rattle.emtp_elim.specs.Stored.{AreStored, rows_kept};
 ghost use Rattle.emtp_elim.specs.Substitution.{SolvesAs};
 ghost use Rattle.emtp_elim.specs.declared.fault.PlainFault.{PlainFault};
@@ -9,7 +10,7 @@ use crate::fault::{RowCause, SolveFault};
 use crate::finishing::finish_row;
 use crate::storing::store_next;
 use crate::substitution::solve_rows;
-use emtp_fix::Steps;
+use emtp_fix::{Steps, word_of};
 use std::alloc::{AllocError, Global};
 use std::marker::Model;
 use std::sync::ledger::Ledger;
@@ -18,7 +19,8 @@ use std::sync::ledger::Ledger;
 ///
 /// `values` has the numbers that aren't 0, in units of 1e-12, row after row without gaps, and `columns` beside each its
 /// column. The entries of row `i` stand from place `starts[i]` on and before `starts[i + 1]`, its pivot at the place
-/// `pivots[i]` among them. So the work on later rows and right sides meets no zeros.
+/// `pivots[i]` among them. So the work on later rows and right sides meets no zeros. `words[i]` is the word by which
+/// [`near_by`](emtp_fix::near_by) divides by that pivot, in every solution.
 #[derive(Drop)]
 pub struct SparseRows {
     size: usize,
@@ -27,6 +29,7 @@ pub struct SparseRows {
     pivots: Vec<usize>,
     columns: Vec<u16>,
     values: Vec<i64>,
+    words: Vec<u64>,
 }
 
 impl Model for SparseRows {
@@ -50,6 +53,7 @@ impl SparseRows {
             pivots: vec![in alloc; 0usize; size]?,
             columns: vec![in alloc; 0u16; size * size]?,
             values: vec![in alloc; 0i64; size * size]?,
+            words: vec![in alloc; 0u64; size]?,
         })
     }
 
@@ -77,6 +81,7 @@ impl SparseRows {
         requires rhs { length rhs.old ≡ self.now.size }
         requires x { length x.old ≡ self.now.size }
         ensures solved { OnOk result (SolvesAs self.now.rows rhs.old (Ok x.new)) }
+        ensures within { OnOk result (AreWithin (10 ^ 18) x.new) }
         ensures fault { IfErr result (λ fault. SolvesAs self.now.rows rhs.old (Err (PlainFault.Solve fault))) }
     {
         solve_rows(
@@ -84,6 +89,7 @@ impl SparseRows {
             &self.pivots,
             &self.columns,
             &self.values,
+            &self.words,
             rhs,
             x,
         )
@@ -93,7 +99,7 @@ impl SparseRows {
     pub(crate) fn add(&mut self, work: &mut [i128]) -> Result<(), RowCause>
         requires size { length work.old ≡ self.old.size }
         requires room { length self.old.rows < self.old.size }
-        ensures added { OnOk result (AddsRow self.old self.new work.old) }
+        ensures added { OnOk result (IsRowAdded self.old self.new work.old) }
         ensures kept { OnErr result (self.new ≡ self.old) }
         ensures fault { IfErr result (FaultsRow self.old.rows work.old) }
     {
@@ -113,8 +119,16 @@ impl SparseRows {
             self.count,
             work,
         );
+        keep_word(&mut self.words, self.count, work);
         self.count += 1;
         Ok(())
+    }
+}
+
+/// Keeps the word of the pivot of a finished row.
+fn keep_word(words: &mut [u64], count: usize, work: &[i128]) {
+    if count < words.len() && count < work.len() {
+        words[count] = word_of(work[count]);
     }
 }
 

@@ -10,7 +10,7 @@ ghost use Rattle.emtp_elim.specs.declared.fault.PlainFault.{PlainFault};
 
 use crate::arithmetic::{LARGEST_VALUE, ONE, less};
 use crate::fault::SolveFault;
-use emtp_fix::near;
+use emtp_fix::near_by;
 
 /// The right side of row `i` less the products of the row's ratios and the right sides before it. None where it leaves
 /// its range.
@@ -98,12 +98,18 @@ fn remainder(
     left
 }
 
+/// The word of pivot `k`; without one the quotient is made by a division.
+fn word_at(words: &[u64], k: usize) -> u64 {
+    if k < words.len() { words[k] } else { 0 }
+}
+
 /// Finds the unknowns of the triangular system of the finished rows, from the last one back.
 fn substitute_back(
     starts: &[usize],
     pivots: &[usize],
     columns: &[u16],
     values: &[i64],
+    words: &[u64],
     right: &[i128],
     x: &mut [i64],
 ) -> Result<(), SolveFault>
@@ -119,7 +125,7 @@ fn substitute_back(
         let end = starts[k + 1];
         let row = &values[start..end];
         let left = remainder(right, k, &columns[start..end], row, pivots[k], x);
-        let unknown = near(left, i128::from(row[pivots[k]]));
+        let unknown = near_by(left, i128::from(row[pivots[k]]), word_at(words, k));
         if unknown.unsigned_abs() > LARGEST_VALUE {
             return Err(SolveFault { row: k });
         }
@@ -134,14 +140,16 @@ pub fn solve_rows(
     pivots: &[usize],
     columns: &[u16],
     values: &[i64],
+    words: &[u64],
     right: &mut [i128],
     x: &mut [i64],
 ) -> Result<(), SolveFault>
     requires stored { AreStored (length right.old) (length right.old) starts.now pivots.now columns.now values.now }
     requires x { length x.old ≡ length right.old }
     ensures solved { OnOk result (SolvesAs (rows_kept (length right.old) (length right.old) starts.now columns.now values.now) right.old (Ok x.new)) }
+    ensures within { OnOk result (AreWithin (10 ^ 18) x.new) }
     ensures fault { IfErr result (λ fault. SolvesAs (rows_kept (length right.old) (length right.old) starts.now columns.now values.now) right.old (Err (PlainFault.Solve fault))) }
 {
     reduce_right(starts, pivots, columns, values, right)?;
-    substitute_back(starts, pivots, columns, values, right, x)
+    substitute_back(starts, pivots, columns, values, words, right, x)
 }

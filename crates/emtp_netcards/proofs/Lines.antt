@@ -1,5 +1,5 @@
 -- The numbers of a line's card are in their ranges.
-use Rattle.std.proofs.Common.{◌≡◌, ◌∙◌, subst, sym, ap, ℕ, ◌*◌, ◌^◌, ◌≤◌, ◌≤ℤ◌, ℤ, pos, negsuc, ◌*ℤ◌, ◌+ℤ◌, unsigned_abs, refl, arith}
+use Rattle.std.proofs.Common.{◌≡◌, subst, sym, ap, ℕ, ◌*◌, ◌^◌, ◌≤◌, ◌≤ℤ◌, ℤ, pos, negsuc, ◌*ℤ◌, ◌+ℤ◌, unsigned_abs, refl, arith}
 use Rattle.std.proofs.lemmas.Int.{ints}
 use Rattle.emtp_case.specs.Branch.{HasLineNumbers, HasSeriesNumbers, capacitor_impedance, inductor_impedance, line_impedance, series_impedance}
 use Rattle.emtp_case.specs.Range.{IsBetween}
@@ -9,7 +9,7 @@ use Rattle.emtp_fix.proofs.Nearest.{near-zero, unsigned_abs-near-le}
 use Rattle.emtp_fix.proofs.Quotients.{near-nonneg, near-small, near-times_zero}
 use Rattle.emtp_fix.proofs.Roots.{isqrt-nonneg, isqrt-within}
 use Rattle.emtp_fix.proofs.Wide.{abs-mul-le}
-use Rattle.emtp_netcards.specs.LineValues.{IsLineValues, IsSurge, any_surge}
+use Rattle.emtp_netcards.specs.LineValues.{IsSurge, any_surge}
 
 -- ---- products of numbers from 0 on
 

@@ -1,5 +1,5 @@
 -- The values of a line's card, given in one of three ways.
-use Rattle.std.specs.Prelude.{ℕ, ◌^◌, ◌≤ℤ◌, ◌*ℤ◌, ◌+ℤ◌, ℤ, pos, int_le, int_lt, Bool, ◌&&◌, List, [], ◌∷◌, Option, Some, None, Result, Ok, Err, if◌then◌else◌}
+use Rattle.std.specs.Prelude.{ℕ, ◌^◌, ◌≤ℤ◌, ◌*ℤ◌, ℤ, pos, int_le, int_lt, Bool, ◌&&◌, List, [], ◌∷◌, Option, Some, None, Result, Ok, Err, if◌then◌else◌}
 use Rattle.std.specs.Ordering.{int_eq}
 use Rattle.std.specs.Result.{result_unwrap_or}
 use Rattle.emtp_card.specs.Fault.{fault_at, filled_with, least}

@@ -1,5 +1,5 @@
 -- The values of a series branch's card.
-use Rattle.std.specs.Prelude.{ℕ, ◌^◌, ℤ, pos, int_le, Bool, true, false, ◌&&◌, List, [], ◌∷◌, Option, Result, Ok, Err, if◌then◌else◌}
+use Rattle.std.specs.Prelude.{ℕ, ◌^◌, ℤ, pos, int_le, Bool, ◌&&◌, List, [], ◌∷◌, Option, Result, Ok, Err, if◌then◌else◌}
 use Rattle.std.specs.Result.{result_unwrap_or}
 use Rattle.emtp_card.specs.Fault.{fault_at, filled_with, least}
 use Rattle.emtp_card.specs.Number.{number_field}

@@ -1,5 +1,5 @@
 -- How far a new matrix agrees with the good rows, and the rows that are redone.
-use Rattle.std.proofs.Common.{◌≡◌, ◌≢◌, ℕ, zero, suc, ◌+◌, ◌-◌, ◌*◌, ◌<◌, ◌≤◌, Bool, true, false, not, ℤ, int_eq, List, [], ◌∷◌, ◌++◌, length, take, drop, refl, ap, sym, ◌∙◌, inl, inr, arith}
+use Rattle.std.proofs.Common.{◌≡◌, ◌≢◌, ℕ, zero, suc, ◌+◌, ◌-◌, ◌*◌, ◌<◌, ◌≤◌, Bool, true, false, not, ℤ, int_eq, List, [], ◌∷◌, ◌++◌, length, take, drop, refl, ap, sym, ◌∙◌, if◌then◌else◌, inl, inr, arith}
 use Rattle.std.proofs.lemmas.List.{get_or-take, length-take-le, take_more, take_at, take-take, ext_get_or}
 use Rattle.std.specs.Cmp.Lexicographic.{pointwise}
 use Rattle.std.proofs.lemmas.Slice.Eq.{slice_eq-Decides}
@@ -13,10 +13,13 @@ use Rattle.emtp_tail.specs.Given.{rows_in}
 use Rattle.emtp_tail.proofs.GivenRows.{length-rows_in, rows_in-same, take-rows_in, length-put_row, row_kept, put_rows}
 use Rattle.emtp_elim.proofs.Adding.{AreFinishedUpTo, finished_more}
 use Rattle.emtp_elim.proofs.Prefix.{AgreeBelow, finished_same, finished_first}
-use Rattle.emtp_tail.specs.Good.{first_change}
-use Rattle.emtp_tail.specs.Keeping.{IsFirstChange, IsKept, IsRedone}
+use Rattle.emtp_tail.specs.Good.{first_change, IsFirstChange}
+use Rattle.emtp_tail.specs.Keeping.{IsKept, IsRedone}
 
 -- ---- the first change
+
+take_row : (n : ℕ) (rows : Matrix) (h : ℕ) → h < n → row_of (take n rows) h ≡ row_of rows h
+take_row n rows h low = get_or-take n rows h [] low
 
 -- the rows before row i are the same
 pub record IsSameUpTo (old new : Matrix) (i : ℕ) : Type 0 where
@@ -25,6 +28,13 @@ pub record IsSameUpTo (old new : Matrix) (i : ℕ) : Type 0 where
 
 pub same_none : (old new : Matrix) → IsSameUpTo old new 0
 same_none old new = record { within = omega arith; same = λ h low. absurd (omega arith) }
+
+-- the rows before `from` are known to be the same
+pub same_from : (old new : Matrix) (from : ℕ) → from ≤ length old → take from new ≡ take from old → IsSameUpTo old new from
+same_from old new from within before = record {
+  within = within;
+  same = λ h low. sym (take_row from old h low) ∙ ap (λ rows. row_of rows h) (sym before) ∙ take_row from new h low;
+}
 
 pub same_more : (old new : Matrix) (i : ℕ) → IsSameUpTo old new i → i < length old → row_of new i ≡ row_of old i → IsSameUpTo old new (i + 1)
 same_more old new i was inside here = record {
@@ -65,6 +75,46 @@ first_change_is (row ∷ old) (other ∷ new) (suc i) long change =
       differs = λ inside. change.differs (omega arith);
     } in
     ap suc (first_change_is old new i (omega arith) rest) ∙ sym (cond-true (pointwise int_eq row other) _ _ (decides.1 (change.same 0 (omega arith))))
+
+row_before : (row other : List ℤ) (old new : Matrix) (i : ℕ) → row ≡ other → ((h : ℕ) → h < i → row_of old h ≡ row_of new h)
+    → (h : ℕ) → h < suc i → row_of (row ∷ old) h ≡ row_of (other ∷ new) h
+row_before row other old new i here rest zero low = here
+row_before row other old new i here rest (suc h) low = rest h (omega arith)
+
+change_by : (row other : List ℤ) (old new : Matrix) (i : ℕ) (b : Bool) → pointwise int_eq row other ≡ b → IsFirstChange old new i
+    → IsFirstChange (row ∷ old) (other ∷ new) (if b then suc i else 0)
+change_by row other old new i true e rest =
+    let decides = slice_eq-Decides Decides-int_eq row other (pointwise int_eq row other) refl in
+    record {
+      within = omega (arith, rest.within);
+      same = row_before row other old new i (decides.0 e) rest.same;
+      differs = λ inside. rest.differs (omega arith);
+    }
+change_by row other old new i false e rest =
+    let decides = slice_eq-Decides Decides-int_eq row other (pointwise int_eq row other) refl in
+    record {
+      within = omega arith;
+      same = λ h low. absurd (omega arith);
+      differs = λ inside here. both_ways (pointwise int_eq row other) e (decides.1 here);
+    }
+
+-- the function gives the relation's answer
+pub first_change_law : (old new : Matrix) → length old ≤ length new → IsFirstChange old new (first_change old new)
+unfolding first_change
+first_change_law [] new long = record { within = omega arith; same = λ h low. absurd (omega arith); differs = λ inside. absurd (omega arith) }
+first_change_law (row ∷ old) [] long = absurd (omega arith)
+first_change_law (row ∷ old) (other ∷ new) long =
+    change_by row other old new (first_change old new) (pointwise int_eq row other) refl (first_change_law old new (omega arith))
+
+-- rows that don't change
+pub first_change_same : (rows : Matrix) → first_change rows rows ≡ length rows
+first_change_same rows =
+    sym (first_change_is rows rows (length rows) (omega arith) (record { within = omega arith; same = λ h below. refl; differs = λ inside. absurd (omega (arith, inside)) }))
+
+-- no row is good yet
+pub first_change_none : (rows : Matrix) → first_change [] rows ≡ 0
+unfolding first_change
+first_change_none rows = refl
 
 -- what the comparison of two rows says
 pub rows_differ : (xs ys : List ℤ) (r : Bool) → r ≡ not (pointwise int_eq xs ys) → r ≡ true → xs ≢ ys

@@ -1,29 +1,15 @@
 -- A run goes on by one call.
-use Rattle.std.proofs.Common.{◌≡◌, List, [], ◌∷◌, ◌++◌, refl, ap}
+use Rattle.std.proofs.Common.{ℕ, List, [], ◌∷◌, ◌++◌, refl}
 use Rattle.emtp_elim.specs.Matrix.{Matrix}
 use Rattle.emtp_tail.specs.Good.{Good}
 use Rattle.emtp_tail.specs.Runs.{Step, Run}
 use Rattle.emtp_tail.specs.declared.runs.Call.{Call}
-use Rattle.emtp_tail.specs.declared.runs.Call.TheVariants.{Update, Solve}
 use Rattle.emtp_tail.specs.declared.runs.Reply.{Reply}
-use Rattle.emtp_tail.specs.declared.runs.Reply.TheVariants.{Redone, Faulty, Solved, TooLarge, NotReady}
 
-pub run_more : {R : Type 0} (matrix : R → Matrix) (old mid new : Good) (calls : List (Call R)) (replies : List Reply) (call : Call R) (reply : Reply)
-    → Run matrix old calls replies mid → Step matrix mid call reply new → Run matrix old (calls ++ call ∷ []) (replies ++ reply ∷ []) new
-run_more matrix old mid new [] [] call reply run step = (new, rw run at step, refl)
-run_more matrix old mid new [] (r ∷ replies) call reply run step = absurd run
-run_more matrix old mid new (c ∷ calls) [] call reply run step = absurd run
-run_more matrix old mid new (c ∷ calls) (r ∷ replies) call reply run step = (run.0, run.1, run_more matrix run.0 mid new calls replies call reply run.2 step)
-
--- the size stays
-pub size_after : {R : Type 0} (matrix : R → Matrix) (old new : Good) (call : Call R) (reply : Reply) → Step matrix old call reply new → new.size ≡ old.size
-size_after matrix old new (Update rows) (Redone first) step = ap (λ (k : Good). k.size) step.2
-size_after matrix old new (Update rows) (Faulty fault) step = ap (λ (k : Good). k.size) step.1
-size_after matrix old new (Update rows) (Solved x) step = absurd step
-size_after matrix old new (Update rows) (TooLarge fault) step = absurd step
-size_after matrix old new (Update rows) NotReady step = absurd step
-size_after matrix old new (Solve right) (Redone first) step = absurd step
-size_after matrix old new (Solve right) (Faulty fault) step = absurd step
-size_after matrix old new (Solve right) (Solved x) step = ap (λ (k : Good). k.size) step.1
-size_after matrix old new (Solve right) (TooLarge fault) step = ap (λ (k : Good). k.size) step.1
-size_after matrix old new (Solve right) NotReady step = ap (λ (k : Good). k.size) step.1
+pub run_more : {R : Type 0} (matrix : R → Matrix) (old mid new : Good) (before ticks after : ℕ) (calls : List (Call R)) (replies : List Reply) (call : Call R) (reply : Reply)
+    → Run matrix old before calls replies mid ticks → Step matrix mid ticks call reply new after → Run matrix old before (calls ++ call ∷ []) (replies ++ reply ∷ []) new after
+run_more matrix old mid new before ticks after [] [] call reply run step = (new, after, rw (run.0, run.1) at step, (refl, refl))
+run_more matrix old mid new before ticks after [] (r ∷ replies) call reply run step = absurd run
+run_more matrix old mid new before ticks after (c ∷ calls) [] call reply run step = absurd run
+run_more matrix old mid new before ticks after (c ∷ calls) (r ∷ replies) call reply run step =
+    (run.0, run.1, run.2, run_more matrix run.0 mid new run.1 ticks after calls replies call reply run.3 step)

@@ -1,6 +1,6 @@
 -- How the kept factor holds together.
-use Rattle.std.specs.Prelude.{◌≡◌, ◌≢◌, ℕ, ◌*◌, ◌<◌, ◌≤◌, ℤ, List, length, take}
-use Rattle.emtp_elim.specs.Matrix.{Matrix, row_of}
+use Rattle.std.specs.Prelude.{◌≡◌, ℕ, ◌*◌, ◌≤◌, ℤ, List, length, take}
+use Rattle.emtp_elim.specs.Matrix.{Matrix}
 use Rattle.emtp_elim.specs.Finished.{Finished, AreFinished}
 use Rattle.emtp_tail.specs.Given.{rows_in}
 
@@ -19,9 +19,3 @@ pub record IsRedone (rows : Matrix) (n : ℕ) (given : List ℤ) (done : Finishe
   pub count : length done.rows ≡ n
   pub given_first : rows_in (length rows) n given ≡ take n rows
   pub finished : AreFinished rows done.rows
-
--- row i is the first one in which a new matrix differs from the old rows, or the number of old rows where none does
-pub record IsFirstChange (old new : Matrix) (i : ℕ) : Type 0 where
-  pub within : i ≤ length old
-  pub same : (h : ℕ) → h < i → row_of old h ≡ row_of new h
-  pub differs : i < length old → row_of old i ≢ row_of new i

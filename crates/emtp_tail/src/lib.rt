@@ -13,7 +13,9 @@
 #![tactic(auto)]
 
 mod kept;
+mod laws;
 mod runs;
 
 pub use kept::Kept;
+pub use laws::first_change_is_least;
 pub use runs::{Call, Reply, Unknowns, answer_all};

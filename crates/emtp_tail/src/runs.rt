@@ -84,7 +84,8 @@ fn answer<R: Rows, L: Ledger>(
     steps: &mut Steps<L>,
 ) -> Result<Reply, AllocError>
     requires { FitsSize R.matrix kept.old.size call.now }
-    ensures { IfOk result (λ reply. Step R.matrix kept.old call.now reply kept.new) }
+    ensures size { kept.new.size ≡ kept.old.size }
+    ensures step { IfOk result (λ reply. Step R.matrix kept.old steps.old call.now reply kept.new steps.new) }
 {
     match call {
         Call::Update(rows) => match kept.update(rows, steps) {
@@ -103,7 +104,7 @@ fn answer<R: Rows, L: Ledger>(
 /// Answers calls in turn, whatever matrices come, and changed in whatever places.
 ///
 /// Each right side is solved for as full elimination of the matrix that was given last does, from its first row. An
-/// update is at fault exactly where that matrix is.
+/// update is at fault exactly where that matrix is, and ticks once for each row that it redoes.
 pub fn answer_all<R: Rows, L: Ledger>(
     alloc: Global,
     kept: &mut Kept,
@@ -111,7 +112,8 @@ pub fn answer_all<R: Rows, L: Ledger>(
     steps: &mut Steps<L>,
 ) -> Result<Vec<Reply>, AllocError>
     requires { All (FitsSize R.matrix kept.old.size) calls.now }
-    ensures { IfOk result (λ replies. Run R.matrix kept.old calls.now replies.items kept.new) }
+    ensures size { kept.new.size ≡ kept.old.size }
+    ensures run { IfOk result (λ replies. Run R.matrix kept.old steps.old calls.now replies.items kept.new steps.new) }
 {
     let mut replies = Vec::new(alloc);
     for call in calls {

@@ -446,10 +446,21 @@ fn add_sources(rt: &impl Abort, draft: &mut Draft) -> Result<(), AllocError>
     requires none { draft.old.parts.sources ≡ [] }
     ensures { OnOk result (draft.new.parts ≡ record draft.old.parts { sources = draft.new.parts.sources }) }
 {
-    for source in [clock(), ramp(), battery(), cosine(), injection()] {
-        assert!(rt; source.current || !draft.has_voltage_source(source.node));
-        draft.add_source(source)?;
-    }
+    let clock = clock();
+    assert!(rt; clock.current || !draft.has_voltage_source(clock.node));
+    draft.add_source(clock)?;
+    let ramp = ramp();
+    assert!(rt; ramp.current || !draft.has_voltage_source(ramp.node));
+    draft.add_source(ramp)?;
+    let battery = battery();
+    assert!(rt; battery.current || !draft.has_voltage_source(battery.node));
+    draft.add_source(battery)?;
+    let cosine = cosine();
+    assert!(rt; cosine.current || !draft.has_voltage_source(cosine.node));
+    draft.add_source(cosine)?;
+    let injection = injection();
+    assert!(rt; injection.current || !draft.has_voltage_source(injection.node));
+    draft.add_source(injection)?;
     assert!(rt; draft.has_voltage_source(1) && !draft.has_voltage_source(3));
     Ok(())
 }

@@ -91,7 +91,10 @@ fn history_values_of_lines(rt: HostRuntime) -> Result<(), Fail> {
     Ok(())
 }
 
-fn device(alloc: Global, code: DeviceCode, a: i64) -> Device {
+fn device(alloc: Global, code: DeviceCode, a: i64) -> Device
+    ensures code { result.code ≡ code }
+    ensures a { result.a ≡ a }
+{
     Device {
         line: 1,
         var: 6,

@@ -10,3 +10,5 @@
 mod hist;
 #[cfg(test)]
 mod lumped;
+#[cfg(test)]
+mod wave;

@@ -7,4 +7,10 @@
 #![tactic(auto)]
 
 #[cfg(test)]
+mod elim;
+#[cfg(test)]
 mod fix;
+#[cfg(test)]
+mod table;
+#[cfg(test)]
+mod tail;

@@ -1,6 +1,6 @@
-use Rattle.std.proofs.Common.{◌∙◌, ◌+ℤ◌, ap, pos, FitsSigned, arith, rules}
+use Rattle.std.proofs.Common.{◌+ℤ◌, ap, FitsSigned, rules}
 use mir.Syntax.{w64, w128}
-use Rattle.std.proofs.lemmas.Int.{ints, to_z-of_z}
+use Rattle.std.proofs.lemmas.Int.{to_z-of_z}
 use Rattle.emtp_case.proofs.impedance.line_impedance.Goals as goal
 
 pub returns : goal.returns

@@ -1,6 +1,6 @@
-use Rattle.std.proofs.Common.{◌∙◌, ◌*ℤ◌, ap, pos, FitsSigned, arith, rules}
+use Rattle.std.proofs.Common.{◌∙◌, ◌*ℤ◌, ap, pos, FitsSigned, rules}
 use mir.Syntax.{w64, w128}
-use Rattle.std.proofs.lemmas.Int.{ints, to_z-of_z}
+use Rattle.std.proofs.lemmas.Int.{to_z-of_z}
 use Rattle.emtp_fix.specs.Rounding.{near}
 use Rattle.emtp_case.proofs.impedance.reactor_slope.Goals as goal
 

@@ -1,4 +1,4 @@
-use Rattle.std.proofs.Common.{◌∙◌, ◌+ℤ◌, ap, pos, FitsSigned, rules}
+use Rattle.std.proofs.Common.{◌∙◌, ◌+ℤ◌, ap, FitsSigned, rules}
 use mir.Syntax.{w64, w128}
 use Rattle.std.proofs.lemmas.Int.{to_z-of_z}
 use Rattle.emtp_case.specs.Branch.{inductor_impedance}

@@ -31,10 +31,10 @@ returns-then-unsigned_abs-gt-LARGEST_VALUE-clause-fault c =
     let same_left : to_z w128 (of_z w128 c.remainder-left.result) ≡ c.remainder-left.result = through c.remainder-left.result (omega (arith, c.remainder-left.ensures.bound)) in
     let same_pivot : to_z w128 (of_z w128 c.from.result) ≡ item values (slice_index c.args.pivots.now k) = omega (arith, ints, small_pivot) in
     let left_is = subst (λ n. c.remainder-left.result ≡ item c.args.right.now k *ℤ pos (10 ^ 12) -ℤ products (drop (k + 1) (dense_row n columns values)) (drop (k + 1) c.loop-k.x) (n - (k + 1))) long c.remainder-left.ensures.value in
-    let v_is = rw (same_left, same_pivot, stored.pivot_is) at c.near-unknown.ensures.value in
-    let wide : to_z w128 (of_z w128 c.near-unknown.result) ≡ c.near-unknown.result = omega (arith, ints) in
-    let large : 10 ^ 18 < unsigned_abs c.near-unknown.result = omega (arith, ints) in
-    found_fault done c.args.right.now c.loop-k.x row c.loop-k.k k c.remainder-left.result c.near-unknown.result c.loop-k.invariant (omega arith) (omega arith) (omega arith)
+    let v_is = rw (same_left, same_pivot, stored.pivot_is) at c.near_by-unknown.ensures.value in
+    let wide : to_z w128 (of_z w128 c.near_by-unknown.result) ≡ c.near_by-unknown.result = omega (arith, ints) in
+    let large : 10 ^ 18 < unsigned_abs c.near_by-unknown.result = omega (arith, ints) in
+    found_fault done c.args.right.now c.loop-k.x row c.loop-k.k k c.remainder-left.result c.near_by-unknown.result c.loop-k.invariant (omega arith) (omega arith) (omega arith)
     row_is (stored.finished.length_is ∙ sym count) (rw stored.finished.length_is left_is) v_is large
 
 pub loop-k-preserved : goal.loop-k-preserved
@@ -54,11 +54,11 @@ loop-k-preserved c =
     let same_left : to_z w128 (of_z w128 c.remainder-left.result) ≡ c.remainder-left.result = through c.remainder-left.result (omega (arith, c.remainder-left.ensures.bound)) in
     let same_pivot : to_z w128 (of_z w128 c.from.result) ≡ item values (slice_index c.args.pivots.now k) = omega (arith, ints, small_pivot) in
     let left_is = subst (λ n. c.remainder-left.result ≡ item c.args.right.now k *ℤ pos (10 ^ 12) -ℤ products (drop (k + 1) (dense_row n columns values)) (drop (k + 1) c.loop-k.x) (n - (k + 1))) long c.remainder-left.ensures.value in
-    let v_is = rw (same_left, same_pivot, stored.pivot_is) at c.near-unknown.ensures.value in
-    let wide : to_z w128 (of_z w128 c.near-unknown.result) ≡ c.near-unknown.result = omega (arith, ints) in
-    let small : unsigned_abs c.near-unknown.result ≤ 10 ^ 18 = omega (arith, ints) in
-    rw (wide, through_64 c.near-unknown.result small)
-    (found_more done c.args.right.now c.loop-k.x row c.loop-k.k k c.remainder-left.result c.near-unknown.result c.loop-k.invariant (omega arith) (omega arith) (omega arith)
+    let v_is = rw (same_left, same_pivot, stored.pivot_is) at c.near_by-unknown.ensures.value in
+    let wide : to_z w128 (of_z w128 c.near_by-unknown.result) ≡ c.near_by-unknown.result = omega (arith, ints) in
+    let small : unsigned_abs c.near_by-unknown.result ≤ 10 ^ 18 = omega (arith, ints) in
+    rw (wide, through_64 c.near_by-unknown.result small)
+    (found_more done c.args.right.now c.loop-k.x row c.loop-k.k k c.remainder-left.result c.near_by-unknown.result c.loop-k.invariant (omega arith) (omega arith) (omega arith)
     row_is (stored.finished.length_is ∙ sym count) (rw stored.finished.length_is left_is) v_is small)
 
 pub returns-clause-solved : goal.returns-clause-solved

@@ -1,5 +1,5 @@
 use mir.Syntax.{w64}
-use Rattle.std.proofs.Common.{◌≡◌, subst, sym, to_z, of_z, pos, FitsSigned}
+use Rattle.std.proofs.Common.{◌≡◌, subst, sym, to_z, of_z, pos}
 use Rattle.std.proofs.lemmas.Int.{to_z-of_z}
 use Rattle.emtp_case.specs.Branch.{HasLineNumbers}
 use Rattle.emtp_netcards.proofs.Lines.{any_line_right}

@@ -1,5 +1,5 @@
 use mir.Syntax.{w64, w128}
-use Rattle.std.proofs.Common.{◌≡◌, ◌∙◌, subst, sym, ap, ◌^◌, ◌*ℤ◌, ℤ, pos, unsigned_abs, FitsSigned, to_z, of_z, rules, arith}
+use Rattle.std.proofs.Common.{◌≡◌, ◌∙◌, subst, sym, ap, ◌^◌, ◌*ℤ◌, pos, unsigned_abs, FitsSigned, rules, arith}
 use Rattle.std.proofs.lemmas.Int.{to_z-of_z}
 use Rattle.emtp_case.specs.Range.{IsBetween}
 use Rattle.emtp_fix.specs.Rounding.{near}

@@ -1,5 +1,5 @@
-use mir.Syntax.{w64, w128}
-use Rattle.std.proofs.Common.{◌≡◌, ◌∙◌, subst, sym, ap, ◌^◌, ◌*ℤ◌, ℤ, pos, unsigned_abs, ◌≤◌, FitsSigned, to_z, of_z, rules, arith}
+use mir.Syntax.{w64}
+use Rattle.std.proofs.Common.{◌≡◌, ◌∙◌, ap, ◌^◌, ◌*ℤ◌, pos, unsigned_abs, ◌≤◌, FitsSigned, to_z, of_z, arith}
 use Rattle.std.proofs.lemmas.Int.{to_z-of_z}
 use Rattle.emtp_fix.specs.Root.{isqrt}
 use Rattle.emtp_fix.specs.Rounding.{near}

@@ -1,8 +1,16 @@
 use Rattle.std.proofs.Common.{◌≡◌, length, arith}
 use Rattle.emtp_tail.specs.Given.{rows_in}
 use Rattle.emtp_tail.proofs.GivenRows.{length-rows_in, row_of-rows_in}
-use Rattle.emtp_tail.proofs.Redoing.{same_more, change_here, change_none, rows_differ, rows_equal}
+use Rattle.emtp_tail.proofs.Redoing.{same_from, same_more, change_here, change_none, rows_differ, rows_equal}
 use Rattle.emtp_tail.proofs.kept.changed_row.Goals as goal
+
+pub loop-i-init : goal.loop-i-init
+loop-i-init g c =
+    let size = length (g.R.Rows.matrix c.args.rows.now) in
+    let count = length-rows_in size c.args.good c.args.given.now in (
+      same_from (rows_in size c.args.good c.args.given.now) (g.R.Rows.matrix c.args.rows.now) c.args.from (omega (arith, c.requires.from)) c.requires.before,
+      c.requires.work,
+    )
 
 pub returns-then-ne : goal.returns-then-ne
 returns-then-ne g c =

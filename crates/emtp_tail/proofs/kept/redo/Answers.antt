@@ -1,6 +1,7 @@
-use Rattle.std.proofs.Common.{rules, ◌<◌, length, arith}
-use Rattle.emtp_tail.proofs.GivenRows.{length-rows_in}
-use Rattle.emtp_tail.proofs.Redoing.{redoing_start, redoing_more, given_kept}
+use Rattle.std.proofs.Common.{rules, ◌≡◌, ◌+◌, ◌*◌, ◌<◌, ◌≤◌, length, ◌∙◌, arith}
+use Rattle.std.proofs.lemmas.Nat.{row_fits}
+use Rattle.emtp_tail.proofs.GivenRows.{length-rows_in, length-put_row}
+use Rattle.emtp_tail.proofs.Redoing.{redoing_start, redoing_more, given_kept, kept_redone}
 use Rattle.emtp_tail.proofs.kept.redo.Goals as goal
 
 pub cut-requires : goal.cut-requires
@@ -34,3 +35,15 @@ loop-i-preserved g c =
     let inside : i < length rows = omega (arith, c.size-size.ensures.size) in
     rw c.size-size.ensures.size (redoing_more rows c.args.first i c.loop-i.given c.loop-i.work c.row.new.out c.copy_from_slice.new.self c.eliminate_row.new.work c.args.done.now.rows
     c.loop-i.done c.eliminate_row.new.done c.args.steps.now c.loop-i.steps c.eliminate_row.new.steps was inside c.row.ensures (omega (arith, was.room_work)) (search rules) c.in_default.ensures.added (omega (arith, was.room_work)) c.eliminate_row.ensures.steps)
+
+pub returns-in-Err-clause-kept : goal.returns-in-Err-clause-kept
+returns-in-Err-clause-kept g c =
+    let rows = g.R.Rows.matrix c.args.rows.now in
+    let i = c.loop-i.i in
+    let was = c.loop-i.invariant in
+    let inside : i < length rows = omega (arith, c.size-size.ensures.size) in
+    let fits : i * length rows + length rows ≤ length rows * length rows = row_fits i (length rows) (length rows) (length rows) inside (omega arith) in
+    let same_row : length c.copy_from_slice.new.self ≡ length rows = omega (arith, was.room_work, c.size-size.ensures.size) in
+    kept_redone rows i _ c.eliminate_row.new.work c.eliminate_row.new.done was.few (omega arith)
+    (rw c.size-size.ensures.size (length-put_row (length rows) i c.loop-i.given c.copy_from_slice.new.self (omega (arith, was.room)) same_row ∙ was.room))
+    (omega (arith, was.room_work)) (returns-in-Err-clause-prefix g c)

@@ -1,0 +1,28 @@
+use Rattle.std.proofs.Common.{◌≡◌, ◌≤◌, length, ap, ◌∙◌, arith}
+use Rattle.std.proofs.lemmas.Result.{IfErr-weaker}
+use Rattle.emtp_elim.proofs.Outcomes.{outcome_row}
+use Rattle.emtp_tail.specs.Good.{Good}
+use Rattle.emtp_tail.proofs.GivenRows.{length-rows_in}
+use Rattle.emtp_tail.proofs.Redoing.{first_change_law, lent}
+use Rattle.emtp_tail.proofs.kept.Kept.update_from.Goals as goal
+
+pub redo-requires-clause-first : goal.redo-requires-clause-first
+redo-requires-clause-first g c =
+    let inside = c.self.inside in
+    let rows = g.R.Rows.matrix c.args.rows.now in
+    let sized : inside.size ≡ length rows = ap (λ (v : Good). v.size) c.self.view_is ∙ c.requires.size in
+    let rows_are = rw sized at (ap (λ (v : Good). v.rows) c.self.view_is) in
+    let count = length-rows_in inside.size (length inside.done.rows) inside.given.items in
+    let long : length c.args.self.now.rows ≤ length rows = omega (arith, count, sized, c.self.invariant.within, ap (λ (v : Good). length v.rows) c.self.view_is) in
+    rw (c.deref_mut.ensures.value, rows_are, c.requires.first) (first_change_law c.args.self.now.rows rows long)
+
+pub returns-clause-ends : goal.returns-clause-ends
+returns-clause-ends g c =
+    IfErr-weaker c.redo.result _ _ (λ fault is right. outcome_row (g.R.Rows.matrix c.args.rows.now) right fault.row fault.cause is) c.redo.ensures.fault
+
+pub returns-clause-prefix : goal.returns-clause-prefix
+returns-clause-prefix g c =
+    let rows = g.R.Rows.matrix c.args.rows.now in
+    let sized : c.self.inside.size ≡ length rows = ap (λ (v : Good). v.size) c.self.view_is ∙ c.requires.size in
+    let whole = lent c.self.inside.given.len c.redo.new.given c.self.inside.given.items (omega (arith, c.deref_mut.ensures.len)) in
+    IfErr-weaker c.redo.result _ _ (λ fault prefix. rw (sized, whole, prefix.count) prefix.given_first) c.redo.ensures.prefix

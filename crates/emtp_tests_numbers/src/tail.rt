@@ -1,0 +1,211 @@
+//! The kept factor and plain elimination side by side, and whole runs of calls.
+ghost use Rattle.std.specs.Prelude.{◌≡◌, ◌<◌, length, IfOk, OnOk, IfErr, Ok, Err};
+ghost use Rattle.emtp_elim.specs.Outcome.{outcome};
+ghost use Rattle.emtp_tail.specs.Runs.{FitsSize};
+ghost use Rattle.emtp_tests_numbers.specs.Tables.{table_rows};
+
+use crate::table::{P, Table, filled, named};
+use emtp_elim::{PlainFault, RowCause, RowFault, Rows, eliminate_plain};
+use emtp_fix::Steps;
+use emtp_tail::{Call, Kept, Reply, answer_all};
+use std::alloc::{AllocError, Global};
+use std::marker::Brand;
+use std::process::Abort;
+use std::sync::ledger::{Blank, Ledger};
+
+/// A source of 100 V at one end of two branches of 1 ohm, whose other end has 1 ohm to ground. Its row is a unit row.
+const AT_FIRST: [i64; 9] = [0, 0, 0, -P, 2 * P, -P, 0, -P, 2 * P];
+
+/// With 0.5 ohm to ground.
+const LAST_CHANGED: [i64; 9] = [0, 0, 0, -P, 2 * P, -P, 0, -P, 3 * P];
+
+/// With the two branches gone from the middle.
+const MIDDLE_GONE: [i64; 9] = [0, 0, 0, 0, 0, 0, 0, -P, 3 * P];
+
+/// What is wrong with it.
+const MIDDLE_FAULT: RowFault = RowFault {
+    row: 1,
+    cause: RowCause::ZeroPivot,
+};
+
+const RIGHT: [i128; 3] = [100_000_000_000, 0, 0];
+
+/// The solution with 0.5 ohm to ground.
+const DIVIDED: [i64; 3] = [100_000_000_000, 60_000_000_000, 20_000_000_000];
+
+/// Makes the factor that of a matrix.
+fn redone<L: Ledger>(kept: &mut Kept, rows: &Table, steps: &mut Steps<L>) -> Result<usize, RowFault>
+    requires { kept.old.size ≡ rows.now.size }
+    ensures size { kept.new.size ≡ kept.old.size }
+    ensures all { OnOk result (length kept.new.rows ≡ kept.new.size) }
+{
+    kept.update(rows, steps)
+}
+
+/// Five changes of one matrix, and what each redoes.
+fn five_updates<L: Ledger>(rt: &impl Abort, alloc: Global, blank: Blank)
+    requires name { blank.name ≡ L.name }
+    requires parts { blank.parts ≡ L.parts }
+    requires some { 0 < blank.parts }
+{
+    let first = filled(alloc, 3, 1, &AT_FIRST).expect(rt, "memory");
+    let second = filled(alloc, 3, 1, &LAST_CHANGED).expect(rt, "memory");
+    let broken = filled(alloc, 3, 1, &MIDDLE_GONE).expect(rt, "memory");
+    let mut steps = Steps::<L>::new(blank);
+    let mut kept = Kept::open(alloc, &first).expect(rt, "memory");
+    assert!(rt; kept.size() == 3 && kept.good() == 0 && first.fixed() == 1);
+    assert!(rt; redone(&mut kept, &first, &mut steps) == Ok(0) && kept.good() == 3);
+    assert!(rt; redone(&mut kept, &first, &mut steps) == Ok(3) && kept.good() == 3);
+    assert!(rt; redone(&mut kept, &second, &mut steps) == Ok(2) && kept.good() == 3);
+    assert!(rt; divides(&kept));
+    assert!(rt; redone(&mut kept, &broken, &mut steps) == Err(MIDDLE_FAULT) && kept.good() == 1);
+    assert!(rt; redone(&mut kept, &second, &mut steps) == Ok(1) && kept.good() == 3);
+    assert!(rt; divides(&kept));
+}
+
+fn divides(kept: &Kept) -> bool {
+    if kept.size() != 3 || kept.good() != 3 {
+        return false;
+    }
+    let mut right = RIGHT;
+    let mut x = [0; 3];
+    kept.solve(&mut right, &mut x) == Ok(()) && x == DIVIDED
+}
+
+#[test]
+fn redoes_from_the_first_change(rt: HostRuntime) {
+    five_updates::<Brand>(&rt, rt.alloc(), Blank::new(1));
+}
+
+/// Matrices of three rows, each followed by one that changes it early or late, mends it or breaks it.
+const CHANGES: [[i64; 9]; 12] = [
+    [2 * P, -P, 0, -P, 2 * P, -P, 0, -P, 2 * P],
+    [2 * P, -P, 0, -P, 2 * P, -P, 0, -P, 3 * P],
+    [2 * P, -P, 0, -P, 5 * P, -P, 0, -P, 3 * P],
+    [0, -P, 0, -P, 5 * P, -P, 0, -P, 3 * P],
+    [2 * P, -P, 0, -P, 2 * P, -P, 0, -P, 2 * P],
+    [2 * P, -P, 0, -2 * P, P, 0, 0, -P, 2 * P],
+    [2 * P, -P, 0, -2 * P, P, 0, 0, 0, 7 * P],
+    [2 * P, -P, 0, -P, 3, 0, 0, 200_000 * P, 7 * P],
+    [1, 0, 0, 2_000_000, P, 0, 0, 0, P],
+    [3, P, -7, 5, -11, 13 * P, 17 * P, 19, 23],
+    [1, 0, 0, 0, P, 0, 0, 0, P],
+    [P, 0, 0, 100_000 * P, P, 0, 0, 0, P],
+];
+
+/// The voltages of this step, in nV, from the factor of the step before.
+fn voltages<R: Rows, L: Ledger>(
+    kept: &mut Kept,
+    rows: &R,
+    currents: &mut [i128],
+    voltages: &mut [i64],
+    steps: &mut Steps<L>,
+) -> Result<(), PlainFault>
+    requires size { kept.old.size ≡ length (R.matrix rows.now) }
+    requires currents { length currents.old ≡ length (R.matrix rows.now) }
+    requires voltages { length voltages.old ≡ length (R.matrix rows.now) }
+    ensures size { kept.new.size ≡ kept.old.size }
+    ensures solved { OnOk result (outcome (R.matrix rows.now) currents.old ≡ Ok voltages.new) }
+    ensures fault { IfErr result (λ fault. outcome (R.matrix rows.now) currents.old ≡ Err fault) }
+{
+    if let Err(fault) = kept.update(rows, steps) {
+        return Err(PlainFault::Row(fault));
+    }
+    match kept.solve(currents, voltages) {
+        Ok(()) => Ok(()),
+        Err(fault) => Err(PlainFault::Solve(fault)),
+    }
+}
+
+/// The solution of a table by the kept factor.
+fn solved<L: Ledger>(
+    kept: &mut Kept,
+    rows: &Table,
+    right: &mut [i128],
+    x: &mut [i64],
+    steps: &mut Steps<L>,
+) -> Result<(), PlainFault>
+    requires size { kept.old.size ≡ rows.now.size }
+    requires right { length right.old ≡ rows.now.size }
+    requires x { length x.old ≡ rows.now.size }
+    ensures { kept.new.size ≡ kept.old.size }
+{
+    voltages(kept, rows, right, x, steps)
+}
+
+/// The kept factor and plain elimination, at each of the matrices in turn.
+fn side_by_side<L: Ledger>(rt: &impl Abort, alloc: Global, blank: Blank)
+    requires name { blank.name ≡ L.name }
+    requires parts { blank.parts ≡ L.parts }
+    requires some { 0 < blank.parts }
+{
+    let mut steps = Steps::<L>::new(blank);
+    let first = filled(alloc, 3, 0, &CHANGES[0]).expect(rt, "memory");
+    let mut kept = Kept::open(alloc, &first).expect(rt, "memory");
+    for k in 0..12 {
+        let rows = filled(alloc, 3, 0, &CHANGES[k]).expect(rt, "memory");
+        let currents = [20_000_000_000_000, 100_000_000_000, -300_000_000_000];
+        let mut expected = [0; 3];
+        let plain = eliminate_plain(alloc, &rows, &currents, &mut expected).map_err(named);
+        let mut right = currents;
+        let mut x = [0; 3];
+        let answer = solved(&mut kept, &rows, &mut right, &mut x, &mut steps).map_err(named);
+        assert!(rt; plain == answer, "at {k}");
+        assert!(rt; answer.is_err() || x == expected, "at {k}");
+    }
+}
+
+#[test]
+fn answers_as_plain_elimination_does(rt: HostRuntime) {
+    side_by_side::<Brand>(&rt, rt.alloc(), Blank::new(1));
+}
+
+fn is_divided(reply: &Reply) -> bool {
+    match reply {
+        Reply::Solved(x) => x.as_slice() == DIVIDED.as_slice(),
+        _ => false,
+    }
+}
+
+fn update(alloc: Global, cells: &[i64]) -> Result<Call<Table>, AllocError>
+    requires { length cells.now ≡ 9 }
+    ensures { IfOk result (FitsSize (λ (t : Table). table_rows t.size t.fixed t.cells.items) 3) }
+{
+    Ok(Call::Update(filled(alloc, 3, 1, cells)?))
+}
+
+/// Three updates, a solution, a matrix at fault with which nothing is solved, and an update that mends it.
+fn eight_calls<L: Ledger>(rt: &impl Abort, alloc: Global, blank: Blank)
+    requires name { blank.name ≡ L.name }
+    requires parts { blank.parts ≡ L.parts }
+    requires some { 0 < blank.parts }
+{
+    let first = filled(alloc, 3, 1, &AT_FIRST).expect(rt, "memory");
+    let mut kept = Kept::open(alloc, &first).expect(rt, "memory");
+    let mut steps = Steps::<L>::new(blank);
+    let calls = [
+        update(alloc, &AT_FIRST).expect(rt, "memory"),
+        update(alloc, &AT_FIRST).expect(rt, "memory"),
+        update(alloc, &LAST_CHANGED).expect(rt, "memory"),
+        Call::Solve(Vec::from_slice(alloc, &RIGHT).expect(rt, "memory")),
+        update(alloc, &MIDDLE_GONE).expect(rt, "memory"),
+        Call::Solve(Vec::from_slice(alloc, &RIGHT).expect(rt, "memory")),
+        update(alloc, &LAST_CHANGED).expect(rt, "memory"),
+        Call::Solve(Vec::from_slice(alloc, &RIGHT).expect(rt, "memory")),
+    ];
+    let replies = answer_all(alloc, &mut kept, &calls, &mut steps).expect(rt, "memory");
+    assert!(rt; replies.len() == 8);
+    assert!(rt; matches!(replies[0], Reply::Redone(0)));
+    assert!(rt; matches!(replies[1], Reply::Redone(3)));
+    assert!(rt; matches!(replies[2], Reply::Redone(2)));
+    assert!(rt; is_divided(&replies[3]));
+    assert!(rt; matches!(replies[4], Reply::Faulty(MIDDLE_FAULT)));
+    assert!(rt; matches!(replies[5], Reply::NotReady));
+    assert!(rt; matches!(replies[6], Reply::Redone(1)));
+    assert!(rt; is_divided(&replies[7]));
+}
+
+#[test]
+fn answers_a_whole_run(rt: HostRuntime) {
+    eight_calls::<Brand>(&rt, rt.alloc(), Blank::new(1));
+}

@@ -1,0 +1,6 @@
+pub mod Callers
+pub mod Shapes
+pub mod Reduced
+pub mod Circle
+pub mod Symmetry
+pub mod Worked
