@@ -1,5 +1,7 @@
 //! The numbers that a reader judges by and the laws step with, by hand.
 
+ghost use Rattle.std.specs.Prelude.{◌≡◌};
+
 use crate::fixtures::RUN;
 use emtp_case::{
     Branch, Device, DeviceCode, Group, Items, Line, Point, Pseudo, RunData, Trio,
