@@ -1,7 +1,7 @@
 -- The numbers of the miscellaneous cards.
 use Rattle.emtp_case.specs.Range.{IsBetween}
 use Rattle.emtp_case.specs.declared.run_data.RunData.{RunData}
-use Rattle.std.specs.Prelude.{◌+◌, ◌/◌, ◌^◌, ◌≤◌, ℕ}
+use Rattle.std.specs.Prelude.{◌+◌, ◌/◌, ◌^◌, ◌≤◌, ◌*ℤ◌, pos, ℕ, ℤ}
 
 pub record IsRun (run : RunData) : Type 0 where
   pub dt : IsBetween 1000 (10 ^ 12) run.dt
@@ -14,3 +14,7 @@ pub record IsRun (run : RunData) : Type 0 where
 -- how many records are samples: record 0 and each every-th one after it
 abbrev pub samples_of : RunData → ℕ
 samples_of run = run.steps / run.every + 1
+
+-- the time of a step
+abbrev pub time_of : RunData → ℕ → ℤ
+time_of run step = pos step *ℤ run.dt

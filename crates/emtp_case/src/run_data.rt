@@ -1,6 +1,7 @@
 //! The numbers of the miscellaneous cards.
 
-ghost use Rattle.std.specs.Prelude.{◌≡◌, ◌≤◌};
+ghost use Rattle.std.specs.Prelude.{◌≡◌, ◌≤◌, ◌^◌};
+ghost use Rattle.emtp_case.specs.Range.{IsBetween};
 
 /// The numbers of the miscellaneous cards, and the tolerance of the residual.
 #[derive(Clone, Copy, PartialEq, Eq)]
@@ -16,7 +17,17 @@ pub struct RunData {
 }
 
 impl RunData {
-    ghost use Rattle.emtp_case.specs.RunData.{samples_of};
+    ghost use Rattle.emtp_case.specs.RunData.{IsRun, samples_of, time_of};
+
+    /// The time of a step, in ps: from 0 to 10^18.
+    pub fn time(&self, step: u32) -> i64
+        requires run { IsRun self.now }
+        requires step { step ≤ self.now.steps }
+        ensures value { result ≡ time_of self.now step }
+        ensures bound { IsBetween 0 (10 ^ 18) result }
+    {
+        i64::from(step) * self.dt
+    }
 
     /// The number of samples: record 0, and each `every`th one after it.
     pub fn samples(&self) -> u32

@@ -1,0 +1,34 @@
+use Rattle.std.proofs.Common.{◌≡◌, ◌≤◌, ◌∷◌, ℕ, ℤ, List, length, ap, sym, ◌∙◌, subst, arith}
+use Rattle.std.specs.Vec.{with_items}
+use Rattle.std.proofs.lemmas.List.{with_items_is}
+use Rattle.emtp_case.specs.StepRecord.{StepRecord}
+use Rattle.emtp_case.specs.declared.case.Parts.{Parts}
+use Rattle.emtp_case.specs.declared.switch.SwitchState.{SwitchState}
+use Rattle.emtp_switch.specs.States.{next_states}
+use Rattle.emtp_switch.specs.Switching.{AreKept, AreLatest, StandsFor, Switching}
+use Rattle.emtp_switch.proofs.Deciding.{kept_next}
+use Rattle.emtp_switch.proofs.switches.Switches.decide.Goals as goal
+
+-- what the code reads from its lists is what the value kept
+stands_next : (s : Switching) (p : Parts) (step : ℕ) (voltages currents tacs before after : List ℤ) (states new left : List SwitchState) → s.case ≡ p → states ≡ s.states → before ≡ s.before
+    → ((H : List StepRecord) → AreKept states before H → AreLatest step voltages currents tacs H → new ≡ next_states p H) → left ≡ new → after ≡ currents
+    → (H : List StepRecord) (r : StepRecord) → StandsFor s H → AreLatest step voltages currents tacs H → r.switch_states ≡ next_states s.case H → AreKept left after (r ∷ H)
+stands_next s p step voltages currents tacs before after states new left case_is states_are before_are moved left_is after_is H r stands is r_is =
+    let kept : AreKept states before H = rw (states_are, before_are) stands in
+    kept_next p H r step voltages currents tacs after left is (left_is ∙ moved H kept is) (r_is ∙ ap (λ (q : Parts). next_states q H) case_is) after_is
+
+pub returns-then-self-clause-stands : goal.returns-then-self-clause-stands
+returns-then-self-clause-stands c =
+    let s = c.self.inside in
+    let new = c.move_states-self-inside.new.states in
+    stands_next c.args.self.now s.case.now.parts c.args.step c.args.voltages.now c.args.currents.now c.args.tacs.now c.deref.result.now c.copy_from_slice.new.self.items c.deref_mut.result.now new (with_items s.states new).items
+    (ap (λ (x : Switching). x.case) (sym c.self.view_is)) (c.deref_mut.ensures.value ∙ ap (λ (x : Switching). x.states) c.self.view_is) (c.deref.ensures.value ∙ ap (λ (x : Switching). x.before) c.self.view_is)
+    c.move_states-self-inside.ensures.moved (with_items_is s.states new (omega (arith, c.deref_mut.ensures.len, c.deref_mut.ensures.value))) c.copy_from_slice.ensures.items
+
+pub returns-else-self-clause-stands : goal.returns-else-self-clause-stands
+returns-else-self-clause-stands c =
+    let s = c.self.inside in
+    let new = c.move_states-self-inside.new.states in
+    stands_next c.args.self.now s.case.now.parts c.args.step c.args.voltages.now c.args.currents.now c.args.tacs.now c.deref.result.now c.copy_from_slice.new.self.items c.deref_mut.result.now new (with_items s.states new).items
+    (ap (λ (x : Switching). x.case) (sym c.self.view_is)) (c.deref_mut.ensures.value ∙ ap (λ (x : Switching). x.states) c.self.view_is) (c.deref.ensures.value ∙ ap (λ (x : Switching). x.before) c.self.view_is)
+    c.move_states-self-inside.ensures.moved (with_items_is s.states new (omega (arith, c.deref_mut.ensures.len, c.deref_mut.ensures.value))) c.copy_from_slice.ensures.items
