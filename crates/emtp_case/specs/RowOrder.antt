@@ -35,8 +35,12 @@ is_switch_at node s = s.from == node || s.to == node
 abbrev pub has_source : Parts → ℕ → Bool
 has_source p node = list_any (is_voltage_source_at node) p.sources
 
+-- a node touches a switch of any kind, open or closed
+abbrev pub touches_switch : Parts → ℕ → Bool
+touches_switch p node = list_any (is_switch_at node) p.switches
+
 abbrev pub may_change : Parts → ℕ → Bool
-may_change p node = list_any (is_switch_at node) p.switches || list_any (is_pseudo_at node) p.branches
+may_change p node = touches_switch p node || list_any (is_pseudo_at node) p.branches
 
 abbrev pub class_of : Parts → ℕ → Class
 class_of p node = if has_source p node then SourceClass else if may_change p node then Changing else Constant

@@ -45,6 +45,20 @@ pub struct Parts {
     pub channels: Items<Channel>,
 }
 
+impl Parts {
+    ghost use Rattle.emtp_case.specs.RowOrder.{touches_switch};
+
+    /// Whether a switch of any kind, open or closed, ends at a node.
+    pub fn touches_switch(&self, node: u32) -> bool
+        ensures { result ≡ touches_switch self.now node }
+    {
+        self.switches
+            .as_slice()
+            .iter()
+            .any(|s| s.from == node || s.to == node)
+    }
+}
+
 /// A case: records whose numbers are in range and which fit each other.
 #[derive(Drop)]
 pub struct Case {

@@ -4,7 +4,7 @@ ghost use Rattle.std.specs.Prelude.{◌≡◌, ◌+◌, ◌^◌, ◌<◌, ◌≤
 ghost use Rattle.std.specs.List.{range_with_len, list_any};
 ghost use Rattle.std.specs.List.Sorted.{IsPermutation, IsSortedByKey};
 ghost use Rattle.emtp_case.specs.RowTable.{AreRows};
-ghost use Rattle.emtp_case.specs.RowOrder.{Rows, ends_at, is_pseudo_at, is_switch_at, has_source, may_change, class_of, key_of, key_cmp, order_of, IsRowOrder};
+ghost use Rattle.emtp_case.specs.RowOrder.{Rows, ends_at, is_pseudo_at, has_source, may_change, class_of, key_of, key_cmp, order_of, IsRowOrder};
 
 use crate::branch::Branch;
 use crate::case::{Case, Parts};
@@ -159,7 +159,7 @@ fn class_of(parts: &Parts, node: u32) -> Class
 {
     if has_source(parts, node) {
         Class::Source
-    } else if has_switch(parts, node) || has_pseudo(parts, node) {
+    } else if parts.touches_switch(node) || has_pseudo(parts, node) {
         Class::Changing
     } else {
         Class::Constant
@@ -174,16 +174,6 @@ fn has_source(parts: &Parts, node: u32) -> bool
         .as_slice()
         .iter()
         .any(|s| s.is_voltage_at(node))
-}
-
-fn has_switch(parts: &Parts, node: u32) -> bool
-    ensures { result ≡ list_any (is_switch_at node) parts.now.switches }
-{
-    parts
-        .switches
-        .as_slice()
-        .iter()
-        .any(|s| s.from == node || s.to == node)
 }
 
 fn has_pseudo(parts: &Parts, node: u32) -> bool

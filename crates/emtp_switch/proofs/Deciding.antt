@@ -4,24 +4,11 @@ use Rattle.emtp_case.specs.RowOrder.{Rows}
 use Rattle.emtp_case.specs.StepRecord.{StepRecord, latest, record_back}
 use Rattle.emtp_case.specs.declared.case.Parts.{Parts}
 use Rattle.emtp_case.specs.declared.switch.SwitchState.{SwitchState}
-use Rattle.emtp_switch.specs.Groups.{item, tied_of}
-use Rattle.emtp_switch.specs.Grouping.{IsGrouped}
+use Rattle.emtp_switch.specs.Groups.{tied_of}
+use Rattle.emtp_switch.specs.Currents.{item}
 use Rattle.emtp_switch.specs.States.{next_states}
-use Rattle.emtp_switch.specs.Switching.{AreKept, AreLatest, IsHeld}
+use Rattle.emtp_switch.specs.Switching.{AreKept, AreLatest}
 use Rattle.emtp_switch.specs.declared.sweep.Link.{Link}
-
--- where no state changes
-pub held_same : (p : Parts) (rows : Rows) (states new : List SwitchState) (before after : List ℤ) (labels : List ℕ) (links : List Link) (count : ℕ) (tied : Option ℕ) (rest flows : List ℤ)
-    → IsHeld p rows states before labels links count tied rest flows → new ≡ states → length after ≡ length p.switches → IsHeld p rows new after labels links count tied rest flows
-held_same p rows states new before after labels links count tied rest flows was same size = record {
-  states_size = ap length same ∙ was.states_size;
-  before_size = size;
-  count_within = was.count_within;
-  grouped = subst (λ s. IsGrouped p.switches rows s labels (take count links)) (sym same) was.grouped;
-  tied_is = was.tied_is ∙ ap (tied_of p.switches rows) (sym same);
-  rest_size = was.rest_size;
-  flows_size = was.flows_size;
-}
 
 back_one : (r : StepRecord) (H : List StepRecord) → latest H ≡ record_back (r ∷ H) 1
 back_one r [] = refl

@@ -65,42 +65,6 @@ by_rank rows = 0 ∷ take rows.fixed rows.nodes ++ reverse (drop rows.fixed rows
 abbrev pub root_of : Rows → List ℕ → ℕ → ℕ
 root_of rows labels node = unwrap_or (find (λ k. slice_index labels k == slice_index labels node) (by_rank rows)) 0
 
--- Currents
-
-abbrev pub item : List ℤ → ℕ → ℤ
-item xs i = slice_index_or xs i (pos 0)
-
--- the sum of what f gives below n
-abbrev pub total : ℕ → (ℕ → ℤ) → ℤ
-total zero f = pos 0
-total (suc n) f = total n f +ℤ f n
-
--- what leaves the nodes that have a label, where what leaves each node goes by row
-abbrev pub leaving_side : Rows → List ℕ → ℕ → List ℤ → ℤ
-leaving_side rows labels l leaving =
-    total (length rows.nodes) (λ row. if slice_index labels (slice_index rows.nodes row) == l then item leaving row else pos 0)
-
--- the current from one end to the other, by labels that part the ends: what leaves the side without the root
-abbrev pub crossing : Rows → List ℕ → ℕ → ℕ → ℕ → List ℤ → ℤ
-crossing rows labels root «from» to leaving =
-    if slice_index labels «from» == slice_index labels root
-    then leaving_side rows labels (slice_index labels to) leaving
-    else neg_ℤ (leaving_side rows labels (slice_index labels «from») leaving)
-
--- the bridges but one
-abbrev pub others : ℕ → List ℕ → List ℕ
-others b es = filter (λ s. not (s == b)) es
-
--- the current of a bridge b among the bridges es: it crosses between the two sides that the others alone make
-abbrev pub bridge_current : List Switch → Rows → List ℕ → List ℤ → ℕ → ℤ
-bridge_current switches rows es leaving b =
-    crossing rows
-    (groups switches (alone (length rows.nodes)) (others b es))
-    (root_of rows (groups switches (alone (length rows.nodes)) es) (from_at switches b))
-    (from_at switches b)
-    (to_at switches b)
-    leaving
-
 -- The closed switches
 
 abbrev pub state_at : List SwitchState → ℕ → SwitchState
@@ -120,17 +84,6 @@ labels_of switches rows states = groups switches (alone (length rows.nodes)) (cl
 
 abbrev pub bridges_of : List Switch → Rows → List SwitchState → List ℕ
 bridges_of switches rows states = bridges switches (alone (length rows.nodes)) (closed_switches states)
-
--- a number is in a list
-abbrev pub contains : List ℕ → ℕ → Bool
-contains es s = list_any (λ e. e == s) es
-
--- the currents of all switches; an open or slack one has none
-abbrev pub currents_of : List Switch → Rows → List SwitchState → List ℤ → List ℤ
-currents_of switches rows states leaving =
-    map
-    (λ s. if contains (bridges_of switches rows states) s then bridge_current switches rows (bridges_of switches rows states) leaving s else pos 0)
-    (range_with_len 0 (length switches))
 
 -- Tied switches
 

@@ -4,9 +4,10 @@ ghost use Rattle.std.specs.Prelude.{◌≡◌, ◌≢◌, ◌≤◌, ◌<◌, �
 ghost use Rattle.std.specs.Option.{ForSome};
 ghost use Rattle.std.specs.List.{All};
 ghost use Rattle.emtp_case.specs.Switch.{IsSwitchKind};
-ghost use Rattle.emtp_case.specs.StepRecord.{StepRecord};
+ghost use Rattle.emtp_case.specs.StepRecord.{StepRecord, starting_state};
 ghost use Rattle.emtp_fix.specs.declared.limit.TheConstants.{LARGEST_VALUE};
-ghost use Rattle.emtp_switch.specs.Groups.{item, state_at};
+ghost use Rattle.emtp_switch.specs.Groups.{state_at};
+ghost use Rattle.emtp_switch.specs.Currents.{item};
 ghost use Rattle.emtp_switch.specs.States.{oppose, interrupts, is_due, breaker_state, valve_state, state_after, control_of, is_on, next_states};
 ghost use Rattle.emtp_switch.specs.Switching.{AreKept, AreLatest};
 
@@ -25,6 +26,23 @@ pub struct View {
     pub voltage: i64,
     /// Whether its control, if it has one, is above 0 in the last record.
     pub on: bool,
+}
+
+/// The state of a switch of record 0.
+pub(crate) fn starting_state(kind: SwitchKind) -> SwitchState
+    ensures { result ≡ starting_state kind }
+{
+    match kind {
+        SwitchKind::Time { close, .. } => {
+            if close < 0 {
+                SwitchState::Closed
+            } else {
+                SwitchState::Waiting
+            }
+        }
+        SwitchKind::Measuring => SwitchState::Closed,
+        SwitchKind::Valve { .. } | SwitchKind::Control { .. } => SwitchState::Opened,
+    }
 }
 
 fn oppose(a: i64, b: i64) -> bool

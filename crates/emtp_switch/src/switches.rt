@@ -1,45 +1,50 @@
 //! The switches of a case.
 
-ghost use Rattle.std.specs.Prelude.{◌≡◌, ◌≢◌, ◌≤◌, ◌<◌, ◌+◌, ◌∷◌, ◌^◌, false, true, ℕ, List, length, unsigned_abs};
+ghost use Rattle.std.specs.Prelude.{◌≡◌, ◌≢◌, ◌≤◌, ◌<◌, ◌+◌, ◌∷◌, [], ◌^◌, false, true, List, None, Some, length, map, unsigned_abs, IfErr, IfOk};
 ghost use Rattle.std.specs.List.{All};
+ghost use Rattle.emtp_case.specs.RowOrder.{IsRowOrder};
+ghost use Rattle.emtp_case.specs.StepRecord.{StepRecord, rest_of, starting_state};
+ghost use Rattle.emtp_case.specs.declared.switch.Switch.{Switch as SwitchCard};
 ghost use Rattle.emtp_fix.specs.declared.limit.TheConstants.{LARGEST_VALUE};
-ghost use Rattle.emtp_case.specs.StepRecord.{StepRecord, latest};
-ghost use Rattle.emtp_switch.specs.Groups.{currents_of, tied_of};
+ghost use Rattle.emtp_switch.specs.Currents.{IsFirstBeyond, currents_of};
+ghost use Rattle.emtp_switch.specs.Groups.{is_closed_at, tied_of};
+ghost use Rattle.emtp_switch.specs.Kinds.{kinds_of};
 ghost use Rattle.emtp_switch.specs.States.{next_states};
 ghost use Rattle.emtp_switch.specs.Switching.{AreLatest, StandsFor};
-ghost use Rattle.emtp_switch.specs.Tree.{Limits};
 
-use crate::currents::{SwitchRange, find_currents};
-use crate::states::move_states;
-use crate::sweep::Link;
-use crate::tree::regroup;
-use emtp_case::{Case, RowOrder, SwitchState};
+use crate::bridges::is_closed;
+use crate::currents::{SwitchRange, clear, load, narrow};
+use crate::groups::Groups;
+use crate::plan::Plan;
+use crate::states::{move_states, starting_state};
+use crate::sweep::sweep;
+use emtp_case::{Case, RowKind, RowOrder, SwitchState};
+use std::alloc::{AllocError, Global};
 use std::marker::Model;
 
-/// The switches of a case, their groups, and the tree of the bridges. It stands for a list of records.
+/// The first closed switch, in card order, that joins two groups with a known voltage each.
+#[derive(Clone, Copy, Debug, PartialEq, Eq)]
+pub struct Tied {
+    /// The switch.
+    pub switch: usize,
+}
+
+/// The switches of a case, their groups, and the kinds of the rows. It stands for a list of records.
 #[derive(Drop)]
 pub struct Switches<'a> {
     case: &'a Case,
     order: &'a RowOrder,
+    plan: Plan,
+    groups: Groups,
     states: Vec<SwitchState>,
     before: Vec<i64>,
-    ranked: Vec<u32>,
-    known: Vec<bool>,
-    labels: Vec<u32>,
-    marks: Vec<bool>,
-    bridges: Vec<u32>,
-    roots: Vec<u32>,
-    reached: Vec<bool>,
-    links: Vec<Link>,
-    link_count: usize,
-    tied: Option<u32>,
     changed: bool,
     rest: Vec<i128>,
     flows: Vec<i128>,
 }
 
 impl<'a> Model for Switches<'a> {
-    ghost use Rattle.emtp_switch.specs.Switching.{HasRoom, IsHeld, IsSet, Switching};
+    ghost use Rattle.emtp_switch.specs.Switching.{IsSwitching, Switching};
 
     ghost Value = { Switching };
 
@@ -49,15 +54,37 @@ impl<'a> Model for Switches<'a> {
 
     ghost view = { λ s. record { case = s.case.now.parts; rows = s.order.now; states = s.states.items; before = s.before.items; changed = s.changed } };
 
-    ghost invariant = { λ s. IsSet s.case.now.parts s.order.now s.ranked.items s.known.items × HasRoom s.case.now.parts s.order.now s.labels.items s.marks.items s.bridges.items s.roots.items s.reached.items s.links.items × IsHeld s.case.now.parts s.order.now s.states.items s.before.items s.labels.items s.links.items s.link_count s.tied s.rest.items s.flows.items };
+    ghost invariant = { λ s. IsSwitching s.case.now.parts s.order.now s.plan s.groups s.states.items s.before.items s.rest.items s.flows.items };
 }
 
 impl<'a> Switches<'a> {
-    /// The first closed switch that joins two known voltages.
-    pub fn tied(&self) -> Option<u32>
-        ensures { result ≡ tied_of self.now.case.switches self.now.rows self.now.states }
+    /// The switches of record 0.
+    pub fn open(
+        alloc: Global,
+        case: &'a Case,
+        order: &'a RowOrder,
+    ) -> Result<Switches<'a>, AllocError>
+        requires order { IsRowOrder case.now.parts order.now }
+        ensures case { IfOk result (λ s. s.case ≡ case.now.parts) }
+        ensures rows { IfOk result (λ s. s.rows ≡ order.now) }
+        ensures stands { IfOk result (λ s. StandsFor s (rest_of case.now.parts ∷ [])) }
     {
-        self.tied
+        let count = case.parts.switches.len();
+        let states = starting_states(alloc, case)?;
+        let plan = Plan::open(alloc, case, order)?;
+        let mut groups = Groups::room(alloc, case)?;
+        groups.regroup(case, order, &plan, &states);
+        Ok(Switches {
+            case,
+            order,
+            plan,
+            groups,
+            states,
+            before: vec![in alloc; 0i64; count]?,
+            changed: true,
+            rest: vec![in alloc; 0i128; case.parts.nodes.len() + 1]?,
+            flows: vec![in alloc; 0i128; count]?,
+        })
     }
 
     /// Moves the switches to their states of a step. The lists are the node voltages in nV with ground first, the switch
@@ -85,34 +112,68 @@ impl<'a> Switches<'a> {
         );
         self.before.copy_from_slice(currents);
         if self.changed {
-            let switches = self.case.parts.switches.as_slice();
-            self.marks.copy_from_slice(&self.known);
-            let grouped = regroup(
-                switches,
-                &self.states,
-                self.order,
-                &self.ranked,
-                &mut self.labels,
-                &mut self.marks,
-                &mut self.bridges,
-                &mut self.roots,
-                &mut self.reached,
-                &mut self.links,
-            );
-            self.link_count = grouped.links;
-            self.tied = grouped.tied;
+            self.groups.regroup(self.case, self.order, &self.plan, &self.states);
         }
     }
 
-    /// Finds the currents of all switches, in nA, from what leaves the node of each row through branches.
+    /// Whether a switch is closed.
+    pub fn closed(&self, switch: usize) -> bool
+        requires { switch < length self.now.case.switches }
+        ensures { result ≡ is_closed_at self.now.states switch }
+    {
+        is_closed(self.states[switch])
+    }
+
+    /// Whether the last `decide` gave a switch another state, so that kinds may differ; after `open` it is true.
+    pub fn changed(&self) -> bool
+        ensures { result ≡ self.now.changed }
+    {
+        self.changed
+    }
+
+    /// Writes the kinds of the rows, or answers the first switch that ties two known voltages.
+    pub fn kinds(&self, out: &mut [RowKind]) -> Result<(), Tied>
+        requires { length out.old ≡ length self.now.case.nodes }
+        ensures kinds { IfOk result (λ done. out.new ≡ kinds_of self.now.case self.now.rows self.now.states) }
+        ensures untied { IfOk result (λ done. tied_of self.now.case.switches self.now.rows self.now.states ≡ None) }
+        ensures tied { IfErr result (λ e. tied_of self.now.case.switches self.now.rows self.now.states ≡ Some e.switch) }
+    {
+        match self.groups.tied {
+            Some(switch) => Err(Tied {
+                switch: switch as usize,
+            }),
+            None => {
+                out.copy_from_slice(&self.groups.kinds);
+                Ok(())
+            }
+        }
+    }
+
+    /// Finds the currents of all switches, in nA, from what leaves the node of each row through branches, less what its
+    /// current sources bring. An error is the first switch that is out of range.
     pub fn currents(&mut self, leaving: &[i128], out: &mut [i64]) -> Result<(), SwitchRange>
-        requires leaving { length leaving.now ≡ length self.old.rows.nodes }
+        requires leaving { length leaving.now ≡ length self.old.case.nodes }
         requires small { All (λ x. unsigned_abs x ≤ 10 ^ 24) leaving.now }
         requires out { length out.old ≡ length self.old.case.switches }
-        ensures value { Limits result out.new (currents_of self.old.case.switches self.old.rows self.old.states leaving.now) }
+        ensures value { IfOk result (λ done. out.new ≡ currents_of self.old.case.switches self.old.rows self.old.states leaving.now) }
+        ensures small { IfOk result (λ done. All (λ i. unsigned_abs i ≤ LARGEST_VALUE) out.new) }
+        ensures first { IfErr result (λ e. IsFirstBeyond (currents_of self.old.case.switches self.old.rows self.old.states leaving.now) e.switch) }
         ensures same { self.new ≡ self.old }
     {
-        let links = &self.links[..self.link_count];
-        find_currents(links, leaving, &mut self.rest, &mut self.flows, out)
+        load(leaving, &mut self.rest);
+        clear(&mut self.flows);
+        let links = &self.groups.links[..self.groups.link_count];
+        sweep(links, &mut self.rest, &mut self.flows);
+        narrow(&self.flows, out)
     }
+}
+
+fn starting_states(alloc: Global, case: &Case) -> Result<Vec<SwitchState>, AllocError>
+    ensures { IfOk result (λ states. states.items ≡ map (λ (s : SwitchCard). starting_state s.kind) case.now.parts.switches) }
+{
+    let mut states = Vec::new(alloc);
+    for switch in case.parts.switches.as_slice() {
+        states.push(starting_state(switch.kind))?;
+    }
+    Ok(states)
 }

@@ -6,7 +6,8 @@ use Rattle.emtp_case.specs.Range.{IsBetween}
 use Rattle.emtp_case.specs.StepRecord.{StepRecord, latest}
 use Rattle.emtp_case.specs.declared.switch.Switch.{Switch}
 use Rattle.emtp_fix.proofs.Wide.{through_64}
-use Rattle.emtp_switch.specs.Groups.{item, state_at, switch_at}
+use Rattle.emtp_switch.specs.Groups.{state_at, switch_at}
+use Rattle.emtp_switch.specs.Currents.{item}
 use Rattle.emtp_switch.specs.States.{next_state, state_after, view_of}
 use Rattle.emtp_switch.specs.Switching.{AreKept, AreLatest}
 use Rattle.emtp_switch.specs.declared.states.View.{View}

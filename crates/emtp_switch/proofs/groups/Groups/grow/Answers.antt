@@ -1,0 +1,55 @@
+use Rattle.std.proofs.Common.{◌≡◌, ◌<◌, ◌≤◌, ◌+◌, ◌==◌, ℕ, List, length, slice_index, take, ap, sym, ◌∙◌, subst, arith}
+use Rattle.std.proofs.lemmas.List.{with_items_is}
+use Rattle.emtp_switch.specs.Groups.{alone, groups}
+use Rattle.std.specs.Vec.{with_items}
+use Rattle.emtp_switch.specs.Tree.{StartsAtRoots, is_reached, root_in}
+use Rattle.emtp_switch.proofs.GroupRoots.{roots_are, roots_start}
+use Rattle.emtp_switch.proofs.Regrouping.{labels_small, ranked_is, tree_found}
+use Rattle.emtp_switch.proofs.groups.Groups.grow.Goals as goal
+
+pub find_roots-requires-clause-labels : goal.find_roots-requires-clause-labels
+find_roots-requires-clause-labels c =
+    labels_small c.args.case.now.parts.switches (length c.args.order.now.nodes) (take c.args.bridges c.args.self.now.bridges.items) c.deref-2.result.now (length c.deref_mut.result.now) c.requires.plan.ends_within
+    (c.deref-2.ensures.value ∙ c.requires.labels) (omega (arith, ap length c.deref_mut.ensures.value, c.requires.room.roots_size, c.requires.plan.same_nodes))
+
+pub mark-requires-clause-labels : goal.mark-requires-clause-labels
+mark-requires-clause-labels c =
+    let roots = c.find_roots.new.roots in
+    let same : c.deref-3.result.now ≡ roots = c.deref-3.ensures.value ∙ with_items_is c.args.self.now.roots roots (omega (arith, ap length c.deref_mut.ensures.value, c.deref_mut.ensures.len)) in
+    labels_small c.args.case.now.parts.switches (length c.args.order.now.nodes) (take c.args.bridges c.args.self.now.bridges.items) c.deref-4.result.now (length c.deref-3.result.now) c.requires.plan.ends_within
+    (c.deref-4.ensures.value ∙ c.requires.labels) (omega (arith, ap length same, ap length c.deref_mut.ensures.value, c.requires.room.roots_size, c.requires.plan.same_nodes))
+
+pub returns-clause-roots : goal.returns-clause-roots
+returns-clause-roots c = λ x in_x.
+    let rows = c.args.order.now in
+    let labels = c.args.self.now.labels.items in
+    let ranked = c.args.plan.now.ranked.items in
+    let roots = c.find_roots.new.roots in
+    let before : ℕ → ℕ = λ l. slice_index c.deref_mut.result.now l in
+    let kept : (with_items c.args.self.now.roots roots).items ≡ roots = with_items_is c.args.self.now.roots roots (omega (arith, ap length c.deref_mut.ensures.value, c.deref_mut.ensures.len)) in
+    ap (λ l. slice_index l (slice_index labels x)) kept
+    ∙ roots_are rows labels ranked roots before (ranked_is c.args.case.now.parts rows c.args.plan.now c.requires.plan) (omega (arith, c.requires.room.labels_size, c.requires.plan.same_nodes))
+    (labels_small c.args.case.now.parts.switches (length rows.nodes) (take c.args.bridges c.args.self.now.bridges.items) labels (length roots) c.requires.plan.ends_within c.requires.labels
+    (omega (arith, ap length c.deref_mut.ensures.value, c.requires.room.roots_size, c.requires.plan.same_nodes)))
+    (λ l below. c.find_roots.ensures l (omega arith) ∙ ap (λ k. root_in k c.deref-2.result.now l (before l)) c.deref.ensures.value ∙ ap (λ k. root_in ranked k l (before l)) c.deref-2.ensures.value) x in_x
+
+pub returns-clause-tree : goal.returns-clause-tree
+returns-clause-tree c =
+    let p = c.args.case.now.parts in
+    let rows = c.args.order.now in
+    let n = length rows.nodes in
+    let labels = c.args.self.now.labels.items in
+    let es = take c.args.bridges c.args.self.now.bridges.items in
+    let read = c.as_slice-switches.result.now in
+    let taken = take c.args.bridges c.deref-5.result.now in
+    let same_es : taken ≡ es = ap (take c.args.bridges) c.deref-5.ensures.value in
+    let reached = c.deref_mut-3.result.now in
+    let same_reached : reached ≡ c.mark.new.reached = c.deref_mut-3.ensures.value ∙ with_items_is c.args.self.now.reached c.mark.new.reached (omega (arith, ap length c.deref_mut-2.ensures.value, c.deref_mut-2.ensures.len)) in
+    let size : length labels ≡ n + 1 = omega (arith, c.requires.room.labels_size, c.requires.plan.same_nodes) in
+    let start : StartsAtRoots rows labels reached = roots_start rows labels c.args.plan.now.ranked.items c.deref-3.result.now reached (ranked_is p rows c.args.plan.now c.requires.plan) size
+    (λ x in_x. ap (λ l. slice_index l (slice_index labels x)) c.deref-3.ensures.value ∙ returns-clause-roots c x in_x)
+    (λ x below. ap (λ l. is_reached l x) same_reached ∙ c.mark.ensures x (omega (arith, ap length c.deref-4.ensures.value)) ∙ ap (λ l. slice_index c.deref-3.result.now (slice_index l x) == x) c.deref-4.ensures.value) in
+    let by_bridges : labels ≡ groups read (alone n) taken = c.requires.labels ∙ ap (groups p.switches (alone n)) (sym same_es) ∙ ap (λ sw. groups sw (alone n) taken) (sym c.as_slice-switches.ensures) in
+    tree_found p.switches read rows es taken labels (take c.grow-self.result c.grow-self.new.links) (take c.grow-self.result (with_items c.args.self.now.links c.grow-self.new.links).items) c.as_slice-switches.ensures same_es c.requires.labels
+    (ap (take c.grow-self.result) (with_items_is c.args.self.now.links c.grow-self.new.links (omega (arith, ap length c.deref_mut-4.ensures.value, c.deref_mut-4.ensures.len))))
+    (c.grow-self.ensures.tree (subst (λ l. StartsAtRoots rows l reached) by_bridges start))

@@ -1,0 +1,13 @@
+use Rattle.std.proofs.Common.{◌≡◌, ◌∷◌, ◌++◌, ℕ, List, drop, reverse, take, min, ap, sym, ◌∙◌, arith}
+use Rattle.emtp_switch.proofs.Plans.{drop_least, take_least}
+use Rattle.emtp_switch.proofs.plan.rank.Goals as goal
+
+pub returns : goal.returns
+returns c =
+    let nodes = c.args.order.now.nodes in
+    let fixed = c.args.order.now.fixed in
+    let least = c.source_rows-fixed.result in
+    let is = c.source_rows-fixed.ensures.value ∙ ap (min fixed) c.requires.rows in
+    let last : c.loop-row-2.row ≡ least = omega (arith, c.loop-row-2.invariant.0, c.loop-row-2-test.false) in
+    c.loop-row-2.invariant.1 ∙ ap (λ k. (0 ∷ take least nodes) ++ reverse (drop k nodes)) last
+    ∙ ap (λ l. (0 ∷ l) ++ reverse (drop least nodes)) (take_least nodes fixed least is) ∙ ap (λ l. (0 ∷ take fixed nodes) ++ reverse l) (drop_least nodes fixed least is)

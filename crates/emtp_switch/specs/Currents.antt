@@ -1,0 +1,59 @@
+-- The currents of the switches.
+use Rattle.emtp_case.specs.RowOrder.{Rows}
+use Rattle.emtp_case.specs.declared.switch.Switch.{Switch}
+use Rattle.emtp_case.specs.declared.switch.SwitchState.{SwitchState}
+use Rattle.emtp_fix.specs.declared.limit.TheConstants.{LARGEST_VALUE}
+use Rattle.emtp_switch.specs.Groups.{alone, bridges_of, from_at, groups, root_of, to_at}
+use Rattle.std.specs.List.{filter, list_any, range_with_len}
+use Rattle.std.specs.Prelude.{◌<◌, ◌≤◌, ◌==◌, ◌+ℤ◌, zero, suc, if◌then◌else◌, Bool, List, length, map, neg_ℤ, not, pos, slice_index, slice_index_or, unsigned_abs, ℕ, ℤ}
+
+abbrev pub item : List ℤ → ℕ → ℤ
+item xs i = slice_index_or xs i (pos 0)
+
+-- the sum of what f gives below n
+abbrev pub total : ℕ → (ℕ → ℤ) → ℤ
+total zero f = pos 0
+total (suc n) f = total n f +ℤ f n
+
+-- what leaves the nodes that have a label, where what leaves each node goes by row
+abbrev pub leaving_side : Rows → List ℕ → ℕ → List ℤ → ℤ
+leaving_side rows labels l leaving =
+    total (length rows.nodes) (λ row. if slice_index labels (slice_index rows.nodes row) == l then item leaving row else pos 0)
+
+-- the current from one end to the other, by labels that part the ends: what leaves the side without the root
+abbrev pub crossing : Rows → List ℕ → ℕ → ℕ → ℕ → List ℤ → ℤ
+crossing rows labels root «from» to leaving =
+    if slice_index labels «from» == slice_index labels root
+    then leaving_side rows labels (slice_index labels to) leaving
+    else neg_ℤ (leaving_side rows labels (slice_index labels «from») leaving)
+
+-- the bridges but one
+abbrev pub others : ℕ → List ℕ → List ℕ
+others b es = filter (λ s. not (s == b)) es
+
+-- the current of a bridge b among the bridges es: it crosses between the two sides that the others alone make
+abbrev pub bridge_current : List Switch → Rows → List ℕ → List ℤ → ℕ → ℤ
+bridge_current switches rows es leaving b =
+    crossing rows
+    (groups switches (alone (length rows.nodes)) (others b es))
+    (root_of rows (groups switches (alone (length rows.nodes)) es) (from_at switches b))
+    (from_at switches b)
+    (to_at switches b)
+    leaving
+
+-- a number is in a list
+abbrev pub contains : List ℕ → ℕ → Bool
+contains es s = list_any (λ e. e == s) es
+
+-- the currents of all switches; an open or slack one has none
+abbrev pub currents_of : List Switch → Rows → List SwitchState → List ℤ → List ℤ
+currents_of switches rows states leaving =
+    map
+    (λ s. if contains (bridges_of switches rows states) s then bridge_current switches rows (bridges_of switches rows states) leaving s else pos 0)
+    (range_with_len 0 (length switches))
+
+-- the first current that exceeds its limit
+pub record IsFirstBeyond (currents : List ℤ) (s : ℕ) : Type 0 where
+  pub within : s < length currents
+  pub is : LARGEST_VALUE < unsigned_abs (item currents s)
+  pub earlier : (k : ℕ) → k < s → unsigned_abs (item currents k) ≤ LARGEST_VALUE
