@@ -3,9 +3,9 @@ use Rattle.emtp_case.specs.RowOrder.{Rows}
 use Rattle.emtp_case.specs.declared.switch.Switch.{Switch}
 use Rattle.emtp_case.specs.declared.switch.SwitchState.{SwitchState}
 use Rattle.emtp_fix.specs.declared.limit.TheConstants.{LARGEST_VALUE}
-use Rattle.emtp_switch.specs.Groups.{alone, bridges_of, from_at, groups, root_of, to_at}
+use Rattle.emtp_switch.specs.Groups.{alone, bridges_of, from_at, groups, labels_of, root_of, to_at}
 use Rattle.std.specs.List.{filter, list_any, range_with_len}
-use Rattle.std.specs.Prelude.{◌<◌, ◌≤◌, ◌==◌, ◌+ℤ◌, zero, suc, if◌then◌else◌, Bool, List, length, map, neg_ℤ, not, pos, slice_index, slice_index_or, unsigned_abs, ℕ, ℤ}
+use Rattle.std.specs.Prelude.{◌≡◌, ◌≢◌, ◌<◌, ◌≤◌, ◌==◌, ◌+ℤ◌, ◌-ℤ◌, zero, suc, if◌then◌else◌, Bool, List, length, map, neg_ℤ, not, pos, slice_index, slice_index_or, unsigned_abs, ℕ, ℤ}
 
 abbrev pub item : List ℤ → ℕ → ℤ
 item xs i = slice_index_or xs i (pos 0)
@@ -51,6 +51,24 @@ currents_of switches rows states leaving =
     map
     (λ s. if contains (bridges_of switches rows states) s then bridge_current switches rows (bridges_of switches rows states) leaving s else pos 0)
     (range_with_len 0 (length switches))
+
+-- Kirchhoff's law
+
+-- the part of a current from one end to the other that leaves a side, on which each end is or isn't
+abbrev pub leaving_by : Bool → Bool → ℤ → ℤ
+leaving_by from_in to_in i = (if from_in then i else pos 0) -ℤ (if to_in then i else pos 0)
+
+-- the current that leaves a node through all switches
+abbrev pub through_switches : List Switch → List ℤ → ℕ → ℤ
+through_switches switches currents node =
+    total (length switches) (λ s. leaving_by (from_at switches s == node) (to_at switches s == node) (item currents s))
+
+-- At each node but the roots, what leaves it through branches and what leaves it through switches cancel. A root with a
+-- known voltage takes what is left of its group; one without has its row to make it 0.
+abbrev pub Balances : List Switch → Rows → List SwitchState → List ℤ → List ℤ → Type 0
+Balances switches rows states leaving currents =
+    (row : ℕ) → row < length rows.nodes → slice_index rows.nodes row ≢ root_of rows (labels_of switches rows states) (slice_index rows.nodes row)
+    → item leaving row +ℤ through_switches switches currents (slice_index rows.nodes row) ≡ pos 0
 
 -- the first current that exceeds its limit
 pub record IsFirstBeyond (currents : List ℤ) (s : ℕ) : Type 0 where

@@ -6,7 +6,7 @@ ghost use Rattle.emtp_case.specs.RowOrder.{IsRowOrder};
 ghost use Rattle.emtp_case.specs.StepRecord.{StepRecord, rest_of, starting_state};
 ghost use Rattle.emtp_case.specs.declared.switch.Switch.{Switch as SwitchCard};
 ghost use Rattle.emtp_fix.specs.declared.limit.TheConstants.{LARGEST_VALUE};
-ghost use Rattle.emtp_switch.specs.Currents.{IsFirstBeyond, currents_of};
+ghost use Rattle.emtp_switch.specs.Currents.{Balances, IsFirstBeyond, currents_of};
 ghost use Rattle.emtp_switch.specs.Groups.{is_closed_at, tied_of};
 ghost use Rattle.emtp_switch.specs.Kinds.{kinds_of};
 ghost use Rattle.emtp_switch.specs.States.{next_states};
@@ -158,6 +158,7 @@ impl<'a> Switches<'a> {
         ensures value { IfOk result (λ done. out.new ≡ currents_of self.old.case.switches self.old.rows self.old.states leaving.now) }
         ensures small { IfOk result (λ done. All (λ i. unsigned_abs i ≤ LARGEST_VALUE) out.new) }
         ensures first { IfErr result (λ e. IsFirstBeyond (currents_of self.old.case.switches self.old.rows self.old.states leaving.now) e.switch) }
+        ensures kirchhoff { IfOk result (λ done. Balances self.old.case.switches self.old.rows self.old.states leaving.now out.new) }
         ensures same { self.new ≡ self.old }
     {
         load(leaving, &mut self.rest);
