@@ -7,8 +7,8 @@ use Rattle.std.proofs.lemmas.List.{get_or_default, take-append-drop}
 use Rattle.std.proofs.lemmas.List.Elements.{All-cons, All-head, All-tail, All-take, All-from_get_or}
 use Rattle.std.proofs.lemmas.List.FromFn.{get_or-map-range_with_len, length-range_with_len}
 use Rattle.std.proofs.lemmas.List.Sorted.{All-permutation, Contains-permutation, IsPermutation-append_right, IsPermutation-reverse}
-use Rattle.emtp_case.proofs.RowTables.{node_there}
-use Rattle.emtp_case.specs.RowOrder.{Rows, touches_switch}
+use Rattle.emtp_case.proofs.RowTables.{node_there, nodes_within}
+use Rattle.emtp_case.specs.RowOrder.{IsRowOrder, Rows, touches_switch}
 use Rattle.emtp_case.specs.declared.case.Parts.{Parts}
 use Rattle.emtp_case.specs.declared.row_kind.RowKind.{RowKind}
 use Rattle.emtp_case.specs.declared.switch.Switch.{Switch}
@@ -26,27 +26,33 @@ use Rattle.emtp_switch.proofs.GroupRoots.{alone_small, groups_small}
 use Rattle.emtp_switch.proofs.Plans.{once_each}
 
 -- each node stands in the rank
-pub ranked_is : (p : Parts) (rows : Rows) (plan : Plan) → IsPlan p rows plan → IsRanked rows plan.ranked.items
-ranked_is p rows plan is = subst (IsRanked rows) (sym is.ranked) (record {
+pub rank_is : (p : Parts) (rows : Rows) → IsRowOrder p rows → IsRanked rows (by_rank rows)
+rank_is p rows is = record {
   ranked_is = refl;
-  within = All-cons (λ k. k < n + 1) 0 ys (omega arith) (All-permutation (λ k. k < n + 1) rows.nodes ys moved (All-from_get_or (λ k. k < n + 1) rows.nodes 0 (λ i below. omega (arith, is.nodes_within i below))));
+  within = All-cons (λ k. k < n + 1) 0 ys (omega arith) (All-permutation (λ k. k < n + 1) rows.nodes ys moved (All-from_get_or (λ k. k < n + 1) rows.nodes 0 (λ i below. omega (arith, (nodes_within rows.nodes once i below).1))));
   each = λ x in_x. elim (cases_eq x 0) [
     | inl here ↦ (0, omega arith, sym here)
     | inr ne ↦
-        let (row, below, at) = node_there rows.nodes (once_each p rows is.order) x (omega arith) in_x in
+        let (row, below, at) = node_there rows.nodes once x (omega arith) in_x in
         let (k, inside, there) = Contains-permutation rows.nodes ys x moved (row, below, sym (get_or_default rows.nodes row 0 x below) ∙ at) in
         (suc k, omega arith, there)
   ];
-})
+}
   where
     n : ℕ
     n = length rows.nodes
+
+    once : IsPermutation (range_with_len 1 n) rows.nodes
+    once = once_each p rows is
 
     ys : List ℕ
     ys = take rows.fixed rows.nodes ++ reverse (drop rows.fixed rows.nodes)
 
     moved : IsPermutation rows.nodes ys
     moved = subst (λ l. IsPermutation l ys) (take-append-drop rows.fixed rows.nodes) (IsPermutation-append_right (take rows.fixed rows.nodes) (drop rows.fixed rows.nodes) (reverse (drop rows.fixed rows.nodes)) (IsPermutation-reverse (drop rows.fixed rows.nodes)))
+
+pub ranked_is : (p : Parts) (rows : Rows) (plan : Plan) → IsPlan p rows plan → IsRanked rows plan.ranked.items
+ranked_is p rows plan is = subst (IsRanked rows) (sym is.ranked) (rank_is p rows is.order)
 
 -- the labels are those of nodes
 pub labels_small : (switches : List Switch) (nodes : ℕ) (es labels : List ℕ) (room : ℕ) → AreWithin switches (nodes + 1) → labels ≡ groups switches (alone nodes) es → room ≡ nodes + 1
@@ -87,12 +93,12 @@ tied_found read switches rows states labels marks known tied same_switches label
 
 -- Kinds
 
-any_same : (f g : ℕ → Bool) (xs : List ℕ) → All (λ x. f x ≡ g x) xs → list_any f xs ≡ list_any g xs
+pub any_same : (f g : ℕ → Bool) (xs : List ℕ) → All (λ x. f x ≡ g x) xs → list_any f xs ≡ list_any g xs
 any_same f g [] all = refl
 any_same f g (x ∷ xs) all =
     ap (λ b. b || list_any f xs) (All-head (λ x. f x ≡ g x) x xs all) ∙ ap (λ b. g x || b) (any_same f g xs (All-tail (λ x. f x ≡ g x) x xs all))
 
-map_same : (f g : ℕ → RowKind) (xs : List ℕ) → All (λ x. f x ≡ g x) xs → map f xs ≡ map g xs
+pub map_same : (f g : ℕ → RowKind) (xs : List ℕ) → All (λ x. f x ≡ g x) xs → map f xs ≡ map g xs
 map_same f g [] all = refl
 map_same f g (x ∷ xs) all =
     ap (λ k. k ∷ map f xs) (All-head (λ x. f x ≡ g x) x xs all) ∙ ap (λ ks. g x ∷ ks) (map_same f g xs (All-tail (λ x. f x ≡ g x) x xs all))

@@ -1,0 +1,25 @@
+//! What is true of switches in the field's own words. The functions do nothing: their clauses are proved.
+
+ghost use Rattle.std.specs.Prelude.{◌≡◌, ℕ, List, length, map, true};
+ghost use Rattle.std.specs.List.Sorted.{IsPermutation};
+ghost use Rattle.emtp_case.specs.RowOrder.{IsRowOrder};
+ghost use Rattle.emtp_case.specs.StepRecord.{StepRecord, latest, switch_state_at};
+ghost use Rattle.emtp_case.specs.Switch.{is_time_switch};
+ghost use Rattle.emtp_switch.specs.Groups.{alone, closed_switches, groups, switch_at};
+ghost use Rattle.emtp_switch.specs.Kinds.{kind_of, kinds_of};
+ghost use Rattle.emtp_switch.specs.States.{MovesOn, next_state};
+
+use emtp_case::{Case, RowOrder, SwitchState};
+
+/// The kinds of the rows are the same in whatever order the closed switches are joined. So the order of the cards decides
+/// only which switch of a loop is slack, and never a voltage.
+pub fn kinds_in_any_order(case: &Case, order: &RowOrder, states: &[SwitchState])
+    requires order { IsRowOrder case.now.parts order.now }
+    ensures { (taken : List ℕ) → IsPermutation (closed_switches states.now) taken → kinds_of case.now.parts order.now states.now ≡ map (kind_of case.now.parts order.now (groups case.now.parts.switches (alone (length order.now.nodes)) taken)) order.now.nodes }
+{}
+
+/// A breaker goes one way, from waiting over closed to opened, by at most one change a step: it never closes again.
+pub fn breaker_goes_one_way(case: &Case, switch: usize)
+    requires breaker { is_time_switch (switch_at case.now.parts.switches switch) ≡ true }
+    ensures { (H : List StepRecord) → MovesOn (switch_state_at switch (latest H)) (next_state case.now.parts H switch) }
+{}
