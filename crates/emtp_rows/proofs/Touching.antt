@@ -3,7 +3,7 @@ use Rattle.std.proofs.Common.{◌≡◌, ◌≢◌, ◌∙◌, sym, ap, subst, m
 use Rattle.std.proofs.Math.Nat.{min-le_left, min-le_right}
 use Rattle.std.proofs.lemmas.Bool.{cases_eq, cases_lt, cases_Bool}
 use Rattle.std.proofs.lemmas.Bool.Decides.{nat_tests}
-use Rattle.std.proofs.lemmas.List.{ext_get_or, get_or-map, length-map, get_or-take, get_or_past}
+use Rattle.std.proofs.lemmas.List.{ext_get_or, get_or-map, length-map, get_or-take, length-take, take-take}
 use Rattle.std.proofs.lemmas.Option.{get_or_from_slice_get, slice_get-map, slice_get_cases, slice_get_read}
 use Rattle.emtp_elim.specs.Matrix.{Matrix, item, row_of}
 use Rattle.emtp_case.specs.Branch.{AreInThrees, IsBranch, IsPhase, first_of_trio, from_of, phase_at, phase_of, to_of}
@@ -17,7 +17,7 @@ use Rattle.emtp_case.specs.declared.row_kind.RowKind.TheVariants.{Kcl, Sum, Tie,
 use Rattle.emtp_rows.specs.Sums.{sum_below}
 use Rattle.emtp_rows.specs.Nodal.{Nodal, between, current_entry, entry_by, group_sum, is_member, is_tie_to, kind_at, node_at, nodal_matrix}
 use Rattle.emtp_rows.specs.Terms.{end_rows}
-use Rattle.emtp_rows.specs.Touched.{AgreesBy, NodalRows, Touches, equation_by, equation_row, row_at}
+use Rattle.emtp_rows.specs.Touched.{AgreesBy, NodalRows, StandsUntouched, Touches, equation_by, equation_row, row_at}
 use Rattle.emtp_rows.proofs.Between.{between_none}
 use Rattle.emtp_rows.proofs.NodalRows.{length-nodal_matrix, length-nodal_row, nodal_entry}
 use Rattle.emtp_rows.proofs.Orders.{is_number, row_at_is, row_at_within}
@@ -277,3 +277,17 @@ phases_later case kinds ends t row threes all are rows b p is line =
       | inl found ↦ found.1
       | inr past ↦ absurd (none_some x (sym past.1 ∙ is))
     ]
+
+-- rows that stand stay so where a change touches others
+pub stands_untouched : (old new : NodalRows) (rows : Matrix) → Touches old new → StandsUntouched old rows → StandsUntouched new rows
+stands_untouched old new rows touches stands = λ n before there.
+    take_less new.touched n (nodal_matrix new.nodal) (nodal_matrix old.nodal) before touches.before ∙ stands n (omega (arith, before, touches.earlier)) there
+  where
+    take_less : (m n : ℕ) (xs ys : Matrix) → n ≤ m → take m xs ≡ take m ys → take n xs ≡ take n ys
+    take_less m n xs ys less same = sym (take-take n m xs less) ∙ ap (take n) same ∙ take-take n m ys less
+
+-- all rows of the matrix stand
+pub all_stand : (s : NodalRows) (rows : Matrix) (m : ℕ) → rows ≡ take m (nodal_matrix s.nodal) → StandsUntouched s rows
+all_stand s rows m are = λ n before there.
+    let within : n ≤ m = omega (arith, there, ap length are, length-take m (nodal_matrix s.nodal), min-le_left m (length (nodal_matrix s.nodal))) in
+    sym (take-take n m (nodal_matrix s.nodal) within) ∙ ap (take n) (sym are)

@@ -1,6 +1,7 @@
 -- Which rows a change touches.
 use Rattle.std.specs.Prelude.{◌≡◌, ◌<◌, ◌≤◌, ℕ, ◌==◌, if◌then◌else◌, Bool, true, false, List, length, take}
 use Rattle.std.specs.List.{position_or_len}
+use Rattle.emtp_elim.specs.Matrix.{Matrix}
 use Rattle.emtp_case.specs.RowOrder.{order_of}
 use Rattle.emtp_case.specs.declared.case.Parts.{Parts}
 use Rattle.emtp_case.specs.declared.row_kind.RowKind.{RowKind}
@@ -17,6 +18,10 @@ pub record NodalRows : Type 0 where
 pub record Touches (old new : NodalRows) : Type 0 where
   pub earlier : new.touched ≤ old.touched
   pub before : take new.touched (nodal_matrix new.nodal) ≡ take new.touched (nodal_matrix old.nodal)
+
+-- these rows, as many as there are, are those of the matrix but for the touched ones: so they may be kept
+abbrev pub StandsUntouched : NodalRows → Matrix → Type 0
+StandsUntouched s rows = (n : ℕ) → n ≤ s.touched → n ≤ length rows → take n (nodal_matrix s.nodal) ≡ take n rows
 
 -- the row of a node, or the number of rows for ground, which has none
 abbrev pub row_at : Parts → ℕ → ℕ
