@@ -1,0 +1,8 @@
+pub mod Totals
+pub mod Orders
+pub mod Between
+pub mod TermSteps
+pub mod Filled
+pub mod NodalRows
+pub mod Touching
+pub mod Phases

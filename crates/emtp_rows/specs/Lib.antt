@@ -1,0 +1,4 @@
+pub mod Sums
+pub mod Nodal
+pub mod Touched
+pub mod Terms

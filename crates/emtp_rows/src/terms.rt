@@ -1,0 +1,212 @@
+//! Which terms the branches bring into the rows.
+
+ghost use Rattle.std.specs.Prelude.{◌≡◌, ◌≢◌, ◌<◌, ◌≤◌, ◌∷◌, [], ℕ, length, drop, map, slice_get, slice_index_or, slice_index, Some, IfOk, OnOk};
+ghost use Rattle.emtp_case.specs.Branch.{IsBranch, from_of, to_of, first_of_trio};
+ghost use Rattle.emtp_case.specs.RowOrder.{order_of};
+ghost use Rattle.emtp_case.specs.declared.branch.Branch.TheVariants.{Phase as OfPhase};
+ghost use Rattle.emtp_case.specs.Sizes.{sizes_of};
+ghost use Rattle.emtp_rows.specs.Nodal.{end_node, phase_node};
+ghost use Rattle.emtp_rows.specs.Terms.{Adds, HasTerms, HasAllTerms, AmountIsThere, NodeTerm, end_rows, end_terms, terms_at};
+ghost use Rattle.emtp_rows.specs.Touched.{row_at};
+
+use crate::term::{Amount, Term};
+use emtp_case::{Branch, Case, Items, Phase, RowOrder, Trio};
+use std::alloc::{AllocError, Global};
+
+/// The terms of each row.
+pub(crate) fn terms_of_rows(
+    alloc: Global,
+    case: &Case,
+    order: &RowOrder,
+) -> Result<Vec<Items<Term>>, AllocError>
+    requires order { order.now ≡ order_of case.now.parts }
+    ensures count { IfOk result (λ rows. length rows.items ≡ length case.now.parts.nodes) }
+    ensures terms { IfOk result (λ rows. HasAllTerms case.now.parts rows.items) }
+{
+    let mut rows = Vec::new(alloc);
+    for row in 0..case.parts.nodes.len() {
+        let terms = terms_of_node(alloc, case, order, order.node_at(row))?;
+        rows.push(Items::from_vec(terms))?;
+    }
+    Ok(rows)
+}
+
+/// The terms of all branches in the current equation of a node.
+fn terms_of_node(
+    alloc: Global,
+    case: &Case,
+    order: &RowOrder,
+    node: u32,
+) -> Result<Vec<Term>, AllocError>
+    requires order { order.now ≡ order_of case.now.parts }
+    requires node { node ≤ length case.now.parts.nodes }
+    ensures { IfOk result (λ terms. HasTerms case.now.parts node (length case.now.parts.branches) terms.items) }
+{
+    let mut terms = Vec::new(alloc);
+    for at in 0..case.parts.branches.len() {
+        add_branch(&mut terms, case, order, node, at)?;
+    }
+    Ok(terms)
+}
+
+/// Adds the terms of one branch in the current equation of a node.
+fn add_branch(
+    terms: &mut Vec<Term>,
+    case: &Case,
+    order: &RowOrder,
+    node: u32,
+    at: usize,
+) -> Result<(), AllocError>
+    requires order { order.now ≡ order_of case.now.parts }
+    requires node { node ≤ length case.now.parts.nodes }
+    requires there { at < length case.now.parts.branches }
+    ensures { OnOk result (Adds case.now.parts (terms_at case.now.parts node at) terms.old.items terms.new.items) }
+{
+    let branch = &case.parts.branches.as_slice()[at];
+    let (from, to) = branch.ends();
+    if from == node {
+        add_end(terms, case, order, at, false, branch)?;
+    } else if to == node {
+        add_end(terms, case, order, at, true, branch)?;
+    }
+    Ok(())
+}
+
+/// Adds the terms of one end of a branch.
+fn add_end(
+    terms: &mut Vec<Term>,
+    case: &Case,
+    order: &RowOrder,
+    at: usize,
+    second: bool,
+    branch: &Branch,
+) -> Result<(), AllocError>
+    requires order { order.now ≡ order_of case.now.parts }
+    requires there { slice_get case.now.parts.branches at ≡ Some branch.now }
+    requires fits { IsBranch case.now.parts.run (sizes_of case.now.parts) case.now.parts.points branch.now }
+    ensures { OnOk result (Adds case.now.parts (end_terms case.now.parts at second branch.now) terms.old.items terms.new.items) }
+{
+    let node = end_node(second, branch);
+    let b = at as u32;
+    add_term(terms, case, order, node, Amount::Own(b))?;
+    match branch {
+        Branch::Lumped(_) | Branch::Pseudo(_) => {
+            add_term(
+                terms,
+                case,
+                order,
+                end_node(!second, branch),
+                Amount::Turned(b),
+            )
+        }
+        Branch::Line(_) => Ok(()),
+        Branch::Phase(phase) => add_phases(terms, case, order, second, phase),
+    }
+}
+
+/// Adds the terms of the two other phases of a three-phase line, at one of its ends.
+fn add_phases(
+    terms: &mut Vec<Term>,
+    case: &Case,
+    order: &RowOrder,
+    second: bool,
+    phase: &Phase,
+) -> Result<(), AllocError>
+    requires order { order.now ≡ order_of case.now.parts }
+    requires trio { phase.now.trio < length case.now.parts.trios }
+    requires phase { phase.now.phase < 3 }
+    ensures { OnOk result (Adds case.now.parts (drop 1 (end_terms case.now.parts 0 second (OfPhase phase.now))) terms.old.items terms.new.items) }
+{
+    let coupling = Amount::Mutual(phase.trio);
+    let next = phase_node(case, second, phase.trio, (phase.phase + 1) % 3);
+    add_term(terms, case, order, next, coupling)?;
+    let last = phase_node(case, second, phase.trio, (phase.phase + 2) % 3);
+    add_term(terms, case, order, last, coupling)
+}
+
+/// The node of a phase of a three-phase line, at one of its ends.
+fn phase_node(case: &Case, second: bool, trio: u32, phase: u8) -> u32
+    requires trio { trio < length case.now.parts.trios }
+    requires phase { phase < 3 }
+    ensures value { result ≡ phase_node case.now.parts second trio phase }
+    ensures there { result ≤ length case.now.parts.nodes }
+{
+    let first = first_of_trio(case.parts.trios.as_slice(), trio) as usize;
+    end_at(
+        case.parts.branches.as_slice(),
+        second,
+        first + phase as usize,
+    )
+}
+
+fn first_of_trio(trios: &[Trio], trio: u32) -> u32
+    requires { trio < length trios.now }
+    ensures { result ≡ first_of_trio trios.now trio }
+{
+    trios[trio as usize].first
+}
+
+fn end_at(branches: &[Branch], second: bool, at: usize) -> u32
+    requires { at < length branches.now }
+    ensures { result ≡ slice_index_or (map (end_node second) branches.now) at 0 }
+{
+    end_node(second, &branches[at])
+}
+
+/// The node at an end of a branch.
+fn end_node(second: bool, branch: &Branch) -> u32
+    ensures { result ≡ end_node second branch.now }
+{
+    let (from, to) = branch.ends();
+    if second { to } else { from }
+}
+
+/// Adds a number in the column of a node; ground has no column.
+fn add_term(
+    terms: &mut Vec<Term>,
+    case: &Case,
+    order: &RowOrder,
+    node: u32,
+    amount: Amount,
+) -> Result<(), AllocError>
+    requires order { order.now ≡ order_of case.now.parts }
+    requires node { node ≤ length case.now.parts.nodes }
+    requires amount { AmountIsThere (length case.now.parts.branches) (length case.now.parts.trios) amount }
+    ensures { OnOk result (Adds case.now.parts (record { node = node; amount = amount } ∷ []) terms.old.items terms.new.items) }
+{
+    if node != 0 {
+        let column = order.row_of(node) as u32;
+        terms.push(Term { column, amount })?;
+    }
+    Ok(())
+}
+
+/// The rows of the two nodes of each branch; ground has the number of rows.
+pub(crate) fn ends_of_branches(
+    alloc: Global,
+    case: &Case,
+    order: &RowOrder,
+) -> Result<Vec<(u32, u32)>, AllocError>
+    requires { order.now ≡ order_of case.now.parts }
+    ensures { IfOk result (λ ends. ends.items ≡ map (end_rows case.now.parts) case.now.parts.branches) }
+{
+    let mut ends = Vec::new(alloc);
+    for branch in case.parts.branches.as_slice() {
+        let (from, to) = branch.ends();
+        ends.push((row_at(case, order, from), row_at(case, order, to)))?;
+    }
+    Ok(ends)
+}
+
+/// The row of a node, or the number of rows for ground.
+fn row_at(case: &Case, order: &RowOrder, node: u32) -> u32
+    requires order { order.now ≡ order_of case.now.parts }
+    requires node { node ≤ length case.now.parts.nodes }
+    ensures { result ≡ row_at case.now.parts node }
+{
+    if node == 0 {
+        case.parts.nodes.len() as u32
+    } else {
+        order.row_of(node) as u32
+    }
+}

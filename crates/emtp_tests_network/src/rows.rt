@@ -1,0 +1,275 @@
+//! The rows of one network with all kinds of rows, worked out by hand.
+
+ghost use Rattle.std.specs.Prelude.{◌≡◌, ◌<◌, ◌≤◌, length, unsigned_abs, IfOk, IfErr, OnOk};
+ghost use Rattle.emtp_fix.specs.declared.limit.TheConstants.{LARGEST_ENTRY};
+ghost use Rattle.emtp_case.specs.Branch.{IsLine, IsLumped, IsTrio};
+ghost use Rattle.emtp_case.specs.Case.{empty_parts};
+ghost use Rattle.emtp_case.specs.Range.{AreEnds};
+ghost use Rattle.emtp_case.specs.RowOrder.{order_of};
+ghost use Rattle.emtp_case.specs.HistoryValues.{branch_history_values, trio_history_values};
+ghost use Rattle.emtp_case.specs.Sizes.{sizes_with};
+ghost use Rattle.emtp_case.specs.Source.{IsSource};
+ghost use Rattle.emtp_elim.specs.Fault.{IsRowFault};
+ghost use Rattle.emtp_rows.specs.Nodal.{nodal_matrix};
+ghost use Rattle.emtp_rows.specs.Touched.{StandsUntouched};
+
+use emtp_case::{
+    Branch, Case, Draft, Line, Lumped, Name, Phase, RowKind, RunData, Shape, Source, Trio, order,
+};
+use emtp_elim::{RowFault, Rows};
+use emtp_fix::Steps;
+use emtp_rows::NetRows;
+use emtp_tail::Kept;
+use std::alloc::{AllocError, Global};
+use std::sync::ledger::Ledger;
+use std::test::Fail;
+
+/// Gives a branch another conductance, and redoes the kept factor from the first row that changed; rows before the
+/// first touched one are neither filled nor compared.
+pub fn follow<L: Ledger>(
+    rows: &mut NetRows<'_>,
+    kept: &mut Kept,
+    branch: usize,
+    g: i64,
+    steps: &mut Steps<L>,
+) -> Result<(), RowFault>
+    requires there { branch < length rows.old.nodal.case.branches }
+    requires small { unsigned_abs g ≤ LARGEST_ENTRY }
+    requires size { kept.old.size ≡ length (nodal_matrix rows.old.nodal) }
+    requires stands { StandsUntouched rows.old kept.old.rows }
+    ensures stands { StandsUntouched rows.new kept.new.rows }
+    ensures good { OnOk result (kept.new.rows ≡ nodal_matrix rows.new.nodal) }
+    ensures fault { IfErr result (λ fault. IsRowFault (nodal_matrix rows.new.nodal) fault.row fault.cause) }
+{
+    rows.set_conductance(branch, g);
+    let from = rows.take_touched().min(kept.good());
+    let first = kept.changed_from(&*rows, from);
+    kept.update_from(&*rows, first, steps)
+}
+
+// A network: a resistance from SRC to MID and one from MID to ground, a line from MID to END, and a three-phase line
+// from END, B and C to ground. Its rows are SRC, which has a source, then B, C, END and MID by their number of ends.
+
+const RUN: RunData = RunData {
+    dt: 100_000_000,
+    steps: 3,
+    every: 1,
+    tolerance: 10_000_000,
+};
+
+/// 1 ohm from SRC to MID.
+#[tactic(auto, unfolding(emtp_fix::specs::Rounding::near, emtp_fix::specs::Rounding::near_abs, emtp_case::specs::Branch::capacitor_impedance))]
+fn lead() -> Lumped
+    ensures { IsLumped RUN (sizes_with 5) result }
+{
+    Lumped {
+        line: 4,
+        from: 1,
+        to: 2,
+        r: 1_000_000,
+        l: 0,
+        c: 0,
+    }
+}
+
+/// 1 ohm from MID to ground.
+#[tactic(auto, unfolding(emtp_fix::specs::Rounding::near, emtp_fix::specs::Rounding::near_abs, emtp_case::specs::Branch::capacitor_impedance))]
+fn load() -> Lumped
+    ensures { IsLumped RUN (sizes_with 5) result }
+{
+    Lumped {
+        line: 5,
+        from: 2,
+        to: 0,
+        r: 1_000_000,
+        l: 0,
+        c: 0,
+    }
+}
+
+/// 300 ohm from MID to END.
+#[tactic(auto, unfolding(emtp_fix::specs::Rounding::near, emtp_fix::specs::Rounding::near_abs))]
+fn line() -> Line
+    ensures fits { IsLine RUN (sizes_with 5) result }
+    ensures history { branch_history_values RUN.dt (Branch.Line result) ≡ 22 }
+{
+    Line {
+        line: 6,
+        from: 2,
+        to: 3,
+        zc: 300_000_000,
+        r: 4_000_000,
+        delay: 1_000_000_000,
+    }
+}
+
+fn modes() -> Trio
+    ensures fits { IsTrio RUN result }
+    ensures history { trio_history_values RUN.dt result ≡ 108 }
+{
+    Trio {
+        first: 0,
+        zc: [500_000_000, 300_000_000],
+        r: [8_000_000, 4_000_000],
+        delay: [2_000_000_000, 1_000_000_000],
+    }
+}
+
+/// A phase from a node to ground.
+fn phase(node: u32) -> Phase
+    requires { (1 ≤ node) × (node ≤ 5) }
+    ensures { AreEnds 5 result.from result.to }
+{
+    Phase {
+        line: 7,
+        from: node,
+        to: 0,
+        trio: 0,
+        phase: 0,
+    }
+}
+
+/// 100 V at SRC.
+fn battery() -> Source
+    ensures { IsSource (sizes_with 5) result }
+{
+    Source {
+        line: 8,
+        node: 1,
+        current: false,
+        shape: Shape::Step,
+        amplitude: 100_000_000_000,
+        start: 0,
+        stop: None,
+    }
+}
+
+/// The five nodes.
+fn nodes(alloc: Global) -> Result<Draft, AllocError>
+    ensures count { IfOk result (λ draft. length draft.parts.nodes ≡ 5) }
+    ensures rest { IfOk result (λ draft. draft.parts ≡ record (empty_parts RUN) { nodes = draft.parts.nodes }) }
+{
+    let mut draft = Draft::new(alloc, RUN)?;
+    draft.add_node(Name::new(b"SRC"))?;
+    draft.add_node(Name::new(b"MID"))?;
+    draft.add_node(Name::new(b"END"))?;
+    draft.add_node(Name::new(b"B"))?;
+    draft.add_node(Name::new(b"C"))?;
+    Ok(draft)
+}
+
+/// The network, its branches in this order: the line, the three phases, the lead and the load.
+fn network(alloc: Global, line: Line, modes: Trio) -> Result<Case, AllocError>
+    requires line { IsLine RUN (sizes_with 5) line }
+    requires travel { branch_history_values RUN.dt (Branch.Line line) ≡ 22 }
+    requires modes { IsTrio RUN modes }
+    requires travels { trio_history_values RUN.dt modes ≡ 108 }
+    ensures nodes { IfOk result (λ case. length case.parts.nodes ≡ 5) }
+    ensures branches { IfOk result (λ case. length case.parts.branches ≡ 6) }
+    ensures trios { IfOk result (λ case. length case.parts.trios ≡ 1) }
+{
+    let mut draft = nodes(alloc)?;
+    draft.add_branch(Branch::Line(line))?;
+    draft.add_trio(modes, phase(3), phase(4), phase(5))?;
+    draft.add_lumped(lead())?;
+    draft.add_lumped(load())?;
+    draft.add_source(battery())?;
+    Ok(draft.finish_network())
+}
+
+/// 1 in a row.
+const P: i128 = 1_000_000_000_000;
+
+fn has_rows(rows: &NetRows<'_>, expected: [[i128; 5]; 5]) -> bool {
+    if rows.size() != 5 {
+        return false;
+    }
+    for i in 0..5 {
+        let mut out = [0; 5];
+        rows.row(i, &mut out);
+        if out != expected[i] {
+            return false;
+        }
+    }
+    true
+}
+
+/// Gives each branch its conductance, and the phases their mutual one.
+fn set_all(rows: &mut NetRows<'_>)
+    requires branches { length rows.old.nodal.case.branches ≡ 6 }
+    requires trios { length rows.old.nodal.case.trios ≡ 1 }
+    ensures { rows.new.nodal.case ≡ rows.old.nodal.case }
+{
+    rows.set_conductance(0, 30);
+    rows.set_conductance(1, 41);
+    rows.set_conductance(2, 42);
+    rows.set_conductance(3, 43);
+    rows.set_conductance(4, 10);
+    rows.set_conductance(5, 20);
+    rows.set_mutual(0, -5);
+}
+
+/// B and MID in one group, whose sum is the row of MID; C at ground; END tied to the source.
+const JOINED: [RowKind; 5] = [
+    RowKind::Source,
+    RowKind::Tie(4),
+    RowKind::Ground,
+    RowKind::Tie(0),
+    RowKind::Sum,
+];
+
+/// Gives the rows the kinds of the joined nodes.
+fn join(rows: &mut NetRows<'_>)
+    requires nodes { length rows.old.nodal.case.nodes ≡ 5 }
+    requires fixed { (order_of rows.old.nodal.case).fixed ≡ 1 }
+    ensures { rows.new.nodal.case ≡ rows.old.nodal.case }
+{
+    rows.set_kinds(&JOINED);
+}
+
+#[test]
+fn rows_of_all_kinds(rt: HostRuntime) -> Result<(), Fail> {
+    let case = network(rt.alloc(), line(), modes())?;
+    let order = order(rt.alloc(), &case)?;
+    let mut rows = NetRows::open(rt.alloc(), &case, &order)?;
+    assert!(rt; rows.fixed() == 1);
+    assert!(rt;
+        has_rows(
+            &rows,
+            [
+                [P, 0, 0, 0, 0],
+                [0, 0, 0, 0, 0],
+                [0, 0, 0, 0, 0],
+                [0, 0, 0, 0, 0],
+                [0, 0, 0, 0, 0],
+            ]
+        )
+    );
+    set_all(&mut rows);
+    assert!(rt;
+        has_rows(
+            &rows,
+            [
+                [P, 0, 0, 0, 0],
+                [0, 42, -5, -5, 0],
+                [0, -5, 43, -5, 0],
+                [0, -5, -5, 71, 0],
+                [-10, 0, 0, 0, 60],
+            ]
+        )
+    );
+    join(&mut rows);
+    assert!(rt;
+        has_rows(
+            &rows,
+            [
+                [P, 0, 0, 0, 0],
+                [0, P, 0, 0, -P],
+                [0, 0, P, 0, 0],
+                [-P, 0, 0, P, 0],
+                [-10, 42, -5, -5, 60],
+            ]
+        )
+    );
+    Ok(())
+}
