@@ -2,8 +2,8 @@
 //! segments, as an arrester and a transformer that saturates.
 //!
 //! Within a step such a branch stays on one segment, so over the step it is a conductance beside a history current, as a
-//! linear branch is; the record decides the segment of the next step (EMTP in outline). The crate stands on `emtp_fix` and
-//! `emtp_case`; the network's step stands on it.
+//! linear branch is; what the step ends with decides the segment of the next one (EMTP Theory Book in outline, the rule of
+//! change is this project's own). The crate stands on `emtp_fix` and `emtp_case`; the network's step stands on it.
 //!
 //! ```text
 //! let mut pseudos = Pseudos::open(alloc, &case)?;
