@@ -11,4 +11,6 @@ mod hist;
 #[cfg(test)]
 mod lumped;
 #[cfg(test)]
+mod pseudo;
+#[cfg(test)]
 mod wave;

@@ -1,0 +1,4 @@
+pub mod Segments
+pub mod Holding
+pub mod Chain
+pub mod Odd

@@ -1,0 +1,30 @@
+use Rattle.std.proofs.Common.{◌∙◌, ap, Option, Some, option_map, ◌<◌, unsigned_abs, arith, rules, FitsSigned}
+use mir.Syntax.{w64, w128}
+use Rattle.std.proofs.lemmas.Int.{ints, to_z-of_z}
+use Rattle.emtp_case.specs.declared.branch.PseudoState.{PseudoState}
+use Rattle.emtp_pseudo.specs.Held.{moment_at}
+use Rattle.emtp_pseudo.specs.declared.moment.Moment.{Moment}
+use Rattle.emtp_pseudo.proofs.Holding.{after_within}
+use Rattle.emtp_pseudo.proofs.held.HeldBranch.after.Goals as goal
+
+pub with-requires-clause-within : goal.with-requires-clause-within
+with-requires-clause-within c = after_within c.args.case.now.parts c.args.self.now.card c.args.self.now _ c.in_ok-state.state.segment c.requires.card c.requires.held c.in_ok-state.ensures.segment
+
+pub with-requires-clause-moment : goal.with-requires-clause-moment
+with-requires-clause-moment c =
+    let v : FitsSigned w128 c.args.v = c.ranges.v in
+    let within : unsigned_abs c.in_ok-state.state.segment < c.args.self.now.card.count = after_within c.args.case.now.parts c.args.self.now.card c.args.self.now _ c.in_ok-state.state.segment c.requires.card c.requires.held c.in_ok-state.ensures.segment in
+    record {
+      current = c.in_ok-state.ensures.current;
+      segment = omega (arith, within, c.requires.card.few);
+      flux = c.in_ok-state.ensures.flux;
+      voltage = omega (arith, ints, c.requires.v);
+    }
+
+pub returns-clause-value : goal.returns-clause-value
+returns-clause-value c =
+    let v : FitsSigned w128 c.args.v = c.ranges.v in
+    let dt : FitsSigned w64 c.args.case.now.parts.run.dt = search rules in
+    let moment = simp to_z-of_z at c.with.ensures.moment in
+    let value = simp to_z-of_z at c.in_ok-state.ensures.value in
+    ap (λ (m : Moment). Some m) moment ∙ ap (λ (o : Option PseudoState). option_map (moment_at c.args.v) o) value
