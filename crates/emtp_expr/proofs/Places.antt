@@ -12,7 +12,7 @@ use Rattle.std.specs.List.{starts_with}
 use Rattle.emtp_card.specs.Number.{read_number_of}
 use Rattle.emtp_card.specs.declared.reason.Why.{Why}
 use Rattle.emtp_expr.specs.Number.{number_read, number_word, word_of}
-use Rattle.emtp_expr.specs.Words.{Placed, dotted, dotted_words, first_mark, first_of, function_or_name, functions, mark, mark_of, marks, name_length, name_word, number_length, placed, taken, word_at, word_or, words_from, words_of}
+use Rattle.emtp_expr.specs.Words.{Placed, dotted, dotted_words, first_mark, begun_with, function_or_name, functions, mark, mark_in, marks, name_length, name_word, number_length, placed, taken, word_at, word_or, words_from, words_of}
 use Rattle.emtp_expr.specs.declared.words.Taken.{Taken}
 use Rattle.emtp_expr.specs.declared.words.Word.{Word}
 use Rattle.emtp_expr.specs.declared.words.Word.TheVariants.{Number, Name, Function as FunctionWord, Operator as OperatorWord, Not as NotWord, Open as OpenWord, Close as CloseWord, Nothing as NothingWord}
@@ -21,9 +21,9 @@ use Rattle.std.specs.Str.{bytes_eq}
 use Rattle.emtp_case.specs.Expr.{FitsPlaces}
 use Rattle.emtp_case.specs.declared.expr.BinaryOp.TheVariants.{And, Or}
 use Rattle.emtp_case.specs.declared.expr.Node.{Node}
-use Rattle.emtp_expr.specs.Grammar.{Atom, Constant, Place, atom_node, AFactor, ANot, ARelation, ASum, ATerm, AnAnd, AnOr, Level, Symbol, Value, Function, Operator, Not, Open, Close, Nothing, Tree, Leaf, Unary, Binary, negated, nodes_of, Spells, or_one, or_more, and_one, and_more, nots, relation_one, relation_two, sum_one, sum_plus, sum_minus, sum_more, term_one, term_more, value, group, call}
+use Rattle.emtp_expr.specs.Grammar.{Atom, Constant, Place, atom_node, AFactor, ANot, ARelation, ASum, ATerm, AnAnd, AnOr, Level, Symbol, Value, Function, Operator, Not, Open, Close, Nothing, Tree, Leaf, Unary, Binary, negated, postfix, Phrase, or_one, or_more, and_one, and_more, nots, relation_one, relation_two, sum_one, sum_plus, sum_minus, sum_more, term_one, term_more, value, group, call}
 
--- a symbol's place is below a number, and a number is a kept one
+-- a symbol's place is below a number, and a number is in range
 abbrev pub FitsSymbol : ℕ → Symbol → Type 0
 FitsSymbol n (Value (Constant x)) = IsBetween 0 (10 ^ 18) x
 FitsSymbol n (Value (Place p)) = p < n
@@ -56,7 +56,7 @@ negated_fits : (n k : ℕ) (t : Tree) → TreeFits n t → TreeFits n (negated k
 negated_fits n zero t h = h
 negated_fits n (suc k) t h = negated_fits n k t h
 
-pub tree_fits : (n : ℕ) (level : Level) {d : ℕ} {a : List Symbol} {t : Tree} → Spells level d a t → AllFit n a → TreeFits n t
+pub tree_fits : (n : ℕ) (level : Level) {d : ℕ} {a : List Symbol} {t : Tree} → Phrase level d a t → AllFit n a → TreeFits n t
 tree_fits n AnOr (or_one h) fit = tree_fits n AnAnd h fit
 tree_fits n AnOr (or_more {a = a} {b = b} h g) fit = (tree_fits n AnOr h (fit_left n a (Operator Or ∷ b) fit), tree_fits n AnAnd g (fit_right n a (Operator Or ∷ b) fit).1)
 tree_fits n AnAnd (and_one h) fit = tree_fits n ANot h fit
@@ -81,11 +81,11 @@ atom_fits : (n : ℕ) (atom : Atom) → FitsSymbol n (Value atom) → FitsPlaces
 atom_fits n (Constant x) h = h
 atom_fits n (Place p) h = h
 
-pub nodes_fit : (n : ℕ) (t : Tree) → TreeFits n t → All (FitsPlaces n) (nodes_of t)
+pub nodes_fit : (n : ℕ) (t : Tree) → TreeFits n t → All (FitsPlaces n) (postfix t)
 nodes_fit n (Leaf atom) h = one n (atom_node atom) (atom_fits n atom h)
-nodes_fit n (Unary op t) h = All-push (FitsPlaces n) (nodes_of t) (UnaryNode op) (nodes_fit n t h) tt
+nodes_fit n (Unary op t) h = All-push (FitsPlaces n) (postfix t) (UnaryNode op) (nodes_fit n t h) tt
 nodes_fit n (Binary op t u) h =
-    All-append (FitsPlaces n) (nodes_of t) (nodes_of u ++ BinaryNode op ∷ []) (nodes_fit n t h.0) (All-push (FitsPlaces n) (nodes_of u) (BinaryNode op) (nodes_fit n u h.1) tt)
+    All-append (FitsPlaces n) (postfix t) (postfix u ++ BinaryNode op ∷ []) (nodes_fit n t h.0) (All-push (FitsPlaces n) (postfix u) (BinaryNode op) (nodes_fit n u h.1) tt)
 
 -- names only grow, and a name's place is among them
 place_step : (b : Bool) (rest len : ℕ) → (b ≡ false → rest < len) → (if not b then suc rest else 0) < suc len
@@ -126,9 +126,9 @@ or_small : (o : Option Taken) (t : Taken) → SmallOption o → SmallWord t.word
 or_small None t h g = g
 or_small (Some x) t h g = h
 
-first_small : (table : List (List ℕ × Word)) (text : List ℕ) → SmallTable table → SmallOption (first_of table text)
+first_small : (table : List (List ℕ × Word)) (text : List ℕ) → SmallTable table → SmallOption (begun_with table text)
 first_small [] text h = tt
-first_small (entry ∷ table) text h = if_option (starts_with nat_eq text entry.0) (taken entry.1 (length entry.0)) (first_of table text) h.0 (first_small table text h.1)
+first_small (entry ∷ table) text h = if_option (starts_with nat_eq text entry.0) (taken entry.1 (length entry.0)) (begun_with table text) h.0 (first_small table text h.1)
 
 dotted_small : (text : List ℕ) → SmallOption (dotted text)
 unfolding dotted
@@ -142,9 +142,9 @@ name_small : (text : List ℕ) → SmallWord (name_word text)
 unfolding name_word
 name_small text = named_small functions text
 
-marked_small : (table : List (ℕ × Word)) (byte : ℕ) → SmallTable table → SmallWord (mark_of table byte)
+marked_small : (table : List (ℕ × Word)) (byte : ℕ) → SmallTable table → SmallWord (mark_in table byte)
 marked_small [] byte h = tt
-marked_small (entry ∷ table) byte h = if_small (byte == entry.0) entry.1 (mark_of table byte) h.0 (marked_small table byte h.1)
+marked_small (entry ∷ table) byte h = if_small (byte == entry.0) entry.1 (mark_in table byte) h.0 (marked_small table byte h.1)
 
 mark_small : (text : List ℕ) → SmallWord (first_mark text)
 unfolding mark

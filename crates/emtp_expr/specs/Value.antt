@@ -22,33 +22,33 @@ truth holds = if holds then NANO else pos 0
 abbrev pub is_true : ℤ → Bool
 is_true x = int_lt (pos 0) x
 
-abbrev pub root : ℤ → Option ℤ
-root x = if int_lt x (pos 0) then None else in_range (isqrt (x *ℤ NANO))
+abbrev pub square_root : ℤ → Option ℤ
+square_root x = if int_lt x (pos 0) then None else in_range (isqrt (x *ℤ NANO))
 
 -- without the decimals
 abbrev pub whole : ℤ → ℤ
 whole (pos x) = pos (x / unsigned_abs NANO * unsigned_abs NANO)
 whole (negsuc x) = neg_ℤ (pos ((x + 1) / unsigned_abs NANO * unsigned_abs NANO))
 
-abbrev pub sign : ℤ → ℤ
-sign x = if int_lt (pos 0) x then NANO else if int_lt x (pos 0) then neg_ℤ NANO else pos 0
+abbrev pub signum : ℤ → ℤ
+signum x = if int_lt (pos 0) x then NANO else if int_lt x (pos 0) then neg_ℤ NANO else pos 0
 
 unfoldable pub unary : UnaryOp → ℤ → Option ℤ
 unary Minus x = Some (neg_ℤ x)
 unary Not x = Some (truth (not (is_true x)))
 unary Abs x = Some (pos (unsigned_abs x))
-unary Sqrt x = root x
+unary Sqrt x = square_root x
 unary Trunc x = Some (whole x)
-unary Sign x = Some (sign x)
+unary Sign x = Some (signum x)
 
-abbrev pub quotient : ℤ → ℤ → Option ℤ
-quotient a b = if int_eq b (pos 0) then None else in_range (near (a *ℤ NANO) b)
+abbrev pub divided : ℤ → ℤ → Option ℤ
+divided a b = if int_eq b (pos 0) then None else in_range (near (a *ℤ NANO) b)
 
 unfoldable pub binary : BinaryOp → ℤ → ℤ → Option ℤ
 binary Add a b = in_range (a +ℤ b)
 binary Sub a b = in_range (a -ℤ b)
 binary Mul a b = in_range (near (a *ℤ b) NANO)
-binary Div a b = quotient a b
+binary Div a b = divided a b
 binary Gt a b = Some (truth (int_lt b a))
 binary Ge a b = Some (truth (not (int_lt a b)))
 binary Lt a b = Some (truth (int_lt a b))
@@ -64,7 +64,7 @@ abbrev pub push_value : List ℤ → Option ℤ → Option (List ℤ)
 push_value stack None = None
 push_value stack (Some x) = Some (x ∷ stack)
 
--- the stack of values after a node, the newest first; none where a value is out of range (or there are too few)
+-- the stack of values after a node, the newest first; none where a value is out of range or there are too few
 abbrev pub after : List ℤ → Node → List ℤ → Option (List ℤ)
 after values (Number x) stack = Some (x ∷ stack)
 after values (Var place) stack = Some (slice_index_or values place (pos 0) ∷ stack)
@@ -88,11 +88,11 @@ only (Some (x ∷ stack)) = Some x
 unfoldable pub value : List ℤ → List Node → Option ℤ
 value values nodes = only (after_all values nodes (Some []))
 
-abbrev pub AreSmall : List ℤ → Type 0
-AreSmall values = All (λ x. unsigned_abs x ≤ LARGEST_VALUE) values
+abbrev pub AreInRange : List ℤ → Type 0
+AreInRange values = All (λ x. unsigned_abs x ≤ LARGEST_VALUE) values
 
 -- there are the values that a node works on, and room for the one that it gives
-pub record HasRoom (node : Node) (stack : List ℤ) : Type 0 where
+pub record CanCompute (node : Node) (stack : List ℤ) : Type 0 where
   pub next : ℕ
   pub room : height_after node (length stack) ≡ Some next
 
@@ -105,7 +105,7 @@ abbrev pub Evaluates : {E : Type 0} → Result ℤ E → Option ℤ → Type 0
 Evaluates (Ok x) defined = (defined ≡ Some x) × (unsigned_abs x ≤ LARGEST_VALUE)
 Evaluates (Err e) defined = defined ≡ None
 
--- the values that are kept: so many, and small ones
-pub record AreKept (values : List ℤ) : Type 0 where
+-- a stack of values: so many, and each in range
+pub record IsStack (values : List ℤ) : Type 0 where
   pub few : length values ≤ MOST_VALUES
-  pub small : AreSmall values
+  pub small : AreInRange values

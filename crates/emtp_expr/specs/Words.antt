@@ -29,13 +29,13 @@ dotted_words =
     ∷ []
 
 -- the first word of a table with which a text begins
-abbrev pub first_of : List (List ℕ × Word) → List ℕ → Option Taken
-first_of [] text = None
-first_of (entry ∷ table) text = if starts_with nat_eq text entry.0 then Some (taken entry.1 (length entry.0)) else first_of table text
+abbrev pub begun_with : List (List ℕ × Word) → List ℕ → Option Taken
+begun_with [] text = None
+begun_with (entry ∷ table) text = if starts_with nat_eq text entry.0 then Some (taken entry.1 (length entry.0)) else begun_with table text
 
 -- the dotted word in front
 unfoldable pub dotted : List ℕ → Option Taken
-dotted text = first_of dotted_words text
+dotted text = begun_with dotted_words text
 
 abbrev pub digit_count : List ℕ → ℕ
 digit_count text = length (take_while is_ascii_digit text)
@@ -43,7 +43,7 @@ digit_count text = length (take_while is_ascii_digit text)
 abbrev pub letter_count : List ℕ → ℕ
 letter_count text = length (take_while is_ascii_alphanumeric text)
 
--- the bytes of a point and the digits behind it; the point of a dotted word is part of no number
+-- the bytes of a point and the digits after it; the point of a dotted word is part of no number
 unfoldable pub fraction_length : List ℕ → ℕ
 fraction_length [] = 0
 fraction_length (byte ∷ bytes) = if (byte == 46) && is_none (dotted (byte ∷ bytes)) then 1 + digit_count bytes else 0
@@ -96,12 +96,12 @@ name_word text = function_or_name functions text
 abbrev pub marks : List (ℕ × Word)
 marks = (43, Operator Add) ∷ (45, Operator Sub) ∷ (42, Operator Mul) ∷ (47, Operator Div) ∷ (40, Open) ∷ (41, Close) ∷ []
 
-abbrev pub mark_of : List (ℕ × Word) → ℕ → Word
-mark_of [] byte = Nothing
-mark_of (entry ∷ table) byte = if byte == entry.0 then entry.1 else mark_of table byte
+abbrev pub mark_in : List (ℕ × Word) → ℕ → Word
+mark_in [] byte = Nothing
+mark_in (entry ∷ table) byte = if byte == entry.0 then entry.1 else mark_in table byte
 
 unfoldable pub mark : ℕ → Word
-mark byte = mark_of marks byte
+mark byte = mark_in marks byte
 
 abbrev pub first_mark : List ℕ → Word
 first_mark [] = Nothing
@@ -127,7 +127,7 @@ pub record Placed : Type 0 where
 abbrev pub placed : Word → ℕ → Placed
 placed word column = record { word = word; column = column }
 
--- the words of a text from a column on, behind bytes that belong to the word before
+-- the words of a text from a column on, after bytes that belong to the word before
 unfoldable pub words_from : ℕ → ℕ → List ℕ → List Placed
 words_from skip column [] = []
 words_from (suc skip) column (byte ∷ bytes) = words_from skip (column + 1) bytes

@@ -5,7 +5,7 @@ ghost use Rattle.std.specs.Ordering.{int_eq};
 ghost use Rattle.emtp_fix.specs.Limit.{in_range};
 ghost use Rattle.emtp_fix.specs.Rounding.{near};
 ghost use Rattle.emtp_fix.specs.declared.limit.TheConstants.{LARGEST_VALUE, NANO};
-ghost use Rattle.emtp_expr.specs.Value.{binary, quotient, root, sign, truth, unary, whole};
+ghost use Rattle.emtp_expr.specs.Value.{binary, divided, signum, square_root, truth, unary, whole};
 
 use emtp_case::{BinaryOp, UnaryOp};
 use emtp_fix::{NANO, in_range, isqrt, scaled};
@@ -19,9 +19,9 @@ fn truth(holds: bool) -> i64
     if holds { ONE } else { 0 }
 }
 
-fn root(x: i64) -> Option<i64>
+fn square_root(x: i64) -> Option<i64>
     requires { unsigned_abs x ≤ LARGEST_VALUE }
-    ensures value { result ≡ root x }
+    ensures value { result ≡ square_root x }
     ensures small { IfSome result (λ y. unsigned_abs y ≤ LARGEST_VALUE) }
 {
     if x < 0 {
@@ -39,8 +39,8 @@ fn whole(x: i64) -> i64
     x / ONE * ONE
 }
 
-fn sign(x: i64) -> i64
-    ensures value { result ≡ sign x }
+fn signum(x: i64) -> i64
+    ensures value { result ≡ signum x }
     ensures small { unsigned_abs result ≤ LARGEST_VALUE }
 {
     if x > 0 {
@@ -63,9 +63,9 @@ pub(crate) fn unary(op: UnaryOp, x: i64) -> Option<i64>
         UnaryOp::Minus => Some(-x),
         UnaryOp::Not => Some(truth(x <= 0)),
         UnaryOp::Abs => Some(x.abs()),
-        UnaryOp::Sqrt => root(x),
+        UnaryOp::Sqrt => square_root(x),
         UnaryOp::Trunc => Some(whole(x)),
-        UnaryOp::Sign => Some(sign(x)),
+        UnaryOp::Sign => Some(signum(x)),
     }
 }
 
@@ -98,9 +98,9 @@ fn is_zero(x: i64) -> bool
     x == 0
 }
 
-fn quotient(a: i64, b: i64) -> Option<i64>
+fn divided(a: i64, b: i64) -> Option<i64>
     requires a { unsigned_abs a ≤ LARGEST_VALUE }
-    ensures value { result ≡ quotient a b }
+    ensures value { result ≡ divided a b }
     ensures small { IfSome result (λ y. unsigned_abs y ≤ LARGEST_VALUE) }
 {
     if is_zero(b) {
@@ -121,7 +121,7 @@ pub(crate) fn binary(op: BinaryOp, a: i64, b: i64) -> Option<i64>
         BinaryOp::Add => sum(a, b),
         BinaryOp::Sub => difference(a, b),
         BinaryOp::Mul => product(a, b),
-        BinaryOp::Div => quotient(a, b),
+        BinaryOp::Div => divided(a, b),
         BinaryOp::Gt => Some(truth(a > b)),
         BinaryOp::Ge => Some(truth(a >= b)),
         BinaryOp::Lt => Some(truth(a < b)),

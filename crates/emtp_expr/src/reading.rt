@@ -3,98 +3,30 @@
 ghost use Rattle.std.specs.Prelude.{◌≡◌, ◌+◌, ◌≤◌, ◌++◌, ◌<◌, length, Some, None, OnOk, if◌then◌else◌};
 ghost use Rattle.std.specs.Str.{bytes_eq};
 ghost use Rattle.indexmap.specs.IndexSet.{insert_key};
-ghost use Rattle.emtp_expr.specs.Reading.{start, rank_of, rank, node_of, emitted, settle, settled, wants_value, takes_sign, wants_operator, right_side, relation_waits, with_node, with_pending, with_operator, sign_of, take_operator, opened, take_open, take_not, take_close, closed, place_of, step, names_after, Moves, IfTaken};
+ghost use Rattle.emtp_expr.specs.Expects.{wants_value};
+ghost use Rattle.emtp_expr.specs.Pending.{emitted, relation_waits, settle};
+ghost use Rattle.emtp_card.specs.declared.cards.TheConstants.{MAX_BYTES};
+ghost use Rattle.emtp_expr.specs.Reading.{IfTaken, Takes, closed, names_after, opened, place_in, settled, start, take_close, take_next, take_not, take_open, take_operator, with_operator, with_pending, with_sign, with_value};
 
+use crate::expects::{Expects, right_side};
+use crate::pending::{Pending, rank};
 use crate::stack::Stack;
 use crate::words::Word;
 use emtp_case::{BinaryOp, Items, Name, Node, UnaryOp};
 use indexmap::IndexSet;
 use std::alloc::{AllocError, Global};
 
-/// What waits for its right side or its end.
-#[derive(Clone, Copy)]
-pub enum Pending {
-    /// A parenthesis, with the function that it belongs to.
-    Group(Option<UnaryOp>),
-    /// An operator after its left side.
-    Binary(BinaryOp),
-    /// `.NOT.`
-    Not,
-    /// A leading sign.
-    Sign {
-        /// Whether it is `-`.
-        minus: bool,
-    },
-}
-
-/// What may come next.
-#[derive(Clone, Copy)]
-pub enum Expects {
-    /// A condition, after so many `.NOT.` in a row.
-    Condition(u32),
-    /// A sum, which may have a sign.
-    Sum,
-    /// A factor.
-    Factor,
-    /// The parenthesis of a function.
-    Argument,
-    /// An operator, or the end of a parenthesis or of all.
-    Operator,
-}
-
 /// Words that have been read.
 #[derive(Drop)]
-pub struct Reading {
+pub(crate) struct Reading {
     /// The nodes so far, in postfix order.
-    pub nodes: Items<Node>,
+    pub(crate) nodes: Items<Node>,
     /// What waits, the newest first.
-    pub pending: Stack<Pending>,
+    pub(crate) pending: Stack<Pending>,
     /// How many parentheses are open, with those that functions wait for.
-    pub depth: u32,
+    pub(crate) depth: u32,
     /// What may come next.
-    pub expects: Expects,
-}
-
-/// How tightly an operator binds.
-fn rank(op: BinaryOp) -> u32
-    ensures { result ≡ rank_of op }
-{
-    match op {
-        BinaryOp::Or => 1,
-        BinaryOp::And => 2,
-        BinaryOp::Gt | BinaryOp::Ge | BinaryOp::Lt | BinaryOp::Le | BinaryOp::Eq | BinaryOp::Ne =>
-            4,
-        BinaryOp::Add | BinaryOp::Sub => 5,
-        BinaryOp::Mul | BinaryOp::Div => 6,
-    }
-}
-
-impl Pending {
-    /// How tightly it binds; a parenthesis not at all.
-    fn rank(&self) -> u32
-        ensures { result ≡ rank self.now }
-    {
-        match self {
-            Pending::Group(_) => 0,
-            Pending::Binary(op) => rank(*op),
-            Pending::Not => 3,
-            Pending::Sign { .. } => 5,
-        }
-    }
-
-    /// The node that it becomes.
-    fn node(&self) -> Option<Node>
-        ensures { result ≡ node_of self.now }
-    {
-        match self {
-            Pending::Group(None) => None,
-            Pending::Group(Some(function)) => Some(Node::Unary(*function)),
-            Pending::Binary(op) => Some(Node::Binary(*op)),
-            Pending::Not => Some(Node::Unary(UnaryOp::Not)),
-            Pending::Sign { minus: true } => Some(Node::Unary(UnaryOp::Minus)),
-            Pending::Sign { minus: false } => None,
-        }
-    }
+    pub(crate) expects: Expects,
 }
 
 impl Reading {
@@ -125,7 +57,7 @@ fn emit(nodes: &mut Items<Node>, pending: &Pending) -> Result<(), AllocError>
 }
 
 /// Ends all that binds at least so tightly.
-#[tactic(auto, unfolding(crate::specs::Reading::settle))]
+#[tactic(auto, unfolding(crate::specs::Pending::settle))]
 fn settle(
     least: u32,
     pending: &mut Stack<Pending>,
@@ -141,51 +73,6 @@ fn settle(
         emit(nodes, &top)?;
     }
     Ok(())
-}
-
-impl Expects {
-    /// Whether a value may begin.
-    fn wants_value(self) -> bool
-        ensures { result ≡ wants_value self }
-    {
-        match self {
-            Expects::Condition(_) | Expects::Sum | Expects::Factor => true,
-            Expects::Argument | Expects::Operator => false,
-        }
-    }
-
-    /// Whether a sign may stand.
-    fn takes_sign(self) -> bool
-        ensures { result ≡ takes_sign self }
-    {
-        match self {
-            Expects::Condition(_) | Expects::Sum => true,
-            Expects::Factor | Expects::Argument | Expects::Operator => false,
-        }
-    }
-
-    /// Whether an operator or an end may stand.
-    pub(crate) fn wants_operator(self) -> bool
-        ensures { result ≡ wants_operator self }
-    {
-        match self {
-            Expects::Operator => true,
-            Expects::Condition(_) | Expects::Sum | Expects::Factor | Expects::Argument => false,
-        }
-    }
-}
-
-/// What an operator expects on its right, by how tightly it binds.
-fn right_side(rank: u32) -> Expects
-    ensures { result ≡ right_side rank }
-{
-    if rank < 3 {
-        Expects::Condition(0)
-    } else if rank < 5 {
-        Expects::Sum
-    } else {
-        Expects::Factor
-    }
 }
 
 impl Reading {
@@ -208,7 +95,7 @@ impl Reading {
 
     /// Puts what waits on top.
     fn wait(&mut self, pending: Pending, next: Expects) -> Result<bool, AllocError>
-        ensures { Moves result self.new (Some (with_pending self.old pending next)) }
+        ensures { Takes result self.new (Some (with_pending self.old pending next)) }
     {
         self.pending.push(pending)?;
         self.expects = next;
@@ -217,7 +104,7 @@ impl Reading {
 
     /// Takes a value.
     fn take_value(&mut self, node: Node) -> Result<bool, AllocError>
-        ensures { Moves result self.new (Some (with_node self.old node)) }
+        ensures { Takes result self.new (Some (with_value self.old node)) }
     {
         self.nodes.push(node)?;
         self.expects = Expects::Operator;
@@ -227,7 +114,7 @@ impl Reading {
     /// Takes an operator between two values.
     #[tactic(auto, unfolding(crate::specs::Reading::with_operator))]
     fn with_operator(&mut self, op: BinaryOp) -> Result<bool, AllocError>
-        ensures { Moves result self.new (with_operator self.old op) }
+        ensures { Takes result self.new (with_operator self.old op) }
     {
         let rank = rank(op);
         if rank != 4 {
@@ -244,7 +131,7 @@ impl Reading {
 
     /// Takes a leading sign.
     fn take_sign(&mut self, op: BinaryOp) -> Result<bool, AllocError>
-        ensures { Moves result self.new (sign_of self.old op) }
+        ensures { Takes result self.new (with_sign self.old op) }
     {
         match op {
             BinaryOp::Add => self.wait(Pending::Sign { minus: false }, Expects::Factor),
@@ -254,7 +141,7 @@ impl Reading {
     }
 
     fn take_operator(&mut self, op: BinaryOp) -> Result<bool, AllocError>
-        ensures { Moves result self.new (take_operator self.old op) }
+        ensures { Takes result self.new (take_operator self.old op) }
     {
         if self.expects.wants_operator() {
             self.with_operator(op)
@@ -267,7 +154,7 @@ impl Reading {
 
     /// Begins a parenthesis, or a function whose parenthesis is due.
     fn begin(&mut self, function: Option<UnaryOp>, next: Expects) -> Result<bool, AllocError>
-        ensures { Moves result self.new (opened self.old function next) }
+        ensures { Takes result self.new (opened self.old function next) }
     {
         if !self.expects.wants_value() || self.depth >= 16 {
             return Ok(false);
@@ -277,7 +164,7 @@ impl Reading {
     }
 
     fn take_open(&mut self) -> Result<bool, AllocError>
-        ensures { Moves result self.new (take_open self.old self.old.expects) }
+        ensures { Takes result self.new (take_open self.old self.old.expects) }
     {
         match self.expects {
             Expects::Argument => {
@@ -292,7 +179,7 @@ impl Reading {
     }
 
     fn take_not(&mut self) -> Result<bool, AllocError>
-        ensures { Moves result self.new (take_not self.old self.old.expects) }
+        ensures { Takes result self.new (take_not self.old self.old.expects) }
     {
         match self.expects {
             Expects::Condition(row) => {
@@ -312,7 +199,7 @@ impl Reading {
     /// Ends a parenthesis.
     #[tactic(auto, unfolding(crate::specs::Reading::take_close))]
     fn take_close(&mut self) -> Result<bool, AllocError>
-        ensures { Moves result self.new (take_close self.old) }
+        ensures { Takes result self.new (take_close self.old) }
     {
         if !self.expects.wants_operator() || self.depth == 0 {
             return Ok(false);
@@ -340,8 +227,8 @@ impl Reading {
 
     /// Takes the name of a variable.
     fn take_name(&mut self, names: &mut IndexSet<Name>, name: &Name) -> Result<bool, AllocError>
-        requires { length names.old.keys ≤ 9000000 }
-        ensures value { Moves result self.new (if wants_value self.old.expects then Some (with_node self.old (Node.Var (place_of names.old.keys name.now))) else None) }
+        requires { length names.old.keys ≤ MAX_BYTES }
+        ensures value { Takes result self.new (if wants_value self.old.expects then Some (with_value self.old (Node.Var (place_in names.old.keys name.now))) else None) }
         ensures names { IfTaken result (names.new.keys ≡ insert_key bytes_eq names.old.keys name.now) }
     {
         if !self.expects.wants_value() {
@@ -352,14 +239,14 @@ impl Reading {
     }
 
     /// Takes the next word; tells whether an expression goes on so.
-    #[tactic(auto, unfolding(crate::specs::Reading::step))]
+    #[tactic(auto, unfolding(crate::specs::Reading::take_next))]
     pub(crate) fn take(
         &mut self,
         names: &mut IndexSet<Name>,
         word: &Word,
     ) -> Result<bool, AllocError>
-        requires { length names.old.keys ≤ 9000000 }
-        ensures value { Moves result self.new (step names.old.keys self.old word.now) }
+        requires { length names.old.keys ≤ MAX_BYTES }
+        ensures value { Takes result self.new (take_next names.old.keys self.old word.now) }
         ensures names { IfTaken result (names.new.keys ≡ names_after names.old.keys word.now) }
     {
         match word {

@@ -8,7 +8,7 @@ use emtp_case::{BinaryOp, Name, UnaryOp};
 
 /// A word of an expression.
 #[derive(Clone, Copy)]
-pub enum Word {
+pub(crate) enum Word {
     /// A number, in nano.
     Number(i64),
     /// The name of a variable.
@@ -29,11 +29,11 @@ pub enum Word {
 
 /// A word and the number of its bytes.
 #[derive(Clone, Copy)]
-pub struct Taken {
+pub(crate) struct Taken {
     /// The word.
-    pub word: Word,
+    pub(crate) word: Word,
     /// How many bytes it has.
-    pub length: usize,
+    pub(crate) length: usize,
 }
 
 /// The dotted word in front.
