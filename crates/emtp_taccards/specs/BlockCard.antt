@@ -1,5 +1,5 @@
 -- Block cards: the table of fields and rules, and the record.
-use Rattle.std.specs.Prelude.{◌≡◌, ◌≢◌, ℕ, ◌+◌, ◌^◌, ◌≤◌, ◌≤ℤ◌, ℤ, pos, neg_ℤ, int_lt, unsigned_abs, Bool, false, ◌||◌, List, [], ◌∷◌, Option, Some, None, Result, Ok, Err, if◌then◌else◌}
+use Rattle.std.specs.Prelude.{◌≡◌, ◌≢◌, ℕ, ◌+◌, ◌^◌, ◌≤◌, ℤ, pos, neg_ℤ, int_lt, unsigned_abs, Bool, false, ◌||◌, List, [], ◌∷◌, Option, Some, None, Result, Ok, Err, if◌then◌else◌}
 use Rattle.std.specs.Option.{ForSome}
 use Rattle.std.specs.Ordering.{int_eq}
 use Rattle.std.specs.Result.{result_unwrap_or}

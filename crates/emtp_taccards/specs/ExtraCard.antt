@@ -1,5 +1,5 @@
 -- Supplemental cards: devices and formulas.
-use Rattle.std.specs.Prelude.{◌≡◌, ℕ, ◌+◌, ◌^◌, ◌≤◌, ℤ, pos, Bool, true, false, IsSome, IsTrue, All, List, [], ◌∷◌, length, take, drop, Option, Some, None, Result, Ok, Err, if◌then◌else◌}
+use Rattle.std.specs.Prelude.{ℕ, ◌+◌, ◌^◌, ◌==◌, ℤ, pos, Bool, true, false, IsSome, IsTrue, All, List, [], ◌∷◌, length, take, drop, Option, Some, None, Result, Ok, Err, if◌then◌else◌}
 use Rattle.std.specs.Ordering.{int_eq}
 use Rattle.std.specs.Result.{result_unwrap_or}
 use Rattle.emtp_card.specs.Fault.{bad_at, fault_at, filled_with, judge, least}
@@ -25,7 +25,6 @@ use Rattle.emtp_taccards.specs.Inputs.{inputs, inputs_fault}
 use Rattle.emtp_taccards.specs.declared.extra_card.DeviceCard.{DeviceCard}
 use Rattle.emtp_taccards.specs.declared.extra_card.ExtraCard.{ExtraCard}
 use Rattle.emtp_taccards.specs.declared.extra_card.ExtraCard.TheVariants.{Device, Formula}
-use Rattle.emtp_taccards.specs.declared.extra_card.FormulaCard.{FormulaCard}
 
 -- columns 1 and 2: the group
 abbrev pub group_of : ℤ → Result Group Why
@@ -173,6 +172,9 @@ device_fault line code =
 abbrev pub a_of : List ℕ → DeviceCode → ℤ
 a_of line code = result_unwrap_or (a_by line code) (pos 1)
 
+abbrev pub plain_of : List ℕ → ℕ → ℤ
+plain_of line first = result_unwrap_or (plain_field line first) (pos 0)
+
 abbrev pub device_of : ℕ → List ℕ → List ℕ → Group → DeviceCode → DeviceCard
 device_of number line name group code = record {
   line = number;
@@ -181,8 +183,8 @@ device_of number line name group code = record {
   code = code;
   inputs = inputs line;
   a = a_of line code;
-  b = result_unwrap_or (plain_field line 57) (pos 0);
-  c = result_unwrap_or (plain_field line 63) (pos 0);
+  b = plain_of line 57;
+  c = plain_of line 63;
   d = name_or_ground line 69;
   e = name_or_ground line 75;
 }

@@ -3,4 +3,4 @@ pub mod BlockCard
 pub mod PolynomialCard
 pub mod TacsSourceCard
 pub mod ExtraCard
-pub mod TacsOutputs
+pub mod TacsOutputCard

@@ -7,8 +7,7 @@ ghost use Rattle.emtp_taccards.specs.BlockCard.{HasBlockNumbers, HasLimitsInOrde
 
 use crate::inputs::{inputs, inputs_fault};
 use emtp_card::{
-    Bad, Fault, Line, MAX_BYTES, Why, fault_at, field_name, field_number, field_whole, judge,
-    least,
+    Bad, Fault, Line, MAX_BYTES, Why, fault_at, field_name, field_number, field_whole, judge, least,
 };
 use emtp_case::Name;
 use emtp_fix::PICO;

@@ -5,7 +5,7 @@ ghost use Rattle.emtp_case.specs.Control.{HasRangeOfA, needs_d};
 ghost use Rattle.emtp_case.specs.Range.{IsBetween};
 ghost use Rattle.emtp_expr.specs.Parsing.{expression_of};
 ghost use Rattle.emtp_netcards.specs.Fields.{IsSmall};
-ghost use Rattle.emtp_taccards.specs.ExtraCard.{HasDeviceNumbers, HasExtraNumbers, HasItsD, IsParsed, a_by, a_field, a_of, code_field, code_of, d_fault, delay_field, device_card, device_fault, device_of, equals_field, expression_fault, expression_text, extra_card, formula_card, formula_fault, group_field, group_of, hertz_field, is_formula, named_device, named_formula, plain_field};
+ghost use Rattle.emtp_taccards.specs.ExtraCard.{HasDeviceNumbers, HasExtraNumbers, HasItsD, IsParsed, a_by, a_field, a_of, code_field, code_of, d_fault, delay_field, device_card, device_fault, device_of, equals_field, expression_fault, expression_text, extra_card, formula_card, formula_fault, group_field, group_of, hertz_field, is_formula, named_device, named_formula, plain_field, plain_of};
 
 use crate::inputs::{inputs, inputs_fault};
 use emtp_card::{
@@ -130,8 +130,9 @@ fn expression_text(line: &[u8]) -> &[u8]
     ensures text { result.now ≡ expression_text line.now }
     ensures short { length result.now ≤ 69 }
 {
-    let rest = &line[line.len().min(11)..];
-    &rest[..rest.len().min(69)]
+    let end = 80_usize.min(line.len());
+    let start = 11_usize.min(end);
+    &line[start..end]
 }
 
 /// The card of a formula whose expression was read, or refused in a column of its own.
@@ -255,8 +256,8 @@ fn device_of(line: &Line<'_>, name: &Name, group: Group, code: DeviceCode) -> De
         code,
         inputs: inputs(bytes),
         a: a_of(bytes, code),
-        b: plain(bytes, 57).unwrap_or(0),
-        c: plain(bytes, 63).unwrap_or(0),
+        b: plain_of(bytes, 57),
+        c: plain_of(bytes, 63),
         d: field_name(bytes, 69).unwrap_or(None),
         e: field_name(bytes, 75).unwrap_or(None),
     }
@@ -364,6 +365,16 @@ fn plain(line: &[u8], first: usize) -> Result<i64, Why>
     ensures small { IfOk result IsSmall }
 {
     signed_number(line, first, first + 5, 9)
+}
+
+/// The number B or C; a refused one doesn't matter.
+fn plain_of(line: &[u8], first: usize) -> i64
+    requires low { 1 ≤ first }
+    requires high { first ≤ 75 }
+    ensures value { result ≡ plain_of line.now first }
+    ensures small { IsSmall result }
+{
+    plain(line, first).unwrap_or(0)
 }
 
 /// A device that looks at a variable D has one.

@@ -19,11 +19,11 @@ mod block_card;
 mod extra_card;
 mod inputs;
 mod polynomial_card;
-mod tacs_outputs;
+mod tacs_output_card;
 mod tacs_source_card;
 
 pub use block_card::{BlockCard, block};
 pub use extra_card::{DeviceCard, ExtraCard, FormulaCard, extra};
 pub use polynomial_card::polynomial;
-pub use tacs_outputs::tacs_outputs;
+pub use tacs_output_card::tacs_outputs;
 pub use tacs_source_card::tacs_source;

@@ -1,9 +1,11 @@
 //! Source cards of the control.
 
-ghost use Rattle.std.specs.Prelude.{◌≡◌, ◌^◌, ◌≤◌, length, IfOk};
+ghost use Rattle.std.specs.Prelude.{◌≡◌, ◌^◌, ◌≤◌, false, length, true, IfOk};
 ghost use Rattle.emtp_case.specs.Range.{IsBetween};
+ghost use Rattle.emtp_case.specs.Source.{HasShapeNumbers, IsMeasured};
+ghost use Rattle.emtp_case.specs.declared.source.Source.{Source};
 ghost use Rattle.emtp_netcards.specs.Fields.{IsSmall};
-ghost use Rattle.emtp_taccards.specs.TacsSourceCard.{HasTacsSourceNumbers, driven, driven_fault, is_measured, level_field, measured, named_source, period_field, pulse_fault, pulse_shape, saw_shape, signal_fault, signal_field, signal_of, signal_shape, tacs_source_card, tacs_source_fault, width_field};
+ghost use Rattle.emtp_taccards.specs.TacsSourceCard.{HasTacsSourceNumbers, IsUnresolved, driven, driven_fault, is_measured, level_field, measured, named_source, period_field, pulse_fault, pulse_shape, saw_shape, signal_fault, signal_field, signal_of, signal_shape, tacs_source_card, tacs_source_fault, width_field};
 
 use emtp_card::{Bad, Fault, Line, MAX_BYTES, Why, fault_at, field_whole, judge, least};
 use emtp_case::{Name, Shape};
@@ -43,7 +45,7 @@ pub fn tacs_source(line: Line<'_>) -> Result<SourceCard, Bad>
     ensures numbers { IfOk result HasTacsSourceNumbers }
 {
     let bytes = line.bytes;
-    let signal = signal(bytes);
+    let signal = signal_type(bytes);
     match judge(&line, tacs_source_fault(bytes, &signal)) {
         Some(bad) => Err(bad),
         None => named(&line, &signal),
@@ -109,11 +111,7 @@ fn tacs_source_fault(line: &[u8], signal: &Result<Signal, Why>) -> Option<Fault>
     } else {
         driven_fault(line, signal)
     };
-    least(&[
-        fault_at(1, signal),
-        fault_at(3, &needed_name(line, 3)),
-        own,
-    ])
+    least(&[fault_at(1, signal), fault_at(3, &needed_name(line, 3)), own])
 }
 
 #[tactic(auto, unfolding(crate::specs::TacsSourceCard::driven_fault))]
@@ -128,7 +126,7 @@ fn driven_fault(line: &[u8], signal: &Result<Signal, Why>) -> Option<Fault>
     ])
 }
 
-fn signal(line: &[u8]) -> Result<Signal, Why>
+fn signal_type(line: &[u8]) -> Result<Signal, Why>
     ensures { result ≡ signal_field line.now }
 {
     match field_whole(line, 1, 2) {
@@ -180,7 +178,9 @@ fn pulse_fault(line: &[u8]) -> Option<Fault>
 }
 
 fn signal_shape(line: &[u8], signal: &Result<Signal, Why>) -> Shape
-    ensures { result ≡ signal_shape line.now signal.now }
+    ensures value { result ≡ signal_shape line.now signal.now }
+    ensures unresolved { IsUnresolved result }
+    ensures numbers { (s : Source) → (is_measured signal.now ≡ true → IsMeasured s) → HasShapeNumbers s result }
 {
     match signal {
         Ok(Signal::Cosine) => cosine_shape(line),
@@ -194,7 +194,9 @@ fn signal_shape(line: &[u8], signal: &Result<Signal, Why>) -> Shape
 }
 
 fn pulse_shape(line: &[u8]) -> Shape
-    ensures { result ≡ pulse_shape line.now }
+    ensures value { result ≡ pulse_shape line.now }
+    ensures unresolved { IsUnresolved result }
+    ensures numbers { (s : Source) → HasShapeNumbers s result }
 {
     Shape::Pulse {
         period: period(line).unwrap_or(1),
@@ -203,7 +205,9 @@ fn pulse_shape(line: &[u8]) -> Shape
 }
 
 fn saw_shape(line: &[u8]) -> Shape
-    ensures { result ≡ saw_shape line.now }
+    ensures value { result ≡ saw_shape line.now }
+    ensures unresolved { IsUnresolved result }
+    ensures numbers { (s : Source) → HasShapeNumbers s result }
 {
     Shape::Saw {
         period: period(line).unwrap_or(1),

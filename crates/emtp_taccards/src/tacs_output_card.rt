@@ -1,7 +1,7 @@
 //! Output cards of the control.
 
 ghost use Rattle.std.specs.Prelude.{◌≡◌, ◌≤◌, length};
-ghost use Rattle.emtp_taccards.specs.TacsOutputs.{no_mark_field, tacs_output_card, tacs_output_fault};
+ghost use Rattle.emtp_taccards.specs.TacsOutputCard.{no_mark_field, tacs_output_card, tacs_output_fault};
 
 use emtp_card::{Bad, Fault, Line, MAX_BYTES, Why, fault_at, field_whole, judge, least};
 use emtp_case::Name;
@@ -10,7 +10,7 @@ use emtp_netcards::{names, names_fault};
 /// Reads an output card of the control: 13 names of variables, of which blank ones are skipped. No mark asks for all.
 ///
 /// A refusal is the fault of the line's bytes, else the least fault of its fields.
-#[tactic(auto, unfolding(crate::specs::TacsOutputs::tacs_output_card))]
+#[tactic(auto, unfolding(crate::specs::TacsOutputCard::tacs_output_card))]
 pub fn tacs_outputs(line: Line<'_>) -> Result<[Option<Name>; 13], Bad>
     requires { length line.bytes.now ≤ MAX_BYTES }
     ensures { result ≡ tacs_output_card line.entry.number line.entry.bytes.now }
@@ -21,7 +21,7 @@ pub fn tacs_outputs(line: Line<'_>) -> Result<[Option<Name>; 13], Bad>
     }
 }
 
-#[tactic(auto, unfolding(crate::specs::TacsOutputs::tacs_output_fault))]
+#[tactic(auto, unfolding(crate::specs::TacsOutputCard::tacs_output_fault))]
 fn tacs_output_fault(line: &[u8]) -> Option<Fault>
     ensures { result ≡ tacs_output_fault line.now }
 {
