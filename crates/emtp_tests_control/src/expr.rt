@@ -1,13 +1,14 @@
 //! Texts, their values, and the column of the first word that no expression goes on with.
 
-ghost use Rattle.std.specs.Prelude.{◌≡◌, ◌≤◌, Some, true, length, IfOk, IfSome};
+ghost use Rattle.std.specs.Prelude.{◌≡◌, ◌≤◌, Some, length, unsigned_abs, IfOk, IfSome};
+ghost use Rattle.emtp_fix.specs.declared.limit.TheConstants.{LARGEST_VALUE};
 ghost use Rattle.emtp_expr.specs.Parsing.{expression_of};
 ghost use Rattle.emtp_expr.specs.Value.{AreInRange, value};
 
 use emtp_card::MAX_BYTES;
-use emtp_expr::{ExprFault, Parsed, eval, parse};
-use emtp_fix::LARGEST_VALUE;
-use std::alloc::Global;
+use emtp_expr::{ExprFault, eval, parse};
+use emtp_fix::in_range;
+use std::alloc::{AllocError, Global};
 
 /// A text and the column of its fault. The columns are those of an independent program.
 const COLUMNS: &[(&str, Option<u32>)] = &[
@@ -192,8 +193,15 @@ fn the_value_of_a_text(rt: HostRuntime) {
     for (text, values, expected) in VALUES {
         let bytes = text.as_bytes();
         assert!(rt; bytes.len() < 100);
-        assert!(rt; are_in_range(values));
-        assert_eq!(rt; value_of(rt.alloc(), bytes, values), *expected, "{text}");
+        let Ok(values) = in_range_copy(rt.alloc(), values) else {
+            assert!(rt; false);
+            return;
+        };
+        assert_eq!(rt;
+            value_of(rt.alloc(), bytes, values.as_slice()),
+            *expected,
+            "{text}"
+        );
     }
 }
 
@@ -216,13 +224,22 @@ fn value_of(alloc: Global, text: &[u8], values: &[i64]) -> Option<i64>
     }
 }
 
-fn are_in_range(values: &[i64]) -> bool
-    ensures { result ≡ true → AreInRange values.now }
+/// The values, each held to its range.
+fn in_range_copy(alloc: Global, values: &[i64]) -> Result<Vec<i64>, AllocError>
+    ensures { IfOk result (λ copy. AreInRange copy.items) }
 {
+    let mut copy = Vec::new(alloc);
     for value in values {
-        if value.unsigned_abs() as u128 > LARGEST_VALUE {
-            return false;
-        }
+        copy.push(held(*value))?;
     }
-    true
+    Ok(copy)
+}
+
+fn held(value: i64) -> i64
+    ensures { unsigned_abs result ≤ LARGEST_VALUE }
+{
+    match in_range(value as i128) {
+        Some(value) => value,
+        None => 0,
+    }
 }
