@@ -1,0 +1,245 @@
+//! Texts, their values, and the column of the first word that no expression goes on with.
+
+ghost use Rattle.std.specs.Prelude.{◌≡◌, ◌≤◌, Some, length, unsigned_abs, IfOk, IfSome};
+ghost use Rattle.emtp_fix.specs.declared.limit.TheConstants.{LARGEST_VALUE};
+ghost use Rattle.emtp_expr.specs.Parsing.{expression_of};
+ghost use Rattle.emtp_expr.specs.Value.{AreInRange, value};
+
+use emtp_card::MAX_BYTES;
+use emtp_expr::{ExprFault, eval, parse};
+use emtp_fix::in_range;
+use std::alloc::{AllocError, Global};
+
+/// A text and the column of its fault. The columns are those of an independent program.
+const COLUMNS: &[(&str, Option<u32>)] = &[
+    ("", Some(1)),
+    ("   ", Some(1)),
+    ("1 +", Some(4)),
+    ("1 + ", Some(4)),
+    ("ABS1", None),
+    ("ABS 1", Some(5)),
+    ("ABS(1)", None),
+    ("A B", Some(3)),
+    ("ABCDEFG", Some(7)),
+    ("1.GT.2", None),
+    ("1..GT.2", None),
+    ("1.EQ.2", None),
+    ("1.EQ 2", Some(3)),
+    ("1.E5", None),
+    ("2E", Some(2)),
+    ("0E1234", Some(6)),
+    ("1E1234", Some(1)),
+    ("1e5", Some(2)),
+    ("A.GT.B.GT.C", Some(7)),
+    ("A*-B", Some(3)),
+    ("-A*B", None),
+    ("--A", Some(2)),
+    ("A .GT. -B", None),
+    (
+        ".NOT..NOT..NOT..NOT..NOT..NOT..NOT..NOT..NOT..NOT..NOT..NOT..NOT..NOT..NOT..NOT.A",
+        None,
+    ),
+    (
+        ".NOT..NOT..NOT..NOT..NOT..NOT..NOT..NOT..NOT..NOT..NOT..NOT..NOT..NOT..NOT..NOT..NOT.A",
+        Some(81),
+    ),
+    ("((((((((((((((((1))))))))))))))))", None),
+    ("(((((((((((((((((1)))))))))))))))))", Some(17)),
+    ("((((((((((((((((ABS(1)))))))))))))))))", Some(17)),
+    ("(A", Some(3)),
+    ("(A))", Some(4)),
+    ("()", Some(2)),
+    ("A ? B", Some(3)),
+    ("? B", Some(1)),
+    ("A .XX. B", Some(3)),
+    ("1.5.5", Some(4)),
+    (".", Some(1)),
+    ("1000000000", None),
+    ("1000000001", Some(1)),
+    ("A + .NOT. B", Some(5)),
+    ("SQRT", Some(5)),
+    ("A,B", Some(2)),
+    ("abs(1)", Some(4)),
+    ("TRUNC(1.5)+SIGN(-2)", None),
+    ("A.AND..NOT.B", None),
+    (" 1.0 +", Some(7)),
+    ("2.0*MID + 1.0", None),
+];
+
+#[test]
+fn the_first_word_that_nothing_goes_on_with(rt: HostRuntime) {
+    for (text, column) in COLUMNS {
+        let bytes = text.as_bytes();
+        assert!(rt; bytes.len() < 100);
+        assert_eq!(rt; column_of(rt.alloc(), bytes), *column, "{text}");
+    }
+}
+
+fn column_of(alloc: Global, text: &[u8]) -> Option<u32>
+    requires { length text.now ≤ MAX_BYTES }
+{
+    match parse(alloc, text) {
+        Ok(_) => None,
+        Err(ExprFault::Column(column)) => Some(column),
+        Err(ExprFault::NoMemory) => Some(0),
+    }
+}
+
+/// A text, the values of its names in order of first appearance, and its value, all in nano. The values are those of an
+/// independent program, and were worked out by hand.
+const VALUES: &[(&str, &[i64], Option<i64>)] = &[
+    ("2.0*MID + 1.0", &[50_000_000_000], Some(101_000_000_000)),
+    ("1.0 / ZERO", &[0], None),
+    (
+        "A-B-C",
+        &[10_000_000_000, 3_000_000_000, 2_000_000_000],
+        Some(5_000_000_000),
+    ),
+    (
+        "A/B/C",
+        &[8_000_000_000, 2_000_000_000, 2_000_000_000],
+        Some(2_000_000_000),
+    ),
+    (
+        "-A*B",
+        &[3_000_000_000, 2_000_000_000],
+        Some(-6_000_000_000),
+    ),
+    (
+        "-A+B",
+        &[3_000_000_000, 2_000_000_000],
+        Some(-1_000_000_000),
+    ),
+    (
+        "(A+B)*C",
+        &[1_000_000_000, 2_000_000_000, 3_000_000_000],
+        Some(9_000_000_000),
+    ),
+    (".NOT.A.AND.B", &[1_000_000_000, 0], Some(0)),
+    (
+        ".NOT.A.OR.B",
+        &[1_000_000_000, 1_000_000_000],
+        Some(1_000_000_000),
+    ),
+    ("A.OR.B.AND.C", &[1_000_000_000, 0, 0], Some(1_000_000_000)),
+    (
+        "A+B.GT.C",
+        &[1_000_000_000, 2_000_000_000, 2_500_000_000],
+        Some(1_000_000_000),
+    ),
+    (
+        "A.GE.B",
+        &[1_000_000_000, 1_000_000_000],
+        Some(1_000_000_000),
+    ),
+    ("A.LT.B", &[1_000_000_000, 1_000_000_000], Some(0)),
+    (
+        "A.LE.B",
+        &[1_000_000_000, 1_000_000_000],
+        Some(1_000_000_000),
+    ),
+    ("A.EQ.B", &[1_000_000_000, 1_000_000_001], Some(0)),
+    (
+        "A.NE.B",
+        &[1_000_000_000, 1_000_000_001],
+        Some(1_000_000_000),
+    ),
+    ("A.AND.B", &[1, -1], Some(0)),
+    ("A*B", &[1, 500_000_000], Some(1)),
+    ("A*B", &[-1, 500_000_000], Some(-1)),
+    ("A*B", &[1, 499_999_999], Some(0)),
+    ("A/B", &[1_000_000_000, 3_000_000_000], Some(333_333_333)),
+    ("A/B", &[2_000_000_000, 3_000_000_000], Some(666_666_667)),
+    ("TRUNC(A)", &[-1_500_000_000], Some(-1_000_000_000)),
+    ("TRUNC(A)", &[1_999_999_999], Some(1_000_000_000)),
+    ("SQRT(A)", &[2_000_000_000], Some(1_414_213_562)),
+    ("SQRT(A)", &[-1], None),
+    ("ABS(A)", &[-3_000_000_000], Some(3_000_000_000)),
+    ("SIGN(A)", &[-5], Some(-1_000_000_000)),
+    ("SIGN(A)", &[0], Some(0)),
+    (
+        "A+B",
+        &[1_000_000_000_000_000_000, 0],
+        Some(1_000_000_000_000_000_000),
+    ),
+    ("A+B", &[1_000_000_000_000_000_000, 1], None),
+    ("A-B", &[-1_000_000_000_000_000_000, 1], None),
+    (
+        "A*B",
+        &[1_000_000_000_000_000_000, 1_000_000_000],
+        Some(1_000_000_000_000_000_000),
+    ),
+    ("A*B", &[1_000_000_000_000_000_000, 1_000_000_001], None),
+    ("A/B", &[1_000_000_000_000_000_000, 999_999_999], None),
+    ("A.EQ.A", &[7], Some(1_000_000_000)),
+    ("1.5E3", &[], Some(1_500_000_000_000)),
+    ("1.5D-3", &[], Some(1_500_000)),
+    (".5E-9", &[], Some(1)),
+    (".4E-9", &[], Some(0)),
+    (
+        "ABS1-ABS2",
+        &[1_000_000_000, 2_000_000_000],
+        Some(-1_000_000_000),
+    ),
+    (
+        "ABS(A)-SQRT(B)",
+        &[-1_000_000_000, 4_000_000_000],
+        Some(-1_000_000_000),
+    ),
+];
+
+#[test]
+fn the_value_of_a_text(rt: HostRuntime) {
+    for (text, values, expected) in VALUES {
+        let bytes = text.as_bytes();
+        assert!(rt; bytes.len() < 100);
+        let Ok(values) = in_range_copy(rt.alloc(), values) else {
+            assert!(rt; false);
+            return;
+        };
+        assert_eq!(rt;
+            value_of(rt.alloc(), bytes, values.as_slice()),
+            *expected,
+            "{text}"
+        );
+    }
+}
+
+/// The value of a text at values of its names; none where there are more or fewer names, where the text is no expression
+/// or where its value is out of range.
+fn value_of(alloc: Global, text: &[u8], values: &[i64]) -> Option<i64>
+    requires text { length text.now ≤ MAX_BYTES }
+    requires values { AreInRange values.now }
+    ensures { IfSome result (λ x. IfOk (expression_of text.now) (λ parsed. value values.now parsed.nodes ≡ Some x)) }
+{
+    match parse(alloc, text) {
+        Ok(parsed) if parsed.names.len() == values.len() => {
+            match eval(parsed.nodes.as_slice(), values) {
+                Ok(value) => Some(value),
+                Err(_) => None,
+            }
+        }
+        Ok(_) => None,
+        Err(_) => None,
+    }
+}
+
+/// The values, each held to its range.
+fn in_range_copy(alloc: Global, values: &[i64]) -> Result<Vec<i64>, AllocError>
+    ensures { IfOk result (λ copy. AreInRange copy.items) }
+{
+    let mut copy = Vec::new(alloc);
+    for value in values {
+        copy.push(held(*value))?;
+    }
+    Ok(copy)
+}
+
+fn held(value: i64) -> i64
+    ensures { unsigned_abs result ≤ LARGEST_VALUE }
+{
+    match in_range(value as i128) {
+        Some(value) => value,
+        None => 0,
+    }
+}
