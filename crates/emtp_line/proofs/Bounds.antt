@@ -4,6 +4,7 @@ use mir.Syntax.{w64}
 use Rattle.std.proofs.lemmas.Bool.{cases_lt}
 use Rattle.std.proofs.lemmas.Int.{ints, unsigned_abs-mul}
 use Rattle.std.proofs.Math.Nat.{mul-le-mul_left, mod-lt, lt-div-mul-add, div-mul-le_self}
+use Rattle.emtp_case.proofs.Impedances.{conductance_range}
 use Rattle.emtp_case.specs.Branch.{HasLineNumbers, line_impedance}
 use Rattle.emtp_case.specs.Range.{IsBetween}
 use Rattle.emtp_fix.specs.Rounding.{near}
@@ -15,13 +16,6 @@ use Rattle.emtp_line.specs.Mode.{IsMode, mode_of, far_share_of}
 use Rattle.emtp_line.specs.Wave.{wave_of, between}
 use Rattle.emtp_line.specs.Lines.{no_mode}
 use Rattle.emtp_line.specs.declared.mode.Mode.{Mode}
-
--- the conductance in pS of an impedance in its range
-pub conductance_range : (z : ℤ) → IsBetween LEAST_IMPEDANCE LARGEST_IMPEDANCE z → IsBetween 0 LARGEST_ENTRY (near ATTO z)
-conductance_range z h =
-    let small : unsigned_abs (near ATTO z) ≤ LARGEST_ENTRY = conductance-small z (omega (arith, ints, h.least)) in
-    let least : pos 0 ≤ℤ near ATTO z = near-nonneg ATTO z (omega (arith, ints)) (omega (arith, ints, h.least)) in
-    record { least = least; most = omega (arith, ints, small, least) }
 
 pub quarter_range : (r : ℤ) → IsBetween 0 (10 ^ 15) r → IsBetween 0 (10 ^ 15) (near r (pos 4))
 quarter_range r h = record { least = near-nonneg r (pos 4) h.least (omega (arith, ints)); most = omega (arith, ints, h.most, h.least, unsigned_abs-near-le r (pos 4)) }
