@@ -9,6 +9,8 @@
 #[cfg(test)]
 mod hist;
 #[cfg(test)]
+mod line;
+#[cfg(test)]
 mod lumped;
 #[cfg(test)]
 mod pseudo;

@@ -1,0 +1,7 @@
+pub mod Bounds
+pub mod Holding
+pub mod Trios
+pub mod Worked
+pub mod Finding
+pub mod Lining
+pub mod Physics

@@ -1,0 +1,13 @@
+use Rattle.std.proofs.Common.{◌≡◌, ◌∙◌, ◌-◌, sym, pos, FitsSigned, arith, rules}
+use mir.Syntax.{w64}
+use Rattle.std.proofs.lemmas.Int.{ints, to_z-of_z}
+use Rattle.emtp_hist.specs.History.{value_before}
+use Rattle.emtp_line.proofs.Bounds.{between-whole}
+use Rattle.emtp_line.proofs.wave.past.Goals as goal
+
+pub returns-then-mode-eq0 : goal.returns-then-mode-eq0
+returns-then-mode-eq0 c = λ waves remembers.
+    let none : c.args.mode.now.rest ≡ pos 0 = omega (arith, ints) in
+    let r : FitsSigned w64 c.back-newer.result = search rules in
+    to_z-of_z w64 c.back-newer.result r ∙ c.back-newer.ensures waves remembers
+    ∙ sym (between-whole c.args.mode.now (value_before waves (c.args.mode.now.steps - 1)) (value_before waves c.args.mode.now.steps) none)

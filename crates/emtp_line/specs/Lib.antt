@@ -1,0 +1,9 @@
+pub mod Mode
+pub mod Wave
+pub mod Line
+pub mod Phases
+pub mod Waves
+pub mod Held
+pub mod PhaseEnd
+pub mod Lines
+pub mod Laws
