@@ -1,5 +1,5 @@
 -- The numbers that a step makes of a card's.
-use Rattle.std.proofs.Common.{◌≡◌, ◌≢◌, ◌*◌, ◌^◌, ◌≤◌, ℤ, Bool, pos, negsuc, ◌*ℤ◌, true, false, refl, arith}
+use Rattle.std.proofs.Common.{◌≡◌, ◌≢◌, ◌*◌, ◌^◌, ◌≤◌, ◌≤ℤ◌, ℤ, Bool, pos, negsuc, ◌*ℤ◌, unsigned_abs, true, false, refl, arith}
 use Rattle.std.proofs.lemmas.Bool.Decides.{Decides-int_eq}
 use Rattle.std.proofs.lemmas.Int.{ints}
 use Rattle.std.proofs.lemmas.Nat.{mul-le}
@@ -8,6 +8,8 @@ use Rattle.std.specs.Prelude.{if◌then◌else◌}
 use Rattle.emtp_case.specs.Branch.{capacitor_impedance}
 use Rattle.emtp_case.specs.Range.{IsBetween}
 use Rattle.emtp_fix.specs.Rounding.{near}
+use Rattle.emtp_fix.specs.declared.limit.TheConstants.{ATTO, LARGEST_ENTRY, LARGEST_IMPEDANCE, LEAST_IMPEDANCE}
+use Rattle.emtp_fix.proofs.Quotients.{conductance-small, near-nonneg}
 
 -- an absent capacitance has no impedance
 pub capacitor-none : (dt : ℤ) → capacitor_impedance dt (pos 0) ≡ pos 0
@@ -30,3 +32,10 @@ product_range (pos a) (pos b) h k =
     record { least = omega (arith, ints, least); most = omega (arith, ints, most) }
 product_range (negsuc a) b h k = absurd (omega (arith, ints, h.least))
 product_range (pos a) (negsuc b) h k = absurd (omega (arith, ints, k.least))
+
+-- the conductance in pS of an impedance in its range
+pub conductance_range : (z : ℤ) → IsBetween LEAST_IMPEDANCE LARGEST_IMPEDANCE z → IsBetween 0 LARGEST_ENTRY (near ATTO z)
+conductance_range z h =
+    let small : unsigned_abs (near ATTO z) ≤ LARGEST_ENTRY = conductance-small z (omega (arith, ints, h.least)) in
+    let least : pos 0 ≤ℤ near ATTO z = near-nonneg ATTO z (omega (arith, ints)) (omega (arith, ints, h.least)) in
+    record { least = least; most = omega (arith, ints, small, least) }

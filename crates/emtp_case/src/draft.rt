@@ -87,6 +87,7 @@ impl Draft {
         requires room { length self.old.parts.branches < 5000 }
         requires fits { IsLumped self.old.parts.run (sizes_of self.old.parts) branch }
         ensures ok { OnOk result (self.new.parts ≡ record self.old.parts { branches = self.old.parts.branches ++ Branch.Lumped branch ∷ [] }) }
+        ensures history { OnOk result (history_values_of self.new.parts ≡ history_values_of self.old.parts) }
         ensures err { OnErr result (self.new ≡ self.old) }
     {
         self.add_branch(Branch::Lumped(branch))
@@ -99,6 +100,7 @@ impl Draft {
         requires fits { IsBranch self.old.parts.run (sizes_of self.old.parts) self.old.parts.points branch }
         requires history { history_values_of self.old.parts + branch_history_values self.old.parts.run.dt branch ≤ 2000000 }
         ensures ok { OnOk result (self.new.parts ≡ record self.old.parts { branches = self.old.parts.branches ++ branch ∷ [] }) }
+        ensures history { OnOk result (history_values_of self.new.parts ≡ history_values_of self.old.parts + branch_history_values self.old.parts.run.dt branch) }
         ensures err { OnErr result (self.new ≡ self.old) }
     {
         self.parts.branches.push(branch)?;
@@ -114,6 +116,7 @@ impl Draft {
         requires few { length points.now ≤ 64 }
         requires characteristic { IsCharacteristic branch.reactor self.old.parts.run.dt points.now }
         ensures ok { OnOk result (self.new.parts ≡ record self.old.parts { points = self.old.parts.points ++ points.now; branches = self.old.parts.branches ++ Branch.Pseudo (record branch { first = length self.old.parts.points; count = length points.now }) ∷ [] }) }
+        ensures history { OnOk result (history_values_of self.new.parts ≡ history_values_of self.old.parts) }
         ensures err { OnErr result (self.new ≡ self.old) }
     {
         let branch = Branch::Pseudo(Pseudo {
@@ -139,6 +142,7 @@ impl Draft {
         requires modes { IsTrio self.old.parts.run modes }
         requires history { history_values_of self.old.parts + trio_history_values self.old.parts.run.dt modes ≤ 2000000 }
         ensures ok { OnOk result (self.new.parts ≡ record self.old.parts { branches = self.old.parts.branches ++ phase_branches (length self.old.parts.trios) a b c; trios = self.old.parts.trios ++ record modes { first = length self.old.parts.branches } ∷ [] }) }
+        ensures history { OnOk result (history_values_of self.new.parts ≡ history_values_of self.old.parts + trio_history_values self.old.parts.run.dt modes) }
         ensures err { OnErr result (self.new ≡ self.old) }
     {
         let first = self.parts.branches.len() as u32;
@@ -232,6 +236,7 @@ impl Draft {
         requires points { HasDevicePoints device.code points.now }
         requires history { history_values_of self.old.parts + device_history_values self.old.parts.run.dt device.code device.a ≤ 2000000 }
         ensures ok { OnOk result (self.new.parts ≡ record self.old.parts { points = self.old.parts.points ++ points.now; extras = self.old.parts.extras ++ Extra.Device (record device { first = length self.old.parts.points; count = length points.now }) ∷ [] }) }
+        ensures history { OnOk result (history_values_of self.new.parts ≡ history_values_of self.old.parts + device_history_values self.old.parts.run.dt device.code device.a) }
         ensures err { OnErr result (self.new ≡ self.old) }
     {
         device.first = self.parts.points.len() as u32;
@@ -249,6 +254,7 @@ impl Draft {
         requires room { length self.old.parts.extras < 200 }
         requires fits { IsFormula (sizes_of self.old.parts) formula }
         ensures ok { OnOk result (self.new.parts ≡ record self.old.parts { extras = self.old.parts.extras ++ Extra.Formula formula ∷ [] }) }
+        ensures history { OnOk result (history_values_of self.new.parts ≡ history_values_of self.old.parts) }
         ensures err { OnErr result (self.new ≡ self.old) }
     {
         self.parts.extras.push(Extra::Formula(formula))?;

@@ -8,15 +8,9 @@ use Rattle.emtp_case.specs.Range.{IsBetween}
 use Rattle.emtp_case.specs.declared.branch.Lumped.{Lumped}
 use Rattle.emtp_fix.specs.Rounding.{near}
 use Rattle.emtp_fix.specs.declared.limit.TheConstants.{ATTO, LARGEST_ENTRY, LARGEST_IMPEDANCE, LEAST_IMPEDANCE}
-use Rattle.emtp_fix.proofs.Quotients.{conductance-small, near-nonneg}
+use Rattle.emtp_case.proofs.Impedances.{conductance_range}
+use Rattle.emtp_fix.proofs.Quotients.{near-nonneg}
 use Rattle.emtp_lumped.specs.Companion.{companion_of, IsCompanion}
-
--- the conductance in pS of an impedance in its range
-pub conductance_range : (z : ℤ) → IsBetween LEAST_IMPEDANCE LARGEST_IMPEDANCE z → IsBetween 0 LARGEST_ENTRY (near ATTO z)
-conductance_range z h =
-    let small : unsigned_abs (near ATTO z) ≤ LARGEST_ENTRY = conductance-small z (omega (arith, ints, h.least)) in
-    let least : pos 0 ≤ℤ near ATTO z = near-nonneg ATTO z (omega (arith, ints)) (omega (arith, ints, h.least)) in
-    record { least = least; most = omega (arith, ints, small, least) }
 
 inductor-nonneg : (dt l : ℤ) → IsBetween 1000 (10 ^ 12) dt → IsBetween 0 (10 ^ 15) l → pos 0 ≤ℤ inductor_impedance dt l
 inductor-nonneg dt l h h' = near-nonneg (pos (2 * 10 ^ 9) *ℤ l) dt (omega (arith, ints, h'.least)) (omega (arith, ints, h.least))

@@ -1,7 +1,7 @@
 use Rattle.std.proofs.Common.{ap, unsigned_abs, FitsSigned, arith}
 use mir.Syntax.{w128}
 use Rattle.std.proofs.lemmas.Int.{ints, to_z-of_z}
-use Rattle.emtp_lumped.proofs.Bounds.{conductance_range}
+use Rattle.emtp_case.proofs.Impedances.{conductance_range}
 use Rattle.emtp_lumped.proofs.companion.conductance.Goals as goal
 
 pub returns-clause-bound : goal.returns-clause-bound
