@@ -1,5 +1,5 @@
 -- How the state of a breaker moves on.
-use Rattle.std.proofs.Common.{◌≡◌, ◌&&◌, Bool, Option, true, false, if◌then◌else◌, int_le, ℤ}
+use Rattle.std.proofs.Common.{◌≡◌, ◌&&◌, Bool, true, false, if◌then◌else◌, int_le}
 use Rattle.emtp_case.specs.Switch.{is_time_kind}
 use Rattle.emtp_case.specs.declared.switch.SwitchKind.{SwitchKind}
 use Rattle.emtp_case.specs.declared.switch.SwitchKind.TheVariants.{Control, Measuring, Time, Valve}
@@ -7,7 +7,6 @@ use Rattle.emtp_case.specs.declared.switch.SwitchState.{SwitchState}
 use Rattle.emtp_case.specs.declared.switch.SwitchState.TheVariants.{Closed, Opened, Waiting}
 use Rattle.emtp_switch.specs.States.{MovesOn, closes, interrupts, is_due, opens, state_after, stays}
 use Rattle.emtp_switch.specs.declared.states.View.{View}
-use Rattle.std.proofs.lemmas.Bool.{true≢false}
 
 may_close : (b : Bool) → MovesOn Waiting (if b then Closed else Waiting)
 may_close true = closes

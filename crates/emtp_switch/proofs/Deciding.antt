@@ -1,14 +1,11 @@
 -- What deciding leaves.
-use Rattle.std.proofs.Common.{◌≡◌, ℕ, ◌∷◌, ℤ, Option, List, [], length, take, refl, ap, sym, ◌∙◌, subst}
-use Rattle.emtp_case.specs.RowOrder.{Rows}
+use Rattle.std.proofs.Common.{◌≡◌, ℕ, ◌∷◌, ℤ, List, [], refl, ap, sym, ◌∙◌}
 use Rattle.emtp_case.specs.StepRecord.{StepRecord, latest, record_back}
 use Rattle.emtp_case.specs.declared.case.Parts.{Parts}
 use Rattle.emtp_case.specs.declared.switch.SwitchState.{SwitchState}
-use Rattle.emtp_switch.specs.Groups.{tied_of}
 use Rattle.emtp_switch.specs.Currents.{item}
 use Rattle.emtp_switch.specs.States.{next_states}
 use Rattle.emtp_switch.specs.Switching.{AreKept, AreLatest}
-use Rattle.emtp_switch.specs.declared.sweep.Link.{Link}
 
 back_one : (r : StepRecord) (H : List StepRecord) → latest H ≡ record_back (r ∷ H) 1
 back_one r [] = refl

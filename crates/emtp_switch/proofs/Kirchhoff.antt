@@ -1,5 +1,5 @@
 -- Kirchhoff's law at the nodes that closed switches join.
-use Rattle.std.proofs.Common.{◌≡◌, ◌≢◌, ◌⊎◌, ℕ, ◌+◌, ◌<◌, ◌≤◌, ◌==◌, ◌++◌, ◌∷◌, [], ℤ, pos, ◌+ℤ◌, ◌-ℤ◌, Bool, true, false, if◌then◌else◌, List, length, slice_index, refl, ap, sym, ◌∙◌, inl, inr, arith}
+use Rattle.std.proofs.Common.{◌≡◌, ◌≢◌, ℕ, ◌<◌, ◌≤◌, ◌==◌, ◌++◌, ◌∷◌, [], ℤ, pos, ◌+ℤ◌, Bool, true, false, if◌then◌else◌, List, length, slice_index, refl, ap, sym, ◌∙◌, inl, inr, arith}
 use Rattle.std.proofs.lemmas.Bool.{cases_eq, cases_lt, eq-eqb, ne_eqb, cond-true, cond-false}
 use Rattle.std.proofs.lemmas.Int.{ints}
 use Rattle.std.proofs.lemmas.List.{get_or_append_left, get_or_past, length_push}
@@ -9,11 +9,11 @@ use Rattle.emtp_case.proofs.RowTables.{nodes_apart, nodes_within}
 use Rattle.emtp_case.specs.RowOrder.{Rows}
 use Rattle.emtp_case.specs.declared.case.Parts.{Parts}
 use Rattle.emtp_case.specs.declared.switch.SwitchState.{SwitchState}
-use Rattle.emtp_switch.specs.Currents.{Balances, item, leaving_by, through_switches, total}
+use Rattle.emtp_switch.specs.Currents.{Balances, item, leaving_by, total}
 use Rattle.emtp_switch.specs.Grouping.{AreTree}
-use Rattle.emtp_switch.specs.Groups.{alone, closed_switches, from_at, labels_of, root_of, to_at}
+use Rattle.emtp_switch.specs.Groups.{alone, closed_switches, from_at, root_of, to_at}
 use Rattle.emtp_switch.specs.Plan.{IsPlan}
-use Rattle.emtp_switch.specs.Tree.{HasEnds, held, link_at}
+use Rattle.emtp_switch.specs.Tree.{HasEnds, side_total, link_at}
 use Rattle.emtp_switch.specs.declared.plan.Plan.{Plan}
 use Rattle.emtp_switch.specs.declared.sweep.Link.{Link}
 use Rattle.emtp_switch.proofs.Finding.{groups-bridges}
@@ -24,7 +24,7 @@ use Rattle.emtp_switch.proofs.Plans.{once_each}
 abbrev one_place : ℕ → ℕ → Bool
 one_place row p = p == row
 
-held_one : (rest : List ℤ) (row : ℕ) → row < length rest → held (one_place row) rest ≡ item rest row
+held_one : (rest : List ℤ) (row : ℕ) → row < length rest → side_total (one_place row) rest ≡ item rest row
 held_one rest row inside =
     let f : ℕ → ℤ = λ p. pos 0 in
     let g : ℕ → ℤ = λ p. if p == row then item rest p else pos 0 in
@@ -72,7 +72,7 @@ ends_at p rows plan states links is tree row in_row =
 
 pub balances : (p : Parts) (rows : Rows) (plan : Plan) (states : List SwitchState) (links : List Link) (leaving first rest flows : List ℤ) (n : ℕ) → IsPlan p rows plan → AreTree p.switches rows states links
     → length rows.nodes ≡ length leaving → length p.switches ≡ n → first ≡ leaving ++ pos 0 ∷ [] → length rest ≡ length first
-    → ((side from_in to_in : ℕ → Bool) → HasEnds links side from_in to_in → held side rest ≡ held side first +ℤ total n (λ s. leaving_by (from_in s) (to_in s) (item flows s)))
+    → ((side from_in to_in : ℕ → Bool) → HasEnds links side from_in to_in → side_total side rest ≡ side_total side first +ℤ total n (λ s. leaving_by (from_in s) (to_in s) (item flows s)))
     → ((j : ℕ) → j < length links → item rest (link_at links j).leaf ≡ pos 0)
     → Balances p.switches rows states leaving flows
 balances p rows plan states links leaving first rest flows n is tree size count first_is same balanced cleared = λ row in_row other.
@@ -83,6 +83,6 @@ balances p rows plan states links leaving first rest flows n is tree size count 
     let in_first : row < length first = omega (arith, ap length first_is, length_push leaving (pos 0), size) in
     let at_first : item first row ≡ item leaving row = ap (λ l. item l row) first_is ∙ get_or_append_left leaving (pos 0 ∷ []) (pos 0) row (omega (arith, size)) in
     let f : ℕ → ℤ = λ s. leaving_by (from_at sw s == node) (to_at sw s == node) (item flows s) in
-    let sum : held (one_place row) rest ≡ held (one_place row) first +ℤ total n f = balanced (one_place row) (λ s. from_at sw s == node) (λ s. to_at sw s == node) (ends_at p rows plan states links is tree row in_row) in
+    let sum : side_total (one_place row) rest ≡ side_total (one_place row) first +ℤ total n f = balanced (one_place row) (λ s. from_at sw s == node) (λ s. to_at sw s == node) (ends_at p rows plan states links is tree row in_row) in
     let all : total (length sw) f ≡ total n f = ap (λ (k : ℕ). total k f) count in
     omega (arith, ints, held_one rest row (omega (arith, same)), held_one first row in_first, nothing, at_first, sum, all)

@@ -1,25 +1,22 @@
 -- The groups are the same in whatever order the closed switches are taken.
-use Rattle.std.proofs.Common.{◌≡◌, ◌≢◌, ◌⊎◌, ◌≤◌, ◌<◌, ◌+◌, ◌==◌, ◌&&◌, ◌∷◌, ℕ, zero, suc, List, [], Bool, Option, None, Some, true, false, if◌then◌else◌, length, map, slice_index, refl, ap, sym, ◌∙◌, inl, inr, arith}
+use Rattle.std.proofs.Common.{◌≡◌, ◌≤◌, ◌<◌, ◌+◌, ◌==◌, ◌&&◌, ◌∷◌, ℕ, suc, List, [], Bool, length, map, slice_index, refl, ap, sym, ◌∙◌, inl, inr, arith}
 use Rattle.std.specs.List.{AllByRecursion as Each}
-use Rattle.std.specs.List.{All, Contains, count_by, find, list_any, range_with_len}
+use Rattle.std.specs.List.{All, Contains}
 use Rattle.std.specs.List.Sorted.{IsPermutation}
 use Rattle.std.specs.Option.{unwrap_or}
 use Rattle.std.proofs.lemmas.Bool.{cases_eq, eq-eqb, eqb-true, ne_eqb}
-use Rattle.std.proofs.lemmas.List.Elements.{All-from_get_or, All-head, All-tail, All-weaker}
+use Rattle.std.proofs.lemmas.List.Elements.{All-from_get_or, All-weaker}
 use Rattle.std.proofs.lemmas.List.FromFn.{length-range_with_len}
 use Rattle.std.proofs.lemmas.List.Sorted.{Contains-permutation, IsPermutation-sym}
-use Rattle.std.proofs.lemmas.List.Sums.{sum_by-cons}
-use Rattle.emtp_case.proofs.RowTables.{nodes_within}
-use Rattle.emtp_case.specs.Case.{IsCase}
 use Rattle.emtp_case.specs.RowOrder.{IsRowOrder, Rows, touches_switch}
 use Rattle.emtp_case.specs.declared.case.Parts.{Parts}
 use Rattle.emtp_case.specs.declared.switch.Switch.{Switch}
-use Rattle.emtp_switch.specs.Groups.{AreWithin, alone, by_rank, groups, root_of}
-use Rattle.emtp_switch.specs.Kinds.{count_members, has_feed, has_member, is_empty, kind_by, kind_of}
+use Rattle.emtp_switch.specs.Groups.{EndWithin, alone, by_rank, groups, root_of}
+use Rattle.emtp_switch.specs.Kinds.{count_members, has_feed, has_member, kind_of}
+use Rattle.emtp_switch.proofs.Alike.{any_same, count_same, find_same, map_same}
 use Rattle.emtp_switch.proofs.Cuts.{Among, alone-follows, each_among}
 use Rattle.emtp_switch.proofs.Labels.{Agrees, OneLabel, groups-follows, groups-joins, length-groups}
-use Rattle.emtp_switch.proofs.Plans.{once_each, same_count, switch_ends}
-use Rattle.emtp_switch.proofs.Regrouping.{any_same, map_same, rank_is}
+use Rattle.emtp_switch.proofs.Regrouping.{rank_is, rows_within}
 use Rattle.emtp_switch.proofs.Sides.{among_from}
 
 each_from : (P : ℕ → Type 0) (es : List ℕ) → ((s : ℕ) → Among s es → P s) → Each P es
@@ -32,10 +29,10 @@ contains_from b (s ∷ es) (inl here) = (0, omega arith, here)
 contains_from b (s ∷ es) (inr later) = let (k, below, is) = contains_from b es later in (suc k, omega arith, is)
 
 -- nodes that some closed switches join are joined by others among which these are
-joined_too : (switches : List Switch) (n : ℕ) (es fs : List ℕ) → AreWithin switches (n + 1) → ((s : ℕ) → Among s es → Among s fs) → (x y : ℕ) → x ≤ n → y ≤ n
+joined_too : (switches : List Switch) (n : ℕ) (es fs : List ℕ) → EndWithin switches (n + 1) → ((s : ℕ) → Among s es → Among s fs) → (x y : ℕ) → x ≤ n → y ≤ n
     → slice_index (groups switches (alone n) es) x ≡ slice_index (groups switches (alone n) es) y → slice_index (groups switches (alone n) fs) x ≡ slice_index (groups switches (alone n) fs) y
 joined_too switches n es fs within among x y in_x in_y same =
-    let w : AreWithin switches (length (alone n)) = rw (length-range_with_len 0 (n + 1)) within in
+    let w : EndWithin switches (length (alone n)) = rw (length-range_with_len 0 (n + 1)) within in
     let b = groups switches (alone n) fs in
     let colour : ℕ → Bool = λ z. slice_index b z == slice_index b y in
     let agree : Each (Agrees switches colour) es = each_from (Agrees switches colour) es (λ s h. ap (λ l. l == slice_index b y) (each_among (OneLabel switches b) s fs (groups-joins switches (alone n) fs w) (among s h))) in
@@ -48,7 +45,7 @@ joined_too switches n es fs within among x y in_x in_y same =
 abbrev pub PartAlike : ℕ → List ℕ → List ℕ → Type 0
 PartAlike n a b = (x y : ℕ) → x ≤ n → y ≤ n → (slice_index a x == slice_index a y) ≡ (slice_index b x == slice_index b y)
 
-pub part_alike : (switches : List Switch) (n : ℕ) (es fs : List ℕ) → AreWithin switches (n + 1) → IsPermutation es fs → PartAlike n (groups switches (alone n) es) (groups switches (alone n) fs)
+pub part_alike : (switches : List Switch) (n : ℕ) (es fs : List ℕ) → EndWithin switches (n + 1) → IsPermutation es fs → PartAlike n (groups switches (alone n) es) (groups switches (alone n) fs)
 part_alike switches n es fs within moved = λ x y in_x in_y.
     let a = groups switches (alone n) es in
     let b = groups switches (alone n) fs in
@@ -59,21 +56,6 @@ part_alike switches n es fs within moved = λ x y in_x in_y.
       | inr two ↦ ne_eqb (slice_index a x) (slice_index a y) two ∙ sym (ne_eqb (slice_index b x) (slice_index b y) (λ e. two (joined_too switches n fs es within back x y in_x in_y e)))
     ]
 
-find_same : (f g : ℕ → Bool) (xs : List ℕ) → All (λ x. f x ≡ g x) xs → find f xs ≡ find g xs
-find_same f g [] all = refl
-find_same f g (x ∷ xs) all =
-    ap (λ b. if b then Some x else find f xs) (All-head (λ x. f x ≡ g x) x xs all) ∙ ap (λ o. if g x then Some x else o) (find_same f g xs (All-tail (λ x. f x ≡ g x) x xs all))
-
-count_same : (f g : ℕ → Bool) (xs : List ℕ) → All (λ x. f x ≡ g x) xs → count_by f xs ≡ count_by g xs
-count_same f g [] all = refl
-count_same f g (x ∷ xs) all =
-    let here : f x ≡ g x = All-head (λ x. f x ≡ g x) x xs all in
-    let later = count_same f g xs (All-tail (λ x. f x ≡ g x) x xs all) in
-    sum_by-cons (one_if f) x xs ∙ ap (λ b. (if b then 1 else 0) + count_by f xs) here ∙ ap (λ n. one_if g x + n) later ∙ sym (sum_by-cons (one_if g) x xs)
-  where
-    one_if : (ℕ → Bool) → ℕ → ℕ
-    one_if h k = if h k then 1 else 0
-
 -- kinds go by the groups alone
 pub kinds_alike : (p : Parts) (rows : Rows) (a b : List ℕ) → IsRowOrder p rows → PartAlike (length rows.nodes) a b → map (kind_of p rows a) rows.nodes ≡ map (kind_of p rows b) rows.nodes
 kinds_alike p rows a b is alike = map_same (kind_of p rows a) (kind_of p rows b) rows.nodes (over_rows (λ x. kind_of p rows a x ≡ kind_of p rows b x) one)
@@ -82,7 +64,7 @@ kinds_alike p rows a b is alike = map_same (kind_of p rows a) (kind_of p rows b)
     n = length rows.nodes
 
     over_rows : (P : ℕ → Type 0) → ((x : ℕ) → x ≤ n → P x) → All P rows.nodes
-    over_rows P h = All-from_get_or P rows.nodes 0 (λ row below. h (slice_index rows.nodes row) (nodes_within rows.nodes (once_each p rows is) row below).1)
+    over_rows P h = All-from_get_or P rows.nodes 0 (λ row below. h (slice_index rows.nodes row) (rows_within p rows is row below))
 
     root_alike : (x : ℕ) → x ≤ n → root_of rows a x ≡ root_of rows b x
     root_alike x in_x = ap (λ o. unwrap_or o 0) (find_same (λ k. slice_index a k == slice_index a x) (λ k. slice_index b k == slice_index b x) (by_rank rows)

@@ -1,9 +1,9 @@
 -- The tables of the plan, made row by row.
-use Rattle.std.proofs.Common.{◌≡◌, ◌≢◌, ℕ, ◌+◌, ◌<◌, ◌≤◌, ◌==◌, ◌||◌, Bool, true, false, List, [], ◌∷◌, ◌++◌, drop, length, map, reverse, slice_index, slice_index_or, slice_set, take, min, refl, ap, sym, ◌∙◌, ⊎_elim, subst, inl, inr, arith}
+use Rattle.std.proofs.Common.{◌≡◌, ℕ, ◌+◌, ◌<◌, ◌≤◌, ◌==◌, ◌||◌, Bool, true, false, List, [], ◌∷◌, ◌++◌, drop, length, map, slice_index, slice_set, take, min, ap, sym, ◌∙◌, ⊎_elim, subst, inl, inr, arith}
 use Rattle.std.specs.List.{list_any, range_with_len}
 use Rattle.std.proofs.lemmas.Bool.{cases_eq, cases_lt, eq-eqb, ne_eqb, or_left, or_right}
 use Rattle.std.proofs.Math.Bool.{or-false}
-use Rattle.std.proofs.lemmas.List.{drop_all, drop_more, get_or_past, get_or-set_other, get_or-set_same, take_all, take_more}
+use Rattle.std.proofs.lemmas.List.{drop_all, get_or_past, get_or-set_other, get_or-set_same, take_all, take_more}
 use Rattle.std.proofs.lemmas.List.Folds.{list_any-append}
 use Rattle.std.proofs.lemmas.List.FromFn.{get_or-range_with_len, length-range_with_len, map-range_with_len_more}
 use Rattle.std.proofs.lemmas.List.Sorted.{length_permutation}
@@ -13,7 +13,7 @@ use Rattle.emtp_case.specs.Case.{IsCase}
 use Rattle.emtp_case.specs.RowOrder.{IsRowOrder, Rows}
 use Rattle.emtp_case.specs.declared.case.Parts.{Parts}
 use Rattle.emtp_case.specs.declared.switch.Switch.{Switch}
-use Rattle.emtp_switch.specs.Groups.{AreWithin, alone, by_rank, from_at, known_nodes, knows, no_switch, switch_at, to_at}
+use Rattle.emtp_switch.specs.Groups.{EndWithin, alone, by_rank, from_at, known_nodes, knows, no_switch, switch_at, to_at}
 use Rattle.emtp_switch.specs.Plan.{IsPlan, MarksKnown}
 use Rattle.emtp_switch.specs.Tallies.{ends_of}
 use Rattle.emtp_switch.specs.Tree.{is_reached}
@@ -65,7 +65,7 @@ known_are rows n least known size least_is are = λ x below.
     ap (is_reached known) own ∙ are x (omega (arith, long)) ∙ ap (λ l. knows (0 ∷ l) (alone n) x) (take_least rows.nodes rows.fixed least (least_is ∙ ap (min rows.fixed) size)) ∙ ap (knows (known_nodes rows) (alone n)) (sym own)
 
 -- the ends of all switches of a case
-pub switch_ends : (p : Parts) → IsCase p → AreWithin p.switches (length p.nodes + 1)
+pub switch_ends : (p : Parts) → IsCase p → EndWithin p.switches (length p.nodes + 1)
 switch_ends p fits = record { from_there = λ s. (both s).0; to_there = λ s. (both s).1 }
   where
     both : (s : ℕ) → (from_at p.switches s < length p.nodes + 1) × (to_at p.switches s < length p.nodes + 1)
@@ -92,7 +92,7 @@ planned p rows plan n fits is size ranked known_size known ends =
       order = is;
       same_nodes = same;
       nodes_within = λ row inside. (nodes_within rows.nodes (once_each p rows is) row inside).1;
-      ends_within = subst (λ k. AreWithin p.switches (k + 1)) (sym same) (switch_ends p fits);
+      ends_within = subst (λ k. EndWithin p.switches (k + 1)) (sym same) (switch_ends p fits);
       ranked = ranked;
       known = subst (λ k. MarksKnown (known_nodes rows) (alone k) plan.known.items) rows_size known;
       known_size = omega (arith, known_size, rows_size);

@@ -1,20 +1,19 @@
 -- The groups that the code finds, its tree and its kinds.
-use Rattle.std.proofs.Common.{◌≡◌, ◌≤◌, ◌<◌, ◌+◌, ◌==◌, ◌&&◌, ◌||◌, ◌∷◌, ◌++◌, ℕ, zero, suc, List, [], Option, Bool, true, not, drop, length, map, reverse, slice_index, slice_index_or, take, refl, ap, sym, ◌∙◌, subst, inl, inr, arith}
-use Rattle.std.specs.List.{All, Contains, count_by, list_any, range_with_len}
+use Rattle.std.proofs.Common.{◌≡◌, ◌≤◌, ◌<◌, ◌+◌, ◌==◌, ◌&&◌, ◌++◌, ℕ, suc, List, Option, Bool, not, drop, length, map, reverse, slice_index, take, refl, ap, sym, ◌∙◌, subst, inl, inr, arith}
+use Rattle.std.specs.List.{All, range_with_len}
 use Rattle.std.specs.List.Sorted.{IsPermutation}
 use Rattle.std.proofs.lemmas.Bool.{cases_eq}
 use Rattle.std.proofs.lemmas.List.{get_or_default, take-append-drop}
-use Rattle.std.proofs.lemmas.List.Elements.{All-cons, All-head, All-tail, All-take, All-from_get_or}
+use Rattle.std.proofs.lemmas.List.Elements.{All-cons, All-take, All-from_get_or}
 use Rattle.std.proofs.lemmas.List.FromFn.{get_or-map-range_with_len, length-range_with_len}
 use Rattle.std.proofs.lemmas.List.Sorted.{All-permutation, Contains-permutation, IsPermutation-append_right, IsPermutation-reverse}
 use Rattle.emtp_case.proofs.RowTables.{node_there, nodes_within}
 use Rattle.emtp_case.specs.RowOrder.{IsRowOrder, Rows, touches_switch}
 use Rattle.emtp_case.specs.declared.case.Parts.{Parts}
-use Rattle.emtp_case.specs.declared.row_kind.RowKind.{RowKind}
 use Rattle.emtp_case.specs.declared.switch.Switch.{Switch}
 use Rattle.emtp_case.specs.declared.switch.SwitchState.{SwitchState}
-use Rattle.emtp_switch.specs.Groups.{AreWithin, alone, bridges_of, by_rank, closed_switches, first_tied, groups, known_nodes, labels_of, root_of, tied_of}
-use Rattle.emtp_switch.specs.Kinds.{has_feed, has_member, kind_by, kind_of, kinds_of}
+use Rattle.emtp_switch.specs.Groups.{EndWithin, alone, by_rank, closed_switches, first_tied, groups, known_nodes, root_of, tied_of}
+use Rattle.emtp_switch.specs.Kinds.{has_member, kind_by, kind_of}
 use Rattle.emtp_switch.specs.Plan.{IsPlan, MarksKnown}
 use Rattle.emtp_switch.specs.Tallies.{ends_from, ends_of, is_empty_tally, kind_found, no_ends, tally_at, tally_of}
 use Rattle.emtp_switch.specs.Tree.{IsRanked, IsTree}
@@ -22,8 +21,12 @@ use Rattle.emtp_switch.specs.declared.kinds.Ends.{Ends}
 use Rattle.emtp_switch.specs.declared.kinds.Tally.{Tally}
 use Rattle.emtp_switch.specs.declared.plan.Plan.{Plan}
 use Rattle.emtp_switch.specs.declared.sweep.Link.{Link}
+use Rattle.emtp_switch.proofs.Alike.{any_same, map_same}
 use Rattle.emtp_switch.proofs.GroupRoots.{alone_small, groups_small}
 use Rattle.emtp_switch.proofs.Plans.{once_each}
+
+pub rows_within : (p : Parts) (rows : Rows) → IsRowOrder p rows → (row : ℕ) → row < length rows.nodes → slice_index rows.nodes row ≤ length rows.nodes
+rows_within p rows is row inside = (nodes_within rows.nodes (once_each p rows is) row inside).1
 
 -- each node stands in the rank
 pub rank_is : (p : Parts) (rows : Rows) → IsRowOrder p rows → IsRanked rows (by_rank rows)
@@ -55,10 +58,10 @@ pub ranked_is : (p : Parts) (rows : Rows) (plan : Plan) → IsPlan p rows plan �
 ranked_is p rows plan is = subst (IsRanked rows) (sym is.ranked) (rank_is p rows is.order)
 
 -- the labels are those of nodes
-pub labels_small : (switches : List Switch) (nodes : ℕ) (es labels : List ℕ) (room : ℕ) → AreWithin switches (nodes + 1) → labels ≡ groups switches (alone nodes) es → room ≡ nodes + 1
+pub labels_small : (switches : List Switch) (nodes : ℕ) (es labels : List ℕ) (room : ℕ) → EndWithin switches (nodes + 1) → labels ≡ groups switches (alone nodes) es → room ≡ nodes + 1
     → (x : ℕ) → x < length labels → slice_index labels x < room
 labels_small switches nodes es labels room within is count = λ x below.
-    let w : AreWithin switches (length (alone nodes)) = rw (length-range_with_len 0 (nodes + 1)) within in
+    let w : EndWithin switches (length (alone nodes)) = rw (length-range_with_len 0 (nodes + 1)) within in
     let inside : x < length (groups switches (alone nodes) es) = omega (arith, ap length is) in
     let one = groups_small switches (alone nodes) es (nodes + 1) w (alone_small nodes) x inside in
     omega (arith, one, count, ap (λ l. slice_index l x) is)
@@ -76,7 +79,7 @@ pub same_tree : (switches : List Switch) (rows : Rows) (es fs labels : List ℕ)
     → IsTree switches rows fs (groups switches (alone (length rows.nodes)) fs) links
 same_tree switches rows es fs labels links e are tree = subst (λ l. IsTree switches rows fs l links) are (subst (λ k. IsTree switches rows k labels links) e tree)
 
-known_within : (rows : Rows) → ((row : ℕ) → row < length rows.nodes → slice_index rows.nodes row ≤ length rows.nodes) → All (λ k. k < length rows.nodes + 1) (known_nodes rows)
+pub known_within : (rows : Rows) → ((row : ℕ) → row < length rows.nodes → slice_index rows.nodes row ≤ length rows.nodes) → All (λ k. k < length rows.nodes + 1) (known_nodes rows)
 known_within rows there =
     let n = length rows.nodes in
     All-cons (λ k. k < n + 1) 0 (take rows.fixed rows.nodes) (omega arith)
@@ -92,16 +95,6 @@ tied_found read switches rows states labels marks known tied same_switches label
     ∙ ap (λ l. first_tied read (known_nodes rows) l (closed_switches states)) labels_are ∙ ap (λ sw. first_tied sw (known_nodes rows) (alone (length rows.nodes)) (closed_switches states)) same_switches
 
 -- Kinds
-
-pub any_same : (f g : ℕ → Bool) (xs : List ℕ) → All (λ x. f x ≡ g x) xs → list_any f xs ≡ list_any g xs
-any_same f g [] all = refl
-any_same f g (x ∷ xs) all =
-    ap (λ b. b || list_any f xs) (All-head (λ x. f x ≡ g x) x xs all) ∙ ap (λ b. g x || b) (any_same f g xs (All-tail (λ x. f x ≡ g x) x xs all))
-
-pub map_same : (f g : ℕ → RowKind) (xs : List ℕ) → All (λ x. f x ≡ g x) xs → map f xs ≡ map g xs
-map_same f g [] all = refl
-map_same f g (x ∷ xs) all =
-    ap (λ k. k ∷ map f xs) (All-head (λ x. f x ≡ g x) x xs all) ∙ ap (λ ks. g x ∷ ks) (map_same f g xs (All-tail (λ x. f x ≡ g x) x xs all))
 
 -- by the tables of the code
 pub kinds_found : (p : Parts) (rows : Rows) (plan : Plan) (labels roots : List ℕ) (tallies : List Tally) → IsPlan p rows plan

@@ -1,7 +1,7 @@
 -- What is the same in all steps: the case, the order of its rows, and tables of its nodes.
 use Rattle.emtp_case.specs.RowOrder.{IsRowOrder, Rows}
 use Rattle.emtp_case.specs.declared.case.Parts.{Parts}
-use Rattle.emtp_switch.specs.Groups.{AreWithin, alone, by_rank, known_nodes, knows}
+use Rattle.emtp_switch.specs.Groups.{EndWithin, alone, by_rank, known_nodes, knows}
 use Rattle.emtp_switch.specs.Tallies.{ends_of}
 use Rattle.emtp_switch.specs.Tree.{is_reached}
 use Rattle.emtp_switch.specs.declared.plan.Plan.{Plan}
@@ -16,7 +16,7 @@ pub record IsPlan (p : Parts) (rows : Rows) (plan : Plan) : Type 0 where
   pub order : IsRowOrder p rows
   pub same_nodes : length rows.nodes ≡ length p.nodes
   pub nodes_within : (row : ℕ) → row < length rows.nodes → slice_index rows.nodes row ≤ length rows.nodes
-  pub ends_within : AreWithin p.switches (length rows.nodes + 1)
+  pub ends_within : EndWithin p.switches (length rows.nodes + 1)
   pub ranked : plan.ranked.items ≡ by_rank rows
   pub known : MarksKnown (known_nodes rows) (alone (length rows.nodes)) plan.known.items
   pub known_size : length plan.known.items ≡ length rows.nodes + 1

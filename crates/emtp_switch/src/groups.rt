@@ -4,7 +4,7 @@ ghost use Rattle.std.specs.Prelude.{◌≡◌, ◌≤◌, ◌<◌, ◌+◌, ℕ,
 ghost use Rattle.std.specs.List.{All};
 ghost use Rattle.emtp_case.specs.RowOrder.{Rows};
 ghost use Rattle.emtp_switch.specs.Groups.{alone, bridges, closed_switches, groups, root_of, tied_of};
-ghost use Rattle.emtp_switch.specs.Grouping.{AreGroups, HasRoom};
+ghost use Rattle.emtp_switch.specs.Grouping.{AreGroups, HasPlaces};
 ghost use Rattle.emtp_switch.specs.Kinds.{kind_of};
 ghost use Rattle.emtp_switch.specs.Plan.{IsPlan};
 ghost use Rattle.emtp_switch.specs.Tree.{AreLinks, IsTree};
@@ -46,7 +46,7 @@ pub struct Groups {
 impl Groups {
     /// Room for the groups of a case.
     pub(crate) fn room(alloc: Global, case: &Case) -> Result<Groups, AllocError>
-        ensures { IfOk result (HasRoom case.now.parts) }
+        ensures { IfOk result (HasPlaces case.now.parts) }
     {
         let rows = case.parts.nodes.len();
         Ok(Groups {
@@ -72,7 +72,7 @@ impl Groups {
         states: &[SwitchState],
     )
         requires plan { IsPlan case.now.parts order.now plan.now }
-        requires room { HasRoom case.now.parts self.old }
+        requires room { HasPlaces case.now.parts self.old }
         requires states { length states.now ≡ length case.now.parts.switches }
         ensures { AreGroups case.now.parts order.now states.now self.new }
     {
@@ -84,9 +84,9 @@ impl Groups {
     /// Joins the sides of the closed switches. Answers the number of bridges among them.
     fn join(&mut self, case: &Case, plan: &Plan, states: &[SwitchState]) -> usize
         requires known { length plan.now.known.items ≡ length case.now.parts.nodes + 1 }
-        requires room { HasRoom case.now.parts self.old }
+        requires room { HasPlaces case.now.parts self.old }
         requires states { length states.now ≡ length case.now.parts.switches }
-        ensures room { HasRoom case.now.parts self.new }
+        ensures room { HasPlaces case.now.parts self.new }
         ensures within { result ≤ length self.new.bridges.items }
         ensures labels { self.new.labels.items ≡ groups case.now.parts.switches (alone (length case.now.parts.nodes)) (closed_switches states.now) }
         ensures bridges { take result self.new.bridges.items ≡ bridges case.now.parts.switches (alone (length case.now.parts.nodes)) (closed_switches states.now) }
@@ -110,11 +110,11 @@ impl Groups {
     /// Finds the roots, and grows the tree of so many bridges from them.
     fn grow(&mut self, case: &Case, order: &RowOrder, plan: &Plan, bridges: usize)
         requires plan { IsPlan case.now.parts order.now plan.now }
-        requires room { HasRoom case.now.parts self.old }
+        requires room { HasPlaces case.now.parts self.old }
         requires within { bridges ≤ length self.old.bridges.items }
         requires numbers { All (λ s. s < length case.now.parts.switches) (take bridges self.old.bridges.items) }
         requires labels { self.old.labels.items ≡ groups case.now.parts.switches (alone (length order.now.nodes)) (take bridges self.old.bridges.items) }
-        ensures room { HasRoom case.now.parts self.new }
+        ensures room { HasPlaces case.now.parts self.new }
         ensures labels { self.new.labels ≡ self.old.labels }
         ensures tied { self.new.tied ≡ self.old.tied }
         ensures roots { (x : ℕ) → x ≤ length order.now.nodes → slice_index self.new.roots.items (slice_index self.old.labels.items x) ≡ root_of order.now self.old.labels.items x }
@@ -132,10 +132,10 @@ impl Groups {
     /// Finds the kinds of the rows.
     fn find_kinds(&mut self, case: &Case, order: &RowOrder, plan: &Plan)
         requires plan { IsPlan case.now.parts order.now plan.now }
-        requires room { HasRoom case.now.parts self.old }
+        requires room { HasPlaces case.now.parts self.old }
         requires labels { (x : ℕ) → x ≤ length order.now.nodes → slice_index self.old.labels.items x ≤ length order.now.nodes }
         requires roots { (x : ℕ) → x ≤ length order.now.nodes → slice_index self.old.roots.items (slice_index self.old.labels.items x) ≡ root_of order.now self.old.labels.items x }
-        ensures room { HasRoom case.now.parts self.new }
+        ensures room { HasPlaces case.now.parts self.new }
         ensures tied { self.new.tied ≡ self.old.tied }
         ensures links { self.new.links ≡ self.old.links }
         ensures link_count { self.new.link_count ≡ self.old.link_count }

@@ -1,11 +1,11 @@
 //! What is true of switches in the field's own words. The functions do nothing: their clauses are proved.
 
-ghost use Rattle.std.specs.Prelude.{◌≡◌, ℕ, List, length, map, true};
+ghost use Rattle.std.specs.Prelude.{◌≡◌, ◌↔◌, ℕ, IsSome, List, length, map, true};
 ghost use Rattle.std.specs.List.Sorted.{IsPermutation};
 ghost use Rattle.emtp_case.specs.RowOrder.{IsRowOrder};
 ghost use Rattle.emtp_case.specs.StepRecord.{StepRecord, latest, switch_state_at};
 ghost use Rattle.emtp_case.specs.Switch.{is_time_switch};
-ghost use Rattle.emtp_switch.specs.Groups.{alone, closed_switches, groups, switch_at};
+ghost use Rattle.emtp_switch.specs.Groups.{KnownMeet, alone, closed_switches, groups, labels_of, switch_at, tied_of};
 ghost use Rattle.emtp_switch.specs.Kinds.{kind_of, kinds_of};
 ghost use Rattle.emtp_switch.specs.States.{MovesOn, next_state};
 
@@ -22,4 +22,11 @@ pub fn kinds_in_any_order(case: &Case, order: &RowOrder, states: &[SwitchState])
 pub fn breaker_goes_one_way(case: &Case, switch: usize)
     requires breaker { is_time_switch (switch_at case.now.parts.switches switch) ≡ true }
     ensures { (H : List StepRecord) → MovesOn (switch_state_at switch (latest H)) (next_state case.now.parts H switch) }
+{}
+
+/// A switch is tied exactly where two nodes with a known voltage come into one group: which order the cards have doesn't
+/// matter.
+pub fn tied_where_known_voltages_meet(case: &Case, order: &RowOrder, states: &[SwitchState])
+    requires order { IsRowOrder case.now.parts order.now }
+    ensures { IsSome (tied_of case.now.parts.switches order.now states.now) ↔ KnownMeet order.now (labels_of case.now.parts.switches order.now states.now) }
 {}

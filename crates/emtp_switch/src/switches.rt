@@ -112,7 +112,8 @@ impl<'a> Switches<'a> {
         );
         self.before.copy_from_slice(currents);
         if self.changed {
-            self.groups.regroup(self.case, self.order, &self.plan, &self.states);
+            self.groups
+                .regroup(self.case, self.order, &self.plan, &self.states);
         }
     }
 

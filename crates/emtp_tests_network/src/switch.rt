@@ -62,11 +62,7 @@ fn closed_after(
     let currents = [nano(i), nano(j), nano(k)];
     let tacs = [0, 0, 0, 0, nano(control), 0];
     switches.decide(step, &voltages, &currents, &tacs);
-    [
-        switches.closed(0),
-        switches.closed(1),
-        switches.closed(2),
-    ]
+    [switches.closed(0), switches.closed(1), switches.closed(2)]
 }
 
 /// The kinds of the four rows.
@@ -104,7 +100,12 @@ fn breaker_opens_once_its_current_has_passed_a_zero(rt: HostRuntime) -> Result<(
     let case = network(rt.alloc(), (ohm(1, 2), ohm(3, 4)), true, switches)?;
     let rows = order(rt.alloc(), &case)?;
     let mut switches = Switches::open(rt.alloc(), &case, &rows)?;
-    let tied = [RowKind::Source, RowKind::Source, RowKind::Tie(3), RowKind::Sum];
+    let tied = [
+        RowKind::Source,
+        RowKind::Source,
+        RowKind::Tie(3),
+        RowKind::Sum,
+    ];
     let apart = [RowKind::Source, RowKind::Source, RowKind::Kcl, RowKind::Kcl];
     assert!(rt; kinds(&switches) == Ok(tied));
     let still = [0, 0, 0, 0];
@@ -192,7 +193,9 @@ fn other_kinds_of_switches(rt: HostRuntime) -> Result<(), Fail> {
     assert!(rt; closed_after(&mut switches, 1, [4, 0, 0, 0], [0, 0, 0], 0) == [true, false, false]);
     assert!(rt; closed_after(&mut switches, 2, [5, 0, 0, 0], [0, 0, 0], 1) == [true, true, true]);
     assert!(rt; closed_after(&mut switches, 3, [9, 0, 0, 9], [0, 2, 0], 0) == [true, true, false]);
-    assert!(rt; closed_after(&mut switches, 4, [9, 0, 0, 9], [0, 1, 0], -1) == [true, false, false]);
+    assert!(rt;
+        closed_after(&mut switches, 4, [9, 0, 0, 9], [0, 1, 0], -1) == [true, false, false]
+    );
     assert!(rt; closed_after(&mut switches, 5, [0, 0, 0, 9], [0, 0, 0], 0) == [true, false, false]);
     Ok(())
 }

@@ -1,4 +1,4 @@
-use Rattle.std.proofs.Common.{◌≡◌, ℕ, ◌<◌, ◌≤◌, length, take}
+use Rattle.std.proofs.Common.{◌≡◌, ℕ, ◌<◌, length, take}
 use Rattle.emtp_switch.specs.Tallies.{tally_at, tally_of}
 use Rattle.emtp_switch.proofs.kinds.count.Given as goal
 

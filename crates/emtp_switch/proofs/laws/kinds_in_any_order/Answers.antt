@@ -1,5 +1,5 @@
 use Rattle.std.proofs.Common.{◌+◌, length, subst, sym}
-use Rattle.emtp_switch.specs.Groups.{AreWithin, alone, closed_switches, groups}
+use Rattle.emtp_switch.specs.Groups.{EndWithin, alone, closed_switches, groups}
 use Rattle.emtp_switch.proofs.Orders.{kinds_alike, part_alike}
 use Rattle.emtp_switch.proofs.Plans.{same_count, switch_ends}
 use Rattle.emtp_switch.proofs.laws.kinds_in_any_order.Goals as goal
@@ -10,5 +10,5 @@ returns c = λ taken moved.
     let rows = c.args.order.now in
     let n = length rows.nodes in
     let closed = closed_switches c.args.states.now in
-    let within : AreWithin p.switches (n + 1) = subst (λ k. AreWithin p.switches (k + 1)) (sym (same_count p rows c.requires.order)) (switch_ends p c.args.case.now.fits) in
+    let within : EndWithin p.switches (n + 1) = subst (λ k. EndWithin p.switches (k + 1)) (sym (same_count p rows c.requires.order)) (switch_ends p c.args.case.now.fits) in
     kinds_alike p rows (groups p.switches (alone n) closed) (groups p.switches (alone n) taken) c.requires.order (part_alike p.switches n closed taken within moved)

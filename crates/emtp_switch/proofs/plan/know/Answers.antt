@@ -1,4 +1,4 @@
-use Rattle.std.proofs.Common.{◌≡◌, ◌≤◌, ◌+◌, ◌∙◌, ap, length, length-set, true, arith}
+use Rattle.std.proofs.Common.{◌≡◌, ◌∙◌, length-set, true, arith}
 use Rattle.emtp_switch.proofs.Plans.{known_are, known_more}
 use Rattle.emtp_switch.proofs.plan.know.Goals as goal
 

@@ -1,4 +1,4 @@
-use Rattle.std.proofs.Common.{◌≡◌, ◌∷◌, ◌++◌, ℕ, List, drop, reverse, take, min, ap, sym, ◌∙◌, arith}
+use Rattle.std.proofs.Common.{◌≡◌, ◌∷◌, ◌++◌, drop, reverse, take, min, ap, ◌∙◌, arith}
 use Rattle.emtp_switch.proofs.Plans.{drop_least, take_least}
 use Rattle.emtp_switch.proofs.plan.rank.Goals as goal
 

@@ -1,4 +1,4 @@
-use Rattle.std.proofs.Common.{◌≡◌, ◌<◌, ◌≤◌, ◌+◌, ℕ, List, length, map, take, ap, sym, ◌∙◌, subst, refl, arith}
+use Rattle.std.proofs.Common.{◌≡◌, ◌+◌, length, map, take, ap, sym, ◌∙◌, subst, refl, arith}
 use Rattle.emtp_switch.specs.Groups.{alone, bridges, bridges_of, closed_switches, groups, labels_of}
 use Rattle.emtp_switch.specs.Kinds.{kind_of}
 use Rattle.emtp_switch.specs.Tree.{AreLinks, IsTree}

@@ -1,4 +1,4 @@
-use Rattle.std.proofs.Common.{◌≡◌, ap, sym, ◌∙◌, arith, length}
+use Rattle.std.proofs.Common.{sym, ◌∙◌}
 use Rattle.emtp_switch.proofs.Plans.{planned, same_count}
 use Rattle.emtp_switch.proofs.plan.Plan.open.Goals as goal
 
