@@ -19,6 +19,7 @@ takes_sign Factor = false
 takes_sign Argument = false
 takes_sign AnOperator = false
 
+-- an operator or an end may stand
 abbrev pub wants_operator : Expects → Bool
 wants_operator (Condition row) = false
 wants_operator Sum = false

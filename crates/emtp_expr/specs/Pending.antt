@@ -43,6 +43,7 @@ abbrev pub option_nodes : Option Node → List Node
 option_nodes None = []
 option_nodes (Some node) = node ∷ []
 
+-- the nodes that come next once it is ended
 abbrev pub emitted : Pending → List Node
 emitted p = option_nodes (node_made p)
 

@@ -16,12 +16,15 @@ use Rattle.emtp_fix.specs.declared.limit.TheConstants.{LARGEST_VALUE, NANO}
 
 -- Operators
 
+-- what relations and conditions give
 abbrev pub truth : Bool → ℤ
 truth holds = if holds then NANO else pos 0
 
+-- what counts as true
 abbrev pub is_true : ℤ → Bool
 is_true x = int_lt (pos 0) x
 
+-- none of a number below 0
 abbrev pub square_root : ℤ → Option ℤ
 square_root x = if int_lt x (pos 0) then None else in_range (isqrt (x *ℤ NANO))
 
@@ -30,9 +33,11 @@ abbrev pub whole : ℤ → ℤ
 whole (pos x) = pos (x / unsigned_abs NANO * unsigned_abs NANO)
 whole (negsuc x) = neg_ℤ (pos ((x + 1) / unsigned_abs NANO * unsigned_abs NANO))
 
+-- 1, 0 or -1
 abbrev pub signum : ℤ → ℤ
 signum x = if int_lt (pos 0) x then NANO else if int_lt x (pos 0) then neg_ℤ NANO else pos 0
 
+-- functions, and the operators of one value
 unfoldable pub unary : UnaryOp → ℤ → Option ℤ
 unary Minus x = Some (neg_ℤ x)
 unary Not x = Some (truth (not (is_true x)))
@@ -41,9 +46,11 @@ unary Sqrt x = square_root x
 unary Trunc x = Some (whole x)
 unary Sign x = Some (signum x)
 
+-- none by 0
 abbrev pub divided : ℤ → ℤ → Option ℤ
 divided a b = if int_eq b (pos 0) then None else in_range (near (a *ℤ NANO) b)
 
+-- the operators between two values; both sides are always computed
 unfoldable pub binary : BinaryOp → ℤ → ℤ → Option ℤ
 binary Add a b = in_range (a +ℤ b)
 binary Sub a b = in_range (a -ℤ b)
@@ -88,6 +95,7 @@ only (Some (x ∷ stack)) = Some x
 unfoldable pub value : List ℤ → List Node → Option ℤ
 value values nodes = only (after_all values nodes (Some []))
 
+-- values of variables
 abbrev pub AreInRange : List ℤ → Type 0
 AreInRange values = All (λ x. unsigned_abs x ≤ LARGEST_VALUE) values
 
@@ -101,6 +109,7 @@ abbrev pub Computes : Bool → List ℤ → Option (List ℤ) → Type 0
 Computes true next defined = defined ≡ Some next
 Computes false next defined = defined ≡ None
 
+-- a call answers the defined value, in range, or refuses where there is none
 abbrev pub Evaluates : {E : Type 0} → Result ℤ E → Option ℤ → Type 0
 Evaluates (Ok x) defined = (defined ≡ Some x) × (unsigned_abs x ≤ LARGEST_VALUE)
 Evaluates (Err e) defined = defined ≡ None

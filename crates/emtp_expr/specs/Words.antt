@@ -11,6 +11,7 @@ use Rattle.emtp_expr.specs.declared.words.Taken.{Taken}
 use Rattle.emtp_expr.specs.declared.words.Word.{Word}
 use Rattle.emtp_expr.specs.declared.words.Word.TheVariants.{Name, Function, Operator, Not, Open, Close, Nothing}
 
+-- a word and the number of its bytes
 abbrev pub taken : Word → ℕ → Taken
 taken word n = record { word = word; length = n }
 
@@ -37,9 +38,11 @@ begun_with (entry ∷ table) text = if starts_with nat_eq text entry.0 then Some
 unfoldable pub dotted : List ℕ → Option Taken
 dotted text = begun_with dotted_words text
 
+-- how many digits stand in front
 abbrev pub digit_count : List ℕ → ℕ
 digit_count text = length (take_while is_ascii_digit text)
 
+-- how many letters and digits stand in front
 abbrev pub letter_count : List ℕ → ℕ
 letter_count text = length (take_while is_ascii_alphanumeric text)
 
@@ -54,6 +57,7 @@ mantissa_length text =
     if (digit_count text == 0) && nat_lt (fraction_length (drop (digit_count text) text)) 2 then 0
     else digit_count text + fraction_length (drop (digit_count text) text)
 
+-- + or -
 unfoldable pub sign_length : List ℕ → ℕ
 sign_length [] = 0
 sign_length (byte ∷ bytes) = if (byte == 43) || (byte == 45) then 1 else 0
@@ -70,6 +74,7 @@ exponent_length [] = 0
 exponent_length (byte ∷ bytes) =
     if (byte == 69) || (byte == 68) then (if power_length bytes == 0 then 0 else 1 + power_length bytes) else 0
 
+-- a number: as many bytes as its rule allows, and 0 where none stands in front
 unfoldable pub number_length : List ℕ → ℕ
 number_length text =
     if mantissa_length text == 0 then 0
@@ -96,6 +101,7 @@ name_word text = function_or_name functions text
 abbrev pub marks : List (ℕ × Word)
 marks = (43, Operator Add) ∷ (45, Operator Sub) ∷ (42, Operator Mul) ∷ (47, Operator Div) ∷ (40, Open) ∷ (41, Close) ∷ []
 
+-- any other byte begins no word
 abbrev pub mark_in : List (ℕ × Word) → ℕ → Word
 mark_in [] byte = Nothing
 mark_in (entry ∷ table) byte = if byte == entry.0 then entry.1 else mark_in table byte
@@ -135,5 +141,6 @@ words_from zero column (byte ∷ bytes) =
     if byte == 32 then words_from zero (column + 1) bytes
     else placed (word_at (byte ∷ bytes)).word column ∷ words_from ((word_at (byte ∷ bytes)).length - 1) (column + 1) bytes
 
+-- the words of a text, each with its column
 unfoldable pub words_of : List ℕ → List Placed
 words_of text = words_from 0 1 text

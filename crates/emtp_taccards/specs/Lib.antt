@@ -2,5 +2,8 @@ pub mod Inputs
 pub mod BlockCard
 pub mod PolynomialCard
 pub mod TacsSourceCard
+pub mod Group
+pub mod FormulaCard
+pub mod DeviceCard
 pub mod ExtraCard
 pub mod TacsOutputCard

@@ -5,6 +5,7 @@ ghost use Rattle.std.specs.Option.{ForSome};
 ghost use Rattle.emtp_netcards.specs.Fields.{IsSmall};
 ghost use Rattle.emtp_taccards.specs.BlockCard.{HasBlockNumbers, HasLimitsInOrder, are_crossed, block_card, block_fault, gain_by, gain_field, limit_field, limits_fault, named_block, order_field, order_of};
 
+use crate::EXA;
 use crate::inputs::{inputs, inputs_fault};
 use emtp_card::{
     Bad, Fault, Line, MAX_BYTES, Why, fault_at, field_name, field_number, field_whole, judge, least,
@@ -12,8 +13,6 @@ use emtp_card::{
 use emtp_case::Name;
 use emtp_fix::PICO;
 use emtp_netcards::{needed_name, signed_number};
-
-const EXA: i64 = 1_000_000_000_000_000_000;
 
 /// 1 in the unit of a gain.
 const ONE: i64 = PICO as i64;

@@ -16,14 +16,22 @@
 #![tactic(auto)]
 
 mod block_card;
+mod device_card;
 mod extra_card;
+mod formula_card;
+mod group;
 mod inputs;
 mod polynomial_card;
 mod tacs_output_card;
 mod tacs_source_card;
 
 pub use block_card::{BlockCard, block};
-pub use extra_card::{DeviceCard, ExtraCard, FormulaCard, extra};
+pub use device_card::DeviceCard;
+pub use extra_card::{ExtraCard, extra};
+pub use formula_card::FormulaCard;
 pub use polynomial_card::polynomial;
 pub use tacs_output_card::tacs_outputs;
 pub use tacs_source_card::tacs_source;
+
+/// The greatest magnitude of most fields, in their units.
+const EXA: i64 = 1_000_000_000_000_000_000;

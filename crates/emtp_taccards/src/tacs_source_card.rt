@@ -7,14 +7,13 @@ ghost use Rattle.emtp_case.specs.declared.source.Source.{Source};
 ghost use Rattle.emtp_netcards.specs.Fields.{IsSmall};
 ghost use Rattle.emtp_taccards.specs.TacsSourceCard.{HasTacsSourceNumbers, IsUnresolved, driven, driven_fault, is_measured, level_field, measured, named_source, period_field, pulse_fault, pulse_shape, saw_shape, signal_fault, signal_field, signal_of, signal_shape, tacs_source_card, tacs_source_fault, width_field};
 
+use crate::EXA;
 use emtp_card::{Bad, Fault, Line, MAX_BYTES, Why, fault_at, field_whole, judge, least};
 use emtp_case::{Name, Shape};
 use emtp_netcards::{
     SourceCard, cosine_fault, cosine_shape, held_time_or_zero, needed_name, required,
     signed_number, stop,
 };
-
-const EXA: i64 = 1_000_000_000_000_000_000;
 
 /// The type of a source card of the control.
 #[derive(Clone, Copy, PartialEq, Eq)]

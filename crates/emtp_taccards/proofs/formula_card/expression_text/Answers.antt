@@ -1,6 +1,6 @@
 use Rattle.std.proofs.Common.{arith}
 use Rattle.emtp_taccards.proofs.Columns.{cut}
-use Rattle.emtp_taccards.proofs.extra_card.expression_text.Goals as goal
+use Rattle.emtp_taccards.proofs.formula_card.expression_text.Goals as goal
 
 pub returns-clause-text : goal.returns-clause-text
 returns-clause-text c =
