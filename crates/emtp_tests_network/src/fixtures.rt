@@ -1,11 +1,11 @@
 //! What the tests share.
 
-ghost use Rattle.std.specs.Prelude.{◌≡◌, ◌≢◌, ◌≤◌, ◌∷◌, [], ◌*ℤ◌, ◌^◌, length, pos, unsigned_abs, IfOk};
+ghost use Rattle.std.specs.Prelude.{◌≡◌, ◌≢◌, ◌≤◌, ◌∷◌, [], ◌*ℤ◌, ◌^◌, All, length, pos, unsigned_abs, IfOk, OnOk};
 ghost use Rattle.emtp_case.specs.Branch.{IsLumped};
-ghost use Rattle.emtp_case.specs.Case.{empty_parts};
+ghost use Rattle.emtp_case.specs.Case.{empty_parts, standing_names};
 ghost use Rattle.emtp_case.specs.Sizes.{sizes_with};
 ghost use Rattle.emtp_case.specs.Source.{IsSource};
-ghost use Rattle.emtp_case.specs.Switch.{IsSwitch, IsSwitchKind};
+ghost use Rattle.emtp_case.specs.Switch.{HasTimes, IsSwitch, IsSwitchKind};
 ghost use Rattle.emtp_tests_network.specs.Fixtures.{HasSizes};
 
 use emtp_case::{Case, Draft, Lumped, Name, RunData, Shape, Source, Switch, SwitchKind};
@@ -13,18 +13,31 @@ use std::alloc::{AllocError, Global};
 
 /// 100 microseconds a step, five steps.
 pub const RUN: RunData = RunData {
-    dt: 100_000_000,
+    dt: STEP,
     steps: 5,
     every: 1,
     tolerance: 10_000_000,
 };
 
+/// The time step.
+pub const STEP: i64 = 100_000_000;
+
 /// 1 volt in nV, 1 ampere in nA.
+pub const NANO: i64 = 1_000_000_000;
+
+/// Volts in nV, amperes in nA.
 pub fn nano(x: i16) -> i64
     ensures value { result ≡ x *ℤ pos (10 ^ 9) }
     ensures small { unsigned_abs result ≤ 10 ^ 18 }
 {
-    i64::from(x) * 1_000_000_000
+    i64::from(x) * NANO
+}
+
+/// Amperes in nA, for sums.
+pub fn wide(x: i16) -> i128
+    ensures small { unsigned_abs result ≤ 10 ^ 24 }
+{
+    i128::from(nano(x))
 }
 
 /// 1 ohm between two of four nodes.
@@ -63,11 +76,12 @@ fn voltage(node: u32) -> Source
     }
 }
 
-/// A breaker between two of four nodes; times in steps.
-pub fn breaker(from: u32, to: u32, close: i16, open_at: Option<i16>) -> Switch
+/// A breaker between two of four nodes that interrupts a current of 0 alone, or one that has passed a zero.
+pub fn breaker(from: u32, to: u32, close: i64, open_at: Option<i64>) -> Switch
     requires from_there { from ≤ 4 }
     requires to_there { to ≤ 4 }
     requires apart { from ≢ to }
+    requires times { HasTimes close open_at }
     ensures { IsSwitch (sizes_with 4) result }
 {
     Switch {
@@ -75,11 +89,8 @@ pub fn breaker(from: u32, to: u32, close: i16, open_at: Option<i16>) -> Switch
         from,
         to,
         kind: SwitchKind::Time {
-            close: i64::from(close) * RUN.dt,
-            open_at: match open_at {
-                Some(step) => Some(i64::from(step) * RUN.dt),
-                None => None,
-            },
+            close,
+            open_at,
             margin: 0,
         },
     }
@@ -105,7 +116,7 @@ pub fn switch(from: u32, to: u32, kind: SwitchKind) -> Switch
 pub fn never() -> Switch
     ensures { IsSwitch (sizes_with 4) result }
 {
-    breaker(1, 0, 1000, None)
+    breaker(1, 0, 1_000 * STEP, None)
 }
 
 fn four_nodes(alloc: Global) -> Result<Draft, AllocError>
@@ -119,29 +130,57 @@ fn four_nodes(alloc: Global) -> Result<Draft, AllocError>
     Ok(draft)
 }
 
+/// A voltage source at node 1, and perhaps one at node 4.
+fn add_sources(draft: &mut Draft, second: bool) -> Result<(), AllocError>
+    requires nodes { length draft.old.parts.nodes ≡ 4 }
+    requires vars { draft.old.parts.vars ≡ standing_names }
+    requires none { draft.old.parts.sources ≡ [] }
+    ensures { OnOk result (draft.new.parts ≡ record draft.old.parts { sources = draft.new.parts.sources }) }
+{
+    draft.add_source(voltage(1))?;
+    if second {
+        draft.add_source(voltage(4))?;
+    }
+    Ok(())
+}
+
+fn add_switches(
+    draft: &mut Draft,
+    first: Switch,
+    second: Switch,
+    third: Switch,
+) -> Result<(), AllocError>
+    requires nodes { length draft.old.parts.nodes ≡ 4 }
+    requires vars { draft.old.parts.vars ≡ standing_names }
+    requires none { draft.old.parts.switches ≡ [] }
+    requires first { IsSwitch (sizes_with 4) first }
+    requires second { IsSwitch (sizes_with 4) second }
+    requires third { IsSwitch (sizes_with 4) third }
+    ensures count { OnOk result (length draft.new.parts.switches ≡ 3) }
+    ensures others { OnOk result (draft.new.parts ≡ record draft.old.parts { switches = draft.new.parts.switches }) }
+{
+    draft.add_switch(first)?;
+    draft.add_switch(second)?;
+    draft.add_switch(third)
+}
+
 /// Four nodes, two resistors, a voltage source at node 1 and perhaps one at node 4, and three switches.
 pub fn network(
     alloc: Global,
-    resistors: (Lumped, Lumped),
+    resistors: [Lumped; 2],
     second_source: bool,
-    switches: (Switch, Switch, Switch),
+    switches: [Switch; 3],
 ) -> Result<Case, AllocError>
-    requires resistor { IsLumped RUN (sizes_with 4) resistors.0 }
-    requires other_resistor { IsLumped RUN (sizes_with 4) resistors.1.0 }
-    requires switch { IsSwitch (sizes_with 4) switches.0 }
-    requires second_switch { IsSwitch (sizes_with 4) switches.1.0 }
-    requires third_switch { IsSwitch (sizes_with 4) switches.1.1.0 }
+    requires resistors { All (IsLumped RUN (sizes_with 4)) resistors }
+    requires switches { All (IsSwitch (sizes_with 4)) switches }
     ensures { IfOk result (λ case. HasSizes case.parts) }
 {
     let mut draft = four_nodes(alloc)?;
-    draft.add_lumped(resistors.0)?;
-    draft.add_lumped(resistors.1)?;
-    draft.add_source(voltage(1))?;
-    if second_source {
-        draft.add_source(voltage(4))?;
-    }
-    draft.add_switch(switches.0)?;
-    draft.add_switch(switches.1)?;
-    draft.add_switch(switches.2)?;
+    let [resistor, other] = resistors;
+    draft.add_lumped(resistor)?;
+    draft.add_lumped(other)?;
+    add_sources(&mut draft, second_source)?;
+    let [first, second, third] = switches;
+    add_switches(&mut draft, first, second, third)?;
     Ok(draft.finish_network())
 }

@@ -10,9 +10,10 @@ ghost use Rattle.emtp_switch.specs.States.{next_states};
 ghost use Rattle.emtp_switch.specs.Switching.{AreLatest, StandsFor};
 ghost use Rattle.emtp_tests_network.specs.Fixtures.{HasSizes};
 
-use crate::fixtures::{breaker, nano, network, never, ohm, switch};
-use emtp_case::{RowKind, SwitchKind, order};
+use crate::fixtures::{NANO, STEP, breaker, nano, network, never, ohm, switch, wide};
+use emtp_case::{Case, RowKind, SwitchKind, order};
 use emtp_switch::{Switches, Tied};
+use std::alloc::{AllocError, Global};
 use std::test::Fail;
 
 /// One step of the switches, as the network makes it: the kinds of the rows are written anew only where a state changed.
@@ -42,133 +43,220 @@ fn decide(
     Ok(())
 }
 
-// Steps of cases with four nodes and three switches, in volts and amperes.
+// Cases with four nodes and three switches, in volts and amperes.
 
-/// Which switches are closed in a step, after the voltages and currents of the record before and the value of PLUS1 in it.
-fn closed_after(
-    switches: &mut Switches<'_>,
-    step: u32,
+/// What the rest of the network gives before a step, and what the switches show after it.
+#[derive(Clone, Copy)]
+struct Look {
+    /// The voltages of the four nodes in the record before.
     volts: [i16; 4],
+    /// The currents of the three switches in the record before.
     amperes: [i16; 3],
+    /// The value of PLUS1 in the record before.
     control: i16,
-) -> [bool; 3]
-    requires sizes { HasSizes switches.old.case }
-    requires step { step ≤ 5 }
-    ensures { switches.new.case ≡ switches.old.case }
-{
-    let [a, b, c, d] = volts;
-    let [i, j, k] = amperes;
-    let voltages = [0, nano(a), nano(b), nano(c), nano(d)];
-    let currents = [nano(i), nano(j), nano(k)];
-    let tacs = [0, 0, 0, 0, nano(control), 0];
-    switches.decide(step, &voltages, &currents, &tacs);
-    [switches.closed(0), switches.closed(1), switches.closed(2)]
+    /// What leaves the nodes of the four rows.
+    leaving: [i16; 4],
+    /// Which switches are closed.
+    closed: [bool; 3],
+    /// The kinds of the rows, or the tied switch.
+    kinds: Result<[RowKind; 4], Tied>,
+    /// The currents of the switches, in amperes.
+    currents: [i16; 3],
 }
 
-/// The kinds of the four rows.
-fn kinds(switches: &Switches<'_>) -> Result<[RowKind; 4], Tied>
+fn decide_step(switches: &mut Switches<'_>, n: u32, step: &Look)
+    requires sizes { HasSizes switches.old.case }
+    requires n { n ≤ 5 }
+    ensures { switches.new.case ≡ switches.old.case }
+{
+    let [a, b, c, d] = step.volts;
+    let [i, j, k] = step.amperes;
+    let voltages = [0, nano(a), nano(b), nano(c), nano(d)];
+    let currents = [nano(i), nano(j), nano(k)];
+    let tacs = [0, 0, 0, 0, nano(step.control), 0];
+    switches.decide(n, &voltages, &currents, &tacs);
+}
+
+fn has_states(switches: &Switches<'_>, step: &Look) -> bool
+    requires { HasSizes switches.now.case }
+{
+    let [a, b, c] = step.closed;
+    switches.closed(0) == a && switches.closed(1) == b && switches.closed(2) == c
+}
+
+fn has_kinds(switches: &Switches<'_>, step: &Look) -> bool
     requires { HasSizes switches.now.case }
 {
     let mut kinds = [RowKind::Kcl; 4];
-    switches.kinds(&mut kinds)?;
-    Ok(kinds)
+    match switches.kinds(&mut kinds) {
+        Ok(()) => step.kinds == Ok(kinds),
+        Err(tied) => step.kinds == Err(tied),
+    }
 }
 
-/// The currents of the three switches, from what leaves the nodes of the four rows.
-fn currents(switches: &mut Switches<'_>, leaving: [i16; 4]) -> Option<[i64; 3]>
+fn has_currents(switches: &mut Switches<'_>, step: &Look) -> bool
     requires { HasSizes switches.old.case }
-    ensures { switches.new.case ≡ switches.old.case }
+    ensures { switches.new ≡ switches.old }
 {
-    let [a, b, c, d] = leaving;
-    let leaving = [
-        i128::from(nano(a)),
-        i128::from(nano(b)),
-        i128::from(nano(c)),
-        i128::from(nano(d)),
-    ];
+    let [a, b, c, d] = step.leaving;
+    let [i, j, k] = step.currents;
+    let leaving = [wide(a), wide(b), wide(c), wide(d)];
     let mut currents = [0; 3];
-    switches.currents(&leaving, &mut currents).ok()?;
-    Some(currents)
+    match switches.currents(&leaving, &mut currents) {
+        Ok(()) => currents == [nano(i), nano(j), nano(k)],
+        Err(_) => false,
+    }
 }
 
-const A: i64 = 1_000_000_000;
+/// Whether the switches of a case show what the table tells of record 0 and of each step after it.
+fn walk(alloc: Global, case: &Case, steps: &[Look]) -> Result<bool, AllocError>
+    requires sizes { HasSizes case.now.parts }
+    requires few { length steps.now ≤ 6 }
+{
+    let rows = order(alloc, case)?;
+    let mut switches = Switches::open(alloc, case, &rows)?;
+    for n in 0..steps.len() {
+        if n > 0 {
+            decide_step(&mut switches, n as u32, &steps[n]);
+        }
+        let shows = has_states(&switches, &steps[n]) && has_kinds(&switches, &steps[n]);
+        if !shows || !has_currents(&mut switches, &steps[n]) {
+            return Ok(false);
+        }
+    }
+    Ok(true)
+}
+
+const KCL: RowKind = RowKind::Kcl;
+
+const SUM: RowKind = RowKind::Sum;
+
+const TIE: RowKind = RowKind::Tie(3);
+
+const GROUND: RowKind = RowKind::Ground;
+
+const SOURCE: RowKind = RowKind::Source;
+
+fn row(
+    (volts, amperes, control): ([i16; 4], [i16; 3], i16),
+    closed: [bool; 3],
+    kinds: [RowKind; 4],
+    (leaving, currents): ([i16; 4], [i16; 3]),
+) -> Look {
+    Look {
+        volts,
+        amperes,
+        control,
+        leaving,
+        closed,
+        kinds: Ok(kinds),
+        currents,
+    }
+}
 
 #[test]
 fn breaker_opens_once_its_current_has_passed_a_zero(rt: HostRuntime) -> Result<(), Fail> {
     // 250 V at N1 and a ramp of 100 V a step at N4, 2 ohm between them with the breaker amid; it is to open from step 2 on
-    let switches = (breaker(2, 3, -1, Some(2)), never(), never());
-    let case = network(rt.alloc(), (ohm(1, 2), ohm(3, 4)), true, switches)?;
-    let rows = order(rt.alloc(), &case)?;
-    let mut switches = Switches::open(rt.alloc(), &case, &rows)?;
-    let tied = [
-        RowKind::Source,
-        RowKind::Source,
-        RowKind::Tie(3),
-        RowKind::Sum,
+    let switches = [breaker(2, 3, -1, Some(2 * STEP)), never(), never()];
+    let case = network(rt.alloc(), [ohm(1, 2), ohm(3, 4)], true, switches)?;
+    let on = [true, false, false];
+    let off = [false; 3];
+    let shut = [SOURCE, SOURCE, TIE, SUM];
+    let open = [SOURCE, SOURCE, KCL, KCL];
+    let rest = [0; 4];
+    let steps = [
+        row((rest, [0, 0, 0], 0), on, shut, (rest, [0, 0, 0])),
+        row(
+            (rest, [0, 0, 0], 0),
+            on,
+            shut,
+            ([75, -75, -75, 75], [75, 0, 0]),
+        ),
+        row(
+            (rest, [75, 0, 0], 0),
+            on,
+            shut,
+            ([25, -25, -25, 25], [25, 0, 0]),
+        ),
+        row(
+            (rest, [25, 0, 0], 0),
+            on,
+            shut,
+            ([-25, 25, 25, -25], [-25, 0, 0]),
+        ),
+        row((rest, [-25, 0, 0], 0), off, open, (rest, [0, 0, 0])),
+        row((rest, [0, 0, 0], 0), off, open, (rest, [0, 0, 0])),
     ];
-    let apart = [RowKind::Source, RowKind::Source, RowKind::Kcl, RowKind::Kcl];
-    assert!(rt; kinds(&switches) == Ok(tied));
-    let still = [0, 0, 0, 0];
-    assert!(rt; closed_after(&mut switches, 1, still, [0, 0, 0], 0) == [true, false, false]);
-    assert!(rt; currents(&mut switches, [75, -75, -75, 75]) == Some([75 * A, 0, 0]));
-    assert!(rt; closed_after(&mut switches, 2, still, [75, 0, 0], 0) == [true, false, false]);
-    assert!(rt; closed_after(&mut switches, 3, still, [25, 0, 0], 0) == [true, false, false]);
-    assert!(rt; currents(&mut switches, [-25, 25, 25, -25]) == Some([-25 * A, 0, 0]));
-    assert!(rt; !switches.changed());
-    assert!(rt; closed_after(&mut switches, 4, still, [-25, 0, 0], 0) == [false, false, false]);
-    assert!(rt; switches.changed() && kinds(&switches) == Ok(apart));
-    assert!(rt; currents(&mut switches, [0, 0, 0, 0]) == Some([0, 0, 0]));
-    assert!(rt; closed_after(&mut switches, 5, still, [0, 0, 0], 0) == [false, false, false]);
+    assert!(rt; walk(rt.alloc(), &case, &steps)?);
     Ok(())
 }
 
 #[test]
 fn empty_group_is_at_ground(rt: HostRuntime) -> Result<(), Fail> {
     // N1 to N2 and N3 to ground, with switches N2 to N4 and N4 to N3: nothing else ends at N4
-    let switches = (breaker(2, 4, 2, None), breaker(4, 3, 3, None), never());
-    let case = network(rt.alloc(), (ohm(1, 2), ohm(3, 0)), false, switches)?;
-    let rows = order(rt.alloc(), &case)?;
-    let mut switches = Switches::open(rt.alloc(), &case, &rows)?;
-    let source = RowKind::Source;
-    let still = [0, 0, 0, 0];
-    assert!(rt; closed_after(&mut switches, 1, still, [0, 0, 0], 0) == [false, false, false]);
-    assert!(rt; kinds(&switches) == Ok([source, RowKind::Kcl, RowKind::Kcl, RowKind::Ground]));
-    assert!(rt; closed_after(&mut switches, 2, still, [0, 0, 0], 0) == [true, false, false]);
-    assert!(rt; kinds(&switches) == Ok([source, RowKind::Tie(3), RowKind::Kcl, RowKind::Sum]));
-    assert!(rt; closed_after(&mut switches, 3, still, [0, 0, 0], 0) == [true, true, false]);
-    assert!(rt; kinds(&switches) == Ok([source, RowKind::Tie(3), RowKind::Tie(3), RowKind::Sum]));
-    assert!(rt; currents(&mut switches, [50, -50, 50, 0]) == Some([50 * A, 50 * A, 0]));
+    let switches = [
+        breaker(2, 4, 2 * STEP, None),
+        breaker(4, 3, 3 * STEP, None),
+        never(),
+    ];
+    let case = network(rt.alloc(), [ohm(1, 2), ohm(3, 0)], false, switches)?;
+    let still = ([0; 4], [0; 3], 0);
+    let apart = ([0, 0, 0, 0], [0, 0, 0]);
+    let steps = [
+        row(
+            still,
+            [false, false, false],
+            [SOURCE, KCL, KCL, GROUND],
+            apart,
+        ),
+        row(
+            still,
+            [false, false, false],
+            [SOURCE, KCL, KCL, GROUND],
+            apart,
+        ),
+        row(still, [true, false, false], [SOURCE, TIE, KCL, SUM], apart),
+        row(
+            still,
+            [true, true, false],
+            [SOURCE, TIE, TIE, SUM],
+            ([50, -50, 50, 0], [50, 50, 0]),
+        ),
+    ];
+    assert!(rt; walk(rt.alloc(), &case, &steps)?);
     Ok(())
 }
 
 #[test]
 fn source_that_is_tied_to_ground_is_named(rt: HostRuntime) -> Result<(), Fail> {
-    let switches = (never(), breaker(1, 0, 2, None), breaker(1, 0, 2, None));
-    let case = network(rt.alloc(), (ohm(1, 2), ohm(3, 4)), false, switches)?;
-    let rows = order(rt.alloc(), &case)?;
-    let mut switches = Switches::open(rt.alloc(), &case, &rows)?;
-    let still = [0, 0, 0, 0];
-    assert!(rt; closed_after(&mut switches, 1, still, [0, 0, 0], 0) == [false, false, false]);
-    assert!(rt; kinds(&switches).is_ok());
-    assert!(rt; closed_after(&mut switches, 2, still, [0, 0, 0], 0) == [false, true, true]);
-    assert!(rt; kinds(&switches) == Err(Tied { switch: 1 }));
+    let switches = [
+        never(),
+        breaker(1, 0, STEP, None),
+        breaker(1, 0, STEP, None),
+    ];
+    let case = network(rt.alloc(), [ohm(1, 2), ohm(3, 4)], false, switches)?;
+    let still = ([0; 4], [0; 3], 0);
+    let apart = ([0, 0, 0, 0], [0, 0, 0]);
+    let first = row(still, [false, false, false], [SOURCE, KCL, KCL, KCL], apart);
+    let mut second = row(still, [false, true, true], [KCL; 4], apart);
+    second.kinds = Err(Tied { switch: 1 });
+    assert!(rt; walk(rt.alloc(), &case, &[first, second])?);
     Ok(())
 }
 
 #[test]
 fn last_switch_of_a_loop_carries_nothing(rt: HostRuntime) -> Result<(), Fail> {
     // N1 to N2, N3 to ground; the loop N2 to N4, N4 to N3, N3 to N2
-    let switches = (
+    let switches = [
         breaker(2, 4, -1, None),
         breaker(4, 3, -1, None),
         breaker(3, 2, -1, None),
-    );
-    let case = network(rt.alloc(), (ohm(1, 2), ohm(3, 0)), false, switches)?;
-    let rows = order(rt.alloc(), &case)?;
-    let mut switches = Switches::open(rt.alloc(), &case, &rows)?;
-    let tie = RowKind::Tie(3);
-    assert!(rt; kinds(&switches) == Ok([RowKind::Source, tie, tie, RowKind::Sum]));
-    assert!(rt; currents(&mut switches, [50, -50, 50, 0]) == Some([50 * A, 50 * A, 0]));
+    ];
+    let case = network(rt.alloc(), [ohm(1, 2), ohm(3, 0)], false, switches)?;
+    let still = ([0; 4], [0; 3], 0);
+    let kinds = [SOURCE, TIE, TIE, SUM];
+    let first = row(still, [true; 3], kinds, ([50, -50, 50, 0], [50, 50, 0]));
+    assert!(rt; walk(rt.alloc(), &case, &[first])?);
     Ok(())
 }
 
@@ -176,26 +264,34 @@ fn last_switch_of_a_loop_carries_nothing(rt: HostRuntime) -> Result<(), Fail> {
 fn other_kinds_of_switches(rt: HostRuntime) -> Result<(), Fail> {
     // a measuring switch, a valve that ignites at 5 V and holds to 2 A, and a switch that PLUS1 controls
     let valve = SwitchKind::Valve {
-        ignition: 5 * A,
-        holding: 2 * A,
+        ignition: 5 * NANO,
+        holding: 2 * NANO,
         control: None,
     };
-    let switches = (
+    let switches = [
         switch(2, 3, SwitchKind::Measuring),
         switch(1, 4, valve),
         switch(3, 4, SwitchKind::Control { control: 4 }),
-    );
-    let case = network(rt.alloc(), (ohm(1, 2), ohm(3, 0)), false, switches)?;
-    let rows = order(rt.alloc(), &case)?;
-    let mut switches = Switches::open(rt.alloc(), &case, &rows)?;
-    assert!(rt; switches.closed(0) && !switches.closed(1) && !switches.closed(2));
-    assert!(rt; currents(&mut switches, [50, -50, 50, 0]) == Some([50 * A, 0, 0]));
-    assert!(rt; closed_after(&mut switches, 1, [4, 0, 0, 0], [0, 0, 0], 0) == [true, false, false]);
-    assert!(rt; closed_after(&mut switches, 2, [5, 0, 0, 0], [0, 0, 0], 1) == [true, true, true]);
-    assert!(rt; closed_after(&mut switches, 3, [9, 0, 0, 9], [0, 2, 0], 0) == [true, true, false]);
-    assert!(rt;
-        closed_after(&mut switches, 4, [9, 0, 0, 9], [0, 1, 0], -1) == [true, false, false]
-    );
-    assert!(rt; closed_after(&mut switches, 5, [0, 0, 0, 9], [0, 0, 0], 0) == [true, false, false]);
+    ];
+    let case = network(rt.alloc(), [ohm(1, 2), ohm(3, 0)], false, switches)?;
+    let (first, both) = ([true, false, false], [true, true, false]);
+    let idle = [SOURCE, RowKind::Tie(2), SUM, GROUND];
+    let lit = [SOURCE, RowKind::Tie(2), SUM, RowKind::Tie(0)];
+    let all = [SOURCE, RowKind::Tie(0), RowKind::Tie(0), RowKind::Tie(0)];
+    let load = ([50, -50, 50, 0], [50, 0, 0]);
+    let steps = [
+        row(([0; 4], [0, 0, 0], 0), first, idle, load),
+        row(([4, 0, 0, 0], [0, 0, 0], 0), first, idle, load),
+        row(
+            ([5, 0, 0, 0], [0, 0, 0], 1),
+            [true; 3],
+            all,
+            ([0, 7, 5, 0], [-7, 12, -12]),
+        ),
+        row(([9, 0, 0, 9], [0, 2, 0], 0), both, lit, load),
+        row(([9, 0, 0, 9], [0, 1, 0], -1), first, idle, load),
+        row(([0, 0, 0, 9], [0, 0, 0], 0), first, idle, load),
+    ];
+    assert!(rt; walk(rt.alloc(), &case, &steps)?);
     Ok(())
 }
