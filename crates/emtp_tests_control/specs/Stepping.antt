@@ -8,8 +8,8 @@ use Rattle.emtp_blocks.specs.BlockRows.{Accepts, Blocking}
 use Rattle.emtp_blocks.specs.System.{matrix, right}
 
 -- no node and seven variables
-abbrev pub lag_sizes : Sizes
-lag_sizes = record (sizes_with 0) { vars = 7 }
+abbrev pub block_sizes : Sizes
+block_sizes = record (sizes_with 0) { vars = 7 }
 
 -- a step of the blocks: their system has this solution, and the value takes it in
 pub record Steps (case : Parts) (H : List StepRecord) (known : List ℤ) (new : Blocking) (x : List ℤ) : Type 0 where

@@ -1,12 +1,13 @@
-//! The worked lag: its output follows its input by the trapezoidal rule, up to a limit of 6.
+//! The worked blocks: a lag whose output follows its input by the trapezoidal rule up to a limit, and gains that feed their
+//! output back.
 
 ghost use Rattle.std.specs.Prelude.{◌≡◌, ◌∷◌, [], ◌<◌, List, length, map, All, ◌≤◌, unsigned_abs, IfOk, OnOk};
-ghost use Rattle.emtp_case.specs.Control.{IsBlock};
+ghost use Rattle.emtp_case.specs.Control.{IsBlock, IsBound};
 ghost use Rattle.emtp_case.specs.StepRecord.{StepRecord};
 ghost use Rattle.emtp_case.specs.declared.control.Block.{Block};
 ghost use Rattle.emtp_blocks.specs.BlockRows.{AreKnown, AreUnknowns, StandsFor};
 ghost use Rattle.emtp_fix.specs.declared.limit.TheConstants.{LARGEST_VALUE};
-ghost use Rattle.emtp_tests_control.specs.Stepping.{Steps, lag_sizes};
+ghost use Rattle.emtp_tests_control.specs.Stepping.{Steps, block_sizes};
 
 use emtp_blocks::{BlockRows, rows_are_the_matrix};
 use emtp_case::{Block, Bound, Case, Draft, Input, Items, Name, RunData};
@@ -60,7 +61,7 @@ const RUN: RunData = RunData {
 /// PLUS1 behind a lag of 0.05 ms, up to 6.
 #[tactic(auto, unfolding(emtp_fix::specs::Rounding::near, emtp_fix::specs::Rounding::near_abs))]
 fn lag(alloc: Global) -> Result<Block, AllocError>
-    ensures fits { IfOk result (λ block. IsBlock RUN lag_sizes block) }
+    ensures fits { IfOk result (λ block. IsBlock RUN block_sizes block) }
     ensures var { IfOk result (λ block. block.var ≡ 6) }
 {
     let inputs = [Input {
@@ -80,9 +81,36 @@ fn lag(alloc: Global) -> Result<Block, AllocError>
     })
 }
 
+/// PLUS1 and the block's own output, which counts with a minus sign or a plus sign, up to a limit.
+#[tactic(auto, unfolding(emtp_fix::specs::Rounding::near, emtp_fix::specs::Rounding::near_abs))]
+fn feedback(alloc: Global, minus: bool, high: Bound) -> Result<Block, AllocError>
+    requires { IsBound block_sizes high }
+    ensures fits { IfOk result (λ block. IsBlock RUN block_sizes block) }
+    ensures var { IfOk result (λ block. block.var ≡ 6) }
+{
+    let inputs = [
+        Input {
+            var: 4,
+            minus: false,
+        },
+        Input { var: 6, minus },
+    ];
+    Ok(Block {
+        line: 6,
+        var: 6,
+        order: 0,
+        inputs: Items::from_vec(Vec::from_array(alloc, inputs)?),
+        gain: 1_000_000_000_000,
+        top: [0; 8],
+        bottom: [0; 8],
+        low: Bound::None,
+        high,
+    })
+}
+
 /// A case of this block alone.
 fn one_block(alloc: Global, block: Block) -> Result<Case, AllocError>
-    requires fits { IsBlock RUN lag_sizes block }
+    requires fits { IsBlock RUN block_sizes block }
     requires var { block.var ≡ 6 }
     ensures vars { IfOk result (λ case. length case.parts.vars ≡ 7) }
     ensures blocks { IfOk result (λ case. length case.parts.blocks ≡ 1) }
@@ -93,11 +121,16 @@ fn one_block(alloc: Global, block: Block) -> Result<Case, AllocError>
     Ok(draft.finish())
 }
 
-/// The outputs of the lag at these inputs; the least number where a step has no end.
-fn outputs(alloc: Global, inputs: [i64; 6]) -> Result<[i64; 6], AllocError>
-    requires { All (λ u. unsigned_abs u ≤ LARGEST_VALUE) inputs }
+/// What stands for an output where a step has no end.
+const NONE: i64 = i64::MIN;
+
+/// The outputs of a block at these inputs.
+fn outputs(alloc: Global, block: Block, inputs: [i64; 6]) -> Result<[i64; 6], AllocError>
+    requires fits { IsBlock RUN block_sizes block }
+    requires var { block.var ≡ 6 }
+    requires inputs { All (λ u. unsigned_abs u ≤ LARGEST_VALUE) inputs }
 {
-    let case = one_block(alloc, lag(alloc)?)?;
+    let case = one_block(alloc, block)?;
     let mut blocks = BlockRows::open(alloc, &case)?;
     let mut outputs = [0; 6];
     let mut rhs = [0i128];
@@ -106,19 +139,33 @@ fn outputs(alloc: Global, inputs: [i64; 6]) -> Result<[i64; 6], AllocError>
         let known = [0, 0, 0, 0, inputs[at], 0, 0];
         outputs[at] = match step(alloc, &mut blocks, &known, &mut rhs, &mut x) {
             Ok(()) => x[0],
-            Err(_) => i64::MIN,
+            Err(_) => NONE,
         };
     }
     Ok(outputs)
 }
 
+const UNIT: i64 = 1_000_000_000;
+
 #[test]
 fn limited_lag(rt: HostRuntime) -> Result<(), Fail> {
     // 8 for three steps: half the way to it in the first, the limit in the second; it is left a step after the input went
-    const UNIT: i64 = 1_000_000_000;
+    let lag = lag(rt.alloc())?;
     assert_eq!(rt;
-        outputs(rt.alloc(), [8 * UNIT, 8 * UNIT, 8 * UNIT, 0, 0, 0])?,
+        outputs(rt.alloc(), lag, [8 * UNIT, 8 * UNIT, 8 * UNIT, 0, 0, 0])?,
         [4 * UNIT, 6 * UNIT, 6 * UNIT, 6 * UNIT, 0, 0]
     );
+    Ok(())
+}
+
+#[test]
+fn fed_back(rt: HostRuntime) -> Result<(), Fail> {
+    let half = feedback(rt.alloc(), true, Bound::None)?;
+    assert_eq!(rt; outputs(rt.alloc(), half, [8 * UNIT; 6])?, [4 * UNIT; 6]);
+    let limited = feedback(rt.alloc(), true, Bound::Fixed(3 * UNIT))?;
+    assert_eq!(rt; outputs(rt.alloc(), limited, [8 * UNIT; 6])?, [3 * UNIT; 6]);
+    // x = 8 + x has no solution: the pivot is 0
+    let none = feedback(rt.alloc(), false, Bound::None)?;
+    assert_eq!(rt; outputs(rt.alloc(), none, [8 * UNIT; 6])?, [NONE; 6]);
     Ok(())
 }
