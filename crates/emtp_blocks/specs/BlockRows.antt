@@ -41,10 +41,16 @@ pub record StandsFor (s : Blocking) (H : List StepRecord) : Type 0 where
   pub one_each : length s.states ≡ length s.case.blocks
   pub blocks : (i : ℕ) → StandsAt s.case s.states H i
 
--- What accepting answers and leaves: the outputs of the definition, and a value that stands for the records and any record
--- that keeps of the blocks what the definition says; or the first block that is out of range.
+-- the blocks took the solved outputs xs: none is out of range, x has the recorded ones, and the value stands for the
+-- records with any further one whose blocks are the next ones
+pub record HaveAccepted (s : Blocking) (x : List ℤ) (H : List StepRecord) (known xs : List ℤ) : Type 0 where
+  pub in_range : first_out s.case H known xs ≡ None
+  pub recorded : x ≡ outputs s.case H known xs
+  pub stands : (r : StepRecord) → r.blocks ≡ states_after s.case H known xs → StandsFor s (r ∷ H)
+
+-- what accepting answers: that, or the first block that is out of range
 abbrev pub Accepts : Result (Unit {0}) BlockRange → Blocking → List ℤ → List StepRecord → List ℤ → List ℤ → Type 0
-Accepts (Ok u) s x H known xs = (first_out s.case H known xs ≡ None) × (x ≡ outputs s.case H known xs) × ((r : StepRecord) → r.blocks ≡ states_after s.case H known xs → StandsFor s (r ∷ H))
+Accepts (Ok u) s x H known xs = HaveAccepted s x H known xs
 Accepts (Err e) s x H known xs = first_out s.case H known xs ≡ Some e.block
 
 -- ---- what is held of the case

@@ -26,14 +26,15 @@ returns-clause-value c = λ H stands.
     let S = lent c.self.inside.states.len c.accept_all.new.states c.self.inside.states.items size in
     let O = lent c.self.inside.out.len c.accept_all.new.out c.self.inside.out.items size' in
     let long : length c.accept_all.new.out ≡ length seen.case.blocks = omega (arith, c.deref_mut-2.ensures.len, c.accept_all.auto.out, c.self.invariant.out_each, ap length c.deref_mut-2.ensures.value) in
-    let kept_long : length c.accept_all.new.states ≡ length seen.case.blocks = omega (arith, c.deref_mut.ensures.len, c.accept_all.auto.states, c.self.invariant.state_each, ap length c.deref_mut.ensures.value) in (
-      none_out_is seen.case H known xs all.in_range,
-      c.copy_from_slice.ensures.after ∙ c.deref-3.ensures.value ∙ O ∙ outputs_all seen.case c.accept_all.new.out H known xs long all.outputs_are,
-      λ r is. record {
+    let kept_long : length c.accept_all.new.states ≡ length seen.case.blocks = omega (arith, c.deref_mut.ensures.len, c.accept_all.auto.states, c.self.invariant.state_each, ap length c.deref_mut.ensures.value) in
+    record {
+      in_range = none_out_is seen.case H known xs all.in_range;
+      recorded = c.copy_from_slice.ensures.after ∙ c.deref-3.ensures.value ∙ O ∙ outputs_all seen.case c.accept_all.new.out H known xs long all.outputs_are;
+      stands = λ r is. record {
         one_each = ap length S ∙ kept_long;
         blocks = let R : List BlockState → Type 0 = λ ks. (i : ℕ) → StandsAt seen.case ks (r ∷ H) i in subst R (sym S) (stands_next seen.case c.accept_all.new.states c.accept_all.new.out H known xs r all is);
-      },
-    )
+      };
+    }
 
 pub returns-clause-moved : goal.returns-clause-moved
 returns-clause-moved c = λ still.
