@@ -12,7 +12,7 @@ use Rattle.emtp_pseudo.specs.declared.segment.Segment.{Segment}
 abbrev pub point_at : List Point → ℕ → Point
 point_at points k = slice_index_or (origin ∷ points) k origin
 
--- g in pS between two points: of a resistor 1/r, of a reactor that of the flux which a voltage brings in half a step
+-- g in pS between two points: of a resistor 1/r, of a reactor dt*di/(2*dy)
 abbrev pub conductance_of : Bool → ℤ → Point → Point → ℤ
 conductance_of false dt a b = near ATTO (slope_of false dt a b)
 conductance_of true dt a b = slope_of true dt a b

@@ -23,7 +23,7 @@ history_current_of true s old = (near (s.conductance *ℤ old.voltage) PICO +ℤ
 abbrev pub current_of : Bool → Segment → Moment → ℤ → ℤ
 current_of reactor s old v = near (s.conductance *ℤ v) PICO +ℤ history_current_of reactor s old
 
--- twice the pWb in an nV for a ps
+-- twice the nV times ps in a pWb, since a trapezoid takes the mean of two voltages
 abbrev pub DOUBLE_NANO : ℤ
 DOUBLE_NANO = pos (2 * 10 ^ 9)
 

@@ -1,0 +1,11 @@
+pub mod Sums
+pub mod Chains
+pub mod Coefficients
+pub mod NextStates
+pub mod Couplings
+pub mod Systems
+pub mod OneByOne
+pub mod Matrices
+pub mod LawLists
+pub mod Resting
+pub mod Limiters

@@ -1,0 +1,97 @@
+use Rattle.std.proofs.Common.{◌≡◌, ◌∙◌, sym, ap, subst, ℤ, pos, Some, None, length, get_or, slice_get, to_z, of_z, arith}
+use mir.Syntax.{w64}
+use Rattle.std.proofs.lemmas.Int.{ints}
+use Rattle.std.proofs.lemmas.Option.{slice_get-get_or}
+use Rattle.emtp_case.specs.Sizes.{sizes_of}
+use Rattle.emtp_case.specs.Control.{IsBlock}
+use Rattle.emtp_case.specs.declared.control.Block.{Block}
+use Rattle.emtp_elim.specs.Matrix.{item}
+use Rattle.emtp_fix.proofs.Wide.{through_64}
+use Rattle.emtp_blocks.specs.Block.{Keeps, limits_of, next_state, output_of}
+use Rattle.emtp_blocks.specs.System.{block_of, input_sum, state_at}
+use Rattle.emtp_blocks.specs.declared.limits.Limits.{Limits}
+use Rattle.emtp_blocks.proofs.Systems.{length-places_of, place_there, input_sum_is, gives_some, gives_none}
+use Rattle.emtp_blocks.proofs.accepting.accept_one.Goals as goal
+
+pub limits_in_step-limits-requires-clause-low : goal.limits_in_step-limits-requires-clause-low
+limits_in_step-limits-requires-clause-low c =
+    let case = c.args.case.now.parts in
+    let b = c.index-as_slice-at.result in
+    let read : b ≡ get_or case.blocks c.args.at b = rw c.as_slice.ensures at c.index-as_slice-at.is in
+    let fits = let P = λ (y : Block). IsBlock case.run (sizes_of case) y in subst P (sym read) (c.args.case.now.fits.draft.control.blocks c.args.at b c.requires.there) in
+    (sizes_of case, sym c.requires.known.one_each, fits.low)
+
+pub limits_in_step-limits-requires-clause-high : goal.limits_in_step-limits-requires-clause-high
+limits_in_step-limits-requires-clause-high c =
+    let case = c.args.case.now.parts in
+    let b = c.index-as_slice-at.result in
+    let read : b ≡ get_or case.blocks c.args.at b = rw c.as_slice.ensures at c.index-as_slice-at.is in
+    let fits = let P = λ (y : Block). IsBlock case.run (sizes_of case) y in subst P (sym read) (c.args.case.now.fits.draft.control.blocks c.args.at b c.requires.there) in
+    (sizes_of case, sym c.requires.known.one_each, fits.high)
+
+pub input_sum-s-requires-clause-places : goal.input_sum-s-requires-clause-places
+input_sum-s-requires-clause-places c = ap length c.requires.places ∙ length-places_of c.args.case.now.parts ∙ sym c.requires.known.one_each
+
+pub input_sum-s-requires-clause-blocks : goal.input_sum-s-requires-clause-blocks
+input_sum-s-requires-clause-blocks c = λ k d below x is.
+    let e = c.requires.places in
+    let there = place_there c.args.case.now.parts k d x (rw e at below) (rw e at is) in
+    omega (arith, there, c.requires.xs.one_each)
+
+pub returns-in-Some-clause-value : goal.returns-in-Some-clause-value
+returns-in-Some-clause-value c = λ H stands.
+    let case = c.args.case.now.parts in
+    let at = c.args.at in
+    let known = c.args.known.now in
+    let xs = c.args.xs.now in
+    let b = c.index-as_slice-at.result in
+    let size = ap length c.as_slice.ensures in
+    let read : b ≡ get_or case.blocks at b = rw c.as_slice.ensures at c.index-as_slice-at.is in
+    let here : slice_get case.blocks at ≡ Some b = slice_get-get_or case.blocks at b c.requires.there ∙ ap Some (sym read) in
+    let fits = let P = λ (y : Block). IsBlock case.run (sizes_of case) y in subst P (sym read) (c.args.case.now.fits.draft.control.blocks at b c.requires.there) in
+    let law = c.requires.laws at b c.requires.there here in
+    let has = stands b here in
+    let small = c.requires.xs.small at (pos 0) (omega (arith, c.requires.there, c.requires.xs.one_each)) in
+    let solved : to_z w64 (of_z w64 (item xs at)) ≡ item xs at = through_64 (item xs at) small in
+    let x : to_z w64 (of_z w64 c.output-x.result) ≡ c.output-x.result = through_64 _ c.output-x.ensures.small in
+    let s : to_z w64 (of_z w64 c.input_sum-s.result) ≡ c.input_sum-s.result = omega (arith, ints, c.input_sum-s.ensures.small) in
+    let lim = c.limits_in_step-limits.ensures.value in
+    let out : c.output-x.result ≡ output_of (limits_of known b) (state_at H at).limiter (item xs at) =
+    rw solved at c.output-x.ensures.value ∙ ap (λ (l : Limits). output_of l c.args.state.now.limiter (item xs at)) lim ∙ ap (λ l. output_of (limits_of known b) l (item xs at)) has.limiter_is in
+    let sum : c.input_sum-s.result ≡ input_sum (block_of case) known xs at c.output-x.result b.inputs =
+    rw (x, c.as_slice-2.ensures, c.requires.places) at c.input_sum-s.ensures.value ∙ input_sum_is case known xs at c.output-x.result b.inputs fits.inputs in
+    let keeps = c.in-Some.ensures.value case.run.dt (state_at H at) law has in
+    let K : Limits → ℤ → ℤ → Type 0 = λ l v n. Keeps b.order (Some c.in-Some.state) (next_state case.run.dt b l (state_at H at) v n) in
+    let K1 : Limits → Type 0 = λ l. K l (item xs at) c.input_sum-s.result in
+    let K2 : ℤ → Type 0 = λ n. K (limits_of known b) (item xs at) n in
+    let keeps' = subst K2 sum (subst K1 lim (rw (solved, s) at keeps)) in
+    gives_some case H known xs at b (record { output = to_z w64 (of_z w64 c.output-x.result); state = c.in-Some.state }) here (x ∙ out) (rw x keeps')
+
+pub returns-in-None-clause-value : goal.returns-in-None-clause-value
+returns-in-None-clause-value c = λ H stands.
+    let case = c.args.case.now.parts in
+    let at = c.args.at in
+    let known = c.args.known.now in
+    let xs = c.args.xs.now in
+    let b = c.index-as_slice-at.result in
+    let size = ap length c.as_slice.ensures in
+    let read : b ≡ get_or case.blocks at b = rw c.as_slice.ensures at c.index-as_slice-at.is in
+    let here : slice_get case.blocks at ≡ Some b = slice_get-get_or case.blocks at b c.requires.there ∙ ap Some (sym read) in
+    let fits = let P = λ (y : Block). IsBlock case.run (sizes_of case) y in subst P (sym read) (c.args.case.now.fits.draft.control.blocks at b c.requires.there) in
+    let law = c.requires.laws at b c.requires.there here in
+    let has = stands b here in
+    let small = c.requires.xs.small at (pos 0) (omega (arith, c.requires.there, c.requires.xs.one_each)) in
+    let solved : to_z w64 (of_z w64 (item xs at)) ≡ item xs at = through_64 (item xs at) small in
+    let x : to_z w64 (of_z w64 c.output-x.result) ≡ c.output-x.result = through_64 _ c.output-x.ensures.small in
+    let s : to_z w64 (of_z w64 c.input_sum-s.result) ≡ c.input_sum-s.result = omega (arith, ints, c.input_sum-s.ensures.small) in
+    let lim = c.limits_in_step-limits.ensures.value in
+    let out : c.output-x.result ≡ output_of (limits_of known b) (state_at H at).limiter (item xs at) =
+    rw solved at c.output-x.ensures.value ∙ ap (λ (l : Limits). output_of l c.args.state.now.limiter (item xs at)) lim ∙ ap (λ l. output_of (limits_of known b) l (item xs at)) has.limiter_is in
+    let sum : c.input_sum-s.result ≡ input_sum (block_of case) known xs at c.output-x.result b.inputs =
+    rw (x, c.as_slice-2.ensures, c.requires.places) at c.input_sum-s.ensures.value ∙ input_sum_is case known xs at c.output-x.result b.inputs fits.inputs in
+    let keeps = c.in-None.ensures.value case.run.dt (state_at H at) law has in
+    let K : Limits → ℤ → ℤ → Type 0 = λ l v n. Keeps b.order None (next_state case.run.dt b l (state_at H at) v n) in
+    let K1 : Limits → Type 0 = λ l. K l (item xs at) c.input_sum-s.result in
+    let K2 : ℤ → Type 0 = λ n. K (limits_of known b) (item xs at) n in
+    let K3 : ℤ → Type 0 = λ y. K (limits_of known b) (item xs at) (input_sum (block_of case) known xs at y b.inputs) in
+    gives_none case H known xs at b here (subst K3 out (subst K2 sum (subst K1 lim (rw (solved, s) at keeps))))

@@ -1,0 +1,10 @@
+use Rattle.std.proofs.Common.{◌≡◌, ◌≤◌, ◌*◌, ◌^◌, take, unsigned_abs}
+use Rattle.emtp_blocks.specs.BlockRows.{place_in}
+use Rattle.emtp_blocks.specs.System.{input_sum}
+use Rattle.emtp_blocks.proofs.inputs.input_sum.Given as goal
+
+abbrev pub invariant-loop-input : goal.invariant-loop-input
+invariant-loop-input l = record {
+  value : l.sum ≡ input_sum (place_in l.places) l.known l.xs l.at l.x (take l.input-index l.inputs);
+  small : unsigned_abs l.sum ≤ l.input-index * 10 ^ 18;
+}

@@ -1,0 +1,60 @@
+use Rattle.std.proofs.Common.{◌≡◌, ◌∙◌, ap, ◌^◌, ◌≤◌, ◌*ℤ◌, pos, unsigned_abs, to_z, of_z, arith}
+use mir.Syntax.{w64, w128}
+use Rattle.std.proofs.lemmas.Int.{ints, to_z-of_z}
+use Rattle.emtp_case.specs.Control.{step_gain, power_of}
+use Rattle.emtp_fix.specs.Rounding.{near}
+use Rattle.emtp_fix.proofs.Wide.{through_64}
+use Rattle.emtp_blocks.proofs.Coefficients.{sum_is}
+use Rattle.emtp_blocks.proofs.law.law.Goals as goal
+
+pub step_gain-requires-2-clause-small : goal.step_gain-requires-2-clause-small
+step_gain-requires-2-clause-small c =
+    let b = c.args.b.now in
+    let dt : to_z w64 (of_z w64 c.args.dt) ≡ c.args.dt = to_z-of_z w64 c.args.dt c.ranges.dt in
+    let gain : to_z w64 (of_z w64 b.gain) ≡ b.gain = through_64 b.gain c.requires.gain in
+    let sum : to_z w64 (of_z w64 c.sum-sum.result) ≡ c.sum-sum.result = omega (arith, ints, c.sum-sum.ensures.small) in
+    let divisor = rw dt at c.divisor-divisor.ensures.value in
+    let d : to_z w128 (of_z w128 c.divisor-divisor.result) ≡ c.divisor-divisor.result = omega (arith, ints, c.divisor-divisor.ensures.small) in
+    let each = rw (dt, d) at c.coefficients-numerators.ensures.value in
+    let is = c.sum-sum.ensures.value ∙ sum_is c.args.dt b c.coefficients-numerators.result c.divisor-divisor.result (omega arith) divisor each in
+    rw (gain, sum, is) c.requires.within_step
+
+pub returns-clause-value : goal.returns-clause-value
+returns-clause-value c =
+    let b = c.args.b.now in
+    let dt : to_z w64 (of_z w64 c.args.dt) ≡ c.args.dt = to_z-of_z w64 c.args.dt c.ranges.dt in
+    let gain : to_z w64 (of_z w64 b.gain) ≡ b.gain = through_64 b.gain c.requires.gain in
+    let sum : to_z w64 (of_z w64 c.sum-sum.result) ≡ c.sum-sum.result = omega (arith, ints, c.sum-sum.ensures.small) in
+    let divisor = rw dt at c.divisor-divisor.ensures.value in
+    let d : to_z w128 (of_z w128 c.divisor-divisor.result) ≡ c.divisor-divisor.result = omega (arith, ints, c.divisor-divisor.ensures.small) in
+    let each = rw (dt, d) at c.coefficients-numerators.ensures.value in
+    let each' = rw (dt, d) at c.coefficients-denominators.ensures.value in
+    let is = c.sum-sum.ensures.value ∙ sum_is c.args.dt b c.coefficients-numerators.result c.divisor-divisor.result (omega arith) divisor each in
+    let product : c.step_gain-2.result ≡ step_gain c.args.dt b = rw (gain, sum) at c.step_gain-2.ensures ∙ ap (λ z. near (b.gain *ℤ z) (pos (10 ^ 12))) is in
+    let small : unsigned_abs c.step_gain-2.result ≤ 10 ^ 18 = rw product c.requires.within_step in
+    let same : to_z w64 (of_z w64 c.step_gain-2.result) ≡ c.step_gain-2.result = through_64 c.step_gain-2.result small in
+    record {
+      numerators = λ j some below. each j below ∙ ap (near (power_of c.args.dt b.top j *ℤ pos (10 ^ 12))) divisor;
+      denominators = λ j some below. each' j below ∙ ap (near (power_of c.args.dt b.bottom j *ℤ pos (10 ^ 12))) divisor;
+      sum = sum ∙ is;
+      gain = same ∙ product;
+    }
+
+pub returns-clause-small : goal.returns-clause-small
+returns-clause-small c =
+    let sum : to_z w64 (of_z w64 c.sum-sum.result) ≡ c.sum-sum.result = omega (arith, ints, c.sum-sum.ensures.small) in
+    let b = c.args.b.now in
+    let dt : to_z w64 (of_z w64 c.args.dt) ≡ c.args.dt = to_z-of_z w64 c.args.dt c.ranges.dt in
+    let gain : to_z w64 (of_z w64 b.gain) ≡ b.gain = through_64 b.gain c.requires.gain in
+    let divisor = rw dt at c.divisor-divisor.ensures.value in
+    let d : to_z w128 (of_z w128 c.divisor-divisor.result) ≡ c.divisor-divisor.result = omega (arith, ints, c.divisor-divisor.ensures.small) in
+    let each = rw (dt, d) at c.coefficients-numerators.ensures.value in
+    let is = c.sum-sum.ensures.value ∙ sum_is c.args.dt b c.coefficients-numerators.result c.divisor-divisor.result (omega arith) divisor each in
+    let product : c.step_gain-2.result ≡ step_gain c.args.dt b = rw (gain, sum) at c.step_gain-2.ensures ∙ ap (λ z. near (b.gain *ℤ z) (pos (10 ^ 12))) is in
+    let small : unsigned_abs c.step_gain-2.result ≤ 10 ^ 18 = rw product c.requires.within_step in
+    record {
+      numerators_small = c.coefficients-numerators.ensures.small;
+      denominators_small = c.coefficients-denominators.ensures.small;
+      sum_small = omega (arith, ints, sum, c.sum-sum.ensures.small);
+      gain_small = omega (arith, ints, small);
+    }

@@ -1,0 +1,72 @@
+use Rattle.std.proofs.Common.{◌≡◌, ◌∙◌, sym, ap, ◌^◌, true, false, to_z, of_z, refl, arith}
+use mir.Syntax.{w64, w128}
+use Rattle.std.proofs.lemmas.Int.{to_z-of_z}
+use Rattle.emtp_fix.proofs.Wide.{through, through_64}
+use Rattle.emtp_blocks.specs.Block.{input_of, output_of, limiter_for, is_within}
+use Rattle.emtp_blocks.proofs.NextStates.{next_is, next_none, moved_is, moved_kept, input_none, input_some, z_found}
+use Rattle.emtp_blocks.proofs.next.next.Goals as goal
+
+pub returns-in_err-u-clause-value : goal.returns-in_err-u-clause-value
+returns-in_err-u-clause-value c = λ dt r law has.
+    let b = c.args.block.now in
+    let gain : to_z w64 (of_z w64 b.gain) ≡ b.gain = through_64 b.gain c.requires.gain in
+    let s : to_z w64 (of_z w64 c.args.s) ≡ c.args.s = to_z-of_z w64 c.args.s c.ranges.s in
+    let value = rw (gain, s) at c.in_err-u.ensures.value in
+    let out = input_none (input_of b c.args.s) value in
+    rw (c.from_residual.ensures, next_none dt b c.args.limits.now r c.args.solved c.args.s out) tt
+
+pub returns-then-not-is_in_range-clause-value : goal.returns-then-not-is_in_range-clause-value
+returns-then-not-is_in_range-clause-value c = λ dt r law has.
+    let b = c.args.block.now in
+    let limits = c.args.limits.now in
+    let old = c.args.old.now in
+    let l = c.args.law.now in
+    let gain : to_z w64 (of_z w64 b.gain) ≡ b.gain = through_64 b.gain c.requires.gain in
+    let s : to_z w64 (of_z w64 c.args.s) ≡ c.args.s = to_z-of_z w64 c.args.s c.ranges.s in
+    let solved : to_z w64 (of_z w64 c.args.solved) ≡ c.args.solved = through_64 c.args.solved c.requires.solved in
+    let x : to_z w64 (of_z w64 c.args.x) ≡ c.args.x = through_64 c.args.x c.requires.x in
+    let u : to_z w64 (of_z w64 c.in_ok-u.u) ≡ c.in_ok-u.u = through_64 c.in_ok-u.u c.in_ok-u.ensures.small in
+    let past : to_z w128 (of_z w128 c.past_output.result) ≡ c.past_output.result = through c.past_output.result (omega (arith, c.past_output.ensures.small)) in
+    let z : to_z w128 (of_z w128 c.unlimited-z.result) ≡ c.unlimited-z.result = through c.unlimited-z.result (omega (arith, c.unlimited-z.ensures.small)) in
+    let last : to_z w128 (of_z w128 c.error-last.result) ≡ c.error-last.result = through c.error-last.result (omega (arith, c.error-last.ensures.small)) in
+    let value = rw (gain, s) at c.in_ok-u.ensures.value in
+    let input = input_some c.in_ok-u.u (input_of b c.args.s) value in
+    let small : is_within (10 ^ 18) c.in_ok-u.u ≡ true = ap (is_within (10 ^ 18)) input.1 ∙ input.0 in
+    let z_is = z_found dt b l r old c.args.solved c.in_ok-u.u c.past_output.result c.unlimited-z.result law has (rw (past, solved, u) at c.unlimited-z.ensures.value) c.past_output.ensures.value in
+    let x_is : c.args.x ≡ output_of limits r.limiter c.args.solved = c.requires.output ∙ ap (λ m. output_of limits m c.args.solved) has.limiter_is in
+    let d = rw (x, z) at c.differs.ensures in
+    let errors = rw (u, x) at c.errors-errors.ensures.value in
+    let last_is = rw (u, x) at c.error-last.ensures.value in
+    let chain = rw (d, last) at c.replaced-chain.ensures.value in
+    let state = moved_is dt b limits r old l c.in_ok-u.u c.args.x c.unlimited-z.result c.error-last.result c.errors-errors.result c.chain.result c.replaced-chain.result (limiter_for limits c.unlimited-z.result) c.requires.order law has refl errors last_is c.chain.ensures.value chain in
+    next_is dt b limits r c.args.solved c.args.s c.in_ok-u.u c.args.x c.unlimited-z.result _ false input.1 x_is z_is small c.if-not-is_in_range.ensures state
+
+pub returns-clause-value : goal.returns-clause-value
+returns-clause-value c = λ dt r law has.
+    let b = c.args.block.now in
+    let limits = c.args.limits.now in
+    let old = c.args.old.now in
+    let l = c.args.law.now in
+    let gain : to_z w64 (of_z w64 b.gain) ≡ b.gain = through_64 b.gain c.requires.gain in
+    let s : to_z w64 (of_z w64 c.args.s) ≡ c.args.s = to_z-of_z w64 c.args.s c.ranges.s in
+    let solved : to_z w64 (of_z w64 c.args.solved) ≡ c.args.solved = through_64 c.args.solved c.requires.solved in
+    let x : to_z w64 (of_z w64 c.args.x) ≡ c.args.x = through_64 c.args.x c.requires.x in
+    let u : to_z w64 (of_z w64 c.in_ok-u.u) ≡ c.in_ok-u.u = through_64 c.in_ok-u.u c.in_ok-u.ensures.small in
+    let past : to_z w128 (of_z w128 c.past_output.result) ≡ c.past_output.result = through c.past_output.result (omega (arith, c.past_output.ensures.small)) in
+    let z : to_z w128 (of_z w128 c.unlimited-z.result) ≡ c.unlimited-z.result = through c.unlimited-z.result (omega (arith, c.unlimited-z.ensures.small)) in
+    let last : to_z w128 (of_z w128 c.error-last.result) ≡ c.error-last.result = through c.error-last.result (omega (arith, c.error-last.ensures.small)) in
+    let value = rw (gain, s) at c.in_ok-u.ensures.value in
+    let input = input_some c.in_ok-u.u (input_of b c.args.s) value in
+    let small : is_within (10 ^ 18) c.in_ok-u.u ≡ true = ap (is_within (10 ^ 18)) input.1 ∙ input.0 in
+    let z_is = z_found dt b l r old c.args.solved c.in_ok-u.u c.past_output.result c.unlimited-z.result law has (rw (past, solved, u) at c.unlimited-z.ensures.value) c.past_output.ensures.value in
+    let x_is : c.args.x ≡ output_of limits r.limiter c.args.solved = c.requires.output ∙ ap (λ m. output_of limits m c.args.solved) has.limiter_is in
+    let d = rw (x, z) at c.differs.ensures in
+    let errors = rw (u, x) at c.errors-errors.ensures.value in
+    let last_is = rw (u, x) at c.error-last.ensures.value in
+    let chain = rw (d, last) at c.replaced-chain.ensures.value in
+    let limiter = rw z at c.limiter_for.ensures in
+    let state = moved_is dt b limits r old l c.in_ok-u.u c.args.x c.unlimited-z.result c.error-last.result c.errors-errors.result c.chain.result c.replaced-chain.result c.limiter_for.result c.requires.order law has limiter errors last_is c.chain.ensures.value chain in
+    next_is dt b limits r c.args.solved c.args.s c.in_ok-u.u c.args.x c.unlimited-z.result _ true input.1 x_is z_is small c.if-not-is_in_range.ensures state
+
+pub returns-clause-kept : goal.returns-clause-kept
+returns-clause-kept c = moved_kept c.args.block.now.order c.errors-errors.result c.chain.result c.replaced-chain.result c.limiter_for.result c.errors-errors.ensures.small (sym c.if-not-is_in_range.ensures) c.chain.ensures.past c.replaced-chain.ensures.past

@@ -1,0 +1,4 @@
+pub mod Sums
+pub mod Block
+pub mod System
+pub mod BlockRows

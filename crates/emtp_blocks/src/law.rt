@@ -1,0 +1,143 @@
+//! The numbers of a block that are the same in all steps.
+
+ghost use Rattle.std.specs.Prelude.{◌≡◌, ◌≢◌, ◌^◌, ◌*◌, ◌≤◌, ◌<◌, ◌+ℤ◌, ◌*ℤ◌, ℕ, pos, unsigned_abs, slice_index_or, length};
+ghost use Rattle.emtp_case.specs.Control.{bilinear, power_of, sum_upto, divisor_of, coefficient_sum, step_gain, HasCoefficients};
+ghost use Rattle.emtp_case.specs.Range.{IsBetween};
+ghost use Rattle.emtp_elim.specs.Matrix.{item};
+ghost use Rattle.emtp_fix.specs.Rounding.{near};
+ghost use Rattle.emtp_blocks.specs.Block.{IsLawOf, IsLaw};
+ghost use Rattle.emtp_fix.specs.declared.limit.TheConstants.{LARGEST_VALUE, PICO};
+
+use crate::scaling::{bilinear_step, product, quotient};
+use emtp_case::Block;
+use emtp_fix::PICO;
+
+/// The numbers of a block that are the same in all steps.
+#[derive(Clone, Copy)]
+pub(crate) struct BlockLaw {
+    /// n(0), n(1) and so on up to the order, in 10^-12: to 10^18 in magnitude.
+    pub(crate) numerators: [i64; 8],
+    /// d(0), d(1) and so on up to the order, in 10^-12: to 10^18 in magnitude.
+    pub(crate) denominators: [i64; 8],
+    /// c, in 10^-12: to 8*10^18 in magnitude.
+    pub(crate) sum: i64,
+    /// k, the gain within a step, in 10^-12: to 10^18 in magnitude.
+    pub(crate) gain: i64,
+}
+
+/// A coefficient that was taken so many times through the bilinear rule.
+fn taken(dt: i64, x: i64, times: usize) -> i128
+    requires dt { IsBetween 1000 (10 ^ 12) dt }
+    requires way { (i : ℕ) → i ≤ times → unsigned_abs (bilinear dt x i) ≤ 8 * 10 ^ 25 }
+    ensures value { result ≡ bilinear dt x times }
+    ensures small { unsigned_abs result ≤ 8 * 10 ^ 25 }
+{
+    let mut p = x as i128;
+    for i in 0..times {
+        p = bilinear_step(dt, p);
+    }
+    p
+}
+
+/// The sum of the coefficients of a card, each taken through the rule as often as its power.
+fn divisor(dt: i64, card: &[i64], order: usize) -> i128
+    requires dt { IsBetween 1000 (10 ^ 12) dt }
+    requires order { order ≤ 7 }
+    requires card { 8 ≤ length card.now }
+    requires way { (j i : ℕ) → j ≤ order → i ≤ j → unsigned_abs (bilinear dt (slice_index_or card.now j (pos 0)) i) ≤ 8 * 10 ^ 25 }
+    ensures value { result ≡ sum_upto (power_of dt card.now) order }
+    ensures small { unsigned_abs result ≤ 64 * 10 ^ 25 }
+{
+    let mut sum = 0;
+    for j in 0..order + 1 {
+        sum += taken(dt, card[j], j);
+    }
+    sum
+}
+
+/// The quotient of a coefficient, in 10^-12.
+fn coefficient(dt: i64, x: i64, power: usize, divisor: i128) -> i64
+    requires dt { IsBetween 1000 (10 ^ 12) dt }
+    requires way { (i : ℕ) → i ≤ power → unsigned_abs (bilinear dt x i) ≤ 8 * 10 ^ 25 }
+    requires some { divisor ≢ pos 0 }
+    requires divisor { unsigned_abs divisor ≤ 64 * 10 ^ 25 }
+    requires small { unsigned_abs (near (bilinear dt x power *ℤ PICO) divisor) ≤ LARGEST_VALUE }
+    ensures { result ≡ near (bilinear dt x power *ℤ PICO) divisor }
+{
+    quotient(taken(dt, x, power), divisor) as i64
+}
+
+/// The quotients of a card's coefficients by the powers up to the order, and 0 above it.
+fn coefficients(dt: i64, card: &[i64], order: usize, divisor: i128) -> [i64; 8]
+    requires dt { IsBetween 1000 (10 ^ 12) dt }
+    requires order { order ≤ 7 }
+    requires card { 8 ≤ length card.now }
+    requires way { (j i : ℕ) → j ≤ order → i ≤ j → unsigned_abs (bilinear dt (slice_index_or card.now j (pos 0)) i) ≤ 8 * 10 ^ 25 }
+    requires some { divisor ≢ pos 0 }
+    requires divisor { unsigned_abs divisor ≤ 64 * 10 ^ 25 }
+    requires small { (j : ℕ) → j ≤ order → unsigned_abs (near (power_of dt card.now j *ℤ PICO) divisor) ≤ LARGEST_VALUE }
+    ensures value { (j : ℕ) → j ≤ order → item result j ≡ near (power_of dt card.now j *ℤ PICO) divisor }
+    ensures small { (j : ℕ) → unsigned_abs (item result j) ≤ LARGEST_VALUE }
+{
+    let mut quotients = [0; 8];
+    for j in 0..order + 1 {
+        quotients[j] = coefficient(dt, card[j], j, divisor);
+    }
+    quotients
+}
+
+/// The sum of the quotients up to the order.
+fn sum(quotients: &[i64], order: usize) -> i64
+    requires order { order ≤ 7 }
+    requires there { 8 ≤ length quotients.now }
+    requires small { (j : ℕ) → unsigned_abs (item quotients.now j) ≤ LARGEST_VALUE }
+    ensures value { result ≡ sum_upto (item quotients.now) order }
+    ensures small { unsigned_abs result ≤ 8 * 10 ^ 18 }
+{
+    let mut sum = 0;
+    for j in 0..order + 1 {
+        sum += quotients[j];
+    }
+    sum
+}
+
+/// The gain of a block within one step.
+fn step_gain(gain: i64, sum: i64) -> i64
+    requires gain { unsigned_abs gain ≤ LARGEST_VALUE }
+    requires sum { unsigned_abs sum ≤ 8 * 10 ^ 18 }
+    requires small { unsigned_abs (near (gain *ℤ sum) PICO) ≤ LARGEST_VALUE }
+    ensures { result ≡ near (gain *ℤ sum) PICO }
+{
+    product(gain, sum, PICO) as i64
+}
+
+/// The law of a block at a time step in ps.
+pub(crate) fn law(dt: i64, b: &Block) -> BlockLaw
+    requires dt { IsBetween 1000 (10 ^ 12) dt }
+    requires order { b.now.order ≤ 7 }
+    requires coefficients { 1 ≤ b.now.order → HasCoefficients dt b.now }
+    requires gain { unsigned_abs b.now.gain ≤ LARGEST_VALUE }
+    requires within_step { unsigned_abs (step_gain dt b.now) ≤ LARGEST_VALUE }
+    ensures value { IsLawOf dt b.now result }
+    ensures small { IsLaw result }
+{
+    if b.order == 0 {
+        return BlockLaw {
+            numerators: [0; 8],
+            denominators: [0; 8],
+            sum: PICO as i64,
+            gain: step_gain(b.gain, PICO as i64),
+        };
+    }
+    let order = b.order as usize;
+    let divisor = divisor(dt, &b.bottom, order);
+    let numerators = coefficients(dt, &b.top, order, divisor);
+    let denominators = coefficients(dt, &b.bottom, order, divisor);
+    let sum = sum(&numerators, order);
+    BlockLaw {
+        numerators,
+        denominators,
+        sum,
+        gain: step_gain(b.gain, sum),
+    }
+}

@@ -1,0 +1,161 @@
+//! What is kept of a block after a step.
+
+ghost use Rattle.std.specs.Prelude.{◌≡◌, ◌^◌, ◌*◌, ◌≤◌, ◌<◌, ◌+◌, ◌==◌, ◌&&◌, not, ◌+ℤ◌, ◌-ℤ◌, ◌*ℤ◌, ℕ, ℤ, suc, pos, unsigned_abs, length, Option, Some, None, if◌then◌else◌, IfSome};
+ghost use Rattle.std.specs.Ordering.{int_eq};
+ghost use Rattle.emtp_case.specs.declared.control.BlockState.{BlockState};
+ghost use Rattle.emtp_elim.specs.Matrix.{item};
+ghost use Rattle.emtp_fix.specs.Rounding.{near};
+ghost use Rattle.emtp_blocks.specs.Sums.{sum_below};
+ghost use Rattle.emtp_blocks.specs.Block.{carried, error_of, chain_of, each_within, is_within, output_of, next_state, IsLaw, IsLawOf, IsKept, HasState, Keeps};
+ghost use Rattle.emtp_fix.specs.declared.limit.TheConstants.{LARGEST_VALUE, PICO};
+ghost use Rattle.emtp_blocks.specs.declared.next.TheConstants.{LARGEST_CHAIN};
+
+use crate::law::BlockLaw;
+use crate::limits::{Limits, limiter_for};
+use crate::moving::{error, link, past_output, unlimited};
+use crate::scaling::product;
+use emtp_case::{Block, BlockState};
+use emtp_fix::{PICO, in_range};
+
+/// The greatest magnitude of a number of a chain, in 10^-18.
+pub(crate) const LARGEST_CHAIN: u128 = 1_000_000_000_000_000_000_000_000_000_000_000_000;
+
+/// The input of a block, in nano, from the sum of its inputs; none where it is out of range.
+fn input(gain: i64, s: i64) -> Option<i64>
+    requires gain { unsigned_abs gain ≤ LARGEST_VALUE }
+    requires s { unsigned_abs s ≤ 8 * 10 ^ 18 }
+    ensures value { result ≡ (if is_within LARGEST_VALUE (near (gain *ℤ s) PICO) then Some (near (gain *ℤ s) PICO) else None) }
+    ensures small { IfSome result (λ u. unsigned_abs u ≤ LARGEST_VALUE) }
+{
+    in_range(product(gain, s, PICO))
+}
+
+/// E of the powers below the order, and 0 from the order on.
+fn errors(law: &BlockLaw, order: usize, u: i64, x: i64) -> [i128; 8]
+    requires order { order ≤ 7 }
+    requires law { IsLaw law.now }
+    requires u { unsigned_abs u ≤ LARGEST_VALUE }
+    requires x { unsigned_abs x ≤ LARGEST_VALUE }
+    ensures value { (j : ℕ) → j < order → item result j ≡ error_of (item law.now.numerators) (item law.now.denominators) u x j }
+    ensures small { (j : ℕ) → unsigned_abs (item result j) ≤ 2 * 10 ^ 35 }
+{
+    let mut errors = [0; 8];
+    for j in 0..order {
+        errors[j] = error(law, u, x, j);
+    }
+    errors
+}
+
+fn plus(sum: i128, error: i128) -> i128
+    requires sum { unsigned_abs sum ≤ 10 ^ 37 }
+    requires error { unsigned_abs error ≤ 2 * 10 ^ 35 }
+    ensures { result ≡ sum +ℤ error }
+{
+    sum + error
+}
+
+/// H less the sum of the lesser E.
+fn less(carried: i128, sum: i128) -> i128
+    requires carried { unsigned_abs carried ≤ 3 * 10 ^ 37 }
+    requires sum { unsigned_abs sum ≤ 10 ^ 37 }
+    ensures { result ≡ carried -ℤ sum }
+{
+    carried - sum
+}
+
+/// Y of the powers from 1 to the order, each one place lower, and 0 from there on.
+fn chain(old: &BlockState, errors: &[i128], order: usize) -> [i128; 8]
+    requires order { order ≤ 7 }
+    requires old { IsKept old.now }
+    requires there { 8 ≤ length errors.now }
+    requires small { (j : ℕ) → unsigned_abs (item errors.now j) ≤ 2 * 10 ^ 35 }
+    ensures value { (j : ℕ) → j < order → item result j ≡ carried old.now.errors old.now.chain (j + 1) -ℤ sum_below (item errors.now) (j + 1) }
+    ensures past { (j : ℕ) → order ≤ j → item result j ≡ pos 0 }
+    ensures size { 8 ≤ length result }
+{
+    let mut chain = [0; 8];
+    let mut carried = 0;
+    let mut before = 0;
+    let mut sum = 0;
+    for j in 0..order {
+        carried = link(carried, old.chain[j], before, old.errors[j]);
+        before = old.chain[j];
+        sum = plus(sum, errors[j]);
+        chain[j] = less(carried, sum);
+    }
+    chain
+}
+
+/// The chain with its last number replaced, where the output isn't what the chain would give.
+fn replaced(chain: [i128; 8], order: usize, clamped: bool, last: i128) -> [i128; 8]
+    requires order { order ≤ 7 }
+    requires size { 8 ≤ length chain }
+    requires last { unsigned_abs last ≤ 2 * 10 ^ 35 }
+    ensures value { (j : ℕ) → j < order → item result j ≡ (if clamped && (suc j == order) then last else item chain j) }
+    ensures past { (j : ℕ) → order ≤ j → item result j ≡ item chain j }
+    ensures size { 8 ≤ length result }
+{
+    let mut chain = chain;
+    if clamped && order != 0 {
+        chain[order - 1] = last;
+    }
+    chain
+}
+
+/// Whether the output isn't what the chain would give.
+fn differs(x: i64, z: i128) -> bool
+    ensures { result ≡ not (int_eq x z) }
+{
+    x as i128 != z
+}
+
+/// Whether the chain is in range up to the order.
+fn is_in_range(chain: &[i128], order: usize) -> bool
+    requires there { order ≤ length chain.now }
+    ensures { result ≡ each_within LARGEST_CHAIN chain.now order }
+{
+    for j in 0..order {
+        if chain[j].unsigned_abs() > LARGEST_CHAIN {
+            return false;
+        }
+    }
+    true
+}
+
+/// What is kept of a block after a step, from its solved output, its recorded output `x` and the sum of its inputs; none
+/// where its input or a number of its chain is out of range.
+pub(crate) fn next(
+    block: &Block,
+    law: &BlockLaw,
+    limits: &Limits,
+    old: &BlockState,
+    solved: i64,
+    x: i64,
+    s: i64,
+) -> Option<BlockState>
+    requires order { block.now.order ≤ 7 }
+    requires gain { unsigned_abs block.now.gain ≤ LARGEST_VALUE }
+    requires law { IsLaw law.now }
+    requires old { IsKept old.now }
+    requires solved { unsigned_abs solved ≤ LARGEST_VALUE }
+    requires x { unsigned_abs x ≤ LARGEST_VALUE }
+    requires output { x ≡ output_of limits.now old.now.limiter solved }
+    requires s { unsigned_abs s ≤ 8 * 10 ^ 18 }
+    ensures value { (dt : ℤ) (r : BlockState) → IsLawOf dt block.now law.now → HasState block.now.order old.now r → Keeps block.now.order result (next_state dt block.now limits.now r solved s) }
+    ensures kept { IfSome result IsKept }
+{
+    let order = block.order as usize;
+    let u = input(block.gain, s)?;
+    let z = unlimited(law, old.limiter, past_output(old, order), solved, u);
+    let errors = errors(law, order, u, x);
+    let last = error(law, u, x, order);
+    let chain = replaced(chain(old, &errors, order), order, differs(x, z), last);
+    if !is_in_range(&chain, order) {
+        return None;
+    }
+    Some(BlockState {
+        limiter: limiter_for(limits, z),
+        errors,
+        chain,
+    })
+}
