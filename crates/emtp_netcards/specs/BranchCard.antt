@@ -140,3 +140,12 @@ HasValues dt ResistorCard = Unit {0}
 pub record HasNumbers (dt : ℤ) (card : BranchCard) : Type 0 where
   pub values : card.copies ≡ None → HasValues dt card.values
   pub few : card.asked ≤ 3
+
+-- the type that a card's values belong to
+abbrev pub kind_of_values : BranchValues → BranchKind
+kind_of_values (LumpedCard r l c) = SeriesKind
+kind_of_values (LineCard zc r delay) = LineKind
+kind_of_values (SecondCard zc r delay) = SecondKind
+kind_of_values ThirdCard = ThirdKind
+kind_of_values ReactorCard = ReactorKind
+kind_of_values ResistorCard = ResistorKind

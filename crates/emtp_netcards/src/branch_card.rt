@@ -1,10 +1,10 @@
 //! Branch cards.
 
-ghost use Rattle.std.specs.Prelude.{◌≡◌, ◌^◌, ◌≤◌, length, None, IfOk};
+ghost use Rattle.std.specs.Prelude.{◌≡◌, ◌^◌, ◌≤◌, length, None, Ok, IfOk};
 ghost use Rattle.emtp_card.specs.Name.{name_field};
 ghost use Rattle.emtp_case.specs.Range.{IsBetween};
 ghost use Rattle.emtp_case.specs.RunData.{IsRun};
-ghost use Rattle.emtp_netcards.specs.BranchCard.{HasNumbers, HasValues, are_blank, branch_card, copied_fault, copied_names, fields_fault, has_copy, kind_field, kind_of, no_values, read_values, resistor_fault, values_fault, values_of};
+ghost use Rattle.emtp_netcards.specs.BranchCard.{HasNumbers, HasValues, are_blank, branch_card, copied_fault, copied_names, fields_fault, has_copy, kind_field, kind_of, kind_of_values, no_values, read_values, resistor_fault, values_fault, values_of};
 
 use crate::fields::{asked, ends_fault};
 use crate::line_values::{LineValues, line_fault, line_values};
@@ -71,12 +71,18 @@ pub enum BranchValues {
 
 /// The type of a branch card.
 #[derive(Clone, Copy, Debug, PartialEq, Eq)]
-pub(crate) enum BranchKind {
+pub enum BranchKind {
+    /// Blank or 0: a series branch.
     Series,
+    /// -1: a single line, or the first of three phases.
     Line,
+    /// -2: the second phase of a line.
     Second,
+    /// -3: the third phase of a line.
     Third,
+    /// 98: a reactor.
     Reactor,
+    /// 99: a resistor.
     Resistor,
 }
 
@@ -89,9 +95,10 @@ pub fn branch(line: Line<'_>, run: &RunData, wide: bool) -> Result<BranchCard, B
     requires run { IsRun run.now }
     ensures value { result ≡ branch_card line.entry.number line.entry.bytes.now run.now.dt wide }
     ensures numbers { IfOk result (HasNumbers run.now.dt) }
+    ensures kind { IfOk result (λ card. kind_field line.entry.bytes.now ≡ Ok (kind_of_values card.values)) }
 {
     let bytes = line.bytes;
-    let kind = kind(bytes);
+    let kind = branch_kind(bytes);
     match judge(&line, fields_fault(bytes, &kind, run.dt, wide)) {
         Some(bad) => Err(bad),
         None => Ok(BranchCard {
@@ -124,7 +131,8 @@ fn fields_fault(line: &[u8], kind: &Result<BranchKind, Why>, dt: i64, wide: bool
     ])
 }
 
-fn kind(line: &[u8]) -> Result<BranchKind, Why>
+/// The type of a branch card, in columns 1 and 2, whatever its other fields hold.
+pub fn branch_kind(line: &[u8]) -> Result<BranchKind, Why>
     ensures { result ≡ kind_field line.now }
 {
     match field_whole(line, 1, 2) {

@@ -24,11 +24,13 @@ mod source_card;
 mod switch_card;
 mod vintage_card;
 
-pub use branch_card::{BranchCard, BranchValues, branch};
+pub use branch_card::{BranchCard, BranchKind, BranchValues, branch, branch_kind};
 pub use fields::{held_time, held_time_or_zero, needed_name, required, signed_number};
 pub use output_card::{OutputCard, names, names_fault, outputs};
 pub use point_card::{PointScale, next_point, point};
 pub use run_cards::{FirstCard, first_card, run_data, second_card, tolerance};
-pub use source_card::{SourceCard, cosine_fault, cosine_shape, source, stop};
-pub use switch_card::{SwitchCard, switch};
+pub use source_card::{
+    SourceCard, SourceType, cosine_fault, cosine_shape, source, source_type, stop,
+};
+pub use switch_card::{SwitchCard, SwitchType, switch, switch_type};
 pub use vintage_card::vintage;

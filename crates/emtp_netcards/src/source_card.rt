@@ -40,7 +40,7 @@ pub struct SourceCard {
 
 /// The type of a source card.
 #[derive(Clone, Copy, PartialEq, Eq)]
-pub(crate) enum SourceType {
+pub enum SourceType {
     /// 11: the amplitude.
     Step,
     /// 12: a ramp.
@@ -104,7 +104,8 @@ fn fields_fault(line: &[u8], kind: &Result<SourceType, Why>) -> Option<Fault>
     ])
 }
 
-fn source_type(line: &[u8]) -> Result<SourceType, Why>
+/// The type of a source card, in columns 1 and 2, whatever its other fields hold.
+pub fn source_type(line: &[u8]) -> Result<SourceType, Why>
     ensures { result ≡ type_field line.now }
 {
     match field_whole(line, 1, 2) {

@@ -33,7 +33,7 @@ pub struct SwitchCard {
 
 /// The type of a switch card.
 #[derive(Clone, Copy, PartialEq, Eq)]
-pub(crate) enum SwitchType {
+pub enum SwitchType {
     /// Blank or 0: a time switch or a measuring switch.
     Time,
     /// 11: a valve.
@@ -83,7 +83,8 @@ fn fields_fault(line: &[u8], kind: &Result<SwitchType, Why>) -> Option<Fault>
     ])
 }
 
-fn switch_type(line: &[u8]) -> Result<SwitchType, Why>
+/// The type of a switch card, in columns 1 and 2, whatever its other fields hold.
+pub fn switch_type(line: &[u8]) -> Result<SwitchType, Why>
     ensures { result ≡ type_field line.now }
 {
     match field_whole(line, 1, 2) {
