@@ -108,23 +108,28 @@ fn has_currents(switches: &mut Switches<'_>, step: &Look) -> bool
     }
 }
 
+fn shows(switches: &mut Switches<'_>, step: &Look) -> bool
+    requires { HasSizes switches.old.case }
+    ensures { switches.new.case ≡ switches.old.case }
+{
+    has_states(switches, step) && has_kinds(switches, step) && has_currents(switches, step)
+}
+
 /// Whether the switches of a case show what the table tells of record 0 and of each step after it.
 fn walk(alloc: Global, case: &Case, steps: &[Look]) -> Result<bool, AllocError>
     requires sizes { HasSizes case.now.parts }
+    requires some { 1 ≤ length steps.now }
     requires few { length steps.now ≤ 6 }
 {
     let rows = order(alloc, case)?;
     let mut switches = Switches::open(alloc, case, &rows)?;
-    for n in 0..steps.len() {
-        if n > 0 {
-            decide_step(&mut switches, n as u32, &steps[n]);
-        }
-        let shows = has_states(&switches, &steps[n]) && has_kinds(&switches, &steps[n]);
-        if !shows || !has_currents(&mut switches, &steps[n]) {
-            return Ok(false);
-        }
+    let mut right = shows(&mut switches, &steps[0]);
+    for n in 1..steps.len() {
+        decide_step(&mut switches, n as u32, &steps[n]);
+        let shown = shows(&mut switches, &steps[n]);
+        right = right & shown;
     }
-    Ok(true)
+    Ok(right)
 }
 
 const KCL: RowKind = RowKind::Kcl;
