@@ -1,20 +1,18 @@
 -- What the terms of a branch add up to is incidence times conductance times incidence.
-use Rattle.std.proofs.Common.{◌≡◌, ◌≢◌, ◌∙◌, sym, ap, ℕ, ◌+◌, ◌==◌, ◌%◌, ℤ, pos, neg_ℤ, ◌+ℤ◌, ◌-ℤ◌, ◌*ℤ◌, Bool, true, false, if◌then◌else◌, List, [], ◌∷◌, slice_get, Option, Some, None, refl, inl, inr, arith}
-use Rattle.std.proofs.lemmas.Bool.{cases_Bool}
+use Rattle.std.proofs.Common.{◌≡◌, ◌≢◌, ℕ, ◌+◌, ◌==◌, ◌%◌, ℤ, pos, neg_ℤ, ◌+ℤ◌, ◌-ℤ◌, ◌*ℤ◌, Bool, true, false, if◌then◌else◌, List, [], ◌∷◌, Some, refl, arith}
 use Rattle.std.proofs.lemmas.Bool.Decides.{nat_tests}
 use Rattle.std.proofs.lemmas.Int.{ints}
 use Rattle.emtp_elim.specs.Matrix.{item}
-use Rattle.emtp_case.specs.Branch.{IsBranch, from_of, to_of}
-use Rattle.emtp_case.specs.Range.{AreEnds}
+use Rattle.emtp_case.specs.Branch.{from_of, to_of}
 use Rattle.emtp_case.specs.declared.branch.Branch.{Branch}
 use Rattle.emtp_case.specs.declared.branch.Branch.TheVariants.{Lumped as OfLumped, Line as OfLine, Pseudo as OfPseudo, Phase as OfPhase}
 use Rattle.emtp_case.specs.declared.branch.Phase.{Phase}
 use Rattle.emtp_case.specs.declared.case.Parts.{Parts}
 use Rattle.emtp_rows.specs.declared.term.Amount.TheVariants.{Own}
 use Rattle.emtp_rows.specs.Sums.{total}
-use Rattle.emtp_rows.specs.Nodal.{across, between, end_node, incidence, phase_end, phase_node, same_node, to_ground, to_phase}
-use Rattle.emtp_rows.specs.Terms.{NodeTerm, in_node, end_terms, terms_by, two_terms}
-use Rattle.emtp_rows.proofs.Orders.{is_number, isnt_number}
+use Rattle.emtp_rows.specs.Nodal.{between, incidence, phase_node, same_node}
+use Rattle.emtp_rows.specs.Terms.{in_node, end_terms, terms_by, two_terms}
+use Rattle.emtp_rows.proofs.Orders.{isnt_number}
 
 -- ---- sums, by which nodes are the same
 

@@ -1,26 +1,25 @@
 -- Rows that stay where a conductance or a kind changes.
-use Rattle.std.proofs.Common.{◌≡◌, ◌≢◌, ◌∙◌, sym, ap, subst, min, ℕ, ◌+◌, ◌==◌, ◌||◌, ◌<◌, ◌≤◌, ◌⊎◌, ℤ, pos, Bool, true, false, if◌then◌else◌, List, [], All, length, length-take-le, map, take, slice_get, slice_set, slice_index_or, get_or, get_or-set_other, Option, option_map, Some, None, refl, inl, inr, arith}
+use Rattle.std.proofs.Common.{◌≡◌, ◌≢◌, ◌∙◌, sym, ap, subst, min, ℕ, ◌+◌, ◌==◌, ◌||◌, ◌<◌, ◌≤◌, ℤ, pos, true, if◌then◌else◌, List, [], All, length, length-take-le, map, take, slice_get, slice_set, get_or, get_or-set_other, option_map, Some, None, refl, inl, inr, arith}
 use Rattle.std.proofs.Math.Nat.{min-le_left, min-le_right}
-use Rattle.std.proofs.lemmas.Bool.{cases_eq, cases_lt, cases_Bool}
+use Rattle.std.proofs.lemmas.Bool.{cases_eq, cases_Bool}
 use Rattle.std.proofs.lemmas.Bool.Decides.{nat_tests}
 use Rattle.std.proofs.lemmas.List.{ext_get_or, get_or-map, length-map, get_or-take, length-take, take-take}
 use Rattle.std.proofs.lemmas.Option.{get_or_from_slice_get, slice_get-map, slice_get_cases, slice_get_read}
 use Rattle.emtp_elim.specs.Matrix.{Matrix, item, row_of}
 use Rattle.emtp_case.specs.Branch.{AreInThrees, IsBranch, IsPhase, first_of_trio, from_of, phase_at, phase_of, to_of}
-use Rattle.emtp_case.specs.Sizes.{Sizes, sizes_of}
+use Rattle.emtp_case.specs.Sizes.{sizes_of}
 use Rattle.emtp_case.specs.declared.branch.Branch.{Branch}
 use Rattle.emtp_case.specs.declared.branch.Branch.TheVariants.{Lumped as OfLumped, Line as OfLine, Pseudo as OfPseudo, Phase as OfPhase}
 use Rattle.emtp_case.specs.declared.branch.Phase.{Phase}
 use Rattle.emtp_case.specs.declared.case.Parts.{Parts}
 use Rattle.emtp_case.specs.declared.row_kind.RowKind.{RowKind}
 use Rattle.emtp_case.specs.declared.row_kind.RowKind.TheVariants.{Kcl, Sum, Tie, Ground, Source}
-use Rattle.emtp_rows.specs.Sums.{sum_below}
-use Rattle.emtp_rows.specs.Nodal.{Nodal, between, current_entry, entry_by, group_sum, is_member, is_tie_to, kind_at, node_at, nodal_matrix}
+use Rattle.emtp_rows.specs.Nodal.{Nodal, between, current_entry, entry_by, is_member, is_tie_to, kind_at, node_at, nodal_matrix}
 use Rattle.emtp_rows.specs.Terms.{end_rows}
 use Rattle.emtp_rows.specs.Touched.{AgreesBy, NodalRows, StandsUntouched, Touches, equation_by, equation_row, row_at}
 use Rattle.emtp_rows.proofs.Between.{between_none}
 use Rattle.emtp_rows.proofs.NodalRows.{length-nodal_matrix, length-nodal_row, nodal_entry}
-use Rattle.emtp_rows.proofs.Orders.{is_number, row_at_is, row_at_within}
+use Rattle.emtp_rows.proofs.Orders.{row_at_is, row_at_within}
 use Rattle.emtp_rows.proofs.Totals.{sum_below_same}
 
 -- ---- rows of two matrices

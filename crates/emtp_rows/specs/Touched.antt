@@ -1,5 +1,5 @@
 -- Which rows a change touches.
-use Rattle.std.specs.Prelude.{◌≡◌, ◌<◌, ◌≤◌, ℕ, ◌==◌, if◌then◌else◌, Bool, true, false, List, length, take}
+use Rattle.std.specs.Prelude.{◌≡◌, ◌≤◌, ℕ, ◌==◌, if◌then◌else◌, Bool, true, false, List, length, take}
 use Rattle.std.specs.List.{position_or_len}
 use Rattle.emtp_elim.specs.Matrix.{Matrix}
 use Rattle.emtp_case.specs.RowOrder.{order_of}

@@ -23,3 +23,4 @@ mod touched;
 
 pub use net_rows::NetRows;
 pub use term::{Amount, Term};
+pub use terms::phase_node;

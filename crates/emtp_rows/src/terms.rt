@@ -124,8 +124,8 @@ fn add_phases(
     add_term(terms, case, order, last, coupling)
 }
 
-/// The node of a phase of a three-phase line, at one of its ends.
-fn phase_node(case: &Case, second: bool, trio: u32, phase: u8) -> u32
+/// The node of a phase of a three-phase line, at its first or its second end.
+pub fn phase_node(case: &Case, second: bool, trio: u32, phase: u8) -> u32
     requires trio { trio < length case.now.parts.trios }
     requires phase { phase < 3 }
     ensures value { result ≡ phase_node case.now.parts second trio phase }

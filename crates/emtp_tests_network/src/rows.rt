@@ -227,12 +227,22 @@ fn join(rows: &mut NetRows<'_>)
     rows.set_kinds(&JOINED);
 }
 
+/// The first row that another conductance touches.
+fn touched_by(rows: &mut NetRows<'_>, branch: usize, g: i64) -> usize
+    requires there { branch < length rows.old.nodal.case.branches }
+    requires small { unsigned_abs g ≤ LARGEST_ENTRY }
+    ensures { rows.new.nodal.case ≡ rows.old.nodal.case }
+{
+    rows.set_conductance(branch, g);
+    rows.take_touched()
+}
+
 #[test]
 fn rows_of_all_kinds(rt: HostRuntime) -> Result<(), Fail> {
     let case = network(rt.alloc(), line(), modes())?;
     let order = order(rt.alloc(), &case)?;
     let mut rows = NetRows::open(rt.alloc(), &case, &order)?;
-    assert!(rt; rows.fixed() == 1);
+    assert!(rt; rows.fixed() == 1 && rows.take_touched() == 0);
     assert!(rt;
         has_rows(
             &rows,
@@ -258,7 +268,10 @@ fn rows_of_all_kinds(rt: HostRuntime) -> Result<(), Fail> {
             ]
         )
     );
+    // phase B is the first row with a new conductance
+    assert!(rt; rows.take_touched() == 1);
     join(&mut rows);
+    assert!(rt; rows.take_touched() == 1);
     assert!(rt;
         has_rows(
             &rows,
@@ -271,5 +284,8 @@ fn rows_of_all_kinds(rt: HostRuntime) -> Result<(), Fail> {
             ]
         )
     );
+    // the load is in the sum, the line besides in no row of its other end, which is tied to the source
+    assert!(rt; touched_by(&mut rows, 5, 21) == 4 && touched_by(&mut rows, 5, 21) == 5);
+    assert!(rt; touched_by(&mut rows, 0, 31) == 4);
     Ok(())
 }

@@ -1,11 +1,9 @@
-use Rattle.std.proofs.Common.{◌≡◌, ◌∙◌, ◌<◌, ap, sym, subst, length, get_or, inl, inr, min, arith}
+use Rattle.std.proofs.Common.{◌≡◌, ◌∙◌, ap, get_or, inl, inr, arith}
 use Rattle.std.proofs.Math.Nat.{min-eq_left, min-le_left, min-le_right}
 use Rattle.std.proofs.lemmas.Bool.{cases_eq}
 use Rattle.std.proofs.lemmas.List.{get_or_default}
-use Rattle.emtp_case.specs.declared.row_kind.RowKind.{RowKind}
 use Rattle.emtp_case.specs.declared.row_kind.RowKind.TheVariants.{Ground, Kcl}
 use Rattle.emtp_rows.specs.Nodal.{kind_at}
-use Rattle.emtp_rows.specs.Touched.{AgreesBy}
 use Rattle.emtp_rows.proofs.touched.touched_by_kinds.Goals as goal
 
 pub loop-k-preserved : goal.loop-k-preserved

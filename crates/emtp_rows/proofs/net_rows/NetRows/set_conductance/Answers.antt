@@ -1,9 +1,8 @@
-use Rattle.std.proofs.Common.{◌≡◌, ◌∙◌, ◌≤◌, ◌<◌, ℕ, ℤ, pos, sym, ap, subst, List, length, get_or, slice_get, slice_set, Some, to_z, of_z, arith}
+use Rattle.std.proofs.Common.{◌≡◌, ◌∙◌, ◌<◌, pos, sym, ap, subst, length, get_or, slice_get, slice_set, Some, to_z, of_z, arith}
 use mir.Syntax.{w64}
 use Rattle.std.proofs.lemmas.Int.{ints}
 use Rattle.std.proofs.lemmas.List.{set-get_or}
 use Rattle.std.proofs.lemmas.Option.{slice_get-get_or}
-use Rattle.emtp_case.specs.declared.branch.Branch.{Branch}
 use Rattle.emtp_case.specs.declared.branch.Branch.TheVariants.{Lumped as OfLumped}
 use Rattle.emtp_rows.specs.Terms.{IsSmall}
 use Rattle.emtp_rows.specs.Touched.{NodalRows, Touches}

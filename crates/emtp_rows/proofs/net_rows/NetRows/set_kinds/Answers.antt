@@ -1,4 +1,4 @@
-use Rattle.std.proofs.Common.{◌≡◌, ◌∙◌, ◌≤◌, sym, ap, subst, List, length, min, arith}
+use Rattle.std.proofs.Common.{◌≡◌, ◌∙◌, sym, ap, subst, List, length, arith}
 use Rattle.std.proofs.Math.Nat.{min-le_left, min-eq_left}
 use Rattle.emtp_case.specs.RowOrder.{order_of}
 use Rattle.emtp_case.specs.declared.row_kind.RowKind.{RowKind}

@@ -1,8 +1,7 @@
-use Rattle.std.proofs.Common.{◌≡◌, ◌∙◌, ◌≤◌, ◌<◌, ◌+◌, ℕ, ℤ, pos, sym, ap, subst, List, [], length, get_or, slice_get, slice_set, Some, to_z, of_z, arith}
+use Rattle.std.proofs.Common.{◌≡◌, ◌∙◌, ◌<◌, sym, ap, subst, [], length, slice_set, to_z, of_z, arith}
 use mir.Syntax.{w64}
 use Rattle.std.proofs.lemmas.Int.{ints}
 use Rattle.std.proofs.lemmas.List.{length-map, set-get_or}
-use Rattle.emtp_case.specs.Branch.{first_of_trio}
 use Rattle.emtp_rows.specs.Terms.{IsSmall, end_rows}
 use Rattle.emtp_rows.specs.Touched.{NodalRows, Touches}
 use Rattle.emtp_rows.proofs.Phases.{first_is, phase_there}
