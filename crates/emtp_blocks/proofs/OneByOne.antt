@@ -1,5 +1,5 @@
 -- Taking the outputs into one block after the other.
-use Rattle.std.proofs.Common.{◌≡◌, ◌≢◌, ◌∙◌, sym, ap, subst, ℕ, ◌+◌, ◌<◌, ◌≤◌, ℤ, pos, unsigned_abs, Bool, true, false, List, [], ◌∷◌, All, length, map, get_or, slice_get, slice_set, get_or-set_same, get_or-set_other, IsSome, is_none, Option, Some, None, take, drop, take_at, ◌++◌, unwrap_or, nat_lt, cond, position, refl, inl, inr, arith}
+use Rattle.std.proofs.Common.{◌≡◌, ◌≢◌, ◌∙◌, sym, ap, subst, ℕ, ◌+◌, ◌<◌, ◌≤◌, ℤ, pos, unsigned_abs, Bool, true, false, List, [], ◌∷◌, All, length, map, get_or, slice_get, slice_set, get_or-set_same, get_or-set_other, IsSome, is_none, Option, Some, None, unwrap_or, nat_lt, cond, position, refl, inl, inr, arith}
 use Rattle.std.specs.List.{range_with_len, position_or_len}
 use Rattle.std.proofs.lemmas.Bool.{cases_eq}
 use Rattle.std.proofs.lemmas.Bool.Decides.{nat_tests}
@@ -108,10 +108,6 @@ stands_next case states out H known xs r accepted is i = λ b here.
     some_is : (o : Option BlockState) → IsSome o → o ≡ Some (unwrap_or o no_block)
     some_is None h = absurd (cc)
     some_is (Some s) h = refl
-
--- a `Vec` that was lent as a slice
-pub lent : {X : Type 0} (n : ℕ) (xs ys : List X) → length xs ≡ n → take n (xs ++ drop (length xs) ys) ≡ xs
-lent n xs ys same = take_at xs (drop (length xs) ys) n same
 
 pub limiters_same : (xs ys : List BlockState) → length xs ≡ length ys → ((i : ℕ) → i < length xs → (get_or xs i no_kept).limiter ≡ (get_or ys i no_kept).limiter) → limiters_kept xs ≡ limiters_kept ys
 limiters_same xs ys long each =

@@ -1,4 +1,4 @@
-use Rattle.std.proofs.Common.{◌≡◌, ◌∙◌, subst, ℤ, List, Ok, length, arith}
+use Rattle.std.proofs.Common.{◌≡◌, subst, ℤ, List, Ok, arith}
 use Rattle.emtp_elim.specs.Matrix.{Matrix}
 use Rattle.emtp_elim.specs.Outcome.{outcome}
 use Rattle.emtp_blocks.specs.BlockRows.{limiters_kept}

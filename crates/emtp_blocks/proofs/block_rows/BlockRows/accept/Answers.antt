@@ -1,7 +1,7 @@
-use Rattle.std.proofs.Common.{◌≡◌, ◌∙◌, sym, ap, subst, ◌∷◌, ℕ, ℤ, List, length, arith}
+use Rattle.std.proofs.Common.{◌≡◌, ◌∙◌, sym, ap, subst, ◌∷◌, ℕ, ℤ, List, length, arith, take_at, drop}
 use Rattle.emtp_blocks.specs.BlockRows.{AreUnknowns, Blocking, StandsAt, StandsFor, limiters_kept}
 use Rattle.emtp_case.specs.declared.control.BlockState.{BlockState}
-use Rattle.emtp_blocks.proofs.OneByOne.{none_out_is, outputs_all, stands_next, limiters_same, lent}
+use Rattle.emtp_blocks.proofs.OneByOne.{none_out_is, outputs_all, stands_next, limiters_same}
 use Rattle.emtp_blocks.proofs.block_rows.BlockRows.accept.Goals as goal
 
 pub returns-in-Err-clause-value : goal.returns-in-Err-clause-value
@@ -23,8 +23,8 @@ returns-clause-value c = λ H stands.
     let xs = c.args.x.now in
     let size : length c.accept_all.new.states ≡ c.self.inside.states.len = omega (arith, c.deref_mut.ensures.len, c.accept_all.auto.states) in
     let size' : length c.accept_all.new.out ≡ c.self.inside.out.len = omega (arith, c.deref_mut-2.ensures.len, c.accept_all.auto.out) in
-    let S = lent c.self.inside.states.len c.accept_all.new.states c.self.inside.states.items size in
-    let O = lent c.self.inside.out.len c.accept_all.new.out c.self.inside.out.items size' in
+    let S = take_at c.accept_all.new.states (drop (length c.accept_all.new.states) c.self.inside.states.items) c.self.inside.states.len size in
+    let O = take_at c.accept_all.new.out (drop (length c.accept_all.new.out) c.self.inside.out.items) c.self.inside.out.len size' in
     let long : length c.accept_all.new.out ≡ length seen.case.blocks = omega (arith, c.deref_mut-2.ensures.len, c.accept_all.auto.out, c.self.invariant.out_each, ap length c.deref_mut-2.ensures.value) in
     let kept_long : length c.accept_all.new.states ≡ length seen.case.blocks = omega (arith, c.deref_mut.ensures.len, c.accept_all.auto.states, c.self.invariant.state_each, ap length c.deref_mut.ensures.value) in
     record {
@@ -39,7 +39,7 @@ returns-clause-value c = λ H stands.
 pub returns-clause-moved : goal.returns-clause-moved
 returns-clause-moved c = λ still.
     let size : length c.accept_all.new.states ≡ c.self.inside.states.len = omega (arith, c.deref_mut.ensures.len, c.accept_all.auto.states) in
-    let S = lent c.self.inside.states.len c.accept_all.new.states c.self.inside.states.items size in
+    let S = take_at c.accept_all.new.states (drop (length c.accept_all.new.states) c.self.inside.states.items) c.self.inside.states.len size in
     let told = rw c.deref_mut.ensures.value at (c.in-Ok.ensures.moved still) in
     let same = ap (λ (s : Blocking). limiters_kept s.states) c.self.view_is in
     ap limiters_kept S ∙ sym (limiters_same c.self.inside.states.items c.accept_all.new.states (omega (arith, c.deref_mut.ensures.len, c.accept_all.auto.states, ap length c.deref_mut.ensures.value)) told) ∙ same
@@ -48,7 +48,7 @@ pub returns-clause-small : goal.returns-clause-small
 returns-clause-small c =
     let seen : Blocking = record { case = c.self.inside.case.now.parts; states = c.self.inside.states.items; moved = c.self.inside.moved } in
     let size' : length c.accept_all.new.out ≡ c.self.inside.out.len = omega (arith, c.deref_mut-2.ensures.len, c.accept_all.auto.out) in
-    let O = lent c.self.inside.out.len c.accept_all.new.out c.self.inside.out.items size' in
+    let O = take_at c.accept_all.new.out (drop (length c.accept_all.new.out) c.self.inside.out.items) c.self.inside.out.len size' in
     let R : List ℤ → Type 0 = λ xs. AreUnknowns seen.case xs in
     let here = subst R (sym (c.copy_from_slice.ensures.after ∙ c.deref-3.ensures.value ∙ O)) c.in-Ok.ensures.small in
     let P : Blocking → Type 0 = λ s. AreUnknowns s.case c.copy_from_slice.new.self in
