@@ -169,10 +169,14 @@ pub fn network(
     alloc: Global,
     resistors: [Lumped; 2],
     second_source: bool,
-    switches: [Switch; 3],
+    first: Switch,
+    second: Switch,
+    third: Switch,
 ) -> Result<Case, AllocError>
     requires resistors { All (IsLumped RUN (sizes_with 4)) resistors }
-    requires switches { All (IsSwitch (sizes_with 4)) switches }
+    requires first { IsSwitch (sizes_with 4) first }
+    requires second { IsSwitch (sizes_with 4) second }
+    requires third { IsSwitch (sizes_with 4) third }
     ensures { IfOk result (λ case. HasSizes case.parts) }
 {
     let mut draft = four_nodes(alloc)?;
@@ -180,7 +184,6 @@ pub fn network(
     draft.add_lumped(resistor)?;
     draft.add_lumped(other)?;
     add_sources(&mut draft, second_source)?;
-    let [first, second, third] = switches;
     add_switches(&mut draft, first, second, third)?;
     Ok(draft.finish_network())
 }

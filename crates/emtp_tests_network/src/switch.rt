@@ -162,8 +162,17 @@ fn row(
 #[test]
 fn breaker_opens_once_its_current_has_passed_a_zero(rt: HostRuntime) -> Result<(), Fail> {
     // 250 V at N1 and a ramp of 100 V a step at N4, 2 ohm between them with the breaker amid; it is to open from step 2 on
-    let switches = [breaker(2, 3, -1, Some(2 * STEP)), never(), never()];
-    let case = network(rt.alloc(), [ohm(1, 2), ohm(3, 4)], true, switches)?;
+    let first = breaker(2, 3, -1, Some(2 * STEP));
+    let second = never();
+    let third = never();
+    let case = network(
+        rt.alloc(),
+        [ohm(1, 2), ohm(3, 4)],
+        true,
+        first,
+        second,
+        third,
+    )?;
     let on = [true, false, false];
     let off = [false; 3];
     let shut = [SOURCE, SOURCE, TIE, SUM];
@@ -199,12 +208,17 @@ fn breaker_opens_once_its_current_has_passed_a_zero(rt: HostRuntime) -> Result<(
 #[test]
 fn empty_group_is_at_ground(rt: HostRuntime) -> Result<(), Fail> {
     // N1 to N2 and N3 to ground, with switches N2 to N4 and N4 to N3: nothing else ends at N4
-    let switches = [
-        breaker(2, 4, 2 * STEP, None),
-        breaker(4, 3, 3 * STEP, None),
-        never(),
-    ];
-    let case = network(rt.alloc(), [ohm(1, 2), ohm(3, 0)], false, switches)?;
+    let first = breaker(2, 4, 2 * STEP, None);
+    let second = breaker(4, 3, 3 * STEP, None);
+    let third = never();
+    let case = network(
+        rt.alloc(),
+        [ohm(1, 2), ohm(3, 0)],
+        false,
+        first,
+        second,
+        third,
+    )?;
     let still = ([0; 4], [0; 3], 0);
     let apart = ([0, 0, 0, 0], [0, 0, 0]);
     let steps = [
@@ -234,34 +248,44 @@ fn empty_group_is_at_ground(rt: HostRuntime) -> Result<(), Fail> {
 
 #[test]
 fn source_that_is_tied_to_ground_is_named(rt: HostRuntime) -> Result<(), Fail> {
-    let switches = [
-        never(),
-        breaker(1, 0, STEP, None),
-        breaker(1, 0, STEP, None),
-    ];
-    let case = network(rt.alloc(), [ohm(1, 2), ohm(3, 4)], false, switches)?;
+    let first = never();
+    let second = breaker(1, 0, STEP, None);
+    let third = breaker(1, 0, STEP, None);
+    let case = network(
+        rt.alloc(),
+        [ohm(1, 2), ohm(3, 4)],
+        false,
+        first,
+        second,
+        third,
+    )?;
     let still = ([0; 4], [0; 3], 0);
     let apart = ([0, 0, 0, 0], [0, 0, 0]);
-    let first = row(still, [false, false, false], [SOURCE, KCL, KCL, KCL], apart);
-    let mut second = row(still, [false, true, true], [KCL; 4], apart);
-    second.kinds = Err(Tied { switch: 1 });
-    assert!(rt; walk(rt.alloc(), &case, &[first, second])?);
+    let before = row(still, [false, false, false], [SOURCE, KCL, KCL, KCL], apart);
+    let mut after = row(still, [false, true, true], [KCL; 4], apart);
+    after.kinds = Err(Tied { switch: 1 });
+    assert!(rt; walk(rt.alloc(), &case, &[before, after])?);
     Ok(())
 }
 
 #[test]
 fn last_switch_of_a_loop_carries_nothing(rt: HostRuntime) -> Result<(), Fail> {
     // N1 to N2, N3 to ground; the loop N2 to N4, N4 to N3, N3 to N2
-    let switches = [
-        breaker(2, 4, -1, None),
-        breaker(4, 3, -1, None),
-        breaker(3, 2, -1, None),
-    ];
-    let case = network(rt.alloc(), [ohm(1, 2), ohm(3, 0)], false, switches)?;
+    let first = breaker(2, 4, -1, None);
+    let second = breaker(4, 3, -1, None);
+    let third = breaker(3, 2, -1, None);
+    let case = network(
+        rt.alloc(),
+        [ohm(1, 2), ohm(3, 0)],
+        false,
+        first,
+        second,
+        third,
+    )?;
     let still = ([0; 4], [0; 3], 0);
     let kinds = [SOURCE, TIE, TIE, SUM];
-    let first = row(still, [true; 3], kinds, ([50, -50, 50, 0], [50, 50, 0]));
-    assert!(rt; walk(rt.alloc(), &case, &[first])?);
+    let rest = row(still, [true; 3], kinds, ([50, -50, 50, 0], [50, 50, 0]));
+    assert!(rt; walk(rt.alloc(), &case, &[rest])?);
     Ok(())
 }
 
@@ -273,20 +297,25 @@ fn other_kinds_of_switches(rt: HostRuntime) -> Result<(), Fail> {
         holding: 2 * NANO,
         control: None,
     };
-    let switches = [
-        switch(2, 3, SwitchKind::Measuring),
-        switch(1, 4, valve),
-        switch(3, 4, SwitchKind::Control { control: 4 }),
-    ];
-    let case = network(rt.alloc(), [ohm(1, 2), ohm(3, 0)], false, switches)?;
-    let (first, both) = ([true, false, false], [true, true, false]);
+    let first = switch(2, 3, SwitchKind::Measuring);
+    let second = switch(1, 4, valve);
+    let third = switch(3, 4, SwitchKind::Control { control: 4 });
+    let case = network(
+        rt.alloc(),
+        [ohm(1, 2), ohm(3, 0)],
+        false,
+        first,
+        second,
+        third,
+    )?;
+    let (one, both) = ([true, false, false], [true, true, false]);
     let idle = [SOURCE, RowKind::Tie(2), SUM, GROUND];
     let lit = [SOURCE, RowKind::Tie(2), SUM, RowKind::Tie(0)];
     let all = [SOURCE, RowKind::Tie(0), RowKind::Tie(0), RowKind::Tie(0)];
     let load = ([50, -50, 50, 0], [50, 0, 0]);
     let steps = [
-        row(([0; 4], [0, 0, 0], 0), first, idle, load),
-        row(([4, 0, 0, 0], [0, 0, 0], 0), first, idle, load),
+        row(([0; 4], [0, 0, 0], 0), one, idle, load),
+        row(([4, 0, 0, 0], [0, 0, 0], 0), one, idle, load),
         row(
             ([5, 0, 0, 0], [0, 0, 0], 1),
             [true; 3],
@@ -294,8 +323,8 @@ fn other_kinds_of_switches(rt: HostRuntime) -> Result<(), Fail> {
             ([0, 7, 5, 0], [-7, 12, -12]),
         ),
         row(([9, 0, 0, 9], [0, 2, 0], 0), both, lit, load),
-        row(([9, 0, 0, 9], [0, 1, 0], -1), first, idle, load),
-        row(([0, 0, 0, 9], [0, 0, 0], 0), first, idle, load),
+        row(([9, 0, 0, 9], [0, 1, 0], -1), one, idle, load),
+        row(([0, 0, 0, 9], [0, 0, 0], 0), one, idle, load),
     ];
     assert!(rt; walk(rt.alloc(), &case, &steps)?);
     Ok(())
