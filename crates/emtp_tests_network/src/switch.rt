@@ -159,26 +159,13 @@ fn row(
     }
 }
 
-#[test]
-fn breaker_opens_once_its_current_has_passed_a_zero(rt: HostRuntime) -> Result<(), Fail> {
-    // 250 V at N1 and a ramp of 100 V a step at N4, 2 ohm between them with the breaker amid; it is to open from step 2 on
-    let first = breaker(2, 3, -1, Some(2 * STEP));
-    let second = never();
-    let third = never();
-    let case = network(
-        rt.alloc(),
-        [ohm(1, 2), ohm(3, 4)],
-        true,
-        first,
-        second,
-        third,
-    )?;
+fn breaker_steps() -> [Look; 6] {
     let on = [true, false, false];
     let off = [false; 3];
     let shut = [SOURCE, SOURCE, TIE, SUM];
     let open = [SOURCE, SOURCE, KCL, KCL];
     let rest = [0; 4];
-    let steps = [
+    [
         row((rest, [0, 0, 0], 0), on, shut, (rest, [0, 0, 0])),
         row(
             (rest, [0, 0, 0], 0),
@@ -200,28 +187,31 @@ fn breaker_opens_once_its_current_has_passed_a_zero(rt: HostRuntime) -> Result<(
         ),
         row((rest, [-25, 0, 0], 0), off, open, (rest, [0, 0, 0])),
         row((rest, [0, 0, 0], 0), off, open, (rest, [0, 0, 0])),
-    ];
-    assert!(rt; walk(rt.alloc(), &case, &steps)?);
-    Ok(())
+    ]
 }
 
 #[test]
-fn empty_group_is_at_ground(rt: HostRuntime) -> Result<(), Fail> {
-    // N1 to N2 and N3 to ground, with switches N2 to N4 and N4 to N3: nothing else ends at N4
-    let first = breaker(2, 4, 2 * STEP, None);
-    let second = breaker(4, 3, 3 * STEP, None);
+fn breaker_opens_once_its_current_has_passed_a_zero(rt: HostRuntime) -> Result<(), Fail> {
+    // 250 V at N1 and a ramp of 100 V a step at N4, 2 ohm between them with the breaker amid; it is to open from step 2 on
+    let first = breaker(2, 3, -1, Some(2 * STEP));
+    let second = never();
     let third = never();
     let case = network(
         rt.alloc(),
-        [ohm(1, 2), ohm(3, 0)],
-        false,
+        [ohm(1, 2), ohm(3, 4)],
+        true,
         first,
         second,
         third,
     )?;
+    assert!(rt; walk(rt.alloc(), &case, &breaker_steps())?);
+    Ok(())
+}
+
+fn chain_steps() -> [Look; 4] {
     let still = ([0; 4], [0; 3], 0);
     let apart = ([0, 0, 0, 0], [0, 0, 0]);
-    let steps = [
+    [
         row(
             still,
             [false, false, false],
@@ -241,9 +231,34 @@ fn empty_group_is_at_ground(rt: HostRuntime) -> Result<(), Fail> {
             [SOURCE, TIE, TIE, SUM],
             ([50, -50, 50, 0], [50, 50, 0]),
         ),
-    ];
-    assert!(rt; walk(rt.alloc(), &case, &steps)?);
+    ]
+}
+
+#[test]
+fn empty_group_is_at_ground(rt: HostRuntime) -> Result<(), Fail> {
+    // N1 to N2 and N3 to ground, with switches N2 to N4 and N4 to N3: nothing else ends at N4
+    let first = breaker(2, 4, 2 * STEP, None);
+    let second = breaker(4, 3, 3 * STEP, None);
+    let third = never();
+    let case = network(
+        rt.alloc(),
+        [ohm(1, 2), ohm(3, 0)],
+        false,
+        first,
+        second,
+        third,
+    )?;
+    assert!(rt; walk(rt.alloc(), &case, &chain_steps())?);
     Ok(())
+}
+
+fn tied_steps() -> [Look; 2] {
+    let still = ([0; 4], [0; 3], 0);
+    let apart = ([0, 0, 0, 0], [0, 0, 0]);
+    let before = row(still, [false, false, false], [SOURCE, KCL, KCL, KCL], apart);
+    let mut after = row(still, [false, true, true], [KCL; 4], apart);
+    after.kinds = Err(Tied { switch: 1 });
+    [before, after]
 }
 
 #[test]
@@ -259,13 +274,15 @@ fn source_that_is_tied_to_ground_is_named(rt: HostRuntime) -> Result<(), Fail> {
         second,
         third,
     )?;
-    let still = ([0; 4], [0; 3], 0);
-    let apart = ([0, 0, 0, 0], [0, 0, 0]);
-    let before = row(still, [false, false, false], [SOURCE, KCL, KCL, KCL], apart);
-    let mut after = row(still, [false, true, true], [KCL; 4], apart);
-    after.kinds = Err(Tied { switch: 1 });
-    assert!(rt; walk(rt.alloc(), &case, &[before, after])?);
+    assert!(rt; walk(rt.alloc(), &case, &tied_steps())?);
     Ok(())
+}
+
+fn loop_steps() -> [Look; 1] {
+    let still = ([0; 4], [0; 3], 0);
+    let kinds = [SOURCE, TIE, TIE, SUM];
+    let rest = row(still, [true; 3], kinds, ([50, -50, 50, 0], [50, 50, 0]));
+    [rest]
 }
 
 #[test]
@@ -282,11 +299,29 @@ fn last_switch_of_a_loop_carries_nothing(rt: HostRuntime) -> Result<(), Fail> {
         second,
         third,
     )?;
-    let still = ([0; 4], [0; 3], 0);
-    let kinds = [SOURCE, TIE, TIE, SUM];
-    let rest = row(still, [true; 3], kinds, ([50, -50, 50, 0], [50, 50, 0]));
-    assert!(rt; walk(rt.alloc(), &case, &[rest])?);
+    assert!(rt; walk(rt.alloc(), &case, &loop_steps())?);
     Ok(())
+}
+
+fn kinds_steps() -> [Look; 6] {
+    let (one, both) = ([true, false, false], [true, true, false]);
+    let idle = [SOURCE, RowKind::Tie(2), SUM, GROUND];
+    let lit = [SOURCE, RowKind::Tie(2), SUM, RowKind::Tie(0)];
+    let all = [SOURCE, RowKind::Tie(0), RowKind::Tie(0), RowKind::Tie(0)];
+    let load = ([50, -50, 50, 0], [50, 0, 0]);
+    [
+        row(([0; 4], [0, 0, 0], 0), one, idle, load),
+        row(([4, 0, 0, 0], [0, 0, 0], 0), one, idle, load),
+        row(
+            ([5, 0, 0, 0], [0, 0, 0], 1),
+            [true; 3],
+            all,
+            ([0, 7, 5, 0], [-7, 12, -12]),
+        ),
+        row(([9, 0, 0, 9], [0, 2, 0], 0), both, lit, load),
+        row(([9, 0, 0, 9], [0, 1, 0], -1), one, idle, load),
+        row(([0, 0, 0, 9], [0, 0, 0], 0), one, idle, load),
+    ]
 }
 
 #[test]
@@ -308,24 +343,6 @@ fn other_kinds_of_switches(rt: HostRuntime) -> Result<(), Fail> {
         second,
         third,
     )?;
-    let (one, both) = ([true, false, false], [true, true, false]);
-    let idle = [SOURCE, RowKind::Tie(2), SUM, GROUND];
-    let lit = [SOURCE, RowKind::Tie(2), SUM, RowKind::Tie(0)];
-    let all = [SOURCE, RowKind::Tie(0), RowKind::Tie(0), RowKind::Tie(0)];
-    let load = ([50, -50, 50, 0], [50, 0, 0]);
-    let steps = [
-        row(([0; 4], [0, 0, 0], 0), one, idle, load),
-        row(([4, 0, 0, 0], [0, 0, 0], 0), one, idle, load),
-        row(
-            ([5, 0, 0, 0], [0, 0, 0], 1),
-            [true; 3],
-            all,
-            ([0, 7, 5, 0], [-7, 12, -12]),
-        ),
-        row(([9, 0, 0, 9], [0, 2, 0], 0), both, lit, load),
-        row(([9, 0, 0, 9], [0, 1, 0], -1), one, idle, load),
-        row(([0, 0, 0, 9], [0, 0, 0], 0), one, idle, load),
-    ];
-    assert!(rt; walk(rt.alloc(), &case, &steps)?);
+    assert!(rt; walk(rt.alloc(), &case, &kinds_steps())?);
     Ok(())
 }
