@@ -1,6 +1,6 @@
 //! Switches walked alone: what the rest of the network would give them is worked out by hand.
 
-ghost use Rattle.std.specs.Prelude.{◌≡◌, ◌≤◌, ◌∷◌, List, Some, length, unsigned_abs, IfErr, IfOk};
+ghost use Rattle.std.specs.Prelude.{◌≡◌, ◌+◌, ◌≤◌, ◌∷◌, List, Some, length, unsigned_abs, IfErr, IfOk};
 ghost use Rattle.std.specs.List.{All};
 ghost use Rattle.emtp_case.specs.StepRecord.{StepRecord};
 ghost use Rattle.emtp_fix.specs.declared.limit.TheConstants.{LARGEST_VALUE};
