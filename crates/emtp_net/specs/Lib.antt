@@ -1,0 +1,11 @@
+pub mod Sums
+pub mod Rights
+pub mod System
+pub mod Part
+pub mod Residual
+pub mod Redone
+pub mod Step
+pub mod Judging
+pub mod Branches
+pub mod Moving
+pub mod Network

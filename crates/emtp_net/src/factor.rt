@@ -1,0 +1,77 @@
+//! The factor, brought up to date from the first row that changed.
+
+ghost use Rattle.std.specs.Prelude.{◌≡◌, ◌+◌, ◌-◌, ◌*◌, ◌^◌, ◌≤◌, ◌<◌, ◌==◌, List, length, if◌then◌else◌, OnOk, IfErr};
+ghost use Rattle.emtp_case.specs.StepRecord.{StepRecord};
+ghost use Rattle.emtp_elim.specs.Fault.{IsRowFault};
+ghost use Rattle.emtp_net.specs.Branches.{HasCase, StandsFor as BranchesStandFor};
+ghost use Rattle.emtp_net.specs.System.{conductances};
+ghost use Rattle.emtp_rows.specs.Nodal.{nodal_matrix};
+ghost use Rattle.emtp_rows.specs.Touched.{StandsUntouched, Touches};
+ghost use Rattle.emtp_tail.specs.Good.{first_change};
+
+use crate::branches::Branches;
+use emtp_case::Case;
+use emtp_elim::RowFault;
+use emtp_fix::Steps;
+use emtp_rows::NetRows;
+use emtp_tail::Kept;
+use std::sync::ledger::Ledger;
+
+/// Counts rows that are redone; the first step counts none.
+fn count(redone: &mut u64, made: u32, rows: usize)
+    requires few { redone.old ≤ 10 ^ 12 }
+    requires rows { rows ≤ 1000 }
+    ensures value { redone.new ≡ redone.old + (if made == 0 then 0 else rows) }
+    ensures most { redone.new ≤ redone.old + 1000 }
+{
+    if made != 0 {
+        *redone += rows as u64;
+    }
+}
+
+/// Makes the factor that of the rows as they are now. Rows before the first touched one are neither filled nor compared,
+/// and where none was touched nothing is done.
+pub(crate) fn follow<L: Ledger>(
+    rows: &mut NetRows<'_>,
+    kept: &mut Kept,
+    made: u32,
+    redone: &mut u64,
+    steps: &mut Steps<L>,
+) -> Result<(), RowFault>
+    requires size { kept.old.size ≡ length rows.old.nodal.case.nodes }
+    requires nodes { length rows.old.nodal.case.nodes ≤ 1000 }
+    requires stands { StandsUntouched rows.old kept.old.rows }
+    requires few { redone.old ≤ 10 ^ 12 }
+    ensures nodal { rows.new.nodal ≡ rows.old.nodal }
+    ensures size { kept.new.size ≡ kept.old.size }
+    ensures stands { StandsUntouched rows.new kept.new.rows }
+    ensures redone { redone.new ≡ redone.old + (if made == 0 then 0 else kept.old.size - first_change kept.old.rows (nodal_matrix rows.old.nodal)) }
+    ensures few { redone.new ≤ redone.old + 1000 }
+    ensures good { OnOk result (kept.new.rows ≡ nodal_matrix rows.old.nodal) }
+    ensures ticks { OnOk result (steps.new + first_change kept.old.rows (nodal_matrix rows.old.nodal) ≡ steps.old + kept.old.size) }
+    ensures fault { IfErr result (λ fault. IsRowFault (nodal_matrix rows.old.nodal) fault.row fault.cause) }
+    ensures fault_ticks { IfErr result (λ fault. steps.new + first_change kept.old.rows (nodal_matrix rows.old.nodal) ≤ steps.old + kept.old.size) }
+{
+    let from = rows.take_touched().min(kept.good());
+    let first = kept.changed_from(&*rows, from);
+    count(redone, made, kept.size() - first);
+    match kept.update_from(&*rows, first, steps) {
+        Ok(()) => Ok(()),
+        Err(fault) => Err(fault),
+    }
+}
+
+/// Gives the rows the conductances of the next step.
+pub(crate) fn set_conductances(case: &Case, branches: &Branches<'_>, rows: &mut NetRows<'_>)
+    requires same { HasCase branches.now case.now.parts }
+    requires rows { rows.old.nodal.case ≡ case.now.parts }
+    requires own { length rows.old.nodal.own ≡ length case.now.parts.branches }
+    ensures set { (H : List StepRecord) → BranchesStandFor branches.now H → rows.new.nodal ≡ record rows.old.nodal { own = conductances case.now.parts H } }
+    ensures touched { Touches rows.old rows.new }
+    ensures rest { rows.new.nodal ≡ record rows.old.nodal { own = rows.new.nodal.own } }
+    ensures room { length rows.new.nodal.own ≡ length case.now.parts.branches }
+{
+    for at in 0..case.parts.branches.len() {
+        rows.set_conductance(at, branches.conductance(case, at));
+    }
+}
