@@ -4,9 +4,13 @@
 mod branches;
 mod factor;
 mod fault;
+mod laws;
+mod network;
 mod residual;
 mod right;
 mod sums;
 mod voltages;
 
 pub use fault::NetFault;
+pub use laws::{residual_within_tolerance, ticks_are_size_and_redone, unchanged_redoes_nothing};
+pub use network::Network;
