@@ -11,4 +11,8 @@ pub mod Bringing
 pub mod Residuals
 pub mod Conductances
 pub mod Ending
+pub mod Switching
+pub mod Factoring
+pub mod Resting
+pub mod Stepping
 mod Worked

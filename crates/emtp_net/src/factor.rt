@@ -88,7 +88,7 @@ pub(crate) fn set_couplings(case: &Case, branches: &Branches<'_>, rows: &mut Net
     requires same { HasCase branches.now case.now.parts }
     requires rows { rows.old.nodal.case ≡ case.now.parts }
     requires coupling { length rows.old.nodal.coupling ≡ length case.now.parts.trios }
-    ensures set { rows.new.nodal ≡ record rows.old.nodal { coupling = couplings case.now.parts } }
+    ensures { rows.new.nodal ≡ record rows.old.nodal { coupling = couplings case.now.parts } }
 {
     for trio in 0..case.parts.trios.len() {
         rows.set_mutual(trio, branches.lines.mutual(trio));
