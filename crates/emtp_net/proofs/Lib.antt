@@ -13,6 +13,7 @@ pub mod Conductances
 pub mod Ending
 pub mod Switching
 pub mod Factoring
+pub mod LineCurrents
 pub mod Resting
 pub mod Stepping
 mod Worked

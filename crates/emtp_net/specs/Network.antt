@@ -6,7 +6,7 @@ use Rattle.emtp_rows.specs.Touched.{NodalRows}
 use Rattle.emtp_switch.specs.Switching as switching
 use Rattle.emtp_tail.specs.Good.{Good}
 use Rattle.emtp_net.specs.Branches.{StandsFor as BranchesStandFor}
-use Rattle.emtp_net.specs.Moving.{AreCurrents}
+use Rattle.emtp_net.specs.Moving.{AreCurrents, AreLineCurrents}
 use Rattle.emtp_net.specs.Part.{NetworkPart, network_of}
 use Rattle.emtp_net.specs.Redone.{last_matrix, net_redone}
 use Rattle.emtp_net.specs.Stages.{step_adds}
@@ -35,6 +35,7 @@ pub record StandsFor (s : Net) (H : List StepRecord) : Type 0 where
   -- what it shows
   pub voltages : s.voltages ≡ (latest H).voltages
   pub currents : AreCurrents s.case s.currents (latest H) (length s.case.branches)
+  pub line_currents : AreLineCurrents s.case (latest H)
   pub switch_currents : s.switch_currents ≡ (latest H).switch_currents
   pub closed : s.closed ≡ map is_closed (latest H).switch_states
   -- the factor is that of the last step's matrix

@@ -7,7 +7,7 @@ ghost use Rattle.emtp_net.specs.Branches.{HasCase, StandsFor};
 ghost use Rattle.emtp_net.specs.Fault.{NamesNode};
 ghost use Rattle.emtp_net.specs.Redone.{step_redone};
 ghost use Rattle.emtp_net.specs.Stages.{AreVoltages, Ends};
-ghost use Rattle.emtp_net.specs.Moving.{AreCurrents, HasMoved, HasStopped, HaveMoved, IsFirstOut, IsNext, StandsBefore};
+ghost use Rattle.emtp_net.specs.Moving.{AreCurrents, AreLineCurrents, HasMoved, HasStopped, HaveMoved, IsFirstOut, IsNext, StandsBefore};
 ghost use Rattle.emtp_net.specs.Part.{brought_by, phase_voltages};
 ghost use Rattle.emtp_net.specs.System.{conductance_by, history_at, taken, through};
 
@@ -183,7 +183,7 @@ impl<'a> Branches<'a> {
         requires same { HasCase self.now case.now.parts }
         requires currents { length currents.now ≡ length case.now.parts.branches }
         requires there { at < length case.now.parts.branches }
-        ensures { (r : StepRecord) (past : List StepRecord) → StandsFor self.now (r ∷ past) → AreCurrents case.now.parts currents.now r (length case.now.parts.branches) → result ≡ branch_current_at at r }
+        ensures { (r : StepRecord) (past : List StepRecord) → StandsFor self.now (r ∷ past) → AreCurrents case.now.parts currents.now r (length case.now.parts.branches) → AreLineCurrents case.now.parts r → result ≡ branch_current_at at r }
     {
         match case.parts.branches.as_slice()[at] {
             Branch::Lumped(_) => currents[at],
