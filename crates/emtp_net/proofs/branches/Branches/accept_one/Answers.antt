@@ -1,0 +1,139 @@
+use Rattle.std.proofs.Common.{◌≡◌, ◌∙◌, sym, ap, subst, slice_get, Some, ℤ, ◌-ℤ◌, ℕ, FitsSigned, refl, to_z, of_z, rules, arith}
+use mir.Syntax.{w64}
+use Rattle.std.proofs.Math.Nat.{min-eq_left, min-le_right}
+use Rattle.std.proofs.lemmas.Int.{to_z-of_z}
+use Rattle.emtp_case.specs.declared.branch.Branch.TheVariants.{Lumped as OfLumped, Line as OfLine, Pseudo as OfPseudo, Phase as OfPhase}
+use Rattle.emtp_elim.specs.Matrix.{item}
+use Rattle.emtp_line.specs.Lines as lined
+use Rattle.emtp_lumped.specs.Lumps as lumped
+use Rattle.emtp_pseudo.specs.Pseudos as pseudo
+use Rattle.emtp_net.proofs.Moves.{line_moves, line_stops, lumped_moves, lumped_stops, phase_read, pseudo_moves, pseudo_stops}
+use Rattle.emtp_net.proofs.Nodes.{branch_fits, branch_read}
+use Rattle.emtp_net.proofs.PhaseMoves.{phase_waits, trio_moves, trio_stops}
+use Rattle.emtp_rows.proofs.Phases.{phase_there}
+use Rattle.emtp_net.proofs.branches.Branches.accept_one.Goals as goal
+
+pub returns-in-Ok-clause-moved : goal.returns-in-Ok-clause-moved
+returns-in-Ok-clause-moved c = λ H before.
+    let case = c.args.case.now.parts in
+    let vs = c.args.voltages.now in
+    let x = c.in-Lumped.b in
+    let is : slice_get case.branches c.args.at ≡ Some (OfLumped x) = branch_read case _ c.args.at _ (OfLumped x) c.as_slice.ensures c.requires.there c.in-Lumped.is in
+    let first : FitsSigned w64 (item vs x.from) = search rules in
+    let second : FitsSigned w64 (item vs x.to) = search rules in
+    let one : to_z w64 (of_z w64 (item vs x.from)) ≡ item vs x.from = to_z-of_z w64 _ first in
+    let two : to_z w64 (of_z w64 (item vs x.to)) ≡ item vs x.to = to_z-of_z w64 _ second in
+    let moves = rw (one, two) at c.in-Ok.ensures in
+    let fits : FitsSigned w64 c.in-Ok.current = search rules in
+    let wide : to_z w64 (of_z w64 c.in-Ok.current) ≡ c.in-Ok.current = to_z-of_z w64 _ fits in
+    rw wide (lumped_moves case H vs c.args.at x c.args.self.now _ c.in-Ok.current c.args.case.now.fits.draft.network c.requires.same c.requires.there is refl refl moves before)
+
+pub returns-in-Err-clause-stopped : goal.returns-in-Err-clause-stopped
+returns-in-Err-clause-stopped c = λ H before.
+    let case = c.args.case.now.parts in
+    let vs = c.args.voltages.now in
+    let x = c.in-Lumped.b in
+    let is : slice_get case.branches c.args.at ≡ Some (OfLumped x) = branch_read case _ c.args.at _ (OfLumped x) c.as_slice.ensures c.requires.there c.in-Lumped.is in
+    let first : FitsSigned w64 (item vs x.from) = search rules in
+    let second : FitsSigned w64 (item vs x.to) = search rules in
+    let one : to_z w64 (of_z w64 (item vs x.from)) ≡ item vs x.from = to_z-of_z w64 _ first in
+    let two : to_z w64 (of_z w64 (item vs x.to)) ≡ item vs x.to = to_z-of_z w64 _ second in
+    let moves = rw (one, two) at c.in-Err.ensures in
+    lumped_stops case H vs c.args.at x c.args.self.now (record c.args.self.now { lumps = c.accept.new.self }) c.in-Err.field-0 c.requires.same c.requires.there is moves before
+
+pub returns-in-Ok-accept-clause-moved : goal.returns-in-Ok-accept-clause-moved
+returns-in-Ok-accept-clause-moved c = λ H before.
+    let case = c.args.case.now.parts in
+    let vs = c.args.voltages.now in
+    let x = c.in-Line.b in
+    let is : slice_get case.branches c.args.at ≡ Some (OfLine x) = branch_read case _ c.args.at _ (OfLine x) c.as_slice.ensures c.requires.there c.in-Line.is in
+    let first : FitsSigned w64 (item vs x.from) = search rules in
+    let second : FitsSigned w64 (item vs x.to) = search rules in
+    let one : to_z w64 (of_z w64 (item vs x.from)) ≡ item vs x.from = to_z-of_z w64 _ first in
+    let two : to_z w64 (of_z w64 (item vs x.to)) ≡ item vs x.to = to_z-of_z w64 _ second in
+    let moves = rw (one, two) at c.in-Ok-accept.ensures in
+    let fits : FitsSigned w64 c.in-Ok-accept.current = search rules in
+    let wide : to_z w64 (of_z w64 c.in-Ok-accept.current) ≡ c.in-Ok-accept.current = to_z-of_z w64 _ fits in
+    rw wide (line_moves case H vs c.args.at x c.args.self.now _ c.in-Ok-accept.current c.args.case.now.fits.draft.network c.requires.same c.requires.there is refl refl moves before)
+
+pub returns-in-Err-accept-clause-stopped : goal.returns-in-Err-accept-clause-stopped
+returns-in-Err-accept-clause-stopped c = λ H before.
+    let case = c.args.case.now.parts in
+    let vs = c.args.voltages.now in
+    let x = c.in-Line.b in
+    let is : slice_get case.branches c.args.at ≡ Some (OfLine x) = branch_read case _ c.args.at _ (OfLine x) c.as_slice.ensures c.requires.there c.in-Line.is in
+    let first : FitsSigned w64 (item vs x.from) = search rules in
+    let second : FitsSigned w64 (item vs x.to) = search rules in
+    let one : to_z w64 (of_z w64 (item vs x.from)) ≡ item vs x.from = to_z-of_z w64 _ first in
+    let two : to_z w64 (of_z w64 (item vs x.to)) ≡ item vs x.to = to_z-of_z w64 _ second in
+    let moves = rw (one, two) at c.in-Err-accept.ensures in
+    line_stops case H vs c.args.at x c.args.self.now (record c.args.self.now { lines = c.accept-in-Line.new.self }) c.in-Err-accept.field-0 c.requires.same c.requires.there is moves before
+
+pub returns-in-Ok-accept-2-clause-moved : goal.returns-in-Ok-accept-2-clause-moved
+returns-in-Ok-accept-2-clause-moved c = λ H before.
+    let case = c.args.case.now.parts in
+    let vs = c.args.voltages.now in
+    let x = c.in-Pseudo.b in
+    let is : slice_get case.branches c.args.at ≡ Some (OfPseudo x) = branch_read case _ c.args.at _ (OfPseudo x) c.as_slice.ensures c.requires.there c.in-Pseudo.is in
+    let first : FitsSigned w64 (item vs x.from) = search rules in
+    let second : FitsSigned w64 (item vs x.to) = search rules in
+    let one : to_z w64 (of_z w64 (item vs x.from)) ≡ item vs x.from = to_z-of_z w64 _ first in
+    let two : to_z w64 (of_z w64 (item vs x.to)) ≡ item vs x.to = to_z-of_z w64 _ second in
+    let moves = rw (one, two) at c.in-Ok-accept-2.ensures in
+    let fits : FitsSigned w64 c.in-Ok-accept-2.current = search rules in
+    let wide : to_z w64 (of_z w64 c.in-Ok-accept-2.current) ≡ c.in-Ok-accept-2.current = to_z-of_z w64 _ fits in
+    rw wide (pseudo_moves case H vs c.args.at x c.args.self.now _ c.in-Ok-accept-2.current c.args.case.now.fits.draft.network c.requires.same c.requires.there is refl refl moves before)
+
+pub returns-in-Err-accept-2-clause-stopped : goal.returns-in-Err-accept-2-clause-stopped
+returns-in-Err-accept-2-clause-stopped c = λ H before.
+    let case = c.args.case.now.parts in
+    let vs = c.args.voltages.now in
+    let x = c.in-Pseudo.b in
+    let is : slice_get case.branches c.args.at ≡ Some (OfPseudo x) = branch_read case _ c.args.at _ (OfPseudo x) c.as_slice.ensures c.requires.there c.in-Pseudo.is in
+    let first : FitsSigned w64 (item vs x.from) = search rules in
+    let second : FitsSigned w64 (item vs x.to) = search rules in
+    let one : to_z w64 (of_z w64 (item vs x.from)) ≡ item vs x.from = to_z-of_z w64 _ first in
+    let two : to_z w64 (of_z w64 (item vs x.to)) ≡ item vs x.to = to_z-of_z w64 _ second in
+    let moves = rw (one, two) at c.in-Err-accept-2.ensures in
+    pseudo_stops case H vs c.args.at x c.args.self.now (record c.args.self.now { pseudos = c.accept-in-Pseudo.new.self }) c.in-Err-accept-2.field-0 c.requires.same c.requires.there is moves before
+
+pub returns-then-b-ne0-clause-moved : goal.returns-then-b-ne0-clause-moved
+returns-then-b-ne0-clause-moved c = λ H before.
+    let case = c.args.case.now.parts in
+    let x = c.in-Phase.b in
+    let is : slice_get case.branches c.args.at ≡ Some (OfPhase x) = branch_read case _ c.args.at _ (OfPhase x) c.as_slice.ensures c.requires.there c.in-Phase.is in
+    phase_waits case H c.args.voltages.now c.args.at x c.args.self.now _ c.args.case.now.fits.draft.network c.requires.there is c.if-b-ne0.true before
+
+pub overflow_add-result : goal.overflow_add-result
+overflow_add-result c = omega (arith, c.requires.there, c.args.case.now.fits.draft.counts.branches, c.min.ensures, min-le_right c.in-Err-accept_three.fault.phase 2)
+
+pub returns-in-Ok-accept_three-clause-moved : goal.returns-in-Ok-accept_three-clause-moved
+returns-in-Ok-accept_three-clause-moved c = λ H before.
+    let case = c.args.case.now.parts in
+    let x = c.in-Phase.b in
+    let is : slice_get case.branches c.args.at ≡ Some (OfPhase x) = branch_read case _ c.args.at _ (OfPhase x) c.as_slice.ensures c.requires.there c.in-Phase.is in
+    let moves = rw (c.phase_voltages-v.ensures, c.phase_voltages-w.ensures) at c.in-Ok-accept_three.ensures in
+    trio_moves case H c.args.voltages.now c.args.at x c.args.self.now _ c.in-Ok-accept_three.field-0 _ c.args.case.now.fits.draft.network c.requires.same c.requires.there is c.if-b-ne0.false refl refl moves before
+
+pub returns-in-Err-accept_three-clause-stopped : goal.returns-in-Err-accept_three-clause-stopped
+returns-in-Err-accept_three-clause-stopped c = λ H before.
+    let case = c.args.case.now.parts in
+    let x = c.in-Phase.b in
+    let is : slice_get case.branches c.args.at ≡ Some (OfPhase x) = branch_read case _ c.args.at _ (OfPhase x) c.as_slice.ensures c.requires.there c.in-Phase.is in
+    let moves = rw (c.phase_voltages-v.ensures, c.phase_voltages-w.ensures) at c.in-Err-accept_three.ensures in
+    let stops = trio_stops case H c.args.voltages.now c.args.at x c.args.self.now (record c.args.self.now { lines = c.accept_three.new.self }) c.in-Err-accept_three.fault c.args.case.now.fits.draft.network c.requires.same c.requires.there is c.if-b-ne0.false moves before in
+    let least : c.min.result ≡ c.in-Err-accept_three.fault.phase = c.min.ensures ∙ min-eq_left (omega (arith, stops.0)) in
+    rw least stops.1
+
+pub returns-in-Err-accept_three-clause-there : goal.returns-in-Err-accept_three-clause-there
+returns-in-Err-accept_three-clause-there c =
+    let case = c.args.case.now.parts in
+    let x = c.in-Phase.b in
+    let network = c.args.case.now.fits.draft.network in
+    let is : slice_get case.branches c.args.at ≡ Some (OfPhase x) = branch_read case _ c.args.at _ (OfPhase x) c.as_slice.ensures c.requires.there c.in-Phase.is in
+    let fits = branch_fits case c.args.at (OfPhase x) network.branches c.requires.there is in
+    let place = network.in_threes.places c.args.at x.trio x.phase (phase_read case c.args.at (OfPhase x) c.requires.there is) in
+    let first : x.phase ≡ 0 = c.if-b-ne0.false in
+    let few = min-le_right c.in-Err-accept_three.fault.phase 2 in
+    let inside = phase_there case.branches case.trios x.trio c.min.result network.in_threes fits.trio (omega (arith, c.min.ensures, few)) in
+    omega (arith, place, first, inside)

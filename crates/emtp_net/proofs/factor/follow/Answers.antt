@@ -1,0 +1,45 @@
+use Rattle.std.proofs.Common.{◌≡◌, ◌∙◌, ◌≤◌, sym, ap, length, min, take, arith}
+use Rattle.std.proofs.Math.Nat.{min-le_left, min-le_right}
+use Rattle.emtp_rows.specs.Nodal.{Nodal, nodal_matrix}
+use Rattle.emtp_rows.specs.Touched.{NodalRows}
+use Rattle.emtp_tail.specs.Good.{Good, first_change}
+use Rattle.emtp_tail.proofs.Redoing.{first_change_law}
+use Rattle.emtp_rows.proofs.NodalRows.{length-nodal_matrix}
+use Rattle.emtp_net.proofs.factor.follow.Goals as goal
+
+pub changed_from-first-requires-clause-size : goal.changed_from-first-requires-clause-size
+changed_from-first-requires-clause-size g c =
+    let new = c.take_touched.new.self.nodal in
+    let stays = ap (λ (s : NodalRows). length s.nodal.case.nodes) c.take_touched.ensures.rest in
+    c.requires.size ∙ sym (length-nodal_matrix new ∙ stays)
+
+pub changed_from-first-requires-clause-before : goal.changed_from-first-requires-clause-before
+changed_from-first-requires-clause-before g c =
+    let n = c.min-from.result in
+    let first : n ≤ c.args.rows.now.touched = omega (arith, c.min-from.ensures, min-le_left c.take_touched.result c.good.result, c.take_touched.ensures.first) in
+    let there : n ≤ length c.args.kept.now.rows = omega (arith, c.min-from.ensures, min-le_right c.take_touched.result c.good.result, c.good.ensures.count) in
+    ap (λ (s : NodalRows). take n (nodal_matrix s.nodal)) c.take_touched.ensures.rest ∙ c.requires.stands n first there
+
+pub overflow_sub-size : goal.overflow_sub-size
+overflow_sub-size g c =
+    let new = c.take_touched.new.self.nodal in
+    let stays = ap (λ (s : NodalRows). length s.nodal.case.nodes) c.take_touched.ensures.rest in
+    let fits : length c.args.kept.now.rows ≤ length (nodal_matrix new) = omega (arith, c.good.ensures.count, c.good.ensures.within, c.requires.size, length-nodal_matrix new, stays) in
+    let law = first_change_law c.args.kept.now.rows (nodal_matrix new) fits in
+    let same = ap (λ (k : Good). k.size) c.changed_from-first.ensures.same in
+    omega (arith, c.changed_from-first.ensures.first, law.within, c.good.ensures.count, c.good.ensures.within, c.size.ensures, same)
+
+pub update_from-requires-clause-size : goal.update_from-requires-clause-size
+update_from-requires-clause-size g c =
+    let new = c.take_touched.new.self.nodal in
+    let stays = ap (λ (s : NodalRows). length s.nodal.case.nodes) c.take_touched.ensures.rest in
+    rw c.changed_from-first.ensures.same (c.requires.size ∙ sym (length-nodal_matrix new ∙ stays))
+
+pub returns-in-Err-clause-fault_ticks : goal.returns-in-Err-clause-fault_ticks
+returns-in-Err-clause-fault_ticks g c =
+    let new = c.take_touched.new.self.nodal in
+    let nodal = ap (λ (s : NodalRows). s.nodal) c.take_touched.ensures.rest in
+    let within = c.in-Err.ensures.fault.within in
+    let size = ap (λ (s : NodalRows). length s.nodal.case.nodes) c.take_touched.ensures.rest in
+    let first : c.changed_from-first.result ≡ first_change c.args.kept.now.rows (nodal_matrix c.args.rows.now.nodal) = c.changed_from-first.ensures.first ∙ ap (λ n. first_change c.args.kept.now.rows (nodal_matrix n)) nodal in
+    omega (arith, c.in-Err.ensures.fault_ticks, first, within, length-nodal_matrix new, size, c.requires.size)

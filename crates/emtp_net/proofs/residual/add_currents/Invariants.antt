@@ -1,0 +1,15 @@
+use Rattle.std.proofs.Common.{◌≡◌, ◌<◌, ◌≤◌, ◌*◌, ◌^◌, ℕ, ℤ, List, length, slice_get, unsigned_abs}
+use Rattle.emtp_elim.specs.Matrix.{item}
+use Rattle.emtp_case.specs.StepRecord.{StepRecord}
+use Rattle.emtp_net.specs.Moving.{HaveMoved, IsNext}
+use Rattle.emtp_net.specs.Part.{brought_by}
+use Rattle.emtp_rows.specs.Sums.{sum_below}
+use Rattle.emtp_rows.specs.Nodal.{node_at}
+use Rattle.emtp_net.specs.System.{at_node}
+use Rattle.emtp_net.proofs.residual.add_currents.Given as goal
+
+abbrev pub invariant-loop-at : goal.invariant-loop-at
+invariant-loop-at l = record {
+  value : (H : List StepRecord) (vs : List ℤ) (r : StepRecord) → IsNext l.case.parts H vs r → HaveMoved l.branches l.currents l.case.parts H vs → (j : ℕ) → j < length l.out → item l.out j ≡ sum_below l.at (λ b. at_node (node_at l.case.parts j) (slice_get l.case.parts.branches b) (brought_by (slice_get r.branches b)));
+  bound : (j : ℕ) → j < length l.out → unsigned_abs (item l.out j) ≤ l.at * (2 * 10 ^ 19);
+}

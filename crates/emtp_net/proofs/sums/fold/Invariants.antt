@@ -1,0 +1,5 @@
+use Rattle.emtp_net.specs.Sums.{IsFolded}
+use Rattle.emtp_net.proofs.sums.fold.Given as goal
+
+abbrev pub invariant-loop-k : goal.invariant-loop-k
+invariant-loop-k l = IsFolded l.kinds l.k l.fn.sums l.sums

@@ -1,0 +1,14 @@
+pub mod Sums
+pub mod Rights
+pub mod System
+pub mod Part
+pub mod Residual
+pub mod Redone
+pub mod Step
+pub mod Judging
+pub mod Branches
+pub mod Moving
+pub mod Fault
+pub mod Stages
+pub mod Holding
+pub mod Network

@@ -1,0 +1,214 @@
+//! The network of a case.
+
+ghost use Rattle.std.specs.Prelude.{◌≡◌, ◌+◌, ◌*◌, ◌<◌, ◌≤◌, ◌∷◌, [], List, length, map, IfErr, IfOk, OnOk};
+ghost use Rattle.emtp_case.specs.StepRecord.{StepRecord, branch_current_at, is_closed, latest, rest_of};
+ghost use Rattle.emtp_net.specs.Fault.{NamesNode};
+ghost use Rattle.emtp_net.specs.Network.{StandsFor, StepsTo};
+ghost use Rattle.emtp_net.specs.Redone.{step_ticks};
+ghost use Rattle.emtp_net.specs.Step.{network_part};
+
+use crate::branches::Branches;
+use crate::factor::{factor, set_couplings};
+use crate::fault::NetFault;
+use crate::nodal_system::{NodalSystem, zeros};
+use emtp_case::{Case, RowOrder, order};
+use emtp_fix::Steps;
+use emtp_rows::NetRows;
+use emtp_switch::Switches;
+use emtp_tail::Kept;
+use emtp_wave::CosTable;
+use std::alloc::{AllocError, Global};
+use std::marker::Model;
+use std::sync::ledger::Ledger;
+
+/// The network of a case, at its last step (Dommel 1969).
+///
+/// `currents` has the currents of series branches and pseudo-nonlinear ones; those of lines are kept by their laws.
+#[derive(Drop)]
+pub struct Network<'a> {
+    case: &'a Case,
+    order: RowOrder,
+    table: CosTable,
+    branches: Branches<'a>,
+    switches: Switches<'a>,
+    system: NodalSystem,
+    rows: NetRows<'a>,
+    kept: Kept,
+    voltages: Vec<i64>,
+    currents: Vec<i64>,
+    switch_currents: Vec<i64>,
+    closed: Vec<bool>,
+    made: u32,
+    redone: u64,
+}
+
+impl<'a> Model for Network<'a> {
+    ghost use Rattle.emtp_net.specs.Holding.{HoldsTogether};
+    ghost use Rattle.emtp_net.specs.Network.{Net};
+
+    ghost Value = { Net };
+
+    ghost use Rattle.std.specs.Coded.{codes};
+
+    ghost coded = { Prim.hlevel codes };
+
+    ghost view = { λ s. record { case = s.case.now.parts; branches = s.branches; switches = s.switches; rows = s.rows; kept = s.kept; voltages = s.voltages.items; currents = s.currents.items; switch_currents = s.switch_currents.items; closed = s.closed.items; made = s.made; redone = s.redone } };
+
+    ghost invariant = { λ s. HoldsTogether s.case.now.parts s.order s.branches s.switches s.system s.rows s.kept s.voltages.items s.currents.items s.switch_currents.items s.closed.items s.made s.redone };
+}
+
+impl<'a> Network<'a> {
+    /// The network of record 0, in which all is at rest. No later call takes memory.
+    pub fn open(alloc: Global, case: &'a Case) -> Result<Network<'a>, AllocError>
+        ensures case { IfOk result (λ network. network.case ≡ case.now.parts) }
+        ensures rest { IfOk result (λ network. StandsFor network (rest_of case.now.parts ∷ [])) }
+    {
+        let order = order(alloc, case)?;
+        let branches = Branches::open(alloc, case)?;
+        let switches = Switches::open(alloc, case, &order)?;
+        let mut rows = NetRows::open(alloc, case, &order)?;
+        set_couplings(case, &branches, &mut rows);
+        let kept = Kept::open(alloc, &rows)?;
+        let system = NodalSystem::open(alloc, case, &order)?;
+        let closed = closed_at_rest(alloc, case, &switches)?;
+        Ok(Network {
+            case,
+            order,
+            table: CosTable::open(alloc)?,
+            branches,
+            switches,
+            system,
+            rows,
+            kept,
+            voltages: zeros(alloc, case.parts.nodes.len() + 1)?,
+            currents: zeros(alloc, case.parts.branches.len())?,
+            switch_currents: zeros(alloc, case.parts.switches.len())?,
+            closed,
+            made: 0,
+            redone: 0,
+        })
+    }
+
+    /// Makes the next step, with the values of the control of the record before. It answers the first fault, with the
+    /// node that it is named by; after a fault only `redone` is stated.
+    ///
+    /// Where no conductance and no kind of a row changed since the step before, no row is filled, compared or redone.
+    pub fn step<L: Ledger>(&mut self, tacs: &[i64], steps: &mut Steps<L>) -> Result<(), NetFault>
+        requires made { self.old.made < self.old.case.run.steps }
+        requires tacs { length tacs.now ≡ length self.old.case.vars }
+        ensures case { self.new.case ≡ self.old.case }
+        ensures made { self.new.made ≡ self.old.made + 1 }
+        ensures step { (H : List StepRecord) → StandsFor self.old H → tacs.now ≡ (latest H).values → StepsTo result self.new H (network_part self.old.case H) }
+        ensures ticks { (H : List StepRecord) → StandsFor self.old H → tacs.now ≡ (latest H).values → OnOk result (steps.new ≡ steps.old + step_ticks self.old.case H) }
+        ensures most { (H : List StepRecord) → StandsFor self.old H → tacs.now ≡ (latest H).values → steps.new ≤ steps.old + step_ticks self.old.case H }
+        ensures few { self.new.redone ≤ self.old.redone + 1000 }
+        ensures few_ticks { steps.new ≤ steps.old + 1000 }
+        ensures node { IfErr result (NamesNode self.old.case) }
+    {
+        let made = self.made;
+        self.made += 1;
+        self.system.decide(
+            self.case,
+            &mut self.switches,
+            &mut self.rows,
+            self.made,
+            &self.voltages,
+            &self.switch_currents,
+            tacs,
+        )?;
+        factor(
+            self.case,
+            &self.order,
+            &self.branches,
+            &mut self.rows,
+            &mut self.kept,
+            made,
+            &mut self.redone,
+            steps,
+        )?;
+        self.system
+            .set_sources(self.case, &self.table, self.made, tacs);
+        self.system.solve(
+            self.case,
+            &self.order,
+            &self.branches,
+            &self.kept,
+            &mut self.voltages,
+        )?;
+        self.branches
+            .accept(self.case, &self.voltages, &mut self.currents)?;
+        self.system.find_currents(
+            self.case,
+            &self.order,
+            &self.branches,
+            &self.currents,
+            &mut self.switches,
+            &mut self.switch_currents,
+        )?;
+        self.switches.write_closed(&mut self.closed);
+        self.system.judge(self.case, &self.order)
+    }
+
+    /// The node voltages of the last record by node number, ground first, in nV: to 10^18 in magnitude.
+    pub fn voltages(&self) -> &[i64]
+        ensures value { result.now ≡ self.now.voltages }
+        ensures each { length result.now ≡ length self.now.case.nodes + 1 }
+    {
+        self.voltages.as_slice()
+    }
+
+    /// The switch currents of the last record by switch, in nA: they flow from `from` to `to`.
+    pub fn currents(&self) -> &[i64]
+        ensures value { result.now ≡ self.now.switch_currents }
+        ensures each { length result.now ≡ length self.now.case.switches }
+    {
+        self.switch_currents.as_slice()
+    }
+
+    /// Whether each switch is closed in the last record.
+    pub fn closed(&self) -> &[bool]
+        ensures value { result.now ≡ self.now.closed }
+        ensures each { length result.now ≡ length self.now.case.switches }
+    {
+        self.closed.as_slice()
+    }
+
+    /// The current of a branch in the last record, in nA: it flows from `from` to `to`, into a line at `from`.
+    pub fn branch_current(&self, branch: usize) -> i64
+        requires { branch < length self.now.case.branches }
+        ensures { (H : List StepRecord) → StandsFor self.now H → result ≡ branch_current_at branch (latest H) }
+    {
+        self.branches.current(self.case, &self.currents, branch)
+    }
+
+    /// How many rows of the nodal matrix the steps redid, but for the first step.
+    pub fn redone(&self) -> u64
+        ensures value { result ≡ self.now.redone }
+        ensures few { result ≤ 1000 * self.now.made }
+        ensures made { self.now.made ≤ self.now.case.run.steps }
+    {
+        self.redone
+    }
+
+    /// The factor that the steps use. After the opening no row is good; after a step without a fault all are, and they
+    /// are those of its nodal matrix.
+    pub fn kept(&self) -> &Kept
+        ensures { result.now ≡ self.now.kept }
+    {
+        &self.kept
+    }
+}
+
+/// Whether each switch is closed in record 0.
+fn closed_at_rest(
+    alloc: Global,
+    case: &Case,
+    switches: &Switches<'_>,
+) -> Result<Vec<bool>, AllocError>
+    requires { switches.now.case ≡ case.now.parts }
+    ensures { IfOk result (λ closed. closed.items ≡ map is_closed switches.now.states) }
+{
+    let mut closed = vec![in alloc; false; case.parts.switches.len()]?;
+    switches.write_closed(&mut closed);
+    Ok(closed)
+}

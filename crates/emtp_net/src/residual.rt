@@ -1,0 +1,120 @@
+//! The residuals of a step.
+
+ghost use Rattle.std.specs.Prelude.{◌≡◌, ◌^◌, ◌<◌, ◌≤◌, ◌+◌, ◌≤ℤ◌, ℕ, ℤ, List, pos, neg_ℤ, length, slice_get, unsigned_abs, IfSome};
+ghost use Rattle.emtp_elim.specs.Matrix.{item};
+ghost use Rattle.emtp_case.specs.RowOrder.{order_of};
+ghost use Rattle.emtp_case.specs.StepRecord.{BranchState, StepRecord};
+ghost use Rattle.emtp_net.specs.Branches.{HasCase};
+ghost use Rattle.emtp_net.specs.Judging.{IsUnbalanced, Judges, magnitude_in};
+ghost use Rattle.emtp_net.specs.Moving.{HaveMoved, IsNext};
+ghost use Rattle.emtp_net.specs.Part.{brought_by, leaving_rows};
+ghost use Rattle.emtp_net.specs.System.{branch_sum, kinds_of, source_values};
+ghost use Rattle.emtp_rows.specs.Nodal.{kind_at, node_at};
+
+use crate::branches::Branches;
+use crate::right::add_sources;
+use crate::sums::{add_ends, fold};
+use emtp_case::{Case, RowKind, RowOrder};
+
+/// Turns the sign of each number.
+pub(crate) fn turn(sums: &mut [i128])
+    requires { (j : ℕ) → j < length sums.old → unsigned_abs (item sums.old j) ≤ 10 ^ 34 }
+    ensures { (j : ℕ) → j < length sums.old → item sums.new j ≡ neg_ℤ (item sums.old j) }
+{
+    for at in 0..sums.len() {
+        sums[at] = turned(sums[at]);
+    }
+}
+
+fn turned(x: i128) -> i128
+    requires { unsigned_abs x ≤ 10 ^ 38 }
+    ensures value { result ≡ neg_ℤ x }
+    ensures bound { unsigned_abs result ≤ 10 ^ 38 }
+{
+    -x
+}
+
+/// The residual of a row that says a sum of currents, in nA; 0 of another row.
+fn residual(kind: RowKind, sum: i128) -> i128
+    requires { unsigned_abs sum ≤ 10 ^ 38 }
+    ensures value { result ≡ pos (magnitude_in sum kind) }
+    ensures bound { unsigned_abs result ≤ 10 ^ 38 }
+{
+    match kind {
+        RowKind::Kcl | RowKind::Sum => { if sum < 0 { turned(sum) } else { sum } }
+        RowKind::Tie(_) | RowKind::Ground | RowKind::Source => 0,
+    }
+}
+
+/// The first row whose residual exceeds the tolerance, with the residual, where the sums of currents go by row.
+pub(crate) fn first_above(kinds: &[RowKind], sums: &[i128], tolerance: i64) -> Option<(usize, i128)>
+    requires each { length kinds.now ≡ length sums.now }
+    requires bound { (j : ℕ) → j < length sums.now → unsigned_abs (item sums.now j) ≤ 10 ^ 38 }
+    requires tolerance { pos 0 ≤ℤ tolerance }
+    ensures { IsUnbalanced kinds.now sums.now (unsigned_abs tolerance) result }
+{
+    for row in 0..sums.len() {
+        let residual = residual(kinds[row], sums[row]);
+        if residual > tolerance as i128 {
+            return Some((row, residual));
+        }
+    }
+    None
+}
+
+/// Adds what all branches bring by their currents of the last record.
+fn add_currents(
+    case: &Case,
+    order: &RowOrder,
+    branches: &Branches<'_>,
+    currents: &[i64],
+    out: &mut [i128],
+)
+    requires order { order.now ≡ order_of case.now.parts }
+    requires same { HasCase branches.now case.now.parts }
+    requires currents { length currents.now ≡ length case.now.parts.branches }
+    requires out { length out.old ≡ length case.now.parts.nodes }
+    requires zeros { (j : ℕ) → j < length out.old → item out.old j ≡ pos 0 }
+    ensures value { (H : List StepRecord) (vs : List ℤ) (r : StepRecord) → IsNext case.now.parts H vs r → HaveMoved branches.now currents.now case.now.parts H vs → (j : ℕ) → j < length out.old → item out.new j ≡ branch_sum case.now.parts (λ b. brought_by (slice_get r.branches b)) (node_at case.now.parts j) }
+    ensures bound { (j : ℕ) → j < length out.old → unsigned_abs (item out.new j) ≤ 10 ^ 23 }
+{
+    for at in 0..case.parts.branches.len() {
+        add_ends(case, order, at, branches.brought(case, currents, at), out);
+    }
+}
+
+/// What leaves the node of each row through branches in the last record, less what its current sources bring, in nA.
+pub(crate) fn fill_leaving(
+    case: &Case,
+    order: &RowOrder,
+    branches: &Branches<'_>,
+    currents: &[i64],
+    values: &[i64],
+    out: &mut [i128],
+)
+    requires order { order.now ≡ order_of case.now.parts }
+    requires same { HasCase branches.now case.now.parts }
+    requires currents { length currents.now ≡ length case.now.parts.branches }
+    requires values { length values.now ≡ length case.now.parts.sources }
+    requires out { length out.old ≡ length case.now.parts.nodes }
+    ensures value { (H : List StepRecord) (vs : List ℤ) (r : StepRecord) → IsNext case.now.parts H vs r → HaveMoved branches.now currents.now case.now.parts H vs → values.now ≡ source_values case.now.parts H → out.new ≡ leaving_rows case.now.parts H r.branches }
+    ensures small { (j : ℕ) → j < length out.old → unsigned_abs (item out.new j) ≤ 10 ^ 24 }
+{
+    out.fill(0);
+    add_currents(case, order, branches, currents, out);
+    add_sources(case, order, values, out);
+    turn(out);
+}
+
+/// The first row whose residual exceeds the tolerance, with the residual in nA, by what leaves the node of each row.
+pub(crate) fn judge(case: &Case, kinds: &[RowKind], leaving: &mut [i128]) -> Option<(usize, i128)>
+    requires kinds { length kinds.now ≡ length case.now.parts.nodes }
+    requires leaving { length leaving.old ≡ length case.now.parts.nodes }
+    requires small { (j : ℕ) → j < length leaving.old → unsigned_abs (item leaving.old j) ≤ 10 ^ 24 }
+    ensures judges { (H : List StepRecord) (branches : List BranchState) → kinds.now ≡ kinds_of case.now.parts H → leaving.old ≡ leaving_rows case.now.parts H branches → Judges result case.now.parts H branches }
+    ensures there { IfSome result (λ p. p.0 < length case.now.parts.nodes) }
+    ensures magnitude { IfSome result (λ p. pos 0 ≤ℤ p.1) }
+{
+    fold(kinds, leaving);
+    first_above(kinds, leaving, case.parts.run.tolerance)
+}

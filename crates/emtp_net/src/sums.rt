@@ -1,0 +1,103 @@
+//! Sums of currents, by row.
+
+ghost use Rattle.std.specs.Prelude.{◌≡◌, ◌+◌, ◌*◌, ◌^◌, ◌<◌, ◌≤◌, ◌==◌, ◌+ℤ◌, if◌then◌else◌, false, ℕ, ℤ, pos, length, slice_get, slice_set, unsigned_abs};
+ghost use Rattle.emtp_case.specs.RowOrder.{order_of};
+ghost use Rattle.emtp_case.specs.declared.row_kind.RowKind.TheVariants.{Kcl, Sum};
+ghost use Rattle.emtp_elim.specs.Matrix.{item};
+ghost use Rattle.emtp_net.specs.Sums.{group_total, tied_to, IsFolded};
+ghost use Rattle.emtp_net.specs.System.{at_node};
+ghost use Rattle.emtp_rows.specs.Nodal.{kind_at, node_at};
+ghost use Rattle.emtp_rows.specs.Touched.{is_sum, tied_row};
+
+use emtp_case::{Case, RowKind, RowOrder};
+
+/// Adds an amount to the row of a node; ground has none.
+pub(crate) fn add_at(case: &Case, order: &RowOrder, node: u32, amount: i128, out: &mut [i128])
+    requires order { order.now ≡ order_of case.now.parts }
+    requires node { node ≤ length case.now.parts.nodes }
+    requires out { length out.old ≡ length case.now.parts.nodes }
+    requires small { unsigned_abs amount ≤ 10 ^ 30 }
+    requires bound { (j : ℕ) → j < length out.old → unsigned_abs (item out.old j) ≤ 10 ^ 36 }
+    ensures { (j : ℕ) → j < length out.old → item out.new j ≡ item out.old j +ℤ (if node == node_at case.now.parts j then amount else pos 0) }
+{
+    if node != 0 {
+        let row = order.row_of(node);
+        add_to(out, row, amount);
+    }
+}
+
+fn add_to(out: &mut [i128], at: usize, amount: i128)
+    requires place { at < length out.old }
+    requires entry { unsigned_abs (item out.old at) ≤ 10 ^ 38 }
+    requires amount { unsigned_abs amount ≤ 10 ^ 35 }
+    ensures { out.new ≡ slice_set out.old at (item out.old at +ℤ amount) }
+{
+    out[at] += amount;
+}
+
+/// Adds what a branch brings to its two nodes to their rows.
+pub(crate) fn add_ends(
+    case: &Case,
+    order: &RowOrder,
+    at: usize,
+    ends: (i128, i128),
+    out: &mut [i128],
+)
+    requires order { order.now ≡ order_of case.now.parts }
+    requires there { at < length case.now.parts.branches }
+    requires out { length out.old ≡ length case.now.parts.nodes }
+    requires first { unsigned_abs ends.0 ≤ 10 ^ 30 }
+    requires second { unsigned_abs ends.1 ≤ 10 ^ 30 }
+    requires bound { (j : ℕ) → j < length out.old → unsigned_abs (item out.old j) ≤ 10 ^ 35 }
+    ensures { (j : ℕ) → j < length out.old → item out.new j ≡ item out.old j +ℤ at_node (node_at case.now.parts j) (slice_get case.now.parts.branches at) ends }
+{
+    let (from, to) = case.parts.branches.as_slice()[at].ends();
+    add_at(case, order, from, ends.0, out);
+    add_at(case, order, to, ends.1, out);
+}
+
+/// Adds what stands in the rows that are tied to the sum of a group to the row of that sum. The other rows stay.
+pub(crate) fn fold(kinds: &[RowKind], sums: &mut [i128])
+    requires each { length kinds.now ≡ length sums.old }
+    requires few { length sums.old ≤ 1000 }
+    requires small { (j : ℕ) → j < length sums.old → unsigned_abs (item sums.old j) ≤ 2 * 10 ^ 34 }
+    ensures sum { (j : ℕ) → j < length sums.old → kind_at kinds.now j ≡ Sum → item sums.new j ≡ group_total kinds.now (item sums.old) j }
+    ensures node { (j : ℕ) → j < length sums.old → kind_at kinds.now j ≡ Kcl → item sums.new j ≡ item sums.old j }
+    ensures bound { (j : ℕ) → j < length sums.old → unsigned_abs (item sums.new j) ≤ 10 ^ 38 }
+{
+    for k in 0..kinds.len() {
+        fold_row(kinds, k, sums);
+    }
+}
+
+/// Adds what stands in a row to the row of the sum that it is tied to, if it is.
+fn fold_row(kinds: &[RowKind], k: usize, sums: &mut [i128])
+    requires each { length kinds.now ≡ length sums.old }
+    requires there { k < length kinds.now }
+    requires amount { is_sum (kind_at kinds.now k) ≡ false → unsigned_abs (item sums.old k) ≤ 2 * 10 ^ 34 }
+    requires bound { (j : ℕ) → j < length sums.old → unsigned_abs (item sums.old j) ≤ 4 * 10 ^ 37 }
+    ensures { (j : ℕ) → j < length sums.old → item sums.new j ≡ item sums.old j +ℤ (if tied_to kinds.now j k then item sums.old k else pos 0) }
+{
+    let to = tied_row(kinds, kinds[k]);
+    let amount = sums[k];
+    if to < kinds.len() {
+        add_to(sums, to, amount);
+    }
+}
+
+/// The sum that a row of this kind is tied to, or the number of rows, where it is tied to none.
+fn tied_row(kinds: &[RowKind], kind: RowKind) -> usize
+    ensures { result ≡ tied_row kinds.now kind }
+{
+    match kind {
+        RowKind::Tie(row) => {
+            let row = row as usize;
+            if row < kinds.len() && kinds[row] == RowKind::Sum {
+                row
+            } else {
+                kinds.len()
+            }
+        }
+        RowKind::Kcl | RowKind::Sum | RowKind::Ground | RowKind::Source => kinds.len(),
+    }
+}
