@@ -1,0 +1,5 @@
+pub mod Answer
+pub mod Unbuilt
+pub mod Walk
+pub mod WalkPlaces
+pub mod Sound
