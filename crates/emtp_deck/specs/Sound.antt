@@ -64,7 +64,7 @@ pub record IsTrioEntry (run : RunData) (zero' positive : BranchCard) : Type 0 wh
 
 abbrev pub IsEntry : RunData → List Point → BranchEntry → Type 0
 IsEntry run points (Single card first count) = IsSingleEntry run points card first count
-IsEntry run points (Trio zero' positive third) = IsTrioEntry run zero' positive × (third.asked ≤ 3)
+IsEntry run points (Trio zero' positive third) = IsTrioEntry run zero' positive × HasNumbers run.dt third
 
 -- what all cards keep
 pub record IsWhole (deck : Deck) : Type 0 where

@@ -1,9 +1,10 @@
 //! The cards of a case, section by section, and the place of the next line.
 
-ghost use Rattle.std.specs.Prelude.{◌≡◌, ◌≤◌, IfOk, IfErr};
+ghost use Rattle.std.specs.Prelude.{◌≡◌, IfOk, IfErr};
 ghost use Rattle.emtp_deck.specs.Answer.{IsWant};
 ghost use Rattle.emtp_deck.specs.Sound.{IsTrioEntry, IsWhole};
 ghost use Rattle.emtp_deck.specs.Walk.{empty_deck, with_trio};
+ghost use Rattle.emtp_netcards.specs.BranchCard.{HasNumbers};
 
 use emtp_card::Refused;
 use emtp_case::{Items, Point, RunData};
@@ -91,7 +92,7 @@ impl Deck {
     ) -> Result<(), Refused>
         requires whole { IsWhole self.old }
         requires trio { IsTrioEntry self.old.run zero positive }
-        requires third { third.asked ≤ 3 }
+        requires third { HasNumbers self.old.run.dt third }
         ensures ok { IfOk result (λ done. self.new ≡ with_trio self.old zero positive third) }
         ensures bad { IfErr result IsWant }
         ensures whole { IfOk result (λ done. IsWhole self.new) }
