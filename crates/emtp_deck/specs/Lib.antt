@@ -3,3 +3,7 @@ pub mod Unbuilt
 pub mod Walk
 pub mod WalkPlaces
 pub mod Sound
+pub mod Names
+pub mod Naming
+pub mod Made
+pub mod Filling

@@ -1,14 +1,13 @@
 -- What is made of the cards so far: the records of the case, and the channels that were asked for.
-use Rattle.std.specs.Prelude.{◌≡◌, ℕ, ◌+◌, ◌<◌, ◌≤◌, ◌++◌, [], ◌∷◌, All, List, length, nat_lt, Option, Some, None, Result, Ok, Err, Bool, if◌then◌else◌}
+use Rattle.std.specs.Prelude.{ℕ, ◌+◌, ◌++◌, [], List, length, nat_lt, Option, Some, None, Result, Ok, Err, Bool, if◌then◌else◌}
 use Rattle.emtp_card.specs.Fault.{bad_at}
 use Rattle.emtp_card.specs.declared.fault.Fault.{Fault}
 use Rattle.emtp_card.specs.declared.reason.Bad.{Bad}
 use Rattle.emtp_card.specs.declared.reason.Why.TheVariants.{TooMany}
-use Rattle.emtp_case.specs.Case.{HasNoControl}
-use Rattle.emtp_case.specs.Channel.{IsChannel}
-use Rattle.emtp_case.specs.Sizes.{sizes_of}
+use Rattle.emtp_case.specs.Case.{empty_parts}
 use Rattle.emtp_case.specs.declared.case.Parts.{Parts}
 use Rattle.emtp_case.specs.declared.channel.Channel.{Channel}
+use Rattle.emtp_case.specs.declared.run_data.RunData.{RunData}
 use Rattle.emtp_deck.specs.declared.asked.Asked.{Asked}
 
 pub record Made : Type 0 where
@@ -24,6 +23,10 @@ count_asked a = length a.outputs + length a.branches + length a.switches + lengt
 
 abbrev pub none_asked : Asked
 none_asked = record { outputs = []; branches = []; switches = []; statuses = [] }
+
+-- what is made of the miscellaneous cards alone
+abbrev pub empty_made : RunData → Made
+empty_made run = record { parts = empty_parts run; asked = none_asked }
 
 -- a limit by count is exceeded, at this column
 abbrev pub too_many : Bool → ℕ → Option Fault

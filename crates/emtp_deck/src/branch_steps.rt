@@ -36,11 +36,7 @@ pub(crate) fn start_step(deck: &mut Deck, line: &Line<'_>) -> Result<Place, Refu
 
 /// Takes a line of the branch section.
 #[tactic(auto, unfolding(crate::specs::Walk::branch_step))]
-pub(crate) fn branch_step(
-    deck: &mut Deck,
-    line: &Line<'_>,
-    wide: bool,
-) -> Result<Place, Refused>
+pub(crate) fn branch_step(deck: &mut Deck, line: &Line<'_>, wide: bool) -> Result<Place, Refused>
     requires short { length line.now.bytes.now ≤ MAX_BYTES }
     requires whole { IsWhole deck.old }
     ensures value { Leaves result (branch_step deck.old line.now.number line.now.bytes.now wide) deck.new }
@@ -215,11 +211,7 @@ fn take_third(
 
 /// Takes a point of a branch, or its ending card.
 #[tactic(auto, unfolding(crate::specs::Walk::point_step))]
-pub(crate) fn point_step(
-    deck: &mut Deck,
-    line: &Line<'_>,
-    group: &Group,
-) -> Result<Place, Refused>
+pub(crate) fn point_step(deck: &mut Deck, line: &Line<'_>, group: &Group) -> Result<Place, Refused>
     requires short { length line.now.bytes.now ≤ MAX_BYTES }
     requires sound { IsWhole deck.old × IsGroupOf deck.old group.now }
     ensures value { Leaves result (point_step deck.old line.now.number line.now.bytes.now group.now) deck.new }

@@ -11,11 +11,15 @@
 //! ```
 #![tactic(auto)]
 
+mod asked;
 mod branch_steps;
 mod deck;
+mod filling;
+mod names;
 mod section_steps;
 mod unbuilt;
 mod walk;
 
+pub use asked::Asked;
 pub use deck::{BranchEntry, Deck, Group, OutputEntry, Place};
 pub use unbuilt::Section;
