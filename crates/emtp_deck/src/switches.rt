@@ -1,6 +1,6 @@
 //! Filling the switches.
 
-ghost use Rattle.std.specs.Prelude.{◌≡◌, ◌<◌, ◌≤◌, All, length, IfErr, OnOk};
+ghost use Rattle.std.specs.Prelude.{◌≡◌, ◌+◌, ◌<◌, ◌≤◌, All, length, IfErr, OnOk};
 ghost use Rattle.emtp_case.specs.Range.{AreEnds};
 ghost use Rattle.emtp_deck.specs.Answer.{IsWant};
 ghost use Rattle.emtp_deck.specs.Filling.{Fills, IsFilling, made_of};
@@ -70,9 +70,11 @@ fn add_switch(filling: &mut Filling, card: &SwitchCard) -> Result<(), Refused>
     requires filling { IsFilling filling.old }
     requires card { HasSwitchNumbers card.now }
     requires room { length filling.old.draft.parts.switches < 500 }
+    requires asked { count_asked filling.old.asked + switch_channel_count card.now.asked ≤ 64 }
     requires ends { AreEnds (length filling.old.draft.parts.nodes) (node_number filling.old.nodes.keys card.now.from) (node_number filling.old.nodes.keys card.now.to) }
     ensures ok { OnOk result (made_of filling.new ≡ with_switch (made_of filling.old) card.now) }
     ensures err { IfErr result IsWant }
+    ensures filling { OnOk result (IsFilling filling.new) }
 {
     let at = filling.draft.parts.switches.len() as u32;
     filling
