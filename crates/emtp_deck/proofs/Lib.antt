@@ -1,2 +1,4 @@
 pub mod Walking
 pub mod Sounding
+pub mod Naming
+pub mod Copying

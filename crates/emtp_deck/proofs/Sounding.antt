@@ -59,6 +59,7 @@ entry_stays : (run : RunData) (points : List Point) (p : Point) (e : BranchEntry
 entry_stays run points p (Single card first count) h = record {
   numbers = h.numbers;
   kind = h.kind;
+  there = omega (arith, h.there, length-append points (p ∷ []));
   group = λ has. let g = h.group has in record {
     some = g.some;
     few = g.few;

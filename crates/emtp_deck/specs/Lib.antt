@@ -7,3 +7,7 @@ pub mod Names
 pub mod Naming
 pub mod Made
 pub mod Filling
+pub mod Copies
+pub mod Channels
+pub mod Branches
+pub mod Sensible

@@ -54,6 +54,7 @@ pub record ArePoints (reactor : Bool) (dt : ℤ) (points : List Point) (first co
 pub record IsSingleEntry (run : RunData) (points : List Point) (card : BranchCard) (first count : ℕ) : Type 0 where
   pub numbers : HasNumbers run.dt card
   pub kind : is_phase (Ok (kind_of_values card.values)) ≡ false
+  pub there : first + count ≤ length points
   pub group : has_points card ≡ true → ArePoints (is_reactor card.values) run.dt points first count
 
 pub record IsTrioEntry (run : RunData) (zero' positive : BranchCard) : Type 0 where

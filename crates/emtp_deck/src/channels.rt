@@ -44,11 +44,7 @@ pub(crate) fn channel_count(asked: u8) -> usize
 }
 
 /// Adds the state of a switch of which anything is asked.
-pub(crate) fn ask_status(
-    channels: &mut Items<Channel>,
-    asked: u8,
-    at: u32,
-) -> Result<(), Refused>
+pub(crate) fn ask_status(channels: &mut Items<Channel>, asked: u8, at: u32) -> Result<(), Refused>
     ensures ok { OnOk result (channels.new ≡ channels.old ++ status_of asked at) }
     ensures err { IfErr result IsWant }
 {

@@ -13,6 +13,9 @@
 
 mod asked;
 mod branch_steps;
+mod branches;
+mod channels;
+mod copies;
 mod deck;
 mod filling;
 mod names;
@@ -21,5 +24,7 @@ mod unbuilt;
 mod walk;
 
 pub use asked::Asked;
+pub use branches::Counts;
+pub use copies::{LineNumbers, ValuesFrom};
 pub use deck::{BranchEntry, Deck, Group, OutputEntry, Place};
 pub use unbuilt::Section;
