@@ -12,21 +12,24 @@ use Rattle.emtp_case.specs.declared.branch.Branch.TheVariants.{Line as OfLine, L
 use Rattle.emtp_case.specs.declared.branch.Point.{Point}
 use Rattle.emtp_case.specs.declared.case.Parts.{Parts}
 use Rattle.emtp_case.specs.declared.channel.Channel.{Channel}
-use Rattle.emtp_case.specs.declared.channel.Channel.TheVariants.{NodeVoltage as NodeChannel, SwitchCurrent, SwitchVoltage}
+use Rattle.emtp_case.specs.declared.channel.Channel.TheVariants.{BranchCurrent, BranchVoltage, NodeVoltage as NodeChannel, SwitchCurrent, SwitchVoltage}
 use Rattle.emtp_deck.specs.Answer.{go_on}
 use Rattle.emtp_deck.specs.Branches.{entry_channels, entry_count, take_branches, take_entry, with_branches, with_entry, with_nodes, with_own, with_single, with_values}
 use Rattle.emtp_deck.specs.Channels.{channel_count, channels_of, status_of, switch_channel_count}
-use Rattle.emtp_deck.specs.Made.{Made, count_asked, too_many, unless_fault}
-use Rattle.emtp_deck.specs.Names.{find_node, with_entry_names, with_switch_names}
+use Rattle.emtp_deck.specs.Deck.{made_of_deck}
+use Rattle.emtp_deck.specs.Made.{Made, count_asked, empty_made, no_room, too_many, unless_fault}
+use Rattle.emtp_deck.specs.Names.{find_node, node_names, with_entry_names, with_switch_names}
 use Rattle.emtp_deck.specs.Outputs.{name_fault, node_channels, take_all_nodes, take_name, take_names, take_node, take_output, take_outputs, with_node, with_outputs}
-use Rattle.emtp_deck.specs.Samples.{count_of_entry, count_of_switch, name_count, output_count}
+use Rattle.emtp_deck.specs.Samples.{count_of_entry, count_of_switch, deck_count, name_count, output_count}
 use Rattle.emtp_deck.specs.Sources.{source_fault, take_source, take_sources, with_source}
 use Rattle.emtp_deck.specs.Switches.{switch_fault, take_switch, take_switches, with_switch}
 use Rattle.emtp_deck.specs.declared.copies.ValuesFrom.{ValuesFrom}
 use Rattle.emtp_deck.specs.declared.copies.ValuesFrom.TheVariants.{Card as OwnValues, Earlier, Missing}
 use Rattle.emtp_deck.specs.declared.deck.BranchEntry.{BranchEntry}
 use Rattle.emtp_deck.specs.declared.deck.BranchEntry.TheVariants.{Single, Trio}
+use Rattle.emtp_deck.specs.declared.deck.Deck.{Deck}
 use Rattle.emtp_deck.specs.declared.deck.OutputEntry.{OutputEntry}
+use Rattle.emtp_deck.proofs.Keeping.{length_of_nodes, length_of_switch}
 use Rattle.emtp_netcards.specs.declared.branch_card.BranchCard.{BranchCard}
 use Rattle.emtp_netcards.specs.declared.branch_card.BranchValues.{BranchValues}
 use Rattle.emtp_netcards.specs.declared.branch_card.BranchValues.TheVariants.{Line as LineCard, Lumped as LumpedCard, Reactor as ReactorCard, Resistor as ResistorCard, Second as SecondCard, Third as ThirdCard}
@@ -36,8 +39,8 @@ use Rattle.emtp_netcards.specs.declared.source_card.SourceCard.{SourceCard}
 use Rattle.emtp_netcards.specs.declared.switch_card.SwitchCard.{SwitchCard}
 
 -- these nodes are there afterwards, and so many channels more
-pub record IsAsking (m m' : Made) (nodes : List (List ℕ)) (count : ℕ) : Type 0 where
-  pub nodes : m'.parts.nodes ≡ nodes
+pub record IsAsking (m m' : Made) (names : List (List ℕ)) (count : ℕ) : Type 0 where
+  pub nodes : m'.parts.nodes ≡ names
   pub run : m'.parts.run ≡ m.parts.run
   pub asked : count_asked m'.asked ≡ count_asked m.asked + count
 
@@ -66,13 +69,13 @@ length_channels false false false a b = refl
 pub length_of_channels : (asked : ℕ) (a b : Channel) → length (channels_of asked a b) ≡ channel_count asked
 length_of_channels asked a b = length_channels (asked == 0) (asked == 1) (asked == 2) a b
 
-three : {a b c : ℕ} {xs ys zs : List Channel} → length xs ≡ a → length ys ≡ b → length zs ≡ c → length (xs ++ ys ++ zs) ≡ a + b + c
-three x y z = omega (arith, length-append, x, y, z)
+three : (xs ys zs : List Channel) (a b c : ℕ) → length xs ≡ a → length ys ≡ b → length zs ≡ c → length (xs ++ ys ++ zs) ≡ a + b + c
+three xs ys zs a b c x y z = omega (arith, length-append xs (ys ++ zs), length-append ys zs, x, y, z)
 
 length_entry : (at : ℕ) (e : BranchEntry) → length (entry_channels at e) ≡ entry_count e
 length_entry at (Single card first count) = length_of_channels card.asked _ _
 length_entry at (Trio zero' positive third) =
-    three (length_of_channels zero'.asked _ _) (length_of_channels positive.asked _ _) (length_of_channels third.asked _ _)
+    three _ _ _ _ _ _ (length_of_channels zero'.asked (BranchCurrent at) (BranchVoltage at)) (length_of_channels positive.asked (BranchCurrent (at + 1)) (BranchVoltage (at + 1))) (length_of_channels third.asked (BranchCurrent (at + 2)) (BranchVoltage (at + 2)))
 
 -- ---- branches
 
@@ -136,3 +139,105 @@ branches_ask points m m' (e ∷ es) h =
     let first = entry_asks points m s.0 e s.1.0 in
     let rest = branches_ask points s.0 m' es s.1.1 in
     after first (rw first.nodes at rest) (sum_by-cons entry_count e es)
+
+-- ---- switches
+
+more_switches : (o b s t c d n : ℕ) → c + d ≡ n → o + b + (s + c) + (t + d) ≡ o + b + s + t + n
+more_switches o b s t c d n e = omega (arith, e)
+
+switch_asks : (m m' : Made) (card : SwitchCard) → take_switch m card ≡ Ok m' → IsAsking m m' (with_switch_names m.parts.nodes card) (count_of_switch card)
+unfolding take_switch
+switch_asks m m' card h =
+    let names = with_switch_names m.parts.nodes card in
+    let is = unless_fault_ok card.line (switch_fault names m card) (with_switch (with_nodes m names) card) m' h in
+    let at = length m.parts.switches in
+    let shown = channels_of card.asked (SwitchCurrent at) (SwitchVoltage at) in
+    rw (sym is) (record {
+      nodes = refl;
+      run = refl;
+      asked = omega (arith, length-append m.asked.switches shown, length-append m.asked.statuses (status_of card.asked at), length_of_switch card.asked at);
+    })
+
+pub switches_ask : (m m' : Made) (cards : List SwitchCard) → take_switches m cards ≡ Ok m' → IsAsking m m' (fold with_switch_names m.parts.nodes cards) (sum_by count_of_switch cards)
+switches_ask m m' [] h = let is : m ≡ m' = cc in rw (sym is) (record { nodes = refl; run = refl; asked = omega arith })
+switches_ask m m' (card ∷ cards) h =
+    let s = go_on_ok (λ (made : Made). take_switches made cards) (take_switch m card) m' h in
+    let first = switch_asks m s.0 card s.1.0 in
+    let rest = switches_ask s.0 m' cards s.1.1 in
+    after first (rw first.nodes at rest) (sum_by-cons count_of_switch card cards)
+
+-- ---- sources, which ask for nothing
+
+source_added : (m : Made) (card : SourceCard) (node : Option ℕ) → IsAsking m (with_source m card node) m.parts.nodes 0
+source_added m card None = record { nodes = refl; run = refl; asked = omega arith }
+source_added m card (Some node) = record { nodes = refl; run = refl; asked = omega arith }
+
+source_asks : (m m' : Made) (card : SourceCard) → take_source m card ≡ Ok m' → IsAsking m m' m.parts.nodes 0
+unfolding take_source
+source_asks m m' card h =
+    let node = find_node m.parts.nodes card.name in
+    let is = unless_fault_ok card.line (source_fault m.parts.sources card node) (with_source m card node) m' h in
+    rw (sym is) (source_added m card node)
+
+pub sources_ask : (m m' : Made) (cards : List SourceCard) → take_sources m cards ≡ Ok m' → IsAsking m m' m.parts.nodes 0
+sources_ask m m' [] h = let is : m ≡ m' = cc in rw (sym is) (record { nodes = refl; run = refl; asked = omega arith })
+sources_ask m m' (card ∷ cards) h =
+    let s = go_on_ok (λ (made : Made). take_sources made cards) (take_source m card) m' h in
+    let first = source_asks m s.0 card s.1.0 in
+    let rest = sources_ask s.0 m' cards s.1.1 in
+    after first (rw first.nodes at rest) refl
+
+-- ---- outputs
+
+outputs_added : (m : Made) (channels : List Channel) → IsAsking m (with_outputs m channels) m.parts.nodes (length channels)
+outputs_added m channels = record { nodes = refl; run = refl; asked = omega (arith, length-append m.asked.outputs channels) }
+
+node_asks : (line : ℕ) (m m' : Made) (column : ℕ) (at : Option ℕ) → unless_fault line (name_fault m.asked column (option_map (λ k. k + 1) at)) (with_node m (option_map (λ k. k + 1) at)) ≡ Ok m' → IsAsking m m' m.parts.nodes (if◌then◌else◌ {A = ℕ} (is_some at) 1 0)
+node_asks line m m' column None h = absurd (cc)
+node_asks line m m' column (Some k) h =
+    let is = unless_fault_ok line (name_fault m.asked column (Some (k + 1))) (with_outputs m (NodeChannel (k + 1) ∷ [])) m' h in
+    rw (sym is) (outputs_added m (NodeChannel (k + 1) ∷ []))
+
+name_asks : (line : ℕ) (m m' : Made) (column : ℕ) (name : Option (List ℕ)) → take_name line m column name ≡ Ok m' → IsAsking m m' m.parts.nodes (name_count m.parts.nodes name)
+unfolding take_node
+name_asks line m m' column None h = let is : m ≡ m' = cc in rw (sym is) (record { nodes = refl; run = refl; asked = omega arith })
+name_asks line m m' column (Some name) h = node_asks line m m' column (position (bytes_eq name) m.parts.nodes) h
+
+names_ask : (line : ℕ) (m m' : Made) (column : ℕ) (names : List (Option (List ℕ))) → take_names line m column names ≡ Ok m' → IsAsking m m' m.parts.nodes (sum_by (name_count m.parts.nodes) names)
+names_ask line m m' column [] h = let is : m ≡ m' = cc in rw (sym is) (record { nodes = refl; run = refl; asked = omega arith })
+names_ask line m m' column (name ∷ names) h =
+    let s = go_on_ok (λ (made : Made). take_names line made (column + 6) names) (take_name line m column name) m' h in
+    let first = name_asks line m s.0 column name s.1.0 in
+    let rest = names_ask line s.0 m' (column + 6) names s.1.1 in
+    after first (rw first.nodes at rest) (sum_by-cons (name_count m.parts.nodes) name names)
+
+output_asks : (line : ℕ) (m m' : Made) (card : OutputCard) → take_output line m card ≡ Ok m' → IsAsking m m' m.parts.nodes (output_count m.parts.nodes card)
+unfolding take_all_nodes
+output_asks line m m' AllNodes h =
+    let nodes = length m.parts.nodes in
+    let is = unless_fault_ok line (too_many (no_room m.asked nodes) 1) (with_outputs m (node_channels nodes)) m' h in
+    let added = outputs_added m (node_channels nodes) in
+    rw (sym is) (rw (length_of_nodes nodes) at added)
+output_asks line m m' (Names names) h = names_ask line m m' 3 names h
+
+pub outputs_ask : (m m' : Made) (entries : List OutputEntry) → take_outputs m entries ≡ Ok m' → IsAsking m m' m.parts.nodes (sum_by (count_of_entry m.parts.nodes) entries)
+outputs_ask m m' [] h = let is : m ≡ m' = cc in rw (sym is) (record { nodes = refl; run = refl; asked = omega arith })
+outputs_ask m m' (entry ∷ entries) h =
+    let s = go_on_ok (λ (made : Made). take_outputs made entries) (take_output entry.line m entry.card) m' h in
+    let first = output_asks entry.line m s.0 entry.card s.1.0 in
+    let rest = outputs_ask s.0 m' entries s.1.1 in
+    after first (rw first.nodes at rest) (sum_by-cons (count_of_entry m.parts.nodes) entry entries)
+
+-- ---- the whole deck
+
+pub deck_asks : (deck : Deck) (m : Made) → made_of_deck deck ≡ Ok m → IsAsking (empty_made deck.run) m (node_names deck) (deck_count deck)
+deck_asks deck m h =
+    let start = empty_made deck.run in
+    let c = go_on_ok (λ (made : Made). take_outputs made deck.outputs) (go_on (λ (made : Made). take_sources made deck.sources) (go_on (λ (made : Made). take_switches made deck.switches) (take_branches deck.points start deck.branches))) m h in
+    let b = go_on_ok (λ (made : Made). take_sources made deck.sources) (go_on (λ (made : Made). take_switches made deck.switches) (take_branches deck.points start deck.branches)) c.0 c.1.0 in
+    let a = go_on_ok (λ (made : Made). take_switches made deck.switches) (take_branches deck.points start deck.branches) b.0 b.1.0 in
+    let branches = branches_ask deck.points start a.0 deck.branches a.1.0 in
+    let switches = rw branches.nodes at switches_ask a.0 b.0 deck.switches a.1.1 in
+    let sources = rw switches.nodes at sources_ask b.0 c.0 deck.sources b.1.1 in
+    let outputs = rw sources.nodes at outputs_ask c.0 m deck.outputs c.1.1 in
+    after (after (after branches switches refl) sources refl) outputs (omega arith)

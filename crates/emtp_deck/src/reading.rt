@@ -1,6 +1,6 @@
 //! The case of a deck.
 
-ghost use Rattle.std.specs.Prelude.{◌≡◌, ◌+◌, ◌*◌, ◌++◌, ◌≤◌, All, length, Ok, Err, IfErr, IfOk, OnOk, false, true};
+ghost use Rattle.std.specs.Prelude.{◌≡◌, ◌+◌, ◌*◌, ◌++◌, ◌≤◌, [], All, length, Ok, Err, IfErr, IfOk, OnOk, false, true};
 ghost use Rattle.emtp_case.specs.Channel.{IsChannel};
 ghost use Rattle.emtp_case.specs.RunData.{samples_of};
 ghost use Rattle.emtp_case.specs.Sizes.{sizes_of};
