@@ -2,3 +2,4 @@ pub mod Walking
 pub mod Sounding
 pub mod Naming
 pub mod Copying
+pub mod Sensing
