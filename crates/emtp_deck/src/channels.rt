@@ -2,8 +2,10 @@
 
 ghost use Rattle.std.specs.Prelude.{◌≡◌, ◌≤◌, ◌++◌, IfErr, OnOk};
 ghost use Rattle.emtp_deck.specs.Answer.{IsWant};
+ghost use Rattle.emtp_deck.specs.Made.{count_asked, no_room};
 ghost use Rattle.emtp_deck.specs.Channels.{channel_count, channels_of, status_of, switch_channel_count};
 
+use crate::asked::Asked;
 use emtp_card::Refused;
 use emtp_case::{Channel, Items};
 
@@ -62,4 +64,13 @@ pub(crate) fn switch_channel_count(asked: u8) -> usize
         1 | 2 => 2,
         _ => 3,
     }
+}
+
+/// Whether a record has no room for so many channels more.
+pub(crate) fn no_room(asked: &Asked, more: usize) -> bool
+    requires few { count_asked asked.now ≤ 64 }
+    requires more { more ≤ 1000 }
+    ensures { result ≡ no_room asked.now more }
+{
+    64 < asked.count() + more
 }
