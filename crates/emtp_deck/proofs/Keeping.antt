@@ -69,12 +69,12 @@ nodes_there s (suc n) l =
 
 -- ---- larger cases
 
-there_grows : (s n : Sizes) (a : Asked) → Grows s n → AreThere s a → AreThere n a
+pub there_grows : (s n : Sizes) (a : Asked) → Grows s n → AreThere s a → AreThere n a
 there_grows s n a g h = record {
-  outputs = All-weaker a.outputs (IsChannel-grows s n g) h.outputs;
-  branches = All-weaker a.branches (IsChannel-grows s n g) h.branches;
-  switches = All-weaker a.switches (IsChannel-grows s n g) h.switches;
-  statuses = All-weaker a.statuses (IsChannel-grows s n g) h.statuses;
+  outputs = All-weaker (IsChannel s) (IsChannel n) (IsChannel-grows s n g) a.outputs h.outputs;
+  branches = All-weaker (IsChannel s) (IsChannel n) (IsChannel-grows s n g) a.branches h.branches;
+  switches = All-weaker (IsChannel s) (IsChannel n) (IsChannel-grows s n g) a.switches h.switches;
+  statuses = All-weaker (IsChannel s) (IsChannel n) (IsChannel-grows s n g) a.statuses h.statuses;
 }
 
 -- the nodes of a card are there

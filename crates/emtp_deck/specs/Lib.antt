@@ -11,3 +11,8 @@ pub mod Copies
 pub mod Channels
 pub mod Branches
 pub mod Sensible
+pub mod Switches
+pub mod Sources
+pub mod Outputs
+pub mod Samples
+pub mod Deck

@@ -19,7 +19,12 @@ mod copies;
 mod deck;
 mod filling;
 mod names;
+mod outputs;
+mod reading;
+mod samples;
 mod section_steps;
+mod sources;
+mod switches;
 mod unbuilt;
 mod walk;
 
@@ -27,4 +32,5 @@ pub use asked::Asked;
 pub use branches::Counts;
 pub use copies::{LineNumbers, ValuesFrom};
 pub use deck::{BranchEntry, Deck, Group, OutputEntry, Place};
+pub use reading::read;
 pub use unbuilt::Section;

@@ -74,7 +74,9 @@ fn finish(filling: Filling) -> Result<Case, Refused>
     ensures err { IfErr result IsWant }
 {
     let Filling {
-        mut draft, asked, ..
+        mut draft,
+        asked,
+        ..
     } = filling;
     add_asked(&mut draft, &asked)?;
     Ok(draft.finish_network())

@@ -28,10 +28,7 @@ fn switch_fault(filling: &Filling, card: &SwitchCard) -> Option<Fault>
     let nodes = &filling.nodes;
     least(&[
         too_many(500 <= filling.draft.parts.switches.len(), 1),
-        too_many(
-            no_room(&filling.asked, switch_channel_count(card.asked)),
-            1,
-        ),
+        too_many(no_room(&filling.asked, switch_channel_count(card.asked)), 1),
         too_many(1000 < node_number(nodes, &card.from), 3),
         too_many(1000 < node_number(nodes, &card.to), 9),
     ])
@@ -77,9 +74,7 @@ fn add_switch(filling: &mut Filling, card: &SwitchCard) -> Result<(), Refused>
     ensures filling { OnOk result (IsFilling filling.new) }
 {
     let at = filling.draft.parts.switches.len() as u32;
-    filling
-        .draft
-        .add_switch(switch_at(&filling.nodes, card))?;
+    filling.draft.add_switch(switch_at(&filling.nodes, card))?;
     ask(
         &mut filling.asked.switches,
         card.asked,
