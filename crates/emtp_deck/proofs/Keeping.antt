@@ -69,7 +69,7 @@ nodes_there s (suc n) l =
 
 -- ---- larger cases
 
-there_grows : (s n : Sizes) (a : Asked) → Grows s n → AreThere s a → AreThere n a
+pub there_grows : (s n : Sizes) (a : Asked) → Grows s n → AreThere s a → AreThere n a
 there_grows s n a g h = record {
   outputs = All-weaker (IsChannel s) (IsChannel n) (IsChannel-grows s n g) a.outputs h.outputs;
   branches = All-weaker (IsChannel s) (IsChannel n) (IsChannel-grows s n g) a.branches h.branches;

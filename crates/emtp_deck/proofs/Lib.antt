@@ -2,7 +2,10 @@ pub mod Walking
 pub mod Sounding
 pub mod Naming
 pub mod Copying
+pub mod Keeping
+pub mod Sensing
+pub mod Growing
+pub mod Modes
 pub mod Asking
 pub mod Judging
-pub mod Keeping
 pub mod Switching

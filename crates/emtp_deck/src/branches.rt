@@ -1,13 +1,13 @@
 //! The branches of a case, and the faults of sense of their cards.
 
-ghost use Rattle.std.specs.Prelude.{◌≡◌, ◌+◌, ◌*◌, ◌^◌, ◌<◌, ◌≤◌, ◌++◌, All, length, sum_by, Ok, IfErr, IfOk, OnOk, false, true};
+ghost use Rattle.std.specs.Prelude.{◌≡◌, ◌+◌, ◌*◌, ◌^◌, ◌<◌, ◌≤◌, ◌++◌, All, length, Ok, Some, IfErr, IfOk, OnOk, false, true};
 ghost use Rattle.emtp_case.specs.Branch.{HasLineNumbers, IsBranch};
 ghost use Rattle.emtp_case.specs.HistoryValues.{history_values_of};
 ghost use Rattle.emtp_case.specs.Range.{AreEnds, IsBetween};
 ghost use Rattle.emtp_case.specs.Sizes.{sizes_of};
 ghost use Rattle.emtp_deck.specs.Answer.{IsWant};
 ghost use Rattle.emtp_deck.specs.Branches.{branch_channels, card_bad, card_fault, card_history, counts_of, entry_channels, entry_count, entry_fault, entry_history, first_counts, first_fault, line_branch, line_history, moved, numbers_for, pair_fault, pair_history, pending_fault, phase_for, second_counts, second_fault, take_branches, take_entry, third_fault, with_branches, with_counts, with_entry, with_own, with_phases, with_points, with_single};
-ghost use Rattle.emtp_deck.specs.Copies.{numbers_of_card};
+ghost use Rattle.emtp_deck.specs.Copies.{line_numbers, numbers_of_card, values_from};
 ghost use Rattle.emtp_deck.specs.Filling.{Fills, IsFilling, IsNaming, made_of};
 ghost use Rattle.emtp_deck.specs.Made.{count_asked};
 ghost use Rattle.emtp_deck.specs.Names.{with_ends, with_entry_names};
@@ -360,6 +360,7 @@ fn numbers_for(draft: &Draft, nodes: &IndexSet<Name>, card: &BranchCard) -> Line
     requires numbers { HasNumbers draft.now.parts.run.dt card.now }
     requires taken { FindsValues draft.now.parts card.now }
     ensures value { result ≡ numbers_for draft.now.parts card.now }
+    ensures there { line_numbers draft.now.parts.trios card.now.values (values_from draft.now.parts.nodes draft.now.parts.branches card.now) ≡ Some result }
     ensures range { HasLineNumbers draft.now.parts.run.dt result.zc result.r result.delay }
 {
     line_numbers(nodes, draft, card).unwrap_or(LineNumbers {
@@ -516,7 +517,6 @@ fn take_entry(filling: &mut Filling, points: &[Point], entry: &BranchEntry) -> R
     ensures value { Fills result (take_entry points.now (made_of filling.old) entry.now) (made_of filling.new) }
     ensures filling { OnOk result (IsFilling filling.new) }
     ensures run { OnOk result (filling.new.draft.parts.run ≡ filling.old.draft.parts.run) }
-    ensures count { OnOk result (count_asked filling.new.asked ≡ count_asked filling.old.asked + entry_count entry.now) }
 {
     add_entry_names(&mut filling.nodes, entry)?;
     if let Some(bad) = entry_fault(filling, entry) {
@@ -535,7 +535,6 @@ fn add_entry(filling: &mut Filling, points: &[Point], entry: &BranchEntry) -> Re
     ensures ok { OnOk result (made_of filling.new ≡ with_entry points.now (made_of filling.old) entry.now) }
     ensures err { IfErr result IsWant }
     ensures filling { OnOk result (IsFilling filling.new) }
-    ensures count { OnOk result (count_asked filling.new.asked ≡ count_asked filling.old.asked + entry_count entry.now) }
 {
     let at = filling.draft.parts.branches.len() as u32;
     let history = entry_history(filling, entry);
@@ -555,7 +554,6 @@ pub(crate) fn take_branches(
     ensures value { Fills result (take_branches points.now (made_of filling.old) entries.now) (made_of filling.new) }
     ensures filling { OnOk result (IsFilling filling.new) }
     ensures run { OnOk result (filling.new.draft.parts.run ≡ filling.old.draft.parts.run) }
-    ensures count { OnOk result (count_asked filling.new.asked ≡ count_asked filling.old.asked + sum_by entry_count entries.now) }
 {
     for entry in entries {
         match take_entry(filling, points, entry) {
