@@ -29,6 +29,7 @@ use Rattle.emtp_deck.specs.declared.deck.BranchEntry.{BranchEntry}
 use Rattle.emtp_deck.specs.declared.deck.BranchEntry.TheVariants.{Single, Trio}
 use Rattle.emtp_deck.specs.declared.deck.Deck.{Deck}
 use Rattle.emtp_deck.specs.declared.deck.OutputEntry.{OutputEntry}
+use Rattle.emtp_deck.proofs.Growing.{length_entry}
 use Rattle.emtp_deck.proofs.Keeping.{length_of_nodes, length_of_switch}
 use Rattle.emtp_netcards.specs.declared.branch_card.BranchCard.{BranchCard}
 use Rattle.emtp_netcards.specs.declared.branch_card.BranchValues.{BranchValues}
@@ -57,25 +58,6 @@ unless_bad_ok None x y e = cc
 unless_fault_ok : {A : Type 0} (line : ℕ) (fault : Option Fault) (x y : A) → unless_fault line fault x ≡ Ok y → x ≡ y
 unless_fault_ok line (Some fault) x y e = absurd (cc)
 unless_fault_ok line None x y e = cc
-
--- ---- counts
-
-length_channels : (p q r : Bool) (a b : Channel) → length (if◌then◌else◌ {A = List Channel} p [] (if◌then◌else◌ {A = List Channel} q (a ∷ []) (if◌then◌else◌ {A = List Channel} r (b ∷ []) (a ∷ b ∷ [])))) ≡ if◌then◌else◌ {A = ℕ} p 0 (if◌then◌else◌ {A = ℕ} q 1 (if◌then◌else◌ {A = ℕ} r 1 2))
-length_channels true q r a b = refl
-length_channels false true r a b = refl
-length_channels false false true a b = refl
-length_channels false false false a b = refl
-
-pub length_of_channels : (asked : ℕ) (a b : Channel) → length (channels_of asked a b) ≡ channel_count asked
-length_of_channels asked a b = length_channels (asked == 0) (asked == 1) (asked == 2) a b
-
-three : (xs ys zs : List Channel) (a b c : ℕ) → length xs ≡ a → length ys ≡ b → length zs ≡ c → length (xs ++ ys ++ zs) ≡ a + b + c
-three xs ys zs a b c x y z = omega (arith, length-append xs (ys ++ zs), length-append ys zs, x, y, z)
-
-length_entry : (at : ℕ) (e : BranchEntry) → length (entry_channels at e) ≡ entry_count e
-length_entry at (Single card first count) = length_of_channels card.asked _ _
-length_entry at (Trio zero' positive third) =
-    three _ _ _ _ _ _ (length_of_channels zero'.asked (BranchCurrent at) (BranchVoltage at)) (length_of_channels positive.asked (BranchCurrent (at + 1)) (BranchVoltage (at + 1))) (length_of_channels third.asked (BranchCurrent (at + 2)) (BranchVoltage (at + 2)))
 
 -- ---- branches
 
@@ -136,8 +118,8 @@ pub branches_ask : (points : List Point) (m m' : Made) (es : List BranchEntry) �
 branches_ask points m m' [] h = let is : m ≡ m' = cc in rw (sym is) (record { nodes = refl; run = refl; asked = omega arith })
 branches_ask points m m' (e ∷ es) h =
     let s = go_on_ok (λ (made : Made). take_branches points made es) (take_entry points m e) m' h in
-    let first = entry_asks points m s.0 e s.1.0 in
-    let rest = branches_ask points s.0 m' es s.1.1 in
+    let first = entry_asks points m s.0 e s.1 in
+    let rest = branches_ask points s.0 m' es s.2 in
     after first (rw first.nodes at rest) (sum_by-cons entry_count e es)
 
 -- ---- switches
@@ -162,8 +144,8 @@ pub switches_ask : (m m' : Made) (cards : List SwitchCard) → take_switches m c
 switches_ask m m' [] h = let is : m ≡ m' = cc in rw (sym is) (record { nodes = refl; run = refl; asked = omega arith })
 switches_ask m m' (card ∷ cards) h =
     let s = go_on_ok (λ (made : Made). take_switches made cards) (take_switch m card) m' h in
-    let first = switch_asks m s.0 card s.1.0 in
-    let rest = switches_ask s.0 m' cards s.1.1 in
+    let first = switch_asks m s.0 card s.1 in
+    let rest = switches_ask s.0 m' cards s.2 in
     after first (rw first.nodes at rest) (sum_by-cons count_of_switch card cards)
 
 -- ---- sources, which ask for nothing
@@ -183,8 +165,8 @@ pub sources_ask : (m m' : Made) (cards : List SourceCard) → take_sources m car
 sources_ask m m' [] h = let is : m ≡ m' = cc in rw (sym is) (record { nodes = refl; run = refl; asked = omega arith })
 sources_ask m m' (card ∷ cards) h =
     let s = go_on_ok (λ (made : Made). take_sources made cards) (take_source m card) m' h in
-    let first = source_asks m s.0 card s.1.0 in
-    let rest = sources_ask s.0 m' cards s.1.1 in
+    let first = source_asks m s.0 card s.1 in
+    let rest = sources_ask s.0 m' cards s.2 in
     after first (rw first.nodes at rest) refl
 
 -- ---- outputs
@@ -207,8 +189,8 @@ names_ask : (line : ℕ) (m m' : Made) (column : ℕ) (names : List (Option (Lis
 names_ask line m m' column [] h = let is : m ≡ m' = cc in rw (sym is) (record { nodes = refl; run = refl; asked = omega arith })
 names_ask line m m' column (name ∷ names) h =
     let s = go_on_ok (λ (made : Made). take_names line made (column + 6) names) (take_name line m column name) m' h in
-    let first = name_asks line m s.0 column name s.1.0 in
-    let rest = names_ask line s.0 m' (column + 6) names s.1.1 in
+    let first = name_asks line m s.0 column name s.1 in
+    let rest = names_ask line s.0 m' (column + 6) names s.2 in
     after first (rw first.nodes at rest) (sum_by-cons (name_count m.parts.nodes) name names)
 
 output_asks : (line : ℕ) (m m' : Made) (card : OutputCard) → take_output line m card ≡ Ok m' → IsAsking m m' m.parts.nodes (output_count m.parts.nodes card)
@@ -224,8 +206,8 @@ pub outputs_ask : (m m' : Made) (entries : List OutputEntry) → take_outputs m 
 outputs_ask m m' [] h = let is : m ≡ m' = cc in rw (sym is) (record { nodes = refl; run = refl; asked = omega arith })
 outputs_ask m m' (entry ∷ entries) h =
     let s = go_on_ok (λ (made : Made). take_outputs made entries) (take_output entry.line m entry.card) m' h in
-    let first = output_asks entry.line m s.0 entry.card s.1.0 in
-    let rest = outputs_ask s.0 m' entries s.1.1 in
+    let first = output_asks entry.line m s.0 entry.card s.1 in
+    let rest = outputs_ask s.0 m' entries s.2 in
     after first (rw first.nodes at rest) (sum_by-cons (count_of_entry m.parts.nodes) entry entries)
 
 -- ---- the whole deck
@@ -234,10 +216,10 @@ pub deck_asks : (deck : Deck) (m : Made) → made_of_deck deck ≡ Ok m → IsAs
 deck_asks deck m h =
     let start = empty_made deck.run in
     let c = go_on_ok (λ (made : Made). take_outputs made deck.outputs) (go_on (λ (made : Made). take_sources made deck.sources) (go_on (λ (made : Made). take_switches made deck.switches) (take_branches deck.points start deck.branches))) m h in
-    let b = go_on_ok (λ (made : Made). take_sources made deck.sources) (go_on (λ (made : Made). take_switches made deck.switches) (take_branches deck.points start deck.branches)) c.0 c.1.0 in
-    let a = go_on_ok (λ (made : Made). take_switches made deck.switches) (take_branches deck.points start deck.branches) b.0 b.1.0 in
-    let branches = branches_ask deck.points start a.0 deck.branches a.1.0 in
-    let switches = rw branches.nodes at switches_ask a.0 b.0 deck.switches a.1.1 in
-    let sources = rw switches.nodes at sources_ask b.0 c.0 deck.sources b.1.1 in
-    let outputs = rw sources.nodes at outputs_ask c.0 m deck.outputs c.1.1 in
+    let b = go_on_ok (λ (made : Made). take_sources made deck.sources) (go_on (λ (made : Made). take_switches made deck.switches) (take_branches deck.points start deck.branches)) c.0 c.1 in
+    let a = go_on_ok (λ (made : Made). take_switches made deck.switches) (take_branches deck.points start deck.branches) b.0 b.1 in
+    let branches = branches_ask deck.points start a.0 deck.branches a.1 in
+    let switches = rw branches.nodes at switches_ask a.0 b.0 deck.switches a.2 in
+    let sources = rw switches.nodes at sources_ask b.0 c.0 deck.sources b.2 in
+    let outputs = rw sources.nodes at outputs_ask c.0 m deck.outputs c.2 in
     after (after (after branches switches refl) sources refl) outputs (omega arith)
