@@ -219,7 +219,7 @@ deck_asks deck m h =
     let b = go_on_ok (λ (made : Made). take_sources made deck.sources) (go_on (λ (made : Made). take_switches made deck.switches) (take_branches deck.points start deck.branches)) c.0 c.1 in
     let a = go_on_ok (λ (made : Made). take_switches made deck.switches) (take_branches deck.points start deck.branches) b.0 b.1 in
     let branches = branches_ask deck.points start a.0 deck.branches a.1 in
-    let switches = rw branches.nodes at switches_ask a.0 b.0 deck.switches a.2 in
-    let sources = rw switches.nodes at sources_ask b.0 c.0 deck.sources b.2 in
-    let outputs = rw sources.nodes at outputs_ask c.0 m deck.outputs c.2 in
+    let switches = rw branches.nodes at (switches_ask a.0 b.0 deck.switches a.2) in
+    let sources = rw switches.nodes at (sources_ask b.0 c.0 deck.sources b.2) in
+    let outputs = rw sources.nodes at (outputs_ask c.0 m deck.outputs c.2) in
     after (after (after branches switches refl) sources refl) outputs (omega arith)

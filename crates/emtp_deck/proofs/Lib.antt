@@ -9,3 +9,4 @@ pub mod Modes
 pub mod Asking
 pub mod Judging
 pub mod Switching
+pub mod WholeDeck

@@ -7,13 +7,15 @@ use Rattle.std.proofs.lemmas.List.{take-append-le}
 use Rattle.emtp_case.specs.Branch.{IsCharacteristic, IsSegment, origin, points_of}
 use Rattle.emtp_case.specs.declared.branch.Point.{Point}
 use Rattle.emtp_case.specs.declared.run_data.RunData.{RunData}
-use Rattle.emtp_deck.specs.Sound.{ArePoints, IsEntry, IsGroupOf, IsSingleEntry, IsWhole, is_pseudo, is_reactor}
+use Rattle.emtp_deck.specs.Sound.{ArePoints, IsEntry, IsGroupOf, IsHead, IsSingleEntry, IsWhole, is_pseudo, is_reactor}
 use Rattle.emtp_deck.specs.Walk.{scale_by, scale_of, take_point}
 use Rattle.emtp_deck.specs.declared.deck.BranchEntry.{BranchEntry}
 use Rattle.emtp_deck.specs.declared.deck.BranchEntry.TheVariants.{Single, Trio}
 use Rattle.emtp_deck.specs.declared.deck.Deck.{Deck}
 use Rattle.emtp_deck.specs.declared.deck.Group.{Group}
 use Rattle.emtp_netcards.specs.PointCard.{Follows, IsPointOf, origin_or}
+use Rattle.emtp_netcards.specs.SourceCard.{HasSourceCardNumbers}
+use Rattle.emtp_netcards.specs.SwitchCard.{HasSwitchNumbers}
 use Rattle.emtp_netcards.specs.declared.branch_card.BranchValues.{BranchValues}
 use Rattle.emtp_netcards.specs.declared.branch_card.BranchValues.TheVariants.{Line as LineCard, Lumped as LumpedCard, Reactor as ReactorCard, Resistor as ResistorCard, Second as SecondCard, Third as ThirdCard}
 
@@ -112,3 +114,12 @@ point_group deck group point of room range follows =
           (one_more (is_reactor group.card.values) deck.run.dt ps (origin_or group.before) point (of.before ∙ ap (λ n. get_or (origin ∷ ps) n origin) size)
           (segment_of group.card.values deck.run.dt group.before point of.pseudo follows) of.characteristic);
     }
+
+-- before the branches
+pub head_whole : (deck : Deck) → IsHead deck → IsWhole deck
+head_whole deck head = record {
+  run = head.run;
+  branches = rw head.branches (All-nil (IsEntry deck.run deck.points));
+  switches = rw head.switches (All-nil HasSwitchNumbers);
+  sources = rw head.sources (All-nil HasSourceCardNumbers);
+}
