@@ -24,7 +24,7 @@ found p P (y ∷ ys) x all e =
     here p P y x (p y) (find p ys) refl (all 0 y (omega arith))
     (λ e'. found p P ys x (λ k d lt. all (suc k) d (omega arith)) e') e
 
-of_type : (n type : ℤ) (b c : Bool) → (int_eq n type && b && c) ≡ true → n ≡ type
+of_type : (n type : ℤ) (b c : Bool) → (b && c && int_eq n type) ≡ true → n ≡ type
 of_type n type b c e = grind arith
 
 pub earlier : (p : Parts) (type : ℤ) (a b : ℕ) (x : Branch) → All (IsBranch p.run (sizes_of p) p.points) p.branches → find (is_like type a b) p.branches ≡ Some x → IsEarlier p type x

@@ -44,7 +44,7 @@ type_of_values ResistorCard = pos 99
 
 -- a branch of a type between two nodes in this order
 abbrev pub is_like : ℤ → ℕ → ℕ → Branch → Bool
-is_like type a b x = int_eq (type_of_branch x) type && (from_of x == a) && (to_of x == b)
+is_like type a b x = (from_of x == a) && (to_of x == b) && int_eq (type_of_branch x) type
 
 abbrev pub earlier_or_missing : Option Branch → ValuesFrom
 earlier_or_missing (Some b) = Earlier b

@@ -67,7 +67,7 @@ fn type_of_values(values: &BranchValues) -> i64
 fn is_like(branch: &Branch, number: i64, from: u32, to: u32) -> bool
     ensures { result ≡ is_like number from to branch.now }
 {
-    type_of_branch(branch) == number && branch.ends() == (from, to)
+    branch.ends() == (from, to) && type_of_branch(branch) == number
 }
 
 fn first_like(branches: &[Branch], number: i64, from: u32, to: u32) -> Option<Branch>
