@@ -46,7 +46,8 @@ within asked all pending samples is e =
 pub stored_within : (deck : Deck) (place : Place) (m : Made) → has_too_many deck place ≡ false → made_of_deck deck ≡ Ok m → count_asked m.asked * samples_of m.parts.run ≤ 4000000
 stored_within deck place m few h =
     let asks = deck_asks deck m h in
-    rw asks.run (within (count_asked m.asked) (deck_count deck) (pending_count place) (samples_of deck.run) asks.asked few)
+    let all : count_asked m.asked ≡ deck_count deck = omega (arith, asks.asked) in
+    rw asks.run (within (count_asked m.asked) (deck_count deck) (pending_count place) (samples_of deck.run) all few)
 
 pub stopped : (line : ℕ) (deck : Deck) (place : Place) (refused : Refused) (left : Made) → has_too_many deck place ≡ false → Fills (Err refused) (made_of_deck deck) left → IfBad refused (λ bad. filled line deck place ≡ Err bad)
 unfolding filled

@@ -110,10 +110,12 @@ fn filled(alloc: Global, deck: &Deck, place: &Place, line: u32) -> Result<Case, 
         return Err(Refused::Bad(samples_bad(deck)));
     }
     let mut filling = Filling::new(alloc, deck.run)?;
-    fill(&mut filling, deck)?;
-    match place {
-        Place::After(_) => finish(filling),
-        _ => Err(unfinished(&mut filling, place, line)),
+    match fill(&mut filling, deck) {
+        Ok(()) => match place {
+            Place::After(_) => finish(filling),
+            _ => Err(unfinished(&mut filling, place, line)),
+        },
+        Err(refused) => Err(refused),
     }
 }
 
