@@ -1,1 +1,5 @@
 pub mod Samples
+pub mod Control
+pub mod Next
+pub mod Channels
+pub mod History
