@@ -1,1 +1,5 @@
 pub mod SampleRows
+pub mod Rows
+pub mod Histories
+pub mod Sampling
+pub mod Machines

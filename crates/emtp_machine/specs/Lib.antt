@@ -3,3 +3,4 @@ pub mod Control
 pub mod Next
 pub mod Channels
 pub mod History
+pub mod Machine
