@@ -1,28 +1,31 @@
 -- A machine, one step further.
-use Rattle.std.proofs.Common.{◌≡◌, ◌≢◌, ◌∙◌, sym, ap, subst, ℕ, zero, suc, ◌+◌, ◌-◌, ◌*◌, ◌%◌, ◌<◌, ◌≤◌, ℤ, pos, List, [], ◌∷◌, ◌++◌, drop, take, length, replicate, Option, Some, None, IfSome, Result, Ok, Err, refl, arith}
+use Rattle.std.proofs.Common.{◌≡◌, ◌≢◌, ◌∙◌, sym, ap, subst, ℕ, zero, suc, ◌+◌, ◌-◌, ◌*◌, ◌%◌, ◌<◌, ◌≤◌, ℤ, pos, List, [], ◌∷◌, ◌++◌, drop, take, length, replicate, Option, Some, None, IfSome, IfNone, Result, Ok, Err, refl, arith}
 use Rattle.std.specs.Prelude.{Contains}
 use Rattle.std.proofs.Math.ListN.{drop_of_length-le}
 use Rattle.std.proofs.Math.Seq.{take-length}
-use Rattle.std.proofs.lemmas.List.{append-nil, length-replicate, length-take, length_push}
+use Rattle.std.proofs.lemmas.List.{append-nil, drop-replicate, length-replicate, length-take, length_push}
 use Rattle.std.proofs.lemmas.List.Elements.{Contains-get_or}
 use Rattle.emtp_case.specs.Case.{standing_names}
 use Rattle.emtp_case.specs.RunData.{samples_of}
-use Rattle.emtp_case.specs.StepRecord.{StepRecord, latest}
+use Rattle.emtp_case.specs.StepRecord.{StepRecord, latest, rest_of}
 use Rattle.emtp_case.specs.declared.case.Parts.{Parts}
 use Rattle.emtp_net.specs.Network.{IsNode, NamesNode, Net, StandsFor, StepsTo, fault_ticks, step_adds}
 use Rattle.emtp_net.specs.Part.{NetworkPart}
-use Rattle.emtp_net.specs.Redone.{net_redone, step_ticks, step_ticks_after}
+use Rattle.emtp_net.specs.Redone.{net_redone, net_ticks, step_ticks, step_ticks_after}
 use Rattle.emtp_net.specs.Step.{network_part}
+use Rattle.emtp_tail.specs.Good.{first_change}
 use Rattle.emtp_net.specs.declared.fault.NetFault.{NetFault}
 use Rattle.emtp_net.specs.declared.fault.NetFault.TheVariants.{Range, Residual, Tied, ZeroPivot}
-use Rattle.emtp_machine.proofs.Histories.{ended, made}
-use Rattle.emtp_machine.proofs.Sampling.{one_more, passed, room_left, taken}
-use Rattle.emtp_machine.specs.Channels.{sample_of, samples_in}
+use Rattle.emtp_machine.proofs.Histories.{count, ended, made, some_records, stays}
+use Rattle.emtp_machine.proofs.Sampling.{first, one_more, passed, room_left, taken}
+use Rattle.emtp_machine.specs.Channels.{sample_of}
 use Rattle.emtp_machine.specs.Control.{control_part, standing_values, values_in}
-use Rattle.emtp_machine.specs.History.{History, end_at, history_upto, redone, redone_by, redone_in, samples, ticks, ticks_by, ticks_in}
+use Rattle.emtp_machine.specs.History.{History, end_at, history, history_upto, redone, redone_by, redone_in, rows_of_run, samples, ticks, ticks_by, ticks_in}
 use Rattle.emtp_machine.specs.Machine.{AreSamples, AreValues, HasTicked, IsEnd, IsMachine, IsRunning, Progress, history_of, tried_of}
 use Rattle.emtp_machine.specs.Next.{Fault, network_fault, next, node_name, record_of, with_control}
 use Rattle.emtp_machine.specs.Samples.{Sampled}
+use Rattle.emtp_machine.specs.declared.end.Cause.{Cause}
+use Rattle.emtp_machine.specs.declared.end.Cause.TheVariants.{Range as OfRange, Residual as OfResidual, TacsPivot, TacsRange, Tied as OfTied, ZeroPivot as OfPivot}
 use Rattle.emtp_machine.specs.declared.end.End.{End}
 
 -- ---- the network's step, and the next record
@@ -361,3 +364,154 @@ pub ticks-ended : (m : Progress) (case : Parts) (n : ℕ) (over : Option End) (n
     → HasTicked m (seen case n (Some end)) before after
 ticks-ended m case n None network now vs row s fault before after end view none = ended-ticks m case n network now vs row s fault before after view
 ticks-ended m case n (Some e) network now vs row s fault before after end view none = absurd (cc)
+
+-- ---- the machine at rest
+
+rest_values : (n : ℕ) → drop 6 (replicate n (pos 0)) ≡ replicate (n - 6) (pos 0)
+rest_values n = drop-replicate 6 n (pos 0)
+
+rest_history : (case : Parts) → history_upto case 0 ≡ record { records = rest_of case ∷ []; end = None }
+unfolding history_upto
+rest_history case = refl
+
+at_rest : (case : Parts) (network : Net) (vs row : List ℤ) (s : Sampled) → network.case ≡ case → StandsFor network (rest_of case ∷ []) → vs ≡ replicate (length case.vars) (pos 0) → length row ≡ length case.channels → s ≡ record { rows = sample_of case (rest_of case) ∷ []; channels = length case.channels; room = samples_of case.run }
+    → 1 ≤ case.run.steps → IsMachine case network vs row s 0 None (record { records = rest_of case ∷ []; end = None })
+at_rest case network vs row s same stands values width is some = record {
+  case_is = same;
+  running = λ none. record { network_stands = stands; values_are = values };
+  control = record { each = ap length values ∙ length-replicate (length case.vars) (pos 0); others = ap (λ (xs : List ℤ). drop 6 xs) values ∙ rest_values (length case.vars) };
+  samples_are = record {
+    width = width;
+    channels = ap (λ (x : Sampled). x.channels) is;
+    room = ap (λ (x : Sampled). x.room) is;
+    sampled = ap (λ (x : Sampled). x.rows) is ∙ sym (first case (rest_of case));
+    few = let one : length s.rows ≡ 1 = ap (λ (x : Sampled). length x.rows) is in rw one (omega arith);
+  };
+  ended = refl;
+  count = refl;
+  few = omega arith;
+  redone_is = stands.redone ∙ ap (λ (c : Parts). net_redone c (rest_of case ∷ [])) same;
+  names = tt;
+}
+
+pub starts : (case : Parts) (network : Net) (vs row : List ℤ) (s t : Sampled) → network.case ≡ case → StandsFor network (rest_of case ∷ []) → vs ≡ replicate (length case.vars) (pos 0) → length row ≡ length case.channels → s ≡ record { rows = []; channels = length case.channels; room = samples_of case.run }
+    → t ≡ record s { rows = s.rows ++ sample_of case (rest_of case) ∷ [] } → 1 ≤ case.run.steps → IsMachine case network vs row t 0 None (history_upto case 0)
+starts case network vs row s t same stands values width is is_t some = rw rest_history (at_rest case network vs row t same stands values width (rw is at is_t) some)
+
+-- ---- the whole run
+
+rest_ticks : (case : Parts) → ticks case (history_upto case 0) ≡ 0
+rest_ticks case = rw rest_history refl
+
+next_ticks : (case : Parts) (r s : StepRecord) (past : List StepRecord) → net_ticks case (r ∷ s ∷ past) ≡ net_ticks case (s ∷ past) + step_ticks case (s ∷ past)
+next_ticks case r s past = refl
+
+-- the first step eliminates each row
+first_ticks : (case : Parts) (s : StepRecord) → step_ticks case (s ∷ []) ≡ length case.nodes
+unfolding step_ticks first_change
+first_ticks case s = omega arith
+
+most_ticks : (case : Parts) (H : List StepRecord) → step_ticks case H ≤ length case.nodes
+unfolding step_ticks
+most_ticks case H = omega arith
+
+-- once a step is made, the rows that were eliminated are those of one matrix and the rows redone
+some_ticks : (case : Parts) (r s : StepRecord) (past : List StepRecord) → net_ticks case (r ∷ s ∷ past) ≡ length case.nodes + net_redone case (r ∷ s ∷ past)
+some_ticks case r s [] = omega (arith, first_ticks case s)
+some_ticks case r s (t ∷ past) = omega (arith, some_ticks case s t past)
+
+-- ---- a run that is over
+
+over_by : (case : Parts) (n k : ℕ) (end : Option End) → (history_upto case n).end ≡ end → end ≢ None → n ≤ k → history_upto case n ≡ history_upto case k
+over_by case n k None is over within = absurd (over refl)
+over_by case n k (Some end) is over within = sym (stays case n (k - n) k end (omega (arith, within)) is)
+
+-- a machine whose end came has the whole history
+pub over-ended : (m : Progress) (case : Parts) (network : Net) (vs row : List ℤ) (s : Sampled) (n : ℕ) (over : Option End) → seen case n over ≡ m → IsMachine case network vs row s n over (history_upto case (tried_of n over)) → over ≢ None
+    → history_of m ≡ history m.case
+over-ended m case network vs row s n over view is some = subst (λ (p : Progress). history_of p ≡ history p.case) view (over_by case (tried_of n over) case.run.steps over is.ended some is.few)
+
+-- ---- the rows of a whole run
+
+all_rows : (case : Parts) (H : List StepRecord) → 2 ≤ length H → net_ticks case H ≡ length case.nodes + net_redone case H
+all_rows case [] some = absurd (omega (arith, some))
+all_rows case (r ∷ []) some = absurd (omega (arith, some))
+all_rows case (r ∷ s ∷ past) some = some_ticks case r s past
+
+-- a step that is no first one counts what it eliminates
+same_step : (case : Parts) (cause : Cause) (r s : StepRecord) (past : List StepRecord) → ticks_by cause case (r ∷ s ∷ past) ≡ redone_by cause case (r ∷ s ∷ past)
+same_step case OfTied r s past = refl
+same_step case OfPivot r s past = refl
+same_step case OfRange r s past = refl
+same_step case OfResidual r s past = refl
+same_step case TacsPivot r s past = refl
+same_step case TacsRange r s past = refl
+
+most_step : (case : Parts) (cause : Cause) (H : List StepRecord) → ticks_by cause case H ≤ length case.nodes
+most_step case OfTied H = omega arith
+most_step case OfPivot H = most_ticks case H
+most_step case OfRange H = most_ticks case H
+most_step case OfResidual H = most_ticks case H
+most_step case TacsPivot H = most_ticks case H
+most_step case TacsRange H = most_ticks case H
+
+most_rows : (case : Parts) (cause : Cause) (H : List StepRecord) → 1 ≤ length H → net_ticks case H + ticks_by cause case H ≤ length case.nodes + (net_redone case H + redone_by cause case H)
+most_rows case cause [] some = absurd (omega (arith, some))
+most_rows case cause (r ∷ []) some = omega (arith, most_step case cause (r ∷ []))
+most_rows case cause (r ∷ s ∷ past) some = omega (arith, some_ticks case r s past, same_step case cause r s past)
+
+-- from rest on, where the run didn't end early
+rows_without : (case : Parts) (h : History) → h.end ≡ None → 2 ≤ length h.records → ticks case h ≡ length case.nodes + redone case h
+rows_without case h none some =
+    let first = none_over case h.records h.end none in
+    let second = more case h.records h.end none in
+    omega (arith, first, second, all_rows case h.records some)
+
+rows_within : (case : Parts) (h : History) (end : Option End) → h.end ≡ end → 1 ≤ length h.records → (end ≡ None → 2 ≤ length h.records) → ticks case h ≤ length case.nodes + redone case h
+rows_within case h None is some two = omega (arith, rows_without case h is (two refl))
+rows_within case h (Some end) is some two = rw is (most_rows case end.cause h.records some)
+
+-- how many records a whole history has
+pub record IsWhole (case : Parts) (h : History) : Type 0 where
+  pub some : 1 ≤ length h.records
+  pub two : h.end ≡ None → 2 ≤ length h.records
+
+pub whole_history : (case : Parts) → 1 ≤ case.run.steps → IsWhole case (history case)
+whole_history case some = record {
+  some = some_records case case.run.steps;
+  two = λ none. omega (arith, count case case.run.steps none, some);
+}
+
+from_rest : (m : Progress) → m.tried ≡ 0 → ticks m.case (history_of m) ≡ 0
+from_rest m fresh = ap (λ (n : ℕ). ticks m.case (history_upto m.case n)) fresh ∙ rest_ticks m.case
+
+to_whole : (m p : Progress) → p.case ≡ m.case → history_of p ≡ history p.case → history_of p ≡ history m.case
+to_whole m p same over = over ∙ ap (λ (c : Parts). history c) same
+
+ticks_whole : (m p : Progress) → p.case ≡ m.case → history_of p ≡ history p.case → ticks p.case (history_of p) ≡ ticks m.case (history m.case)
+ticks_whole m p same over = ap (λ (h : History). ticks p.case h) (to_whole m p same over) ∙ ap (λ (c : Parts). ticks c (history m.case)) same
+
+-- the rows of a run from rest on
+run-rows : (m p : Progress) (before after : ℕ) → HasTicked m p before after → p.case ≡ m.case → history_of p ≡ history p.case → IsWhole m.case (history m.case) → m.tried ≡ 0 → (history m.case).end ≡ None → after ≡ before + rows_of_run m.case
+run-rows m p before after ticked same over whole fresh none =
+    let here = ap (λ (h : History). h.end) (to_whole m p same over) ∙ none in
+    let all = ticked.all here in
+    omega (arith, all, from_rest m fresh, ticks_whole m p same over, rows_without m.case (history m.case) none (whole.two none))
+
+by_none : {X P : Type 0} (o : Option X) → (o ≡ None → P) → IfNone o P
+by_none None holds = holds refl
+by_none (Some x) holds = tt
+
+pub run-all : (m p : Progress) (before after : ℕ) (case : Parts) (n : ℕ) (over : Option End) → HasTicked m p before after → p.case ≡ m.case → history_of p ≡ history p.case → IsWhole m.case (history m.case)
+    → seen case n over ≡ p → (history_upto case (tried_of n over)).end ≡ over → m.tried ≡ 0 → IfNone over (after ≡ before + rows_of_run m.case)
+run-all m p before after case n over ticked same whole some view ended fresh =
+    let end : (history m.case).end ≡ over = ap (λ (h : History). h.end) (sym (to_whole m p same whole)) ∙ ap (λ (q : Progress). (history_of q).end) (sym view) ∙ ended in
+    by_none over (λ none. run-rows m p before after ticked same whole some fresh (end ∙ none))
+
+pub run-most : (m p : Progress) (before after : ℕ) → HasTicked m p before after → p.case ≡ m.case → history_of p ≡ history p.case → IsWhole m.case (history m.case) → m.tried ≡ 0 → after ≤ before + rows_of_run m.case
+run-most m p before after ticked same over whole fresh =
+    omega (arith, ticked.most, from_rest m fresh, ticks_whole m p same over, rows_within m.case (history m.case) (history m.case).end refl whole.some whole.two)
+
+-- the case of a machine stays
+pub steps_of : (m p : Progress) (case : Parts) (n : ℕ) (over : Option End) → p.case ≡ m.case → seen case n over ≡ p → 1 ≤ case.run.steps → 1 ≤ m.case.run.steps
+steps_of m p case n over same view some = subst (λ (c : Parts). 1 ≤ c.run.steps) (ap (λ (q : Progress). q.case) view ∙ same) some

@@ -1,6 +1,7 @@
 //! The machine of a case: one step after the other, from rest on.
 
 ghost use Rattle.std.specs.Prelude.{◌≡◌, ◌≢◌, ◌+◌, ◌<◌, ◌≤◌, length, None, IfErr, IfNone, IfOk, IfSome};
+ghost use Rattle.std.specs.Bool.{OnFalse, OnTrue};
 ghost use Rattle.emtp_machine.specs.History.{end_at, history, redone, rows_of_run, samples};
 ghost use Rattle.emtp_machine.specs.Machine.{HasTicked, IsEnd, MayStep, answer_of, history_of};
 ghost use Rattle.emtp_machine.specs.Next.{network_fault, node_name};
@@ -161,12 +162,19 @@ impl<'c> Machine<'c> {
         ensures rows { self.old.tried ≡ 0 → IfNone result (steps.new ≡ steps.old + rows_of_run self.old.case) }
         ensures most { self.old.tried ≡ 0 → steps.new ≤ steps.old + rows_of_run self.old.case }
     {
-        for _ in self.done()..self.case.parts.run.steps {
-            if let Err(end) = self.step(steps) {
-                return Some(end);
-            }
+        'steps: while !self.is_over() {
+            self.advance(steps);
         }
         self.end
+    }
+
+    /// Whether the run is over: its last step is made, or its end came.
+    pub fn is_over(&self) -> bool
+        ensures over { OnTrue result (history_of self.now ≡ history self.now.case) }
+        ensures running { OnFalse result ((history_of self.now).end ≡ None) }
+        ensures left { OnFalse result (self.now.tried < self.now.case.run.steps) }
+    {
+        self.end.is_some() || self.made == self.case.parts.run.steps
     }
 
     /// The number of steps that were made: rest is no step, and neither is that of an end.
