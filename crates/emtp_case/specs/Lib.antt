@@ -16,3 +16,4 @@ pub mod ChannelName
 pub mod StepRecord
 pub mod RowTable
 pub mod RowOrder
+pub mod RowKinds

@@ -83,6 +83,23 @@ impl RowOrder {
     {
         self.fixed
     }
+
+    /// Another one that says the same.
+    pub fn copy(&self, alloc: Global) -> Result<RowOrder, AllocError>
+        ensures { IfOk result (λ copy. copy ≡ self.now) }
+    {
+        Ok(RowOrder {
+            nodes: copied(alloc, &self.nodes)?,
+            rows: copied(alloc, &self.rows)?,
+            fixed: self.fixed,
+        })
+    }
+}
+
+fn copied(alloc: Global, list: &[u32]) -> Result<Vec<u32>, AllocError>
+    ensures { IfOk result (λ copy. copy.items ≡ list.now) }
+{
+    list.iter().copied().collect(alloc)
 }
 
 /// The order of the rows of a case.

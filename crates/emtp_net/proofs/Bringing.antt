@@ -24,7 +24,7 @@ use Rattle.emtp_net.specs.System.{taken, through}
 use Rattle.emtp_net.specs.declared.branches.Branches.{Branches}
 
 -- the state that is there
-there_is : {X Y : Type 0} (f : X → Y) (o : Option X) → IsSome (option_map f o) → (x : X) × (o ≡ Some x)
+pub there_is : {X Y : Type 0} (f : X → Y) (o : Option X) → IsSome (option_map f o) → (x : X) × (o ≡ Some x)
 there_is f (Some x) some = (x, refl)
 there_is f None some = absurd (cc)
 

@@ -15,16 +15,13 @@ use Rattle.emtp_net.specs.Moving.{IsFirstOut}
 use Rattle.emtp_net.specs.Part.{NetworkPart, first_out, name_of_branch, part_at, state_at, states_at, switch_currents_at, voltages_of}
 use Rattle.emtp_net.specs.Residual.{residual_of}
 use Rattle.emtp_net.specs.Step.{◌>>=◌, balanced, fault_by, first_beyond, first_unbalanced, moved, named, name_of_switch, network_part, solution, switched, unless, untied}
+use Rattle.emtp_net.specs.Stages.{AreVoltages, IsUntied}
 use Rattle.emtp_net.specs.System.{matrix, right}
 use Rattle.emtp_net.specs.declared.fault.NetFault.{NetFault}
 use Rattle.emtp_net.specs.declared.fault.NetFault.TheVariants.{Range, Residual, Tied}
 use Rattle.emtp_rows.specs.Nodal.{node_at}
 use Rattle.emtp_switch.specs.Groups.{tied_of}
 use Rattle.emtp_switch.specs.States.{next_states}
-
--- no two known voltages are tied in the next step
-abbrev pub IsUntied : Parts → List StepRecord → Type 0
-IsUntied case H = tied_of case.switches (order_of case) (next_states case H) ≡ None
 
 pub tied_ends : (case : Parts) (H : List StepRecord) (s n : ℕ) → tied_of case.switches (order_of case) (next_states case H) ≡ Some s → n ≡ name_of_switch case s → network_part case H ≡ Err (Tied n)
 unfolding network_part
@@ -43,13 +40,6 @@ row_ends case H fault e free is named_so = by_outcome case H _ free (outcome_row
 
 pub solve_ends : (case : Parts) (H : List StepRecord) (fault : SolveFault) (n : ℕ) → IsUntied case H → outcome (matrix case H) (right case H) ≡ Err (Solve fault) → n ≡ node_at case fault.row → network_part case H ≡ Err (Range n)
 solve_ends case H fault n free is node = by_outcome case H _ free is ∙ ap (λ m. Err (Range m)) (sym node)
-
--- the voltages of the next step are these
-pub record AreVoltages (case : Parts) (H : List StepRecord) (vs : List ℤ) : Type 0 where
-  pub free : IsUntied case H
-  pub x : List ℤ
-  pub solved : outcome (matrix case H) (right case H) ≡ Ok x
-  pub are : vs ≡ voltages_of case x
 
 by_voltages : (case : Parts) (H : List StepRecord) (vs : List ℤ) → AreVoltages case H vs → network_part case H ≡ (moved case H vs >>= (λ part. switched case part >>= (λ within. balanced case H within)))
 by_voltages case H vs are = by_outcome case H _ are.free are.solved ∙ ap (λ v. moved case H v >>= (λ part. switched case part >>= (λ within. balanced case H within))) (sym are.are)

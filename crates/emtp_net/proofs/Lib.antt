@@ -11,4 +11,9 @@ pub mod Bringing
 pub mod Residuals
 pub mod Conductances
 pub mod Ending
+pub mod Switching
+pub mod Factoring
+pub mod LineCurrents
+pub mod Resting
+pub mod Stepping
 mod Worked

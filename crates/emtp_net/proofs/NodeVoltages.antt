@@ -1,11 +1,14 @@
 -- Voltages by node.
-use Rattle.std.proofs.Common.{◌≡◌, ◌≢◌, ◌∙◌, sym, ap, ℕ, zero, suc, ◌+◌, ◌<◌, ◌==◌, ℤ, pos, List, ◌∷◌, length, map, slice_index, slice_set, get_or-set_same, get_or-set_other, refl, inl, inr, arith}
+use Rattle.std.proofs.Common.{◌≡◌, ◌≢◌, ◌∙◌, sym, ap, ℕ, zero, suc, ◌+◌, ◌<◌, ◌==◌, ◌≤◌, ℤ, pos, unsigned_abs, All, get_or, List, ◌∷◌, length, map, slice_index, slice_set, get_or-set_same, get_or-set_other, refl, inl, inr, arith}
 use Rattle.std.specs.List.{range_with_len, position_or_len}
 use Rattle.std.proofs.lemmas.Bool.{cases_eq}
 use Rattle.std.proofs.lemmas.List.{ext_get_or}
 use Rattle.std.proofs.lemmas.List.FromFn.{length-map-range_with_len, get_or-map-range_with_len}
 use Rattle.std.proofs.lemmas.List.Sums.{position_or_len_is}
-use Rattle.emtp_elim.specs.Matrix.{item}
+use Rattle.std.proofs.lemmas.Int.{ints}
+use Rattle.std.proofs.lemmas.List.Elements.{All-cons, All-map}
+use Rattle.emtp_elim.specs.Matrix.{AreWithin, item}
+use Rattle.emtp_fix.specs.declared.limit.TheConstants.{LARGEST_VALUE}
 use Rattle.emtp_case.specs.RowOrder.{order_of}
 use Rattle.emtp_case.specs.declared.case.Parts.{Parts}
 use Rattle.emtp_case.proofs.NodeOrder.{length-order_of}
@@ -38,3 +41,11 @@ voltages_all case x out long ground each =
         let e : k + 1 ≡ suc k = omega arith in
         let here = each k inside in
         rw e at here ∙ sym (get_or-map-range_with_len f 1 (length case.nodes) k (suc k) (pos 0) inside (omega arith))
+
+-- the voltages are as small as the unknowns
+pub voltages_small : (case : Parts) (x : List ℤ) → AreWithin LARGEST_VALUE x → All (λ v. unsigned_abs v ≤ LARGEST_VALUE) (voltages_of case x)
+unfolding voltages_of
+voltages_small case x small =
+    let ground : unsigned_abs (pos 0) ≤ LARGEST_VALUE = omega (arith, ints) in
+    All-cons (λ v. unsigned_abs v ≤ LARGEST_VALUE) (pos 0) (map (λ n. item x (row_at case n)) (range_with_len 1 (length case.nodes))) ground
+    (All-map (λ v. unsigned_abs v ≤ LARGEST_VALUE) (λ n. item x (row_at case n)) (range_with_len 1 (length case.nodes)) (λ k d inside. small (row_at case (get_or (range_with_len 1 (length case.nodes)) k d))))

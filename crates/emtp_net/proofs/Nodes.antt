@@ -11,6 +11,7 @@ use Rattle.emtp_elim.specs.Matrix.{item}
 use Rattle.emtp_case.specs.RowOrder.{Rows, order_of}
 use Rattle.emtp_case.specs.declared.case.Parts.{Parts}
 use Rattle.emtp_case.proofs.NodeOrder.{length-order_of}
+use Rattle.emtp_net.specs.Fault.{IsNode}
 use Rattle.emtp_rows.specs.Nodal.{node_at}
 use Rattle.emtp_rows.proofs.Orders.{is_number, isnt_number, node_low}
 use Rattle.emtp_rows.proofs.TermSteps.{IsRowOf}
@@ -65,3 +66,7 @@ branch_in held case at x same is = ap (λ (p : Parts). slice_get p.branches at) 
 -- the branch at a place fits the case
 pub branch_fits : (case : Parts) (at : ℕ) (x : Branch) → All (IsBranch case.run (sizes_of case) case.points) case.branches → at < length case.branches → slice_get case.branches at ≡ Some x → IsBranch case.run (sizes_of case) case.points x
 branch_fits case at x all there is = subst (IsBranch case.run (sizes_of case) case.points) (get_or_from_slice_get case.branches at x x is) (all at x there)
+
+-- what node_at says, of the case
+pub row_node : (case : Parts) (order : Rows) (node : ℕ) → order ≡ order_of case → 1 ≤ node → node ≤ length order.nodes → IsNode case node
+row_node case order node is low high = record { low = low; high = omega (arith, high, order_size case order is) }

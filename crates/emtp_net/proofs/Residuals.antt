@@ -1,5 +1,5 @@
 -- The residuals by row.
-use Rattle.std.proofs.Common.{◌≡◌, ◌∙◌, sym, ap, ℕ, ◌+◌, ◌<◌, ◌≤◌, ℤ, pos, neg_ℤ, ◌+ℤ◌, unsigned_abs, nat_lt, cond, true, false, Bool, List, length, map, get_or, position, Option, Some, None, refl, inl, inr, arith}
+use Rattle.std.proofs.Common.{◌≡◌, ◌∙◌, sym, ap, ℕ, ◌+◌, ◌<◌, ◌≤◌, ◌≤ℤ◌, IfSome, ℤ, pos, neg_ℤ, ◌+ℤ◌, unsigned_abs, nat_lt, cond, true, false, Bool, List, length, map, get_or, position, Option, Some, None, refl, inl, inr, arith}
 use Rattle.std.specs.List.{position_or_len, range_with_len}
 use Rattle.std.proofs.lemmas.Bool.Decides.{nat_tests}
 use Rattle.std.proofs.lemmas.Int.{ints}
@@ -100,3 +100,11 @@ judged case H branches kinds sums folded result are size long leave sum node abo
           above.is ∙ ap pos (magnitude p.0 inside),
           inside,
         )
+
+pub judged_there : (kinds : List RowKind) (sums : List ℤ) (limit : ℕ) (result : Option (ℕ × ℤ)) (n : ℕ) → length sums ≡ n → IsUnbalanced kinds sums limit result → IfSome result (λ p. p.0 < n)
+judged_there kinds sums limit None n long above = tt
+judged_there kinds sums limit (Some p) n long above = omega (arith, above.within, long)
+
+pub judged_magnitude : (kinds : List RowKind) (sums : List ℤ) (limit : ℕ) (result : Option (ℕ × ℤ)) → IsUnbalanced kinds sums limit result → IfSome result (λ p. pos 0 ≤ℤ p.1)
+judged_magnitude kinds sums limit None above = tt
+judged_magnitude kinds sums limit (Some p) above = omega (arith, ints, above.is)

@@ -8,4 +8,7 @@ pub mod Step
 pub mod Judging
 pub mod Branches
 pub mod Moving
+pub mod Fault
+pub mod Stages
+pub mod Holding
 pub mod Network

@@ -1,11 +1,12 @@
 -- Taking the voltages into one branch after the other.
 use Rattle.std.specs.Prelude.{◌≡◌, ◌+◌, ◌<◌, ◌≤◌, ◌∷◌, ℕ, ℤ, if◌then◌else◌, nat_lt, List, length, slice_get, slice_index, IsSome, Option, Some, None, Result, Ok, Err}
 use Rattle.emtp_case.specs.Branch.{first_of_trio}
-use Rattle.emtp_case.specs.StepRecord.{StepRecord, current_of, branch_current_at}
+use Rattle.emtp_case.specs.StepRecord.{StepRecord, branch_current_at, line_at, phase_state_at}
 use Rattle.emtp_case.specs.declared.branch.Branch.{Branch}
 use Rattle.emtp_case.specs.declared.branch.Branch.TheVariants.{Lumped as OfLumped, Line as OfLine, Pseudo as OfPseudo, Phase as OfPhase}
 use Rattle.emtp_case.specs.declared.branch.Line.{Line}
 use Rattle.emtp_case.specs.declared.branch.Lumped.{Lumped}
+use Rattle.emtp_case.specs.declared.branch.Phase.{Phase}
 use Rattle.emtp_case.specs.declared.branch.Pseudo.{Pseudo}
 use Rattle.emtp_case.specs.declared.case.Parts.{Parts}
 use Rattle.emtp_elim.specs.Matrix.{item}
@@ -81,3 +82,8 @@ pub record HaveMoved (s : Branches) (currents : List ℤ) (case : Parts) (H : Li
   pub in_range : (b : ℕ) → b < length case.branches → IsSome (state_at case H vs b)
   pub stands : (r : StepRecord) → IsNext case H vs r → StandsFor s (r ∷ H)
   pub are_currents : (r : StepRecord) → IsNext case H vs r → AreCurrents case currents r (length case.branches)
+
+-- the branch current of a line, and of a phase, is the one into its first end
+pub record AreLineCurrents (case : Parts) (r : StepRecord) : Type 0 where
+  pub lines : (b : ℕ) (x : Line) → lined.IsLineAt case b x → branch_current_at b r ≡ (line_at b r).from_current
+  pub phases : (b : ℕ) (x : Phase) → lined.IsPhaseAt case b x → branch_current_at b r ≡ (phase_state_at b r).from_current

@@ -1,18 +1,24 @@
 //! All branches of a case, by their laws.
 
-ghost use Rattle.std.specs.Prelude.{◌≡◌, ◌+◌, ◌^◌, ◌<◌, ◌≤◌, neg_ℤ, false, true, ℕ, ℤ, List, length, slice_get, unsigned_abs, IfErr, IfOk, OnOk};
-ghost use Rattle.emtp_case.specs.StepRecord.{StepRecord};
+ghost use Rattle.std.specs.Prelude.{◌≡◌, ◌+◌, ◌^◌, ◌<◌, ◌≤◌, ◌∷◌, [], neg_ℤ, false, true, ℕ, ℤ, List, length, slice_get, unsigned_abs, IfErr, IfOk, OnOk};
+ghost use Rattle.emtp_case.specs.StepRecord.{StepRecord, branch_current_at, rest_of};
 ghost use Rattle.emtp_fix.specs.declared.limit.TheConstants.{LARGEST_ENTRY};
 ghost use Rattle.emtp_net.specs.Branches.{HasCase, StandsFor};
-ghost use Rattle.emtp_net.specs.Moving.{HasMoved, HasStopped, HaveMoved, IsFirstOut, IsNext, StandsBefore};
+ghost use Rattle.emtp_net.specs.Fault.{NamesNode};
+ghost use Rattle.emtp_net.specs.Redone.{step_redone};
+ghost use Rattle.emtp_net.specs.Stages.{AreVoltages, Ends};
+ghost use Rattle.emtp_net.specs.Moving.{AreCurrents, AreLineCurrents, HasMoved, HasStopped, HaveMoved, IsFirstOut, IsNext, StandsBefore};
 ghost use Rattle.emtp_net.specs.Part.{brought_by, phase_voltages};
 ghost use Rattle.emtp_net.specs.System.{conductance_by, history_at, taken, through};
 
+use crate::fault::NetFault;
+use crate::names::branch_name;
 use emtp_case::{Branch, Case};
 use emtp_line::Lines;
 use emtp_lumped::Lumps;
 use emtp_pseudo::Pseudos;
 use emtp_rows::phase_node;
+use std::alloc::{AllocError, Global};
 
 /// The branches of a case, each kind in the hands of its law.
 #[derive(Drop)]
@@ -26,6 +32,21 @@ pub(crate) struct Branches<'a> {
 }
 
 impl<'a> Branches<'a> {
+    /// All branches at rest, as record 0 has them.
+    pub(crate) fn open(alloc: Global, case: &'a Case) -> Result<Branches<'a>, AllocError>
+        ensures same { IfOk result (λ branches. HasCase branches case.now.parts) }
+        ensures rest { IfOk result (λ branches. StandsFor branches (rest_of case.now.parts ∷ [])) }
+    {
+        let lumps = Lumps::open(alloc, case)?;
+        let lines = Lines::open(alloc, case)?;
+        let pseudos = Pseudos::open(alloc, case)?;
+        Ok(Branches {
+            lumps,
+            lines,
+            pseudos,
+        })
+    }
+
     /// The conductance of a branch in the next step, in pS: from 0 to 10^17.
     pub(crate) fn conductance(&self, case: &Case, at: usize) -> i64
         requires same { HasCase self.now case.now.parts }
@@ -64,6 +85,7 @@ impl<'a> Branches<'a> {
         requires each { length voltages.now ≡ length case.now.parts.nodes + 1 }
         requires there { at < length case.now.parts.branches }
         ensures same { HasCase self.new case.now.parts }
+        ensures there { IfErr result (λ out. out < length case.now.parts.branches) }
         ensures moved { (H : List StepRecord) → StandsBefore self.old case.now.parts H voltages.now at → IfOk result (HasMoved self.old self.new case.now.parts H voltages.now at) }
         ensures stopped { (H : List StepRecord) → StandsBefore self.old case.now.parts H voltages.now at → IfErr result (HasStopped case.now.parts H voltages.now at) }
     {
@@ -111,7 +133,7 @@ impl<'a> Branches<'a> {
 
     /// Takes the node voltages in nV into all branches, in card order, and writes the currents of series branches and
     /// pseudo-nonlinear ones in nA. An error is the first branch that is out of range.
-    pub(crate) fn accept_all(
+    fn accept_all(
         &mut self,
         case: &Case,
         voltages: &[i64],
@@ -121,6 +143,7 @@ impl<'a> Branches<'a> {
         requires each { length voltages.now ≡ length case.now.parts.nodes + 1 }
         requires currents { length currents.old ≡ length case.now.parts.branches }
         ensures same { HasCase self.new case.now.parts }
+        ensures there { IfErr result (λ out. out < length case.now.parts.branches) }
         ensures moved { (H : List StepRecord) → StandsFor self.old H → OnOk result (HaveMoved self.new currents.new case.now.parts H voltages.now) }
         ensures stopped { (H : List StepRecord) → StandsFor self.old H → IfErr result (IsFirstOut case.now.parts H voltages.now) }
     {
@@ -131,6 +154,43 @@ impl<'a> Branches<'a> {
             }
         }
         Ok(())
+    }
+
+    /// The same, where an error is the fault that the branch is named by.
+    pub(crate) fn accept(
+        &mut self,
+        case: &Case,
+        voltages: &[i64],
+        currents: &mut [i64],
+    ) -> Result<(), NetFault>
+        requires same { HasCase self.old case.now.parts }
+        requires each { length voltages.now ≡ length case.now.parts.nodes + 1 }
+        requires currents { length currents.old ≡ length case.now.parts.branches }
+        ensures same { HasCase self.new case.now.parts }
+        ensures moved { (H : List StepRecord) → StandsFor self.old H → OnOk result (HaveMoved self.new currents.new case.now.parts H voltages.now) }
+        ensures ends { (H : List StepRecord) → StandsFor self.old H → AreVoltages case.now.parts H voltages.now → IfErr result (Ends case.now.parts H (step_redone case.now.parts H)) }
+        ensures node { IfErr result (NamesNode case.now.parts) }
+    {
+        match self.accept_all(case, voltages, currents) {
+            Ok(()) => Ok(()),
+            Err(at) => Err(NetFault::Range(branch_name(case, at))),
+        }
+    }
+
+    /// The current of a branch in the last record, in nA: into a line at its first end. `currents` has those of series
+    /// branches and pseudo-nonlinear ones.
+    pub(crate) fn current(&self, case: &Case, currents: &[i64], at: usize) -> i64
+        requires same { HasCase self.now case.now.parts }
+        requires currents { length currents.now ≡ length case.now.parts.branches }
+        requires there { at < length case.now.parts.branches }
+        ensures { (r : StepRecord) (past : List StepRecord) → StandsFor self.now (r ∷ past) → AreCurrents case.now.parts currents.now r (length case.now.parts.branches) → AreLineCurrents case.now.parts r → result ≡ branch_current_at at r }
+    {
+        match case.parts.branches.as_slice()[at] {
+            Branch::Lumped(_) => currents[at],
+            Branch::Line(_) => self.lines.end_currents(at).0,
+            Branch::Pseudo(_) => currents[at],
+            Branch::Phase(_) => self.lines.end_currents(at).0,
+        }
     }
 
     /// What a branch brings to its two nodes by its currents of the last record, in nA. `currents` has those of series

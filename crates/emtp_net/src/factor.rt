@@ -1,16 +1,23 @@
 //! The factor, brought up to date from the first row that changed.
 
 ghost use Rattle.std.specs.Prelude.{◌≡◌, ◌+◌, ◌-◌, ◌*◌, ◌^◌, ◌≤◌, ◌<◌, ◌==◌, List, length, if◌then◌else◌, OnOk, IfErr};
+ghost use Rattle.emtp_case.specs.RowOrder.{order_of};
 ghost use Rattle.emtp_case.specs.StepRecord.{StepRecord};
 ghost use Rattle.emtp_elim.specs.Fault.{IsRowFault};
 ghost use Rattle.emtp_net.specs.Branches.{HasCase, StandsFor as BranchesStandFor};
-ghost use Rattle.emtp_net.specs.System.{conductances};
+ghost use Rattle.emtp_net.specs.Fault.{NamesNode};
+ghost use Rattle.emtp_net.specs.Holding.{HoldsRows};
+ghost use Rattle.emtp_net.specs.Redone.{step_redone, step_ticks};
+ghost use Rattle.emtp_net.specs.Stages.{Ends, IsReady};
+ghost use Rattle.emtp_net.specs.System.{conductances, couplings, matrix};
 ghost use Rattle.emtp_rows.specs.Nodal.{nodal_matrix};
 ghost use Rattle.emtp_rows.specs.Touched.{StandsUntouched, Touches};
 ghost use Rattle.emtp_tail.specs.Good.{first_change};
 
 use crate::branches::Branches;
-use emtp_case::Case;
+use crate::fault::NetFault;
+use crate::names::row_fault;
+use emtp_case::{Case, RowOrder};
 use emtp_elim::RowFault;
 use emtp_fix::Steps;
 use emtp_rows::NetRows;
@@ -31,7 +38,7 @@ fn count(redone: &mut u64, made: u32, rows: usize)
 
 /// Makes the factor that of the rows as they are now. Rows before the first touched one are neither filled nor compared,
 /// and where none was touched nothing is done.
-pub(crate) fn follow<L: Ledger>(
+fn follow<L: Ledger>(
     rows: &mut NetRows<'_>,
     kept: &mut Kept,
     made: u32,
@@ -62,7 +69,7 @@ pub(crate) fn follow<L: Ledger>(
 }
 
 /// Gives the rows the conductances of the next step.
-pub(crate) fn set_conductances(case: &Case, branches: &Branches<'_>, rows: &mut NetRows<'_>)
+fn set_conductances(case: &Case, branches: &Branches<'_>, rows: &mut NetRows<'_>)
     requires same { HasCase branches.now case.now.parts }
     requires rows { rows.old.nodal.case ≡ case.now.parts }
     requires own { length rows.old.nodal.own ≡ length case.now.parts.branches }
@@ -73,5 +80,50 @@ pub(crate) fn set_conductances(case: &Case, branches: &Branches<'_>, rows: &mut 
 {
     for at in 0..case.parts.branches.len() {
         rows.set_conductance(at, branches.conductance(case, at));
+    }
+}
+
+/// Gives the rows the mutual conductances of the three-phase lines, which are the same in all steps.
+pub(crate) fn set_couplings(case: &Case, branches: &Branches<'_>, rows: &mut NetRows<'_>)
+    requires same { HasCase branches.now case.now.parts }
+    requires rows { rows.old.nodal.case ≡ case.now.parts }
+    requires coupling { length rows.old.nodal.coupling ≡ length case.now.parts.trios }
+    ensures { rows.new.nodal ≡ record rows.old.nodal { coupling = couplings case.now.parts } }
+{
+    for trio in 0..case.parts.trios.len() {
+        rows.set_mutual(trio, branches.lines.mutual(trio));
+    }
+}
+
+/// Makes the factor that of the next step's matrix, once the rows have their kinds.
+pub(crate) fn factor<L: Ledger>(
+    case: &Case,
+    order: &RowOrder,
+    branches: &Branches<'_>,
+    rows: &mut NetRows<'_>,
+    kept: &mut Kept,
+    made: u32,
+    redone: &mut u64,
+    steps: &mut Steps<L>,
+) -> Result<(), NetFault>
+    requires order { order.now ≡ order_of case.now.parts }
+    requires same { HasCase branches.now case.now.parts }
+    requires rows { HoldsRows case.now.parts rows.old kept.old }
+    requires few { redone.old ≤ 10 ^ 12 }
+    ensures rows { HoldsRows case.now.parts rows.new kept.new }
+    ensures all { OnOk result (length kept.new.rows ≡ length case.now.parts.nodes) }
+    ensures made { (H : List StepRecord) → IsReady case.now.parts H branches.now rows.old kept.old made → OnOk result (kept.new.rows ≡ matrix case.now.parts H) }
+    ensures ends { (H : List StepRecord) → IsReady case.now.parts H branches.now rows.old kept.old made → IfErr result (Ends case.now.parts H (step_redone case.now.parts H)) }
+    ensures redone { (H : List StepRecord) → IsReady case.now.parts H branches.now rows.old kept.old made → redone.new ≡ redone.old + step_redone case.now.parts H }
+    ensures ticks { (H : List StepRecord) → IsReady case.now.parts H branches.now rows.old kept.old made → OnOk result (steps.new ≡ steps.old + step_ticks case.now.parts H) }
+    ensures most { (H : List StepRecord) → IsReady case.now.parts H branches.now rows.old kept.old made → steps.new ≤ steps.old + step_ticks case.now.parts H }
+    ensures few { redone.new ≤ redone.old + 1000 }
+    ensures few_ticks { steps.new ≤ steps.old + 1000 }
+    ensures node { IfErr result (NamesNode case.now.parts) }
+{
+    set_conductances(case, branches, rows);
+    match follow(rows, kept, made, redone, steps) {
+        Ok(()) => Ok(()),
+        Err(fault) => Err(row_fault(case, order, fault)),
     }
 }

@@ -1,15 +1,17 @@
 //! The network of a case.
 
-ghost use Rattle.std.specs.Prelude.{◌≡◌, ◌+◌, ◌*◌, ◌<◌, ◌≤◌, ◌∷◌, [], ℕ, ℤ, pos, All, List, length, replicate, slice_get, unsigned_abs, IfErr, IfOk, OnOk};
-ghost use Rattle.emtp_case.specs.RowOrder.{order_of};
-ghost use Rattle.emtp_case.specs.StepRecord.{StepRecord, branch_current_at, latest, rest_of};
-ghost use Rattle.emtp_net.specs.Network.{NamesNode, StandsFor, StepsTo};
+ghost use Rattle.std.specs.Prelude.{◌≡◌, ◌+◌, ◌*◌, ◌<◌, ◌≤◌, ◌∷◌, [], List, length, map, IfErr, IfOk, OnOk};
+ghost use Rattle.emtp_case.specs.StepRecord.{StepRecord, branch_current_at, is_closed, latest, rest_of};
+ghost use Rattle.emtp_net.specs.Fault.{NamesNode};
+ghost use Rattle.emtp_net.specs.Network.{StandsFor, StepsTo};
 ghost use Rattle.emtp_net.specs.Redone.{step_ticks};
 ghost use Rattle.emtp_net.specs.Step.{network_part};
 
 use crate::branches::Branches;
+use crate::factor::{factor, set_couplings};
 use crate::fault::NetFault;
-use emtp_case::{Case, RowKind, RowOrder, order};
+use crate::nodal_system::{NodalSystem, zeros};
+use emtp_case::{Case, RowOrder, order};
 use emtp_fix::Steps;
 use emtp_rows::NetRows;
 use emtp_switch::Switches;
@@ -19,10 +21,9 @@ use std::alloc::{AllocError, Global};
 use std::marker::Model;
 use std::sync::ledger::Ledger;
 
-/// The network of a case, at its last step.
+/// The network of a case, at its last step (Dommel 1969).
 ///
-/// `kinds`, `values`, `right` and `x` are room for one step: the kinds of the rows, the values of the sources, the right
-/// side or what leaves each node, and the unknowns. `places` has for each row the place of its node's voltage source.
+/// `currents` has the currents of series branches and pseudo-nonlinear ones; those of lines are kept by their laws.
 #[derive(Drop)]
 pub struct Network<'a> {
     case: &'a Case,
@@ -30,13 +31,9 @@ pub struct Network<'a> {
     table: CosTable,
     branches: Branches<'a>,
     switches: Switches<'a>,
+    system: NodalSystem,
     rows: NetRows<'a>,
     kept: Kept,
-    kinds: Vec<RowKind>,
-    places: Vec<u32>,
-    values: Vec<i64>,
-    right: Vec<i128>,
-    x: Vec<i64>,
     voltages: Vec<i64>,
     currents: Vec<i64>,
     switch_currents: Vec<i64>,
@@ -46,7 +43,8 @@ pub struct Network<'a> {
 }
 
 impl<'a> Model for Network<'a> {
-    ghost use Rattle.emtp_net.specs.Network.{Net, HoldsTogether};
+    ghost use Rattle.emtp_net.specs.Holding.{HoldsTogether};
+    ghost use Rattle.emtp_net.specs.Network.{Net};
 
     ghost Value = { Net };
 
@@ -56,7 +54,7 @@ impl<'a> Model for Network<'a> {
 
     ghost view = { λ s. record { case = s.case.now.parts; branches = s.branches; switches = s.switches; rows = s.rows; kept = s.kept; voltages = s.voltages.items; currents = s.currents.items; switch_currents = s.switch_currents.items; closed = s.closed.items; made = s.made; redone = s.redone } };
 
-    ghost invariant = { λ s. HoldsTogether s.case.now.parts s.order s.branches s.switches s.rows s.kept s.kinds.items s.places.items s.values.items s.right.items s.x.items s.voltages.items s.currents.items s.switch_currents.items s.closed.items s.made s.redone };
+    ghost invariant = { λ s. HoldsTogether s.case.now.parts s.order s.branches s.switches s.system s.rows s.kept s.voltages.items s.currents.items s.switch_currents.items s.closed.items s.made s.redone };
 }
 
 impl<'a> Network<'a> {
@@ -65,7 +63,30 @@ impl<'a> Network<'a> {
         ensures case { IfOk result (λ network. network.case ≡ case.now.parts) }
         ensures rest { IfOk result (λ network. StandsFor network (rest_of case.now.parts ∷ [])) }
     {
-        loop {}
+        let order = order(alloc, case)?;
+        let branches = Branches::open(alloc, case)?;
+        let switches = Switches::open(alloc, case, &order)?;
+        let mut rows = NetRows::open(alloc, case, &order)?;
+        set_couplings(case, &branches, &mut rows);
+        let kept = Kept::open(alloc, &rows)?;
+        let system = NodalSystem::open(alloc, case, &order)?;
+        let closed = closed_at_rest(alloc, case, &switches)?;
+        Ok(Network {
+            case,
+            order,
+            table: CosTable::open(alloc)?,
+            branches,
+            switches,
+            system,
+            rows,
+            kept,
+            voltages: zeros(alloc, case.parts.nodes.len() + 1)?,
+            currents: zeros(alloc, case.parts.branches.len())?,
+            switch_currents: zeros(alloc, case.parts.switches.len())?,
+            closed,
+            made: 0,
+            redone: 0,
+        })
     }
 
     /// Makes the next step, with the values of the control of the record before. It answers the first fault, with the
@@ -84,7 +105,48 @@ impl<'a> Network<'a> {
         ensures few_ticks { steps.new ≤ steps.old + 1000 }
         ensures node { IfErr result (NamesNode self.old.case) }
     {
-        loop {}
+        let made = self.made;
+        self.made += 1;
+        self.system.decide(
+            self.case,
+            &mut self.switches,
+            &mut self.rows,
+            self.made,
+            &self.voltages,
+            &self.switch_currents,
+            tacs,
+        )?;
+        factor(
+            self.case,
+            &self.order,
+            &self.branches,
+            &mut self.rows,
+            &mut self.kept,
+            made,
+            &mut self.redone,
+            steps,
+        )?;
+        self.system
+            .set_sources(self.case, &self.table, self.made, tacs);
+        self.system.solve(
+            self.case,
+            &self.order,
+            &self.branches,
+            &self.kept,
+            &mut self.voltages,
+        )?;
+        self.branches
+            .accept(self.case, &self.voltages, &mut self.currents)?;
+        self.system.find_currents(
+            self.case,
+            &self.order,
+            &self.branches,
+            &self.currents,
+            &mut self.switches,
+            &mut self.switch_currents,
+        )?;
+        self.switches.write_closed(&mut self.closed);
+        self.system.judge(self.case, &self.order)
     }
 
     /// The node voltages of the last record by node number, ground first, in nV: to 10^18 in magnitude.
@@ -135,4 +197,18 @@ impl<'a> Network<'a> {
     {
         &self.kept
     }
+}
+
+/// Whether each switch is closed in record 0.
+fn closed_at_rest(
+    alloc: Global,
+    case: &Case,
+    switches: &Switches<'_>,
+) -> Result<Vec<bool>, AllocError>
+    requires { switches.now.case ≡ case.now.parts }
+    ensures { IfOk result (λ closed. closed.items ≡ map is_closed switches.now.states) }
+{
+    let mut closed = vec![in alloc; false; case.parts.switches.len()]?;
+    switches.write_closed(&mut closed);
+    Ok(closed)
 }

@@ -1,6 +1,6 @@
 //! The residuals of a step.
 
-ghost use Rattle.std.specs.Prelude.{◌≡◌, ◌^◌, ◌<◌, ◌≤◌, ◌+◌, ◌≤ℤ◌, ℕ, ℤ, List, pos, neg_ℤ, length, slice_get, unsigned_abs};
+ghost use Rattle.std.specs.Prelude.{◌≡◌, ◌^◌, ◌<◌, ◌≤◌, ◌+◌, ◌≤ℤ◌, ℕ, ℤ, List, pos, neg_ℤ, length, slice_get, unsigned_abs, IfSome};
 ghost use Rattle.emtp_elim.specs.Matrix.{item};
 ghost use Rattle.emtp_case.specs.RowOrder.{order_of};
 ghost use Rattle.emtp_case.specs.StepRecord.{BranchState, StepRecord};
@@ -111,7 +111,9 @@ pub(crate) fn judge(case: &Case, kinds: &[RowKind], leaving: &mut [i128]) -> Opt
     requires kinds { length kinds.now ≡ length case.now.parts.nodes }
     requires leaving { length leaving.old ≡ length case.now.parts.nodes }
     requires small { (j : ℕ) → j < length leaving.old → unsigned_abs (item leaving.old j) ≤ 10 ^ 24 }
-    ensures { (H : List StepRecord) (branches : List BranchState) → kinds.now ≡ kinds_of case.now.parts H → leaving.old ≡ leaving_rows case.now.parts H branches → Judges result case.now.parts H branches }
+    ensures judges { (H : List StepRecord) (branches : List BranchState) → kinds.now ≡ kinds_of case.now.parts H → leaving.old ≡ leaving_rows case.now.parts H branches → Judges result case.now.parts H branches }
+    ensures there { IfSome result (λ p. p.0 < length case.now.parts.nodes) }
+    ensures magnitude { IfSome result (λ p. pos 0 ≤ℤ p.1) }
 {
     fold(kinds, leaving);
     first_above(kinds, leaving, case.parts.run.tolerance)

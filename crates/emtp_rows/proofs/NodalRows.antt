@@ -20,7 +20,8 @@ use Rattle.emtp_case.specs.declared.row_kind.RowKind.TheVariants.{Kcl, Sum, Tie,
 use Rattle.emtp_rows.specs.declared.term.Term.{Term}
 use Rattle.emtp_rows.specs.Sums.{sum_below, total}
 use Rattle.emtp_rows.specs.Nodal.{Nodal, between, node_at, current_entry, group_sum, entry_by, is_member, kind_at, unit, nodal_matrix}
-use Rattle.emtp_rows.specs.Terms.{in_node, terms_at, IsHeld, IsSmall, HasAllTerms, AreKinds, AreRowTerms, TieIsThere, kinds_from, in_column, filled_entry}
+use Rattle.emtp_case.specs.RowKinds.{AreKinds, TieIsThere}
+use Rattle.emtp_rows.specs.Terms.{in_node, terms_at, IsHeld, IsSmall, HasAllTerms, AreRowTerms, kinds_from, in_column, filled_entry}
 use Rattle.emtp_rows.proofs.Totals.{sum_below_small, sum_below_same}
 use Rattle.emtp_rows.proofs.Filled.{row_total_small}
 use Rattle.emtp_rows.proofs.Orders.{fixed_within}

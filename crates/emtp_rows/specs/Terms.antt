@@ -5,6 +5,7 @@ use Rattle.emtp_fix.specs.declared.limit.TheConstants.{LARGEST_ENTRY}
 use Rattle.emtp_elim.specs.Matrix.{item}
 use Rattle.emtp_case.specs.Branch.{from_of, to_of}
 use Rattle.emtp_case.specs.RowOrder.{order_of}
+use Rattle.emtp_case.specs.RowKinds.{AreKinds}
 use Rattle.emtp_case.specs.declared.branch.Branch.{Branch}
 use Rattle.emtp_case.specs.declared.branch.Branch.TheVariants.{Lumped as OfLumped, Line as OfLine, Pseudo as OfPseudo, Phase as OfPhase}
 use Rattle.emtp_case.specs.declared.case.Parts.{Parts}
@@ -14,7 +15,7 @@ use Rattle.emtp_rows.specs.declared.term.Amount.{Amount}
 use Rattle.emtp_rows.specs.declared.term.Amount.TheVariants.{Own, Turned, Mutual}
 use Rattle.emtp_rows.specs.declared.term.Term.{Term}
 use Rattle.emtp_rows.specs.Sums.{sum_below, total}
-use Rattle.emtp_rows.specs.Nodal.{Nodal, end_node, is_member, kind_at, node_at, phase_node, unit}
+use Rattle.emtp_rows.specs.Nodal.{Nodal, end_node, is_member, node_at, phase_node, unit}
 use Rattle.emtp_rows.specs.Touched.{row_at}
 
 -- ---- the terms of a branch
@@ -91,20 +92,6 @@ HasAllTerms case rows = (i : ℕ) → i < length rows → HasTerms case (node_at
 -- a conductance in its range
 abbrev pub IsSmall : ℤ → Type 0
 IsSmall g = unsigned_abs g ≤ LARGEST_ENTRY
-
--- a tie names one of the rows
-abbrev pub TieIsThere : ℕ → RowKind → Type 0
-TieIsThere size Kcl = Unit {0}
-TieIsThere size Sum = Unit {0}
-TieIsThere size (Tie row) = row < size
-TieIsThere size Ground = Unit {0}
-TieIsThere size Source = Unit {0}
-
--- the kinds of rows of a matrix: the first ones, and those alone, have a source
-pub record AreKinds (size fixed : ℕ) (kinds : List RowKind) : Type 0 where
-  pub count : length kinds ≡ size
-  pub sources : (i : ℕ) → i < fixed → kind_at kinds i ≡ Source
-  pub ties : All (TieIsThere size) kinds
 
 -- the rows of the two nodes of a branch
 abbrev pub end_rows : Parts → Branch → ℕ × ℕ

@@ -4,9 +4,10 @@ ghost use Rattle.std.specs.Prelude.{◌≡◌, ◌<◌, ◌≤◌, ◌+◌, ℕ,
 ghost use Rattle.emtp_fix.specs.declared.limit.TheConstants.{LARGEST_ENTRY};
 ghost use Rattle.emtp_elim.specs.Matrix.{item};
 ghost use Rattle.emtp_case.specs.Branch.{first_of_trio};
+ghost use Rattle.emtp_case.specs.RowKinds.{AreKinds};
 ghost use Rattle.emtp_case.specs.RowOrder.{order_of};
 ghost use Rattle.emtp_rows.specs.Nodal.{Nodal};
-ghost use Rattle.emtp_rows.specs.Terms.{AreKinds, kinds_from, nodal_at_rest};
+ghost use Rattle.emtp_rows.specs.Terms.{kinds_from, nodal_at_rest};
 ghost use Rattle.emtp_rows.specs.Touched.{NodalRows, Touches, equation_row};
 
 use crate::fill::fill_row;

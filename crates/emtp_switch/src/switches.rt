@@ -1,9 +1,10 @@
 //! The switches of a case.
 
-ghost use Rattle.std.specs.Prelude.{◌≡◌, ◌≢◌, ◌≤◌, ◌<◌, ◌+◌, ◌∷◌, [], ◌^◌, false, true, List, None, Some, length, map, unsigned_abs, IfErr, IfOk};
+ghost use Rattle.std.specs.Prelude.{◌≡◌, ◌≢◌, ◌≤◌, ◌<◌, ◌+◌, ◌∷◌, [], ◌^◌, false, true, List, None, Some, length, map, pos, replicate, unsigned_abs, IfErr, IfOk};
 ghost use Rattle.std.specs.List.{All};
+ghost use Rattle.emtp_case.specs.RowKinds.{AreKinds};
 ghost use Rattle.emtp_case.specs.RowOrder.{IsRowOrder};
-ghost use Rattle.emtp_case.specs.StepRecord.{StepRecord, rest_of, starting_state};
+ghost use Rattle.emtp_case.specs.StepRecord.{StepRecord, is_closed, rest_of, starting_state};
 ghost use Rattle.emtp_case.specs.declared.switch.Switch.{Switch as SwitchCard};
 ghost use Rattle.emtp_fix.specs.declared.limit.TheConstants.{LARGEST_VALUE};
 ghost use Rattle.emtp_switch.specs.Currents.{Balances, IsFirstBeyond, currents_of};
@@ -33,7 +34,7 @@ pub struct Tied {
 #[derive(Drop)]
 pub struct Switches<'a> {
     case: &'a Case,
-    order: &'a RowOrder,
+    order: RowOrder,
     plan: Plan,
     groups: Groups,
     states: Vec<SwitchState>,
@@ -52,17 +53,17 @@ impl<'a> Model for Switches<'a> {
 
     ghost coded = { Prim.hlevel codes };
 
-    ghost view = { λ s. record { case = s.case.now.parts; rows = s.order.now; states = s.states.items; before = s.before.items; changed = s.changed } };
+    ghost view = { λ s. record { case = s.case.now.parts; rows = s.order; states = s.states.items; before = s.before.items; changed = s.changed } };
 
-    ghost invariant = { λ s. IsSwitching s.case.now.parts s.order.now s.plan s.groups s.states.items s.before.items s.rest.items s.flows.items };
+    ghost invariant = { λ s. IsSwitching s.case.now.parts s.order s.plan s.groups s.states.items s.before.items s.rest.items s.flows.items };
 }
 
 impl<'a> Switches<'a> {
-    /// The switches of record 0.
+    /// The switches of record 0. They keep their own copy of the row order.
     pub fn open(
         alloc: Global,
         case: &'a Case,
-        order: &'a RowOrder,
+        order: &RowOrder,
     ) -> Result<Switches<'a>, AllocError>
         requires order { IsRowOrder case.now.parts order.now }
         ensures case { IfOk result (λ s. s.case ≡ case.now.parts) }
@@ -71,16 +72,18 @@ impl<'a> Switches<'a> {
     {
         let count = case.parts.switches.len();
         let states = starting_states(alloc, case)?;
+        let before = no_currents(alloc, count)?;
+        let rows = order.copy(alloc)?;
         let plan = Plan::open(alloc, case, order)?;
         let mut groups = Groups::room(alloc, case)?;
         groups.regroup(case, order, &plan, &states);
         Ok(Switches {
             case,
-            order,
+            order: rows,
             plan,
             groups,
             states,
-            before: vec![in alloc; 0i64; count]?,
+            before,
             changed: true,
             rest: vec![in alloc; 0i128; case.parts.nodes.len() + 1]?,
             flows: vec![in alloc; 0i128; count]?,
@@ -113,7 +116,7 @@ impl<'a> Switches<'a> {
         self.before.copy_from_slice(currents);
         if self.changed {
             self.groups
-                .regroup(self.case, self.order, &self.plan, &self.states);
+                .regroup(self.case, &self.order, &self.plan, &self.states);
         }
     }
 
@@ -123,6 +126,14 @@ impl<'a> Switches<'a> {
         ensures { result ≡ is_closed_at self.now.states switch }
     {
         is_closed(self.states[switch])
+    }
+
+    /// Writes for each switch whether it is closed.
+    pub fn write_closed(&self, out: &mut [bool])
+        requires { length out.old ≡ length self.now.case.switches }
+        ensures { out.new ≡ map is_closed self.now.states }
+    {
+        mark_closed(&self.states, out);
     }
 
     /// Whether the last `decide` gave a switch another state, so that kinds may differ; after `open` it is true.
@@ -136,8 +147,10 @@ impl<'a> Switches<'a> {
     pub fn kinds(&self, out: &mut [RowKind]) -> Result<(), Tied>
         requires { length out.old ≡ length self.now.case.nodes }
         ensures kinds { IfOk result (λ done. out.new ≡ kinds_of self.now.case self.now.rows self.now.states) }
+        ensures are { self.now.rows.fixed ≤ length self.now.case.nodes → IfOk result (λ done. AreKinds (length self.now.case.nodes) self.now.rows.fixed out.new) }
         ensures untied { IfOk result (λ done. tied_of self.now.case.switches self.now.rows self.now.states ≡ None) }
         ensures tied { IfErr result (λ e. tied_of self.now.case.switches self.now.rows self.now.states ≡ Some e.switch) }
+        ensures there { IfErr result (λ e. e.switch < length self.now.case.switches) }
     {
         match self.groups.tied {
             Some(switch) => Err(Tied {
@@ -167,6 +180,21 @@ impl<'a> Switches<'a> {
         let links = &self.groups.links[..self.groups.link_count];
         sweep(links, &mut self.rest, &mut self.flows);
         narrow(&self.flows, out)
+    }
+}
+
+fn no_currents(alloc: Global, count: usize) -> Result<Vec<i64>, AllocError>
+    ensures { IfOk result (λ currents. currents.items ≡ replicate count (pos 0)) }
+{
+    vec![in alloc; 0i64; count]
+}
+
+fn mark_closed(states: &[SwitchState], out: &mut [bool])
+    requires { length out.old ≡ length states.now }
+    ensures { out.new ≡ map is_closed states.now }
+{
+    for s in 0..states.len() {
+        out[s] = is_closed(states[s]);
     }
 }
 

@@ -7,9 +7,10 @@ use Rattle.emtp_elim.specs.Matrix.{item}
 use Rattle.emtp_line.specs.Lines as lined
 use Rattle.emtp_lumped.specs.Lumps as lumped
 use Rattle.emtp_pseudo.specs.Pseudos as pseudo
-use Rattle.emtp_net.proofs.Moves.{line_moves, line_stops, lumped_moves, lumped_stops, pseudo_moves, pseudo_stops}
-use Rattle.emtp_net.proofs.Nodes.{branch_read}
+use Rattle.emtp_net.proofs.Moves.{line_moves, line_stops, lumped_moves, lumped_stops, phase_read, pseudo_moves, pseudo_stops}
+use Rattle.emtp_net.proofs.Nodes.{branch_fits, branch_read}
 use Rattle.emtp_net.proofs.PhaseMoves.{phase_waits, trio_moves, trio_stops}
+use Rattle.emtp_rows.proofs.Phases.{phase_there}
 use Rattle.emtp_net.proofs.branches.Branches.accept_one.Goals as goal
 
 pub returns-in-Ok-clause-moved : goal.returns-in-Ok-clause-moved
@@ -123,3 +124,16 @@ returns-in-Err-accept_three-clause-stopped c = λ H before.
     let stops = trio_stops case H c.args.voltages.now c.args.at x c.args.self.now (record c.args.self.now { lines = c.accept_three.new.self }) c.in-Err-accept_three.fault c.args.case.now.fits.draft.network c.requires.same c.requires.there is c.if-b-ne0.false moves before in
     let least : c.min.result ≡ c.in-Err-accept_three.fault.phase = c.min.ensures ∙ min-eq_left (omega (arith, stops.0)) in
     rw least stops.1
+
+pub returns-in-Err-accept_three-clause-there : goal.returns-in-Err-accept_three-clause-there
+returns-in-Err-accept_three-clause-there c =
+    let case = c.args.case.now.parts in
+    let x = c.in-Phase.b in
+    let network = c.args.case.now.fits.draft.network in
+    let is : slice_get case.branches c.args.at ≡ Some (OfPhase x) = branch_read case _ c.args.at _ (OfPhase x) c.as_slice.ensures c.requires.there c.in-Phase.is in
+    let fits = branch_fits case c.args.at (OfPhase x) network.branches c.requires.there is in
+    let place = network.in_threes.places c.args.at x.trio x.phase (phase_read case c.args.at (OfPhase x) c.requires.there is) in
+    let first : x.phase ≡ 0 = c.if-b-ne0.false in
+    let few = min-le_right c.in-Err-accept_three.fault.phase 2 in
+    let inside = phase_there case.branches case.trios x.trio c.min.result network.in_threes fits.trio (omega (arith, c.min.ensures, few)) in
+    omega (arith, place, first, inside)

@@ -24,10 +24,10 @@ sweep-requires-clause-still c = λ s.
 
 -- what the sweep starts from, and where its flows are read
 record HasSwept (c : goal.After-out-1) : Type 0 where
-  rows_count : length c.self.inside.order.now.nodes ≡ length c.args.leaving.now
+  rows_count : length c.self.inside.order.nodes ≡ length c.args.leaving.now
   first_is : c.deref_mut-3.result.now ≡ c.args.leaving.now ++ pos 0 ∷ []
   switches_count : length c.self.inside.case.now.parts.switches ≡ length c.sweep.new.flows
-  tree : AreTree c.self.inside.case.now.parts.switches c.self.inside.order.now c.self.inside.states.items (take c.self.inside.groups.link_count c.deref.result.now)
+  tree : AreTree c.self.inside.case.now.parts.switches c.self.inside.order c.self.inside.states.items (take c.self.inside.groups.link_count c.deref.result.now)
   read : c.deref-2.result.now ≡ c.sweep.new.flows
 
 has_swept : (c : goal.After-out-1) → HasSwept c
@@ -43,7 +43,7 @@ has_swept c =
       rows_count = omega (arith, c.requires.leaving, in_view, inv.plan_is.same_nodes);
       first_is = c.deref_mut-3.ensures.value ∙ with_items_is s.rest c.load.new.rest (omega (arith, ap length c.deref_mut.ensures.value, c.deref_mut.ensures.len)) ∙ c.load.ensures;
       switches_count = omega (arith, inv.flows_size, c.deref_mut-2.ensures.len, ap length c.deref_mut-2.ensures.value, size);
-      tree = subst (λ l. AreTree s.case.now.parts.switches s.order.now s.states.items (take s.groups.link_count l)) (sym c.deref.ensures.value) inv.groups_are.tree;
+      tree = subst (λ l. AreTree s.case.now.parts.switches s.order s.states.items (take s.groups.link_count l)) (sym c.deref.ensures.value) inv.groups_are.tree;
       read = c.deref-2.ensures.value ∙ with_items_is (with_items s.flows c.clear.new.flows) flows size;
     }
 
@@ -54,7 +54,7 @@ are_found c =
     let inv = c.self.invariant in
     let has = has_swept c in
     has.read
-    ∙ flows_are s.case.now.parts.switches s.order.now s.states.items (take s.groups.link_count c.deref.result.now) c.args.leaving.now c.deref_mut-3.result.now c.sweep.new.rest c.sweep.new.flows has.rows_count has.switches_count
+    ∙ flows_are s.case.now.parts.switches s.order s.states.items (take s.groups.link_count c.deref.result.now) c.args.leaving.now c.deref_mut-3.result.now c.sweep.new.rest c.sweep.new.flows has.rows_count has.switches_count
     inv.plan_is.ends_within inv.plan_is.nodes_within has.tree has.first_is (omega arith) c.sweep.ensures.carried c.sweep.ensures.cleared c.sweep.ensures.bridges_alone
     ∙ ap (λ (x : Switching). currents_of x.case.switches x.rows x.states c.args.leaving.now) c.self.view_is
 
@@ -70,7 +70,7 @@ they_balance c =
     let s = c.self.inside in
     let has = has_swept c in
     subst (λ (x : Switching). Balances x.case.switches x.rows x.states c.args.leaving.now c.sweep.new.flows) c.self.view_is
-    (balances s.case.now.parts s.order.now s.plan s.states.items (take s.groups.link_count c.deref.result.now) c.args.leaving.now c.deref_mut-3.result.now c.sweep.new.rest c.sweep.new.flows (length c.deref_mut-4.result.now) c.self.invariant.plan_is has.tree has.rows_count (omega (arith, has.switches_count))
+    (balances s.case.now.parts s.order s.plan s.states.items (take s.groups.link_count c.deref.result.now) c.args.leaving.now c.deref_mut-3.result.now c.sweep.new.rest c.sweep.new.flows (length c.deref_mut-4.result.now) c.self.invariant.plan_is has.tree has.rows_count (omega (arith, has.switches_count))
     has.first_is (omega arith) c.sweep.ensures.balanced c.sweep.ensures.cleared)
 
 pub returns-clause-kirchhoff : goal.returns-clause-kirchhoff

@@ -1,0 +1,102 @@
+-- The factor of the next step, and what it costs.
+use Rattle.std.proofs.Common.{◌≡◌, ◌≢◌, ◌∙◌, sym, ap, ℕ, ◌+◌, ◌-◌, ◌≤◌, ◌<◌, ◌==◌, if◌then◌else◌, List, [], ◌∷◌, length, take, refl, true, false, Bool, inl, inr, int_eq, arith}
+use Rattle.std.specs.Cmp.Lexicographic.{pointwise}
+use Rattle.std.proofs.lemmas.Bool.{cases_Bool}
+use Rattle.std.proofs.lemmas.Bool.Decides.{nat_tests}
+use Rattle.std.proofs.lemmas.List.{take-take}
+use Rattle.emtp_case.specs.StepRecord.{StepRecord}
+use Rattle.emtp_case.specs.declared.case.Parts.{Parts}
+use Rattle.emtp_elim.specs.Matrix.{Matrix}
+use Rattle.emtp_elim.specs.declared.fault.RowCause.{RowCause}
+use Rattle.emtp_elim.specs.declared.fault.RowCause.TheVariants.{Range as RowRange, ZeroPivot as RowPivot}
+use Rattle.emtp_rows.proofs.NodalRows.{length-nodal_matrix}
+use Rattle.emtp_rows.specs.Nodal.{Nodal, nodal_matrix}
+use Rattle.emtp_rows.specs.Touched.{NodalRows, StandsUntouched, Touches}
+use Rattle.emtp_tail.specs.Good.{Good, first_change}
+use Rattle.emtp_net.specs.Holding.{HoldsRows}
+use Rattle.emtp_net.specs.Redone.{last_matrix, step_redone, step_ticks}
+use Rattle.emtp_net.specs.Stages.{step_adds}
+use Rattle.emtp_net.specs.Step.{fault_by}
+use Rattle.emtp_net.specs.System.{conductances, couplings, kinds_of, matrix, nodal}
+use Rattle.emtp_net.specs.declared.fault.NetFault.{NetFault}
+
+-- rows with the conductances and kinds of the next step are those of its nodal system
+pub nodal_is : (case : Parts) (H : List StepRecord) (s t : Nodal) → s.case ≡ case → s.coupling ≡ couplings case → s.kinds ≡ kinds_of case H → t ≡ record s { own = conductances case H } → t ≡ nodal case H
+nodal_is case H s t same coupling kinds set =
+    set
+    ∙ ap (λ (p : Parts). record s { case = p; own = conductances case H }) same
+    ∙ ap (λ g. record s { case = case; own = conductances case H; coupling = g }) coupling
+    ∙ ap (λ k. record { case = case; own = conductances case H; coupling = couplings case; kinds = k }) kinds
+
+-- rows that stood for the matrix but for the touched ones do so when more are touched
+pub stands_touched : (old new : NodalRows) (rows : Matrix) → Touches old new → StandsUntouched old rows → StandsUntouched new rows
+stands_touched old new rows touches stands = λ n early few.
+    sym (take-take n new.touched (nodal_matrix new.nodal) early) ∙ ap (take n) touches.before ∙ take-take n new.touched (nodal_matrix old.nodal) early ∙ stands n (omega (arith, early, touches.earlier)) few
+
+-- the rows and the factor after both moved on
+pub holds_next : (case : Parts) (old mid new : NodalRows) (kept left : Good) → HoldsRows case old kept → mid.nodal ≡ record old.nodal { own = mid.nodal.own } → length mid.nodal.own ≡ length case.branches → new.nodal ≡ mid.nodal → left.size ≡ kept.size → StandsUntouched new left.rows → HoldsRows case new left
+holds_next case old mid new kept left holds rest room nodal_is size stands = record {
+  case_is = ap (λ (n : Nodal). n.case) nodal_is ∙ ap (λ (n : Nodal). n.case) rest ∙ holds.case_is;
+  own_room = ap (λ (n : Nodal). length n.own) nodal_is ∙ room;
+  coupling_is = ap (λ (n : Nodal). n.coupling) nodal_is ∙ ap (λ (n : Nodal). n.coupling) rest ∙ holds.coupling_is;
+  kept_size = size ∙ holds.kept_size;
+  kept_stands = stands;
+}
+
+-- the first change is no later than the end
+pub first_change_within : (old new : Matrix) → first_change old new ≤ length new
+unfolding first_change
+first_change_within [] new = omega arith
+first_change_within (row ∷ old) [] = omega arith
+first_change_within (row ∷ old) (other ∷ new) = elim (cases_Bool (pointwise int_eq row other)) [
+  | inl same ↦ rw same (omega (arith, first_change_within old new))
+  | inr off ↦ rw off (omega arith)
+]
+
+-- the ticks of a step
+pub ticks_are : (case : Parts) (H : List StepRecord) (old : Matrix) (rows : Nodal) (size before after : ℕ) → old ≡ last_matrix case H → rows ≡ nodal case H → size ≡ length case.nodes → after + first_change old (nodal_matrix rows) ≡ before + size → after ≡ before + step_ticks case H
+unfolding step_ticks
+ticks_are case H old rows size before after is are sized ticked =
+    let here : first_change old (nodal_matrix rows) ≡ first_change (last_matrix case H) (matrix case H) = ap (λ o. first_change o (nodal_matrix rows)) is ∙ ap (λ (r : Nodal). first_change (last_matrix case H) (nodal_matrix r)) are in
+    let within = first_change_within (last_matrix case H) (matrix case H) in
+    omega (arith, ticked, here, sized, within, length-nodal_matrix (nodal case H))
+
+pub ticks_most : (case : Parts) (H : List StepRecord) (old : Matrix) (rows : Nodal) (size before after : ℕ) → old ≡ last_matrix case H → rows ≡ nodal case H → size ≡ length case.nodes → after + first_change old (nodal_matrix rows) ≤ before + size → after ≤ before + step_ticks case H
+unfolding step_ticks
+ticks_most case H old rows size before after is are sized ticked =
+    let here : first_change old (nodal_matrix rows) ≡ first_change (last_matrix case H) (matrix case H) = ap (λ o. first_change o (nodal_matrix rows)) is ∙ ap (λ (r : Nodal). first_change (last_matrix case H) (nodal_matrix r)) are in
+    let within = first_change_within (last_matrix case H) (matrix case H) in
+    omega (arith, ticked, here, sized, within, length-nodal_matrix (nodal case H))
+
+-- what the first step doesn't count
+counted : (case : Parts) (H : List StepRecord) (made : ℕ) → made + 1 ≡ length H → (if made == 0 then 0 else step_ticks case H) ≡ step_redone case H
+counted case [] made long = absurd (omega (arith, long))
+counted case (r ∷ []) made long =
+    let first : made ≡ 0 = omega (arith, long) in
+    rw first refl
+counted case (r ∷ s ∷ past) made long =
+    let later : made ≢ 0 = λ e. omega (arith, long, e) in
+    rw (isnt made later) refl
+  where
+    isnt : (n : ℕ) → n ≢ 0 → (n == 0) ≡ false
+    isnt n ne = grind (arith, nat_tests)
+
+step_ticks_is : (case : Parts) (H : List StepRecord) (n : ℕ) → n ≡ length case.nodes - first_change (last_matrix case H) (matrix case H) → n ≡ step_ticks case H
+unfolding step_ticks
+step_ticks_is case H n is = is
+
+pub redone_is : (case : Parts) (H : List StepRecord) (old : Matrix) (rows : Nodal) (made size before after : ℕ) → old ≡ last_matrix case H → rows ≡ nodal case H → made + 1 ≡ length H → size ≡ length case.nodes
+    → after ≡ before + (if made == 0 then 0 else size - first_change old (nodal_matrix rows)) → after ≡ before + step_redone case H
+redone_is case H old rows made size before after is are long sized count =
+    let first = first_change old (nodal_matrix rows) in
+    let here : first ≡ first_change (last_matrix case H) (matrix case H) = ap (λ o. first_change o (nodal_matrix rows)) is ∙ ap (λ (r : Nodal). first_change (last_matrix case H) (nodal_matrix r)) are in
+    let ticks : size - first ≡ step_ticks case H = step_ticks_is case H (size - first) (ap (λ n. n - first) sized ∙ ap (λ n. length case.nodes - n) here) in
+    count ∙ ap (λ n. before + (if made == 0 then 0 else n)) ticks ∙ ap (λ n. before + n) (counted case H made long)
+
+-- a fault of the elimination comes once rows are redone
+pub row_adds : (case : Parts) (H : List StepRecord) (cause : RowCause) (node : ℕ) (e : NetFault) → e ≡ fault_by cause node → step_adds e case H ≡ step_redone case H
+row_adds case H cause node e is = ap (λ f. step_adds f case H) is ∙ by_cause cause
+  where
+    by_cause : (cause : RowCause) → step_adds (fault_by cause node) case H ≡ step_redone case H
+    by_cause RowRange = refl
+    by_cause RowPivot = refl

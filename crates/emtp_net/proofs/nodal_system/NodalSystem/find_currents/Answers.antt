@@ -1,0 +1,43 @@
+use Rattle.std.proofs.Common.{◌≡◌, ◌∙◌, sym, ap, subst, length, refl, arith}
+use Rattle.std.proofs.lemmas.List.{with_items_is}
+use Rattle.emtp_case.specs.declared.case.Parts.{Parts}
+use Rattle.emtp_switch.specs.Currents.{IsFirstBeyond}
+use Rattle.emtp_net.specs.Part.{leaving_rows, states_at, switch_currents_at}
+use Rattle.emtp_net.specs.Step.{first_beyond}
+use Rattle.emtp_net.proofs.Ending.{switch_ends}
+use Rattle.emtp_net.proofs.Moves.{is_next, next_record}
+use Rattle.emtp_net.proofs.Switching.{beyond_at, currents_next, length-currents, none_beyond}
+use Rattle.emtp_net.proofs.nodal_system.NodalSystem.find_currents.Goals as goal
+
+pub switch_name-requires : goal.switch_name-requires
+switch_name-requires c = omega (arith, c.in-Err.ensures.first.within, length-currents c.args.switches.now c.deref-2.result.now, ap (λ (p : Parts). length p.switches) c.requires.switches.case_is)
+
+pub returns-in-Ok-clause-leaving : goal.returns-in-Ok-clause-leaving
+returns-in-Ok-clause-leaving c = λ H vs moved values.
+    let case = c.args.case.now.parts in
+    let next = is_next case H vs in
+    with_items_is c.args.self.now.right c.fill_leaving.new.out (omega (arith, c.fill_leaving.auto.out, c.deref_mut.ensures.len)) ∙ c.fill_leaving.ensures.value H vs (next_record H case vs) next moved (c.deref.ensures.value ∙ values) ∙ ap (leaving_rows case H) next.branches
+
+pub returns-in-Err-clause-leaving : goal.returns-in-Err-clause-leaving
+returns-in-Err-clause-leaving c = λ H vs moved values.
+    let case = c.args.case.now.parts in
+    let next = is_next case H vs in
+    with_items_is c.args.self.now.right c.fill_leaving.new.out (omega (arith, c.fill_leaving.auto.out, c.deref_mut.ensures.len)) ∙ c.fill_leaving.ensures.value H vs (next_record H case vs) next moved (c.deref.ensures.value ∙ values) ∙ ap (leaving_rows case H) next.branches
+
+pub returns-in-Ok-clause-found : goal.returns-in-Ok-clause-found
+returns-in-Ok-clause-found c = λ H vs voltages moved values states.
+    let case = c.args.case.now.parts in
+    let next = is_next case H vs in
+    let leave : c.deref-2.result.now ≡ leaving_rows case H (states_at case H vs) = c.deref-2.ensures.value ∙ with_items_is c.args.self.now.right c.fill_leaving.new.out (omega (arith, c.fill_leaving.auto.out, c.deref_mut.ensures.len))
+    ∙ c.fill_leaving.ensures.value H vs (next_record H case vs) next moved (c.deref.ensures.value ∙ values) ∙ ap (leaving_rows case H) next.branches in
+    let are : c.currents.new.out ≡ switch_currents_at case H (states_at case H vs) = c.in-Ok.ensures.value ∙ currents_next case H c.args.switches.now (states_at case H vs) c.deref-2.result.now c.requires.switches states leave in
+    record { are = are; within = ap first_beyond (sym are) ∙ none_beyond c.currents.new.out c.in-Ok.ensures.small }
+
+pub returns-in-Err-clause-ends : goal.returns-in-Err-clause-ends
+returns-in-Err-clause-ends c = λ H vs voltages moved values states.
+    let case = c.args.case.now.parts in
+    let next = is_next case H vs in
+    let leave : c.deref-2.result.now ≡ leaving_rows case H (states_at case H vs) = c.deref-2.ensures.value ∙ with_items_is c.args.self.now.right c.fill_leaving.new.out (omega (arith, c.fill_leaving.auto.out, c.deref_mut.ensures.len))
+    ∙ c.fill_leaving.ensures.value H vs (next_record H case vs) next moved (c.deref.ensures.value ∙ values) ∙ ap (leaving_rows case H) next.branches in
+    let first = subst (λ l. IsFirstBeyond l c.in-Err.fault.switch) (currents_next case H c.args.switches.now (states_at case H vs) c.deref-2.result.now c.requires.switches states leave) c.in-Err.ensures.first in
+    record { is = switch_ends case H vs c.in-Err.fault.switch c.switch_name.result voltages moved.in_range (beyond_at (switch_currents_at case H (states_at case H vs)) c.in-Err.fault.switch first) c.switch_name.ensures.value; adds = refl }

@@ -1,0 +1,237 @@
+//! The nodal system of a step, and what is made of its solution.
+
+ghost use Rattle.std.specs.Prelude.{◌≡◌, ◌+◌, ◌^◌, ◌<◌, ◌≤◌, ◌∷◌, ℕ, ℤ, pos, All, List, length, replicate, unsigned_abs, IfErr, IfOk, OnOk};
+ghost use Rattle.emtp_case.specs.RowOrder.{order_of};
+ghost use Rattle.emtp_case.specs.StepRecord.{BranchState, StepRecord, latest};
+ghost use Rattle.emtp_elim.specs.Matrix.{item};
+ghost use Rattle.emtp_fix.specs.declared.limit.TheConstants.{LARGEST_VALUE};
+ghost use Rattle.emtp_net.specs.Branches.{HasCase};
+ghost use Rattle.emtp_net.specs.Fault.{NamesNode};
+ghost use Rattle.emtp_net.specs.Holding.{HasRoom, HoldsSwitches};
+ghost use Rattle.emtp_net.specs.Moving.{HaveMoved, IsNext};
+ghost use Rattle.emtp_net.specs.Part.{leaving_rows, states_at, switch_currents_at};
+ghost use Rattle.emtp_net.specs.Redone.{step_redone};
+ghost use Rattle.emtp_net.specs.Stages.{AllInRange, AreVoltages, Ends, HasCurrents, IsBalanced, IsDecided, IsPosed};
+ghost use Rattle.emtp_net.specs.System.{kinds_of, source_values};
+ghost use Rattle.emtp_rows.specs.Touched.{Touches};
+ghost use Rattle.emtp_switch.specs.States.{next_states};
+ghost use Rattle.emtp_switch.specs.Switching.{AreLatest, StandsFor as SwitchesStandFor};
+
+use crate::branches::Branches;
+use crate::fault::NetFault;
+use crate::names::switch_name;
+use crate::residual::{fill_leaving, judge};
+use crate::right::{fill_right, fill_values, places_of};
+use crate::voltages::fill_voltages;
+use emtp_case::{Case, RowKind, RowOrder};
+use emtp_rows::NetRows;
+use emtp_switch::Switches;
+use emtp_tail::Kept;
+use emtp_wave::CosTable;
+use std::alloc::{AllocError, Global};
+
+/// The nodal system of a step. All of it is room that is filled anew in each step but for `places`.
+#[derive(Drop)]
+pub(crate) struct NodalSystem {
+    /// The kinds of the rows.
+    pub(crate) kinds: Vec<RowKind>,
+    /// For each row the place of its node's voltage source among the sources, or their number.
+    pub(crate) places: Vec<u32>,
+    /// The values of the sources, in nV and nA.
+    pub(crate) values: Vec<i64>,
+    /// The right side, in nA and nV; once the branches moved, what leaves the node of each row, in nA.
+    pub(crate) right: Vec<i128>,
+    /// The unknowns, in nV.
+    pub(crate) x: Vec<i64>,
+}
+
+impl NodalSystem {
+    /// Room for a case.
+    pub(crate) fn open(
+        alloc: Global,
+        case: &Case,
+        order: &RowOrder,
+    ) -> Result<NodalSystem, AllocError>
+        requires { order.now ≡ order_of case.now.parts }
+        ensures { IfOk result (HasRoom case.now.parts) }
+    {
+        let nodes = case.parts.nodes.len();
+        let places = places_of(alloc, case, order)?;
+        let kinds = no_kinds(alloc, nodes)?;
+        let values = zeros(alloc, case.parts.sources.len())?;
+        let right = wide_zeros(alloc, nodes)?;
+        let x = zeros(alloc, nodes)?;
+        Ok(NodalSystem {
+            kinds,
+            places,
+            values,
+            right,
+            x,
+        })
+    }
+
+    /// Moves the switches to their states of the next step, and gives the rows the kinds that follow.
+    pub(crate) fn decide(
+        &mut self,
+        case: &Case,
+        switches: &mut Switches<'_>,
+        rows: &mut NetRows<'_>,
+        step: u32,
+        voltages: &[i64],
+        currents: &[i64],
+        tacs: &[i64],
+    ) -> Result<(), NetFault>
+        requires room { HasRoom case.now.parts self.old }
+        requires switches { HoldsSwitches case.now.parts switches.old }
+        requires rows { rows.old.nodal.case ≡ case.now.parts }
+        requires step { step ≤ case.now.parts.run.steps }
+        requires voltages { length voltages.now ≡ length case.now.parts.nodes + 1 }
+        requires small { All (λ v. unsigned_abs v ≤ LARGEST_VALUE) voltages.now }
+        requires currents { length currents.now ≡ length case.now.parts.switches }
+        requires tacs { length tacs.now ≡ length case.now.parts.vars }
+        ensures room { HasRoom case.now.parts self.new }
+        ensures switches { HoldsSwitches case.now.parts switches.new }
+        ensures touched { Touches rows.old rows.new }
+        ensures rest { rows.new.nodal ≡ record rows.old.nodal { kinds = rows.new.nodal.kinds } }
+        ensures stands { (H : List StepRecord) (r : StepRecord) → SwitchesStandFor switches.old H → AreLatest step voltages.now currents.now tacs.now H → r.switch_states ≡ next_states case.now.parts H → SwitchesStandFor switches.new (r ∷ H) }
+        ensures decided { (H : List StepRecord) → SwitchesStandFor switches.old H → AreLatest step voltages.now currents.now tacs.now H → OnOk result (IsDecided case.now.parts H self.new.kinds.items rows.new switches.new) }
+        ensures ends { (H : List StepRecord) → SwitchesStandFor switches.old H → AreLatest step voltages.now currents.now tacs.now H → IfErr result (Ends case.now.parts H 0) }
+        ensures node { IfErr result (NamesNode case.now.parts) }
+    {
+        switches.decide(step, voltages, currents, tacs);
+        match switches.kinds(&mut self.kinds) {
+            Ok(()) => {
+                rows.set_kinds(&self.kinds);
+                Ok(())
+            }
+            Err(tied) => Err(NetFault::Tied(switch_name(case, tied.switch))),
+        }
+    }
+
+    /// Takes the values of the sources in the next step.
+    pub(crate) fn set_sources(&mut self, case: &Case, table: &CosTable, step: u32, tacs: &[i64])
+        requires room { HasRoom case.now.parts self.old }
+        requires step { step ≤ case.now.parts.run.steps }
+        requires tacs { length tacs.now ≡ length case.now.parts.vars }
+        ensures room { HasRoom case.now.parts self.new }
+        ensures kinds { self.new.kinds ≡ self.old.kinds }
+        ensures values { (H : List StepRecord) → step ≡ length H → tacs.now ≡ (latest H).values → self.new.values.items ≡ source_values case.now.parts H }
+    {
+        fill_values(table, case, step, tacs, &mut self.values);
+    }
+
+    /// Finds the voltages of the next step by the factor.
+    pub(crate) fn solve(
+        &mut self,
+        case: &Case,
+        order: &RowOrder,
+        branches: &Branches<'_>,
+        kept: &Kept,
+        voltages: &mut [i64],
+    ) -> Result<(), NetFault>
+        requires room { HasRoom case.now.parts self.old }
+        requires order { order.now ≡ order_of case.now.parts }
+        requires same { HasCase branches.now case.now.parts }
+        requires size { kept.now.size ≡ length case.now.parts.nodes }
+        requires all { length kept.now.rows ≡ length case.now.parts.nodes }
+        requires voltages { length voltages.old ≡ length case.now.parts.nodes + 1 }
+        requires small { All (λ v. unsigned_abs v ≤ LARGEST_VALUE) voltages.old }
+        ensures room { HasRoom case.now.parts self.new }
+        ensures kinds { self.new.kinds ≡ self.old.kinds }
+        ensures values { self.new.values ≡ self.old.values }
+        ensures small { All (λ v. unsigned_abs v ≤ LARGEST_VALUE) voltages.new }
+        ensures solved { (H : List StepRecord) → IsPosed case.now.parts H branches.now self.old kept.now → OnOk result (AreVoltages case.now.parts H voltages.new) }
+        ensures ends { (H : List StepRecord) → IsPosed case.now.parts H branches.now self.old kept.now → IfErr result (Ends case.now.parts H (step_redone case.now.parts H)) }
+        ensures node { IfErr result (NamesNode case.now.parts) }
+    {
+        fill_right(
+            case,
+            order,
+            branches,
+            &self.kinds,
+            &self.places,
+            &self.values,
+            &mut self.right,
+        );
+        match kept.solve(&mut self.right, &mut self.x) {
+            Ok(()) => {
+                fill_voltages(case, order, &self.x, voltages);
+                Ok(())
+            }
+            Err(fault) => Err(NetFault::Range(order.node_at(fault.row))),
+        }
+    }
+
+    /// Finds the switch currents of the next step, in nA, once the branches moved.
+    pub(crate) fn find_currents(
+        &mut self,
+        case: &Case,
+        order: &RowOrder,
+        branches: &Branches<'_>,
+        currents: &[i64],
+        switches: &mut Switches<'_>,
+        out: &mut [i64],
+    ) -> Result<(), NetFault>
+        requires room { HasRoom case.now.parts self.old }
+        requires order { order.now ≡ order_of case.now.parts }
+        requires same { HasCase branches.now case.now.parts }
+        requires currents { length currents.now ≡ length case.now.parts.branches }
+        requires switches { HoldsSwitches case.now.parts switches.old }
+        requires out { length out.old ≡ length case.now.parts.switches }
+        ensures room { HasRoom case.now.parts self.new }
+        ensures kinds { self.new.kinds ≡ self.old.kinds }
+        ensures same { switches.new ≡ switches.old }
+        ensures leaving { (H : List StepRecord) (vs : List ℤ) → HaveMoved branches.now currents.now case.now.parts H vs → self.old.values.items ≡ source_values case.now.parts H → self.new.right.items ≡ leaving_rows case.now.parts H (states_at case.now.parts H vs) }
+        ensures small { (j : ℕ) → j < length case.now.parts.nodes → unsigned_abs (item self.new.right.items j) ≤ 10 ^ 24 }
+        ensures found { (H : List StepRecord) (vs : List ℤ) → AreVoltages case.now.parts H vs → HaveMoved branches.now currents.now case.now.parts H vs → self.old.values.items ≡ source_values case.now.parts H → switches.old.states ≡ next_states case.now.parts H → OnOk result (HasCurrents case.now.parts H vs out.new) }
+        ensures ends { (H : List StepRecord) (vs : List ℤ) → AreVoltages case.now.parts H vs → HaveMoved branches.now currents.now case.now.parts H vs → self.old.values.items ≡ source_values case.now.parts H → switches.old.states ≡ next_states case.now.parts H → IfErr result (Ends case.now.parts H (step_redone case.now.parts H)) }
+        ensures node { IfErr result (NamesNode case.now.parts) }
+    {
+        fill_leaving(
+            case,
+            order,
+            branches,
+            currents,
+            &self.values,
+            &mut self.right,
+        );
+        match switches.currents(&self.right, out) {
+            Ok(()) => Ok(()),
+            Err(fault) => Err(NetFault::Range(switch_name(case, fault.switch))),
+        }
+    }
+
+    /// Judges the residuals of the next step by what leaves the node of each row, which is lost.
+    pub(crate) fn judge(&mut self, case: &Case, order: &RowOrder) -> Result<(), NetFault>
+        requires room { HasRoom case.now.parts self.old }
+        requires order { order.now ≡ order_of case.now.parts }
+        requires small { (j : ℕ) → j < length case.now.parts.nodes → unsigned_abs (item self.old.right.items j) ≤ 10 ^ 24 }
+        ensures room { HasRoom case.now.parts self.new }
+        ensures judged { (H : List StepRecord) (vs currents : List ℤ) → AreVoltages case.now.parts H vs → AllInRange case.now.parts H vs → HasCurrents case.now.parts H vs currents → self.old.kinds.items ≡ kinds_of case.now.parts H → self.old.right.items ≡ leaving_rows case.now.parts H (states_at case.now.parts H vs) → OnOk result (IsBalanced case.now.parts H vs) }
+        ensures ends { (H : List StepRecord) (vs currents : List ℤ) → AreVoltages case.now.parts H vs → AllInRange case.now.parts H vs → HasCurrents case.now.parts H vs currents → self.old.kinds.items ≡ kinds_of case.now.parts H → self.old.right.items ≡ leaving_rows case.now.parts H (states_at case.now.parts H vs) → IfErr result (Ends case.now.parts H (step_redone case.now.parts H)) }
+        ensures node { IfErr result (NamesNode case.now.parts) }
+    {
+        match judge(case, &self.kinds, &mut self.right) {
+            None => Ok(()),
+            Some((row, residual)) => Err(NetFault::Residual(order.node_at(row), residual)),
+        }
+    }
+}
+
+pub(crate) fn zeros(alloc: Global, count: usize) -> Result<Vec<i64>, AllocError>
+    ensures { IfOk result (λ numbers. numbers.items ≡ replicate count (pos 0)) }
+{
+    vec![in alloc; 0i64; count]
+}
+
+fn wide_zeros(alloc: Global, count: usize) -> Result<Vec<i128>, AllocError>
+    ensures { IfOk result (λ numbers. numbers.items ≡ replicate count (pos 0)) }
+{
+    vec![in alloc; 0i128; count]
+}
+
+fn no_kinds(alloc: Global, count: usize) -> Result<Vec<RowKind>, AllocError>
+    ensures { IfOk result (λ kinds. length kinds.items ≡ count) }
+{
+    vec![in alloc; RowKind::Kcl; count]
+}
