@@ -4,3 +4,4 @@ pub mod Next
 pub mod Channels
 pub mod History
 pub mod Machine
+pub mod Laws
