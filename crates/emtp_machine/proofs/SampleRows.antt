@@ -1,5 +1,5 @@
 -- Samples that stand one behind the other in one list.
-use Rattle.std.proofs.Common.{◌≡◌, ℕ, zero, suc, ◌+◌, ◌*◌, ◌<◌, ◌≤◌, ℤ, pos, List, [], ◌∷◌, ◌++◌, length, take, drop, get_or, slice_index_or, arith, refl, sym, ◌∙◌, ap, add-one, length-drop}
+use Rattle.std.proofs.Common.{◌≡◌, ℕ, zero, suc, ◌+◌, ◌*◌, ◌<◌, ◌≤◌, ◌^◌, ℤ, pos, List, [], ◌∷◌, ◌++◌, length, take, drop, get_or, slice_index_or, arith, refl, sym, ◌∙◌, ap, add-one, length-drop, mul_assoc}
 use Rattle.std.proofs.Math.Seq.{take-length}
 use Rattle.std.proofs.Math.Nat.{mul-le-mul_right}
 use Rattle.std.proofs.lemmas.List.{get_or-take, get_or-drop, take-append-le, drop-append-le}
@@ -60,3 +60,14 @@ pub room-more : (channels count room len : ℕ) → count < room → len ≡ cha
 room-more channels count room len less is =
     let next : (count + 1) * channels ≤ room * channels = mul-le-mul_right channels (omega arith) in
     omega (arith, next)
+
+-- a sum of values whose number is that of all samples stays within 128 bits
+pub total-fits : (n room channels : ℕ) → n ≤ room → room * channels < 2 ^ 64 → n * (channels * 2 ^ 63) + 2 ^ 63 ≤ 2 ^ 127
+total-fits n room channels le small =
+    let most : n * channels ≤ room * channels = mul-le-mul_right channels le in
+    let few : n * channels + 1 ≤ 2 ^ 64 = omega (arith, most, small) in
+    let scaled : (n * channels + 1) * 2 ^ 63 ≤ 2 ^ 64 * 2 ^ 63 = mul-le-mul_right (2 ^ 63) few in
+    omega (arith, scaled, mul_assoc n channels (2 ^ 63))
+
+pub total-more : (n channels : ℕ) → (n + 1) * (channels * 2 ^ 63) ≡ n * (channels * 2 ^ 63) + channels * 2 ^ 63
+total-more n channels = omega arith

@@ -1,15 +1,24 @@
-//! The run of a case: its samples, so far.
+//! The run of a case: its records one after the other, its samples, and its end if it stops early.
 //!
-//! [`Samples`] keeps the values of the channels at each sample. It takes all its memory at opening, so that a step
-//! takes none. It stands on std alone.
+//! [`Machine`] steps the network (and, once it is built, the control) from rest on. Its history is a definition of the
+//! case alone. It takes all its memory at opening. It stands on `emtp_net` for the network's step, on `emtp_case` and on
+//! `emtp_fix`; the record is written from its [`Samples`].
 //!
 //! ```text
-//! let mut samples = Samples::open(alloc, 2, 4)?;
-//! samples.push(&[0, 50_000_000_000]);
-//! samples.value(0, 1) == 50_000_000_000
+//! let mut machine = Machine::open(alloc, &case)?;
+//! let end = machine.run(&mut steps);
+//! machine.samples().value(0, 0) == 0
 //! ```
 #![tactic(auto)]
 
+mod channels;
+mod control;
+mod end;
+mod laws;
+mod machine;
 mod samples;
 
+pub use end::{Cause, End};
+pub use laws::{each_record_balances, end_is_the_first_refusal, records_are_a_chain, samples_balance};
+pub use machine::Machine;
 pub use samples::Samples;

@@ -1,6 +1,6 @@
 // The samples of a record.
-ghost use Rattle.std.specs.Prelude.{◌≡◌, ◌+◌, ◌*◌, ◌^◌, ◌<◌, ◌≤◌, ◌++◌, [], ◌∷◌, length, pos, slice_index_or, IfOk, vec_capacity};
-ghost use Rattle.emtp_machine.specs.Samples.{Sampled, IsReserved, rows_of, value_at};
+ghost use Rattle.std.specs.Prelude.{◌≡◌, ◌+◌, ◌*◌, ◌^◌, ◌<◌, ◌≤◌, ◌++◌, [], ◌∷◌, length, pos, slice_index_or, unsigned_abs, IfOk, vec_capacity};
+ghost use Rattle.emtp_machine.specs.Samples.{Sampled, IsReserved, greatest, rows_of, sum_of, total_of, value_at};
 
 use std::alloc::{AllocError, Global};
 use std::marker::Model;
@@ -43,7 +43,9 @@ impl Samples {
 
     /// The number of samples.
     pub fn count(&self) -> u32
-        ensures { result ≡ length self.now.rows }
+        ensures value { result ≡ length self.now.rows }
+        ensures room { result ≤ self.now.room }
+        ensures small { self.now.room * self.now.channels < 2 ^ 64 }
     {
         self.count
     }
@@ -58,6 +60,51 @@ impl Samples {
             self.values.as_slice(),
             sample as usize * self.channels + channel,
         )
+    }
+
+    /// How many values each sample has.
+    pub fn channels(&self) -> usize
+        ensures value { result ≡ self.now.channels }
+        ensures small { self.now.room * result < 2 ^ 64 }
+    {
+        self.channels
+    }
+
+    /// The greatest magnitude of a channel in all samples; 0 where there is none.
+    pub fn greatest(&self, channel: usize) -> u64
+        requires { channel < self.now.channels }
+        ensures value { result ≡ greatest self.now.rows channel (length self.now.rows) }
+        ensures bound { result ≤ 2 ^ 63 }
+    {
+        let mut greatest = 0;
+        for sample in 0..self.count() {
+            greatest = greatest.max(self.value(sample, channel).unsigned_abs());
+        }
+        greatest
+    }
+
+    /// The sum of all values of all samples.
+    pub fn total(&self) -> i128
+        ensures { result ≡ total_of self.now.rows self.now.channels (length self.now.rows) }
+    {
+        let mut total = 0;
+        for sample in 0..self.count() {
+            total += self.sum(sample);
+        }
+        total
+    }
+
+    /// The sum of the values of a sample.
+    fn sum(&self, sample: u32) -> i128
+        requires { sample < length self.now.rows }
+        ensures value { result ≡ sum_of self.now.rows sample self.now.channels }
+        ensures bound { unsigned_abs result ≤ self.now.channels * 2 ^ 63 }
+    {
+        let mut sum = 0;
+        for channel in 0..self.channels() {
+            sum += i128::from(self.value(sample, channel));
+        }
+        sum
     }
 
     /// Takes the values of one more sample, for which there is room. It takes no memory.

@@ -1,0 +1,12 @@
+use Rattle.std.proofs.Common.{◌≡◌, ◌-◌}
+use Rattle.emtp_machine.specs.Machine.{HasTicked}
+use Rattle.emtp_machine.proofs.machine.Machine.run.Given as goal
+
+abbrev pub invariant-steps : goal.invariant-steps
+invariant-steps g l = record {
+  same_case : l.self.case ≡ l.initial.self.case;
+  ticked : HasTicked l.initial.self l.self l.initial.steps l.steps;
+}
+
+abbrev pub decreases-steps : goal.decreases-steps
+decreases-steps g l = l.self.case.run.steps - l.self.tried

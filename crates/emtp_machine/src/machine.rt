@@ -1,0 +1,201 @@
+//! The machine of a case: one step after the other, from rest on.
+
+ghost use Rattle.std.specs.Prelude.{◌≡◌, ◌≢◌, ◌+◌, ◌<◌, ◌≤◌, length, None, IfErr, IfNone, IfOk, IfSome};
+ghost use Rattle.std.specs.Bool.{OnFalse, OnTrue};
+ghost use Rattle.emtp_machine.specs.History.{end_at, history, redone, rows_of_run, samples};
+ghost use Rattle.emtp_machine.specs.Machine.{HasTicked, IsEnd, MayStep, answer_of, history_of};
+ghost use Rattle.emtp_machine.specs.Next.{network_fault, node_name};
+ghost use Rattle.emtp_net.specs.Network.{IsNode, NamesNode};
+
+use crate::channels::take_sample;
+use crate::control::set_standing;
+use crate::end::{Cause, End};
+use crate::samples::Samples;
+use emtp_case::{Case, Name};
+use emtp_fix::Steps;
+use emtp_net::{NetFault, Network};
+use std::alloc::{AllocError, Global};
+use std::marker::Model;
+use std::sync::ledger::Ledger;
+
+/// The machine of a case. It stands for the first records of the case's history, and for its end once it came.
+///
+/// `values` are those of the control at the last record, and `row` is room for one sample.
+#[derive(Drop)]
+pub struct Machine<'c> {
+    case: &'c Case,
+    network: Network<'c>,
+    values: Vec<i64>,
+    row: Vec<i64>,
+    samples: Samples,
+    made: u32,
+    end: Option<End>,
+}
+
+impl<'c> Model for Machine<'c> {
+    ghost use Rattle.emtp_machine.specs.History.{history_upto};
+    ghost use Rattle.emtp_machine.specs.Machine.{IsMachine, Progress, tried_of};
+
+    ghost Value = { Progress };
+
+    ghost use Rattle.std.specs.Coded.{codes};
+
+    ghost coded = { Prim.hlevel codes };
+
+    ghost view = { λ m. record { case = m.case.now.parts; tried = tried_of m.made m.end } };
+
+    ghost invariant = { λ m. IsMachine m.case.now.parts m.network m.values.items m.row.items m.samples m.made m.end (history_upto m.case.now.parts (tried_of m.made m.end)) };
+}
+
+/// The name of a node.
+fn node_name(case: &Case, node: u32) -> Name
+    requires { IsNode case.now.parts node }
+    ensures { result ≡ node_name case.now.parts node }
+{
+    case.parts.nodes.as_slice()[node as usize - 1]
+}
+
+/// The end of a step by a fault of the network.
+fn end_of(case: &Case, step: u32, fault: NetFault) -> End
+    requires { NamesNode case.now.parts fault }
+    ensures { result ≡ end_at step (network_fault case.now.parts fault) }
+{
+    let (node, cause, measured) = match fault {
+        NetFault::Tied(node) => (node, Cause::Tied, 0),
+        NetFault::ZeroPivot(node) => (node, Cause::ZeroPivot, 0),
+        NetFault::Range(node) => (node, Cause::Range, 0),
+        NetFault::Residual(node, measured) => (node, Cause::Residual, measured),
+    };
+    End {
+        step,
+        name: node_name(case, node),
+        cause,
+        measured,
+    }
+}
+
+impl<'c> Machine<'c> {
+    /// The machine at record 0, which is a sample. All memory of a run is taken here.
+    ///
+    /// # Errors
+    ///
+    /// [`AllocError`] where there is no memory for it.
+    pub fn open(alloc: Global, case: &'c Case) -> Result<Machine<'c>, AllocError>
+        ensures case { IfOk result (λ m. m.case ≡ case.now.parts) }
+        ensures rest { IfOk result (λ m. m.tried ≡ 0) }
+    {
+        let channels = case.parts.channels.len();
+        let network = Network::open(alloc, case)?;
+        let values = vec![in alloc; 0i64; case.parts.vars.len()]?;
+        let mut row = vec![in alloc; 0i64; channels]?;
+        let mut samples = Samples::open(alloc, channels, case.parts.run.samples())?;
+        take_sample(case, &network, &values, &mut row, &mut samples);
+        Ok(Machine {
+            case,
+            network,
+            values,
+            row,
+            samples,
+            made: 0,
+            end: None,
+        })
+    }
+
+    /// Makes one step more, and takes its sample where it is due; or answers the end of the run, which stays. It takes
+    /// no memory.
+    ///
+    /// # Errors
+    ///
+    /// The [`End`] of this step, or of the step that ended the run.
+    pub fn step<L: Ledger>(&mut self, steps: &mut Steps<L>) -> Result<(), End>
+        requires { MayStep self.old }
+        ensures case { self.new.case ≡ self.old.case }
+        ensures further { (history_of self.old).end ≡ None → self.new.tried ≡ self.old.tried + 1 }
+        ensures stays { (history_of self.old).end ≢ None → self.new ≡ self.old }
+        ensures answer { result ≡ answer_of (history_of self.new).end }
+        ensures names { IfErr result (IsEnd self.old.case) }
+        ensures ticks { HasTicked self.old self.new steps.old steps.new }
+    {
+        if self.end.is_none() {
+            self.advance(steps);
+        }
+        match self.end {
+            None => Ok(()),
+            Some(end) => Err(end),
+        }
+    }
+
+    /// Makes one step more, or comes to its end.
+    fn advance<L: Ledger>(&mut self, steps: &mut Steps<L>)
+        requires running { (history_of self.old).end ≡ None }
+        requires left { self.old.tried < self.old.case.run.steps }
+        ensures case { self.new.case ≡ self.old.case }
+        ensures further { self.new.tried ≡ self.old.tried + 1 }
+        ensures ticks { HasTicked self.old self.new steps.old steps.new }
+    {
+        let case = self.case;
+        match self.network.step(&self.values, steps) {
+            Ok(()) => {
+                self.made += 1;
+                set_standing(&case.parts.run, self.made, &mut self.values);
+                if self.made % case.parts.run.every == 0 {
+                    take_sample(
+                        case,
+                        &self.network,
+                        &self.values,
+                        &mut self.row,
+                        &mut self.samples,
+                    );
+                }
+            }
+            Err(fault) => self.end = Some(end_of(case, self.made + 1, fault)),
+        }
+    }
+
+    /// Makes all steps that are left, or those before the end, and answers the end, if it came. It takes no memory.
+    pub fn run<L: Ledger>(&mut self, steps: &mut Steps<L>) -> Option<End>
+        ensures case { self.new.case ≡ self.old.case }
+        ensures history { history_of self.new ≡ history self.old.case }
+        ensures end { result ≡ (history self.old.case).end }
+        ensures names { IfSome result (IsEnd self.old.case) }
+        ensures ticks { HasTicked self.old self.new steps.old steps.new }
+        ensures rows { self.old.tried ≡ 0 → IfNone result (steps.new ≡ steps.old + rows_of_run self.old.case) }
+        ensures most { self.old.tried ≡ 0 → steps.new ≤ steps.old + rows_of_run self.old.case }
+    {
+        'steps: while !self.is_over() {
+            self.advance(steps);
+        }
+        self.end
+    }
+
+    /// Whether the run is over: its last step is made, or its end came.
+    pub fn is_over(&self) -> bool
+        ensures over { OnTrue result (history_of self.now ≡ history self.now.case) }
+        ensures running { OnFalse result ((history_of self.now).end ≡ None) }
+        ensures left { OnFalse result (self.now.tried < self.now.case.run.steps) }
+    {
+        self.end.is_some() || self.made == self.case.parts.run.steps
+    }
+
+    /// The number of steps that were made: rest is no step, and neither is that of an end.
+    pub fn done(&self) -> u32
+        ensures { result + 1 ≡ length (history_of self.now).records }
+    {
+        self.made
+    }
+
+    /// The samples of the records so far.
+    pub fn samples(&self) -> &Samples
+        ensures channels { result.now.channels ≡ length self.now.case.channels }
+        ensures samples { result.now.rows ≡ samples self.now.case (history_of self.now) }
+    {
+        &self.samples
+    }
+
+    /// How many rows of the nodal matrix were redone, from the second step on; those of the end's step count too.
+    pub fn redone(&self) -> u64
+        ensures { result ≡ redone self.now.case (history_of self.now) }
+    {
+        self.network.redone()
+    }
+}

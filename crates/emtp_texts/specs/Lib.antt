@@ -1,0 +1,4 @@
+pub mod Words
+pub mod Note
+pub mod TrialDeck
+pub mod Summary
