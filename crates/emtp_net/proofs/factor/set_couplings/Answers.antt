@@ -36,7 +36,7 @@ loop-trio-preserved c =
       set = λ t below. ap (λ xs. item xs t) coupling ∙ set_more c.loop-trio.rows.nodal.coupling at g (λ t. mutual_conductance (modes_of case.run.dt (lined.trio_of case t))) inside value c.loop-trio.invariant.set t below;
     }
 
-pub returns : goal.returns-clause-set
+pub returns : goal.returns
 returns c =
     let case = c.args.case.now.parts in
     let f : ℕ → ℤ = λ t. mutual_conductance (modes_of case.run.dt (lined.trio_of case t)) in
