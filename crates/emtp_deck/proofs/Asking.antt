@@ -1,5 +1,5 @@
 -- How many channels the cards of a section ask for, and which nodes they name, where no card has a fault of sense.
-use Rattle.std.proofs.Common.{◌≡◌, ◌∙◌, sym, ap, refl, ℕ, zero, suc, ◌+◌, ◌*◌, ◌≤◌, ◌==◌, ℤ, Bool, true, false, List, [], ◌∷◌, ◌++◌, length, fold, Option, Some, None, Result, Ok, Err, arith, length-append}
+use Rattle.std.proofs.Common.{◌≡◌, ◌∙◌, sym, ap, refl, ℕ, ◌+◌, List, [], ◌∷◌, length, fold, Option, Some, None, Result, Ok, Err, arith, length-append}
 use Rattle.std.specs.Prelude.{if◌then◌else◌, is_some, option_map, position}
 use Rattle.std.specs.List.{sum_by}
 use Rattle.std.specs.Str.{bytes_eq}
@@ -7,15 +7,13 @@ use Rattle.std.proofs.lemmas.List.Sums.{sum_by-cons}
 use Rattle.emtp_card.specs.Fault.{unless_bad}
 use Rattle.emtp_card.specs.declared.fault.Fault.{Fault}
 use Rattle.emtp_card.specs.declared.reason.Bad.{Bad}
-use Rattle.emtp_case.specs.declared.branch.Branch.{Branch}
-use Rattle.emtp_case.specs.declared.branch.Branch.TheVariants.{Line as OfLine, Lumped as OfLumped, Phase as OfPhase, Pseudo as OfPseudo}
 use Rattle.emtp_case.specs.declared.branch.Point.{Point}
 use Rattle.emtp_case.specs.declared.case.Parts.{Parts}
 use Rattle.emtp_case.specs.declared.channel.Channel.{Channel}
-use Rattle.emtp_case.specs.declared.channel.Channel.TheVariants.{BranchCurrent, BranchVoltage, NodeVoltage as NodeChannel, SwitchCurrent, SwitchVoltage}
+use Rattle.emtp_case.specs.declared.channel.Channel.TheVariants.{NodeVoltage as NodeChannel, SwitchCurrent, SwitchVoltage}
 use Rattle.emtp_deck.specs.Answer.{go_on}
-use Rattle.emtp_deck.specs.Branches.{entry_channels, entry_count, take_branches, take_entry, with_branches, with_entry, with_nodes, with_own, with_single, with_values}
-use Rattle.emtp_deck.specs.Channels.{channel_count, channels_of, status_of, switch_channel_count}
+use Rattle.emtp_deck.specs.Branches.{entry_channels, entry_count, take_branches, take_entry, with_branches, with_entry, with_nodes, with_own, with_values}
+use Rattle.emtp_deck.specs.Channels.{channels_of, status_of}
 use Rattle.emtp_deck.specs.Deck.{made_of_deck}
 use Rattle.emtp_deck.specs.Made.{Made, count_asked, empty_made, no_room, too_many, unless_fault}
 use Rattle.emtp_deck.specs.Names.{find_node, node_names, with_entry_names, with_switch_names}

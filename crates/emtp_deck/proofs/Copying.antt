@@ -1,8 +1,7 @@
 -- A branch whose values a card takes is one of the case.
-use Rattle.std.proofs.Common.{◌≡◌, ◌∙◌, sym, ap, subst, ℕ, suc, ◌+◌, ◌<◌, ◌==◌, ℤ, Bool, true, false, ◌&&◌, List, [], ◌∷◌, length, Option, Some, None, refl, arith}
+use Rattle.std.proofs.Common.{◌≡◌, subst, ℕ, suc, ◌==◌, ℤ, Bool, true, false, ◌&&◌, List, [], ◌∷◌, Option, Some, refl, arith}
 use Rattle.std.specs.Prelude.{All, find, if◌then◌else◌}
 use Rattle.std.specs.Ordering.{int_eq}
-use Rattle.std.proofs.lemmas.Bool.Decides.{nat_tests}
 use Rattle.emtp_case.specs.Branch.{IsBranch, from_of, to_of}
 use Rattle.emtp_case.specs.Sizes.{sizes_of}
 use Rattle.emtp_case.specs.declared.branch.Branch.{Branch}

@@ -1,11 +1,10 @@
 -- What is made of the cards stays whole where the branches of an entry are added.
-use Rattle.std.proofs.Common.{◌≡◌, ◌∙◌, sym, ap, refl, ℕ, ◌+◌, ◌<◌, ◌≤◌, Bool, true, false, List, [], ◌∷◌, ◌++◌, length, Option, Some, None, Ok, arith, length-append, length-take, length-drop}
+use Rattle.std.proofs.Common.{◌≡◌, ◌∙◌, sym, ap, refl, ℕ, ◌+◌, ◌<◌, ◌≤◌, Bool, true, false, List, [], ◌∷◌, ◌++◌, length, None, Ok, arith, length-append, length-take, length-drop}
 use Rattle.std.specs.Prelude.{All, drop, take, ◌==◌, if◌then◌else◌}
 use Rattle.std.proofs.lemmas.List.Elements.{All-append}
-use Rattle.emtp_case.specs.Branch.{IsCharacteristic, points_of}
+use Rattle.emtp_case.specs.Branch.{points_of}
 use Rattle.emtp_case.specs.Channel.{IsChannel}
 use Rattle.emtp_case.specs.HistoryValues.{history_values_of}
-use Rattle.emtp_case.specs.Name.{IsName}
 use Rattle.emtp_case.specs.Sizes.{Sizes, sizes_of}
 use Rattle.emtp_case.specs.declared.branch.Branch.{Branch}
 use Rattle.emtp_case.specs.declared.branch.Point.{Point}
@@ -18,7 +17,7 @@ use Rattle.emtp_case.specs.declared.run_data.RunData.{RunData}
 use Rattle.emtp_deck.specs.Branches.{branch_channels, entry_channels, entry_count, entry_history, with_branches, with_own, with_values}
 use Rattle.emtp_deck.specs.Channels.{channel_count, channels_of}
 use Rattle.emtp_deck.specs.Copies.{missing_fault, values_from}
-use Rattle.emtp_deck.specs.Filling.{AreThere, IsFilling}
+use Rattle.emtp_deck.specs.Filling.{IsFilling}
 use Rattle.emtp_deck.specs.Made.{count_asked}
 use Rattle.emtp_deck.specs.Sensible.{AreOwnPoints, IsSensible}
 use Rattle.emtp_deck.specs.Sound.{IsEntry, IsSingleEntry, has_points, is_reactor}

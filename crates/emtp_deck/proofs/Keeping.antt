@@ -1,13 +1,10 @@
 -- What is made of the cards stays whole where a source or a switch is added.
 use Rattle.std.proofs.lemmas.List.Elements.{All-append, All-cons, All-nil, All-weaker}
-use Rattle.std.proofs.Common.{◌≡◌, ◌∙◌, sym, ap, subst, refl, ℕ, zero, suc, ◌+◌, ◌==◌, ◌<◌, ◌≤◌, Bool, true, false, List, [], ◌∷◌, ◌++◌, length, arith, length-append}
+use Rattle.std.proofs.Common.{◌≡◌, refl, ℕ, zero, suc, ◌+◌, ◌==◌, ◌<◌, ◌≤◌, Bool, true, false, List, [], ◌∷◌, ◌++◌, length, arith, length-append}
 use Rattle.std.specs.Prelude.{All, OnOk, Ok, Err, Result, if◌then◌else◌}
-use Rattle.emtp_case.specs.Case.{HasNoControl}
 use Rattle.emtp_case.specs.Channel.{IsChannel}
-use Rattle.emtp_case.specs.HistoryValues.{history_values_of}
 use Rattle.emtp_case.proofs.Growth.{IsChannel-grows}
 use Rattle.emtp_case.specs.Sizes.{Grows, Sizes, sizes_of}
-use Rattle.emtp_case.specs.declared.case.Parts.{Parts}
 use Rattle.emtp_case.specs.declared.draft.Draft.{Draft}
 use Rattle.emtp_case.specs.declared.source.Source.{Source}
 use Rattle.emtp_case.specs.declared.channel.Channel.{Channel}

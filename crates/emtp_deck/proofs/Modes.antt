@@ -1,7 +1,7 @@
 -- The numbers that a line's card gives, and how many history values they need.
-use Rattle.std.proofs.Common.{◌≡◌, ◌∙◌, sym, ap, subst, refl, ℕ, ◌+◌, ◌*◌, ◌^◌, ◌<◌, ◌≤◌, ◌==◌, ◌≤ℤ◌, ℤ, pos, Bool, true, false, List, length, Option, Some, None, unwrap_or, arith, FitsSigned}
+use Rattle.std.proofs.Common.{◌≡◌, refl, ℕ, ◌+◌, ◌*◌, ◌^◌, ◌<◌, ◌≤◌, ◌==◌, ◌≤ℤ◌, ℤ, pos, Bool, true, false, List, Option, Some, None, unwrap_or, arith, FitsSigned}
 use mir.Syntax.{w64}
-use Rattle.std.specs.Prelude.{if◌then◌else◌, All, find, slice_index_or, unsigned_abs}
+use Rattle.std.specs.Prelude.{if◌then◌else◌, All, find, unsigned_abs}
 use Rattle.std.proofs.Math.Nat.{div-le_of_le-mul}
 use Rattle.std.proofs.lemmas.Int.{ints}
 use Rattle.std.proofs.lemmas.Nat.{mul-le}
@@ -10,10 +10,9 @@ use Rattle.emtp_case.specs.HistoryValues.{travel_steps, trio_history_values}
 use Rattle.emtp_case.specs.Sizes.{sizes_of}
 use Rattle.emtp_case.specs.declared.branch.Branch.{Branch}
 use Rattle.emtp_case.specs.declared.branch.Branch.TheVariants.{Line as OfLine, Lumped as OfLumped, Phase as OfPhase, Pseudo as OfPseudo}
-use Rattle.emtp_case.specs.declared.branch.Trio.{Trio}
 use Rattle.emtp_case.specs.declared.case.Parts.{Parts}
 use Rattle.emtp_deck.specs.Branches.{line_history, modes_of, no_numbers}
-use Rattle.emtp_deck.specs.Copies.{IsEarlier, earlier_or_missing, is_like, line_numbers, missing_fault, mode_of_phase, no_trio, numbers_of_branch, numbers_of_card, phase_numbers, type_of_branch, type_of_pseudo, type_of_values, values_by}
+use Rattle.emtp_deck.specs.Copies.{IsEarlier, earlier_or_missing, is_like, line_numbers, missing_fault, mode_of_phase, no_trio, numbers_of_branch, numbers_of_card, type_of_pseudo, type_of_values, values_by}
 use Rattle.emtp_deck.specs.Names.{node_number}
 use Rattle.emtp_deck.specs.Sensible.{IsLineKind}
 use Rattle.emtp_deck.specs.declared.copies.LineNumbers.{LineNumbers}

@@ -1,5 +1,5 @@
 -- What the deck keeps when a card is added.
-use Rattle.std.proofs.Common.{◌≡◌, ◌∙◌, sym, ap, subst, ℕ, zero, suc, ◌+◌, ◌-◌, ◌≤◌, ◌<◌, ◌≢◌, ℤ, Bool, true, false, List, [], ◌∷◌, ◌++◌, length, take, drop, get_or, Option, Some, None, refl, inl, inr, arith, add-one, length-append, length-drop}
+use Rattle.std.proofs.Common.{◌≡◌, ◌∙◌, sym, ap, subst, ℕ, zero, suc, ◌+◌, ◌≤◌, ◌<◌, ◌≢◌, ℤ, Bool, true, List, [], ◌∷◌, ◌++◌, length, take, drop, get_or, Option, Some, refl, inl, inr, arith, add-one, length-append, length-drop}
 use Rattle.std.specs.Prelude.{All}
 use Rattle.std.proofs.lemmas.Bool.{cases_lt}
 use Rattle.std.proofs.lemmas.List.Elements.{All-append, All-cons, All-nil}
@@ -7,8 +7,8 @@ use Rattle.std.proofs.lemmas.List.{take-append-le}
 use Rattle.emtp_case.specs.Branch.{IsCharacteristic, IsSegment, origin, points_of}
 use Rattle.emtp_case.specs.declared.branch.Point.{Point}
 use Rattle.emtp_case.specs.declared.run_data.RunData.{RunData}
-use Rattle.emtp_deck.specs.Sound.{ArePoints, IsEntry, IsGroupOf, IsHead, IsSingleEntry, IsWhole, is_pseudo, is_reactor}
-use Rattle.emtp_deck.specs.Walk.{scale_by, scale_of, take_point}
+use Rattle.emtp_deck.specs.Sound.{IsEntry, IsGroupOf, IsHead, IsWhole, is_pseudo, is_reactor}
+use Rattle.emtp_deck.specs.Walk.{scale_by, scale_of}
 use Rattle.emtp_deck.specs.declared.deck.BranchEntry.{BranchEntry}
 use Rattle.emtp_deck.specs.declared.deck.BranchEntry.TheVariants.{Single, Trio}
 use Rattle.emtp_deck.specs.declared.deck.Deck.{Deck}

@@ -1,5 +1,5 @@
 -- A switch card without a fault of sense, whose names are among those of the nodes.
-use Rattle.std.proofs.Common.{◌≡◌, ◌∙◌, sym, ap, subst, ℕ, ◌+◌, ◌<◌, ◌≤◌, List, [], ◌∷◌, length, Option, None, arith}
+use Rattle.std.proofs.Common.{◌≡◌, ◌∙◌, ap, ℕ, ◌+◌, ◌<◌, ◌≤◌, List, [], ◌∷◌, length, None}
 use Rattle.std.specs.Prelude.{All}
 use Rattle.emtp_case.specs.Name.{IsName}
 use Rattle.emtp_case.specs.Range.{AreEnds}

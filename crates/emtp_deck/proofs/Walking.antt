@@ -1,5 +1,5 @@
 -- One more line of the walk.
-use Rattle.std.proofs.Common.{◌≡◌, ◌∙◌, ap, ℕ, ◌+◌, suc, List, [], ◌∷◌, drop, Some, Ok, Err, Result, add-one, drop-cons}
+use Rattle.std.proofs.Common.{◌≡◌, ◌∙◌, ap, ℕ, ◌+◌, suc, List, ◌∷◌, drop, Some, Ok, Err, Result, add-one, drop-cons}
 use Rattle.std.specs.Prelude.{slice_get}
 use Rattle.std.proofs.lemmas.Option.{slice_get_within, get_or_from_slice_get}
 use Rattle.emtp_card.specs.declared.reason.Bad.{Bad}

@@ -1,6 +1,6 @@
 -- The deck: the case of the lines, or the one fault that decides. A fault of form decides first; then the faults of sense go
 -- in the order of their lines, as the sections do.
-use Rattle.std.specs.Prelude.{ℕ, ◌+◌, Bool, true, false, List, length, Option, Some, None, Result, Ok, Err, if◌then◌else◌}
+use Rattle.std.specs.Prelude.{ℕ, ◌+◌, Bool, true, false, List, length, Option, Some, None, Result, Err, if◌then◌else◌}
 use Rattle.emtp_card.specs.Fault.{unless_bad}
 use Rattle.emtp_card.specs.declared.reason.Bad.{Bad}
 use Rattle.emtp_card.specs.declared.reason.Why.TheVariants.{MissingSection}

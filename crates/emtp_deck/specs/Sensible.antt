@@ -1,5 +1,5 @@
 -- What a branch card without a fault of sense gives its records, behind these parts of a case, which have its nodes.
-use Rattle.std.specs.Prelude.{◌≡◌, ℕ, ◌+◌, ◌<◌, ◌≤◌, ℤ, Bool, List, length, None}
+use Rattle.std.specs.Prelude.{◌≡◌, ◌+◌, ◌<◌, ◌≤◌, ℤ, Bool, List, length, None}
 use Rattle.emtp_case.specs.Branch.{IsCharacteristic}
 use Rattle.emtp_case.specs.HistoryValues.{history_values_of}
 use Rattle.emtp_case.specs.Range.{AreEnds}

@@ -1,10 +1,10 @@
 -- What the cards of a deck keep at each place of the walk.
-use Rattle.std.specs.Prelude.{◌≡◌, ℕ, ◌+◌, ◌<◌, ◌≤◌, ℤ, All, List, [], ◌∷◌, Bool, true, false, drop, length, slice_index_or, Option, Some, None, is_none, Ok, ◌&&◌}
+use Rattle.std.specs.Prelude.{◌≡◌, ℕ, ◌+◌, ◌≤◌, ℤ, All, List, [], ◌∷◌, Bool, true, false, drop, length, slice_index_or, Some, is_none, Ok, ◌&&◌}
 use Rattle.emtp_case.specs.Branch.{IsCharacteristic, origin, points_of}
 use Rattle.emtp_case.specs.RunData.{IsRun}
 use Rattle.emtp_case.specs.declared.branch.Point.{Point}
 use Rattle.emtp_case.specs.declared.run_data.RunData.{RunData}
-use Rattle.emtp_deck.specs.Walk.{is_phase, scale_by, scale_of}
+use Rattle.emtp_deck.specs.Walk.{is_phase, scale_of}
 use Rattle.emtp_deck.specs.declared.deck.BranchEntry.{BranchEntry}
 use Rattle.emtp_deck.specs.declared.deck.BranchEntry.TheVariants.{Single, Trio}
 use Rattle.emtp_deck.specs.declared.deck.Deck.{Deck}
@@ -19,7 +19,6 @@ use Rattle.emtp_netcards.specs.declared.branch_card.BranchCard.{BranchCard}
 use Rattle.emtp_netcards.specs.declared.branch_card.BranchKind.TheVariants.{Line as LineKind, Second as SecondKind}
 use Rattle.emtp_netcards.specs.declared.branch_card.BranchValues.{BranchValues}
 use Rattle.emtp_netcards.specs.declared.branch_card.BranchValues.TheVariants.{Line as LineCard, Lumped as LumpedCard, Reactor as ReactorCard, Resistor as ResistorCard, Second as SecondCard, Third as ThirdCard}
-use Rattle.emtp_netcards.specs.declared.point_card.PointScale.TheVariants.{Reactor as OfReactor, Resistor as OfResistor}
 
 -- ---- entries
 

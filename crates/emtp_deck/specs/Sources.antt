@@ -1,5 +1,5 @@
 -- Sources: what each card gives the case, unless it has a fault of sense. Of a card the least fault counts.
-use Rattle.std.specs.Prelude.{ℕ, nat_le, Bool, not, ◌&&◌, List, [], ◌∷◌, ◌++◌, length, Option, Some, None, Result, Ok, Err, if◌then◌else◌}
+use Rattle.std.specs.Prelude.{ℕ, nat_le, Bool, not, ◌&&◌, List, [], ◌∷◌, ◌++◌, length, Option, Some, None, Result, Ok, if◌then◌else◌}
 use Rattle.std.specs.List.{list_any}
 use Rattle.emtp_card.specs.Fault.{least}
 use Rattle.emtp_card.specs.declared.fault.Fault.{Fault}

@@ -1,6 +1,6 @@
 -- The walk over the lines of a case: each line has its place, and gives its card and the place of the next line, or the
 -- least fault of the line. The first line that has a fault decides.
-use Rattle.std.specs.Prelude.{ℕ, ◌+◌, ◌^◌, ℤ, pos, nat_eq, Bool, true, false, ◌&&◌, List, [], ◌∷◌, ◌++◌, length, codes, Option, Some, None, is_none, Result, Ok, Err, if◌then◌else◌}
+use Rattle.std.specs.Prelude.{ℕ, ◌+◌, ◌^◌, ℤ, pos, nat_eq, Bool, true, false, List, [], ◌∷◌, ◌++◌, length, codes, Option, Some, None, is_none, Result, Ok, Err, if◌then◌else◌}
 use Rattle.std.specs.List.{starts_with}
 use Rattle.emtp_card.specs.Fault.{judge, unless_bad}
 use Rattle.emtp_card.specs.Lines.{is_comment, is_section_end}
@@ -8,14 +8,11 @@ use Rattle.emtp_card.specs.declared.reason.Bad.{Bad}
 use Rattle.emtp_card.specs.declared.reason.Why.{Why}
 use Rattle.emtp_card.specs.declared.reason.Why.TheVariants.{BadOrder}
 use Rattle.emtp_case.specs.declared.branch.Point.{Point}
-use Rattle.emtp_case.specs.declared.run_data.RunData.{RunData}
 use Rattle.emtp_deck.specs.Answer.{go_on}
 use Rattle.emtp_deck.specs.Unbuilt.{is_unbuilt, unbuilt_fault}
-use Rattle.emtp_deck.specs.declared.deck.BranchEntry.{BranchEntry}
 use Rattle.emtp_deck.specs.declared.deck.BranchEntry.TheVariants.{Single, Trio}
 use Rattle.emtp_deck.specs.declared.deck.Deck.{Deck}
 use Rattle.emtp_deck.specs.declared.deck.Group.{Group}
-use Rattle.emtp_deck.specs.declared.deck.OutputEntry.{OutputEntry}
 use Rattle.emtp_deck.specs.declared.deck.Place.{Place}
 use Rattle.emtp_deck.specs.declared.deck.Place.TheVariants.{After, Begin, Branches, First, Outputs, Points, Second, Sources, Start, Switches, Third, Waiting}
 use Rattle.emtp_deck.specs.declared.unbuilt.Section.TheVariants.{Control as ControlSection, Sources as SourceSection, Switches as SwitchSection}

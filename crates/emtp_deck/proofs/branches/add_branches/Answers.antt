@@ -1,4 +1,4 @@
-use Rattle.std.proofs.Common.{◌≡◌, ◌+◌, ◌-◌, arith}
+use Rattle.std.proofs.Common.{arith}
 use Rattle.emtp_deck.proofs.Growing.{own_points}
 use Rattle.emtp_deck.proofs.branches.add_branches.Goals as goal
 

@@ -1,4 +1,4 @@
-use Rattle.std.proofs.Common.{◌≡◌, refl}
+use Rattle.std.proofs.Common.{refl}
 use Rattle.emtp_deck.proofs.Growing.{with_more_branches}
 use Rattle.emtp_deck.proofs.Keeping.{on_ok}
 use Rattle.emtp_deck.proofs.branches.add_entry.Goals as goal

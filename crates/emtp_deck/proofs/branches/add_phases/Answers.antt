@@ -1,5 +1,5 @@
 use mir.Syntax.{w64}
-use Rattle.std.proofs.Common.{◌≡◌, ◌∙◌, sym, ap, ◌+◌, ◌≤◌, FitsSigned, rules}
+use Rattle.std.proofs.Common.{◌∙◌, sym, ap, ◌+◌, FitsSigned, rules}
 use Rattle.std.proofs.lemmas.Int.{to_z-of_z}
 use Rattle.emtp_case.specs.HistoryValues.{history_values_of}
 use Rattle.emtp_deck.proofs.Modes.{trio_values}

@@ -1,4 +1,3 @@
-use Rattle.std.proofs.Common.{◌≡◌, ◌∙◌, sym}
 use Rattle.emtp_deck.proofs.Modes.{numbered}
 use Rattle.emtp_deck.proofs.branches.numbers_for.Goals as goal
 

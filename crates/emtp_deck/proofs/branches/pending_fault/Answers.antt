@@ -1,4 +1,4 @@
-use Rattle.std.proofs.Common.{◌≡◌, ◌∷◌, [], ◌≤◌, arith}
+use Rattle.std.proofs.Common.{◌∷◌, [], arith}
 use Rattle.emtp_deck.proofs.Naming.{all_named}
 use Rattle.emtp_deck.proofs.branches.pending_fault.Goals as goal
 

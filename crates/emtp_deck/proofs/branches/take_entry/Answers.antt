@@ -1,7 +1,5 @@
-use Rattle.std.proofs.Common.{◌≡◌, ◌∙◌, sym, ap, refl, ◌+◌, ◌≤◌, length, arith}
-use Rattle.emtp_case.specs.declared.case.Parts.{Parts}
+use Rattle.std.proofs.Common.{sym, refl}
 use Rattle.emtp_deck.specs.Filling.{made_of}
-use Rattle.emtp_deck.specs.Sensible.{IsSensible}
 use Rattle.emtp_deck.proofs.Keeping.{with_more_nodes}
 use Rattle.emtp_deck.proofs.Sensing.{names_more, takable}
 use Rattle.emtp_deck.proofs.branches.take_entry.Goals as goal

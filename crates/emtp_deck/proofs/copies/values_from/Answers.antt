@@ -1,5 +1,5 @@
 use mir.Syntax.{w64}
-use Rattle.std.proofs.Common.{◌≡◌, ◌∙◌, sym, FitsSigned, rules}
+use Rattle.std.proofs.Common.{◌∙◌, sym, FitsSigned, rules}
 use Rattle.std.proofs.lemmas.Int.{to_z-of_z}
 use Rattle.emtp_deck.specs.Copies.{type_of_values}
 use Rattle.emtp_deck.proofs.Copying.{earlier}

@@ -1,4 +1,4 @@
-use Rattle.std.proofs.Common.{◌≡◌, ◌∙◌, ◌+◌, ◌≤◌, sym, arith, length}
+use Rattle.std.proofs.Common.{◌∙◌, ◌+◌, ◌≤◌, sym, arith, length}
 use Rattle.emtp_case.specs.Sizes.{sizes_of}
 use Rattle.emtp_deck.specs.Made.{count_asked}
 use Rattle.emtp_deck.specs.Outputs.{node_channels}

@@ -1,4 +1,4 @@
-use Rattle.std.proofs.Common.{◌≡◌, ◌∙◌, sym}
+use Rattle.std.proofs.Common.{◌∙◌, sym}
 use Rattle.emtp_deck.specs.Filling.{made_of}
 use Rattle.emtp_deck.proofs.WholeDeck.{cut_off, stopped, stored_within, whole_of}
 use Rattle.emtp_deck.proofs.reading.filled.Goals as goal

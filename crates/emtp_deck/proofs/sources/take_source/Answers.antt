@@ -1,4 +1,4 @@
-use Rattle.std.proofs.Common.{◌≡◌, ◌∙◌, sym}
+use Rattle.std.proofs.Common.{◌∙◌, sym}
 use Rattle.emtp_deck.proofs.Judging.{sensible_source}
 use Rattle.emtp_deck.proofs.Keeping.{on_ok, with_more_sources}
 use Rattle.emtp_deck.specs.Sources.{source_at}

@@ -1,4 +1,3 @@
-use Rattle.std.proofs.Common.{◌≡◌, ◌∙◌, sym}
 use Rattle.emtp_deck.proofs.Keeping.{on_ok, with_more_switches}
 use Rattle.emtp_deck.proofs.switches.add_switch.Goals as goal
 

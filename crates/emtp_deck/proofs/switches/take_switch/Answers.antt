@@ -1,6 +1,6 @@
-use Rattle.std.proofs.Common.{◌≡◌, ◌∙◌, sym, refl}
+use Rattle.std.proofs.Common.{◌∙◌, sym, refl}
 use Rattle.emtp_deck.proofs.Keeping.{with_more_nodes}
-use Rattle.emtp_deck.proofs.Switching.{IsReady, ready}
+use Rattle.emtp_deck.proofs.Switching.{ready}
 use Rattle.emtp_deck.proofs.switches.take_switch.Goals as goal
 
 pub add_nodes-requires-clause-grows : goal.add_nodes-requires-clause-grows

@@ -1,4 +1,4 @@
-use Rattle.std.proofs.Common.{◌≡◌, ◌∙◌, ◌+◌, sym}
+use Rattle.std.proofs.Common.{◌∙◌, ◌+◌}
 use Rattle.emtp_deck.proofs.Walking.{walk_on, walk_stops, refused_as}
 use Rattle.emtp_deck.proofs.walk.walk.Goals as goal
 
