@@ -1,8 +1,7 @@
 -- The text of comments doesn't matter.
-use Rattle.std.proofs.Common.{◌≡◌, ◌∙◌, sym, ap, refl, ℕ, ◌+◌, Bool, true, false, List, [], ◌∷◌, length, inl, inr, Result, Ok, Err}
+use Rattle.std.proofs.Common.{◌≡◌, ◌∙◌, sym, ap, refl, ℕ, ◌+◌, Bool, true, false, List, [], ◌∷◌, length, inl, inr, Ok, Err}
 use Rattle.std.specs.Prelude.{if◌then◌else◌}
 use Rattle.emtp_card.specs.Lines.{is_comment}
-use Rattle.emtp_card.specs.declared.reason.Bad.{Bad}
 use Rattle.emtp_deck.specs.Answer.{go_on}
 use Rattle.emtp_deck.specs.Deck.{deck_of, filled}
 use Rattle.emtp_deck.specs.Laws.{AreAlike, IsAlike}

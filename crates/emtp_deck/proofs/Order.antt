@@ -1,7 +1,7 @@
 -- The cards of a deck stand in the order of their lines.
-use Rattle.std.proofs.Common.{◌≡◌, ◌∙◌, sym, ap, subst, refl, ℕ, zero, suc, ◌+◌, ◌≤◌, ℤ, Bool, true, false, List, [], ◌∷◌, ◌++◌, length, Option, Some, None, Result, Ok, Err, arith, append_assoc}
+use Rattle.std.proofs.Common.{◌≡◌, ◌∙◌, sym, ap, subst, refl, ℕ, suc, ◌+◌, ◌≤◌, ℤ, Bool, true, false, List, [], ◌∷◌, ◌++◌, length, Option, Some, None, Result, Ok, Err, arith, append_assoc}
 use Rattle.std.specs.List.{starts_with}
-use Rattle.std.specs.Prelude.{IfOk, if◌then◌else◌, is_none, map, nat_eq, codes}
+use Rattle.std.specs.Prelude.{IfOk, if◌then◌else◌, is_none, nat_eq, codes}
 use Rattle.std.proofs.lemmas.List.{append-nil, map-append}
 use Rattle.emtp_card.specs.Fault.{judge, unless_bad}
 use Rattle.emtp_card.specs.Lines.{is_comment, is_section_end}
