@@ -10,3 +10,5 @@ pub mod Asking
 pub mod Judging
 pub mod Switching
 pub mod WholeDeck
+pub mod Comments
+pub mod Order

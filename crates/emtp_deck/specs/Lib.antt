@@ -16,3 +16,4 @@ pub mod Sources
 pub mod Outputs
 pub mod Samples
 pub mod Deck
+pub mod Laws
