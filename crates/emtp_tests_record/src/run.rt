@@ -41,7 +41,10 @@ const DAT: &str = concat!(
     "\x1a"
 );
 
-const NOTE: &str = "DONE STEPS 3 SAMPLES 4\n";
+const NOTE: &str = "DONE STEPS 3 SAMPLES 4 REDONE 0\n";
+
+/// The summary of one section, by a program of others.
+const TRIAL: &str = "TRIAL 1 STEPS 2000 SAMPLES 101 REDONE 4 PEAK 145543352911428 SUM 1189507906597277\n";
 
 const RUN: [&str; 4] = ["run", "a.case", "a.cfg", "a.dat"];
 
@@ -148,5 +151,17 @@ fn names_its_outputs_by_the_words(rt: HostRuntime) -> Result<(), Fail> {
     assert!(rt; cabinet.name(Output::Cfg) == Some("a.cfg"));
     assert!(rt; cabinet.name(Output::Dat) == Some("a.dat"));
     assert!(rt; cabinet.name(Output::Note) == Some(""));
+    Ok(())
+}
+
+#[test]
+fn leaves_the_summary_of_a_trial_alone(rt: HostRuntime) -> Result<(), Fail> {
+    let alloc = rt.alloc();
+    let mut cabinet = failing(alloc, DIVIDER, Op::Open, 1)?;
+    assert_eq!(rt; call(alloc, &["trial", "1"], &mut cabinet)?, Status::Done);
+    assert!(rt; is(&cabinet, Output::Cfg, Stands::No, ""));
+    assert!(rt; is(&cabinet, Output::Dat, Stands::No, ""));
+    assert!(rt; is(&cabinet, Output::Note, Stands::No, ""));
+    assert!(rt; is(&cabinet, Output::Summary, Stands::Whole, TRIAL));
     Ok(())
 }

@@ -1,0 +1,107 @@
+//! The words of a command line, beside a reader of command lines that others wrote.
+
+use clap::{Arg, ArgAction, Command, Error};
+use emtp_run::{Words, read_words, trial_deck};
+use std::alloc::{AllocError, Global};
+use std::test::Fail;
+
+/// The command line as clap sees it: `run CASE CFG DAT` or `trial N`, each word required.
+fn command<'a>(alloc: Global) -> Result<Command<'a>, Error> {
+    let run = Command::new(alloc, "run")
+        .arg(required(alloc, "CASE"))?
+        .arg(required(alloc, "CFG"))?
+        .arg(required(alloc, "DAT"))?;
+    let trial = Command::new(alloc, "trial").arg(required(alloc, "N"))?;
+    Ok(
+        Command::new(alloc, "emtp")
+            .subcommand_required(true)
+            .subcommand(run)?
+            .subcommand(trial)?,
+    )
+}
+
+fn required<'a>(alloc: Global, name: &'a str) -> Arg<'a> {
+    Arg::new(alloc, name).required(true).action(ArgAction::Set)
+}
+
+fn owned(alloc: Global, words: &[&str]) -> Result<Vec<String>, AllocError> {
+    let mut all = Vec::new(alloc);
+    for word in words {
+        all.push(String::from_str(alloc, word)?)?;
+    }
+    Ok(all)
+}
+
+#[test]
+fn finds_the_files_that_clap_finds(rt: HostRuntime) -> Result<(), Fail> {
+    let alloc = rt.alloc();
+    let words = ["emtp", "run", "a.case", "a.cfg", "a.dat"];
+    let matches = command(alloc)?.try_get_matches_from(&words)?;
+    let own = owned(alloc, &words[1..])?;
+    match (matches.subcommand(), read_words(&own)) {
+        (Some((name, run)), Some(Words::Run(files))) => {
+            assert_eq!(rt; name, "run");
+            assert_eq!(rt; run.get_str("CASE"), Some(files.case));
+            assert_eq!(rt; run.get_str("CFG"), Some(files.cfg));
+            assert_eq!(rt; run.get_str("DAT"), Some(files.dat));
+        }
+        _ => assert!(rt; false),
+    }
+    Ok(())
+}
+
+#[test]
+fn finds_the_number_that_clap_finds(rt: HostRuntime) -> Result<(), Fail> {
+    let alloc = rt.alloc();
+    let words = ["emtp", "trial", "300"];
+    let matches = command(alloc)?.try_get_matches_from(&words)?;
+    let own = owned(alloc, &words[1..])?;
+    match (matches.subcommand(), read_words(&own)) {
+        (Some((name, trial)), Some(Words::Trial(number))) => {
+            assert_eq!(rt; name, "trial");
+            assert_eq!(rt; trial.get_str("N"), Some("300"));
+            assert_eq!(rt; number, 300);
+        }
+        _ => assert!(rt; false),
+    }
+    Ok(())
+}
+
+/// Whether clap refuses a command line, and the program the words after its name.
+fn refused(alloc: Global, line: &[&str], words: &[&str]) -> Result<bool, Error> {
+    let clap = command(alloc)?.try_get_matches_from(line).is_err();
+    Ok(clap && read_words(&owned(alloc, words)?).is_none())
+}
+
+#[test]
+fn refuses_words_as_clap_does(rt: HostRuntime) -> Result<(), Fail> {
+    let alloc = rt.alloc();
+    assert!(rt; refused(alloc, &["emtp", "run", "A", "B"], &["run", "A", "B"])?);
+    assert!(rt; refused(alloc, &["emtp"], &[])?);
+    Ok(())
+}
+
+/// The trial case of two sections.
+const TRIAL: &str = concat!(
+    "BEGIN NEW DATA CASE\n",
+    "   1.E-5     .02\n",
+    "       1      20\n",
+    "  N0000 N0001                 .5   1.0\n",
+    "  N0001                                  .01\n",
+    "  N0001 N0002                 .5   1.0\n",
+    "  N0002                                  .01\n",
+    "  LOAD                      100.\n",
+    "BLANK\n",
+    "  N0002 LOAD        .002      .006                                             1\n",
+    "BLANK\n",
+    "14N0000         1.E5       60.\n",
+    "BLANK\n",
+    "  N0002\n",
+    "BLANK\n",
+);
+
+#[test]
+fn writes_the_cards_of_a_trial(rt: HostRuntime) -> Result<(), Fail> {
+    assert_eq!(rt; trial_deck(rt.alloc(), 2)?.as_slice(), TRIAL.as_bytes());
+    Ok(())
+}
