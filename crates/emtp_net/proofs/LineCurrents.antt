@@ -1,5 +1,5 @@
 -- The branch currents of lines and phases in a record.
-use Rattle.std.proofs.Common.{◌≡◌, ◌∙◌, sym, ap, subst, ℕ, zero, suc, ◌+◌, ◌<◌, ℤ, pos, List, [], ◌∷◌, length, map, slice_get, slice_index_or, IsSome, Option, option_map, Some, refl, arith}
+use Rattle.std.proofs.Common.{◌≡◌, ◌∙◌, sym, ap, subst, ℕ, zero, suc, ◌+◌, ◌<◌, ℤ, pos, List, [], ◌∷◌, length, map, slice_index_or, IsSome, Option, option_map, refl, arith}
 use Rattle.std.proofs.lemmas.Option.{slice_get_within}
 use Rattle.emtp_case.specs.StepRecord.{StepRecord, LineBranch, PhaseBranch, branch_at_rest, branch_current_at, current_of, latest, line_at, line_state_of, no_line, no_phase, phase_state_at, phase_state_of, rest_of}
 use Rattle.emtp_case.specs.declared.branch.Branch.{Branch}

@@ -211,11 +211,7 @@ struct Shown {
 }
 
 /// What a network shows of record 0.
-fn shown_at_rest(
-    alloc: Global,
-    case: &Case,
-    switches: &Switches<'_>,
-) -> Result<Shown, AllocError>
+fn shown_at_rest(alloc: Global, case: &Case, switches: &Switches<'_>) -> Result<Shown, AllocError>
     requires { switches.now.case ≡ case.now.parts }
     ensures voltages { IfOk result (λ shown. shown.voltages.items ≡ replicate (length case.now.parts.nodes + 1) (pos 0)) }
     ensures currents { IfOk result (λ shown. shown.currents.items ≡ replicate (length case.now.parts.branches) (pos 0)) }

@@ -1,4 +1,4 @@
-use Rattle.std.proofs.Common.{◌≡◌, ◌∙◌, sym, subst, length, FitsSigned, to_z, of_z, rules}
+use Rattle.std.proofs.Common.{◌∙◌, sym, subst, length, FitsSigned, rules}
 use mir.Syntax.{w64}
 use Rattle.std.proofs.lemmas.Int.{to_z-of_z}
 use Rattle.emtp_case.specs.StepRecord.{latest}
