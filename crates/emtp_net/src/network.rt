@@ -65,6 +65,7 @@ impl<'a> Network<'a> {
     pub fn open(alloc: Global, case: &'a Case) -> Result<Network<'a>, AllocError>
         ensures case { IfOk result (λ network. network.case ≡ case.now.parts) }
         ensures rest { IfOk result (λ network. StandsFor network (rest_of case.now.parts ∷ [])) }
+        ensures made { IfOk result (λ network. network.made ≡ 0) }
     {
         let order = order(alloc, case)?;
         let table = CosTable::open(alloc)?;
