@@ -74,9 +74,9 @@ moves p lines trios at v w (Err e) old new h within read moved out same =
 pub trio_moves : (p : Parts) (lines : List HeldLine) (trios : List HeldTrio) (at : ℕ) (v w : List ℤ) (result : Result (List ℤ) PhaseRange) (old new : HeldTrio) → IsLining p lines trios → at < length p.trios → at < length trios → old ≡ trio_held trios at
     → ((past : ℕ → List PhaseState) → TrioStands old past → IfOk result (TrioMoved new past (next_phases (held_modes old) past v w)))
     → ((past : ℕ → List PhaseState) → TrioStands old past → IfErr result (λ fault. next_phases (held_modes old) past v w ≡ Err fault))
-    → OnErr result (new ≡ old)
+    → OnErr result (new ≡ old) → IfErr result (λ fault. fault.phase < 3)
     → TrioMoves (record { case = p; lines = lines; trios = trios }) (record { case = p; lines = lines; trios = slice_set trios at new }) at v w result
-trio_moves p lines trios at v w (Ok i) old new h there within read moved out same = record {
+trio_moves p lines trios at v w (Ok i) old new h there within read moved out same few = record {
   case = refl;
   moved = λ past stands.
       let m = moved past (subst (λ (k : HeldTrio). TrioStands k past) (sym read) stands.stands) in
@@ -90,8 +90,9 @@ trio_moves p lines trios at v w (Ok i) old new h there within read moved out sam
   others = λ t past apart stands. trio_stands-other p lines trios at t new past apart stands;
   lines = λ b past stands. record { there = stands.there; stands = stands.stands };
   same = tt;
+  phase = tt;
 }
-trio_moves p lines trios at v w (Err e) old new h there within read moved out same =
+trio_moves p lines trios at v w (Err e) old new h there within read moved out same few =
     let kept : slice_set trios at new ≡ trios = ap (slice_set trios at) (same ∙ read) ∙ set-get_or trios at (trio_at_rest (pos 1) no_trio) in
     record {
       case = refl;
@@ -100,4 +101,5 @@ trio_moves p lines trios at v w (Err e) old new h there within read moved out sa
       others = λ t past apart stands. trio_stands-other p lines trios at t new past apart stands;
       lines = λ b past stands. record { there = stands.there; stands = stands.stands };
       same = ap (λ (ks : List HeldTrio). record { case = p; lines = lines; trios = ks }) kept;
+      phase = few;
     }

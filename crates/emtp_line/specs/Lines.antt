@@ -118,6 +118,7 @@ pub record TrioMoves (old new : Lining) (trio : ℕ) (v w : List ℤ) (result : 
   pub others : (t : ℕ) (past : ℕ → List PhaseState) → t ≢ trio → TrioStandsAt old t past → TrioStandsAt new t past
   pub lines : (b : ℕ) (past : List LineState) → StandsAt old b past → StandsAt new b past
   pub same : OnErr result (new ≡ old)
+  pub phase : IfErr result (λ fault. fault.phase < 3)
 
 -- ---- what is held
 

@@ -112,6 +112,7 @@ impl HeldTrio {
         ensures moved { (past : ℕ → List PhaseState) → TrioStands self.old past → IfOk result (TrioMoved self.new past (next_phases (held_modes self.old) past v.now w.now)) }
         ensures out { (past : ℕ → List PhaseState) → TrioStands self.old past → IfErr result (λ fault. next_phases (held_modes self.old) past v.now w.now ≡ Err fault) }
         ensures same { OnErr result (self.new ≡ self.old) }
+        ensures phase { IfErr result (λ fault. fault.phase < 3) }
     {
         match self.next(v, w) {
             Ok(states) => {
@@ -131,6 +132,7 @@ impl HeldTrio {
         requires { IsHeldTrio self.now }
         ensures value { result ≡ three_states (phase_end (held_modes self.now) (held_from_histories self.now) v.now) (phase_end (held_modes self.now) (held_to_histories self.now) w.now) }
         ensures small { IfOk result AreSmall }
+        ensures phase { IfErr result (λ fault. fault.phase < 3) }
     {
         let from = phase_end(self, &from_histories(self), v);
         let to = phase_end(self, &to_histories(self), w);

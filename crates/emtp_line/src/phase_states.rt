@@ -1,6 +1,6 @@
 //! What a record keeps of the three phases of a line, or the first phase that is out of range.
 
-ghost use Rattle.std.specs.Prelude.{◌≡◌, ◌<◌, ℤ, List, IfSome, IfOk};
+ghost use Rattle.std.specs.Prelude.{◌≡◌, ◌<◌, ℤ, List, IfSome, IfErr, IfOk};
 ghost use Rattle.emtp_line.specs.PhaseEnd.{AreSmall, IsSmall};
 ghost use Rattle.emtp_line.specs.Phases.{phase_state, three_of, three_states, zero_wave_at};
 
@@ -19,6 +19,7 @@ pub struct PhaseRange {
 pub(crate) fn three_states(from: &PhaseEnd, to: &PhaseEnd) -> Result<[PhaseState; 3], PhaseRange>
     ensures value { result ≡ three_states from.now to.now }
     ensures small { IfOk result AreSmall }
+    ensures phase { IfErr result (λ fault. fault.phase < 3) }
 {
     three_of(
         phase_state(from, to, 0),
@@ -37,6 +38,7 @@ fn three_of(
     requires third { IfSome third IsSmall }
     ensures value { result ≡ three_of first second third }
     ensures small { IfOk result AreSmall }
+    ensures phase { IfErr result (λ fault. fault.phase < 3) }
 {
     let Some(first) = first else {
         return Err(PhaseRange { phase: 0 });

@@ -1,9 +1,9 @@
 -- All branches moved, one after the other.
-use Rattle.std.proofs.Common.{◌≡◌, ◌≢◌, ◌∙◌, sym, ap, subst, ℕ, ◌+◌, ◌<◌, ◌≤◌, ℤ, pos, nat_lt, false, true, if◌then◌else◌, List, ◌∷◌, length, get_or, slice_get, slice_set, get_or-set_same, get_or-set_other, IsSome, Option, Some, None, refl, inl, inr, arith}
+use Rattle.std.proofs.Common.{◌≡◌, ◌∙◌, sym, ap, subst, ℕ, ◌+◌, ◌<◌, ◌≤◌, ℤ, pos, nat_lt, false, true, if◌then◌else◌, List, ◌∷◌, length, get_or, slice_get, slice_set, get_or-set_same, get_or-set_other, IsSome, Some, inl, inr, arith}
 use Rattle.std.proofs.lemmas.Bool.{cases_eq, cases_lt}
 use Rattle.std.proofs.lemmas.Bool.Decides.{nat_tests}
 use Rattle.std.proofs.lemmas.Option.{slice_get-get_or, slice_get_within}
-use Rattle.emtp_case.specs.Branch.{first_of_trio, phase_at, phase_of}
+use Rattle.emtp_case.specs.Branch.{first_of_trio}
 use Rattle.emtp_case.specs.Case.{IsNetwork}
 use Rattle.emtp_case.specs.StepRecord.{StepRecord, branch_current_at}
 use Rattle.emtp_case.specs.declared.branch.Branch.{Branch}
@@ -14,10 +14,10 @@ use Rattle.emtp_case.specs.declared.case.Parts.{Parts}
 use Rattle.emtp_elim.specs.Matrix.{item}
 use Rattle.emtp_line.specs.Lines as lined
 use Rattle.emtp_lumped.specs.Lumps as lumped
-use Rattle.emtp_net.proofs.Moves.{phase_read, upto_before}
+use Rattle.emtp_net.proofs.Moves.{phase_read}
 use Rattle.emtp_net.proofs.Nodes.{branch_in}
 use Rattle.emtp_net.specs.Branches.{HasCase, StandsFor}
-use Rattle.emtp_net.specs.Moving.{AreCurrents, AreInRange, HasMoved, HasStopped, HaveMoved, IsFirstOut, IsNext, StandsBefore, StandsUpTo, head_at, head_by, upto}
+use Rattle.emtp_net.specs.Moving.{AreCurrents, AreInRange, HasStopped, IsFirstOut, IsNext, StandsBefore, head_at, head_by, upto}
 use Rattle.emtp_net.specs.Part.{state_at}
 use Rattle.emtp_net.specs.declared.branches.Branches.{Branches}
 use Rattle.emtp_pseudo.specs.Pseudos as pseudo

@@ -1,16 +1,12 @@
 -- What a branch brings by its currents of the last record.
-use Rattle.std.proofs.Common.{◌≡◌, ◌∙◌, sym, ap, subst, ℕ, ◌<◌, ◌+◌, ℤ, pos, ◌-ℤ◌, List, ◌∷◌, length, map, get_or, slice_get, IsSome, Option, option_map, unwrap_or, Some, None, refl, arith}
-use Rattle.std.specs.List.{range_with_len}
+use Rattle.std.proofs.Common.{◌≡◌, ◌∙◌, sym, ap, subst, ℕ, ◌<◌, ℤ, pos, ◌-ℤ◌, List, length, slice_get, IsSome, Option, option_map, unwrap_or, Some, None, refl, arith}
 use Rattle.std.proofs.lemmas.List.FromFn.{get_or-map-range_with_len, length-map-range_with_len}
 use Rattle.std.proofs.lemmas.Option.{slice_get-get_or}
-use Rattle.emtp_case.specs.Branch.{first_of_trio}
-use Rattle.emtp_case.specs.Case.{IsNetwork}
 use Rattle.emtp_case.specs.StepRecord.{StepRecord, BranchState, LumpedBranch, LineBranch, PseudoBranch, PhaseBranch, current_of, line_at, line_state_of, no_line, no_lumped, no_phase, phase_state_at, phase_state_of}
-use Rattle.emtp_case.specs.declared.branch.Branch.TheVariants.{Lumped as OfLumped, Line as OfLine, Pseudo as OfPseudo, Phase as OfPhase}
+use Rattle.emtp_case.specs.declared.branch.Branch.TheVariants.{Lumped as OfLumped, Pseudo as OfPseudo}
 use Rattle.emtp_case.specs.declared.branch.Line.{Line}
 use Rattle.emtp_case.specs.declared.branch.LineState.{LineState}
 use Rattle.emtp_case.specs.declared.branch.Lumped.{Lumped}
-use Rattle.emtp_case.specs.declared.branch.Phase.{Phase}
 use Rattle.emtp_case.specs.declared.branch.PhaseState.{PhaseState}
 use Rattle.emtp_case.specs.declared.branch.Pseudo.{Pseudo}
 use Rattle.emtp_case.specs.declared.case.Parts.{Parts}

@@ -1,12 +1,12 @@
 -- The conductances of the next step, set one after the other.
-use Rattle.std.proofs.Common.{◌≡◌, ◌∙◌, sym, ap, ℕ, ◌+◌, ◌<◌, ◌≤◌, ℤ, pos, List, length, map, take, slice_get, slice_set, get_or-set_same, get_or-set_other, inl, inr, arith}
+use Rattle.std.proofs.Common.{◌≡◌, ◌∙◌, sym, ap, ℕ, ◌+◌, ◌<◌, ℤ, pos, List, length, map, take, slice_get, slice_set, get_or-set_same, get_or-set_other, inl, inr, arith}
 use Rattle.std.specs.List.{range_with_len}
 use Rattle.std.proofs.lemmas.Bool.{cases_eq}
 use Rattle.std.proofs.lemmas.List.{ext_get_or, take-take}
 use Rattle.std.proofs.lemmas.List.FromFn.{get_or-map-range_with_len, length-map-range_with_len}
 use Rattle.emtp_case.specs.StepRecord.{StepRecord}
 use Rattle.emtp_case.specs.declared.case.Parts.{Parts}
-use Rattle.emtp_elim.specs.Matrix.{Matrix, item}
+use Rattle.emtp_elim.specs.Matrix.{item}
 use Rattle.emtp_net.specs.System.{conductance_by, conductances}
 use Rattle.emtp_rows.specs.Nodal.{nodal_matrix}
 use Rattle.emtp_rows.specs.Touched.{NodalRows, Touches}

@@ -1,20 +1,20 @@
 -- How a step ends, from what its parts answer.
-use Rattle.std.proofs.Common.{◌≡◌, ◌∙◌, ◌<◌, sym, ap, ℕ, ℤ, pos, List, length, IsSome, is_none, not, Option, Some, None, Result, Ok, Err, true, false, refl, arith}
+use Rattle.std.proofs.Common.{◌≡◌, ◌∙◌, ◌<◌, sym, ap, ℕ, ℤ, pos, List, length, IsSome, is_none, Option, Some, None, Result, Ok, Err, false, refl}
 use Rattle.emtp_case.specs.RowOrder.{order_of}
-use Rattle.emtp_case.specs.StepRecord.{BranchState, StepRecord}
+use Rattle.emtp_case.specs.StepRecord.{StepRecord}
 use Rattle.emtp_case.specs.declared.case.Parts.{Parts}
 use Rattle.emtp_elim.proofs.Outcomes.{outcome_row}
 use Rattle.emtp_elim.specs.Fault.{IsRowFault}
 use Rattle.emtp_elim.specs.Outcome.{outcome}
 use Rattle.emtp_elim.specs.declared.fault.PlainFault.{PlainFault}
-use Rattle.emtp_elim.specs.declared.fault.PlainFault.TheVariants.{Row, Solve}
+use Rattle.emtp_elim.specs.declared.fault.PlainFault.TheVariants.{Solve}
 use Rattle.emtp_elim.specs.declared.fault.RowFault.{RowFault}
 use Rattle.emtp_elim.specs.declared.fault.SolveFault.{SolveFault}
 use Rattle.emtp_net.proofs.Residuals.{first_at, first_none}
 use Rattle.emtp_net.specs.Moving.{IsFirstOut}
-use Rattle.emtp_net.specs.Part.{NetworkPart, first_out, name_of_branch, part_at, state_at, states_at, switch_currents_at, voltages_of}
+use Rattle.emtp_net.specs.Part.{first_out, name_of_branch, part_at, state_at, states_at, switch_currents_at, voltages_of}
 use Rattle.emtp_net.specs.Residual.{residual_of}
-use Rattle.emtp_net.specs.Step.{◌>>=◌, balanced, fault_by, first_beyond, first_unbalanced, moved, named, name_of_switch, network_part, solution, switched, unless, untied}
+use Rattle.emtp_net.specs.Step.{◌>>=◌, balanced, fault_by, first_beyond, first_unbalanced, moved, named, name_of_switch, network_part, solution, switched, unless}
 use Rattle.emtp_net.specs.Stages.{AreVoltages, IsUntied}
 use Rattle.emtp_net.specs.System.{matrix, right}
 use Rattle.emtp_net.specs.declared.fault.NetFault.{NetFault}

@@ -1,13 +1,12 @@
 -- What branches bring to the rows of their nodes.
-use Rattle.std.proofs.Common.{◌≡◌, ◌∙◌, sym, ap, ℕ, zero, suc, ◌+◌, ◌*◌, ◌^◌, ◌<◌, ◌≤◌, ◌==◌, ℤ, pos, ◌+ℤ◌, unsigned_abs, Bool, true, false, ◌&&◌, if◌then◌else◌, List, length, take, get_or, slice_get, Option, Some, None, refl, arith}
+use Rattle.std.proofs.Common.{◌≡◌, ◌∙◌, sym, ap, ℕ, ◌+◌, ◌*◌, ◌≤◌, ◌==◌, ℤ, pos, ◌+ℤ◌, unsigned_abs, Bool, true, false, if◌then◌else◌, slice_get, Option, Some, None, refl, arith}
 use Rattle.std.proofs.lemmas.Int.{ints}
 use Rattle.emtp_case.specs.Branch.{from_of, to_of}
 use Rattle.emtp_case.specs.declared.branch.Branch.{Branch}
 use Rattle.emtp_case.specs.declared.case.Parts.{Parts}
-use Rattle.emtp_case.specs.declared.source.Source.{Source}
-use Rattle.emtp_rows.specs.Sums.{sum_below, total}
-use Rattle.emtp_rows.proofs.Totals.{sum_below-more, total-more}
-use Rattle.emtp_net.specs.System.{at_node, branch_sum}
+use Rattle.emtp_rows.specs.Sums.{sum_below}
+use Rattle.emtp_rows.proofs.Totals.{sum_below-more}
+use Rattle.emtp_net.specs.System.{at_node}
 
 if_small : (b : Bool) (x : ℤ) (limit : ℕ) → unsigned_abs x ≤ limit → unsigned_abs (if b then x else pos 0) ≤ limit
 if_small true x limit small = small

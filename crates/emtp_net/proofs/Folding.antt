@@ -1,7 +1,6 @@
 -- The rows that are tied to a sum, added to it one after the other.
-use Rattle.std.proofs.Common.{◌≡◌, ◌≢◌, ◌∙◌, sym, ap, ℕ, zero, suc, ◌+◌, ◌*◌, ◌^◌, ◌<◌, ◌≤◌, ◌==◌, ◌||◌, ◌&&◌, ℤ, pos, ◌+ℤ◌, unsigned_abs, Bool, true, false, if◌then◌else◌, List, length, slice_set, get_or-set_same, get_or-set_other, length-set, refl, inl, inr, arith}
+use Rattle.std.proofs.Common.{◌≡◌, ◌∙◌, sym, ap, ℕ, zero, suc, ◌+◌, ◌*◌, ◌^◌, ◌<◌, ◌≤◌, ◌==◌, ◌||◌, ◌&&◌, ℤ, pos, ◌+ℤ◌, unsigned_abs, Bool, true, false, if◌then◌else◌, List, length, slice_set, get_or-set_same, get_or-set_other, refl, inl, inr, arith}
 use Rattle.std.proofs.lemmas.Bool.{cases_Bool, cases_eq, cases_lt}
-use Rattle.std.proofs.lemmas.Bool.Decides.{nat_tests}
 use Rattle.std.proofs.lemmas.Int.{ints}
 use Rattle.emtp_case.specs.declared.row_kind.RowKind.{RowKind}
 use Rattle.emtp_case.specs.declared.row_kind.RowKind.TheVariants.{Kcl, Sum, Tie, Ground, Source}
@@ -9,9 +8,9 @@ use Rattle.emtp_elim.specs.Matrix.{item}
 use Rattle.emtp_net.specs.Sums.{IsFolded, group_total, tied_to}
 use Rattle.emtp_rows.proofs.Orders.{is_number, isnt_number}
 use Rattle.emtp_rows.proofs.Totals.{sum_below-more, sum_below_same, sum_below_small}
-use Rattle.emtp_rows.specs.Nodal.{is_member, is_tie_to, kind_at}
+use Rattle.emtp_rows.specs.Nodal.{is_tie_to, kind_at}
 use Rattle.emtp_rows.specs.Sums.{sum_below}
-use Rattle.emtp_rows.specs.Touched.{is_sum, sum_row, tied_row}
+use Rattle.emtp_rows.specs.Touched.{is_sum, tied_row}
 
 -- ---- which rows are tied to a sum
 

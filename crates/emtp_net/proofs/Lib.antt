@@ -17,4 +17,5 @@ pub mod LineCurrents
 pub mod Resting
 pub mod Holding
 pub mod Stepping
+pub mod Runs
 mod Worked

@@ -1,6 +1,5 @@
 -- One branch moved.
-use Rattle.std.proofs.Common.{◌≡◌, ◌≢◌, ◌∙◌, sym, ap, subst, ℕ, ◌+◌, ◌<◌, ◌≤◌, ℤ, pos, ◌-ℤ◌, All, Bool, true, false, if◌then◌else◌, nat_lt, List, [], ◌∷◌, length, map, get_or, slice_get, slice_index_or, IsSome, Option, option_map, unwrap_or, Some, None, Result, Ok, Err, refl, inl, inr, arith}
-use Rattle.std.specs.List.{range_with_len}
+use Rattle.std.proofs.Common.{◌≡◌, ◌≢◌, ◌∙◌, sym, ap, subst, ℕ, ◌+◌, ◌<◌, ◌≤◌, ℤ, pos, ◌-ℤ◌, All, true, false, if◌then◌else◌, nat_lt, List, [], ◌∷◌, length, map, get_or, slice_get, slice_index_or, IsSome, Option, option_map, unwrap_or, Some, None, Ok, Err, refl, inl, inr, arith}
 use Rattle.std.proofs.lemmas.Option.{get_or_from_slice_get, slice_get-get_or}
 use Rattle.std.proofs.lemmas.Bool.{cases_eq}
 use Rattle.std.proofs.lemmas.Bool.Decides.{nat_tests}
@@ -9,12 +8,11 @@ use Rattle.std.proofs.lemmas.List.FromFn.{get_or-map-range_with_len, length-map-
 use Rattle.emtp_case.specs.Case.{IsNetwork}
 use Rattle.emtp_case.specs.Sizes.{sizes_of}
 use Rattle.emtp_case.specs.Branch.{AreInThrees, IsBranch, first_of_trio, phase_at, phase_of}
-use Rattle.emtp_case.specs.StepRecord.{StepRecord, BranchState, LumpedBranch, LineBranch, PseudoBranch, PhaseBranch, branch_current_at, current_of, line_at, line_state_of, lumped_at, lumped_of, no_line, no_lumped, no_pseudo, pseudo_at, pseudo_of, voltage_at}
+use Rattle.emtp_case.specs.StepRecord.{StepRecord, BranchState, LumpedBranch, LineBranch, PseudoBranch, current_of, line_at, line_state_of, lumped_at, lumped_of, no_line, no_lumped, no_pseudo, pseudo_at, pseudo_of, voltage_at}
 use Rattle.emtp_case.specs.declared.branch.Branch.{Branch}
 use Rattle.emtp_case.specs.declared.branch.Branch.TheVariants.{Lumped as OfLumped, Line as OfLine, Pseudo as OfPseudo, Phase as OfPhase}
 use Rattle.emtp_case.specs.declared.branch.Line.{Line}
 use Rattle.emtp_case.specs.declared.branch.Lumped.{Lumped}
-use Rattle.emtp_case.specs.declared.branch.Phase.{Phase}
 use Rattle.emtp_case.specs.declared.branch.Pseudo.{Pseudo}
 use Rattle.emtp_case.specs.declared.case.Parts.{Parts}
 use Rattle.emtp_elim.specs.Matrix.{item}
@@ -27,7 +25,7 @@ use Rattle.emtp_pseudo.specs.Held.{moment_at}
 use Rattle.emtp_pseudo.specs.Pseudos as pseudo
 use Rattle.emtp_net.proofs.Nodes.{branch_fits, branch_in}
 use Rattle.emtp_net.specs.Branches.{HasCase}
-use Rattle.emtp_net.specs.Moving.{HasMoved, HasStopped, IsNext, StandsBefore, StandsUpTo, head_at, head_by, upto}
+use Rattle.emtp_net.specs.Moving.{HasMoved, HasStopped, IsNext, StandsBefore, head_at, head_by, upto}
 use Rattle.emtp_net.specs.Part.{state_at, state_by, states_at}
 use Rattle.emtp_net.specs.declared.branches.Branches.{Branches}
 

@@ -1,17 +1,14 @@
 -- Voltages by node.
-use Rattle.std.proofs.Common.{◌≡◌, ◌≢◌, ◌∙◌, sym, ap, ℕ, zero, suc, ◌+◌, ◌<◌, ◌==◌, ◌≤◌, ℤ, pos, unsigned_abs, All, get_or, List, ◌∷◌, length, map, slice_index, slice_set, get_or-set_same, get_or-set_other, refl, inl, inr, arith}
-use Rattle.std.specs.List.{range_with_len, position_or_len}
+use Rattle.std.proofs.Common.{◌≡◌, ◌≢◌, ◌∙◌, sym, ℕ, zero, suc, ◌+◌, ◌<◌, ◌≤◌, ℤ, pos, unsigned_abs, All, get_or, List, ◌∷◌, length, map, slice_set, get_or-set_same, get_or-set_other, inl, inr, arith}
+use Rattle.std.specs.List.{range_with_len}
 use Rattle.std.proofs.lemmas.Bool.{cases_eq}
 use Rattle.std.proofs.lemmas.List.{ext_get_or}
 use Rattle.std.proofs.lemmas.List.FromFn.{length-map-range_with_len, get_or-map-range_with_len}
-use Rattle.std.proofs.lemmas.List.Sums.{position_or_len_is}
 use Rattle.std.proofs.lemmas.Int.{ints}
 use Rattle.std.proofs.lemmas.List.Elements.{All-cons, All-map}
 use Rattle.emtp_elim.specs.Matrix.{AreWithin, item}
 use Rattle.emtp_fix.specs.declared.limit.TheConstants.{LARGEST_VALUE}
-use Rattle.emtp_case.specs.RowOrder.{order_of}
 use Rattle.emtp_case.specs.declared.case.Parts.{Parts}
-use Rattle.emtp_case.proofs.NodeOrder.{length-order_of}
 use Rattle.emtp_rows.proofs.TermSteps.{IsRowOf}
 use Rattle.emtp_net.specs.Part.{voltages_of}
 use Rattle.emtp_rows.specs.Touched.{row_at}

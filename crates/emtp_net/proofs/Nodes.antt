@@ -1,7 +1,6 @@
 -- The rows of nodes.
-use Rattle.std.proofs.Common.{◌≡◌, ◌≢◌, ◌∙◌, sym, ap, ℕ, ◌+◌, ◌<◌, ◌≤◌, ◌==◌, ℤ, pos, ◌+ℤ◌, true, false, if◌then◌else◌, List, length, slice_index, slice_set, get_or-set_same, get_or-set_other, get_or, slice_get, Some, All, subst, refl, inl, inr, arith}
+use Rattle.std.proofs.Common.{◌≡◌, ◌≢◌, ◌∙◌, sym, ap, ℕ, ◌<◌, ◌≤◌, ◌==◌, ℤ, pos, ◌+ℤ◌, true, false, if◌then◌else◌, List, length, slice_index, slice_set, get_or-set_same, get_or-set_other, get_or, slice_get, Some, All, subst, refl, inl, inr, arith}
 use Rattle.std.proofs.lemmas.Bool.{cases_eq}
-use Rattle.std.proofs.lemmas.Bool.Decides.{nat_tests}
 use Rattle.std.proofs.lemmas.Int.{ints}
 use Rattle.std.proofs.lemmas.Option.{get_or_from_slice_get, slice_get-get_or}
 use Rattle.emtp_case.specs.Branch.{IsBranch}

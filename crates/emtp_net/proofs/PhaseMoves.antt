@@ -1,5 +1,5 @@
 -- The three phases of a line moved at the place of phase 0.
-use Rattle.std.proofs.Common.{◌≡◌, ◌≢◌, ◌∙◌, sym, ap, subst, ℕ, zero, suc, ◌+◌, ◌-◌, ◌<◌, ◌≤◌, ◌==◌, ℤ, pos, true, false, All, List, [], ◌∷◌, length, map, get_or, slice_get, slice_index_or, IsSome, Option, option_map, unwrap_or, Some, None, Result, Ok, Err, refl, inl, inr, arith}
+use Rattle.std.proofs.Common.{◌≡◌, ◌≢◌, ◌∙◌, sym, ap, subst, ℕ, zero, suc, ◌+◌, ◌-◌, ◌<◌, ℤ, pos, true, false, All, List, [], ◌∷◌, length, get_or, slice_get, IsSome, Option, option_map, Some, None, Result, Ok, Err, refl, inl, inr, arith}
 use Rattle.std.proofs.lemmas.Bool.{cases_eq}
 use Rattle.std.proofs.lemmas.Option.{slice_get-get_or}
 use Rattle.emtp_case.specs.Branch.{AreInThrees, IsBranch, first_of_trio, phase_at, phase_of}
@@ -14,8 +14,7 @@ use Rattle.emtp_case.specs.declared.branch.Phase.{Phase}
 use Rattle.emtp_case.specs.declared.branch.PhaseState.{PhaseState}
 use Rattle.emtp_case.specs.declared.branch.Pseudo.{Pseudo}
 use Rattle.emtp_case.specs.declared.case.Parts.{Parts}
-use Rattle.emtp_elim.specs.Matrix.{item}
-use Rattle.emtp_line.specs.Held.{PhaseStands, TrioStands, state_at as phase_in, with_states}
+use Rattle.emtp_line.specs.Held.{PhaseStands, state_at as phase_in, with_states}
 use Rattle.emtp_line.specs.Lines as lined
 use Rattle.emtp_line.specs.Phases.{from_histories, modes_of, next_phases, phase_end, phase_state, three_of, to_histories, zero_from_waves, zero_to_waves}
 use Rattle.emtp_line.specs.Waves.{WavesStand}
@@ -24,8 +23,8 @@ use Rattle.emtp_lumped.specs.Lumps as lumped
 use Rattle.emtp_net.proofs.Moves.{is_next, next_record, next_state_read, phase_read, upto_before, upto_here, upto_other}
 use Rattle.emtp_net.proofs.Nodes.{branch_fits}
 use Rattle.emtp_net.specs.Branches.{HasCase}
-use Rattle.emtp_net.specs.Moving.{HasMoved, HasStopped, IsNext, StandsBefore, StandsUpTo, head_at, head_by, upto}
-use Rattle.emtp_net.specs.Part.{phase_by, phase_voltages, state_at, state_by}
+use Rattle.emtp_net.specs.Moving.{HasMoved, HasStopped, StandsBefore, head_by, upto}
+use Rattle.emtp_net.specs.Part.{phase_voltages, state_at, state_by}
 use Rattle.emtp_net.specs.declared.branches.Branches.{Branches}
 use Rattle.emtp_pseudo.specs.Pseudos as pseudo
 use Rattle.emtp_rows.proofs.Phases.{phase_there}

@@ -1,5 +1,5 @@
 -- The residuals by row.
-use Rattle.std.proofs.Common.{◌≡◌, ◌∙◌, sym, ap, ℕ, ◌+◌, ◌<◌, ◌≤◌, ◌≤ℤ◌, IfSome, ℤ, pos, neg_ℤ, ◌+ℤ◌, unsigned_abs, nat_lt, cond, true, false, Bool, List, length, map, get_or, position, Option, Some, None, refl, inl, inr, arith}
+use Rattle.std.proofs.Common.{◌≡◌, ◌∙◌, sym, ap, ℕ, ◌+◌, ◌<◌, ◌≤◌, ◌≤ℤ◌, IfSome, ℤ, pos, unsigned_abs, nat_lt, cond, true, false, Bool, List, length, map, get_or, position, Option, Some, None, refl, arith}
 use Rattle.std.specs.List.{position_or_len, range_with_len}
 use Rattle.std.proofs.lemmas.Bool.Decides.{nat_tests}
 use Rattle.std.proofs.lemmas.Int.{ints}
@@ -15,7 +15,6 @@ use Rattle.emtp_net.proofs.Righting.{group_sums}
 use Rattle.emtp_net.specs.Judging.{IsUnbalanced, Judges, magnitude_at, magnitude_in}
 use Rattle.emtp_net.specs.Part.{leaving, leaving_rows}
 use Rattle.emtp_net.specs.Residual.{residual_by, residual_of}
-use Rattle.emtp_net.specs.Step.{first_unbalanced}
 use Rattle.emtp_net.specs.Sums.{group_total}
 use Rattle.emtp_net.specs.System.{kinds_of}
 use Rattle.emtp_rows.specs.Nodal.{group_sum, kind_at, node_at}

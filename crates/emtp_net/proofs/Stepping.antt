@@ -1,22 +1,19 @@
 -- A step, from what its stages answer.
-use Rattle.std.proofs.Common.{◌≡◌, ◌∙◌, sym, ap, subst, ℕ, ◌+◌, ℤ, Bool, List, [], ◌∷◌, length, map, Result, Ok, Err, OnOk, IfErr, refl, arith}
-use Rattle.emtp_case.specs.StepRecord.{BranchState, StepRecord, is_closed, latest}
+use Rattle.std.proofs.Common.{◌≡◌, ◌∙◌, sym, ap, subst, ℕ, ◌+◌, ℤ, List, [], ◌∷◌, length, map, Result, Ok, Err, OnOk, IfErr, refl, arith}
+use Rattle.emtp_case.specs.StepRecord.{StepRecord, is_closed, latest}
 use Rattle.emtp_case.specs.declared.case.Parts.{Parts}
 use Rattle.emtp_case.specs.declared.row_kind.RowKind.{RowKind}
-use Rattle.emtp_case.specs.declared.switch.SwitchState.{SwitchState}
 use Rattle.emtp_rows.specs.Touched.{NodalRows}
 use Rattle.emtp_switch.specs.States.{next_states}
 use Rattle.emtp_switch.specs.Switching as switching
 use Rattle.emtp_tail.specs.Good.{Good}
-use Rattle.emtp_net.specs.Branches.{StandsFor as BranchesStandFor}
 use Rattle.emtp_net.specs.Moving.{AreCurrents, AreLineCurrents, HaveMoved, IsNext}
 use Rattle.emtp_net.specs.Network.{Net, StandsFor, StepsTo}
 use Rattle.emtp_net.specs.Part.{NetworkPart, network_of, part_at, states_at, switch_currents_at}
 use Rattle.emtp_net.specs.Redone.{last_matrix, net_redone, step_redone}
-use Rattle.emtp_net.specs.Stages.{AllInRange, AreVoltages, Ends, HasCurrents, IsBalanced, IsDecided, IsPosed, IsReady, step_adds}
+use Rattle.emtp_net.specs.Stages.{AreVoltages, Ends, HasCurrents, IsBalanced, IsDecided, IsPosed, IsReady, step_adds}
 use Rattle.emtp_net.specs.Step.{network_part}
-use Rattle.emtp_net.specs.System.{kinds_of, matrix, source_values}
-use Rattle.emtp_net.specs.declared.branches.Branches.{Branches}
+use Rattle.emtp_net.specs.System.{matrix, source_values}
 use Rattle.emtp_net.specs.declared.fault.NetFault.{NetFault}
 use Rattle.emtp_net.specs.declared.nodal_system.NodalSystem.{NodalSystem}
 use Rattle.emtp_net.proofs.Ending.{part_branches, part_currents, part_made, part_states, part_voltages}

@@ -1,5 +1,5 @@
 -- Taking the voltages into one branch after the other.
-use Rattle.std.specs.Prelude.{◌≡◌, ◌+◌, ◌<◌, ◌≤◌, ◌∷◌, ℕ, ℤ, if◌then◌else◌, nat_lt, List, length, slice_get, slice_index, IsSome, Option, Some, None, Result, Ok, Err}
+use Rattle.std.specs.Prelude.{◌≡◌, ◌+◌, ◌<◌, ◌≤◌, ◌∷◌, ℕ, ℤ, if◌then◌else◌, nat_lt, List, length, slice_get, IsSome, Option, Some, None}
 use Rattle.emtp_case.specs.Branch.{first_of_trio}
 use Rattle.emtp_case.specs.StepRecord.{StepRecord, branch_current_at, line_at, phase_state_at}
 use Rattle.emtp_case.specs.declared.branch.Branch.{Branch}

@@ -1,5 +1,5 @@
 -- How far a record is from Kirchhoff's current law at a row's node or group.
-use Rattle.std.specs.Prelude.{ℕ, ℤ, pos, unsigned_abs, List, [], ◌∷◌}
+use Rattle.std.specs.Prelude.{ℕ, unsigned_abs, List, [], ◌∷◌}
 use Rattle.emtp_case.specs.StepRecord.{BranchState, StepRecord}
 use Rattle.emtp_case.specs.declared.case.Parts.{Parts}
 use Rattle.emtp_case.specs.declared.row_kind.RowKind.{RowKind}

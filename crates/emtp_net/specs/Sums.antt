@@ -1,5 +1,5 @@
 -- Sums over groups of rows.
-use Rattle.std.specs.Prelude.{◌≡◌, ◌==◌, ◌<◌, ◌*◌, ◌^◌, ◌+◌, ◌≤◌, ◌+ℤ◌, if◌then◌else◌, ℕ, ℤ, pos, unsigned_abs, Bool, List, length}
+use Rattle.std.specs.Prelude.{◌≡◌, ◌==◌, ◌<◌, ◌+ℤ◌, if◌then◌else◌, ℕ, ℤ, pos, Bool, List, length}
 use Rattle.emtp_case.specs.declared.row_kind.RowKind.{RowKind}
 use Rattle.emtp_elim.specs.Matrix.{item}
 use Rattle.emtp_rows.specs.Nodal.{is_member, kind_at}

@@ -12,7 +12,6 @@ use Rattle.emtp_case.specs.declared.case.Parts.{Parts}
 use Rattle.emtp_case.specs.declared.row_kind.RowKind.{RowKind}
 use Rattle.emtp_case.specs.declared.row_kind.RowKind.TheVariants.{Kcl, Sum, Tie, Ground, Source as SourceRow}
 use Rattle.emtp_case.specs.declared.source.Source.{Source}
-use Rattle.emtp_case.specs.declared.switch.SwitchState.{SwitchState}
 use Rattle.emtp_line.specs.Line.{line_histories}
 use Rattle.emtp_line.specs.Lines as lined
 use Rattle.emtp_line.specs.Mode.{mode_of_line}
@@ -21,7 +20,7 @@ use Rattle.emtp_lumped.specs.Companion.{companion_of}
 use Rattle.emtp_lumped.specs.Lumps as lumped
 use Rattle.emtp_lumped.specs.Step.{history_current_of}
 use Rattle.emtp_pseudo.specs.Pseudos as pseudo
-use Rattle.emtp_rows.specs.Nodal.{Nodal, nodal_matrix, node_at, kind_at, group_sum, same_node}
+use Rattle.emtp_rows.specs.Nodal.{Nodal, nodal_matrix, node_at, kind_at, group_sum}
 use Rattle.emtp_rows.specs.Sums.{sum_below, total}
 use Rattle.emtp_switch.specs.Kinds as switched
 use Rattle.emtp_switch.specs.States.{next_states}

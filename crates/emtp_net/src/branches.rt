@@ -125,7 +125,7 @@ impl<'a> Branches<'a> {
                 let w = phase_voltages(case, true, b.trio, voltages);
                 match self.lines.accept_three(b.trio as usize, v, w) {
                     Ok(_) => Ok(0),
-                    Err(fault) => Err(at + fault.phase.min(2)),
+                    Err(fault) => Err(at + fault.phase),
                 }
             }
         }

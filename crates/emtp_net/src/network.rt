@@ -65,6 +65,7 @@ impl<'a> Network<'a> {
     pub fn open(alloc: Global, case: &'a Case) -> Result<Network<'a>, AllocError>
         ensures case { IfOk result (λ network. network.case ≡ case.now.parts) }
         ensures rest { IfOk result (λ network. StandsFor network (rest_of case.now.parts ∷ [])) }
+        ensures made { IfOk result (λ network. network.made ≡ 0) }
     {
         let order = order(alloc, case)?;
         let table = CosTable::open(alloc)?;
@@ -211,11 +212,7 @@ struct Shown {
 }
 
 /// What a network shows of record 0.
-fn shown_at_rest(
-    alloc: Global,
-    case: &Case,
-    switches: &Switches<'_>,
-) -> Result<Shown, AllocError>
+fn shown_at_rest(alloc: Global, case: &Case, switches: &Switches<'_>) -> Result<Shown, AllocError>
     requires { switches.now.case ≡ case.now.parts }
     ensures voltages { IfOk result (λ shown. shown.voltages.items ≡ replicate (length case.now.parts.nodes + 1) (pos 0)) }
     ensures currents { IfOk result (λ shown. shown.currents.items ≡ replicate (length case.now.parts.branches) (pos 0)) }

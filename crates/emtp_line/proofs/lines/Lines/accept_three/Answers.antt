@@ -23,4 +23,4 @@ returns c =
     let within = trio_within seen.case seen.lines seen.trios c.args.trio c.self.invariant there in
     let read = trio_read seen.trios c.args.trio c.index_mut.result.now within c.index_mut.ensures.value in
     let P = λ (s : Lining). TrioMoves s left c.args.trio c.args.v c.args.w c.accept.result in
-    subst P same (trio_moves seen.case seen.lines seen.trios c.args.trio c.args.v c.args.w c.accept.result c.index_mut.result.now c.accept.new.self c.self.invariant there within read c.accept.ensures.moved c.accept.ensures.out c.accept.ensures.same)
+    subst P same (trio_moves seen.case seen.lines seen.trios c.args.trio c.args.v c.args.w c.accept.result c.index_mut.result.now c.accept.new.self c.self.invariant there within read c.accept.ensures.moved c.accept.ensures.out c.accept.ensures.same c.accept.ensures.phase)

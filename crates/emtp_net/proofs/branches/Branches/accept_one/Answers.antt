@@ -1,12 +1,8 @@
-use Rattle.std.proofs.Common.{◌≡◌, ◌∙◌, sym, ap, subst, slice_get, Some, ℤ, ◌-ℤ◌, ℕ, FitsSigned, refl, to_z, of_z, rules, arith}
+use Rattle.std.proofs.Common.{◌≡◌, slice_get, Some, FitsSigned, refl, to_z, of_z, rules, arith}
 use mir.Syntax.{w64}
-use Rattle.std.proofs.Math.Nat.{min-eq_left, min-le_right}
 use Rattle.std.proofs.lemmas.Int.{to_z-of_z}
 use Rattle.emtp_case.specs.declared.branch.Branch.TheVariants.{Lumped as OfLumped, Line as OfLine, Pseudo as OfPseudo, Phase as OfPhase}
 use Rattle.emtp_elim.specs.Matrix.{item}
-use Rattle.emtp_line.specs.Lines as lined
-use Rattle.emtp_lumped.specs.Lumps as lumped
-use Rattle.emtp_pseudo.specs.Pseudos as pseudo
 use Rattle.emtp_net.proofs.Moves.{line_moves, line_stops, lumped_moves, lumped_stops, phase_read, pseudo_moves, pseudo_stops}
 use Rattle.emtp_net.proofs.Nodes.{branch_fits, branch_read}
 use Rattle.emtp_net.proofs.PhaseMoves.{phase_waits, trio_moves, trio_stops}
@@ -105,7 +101,7 @@ returns-then-b-ne0-clause-moved c = λ H before.
     phase_waits case H c.args.voltages.now c.args.at x c.args.self.now _ c.args.case.now.fits.draft.network c.requires.there is c.if-b-ne0.true before
 
 pub overflow_add-result : goal.overflow_add-result
-overflow_add-result c = omega (arith, c.requires.there, c.args.case.now.fits.draft.counts.branches, c.min.ensures, min-le_right c.in-Err-accept_three.fault.phase 2)
+overflow_add-result c = omega (arith, c.requires.there, c.args.case.now.fits.draft.counts.branches, c.in-Err-accept_three.ensures.phase)
 
 pub returns-in-Ok-accept_three-clause-moved : goal.returns-in-Ok-accept_three-clause-moved
 returns-in-Ok-accept_three-clause-moved c = λ H before.
@@ -122,8 +118,7 @@ returns-in-Err-accept_three-clause-stopped c = λ H before.
     let is : slice_get case.branches c.args.at ≡ Some (OfPhase x) = branch_read case _ c.args.at _ (OfPhase x) c.as_slice.ensures c.requires.there c.in-Phase.is in
     let moves = rw (c.phase_voltages-v.ensures, c.phase_voltages-w.ensures) at c.in-Err-accept_three.ensures in
     let stops = trio_stops case H c.args.voltages.now c.args.at x c.args.self.now (record c.args.self.now { lines = c.accept_three.new.self }) c.in-Err-accept_three.fault c.args.case.now.fits.draft.network c.requires.same c.requires.there is c.if-b-ne0.false moves before in
-    let least : c.min.result ≡ c.in-Err-accept_three.fault.phase = c.min.ensures ∙ min-eq_left (omega (arith, stops.0)) in
-    rw least stops.1
+    stops.1
 
 pub returns-in-Err-accept_three-clause-there : goal.returns-in-Err-accept_three-clause-there
 returns-in-Err-accept_three-clause-there c =
@@ -134,6 +129,5 @@ returns-in-Err-accept_three-clause-there c =
     let fits = branch_fits case c.args.at (OfPhase x) network.branches c.requires.there is in
     let place = network.in_threes.places c.args.at x.trio x.phase (phase_read case c.args.at (OfPhase x) c.requires.there is) in
     let first : x.phase ≡ 0 = c.if-b-ne0.false in
-    let few = min-le_right c.in-Err-accept_three.fault.phase 2 in
-    let inside = phase_there case.branches case.trios x.trio c.min.result network.in_threes fits.trio (omega (arith, c.min.ensures, few)) in
+    let inside = phase_there case.branches case.trios x.trio c.in-Err-accept_three.fault.phase network.in_threes fits.trio c.in-Err-accept_three.ensures.phase in
     omega (arith, place, first, inside)

@@ -1,5 +1,4 @@
-use Rattle.std.proofs.Common.{◌≡◌, ◌∙◌, length, map, sym, refl, arith}
-use Rattle.emtp_net.specs.Holding.{HoldsTogether}
+use Rattle.std.proofs.Common.{◌∙◌, refl, arith}
 use Rattle.emtp_net.proofs.Resting.{shown_rest, stands_rest}
 use Rattle.emtp_net.proofs.network.Network.open.Goals as goal
 
