@@ -8,6 +8,8 @@
 #[cfg(test)]
 mod accepted;
 #[cfg(test)]
+mod calling;
+#[cfg(test)]
 mod decks;
 #[cfg(test)]
 mod refused;
