@@ -62,13 +62,21 @@ by_part case H vs are all =
     by_voltages case H vs are
     ∙ ap (λ o. unless o (λ b. Range (name_of_branch case b)) (part_at case H vs) >>= (λ part. switched case part >>= (λ within. balanced case H within))) (first_none (λ k. is_none (state_at case H vs k)) (length case.branches) (λ k below. some_none (state_at case H vs k) (all k below)))
 
-part_currents : (case : Parts) (H : List StepRecord) (vs : List ℤ) → (part_at case H vs).switch_currents ≡ switch_currents_at case H (states_at case H vs)
+pub part_currents : (case : Parts) (H : List StepRecord) (vs : List ℤ) → (part_at case H vs).switch_currents ≡ switch_currents_at case H (states_at case H vs)
 unfolding part_at
 part_currents case H vs = refl
 
-part_branches : (case : Parts) (H : List StepRecord) (vs : List ℤ) → (part_at case H vs).branches ≡ states_at case H vs
+pub part_branches : (case : Parts) (H : List StepRecord) (vs : List ℤ) → (part_at case H vs).branches ≡ states_at case H vs
 unfolding part_at
 part_branches case H vs = refl
+
+pub part_voltages : (case : Parts) (H : List StepRecord) (vs : List ℤ) → (part_at case H vs).voltages ≡ vs
+unfolding part_at
+part_voltages case H vs = refl
+
+pub part_states : (case : Parts) (H : List StepRecord) (vs : List ℤ) → (part_at case H vs).switch_states ≡ next_states case H
+unfolding part_at
+part_states case H vs = refl
 
 pub switch_ends : (case : Parts) (H : List StepRecord) (vs : List ℤ) (s n : ℕ) → AreVoltages case H vs → ((b : ℕ) → b < length case.branches → IsSome (state_at case H vs b)) → first_beyond (switch_currents_at case H (states_at case H vs)) ≡ Some s → n ≡ name_of_switch case s → network_part case H ≡ Err (Range n)
 switch_ends case H vs s n are all beyond node =

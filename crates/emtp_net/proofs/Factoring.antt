@@ -100,3 +100,13 @@ row_adds case H cause node e is = ap (λ f. step_adds f case H) is ∙ by_cause 
     by_cause : (cause : RowCause) → step_adds (fault_by cause node) case H ≡ step_redone case H
     by_cause RowRange = refl
     by_cause RowPivot = refl
+
+-- the rows with other kinds
+pub holds_kinds : (case : Parts) (old new : NodalRows) (kept : Good) → HoldsRows case old kept → new.nodal ≡ record old.nodal { kinds = new.nodal.kinds } → Touches old new → HoldsRows case new kept
+holds_kinds case old new kept holds rest touches = record {
+  case_is = ap (λ (n : Nodal). n.case) rest ∙ holds.case_is;
+  own_room = ap (λ (n : Nodal). length n.own) rest ∙ holds.own_room;
+  coupling_is = ap (λ (n : Nodal). n.coupling) rest ∙ holds.coupling_is;
+  kept_size = holds.kept_size;
+  kept_stands = stands_touched old new kept.rows touches holds.kept_stands;
+}

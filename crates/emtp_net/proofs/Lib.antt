@@ -15,5 +15,6 @@ pub mod Switching
 pub mod Factoring
 pub mod LineCurrents
 pub mod Resting
+pub mod Holding
 pub mod Stepping
 mod Worked

@@ -1,1 +1,89 @@
--- to come
+-- A step, from what its stages answer.
+use Rattle.std.proofs.Common.{◌≡◌, ◌∙◌, sym, ap, subst, ℕ, ◌+◌, ℤ, Bool, List, [], ◌∷◌, length, map, Result, Ok, Err, OnOk, IfErr, refl, arith}
+use Rattle.emtp_case.specs.StepRecord.{BranchState, StepRecord, is_closed, latest}
+use Rattle.emtp_case.specs.declared.case.Parts.{Parts}
+use Rattle.emtp_case.specs.declared.row_kind.RowKind.{RowKind}
+use Rattle.emtp_case.specs.declared.switch.SwitchState.{SwitchState}
+use Rattle.emtp_rows.specs.Touched.{NodalRows}
+use Rattle.emtp_switch.specs.States.{next_states}
+use Rattle.emtp_switch.specs.Switching as switching
+use Rattle.emtp_tail.specs.Good.{Good}
+use Rattle.emtp_net.specs.Branches.{StandsFor as BranchesStandFor}
+use Rattle.emtp_net.specs.Moving.{AreCurrents, AreLineCurrents, HaveMoved, IsNext}
+use Rattle.emtp_net.specs.Network.{Net, StandsFor, StepsTo}
+use Rattle.emtp_net.specs.Part.{NetworkPart, network_of, part_at, states_at, switch_currents_at}
+use Rattle.emtp_net.specs.Redone.{last_matrix, net_redone, step_redone}
+use Rattle.emtp_net.specs.Stages.{AllInRange, AreVoltages, Ends, HasCurrents, IsBalanced, IsDecided, IsPosed, IsReady, step_adds}
+use Rattle.emtp_net.specs.Step.{network_part}
+use Rattle.emtp_net.specs.System.{kinds_of, matrix, source_values}
+use Rattle.emtp_net.specs.declared.branches.Branches.{Branches}
+use Rattle.emtp_net.specs.declared.fault.NetFault.{NetFault}
+use Rattle.emtp_net.specs.declared.nodal_system.NodalSystem.{NodalSystem}
+use Rattle.emtp_net.proofs.Ending.{part_branches, part_currents, part_made, part_states, part_voltages}
+use Rattle.emtp_net.proofs.LineCurrents.{line_currents_next}
+
+-- ---- what a stage gives to the next one
+
+pub latest_is : (s : Net) (H : List StepRecord) (voltages currents tacs : List ℤ) → StandsFor s H → voltages ≡ s.voltages → currents ≡ s.switch_currents → tacs ≡ (latest H).values → switching.AreLatest (s.made + 1) voltages currents tacs H
+latest_is s H voltages currents tacs stands first second third = record { step_is = stands.steps; voltages_are = first ∙ stands.voltages; currents_are = second ∙ stands.switch_currents; values_are = third }
+
+pub ready_is : (s : Net) (H : List StepRecord) (kinds : List RowKind) (rows : NodalRows) (switches : switching.Switching) → StandsFor s H → IsDecided s.case H kinds rows switches → IsReady s.case H s.branches rows s.kept s.made
+ready_is s H kinds rows switches stands decided = record { stands = stands.branches; free = decided.free; kinds = decided.rows_are; kept_is = stands.kept; steps = stands.steps }
+
+pub posed_is : (s : Net) (H : List StepRecord) (rows : NodalRows) (switches : switching.Switching) (old system : NodalSystem) (kept : Good) → StandsFor s H → IsDecided s.case H old.kinds.items rows switches → system.kinds ≡ old.kinds → system.values.items ≡ source_values s.case H → kept.rows ≡ matrix s.case H
+    → IsPosed s.case H s.branches system kept
+posed_is s H rows switches old system kept stands decided kinds values made = record { stands = stands.branches; free = decided.free; kinds = ap (λ k. k.items) kinds ∙ decided.kinds_are; values = values; kept_is = made }
+
+-- ---- the end
+
+pub err_steps : (s now left : Net) (H : List StepRecord) (result : Result (Unit {0}) NetFault) (e : NetFault) (redone : ℕ) → s ≡ now → StandsFor s H → left.case ≡ s.case → left.redone ≡ s.redone + redone → result ≡ Err e → Ends s.case H redone e → StepsTo result left H (network_part now.case H)
+err_steps s now left H result e redone same stands kept count is ends =
+    let reached : network_part now.case H ≡ Err e = ap (λ (n : Net). network_part n.case H) (sym same) ∙ ends.is in
+    let counted : left.redone ≡ net_redone left.case H + step_adds e left.case H = omega (arith, count, stands.redone, ends.adds, ap (λ (p : Parts). net_redone p H) kept, ap (λ (p : Parts). step_adds e p H) kept) in
+    subst (λ r. StepsTo r left H (network_part now.case H)) (sym is) (subst (StepsTo (Err e) left H) (sym reached) (refl, counted))
+
+last_matrix_is : (case : Parts) (H : List StepRecord) (made : ℕ) (r : StepRecord) → made + 1 ≡ length H → last_matrix case (r ∷ H) ≡ matrix case H
+last_matrix_is case [] made r long = absurd (omega (arith, long))
+last_matrix_is case (s ∷ past) made r long = refl
+
+-- all stages of a step after which the network is `left`
+pub record HasStepped (s left : Net) (H : List StepRecord) (vs : List ℤ) : Type 0 where
+  pub case_is : left.case ≡ s.case
+  pub branches : HaveMoved left.branches left.currents s.case H vs
+  pub switches : (r : StepRecord) → r.switch_states ≡ next_states s.case H → switching.StandsFor left.switches (r ∷ H)
+  pub states : left.switches.states ≡ next_states s.case H
+  pub voltages : left.voltages ≡ vs
+  pub switch_currents : left.switch_currents ≡ switch_currents_at s.case H (states_at s.case H vs)
+  pub closed : left.closed ≡ map is_closed left.switches.states
+  pub kept : left.kept.rows ≡ matrix s.case H
+  pub kept_size : left.kept.size ≡ length s.case.nodes
+  pub made : left.made ≡ s.made + 1
+  pub redone : left.redone ≡ s.redone + step_redone s.case H
+
+stands_next : (s left : Net) (H : List StepRecord) (vs : List ℤ) (r : StepRecord) → StandsFor s H → HasStepped s left H vs → network_of r ≡ part_at s.case H vs → StandsFor left (r ∷ H)
+stands_next s left H vs r stands stepped is =
+    let next : IsNext s.case H vs r = record { voltages = ap (λ (p : NetworkPart). p.voltages) is ∙ part_voltages s.case H vs; branches = ap (λ (p : NetworkPart). p.branches) is ∙ part_branches s.case H vs } in
+    let states : r.switch_states ≡ next_states s.case H = ap (λ (p : NetworkPart). p.switch_states) is ∙ part_states s.case H vs in
+    let currents : r.switch_currents ≡ switch_currents_at s.case H (states_at s.case H vs) = ap (λ (p : NetworkPart). p.switch_currents) is ∙ part_currents s.case H vs in
+    record {
+      branches = stepped.branches.stands r next;
+      switches = stepped.switches r states;
+      voltages = stepped.voltages ∙ sym next.voltages;
+      currents = subst (λ (p : Parts). AreCurrents p left.currents r (length p.branches)) (sym stepped.case_is) (stepped.branches.are_currents r next);
+      line_currents = subst (λ (p : Parts). AreLineCurrents p r) (sym stepped.case_is) (line_currents_next s.case H vs r stepped.branches.in_range next);
+      switch_currents = stepped.switch_currents ∙ sym currents;
+      closed = stepped.closed ∙ ap (map is_closed) (stepped.states ∙ sym states);
+      kept = stepped.kept ∙ sym (last_matrix_is s.case H s.made r stands.steps) ∙ ap (λ (p : Parts). last_matrix p (r ∷ H)) (sym stepped.case_is);
+      kept_size = stepped.kept_size ∙ ap (λ (p : Parts). length p.nodes) (sym stepped.case_is);
+      steps = omega (arith, stepped.made, stands.steps);
+      redone = omega (arith, stepped.redone, stands.redone, ap (λ (p : Parts). net_redone p H) stepped.case_is, ap (λ (p : Parts). step_redone p H) stepped.case_is);
+    }
+
+-- the last stage judges
+pub judge_steps : (s now left : Net) (H : List StepRecord) (vs currents : List ℤ) (result : Result (Unit {0}) NetFault) → s ≡ now → StandsFor s H → HasStepped s left H vs → AreVoltages s.case H vs → HasCurrents s.case H vs currents
+    → OnOk result (IsBalanced s.case H vs) → IfErr result (Ends s.case H (step_redone s.case H)) → StepsTo result left H (network_part now.case H)
+judge_steps s now left H vs currents (Ok u) same stands stepped voltages has balanced ends =
+    let reached : network_part now.case H ≡ Ok (part_at s.case H vs) = ap (λ (n : Net). network_part n.case H) (sym same) ∙ part_made s.case H vs voltages stepped.branches.in_range has.within balanced in
+    subst (StepsTo (Ok u) left H) (sym reached) (λ r is. stands_next s left H vs r stands stepped is)
+judge_steps s now left H vs currents (Err e) same stands stepped voltages has balanced ends =
+    err_steps s now left H (Err e) e (step_redone s.case H) same stands stepped.case_is stepped.redone refl ends

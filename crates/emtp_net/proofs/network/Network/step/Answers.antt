@@ -1,0 +1,272 @@
+use Rattle.std.proofs.Common.{◌≡◌, ◌∙◌, ◌∷◌, ◌<◌, ◌≤◌, ◌+◌, ◌*◌, sym, ap, subst, All, List, ℤ, length, map, unsigned_abs, Err, refl, arith}
+use Rattle.std.specs.Vec.{with_items}
+use Rattle.std.proofs.lemmas.List.{with_items_is}
+use Rattle.std.proofs.lemmas.Result.{err_from_is_err_and}
+use Rattle.emtp_case.specs.StepRecord.{StepRecord, is_closed}
+use Rattle.emtp_fix.specs.declared.limit.TheConstants.{LARGEST_VALUE}
+use Rattle.emtp_switch.specs.Switching as switching
+use Rattle.emtp_net.specs.Holding.{AreFew, HasShown, HoldsSwitches}
+use Rattle.emtp_net.specs.Moving.{HaveMoved}
+use Rattle.emtp_net.specs.Network.{Net, StandsFor}
+use Rattle.emtp_net.specs.Stages.{AreVoltages}
+use Rattle.emtp_net.proofs.Factoring.{holds_kinds}
+use Rattle.emtp_net.proofs.Holding.{few_next}
+use Rattle.emtp_net.proofs.Stepping.{HasStepped, err_steps, judge_steps, latest_is, posed_is, ready_is}
+use Rattle.emtp_net.proofs.network.Network.step.Goals as goal
+
+pub invariant_of-self : goal.invariant_of-self
+invariant_of-self g c =
+    record {
+      order_is = c.self.invariant.order_is;
+      branches_case = c.self.invariant.branches_case;
+      switches_hold = c.decide.ensures.switches;
+      room = c.decide.ensures.room;
+      rows_hold = holds_kinds c.self.inside.case.now.parts c.self.inside.rows c.decide.new.rows c.self.inside.kept c.self.invariant.rows_hold c.decide.ensures.rest c.decide.ensures.touched;
+      shown = c.self.invariant.shown;
+      few = few_next c.self.inside.case.now.parts c.self.inside.made c.self.inside.redone c.self.inside.redone c.self.invariant.few (subst (λ (s : Net). s.made < s.case.run.steps) (sym c.self.view_is) c.requires.made) (omega arith);
+    }
+
+pub factor-requires-clause-rows : goal.factor-requires-clause-rows
+factor-requires-clause-rows g c =
+    holds_kinds c.self.inside.case.now.parts c.self.inside.rows c.decide.new.rows c.self.inside.kept c.self.invariant.rows_hold c.decide.ensures.rest c.decide.ensures.touched
+
+pub invariant_of-self-in_err-solve : goal.invariant_of-self-in_err-solve
+invariant_of-self-in_err-solve g c =
+    let kept_shown = c.self.invariant.shown in
+    let whole = with_items_is c.self.inside.voltages c.solve.new.voltages (omega (arith, c.solve.auto.voltages, c.deref_mut.ensures.len)) in
+    record {
+      order_is = c.self.invariant.order_is;
+      branches_case = c.self.invariant.branches_case;
+      switches_hold = c.decide.ensures.switches;
+      room = c.solve.ensures.room;
+      rows_hold = c.factor.ensures.rows;
+      shown = record {
+        voltages_count = ap length whole ∙ c.solve.auto.voltages ∙ ap length c.deref_mut.ensures.value ∙ kept_shown.voltages_count;
+        voltages_small = subst (All (λ v. unsigned_abs v ≤ LARGEST_VALUE)) (sym whole) c.solve.ensures.small;
+        currents_count = kept_shown.currents_count;
+        switch_count = kept_shown.switch_count;
+        closed_count = kept_shown.closed_count;
+      };
+      few = few_next c.self.inside.case.now.parts c.self.inside.made c.self.inside.redone c.factor.new.redone c.self.invariant.few (subst (λ (s : Net). s.made < s.case.run.steps) (sym c.self.view_is) c.requires.made) c.factor.ensures.few;
+    }
+
+pub invariant_of-self-in_err-accept : goal.invariant_of-self-in_err-accept
+invariant_of-self-in_err-accept g c =
+    let kept_shown = c.self.invariant.shown in
+    let whole = with_items_is c.self.inside.voltages c.solve.new.voltages (omega (arith, c.solve.auto.voltages, c.deref_mut.ensures.len)) in
+    let flows = with_items_is c.self.inside.currents c.accept.new.currents (omega (arith, c.accept.auto.currents, c.deref_mut-2.ensures.len)) in
+    record {
+      order_is = c.self.invariant.order_is;
+      branches_case = c.accept.ensures.same;
+      switches_hold = c.decide.ensures.switches;
+      room = c.solve.ensures.room;
+      rows_hold = c.factor.ensures.rows;
+      shown = record {
+        voltages_count = ap length whole ∙ c.solve.auto.voltages ∙ ap length c.deref_mut.ensures.value ∙ kept_shown.voltages_count;
+        voltages_small = subst (All (λ v. unsigned_abs v ≤ LARGEST_VALUE)) (sym whole) c.solve.ensures.small;
+        currents_count = ap length flows ∙ c.accept.auto.currents ∙ ap length c.deref_mut-2.ensures.value ∙ kept_shown.currents_count;
+        switch_count = kept_shown.switch_count;
+        closed_count = kept_shown.closed_count;
+      };
+      few = few_next c.self.inside.case.now.parts c.self.inside.made c.self.inside.redone c.factor.new.redone c.self.invariant.few (subst (λ (s : Net). s.made < s.case.run.steps) (sym c.self.view_is) c.requires.made) c.factor.ensures.few;
+    }
+
+pub invariant_of-self-in_err-find_currents : goal.invariant_of-self-in_err-find_currents
+invariant_of-self-in_err-find_currents g c =
+    let kept_shown = c.self.invariant.shown in
+    let whole = with_items_is c.self.inside.voltages c.solve.new.voltages (omega (arith, c.solve.auto.voltages, c.deref_mut.ensures.len)) in
+    let flows = with_items_is c.self.inside.currents c.accept.new.currents (omega (arith, c.accept.auto.currents, c.deref_mut-2.ensures.len)) in
+    let crossed = with_items_is c.self.inside.switch_currents c.find_currents.new.out (omega (arith, c.find_currents.auto.out, c.deref_mut-3.ensures.len)) in
+    record {
+      order_is = c.self.invariant.order_is;
+      branches_case = c.accept.ensures.same;
+      switches_hold = subst (HoldsSwitches c.self.inside.case.now.parts) (sym c.find_currents.ensures.same) c.decide.ensures.switches;
+      room = c.find_currents.ensures.room;
+      rows_hold = c.factor.ensures.rows;
+      shown = record {
+        voltages_count = ap length whole ∙ c.solve.auto.voltages ∙ ap length c.deref_mut.ensures.value ∙ kept_shown.voltages_count;
+        voltages_small = subst (All (λ v. unsigned_abs v ≤ LARGEST_VALUE)) (sym whole) c.solve.ensures.small;
+        currents_count = ap length flows ∙ c.accept.auto.currents ∙ ap length c.deref_mut-2.ensures.value ∙ kept_shown.currents_count;
+        switch_count = ap length crossed ∙ c.find_currents.auto.out ∙ ap length c.deref_mut-3.ensures.value ∙ kept_shown.switch_count;
+        closed_count = kept_shown.closed_count;
+      };
+      few = few_next c.self.inside.case.now.parts c.self.inside.made c.self.inside.redone c.factor.new.redone c.self.invariant.few (subst (λ (s : Net). s.made < s.case.run.steps) (sym c.self.view_is) c.requires.made) c.factor.ensures.few;
+    }
+
+pub invariant_of-self-2 : goal.invariant_of-self-2
+invariant_of-self-2 g c =
+    let kept_shown = c.self.invariant.shown in
+    let whole = with_items_is c.self.inside.voltages c.solve.new.voltages (omega (arith, c.solve.auto.voltages, c.deref_mut.ensures.len)) in
+    let flows = with_items_is c.self.inside.currents c.accept.new.currents (omega (arith, c.accept.auto.currents, c.deref_mut-2.ensures.len)) in
+    let crossed = with_items_is c.self.inside.switch_currents c.find_currents.new.out (omega (arith, c.find_currents.auto.out, c.deref_mut-3.ensures.len)) in
+    let marked = with_items_is c.self.inside.closed c.write_closed.new.out (omega (arith, c.write_closed.auto.out, c.deref_mut-4.ensures.len)) in
+    record {
+      order_is = c.self.invariant.order_is;
+      branches_case = c.accept.ensures.same;
+      switches_hold = subst (HoldsSwitches c.self.inside.case.now.parts) (sym c.find_currents.ensures.same) c.decide.ensures.switches;
+      room = c.judge.ensures.room;
+      rows_hold = c.factor.ensures.rows;
+      shown = record {
+        voltages_count = ap length whole ∙ c.solve.auto.voltages ∙ ap length c.deref_mut.ensures.value ∙ kept_shown.voltages_count;
+        voltages_small = subst (All (λ v. unsigned_abs v ≤ LARGEST_VALUE)) (sym whole) c.solve.ensures.small;
+        currents_count = ap length flows ∙ c.accept.auto.currents ∙ ap length c.deref_mut-2.ensures.value ∙ kept_shown.currents_count;
+        switch_count = ap length crossed ∙ c.find_currents.auto.out ∙ ap length c.deref_mut-3.ensures.value ∙ kept_shown.switch_count;
+        closed_count = ap length marked ∙ c.write_closed.auto.out ∙ ap length c.deref_mut-4.ensures.value ∙ kept_shown.closed_count;
+      };
+      few = few_next c.self.inside.case.now.parts c.self.inside.made c.self.inside.redone c.factor.new.redone c.self.invariant.few (subst (λ (s : Net). s.made < s.case.run.steps) (sym c.self.view_is) c.requires.made) c.factor.ensures.few;
+    }
+
+pub returns-in_err-accept-clause-step : goal.returns-in_err-accept-clause-step
+returns-in_err-accept-clause-step g c = λ H stands tacs.
+    let seen : Net = record {
+      case = c.self.inside.case.now.parts;
+      branches = c.self.inside.branches;
+      switches = c.self.inside.switches;
+      rows = c.self.inside.rows;
+      kept = c.self.inside.kept;
+      voltages = c.self.inside.voltages.items;
+      currents = c.self.inside.currents.items;
+      switch_currents = c.self.inside.switch_currents.items;
+      closed = c.self.inside.closed.items;
+      made = c.self.inside.made;
+      redone = c.self.inside.redone;
+    } in
+    let case = seen.case in
+    let stood : StandsFor seen H = subst (λ (s : Net). StandsFor s H) (sym c.self.view_is) stands in
+    let last = latest_is seen H c.deref.result.now c.deref-2.result.now c.args.tacs.now stood c.deref.ensures.value c.deref-2.ensures.value tacs in
+    let decided = c.in_ok-decide.ensures.decided H stood.switches last in
+    let ready = ready_is seen H c.decide.new.self.kinds.items c.decide.new.rows c.decide.new.switches stood decided in
+    let values = c.set_sources.ensures.values H stood.steps tacs in
+    let posed = posed_is seen H c.decide.new.rows c.decide.new.switches c.decide.new.self c.set_sources.new.self c.factor.new.kept stood decided c.set_sources.ensures.kinds values (c.in_ok-factor.ensures.made H ready) in
+    let redone = c.factor.ensures.redone H ready in
+    let vs = c.deref-3.result.now in
+    let read = c.deref-3.ensures.value ∙ with_items_is c.self.inside.voltages c.solve.new.voltages (omega (arith, c.solve.auto.voltages, c.deref_mut.ensures.len)) in
+    let voltages : AreVoltages case H vs = subst (AreVoltages case H) (sym read) (c.in_ok-solve.ensures.solved H posed) in
+    let returned = err_from_is_err_and c.from_residual-in_err-accept.result c.from_residual-in_err-accept.ensures.1 in
+    err_steps seen c.args.self.now
+    (record {
+      case = case;
+      branches = c.accept.new.self;
+      switches = c.decide.new.switches;
+      rows = c.factor.new.rows;
+      kept = c.factor.new.kept;
+      voltages = (with_items c.self.inside.voltages c.solve.new.voltages).items;
+      currents = (with_items c.self.inside.currents c.accept.new.currents).items;
+      switch_currents = c.self.inside.switch_currents.items;
+      closed = c.self.inside.closed.items;
+      made = c.self.inside.made + 1;
+      redone = c.factor.new.redone;
+    })
+    H c.from_residual-in_err-accept.result _ _ c.self.view_is stood refl redone (returned.1 ∙ ap Err returned.2) (c.in_err-accept.ensures.ends H stood.branches voltages)
+
+pub returns-in_err-find_currents-clause-step : goal.returns-in_err-find_currents-clause-step
+returns-in_err-find_currents-clause-step g c = λ H stands tacs.
+    let seen : Net = record {
+      case = c.self.inside.case.now.parts;
+      branches = c.self.inside.branches;
+      switches = c.self.inside.switches;
+      rows = c.self.inside.rows;
+      kept = c.self.inside.kept;
+      voltages = c.self.inside.voltages.items;
+      currents = c.self.inside.currents.items;
+      switch_currents = c.self.inside.switch_currents.items;
+      closed = c.self.inside.closed.items;
+      made = c.self.inside.made;
+      redone = c.self.inside.redone;
+    } in
+    let case = seen.case in
+    let stood : StandsFor seen H = subst (λ (s : Net). StandsFor s H) (sym c.self.view_is) stands in
+    let last = latest_is seen H c.deref.result.now c.deref-2.result.now c.args.tacs.now stood c.deref.ensures.value c.deref-2.ensures.value tacs in
+    let decided = c.in_ok-decide.ensures.decided H stood.switches last in
+    let ready = ready_is seen H c.decide.new.self.kinds.items c.decide.new.rows c.decide.new.switches stood decided in
+    let values = c.set_sources.ensures.values H stood.steps tacs in
+    let posed = posed_is seen H c.decide.new.rows c.decide.new.switches c.decide.new.self c.set_sources.new.self c.factor.new.kept stood decided c.set_sources.ensures.kinds values (c.in_ok-factor.ensures.made H ready) in
+    let redone = c.factor.ensures.redone H ready in
+    let vs = c.deref-3.result.now in
+    let read = c.deref-3.ensures.value ∙ with_items_is c.self.inside.voltages c.solve.new.voltages (omega (arith, c.solve.auto.voltages, c.deref_mut.ensures.len)) in
+    let voltages : AreVoltages case H vs = subst (AreVoltages case H) (sym read) (c.in_ok-solve.ensures.solved H posed) in
+    let moved = c.in_ok-accept.ensures.moved H stood.branches in
+    let flows = c.deref-4.ensures.value ∙ with_items_is c.self.inside.currents c.accept.new.currents (omega (arith, c.accept.auto.currents, c.deref_mut-2.ensures.len)) in
+    let moved_so = subst (λ cs. HaveMoved c.accept.new.self cs case H vs) (sym flows) moved in
+    let valued = ap (λ v. v.items) c.solve.ensures.values ∙ values in
+    let returned = err_from_is_err_and c.from_residual-in_err-find_currents.result c.from_residual-in_err-find_currents.ensures.1 in
+    err_steps seen c.args.self.now
+    (record {
+      case = case;
+      branches = c.accept.new.self;
+      switches = c.find_currents.new.switches;
+      rows = c.factor.new.rows;
+      kept = c.factor.new.kept;
+      voltages = (with_items c.self.inside.voltages c.solve.new.voltages).items;
+      currents = (with_items c.self.inside.currents c.accept.new.currents).items;
+      switch_currents = (with_items c.self.inside.switch_currents c.find_currents.new.out).items;
+      closed = c.self.inside.closed.items;
+      made = c.self.inside.made + 1;
+      redone = c.factor.new.redone;
+    })
+    H c.from_residual-in_err-find_currents.result _ _ c.self.view_is stood refl redone (returned.1 ∙ ap Err returned.2) (c.in_err-find_currents.ensures.ends H vs voltages moved_so valued decided.states_are)
+
+pub returns-clause-step : goal.returns-clause-step
+returns-clause-step g c = λ H stands tacs.
+    let seen : Net = record {
+      case = c.self.inside.case.now.parts;
+      branches = c.self.inside.branches;
+      switches = c.self.inside.switches;
+      rows = c.self.inside.rows;
+      kept = c.self.inside.kept;
+      voltages = c.self.inside.voltages.items;
+      currents = c.self.inside.currents.items;
+      switch_currents = c.self.inside.switch_currents.items;
+      closed = c.self.inside.closed.items;
+      made = c.self.inside.made;
+      redone = c.self.inside.redone;
+    } in
+    let case = seen.case in
+    let stood : StandsFor seen H = subst (λ (s : Net). StandsFor s H) (sym c.self.view_is) stands in
+    let last = latest_is seen H c.deref.result.now c.deref-2.result.now c.args.tacs.now stood c.deref.ensures.value c.deref-2.ensures.value tacs in
+    let decided = c.in_ok-decide.ensures.decided H stood.switches last in
+    let ready = ready_is seen H c.decide.new.self.kinds.items c.decide.new.rows c.decide.new.switches stood decided in
+    let values = c.set_sources.ensures.values H stood.steps tacs in
+    let posed = posed_is seen H c.decide.new.rows c.decide.new.switches c.decide.new.self c.set_sources.new.self c.factor.new.kept stood decided c.set_sources.ensures.kinds values (c.in_ok-factor.ensures.made H ready) in
+    let redone = c.factor.ensures.redone H ready in
+    let vs = c.deref-3.result.now in
+    let read = c.deref-3.ensures.value ∙ with_items_is c.self.inside.voltages c.solve.new.voltages (omega (arith, c.solve.auto.voltages, c.deref_mut.ensures.len)) in
+    let voltages : AreVoltages case H vs = subst (AreVoltages case H) (sym read) (c.in_ok-solve.ensures.solved H posed) in
+    let moved = c.in_ok-accept.ensures.moved H stood.branches in
+    let flows = c.deref-4.ensures.value ∙ with_items_is c.self.inside.currents c.accept.new.currents (omega (arith, c.accept.auto.currents, c.deref_mut-2.ensures.len)) in
+    let moved_so = subst (λ cs. HaveMoved c.accept.new.self cs case H vs) (sym flows) moved in
+    let valued = ap (λ v. v.items) c.solve.ensures.values ∙ values in
+    let has = c.in_ok-find_currents.ensures.found H vs voltages moved_so valued decided.states_are in
+    let leaving = c.find_currents.ensures.leaving H vs moved_so valued in
+    let kinds = ap (λ v. v.items) (c.find_currents.ensures.kinds ∙ c.solve.ensures.kinds) ∙ posed.kinds in
+    let shown_flows = with_items_is c.self.inside.currents c.accept.new.currents (omega (arith, c.accept.auto.currents, c.deref_mut-2.ensures.len)) in
+    let crossed = with_items_is c.self.inside.switch_currents c.find_currents.new.out (omega (arith, c.find_currents.auto.out, c.deref_mut-3.ensures.len)) in
+    let marked = with_items_is c.self.inside.closed c.write_closed.new.out (omega (arith, c.write_closed.auto.out, c.deref_mut-4.ensures.len)) in
+    let left : Net = (record {
+      case = case;
+      branches = c.accept.new.self;
+      switches = c.find_currents.new.switches;
+      rows = c.factor.new.rows;
+      kept = c.factor.new.kept;
+      voltages = (with_items c.self.inside.voltages c.solve.new.voltages).items;
+      currents = (with_items c.self.inside.currents c.accept.new.currents).items;
+      switch_currents = (with_items c.self.inside.switch_currents c.find_currents.new.out).items;
+      closed = (with_items c.self.inside.closed c.write_closed.new.out).items;
+      made = c.self.inside.made + 1;
+      redone = c.factor.new.redone;
+    }) in
+    let stepped : HasStepped seen left H vs = record {
+      case_is = refl;
+      branches = subst (λ cs. HaveMoved c.accept.new.self cs case H vs) (sym shown_flows) moved;
+      switches = λ r is. subst (λ (s : switching.Switching). switching.StandsFor s (r ∷ H)) (sym c.find_currents.ensures.same) (c.decide.ensures.stands H r stood.switches last is);
+      states = ap (λ (s : switching.Switching). s.states) c.find_currents.ensures.same ∙ decided.states_are;
+      voltages = sym c.deref-3.ensures.value;
+      switch_currents = crossed ∙ has.are;
+      closed = marked ∙ c.write_closed.ensures;
+      kept = c.in_ok-factor.ensures.made H ready;
+      kept_size = c.factor.ensures.rows.kept_size;
+      made = refl;
+      redone = redone;
+    } in
+    judge_steps seen c.args.self.now left H vs c.find_currents.new.out c.judge.result c.self.view_is stood stepped voltages has
+    (c.judge.ensures.judged H vs c.find_currents.new.out voltages moved.in_range has kinds leaving) (c.judge.ensures.ends H vs c.find_currents.new.out voltages moved.in_range has kinds leaving)
