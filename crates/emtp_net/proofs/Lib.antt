@@ -18,3 +18,4 @@ pub mod Resting
 pub mod Holding
 pub mod Stepping
 mod Worked
+pub mod Tying
