@@ -17,5 +17,6 @@ pub mod LineCurrents
 pub mod Resting
 pub mod Holding
 pub mod Stepping
+pub mod Runs
 mod Worked
 pub mod Tying

@@ -1,7 +1,7 @@
 -- The branch currents of lines and phases in a record.
-use Rattle.std.proofs.Common.{◌≡◌, ◌∙◌, sym, ap, subst, ℕ, zero, suc, ◌<◌, ℤ, pos, List, [], ◌∷◌, length, map, slice_get, slice_index_or, IsSome, Option, option_map, Some, refl}
+use Rattle.std.proofs.Common.{◌≡◌, ◌∙◌, sym, ap, subst, ℕ, zero, suc, ◌+◌, ◌<◌, ℤ, pos, List, [], ◌∷◌, length, map, slice_get, slice_index_or, IsSome, Option, option_map, Some, refl, arith}
 use Rattle.std.proofs.lemmas.Option.{slice_get_within}
-use Rattle.emtp_case.specs.StepRecord.{StepRecord, LineBranch, PhaseBranch, branch_at_rest, branch_current_at, current_of, line_at, line_state_of, no_line, no_phase, phase_state_at, phase_state_of, rest_of}
+use Rattle.emtp_case.specs.StepRecord.{StepRecord, LineBranch, PhaseBranch, branch_at_rest, branch_current_at, current_of, latest, line_at, line_state_of, no_line, no_phase, phase_state_at, phase_state_of, rest_of}
 use Rattle.emtp_case.specs.declared.branch.Branch.{Branch}
 use Rattle.emtp_case.specs.declared.branch.Branch.TheVariants.{Lumped as OfLumped, Line as OfLine, Pseudo as OfPseudo, Phase as OfPhase}
 use Rattle.emtp_case.specs.declared.branch.LineState.{LineState}
@@ -14,9 +14,11 @@ use Rattle.emtp_line.specs.Mode.{mode_of_line}
 use Rattle.emtp_net.proofs.Bringing.{there_is}
 use Rattle.emtp_net.proofs.Moves.{next_state_read}
 use Rattle.emtp_net.proofs.PhaseMoves.{phase_next}
-use Rattle.emtp_net.specs.Moving.{AreLineCurrents, IsNext}
+use Rattle.emtp_net.specs.Branches.{StandsFor}
+use Rattle.emtp_net.specs.Moving.{AreCurrents, AreLineCurrents, IsNext}
 use Rattle.emtp_net.specs.Part.{state_at, state_by}
 use Rattle.emtp_net.specs.Stages.{AllInRange}
+use Rattle.emtp_net.specs.declared.branches.Branches.{Branches}
 
 line_current : (case : Parts) (H : List StepRecord) (vs : List ℤ) (r : StepRecord) (b : ℕ) (o : Option LineState) → b < length case.branches → state_at case H vs b ≡ option_map LineBranch o → IsNext case H vs r → IsSome (state_at case H vs b) → branch_current_at b r ≡ (line_at b r).from_current
 line_current case H vs r b o there of next some =
@@ -80,3 +82,11 @@ line_currents_rest case = record {
   lines = λ b x is. currents_rest case.branches b ∙ sym (lines_rest case.branches b);
   phases = λ b x is. currents_rest case.branches b ∙ sym (phases_rest case.branches b);
 }
+
+-- ---- of the last record
+
+pub current_at : (case : Parts) (branches : Branches) (currents : List ℤ) (made b : ℕ) (i : ℤ) (H : List StepRecord)
+    → ((r : StepRecord) (past : List StepRecord) → StandsFor branches (r ∷ past) → AreCurrents case currents r (length case.branches) → AreLineCurrents case r → i ≡ branch_current_at b r)
+    → made + 1 ≡ length H → StandsFor branches H → AreCurrents case currents (latest H) (length case.branches) → AreLineCurrents case (latest H) → i ≡ branch_current_at b (latest H)
+current_at case branches currents made b i [] is long stands are lines = absurd (omega (arith, long))
+current_at case branches currents made b i (r ∷ past) is long stands are lines = is r past stands are lines

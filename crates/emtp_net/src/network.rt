@@ -1,8 +1,11 @@
 //! The network of a case.
 
-ghost use Rattle.std.specs.Prelude.{◌≡◌, ◌+◌, ◌*◌, ◌<◌, ◌≤◌, ◌∷◌, [], ℕ, List, length, map, Err, IfErr, IfOk, OnOk};
+ghost use Rattle.std.specs.Prelude.{◌≡◌, ◌+◌, ◌*◌, ◌<◌, ◌≤◌, ◌∷◌, [], ℕ, List, length, map, pos, replicate, Err, IfErr, IfOk, OnOk};
+ghost use Rattle.emtp_case.specs.RowOrder.{order_of};
 ghost use Rattle.emtp_case.specs.StepRecord.{StepRecord, branch_current_at, is_closed, latest, rest_of};
+ghost use Rattle.emtp_net.specs.Branches.{HasCase};
 ghost use Rattle.emtp_net.specs.Fault.{NamesNode};
+ghost use Rattle.emtp_net.specs.Holding.{HoldsRows};
 ghost use Rattle.emtp_net.specs.Network.{StandsFor, StepsTo};
 ghost use Rattle.emtp_net.specs.Redone.{step_ticks};
 ghost use Rattle.emtp_net.specs.Step.{network_part};
@@ -64,26 +67,25 @@ impl<'a> Network<'a> {
         ensures rest { IfOk result (λ network. StandsFor network (rest_of case.now.parts ∷ [])) }
     {
         let order = order(alloc, case)?;
+        let table = CosTable::open(alloc)?;
         let branches = Branches::open(alloc, case)?;
         let switches = Switches::open(alloc, case, &order)?;
-        let mut rows = NetRows::open(alloc, case, &order)?;
-        set_couplings(case, &branches, &mut rows);
-        let kept = Kept::open(alloc, &rows)?;
+        let (rows, kept) = rows_at_rest(alloc, case, &order, &branches)?;
         let system = NodalSystem::open(alloc, case, &order)?;
-        let closed = closed_at_rest(alloc, case, &switches)?;
+        let shown = shown_at_rest(alloc, case, &switches)?;
         Ok(Network {
             case,
             order,
-            table: CosTable::open(alloc)?,
+            table,
             branches,
             switches,
             system,
             rows,
             kept,
-            voltages: zeros(alloc, case.parts.nodes.len() + 1)?,
-            currents: zeros(alloc, case.parts.branches.len())?,
-            switch_currents: zeros(alloc, case.parts.switches.len())?,
-            closed,
+            voltages: shown.voltages,
+            currents: shown.currents,
+            switch_currents: shown.switch_currents,
+            closed: shown.closed,
             made: 0,
             redone: 0,
         })
@@ -200,16 +202,55 @@ impl<'a> Network<'a> {
     }
 }
 
-/// Whether each switch is closed in record 0.
-fn closed_at_rest(
+/// What a network shows of a record.
+#[derive(Drop)]
+struct Shown {
+    voltages: Vec<i64>,
+    currents: Vec<i64>,
+    switch_currents: Vec<i64>,
+    closed: Vec<bool>,
+}
+
+/// What a network shows of record 0.
+fn shown_at_rest(
     alloc: Global,
     case: &Case,
     switches: &Switches<'_>,
-) -> Result<Vec<bool>, AllocError>
+) -> Result<Shown, AllocError>
     requires { switches.now.case ≡ case.now.parts }
-    ensures { IfOk result (λ closed. closed.items ≡ map is_closed switches.now.states) }
+    ensures voltages { IfOk result (λ shown. shown.voltages.items ≡ replicate (length case.now.parts.nodes + 1) (pos 0)) }
+    ensures currents { IfOk result (λ shown. shown.currents.items ≡ replicate (length case.now.parts.branches) (pos 0)) }
+    ensures switch_currents { IfOk result (λ shown. shown.switch_currents.items ≡ replicate (length case.now.parts.switches) (pos 0)) }
+    ensures closed { IfOk result (λ shown. shown.closed.items ≡ map is_closed switches.now.states) }
+    ensures count { IfOk result (λ shown. length shown.closed.items ≡ length case.now.parts.switches) }
 {
+    let voltages = zeros(alloc, case.parts.nodes.len() + 1)?;
+    let currents = zeros(alloc, case.parts.branches.len())?;
+    let switch_currents = zeros(alloc, case.parts.switches.len())?;
     let mut closed = vec![in alloc; false; case.parts.switches.len()]?;
     switches.write_closed(&mut closed);
-    Ok(closed)
+    Ok(Shown {
+        voltages,
+        currents,
+        switch_currents,
+        closed,
+    })
+}
+
+/// The rows of a case before any step, and a factor of which no row is good.
+fn rows_at_rest<'a>(
+    alloc: Global,
+    case: &'a Case,
+    order: &RowOrder,
+    branches: &Branches<'_>,
+) -> Result<(NetRows<'a>, Kept), AllocError>
+    requires order { order.now ≡ order_of case.now.parts }
+    requires same { HasCase branches.now case.now.parts }
+    ensures rows { IfOk result (λ made. HoldsRows case.now.parts made.0 made.1) }
+    ensures none { IfOk result (λ made. made.1.rows ≡ []) }
+{
+    let mut rows = NetRows::open(alloc, case, order)?;
+    set_couplings(case, branches, &mut rows);
+    let kept = Kept::open(alloc, &rows)?;
+    Ok((rows, kept))
 }

@@ -1,6 +1,6 @@
-use Rattle.std.proofs.Common.{◌≡◌, ◌∙◌, ◌≤◌, sym, ap, length, min, take, arith}
+use Rattle.std.proofs.Common.{◌≡◌, ◌∙◌, ◌≤◌, sym, ap, length, take, arith}
 use Rattle.std.proofs.Math.Nat.{min-le_left, min-le_right}
-use Rattle.emtp_rows.specs.Nodal.{Nodal, nodal_matrix}
+use Rattle.emtp_rows.specs.Nodal.{nodal_matrix}
 use Rattle.emtp_rows.specs.Touched.{NodalRows}
 use Rattle.emtp_tail.specs.Good.{Good, first_change}
 use Rattle.emtp_tail.proofs.Redoing.{first_change_law}

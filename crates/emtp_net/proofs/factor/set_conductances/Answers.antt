@@ -1,7 +1,6 @@
-use Rattle.std.proofs.Common.{◌≡◌, ◌∙◌, ◌<◌, sym, ap, length, length-set, slice_get, slice_set, List, ℤ, ℕ, to_z, of_z, arith}
+use Rattle.std.proofs.Common.{◌≡◌, ◌∙◌, ◌<◌, sym, ap, length, length-set, slice_get, slice_set, to_z, of_z, arith}
 use mir.Syntax.{w64}
 use Rattle.std.proofs.lemmas.Int.{ints}
-use Rattle.emtp_case.specs.StepRecord.{StepRecord}
 use Rattle.emtp_elim.specs.Matrix.{item}
 use Rattle.emtp_net.proofs.Conductances.{conductances_are, set_more, touches_then}
 use Rattle.emtp_net.specs.System.{conductance_by}

@@ -1,4 +1,4 @@
-use Rattle.std.proofs.Common.{◌≡◌, ◌∙◌, ◌<◌, sym, ap, length, length-set, map, pos, slice_set, List, ℤ, ℕ, to_z, of_z, arith}
+use Rattle.std.proofs.Common.{◌≡◌, ◌∙◌, ◌<◌, sym, ap, length, length-set, map, pos, slice_set, ℤ, ℕ, to_z, of_z, arith}
 use mir.Syntax.{w64}
 use Rattle.std.specs.List.{range_with_len}
 use Rattle.std.proofs.lemmas.Int.{ints}
@@ -36,7 +36,7 @@ loop-trio-preserved c =
       set = λ t below. ap (λ xs. item xs t) coupling ∙ set_more c.loop-trio.rows.nodal.coupling at g (λ t. mutual_conductance (modes_of case.run.dt (lined.trio_of case t))) inside value c.loop-trio.invariant.set t below;
     }
 
-pub returns : goal.returns-clause-set
+pub returns : goal.returns
 returns c =
     let case = c.args.case.now.parts in
     let f : ℕ → ℤ = λ t. mutual_conductance (modes_of case.run.dt (lined.trio_of case t)) in

@@ -1,4 +1,4 @@
-use Rattle.std.proofs.Common.{length, arith}
+use Rattle.std.proofs.Common.{arith}
 use Rattle.emtp_net.proofs.Nodes.{order_size, row_node}
 use Rattle.emtp_net.proofs.names.row_fault.Goals as goal
 

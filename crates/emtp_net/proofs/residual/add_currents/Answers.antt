@@ -1,10 +1,7 @@
-use Rattle.std.proofs.Common.{◌≡◌, ◌∙◌, ◌<◌, ◌≤◌, ℕ, ◌+ℤ◌, ◌^◌, sym, ap, length, slice_get, to_z, of_z, unsigned_abs, arith}
-use mir.Syntax.{w128}
-use Rattle.std.proofs.lemmas.Int.{ints}
+use Rattle.std.proofs.Common.{◌≡◌, ◌∙◌, ◌<◌, ℕ, ◌^◌, ap, length, slice_get, arith}
 use Rattle.emtp_elim.specs.Matrix.{item}
 use Rattle.emtp_rows.specs.Sums.{sum_below}
 use Rattle.emtp_rows.specs.Nodal.{node_at}
-use Rattle.emtp_rows.proofs.Totals.{sum_below-more}
 use Rattle.emtp_net.specs.System.{at_node}
 use Rattle.emtp_net.specs.Part.{brought_by}
 use Rattle.emtp_net.proofs.Ends.{ends_more, ends_bound}

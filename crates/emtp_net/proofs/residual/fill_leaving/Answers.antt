@@ -1,6 +1,5 @@
-use Rattle.std.proofs.Common.{◌≡◌, ◌∙◌, ◌<◌, ◌≤◌, ◌+ℤ◌, neg_ℤ, ap, length, ℕ, unsigned_abs, arith}
+use Rattle.std.proofs.Common.{◌≡◌, ◌∙◌, ◌+ℤ◌, neg_ℤ, ap, length, arith}
 use Rattle.std.proofs.lemmas.Int.{ints}
-use Rattle.emtp_elim.specs.Matrix.{item}
 use Rattle.emtp_net.proofs.Residuals.{leaving_is}
 use Rattle.emtp_net.specs.System.{source_value, sources_into}
 use Rattle.emtp_rows.specs.Nodal.{node_at}

@@ -1,6 +1,6 @@
-use Rattle.std.proofs.Common.{◌≡◌, ◌∙◌, ◌<◌, ap, length, unsigned_abs, FitsSigned, to_z, of_z, rules, arith}
+use Rattle.std.proofs.Common.{◌≡◌, length, unsigned_abs, FitsSigned, to_z, of_z, rules, arith}
 use mir.Syntax.{w64}
-use Rattle.std.proofs.lemmas.Int.{ints, to_z-of_z}
+use Rattle.std.proofs.lemmas.Int.{to_z-of_z}
 use Rattle.emtp_net.proofs.Residuals.{judged, judged_magnitude, judged_there}
 use Rattle.emtp_net.proofs.residual.judge.Goals as goal
 

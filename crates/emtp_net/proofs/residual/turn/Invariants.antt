@@ -1,4 +1,4 @@
-use Rattle.std.proofs.Common.{◌≡◌, ◌<◌, ◌≤◌, ℕ, neg_ℤ, length}
+use Rattle.std.proofs.Common.{◌≡◌, ◌<◌, ◌≤◌, ℕ, neg_ℤ}
 use Rattle.emtp_elim.specs.Matrix.{item}
 use Rattle.emtp_net.proofs.residual.turn.Given as goal
 

@@ -1,4 +1,4 @@
-use Rattle.std.proofs.Common.{◌≡◌, ◌∙◌, ◌<◌, ◌≤◌, ◌+ℤ◌, ap, sym, length, map, take, to_z, of_z, unsigned_abs, ℕ, get_or, pos, FitsSigned, rules, arith}
+use Rattle.std.proofs.Common.{◌≡◌, ◌∙◌, ◌<◌, ◌+ℤ◌, ap, length, take, to_z, of_z, ℕ, pos, FitsSigned, rules, arith}
 use mir.Syntax.{w128, w64}
 use Rattle.std.proofs.lemmas.Int.{ints, to_z-of_z}
 use Rattle.std.proofs.lemmas.List.{get_or-map, take_all}

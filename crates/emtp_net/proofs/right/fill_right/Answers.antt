@@ -1,10 +1,8 @@
-use Rattle.std.proofs.Common.{◌≡◌, ◌∙◌, ◌<◌, ◌≤◌, ◌*◌, ◌^◌, ◌+ℤ◌, ap, length, map, ℕ, unsigned_abs, arith}
-use Rattle.std.specs.List.{range_with_len}
+use Rattle.std.proofs.Common.{◌≡◌, ◌∙◌, ◌+ℤ◌, ap, length, arith}
 use Rattle.std.proofs.lemmas.List.FromFn.{length-map-range_with_len}
-use Rattle.emtp_elim.specs.Matrix.{item}
 use Rattle.emtp_rows.specs.Nodal.{node_at}
 use Rattle.emtp_net.specs.Rights.{place_at}
-use Rattle.emtp_net.specs.System.{right_current, source_value, sources_into}
+use Rattle.emtp_net.specs.System.{source_value, sources_into}
 use Rattle.emtp_net.proofs.Righting.{right_is}
 use Rattle.emtp_net.proofs.right.fill_right.Goals as goal
 

@@ -1,4 +1,4 @@
-use Rattle.std.proofs.Common.{◌≡◌, ◌<◌, ℕ, ℤ, length, map, take, drop, ◌++◌}
+use Rattle.std.proofs.Common.{◌≡◌, map, take}
 use Rattle.emtp_case.specs.declared.source.Source.{Source}
 use Rattle.emtp_wave.specs.Wave.{value_of}
 use Rattle.emtp_net.proofs.right.fill_values.Given as goal

@@ -1,4 +1,4 @@
-use Rattle.std.proofs.Common.{◌≡◌, ◌<◌, ◌≤◌, ℕ, length, slice_index}
+use Rattle.std.proofs.Common.{◌≡◌, ◌<◌, ◌≤◌, ℕ, slice_index}
 use Rattle.emtp_elim.specs.Matrix.{item}
 use Rattle.emtp_net.specs.Rights.{row_value}
 use Rattle.emtp_rows.specs.Nodal.{kind_at}

@@ -1,7 +1,6 @@
-use Rattle.std.proofs.Common.{◌≡◌, ◌≤◌, ◌<◌, ◌^◌, unsigned_abs, sym, length, to_z, of_z, ◌+ℤ◌, arith}
+use Rattle.std.proofs.Common.{◌≡◌, ◌<◌, length, to_z, of_z, arith}
 use mir.Syntax.{w128}
 use Rattle.std.proofs.lemmas.Int.{ints}
-use Rattle.emtp_elim.specs.Matrix.{item}
 use Rattle.emtp_net.proofs.Nodes.{order_size, row_read, node_set, ground_none}
 use Rattle.emtp_net.proofs.sums.add_at.Goals as goal
 

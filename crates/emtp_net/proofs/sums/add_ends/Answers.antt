@@ -1,4 +1,4 @@
-use Rattle.std.proofs.Common.{◌≡◌, ◌<◌, ◌≤◌, ◌∙◌, sym, ap, length, get_or, slice_get, Some, refl, to_z, of_z, ◌+ℤ◌, ℕ, arith}
+use Rattle.std.proofs.Common.{◌≡◌, ap, refl, to_z, of_z, ℕ, arith}
 use mir.Syntax.{w128}
 use Rattle.std.proofs.lemmas.Int.{ints}
 use Rattle.emtp_rows.specs.Nodal.{node_at}

@@ -1,6 +1,5 @@
-use Rattle.std.proofs.Common.{◌≡◌, ◌≢◌, ◌∙◌, ◌<◌, ◌+◌, sym, ap, length, length-set, ℤ, pos, slice_set, get_or-set_same, get_or-set_other, FitsSigned, to_z, of_z, inl, inr, rules, arith}
+use Rattle.std.proofs.Common.{◌≡◌, ◌≢◌, ◌∙◌, ◌<◌, ◌+◌, sym, ap, length, length-set, ℤ, get_or-set_other, FitsSigned, to_z, of_z, rules, arith}
 use mir.Syntax.{w64}
-use Rattle.std.proofs.lemmas.Bool.{cases_eq}
 use Rattle.std.proofs.lemmas.Int.{to_z-of_z}
 use Rattle.emtp_elim.specs.Matrix.{item}
 use Rattle.emtp_rows.specs.Touched.{row_at}

@@ -1,7 +1,6 @@
-use Rattle.std.proofs.Common.{◌≡◌, ◌∙◌, ◌<◌, sym, ap, subst, length, length-set, List, ℕ, ℤ, FitsSigned, to_z, of_z, rules, refl, arith}
+use Rattle.std.proofs.Common.{◌≡◌, ◌<◌, sym, length, FitsSigned, to_z, of_z, rules, arith}
 use mir.Syntax.{w64}
 use Rattle.std.proofs.lemmas.Int.{to_z-of_z}
-use Rattle.emtp_case.specs.StepRecord.{StepRecord}
 use Rattle.emtp_net.proofs.AllMoved.{all_in_range, all_moved, currents_more, first_out, none_moved, range_more}
 use Rattle.emtp_net.proofs.branches.Branches.accept_all.Goals as goal
 

@@ -1,4 +1,4 @@
-use Rattle.std.proofs.Common.{List, length, ◌≡◌}
+use Rattle.std.proofs.Common.{List}
 use Rattle.emtp_case.specs.StepRecord.{StepRecord}
 use Rattle.emtp_net.specs.Branches.{HasCase, StandsFor}
 use Rattle.emtp_net.specs.Moving.{AreCurrents, AreInRange, IsNext, StandsBefore}

@@ -1,12 +1,9 @@
-use Rattle.std.proofs.Common.{◌≡◌, ◌∙◌, sym, ap, subst, slice_get, Some, ℤ, ◌-ℤ◌, ℕ, FitsSigned, refl, to_z, of_z, rules, arith}
+use Rattle.std.proofs.Common.{◌≡◌, ◌∙◌, slice_get, Some, FitsSigned, refl, to_z, of_z, rules, arith}
 use mir.Syntax.{w64}
 use Rattle.std.proofs.Math.Nat.{min-eq_left, min-le_right}
 use Rattle.std.proofs.lemmas.Int.{to_z-of_z}
 use Rattle.emtp_case.specs.declared.branch.Branch.TheVariants.{Lumped as OfLumped, Line as OfLine, Pseudo as OfPseudo, Phase as OfPhase}
 use Rattle.emtp_elim.specs.Matrix.{item}
-use Rattle.emtp_line.specs.Lines as lined
-use Rattle.emtp_lumped.specs.Lumps as lumped
-use Rattle.emtp_pseudo.specs.Pseudos as pseudo
 use Rattle.emtp_net.proofs.Moves.{line_moves, line_stops, lumped_moves, lumped_stops, phase_read, pseudo_moves, pseudo_stops}
 use Rattle.emtp_net.proofs.Nodes.{branch_fits, branch_read}
 use Rattle.emtp_net.proofs.PhaseMoves.{phase_waits, trio_moves, trio_stops}

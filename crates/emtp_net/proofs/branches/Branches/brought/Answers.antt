@@ -1,4 +1,4 @@
-use Rattle.std.proofs.Common.{◌≡◌, ◌∙◌, ◌<◌, ◌+◌, ◌∷◌, sym, ap, subst, length, slice_get, Some, ℕ, ℤ, FitsSigned, to_z, of_z, rules, arith}
+use Rattle.std.proofs.Common.{◌≡◌, ◌∙◌, ◌<◌, ◌+◌, ◌∷◌, sym, ap, length, slice_get, Some, FitsSigned, to_z, of_z, rules, arith}
 use mir.Syntax.{w64}
 use Rattle.std.proofs.lemmas.Int.{to_z-of_z}
 use Rattle.emtp_case.specs.Branch.{first_of_trio}
@@ -13,7 +13,7 @@ use Rattle.emtp_line.specs.Mode.{mode_of_line}
 use Rattle.emtp_net.proofs.Bringing.{line_brings, lumped_brings, phase_brings, pseudo_brings}
 use Rattle.emtp_net.proofs.Moves.{phase_read}
 use Rattle.emtp_net.proofs.Nodes.{branch_fits, branch_in, branch_read}
-use Rattle.emtp_net.proofs.PhaseMoves.{phase_next, phase_state_is}
+use Rattle.emtp_net.proofs.PhaseMoves.{phase_next}
 use Rattle.emtp_net.specs.System.{taken, through}
 use Rattle.emtp_net.specs.Part.{state_by}
 use Rattle.emtp_net.proofs.branches.Branches.brought.Goals as goal

@@ -1,18 +1,14 @@
-use Rattle.std.proofs.Common.{◌≡◌, ◌∙◌, ◌≤◌, sym, ap, pos, ℤ, slice_get, Some, to_z, of_z, unsigned_abs, arith}
-use mir.Syntax.{w64, w128}
+use Rattle.std.proofs.Common.{◌≡◌, ◌∙◌, sym, ap, slice_get, Some, to_z, of_z, arith}
+use mir.Syntax.{w64}
 use Rattle.std.proofs.lemmas.Int.{ints}
-use Rattle.emtp_case.specs.declared.branch.Branch.{Branch}
 use Rattle.emtp_case.specs.declared.branch.Branch.TheVariants.{Lumped as OfLumped, Line as OfLine, Pseudo as OfPseudo, Phase as OfPhase}
 use Rattle.emtp_case.specs.declared.case.Parts.{Parts}
-use Rattle.emtp_line.specs.Line.{line_histories}
 use Rattle.emtp_line.specs.Lines as lined
 use Rattle.emtp_line.specs.Mode.{mode_of_line}
-use Rattle.emtp_line.specs.Phases.{modes_of, own_conductance, phase_from_history, phase_to_history}
+use Rattle.emtp_line.specs.Phases.{modes_of, own_conductance}
 use Rattle.emtp_lumped.specs.Companion.{companion_of}
-use Rattle.emtp_lumped.specs.Lumps as lumped
-use Rattle.emtp_lumped.specs.Step.{history_current_of}
 use Rattle.emtp_pseudo.specs.Pseudos as pseudo
-use Rattle.emtp_net.specs.System.{conductance_by, history_by, taken, through}
+use Rattle.emtp_net.specs.System.{conductance_by}
 use Rattle.emtp_net.proofs.Nodes.{branch_in, branch_read}
 use Rattle.emtp_net.proofs.branches.Branches.conductance.Goals as goal
 

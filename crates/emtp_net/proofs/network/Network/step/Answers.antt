@@ -1,11 +1,10 @@
-use Rattle.std.proofs.Common.{◌≡◌, ◌∙◌, ◌∷◌, ◌<◌, ◌≤◌, ◌+◌, ◌*◌, sym, ap, subst, All, List, ℤ, length, map, unsigned_abs, Err, refl, arith}
+use Rattle.std.proofs.Common.{◌∙◌, ◌∷◌, ◌<◌, ◌≤◌, ◌+◌, sym, ap, subst, All, length, unsigned_abs, Err, refl, arith}
 use Rattle.std.specs.Vec.{with_items}
 use Rattle.std.proofs.lemmas.List.{with_items_is}
 use Rattle.std.proofs.lemmas.Result.{err_from_is_err_and}
-use Rattle.emtp_case.specs.StepRecord.{StepRecord, is_closed}
 use Rattle.emtp_fix.specs.declared.limit.TheConstants.{LARGEST_VALUE}
 use Rattle.emtp_switch.specs.Switching as switching
-use Rattle.emtp_net.specs.Holding.{AreFew, HasShown, HoldsSwitches}
+use Rattle.emtp_net.specs.Holding.{HoldsSwitches}
 use Rattle.emtp_net.specs.Moving.{HaveMoved}
 use Rattle.emtp_net.specs.Network.{Net, StandsFor}
 use Rattle.emtp_net.specs.Stages.{AreVoltages}

@@ -1,7 +1,6 @@
-use Rattle.std.proofs.Common.{◌≡◌, ◌∙◌, sym, ap, subst, All, length, unsigned_abs, refl, arith, ◌≤◌}
+use Rattle.std.proofs.Common.{◌≡◌, ◌∙◌, sym, ap, subst, All, unsigned_abs, refl, arith, ◌≤◌}
 use Rattle.std.proofs.lemmas.List.{with_items_is}
 use Rattle.emtp_elim.specs.Outcome.{outcome}
-use Rattle.emtp_elim.specs.declared.fault.PlainFault.TheVariants.{Solve}
 use Rattle.emtp_net.specs.Part.{voltages_of}
 use Rattle.emtp_net.specs.System.{matrix, right}
 use Rattle.emtp_fix.specs.declared.limit.TheConstants.{LARGEST_VALUE}
