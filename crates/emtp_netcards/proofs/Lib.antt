@@ -1,3 +1,4 @@
 pub mod Lines
 pub mod BranchKinds
 pub mod Points
+pub mod Ends

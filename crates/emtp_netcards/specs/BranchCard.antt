@@ -10,7 +10,7 @@ use Rattle.emtp_card.specs.declared.reason.Bad.{Bad}
 use Rattle.emtp_card.specs.declared.reason.Why.{Why}
 use Rattle.emtp_card.specs.declared.reason.Why.TheVariants.{BadType}
 use Rattle.emtp_case.specs.Branch.{HasLineNumbers, HasSeriesNumbers}
-use Rattle.emtp_netcards.specs.Fields.{asked_field, ends_fault, name_or_ground, zero_field}
+use Rattle.emtp_netcards.specs.Fields.{AreEndNames, asked_field, ends_fault, name_or_ground, zero_field}
 use Rattle.emtp_netcards.specs.LineValues.{line_fault, line_values}
 use Rattle.emtp_netcards.specs.SeriesValues.{series_fault, series_values}
 use Rattle.emtp_netcards.specs.declared.branch_card.BranchCard.{BranchCard}
@@ -136,8 +136,9 @@ HasValues dt ThirdCard = Unit {0}
 HasValues dt ReactorCard = Unit {0}
 HasValues dt ResistorCard = Unit {0}
 
--- what a card keeps: its own numbers are in range, where it takes none of another
+-- what a card keeps: its ends are there, and its own numbers are in range, where it takes none of another
 pub record HasNumbers (dt : ℤ) (card : BranchCard) : Type 0 where
+  pub ends : AreEndNames card.from card.to
   pub values : card.copies ≡ None → HasValues dt card.values
   pub few : card.asked ≤ 3
 

@@ -1,5 +1,5 @@
 -- Fields that several cards share.
-use Rattle.std.specs.Prelude.{ℕ, ◌^◌, ◌≤◌, ℤ, pos, neg_ℤ, unsigned_abs, Bool, true, false, List, Option, Some, None, Result, Ok, Err, if◌then◌else◌}
+use Rattle.std.specs.Prelude.{◌≡◌, IfSome, ℕ, ◌^◌, ◌≤◌, ℤ, pos, neg_ℤ, unsigned_abs, Bool, true, false, List, Option, Some, None, Result, Ok, Err, if◌then◌else◌}
 use Rattle.std.specs.Ordering.{int_eq}
 use Rattle.std.specs.Result.{result_unwrap_or}
 use Rattle.std.specs.Str.{bytes_eq}
@@ -10,6 +10,7 @@ use Rattle.emtp_card.specs.Whole.{whole_field}
 use Rattle.emtp_card.specs.declared.fault.Fault.{Fault}
 use Rattle.emtp_card.specs.declared.reason.Why.{Why}
 use Rattle.emtp_card.specs.declared.reason.Why.TheVariants.{BadName, OutOfUnitRange}
+use Rattle.emtp_case.specs.Name.{IsName}
 use Rattle.emtp_case.specs.Sizes.{Sizes}
 
 -- a number field that can't be blank
@@ -44,6 +45,12 @@ is_same_name (Some a) (Some b) = bytes_eq a b
 is_same_name (Some a) None = false
 is_same_name None (Some b) = false
 is_same_name None None = true
+
+-- the two ends of a card are names of nodes or ground, and differ
+pub record AreEndNames (a b : Option (List ℕ)) : Type 0 where
+  pub from_name : IfSome a IsName
+  pub to_name : IfSome b IsName
+  pub apart : is_same_name a b ≡ false
 
 -- the two ends differ, also where both are ground
 abbrev pub ends_fault : Result (Option (List ℕ)) Why → Result (Option (List ℕ)) Why → Option Fault

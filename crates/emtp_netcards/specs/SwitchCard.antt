@@ -15,7 +15,7 @@ use Rattle.emtp_card.specs.declared.reason.Why.TheVariants.{BadName, BadType}
 use Rattle.emtp_case.specs.Switch.{IsSwitchKind}
 use Rattle.emtp_case.specs.declared.switch.SwitchKind.{SwitchKind}
 use Rattle.emtp_case.specs.declared.switch.SwitchKind.TheVariants.{Control, Measuring, Time, Valve}
-use Rattle.emtp_netcards.specs.Fields.{asked_field, ends_fault, held_time, name_or_ground, needed, one_variable}
+use Rattle.emtp_netcards.specs.Fields.{AreEndNames, asked_field, ends_fault, held_time, name_or_ground, needed, one_variable}
 use Rattle.emtp_netcards.specs.declared.switch_card.SwitchCard.{SwitchCard}
 use Rattle.emtp_netcards.specs.declared.switch_card.SwitchType.{SwitchType}
 use Rattle.emtp_netcards.specs.declared.switch_card.SwitchType.TheVariants.{Control as ControlType, Time as TimeType, Valve as ValveType}
@@ -125,7 +125,8 @@ switch_card number line =
       asked = result_unwrap_or (asked_field line) 0;
     })
 
--- what a card keeps: the kind is one of a case with one variable, which stands for that of its name
+-- what a card keeps: its ends are there, and the kind is one of a case with one variable, which stands for that of its name
 pub record HasSwitchNumbers (card : SwitchCard) : Type 0 where
+  pub ends : AreEndNames card.from card.to
   pub kind : IsSwitchKind one_variable card.kind
   pub few : card.asked ≤ 3

@@ -6,7 +6,7 @@ ghost use Rattle.emtp_case.specs.Range.{IsBetween};
 ghost use Rattle.emtp_case.specs.RunData.{IsRun};
 ghost use Rattle.emtp_netcards.specs.BranchCard.{HasNumbers, HasValues, are_blank, branch_card, copied_fault, copied_names, fields_fault, has_copy, kind_field, kind_of, kind_of_values, no_values, read_values, resistor_fault, values_fault, values_of};
 
-use crate::fields::{asked, ends_fault};
+use crate::fields::{asked, ends_fault, name_or_ground};
 use crate::line_values::{LineValues, line_fault, line_values};
 use crate::series_values::{SeriesValues, series_fault, series_values};
 use emtp_card::{
@@ -103,8 +103,8 @@ pub fn branch(line: Line<'_>, run: &RunData, wide: bool) -> Result<BranchCard, B
         Some(bad) => Err(bad),
         None => Ok(BranchCard {
             line: line.number,
-            from: field_name(bytes, 3).unwrap_or(None),
-            to: field_name(bytes, 9).unwrap_or(None),
+            from: name_or_ground(bytes, 3),
+            to: name_or_ground(bytes, 9),
             copies: copied_names(bytes, &kind),
             values: values(bytes, &kind, run.dt, wide),
             asked: asked(bytes).unwrap_or(0),

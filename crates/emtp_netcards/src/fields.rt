@@ -1,11 +1,13 @@
 //! Fields that several cards share.
 
-ghost use Rattle.std.specs.Prelude.{◌≡◌, ◌≤◌, ◌≤ℤ◌, pos, IfOk};
+ghost use Rattle.std.specs.Prelude.{◌≡◌, ◌≤◌, ◌≤ℤ◌, None, pos, IfOk, IfSome};
 ghost use Rattle.std.specs.Option.{ForSome};
 ghost use Rattle.emtp_card.specs.Fault.{filled_with};
+ghost use Rattle.emtp_card.specs.Lines.{fault_of_line};
 ghost use Rattle.emtp_card.specs.Name.{name_field};
 ghost use Rattle.emtp_card.specs.Number.{IsWithin, number_field};
-ghost use Rattle.emtp_netcards.specs.Fields.{IsSmall, asked_field, asked_of, ends_fault, held_time, is_same_name, needed, required, signed_number};
+ghost use Rattle.emtp_case.specs.Name.{IsName};
+ghost use Rattle.emtp_netcards.specs.Fields.{IsSmall, asked_field, asked_of, ends_fault, held_time, is_same_name, name_or_ground, needed, required, signed_number};
 
 use emtp_card::{Fault, Why, field_held, field_name, field_number, field_whole, number_or};
 use emtp_case::Name;
@@ -36,6 +38,17 @@ pub fn required(
         Ok(None) => Err(Why::OutOfUnitRange),
         Err(why) => Err(why),
     }
+}
+
+/// The name in six columns, where none is ground; a refused one doesn't matter. On a line without a fault of its bytes it
+/// is a name of a case.
+pub(crate) fn name_or_ground(line: &[u8], first: usize) -> Option<Name>
+    requires low { 1 ≤ first }
+    requires high { first ≤ 75 }
+    ensures value { result ≡ name_or_ground line.now first }
+    ensures name { fault_of_line line.now ≡ None → IfSome result IsName }
+{
+    field_name(line, first).unwrap_or(None)
 }
 
 /// The name in six columns that can't be blank, which is `BadName`.

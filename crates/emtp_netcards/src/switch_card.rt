@@ -7,7 +7,7 @@ ghost use Rattle.emtp_case.specs.Switch.{IsSwitchKind};
 ghost use Rattle.emtp_netcards.specs.Fields.{one_variable};
 ghost use Rattle.emtp_netcards.specs.SwitchCard.{HasSwitchNumbers, control_fault, control_name, fields_fault, is_measuring, kind_fault, number_of_control, part_field, switch_card, switch_kind, time_fault, time_kind, times_fault, type_field, type_of, valve_fault, valve_kind, word_field};
 
-use crate::fields::{asked, ends_fault, held_time, held_time_or_zero, needed_name};
+use crate::fields::{asked, ends_fault, held_time, held_time_or_zero, name_or_ground, needed_name};
 use emtp_card::{
     Bad, Fault, Line, MAX_BYTES, Why, fault_at, field_name, field_text, field_whole, judge, least,
     number_or,
@@ -57,8 +57,8 @@ pub fn switch(line: Line<'_>) -> Result<SwitchCard, Bad>
         Some(bad) => Err(bad),
         None => Ok(SwitchCard {
             line: line.number,
-            from: field_name(bytes, 3).unwrap_or(None),
-            to: field_name(bytes, 9).unwrap_or(None),
+            from: name_or_ground(bytes, 3),
+            to: name_or_ground(bytes, 9),
             kind: switch_kind(bytes, &kind),
             control: control_name(bytes, &kind),
             asked: asked(bytes).unwrap_or(0),

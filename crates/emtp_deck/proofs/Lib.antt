@@ -1,0 +1,14 @@
+pub mod Walking
+pub mod Sounding
+pub mod Naming
+pub mod Copying
+pub mod Keeping
+pub mod Sensing
+pub mod Growing
+pub mod Modes
+pub mod Asking
+pub mod Judging
+pub mod Switching
+pub mod WholeDeck
+pub mod Comments
+pub mod Order

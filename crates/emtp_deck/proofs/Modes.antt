@@ -1,0 +1,99 @@
+-- The numbers that a line's card gives, and how many history values they need.
+use Rattle.std.proofs.Common.{◌≡◌, refl, ℕ, ◌+◌, ◌*◌, ◌^◌, ◌<◌, ◌≤◌, ◌==◌, ◌≤ℤ◌, ℤ, pos, Bool, true, false, List, Option, Some, None, unwrap_or, arith, FitsSigned}
+use mir.Syntax.{w64}
+use Rattle.std.specs.Prelude.{if◌then◌else◌, All, find, unsigned_abs}
+use Rattle.std.proofs.Math.Nat.{div-le_of_le-mul}
+use Rattle.std.proofs.lemmas.Int.{ints}
+use Rattle.std.proofs.lemmas.Nat.{mul-le}
+use Rattle.emtp_case.specs.Branch.{HasLineNumbers, IsBranch, IsTrio}
+use Rattle.emtp_case.specs.HistoryValues.{travel_steps, trio_history_values}
+use Rattle.emtp_case.specs.Sizes.{sizes_of}
+use Rattle.emtp_case.specs.declared.branch.Branch.{Branch}
+use Rattle.emtp_case.specs.declared.branch.Branch.TheVariants.{Line as OfLine, Lumped as OfLumped, Phase as OfPhase, Pseudo as OfPseudo}
+use Rattle.emtp_case.specs.declared.case.Parts.{Parts}
+use Rattle.emtp_deck.specs.Branches.{line_history, modes_of, no_numbers}
+use Rattle.emtp_deck.specs.Copies.{IsEarlier, earlier_or_missing, is_like, line_numbers, missing_fault, mode_of_phase, no_trio, numbers_of_branch, numbers_of_card, type_of_pseudo, type_of_values, values_by}
+use Rattle.emtp_deck.specs.Names.{node_number}
+use Rattle.emtp_deck.specs.Sensible.{IsLineKind}
+use Rattle.emtp_deck.specs.declared.copies.LineNumbers.{LineNumbers}
+use Rattle.emtp_deck.proofs.Copying.{earlier}
+use Rattle.emtp_netcards.specs.BranchCard.{HasValues, kind_of_values}
+use Rattle.emtp_netcards.specs.declared.branch_card.BranchValues.{BranchValues}
+use Rattle.emtp_netcards.specs.declared.branch_card.BranchValues.TheVariants.{Line as LineCard, Lumped as LumpedCard, Reactor as ReactorCard, Resistor as ResistorCard, Second as SecondCard, Third as ThirdCard}
+
+-- ---- history values
+
+values_few : (phases steps : ℕ) → phases ≤ 3 → steps ≤ 2 * 10 ^ 16 → phases * (2 * (steps + 1)) ≤ 2 * 10 ^ 17
+values_few phases steps l m = let product = mul-le phases (2 * (steps + 1)) 3 (2 * (2 * 10 ^ 16 + 1)) l (omega arith) in omega (arith, product)
+
+steps_few : (dt delay : ℤ) → pos 1000 ≤ℤ dt → FitsSigned w64 delay → travel_steps dt delay ≤ 2 * 10 ^ 16
+steps_few dt delay least fits =
+    let step : 1000 ≤ unsigned_abs dt = omega (arith, ints) in
+    let far : unsigned_abs delay ≤ unsigned_abs dt * (2 * 10 ^ 16) = omega (arith, ints, step, fits) in
+    div-le_of_le-mul (unsigned_abs dt) far
+
+pub few_values : (phases : ℕ) (dt delay : ℤ) → phases ≤ 3 → pos 1000 ≤ℤ dt → FitsSigned w64 delay → phases * (2 * (travel_steps dt delay + 1)) ≤ 2 * 10 ^ 17
+few_values phases dt delay l least fits = values_few phases (travel_steps dt delay) l (steps_few dt delay least fits)
+
+-- both sequences together
+both_modes : (a b : ℕ) → 1 * (2 * (a + 1)) + 3 * (2 * (b + 1)) ≡ 2 * (a + 1) + 6 * (b + 1)
+both_modes a b = omega arith
+
+pub trio_values : (dt : ℤ) (o u : Option LineNumbers) (z q : LineNumbers) (first : ℕ) → o ≡ Some z → u ≡ Some q → line_history 1 dt o + line_history 3 dt u ≡ trio_history_values dt (modes_of z q first)
+trio_values dt o u z q first e d = rw (e, d) (both_modes (travel_steps dt z.delay) (travel_steps dt q.delay))
+
+-- ---- numbers
+
+abbrev pub HasRange : ℤ → LineNumbers → Type 0
+HasRange dt x = HasLineNumbers dt x.zc x.r x.delay
+
+-- there are numbers, and they are in range
+pub record IsNumbered (dt : ℤ) (o : Option LineNumbers) : Type 0 where
+  pub is : o ≡ Some (unwrap_or o no_numbers)
+  pub range : HasRange dt (unwrap_or o no_numbers)
+
+own_numbered : (dt : ℤ) (values : BranchValues) → IsLineKind (kind_of_values values) → HasValues dt values → IsNumbered dt (numbers_of_card values)
+own_numbered dt (LumpedCard r l c) k h = absurd k
+own_numbered dt (LineCard zc r delay) k h = record { is = refl; range = h }
+own_numbered dt (SecondCard zc r delay) k h = record { is = refl; range = h }
+own_numbered dt ThirdCard k h = absurd k
+own_numbered dt ReactorCard k h = absurd k
+own_numbered dt ResistorCard k h = absurd k
+
+mode_below : (is : Bool) → if◌then◌else◌ {A = ℕ} is 0 1 < 2
+mode_below true = omega arith
+mode_below false = omega arith
+
+no_pseudo : (reactor : Bool) (values : BranchValues) → IsLineKind (kind_of_values values) → type_of_pseudo reactor ≡ type_of_values values → ⊥
+no_pseudo reactor (LumpedCard r l c) k e = k
+no_pseudo true (LineCard zc r delay) k e = cc
+no_pseudo false (LineCard zc r delay) k e = cc
+no_pseudo true (SecondCard zc r delay) k e = cc
+no_pseudo false (SecondCard zc r delay) k e = cc
+no_pseudo reactor ThirdCard k e = k
+no_pseudo reactor ReactorCard k e = k
+no_pseudo reactor ResistorCard k e = k
+
+no_lumped : (values : BranchValues) → IsLineKind (kind_of_values values) → pos 0 ≡ type_of_values values → ⊥
+no_lumped (LumpedCard r l c) k e = k
+no_lumped (LineCard zc r delay) k e = cc
+no_lumped (SecondCard zc r delay) k e = cc
+no_lumped ThirdCard k e = k
+no_lumped ReactorCard k e = k
+no_lumped ResistorCard k e = k
+
+branch_numbered : (p : Parts) (values : BranchValues) (b : Branch) → IsLineKind (kind_of_values values) → All (IsTrio p.run) p.trios → IsEarlier p (type_of_values values) b → IsNumbered p.run.dt (numbers_of_branch p.trios b)
+branch_numbered p values (OfLumped x) k trios h = absurd (no_lumped values k h.same)
+branch_numbered p values (OfLine x) k trios h = record { is = refl; range = h.there.numbers }
+branch_numbered p values (OfPseudo x) k trios h = absurd (no_pseudo x.reactor values k h.same)
+branch_numbered p values (OfPhase x) k trios h = record { is = refl; range = trios x.trio no_trio h.there.trio (mode_of_phase x.phase) (mode_below (x.phase == 0)) }
+
+found_numbered : (p : Parts) (values : BranchValues) (a b : ℕ) (o : Option Branch) → IsLineKind (kind_of_values values) → All (IsTrio p.run) p.trios → All (IsBranch p.run (sizes_of p) p.points) p.branches → find (is_like (type_of_values values) a b) p.branches ≡ o → missing_fault (earlier_or_missing o) ≡ None
+    → IsNumbered p.run.dt (line_numbers p.trios values (earlier_or_missing o))
+found_numbered p values a b None k trios all e t = absurd (cc)
+found_numbered p values a b (Some x) k trios all e t = branch_numbered p values x k trios (earlier p (type_of_values values) a b x all e)
+
+pub numbered : (p : Parts) (names : List (List ℕ)) (values : BranchValues) (copies : Option (Option (List ℕ) × Option (List ℕ))) → IsLineKind (kind_of_values values) → (copies ≡ None → HasValues p.run.dt values) → All (IsTrio p.run) p.trios
+    → All (IsBranch p.run (sizes_of p) p.points) p.branches → missing_fault (values_by names p.branches (type_of_values values) copies) ≡ None → IsNumbered p.run.dt (line_numbers p.trios values (values_by names p.branches (type_of_values values) copies))
+numbered p names values None k own trios all t = own_numbered p.run.dt values k (own refl)
+numbered p names values (Some c) k own trios all t = found_numbered p values (node_number names c.0) (node_number names c.1) _ k trios all refl t

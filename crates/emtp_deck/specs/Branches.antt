@@ -1,0 +1,218 @@
+-- Branches: what each card gives the case, unless it has a fault of sense. Of a card the least fault counts.
+use Rattle.std.specs.Prelude.{ℕ, ◌+◌, ◌*◌, nat_lt, ℤ, pos, Bool, true, false, List, [], ◌∷◌, ◌++◌, length, Option, Some, None, option_map, unwrap_or, Result, Ok}
+use Rattle.emtp_card.specs.Fault.{bad_at, least, unless_bad}
+use Rattle.emtp_card.specs.declared.fault.Fault.{Fault}
+use Rattle.emtp_card.specs.declared.reason.Bad.{Bad}
+use Rattle.emtp_case.specs.Branch.{points_of}
+use Rattle.emtp_case.specs.Case.{phase_branches}
+use Rattle.emtp_case.specs.HistoryValues.{history_values_of, travel_steps}
+use Rattle.emtp_case.specs.declared.branch.Branch.{Branch}
+use Rattle.emtp_case.specs.declared.branch.Branch.TheVariants.{Line as OfLine, Lumped as OfLumped, Phase as OfPhase, Pseudo as OfPseudo}
+use Rattle.emtp_case.specs.declared.branch.Phase.{Phase}
+use Rattle.emtp_case.specs.declared.branch.Point.{Point}
+use Rattle.emtp_case.specs.declared.branch.Trio.{Trio}
+use Rattle.emtp_case.specs.declared.case.Parts.{Parts}
+use Rattle.emtp_case.specs.declared.channel.Channel.{Channel}
+use Rattle.emtp_case.specs.declared.channel.Channel.TheVariants.{BranchCurrent, BranchVoltage}
+use Rattle.emtp_deck.specs.Answer.{go_on}
+use Rattle.emtp_deck.specs.Channels.{channel_count, channels_of}
+use Rattle.emtp_deck.specs.Copies.{line_numbers, missing_fault, phase_numbers, values_from}
+use Rattle.emtp_deck.specs.Made.{Made, count_asked, too_many}
+use Rattle.emtp_deck.specs.Names.{node_number, with_ends, with_entry_names}
+use Rattle.emtp_deck.specs.declared.branches.Counts.{Counts}
+use Rattle.emtp_deck.specs.declared.copies.LineNumbers.{LineNumbers}
+use Rattle.emtp_deck.specs.declared.copies.ValuesFrom.{ValuesFrom}
+use Rattle.emtp_deck.specs.declared.copies.ValuesFrom.TheVariants.{Card as OwnValues, Earlier, Missing}
+use Rattle.emtp_deck.specs.declared.deck.BranchEntry.{BranchEntry}
+use Rattle.emtp_deck.specs.declared.deck.BranchEntry.TheVariants.{Single, Trio as TrioEntry}
+use Rattle.emtp_deck.specs.declared.deck.Place.{Place}
+use Rattle.emtp_deck.specs.declared.deck.Place.TheVariants.{After, Begin, Branches, First, Outputs, Points, Second, Sources, Start, Switches, Third, Waiting}
+use Rattle.emtp_netcards.specs.declared.branch_card.BranchCard.{BranchCard}
+use Rattle.emtp_netcards.specs.declared.branch_card.BranchValues.{BranchValues}
+use Rattle.emtp_netcards.specs.declared.branch_card.BranchValues.TheVariants.{Line as LineCard, Lumped as LumpedCard, Reactor as ReactorCard, Resistor as ResistorCard, Second as SecondCard, Third as ThirdCard}
+
+-- ---- what is counted
+
+abbrev pub counts_of : Made → Counts
+counts_of m = record { branches = length m.parts.branches; history = history_values_of m.parts; channels = count_asked m.asked }
+
+-- with one more card, which needs so many history values
+abbrev pub with_counts : Counts → BranchCard → ℕ → Counts
+with_counts n card history = record { branches = n.branches + 1; history = n.history + history; channels = n.channels + channel_count card.asked }
+
+-- a line keeps the past values of a travel time at both ends of so many phases
+abbrev pub line_history : ℕ → ℤ → Option LineNumbers → ℕ
+line_history phases dt None = 0
+line_history phases dt (Some x) = phases * (2 * (travel_steps dt x.delay + 1))
+
+-- the history values of a card: those of the values that it takes, and none where they are missing
+abbrev pub card_history : ℕ → List (List ℕ) → Parts → BranchCard → ℕ
+card_history phases names p card = line_history phases p.run.dt (line_numbers p.trios card.values (values_from names p.branches card))
+
+-- ---- faults of sense
+
+-- the faults of a card, given the names of the nodes and the counts, its own among them
+unfoldable pub card_fault : List (List ℕ) → Counts → BranchCard → ValuesFrom → Option Fault
+card_fault names n card values =
+    least (too_many (nat_lt 5000 n.branches) 1
+    ∷ too_many (nat_lt 2000000 n.history) 1
+    ∷ too_many (nat_lt 64 n.channels) 1
+    ∷ too_many (nat_lt 1000 (node_number names card.from)) 3
+    ∷ too_many (nat_lt 1000 (node_number names card.to)) 9
+    ∷ missing_fault values
+    ∷ [])
+
+abbrev pub card_bad : List (List ℕ) → Counts → BranchCard → ValuesFrom → Option Bad
+card_bad names n card values = option_map (bad_at card.line) (card_fault names n card values)
+
+abbrev pub first_bad : Option Bad → Option Bad → Option Bad
+first_bad (Some bad) other = Some bad
+first_bad None other = other
+
+-- the counts with a card of one branch, or with the card -1 of three phases, which has the zero sequence
+abbrev pub first_counts : List (List ℕ) → Made → BranchCard → Counts
+first_counts names m card = with_counts (counts_of m) card (card_history 1 names m.parts card)
+
+-- and with the card -2, which has the positive sequence of each of the three phases
+abbrev pub second_counts : List (List ℕ) → Made → BranchCard → BranchCard → Counts
+second_counts names m zero' positive = with_counts (first_counts names m zero') positive (card_history 3 names m.parts positive)
+
+abbrev pub first_fault : List (List ℕ) → Made → BranchCard → Option Bad
+first_fault names m card = card_bad names (first_counts names m card) card (values_from names m.parts.branches card)
+
+abbrev pub second_fault : List (List ℕ) → Made → BranchCard → BranchCard → Option Bad
+second_fault names m zero' positive = card_bad names (second_counts names m zero' positive) positive (values_from names m.parts.branches positive)
+
+-- the first two phases of a line
+abbrev pub pair_fault : List (List ℕ) → Made → BranchCard → BranchCard → Option Bad
+pair_fault names m zero' positive = first_bad (first_fault names m zero') (second_fault names m zero' positive)
+
+-- a third phase has no values
+abbrev pub third_fault : List (List ℕ) → Made → BranchCard → BranchCard → BranchCard → Option Bad
+third_fault names m zero' positive third = card_bad names (with_counts (second_counts names m zero' positive) third 0) third OwnValues
+
+-- the first card of an entry that has a fault decides; the names are those with the entry's own
+abbrev pub entry_fault : List (List ℕ) → Made → BranchEntry → Option Bad
+entry_fault names m (Single card first count) = first_fault names m card
+entry_fault names m (TrioEntry zero' positive third) = first_bad (pair_fault names m zero' positive) (third_fault names m zero' positive third)
+
+-- the cards of a group that the file cuts off
+abbrev pub pending_fault : Made → Place → Option Bad
+pending_fault m Begin = None
+pending_fault m (First seen) = None
+pending_fault m Second = None
+pending_fault m Start = None
+pending_fault m (Branches wide) = None
+pending_fault m (Points group) = first_fault (with_ends m.parts.nodes group.card.from group.card.to) m group.card
+pending_fault m (Waiting card wide) = first_fault (with_ends m.parts.nodes card.from card.to) m card
+pending_fault m (Third zero' positive wide) =
+    pair_fault (with_ends (with_ends m.parts.nodes zero'.from zero'.to) positive.from positive.to) m zero' positive
+pending_fault m Switches = None
+pending_fault m Sources = None
+pending_fault m Outputs = None
+pending_fault m (After seen) = None
+
+-- ---- records
+
+abbrev pub line_branch : ℕ → ℕ → ℕ → LineNumbers → Branch
+line_branch line a b x = OfLine (record { line = line; «from» = a; to = b; zc = x.zc; r = x.r; delay = x.delay })
+
+-- the values of an earlier branch, between these nodes; pseudo-nonlinear branches share the points
+abbrev pub moved : List Trio → ℕ → ℕ → ℕ → Branch → Branch
+moved trios line a b (OfLumped x) = OfLumped (record x { line = line; «from» = a; to = b })
+moved trios line a b (OfLine x) = OfLine (record x { line = line; «from» = a; to = b })
+moved trios line a b (OfPseudo x) = OfPseudo (record x { line = line; «from» = a; to = b })
+moved trios line a b (OfPhase x) = line_branch line a b (phase_numbers trios x)
+
+abbrev pub with_branch : Parts → Branch → Parts
+with_branch p branch = record p { branches = p.branches ++ branch ∷ [] }
+
+abbrev pub with_points : List Point → Parts → ℕ → ℕ → ℕ → Bool → Parts
+with_points points p line a b reactor = record p {
+  points = p.points ++ points;
+  branches = p.branches ++ OfPseudo (record { line = line; «from» = a; to = b; reactor = reactor; first = length p.points; count = length points }) ∷ [];
+}
+
+-- a card's own values; no second or third phase stands alone
+abbrev pub with_own : List Point → Parts → ℕ → ℕ → ℕ → BranchValues → Parts
+with_own points p line a b (LumpedCard r l c) = with_branch p (OfLumped (record { line = line; «from» = a; to = b; r = r; l = l; c = c }))
+with_own points p line a b (LineCard zc r delay) = with_branch p (line_branch line a b (record { zc = zc; r = r; delay = delay }))
+with_own points p line a b ReactorCard = with_points points p line a b true
+with_own points p line a b ResistorCard = with_points points p line a b false
+with_own points p line a b (SecondCard zc r delay) = p
+with_own points p line a b ThirdCard = p
+
+abbrev pub with_values : List Point → Parts → BranchCard → ℕ → ℕ → ValuesFrom → Parts
+with_values points p card a b OwnValues = with_own points p card.line a b card.values
+with_values points p card a b (Earlier branch) = with_branch p (moved p.trios card.line a b branch)
+with_values points p card a b Missing = p
+
+-- the branch of a card, whose nodes are there
+abbrev pub with_single : List Point → Parts → BranchCard → Parts
+with_single points p card = with_values points p card (node_number p.nodes card.from) (node_number p.nodes card.to) (values_from p.nodes p.branches card)
+
+abbrev pub no_numbers : LineNumbers
+no_numbers = record { zc = pos 0; r = pos 0; delay = pos 0 }
+
+abbrev pub numbers_for : Parts → BranchCard → LineNumbers
+numbers_for p card = unwrap_or (line_numbers p.trios card.values (values_from p.nodes p.branches card)) no_numbers
+
+-- the zero and the positive sequence
+abbrev pub modes_of : LineNumbers → LineNumbers → ℕ → Trio
+modes_of z q first = record { first = first; zc = z.zc ∷ q.zc ∷ []; r = z.r ∷ q.r ∷ []; delay = z.delay ∷ q.delay ∷ [] }
+
+abbrev pub phase_for : Parts → BranchCard → Phase
+phase_for p card = record { line = card.line; «from» = node_number p.nodes card.from; to = node_number p.nodes card.to; trio = 0; phase = 0 }
+
+abbrev pub with_phases : Parts → BranchCard → BranchCard → BranchCard → Parts
+with_phases p zero' positive third = record p {
+  branches = p.branches ++ phase_branches (length p.trios) (phase_for p zero') (phase_for p positive) (phase_for p third);
+  trios = p.trios ++ modes_of (numbers_for p zero') (numbers_for p positive) (length p.branches) ∷ [];
+}
+
+-- the channels of the branch at a place
+abbrev pub branch_channels : ℕ → BranchCard → List Channel
+branch_channels at card = channels_of card.asked (BranchCurrent at) (BranchVoltage at)
+
+abbrev pub entry_channels : ℕ → BranchEntry → List Channel
+entry_channels at (Single card first count) = branch_channels at card
+entry_channels at (TrioEntry zero' positive third) = branch_channels at zero' ++ branch_channels (at + 1) positive ++ branch_channels (at + 2) third
+
+abbrev pub entry_count : BranchEntry → ℕ
+entry_count (Single card first count) = channel_count card.asked
+entry_count (TrioEntry zero' positive third) = channel_count zero'.asked + channel_count positive.asked + channel_count third.asked
+
+abbrev pub with_branches : List Point → Parts → BranchEntry → Parts
+with_branches points p (Single card first count) = with_single (points_of points first count) p card
+with_branches points p (TrioEntry zero' positive third) = with_phases p zero' positive third
+
+-- an entry whose nodes are there
+abbrev pub with_entry : List Point → Made → BranchEntry → Made
+with_entry points m e = record {
+  parts = with_branches points m.parts e;
+  asked = record m.asked { branches = m.asked.branches ++ entry_channels (length m.parts.branches) e };
+}
+
+-- how many past values an entry needs, whose nodes are there
+abbrev pub pair_history : Parts → BranchCard → BranchCard → ℕ
+pair_history p zero' positive = card_history 1 p.nodes p zero' + card_history 3 p.nodes p positive
+
+abbrev pub entry_history : Parts → BranchEntry → ℕ
+entry_history p (Single card first count) = card_history 1 p.nodes p card
+entry_history p (TrioEntry zero' positive third) = pair_history p zero' positive
+
+abbrev pub with_nodes : Made → List (List ℕ) → Made
+with_nodes m names = record m { parts = record m.parts { nodes = names } }
+
+-- ---- all entries
+
+-- a new name is the next node
+unfoldable pub take_entry : List Point → Made → BranchEntry → Result Made Bad
+take_entry points m e =
+    let names = with_entry_names m.parts.nodes e in
+    unless_bad (entry_fault names m e) (with_entry points (with_nodes m names) e)
+
+-- the first entry that has a fault decides
+abbrev pub take_branches : List Point → Made → List BranchEntry → Result Made Bad
+take_branches points m [] = Ok m
+take_branches points m (e ∷ es) = go_on (λ (made : Made). take_branches points made es) (take_entry points m e)

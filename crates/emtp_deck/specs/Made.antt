@@ -1,0 +1,42 @@
+-- What is made of the cards so far: the records of the case, and the channels that were asked for.
+use Rattle.std.specs.Prelude.{ℕ, ◌+◌, ◌++◌, [], List, length, nat_lt, Option, Some, None, Result, Ok, Err, Bool, if◌then◌else◌}
+use Rattle.emtp_card.specs.Fault.{bad_at}
+use Rattle.emtp_card.specs.declared.fault.Fault.{Fault}
+use Rattle.emtp_card.specs.declared.reason.Bad.{Bad}
+use Rattle.emtp_card.specs.declared.reason.Why.TheVariants.{TooMany}
+use Rattle.emtp_case.specs.Case.{empty_parts}
+use Rattle.emtp_case.specs.declared.case.Parts.{Parts}
+use Rattle.emtp_case.specs.declared.channel.Channel.{Channel}
+use Rattle.emtp_case.specs.declared.run_data.RunData.{RunData}
+use Rattle.emtp_deck.specs.declared.asked.Asked.{Asked}
+
+pub record Made : Type 0 where
+  pub parts : Parts
+  pub asked : Asked
+
+-- the channels in the order of the record
+abbrev pub all_asked : Asked → List Channel
+all_asked a = a.outputs ++ a.branches ++ a.switches ++ a.statuses
+
+abbrev pub count_asked : Asked → ℕ
+count_asked a = length a.outputs + length a.branches + length a.switches + length a.statuses
+
+abbrev pub none_asked : Asked
+none_asked = record { outputs = []; branches = []; switches = []; statuses = [] }
+
+-- what is made of the miscellaneous cards alone
+abbrev pub empty_made : RunData → Made
+empty_made run = record { parts = empty_parts run; asked = none_asked }
+
+-- a limit by count is exceeded, at this column
+abbrev pub too_many : Bool → ℕ → Option Fault
+too_many is column = if is then Some (record { column = column; why = TooMany }) else None
+
+-- so many channels more than a record may have
+abbrev pub no_room : Asked → ℕ → Bool
+no_room a more = nat_lt 64 (count_asked a + more)
+
+-- what a card makes, unless it has a fault of sense
+abbrev pub unless_fault : {A : Type 0} → ℕ → Option Fault → A → Result A Bad
+unless_fault line (Some fault) x = Err (bad_at line fault)
+unless_fault line None x = Ok x

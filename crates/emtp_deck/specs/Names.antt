@@ -1,0 +1,37 @@
+-- The names of the nodes, and their numbers.
+use Rattle.std.specs.Prelude.{ℕ, ◌+◌, List, [], fold, length, position, unwrap_or, Option, Some, None, option_map}
+use Rattle.std.specs.Str.{bytes_eq}
+use Rattle.indexmap.specs.IndexSet.{insert_key}
+use Rattle.emtp_deck.specs.declared.deck.BranchEntry.{BranchEntry}
+use Rattle.emtp_deck.specs.declared.deck.BranchEntry.TheVariants.{Single, Trio}
+use Rattle.emtp_deck.specs.declared.deck.Deck.{Deck}
+use Rattle.emtp_netcards.specs.declared.switch_card.SwitchCard.{SwitchCard}
+
+-- a name keeps its first place; ground has no name
+abbrev pub with_name : List (List ℕ) → Option (List ℕ) → List (List ℕ)
+with_name names None = names
+with_name names (Some name) = insert_key bytes_eq names name
+
+-- the two ends of a card
+abbrev pub with_ends : List (List ℕ) → Option (List ℕ) → Option (List ℕ) → List (List ℕ)
+with_ends names a b = with_name (with_name names a) b
+
+abbrev pub with_entry_names : List (List ℕ) → BranchEntry → List (List ℕ)
+with_entry_names names (Single card first count) = with_ends names card.from card.to
+with_entry_names names (Trio zero' positive third) = with_ends (with_ends (with_ends names zero'.from zero'.to) positive.from positive.to) third.from third.to
+
+abbrev pub with_switch_names : List (List ℕ) → SwitchCard → List (List ℕ)
+with_switch_names names card = with_ends names card.from card.to
+
+-- all nodes in order of first appearance, on branch and then on switch cards
+abbrev pub node_names : Deck → List (List ℕ)
+node_names deck = fold with_switch_names (fold with_entry_names [] deck.branches) deck.switches
+
+-- the number of a node, from 1
+abbrev pub find_node : List (List ℕ) → List ℕ → Option ℕ
+find_node names name = option_map (λ at. at + 1) (position (bytes_eq name) names)
+
+-- the same for an end, which is 0 where it is ground, and one more than there are where no node has the name
+abbrev pub node_number : List (List ℕ) → Option (List ℕ) → ℕ
+node_number names None = 0
+node_number names (Some name) = unwrap_or (position (bytes_eq name) names) (length names) + 1

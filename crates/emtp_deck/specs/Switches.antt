@@ -1,0 +1,48 @@
+-- Switches: what each card gives the case, unless it has a fault of sense. Of a card the least fault counts.
+use Rattle.std.specs.Prelude.{ℕ, nat_le, nat_lt, List, [], ◌∷◌, ◌++◌, length, Option, Result, Ok}
+use Rattle.emtp_card.specs.Fault.{least}
+use Rattle.emtp_card.specs.declared.fault.Fault.{Fault}
+use Rattle.emtp_card.specs.declared.reason.Bad.{Bad}
+use Rattle.emtp_case.specs.declared.channel.Channel.TheVariants.{SwitchCurrent, SwitchVoltage}
+use Rattle.emtp_case.specs.declared.switch.Switch.{Switch}
+use Rattle.emtp_deck.specs.Answer.{go_on}
+use Rattle.emtp_deck.specs.Channels.{channels_of, status_of, switch_channel_count}
+use Rattle.emtp_deck.specs.Made.{Made, no_room, too_many, unless_fault}
+use Rattle.emtp_deck.specs.Branches.{with_nodes}
+use Rattle.emtp_deck.specs.Names.{node_number, with_switch_names}
+use Rattle.emtp_netcards.specs.declared.switch_card.SwitchCard.{SwitchCard}
+
+-- the faults of sense of a card, given the names of the nodes, its own among them
+abbrev pub switch_fault : List (List ℕ) → Made → SwitchCard → Option Fault
+switch_fault names m card =
+    least (too_many (nat_le 500 (length m.parts.switches)) 1
+    ∷ too_many (no_room m.asked (switch_channel_count card.asked)) 1
+    ∷ too_many (nat_lt 1000 (node_number names card.from)) 3
+    ∷ too_many (nat_lt 1000 (node_number names card.to)) 9
+    ∷ [])
+
+abbrev pub switch_at : List (List ℕ) → SwitchCard → Switch
+switch_at names card = record { line = card.line; «from» = node_number names card.from; to = node_number names card.to; kind = card.kind }
+
+-- the switch of a card whose nodes are there, and the channels that it asks for
+abbrev pub with_switch : Made → SwitchCard → Made
+with_switch m card =
+    let at = length m.parts.switches in
+    record {
+      parts = record m.parts { switches = m.parts.switches ++ switch_at m.parts.nodes card ∷ [] };
+      asked = record m.asked {
+        switches = m.asked.switches ++ channels_of card.asked (SwitchCurrent at) (SwitchVoltage at);
+        statuses = m.asked.statuses ++ status_of card.asked at;
+      };
+    }
+
+-- a new name is the next node
+unfoldable pub take_switch : Made → SwitchCard → Result Made Bad
+take_switch m card =
+    let names = with_switch_names m.parts.nodes card in
+    unless_fault card.line (switch_fault names m card) (with_switch (with_nodes m names) card)
+
+-- the first card that has a fault decides
+abbrev pub take_switches : Made → List SwitchCard → Result Made Bad
+take_switches m [] = Ok m
+take_switches m (card ∷ cards) = go_on (λ (made : Made). take_switches made cards) (take_switch m card)

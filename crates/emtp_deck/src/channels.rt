@@ -1,0 +1,76 @@
+//! The channels that a card asks for in column 80.
+
+ghost use Rattle.std.specs.Prelude.{◌≡◌, ◌≤◌, ◌++◌, IfErr, OnOk};
+ghost use Rattle.emtp_deck.specs.Answer.{IsWant};
+ghost use Rattle.emtp_deck.specs.Made.{count_asked, no_room};
+ghost use Rattle.emtp_deck.specs.Channels.{channel_count, channels_of, status_of, switch_channel_count};
+
+use crate::asked::Asked;
+use emtp_card::Refused;
+use emtp_case::{Channel, Items};
+
+/// Adds what a branch or a switch asks for, its current before its voltage.
+pub(crate) fn ask(
+    channels: &mut Items<Channel>,
+    asked: u8,
+    current: Channel,
+    voltage: Channel,
+) -> Result<(), Refused>
+    ensures ok { OnOk result (channels.new ≡ channels.old ++ channels_of asked current voltage) }
+    ensures err { IfErr result IsWant }
+{
+    match asked {
+        0 => {}
+        1 => channels.push(current)?,
+        2 => channels.push(voltage)?,
+        _ => {
+            channels.push(current)?;
+            channels.push(voltage)?;
+        }
+    }
+    Ok(())
+}
+
+/// How many channels a branch asks for.
+pub(crate) fn channel_count(asked: u8) -> usize
+    ensures value { result ≡ channel_count asked }
+    ensures few { result ≤ 2 }
+{
+    match asked {
+        0 => 0,
+        1 | 2 => 1,
+        _ => 2,
+    }
+}
+
+/// Adds the state of a switch of which anything is asked.
+pub(crate) fn ask_status(channels: &mut Items<Channel>, asked: u8, at: u32) -> Result<(), Refused>
+    ensures ok { OnOk result (channels.new ≡ channels.old ++ status_of asked at) }
+    ensures err { IfErr result IsWant }
+{
+    if asked != 0 {
+        channels.push(Channel::Status(at))?;
+    }
+    Ok(())
+}
+
+/// How many channels a switch asks for, its state among them.
+pub(crate) fn switch_channel_count(asked: u8) -> usize
+    ensures value { result ≡ switch_channel_count asked }
+    ensures few { result ≤ 3 }
+{
+    match asked {
+        0 => 0,
+        1 | 2 => 2,
+        _ => 3,
+    }
+}
+
+/// Whether a record has no room for so many channels more.
+pub(crate) fn no_room(asked: &Asked, more: usize) -> bool
+    requires few { count_asked asked.now ≤ 64 }
+    requires more { more ≤ 1000 }
+    ensures { result ≡ no_room asked.now more }
+{
+    64 < asked.count() + more
+}

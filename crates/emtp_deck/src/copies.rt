@@ -1,0 +1,177 @@
+//! Where a branch card's values come from: itself, or the first earlier branch of its type between the two nodes that it
+//! names.
+
+ghost use Rattle.std.specs.Prelude.{◌≡◌, ◌≤◌, ◌<◌, find, length, slice_index_or, IfSome};
+ghost use Rattle.emtp_case.specs.Branch.{IsBranch};
+ghost use Rattle.emtp_case.specs.Sizes.{sizes_of};
+ghost use Rattle.emtp_deck.specs.Copies.{IsTaken, is_like, line_numbers, missing_fault, mode_numbers, mode_of_phase, no_trio, numbers_of_branch, numbers_of_card, phase_numbers, type_of_branch, type_of_values, values_from};
+
+use crate::names::node_number;
+use emtp_card::{Fault, Why};
+use emtp_case::{Branch, Draft, Name, Phase, Trio};
+use emtp_netcards::{BranchCard, BranchValues};
+use indexmap::IndexSet;
+
+/// Where a branch card's values come from.
+#[derive(Clone, Copy)]
+pub enum ValuesFrom {
+    /// The card itself.
+    Card,
+    /// An earlier branch.
+    Earlier(Branch),
+    /// A branch that isn't there.
+    Missing,
+}
+
+/// The numbers of a line, or of one mode of it.
+#[derive(Clone, Copy)]
+pub struct LineNumbers {
+    /// The surge impedance, in micro-ohm: from 10 to 10^15.
+    pub zc: i64,
+    /// The total resistance, in micro-ohm: from 0 to 10^15.
+    pub r: i64,
+    /// The travel time, in ps: from the time step to 10^18.
+    pub delay: i64,
+}
+
+/// The number in the type columns of the card that made a branch.
+fn type_of_branch(branch: &Branch) -> i64
+    ensures { result ≡ type_of_branch branch.now }
+{
+    match branch {
+        Branch::Lumped(_) => 0,
+        Branch::Line(_) => -1,
+        Branch::Pseudo(b) => { if b.reactor { 98 } else { 99 } }
+        Branch::Phase(b) => match b.phase {
+            0 => -1,
+            1 => -2,
+            _ => -3,
+        },
+    }
+}
+
+/// The number in the type columns of a card.
+fn type_of_values(values: &BranchValues) -> i64
+    ensures { result ≡ type_of_values values.now }
+{
+    match values {
+        BranchValues::Lumped { .. } => 0,
+        BranchValues::Line { .. } => -1,
+        BranchValues::Second { .. } => -2,
+        BranchValues::Third => -3,
+        BranchValues::Reactor => 98,
+        BranchValues::Resistor => 99,
+    }
+}
+
+fn is_like(branch: &Branch, number: i64, from: u32, to: u32) -> bool
+    ensures { result ≡ is_like number from to branch.now }
+{
+    branch.ends() == (from, to) && type_of_branch(branch) == number
+}
+
+fn first_like(branches: &[Branch], number: i64, from: u32, to: u32) -> Option<Branch>
+    ensures { result ≡ find (is_like number from to) branches.now }
+{
+    branches
+        .iter()
+        .copied()
+        .find(|branch| is_like(branch, number, from, to))
+}
+
+/// Where a card's values come from, behind the branches of a draft.
+pub(crate) fn values_from(names: &IndexSet<Name>, draft: &Draft, card: &BranchCard) -> ValuesFrom
+    requires { length names.now.keys ≤ 2000 }
+    ensures value { result ≡ values_from names.now.keys draft.now.parts.branches card.now }
+    ensures taken { IsTaken draft.now.parts (type_of_values card.now.values) result }
+{
+    match &card.copies {
+        None => ValuesFrom::Card,
+        Some((from, to)) => {
+            let found = first_like(
+                draft.parts.branches.as_slice(),
+                type_of_values(&card.values),
+                node_number(names, from),
+                node_number(names, to),
+            );
+            match found {
+                Some(branch) => ValuesFrom::Earlier(branch),
+                None => ValuesFrom::Missing,
+            }
+        }
+    }
+}
+
+pub(crate) fn missing_fault(values: &ValuesFrom) -> Option<Fault>
+    ensures { result ≡ missing_fault values.now }
+{
+    match values {
+        ValuesFrom::Card | ValuesFrom::Earlier(_) => None,
+        ValuesFrom::Missing => Some(Fault {
+            column: 15,
+            why: Why::UnknownName,
+        }),
+    }
+}
+
+/// The numbers of one mode of a three-phase line.
+fn mode_numbers(trio: &Trio, mode: usize) -> LineNumbers
+    requires { mode < 2 }
+    ensures { result ≡ mode_numbers trio.now mode }
+{
+    LineNumbers {
+        zc: trio.zc[mode],
+        r: trio.r[mode],
+        delay: trio.delay[mode],
+    }
+}
+
+pub(crate) fn phase_numbers(trios: &[Trio], phase: &Phase) -> LineNumbers
+    requires { phase.now.trio < length trios.now }
+    ensures { result ≡ phase_numbers trios.now phase.now }
+{
+    let mode = if phase.phase == 0 { 0 } else { 1 };
+    mode_numbers(&trios[phase.trio as usize], mode)
+}
+
+fn numbers_of_branch(draft: &Draft, branch: &Branch) -> Option<LineNumbers>
+    requires { IsBranch draft.now.parts.run (sizes_of draft.now.parts) draft.now.parts.points branch.now }
+    ensures { result ≡ numbers_of_branch draft.now.parts.trios branch.now }
+{
+    match branch {
+        Branch::Lumped(_) | Branch::Pseudo(_) => None,
+        Branch::Line(b) => Some(LineNumbers {
+            zc: b.zc,
+            r: b.r,
+            delay: b.delay,
+        }),
+        Branch::Phase(b) => Some(phase_numbers(draft.parts.trios.as_slice(), b)),
+    }
+}
+
+fn numbers_of_card(values: &BranchValues) -> Option<LineNumbers>
+    ensures { result ≡ numbers_of_card values.now }
+{
+    match *values {
+        BranchValues::Line { zc, r, delay } | BranchValues::Second { zc, r, delay } => {
+            Some(LineNumbers { zc, r, delay })
+        }
+        _ => None,
+    }
+}
+
+/// The numbers that a line's card gives its branch.
+pub(crate) fn line_numbers(
+    names: &IndexSet<Name>,
+    draft: &Draft,
+    card: &BranchCard,
+) -> Option<LineNumbers>
+    requires { length names.now.keys ≤ 2000 }
+    ensures { result ≡ line_numbers draft.now.parts.trios card.now.values (values_from names.now.keys draft.now.parts.branches card.now) }
+{
+    match values_from(names, draft, card) {
+        ValuesFrom::Card => numbers_of_card(&card.values),
+        ValuesFrom::Earlier(branch) => numbers_of_branch(draft, &branch),
+        ValuesFrom::Missing => None,
+    }
+}

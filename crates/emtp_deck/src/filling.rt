@@ -1,0 +1,76 @@
+//! The case in the making, while cards are taken.
+
+ghost use Rattle.std.specs.Prelude.{◌≡◌, ◌≤◌, All, length, IfErr, IfOk, OnOk};
+ghost use Rattle.emtp_case.specs.Case.{empty_parts};
+ghost use Rattle.emtp_case.specs.HistoryValues.{history_values_of};
+ghost use Rattle.emtp_case.specs.Name.{IsName};
+ghost use Rattle.emtp_case.specs.RunData.{IsRun};
+ghost use Rattle.emtp_deck.specs.Answer.{IsWant};
+ghost use Rattle.emtp_deck.specs.Filling.{IsFilling, made_of};
+ghost use Rattle.emtp_deck.specs.Made.{empty_made, too_many};
+ghost use Rattle.emtp_deck.specs.Naming.{Continues};
+
+use crate::asked::Asked;
+use emtp_card::{Fault, Refused, Why};
+use emtp_case::{Draft, Name, RunData};
+use indexmap::IndexSet;
+use std::alloc::Global;
+
+/// What is made of the cards so far.
+#[derive(Drop)]
+pub(crate) struct Filling {
+    /// The records of the case, without channels.
+    pub(crate) draft: Draft,
+    /// The names of its nodes again, where they are found fast.
+    pub(crate) nodes: IndexSet<Name>,
+    /// The channels that were asked for.
+    pub(crate) asked: Asked,
+    /// How many history values its records need.
+    pub(crate) history: u64,
+}
+
+impl Filling {
+    /// What is made of the miscellaneous cards alone.
+    pub(crate) fn new(alloc: Global, run: RunData) -> Result<Filling, Refused>
+        requires { IsRun run }
+        ensures ok { IfOk result (λ filling. made_of filling ≡ empty_made run) }
+        ensures err { IfErr result IsWant }
+        ensures filling { IfOk result IsFilling }
+    {
+        Ok(Filling {
+            draft: Draft::new(alloc, run)?,
+            nodes: IndexSet::new(alloc),
+            asked: Asked::new(alloc),
+            history: 0,
+        })
+    }
+}
+
+/// The fault of a limit by count that is exceeded, at this column.
+pub(crate) fn too_many(is: bool, column: u32) -> Option<Fault>
+    ensures { result ≡ too_many is column }
+{
+    if is {
+        Some(Fault {
+            column,
+            why: Why::TooMany,
+        })
+    } else {
+        None
+    }
+}
+
+/// Gives a draft the nodes that are new.
+pub(crate) fn add_nodes(draft: &mut Draft, nodes: &IndexSet<Name>) -> Result<(), Refused>
+    requires grows { Continues draft.old.parts.nodes nodes.now.keys }
+    requires few { length nodes.now.keys ≤ 1000 }
+    requires names { All IsName nodes.now.keys }
+    ensures ok { OnOk result (draft.new.parts ≡ record draft.old.parts { nodes = nodes.now.keys }) }
+    ensures history { OnOk result (history_values_of draft.new.parts ≡ history_values_of draft.old.parts) }
+    ensures err { IfErr result IsWant }
+{
+    for at in draft.parts.nodes.len()..nodes.len() {
+        draft.add_node(nodes.as_slice()[at])?;
+    }
+    Ok(())
+}

@@ -1,0 +1,38 @@
+//! The deck: the case that the lines of a file give, or the one card that is refused.
+//!
+//! The reader walks over the lines in order. Each line has its place, which says what is due there, and gives a card or
+//! the least fault of the line; the first line with a fault decides. Then names are numbered and each card is judged
+//! among all others, again in the order of lines, and the records of the case are filled. The crate stands on the lines
+//! of `emtp_card`, the card readers of `emtp_netcards` and the records of `emtp_case`.
+//!
+//! ```text
+//! let cards = Cards::split(alloc, &bytes)?;
+//! let case = read(alloc, &cards)?;           // or Refused::Bad(line, column, reason)
+//! ```
+#![tactic(auto)]
+
+mod asked;
+mod branch_steps;
+mod branches;
+mod channels;
+mod copies;
+mod deck;
+mod filling;
+mod laws;
+mod names;
+mod outputs;
+mod reading;
+mod samples;
+mod section_steps;
+mod sources;
+mod switches;
+mod unbuilt;
+mod walk;
+
+pub use asked::Asked;
+pub use branches::Counts;
+pub use copies::{LineNumbers, ValuesFrom};
+pub use deck::{BranchEntry, Deck, Group, OutputEntry, Place};
+pub use laws::{cards_are_judged_in_order, comments_do_not_matter};
+pub use reading::read;
+pub use unbuilt::Section;

@@ -1,0 +1,184 @@
+//! How many channels all cards ask for, and whether their record would be too large.
+
+ghost use Rattle.std.specs.Prelude.{◌≡◌, ◌+◌, ◌≤◌, [], fold, length, min, IfErr, IfOk, OnOk};
+ghost use Rattle.std.specs.List.{sum_by};
+ghost use Rattle.emtp_case.specs.RunData.{IsRun};
+ghost use Rattle.emtp_deck.specs.Answer.{IsWant};
+ghost use Rattle.emtp_deck.specs.Branches.{entry_count};
+ghost use Rattle.emtp_deck.specs.Names.{node_names, with_entry_names, with_switch_names};
+ghost use Rattle.emtp_deck.specs.Samples.{count_of_entry, count_of_switch, deck_count, has_too_many, name_count, output_count, pending_count, samples_bad};
+
+use crate::branches::add_entry_names;
+use crate::channels::{channel_count, switch_channel_count};
+use crate::deck::{BranchEntry, Deck, OutputEntry, Place};
+use crate::names::add_ends;
+use emtp_card::{Bad, Refused, Why};
+use emtp_case::Name;
+use emtp_netcards::{OutputCard, SwitchCard};
+use indexmap::IndexSet;
+use std::alloc::Global;
+
+/// More channels than any record has room for; a count is held there.
+const MANY: usize = 4_000_001;
+
+/// The stored values that a record may have.
+const STORED: u64 = 4_000_000;
+
+/// A count with more channels.
+fn plus(count: usize, more: usize) -> usize
+    ensures { result ≡ min (count + more) MANY }
+{
+    count.saturating_add(more).min(MANY)
+}
+
+// ---- names
+
+fn add_branch_names(nodes: &mut IndexSet<Name>, entries: &[BranchEntry]) -> Result<(), Refused>
+    ensures ok { OnOk result (nodes.new.keys ≡ fold with_entry_names nodes.old.keys entries.now) }
+    ensures err { IfErr result IsWant }
+{
+    for entry in entries {
+        add_entry_names(nodes, entry)?;
+    }
+    Ok(())
+}
+
+fn add_switch_names(nodes: &mut IndexSet<Name>, cards: &[SwitchCard]) -> Result<(), Refused>
+    ensures ok { OnOk result (nodes.new.keys ≡ fold with_switch_names nodes.old.keys cards.now) }
+    ensures err { IfErr result IsWant }
+{
+    for card in cards {
+        add_ends(nodes, &card.from, &card.to)?;
+    }
+    Ok(())
+}
+
+/// The names of all nodes.
+fn node_names(alloc: Global, deck: &Deck) -> Result<IndexSet<Name>, Refused>
+    ensures ok { IfOk result (λ nodes. nodes.keys ≡ node_names deck.now) }
+    ensures err { IfErr result IsWant }
+{
+    let mut nodes = IndexSet::new(alloc);
+    add_branch_names(&mut nodes, deck.branches.as_slice())?;
+    add_switch_names(&mut nodes, deck.switches.as_slice())?;
+    Ok(nodes)
+}
+
+// ---- channels
+
+fn entry_count(entry: &BranchEntry) -> usize
+    ensures value { result ≡ entry_count entry.now }
+    ensures few { result ≤ 6 }
+{
+    match entry {
+        BranchEntry::Single { card, .. } => channel_count(card.asked),
+        BranchEntry::Trio {
+            zero,
+            positive,
+            third,
+        } => {
+            channel_count(zero.asked) + channel_count(positive.asked) + channel_count(third.asked)
+        }
+    }
+}
+
+fn branches_count(entries: &[BranchEntry]) -> usize
+    ensures { result ≡ min (sum_by entry_count entries.now) MANY }
+{
+    let mut count = 0;
+    for entry in entries {
+        count = plus(count, entry_count(entry));
+    }
+    count
+}
+
+fn switches_count(cards: &[SwitchCard]) -> usize
+    ensures { result ≡ min (sum_by count_of_switch cards.now) MANY }
+{
+    let mut count = 0;
+    for card in cards {
+        count = plus(count, switch_channel_count(card.asked));
+    }
+    count
+}
+
+/// How many of a card's names are those of nodes.
+fn names_count(nodes: &IndexSet<Name>, names: &[Option<Name>]) -> usize
+    ensures { result ≡ sum_by (name_count nodes.now.keys) names.now }
+{
+    let mut count = 0;
+    for name in names {
+        if let Some(name) = name {
+            if nodes.get_index_of(name).is_some() {
+                count += 1;
+            }
+        }
+    }
+    count
+}
+
+fn output_count(nodes: &IndexSet<Name>, card: &OutputCard) -> usize
+    ensures { result ≡ output_count nodes.now.keys card.now }
+{
+    match card {
+        OutputCard::All => nodes.len(),
+        OutputCard::Names(names) => names_count(nodes, names),
+    }
+}
+
+fn outputs_count(nodes: &IndexSet<Name>, entries: &[OutputEntry]) -> usize
+    ensures { result ≡ min (sum_by (count_of_entry nodes.now.keys) entries.now) MANY }
+{
+    let mut count = 0;
+    for entry in entries {
+        count = plus(count, output_count(nodes, &entry.card));
+    }
+    count
+}
+
+/// The channels of a group that the file cuts off.
+fn pending_count(place: &Place) -> usize
+    ensures value { result ≡ pending_count place.now }
+    ensures few { result ≤ 4 }
+{
+    match place {
+        Place::Points(group) => channel_count(group.card.asked),
+        Place::Waiting { card, .. } => channel_count(card.asked),
+        Place::Third { zero, positive, .. } => {
+            channel_count(zero.asked) + channel_count(positive.asked)
+        }
+        _ => 0,
+    }
+}
+
+fn all_count(alloc: Global, deck: &Deck, place: &Place) -> Result<usize, Refused>
+    ensures ok { IfOk result (λ count. count ≡ min (deck_count deck.now + pending_count place.now) MANY) }
+    ensures err { IfErr result IsWant }
+{
+    let nodes = node_names(alloc, deck)?;
+    let branches = branches_count(deck.branches.as_slice());
+    let switches = switches_count(deck.switches.as_slice());
+    let outputs = outputs_count(&nodes, deck.outputs.as_slice());
+    Ok((branches + switches + outputs + pending_count(place)).min(MANY))
+}
+
+/// Whether the record of all channels would have too many stored values.
+pub(crate) fn has_too_many(alloc: Global, deck: &Deck, place: &Place) -> Result<bool, Refused>
+    requires { IsRun deck.now.run }
+    ensures ok { IfOk result (λ many. many ≡ has_too_many deck.now place.now) }
+    ensures err { IfErr result IsWant }
+{
+    let count = all_count(alloc, deck, place)?;
+    Ok(STORED < count as u64 * u64::from(deck.run.samples()))
+}
+
+/// What refuses the second miscellaneous card then.
+pub(crate) fn samples_bad(deck: &Deck) -> Bad
+    ensures { result ≡ samples_bad deck.now }
+{
+    Bad {
+        line: deck.second,
+        column: 9,
+        why: Why::TooManySamples,
+    }
+}

@@ -1,0 +1,101 @@
+//! Filling the switches.
+
+ghost use Rattle.std.specs.Prelude.{◌≡◌, ◌+◌, ◌<◌, ◌≤◌, All, length, IfErr, OnOk};
+ghost use Rattle.emtp_case.specs.Range.{AreEnds};
+ghost use Rattle.emtp_deck.specs.Answer.{IsWant};
+ghost use Rattle.emtp_deck.specs.Filling.{Fills, IsFilling, made_of};
+ghost use Rattle.emtp_deck.specs.Made.{count_asked};
+ghost use Rattle.emtp_deck.specs.Branches.{with_nodes};
+ghost use Rattle.emtp_deck.specs.Names.{node_number};
+ghost use Rattle.emtp_deck.specs.Channels.{switch_channel_count};
+ghost use Rattle.emtp_deck.specs.Switches.{switch_at, switch_fault, take_switch, take_switches, with_switch};
+ghost use Rattle.emtp_netcards.specs.SwitchCard.{HasSwitchNumbers};
+
+use crate::channels::{ask, ask_status, no_room, switch_channel_count};
+use crate::filling::{Filling, add_nodes, too_many};
+use crate::names::{add_ends, node_number};
+use emtp_card::{Fault, Refused, least};
+use emtp_case::{Channel, Name, Switch};
+use emtp_netcards::SwitchCard;
+use indexmap::IndexSet;
+
+/// The faults of sense of a card, its own names among those of the nodes.
+fn switch_fault(filling: &Filling, card: &SwitchCard) -> Option<Fault>
+    requires few { length filling.now.nodes.keys ≤ 2000 }
+    requires asked { count_asked filling.now.asked ≤ 64 }
+    ensures { result ≡ switch_fault filling.now.nodes.keys (made_of filling.now) card.now }
+{
+    let nodes = &filling.nodes;
+    least(&[
+        too_many(500 <= filling.draft.parts.switches.len(), 1),
+        too_many(no_room(&filling.asked, switch_channel_count(card.asked)), 1),
+        too_many(1000 < node_number(nodes, &card.from), 3),
+        too_many(1000 < node_number(nodes, &card.to), 9),
+    ])
+}
+
+fn switch_at(nodes: &IndexSet<Name>, card: &SwitchCard) -> Switch
+    requires few { length nodes.now.keys ≤ 2000 }
+    ensures { result ≡ switch_at nodes.now.keys card.now }
+{
+    Switch {
+        line: card.line,
+        from: node_number(nodes, &card.from),
+        to: node_number(nodes, &card.to),
+        kind: card.kind,
+    }
+}
+
+/// Takes a switch card.
+#[tactic(auto, unfolding(crate::specs::Switches::take_switch))]
+fn take_switch(filling: &mut Filling, card: &SwitchCard) -> Result<(), Refused>
+    requires filling { IsFilling filling.old }
+    requires card { HasSwitchNumbers card.now }
+    ensures value { Fills result (take_switch (made_of filling.old) card.now) (made_of filling.new) }
+    ensures filling { OnOk result (IsFilling filling.new) }
+{
+    add_ends(&mut filling.nodes, &card.from, &card.to)?;
+    if let Some(fault) = switch_fault(filling, card) {
+        return Err(Refused::Bad(fault.on_line(card.line)));
+    }
+    add_nodes(&mut filling.draft, &filling.nodes)?;
+    add_switch(filling, card)
+}
+
+/// Adds the switch of a card whose nodes are there, and the channels that it asks for.
+fn add_switch(filling: &mut Filling, card: &SwitchCard) -> Result<(), Refused>
+    requires filling { IsFilling filling.old }
+    requires card { HasSwitchNumbers card.now }
+    requires room { length filling.old.draft.parts.switches < 500 }
+    requires asked { count_asked filling.old.asked + switch_channel_count card.now.asked ≤ 64 }
+    requires ends { AreEnds (length filling.old.draft.parts.nodes) (node_number filling.old.nodes.keys card.now.from) (node_number filling.old.nodes.keys card.now.to) }
+    ensures ok { OnOk result (made_of filling.new ≡ with_switch (made_of filling.old) card.now) }
+    ensures err { IfErr result IsWant }
+    ensures filling { OnOk result (IsFilling filling.new) }
+{
+    let at = filling.draft.parts.switches.len() as u32;
+    filling.draft.add_switch(switch_at(&filling.nodes, card))?;
+    ask(
+        &mut filling.asked.switches,
+        card.asked,
+        Channel::SwitchCurrent(at),
+        Channel::SwitchVoltage(at),
+    )?;
+    ask_status(&mut filling.asked.statuses, card.asked, at)
+}
+
+/// Takes all switch cards, up to the first that has a fault.
+pub(crate) fn take_switches(filling: &mut Filling, cards: &[SwitchCard]) -> Result<(), Refused>
+    requires filling { IsFilling filling.old }
+    requires cards { All HasSwitchNumbers cards.now }
+    ensures value { Fills result (take_switches (made_of filling.old) cards.now) (made_of filling.new) }
+    ensures filling { OnOk result (IsFilling filling.new) }
+{
+    for card in cards {
+        match take_switch(filling, card) {
+            Ok(()) => {}
+            Err(refused) => return Err(refused),
+        }
+    }
+    Ok(())
+}

@@ -1,0 +1,153 @@
+//! Decks that are accepted, and their cases.
+
+use crate::decks::divider;
+use emtp_card::{Cards, Refused};
+use emtp_case::*;
+use emtp_deck::read;
+use std::alloc::Global;
+use std::test::Fail;
+
+fn case(alloc: Global, bytes: &[u8]) -> Result<Case, Refused> {
+    let cards = Cards::split(alloc, bytes)?;
+    read(alloc, &cards)
+}
+
+/// Whether it is the case of the divider, whatever the lines of its cards.
+fn is_divider(case: &Case) -> bool {
+    let parts = &case.parts;
+    let resistors = [(1, 2), (2, 0)];
+    parts.nodes.as_slice() == [Name::new(b"SRC"), Name::new(b"MID")].as_slice()
+        && parts.branches.len() == 2
+        && parts.branches.as_slice().iter().zip(resistors).all(|(branch, ends)| {
+            matches!(branch, Branch::Lumped(b) if b.r == 1_000_000 && b.l == 0 && b.c == 0)
+                && branch.ends() == ends
+        })
+        && parts.sources.len() == 1
+        && parts.sources.as_slice()[0].node == 1
+        && parts.sources.as_slice()[0].amplitude == 100_000_000_000
+        && parts.channels.as_slice() == [Channel::NodeVoltage(2)].as_slice()
+}
+
+/// Cards in place of one of the divider's, and how each line ends.
+const ROWS: &[(usize, &[u8], &[u8])] = &[
+    (3, b"       1       1", b"\n"),
+    (1, b"C \xFF any bytes\nBEGIN NEW DATA CASE", b"\r\n"),
+    (1, b"\nBLANK\x07\nBEGIN NEW DATA CASE and more", b"\n"),
+    (
+        4,
+        b"  SRC   MID                  1.0                                                     ",
+        b"\n",
+    ),
+    (4, b"00SRC   MID               1.0E+0", b"   \n"),
+    (
+        4,
+        b"$VINTAGE, 1\n  SRC   MID                            1.0\n$VINTAGE,0",
+        b"\n",
+    ),
+    (11, b"BLANK\n\nBEGIN NEW DATA CASE\n", b"\n"),
+];
+
+#[test]
+fn rows_give_the_divider(rt: HostRuntime) -> Result<(), Fail> {
+    for (at, cards, end) in ROWS {
+        let bytes = divider(rt.alloc(), *at, cards, 1, end)?;
+        let Ok(case) = case(rt.alloc(), &bytes) else {
+            assert!(rt; false, "refused at {at}");
+            return Ok(());
+        };
+        assert!(rt; is_divider(&case), "another case at {at}");
+    }
+    Ok(())
+}
+
+/// One branch of each kind, and copies.
+const NETWORK: &str = concat!(
+    "BEGIN NEW DATA CASE\n",
+    "   1.E-4   5.E-4\n",
+    "       1       2\n",
+    "C a comment counts as a line\n",
+    "  SRC   A1                  400.                                               1\n",
+    "-1A1    A2                        400. 2.E-4    1. 2                           3\n",
+    "-2B1    B2                        100. 3.E-4    1. 2\n",
+    "-3C1    C2                                                                     2\n",
+    "-1D1    D2    A1    A2                                                         1\n",
+    "99D2\n",
+    "             1.0             50.\n",
+    "             11.             60.\n",
+    "            9999\n",
+    "99D1          D2\n",
+    "$VINTAGE, 1\n",
+    "  D1    A2                   1.0             2.0             0.5\n",
+    "BLANK\n",
+    "  A2    B2       -1.        .01        0.5                                     3\n",
+    "  B2    C2                                            MEASURING                1\n",
+    "BLANK\n",
+    "14SRC         100.0      60.       -90.                          -1.        .02\n",
+    "12B1    -1     2.0               1.E-4\n",
+    "BLANK\n",
+    "  C2          SRC\n",
+    " 1\n",
+    "BLANK\n",
+);
+
+/// The line, the ends and the kind of each branch: a series branch, a single line, a phase, a resistor.
+const BRANCHES: [(u32, u32, u32, char); 8] = [
+    (5, 1, 2, 'S'),
+    (6, 2, 3, 'P'),
+    (7, 4, 5, 'P'),
+    (8, 6, 7, 'P'),
+    (9, 8, 9, 'L'),
+    (10, 9, 0, 'R'),
+    (14, 8, 0, 'R'),
+    (16, 8, 3, 'S'),
+];
+
+/// A copy has the numbers of what it copies: the line those of the zero sequence, the second resistor the points of the
+/// first.
+fn kind(branch: &Branch) -> char {
+    match branch {
+        Branch::Lumped(b) if b.c == 0 || b.c == 500_000_000 => 'S',
+        Branch::Line(b) if b.zc == 400_000_000 && b.delay == 200_000_000 => 'L',
+        Branch::Phase(b) if b.trio == 0 => 'P',
+        Branch::Pseudo(b) if !b.reactor && b.first == 0 && b.count == 2 => 'R',
+        _ => '-',
+    }
+}
+
+#[test]
+fn branches(rt: HostRuntime) {
+    let Ok(case) = case(rt.alloc(), NETWORK.as_bytes()) else {
+        assert!(rt; false, "refused");
+        return;
+    };
+    assert_eq!(rt; case.parts.branches.len(), BRANCHES.len());
+    for (branch, wanted) in case.parts.branches.as_slice().iter().zip(BRANCHES) {
+        let (from, to) = branch.ends();
+        assert_eq!(rt; (branch.line(), from, to, kind(branch)), wanted);
+    }
+}
+
+#[test]
+fn channels(rt: HostRuntime) {
+    let Ok(case) = case(rt.alloc(), NETWORK.as_bytes()) else {
+        assert!(rt; false, "refused");
+        return;
+    };
+    let nodes = [7, 1, 1, 2, 3, 4, 5, 6, 7, 8, 9].map(Channel::NodeVoltage);
+    let others = [
+        Channel::BranchCurrent(0),
+        Channel::BranchCurrent(1),
+        Channel::BranchVoltage(1),
+        Channel::BranchVoltage(3),
+        Channel::BranchCurrent(4),
+        Channel::SwitchCurrent(0),
+        Channel::SwitchVoltage(0),
+        Channel::SwitchCurrent(1),
+        Channel::Status(0),
+        Channel::Status(1),
+    ];
+    let shown = case.parts.channels.as_slice();
+    assert_eq!(rt; shown.len(), 21);
+    assert!(rt; &shown[..11] == nodes.as_slice());
+    assert!(rt; &shown[11..] == others.as_slice());
+}

@@ -1,0 +1,62 @@
+//! Decks over a divider, and what reading them gives.
+
+use emtp_card::{Cards, Refused};
+use emtp_deck::read;
+use std::alloc::Global;
+use std::test::Fail;
+
+/// Two resistors of 1 ohm at a source of 100 V.
+pub const DIVIDER: [&str; 11] = [
+    "BEGIN NEW DATA CASE",
+    "   1.E-4   3.E-4",
+    "       1       1",
+    "  SRC   MID                  1.0",
+    "  MID                        1.0",
+    "BLANK",
+    "BLANK",
+    "11SRC        100.0",
+    "BLANK",
+    "  MID",
+    "BLANK",
+];
+
+/// The divider with other cards, so many times, in place of one, counted from 1; each line ends so.
+pub fn divider(
+    alloc: Global,
+    at: usize,
+    cards: &[u8],
+    times: usize,
+    end: &[u8],
+) -> Result<Vec<u8>, Fail> {
+    let mut bytes = Vec::new(alloc);
+    for (k, line) in DIVIDER.iter().enumerate() {
+        if k + 1 == at {
+            for _ in 0..times {
+                bytes.extend_from_slice(cards)?;
+                bytes.extend_from_slice(end)?;
+            }
+        } else {
+            bytes.extend_from_slice(line.as_bytes())?;
+            bytes.extend_from_slice(end)?;
+        }
+    }
+    Ok(bytes)
+}
+
+/// A line, a column and the number of a reason.
+pub type Place = (u32, u32, u32);
+
+/// Where a deck is refused, and why.
+pub fn refusal(alloc: Global, bytes: &[u8]) -> Option<Place> {
+    let refused = match Cards::split(alloc, bytes) {
+        Ok(cards) => match read(alloc, &cards) {
+            Ok(_) => return None,
+            Err(refused) => refused,
+        },
+        Err(refused) => refused,
+    };
+    match refused {
+        Refused::Bad(bad) => Some((bad.line, bad.column, bad.why.number())),
+        Refused::NoMemory => None,
+    }
+}
