@@ -92,8 +92,8 @@ unfolding history_upto
 last case zero = record { m = 0; none = refl; same = refl }
 last case (suc n) = last_advanced case n (history_upto case n).end refl refl (last case n)
 
-pub are_of : (case : Parts) → 1 ≤ case.run.every → SamplesBalance case
-are_of case some k below =
+sample_of_record : (case : Parts) → 1 ≤ case.run.every → (k : ℕ) → k < length (samples case (history case)) → IsSampleOf case (samples case (history case)) k
+sample_of_record case some k below =
     let last = last case case.run.steps in
     let are = running case some last.m last.none in
     let rows = ap (samples_in case) last.same in
@@ -101,3 +101,6 @@ are_of case some k below =
       values = ap (λ (xs : List (List ℤ)). slice_index_or xs k []) rows ∙ are.each k (rw rows at below);
       balanced = balanced case (k * case.run.every);
     }
+
+pub are_of : (case : Parts) → 1 ≤ case.run.every → SamplesBalance case
+are_of case some = record { each = sample_of_record case some }
