@@ -56,7 +56,7 @@ fn channel_multiplier(samples: &Samples, place: usize) -> i64
     ensures least { IsMultiplier (greatest samples.now.rows place (length samples.now.rows))
         (multiplier_at samples.now.rows place) }
 {
-    least_multiplier(greatest(samples, place)) as i64
+    least_multiplier(samples.greatest(place)) as i64
 }
 
 /// The multiplier of the analog channel at a place, before which so many analog channels stand.
@@ -87,17 +87,4 @@ fn is_status(channel: Channel) -> bool
     ensures { result ≡ is_status channel }
 {
     matches!(channel, Channel::Status(_))
-}
-
-/// The greatest magnitude of a channel.
-fn greatest(samples: &Samples, channel: usize) -> u64
-    requires { channel < samples.now.channels }
-    ensures value { result ≡ greatest samples.now.rows channel (length samples.now.rows) }
-    ensures bound { result ≤ 2 ^ 63 }
-{
-    let mut greatest = 0;
-    for sample in 0..samples.count() {
-        greatest = greatest.max(samples.value(sample, channel).unsigned_abs());
-    }
-    greatest
 }

@@ -2,6 +2,7 @@
 use Rattle.std.proofs.Common.{◌≡◌, ◌∙◌, sym, ap, ℕ, zero, suc, ◌+◌, ◌<◌, ◌≤◌, List, [], ◌∷◌, length, Option, Some, None, IfSome, Result, Ok, Err, unsigned_abs, refl, arith}
 use Rattle.emtp_case.specs.StepRecord.{StepRecord, rest_of}
 use Rattle.emtp_case.specs.declared.case.Parts.{Parts}
+use Rattle.emtp_net.proofs.Runs.{residual_small}
 use Rattle.emtp_net.specs.Part.{NetworkPart}
 use Rattle.emtp_net.specs.Residual.{residual_of}
 use Rattle.emtp_net.specs.Step.{network_part}
@@ -49,28 +50,24 @@ ends_well case (suc n) = ends_advanced case (history_upto case n) (history_upto 
 
 -- ---- residuals
 
--- a step of the network that is made leaves each residual within the tolerance
-abbrev pub StepsBalance : Parts → Type 0
-StepsBalance case = (H : List StepRecord) (part : NetworkPart) → network_part case H ≡ Ok part → (row : ℕ) → row < length case.nodes → residual_of case H part.branches row ≤ unsigned_abs case.run.tolerance
-
-balanced_by : (case : Parts) (H : List StepRecord) (r : StepRecord) (p : Result NetworkPart NetFault) → StepsBalance case → network_part case H ≡ p → with_control case H p ≡ Ok r → (row : ℕ) → row < length case.nodes → residual_of case H r.branches row ≤ unsigned_abs case.run.tolerance
-balanced_by case H r (Ok part) law is made row below =
+balanced_by : (case : Parts) (H : List StepRecord) (r : StepRecord) (p : Result NetworkPart NetFault) → network_part case H ≡ p → with_control case H p ≡ Ok r → (row : ℕ) → row < length case.nodes → residual_of case H r.branches row ≤ unsigned_abs case.run.tolerance
+balanced_by case H r (Ok part) is made row below =
     let same : part.branches ≡ r.branches = cc in
-    rw (← same) (law H part is row below)
-balanced_by case H r (Err fault) law is made row below = absurd (cc)
+    rw (← same) (residual_small case H part is row below)
+balanced_by case H r (Err fault) is made row below = absurd (cc)
 
-balanced_next : (case : Parts) (H : List StepRecord) (r : StepRecord) → StepsBalance case → next case H ≡ Ok r → (row : ℕ) → row < length case.nodes → residual_of case H r.branches row ≤ unsigned_abs case.run.tolerance
+balanced_next : (case : Parts) (H : List StepRecord) (r : StepRecord) → next case H ≡ Ok r → (row : ℕ) → row < length case.nodes → residual_of case H r.branches row ≤ unsigned_abs case.run.tolerance
 unfolding next
-balanced_next case H r law made row below = balanced_by case H r (network_part case H) law refl made row below
+balanced_next case H r made row below = balanced_by case H r (network_part case H) refl made row below
 
-balanced_more : (case : Parts) (H : List StepRecord) (r : StepRecord) → StepsBalance case → IsChain case H → next case H ≡ Ok r → IsBalanced case (r ∷ H)
-balanced_more case [] r law chain is row below = absurd chain
-balanced_more case (s ∷ past) r law chain is row below = balanced_next case (s ∷ past) r law is row below
+balanced_more : (case : Parts) (H : List StepRecord) (r : StepRecord) → IsChain case H → next case H ≡ Ok r → IsBalanced case (r ∷ H)
+balanced_more case [] r chain is row below = absurd chain
+balanced_more case (s ∷ past) r chain is row below = balanced_next case (s ∷ past) r is row below
 
-balanced_chain : (case : Parts) (H : List StepRecord) → StepsBalance case → IsChain case H → IsBalanced case H
-balanced_chain case [] law chain row below = absurd chain
-balanced_chain case (r ∷ []) law chain row below = omega arith
-balanced_chain case (r ∷ s ∷ past) law chain row below = balanced_more case (s ∷ past) r law chain.1 chain.0 row below
+balanced_chain : (case : Parts) (H : List StepRecord) → IsChain case H → IsBalanced case H
+balanced_chain case [] chain row below = absurd chain
+balanced_chain case (r ∷ []) chain row below = omega arith
+balanced_chain case (r ∷ s ∷ past) chain row below = balanced_more case (s ∷ past) r chain.1 chain.0 row below
 
-pub balanced : (case : Parts) → StepsBalance case → (n : ℕ) → IsBalanced case (records_upto case n)
-balanced case law n = balanced_chain case (records_upto case n) law (chain case n)
+pub balanced : (case : Parts) (n : ℕ) → IsBalanced case (records_upto case n)
+balanced case n = balanced_chain case (records_upto case n) (chain case n)

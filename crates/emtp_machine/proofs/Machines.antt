@@ -9,11 +9,13 @@ use Rattle.emtp_case.specs.Case.{standing_names}
 use Rattle.emtp_case.specs.RunData.{samples_of}
 use Rattle.emtp_case.specs.StepRecord.{StepRecord, latest, rest_of}
 use Rattle.emtp_case.specs.declared.case.Parts.{Parts}
-use Rattle.emtp_net.specs.Network.{IsNode, NamesNode, Net, StandsFor, StepsTo, fault_ticks, step_adds}
+use Rattle.emtp_net.proofs.Runs.{ticks_of_run}
+use Rattle.emtp_net.specs.Fault.{IsNode, NamesNode}
+use Rattle.emtp_net.specs.Network.{Net, StandsFor, StepsTo}
 use Rattle.emtp_net.specs.Part.{NetworkPart}
 use Rattle.emtp_net.specs.Redone.{net_redone, net_ticks, step_ticks, step_ticks_after}
+use Rattle.emtp_net.specs.Stages.{step_adds}
 use Rattle.emtp_net.specs.Step.{network_part}
-use Rattle.emtp_tail.specs.Good.{first_change}
 use Rattle.emtp_net.specs.declared.fault.NetFault.{NetFault}
 use Rattle.emtp_net.specs.declared.fault.NetFault.TheVariants.{Range, Residual, Tied, ZeroPivot}
 use Rattle.emtp_machine.proofs.Histories.{count, ended, made, some_records, stays}
@@ -52,12 +54,14 @@ next_by case network H (Err fault) is stands = absurd stands
 
 -- the network refused a step, and so there is no next record
 pub record HasNone (case : Parts) (network : Net) (H : List StepRecord) (fault : NetFault) : Type 0 where
+  pub part : network_part case H ≡ Err fault
   pub none : next case H ≡ Err (network_fault case fault)
   pub redone_is : network.redone ≡ net_redone network.case H + step_adds fault network.case H
 
 has_none : (case : Parts) (network : Net) (H : List StepRecord) (fault e : NetFault) → network_part case H ≡ Err fault → StepsTo (Err e) network H (Err fault) → HasNone case network H e
 unfolding next
 has_none case network H fault e is stops = record {
+  part = is ∙ ap (λ (f : NetFault). Err f) (sym stops.0);
   none = ap (with_control case H) is ∙ ap (λ (f : NetFault). with_control case H (Err f)) (sym stops.0);
   redone_is = stops.1 ∙ ap (λ (f : NetFault). net_redone network.case H + step_adds f network.case H) (sym stops.0);
 }
@@ -222,7 +226,7 @@ names-fault : (case : Parts) (fault : NetFault) → NamesNode case fault → Con
 names-fault case (Tied node) is = name_is case node is
 names-fault case (ZeroPivot node) is = name_is case node is
 names-fault case (Range node) is = name_is case node is
-names-fault case (Residual node x) is = name_is case node is.node
+names-fault case (Residual node x) is = name_is case node is.is_node
 
 at_end : (case : Parts) (n : ℕ) (network now : Net) (vs row : List ℤ) (s : Sampled) (fault : NetFault) → IsMachine case network vs row s n None (history_upto case n) → n < case.run.steps → now.case ≡ network.case
     → HasNone case now (history_upto case n).records fault → NamesNode case fault
@@ -337,30 +341,39 @@ pub ticks-made : (m : Progress) (case : Parts) (n : ℕ) (over : Option End) (ne
 ticks-made m case n None network now vs new row s before after view none is some answers new_is counted = all-ticked m case n (n + 1) before after view (made-ticks case n network now vs new row s before after is some answers new_is counted)
 ticks-made m case n (Some end) network now vs new row s before after view none is some answers new_is counted = absurd (cc)
 
-ticks-cause : (case : Parts) (fault : NetFault) (H : List StepRecord) → fault_ticks fault case H ≡ ticks_by (network_fault case fault).cause case H
-ticks-cause case (Tied node) H = refl
-ticks-cause case (ZeroPivot node) H = refl
-ticks-cause case (Range node) H = refl
-ticks-cause case (Residual node x) H = refl
+-- a step that ties two known voltages eliminates no row, and no step more than its matrix from the first changed row on
+ticks_at_most : (case : Parts) (H : List StepRecord) (fault : NetFault) (before after : ℕ) → network_part case H ≡ Err fault → after ≤ before + step_ticks case H → ((node : ℕ) → network_part case H ≡ Err (Tied node) → after ≡ before) → after ≤ before + ticks_by (network_fault case fault).cause case H
+ticks_at_most case H (Tied node) before after is most tied = omega (arith, tied node is)
+ticks_at_most case H (ZeroPivot node) before after is most tied = most
+ticks_at_most case H (Range node) before after is most tied = most
+ticks_at_most case H (Residual node x) before after is most tied = most
+
+-- how many rows a step of the network eliminates that is refused
+pub record AreCounted (network : Net) (vs : List ℤ) (before after : ℕ) : Type 0 where
+  pub most : (H : List StepRecord) → StandsFor network H → vs ≡ (latest H).values → after ≤ before + step_ticks network.case H
+  pub tied : (H : List StepRecord) (node : ℕ) → StandsFor network H → vs ≡ (latest H).values → network_part network.case H ≡ Err (Tied node) → after ≡ before
 
 -- the most rows that a step which ends the run eliminates
 ended-ticks : (m : Progress) (case : Parts) (n : ℕ) (network now : Net) (vs row : List ℤ) (s : Sampled) (fault : NetFault) (before after : ℕ) → record { case = case; tried = n } ≡ m → IsMachine case network vs row s n None (history_upto case n)
-    → Answers (Err fault) network now vs → ((H : List StepRecord) → StandsFor network H → vs ≡ (latest H).values → after ≤ before + fault_ticks fault network.case H)
+    → Answers (Err fault) network now vs → AreCounted network vs before after
     → HasTicked m (record { case = case; tried = n + 1 }) before after
 ended-ticks m case n network now vs row s fault before after view is answers counted =
     let here = is.running refl in
-    let none = none_by case now (history_upto case n).records fault _ refl (answered case n network now vs row s (Err fault) is answers) in
+    let H = (history_upto case n).records in
+    let none = none_by case now H fault _ refl (answered case n network now vs row s (Err fault) is answers) in
     let over = ended case n (network_fault case fault) is.ended none.none in
     let next : n + 1 ≡ suc n = omega arith in
     let whole = ap (history_upto case) next ∙ over in
-    let first = none_over case (history_upto case n).records (history_upto case n).end is.ended in
-    let step : after ≤ before + fault_ticks fault case (history_upto case n).records = subst (λ (c : Parts). after ≤ before + fault_ticks fault c (history_upto case n).records) is.case_is (counted (history_upto case n).records here.network_stands here.values_are) in
-    let most : after + ticks case (history_upto case n) ≤ before + ticks case (history_upto case (n + 1)) = rw whole (omega (arith, first, step, ticks-cause case fault (history_upto case n).records)) in
+    let first = none_over case H (history_upto case n).end is.ended in
+    let most : after ≤ before + step_ticks case H = subst (λ (c : Parts). after ≤ before + step_ticks c H) is.case_is (counted.most H here.network_stands here.values_are) in
+    let tied = λ (node : ℕ) (so : network_part case H ≡ Err (Tied node)). counted.tied H node here.network_stands here.values_are (subst (λ (c : Parts). network_part c H ≡ Err (Tied node)) (sym is.case_is) so) in
+    let step = ticks_at_most case H fault before after none.part most tied in
+    let all : after + ticks case (history_upto case n) ≤ before + ticks case (history_upto case (n + 1)) = rw whole (omega (arith, first, step)) in
     let end = ap (λ (h : History). h.end) whole in
-    subst (λ (p : Progress). HasTicked p (record { case = case; tried = n + 1 }) before after) view (record { most = most; all = λ running. absurd (cc (running, end)) })
+    subst (λ (p : Progress). HasTicked p (record { case = case; tried = n + 1 }) before after) view (record { most = all; all = λ running. absurd (cc (running, end)) })
 
 pub ticks-ended : (m : Progress) (case : Parts) (n : ℕ) (over : Option End) (network now : Net) (vs row : List ℤ) (s : Sampled) (fault : NetFault) (before after : ℕ) (end : End) → seen case n over ≡ m → over ≡ None → IsMachine case network vs row s n over (history_upto case (tried_of n over))
-    → Answers (Err fault) network now vs → ((H : List StepRecord) → StandsFor network H → vs ≡ (latest H).values → after ≤ before + fault_ticks fault network.case H)
+    → Answers (Err fault) network now vs → AreCounted network vs before after
     → HasTicked m (seen case n (Some end)) before after
 ticks-ended m case n None network now vs row s fault before after end view none = ended-ticks m case n network now vs row s fault before after view
 ticks-ended m case n (Some e) network now vs row s fault before after end view none = absurd (cc)
@@ -403,22 +416,9 @@ starts case network vs row s t same stands values width is is_t some = rw rest_h
 rest_ticks : (case : Parts) → ticks case (history_upto case 0) ≡ 0
 rest_ticks case = rw rest_history refl
 
-next_ticks : (case : Parts) (r s : StepRecord) (past : List StepRecord) → net_ticks case (r ∷ s ∷ past) ≡ net_ticks case (s ∷ past) + step_ticks case (s ∷ past)
-next_ticks case r s past = refl
-
--- the first step eliminates each row
-first_ticks : (case : Parts) (s : StepRecord) → step_ticks case (s ∷ []) ≡ length case.nodes
-unfolding step_ticks first_change
-first_ticks case s = omega arith
-
 most_ticks : (case : Parts) (H : List StepRecord) → step_ticks case H ≤ length case.nodes
 unfolding step_ticks
 most_ticks case H = omega arith
-
--- once a step is made, the rows that were eliminated are those of one matrix and the rows redone
-some_ticks : (case : Parts) (r s : StepRecord) (past : List StepRecord) → net_ticks case (r ∷ s ∷ past) ≡ length case.nodes + net_redone case (r ∷ s ∷ past)
-some_ticks case r s [] = omega (arith, first_ticks case s)
-some_ticks case r s (t ∷ past) = omega (arith, some_ticks case s t past)
 
 -- ---- a run that is over
 
@@ -436,7 +436,7 @@ over-ended m case network vs row s n over view is some = subst (λ (p : Progress
 all_rows : (case : Parts) (H : List StepRecord) → 2 ≤ length H → net_ticks case H ≡ length case.nodes + net_redone case H
 all_rows case [] some = absurd (omega (arith, some))
 all_rows case (r ∷ []) some = absurd (omega (arith, some))
-all_rows case (r ∷ s ∷ past) some = some_ticks case r s past
+all_rows case (r ∷ s ∷ past) some = ticks_of_run case r s past
 
 -- a step that is no first one counts what it eliminates
 same_step : (case : Parts) (cause : Cause) (r s : StepRecord) (past : List StepRecord) → ticks_by cause case (r ∷ s ∷ past) ≡ redone_by cause case (r ∷ s ∷ past)
@@ -458,7 +458,7 @@ most_step case TacsRange H = most_ticks case H
 most_rows : (case : Parts) (cause : Cause) (H : List StepRecord) → 1 ≤ length H → net_ticks case H + ticks_by cause case H ≤ length case.nodes + (net_redone case H + redone_by cause case H)
 most_rows case cause [] some = absurd (omega (arith, some))
 most_rows case cause (r ∷ []) some = omega (arith, most_step case cause (r ∷ []))
-most_rows case cause (r ∷ s ∷ past) some = omega (arith, some_ticks case r s past, same_step case cause r s past)
+most_rows case cause (r ∷ s ∷ past) some = omega (arith, ticks_of_run case r s past, same_step case cause r s past)
 
 -- from rest on, where the run didn't end early
 rows_without : (case : Parts) (h : History) → h.end ≡ None → 2 ≤ length h.records → ticks case h ≡ length case.nodes + redone case h

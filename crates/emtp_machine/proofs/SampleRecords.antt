@@ -5,7 +5,7 @@ use Rattle.std.proofs.lemmas.Bool.{cases_eq}
 use Rattle.std.proofs.lemmas.List.{get_or_push, length_push}
 use Rattle.emtp_case.specs.StepRecord.{StepRecord, latest, rest_of}
 use Rattle.emtp_case.specs.declared.case.Parts.{Parts}
-use Rattle.emtp_machine.proofs.Chains.{StepsBalance, balanced}
+use Rattle.emtp_machine.proofs.Chains.{balanced}
 use Rattle.emtp_machine.proofs.Histories.{IsMade, count, is_made}
 use Rattle.emtp_machine.proofs.Sampling.{IsCount, count_passed, count_taken, due_at, first, passed, taken}
 use Rattle.emtp_machine.specs.Channels.{sample_of, samples_in}
@@ -92,12 +92,15 @@ unfolding history_upto
 last case zero = record { m = 0; none = refl; same = refl }
 last case (suc n) = last_advanced case n (history_upto case n).end refl refl (last case n)
 
-pub are_of : (case : Parts) → 1 ≤ case.run.every → StepsBalance case → SamplesBalance case
-are_of case some law k below =
+sample_of_record : (case : Parts) → 1 ≤ case.run.every → (k : ℕ) → k < length (samples case (history case)) → IsSampleOf case (samples case (history case)) k
+sample_of_record case some k below =
     let last = last case case.run.steps in
     let are = running case some last.m last.none in
     let rows = ap (samples_in case) last.same in
     record {
       values = ap (λ (xs : List (List ℤ)). slice_index_or xs k []) rows ∙ are.each k (rw rows at below);
-      balanced = balanced case law (k * case.run.every);
+      balanced = balanced case (k * case.run.every);
     }
+
+pub are_of : (case : Parts) → 1 ≤ case.run.every → SamplesBalance case
+are_of case some = record { each = sample_of_record case some }

@@ -35,5 +35,5 @@ pub record IsSampleOf (case : Parts) (rows : List (List ℤ)) (k : ℕ) : Type 0
   pub balanced : IsBalanced case (records_upto case (k * case.run.every))
 
 -- each sample of a case's run is that of a record in which each row balances
-abbrev pub SamplesBalance : Parts → Type 0
-SamplesBalance case = (k : ℕ) → k < length (samples case (history case)) → IsSampleOf case (samples case (history case)) k
+pub record SamplesBalance (case : Parts) : Type 0 where
+  pub each : (k : ℕ) → k < length (samples case (history case)) → IsSampleOf case (samples case (history case)) k

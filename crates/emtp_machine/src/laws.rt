@@ -5,7 +5,6 @@ ghost use Rattle.emtp_machine.specs.History.{history};
 ghost use Rattle.emtp_machine.specs.Laws.{IsBalanced, IsChain, IsRefusal, SamplesBalance, records_upto};
 
 use emtp_case::Case;
-use emtp_net::residual_within_tolerance;
 
 /// The records of a run begin at rest, and each other one is the record after those before it.
 pub fn records_are_a_chain(case: &Case)
@@ -20,14 +19,10 @@ pub fn end_is_the_first_refusal(case: &Case)
 /// In each record of a run the currents at each node or group add up to 0 within the tolerance.
 pub fn each_record_balances(case: &Case)
     ensures { (n : ℕ) → IsBalanced case.now.parts (records_upto case.now.parts n) }
-{
-    residual_within_tolerance(case);
-}
+{}
 
 /// Each sample has the values of its record, and in that record the currents at each node or group add up to 0 within
 /// the tolerance.
 pub fn samples_balance(case: &Case)
     ensures { SamplesBalance case.now.parts }
-{
-    residual_within_tolerance(case);
-}
+{}

@@ -5,7 +5,8 @@ ghost use Rattle.std.specs.Bool.{OnFalse, OnTrue};
 ghost use Rattle.emtp_machine.specs.History.{end_at, history, redone, rows_of_run, samples};
 ghost use Rattle.emtp_machine.specs.Machine.{HasTicked, IsEnd, MayStep, answer_of, history_of};
 ghost use Rattle.emtp_machine.specs.Next.{network_fault, node_name};
-ghost use Rattle.emtp_net.specs.Network.{IsNode, NamesNode};
+ghost use Rattle.emtp_machine.specs.Laws.{SamplesBalance};
+ghost use Rattle.emtp_net.specs.Fault.{IsNode, NamesNode};
 
 use crate::channels::take_sample;
 use crate::control::set_standing;
@@ -158,6 +159,7 @@ impl<'c> Machine<'c> {
         ensures history { history_of self.new ≡ history self.old.case }
         ensures end { result ≡ (history self.old.case).end }
         ensures names { IfSome result (IsEnd self.old.case) }
+        ensures balance { SamplesBalance self.old.case }
         ensures ticks { HasTicked self.old self.new steps.old steps.new }
         ensures rows { self.old.tried ≡ 0 → IfNone result (steps.new ≡ steps.old + rows_of_run self.old.case) }
         ensures most { self.old.tried ≡ 0 → steps.new ≤ steps.old + rows_of_run self.old.case }

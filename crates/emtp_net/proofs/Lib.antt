@@ -19,3 +19,4 @@ pub mod Holding
 pub mod Stepping
 pub mod Runs
 mod Worked
+pub mod Tying

@@ -1,6 +1,6 @@
 //! The network of a case.
 
-ghost use Rattle.std.specs.Prelude.{◌≡◌, ◌+◌, ◌*◌, ◌<◌, ◌≤◌, ◌∷◌, [], List, length, map, pos, replicate, IfErr, IfOk, OnOk};
+ghost use Rattle.std.specs.Prelude.{◌≡◌, ◌+◌, ◌*◌, ◌<◌, ◌≤◌, ◌∷◌, [], ℕ, List, length, map, pos, replicate, Err, IfErr, IfOk, OnOk};
 ghost use Rattle.emtp_case.specs.RowOrder.{order_of};
 ghost use Rattle.emtp_case.specs.StepRecord.{StepRecord, branch_current_at, is_closed, latest, rest_of};
 ghost use Rattle.emtp_net.specs.Branches.{HasCase};
@@ -104,6 +104,7 @@ impl<'a> Network<'a> {
         ensures step { (H : List StepRecord) → StandsFor self.old H → tacs.now ≡ (latest H).values → StepsTo result self.new H (network_part self.old.case H) }
         ensures ticks { (H : List StepRecord) → StandsFor self.old H → tacs.now ≡ (latest H).values → OnOk result (steps.new ≡ steps.old + step_ticks self.old.case H) }
         ensures most { (H : List StepRecord) → StandsFor self.old H → tacs.now ≡ (latest H).values → steps.new ≤ steps.old + step_ticks self.old.case H }
+        ensures tied { (H : List StepRecord) (node : ℕ) → StandsFor self.old H → tacs.now ≡ (latest H).values → network_part self.old.case H ≡ Err (NetFault.Tied node) → steps.new ≡ steps.old }
         ensures few { self.new.redone ≤ self.old.redone + 1000 }
         ensures few_ticks { steps.new ≤ steps.old + 1000 }
         ensures node { IfErr result (NamesNode self.old.case) }

@@ -1,11 +1,14 @@
 -- How a call ends that makes a note and nothing else.
-use Rattle.std.proofs.Common.{◌≡◌, inl, inr, ℕ, List, [], ◌∷◌, refl, subst, Some, Result, Ok, Err, IsTrue, IsOk}
+use Rattle.std.proofs.Common.{◌≡◌, ◌⊎◌, inl, inr, sym, None, IfSome, ℕ, List, [], ◌∷◌, refl, subst, Some, Option, Result, Ok, Err, IsTrue, IsOk}
 use Rattle.emtp_io.specs.Cabinet.{CabinetState}
 use Rattle.emtp_io.specs.Writes.{Written, Makes}
 use Rattle.emtp_io.specs.declared.cabinet.Output.TheVariants.{Cfg, Dat}
+use Rattle.emtp_card.specs.declared.reason.Bad.{Bad}
 use Rattle.emtp_run.specs.Note.{usage_note, card_note}
-use Rattle.emtp_run.specs.Outcome.{note, usage, bad_card, IsWholeOrCut, KeepsRecord, Ends}
-use Rattle.emtp_run.specs.declared.status.Status.TheVariants.{Usage, BadCard}
+use Rattle.emtp_run.specs.Outcome.{Outcome, outcome_for, note, usage, bad_card, IsComplete, IsNoted, IsWholeOrCut, KeepsRecord, Ends}
+use Rattle.emtp_run.specs.Words.{Task}
+use Rattle.emtp_run.specs.declared.status.Status.{Status}
+use Rattle.emtp_run.specs.declared.status.Status.TheVariants.{Done, Usage, BadCard, Ended, ReadFault, WriteFault, NoMemory}
 
 whole_or_cut : {T E : Type 0} {old new : CabinetState} {writes : List Written} (result : Result T E)
     → Makes old new writes result → IsTrue old.nature.tells → IsWholeOrCut writes old new
@@ -40,10 +43,10 @@ usage-ends {old = old} {new = new} result is told =
     }
 
 -- the note of a card was made, or it is cut short
-pub card-ends : {T E : Type 0} {old new : CabinetState} {text : List ℕ} (line : ℕ) (result : Result T E) → text ≡ card_note line
-    → Makes old new (note text ∷ []) result → Ends BadCard (Some (bad_card line)) old new
-card-ends {old = old} {new = new} line result is told =
-    let makes : Makes old new (note (card_note line) ∷ []) result = subst (λ (text : List ℕ). Makes old new (note text ∷ []) result) is told in
+pub card-ends : {T E : Type 0} {old new : CabinetState} {text : List ℕ} (bad : Bad) (result : Result T E) → text ≡ card_note bad
+    → Makes old new (note text ∷ []) result → Ends BadCard (Some (bad_card bad)) old new
+card-ends {old = old} {new = new} bad result is told =
+    let makes : Makes old new (note (card_note bad) ∷ []) result = subst (λ (text : List ℕ). Makes old new (note text ∷ []) result) is told in
     record {
       nature = makes.nature;
       cause = (makes.faults_in, makes.cause.later);
@@ -56,3 +59,26 @@ card-ends {old = old} {new = new} line result is told =
         write = λ same. cc;
       };
     }
+
+-- ---- nothing else can happen
+
+noted : (old new : CabinetState) (status : Status) (o : Outcome) → o.status ≡ status → IsWholeOrCut o.writes old new → IsComplete status old new o
+noted old new status o is (inl whole) = inr (inr (inl (sym is, whole)))
+noted old new status o is (inr cut) = inr (inl cut.0)
+
+complete_by : (old new : CabinetState) (status : Status) (o : Outcome) → Ends status (Some o) old new → IsTrue old.nature.tells → IsComplete status old new o
+complete_by old new Done o ends tells = let is = ends.outcome tells in inr (inr (inl (sym is.0, is.1)))
+complete_by old new Usage o ends tells = let is = ends.outcome tells in noted old new Usage o is.0 is.1
+complete_by old new BadCard o ends tells = let is = ends.outcome tells in noted old new BadCard o is.0 is.1
+complete_by old new Ended o ends tells = let is = ends.outcome tells in inr (inr (inl (sym is.0, is.1)))
+complete_by old new ReadFault o ends tells = inl ends.cause.0
+complete_by old new WriteFault o ends tells = inr (inl ends.cause.1)
+complete_by old new NoMemory o ends tells = inr (inr (inr (refl, ends.outcome tells)))
+
+pub ends-complete : (old new : CabinetState) (status : Status) (o : Option Outcome) → Ends status o old new → IsTrue old.nature.tells → IfSome o (IsComplete status old new)
+ends-complete old new status None ends tells = tt
+ends-complete old new status (Some o) ends tells = complete_by old new status o ends tells
+
+pub run-complete : (old new : CabinetState) (status : Status) (task : Option Task) (asked : Task) (files : List ℕ → Option (List ℕ)) → task ≡ Some asked → Ends status (outcome_for (Some asked) files) old new → IsTrue old.nature.tells
+    → IfSome (outcome_for task files) (IsComplete status old new)
+run-complete old new status task asked files is ends tells = rw is (ends-complete old new status (outcome_for (Some asked) files) ends tells)

@@ -1,16 +1,2 @@
-pub mod Values
-pub mod Splitting
-pub mod Steps
-pub mod Names
-pub mod Naming
-pub mod Resistors
-pub mod Whole
-pub mod Shares
-pub mod Nodal
-pub mod Currents
-pub mod Faults
-pub mod Stepping
-pub mod Histories
-pub mod Filling
-pub mod Endings
-pub mod Ends
+mod Decks
+mod Endings

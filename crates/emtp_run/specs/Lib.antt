@@ -1,9 +1,7 @@
-pub mod Card
-pub mod Deck
-pub mod Form
-pub mod History
-pub mod Network
-pub mod Note
-pub mod Outcome
-pub mod Reading
 pub mod Words
+pub mod Note
+pub mod TrialDeck
+pub mod Summary
+pub mod Reading
+pub mod Texts
+pub mod Outcome

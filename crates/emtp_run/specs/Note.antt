@@ -1,36 +1,79 @@
 -- The one line that a call leaves on how it ended.
-use Rattle.std.specs.Prelude.{ℕ, ◌-◌, List, ◌++◌, length, Option, Some, None, decimal, codes}
-use Rattle.emtp_case.specs.declared.case.Parts.{Parts}
-use Rattle.emtp_run.specs.declared.machine.End.{End}
-use Rattle.emtp_run.specs.declared.network.Cause.{Cause}
-use Rattle.emtp_run.specs.declared.network.Cause.TheVariants.{ZeroPivot, Range}
-use Rattle.emtp_run.specs.History.{History, samples}
+use Rattle.std.specs.Prelude.{ℕ, ℤ, List, [], ◌++◌, Option, Some, None, codes, decimal}
+use Rattle.std.specs.Fmt.{signed_decimal}
+use Rattle.emtp_card.specs.Reason.{reason_number}
+use Rattle.emtp_card.specs.declared.reason.Bad.{Bad}
+use Rattle.emtp_card.specs.declared.reason.Why.{Why}
+use Rattle.emtp_card.specs.declared.reason.Why.TheVariants.{ByteOutside, PastColumn80, NotANumber, NotWhole, OutOfUnitRange, TooManyLines, BadType, BadName, BadImpedance, ShortLine, BadPoints, BadOrder, UnknownName, TwoSources, TooMany, MissingSection, TooManySamples, BadExpression, NotBuilt}
+use Rattle.emtp_machine.specs.declared.end.Cause.{Cause}
+use Rattle.emtp_machine.specs.declared.end.Cause.TheVariants.{Tied, ZeroPivot, Range, Residual, TacsPivot, TacsRange}
+use Rattle.emtp_machine.specs.declared.end.End.{End}
 
 unfoldable pub usage_note : List ℕ
 usage_note = codes "USAGE\n"
 
--- a card of the first form that doesn't fit its place, by its line
-unfoldable pub card_note : ℕ → List ℕ
-card_note line = codes "BAD CARD LINE " ++ decimal line ++ codes " COLUMN 1 REASON 19 NotBuilt\n"
+abbrev pub reason_name : Why → List ℕ
+reason_name ByteOutside = codes "ByteOutside"
+reason_name PastColumn80 = codes "PastColumn80"
+reason_name NotANumber = codes "NotANumber"
+reason_name NotWhole = codes "NotWhole"
+reason_name OutOfUnitRange = codes "OutOfUnitRange"
+reason_name TooManyLines = codes "TooManyLines"
+reason_name BadType = codes "BadType"
+reason_name BadName = codes "BadName"
+reason_name BadImpedance = codes "BadImpedance"
+reason_name ShortLine = codes "ShortLine"
+reason_name BadPoints = codes "BadPoints"
+reason_name BadOrder = codes "BadOrder"
+reason_name UnknownName = codes "UnknownName"
+reason_name TwoSources = codes "TwoSources"
+reason_name TooMany = codes "TooMany"
+reason_name MissingSection = codes "MissingSection"
+reason_name TooManySamples = codes "TooManySamples"
+reason_name BadExpression = codes "BadExpression"
+reason_name NotBuilt = codes "NotBuilt"
+
+-- where a card is refused, and why
+unfoldable pub card_note : Bad → List ℕ
+card_note bad =
+    codes "BAD CARD LINE " ++ decimal bad.line ++ codes " COLUMN " ++ decimal bad.column
+    ++ codes " REASON " ++ decimal (reason_number bad.why) ++ codes " " ++ reason_name bad.why ++ codes "\n"
 
 abbrev pub cause_word : Cause → List ℕ
+cause_word Tied = codes "TIED"
 cause_word ZeroPivot = codes "ZEROPIVOT"
 cause_word Range = codes "RANGE"
+cause_word Residual = codes "RESIDUAL"
+cause_word TacsPivot = codes "TACSPIVOT"
+cause_word TacsRange = codes "TACSRANGE"
+
+-- the residual that was measured, where that is the cause
+abbrev pub measured_text : Cause → ℤ → List ℕ
+measured_text Tied measured = []
+measured_text ZeroPivot measured = []
+measured_text Range measured = []
+measured_text Residual measured = codes " " ++ signed_decimal measured
+measured_text TacsPivot measured = []
+measured_text TacsRange measured = []
+
+-- how many samples there are, and how many rows were redone
+abbrev pub counts_text : ℕ → ℕ → List ℕ
+counts_text samples redone = codes " SAMPLES " ++ decimal samples ++ codes " REDONE " ++ decimal redone
 
 -- so many steps and samples were made
-unfoldable pub done_note : ℕ → ℕ → List ℕ
-done_note steps samples = codes "DONE STEPS " ++ decimal steps ++ codes " SAMPLES " ++ decimal samples ++ codes "\n"
+unfoldable pub done_text : ℕ → ℕ → ℕ → List ℕ
+done_text steps samples redone = codes " STEPS " ++ decimal steps ++ counts_text samples redone
 
--- the step that has no record, why, at which node, and how many samples stand before it
-unfoldable pub ended_note : End → ℕ → List ℕ
-ended_note end samples =
+abbrev pub done_note : ℕ → ℕ → ℕ → List ℕ
+done_note steps samples redone = codes "DONE" ++ done_text steps samples redone ++ codes "\n"
+
+-- the step that has no record, why, what is named, and how many samples stand before it
+unfoldable pub ended_note : End → ℕ → ℕ → List ℕ
+ended_note end samples redone =
     codes "ENDED STEP " ++ decimal end.step ++ codes " " ++ cause_word end.cause ++ codes " " ++ end.name
-    ++ codes " SAMPLES " ++ decimal samples ++ codes "\n"
+    ++ measured_text end.cause end.measured ++ counts_text samples redone ++ codes "\n"
 
-abbrev pub note_by : Option End → ℕ → ℕ → List ℕ
-note_by None steps samples = done_note steps samples
-note_by (Some end) steps samples = ended_note end samples
-
--- of a case's history; rest is no step
-abbrev pub run_note : Parts → History → List ℕ
-run_note case h = note_by h.end (length h.records - 1) (length (samples case h))
+-- of a run with this end, or none, of so many steps
+abbrev pub note_by : Option End → ℕ → ℕ → ℕ → List ℕ
+note_by None steps samples redone = done_note steps samples redone
+note_by (Some end) steps samples redone = ended_note end samples redone

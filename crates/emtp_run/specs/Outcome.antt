@@ -1,17 +1,22 @@
 -- What a call comes to, by its words and the bytes of the case.
-use Rattle.std.specs.Prelude.{◌≡◌, ◌≢◌, ◌⊎◌, ℕ, ◌≤◌, ℤ, List, [], ◌∷◌, take, IsTrue, Option, Some, None, IsSomeAnd, option_map, Result, Ok, Err}
+use Rattle.std.specs.Prelude.{◌≡◌, ◌≢◌, ◌⊎◌, ℕ, ◌≤◌, ℤ, List, [], ◌∷◌, take, IsTrue, Option, Some, None, IsSomeAnd, IfSome, option_map, Result, Ok, Err}
 use Rattle.std.specs.Option.{option_and_then}
+use Rattle.emtp_card.specs.declared.reason.Bad.{Bad}
+use Rattle.emtp_case.specs.declared.case.Parts.{Parts}
+use Rattle.emtp_comtrade.specs.Record.{cfg_text, dat_text}
 use Rattle.emtp_io.specs.Cabinet.{CabinetState, Rose}
 use Rattle.emtp_io.specs.Writes.{Written, with_all, IsCutShort, AllFit}
-use Rattle.emtp_io.specs.declared.cabinet.Output.TheVariants.{Cfg, Dat, Note}
+use Rattle.emtp_io.specs.declared.cabinet.Output.TheVariants.{Cfg, Dat, Note, Summary}
+use Rattle.emtp_machine.specs.History.{History, history, samples}
+use Rattle.emtp_machine.specs.Laws.{SamplesBalance}
+use Rattle.emtp_machine.specs.Machine.{IsEnd}
+use Rattle.emtp_run.specs.Note.{usage_note, card_note}
+use Rattle.emtp_run.specs.Reading.{deck}
+use Rattle.emtp_run.specs.Texts.{run_note, trial_text}
+use Rattle.emtp_run.specs.TrialDeck.{trial_cards}
+use Rattle.emtp_run.specs.Words.{RunFiles, Task, Run, Trial, fits}
 use Rattle.emtp_run.specs.declared.status.Status.{Status}
 use Rattle.emtp_run.specs.declared.status.Status.TheVariants.{Done, Usage, BadCard, Ended, ReadFault, WriteFault, NoMemory}
-use Rattle.emtp_case.specs.declared.case.Parts.{Parts}
-use Rattle.emtp_run.specs.Words.{RunFiles, fits}
-use Rattle.emtp_run.specs.Deck.{deck}
-use Rattle.emtp_run.specs.History.{History, history, samples}
-use Rattle.emtp_comtrade.specs.Record.{cfg_text, dat_text}
-use Rattle.emtp_run.specs.Note.{usage_note, card_note, run_note}
 
 -- a status, and the outputs in the order in which they are made
 pub record Outcome : Type 0 where
@@ -24,9 +29,9 @@ note text = record { out = Note; name = []; bytes = text }
 abbrev pub usage : Outcome
 usage = record { status = Usage; writes = note usage_note ∷ [] }
 
--- the line of a card was refused
-abbrev pub bad_card : ℕ → Outcome
-bad_card line = record { status = BadCard; writes = note (card_note line) ∷ [] }
+-- a card was refused
+abbrev pub bad_card : Bad → Outcome
+bad_card bad = record { status = BadCard; writes = note (card_note bad) ∷ [] }
 
 -- the status of a run that ended early or not
 abbrev pub status_of : {X : Type 0} → Option X → Status
@@ -40,19 +45,23 @@ cfg name case rows = record { out = Cfg; name = name; bytes = cfg_text case rows
 abbrev pub dat : List ℕ → Parts → List (List ℤ) → Written
 dat name case rows = record { out = Dat; name = name; bytes = dat_text case rows }
 
--- the record and the note of a case's history
-abbrev pub writes_of : RunFiles → Parts → History → List Written
-writes_of files case h =
-    cfg files.cfg case (samples case h) ∷ dat files.dat case (samples case h) ∷ note (run_note case h) ∷ []
+abbrev pub summary : List ℕ → Written
+summary text = record { out = Summary; name = []; bytes = text }
 
-abbrev pub outcome_by : RunFiles → Result Parts ℕ → Outcome
-outcome_by files (Err line) = bad_card line
-outcome_by files (Ok case) =
-    record { status = status_of (history case).end; writes = writes_of files case (history case) }
+-- the record and the note of a run, from the case's history; a trial leaves its summary alone
+abbrev pub writes_of : Task → Parts → History → List Written
+writes_of (Run files) case h =
+    cfg files.cfg case (samples case h) ∷ dat files.dat case (samples case h) ∷ note (run_note case h) ∷ []
+writes_of (Trial number) case h = summary (trial_text number case h) ∷ []
+
+abbrev pub outcome_by : Task → Result Parts Bad → Outcome
+outcome_by task (Err bad) = bad_card bad
+outcome_by task (Ok case) =
+    record { status = status_of (history case).end; writes = writes_of task case (history case) }
 
 -- of a case of these bytes
-abbrev pub outcome_of : RunFiles → List ℕ → Outcome
-outcome_of files bytes = outcome_by files (deck bytes)
+abbrev pub outcome_of : Task → List ℕ → Outcome
+outcome_of task bytes = outcome_by task (deck bytes)
 
 -- the most bytes of a case that are read
 abbrev pub bound : ℕ
@@ -62,25 +71,45 @@ bound = 9000001
 abbrev pub case_at : List ℕ → (List ℕ → Option (List ℕ)) → Option (List ℕ)
 case_at name files = option_map (λ bytes. take bound bytes) (files name)
 
-abbrev pub outcome_for : Option RunFiles → (List ℕ → Option (List ℕ)) → Option Outcome
+-- the bytes of the case that is run: those of a file, or the cards of a trial
+abbrev pub bytes_of : Task → (List ℕ → Option (List ℕ)) → Option (List ℕ)
+bytes_of (Run run) files = case_at run.case files
+bytes_of (Trial number) files = Some (trial_cards number)
+
+abbrev pub outcome_for : Option Task → (List ℕ → Option (List ℕ)) → Option Outcome
 outcome_for None files = Some usage
-outcome_for (Some run) files = option_map (λ bytes. outcome_of run bytes) (case_at run.case files)
+outcome_for (Some task) files = option_map (λ bytes. outcome_of task bytes) (bytes_of task files)
 
 -- what a call comes to over these files; nothing where the case isn't among them
 abbrev pub outcome : List (List ℕ) → (List ℕ → Option (List ℕ)) → Option Outcome
 outcome words files = outcome_for (fits words) files
 
-abbrev pub accepted : Result Parts ℕ → Option Parts
+abbrev pub accepted : Result Parts Bad → Option Parts
 accepted (Ok case) = Some case
-accepted (Err line) = None
+accepted (Err bad) = None
 
-abbrev pub case_for : Option RunFiles → (List ℕ → Option (List ℕ)) → Option Parts
+abbrev pub case_for : Option Task → (List ℕ → Option (List ℕ)) → Option Parts
 case_for None files = None
-case_for (Some run) files = option_and_then (λ bytes. accepted (deck bytes)) (case_at run.case files)
+case_for (Some task) files = option_and_then (λ bytes. accepted (deck bytes)) (bytes_of task files)
 
 -- the case that is run: nothing where the words don't fit, its file isn't among these or a card of it is refused
 abbrev pub case_of : List (List ℕ) → (List ℕ → Option (List ℕ)) → Option Parts
 case_of words files = case_for (fits words) files
+
+-- where the run of a case ends early, its end names one of the steps and a node of the case
+abbrev pub EndsWithin : Parts → Type 0
+EndsWithin case = IfSome (history case).end (IsEnd case)
+
+-- a trial opens no file, and so no failure of one is answered
+pub record IsUnopened (status : Status) (old new : CabinetState) : Type 0 where
+  pub unread : new.unread ≡ old.unread
+  pub inputs : new.faults_in ≡ old.faults_in
+  pub read : status ≢ ReadFault
+
+abbrev pub OpensNothing : Option Task → Status → CabinetState → CabinetState → Type 0
+OpensNothing None status old new = IsUnopened status old new
+OpensNothing (Some (Run files)) status old new = Unit {0}
+OpensNothing (Some (Trial number)) status old new = IsUnopened status old new
 
 -- the run came to its end, by itself or early
 abbrev pub IsFinished : Status → Type 0

@@ -1,11 +1,15 @@
--- How far the places of the first form reach into the lines of a case.
-use Rattle.std.specs.Prelude.{◌≡◌, ℕ, List, ◌++◌, Option, Some}
-use Rattle.emtp_run.specs.Form.{Place, misfit}
+-- The case that the bytes of a file give.
+use Rattle.std.specs.Prelude.{ℕ, List, Option, Some, None, Result, Ok, Err}
+use Rattle.emtp_card.specs.Cards.{size_fault}
+use Rattle.emtp_card.specs.Lines.{lines_of}
+use Rattle.emtp_card.specs.declared.reason.Bad.{Bad}
+use Rattle.emtp_case.specs.declared.case.Parts.{Parts}
+use Rattle.emtp_deck.specs.Deck.{deck_of}
 
--- these places fit the lines up to those that are left, and the numbers of the lines count on
-pub record Passes (nodes : List (List ℕ)) (ps : List Place) (at : ℕ) (lines : List (Option (List ℕ))) (next : ℕ) (left : List (Option (List ℕ))) : Type 0 where
-  pub goes_on : (behind : List Place) → misfit nodes at (ps ++ behind) lines ≡ misfit nodes next behind left
+abbrev pub deck_by : Option Bad → List ℕ → Result Parts Bad
+deck_by None bytes = deck_of (lines_of bytes)
+deck_by (Some bad) bytes = Err bad
 
--- the line of this number is the first that doesn't fit its place
-pub record StopsAt (nodes : List (List ℕ)) (ps : List Place) (at : ℕ) (lines : List (Option (List ℕ))) (number : ℕ) : Type 0 where
-  pub stops : (behind : List Place) → misfit nodes at (ps ++ behind) lines ≡ Some number
+-- the case of these bytes, or the card that is refused; too many lines or bytes are refused before any card
+unfoldable pub deck : List ℕ → Result Parts Bad
+deck bytes = deck_by (size_fault bytes) bytes

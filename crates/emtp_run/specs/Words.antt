@@ -1,8 +1,11 @@
 -- What the words of a command line ask for.
-use Rattle.std.specs.Prelude.{ℕ, List, [], ◌∷◌, Bool, false, not, ◌&&◌, ◌==◌, Option, Some, None, if◌then◌else◌, map, String, string_bytes, codes}
+use Rattle.std.specs.Prelude.{ℕ, ◌+◌, ◌-◌, ◌*◌, List, [], ◌∷◌, Bool, false, true, not, ◌&&◌, ◌==◌, ◌≤◌, nat_le, Option, Some, None, if◌then◌else◌, map, option_map, String, string_bytes, codes}
+use Rattle.std.specs.Char.{is_ascii_digit}
 use Rattle.std.specs.Str.{bytes_eq}
 use Rattle.std.specs.declared.alloc.Global.{Global}
 use Rattle.emtp_run.specs.declared.words.RunWords.{RunWords}
+use Rattle.emtp_run.specs.declared.words.Words.{Words}
+use Rattle.emtp_run.specs.declared.words.Words.TheVariants.{Run as OfRun, Trial as OfTrial}
 
 abbrev pub texts : List (String Global) → List (List ℕ)
 texts words = map (λ word. string_bytes word) words
@@ -13,6 +16,11 @@ pub record RunFiles : Type 0 where
   pub cfg : List ℕ
   pub dat : List ℕ
 
+-- what is asked for: the run of a case from its file, or of the trial case of a number
+pub data Task : Type 0 where
+  Run : RunFiles → Task
+  Trial : ℕ → Task
+
 -- a word names a file where it isn't empty and doesn't begin with a dash
 abbrev pub is_name : List ℕ → Bool
 is_name [] = false
@@ -21,13 +29,43 @@ is_name (first ∷ rest) = not (first == 45)
 abbrev pub differ : List ℕ → List ℕ → List ℕ → Bool
 differ a b c = not (bytes_eq a b) && not (bytes_eq a c) && not (bytes_eq b c)
 
--- the words fit where they are `run` and the names of three different files
-abbrev pub fits : List (List ℕ) → Option RunFiles
+-- a digit other than 0, which a number begins with
+abbrev pub is_leading : ℕ → Bool
+is_leading byte = is_ascii_digit byte && not (byte == 48)
+
+-- the greatest trial case has 900 sections
+abbrev pub in_trial : ℕ → Option ℕ
+in_trial n = if nat_le n 900 then Some n else None
+
+-- the number of a trial case is one to three digits, without a leading 0
+abbrev pub trial_number : List ℕ → Option ℕ
+trial_number [] = None
+trial_number (a ∷ []) = if is_leading a then in_trial (a - 48) else None
+trial_number (a ∷ b ∷ []) = if is_leading a && is_ascii_digit b then in_trial (10 * (a - 48) + (b - 48)) else None
+trial_number (a ∷ b ∷ c ∷ []) =
+    if is_leading a && is_ascii_digit b && is_ascii_digit c then in_trial (100 * (a - 48) + 10 * (b - 48) + (c - 48)) else None
+trial_number (a ∷ b ∷ c ∷ d ∷ more) = None
+
+-- a trial case has from 1 to 900 sections
+abbrev pub IsTask : Task → Type 0
+IsTask (Run files) = Unit {0}
+IsTask (Trial number) = (1 ≤ number) × (number ≤ 900)
+
+-- the words fit where they are `run` and the names of three different files, or `trial` and a number
+abbrev pub fits : List (List ℕ) → Option Task
+fits [] = None
+fits (command ∷ []) = None
+fits (command ∷ number ∷ []) = if bytes_eq command (codes "trial") then option_map Trial (trial_number number) else None
+fits (command ∷ case ∷ cfg ∷ []) = None
 fits (command ∷ case ∷ cfg ∷ dat ∷ []) =
     if bytes_eq command (codes "run") && is_name case && is_name cfg && is_name dat && differ case cfg dat
-    then Some (record { case = case; cfg = cfg; dat = dat })
+    then Some (Run (record { case = case; cfg = cfg; dat = dat }))
     else None
-fits _ = None
+fits (command ∷ case ∷ cfg ∷ dat ∷ other ∷ more) = None
 
 abbrev pub files_of : RunWords → RunFiles
 files_of words = record { case = words.case.now; cfg = words.cfg.now; dat = words.dat.now }
+
+abbrev pub task_of : Words → Task
+task_of (OfRun words) = Run (files_of words)
+task_of (OfTrial number) = Trial number

@@ -1,81 +1,106 @@
 //! The texts of the notes.
+ghost use Rattle.std.specs.Fmt.{signed_decimal};
 ghost use Rattle.std.specs.Prelude.{◌≡◌, ◌+◌, ◌≤◌, ◌++◌, length, decimal};
-ghost use Rattle.emtp_run.specs.Note.{usage_note, card_note, cause_word, done_note, ended_note, note_by};
+ghost use Rattle.emtp_run.specs.Note.{usage_note, card_note, cause_word, counts_text, done_note, done_text, ended_note, measured_text, note_by, reason_name};
 
-use crate::machine::End;
-use crate::network::Cause;
-use arrayvec::ArrayVec;
-use itoa::Buffer;
-
-/// One line on how a call ended. It is short, and takes no memory.
-pub type Note = ArrayVec<u8, NOTE_ROOM>;
-
-/// The most bytes of a note; the longest line has some 120.
-const NOTE_ROOM: usize = 160;
-
-/// The most bytes of a number.
-const NUMBER_ROOM: usize = 40;
+use emtp_machine::{Cause, End};
+use crate::text::{Text, push, push_number};
+use emtp_card::{Bad, Why};
 
 /// The note of words that don't fit.
 #[tactic(auto, unfolding(crate::specs::Note::usage_note))]
-pub fn usage() -> Note
+pub fn usage() -> Text
     ensures { result.items ≡ usage_note }
 {
-    let mut note = Note::new();
+    let mut note = Text::new();
     push(&mut note, b"USAGE\n");
     note
 }
 
-/// The note of a card that doesn't fit its place, by the number of its line.
+/// The note of a refused card.
 #[tactic(auto, unfolding(crate::specs::Note::card_note))]
-pub fn bad_card(line: u32) -> Note
-    ensures { result.items ≡ card_note line }
+pub fn bad_card(bad: &Bad) -> Text
+    ensures { result.items ≡ card_note bad.now }
 {
-    let mut note = Note::new();
+    let mut note = Text::new();
     push(&mut note, b"BAD CARD LINE ");
-    push_number(&mut note, line);
-    push(&mut note, b" COLUMN 1 REASON 19 NotBuilt\n");
+    push_number(&mut note, bad.line);
+    push(&mut note, b" COLUMN ");
+    push_number(&mut note, bad.column);
+    push(&mut note, b" REASON ");
+    push_number(&mut note, bad.why.number());
+    push(&mut note, b" ");
+    push(&mut note, reason_name(&bad.why));
+    push(&mut note, b"\n");
     note
 }
 
 /// The note of a run of so many steps and samples, with the end of the step after them, if it came.
-pub fn of_run(end: Option<End>, steps: u32, samples: u32) -> Note
-    ensures { result.items ≡ note_by end steps samples }
+pub fn of_run(end: &Option<End>, steps: u32, samples: u32, redone: u64) -> Text
+    ensures { result.items ≡ note_by end.now steps samples redone }
 {
+    let mut note = Text::new();
     match end {
-        Some(end) => ended(end, samples),
-        None => done(steps, samples),
+        Some(end) => push_ended(&mut note, end, samples, redone),
+        None => {
+            push(&mut note, b"DONE");
+            push_done(&mut note, steps, samples, redone);
+            push(&mut note, b"\n");
+        }
+    }
+    note
+}
+
+/// Puts the steps, samples and redone rows of a run after a note.
+#[tactic(auto, unfolding(crate::specs::Note::done_text))]
+pub fn push_done(note: &mut Text, steps: u32, samples: u32, redone: u64)
+    requires { length note.old.items ≤ 50 }
+    ensures text { note.new.items ≡ note.old.items ++ done_text steps samples redone }
+    ensures length { length note.new.items ≤ length note.old.items + 160 }
+{
+    push(note, b" STEPS ");
+    push_number(note, steps);
+    push_counts(note, samples, redone);
+}
+
+/// Puts the line of an early end after a note.
+#[tactic(auto, unfolding(crate::specs::Note::ended_note))]
+pub fn push_ended(note: &mut Text, end: &End, samples: u32, redone: u64)
+    requires { length note.old.items ≤ 50 }
+    ensures { note.new.items ≡ note.old.items ++ ended_note end.now samples redone }
+{
+    push(note, b"ENDED STEP ");
+    push_number(note, end.step);
+    push(note, b" ");
+    push(note, cause_word(end.cause));
+    push(note, b" ");
+    push(note, end.name.as_slice());
+    push_measured(note, end);
+    push_counts(note, samples, redone);
+    push(note, b"\n");
+}
+
+/// Puts the residual that was measured after a note, where that is the cause.
+fn push_measured(note: &mut Text, end: &End)
+    requires { length note.old.items ≤ 200 }
+    ensures text { note.new.items ≡ note.old.items ++ measured_text end.now.cause end.now.measured }
+    ensures length { length note.new.items ≤ length note.old.items + 41 }
+{
+    if end.cause == Cause::Residual {
+        push(note, b" ");
+        push_number(note, end.measured);
     }
 }
 
-#[tactic(auto, unfolding(crate::specs::Note::done_note))]
-fn done(steps: u32, samples: u32) -> Note
-    ensures { result.items ≡ done_note steps samples }
+fn push_counts(note: &mut Text, samples: u32, redone: u64)
+    requires { length note.old.items ≤ 300 }
+    ensures text { note.new.items ≡ note.old.items ++ counts_text samples redone }
+    ensures length { length note.new.items ≤ length note.old.items + 97 }
 {
-    let mut note = Note::new();
-    push(&mut note, b"DONE STEPS ");
-    push_number(&mut note, steps);
-    push(&mut note, b" SAMPLES ");
-    push_number(&mut note, samples);
-    push(&mut note, b"\n");
-    note
-}
-
-#[tactic(auto, unfolding(crate::specs::Note::ended_note))]
-fn ended(end: End, samples: u32) -> Note
-    ensures { result.items ≡ ended_note end samples }
-{
-    let mut note = Note::new();
-    push(&mut note, b"ENDED STEP ");
-    push_number(&mut note, end.step);
-    push(&mut note, b" ");
-    push(&mut note, cause_word(end.cause));
-    push(&mut note, b" ");
-    push(&mut note, end.name.as_slice());
-    push(&mut note, b" SAMPLES ");
-    push_number(&mut note, samples);
-    push(&mut note, b"\n");
-    note
+    push(note, b" SAMPLES ");
+    push_number(note, samples);
+    push(note, b" REDONE ");
+    push_number(note, redone);
 }
 
 fn cause_word(cause: Cause) -> &'static [u8]
@@ -83,25 +108,38 @@ fn cause_word(cause: Cause) -> &'static [u8]
     ensures short { length result.now ≤ 9 }
 {
     match cause {
+        Cause::Tied => b"TIED",
         Cause::ZeroPivot => b"ZEROPIVOT",
         Cause::Range => b"RANGE",
+        Cause::Residual => b"RESIDUAL",
+        Cause::TacsPivot => b"TACSPIVOT",
+        Cause::TacsRange => b"TACSRANGE",
     }
 }
 
-fn push(note: &mut Note, piece: &[u8])
-    requires { length note.old.items + length piece.now ≤ NOTE_ROOM }
-    ensures text { note.new.items ≡ note.old.items ++ piece.now }
-    ensures length { length note.new.items ≡ length note.old.items + length piece.now }
+fn reason_name(why: &Why) -> &'static [u8]
+    ensures word { result.now ≡ reason_name why.now }
+    ensures short { length result.now ≤ 14 }
 {
-    // There is room, so that this can't fail.
-    let _ = note.try_extend_from_slice(piece);
-}
-
-fn push_number(note: &mut Note, number: u32)
-    requires { length note.old.items + NUMBER_ROOM ≤ NOTE_ROOM }
-    ensures text { note.new.items ≡ note.old.items ++ decimal number }
-    ensures length { length note.new.items ≤ length note.old.items + NUMBER_ROOM }
-{
-    let mut buffer = Buffer::new();
-    push(note, buffer.format(number).as_bytes());
+    match why {
+        Why::ByteOutside => b"ByteOutside",
+        Why::PastColumn80 => b"PastColumn80",
+        Why::NotANumber => b"NotANumber",
+        Why::NotWhole => b"NotWhole",
+        Why::OutOfUnitRange => b"OutOfUnitRange",
+        Why::TooManyLines => b"TooManyLines",
+        Why::BadType => b"BadType",
+        Why::BadName => b"BadName",
+        Why::BadImpedance => b"BadImpedance",
+        Why::ShortLine => b"ShortLine",
+        Why::BadPoints => b"BadPoints",
+        Why::BadOrder => b"BadOrder",
+        Why::UnknownName => b"UnknownName",
+        Why::TwoSources => b"TwoSources",
+        Why::TooMany => b"TooMany",
+        Why::MissingSection => b"MissingSection",
+        Why::TooManySamples => b"TooManySamples",
+        Why::BadExpression => b"BadExpression",
+        Why::NotBuilt => b"NotBuilt",
+    }
 }

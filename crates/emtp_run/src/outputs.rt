@@ -1,19 +1,22 @@
 //! The outputs of a call, each made after the one before it is whole.
-ghost use Rattle.std.specs.Prelude.{◌≡◌, ◌-◌, [], ◌∷◌, Some, length};
-ghost use Rattle.emtp_io.specs.Writes.{Makes};
+ghost use Rattle.std.specs.Prelude.{◌≡◌, [], ◌∷◌, Some, length};
+ghost use Rattle.emtp_card.specs.declared.reason.Bad.{Bad};
 ghost use Rattle.emtp_comtrade.specs.Record.{AreMultipliers};
-ghost use Rattle.emtp_run.specs.History.{history, samples};
-ghost use Rattle.emtp_run.specs.Outcome.{cfg, dat, note, usage, writes_of, bad_card, Ends};
-ghost use Rattle.emtp_run.specs.Words.{files_of};
+ghost use Rattle.emtp_io.specs.Writes.{Makes};
+ghost use Rattle.emtp_machine.specs.History.{history};
+ghost use Rattle.emtp_machine.specs.Machine.{history_of};
+ghost use Rattle.emtp_run.specs.Outcome.{cfg, dat, note, summary, usage, writes_of, bad_card, Ends};
+ghost use Rattle.emtp_run.specs.Words.{files_of, task_of, Run, Trial};
 
-use crate::machine::Run;
 use crate::note;
 use crate::status::Status;
-use crate::words::RunWords;
+use crate::summary::of_trial;
+use crate::words::{RunWords, Words};
+use emtp_card::Bad;
 use emtp_case::Case;
 use emtp_comtrade::{scales, write_cfg, write_dat};
 use emtp_io::{Cabinet, Failed, Output, write_all};
-use emtp_machine::Samples;
+use emtp_machine::{End, Machine, Samples};
 
 /// Makes the configuration of the record.
 fn make_cfg<C: Cabinet>(
@@ -57,25 +60,63 @@ fn make_note<C: Cabinet>(cabinet: &mut C, text: &[u8]) -> Result<(), Failed>
     write_all(cabinet, Output::Note, text)
 }
 
-/// Makes the three outputs of a run, each after the one before it is whole.
-pub fn make_all<C: Cabinet>(
+/// Makes a summary of this text.
+fn make_summary<C: Cabinet>(cabinet: &mut C, text: &[u8]) -> Result<(), Failed>
+    ensures { Makes (C.state cabinet.old) (C.state cabinet.new) (summary text.now ∷ []) result }
+{
+    cabinet.create(Output::Summary, "")?;
+    write_all(cabinet, Output::Summary, text)
+}
+
+/// Makes the record and the note of a run, each output after the one before it is whole.
+fn make_record<C: Cabinet>(
     cabinet: &mut C,
     words: RunWords<'_>,
     case: &Case,
-    run: &Run,
+    machine: &Machine<'_>,
+    end: &Option<End>,
 ) -> Result<(), Failed>
-    requires channels { run.now.samples.channels ≡ length case.now.parts.channels }
-    requires samples { run.now.samples.rows ≡ samples case.now.parts (history case.now.parts) }
-    requires steps { run.now.steps ≡ length (history case.now.parts).records - 1 }
-    requires end { run.now.end ≡ (history case.now.parts).end }
+    requires case { machine.now.case ≡ case.now.parts }
+    requires run { history_of machine.now ≡ history case.now.parts }
+    requires end { end.now ≡ (history case.now.parts).end }
     ensures { Makes (C.state cabinet.old) (C.state cabinet.new)
-        (writes_of (files_of words.entry) case.now.parts (history case.now.parts)) result }
+        (writes_of (Run (files_of words.entry)) case.now.parts (history case.now.parts)) result }
 {
-    let multipliers = scales(case, &run.samples);
-    let text = note::of_run(run.end, run.steps, run.samples.count());
-    make_cfg(cabinet, words.cfg, case, &run.samples, &multipliers)?;
-    make_dat(cabinet, words.dat, case, &run.samples, &multipliers)?;
+    let samples = machine.samples();
+    let multipliers = scales(case, samples);
+    let text = note::of_run(end, machine.done(), samples.count(), machine.redone());
+    make_cfg(cabinet, words.cfg, case, samples, &multipliers)?;
+    make_dat(cabinet, words.dat, case, samples, &multipliers)?;
     make_note(cabinet, text.as_slice())
+}
+
+/// Makes what a run leaves: its record and note, or the summary of a trial.
+pub fn make_all<C: Cabinet>(
+    cabinet: &mut C,
+    words: Words<'_>,
+    case: &Case,
+    machine: &Machine<'_>,
+    end: &Option<End>,
+) -> Result<(), Failed>
+    requires case { machine.now.case ≡ case.now.parts }
+    requires run { history_of machine.now ≡ history case.now.parts }
+    requires end { end.now ≡ (history case.now.parts).end }
+    ensures { Makes (C.state cabinet.old) (C.state cabinet.new)
+        (writes_of (task_of words.entry) case.now.parts (history case.now.parts)) result }
+{
+    match words {
+        Words::Run(words) => make_record(cabinet, words, case, machine, end),
+        Words::Trial(number) => {
+            let text = of_trial(
+                number,
+                end,
+                machine.done(),
+                machine.redone(),
+                machine.samples(),
+            );
+            make_summary(cabinet, text.as_slice())
+        }
+    }
 }
 
 /// Makes the note of words that don't fit. Where that fails, the refusal stays.
@@ -86,9 +127,10 @@ pub fn refuse_words<C: Cabinet>(cabinet: &mut C)
     let _ = make_note(cabinet, note::usage().as_slice());
 }
 
-/// Makes the note of a card that doesn't fit its place. Where that fails, the refusal stays.
-pub fn refuse_card<C: Cabinet>(cabinet: &mut C, line: u32)
-    ensures { Ends Status.BadCard (Some (bad_card line)) (C.state cabinet.old) (C.state cabinet.new) }
+/// Makes the note of a refused card. Where that fails, the refusal stays.
+pub fn refuse_card<C: Cabinet>(cabinet: &mut C, bad: &Bad)
+    ensures ends { Ends Status.BadCard (Some (bad_card bad.now)) (C.state cabinet.old) (C.state cabinet.new) }
+    ensures unread { (C.state cabinet.new).unread ≡ (C.state cabinet.old).unread }
 {
-    let _ = make_note(cabinet, note::bad_card(line).as_slice());
+    let _ = make_note(cabinet, note::bad_card(bad).as_slice());
 }

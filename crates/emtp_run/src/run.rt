@@ -1,31 +1,41 @@
 //! The top call.
-ghost use Rattle.std.specs.Prelude.{◌≡◌, ◌≢◌, ◌↔◌, ◌-◌, ◌≤◌, Some, None, Ok, length, IsTrue, IsSome, IsErrOf, IfSome, OnOk, IfOk};
+ghost use Rattle.std.specs.Prelude.{◌≡◌, ◌≢◌, ◌↔◌, ◌<◌, Some, None, Ok, Err, IsTrue, IsSome, IsErrOf, IfSome, OnOk, IfOk, IfErr};
+ghost use Rattle.emtp_deck.specs.Answer.{IfBad};
 ghost use Rattle.emtp_io.specs.Cabinet.{Rose};
 ghost use Rattle.emtp_io.specs.declared.whole.ReadEnd.{ReadEnd};
-ghost use Rattle.emtp_run.specs.Deck.{deck};
-ghost use Rattle.emtp_run.specs.History.{history, samples, EndsWithin};
-ghost use Rattle.emtp_run.specs.Words.{texts, fits, files_of};
-ghost use Rattle.emtp_run.specs.Outcome.{accepted, case_for, case_of, outcome, outcome_for, outcome_of, outcome_by, case_at, status_of, Settles, HasStatusCause, Leaves, IsComplete, IsCalmRun, HasRoomFor, Ends};
+ghost use Rattle.emtp_machine.specs.History.{history};
+ghost use Rattle.emtp_machine.specs.Laws.{SamplesBalance};
+ghost use Rattle.emtp_machine.specs.Machine.{history_of};
+ghost use Rattle.emtp_run.specs.Outcome.{accepted, case_for, case_of, outcome, outcome_for, outcome_of, outcome_by, case_at, status_of, EndsWithin, Settles, HasStatusCause, IsFinished, Leaves, IsComplete, IsCalmRun, HasRoomFor, Ends, OpensNothing};
+ghost use Rattle.emtp_run.specs.Reading.{deck};
+ghost use Rattle.emtp_run.specs.TrialDeck.{trial_cards};
+ghost use Rattle.emtp_run.specs.Words.{IsTask, Run, Trial, texts, fits, files_of, task_of};
 
-use crate::deck::{Refused, read};
-use crate::machine::{Run, simulate};
 use crate::outputs::{make_all, refuse_card, refuse_words};
 use crate::status::Status;
-use crate::words::{RunWords, read_words};
+use crate::trial::trial_deck;
+use crate::words::{RunWords, Words, read_words};
+use emtp_card::{Cards, Refused};
 use emtp_case::Case;
+use emtp_deck::read;
+use emtp_fix::Steps;
 use emtp_io::{Cabinet, ReadEnd, read_all};
+use emtp_machine::{End, Machine};
 use std::alloc::Global;
+use std::marker::Brand;
+use std::sync::ledger::{Blank, Ledger};
 
 /// The most bytes of a case that are read.
 const BOUND: usize = 9_000_001;
 
-/// Does what the words after the program's name ask for: `run CASE CFG DAT` reads the cards of a case, steps its
-/// network by Dommel's method (1969), and makes the record (IEEE C37.111-1999) and a note.
+/// Does what the words after the program's name ask for: `run CASE CFG DAT` reads the cards of a case, steps it by
+/// Dommel's method (1969), and makes the record (IEEE C37.111-1999) and a note; `trial N` runs the trial case with N
+/// sections and makes its summary.
 ///
 /// Each status says how the outputs stand. The status of a refusal stays where its note can't be written.
 pub fn emtp<C: Cabinet>(alloc: Global, words: &[String], cabinet: &mut C) -> Status
     ensures usage { (result ≡ Status.Usage) ↔ (fits (texts words.now) ≡ None) }
-    ensures unopened { result ≡ Status.Usage → (C.state cabinet.new).unread ≡ (C.state cabinet.old).unread }
+    ensures unopened { OpensNothing (fits (texts words.now)) result (C.state cabinet.old) (C.state cabinet.new) }
     ensures nature { (C.state cabinet.new).nature ≡ (C.state cabinet.old).nature }
     ensures cause { HasStatusCause result (C.state cabinet.old) (C.state cabinet.new) }
 
@@ -36,7 +46,10 @@ pub fn emtp<C: Cabinet>(alloc: Global, words: &[String], cabinet: &mut C) -> Sta
     ensures outcome { IsTrue (C.state cabinet.old).nature.tells →
         Settles result (outcome (texts words.now) (C.state cabinet.old).nature.files)
         (C.state cabinet.old) (C.state cabinet.new) }
-    ensures early_end { IsTrue (C.state cabinet.old).nature.tells → result ≡ Status.Ended →
+    // Each sample that was written is that of a record in which the currents at each node or group balance.
+    ensures residual { IsTrue (C.state cabinet.old).nature.tells → IsFinished result →
+        IfSome (case_of (texts words.now) (C.state cabinet.old).nature.files) SamplesBalance }
+    ensures early_end { IsTrue (C.state cabinet.old).nature.tells → IsFinished result →
         IfSome (case_of (texts words.now) (C.state cabinet.old).nature.files) EndsWithin }
     ensures complete { IsTrue (C.state cabinet.old).nature.tells →
         IfSome (outcome (texts words.now) (C.state cabinet.old).nature.files)
@@ -46,7 +59,8 @@ pub fn emtp<C: Cabinet>(alloc: Global, words: &[String], cabinet: &mut C) -> Sta
         → IsCalmRun result (C.state cabinet.old) (C.state cabinet.new) }
 {
     match read_words(words) {
-        Some(words) => run_files(alloc, words, cabinet),
+        Some(Words::Run(words)) => run_files(alloc, words, cabinet),
+        Some(Words::Trial(number)) => run_trial(alloc, number, cabinet),
         None => {
             refuse_words(cabinet);
             Status::Usage
@@ -57,15 +71,33 @@ pub fn emtp<C: Cabinet>(alloc: Global, words: &[String], cabinet: &mut C) -> Sta
 /// Reads the file of the case, and runs it.
 fn run_files<C: Cabinet>(alloc: Global, words: RunWords<'_>, cabinet: &mut C) -> Status
     ensures no_usage { result ≢ Status.Usage }
-    ensures early_end { IsTrue (C.state cabinet.old).nature.tells → result ≡ Status.Ended →
-        IfSome (case_for (Some (files_of words.entry)) (C.state cabinet.old).nature.files) EndsWithin }
-    ensures ends { Ends result (outcome_for (Some (files_of words.entry)) (C.state cabinet.old).nature.files)
+    ensures residual { IsTrue (C.state cabinet.old).nature.tells → IsFinished result →
+        IfSome (case_for (Some (Run (files_of words.entry))) (C.state cabinet.old).nature.files) SamplesBalance }
+    ensures early_end { IsTrue (C.state cabinet.old).nature.tells → IsFinished result →
+        IfSome (case_for (Some (Run (files_of words.entry))) (C.state cabinet.old).nature.files) EndsWithin }
+    ensures ends { Ends result (outcome_for (Some (Run (files_of words.entry))) (C.state cabinet.old).nature.files)
         (C.state cabinet.old) (C.state cabinet.new) }
 {
     match read_case(alloc, words.case, cabinet) {
-        Ok(bytes) => run_bytes(alloc, words, &bytes, cabinet),
+        Ok(bytes) => run_bytes(alloc, Words::Run(words), &bytes, cabinet),
         Err(ReadEnd::Failed) => Status::ReadFault,
         Err(ReadEnd::NoMemory) => Status::NoMemory,
+    }
+}
+
+/// Runs the trial case of a number. It opens no file.
+fn run_trial<C: Cabinet>(alloc: Global, number: u32, cabinet: &mut C) -> Status
+    requires { IsTask (Trial number) }
+    ensures no_usage { result ≢ Status.Usage }
+    ensures unopened { OpensNothing (Some (Trial number)) result (C.state cabinet.old) (C.state cabinet.new) }
+    ensures residual { IsFinished result → IfSome (accepted (deck (trial_cards number))) SamplesBalance }
+    ensures early_end { IsFinished result → IfSome (accepted (deck (trial_cards number))) EndsWithin }
+    ensures ends { Ends result (Some (outcome_of (Trial number) (trial_cards number)))
+        (C.state cabinet.old) (C.state cabinet.new) }
+{
+    match trial_deck(alloc, number) {
+        Ok(bytes) => run_bytes(alloc, Words::Trial(number), &bytes, cabinet),
+        Err(_) => Status::NoMemory,
     }
 }
 
@@ -91,64 +123,110 @@ fn read_case<C: Cabinet>(alloc: Global, name: &str, cabinet: &mut C) -> Result<V
 /// Runs the case that these bytes give.
 fn run_bytes<C: Cabinet>(
     alloc: Global,
-    words: RunWords<'_>,
+    words: Words<'_>,
     bytes: &[u8],
     cabinet: &mut C,
 ) -> Status
     ensures no_usage { result ≢ Status.Usage }
     ensures no_read_fault { result ≢ Status.ReadFault }
-    ensures early_end { result ≡ Status.Ended → IfSome (accepted (deck bytes.now)) EndsWithin }
-    ensures ends { Ends result (Some (outcome_of (files_of words.entry) bytes.now))
+    ensures unread { (C.state cabinet.new).unread ≡ (C.state cabinet.old).unread }
+    ensures residual { IsFinished result → IfSome (accepted (deck bytes.now)) SamplesBalance }
+    ensures early_end { IsFinished result → IfSome (accepted (deck bytes.now)) EndsWithin }
+    ensures ends { Ends result (Some (outcome_of (task_of words.entry) bytes.now))
         (C.state cabinet.old) (C.state cabinet.new) }
 {
-    match read(alloc, bytes) {
+    match read_cards(alloc, bytes) {
         Ok(case) => run_case(alloc, words, &case, cabinet),
-        Err(Refused::NotBuilt(line)) => {
-            refuse_card(cabinet, line);
+        Err(Refused::Bad(bad)) => {
+            refuse_card(cabinet, &bad);
             Status::BadCard
         }
         Err(Refused::NoMemory) => Status::NoMemory,
     }
 }
 
-/// Steps the case, and makes its record and note.
-#[tactic(auto, using(crate::proofs::Ends::ends))]
-fn run_case<C: Cabinet>(alloc: Global, words: RunWords<'_>, case: &Case, cabinet: &mut C) -> Status
+/// The case of these bytes.
+fn read_cards(alloc: Global, bytes: &[u8]) -> Result<Case, Refused>
+    ensures ok { IfOk result (λ case. deck bytes.now ≡ Ok case.parts) }
+    ensures bad { IfErr result (λ refused. IfBad refused (λ bad. deck bytes.now ≡ Err bad)) }
+{
+    let cards = Cards::split(alloc, bytes)?;
+    read(alloc, &cards)
+}
+
+/// Runs the case, and makes its record and note, or its summary.
+fn run_case<C: Cabinet>(alloc: Global, words: Words<'_>, case: &Case, cabinet: &mut C) -> Status
     ensures no_usage { result ≢ Status.Usage }
     ensures no_read_fault { result ≢ Status.ReadFault }
-    ensures early_end { EndsWithin case.now.parts }
-    ensures ends { Ends result (Some (outcome_by (files_of words.entry) (Ok case.now.parts)))
+    ensures unread { (C.state cabinet.new).unread ≡ (C.state cabinet.old).unread }
+    ensures residual { IsFinished result → SamplesBalance case.now.parts }
+    ensures early_end { IsFinished result → EndsWithin case.now.parts }
+    ensures ends { Ends result (Some (outcome_by (task_of words.entry) (Ok case.now.parts)))
         (C.state cabinet.old) (C.state cabinet.new) }
 {
-    match simulate(alloc, case) {
-        Ok(run) => write_run(words, case, &run, cabinet),
+    match Machine::open(alloc, case) {
+        Ok(mut machine) => {
+            let end = run_machine(&mut machine);
+            write_run(words, case, &machine, &end, cabinet)
+        }
         Err(_) => Status::NoMemory,
     }
 }
 
-/// Makes the record and the note of a run, and answers how it ended.
-fn write_run<C: Cabinet>(words: RunWords<'_>, case: &Case, run: &Run, cabinet: &mut C) -> Status
-    requires channels { run.now.samples.channels ≡ length case.now.parts.channels }
-    requires samples { run.now.samples.rows ≡ samples case.now.parts (history case.now.parts) }
-    requires steps { run.now.steps ≡ length (history case.now.parts).records - 1 }
-    requires end { run.now.end ≡ (history case.now.parts).end }
+/// Makes all steps, and answers the end of the run, if it came.
+fn run_machine(machine: &mut Machine<'_>) -> Option<End>
+    ensures case { machine.new.case ≡ machine.old.case }
+    ensures run { history_of machine.new ≡ history machine.old.case }
+    ensures end { result ≡ (history machine.old.case).end }
+    ensures balance { SamplesBalance machine.old.case }
+    ensures names { EndsWithin machine.old.case }
+{
+    run_counted::<Brand>(machine, Blank::new(1))
+}
+
+/// The same, over a ledger that counts the rows that are eliminated.
+fn run_counted<L: Ledger>(machine: &mut Machine<'_>, blank: Blank) -> Option<End>
+    requires name { blank.name ≡ L.name }
+    requires parts { blank.parts ≡ L.parts }
+    requires some { 0 < blank.parts }
+    ensures case { machine.new.case ≡ machine.old.case }
+    ensures run { history_of machine.new ≡ history machine.old.case }
+    ensures end { result ≡ (history machine.old.case).end }
+    ensures balance { SamplesBalance machine.old.case }
+    ensures names { EndsWithin machine.old.case }
+{
+    machine.run(&mut Steps::<L>::new(blank))
+}
+
+/// Makes what a run leaves, and answers how it ended.
+fn write_run<C: Cabinet>(
+    words: Words<'_>,
+    case: &Case,
+    machine: &Machine<'_>,
+    end: &Option<End>,
+    cabinet: &mut C,
+) -> Status
+    requires case { machine.now.case ≡ case.now.parts }
+    requires run { history_of machine.now ≡ history case.now.parts }
+    requires end { end.now ≡ (history case.now.parts).end }
     ensures no_usage { result ≢ Status.Usage }
     ensures no_read_fault { result ≢ Status.ReadFault }
     ensures no_want { result ≢ Status.NoMemory }
-    ensures ends { Ends result (Some (outcome_by (files_of words.entry) (Ok case.now.parts)))
+    ensures unread { (C.state cabinet.new).unread ≡ (C.state cabinet.old).unread }
+    ensures ends { Ends result (Some (outcome_by (task_of words.entry) (Ok case.now.parts)))
         (C.state cabinet.old) (C.state cabinet.new) }
 {
-    match make_all(cabinet, words, case, run) {
-        Ok(()) => status_of(run),
+    match make_all(cabinet, words, case, machine, end) {
+        Ok(()) => status_of(end),
         Err(_) => Status::WriteFault,
     }
 }
 
 /// How a run ended: at its last step, or early.
-fn status_of(run: &Run) -> Status
-    ensures { result ≡ status_of run.now.end }
+fn status_of(end: &Option<End>) -> Status
+    ensures { result ≡ status_of end.now }
 {
-    match run.end {
+    match end {
         Some(_) => Status::Ended,
         None => Status::Done,
     }

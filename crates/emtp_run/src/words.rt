@@ -1,6 +1,7 @@
 //! The words of a command line.
-ghost use Rattle.std.specs.Prelude.{◌≡◌, option_map};
-ghost use Rattle.emtp_run.specs.Words.{texts, is_name, differ, fits, files_of};
+ghost use Rattle.std.specs.Char.{is_ascii_digit};
+ghost use Rattle.std.specs.Prelude.{◌≡◌, ◌-◌, ◌≤◌, [], ◌∷◌, option_map, IfSome, IsTrue};
+ghost use Rattle.emtp_run.specs.Words.{texts, is_name, is_leading, in_trial, differ, fits, task_of, trial_number, IsTask};
 
 /// The three files of `run CASE CFG DAT`, by their names.
 #[derive(Clone, Copy)]
@@ -13,23 +14,70 @@ pub struct RunWords<'a> {
     pub dat: &'a str,
 }
 
+/// What the words ask for.
+#[derive(Clone, Copy)]
+pub enum Words<'a> {
+    /// The run of a case from its file.
+    Run(RunWords<'a>),
+    /// The run of the trial case of a number, from 1 to 900.
+    Trial(u32),
+}
+
 /// What the words after the program's name ask for, where they fit. It takes no memory.
-pub fn read_words(words: &[String]) -> Option<RunWords<'_>>
-    ensures { option_map (λ r. files_of r) result ≡ fits (texts words.now) }
+pub fn read_words(words: &[String]) -> Option<Words<'_>>
+    ensures value { option_map (λ w. task_of w) result ≡ fits (texts words.now) }
+    ensures task { IfSome result (λ w. IsTask (task_of w)) }
 {
     match words {
-        [command, case, cfg, dat] => {
-            let (case, cfg, dat) = (case.as_str(), cfg.as_str(), dat.as_str());
-            if command.as_str() == "run"
-                && is_name(case)
-                && is_name(cfg)
-                && is_name(dat)
-                && differ(case, cfg, dat)
-            {
-                Some(RunWords { case, cfg, dat })
-            } else {
-                None
-            }
+        [] => None,
+        [_] => None,
+        [command, number] => trial_words(command.as_str(), number.as_str()),
+        [_, _, _] => None,
+        [command, case, cfg, dat] => run_words(
+            command.as_str(),
+            case.as_str(),
+            cfg.as_str(),
+            dat.as_str(),
+        ),
+        _ => None,
+    }
+}
+
+/// What `run CASE CFG DAT` names.
+fn run_words<'a>(command: &str, case: &'a str, cfg: &'a str, dat: &'a str) -> Option<Words<'a>>
+    ensures { option_map (λ w. task_of w) result ≡ fits (command.now ∷ case.entry.now ∷ cfg.entry.now ∷ dat.entry.now ∷ []) }
+{
+    if command == "run" && is_name(case) && is_name(cfg) && is_name(dat) && differ(case, cfg, dat) {
+        Some(Words::Run(RunWords { case, cfg, dat }))
+    } else {
+        None
+    }
+}
+
+/// The number of `trial N`.
+fn trial_words<'a>(command: &str, number: &str) -> Option<Words<'a>>
+    ensures value { option_map (λ w. task_of w) result ≡ fits (command.now ∷ number.now ∷ []) }
+    ensures task { IfSome result (λ w. IsTask (task_of w)) }
+{
+    if command != "trial" {
+        return None;
+    }
+    match trial_number(number.as_bytes()) {
+        Some(number) => Some(Words::Trial(number)),
+        None => None,
+    }
+}
+
+/// The number of a trial case: one to three digits without a leading 0, from 1 to 900.
+fn trial_number(word: &[u8]) -> Option<u32>
+    ensures value { result ≡ trial_number word.now }
+    ensures range { IfSome result (λ n. (1 ≤ n) × (n ≤ 900)) }
+{
+    match word {
+        [a] if is_leading(*a) => in_trial(digit(*a)),
+        [a, b] if is_leading(*a) && b.is_ascii_digit() => in_trial(10 * digit(*a) + digit(*b)),
+        [a, b, c] if is_leading(*a) && b.is_ascii_digit() && c.is_ascii_digit() => {
+            in_trial(100 * digit(*a) + 10 * digit(*b) + digit(*c))
         }
         _ => None,
     }
@@ -48,4 +96,23 @@ fn differ(a: &str, b: &str, c: &str) -> bool
     ensures { result ≡ differ a.now b.now c.now }
 {
     a != b && a != c && b != c
+}
+
+fn is_leading(byte: u8) -> bool
+    ensures { result ≡ is_leading byte }
+{
+    byte.is_ascii_digit() && byte != b'0'
+}
+
+fn digit(byte: u8) -> u32
+    requires { IsTrue (is_ascii_digit byte) }
+    ensures { result ≡ byte - 48 }
+{
+    u32::from(byte - b'0')
+}
+
+fn in_trial(number: u32) -> Option<u32>
+    ensures { result ≡ in_trial number }
+{
+    if number <= 900 { Some(number) } else { None }
 }

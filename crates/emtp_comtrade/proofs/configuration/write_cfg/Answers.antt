@@ -30,7 +30,7 @@ returns g c =
     let tail = cfg_tail p (length rows) in
     let head : c.push_head.new.text ≡ cfg_head p = c.push_head.ensures.text ∙ ap (λ (xs : List ℕ). xs ++ cfg_head p) c.new-text.ensures in
     let end : c.push_tail.new.text ≡ c.write_status_lines.new.text ++ tail =
-    c.push_tail.ensures.text ∙ ap (λ (n : ℕ). c.write_status_lines.new.text ++ cfg_tail p n) c.count.ensures in
+    c.push_tail.ensures.text ∙ ap (λ (n : ℕ). c.write_status_lines.new.text ++ cfg_tail p n) c.count.ensures.value in
     let both = gathers-more status c.in_ok-write_analog_lines.ensures.text c.in_ok-write_status_lines.ensures.text in
     subst (λ (xs : List ℕ). Appends (g.C.Cabinet.state c.args.cabinet.now) (g.C.Cabinet.state c.flush.new.cabinet) Cfg (((xs ++ analog) ++ status) ++ tail) c.flush.result)
     head

@@ -2,7 +2,7 @@ use Rattle.std.proofs.Common.{◌∙◌, ◌+◌, ◌++◌, ap, sym, subst, drop
 use Rattle.emtp_machine.proofs.Machines.{ends, has_room, is_left, is_running, passes, six, takes, ticks-ended, ticks-made, written}
 use Rattle.emtp_machine.specs.Control.{standing_values}
 use Rattle.emtp_case.specs.declared.case.Parts.{Parts}
-use Rattle.emtp_net.specs.Network.{NamesNode}
+use Rattle.emtp_net.specs.Fault.{NamesNode}
 use Rattle.emtp_machine.specs.History.{history_upto}
 use Rattle.emtp_machine.specs.Machine.{tried_of}
 use Rattle.emtp_machine.proofs.machine.Machine.advance.Goals as goal
@@ -76,4 +76,4 @@ returns-in-Err-clause-ticks g c =
     let case = m.case.now.parts in
     let none = is_running c.args.self.now case m.made m.end c.self.view_is c.requires.running c.self.invariant.ended in
     ticks-ended c.args.self.now case m.made m.end m.network c.step.new.self m.values.items m.row.items m.samples c.in-Err.fault c.args.steps.now c.step.new.steps c.end_of.result c.self.view_is none c.self.invariant
-        (λ H stands are. c.in-Err.ensures.step H stands (c.deref.ensures.value ∙ are)) (λ H stands are. c.in-Err.ensures.fault_ticks H stands (c.deref.ensures.value ∙ are))
+        (λ H stands are. c.in-Err.ensures.step H stands (c.deref.ensures.value ∙ are)) (record { most = λ H stands are. c.step.ensures.most H stands (c.deref.ensures.value ∙ are); tied = λ H node stands are. c.step.ensures.tied H node stands (c.deref.ensures.value ∙ are) })

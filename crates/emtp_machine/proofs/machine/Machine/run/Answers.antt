@@ -1,7 +1,9 @@
-use Rattle.std.proofs.Common.{subst, ◌≤◌}
+use Rattle.std.proofs.Common.{◌∙◌, ap, subst}
 use Rattle.emtp_case.specs.declared.case.Parts.{Parts}
 use Rattle.emtp_machine.specs.Machine.{Progress}
 use Rattle.emtp_machine.proofs.Machines.{run-all, run-most, steps_of, whole_history}
+use Rattle.emtp_machine.proofs.SampleRecords.{are_of}
+use Rattle.emtp_machine.specs.Laws.{SamplesBalance}
 use Rattle.emtp_machine.proofs.machine.Machine.run.Goals as goal
 
 pub returns-clause-rows : goal.returns-clause-rows
@@ -15,3 +17,8 @@ returns-clause-most g c = λ fresh.
     let m = c.self.inside in
     let some = steps_of c.args.self.now c.steps.self m.case.now.parts m.made m.end c.steps.invariant.same_case c.self.view_is m.case.now.fits.draft.run.some_steps in
     run-most c.args.self.now c.steps.self c.args.steps.now c.steps.steps c.steps.invariant.ticked c.steps.invariant.same_case c.steps-test.ensures.over (whole_history c.args.self.now.case some) fresh
+
+pub returns-clause-balance : goal.returns-clause-balance
+returns-clause-balance g c =
+    let case = c.self.inside.case.now in
+    subst (λ (p : Parts). SamplesBalance p) (ap (λ (q : Progress). q.case) c.self.view_is ∙ c.steps.invariant.same_case) (are_of case.parts case.fits.draft.run.some_every)

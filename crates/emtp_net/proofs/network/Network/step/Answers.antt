@@ -1,4 +1,4 @@
-use Rattle.std.proofs.Common.{◌∙◌, ◌∷◌, ◌<◌, ◌≤◌, ◌+◌, sym, ap, subst, All, length, unsigned_abs, Err, refl, arith}
+use Rattle.std.proofs.Common.{◌≡◌, ◌∙◌, ◌∷◌, ◌<◌, ◌≤◌, ◌+◌, sym, ap, subst, All, length, unsigned_abs, Err, refl, arith}
 use Rattle.std.specs.Vec.{with_items}
 use Rattle.std.proofs.lemmas.List.{with_items_is}
 use Rattle.std.proofs.lemmas.Result.{err_from_is_err_and}
@@ -10,6 +10,9 @@ use Rattle.emtp_net.specs.Network.{Net, StandsFor}
 use Rattle.emtp_net.specs.Stages.{AreVoltages}
 use Rattle.emtp_net.proofs.Factoring.{holds_kinds}
 use Rattle.emtp_net.proofs.Holding.{few_next}
+use Rattle.emtp_net.specs.Step.{network_part}
+use Rattle.emtp_net.specs.declared.fault.NetFault.TheVariants.{Tied}
+use Rattle.emtp_net.proofs.Tying.{free_isnt_tied}
 use Rattle.emtp_net.proofs.Stepping.{HasStepped, err_steps, judge_steps, latest_is, posed_is, ready_is}
 use Rattle.emtp_net.proofs.network.Network.step.Goals as goal
 
@@ -269,3 +272,38 @@ returns-clause-step g c = λ H stands tacs.
     } in
     judge_steps seen c.args.self.now left H vs c.find_currents.new.out c.judge.result c.self.view_is stood stepped voltages has
     (c.judge.ensures.judged H vs c.find_currents.new.out voltages moved.in_range has kinds leaving) (c.judge.ensures.ends H vs c.find_currents.new.out voltages moved.in_range has kinds leaving)
+
+pub returns-in_err-factor-clause-tied : goal.returns-in_err-factor-clause-tied
+returns-in_err-factor-clause-tied g c = λ H node stands tacs tied.
+    let stood = subst (λ (s : Net). StandsFor s H) (sym c.self.view_is) stands in
+    let last = latest_is _ H c.deref.result.now c.deref-2.result.now c.args.tacs.now stood c.deref.ensures.value c.deref-2.ensures.value tacs in
+    let decided = c.in_ok-decide.ensures.decided H stood.switches last in
+    absurd (free_isnt_tied c.self.inside.case.now.parts H node decided.free (subst (λ (s : Net). network_part s.case H ≡ Err (Tied node)) (sym c.self.view_is) tied))
+
+pub returns-in_err-solve-clause-tied : goal.returns-in_err-solve-clause-tied
+returns-in_err-solve-clause-tied g c = λ H node stands tacs tied.
+    let stood = subst (λ (s : Net). StandsFor s H) (sym c.self.view_is) stands in
+    let last = latest_is _ H c.deref.result.now c.deref-2.result.now c.args.tacs.now stood c.deref.ensures.value c.deref-2.ensures.value tacs in
+    let decided = c.in_ok-decide.ensures.decided H stood.switches last in
+    absurd (free_isnt_tied c.self.inside.case.now.parts H node decided.free (subst (λ (s : Net). network_part s.case H ≡ Err (Tied node)) (sym c.self.view_is) tied))
+
+pub returns-in_err-accept-clause-tied : goal.returns-in_err-accept-clause-tied
+returns-in_err-accept-clause-tied g c = λ H node stands tacs tied.
+    let stood = subst (λ (s : Net). StandsFor s H) (sym c.self.view_is) stands in
+    let last = latest_is _ H c.deref.result.now c.deref-2.result.now c.args.tacs.now stood c.deref.ensures.value c.deref-2.ensures.value tacs in
+    let decided = c.in_ok-decide.ensures.decided H stood.switches last in
+    absurd (free_isnt_tied c.self.inside.case.now.parts H node decided.free (subst (λ (s : Net). network_part s.case H ≡ Err (Tied node)) (sym c.self.view_is) tied))
+
+pub returns-in_err-find_currents-clause-tied : goal.returns-in_err-find_currents-clause-tied
+returns-in_err-find_currents-clause-tied g c = λ H node stands tacs tied.
+    let stood = subst (λ (s : Net). StandsFor s H) (sym c.self.view_is) stands in
+    let last = latest_is _ H c.deref.result.now c.deref-2.result.now c.args.tacs.now stood c.deref.ensures.value c.deref-2.ensures.value tacs in
+    let decided = c.in_ok-decide.ensures.decided H stood.switches last in
+    absurd (free_isnt_tied c.self.inside.case.now.parts H node decided.free (subst (λ (s : Net). network_part s.case H ≡ Err (Tied node)) (sym c.self.view_is) tied))
+
+pub returns-clause-tied : goal.returns-clause-tied
+returns-clause-tied g c = λ H node stands tacs tied.
+    let stood = subst (λ (s : Net). StandsFor s H) (sym c.self.view_is) stands in
+    let last = latest_is _ H c.deref.result.now c.deref-2.result.now c.args.tacs.now stood c.deref.ensures.value c.deref-2.ensures.value tacs in
+    let decided = c.in_ok-decide.ensures.decided H stood.switches last in
+    absurd (free_isnt_tied c.self.inside.case.now.parts H node decided.free (subst (λ (s : Net). network_part s.case H ≡ Err (Tied node)) (sym c.self.view_is) tied))

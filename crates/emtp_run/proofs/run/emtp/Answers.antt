@@ -1,0 +1,10 @@
+use Rattle.std.proofs.Common.{◌≡◌, ◌∙◌, ap, sym, Some}
+use Rattle.emtp_run.proofs.Endings.{run-complete}
+use Rattle.emtp_run.specs.Words.{Run, files_of, fits, task_of, texts}
+use Rattle.emtp_run.specs.declared.words.Words.{Words}
+use Rattle.emtp_run.proofs.run.emtp.Goals as goal
+
+pub returns-in-Some-Run-clause-complete : goal.returns-in-Some-Run-clause-complete
+returns-in-Some-Run-clause-complete g c = λ tells.
+    let task = sym c.in-Some-Run.ensures.value ∙ ap (λ (w : Words). Some (task_of w)) c.in-Some-Run.field-0-is in
+    run-complete _ _ c.run_files.result _ (Run (files_of c.in-Some-Run.words)) _ task c.run_files.ensures.ends tells

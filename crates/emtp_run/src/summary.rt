@@ -1,0 +1,61 @@
+//! The summary of a trial.
+ghost use Rattle.std.specs.Prelude.{◌≡◌, ◌+◌, ◌≤◌, ◌++◌, length};
+ghost use Rattle.emtp_run.specs.Summary.{peak_of, sums_text, trial_head, trial_summary};
+
+use crate::note::{push_done, push_ended};
+use crate::text::{Text, push, push_number};
+use emtp_machine::{End, Samples};
+
+/// The summary of the trial of a number, with the end of the step after the last one, if it came.
+#[tactic(auto, unfolding(crate::specs::Summary::trial_summary))]
+pub fn of_trial(number: u32, end: &Option<End>, steps: u32, redone: u64, samples: &Samples) -> Text
+    ensures { result.items ≡ trial_summary number end.now steps redone samples.now.rows samples.now.channels }
+{
+    let mut text = Text::new();
+    push_head(&mut text, number);
+    match end {
+        Some(end) => {
+            push(&mut text, b" ");
+            push_ended(&mut text, end, samples.count(), redone);
+        }
+        None => {
+            push_done(&mut text, steps, samples.count(), redone);
+            push_sums(&mut text, samples);
+        }
+    }
+    text
+}
+
+#[tactic(auto, unfolding(crate::specs::Summary::trial_head))]
+fn push_head(text: &mut Text, number: u32)
+    requires { length text.old.items ≤ 0 }
+    ensures text { text.new.items ≡ text.old.items ++ trial_head number }
+    ensures length { length text.new.items ≤ 46 }
+{
+    push(text, b"TRIAL ");
+    push_number(text, number);
+}
+
+/// Puts the greatest magnitude of the first channel and the sum of all values after the text.
+#[tactic(auto, unfolding(crate::specs::Summary::sums_text))]
+fn push_sums(text: &mut Text, samples: &Samples)
+    requires { length text.old.items ≤ 250 }
+    ensures { text.new.items ≡ text.old.items ++ sums_text samples.now.rows samples.now.channels }
+{
+    push(text, b" PEAK ");
+    push_number(text, peak(samples));
+    push(text, b" SUM ");
+    push_number(text, samples.total());
+    push(text, b"\n");
+}
+
+/// The greatest magnitude of the first channel, or 0 where there is none.
+fn peak(samples: &Samples) -> u64
+    ensures { result ≡ peak_of samples.now.rows samples.now.channels }
+{
+    if samples.channels() == 0 {
+        0
+    } else {
+        samples.greatest(0)
+    }
+}

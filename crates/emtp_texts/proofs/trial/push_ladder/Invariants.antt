@@ -1,6 +1,0 @@
-use Rattle.std.proofs.Common.{◌≡◌, ◌++◌}
-use Rattle.emtp_texts.specs.TrialDeck.{ladder_cards}
-use Rattle.emtp_texts.proofs.trial.push_ladder.Given as goal
-
-abbrev pub invariant-loop-section : goal.invariant-loop-section
-invariant-loop-section l = l.cards.items ≡ l.initial.cards.items ++ ladder_cards l.section

@@ -1,4 +1,0 @@
-pub mod Words
-pub mod Note
-pub mod TrialDeck
-pub mod Summary
