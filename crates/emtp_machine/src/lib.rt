@@ -19,6 +19,8 @@ mod machine;
 mod samples;
 
 pub use end::{Cause, End};
-pub use laws::{each_record_balances, end_is_the_first_refusal, records_are_a_chain, samples_balance};
+pub use laws::{
+    each_record_balances, end_is_the_first_refusal, records_are_a_chain, samples_balance,
+};
 pub use machine::Machine;
 pub use samples::Samples;

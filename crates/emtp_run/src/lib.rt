@@ -22,3 +22,4 @@ mod words;
 pub use run::emtp;
 pub use status::Status;
 pub use trial::trial_deck;
+pub use words::{RunWords, Words, read_words};

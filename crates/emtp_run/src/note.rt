@@ -3,9 +3,9 @@ ghost use Rattle.std.specs.Fmt.{signed_decimal};
 ghost use Rattle.std.specs.Prelude.{◌≡◌, ◌+◌, ◌≤◌, ◌++◌, length, decimal};
 ghost use Rattle.emtp_run.specs.Note.{usage_note, card_note, cause_word, counts_text, done_note, done_text, ended_note, measured_text, note_by, reason_name};
 
-use emtp_machine::{Cause, End};
 use crate::text::{Text, push, push_number};
 use emtp_card::{Bad, Why};
+use emtp_machine::{Cause, End};
 
 /// The note of words that don't fit.
 #[tactic(auto, unfolding(crate::specs::Note::usage_note))]

@@ -121,12 +121,7 @@ fn read_case<C: Cabinet>(alloc: Global, name: &str, cabinet: &mut C) -> Result<V
 }
 
 /// Runs the case that these bytes give.
-fn run_bytes<C: Cabinet>(
-    alloc: Global,
-    words: Words<'_>,
-    bytes: &[u8],
-    cabinet: &mut C,
-) -> Status
+fn run_bytes<C: Cabinet>(alloc: Global, words: Words<'_>, bytes: &[u8], cabinet: &mut C) -> Status
     ensures no_usage { result ≢ Status.Usage }
     ensures no_read_fault { result ≢ Status.ReadFault }
     ensures unread { (C.state cabinet.new).unread ≡ (C.state cabinet.old).unread }

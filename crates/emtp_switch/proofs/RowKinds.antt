@@ -132,7 +132,7 @@ kinds_are p rows plan states kinds plan_is none few are =
           let inside : i < n = omega (arith, early, few, plan_is.same_nodes) in
           get_or-map (kind_of p rows labels) rows.nodes i 0 Ground inside ∙ source_row p rows plan states i plan_is none early inside;
       ties = subst (λ m. All (TieIsThere m) (map (kind_of p rows labels) rows.nodes)) plan_is.same_nodes
-      (All-map (TieIsThere n) (kind_of p rows labels) rows.nodes (λ k d inside. tie_there p rows plan labels (slice_index_or rows.nodes k d) plan_is (within rows p plan k d plan_is inside)));
+          (All-map (TieIsThere n) (kind_of p rows labels) rows.nodes (λ k d inside. tie_there p rows plan labels (slice_index_or rows.nodes k d) plan_is (within rows p plan k d plan_is inside)));
     })
   where
     within : (rows : Rows) (p : Parts) (plan : Plan) (k d : ℕ) → IsPlan p rows plan → k < length rows.nodes → slice_index_or rows.nodes k d ≤ length rows.nodes

@@ -60,11 +60,7 @@ impl<'a> Model for Switches<'a> {
 
 impl<'a> Switches<'a> {
     /// The switches of record 0. They keep their own copy of the row order.
-    pub fn open(
-        alloc: Global,
-        case: &'a Case,
-        order: &RowOrder,
-    ) -> Result<Switches<'a>, AllocError>
+    pub fn open(alloc: Global, case: &'a Case, order: &RowOrder) -> Result<Switches<'a>, AllocError>
         requires order { IsRowOrder case.now.parts order.now }
         ensures case { IfOk result (λ s. s.case ≡ case.now.parts) }
         ensures rows { IfOk result (λ s. s.rows ≡ order.now) }

@@ -44,7 +44,8 @@ const DAT: &str = concat!(
 const NOTE: &str = "DONE STEPS 3 SAMPLES 4 REDONE 0\n";
 
 /// The summary of one section, by a program of others.
-const TRIAL: &str = "TRIAL 1 STEPS 2000 SAMPLES 101 REDONE 4 PEAK 145543352911428 SUM 1189507906597277\n";
+const TRIAL: &str =
+    "TRIAL 1 STEPS 2000 SAMPLES 101 REDONE 4 PEAK 145543352911428 SUM 1189507906597277\n";
 
 const RUN: [&str; 4] = ["run", "a.case", "a.cfg", "a.dat"];
 
