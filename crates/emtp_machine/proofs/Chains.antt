@@ -9,8 +9,11 @@ use Rattle.emtp_net.specs.Step.{network_part}
 use Rattle.emtp_net.specs.declared.fault.NetFault.{NetFault}
 use Rattle.emtp_machine.specs.History.{History, advanced, after_step, end_at, history_upto}
 use Rattle.emtp_machine.specs.Laws.{IsBalanced, IsChain, IsRefusal, records_upto}
-use Rattle.emtp_machine.specs.Next.{Fault, next, with_control}
+use Rattle.emtp_machine.specs.Next.{Fault, joined, measured_of, next, with_control}
 use Rattle.emtp_machine.specs.declared.end.End.{End}
+use Rattle.emtp_tacs.specs.Part.{ControlPart}
+use Rattle.emtp_tacs.specs.Step.{control_step}
+use Rattle.emtp_tacs.specs.declared.fault.TacsFault.{TacsFault}
 
 chain_more : (case : Parts) (H : List StepRecord) (r : StepRecord) → IsChain case H → next case H ≡ Ok r → IsChain case (r ∷ H)
 chain_more case [] r chain is = absurd chain
@@ -50,9 +53,13 @@ ends_well case (suc n) = ends_advanced case (history_upto case n) (history_upto 
 
 -- ---- residuals
 
+joined_branches : (case : Parts) (part : NetworkPart) (q : Result ControlPart TacsFault) (r : StepRecord) → joined case part q ≡ Ok r → part.branches ≡ r.branches
+joined_branches case part (Ok control) r is = cc
+joined_branches case part (Err fault) r is = absurd (cc)
+
 balanced_by : (case : Parts) (H : List StepRecord) (r : StepRecord) (p : Result NetworkPart NetFault) → network_part case H ≡ p → with_control case H p ≡ Ok r → (row : ℕ) → row < length case.nodes → residual_of case H r.branches row ≤ unsigned_abs case.run.tolerance
 balanced_by case H r (Ok part) is made row below =
-    let same : part.branches ≡ r.branches = cc in
+    let same = joined_branches case part (control_step case H (measured_of part)) r made in
     rw (← same) (residual_small case H part is row below)
 balanced_by case H r (Err fault) is made row below = absurd (cc)
 

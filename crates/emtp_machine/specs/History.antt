@@ -3,6 +3,7 @@ use Rattle.std.specs.Prelude.{ℕ, zero, suc, ◌+◌, ℤ, List, [], ◌∷◌,
 use Rattle.emtp_case.specs.StepRecord.{StepRecord, rest_of}
 use Rattle.emtp_case.specs.declared.case.Parts.{Parts}
 use Rattle.emtp_net.specs.Redone.{net_redone, net_ticks, step_redone, step_ticks}
+use Rattle.emtp_tacs.specs.Redone.{control_redone, control_step_redone, control_step_ticks, control_ticks}
 use Rattle.emtp_machine.specs.Channels.{samples_in}
 use Rattle.emtp_machine.specs.Next.{Fault, next}
 use Rattle.emtp_machine.specs.declared.end.Cause.{Cause}
@@ -43,14 +44,23 @@ samples case h = samples_in case h.records
 
 -- ---- rows redone
 
--- the rows that the step of an end redoes: none where the switches tie two known voltages, since no matrix is made
+-- the rows of the network's matrix and of the control's that the steps of the records redid
+abbrev pub rows_redone : Parts → List StepRecord → ℕ
+rows_redone case H = net_redone case H + control_redone case H
+
+-- those that the next step redoes
+abbrev pub next_redone : Parts → List StepRecord → ℕ
+next_redone case H = step_redone case H + control_step_redone case H
+
+-- the rows that the step of an end redoes: none where the switches tie two known voltages, since no matrix is made; those
+-- of the network alone where the control wasn't reached
 abbrev pub redone_by : Cause → Parts → List StepRecord → ℕ
 redone_by Tied case H = 0
 redone_by ZeroPivot case H = step_redone case H
 redone_by Range case H = step_redone case H
 redone_by Residual case H = step_redone case H
-redone_by TacsPivot case H = step_redone case H
-redone_by TacsRange case H = step_redone case H
+redone_by TacsPivot case H = next_redone case H
+redone_by TacsRange case H = next_redone case H
 
 abbrev pub redone_in : Option End → Parts → List StepRecord → ℕ
 redone_in None case H = 0
@@ -58,9 +68,17 @@ redone_in (Some end) case H = redone_by end.cause case H
 
 -- the rows redone from the second step on, those of the end's step among them
 abbrev pub redone : Parts → History → ℕ
-redone case h = net_redone case h.records + redone_in h.end case h.records
+redone case h = rows_redone case h.records + redone_in h.end case h.records
 
 -- ---- rows eliminated
+
+-- the rows of both matrices that the steps of the records eliminated
+abbrev pub rows_eliminated : Parts → List StepRecord → ℕ
+rows_eliminated case H = net_ticks case H + control_ticks case H
+
+-- those that the next step eliminates
+abbrev pub next_ticks : Parts → List StepRecord → ℕ
+next_ticks case H = step_ticks case H + control_step_ticks case H
 
 -- the most rows that the step of an end eliminates
 abbrev pub ticks_by : Cause → Parts → List StepRecord → ℕ
@@ -68,8 +86,8 @@ ticks_by Tied case H = 0
 ticks_by ZeroPivot case H = step_ticks case H
 ticks_by Range case H = step_ticks case H
 ticks_by Residual case H = step_ticks case H
-ticks_by TacsPivot case H = step_ticks case H
-ticks_by TacsRange case H = step_ticks case H
+ticks_by TacsPivot case H = next_ticks case H
+ticks_by TacsRange case H = next_ticks case H
 
 abbrev pub ticks_in : Option End → Parts → List StepRecord → ℕ
 ticks_in None case H = 0
@@ -77,8 +95,8 @@ ticks_in (Some end) case H = ticks_by end.cause case H
 
 -- the rows eliminated in all steps; at most so many where the history has an end
 abbrev pub ticks : Parts → History → ℕ
-ticks case h = net_ticks case h.records + ticks_in h.end case h.records
+ticks case h = rows_eliminated case h.records + ticks_in h.end case h.records
 
 -- the rows that a whole run eliminates: all of the first step, and then those redone; at most so many where the run ends early
 abbrev pub rows_of_run : Parts → ℕ
-rows_of_run case = length case.nodes + redone case (history case)
+rows_of_run case = length case.nodes + length case.blocks + redone case (history case)

@@ -1,7 +1,7 @@
 pub mod Samples
-pub mod Control
 pub mod Next
 pub mod Channels
 pub mod History
+pub mod Controlled
 pub mod Machine
 pub mod Laws

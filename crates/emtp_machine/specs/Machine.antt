@@ -1,11 +1,11 @@
 -- What a machine stands for.
-use Rattle.std.specs.Prelude.{◌≡◌, ◌⊎◌, ◌≢◌, ℕ, ◌+◌, ◌-◌, ◌*◌, ◌<◌, ◌≤◌, ℤ, pos, List, drop, length, replicate, Contains, Option, Some, None, IfSome, Result, Ok, Err}
+use Rattle.std.specs.Prelude.{◌≡◌, ◌⊎◌, ◌≢◌, ℕ, ◌+◌, ◌*◌, ◌<◌, ◌≤◌, ℤ, List, length, Option, Some, None, IfSome, Result, Ok, Err}
 use Rattle.emtp_case.specs.RunData.{samples_of}
-use Rattle.emtp_case.specs.StepRecord.{StepRecord, latest}
 use Rattle.emtp_case.specs.declared.case.Parts.{Parts}
-use Rattle.emtp_net.specs.Network.{Net, StandsFor}
+use Rattle.emtp_machine.specs.Controlled.{IsNamed, IsOf, StandsFor, redone_of}
 use Rattle.emtp_machine.specs.History.{History, history_upto, redone, samples, ticks}
 use Rattle.emtp_machine.specs.Samples.{Sampled}
+use Rattle.emtp_machine.specs.declared.controlled.ControlledNetwork.{ControlledNetwork}
 use Rattle.emtp_machine.specs.declared.end.End.{End}
 
 -- what a contract sees of a machine: its case, and how many steps were tried, the one that ended the run among them
@@ -31,11 +31,11 @@ pub record HasTicked (m n : Progress) (before now : ℕ) : Type 0 where
   pub most : now + ticks m.case (history_of m) ≤ before + ticks n.case (history_of n)
   pub all : (history_of n).end ≡ None → now + ticks m.case (history_of m) ≡ before + ticks n.case (history_of n)
 
--- an end names a step of the run and a node of the case
+-- an end names a step of the run and a node or a variable of the case
 pub record IsEnd (case : Parts) (end : End) : Type 0 where
   pub some : 1 ≤ end.step
   pub within : end.step ≤ case.run.steps
-  pub node : Contains case.nodes end.name
+  pub named : IsNamed case end.name
 
 -- ---- how the fields of a machine hold together
 
@@ -43,16 +43,6 @@ pub record IsEnd (case : Parts) (end : End) : Type 0 where
 abbrev pub tried_of : ℕ → Option End → ℕ
 tried_of made None = made
 tried_of made (Some end) = made + 1
-
--- the network and the values of the control are those of the last record; after the end nothing reads them
-pub record IsRunning (case : Parts) (network : Net) (values : List ℤ) (h : History) : Type 0 where
-  pub network_stands : StandsFor network h.records
-  pub values_are : values ≡ (latest h.records).values
-
--- the values of variables that cards define stay at 0
-pub record AreValues (case : Parts) (values : List ℤ) : Type 0 where
-  pub each : length values ≡ length case.vars
-  pub others : drop 6 values ≡ replicate (length case.vars - 6) (pos 0)
 
 -- the samples are those of the history, and there is room for the others
 pub record AreSamples (case : Parts) (row : List ℤ) (s : Sampled) (made : ℕ) (h : History) : Type 0 where
@@ -62,14 +52,14 @@ pub record AreSamples (case : Parts) (row : List ℤ) (s : Sampled) (made : ℕ)
   pub sampled : s.rows ≡ samples case h
   pub few : length s.rows * case.run.every ≤ made + case.run.every
 
--- the machine has made so many steps of the history, of which this is the end
-pub record IsMachine (case : Parts) (network : Net) (values row : List ℤ) (s : Sampled) (made : ℕ) (end : Option End) (h : History) : Type 0 where
-  pub case_is : network.case ≡ case
-  pub running : end ≡ None → IsRunning case network values h
-  pub control : AreValues case values
+-- the machine has made so many steps of the history, of which this is the end; after the end nothing reads the network or
+-- the control
+pub record IsMachine (case : Parts) (network : ControlledNetwork) (row : List ℤ) (s : Sampled) (made : ℕ) (end : Option End) (h : History) : Type 0 where
+  pub case_is : IsOf case network
+  pub running : end ≡ None → StandsFor network h.records
   pub samples_are : AreSamples case row s made h
   pub ended : h.end ≡ end
   pub count : length h.records ≡ made + 1
   pub few : tried_of made end ≤ case.run.steps
-  pub redone_is : network.redone ≡ redone case h
+  pub redone_is : redone_of network ≡ redone case h
   pub names : IfSome end (IsEnd case)

@@ -5,12 +5,12 @@ ghost use Rattle.emtp_case.specs.Channel.{IsChannel};
 ghost use Rattle.emtp_case.specs.Sizes.{sizes_of};
 ghost use Rattle.emtp_case.specs.StepRecord.{StepRecord, latest};
 ghost use Rattle.emtp_machine.specs.Channels.{channel_value, sample_of, within_range};
-ghost use Rattle.emtp_net.specs.Network.{StandsFor};
+ghost use Rattle.emtp_machine.specs.Controlled.{IsOf, StandsFor};
 
+use crate::controlled::ControlledNetwork;
 use crate::samples::Samples;
 use emtp_case::{Case, Channel};
 use emtp_fix::LARGEST_VALUE;
-use emtp_net::Network;
 
 /// The voltage from one node to another, in nV, held within the range of voltages.
 fn voltage_between(voltages: &[i64], from: u32, to: u32) -> i64
@@ -24,13 +24,12 @@ fn voltage_between(voltages: &[i64], from: u32, to: u32) -> i64
 }
 
 /// The value of a channel at the last record: nV, nA or 10^-9 of a unit, and 0 or 1 of a status.
-fn value(case: &Case, network: &Network<'_>, values: &[i64], channel: Channel) -> i64
-    requires case { network.now.case ≡ case.now.parts }
-    requires values { length values.now ≡ length case.now.parts.vars }
+fn value(case: &Case, last: &ControlledNetwork<'_>, channel: Channel) -> i64
+    requires case { IsOf case.now.parts last.now }
     requires there { IsChannel (sizes_of case.now.parts) channel }
-    ensures { (H : List StepRecord) → StandsFor network.now H → values.now ≡ (latest H).values
-        → result ≡ channel_value case.now.parts (latest H) channel }
+    ensures { (H : List StepRecord) → StandsFor last.now H → result ≡ channel_value case.now.parts (latest H) channel }
 {
+    let network = &last.network;
     match channel {
         Channel::NodeVoltage(node) => network.voltages()[node as usize],
         Channel::BranchCurrent(branch) => network.branch_current(branch as usize),
@@ -43,42 +42,38 @@ fn value(case: &Case, network: &Network<'_>, values: &[i64], channel: Channel) -
             let switch = case.parts.switches.as_slice()[switch as usize];
             voltage_between(network.voltages(), switch.from, switch.to)
         }
-        Channel::Tacs(var) => values[var as usize],
+        Channel::Tacs(var) => last.control.values()[var as usize],
         Channel::Status(switch) => i64::from(network.closed()[switch as usize]),
     }
 }
 
 /// Writes the values of all channels at the last record.
-fn fill_row(case: &Case, network: &Network<'_>, values: &[i64], row: &mut [i64])
-    requires case { network.now.case ≡ case.now.parts }
-    requires values { length values.now ≡ length case.now.parts.vars }
+fn fill_row(case: &Case, last: &ControlledNetwork<'_>, row: &mut [i64])
+    requires case { IsOf case.now.parts last.now }
     requires width { length row.old ≡ length case.now.parts.channels }
     ensures width { length row.new ≡ length row.old }
-    ensures row { (H : List StepRecord) → StandsFor network.now H → values.now ≡ (latest H).values
-        → row.new ≡ sample_of case.now.parts (latest H) }
+    ensures row { (H : List StepRecord) → StandsFor last.now H → row.new ≡ sample_of case.now.parts (latest H) }
 {
     for at in 0..row.len() {
-        row[at] = value(case, network, values, case.parts.channels.as_slice()[at]);
+        row[at] = value(case, last, case.parts.channels.as_slice()[at]);
     }
 }
 
 /// Takes the last record as a sample.
 pub(crate) fn take_sample(
     case: &Case,
-    network: &Network<'_>,
-    values: &[i64],
+    last: &ControlledNetwork<'_>,
     row: &mut [i64],
     samples: &mut Samples,
 )
-    requires case { network.now.case ≡ case.now.parts }
-    requires values { length values.now ≡ length case.now.parts.vars }
+    requires case { IsOf case.now.parts last.now }
     requires width { length row.old ≡ length case.now.parts.channels }
     requires channels { samples.old.channels ≡ length case.now.parts.channels }
     requires room { length samples.old.rows < samples.old.room }
     ensures width { length row.new ≡ length row.old }
-    ensures samples { (H : List StepRecord) → StandsFor network.now H → values.now ≡ (latest H).values
+    ensures samples { (H : List StepRecord) → StandsFor last.now H
         → samples.new ≡ record samples.old { rows = samples.old.rows ++ sample_of case.now.parts (latest H) ∷ [] } }
 {
-    fill_row(case, network, values, row);
+    fill_row(case, last, row);
     samples.push(row);
 }

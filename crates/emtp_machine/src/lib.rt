@@ -1,8 +1,8 @@
 //! The run of a case: its records one after the other, its samples, and its end if it stops early.
 //!
-//! [`Machine`] steps the network (and, once it is built, the control) from rest on. Its history is a definition of the
-//! case alone. It takes all its memory at opening. It stands on `emtp_net` for the network's step, on `emtp_case` and on
-//! `emtp_fix`; the record is written from its [`Samples`].
+//! [`Machine`] steps the network and its control from rest on. Its history is a definition of the case alone. It takes all
+//! its memory at opening. It stands on `emtp_net` for the network's step, on `emtp_tacs` for the control's, on `emtp_case`
+//! and on `emtp_fix`; the record is written from its [`Samples`].
 //!
 //! ```text
 //! let mut machine = Machine::open(alloc, &case)?;
@@ -12,7 +12,7 @@
 #![tactic(auto)]
 
 mod channels;
-mod control;
+mod controlled;
 mod end;
 mod laws;
 mod machine;

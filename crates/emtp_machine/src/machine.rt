@@ -2,31 +2,27 @@
 
 ghost use Rattle.std.specs.Prelude.{◌≡◌, ◌≢◌, ◌+◌, ◌<◌, ◌≤◌, length, None, IfErr, IfNone, IfOk, IfSome};
 ghost use Rattle.std.specs.Bool.{OnFalse, OnTrue};
-ghost use Rattle.emtp_machine.specs.History.{end_at, history, redone, rows_of_run, samples};
+ghost use Rattle.emtp_machine.specs.History.{history, redone, rows_of_run, samples};
 ghost use Rattle.emtp_machine.specs.Machine.{HasTicked, IsEnd, MayStep, answer_of, history_of};
-ghost use Rattle.emtp_machine.specs.Next.{network_fault, node_name};
 ghost use Rattle.emtp_machine.specs.Laws.{SamplesBalance};
-ghost use Rattle.emtp_net.specs.Fault.{IsNode, NamesNode};
 
 use crate::channels::take_sample;
-use crate::control::set_standing;
-use crate::end::{Cause, End};
+use crate::controlled::ControlledNetwork;
+use crate::end::End;
 use crate::samples::Samples;
-use emtp_case::{Case, Name};
+use emtp_case::Case;
 use emtp_fix::Steps;
-use emtp_net::{NetFault, Network};
 use std::alloc::{AllocError, Global};
 use std::marker::Model;
 use std::sync::ledger::Ledger;
 
 /// The machine of a case. It stands for the first records of the case's history, and for its end once it came.
 ///
-/// `values` are those of the control at the last record, and `row` is room for one sample.
+/// `row` is room for one sample.
 #[derive(Drop)]
 pub struct Machine<'c> {
     case: &'c Case,
-    network: Network<'c>,
-    values: Vec<i64>,
+    network: ControlledNetwork<'c>,
     row: Vec<i64>,
     samples: Samples,
     made: u32,
@@ -45,34 +41,7 @@ impl<'c> Model for Machine<'c> {
 
     ghost view = { λ m. record { case = m.case.now.parts; tried = tried_of m.made m.end } };
 
-    ghost invariant = { λ m. IsMachine m.case.now.parts m.network m.values.items m.row.items m.samples m.made m.end (history_upto m.case.now.parts (tried_of m.made m.end)) };
-}
-
-/// The name of a node.
-fn node_name(case: &Case, node: u32) -> Name
-    requires { IsNode case.now.parts node }
-    ensures { result ≡ node_name case.now.parts node }
-{
-    case.parts.nodes.as_slice()[node as usize - 1]
-}
-
-/// The end of a step by a fault of the network.
-fn end_of(case: &Case, step: u32, fault: NetFault) -> End
-    requires { NamesNode case.now.parts fault }
-    ensures { result ≡ end_at step (network_fault case.now.parts fault) }
-{
-    let (node, cause, measured) = match fault {
-        NetFault::Tied(node) => (node, Cause::Tied, 0),
-        NetFault::ZeroPivot(node) => (node, Cause::ZeroPivot, 0),
-        NetFault::Range(node) => (node, Cause::Range, 0),
-        NetFault::Residual(node, measured) => (node, Cause::Residual, measured),
-    };
-    End {
-        step,
-        name: node_name(case, node),
-        cause,
-        measured,
-    }
+    ghost invariant = { λ m. IsMachine m.case.now.parts m.network m.row.items m.samples m.made m.end (history_upto m.case.now.parts (tried_of m.made m.end)) };
 }
 
 impl<'c> Machine<'c> {
@@ -86,15 +55,13 @@ impl<'c> Machine<'c> {
         ensures rest { IfOk result (λ m. m.tried ≡ 0) }
     {
         let channels = case.parts.channels.len();
-        let network = Network::open(alloc, case)?;
-        let values = vec![in alloc; 0i64; case.parts.vars.len()]?;
+        let network = ControlledNetwork::open(alloc, case)?;
         let mut row = vec![in alloc; 0i64; channels]?;
         let mut samples = Samples::open(alloc, channels, case.parts.run.samples())?;
-        take_sample(case, &network, &values, &mut row, &mut samples);
+        take_sample(case, &network, &mut row, &mut samples);
         Ok(Machine {
             case,
             network,
-            values,
             row,
             samples,
             made: 0,
@@ -135,21 +102,14 @@ impl<'c> Machine<'c> {
         ensures ticks { HasTicked self.old self.new steps.old steps.new }
     {
         let case = self.case;
-        match self.network.step(&self.values, steps) {
+        match self.network.step(case, self.made + 1, steps) {
             Ok(()) => {
                 self.made += 1;
-                set_standing(&case.parts.run, self.made, &mut self.values);
                 if self.made % case.parts.run.every == 0 {
-                    take_sample(
-                        case,
-                        &self.network,
-                        &self.values,
-                        &mut self.row,
-                        &mut self.samples,
-                    );
+                    take_sample(case, &self.network, &mut self.row, &mut self.samples);
                 }
             }
-            Err(fault) => self.end = Some(end_of(case, self.made + 1, fault)),
+            Err(end) => self.end = Some(end),
         }
     }
 
@@ -194,10 +154,11 @@ impl<'c> Machine<'c> {
         &self.samples
     }
 
-    /// How many rows of the nodal matrix were redone, from the second step on; those of the end's step count too.
+    /// How many rows of the network's matrix and of the control's were redone, from the second step on; those of the end's
+    /// step count too.
     pub fn redone(&self) -> u64
         ensures { result ≡ redone self.now.case (history_of self.now) }
     {
-        self.network.redone()
+        self.network.redone(self.case)
     }
 }

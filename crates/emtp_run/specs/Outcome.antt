@@ -96,7 +96,7 @@ case_for (Some task) files = option_and_then (λ bytes. accepted (deck bytes)) (
 abbrev pub case_of : List (List ℕ) → (List ℕ → Option (List ℕ)) → Option Parts
 case_of words files = case_for (fits words) files
 
--- where the run of a case ends early, its end names one of the steps and a node of the case
+-- where the run of a case ends early, its end names one of the steps, and a node or a variable of the case
 abbrev pub EndsWithin : Parts → Type 0
 EndsWithin case = IfSome (history case).end (IsEnd case)
 
@@ -120,6 +120,16 @@ IsFinished Ended = Unit {0}
 IsFinished ReadFault = ⊥
 IsFinished WriteFault = ⊥
 IsFinished NoMemory = ⊥
+
+-- the case was run, whether or not all that it came to could be written
+abbrev pub HasRun : Status → Type 0
+HasRun Done = Unit {0}
+HasRun Usage = ⊥
+HasRun BadCard = ⊥
+HasRun Ended = Unit {0}
+HasRun ReadFault = ⊥
+HasRun WriteFault = Unit {0}
+HasRun NoMemory = ⊥
 
 -- all of it was made
 abbrev pub IsMade : Option Outcome → Status → CabinetState → CabinetState → Type 0

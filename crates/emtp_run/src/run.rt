@@ -6,7 +6,7 @@ ghost use Rattle.emtp_io.specs.declared.whole.ReadEnd.{ReadEnd};
 ghost use Rattle.emtp_machine.specs.History.{history};
 ghost use Rattle.emtp_machine.specs.Laws.{SamplesBalance};
 ghost use Rattle.emtp_machine.specs.Machine.{history_of};
-ghost use Rattle.emtp_run.specs.Outcome.{accepted, case_for, case_of, outcome, outcome_for, outcome_of, outcome_by, case_at, status_of, EndsWithin, Settles, HasStatusCause, IsFinished, Leaves, IsComplete, IsCalmRun, HasRoomFor, Ends, OpensNothing};
+ghost use Rattle.emtp_run.specs.Outcome.{accepted, case_for, case_of, outcome, outcome_for, outcome_of, outcome_by, case_at, status_of, EndsWithin, Settles, HasRun, HasStatusCause, Leaves, IsComplete, IsCalmRun, HasRoomFor, Ends, OpensNothing};
 ghost use Rattle.emtp_run.specs.Reading.{deck};
 ghost use Rattle.emtp_run.specs.TrialDeck.{trial_cards};
 ghost use Rattle.emtp_run.specs.Words.{IsTask, Run, Trial, texts, fits, files_of, task_of};
@@ -47,9 +47,9 @@ pub fn emtp<C: Cabinet>(alloc: Global, words: &[String], cabinet: &mut C) -> Sta
         Settles result (outcome (texts words.now) (C.state cabinet.old).nature.files)
         (C.state cabinet.old) (C.state cabinet.new) }
     // Each sample that was written is that of a record in which the currents at each node or group balance.
-    ensures residual { IsTrue (C.state cabinet.old).nature.tells → IsFinished result →
+    ensures residual { IsTrue (C.state cabinet.old).nature.tells → HasRun result →
         IfSome (case_of (texts words.now) (C.state cabinet.old).nature.files) SamplesBalance }
-    ensures early_end { IsTrue (C.state cabinet.old).nature.tells → IsFinished result →
+    ensures early_end { IsTrue (C.state cabinet.old).nature.tells → HasRun result →
         IfSome (case_of (texts words.now) (C.state cabinet.old).nature.files) EndsWithin }
     ensures complete { IsTrue (C.state cabinet.old).nature.tells →
         IfSome (outcome (texts words.now) (C.state cabinet.old).nature.files)
@@ -71,9 +71,9 @@ pub fn emtp<C: Cabinet>(alloc: Global, words: &[String], cabinet: &mut C) -> Sta
 /// Reads the file of the case, and runs it.
 fn run_files<C: Cabinet>(alloc: Global, words: RunWords<'_>, cabinet: &mut C) -> Status
     ensures no_usage { result ≢ Status.Usage }
-    ensures residual { IsTrue (C.state cabinet.old).nature.tells → IsFinished result →
+    ensures residual { IsTrue (C.state cabinet.old).nature.tells → HasRun result →
         IfSome (case_for (Some (Run (files_of words.entry))) (C.state cabinet.old).nature.files) SamplesBalance }
-    ensures early_end { IsTrue (C.state cabinet.old).nature.tells → IsFinished result →
+    ensures early_end { IsTrue (C.state cabinet.old).nature.tells → HasRun result →
         IfSome (case_for (Some (Run (files_of words.entry))) (C.state cabinet.old).nature.files) EndsWithin }
     ensures ends { Ends result (outcome_for (Some (Run (files_of words.entry))) (C.state cabinet.old).nature.files)
         (C.state cabinet.old) (C.state cabinet.new) }
@@ -90,8 +90,8 @@ fn run_trial<C: Cabinet>(alloc: Global, number: u32, cabinet: &mut C) -> Status
     requires { IsTask (Trial number) }
     ensures no_usage { result ≢ Status.Usage }
     ensures unopened { OpensNothing (Some (Trial number)) result (C.state cabinet.old) (C.state cabinet.new) }
-    ensures residual { IsFinished result → IfSome (accepted (deck (trial_cards number))) SamplesBalance }
-    ensures early_end { IsFinished result → IfSome (accepted (deck (trial_cards number))) EndsWithin }
+    ensures residual { HasRun result → IfSome (accepted (deck (trial_cards number))) SamplesBalance }
+    ensures early_end { HasRun result → IfSome (accepted (deck (trial_cards number))) EndsWithin }
     ensures ends { Ends result (Some (outcome_of (Trial number) (trial_cards number)))
         (C.state cabinet.old) (C.state cabinet.new) }
 {
@@ -125,8 +125,8 @@ fn run_bytes<C: Cabinet>(alloc: Global, words: Words<'_>, bytes: &[u8], cabinet:
     ensures no_usage { result ≢ Status.Usage }
     ensures no_read_fault { result ≢ Status.ReadFault }
     ensures unread { (C.state cabinet.new).unread ≡ (C.state cabinet.old).unread }
-    ensures residual { IsFinished result → IfSome (accepted (deck bytes.now)) SamplesBalance }
-    ensures early_end { IsFinished result → IfSome (accepted (deck bytes.now)) EndsWithin }
+    ensures residual { HasRun result → IfSome (accepted (deck bytes.now)) SamplesBalance }
+    ensures early_end { HasRun result → IfSome (accepted (deck bytes.now)) EndsWithin }
     ensures ends { Ends result (Some (outcome_of (task_of words.entry) bytes.now))
         (C.state cabinet.old) (C.state cabinet.new) }
 {
@@ -154,8 +154,8 @@ fn run_case<C: Cabinet>(alloc: Global, words: Words<'_>, case: &Case, cabinet: &
     ensures no_usage { result ≢ Status.Usage }
     ensures no_read_fault { result ≢ Status.ReadFault }
     ensures unread { (C.state cabinet.new).unread ≡ (C.state cabinet.old).unread }
-    ensures residual { IsFinished result → SamplesBalance case.now.parts }
-    ensures early_end { IsFinished result → EndsWithin case.now.parts }
+    ensures residual { HasRun result → SamplesBalance case.now.parts }
+    ensures early_end { HasRun result → EndsWithin case.now.parts }
     ensures ends { Ends result (Some (outcome_by (task_of words.entry) (Ok case.now.parts)))
         (C.state cabinet.old) (C.state cabinet.new) }
 {

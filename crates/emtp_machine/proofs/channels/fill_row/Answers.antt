@@ -5,5 +5,5 @@ use Rattle.emtp_machine.proofs.Rows.{filled_all}
 use Rattle.emtp_machine.proofs.channels.fill_row.Goals as goal
 
 pub returns-clause-row : goal.returns-clause-row
-returns-clause-row c = λ H stands values.
-    filled_all (channel_value c.args.case.now.parts (latest H)) c.args.case.now.parts.channels c.loop-at.row (omega arith) (λ k below. c.loop-at.invariant.filled H stands values k (omega arith))
+returns-clause-row c = λ H stands.
+    filled_all (channel_value c.args.case.now.parts (latest H)) c.args.case.now.parts.channels c.loop-at.row (omega arith) (λ k below. c.loop-at.invariant.filled H stands k (omega arith))
