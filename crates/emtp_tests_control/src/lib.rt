@@ -9,6 +9,8 @@
 #[cfg(test)]
 mod blocks;
 #[cfg(test)]
+mod devices;
+#[cfg(test)]
 mod expr;
 #[cfg(test)]
 mod taccards;
