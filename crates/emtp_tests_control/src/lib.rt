@@ -14,3 +14,5 @@ mod devices;
 mod expr;
 #[cfg(test)]
 mod taccards;
+#[cfg(test)]
+mod tacs;
