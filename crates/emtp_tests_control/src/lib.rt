@@ -9,6 +9,10 @@
 #[cfg(test)]
 mod blocks;
 #[cfg(test)]
+mod devices;
+#[cfg(test)]
 mod expr;
 #[cfg(test)]
 mod taccards;
+#[cfg(test)]
+mod tacs;

@@ -1,0 +1,9 @@
+use Rattle.std.proofs.Common.{◌∙◌}
+use Rattle.emtp_devices.proofs.held.HeldDevice.step.Goals as goal
+
+pub returns-in-Some-clause-fits : goal.returns-in-Some-clause-fits
+returns-in-Some-clause-fits c = record {
+  held = c.push.ensures.fits;
+  depth = c.push.ensures.depth ∙ c.requires.held.depth;
+  squares = c.push.ensures.sum;
+}

@@ -1,0 +1,77 @@
+use Rattle.std.proofs.Common.{◌≡◌, ◌∙◌, ◌-ℤ◌, ◌∷◌, ap, sym, subst, pos, map, slice_index_or, FitsSigned, to_z, of_z, arith, rules, List, ℤ}
+use mir.Syntax.{w64, w128}
+use Rattle.std.proofs.lemmas.Int.{ints, to_z-of_z}
+use Rattle.emtp_case.specs.HistoryValues.{delay_steps}
+use Rattle.emtp_case.specs.declared.control.DeviceCode.{DeviceCode}
+use Rattle.emtp_case.specs.declared.control.Input.{Input}
+use Rattle.emtp_devices.specs.Device.{brought, derivative, effective_value, one_above_zero, output_by, taken_input}
+use Rattle.emtp_devices.proofs.Rings.{delay-depth, period-depth, pulse-depth}
+use Rattle.emtp_devices.proofs.next.output.Goals as goal
+
+pub returns-in-Delay : goal.returns-in-Delay
+returns-in-Delay c = λ inputs past.
+    let case = c.args.case.now.parts in
+    let x = c.args.device.now in
+    let h = c.args.held.now in
+    let s : FitsSigned w64 c.args.s = c.ranges.s in
+    let r : FitsSigned w64 c.delayed.result = search rules in
+    let r' : FitsSigned w128 c.delayed.result = search rules in
+    let is = simp to_z-of_z at (c.delayed.ensures inputs (delay_steps case.run.dt x.a) (delay-depth case.run.dt x h c.requires.held c.in-Delay.is) past) in
+    let P = λ (code : DeviceCode). to_z w128 (of_z w128 (to_z w64 (of_z w64 c.delayed.result))) ≡ output_by case x (record { step = c.args.step; values = c.args.values.now; s = c.args.s; inputs = inputs; last = h.output }) code in
+    subst P (sym c.in-Delay.is) (ap (λ z. to_z w128 (of_z w128 z)) (to_z-of_z w64 c.delayed.result r) ∙ to_z-of_z w128 c.delayed.result r' ∙ is)
+
+pub returns-in-DelayedPulse : goal.returns-in-DelayedPulse
+returns-in-DelayedPulse c = λ inputs past.
+    let case = c.args.case.now.parts in
+    let x = c.args.device.now in
+    let h = c.args.held.now in
+    let s : FitsSigned w64 c.args.s = c.ranges.s in
+    let d : FitsSigned w64 c.delayed-in-DelayedPulse.result = search rules in
+    let r : FitsSigned w64 c.one_above_zero.result = search rules in
+    let r' : FitsSigned w128 c.one_above_zero.result = search rules in
+    let before = simp to_z-of_z at (c.delayed-in-DelayedPulse.ensures inputs (delay_steps case.run.dt x.a) (pulse-depth case.run.dt x h c.requires.held c.in-DelayedPulse.is) past) in
+    let is = simp to_z-of_z at c.one_above_zero.ensures in
+    let P = λ (code : DeviceCode). to_z w128 (of_z w128 (to_z w64 (of_z w64 c.one_above_zero.result))) ≡ output_by case x (record { step = c.args.step; values = c.args.values.now; s = c.args.s; inputs = inputs; last = h.output }) code in
+    subst P (sym c.in-DelayedPulse.is) (ap (λ z. to_z w128 (of_z w128 z)) (to_z-of_z w64 c.one_above_zero.result r) ∙ to_z-of_z w128 c.one_above_zero.result r' ∙ is ∙ ap one_above_zero before)
+
+pub returns-in-Selector : goal.returns-in-Selector
+returns-in-Selector c = λ inputs past.
+    let case = c.args.case.now.parts in
+    let x = c.args.device.now in
+    let values = c.args.values.now in
+    let n : FitsSigned w64 c.named_value-in-Selector.result = search rules in
+    let a : FitsSigned w64 x.a = search rules in
+    let na : to_z w64 (of_z w64 (c.named_value-in-Selector.result -ℤ x.a)) ≡ c.named_value-in-Selector.result -ℤ x.a = omega (arith, ints, c.named_value-in-Selector.ensures.small, c.requires.device.card.a.small) in
+    let place = rw na at (simp to_z-of_z at c.taken_input.ensures) in
+    let r : FitsSigned w64 c.brought_at.result = search rules in
+    let r' : FitsSigned w128 c.brought_at.result = search rules in
+    let P = λ (code : DeviceCode). to_z w128 (of_z w128 (to_z w64 (of_z w64 c.brought_at.result))) ≡ output_by case x (record { step = c.args.step; values = values; s = c.args.s; inputs = inputs; last = c.args.held.now.output }) code in
+    subst P (sym c.in-Selector.is) (
+    ap (λ z. to_z w128 (of_z w128 z)) (to_z-of_z w64 c.brought_at.result r) ∙ to_z-of_z w128 c.brought_at.result r' ∙ c.brought_at.ensures
+    ∙ ap (λ (xs : List Input). slice_index_or (map (brought values) xs) c.taken_input.result (pos 0)) c.as_slice-inputs.ensures
+    ∙ ap (λ k. slice_index_or (map (brought values) x.inputs) k (pos 0)) (place ∙ ap (λ z. taken_input (z -ℤ x.a)) c.named_value-in-Selector.ensures.value)
+    )
+
+pub returns-in-EffectiveValue : goal.returns-in-EffectiveValue
+returns-in-EffectiveValue c = λ inputs past.
+    let case = c.args.case.now.parts in
+    let x = c.args.device.now in
+    let h = c.args.held.now in
+    let s : FitsSigned w64 c.args.s = c.ranges.s in
+    let r : FitsSigned w128 c.effective_value.result = search rules in
+    let is = simp to_z-of_z at (c.effective_value.ensures inputs past) in
+    let P = λ (code : DeviceCode). to_z w128 (of_z w128 c.effective_value.result) ≡ output_by case x (record { step = c.args.step; values = c.args.values.now; s = c.args.s; inputs = inputs; last = h.output }) code in
+    subst P (sym c.in-EffectiveValue.is) (to_z-of_z w128 c.effective_value.result r ∙ is ∙ ap (λ k. effective_value k (c.args.s ∷ inputs)) (period-depth case.run.dt x h c.requires.held c.in-EffectiveValue.is))
+
+pub returns-in-Derivative : goal.returns-in-Derivative
+returns-in-Derivative c = λ inputs past.
+    let case = c.args.case.now.parts in
+    let x = c.args.device.now in
+    let h = c.args.held.now in
+    let dt : FitsSigned w64 case.run.dt = search rules in
+    let s : FitsSigned w64 c.args.s = c.ranges.s in
+    let b : FitsSigned w64 c.last_input.result = search rules in
+    let r : FitsSigned w128 c.derivative.result = search rules in
+    let is = simp to_z-of_z at c.derivative.ensures in
+    let P = λ (code : DeviceCode). to_z w128 (of_z w128 c.derivative.result) ≡ output_by case x (record { step = c.args.step; values = c.args.values.now; s = c.args.s; inputs = inputs; last = h.output }) code in
+    subst P (sym c.in-Derivative.is) (to_z-of_z w128 c.derivative.result r ∙ is ∙ ap (λ z. derivative case.run.dt c.args.s z) (c.last_input.ensures.value inputs past))

@@ -1,0 +1,104 @@
+-- The stages of a step, one after the other.
+use Rattle.std.proofs.Common.{◌≡◌, ◌∙◌, ◌<◌, ◌∷◌, sym, ap, subst, ℕ, ℤ, nat_lt, Bool, true, false, List, length, slice_get, slice_index_or, ◌&&◌, ◌||◌, Option, Some, None, Result, Ok, Err, refl, arith}
+use Rattle.std.proofs.lemmas.Bool.Decides.{nat_tests}
+use Rattle.std.proofs.lemmas.Option.{slice_get_within}
+use Rattle.emtp_case.specs.StepRecord.{StepRecord, no_device}
+use Rattle.emtp_case.specs.declared.case.Parts.{Parts}
+use Rattle.emtp_case.specs.declared.control.Device.{Device}
+use Rattle.emtp_case.specs.declared.control.DeviceState.{DeviceState}
+use Rattle.emtp_case.specs.declared.control.Extra.{Extra}
+use Rattle.emtp_case.specs.declared.control.Extra.TheVariants.{Device as OfDevice}
+use Rattle.emtp_devices.specs.Devices.{HeldDevices, IsDeviceAt, StandsAt, StandsFor as DevicesStandFor, states_of}
+use Rattle.emtp_tacs.specs.Part.{ControlPart, control_of}
+use Rattle.emtp_tacs.specs.Step.{◌>>=◌, Measured, SoFar, Solved, blocks, completed, control_step, extras, group_of, is_in_pass, known_before}
+use Rattle.emtp_tacs.specs.Stages.{HoldsVariables, IsSoFar, Reaches, VariablesStandFor, is_done, is_done_by, past_of}
+use Rattle.emtp_tacs.specs.declared.fault.TacsFault.{TacsFault}
+use Rattle.emtp_tacs.specs.declared.variables.Variables.{Variables}
+
+-- ---- what a stage of cards answers
+
+-- a stage that was reached: the definition has this, and it is what the step has so far
+pub record Reached (case : Parts) (H : List StepRecord) (early : Bool) (n : ℕ) (values : List ℤ) (held : HeldDevices) (defined : Result SoFar TacsFault) : Type 0 where
+  pub s : SoFar
+  pub is : defined ≡ Ok s
+  pub so_far : IsSoFar case H early n values held s
+
+pub reached : (case : Parts) (H : List StepRecord) (early : Bool) (n : ℕ) (values : List ℤ) (held : HeldDevices) (defined : Result SoFar TacsFault) → Reaches (Ok tt) case H early n values held defined → Reached case H early n values held defined
+reached case H early n values held (Ok s) is = record { s = s; is = refl; so_far = is }
+reached case H early n values held (Err fault) is = absurd is
+
+pub refused : (case : Parts) (H : List StepRecord) (early : Bool) (n : ℕ) (values : List ℤ) (held : HeldDevices) (defined : Result SoFar TacsFault) (e : TacsFault) → Reaches (Err e) case H early n values held defined → defined ≡ Err e
+refused case H early n values held (Ok s) e is = absurd is
+refused case H early n values held (Err fault) e is = ap Err (sym is)
+
+-- ---- how a step ends
+
+pub known_ends : (case : Parts) (H : List StepRecord) (m : Measured) (e : TacsFault) → known_before case H m ≡ Err e → control_step case H m ≡ Err e
+unfolding control_step
+known_ends case H m e is = ap (λ d. d >>= (λ known. blocks case H known.values >>= completed case H known)) is
+
+pub blocks_end : (case : Parts) (H : List StepRecord) (m : Measured) (s : SoFar) (e : TacsFault) → known_before case H m ≡ Ok s → blocks case H s.values ≡ Err e → control_step case H m ≡ Err e
+unfolding control_step
+blocks_end case H m s e known is = ap (λ d. d >>= (λ known. blocks case H known.values >>= completed case H known)) known ∙ ap (λ d. d >>= completed case H s) is
+
+by_solved : (case : Parts) (H : List StepRecord) (m : Measured) (s : SoFar) (t : Solved) → known_before case H m ≡ Ok s → blocks case H s.values ≡ Ok t → control_step case H m ≡ completed case H s t
+unfolding control_step
+by_solved case H m s t known is = ap (λ d. d >>= (λ known. blocks case H known.values >>= completed case H known)) known ∙ ap (λ d. d >>= completed case H s) is
+
+pub rest_ends : (case : Parts) (H : List StepRecord) (m : Measured) (s : SoFar) (t : Solved) (e : TacsFault) → known_before case H m ≡ Ok s → blocks case H s.values ≡ Ok t → extras case H false (record s { values = t.values }) ≡ Err e → control_step case H m ≡ Err e
+rest_ends case H m s t e known solved is =
+    by_solved case H m s t known solved ∙ ap (λ d. d >>= (λ (last : SoFar). Ok (record { values = last.values; blocks = t.blocks; devices = last.devices }))) is
+
+pub step_made : (case : Parts) (H : List StepRecord) (m : Measured) (s last : SoFar) (t : Solved) → known_before case H m ≡ Ok s → blocks case H s.values ≡ Ok t → extras case H false (record s { values = t.values }) ≡ Ok last
+    → control_step case H m ≡ Ok (record { values = last.values; blocks = t.blocks; devices = last.devices })
+step_made case H m s last t known solved is =
+    by_solved case H m s t known solved ∙ ap (λ d. d >>= (λ (last : SoFar). Ok (record { values = last.values; blocks = t.blocks; devices = last.devices }))) is
+
+-- ---- devices between the passes
+
+less : (at n : ℕ) → at < n → nat_lt at n ≡ true
+less at n below = grind (arith, nat_tests)
+
+none_less : (at : ℕ) → nat_lt at 0 ≡ false
+none_less at = grind (arith, nat_tests)
+
+-- what the earlier pass did is done when the later one begins
+is_done_between : (case : Parts) (at : ℕ) (x : Device) → IsDeviceAt case at x → is_done case true (length case.extras) at ≡ is_done case false 0 at
+is_done_between case at x is =
+    rw (is, less at (length case.extras) (slice_get_within case.extras at (OfDevice x) is), none_less at) (by_pass (is_in_pass true x.group))
+  where
+    by_pass : (b : Bool) → (b && true) ≡ (b || false)
+    by_pass true = refl
+    by_pass false = refl
+
+-- after both passes all is done
+is_done_at_end : (case : Parts) (at : ℕ) (x : Device) → IsDeviceAt case at x → is_done case false (length case.extras) at ≡ true
+is_done_at_end case at x is =
+    rw (is, less at (length case.extras) (slice_get_within case.extras at (OfDevice x) is)) (by_pass (is_in_pass true x.group))
+  where
+    by_pass : (b : Bool) → (b || true) ≡ true
+    by_pass true = refl
+    by_pass false = refl
+
+-- what the step has so far, with the outputs of the blocks
+pub between : (case : Parts) (H : List StepRecord) (values outputs : List ℤ) (held : HeldDevices) (s : SoFar) → IsSoFar case H true (length case.extras) values held s → IsSoFar case H false 0 outputs held (record s { values = outputs })
+between case H values outputs held s so_far = record {
+  values_are = refl;
+  count = so_far.count;
+  devices = λ at x is. subst (λ d. StandsAt held at (past_of d s.devices H at)) (is_done_between case at x is) (so_far.devices at x is);
+}
+
+-- after both passes the devices stand for the records and a further one that keeps what the step has
+pub devices_next : (case : Parts) (H : List StepRecord) (values : List ℤ) (held : HeldDevices) (s : SoFar) (r : StepRecord) → held.case ≡ case → IsSoFar case H false (length case.extras) values held s → r.devices ≡ s.devices → DevicesStandFor held (r ∷ H)
+devices_next case H values held s r same so_far kept = λ at x there.
+    let is : IsDeviceAt case at x = subst (λ (p : Parts). IsDeviceAt p at x) same there in
+    let done = subst (λ d. StandsAt held at (past_of d s.devices H at)) (is_done_at_end case at x is) (so_far.devices at x is) in
+    subst (λ ds. StandsAt held at (slice_index_or ds at no_device ∷ states_of at H)) (sym kept) done
+
+-- the variables after both passes
+pub variables_next : (case : Parts) (H : List StepRecord) (v : Variables) (s : SoFar) (r : StepRecord) → HoldsVariables case v → IsSoFar case H false (length case.extras) v.values.items v.devices s → r.values ≡ s.values → r.devices ≡ s.devices → VariablesStandFor case v (r ∷ H)
+variables_next case H v s r holds so_far values devices = record {
+  devices = devices_next case H v.values.items v.devices s r holds.devices so_far devices;
+  devices_count = ap length devices ∙ so_far.count;
+  values = so_far.values_are ∙ sym values;
+}

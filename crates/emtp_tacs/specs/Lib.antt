@@ -1,0 +1,5 @@
+pub mod Part
+pub mod Step
+pub mod Redone
+pub mod Stages
+pub mod Tacs

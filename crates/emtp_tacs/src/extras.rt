@@ -1,0 +1,131 @@
+//! The supplemental cards: a pass before the blocks and a pass after them, each in card order.
+
+ghost use Rattle.std.specs.Prelude.{◌≡◌, ◌≤◌, ◌<◌, ◌+◌, Bool, true, List, length, unsigned_abs, IfErr, IfOk, Some, slice_get};
+ghost use Rattle.emtp_blocks.specs.BlockRows.{AreKnown};
+ghost use Rattle.emtp_case.specs.Control.{var_of};
+ghost use Rattle.emtp_case.specs.StepRecord.{StepRecord};
+ghost use Rattle.emtp_case.specs.declared.control.Device.{Device};
+ghost use Rattle.emtp_case.specs.declared.control.Extra.{Extra};
+ghost use Rattle.emtp_case.specs.declared.control.Formula.{Formula};
+ghost use Rattle.emtp_devices.specs.Devices.{IsDeviceAt, Moves};
+ghost use Rattle.emtp_expr.specs.Value.{Evaluates};
+ghost use Rattle.emtp_fix.specs.declared.limit.TheConstants.{LARGEST_VALUE};
+ghost use Rattle.emtp_tacs.specs.Stages.{HasNameRoom, IsSoFar, NamesVariable, Reaches};
+ghost use Rattle.emtp_tacs.specs.Step.{SoFar, extra_of, extras, formula_value, group_of, is_in_pass};
+
+use crate::fault::{TacsFault, range_fault};
+use crate::formula::formula_value;
+use emtp_case::{Case, Extra, Group};
+use emtp_devices::Devices;
+use emtp_fix::OutOfRange;
+
+/// Computes the supplemental cards of one pass: those before the blocks where `early`, else those after them. It
+/// answers the first one out of range.
+pub(crate) fn compute_extras(
+    case: &Case,
+    devices: &mut Devices<'_>,
+    early: bool,
+    step: u32,
+    values: &mut [i64],
+    names: &mut [i64],
+) -> Result<(), TacsFault>
+    requires same { devices.old.case ≡ case.now.parts }
+    requires values { AreKnown case.now.parts values.old }
+    requires names { HasNameRoom case.now.parts names.old }
+    ensures same { devices.new.case ≡ case.now.parts }
+    ensures values { AreKnown case.now.parts values.new }
+    ensures reaches { (H : List StepRecord) (s : SoFar) → step ≡ length H → IsSoFar case.now.parts H early 0 values.old devices.old s → Reaches result case.now.parts H early (length case.now.parts.extras) values.new devices.new (extras case.now.parts H early s) }
+    ensures var { IfErr result (NamesVariable case.now.parts) }
+{
+    for at in 0..case.parts.extras.len() {
+        if is_in_pass(early, group_of(&case.parts.extras.as_slice()[at])) {
+            match compute_extra(case, devices, at, step, values, names) {
+                Ok(()) => {}
+                Err(fault) => return Err(fault),
+            }
+        }
+    }
+    Ok(())
+}
+
+/// Computes the supplemental card at a place, and writes its value.
+fn compute_extra(
+    case: &Case,
+    devices: &mut Devices<'_>,
+    at: usize,
+    step: u32,
+    values: &mut [i64],
+    names: &mut [i64],
+) -> Result<(), TacsFault>
+    requires at { at < length case.now.parts.extras }
+    requires same { devices.old.case ≡ case.now.parts }
+    requires values { AreKnown case.now.parts values.old }
+    requires names { HasNameRoom case.now.parts names.old }
+    ensures same { devices.new.case ≡ case.now.parts }
+    ensures values { AreKnown case.now.parts values.new }
+    ensures reaches { (H : List StepRecord) (early : Bool) (e : Extra) (s : SoFar) → step ≡ length H → slice_get case.now.parts.extras at ≡ Some e → is_in_pass early (group_of e) ≡ true → IsSoFar case.now.parts H early at values.old devices.old s → Reaches result case.now.parts H early (at + 1) values.new devices.new (extra_of case.now.parts H at s e) }
+    ensures var { IfErr result (NamesVariable case.now.parts) }
+{
+    let extra = &case.parts.extras.as_slice()[at];
+    let var = variable_of(extra);
+    match value_of(case, devices, at, step, values, names) {
+        Ok(value) => {
+            values[var as usize] = value;
+            Ok(())
+        }
+        Err(_) => Err(range_fault(var)),
+    }
+}
+
+/// The value of the supplemental card at a place, in nano; a device moves by one step.
+fn value_of(
+    case: &Case,
+    devices: &mut Devices<'_>,
+    at: usize,
+    step: u32,
+    values: &[i64],
+    names: &mut [i64],
+) -> Result<i64, OutOfRange>
+    requires at { at < length case.now.parts.extras }
+    requires same { devices.old.case ≡ case.now.parts }
+    requires values { AreKnown case.now.parts values.now }
+    requires names { HasNameRoom case.now.parts names.old }
+    ensures device { (x : Device) → IsDeviceAt case.now.parts at x → Moves devices.old devices.new at step values.now result }
+    ensures formula { (x : Formula) → slice_get case.now.parts.extras at ≡ Some (Extra.Formula x) → Evaluates result (formula_value values.now x) }
+    ensures formula_same { (x : Formula) → slice_get case.now.parts.extras at ≡ Some (Extra.Formula x) → devices.new ≡ devices.old }
+    ensures same { devices.new.case ≡ case.now.parts }
+    ensures small { IfOk result (λ y. unsigned_abs y ≤ LARGEST_VALUE) }
+{
+    match &case.parts.extras.as_slice()[at] {
+        Extra::Device(_) => devices.step(at, step, values),
+        Extra::Formula(formula) => formula_value(case, formula, values, names),
+    }
+}
+
+/// The variable of a supplemental card.
+fn variable_of(extra: &Extra) -> u32
+    ensures { result ≡ var_of extra.now }
+{
+    match extra {
+        Extra::Device(device) => device.var,
+        Extra::Formula(formula) => formula.var,
+    }
+}
+
+fn group_of(extra: &Extra) -> Group
+    ensures { result ≡ group_of extra.now }
+{
+    match extra {
+        Extra::Device(device) => device.group,
+        Extra::Formula(formula) => formula.group,
+    }
+}
+
+fn is_in_pass(early: bool, group: Group) -> bool
+    ensures { result ≡ is_in_pass early group }
+{
+    match group {
+        Group::Input => early,
+        Group::Inside | Group::Output => !early,
+    }
+}

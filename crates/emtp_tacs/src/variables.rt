@@ -1,0 +1,120 @@
+//! The variables of the control, and what computes them but for the blocks.
+
+ghost use Rattle.std.specs.Prelude.{◌≡◌, ◌≤◌, ◌∷◌, [], true, List, ℤ, length, IfErr, IfOk};
+ghost use Rattle.emtp_case.specs.declared.control.Extra.{Extra};
+ghost use Rattle.emtp_case.specs.declared.control.Formula.{Formula};
+ghost use Rattle.emtp_case.specs.StepRecord.{StepRecord, rest_of};
+ghost use Rattle.emtp_tacs.specs.Stages.{HasNameRoom, HoldsVariables, IsMeasured, IsSoFar, NamesVariable, Reaches, VariablesStandFor};
+ghost use Rattle.emtp_tacs.specs.Step.{SoFar, extras, known_before};
+
+use crate::extras::compute_extras;
+use crate::fault::TacsFault;
+use crate::sources::put_sources;
+use crate::standing::set_standing;
+use emtp_case::{Case, Extra};
+use emtp_devices::Devices;
+use emtp_wave::CosTable;
+use std::alloc::{AllocError, Global};
+
+/// The variables of the control at the last record.
+#[derive(Drop)]
+pub(crate) struct Variables<'a> {
+    pub(crate) table: CosTable,
+    pub(crate) devices: Devices<'a>,
+    /// The values by variable, in nano: to 10^18 in magnitude.
+    pub(crate) values: Vec<i64>,
+    /// Room for the values of a formula's names.
+    pub(crate) names: Vec<i64>,
+}
+
+impl<'a> Variables<'a> {
+    /// The variables of record 0. All memory is taken here.
+    pub(crate) fn open(alloc: Global, case: &'a Case) -> Result<Variables<'a>, AllocError>
+        ensures holds { IfOk result (HoldsVariables case.now.parts) }
+        ensures rest { IfOk result (λ v. VariablesStandFor case.now.parts v (rest_of case.now.parts ∷ [])) }
+    {
+        let table = CosTable::open(alloc)?;
+        let devices = Devices::open(alloc, case)?;
+        let values = vec![in alloc; 0i64; case.parts.vars.len()]?;
+        let names = vec![in alloc; 0i64; most_names(case)]?;
+        Ok(Variables {
+            table,
+            devices,
+            values,
+            names,
+        })
+    }
+
+    /// Computes what is known before the blocks of a step: the variables that every case has, the sources, and the
+    /// supplemental cards 99.
+    pub(crate) fn compute_known(
+        &mut self,
+        case: &Case,
+        step: u32,
+        voltages: &[i64],
+        currents: &[i64],
+        closed: &[bool],
+    ) -> Result<(), TacsFault>
+        requires holds { HoldsVariables case.now.parts self.old }
+        requires step { step ≤ case.now.parts.run.steps }
+        requires measured { IsMeasured case.now.parts (record { voltages = voltages.now; currents = currents.now; closed = closed.now }) }
+        ensures holds { HoldsVariables case.now.parts self.new }
+        ensures reaches { (H : List StepRecord) → step ≡ length H → VariablesStandFor case.now.parts self.old H → Reaches result case.now.parts H true (length case.now.parts.extras) self.new.values.items self.new.devices (known_before case.now.parts H (record { voltages = voltages.now; currents = currents.now; closed = closed.now })) }
+        ensures var { IfErr result (NamesVariable case.now.parts) }
+    {
+        set_standing(case, step, &mut self.values);
+        put_sources(
+            case,
+            &self.table,
+            step,
+            voltages,
+            currents,
+            closed,
+            &mut self.values,
+        )?;
+        self.compute_extras(case, true, step)
+    }
+
+    /// Computes the supplemental cards of one pass.
+    pub(crate) fn compute_extras(
+        &mut self,
+        case: &Case,
+        early: bool,
+        step: u32,
+    ) -> Result<(), TacsFault>
+        requires holds { HoldsVariables case.now.parts self.old }
+        ensures holds { HoldsVariables case.now.parts self.new }
+        ensures reaches { (H : List StepRecord) (s : SoFar) → step ≡ length H → IsSoFar case.now.parts H early 0 self.old.values.items self.old.devices s → Reaches result case.now.parts H early (length case.now.parts.extras) self.new.values.items self.new.devices (extras case.now.parts H early s) }
+        ensures var { IfErr result (NamesVariable case.now.parts) }
+    {
+        compute_extras(
+            case,
+            &mut self.devices,
+            early,
+            step,
+            &mut self.values,
+            &mut self.names,
+        )
+    }
+}
+
+/// How many names a formula of the case has at most.
+fn most_names(case: &Case) -> usize
+    ensures { (names : List ℤ) → length names ≡ result → HasNameRoom case.now.parts names }
+{
+    let mut most = 0;
+    for extra in case.parts.extras.as_slice() {
+        most = most.max(names_of(extra));
+    }
+    most
+}
+
+/// How many names a supplemental card has, if it is a formula.
+fn names_of(extra: &Extra) -> usize
+    ensures { (x : Formula) → extra.now ≡ Extra.Formula x → result ≡ length x.vars }
+{
+    match extra {
+        Extra::Device(_) => 0,
+        Extra::Formula(formula) => formula.vars.len(),
+    }
+}
