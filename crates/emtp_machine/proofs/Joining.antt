@@ -61,12 +61,19 @@ abbrev pub Made : Net → List StepRecord → NetworkPart → Type 0
 Made network H part = (r : StepRecord) → network_of r ≡ part → NetworkStandsFor network (r ∷ H)
 
 -- a record with a network's part
-some_record : NetworkPart → StepRecord
+abbrev some_record : NetworkPart → StepRecord
 some_record part = record_of part (record { values = []; blocks = []; devices = [] })
 
 -- what the control reads is the network's part of this step
 abbrev pub shown : Net → Measured
 shown network = record { voltages = network.voltages; currents = network.switch_currents; closed = network.closed }
+
+-- the three lists that the control is given
+pub shown_by : (network : Net) (voltages currents : List ℤ) (closed : List Bool) → voltages ≡ network.voltages → currents ≡ network.switch_currents → closed ≡ network.closed → record { voltages = voltages; currents = currents; closed = closed } ≡ shown network
+shown_by network voltages currents closed one two three =
+    ap (λ (xs : List ℤ). record { voltages = xs; currents = currents; closed = closed }) one
+    ∙ ap (λ (xs : List ℤ). record { voltages = network.voltages; currents = xs; closed = closed }) two
+    ∙ ap (λ (xs : List Bool). record { voltages = network.voltages; currents = network.switch_currents; closed = xs }) three
 
 shown_is : (network : Net) (H : List StepRecord) (part : NetworkPart) → Made network H part → shown network ≡ measured_of part
 shown_is network H part made =
