@@ -123,20 +123,20 @@ unsolved b values H (Err fault) e is = ap Err (sym is)
 
 -- ---- the whole step
 
-pub ends_in : (case : Parts) (H : List StepRecord) (v : Variables) (system : BlockSystem) (m : Measured) (e : TacsFault) → control_step case H m ≡ Err e → Advances (Err e) case H v system (control_step case H m)
-ends_in case H v system m e is = subst (Advances (Err e) case H v system) (sym is) refl
+ends_in : (case : Parts) (H : List StepRecord) (v : Variables) (system : BlockSystem) (m : Measured) (result : Result (Unit {0}) TacsFault) (e : TacsFault) → result ≡ Err e → control_step case H m ≡ Err e → Advances result case H v system (control_step case H m)
+ends_in case H v system m result e answered is = subst (λ r. Advances r case H v system (control_step case H m)) (sym answered) (subst (Advances (Err e) case H v system) (sym is) refl)
 
 -- a fault of a card before the blocks
-pub known_refused : (case : Parts) (H : List StepRecord) (m : Measured) (n : ℕ) (values : List ℤ) (held : HeldDevices) (v : Variables) (system : BlockSystem) (e : TacsFault)
-    → Reaches (Err e) case H true n values held (known_before case H m) → Advances (Err e) case H v system (control_step case H m)
-known_refused case H m n values held v system e is = ends_in case H v system m e (known_ends case H m e (refused case H true n values held (known_before case H m) e is))
+pub known_refused : (case : Parts) (H : List StepRecord) (m : Measured) (n : ℕ) (values : List ℤ) (held : HeldDevices) (v : Variables) (system : BlockSystem) (result : Result (Unit {0}) TacsFault) (e : TacsFault)
+    → result ≡ Err e → Reaches (Err e) case H true n values held (known_before case H m) → Advances result case H v system (control_step case H m)
+known_refused case H m n values held v system result e answered is = ends_in case H v system m result e answered (known_ends case H m e (refused case H true n values held (known_before case H m) e is))
 
 -- a fault of the blocks
-pub blocks_refused : (case : Parts) (H : List StepRecord) (m : Measured) (values outputs : List ℤ) (held : HeldDevices) (b : Blocking) (v : Variables) (system : BlockSystem) (e : TacsFault)
-    → Reaches (Ok tt) case H true (length case.extras) values held (known_before case H m) → Solves (Err e) b outputs H (blocks case H values) → Advances (Err e) case H v system (control_step case H m)
-blocks_refused case H m values outputs held b v system e known is =
+pub blocks_refused : (case : Parts) (H : List StepRecord) (m : Measured) (values seen outputs : List ℤ) (held : HeldDevices) (b : Blocking) (v : Variables) (system : BlockSystem) (result : Result (Unit {0}) TacsFault) (e : TacsFault)
+    → result ≡ Err e → seen ≡ values → Reaches (Ok tt) case H true (length case.extras) values held (known_before case H m) → Solves (Err e) b outputs H (blocks case H seen) → Advances result case H v system (control_step case H m)
+blocks_refused case H m values seen outputs held b v system result e answered read known is =
     let r = reached case H true (length case.extras) values held (known_before case H m) known in
-    ends_in case H v system m e (blocks_end case H m r.s e r.is (sym (ap (blocks case H) r.so_far.values_are) ∙ unsolved b outputs H (blocks case H values) e is))
+    ends_in case H v system m result e answered (blocks_end case H m r.s e r.is (sym (ap (blocks case H) (read ∙ r.so_far.values_are)) ∙ unsolved b outputs H (blocks case H seen) e is))
 
 -- what the step has so far when the later pass begins, and how it goes on
 pub record BlocksDone (case : Parts) (H : List StepRecord) (m : Measured) (b : Blocking) (outputs : List ℤ) (held : HeldDevices) : Type 0 where
@@ -166,7 +166,7 @@ pub advances : (case : Parts) (H : List StepRecord) (m : Measured) (result : Res
     → HoldsVariables case v → system.blocks ≡ b → system.kept.rows ≡ matrix case H → (d : BlocksDone case H m b outputs held)
     → Reaches result case H false (length case.extras) v.values.items v.devices (extras case H false (record d.s { values = d.t.values })) → Advances result case H v system (control_step case H m)
 advances case H m (Err e) b outputs held v system holds same kept d rest =
-    ends_in case H v system m e (rest_ends case H m d.s d.t e d.known d.solved_is (refused case H false (length case.extras) v.values.items v.devices _ e rest))
+    ends_in case H v system m (Err e) e refl (rest_ends case H m d.s d.t e d.known d.solved_is (refused case H false (length case.extras) v.values.items v.devices _ e rest))
 advances case H m (Ok u) b outputs held v system holds same kept d rest =
     let r = reached case H false (length case.extras) v.values.items v.devices _ rest in
     let made = step_made case H m d.s r.s d.t d.known d.solved_is r.is in

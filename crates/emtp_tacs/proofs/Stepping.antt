@@ -1,5 +1,5 @@
 -- A step, from what its stages answer.
-use Rattle.std.proofs.Common.{◌≡◌, ◌≢◌, ◌∙◌, sym, ap, subst, ℕ, ◌+◌, ◌-◌, ◌≤◌, ◌==◌, if◌then◌else◌, ℤ, List, [], ◌∷◌, length, Result, Ok, Err, refl, false, arith}
+use Rattle.std.proofs.Common.{◌≡◌, ◌≢◌, ◌∙◌, sym, ap, subst, ℕ, ◌+◌, ◌-◌, ◌≤◌, ◌==◌, if◌then◌else◌, ℤ, List, [], ◌∷◌, length, Result, Ok, Err, OnOk, refl, false, arith}
 use Rattle.std.proofs.lemmas.Bool.Decides.{nat_tests}
 use Rattle.emtp_blocks.proofs.Matrices.{length-control_matrix}
 use Rattle.emtp_blocks.specs.System.{limiters_of, matrix}
@@ -89,3 +89,8 @@ steps_to case v w s t made first H (Ok u) (Err fault) stands held holds is count
 steps_to case v w s t made first H (Err e) (Ok part) stands held holds is count made_so = absurd made_so
 steps_to case v w s t made first H (Err e) (Err fault) stands held holds is count made_so =
     (made_so, redone_is case H first made s.redone t.redone (first_is case v s made first H stands held.case_is is) stands.steps count ∙ ap (λ n. n + control_step_redone case H) stands.redone)
+
+pub ticks_ok : (case : Parts) (v : Variables) (s : BlockSystem) (made : ℕ) (now : HeldControl) (H : List StepRecord) (first before after : ℕ) (result : Result (Unit {0}) TacsFault) → held_of case v s made ≡ now → first ≡ first_change (last_control_matrix case H) (matrix case H)
+    → OnOk result (after + first ≡ before + length case.blocks) → OnOk result (after ≡ before + control_step_ticks now.case H)
+ticks_ok case v s made now H first before after (Ok u) same is ticked = ticks_are case H first before after is ticked ∙ ap (λ (t : HeldControl). before + control_step_ticks t.case H) same
+ticks_ok case v s made now H first before after (Err e) same is ticked = tt
