@@ -1,3 +1,4 @@
 pub mod Systems
 pub mod Advancing
 pub mod Stepping
+pub mod Folds
