@@ -1,8 +1,10 @@
 -- The folds over cards, one card more.
-use Rattle.std.proofs.Common.{◌≡◌, ◌≢◌, ◌∙◌, sym, ap, subst, refl, inl, inr, ℕ, zero, suc, ◌+◌, ◌<◌, ◌≤◌, ℤ, nat_lt, Bool, true, false, ◌&&◌, ◌||◌, if◌then◌else◌, unsigned_abs, List, [], ◌∷◌, length, slice_get, slice_set, slice_index_or, Option, Some, None, Result, Ok, Err, add-one, arith}
+use Rattle.std.proofs.Common.{◌≡◌, ◌≢◌, ◌∙◌, sym, ap, subst, refl, inl, inr, ℕ, zero, suc, ◌+◌, ◌<◌, ◌≤◌, ℤ, nat_lt, Bool, true, false, ◌&&◌, ◌||◌, if◌then◌else◌, unsigned_abs, List, [], ◌∷◌, length, slice_get, slice_set, slice_index_or, Option, Some, None, Result, Ok, Err, FitsSigned, to_z, of_z, add-one, arith}
+use mir.Syntax.{w64, w128}
 use Rattle.std.proofs.Math.ListN.{length-set}
 use Rattle.std.proofs.lemmas.Bool.{cases_eq, cases_lt, false≢true}
 use Rattle.std.proofs.lemmas.Bool.Decides.{nat_tests}
+use Rattle.std.proofs.lemmas.Int.{to_z-of_z}
 use Rattle.std.proofs.lemmas.List.{get_or-set_same, get_or-set_other}
 use Rattle.std.proofs.lemmas.List.Elements.{All-set}
 use Rattle.std.proofs.lemmas.Option.{slice_get_within}
@@ -34,6 +36,12 @@ known-set case values var y small known = record {
   one_each = length-set values var y ∙ known.one_each;
   small = All-set (λ (v : ℤ). unsigned_abs v ≤ LARGEST_VALUE) values var y small known.small;
 }
+
+-- a number of 64 bits, in 128
+pub wide_is : (z : ℤ) → FitsSigned w64 z → to_z w128 (of_z w128 z) ≡ z
+wide_is z fits =
+    let wide : FitsSigned w128 z = record { sfits = omega (arith, fits.sfits) } in
+    to_z-of_z w128 z wide
 
 -- ---- cards in turn
 
@@ -273,7 +281,7 @@ pass_ends case H early n m values after held moved fault start below is =
 
 -- ---- before the first card
 
-none_done : (case : Parts) (at : ℕ) → is_done case true 0 at ≡ false
+pub none_done : (case : Parts) (at : ℕ) → is_done case true 0 at ≡ false
 none_done case at = by_card (slice_get case.extras at)
   where
     by_card : (o : Option Extra) → is_done_by true 0 at o ≡ false

@@ -2,3 +2,4 @@ pub mod Systems
 pub mod Advancing
 pub mod Stepping
 pub mod Folds
+pub mod Starting
