@@ -5,3 +5,5 @@ pub mod Runs
 pub mod Results
 pub mod SixVariables
 pub mod NoCards
+pub mod Folds
+pub mod Starting
