@@ -14,7 +14,7 @@ use Rattle.emtp_machine.specs.declared.end.Cause.TheVariants.{Range, Residual, T
 use Rattle.emtp_machine.specs.declared.end.End.{End}
 use Rattle.emtp_net.proofs.Runs.{ticks_of_run}
 use Rattle.emtp_net.specs.Redone.{step_ticks, step_ticks_after}
-use Rattle.emtp_tacs.proofs.Runs.{control_ticks_of_run}
+use Rattle.emtp_tacs.proofs.Runs.{ticks_of_run as control_ticks_of_run}
 use Rattle.emtp_tacs.specs.Redone.{control_step_ticks, control_step_ticks_after}
 
 -- ---- one step

@@ -11,7 +11,10 @@ use Rattle.emtp_case.specs.declared.control.Extra.TheVariants.{Device as OfDevic
 use Rattle.emtp_devices.specs.Devices.{HeldDevices, IsDeviceAt, StandsAt, StandsFor as DevicesStandFor, states_of}
 use Rattle.emtp_tacs.specs.Part.{ControlPart, control_of}
 use Rattle.emtp_tacs.specs.Step.{◌>>=◌, Measured, SoFar, Solved, blocks, completed, control_step, extras, group_of, is_in_pass, known_before}
-use Rattle.emtp_tacs.specs.Stages.{HoldsVariables, IsSoFar, Reaches, VariablesStandFor, is_done, is_done_by, past_of}
+use Rattle.emtp_blocks.specs.BlockRows.{Blocking, StandsFor as BlocksStandFor}
+use Rattle.emtp_blocks.specs.System.{matrix}
+use Rattle.emtp_tacs.specs.Stages.{Advances, HaveMoved, Solves, HoldsVariables, IsSoFar, Reaches, VariablesStandFor, is_done, is_done_by, past_of}
+use Rattle.emtp_tacs.specs.declared.block_system.BlockSystem.{BlockSystem}
 use Rattle.emtp_tacs.specs.declared.fault.TacsFault.{TacsFault}
 use Rattle.emtp_tacs.specs.declared.variables.Variables.{Variables}
 
@@ -102,3 +105,73 @@ variables_next case H v s r holds so_far values devices = record {
   devices_count = ap length devices ∙ so_far.count;
   values = so_far.values_are ∙ sym values;
 }
+
+-- ---- what the block system answers
+
+pub record SystemSolved (blocks_after : Blocking) (values : List ℤ) (H : List StepRecord) (defined : Result Solved TacsFault) : Type 0 where
+  pub t : Solved
+  pub is : defined ≡ Ok t
+  pub moved : HaveMoved blocks_after values H t
+
+pub solved : (b : Blocking) (values : List ℤ) (H : List StepRecord) (defined : Result Solved TacsFault) → Solves (Ok tt) b values H defined → SystemSolved b values H defined
+solved b values H (Ok t) is = record { t = t; is = refl; moved = is }
+solved b values H (Err fault) is = absurd is
+
+pub unsolved : (b : Blocking) (values : List ℤ) (H : List StepRecord) (defined : Result Solved TacsFault) (e : TacsFault) → Solves (Err e) b values H defined → defined ≡ Err e
+unsolved b values H (Ok t) e is = absurd is
+unsolved b values H (Err fault) e is = ap Err (sym is)
+
+-- ---- the whole step
+
+ends_in : (case : Parts) (H : List StepRecord) (v : Variables) (system : BlockSystem) (m : Measured) (result : Result (Unit {0}) TacsFault) (e : TacsFault) → result ≡ Err e → control_step case H m ≡ Err e → Advances result case H v system (control_step case H m)
+ends_in case H v system m result e answered is = subst (λ r. Advances r case H v system (control_step case H m)) (sym answered) (subst (Advances (Err e) case H v system) (sym is) refl)
+
+-- a fault of a card before the blocks
+pub known_refused : (case : Parts) (H : List StepRecord) (m : Measured) (n : ℕ) (values : List ℤ) (held : HeldDevices) (v : Variables) (system : BlockSystem) (result : Result (Unit {0}) TacsFault) (e : TacsFault)
+    → result ≡ Err e → Reaches (Err e) case H true n values held (known_before case H m) → Advances result case H v system (control_step case H m)
+known_refused case H m n values held v system result e answered is = ends_in case H v system m result e answered (known_ends case H m e (refused case H true n values held (known_before case H m) e is))
+
+-- a fault of the blocks
+pub blocks_refused : (case : Parts) (H : List StepRecord) (m : Measured) (values seen outputs : List ℤ) (held : HeldDevices) (b : Blocking) (v : Variables) (system : BlockSystem) (result : Result (Unit {0}) TacsFault) (e : TacsFault)
+    → result ≡ Err e → seen ≡ values → Reaches (Ok tt) case H true (length case.extras) values held (known_before case H m) → Solves (Err e) b outputs H (blocks case H seen) → Advances result case H v system (control_step case H m)
+blocks_refused case H m values seen outputs held b v system result e answered read known is =
+    let r = reached case H true (length case.extras) values held (known_before case H m) known in
+    ends_in case H v system m result e answered (blocks_end case H m r.s e r.is (sym (ap (blocks case H) (read ∙ r.so_far.values_are)) ∙ unsolved b outputs H (blocks case H seen) e is))
+
+-- what the step has so far when the later pass begins, and how it goes on
+pub record BlocksDone (case : Parts) (H : List StepRecord) (m : Measured) (b : Blocking) (outputs : List ℤ) (held : HeldDevices) : Type 0 where
+  pub s : SoFar
+  pub t : Solved
+  pub known : known_before case H m ≡ Ok s
+  pub solved_is : blocks case H s.values ≡ Ok t
+  pub moved : HaveMoved b outputs H t
+  pub so_far : IsSoFar case H false 0 outputs held (record s { values = t.values })
+
+pub blocks_done : (case : Parts) (H : List StepRecord) (m : Measured) (values outputs : List ℤ) (held : HeldDevices) (b : Blocking)
+    → Reaches (Ok tt) case H true (length case.extras) values held (known_before case H m) → Solves (Ok tt) b outputs H (blocks case H values) → BlocksDone case H m b outputs held
+blocks_done case H m values outputs held b known is =
+    let r = reached case H true (length case.extras) values held (known_before case H m) known in
+    let d = solved b outputs H (blocks case H values) is in
+    record {
+      s = r.s;
+      t = d.t;
+      known = r.is;
+      solved_is = sym (ap (blocks case H) r.so_far.values_are) ∙ d.is;
+      moved = d.moved;
+      so_far = subst (λ ys. IsSoFar case H false 0 outputs held (record r.s { values = ys })) d.moved.values_are (between case H values outputs held r.s r.so_far);
+    }
+
+-- a fault of a card after the blocks, or none: the step is made
+pub advances : (case : Parts) (H : List StepRecord) (m : Measured) (result : Result (Unit {0}) TacsFault) (b : Blocking) (outputs : List ℤ) (held : HeldDevices) (v : Variables) (system : BlockSystem)
+    → HoldsVariables case v → system.blocks ≡ b → system.kept.rows ≡ matrix case H → (d : BlocksDone case H m b outputs held)
+    → Reaches result case H false (length case.extras) v.values.items v.devices (extras case H false (record d.s { values = d.t.values })) → Advances result case H v system (control_step case H m)
+advances case H m (Err e) b outputs held v system holds same kept d rest =
+    ends_in case H v system m (Err e) e refl (rest_ends case H m d.s d.t e d.known d.solved_is (refused case H false (length case.extras) v.values.items v.devices _ e rest))
+advances case H m (Ok u) b outputs held v system holds same kept d rest =
+    let r = reached case H false (length case.extras) v.values.items v.devices _ rest in
+    let made = step_made case H m d.s r.s d.t d.known d.solved_is r.is in
+    subst (Advances (Ok tt) case H v system) (sym made) (record {
+      variables_stand = λ n is. variables_next case H v r.s n holds r.so_far (ap (λ (p : ControlPart). p.values) is) (ap (λ (p : ControlPart). p.devices) is);
+      blocks_stand = λ n is. subst (λ (s : Blocking). BlocksStandFor s (n ∷ H)) (sym same) (d.moved.stands n (ap (λ (p : ControlPart). p.blocks) is));
+      kept = kept;
+    })

@@ -25,5 +25,8 @@ mod tacs;
 mod variables;
 
 pub use fault::TacsFault;
-pub use laws::{blocks_see_earlier_cards, no_cards_no_values};
+pub use laws::{
+    later_cards_read_what_was_written, no_cards_change_nothing, standing_variables_are_present,
+    ticks_are_blocks_and_redone, unmoved_redoes_nothing,
+};
 pub use tacs::Tacs;
