@@ -1,13 +1,13 @@
 -- The records of a run, each after those before it.
-use Rattle.std.proofs.Common.{◌≡◌, ◌∙◌, sym, ap, ℕ, zero, suc, ◌+◌, ◌<◌, ◌≤◌, List, [], ◌∷◌, length, Option, Some, None, IfSome, Result, Ok, Err, unsigned_abs, refl, arith}
-use Rattle.emtp_case.specs.StepRecord.{StepRecord, rest_of}
+use Rattle.std.proofs.Common.{◌≡◌, ℕ, zero, suc, ◌<◌, ◌≤◌, List, [], ◌∷◌, length, Option, Some, None, IfSome, Result, Ok, Err, unsigned_abs, refl, arith}
+use Rattle.emtp_case.specs.StepRecord.{StepRecord}
 use Rattle.emtp_case.specs.declared.case.Parts.{Parts}
 use Rattle.emtp_net.proofs.Runs.{residual_small}
 use Rattle.emtp_net.specs.Part.{NetworkPart}
 use Rattle.emtp_net.specs.Residual.{residual_of}
 use Rattle.emtp_net.specs.Step.{network_part}
 use Rattle.emtp_net.specs.declared.fault.NetFault.{NetFault}
-use Rattle.emtp_machine.specs.History.{History, advanced, after_step, end_at, history_upto}
+use Rattle.emtp_machine.specs.History.{History, advanced, after_step, history_upto}
 use Rattle.emtp_machine.specs.Laws.{IsBalanced, IsChain, IsRefusal, records_upto}
 use Rattle.emtp_machine.specs.Next.{Fault, joined, measured_of, next, with_control}
 use Rattle.emtp_machine.specs.declared.end.End.{End}

@@ -1,15 +1,15 @@
 -- A step of the network and the control's after it, together.
-use Rattle.std.proofs.Common.{◌≡◌, ◌∙◌, sym, ap, subst, ◌⊎◌, inl, inr, ℕ, ◌+◌, ◌-◌, ◌<◌, ◌≤◌, ℤ, List, [], ◌∷◌, length, map, Bool, false, true, Result, Ok, Err, refl, arith}
+use Rattle.std.proofs.Common.{◌≡◌, ◌∙◌, ap, subst, inr, ℕ, ◌+◌, ◌-◌, ◌≤◌, ℤ, List, [], ◌∷◌, Bool, false, true, Result, Ok, Err, refl, arith}
 use Rattle.std.specs.Prelude.{Contains}
 use Rattle.std.proofs.lemmas.List.Elements.{Contains-get_or}
-use Rattle.emtp_case.specs.StepRecord.{StepRecord, is_closed}
+use Rattle.emtp_case.specs.StepRecord.{StepRecord}
 use Rattle.emtp_case.specs.declared.case.Parts.{Parts}
-use Rattle.emtp_machine.specs.Controlled.{IsNamed, IsOf, StandsFor, StepsTo, Stops, redone_of}
-use Rattle.emtp_machine.specs.History.{end_at, next_redone, next_ticks, redone_by, rows_redone, ticks_by}
-use Rattle.emtp_machine.specs.Next.{Fault, control_cause, control_fault, joined, measured_of, network_fault, next, node_name, record_of, variable_name, with_control}
+use Rattle.emtp_machine.specs.Controlled.{IsNamed, IsOf, StandsFor, StepsTo, Stops}
+use Rattle.emtp_machine.specs.History.{end_at, next_redone, next_ticks, redone_by, ticks_by}
+use Rattle.emtp_machine.specs.Next.{control_cause, control_fault, joined, measured_of, network_fault, next, node_name, record_of, variable_name, with_control}
 use Rattle.emtp_machine.specs.declared.controlled.ControlledNetwork.{ControlledNetwork}
 use Rattle.emtp_machine.specs.declared.end.End.{End}
-use Rattle.emtp_net.specs.Fault.{IsNode, NamesNode}
+use Rattle.emtp_net.specs.Fault.{IsNode}
 use Rattle.emtp_net.specs.Network.{Net, StandsFor as NetworkStandsFor, StepsTo as NetworkStepsTo}
 use Rattle.emtp_net.specs.Part.{NetworkPart, network_of}
 use Rattle.emtp_net.specs.Redone.{net_redone, step_redone, step_ticks}
@@ -17,7 +17,7 @@ use Rattle.emtp_net.specs.Stages.{step_adds}
 use Rattle.emtp_net.specs.Step.{network_part}
 use Rattle.emtp_net.specs.declared.fault.NetFault.{NetFault}
 use Rattle.emtp_net.specs.declared.fault.NetFault.TheVariants.{Range, Residual, Tied, ZeroPivot}
-use Rattle.emtp_tacs.specs.Part.{ControlPart, control_of}
+use Rattle.emtp_tacs.specs.Part.{ControlPart}
 use Rattle.emtp_tacs.specs.Redone.{control_redone, control_step_redone, control_step_ticks}
 use Rattle.emtp_tacs.specs.Stages.{NamesVariable}
 use Rattle.emtp_tacs.specs.Step.{Measured, control_step}

@@ -1,5 +1,5 @@
 -- A machine, one step further.
-use Rattle.std.proofs.Common.{◌≡◌, ◌≢◌, ◌∙◌, sym, ap, subst, ℕ, suc, ◌+◌, ◌-◌, ◌*◌, ◌%◌, ◌<◌, ◌≤◌, ℤ, List, [], ◌∷◌, ◌++◌, drop, take, length, Option, Some, None, Result, Ok, Err, refl, arith}
+use Rattle.std.proofs.Common.{◌≡◌, ◌≢◌, ◌∙◌, sym, ap, subst, ℕ, suc, ◌+◌, ◌-◌, ◌%◌, ◌<◌, ◌≤◌, ℤ, List, [], ◌∷◌, ◌++◌, drop, take, length, Option, Some, None, Result, Ok, Err, refl, arith}
 use Rattle.std.proofs.Math.ListN.{drop_of_length-le}
 use Rattle.std.proofs.Math.Seq.{take-length}
 use Rattle.std.proofs.lemmas.List.{append-nil, length_push}
@@ -10,8 +10,8 @@ use Rattle.emtp_machine.proofs.Histories.{ended, made, stays}
 use Rattle.emtp_machine.proofs.Sampling.{first, one_more, passed, room_left, taken}
 use Rattle.emtp_machine.specs.Channels.{sample_of}
 use Rattle.emtp_machine.specs.Controlled.{IsNamed, IsOf, MayMove, StandsFor, StepsTo, Stops, redone_of}
-use Rattle.emtp_machine.specs.History.{History, end_at, history, history_upto, redone, redone_in, rows_redone, samples}
-use Rattle.emtp_machine.specs.Machine.{AreSamples, IsEnd, IsMachine, Progress, history_of, tried_of}
+use Rattle.emtp_machine.specs.History.{History, end_at, history, history_upto, redone_in, rows_redone}
+use Rattle.emtp_machine.specs.Machine.{AreSamples, IsMachine, Progress, history_of, tried_of}
 use Rattle.emtp_machine.specs.Next.{Fault, next}
 use Rattle.emtp_machine.specs.Samples.{Sampled}
 use Rattle.emtp_machine.specs.declared.controlled.ControlledNetwork.{ControlledNetwork}

@@ -1,9 +1,9 @@
 -- The rows that the steps of a machine eliminate.
-use Rattle.std.proofs.Common.{◌≡◌, ◌∙◌, sym, ap, subst, ℕ, suc, ◌+◌, ◌-◌, ◌≤◌, ℤ, List, [], ◌∷◌, length, Option, Some, None, IfNone, Ok, Err, refl, arith}
-use Rattle.emtp_case.specs.StepRecord.{StepRecord, rest_of}
+use Rattle.std.proofs.Common.{◌≡◌, ◌∙◌, sym, ap, subst, ℕ, suc, ◌+◌, ◌≤◌, ℤ, List, [], ◌∷◌, length, Option, Some, None, IfNone, Ok, Err, refl, arith}
+use Rattle.emtp_case.specs.StepRecord.{StepRecord}
 use Rattle.emtp_case.specs.declared.case.Parts.{Parts}
 use Rattle.emtp_machine.proofs.Histories.{count, some_records}
-use Rattle.emtp_machine.proofs.Machines.{Answers, HasMoved, HasNone, halts, history_ended, more, moves, rest_history, seen}
+use Rattle.emtp_machine.proofs.Machines.{Answers, HasMoved, halts, history_ended, more, moves, rest_history, seen}
 use Rattle.emtp_machine.specs.Controlled.{StandsFor}
 use Rattle.emtp_machine.specs.History.{History, history, history_upto, next_ticks, redone, redone_by, rows_eliminated, rows_of_run, rows_redone, ticks, ticks_by, ticks_in}
 use Rattle.emtp_machine.specs.Machine.{HasTicked, IsMachine, Progress, history_of, tried_of}

@@ -1,6 +1,5 @@
-use Rattle.std.proofs.Common.{◌≡◌, ◌∙◌, ◌≤◌, ◌^◌, ◌*◌, ap, ℤ, pos, neg_ℤ, ◌-ℤ◌, slice_index_or, unsigned_abs, to_z, of_z, FitsSigned, rules, arith}
+use Rattle.std.proofs.Common.{◌≡◌, ◌∙◌, ◌≤◌, ◌^◌, ◌*◌, ap, ℤ, pos, ◌-ℤ◌, slice_index_or, unsigned_abs, to_z, of_z, FitsSigned, rules, arith}
 use mir.Syntax.{w64, w128}
-use Rattle.std.specs.Int.{int_max, int_min}
 use Rattle.std.proofs.lemmas.Int.{ints, clamps, to_z-of_z}
 use Rattle.emtp_fix.proofs.Wide.{narrow_is}
 use Rattle.emtp_machine.specs.Channels.{within_range}

@@ -1,11 +1,17 @@
-use Rattle.std.proofs.Common.{◌∙◌, ◌+◌, ◌++◌, ap, sym, subst, drop, length, List, ℤ}
-use Rattle.emtp_machine.proofs.Machines.{ends, has_room, is_left, is_running, passes, six, takes, ticks-ended, ticks-made, written}
-use Rattle.emtp_machine.specs.Control.{standing_values}
-use Rattle.emtp_case.specs.declared.case.Parts.{Parts}
-use Rattle.emtp_net.specs.Fault.{NamesNode}
+use Rattle.std.proofs.Common.{◌∙◌, ap, sym, length}
+use Rattle.emtp_machine.proofs.Machines.{ends, has_room, is_left, is_running, may_step, passes, takes, written}
+use Rattle.emtp_machine.proofs.Ticks.{ticks-ended, ticks-made}
 use Rattle.emtp_machine.specs.History.{history_upto}
 use Rattle.emtp_machine.specs.Machine.{tried_of}
 use Rattle.emtp_machine.proofs.machine.Machine.advance.Goals as goal
+
+pub step-requires-clause-left : goal.step-requires-clause-left
+step-requires-clause-left g c =
+    let m = c.self.inside in
+    let case = m.case.now.parts in
+    let none = is_running c.args.self.now case m.made m.end c.self.view_is c.requires.running c.self.invariant.ended in
+    let left = is_left c.args.self.now case m.made m.end c.self.view_is none c.requires.left in
+    may_step case m.made m.end m.network m.row.items m.samples none c.self.invariant left
 
 pub take_sample-requires-clause-room : goal.take_sample-requires-clause-room
 take_sample-requires-clause-room g c =
@@ -21,14 +27,10 @@ invariant_of-self g c =
     let case = m.case.now.parts in
     let none = is_running c.args.self.now case m.made m.end c.self.view_is c.requires.running c.self.invariant.ended in
     let left = is_left c.args.self.now case m.made m.end c.self.view_is none c.requires.left in
-    let values = written c.set_standing.new.values m.values.items m.values.len (sym m.values.ok.0) (c.set_standing.ensures.width ∙ ap length c.deref_mut.ensures.value) in
-    let width = c.take_sample.ensures.width ∙ ap length c.deref_mut-then-self-case-eq0.ensures.value in
+    let width = c.take_sample.ensures.width ∙ ap length c.deref_mut.ensures.value in
     let row = written c.take_sample.new.row m.row.items m.row.len (sym m.row.ok.0) width in
-    let standing = c.set_standing.ensures.value ∙ ap (λ (xs : List ℤ). standing_values case.run (m.made + 1) ++ drop 6 xs) c.deref_mut.ensures.value in
-    let machine = takes case m.made m.end m.network c.step.new.self m.values.items c.set_standing.new.values m.row.items c.take_sample.new.row m.samples c.take_sample.new.samples none c.self.invariant (six case m.case.now.fits.draft.control.standing) m.case.now.fits.draft.run.some_every left c.step.ensures.case
-    (λ H stands are. c.in-Ok.ensures.step H stands (c.deref.ensures.value ∙ are)) standing c.if-self-case-eq0.true width
-    (λ H stands are. c.take_sample.ensures.samples H stands (c.deref-then-self-case-eq0.ensures.value ∙ values ∙ are)) in
-    rw (values, row) machine
+    let machine = takes case m.made m.end m.network c.step.new.self m.row.items c.take_sample.new.row m.samples c.take_sample.new.samples none c.self.invariant m.case.now.fits.draft.run.some_every left c.step.ensures.case c.in-Ok.ensures.step c.if-self-case-eq0.true width c.take_sample.ensures.samples in
+    rw row machine
 
 pub invariant_of-self-else-self-case-eq0 : goal.invariant_of-self-else-self-case-eq0
 invariant_of-self-else-self-case-eq0 g c =
@@ -36,11 +38,7 @@ invariant_of-self-else-self-case-eq0 g c =
     let case = m.case.now.parts in
     let none = is_running c.args.self.now case m.made m.end c.self.view_is c.requires.running c.self.invariant.ended in
     let left = is_left c.args.self.now case m.made m.end c.self.view_is none c.requires.left in
-    let values = written c.set_standing.new.values m.values.items m.values.len (sym m.values.ok.0) (c.set_standing.ensures.width ∙ ap length c.deref_mut.ensures.value) in
-    let standing = c.set_standing.ensures.value ∙ ap (λ (xs : List ℤ). standing_values case.run (m.made + 1) ++ drop 6 xs) c.deref_mut.ensures.value in
-    let machine = passes case m.made m.end m.network c.step.new.self m.values.items c.set_standing.new.values m.row.items m.samples none c.self.invariant (six case m.case.now.fits.draft.control.standing) left c.step.ensures.case
-    (λ H stands are. c.in-Ok.ensures.step H stands (c.deref.ensures.value ∙ are)) standing c.if-self-case-eq0.false in
-    rw values machine
+    passes case m.made m.end m.network c.step.new.self m.row.items m.samples none c.self.invariant left c.step.ensures.case c.in-Ok.ensures.step c.if-self-case-eq0.false
 
 pub invariant_of-self-in-Err : goal.invariant_of-self-in-Err
 invariant_of-self-in-Err g c =
@@ -48,32 +46,25 @@ invariant_of-self-in-Err g c =
     let case = m.case.now.parts in
     let none = is_running c.args.self.now case m.made m.end c.self.view_is c.requires.running c.self.invariant.ended in
     let left = is_left c.args.self.now case m.made m.end c.self.view_is none c.requires.left in
-    let node = subst (λ (p : Parts). NamesNode p c.in-Err.fault) c.self.invariant.case_is c.in-Err.ensures.node in
-    ends case m.made m.end m.network c.step.new.self m.values.items m.row.items m.samples c.in-Err.fault c.end_of.result none c.self.invariant left c.step.ensures.case
-    (λ H stands are. c.in-Err.ensures.step H stands (c.deref.ensures.value ∙ are)) node c.end_of.ensures
+    ends case m.made m.end m.network c.step.new.self m.row.items m.samples c.in-Err.end none c.self.invariant left c.step.ensures.case c.in-Err.ensures.step c.in-Err.ensures.number c.in-Err.ensures.named
 
 pub returns-then-self-case-eq0-clause-ticks : goal.returns-then-self-case-eq0-clause-ticks
 returns-then-self-case-eq0-clause-ticks g c =
     let m = c.self.inside in
     let case = m.case.now.parts in
     let none = is_running c.args.self.now case m.made m.end c.self.view_is c.requires.running c.self.invariant.ended in
-    let standing = c.set_standing.ensures.value ∙ ap (λ (xs : List ℤ). standing_values case.run (m.made + 1) ++ drop 6 xs) c.deref_mut.ensures.value in
-    ticks-made c.args.self.now case m.made m.end m.network c.step.new.self m.values.items c.set_standing.new.values m.row.items m.samples c.args.steps.now c.step.new.steps c.self.view_is none c.self.invariant (six case m.case.now.fits.draft.control.standing)
-    (λ H stands are. c.in-Ok.ensures.step H stands (c.deref.ensures.value ∙ are)) standing (λ H stands are. c.in-Ok.ensures.ticks H stands (c.deref.ensures.value ∙ are))
+    ticks-made c.args.self.now case m.made m.end m.network c.step.new.self m.row.items m.samples c.args.steps.now c.step.new.steps c.self.view_is none c.self.invariant c.in-Ok.ensures.step c.in-Ok.ensures.ticks
 
 pub returns-else-self-case-eq0-clause-ticks : goal.returns-else-self-case-eq0-clause-ticks
 returns-else-self-case-eq0-clause-ticks g c =
     let m = c.self.inside in
     let case = m.case.now.parts in
     let none = is_running c.args.self.now case m.made m.end c.self.view_is c.requires.running c.self.invariant.ended in
-    let standing = c.set_standing.ensures.value ∙ ap (λ (xs : List ℤ). standing_values case.run (m.made + 1) ++ drop 6 xs) c.deref_mut.ensures.value in
-    ticks-made c.args.self.now case m.made m.end m.network c.step.new.self m.values.items c.set_standing.new.values m.row.items m.samples c.args.steps.now c.step.new.steps c.self.view_is none c.self.invariant (six case m.case.now.fits.draft.control.standing)
-    (λ H stands are. c.in-Ok.ensures.step H stands (c.deref.ensures.value ∙ are)) standing (λ H stands are. c.in-Ok.ensures.ticks H stands (c.deref.ensures.value ∙ are))
+    ticks-made c.args.self.now case m.made m.end m.network c.step.new.self m.row.items m.samples c.args.steps.now c.step.new.steps c.self.view_is none c.self.invariant c.in-Ok.ensures.step c.in-Ok.ensures.ticks
 
 pub returns-in-Err-clause-ticks : goal.returns-in-Err-clause-ticks
 returns-in-Err-clause-ticks g c =
     let m = c.self.inside in
     let case = m.case.now.parts in
     let none = is_running c.args.self.now case m.made m.end c.self.view_is c.requires.running c.self.invariant.ended in
-    ticks-ended c.args.self.now case m.made m.end m.network c.step.new.self m.values.items m.row.items m.samples c.in-Err.fault c.args.steps.now c.step.new.steps c.end_of.result c.self.view_is none c.self.invariant
-    (λ H stands are. c.in-Err.ensures.step H stands (c.deref.ensures.value ∙ are)) (record { most = λ H stands are. c.step.ensures.most H stands (c.deref.ensures.value ∙ are); tied = λ H node stands are. c.step.ensures.tied H node stands (c.deref.ensures.value ∙ are) })
+    ticks-ended c.args.self.now case m.made m.end m.network c.step.new.self m.row.items m.samples c.args.steps.now c.step.new.steps c.in-Err.end c.self.view_is none c.self.invariant c.in-Err.ensures.step c.in-Err.ensures.most

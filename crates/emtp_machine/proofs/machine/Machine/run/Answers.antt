@@ -1,7 +1,8 @@
 use Rattle.std.proofs.Common.{◌∙◌, ap, subst}
 use Rattle.emtp_case.specs.declared.case.Parts.{Parts}
 use Rattle.emtp_machine.specs.Machine.{Progress}
-use Rattle.emtp_machine.proofs.Machines.{run-all, run-most, steps_of, whole_history}
+use Rattle.emtp_machine.proofs.Machines.{steps_of}
+use Rattle.emtp_machine.proofs.Ticks.{run-all, run-most, whole_history}
 use Rattle.emtp_machine.proofs.SampleRecords.{are_of}
 use Rattle.emtp_machine.specs.Laws.{SamplesBalance}
 use Rattle.emtp_machine.proofs.machine.Machine.run.Goals as goal
