@@ -1,19 +1,17 @@
 -- The stages of a step, one after the other.
-use Rattle.std.proofs.Common.{◌≡◌, ◌∙◌, ◌<◌, ◌∷◌, sym, ap, subst, ℕ, ℤ, nat_lt, Bool, true, false, List, length, slice_get, slice_index_or, ◌&&◌, ◌||◌, Option, Some, None, Result, Ok, Err, refl, arith}
+use Rattle.std.proofs.Common.{◌≡◌, ◌∙◌, ◌<◌, ◌∷◌, sym, ap, subst, ℕ, ℤ, nat_lt, Bool, true, false, List, length, slice_index_or, ◌&&◌, ◌||◌, Result, Ok, Err, refl, arith}
 use Rattle.std.proofs.lemmas.Bool.Decides.{nat_tests}
 use Rattle.std.proofs.lemmas.Option.{slice_get_within}
 use Rattle.emtp_case.specs.StepRecord.{StepRecord, no_device}
 use Rattle.emtp_case.specs.declared.case.Parts.{Parts}
 use Rattle.emtp_case.specs.declared.control.Device.{Device}
-use Rattle.emtp_case.specs.declared.control.DeviceState.{DeviceState}
-use Rattle.emtp_case.specs.declared.control.Extra.{Extra}
 use Rattle.emtp_case.specs.declared.control.Extra.TheVariants.{Device as OfDevice}
 use Rattle.emtp_devices.specs.Devices.{HeldDevices, IsDeviceAt, StandsAt, StandsFor as DevicesStandFor, states_of}
-use Rattle.emtp_tacs.specs.Part.{ControlPart, control_of}
-use Rattle.emtp_tacs.specs.Step.{◌>>=◌, Measured, SoFar, Solved, blocks, completed, control_step, extras, group_of, is_in_pass, known_before}
+use Rattle.emtp_tacs.specs.Part.{ControlPart}
+use Rattle.emtp_tacs.specs.Step.{◌>>=◌, Measured, SoFar, Solved, blocks, completed, control_step, extras, is_in_pass, known_before}
 use Rattle.emtp_blocks.specs.BlockRows.{Blocking, StandsFor as BlocksStandFor}
 use Rattle.emtp_blocks.specs.System.{matrix}
-use Rattle.emtp_tacs.specs.Stages.{Advances, HaveMoved, Solves, HoldsVariables, IsSoFar, Reaches, VariablesStandFor, is_done, is_done_by, past_of}
+use Rattle.emtp_tacs.specs.Stages.{Advances, HaveMoved, Solves, HoldsVariables, IsSoFar, Reaches, VariablesStandFor, is_done, past_of}
 use Rattle.emtp_tacs.specs.declared.block_system.BlockSystem.{BlockSystem}
 use Rattle.emtp_tacs.specs.declared.fault.TacsFault.{TacsFault}
 use Rattle.emtp_tacs.specs.declared.variables.Variables.{Variables}

@@ -1,5 +1,5 @@
 -- The folds over cards, one card more.
-use Rattle.std.proofs.Common.{◌≡◌, ◌≢◌, ◌∙◌, sym, ap, subst, refl, inl, inr, ℕ, zero, suc, ◌+◌, ◌<◌, ◌≤◌, ℤ, nat_lt, Bool, true, false, ◌&&◌, ◌||◌, if◌then◌else◌, unsigned_abs, List, [], ◌∷◌, length, slice_get, slice_set, slice_index_or, Option, Some, None, Result, Ok, Err, FitsSigned, to_z, of_z, add-one, arith}
+use Rattle.std.proofs.Common.{◌≡◌, ◌≢◌, ◌∙◌, sym, ap, subst, refl, inl, inr, ℕ, zero, suc, ◌+◌, ◌<◌, ◌≤◌, ℤ, nat_lt, Bool, true, false, ◌&&◌, ◌||◌, if◌then◌else◌, unsigned_abs, List, ◌∷◌, length, slice_get, slice_set, Option, Some, None, Result, Ok, Err, FitsSigned, to_z, of_z, add-one, arith}
 use mir.Syntax.{w64, w128}
 use Rattle.std.proofs.Math.ListN.{length-set}
 use Rattle.std.proofs.lemmas.Bool.{cases_eq, cases_lt, false≢true}

@@ -1,7 +1,7 @@
 -- A control without cards.
-use Rattle.std.proofs.Common.{◌≡◌, ◌∙◌, sym, ap, ℕ, ℤ, true, false, ◌++◌, drop, List, [], ◌∷◌, length, Result, Ok, None, refl}
+use Rattle.std.proofs.Common.{◌≡◌, ◌∙◌, ap, ℤ, true, false, ◌++◌, drop, List, [], ◌∷◌, length, Ok, None, refl}
 use Rattle.emtp_blocks.proofs.Matrices.{length-control_matrix}
-use Rattle.emtp_blocks.specs.System.{first_out, limiters_of, matrix, next_at, outputs, right, states_after}
+use Rattle.emtp_blocks.specs.System.{first_out, limiters_of, matrix, outputs, right, states_after}
 use Rattle.emtp_case.specs.Case.{HasNoControl}
 use Rattle.emtp_case.specs.StepRecord.{StepRecord, latest}
 use Rattle.emtp_case.specs.declared.case.Parts.{Parts}
@@ -9,7 +9,7 @@ use Rattle.emtp_elim.specs.Elimination.{solution}
 use Rattle.emtp_elim.specs.Matrix.{Matrix}
 use Rattle.emtp_elim.specs.Outcome.{outcome}
 use Rattle.emtp_tacs.specs.Part.{standing_values}
-use Rattle.emtp_tacs.specs.Step.{Measured, SoFar, Solved, blocks, control_step, extra_at, extras, in_turn, known_before, source_at, sources, starting, with_outputs}
+use Rattle.emtp_tacs.specs.Step.{Measured, blocks, control_step, extra_at, extras, in_turn, known_before, source_at, sources, starting, with_outputs}
 use Rattle.emtp_tacs.proofs.Advancing.{step_made}
 use Rattle.emtp_tacs.proofs.Systems.{solved_ends}
 

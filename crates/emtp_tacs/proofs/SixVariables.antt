@@ -1,5 +1,5 @@
 -- The six variables that every case has: no card writes them.
-use Rattle.std.proofs.Common.{◌≡◌, ◌∙◌, ◌<◌, ◌≤◌, ◌+◌, sym, ap, subst, ℕ, zero, suc, ℤ, pos, if◌then◌else◌, Bool, true, false, All, List, [], length, slice_get, slice_set, get_or, take, Option, Some, None, Result, Ok, Err, refl, arith}
+use Rattle.std.proofs.Common.{◌≡◌, ◌∙◌, ◌<◌, ◌≤◌, sym, ap, subst, ℕ, zero, suc, ℤ, pos, if◌then◌else◌, Bool, true, false, All, List, [], length, slice_get, get_or, take, Option, Some, None, Result, Ok, Err, refl, arith}
 use Rattle.std.proofs.lemmas.List.{get_or-map, take-set-le}
 use Rattle.std.proofs.lemmas.Option.{get_or_from_slice_get, slice_get-get_or, slice_get_within}
 use Rattle.emtp_blocks.specs.System.{first_out, matrix, right}

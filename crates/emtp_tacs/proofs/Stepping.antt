@@ -1,5 +1,5 @@
 -- A step, from what its stages answer.
-use Rattle.std.proofs.Common.{◌≡◌, ◌≢◌, ◌∙◌, sym, ap, subst, ℕ, ◌+◌, ◌-◌, ◌≤◌, ◌==◌, if◌then◌else◌, ℤ, List, [], ◌∷◌, length, Result, Ok, Err, OnOk, refl, false, arith}
+use Rattle.std.proofs.Common.{◌≡◌, ◌≢◌, ◌∙◌, sym, ap, ℕ, ◌+◌, ◌-◌, ◌≤◌, ◌==◌, if◌then◌else◌, List, [], ◌∷◌, length, Result, Ok, Err, OnOk, refl, false, arith}
 use Rattle.std.proofs.lemmas.Bool.Decides.{nat_tests}
 use Rattle.emtp_blocks.proofs.Matrices.{length-control_matrix}
 use Rattle.emtp_blocks.specs.System.{limiters_of, matrix}
@@ -14,7 +14,7 @@ use Rattle.emtp_tacs.specs.Tacs.{HeldControl, StandsFor, StepsTo}
 use Rattle.emtp_tacs.specs.declared.block_system.BlockSystem.{BlockSystem}
 use Rattle.emtp_tacs.specs.declared.fault.TacsFault.{TacsFault}
 use Rattle.emtp_tacs.specs.declared.variables.Variables.{Variables}
-use Rattle.emtp_tacs.specs.Redone.{control_redone, control_step_redone, control_step_ticks, last_control_matrix}
+use Rattle.emtp_tacs.specs.Redone.{control_step_redone, control_step_ticks, last_control_matrix}
 
 -- ---- rows redone
 
@@ -74,17 +74,17 @@ pub steps_to : (case : Parts) (v w : Variables) (s t : BlockSystem) (made first 
     → Advances result case H w t part → StepsTo result (held_of case w t (made + 1)) H part
 steps_to case v w s t made first H (Ok u) (Ok part) stands held holds is count made_so =
     λ r next.
-      let all = made_so.variables_stand r next in
-      record {
-        blocks = made_so.blocks_stand r next;
-        devices = all.devices;
-        devices_count = all.devices_count;
-        values = all.values;
-        kept = made_so.kept ∙ sym (last_matrix_is case H made r stands.steps);
-        kept_size = holds.kept_size;
-        steps = omega (arith, stands.steps);
-        redone = redone_is case H first made s.redone t.redone (first_is case v s made first H stands held.case_is is) stands.steps count ∙ ap (λ n. n + control_step_redone case H) stands.redone;
-      }
+    let all = made_so.variables_stand r next in
+    record {
+      blocks = made_so.blocks_stand r next;
+      devices = all.devices;
+      devices_count = all.devices_count;
+      values = all.values;
+      kept = made_so.kept ∙ sym (last_matrix_is case H made r stands.steps);
+      kept_size = holds.kept_size;
+      steps = omega (arith, stands.steps);
+      redone = redone_is case H first made s.redone t.redone (first_is case v s made first H stands held.case_is is) stands.steps count ∙ ap (λ n. n + control_step_redone case H) stands.redone;
+    }
 steps_to case v w s t made first H (Ok u) (Err fault) stands held holds is count made_so = absurd made_so
 steps_to case v w s t made first H (Err e) (Ok part) stands held holds is count made_so = absurd made_so
 steps_to case v w s t made first H (Err e) (Err fault) stands held holds is count made_so =

@@ -1,4 +1,4 @@
-use Rattle.std.proofs.Common.{◌≡◌, ◌∙◌, ◌+◌, ◌<◌, ap, sym, subst, get_or, length, slice_get, Some, Ok, Err, true, false, ℕ, arith}
+use Rattle.std.proofs.Common.{◌≡◌, ◌∙◌, ◌+◌, ◌<◌, ap, sym, subst, get_or, length, slice_get, Some, Ok, Err, true, ℕ, arith}
 use Rattle.std.proofs.lemmas.Option.{slice_get-get_or}
 use Rattle.emtp_tacs.specs.Stages.{Reaches}
 use Rattle.emtp_tacs.specs.Step.{extra_at, group_of, in_turn, is_in_pass}
@@ -29,15 +29,15 @@ loop-at-preserved c =
     let pass_is = sym (ap (is_in_pass c.args.early) c.group_of.ensures) ∙ sym c.is_in_pass.ensures in
     elim c.if-is_in_pass.branch [
       | then-is_in_pass+in-Ok w ↦ rw (w.devices-is, w.values-is) (record {
-          same = w.in-Ok.ensures.same;
-          known = w.in-Ok.ensures.values;
-          reaches = λ H s long so_far. pass_more case H c.args.early at (Ok tt) c.loop-at.values w.compute_extra.new.values c.loop-at.devices w.compute_extra.new.devices r s here (pass_is ∙ w.if-is_in_pass.true) (λ t so. w.in-Ok.ensures.reaches H c.args.early r t long here (pass_is ∙ w.if-is_in_pass.true) so) (c.loop-at.invariant.reaches H s long so_far);
-        })
+        same = w.in-Ok.ensures.same;
+        known = w.in-Ok.ensures.values;
+        reaches = λ H s long so_far. pass_more case H c.args.early at (Ok tt) c.loop-at.values w.compute_extra.new.values c.loop-at.devices w.compute_extra.new.devices r s here (pass_is ∙ w.if-is_in_pass.true) (λ t so. w.in-Ok.ensures.reaches H c.args.early r t long here (pass_is ∙ w.if-is_in_pass.true) so) (c.loop-at.invariant.reaches H s long so_far);
+      })
       | else-is_in_pass w ↦ rw (w.devices-is, w.values-is) (record {
-          same = c.loop-at.invariant.same;
-          known = c.loop-at.invariant.known;
-          reaches = λ H s long so_far. pass_skips case H c.args.early at c.loop-at.values c.loop-at.devices r s here (pass_is ∙ w.if-is_in_pass.false) (c.loop-at.invariant.reaches H s long so_far);
-        })
+        same = c.loop-at.invariant.same;
+        known = c.loop-at.invariant.known;
+        reaches = λ H s long so_far. pass_skips case H c.args.early at c.loop-at.values c.loop-at.devices r s here (pass_is ∙ w.if-is_in_pass.false) (c.loop-at.invariant.reaches H s long so_far);
+      })
     ]
 
 pub returns-clause-reaches : goal.returns-clause-reaches

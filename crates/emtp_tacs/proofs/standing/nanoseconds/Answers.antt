@@ -1,5 +1,5 @@
-use Rattle.std.proofs.Common.{◌≡◌, ◌≤◌, ◌∙◌, ◌^◌, ◌*◌, ap, ℤ, pos, unsigned_abs, to_z, of_z, FitsSigned, arith}
-use mir.Syntax.{w64, w128}
+use Rattle.std.proofs.Common.{◌≡◌, ◌∙◌, ap, ℤ, pos, FitsSigned, arith}
+use mir.Syntax.{w64}
 use Rattle.std.proofs.lemmas.Int.{to_z-of_z}
 use Rattle.emtp_fix.proofs.Wide.{narrow_is, through}
 use Rattle.emtp_fix.proofs.Nearest.{unsigned_abs-near-le}

@@ -1,4 +1,4 @@
-use Rattle.std.proofs.Common.{◌≡◌, ◌≤◌, ◌*ℤ◌, pos, negsuc, to_z, of_z, unsigned_abs, arith}
+use Rattle.std.proofs.Common.{◌≤◌, ◌*ℤ◌, pos, negsuc, to_z, of_z, unsigned_abs, arith}
 use mir.Syntax.{w64}
 use Rattle.std.proofs.lemmas.Int.{ints}
 use Rattle.emtp_fix.proofs.Wide.{through_64}

@@ -1,4 +1,4 @@
-use Rattle.std.proofs.Common.{◌≡◌, sym, subst, List, ℤ, length, arith}
+use Rattle.std.proofs.Common.{sym, subst, List, ℤ, arith}
 use Rattle.std.proofs.lemmas.List.{with_items_is}
 use Rattle.emtp_blocks.specs.BlockRows.{HaveAccepted}
 use Rattle.emtp_tacs.proofs.block_system.BlockSystem.accept.Goals as goal

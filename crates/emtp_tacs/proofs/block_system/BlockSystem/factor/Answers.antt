@@ -1,8 +1,7 @@
-use Rattle.std.proofs.Common.{◌≡◌, ◌∙◌, sym, ap, subst, Err, arith}
+use Rattle.std.proofs.Common.{◌∙◌, sym, ap, Err, arith}
 use Rattle.emtp_blocks.specs.System.{right}
 use Rattle.emtp_elim.specs.Outcome.{outcome}
-use Rattle.emtp_tacs.specs.Step.{blocks}
-use Rattle.emtp_tacs.proofs.Systems.{first_within, row_ends, rows_are, rows_size}
+use Rattle.emtp_tacs.proofs.Systems.{row_ends, rows_are, rows_size}
 use Rattle.emtp_tacs.proofs.block_system.BlockSystem.factor.Goals as goal
 
 pub update_from-requires-clause-size : goal.update_from-requires-clause-size

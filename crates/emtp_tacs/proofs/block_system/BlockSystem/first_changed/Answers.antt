@@ -1,4 +1,4 @@
-use Rattle.std.proofs.Common.{◌≡◌, ◌∙◌, sym, ap, arith}
+use Rattle.std.proofs.Common.{◌∙◌, sym, ap, arith}
 use Rattle.emtp_tail.specs.Good.{Good}
 use Rattle.emtp_tacs.proofs.Systems.{first_within, rows_size}
 use Rattle.emtp_tacs.proofs.block_system.BlockSystem.first_changed.Goals as goal

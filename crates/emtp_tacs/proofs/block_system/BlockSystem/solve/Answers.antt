@@ -1,4 +1,4 @@
-use Rattle.std.proofs.Common.{◌≡◌, ◌∙◌, sym, ap, subst, length}
+use Rattle.std.proofs.Common.{◌∙◌, sym, ap, subst, length}
 use Rattle.emtp_blocks.specs.BlockRows.{Blocking, StandsFor as BlocksStandFor}
 use Rattle.emtp_tail.specs.Good.{Good}
 use Rattle.emtp_tacs.specs.Step.{with_outputs}

@@ -1,4 +1,4 @@
-use Rattle.std.proofs.Common.{◌≡◌, ◌∙◌, ◌+◌, sym, ap, subst, List, length, arith}
+use Rattle.std.proofs.Common.{◌∙◌, ◌+◌, sym, ap, subst, arith}
 use Rattle.emtp_blocks.specs.BlockRows.{Blocking, StandsFor as BlocksStandFor}
 use Rattle.emtp_tacs.specs.Step.{Measured, control_step}
 use Rattle.emtp_tacs.specs.Redone.{control_step_ticks}
