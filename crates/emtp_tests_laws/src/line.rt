@@ -12,6 +12,8 @@ use emtp_line::Lines;
 use std::alloc::{AllocError, Global};
 use std::test::Fail;
 
+mod phases;
+
 const RUN: RunData = RunData {
     dt: 100_000_000,
     steps: 5,
