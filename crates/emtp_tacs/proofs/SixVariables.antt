@@ -105,7 +105,7 @@ standing_stay case H m part control made =
     let solved = then_ok (blocks case H known.0.values) (completed case H known.0) part known.2 in
     let last = then_ok (extras case H false (record known.0 { values = solved.0.values })) (λ (last : SoFar). Ok (record { values = last.values; blocks = solved.0.blocks; devices = last.devices })) part solved.2 in
     ap (λ (p : ControlPart). take 6 p.values) (sym (same_ok _ part last.2))
-    ∙ in_turn_six (extra_at case H false) (λ n s t is. extra_six case H false n s t control is) (length case.extras) _ last.0 last.1
+    ∙ in_turn_six (extra_at case H false) (λ n s t is. extra_six case H false n s t control is) (length case.extras) (record known.0 { values = solved.0.values }) last.0 last.1
     ∙ blocks_six case H known.0.values solved.0 control solved.1
     ∙ in_turn_six (extra_at case H true) (λ n s t is. extra_six case H true n s t control is) (length case.extras) first.0 known.0 first.2
     ∙ in_turn_six (source_at case (length H) m) (λ n s t is. source_six case (length H) m n s t control is) (length case.tacs_sources) (starting case H) first.0 first.1

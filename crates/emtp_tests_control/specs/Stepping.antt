@@ -11,6 +11,10 @@ use Rattle.emtp_blocks.specs.System.{matrix, right}
 abbrev pub block_sizes : Sizes
 block_sizes = record (sizes_with 0) { vars = 7 }
 
+-- no node and nine variables
+abbrev pub control_sizes : Sizes
+control_sizes = record (sizes_with 0) { vars = 9 }
+
 -- a step of the blocks: their system has this solution, and the value takes it in
 pub record Steps (case : Parts) (H : List StepRecord) (known : List ℤ) (new : Blocking) (x : List ℤ) : Type 0 where
   pub solution : List ℤ
