@@ -1,5 +1,5 @@
 -- What the list of held devices says of one of them.
-use Rattle.std.proofs.Common.{◌≡◌, ◌≢◌, ◌∙◌, ap, sym, subst, refl, inl, inr, ℕ, ◌<◌, List, [], ◌∷◌, length, get_or, slice_set, Option, Some, None, Result, Ok, Err, IfOk, OnErr, ℤ, arith}
+use Rattle.std.proofs.Common.{◌≡◌, ◌≢◌, ◌∙◌, ap, sym, subst, refl, inl, inr, ℕ, ◌<◌, List, ◌∷◌, length, get_or, slice_set, Option, Some, None, Result, Ok, Err, IfOk, OnErr, ℤ, arith}
 use Rattle.std.proofs.lemmas.Bool.{cases_eq}
 use Rattle.std.proofs.lemmas.List.{get_or_default, get_or-set_same, get_or-set_other, set-get_or}
 use Rattle.std.proofs.lemmas.Option.{slice_get_within, get_or_from_slice_get}

@@ -1,6 +1,9 @@
 pub mod Squares
 pub mod Rings
 pub mod Equations
+pub mod Extremes
+pub mod Tables
+pub mod NextStates
 pub mod Holding
 pub mod Resting
 pub mod Worked

@@ -1,5 +1,5 @@
 -- The running sum of squares: what comes and what goes.
-use Rattle.std.proofs.Common.{◌≡◌, ap, refl, ℕ, zero, suc, ◌+◌, ◌-◌, ◌*◌, ◌^◌, ◌≤◌, ℤ, pos, negsuc, ◌+ℤ◌, ◌*ℤ◌, ◌≤ℤ◌, unsigned_abs, List, [], ◌∷◌, All, length, take, arith}
+use Rattle.std.proofs.Common.{◌≡◌, ap, refl, ℕ, zero, suc, ◌-◌, ◌*◌, ◌^◌, ◌≤◌, ℤ, pos, negsuc, ◌+ℤ◌, ◌*ℤ◌, ◌≤ℤ◌, unsigned_abs, List, [], ◌∷◌, All, length, take, arith}
 use Rattle.std.proofs.lemmas.Int.{ints}
 use Rattle.emtp_devices.specs.Device.{square, sum_of_squares}
 use Rattle.emtp_fix.proofs.Quotients.{near-nonneg, near-product, near-small}

@@ -6,7 +6,7 @@ use Rattle.emtp_case.specs.declared.control.Device.{Device}
 use Rattle.emtp_case.specs.declared.control.DeviceState.{DeviceState}
 use Rattle.emtp_case.specs.declared.control.Extra.TheVariants.{Device as OfDevice}
 use Rattle.emtp_devices.specs.Device.{next_state}
-use Rattle.emtp_devices.specs.Held.{DeviceStands, IsHeld, IsHeldOf, held_at_rest}
+use Rattle.emtp_devices.specs.Held.{DeviceStands, IsHeldOf, held_at_rest}
 use Rattle.emtp_devices.specs.declared.held.HeldDevice.{HeldDevice}
 use Rattle.emtp_fix.specs.declared.limit.OutOfRange.{OutOfRange}
 

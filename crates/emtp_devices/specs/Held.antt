@@ -3,7 +3,6 @@ use Rattle.std.specs.Prelude.{◌≡◌, ◌≤◌, ◌∷◌, [], All, List, Op
 use Rattle.emtp_case.specs.HistoryValues.{device_history_values, extra_history_values}
 use Rattle.emtp_case.specs.declared.case.Parts.{Parts}
 use Rattle.emtp_case.specs.declared.control.Device.{Device}
-use Rattle.emtp_case.specs.declared.control.DeviceCode.{DeviceCode}
 use Rattle.emtp_case.specs.declared.control.DeviceCode.TheVariants.{EffectiveValue}
 use Rattle.emtp_case.specs.declared.control.DeviceState.{DeviceState}
 use Rattle.emtp_case.specs.declared.control.Extra.{Extra}

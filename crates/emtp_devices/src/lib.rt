@@ -20,4 +20,7 @@ mod output;
 mod table;
 
 pub use devices::Devices;
-pub use laws::{counter_keeps, no_delay};
+pub use laws::{
+    counter_keeps, delay_looks_back, extreme_is_reached, gates_share_the_input, holds_its_value,
+    no_delay, peak_never_falls, steady_input_has_no_derivative, table_meets_its_points,
+};

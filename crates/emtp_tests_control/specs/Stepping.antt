@@ -1,19 +1,10 @@
 -- What the caller of the blocks promises.
 use Rattle.std.specs.Prelude.{◌≡◌, ℤ, List, Ok}
-use Rattle.emtp_case.specs.Sizes.{Sizes, sizes_with}
 use Rattle.emtp_case.specs.StepRecord.{StepRecord}
 use Rattle.emtp_case.specs.declared.case.Parts.{Parts}
 use Rattle.emtp_elim.specs.Outcome.{outcome}
 use Rattle.emtp_blocks.specs.BlockRows.{Accepts, Blocking}
 use Rattle.emtp_blocks.specs.System.{matrix, right}
-
--- no node and seven variables
-abbrev pub block_sizes : Sizes
-block_sizes = record (sizes_with 0) { vars = 7 }
-
--- no node and nine variables
-abbrev pub control_sizes : Sizes
-control_sizes = record (sizes_with 0) { vars = 9 }
 
 -- a step of the blocks: their system has this solution, and the value takes it in
 pub record Steps (case : Parts) (H : List StepRecord) (known : List ℤ) (new : Blocking) (x : List ℤ) : Type 0 where

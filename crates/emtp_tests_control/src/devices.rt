@@ -1,9 +1,14 @@
 //! The worked devices: at a time step of 0.1 ms what each puts out of the inputs of three steps.
 
-ghost use Rattle.std.specs.Prelude.{◌≡◌};
+ghost use Rattle.std.specs.Prelude.{◌≡◌, ◌<◌, ◌≤◌, [], All, IfOk, IsSome, IsTrue, length, unsigned_abs};
+ghost use Rattle.std.specs.Option.{ForSome};
+ghost use Rattle.emtp_case.specs.Control.{HasRangeOfA, IsDeviceCard, needs_d};
 ghost use Rattle.emtp_case.specs.declared.control.Device.{Device};
+ghost use Rattle.emtp_case.specs.declared.control.Input.{Input};
 ghost use Rattle.emtp_devices.specs.Devices.{IsDeviceAt};
 ghost use Rattle.emtp_devices.specs.Held.{AreRead};
+ghost use Rattle.emtp_fix.specs.declared.limit.TheConstants.{LARGEST_VALUE};
+ghost use Rattle.emtp_tests_control.specs.Fixtures.{FitsAlone, one_sizes};
 
 use emtp_case::{Case, Device, DeviceCode, Draft, Group, Input, Items, Name, Point, RunData};
 use emtp_devices::Devices;
@@ -34,32 +39,6 @@ const RUN: RunData = RunData {
 
 const UNIT: i64 = 1_000_000_000;
 
-/// A device of PLUS1, or of PLUS1 and its negative, with the number A, and PLUS1 as D where it has to be named.
-fn device(alloc: Global, code: DeviceCode, a: i64, both: bool) -> Result<Device, AllocError> {
-    let mut inputs = Items::new(alloc);
-    inputs.extend_from_slice(&[PLUS])?;
-    if both {
-        inputs.extend_from_slice(&[MINUS])?;
-    }
-    Ok(Device {
-        line: 6,
-        var: 6,
-        group: Group::Output,
-        code,
-        inputs,
-        a,
-        b: 0,
-        c: 0,
-        d: match code {
-            DeviceCode::Gate | DeviceCode::GateAbove | DeviceCode::Selector => Some(4),
-            _ => None,
-        },
-        e: None,
-        first: 0,
-        count: 0,
-    })
-}
-
 const PLUS: Input = Input {
     var: 4,
     minus: false,
@@ -70,21 +49,72 @@ const MINUS: Input = Input {
     minus: true,
 };
 
+/// PLUS1 and its negative, or PLUS1 alone.
+fn inputs_of(alloc: Global, both: bool) -> Result<Items<Input>, AllocError>
+    ensures few { IfOk result (λ inputs. length inputs ≤ 2) }
+    ensures there { IfOk result (λ inputs. All (λ (i : Input). i.var < 7) inputs) }
+{
+    if both {
+        Ok(Items::from_vec(Vec::from_array(alloc, [PLUS, MINUS])?))
+    } else {
+        Ok(Items::from_vec(Vec::from_array(alloc, [PLUS])?))
+    }
+}
+
+/// A device of these inputs, with these A and D.
+fn device(inputs: Items<Input>, code: DeviceCode, a: i64, d: Option<u32>) -> Device
+    requires few { length inputs ≤ 2 }
+    requires there { All (λ (i : Input). i.var < 7) inputs }
+    requires a { HasRangeOfA code a }
+    requires d { ForSome d (λ v. v < 7) }
+    requires required { IsTrue (needs_d code) → IsSome d }
+    ensures card { IsDeviceCard one_sizes result }
+    ensures var { result.var ≡ 6 }
+    ensures code { result.code ≡ code }
+    ensures a { result.a ≡ a }
+{
+    Device {
+        line: 6,
+        var: 6,
+        group: Group::Output,
+        code,
+        inputs,
+        a,
+        b: 0,
+        c: 0,
+        d,
+        e: None,
+        first: 0,
+        count: 0,
+    }
+}
+
 /// A case of this device alone.
-fn one_device(alloc: Global, device: Device, points: &[Point]) -> Result<Case, AllocError> {
+fn one_device(alloc: Global, device: Device, points: &[Point]) -> Result<Case, AllocError>
+    requires card { IsDeviceCard one_sizes device }
+    requires var { device.var ≡ 6 }
+    requires fits { FitsAlone device.code device.a points.now }
+    ensures vars { IfOk result (λ case. length case.parts.vars ≡ 7) }
+    ensures device { IfOk result (λ case. (x : Device) × IsDeviceAt case.parts 0 x) }
+{
     let mut draft = Draft::new(alloc, RUN)?;
     draft.add_variable(Name::new(b"OUT"))?;
     draft.add_device(device, points)?;
     Ok(draft.finish())
 }
 
-/// The outputs of a device at these inputs.
+/// The outputs of a device at these values of PLUS1.
 fn outputs(
     alloc: Global,
     device: Device,
     points: &[Point],
     inputs: [i64; 3],
-) -> Result<[i64; 3], AllocError> {
+) -> Result<[i64; 3], AllocError>
+    requires card { IsDeviceCard one_sizes device }
+    requires var { device.var ≡ 6 }
+    requires fits { FitsAlone device.code device.a points.now }
+    requires inputs { All (λ s. unsigned_abs s ≤ LARGEST_VALUE) inputs }
+{
     let case = one_device(alloc, device, points)?;
     let mut devices = Devices::open(alloc, &case)?;
     let mut outputs = [0; 3];
@@ -95,62 +125,172 @@ fn outputs(
     Ok(outputs)
 }
 
-/// The outputs of a device without points at an input of 8.
-fn at_eight(alloc: Global, code: DeviceCode, a: i64, both: bool) -> Result<[i64; 3], AllocError> {
-    outputs(alloc, device(alloc, code, a, both)?, &[], [8 * UNIT; 3])
+/// The same of a device of PLUS1 without points; where it has a D, that is PLUS1 too.
+fn walk(
+    alloc: Global,
+    code: DeviceCode,
+    a: i64,
+    d: Option<u32>,
+    inputs: [i64; 3],
+) -> Result<[i64; 3], AllocError>
+    requires fits { FitsAlone code a [] }
+    requires d { ForSome d (λ v. v < 7) }
+    requires required { IsTrue (needs_d code) → IsSome d }
+    requires inputs { All (λ s. unsigned_abs s ≤ LARGEST_VALUE) inputs }
+{
+    let device = device(inputs_of(alloc, false)?, code, a, d);
+    outputs(alloc, device, &[], inputs)
+}
+
+/// The same of a device of PLUS1 and its negative.
+fn walk_both(
+    alloc: Global,
+    code: DeviceCode,
+    a: i64,
+    d: Option<u32>,
+    inputs: [i64; 3],
+) -> Result<[i64; 3], AllocError>
+    requires fits { FitsAlone code a [] }
+    requires d { ForSome d (λ v. v < 7) }
+    requires required { IsTrue (needs_d code) → IsSome d }
+    requires inputs { All (λ s. unsigned_abs s ≤ LARGEST_VALUE) inputs }
+{
+    let device = device(inputs_of(alloc, true)?, code, a, d);
+    outputs(alloc, device, &[], inputs)
 }
 
 #[test]
-fn worked_rows(rt: HostRuntime) -> Result<(), Fail> {
+#[tactic(auto, unfolding(emtp_fix::specs::Rounding::near, emtp_fix::specs::Rounding::near_abs))]
+fn past_inputs(rt: HostRuntime) -> Result<(), Fail> {
     let alloc = rt.alloc();
     let u = 8 * UNIT;
-    // 0.2 ms; 5,000 Hz are two steps
-    assert_eq!(rt; at_eight(alloc, DeviceCode::Delay, 200_000_000, false)?, [0, 0, u]);
-    assert_eq!(rt; at_eight(alloc, DeviceCode::Integral, 0, false)?, [400_000, 1_200_000, 2_000_000]);
-    assert_eq!(rt; at_eight(alloc, DeviceCode::Derivative, 0, false)?, [80_000 * UNIT, 0, 0]);
-    assert_eq!(rt; at_eight(alloc, DeviceCode::Extreme, -UNIT, true)?, [-u, -u, -u]);
-    assert_eq!(rt; at_eight(alloc, DeviceCode::Counter, 0, false)?, [u, 2 * u, 3 * u]);
-    assert_eq!(rt; at_eight(alloc, DeviceCode::EffectiveValue, 5_000_000_000, false)?, [5_656_854_249, u, u]);
+    // two steps, one step; 5,000 Hz is a period of two steps
+    assert_eq!(rt;
+        walk(alloc, DeviceCode::Delay, 200_000_000, None, [u, u, u])?,
+        [0, 0, u]
+    );
+    assert_eq!(rt;
+        walk(
+            alloc,
+            DeviceCode::DelayedPulse,
+            100_000_000,
+            None,
+            [u, -u, u]
+        )?,
+        [0, UNIT, 0]
+    );
+    assert_eq!(rt;
+        walk(
+            alloc,
+            DeviceCode::EffectiveValue,
+            5_000_000_000,
+            None,
+            [u, u, 0]
+        )?,
+        [5_656_854_249, u, 5_656_854_249]
+    );
     Ok(())
 }
 
 #[test]
-fn an_input_leaves_the_period(rt: HostRuntime) -> Result<(), Fail> {
+fn past_outputs(rt: HostRuntime) -> Result<(), Fail> {
     let alloc = rt.alloc();
     let u = 8 * UNIT;
-    let meter = device(alloc, DeviceCode::EffectiveValue, 5_000_000_000, false)?;
-    assert_eq!(rt; outputs(alloc, meter, &[], [u, 0, 0])?, [5_656_854_249, 5_656_854_249, 0]);
+    assert_eq!(rt;
+        walk(alloc, DeviceCode::Integral, 0, None, [u, u, u])?,
+        [400_000, 1_200_000, 2_000_000]
+    );
+    assert_eq!(rt;
+        walk(alloc, DeviceCode::Derivative, 0, None, [u, u, u])?,
+        [80_000 * UNIT, 0, 0]
+    );
+    assert_eq!(rt;
+        walk(alloc, DeviceCode::PeakHold, 0, None, [-u, -3, -5])?,
+        [-u, -3, -3]
+    );
+    // what exceeds the range isn't kept: it goes on from the sum before
+    let most = 600_000_000_000_000_000;
+    assert_eq!(rt;
+        walk(alloc, DeviceCode::Counter, 0, None, [most, most, 1])?,
+        [most, NONE, most + 1]
+    );
     Ok(())
 }
 
 #[test]
-fn table_and_times(rt: HostRuntime) -> Result<(), Fail> {
+fn conditions(rt: HostRuntime) -> Result<(), Fail> {
     let alloc = rt.alloc();
+    let u = 8 * UNIT;
+    assert_eq!(rt;
+        walk(alloc, DeviceCode::Gate, 5, Some(4), [u, 3, -u])?,
+        [u, 0, -u]
+    );
+    assert_eq!(rt;
+        walk(alloc, DeviceCode::GateAbove, 5, Some(4), [u, 3, -u])?,
+        [u, 0, 0]
+    );
+    assert_eq!(rt;
+        walk(alloc, DeviceCode::SampleHold, 0, Some(4), [u, -3, 5])?,
+        [u, u, 5]
+    );
+    Ok(())
+}
+
+#[test]
+fn one_of_two_inputs(rt: HostRuntime) -> Result<(), Fail> {
+    let alloc = rt.alloc();
+    let u = 8 * UNIT;
+    assert_eq!(rt;
+        walk_both(alloc, DeviceCode::Extreme, -UNIT, None, [u, u, u])?,
+        [-u, -u, -u]
+    );
+    // the third is missing
+    assert_eq!(rt;
+        walk_both(alloc, DeviceCode::Selector, UNIT, Some(4), [-u, UNIT, u])?,
+        [-u, -UNIT, 0]
+    );
+    Ok(())
+}
+
+/// The outputs of a table of three points.
+fn of_table(alloc: Global, inputs: [i64; 3]) -> Result<[i64; 3], AllocError>
+    requires { All (λ s. unsigned_abs s ≤ LARGEST_VALUE) inputs }
+{
     let points = [
-        Point { current: 0, other: 10 },
-        Point { current: 10, other: 30 },
-        Point { current: 20, other: 0 },
+        Point {
+            current: 0,
+            other: 10,
+        },
+        Point {
+            current: 10,
+            other: 30,
+        },
+        Point {
+            current: 20,
+            other: 0,
+        },
     ];
-    let below = device(alloc, DeviceCode::Table, 0, false)?;
-    assert_eq!(rt; outputs(alloc, below, &points, [-5, 5, 15])?, [10, 20, 15]);
-    let above = device(alloc, DeviceCode::Table, 0, false)?;
-    assert_eq!(rt; outputs(alloc, above, &points, [0, 20, 25])?, [10, 0, 0]);
-    // it closes at the first step and opens at the second
-    let pair = [Point {
+    let table = device(inputs_of(alloc, false)?, DeviceCode::Table, 0, None);
+    outputs(alloc, table, &points, inputs)
+}
+
+/// The outputs of a window that closes at the first step and opens at the second.
+fn of_window(alloc: Global, inputs: [i64; 3]) -> Result<[i64; 3], AllocError>
+    requires { All (λ s. unsigned_abs s ≤ LARGEST_VALUE) inputs }
+{
+    let pairs = [Point {
         current: 100_000_000,
         other: 200_000_000,
     }];
-    let window = device(alloc, DeviceCode::Window, 0, false)?;
-    assert_eq!(rt; outputs(alloc, window, &pair, [7, 7, 7])?, [7, 0, 0]);
-    Ok(())
+    let window = device(inputs_of(alloc, false)?, DeviceCode::Window, 0, None);
+    outputs(alloc, window, &pairs, inputs)
 }
 
 #[test]
-fn out_of_range(rt: HostRuntime) -> Result<(), Fail> {
-    // the counter goes on from where it was
+fn points_and_times(rt: HostRuntime) -> Result<(), Fail> {
     let alloc = rt.alloc();
-    let most = 600_000_000_000_000_000;
-    let counter = device(alloc, DeviceCode::Counter, 0, false)?;
-    assert_eq!(rt; outputs(alloc, counter, &[], [most, most, 1])?, [most, NONE, most + 1]);
+    assert_eq!(rt; of_table(alloc, [-5, 5, 15])?, [10, 20, 15]);
+    assert_eq!(rt; of_table(alloc, [0, 20, 25])?, [10, 0, 0]);
+    assert_eq!(rt; of_window(alloc, [7, 7, 7])?, [7, 0, 0]);
     Ok(())
 }

@@ -2,7 +2,7 @@
 
 ghost use Rattle.std.specs.Prelude.{◌≡◌, ◌<◌, [], length, IfOk};
 ghost use Rattle.emtp_case.specs.Control.{IsBlock, IsFormula};
-ghost use Rattle.emtp_tests_control.specs.Stepping.{control_sizes};
+ghost use Rattle.emtp_tests_control.specs.Fixtures.{nine_sizes};
 
 use emtp_case::{
     BinaryOp, Block, Bound, Case, Draft, Formula, Group, Input, Items, Name, Node, RunData, Shape,
@@ -38,7 +38,7 @@ const SOURCE: Source = Source {
 /// The lag, variable 6.
 #[tactic(auto, unfolding(emtp_fix::specs::Rounding::near, emtp_fix::specs::Rounding::near_abs))]
 fn lag(alloc: Global) -> Result<Block, AllocError>
-    ensures fits { IfOk result (λ block. IsBlock RUN control_sizes block) }
+    ensures fits { IfOk result (λ block. IsBlock RUN nine_sizes block) }
     ensures var { IfOk result (λ block. block.var ≡ 6) }
 {
     let inputs = [Input {
@@ -60,7 +60,7 @@ fn lag(alloc: Global) -> Result<Block, AllocError>
 
 /// The sum of lag and source, variable 8, after the blocks or before them.
 fn sum(alloc: Global, group: Group) -> Result<Formula, AllocError>
-    ensures fits { IfOk result (IsFormula control_sizes) }
+    ensures fits { IfOk result (IsFormula nine_sizes) }
     ensures var { IfOk result (λ formula. formula.var ≡ 8) }
 {
     let nodes = [Node::Var(0), Node::Var(1), Node::Binary(BinaryOp::Add)];

@@ -1,4 +1,4 @@
-use Rattle.std.proofs.Common.{◌≡◌, ◌∙◌, ◌*ℤ◌, ◌∷◌, ap, pos, take, to_z, of_z, ℤ, List, FitsSigned, arith, rules}
+use Rattle.std.proofs.Common.{◌≡◌, ◌∙◌, ◌*ℤ◌, ap, pos, to_z, of_z, FitsSigned, arith, rules}
 use mir.Syntax.{w64, w128}
 use Rattle.std.proofs.lemmas.Int.{to_z-of_z}
 use Rattle.emtp_fix.proofs.Wide.{through, through_64}

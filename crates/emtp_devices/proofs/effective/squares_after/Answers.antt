@@ -1,8 +1,7 @@
-use Rattle.std.proofs.Common.{◌≡◌, ◌∙◌, ◌-◌, ap, to_z, of_z, FitsSigned, arith, rules}
+use Rattle.std.proofs.Common.{◌≡◌, ◌∙◌, ap, to_z, of_z, FitsSigned, arith, rules}
 use mir.Syntax.{w64, w128}
 use Rattle.std.proofs.lemmas.Int.{to_z-of_z}
 use Rattle.emtp_fix.proofs.Wide.{through, through_64}
-use Rattle.emtp_hist.specs.History.{value_before}
 use Rattle.emtp_devices.specs.Device.{square}
 use Rattle.emtp_devices.proofs.Rings.{sum-after, sum-is, sum-small}
 use Rattle.emtp_devices.proofs.effective.squares_after.Goals as goal

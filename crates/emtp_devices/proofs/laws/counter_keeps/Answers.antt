@@ -1,4 +1,4 @@
-use Rattle.emtp_devices.proofs.Equations.{counter-keeps}
+use Rattle.emtp_devices.proofs.NextStates.{counter-keeps}
 use Rattle.emtp_devices.proofs.laws.counter_keeps.Goals as goal
 
 pub returns : goal.returns

@@ -1,4 +1,4 @@
-use Rattle.emtp_devices.proofs.Equations.{no-delay}
+use Rattle.emtp_devices.proofs.NextStates.{no-delay}
 use Rattle.emtp_devices.proofs.laws.no_delay.Goals as goal
 
 pub returns : goal.returns

@@ -1,4 +1,4 @@
-use Rattle.std.proofs.Common.{◌≡◌, ◌∙◌, ◌-ℤ◌, ◌∷◌, ap, sym, subst, pos, map, slice_index_or, FitsSigned, to_z, of_z, arith, rules, List, ℤ}
+use Rattle.std.proofs.Common.{◌≡◌, ◌∙◌, ◌-ℤ◌, ◌∷◌, ap, sym, subst, pos, map, slice_index_or, FitsSigned, to_z, of_z, arith, rules, List}
 use mir.Syntax.{w64, w128}
 use Rattle.std.proofs.lemmas.Int.{ints, to_z-of_z}
 use Rattle.emtp_case.specs.HistoryValues.{delay_steps}

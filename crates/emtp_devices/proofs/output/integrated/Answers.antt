@@ -1,4 +1,4 @@
-use Rattle.std.proofs.Common.{◌≡◌, ◌∙◌, ap, FitsSigned, to_z, of_z, rules}
+use Rattle.std.proofs.Common.{◌∙◌, ap, FitsSigned, rules}
 use mir.Syntax.{w64, w128}
 use Rattle.std.proofs.lemmas.Int.{to_z-of_z}
 use Rattle.emtp_devices.specs.Device.{integral}

@@ -1,4 +1,4 @@
-use Rattle.std.proofs.Common.{◌≡◌, ◌∙◌, ap, sym, subst, get_or, slice_set, List, arith}
+use Rattle.std.proofs.Common.{◌∙◌, ap, sym, subst, get_or, slice_set, List, arith}
 use Rattle.emtp_case.specs.Control.{IsDevice}
 use Rattle.emtp_case.specs.Sizes.{sizes_of}
 use Rattle.emtp_case.specs.declared.control.Device.{Device}
