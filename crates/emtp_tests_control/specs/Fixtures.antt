@@ -10,6 +10,10 @@ use Rattle.emtp_case.specs.declared.control.DeviceCode.{DeviceCode}
 abbrev pub one_sizes : Sizes
 one_sizes = record (sizes_with 0) { vars = 7 }
 
+-- no node and nine variables
+abbrev pub nine_sizes : Sizes
+nine_sizes = record (sizes_with 0) { vars = 9 }
+
 -- a device of this code fits into a case of its own with these A and points, at a time step of 0.1 ms
 pub record FitsAlone (code : DeviceCode) (a : ℤ) (points : List Point) : Type 0 where
   pub range : HasRangeOfA code a

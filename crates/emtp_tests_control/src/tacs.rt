@@ -1,8 +1,8 @@
 //! The worked control: a source of 8 for 0.3 ms behind a lag of 0.05 ms that is limited at 6, and a formula of both.
 
-ghost use Rattle.std.specs.Prelude.{◌≡◌, ◌<◌, length, OnOk};
-ghost use Rattle.emtp_case.specs.Control.{IsBlock};
-ghost use Rattle.emtp_case.specs.Sizes.{sizes_with};
+ghost use Rattle.std.specs.Prelude.{◌≡◌, ◌<◌, [], length, IfOk};
+ghost use Rattle.emtp_case.specs.Control.{IsBlock, IsFormula};
+ghost use Rattle.emtp_tests_control.specs.Fixtures.{nine_sizes};
 
 use emtp_case::{
     BinaryOp, Block, Bound, Case, Draft, Formula, Group, Input, Items, Name, Node, RunData, Shape,
@@ -36,7 +36,11 @@ const SOURCE: Source = Source {
 };
 
 /// The lag, variable 6.
-fn lag(alloc: Global) -> Result<Block, AllocError> {
+#[tactic(auto, unfolding(emtp_fix::specs::Rounding::near, emtp_fix::specs::Rounding::near_abs))]
+fn lag(alloc: Global) -> Result<Block, AllocError>
+    ensures fits { IfOk result (λ block. IsBlock RUN nine_sizes block) }
+    ensures var { IfOk result (λ block. block.var ≡ 6) }
+{
     let inputs = [Input {
         var: 7,
         minus: false,
@@ -55,7 +59,10 @@ fn lag(alloc: Global) -> Result<Block, AllocError> {
 }
 
 /// The sum of lag and source, variable 8, after the blocks or before them.
-fn sum(alloc: Global, group: Group) -> Result<Formula, AllocError> {
+fn sum(alloc: Global, group: Group) -> Result<Formula, AllocError>
+    ensures fits { IfOk result (IsFormula nine_sizes) }
+    ensures var { IfOk result (λ formula. formula.var ≡ 8) }
+{
     let nodes = [Node::Var(0), Node::Var(1), Node::Binary(BinaryOp::Add)];
     Ok(Formula {
         line: 8,
@@ -66,7 +73,13 @@ fn sum(alloc: Global, group: Group) -> Result<Formula, AllocError> {
     })
 }
 
-fn control(alloc: Global, group: Group) -> Result<Case, AllocError> {
+/// A case of these cards alone.
+fn control(alloc: Global, group: Group) -> Result<Case, AllocError>
+    ensures steps { IfOk result (λ case. case.parts.run.steps ≡ 6) }
+    ensures nodes { IfOk result (λ case. case.parts.nodes ≡ []) }
+    ensures switches { IfOk result (λ case. case.parts.switches ≡ []) }
+    ensures vars { IfOk result (λ case. length case.parts.vars ≡ 9) }
+{
     let mut draft = Draft::new(alloc, RUN)?;
     draft.add_variable(Name::new(b"LAG"))?;
     draft.add_variable(Name::new(b"U"))?;
@@ -83,7 +96,12 @@ fn values<L: Ledger>(
     case: &Case,
     var: usize,
     steps: &mut Steps<L>,
-) -> Result<([i64; 6], u64), AllocError> {
+) -> Result<([i64; 6], u64), AllocError>
+    requires steps { case.now.parts.run.steps ≡ 6 }
+    requires nodes { case.now.parts.nodes ≡ [] }
+    requires switches { case.now.parts.switches ≡ [] }
+    requires var { var < length case.now.parts.vars }
+{
     let mut tacs = Tacs::open(alloc, case)?;
     let mut values = [0; 6];
     for at in 0..6 {
