@@ -1,4 +1,5 @@
-//! The worked control: a source of 8 for 0.3 ms behind a lag of 0.05 ms that is limited at 6, and a formula of both.
+//! The worked controls: a source of 8 for 0.3 ms before a block with a limit, and a formula of both. The block is a lag of
+//! 0.05 ms, or feeds its output back.
 
 ghost use Rattle.std.specs.Prelude.{◌≡◌, ◌<◌, [], length, IfOk};
 ghost use Rattle.emtp_case.specs.Control.{IsBlock, IsFormula};
@@ -9,7 +10,7 @@ use emtp_case::{
     Source,
 };
 use emtp_fix::Steps;
-use emtp_tacs::Tacs;
+use emtp_tacs::{Tacs, TacsFault};
 use std::alloc::{AllocError, Global};
 use std::marker::Brand;
 use std::process::Abort;
@@ -58,7 +59,33 @@ fn lag(alloc: Global) -> Result<Block, AllocError>
     })
 }
 
-/// The sum of lag and source, variable 8, after the blocks or before them.
+/// The source less the block's own output, or with it, up to a limit of 3: variable 6.
+#[tactic(auto, unfolding(emtp_fix::specs::Rounding::near, emtp_fix::specs::Rounding::near_abs))]
+fn feedback(alloc: Global, minus: bool) -> Result<Block, AllocError>
+    ensures fits { IfOk result (λ block. IsBlock RUN nine_sizes block) }
+    ensures var { IfOk result (λ block. block.var ≡ 6) }
+{
+    let inputs = [
+        Input {
+            var: 7,
+            minus: false,
+        },
+        Input { var: 6, minus },
+    ];
+    Ok(Block {
+        line: 6,
+        var: 6,
+        order: 0,
+        inputs: Items::from_vec(Vec::from_array(alloc, inputs)?),
+        gain: 1_000_000_000_000,
+        top: [0; 8],
+        bottom: [0; 8],
+        low: Bound::None,
+        high: Bound::Fixed(3 * UNIT),
+    })
+}
+
+/// The sum of block and source, variable 8, after the blocks or before them.
 fn sum(alloc: Global, group: Group) -> Result<Formula, AllocError>
     ensures fits { IfOk result (IsFormula nine_sizes) }
     ensures var { IfOk result (λ formula. formula.var ≡ 8) }
@@ -74,17 +101,19 @@ fn sum(alloc: Global, group: Group) -> Result<Formula, AllocError>
 }
 
 /// A case of these cards alone.
-fn control(alloc: Global, group: Group) -> Result<Case, AllocError>
+fn control(alloc: Global, block: Block, group: Group) -> Result<Case, AllocError>
+    requires fits { IsBlock RUN nine_sizes block }
+    requires var { block.var ≡ 6 }
     ensures steps { IfOk result (λ case. case.parts.run.steps ≡ 6) }
     ensures nodes { IfOk result (λ case. case.parts.nodes ≡ []) }
     ensures switches { IfOk result (λ case. case.parts.switches ≡ []) }
     ensures vars { IfOk result (λ case. length case.parts.vars ≡ 9) }
 {
     let mut draft = Draft::new(alloc, RUN)?;
-    draft.add_variable(Name::new(b"LAG"))?;
+    draft.add_variable(Name::new(b"X"))?;
     draft.add_variable(Name::new(b"U"))?;
     draft.add_variable(Name::new(b"SUM"))?;
-    draft.add_block(lag(alloc)?)?;
+    draft.add_block(block)?;
     draft.add_tacs_source(SOURCE)?;
     draft.add_formula(sum(alloc, group)?)?;
     Ok(draft.finish())
@@ -113,26 +142,82 @@ fn values<L: Ledger>(
     Ok((values, tacs.redone()))
 }
 
+/// The fault of the first step, if it has one.
+fn first_fault<L: Ledger>(
+    alloc: Global,
+    case: &Case,
+    steps: &mut Steps<L>,
+) -> Result<Option<TacsFault>, AllocError>
+    requires steps { case.now.parts.run.steps ≡ 6 }
+    requires nodes { case.now.parts.nodes ≡ [] }
+    requires switches { case.now.parts.switches ≡ [] }
+{
+    let mut tacs = Tacs::open(alloc, case)?;
+    match tacs.step(&[0], &[], &[], steps) {
+        Ok(()) => Ok(None),
+        Err(fault) => Ok(Some(fault)),
+    }
+}
+
 fn limited_lag<L: Ledger>(rt: &impl Abort, alloc: Global, blank: Blank)
     requires name { blank.name ≡ L.name }
     requires parts { blank.parts ≡ L.parts }
     requires some { 0 < blank.parts }
 {
     let mut steps = Steps::<L>::new(blank);
-    let after = control(alloc, Group::Output).expect(rt, "memory");
+    let block = lag(alloc).expect(rt, "memory");
+    let after = control(alloc, block, Group::Output).expect(rt, "memory");
     let lag = [4 * UNIT, 6 * UNIT, 6 * UNIT, 6 * UNIT, 0, 0];
     let (found, redone) = values(alloc, &after, 6, &mut steps).expect(rt, "memory");
-    // alone it is no input of a block, so its row stays, wherever its limiter stands
+    // it is no input of a block, so its row stays wherever its limiter stands
     assert!(rt; found == lag && redone == 0);
-    // after the blocks a name reads their outputs of this step, before them those of the last
+    // after the blocks a name reads their outputs of this step
     let (found, _) = values(alloc, &after, 8, &mut steps).expect(rt, "memory");
     assert!(rt; found == [12 * UNIT, 14 * UNIT, 14 * UNIT, 6 * UNIT, 0, 0]);
-    let before = control(alloc, Group::Input).expect(rt, "memory");
+}
+
+fn lag_before_the_blocks<L: Ledger>(rt: &impl Abort, alloc: Global, blank: Blank)
+    requires name { blank.name ≡ L.name }
+    requires parts { blank.parts ≡ L.parts }
+    requires some { 0 < blank.parts }
+{
+    let mut steps = Steps::<L>::new(blank);
+    let block = lag(alloc).expect(rt, "memory");
+    let before = control(alloc, block, Group::Input).expect(rt, "memory");
+    // before the blocks a name reads their outputs of the last step, and the sources of this one
     let (found, _) = values(alloc, &before, 8, &mut steps).expect(rt, "memory");
     assert!(rt; found == [8 * UNIT, 12 * UNIT, 14 * UNIT, 6 * UNIT, 6 * UNIT, 0]);
 }
 
+fn fed_back<L: Ledger>(rt: &impl Abort, alloc: Global, blank: Blank)
+    requires name { blank.name ≡ L.name }
+    requires parts { blank.parts ≡ L.parts }
+    requires some { 0 < blank.parts }
+{
+    let mut steps = Steps::<L>::new(blank);
+    let half = feedback(alloc, true).expect(rt, "memory");
+    let case = control(alloc, half, Group::Output).expect(rt, "memory");
+    // it comes to its limit in step 1 and leaves it in step 4: its row is another one in steps 2 and 5
+    let (found, redone) = values(alloc, &case, 6, &mut steps).expect(rt, "memory");
+    assert!(rt; found == [3 * UNIT, 3 * UNIT, 3 * UNIT, 3 * UNIT, 0, 0] && redone == 2);
+    let none = feedback(alloc, false).expect(rt, "memory");
+    let case = control(alloc, none, Group::Output).expect(rt, "memory");
+    // x = 8 + x has no solution: the pivot is 0
+    let fault = first_fault(alloc, &case, &mut steps).expect(rt, "memory");
+    assert!(rt; fault == Some(TacsFault { var: 6, pivot: true }));
+}
+
 #[test]
-fn worked_control(rt: HostRuntime) {
+fn lag_up_to_a_limit(rt: HostRuntime) {
     limited_lag::<Brand>(&rt, rt.alloc(), Blank::new(1));
+}
+
+#[test]
+fn formula_before_the_blocks(rt: HostRuntime) {
+    lag_before_the_blocks::<Brand>(&rt, rt.alloc(), Blank::new(1));
+}
+
+#[test]
+fn output_fed_back(rt: HostRuntime) {
+    fed_back::<Brand>(&rt, rt.alloc(), Blank::new(1));
 }
