@@ -204,7 +204,13 @@ fn fed_back<L: Ledger>(rt: &impl Abort, alloc: Global, blank: Blank)
     let case = control(alloc, none, Group::Output).expect(rt, "memory");
     // x = 8 + x has no solution: the pivot is 0
     let fault = first_fault(alloc, &case, &mut steps).expect(rt, "memory");
-    assert!(rt; fault == Some(TacsFault { var: 6, pivot: true }));
+    assert!(rt;
+        fault
+            == Some(TacsFault {
+                var: 6,
+                pivot: true
+            })
+    );
 }
 
 #[test]
