@@ -15,8 +15,14 @@ mod asked;
 mod branch_steps;
 mod branches;
 mod channels;
+mod coefficients;
+mod control_cards;
+mod control_filling;
+mod control_sense;
+mod control_steps;
 mod copies;
 mod deck;
+mod device_steps;
 mod filling;
 mod laws;
 mod names;
@@ -26,11 +32,16 @@ mod samples;
 mod section_steps;
 mod sources;
 mod switches;
+mod tacs_outputs;
 mod unbuilt;
+mod variables;
 mod walk;
 
 pub use asked::Asked;
 pub use branches::Counts;
+pub use control_cards::{
+    BlockEntry, ControlCards, ControlPlace, DeviceGroup, ExtraEntry, TacsOutputEntry,
+};
 pub use copies::{LineNumbers, ValuesFrom};
 pub use deck::{BranchEntry, Deck, Group, OutputEntry, Place};
 pub use laws::{cards_are_judged_in_order, comments_do_not_matter};
