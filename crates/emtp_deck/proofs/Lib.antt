@@ -12,3 +12,6 @@ pub mod Switching
 pub mod WholeDeck
 pub mod Comments
 pub mod Order
+pub mod ControlCoefficients
+pub mod ControlNames
+pub mod DevicePoints
