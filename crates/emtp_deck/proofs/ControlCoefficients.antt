@@ -207,3 +207,13 @@ leaves dt x i times y is large l = left_way dt x (suc i) times (omega (arith, l)
     here : (b : Bool) (n : ℕ) → 8 * 10 ^ 25 < n → (b && nat_le n (8 * 10 ^ 25)) ≡ false
     here true n h = grind (arith, nat_tests)
     here false n h = refl
+
+-- a block of order 0 has no coefficients
+pub plain_block : (dt : ℤ) (e : BlockEntry) → IsBlockDue e.card → e.card.order ≡ 0 → All IsSmall e.top → All IsSmall e.bottom → IsBlockEntry dt e
+plain_block dt e due none top bottom = record {
+  card = due;
+  top = top;
+  bottom = bottom;
+  coefficients = λ some. absurd (omega (arith, some, none));
+  within_step = subst (λ n. unsigned_abs (near (e.card.gain *ℤ coefficient_sum dt (transfer e) n) (pos (10 ^ 12))) ≤ 10 ^ 18) (sym none) (rw (near-exact e.card.gain (10 ^ 12) (omega arith)) due.numbers.gain);
+}

@@ -26,13 +26,12 @@ use Rattle.emtp_taccards.specs.DeviceCard.{code_field, device_card, device_fault
 use Rattle.emtp_taccards.specs.ExtraCard.{HasExtraNumbers, as_device, as_formula, extra_card, is_formula}
 use Rattle.emtp_taccards.specs.FormulaCard.{expression_text, formula_card, formula_fault, formula_with}
 use Rattle.emtp_taccards.specs.Group.{group_field}
-use Rattle.emtp_taccards.specs.TacsSourceCard.{is_measured, signal_field, tacs_source_card, tacs_source_fault, tacs_source_with}
+use Rattle.emtp_taccards.specs.TacsSourceCard.{driven, is_measured, measured, signal_field, tacs_source_card, tacs_source_fault, tacs_source_with}
 use Rattle.emtp_taccards.specs.declared.block_card.BlockCard.{BlockCard}
 use Rattle.emtp_taccards.specs.declared.device_card.DeviceCard.{DeviceCard}
 use Rattle.emtp_taccards.specs.declared.extra_card.ExtraCard.{ExtraCard}
 use Rattle.emtp_taccards.specs.declared.extra_card.ExtraCard.TheVariants.{Device, Formula}
 use Rattle.emtp_taccards.specs.declared.formula_card.FormulaCard.{FormulaCard}
-use Rattle.emtp_taccards.specs.declared.tacs_source_card.Signal.{Signal}
 
 -- ---- the text of six columns has at most six bytes
 
@@ -96,7 +95,7 @@ accepted : {A : Type 0} (bad : Option Bad) (r : Result A Bad) (x : A) → unless
 accepted (Some bad) r x h = absurd (cc)
 accepted None r x h = (refl, h)
 
-ok_is : {A B : Type 0} (f : A → B) (x y : A) → Ok {E = Bad} x ≡ Ok y → f x ≡ f y
+ok_is : {A B : Type 0} (f : A → B) (x y : A) → ◌≡◌ {A = Result A Bad} (Ok x) (Ok y) → f x ≡ f y
 ok_is f x y h = let same : x ≡ y = cc in ap f same
 
 -- ---- blocks
@@ -117,16 +116,18 @@ same_name : (measured : Bool) (a b : SourceCard) (name : List ℕ) → a.name �
 same_name true a b name h k = h
 same_name false a b name h k = k
 
-source_named : (number : ℕ) (line : List ℕ) (signal : Result Signal Why) (name : Result (List ℕ) Why) (card : SourceCard) → tacs_source_with number line signal name ≡ Ok card → name ≡ Ok card.name
-source_named number line signal (Ok name) card h = ap Ok (sym (same_name (is_measured signal) _ _ name refl refl) ∙ ok_is (λ (c : SourceCard). c.name) _ card h)
-source_named number line signal (Err why) card h = absurd (cc)
+source_named : (number : ℕ) (line : List ℕ) (name : Result (List ℕ) Why) (card : SourceCard) → tacs_source_with number line (signal_field line) name ≡ Ok card → name ≡ Ok card.name
+source_named number line (Ok name) card h =
+    ap Ok (sym (same_name (is_measured (signal_field line)) (measured number line (signal_field line) name) (driven number line (signal_field line) name) name refl refl)
+    ∙ ok_is (λ (c : SourceCard). c.name) (if is_measured (signal_field line) then measured number line (signal_field line) name else driven number line (signal_field line) name) card h)
+source_named number line (Err why) card h = absurd (cc)
 
 pub source_name : (number : ℕ) (line : List ℕ) (card : SourceCard) → tacs_source_card number line ≡ Ok card → IsName card.name
 unfolding tacs_source_card
 source_name number line card h =
     let fields = tacs_source_fault line (signal_field line) in
     let both = accepted (judge number line fields) (tacs_source_with number line (signal_field line) (needed (name_field line 3))) card h in
-    name_is line 3 card.name (line_whole number line fields both.0) (source_named number line (signal_field line) (needed (name_field line 3)) card both.1)
+    name_is line 3 card.name (line_whole number line fields both.0) (source_named number line (needed (name_field line 3)) card both.1)
 
 -- ---- devices and formulas
 

@@ -15,3 +15,4 @@ pub mod Order
 pub mod ControlCoefficients
 pub mod ControlNames
 pub mod DevicePoints
+pub mod ControlSounding
