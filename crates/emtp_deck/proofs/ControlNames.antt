@@ -91,11 +91,11 @@ no_fault number None fields e = refl
 line_whole : (number : ℕ) (line : List ℕ) (fields : Option Fault) → judge number line fields ≡ None → fault_of_line line ≡ None
 line_whole number line fields e = no_fault number (fault_of_line line) fields e
 
-accepted : {A : Type 0} (bad : Option Bad) (r : Result A Bad) (x : A) → unless_judged bad r ≡ Ok x → (bad ≡ None) × (r ≡ Ok x)
+pub accepted : {A : Type 0} (bad : Option Bad) (r : Result A Bad) (x : A) → unless_judged bad r ≡ Ok x → (bad ≡ None) × (r ≡ Ok x)
 accepted (Some bad) r x h = absurd (cc)
 accepted None r x h = (refl, h)
 
-ok_is : {A B : Type 0} (f : A → B) (x y : A) → ◌≡◌ {A = Result A Bad} (Ok x) (Ok y) → f x ≡ f y
+pub ok_is : {A B : Type 0} (f : A → B) (x y : A) → ◌≡◌ {A = Result A Bad} (Ok x) (Ok y) → f x ≡ f y
 ok_is f x y h = let same : x ≡ y = cc in ap f same
 
 -- ---- blocks

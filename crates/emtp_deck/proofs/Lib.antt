@@ -16,3 +16,4 @@ pub mod ControlCoefficients
 pub mod ControlNames
 pub mod DevicePoints
 pub mod ControlSounding
+pub mod ControlLines
