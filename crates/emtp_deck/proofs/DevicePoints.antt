@@ -136,6 +136,7 @@ fit_of dt code ps follow some few range turn = record {
   where
     table_by : code ≡ Table → IsTable ps
     table_by is = table_of dt ps (subst (λ c. fewest_of (device_scale c) ≤ length ps) is some) few (subst (λ c. All (IsPointOf (device_scale c)) ps) is range) (subst (λ c. AreInTurn (device_scale c) dt ps) is turn)
+
     times_by : code ≡ Window → AreTimes ps
     times_by is = times_of dt ps (subst (λ c. fewest_of (device_scale c) ≤ length ps) is some) few (subst (λ c. All (IsPointOf (device_scale c)) ps) is range) (subst (λ c. AreInTurn (device_scale c) dt ps) is turn)
 
