@@ -11,6 +11,8 @@ pub mod Judging
 pub mod Switching
 pub mod WholeDeck
 pub mod Comments
+pub mod Rising
+pub mod ControlOrder
 pub mod Order
 pub mod ControlCoefficients
 pub mod ControlNames
