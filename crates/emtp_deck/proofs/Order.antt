@@ -15,8 +15,6 @@ use Rattle.emtp_deck.specs.LineRead.{Read, order_fault}
 use Rattle.emtp_deck.specs.declared.control_cards.ControlCards.{ControlCards}
 use Rattle.emtp_deck.specs.declared.control_cards.ControlPlace.{ControlPlace}
 use Rattle.emtp_deck.specs.declared.control_cards.ControlPlace.TheVariants.{Blocks, Denominator, DevicePoints, Extras, Initial, Numerator, TacsOutputs, TacsSources}
-use Rattle.emtp_deck.specs.Unbuilt.{is_unbuilt, unbuilt_fault}
-use Rattle.emtp_deck.specs.declared.unbuilt.Section.TheVariants.{Control as ControlSection, Sources as SourceSection, Switches as SwitchSection}
 use Rattle.emtp_netcards.specs.OutputCard.{output_card}
 use Rattle.emtp_netcards.specs.PointCard.{next_point}
 use Rattle.emtp_netcards.specs.RunCards.{first_card, second_card, tolerance_card}
@@ -206,15 +204,12 @@ control_begins deck number h = record {
 start_order : (deck : Deck) (number : ℕ) (line : List ℕ) → IsHead deck number → IfOk (start_step deck number line) (Orders (number + 1))
 unfolding start_step
 start_order deck number line h =
-    let unbuilt : Read = unless_bad (unbuilt_fault number line) (deck, Start) in
     let control : Read = unless_bad (judge number line None) (deck, Control Blocks) in
     let branch : Read = branch_step deck number line false in
     let starts = starts_with nat_eq line (codes "TACS HYBRID") in
-    if_ok (Orders (number + 1)) (is_unbuilt ControlSection line) unbuilt (if starts then control else branch)
-    (unless_ok (Orders (number + 1)) (unbuilt_fault number line) (deck, Start) (head_later deck number h))
-    (if_ok (Orders (number + 1)) starts control branch
+    if_ok (Orders (number + 1)) starts control branch
     (unless_ok (Orders (number + 1)) (judge number line None) (deck, Control Blocks) (control_begins deck (number + 1) (head_later deck number h)))
-    (branch_order deck number line false (no_cards deck number h)))
+    (branch_order deck number line false (no_cards deck number h))
 
 waiting_order : (deck : Deck) (number : ℕ) (line : List ℕ) (card : BranchCard) (wide : Bool) → IsAmongBranches deck (card.line ∷ []) number → IfOk (waiting_step deck number line card wide) (Orders (number + 1))
 unfolding waiting_step
@@ -267,18 +262,15 @@ switch_order deck number line h =
     let before = front_lines deck in
     let next = later low (before ++ switch_lines deck.switches) number (number + 1) (omega arith) h.rises in
     let f : SwitchCard → Read = λ card. Ok (record deck { switches = deck.switches ++ card ∷ [] }, Switches) in
-    let unbuilt : Read = unless_bad (unbuilt_fault number line) (deck, Switches) in
     let built : Read = go_on f (switches.switch_card number line) in
-    if_ok (Orders (number + 1)) (is_section_end line) (Ok (deck, Sources)) (if is_unbuilt SwitchSection line then unbuilt else built)
+    if_ok (Orders (number + 1)) (is_section_end line) (Ok (deck, Sources)) built
     (record { outputs = h.outputs; rises = rw h.sources (subst (λ ls. Rises low ls (number + 1)) (sym (append-nil (before ++ switch_lines deck.switches))) next) })
-    (if_ok (Orders (number + 1)) (is_unbuilt SwitchSection line) unbuilt built
-    (unless_ok (Orders (number + 1)) (unbuilt_fault number line) (deck, Switches) (record { sources = h.sources; outputs = h.outputs; rises = next }))
     (go_ok (Orders (number + 1)) f (switches.switch_card number line) (λ card is. record {
       sources = h.sources;
       outputs = h.outputs;
       rises = subst (λ ls. Rises low (before ++ ls) (number + 1)) (sym (map-append (λ (c : SwitchCard). c.line) deck.switches (card ∷ [])))
           (behind low before (switch_lines deck.switches) card.line number (switch_line number line card is) h.rises);
-    })))
+    }))
 
 source_order : (deck : Deck) (number : ℕ) (line : List ℕ) → IsAmongSources deck number → IfOk (source_step deck number line) (Orders (number + 1))
 unfolding source_step
@@ -287,17 +279,14 @@ source_order deck number line h =
     let before = front_lines deck ++ switch_lines deck.switches in
     let next = later low (before ++ source_lines deck.sources) number (number + 1) (omega arith) h.rises in
     let f : SourceCard → Read = λ card. Ok (record deck { sources = deck.sources ++ card ∷ [] }, Sources) in
-    let unbuilt : Read = unless_bad (unbuilt_fault number line) (deck, Sources) in
     let built : Read = go_on f (sources.source_card number line) in
-    if_ok (Orders (number + 1)) (is_section_end line) (Ok (deck, Outputs)) (if is_unbuilt SourceSection line then unbuilt else built)
+    if_ok (Orders (number + 1)) (is_section_end line) (Ok (deck, Outputs)) built
     (rw h.outputs (subst (λ ls. Rises low ls (number + 1)) (sym (append-nil (before ++ source_lines deck.sources))) next))
-    (if_ok (Orders (number + 1)) (is_unbuilt SourceSection line) unbuilt built
-    (unless_ok (Orders (number + 1)) (unbuilt_fault number line) (deck, Sources) (record { outputs = h.outputs; rises = next }))
     (go_ok (Orders (number + 1)) f (sources.source_card number line) (λ card is. record {
       outputs = h.outputs;
       rises = subst (λ ls. Rises low (before ++ ls) (number + 1)) (sym (map-append (λ (c : SourceCard). c.line) deck.sources (card ∷ [])))
           (behind low before (source_lines deck.sources) card.line number (source_line number line card is) h.rises);
-    })))
+    }))
 
 output_order : (deck : Deck) (number : ℕ) (line : List ℕ) → IsAmongOutputs deck number → IfOk (output_step deck number line) (Orders (number + 1))
 unfolding output_step

@@ -5,7 +5,6 @@ use Rattle.emtp_deck.specs.declared.deck.Place.TheVariants.{Branches, Outputs, S
 use Rattle.emtp_deck.specs.declared.filling.Filling.{Filling}
 use Rattle.emtp_netcards.specs.declared.output_card.OutputCard.TheVariants.{Names}
 pub mod Answer
-pub mod Unbuilt
 pub mod LineRead
 pub mod Coefficients
 pub mod ControlSteps

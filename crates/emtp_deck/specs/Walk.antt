@@ -12,14 +12,12 @@ use Rattle.emtp_case.specs.declared.branch.Point.{Point}
 use Rattle.emtp_deck.specs.Answer.{go_on}
 use Rattle.emtp_deck.specs.ControlSteps.{control_step, no_control}
 use Rattle.emtp_deck.specs.LineRead.{Read, order_fault, place_of}
-use Rattle.emtp_deck.specs.Unbuilt.{is_unbuilt, unbuilt_fault}
 use Rattle.emtp_deck.specs.declared.control_cards.ControlPlace.TheVariants.{Blocks}
 use Rattle.emtp_deck.specs.declared.deck.BranchEntry.TheVariants.{Single, Trio}
 use Rattle.emtp_deck.specs.declared.deck.Deck.{Deck}
 use Rattle.emtp_deck.specs.declared.deck.Group.{Group}
 use Rattle.emtp_deck.specs.declared.deck.Place.{Place}
 use Rattle.emtp_deck.specs.declared.deck.Place.TheVariants.{After, Begin, Branches, First, Outputs, Points, Second, Sources, Start, Switches, Third, Waiting, Control}
-use Rattle.emtp_deck.specs.declared.unbuilt.Section.TheVariants.{Control as ControlSection, Sources as SourceSection, Switches as SwitchSection}
 use Rattle.emtp_netcards.specs.BranchCard.{branch_card, kind_field}
 use Rattle.emtp_netcards.specs.OutputCard.{output_card}
 use Rattle.emtp_netcards.specs.PointCard.{next_point}
@@ -205,13 +203,11 @@ point_step deck number line group =
 unfoldable pub switch_step : Deck → ℕ → List ℕ → Read
 switch_step deck number line =
     if is_section_end line then Ok (deck, Sources)
-    else if is_unbuilt SwitchSection line then unless_bad (unbuilt_fault number line) (deck, Switches)
     else go_on (λ (card : SwitchCard). Ok (record deck { switches = deck.switches ++ card ∷ [] }, Switches)) (switch_card number line)
 
 unfoldable pub source_step : Deck → ℕ → List ℕ → Read
 source_step deck number line =
     if is_section_end line then Ok (deck, Outputs)
-    else if is_unbuilt SourceSection line then unless_bad (unbuilt_fault number line) (deck, Sources)
     else go_on (λ (card : SourceCard). Ok (record deck { sources = deck.sources ++ card ∷ [] }, Sources)) (source_card number line)
 
 unfoldable pub output_step : Deck → ℕ → List ℕ → Read
@@ -222,8 +218,7 @@ output_step deck number line =
 -- the control stands right after the miscellaneous cards
 unfoldable pub start_step : Deck → ℕ → List ℕ → Read
 start_step deck number line =
-    if is_unbuilt ControlSection line then unless_bad (unbuilt_fault number line) (deck, Start)
-    else if starts_with nat_eq line (codes "TACS HYBRID") then unless_bad (judge number line None) (deck, Control Blocks)
+    if starts_with nat_eq line (codes "TACS HYBRID") then unless_bad (judge number line None) (deck, Control Blocks)
     else branch_step deck number line false
 
 -- ---- all lines

@@ -10,7 +10,6 @@ ghost use Rattle.emtp_netcards.specs.VintageCard.{vintage_card};
 
 use crate::control_cards::ControlPlace;
 use crate::deck::{BranchEntry, Deck, Group, Place};
-use crate::unbuilt::{Section, is_unbuilt, unbuilt_fault};
 use crate::walk::order_fault;
 use emtp_card::{Bad, Line, MAX_BYTES, Refused, Why, ends_section, judge};
 use emtp_case::Point;
@@ -26,12 +25,6 @@ pub(crate) fn start_step(deck: &mut Deck, line: &Line<'_>) -> Result<Place, Refu
     ensures value { Leaves result (start_step deck.old line.now.number line.now.bytes.now) deck.new }
     ensures sound { IfOk result (IsSound deck.new) }
 {
-    if is_unbuilt(Section::Control, line.bytes) {
-        return match unbuilt_fault(line) {
-            Some(bad) => Err(Refused::Bad(bad)),
-            None => Ok(Place::Start),
-        };
-    }
     if line.bytes.starts_with(b"TACS HYBRID") {
         return match judge(line, None) {
             Some(bad) => Err(Refused::Bad(bad)),

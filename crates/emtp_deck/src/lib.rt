@@ -33,7 +33,6 @@ mod section_steps;
 mod sources;
 mod switches;
 mod tacs_outputs;
-mod unbuilt;
 mod variables;
 mod walk;
 
@@ -46,4 +45,3 @@ pub use copies::{LineNumbers, ValuesFrom};
 pub use deck::{BranchEntry, Deck, Group, OutputEntry, Place};
 pub use laws::{cards_are_judged_in_order, comments_do_not_matter};
 pub use reading::read;
-pub use unbuilt::Section;
