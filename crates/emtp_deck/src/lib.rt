@@ -3,7 +3,7 @@
 //! The reader walks over the lines in order. Each line has its place, which says what is due there, and gives a card or
 //! the least fault of the line; the first line with a fault decides. Then names are numbered and each card is judged
 //! among all others, again in the order of lines, and the records of the case are filled. The crate stands on the lines
-//! of `emtp_card`, the card readers of `emtp_netcards` and the records of `emtp_case`.
+//! of `emtp_card`, the card readers of `emtp_netcards` and `emtp_taccards`, and the records of `emtp_case`.
 //!
 //! ```text
 //! let cards = Cards::split(alloc, &bytes)?;
