@@ -9,6 +9,9 @@ pub mod Modes
 pub mod Asking
 pub mod Judging
 pub mod Switching
+pub mod Knowing
+pub mod Numbering
+pub mod Driving
 pub mod WholeDeck
 pub mod Comments
 pub mod Order
