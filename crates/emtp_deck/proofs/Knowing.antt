@@ -6,10 +6,9 @@ use Rattle.std.specs.List.{list_any, position_or_len}
 use Rattle.std.specs.Option.{ForSome}
 use Rattle.std.specs.Prelude.{All, if◌then◌else◌, is_some, option_map, position, ◌||◌}
 use Rattle.std.specs.Str.{bytes_eq}
-use Rattle.emtp_card.specs.Fault.{comes_before, lesser}
 use Rattle.emtp_card.specs.declared.fault.Fault.{Fault}
 use Rattle.emtp_card.specs.declared.reason.Why.TheVariants.{UnknownName}
-use Rattle.emtp_deck.specs.ControlSense.{inputs_sense, is_unknown}
+use Rattle.emtp_deck.specs.ControlSense.{first_fault, inputs_sense, is_unknown}
 use Rattle.emtp_deck.specs.ControlSensible.{AreKnownInputs, IsKnown}
 use Rattle.emtp_deck.specs.Variables.{unknown_name, variable_number}
 
@@ -44,14 +43,9 @@ known_number variables (Some name) h v is =
 
 -- ---- several names
 
-pub neither : (a b : Option Fault) → lesser a b ≡ None → (a ≡ None) × (b ≡ None)
+neither : (a b : Option Fault) → first_fault a b ≡ None → (a ≡ None) × (b ≡ None)
 neither None b e = (refl, e)
-neither (Some a) None e = absurd (cc)
-neither (Some a) (Some b) e = absurd (one (comes_before b a) e)
-  where
-    one : (first : Bool) → if◌then◌else◌ {A = Option Fault} first (Some b) (Some a) ≡ None → ⊥
-    one true e = cc
-    one false e = cc
+neither (Some a) b e = absurd (cc)
 
 pub known_inputs : (variables : List (List ℕ)) (column : ℕ) (inputs : List (Option (Bool × List ℕ))) → inputs_sense variables column inputs ≡ None → AreKnownInputs variables inputs
 known_inputs variables column [] e = All-nil (λ (i : Option (Bool × List ℕ)). IsKnown variables (option_map (λ (x : Bool × List ℕ). x.1) i))

@@ -12,6 +12,9 @@ pub mod Switching
 pub mod Knowing
 pub mod Numbering
 pub mod Driving
+pub mod ControlJudging
+pub mod ControlRecords
+pub mod ControlWhole
 pub mod WholeDeck
 pub mod Comments
 pub mod Order

@@ -102,8 +102,8 @@ range_two a (suc m) n =
 times_in_two : (v : ℕ) (xs ys : List ℕ) → count_by (λ d. d == v) (xs ++ ys) ≡ count_by (λ d. d == v) xs + count_by (λ d. d == v) ys
 times_in_two v xs ys = sum_by-append (λ d. if d == v then 1 else 0) xs ys
 
-swapped : (v : ℕ) (as bs cs : List ℕ) → count_by (λ d. d == v) (bs ++ as ++ cs) ≡ count_by (λ d. d == v) (as ++ bs ++ cs)
-swapped v as bs cs = omega (arith, times_in_two v (bs ++ as) cs, times_in_two v bs as, times_in_two v (as ++ bs) cs, times_in_two v as bs)
+swapped : (v : ℕ) (xs ys zs : List ℕ) → count_by (λ d. d == v) (ys ++ xs ++ zs) ≡ count_by (λ d. d == v) (xs ++ ys ++ zs)
+swapped v xs ys zs = omega (arith, times_in_two v (ys ++ xs) zs, times_in_two v ys xs, times_in_two v (xs ++ ys) zs, times_in_two v xs ys)
 
 -- the blocks, the sources and the supplemental cards define the variables from 6 on, one after another
 pub defined_once : (p : Parts) (blocks sources extras : ℕ) → map (λ (b : Block). b.var) p.blocks ≡ range_with_len 6 blocks → map (λ (s : Source). s.node) p.tacs_sources ≡ range_with_len (6 + blocks) sources

@@ -1,0 +1,14 @@
+use Rattle.std.proofs.Common.{◌≡◌, ap, length, sym}
+use Rattle.emtp_case.specs.Control.{IsBlock}
+use Rattle.emtp_case.specs.Sizes.{sizes_of}
+use Rattle.emtp_deck.proofs.ControlRecords.{block_fits}
+use Rattle.emtp_deck.proofs.control_filling.add_blocks.Goals as goal
+
+pub add_block-requires-clause-fits : goal.add_block-requires-clause-fits
+add_block-requires-clause-fits c =
+    let p = c.loop-entry.draft.parts in
+    let variables = c.args.variables.now.keys in
+    let ok = c.in_ok-block_of.ensures.ok in
+    let few = rw ok at c.in_ok-block_of.ensures.few in
+    let size : length variables ≡ length p.vars = rw c.loop-entry.invariant (ap length c.requires.variables) in
+    rw ok (block_fits p.run (sizes_of p) variables c.entry-item.result size (rw c.loop-entry.invariant (search (c.requires.entries, c.entry-item.is, c.loop-entry-test.true))) (search (c.requires.sensible, c.entry-item.is, c.loop-entry-test.true)) few)
