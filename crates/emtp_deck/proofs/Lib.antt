@@ -18,3 +18,8 @@ pub mod ControlWhole
 pub mod WholeDeck
 pub mod Comments
 pub mod Order
+pub mod ControlCoefficients
+pub mod ControlNames
+pub mod DevicePoints
+pub mod ControlSounding
+pub mod ControlLines

@@ -12,18 +12,31 @@ use Rattle.emtp_deck.specs.Deck.{case_of, filled, made_of_deck, unfinished}
 use Rattle.emtp_deck.specs.Filling.{Fills}
 use Rattle.emtp_deck.specs.Made.{Made, count_asked}
 use Rattle.emtp_deck.specs.Samples.{deck_count, has_too_many, pending_count}
-use Rattle.emtp_deck.specs.Sound.{IsSound, IsWhole}
+use Rattle.emtp_deck.specs.Sound.{IsControlSound, IsSound, IsWhole}
+use Rattle.emtp_deck.specs.declared.control_cards.ControlPlace.{ControlPlace}
+use Rattle.emtp_deck.specs.declared.control_cards.ControlPlace.TheVariants.{Blocks, Denominator, DevicePoints, Extras, Initial, Numerator, TacsOutputs, TacsSources}
 use Rattle.emtp_deck.specs.declared.deck.Deck.{Deck}
 use Rattle.emtp_deck.specs.declared.deck.Place.{Place}
-use Rattle.emtp_deck.specs.declared.deck.Place.TheVariants.{After, Begin, Branches, First, Outputs, Points, Second, Sources, Start, Switches, Third, Waiting}
+use Rattle.emtp_deck.specs.declared.deck.Place.TheVariants.{After, Begin, Branches, Control, First, Outputs, Points, Second, Sources, Start, Switches, Third, Waiting}
 use Rattle.emtp_deck.proofs.Asking.{deck_asks}
 use Rattle.emtp_deck.proofs.Sounding.{head_whole}
+
+control_whole : (deck : Deck) (at : ControlPlace) → IsControlSound deck at → IsWhole deck
+control_whole deck Blocks h = h
+control_whole deck (Numerator card) h = h.0
+control_whole deck (Denominator card top line) h = h.0
+control_whole deck TacsSources h = h
+control_whole deck Extras h = h
+control_whole deck (DevicePoints group) h = h.0
+control_whole deck TacsOutputs h = h
+control_whole deck Initial h = h
 
 pub whole_of : (deck : Deck) (place : Place) → IsSound deck place → IsWhole deck
 whole_of deck Begin h = head_whole deck h
 whole_of deck (First seen) h = head_whole deck h
 whole_of deck Second h = head_whole deck h
 whole_of deck Start h = h
+whole_of deck (Control at) h = control_whole deck at h
 whole_of deck (Branches wide) h = h
 whole_of deck (Points group) h = h.0
 whole_of deck (Waiting card wide) h = h.0

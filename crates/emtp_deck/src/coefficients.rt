@@ -1,6 +1,6 @@
 //! The coefficients of a block: the cards of its numerator and its denominator, and what their sum divides.
 
-ghost use Rattle.std.specs.Prelude.{◌≡◌, ◌≢◌, ◌*◌, ◌^◌, ◌≤◌, ◌*ℤ◌, length, pos, unsigned_abs, slice_index_or, IfOk, IfNone};
+ghost use Rattle.std.specs.Prelude.{◌≡◌, ℕ, ◌≢◌, ◌*◌, ◌^◌, ◌≤◌, ◌*ℤ◌, length, pos, unsigned_abs, slice_index_or, IfOk, IfNone};
 ghost use Rattle.emtp_case.specs.Control.{bilinear, power_of, sum_upto};
 ghost use Rattle.emtp_case.specs.Range.{IsBetween};
 ghost use Rattle.emtp_deck.specs.Coefficients.{HasWay, IsBlockDue, IsBlockEntry, IsPolynomial, coefficient_card, coefficients_fault, divided_bad, divided_by, gain_bad, is_large, quotient_of, quotients_bad, range_bad, stays, taken_field};
@@ -23,6 +23,7 @@ const LARGEST_ON_WAY: u128 = 80_000_000_000_000_000_000_000_000;
 #[tactic(auto, unfolding(crate::specs::Coefficients::coefficient_card))]
 pub(crate) fn coefficient_card(line: &Line<'_>, order: u8, dt: i64) -> Result<[i64; 8], Bad>
     requires short { length line.now.bytes.now ≤ MAX_BYTES }
+    requires order { order ≤ 7 }
     requires dt { IsBetween 1000 (10 ^ 12) dt }
     ensures value { result ≡ coefficient_card line.now.number line.now.bytes.now order dt }
     ensures polynomial { IfOk result (IsPolynomial dt order) }
@@ -84,7 +85,7 @@ fn stays(dt: i64, x: i64, times: u8) -> bool
     ensures { result ≡ stays dt x times }
 {
     let mut p = x as i128;
-    for _ in 0..times {
+    for i in 0..times {
         p = bilinear_step(dt, p);
         if LARGEST_ON_WAY < p.unsigned_abs() {
             return false;
@@ -96,8 +97,9 @@ fn stays(dt: i64, x: i64, times: u8) -> bool
 /// A number that is taken once through the bilinear rule.
 fn bilinear_step(dt: i64, p: i128) -> i128
     requires dt { IsBetween 1000 (10 ^ 12) dt }
-    requires p { unsigned_abs p ≤ LARGEST_ON_WAY }
-    ensures { result ≡ near (p *ℤ pos (2 * 10 ^ 12)) dt }
+    requires p { unsigned_abs p ≤ 8 * 10 ^ 25 }
+    ensures value { result ≡ near (p *ℤ pos (2 * 10 ^ 12)) dt }
+    ensures bound { unsigned_abs result ≤ 16 * 10 ^ 37 }
 {
     near(p * (2 * PICO), dt as i128)
 }
@@ -109,10 +111,10 @@ fn taken_through(dt: i64, x: i64, times: usize) -> i128
     requires dt { IsBetween 1000 (10 ^ 12) dt }
     requires way { HasWay dt x times }
     ensures value { result ≡ bilinear dt x times }
-    ensures small { unsigned_abs result ≤ LARGEST_ON_WAY }
+    ensures small { unsigned_abs result ≤ 8 * 10 ^ 25 }
 {
     let mut p = x as i128;
-    for _ in 0..times {
+    for i in 0..times {
         p = bilinear_step(dt, p);
     }
     p
@@ -174,7 +176,8 @@ fn quotients_bad(line: u32, dt: i64, card: &[i64; 8], order: u8, divisor: i128) 
     requires card { IsPolynomial dt order card.now }
     requires some { divisor ≢ pos 0 }
     requires divisor { unsigned_abs divisor ≤ 64 * 10 ^ 25 }
-    ensures { result ≡ quotients_bad line (quotient_of dt card.now divisor) order }
+    ensures value { result ≡ quotients_bad line (quotient_of dt card.now divisor) order }
+    ensures small { IfNone result ((k : ℕ) → k ≤ order → unsigned_abs (quotient_of dt card.now divisor k) ≤ 10 ^ 18) }
 {
     for power in 0..order as usize + 1 {
         let quotient = quotient(dt, card, power, divisor);
@@ -192,7 +195,7 @@ fn numerator_sum(dt: i64, top: &[i64; 8], order: u8, divisor: i128) -> i64
     requires top { IsPolynomial dt order top.now }
     requires some { divisor ≢ pos 0 }
     requires divisor { unsigned_abs divisor ≤ 64 * 10 ^ 25 }
-    requires small { quotients_bad 1 (quotient_of dt top.now divisor) order ≡ None }
+    requires small { (k : ℕ) → k ≤ order → unsigned_abs (quotient_of dt top.now divisor k) ≤ 10 ^ 18 }
     ensures value { result ≡ sum_upto (quotient_of dt top.now divisor) order }
     ensures small { unsigned_abs result ≤ 8 * 10 ^ 18 }
 {

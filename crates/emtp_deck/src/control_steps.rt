@@ -1,6 +1,6 @@
 //! Lines of the control: five sections, each ended by a line that ends a section.
 
-ghost use Rattle.std.specs.Prelude.{◌≡◌, ◌≤◌, length, All, Ok, Err, IfOk, IfErr};
+ghost use Rattle.std.specs.Prelude.{◌≡◌, ◌≤◌, length, Ok, Err, IfOk, IfErr, false};
 ghost use Rattle.emtp_deck.specs.Answer.{Answers, IsWant, Leaves};
 ghost use Rattle.emtp_deck.specs.ControlSteps.{block_step, control_step, denominator_step, initial_place, keep_block, numerator_step, tacs_output_step, tacs_source_step, take_block};
 ghost use Rattle.emtp_deck.specs.Coefficients.{IsBlockDue, IsBlockEntry, IsPolynomial};
