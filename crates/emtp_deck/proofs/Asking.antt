@@ -1,4 +1,5 @@
 -- How many channels the cards of a section ask for, and which nodes they name, where no card has a fault of sense.
+use Rattle.emtp_case.specs.declared.branch.Trio as modes
 use Rattle.std.proofs.Common.{◌≡◌, ◌∙◌, sym, ap, refl, ℕ, ◌+◌, List, [], ◌∷◌, length, fold, Option, Some, None, Result, Ok, Err, arith, length-append, ◌++◌}
 use Rattle.std.proofs.lemmas.List.Sums.{sum_by-cons}
 use Rattle.std.specs.List.{sum_by}
@@ -58,11 +59,11 @@ pub record IsAsking (m m' : Made) (names : List (List ℕ)) (switches count : �
   pub nodes : m'.parts.nodes ≡ names
   pub run : m'.parts.run ≡ m.parts.run
   pub control : KeepsControl m.parts m'.parts
-  pub switches : length m'.parts.switches ≡ length m.parts.switches + switches
+  pub switched : length m'.parts.switches ≡ length m.parts.switches + switches
   pub asked : count_asked m'.asked ≡ count_asked m.asked + count
 
 same_asking : (m : Made) → IsAsking m m m.parts.nodes 0 0
-same_asking m = record { nodes = refl; run = refl; control = same_control m.parts; switches = omega arith; asked = omega arith }
+same_asking m = record { nodes = refl; run = refl; control = record { vars = refl; blocks = refl; extras = refl }; switched = omega arith; asked = omega arith }
 
 -- ---- what was no fault
 
@@ -121,7 +122,7 @@ entry_asks points m m' e h =
       nodes = keeps.nodes;
       run = keeps.run;
       control = record { vars = keeps.control.vars; blocks = keeps.control.blocks; extras = keeps.control.extras };
-      switches = omega (arith, ap length keeps.switches);
+      switched = omega (arith, ap length keeps.switches);
       asked = more_branches (length m.asked.variables) (length m.asked.outputs) (length m.asked.branches) (length m.asked.switches) (length m.asked.statuses) _ (entry_count e)
           (length-append m.asked.branches (entry_channels (length m.parts.branches) e) ∙ ap (λ n. length m.asked.branches + n) added);
     })
@@ -135,7 +136,7 @@ after a b d e = record {
     blocks = b.control.blocks ∙ a.control.blocks;
     extras = b.control.extras ∙ a.control.extras;
   };
-  switches = omega (arith, a.switches, b.switches, d);
+  switched = omega (arith, a.switched, b.switched, d);
   asked = omega (arith, a.asked, b.asked, e);
 }
 
@@ -159,8 +160,8 @@ switch_asks m m' card h =
     rw (sym is) (record {
       nodes = refl;
       run = refl;
-      control = same_control m.parts;
-      switches = length-append m.parts.switches _;
+      control = record { vars = refl; blocks = refl; extras = refl };
+      switched = length-append m.parts.switches _;
       asked = omega (arith, length-append m.asked.switches shown, length-append m.asked.statuses (status_of card.asked at), length_of_switch card.asked at);
     })
 
@@ -176,7 +177,7 @@ switches_ask m m' (card ∷ cards) h =
 
 source_added : (m : Made) (card : SourceCard) (node : Option ℕ) → IsAsking m (with_source m card node) m.parts.nodes 0 0
 source_added m card None = same_asking m
-source_added m card (Some node) = record { nodes = refl; run = refl; control = same_control m.parts; switches = omega arith; asked = omega arith }
+source_added m card (Some node) = record { nodes = refl; run = refl; control = record { vars = refl; blocks = refl; extras = refl }; switched = omega arith; asked = omega arith }
 
 source_asks : (m m' : Made) (card : SourceCard) → take_source m card ≡ Ok m' → IsAsking m m' m.parts.nodes 0 0
 unfolding take_source
@@ -196,7 +197,7 @@ sources_ask m m' (card ∷ cards) h =
 -- ---- outputs
 
 outputs_added : (m : Made) (channels : List Channel) → IsAsking m (with_outputs m channels) m.parts.nodes 0 (length channels)
-outputs_added m channels = record { nodes = refl; run = refl; control = same_control m.parts; switches = omega arith; asked = omega (arith, length-append m.asked.outputs channels) }
+outputs_added m channels = record { nodes = refl; run = refl; control = record { vars = refl; blocks = refl; extras = refl }; switched = omega arith; asked = omega (arith, length-append m.asked.outputs channels) }
 
 node_asks : (line : ℕ) (m m' : Made) (column : ℕ) (at : Option ℕ) → unless_fault line (name_fault m.asked column (option_map (λ k. k + 1) at)) (with_node m (option_map (λ k. k + 1) at)) ≡ Ok m' → IsAsking m m' m.parts.nodes 0 (if◌then◌else◌ {A = ℕ} (is_some at) 1 0)
 node_asks line m m' column None h = absurd (cc)
@@ -240,7 +241,7 @@ variable_asks : (line : ℕ) (m m' : Made) (column : ℕ) (variable : Option ℕ
 variable_asks line m m' column None h = absurd (cc)
 variable_asks line m m' column (Some k) h =
     let is = unless_fault_ok line (variable_fault m.asked column (Some k)) (with_variable_channel m (Some k)) m' h in
-    rw (sym is) (record { nodes = refl; run = refl; control = same_control m.parts; switches = omega arith; asked = omega (arith, length-append m.asked.variables (VariableChannel k ∷ [])) })
+    rw (sym is) (record { nodes = refl; run = refl; control = record { vars = refl; blocks = refl; extras = refl }; switched = omega arith; asked = omega (arith, length-append m.asked.variables (VariableChannel k ∷ [])) })
 
 variable_name_asks : (line : ℕ) (m m' : Made) (column : ℕ) (name : Option (List ℕ)) → take_variable_name line m column name ≡ Ok m' → IsAsking m m' m.parts.nodes 0 (name_count m.parts.vars name)
 unfolding take_variable
@@ -272,17 +273,19 @@ pub record IsControlMade (variables : List (List ℕ)) (deck : Deck) (p : Parts)
   pub run : p.run ≡ deck.run
   pub vars : p.vars ≡ variables
   pub blocks : p.blocks ≡ map (block_of variables) deck.control.blocks
+  pub sources : p.tacs_sources ≡ []
+  pub channels : p.channels ≡ []
 
 extra_kept : (variables : List (List ℕ)) (points : List Point) (p : Parts) (e : ExtraEntry) (deck : Deck) → IsControlMade variables deck p → IsControlMade variables deck (with_extra variables points p e)
-extra_kept variables points p (DeviceEntry card first count) deck h = record { nodes = h.nodes; switches = h.switches; run = h.run; vars = h.vars; blocks = h.blocks }
-extra_kept variables points p (FormulaEntry card) deck h = record { nodes = h.nodes; switches = h.switches; run = h.run; vars = h.vars; blocks = h.blocks }
+extra_kept variables points p (DeviceEntry card first count) deck h = record { nodes = h.nodes; switches = h.switches; run = h.run; vars = h.vars; blocks = h.blocks; sources = h.sources; channels = h.channels }
+extra_kept variables points p (FormulaEntry card) deck h = record { nodes = h.nodes; switches = h.switches; run = h.run; vars = h.vars; blocks = h.blocks; sources = h.sources; channels = h.channels }
 
 extras_kept : (variables : List (List ℕ)) (points : List Point) (p : Parts) (es : List ExtraEntry) (deck : Deck) → IsControlMade variables deck p → IsControlMade variables deck (fold (with_extra variables points) p es)
 extras_kept variables points p [] deck h = h
 extras_kept variables points p (e ∷ es) deck h = extras_kept variables points (with_extra variables points p e) es deck (extra_kept variables points p e deck h)
 
 pub control_is : (variables : List (List ℕ)) (deck : Deck) → IsControlMade variables deck (control_parts variables deck)
-control_is variables deck = extras_kept variables deck.points _ deck.control.extras deck (record { nodes = refl; switches = refl; run = refl; vars = refl; blocks = refl })
+control_is variables deck = extras_kept variables deck.points _ deck.control.extras deck (record { nodes = refl; switches = refl; run = refl; vars = refl; blocks = refl; sources = refl; channels = refl })
 
 pub deck_asks : (variables : List (List ℕ)) (deck : Deck) (m : Made) → made_of_deck variables deck ≡ Ok m → IsAsking (control_made variables deck) m (node_names deck) (length deck.switches) (deck_count (node_names deck) variables deck)
 deck_asks variables deck m h =

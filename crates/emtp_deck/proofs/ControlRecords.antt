@@ -53,7 +53,7 @@ length_of_map f [] = refl
 length_of_map f (x ∷ xs) = ap suc (length_of_map f xs)
 
 some_mapped : {A B : Type 0} (f : A → B) (o : Option A) → IsSome o → IsSome (option_map f o)
-some_mapped f (Some x) h = tt
+some_mapped f (Some x) h = refl
 some_mapped f None h = h
 
 -- ---- blocks

@@ -1,18 +1,29 @@
 -- What the control's cards without a fault of sense are together.
-use Rattle.std.proofs.Common.{Err, List, None, Ok, Option, Result, Some, [], ap, arith, length, length-append, refl, subst, suc, sym, true, ℕ, ◌++◌, ◌+◌, ◌∙◌, ◌∷◌, ◌≡◌, ◌≤◌}
+use Rattle.std.proofs.Common.{Err, List, None, Ok, Option, Result, Some, [], ap, arith, length, length-append, refl, subst, suc, sym, true, ℕ, ◌++◌, ◌+◌, ◌∙◌, ◌∷◌, ◌≡◌, ◌≤◌, Bool, append-nil, append_assoc, fold}
+use Rattle.std.proofs.lemmas.List.{map-append}
 use Rattle.std.proofs.lemmas.List.Elements.{All-cons, All-nil}
-use Rattle.std.specs.Prelude.{All, IfSome}
+use Rattle.std.specs.List.{range_with_len}
+use Rattle.std.specs.Prelude.{All, IfSome, map}
+use Rattle.emtp_card.specs.Name.{named}
 use Rattle.emtp_card.specs.declared.reason.Bad.{Bad}
 use Rattle.emtp_case.specs.Case.{standing_names}
+use Rattle.emtp_case.specs.Control.{var_of}
 use Rattle.emtp_case.specs.Name.{IsName}
 use Rattle.emtp_case.specs.declared.branch.Point.{Point}
+use Rattle.emtp_case.specs.declared.case.Parts.{Parts}
+use Rattle.emtp_case.specs.declared.control.Block.{Block}
+use Rattle.emtp_case.specs.declared.source.Source.{Source}
+use Rattle.emtp_deck.proofs.Asking.{control_is, deck_asks}
 use Rattle.emtp_deck.proofs.ControlJudging.{AreFineBlocks, AreFineExtras, AreFineSources, IsKnownBlock, IsKnownExtra, block_fine, blocks_fine, device_fine, extras_fine, nothing_before, sources_fine}
 use Rattle.emtp_deck.proofs.Naming.{AreNamed, Each, all_named, with_names}
-use Rattle.emtp_deck.proofs.Numbering.{AreAbove, each_front, each_of, each_rest, each_two, folded, in_two, options_length, options_of}
+use Rattle.emtp_deck.proofs.Numbering.{AreAbove, each_front, each_of, each_rest, each_two, folded, in_two, options_length, options_of, defined_once, in_row, row_is}
 use Rattle.emtp_deck.specs.Answer.{first_bad}
+use Rattle.emtp_deck.specs.ControlFilling.{block_of, tacs_source_of, with_extra}
 use Rattle.emtp_deck.specs.ControlSense.{blocks_bad, control_bad, extras_or_pending, first_extra, first_source, is_measurable, judge_extras, pending_control_bad, tacs_sources_bad}
-use Rattle.emtp_deck.specs.ControlSensible.{IsDefined, IsSensibleBlock, IsSensibleControl, IsSensibleExtra, IsSensibleTacsSource}
-use Rattle.emtp_deck.specs.Names.{node_number}
+use Rattle.emtp_deck.specs.ControlSensible.{IsDefined, IsSensibleBlock, IsSensibleControl, IsSensibleExtra, IsSensibleTacsSource, IsSensibleWhole}
+use Rattle.emtp_deck.specs.Deck.{case_of, made_of_deck}
+use Rattle.emtp_deck.specs.Filling.{IsFilling, made_of}
+use Rattle.emtp_deck.specs.Names.{node_number, known_nodes}
 use Rattle.emtp_deck.specs.Sound.{IsExtraEntry, IsSound, IsWhole}
 use Rattle.emtp_deck.specs.Variables.{defined_variables, extra_name, variable_names, variable_number, with_control_pending, with_pending_variable}
 use Rattle.emtp_deck.specs.declared.control_cards.BlockEntry.{BlockEntry}
@@ -24,6 +35,7 @@ use Rattle.emtp_deck.specs.declared.control_cards.ExtraEntry.TheVariants.{Device
 use Rattle.emtp_deck.specs.declared.deck.Deck.{Deck}
 use Rattle.emtp_deck.specs.declared.deck.Place.{Place}
 use Rattle.emtp_deck.specs.declared.deck.Place.TheVariants.{After, Begin, Branches, Control, First, Outputs, Points, Second, Sources, Start, Switches, Third, Waiting}
+use Rattle.emtp_deck.specs.declared.filling.Filling.{Filling}
 use Rattle.emtp_netcards.specs.declared.source_card.SourceCard.{SourceCard}
 use Rattle.emtp_netcards.specs.declared.switch_card.SwitchCard.{SwitchCard}
 
@@ -234,4 +246,83 @@ control_sensible nodes deck place sound whole e =
       few_extras = omega (arith, f.extras.few);
       extras = sensible_extras variables (first_extra cards + 0) cards.extras (omega arith) f.extras.above extras f.extras.names;
       history = omega (arith, f.extras.sum, f.extras.total (omega arith));
+    }
+
+-- ---- each variable is that of one card
+
+two_maps : {A B C : Type 0} (f : A → B) (g : B → C) (xs : List A) → map g (map f xs) ≡ map (λ x. g (f x)) xs
+two_maps f g [] = refl
+two_maps f g (x ∷ xs) = ap (λ ys. g (f x) ∷ ys) (two_maps f g xs)
+
+extra_var : (variables : List (List ℕ)) (points : List Point) (p : Parts) (e : ExtraEntry) → map var_of (with_extra variables points p e).extras ≡ map var_of p.extras ++ variable_number variables (extra_name e) ∷ []
+extra_var variables points p (DeviceEntry card first count) = map-append var_of p.extras _
+extra_var variables points p (FormulaEntry card) = map-append var_of p.extras _
+
+extra_vars : (variables : List (List ℕ)) (points : List Point) (p : Parts) (es : List ExtraEntry) → map var_of (fold (with_extra variables points) p es).extras ≡ map var_of p.extras ++ map (λ e. variable_number variables (extra_name e)) es
+extra_vars variables points p [] = sym (append-nil (map var_of p.extras))
+extra_vars variables points p (e ∷ es) =
+    extra_vars variables points (with_extra variables points p e) es
+    ∙ ap (λ ys. ys ++ map (λ x. variable_number variables (extra_name x)) es) (extra_var variables points p e)
+    ∙ append_assoc (map var_of p.extras) (variable_number variables (extra_name e) ∷ []) (map (λ x. variable_number variables (extra_name x)) es)
+
+record IsNumbered (variables : List (List ℕ)) (cards : ControlCards) : Type 0 where
+  blocks : map (λ (e : BlockEntry). variable_number variables e.card.name) cards.blocks ≡ range_with_len 6 (length cards.blocks)
+  sources : map (λ (card : SourceCard). variable_number variables card.name) cards.sources ≡ range_with_len (6 + length cards.blocks) (length cards.sources)
+  extras : map (λ e. variable_number variables (extra_name e)) cards.extras ≡ range_with_len (6 + (length cards.blocks + length cards.sources)) (length cards.extras)
+  size : 6 + (length cards.blocks + length cards.sources + length cards.extras) ≡ length variables
+
+numbered : (nodes : List (List ℕ)) (deck : Deck) (seen : Bool) → IsFine nodes (variable_names deck (After seen)) deck (After seen) → IsNumbered (variable_names deck (After seen)) deck.control
+numbered nodes deck seen f =
+    let cards = deck.control in
+    let variables = variable_names deck (After seen) in
+    let ss = options_of source_name cards.sources in
+    let xs = options_of extra_name cards.extras in
+    let all : variables ≡ third_names cards = variables_are deck (After seen) in
+    let b = in_row block_name standing_names variables cards.blocks (ss ++ xs) (all ∙ sym (in_two (first_names cards) ss xs)) f.blocks.above in
+    let after_blocks : first_source cards + 0 ≡ length (first_names cards) = omega (arith, b.longer) in
+    let s = in_row source_name (first_names cards) variables cards.sources xs all (subst (λ n. AreAbove source_name variables n cards.sources) after_blocks f.sources.above) in
+    let after_sources : first_extra cards + 0 ≡ length (second_names cards) = omega (arith, b.longer, s.longer) in
+    let x = in_row extra_name (second_names cards) variables cards.extras [] all (subst (λ n. AreAbove extra_name variables n cards.extras) after_sources f.extras.above) in
+    let second : length (first_names cards) ≡ 6 + length cards.blocks = omega (arith, b.longer) in
+    let third : length (second_names cards) ≡ 6 + (length cards.blocks + length cards.sources) = omega (arith, b.longer, s.longer) in
+    record {
+      blocks = row_is block_name variables 6 cards.blocks b.row;
+      sources = row_is source_name variables (length (first_names cards)) cards.sources s.row ∙ ap (λ n. range_with_len n (length cards.sources)) second;
+      extras = row_is extra_name variables (length (second_names cards)) cards.extras x.row ∙ ap (λ n. range_with_len n (length cards.extras)) third;
+      size = sym (ap length all ∙ omega (arith, b.longer, s.longer, x.longer));
+    }
+
+-- ---- the whole case
+
+pub control_whole_is : (f : Filling) (deck : Deck) (seen : Bool) → IsFilling f → IsWhole deck → control_bad (known_nodes deck (After seen)) (variable_names deck (After seen)) deck (After seen) ≡ None → made_of_deck (variable_names deck (After seen)) deck ≡ Ok (made_of f) → IsSensibleWhole f deck
+control_whole_is f deck seen filling whole e h =
+    let cards = deck.control in
+    let variables = variable_names deck (After seen) in
+    let nodes = known_nodes deck (After seen) in
+    let p = f.draft.parts in
+    let asks = deck_asks variables deck (made_of f) h in
+    let is = control_is variables deck in
+    let good = fine nodes variables deck (After seen) e in
+    let n = numbered nodes deck seen good in
+    let known = known_options deck (After seen) in
+    let P : Option (List ℕ) → Type 0 = λ x. node_number variables x ≤ length variables in
+    let bs = options_of block_name cards.blocks in
+    let ss = options_of source_name cards.sources in
+    let xs = options_of extra_name cards.extras in
+    let sources = each_front P ss (xs ++ []) (each_rest P bs (ss ++ (xs ++ [])) known.known) in
+    let vars : p.vars ≡ variables = asks.control.vars ∙ is.vars in
+    let keys : f.variables.keys ≡ variables = filling.variables ∙ vars in
+    let named : f.nodes.keys ≡ nodes = filling.nodes ∙ asks.nodes in
+    let sensible = sensible_sources nodes deck.switches variables (first_source cards + 0) cards.sources (omega arith) good.sources.above sources good.sources.measures in
+    let c = case_of deck (made_of f) in
+    record {
+      few = omega (arith, good.sources.few);
+      switches = omega (arith, asks.switched, ap length is.switches);
+      sources = whole.control.sources;
+      sensible = subst (λ vs. All (IsSensibleTacsSource f.nodes.keys deck.switches vs) cards.sources) (sym keys) (subst (λ ns. All (IsSensibleTacsSource ns deck.switches variables) cards.sources) (sym named) sensible);
+      each = defined_once c (length cards.blocks) (length cards.sources) (length cards.extras)
+          (ap (map (λ (b : Block). b.var)) (asks.control.blocks ∙ is.blocks) ∙ two_maps (block_of variables) (λ (b : Block). b.var) cards.blocks ∙ n.blocks)
+          (two_maps (tacs_source_of p.nodes deck.switches p.vars) (λ (s : Source). s.node) cards.sources ∙ ap (λ vs. map (λ (card : SourceCard). variable_number vs card.name) cards.sources) vars ∙ n.sources)
+          (ap (map var_of) asks.control.extras ∙ extra_vars variables deck.points _ cards.extras ∙ n.extras)
+          (n.size ∙ sym (ap length vars));
     }

@@ -14,6 +14,7 @@ pub mod Numbering
 pub mod Driving
 pub mod ControlJudging
 pub mod ControlRecords
+pub mod ControlAdding
 pub mod ControlWhole
 pub mod WholeDeck
 pub mod Comments

@@ -20,7 +20,7 @@ ghost use Rattle.emtp_deck.specs.Sound.{IsDeviceEntry, IsExtraEntry, IsFormulaCa
 ghost use Rattle.emtp_deck.specs.Variables.{variable_number};
 
 use crate::control_cards::{BlockEntry, ExtraEntry};
-use crate::control_sense::find_switch;
+use crate::control_sense::{entry_history_values, find_switch};
 use crate::deck::Deck;
 use crate::filling::Filling;
 use crate::names::find_node;
@@ -202,26 +202,29 @@ fn add_extra(
     Ok(())
 }
 
+/// Adds the devices and the formulas of all cards; how many history values they need.
 fn add_extras(
     alloc: Global,
     draft: &mut Draft,
     variables: &IndexSet<Name>,
     points: &[Point],
     entries: &[ExtraEntry],
-) -> Result<(), Refused>
+) -> Result<u64, Refused>
     requires variables { variables.now.keys ≡ draft.old.parts.vars }
     requires room { length draft.old.parts.extras + length entries.now ≤ 200 }
     requires entries { All (IsExtraEntry points.now) entries.now }
     requires sensible { All (IsSensibleExtra variables.now.keys) entries.now }
     requires history { history_values_of draft.old.parts + sum_by (entry_history_values draft.old.parts.run.dt) entries.now ≤ 2000000 }
-    ensures ok { OnOk result (draft.new.parts ≡ fold (with_extra variables.now.keys points.now) draft.old.parts entries.now) }
-    ensures history { OnOk result (history_values_of draft.new.parts ≡ history_values_of draft.old.parts + sum_by (entry_history_values draft.old.parts.run.dt) entries.now) }
+    ensures ok { IfOk result (λ total. draft.new.parts ≡ fold (with_extra variables.now.keys points.now) draft.old.parts entries.now) }
+    ensures history { IfOk result (λ total. history_values_of draft.new.parts ≡ history_values_of draft.old.parts + total) }
     ensures err { IfErr result IsWant }
 {
+    let mut history = 0;
     for entry in entries {
         add_extra(alloc, draft, variables, points, entry)?;
+        history += entry_history_values(alloc, draft.parts.run.dt, points, entry);
     }
-    Ok(())
+    Ok(history)
 }
 
 /// Gives a draft the variables that are new.
@@ -257,7 +260,7 @@ pub(crate) fn control_filling(
     add_blocks(alloc, draft, variables, deck.control.blocks.as_slice())?;
     let points = deck.points.as_slice();
     let extras = deck.control.extras.as_slice();
-    add_extras(alloc, draft, variables, points, extras)?;
+    filling.history = add_extras(alloc, draft, variables, points, extras)?;
     Ok(filling)
 }
 

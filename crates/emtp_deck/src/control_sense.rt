@@ -347,7 +347,7 @@ fn card_history_values(alloc: Global, dt: i64, card: &DeviceCard) -> u64
     plain_device(alloc, card).history_values(dt)
 }
 
-fn entry_history_values(alloc: Global, dt: i64, points: &[Point], entry: &ExtraEntry) -> u64
+pub(crate) fn entry_history_values(alloc: Global, dt: i64, points: &[Point], entry: &ExtraEntry) -> u64
     requires dt { IsBetween 1000 (10 ^ 12) dt }
     requires entry { IsExtraEntry points.now entry.now }
     ensures value { result ≡ entry_history_values dt entry.now }

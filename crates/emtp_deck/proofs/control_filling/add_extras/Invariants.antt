@@ -11,5 +11,6 @@ invariant-loop-entry l = record {
   vars : l.draft.parts.vars ≡ l.initial.draft.parts.vars;
   run : l.draft.parts.run ≡ l.initial.draft.parts.run;
   room : length l.draft.parts.extras ≡ length l.initial.draft.parts.extras + l.entry-index;
-  history : history_values_of l.draft.parts ≡ history_values_of l.initial.draft.parts + sum_by (entry_history_values l.initial.draft.parts.run.dt) (take l.entry-index l.entries);
+  sum : l.history ≡ sum_by (entry_history_values l.initial.draft.parts.run.dt) (take l.entry-index l.entries);
+  history : history_values_of l.draft.parts ≡ history_values_of l.initial.draft.parts + l.history;
 }
