@@ -251,6 +251,7 @@ pub(crate) fn control_filling(
     requires whole { IsWhole deck.now }
     requires sensible { IsSensibleControl variables.keys deck.now }
     ensures ok { IfOk result (λ filling. made_of filling ≡ control_made variables.keys deck.now) }
+    ensures variables { IfOk result (λ filling. filling.variables.keys ≡ variables.keys) }
     ensures err { IfErr result IsWant }
     ensures filling { IfOk result IsFilling }
 {
