@@ -9,6 +9,13 @@ pub mod Modes
 pub mod Asking
 pub mod Judging
 pub mod Switching
+pub mod Knowing
+pub mod Numbering
+pub mod Driving
+pub mod ControlJudging
+pub mod ControlRecords
+pub mod ControlAdding
+pub mod ControlWhole
 pub mod WholeDeck
 pub mod Comments
 pub mod Rising

@@ -3,7 +3,7 @@
 use Rattle.std.specs.List.{list_any}
 use Rattle.std.specs.Prelude.{Bool, Err, List, None, Ok, Option, Result, Some, [], false, if◌then◌else◌, is_some, length, nat_le, nat_lt, not, option_map, position, true, ℕ, ℤ, ◌+◌, ◌||◌, ◌∷◌}
 use Rattle.std.specs.Str.{bytes_eq}
-use Rattle.emtp_card.specs.Fault.{bad_at, least, lesser}
+use Rattle.emtp_card.specs.Fault.{bad_at, least}
 use Rattle.emtp_card.specs.declared.fault.Fault.{Fault}
 use Rattle.emtp_card.specs.declared.reason.Bad.{Bad}
 use Rattle.emtp_card.specs.declared.reason.Why.TheVariants.{TwoSources, UnknownName}
@@ -36,11 +36,15 @@ use Rattle.emtp_taccards.specs.declared.formula_card.FormulaCard.{FormulaCard}
 abbrev pub second_sense : List (List ℕ) → ℕ → List ℕ → Option Fault
 second_sense variables next name = if nat_lt (variable_number variables name) next then Some (record { column = 3; why = TwoSources }) else None
 
--- signed inputs, whose names stand eight columns apart from a column on
+abbrev pub first_fault : Option Fault → Option Fault → Option Fault
+first_fault (Some fault) other = Some fault
+first_fault None other = other
+
+-- signed inputs, whose names stand eight columns apart from a column on; the first that is unknown has the least column
 abbrev pub inputs_sense : List (List ℕ) → ℕ → List (Option (Bool × List ℕ)) → Option Fault
 inputs_sense variables column [] = None
 inputs_sense variables column (input ∷ inputs) =
-    lesser (unknown_name variables column (option_map (λ (i : Bool × List ℕ). i.1) input)) (inputs_sense variables (column + 8) inputs)
+    first_fault (unknown_name variables column (option_map (λ (i : Bool × List ℕ). i.1) input)) (inputs_sense variables (column + 8) inputs)
 
 -- ---- blocks
 
@@ -96,10 +100,11 @@ tacs_source_sense nodes switches variables at next card =
 abbrev pub tacs_source_bad : List (List ℕ) → List SwitchCard → List (List ℕ) → ℕ → ℕ → SourceCard → Option Bad
 tacs_source_bad nodes switches variables at next card = option_map (bad_at card.line) (tacs_source_sense nodes switches variables at next card)
 
+-- the sources after so many, the first of all having this number
 abbrev pub tacs_sources_bad : List (List ℕ) → List SwitchCard → List (List ℕ) → ℕ → ℕ → List SourceCard → Option Bad
-tacs_sources_bad nodes switches variables at next [] = None
-tacs_sources_bad nodes switches variables at next (card ∷ cards) =
-    first_bad (tacs_source_bad nodes switches variables at next card) (tacs_sources_bad nodes switches variables (at + 1) (next + 1) cards)
+tacs_sources_bad nodes switches variables first at [] = None
+tacs_sources_bad nodes switches variables first at (card ∷ cards) =
+    first_bad (tacs_source_bad nodes switches variables at (first + at) card) (tacs_sources_bad nodes switches variables first (at + 1) cards)
 
 -- ---- supplemental cards
 
@@ -145,12 +150,12 @@ abbrev pub entry_history_values : ℤ → ExtraEntry → ℕ
 entry_history_values dt (DeviceEntry card first count) = card_history_values dt card
 entry_history_values dt (FormulaEntry card) = 0
 
--- the cards after so many, which need so many history values; it gives those of all
+-- the cards after so many, which need so many history values, the first of all having this number; it gives those of all
 abbrev pub judge_extras : List (List ℕ) → ℤ → ℕ → ℕ → ℕ → List ExtraEntry → Result ℕ Bad
-judge_extras variables dt at next history [] = Ok history
-judge_extras variables dt at next history (e ∷ es) =
+judge_extras variables dt first at history [] = Ok history
+judge_extras variables dt first at history (e ∷ es) =
     let sum = history + entry_history_values dt e in
-    unless_judged (extra_bad variables at next sum e) (judge_extras variables dt (at + 1) (next + 1) sum es)
+    unless_judged (extra_bad variables at (first + at) sum e) (judge_extras variables dt first (at + 1) sum es)
 
 -- ---- all cards
 
@@ -190,5 +195,5 @@ unfoldable pub control_bad : List (List ℕ) → List (List ℕ) → Deck → Pl
 control_bad nodes variables deck place =
     let cards = deck.control in
     first_bad (blocks_bad variables 0 cards.blocks)
-    (first_bad (tacs_sources_bad nodes deck.switches variables 0 (first_source cards) cards.sources)
-    (extras_or_pending variables deck place (judge_extras variables deck.run.dt 0 (first_extra cards) 0 cards.extras)))
+    (first_bad (tacs_sources_bad nodes deck.switches variables (first_source cards) 0 cards.sources)
+    (extras_or_pending variables deck place (judge_extras variables deck.run.dt (first_extra cards) 0 0 cards.extras)))

@@ -54,7 +54,7 @@ abbrev pub IsSensibleExtra : List (List ℕ) → ExtraEntry → Type 0
 IsSensibleExtra variables (DeviceEntry card first count) = IsSensibleDevice variables card
 IsSensibleExtra variables (FormulaEntry card) = IsSensibleFormula variables card
 
-pub record IsSensibleSource (nodes : List (List ℕ)) (switches : List SwitchCard) (variables : List (List ℕ)) (card : SourceCard) : Type 0 where
+pub record IsSensibleTacsSource (nodes : List (List ℕ)) (switches : List SwitchCard) (variables : List (List ℕ)) (card : SourceCard) : Type 0 where
   pub name : IsDefined variables card.name
   pub measures : is_measurable nodes switches card.name card.shape ≡ true
 
@@ -62,7 +62,7 @@ pub record IsSensibleSource (nodes : List (List ℕ)) (switches : List SwitchCar
 pub record IsSensibleControl (variables : List (List ℕ)) (deck : Deck) : Type 0 where
   pub standing : Continues standing_names variables
   pub few : length variables ≤ 606
-  pub names : All IsName variables
+  pub names : All IsName standing_names → All IsName variables
   pub few_blocks : length deck.control.blocks ≤ 200
   pub blocks : All (IsSensibleBlock variables) deck.control.blocks
   pub few_extras : length deck.control.extras ≤ 200
@@ -74,5 +74,5 @@ pub record IsSensibleWhole (f : Filling) (deck : Deck) : Type 0 where
   pub few : length deck.control.sources ≤ 200
   pub switches : length deck.switches ≡ length f.draft.parts.switches
   pub sources : All IsTacsSourceCard deck.control.sources
-  pub sensible : All (IsSensibleSource f.nodes.keys deck.switches f.variables.keys) deck.control.sources
+  pub sensible : All (IsSensibleTacsSource f.nodes.keys deck.switches f.variables.keys) deck.control.sources
   pub each : DefinesEach (case_of deck (made_of f))

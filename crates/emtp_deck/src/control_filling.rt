@@ -1,6 +1,6 @@
 //! The records of the control, whose cards have no fault of sense.
 
-ghost use Rattle.std.specs.Prelude.{◌≡◌, ◌+◌, ◌<◌, ◌≤◌, ◌++◌, ◌∷◌, [], All, fold, length, map, IfErr, IfOk, OnOk};
+ghost use Rattle.std.specs.Prelude.{◌≡◌, ◌+◌, ◌<◌, ◌≤◌, ◌++◌, ◌∷◌, [], All, fold, length, map, sum_by, IfErr, IfOk, OnOk};
 ghost use Rattle.emtp_case.specs.Branch.{points_of};
 ghost use Rattle.emtp_case.specs.Case.{empty_parts};
 ghost use Rattle.emtp_case.specs.Control.{IsBlock, IsDeviceCard, IsFormula};
@@ -11,15 +11,16 @@ ghost use Rattle.emtp_case.specs.Source.{IsTacsSource};
 ghost use Rattle.emtp_deck.specs.Answer.{IsWant};
 ghost use Rattle.emtp_deck.specs.ControlFilling.{block_of, bound_of, control_parts, device_of, formula_of, input_of, inputs_of, measuring, switch_place, tacs_source_of, with_device, with_extra};
 ghost use Rattle.emtp_deck.specs.ControlSense.{entry_history_values};
-ghost use Rattle.emtp_deck.specs.ControlSensible.{IsSensibleBlock, IsSensibleControl, IsSensibleDevice, IsSensibleExtra, IsSensibleSource};
+ghost use Rattle.emtp_deck.specs.ControlSensible.{IsSensibleBlock, IsSensibleControl, IsSensibleDevice, IsSensibleExtra, IsSensibleTacsSource};
 ghost use Rattle.emtp_deck.specs.Coefficients.{IsBlockEntry};
 ghost use Rattle.emtp_deck.specs.Deck.{control_made};
 ghost use Rattle.emtp_deck.specs.Filling.{IsFilling, made_of};
+ghost use Rattle.emtp_deck.specs.Naming.{Continues};
 ghost use Rattle.emtp_deck.specs.Sound.{IsDeviceEntry, IsExtraEntry, IsFormulaCard, IsTacsSourceCard, IsWhole};
 ghost use Rattle.emtp_deck.specs.Variables.{variable_number};
 
 use crate::control_cards::{BlockEntry, ExtraEntry};
-use crate::control_sense::find_switch;
+use crate::control_sense::{entry_history_values, find_switch};
 use crate::deck::Deck;
 use crate::filling::Filling;
 use crate::names::find_node;
@@ -41,6 +42,7 @@ fn inputs_of(
 ) -> Result<Items<Input>, Refused>
     requires { length variables.now.keys ≤ 606 }
     ensures ok { IfOk result (λ list. list ≡ inputs_of variables.now.keys inputs.now) }
+    ensures few { IfOk result (λ list. length list ≤ 5) }
     ensures err { IfErr result IsWant }
 {
     let mut list = Items::new(alloc);
@@ -72,6 +74,7 @@ fn bound_of(variables: &IndexSet<Name>, name: &Option<Name>, fixed: Option<i64>)
 fn block_of(alloc: Global, variables: &IndexSet<Name>, entry: &BlockEntry) -> Result<Block, Refused>
     requires { length variables.now.keys ≤ 606 }
     ensures ok { IfOk result (λ block. block ≡ block_of variables.now.keys entry.now) }
+    ensures few { IfOk result (λ block. length block.inputs ≤ 5) }
     ensures err { IfErr result IsWant }
 {
     let card = &entry.card;
@@ -116,6 +119,7 @@ fn device_of(
 ) -> Result<Device, Refused>
     requires { length variables.now.keys ≤ 606 }
     ensures ok { IfOk result (λ device. device ≡ device_of variables.now.keys card.now) }
+    ensures few { IfOk result (λ device. length device.inputs ≤ 5) }
     ensures err { IfErr result IsWant }
 {
     Ok(Device {
@@ -198,26 +202,29 @@ fn add_extra(
     Ok(())
 }
 
+/// Adds the devices and the formulas of all cards; how many history values they need.
 fn add_extras(
     alloc: Global,
     draft: &mut Draft,
     variables: &IndexSet<Name>,
     points: &[Point],
     entries: &[ExtraEntry],
-) -> Result<(), Refused>
+) -> Result<u64, Refused>
     requires variables { variables.now.keys ≡ draft.old.parts.vars }
     requires room { length draft.old.parts.extras + length entries.now ≤ 200 }
     requires entries { All (IsExtraEntry points.now) entries.now }
     requires sensible { All (IsSensibleExtra variables.now.keys) entries.now }
     requires history { history_values_of draft.old.parts + sum_by (entry_history_values draft.old.parts.run.dt) entries.now ≤ 2000000 }
-    ensures ok { OnOk result (draft.new.parts ≡ fold (with_extra variables.now.keys points.now) draft.old.parts entries.now) }
-    ensures history { OnOk result (history_values_of draft.new.parts ≡ history_values_of draft.old.parts + sum_by (entry_history_values draft.old.parts.run.dt) entries.now) }
+    ensures ok { IfOk result (λ total. draft.new.parts ≡ fold (with_extra variables.now.keys points.now) draft.old.parts entries.now) }
+    ensures history { IfOk result (λ total. history_values_of draft.new.parts ≡ history_values_of draft.old.parts + total) }
     ensures err { IfErr result IsWant }
 {
+    let mut history = 0;
     for entry in entries {
         add_extra(alloc, draft, variables, points, entry)?;
+        history += entry_history_values(alloc, draft.parts.run.dt, points, entry);
     }
-    Ok(())
+    Ok(history)
 }
 
 /// Gives a draft the variables that are new.
@@ -244,6 +251,7 @@ pub(crate) fn control_filling(
     requires whole { IsWhole deck.now }
     requires sensible { IsSensibleControl variables.keys deck.now }
     ensures ok { IfOk result (λ filling. made_of filling ≡ control_made variables.keys deck.now) }
+    ensures variables { IfOk result (λ filling. filling.variables.keys ≡ variables.keys) }
     ensures err { IfErr result IsWant }
     ensures filling { IfOk result IsFilling }
 {
@@ -253,7 +261,7 @@ pub(crate) fn control_filling(
     add_blocks(alloc, draft, variables, deck.control.blocks.as_slice())?;
     let points = deck.points.as_slice();
     let extras = deck.control.extras.as_slice();
-    add_extras(alloc, draft, variables, points, extras)?;
+    filling.history = add_extras(alloc, draft, variables, points, extras)?;
     Ok(filling)
 }
 
@@ -319,7 +327,7 @@ pub(crate) fn add_tacs_sources(
     requires room { length cards.now ≤ 200 }
     requires switches { length switches.now ≡ length filling.old.draft.parts.switches }
     requires cards { All IsTacsSourceCard cards.now }
-    requires sensible { All (IsSensibleSource filling.old.nodes.keys switches.now filling.old.variables.keys) cards.now }
+    requires sensible { All (IsSensibleTacsSource filling.old.nodes.keys switches.now filling.old.variables.keys) cards.now }
     ensures ok { OnOk result (filling.new.draft.parts ≡ record filling.old.draft.parts { tacs_sources = map (tacs_source_of filling.old.nodes.keys switches.now filling.old.variables.keys) cards.now }) }
     ensures asked { filling.new.asked ≡ filling.old.asked }
     ensures err { IfErr result IsWant }

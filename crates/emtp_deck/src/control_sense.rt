@@ -4,10 +4,11 @@ ghost use Rattle.std.specs.Prelude.{◌≡◌, ◌+◌, ◌*◌, ◌^◌, ◌<�
 ghost use Rattle.std.specs.List.{list_any};
 ghost use Rattle.emtp_case.specs.Control.{HasRangeOfA};
 ghost use Rattle.emtp_case.specs.Range.{IsBetween};
-ghost use Rattle.emtp_deck.specs.ControlSense.{block_bad, block_sense, blocks_bad, card_history_values, control_bad, device_bad, device_sense, ends_at, entry_history_values, extra_bad, find_switch, first_extra, first_source, formula_bad, formula_sense, inputs_sense, is_end, is_measurable, judge_extras, measured_sense, names_sense, pending_control, pending_control_bad, pending_device, second_sense, tacs_source_bad, tacs_source_sense, tacs_sources_bad};
+ghost use Rattle.emtp_case.specs.RunData.{IsRun};
+ghost use Rattle.emtp_deck.specs.ControlSense.{block_bad, block_sense, blocks_bad, card_history_values, control_bad, device_bad, device_sense, ends_at, entry_history_values, extra_bad, find_switch, first_extra, first_source, formula_bad, formula_sense, inputs_sense, is_end, is_measurable, is_unknown, judge_extras, measured_sense, names_sense, pending_control, pending_control_bad, pending_device, second_sense, tacs_source_bad, tacs_source_sense, tacs_sources_bad};
 ghost use Rattle.emtp_deck.specs.Sound.{IsDeviceDue, IsExtraEntry, IsSound};
 
-use crate::control_cards::{BlockEntry, ControlCards, ControlPlace, ExtraEntry};
+use crate::control_cards::{BlockEntry, ControlPlace, ExtraEntry};
 use crate::deck::{Deck, Place};
 use crate::filling::too_many;
 use crate::names::find_node;
@@ -199,7 +200,7 @@ fn tacs_sources_bad(
     cards: &[SourceCard],
 ) -> Option<Bad>
     requires first { first ≤ 1000 }
-    ensures { result ≡ tacs_sources_bad names.now.nodes.keys switches.now names.now.variables.keys 0 first cards.now }
+    ensures { result ≡ tacs_sources_bad names.now.nodes.keys switches.now names.now.variables.keys first 0 cards.now }
 {
     let mut at = 0;
     for card in cards {
@@ -213,21 +214,25 @@ fn tacs_sources_bad(
 
 // ---- supplemental cards
 
+fn is_unknown(variables: &IndexSet<Name>, name: &Name) -> bool
+    ensures { result ≡ is_unknown variables.now.keys name.now }
+{
+    variables.get_index_of(name).is_none()
+}
+
 /// The fault of an expression that names what isn't a variable.
 fn names_sense(variables: &IndexSet<Name>, names: &[Name]) -> Option<Fault>
     ensures { result ≡ names_sense variables.now.keys names.now }
 {
-    if names
-        .iter()
-        .any(|name| variables.get_index_of(name).is_none())
-    {
-        Some(Fault {
-            column: 12,
-            why: Why::UnknownName,
-        })
-    } else {
-        None
+    for name in names {
+        if is_unknown(variables, name) {
+            return Some(Fault {
+                column: 12,
+                why: Why::UnknownName,
+            });
+        }
     }
+    None
 }
 
 /// The faults of the device after so many cards, which needs so many history values with those before it.
@@ -342,7 +347,7 @@ fn card_history_values(alloc: Global, dt: i64, card: &DeviceCard) -> u64
     plain_device(alloc, card).history_values(dt)
 }
 
-fn entry_history_values(alloc: Global, dt: i64, points: &[Point], entry: &ExtraEntry) -> u64
+pub(crate) fn entry_history_values(alloc: Global, dt: i64, points: &[Point], entry: &ExtraEntry) -> u64
     requires dt { IsBetween 1000 (10 ^ 12) dt }
     requires entry { IsExtraEntry points.now entry.now }
     ensures value { result ≡ entry_history_values dt entry.now }
@@ -366,7 +371,7 @@ fn judge_extras(
     requires dt { IsBetween 1000 (10 ^ 12) dt }
     requires first { first ≤ 1000 }
     requires entries { All (IsExtraEntry points.now) entries.now }
-    ensures value { result ≡ judge_extras variables.now.keys dt 0 first 0 entries.now }
+    ensures value { result ≡ judge_extras variables.now.keys dt first 0 0 entries.now }
     ensures few { IfOk result (λ history. history ≤ 2000000) }
 {
     let mut at = 0;
@@ -389,9 +394,14 @@ fn pending_control_bad(
     variables: &IndexSet<Name>,
     deck: &Deck,
     place: &Place,
+    first: usize,
     history: u64,
 ) -> Option<Bad>
     requires sound { IsSound deck.now place.now }
+    requires blocks { length deck.now.control.blocks ≤ 200 }
+    requires extras { length deck.now.control.extras ≤ 200 }
+    requires first { first ≡ first_extra deck.now.control }
+    requires few { first ≤ 1000 }
     requires history { history ≤ 2000000 }
     ensures { result ≡ pending_control_bad variables.now.keys deck.now place.now history }
 {
@@ -404,7 +414,7 @@ fn pending_control_bad(
             block_bad(variables, cards.blocks.len(), card)
         }
         Place::Control(ControlPlace::DevicePoints(group)) => {
-            pending_device(alloc, variables, deck.run.dt, cards, history, &group.card)
+            pending_device(alloc, variables, deck, first, history, &group.card)
         }
         _ => None,
     }
@@ -413,20 +423,22 @@ fn pending_control_bad(
 fn pending_device(
     alloc: Global,
     variables: &IndexSet<Name>,
-    dt: i64,
-    cards: &ControlCards,
+    deck: &Deck,
+    first: usize,
     history: u64,
     card: &DeviceCard,
 ) -> Option<Bad>
-    requires dt { IsBetween 1000 (10 ^ 12) dt }
+    requires run { IsRun deck.now.run }
     requires card { IsDeviceDue card.now }
+    requires extras { length deck.now.control.extras ≤ 200 }
+    requires first { first ≡ first_extra deck.now.control }
+    requires few { first ≤ 1000 }
     requires history { history ≤ 2000000 }
-    ensures { result ≡ pending_device variables.now.keys dt cards.now history card.now }
+    ensures { result ≡ pending_device variables.now.keys deck.now.run.dt deck.now.control history card.now }
 {
-    let at = cards.extras.len();
-    let next = STANDING + cards.blocks.len() + cards.sources.len() + at;
-    let sum = history + card_history_values(alloc, dt, card);
-    device_bad(variables, at, next, sum, card)
+    let at = deck.control.extras.len();
+    let sum = history + card_history_values(alloc, deck.run.dt, card);
+    device_bad(variables, at, first + at, sum, card)
 }
 
 /// What refuses the first card of the control that has a fault of sense.
@@ -459,7 +471,7 @@ pub(crate) fn control_bad(
         deck.points.as_slice(),
         cards.extras.as_slice(),
     ) {
-        Ok(history) => pending_control_bad(alloc, &names.variables, deck, place, history),
+        Ok(history) => pending_control_bad(alloc, &names.variables, deck, place, first_extra, history),
         Err(bad) => Some(bad),
     }
 }

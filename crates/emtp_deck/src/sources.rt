@@ -86,6 +86,22 @@ fn driven_shape(variables: &IndexSet<Name>, name: &Name, shape: Shape) -> Shape
     }
 }
 
+/// The source of a card at its node.
+fn source_at(variables: &IndexSet<Name>, card: &SourceCard, node: u32) -> Source
+    requires { length variables.now.keys ≤ 606 }
+    ensures { result ≡ source_at variables.now.keys card.now node }
+{
+    Source {
+        line: card.line,
+        node,
+        current: card.current,
+        shape: driven_shape(variables, &card.name, card.shape),
+        amplitude: card.amplitude,
+        start: card.start,
+        stop: card.stop,
+    }
+}
+
 /// Adds the source of a card whose node is there.
 fn add_source(filling: &mut Filling, card: &SourceCard, node: u32) -> Result<(), Refused>
     requires filling { IsFilling filling.old }
@@ -99,16 +115,8 @@ fn add_source(filling: &mut Filling, card: &SourceCard, node: u32) -> Result<(),
     ensures err { IfErr result IsWant }
     ensures filling { OnOk result (IsFilling filling.new) }
 {
-    let shape = driven_shape(&filling.variables, &card.name, card.shape);
-    filling.draft.add_source(Source {
-        line: card.line,
-        node,
-        current: card.current,
-        shape,
-        amplitude: card.amplitude,
-        start: card.start,
-        stop: card.stop,
-    })?;
+    let source = source_at(&filling.variables, card, node);
+    filling.draft.add_source(source)?;
     Ok(())
 }
 

@@ -25,6 +25,7 @@ use indexmap::IndexSet;
 fn switch_fault(filling: &Filling, card: &SwitchCard) -> Option<Fault>
     requires few { length filling.now.nodes.keys ≤ 2000 }
     requires asked { count_asked filling.now.asked ≤ 64 }
+    requires variables { filling.now.variables.keys ≡ filling.now.draft.parts.vars }
     ensures { result ≡ switch_fault filling.now.nodes.keys (made_of filling.now) card.now }
 {
     let nodes = &filling.nodes;
