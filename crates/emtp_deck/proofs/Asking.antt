@@ -1,34 +1,42 @@
 -- How many channels the cards of a section ask for, and which nodes they name, where no card has a fault of sense.
-use Rattle.std.proofs.Common.{◌≡◌, ◌∙◌, sym, ap, refl, ℕ, ◌+◌, List, [], ◌∷◌, length, fold, Option, Some, None, Result, Ok, Err, arith, length-append}
-use Rattle.std.specs.Prelude.{if◌then◌else◌, is_some, option_map, position}
-use Rattle.std.specs.List.{sum_by}
-use Rattle.std.specs.Str.{bytes_eq}
+use Rattle.emtp_case.specs.declared.branch.Trio as modes
+use Rattle.std.proofs.Common.{◌≡◌, ◌∙◌, sym, ap, refl, ℕ, ◌+◌, List, [], ◌∷◌, length, fold, Option, Some, None, Result, Ok, Err, arith, length-append, ◌++◌}
 use Rattle.std.proofs.lemmas.List.Sums.{sum_by-cons}
+use Rattle.std.specs.List.{sum_by}
+use Rattle.std.specs.Prelude.{if◌then◌else◌, is_some, option_map, position, map}
+use Rattle.std.specs.Str.{bytes_eq}
 use Rattle.emtp_card.specs.Fault.{unless_bad}
 use Rattle.emtp_card.specs.declared.fault.Fault.{Fault}
 use Rattle.emtp_card.specs.declared.reason.Bad.{Bad}
+use Rattle.emtp_case.specs.declared.branch.Branch.{Branch}
 use Rattle.emtp_case.specs.declared.branch.Point.{Point}
 use Rattle.emtp_case.specs.declared.case.Parts.{Parts}
 use Rattle.emtp_case.specs.declared.channel.Channel.{Channel}
-use Rattle.emtp_case.specs.declared.channel.Channel.TheVariants.{NodeVoltage as NodeChannel, SwitchCurrent, SwitchVoltage}
+use Rattle.emtp_case.specs.declared.channel.Channel.TheVariants.{NodeVoltage as NodeChannel, SwitchCurrent, SwitchVoltage, Tacs as VariableChannel}
+use Rattle.emtp_deck.proofs.Growing.{length_entry}
+use Rattle.emtp_deck.proofs.Keeping.{length_of_nodes, length_of_switch}
 use Rattle.emtp_deck.specs.Answer.{go_on}
 use Rattle.emtp_deck.specs.Branches.{entry_channels, entry_count, take_branches, take_entry, with_branches, with_entry, with_nodes, with_own, with_values}
 use Rattle.emtp_deck.specs.Channels.{channels_of, status_of}
-use Rattle.emtp_deck.specs.Deck.{made_of_deck}
+use Rattle.emtp_deck.specs.ControlFilling.{block_of, control_parts, with_extra}
+use Rattle.emtp_deck.specs.Deck.{made_of_deck, control_made}
 use Rattle.emtp_deck.specs.Made.{Made, count_asked, empty_made, no_room, too_many, unless_fault}
 use Rattle.emtp_deck.specs.Names.{find_node, node_names, with_entry_names, with_switch_names}
 use Rattle.emtp_deck.specs.Outputs.{name_fault, node_channels, take_all_nodes, take_name, take_names, take_node, take_output, take_outputs, with_node, with_outputs}
-use Rattle.emtp_deck.specs.Samples.{count_of_entry, count_of_switch, deck_count, name_count, output_count}
+use Rattle.emtp_deck.specs.Samples.{count_of_entry, count_of_switch, deck_count, name_count, output_count, count_of_variables}
 use Rattle.emtp_deck.specs.Sources.{source_fault, take_source, take_sources, with_source}
 use Rattle.emtp_deck.specs.Switches.{switch_fault, take_switch, take_switches, with_switch}
+use Rattle.emtp_deck.specs.TacsOutputs.{take_tacs_outputs, take_variable, take_variable_name, take_variables, variable_fault, with_variable_channel}
+use Rattle.emtp_deck.specs.declared.control_cards.ExtraEntry.{ExtraEntry}
+use Rattle.emtp_deck.specs.declared.control_cards.ExtraEntry.TheVariants.{Device as DeviceEntry, Formula as FormulaEntry}
+use Rattle.emtp_deck.specs.declared.control_cards.TacsOutputEntry.{TacsOutputEntry}
 use Rattle.emtp_deck.specs.declared.copies.ValuesFrom.{ValuesFrom}
 use Rattle.emtp_deck.specs.declared.copies.ValuesFrom.TheVariants.{Card as OwnValues, Earlier, Missing}
 use Rattle.emtp_deck.specs.declared.deck.BranchEntry.{BranchEntry}
 use Rattle.emtp_deck.specs.declared.deck.BranchEntry.TheVariants.{Single, Trio}
 use Rattle.emtp_deck.specs.declared.deck.Deck.{Deck}
 use Rattle.emtp_deck.specs.declared.deck.OutputEntry.{OutputEntry}
-use Rattle.emtp_deck.proofs.Growing.{length_entry}
-use Rattle.emtp_deck.proofs.Keeping.{length_of_nodes, length_of_switch}
+use Rattle.emtp_expr.specs.Reading.{start}
 use Rattle.emtp_netcards.specs.declared.branch_card.BranchCard.{BranchCard}
 use Rattle.emtp_netcards.specs.declared.branch_card.BranchValues.{BranchValues}
 use Rattle.emtp_netcards.specs.declared.branch_card.BranchValues.TheVariants.{Line as LineCard, Lumped as LumpedCard, Reactor as ReactorCard, Resistor as ResistorCard, Second as SecondCard, Third as ThirdCard}
@@ -37,11 +45,25 @@ use Rattle.emtp_netcards.specs.declared.output_card.OutputCard.TheVariants.{All 
 use Rattle.emtp_netcards.specs.declared.source_card.SourceCard.{SourceCard}
 use Rattle.emtp_netcards.specs.declared.switch_card.SwitchCard.{SwitchCard}
 
--- these nodes are there afterwards, and so many channels more
-pub record IsAsking (m m' : Made) (names : List (List ℕ)) (count : ℕ) : Type 0 where
+-- the control stays as it is
+pub record KeepsControl (p q : Parts) : Type 0 where
+  pub vars : q.vars ≡ p.vars
+  pub blocks : q.blocks ≡ p.blocks
+  pub extras : q.extras ≡ p.extras
+
+pub same_control : (p : Parts) → KeepsControl p p
+same_control p = record { vars = refl; blocks = refl; extras = refl }
+
+-- these nodes are there afterwards, and so many switches and channels more
+pub record IsAsking (m m' : Made) (names : List (List ℕ)) (switches count : ℕ) : Type 0 where
   pub nodes : m'.parts.nodes ≡ names
   pub run : m'.parts.run ≡ m.parts.run
+  pub control : KeepsControl m.parts m'.parts
+  pub switched : length m'.parts.switches ≡ length m.parts.switches + switches
   pub asked : count_asked m'.asked ≡ count_asked m.asked + count
+
+same_asking : (m : Made) → IsAsking m m m.parts.nodes 0 0
+same_asking m = record { nodes = refl; run = refl; control = record { vars = refl; blocks = refl; extras = refl }; switched = omega arith; asked = omega arith }
 
 -- ---- what was no fault
 
@@ -59,73 +81,76 @@ unless_fault_ok line None x y e = cc
 
 -- ---- branches
 
-own_nodes : (points : List Point) (p : Parts) (line a b : ℕ) (values : BranchValues) → (with_own points p line a b values).nodes ≡ p.nodes
-own_nodes points p line a b (LumpedCard r l c) = refl
-own_nodes points p line a b (LineCard zc r delay) = refl
-own_nodes points p line a b (SecondCard zc r delay) = refl
-own_nodes points p line a b ThirdCard = refl
-own_nodes points p line a b ReactorCard = refl
-own_nodes points p line a b ResistorCard = refl
+-- the parts of a case that no branch changes
+record Keeps (p q : Parts) : Type 0 where
+  nodes : q.nodes ≡ p.nodes
+  run : q.run ≡ p.run
+  control : KeepsControl p q
+  switches : q.switches ≡ p.switches
 
-own_run : (points : List Point) (p : Parts) (line a b : ℕ) (values : BranchValues) → (with_own points p line a b values).run ≡ p.run
-own_run points p line a b (LumpedCard r l c) = refl
-own_run points p line a b (LineCard zc r delay) = refl
-own_run points p line a b (SecondCard zc r delay) = refl
-own_run points p line a b ThirdCard = refl
-own_run points p line a b ReactorCard = refl
-own_run points p line a b ResistorCard = refl
+kept : (p : Parts) (points : List Point) (branches : List Branch) (trios : List modes.Trio) → Keeps p (record p { points = points; branches = branches; trios = trios })
+kept p points branches trios = record { nodes = refl; run = refl; control = record { vars = refl; blocks = refl; extras = refl }; switches = refl }
 
-values_nodes : (points : List Point) (p : Parts) (card : BranchCard) (a b : ℕ) (values : ValuesFrom) → (with_values points p card a b values).nodes ≡ p.nodes
-values_nodes points p card a b OwnValues = own_nodes points p card.line a b card.values
-values_nodes points p card a b (Earlier branch) = refl
-values_nodes points p card a b Missing = refl
+own_kept : (points : List Point) (p : Parts) (line a b : ℕ) (values : BranchValues) → Keeps p (with_own points p line a b values)
+own_kept points p line a b (LumpedCard r l c) = kept p p.points _ p.trios
+own_kept points p line a b (LineCard zc r delay) = kept p p.points _ p.trios
+own_kept points p line a b (SecondCard zc r delay) = kept p p.points p.branches p.trios
+own_kept points p line a b ThirdCard = kept p p.points p.branches p.trios
+own_kept points p line a b ReactorCard = kept p (p.points ++ points) _ p.trios
+own_kept points p line a b ResistorCard = kept p (p.points ++ points) _ p.trios
 
-values_run : (points : List Point) (p : Parts) (card : BranchCard) (a b : ℕ) (values : ValuesFrom) → (with_values points p card a b values).run ≡ p.run
-values_run points p card a b OwnValues = own_run points p card.line a b card.values
-values_run points p card a b (Earlier branch) = refl
-values_run points p card a b Missing = refl
+values_kept : (points : List Point) (p : Parts) (card : BranchCard) (a b : ℕ) (values : ValuesFrom) → Keeps p (with_values points p card a b values)
+values_kept points p card a b OwnValues = own_kept points p card.line a b card.values
+values_kept points p card a b (Earlier branch) = kept p p.points _ p.trios
+values_kept points p card a b Missing = kept p p.points p.branches p.trios
 
-branches_nodes : (points : List Point) (p : Parts) (e : BranchEntry) → (with_branches points p e).nodes ≡ p.nodes
-branches_nodes points p (Single card first count) = values_nodes _ p card _ _ _
-branches_nodes points p (Trio zero' positive third) = refl
+branches_kept : (points : List Point) (p : Parts) (e : BranchEntry) → Keeps p (with_branches points p e)
+branches_kept points p (Single card first count) = values_kept _ p card _ _ _
+branches_kept points p (Trio zero' positive third) = kept p p.points _ _
 
-branches_run : (points : List Point) (p : Parts) (e : BranchEntry) → (with_branches points p e).run ≡ p.run
-branches_run points p (Single card first count) = values_run _ p card _ _ _
-branches_run points p (Trio zero' positive third) = refl
+more_branches : (v o b s t c n : ℕ) → c ≡ b + n → v + o + c + s + t ≡ v + o + b + s + t + n
+more_branches v o b s t c n e = omega (arith, e)
 
-more_branches : (o b s t c n : ℕ) → c ≡ b + n → o + c + s + t ≡ o + b + s + t + n
-more_branches o b s t c n e = omega (arith, e)
-
-entry_asks : (points : List Point) (m m' : Made) (e : BranchEntry) → take_entry points m e ≡ Ok m' → IsAsking m m' (with_entry_names m.parts.nodes e) (entry_count e)
+entry_asks : (points : List Point) (m m' : Made) (e : BranchEntry) → take_entry points m e ≡ Ok m' → IsAsking m m' (with_entry_names m.parts.nodes e) 0 (entry_count e)
 unfolding take_entry
 entry_asks points m m' e h =
     let names = with_nodes m (with_entry_names m.parts.nodes e) in
     let is = unless_bad_ok _ (with_entry points names e) m' h in
     let added = length_entry (length m.parts.branches) e in
+    let keeps = branches_kept points names.parts e in
     rw (sym is) (record {
-      nodes = branches_nodes points names.parts e;
-      run = branches_run points names.parts e;
-      asked = more_branches (length m.asked.outputs) (length m.asked.branches) (length m.asked.switches) (length m.asked.statuses) _ (entry_count e)
+      nodes = keeps.nodes;
+      run = keeps.run;
+      control = record { vars = keeps.control.vars; blocks = keeps.control.blocks; extras = keeps.control.extras };
+      switched = omega (arith, ap length keeps.switches);
+      asked = more_branches (length m.asked.variables) (length m.asked.outputs) (length m.asked.branches) (length m.asked.switches) (length m.asked.statuses) _ (entry_count e)
           (length-append m.asked.branches (entry_channels (length m.parts.branches) e) ∙ ap (λ n. length m.asked.branches + n) added);
     })
 
-after : {m m' m'' : Made} {nodes nodes' : List (List ℕ)} {count count' total : ℕ} → IsAsking m m' nodes count → IsAsking m' m'' nodes' count' → total ≡ count + count' → IsAsking m m'' nodes' total
-after a b e = record { nodes = b.nodes; run = b.run ∙ a.run; asked = omega (arith, a.asked, b.asked, e) }
+after : {m m' m'' : Made} {nodes nodes' : List (List ℕ)} {switches switches' count count' all total : ℕ} → IsAsking m m' nodes switches count → IsAsking m' m'' nodes' switches' count' → all ≡ switches + switches' → total ≡ count + count' → IsAsking m m'' nodes' all total
+after a b d e = record {
+  nodes = b.nodes;
+  run = b.run ∙ a.run;
+  control = record {
+    vars = b.control.vars ∙ a.control.vars;
+    blocks = b.control.blocks ∙ a.control.blocks;
+    extras = b.control.extras ∙ a.control.extras;
+  };
+  switched = omega (arith, a.switched, b.switched, d);
+  asked = omega (arith, a.asked, b.asked, e);
+}
 
-pub branches_ask : (points : List Point) (m m' : Made) (es : List BranchEntry) → take_branches points m es ≡ Ok m' → IsAsking m m' (fold with_entry_names m.parts.nodes es) (sum_by entry_count es)
-branches_ask points m m' [] h = let is : m ≡ m' = cc in rw (sym is) (record { nodes = refl; run = refl; asked = omega arith })
+pub branches_ask : (points : List Point) (m m' : Made) (es : List BranchEntry) → take_branches points m es ≡ Ok m' → IsAsking m m' (fold with_entry_names m.parts.nodes es) 0 (sum_by entry_count es)
+branches_ask points m m' [] h = let is : m ≡ m' = cc in rw (sym is) (same_asking m)
 branches_ask points m m' (e ∷ es) h =
     let s = go_on_ok (λ (made : Made). take_branches points made es) (take_entry points m e) m' h in
     let first = entry_asks points m s.0 e s.1 in
     let rest = branches_ask points s.0 m' es s.2 in
-    after first (rw first.nodes at rest) (sum_by-cons entry_count e es)
+    after first (rw first.nodes at rest) refl (sum_by-cons entry_count e es)
 
 -- ---- switches
 
-more_switches : (o b s t c d n : ℕ) → c + d ≡ n → o + b + (s + c) + (t + d) ≡ o + b + s + t + n
-more_switches o b s t c d n e = omega (arith, e)
-
-switch_asks : (m m' : Made) (card : SwitchCard) → take_switch m card ≡ Ok m' → IsAsking m m' (with_switch_names m.parts.nodes card) (count_of_switch card)
+switch_asks : (m m' : Made) (card : SwitchCard) → take_switch m card ≡ Ok m' → IsAsking m m' (with_switch_names m.parts.nodes card) 1 (count_of_switch card)
 unfolding take_switch
 switch_asks m m' card h =
     let names = with_switch_names m.parts.nodes card in
@@ -135,63 +160,65 @@ switch_asks m m' card h =
     rw (sym is) (record {
       nodes = refl;
       run = refl;
+      control = record { vars = refl; blocks = refl; extras = refl };
+      switched = length-append m.parts.switches _;
       asked = omega (arith, length-append m.asked.switches shown, length-append m.asked.statuses (status_of card.asked at), length_of_switch card.asked at);
     })
 
-pub switches_ask : (m m' : Made) (cards : List SwitchCard) → take_switches m cards ≡ Ok m' → IsAsking m m' (fold with_switch_names m.parts.nodes cards) (sum_by count_of_switch cards)
-switches_ask m m' [] h = let is : m ≡ m' = cc in rw (sym is) (record { nodes = refl; run = refl; asked = omega arith })
+pub switches_ask : (m m' : Made) (cards : List SwitchCard) → take_switches m cards ≡ Ok m' → IsAsking m m' (fold with_switch_names m.parts.nodes cards) (length cards) (sum_by count_of_switch cards)
+switches_ask m m' [] h = let is : m ≡ m' = cc in rw (sym is) (same_asking m)
 switches_ask m m' (card ∷ cards) h =
     let s = go_on_ok (λ (made : Made). take_switches made cards) (take_switch m card) m' h in
     let first = switch_asks m s.0 card s.1 in
     let rest = switches_ask s.0 m' cards s.2 in
-    after first (rw first.nodes at rest) (sum_by-cons count_of_switch card cards)
+    after first (rw first.nodes at rest) (omega arith) (sum_by-cons count_of_switch card cards)
 
 -- ---- sources, which ask for nothing
 
-source_added : (m : Made) (card : SourceCard) (node : Option ℕ) → IsAsking m (with_source m card node) m.parts.nodes 0
-source_added m card None = record { nodes = refl; run = refl; asked = omega arith }
-source_added m card (Some node) = record { nodes = refl; run = refl; asked = omega arith }
+source_added : (m : Made) (card : SourceCard) (node : Option ℕ) → IsAsking m (with_source m card node) m.parts.nodes 0 0
+source_added m card None = same_asking m
+source_added m card (Some node) = record { nodes = refl; run = refl; control = record { vars = refl; blocks = refl; extras = refl }; switched = omega arith; asked = omega arith }
 
-source_asks : (m m' : Made) (card : SourceCard) → take_source m card ≡ Ok m' → IsAsking m m' m.parts.nodes 0
+source_asks : (m m' : Made) (card : SourceCard) → take_source m card ≡ Ok m' → IsAsking m m' m.parts.nodes 0 0
 unfolding take_source
 source_asks m m' card h =
     let node = find_node m.parts.nodes card.name in
-    let is = unless_fault_ok card.line (source_fault m.parts.sources card node) (with_source m card node) m' h in
+    let is = unless_fault_ok card.line (source_fault m.parts card node) (with_source m card node) m' h in
     rw (sym is) (source_added m card node)
 
-pub sources_ask : (m m' : Made) (cards : List SourceCard) → take_sources m cards ≡ Ok m' → IsAsking m m' m.parts.nodes 0
-sources_ask m m' [] h = let is : m ≡ m' = cc in rw (sym is) (record { nodes = refl; run = refl; asked = omega arith })
+pub sources_ask : (m m' : Made) (cards : List SourceCard) → take_sources m cards ≡ Ok m' → IsAsking m m' m.parts.nodes 0 0
+sources_ask m m' [] h = let is : m ≡ m' = cc in rw (sym is) (same_asking m)
 sources_ask m m' (card ∷ cards) h =
     let s = go_on_ok (λ (made : Made). take_sources made cards) (take_source m card) m' h in
     let first = source_asks m s.0 card s.1 in
     let rest = sources_ask s.0 m' cards s.2 in
-    after first (rw first.nodes at rest) refl
+    after first (rw first.nodes at rest) refl refl
 
 -- ---- outputs
 
-outputs_added : (m : Made) (channels : List Channel) → IsAsking m (with_outputs m channels) m.parts.nodes (length channels)
-outputs_added m channels = record { nodes = refl; run = refl; asked = omega (arith, length-append m.asked.outputs channels) }
+outputs_added : (m : Made) (channels : List Channel) → IsAsking m (with_outputs m channels) m.parts.nodes 0 (length channels)
+outputs_added m channels = record { nodes = refl; run = refl; control = record { vars = refl; blocks = refl; extras = refl }; switched = omega arith; asked = omega (arith, length-append m.asked.outputs channels) }
 
-node_asks : (line : ℕ) (m m' : Made) (column : ℕ) (at : Option ℕ) → unless_fault line (name_fault m.asked column (option_map (λ k. k + 1) at)) (with_node m (option_map (λ k. k + 1) at)) ≡ Ok m' → IsAsking m m' m.parts.nodes (if◌then◌else◌ {A = ℕ} (is_some at) 1 0)
+node_asks : (line : ℕ) (m m' : Made) (column : ℕ) (at : Option ℕ) → unless_fault line (name_fault m.asked column (option_map (λ k. k + 1) at)) (with_node m (option_map (λ k. k + 1) at)) ≡ Ok m' → IsAsking m m' m.parts.nodes 0 (if◌then◌else◌ {A = ℕ} (is_some at) 1 0)
 node_asks line m m' column None h = absurd (cc)
 node_asks line m m' column (Some k) h =
     let is = unless_fault_ok line (name_fault m.asked column (Some (k + 1))) (with_outputs m (NodeChannel (k + 1) ∷ [])) m' h in
     rw (sym is) (outputs_added m (NodeChannel (k + 1) ∷ []))
 
-name_asks : (line : ℕ) (m m' : Made) (column : ℕ) (name : Option (List ℕ)) → take_name line m column name ≡ Ok m' → IsAsking m m' m.parts.nodes (name_count m.parts.nodes name)
+name_asks : (line : ℕ) (m m' : Made) (column : ℕ) (name : Option (List ℕ)) → take_name line m column name ≡ Ok m' → IsAsking m m' m.parts.nodes 0 (name_count m.parts.nodes name)
 unfolding take_node
-name_asks line m m' column None h = let is : m ≡ m' = cc in rw (sym is) (record { nodes = refl; run = refl; asked = omega arith })
+name_asks line m m' column None h = let is : m ≡ m' = cc in rw (sym is) (same_asking m)
 name_asks line m m' column (Some name) h = node_asks line m m' column (position (bytes_eq name) m.parts.nodes) h
 
-names_ask : (line : ℕ) (m m' : Made) (column : ℕ) (names : List (Option (List ℕ))) → take_names line m column names ≡ Ok m' → IsAsking m m' m.parts.nodes (sum_by (name_count m.parts.nodes) names)
-names_ask line m m' column [] h = let is : m ≡ m' = cc in rw (sym is) (record { nodes = refl; run = refl; asked = omega arith })
+names_ask : (line : ℕ) (m m' : Made) (column : ℕ) (names : List (Option (List ℕ))) → take_names line m column names ≡ Ok m' → IsAsking m m' m.parts.nodes 0 (sum_by (name_count m.parts.nodes) names)
+names_ask line m m' column [] h = let is : m ≡ m' = cc in rw (sym is) (same_asking m)
 names_ask line m m' column (name ∷ names) h =
     let s = go_on_ok (λ (made : Made). take_names line made (column + 6) names) (take_name line m column name) m' h in
     let first = name_asks line m s.0 column name s.1 in
     let rest = names_ask line s.0 m' (column + 6) names s.2 in
-    after first (rw first.nodes at rest) (sum_by-cons (name_count m.parts.nodes) name names)
+    after first (rw first.nodes at rest) refl (sum_by-cons (name_count m.parts.nodes) name names)
 
-output_asks : (line : ℕ) (m m' : Made) (card : OutputCard) → take_output line m card ≡ Ok m' → IsAsking m m' m.parts.nodes (output_count m.parts.nodes card)
+output_asks : (line : ℕ) (m m' : Made) (card : OutputCard) → take_output line m card ≡ Ok m' → IsAsking m m' m.parts.nodes 0 (output_count m.parts.nodes card)
 unfolding take_all_nodes
 output_asks line m m' AllNodes h =
     let nodes = length m.parts.nodes in
@@ -200,24 +227,77 @@ output_asks line m m' AllNodes h =
     rw (sym is) (rw (length_of_nodes nodes) at added)
 output_asks line m m' (Names names) h = names_ask line m m' 3 names h
 
-pub outputs_ask : (m m' : Made) (entries : List OutputEntry) → take_outputs m entries ≡ Ok m' → IsAsking m m' m.parts.nodes (sum_by (count_of_entry m.parts.nodes) entries)
-outputs_ask m m' [] h = let is : m ≡ m' = cc in rw (sym is) (record { nodes = refl; run = refl; asked = omega arith })
+pub outputs_ask : (m m' : Made) (entries : List OutputEntry) → take_outputs m entries ≡ Ok m' → IsAsking m m' m.parts.nodes 0 (sum_by (count_of_entry m.parts.nodes) entries)
+outputs_ask m m' [] h = let is : m ≡ m' = cc in rw (sym is) (same_asking m)
 outputs_ask m m' (entry ∷ entries) h =
     let s = go_on_ok (λ (made : Made). take_outputs made entries) (take_output entry.line m entry.card) m' h in
     let first = output_asks entry.line m s.0 entry.card s.1 in
     let rest = outputs_ask s.0 m' entries s.2 in
-    after first (rw first.nodes at rest) (sum_by-cons (count_of_entry m.parts.nodes) entry entries)
+    after first (rw first.nodes at rest) refl (sum_by-cons (count_of_entry m.parts.nodes) entry entries)
+
+-- ---- outputs of the control
+
+variable_asks : (line : ℕ) (m m' : Made) (column : ℕ) (variable : Option ℕ) → unless_fault line (variable_fault m.asked column variable) (with_variable_channel m variable) ≡ Ok m' → IsAsking m m' m.parts.nodes 0 (if◌then◌else◌ {A = ℕ} (is_some variable) 1 0)
+variable_asks line m m' column None h = absurd (cc)
+variable_asks line m m' column (Some k) h =
+    let is = unless_fault_ok line (variable_fault m.asked column (Some k)) (with_variable_channel m (Some k)) m' h in
+    rw (sym is) (record { nodes = refl; run = refl; control = record { vars = refl; blocks = refl; extras = refl }; switched = omega arith; asked = omega (arith, length-append m.asked.variables (VariableChannel k ∷ [])) })
+
+variable_name_asks : (line : ℕ) (m m' : Made) (column : ℕ) (name : Option (List ℕ)) → take_variable_name line m column name ≡ Ok m' → IsAsking m m' m.parts.nodes 0 (name_count m.parts.vars name)
+unfolding take_variable
+variable_name_asks line m m' column None h = let is : m ≡ m' = cc in rw (sym is) (same_asking m)
+variable_name_asks line m m' column (Some name) h = variable_asks line m m' column (position (bytes_eq name) m.parts.vars) h
+
+variables_ask : (line : ℕ) (m m' : Made) (column : ℕ) (names : List (Option (List ℕ))) → take_variables line m column names ≡ Ok m' → IsAsking m m' m.parts.nodes 0 (sum_by (name_count m.parts.vars) names)
+variables_ask line m m' column [] h = let is : m ≡ m' = cc in rw (sym is) (same_asking m)
+variables_ask line m m' column (name ∷ names) h =
+    let s = go_on_ok (λ (made : Made). take_variables line made (column + 6) names) (take_variable_name line m column name) m' h in
+    let first = variable_name_asks line m s.0 column name s.1 in
+    let rest = variables_ask line s.0 m' (column + 6) names s.2 in
+    after first (rw (first.nodes, first.control.vars) at rest) refl (sum_by-cons (name_count m.parts.vars) name names)
+
+pub tacs_outputs_ask : (m m' : Made) (entries : List TacsOutputEntry) → take_tacs_outputs m entries ≡ Ok m' → IsAsking m m' m.parts.nodes 0 (sum_by (count_of_variables m.parts.vars) entries)
+tacs_outputs_ask m m' [] h = let is : m ≡ m' = cc in rw (sym is) (same_asking m)
+tacs_outputs_ask m m' (entry ∷ entries) h =
+    let s = go_on_ok (λ (made : Made). take_tacs_outputs made entries) (take_variables entry.line m 3 entry.names) m' h in
+    let first = variables_ask entry.line m s.0 3 entry.names s.1 in
+    let rest = tacs_outputs_ask s.0 m' entries s.2 in
+    after first (rw (first.nodes, first.control.vars) at rest) refl (sum_by-cons (count_of_variables m.parts.vars) entry entries)
 
 -- ---- the whole deck
 
-pub deck_asks : (deck : Deck) (m : Made) → made_of_deck deck ≡ Ok m → IsAsking (empty_made deck.run) m (node_names deck) (deck_count deck)
-deck_asks deck m h =
-    let start = empty_made deck.run in
-    let c = go_on_ok (λ (made : Made). take_outputs made deck.outputs) (go_on (λ (made : Made). take_sources made deck.sources) (go_on (λ (made : Made). take_switches made deck.switches) (take_branches deck.points start deck.branches))) m h in
-    let b = go_on_ok (λ (made : Made). take_sources made deck.sources) (go_on (λ (made : Made). take_switches made deck.switches) (take_branches deck.points start deck.branches)) c.0 c.1 in
-    let a = go_on_ok (λ (made : Made). take_switches made deck.switches) (take_branches deck.points start deck.branches) b.0 b.1 in
-    let branches = branches_ask deck.points start a.0 deck.branches a.1 in
-    let switches = rw branches.nodes at (switches_ask a.0 b.0 deck.switches a.2) in
-    let sources = rw switches.nodes at (sources_ask b.0 c.0 deck.sources b.2) in
-    let outputs = rw sources.nodes at (outputs_ask c.0 m deck.outputs c.2) in
-    after (after (after branches switches refl) sources refl) outputs (omega arith)
+-- what the control makes before the network has no node
+pub record IsControlMade (variables : List (List ℕ)) (deck : Deck) (p : Parts) : Type 0 where
+  pub nodes : p.nodes ≡ []
+  pub switches : p.switches ≡ []
+  pub run : p.run ≡ deck.run
+  pub vars : p.vars ≡ variables
+  pub blocks : p.blocks ≡ map (block_of variables) deck.control.blocks
+  pub sources : p.tacs_sources ≡ []
+  pub channels : p.channels ≡ []
+
+extra_kept : (variables : List (List ℕ)) (points : List Point) (p : Parts) (e : ExtraEntry) (deck : Deck) → IsControlMade variables deck p → IsControlMade variables deck (with_extra variables points p e)
+extra_kept variables points p (DeviceEntry card first count) deck h = record { nodes = h.nodes; switches = h.switches; run = h.run; vars = h.vars; blocks = h.blocks; sources = h.sources; channels = h.channels }
+extra_kept variables points p (FormulaEntry card) deck h = record { nodes = h.nodes; switches = h.switches; run = h.run; vars = h.vars; blocks = h.blocks; sources = h.sources; channels = h.channels }
+
+extras_kept : (variables : List (List ℕ)) (points : List Point) (p : Parts) (es : List ExtraEntry) (deck : Deck) → IsControlMade variables deck p → IsControlMade variables deck (fold (with_extra variables points) p es)
+extras_kept variables points p [] deck h = h
+extras_kept variables points p (e ∷ es) deck h = extras_kept variables points (with_extra variables points p e) es deck (extra_kept variables points p e deck h)
+
+pub control_is : (variables : List (List ℕ)) (deck : Deck) → IsControlMade variables deck (control_parts variables deck)
+control_is variables deck = extras_kept variables deck.points _ deck.control.extras deck (record { nodes = refl; switches = refl; run = refl; vars = refl; blocks = refl; sources = refl; channels = refl })
+
+pub deck_asks : (variables : List (List ℕ)) (deck : Deck) (m : Made) → made_of_deck variables deck ≡ Ok m → IsAsking (control_made variables deck) m (node_names deck) (length deck.switches) (deck_count (node_names deck) variables deck)
+deck_asks variables deck m h =
+    let start = control_made variables deck in
+    let is = control_is variables deck in
+    let d = go_on_ok (λ (made : Made). take_outputs made deck.outputs) (go_on (λ (made : Made). take_sources made deck.sources) (go_on (λ (made : Made). take_switches made deck.switches) (go_on (λ (made : Made). take_branches deck.points made deck.branches) (take_tacs_outputs start deck.control.outputs)))) m h in
+    let c = go_on_ok (λ (made : Made). take_sources made deck.sources) (go_on (λ (made : Made). take_switches made deck.switches) (go_on (λ (made : Made). take_branches deck.points made deck.branches) (take_tacs_outputs start deck.control.outputs))) d.0 d.1 in
+    let b = go_on_ok (λ (made : Made). take_switches made deck.switches) (go_on (λ (made : Made). take_branches deck.points made deck.branches) (take_tacs_outputs start deck.control.outputs)) c.0 c.1 in
+    let a = go_on_ok (λ (made : Made). take_branches deck.points made deck.branches) (take_tacs_outputs start deck.control.outputs) b.0 b.1 in
+    let controls = rw (is.nodes, is.vars) at (tacs_outputs_ask start a.0 deck.control.outputs a.1) in
+    let branches = rw controls.nodes at (branches_ask deck.points a.0 b.0 deck.branches a.2) in
+    let switches = rw branches.nodes at (switches_ask b.0 c.0 deck.switches b.2) in
+    let sources = rw switches.nodes at (sources_ask c.0 d.0 deck.sources c.2) in
+    let outputs = rw sources.nodes at (outputs_ask d.0 m deck.outputs d.2) in
+    after (after (after (after controls branches refl refl) switches refl refl) sources refl refl) outputs (omega arith) (omega arith)

@@ -5,7 +5,8 @@ use Rattle.emtp_card.specs.Lines.{is_comment}
 use Rattle.emtp_deck.specs.Answer.{go_on}
 use Rattle.emtp_deck.specs.Deck.{deck_of, filled}
 use Rattle.emtp_deck.specs.Laws.{AreAlike, IsAlike}
-use Rattle.emtp_deck.specs.Walk.{Read, advance, empty_deck, step, walk}
+use Rattle.emtp_deck.specs.LineRead.{Read}
+use Rattle.emtp_deck.specs.Walk.{advance, empty_deck, step, walk}
 use Rattle.emtp_deck.specs.declared.deck.Deck.{Deck}
 use Rattle.emtp_deck.specs.declared.deck.Place.{Place}
 use Rattle.emtp_deck.specs.declared.deck.Place.TheVariants.{Begin}

@@ -1,19 +1,21 @@
 -- What is made of the cards stays whole where the branches of an entry are added.
+use Rattle.emtp_case.specs.declared.branch.Trio as modes
 use Rattle.std.proofs.Common.{◌≡◌, ◌∙◌, sym, ap, refl, ℕ, ◌+◌, ◌<◌, ◌≤◌, Bool, true, false, List, [], ◌∷◌, ◌++◌, length, None, Ok, arith, length-append, length-take, length-drop}
-use Rattle.std.specs.Prelude.{All, drop, take, ◌==◌, if◌then◌else◌}
 use Rattle.std.proofs.lemmas.List.Elements.{All-append}
+use Rattle.std.specs.Prelude.{All, drop, take, ◌==◌, if◌then◌else◌}
+use Rattle.emtp_case.proofs.Growth.{grown}
 use Rattle.emtp_case.specs.Branch.{points_of}
 use Rattle.emtp_case.specs.Channel.{IsChannel}
 use Rattle.emtp_case.specs.HistoryValues.{history_values_of}
 use Rattle.emtp_case.specs.Sizes.{Sizes, sizes_of}
 use Rattle.emtp_case.specs.declared.branch.Branch.{Branch}
 use Rattle.emtp_case.specs.declared.branch.Point.{Point}
-use Rattle.emtp_case.specs.declared.branch.Trio as modes
 use Rattle.emtp_case.specs.declared.case.Parts.{Parts}
 use Rattle.emtp_case.specs.declared.channel.Channel.{Channel}
 use Rattle.emtp_case.specs.declared.channel.Channel.TheVariants.{BranchCurrent, BranchVoltage}
 use Rattle.emtp_case.specs.declared.draft.Draft.{Draft}
 use Rattle.emtp_case.specs.declared.run_data.RunData.{RunData}
+use Rattle.emtp_deck.proofs.Keeping.{channels_of_there, there_grows}
 use Rattle.emtp_deck.specs.Branches.{branch_channels, entry_channels, entry_count, entry_history, with_branches, with_own, with_values}
 use Rattle.emtp_deck.specs.Channels.{channel_count, channels_of}
 use Rattle.emtp_deck.specs.Copies.{missing_fault, values_from}
@@ -27,7 +29,7 @@ use Rattle.emtp_deck.specs.declared.copies.ValuesFrom.TheVariants.{Card as OwnVa
 use Rattle.emtp_deck.specs.declared.deck.BranchEntry.{BranchEntry}
 use Rattle.emtp_deck.specs.declared.deck.BranchEntry.TheVariants.{Single, Trio}
 use Rattle.emtp_deck.specs.declared.filling.Filling.{Filling}
-use Rattle.emtp_deck.proofs.Keeping.{channels_of_there, there_grows}
+use Rattle.emtp_expr.specs.Grammar.{group}
 use Rattle.emtp_netcards.specs.BranchCard.{kind_of_values}
 use Rattle.emtp_netcards.specs.declared.branch_card.BranchCard.{BranchCard}
 use Rattle.emtp_netcards.specs.declared.branch_card.BranchValues.{BranchValues}
@@ -144,15 +146,12 @@ with_more_branches f draft channels history points e h is s few d values more c 
     record {
       nodes = rw d (h.nodes ∙ sym g.nodes);
       history = more ∙ ap (λ k. k + entry_history p e) h.history ∙ sym values;
-      no_control = rw d (record {
-        vars = g.vars ∙ h.no_control.vars;
-        tacs_sources = g.tacs_sources ∙ h.no_control.tacs_sources;
-        blocks = g.blocks ∙ h.no_control.blocks;
-        extras = g.extras ∙ h.no_control.extras;
-      });
+      variables = rw d (h.variables ∙ sym g.vars);
+      no_sources = rw d (g.tacs_sources ∙ h.no_sources);
       no_channels = rw d (g.channels ∙ h.no_channels);
       few = rw c (omega (arith, few, length_entry at e, length-append f.asked.branches (entry_channels at e)));
       there = rw d (record {
+        variables = grown.variables;
         outputs = grown.outputs;
         branches = rw c (All-append (IsChannel n) f.asked.branches (entry_channels at e) grown.branches (entry_there n at e (omega (arith, g.branches))));
         switches = grown.switches;

@@ -1,16 +1,18 @@
 -- What is known of a source or a switch without a fault of sense.
-use Rattle.std.proofs.lemmas.Bool.Decides.{nat_tests}
 use Rattle.std.proofs.Common.{◌≡◌, subst, refl, ℕ, ◌+◌, ◌<◌, ◌≤◌, Bool, true, false, List, [], ◌∷◌, length, Option, Some, None, arith}
+use Rattle.std.proofs.lemmas.Bool.Decides.{nat_tests}
 use Rattle.std.specs.Prelude.{if◌then◌else◌, nat_le, nat_lt}
+use Rattle.emtp_card.proofs.Faults.{least_none}
 use Rattle.emtp_card.specs.declared.fault.Fault.{Fault}
 use Rattle.emtp_card.specs.declared.reason.Why.TheVariants.{TwoSources}
-use Rattle.emtp_card.proofs.Faults.{least_none}
+use Rattle.emtp_case.specs.declared.case.Parts.{Parts}
 use Rattle.emtp_case.specs.declared.source.Source.{Source}
 use Rattle.emtp_deck.specs.Channels.{switch_channel_count}
 use Rattle.emtp_deck.specs.Made.{Made, count_asked, no_room, too_many}
 use Rattle.emtp_deck.specs.Names.{node_number}
-use Rattle.emtp_deck.specs.Sources.{is_second, node_fault, source_fault}
+use Rattle.emtp_deck.specs.Sources.{is_second, node_fault, source_fault, driver_fault}
 use Rattle.emtp_deck.specs.Switches.{switch_fault}
+use Rattle.emtp_deck.specs.Variables.{unknown_name}
 use Rattle.emtp_netcards.specs.declared.source_card.SourceCard.{SourceCard}
 use Rattle.emtp_netcards.specs.declared.switch_card.SwitchCard.{SwitchCard}
 
@@ -29,22 +31,24 @@ room_left limit n column e = within limit n (few (nat_lt limit n) column e)
 
 -- ---- sources
 
-pub record IsSensibleSource (sources : List Source) (card : SourceCard) (node : ℕ) : Type 0 where
-  pub room : length sources < 500
-  pub first : is_second card node sources ≡ false
+pub record IsSensibleSource (p : Parts) (card : SourceCard) (node : ℕ) : Type 0 where
+  pub room : length p.sources < 500
+  pub first : is_second card node p.sources ≡ false
+  pub driver : driver_fault p.vars card ≡ None
 
 single : (second : Bool) → if◌then◌else◌ {A = Option Fault} second (Some (record { column = 3; why = TwoSources })) None ≡ None → second ≡ false
 single true e = absurd (cc)
 single false e = refl
 
-pub sensible_source : (sources : List Source) (card : SourceCard) (node : ℕ) (found : Option ℕ) → found ≡ Some node → source_fault sources card found ≡ None → IsSensibleSource sources card node
-sensible_source sources card node None h e = absurd (cc)
-sensible_source sources card node (Some m) h e =
-    let none = least_none (too_many (nat_le 500 (length sources)) 1 ∷ node_fault card sources (Some m) ∷ []) e in
+pub sensible_source : (p : Parts) (card : SourceCard) (node : ℕ) (found : Option ℕ) → found ≡ Some node → source_fault p card found ≡ None → IsSensibleSource p card node
+sensible_source p card node None h e = absurd (cc)
+sensible_source p card node (Some m) h e =
+    let none = least_none (too_many (nat_le 500 (length p.sources)) 1 ∷ node_fault card p.sources (Some m) ∷ driver_fault p.vars card ∷ []) e in
     let same : m ≡ node = cc in
     record {
-      room = below 500 (length sources) (few (nat_le 500 (length sources)) 1 none.0);
-      first = subst (λ k. is_second card k sources ≡ false) same (single (is_second card m sources) none.1.0);
+      room = below 500 (length p.sources) (few (nat_le 500 (length p.sources)) 1 none.0);
+      first = subst (λ k. is_second card k p.sources ≡ false) same (single (is_second card m p.sources) none.1.0);
+      driver = none.1.1.0;
     }
 
 -- ---- switches
@@ -54,6 +58,7 @@ pub record IsSensibleSwitch (names : List (List ℕ)) (m : Made) (card : SwitchC
   pub asked : count_asked m.asked + switch_channel_count card.asked ≤ 64
   pub from_few : node_number names card.from ≤ 1000
   pub to_few : node_number names card.to ≤ 1000
+  pub control : unknown_name m.parts.vars 65 card.control ≡ None
 
 pub sensible_switch : (names : List (List ℕ)) (m : Made) (card : SwitchCard) → switch_fault names m card ≡ None → IsSensibleSwitch names m card
 sensible_switch names m card e =
@@ -61,10 +66,12 @@ sensible_switch names m card e =
     ∷ too_many (no_room m.asked (switch_channel_count card.asked)) 1
     ∷ too_many (nat_lt 1000 (node_number names card.from)) 3
     ∷ too_many (nat_lt 1000 (node_number names card.to)) 9
+    ∷ unknown_name m.parts.vars 65 card.control
     ∷ []) e in
     record {
       room = below 500 (length m.parts.switches) (few (nat_le 500 (length m.parts.switches)) 1 none.0);
       asked = room_left 64 (count_asked m.asked + switch_channel_count card.asked) 1 none.1.0;
       from_few = room_left 1000 (node_number names card.from) 3 none.1.1.0;
       to_few = room_left 1000 (node_number names card.to) 9 none.1.1.1.0;
+      control = none.1.1.1.1.0;
     }

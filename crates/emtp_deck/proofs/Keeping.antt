@@ -1,16 +1,16 @@
 -- What is made of the cards stays whole where a source or a switch is added.
+use Rattle.std.proofs.Common.{◌≡◌, refl, ℕ, zero, suc, ◌+◌, ◌==◌, ◌<◌, ◌≤◌, Bool, true, false, List, [], ◌∷◌, ◌++◌, length, arith, length-append, ◌∙◌}
 use Rattle.std.proofs.lemmas.List.Elements.{All-append, All-cons, All-nil, All-weaker}
-use Rattle.std.proofs.Common.{◌≡◌, refl, ℕ, zero, suc, ◌+◌, ◌==◌, ◌<◌, ◌≤◌, Bool, true, false, List, [], ◌∷◌, ◌++◌, length, arith, length-append}
 use Rattle.std.specs.Prelude.{All, OnOk, Ok, Err, Result, if◌then◌else◌}
+use Rattle.emtp_case.proofs.Growth.{IsChannel-grows, grown}
 use Rattle.emtp_case.specs.Channel.{IsChannel}
-use Rattle.emtp_case.proofs.Growth.{IsChannel-grows}
 use Rattle.emtp_case.specs.Sizes.{Grows, Sizes, sizes_of}
-use Rattle.emtp_case.specs.declared.draft.Draft.{Draft}
-use Rattle.emtp_case.specs.declared.source.Source.{Source}
 use Rattle.emtp_case.specs.declared.channel.Channel.{Channel}
 use Rattle.emtp_case.specs.declared.channel.Channel.TheVariants.{NodeVoltage as NodeChannel, Status, SwitchCurrent, SwitchVoltage}
-use Rattle.emtp_deck.specs.Filling.{AreThere, IsFilling}
+use Rattle.emtp_case.specs.declared.draft.Draft.{Draft}
+use Rattle.emtp_case.specs.declared.source.Source.{Source}
 use Rattle.emtp_deck.specs.Channels.{channels_of, status_of, switch_channel_count}
+use Rattle.emtp_deck.specs.Filling.{AreThere, IsFilling}
 use Rattle.emtp_deck.specs.Made.{count_asked}
 use Rattle.emtp_deck.specs.Outputs.{node_channels}
 use Rattle.emtp_deck.specs.Switches.{switch_at}
@@ -27,12 +27,8 @@ pub with_more_sources : (f : Filling) (draft : Draft) (x : Source) → IsFilling
 with_more_sources f draft x h e = record {
   nodes = rw e h.nodes;
   history = rw e h.history;
-  no_control = rw e (record {
-    vars = h.no_control.vars;
-    tacs_sources = h.no_control.tacs_sources;
-    blocks = h.no_control.blocks;
-    extras = h.no_control.extras;
-  });
+  variables = rw e h.variables;
+  no_sources = rw e h.no_sources;
   no_channels = rw e h.no_channels;
   few = h.few;
   there = rw e h.there;
@@ -44,10 +40,12 @@ pub with_more_outputs : (f : Filling) (outputs more : List Channel) → IsFillin
 with_more_outputs f outputs more h e few fit = record {
   nodes = h.nodes;
   history = h.history;
-  no_control = h.no_control;
+  variables = h.variables;
+  no_sources = h.no_sources;
   no_channels = h.no_channels;
   few = rw e (omega (arith, few, length-append f.asked.outputs more));
   there = record {
+    variables = h.there.variables;
     outputs = rw e (All-append (IsChannel (sizes_of f.draft.parts)) f.asked.outputs more h.there.outputs fit);
     branches = h.there.branches;
     switches = h.there.switches;
@@ -68,6 +66,7 @@ nodes_there s (suc n) l =
 
 pub there_grows : (s n : Sizes) (a : Asked) → Grows s n → AreThere s a → AreThere n a
 there_grows s n a g h = record {
+  variables = All-weaker (IsChannel s) (IsChannel n) (IsChannel-grows s n g) a.variables h.variables;
   outputs = All-weaker (IsChannel s) (IsChannel n) (IsChannel-grows s n g) a.outputs h.outputs;
   branches = All-weaker (IsChannel s) (IsChannel n) (IsChannel-grows s n g) a.branches h.branches;
   switches = All-weaker (IsChannel s) (IsChannel n) (IsChannel-grows s n g) a.switches h.switches;
@@ -75,16 +74,12 @@ there_grows s n a g h = record {
 }
 
 -- the nodes of a card are there
-pub with_more_nodes : (f new : Filling) → IsFilling f → new.draft.parts ≡ record f.draft.parts { nodes = new.nodes.keys } → new.asked ≡ f.asked → new.history ≡ f.history → length f.draft.parts.nodes ≤ length new.nodes.keys → IsFilling new
-with_more_nodes f new h e asked history longer = record {
+pub with_more_nodes : (f new : Filling) → IsFilling f → new.draft.parts ≡ record f.draft.parts { nodes = new.nodes.keys } → new.variables.keys ≡ f.variables.keys → new.asked ≡ f.asked → new.history ≡ f.history → length f.draft.parts.nodes ≤ length new.nodes.keys → IsFilling new
+with_more_nodes f new h e variables asked history longer = record {
   nodes = rw e refl;
   history = rw history (rw e h.history);
-  no_control = rw e (record {
-    vars = h.no_control.vars;
-    tacs_sources = h.no_control.tacs_sources;
-    blocks = h.no_control.blocks;
-    extras = h.no_control.extras;
-  });
+  variables = rw e (variables ∙ h.variables);
+  no_sources = rw e h.no_sources;
   no_channels = rw e h.no_channels;
   few = rw asked h.few;
   there = rw asked (rw e (there_grows (sizes_of f.draft.parts) (sizes_of (record f.draft.parts { nodes = new.nodes.keys })) f.asked
@@ -118,13 +113,13 @@ length_of_switch asked at = length_of_asked (asked == 0) (asked == 1) (asked == 
 
 -- the switch of a card, and the channels that it asks for
 pub with_more_switches : (f : Filling) (draft : Draft) (switches statuses : List Channel) (card : SwitchCard) → IsFilling f → count_asked f.asked + switch_channel_count card.asked ≤ 64
-    → draft.parts ≡ record f.draft.parts { switches = f.draft.parts.switches ++ switch_at f.nodes.keys card ∷ [] }
+    → draft.parts ≡ record f.draft.parts { switches = f.draft.parts.switches ++ switch_at f.nodes.keys f.variables.keys card ∷ [] }
     → switches ≡ f.asked.switches ++ channels_of card.asked (SwitchCurrent (length f.draft.parts.switches)) (SwitchVoltage (length f.draft.parts.switches))
     → statuses ≡ f.asked.statuses ++ status_of card.asked (length f.draft.parts.switches)
     → IsFilling (record f { draft = draft; asked = record f.asked { switches = switches; statuses = statuses } })
 with_more_switches f draft switches statuses card h few e s t =
     let at = length f.draft.parts.switches in
-    let x = switch_at f.nodes.keys card in
+    let x = switch_at f.nodes.keys f.variables.keys card in
     let new = sizes_of (record f.draft.parts { switches = f.draft.parts.switches ++ x ∷ [] }) in
     let grown = there_grows (sizes_of f.draft.parts) new f.asked
     (record { nodes = omega arith; branches = omega arith; trios = omega arith; switches = omega (arith, length-append f.draft.parts.switches (x ∷ [])); vars = omega arith }) h.there in
@@ -132,15 +127,12 @@ with_more_switches f draft switches statuses card h few e s t =
     record {
       nodes = rw e h.nodes;
       history = rw e h.history;
-      no_control = rw e (record {
-        vars = h.no_control.vars;
-        tacs_sources = h.no_control.tacs_sources;
-        blocks = h.no_control.blocks;
-        extras = h.no_control.extras;
-      });
+      variables = rw e h.variables;
+      no_sources = rw e h.no_sources;
       no_channels = rw e h.no_channels;
       few = rw s (rw t (omega (arith, few, length_of_switch card.asked at, length-append f.asked.switches (channels_of card.asked (SwitchCurrent at) (SwitchVoltage at)), length-append f.asked.statuses (status_of card.asked at))));
       there = rw e (record {
+        variables = grown.variables;
         outputs = grown.outputs;
         branches = grown.branches;
         switches = rw s (All-append (IsChannel new) f.asked.switches (channels_of card.asked (SwitchCurrent at) (SwitchVoltage at)) grown.switches (channels_of_there (IsChannel new) card.asked (SwitchCurrent at) (SwitchVoltage at) here here));

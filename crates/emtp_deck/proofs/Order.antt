@@ -1,5 +1,5 @@
 -- The cards of a deck stand in the order of their lines.
-use Rattle.std.proofs.Common.{◌≡◌, ◌∙◌, sym, ap, subst, refl, ℕ, suc, ◌+◌, ◌≤◌, ℤ, Bool, true, false, List, [], ◌∷◌, ◌++◌, length, Option, Some, None, Result, Ok, Err, arith, append_assoc}
+use Rattle.std.proofs.Common.{◌≡◌, ◌∙◌, sym, ap, subst, refl, ℕ, suc, ◌+◌, ℤ, Bool, true, false, List, [], ◌∷◌, ◌++◌, length, Option, Some, None, Result, Ok, Err, arith, append_assoc}
 use Rattle.std.specs.List.{starts_with}
 use Rattle.std.specs.Prelude.{IfOk, if◌then◌else◌, is_none, nat_eq, codes}
 use Rattle.std.proofs.lemmas.List.{append-nil, map-append}
@@ -10,21 +10,23 @@ use Rattle.emtp_card.specs.declared.reason.Why.{Why}
 use Rattle.emtp_card.specs.declared.reason.Why.TheVariants.{BadOrder}
 use Rattle.emtp_case.specs.declared.branch.Point.{Point}
 use Rattle.emtp_deck.specs.Answer.{go_on}
-use Rattle.emtp_deck.specs.Laws.{Rises, branch_lines, card_lines, entry_lines, output_lines, source_lines, switch_lines}
-use Rattle.emtp_deck.specs.Unbuilt.{is_unbuilt, unbuilt_fault}
-use Rattle.emtp_deck.specs.declared.unbuilt.Section.TheVariants.{Control as ControlSection, Sources as SourceSection, Switches as SwitchSection}
+use Rattle.emtp_deck.specs.Laws.{Rises, branch_lines, card_lines, control_lines, entry_lines, output_lines, source_lines, switch_lines}
+use Rattle.emtp_deck.specs.LineRead.{Read, order_fault}
+use Rattle.emtp_deck.specs.declared.control_cards.ControlCards.{ControlCards}
+use Rattle.emtp_deck.specs.declared.control_cards.ControlPlace.{ControlPlace}
+use Rattle.emtp_deck.specs.declared.control_cards.ControlPlace.TheVariants.{Blocks, Denominator, DevicePoints, Extras, Initial, Numerator, TacsOutputs, TacsSources}
 use Rattle.emtp_netcards.specs.OutputCard.{output_card}
 use Rattle.emtp_netcards.specs.PointCard.{next_point}
 use Rattle.emtp_netcards.specs.RunCards.{first_card, second_card, tolerance_card}
 use Rattle.emtp_netcards.specs.VintageCard.{vintage_card}
-use Rattle.emtp_deck.specs.Walk.{scale_of, Read, advance, after_place, begin_fault, begin_place, branch_step, card_step, empty_deck, first_step, is_phase, is_second, order_fault, output_step, place_of, point_step, second_step, source_step, start_step, step, switch_step, point_or_end, take_branch, take_pseudo, take_third, take_values, third_by, third_step, times_step, tolerance_step, vintage_or, waiting_step, walk, with_card}
+use Rattle.emtp_deck.specs.Walk.{scale_of, advance, after_place, begin_fault, begin_place, branch_step, card_step, empty_deck, first_step, is_phase, is_second, output_step, point_step, second_step, source_step, start_step, step, switch_step, point_or_end, take_branch, take_pseudo, take_third, take_values, third_by, third_step, times_step, tolerance_step, vintage_or, waiting_step, walk, with_card}
 use Rattle.emtp_deck.specs.declared.deck.BranchEntry.{BranchEntry}
 use Rattle.emtp_deck.specs.declared.deck.BranchEntry.TheVariants.{Single, Trio}
 use Rattle.emtp_deck.specs.declared.deck.Deck.{Deck}
 use Rattle.emtp_deck.specs.declared.deck.Group.{Group}
 use Rattle.emtp_deck.specs.declared.deck.OutputEntry.{OutputEntry}
 use Rattle.emtp_deck.specs.declared.deck.Place.{Place}
-use Rattle.emtp_deck.specs.declared.deck.Place.TheVariants.{After, Begin, Branches, First, Outputs, Points, Second, Sources, Start, Switches, Third, Waiting}
+use Rattle.emtp_deck.specs.declared.deck.Place.TheVariants.{After, Begin, Branches, Control, First, Outputs, Points, Second, Sources, Start, Switches, Third, Waiting}
 use Rattle.emtp_netcards.specs.BranchCard as branches
 use Rattle.emtp_netcards.specs.SourceCard as sources
 use Rattle.emtp_netcards.specs.SwitchCard as switches
@@ -37,45 +39,8 @@ use Rattle.emtp_netcards.specs.declared.output_card.OutputCard.{OutputCard}
 use Rattle.emtp_netcards.specs.declared.run_cards.FirstCard.{FirstCard}
 use Rattle.emtp_netcards.specs.declared.source_card.SourceCard.{SourceCard}
 use Rattle.emtp_netcards.specs.declared.switch_card.SwitchCard.{SwitchCard}
-
--- ---- numbers that rise
-
-later : (low : ℕ) (ns : List ℕ) (high high' : ℕ) → high ≤ high' → Rises low ns high → Rises low ns high'
-later low [] high high' l h = omega arith
-later low (n ∷ ns) high high' l h = (h.0, later (n + 1) ns high high' l h.1)
-
-joined : (low : ℕ) (ns ms : List ℕ) (mid high : ℕ) → Rises low ns mid → Rises mid ms high → Rises low (ns ++ ms) high
-joined low [] [] mid high h k = omega (arith, h, k)
-joined low [] (m ∷ ms) mid high h k = (omega (arith, h, k.0), k.1)
-joined low (n ∷ ns) ms mid high h k = (h.0, joined (n + 1) ns ms mid high h.1 k)
-
-one_more : (low : ℕ) (ns : List ℕ) (n : ℕ) → Rises low ns n → Rises low (ns ++ n ∷ []) (n + 1)
-one_more low ns n h = joined low ns (n ∷ []) n (n + 1) h (omega arith, omega arith)
-
-bounds : (low : ℕ) (ns : List ℕ) (high : ℕ) → Rises low ns high → low ≤ high
-bounds low [] high h = h
-bounds low (n ∷ ns) high h = let rest = bounds (n + 1) ns high h.1 in omega (arith, rest, h.0)
-
-front : (low : ℕ) (ns ms : List ℕ) (high : ℕ) → Rises low (ns ++ ms) high → Rises low ns high
-front low [] ms high h = bounds low ms high h
-front low (n ∷ ns) ms high h = (h.0, front (n + 1) ns ms high h.1)
-
-behind : (low : ℕ) (ns ms : List ℕ) (m n : ℕ) → m ≡ n → Rises low (ns ++ ms) n → Rises low (ns ++ (ms ++ m ∷ [])) (n + 1)
-behind low ns ms m n e h = subst (λ ls. Rises low ls (n + 1)) (append_assoc ns ms (m ∷ [])) (subst (λ k. Rises low (ns ++ ms ++ k ∷ []) (n + 1)) (sym e) (one_more low (ns ++ ms) n h))
-
--- ---- what is answered
-
-if_ok : {A : Type 0} (P : A → Type 0) (b : Bool) (x y : Result A Bad) → IfOk x P → IfOk y P → IfOk (if b then x else y) P
-if_ok P true x y h k = h
-if_ok P false x y h k = k
-
-go_ok : {A : Type 0} (P : Deck × Place → Type 0) (f : A → Read) (r : Result A Bad) → ((x : A) → r ≡ Ok x → IfOk (f x) P) → IfOk (go_on f r) P
-go_ok P f (Ok x) h = h x refl
-go_ok P f (Err bad) h = tt
-
-unless_ok : {A : Type 0} (P : A → Type 0) (bad : Option Bad) (x : A) → P x → IfOk (unless_bad bad x) P
-unless_ok P (Some bad) x h = tt
-unless_ok P None x h = h
+use Rattle.emtp_deck.proofs.Rising.{later, front, behind, if_ok, go_ok, unless_ok, front_lines, IsHead, IsAmongBranches, IsAmongSwitches, IsAmongSources, IsAmongBlocks, IsAmongSignals, IsAmongExtras, IsAmongControl, IsAmongOutputs, InOrder, Orders, head_later, branches_later, passed, placed}
+use Rattle.emtp_deck.proofs.ControlOrder.{branches_next, control_order}
 
 -- ---- the lines of cards
 
@@ -109,87 +74,7 @@ more_branches : (es : List BranchEntry) (e : BranchEntry) → branch_lines (es +
 more_branches [] e = append-nil (entry_lines e)
 more_branches (x ∷ xs) e = ap (λ ls. entry_lines x ++ ls) (more_branches xs e) ∙ sym (append_assoc (entry_lines x) (branch_lines xs) (entry_lines e))
 
--- ---- the deck so far
-
--- no card after the branches
-record IsEarly (deck : Deck) : Type 0 where
-  switches : deck.switches ≡ []
-  sources : deck.sources ≡ []
-  outputs : deck.outputs ≡ []
-
-record IsHead (deck : Deck) (number : ℕ) : Type 0 where
-  early : IsEarly deck
-  branches : deck.branches ≡ []
-  second : deck.second + 1 ≤ number
-
-record IsAmongBranches (deck : Deck) (pending : List ℕ) (number : ℕ) : Type 0 where
-  early : IsEarly deck
-  rises : Rises (deck.second + 1) (branch_lines deck.branches ++ pending) number
-
-record IsAmongSwitches (deck : Deck) (number : ℕ) : Type 0 where
-  sources : deck.sources ≡ []
-  outputs : deck.outputs ≡ []
-  rises : Rises (deck.second + 1) (branch_lines deck.branches ++ switch_lines deck.switches) number
-
-record IsAmongSources (deck : Deck) (number : ℕ) : Type 0 where
-  outputs : deck.outputs ≡ []
-  rises : Rises (deck.second + 1) (branch_lines deck.branches ++ switch_lines deck.switches ++ source_lines deck.sources) number
-
-abbrev IsAmongOutputs : Deck → ℕ → Type 0
-IsAmongOutputs deck number =
-    Rises (deck.second + 1) (branch_lines deck.branches ++ switch_lines deck.switches ++ source_lines deck.sources ++ output_lines deck.outputs) number
-
--- before a line
-abbrev InOrder : ℕ → Deck → Place → Type 0
-InOrder number deck Begin = IsHead deck number
-InOrder number deck (First seen) = IsHead deck number
-InOrder number deck Second = IsHead deck number
-InOrder number deck Start = IsAmongBranches deck [] number
-InOrder number deck (Branches wide) = IsAmongBranches deck [] number
-InOrder number deck (Points group) = IsAmongBranches deck (group.card.line ∷ []) number
-InOrder number deck (Waiting card wide) = IsAmongBranches deck (card.line ∷ []) number
-InOrder number deck (Third zero' positive wide) = IsAmongBranches deck (zero'.line ∷ positive.line ∷ []) number
-InOrder number deck Switches = IsAmongSwitches deck number
-InOrder number deck Sources = IsAmongSources deck number
-InOrder number deck Outputs = IsAmongOutputs deck number
-InOrder number deck (After seen) = IsAmongOutputs deck number
-
-abbrev Orders : ℕ → Deck × Place → Type 0
-Orders number next = InOrder number next.0 next.1
-
-head_later : (deck : Deck) (number : ℕ) → IsHead deck number → IsHead deck (number + 1)
-head_later deck number h = record { early = h.early; branches = h.branches; second = omega (arith, h.second) }
-
-branches_later : (deck : Deck) (pending : List ℕ) (number : ℕ) → IsAmongBranches deck pending number → IsAmongBranches deck pending (number + 1)
-branches_later deck pending number h = record { early = h.early; rises = later (deck.second + 1) (branch_lines deck.branches ++ pending) number (number + 1) (omega arith) h.rises }
-
--- a comment
-passed : (deck : Deck) (place : Place) (number : ℕ) → InOrder number deck place → InOrder (number + 1) deck place
-passed deck Begin number h = head_later deck number h
-passed deck (First seen) number h = head_later deck number h
-passed deck Second number h = head_later deck number h
-passed deck Start number h = branches_later deck [] number h
-passed deck (Branches wide) number h = branches_later deck [] number h
-passed deck (Points group) number h = branches_later deck (group.card.line ∷ []) number h
-passed deck (Waiting card wide) number h = branches_later deck (card.line ∷ []) number h
-passed deck (Third zero' positive wide) number h = branches_later deck (zero'.line ∷ positive.line ∷ []) number h
-passed deck Switches number h = record {
-  sources = h.sources;
-  outputs = h.outputs;
-  rises = later (deck.second + 1) (branch_lines deck.branches ++ switch_lines deck.switches) number (number + 1) (omega arith) h.rises;
-}
-passed deck Sources number h = record {
-  outputs = h.outputs;
-  rises = later (deck.second + 1) (branch_lines deck.branches ++ switch_lines deck.switches ++ source_lines deck.sources) number (number + 1) (omega arith) h.rises;
-}
-passed deck Outputs number h = later (deck.second + 1) (branch_lines deck.branches ++ switch_lines deck.switches ++ source_lines deck.sources ++ output_lines deck.outputs) number (number + 1) (omega arith) h
-passed deck (After seen) number h = later (deck.second + 1) (branch_lines deck.branches ++ switch_lines deck.switches ++ source_lines deck.sources ++ output_lines deck.outputs) number (number + 1) (omega arith) h
-
--- ---- the places in front of the sections and behind them
-
-placed : (deck : Deck) (number : ℕ) (r : Result Place Bad) → IfOk r (λ place. InOrder number deck place) → IfOk (place_of deck r) (Orders number)
-placed deck number (Ok place) h = h
-placed deck number (Err bad) h = tt
+-- ---- in front of the sections and behind them
 
 begin_order : (deck : Deck) (number : ℕ) (line : List ℕ) → IsHead deck number → IfOk (begin_place number line) (λ place. InOrder (number + 1) deck place)
 unfolding begin_place
@@ -212,6 +97,7 @@ tolerance_order deck number line seen h =
     if_ok (Orders (number + 1)) seen (unless_bad (order_fault number line) (deck, First true)) (go_on f (tolerance_card number line)) (unless_ok (Orders (number + 1)) (order_fault number line) (deck, First true) next)
     (go_ok (Orders (number + 1)) f (tolerance_card number line) (λ z is. record {
       early = record { switches = h.early.switches; sources = h.early.sources; outputs = h.early.outputs };
+      control = h.control;
       branches = h.branches;
       second = next.second;
     }))
@@ -223,6 +109,7 @@ times_order deck number line h =
     let f : FirstCard → Read = λ card. Ok (record deck { run = record deck.run { dt = card.dt; steps = card.steps } }, Second) in
     go_ok (Orders (number + 1)) f (first_card number line) (λ card is. record {
       early = record { switches = h.early.switches; sources = h.early.sources; outputs = h.early.outputs };
+      control = h.control;
       branches = h.branches;
       second = next.second;
     })
@@ -237,7 +124,9 @@ second_order deck number line h =
     let f : ℕ → Read = λ every. Ok (record deck { run = record deck.run { every = every }; second = number }, Start) in
     go_ok (Orders (number + 1)) f (second_card number line) (λ every is. record {
       early = record { switches = h.early.switches; sources = h.early.sources; outputs = h.early.outputs };
-      rises = rw h.branches (omega arith);
+      control = h.control;
+      branches = h.branches;
+      second = omega arith;
     })
 
 -- ---- branches
@@ -245,18 +134,19 @@ second_order deck number line h =
 put : (deck : Deck) (e : BranchEntry) (number : ℕ) → IsAmongBranches deck (entry_lines e) number → IsAmongBranches (record deck { branches = deck.branches ++ e ∷ [] }) [] number
 put deck e number h = record {
   early = record { switches = h.early.switches; sources = h.early.sources; outputs = h.early.outputs };
-  rises = subst (λ ls. Rises (deck.second + 1) ls number) (sym (append-nil (branch_lines (deck.branches ++ e ∷ [])) ∙ more_branches deck.branches e)) h.rises;
+  rises = subst (λ ls. Rises (deck.second + 1) ls number) (sym (append-nil (control_lines deck.control ++ branch_lines (deck.branches ++ e ∷ []))
+      ∙ ap (λ ls. control_lines deck.control ++ ls) (more_branches deck.branches e) ∙ sym (append_assoc (control_lines deck.control) (branch_lines deck.branches) (entry_lines e)))) h.rises;
 }
 
 pend : (deck : Deck) (pending : List ℕ) (n number : ℕ) → n ≡ number → IsAmongBranches deck pending number → IsAmongBranches deck (pending ++ n ∷ []) (number + 1)
-pend deck pending n number e h = record { early = h.early; rises = behind (deck.second + 1) (branch_lines deck.branches) pending n number e h.rises }
+pend deck pending n number e h = record { early = h.early; rises = behind (deck.second + 1) (front_lines deck) pending n number e h.rises }
 
 -- the pending cards don't matter any more
 dropped : (deck : Deck) (pending : List ℕ) (number : ℕ) → IsAmongBranches deck pending number → IsAmongBranches deck [] (number + 1)
 dropped deck pending number h = record {
   early = h.early;
-  rises = subst (λ ls. Rises (deck.second + 1) ls (number + 1)) (sym (append-nil (branch_lines deck.branches)))
-      (later (deck.second + 1) (branch_lines deck.branches) number (number + 1) (omega arith) (front (deck.second + 1) (branch_lines deck.branches) pending number h.rises));
+  rises = subst (λ ls. Rises (deck.second + 1) ls (number + 1)) (sym (append-nil (front_lines deck)))
+      (later (deck.second + 1) (front_lines deck) number (number + 1) (omega arith) (front (deck.second + 1) (front_lines deck) pending number h.rises));
 }
 
 values_order : (deck : Deck) (card : BranchCard) (wide : Bool) (number : ℕ) (values : BranchValues) → IsAmongBranches deck (card.line ∷ []) number → Orders number (take_values deck card wide values)
@@ -296,11 +186,30 @@ branch_order deck number line wide h =
     (record { sources = h.early.sources; outputs = h.early.outputs; rises = rw h.early.switches next.rises })
     (vintage_order deck (number + 1) (vintage_card number line) (card_step deck number line wide) next (card_order deck number line wide h))
 
-start_order : (deck : Deck) (number : ℕ) (line : List ℕ) → IsAmongBranches deck [] number → IfOk (start_step deck number line) (Orders (number + 1))
+-- ---- the branches begin, or the control
+
+no_cards : (deck : Deck) (number : ℕ) → IsHead deck number → IsAmongBranches deck [] number
+no_cards deck number h = record { early = h.early; rises = rw (h.control, h.branches) h.second }
+
+control_begins : (deck : Deck) (number : ℕ) → IsHead deck number → IsAmongBlocks deck [] number
+control_begins deck number h = record {
+  early = h.early;
+  branches = h.branches;
+  signals = ap (λ (c : ControlCards). c.sources) h.control;
+  extras = ap (λ (c : ControlCards). c.extras) h.control;
+  outputs = ap (λ (c : ControlCards). c.outputs) h.control;
+  rises = rw h.control h.second;
+}
+
+start_order : (deck : Deck) (number : ℕ) (line : List ℕ) → IsHead deck number → IfOk (start_step deck number line) (Orders (number + 1))
 unfolding start_step
 start_order deck number line h =
-    if_ok (Orders (number + 1)) (is_unbuilt ControlSection line) (unless_bad (unbuilt_fault number line) (deck, Start)) (branch_step deck number line false)
-    (unless_ok (Orders (number + 1)) (unbuilt_fault number line) (deck, Start) (branches_later deck [] number h)) (branch_order deck number line false h)
+    let control : Read = unless_bad (judge number line None) (deck, Control Blocks) in
+    let branch : Read = branch_step deck number line false in
+    let starts = starts_with nat_eq line (codes "TACS HYBRID") in
+    if_ok (Orders (number + 1)) starts control branch
+    (unless_ok (Orders (number + 1)) (judge number line None) (deck, Control Blocks) (control_begins deck (number + 1) (head_later deck number h)))
+    (branch_order deck number line false (no_cards deck number h))
 
 waiting_order : (deck : Deck) (number : ℕ) (line : List ℕ) (card : BranchCard) (wide : Bool) → IsAmongBranches deck (card.line ∷ []) number → IfOk (waiting_step deck number line card wide) (Orders (number + 1))
 unfolding waiting_step
@@ -340,7 +249,7 @@ point_order deck number line group h =
     one : (point : Option Point) → Orders (number + 1) (point_or_end deck group point)
     one (Some point) = record {
       early = record { switches = h.early.switches; sources = h.early.sources; outputs = h.early.outputs };
-      rises = later (deck.second + 1) (branch_lines deck.branches ++ group.card.line ∷ []) number (number + 1) (omega arith) h.rises;
+      rises = later (deck.second + 1) (front_lines deck ++ group.card.line ∷ []) number (number + 1) (omega arith) h.rises;
     }
     one None = put deck (Single group.card group.first group.count) (number + 1) (branches_later deck (group.card.line ∷ []) number h)
 
@@ -350,46 +259,40 @@ switch_order : (deck : Deck) (number : ℕ) (line : List ℕ) → IsAmongSwitche
 unfolding switch_step
 switch_order deck number line h =
     let low = deck.second + 1 in
-    let before = branch_lines deck.branches in
+    let before = front_lines deck in
     let next = later low (before ++ switch_lines deck.switches) number (number + 1) (omega arith) h.rises in
     let f : SwitchCard → Read = λ card. Ok (record deck { switches = deck.switches ++ card ∷ [] }, Switches) in
-    let unbuilt : Read = unless_bad (unbuilt_fault number line) (deck, Switches) in
     let built : Read = go_on f (switches.switch_card number line) in
-    if_ok (Orders (number + 1)) (is_section_end line) (Ok (deck, Sources)) (if is_unbuilt SwitchSection line then unbuilt else built)
+    if_ok (Orders (number + 1)) (is_section_end line) (Ok (deck, Sources)) built
     (record { outputs = h.outputs; rises = rw h.sources (subst (λ ls. Rises low ls (number + 1)) (sym (append-nil (before ++ switch_lines deck.switches))) next) })
-    (if_ok (Orders (number + 1)) (is_unbuilt SwitchSection line) unbuilt built
-    (unless_ok (Orders (number + 1)) (unbuilt_fault number line) (deck, Switches) (record { sources = h.sources; outputs = h.outputs; rises = next }))
     (go_ok (Orders (number + 1)) f (switches.switch_card number line) (λ card is. record {
       sources = h.sources;
       outputs = h.outputs;
       rises = subst (λ ls. Rises low (before ++ ls) (number + 1)) (sym (map-append (λ (c : SwitchCard). c.line) deck.switches (card ∷ [])))
           (behind low before (switch_lines deck.switches) card.line number (switch_line number line card is) h.rises);
-    })))
+    }))
 
 source_order : (deck : Deck) (number : ℕ) (line : List ℕ) → IsAmongSources deck number → IfOk (source_step deck number line) (Orders (number + 1))
 unfolding source_step
 source_order deck number line h =
     let low = deck.second + 1 in
-    let before = branch_lines deck.branches ++ switch_lines deck.switches in
+    let before = front_lines deck ++ switch_lines deck.switches in
     let next = later low (before ++ source_lines deck.sources) number (number + 1) (omega arith) h.rises in
     let f : SourceCard → Read = λ card. Ok (record deck { sources = deck.sources ++ card ∷ [] }, Sources) in
-    let unbuilt : Read = unless_bad (unbuilt_fault number line) (deck, Sources) in
     let built : Read = go_on f (sources.source_card number line) in
-    if_ok (Orders (number + 1)) (is_section_end line) (Ok (deck, Outputs)) (if is_unbuilt SourceSection line then unbuilt else built)
+    if_ok (Orders (number + 1)) (is_section_end line) (Ok (deck, Outputs)) built
     (rw h.outputs (subst (λ ls. Rises low ls (number + 1)) (sym (append-nil (before ++ source_lines deck.sources))) next))
-    (if_ok (Orders (number + 1)) (is_unbuilt SourceSection line) unbuilt built
-    (unless_ok (Orders (number + 1)) (unbuilt_fault number line) (deck, Sources) (record { outputs = h.outputs; rises = next }))
     (go_ok (Orders (number + 1)) f (sources.source_card number line) (λ card is. record {
       outputs = h.outputs;
       rises = subst (λ ls. Rises low (before ++ ls) (number + 1)) (sym (map-append (λ (c : SourceCard). c.line) deck.sources (card ∷ [])))
           (behind low before (source_lines deck.sources) card.line number (source_line number line card is) h.rises);
-    })))
+    }))
 
 output_order : (deck : Deck) (number : ℕ) (line : List ℕ) → IsAmongOutputs deck number → IfOk (output_step deck number line) (Orders (number + 1))
 unfolding output_step
 output_order deck number line h =
     let low = deck.second + 1 in
-    let before = branch_lines deck.branches ++ switch_lines deck.switches ++ source_lines deck.sources in
+    let before = front_lines deck ++ switch_lines deck.switches ++ source_lines deck.sources in
     let f : OutputCard → Read = λ card. Ok (record deck { outputs = deck.outputs ++ (record { line = number; card = card }) ∷ [] }, Outputs) in
     if_ok (Orders (number + 1)) (is_section_end line) (Ok (deck, After false)) (go_on f (output_card number line))
     (later low (before ++ output_lines deck.outputs) number (number + 1) (omega arith) h)
@@ -404,6 +307,7 @@ step_order deck Begin number line h = placed deck (number + 1) (begin_place numb
 step_order deck (First seen) number line h = first_order deck number line seen h
 step_order deck Second number line h = second_order deck number line h
 step_order deck Start number line h = start_order deck number line h
+step_order deck (Control at) number line h = control_order deck at number line h
 step_order deck (Branches wide) number line h = branch_order deck number line wide h
 step_order deck (Points group) number line h = point_order deck number line group h
 step_order deck (Waiting card wide) number line h = waiting_order deck number line card wide h
@@ -431,34 +335,54 @@ walk_order (line ∷ lines) number deck place h =
 nothing_more : (xs : List ℕ) → xs ++ [] ++ [] ++ [] ≡ xs
 nothing_more xs = append-nil (xs ++ [] ++ []) ∙ append-nil (xs ++ []) ∙ append-nil xs
 
-branch_rises : (deck : Deck) (pending : List ℕ) (number : ℕ) → IsAmongBranches deck pending number → Rises (deck.second + 1) (branch_lines deck.branches ++ pending ++ switch_lines deck.switches ++ source_lines deck.sources ++ output_lines deck.outputs) number
+branch_rises : (deck : Deck) (pending : List ℕ) (number : ℕ) → IsAmongBranches deck pending number → Rises (deck.second + 1) (front_lines deck ++ pending ++ switch_lines deck.switches ++ source_lines deck.sources ++ output_lines deck.outputs) number
 branch_rises deck pending number h =
-    rw (h.early.switches, h.early.sources, h.early.outputs) (subst (λ ls. Rises (deck.second + 1) ls number) (sym (nothing_more (branch_lines deck.branches ++ pending))) h.rises)
+    rw (h.early.switches, h.early.sources, h.early.outputs) (subst (λ ls. Rises (deck.second + 1) ls number) (sym (nothing_more (front_lines deck ++ pending))) h.rises)
 
-head_rises : (deck : Deck) (number : ℕ) → IsHead deck number → Rises (deck.second + 1) (branch_lines deck.branches ++ [] ++ switch_lines deck.switches ++ source_lines deck.sources ++ output_lines deck.outputs) number
-head_rises deck number h = rw (h.branches, h.early.switches, h.early.sources, h.early.outputs) h.second
+head_rises : (deck : Deck) (number : ℕ) → IsHead deck number → Rises (deck.second + 1) (front_lines deck ++ [] ++ switch_lines deck.switches ++ source_lines deck.sources ++ output_lines deck.outputs) number
+head_rises deck number h = rw (h.control, h.branches, h.early.switches, h.early.sources, h.early.outputs) h.second
 
-no_pending : (deck : Deck) (number : ℕ) → IsAmongOutputs deck number → Rises (deck.second + 1) (branch_lines deck.branches ++ [] ++ switch_lines deck.switches ++ source_lines deck.sources ++ output_lines deck.outputs) number
-no_pending deck number h = rw (append-nil (branch_lines deck.branches)) h
+no_pending : (deck : Deck) (number : ℕ) → IsAmongOutputs deck number → Rises (deck.second + 1) (front_lines deck ++ [] ++ switch_lines deck.switches ++ source_lines deck.sources ++ output_lines deck.outputs) number
+no_pending deck number h = rw (append-nil (front_lines deck)) h
+
+blocks_rise : (deck : Deck) (pending : List ℕ) (number : ℕ) → IsAmongBlocks deck pending number → Rises (deck.second + 1) (front_lines deck ++ pending ++ switch_lines deck.switches ++ source_lines deck.sources ++ output_lines deck.outputs) number
+blocks_rise deck pending number h = rw (h.signals, h.extras, h.outputs, h.branches, h.early.switches, h.early.sources, h.early.outputs) (simp append-nil h.rises)
+
+signals_rise : (deck : Deck) (number : ℕ) → IsAmongSignals deck number → Rises (deck.second + 1) (front_lines deck ++ [] ++ switch_lines deck.switches ++ source_lines deck.sources ++ output_lines deck.outputs) number
+signals_rise deck number h = rw (h.extras, h.outputs, h.branches, h.early.switches, h.early.sources, h.early.outputs) (simp append-nil h.rises)
+
+extras_rise : (deck : Deck) (pending : List ℕ) (number : ℕ) → IsAmongExtras deck pending number → Rises (deck.second + 1) (front_lines deck ++ pending ++ switch_lines deck.switches ++ source_lines deck.sources ++ output_lines deck.outputs) number
+extras_rise deck pending number h = rw (h.outputs, h.branches, h.early.switches, h.early.sources, h.early.outputs) (simp append-nil h.rises)
+
+control_rises : (deck : Deck) (at : ControlPlace) (number : ℕ) → IsAmongControl number deck at → Rises (deck.second + 1) (card_lines deck (Control at)) number
+control_rises deck Blocks number h = blocks_rise deck [] number h
+control_rises deck (Numerator card) number h = blocks_rise deck (card.line ∷ []) number h
+control_rises deck (Denominator card top line) number h = blocks_rise deck (card.line ∷ []) number h
+control_rises deck TacsSources number h = signals_rise deck number h
+control_rises deck Extras number h = extras_rise deck [] number h
+control_rises deck (DevicePoints group) number h = extras_rise deck (group.card.line ∷ []) number h
+control_rises deck TacsOutputs number h = branch_rises deck [] number (branches_next deck number h)
+control_rises deck Initial number h = branch_rises deck [] number (branches_next deck number h)
 
 all_rise : (deck : Deck) (place : Place) (number : ℕ) → InOrder number deck place → Rises (deck.second + 1) (card_lines deck place) number
 all_rise deck Begin number h = head_rises deck number h
 all_rise deck (First seen) number h = head_rises deck number h
 all_rise deck Second number h = head_rises deck number h
-all_rise deck Start number h = branch_rises deck [] number h
+all_rise deck Start number h = head_rises deck number h
+all_rise deck (Control at) number h = control_rises deck at number h
 all_rise deck (Branches wide) number h = branch_rises deck [] number h
 all_rise deck (Points group) number h = branch_rises deck (group.card.line ∷ []) number h
 all_rise deck (Waiting card wide) number h = branch_rises deck (card.line ∷ []) number h
 all_rise deck (Third zero' positive wide) number h = branch_rises deck (zero'.line ∷ positive.line ∷ []) number h
 all_rise deck Switches number h =
-    no_pending deck number (rw (h.sources, h.outputs) (subst (λ ls. Rises (deck.second + 1) ls number) (sym (append-nil (branch_lines deck.branches ++ switch_lines deck.switches ++ []) ∙ append-nil (branch_lines deck.branches ++ switch_lines deck.switches))) h.rises))
+    no_pending deck number (rw (h.sources, h.outputs) (subst (λ ls. Rises (deck.second + 1) ls number) (sym (append-nil (front_lines deck ++ switch_lines deck.switches ++ []) ∙ append-nil (front_lines deck ++ switch_lines deck.switches))) h.rises))
 all_rise deck Sources number h =
-    no_pending deck number (rw h.outputs (subst (λ ls. Rises (deck.second + 1) ls number) (sym (append-nil (branch_lines deck.branches ++ switch_lines deck.switches ++ source_lines deck.sources))) h.rises))
+    no_pending deck number (rw h.outputs (subst (λ ls. Rises (deck.second + 1) ls number) (sym (append-nil (front_lines deck ++ switch_lines deck.switches ++ source_lines deck.sources))) h.rises))
 all_rise deck Outputs number h = no_pending deck number h
 all_rise deck (After seen) number h = no_pending deck number h
 
 pub cards_rise : (lines : List (List ℕ)) (deck : Deck) (place : Place) → walk 1 empty_deck Begin lines ≡ Ok (deck, place) → Rises (deck.second + 1) (card_lines deck place) (length lines + 1)
 cards_rise lines deck place e =
-    let start : IsHead empty_deck 1 = record { early = record { switches = refl; sources = refl; outputs = refl }; branches = refl; second = omega arith } in
+    let start : IsHead empty_deck 1 = record { early = record { switches = refl; sources = refl; outputs = refl }; control = refl; branches = refl; second = omega arith } in
     let end = holds (Orders (1 + length lines)) (walk 1 empty_deck Begin lines) (deck, place) (walk_order lines 1 empty_deck Begin start) e in
     subst (λ n. Rises (deck.second + 1) (card_lines deck place) n) (omega arith) (all_rise deck place (1 + length lines) end)

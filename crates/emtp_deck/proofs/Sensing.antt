@@ -1,16 +1,18 @@
 -- What an entry without a fault of sense gives its records.
 use Rattle.std.proofs.Common.{◌≡◌, ℕ, ◌+◌, ◌<◌, ◌≤◌, Bool, true, false, List, [], ◌∷◌, length, Option, Some, None, option_map, refl, arith}
-use Rattle.std.specs.Prelude.{All, nat_lt}
 use Rattle.std.proofs.lemmas.Bool.Decides.{nat_tests}
+use Rattle.std.specs.Prelude.{All, nat_lt}
+use Rattle.emtp_card.proofs.Faults.{least_none}
 use Rattle.emtp_card.specs.Fault.{bad_at}
 use Rattle.emtp_card.specs.declared.fault.Fault.{Fault}
 use Rattle.emtp_card.specs.declared.reason.Bad.{Bad}
-use Rattle.emtp_card.proofs.Faults.{least_none}
 use Rattle.emtp_case.specs.HistoryValues.{history_values_of}
 use Rattle.emtp_case.specs.Name.{IsName}
 use Rattle.emtp_case.specs.declared.branch.Point.{Point}
 use Rattle.emtp_case.specs.declared.run_data.RunData.{RunData}
-use Rattle.emtp_deck.specs.Branches.{card_bad, card_fault, card_history, entry_count, entry_fault, first_bad, first_counts, first_fault, pair_fault, second_counts, second_fault, third_fault, with_counts}
+use Rattle.emtp_deck.proofs.Naming.{all_named, ends_of, with_names}
+use Rattle.emtp_deck.specs.Answer.{first_bad}
+use Rattle.emtp_deck.specs.Branches.{card_bad, card_fault, card_history, entry_count, entry_fault, first_counts, first_fault, pair_fault, second_counts, second_fault, third_fault, with_counts}
 use Rattle.emtp_deck.specs.Channels.{channel_count}
 use Rattle.emtp_deck.specs.Copies.{missing_fault, values_from}
 use Rattle.emtp_deck.specs.Made.{Made, count_asked, too_many}
@@ -23,7 +25,6 @@ use Rattle.emtp_deck.specs.declared.copies.ValuesFrom.{ValuesFrom}
 use Rattle.emtp_deck.specs.declared.copies.ValuesFrom.TheVariants.{Card as OwnValues}
 use Rattle.emtp_deck.specs.declared.deck.BranchEntry.{BranchEntry}
 use Rattle.emtp_deck.specs.declared.deck.BranchEntry.TheVariants.{Single, Trio}
-use Rattle.emtp_deck.proofs.Naming.{all_named, ends_of, with_names}
 use Rattle.emtp_netcards.specs.declared.branch_card.BranchCard.{BranchCard}
 
 -- no limit is exceeded, and the values are there

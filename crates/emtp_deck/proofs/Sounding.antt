@@ -7,7 +7,12 @@ use Rattle.std.proofs.lemmas.List.{take-append-le}
 use Rattle.emtp_case.specs.Branch.{IsCharacteristic, IsSegment, origin, points_of}
 use Rattle.emtp_case.specs.declared.branch.Point.{Point}
 use Rattle.emtp_case.specs.declared.run_data.RunData.{RunData}
-use Rattle.emtp_deck.specs.Sound.{IsEntry, IsGroupOf, IsHead, IsWhole, is_pseudo, is_reactor}
+use Rattle.emtp_case.specs.Control.{HasDevicePoints}
+use Rattle.emtp_deck.specs.Coefficients.{IsBlockEntry}
+use Rattle.emtp_deck.specs.ControlSteps.{no_control}
+use Rattle.emtp_deck.specs.Sound.{IsControlWhole, IsEntry, IsExtraEntry, IsGroupOf, IsHead, IsTacsSourceCard, IsWhole, is_pseudo, is_reactor}
+use Rattle.emtp_deck.specs.declared.control_cards.ExtraEntry.{ExtraEntry}
+use Rattle.emtp_deck.specs.declared.control_cards.ExtraEntry.TheVariants.{Device as DeviceEntry, Formula as FormulaEntry}
 use Rattle.emtp_deck.specs.Walk.{scale_by, scale_of}
 use Rattle.emtp_deck.specs.declared.deck.BranchEntry.{BranchEntry}
 use Rattle.emtp_deck.specs.declared.deck.BranchEntry.TheVariants.{Single, Trio}
@@ -21,16 +26,16 @@ use Rattle.emtp_netcards.specs.declared.branch_card.BranchValues.TheVariants.{Li
 
 -- ---- lists
 
-drop_push : {A : Type 0} (n : ℕ) (xs : List A) (y : A) → n ≤ length xs → drop n (xs ++ y ∷ []) ≡ drop n xs ++ y ∷ []
+pub drop_push : {A : Type 0} (n : ℕ) (xs : List A) (y : A) → n ≤ length xs → drop n (xs ++ y ∷ []) ≡ drop n xs ++ y ∷ []
 drop_push zero xs y l = refl
 drop_push (suc n) [] y l = absurd (omega arith)
 drop_push (suc n) (x ∷ xs) y l = drop_push n xs y (omega arith)
 
-at_end : {A : Type 0} (xs : List A) (y d : A) → get_or (xs ++ y ∷ []) (length xs) d ≡ y
+pub at_end : {A : Type 0} (xs : List A) (y d : A) → get_or (xs ++ y ∷ []) (length xs) d ≡ y
 at_end [] y d = refl
 at_end (x ∷ xs) y d = at_end xs y d
 
-at_front : {A : Type 0} (xs : List A) (k : ℕ) (y d : A) → k < length xs → get_or (xs ++ y ∷ []) k d ≡ get_or xs k d
+pub at_front : {A : Type 0} (xs : List A) (k : ℕ) (y d : A) → k < length xs → get_or (xs ++ y ∷ []) k d ≡ get_or xs k d
 at_front [] k y d l = absurd (omega arith)
 at_front (x ∷ xs) zero y d l = refl
 at_front (x ∷ xs) (suc k) y d l = at_front xs k y d (omega arith)
@@ -80,15 +85,29 @@ segment_of ThirdCard dt before p is h = absurd (cc)
 segment_of ReactorCard dt before p is h = h
 segment_of ResistorCard dt before p is h = h
 
-few_more : (n : ℕ) → n ≤ 64 → n ≢ 64 → n + 1 ≤ 64
+pub few_more : (n : ℕ) → n ≤ 64 → n ≢ 64 → n + 1 ≤ 64
 few_more n h other = elim (cases_lt n 64) [
   | inl less ↦ omega (arith, less)
   | inr past ↦ let same : n ≡ 64 = omega (arith, past, h) in absurd (other same)
 ]
 
+extra_stays : (points : List Point) (p : Point) (e : ExtraEntry) → IsExtraEntry points e → IsExtraEntry (points ++ p ∷ []) e
+extra_stays points p (DeviceEntry card first count) h = record {
+  due = h.due;
+  there = omega (arith, h.there, length-append points (p ∷ []));
+  few = h.few;
+  fit = subst (HasDevicePoints card.code) (sym (points_stay points p first count h.there)) h.fit;
+}
+extra_stays points p (FormulaEntry card) h = h
+
 pub point_whole : (deck : Deck) (point : Point) → IsWhole deck → IsWhole (record deck { points = deck.points ++ point ∷ [] })
 point_whole deck point whole = record {
   run = whole.run;
+  control = record {
+    blocks = whole.control.blocks;
+    sources = whole.control.sources;
+    extras = λ k d l. extra_stays deck.points point _ (whole.control.extras k d l);
+  };
   branches = λ k d l. entry_stays deck.run deck.points point _ (whole.branches k d l);
   switches = whole.switches;
   sources = whole.sources;
@@ -115,10 +134,18 @@ point_group deck group point of room range follows =
           (segment_of group.card.values deck.run.dt group.before point of.pseudo follows) of.characteristic);
     }
 
+no_control_whole : (dt : ℤ) (points : List Point) → IsControlWhole dt points no_control
+no_control_whole dt points = record {
+  blocks = All-nil (IsBlockEntry dt);
+  sources = All-nil IsTacsSourceCard;
+  extras = All-nil (IsExtraEntry points);
+}
+
 -- before the branches
 pub head_whole : (deck : Deck) → IsHead deck → IsWhole deck
 head_whole deck head = record {
   run = head.run;
+  control = rw head.control (no_control_whole deck.run.dt deck.points);
   branches = rw head.branches (All-nil (IsEntry deck.run deck.points));
   switches = rw head.switches (All-nil HasSwitchNumbers);
   sources = rw head.sources (All-nil HasSourceCardNumbers);

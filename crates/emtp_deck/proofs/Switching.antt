@@ -1,17 +1,20 @@
 -- A switch card without a fault of sense, whose names are among those of the nodes.
-use Rattle.std.proofs.Common.{◌≡◌, ◌∙◌, ap, ℕ, ◌+◌, ◌<◌, ◌≤◌, List, [], ◌∷◌, length, None}
+use Rattle.std.proofs.Common.{◌≡◌, ◌∙◌, ap, ℕ, ◌+◌, ◌<◌, ◌≤◌, List, [], ◌∷◌, length, None, subst, sym}
 use Rattle.std.specs.Prelude.{All}
 use Rattle.emtp_case.specs.Name.{IsName}
 use Rattle.emtp_case.specs.Range.{AreEnds}
+use Rattle.emtp_deck.proofs.Judging.{sensible_switch}
+use Rattle.emtp_deck.proofs.Knowing.{known_name}
+use Rattle.emtp_deck.proofs.Naming.{all_named, ends_of}
 use Rattle.emtp_deck.specs.Channels.{switch_channel_count}
+use Rattle.emtp_deck.specs.ControlSensible.{IsKnown}
 use Rattle.emtp_deck.specs.Filling.{IsFilling, made_of}
 use Rattle.emtp_deck.specs.Made.{count_asked}
 use Rattle.emtp_deck.specs.Names.{node_number, with_switch_names}
 use Rattle.emtp_deck.specs.Naming.{Continues}
 use Rattle.emtp_deck.specs.Switches.{switch_fault}
 use Rattle.emtp_deck.specs.declared.filling.Filling.{Filling}
-use Rattle.emtp_deck.proofs.Judging.{sensible_switch}
-use Rattle.emtp_deck.proofs.Naming.{all_named, ends_of}
+use Rattle.emtp_fix.proofs.Wide.{fits}
 use Rattle.emtp_netcards.specs.SwitchCard.{HasSwitchNumbers}
 use Rattle.emtp_netcards.specs.declared.switch_card.SwitchCard.{SwitchCard}
 
@@ -23,9 +26,10 @@ pub record IsReady (f : Filling) (keys : List (List ℕ)) (card : SwitchCard) : 
   pub room : length f.draft.parts.switches < 500
   pub asked : count_asked f.asked + switch_channel_count card.asked ≤ 64
   pub ends : AreEnds (length keys) (node_number keys card.from) (node_number keys card.to)
+  pub control : IsKnown f.variables.keys card.control
 
-ready_at : (f : Filling) (card : SwitchCard) → HasSwitchNumbers card → switch_fault (with_switch_names f.draft.parts.nodes card) (made_of f) card ≡ None → IsReady f (with_switch_names f.draft.parts.nodes card) card
-ready_at f card numbers e =
+ready_at : (f : Filling) (card : SwitchCard) → IsFilling f → HasSwitchNumbers card → switch_fault (with_switch_names f.draft.parts.nodes card) (made_of f) card ≡ None → IsReady f (with_switch_names f.draft.parts.nodes card) card
+ready_at f card h numbers e =
     let old = f.draft.parts.nodes in
     let named = all_named old (card.from ∷ card.to ∷ []) in
     let sensible = sensible_switch (with_switch_names old card) (made_of f) card e in
@@ -36,10 +40,11 @@ ready_at f card numbers e =
       names = named.names fits.network.names (numbers.ends.from_name, (numbers.ends.to_name, tt));
       room = sensible.room;
       asked = sensible.asked;
+      control = subst (λ vs. IsKnown vs card.control) (sym h.variables) (known_name f.draft.parts.vars 65 card.control sensible.control);
       ends = ends_of (with_switch_names old card) card.from card.to numbers.ends named.known.0 named.known.1.0;
     }
 
 pub ready : (f : Filling) (keys : List (List ℕ)) (card : SwitchCard) → IsFilling f → HasSwitchNumbers card → keys ≡ with_switch_names f.nodes.keys card → switch_fault keys (made_of f) card ≡ None → IsReady f keys card
 ready f keys card h numbers is e =
     let same : keys ≡ with_switch_names f.draft.parts.nodes card = is ∙ ap (λ ks. with_switch_names ks card) h.nodes in
-    rw same (ready_at f card numbers (rw same at e))
+    rw same (ready_at f card h numbers (rw same at e))

@@ -1,29 +1,47 @@
 -- The case of a deck whose record isn't too large.
-use Rattle.std.proofs.Common.{◌≡◌, ◌∙◌, ap, ℕ, ◌+◌, ◌*◌, ◌≤◌, false, Some, Ok, Err, arith}
-use Rattle.std.proofs.lemmas.Bool.Decides.{nat_tests}
+use Rattle.std.proofs.Common.{◌≡◌, ◌∙◌, ap, ℕ, ◌+◌, ◌*◌, ◌≤◌, false, Some, Ok, Err, arith, Bool, None, Result}
 use Rattle.std.proofs.Math.Nat.{mul-le-mul_right}
-use Rattle.std.specs.Prelude.{nat_lt}
+use Rattle.std.proofs.lemmas.Bool.Decides.{nat_tests}
+use Rattle.std.specs.Prelude.{IfOk, nat_lt}
 use Rattle.emtp_card.specs.Fault.{unless_bad}
+use Rattle.emtp_card.specs.declared.reason.Bad.{Bad}
 use Rattle.emtp_card.specs.declared.reason.Refused.{Refused}
 use Rattle.emtp_card.specs.declared.reason.Refused.TheVariants.{Bad as OfBad, NoMemory}
 use Rattle.emtp_case.specs.RunData.{samples_of}
+use Rattle.emtp_deck.proofs.Asking.{deck_asks, control_is}
+use Rattle.emtp_deck.proofs.Sounding.{head_whole}
 use Rattle.emtp_deck.specs.Answer.{IfBad, go_on}
+use Rattle.emtp_deck.specs.ControlSense.{control_bad}
 use Rattle.emtp_deck.specs.Deck.{case_of, filled, made_of_deck, unfinished}
 use Rattle.emtp_deck.specs.Filling.{Fills}
 use Rattle.emtp_deck.specs.Made.{Made, count_asked}
+use Rattle.emtp_deck.specs.Names.{known_nodes, node_names}
 use Rattle.emtp_deck.specs.Samples.{deck_count, has_too_many, pending_count}
-use Rattle.emtp_deck.specs.Sound.{IsSound, IsWhole}
+use Rattle.emtp_deck.specs.Sound.{IsControlSound, IsSound, IsWhole}
+use Rattle.emtp_deck.specs.Variables.{variable_names}
+use Rattle.emtp_deck.specs.declared.control_cards.ControlPlace.{ControlPlace}
+use Rattle.emtp_deck.specs.declared.control_cards.ControlPlace.TheVariants.{Blocks, Denominator, DevicePoints, Extras, Initial, Numerator, TacsOutputs, TacsSources}
 use Rattle.emtp_deck.specs.declared.deck.Deck.{Deck}
 use Rattle.emtp_deck.specs.declared.deck.Place.{Place}
-use Rattle.emtp_deck.specs.declared.deck.Place.TheVariants.{After, Begin, Branches, First, Outputs, Points, Second, Sources, Start, Switches, Third, Waiting}
-use Rattle.emtp_deck.proofs.Asking.{deck_asks}
-use Rattle.emtp_deck.proofs.Sounding.{head_whole}
+use Rattle.emtp_deck.specs.declared.deck.Place.TheVariants.{After, Begin, Branches, Control, First, Outputs, Points, Second, Sources, Start, Switches, Third, Waiting}
+use Rattle.emtp_netcards.specs.SourceCard.{unless_judged}
+
+control_whole : (deck : Deck) (at : ControlPlace) → IsControlSound deck at → IsWhole deck
+control_whole deck Blocks h = h
+control_whole deck (Numerator card) h = h.0
+control_whole deck (Denominator card top line) h = h.0
+control_whole deck TacsSources h = h
+control_whole deck Extras h = h
+control_whole deck (DevicePoints group) h = h.0
+control_whole deck TacsOutputs h = h
+control_whole deck Initial h = h
 
 pub whole_of : (deck : Deck) (place : Place) → IsSound deck place → IsWhole deck
 whole_of deck Begin h = head_whole deck h
 whole_of deck (First seen) h = head_whole deck h
 whole_of deck Second h = head_whole deck h
 whole_of deck Start h = h
+whole_of deck (Control at) h = control_whole deck at h
 whole_of deck (Branches wide) h = h
 whole_of deck (Points group) h = h.0
 whole_of deck (Waiting card wide) h = h.0
@@ -42,19 +60,42 @@ within asked all pending samples is e =
     let less : asked * samples ≤ (all + pending) * samples = mul-le-mul_right samples (omega (arith, is)) in
     omega (arith, most, less)
 
-pub stored_within : (deck : Deck) (place : Place) (m : Made) → has_too_many deck place ≡ false → made_of_deck deck ≡ Ok m → count_asked m.asked * samples_of m.parts.run ≤ 4000000
-stored_within deck place m few h =
-    let asks = deck_asks deck m h in
-    let all : count_asked m.asked ≡ deck_count deck = omega (arith, asks.asked) in
-    rw asks.run (within (count_asked m.asked) (deck_count deck) (pending_count place) (samples_of deck.run) all few)
+pub stored_within : (deck : Deck) (seen : Bool) (m : Made) → has_too_many (known_nodes deck (After seen)) (variable_names deck (After seen)) deck (After seen) ≡ false → made_of_deck (variable_names deck (After seen)) deck ≡ Ok m → count_asked m.asked * samples_of m.parts.run ≤ 4000000
+stored_within deck seen m few h =
+    let variables = variable_names deck (After seen) in
+    let asks = deck_asks variables deck m h in
+    let run : m.parts.run ≡ deck.run = asks.run ∙ (control_is variables deck).run in
+    let all : count_asked m.asked ≡ deck_count (node_names deck) variables deck = omega (arith, asks.asked) in
+    rw run (within (count_asked m.asked) (deck_count (node_names deck) variables deck) 0 (samples_of deck.run) all few)
 
-pub stopped : (line : ℕ) (deck : Deck) (place : Place) (refused : Refused) (left : Made) → has_too_many deck place ≡ false → Fills (Err refused) (made_of_deck deck) left → IfBad refused (λ bad. filled line deck place ≡ Err bad)
+-- the faults of sense of the control, if it has one
+pub of_control : (line : ℕ) (deck : Deck) (place : Place) (bad : Bad) → has_too_many (known_nodes deck place) (variable_names deck place) deck place ≡ false → control_bad (known_nodes deck place) (variable_names deck place) deck place ≡ Some bad → filled line deck place ≡ Err bad
 unfolding filled
-stopped line deck place (OfBad bad) left few h = rw few (ap (go_on (λ (m : Made). unless_bad (unfinished line m place) (case_of m))) h)
-stopped line deck place NoMemory left few h = tt
+of_control line deck place bad few e =
+    rw few (ap (λ b. go_on (λ (m : Made). unless_bad (unfinished line m place) (case_of deck m)) (unless_judged b (made_of_deck (variable_names deck place) deck))) e)
 
-pub cut_off : (line : ℕ) (deck : Deck) (place : Place) (refused : Refused) (m : Made) → has_too_many deck place ≡ false → made_of_deck deck ≡ Ok m → IfBad refused (λ bad. unfinished line m place ≡ Some bad) → IfBad refused (λ bad. filled line deck place ≡ Err bad)
+-- the faults of the network behind it
+pub of_network : (line : ℕ) (deck : Deck) (place : Place) (made : Result Made Bad) → has_too_many (known_nodes deck place) (variable_names deck place) deck place ≡ false → control_bad (known_nodes deck place) (variable_names deck place) deck place ≡ None
+    → made_of_deck (variable_names deck place) deck ≡ made → filled line deck place ≡ go_on (λ (m : Made). unless_bad (unfinished line m place) (case_of deck m)) made
 unfolding filled
-cut_off line deck place (OfBad bad) m few h e =
-    rw few (ap (go_on (λ (made : Made). unless_bad (unfinished line made place) (case_of made))) h ∙ ap (λ b. unless_bad b (case_of m)) e)
-cut_off line deck place NoMemory m few h e = tt
+of_network line deck place made few none h =
+    rw few (ap (λ b. go_on (λ (m : Made). unless_bad (unfinished line m place) (case_of deck m)) (unless_judged b (made_of_deck (variable_names deck place) deck))) none
+    ∙ ap (go_on (λ (m : Made). unless_bad (unfinished line m place) (case_of deck m))) h)
+
+pub stopped : (line : ℕ) (deck : Deck) (place : Place) (refused : Refused) (left : Made) → has_too_many (known_nodes deck place) (variable_names deck place) deck place ≡ false → control_bad (known_nodes deck place) (variable_names deck place) deck place ≡ None
+    → Fills (Err refused) (made_of_deck (variable_names deck place) deck) left → IfBad refused (λ bad. filled line deck place ≡ Err bad)
+stopped line deck place (OfBad bad) left few none h = of_network line deck place (Err bad) few none h
+stopped line deck place NoMemory left few none h = tt
+
+pub cut_off : (line : ℕ) (deck : Deck) (place : Place) (refused : Refused) (m : Made) → has_too_many (known_nodes deck place) (variable_names deck place) deck place ≡ false → control_bad (known_nodes deck place) (variable_names deck place) deck place ≡ None
+    → made_of_deck (variable_names deck place) deck ≡ Ok m → IfBad refused (λ bad. unfinished line m place ≡ Some bad) → IfBad refused (λ bad. filled line deck place ≡ Err bad)
+cut_off line deck place (OfBad bad) m few none h e = of_network line deck place (Ok m) few none h ∙ ap (λ b. unless_bad b (case_of deck m)) e
+cut_off line deck place NoMemory m few none h e = tt
+
+pub completed : (line : ℕ) (deck : Deck) (seen : Bool) (m : Made) → has_too_many (known_nodes deck (After seen)) (variable_names deck (After seen)) deck (After seen) ≡ false → control_bad (known_nodes deck (After seen)) (variable_names deck (After seen)) deck (After seen) ≡ None
+    → made_of_deck (variable_names deck (After seen)) deck ≡ Ok m → filled line deck (After seen) ≡ Ok (case_of deck m)
+completed line deck seen m few none h = of_network line deck (After seen) (Ok m) few none h
+
+pub on_if_ok : {X E : Type 0} (r : Result X E) {P Q : X → Type 0} → ((x : X) → P x → Q x) → IfOk r P → IfOk r Q
+on_if_ok (Ok x) f p = f x p
+on_if_ok (Err e) f p = tt

@@ -1,5 +1,5 @@
 -- What a call answers that may want memory, beside its definition, which never does.
-use Rattle.std.specs.Prelude.{◌≡◌, Result, Ok, Err}
+use Rattle.std.specs.Prelude.{◌≡◌, Result, Ok, Err, None, Option, Some}
 use Rattle.emtp_card.specs.declared.reason.Bad.{Bad}
 use Rattle.emtp_card.specs.declared.reason.Refused.{Refused}
 use Rattle.emtp_card.specs.declared.reason.Refused.TheVariants.{Bad as OfBad, NoMemory}
@@ -24,6 +24,11 @@ abbrev pub Answers : {A : Type 0} → Result A Refused → Result A Bad → Type
 Answers (Ok x) defined = defined ≡ Ok x
 Answers (Err (OfBad bad)) defined = defined ≡ Err bad
 Answers (Err NoMemory) defined = Unit {0}
+
+-- the first of two refusals
+abbrev pub first_bad : Option Bad → Option Bad → Option Bad
+first_bad (Some bad) other = Some bad
+first_bad None other = other
 
 -- what comes next, unless the card is refused
 abbrev pub go_on : {A B : Type 0} → (A → Result B Bad) → Result A Bad → Result B Bad

@@ -14,7 +14,7 @@ use Rattle.emtp_case.specs.declared.branch.Trio.{Trio}
 use Rattle.emtp_case.specs.declared.case.Parts.{Parts}
 use Rattle.emtp_case.specs.declared.channel.Channel.{Channel}
 use Rattle.emtp_case.specs.declared.channel.Channel.TheVariants.{BranchCurrent, BranchVoltage}
-use Rattle.emtp_deck.specs.Answer.{go_on}
+use Rattle.emtp_deck.specs.Answer.{go_on, first_bad}
 use Rattle.emtp_deck.specs.Channels.{channel_count, channels_of}
 use Rattle.emtp_deck.specs.Copies.{line_numbers, missing_fault, phase_numbers, values_from}
 use Rattle.emtp_deck.specs.Made.{Made, count_asked, too_many}
@@ -26,7 +26,8 @@ use Rattle.emtp_deck.specs.declared.copies.ValuesFrom.TheVariants.{Card as OwnVa
 use Rattle.emtp_deck.specs.declared.deck.BranchEntry.{BranchEntry}
 use Rattle.emtp_deck.specs.declared.deck.BranchEntry.TheVariants.{Single, Trio as TrioEntry}
 use Rattle.emtp_deck.specs.declared.deck.Place.{Place}
-use Rattle.emtp_deck.specs.declared.deck.Place.TheVariants.{After, Begin, Branches, First, Outputs, Points, Second, Sources, Start, Switches, Third, Waiting}
+use Rattle.emtp_deck.specs.declared.deck.Place.TheVariants.{After, Begin, Branches, First, Outputs, Points, Second, Sources, Start, Switches, Third, Waiting, Control}
+use Rattle.emtp_netcards.specs.OutputCard.{names}
 use Rattle.emtp_netcards.specs.declared.branch_card.BranchCard.{BranchCard}
 use Rattle.emtp_netcards.specs.declared.branch_card.BranchValues.{BranchValues}
 use Rattle.emtp_netcards.specs.declared.branch_card.BranchValues.TheVariants.{Line as LineCard, Lumped as LumpedCard, Reactor as ReactorCard, Resistor as ResistorCard, Second as SecondCard, Third as ThirdCard}
@@ -65,10 +66,6 @@ card_fault names n card values =
 abbrev pub card_bad : List (List ℕ) → Counts → BranchCard → ValuesFrom → Option Bad
 card_bad names n card values = option_map (bad_at card.line) (card_fault names n card values)
 
-abbrev pub first_bad : Option Bad → Option Bad → Option Bad
-first_bad (Some bad) other = Some bad
-first_bad None other = other
-
 -- the counts with a card of one branch, or with the card -1 of three phases, which has the zero sequence
 abbrev pub first_counts : List (List ℕ) → Made → BranchCard → Counts
 first_counts names m card = with_counts (counts_of m) card (card_history 1 names m.parts card)
@@ -102,6 +99,7 @@ pending_fault m Begin = None
 pending_fault m (First seen) = None
 pending_fault m Second = None
 pending_fault m Start = None
+pending_fault m (Control at) = None
 pending_fault m (Branches wide) = None
 pending_fault m (Points group) = first_fault (with_ends m.parts.nodes group.card.from group.card.to) m group.card
 pending_fault m (Waiting card wide) = first_fault (with_ends m.parts.nodes card.from card.to) m card

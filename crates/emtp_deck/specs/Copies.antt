@@ -1,7 +1,7 @@
 -- Where a branch card's values come from: itself, or the first earlier branch of its type between the two nodes that it
 -- names.
-use Rattle.std.specs.Prelude.{◌≡◌, ℕ, ◌==◌, ◌&&◌, ℤ, pos, negsuc, Bool, true, false, List, [], find, slice_index_or, Option, Some, None, if◌then◌else◌}
 use Rattle.std.specs.Ordering.{int_eq}
+use Rattle.std.specs.Prelude.{◌≡◌, ℕ, ◌==◌, ◌&&◌, ℤ, pos, negsuc, Bool, true, false, List, [], find, slice_index_or, Option, Some, None, if◌then◌else◌}
 use Rattle.emtp_card.specs.declared.fault.Fault.{Fault}
 use Rattle.emtp_card.specs.declared.reason.Why.TheVariants.{UnknownName}
 use Rattle.emtp_case.specs.Branch.{IsBranch, from_of, to_of}
@@ -15,6 +15,7 @@ use Rattle.emtp_deck.specs.Names.{node_number}
 use Rattle.emtp_deck.specs.declared.copies.LineNumbers.{LineNumbers}
 use Rattle.emtp_deck.specs.declared.copies.ValuesFrom.{ValuesFrom}
 use Rattle.emtp_deck.specs.declared.copies.ValuesFrom.TheVariants.{Card as OwnValues, Earlier, Missing}
+use Rattle.emtp_netcards.specs.OutputCard.{names}
 use Rattle.emtp_netcards.specs.declared.branch_card.BranchCard.{BranchCard}
 use Rattle.emtp_netcards.specs.declared.branch_card.BranchValues.{BranchValues}
 use Rattle.emtp_netcards.specs.declared.branch_card.BranchValues.TheVariants.{Line as LineCard, Lumped as LumpedCard, Reactor as ReactorCard, Resistor as ResistorCard, Second as SecondCard, Third as ThirdCard}

@@ -1,35 +1,48 @@
 -- The deck: the case of the lines, or the one fault that decides. A fault of form decides first; then the faults of sense go
 -- in the order of their lines, as the sections do.
-use Rattle.std.specs.Prelude.{ℕ, ◌+◌, Bool, true, false, List, length, Option, Some, None, Result, Err, if◌then◌else◌}
+use Rattle.std.specs.Prelude.{ℕ, ◌+◌, Bool, true, false, List, length, Option, Some, None, Result, Err, if◌then◌else◌, map}
+use Rattle.std.specs.Str.Lines.{lines}
 use Rattle.emtp_card.specs.Fault.{unless_bad}
 use Rattle.emtp_card.specs.declared.reason.Bad.{Bad}
 use Rattle.emtp_card.specs.declared.reason.Why.TheVariants.{MissingSection}
 use Rattle.emtp_case.specs.declared.case.Parts.{Parts}
-use Rattle.emtp_deck.specs.Answer.{go_on}
-use Rattle.emtp_deck.specs.Branches.{first_bad, pending_fault, take_branches}
-use Rattle.emtp_deck.specs.Made.{Made, all_asked, empty_made}
+use Rattle.emtp_deck.specs.Answer.{first_bad, go_on}
+use Rattle.emtp_deck.specs.Branches.{pending_fault, take_branches}
+use Rattle.emtp_deck.specs.ControlFilling.{control_parts, tacs_source_of}
+use Rattle.emtp_deck.specs.ControlSense.{control_bad}
+use Rattle.emtp_deck.specs.Made.{Made, all_asked, empty_made, none_asked}
+use Rattle.emtp_deck.specs.Names.{known_nodes}
 use Rattle.emtp_deck.specs.Outputs.{take_outputs}
 use Rattle.emtp_deck.specs.Samples.{has_too_many, samples_bad}
 use Rattle.emtp_deck.specs.Sources.{take_sources}
 use Rattle.emtp_deck.specs.Switches.{take_switches}
+use Rattle.emtp_deck.specs.TacsOutputs.{take_tacs_outputs}
+use Rattle.emtp_deck.specs.Variables.{variable_names}
 use Rattle.emtp_deck.specs.Walk.{empty_deck, walk}
 use Rattle.emtp_deck.specs.declared.deck.Deck.{Deck}
 use Rattle.emtp_deck.specs.declared.deck.Place.{Place}
-use Rattle.emtp_deck.specs.declared.deck.Place.TheVariants.{After, Begin, Branches, First, Outputs, Points, Second, Sources, Start, Switches, Third, Waiting}
+use Rattle.emtp_deck.specs.declared.deck.Place.TheVariants.{After, Begin, Branches, First, Outputs, Points, Second, Sources, Start, Switches, Third, Waiting, Control}
+use Rattle.emtp_netcards.specs.SourceCard.{unless_judged}
+
+-- what the control makes before the network, given the names of its variables
+abbrev pub control_made : List (List ℕ) → Deck → Made
+control_made variables deck = record { parts = control_parts variables deck; asked = none_asked }
 
 -- the cards of all sections
-abbrev pub made_of_deck : Deck → Result Made Bad
-made_of_deck deck =
+abbrev pub made_of_deck : List (List ℕ) → Deck → Result Made Bad
+made_of_deck variables deck =
     go_on (λ (m : Made). take_outputs m deck.outputs)
     (go_on (λ (m : Made). take_sources m deck.sources)
     (go_on (λ (m : Made). take_switches m deck.switches)
-    (take_branches deck.points (empty_made deck.run) deck.branches)))
+    (go_on (λ (m : Made). take_branches deck.points m deck.branches)
+    (take_tacs_outputs (control_made variables deck) deck.control.outputs))))
 
 abbrev pub is_ended : Place → Bool
 is_ended Begin = false
 is_ended (First seen) = false
 is_ended Second = false
 is_ended Start = false
+is_ended (Control at) = false
 is_ended (Branches wide) = false
 is_ended (Points group) = false
 is_ended (Waiting card wide) = false
@@ -46,14 +59,20 @@ missing_bad line place = if is_ended place then None else Some (record { line = 
 abbrev pub unfinished : ℕ → Made → Place → Option Bad
 unfinished line m place = first_bad (pending_fault m place) (missing_bad line place)
 
--- the channels stand in the order of the record
-abbrev pub case_of : Made → Parts
-case_of m = record m.parts { channels = all_asked m.asked }
+-- the sources of the control measure in the whole network, and the channels stand in the order of the record
+abbrev pub case_of : Deck → Made → Parts
+case_of deck m = record m.parts {
+  tacs_sources = map (tacs_source_of m.parts.nodes deck.switches m.parts.vars) deck.control.sources;
+  channels = all_asked m.asked;
+}
 
 unfoldable pub filled : ℕ → Deck → Place → Result Parts Bad
 filled line deck place =
-    if has_too_many deck place then Err (samples_bad deck)
-    else go_on (λ (m : Made). unless_bad (unfinished line m place) (case_of m)) (made_of_deck deck)
+    let nodes = known_nodes deck place in
+    let variables = variable_names deck place in
+    if has_too_many nodes variables deck place then Err (samples_bad deck)
+    else go_on (λ (m : Made). unless_bad (unfinished line m place) (case_of deck m))
+    (unless_judged (control_bad nodes variables deck place) (made_of_deck variables deck))
 
 unfoldable pub deck_of : List (List ℕ) → Result Parts Bad
 deck_of lines = go_on (λ (read : Deck × Place). filled (length lines + 1) read.0 read.1) (walk 1 empty_deck Begin lines)

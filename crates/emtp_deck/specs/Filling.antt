@@ -10,12 +10,14 @@ use Rattle.emtp_case.specs.Sizes.{Sizes, sizes_of}
 use Rattle.emtp_deck.specs.Made.{Made, count_asked}
 use Rattle.emtp_deck.specs.declared.asked.Asked.{Asked}
 use Rattle.emtp_deck.specs.declared.filling.Filling.{Filling}
+use Rattle.emtp_netcards.specs.OutputCard.{names}
 
 abbrev pub made_of : Filling → Made
 made_of f = record { parts = f.draft.parts; asked = f.asked }
 
 -- each channel is one of so many records
 pub record AreThere (n : Sizes) (a : Asked) : Type 0 where
+  pub variables : All (IsChannel n) a.variables
   pub outputs : All (IsChannel n) a.outputs
   pub branches : All (IsChannel n) a.branches
   pub switches : All (IsChannel n) a.switches
@@ -25,7 +27,8 @@ pub record AreThere (n : Sizes) (a : Asked) : Type 0 where
 pub record IsFilling (f : Filling) : Type 0 where
   pub nodes : f.nodes.keys ≡ f.draft.parts.nodes
   pub history : f.history ≡ history_values_of f.draft.parts
-  pub no_control : HasNoControl f.draft.parts
+  pub variables : f.variables.keys ≡ f.draft.parts.vars
+  pub no_sources : f.draft.parts.tacs_sources ≡ []
   pub no_channels : f.draft.parts.channels ≡ []
   pub few : count_asked f.asked ≤ 64
   pub there : AreThere (sizes_of f.draft.parts) f.asked

@@ -1,12 +1,19 @@
 -- What holds of every deck.
 use Rattle.std.specs.Prelude.{◌≡◌, ◌⊎◌, ℕ, ◌+◌, ◌≤◌, true, List, [], ◌∷◌, ◌++◌, map}
 use Rattle.emtp_card.specs.Lines.{is_comment}
+use Rattle.emtp_deck.specs.declared.control_cards.BlockEntry.{BlockEntry}
+use Rattle.emtp_deck.specs.declared.control_cards.ControlCards.{ControlCards}
+use Rattle.emtp_deck.specs.declared.control_cards.ControlPlace.{ControlPlace}
+use Rattle.emtp_deck.specs.declared.control_cards.ControlPlace.TheVariants.{Blocks, Denominator, DevicePoints, Extras, Initial, Numerator, TacsOutputs, TacsSources}
+use Rattle.emtp_deck.specs.declared.control_cards.ExtraEntry.{ExtraEntry}
+use Rattle.emtp_deck.specs.declared.control_cards.ExtraEntry.TheVariants.{Device as DeviceEntry, Formula as FormulaEntry}
+use Rattle.emtp_deck.specs.declared.control_cards.TacsOutputEntry.{TacsOutputEntry}
 use Rattle.emtp_deck.specs.declared.deck.BranchEntry.{BranchEntry}
 use Rattle.emtp_deck.specs.declared.deck.BranchEntry.TheVariants.{Single, Trio}
 use Rattle.emtp_deck.specs.declared.deck.Deck.{Deck}
 use Rattle.emtp_deck.specs.declared.deck.OutputEntry.{OutputEntry}
 use Rattle.emtp_deck.specs.declared.deck.Place.{Place}
-use Rattle.emtp_deck.specs.declared.deck.Place.TheVariants.{After, Begin, Branches, First, Outputs, Points, Second, Sources, Start, Switches, Third, Waiting}
+use Rattle.emtp_deck.specs.declared.deck.Place.TheVariants.{After, Begin, Branches, First, Outputs, Points, Second, Sources, Start, Switches, Third, Waiting, Control}
 use Rattle.emtp_netcards.specs.declared.source_card.SourceCard.{SourceCard}
 use Rattle.emtp_netcards.specs.declared.switch_card.SwitchCard.{SwitchCard}
 
@@ -38,12 +45,34 @@ abbrev pub branch_lines : List BranchEntry → List ℕ
 branch_lines [] = []
 branch_lines (e ∷ es) = entry_lines e ++ branch_lines es
 
+abbrev pub extra_line : ExtraEntry → ℕ
+extra_line (DeviceEntry card first count) = card.line
+extra_line (FormulaEntry card) = card.line
+
+abbrev pub control_lines : ControlCards → List ℕ
+control_lines cards =
+    map (λ (e : BlockEntry). e.card.line) cards.blocks
+    ++ map (λ (card : SourceCard). card.line) cards.sources
+    ++ map extra_line cards.extras
+    ++ map (λ (e : TacsOutputEntry). e.line) cards.outputs
+
+abbrev pub pending_control_lines : ControlPlace → List ℕ
+pending_control_lines Blocks = []
+pending_control_lines (Numerator card) = card.line ∷ []
+pending_control_lines (Denominator card top line) = card.line ∷ []
+pending_control_lines TacsSources = []
+pending_control_lines Extras = []
+pending_control_lines (DevicePoints group) = group.card.line ∷ []
+pending_control_lines TacsOutputs = []
+pending_control_lines Initial = []
+
 -- the cards of a group that isn't ended
 abbrev pub pending_lines : Place → List ℕ
 pending_lines Begin = []
 pending_lines (First seen) = []
 pending_lines Second = []
 pending_lines Start = []
+pending_lines (Control at) = pending_control_lines at
 pending_lines (Branches wide) = []
 pending_lines (Points group) = group.card.line ∷ []
 pending_lines (Waiting card wide) = card.line ∷ []
@@ -65,4 +94,4 @@ output_lines entries = map (λ (entry : OutputEntry). entry.line) entries
 -- the lines of the cards in the order in which their sense is judged
 abbrev pub card_lines : Deck → Place → List ℕ
 card_lines deck place =
-    branch_lines deck.branches ++ pending_lines place ++ switch_lines deck.switches ++ source_lines deck.sources ++ output_lines deck.outputs
+    control_lines deck.control ++ branch_lines deck.branches ++ pending_lines place ++ switch_lines deck.switches ++ source_lines deck.sources ++ output_lines deck.outputs

@@ -16,13 +16,13 @@ pub record Made : Type 0 where
 
 -- the channels in the order of the record
 abbrev pub all_asked : Asked → List Channel
-all_asked a = a.outputs ++ a.branches ++ a.switches ++ a.statuses
+all_asked a = a.outputs ++ a.branches ++ a.switches ++ a.variables ++ a.statuses
 
 abbrev pub count_asked : Asked → ℕ
-count_asked a = length a.outputs + length a.branches + length a.switches + length a.statuses
+count_asked a = length a.variables + length a.outputs + length a.branches + length a.switches + length a.statuses
 
 abbrev pub none_asked : Asked
-none_asked = record { outputs = []; branches = []; switches = []; statuses = [] }
+none_asked = record { variables = []; outputs = []; branches = []; switches = []; statuses = [] }
 
 -- what is made of the miscellaneous cards alone
 abbrev pub empty_made : RunData → Made

@@ -1,11 +1,14 @@
 -- The names of the nodes, and their numbers.
 use Rattle.std.specs.Prelude.{ℕ, ◌+◌, List, [], fold, length, position, unwrap_or, Option, Some, None, option_map}
 use Rattle.std.specs.Str.{bytes_eq}
-use Rattle.indexmap.specs.IndexSet.{insert_key}
 use Rattle.emtp_deck.specs.declared.deck.BranchEntry.{BranchEntry}
 use Rattle.emtp_deck.specs.declared.deck.BranchEntry.TheVariants.{Single, Trio}
 use Rattle.emtp_deck.specs.declared.deck.Deck.{Deck}
+use Rattle.emtp_deck.specs.declared.deck.Place.{Place}
+use Rattle.emtp_deck.specs.declared.deck.Place.TheVariants.{Points, Third, Waiting}
+use Rattle.emtp_netcards.specs.OutputCard.{names}
 use Rattle.emtp_netcards.specs.declared.switch_card.SwitchCard.{SwitchCard}
+use Rattle.indexmap.specs.IndexSet.{insert_key}
 
 -- a name keeps its first place; ground has no name
 abbrev pub with_name : List (List ℕ) → Option (List ℕ) → List (List ℕ)
@@ -26,6 +29,16 @@ with_switch_names names card = with_ends names card.from card.to
 -- all nodes in order of first appearance, on branch and then on switch cards
 abbrev pub node_names : Deck → List (List ℕ)
 node_names deck = fold with_switch_names (fold with_entry_names [] deck.branches) deck.switches
+
+-- the cards of a group that the file cuts off name nodes too
+abbrev pub with_pending_nodes : List (List ℕ) → Place → List (List ℕ)
+with_pending_nodes names (Points group) = with_ends names group.card.from group.card.to
+with_pending_nodes names (Waiting card wide) = with_ends names card.from card.to
+with_pending_nodes names (Third zero' positive wide) = with_ends (with_ends names zero'.from zero'.to) positive.from positive.to
+with_pending_nodes names other = names
+
+abbrev pub known_nodes : Deck → Place → List (List ℕ)
+known_nodes deck place = with_pending_nodes (node_names deck) place
 
 -- the number of a node, from 1
 abbrev pub find_node : List (List ℕ) → List ℕ → Option ℕ

@@ -10,6 +10,7 @@ use Rattle.emtp_deck.specs.Made.{Made, no_room, too_many, unless_fault}
 use Rattle.emtp_deck.specs.Names.{find_node}
 use Rattle.emtp_deck.specs.declared.asked.Asked.{Asked}
 use Rattle.emtp_deck.specs.declared.deck.OutputEntry.{OutputEntry}
+use Rattle.emtp_netcards.specs.OutputCard.{names}
 use Rattle.emtp_netcards.specs.declared.output_card.OutputCard.{OutputCard}
 use Rattle.emtp_netcards.specs.declared.output_card.OutputCard.TheVariants.{All as AllNodes, Names}
 

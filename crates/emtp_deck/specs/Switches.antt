@@ -1,16 +1,31 @@
 -- Switches: what each card gives the case, unless it has a fault of sense. Of a card the least fault counts.
-use Rattle.std.specs.Prelude.{ℕ, nat_le, nat_lt, List, [], ◌∷◌, ◌++◌, length, Option, Result, Ok}
+use Rattle.std.specs.Prelude.{ℕ, nat_le, nat_lt, List, [], ◌∷◌, ◌++◌, length, Option, Result, Ok, None, Some, option_map}
 use Rattle.emtp_card.specs.Fault.{least}
 use Rattle.emtp_card.specs.declared.fault.Fault.{Fault}
 use Rattle.emtp_card.specs.declared.reason.Bad.{Bad}
 use Rattle.emtp_case.specs.declared.channel.Channel.TheVariants.{SwitchCurrent, SwitchVoltage}
 use Rattle.emtp_case.specs.declared.switch.Switch.{Switch}
+use Rattle.emtp_case.specs.declared.switch.SwitchKind.{SwitchKind}
+use Rattle.emtp_case.specs.declared.switch.SwitchKind.TheVariants.{Control, Measuring, Time, Valve}
 use Rattle.emtp_deck.specs.Answer.{go_on}
+use Rattle.emtp_deck.specs.Branches.{with_nodes}
 use Rattle.emtp_deck.specs.Channels.{channels_of, status_of, switch_channel_count}
 use Rattle.emtp_deck.specs.Made.{Made, no_room, too_many, unless_fault}
-use Rattle.emtp_deck.specs.Branches.{with_nodes}
 use Rattle.emtp_deck.specs.Names.{node_number, with_switch_names}
+use Rattle.emtp_deck.specs.Variables.{unknown_name, variable_number}
+use Rattle.emtp_netcards.specs.OutputCard.{names}
 use Rattle.emtp_netcards.specs.declared.switch_card.SwitchCard.{SwitchCard}
+
+-- what opens and closes a switch, the variable that its card names having its number
+abbrev pub control_number : List (List ℕ) → Option (List ℕ) → ℕ
+control_number variables None = 0
+control_number variables (Some name) = variable_number variables name
+
+abbrev pub controlled_kind : List (List ℕ) → Option (List ℕ) → SwitchKind → SwitchKind
+controlled_kind variables control (Time close open_at margin) = Time close open_at margin
+controlled_kind variables control Measuring = Measuring
+controlled_kind variables control (Valve ignition holding number) = Valve ignition holding (option_map (variable_number variables) control)
+controlled_kind variables control (Control number) = Control (control_number variables control)
 
 -- the faults of sense of a card, given the names of the nodes, its own among them
 abbrev pub switch_fault : List (List ℕ) → Made → SwitchCard → Option Fault
@@ -19,17 +34,23 @@ switch_fault names m card =
     ∷ too_many (no_room m.asked (switch_channel_count card.asked)) 1
     ∷ too_many (nat_lt 1000 (node_number names card.from)) 3
     ∷ too_many (nat_lt 1000 (node_number names card.to)) 9
+    ∷ unknown_name m.parts.vars 65 card.control
     ∷ [])
 
-abbrev pub switch_at : List (List ℕ) → SwitchCard → Switch
-switch_at names card = record { line = card.line; «from» = node_number names card.from; to = node_number names card.to; kind = card.kind }
+abbrev pub switch_at : List (List ℕ) → List (List ℕ) → SwitchCard → Switch
+switch_at names variables card = record {
+  line = card.line;
+  «from» = node_number names card.from;
+  to = node_number names card.to;
+  kind = controlled_kind variables card.control card.kind;
+}
 
 -- the switch of a card whose nodes are there, and the channels that it asks for
 abbrev pub with_switch : Made → SwitchCard → Made
 with_switch m card =
     let at = length m.parts.switches in
     record {
-      parts = record m.parts { switches = m.parts.switches ++ switch_at m.parts.nodes card ∷ [] };
+      parts = record m.parts { switches = m.parts.switches ++ switch_at m.parts.nodes m.parts.vars card ∷ [] };
       asked = record m.asked {
         switches = m.asked.switches ++ channels_of card.asked (SwitchCurrent at) (SwitchVoltage at);
         statuses = m.asked.statuses ++ status_of card.asked at;

@@ -1,7 +1,8 @@
 -- The walk over the lines of a case: each line has its place, and gives its card and the place of the next line, or the
 -- least fault of the line. The first line that has a fault decides.
-use Rattle.std.specs.Prelude.{ℕ, ◌+◌, ◌^◌, ℤ, pos, nat_eq, Bool, true, false, List, [], ◌∷◌, ◌++◌, length, codes, Option, Some, None, is_none, Result, Ok, Err, if◌then◌else◌}
 use Rattle.std.specs.List.{starts_with}
+use Rattle.std.specs.Prelude.{ℕ, ◌+◌, ◌^◌, ℤ, pos, nat_eq, Bool, true, false, List, [], ◌∷◌, ◌++◌, length, codes, Option, Some, None, is_none, Result, Ok, Err, if◌then◌else◌}
+use Rattle.std.specs.Str.Lines.{lines}
 use Rattle.emtp_card.specs.Fault.{judge, unless_bad}
 use Rattle.emtp_card.specs.Lines.{is_comment, is_section_end}
 use Rattle.emtp_card.specs.declared.reason.Bad.{Bad}
@@ -9,13 +10,14 @@ use Rattle.emtp_card.specs.declared.reason.Why.{Why}
 use Rattle.emtp_card.specs.declared.reason.Why.TheVariants.{BadOrder}
 use Rattle.emtp_case.specs.declared.branch.Point.{Point}
 use Rattle.emtp_deck.specs.Answer.{go_on}
-use Rattle.emtp_deck.specs.Unbuilt.{is_unbuilt, unbuilt_fault}
+use Rattle.emtp_deck.specs.ControlSteps.{control_step, no_control}
+use Rattle.emtp_deck.specs.LineRead.{Read, order_fault, place_of}
+use Rattle.emtp_deck.specs.declared.control_cards.ControlPlace.TheVariants.{Blocks}
 use Rattle.emtp_deck.specs.declared.deck.BranchEntry.TheVariants.{Single, Trio}
 use Rattle.emtp_deck.specs.declared.deck.Deck.{Deck}
 use Rattle.emtp_deck.specs.declared.deck.Group.{Group}
 use Rattle.emtp_deck.specs.declared.deck.Place.{Place}
-use Rattle.emtp_deck.specs.declared.deck.Place.TheVariants.{After, Begin, Branches, First, Outputs, Points, Second, Sources, Start, Switches, Third, Waiting}
-use Rattle.emtp_deck.specs.declared.unbuilt.Section.TheVariants.{Control as ControlSection, Sources as SourceSection, Switches as SwitchSection}
+use Rattle.emtp_deck.specs.declared.deck.Place.TheVariants.{After, Begin, Branches, First, Outputs, Points, Second, Sources, Start, Switches, Third, Waiting, Control}
 use Rattle.emtp_netcards.specs.BranchCard.{branch_card, kind_field}
 use Rattle.emtp_netcards.specs.OutputCard.{output_card}
 use Rattle.emtp_netcards.specs.PointCard.{next_point}
@@ -35,14 +37,11 @@ use Rattle.emtp_netcards.specs.declared.run_cards.FirstCard.{FirstCard}
 use Rattle.emtp_netcards.specs.declared.source_card.SourceCard.{SourceCard}
 use Rattle.emtp_netcards.specs.declared.switch_card.SwitchCard.{SwitchCard}
 
--- the deck so far, and the place of the next line
-abbrev pub Read : Type 0
-Read = Result (Deck × Place) Bad
-
 abbrev pub empty_deck : Deck
 empty_deck = record {
   run = record { dt = pos 1000; steps = 1; every = 1; tolerance = pos (10 ^ 7) };
   second = 0;
+  control = no_control;
   branches = [];
   points = [];
   switches = [];
@@ -51,10 +50,6 @@ empty_deck = record {
 }
 
 -- ---- in front of the sections and behind them
-
--- a card that can't stand where it does
-abbrev pub order_fault : ℕ → List ℕ → Option Bad
-order_fault number line = judge number line (Some (record { column = 1; why = BadOrder }))
 
 abbrev pub begin_fault : ℕ → List ℕ → Option Bad
 begin_fault number line = if starts_with nat_eq line (codes "BEGIN NEW DATA CASE") then judge number line None else order_fault number line
@@ -208,13 +203,11 @@ point_step deck number line group =
 unfoldable pub switch_step : Deck → ℕ → List ℕ → Read
 switch_step deck number line =
     if is_section_end line then Ok (deck, Sources)
-    else if is_unbuilt SwitchSection line then unless_bad (unbuilt_fault number line) (deck, Switches)
     else go_on (λ (card : SwitchCard). Ok (record deck { switches = deck.switches ++ card ∷ [] }, Switches)) (switch_card number line)
 
 unfoldable pub source_step : Deck → ℕ → List ℕ → Read
 source_step deck number line =
     if is_section_end line then Ok (deck, Outputs)
-    else if is_unbuilt SourceSection line then unless_bad (unbuilt_fault number line) (deck, Sources)
     else go_on (λ (card : SourceCard). Ok (record deck { sources = deck.sources ++ card ∷ [] }, Sources)) (source_card number line)
 
 unfoldable pub output_step : Deck → ℕ → List ℕ → Read
@@ -225,18 +218,17 @@ output_step deck number line =
 -- the control stands right after the miscellaneous cards
 unfoldable pub start_step : Deck → ℕ → List ℕ → Read
 start_step deck number line =
-    if is_unbuilt ControlSection line then unless_bad (unbuilt_fault number line) (deck, Start) else branch_step deck number line false
+    if starts_with nat_eq line (codes "TACS HYBRID") then unless_bad (judge number line None) (deck, Control Blocks)
+    else branch_step deck number line false
 
 -- ---- all lines
-
-abbrev pub place_of : Deck → Result Place Bad → Read
-place_of deck next = go_on (λ (place : Place). Ok (deck, place)) next
 
 abbrev pub step : Deck → Place → ℕ → List ℕ → Read
 step deck Begin number line = place_of deck (begin_place number line)
 step deck (First seen) number line = first_step deck number line seen
 step deck Second number line = second_step deck number line
 step deck Start number line = start_step deck number line
+step deck (Control at) number line = control_step deck number line at
 step deck (Branches wide) number line = branch_step deck number line wide
 step deck (Points group) number line = point_step deck number line group
 step deck (Waiting card wide) number line = waiting_step deck number line card wide

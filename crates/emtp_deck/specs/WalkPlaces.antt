@@ -1,12 +1,13 @@
 -- The places in front of the sections and behind them.
 use Rattle.emtp_deck.specs.declared.deck.Place.{Place}
-use Rattle.emtp_deck.specs.declared.deck.Place.TheVariants.{After, Begin, Branches, First, Outputs, Points, Second, Sources, Start, Switches, Third, Waiting}
+use Rattle.emtp_deck.specs.declared.deck.Place.TheVariants.{After, Begin, Branches, First, Outputs, Points, Second, Sources, Start, Switches, Third, Waiting, Control}
 
 abbrev pub IsBeginning : Place → Type 0
 IsBeginning Begin = Unit {0}
 IsBeginning (First seen) = Unit {0}
 IsBeginning Second = ⊥
 IsBeginning Start = ⊥
+IsBeginning (Control at) = ⊥
 IsBeginning (Branches wide) = ⊥
 IsBeginning (Points group) = ⊥
 IsBeginning (Waiting card wide) = ⊥
@@ -21,6 +22,7 @@ IsEnding Begin = ⊥
 IsEnding (First seen) = ⊥
 IsEnding Second = ⊥
 IsEnding Start = ⊥
+IsEnding (Control at) = ⊥
 IsEnding (Branches wide) = ⊥
 IsEnding (Points group) = ⊥
 IsEnding (Waiting card wide) = ⊥

@@ -9,6 +9,8 @@ use std::alloc::Global;
 /// The channels that were asked for so far, each kind in the order of the cards.
 #[derive(Drop)]
 pub struct Asked {
+    /// The values of the control's variables.
+    pub variables: Items<Channel>,
     /// The voltages of nodes.
     pub outputs: Items<Channel>,
     /// The currents and voltages of branches.
@@ -25,6 +27,7 @@ impl Asked {
         ensures { result ≡ none_asked }
     {
         Asked {
+            variables: Items::new(alloc),
             outputs: Items::new(alloc),
             branches: Items::new(alloc),
             switches: Items::new(alloc),
@@ -37,6 +40,10 @@ impl Asked {
         requires { count_asked self.now ≤ 64 }
         ensures { result ≡ count_asked self.now }
     {
-        self.outputs.len() + self.branches.len() + self.switches.len() + self.statuses.len()
+        self.variables.len()
+            + self.outputs.len()
+            + self.branches.len()
+            + self.switches.len()
+            + self.statuses.len()
     }
 }

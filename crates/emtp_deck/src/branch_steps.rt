@@ -8,16 +8,16 @@ ghost use Rattle.emtp_netcards.specs.BranchCard.{HasNumbers, kind_of_values};
 ghost use Rattle.emtp_netcards.specs.PointCard.{Follows, IsPointOf};
 ghost use Rattle.emtp_netcards.specs.VintageCard.{vintage_card};
 
+use crate::control_cards::ControlPlace;
 use crate::deck::{BranchEntry, Deck, Group, Place};
-use crate::unbuilt::{Section, is_unbuilt, unbuilt_fault};
 use crate::walk::order_fault;
-use emtp_card::{Bad, Line, MAX_BYTES, Refused, Why, ends_section};
+use emtp_card::{Bad, Line, MAX_BYTES, Refused, Why, ends_section, judge};
 use emtp_case::Point;
 use emtp_netcards::{
     BranchCard, BranchKind, BranchValues, PointScale, branch, branch_kind, next_point, vintage,
 };
 
-/// Takes the line right after the miscellaneous cards, where the control would begin.
+/// Takes the line right after the miscellaneous cards, where the control may begin.
 #[tactic(auto, unfolding(crate::specs::Walk::start_step))]
 pub(crate) fn start_step(deck: &mut Deck, line: &Line<'_>) -> Result<Place, Refused>
     requires short { length line.now.bytes.now ≤ MAX_BYTES }
@@ -25,10 +25,10 @@ pub(crate) fn start_step(deck: &mut Deck, line: &Line<'_>) -> Result<Place, Refu
     ensures value { Leaves result (start_step deck.old line.now.number line.now.bytes.now) deck.new }
     ensures sound { IfOk result (IsSound deck.new) }
 {
-    if is_unbuilt(Section::Control, line.bytes) {
-        return match unbuilt_fault(line) {
+    if line.bytes.starts_with(b"TACS HYBRID") {
+        return match judge(line, None) {
             Some(bad) => Err(Refused::Bad(bad)),
-            None => Ok(Place::Start),
+            None => Ok(Place::Control(ControlPlace::Blocks)),
         };
     }
     branch_step(deck, line, false)

@@ -6,6 +6,7 @@ ghost use Rattle.emtp_deck.specs.Sound.{IsTrioEntry, IsWhole};
 ghost use Rattle.emtp_deck.specs.Walk.{empty_deck, with_trio};
 ghost use Rattle.emtp_netcards.specs.BranchCard.{HasNumbers};
 
+use crate::control_cards::{ControlCards, ControlPlace};
 use emtp_card::Refused;
 use emtp_case::{Items, Point, RunData};
 use emtp_netcards::{BranchCard, OutputCard, SourceCard, SwitchCard};
@@ -50,9 +51,11 @@ pub struct Deck {
     pub run: RunData,
     /// The line of the second miscellaneous card; 0 before it was read.
     pub second: u32,
+    /// The cards of the control.
+    pub control: ControlCards,
     /// The branches, in the order of their cards.
     pub branches: Items<BranchEntry>,
-    /// The points of the pseudo-nonlinear branches.
+    /// The points of the pseudo-nonlinear branches and the tables, and the times of the windows.
     pub points: Items<Point>,
     /// The switches.
     pub switches: Items<SwitchCard>,
@@ -75,6 +78,7 @@ impl Deck {
                 tolerance: 10_000_000,
             },
             second: 0,
+            control: ControlCards::new(alloc),
             branches: Items::new(alloc),
             points: Items::new(alloc),
             switches: Items::new(alloc),
@@ -132,6 +136,8 @@ pub enum Place {
     Second,
     /// Right after the miscellaneous cards: the control, or the first branch card.
     Start,
+    /// A line of the control.
+    Control(ControlPlace),
     /// A branch card; the flag says that the fields of series branches are wide.
     Branches(bool),
     /// A point of a branch, or its ending card.

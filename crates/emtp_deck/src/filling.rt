@@ -1,6 +1,6 @@
 //! The case in the making, while cards are taken.
 
-ghost use Rattle.std.specs.Prelude.{◌≡◌, ◌≤◌, All, length, IfErr, IfOk, OnOk};
+ghost use Rattle.std.specs.Prelude.{◌≡◌, ◌≤◌, All, length, IfErr, IfOk, OnOk, []};
 ghost use Rattle.emtp_case.specs.Case.{empty_parts};
 ghost use Rattle.emtp_case.specs.HistoryValues.{history_values_of};
 ghost use Rattle.emtp_case.specs.Name.{IsName};
@@ -23,6 +23,8 @@ pub(crate) struct Filling {
     pub(crate) draft: Draft,
     /// The names of its nodes again, where they are found fast.
     pub(crate) nodes: IndexSet<Name>,
+    /// The names of its variables again.
+    pub(crate) variables: IndexSet<Name>,
     /// The channels that were asked for.
     pub(crate) asked: Asked,
     /// How many history values its records need.
@@ -30,16 +32,23 @@ pub(crate) struct Filling {
 }
 
 impl Filling {
-    /// What is made of the miscellaneous cards alone.
-    pub(crate) fn new(alloc: Global, run: RunData) -> Result<Filling, Refused>
+    /// What is made of the miscellaneous cards alone, with the names of the variables.
+    pub(crate) fn new(
+        alloc: Global,
+        run: RunData,
+        variables: IndexSet<Name>,
+    ) -> Result<Filling, Refused>
         requires { IsRun run }
         ensures ok { IfOk result (λ filling. made_of filling ≡ empty_made run) }
         ensures err { IfErr result IsWant }
-        ensures filling { IfOk result IsFilling }
+        ensures variables { IfOk result (λ filling. filling.variables.keys ≡ variables.keys) }
+        ensures history { IfOk result (λ filling. filling.history ≡ 0) }
+        ensures nodes { IfOk result (λ filling. filling.nodes.keys ≡ []) }
     {
         Ok(Filling {
             draft: Draft::new(alloc, run)?,
             nodes: IndexSet::new(alloc),
+            variables,
             asked: Asked::new(alloc),
             history: 0,
         })

@@ -1,12 +1,16 @@
 //! The names of the nodes, and their numbers.
 
-ghost use Rattle.std.specs.Prelude.{◌≡◌, ◌≤◌, length, IfErr, OnOk};
+ghost use Rattle.std.specs.Prelude.{◌≡◌, ◌≤◌, fold, length, IfErr, IfOk, OnOk};
 ghost use Rattle.emtp_deck.specs.Answer.{IsWant};
-ghost use Rattle.emtp_deck.specs.Names.{find_node, node_number, with_ends, with_name};
+ghost use Rattle.emtp_deck.specs.Names.{find_node, node_names, node_number, with_ends, with_entry_names, with_name, with_switch_names};
 
+use crate::branches::add_entry_names;
+use crate::deck::{BranchEntry, Deck};
 use emtp_card::Refused;
 use emtp_case::Name;
+use emtp_netcards::SwitchCard;
 use indexmap::IndexSet;
+use std::alloc::Global;
 
 /// Adds a name, unless it is there; ground has none.
 fn add_name(names: &mut IndexSet<Name>, name: &Option<Name>) -> Result<(), Refused>
@@ -30,6 +34,37 @@ pub(crate) fn add_ends(
 {
     add_name(names, from)?;
     add_name(names, to)
+}
+
+/// The names of all nodes.
+pub(crate) fn node_names(alloc: Global, deck: &Deck) -> Result<IndexSet<Name>, Refused>
+    ensures ok { IfOk result (λ nodes. nodes.keys ≡ node_names deck.now) }
+    ensures err { IfErr result IsWant }
+{
+    let mut nodes = IndexSet::new(alloc);
+    add_branch_names(&mut nodes, deck.branches.as_slice())?;
+    add_switch_names(&mut nodes, deck.switches.as_slice())?;
+    Ok(nodes)
+}
+
+fn add_branch_names(nodes: &mut IndexSet<Name>, entries: &[BranchEntry]) -> Result<(), Refused>
+    ensures ok { OnOk result (nodes.new.keys ≡ fold with_entry_names nodes.old.keys entries.now) }
+    ensures err { IfErr result IsWant }
+{
+    for entry in entries {
+        add_entry_names(nodes, entry)?;
+    }
+    Ok(())
+}
+
+fn add_switch_names(nodes: &mut IndexSet<Name>, cards: &[SwitchCard]) -> Result<(), Refused>
+    ensures ok { OnOk result (nodes.new.keys ≡ fold with_switch_names nodes.old.keys cards.now) }
+    ensures err { IfErr result IsWant }
+{
+    for card in cards {
+        add_ends(nodes, &card.from, &card.to)?;
+    }
+    Ok(())
 }
 
 /// The number of a node, from 1, or one more than there are where no node has the name; 0 for ground.

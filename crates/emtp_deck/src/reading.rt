@@ -5,19 +5,24 @@ ghost use Rattle.emtp_case.specs.Channel.{IsChannel};
 ghost use Rattle.emtp_case.specs.RunData.{samples_of};
 ghost use Rattle.emtp_case.specs.Sizes.{sizes_of};
 ghost use Rattle.emtp_deck.specs.Answer.{IfBad, IsWant};
-ghost use Rattle.emtp_deck.specs.Deck.{case_of, deck_of, filled, is_ended, made_of_deck, missing_bad, unfinished};
+ghost use Rattle.emtp_deck.specs.ControlSensible.{IsSensibleWhole};
+ghost use Rattle.emtp_deck.specs.Deck.{case_of, control_made, deck_of, filled, is_ended, made_of_deck, missing_bad, unfinished};
 ghost use Rattle.emtp_deck.specs.Filling.{AreThere, Fills, IsFilling, made_of};
-ghost use Rattle.emtp_deck.specs.Made.{all_asked, count_asked, empty_made};
+ghost use Rattle.emtp_deck.specs.Made.{all_asked, count_asked};
 ghost use Rattle.emtp_deck.specs.Sound.{IsSound, IsWhole};
 
 use crate::asked::Asked;
 use crate::branches::{pending_fault, take_branches};
+use crate::control_filling::{add_tacs_sources, control_filling};
+use crate::control_sense::control_bad;
 use crate::deck::{Deck, Place};
 use crate::filling::Filling;
 use crate::outputs::take_outputs;
 use crate::samples::{has_too_many, samples_bad};
 use crate::sources::take_sources;
 use crate::switches::take_switches;
+use crate::tacs_outputs::take_tacs_outputs;
+use crate::variables::KnownNames;
 use crate::walk::walk;
 use emtp_card::{Bad, Cards, Refused, Why};
 use emtp_case::{Case, Channel, Draft};
@@ -25,12 +30,13 @@ use std::alloc::Global;
 
 /// Takes the cards of all sections, in the order of their lines.
 fn fill(filling: &mut Filling, deck: &Deck) -> Result<(), Refused>
-    requires empty { made_of filling.old ≡ empty_made deck.now.run }
+    requires control { made_of filling.old ≡ control_made filling.old.variables.keys deck.now }
     requires filling { IsFilling filling.old }
     requires whole { IsWhole deck.now }
-    ensures value { Fills result (made_of_deck deck.now) (made_of filling.new) }
+    ensures value { Fills result (made_of_deck filling.old.variables.keys deck.now) (made_of filling.new) }
     ensures filling { OnOk result (IsFilling filling.new) }
 {
+    take_tacs_outputs(filling, deck.control.outputs.as_slice())?;
     take_branches(filling, deck.points.as_slice(), deck.branches.as_slice())?;
     take_switches(filling, deck.switches.as_slice())?;
     take_sources(filling, deck.sources.as_slice())?;
@@ -63,23 +69,30 @@ fn add_asked(draft: &mut Draft, asked: &Asked) -> Result<(), Refused>
     add_channels(draft, asked.outputs.as_slice())?;
     add_channels(draft, asked.branches.as_slice())?;
     add_channels(draft, asked.switches.as_slice())?;
+    add_channels(draft, asked.variables.as_slice())?;
     add_channels(draft, asked.statuses.as_slice())
 }
 
 /// The case that was filled.
-fn finish(filling: Filling) -> Result<Case, Refused>
+fn finish(mut filling: Filling, deck: &Deck) -> Result<Case, Refused>
     requires filling { IsFilling filling }
     requires stored { count_asked filling.asked * samples_of filling.draft.parts.run ≤ 4000000 }
-    ensures ok { IfOk result (λ case. case.parts ≡ case_of (made_of filling)) }
+    requires control { IsSensibleWhole filling deck.now }
+    ensures ok { IfOk result (λ case. case.parts ≡ case_of deck.now (made_of filling)) }
     ensures err { IfErr result IsWant }
 {
+    add_tacs_sources(
+        &mut filling,
+        deck.switches.as_slice(),
+        deck.control.sources.as_slice(),
+    )?;
     let Filling {
         mut draft,
         asked,
         ..
     } = filling;
     add_asked(&mut draft, &asked)?;
-    Ok(draft.finish_network())
+    Ok(draft.finish())
 }
 
 /// Why a deck isn't whole after its last line: a card of a group that it cuts off, or the section that is missing.
@@ -106,13 +119,18 @@ fn filled(alloc: Global, deck: &Deck, place: &Place, line: u32) -> Result<Case, 
     ensures ok { IfOk result (λ case. filled line deck.now place.now ≡ Ok case.parts) }
     ensures bad { IfErr result (λ refused. IfBad refused (λ bad. filled line deck.now place.now ≡ Err bad)) }
 {
-    if has_too_many(alloc, deck, place)? {
+    let names = KnownNames::new(alloc, deck, place)?;
+    if has_too_many(&names, deck, place) {
         return Err(Refused::Bad(samples_bad(deck)));
     }
-    let mut filling = Filling::new(alloc, deck.run)?;
+    if let Some(bad) = control_bad(alloc, &names, deck, place) {
+        return Err(Refused::Bad(bad));
+    }
+    let KnownNames { variables, .. } = names;
+    let mut filling = control_filling(alloc, deck, variables)?;
     match fill(&mut filling, deck) {
         Ok(()) => match place {
-            Place::After(_) => finish(filling),
+            Place::After(_) => finish(filling, deck),
             _ => Err(unfinished(&mut filling, place, line)),
         },
         Err(refused) => Err(refused),

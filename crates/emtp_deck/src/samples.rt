@@ -1,22 +1,19 @@
 //! How many channels all cards ask for, and whether their record would be too large.
 
-ghost use Rattle.std.specs.Prelude.{◌≡◌, ◌+◌, ◌≤◌, [], fold, length, min, IfErr, IfOk, OnOk};
+ghost use Rattle.std.specs.Prelude.{◌≡◌, ◌+◌, ◌≤◌, length, min};
 ghost use Rattle.std.specs.List.{sum_by};
 ghost use Rattle.emtp_case.specs.RunData.{IsRun};
-ghost use Rattle.emtp_deck.specs.Answer.{IsWant};
 ghost use Rattle.emtp_deck.specs.Branches.{entry_count};
-ghost use Rattle.emtp_deck.specs.Names.{node_names, with_entry_names, with_switch_names};
-ghost use Rattle.emtp_deck.specs.Samples.{count_of_entry, count_of_switch, deck_count, has_too_many, name_count, output_count, pending_count, samples_bad};
+ghost use Rattle.emtp_deck.specs.Samples.{count_of_entry, count_of_switch, count_of_variables, deck_count, has_too_many, name_count, output_count, pending_count, samples_bad};
 
-use crate::branches::add_entry_names;
 use crate::channels::{channel_count, switch_channel_count};
+use crate::control_cards::TacsOutputEntry;
 use crate::deck::{BranchEntry, Deck, OutputEntry, Place};
-use crate::names::add_ends;
-use emtp_card::{Bad, Refused, Why};
+use crate::variables::KnownNames;
+use emtp_card::{Bad, Why};
 use emtp_case::Name;
 use emtp_netcards::{OutputCard, SwitchCard};
 use indexmap::IndexSet;
-use std::alloc::Global;
 
 /// More channels than any record has room for; a count is held there.
 const MANY: usize = 4_000_001;
@@ -30,41 +27,6 @@ fn plus(count: usize, more: usize) -> usize
 {
     count.saturating_add(more).min(MANY)
 }
-
-// ---- names
-
-fn add_branch_names(nodes: &mut IndexSet<Name>, entries: &[BranchEntry]) -> Result<(), Refused>
-    ensures ok { OnOk result (nodes.new.keys ≡ fold with_entry_names nodes.old.keys entries.now) }
-    ensures err { IfErr result IsWant }
-{
-    for entry in entries {
-        add_entry_names(nodes, entry)?;
-    }
-    Ok(())
-}
-
-fn add_switch_names(nodes: &mut IndexSet<Name>, cards: &[SwitchCard]) -> Result<(), Refused>
-    ensures ok { OnOk result (nodes.new.keys ≡ fold with_switch_names nodes.old.keys cards.now) }
-    ensures err { IfErr result IsWant }
-{
-    for card in cards {
-        add_ends(nodes, &card.from, &card.to)?;
-    }
-    Ok(())
-}
-
-/// The names of all nodes.
-fn node_names(alloc: Global, deck: &Deck) -> Result<IndexSet<Name>, Refused>
-    ensures ok { IfOk result (λ nodes. nodes.keys ≡ node_names deck.now) }
-    ensures err { IfErr result IsWant }
-{
-    let mut nodes = IndexSet::new(alloc);
-    add_branch_names(&mut nodes, deck.branches.as_slice())?;
-    add_switch_names(&mut nodes, deck.switches.as_slice())?;
-    Ok(nodes)
-}
-
-// ---- channels
 
 fn entry_count(entry: &BranchEntry) -> usize
     ensures value { result ≡ entry_count entry.now }
@@ -136,6 +98,17 @@ fn outputs_count(nodes: &IndexSet<Name>, entries: &[OutputEntry]) -> usize
     count
 }
 
+/// How many of the names of a card of the control are those of variables.
+fn variables_count(variables: &IndexSet<Name>, entries: &[TacsOutputEntry]) -> usize
+    ensures { result ≡ min (sum_by (count_of_variables variables.now.keys) entries.now) MANY }
+{
+    let mut count = 0;
+    for entry in entries {
+        count = plus(count, names_count(variables, &entry.names));
+    }
+    count
+}
+
 /// The channels of a group that the file cuts off.
 fn pending_count(place: &Place) -> usize
     ensures value { result ≡ pending_count place.now }
@@ -151,25 +124,23 @@ fn pending_count(place: &Place) -> usize
     }
 }
 
-fn all_count(alloc: Global, deck: &Deck, place: &Place) -> Result<usize, Refused>
-    ensures ok { IfOk result (λ count. count ≡ min (deck_count deck.now + pending_count place.now) MANY) }
-    ensures err { IfErr result IsWant }
+fn all_count(names: &KnownNames, deck: &Deck, place: &Place) -> usize
+    ensures { result ≡ min (deck_count names.now.nodes.keys names.now.variables.keys deck.now + pending_count place.now) MANY }
 {
-    let nodes = node_names(alloc, deck)?;
+    let variables = variables_count(&names.variables, deck.control.outputs.as_slice());
     let branches = branches_count(deck.branches.as_slice());
     let switches = switches_count(deck.switches.as_slice());
-    let outputs = outputs_count(&nodes, deck.outputs.as_slice());
-    Ok((branches + switches + outputs + pending_count(place)).min(MANY))
+    let outputs = outputs_count(&names.nodes, deck.outputs.as_slice());
+    (variables + branches + switches + outputs + pending_count(place)).min(MANY)
 }
 
 /// Whether the record of all channels would have too many stored values.
-pub(crate) fn has_too_many(alloc: Global, deck: &Deck, place: &Place) -> Result<bool, Refused>
+pub(crate) fn has_too_many(names: &KnownNames, deck: &Deck, place: &Place) -> bool
     requires { IsRun deck.now.run }
-    ensures ok { IfOk result (λ many. many ≡ has_too_many deck.now place.now) }
-    ensures err { IfErr result IsWant }
+    ensures { result ≡ has_too_many names.now.nodes.keys names.now.variables.keys deck.now place.now }
 {
-    let count = all_count(alloc, deck, place)?;
-    Ok(STORED < count as u64 * u64::from(deck.run.samples()))
+    let count = all_count(names, deck, place);
+    STORED < count as u64 * u64::from(deck.run.samples())
 }
 
 /// What refuses the second miscellaneous card then.

@@ -6,7 +6,6 @@ ghost use Rattle.emtp_deck.specs.Sound.{IsSound, IsWhole};
 ghost use Rattle.emtp_deck.specs.Walk.{output_step, source_step, switch_step};
 
 use crate::deck::{Deck, OutputEntry, Place};
-use crate::unbuilt::{Section, is_unbuilt, unbuilt_fault};
 use emtp_card::{Line, MAX_BYTES, Refused, ends_section};
 use emtp_netcards::{outputs, source, switch};
 
@@ -20,12 +19,6 @@ pub(crate) fn switch_step(deck: &mut Deck, line: &Line<'_>) -> Result<Place, Ref
 {
     if ends_section(line.bytes) {
         return Ok(Place::Sources);
-    }
-    if is_unbuilt(Section::Switches, line.bytes) {
-        return match unbuilt_fault(line) {
-            Some(bad) => Err(Refused::Bad(bad)),
-            None => Ok(Place::Switches),
-        };
     }
     match switch(*line) {
         Ok(card) => {
@@ -46,12 +39,6 @@ pub(crate) fn source_step(deck: &mut Deck, line: &Line<'_>) -> Result<Place, Ref
 {
     if ends_section(line.bytes) {
         return Ok(Place::Outputs);
-    }
-    if is_unbuilt(Section::Sources, line.bytes) {
-        return match unbuilt_fault(line) {
-            Some(bad) => Err(Refused::Bad(bad)),
-            None => Ok(Place::Sources),
-        };
     }
     match source(*line) {
         Ok(card) => {

@@ -3,20 +3,32 @@
 ghost use Rattle.std.specs.Prelude.{◌≡◌, ◌<◌, ◌≤◌, ◌++◌, ◌∷◌, [], All, Some, false, length, IfErr, OnOk};
 ghost use Rattle.emtp_deck.specs.Answer.{IsWant};
 ghost use Rattle.emtp_deck.specs.Filling.{Fills, IsFilling, made_of};
-ghost use Rattle.emtp_deck.specs.Sources.{is_second, node_fault, source_at, source_fault, take_source, take_sources, with_source};
+ghost use Rattle.emtp_deck.specs.Sources.{driven_shape, driver_fault, is_second, node_fault, source_at, source_fault, take_source, take_sources, with_source};
 ghost use Rattle.emtp_netcards.specs.SourceCard.{HasSourceCardNumbers};
 
 use crate::filling::{Filling, too_many};
 use crate::names::find_node;
+use crate::variables::{unknown_name, variable_number};
 use emtp_card::{Fault, Refused, Why, least};
-use emtp_case::{Draft, Source};
+use emtp_case::{Draft, Name, Shape, Source};
 use emtp_netcards::SourceCard;
+use indexmap::IndexSet;
 
 /// Whether a card is the second voltage source of a node.
 fn is_second(draft: &Draft, card: &SourceCard, node: u32) -> bool
     ensures { result ≡ is_second card.now node draft.now.parts.sources }
 {
     !card.current && draft.has_voltage_source(node)
+}
+
+/// The fault of a source of type 60 whose name isn't that of a variable.
+fn driver_fault(variables: &IndexSet<Name>, card: &SourceCard) -> Option<Fault>
+    ensures { result ≡ driver_fault variables.now.keys card.now }
+{
+    match card.shape {
+        Shape::Tacs { .. } => unknown_name(variables, 3, &Some(card.name)),
+        _ => None,
+    }
 }
 
 fn node_fault(draft: &Draft, card: &SourceCard, node: Option<u32>) -> Option<Fault>
@@ -31,12 +43,15 @@ fn node_fault(draft: &Draft, card: &SourceCard, node: Option<u32>) -> Option<Fau
 }
 
 /// The faults of sense of a card, given the number of its node, if it is one.
-fn source_fault(draft: &Draft, card: &SourceCard, node: Option<u32>) -> Option<Fault>
-    ensures { result ≡ source_fault draft.now.parts.sources card.now node }
+fn source_fault(filling: &Filling, card: &SourceCard, node: Option<u32>) -> Option<Fault>
+    requires { IsFilling filling.now }
+    ensures { result ≡ source_fault filling.now.draft.parts card.now node }
 {
+    let draft = &filling.draft;
     least(&[
         too_many(500 <= draft.parts.sources.len(), 1),
         node_fault(draft, card, node),
+        driver_fault(&filling.variables, card),
     ])
 }
 
@@ -49,35 +64,59 @@ fn take_source(filling: &mut Filling, card: &SourceCard) -> Result<(), Refused>
     ensures filling { OnOk result (IsFilling filling.new) }
 {
     let node = find_node(&filling.nodes, &card.name);
-    if let Some(fault) = source_fault(&filling.draft, card, node) {
+    if let Some(fault) = source_fault(filling, card, node) {
         return Err(Refused::Bad(fault.on_line(card.line)));
     }
     match node {
-        Some(node) => add_source(&mut filling.draft, card, node),
+        Some(node) => add_source(filling, card, node),
         None => Ok(()),
     }
 }
 
-/// Adds the source of a card whose node is there.
-fn add_source(draft: &mut Draft, card: &SourceCard, node: u32) -> Result<(), Refused>
-    requires room { length draft.old.parts.sources < 500 }
-    requires above_ground { 1 ≤ node }
-    requires there { node ≤ length draft.old.parts.nodes }
-    requires card { HasSourceCardNumbers card.now }
-    requires vars { 1 ≤ length draft.old.parts.vars }
-    requires first { is_second card.now node draft.old.parts.sources ≡ false }
-    ensures ok { OnOk result (draft.new.parts ≡ record draft.old.parts { sources = draft.old.parts.sources ++ source_at card.now node ∷ [] }) }
-    ensures err { IfErr result IsWant }
+/// The shape of a source, the variable that drives it having its number.
+fn driven_shape(variables: &IndexSet<Name>, name: &Name, shape: Shape) -> Shape
+    requires { length variables.now.keys ≤ 606 }
+    ensures { result ≡ driven_shape variables.now.keys name.now shape }
 {
-    draft.add_source(Source {
+    match shape {
+        Shape::Tacs { .. } => Shape::Tacs {
+            var: variable_number(variables, name),
+        },
+        shape => shape,
+    }
+}
+
+/// The source of a card at its node.
+fn source_at(variables: &IndexSet<Name>, card: &SourceCard, node: u32) -> Source
+    requires { length variables.now.keys ≤ 606 }
+    ensures { result ≡ source_at variables.now.keys card.now node }
+{
+    Source {
         line: card.line,
         node,
         current: card.current,
-        shape: card.shape,
+        shape: driven_shape(variables, &card.name, card.shape),
         amplitude: card.amplitude,
         start: card.start,
         stop: card.stop,
-    })?;
+    }
+}
+
+/// Adds the source of a card whose node is there.
+fn add_source(filling: &mut Filling, card: &SourceCard, node: u32) -> Result<(), Refused>
+    requires filling { IsFilling filling.old }
+    requires room { length filling.old.draft.parts.sources < 500 }
+    requires above_ground { 1 ≤ node }
+    requires there { node ≤ length filling.old.draft.parts.nodes }
+    requires card { HasSourceCardNumbers card.now }
+    requires driver { driver_fault filling.old.variables.keys card.now ≡ None }
+    requires first { is_second card.now node filling.old.draft.parts.sources ≡ false }
+    ensures ok { OnOk result (made_of filling.new ≡ with_source (made_of filling.old) card.now (Some node)) }
+    ensures err { IfErr result IsWant }
+    ensures filling { OnOk result (IsFilling filling.new) }
+{
+    let source = source_at(&filling.variables, card, node);
+    filling.draft.add_source(source)?;
     Ok(())
 }
 

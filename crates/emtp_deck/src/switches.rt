@@ -8,14 +8,16 @@ ghost use Rattle.emtp_deck.specs.Made.{count_asked};
 ghost use Rattle.emtp_deck.specs.Branches.{with_nodes};
 ghost use Rattle.emtp_deck.specs.Names.{node_number};
 ghost use Rattle.emtp_deck.specs.Channels.{switch_channel_count};
-ghost use Rattle.emtp_deck.specs.Switches.{switch_at, switch_fault, take_switch, take_switches, with_switch};
+ghost use Rattle.emtp_deck.specs.ControlSensible.{IsKnown};
+ghost use Rattle.emtp_deck.specs.Switches.{controlled_kind, switch_at, switch_fault, take_switch, take_switches, with_switch};
 ghost use Rattle.emtp_netcards.specs.SwitchCard.{HasSwitchNumbers};
 
 use crate::channels::{ask, ask_status, no_room, switch_channel_count};
 use crate::filling::{Filling, add_nodes, too_many};
 use crate::names::{add_ends, node_number};
+use crate::variables::{number_of, unknown_name};
 use emtp_card::{Fault, Refused, least};
-use emtp_case::{Channel, Name, Switch};
+use emtp_case::{Channel, Name, Switch, SwitchKind};
 use emtp_netcards::SwitchCard;
 use indexmap::IndexSet;
 
@@ -23,6 +25,7 @@ use indexmap::IndexSet;
 fn switch_fault(filling: &Filling, card: &SwitchCard) -> Option<Fault>
     requires few { length filling.now.nodes.keys ≤ 2000 }
     requires asked { count_asked filling.now.asked ≤ 64 }
+    requires variables { filling.now.variables.keys ≡ filling.now.draft.parts.vars }
     ensures { result ≡ switch_fault filling.now.nodes.keys (made_of filling.now) card.now }
 {
     let nodes = &filling.nodes;
@@ -31,18 +34,46 @@ fn switch_fault(filling: &Filling, card: &SwitchCard) -> Option<Fault>
         too_many(no_room(&filling.asked, switch_channel_count(card.asked)), 1),
         too_many(1000 < node_number(nodes, &card.from), 3),
         too_many(1000 < node_number(nodes, &card.to), 9),
+        unknown_name(&filling.variables, 65, &card.control),
     ])
 }
 
-fn switch_at(nodes: &IndexSet<Name>, card: &SwitchCard) -> Switch
+/// What opens and closes a switch, the variable that its card names having its number.
+fn controlled_kind(
+    variables: &IndexSet<Name>,
+    control: &Option<Name>,
+    kind: SwitchKind,
+) -> SwitchKind
+    requires few { length variables.now.keys ≤ 606 }
+    ensures { result ≡ controlled_kind variables.now.keys control.now kind }
+{
+    match kind {
+        SwitchKind::Valve {
+            ignition,
+            holding,
+            ..
+        } => SwitchKind::Valve {
+            ignition,
+            holding,
+            control: number_of(variables, control),
+        },
+        SwitchKind::Control { .. } => SwitchKind::Control {
+            control: number_of(variables, control).unwrap_or(0),
+        },
+        kind => kind,
+    }
+}
+
+fn switch_at(nodes: &IndexSet<Name>, variables: &IndexSet<Name>, card: &SwitchCard) -> Switch
     requires few { length nodes.now.keys ≤ 2000 }
-    ensures { result ≡ switch_at nodes.now.keys card.now }
+    requires few_variables { length variables.now.keys ≤ 606 }
+    ensures { result ≡ switch_at nodes.now.keys variables.now.keys card.now }
 {
     Switch {
         line: card.line,
         from: node_number(nodes, &card.from),
         to: node_number(nodes, &card.to),
-        kind: card.kind,
+        kind: controlled_kind(variables, &card.control, card.kind),
     }
 }
 
@@ -68,13 +99,15 @@ fn add_switch(filling: &mut Filling, card: &SwitchCard) -> Result<(), Refused>
     requires card { HasSwitchNumbers card.now }
     requires room { length filling.old.draft.parts.switches < 500 }
     requires asked { count_asked filling.old.asked + switch_channel_count card.now.asked ≤ 64 }
+    requires control { IsKnown filling.old.variables.keys card.now.control }
     requires ends { AreEnds (length filling.old.draft.parts.nodes) (node_number filling.old.nodes.keys card.now.from) (node_number filling.old.nodes.keys card.now.to) }
     ensures ok { OnOk result (made_of filling.new ≡ with_switch (made_of filling.old) card.now) }
     ensures err { IfErr result IsWant }
     ensures filling { OnOk result (IsFilling filling.new) }
 {
     let at = filling.draft.parts.switches.len() as u32;
-    filling.draft.add_switch(switch_at(&filling.nodes, card))?;
+    let switch = switch_at(&filling.nodes, &filling.variables, card);
+    filling.draft.add_switch(switch)?;
     ask(
         &mut filling.asked.switches,
         card.asked,

@@ -2,11 +2,13 @@
 
 ghost use Rattle.std.specs.Prelude.{◌≡◌, ◌≤◌, length, Ok, Err, IfOk, IfErr, true};
 ghost use Rattle.emtp_deck.specs.Answer.{Answers, IfBad, Leaves};
+ghost use Rattle.emtp_deck.specs.LineRead.{order_fault};
 ghost use Rattle.emtp_deck.specs.Sound.{IsHead, IsSound};
-ghost use Rattle.emtp_deck.specs.Walk.{advance, after_place, begin_fault, begin_place, empty_deck, first_step, order_fault, second_step, step, times_step, tolerance_step, walk};
+ghost use Rattle.emtp_deck.specs.Walk.{advance, after_place, begin_fault, begin_place, empty_deck, first_step, second_step, step, times_step, tolerance_step, walk};
 ghost use Rattle.emtp_deck.specs.WalkPlaces.{IsBeginning, IsEnding};
 
 use crate::branch_steps::{branch_step, point_step, start_step, third_step, waiting_step};
+use crate::control_steps::control_step;
 use crate::deck::{Deck, Place};
 use crate::section_steps::{output_step, source_step, switch_step};
 use emtp_card::{Bad, Cards, Fault, Line, MAX_BYTES, Refused, Why, comment, ends_section, judge};
@@ -22,7 +24,7 @@ pub(crate) fn walk(alloc: Global, cards: &Cards<'_>) -> Result<(Deck, Place), Re
     let mut deck = Deck::new(alloc);
     let mut place = Place::Begin;
     for at in 0..cards.len() {
-        match advance(&mut deck, place, &cards.line(at)) {
+        match advance(alloc, &mut deck, place, &cards.line(at)) {
             Ok(next) => place = next,
             Err(refused) => return Err(refused),
         }
@@ -31,7 +33,7 @@ pub(crate) fn walk(alloc: Global, cards: &Cards<'_>) -> Result<(Deck, Place), Re
 }
 
 /// Takes the next line; comments are skipped.
-fn advance(deck: &mut Deck, place: Place, line: &Line<'_>) -> Result<Place, Refused>
+fn advance(alloc: Global, deck: &mut Deck, place: Place, line: &Line<'_>) -> Result<Place, Refused>
     requires short { length line.now.bytes.now ≤ MAX_BYTES }
     requires sound { IsSound deck.old place }
     ensures value { Leaves result (advance deck.old place line.now.number line.now.bytes.now) deck.new }
@@ -40,12 +42,12 @@ fn advance(deck: &mut Deck, place: Place, line: &Line<'_>) -> Result<Place, Refu
     if comment(line.bytes) {
         Ok(place)
     } else {
-        step(deck, place, line)
+        step(alloc, deck, place, line)
     }
 }
 
 /// Takes one line that is no comment.
-fn step(deck: &mut Deck, place: Place, line: &Line<'_>) -> Result<Place, Refused>
+fn step(alloc: Global, deck: &mut Deck, place: Place, line: &Line<'_>) -> Result<Place, Refused>
     requires short { length line.now.bytes.now ≤ MAX_BYTES }
     requires sound { IsSound deck.old place }
     ensures value { Leaves result (step deck.old place line.now.number line.now.bytes.now) deck.new }
@@ -56,6 +58,7 @@ fn step(deck: &mut Deck, place: Place, line: &Line<'_>) -> Result<Place, Refused
         Place::First(seen) => first_step(deck, line, seen),
         Place::Second => second_step(deck, line),
         Place::Start => start_step(deck, line),
+        Place::Control(at) => control_step(alloc, deck, line, &at),
         Place::Branches(wide) => branch_step(deck, line, wide),
         Place::Points(group) => point_step(deck, line, &group),
         Place::Waiting { card, wide } => waiting_step(deck, line, &card, wide),

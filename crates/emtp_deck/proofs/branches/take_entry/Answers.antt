@@ -31,7 +31,7 @@ add_nodes-requires-clause-names c =
 
 pub add_entry-requires-clause-filling : goal.add_entry-requires-clause-filling
 add_entry-requires-clause-filling c =
-    with_more_nodes c.args.filling.now _ c.requires.filling c.in_ok-add_nodes.ensures.ok refl refl
+    with_more_nodes c.args.filling.now _ c.requires.filling c.in_ok-add_nodes.ensures.ok refl refl refl
     (rw (c.in_ok-add_entry_names.ensures.ok, c.requires.filling.nodes)
     (takable (made_of c.args.filling.now) c.args.filling.now.draft.parts.run c.args.points.now c.args.entry.now c.requires.entry c.args.filling.now.draft.fits.counts.nodes c.args.filling.now.draft.fits.network.names
     (sym (rw (c.in_ok-add_entry_names.ensures.ok, c.requires.filling.nodes) at c.in_default.ensures))).continues.longer)

@@ -7,6 +7,7 @@ returns-in_ok-push-in-Ok-clause-sound c =
     let whole = c.requires.whole in
     record {
       run = whole.run;
+      control = whole.control;
       branches = whole.branches;
       switches = whole.switches;
       sources = rw c.in_ok-push-in-Ok.ensures.ok (pushed HasSourceCardNumbers c.args.deck.now.sources _ whole.sources c.in-Ok.ensures.numbers);

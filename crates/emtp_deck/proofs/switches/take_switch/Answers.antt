@@ -18,7 +18,7 @@ add_nodes-requires-clause-names c =
 pub add_switch-requires-clause-filling : goal.add_switch-requires-clause-filling
 add_switch-requires-clause-filling c =
     let is = ready c.args.filling.now c.add_ends.new.names.keys c.args.card.now c.requires.filling c.requires.card c.in_ok-add_ends.ensures.ok (sym c.switch_fault.ensures ∙ c.in_default.is) in
-    with_more_nodes c.args.filling.now _ c.requires.filling c.in_ok-add_nodes.ensures.ok refl refl is.continues.longer
+    with_more_nodes c.args.filling.now _ c.requires.filling c.in_ok-add_nodes.ensures.ok refl refl refl is.continues.longer
 
 pub add_switch-requires-clause-room : goal.add_switch-requires-clause-room
 add_switch-requires-clause-room c =
@@ -33,3 +33,7 @@ pub add_switch-requires-clause-ends : goal.add_switch-requires-clause-ends
 add_switch-requires-clause-ends c =
     let is = ready c.args.filling.now c.add_ends.new.names.keys c.args.card.now c.requires.filling c.requires.card c.in_ok-add_ends.ensures.ok (sym c.switch_fault.ensures ∙ c.in_default.is) in
     rw c.in_ok-add_nodes.ensures.ok is.ends
+
+pub add_switch-requires-clause-control : goal.add_switch-requires-clause-control
+add_switch-requires-clause-control c =
+    (ready c.args.filling.now c.add_ends.new.names.keys c.args.card.now c.requires.filling c.requires.card c.in_ok-add_ends.ensures.ok (sym c.switch_fault.ensures ∙ c.in_default.is)).control

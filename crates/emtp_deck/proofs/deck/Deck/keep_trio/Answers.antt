@@ -8,6 +8,7 @@ returns-clause-whole c =
     let deck = c.args.self.now in
     record {
       run = whole.run;
+      control = whole.control;
       branches = rw c.in_ok-push.ensures.ok (pushed (IsEntry deck.run deck.points) deck.branches _ whole.branches (c.requires.trio, c.requires.third));
       switches = whole.switches;
       sources = whole.sources;

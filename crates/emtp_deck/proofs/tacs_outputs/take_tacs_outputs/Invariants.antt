@@ -1,0 +1,10 @@
+use Rattle.std.proofs.Common.{◌≡◌, drop}
+use Rattle.emtp_deck.specs.Filling.{IsFilling, made_of}
+use Rattle.emtp_deck.specs.TacsOutputs.{take_tacs_outputs}
+use Rattle.emtp_deck.proofs.tacs_outputs.take_tacs_outputs.Given as goal
+
+abbrev pub invariant-loop-entry : goal.invariant-loop-entry
+invariant-loop-entry l = record {
+  same : take_tacs_outputs (made_of l.initial.filling) l.entries ≡ take_tacs_outputs (made_of l.filling) (drop l.entry-index l.entries);
+  filling : IsFilling l.filling;
+}

@@ -1,0 +1,11 @@
+use Rattle.std.proofs.Common.{◌≡◌, ◌+◌, ◌*◌, drop}
+use Rattle.emtp_deck.specs.Filling.{IsFilling, made_of}
+use Rattle.emtp_deck.specs.TacsOutputs.{take_variables}
+use Rattle.emtp_deck.proofs.tacs_outputs.take_variables.Given as goal
+
+abbrev pub invariant-loop-name : goal.invariant-loop-name
+invariant-loop-name l = record {
+  same : take_variables l.line (made_of l.initial.filling) 3 l.names ≡ take_variables l.line (made_of l.filling) l.column (drop l.name-index l.names);
+  column : l.column ≡ 3 + 6 * l.name-index;
+  filling : IsFilling l.filling;
+}
