@@ -1,5 +1,5 @@
 -- The coefficients of a block: sums, quotients, and what a block keeps.
-use Rattle.std.proofs.Common.{◌≡◌, ◌∙◌, sym, ap, subst, refl, ℕ, zero, suc, ◌+◌, ◌*◌, ◌^◌, ◌<◌, ◌≤◌, ℤ, pos, ◌+ℤ◌, ◌*ℤ◌, unsigned_abs, Bool, true, false, List, [], ◌∷◌, length, get_or, Option, Some, None, Result, Ok, Err, All, inl, inr, add-one, arith}
+use Rattle.std.proofs.Common.{◌≡◌, ◌∙◌, sym, ap, subst, refl, ℕ, zero, suc, ◌+◌, ◌*◌, ◌^◌, ◌<◌, ◌≤◌, ℤ, pos, ◌+ℤ◌, ◌*ℤ◌, unsigned_abs, Bool, true, false, List, Option, Some, None, Result, Ok, Err, All, inl, inr, add-one, arith}
 use Rattle.std.proofs.lemmas.Bool.{cases_lt}
 use Rattle.std.proofs.lemmas.Bool.Decides.{nat_tests}
 use Rattle.std.proofs.lemmas.Int.{ints}
@@ -187,6 +187,7 @@ polynomial_kept number line order dt few e small = by_judge (judge_due number li
   where
     none : AreNone (map (λ power. fault_at (10 * power + 1) (taken_field line order dt power)) powers)
     none = least_none _ (judge_due_none number line _ e)
+
     by_judge : (bad : Option Bad) → IfOk (unless_bad bad (coefficients line order)) (All IsSmall) → IfOk (unless_bad bad (coefficients line order)) (IsPolynomial dt order)
     by_judge (Some bad) h = tt
     by_judge None h = record { small = h; way = λ power l. ways dt line order h none power (omega (arith, l, few)) }

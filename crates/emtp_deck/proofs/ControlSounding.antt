@@ -1,5 +1,5 @@
 -- What the deck keeps when a card of the control is added.
-use Rattle.std.proofs.Common.{List, [], ◌∷◌, ◌++◌}
+use Rattle.std.proofs.Common.{List}
 use Rattle.emtp_deck.specs.Coefficients.{IsBlockEntry}
 use Rattle.emtp_deck.specs.ControlSteps.{keep_block, keep_extra, with_tacs_output, with_tacs_source}
 use Rattle.emtp_deck.specs.Sound.{IsExtraEntry, IsTacsSourceCard, IsWhole}

@@ -1,5 +1,5 @@
 -- The points of a table and the times of a window.
-use Rattle.std.proofs.Common.{◌≡◌, ◌≢◌, ◌∙◌, sym, ap, subst, refl, ℕ, zero, suc, ◌+◌, ◌^◌, ◌≤◌, ◌<◌, ℤ, pos, ◌≤ℤ◌, ◌<ℤ◌, unsigned_abs, Bool, true, false, List, [], ◌∷◌, ◌++◌, length, take, drop, get_or, Option, Some, None, All, inl, inr, add-one, arith, length-append, length-drop}
+use Rattle.std.proofs.Common.{◌≡◌, ◌≢◌, ◌∙◌, sym, ap, subst, refl, ℕ, zero, suc, ◌+◌, ◌≤◌, ◌<◌, ℤ, ◌≤ℤ◌, ◌<ℤ◌, true, false, List, [], ◌∷◌, ◌++◌, length, drop, get_or, Option, Some, None, All, inl, inr, add-one, arith, length-append, length-drop}
 use Rattle.std.proofs.lemmas.Bool.{cases_lt}
 use Rattle.std.proofs.lemmas.Int.{ints}
 use Rattle.std.proofs.lemmas.List.{drop_all, take_all}
@@ -15,7 +15,7 @@ use Rattle.emtp_deck.specs.ControlSteps.{device_scale, points_follow}
 use Rattle.emtp_deck.specs.Sound.{AreInTurn, IsDeviceDue, IsDeviceEntry, IsDeviceGroup, before_at}
 use Rattle.emtp_deck.specs.declared.control_cards.DeviceGroup.{DeviceGroup}
 use Rattle.emtp_deck.specs.declared.deck.Deck.{Deck}
-use Rattle.emtp_netcards.specs.PointCard.{Follows, IsPointOf, fewest_of, goes_on}
+use Rattle.emtp_netcards.specs.PointCard.{Follows, IsPointOf, fewest_of}
 use Rattle.emtp_netcards.specs.declared.point_card.PointScale.{PointScale}
 use Rattle.emtp_netcards.specs.declared.point_card.PointScale.TheVariants.{Table as TableScale, Times as TimesScale}
 use Rattle.emtp_taccards.specs.declared.device_card.DeviceCard.{DeviceCard}
@@ -136,6 +136,7 @@ fit_of dt code ps follow some few range turn = record {
   where
     table_by : code ≡ Table → IsTable ps
     table_by is = table_of dt ps (subst (λ c. fewest_of (device_scale c) ≤ length ps) is some) few (subst (λ c. All (IsPointOf (device_scale c)) ps) is range) (subst (λ c. AreInTurn (device_scale c) dt ps) is turn)
+
     times_by : code ≡ Window → AreTimes ps
     times_by is = times_of dt ps (subst (λ c. fewest_of (device_scale c) ≤ length ps) is some) few (subst (λ c. All (IsPointOf (device_scale c)) ps) is range) (subst (λ c. AreInTurn (device_scale c) dt ps) is turn)
 

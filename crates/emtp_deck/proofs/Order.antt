@@ -437,6 +437,7 @@ taken_block deck card number h = by_test (card.order == 0)
   where
     zeros : BlockEntry
     zeros = record { card = card; top = replicate 8 (pos 0); bottom = replicate 8 (pos 0) }
+
     by_test : (t : Bool) → Orders number (if◌then◌else◌ {A = Deck × Place} t (keep_block deck zeros) (deck, Control (Numerator card)))
     by_test true = put_block deck zeros number h
     by_test false = h
@@ -510,6 +511,7 @@ taken_device deck card number h = by_test (points_follow card.code)
   where
     group : DeviceGroup
     group = record { card = card; first = length deck.points; count = 0; before = None }
+
     by_test : (t : Bool) → Orders number (if◌then◌else◌ {A = Deck × Place} t (deck, Control (DevicePoints group)) (keep_extra deck (DeviceEntry card 0 0)))
     by_test true = h
     by_test false = put_extra deck (DeviceEntry card 0 0) number h

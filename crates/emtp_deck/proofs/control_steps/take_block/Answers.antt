@@ -1,4 +1,4 @@
-use Rattle.std.proofs.Common.{◌≡◌, ℤ, pos, List, All, replicate, arith}
+use Rattle.std.proofs.Common.{pos, All, replicate, arith}
 use Rattle.std.proofs.lemmas.List.Elements.{All-replicate}
 use Rattle.emtp_netcards.specs.Fields.{IsSmall}
 use Rattle.emtp_deck.proofs.ControlCoefficients.{plain_block}
