@@ -96,7 +96,6 @@ block_fine variables at card e =
       };
     }
 
-
 pub record AreFineBlocks (variables : List (List ℕ)) (at : ℕ) (es : List BlockEntry) : Type 0 where
   pub few : at + length es ≤ 200
   pub above : AreAbove (λ (e : BlockEntry). e.card.name) variables (6 + at) es

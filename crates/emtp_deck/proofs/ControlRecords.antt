@@ -5,7 +5,6 @@ use Rattle.std.proofs.lemmas.Int.{ints}
 use Rattle.std.proofs.lemmas.List.Elements.{All-cons, All-nil}
 use Rattle.std.specs.List.{position_or_len}
 use Rattle.std.specs.Option.{ForSome}
-
 use Rattle.std.specs.Prelude.{All, IsSome, int_lt, is_some, map, option_map, position}
 use Rattle.std.specs.Str.{bytes_eq}
 use Rattle.emtp_case.specs.Control.{AreBounds, IsBlock, IsBound, IsDeviceCard, IsFormula}

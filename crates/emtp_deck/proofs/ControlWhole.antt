@@ -4,7 +4,6 @@ use Rattle.std.proofs.lemmas.List.{map-append}
 use Rattle.std.proofs.lemmas.List.Elements.{All-cons, All-nil}
 use Rattle.std.specs.List.{range_with_len}
 use Rattle.std.specs.Prelude.{All, IfSome, map}
-use Rattle.emtp_card.specs.Name.{named}
 use Rattle.emtp_card.specs.declared.reason.Bad.{Bad}
 use Rattle.emtp_case.specs.Case.{standing_names}
 use Rattle.emtp_case.specs.Control.{var_of}
@@ -238,9 +237,9 @@ control_sensible nodes deck place sound whole e =
       standing = n.continues;
       few = few;
       names = λ standing. n.names standing
-      (each_two (λ x. IfSome x IsName) bs (ss ++ (xs ++ pending_at place)) (each_of block_name IsName cards.blocks (λ k d lt. (whole.control.blocks k d lt).card.name))
-      (each_two (λ x. IfSome x IsName) ss (xs ++ pending_at place) (each_of source_name IsName cards.sources (λ k d lt. (whole.control.sources k d lt).name))
-      (each_two (λ x. IfSome x IsName) xs (pending_at place) (each_of extra_name IsName cards.extras (extra_names deck.points cards.extras whole.control.extras)) (pending_names deck place sound))));
+          (each_two (λ x. IfSome x IsName) bs (ss ++ (xs ++ pending_at place)) (each_of block_name IsName cards.blocks (λ k d lt. (whole.control.blocks k d lt).card.name))
+          (each_two (λ x. IfSome x IsName) ss (xs ++ pending_at place) (each_of source_name IsName cards.sources (λ k d lt. (whole.control.sources k d lt).name))
+          (each_two (λ x. IfSome x IsName) xs (pending_at place) (each_of extra_name IsName cards.extras (extra_names deck.points cards.extras whole.control.extras)) (pending_names deck place sound))));
       few_blocks = omega (arith, f.blocks.few);
       blocks = sensible_blocks variables 6 cards.blocks (omega arith) f.blocks.above (each_front P bs (ss ++ (xs ++ pending_at place)) n.known) f.blocks.names;
       few_extras = omega (arith, f.extras.few);

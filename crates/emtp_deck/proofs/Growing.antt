@@ -3,7 +3,6 @@ use Rattle.emtp_case.specs.declared.branch.Trio as modes
 use Rattle.std.proofs.Common.{◌≡◌, ◌∙◌, sym, ap, refl, ℕ, ◌+◌, ◌<◌, ◌≤◌, Bool, true, false, List, [], ◌∷◌, ◌++◌, length, None, Ok, arith, length-append, length-take, length-drop}
 use Rattle.std.proofs.lemmas.List.Elements.{All-append}
 use Rattle.std.specs.Prelude.{All, drop, take, ◌==◌, if◌then◌else◌}
-use Rattle.emtp_case.proofs.Growth.{grown}
 use Rattle.emtp_case.specs.Branch.{points_of}
 use Rattle.emtp_case.specs.Channel.{IsChannel}
 use Rattle.emtp_case.specs.HistoryValues.{history_values_of}
@@ -29,7 +28,6 @@ use Rattle.emtp_deck.specs.declared.copies.ValuesFrom.TheVariants.{Card as OwnVa
 use Rattle.emtp_deck.specs.declared.deck.BranchEntry.{BranchEntry}
 use Rattle.emtp_deck.specs.declared.deck.BranchEntry.TheVariants.{Single, Trio}
 use Rattle.emtp_deck.specs.declared.filling.Filling.{Filling}
-use Rattle.emtp_expr.specs.Grammar.{group}
 use Rattle.emtp_netcards.specs.BranchCard.{kind_of_values}
 use Rattle.emtp_netcards.specs.declared.branch_card.BranchCard.{BranchCard}
 use Rattle.emtp_netcards.specs.declared.branch_card.BranchValues.{BranchValues}

@@ -6,7 +6,6 @@ use Rattle.emtp_card.proofs.Faults.{least_none}
 use Rattle.emtp_card.specs.declared.fault.Fault.{Fault}
 use Rattle.emtp_card.specs.declared.reason.Why.TheVariants.{TwoSources}
 use Rattle.emtp_case.specs.declared.case.Parts.{Parts}
-use Rattle.emtp_case.specs.declared.source.Source.{Source}
 use Rattle.emtp_deck.specs.Channels.{switch_channel_count}
 use Rattle.emtp_deck.specs.Made.{Made, count_asked, no_room, too_many}
 use Rattle.emtp_deck.specs.Names.{node_number}

@@ -2,7 +2,7 @@
 use Rattle.std.proofs.Common.{◌≡◌, refl, ℕ, zero, suc, ◌+◌, ◌==◌, ◌<◌, ◌≤◌, Bool, true, false, List, [], ◌∷◌, ◌++◌, length, arith, length-append, ◌∙◌}
 use Rattle.std.proofs.lemmas.List.Elements.{All-append, All-cons, All-nil, All-weaker}
 use Rattle.std.specs.Prelude.{All, OnOk, Ok, Err, Result, if◌then◌else◌}
-use Rattle.emtp_case.proofs.Growth.{IsChannel-grows, grown}
+use Rattle.emtp_case.proofs.Growth.{IsChannel-grows}
 use Rattle.emtp_case.specs.Channel.{IsChannel}
 use Rattle.emtp_case.specs.Sizes.{Grows, Sizes, sizes_of}
 use Rattle.emtp_case.specs.declared.channel.Channel.{Channel}

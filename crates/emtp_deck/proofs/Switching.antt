@@ -14,7 +14,6 @@ use Rattle.emtp_deck.specs.Names.{node_number, with_switch_names}
 use Rattle.emtp_deck.specs.Naming.{Continues}
 use Rattle.emtp_deck.specs.Switches.{switch_fault}
 use Rattle.emtp_deck.specs.declared.filling.Filling.{Filling}
-use Rattle.emtp_fix.proofs.Wide.{fits}
 use Rattle.emtp_netcards.specs.SwitchCard.{HasSwitchNumbers}
 use Rattle.emtp_netcards.specs.declared.switch_card.SwitchCard.{SwitchCard}
 

@@ -16,7 +16,7 @@ use Rattle.emtp_deck.specs.Deck.{case_of, filled, made_of_deck, unfinished}
 use Rattle.emtp_deck.specs.Filling.{Fills}
 use Rattle.emtp_deck.specs.Made.{Made, count_asked}
 use Rattle.emtp_deck.specs.Names.{known_nodes, node_names}
-use Rattle.emtp_deck.specs.Samples.{deck_count, has_too_many, pending_count}
+use Rattle.emtp_deck.specs.Samples.{deck_count, has_too_many}
 use Rattle.emtp_deck.specs.Sound.{IsControlSound, IsSound, IsWhole}
 use Rattle.emtp_deck.specs.Variables.{variable_names}
 use Rattle.emtp_deck.specs.declared.control_cards.ControlPlace.{ControlPlace}

@@ -16,7 +16,6 @@ use Rattle.emtp_fix.specs.Rounding.{near}
 use Rattle.emtp_netcards.specs.Fields.{IsSmall}
 use Rattle.emtp_netcards.specs.SourceCard.{unless_judged}
 use Rattle.emtp_taccards.specs.BlockCard.{HasBlockNumbers, HasLimitsInOrder}
-use Rattle.emtp_taccards.specs.Inputs.{inputs}
 use Rattle.emtp_taccards.specs.PolynomialCard.{coefficient_field, polynomial_card, powers}
 use Rattle.emtp_taccards.specs.declared.block_card.BlockCard.{BlockCard}
 

@@ -21,8 +21,6 @@ use Rattle.emtp_deck.specs.declared.control_cards.BlockEntry.{BlockEntry}
 use Rattle.emtp_deck.specs.declared.control_cards.ExtraEntry.{ExtraEntry}
 use Rattle.emtp_deck.specs.declared.control_cards.ExtraEntry.TheVariants.{Device as DeviceEntry, Formula as FormulaEntry}
 use Rattle.emtp_deck.specs.declared.deck.Deck.{Deck}
-use Rattle.emtp_expr.specs.Reading.{start}
-use Rattle.emtp_netcards.specs.OutputCard.{names}
 use Rattle.emtp_netcards.specs.declared.source_card.SourceCard.{SourceCard}
 use Rattle.emtp_netcards.specs.declared.switch_card.SwitchCard.{SwitchCard}
 use Rattle.emtp_taccards.specs.Inputs.{inputs}

@@ -10,7 +10,7 @@ use Rattle.emtp_deck.specs.Answer.{first_bad, go_on}
 use Rattle.emtp_deck.specs.Branches.{pending_fault, take_branches}
 use Rattle.emtp_deck.specs.ControlFilling.{control_parts, tacs_source_of}
 use Rattle.emtp_deck.specs.ControlSense.{control_bad}
-use Rattle.emtp_deck.specs.Made.{Made, all_asked, empty_made, none_asked}
+use Rattle.emtp_deck.specs.Made.{Made, all_asked, none_asked}
 use Rattle.emtp_deck.specs.Names.{known_nodes}
 use Rattle.emtp_deck.specs.Outputs.{take_outputs}
 use Rattle.emtp_deck.specs.Samples.{has_too_many, samples_bad}

@@ -1,9 +1,3 @@
-use Rattle.emtp_deck.specs.Made.{Made}
-use Rattle.emtp_deck.specs.declared.control_cards.ControlPlace.TheVariants.{TacsOutputs}
-use Rattle.emtp_deck.specs.declared.deck.Deck.{Deck}
-use Rattle.emtp_deck.specs.declared.deck.Place.TheVariants.{Branches, Outputs, Sources, Switches}
-use Rattle.emtp_deck.specs.declared.filling.Filling.{Filling}
-use Rattle.emtp_netcards.specs.declared.output_card.OutputCard.TheVariants.{Names}
 pub mod Answer
 pub mod LineRead
 pub mod Coefficients

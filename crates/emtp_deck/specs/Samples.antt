@@ -7,7 +7,6 @@ use Rattle.emtp_card.specs.declared.reason.Why.TheVariants.{TooManySamples}
 use Rattle.emtp_case.specs.RunData.{samples_of}
 use Rattle.emtp_deck.specs.Branches.{entry_count}
 use Rattle.emtp_deck.specs.Channels.{channel_count, switch_channel_count}
-use Rattle.emtp_deck.specs.Names.{node_names}
 use Rattle.emtp_deck.specs.declared.control_cards.TacsOutputEntry.{TacsOutputEntry}
 use Rattle.emtp_deck.specs.declared.deck.Deck.{Deck}
 use Rattle.emtp_deck.specs.declared.deck.OutputEntry.{OutputEntry}

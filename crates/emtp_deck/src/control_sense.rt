@@ -347,7 +347,12 @@ fn card_history_values(alloc: Global, dt: i64, card: &DeviceCard) -> u64
     plain_device(alloc, card).history_values(dt)
 }
 
-pub(crate) fn entry_history_values(alloc: Global, dt: i64, points: &[Point], entry: &ExtraEntry) -> u64
+pub(crate) fn entry_history_values(
+    alloc: Global,
+    dt: i64,
+    points: &[Point],
+    entry: &ExtraEntry,
+) -> u64
     requires dt { IsBetween 1000 (10 ^ 12) dt }
     requires entry { IsExtraEntry points.now entry.now }
     ensures value { result ≡ entry_history_values dt entry.now }
@@ -471,7 +476,14 @@ pub(crate) fn control_bad(
         deck.points.as_slice(),
         cards.extras.as_slice(),
     ) {
-        Ok(history) => pending_control_bad(alloc, &names.variables, deck, place, first_extra, history),
+        Ok(history) => pending_control_bad(
+            alloc,
+            &names.variables,
+            deck,
+            place,
+            first_extra,
+            history,
+        ),
         Err(bad) => Some(bad),
     }
 }

@@ -1,5 +1,4 @@
 use Rattle.std.proofs.Common.{◌≡◌, ap, length, subst, sym}
-use Rattle.emtp_case.specs.Control.{IsBlock}
 use Rattle.emtp_case.specs.Sizes.{sizes_of}
 use Rattle.emtp_deck.specs.Coefficients.{IsBlockEntry}
 use Rattle.emtp_deck.specs.ControlSensible.{IsSensibleBlock}

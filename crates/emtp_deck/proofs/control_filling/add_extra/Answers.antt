@@ -1,4 +1,4 @@
-use Rattle.std.proofs.Common.{◌≡◌, ◌+◌, ◌-◌, ap, arith, drop, length, subst, sym, take, ℕ}
+use Rattle.std.proofs.Common.{◌≡◌, ◌+◌, ◌-◌, ap, arith, drop, length, subst, take, ℕ}
 use Rattle.emtp_case.specs.Control.{HasDevicePoints}
 use Rattle.emtp_case.specs.Sizes.{sizes_of}
 use Rattle.emtp_deck.proofs.ControlRecords.{device_fits, formula_fits}

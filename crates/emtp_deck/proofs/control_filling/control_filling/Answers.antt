@@ -1,4 +1,4 @@
-use Rattle.std.proofs.Common.{◌≡◌, ◌∙◌, ◌+◌, ap, arith, rules, subst, sym}
+use Rattle.std.proofs.Common.{◌≡◌, ◌∙◌, ap, rules, subst, sym}
 use Rattle.std.specs.Prelude.{All}
 use Rattle.emtp_case.specs.Case.{standing_names}
 use Rattle.emtp_case.specs.HistoryValues.{history_values_of}

@@ -1,4 +1,4 @@
-use Rattle.std.proofs.Common.{◌≡◌, ◌+◌, ◌≤◌, arith, sym, ◌∙◌}
+use Rattle.std.proofs.Common.{arith, sym, ◌∙◌}
 use Rattle.emtp_deck.proofs.ControlJudging.{block_fine, blocks_next}
 use Rattle.emtp_deck.proofs.control_sense.blocks_bad.Goals as goal
 

@@ -1,5 +1,5 @@
 use mir.Syntax.{w64}
-use Rattle.std.proofs.Common.{◌≡◌, ◌+◌, ◌≤◌, arith, sym, to_z, of_z, ◌∙◌}
+use Rattle.std.proofs.Common.{arith, sym, to_z, of_z, ◌∙◌}
 use Rattle.emtp_deck.specs.ControlSense.{first_extra, first_source}
 use Rattle.emtp_deck.proofs.ControlJudging.{blocks_fine, extras_fine, sources_fine}
 use Rattle.emtp_deck.proofs.control_sense.control_bad.Goals as goal

@@ -1,5 +1,5 @@
 use mir.Syntax.{w64}
-use Rattle.std.proofs.Common.{◌≡◌, ◌+◌, ◌≤◌, arith, sym, ap, ◌∙◌, to_z, of_z}
+use Rattle.std.proofs.Common.{◌+◌, arith, sym, ap, ◌∙◌, to_z, of_z}
 use Rattle.emtp_deck.specs.ControlSense.{extra_bad}
 use Rattle.emtp_deck.proofs.ControlJudging.{extra_fine, extras_next}
 use Rattle.emtp_deck.proofs.control_sense.judge_extras.Goals as goal

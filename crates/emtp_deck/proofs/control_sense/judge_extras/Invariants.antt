@@ -1,4 +1,4 @@
-use Rattle.std.proofs.Common.{◌≡◌, ◌+◌, ◌≤◌, drop}
+use Rattle.std.proofs.Common.{◌≡◌, ◌≤◌, drop}
 use Rattle.emtp_deck.specs.ControlSense.{judge_extras}
 use Rattle.emtp_deck.proofs.control_sense.judge_extras.Given as goal
 

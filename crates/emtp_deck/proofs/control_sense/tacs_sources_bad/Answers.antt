@@ -1,4 +1,4 @@
-use Rattle.std.proofs.Common.{◌≡◌, ◌+◌, ◌≤◌, arith, sym, ◌∙◌}
+use Rattle.std.proofs.Common.{◌+◌, arith, sym, ◌∙◌}
 use Rattle.emtp_deck.proofs.ControlJudging.{source_fine, sources_next}
 use Rattle.emtp_deck.proofs.control_sense.tacs_sources_bad.Goals as goal
 

@@ -1,4 +1,4 @@
-use Rattle.std.proofs.Common.{◌≡◌, ◌+◌, ◌≤◌, drop}
+use Rattle.std.proofs.Common.{◌≡◌, ◌≤◌, drop}
 use Rattle.emtp_deck.specs.ControlSense.{tacs_sources_bad}
 use Rattle.emtp_deck.proofs.control_sense.tacs_sources_bad.Given as goal
 

@@ -1,5 +1,4 @@
-use Rattle.std.proofs.Common.{◌≡◌, ◌∙◌, ap, sym}
-use Rattle.emtp_deck.specs.Deck.{control_made}
+use Rattle.std.proofs.Common.{◌∙◌, ap}
 use Rattle.emtp_deck.specs.Filling.{made_of}
 use Rattle.emtp_deck.specs.Made.{Made}
 use Rattle.emtp_deck.proofs.Asking.{control_is, tacs_outputs_ask}

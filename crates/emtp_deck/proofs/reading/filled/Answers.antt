@@ -1,7 +1,7 @@
-use Rattle.std.proofs.Common.{◌≡◌, ◌∙◌, Ok, ap, sym}
+use Rattle.std.proofs.Common.{◌∙◌, Ok, ap, sym}
 use Rattle.emtp_deck.specs.Filling.{made_of}
 use Rattle.emtp_deck.proofs.ControlWhole.{control_sensible, control_whole_is}
-use Rattle.emtp_deck.proofs.WholeDeck.{completed, cut_off, of_control, on_if_ok, stopped, stored_within, whole_of}
+use Rattle.emtp_deck.proofs.WholeDeck.{completed, cut_off, on_if_ok, stopped, stored_within, whole_of}
 use Rattle.emtp_deck.proofs.reading.filled.Goals as goal
 
 pub control_filling-requires-clause-whole : goal.control_filling-requires-clause-whole

@@ -1,4 +1,3 @@
-use Rattle.std.proofs.Common.{◌≡◌, ◌∙◌, sym}
 use Rattle.emtp_deck.proofs.reading.finish.Goals as goal
 
 pub finish-requires : goal.finish-requires

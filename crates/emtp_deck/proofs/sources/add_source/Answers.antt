@@ -1,7 +1,7 @@
-use Rattle.std.proofs.Common.{ap, length, sym, ◌∙◌}
+use Rattle.std.proofs.Common.{ap, length}
 use Rattle.emtp_case.specs.Sizes.{sizes_of}
 use Rattle.emtp_deck.proofs.Driving.{driven_source}
-use Rattle.emtp_deck.proofs.Keeping.{on_ok, with_more_sources}
+use Rattle.emtp_deck.proofs.Keeping.{with_more_sources}
 use Rattle.emtp_deck.specs.Sources.{source_at}
 use Rattle.emtp_deck.proofs.sources.add_source.Goals as goal
 

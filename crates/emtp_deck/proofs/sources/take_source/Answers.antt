@@ -1,7 +1,5 @@
 use Rattle.std.proofs.Common.{◌∙◌, sym}
 use Rattle.emtp_deck.proofs.Judging.{sensible_source}
-use Rattle.emtp_deck.proofs.Keeping.{on_ok, with_more_sources}
-use Rattle.emtp_deck.specs.Sources.{source_at}
 use Rattle.emtp_deck.proofs.sources.take_source.Goals as goal
 
 pub add_source-requires-clause-room : goal.add_source-requires-clause-room
