@@ -18,7 +18,7 @@ use Rattle.emtp_deck.specs.declared.control_cards.ControlPlace.TheVariants.{Bloc
 use Rattle.emtp_netcards.specs.OutputCard.{output_card}
 use Rattle.emtp_netcards.specs.PointCard.{next_point}
 use Rattle.emtp_netcards.specs.RunCards.{first_card, second_card, tolerance_card}
-use Rattle.emtp_netcards.specs.VintageCard.{vintage_card}
+use Rattle.emtp_netcards.specs.VintageCard.{is_vintage, vintage_card}
 use Rattle.emtp_deck.specs.Walk.{scale_of, advance, after_place, begin_fault, begin_place, branch_step, card_step, empty_deck, first_step, is_phase, is_second, output_step, point_step, second_step, source_step, start_step, step, switch_step, point_or_end, take_branch, take_pseudo, take_third, take_values, third_by, third_step, times_step, tolerance_step, vintage_or, waiting_step, walk, with_card}
 use Rattle.emtp_deck.specs.declared.deck.BranchEntry.{BranchEntry}
 use Rattle.emtp_deck.specs.declared.deck.BranchEntry.TheVariants.{Single, Trio}
@@ -232,7 +232,10 @@ kind_order deck number line zero' positive wide (Ok SecondKind) h = unless_ok (O
 kind_order deck number line zero' positive wide (Ok ThirdKind) h = taken_third deck number line zero' positive wide h
 kind_order deck number line zero' positive wide (Ok ReactorKind) h = unless_ok (Orders (number + 1)) (order_fault number line) (deck, Branches wide) (dropped deck (zero'.line ∷ positive.line ∷ []) number h)
 kind_order deck number line zero' positive wide (Ok ResistorKind) h = unless_ok (Orders (number + 1)) (order_fault number line) (deck, Branches wide) (dropped deck (zero'.line ∷ positive.line ∷ []) number h)
-kind_order deck number line zero' positive wide (Err why) h = taken_third deck number line zero' positive wide h
+kind_order deck number line zero' positive wide (Err why) h =
+    let misplaced : Read = unless_bad (order_fault number line) (deck, Branches wide) in
+    if_ok (Orders (number + 1)) (is_vintage line) misplaced (take_third deck number line zero' positive wide)
+    (unless_ok (Orders (number + 1)) (order_fault number line) (deck, Branches wide) (dropped deck (zero'.line ∷ positive.line ∷ []) number h)) (taken_third deck number line zero' positive wide h)
 
 third_order : (deck : Deck) (number : ℕ) (line : List ℕ) (zero' positive : BranchCard) (wide : Bool) → IsAmongBranches deck (zero'.line ∷ positive.line ∷ []) number → IfOk (third_step deck number line zero' positive wide) (Orders (number + 1))
 unfolding third_step

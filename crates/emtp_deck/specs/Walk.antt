@@ -24,7 +24,7 @@ use Rattle.emtp_netcards.specs.PointCard.{next_point}
 use Rattle.emtp_netcards.specs.RunCards.{first_card, second_card, tolerance_card}
 use Rattle.emtp_netcards.specs.SourceCard.{source_card}
 use Rattle.emtp_netcards.specs.SwitchCard.{switch_card}
-use Rattle.emtp_netcards.specs.VintageCard.{vintage_card}
+use Rattle.emtp_netcards.specs.VintageCard.{is_vintage, vintage_card}
 use Rattle.emtp_netcards.specs.declared.branch_card.BranchCard.{BranchCard}
 use Rattle.emtp_netcards.specs.declared.branch_card.BranchKind.{BranchKind}
 use Rattle.emtp_netcards.specs.declared.branch_card.BranchKind.TheVariants.{Line as LineKind, Reactor as ReactorKind, Resistor as ResistorKind, Second as SecondKind, Series as SeriesKind, Third as ThirdKind}
@@ -154,7 +154,7 @@ abbrev pub take_third : Deck → ℕ → List ℕ → BranchCard → BranchCard 
 take_third deck number line zero' positive wide =
     go_on (λ (third : BranchCard). Ok (with_trio deck zero' positive third, Branches wide)) (branch_card number line deck.run.dt wide)
 
--- the card after a card -2: its third phase alone; a type that isn't known is refused as such
+-- the card after a card -2: its third phase alone; a type that isn't known is refused as such, but a vintage card has none
 abbrev pub third_by : Deck → ℕ → List ℕ → BranchCard → BranchCard → Bool → Result BranchKind Why → Read
 third_by deck number line zero' positive wide (Ok SeriesKind) = unless_bad (order_fault number line) (deck, Branches wide)
 third_by deck number line zero' positive wide (Ok LineKind) = unless_bad (order_fault number line) (deck, Branches wide)
@@ -162,7 +162,8 @@ third_by deck number line zero' positive wide (Ok SecondKind) = unless_bad (orde
 third_by deck number line zero' positive wide (Ok ThirdKind) = take_third deck number line zero' positive wide
 third_by deck number line zero' positive wide (Ok ReactorKind) = unless_bad (order_fault number line) (deck, Branches wide)
 third_by deck number line zero' positive wide (Ok ResistorKind) = unless_bad (order_fault number line) (deck, Branches wide)
-third_by deck number line zero' positive wide (Err why) = take_third deck number line zero' positive wide
+third_by deck number line zero' positive wide (Err why) =
+    if is_vintage line then unless_bad (order_fault number line) (deck, Branches wide) else take_third deck number line zero' positive wide
 
 unfoldable pub third_step : Deck → ℕ → List ℕ → BranchCard → BranchCard → Bool → Read
 third_step deck number line zero' positive wide =

@@ -179,8 +179,11 @@ pub(crate) fn third_step(
         }));
     }
     match branch_kind(line.bytes) {
-        Ok(BranchKind::Third) | Err(_) => take_third(deck, line, zero, positive, wide),
-        Ok(_) => match order_fault(line) {
+        Ok(BranchKind::Third) => take_third(deck, line, zero, positive, wide),
+        Err(_) if !line.bytes.starts_with(b"$VINTAGE") => {
+            take_third(deck, line, zero, positive, wide)
+        }
+        _ => match order_fault(line) {
             Some(bad) => Err(Refused::Bad(bad)),
             None => Ok(Place::Branches(wide)),
         },
