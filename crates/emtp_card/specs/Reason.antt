@@ -1,7 +1,7 @@
 -- The reasons for which a card is refused.
 use Rattle.std.specs.Prelude.{ℕ}
 use Rattle.emtp_card.specs.declared.reason.Why.{Why}
-use Rattle.emtp_card.specs.declared.reason.Why.TheVariants.{ByteOutside, PastColumn80, NotANumber, NotWhole, OutOfUnitRange, TooManyLines, BadType, BadName, BadImpedance, ShortLine, BadPoints, BadOrder, UnknownName, TwoSources, TooMany, MissingSection, TooManySamples, BadExpression, NotBuilt}
+use Rattle.emtp_card.specs.declared.reason.Why.TheVariants.{ByteOutside, PastColumn80, NotANumber, NotWhole, OutOfUnitRange, TooManyLines, BadType, BadName, BadImpedance, ShortLine, BadPoints, BadOrder, UnknownName, TwoSources, TooMany, MissingSection, TooManySamples, BadExpression}
 
 -- the number of a reason; of two faults in one place the lesser number counts
 abbrev pub reason_number : Why → ℕ
@@ -23,4 +23,3 @@ reason_number TooMany = 15
 reason_number MissingSection = 16
 reason_number TooManySamples = 17
 reason_number BadExpression = 18
-reason_number NotBuilt = 19

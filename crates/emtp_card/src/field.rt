@@ -28,7 +28,7 @@ pub fn byte_at(line: &[u8], column: usize) -> u8
 }
 
 /// The bytes that a line has in its columns from `first` to `last`: fewer where the line ends before.
-pub(crate) fn columns(line: &[u8], first: usize, last: usize) -> &[u8]
+pub fn columns(line: &[u8], first: usize, last: usize) -> &[u8]
     requires first { 1 ≤ first }
     requires order { first ≤ last }
     ensures { result.now ≡ take (last + 1 - first) (drop (first - 1) line.now) }

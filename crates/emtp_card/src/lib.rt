@@ -29,7 +29,7 @@ mod whole;
 
 pub use cards::{Cards, MAX_BYTES, MAX_LINES, next_line};
 pub use fault::{Fault, fault_at, judge, judge_due, least, number_or};
-pub use field::{byte_at, field_text, trim};
+pub use field::{byte_at, columns, field_text, trim};
 pub use lines::{Line, comment, ends_section, line_fault};
 pub use name::field_name;
 pub use number::{field_held, field_number, read_number};

@@ -46,12 +46,10 @@ pub enum Why {
     TooManySamples,
     /// A text that is no expression.
     BadExpression,
-    /// A card or section kind that isn't built yet.
-    NotBuilt,
 }
 
 impl Why {
-    /// The number of the reason, from 1 to 19.
+    /// The number of the reason, from 1 to 18.
     pub fn number(&self) -> u32
         ensures { result ≡ reason_number self.now }
     {
@@ -74,7 +72,6 @@ impl Why {
             Why::MissingSection => 16,
             Why::TooManySamples => 17,
             Why::BadExpression => 18,
-            Why::NotBuilt => 19,
         }
     }
 }

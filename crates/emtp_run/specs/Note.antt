@@ -4,7 +4,7 @@ use Rattle.std.specs.Fmt.{signed_decimal}
 use Rattle.emtp_card.specs.Reason.{reason_number}
 use Rattle.emtp_card.specs.declared.reason.Bad.{Bad}
 use Rattle.emtp_card.specs.declared.reason.Why.{Why}
-use Rattle.emtp_card.specs.declared.reason.Why.TheVariants.{ByteOutside, PastColumn80, NotANumber, NotWhole, OutOfUnitRange, TooManyLines, BadType, BadName, BadImpedance, ShortLine, BadPoints, BadOrder, UnknownName, TwoSources, TooMany, MissingSection, TooManySamples, BadExpression, NotBuilt}
+use Rattle.emtp_card.specs.declared.reason.Why.TheVariants.{ByteOutside, PastColumn80, NotANumber, NotWhole, OutOfUnitRange, TooManyLines, BadType, BadName, BadImpedance, ShortLine, BadPoints, BadOrder, UnknownName, TwoSources, TooMany, MissingSection, TooManySamples, BadExpression}
 use Rattle.emtp_machine.specs.declared.end.Cause.{Cause}
 use Rattle.emtp_machine.specs.declared.end.Cause.TheVariants.{Tied, ZeroPivot, Range, Residual, TacsPivot, TacsRange}
 use Rattle.emtp_machine.specs.declared.end.End.{End}
@@ -31,7 +31,6 @@ reason_name TooMany = codes "TooMany"
 reason_name MissingSection = codes "MissingSection"
 reason_name TooManySamples = codes "TooManySamples"
 reason_name BadExpression = codes "BadExpression"
-reason_name NotBuilt = codes "NotBuilt"
 
 -- where a card is refused, and why
 unfoldable pub card_note : Bad → List ℕ

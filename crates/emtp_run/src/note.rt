@@ -140,6 +140,5 @@ fn reason_name(why: &Why) -> &'static [u8]
         Why::MissingSection => b"MissingSection",
         Why::TooManySamples => b"TooManySamples",
         Why::BadExpression => b"BadExpression",
-        Why::NotBuilt => b"NotBuilt",
     }
 }

@@ -5,7 +5,9 @@ ghost use Rattle.emtp_expr.specs.Parsing.{expression_of};
 ghost use Rattle.emtp_taccards.specs.FormulaCard.{IsParsed, equals_field, expression_fault, expression_text, formula_card, formula_fault, named_formula};
 
 use crate::group::group_field;
-use emtp_card::{Bad, Fault, Line, MAX_BYTES, Refused, Why, byte_at, fault_at, judge, least};
+use emtp_card::{
+    Bad, Fault, Line, MAX_BYTES, Refused, Why, byte_at, columns, fault_at, judge, least,
+};
 use emtp_case::{Group, Name};
 use emtp_expr::{ExprFault, Parsed, parse};
 use emtp_netcards::needed_name;
@@ -47,9 +49,7 @@ fn expression_text(line: &[u8]) -> &[u8]
     ensures text { result.now ≡ expression_text line.now }
     ensures short { length result.now ≤ 69 }
 {
-    let end = 80_usize.min(line.len());
-    let start = 11_usize.min(end);
-    &line[start..end]
+    columns(line, 12, 80)
 }
 
 /// The card of a formula whose expression was read, or refused in a column of its own.

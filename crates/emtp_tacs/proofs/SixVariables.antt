@@ -10,6 +10,7 @@ use Rattle.emtp_case.specs.Source.{IsTacsSource}
 use Rattle.emtp_case.specs.StepRecord.{StepRecord}
 use Rattle.emtp_case.specs.declared.case.Parts.{Parts}
 use Rattle.emtp_case.specs.declared.control.Block.{Block}
+use Rattle.emtp_case.specs.declared.control.BlockState.{BlockState}
 use Rattle.emtp_case.specs.declared.control.Bound.TheVariants.{None as NoBound}
 use Rattle.emtp_case.specs.declared.control.DeviceState.{DeviceState}
 use Rattle.emtp_case.specs.declared.control.Extra.{Extra}
@@ -24,7 +25,7 @@ use Rattle.emtp_fix.specs.Limit.{in_range}
 use Rattle.emtp_tacs.specs.Part.{ControlPart, standing_values}
 use Rattle.emtp_tacs.specs.Step.{◌>>=◌, Measured, SoFar, Solved, accepted, block_var, blocks, completed, control_step, device_by, extra_at, extra_by, extra_of, extras, formula_value, group_of, in_turn, is_in_pass, known_before, solved_by, source_at, source_by, source_value, sources, starting, with_outputs, written}
 use Rattle.emtp_tacs.specs.declared.fault.TacsFault.{TacsFault}
-use Rattle.emtp_tacs.proofs.Results.{same_ok, then_ok}
+use Rattle.emtp_tacs.proofs.Results.{ok, same_ok, then_ok}
 
 -- what holds of each item holds of one that is read
 read_all : {X : Type 0} (P : X → Type 0) (xs : List X) (n : ℕ) (x : X) → All P xs → slice_get xs n ≡ Some x → P x
@@ -97,6 +98,9 @@ blocks_six case H known t control is = by (outcome (matrix case H) (right case H
 
 -- ---- the step
 
+part_six : (last : SoFar) (bs : List BlockState) (part : ControlPart) → ok (record { values = last.values; blocks = bs; devices = last.devices }) ≡ ok part → take 6 part.values ≡ take 6 last.values
+part_six last bs part is = ap (λ (p : ControlPart). take 6 p.values) (sym (same_ok (record { values = last.values; blocks = bs; devices = last.devices }) part is))
+
 pub standing_stay : (case : Parts) (H : List StepRecord) (m : Measured) (part : ControlPart) → IsControl case → control_step case H m ≡ Ok part → take 6 part.values ≡ standing_values case.run (length H)
 unfolding control_step
 standing_stay case H m part control made =
@@ -104,7 +108,7 @@ standing_stay case H m part control made =
     let first = then_ok (sources case (length H) m (starting case H)) (extras case H true) known.0 known.1 in
     let solved = then_ok (blocks case H known.0.values) (completed case H known.0) part known.2 in
     let last = then_ok (extras case H false (record known.0 { values = solved.0.values })) (λ (last : SoFar). Ok (record { values = last.values; blocks = solved.0.blocks; devices = last.devices })) part solved.2 in
-    ap (λ (p : ControlPart). take 6 p.values) (sym (same_ok _ part last.2))
+    part_six last.0 solved.0.blocks part last.2
     ∙ in_turn_six (extra_at case H false) (λ n s t is. extra_six case H false n s t control is) (length case.extras) (record known.0 { values = solved.0.values }) last.0 last.1
     ∙ blocks_six case H known.0.values solved.0 control solved.1
     ∙ in_turn_six (extra_at case H true) (λ n s t is. extra_six case H true n s t control is) (length case.extras) first.0 known.0 first.2

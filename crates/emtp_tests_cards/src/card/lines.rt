@@ -237,21 +237,18 @@ fn refuses_a_case_that_is_too_long(rt: HostRuntime) -> Result<(), Fail> {
         let mut text = Vec::from_slice(rt.alloc(), front.as_bytes())?;
         text.extend_from_slice(vec![in rt.alloc(); b'x'; bytes]?.as_slice())?;
         text.extend_from_slice(vec![in rt.alloc(); b'\n'; newlines]?.as_slice())?;
-        let refused = match Cards::split(rt.alloc(), text.as_slice()) {
-            Ok(_) => None,
-            Err(Refused::Bad(bad)) => Some(bad),
-            Err(Refused::NoMemory) => Some(Bad {
-                line: 0,
-                column: 0,
-                why: Why::NotBuilt,
-            }),
+        let (split, bad) = match Cards::split(rt.alloc(), text.as_slice()) {
+            Ok(_) => (true, None),
+            Err(Refused::Bad(bad)) => (false, Some(bad)),
+            Err(Refused::NoMemory) => (false, None),
         };
         let wanted = line.map(|line| Bad {
             line,
             column: 1,
             why: Why::TooManyLines,
         });
-        assert_eq!(rt; refused, wanted, "{bytes} bytes and {newlines} newlines");
+        assert_eq!(rt; split, wanted.is_none(), "{bytes} bytes and {newlines} newlines");
+        assert_eq!(rt; bad, wanted, "{bytes} bytes and {newlines} newlines");
     }
     Ok(())
 }

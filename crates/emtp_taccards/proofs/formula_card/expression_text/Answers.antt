@@ -1,9 +1,5 @@
-use Rattle.std.proofs.Common.{arith}
-use Rattle.emtp_taccards.proofs.Columns.{cut}
+use Rattle.std.proofs.Common.{sym, subst, ◌≤◌, length, length-take, drop, arith}
 use Rattle.emtp_taccards.proofs.formula_card.expression_text.Goals as goal
 
-pub returns-clause-text : goal.returns-clause-text
-returns-clause-text c =
-    let end = c.min-end.ensures in
-    let start = c.min-start.ensures in
-    cut c.args.line.now 11 80 c.min-start.result c.min-end.result (omega (arith, start)) (omega (arith, end)) (λ h. omega (arith, start, end)) (λ h. omega (arith, start, end)) (λ h. omega (arith, end)) (λ h. omega (arith, end)) (omega arith)
+pub returns-clause-short : goal.returns-clause-short
+returns-clause-short c = subst (λ text. length text ≤ 69) (sym c.columns.ensures) (omega (arith, length-take 69 (drop 11 c.args.line.now)))
