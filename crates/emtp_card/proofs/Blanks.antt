@@ -68,10 +68,10 @@ pub record BlanksBehind (whole bytes : List ℕ) : Type 0 where
   pub blank : list_all is_blank blanks ≡ true
   pub whole_is : whole ≡ bytes ++ blanks
 
-blanks-rest : (byte : ℕ) (bytes : List ℕ) → list_all is_blank (byte ∷ bytes) ≡ true → list_all is_blank bytes ≡ true
+pub blanks-rest : (byte : ℕ) (bytes : List ℕ) → list_all is_blank (byte ∷ bytes) ≡ true → list_all is_blank bytes ≡ true
 blanks-rest byte bytes h = elim (is_blank byte) as (λ t. (t && list_all is_blank bytes) ≡ true → list_all is_blank bytes ≡ true) [ true ↦ λ e. e | false ↦ λ e. absurd (cc) ] h
 
-blanks-first : (byte : ℕ) (bytes : List ℕ) → list_all is_blank (byte ∷ bytes) ≡ true → is_blank byte ≡ true
+pub blanks-first : (byte : ℕ) (bytes : List ℕ) → list_all is_blank (byte ∷ bytes) ≡ true → is_blank byte ≡ true
 blanks-first byte bytes h = elim (is_blank byte) as (λ t. (t && list_all is_blank bytes) ≡ true → t ≡ true) [ true ↦ λ _. refl | false ↦ λ e. e ] h
 
 blanks-drop : (n : ℕ) (bytes : List ℕ) → list_all is_blank bytes ≡ true → list_all is_blank (drop n bytes) ≡ true
@@ -84,22 +84,22 @@ blanks-take zero bytes h = refl
 blanks-take (suc n) [] h = refl
 blanks-take (suc n) (byte ∷ bytes) h = ap (λ t. t && list_all is_blank (take n bytes)) (blanks-first byte bytes h) ∙ blanks-take n bytes (blanks-rest byte bytes h)
 
-is_blank_means : (byte : ℕ) → is_blank byte ≡ true → byte ≡ 32
+pub is_blank_means : (byte : ℕ) → is_blank byte ≡ true → byte ≡ 32
 is_blank_means byte h = grind (arith, nat_tests)
 
-none_blank : (p : ℕ → Bool) → p 32 ≡ false → (blanks : List ℕ) → list_all is_blank blanks ≡ true → list_any p blanks ≡ false
+pub none_blank : (p : ℕ → Bool) → p 32 ≡ false → (blanks : List ℕ) → list_all is_blank blanks ≡ true → list_any p blanks ≡ false
 none_blank p passed [] h = refl
 none_blank p passed (byte ∷ blanks) h =
     ap (λ b. p b || list_any p blanks) (is_blank_means byte (blanks-first byte blanks h))
     ∙ ap (λ t. t || list_any p blanks) passed
     ∙ none_blank p passed blanks (blanks-rest byte blanks h)
 
-drop-blanks : (n : ℕ) (bytes blanks : List ℕ) → list_all is_blank blanks ≡ true → BlanksBehind (drop n (bytes ++ blanks)) (drop n bytes)
+pub drop-blanks : (n : ℕ) (bytes blanks : List ℕ) → list_all is_blank blanks ≡ true → BlanksBehind (drop n (bytes ++ blanks)) (drop n bytes)
 drop-blanks zero bytes blanks h = record { blanks = blanks; blank = h; whole_is = refl }
 drop-blanks (suc n) [] blanks h = record { blanks = drop (suc n) blanks; blank = blanks-drop (suc n) blanks h; whole_is = refl }
 drop-blanks (suc n) (byte ∷ bytes) blanks h = drop-blanks n bytes blanks h
 
-take-blanks : (n : ℕ) (bytes blanks : List ℕ) → list_all is_blank blanks ≡ true → BlanksBehind (take n (bytes ++ blanks)) (take n bytes)
+pub take-blanks : (n : ℕ) (bytes blanks : List ℕ) → list_all is_blank blanks ≡ true → BlanksBehind (take n (bytes ++ blanks)) (take n bytes)
 take-blanks zero bytes blanks h = record { blanks = []; blank = refl; whole_is = refl }
 take-blanks (suc n) [] blanks h = record { blanks = take (suc n) blanks; blank = blanks-take (suc n) blanks h; whole_is = refl }
 take-blanks (suc n) (byte ∷ bytes) blanks h =

@@ -7,3 +7,5 @@ pub mod Values
 pub mod Grammar
 pub mod Faults
 pub mod Names
+pub mod LineEnds
+pub mod Returns

@@ -11,3 +11,4 @@ pub mod Texts
 pub mod Places
 pub mod NamePlaces
 pub mod TreeValues
+pub mod TextEnds

@@ -7,6 +7,8 @@
 #![tactic(auto)]
 
 #[cfg(test)]
+mod dense;
+#[cfg(test)]
 mod elim;
 #[cfg(test)]
 mod fix;

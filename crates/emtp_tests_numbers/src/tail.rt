@@ -118,7 +118,7 @@ fn voltages<R: Rows, L: Ledger>(
 }
 
 /// The solution of a table by the kept factor.
-fn solved<L: Ledger>(
+pub fn solved<L: Ledger>(
     kept: &mut Kept,
     rows: &Table,
     right: &mut [i128],

@@ -247,7 +247,11 @@ fn refuses_a_case_that_is_too_long(rt: HostRuntime) -> Result<(), Fail> {
             column: 1,
             why: Why::TooManyLines,
         });
-        assert_eq!(rt; split, wanted.is_none(), "{bytes} bytes and {newlines} newlines");
+        assert_eq!(rt;
+            split,
+            wanted.is_none(),
+            "{bytes} bytes and {newlines} newlines"
+        );
         assert_eq!(rt; bad, wanted, "{bytes} bytes and {newlines} newlines");
     }
     Ok(())

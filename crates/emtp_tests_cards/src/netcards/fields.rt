@@ -2,17 +2,52 @@
 
 ghost use Rattle.emtp_case.specs.RunData.{IsRun};
 
+use super::grid::branches::*;
+use super::grid::points::*;
+use super::grid::sources::*;
+use super::grid::switches::*;
 use super::grid::*;
 use emtp_card::{Bad, Line, Why};
 use emtp_case::{Point, RunData};
 use emtp_netcards::*;
 use std::process::Abort;
 
+/// What reads a card.
+#[derive(Clone, Copy)]
+enum Reader {
+    First,
+    Second,
+    Tolerance,
+    Branch,
+    WideBranch,
+    ResistorPoint,
+    ReactorPoint,
+    TablePoint,
+    Times,
+    Switch,
+    Source,
+    Output,
+    Vintage,
+}
+
+/// Each row's card is read as the row says.
+fn read_grid(rt: &impl Abort, reader: Reader, card: &str, cells: &[Cells]) {
+    for (first, last, texts, column, why) in cells {
+        for text in *texts {
+            let bytes = with_text(rt, card, *first, *last, text);
+            assert!(rt;
+                refusal_by(reader, &bytes) == refusal(*column, *why),
+                "{card}: {text} at {first}"
+            );
+        }
+    }
+}
+
 /// A card with a text at the right end of its columns from `first` to `last`.
-fn with_text(rt: &impl Abort, base: &str, first: usize, last: usize, text: &str) -> [u8; 80] {
-    assert!(rt; base.len() <= 80);
-    assert!(rt; 1 <= first && first <= last && last <= 80 && text.len() <= last - first + 1);
-    let mut bytes = [b' '; 80];
+fn with_text(rt: &impl Abort, base: &str, first: usize, last: usize, text: &str) -> [u8; 90] {
+    assert!(rt; base.len() <= 90);
+    assert!(rt; 1 <= first && first <= last && last <= 90 && text.len() <= last - first + 1);
+    let mut bytes = [b' '; 90];
     bytes[..base.len()].copy_from_slice(base.as_bytes());
     bytes[first - 1..last].fill(b' ');
     bytes[last - text.len()..last].copy_from_slice(text.as_bytes());
@@ -40,8 +75,43 @@ fn run() -> RunData
     }
 }
 
+/// 1 A at 1 V or 1 mWb, or 1 at 1.
+const FIRST_POINT: Option<Point> = Some(Point {
+    current: 1_000_000_000,
+    other: 1_000_000_000,
+});
+
+/// From 0 to 1 ms.
+const FIRST_TIMES: Option<Point> = Some(Point {
+    current: 0,
+    other: 1_000_000_000,
+});
+
+fn refusal_by(reader: Reader, bytes: &[u8; 90]) -> Option<Bad> {
+    let line = Line { number: 7, bytes };
+    match reader {
+        Reader::First => first_card(line).err(),
+        Reader::Second => second_card(line).err(),
+        Reader::Tolerance => tolerance(line).err(),
+        Reader::Branch => branch_refusal(bytes, false),
+        Reader::WideBranch => branch_refusal(bytes, true),
+        Reader::ResistorPoint => {
+            next_point(line, PointScale::Resistor, &FIRST_POINT, 1, run().dt).err()
+        }
+        Reader::ReactorPoint => {
+            next_point(line, PointScale::Reactor, &FIRST_POINT, 1, run().dt).err()
+        }
+        Reader::TablePoint => next_point(line, PointScale::Table, &FIRST_POINT, 1, run().dt).err(),
+        Reader::Times => next_point(line, PointScale::Times, &FIRST_TIMES, 1, run().dt).err(),
+        Reader::Switch => switch_refusal(bytes),
+        Reader::Source => source(line).err(),
+        Reader::Output => output_refusal(bytes),
+        Reader::Vintage => vintage_refusal(bytes),
+    }
+}
+
 /// The refusal of a branch card.
-fn branch_refusal(bytes: &[u8; 80], wide: bool) -> Option<Bad> {
+fn branch_refusal(bytes: &[u8; 90], wide: bool) -> Option<Bad> {
     let line = Line { number: 7, bytes };
     match branch(line, &run(), wide) {
         Ok(_) => None,
@@ -50,7 +120,7 @@ fn branch_refusal(bytes: &[u8; 80], wide: bool) -> Option<Bad> {
 }
 
 /// The refusal of a switch card.
-fn switch_refusal(bytes: &[u8; 80]) -> Option<Bad> {
+fn switch_refusal(bytes: &[u8; 90]) -> Option<Bad> {
     let line = Line { number: 7, bytes };
     match switch(line) {
         Ok(_) => None,
@@ -59,7 +129,7 @@ fn switch_refusal(bytes: &[u8; 80]) -> Option<Bad> {
 }
 
 /// The refusal of an output card.
-fn output_refusal(bytes: &[u8; 80]) -> Option<Bad> {
+fn output_refusal(bytes: &[u8; 90]) -> Option<Bad> {
     let line = Line { number: 7, bytes };
     match outputs(line) {
         Ok(_) => None,
@@ -67,268 +137,74 @@ fn output_refusal(bytes: &[u8; 80]) -> Option<Bad> {
     }
 }
 
-/// 1 A at 1 V.
-const FIRST_POINT: Option<Point> = Some(Point {
-    current: 1_000_000_000,
-    other: 1_000_000_000,
-});
-
-#[test]
-fn first_miscellaneous_cards(rt: HostRuntime) {
-    for (first, last, text, column, why) in FIRST_CELLS {
-        let bytes = with_text(&rt, FIRST, *first, *last, text);
-        let line = Line {
-            number: 7,
-            bytes: &bytes,
-        };
-        assert_eq!(rt;
-            first_card(line).err(),
-            refusal(*column, *why),
-            "{text} at {first}"
-        );
+/// The refusal of a vintage card; a refusal that no row names stands for what is no vintage card.
+fn vintage_refusal(bytes: &[u8; 90]) -> Option<Bad> {
+    let line = Line { number: 7, bytes };
+    match vintage(line) {
+        Some(read) => read.err(),
+        None => refusal(0, Some(Why::BadType)),
     }
 }
 
 #[test]
-fn second_miscellaneous_cards(rt: HostRuntime) {
-    for (first, last, text, column, why) in SECOND_CELLS {
-        let bytes = with_text(&rt, SECOND, *first, *last, text);
-        let line = Line {
-            number: 7,
-            bytes: &bytes,
-        };
-        assert_eq!(rt;
-            second_card(line).err(),
-            refusal(*column, *why),
-            "{text} at {first}"
-        );
-    }
-}
-
-#[test]
-fn tolerances(rt: HostRuntime) {
-    for (first, last, text, column, why) in TOLERANCE_CELLS {
-        let bytes = with_text(&rt, TOLERANCE, *first, *last, text);
-        let line = Line {
-            number: 7,
-            bytes: &bytes,
-        };
-        assert_eq!(rt;
-            tolerance(line).err(),
-            refusal(*column, *why),
-            "{text} at {first}"
-        );
-    }
+fn run_cards(rt: HostRuntime) {
+    read_grid(&rt, Reader::First, FIRST, FIRST_CELLS);
+    read_grid(&rt, Reader::Second, SECOND, SECOND_CELLS);
+    read_grid(&rt, Reader::Tolerance, TOLERANCE, TOLERANCE_CELLS);
 }
 
 #[test]
 fn series_branches(rt: HostRuntime) {
-    for (first, last, text, column, why) in SERIES_CELLS {
-        let bytes = with_text(&rt, SERIES, *first, *last, text);
-        assert_eq!(rt;
-            branch_refusal(&bytes, false),
-            refusal(*column, *why),
-            "{text} at {first}"
-        );
-    }
+    read_grid(&rt, Reader::Branch, SERIES, SERIES_CELLS);
+    read_grid(&rt, Reader::WideBranch, WIDE, WIDE_CELLS);
+    read_grid(&rt, Reader::Vintage, VINTAGE, VINTAGE_CELLS);
 }
 
 #[test]
-fn wide_series_branches(rt: HostRuntime) {
-    for (first, last, text, column, why) in WIDE_CELLS {
-        let bytes = with_text(&rt, WIDE, *first, *last, text);
-        assert_eq!(rt;
-            branch_refusal(&bytes, true),
-            refusal(*column, *why),
-            "{text} at {first}"
-        );
-    }
+fn lines(rt: HostRuntime) {
+    read_grid(&rt, Reader::Branch, LINE, LINE_CELLS);
+    read_grid(&rt, Reader::Branch, VELOCITY, VELOCITY_CELLS);
+    read_grid(&rt, Reader::Branch, PER_LENGTH, PER_LENGTH_CELLS);
+    read_grid(&rt, Reader::Branch, SECOND_PHASE, SECOND_PHASE_CELLS);
+    read_grid(&rt, Reader::Branch, THIRD_PHASE, THIRD_PHASE_CELLS);
 }
 
 #[test]
-fn lines_with_travel_time(rt: HostRuntime) {
-    for (first, last, text, column, why) in LINE_CELLS {
-        let bytes = with_text(&rt, LINE, *first, *last, text);
-        assert_eq!(rt;
-            branch_refusal(&bytes, false),
-            refusal(*column, *why),
-            "{text} at {first}"
-        );
-    }
-}
-
-#[test]
-fn lines_with_velocity(rt: HostRuntime) {
-    for (first, last, text, column, why) in VELOCITY_CELLS {
-        let bytes = with_text(&rt, VELOCITY, *first, *last, text);
-        assert_eq!(rt;
-            branch_refusal(&bytes, false),
-            refusal(*column, *why),
-            "{text} at {first}"
-        );
-    }
-}
-
-#[test]
-fn lines_per_length(rt: HostRuntime) {
-    for (first, last, text, column, why) in PER_LENGTH_CELLS {
-        let bytes = with_text(&rt, PER_LENGTH, *first, *last, text);
-        assert_eq!(rt;
-            branch_refusal(&bytes, false),
-            refusal(*column, *why),
-            "{text} at {first}"
-        );
-    }
-}
-
-#[test]
-fn resistors(rt: HostRuntime) {
-    for (first, last, text, column, why) in RESISTOR_CELLS {
-        let bytes = with_text(&rt, RESISTOR, *first, *last, text);
-        assert_eq!(rt;
-            branch_refusal(&bytes, false),
-            refusal(*column, *why),
-            "{text} at {first}"
-        );
-    }
+fn reactors_and_resistors(rt: HostRuntime) {
+    read_grid(&rt, Reader::Branch, REACTOR, REACTOR_CELLS);
+    read_grid(&rt, Reader::Branch, RESISTOR, RESISTOR_CELLS);
 }
 
 #[test]
 fn points(rt: HostRuntime) {
-    for (first, last, text, column, why) in POINT_CELLS {
-        let bytes = with_text(&rt, POINT, *first, *last, text);
-        let line = Line {
-            number: 7,
-            bytes: &bytes,
-        };
-        assert_eq!(rt;
-            next_point(line, PointScale::Resistor, &FIRST_POINT, 1, run().dt).err(),
-            refusal(*column, *why),
-            "{text} at {first}"
-        );
-    }
+    read_grid(&rt, Reader::ResistorPoint, POINT, POINT_CELLS);
+    read_grid(
+        &rt,
+        Reader::ReactorPoint,
+        REACTOR_POINT,
+        REACTOR_POINT_CELLS,
+    );
+    read_grid(&rt, Reader::TablePoint, TABLE_POINT, TABLE_POINT_CELLS);
+    read_grid(&rt, Reader::Times, TIMES, TIMES_CELLS);
 }
 
 #[test]
-fn time_switches(rt: HostRuntime) {
-    for (first, last, text, column, why) in SWITCH_CELLS {
-        let bytes = with_text(&rt, SWITCH, *first, *last, text);
-        assert_eq!(rt;
-            switch_refusal(&bytes),
-            refusal(*column, *why),
-            "{text} at {first}"
-        );
-    }
-}
-
-#[test]
-fn measuring_switches(rt: HostRuntime) {
-    for (first, last, text, column, why) in MEASURING_CELLS {
-        let bytes = with_text(&rt, MEASURING, *first, *last, text);
-        assert_eq!(rt;
-            switch_refusal(&bytes),
-            refusal(*column, *why),
-            "{text} at {first}"
-        );
-    }
-}
-
-#[test]
-fn valves(rt: HostRuntime) {
-    for (first, last, text, column, why) in VALVE_CELLS {
-        let bytes = with_text(&rt, VALVE, *first, *last, text);
-        assert_eq!(rt;
-            switch_refusal(&bytes),
-            refusal(*column, *why),
-            "{text} at {first}"
-        );
-    }
-}
-
-#[test]
-fn controlled_switches(rt: HostRuntime) {
-    for (first, last, text, column, why) in CONTROL_CELLS {
-        let bytes = with_text(&rt, CONTROL, *first, *last, text);
-        assert_eq!(rt;
-            switch_refusal(&bytes),
-            refusal(*column, *why),
-            "{text} at {first}"
-        );
-    }
+fn switches(rt: HostRuntime) {
+    read_grid(&rt, Reader::Switch, SWITCH, SWITCH_CELLS);
+    read_grid(&rt, Reader::Switch, MEASURING, MEASURING_CELLS);
+    read_grid(&rt, Reader::Switch, VALVE, VALVE_CELLS);
+    read_grid(&rt, Reader::Switch, CONTROL, CONTROL_CELLS);
 }
 
 #[test]
 fn sources(rt: HostRuntime) {
-    for (first, last, text, column, why) in SOURCE_CELLS {
-        let bytes = with_text(&rt, SOURCE, *first, *last, text);
-        let line = Line {
-            number: 7,
-            bytes: &bytes,
-        };
-        assert_eq!(rt;
-            source(line).err(),
-            refusal(*column, *why),
-            "{text} at {first}"
-        );
-    }
-}
-
-#[test]
-fn ramps(rt: HostRuntime) {
-    for (first, last, text, column, why) in RAMP_CELLS {
-        let bytes = with_text(&rt, RAMP, *first, *last, text);
-        let line = Line {
-            number: 7,
-            bytes: &bytes,
-        };
-        assert_eq!(rt;
-            source(line).err(),
-            refusal(*column, *why),
-            "{text} at {first}"
-        );
-    }
-}
-
-#[test]
-fn cosines(rt: HostRuntime) {
-    for (first, last, text, column, why) in COSINE_CELLS {
-        let bytes = with_text(&rt, COSINE, *first, *last, text);
-        let line = Line {
-            number: 7,
-            bytes: &bytes,
-        };
-        assert_eq!(rt;
-            source(line).err(),
-            refusal(*column, *why),
-            "{text} at {first}"
-        );
-    }
+    read_grid(&rt, Reader::Source, SOURCE, SOURCE_CELLS);
+    read_grid(&rt, Reader::Source, RAMP, RAMP_CELLS);
+    read_grid(&rt, Reader::Source, COSINE, COSINE_CELLS);
+    read_grid(&rt, Reader::Source, DRIVEN, DRIVEN_CELLS);
 }
 
 #[test]
 fn output_cards(rt: HostRuntime) {
-    for (first, last, text, column, why) in OUTPUT_CELLS {
-        let bytes = with_text(&rt, OUTPUT, *first, *last, text);
-        assert_eq!(rt;
-            output_refusal(&bytes),
-            refusal(*column, *why),
-            "{text} at {first}"
-        );
-    }
-}
-
-#[test]
-fn vintage_cards(rt: HostRuntime) {
-    for (first, last, text, column, why) in VINTAGE_CELLS {
-        let bytes = with_text(&rt, VINTAGE, *first, *last, text);
-        let line = Line {
-            number: 7,
-            bytes: &bytes,
-        };
-        let Some(read) = vintage(line) else {
-            assert!(rt; false);
-            return;
-        };
-        assert_eq!(rt; read.err(), refusal(*column, *why), "{text} at {first}");
-    }
+    read_grid(&rt, Reader::Output, OUTPUT, OUTPUT_CELLS);
 }

@@ -14,7 +14,8 @@ const RUN: RunData = RunData {
     tolerance: 10_000_000,
 };
 
-const BRANCHES: &[(&str, bool, BranchValues)] = &[
+/// Branch cards, whether their fields are wide, their values, and what they ask for.
+const BRANCHES: &[(&str, bool, BranchValues, u8)] = &[
     (
         "  SRC   MID                  1.0   2.5   0.5",
         false,
@@ -23,6 +24,7 @@ const BRANCHES: &[(&str, bool, BranchValues)] = &[
             l: 2_500_000,
             c: 500_000_000,
         },
+        0,
     ),
     (
         "  SRC   MID                            1.0                            0.5",
@@ -32,6 +34,7 @@ const BRANCHES: &[(&str, bool, BranchValues)] = &[
             l: 0,
             c: 500_000_000,
         },
+        0,
     ),
     (
         "-1SRC   MID                  .1   1.0   .01   90.",
@@ -41,6 +44,7 @@ const BRANCHES: &[(&str, bool, BranchValues)] = &[
             r: 9_000_000,
             delay: 284_604_989,
         },
+        0,
     ),
     (
         "-2SRC   MID                       400.2.9E+5  100. 1",
@@ -50,13 +54,20 @@ const BRANCHES: &[(&str, bool, BranchValues)] = &[
             r: 0,
             delay: 344_827_586,
         },
+        0,
     ),
-    ("-3SRC   MID   rest isn't read", false, BranchValues::Third),
-    ("98SRC   MID", false, BranchValues::Reactor),
+    (
+        "-3SRC   MID   rest isn't read",
+        false,
+        BranchValues::Third,
+        0,
+    ),
+    ("98SRC   MID", false, BranchValues::Reactor, 0),
     (
         "99SRC   MID   A     B      x",
         false,
         BranchValues::Resistor,
+        0,
     ),
     (
         "-1SRC   MID   A     B      x",
@@ -66,12 +77,51 @@ const BRANCHES: &[(&str, bool, BranchValues)] = &[
             r: 0,
             delay: 0,
         },
+        0,
+    ),
+    (
+        "  SRC   MID   A     B      x",
+        false,
+        BranchValues::Lumped { r: 0, l: 0, c: 0 },
+        0,
+    ),
+    (
+        "-2SRC   MID   A     B      x",
+        false,
+        BranchValues::Second {
+            zc: 0,
+            r: 0,
+            delay: 0,
+        },
+        0,
+    ),
+    (
+        "98SRC   MID   A     B                                                          1",
+        false,
+        BranchValues::Reactor,
+        1,
+    ),
+    (
+        "99SRC   MID                                                                    2",
+        false,
+        BranchValues::Resistor,
+        2,
+    ),
+    (
+        "-1SRC   MID                       400. 2.E-4    1. 2                           3",
+        false,
+        BranchValues::Line {
+            zc: 400_000_000,
+            r: 0,
+            delay: 200_000_000,
+        },
+        3,
     ),
 ];
 
 #[test]
 fn branches(rt: HostRuntime) {
-    for (text, wide, values) in BRANCHES {
+    for (text, wide, values, asked) in BRANCHES {
         let line = Line {
             number: 4,
             bytes: text.as_bytes(),
@@ -83,7 +133,7 @@ fn branches(rt: HostRuntime) {
         };
         assert_eq!(rt; card.values, *values, "at {text}");
         assert_eq!(rt; card.line, 4);
-        assert_eq!(rt; card.asked, 0);
+        assert_eq!(rt; card.asked, *asked);
     }
 }
 
@@ -132,6 +182,22 @@ const SWITCHES: &[(&str, SwitchKind)] = &[
             holding: 50_000_000,
             control: Some(0),
         },
+    ),
+    (
+        "  SRC   MID            x         x         x           MEASURING",
+        SwitchKind::Measuring,
+    ),
+    (
+        "11SRC   MID",
+        SwitchKind::Valve {
+            ignition: 0,
+            holding: 0,
+            control: None,
+        },
+    ),
+    (
+        "13SRC   MID            x                                        PLUS1",
+        SwitchKind::Control { control: 0 },
     ),
 ];
 
@@ -221,6 +287,24 @@ const POINTS: &[(&str, PointScale, Option<Point>)] = &[
         None,
     ),
     ("            9999", PointScale::Times, None),
+    (
+        "             1.0             2.0",
+        PointScale::Resistor,
+        Some(Point {
+            current: 1_000_000_000,
+            other: 2_000_000_000,
+        }),
+    ),
+    (
+        "            .002            .003",
+        PointScale::Times,
+        Some(Point {
+            current: 2_000_000_000,
+            other: 3_000_000_000,
+        }),
+    ),
+    ("            9999", PointScale::Reactor, None),
+    ("            9999", PointScale::Table, None),
 ];
 
 #[test]

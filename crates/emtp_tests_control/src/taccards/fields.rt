@@ -6,48 +6,59 @@ use emtp_taccards::*;
 use std::alloc::Global;
 use std::process::Abort;
 
-/// A card with a text over it from a column on.
-fn over(rt: &impl Abort, card: &str, first: usize, text: &str) -> [u8; 90] {
-    assert!(rt; card.len() <= 90 && 1 <= first && first <= 90 && text.len() <= 91 - first);
+/// What reads a card.
+#[derive(Clone, Copy)]
+enum Reader {
+    Block,
+    /// A numerator or denominator of this order.
+    Polynomial(u8),
+    Source,
+    Extra(Global),
+    Output,
+}
+
+/// Each row's card is read as the row says.
+fn read_grid(rt: &impl Abort, reader: Reader, card: &str, cells: &[Cells]) {
+    for (first, last, texts, column, why) in cells {
+        for text in *texts {
+            let bytes = with_text(rt, card, *first, *last, text);
+            assert!(rt;
+                refusal_by(reader, &bytes) == (*column, *why),
+                "{card}: {text} at {first}"
+            );
+        }
+    }
+}
+
+/// A card with a text at the left end of its columns from `first` to `last`.
+fn with_text(rt: &impl Abort, base: &str, first: usize, last: usize, text: &str) -> [u8; 90] {
+    assert!(rt; base.len() <= 90);
+    assert!(rt; 1 <= first && first <= last && last <= 90 && text.len() <= last - first + 1);
     let mut bytes = [b' '; 90];
-    bytes[..card.len()].copy_from_slice(card.as_bytes());
+    bytes[..base.len()].copy_from_slice(base.as_bytes());
+    bytes[first - 1..last].fill(b' ');
     bytes[first - 1..first - 1 + text.len()].copy_from_slice(text.as_bytes());
     bytes
+}
+
+fn refusal_by(reader: Reader, bytes: &[u8; 90]) -> (u32, Option<Why>) {
+    match reader {
+        Reader::Block => block_refusal(bytes),
+        Reader::Polynomial(order) => polynomial_refusal(bytes, order),
+        Reader::Source => source_refusal(bytes),
+        Reader::Extra(alloc) => extra_refusal(alloc, bytes),
+        Reader::Output => output_refusal(bytes),
+    }
 }
 
 fn place(bad: &Bad) -> (u32, Option<Why>) {
     (bad.column, Some(bad.why))
 }
 
-#[test]
-fn blocks(rt: HostRuntime) {
-    for (first, text, column, why) in BLOCK_CELLS {
-        let bytes = over(&rt, BLOCK, *first, text);
-        assert_eq!(rt; block_refusal(&bytes), (*column, *why), "{text} at {first}");
-    }
-}
-
 fn block_refusal(bytes: &[u8; 90]) -> (u32, Option<Why>) {
     match block(Line { number: 7, bytes }) {
         Ok(_) => (0, None),
         Err(bad) => place(&bad),
-    }
-}
-
-#[test]
-fn coefficients(rt: HostRuntime) {
-    for (order, card, cells) in [
-        (2, SECOND_ORDER, SECOND_ORDER_CELLS),
-        (7, SEVENTH_ORDER, SEVENTH_ORDER_CELLS),
-    ] {
-        for (first, text, column, why) in cells {
-            let bytes = over(&rt, card, *first, text);
-            assert_eq!(rt;
-                polynomial_refusal(&bytes, order),
-                (*column, *why),
-                "{text} at {first}"
-            );
-        }
     }
 }
 
@@ -58,48 +69,10 @@ fn polynomial_refusal(bytes: &[u8; 90], order: u8) -> (u32, Option<Why>) {
     }
 }
 
-#[test]
-fn sources(rt: HostRuntime) {
-    for (card, cells) in [
-        (LEVEL, LEVEL_CELLS),
-        (COSINE, COSINE_CELLS),
-        (PULSE, PULSE_CELLS),
-        (TEETH, TEETH_CELLS),
-        (MEASURED, MEASURED_CELLS),
-    ] {
-        for (first, text, column, why) in cells {
-            let bytes = over(&rt, card, *first, text);
-            assert_eq!(rt;
-                source_refusal(&bytes),
-                (*column, *why),
-                "{text} at {first}"
-            );
-        }
-    }
-}
-
 fn source_refusal(bytes: &[u8; 90]) -> (u32, Option<Why>) {
     match tacs_source(Line { number: 7, bytes }) {
         Ok(_) => (0, None),
         Err(bad) => place(&bad),
-    }
-}
-
-#[test]
-fn supplemental_cards(rt: HostRuntime) {
-    for (card, cells) in [
-        (FORMULA, FORMULA_CELLS),
-        (DEVICE, DEVICE_CELLS),
-        (CODE, CODE_CELLS),
-    ] {
-        for (first, text, column, why) in cells {
-            let bytes = over(&rt, card, *first, text);
-            assert_eq!(rt;
-                extra_refusal(rt.alloc(), &bytes),
-                (*column, *why),
-                "{text} at {first}"
-            );
-        }
     }
 }
 
@@ -111,21 +84,46 @@ fn extra_refusal(alloc: Global, bytes: &[u8; 90]) -> (u32, Option<Why>) {
     }
 }
 
-#[test]
-fn output_cards(rt: HostRuntime) {
-    for (first, text, column, why) in OUTPUT_CELLS {
-        let bytes = over(&rt, OUTPUT, *first, text);
-        assert_eq!(rt;
-            output_refusal(&bytes),
-            (*column, *why),
-            "{text} at {first}"
-        );
-    }
-}
-
 fn output_refusal(bytes: &[u8; 90]) -> (u32, Option<Why>) {
     match tacs_outputs(Line { number: 7, bytes }) {
         Ok(_) => (0, None),
         Err(bad) => place(&bad),
     }
+}
+
+#[test]
+fn blocks(rt: HostRuntime) {
+    read_grid(&rt, Reader::Block, BLOCK, BLOCK_CELLS);
+}
+
+#[test]
+fn coefficients(rt: HostRuntime) {
+    read_grid(&rt, Reader::Polynomial(2), SECOND_ORDER, SECOND_ORDER_CELLS);
+    read_grid(
+        &rt,
+        Reader::Polynomial(7),
+        SEVENTH_ORDER,
+        SEVENTH_ORDER_CELLS,
+    );
+}
+
+#[test]
+fn sources(rt: HostRuntime) {
+    read_grid(&rt, Reader::Source, LEVEL, LEVEL_CELLS);
+    read_grid(&rt, Reader::Source, COSINE, COSINE_CELLS);
+    read_grid(&rt, Reader::Source, PULSE, PULSE_CELLS);
+    read_grid(&rt, Reader::Source, TEETH, TEETH_CELLS);
+    read_grid(&rt, Reader::Source, MEASURED, MEASURED_CELLS);
+}
+
+#[test]
+fn supplemental_cards(rt: HostRuntime) {
+    read_grid(&rt, Reader::Extra(rt.alloc()), FORMULA, FORMULA_CELLS);
+    read_grid(&rt, Reader::Extra(rt.alloc()), DEVICE, DEVICE_CELLS);
+    read_grid(&rt, Reader::Extra(rt.alloc()), CODE, CODE_CELLS);
+}
+
+#[test]
+fn output_cards(rt: HostRuntime) {
+    read_grid(&rt, Reader::Output, OUTPUT, OUTPUT_CELLS);
 }
