@@ -1,46 +1,27 @@
 -- The text of comments doesn't matter.
-use Rattle.std.proofs.Common.{◌≡◌, ◌∙◌, sym, ap, refl, ℕ, ◌+◌, Bool, true, false, List, [], ◌∷◌, length, inl, inr, Ok, Err}
+use Rattle.std.proofs.Common.{◌≡◌, ◌∙◌, sym, ap, refl, ℕ, Bool, true, false, List, [], ◌∷◌, inl, inr, Ok}
 use Rattle.std.specs.Prelude.{if◌then◌else◌}
 use Rattle.emtp_card.specs.Lines.{is_comment}
-use Rattle.emtp_deck.specs.Answer.{go_on}
-use Rattle.emtp_deck.specs.Deck.{deck_of, filled}
+use Rattle.emtp_deck.specs.Deck.{deck_of}
 use Rattle.emtp_deck.specs.Laws.{AreAlike, IsAlike}
 use Rattle.emtp_deck.specs.LineRead.{Read}
-use Rattle.emtp_deck.specs.Walk.{advance, empty_deck, step, walk}
-use Rattle.emtp_deck.specs.declared.deck.Deck.{Deck}
-use Rattle.emtp_deck.specs.declared.deck.Place.{Place}
-use Rattle.emtp_deck.specs.declared.deck.Place.TheVariants.{Begin}
+use Rattle.emtp_deck.specs.Walk.{advance, step}
+use Rattle.emtp_deck.proofs.SameSteps.{AreSameSteps, IsSameStep, same_deck}
 
 skipped : (b : Bool) (x y : Read) → b ≡ true → (if b then x else y) ≡ x
 skipped true x y e = refl
 skipped false x y e = cc
 
-same_step : (deck : Deck) (place : Place) (number : ℕ) (x y : List ℕ) → IsAlike x y → advance deck place number x ≡ advance deck place number y
-same_step deck place number x y (inl same) = ap (advance deck place number) same
-same_step deck place number x y (inr both) =
+same_step : (x y : List ℕ) → IsAlike x y → IsSameStep x y
+same_step x y (inl same) deck place number = ap (advance deck place number) same
+same_step x y (inr both) deck place number =
     skipped (is_comment x) (Ok (deck, place)) (step deck place number x) both.0 ∙ sym (skipped (is_comment y) (Ok (deck, place)) (step deck place number y) both.1)
 
-rest : (number : ℕ) (xs ys : List (List ℕ)) → ((number : ℕ) (deck : Deck) (place : Place) → walk number deck place xs ≡ walk number deck place ys) → (r : Read)
-    → go_on (λ (next : Deck × Place). walk (number + 1) next.0 next.1 xs) r ≡ go_on (λ (next : Deck × Place). walk (number + 1) next.0 next.1 ys) r
-rest number xs ys same (Ok next) = same (number + 1) next.0 next.1
-rest number xs ys same (Err bad) = refl
+same_steps : (xs ys : List (List ℕ)) → AreAlike xs ys → AreSameSteps xs ys
+same_steps [] [] h = tt
+same_steps [] (y ∷ ys) h = absurd h
+same_steps (x ∷ xs) [] h = absurd h
+same_steps (x ∷ xs) (y ∷ ys) h = (same_step x y h.0, same_steps xs ys h.1)
 
-same_walk : (xs ys : List (List ℕ)) → AreAlike xs ys → (number : ℕ) (deck : Deck) (place : Place) → walk number deck place xs ≡ walk number deck place ys
-same_walk [] [] h number deck place = refl
-same_walk [] (y ∷ ys) h number deck place = absurd h
-same_walk (x ∷ xs) [] h number deck place = absurd h
-same_walk (x ∷ xs) (y ∷ ys) h number deck place =
-    rest number xs ys (same_walk xs ys h.1) (advance deck place number x)
-    ∙ ap (go_on (λ (next : Deck × Place). walk (number + 1) next.0 next.1 ys)) (same_step deck place number x y h.0)
-
-same_length : (xs ys : List (List ℕ)) → AreAlike xs ys → length xs ≡ length ys
-same_length [] [] h = refl
-same_length [] (y ∷ ys) h = absurd h
-same_length (x ∷ xs) [] h = absurd h
-same_length (x ∷ xs) (y ∷ ys) h = let rest = same_length xs ys h.1 in cc
-
-pub same_deck : (xs ys : List (List ℕ)) → AreAlike xs ys → deck_of xs ≡ deck_of ys
-unfolding deck_of
-same_deck xs ys h =
-    ap (go_on (λ (read : Deck × Place). filled (length xs + 1) read.0 read.1)) (same_walk xs ys h 1 empty_deck Begin)
-    ∙ ap (λ n. go_on (λ (read : Deck × Place). filled (n + 1) read.0 read.1) (walk 1 empty_deck Begin ys)) (same_length xs ys h)
+pub same_but_comments : (xs ys : List (List ℕ)) → AreAlike xs ys → deck_of xs ≡ deck_of ys
+same_but_comments xs ys h = same_deck xs ys (same_steps xs ys h)

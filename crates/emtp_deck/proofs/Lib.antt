@@ -17,7 +17,9 @@ pub mod ControlRecords
 pub mod ControlAdding
 pub mod ControlWhole
 pub mod WholeDeck
+pub mod SameSteps
 pub mod Comments
+pub mod LineEnds
 pub mod Rising
 pub mod ControlOrder
 pub mod Order

@@ -43,5 +43,8 @@ pub use control_cards::{
 };
 pub use copies::{LineNumbers, ValuesFrom};
 pub use deck::{BranchEntry, Deck, Group, OutputEntry, Place};
-pub use laws::{cards_are_judged_in_order, comments_do_not_matter};
+pub use laws::{
+    blanks_at_ends_do_not_matter, cards_are_judged_in_order, comments_do_not_matter,
+    returns_do_not_matter,
+};
 pub use reading::read;
