@@ -1,4 +1,5 @@
-//! Whole calls over a cabinet in memory in which one call fails.
+//! Whole calls over a cabinet in memory, in which each call of each kind fails in turn.
+ghost use Rattle.std.specs.Prelude.{◌<◌};
 
 use emtp_io::{Failing, MemoryCabinet, Op, Output};
 use emtp_run::{Status, emtp};
@@ -43,30 +44,84 @@ const DAT: &str = concat!(
 
 const NOTE: &str = "DONE STEPS 3 SAMPLES 4 REDONE 0\n";
 
+/// One resistance between two nodes and nothing else: what eliminates the first leaves 0 for the second.
+const UNBOUND: &str = concat!(
+    "BEGIN NEW DATA CASE\n",
+    "   1.E-4   1.E-4\n",
+    "       1       1\n",
+    "  A     B                    1.0\n",
+    "BLANK\n",
+    "BLANK\n",
+    "BLANK\n",
+    "  A\n",
+    "BLANK\n",
+);
+
+const UNBOUND_CFG: &str = concat!(
+    "EMTP,CASE,1999\r\n",
+    "1,1A,0D\r\n",
+    "1,V A,,,V,0.000000001,0,0,-32767,32767,1,1,P\r\n",
+    "60\r\n",
+    "0\r\n",
+    "0,1\r\n",
+    "01/01/2000,00:00:00.000000\r\n",
+    "01/01/2000,00:00:00.000000\r\n",
+    "ASCII\r\n",
+    "100\r\n",
+);
+
+const UNBOUND_DAT: &str = "1,0,0\r\n\x1a";
+
+const UNBOUND_NOTE: &str = "ENDED STEP 1 ZEROPIVOT B SAMPLES 1 REDONE 0\n";
+
+/// The note on a case of no bytes.
+const REFUSED: &str = "BAD CARD LINE 1 COLUMN 1 REASON 16 MissingSection\n";
+
 /// The summary of one section, by a program of others.
 const TRIAL: &str =
     "TRIAL 1 STEPS 2000 SAMPLES 101 REDONE 4 PEAK 145543352911428 SUM 1189507906597277\n";
 
 const RUN: [&str; 4] = ["run", "a.case", "a.cfg", "a.dat"];
 
-/// How an output stands after a call.
+/// The outputs in the order in which they are made.
+const OUTPUTS: [Output; 4] = [Output::Cfg, Output::Dat, Output::Note, Output::Summary];
+
+/// A whole call, and what it answers and makes where no call of the cabinet fails.
 #[derive(Clone, Copy)]
-enum Stands {
-    /// It wasn't created.
-    No,
-    /// It was created, and holds no byte.
-    Empty,
-    /// It holds all its bytes.
-    Whole,
+struct Row<'a> {
+    words: &'a [&'a str],
+    /// The bytes of the file `a.case`, and whether it is read.
+    case: &'a str,
+    is_read: bool,
+    status: Status,
+    /// The status where an output can't be made.
+    cut: Status,
+    /// The bytes of each output, where it is made.
+    made: [Option<&'a str>; 4],
 }
 
-/// The one file `a.case`, in a cabinet whose nth call of this kind fails.
-fn failing(alloc: Global, case: &str, op: Op, nth: u32) -> Result<MemoryCabinet, AllocError> {
+/// How far a call came with its outputs: how many were created, and how many bytes of them stand.
+#[derive(Clone, Copy)]
+struct Progress {
+    created: u32,
+    bytes: usize,
+}
+
+/// The one file `a.case`, in a cabinet that moves at most `piece` bytes a call, and whose nth call of this kind fails.
+fn failing(
+    alloc: Global,
+    case: &str,
+    piece: usize,
+    op: Op,
+    nth: u32,
+) -> Result<MemoryCabinet, AllocError>
+    requires { 0 < piece }
+{
     let mut files = Vec::new(alloc);
     let bytes = Vec::from_slice(alloc, case.as_bytes())?;
     files.push((String::from_str(alloc, "a.case")?, bytes))?;
     let fails = Vec::from_slice(alloc, &[Failing { op, nth }])?;
-    MemoryCabinet::new(alloc, files, fails, 4096, 4096)
+    MemoryCabinet::new(alloc, files, fails, piece, 4096)
 }
 
 fn call(alloc: Global, words: &[&str], cabinet: &mut MemoryCabinet) -> Result<Status, AllocError> {
@@ -77,92 +132,175 @@ fn call(alloc: Global, words: &[&str], cabinet: &mut MemoryCabinet) -> Result<St
     Ok(emtp(alloc, &owned, cabinet))
 }
 
-/// Whether an output stands so, with this text where it is whole.
-fn is(cabinet: &MemoryCabinet, out: Output, stands: Stands, text: &str) -> bool {
-    let bytes = cabinet.written(out);
-    match stands {
-        Stands::No => bytes.is_none(),
-        Stands::Empty => bytes == Some(b"".as_slice()),
-        Stands::Whole => bytes == Some(text.as_bytes()),
+/// How many bytes the first so many of these outputs have.
+fn bytes_of(made: &[Option<&str>; 4], count: u32) -> usize {
+    let mut left = count;
+    let mut bytes = 0usize;
+    for text in made.iter().flatten() {
+        if left > 0 {
+            left -= 1;
+            bytes = bytes.saturating_add(text.len());
+        }
     }
+    bytes
 }
 
-/// Whether configuration, data and note stand so, and no summary was created.
-fn are(cabinet: &MemoryCabinet, [cfg, dat, note]: [Stands; 3], text: &str) -> bool {
-    is(cabinet, Output::Cfg, cfg, CFG)
-        && is(cabinet, Output::Dat, dat, DAT)
-        && is(cabinet, Output::Note, note, text)
-        && is(cabinet, Output::Summary, Stands::No, "")
+/// How far a call came. None where an output has other bytes than a front of its own, or was created before the one
+/// before it was whole, or without being wanted.
+fn made_so_far(cabinet: &MemoryCabinet, made: &[Option<&str>; 4]) -> Option<Progress> {
+    let mut created = 0u32;
+    let mut bytes = 0usize;
+    let mut whole = true;
+    for (out, text) in OUTPUTS.iter().zip(made.iter()) {
+        match (cabinet.written(*out), text) {
+            (None, None) => {}
+            (None, Some(_)) => whole = false,
+            (Some(written), Some(text))
+                if whole && text.as_bytes().get(..written.len()) == Some(written) => {
+                whole = written.len() == text.len();
+                created = created.saturating_add(1);
+                bytes = bytes.saturating_add(written.len());
+            }
+            _ => return None,
+        }
+    }
+    Some(Progress { created, bytes })
+}
+
+/// How many calls of this kind a row makes, each of which has failed in turn: without a file no output is created; a
+/// failed creation leaves those before it whole; a failed write leaves its output cut short, by one to `piece` bytes
+/// behind the write before. None where an answer is none of these.
+fn failed_in_turn(
+    alloc: Global,
+    row: &Row<'_>,
+    piece: usize,
+    op: Op,
+) -> Result<Option<usize>, AllocError>
+    requires { 0 < piece }
+{
+    let mut before = None;
+    for nth in 1..=1000u32 {
+        let mut cabinet = failing(alloc, row.case, piece, op, nth)?;
+        let status = call(alloc, row.words, &mut cabinet)?;
+        let Some(now) = made_so_far(&cabinet, &row.made) else {
+            return Ok(None);
+        };
+        if now.bytes == bytes_of(&row.made, 4) {
+            return Ok((status == row.status).then_some((nth - 1) as usize));
+        }
+        let end = bytes_of(&row.made, now.created);
+        let is_promised = match op {
+            Op::Open | Op::Read => status == Status::ReadFault && now.created == 0,
+            Op::Create => status == row.cut && now.created == nth - 1 && now.bytes == end,
+            Op::Write => {
+                status == row.cut
+                    && now.bytes < end
+                    && match before {
+                        None => now.bytes == 0,
+                        Some(bytes) => {
+                            now.bytes > bytes && now.bytes <= piece.saturating_add(bytes)
+                        }
+                    }
+            }
+        };
+        if !is_promised {
+            return Ok(None);
+        }
+        before = Some(now.bytes);
+    }
+    Ok(None)
+}
+
+/// A run to its end, one with an early end, a refused card, words that don't fit, and a trial.
+fn rows<'a>() -> [Row<'a>; 5] {
+    [
+        Row {
+            words: &RUN,
+            case: DIVIDER,
+            is_read: true,
+            status: Status::Done,
+            cut: Status::WriteFault,
+            made: [Some(CFG), Some(DAT), Some(NOTE), None],
+        },
+        Row {
+            words: &RUN,
+            case: UNBOUND,
+            is_read: true,
+            status: Status::Ended,
+            cut: Status::WriteFault,
+            made: [
+                Some(UNBOUND_CFG),
+                Some(UNBOUND_DAT),
+                Some(UNBOUND_NOTE),
+                None,
+            ],
+        },
+        Row {
+            words: &RUN,
+            case: "",
+            is_read: true,
+            status: Status::BadCard,
+            cut: Status::BadCard,
+            made: [None, None, Some(REFUSED), None],
+        },
+        Row {
+            words: &["run", "a.case", "a.dat", "a.dat"],
+            case: DIVIDER,
+            is_read: false,
+            status: Status::Usage,
+            cut: Status::Usage,
+            made: [None, None, Some("USAGE\n"), None],
+        },
+        Row {
+            words: &["trial", "1"],
+            case: DIVIDER,
+            is_read: false,
+            status: Status::Done,
+            cut: Status::WriteFault,
+            made: [None, None, None, Some(TRIAL)],
+        },
+    ]
+}
+
+/// Whether each call of a row has failed in turn as promised: one opening, a read for each piece of the file and one
+/// that finds its end, a creation for each output, and at least a write for each piece of what is made.
+fn all_failed_in_turn(alloc: Global, row: &Row<'_>, piece: usize) -> Result<bool, AllocError>
+    requires { 0 < piece }
+{
+    let files = if row.is_read { 1 } else { 0 };
+    let reads = if row.is_read {
+        row.case.len().div_ceil(piece).saturating_add(1)
+    } else {
+        0
+    };
+    let outputs = row.made.iter().flatten().count();
+    let writes = bytes_of(&row.made, 4).div_ceil(piece);
+    Ok(
+        failed_in_turn(alloc, row, piece, Op::Open)? == Some(files)
+            && failed_in_turn(alloc, row, piece, Op::Read)? == Some(reads)
+            && failed_in_turn(alloc, row, piece, Op::Create)? == Some(outputs)
+            && failed_in_turn(alloc, row, piece, Op::Write)?.unwrap_or(0) >= writes,
+    )
 }
 
 #[test]
-fn stops_at_the_call_that_fails(rt: HostRuntime) -> Result<(), Fail> {
-    use Stands::{Empty, No, Whole};
+fn stops_at_each_call_that_fails(rt: HostRuntime) -> Result<(), Fail> {
     let alloc = rt.alloc();
-    for (op, nth, status, outputs) in [
-        (Op::Open, 1, Status::ReadFault, [No, No, No]),
-        (Op::Read, 1, Status::ReadFault, [No, No, No]),
-        (Op::Read, 2, Status::ReadFault, [No, No, No]),
-        (Op::Create, 1, Status::WriteFault, [No, No, No]),
-        (Op::Write, 1, Status::WriteFault, [Empty, No, No]),
-        (Op::Create, 2, Status::WriteFault, [Whole, No, No]),
-        (Op::Write, 2, Status::WriteFault, [Whole, Empty, No]),
-        (Op::Create, 3, Status::WriteFault, [Whole, Whole, No]),
-        (Op::Write, 3, Status::WriteFault, [Whole, Whole, Empty]),
-        (Op::Write, 4, Status::Done, [Whole, Whole, Whole]),
-    ] {
-        let mut cabinet = failing(alloc, DIVIDER, op, nth)?;
-        assert_eq!(rt; call(alloc, &RUN, &mut cabinet)?, status);
-        assert!(rt; are(&cabinet, outputs, NOTE));
+    for row in rows() {
+        assert!(rt; all_failed_in_turn(alloc, &row, 1)?);
+        assert!(rt; all_failed_in_turn(alloc, &row, 7)?);
+        assert!(rt; all_failed_in_turn(alloc, &row, 4096)?);
     }
-    Ok(())
-}
-
-#[test]
-fn keeps_a_refusal_whose_note_fails(rt: HostRuntime) -> Result<(), Fail> {
-    let alloc = rt.alloc();
-    for (op, note) in [(Op::Create, Stands::No), (Op::Write, Stands::Empty)] {
-        let mut cabinet = failing(alloc, "", op, 1)?;
-        assert_eq!(rt; call(alloc, &RUN, &mut cabinet)?, Status::BadCard);
-        assert!(rt; are(&cabinet, [Stands::No, Stands::No, note], ""));
-        let mut cabinet = failing(alloc, "", op, 1)?;
-        assert_eq!(rt; call(alloc, &["run"], &mut cabinet)?, Status::Usage);
-        assert!(rt; are(&cabinet, [Stands::No, Stands::No, note], ""));
-    }
-    Ok(())
-}
-
-#[test]
-fn opens_no_file_for_words_that_do_not_fit(rt: HostRuntime) -> Result<(), Fail> {
-    let alloc = rt.alloc();
-    let mut cabinet = failing(alloc, DIVIDER, Op::Open, 1)?;
-    assert_eq!(rt;
-        call(alloc, &["run", "a.case", "a.dat", "a.dat"], &mut cabinet)?,
-        Status::Usage
-    );
-    assert!(rt; are(&cabinet, [Stands::No, Stands::No, Stands::Whole], "USAGE\n"));
     Ok(())
 }
 
 #[test]
 fn names_its_outputs_by_the_words(rt: HostRuntime) -> Result<(), Fail> {
     let alloc = rt.alloc();
-    let mut cabinet = failing(alloc, DIVIDER, Op::Write, 4)?;
+    let mut cabinet = failing(alloc, DIVIDER, 4096, Op::Write, 1000)?;
     assert_eq!(rt; call(alloc, &RUN, &mut cabinet)?, Status::Done);
     assert!(rt; cabinet.name(Output::Cfg) == Some("a.cfg"));
     assert!(rt; cabinet.name(Output::Dat) == Some("a.dat"));
     assert!(rt; cabinet.name(Output::Note) == Some(""));
-    Ok(())
-}
-
-#[test]
-fn leaves_the_summary_of_a_trial_alone(rt: HostRuntime) -> Result<(), Fail> {
-    let alloc = rt.alloc();
-    let mut cabinet = failing(alloc, DIVIDER, Op::Open, 1)?;
-    assert_eq!(rt; call(alloc, &["trial", "1"], &mut cabinet)?, Status::Done);
-    assert!(rt; is(&cabinet, Output::Cfg, Stands::No, ""));
-    assert!(rt; is(&cabinet, Output::Dat, Stands::No, ""));
-    assert!(rt; is(&cabinet, Output::Note, Stands::No, ""));
-    assert!(rt; is(&cabinet, Output::Summary, Stands::Whole, TRIAL));
     Ok(())
 }
