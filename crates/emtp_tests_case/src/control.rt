@@ -7,16 +7,17 @@ ghost use Rattle.emtp_case.specs.Case.{empty_parts};
 ghost use Rattle.emtp_case.specs.Control.{AreTimes, HasRangeOfA, IsBlock, IsDeviceCard, IsFormula, IsTable, needs_d, var_of};
 ghost use Rattle.emtp_case.specs.HistoryValues.{delay_steps, history_values_of};
 ghost use Rattle.emtp_case.specs.Expr.{FitsPlaces, IsWhole};
+ghost use Rattle.emtp_case.specs.Name.{IsName};
 ghost use Rattle.emtp_case.specs.Source.{IsControlShape, IsTacsSource};
 ghost use Rattle.emtp_case.specs.declared.source.Shape.{Shape};
 ghost use Rattle.emtp_tests_case.specs.Fixtures.{control_sizes, GivesItsValue, IsMeasuredShape};
 ghost use Rattle.emtp_tests_case.specs.Signals.{nodes_of, outputs_of, vars_of};
 
 use crate::comparing::{block_is, channels_are_named, device_is, formula_is, names_are};
-use crate::fixtures::{RUN, add_channels, add_nodes, add_variables};
+use crate::fixtures::RUN;
 use emtp_case::{
     BinaryOp, Block, Bound, Case, Channel, Device, DeviceCode, Draft, Extra, Formula, Group, Input,
-    Items, Node, Point, Shape, Source, Switch, SwitchKind, UnaryOp,
+    Items, Name, Node, Point, Shape, Source, Switch, SwitchKind, UnaryOp,
 };
 use std::alloc::{AllocError, Global};
 use std::process::Abort;
@@ -36,15 +37,34 @@ const METER: Switch = Switch {
     kind: SwitchKind::Measuring,
 };
 
+/// Two variables more.
+fn add_two(draft: &mut Draft, first: Name, second: Name) -> Result<(), AllocError>
+    requires room { length draft.old.parts.vars ≤ 100 }
+    requires first { IsName first }
+    requires second { IsName second }
+    ensures count { OnOk result (length draft.new.parts.vars ≡ length draft.old.parts.vars + 2) }
+    ensures others { OnOk result (draft.new.parts ≡ record draft.old.parts { vars = draft.new.parts.vars }) }
+{
+    draft.add_variable(first)?;
+    draft.add_variable(second)
+}
+
 /// Two nodes and twenty variables.
-fn named(rt: &impl Abort, alloc: Global) -> Result<Draft, AllocError>
+fn named(alloc: Global) -> Result<Draft, AllocError>
     ensures nodes { IfOk result (λ draft. length draft.parts.nodes ≡ 2) }
     ensures vars { IfOk result (λ draft. length draft.parts.vars ≡ 20) }
     ensures rest { IfOk result (λ draft. draft.parts ≡ record (empty_parts RUN) { nodes = draft.parts.nodes; vars = draft.parts.vars }) }
 {
     let mut draft = Draft::new(alloc, RUN)?;
-    add_nodes(rt, &mut draft, &["SRC", "MID"])?;
-    add_variables(rt, &mut draft, &ALL_VARS[6..])?;
+    draft.add_node(Name::new(b"SRC"))?;
+    draft.add_node(Name::new(b"MID"))?;
+    add_two(&mut draft, Name::new(b"STEP"), Name::new(b"COS"))?;
+    add_two(&mut draft, Name::new(b"PULSE"), Name::new(b"SAW"))?;
+    add_two(&mut draft, Name::new(b"VOLT"), Name::new(b"CURR"))?;
+    add_two(&mut draft, Name::new(b"STAT"), Name::new(b"DBL"))?;
+    add_two(&mut draft, Name::new(b"LAG"), Name::new(b"TABLE"))?;
+    add_two(&mut draft, Name::new(b"TIMES"), Name::new(b"DELAY"))?;
+    add_two(&mut draft, Name::new(b"MEMORY"), Name::new(b"SUM"))?;
     Ok(draft)
 }
 
@@ -474,17 +494,7 @@ fn finished(draft: Draft) -> Case
 }
 
 /// What is recorded: a voltage, the switch, and two variables.
-const CHANNELS: [Channel; 6] = [
-    Channel::NodeVoltage(1),
-    Channel::SwitchCurrent(0),
-    Channel::SwitchVoltage(0),
-    Channel::Tacs(13),
-    Channel::Tacs(14),
-    Channel::Status(0),
-];
-
-/// Records them.
-fn record_some(draft: &mut Draft) -> Result<(), AllocError>
+fn add_channels(draft: &mut Draft) -> Result<(), AllocError>
     requires run { draft.old.parts.run ≡ RUN }
     requires nodes { length draft.old.parts.nodes ≡ 2 }
     requires vars { length draft.old.parts.vars ≡ 20 }
@@ -492,11 +502,16 @@ fn record_some(draft: &mut Draft) -> Result<(), AllocError>
     requires none { draft.old.parts.channels ≡ [] }
     ensures { OnOk result (draft.new.parts ≡ record draft.old.parts { channels = draft.new.parts.channels }) }
 {
-    add_channels(draft, &CHANNELS)
+    draft.add_channel(Channel::NodeVoltage(1))?;
+    draft.add_channel(Channel::SwitchCurrent(0))?;
+    draft.add_channel(Channel::SwitchVoltage(0))?;
+    draft.add_channel(Channel::Tacs(13))?;
+    draft.add_channel(Channel::Tacs(14))?;
+    draft.add_channel(Channel::Status(0))
 }
 
 /// The draft with its signals.
-fn with_signals(rt: &impl Abort, alloc: Global) -> Result<Draft, AllocError>
+fn with_signals(alloc: Global) -> Result<Draft, AllocError>
     ensures run { IfOk result (λ draft. draft.parts.run ≡ RUN) }
     ensures vars { IfOk result (λ draft. length draft.parts.vars ≡ 20) }
     ensures signals { IfOk result (λ draft. nodes_of draft.parts.tacs_sources ≡ 6 ∷ 7 ∷ 8 ∷ 9 ∷ 10 ∷ 11 ∷ 12 ∷ []) }
@@ -504,15 +519,15 @@ fn with_signals(rt: &impl Abort, alloc: Global) -> Result<Draft, AllocError>
     ensures extras { IfOk result (λ draft. draft.parts.extras ≡ []) }
     ensures history { IfOk result (λ draft. history_values_of draft.parts ≡ 0) }
 {
-    let mut draft = named(rt, alloc)?;
+    let mut draft = named(alloc)?;
     add_given(&mut draft)?;
     add_measured(&mut draft)?;
-    record_some(&mut draft)?;
+    add_channels(&mut draft)?;
     Ok(draft)
 }
 
 /// The draft with its signals and blocks.
-fn with_blocks(rt: &impl Abort, alloc: Global) -> Result<Draft, AllocError>
+fn with_blocks(alloc: Global) -> Result<Draft, AllocError>
     ensures run { IfOk result (λ draft. draft.parts.run ≡ RUN) }
     ensures vars { IfOk result (λ draft. length draft.parts.vars ≡ 20) }
     ensures signals { IfOk result (λ draft. nodes_of draft.parts.tacs_sources ≡ 6 ∷ 7 ∷ 8 ∷ 9 ∷ 10 ∷ 11 ∷ 12 ∷ []) }
@@ -520,7 +535,7 @@ fn with_blocks(rt: &impl Abort, alloc: Global) -> Result<Draft, AllocError>
     ensures extras { IfOk result (λ draft. draft.parts.extras ≡ []) }
     ensures history { IfOk result (λ draft. history_values_of draft.parts ≡ 0) }
 {
-    let mut draft = with_signals(rt, alloc)?;
+    let mut draft = with_signals(alloc)?;
     let first = doubler(alloc)?;
     let second = lag(alloc)?;
     add_blocks(&mut draft, first, second)?;
@@ -528,8 +543,8 @@ fn with_blocks(rt: &impl Abort, alloc: Global) -> Result<Draft, AllocError>
 }
 
 /// The control.
-fn control(rt: &impl Abort, alloc: Global) -> Result<Case, AllocError> {
-    let mut draft = with_blocks(rt, alloc)?;
+fn control(alloc: Global) -> Result<Case, AllocError> {
+    let mut draft = with_blocks(alloc)?;
     add_devices(alloc, &mut draft)?;
     let formula = formula(alloc)?;
     add_sum(&mut draft, formula)?;
@@ -538,7 +553,7 @@ fn control(rt: &impl Abort, alloc: Global) -> Result<Case, AllocError> {
 
 #[test]
 fn reads_back_its_signals(rt: HostRuntime) -> Result<(), Fail> {
-    let case = control(&rt, rt.alloc())?;
+    let case = control(rt.alloc())?;
     let parts = &case.parts;
     let signals = [
         step(),
@@ -598,7 +613,7 @@ fn lists_are_back(rt: &impl Abort, case: &Case) {
 #[test]
 fn reads_back_its_blocks_and_devices(rt: HostRuntime) -> Result<(), Fail> {
     let alloc = rt.alloc();
-    let case = control(&rt, alloc)?;
+    let case = control(alloc)?;
     lists_are_back(&rt, &case);
     blocks_are_back(&rt, alloc, case.parts.blocks.as_slice())?;
     extras_are_back(&rt, alloc, case.parts.extras.as_slice())?;

@@ -1,19 +1,20 @@
 //! A network with each kind of branch, switch and source.
 
 ghost use Rattle.emtp_tests_case.specs.declared.fixtures.TheConstants.{RUN};
-ghost use Rattle.std.specs.Prelude.{◌≡◌, ◌+◌, ◌≤◌, [], ◌∷◌, ◌++◌, false, true, length, IfOk, OnOk};
+ghost use Rattle.std.specs.Prelude.{◌≡◌, ◌+◌, ◌≤◌, All, [], ◌∷◌, ◌++◌, false, true, length, IfOk, OnOk};
 ghost use Rattle.emtp_case.specs.Branch.{IsCharacteristic, IsLine, IsLumped, IsTrio};
 ghost use Rattle.emtp_case.specs.Case.{HasNoControl, empty_parts, phase_branches, standing_names};
 ghost use Rattle.emtp_case.specs.HistoryValues.{history_values_of, branch_history_values, trio_history_values};
 ghost use Rattle.emtp_case.specs.Range.{AreEnds};
+ghost use Rattle.emtp_case.specs.Name.{IsName};
 ghost use Rattle.emtp_case.specs.Sizes.{sizes_with};
 ghost use Rattle.emtp_case.specs.Source.{IsSource};
 ghost use Rattle.emtp_case.specs.Switch.{IsSwitch};
 
 use crate::comparing::{channels_are_named, names_are};
-use crate::fixtures::{RUN, add_channels, add_nodes};
+use crate::fixtures::RUN;
 use emtp_case::{
-    Branch, Case, Channel, Draft, Line, Lumped, Phase, Point, Pseudo, Shape, Source, Switch,
+    Branch, Case, Channel, Draft, Line, Lumped, Name, Phase, Point, Pseudo, Shape, Source, Switch,
     SwitchKind, Trio, order,
 };
 use std::alloc::{AllocError, Global};
@@ -183,14 +184,41 @@ fn arrester_points() -> [Point; 2]
     ]
 }
 
+/// Four nodes more.
+fn add_four(draft: &mut Draft, names: [Name; 4]) -> Result<(), AllocError>
+    requires room { length draft.old.parts.nodes ≤ 100 }
+    requires names { All IsName names }
+    requires four { length names ≡ 4 }
+    ensures count { OnOk result (length draft.new.parts.nodes ≡ length draft.old.parts.nodes + 4) }
+    ensures others { OnOk result (draft.new.parts ≡ record draft.old.parts { nodes = draft.new.parts.nodes }) }
+{
+    draft.add_node(names[0])?;
+    draft.add_node(names[1])?;
+    draft.add_node(names[2])?;
+    draft.add_node(names[3])
+}
+
 /// The nodes of the network.
-fn named_nodes(rt: &impl Abort, alloc: Global) -> Result<Draft, AllocError>
+fn named_nodes(alloc: Global) -> Result<Draft, AllocError>
     ensures count { IfOk result (λ draft. length draft.parts.nodes ≡ 12) }
     ensures rest { IfOk result (λ draft. draft.parts ≡ record (empty_parts RUN) { nodes = draft.parts.nodes }) }
 {
     let mut draft = Draft::new(alloc, RUN)?;
-    add_nodes(rt, &mut draft, &NODES)?;
+    add_four(&mut draft, four(b"SRC", b"MID", b"FAR", b"A1"))?;
+    add_four(&mut draft, four(b"A2", b"B1", b"B2", b"C1"))?;
+    add_four(&mut draft, four(b"C2", b"END", b"ARR", b"SAT"))?;
     Ok(draft)
+}
+
+/// Four names.
+fn four(a: &[u8], b: &[u8], c: &[u8], d: &[u8]) -> [Name; 4]
+    requires a { IsName a.now }
+    requires b { IsName b.now }
+    requires c { IsName c.now }
+    requires d { IsName d.now }
+    ensures { All IsName result }
+{
+    [Name::new(a), Name::new(b), Name::new(c), Name::new(d)]
 }
 
 /// The series branches.
@@ -438,18 +466,7 @@ fn add_sources(rt: &impl Abort, draft: &mut Draft) -> Result<(), AllocError>
 }
 
 /// A channel of each of the seven kinds.
-const CHANNELS: [Channel; 7] = [
-    Channel::NodeVoltage(10),
-    Channel::BranchCurrent(6),
-    Channel::BranchVoltage(7),
-    Channel::SwitchCurrent(0),
-    Channel::SwitchVoltage(3),
-    Channel::Tacs(4),
-    Channel::Status(4),
-];
-
-/// Records them.
-fn record_each_kind(draft: &mut Draft) -> Result<(), AllocError>
+fn add_channels(draft: &mut Draft) -> Result<(), AllocError>
     requires run { draft.old.parts.run ≡ RUN }
     requires nodes { length draft.old.parts.nodes ≡ 12 }
     requires branches { length draft.old.parts.branches ≡ 9 }
@@ -458,20 +475,26 @@ fn record_each_kind(draft: &mut Draft) -> Result<(), AllocError>
     requires none { draft.old.parts.channels ≡ [] }
     ensures { OnOk result (draft.new.parts ≡ record draft.old.parts { channels = draft.new.parts.channels }) }
 {
-    add_channels(draft, &CHANNELS)
+    draft.add_channel(Channel::NodeVoltage(10))?;
+    draft.add_channel(Channel::BranchCurrent(6))?;
+    draft.add_channel(Channel::BranchVoltage(7))?;
+    draft.add_channel(Channel::SwitchCurrent(0))?;
+    draft.add_channel(Channel::SwitchVoltage(3))?;
+    draft.add_channel(Channel::Tacs(4))?;
+    draft.add_channel(Channel::Status(4))
 }
 
 /// The network.
 fn network(rt: &impl Abort, alloc: Global) -> Result<Case, AllocError>
     ensures { IfOk result (λ case. length case.parts.nodes ≡ 12) }
 {
-    let mut draft = named_nodes(rt, alloc)?;
+    let mut draft = named_nodes(alloc)?;
     add_series(&mut draft, resistor(), coil(), capacitor())?;
     add_lines(&mut draft, modes(), line())?;
     add_pseudos(&mut draft, &arrester_points(), &reactor_points())?;
     add_switches(&mut draft)?;
     add_sources(rt, &mut draft)?;
-    record_each_kind(&mut draft)?;
+    add_channels(&mut draft)?;
     Ok(draft.finish_network())
 }
 
@@ -548,7 +571,16 @@ fn reads_back_its_switches_and_sources(rt: HostRuntime) -> Result<(), Fail> {
     assert!(rt; parts.switches.as_slice() == switches.as_slice());
     let sources = [clock(), ramp(), battery(), cosine(), injection()];
     assert!(rt; parts.sources.as_slice() == sources.as_slice());
-    assert!(rt; parts.channels.as_slice() == CHANNELS.as_slice());
+    let channels = [
+        Channel::NodeVoltage(10),
+        Channel::BranchCurrent(6),
+        Channel::BranchVoltage(7),
+        Channel::SwitchCurrent(0),
+        Channel::SwitchVoltage(3),
+        Channel::Tacs(4),
+        Channel::Status(4),
+    ];
+    assert!(rt; parts.channels.as_slice() == channels.as_slice());
     let names = [
         "V END", "I A2-END", "U ARR-0", "I B2-C2", "U 0-C2", "T PLUS1", "S A1-0",
     ];

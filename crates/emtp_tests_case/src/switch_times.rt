@@ -8,8 +8,8 @@ ghost use Rattle.emtp_case.specs.Switch.{HasTimes, IsSwitch, is_time_switch};
 ghost use Rattle.emtp_case.specs.declared.switch.Times.{Times};
 
 use crate::comparing::{channels_are_named, names_are};
-use crate::fixtures::{RUN, add_channels, add_nodes};
-use emtp_case::{Case, Channel, Draft, Switch, SwitchKind, Times};
+use crate::fixtures::RUN;
+use emtp_case::{Case, Channel, Draft, Name, Switch, SwitchKind, Times};
 use std::alloc::{AllocError, Global};
 use std::process::Abort;
 use std::test::Fail;
@@ -103,12 +103,13 @@ fn valve() -> Switch
 }
 
 /// A draft of the nodes A and B.
-fn two_nodes(rt: &impl Abort, alloc: Global) -> Result<Draft, AllocError>
+fn two_nodes(alloc: Global) -> Result<Draft, AllocError>
     ensures nodes { IfOk result (λ draft. length draft.parts.nodes ≡ 2) }
     ensures rest { IfOk result (λ draft. draft.parts ≡ record (empty_parts RUN) { nodes = draft.parts.nodes }) }
 {
     let mut draft = Draft::new(alloc, RUN)?;
-    add_nodes(rt, &mut draft, &["A", "B"])?;
+    draft.add_node(Name::new(b"A"))?;
+    draft.add_node(Name::new(b"B"))?;
     Ok(draft)
 }
 
@@ -127,31 +128,26 @@ fn add_switches(draft: &mut Draft) -> Result<(), AllocError>
 }
 
 /// What is recorded of the switches.
-const CHANNELS: [Channel; 6] = [
-    Channel::NodeVoltage(1),
-    Channel::SwitchCurrent(0),
-    Channel::SwitchVoltage(0),
-    Channel::SwitchCurrent(2),
-    Channel::SwitchVoltage(3),
-    Channel::Status(0),
-];
-
-/// Records them.
-fn record_switches(draft: &mut Draft) -> Result<(), AllocError>
+fn add_channels(draft: &mut Draft) -> Result<(), AllocError>
     requires run { draft.old.parts.run ≡ RUN }
     requires nodes { length draft.old.parts.nodes ≡ 2 }
     requires switches { length draft.old.parts.switches ≡ 4 }
     requires none { draft.old.parts.channels ≡ [] }
     ensures { OnOk result (draft.new.parts ≡ record draft.old.parts { channels = draft.new.parts.channels }) }
 {
-    add_channels(draft, &CHANNELS)
+    draft.add_channel(Channel::NodeVoltage(1))?;
+    draft.add_channel(Channel::SwitchCurrent(0))?;
+    draft.add_channel(Channel::SwitchVoltage(0))?;
+    draft.add_channel(Channel::SwitchCurrent(2))?;
+    draft.add_channel(Channel::SwitchVoltage(3))?;
+    draft.add_channel(Channel::Status(0))
 }
 
 /// The case of these switches.
-fn breakers(rt: &impl Abort, alloc: Global) -> Result<Case, AllocError> {
-    let mut draft = two_nodes(rt, alloc)?;
+fn breakers(alloc: Global) -> Result<Case, AllocError> {
+    let mut draft = two_nodes(alloc)?;
     add_switches(&mut draft)?;
-    record_switches(&mut draft)?;
+    add_channels(&mut draft)?;
     Ok(draft.finish_network())
 }
 
@@ -219,7 +215,7 @@ fn breakers_are(rt: &impl Abort, case: &Case, first: Switch, second: Switch) {
 
 #[test]
 fn gives_other_times(rt: HostRuntime) -> Result<(), Fail> {
-    let mut case = breakers(&rt, rt.alloc())?;
+    let mut case = breakers(rt.alloc())?;
     breakers_are(&rt, &case, closed(), open());
     give_times(&rt, &mut case, &moved());
     let first = first_breaker(2_000_000_000, Some(4_000_000_000));
