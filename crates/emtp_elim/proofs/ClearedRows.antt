@@ -5,7 +5,8 @@ use Rattle.std.proofs.lemmas.List.{get_or-set_same, get_or-set_other}
 use Rattle.emtp_fix.proofs.Wide.{through}
 use Rattle.emtp_elim.specs.Matrix.{item}
 use Rattle.emtp_elim.specs.Elimination.{quotient}
-use Rattle.emtp_elim.specs.Clearing.{IsFinishedRow, IsClearedRow}
+use Rattle.emtp_elim.specs.Clearing.{IsClearedRow}
+use Rattle.emtp_elim.specs.Stored.{dense_row, IsStoredRow}
 use Rattle.emtp_elim.proofs.Products.{less_product-zero_left, quotient-zero}
 use Rattle.emtp_elim.proofs.LessenedRows.{IsLessened}
 
@@ -32,9 +33,11 @@ cleared_lessened k old above new m lessened ratio_is small inside = record {
 }
 
 -- the ratio as the code computes it
-pub ratio_read : (size k : ℕ) (work above : List ℤ) (p r : ℤ) → IsFinishedRow size k above → unsigned_abs (item work k) ≤ 10 ^ 17
-    → p ≡ item above k → r ≡ quotient (to_z w128 (of_z w128 (item work k))) (to_z w128 (of_z w128 p)) → r ≡ quotient (item work k) (item above k)
-ratio_read size k work above p r finished small read e =
+pub ratio_read : {size k : ℕ} {columns : List ℕ} {values : List ℤ} {first pivot last : ℕ} (work : List ℤ) (p r : ℤ) → IsStoredRow size k columns values first pivot last
+    → unsigned_abs (item work k) ≤ 10 ^ 17 → p ≡ item values pivot → r ≡ quotient (to_z w128 (of_z w128 (item work k))) (to_z w128 (of_z w128 p))
+    → r ≡ quotient (item work k) (item (dense_row size columns values first last) k)
+ratio_read {size = size} {k = k} {columns = columns} {values = values} {first = first} {last = last} work p r row small read e =
+    let above = dense_row size columns values first last in
     let same_work : to_z w128 (of_z w128 (item work k)) ≡ item work k = through (item work k) (omega arith) in
-    let same_above : to_z w128 (of_z w128 p) ≡ item above k = rw read (through (item above k) (omega (arith, finished.entries k (omega arith)))) in
+    let same_above : to_z w128 (of_z w128 p) ≡ item above k = rw (read, row.pivot_is) (through (item above k) (omega (arith, row.finished.entries k (omega arith)))) in
     rw (same_work, same_above) at e

@@ -105,22 +105,6 @@ entries_same row from upto columns new_columns values new_values first last was 
   others = λ j low high none. was.others j low high (λ e from_on before. rw (same_column e before) at (none e from_on before));
 }
 
-pub entries_moved : (row : List ℤ) (from upto : ℕ) (columns new_columns : List ℕ) (values new_values : List ℤ) (by first last low_end high_end : ℕ)
-    → AreEntries row from upto columns values low_end high_end → low_end ≡ by + first → high_end ≡ by + last
-    → ((e : ℕ) → e < last → slice_index new_columns e ≡ slice_index columns (by + e)) → ((e : ℕ) → e < last → item new_values e ≡ item values (by + e))
-    → AreEntries row from upto new_columns new_values first last
-entries_moved row from upto columns new_columns values new_values by first last low_end high_end was low_is high_is same_column same_value = record {
-  order = omega (arith, was.order);
-  few = omega (arith, was.few);
-  low = λ e low high. rw (same_column e high) (was.low (by + e) (omega arith) (omega arith));
-  high = λ e low high. rw (same_column e high) (was.high (by + e) (omega arith) (omega arith));
-  rising = λ d e low before high. rw (same_column d (omega arith), same_column e high) (was.rising (by + d) (by + e) (omega arith) (omega arith) (omega arith));
-  value_is = λ e low high. rw (same_value e high, same_column e high) (was.value_is (by + e) (omega arith) (omega arith));
-  others = λ j low high none. was.others j low high (λ e from_on before.
-      let there : by + (e - by) ≡ e = omega arith in
-      rw (same_column (e - by) (omega arith), there) at (none (e - by) (omega arith) (omega arith)));
-}
-
 -- ---- entries in two parts
 
 pub entries_joined : (row : List ℤ) (a b c : ℕ) (columns : List ℕ) (values : List ℤ) (first mid last : ℕ) → AreEntries row a b columns values first mid
@@ -184,44 +168,111 @@ entries_rest row i upto columns values first last all head = record {
   ]);
 }
 
--- between two entries there is nothing but 0
-pub entries_gap : (row : List ℤ) (from upto : ℕ) (columns : List ℕ) (values : List ℤ) (first e last j : ℕ) → AreEntries row from upto columns values first last
-    → from ≤ j → j < upto → ((d : ℕ) → first ≤ d → d < e → slice_index columns d < j) → ((d : ℕ) → e ≤ d → d < last → j < slice_index columns d)
-    → item row j ≡ pos 0
-entries_gap row from upto columns values first e last j all low high before after = all.others j low high (λ d from_on below. elim (cases_lt d e) [
-  | inl earlier ↦ λ is. omega (arith, before d from_on earlier)
-  | inr later ↦ λ is. omega (arith, after d later below)
-])
+-- ---- between two entries
+
+-- column h comes after the entries before place e, and not after the others
+pub record IsAt (columns : List ℕ) (first e last h : ℕ) : Type 0 where
+  pub before : (d : ℕ) → first ≤ d → d < e → slice_index columns d < h
+  pub after : (d : ℕ) → e ≤ d → d < last → h ≤ slice_index columns d
+
+pub at_start : (row : List ℤ) (from upto : ℕ) (columns : List ℕ) (values : List ℤ) (first last h : ℕ) → AreEntries row from upto columns values first last
+    → ((d : ℕ) → first ≤ d → d < last → h ≤ slice_index columns d) → IsAt columns first first last h
+at_start row from upto columns values first last h entries after = record { before = λ d low high. absurd (omega arith); after = after }
+
+pub at_end : (row : List ℤ) (from upto : ℕ) (columns : List ℕ) (values : List ℤ) (first last : ℕ) → AreEntries row from upto columns values first last
+    → IsAt columns first last last upto
+at_end row from upto columns values first last entries = record { before = entries.high; after = λ d low high. absurd (omega arith) }
+
+pub at_entry : (row : List ℤ) (from upto : ℕ) (columns : List ℕ) (values : List ℤ) (first e last : ℕ) → AreEntries row from upto columns values first last
+    → first ≤ e → e < last → IsAt columns first e last (slice_index columns e)
+at_entry row from upto columns values first e last entries low_e inside = record {
+  before = λ d low high. entries.rising d e low high inside;
+  after = λ d low high. elim (cases_eq d e) [
+    | inl here ↦ rw here (omega arith)
+    | inr later ↦ omega (arith, entries.rising e d low_e (omega arith) high)
+  ];
+}
+
+pub at_next : (row : List ℤ) (from upto : ℕ) (columns : List ℕ) (values : List ℤ) (first e last : ℕ) → AreEntries row from upto columns values first last
+    → first ≤ e → e < last → IsAt columns first (e + 1) last (suc (slice_index columns e))
+at_next row from upto columns values first e last entries low_e inside = record {
+  before = λ d low high. elim (cases_eq d e) [
+    | inl here ↦ rw here (omega arith)
+    | inr earlier ↦ omega (arith, entries.rising d e low (omega arith) inside)
+  ];
+  after = λ d low high. omega (arith, entries.rising e d low_e (omega arith) high);
+}
+
+-- what a column without a number leaves as it is, is the same at two columns between the same entries
+pub stands_still : {X : Type 0} (f : ℕ → X) (row : List ℤ) (from upto : ℕ) (columns : List ℕ) (values : List ℤ) (first e last a b : ℕ)
+    → AreEntries row from upto columns values first last → IsAt columns first e last a → IsAt columns first e last b → from ≤ a → a ≤ b → b ≤ upto
+    → ((j : ℕ) → from ≤ j → item row j ≡ pos 0 → f (suc j) ≡ f j) → f b ≡ f a
+stands_still f row from upto columns values first e last a zero entries at_a at_b in_part low high still = let none : a ≡ zero = omega arith in ap f (sym none)
+stands_still f row from upto columns values first e last a (suc b) entries at_a at_b in_part low high still = elim (cases_eq a (suc b)) [
+  | inl same ↦ ap f (sym same)
+  | inr below ↦
+      let clear : item row b ≡ pos 0 = entries.others b (omega arith) (omega arith) (λ d from_on under is. elim (cases_lt d e) [
+        | inl earlier ↦ omega (arith, at_a.before d from_on earlier)
+        | inr later ↦ omega (arith, at_b.after d later under)
+      ]) in
+      let at_last : IsAt columns first e last b = record {
+        before = λ d from_on earlier. omega (arith, at_a.before d from_on earlier);
+        after = λ d later under. omega (arith, at_b.after d later under);
+      } in
+      still b (omega arith) clear ∙ stands_still f row from upto columns values first e last a b entries at_a at_last in_part (omega arith) (omega arith) still
+]
 
 -- ---- the row of the entries
 
-number_in-found : (columns : List ℕ) (values : List ℤ) (n d j : ℕ) → d < n → slice_index columns d ≡ j
-    → ((e : ℕ) → d < e → e < n → slice_index columns e ≢ j) → number_in columns values n j ≡ item values d
-number_in-found columns values zero d j inside is later = absurd (omega arith)
-number_in-found columns values (suc n) d j inside is later = elim (cases_eq n d) [
-  | inl here ↦ cond-true (nat_eq (slice_index columns n) j) _ _ (eq-eqb (slice_index columns n) j (ap (slice_index columns) here ∙ is)) ∙ ap (item values) here
-  | inr other ↦ cond-false (nat_eq (slice_index columns n) j) _ _ (ne_eqb (slice_index columns n) j (later n (omega arith) (omega arith)))
-      ∙ number_in-found columns values n d j (omega arith) is (λ e low high. later e low (omega arith))
+number_in-found : (columns : List ℕ) (values : List ℤ) (first n d j : ℕ) → first ≤ d → d < first + n → slice_index columns d ≡ j
+    → ((e : ℕ) → d < e → e < first + n → slice_index columns e ≢ j) → number_in columns values first n j ≡ item values d
+number_in-found columns values first zero d j low inside is later = absurd (omega arith)
+number_in-found columns values first (suc n) d j low inside is later = elim (cases_eq (first + n) d) [
+  | inl here ↦ rw here (cond-true (nat_eq (slice_index columns d) j) _ _ (eq-eqb (slice_index columns d) j is))
+  | inr other ↦ cond-false (nat_eq (slice_index columns (first + n)) j) _ _ (ne_eqb (slice_index columns (first + n)) j (later (first + n) (omega arith) (omega arith)))
+      ∙ number_in-found columns values first n d j low (omega arith) is (λ e after before. later e after (omega arith))
 ]
 
-number_in-none : (columns : List ℕ) (values : List ℤ) (n j : ℕ) → ((e : ℕ) → e < n → slice_index columns e ≢ j) → number_in columns values n j ≡ pos 0
-number_in-none columns values zero j none = refl
-number_in-none columns values (suc n) j none =
-    cond-false (nat_eq (slice_index columns n) j) _ _ (ne_eqb (slice_index columns n) j (none n (omega arith)))
-    ∙ number_in-none columns values n j (λ e low. none e (omega arith))
+number_in-none : (columns : List ℕ) (values : List ℤ) (first n j : ℕ) → ((e : ℕ) → first ≤ e → e < first + n → slice_index columns e ≢ j) → number_in columns values first n j ≡ pos 0
+number_in-none columns values first zero j none = refl
+number_in-none columns values first (suc n) j none =
+    cond-false (nat_eq (slice_index columns (first + n)) j) _ _ (ne_eqb (slice_index columns (first + n)) j (none (first + n) (omega arith) (omega arith)))
+    ∙ number_in-none columns values first n j (λ e low high. none e low (omega arith))
 
-number_in-entries : (row : List ℤ) (size : ℕ) (columns : List ℕ) (values : List ℤ) (n j : ℕ) → AreEntries row 0 size columns values 0 n → j < size
-    → number_in columns values n j ≡ item row j
-number_in-entries row size columns values n j all inside = elim (cases_column columns 0 n j) [
-  | inl (d, low, high, is) ↦ number_in-found columns values n d j high is (λ e after before same. omega (arith, all.rising d e low after before)) ∙ all.value_is d low high ∙ ap (item row) is
-  | inr none ↦ number_in-none columns values n j (λ e before. none e (omega arith) before) ∙ sym (all.others j (omega arith) inside none)
-]
+number_in-same : (columns new_columns : List ℕ) (values new_values : List ℤ) (first n j : ℕ) → ((e : ℕ) → e < first + n → slice_index new_columns e ≡ slice_index columns e)
+    → ((e : ℕ) → e < first + n → item new_values e ≡ item values e) → number_in new_columns new_values first n j ≡ number_in columns values first n j
+number_in-same columns new_columns values new_values first zero j same_column same_value = refl
+number_in-same columns new_columns values new_values first (suc n) j same_column same_value =
+    rw (same_column (first + n) (omega arith), same_value (first + n) (omega arith), number_in-same columns new_columns values new_values first n j (λ e h. same_column e (omega arith)) (λ e h. same_value e (omega arith))) refl
 
-pub dense_row_is : (row : List ℤ) (size : ℕ) (columns : List ℕ) (values : List ℤ) → AreEntries row 0 size columns values 0 (length columns) → length row ≡ size
-    → dense_row size columns values ≡ row
+pub length-dense_row : (size : ℕ) (columns : List ℕ) (values : List ℤ) (first last : ℕ) → length (dense_row size columns values first last) ≡ size
 unfolding dense_row
-dense_row_is row size columns values all same =
-    let long : length (dense_row size columns values) ≡ size = length-map-range_with_len _ 0 size in
-    ext_get_or (pos 0) (dense_row size columns values) row (long ∙ sym same) (λ j h.
-    let inside : j < size = omega arith in
-    get_or-map-range_with_len _ 0 size j j (pos 0) inside (omega arith) ∙ number_in-entries row size columns values (length columns) j all inside)
+length-dense_row size columns values first last = length-map-range_with_len _ 0 size
+
+item-dense_row : (size : ℕ) (columns : List ℕ) (values : List ℤ) (first last j : ℕ) → j < size
+    → item (dense_row size columns values first last) j ≡ number_in columns values first (last - first) j
+unfolding dense_row
+item-dense_row size columns values first last j inside = get_or-map-range_with_len _ 0 size j j (pos 0) inside (omega arith)
+
+pub dense_row_is : (row : List ℤ) (size : ℕ) (columns : List ℕ) (values : List ℤ) (first last : ℕ) → AreEntries row 0 size columns values first last → length row ≡ size
+    → dense_row size columns values first last ≡ row
+dense_row_is row size columns values first last all same =
+    let long = length-dense_row size columns values first last in
+    ext_get_or (pos 0) (dense_row size columns values first last) row (long ∙ sym same) (λ j h.
+    let all_places : first + (last - first) ≡ last = omega (arith, all.order) in
+    item-dense_row size columns values first last j (omega arith) ∙ elim (cases_column columns first last j) [
+      | inl (d, low, high, is) ↦ number_in-found columns values first (last - first) d j low (omega arith) is (λ e after before here. omega (arith, all.rising d e low after (omega arith)))
+          ∙ all.value_is d low high ∙ ap (item row) is
+      | inr none ↦ number_in-none columns values first (last - first) j (λ e low before. none e low (omega arith)) ∙ sym (all.others j (omega arith) (omega arith) none)
+    ])
+
+-- the row is that of the entries alone
+pub dense_row_same : (size : ℕ) (columns new_columns : List ℕ) (values new_values : List ℤ) (first last : ℕ) → first ≤ last
+    → ((e : ℕ) → e < last → slice_index new_columns e ≡ slice_index columns e) → ((e : ℕ) → e < last → item new_values e ≡ item values e)
+    → dense_row size new_columns new_values first last ≡ dense_row size columns values first last
+dense_row_same size columns new_columns values new_values first last order same_column same_value =
+    let new_long = length-dense_row size new_columns new_values first last in
+    ext_get_or (pos 0) _ _ (new_long ∙ sym (length-dense_row size columns values first last)) (λ j h.
+    item-dense_row size new_columns new_values first last j (omega arith)
+    ∙ number_in-same columns new_columns values new_values first (last - first) j (λ e below. same_column e (omega arith)) (λ e below. same_value e (omega arith))
+    ∙ sym (item-dense_row size columns values first last j (omega arith)))

@@ -1,22 +1,31 @@
 -- Finished rows as they are kept, by their entries.
-use Rattle.std.proofs.Common.{◌≡◌, ◌≢◌, ℕ, ◌+◌, ◌*◌, ◌-◌, ◌<◌, ◌≤◌, ℤ, pos, List, [], ◌∷◌, ◌++◌, length, take, drop, get_or, slice_range, slice_index, slice_set, length-set, refl, ap, sym, ◌∙◌, inl, inr, arith}
-use Rattle.std.proofs.lemmas.List.{length-take-le, get_or-take, ext_get_or, get_or-set_same, get_or-set_other}
-use Rattle.std.proofs.lemmas.List.Edits.{length-between, get_or-between}
+use Rattle.std.proofs.Common.{◌≡◌, ◌≢◌, ℕ, ◌+◌, ◌*◌, ◌^◌, ◌<◌, ◌≤◌, ℤ, unsigned_abs, List, [], ◌∷◌, ◌++◌, length, take, slice_index, slice_set, length-set, refl, ap, sym, ◌∙◌, inl, inr, arith}
+use Rattle.std.proofs.lemmas.List.{get_or-set_same, get_or-set_other}
 use Rattle.std.proofs.lemmas.List.FromFn.{length-map-range_with_len, get_or-map-range_with_len, map-range_with_len_more, take-map-range_with_len, fill_by_all}
 use Rattle.std.proofs.lemmas.Nat.{row_fits}
-use Rattle.std.proofs.lemmas.Slice.{between_is}
 use Rattle.std.proofs.lemmas.Bool.{cases_eq}
 use Rattle.emtp_elim.specs.Matrix.{item, row_of}
 use Rattle.emtp_elim.specs.Clearing.{IsFinishedRow}
-use Rattle.emtp_elim.specs.Stored.{row_part, dense_row, rows_kept, AreEntries, IsStoredRow, AreStored}
-use Rattle.emtp_elim.proofs.Entries.{entries_moved, entries_joined, entries_first, entries_rest, dense_row_is}
+use Rattle.emtp_elim.specs.Finished.{Finished}
+use Rattle.emtp_elim.specs.Stored.{dense_row, rows_kept, Packs, IsStoredRow, AreStored}
+use Rattle.emtp_elim.proofs.Entries.{entries_same, entries_joined, entries_first, entries_rest, length-dense_row, dense_row_is, dense_row_same}
 
 pub length-rows_kept : (size count : ℕ) (starts columns : List ℕ) (values : List ℤ) → length (rows_kept size count starts columns values) ≡ count
 length-rows_kept size count starts columns values = length-map-range_with_len _ 0 count
 
 pub row_of-rows_kept : (size count : ℕ) (starts columns : List ℕ) (values : List ℤ) (i : ℕ) → i < count
-    → row_of (rows_kept size count starts columns values) i ≡ dense_row size (row_part starts columns i) (row_part starts values i)
+    → row_of (rows_kept size count starts columns values) i ≡ dense_row size columns values (slice_index starts i) (slice_index starts (i + 1))
 row_of-rows_kept size count starts columns values i h = get_or-map-range_with_len _ 0 count i i [] h (omega arith)
+
+pub width-rows_kept : (size count : ℕ) (starts columns : List ℕ) (values : List ℤ) (i : ℕ) → i < length (rows_kept size count starts columns values)
+    → length (row_of (rows_kept size count starts columns values) i) ≡ size
+width-rows_kept size count starts columns values i h =
+    ap length (row_of-rows_kept size count starts columns values i (omega (arith, length-rows_kept size count starts columns values))) ∙ length-dense_row size columns values (slice_index starts i) (slice_index starts (i + 1))
+
+-- how many rows the stored ones stand for
+pub count_is : (size count : ℕ) (starts columns : List ℕ) (values : List ℤ) (done : Finished) → record { size = size; rows = rows_kept size count starts columns values } ≡ done
+    → count ≡ length done.rows
+count_is size count starts columns values done is = sym (length-rows_kept size count starts columns values) ∙ ap (λ (v : Finished). length v.rows) is
 
 -- fewer rows
 pub take-rows_kept : (size count n : ℕ) (starts columns : List ℕ) (values : List ℤ) → n ≤ count
@@ -24,164 +33,131 @@ pub take-rows_kept : (size count n : ℕ) (starts columns : List ℕ) (values : 
 take-rows_kept size count n starts columns values h = take-map-range_with_len _ 0 count n h
 
 -- the first rows are kept as finished too
-pub stored_first : (size count n : ℕ) (starts pivots columns : List ℕ) (values : List ℤ) → AreStored size count starts pivots columns values → n ≤ count
-    → AreStored size n starts pivots columns values
-stored_first size count n starts pivots columns values was h = record {
+pub stored_first : (size count n : ℕ) (starts pivots columns : List ℕ) (values : List ℤ) (words : List ℕ) → AreStored size count starts pivots columns values words → n ≤ count
+    → AreStored size n starts pivots columns values words
+stored_first size count n starts pivots columns values words was h = record {
   few = was.few;
   within = omega (arith, was.within);
   room_starts = was.room_starts;
   room_pivots = was.room_pivots;
   room_columns = was.room_columns;
   room_values = was.room_values;
+  room_words = was.room_words;
   used = λ i low. was.used i (omega arith);
   rising = λ g i low high. was.rising g i low (omega arith);
   each = λ i low. was.each i (omega arith);
 }
 
+-- the pivot and the later entries of a kept row are in range
+pub entry_small : {size k : ℕ} {columns : List ℕ} {values : List ℤ} {first pivot last : ℕ} (e : ℕ) → IsStoredRow size k columns values first pivot last → pivot ≤ e → e < last
+    → unsigned_abs (item values e) ≤ 10 ^ 17
+entry_small {k = k} {columns = columns} {pivot = pivot} e row low inside = elim (cases_eq e pivot) [
+  | inl here ↦ rw (here, row.pivot_is) (row.finished.entries k (omega arith))
+  | inr later ↦ rw (row.later.value_is e (omega arith) inside) (row.finished.entries (slice_index columns e) (omega (arith, row.later.low e (omega arith) inside)))
+]
+
 -- ---- one more row
 
--- a part that ends before the first change is the same
-between_same : {X : Type 0} (xs ys : List X) (a b : ℕ) (d : X) → length xs ≡ length ys → b ≤ length xs → ((h : ℕ) → h < b → get_or xs h d ≡ get_or ys h d)
-    → slice_range xs a b ≡ slice_range ys a b
-between_same xs ys a b d same_length inside same =
-    let firsts : take b xs ≡ take b ys = ext_get_or d (take b xs) (take b ys) (length-take-le b xs inside ∙ sym (length-take-le b ys (omega arith))) (λ h low.
-    let before : h < b = omega (arith, length-take-le b xs inside) in
-    get_or-take b xs h d before ∙ same h before ∙ sym (get_or-take b ys h d before)) in
-    between_is xs a b ∙ ap (drop a) firsts ∙ sym (between_is ys a b)
+-- a row stays what it is while its entries do
+stored_same : (size i : ℕ) (columns new_columns : List ℕ) (values new_values : List ℤ) (first pivot last : ℕ) → IsStoredRow size i columns values first pivot last
+    → length new_columns ≡ length columns → length new_values ≡ length values → ((e : ℕ) → e < last → slice_index new_columns e ≡ slice_index columns e)
+    → ((e : ℕ) → e < last → item new_values e ≡ item values e) → IsStoredRow size i new_columns new_values first pivot last
+stored_same size i columns new_columns values new_values first pivot last was long long_values same_column same_value =
+    let row_is = dense_row_same size columns new_columns values new_values first last (omega (arith, was.ratios.order, was.pivot_within)) same_column same_value in
+    record {
+      finished = rw row_is was.finished;
+      in_columns = omega (arith, was.in_columns);
+      in_values = omega (arith, was.in_values);
+      ratios = rw row_is (entries_same _ 0 i columns new_columns values new_values first pivot was.ratios (λ e h. same_column e (omega (arith, was.pivot_within))) (λ e h. same_value e (omega (arith, was.pivot_within))));
+      pivot_within = was.pivot_within;
+      pivot_is = rw row_is (same_value pivot was.pivot_within ∙ was.pivot_is);
+      later = rw row_is (entries_same _ (i + 1) size columns new_columns values new_values (pivot + 1) last was.later same_column same_value);
+    }
 
--- the entries of a row are put after those of `count` rows
-pub record AddsEntries (size count : ℕ) (starts columns new_columns : List ℕ) (values new_values : List ℤ) (pivot end : ℕ) (work : List ℤ) : Type 0 where
+-- the ratios of a row, and then its entries, have been put after those of `count` rows
+pub record Adds (size count : ℕ) (starts columns mid_columns new_columns : List ℕ) (values mid_values new_values : List ℤ) (pivot end : ℕ) (work : List ℤ) : Type 0 where
+  pub finished : IsFinishedRow size count work
+  pub inside : count < size
   pub long_columns : length new_columns ≡ length columns
   pub long_values : length new_values ≡ length values
-  pub kept_columns : (e : ℕ) → e < slice_index starts count → slice_index new_columns e ≡ slice_index columns e
-  pub kept_values : (e : ℕ) → e < slice_index starts count → item new_values e ≡ item values e
-  pub ratios : AreEntries work 0 count new_columns new_values (slice_index starts count) pivot
-  pub rest : AreEntries work count size new_columns new_values pivot end
+  pub ratios : Packs work 0 count columns mid_columns values mid_values (slice_index starts count) pivot
+  pub rest : Packs work count size mid_columns new_columns mid_values new_values pivot end
 
--- the parts of the earlier rows are the same
-row_part_kept : {X : Type 0} (count i end : ℕ) (starts : List ℕ) (xs ys : List X) (d : X) → i < count → slice_index starts (i + 1) ≤ slice_index starts count
-    → slice_index starts count ≤ length xs → length ys ≡ length xs → ((e : ℕ) → e < slice_index starts count → get_or ys e d ≡ get_or xs e d)
-    → row_part (slice_set starts (count + 1) end) ys i ≡ row_part starts xs i
-row_part_kept count i end starts xs ys d earlier before room long same =
-    let low : i ≢ count + 1 = omega arith in
-    let high : i + 1 ≢ count + 1 = omega arith in
-    rw (get_or-set_other starts (count + 1) i end 0 low, get_or-set_other starts (count + 1) (i + 1) end 0 high)
-    (between_same ys xs (slice_index starts i) (slice_index starts (i + 1)) d long (omega arith) (λ e h. same e (omega arith)))
-
-row_part_put : {X : Type 0} (count end : ℕ) (starts : List ℕ) (xs : List X) → count + 1 < length starts
-    → row_part (slice_set starts (count + 1) end) xs count ≡ slice_range xs (slice_index starts count) end
-row_part_put count end starts xs room =
-    let low : count ≢ count + 1 = omega arith in
-    rw (get_or-set_other starts (count + 1) count end 0 low, get_or-set_same starts (count + 1) end 0 room) refl
-
--- entries that stand from place `by` on, counted from there
-entries_part : (row : List ℤ) (from upto : ℕ) (columns : List ℕ) (values : List ℤ) (by first last low high end : ℕ) → AreEntries row from upto columns values low high
-    → low ≡ by + first → high ≡ by + last → high ≤ end → AreEntries row from upto (slice_range columns by end) (slice_range values by end) first last
-entries_part row from upto columns values by first last low high end all low_is high_is room =
-    entries_moved row from upto columns (slice_range columns by end) values (slice_range values by end) by first last low high all low_is high_is
-    (λ e h. get_or-between columns by end e 0 (omega arith)) (λ e h. get_or-between values by end e (pos 0) (omega arith))
-
-dense_row_put : (size count : ℕ) (starts columns new_columns : List ℕ) (values new_values : List ℤ) (pivot end : ℕ) (work : List ℤ)
-    → AddsEntries size count starts columns new_columns values new_values pivot end work → end ≤ length new_columns → length work ≡ size
-    → dense_row size (slice_range new_columns (slice_index starts count) end) (slice_range new_values (slice_index starts count) end) ≡ work
-dense_row_put size count starts columns new_columns values new_values pivot end work adds room same =
+-- the new row is kept
+row_put : (size count : ℕ) (starts columns mid_columns new_columns : List ℕ) (values mid_values new_values : List ℤ) (pivot end : ℕ) (work : List ℤ)
+    → Adds size count starts columns mid_columns new_columns values mid_values new_values pivot end work → end ≤ length new_columns → end ≤ length new_values
+    → IsStoredRow size count new_columns new_values (slice_index starts count) pivot end × (dense_row size new_columns new_values (slice_index starts count) end ≡ work)
+row_put size count starts columns mid_columns new_columns values mid_values new_values pivot end work adds in_columns in_values =
     let start = slice_index starts count in
-    let all = entries_joined work 0 count size new_columns new_values start pivot end adds.ratios adds.rest in
-    let long : length (slice_range new_columns start end) ≡ end - start = length-between new_columns start end room in
-    dense_row_is work size (slice_range new_columns start end) (slice_range new_values start end)
-    (rw long (entries_part work 0 size new_columns new_values start 0 (end - start) start end end all (omega arith) (omega (arith, all.order)) (omega arith))) same
+    let ratios = entries_same work 0 count mid_columns new_columns mid_values new_values start pivot adds.ratios.entries adds.rest.same_columns adds.rest.same_values in
+    let rest = adds.rest.entries in
+    let row_is = dense_row_is work size new_columns new_values start end (entries_joined work 0 count size new_columns new_values start pivot end ratios rest) adds.finished.length_is in
+    let head = entries_first work count size new_columns new_values pivot end rest adds.inside adds.finished.nonzero in (
+      record {
+        finished = rw row_is adds.finished;
+        in_columns = in_columns;
+        in_values = in_values;
+        ratios = rw row_is ratios;
+        pivot_within = head.within;
+        pivot_is = rw row_is (rest.value_is pivot (omega arith) head.within ∙ ap (item work) head.column_is);
+        later = rw row_is (entries_rest work count size new_columns new_values pivot end rest head);
+      },
+      row_is,
+    )
 
-row_put : (size count : ℕ) (starts columns new_columns : List ℕ) (values new_values : List ℤ) (pivot end : ℕ) (work : List ℤ)
-    → AddsEntries size count starts columns new_columns values new_values pivot end work → end ≤ length new_columns → length new_values ≡ length new_columns
-    → IsFinishedRow size count work → count < size
-    → IsStoredRow size count (slice_range new_columns (slice_index starts count) end) (slice_range new_values (slice_index starts count) end) (pivot - slice_index starts count)
-row_put size count starts columns new_columns values new_values pivot end work adds room same_length finished inside =
-    let start = slice_index starts count in
-    let long : length (slice_range new_columns start end) ≡ end - start = length-between new_columns start end room in
-    let long_values : length (slice_range new_values start end) ≡ end - start = length-between new_values start end (omega arith) in
-    let row_is = dense_row_put size count starts columns new_columns values new_values pivot end work adds room finished.length_is in
-    let head = entries_first work count size new_columns new_values pivot end adds.rest inside finished.nonzero in
-    let later = entries_rest work count size new_columns new_values pivot end adds.rest head in
-    let pivot_place : start + (pivot - start) ≡ pivot = omega (arith, adds.ratios.order) in
-    record {
-      finished = rw row_is finished;
-      same_length = long_values ∙ sym long;
-      ratios = rw row_is (entries_part work 0 count new_columns new_values start 0 (pivot - start) start pivot end adds.ratios (omega arith) (sym pivot_place) (omega (arith, adds.rest.order)));
-      pivot_within = omega (arith, head.within, adds.ratios.order);
-      pivot_is = rw row_is (get_or-between new_values start end (pivot - start) (pos 0) (omega (arith, head.within)) ∙ ap (item new_values) pivot_place
-          ∙ adds.rest.value_is pivot (omega arith) head.within ∙ ap (item work) head.column_is);
-      later = rw (row_is, long) (entries_part work (count + 1) size new_columns new_values start (pivot - start + 1) (end - start) (pivot + 1) end end later (omega arith) (omega (arith, adds.ratios.order, adds.rest.order)) (omega arith));
-    }
-
-pub stored_more : (size count : ℕ) (starts pivots columns new_columns : List ℕ) (values new_values : List ℤ) (pivot end : ℕ) (work : List ℤ)
-    → AreStored size count starts pivots columns values → count < size → IsFinishedRow size count work
-    → AddsEntries size count starts columns new_columns values new_values pivot end work
-    → AreStored size (count + 1) (slice_set starts (count + 1) end) (slice_set pivots count (pivot - slice_index starts count)) new_columns new_values
-stored_more size count starts pivots columns new_columns values new_values pivot end work was inside finished adds =
-    let start = slice_index starts count in
-    let used : start ≤ count * size = was.used count (omega arith) in
-    let end_fits : end ≤ start + size = omega (arith, adds.ratios.few, adds.rest.few) in
-    let row_room : count * size + size ≤ size * size = row_fits count size size size inside (omega arith) in
-    let in_starts : count + 1 < length starts = omega (arith, was.room_starts) in
-    let in_pivots : count < length pivots = omega (arith, was.room_pivots) in
-    let onwards : start ≤ end = omega (arith, adds.ratios.order, adds.rest.order) in
-    record {
-      few = was.few;
-      within = omega arith;
-      room_starts = length-set starts (count + 1) end ∙ was.room_starts;
-      room_pivots = length-set pivots count (pivot - start) ∙ was.room_pivots;
-      room_columns = adds.long_columns ∙ was.room_columns;
-      room_values = adds.long_values ∙ was.room_values;
-      used = λ i low. elim (cases_eq i (count + 1)) [
-        | inl here ↦ rw (here, get_or-set_same) (omega arith)
-        | inr earlier ↦ rw get_or-set_other (was.used i (omega arith))
-      ];
-      rising = λ h i low high. elim (cases_eq i (count + 1)) [
-        | inl last ↦ elim (cases_eq h (count + 1)) [
-          | inl same ↦ rw (last, same) (omega arith)
-          | inr before ↦ rw (last, get_or-set_same, get_or-set_other) (omega (arith, was.rising h count (omega arith) (omega arith)))
-        ]
-        | inr earlier ↦
-            let before : h ≢ count + 1 = omega arith in
-            rw (get_or-set_other starts (count + 1) h end 0 before, get_or-set_other starts (count + 1) i end 0 earlier) (was.rising h i low (omega arith))
-      ];
-      each = λ i low. elim (cases_eq i count) [
-        | inl here ↦ rw (here, row_part_put count end starts new_columns in_starts, row_part_put count end starts new_values in_starts, get_or-set_same pivots count (pivot - start) 0 in_pivots)
-            (row_put size count starts columns new_columns values new_values pivot end work adds (omega (arith, was.room_columns, adds.long_columns)) (omega (arith, was.room_columns, was.room_values, adds.long_columns, adds.long_values)) finished inside)
-        | inr other ↦
-            let earlier : i < count = omega arith in
-            let before : slice_index starts (i + 1) ≤ start = was.rising (i + 1) count (omega arith) (omega arith) in
-            rw (
-              row_part_kept count i end starts columns new_columns 0 earlier before (omega (arith, was.room_columns)) adds.long_columns adds.kept_columns,
-              row_part_kept count i end starts values new_values (pos 0) earlier before (omega (arith, was.room_values)) adds.long_values adds.kept_values,
-              get_or-set_other pivots count i (pivot - start) 0 other,
-            ) (was.each i earlier)
-      ];
-    }
-
-pub rows_kept-more : (size count : ℕ) (starts pivots columns new_columns : List ℕ) (values new_values : List ℤ) (pivot end : ℕ) (work : List ℤ)
-    → AreStored size count starts pivots columns values → count < size → length work ≡ size
-    → AddsEntries size count starts columns new_columns values new_values pivot end work
-    → rows_kept size (count + 1) (slice_set starts (count + 1) end) new_columns new_values ≡ rows_kept size count starts columns values ++ work ∷ []
-rows_kept-more size count starts pivots columns new_columns values new_values pivot end work was inside same adds =
+-- and the rows before it are as they were
+pub stored_more : (size count word : ℕ) (starts pivots columns mid_columns new_columns : List ℕ) (values mid_values new_values : List ℤ) (words : List ℕ) (pivot end : ℕ) (work : List ℤ)
+    → AreStored size count starts pivots columns values words → Adds size count starts columns mid_columns new_columns values mid_values new_values pivot end work
+    → AreStored size (count + 1) (slice_set starts (count + 1) end) (slice_set pivots count pivot) new_columns new_values (slice_set words count word)
+    × (rows_kept size (count + 1) (slice_set starts (count + 1) end) new_columns new_values ≡ rows_kept size count starts columns values ++ work ∷ [])
+stored_more size count word starts pivots columns mid_columns new_columns values mid_values new_values words pivot end work was adds =
     let start = slice_index starts count in
     let new_starts = slice_set starts (count + 1) end in
     let used : start ≤ count * size = was.used count (omega arith) in
-    let end_fits : end ≤ start + size = omega (arith, adds.ratios.few, adds.rest.few) in
-    let row_room : count * size + size ≤ size * size = row_fits count size size size inside (omega arith) in
-    let in_starts : count + 1 < length starts = omega (arith, was.room_starts) in
+    let first = adds.ratios.entries in
+    let rest = adds.rest.entries in
+    let end_fits : end ≤ start + size = omega (arith, first.few, rest.few) in
+    let onwards : start ≤ end = omega (arith, first.order, rest.order) in
+    let row_room : count * size + size ≤ size * size = row_fits count size size size adds.inside (omega arith) in
+    let in_starts : count + 1 < length starts = omega (arith, adds.inside, was.room_starts) in
+    let in_pivots : count < length pivots = omega (arith, adds.inside, was.room_pivots) in
+    let put = row_put size count starts columns mid_columns new_columns values mid_values new_values pivot end work adds (omega (arith, was.room_columns, adds.long_columns)) (omega (arith, was.room_values, adds.long_values)) in
+    let start_is : (i : ℕ) → i ≤ count → slice_index new_starts i ≡ slice_index starts i = λ i low. let other : i ≢ count + 1 = omega arith in rw get_or-set_other refl in
+    let end_is : slice_index new_starts (count + 1) ≡ end = get_or-set_same starts (count + 1) end 0 in_starts in
+    let same_column : (e : ℕ) → e < start → slice_index new_columns e ≡ slice_index columns e = λ e h. adds.rest.same_columns e (omega (arith, first.order)) ∙ adds.ratios.same_columns e h in
+    let same_value : (e : ℕ) → e < start → item new_values e ≡ item values e = λ e h. adds.rest.same_values e (omega (arith, first.order)) ∙ adds.ratios.same_values e h in
+    let earlier : (i : ℕ) → i < count → slice_index starts (i + 1) ≤ start = λ i h. was.rising (i + 1) count (omega arith) (omega arith) in
     let kept : rows_kept size count new_starts new_columns new_values ≡ rows_kept size count starts columns values =
-    fill_by_all (λ i. dense_row size (row_part starts columns i) (row_part starts values i)) (rows_kept size count new_starts new_columns new_values) count [] (length-rows_kept size count new_starts new_columns new_values) (λ i h.
-    let before : slice_index starts (i + 1) ≤ start = was.rising (i + 1) count (omega arith) (omega arith) in
+    fill_by_all (λ i. dense_row size columns values (slice_index starts i) (slice_index starts (i + 1))) (rows_kept size count new_starts new_columns new_values) count [] (length-rows_kept size count new_starts new_columns new_values) (λ i h.
     row_of-rows_kept size count new_starts new_columns new_values i h
-    ∙ rw (
-      row_part_kept count i end starts columns new_columns 0 h before (omega (arith, was.room_columns)) adds.long_columns adds.kept_columns,
-      row_part_kept count i end starts values new_values (pos 0) h before (omega (arith, was.room_values)) adds.long_values adds.kept_values,
-    ) refl) in
-    map-range_with_len_more (λ i. dense_row size (row_part new_starts new_columns i) (row_part new_starts new_values i)) 0 count count (omega arith)
-    ∙ rw (
-      kept,
-      row_part_put count end starts new_columns in_starts,
-      row_part_put count end starts new_values in_starts,
-      dense_row_put size count starts columns new_columns values new_values pivot end work adds (omega (arith, was.room_columns, adds.long_columns)) same,
-    ) refl
+    ∙ rw (start_is i (omega arith), start_is (i + 1) (omega arith)) (dense_row_same size columns new_columns values new_values (slice_index starts i) (slice_index starts (i + 1)) (was.rising i (i + 1) (omega arith) (omega arith))
+    (λ e low. same_column e (omega (arith, earlier i h))) (λ e low. same_value e (omega (arith, earlier i h))))) in (
+      record {
+        few = was.few;
+        within = omega (arith, adds.inside);
+        room_starts = length-set starts (count + 1) end ∙ was.room_starts;
+        room_pivots = length-set pivots count pivot ∙ was.room_pivots;
+        room_columns = adds.long_columns ∙ was.room_columns;
+        room_values = adds.long_values ∙ was.room_values;
+        room_words = length-set words count word ∙ was.room_words;
+        used = λ i low. elim (cases_eq i (count + 1)) [
+          | inl here ↦ rw (here, end_is) (omega arith)
+          | inr other ↦ rw (start_is i (omega arith)) (was.used i (omega arith))
+        ];
+        rising = λ h i low high. elim (cases_eq i (count + 1)) [
+          | inl last ↦ elim (cases_eq h (count + 1)) [
+            | inl same ↦ rw (last, same) (omega arith)
+            | inr before ↦ rw (last, end_is, start_is h (omega arith)) (omega (arith, was.rising h count (omega arith) (omega arith)))
+          ]
+          | inr other ↦ rw (start_is h (omega arith), start_is i (omega arith)) (was.rising h i low (omega arith))
+        ];
+        each = λ i low. elim (cases_eq i count) [
+          | inl here ↦ rw (here, start_is count (omega arith), end_is, get_or-set_same pivots count pivot 0 in_pivots) put.0
+          | inr other ↦ rw (start_is i (omega arith), start_is (i + 1) (omega arith), get_or-set_other pivots count i pivot 0 other)
+              (stored_same size i columns new_columns values new_values _ _ _ (was.each i (omega arith)) adds.long_columns adds.long_values
+              (λ e h. same_column e (omega (arith, earlier i (omega arith)))) (λ e h. same_value e (omega (arith, earlier i (omega arith)))))
+        ];
+      },
+      map-range_with_len_more (λ i. dense_row size new_columns new_values (slice_index new_starts i) (slice_index new_starts (i + 1))) 0 count count (omega arith)
+          ∙ rw (kept, start_is count (omega arith), end_is, put.1) refl,
+    )

@@ -1,7 +1,9 @@
 -- A row less a multiple of another, entry by entry.
-use Rattle.std.proofs.Common.{◌≡◌, ◌≢◌, ℕ, ◌+◌, ◌^◌, ◌<◌, ◌≤◌, ℤ, unsigned_abs, List, length, slice_set, slice_index, refl, sym, ◌∙◌, inl, inr, arith}
+use Rattle.std.proofs.Common.{◌≡◌, ◌≢◌, ℕ, ◌+◌, ◌^◌, ◌<◌, ◌≤◌, ℤ, unsigned_abs, List, length, slice_set, slice_index, to_z, of_z, sym, ◌∙◌, inl, inr, arith}
+use mir.Syntax.{w128}
 use Rattle.std.proofs.lemmas.List.{get_or-set_same, get_or-set_other}
 use Rattle.std.proofs.lemmas.Bool.{cases_eq}
+use Rattle.emtp_fix.proofs.Wide.{through}
 use Rattle.emtp_elim.specs.Matrix.{item}
 use Rattle.emtp_elim.specs.Elimination.{less_product}
 use Rattle.emtp_elim.specs.Stored.{AreEntries}
@@ -15,35 +17,49 @@ pub record IsLessened (m : ℤ) (k : ℕ) (old above new : List ℤ) : Type 0 wh
   pub within : (j : ℕ) → k < j → j < length old → unsigned_abs (item new j) ≤ 10 ^ 17
 
 -- the columns of the entries before place e are done, the others are as they were
-pub record IsLessenedUpTo (m : ℤ) (columns : List ℕ) (values : List ℤ) (first e : ℕ) (old new : List ℤ) : Type 0 where
-  pub done : (d : ℕ) → first ≤ d → d < e → item new (slice_index columns d) ≡ less_product (item old (slice_index columns d)) m (item values d)
+pub record IsLessenedUpTo (m : ℤ) (columns : List ℕ) (first e : ℕ) (old above new : List ℤ) : Type 0 where
+  pub done : (d : ℕ) → first ≤ d → d < e → item new (slice_index columns d) ≡ less_product (item old (slice_index columns d)) m (item above (slice_index columns d))
   pub within : (d : ℕ) → first ≤ d → d < e → unsigned_abs (item new (slice_index columns d)) ≤ 10 ^ 17
   pub rest : (j : ℕ) → LacksColumn columns first e j → item new j ≡ item old j
 
 -- the column of the next entry is as it was
-pub lessened_here : (m : ℤ) (k size : ℕ) (columns : List ℕ) (values : List ℤ) (first e last : ℕ) (old above new : List ℤ)
-    → AreEntries above (k + 1) size columns values first last → IsLessenedUpTo m columns values first e old new → e < last
+lessened_here : {m : ℤ} {from size : ℕ} {columns : List ℕ} {values : List ℤ} {first e last : ℕ} {old above new : List ℤ}
+    → AreEntries above from size columns values first last → IsLessenedUpTo m columns first e old above new → e < last
     → item new (slice_index columns e) ≡ item old (slice_index columns e)
-lessened_here m k size columns values first e last old above new entries was inside =
+lessened_here {columns = columns} {e = e} entries was inside =
     was.rest (slice_index columns e) (λ d low high same. omega (arith, entries.rising d e low high inside))
 
-pub lessened_small : (m : ℤ) (k size : ℕ) (columns : List ℕ) (values : List ℤ) (first e last : ℕ) (old above new : List ℤ)
-    → AreEntries above (k + 1) size columns values first last → IsLessenedUpTo m columns values first e old new → first ≤ e → e < last
+pub lessened_small : {m : ℤ} {size : ℕ} {columns : List ℕ} {values : List ℤ} {first e last : ℕ} {old above new : List ℤ} (k : ℕ)
+    → AreEntries above (k + 1) size columns values first last → IsLessenedUpTo m columns first e old above new → first ≤ e → e < last
     → ((j : ℕ) → k ≤ j → unsigned_abs (item old j) ≤ 10 ^ 17) → unsigned_abs (item new (slice_index columns e)) ≤ 10 ^ 17
-lessened_small m k size columns values first e last old above new entries was low_e inside small =
-    rw (lessened_here m k size columns values first e last old above new entries was inside) (small (slice_index columns e) (omega (arith, entries.low e low_e inside)))
+lessened_small {columns = columns} {e = e} k entries was low_e inside small =
+    rw (lessened_here entries was inside) (small (slice_index columns e) (omega (arith, entries.low e low_e inside)))
+
+-- the next entry, as the code computes it
+pub lessened_next : {m : ℤ} {size : ℕ} {columns : List ℕ} {values : List ℤ} {first e last : ℕ} {old above new : List ℤ} (k : ℕ) (p v : ℤ)
+    → AreEntries above (k + 1) size columns values first last → IsLessenedUpTo m columns first e old above new → first ≤ e → e < last
+    → ((j : ℕ) → k ≤ j → unsigned_abs (item old j) ≤ 10 ^ 17) → ((j : ℕ) → k ≤ j → unsigned_abs (item above j) ≤ 10 ^ 17) → unsigned_abs m ≤ 10 ^ 18
+    → p ≡ item values e → v ≡ less_product (to_z w128 (of_z w128 (item new (slice_index columns e)))) (to_z w128 (of_z w128 m)) (to_z w128 (of_z w128 p))
+    → v ≡ less_product (item old (slice_index columns e)) m (item above (slice_index columns e))
+lessened_next {m = m} {columns = columns} {e = e} {old = old} {above = above} {new = new} k p v entries was low_e inside small small_above small_m p_is v_is =
+    let j = slice_index columns e in
+    let here = lessened_here entries was inside in
+    let low : k ≤ j = omega (arith, entries.low e low_e inside) in
+    let same_old : to_z w128 (of_z w128 (item new j)) ≡ item old j = rw here (through (item old j) (omega (arith, small j low))) in
+    let same_m : to_z w128 (of_z w128 m) ≡ m = through m (omega arith) in
+    let same_p : to_z w128 (of_z w128 p) ≡ item above j = rw (p_is, entries.value_is e low_e inside) (through (item above j) (omega (arith, small_above j low))) in
+    rw (same_old, same_m, same_p) at v_is
 
 -- one entry more
-pub lessened_more : (m : ℤ) (k size : ℕ) (columns : List ℕ) (values : List ℤ) (first e last : ℕ) (old above new : List ℤ) (v : ℤ)
-    → AreEntries above (k + 1) size columns values first last → IsLessenedUpTo m columns values first e old new → first ≤ e → e < last → size ≤ length new
-    → v ≡ less_product (item new (slice_index columns e)) m (item values e) → unsigned_abs v ≤ 10 ^ 17
-    → IsLessenedUpTo m columns values first (e + 1) old (slice_set new (slice_index columns e) v)
-lessened_more m k size columns values first e last old above new v entries was low_e inside long v_is fine =
+pub lessened_more : {m : ℤ} {from size : ℕ} {columns : List ℕ} {values : List ℤ} {first e last : ℕ} {old above new : List ℤ} (v : ℤ)
+    → AreEntries above from size columns values first last → IsLessenedUpTo m columns first e old above new → first ≤ e → e < last → size ≤ length new
+    → v ≡ less_product (item old (slice_index columns e)) m (item above (slice_index columns e)) → unsigned_abs v ≤ 10 ^ 17
+    → IsLessenedUpTo m columns first (e + 1) old above (slice_set new (slice_index columns e) v)
+lessened_more {columns = columns} {e = e} {new = new} v entries was low_e inside long v_is fine =
     let in_row : slice_index columns e < length new = omega (arith, entries.high e low_e inside) in
-    let untouched = lessened_here m k size columns values first e last old above new entries was inside in
     record {
       done = λ d low high. elim (cases_eq d e) [
-        | inl here ↦ rw (here, get_or-set_same) (v_is ∙ rw untouched refl)
+        | inl here ↦ rw (here, get_or-set_same) v_is
         | inr earlier ↦
             let other : slice_index columns d ≢ slice_index columns e = omega (arith, entries.rising d e low (omega arith) inside) in
             rw get_or-set_other (was.done d low (omega arith))
@@ -59,13 +75,13 @@ lessened_more m k size columns values first e last old above new v entries was l
           rw get_or-set_other (was.rest j (λ d low high. none d low (omega arith)));
     }
 
-pub lessened_all : (m : ℤ) (k size : ℕ) (columns : List ℕ) (values : List ℤ) (first last : ℕ) (old above new : List ℤ)
-    → AreEntries above (k + 1) size columns values first last → IsLessenedUpTo m columns values first last old new → length old ≡ size
+pub lessened_all : {m : ℤ} {columns : List ℕ} {values : List ℤ} {first last : ℕ} {old above new : List ℤ} (k : ℕ)
+    → AreEntries above (k + 1) (length old) columns values first last → IsLessenedUpTo m columns first last old above new
     → ((j : ℕ) → k ≤ j → unsigned_abs (item old j) ≤ 10 ^ 17) → IsLessened m k old above new
-lessened_all m k size columns values first last old above new entries was long small = record {
+lessened_all {m = m} {columns = columns} {first = first} {last = last} {old = old} k entries was small = record {
   before = λ j low. was.rest j (λ d from_on below same. omega (arith, entries.low d from_on below));
   after = λ j low inside. elim (cases_column columns first last j) [
-    | inl (d, from_on, below, is) ↦ rw (← is) (was.done d from_on below ∙ rw (entries.value_is d from_on below) refl)
+    | inl (d, from_on, below, is) ↦ rw (← is) (was.done d from_on below)
     | inr none ↦
         let clear = entries.others j (omega arith) (omega arith) none in
         rw clear (was.rest j none ∙ sym (less_product-zero_right (item old j) m))

@@ -14,4 +14,3 @@ pub mod Unknowns
 pub mod Solutions
 pub mod Adding
 pub mod Prefix
-pub mod FaultRows

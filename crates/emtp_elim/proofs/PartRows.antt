@@ -83,13 +83,12 @@ underway_start done given small = record {
   };
 }
 
-pub underway_more : (size k : ℕ) (done : Matrix) (given work above new : List ℤ) → IsUnderWay done k given work → k < length done → length done < size
-    → length work ≡ size → length new ≡ size → row_of done k ≡ above → IsFinishedRow size k above → IsClearedRow k work above new
+pub underway_more : (size k : ℕ) (done : Matrix) (given work new : List ℤ) → IsUnderWay done k given work → k < length done → length done < size
+    → length work ≡ size → length new ≡ size → IsFinishedRow size k (row_of done k) → IsClearedRow k work (row_of done k) new
     → IsUnderWay done (k + 1) given new
-underway_more size k done given work above new was later few same_work same_new above_is finished cleared =
-    let upper : (rows : Matrix) → IsNext rows done given → IsPartRow rows k k above = λ rows next. rw above_is at (next.finished.finished k later) in
+underway_more size k done given work new was later few same_work same_new finished cleared =
     let part : (rows : Matrix) → IsNext rows done given → IsPartRow rows (length done) (suc k) new = λ rows next.
-    part_more rows (length done) k work above new later next.within (omega (arith, finished.length_is)) (omega arith) (was.part rows next) (upper rows next) cleared (omega arith) in
+    part_more rows (length done) k work (row_of done k) new later next.within (omega (arith, finished.length_is)) (omega arith) (was.part rows next) (next.finished.finished k later) cleared (omega arith) in
     record {
       ratios = λ j low. elim (cases_eq j k) [
         | inl here ↦ rw here cleared.ratio_within
@@ -100,7 +99,7 @@ underway_more size k done given work above new was later few same_work same_new 
         | inr outside ↦ rw (get_or_past new j (pos 0) (omega arith)) (omega arith)
       ];
       part = λ rows next. rw (add-one k) (part rows next);
-      in_range = λ rows next. rw (add-one k) (in_range_more rows (length done) k work above new (omega arith) (was.in_range rows next) (part rows next) cleared);
+      in_range = λ rows next. rw (add-one k) (in_range_more rows (length done) k work (row_of done k) new (omega arith) (was.in_range rows next) (part rows next) cleared);
     }
 
 -- ---- faults
@@ -120,12 +119,12 @@ faults_start done given out = faults_for done given Range (λ rows next in_range
     let fine = in_range.entries 0 j (omega arith) (omega arith) (omega arith) in
     rw (get_or_default given j d (pos 0) inside) (rw (entry_start rows (length done) j, next.row_is) at fine)))
 
-pub faults_clearing : (size k : ℕ) (done : Matrix) (given work above : List ℤ) → IsUnderWay done k given work → k < length done → length done < size
-    → length work ≡ size → row_of done k ≡ above → IsFinishedRow size k above → LeavesRangeAt k work above → FaultsRow done given Range
-faults_clearing size k done given work above was later few same_work above_is finished out = faults_for done given Range (λ rows next in_range.
+pub faults_clearing : (size k : ℕ) (done : Matrix) (given work : List ℤ) → IsUnderWay done k given work → k < length done → length done < size
+    → length work ≡ size → IsFinishedRow size k (row_of done k) → LeavesRangeAt k work (row_of done k) → FaultsRow done given Range
+faults_clearing size k done given work was later few same_work finished out = faults_for done given Range (λ rows next in_range.
     let part = was.part rows next in
-    let upper : IsPartRow rows k k above = rw above_is at (next.finished.finished k later) in
-    let ratio_is : quotient (item work k) (item above k) ≡ ratio (stage rows k) k (length done) =
+    let upper = next.finished.finished k later in
+    let ratio_is : quotient (item work k) (entry done k k) ≡ ratio (stage rows k) k (length done) =
     rw (part.entries k (omega arith) (omega arith), upper.entries k (omega arith) (omega (arith, finished.length_is))) refl in
     elim out [
       | inl ratio_out ↦ omega (arith, rw ratio_is at ratio_out, in_range.ratios k later)

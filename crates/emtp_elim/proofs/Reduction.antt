@@ -27,15 +27,15 @@ partial_is rows done given right i all inside same was (suc k) low =
       was.reduced k low,
     ) (sym (right_later rows given k i low (omega arith)))
 
-pub reduced_more : (done : Matrix) (given right ratios : List ℤ) (i : ℕ) (v : ℤ) → AreReducedUpTo done given i right → i < length done → length given ≡ length done
-    → length right ≡ length given → row_of done i ≡ ratios → v ≡ partial_right (item right i) ratios right i
-    → ((k : ℕ) → k ≤ i → unsigned_abs (partial_right (item right i) ratios right k) ≤ 10 ^ 18)
+pub reduced_more : (done : Matrix) (given right : List ℤ) (i : ℕ) (v : ℤ) → AreReducedUpTo done given i right → i < length done → length given ≡ length done
+    → length right ≡ length given → v ≡ partial_right (item right i) (row_of done i) right i
+    → ((k : ℕ) → k ≤ i → unsigned_abs (partial_right (item right i) (row_of done i) right k) ≤ 10 ^ 18)
     → AreReducedUpTo done given (i + 1) (slice_set right i v)
-reduced_more done given right ratios i v was inside same same_right row_is e within =
+reduced_more done given right i v was inside same same_right e within =
     let start = was.rest i (omega arith) in
     let in_right : i < length right = omega arith in
-    let v_is : v ≡ partial_right (item given i) (row_of done i) right i = rw (start, ← row_is) at e in
-    let small : (k : ℕ) → k ≤ i → unsigned_abs (partial_right (item given i) (row_of done i) right k) ≤ 10 ^ 18 = λ k low. rw (start, ← row_is) at (within k low) in
+    let v_is : v ≡ partial_right (item given i) (row_of done i) right i = rw start at e in
+    let small : (k : ℕ) → k ≤ i → unsigned_abs (partial_right (item given i) (row_of done i) right k) ≤ 10 ^ 18 = λ k low. rw start at (within k low) in
     record {
       small = λ h low. elim (cases_eq h i) [
         | inl here ↦ rw (here, get_or-set_same, v_is) (small i (omega arith))
@@ -57,13 +57,13 @@ reduced_more done given right ratios i v was inside same same_right row_is e wit
           };
     }
 
-pub right_fault : (done : Matrix) (given right ratios : List ℤ) (i k : ℕ) → AreReducedUpTo done given i right → i < length done → length given ≡ length done
-    → row_of done i ≡ ratios → k ≤ i → 10 ^ 18 < unsigned_abs (partial_right (item right i) ratios right k)
+pub right_fault : (done : Matrix) (given right : List ℤ) (i k : ℕ) → AreReducedUpTo done given i right → i < length done → length given ≡ length done
+    → k ≤ i → 10 ^ 18 < unsigned_abs (partial_right (item right i) (row_of done i) right k)
     → (rows : Matrix) → AreAllFinished rows done → IsRightFault rows given i
-right_fault done given right ratios i k was inside same row_is low out rows all =
+right_fault done given right i k was inside same low out rows all =
     let old = was.reduced rows all in
     let start = was.rest i (omega arith) in
-    let large = rw (start, ← row_is, partial_is rows done given right i all inside same old k low) at out in
+    let large = rw (start, partial_is rows done given right i all inside same old k low) at out in
     record {
       within = omega (arith, all.all);
       earlier = old.in_range;

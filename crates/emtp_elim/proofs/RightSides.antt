@@ -1,75 +1,69 @@
 -- The work on right sides, ratio by ratio.
-use Rattle.std.proofs.Common.{◌≡◌, ℕ, zero, suc, ◌+◌, ◌^◌, ◌<◌, ◌≤◌, ℤ, pos, unsigned_abs, List, slice_index, refl, ap, sym, ◌∙◌, inl, inr, arith}
-use Rattle.std.proofs.lemmas.Bool.{cases_eq, cases_lt}
+use Rattle.std.proofs.Common.{◌≡◌, ℕ, suc, ◌+◌, ◌^◌, ◌<◌, ◌≤◌, ℤ, unsigned_abs, List, slice_index, to_z, of_z, sym, ◌∙◌, inl, inr, arith}
+use mir.Syntax.{w128}
+use Rattle.std.proofs.lemmas.Bool.{cases_lt}
+use Rattle.emtp_fix.proofs.Wide.{through}
 use Rattle.emtp_elim.specs.Matrix.{item}
 use Rattle.emtp_elim.specs.Elimination.{less_product}
 use Rattle.emtp_elim.specs.Stored.{AreEntries}
 use Rattle.emtp_elim.specs.Substitution.{partial_right}
-use Rattle.emtp_elim.proofs.Entries.{entries_gap}
+use Rattle.emtp_elim.proofs.Entries.{IsAt, at_start, at_entry, at_next, stands_still}
 use Rattle.emtp_elim.proofs.Products.{less_product-zero_left}
 
 -- over ratios that are 0 nothing changes
-pub partial_still : (start : ℤ) (ratios above : List ℤ) (a b : ℕ) → a ≤ b → ((h : ℕ) → a ≤ h → h < b → item ratios h ≡ pos 0)
-    → partial_right start ratios above b ≡ partial_right start ratios above a
-partial_still start ratios above a zero low zeros = let none : a ≡ zero = omega arith in rw none refl
-partial_still start ratios above a (suc b) low zeros = elim (cases_eq a (suc b)) [
-  | inl same ↦ ap (partial_right start ratios above) (sym same)
-  | inr below ↦ rw (zeros b (omega arith) (omega arith)) (less_product-zero_left (partial_right start ratios above b) (item above b))
-      ∙ partial_still start ratios above a b (omega arith) (λ h from_on before. zeros h from_on (omega arith))
-]
+partial_still : (start : ℤ) (ratios above : List ℤ) (i : ℕ) (columns : List ℕ) (values : List ℤ) (first e last a b : ℕ) → AreEntries ratios 0 i columns values first last
+    → IsAt columns first e last a → IsAt columns first e last b → a ≤ b → b ≤ i → partial_right start ratios above b ≡ partial_right start ratios above a
+partial_still start ratios above i columns values first e last a b entries at_a at_b low high =
+    stands_still (partial_right start ratios above) ratios 0 i columns values first e last a b entries at_a at_b (omega arith) low high
+    (λ j from_on clear. rw clear (less_product-zero_left (partial_right start ratios above j) (item above j)))
 
 -- the products of the ratios before place e are taken away, so that h columns are done for each h up to the next ratio
-pub record IsPartial (start : ℤ) (ratios above : List ℤ) (i : ℕ) (columns : List ℕ) (e last : ℕ) (value : ℤ) : Type 0 where
-  pub value_is : (h : ℕ) → h ≤ i → ((d : ℕ) → d < e → slice_index columns d < h) → ((d : ℕ) → e ≤ d → d < last → h ≤ slice_index columns d)
-      → value ≡ partial_right start ratios above h
+pub record IsPartial (start : ℤ) (ratios above : List ℤ) (i : ℕ) (columns : List ℕ) (first e last : ℕ) (value : ℤ) : Type 0 where
+  pub value_is : (h : ℕ) → h ≤ i → IsAt columns first e last h → value ≡ partial_right start ratios above h
   pub small : unsigned_abs value ≤ 10 ^ 18
-  pub within : (h : ℕ) → h ≤ i → ((d : ℕ) → e ≤ d → d < last → h ≤ slice_index columns d) → unsigned_abs (partial_right start ratios above h) ≤ 10 ^ 18
+  pub within : (h g : ℕ) → h ≤ g → g ≤ i → IsAt columns first e last g → unsigned_abs (partial_right start ratios above h) ≤ 10 ^ 18
 
-pub partial_start : (start : ℤ) (ratios above : List ℤ) (i : ℕ) (columns : List ℕ) (values : List ℤ) (last : ℕ) → AreEntries ratios 0 i columns values 0 last
-    → unsigned_abs start ≤ 10 ^ 18 → IsPartial start ratios above i columns 0 last start
-partial_start start ratios above i columns values last entries small =
-    let still : (h : ℕ) → h ≤ i → ((d : ℕ) → 0 ≤ d → d < last → h ≤ slice_index columns d) → partial_right start ratios above h ≡ start = λ h inside after.
-    partial_still start ratios above 0 h (omega arith) (λ g from_on before.
-    entries_gap ratios 0 i columns values 0 0 last g entries from_on (omega arith) (λ d low high. absurd (omega arith)) (λ d low high. omega (arith, after d low high))) in
+pub partial_start : (start : ℤ) (ratios above : List ℤ) (i : ℕ) (columns : List ℕ) (values : List ℤ) (first last : ℕ) → AreEntries ratios 0 i columns values first last
+    → unsigned_abs start ≤ 10 ^ 18 → IsPartial start ratios above i columns first first last start
+partial_start start ratios above i columns values first last entries small =
+    let still : (h g : ℕ) → h ≤ g → g ≤ i → IsAt columns first first last g → partial_right start ratios above h ≡ start = λ h g low inside at.
+    partial_still start ratios above i columns values first first last 0 h entries (at_start ratios 0 i columns values first last 0 entries (λ d from_on below. omega arith))
+    (at_start ratios 0 i columns values first last h entries (λ d from_on below. omega (arith, at.after d from_on below))) (omega arith) (omega arith) in
     record {
-      value_is = λ h inside before after. sym (still h inside after);
+      value_is = λ h inside at. sym (still h h (omega arith) inside at);
       small = small;
-      within = λ h inside after. rw (still h inside after) small;
+      within = λ h g low inside at. rw (still h g low inside at) small;
     }
 
--- one product more
-pub partial_next : (start : ℤ) (ratios above : List ℤ) (i : ℕ) (columns : List ℕ) (values : List ℤ) (e last : ℕ) (value v : ℤ)
-    → AreEntries ratios 0 i columns values 0 last → IsPartial start ratios above i columns e last value → e < last
-    → v ≡ less_product value (item values e) (item above (slice_index columns e)) → v ≡ partial_right start ratios above (suc (slice_index columns e))
-partial_next start ratios above i columns values e last value v entries was inside v_is =
-    let value_is = was.value_is (slice_index columns e) (omega (arith, entries.high e (omega arith) inside))
-    (λ d low. entries.rising d e (omega arith) low inside)
-    (λ d low high. elim (cases_eq d e) [
-      | inl here ↦ rw here (omega arith)
-      | inr later ↦ omega (arith, entries.rising e d (omega arith) (omega arith) high)
-    ]) in
-    rw (value_is, entries.value_is e (omega arith) inside) at v_is
+-- one product more, as the code computes it
+pub partial_next : (start : ℤ) (ratios above : List ℤ) (i : ℕ) (columns : List ℕ) (values : List ℤ) (first e last : ℕ) (value m v : ℤ)
+    → AreEntries ratios 0 i columns values first last → ((k : ℕ) → k < i → unsigned_abs (item ratios k) ≤ 10 ^ 18) → ((k : ℕ) → k < i → unsigned_abs (item above k) ≤ 10 ^ 18)
+    → IsPartial start ratios above i columns first e last value → first ≤ e → e < last → m ≡ item values e
+    → v ≡ less_product value (to_z w128 (of_z w128 m)) (to_z w128 (of_z w128 (item above (slice_index columns e))))
+    → v ≡ partial_right start ratios above (suc (slice_index columns e))
+partial_next start ratios above i columns values first e last value m v entries small_ratios small_above was low_e inside m_is v_is =
+    let k = slice_index columns e in
+    let before : k < i = entries.high e low_e inside in
+    let ratio_is : m ≡ item ratios k = m_is ∙ entries.value_is e low_e inside in
+    let same_value : value ≡ partial_right start ratios above k = was.value_is k (omega arith) (at_entry ratios 0 i columns values first e last entries low_e inside) in
+    let same_ratio : to_z w128 (of_z w128 m) ≡ item ratios k = rw ratio_is (through (item ratios k) (omega (arith, small_ratios k before))) in
+    let same_above : to_z w128 (of_z w128 (item above k)) ≡ item above k = through (item above k) (omega (arith, small_above k before)) in
+    rw (same_value, same_ratio, same_above) at v_is
 
-pub partial_more : (start : ℤ) (ratios above : List ℤ) (i : ℕ) (columns : List ℕ) (values : List ℤ) (e last : ℕ) (value v : ℤ)
-    → AreEntries ratios 0 i columns values 0 last → IsPartial start ratios above i columns e last value → e < last
-    → v ≡ less_product value (item values e) (item above (slice_index columns e)) → unsigned_abs v ≤ 10 ^ 18
-    → IsPartial start ratios above i columns (e + 1) last v
-partial_more start ratios above i columns values e last value v entries was inside v_is small =
-    let next = partial_next start ratios above i columns values e last value v entries was inside v_is in
-    let still : (h : ℕ) → h ≤ i → slice_index columns e < h → ((d : ℕ) → e + 1 ≤ d → d < last → h ≤ slice_index columns d) → partial_right start ratios above h ≡ v = λ h in_row past after.
-    partial_still start ratios above (suc (slice_index columns e)) h (omega arith) (λ g from_on before.
-    entries_gap ratios 0 i columns values 0 (e + 1) last g entries (omega arith) (omega arith) (λ d low high. elim (cases_eq d e) [
-      | inl here ↦ rw here (omega arith)
-      | inr earlier ↦ omega (arith, entries.rising d e (omega arith) (omega arith) inside)
-    ]) (λ d low high. omega (arith, after d low high))) ∙ sym next in
+pub partial_more : (start : ℤ) (ratios above : List ℤ) (i : ℕ) (columns : List ℕ) (values : List ℤ) (first e last : ℕ) (value v : ℤ)
+    → AreEntries ratios 0 i columns values first last → IsPartial start ratios above i columns first e last value → first ≤ e → e < last
+    → v ≡ partial_right start ratios above (suc (slice_index columns e)) → unsigned_abs v ≤ 10 ^ 18 → IsPartial start ratios above i columns first (e + 1) last v
+partial_more start ratios above i columns values first e last value v entries was low_e inside next small =
+    let k = slice_index columns e in
+    let still : (h g : ℕ) → k < h → h ≤ g → g ≤ i → IsAt columns first (e + 1) last g → partial_right start ratios above h ≡ v = λ h g past low in_row at.
+    let next_at = at_next ratios 0 i columns values first e last entries low_e inside in
+    partial_still start ratios above i columns values first (e + 1) last (suc k) h entries next_at
+    (record { before = λ d from_on below. omega (arith, next_at.before d from_on below); after = λ d from_on below. omega (arith, at.after d from_on below) }) (omega arith) (omega arith) ∙ sym next in
     record {
-      value_is = λ h in_row before after. sym (still h in_row (before e (omega arith)) after);
+      value_is = λ h in_row at. sym (still h h (at.before e low_e (omega arith)) (omega arith) in_row at);
       small = small;
-      within = λ h in_row after. elim (cases_lt (slice_index columns e) h) [
-        | inl past ↦ rw (still h in_row past after) small
-        | inr reached ↦ was.within h in_row (λ d low high. elim (cases_eq d e) [
-          | inl here ↦ rw here reached
-          | inr later ↦ after d (omega arith) high
-        ])
+      within = λ h g low in_row at. elim (cases_lt k h) [
+        | inl past ↦ rw (still h g past low in_row at) small
+        | inr reached ↦ was.within h k reached (omega (arith, entries.high e low_e inside)) (at_entry ratios 0 i columns values first e last entries low_e inside)
       ];
     }

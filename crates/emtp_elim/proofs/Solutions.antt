@@ -5,11 +5,9 @@ use Rattle.emtp_elim.specs.Matrix.{Matrix, item, row_of, entry, products, AreWit
 use Rattle.emtp_elim.specs.Elimination.{last_unknowns, stage, stage_right, solution}
 use Rattle.emtp_elim.specs.Fault.{IsGoodMatrix, IsRightFault}
 use Rattle.emtp_elim.specs.Finished.{AreAllFinished}
-use Rattle.emtp_elim.specs.Stored.{AreStored, rows_kept}
 use Rattle.emtp_elim.specs.Substitution.{AreReduced, IsLastFault, SolvesAs}
 use Rattle.emtp_elim.specs.declared.fault.PlainFault.TheVariants.{Solve}
 use Rattle.emtp_elim.proofs.Stages.{length-stage, entry_settled, right_settled}
-use Rattle.emtp_elim.proofs.KeptRows.{length-rows_kept, row_of-rows_kept}
 use Rattle.emtp_elim.proofs.Outcomes.{outcome_right, outcome_unknown, outcome_solved}
 use Rattle.emtp_elim.proofs.Unknowns.{last_unknowns-none, last_unknowns-more, length-last_unknowns}
 
@@ -80,16 +78,10 @@ solves_unknown_fault done given right i square same reduced fault = record {
 }
 
 pub solves_ok : (done : Matrix) (given right x : List ℤ) → IsSquare done → length given ≡ length done
-    → ((rows : Matrix) → AreAllFinished rows done → AreReduced rows given (length given) right) → x ≡ last_unknowns done right (length given) → AreWithin (10 ^ 18) x
+    → ((rows : Matrix) → AreAllFinished rows done → AreReduced rows given (length given) right) → x ≡ last_unknowns done right (length done) → AreWithin (10 ^ 18) x
     → SolvesAs done given (Ok x)
 solves_ok done given right x square same reduced x_is small = record {
   outcome_is = λ rows all.
-      let same_x : x ≡ solution rows given = rw same at x_is ∙ solution_is rows done given right all square same (rw same at (reduced rows all)) in
+      let same_x : x ≡ solution rows given = x_is ∙ solution_is rows done given right all square same (rw same at (reduced rows all)) in
       rw same_x (outcome_solved rows given (all_good rows done all) (λ i h. (reduced rows all).in_range i (omega (arith, all.all))) (λ i h. rw same_x at (small i)));
 }
-
-pub square-rows_kept : (size : ℕ) (starts pivots columns : List ℕ) (values : List ℤ) → AreStored size size starts pivots columns values
-    → IsSquare (rows_kept size size starts columns values)
-square-rows_kept size starts pivots columns values stored i h =
-    let count : length (rows_kept size size starts columns values) ≡ size = length-rows_kept size size starts columns values in
-    ap length (row_of-rows_kept size size starts columns values i (omega arith)) ∙ (stored.each i (omega arith)).finished.length_is ∙ sym count

@@ -3,7 +3,7 @@ use Rattle.std.proofs.Common.{◌≡◌, ℕ, zero, suc, ◌+◌, ◌-◌, ◌^�
 use Rattle.std.proofs.lemmas.List.{get_or-drop, get_or-set_same, get_or-set_other, get_or_past, drop_more, drop-set-lt, drop_all}
 use Rattle.std.proofs.lemmas.Bool.{cases_eq}
 use Rattle.emtp_fix.specs.Rounding.{near}
-use Rattle.emtp_elim.specs.Matrix.{Matrix, item, row_of, products}
+use Rattle.emtp_elim.specs.Matrix.{Matrix, item, row_of, entry, products}
 use Rattle.emtp_elim.specs.Elimination.{unknown, last_unknowns}
 use Rattle.emtp_elim.specs.Substitution.{IsLastFault}
 
@@ -42,21 +42,21 @@ found_none rows right x n n_is same = record {
 }
 
 -- the value of the next unknown, from what the code adds up
-next_is : (rows : Matrix) (right x row : List ℤ) (n k : ℕ) (left v : ℤ) → AreFound rows right n x → n ≡ k + 1 → k < length rows → length x ≡ length rows
-    → row_of rows k ≡ row → length row ≡ length rows → left ≡ item right k *ℤ pos (10 ^ 12) -ℤ products (drop (k + 1) row) (drop (k + 1) x) (length row - (k + 1)) → v ≡ near left (item row k)
+next_is : (rows : Matrix) (right x : List ℤ) (n k : ℕ) (left v : ℤ) → AreFound rows right n x → n ≡ k + 1 → k < length rows → length x ≡ length rows
+    → left ≡ item right k *ℤ pos (10 ^ 12) -ℤ products (drop (k + 1) (row_of rows k)) (drop (k + 1) x) (length rows - (k + 1)) → v ≡ near left (entry rows k k)
     → v ≡ unknown rows right k (last_unknowns rows right (length rows - n))
-next_is rows right x row n k left v was n_is inside same row_is row_long left_is v_is =
+next_is rows right x n k left v was n_is inside same left_is v_is =
     let later_is : drop (k + 1) x ≡ last_unknowns rows right (length rows - n) = ap (λ m. drop m x) (sym n_is) ∙ was.found in
     let count : length (last_unknowns rows right (length rows - n)) ≡ length rows - (k + 1) = length-last_unknowns rows right (length rows - n) ∙ omega arith in
     let after : suc k ≡ k + 1 = omega arith in
-    v_is ∙ rw (left_is, later_is, row_long, count, after, row_is) refl
+    v_is ∙ rw (left_is, later_is, count, after) refl
 
-pub found_more : (rows : Matrix) (right x row : List ℤ) (n k : ℕ) (left v : ℤ) → AreFound rows right n x → n ≡ k + 1 → k < length rows → length x ≡ length rows
-    → row_of rows k ≡ row → length row ≡ length rows → left ≡ item right k *ℤ pos (10 ^ 12) -ℤ products (drop (k + 1) row) (drop (k + 1) x) (length row - (k + 1)) → v ≡ near left (item row k)
+pub found_more : (rows : Matrix) (right x : List ℤ) (n k : ℕ) (left v : ℤ) → AreFound rows right n x → n ≡ k + 1 → k < length rows → length x ≡ length rows
+    → left ≡ item right k *ℤ pos (10 ^ 12) -ℤ products (drop (k + 1) (row_of rows k)) (drop (k + 1) x) (length rows - (k + 1)) → v ≡ near left (entry rows k k)
     → unsigned_abs v ≤ 10 ^ 18 → AreFound rows right k (slice_set x k v)
-found_more rows right x row n k left v was n_is inside same row_is row_long left_is v_is small =
+found_more rows right x n k left v was n_is inside same left_is v_is small =
     let in_x : k < length x = omega arith in
-    let v_next = next_is rows right x row n k left v was n_is inside same row_is row_long left_is v_is in
+    let v_next = next_is rows right x n k left v was n_is inside same left_is v_is in
     let one_more : length rows - k ≡ suc (length rows - n) = omega arith in
     let place : length rows - suc (length rows - n) ≡ k = omega arith in
     let rest : drop (k + 1) (slice_set x k v) ≡ last_unknowns rows right (length rows - n) =
@@ -70,11 +70,11 @@ found_more rows right x row n k left v was n_is inside same row_is row_long left
       ];
     }
 
-pub found_fault : (rows : Matrix) (right x row : List ℤ) (n k : ℕ) (left v : ℤ) → AreFound rows right n x → n ≡ k + 1 → k < length rows → length x ≡ length rows
-    → row_of rows k ≡ row → length row ≡ length rows → left ≡ item right k *ℤ pos (10 ^ 12) -ℤ products (drop (k + 1) row) (drop (k + 1) x) (length row - (k + 1)) → v ≡ near left (item row k)
+pub found_fault : (rows : Matrix) (right x : List ℤ) (n k : ℕ) (left v : ℤ) → AreFound rows right n x → n ≡ k + 1 → k < length rows → length x ≡ length rows
+    → left ≡ item right k *ℤ pos (10 ^ 12) -ℤ products (drop (k + 1) (row_of rows k)) (drop (k + 1) x) (length rows - (k + 1)) → v ≡ near left (entry rows k k)
     → 10 ^ 18 < unsigned_abs v → IsLastFault rows right k
-found_fault rows right x row n k left v was n_is inside same row_is row_long left_is v_is large =
-    let v_next = next_is rows right x row n k left v was n_is inside same row_is row_long left_is v_is in
+found_fault rows right x n k left v was n_is inside same left_is v_is large =
+    let v_next = next_is rows right x n k left v was n_is inside same left_is v_is in
     let all = last_unknowns rows right (length rows) in
     let split_n : length rows - n + n ≡ length rows = omega arith in
     let from_n : drop n all ≡ last_unknowns rows right (length rows - n) = rw split_n at (drop-last_unknowns rows right (length rows - n) n) in

@@ -6,4 +6,5 @@ pub mod Outcome
 pub mod Finished
 pub mod Clearing
 pub mod Stored
+pub mod Row
 pub mod Substitution

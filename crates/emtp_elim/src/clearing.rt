@@ -1,38 +1,32 @@
 // One column cleared from a row.
-ghost use Rattle.std.specs.Prelude.{◌≡◌, ◌≢◌, ℕ, ◌+◌, ◌^◌, ◌<◌, ◌≤◌, pos, unsigned_abs, length};
+ghost use Rattle.std.specs.Prelude.{◌≡◌, ℕ, ◌^◌, ◌<◌, ◌≤◌, unsigned_abs, length};
 ghost use Rattle.std.specs.Bool.{OnTrue, OnFalse};
 ghost use Rattle.emtp_elim.specs.Matrix.{item};
 ghost use Rattle.emtp_elim.specs.Clearing.{IsClearedRow, LeavesRangeAt};
-ghost use Rattle.emtp_elim.specs.Stored.{dense_row, IsStoredRow};
+ghost use Rattle.emtp_elim.specs.Row.{numbers, IsRow};
 
 use crate::arithmetic::{LARGEST_ENTRY, LARGEST_RATIO, less, ratio};
+use crate::row::FinishedRow;
 
 /// Clears column `k` from a row by finished row `k`, and puts the ratio of the two in its place. False where the ratio
 /// or an entry leaves its range.
-///
-/// The finished row is given by its numbers that aren't 0, in units of 1e-12, and their columns. Its pivot stands at
-/// the place `pivot` among them.
-pub fn clear_column(
-    work: &mut [i128],
-    columns: &[u16],
-    values: &[i64],
-    pivot: usize,
-    k: usize,
-) -> bool
-    requires above { IsStoredRow (length work.old) k columns.now values.now pivot }
+pub fn clear_column(work: &mut [i128], above: FinishedRow<'_>, k: usize) -> bool
+    requires above { IsRow (length work.old) k above }
     requires place { k < length work.old }
     requires entries { (j : ℕ) → k ≤ j → unsigned_abs (item work.old j) ≤ 10 ^ 17 }
-    ensures cleared { OnTrue result (IsClearedRow k work.old (dense_row (length work.old) columns.now values.now) work.new) }
-    ensures out { OnFalse result (LeavesRangeAt k work.old (dense_row (length work.old) columns.now values.now)) }
+    ensures cleared { OnTrue result (IsClearedRow k work.old (numbers (length work.old) above.entry) work.new) }
+    ensures out { OnFalse result (LeavesRangeAt k work.old (numbers (length work.old) above.entry)) }
 {
     if work[k] == 0 {
         return true;
     }
-    let m = ratio(work[k], i128::from(values[pivot]));
+    let columns = above.columns;
+    let values = above.values;
+    let m = ratio(work[k], i128::from(values[above.pivot]));
     if m.unsigned_abs() > LARGEST_RATIO {
         return false;
     }
-    for e in pivot + 1..columns.len() {
+    for e in above.pivot + 1..above.last {
         let column = columns[e] as usize;
         let entry = less(work[column], m, i128::from(values[e]));
         if entry.unsigned_abs() > LARGEST_ENTRY {

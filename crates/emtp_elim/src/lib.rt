@@ -17,6 +17,7 @@ mod clearing;
 mod fault;
 mod finishing;
 mod plain;
+mod row;
 mod rows;
 mod sparse;
 mod storing;

@@ -1,16 +1,18 @@
 // The finished rows of a matrix, and the next row finished by them.
-ghost use Rattle.std.specs.Prelude.{◌≡◌, ◌+◌, ◌^◌, ◌<◌, ◌≤◌, length, take, [], ◌∷◌, ◌++◌, IfOk, OnOk, OnErr, IfErr, Ok, Err};
-ghost use Rattle.emtp_elim.specs.Matrix.{AreWithin};
+ghost use Rattle.std.specs.Prelude.{◌≡◌, ℕ, ◌+◌, ◌^◌, ◌<◌, ◌≤◌, length, take, [], ◌∷◌, ◌++◌, IfOk, OnOk, OnErr, IfErr, Ok, Err};
+ghost use Rattle.emtp_elim.specs.Matrix.{AreWithin, row_of};
 ghost use Rattle.emtp_elim.specs.Finished.{Finished, IsRowAdded, AddsRow, FaultsRow};
 ghost use Rattle.emtp_elim.specs.Stored.{AreStored, rows_kept};
+ghost use Rattle.emtp_elim.specs.Row.{numbers, IsRow};
 ghost use Rattle.emtp_elim.specs.Substitution.{SolvesAs};
 ghost use Rattle.emtp_elim.specs.declared.fault.PlainFault.{PlainFault};
 
 use crate::fault::{RowCause, SolveFault};
 use crate::finishing::finish_row;
+use crate::row::FinishedRow;
 use crate::storing::store_next;
-use crate::substitution::solve_rows;
-use emtp_fix::{Steps, word_of};
+use crate::substitution::{reduce_right, substitute_back};
+use emtp_fix::Steps;
 use std::alloc::{AllocError, Global};
 use std::marker::Model;
 use std::sync::ledger::Ledger;
@@ -19,7 +21,7 @@ use std::sync::ledger::Ledger;
 ///
 /// `values` has the numbers that aren't 0, in units of 1e-12, row after row without gaps, and `columns` beside each its
 /// column. The entries of row `i` stand from place `starts[i]` on and before `starts[i + 1]`, its pivot at the place
-/// `pivots[i]` among them. So the work on later rows and right sides meets no zeros. `words[i]` is the word by which
+/// `pivots[i]`. So the work on later rows and right sides meets no zeros. `words[i]` is the word by which
 /// [`near_by`](emtp_fix::near_by) divides by that pivot, in every solution.
 #[derive(Drop)]
 pub struct SparseRows {
@@ -37,7 +39,7 @@ impl Model for SparseRows {
 
     ghost view = { λ s. record { size = s.size; rows = rows_kept s.size s.count s.starts.items s.columns.items s.values.items } };
 
-    ghost invariant = { λ s. AreStored s.size s.count s.starts.items s.pivots.items s.columns.items s.values.items };
+    ghost invariant = { λ s. AreStored s.size s.count s.starts.items s.pivots.items s.columns.items s.values.items s.words.items };
 }
 
 impl SparseRows {
@@ -59,9 +61,28 @@ impl SparseRows {
 
     /// How many rows are finished.
     pub fn rows(&self) -> usize
-        ensures { result ≡ length self.now.rows }
+        ensures count { result ≡ length self.now.rows }
+        ensures width { (i : ℕ) → i < length self.now.rows → length (row_of self.now.rows i) ≡ self.now.size }
     {
         self.count
+    }
+
+    /// Finished row `i`.
+    #[tactic(auto, using(crate::proofs::KeptRows::count_is))]
+    pub(crate) fn row(&self, i: usize) -> FinishedRow<'_>
+        requires { i < length self.now.rows }
+        ensures row { IsRow self.now.size i result }
+        ensures numbers { numbers self.now.size result ≡ row_of self.now.rows i }
+        ensures few { self.now.size ≤ 1000 }
+    {
+        FinishedRow {
+            columns: &self.columns,
+            values: &self.values,
+            first: self.starts[i],
+            pivot: self.pivots[i],
+            last: self.starts[i + 1],
+            word: self.words[i],
+        }
     }
 
     /// Keeps the first rows.
@@ -83,16 +104,10 @@ impl SparseRows {
         ensures solved { OnOk result (SolvesAs self.now.rows rhs.old (Ok x.new)) }
         ensures within { OnOk result (AreWithin (10 ^ 18) x.new) }
         ensures fault { IfErr result (λ fault. SolvesAs self.now.rows rhs.old (Err (PlainFault.Solve fault))) }
+        ensures row { IfErr result (λ fault. fault.row < self.now.size) }
     {
-        solve_rows(
-            &self.starts,
-            &self.pivots,
-            &self.columns,
-            &self.values,
-            &self.words,
-            rhs,
-            x,
-        )
+        reduce_right(self, rhs)?;
+        substitute_back(self, rhs, x)
     }
 
     /// Finishes the next row of the matrix, and keeps it. After a refusal the rows are as before.
@@ -103,32 +118,18 @@ impl SparseRows {
         ensures kept { OnErr result (self.new ≡ self.old) }
         ensures fault { IfErr result (FaultsRow self.old.rows work.old) }
     {
-        finish_row(
-            &self.starts,
-            &self.pivots,
-            &self.columns,
-            &self.values,
-            self.count,
-            work,
-        )?;
+        finish_row(self, work)?;
         store_next(
             &mut self.starts,
             &mut self.pivots,
             &mut self.columns,
             &mut self.values,
+            &mut self.words,
             self.count,
             work,
         );
-        keep_word(&mut self.words, self.count, work);
         self.count += 1;
         Ok(())
-    }
-}
-
-/// Keeps the word of the pivot of a finished row.
-fn keep_word(words: &mut [u64], count: usize, work: &[i128]) {
-    if count < words.len() && count < work.len() {
-        words[count] = word_of(work[count]);
     }
 }
 

@@ -1,8 +1,10 @@
 // A finished row put after those that are kept.
-ghost use Rattle.std.specs.Prelude.{◌≡◌, ℕ, ◌*◌, ◌+◌, ◌^◌, ◌<◌, ◌≤◌, pos, unsigned_abs, length, slice_index, [], ◌∷◌, ◌++◌};
+ghost use Rattle.std.specs.Prelude.{◌≡◌, ℕ, ◌+◌, ◌^◌, ◌<◌, ◌≤◌, unsigned_abs, length, [], ◌∷◌, ◌++◌};
 ghost use Rattle.emtp_elim.specs.Matrix.{item};
 ghost use Rattle.emtp_elim.specs.Clearing.{IsFinishedRow};
-ghost use Rattle.emtp_elim.specs.Stored.{AreEntries, AreStored, rows_kept};
+ghost use Rattle.emtp_elim.specs.Stored.{Packs, AreStored, rows_kept};
+
+use emtp_fix::word_of;
 
 /// Puts the numbers of a row that aren't 0, from column `from` on and before `upto`, with their columns after the
 /// `first` entries that are kept, and answers how many are kept then.
@@ -20,9 +22,7 @@ fn pack(
     requires room { first + upto ≤ length columns.old + from }
     requires same_room { length values.old ≡ length columns.old }
     requires numbers { (j : ℕ) → unsigned_abs (item work.now j) ≤ 10 ^ 18 }
-    ensures entries { AreEntries work.now from upto columns.new values.new first result }
-    ensures columns { (e : ℕ) → e < first → slice_index columns.new e ≡ slice_index columns.old e }
-    ensures values { (e : ℕ) → e < first → item values.new e ≡ item values.old e }
+    ensures { Packs work.now from upto columns.old columns.new values.old values.new first result }
 {
     let mut at = first;
     for j in from..upto {
@@ -36,24 +36,25 @@ fn pack(
     at
 }
 
-/// Keeps a finished row after the `count` that are kept.
+/// Keeps a finished row, and the word of its pivot, after the `count` that are kept.
 pub fn store_next(
     starts: &mut [usize],
     pivots: &mut [usize],
     columns: &mut [u16],
     values: &mut [i64],
+    words: &mut [u64],
     count: usize,
     work: &[i128],
 )
-    requires stored { AreStored (length work.now) count starts.old pivots.old columns.old values.old }
+    requires stored { AreStored (length work.now) count starts.old pivots.old columns.old values.old words.old }
     requires room { count < length work.now }
     requires finished { IsFinishedRow (length work.now) count work.now }
-    ensures stored { AreStored (length work.now) (count + 1) starts.new pivots.new columns.new values.new }
+    ensures stored { AreStored (length work.now) (count + 1) starts.new pivots.new columns.new values.new words.new }
     ensures rows { rows_kept (length work.now) (count + 1) starts.new columns.new values.new ≡ rows_kept (length work.now) count starts.old columns.old values.old ++ work.now ∷ [] }
 {
-    let start = starts[count];
-    let pivot = pack(work, 0, count, columns, values, start);
+    let pivot = pack(work, 0, count, columns, values, starts[count]);
     let end = pack(work, count, work.len(), columns, values, pivot);
-    pivots[count] = pivot - start;
+    pivots[count] = pivot;
+    words[count] = word_of(work[count]);
     starts[count + 1] = end;
 }

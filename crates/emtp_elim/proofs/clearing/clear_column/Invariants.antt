@@ -1,6 +1,7 @@
-use Rattle.std.proofs.Common.{◌+◌}
+use Rattle.std.proofs.Common.{◌+◌, length}
+use Rattle.emtp_elim.specs.Row.{numbers}
 use Rattle.emtp_elim.proofs.LessenedRows.{IsLessenedUpTo}
 use Rattle.emtp_elim.proofs.clearing.clear_column.Given as goal
 
 abbrev pub invariant-loop-e : goal.invariant-loop-e
-invariant-loop-e l = IsLessenedUpTo l.m l.columns l.values (l.pivot + 1) l.e l.fn.work l.work
+invariant-loop-e l = IsLessenedUpTo l.m l.columns (l.above.pivot + 1) l.e l.fn.work (numbers (length l.fn.work) l.above) l.work

@@ -1,11 +1,10 @@
-use Rattle.std.proofs.Common.{rules, ◌≡◌, Err, ℤ, List}
+use Rattle.std.proofs.Common.{ℤ, List}
 use Rattle.std.proofs.lemmas.Result.{err_from_is_err_and}
 use Rattle.emtp_elim.specs.Matrix.{Matrix}
 use Rattle.emtp_elim.specs.Finished.{IsMatrixFault}
 use Rattle.emtp_elim.specs.Outcome.{outcome, EndsInFault}
 use Rattle.emtp_elim.specs.declared.fault.PlainFault.{PlainFault}
 use Rattle.emtp_elim.specs.declared.fault.PlainFault.TheVariants.{Row, Solve, NoMemory}
-use Rattle.emtp_elim.proofs.FaultRows.{NamesRow-outcome}
 use Rattle.emtp_elim.proofs.Outcomes.{outcome_row}
 use Rattle.emtp_elim.proofs.plain.eliminate_plain.Goals as goal
 
@@ -19,9 +18,3 @@ pub returns-in_err-done-clause-fault : goal.returns-in_err-done-clause-fault
 returns-in_err-done-clause-fault g c =
     let returned = err_from_is_err_and c.from_residual.result c.from_residual.ensures.1 in
     rw (returned.1, returned.2) (ends_in_matrix_fault (g.R.Rows.matrix c.args.rows.now) c.args.rhs.now _ c.in_err-done.ensures.fault)
-
-pub returns-clause-row : goal.returns-clause-row
-returns-clause-row g c =
-    let rows = g.R.Rows.matrix c.args.rows.now in
-    let ends : outcome rows c.args.rhs.now ≡ Err (Solve c.in-Err.fault) = search rules in
-    NamesRow-outcome rows c.args.rhs.now (Solve c.in-Err.fault) ends

@@ -16,6 +16,6 @@ loop-j-preserved c =
     let was = c.loop-j.invariant in
     rw (wide, narrow) (record {
       entries = entries_more c.args.work.now c.args.from j c.loop-j.columns c.loop-j.values c.args.first at number was.entries (omega arith) (omega (arith, was.entries.few)) (omega (arith, was.entries.few)) refl;
-      columns = λ e low. let other : e ≢ at = omega (arith, was.entries.order) in rw get_or-set_other (was.columns e low);
-      values = λ e low. let other : e ≢ at = omega (arith, was.entries.order) in rw get_or-set_other (was.values e low);
+      same_columns = λ e low. let other : e ≢ at = omega (arith, was.entries.order) in rw get_or-set_other (was.same_columns e low);
+      same_values = λ e low. let other : e ≢ at = omega (arith, was.entries.order) in rw get_or-set_other (was.same_values e low);
     })

@@ -1,28 +1,15 @@
-use Rattle.std.proofs.Common.{◌∙◌, refl, length, slice_index, arith}
-use Rattle.emtp_elim.proofs.Entries.{entries_same}
-use Rattle.emtp_elim.proofs.KeptRows.{AddsEntries, stored_more, rows_kept-more}
+use Rattle.std.proofs.Common.{arith}
+use Rattle.emtp_elim.proofs.KeptRows.{stored_more}
 use Rattle.emtp_elim.proofs.storing.store_next.Goals as goal
 
-pub returns-clause-stored : goal.returns-clause-stored
-returns-clause-stored c =
-    let adds : AddsEntries (length c.args.work.now) c.args.count c.args.starts.now c.args.columns.now c.pack-end.new.columns c.args.values.now c.pack-end.new.values c.pack-pivot.result c.pack-end.result c.args.work.now = record {
+pub returns : goal.returns
+returns c =
+    let both = stored_more _ _ c.word_of.result c.args.starts.now c.args.pivots.now _ _ _ _ _ _ c.args.words.now _ _ c.args.work.now c.requires.stored (record {
+      finished = c.requires.finished;
+      inside = c.requires.room;
       long_columns = omega arith;
       long_values = omega arith;
-      kept_columns = λ e h. c.pack-end.ensures.columns e (omega (arith, c.pack-pivot.ensures.entries.order)) ∙ c.pack-pivot.ensures.columns e h;
-      kept_values = λ e h. c.pack-end.ensures.values e (omega (arith, c.pack-pivot.ensures.entries.order)) ∙ c.pack-pivot.ensures.values e h;
-      ratios = entries_same c.args.work.now 0 c.args.count c.pack-pivot.new.columns c.pack-end.new.columns c.pack-pivot.new.values c.pack-end.new.values (slice_index c.args.starts.now c.args.count) c.pack-pivot.result c.pack-pivot.ensures.entries c.pack-end.ensures.columns c.pack-end.ensures.values;
-      rest = c.pack-end.ensures.entries;
-    } in
-    stored_more (length c.args.work.now) c.args.count c.args.starts.now c.args.pivots.now c.args.columns.now c.pack-end.new.columns c.args.values.now c.pack-end.new.values c.pack-pivot.result c.pack-end.result c.args.work.now c.requires.stored c.requires.room c.requires.finished adds
-
-pub returns-clause-rows : goal.returns-clause-rows
-returns-clause-rows c =
-    let adds : AddsEntries (length c.args.work.now) c.args.count c.args.starts.now c.args.columns.now c.pack-end.new.columns c.args.values.now c.pack-end.new.values c.pack-pivot.result c.pack-end.result c.args.work.now = record {
-      long_columns = omega arith;
-      long_values = omega arith;
-      kept_columns = λ e h. c.pack-end.ensures.columns e (omega (arith, c.pack-pivot.ensures.entries.order)) ∙ c.pack-pivot.ensures.columns e h;
-      kept_values = λ e h. c.pack-end.ensures.values e (omega (arith, c.pack-pivot.ensures.entries.order)) ∙ c.pack-pivot.ensures.values e h;
-      ratios = entries_same c.args.work.now 0 c.args.count c.pack-pivot.new.columns c.pack-end.new.columns c.pack-pivot.new.values c.pack-end.new.values (slice_index c.args.starts.now c.args.count) c.pack-pivot.result c.pack-pivot.ensures.entries c.pack-end.ensures.columns c.pack-end.ensures.values;
-      rest = c.pack-end.ensures.entries;
-    } in
-    rows_kept-more (length c.args.work.now) c.args.count c.args.starts.now c.args.pivots.now c.args.columns.now c.pack-end.new.columns c.args.values.now c.pack-end.new.values c.pack-pivot.result c.pack-end.result c.args.work.now c.requires.stored c.requires.room refl adds
+      ratios = c.pack-pivot.ensures;
+      rest = c.pack-end.ensures;
+    }) in
+    record { stored = both.0; rows = both.1 }

@@ -1,9 +1,11 @@
-use Rattle.std.proofs.Common.{◌≡◌, length, ap, sym, ◌∙◌, arith}
-use Rattle.emtp_elim.specs.Finished.{Finished}
-use Rattle.emtp_elim.proofs.KeptRows.{length-rows_kept}
+use Rattle.std.proofs.Common.{arith}
+use Rattle.emtp_elim.proofs.KeptRows.{count_is}
 use Rattle.emtp_elim.proofs.sparse.SparseRows.add.Goals as goal
 
-pub finish_row-requires-clause-room : goal.finish_row-requires-clause-room
-finish_row-requires-clause-room c =
-    let counted : c.self.inside.count ≡ length c.args.self.now.rows = sym (length-rows_kept c.self.inside.size c.self.inside.count c.self.inside.starts.items c.self.inside.columns.items c.self.inside.values.items) ∙ ap (λ (v : Finished). length v.rows) c.self.view_is in
-    omega (arith, counted)
+pub store_next-requires-clause-room : goal.store_next-requires-clause-room
+store_next-requires-clause-room c = omega (arith, count_is _ _ _ _ _ _ c.self.view_is)
+
+pub store_next-requires-clause-finished : goal.store_next-requires-clause-finished
+store_next-requires-clause-finished c =
+    let numbers = c.in_ok-finish_row.ensures.numbers in
+    rw (← numbers.length_is, ← count_is _ _ _ _ _ _ c.self.view_is) at numbers

@@ -1,27 +1,23 @@
-use Rattle.std.proofs.Common.{◌≡◌, length, ap, sym, ◌∙◌}
-use Rattle.emtp_elim.specs.Finished.{Finished}
-use Rattle.emtp_elim.proofs.KeptRows.{length-rows_kept}
+use Rattle.std.proofs.Common.{Result, Ok, Err, OnOk, sym, ◌∙◌}
+use Rattle.std.proofs.lemmas.Result.{err_from_is_err_and, IfErr-weaker}
+use Rattle.emtp_elim.proofs.Solutions.{solves_right_fault, solves_unknown_fault, solves_ok}
 use Rattle.emtp_elim.proofs.sparse.SparseRows.solve.Goals as goal
 
-pub solve_rows-requires-clause-stored : goal.solve_rows-requires-clause-stored
-solve_rows-requires-clause-stored c =
-    let sized : c.self.inside.size ≡ length c.args.rhs.now = ap (λ (v : Finished). v.size) c.self.view_is ∙ sym c.requires.rhs in
-    let counted : c.self.inside.count ≡ length c.args.rhs.now =
-    sym (length-rows_kept c.self.inside.size c.self.inside.count c.self.inside.starts.items c.self.inside.columns.items c.self.inside.values.items) ∙ ap (λ (v : Finished). length v.rows) c.self.view_is ∙ c.requires.full ∙ sym c.requires.rhs in
-    rw (c.deref.ensures.value, c.deref-2.ensures.value, c.deref-3.ensures.value, c.deref-4.ensures.value) (rw (sized, counted) at c.self.invariant)
+on_ok_both : {T E P Q R : Type 0} (r : Result T E) → (P → Q → R) → OnOk r P → OnOk r Q → OnOk r R
+on_ok_both (Ok x) f p q = f p q
+on_ok_both (Err e) f p q = tt
+
+pub returns-in_err-reduce_right-clause-fault : goal.returns-in_err-reduce_right-clause-fault
+returns-in_err-reduce_right-clause-fault c =
+    let returned = err_from_is_err_and c.from_residual.result c.from_residual.ensures.1 in
+    rw (returned.1, returned.2) (solves_right_fault c.args.self.now.rows c.args.rhs.now _ c.in_err-reduce_right.ensures.fault)
 
 pub returns-clause-solved : goal.returns-clause-solved
 returns-clause-solved c =
-    let sized : c.self.inside.size ≡ length c.args.rhs.now = ap (λ (v : Finished). v.size) c.self.view_is ∙ sym c.requires.rhs in
-    let counted : c.self.inside.count ≡ length c.args.rhs.now =
-    sym (length-rows_kept c.self.inside.size c.self.inside.count c.self.inside.starts.items c.self.inside.columns.items c.self.inside.values.items) ∙ ap (λ (v : Finished). length v.rows) c.self.view_is ∙ c.requires.full ∙ sym c.requires.rhs in
-    let rows_are = rw (sized, counted) at (ap (λ (v : Finished). v.rows) c.self.view_is) in
-    rw (c.deref.ensures.value, c.deref-3.ensures.value, c.deref-4.ensures.value, rows_are) at c.solve_rows.ensures.solved
+    on_ok_both c.substitute_back.result (solves_ok c.args.self.now.rows c.args.rhs.now c.reduce_right.new.right c.substitute_back.new.x c.substitute_back.ensures.square (c.requires.rhs ∙ sym c.requires.full) c.in_ok-reduce_right.ensures.reduced)
+    c.substitute_back.ensures.solved c.substitute_back.ensures.within
 
 pub returns-clause-fault : goal.returns-clause-fault
 returns-clause-fault c =
-    let sized : c.self.inside.size ≡ length c.args.rhs.now = ap (λ (v : Finished). v.size) c.self.view_is ∙ sym c.requires.rhs in
-    let counted : c.self.inside.count ≡ length c.args.rhs.now =
-    sym (length-rows_kept c.self.inside.size c.self.inside.count c.self.inside.starts.items c.self.inside.columns.items c.self.inside.values.items) ∙ ap (λ (v : Finished). length v.rows) c.self.view_is ∙ c.requires.full ∙ sym c.requires.rhs in
-    let rows_are = rw (sized, counted) at (ap (λ (v : Finished). v.rows) c.self.view_is) in
-    rw (c.deref.ensures.value, c.deref-3.ensures.value, c.deref-4.ensures.value, rows_are) at c.solve_rows.ensures.fault
+    IfErr-weaker c.substitute_back.result _ _ (λ fault last. solves_unknown_fault c.args.self.now.rows c.args.rhs.now c.reduce_right.new.right fault.row c.substitute_back.ensures.square (c.requires.rhs ∙ sym c.requires.full) c.in_ok-reduce_right.ensures.reduced last)
+    c.substitute_back.ensures.fault

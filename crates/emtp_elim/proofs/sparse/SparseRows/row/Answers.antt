@@ -1,0 +1,13 @@
+use Rattle.std.proofs.Common.{◌+◌, ◌<◌, sym, ◌∙◌, arith}
+use Rattle.std.proofs.lemmas.List.{get_or_default}
+use Rattle.emtp_elim.proofs.KeptRows.{count_is, row_of-rows_kept}
+use Rattle.emtp_elim.proofs.sparse.SparseRows.row.Goals as goal
+
+pub returns : goal.returns
+returns c =
+    let inside : c.args.i < c.self.inside.count = omega (arith, count_is _ _ _ _ _ _ c.self.view_is) in
+    let first = c.index.ensures ∙ get_or_default c.self.inside.starts.items c.args.i c.index.result.now 0 (omega (arith, c.self.invariant.room_starts, c.self.invariant.within)) in
+    let pivot = c.index-2.ensures ∙ get_or_default c.self.inside.pivots.items c.args.i c.index-2.result.now 0 (omega (arith, c.self.invariant.room_pivots, c.self.invariant.within)) in
+    let last = c.index-3.ensures ∙ get_or_default c.self.inside.starts.items (c.args.i + 1) c.index-3.result.now 0 (omega (arith, c.self.invariant.room_starts, c.self.invariant.within)) in
+    rw (← c.self.view_is, c.deref.ensures.value, c.deref-2.ensures.value, first, pivot, last)
+    (record { row = c.self.invariant.each c.args.i inside; numbers = sym (row_of-rows_kept _ _ _ _ _ c.args.i inside); few = c.self.invariant.few })

@@ -1,0 +1,16 @@
+// A finished row, as the work on later rows and right sides sees it.
+
+/// A finished row, by its numbers that aren't 0, in units of 1e-12, and their columns.
+///
+/// They stand from the place `first` on and before the place `last` among those of all rows: the ratios, the pivot at
+/// the place `pivot`, then the later entries. `word` is the word by which [`near_by`](emtp_fix::near_by) divides by the
+/// pivot.
+#[derive(Clone, Copy)]
+pub struct FinishedRow<'a> {
+    pub columns: &'a [u16],
+    pub values: &'a [i64],
+    pub first: usize,
+    pub pivot: usize,
+    pub last: usize,
+    pub word: u64,
+}
