@@ -16,6 +16,7 @@ mod arithmetic;
 mod clearing;
 mod fault;
 mod finishing;
+mod laws;
 mod plain;
 mod row;
 mod rows;
@@ -24,6 +25,7 @@ mod storing;
 mod substitution;
 
 pub use fault::{PlainFault, RowCause, RowFault, SolveFault};
+pub use laws::{finished_rows_stay, row_fault_ends_systems};
 pub use plain::eliminate_plain;
 pub use rows::Rows;
 pub use sparse::{SparseRows, eliminate_row};
