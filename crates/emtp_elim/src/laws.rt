@@ -1,10 +1,10 @@
 //! What is true of finished rows and of faults, whatever matrix they are of. The functions do nothing: their clauses are
 //! proved, and a caller has them by a call.
 
-ghost use Rattle.std.specs.Prelude.{◌≡◌, ℕ, ◌≤◌, ℤ, List, length, take, Err};
+ghost use Rattle.std.specs.Prelude.{◌≡◌, ℤ, List, Err};
 ghost use Rattle.emtp_elim.specs.Matrix.{Matrix};
 ghost use Rattle.emtp_elim.specs.Fault.{IsRowFault};
-ghost use Rattle.emtp_elim.specs.Finished.{AreFinished};
+ghost use Rattle.emtp_elim.specs.Finished.{FinishedRowsStay};
 ghost use Rattle.emtp_elim.specs.Outcome.{outcome};
 ghost use Rattle.emtp_elim.specs.declared.fault.PlainFault.{PlainFault};
 ghost use Rattle.emtp_elim.specs.declared.fault.RowFault.{RowFault};
@@ -12,8 +12,7 @@ ghost use Rattle.emtp_elim.specs.declared.fault.RowFault.{RowFault};
 /// Fewer finished rows are finished too, and those of one matrix are those of each other one that begins with the same
 /// rows.
 pub fn finished_rows_stay()
-    ensures fewer { (rows done : Matrix) (n : ℕ) → n ≤ length done → AreFinished rows done → AreFinished rows (take n done) }
-    ensures other { (rows others done : Matrix) → take (length done) rows ≡ take (length done) others → AreFinished rows done → AreFinished others done }
+    ensures { FinishedRowsStay }
 {}
 
 /// The least faulty row of a matrix ends each system with it.

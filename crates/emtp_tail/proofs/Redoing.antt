@@ -8,11 +8,9 @@ use Rattle.std.proofs.lemmas.Bool.{cases_eq, both_ways, not-true, not-false, con
 use Rattle.std.proofs.lemmas.Nat.{row_fits}
 use borrow.Rule.Slice.PartMut.{put_mid}
 use Rattle.emtp_elim.specs.Matrix.{Matrix, row_of}
-use Rattle.emtp_elim.specs.Finished.{Finished, AddsRow}
+use Rattle.emtp_elim.specs.Finished.{Finished, FinishedRowsStay, AddsRow}
 use Rattle.emtp_tail.specs.Given.{rows_in}
 use Rattle.emtp_tail.proofs.GivenRows.{length-rows_in, rows_in-same, take-rows_in, length-put_row, row_kept, put_rows}
-use Rattle.emtp_elim.proofs.Adding.{AreFinishedUpTo, finished_more}
-use Rattle.emtp_elim.proofs.Prefix.{AgreeBelow, finished_same, finished_first}
 use Rattle.emtp_tail.specs.Good.{first_change, IsFirstChange}
 use Rattle.emtp_tail.specs.Keeping.{IsKept, IsRedone}
 
@@ -134,38 +132,35 @@ pub record IsRedoing (rows : Matrix) (first i : ℕ) (given work : List ℤ) (ol
   pub few : length rows ≤ 1000
   pub room : length given ≡ length rows * length rows
   pub room_work : length work ≡ length rows
-  pub given_first : rows_in (length rows) i given ≡ take i rows
-  pub finished : AreFinishedUpTo rows i done
+  pub redone : IsRedone rows i given done
   pub earlier : take first done.rows ≡ take first old
   pub ticked : ticks + first ≡ before + i
 
 -- the rows before the first change stay finished
-pub redoing_start : (rows : Matrix) (first : ℕ) (given work : List ℤ) (old new : Finished) (ticks : ℕ) → IsKept (length rows) given work old
+pub redoing_start : (rows : Matrix) (first : ℕ) (given work : List ℤ) (old new : Finished) (ticks : ℕ) → FinishedRowsStay → IsKept (length rows) given work old
     → IsFirstChange (rows_in (length rows) (length old.rows) given) rows first → new ≡ record old { rows = take first old.rows }
     → IsRedoing rows first first given work old.rows new ticks ticks
-redoing_start rows first given work old new ticks kept change new_is =
+redoing_start rows first given work old new ticks stay kept change new_is =
     let good = length old.rows in
     let given_rows = rows_in (length rows) good given in
     let count : length given_rows ≡ good = length-rows_in (length rows) good given in
     let within : first ≤ good = omega (arith, change.within) in
     let inside : first ≤ length rows = omega (arith, kept.within) in
-    let agree : AgreeBelow first given_rows rows = record { within_a = change.within; within_b = inside; same = change.same } in
     let new_count : length new.rows ≡ first = rw new_is (length-take-le first old.rows within) in
-    let first_rows : rows_in (length rows) first given ≡ take first rows =
-    sym (take-rows_in (length rows) good first given within)
-    ∙ ext_get_or [] (take first given_rows) (take first rows) (length-take-le first given_rows change.within ∙ sym (length-take-le first rows inside))
+    let agree : take first given_rows ≡ take first rows =
+    ext_get_or [] (take first given_rows) (take first rows) (length-take-le first given_rows change.within ∙ sym (length-take-le first rows inside))
     (λ h low. let before : h < first = omega (arith, length-take-le first given_rows change.within) in
-    get_or-take first given_rows h [] before ∙ change.same h before ∙ sym (get_or-take first rows h [] before)) in
+    take_row first given_rows h before ∙ change.same h before ∙ sym (take_row first rows h before)) in
     record {
       from_first = omega arith;
       few = kept.few;
       room = kept.room;
       room_work = kept.room_work;
-      given_first = first_rows;
-      finished = record {
+      redone = record {
         same_size = rw new_is kept.same_size;
         count = new_count;
-        finished = finished_same first given_rows rows new.rows agree (omega arith) (rw new_is (finished_first first given_rows old.rows kept.finished within));
+        given_first = sym (take-rows_in (length rows) good first given within) ∙ agree;
+        finished = stay.other given_rows rows new.rows (rw new_count agree) (rw new_is (stay.fewer given_rows old.rows first within kept.finished));
       };
       earlier = rw new_is (take-take first first old.rows (omega arith));
       ticked = refl;
@@ -193,36 +188,34 @@ pub redoing_more : (rows : Matrix) (first i : ℕ) (given work row copied after 
     → IsRedoing rows first (i + 1) (put_mid (i * length rows) (i * length rows + length rows - i * length rows) given copied) after old new before later
 redoing_more rows first i given work row copied after old done new before ticks later was inside row_is same_row copied_is adds same_after tick =
     let fits : i * length rows + length rows ≤ length rows * length rows = row_fits i (length rows) (length rows) (length rows) inside (omega arith) in
-    let count = was.finished.count in
+    let count = was.redone.count in
     let same_first : take first (take (length done.rows) new.rows) ≡ take first new.rows = take-take first (length done.rows) new.rows (omega (arith, was.from_first)) in
     rw copied_is (record {
       from_first = omega (arith, was.from_first);
       few = was.few;
       room = length-put_row (length rows) i given row (omega (arith, was.room)) same_row ∙ was.room;
       room_work = same_after;
-      given_first = given_more rows i given row inside was.room same_row was.given_first row_is;
-      finished = finished_more rows i done new row was.finished inside row_is adds;
+      redone = record {
+        same_size = adds.same_size ∙ was.redone.same_size;
+        count = omega (arith, adds.one_more);
+        given_first = given_more rows i given row inside was.room same_row was.redone.given_first row_is;
+        finished = adds.finished rows (record { finished = was.redone.finished; within = omega arith; row_is = ap (row_of rows) count ∙ sym row_is });
+      };
       earlier = sym same_first ∙ rw adds.earlier was.earlier;
       ticked = omega (arith, was.ticked);
     })
 
 -- what was redone is kept
-pub kept_redone : (rows : Matrix) (n : ℕ) (given work : List ℤ) (done : Finished) → length rows ≤ 1000 → n ≤ length rows → length given ≡ length rows * length rows
+pub kept_redone : (rows : Matrix) (n : ℕ) (given work : List ℤ) (done : Finished) → FinishedRowsStay → length rows ≤ 1000 → n ≤ length rows → length given ≡ length rows * length rows
     → length work ≡ length rows → IsRedone rows n given done → IsKept (length rows) given work done
-kept_redone rows n given work done few inside room room_work redone =
-    let agree : AgreeBelow n rows (take n rows) = record {
-      within_a = inside;
-      within_b = omega (arith, length-take-le n rows inside);
-      same = λ h low. sym (get_or-take n rows h [] low);
-    } in
-    record {
-      few = few;
-      room = room;
-      room_work = room_work;
-      same_size = redone.same_size;
-      within = omega (arith, redone.count);
-      finished = rw (redone.count, redone.given_first) (finished_same n rows (take n rows) done.rows agree (omega (arith, redone.count)) redone.finished);
-    }
+kept_redone rows n given work done stay few inside room room_work redone = record {
+  few = few;
+  room = room;
+  room_work = room_work;
+  same_size = redone.same_size;
+  within = omega (arith, redone.count);
+  finished = rw (redone.count, redone.given_first) (stay.other rows (take n rows) done.rows (rw redone.count (sym (take-take n n rows (omega arith)))) redone.finished);
+}
 
 -- a `Vec` that was lent as a slice
 pub lent : {X : Type 0} (n : ℕ) (xs ys : List X) → length xs ≡ n → take n (xs ++ drop (length xs) ys) ≡ xs

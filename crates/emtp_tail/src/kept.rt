@@ -9,7 +9,10 @@ ghost use Rattle.emtp_elim.specs.declared.fault.PlainFault.{PlainFault};
 ghost use Rattle.emtp_tail.specs.Good.{Good, first_change, IsFirstChange};
 ghost use Rattle.emtp_tail.specs.Keeping.{IsKept, IsRedone};
 
-use emtp_elim::{RowFault, Rows, SolveFault, SparseRows, eliminate_row};
+use emtp_elim::{
+    RowFault, Rows, SolveFault, SparseRows, eliminate_row, finished_rows_stay,
+    row_fault_ends_systems,
+};
 use emtp_fix::Steps;
 use std::alloc::{AllocError, Global};
 use std::marker::Model;
@@ -81,6 +84,7 @@ fn redo<R: Rows, L: Ledger>(
     ensures kept { IsKept (length (R.matrix rows.now)) given.new work.new done.new }
     ensures earlier { take first done.new.rows ≡ take first done.old.rows }
 {
+    finished_rows_stay();
     done.cut(first);
     let size = rows.size();
     for i in first..size {
@@ -165,6 +169,7 @@ impl Kept {
         ensures prefix { IfErr result (λ fault. self.new.rows ≡ take fault.row (R.matrix rows.now)) }
         ensures fault_ticks { IfErr result (λ fault. steps.new + first ≡ steps.old + fault.row + 1) }
     {
+        row_fault_ends_systems();
         redo(
             rows,
             first,

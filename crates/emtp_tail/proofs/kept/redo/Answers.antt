@@ -12,7 +12,7 @@ cut-requires g c =
 pub loop-i-init : goal.loop-i-init
 loop-i-init g c =
     redoing_start (g.R.Rows.matrix c.args.rows.now) c.args.first c.args.given.now c.args.work.now c.args.done.now c.cut.new.self c.args.steps.now
-    c.requires.kept c.requires.first c.cut.ensures
+    c.finished_rows_stay.ensures c.requires.kept c.requires.first c.cut.ensures
 
 pub returns-in-Err-clause-prefix : goal.returns-in-Err-clause-prefix
 returns-in-Err-clause-prefix g c =
@@ -21,10 +21,10 @@ returns-in-Err-clause-prefix g c =
     let was = c.loop-i.invariant in
     let inside : i < length rows = omega (arith, c.size-size.ensures.size) in
     rw c.size-size.ensures.size (record {
-      same_size = rw c.in-Err.ensures.kept was.finished.same_size;
-      count = rw c.in-Err.ensures.kept was.finished.count;
-      given_first = given_kept rows i c.loop-i.given c.copy_from_slice.new.self inside was.room was.given_first;
-      finished = rw c.in-Err.ensures.kept was.finished.finished;
+      same_size = rw c.in-Err.ensures.kept was.redone.same_size;
+      count = rw c.in-Err.ensures.kept was.redone.count;
+      given_first = given_kept rows i c.loop-i.given c.copy_from_slice.new.self inside was.room was.redone.given_first;
+      finished = rw c.in-Err.ensures.kept was.redone.finished;
     })
 
 pub loop-i-preserved : goal.loop-i-preserved
@@ -44,6 +44,6 @@ returns-in-Err-clause-kept g c =
     let inside : i < length rows = omega (arith, c.size-size.ensures.size) in
     let fits : i * length rows + length rows ≤ length rows * length rows = row_fits i (length rows) (length rows) (length rows) inside (omega arith) in
     let same_row : length c.copy_from_slice.new.self ≡ length rows = omega (arith, was.room_work, c.size-size.ensures.size) in
-    kept_redone rows i _ c.eliminate_row.new.work c.eliminate_row.new.done was.few (omega arith)
+    kept_redone rows i _ c.eliminate_row.new.work c.eliminate_row.new.done c.finished_rows_stay.ensures was.few (omega arith)
     (rw c.size-size.ensures.size (length-put_row (length rows) i c.loop-i.given c.copy_from_slice.new.self (omega (arith, was.room)) same_row ∙ was.room))
     (omega (arith, was.room_work)) (returns-in-Err-clause-prefix g c)

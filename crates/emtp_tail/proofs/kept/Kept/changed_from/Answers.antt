@@ -8,7 +8,7 @@ pub changed_row-requires-clause-from : goal.changed_row-requires-clause-from
 changed_row-requires-clause-from g c =
     let inside = c.self.inside in
     let count = length-rows_in inside.size (length inside.done.rows) inside.given.items in
-    omega (arith, c.requires.from, c.rows-good.ensures, count, ap (λ (v : Good). length v.rows) c.self.view_is)
+    omega (arith, c.requires.from, c.rows-good.ensures.count, count, ap (λ (v : Good). length v.rows) c.self.view_is)
 
 pub returns-clause-first : goal.returns-clause-first
 returns-clause-first g c =
@@ -18,4 +18,4 @@ returns-clause-first g c =
     let rows_are = rw sized at (ap (λ (v : Good). v.rows) c.self.view_is) in
     let count = length-rows_in inside.size (length inside.done.rows) inside.given.items in
     let long : length c.args.self.now.rows ≤ length rows = omega (arith, count, sized, c.self.invariant.within, ap (λ (v : Good). length v.rows) c.self.view_is) in
-    first_change_is c.args.self.now.rows rows c.changed_row.result long (rw (c.rows-good.ensures, c.deref.ensures.value, rows_are) at c.changed_row.ensures)
+    first_change_is c.args.self.now.rows rows c.changed_row.result long (rw (c.rows-good.ensures.count, c.deref.ensures.value, rows_are) at c.changed_row.ensures)

@@ -1,8 +1,6 @@
 use Rattle.std.proofs.Common.{◌≡◌, length, ap, sym, ◌∙◌, arith}
 use Rattle.std.proofs.lemmas.Result.{on_ok_weaker, IfErr-weaker}
 use Rattle.emtp_elim.specs.Finished.{AreAllFinished}
-use Rattle.emtp_elim.specs.declared.fault.PlainFault.TheVariants.{Solve}
-use Rattle.emtp_elim.proofs.FaultRows.{NamesRow-outcome}
 use Rattle.emtp_tail.proofs.GivenRows.{length-rows_in}
 use Rattle.emtp_tail.specs.Good.{Good}
 use Rattle.emtp_tail.proofs.kept.Kept.solve.Goals as goal
@@ -39,5 +37,5 @@ returns-clause-fault c =
 
 pub returns-clause-row : goal.returns-clause-row
 returns-clause-row c =
-    let rows = c.args.self.now.rows in
-    IfErr-weaker c.solve.result _ _ (λ fault ends. omega (arith, NamesRow-outcome rows c.args.rhs.now (Solve fault) ends, c.requires.all)) (returns-clause-fault c)
+    let sized : c.self.inside.size ≡ c.args.self.now.size = ap (λ (v : Good). v.size) c.self.view_is in
+    IfErr-weaker c.solve.result _ _ (λ fault inside. omega (arith, inside, sized, c.self.invariant.same_size)) c.solve.ensures.row

@@ -1,6 +1,5 @@
 use Rattle.std.proofs.Common.{◌≡◌, ◌≤◌, length, ap, ◌∙◌, arith}
 use Rattle.std.proofs.lemmas.Result.{IfErr-weaker}
-use Rattle.emtp_elim.proofs.Outcomes.{outcome_row}
 use Rattle.emtp_tail.specs.Good.{Good}
 use Rattle.emtp_tail.proofs.GivenRows.{length-rows_in}
 use Rattle.emtp_tail.proofs.Redoing.{first_change_law, lent}
@@ -18,7 +17,7 @@ redo-requires-clause-first g c =
 
 pub returns-clause-ends : goal.returns-clause-ends
 returns-clause-ends g c =
-    IfErr-weaker c.redo.result _ _ (λ fault is right. outcome_row (g.R.Rows.matrix c.args.rows.now) right fault.row fault.cause is) c.redo.ensures.fault
+    IfErr-weaker c.redo.result _ _ (λ fault is right. c.row_fault_ends_systems.ensures (g.R.Rows.matrix c.args.rows.now) right fault is) c.redo.ensures.fault
 
 pub returns-clause-prefix : goal.returns-clause-prefix
 returns-clause-prefix g c =
