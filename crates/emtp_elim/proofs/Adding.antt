@@ -1,43 +1,19 @@
 -- One finished row after another, in a matrix.
-use Rattle.std.proofs.Common.{◌≡◌, ℕ, ◌+◌, ◌<◌, ◌≤◌, ℤ, List, [], length, ap, sym, ◌∙◌, inl, inr, arith}
+use Rattle.std.proofs.Common.{◌≡◌, ℕ, ◌<◌, ◌≤◌, ℤ, List, [], length, ap, sym, ◌∙◌, inl, inr, arith}
 use Rattle.std.proofs.lemmas.List.{get_or-take}
 use Rattle.std.proofs.lemmas.Bool.{cases_eq}
 use Rattle.emtp_elim.specs.Matrix.{Matrix, row_of}
-use Rattle.emtp_elim.specs.Fault.{IsRowFault}
-use Rattle.emtp_elim.specs.Finished.{Finished, AreFinished, AreAllFinished, IsNext, FaultsRow, IsRowAdded, AddsRow}
-use Rattle.emtp_elim.specs.declared.fault.RowCause.{RowCause}
+use Rattle.emtp_elim.specs.Finished.{Finished, AreFinished, IsNext, IsRowAdded, AddsRow}
 
--- the first n rows are finished, and there is room for all
-pub record AreFinishedUpTo (rows : Matrix) (n : ℕ) (done : Finished) : Type 0 where
-  pub same_size : done.size ≡ length rows
-  pub count : length done.rows ≡ n
-  pub finished : AreFinished rows done.rows
-
-pub finished_none : (rows : Matrix) (done : Finished) → done ≡ record { size = length rows; rows = [] } → AreFinishedUpTo rows 0 done
-finished_none rows done e = record {
-  same_size = ap (λ (d : Finished). d.size) e;
-  count = ap (λ (d : Finished). length d.rows) e;
-  finished = rw e (record {
-    within = omega arith;
-    finished = λ i h. absurd (omega arith);
-    good = λ i h. absurd (omega arith);
-  });
+pub finished_none : (rows : Matrix) → AreFinished rows []
+finished_none rows = record {
+  within = omega arith;
+  finished = λ i h. absurd (omega arith);
+  good = λ i h. absurd (omega arith);
 }
 
-next_row : (rows : Matrix) (n : ℕ) (done : Finished) (row : List ℤ) → AreFinishedUpTo rows n done → n < length rows → row ≡ row_of rows n → IsNext rows done.rows row
-next_row rows n done row was inside row_is = record {
-  finished = was.finished;
-  within = omega (arith, was.count);
-  row_is = ap (row_of rows) was.count ∙ sym row_is;
-}
-
-pub finished_more : (rows : Matrix) (n : ℕ) (old new : Finished) (row : List ℤ) → AreFinishedUpTo rows n old → n < length rows → row ≡ row_of rows n
-    → AddsRow old new row → AreFinishedUpTo rows (n + 1) new
-finished_more rows n old new row was inside row_is adds = record {
-  same_size = adds.same_size ∙ was.same_size;
-  count = omega (arith, adds.one_more, was.count);
-  finished = adds.finished rows (next_row rows n old row was inside row_is);
-}
+pub next_row : (rows done : Matrix) (n : ℕ) (row : List ℤ) → AreFinished rows done → length done ≡ n → n < length rows → row ≡ row_of rows n → IsNext rows done row
+next_row rows done n row finished count inside row_is = record { finished = finished; within = omega arith; row_is = ap (row_of rows) count ∙ sym row_is }
 
 -- one more row, which is what elimination makes of it
 pub adds_row : (old new : Finished) (row : List ℤ) → IsRowAdded old new row → AddsRow old new row
@@ -60,13 +36,3 @@ adds_row old new row added =
         ];
       };
     }
-
-pub row_fault_next : (rows : Matrix) (n : ℕ) (done : Finished) (row : List ℤ) (cause : RowCause) → AreFinishedUpTo rows n done → n < length rows → row ≡ row_of rows n
-    → FaultsRow done.rows row cause → IsRowFault rows n cause
-row_fault_next rows n done row cause was inside row_is fault = rw was.count at (fault.row_fault rows (next_row rows n done row was inside row_is))
-
-pub finished_all : (rows : Matrix) (n : ℕ) (done : Finished) → AreFinishedUpTo rows n done → length rows ≤ n → AreAllFinished rows done.rows
-finished_all rows n done was all = record {
-  all = omega (arith, was.count, was.finished.within);
-  finished = was.finished;
-}

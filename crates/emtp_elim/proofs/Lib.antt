@@ -3,7 +3,6 @@ pub mod Stages
 pub mod Outcomes
 pub mod Products
 pub mod Entries
-pub mod LessenedRows
 pub mod ClearedRows
 pub mod KeptRows
 pub mod PartRows

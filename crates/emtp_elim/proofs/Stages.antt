@@ -1,5 +1,5 @@
 -- One more column cleared, entry by entry.
-use Rattle.std.proofs.Common.{◌≡◌, ℕ, zero, suc, ◌+◌, ◌<◌, ◌≤◌, ℤ, pos, List, [], length, refl, ap, sym, ◌∙◌, inl, inr, arith}
+use Rattle.std.proofs.Common.{◌≡◌, ℕ, zero, suc, ◌+◌, ◌<◌, ◌≤◌, nat_lt, if◌then◌else◌, ℤ, pos, List, [], length, refl, ap, sym, ◌∙◌, inl, inr, arith}
 use Rattle.std.proofs.lemmas.List.{get_or_past}
 use Rattle.std.proofs.lemmas.List.FromFn.{length-map-range_with_len, get_or-map-range_with_len}
 use Rattle.std.proofs.lemmas.Bool.{cases_lt}
@@ -21,42 +21,28 @@ unfolding stage
 width-stage rows zero i h = refl
 width-stage rows (suc k) i h = width-cleared (stage rows k) k i (rw length-stage h) ∙ width-stage rows k i h
 
-entry_cleared_later : (rows : Matrix) (k i j : ℕ) → k < i → k < j → i < length rows → j < length (row_of rows i)
-    → entry (cleared k rows) i j ≡ less_product (entry rows i j) (ratio rows k i) (entry rows k j)
-entry_cleared_later rows k i j low_i low_j h w =
+entry_cleared : (rows : Matrix) (k i j : ℕ) → i < length rows → j < length (row_of rows i)
+    → entry (cleared k rows) i j ≡ (if nat_lt k i then (if nat_lt k j then less_product (entry rows i j) (ratio rows k i) (entry rows k j) else pos 0) else entry rows i j)
+entry_cleared rows k i j h w =
     ap (λ row. item row j) (get_or-map-range_with_len _ 0 (length rows) i i [] h (omega arith))
     ∙ get_or-map-range_with_len _ 0 (length (row_of rows i)) j j (pos 0) w (omega arith)
-    ∙ grind (arith, nat_tests)
 
-entry_cleared_stays : (rows : Matrix) (k i j : ℕ) → i ≤ k → i < length rows → j < length (row_of rows i)
-    → entry (cleared k rows) i j ≡ entry rows i j
-entry_cleared_stays rows k i j low h w =
-    ap (λ row. item row j) (get_or-map-range_with_len _ 0 (length rows) i i [] h (omega arith))
-    ∙ get_or-map-range_with_len _ 0 (length (row_of rows i)) j j (pos 0) w (omega arith)
-    ∙ grind (arith, nat_tests)
+entry_next : (rows : Matrix) (k i j : ℕ) → i < length rows → j < length (row_of rows i) → entry (stage rows (suc k)) i j
+    ≡ (if nat_lt k i then (if nat_lt k j then less_product (entry (stage rows k) i j) (ratio (stage rows k) k i) (entry (stage rows k) k j) else pos 0) else entry (stage rows k) i j)
+unfolding stage
+entry_next rows k i j h w = entry_cleared (stage rows k) k i j (rw length-stage h) (rw (width-stage rows k i h) w)
 
 pub entry_later : (rows : Matrix) (k i j : ℕ) → k < i → k < j → i < length rows → j < length (row_of rows i)
     → entry (stage rows (suc k)) i j ≡ less_product (entry (stage rows k) i j) (ratio (stage rows k) k i) (entry (stage rows k) k j)
-unfolding stage
-entry_later rows k i j low_i low_j h w =
-    entry_cleared_later (stage rows k) k i j low_i low_j (rw length-stage h) (rw (width-stage rows k i h) w)
+entry_later rows k i j low_i low_j h w = entry_next rows k i j h w ∙ grind (arith, nat_tests)
 
 pub entry_stays : (rows : Matrix) (k i j : ℕ) → i ≤ k → i < length rows → j < length (row_of rows i)
     → entry (stage rows (suc k)) i j ≡ entry (stage rows k) i j
-unfolding stage
-entry_stays rows k i j low h w = entry_cleared_stays (stage rows k) k i j low (rw length-stage h) (rw (width-stage rows k i h) w)
-
-entry_cleared_zero : (rows : Matrix) (k i j : ℕ) → k < i → j ≤ k → i < length rows → j < length (row_of rows i)
-    → entry (cleared k rows) i j ≡ pos 0
-entry_cleared_zero rows k i j low_i low_j h w =
-    ap (λ row. item row j) (get_or-map-range_with_len _ 0 (length rows) i i [] h (omega arith))
-    ∙ get_or-map-range_with_len _ 0 (length (row_of rows i)) j j (pos 0) w (omega arith)
-    ∙ grind (arith, nat_tests)
+entry_stays rows k i j low h w = entry_next rows k i j h w ∙ grind (arith, nat_tests)
 
 pub entry_zero : (rows : Matrix) (k i j : ℕ) → k < i → j ≤ k → i < length rows → j < length (row_of rows i)
     → entry (stage rows (suc k)) i j ≡ pos 0
-unfolding stage
-entry_zero rows k i j low_i low_j h w = entry_cleared_zero (stage rows k) k i j low_i low_j (rw length-stage h) (rw (width-stage rows k i h) w)
+entry_zero rows k i j low_i low_j h w = entry_next rows k i j h w ∙ grind (arith, nat_tests)
 
 pub entry_start : (rows : Matrix) (i j : ℕ) → entry (stage rows 0) i j ≡ entry rows i j
 unfolding stage
@@ -103,22 +89,18 @@ pub right_start : (rows : Matrix) (right : List ℤ) → stage_right rows right 
 unfolding stage_right
 right_start rows right = refl
 
-right_cleared_later : (rows : Matrix) (right : List ℤ) (k i : ℕ) → k < i → i < length right
-    → item (cleared_right k rows right) i ≡ less_product (item right i) (ratio rows k i) (item right k)
-right_cleared_later rows right k i low h = get_or-map-range_with_len _ 0 (length right) i i (pos 0) h (omega arith) ∙ grind (arith, nat_tests)
-
-right_cleared_stays : (rows : Matrix) (right : List ℤ) (k i : ℕ) → i ≤ k → i < length right → item (cleared_right k rows right) i ≡ item right i
-right_cleared_stays rows right k i low h = get_or-map-range_with_len _ 0 (length right) i i (pos 0) h (omega arith) ∙ grind (arith, nat_tests)
+right_next : (rows : Matrix) (right : List ℤ) (k i : ℕ) → i < length right → item (stage_right rows right (suc k)) i
+    ≡ (if nat_lt k i then less_product (item (stage_right rows right k) i) (ratio (stage rows k) k i) (item (stage_right rows right k) k) else item (stage_right rows right k) i)
+unfolding stage_right
+right_next rows right k i h = get_or-map-range_with_len _ 0 (length (stage_right rows right k)) i i (pos 0) (rw length-stage_right h) (omega arith)
 
 pub right_later : (rows : Matrix) (right : List ℤ) (k i : ℕ) → k < i → i < length right
     → item (stage_right rows right (suc k)) i ≡ less_product (item (stage_right rows right k) i) (ratio (stage rows k) k i) (item (stage_right rows right k) k)
-unfolding stage_right
-right_later rows right k i low h = right_cleared_later (stage rows k) (stage_right rows right k) k i low (rw length-stage_right h)
+right_later rows right k i low h = right_next rows right k i h ∙ grind (arith, nat_tests)
 
 pub right_stays : (rows : Matrix) (right : List ℤ) (k i : ℕ) → i ≤ k → i < length right
     → item (stage_right rows right (suc k)) i ≡ item (stage_right rows right k) i
-unfolding stage_right
-right_stays rows right k i low h = right_cleared_stays (stage rows k) (stage_right rows right k) k i low (rw length-stage_right h)
+right_stays rows right k i low h = right_next rows right k i h ∙ grind (arith, nat_tests)
 
 -- a right side that was reached is left alone
 pub right_settled : (rows : Matrix) (right : List ℤ) (i n : ℕ) → i < length right

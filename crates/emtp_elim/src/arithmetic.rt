@@ -2,7 +2,7 @@
 ghost use Rattle.std.specs.Prelude.{◌≡◌, ◌≢◌, ◌^◌, ◌≤◌, pos, unsigned_abs};
 ghost use Rattle.emtp_elim.specs.Elimination.{less_product, quotient};
 
-use emtp_fix::near;
+use emtp_fix::scaled;
 
 /// The greatest magnitude of an entry, in units of 1e-12.
 pub const LARGEST_ENTRY: u128 = 100_000_000_000_000_000;
@@ -23,7 +23,7 @@ pub fn ratio(a: i128, p: i128) -> i128
     requires nonzero { p ≢ pos 0 }
     ensures { result ≡ quotient a p }
 {
-    near(a * ONE, p)
+    scaled(a, ONE, p)
 }
 
 /// `a` less the product of `m`, in units of 1e-12, and `p`.
@@ -36,5 +36,5 @@ pub fn less(a: i128, m: i128, p: i128) -> i128
     if m == 0 {
         return a;
     }
-    a - near(m * p, ONE)
+    a - scaled(m, p, ONE)
 }

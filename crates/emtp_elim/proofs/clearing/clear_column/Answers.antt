@@ -5,8 +5,7 @@ use Rattle.emtp_fix.proofs.Wide.{through}
 use Rattle.emtp_elim.specs.Matrix.{item}
 use Rattle.emtp_elim.specs.Row.{numbers}
 use Rattle.emtp_elim.proofs.KeptRows.{entry_small}
-use Rattle.emtp_elim.proofs.LessenedRows.{lessened_small, lessened_next, lessened_more, lessened_all}
-use Rattle.emtp_elim.proofs.ClearedRows.{cleared_nothing, cleared_lessened, ratio_read}
+use Rattle.emtp_elim.proofs.ClearedRows.{lessened_small, lessened_next, lessened_more, cleared_nothing, cleared_lessened, ratio_read}
 use Rattle.emtp_elim.proofs.clearing.clear_column.Goals as goal
 
 pub returns-then-work-k-eq0-clause-cleared : goal.returns-then-work-k-eq0-clause-cleared
@@ -55,5 +54,4 @@ returns-clause-cleared c =
     let m_is = ratio_read c.args.work.now c.from.result c.ratio-m.result row (c.requires.entries c.args.k (omega arith)) (omega (arith, ints, small_pivot)) c.ratio-m.ensures in
     let wide : to_z w128 (of_z w128 c.ratio-m.result) ≡ c.ratio-m.result = omega (arith, ints) in
     let all : c.loop-e.e ≡ c.args.above.last = omega (arith, row.pivot_within) in
-    let lessened = lessened_all c.args.k row.later (rw (wide, all) at c.loop-e.invariant) c.requires.entries in
-    rw wide (cleared_lessened c.args.k c.args.work.now _ c.loop-e.work c.ratio-m.result lessened m_is (omega (arith, ints)) (omega arith))
+    rw wide (cleared_lessened c.args.k row.later (rw (wide, all) at c.loop-e.invariant) c.requires.entries m_is (omega (arith, ints)) (omega arith))

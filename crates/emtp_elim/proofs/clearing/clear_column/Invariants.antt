@@ -1,6 +1,6 @@
 use Rattle.std.proofs.Common.{◌+◌, length}
 use Rattle.emtp_elim.specs.Row.{numbers}
-use Rattle.emtp_elim.proofs.LessenedRows.{IsLessenedUpTo}
+use Rattle.emtp_elim.proofs.ClearedRows.{IsLessenedUpTo}
 use Rattle.emtp_elim.proofs.clearing.clear_column.Given as goal
 
 abbrev pub invariant-loop-e : goal.invariant-loop-e

@@ -1,16 +1,21 @@
-use Rattle.std.proofs.Common.{◌<◌, length, arith}
-use Rattle.emtp_elim.proofs.Adding.{adds_row, finished_more, row_fault_next}
+use Rattle.std.proofs.Common.{◌<◌, length, ◌∙◌, arith}
+use Rattle.emtp_elim.proofs.Adding.{finished_none, next_row, adds_row}
 use Rattle.emtp_elim.proofs.plain.factor.Goals as goal
 
 pub loop-i-preserved : goal.loop-i-preserved
 loop-i-preserved g c =
-    let inside : c.loop-i.i < length (g.R.Rows.matrix c.args.rows.now) = omega (arith, c.size-size.ensures.size) in (
-      finished_more (g.R.Rows.matrix c.args.rows.now) c.loop-i.i c.loop-i.done c.add.new.self c.row.new.out c.loop-i.invariant.0 inside c.row.ensures
-          (adds_row c.loop-i.done c.add.new.self c.row.new.out c.in_default.ensures.added),
-      omega (arith, c.loop-i.invariant.1),
-    )
+    let rows = g.R.Rows.matrix c.args.rows.now in
+    let was = c.loop-i.invariant in
+    let adds = adds_row c.loop-i.done c.add.new.self c.row.new.out c.in_default.ensures.added in
+    record {
+      size = adds.same_size ∙ was.size;
+      count = omega (arith, adds.one_more, was.count);
+      finished = adds.finished rows (next_row rows c.loop-i.done.rows c.loop-i.i c.row.new.out was.finished was.count (omega (arith, c.size-size.ensures.size)) c.row.ensures);
+      work = omega (arith, was.work);
+    }
 
 pub returns-in-Err-clause-fault : goal.returns-in-Err-clause-fault
 returns-in-Err-clause-fault g c =
-    let inside : c.loop-i.i < length (g.R.Rows.matrix c.args.rows.now) = omega (arith, c.size-size.ensures.size) in
-    row_fault_next (g.R.Rows.matrix c.args.rows.now) c.loop-i.i c.loop-i.done c.row.new.out _ c.loop-i.invariant.0 inside c.row.ensures c.in-Err.ensures.fault
+    let rows = g.R.Rows.matrix c.args.rows.now in
+    let was = c.loop-i.invariant in
+    rw was.count at (c.in-Err.ensures.fault.row_fault rows (next_row rows c.loop-i.done.rows c.loop-i.i c.row.new.out was.finished was.count (omega (arith, c.size-size.ensures.size)) c.row.ensures))
