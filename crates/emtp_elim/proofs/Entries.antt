@@ -137,37 +137,6 @@ entries_joined row a b c columns values first mid last left right = record {
   ];
 }
 
--- the first of the entries has the first column, where the row has a number there
-pub record IsFirst (i : ℕ) (columns : List ℕ) (first last : ℕ) : Type 0 where
-  pub within : first < last
-  pub column_is : slice_index columns first ≡ i
-
-pub entries_first : (row : List ℤ) (i upto : ℕ) (columns : List ℕ) (values : List ℤ) (first last : ℕ) → AreEntries row i upto columns values first last
-    → i < upto → item row i ≢ pos 0 → IsFirst i columns first last
-entries_first row i upto columns values first last all inside nonzero = elim (cases_column columns first last i) [
-  | inl (e, low, high, is) ↦ elim (cases_eq e first) [
-    | inl here ↦ record { within = omega arith; column_is = rw here at is }
-    | inr later ↦ absurd (omega (arith, all.rising first e (omega arith) (omega arith) high, all.low first (omega arith) (omega arith)))
-  ]
-  | inr none ↦ absurd (nonzero (all.others i (omega arith) inside none))
-]
-
--- and the others have the later ones
-pub entries_rest : (row : List ℤ) (i upto : ℕ) (columns : List ℕ) (values : List ℤ) (first last : ℕ) → AreEntries row i upto columns values first last
-    → IsFirst i columns first last → AreEntries row (i + 1) upto columns values (first + 1) last
-entries_rest row i upto columns values first last all head = record {
-  order = omega (arith, head.within);
-  few = omega (arith, all.few);
-  low = λ e low high. omega (arith, all.rising first e (omega arith) (omega arith) high, head.column_is);
-  high = λ e low high. all.high e (omega arith) high;
-  rising = λ d e low before high. all.rising d e (omega arith) before high;
-  value_is = λ e low high. all.value_is e (omega arith) high;
-  others = λ j low high none. all.others j (omega arith) high (λ e from_on before. elim (cases_eq e first) [
-    | inl here ↦ rw here (λ is. omega (arith, head.column_is))
-    | inr later ↦ none e (omega arith) before
-  ]);
-}
-
 -- ---- between two entries
 
 -- column h comes after the entries before place e, and not after the others

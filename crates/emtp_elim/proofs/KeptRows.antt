@@ -1,5 +1,5 @@
 -- Finished rows as they are kept, by their entries.
-use Rattle.std.proofs.Common.{◌≡◌, ◌≢◌, ℕ, ◌+◌, ◌*◌, ◌^◌, ◌<◌, ◌≤◌, ℤ, unsigned_abs, List, [], ◌∷◌, ◌++◌, length, take, slice_index, slice_set, length-set, refl, ap, sym, ◌∙◌, inl, inr, arith}
+use Rattle.std.proofs.Common.{◌≡◌, ◌≢◌, ℕ, pos, ◌+◌, ◌*◌, ◌^◌, ◌<◌, ◌≤◌, ℤ, unsigned_abs, List, [], ◌∷◌, ◌++◌, length, take, slice_index, slice_set, length-set, refl, ap, sym, ◌∙◌, inl, inr, arith}
 use Rattle.std.proofs.lemmas.List.{get_or-set_same, get_or-set_other}
 use Rattle.std.proofs.lemmas.List.FromFn.{length-map-range_with_len, get_or-map-range_with_len, map-range_with_len_more, take-map-range_with_len, fill_by_all}
 use Rattle.std.proofs.lemmas.Nat.{row_fits}
@@ -8,7 +8,7 @@ use Rattle.emtp_elim.specs.Matrix.{item, row_of}
 use Rattle.emtp_elim.specs.Clearing.{IsFinishedRow}
 use Rattle.emtp_elim.specs.Finished.{Finished}
 use Rattle.emtp_elim.specs.Stored.{dense_row, rows_kept, Packs, IsStoredRow, AreStored}
-use Rattle.emtp_elim.proofs.Entries.{entries_same, entries_joined, entries_first, entries_rest, length-dense_row, dense_row_is, dense_row_same}
+use Rattle.emtp_elim.proofs.Entries.{entries_more, entries_same, entries_joined, length-dense_row, dense_row_is, dense_row_same}
 
 pub length-rows_kept : (size count : ℕ) (starts columns : List ℕ) (values : List ℤ) → length (rows_kept size count starts columns values) ≡ count
 length-rows_kept size count starts columns values = length-map-range_with_len _ 0 count
@@ -74,14 +74,16 @@ stored_same size i columns new_columns values new_values first pivot last was lo
       later = rw row_is (entries_same _ (i + 1) size columns new_columns values new_values (pivot + 1) last was.later same_column same_value);
     }
 
--- the ratios of a row, and then its entries, have been put after those of `count` rows
+-- the ratios of a row, its pivot and its later entries have been put after those of `count` rows
 pub record Adds (size count : ℕ) (starts columns mid_columns new_columns : List ℕ) (values mid_values new_values : List ℤ) (pivot end : ℕ) (work : List ℤ) : Type 0 where
   pub finished : IsFinishedRow size count work
   pub inside : count < size
   pub long_columns : length new_columns ≡ length columns
   pub long_values : length new_values ≡ length values
+  pub mid_columns_long : length mid_columns ≡ length columns
+  pub mid_values_long : length mid_values ≡ length values
   pub ratios : Packs work 0 count columns mid_columns values mid_values (slice_index starts count) pivot
-  pub rest : Packs work count size mid_columns new_columns mid_values new_values pivot end
+  pub later : Packs work (count + 1) size (slice_set mid_columns pivot count) new_columns (slice_set mid_values pivot (item work count)) new_values (pivot + 1) end
 
 -- the new row is kept
 row_put : (size count : ℕ) (starts columns mid_columns new_columns : List ℕ) (values mid_values new_values : List ℤ) (pivot end : ℕ) (work : List ℤ)
@@ -89,18 +91,23 @@ row_put : (size count : ℕ) (starts columns mid_columns new_columns : List ℕ)
     → IsStoredRow size count new_columns new_values (slice_index starts count) pivot end × (dense_row size new_columns new_values (slice_index starts count) end ≡ work)
 row_put size count starts columns mid_columns new_columns values mid_values new_values pivot end work adds in_columns in_values =
     let start = slice_index starts count in
-    let ratios = entries_same work 0 count mid_columns new_columns mid_values new_values start pivot adds.ratios.entries adds.rest.same_columns adds.rest.same_values in
-    let rest = adds.rest.entries in
-    let row_is = dense_row_is work size new_columns new_values start end (entries_joined work 0 count size new_columns new_values start pivot end ratios rest) adds.finished.length_is in
-    let head = entries_first work count size new_columns new_values pivot end rest adds.inside adds.finished.nonzero in (
+    let ratios = adds.ratios.entries in
+    let later = adds.later.entries in
+    let in_mid_columns : pivot < length mid_columns = omega (arith, later.order, adds.long_columns, adds.mid_columns_long) in
+    let in_mid_values : pivot < length mid_values = omega (arith, later.order, adds.long_values, adds.mid_values_long) in
+    let same_column : (e : ℕ) → e < pivot → slice_index new_columns e ≡ slice_index mid_columns e = λ e h. let other : e ≢ pivot = omega arith in adds.later.same_columns e (omega arith) ∙ rw get_or-set_other refl in
+    let same_value : (e : ℕ) → e < pivot → item new_values e ≡ item mid_values e = λ e h. let other : e ≢ pivot = omega arith in adds.later.same_values e (omega arith) ∙ rw get_or-set_other refl in
+    let upto_pivot = entries_same work 0 (count + 1) _ new_columns _ new_values start (pivot + 1) (entries_more work 0 count mid_columns mid_values start pivot (item work count) ratios (omega arith) in_mid_columns in_mid_values refl)
+    adds.later.same_columns adds.later.same_values in
+    let row_is = dense_row_is work size new_columns new_values start end (entries_joined work 0 (count + 1) size new_columns new_values start (pivot + 1) end upto_pivot later) adds.finished.length_is in (
       record {
         finished = rw row_is adds.finished;
         in_columns = in_columns;
         in_values = in_values;
-        ratios = rw row_is ratios;
-        pivot_within = head.within;
-        pivot_is = rw row_is (rest.value_is pivot (omega arith) head.within ∙ ap (item work) head.column_is);
-        later = rw row_is (entries_rest work count size new_columns new_values pivot end rest head);
+        ratios = rw row_is (entries_same work 0 count mid_columns new_columns mid_values new_values start pivot ratios same_column same_value);
+        pivot_within = omega (arith, later.order);
+        pivot_is = rw row_is (adds.later.same_values pivot (omega arith) ∙ get_or-set_same mid_values pivot (item work count) (pos 0) in_mid_values);
+        later = rw row_is later;
       },
       row_is,
     )
@@ -114,18 +121,21 @@ stored_more size count word starts pivots columns mid_columns new_columns values
     let start = slice_index starts count in
     let new_starts = slice_set starts (count + 1) end in
     let used : start ≤ count * size = was.used count (omega arith) in
-    let first = adds.ratios.entries in
-    let rest = adds.rest.entries in
-    let end_fits : end ≤ start + size = omega (arith, first.few, rest.few) in
-    let onwards : start ≤ end = omega (arith, first.order, rest.order) in
+    let before_pivot = adds.ratios.entries.order in
+    let end_fits : end ≤ start + size = omega (arith, adds.ratios.entries.few, adds.later.entries.few) in
+    let onwards : start ≤ end = omega (arith, before_pivot, adds.later.entries.order) in
     let row_room : count * size + size ≤ size * size = row_fits count size size size adds.inside (omega arith) in
     let in_starts : count + 1 < length starts = omega (arith, adds.inside, was.room_starts) in
     let in_pivots : count < length pivots = omega (arith, adds.inside, was.room_pivots) in
     let put = row_put size count starts columns mid_columns new_columns values mid_values new_values pivot end work adds (omega (arith, was.room_columns, adds.long_columns)) (omega (arith, was.room_values, adds.long_values)) in
     let start_is : (i : ℕ) → i ≤ count → slice_index new_starts i ≡ slice_index starts i = λ i low. let other : i ≢ count + 1 = omega arith in rw get_or-set_other refl in
     let end_is : slice_index new_starts (count + 1) ≡ end = get_or-set_same starts (count + 1) end 0 in_starts in
-    let same_column : (e : ℕ) → e < start → slice_index new_columns e ≡ slice_index columns e = λ e h. adds.rest.same_columns e (omega (arith, first.order)) ∙ adds.ratios.same_columns e h in
-    let same_value : (e : ℕ) → e < start → item new_values e ≡ item values e = λ e h. adds.rest.same_values e (omega (arith, first.order)) ∙ adds.ratios.same_values e h in
+    let same_column : (e : ℕ) → e < start → slice_index new_columns e ≡ slice_index columns e = λ e h.
+    let other : e ≢ pivot = omega arith in
+    adds.later.same_columns e (omega arith) ∙ rw get_or-set_other (adds.ratios.same_columns e h) in
+    let same_value : (e : ℕ) → e < start → item new_values e ≡ item values e = λ e h.
+    let other : e ≢ pivot = omega arith in
+    adds.later.same_values e (omega arith) ∙ rw get_or-set_other (adds.ratios.same_values e h) in
     let earlier : (i : ℕ) → i < count → slice_index starts (i + 1) ≤ start = λ i h. was.rising (i + 1) count (omega arith) (omega arith) in
     let kept : rows_kept size count new_starts new_columns new_values ≡ rows_kept size count starts columns values =
     fill_by_all (λ i. dense_row size columns values (slice_index starts i) (slice_index starts (i + 1))) (rows_kept size count new_starts new_columns new_values) count [] (length-rows_kept size count new_starts new_columns new_values) (λ i h.

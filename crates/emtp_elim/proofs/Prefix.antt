@@ -1,5 +1,5 @@
 -- A finished row depends on the rows before it and its own alone.
-use Rattle.std.proofs.Common.{◌≡◌, ℕ, ◌<◌, ◌≤◌, ℤ, List, [], length, take, refl, ap, sym, ◌∙◌, arith}
+use Rattle.std.proofs.Common.{◌≡◌, ℕ, ◌<◌, ◌≤◌, [], length, take, refl, ap, sym, ◌∙◌, arith}
 use Rattle.std.proofs.lemmas.List.{get_or-take, length-take-le, length-take}
 use Rattle.emtp_elim.specs.Matrix.{Matrix, row_of, entry}
 use Rattle.emtp_elim.specs.Elimination.{ratio, stage}

@@ -1,10 +1,13 @@
 -- What is left of a right side, later entry by later entry.
-use Rattle.std.proofs.Common.{◌≡◌, ℕ, suc, ◌+◌, ◌-◌, ◌*◌, ◌^◌, ◌<◌, ◌≤◌, ℤ, pos, refl, ◌+ℤ◌, ◌-ℤ◌, ◌*ℤ◌, unsigned_abs, List, drop, slice_index, ap, ◌∙◌, arith}
+use Rattle.std.proofs.Common.{◌≡◌, ℕ, suc, ◌+◌, ◌-◌, ◌*◌, ◌^◌, ◌<◌, ◌≤◌, ℤ, pos, refl, ◌+ℤ◌, ◌-ℤ◌, ◌*ℤ◌, unsigned_abs, List, FitsSigned, to_z, of_z, drop, slice_index, ap, ◌∙◌, arith}
+use mir.Syntax.{w128}
 use Rattle.std.proofs.lemmas.List.{get_or-drop}
 use Rattle.std.proofs.lemmas.Int.{ints}
-use Rattle.emtp_fix.proofs.Wide.{abs-mul-le}
+use Rattle.emtp_fix.proofs.Wide.{abs-mul-le, fits, through}
+use Rattle.emtp_fix.specs.declared.limit.TheConstants.{LARGEST_WIDE}
 use Rattle.emtp_elim.specs.Matrix.{item, products}
-use Rattle.emtp_elim.specs.Stored.{AreEntries}
+use Rattle.emtp_elim.specs.Stored.{dense_row, AreEntries, IsStoredRow}
+use Rattle.emtp_elim.proofs.KeptRows.{entry_small}
 use Rattle.emtp_elim.proofs.Entries.{IsAt, at_start, at_entry, at_next, stands_still}
 
 -- the products of the columns after k and before h
@@ -43,7 +46,7 @@ remainder_start right k size row x columns values first last entries small = rec
   bound = omega (arith, abs-mul-le right (pos (10 ^ 12)) (10 ^ 18) (10 ^ 12) small (omega arith));
 }
 
-pub remainder_more : (right : ℤ) (k size : ℕ) (row x : List ℤ) (columns : List ℕ) (values : List ℤ) (first e last : ℕ) (left : ℤ)
+remainder_more : (right : ℤ) (k size : ℕ) (row x : List ℤ) (columns : List ℕ) (values : List ℤ) (first e last : ℕ) (left : ℤ)
     → AreEntries row (k + 1) size columns values first last → IsRemainder right k size row x columns first e last left → first ≤ e → e < last
     → unsigned_abs (item values e *ℤ item x (slice_index columns e)) ≤ 10 ^ 17 * 10 ^ 18
     → IsRemainder right k size row x columns first (e + 1) last (left -ℤ item values e *ℤ item x (slice_index columns e))
@@ -58,3 +61,16 @@ remainder_more right k size row x columns values first e last left entries was l
           rw (products_still k size row x columns values first (e + 1) last (suc j) h entries (at_next row (k + 1) size columns values first e last entries low_e inside) at (omega arith) (omega arith) in_size, more) (omega (arith, ints, was_value));
       bound = omega (arith, ints, was.bound, small);
     }
+
+-- the same as the code computes it: a row has at most 1,000 entries, so what is left stays far from the limits of 128 bits
+pub remainder_read : {right : ℤ} {k size : ℕ} {x : List ℤ} {columns : List ℕ} {values : List ℤ} {first pivot e last : ℕ} {left : ℤ} (p q : ℤ)
+    → IsStoredRow size k columns values first pivot last → IsRemainder right k size (dense_row size columns values first last) x columns (pivot + 1) e last left → size ≤ 1000
+    → pivot + 1 ≤ e → e < last → unsigned_abs (item x (slice_index columns e)) ≤ 10 ^ 18 → p ≡ item values e → q ≡ item x (slice_index columns e)
+    → FitsSigned w128 (left -ℤ to_z w128 (of_z w128 (p *ℤ q)))
+    × IsRemainder right k size (dense_row size columns values first last) x columns (pivot + 1) (e + 1) last (to_z w128 (of_z w128 (left -ℤ to_z w128 (of_z w128 (p *ℤ q)))))
+remainder_read {k = k} {x = x} {columns = columns} {values = values} {pivot = pivot} {e = e} {left = left} p q row was few low_e inside small_x p_is q_is =
+    let product = item values e *ℤ item x (slice_index columns e) in
+    let small = abs-mul-le (item values e) (item x (slice_index columns e)) (10 ^ 17) (10 ^ 18) (entry_small e row (omega arith) inside) small_x in
+    let same_product : to_z w128 (of_z w128 product) ≡ product = through product (omega (arith, small)) in
+    let bound : unsigned_abs (left -ℤ product) ≤ LARGEST_WIDE = omega (arith, ints, small, was.bound, row.later.few) in
+    rw (p_is, q_is, same_product) (fits (left -ℤ product) bound, rw (through (left -ℤ product) bound) (remainder_more _ k _ _ x columns values (pivot + 1) e _ left row.later was low_e inside small))

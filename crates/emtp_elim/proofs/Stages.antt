@@ -5,7 +5,7 @@ use Rattle.std.proofs.lemmas.List.FromFn.{length-map-range_with_len, get_or-map-
 use Rattle.std.proofs.lemmas.Bool.{cases_lt}
 use Rattle.std.proofs.lemmas.Bool.Decides.{nat_tests}
 use Rattle.emtp_elim.specs.Matrix.{Matrix, item, row_of, entry}
-use Rattle.emtp_elim.specs.Elimination.{less_product, ratio, cleared, cleared_right, stage, stage_right}
+use Rattle.emtp_elim.specs.Elimination.{less_product, ratio, cleared, stage, stage_right}
 
 pub length-stage : (rows : Matrix) (k : ℕ) → length (stage rows k) ≡ length rows
 unfolding stage

@@ -1,10 +1,13 @@
 -- The unknowns of a triangular system, from the last row back.
-use Rattle.std.proofs.Common.{◌≡◌, ℕ, zero, suc, ◌+◌, ◌-◌, ◌^◌, ◌<◌, ◌≤◌, ℤ, pos, ◌-ℤ◌, ◌*ℤ◌, unsigned_abs, List, [], ◌∷◌, length, drop, slice_set, length-set, refl, ap, sym, ◌∙◌, inl, inr, arith}
+use Rattle.std.proofs.Common.{◌≡◌, ℕ, zero, suc, ◌+◌, ◌-◌, ◌*◌, ◌^◌, ◌<◌, ◌≤◌, ℤ, pos, ◌-ℤ◌, ◌*ℤ◌, unsigned_abs, List, [], ◌∷◌, length, drop, slice_set, length-set, to_z, of_z, refl, ap, sym, ◌∙◌, inl, inr, arith}
+use mir.Syntax.{w128}
 use Rattle.std.proofs.lemmas.List.{get_or-drop, get_or-set_same, get_or-set_other, get_or_past, drop_more, drop-set-lt, drop_all}
 use Rattle.std.proofs.lemmas.Bool.{cases_eq}
 use Rattle.emtp_fix.specs.Rounding.{near}
+use Rattle.emtp_fix.proofs.Wide.{through}
 use Rattle.emtp_elim.specs.Matrix.{Matrix, item, row_of, entry, products}
 use Rattle.emtp_elim.specs.Elimination.{unknown, last_unknowns}
+use Rattle.emtp_elim.specs.Stored.{dense_row, IsStoredRow}
 use Rattle.emtp_elim.specs.Substitution.{IsLastFault}
 
 pub length-last_unknowns : (rows : Matrix) (right : List ℤ) (n : ℕ) → length (last_unknowns rows right n) ≡ n
@@ -41,22 +44,22 @@ found_none rows right x n n_is same = record {
   small = λ h low. rw (get_or_past x h (pos 0) (omega arith)) (omega arith);
 }
 
--- the value of the next unknown, from what the code adds up
-next_is : (rows : Matrix) (right x : List ℤ) (n k : ℕ) (left v : ℤ) → AreFound rows right n x → n ≡ k + 1 → k < length rows → length x ≡ length rows
-    → left ≡ item right k *ℤ pos (10 ^ 12) -ℤ products (drop (k + 1) (row_of rows k)) (drop (k + 1) x) (length rows - (k + 1)) → v ≡ near left (entry rows k k)
-    → v ≡ unknown rows right k (last_unknowns rows right (length rows - n))
-next_is rows right x n k left v was n_is inside same left_is v_is =
+-- the value of the next unknown, as the code computes it
+pub next_read : {size k : ℕ} {columns : List ℕ} {values : List ℤ} {first pivot last : ℕ} {rows : Matrix} {right x : List ℤ} {n : ℕ} (left p v : ℤ)
+    → IsStoredRow size k columns values first pivot last → dense_row size columns values first last ≡ row_of rows k → AreFound rows right n x → n ≡ k + 1 → size ≡ length rows → length x ≡ size
+    → left ≡ item right k *ℤ pos (10 ^ 12) -ℤ products (drop (k + 1) (dense_row (length x) columns values first last)) (drop (k + 1) x) (length x - (k + 1)) → unsigned_abs left ≤ 16 * 10 ^ 37
+    → p ≡ item values pivot → v ≡ near (to_z w128 (of_z w128 left)) p → v ≡ unknown rows right k (last_unknowns rows right (length rows - n))
+next_read {k = k} {rows = rows} {right = right} {x = x} {n = n} left p v row row_is was n_is same long left_is small p_is v_is =
     let later_is : drop (k + 1) x ≡ last_unknowns rows right (length rows - n) = ap (λ m. drop m x) (sym n_is) ∙ was.found in
-    let count : length (last_unknowns rows right (length rows - n)) ≡ length rows - (k + 1) = length-last_unknowns rows right (length rows - n) ∙ omega arith in
+    let count : length (last_unknowns rows right (length rows - n)) ≡ length x - (k + 1) = length-last_unknowns rows right (length rows - n) ∙ omega arith in
     let after : suc k ≡ k + 1 = omega arith in
-    v_is ∙ rw (left_is, later_is, count, after) refl
+    let same_left : to_z w128 (of_z w128 left) ≡ left = through left (omega arith) in
+    rw (same_left, p_is, row.pivot_is, row_is) at v_is ∙ rw (count, after, ← later_is) (ap (λ z. near z (entry rows k k)) (rw (long, row_is, ← long) at left_is))
 
-pub found_more : (rows : Matrix) (right x : List ℤ) (n k : ℕ) (left v : ℤ) → AreFound rows right n x → n ≡ k + 1 → k < length rows → length x ≡ length rows
-    → left ≡ item right k *ℤ pos (10 ^ 12) -ℤ products (drop (k + 1) (row_of rows k)) (drop (k + 1) x) (length rows - (k + 1)) → v ≡ near left (entry rows k k)
-    → unsigned_abs v ≤ 10 ^ 18 → AreFound rows right k (slice_set x k v)
-found_more rows right x n k left v was n_is inside same left_is v_is small =
+pub found_more : (rows : Matrix) (right x : List ℤ) (n k : ℕ) (v : ℤ) → AreFound rows right n x → n ≡ k + 1 → k < length rows → length x ≡ length rows
+    → v ≡ unknown rows right k (last_unknowns rows right (length rows - n)) → unsigned_abs v ≤ 10 ^ 18 → AreFound rows right k (slice_set x k v)
+found_more rows right x n k v was n_is inside same v_next small =
     let in_x : k < length x = omega arith in
-    let v_next = next_is rows right x n k left v was n_is inside same left_is v_is in
     let one_more : length rows - k ≡ suc (length rows - n) = omega arith in
     let place : length rows - suc (length rows - n) ≡ k = omega arith in
     let rest : drop (k + 1) (slice_set x k v) ≡ last_unknowns rows right (length rows - n) =
@@ -70,11 +73,9 @@ found_more rows right x n k left v was n_is inside same left_is v_is small =
       ];
     }
 
-pub found_fault : (rows : Matrix) (right x : List ℤ) (n k : ℕ) (left v : ℤ) → AreFound rows right n x → n ≡ k + 1 → k < length rows → length x ≡ length rows
-    → left ≡ item right k *ℤ pos (10 ^ 12) -ℤ products (drop (k + 1) (row_of rows k)) (drop (k + 1) x) (length rows - (k + 1)) → v ≡ near left (entry rows k k)
-    → 10 ^ 18 < unsigned_abs v → IsLastFault rows right k
-found_fault rows right x n k left v was n_is inside same left_is v_is large =
-    let v_next = next_is rows right x n k left v was n_is inside same left_is v_is in
+pub found_fault : (rows : Matrix) (right x : List ℤ) (n k : ℕ) (v : ℤ) → AreFound rows right n x → n ≡ k + 1 → k < length rows → length x ≡ length rows
+    → v ≡ unknown rows right k (last_unknowns rows right (length rows - n)) → 10 ^ 18 < unsigned_abs v → IsLastFault rows right k
+found_fault rows right x n k v was n_is inside same v_next large =
     let all = last_unknowns rows right (length rows) in
     let split_n : length rows - n + n ≡ length rows = omega arith in
     let from_n : drop n all ≡ last_unknowns rows right (length rows - n) = rw split_n at (drop-last_unknowns rows right (length rows - n) n) in

@@ -53,7 +53,9 @@ pub fn store_next(
     ensures rows { rows_kept (length work.now) (count + 1) starts.new columns.new values.new ≡ rows_kept (length work.now) count starts.old columns.old values.old ++ work.now ∷ [] }
 {
     let pivot = pack(work, 0, count, columns, values, starts[count]);
-    let end = pack(work, count, work.len(), columns, values, pivot);
+    columns[pivot] = count as u16;
+    values[pivot] = work[count] as i64;
+    let end = pack(work, count + 1, work.len(), columns, values, pivot + 1);
     pivots[count] = pivot;
     words[count] = word_of(work[count]);
     starts[count + 1] = end;

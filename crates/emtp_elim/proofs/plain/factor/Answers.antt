@@ -1,5 +1,5 @@
-use Rattle.std.proofs.Common.{◌<◌, length, ◌∙◌, arith}
-use Rattle.emtp_elim.proofs.Adding.{finished_none, next_row, adds_row}
+use Rattle.std.proofs.Common.{◌∙◌, arith}
+use Rattle.emtp_elim.proofs.Adding.{next_row, adds_row}
 use Rattle.emtp_elim.proofs.plain.factor.Goals as goal
 
 pub loop-i-preserved : goal.loop-i-preserved
