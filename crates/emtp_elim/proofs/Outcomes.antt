@@ -1,8 +1,11 @@
 -- The outcome of an elimination, from what the relations say of the matrix and the right side.
-use Rattle.std.proofs.Common.{◌≡◌, ℕ, zero, suc, ◌<◌, ◌≤◌, ◌^◌, ℤ, pos, negsuc, unsigned_abs, nat_lt, Bool, true, ◌||◌, List, length, Option, Some, None, Ok, Err, refl, ap, sym, ◌∙◌, inl, inr, arith}
-use Rattle.std.proofs.lemmas.Bool.{cases_eq, cases_lt, and_from, and_parts, or_left, or_right, or_cases, le-leb, lt-leb, leb-true, lt-ltb, ltb-true, eq-eqb, ne_eqb, cond-true, cond-false, false_from_ne_true}
+use Rattle.std.proofs.Common.{◌≡◌, ◌⊎◌, ℕ, zero, suc, ◌<◌, ◌≤◌, ◌^◌, ℤ, unsigned_abs, Bool, List, length, Option, Some, None, Ok, Err, refl, ap, sym, ◌∙◌, inl, inr, arith}
+use Rattle.std.specs.Bool.{Decides}
+use Rattle.std.proofs.lemmas.Bool.Decides.{Decides-and, Decides-or, Decides-ltb, Decides-like, Decides-below_and}
+use Rattle.std.proofs.lemmas.Int.{ints}
+use Rattle.std.proofs.lemmas.Bool.{cases_eq, cases_lt, le-leb, lt-leb, leb-true, eq-eqb, ne_eqb, cond-true, cond-false, false_from_ne_true}
 use Rattle.emtp_elim.specs.Matrix.{Matrix, item, row_of, entry}
-use Rattle.emtp_elim.specs.Elimination.{stage, stage_right, solution}
+use Rattle.emtp_elim.specs.Elimination.{ratio, stage, stage_right, solution}
 use Rattle.emtp_elim.specs.Fault.{IsRowInRange, pivot, IsGoodRow, IsCause, IsRowFault, IsGoodMatrix, IsRightInRange, IsRightFault, IsUnknownFault}
 use Rattle.emtp_elim.specs.Outcome.{each_below, first_below, last_below, is_within, is_stage_in_range, is_ratio_in_range, is_row_in_range, is_right_in_range, row_fault, right_fault, unknown_fault, outcome}
 use Rattle.emtp_elim.specs.declared.fault.RowCause.{RowCause}
@@ -11,18 +14,11 @@ use Rattle.emtp_elim.specs.declared.fault.PlainFault.TheVariants.{Row, Solve}
 
 -- ---- tests and searches below a number
 
-each_below-true : (n : ℕ) (p : ℕ → Bool) → ((k : ℕ) → k < n → p k ≡ true) → each_below n p ≡ true
-each_below-true zero p all = refl
-each_below-true (suc n) p all = and_from _ _ (each_below-true n p (λ k h. all k (omega arith))) (all n (omega arith))
+below-Decides : (p : ℕ → Bool) (P : ℕ → Type 0) → ((k : ℕ) → Decides (p k) (P k)) → (n : ℕ) → Decides (each_below n p) ((k : ℕ) → k < n → P k)
+below-Decides p P each n = Decides-below_and p P (λ m. each_below m p) each refl (λ m. refl) n
 
-each_below-at : (n : ℕ) (p : ℕ → Bool) → each_below n p ≡ true → (k : ℕ) → k < n → p k ≡ true
-each_below-at zero p e k h = absurd (omega arith)
-each_below-at (suc n) p e k h =
-    let parts = and_parts (each_below n p) (p n) e in
-    elim (cases_eq k n) [
-      | inl last ↦ ap p last ∙ parts.1
-      | inr other ↦ each_below-at n p parts.0 k (omega arith)
-    ]
+within-Decides : (limit : ℕ) (z : ℤ) → Decides (is_within limit z) (unsigned_abs z ≤ limit)
+within-Decides limit z = (leb-true _ _, le-leb _ _)
 
 first_below-none : {X : Type 0} (n : ℕ) (f : ℕ → Option X) → ((k : ℕ) → k < n → f k ≡ None) → first_below n f ≡ None
 first_below-none zero f none = refl
@@ -50,59 +46,49 @@ last_below-some (suc n) f i x below later here = elim (cases_eq i n) [
 
 -- ---- rows
 
-is_row_in_range-true : (rows : Matrix) (i : ℕ) → IsRowInRange rows i → is_row_in_range rows i ≡ true
-is_row_in_range-true rows i fine = and_from _ _
-    (each_below-true (suc i) (is_stage_in_range rows i) (λ k low. each_below-true (length (row_of rows i)) _ (λ j inside. elim (cases_lt j k) [
-      | inl cleared_before ↦ or_left _ _ (lt-ltb j k cleared_before)
-      | inr from_on ↦ or_right _ _ (le-leb _ _ (fine.entries k j (omega arith) from_on inside))
-    ])))
-    (each_below-true i (is_ratio_in_range rows i) (λ k low. le-leb _ _ (fine.ratios k low)))
-
-entry_in_range : (rows : Matrix) (i k j : ℕ) → is_stage_in_range rows i k ≡ true → k ≤ j → j < length (row_of rows i)
-    → unsigned_abs (entry (stage rows k) i j) ≤ 10 ^ 17
-entry_in_range rows i k j e from_on inside =
-    elim (or_cases (nat_lt j k) _ (each_below-at (length (row_of rows i)) (λ h. nat_lt h k || is_within (10 ^ 17) (entry (stage rows k) i h)) e j inside)) [
-      | inl before ↦ absurd (omega (arith, ltb-true j k before))
-      | inr fine ↦ leb-true _ _ fine
-    ]
-
-is_row_in_range-is : (rows : Matrix) (i : ℕ) → is_row_in_range rows i ≡ true → IsRowInRange rows i
-is_row_in_range-is rows i e =
-    let parts = and_parts (each_below (suc i) (is_stage_in_range rows i)) (each_below i (is_ratio_in_range rows i)) e in
-    record {
-      entries = λ k j low. entry_in_range rows i k j (each_below-at (suc i) (is_stage_in_range rows i) parts.0 k (omega arith));
-      ratios = λ k low. leb-true _ _ (each_below-at i (is_ratio_in_range rows i) parts.1 k low);
-    }
-
-abs_zero : (z : ℤ) → unsigned_abs z ≡ 0 → z ≡ pos 0
-abs_zero (pos n) h = ap pos h
-abs_zero (negsuc n) h = absurd (omega arith)
+row-Decides : (rows : Matrix) (i : ℕ) → Decides (is_row_in_range rows i) (IsRowInRange rows i)
+row-Decides rows i =
+    let stages = below-Decides (is_stage_in_range rows i) (λ k. (j : ℕ) → j < length (row_of rows i) → (j < k) ⊎ (unsigned_abs (entry (stage rows k) i j) ≤ 10 ^ 17))
+    (λ k. below-Decides _ _ (λ j. Decides-or _ _ (Decides-ltb j k) (within-Decides (10 ^ 17) (entry (stage rows k) i j))) (length (row_of rows i))) (suc i) in
+    let ratios = below-Decides (is_ratio_in_range rows i) (λ k. unsigned_abs (ratio (stage rows k) k i) ≤ 10 ^ 18) (λ k. within-Decides (10 ^ 18) (ratio (stage rows k) k i)) i in
+    Decides-like (is_row_in_range rows i) (λ both. record {
+      entries = λ k j low from_on inside. elim (both.0 k (omega arith) j inside) [
+        | inl before ↦ absurd (omega arith)
+        | inr fine ↦ fine
+      ];
+      ratios = both.1;
+    }) (λ fine. (λ k low j inside. elim (cases_lt j k) [
+      | inl before ↦ inl before
+      | inr from_on ↦ inr (fine.entries k j (omega arith) from_on inside)
+    ], fine.ratios)) (Decides-and _ _ stages ratios)
 
 row_fault-good : (rows : Matrix) (i : ℕ) → IsGoodRow rows i → row_fault rows i ≡ None
 unfolding row_fault
 row_fault-good rows i good =
-    cond-true (is_row_in_range rows i) _ _ (is_row_in_range-true rows i good.in_range)
-    ∙ cond-false _ _ _ (ne_eqb (unsigned_abs (pivot rows i)) 0 (λ e. good.nonzero (abs_zero _ e)))
+    cond-true (is_row_in_range rows i) _ _ ((row-Decides rows i).1 good.in_range)
+    ∙ cond-false _ _ _ (ne_eqb (unsigned_abs (pivot rows i)) 0 (λ e. good.nonzero (omega (arith, ints, e))))
 
 row_fault-faulty : (rows : Matrix) (i : ℕ) (cause : RowCause) → IsCause rows i cause → row_fault rows i ≡ Some (record { row = i; cause = cause })
 unfolding row_fault
 row_fault-faulty rows i Range out =
-    cond-false (is_row_in_range rows i) _ _ (false_from_ne_true (is_row_in_range rows i) (λ e. out (is_row_in_range-is rows i e)))
+    cond-false (is_row_in_range rows i) _ _ (false_from_ne_true (is_row_in_range rows i) (λ e. out ((row-Decides rows i).0 e)))
 row_fault-faulty rows i ZeroPivot zero_pivot =
-    cond-true (is_row_in_range rows i) _ _ (is_row_in_range-true rows i zero_pivot.0)
+    cond-true (is_row_in_range rows i) _ _ ((row-Decides rows i).1 zero_pivot.0)
     ∙ cond-true _ _ _ (eq-eqb (unsigned_abs (pivot rows i)) 0 (ap unsigned_abs zero_pivot.1))
 
 -- ---- right sides and unknowns
 
+right-Decides : (rows : Matrix) (right : List ℤ) (i : ℕ) → Decides (is_right_in_range rows right i) (IsRightInRange rows right i)
+right-Decides rows right i = Decides-like _ (λ fine k low. fine k (omega arith)) (λ fine k low. fine k (omega arith))
+    (below-Decides _ (λ k. unsigned_abs (item (stage_right rows right k) i) ≤ 10 ^ 18) (λ k. within-Decides (10 ^ 18) (item (stage_right rows right k) i)) (suc i))
+
 right_fault-none : (rows : Matrix) (right : List ℤ) (i : ℕ) → IsRightInRange rows right i → right_fault rows right i ≡ None
 unfolding right_fault
-right_fault-none rows right i fine = cond-true _ _ _ (each_below-true (suc i) _ (λ k low. le-leb _ _ (fine k (omega arith))))
+right_fault-none rows right i fine = cond-true _ _ _ ((right-Decides rows right i).1 fine)
 
 right_fault-some : (rows : Matrix) (right : List ℤ) (i : ℕ) → ¬ IsRightInRange rows right i → right_fault rows right i ≡ Some (record { row = i })
 unfolding right_fault
-right_fault-some rows right i out =
-    cond-false (is_right_in_range rows right i) _ _ (false_from_ne_true (is_right_in_range rows right i)
-    (λ e. out (λ k low. leb-true _ _ (each_below-at (suc i) (λ h. is_within (10 ^ 18) (item (stage_right rows right h) i)) e k (omega arith)))))
+right_fault-some rows right i out = cond-false (is_right_in_range rows right i) _ _ (false_from_ne_true (is_right_in_range rows right i) (λ e. out ((right-Decides rows right i).0 e)))
 
 unknown_fault-none : (rows : Matrix) (right : List ℤ) (i : ℕ) → unsigned_abs (item (solution rows right) i) ≤ 10 ^ 18 → unknown_fault rows right i ≡ None
 unfolding unknown_fault

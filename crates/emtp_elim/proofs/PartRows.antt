@@ -26,13 +26,6 @@ pub record IsUnderWay (done : Matrix) (k : ℕ) (given work : List ℤ) : Type 0
 
 -- ---- one step of one matrix
 
-part_start : (rows done : Matrix) (given : List ℤ) → IsNext rows done given → IsPartRow rows (length done) 0 given
-part_start rows done given next = record {
-  length_is = ap length (sym next.row_is);
-  ratios = λ j h. absurd (omega arith);
-  entries = λ j low inside. sym (entry_start rows (length done) j ∙ ap (λ row. item row j) next.row_is);
-}
-
 part_more : (rows : Matrix) (i k : ℕ) (work above new : List ℤ) → k < i → i < length rows → length above ≡ length work → length new ≡ length work
     → IsPartRow rows i k work → IsPartRow rows k k above → IsClearedRow k work above new → k < length work → IsPartRow rows i (suc k) new
 part_more rows i k work above new later inside same_above same_new part upper cleared in_work =
@@ -75,7 +68,11 @@ pub underway_start : (done : Matrix) (given : List ℤ) → AreWithin (10 ^ 17) 
 underway_start done given small = record {
   ratios = λ j h. absurd (omega arith);
   entries = λ j h. small j;
-  part = λ rows next. part_start rows done given next;
+  part = λ rows next. record {
+    length_is = ap length (sym next.row_is);
+    ratios = λ j h. absurd (omega arith);
+    entries = λ j low inside. sym (entry_start rows (length done) j ∙ ap (λ row. item row j) next.row_is);
+  };
   in_range = λ rows next. record {
     entries = λ h j low from_on inside. let first : h ≡ 0 = omega arith in
         rw (first, entry_start rows (length done) j, next.row_is) (small j);

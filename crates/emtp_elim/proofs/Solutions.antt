@@ -24,12 +24,6 @@ entry_last rows done all square k j inside low in_row =
     let last : k + (length rows - k) ≡ length rows = omega (arith, all.all) in
     part.entries j low (omega arith) ∙ sym (entry_settled rows k j (length rows - k) (omega (arith, all.all)) (omega (arith, part.length_is))) ∙ ap (λ n. entry (stage rows n) k j) last
 
-right_last : (rows : Matrix) (given right : List ℤ) (n k : ℕ) → AreReduced rows given n right → length given ≡ n → n ≡ length rows → k < n
-    → item right k ≡ item (stage_right rows given (length rows)) k
-right_last rows given right n k reduced same same_rows inside =
-    let last : k + (length rows - k) ≡ length rows = omega arith in
-    reduced.reduced k inside ∙ sym (right_settled rows given k (length rows - k) (omega arith)) ∙ ap (λ m. item (stage_right rows given m) k) last
-
 -- so the unknowns of the finished rows are the solution
 unknowns_last : (rows done : Matrix) (given right : List ℤ) → AreAllFinished rows done → IsSquare done → length given ≡ length done → AreReduced rows given (length done) right
     → (n : ℕ) → n ≤ length done → last_unknowns done right n ≡ last_unknowns (stage rows (length rows)) (stage_right rows given (length rows)) n
@@ -43,7 +37,8 @@ unknowns_last rows done given right all square same reduced (suc n) low =
     let count : length later ≡ n = length-last_unknowns last last_right n in
     let height : length last ≡ length done = length-stage rows (length rows) ∙ sym all.all in
     let inside : k < length done = omega arith in
-    let right_is : item right k ≡ item last_right k = right_last rows given right (length done) k reduced same all.all inside in
+    let right_is : item right k ≡ item last_right k =
+    reduced.reduced k inside ∙ sym (right_settled rows given k (length rows - k) (omega arith)) ∙ ap (λ m. item (stage_right rows given m) k) (omega (arith, all.all)) in
     let pivot_is : entry done k k ≡ entry last k k = entry_last rows done all square k k inside (omega arith) inside in
     let sum_is : products (drop (suc k) (row_of done k)) later (length later) ≡ products (drop (suc k) (row_of last k)) later (length later) =
     products_same _ _ later (length later) (λ h before.

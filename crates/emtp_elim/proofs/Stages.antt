@@ -5,32 +5,25 @@ use Rattle.std.proofs.lemmas.List.FromFn.{length-map-range_with_len, get_or-map-
 use Rattle.std.proofs.lemmas.Bool.{cases_lt}
 use Rattle.std.proofs.lemmas.Bool.Decides.{nat_tests}
 use Rattle.emtp_elim.specs.Matrix.{Matrix, item, row_of, entry}
-use Rattle.emtp_elim.specs.Elimination.{less_product, ratio, cleared, stage, stage_right}
+use Rattle.emtp_elim.specs.Elimination.{less_product, ratio, stage, stage_right}
 
 pub length-stage : (rows : Matrix) (k : ℕ) → length (stage rows k) ≡ length rows
 unfolding stage
 length-stage rows zero = refl
 length-stage rows (suc k) = length-map-range_with_len _ 0 (length (stage rows k)) ∙ length-stage rows k
 
-width-cleared : (rows : Matrix) (k i : ℕ) → i < length rows → length (row_of (cleared k rows) i) ≡ length (row_of rows i)
-width-cleared rows k i h =
-    ap length (get_or-map-range_with_len _ 0 (length rows) i i [] h (omega arith)) ∙ length-map-range_with_len _ 0 (length (row_of rows i))
-
 pub width-stage : (rows : Matrix) (k i : ℕ) → i < length rows → length (row_of (stage rows k) i) ≡ length (row_of rows i)
 unfolding stage
 width-stage rows zero i h = refl
-width-stage rows (suc k) i h = width-cleared (stage rows k) k i (rw length-stage h) ∙ width-stage rows k i h
-
-entry_cleared : (rows : Matrix) (k i j : ℕ) → i < length rows → j < length (row_of rows i)
-    → entry (cleared k rows) i j ≡ (if nat_lt k i then (if nat_lt k j then less_product (entry rows i j) (ratio rows k i) (entry rows k j) else pos 0) else entry rows i j)
-entry_cleared rows k i j h w =
-    ap (λ row. item row j) (get_or-map-range_with_len _ 0 (length rows) i i [] h (omega arith))
-    ∙ get_or-map-range_with_len _ 0 (length (row_of rows i)) j j (pos 0) w (omega arith)
+width-stage rows (suc k) i h =
+    ap length (get_or-map-range_with_len _ 0 (length (stage rows k)) i i [] (rw length-stage h) (omega arith)) ∙ length-map-range_with_len _ 0 (length (row_of (stage rows k) i)) ∙ width-stage rows k i h
 
 entry_next : (rows : Matrix) (k i j : ℕ) → i < length rows → j < length (row_of rows i) → entry (stage rows (suc k)) i j
     ≡ (if nat_lt k i then (if nat_lt k j then less_product (entry (stage rows k) i j) (ratio (stage rows k) k i) (entry (stage rows k) k j) else pos 0) else entry (stage rows k) i j)
 unfolding stage
-entry_next rows k i j h w = entry_cleared (stage rows k) k i j (rw length-stage h) (rw (width-stage rows k i h) w)
+entry_next rows k i j h w =
+    ap (λ row. item row j) (get_or-map-range_with_len _ 0 (length (stage rows k)) i i [] (rw length-stage h) (omega arith))
+    ∙ get_or-map-range_with_len _ 0 (length (row_of (stage rows k) i)) j j (pos 0) (rw (width-stage rows k i h) w) (omega arith)
 
 pub entry_later : (rows : Matrix) (k i j : ℕ) → k < i → k < j → i < length rows → j < length (row_of rows i)
     → entry (stage rows (suc k)) i j ≡ less_product (entry (stage rows k) i j) (ratio (stage rows k) k i) (entry (stage rows k) k j)
@@ -66,12 +59,9 @@ entry_same a b n in_a in_b same (suc k) h j p =
     let long_b : h < length b = omega arith in
     elim (cases_lt j (length (row_of a h))) [
       | inl inside ↦ elim (cases_lt k h) [
-        | inl later ↦ elim (cases_lt k j) [
-          | inl right_of ↦ entry_later a k h j later right_of long_a inside
-              ∙ rw (entry_same a b n in_a in_b same k h j p, entry_same a b n in_a in_b same k h k p, entry_same a b n in_a in_b same k k k (omega arith), entry_same a b n in_a in_b same k k j (omega arith))
-              (sym (entry_later b k h j later right_of long_b (omega arith)))
-          | inr left_of ↦ entry_zero a k h j later left_of long_a inside ∙ sym (entry_zero b k h j later left_of long_b (omega arith))
-        ]
+        | inl later ↦ entry_next a k h j long_a inside
+            ∙ rw (entry_same a b n in_a in_b same k h j p, entry_same a b n in_a in_b same k h k p, entry_same a b n in_a in_b same k k k (omega arith), entry_same a b n in_a in_b same k k j (omega arith))
+            (sym (entry_next b k h j long_b (omega arith)))
         | inr stays ↦ entry_stays a k h j stays long_a inside ∙ entry_same a b n in_a in_b same k h j p ∙ sym (entry_stays b k h j stays long_b (omega arith))
       ]
       | inr outside ↦ get_or_past _ j (pos 0) (omega (arith, width-stage a (suc k) h long_a))

@@ -14,7 +14,7 @@ use Rattle.emtp_elim.specs.declared.fault.PlainFault.TheVariants.{Row, Solve, No
 -- the test holds of each number below n
 abbrev pub each_below : ℕ → (ℕ → Bool) → Bool
 each_below zero p = true
-each_below (suc n) p = each_below n p && p n
+each_below (suc n) p = p n && each_below n p
 
 -- the first of two values that is there
 abbrev pub or_else : {X : Type 0} → Option X → Option X → Option X

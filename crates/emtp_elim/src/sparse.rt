@@ -1,7 +1,7 @@
 // The finished rows of a matrix, and the next row finished by them.
 ghost use Rattle.std.specs.Prelude.{◌≡◌, ℕ, ◌+◌, ◌^◌, ◌<◌, ◌≤◌, length, take, [], ◌∷◌, ◌++◌, IfOk, OnOk, OnErr, IfErr, Ok, Err};
 ghost use Rattle.emtp_elim.specs.Matrix.{AreWithin, row_of};
-ghost use Rattle.emtp_elim.specs.Finished.{Finished, IsRowAdded, AddsRow, FaultsRow};
+ghost use Rattle.emtp_elim.specs.Finished.{Finished, AddsRow, FaultsRow};
 ghost use Rattle.emtp_elim.specs.Stored.{AreStored, rows_kept};
 ghost use Rattle.emtp_elim.specs.Row.{numbers, IsRow};
 ghost use Rattle.emtp_elim.specs.Substitution.{SolvesAs};
@@ -111,10 +111,11 @@ impl SparseRows {
     }
 
     /// Finishes the next row of the matrix, and keeps it. After a refusal the rows are as before.
+    #[tactic(auto, using(crate::proofs::KeptRows::count_is))]
     pub(crate) fn add(&mut self, work: &mut [i128]) -> Result<(), RowCause>
         requires size { length work.old ≡ self.old.size }
         requires room { length self.old.rows < self.old.size }
-        ensures added { OnOk result (IsRowAdded self.old self.new work.old) }
+        ensures added { OnOk result (AddsRow self.old self.new work.old) }
         ensures kept { OnErr result (self.new ≡ self.old) }
         ensures fault { IfErr result (FaultsRow self.old.rows work.old) }
     {

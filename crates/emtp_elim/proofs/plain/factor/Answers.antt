@@ -1,12 +1,12 @@
 use Rattle.std.proofs.Common.{◌∙◌, arith}
-use Rattle.emtp_elim.proofs.Adding.{next_row, adds_row}
+use Rattle.emtp_elim.proofs.Adding.{next_row}
 use Rattle.emtp_elim.proofs.plain.factor.Goals as goal
 
 pub loop-i-preserved : goal.loop-i-preserved
 loop-i-preserved g c =
     let rows = g.R.Rows.matrix c.args.rows.now in
     let was = c.loop-i.invariant in
-    let adds = adds_row c.loop-i.done c.add.new.self c.row.new.out c.in_default.ensures.added in
+    let adds = c.in_default.ensures.added in
     record {
       size = adds.same_size ∙ was.size;
       count = omega (arith, adds.one_more, was.count);
