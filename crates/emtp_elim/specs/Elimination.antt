@@ -1,16 +1,17 @@
 -- Gauss's elimination from the first row on, without exchange of rows, in whole numbers. One number of each product
 -- is in units of 1e-12, and each product and quotient is rounded to the nearest whole number.
-use Rattle.std.specs.Prelude.{ℕ, zero, suc, ◌-◌, ◌^◌, nat_lt, ℤ, pos, ◌-ℤ◌, ◌*ℤ◌, List, [], ◌∷◌, length, drop, if◌then◌else◌}
+use Rattle.std.specs.Prelude.{ℕ, zero, suc, ◌-◌, nat_lt, ℤ, pos, ◌-ℤ◌, ◌*ℤ◌, List, [], ◌∷◌, length, drop, if◌then◌else◌}
 use Rattle.emtp_fix.specs.Rounding.{near}
+use Rattle.emtp_fix.specs.declared.limit.TheConstants.{PICO}
 use Rattle.emtp_elim.specs.Matrix.{Matrix, item, row_of, entry, list_of, rows_of, products}
 
 -- a less the product of m and p
 abbrev pub less_product : ℤ → ℤ → ℤ → ℤ
-less_product a m p = a -ℤ near (m *ℤ p) (pos (10 ^ 12))
+less_product a m p = a -ℤ near (m *ℤ p) PICO
 
 -- a / p
 abbrev pub quotient : ℤ → ℤ → ℤ
-quotient a p = near (a *ℤ pos (10 ^ 12)) p
+quotient a p = near (a *ℤ PICO) p
 
 -- by how much of row k row i is to be lessened
 abbrev pub ratio : Matrix → ℕ → ℕ → ℤ
@@ -40,7 +41,7 @@ stage_right rows right (suc k) = cleared_right k (stage rows k) (stage_right row
 -- the unknown of row k of a triangular system, from those of the later rows
 abbrev pub unknown : Matrix → List ℤ → ℕ → List ℤ → ℤ
 unknown rows right k later =
-    near (item right k *ℤ pos (10 ^ 12) -ℤ products (drop (suc k) (row_of rows k)) later (length later)) (entry rows k k)
+    near (item right k *ℤ PICO -ℤ products (drop (suc k) (row_of rows k)) later (length later)) (entry rows k k)
 
 -- the last n unknowns of a triangular system, from the last row back
 unfoldable pub last_unknowns : Matrix → List ℤ → ℕ → List ℤ

@@ -1,7 +1,8 @@
 -- How an elimination ends, as a function of the matrix and the right side: with the solution, or with the first fault
 -- in this order. The least faulty row of the matrix, out of range before a zero pivot; the least row whose right side
 -- leaves its range; the last row whose unknown does.
-use Rattle.std.specs.Prelude.{◌≡◌, ⊤, ℕ, zero, suc, ◌^◌, ◌<◌, ℤ, unsigned_abs, nat_le, nat_lt, nat_eq, Bool, true, ◌&&◌, ◌||◌, List, length, Option, Some, None, Result, Ok, Err, if◌then◌else◌}
+use Rattle.std.specs.Prelude.{◌≡◌, ⊤, ℕ, zero, suc, ◌<◌, ℤ, unsigned_abs, nat_le, nat_lt, nat_eq, Bool, true, ◌&&◌, ◌||◌, List, length, Option, Some, None, Result, Ok, Err, if◌then◌else◌}
+use Rattle.emtp_fix.specs.declared.limit.TheConstants.{LARGEST_ENTRY, LARGEST_RATIO, LARGEST_VALUE}
 use Rattle.emtp_elim.specs.Matrix.{Matrix, item, row_of, entry}
 use Rattle.emtp_elim.specs.Elimination.{ratio, stage, stage_right, solution}
 use Rattle.emtp_elim.specs.Fault.{pivot}
@@ -36,16 +37,16 @@ is_within limit z = nat_le (unsigned_abs z) limit
 
 -- row i once k columns have been cleared
 abbrev pub is_stage_in_range : Matrix → ℕ → ℕ → Bool
-is_stage_in_range rows i k = each_below (length (row_of rows i)) (λ j. nat_lt j k || is_within (10 ^ 17) (entry (stage rows k) i j))
+is_stage_in_range rows i k = each_below (length (row_of rows i)) (λ j. nat_lt j k || is_within LARGEST_ENTRY (entry (stage rows k) i j))
 
 abbrev pub is_ratio_in_range : Matrix → ℕ → ℕ → Bool
-is_ratio_in_range rows i k = is_within (10 ^ 18) (ratio (stage rows k) k i)
+is_ratio_in_range rows i k = is_within LARGEST_RATIO (ratio (stage rows k) k i)
 
 abbrev pub is_row_in_range : Matrix → ℕ → Bool
 is_row_in_range rows i = each_below (suc i) (is_stage_in_range rows i) && each_below i (is_ratio_in_range rows i)
 
 abbrev pub is_right_in_range : Matrix → List ℤ → ℕ → Bool
-is_right_in_range rows right i = each_below (suc i) (λ k. is_within (10 ^ 18) (item (stage_right rows right k) i))
+is_right_in_range rows right i = each_below (suc i) (λ k. is_within LARGEST_VALUE (item (stage_right rows right k) i))
 
 -- what is wrong with row i
 unfoldable pub row_fault : Matrix → ℕ → Option RowFault
@@ -61,7 +62,7 @@ right_fault rows right i =
 
 -- what is wrong with the unknown of row i
 unfoldable pub unknown_fault : Matrix → List ℤ → ℕ → Option SolveFault
-unknown_fault rows right i = if is_within (10 ^ 18) (item (solution rows right) i) then None else Some (record { row = i })
+unknown_fault rows right i = if is_within LARGEST_VALUE (item (solution rows right) i) then None else Some (record { row = i })
 
 -- the fault, if there is one, and else the answer
 abbrev pub unless : {X : Type 0} → Option X → (X → PlainFault) → Result (List ℤ) PlainFault → Result (List ℤ) PlainFault

@@ -1,10 +1,11 @@
 -- What holds of a matrix that is given row by row.
 use Rattle.std.specs.Prelude.{◌≡◌, ◌≢◌, ℕ, ◌^◌, ◌<◌, ◌≤◌, pos, unsigned_abs, length}
+use Rattle.emtp_fix.specs.declared.limit.TheConstants.{PICO}
 use Rattle.emtp_elim.specs.Matrix.{Matrix, entry, IsSquare}
 
 -- the row has 1, in units of 1e-12, in its own column, and 0 elsewhere
 pub record IsUnitRow (rows : Matrix) (i : ℕ) : Type 0 where
-  pub own : entry rows i i ≡ pos (10 ^ 12)
+  pub own : entry rows i i ≡ PICO
   pub others : (j : ℕ) → j ≢ i → entry rows i j ≡ pos 0
 
 -- a square matrix of at most 1,000 rows, of which the fixed ones come first

@@ -1,5 +1,6 @@
 -- Right sides and unknowns, by finished rows.
-use Rattle.std.specs.Prelude.{◌≡◌, ℕ, zero, suc, ◌^◌, ◌<◌, ◌≤◌, ℤ, unsigned_abs, List, length, Result}
+use Rattle.std.specs.Prelude.{◌≡◌, ℕ, zero, suc, ◌<◌, ◌≤◌, ℤ, unsigned_abs, List, length, Result}
+use Rattle.emtp_fix.specs.declared.limit.TheConstants.{LARGEST_VALUE}
 use Rattle.emtp_elim.specs.Matrix.{Matrix, item}
 use Rattle.emtp_elim.specs.Elimination.{less_product, stage_right, last_unknowns}
 use Rattle.emtp_elim.specs.Fault.{IsRightInRange}
@@ -20,8 +21,8 @@ pub record AreReduced (rows : Matrix) (given : List ℤ) (n : ℕ) (right : List
 -- row i is the last one whose unknown leaves its range, in a triangular system
 pub record IsLastFault (rows : Matrix) (right : List ℤ) (i : ℕ) : Type 0 where
   pub within : i < length rows
-  pub later : (h : ℕ) → i < h → h < length rows → unsigned_abs (item (last_unknowns rows right (length rows)) h) ≤ 10 ^ 18
-  pub out : 10 ^ 18 < unsigned_abs (item (last_unknowns rows right (length rows)) i)
+  pub later : (h : ℕ) → i < h → h < length rows → unsigned_abs (item (last_unknowns rows right (length rows)) h) ≤ LARGEST_VALUE
+  pub out : LARGEST_VALUE < unsigned_abs (item (last_unknowns rows right (length rows)) i)
 
 -- in every matrix of which these are all finished rows, full elimination with this right side ends so
 pub record SolvesAs (done : Matrix) (right : List ℤ) (end : Result (List ℤ) PlainFault) : Type 0 where

@@ -1,19 +1,21 @@
 // One column cleared from a row.
-ghost use Rattle.std.specs.Prelude.{◌≡◌, ℕ, ◌^◌, ◌<◌, ◌≤◌, unsigned_abs, length};
+ghost use Rattle.std.specs.Prelude.{◌≡◌, ℕ, ◌<◌, ◌≤◌, unsigned_abs, length};
 ghost use Rattle.std.specs.Bool.{OnTrue, OnFalse};
+ghost use Rattle.emtp_fix.specs.declared.limit.TheConstants.{LARGEST_ENTRY};
 ghost use Rattle.emtp_elim.specs.Matrix.{item};
 ghost use Rattle.emtp_elim.specs.Clearing.{IsClearedRow, LeavesRangeAt};
 ghost use Rattle.emtp_elim.specs.Row.{numbers, IsRow};
 
-use crate::arithmetic::{LARGEST_ENTRY, LARGEST_RATIO, less, ratio};
+use crate::arithmetic::{less, ratio};
 use crate::row::FinishedRow;
+use emtp_fix::{LARGEST_ENTRY, LARGEST_RATIO};
 
 /// Clears column `k` from a row by finished row `k`, and puts the ratio of the two in its place. False where the ratio
 /// or an entry leaves its range.
 pub fn clear_column(work: &mut [i128], above: FinishedRow<'_>, k: usize) -> bool
     requires above { IsRow (length work.old) k above }
     requires place { k < length work.old }
-    requires entries { (j : ℕ) → k ≤ j → unsigned_abs (item work.old j) ≤ 10 ^ 17 }
+    requires entries { (j : ℕ) → k ≤ j → unsigned_abs (item work.old j) ≤ LARGEST_ENTRY }
     ensures cleared { OnTrue result (IsClearedRow k work.old (numbers (length work.old) above.entry) work.new) }
     ensures out { OnFalse result (LeavesRangeAt k work.old (numbers (length work.old) above.entry)) }
 {

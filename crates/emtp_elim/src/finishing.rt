@@ -1,15 +1,16 @@
 // The next row of a matrix, finished by the rows above it.
-ghost use Rattle.std.specs.Prelude.{◌≡◌, ◌↔◌, ◌^◌, ◌<◌, ◌≤◌, unsigned_abs, length, OnOk, IfErr, IsTrue, All};
+ghost use Rattle.std.specs.Prelude.{◌≡◌, ◌↔◌, ◌<◌, ◌≤◌, unsigned_abs, length, OnOk, IfErr, IsTrue, All};
+ghost use Rattle.emtp_fix.specs.declared.limit.TheConstants.{LARGEST_ENTRY};
 ghost use Rattle.emtp_elim.specs.Clearing.{IsFinishedRow};
 ghost use Rattle.emtp_elim.specs.Finished.{FinishesRow, FaultsRow};
 
-use crate::arithmetic::LARGEST_ENTRY;
 use crate::clearing::clear_column;
 use crate::fault::RowCause;
 use crate::sparse::SparseRows;
+use emtp_fix::LARGEST_ENTRY;
 
 fn are_in_range(entries: &[i128]) -> bool
-    ensures { IsTrue result ↔ All (λ entry. unsigned_abs entry ≤ 10 ^ 17) entries.now }
+    ensures { IsTrue result ↔ All (λ entry. unsigned_abs entry ≤ LARGEST_ENTRY) entries.now }
 {
     entries
         .iter()

@@ -1,5 +1,6 @@
 // A whole system, eliminated from its first row.
-ghost use Rattle.std.specs.Prelude.{◌≡◌, ◌^◌, length, OnOk, IfOk, IfErr, Ok};
+ghost use Rattle.std.specs.Prelude.{◌≡◌, length, OnOk, IfOk, IfErr, Ok};
+ghost use Rattle.emtp_fix.specs.declared.limit.TheConstants.{LARGEST_VALUE};
 ghost use Rattle.emtp_elim.specs.Matrix.{Matrix, AreWithin};
 ghost use Rattle.emtp_elim.specs.Finished.{AreAllFinished, IsMatrixFault};
 ghost use Rattle.emtp_elim.specs.Outcome.{outcome, EndsInFault, HasRow};
@@ -42,7 +43,7 @@ pub fn eliminate_plain<R: Rows>(
     requires rhs { length rhs.now ≡ length (R.matrix rows.now) }
     requires x { length x.old ≡ length (R.matrix rows.now) }
     ensures solved { OnOk result (outcome (R.matrix rows.now) rhs.now ≡ Ok x.new) }
-    ensures within { OnOk result (AreWithin (10 ^ 18) x.new) }
+    ensures within { OnOk result (AreWithin LARGEST_VALUE x.new) }
     ensures fault { IfErr result (EndsInFault (outcome (R.matrix rows.now) rhs.now)) }
     ensures row { IfErr result (HasRow (length (R.matrix rows.now))) }
 {

@@ -1,5 +1,6 @@
 // The finished rows of a matrix, and the next row finished by them.
-ghost use Rattle.std.specs.Prelude.{◌≡◌, ℕ, ◌+◌, ◌^◌, ◌<◌, ◌≤◌, length, take, [], ◌∷◌, ◌++◌, IfOk, OnOk, OnErr, IfErr, Ok, Err};
+ghost use Rattle.std.specs.Prelude.{◌≡◌, ℕ, ◌+◌, ◌<◌, ◌≤◌, length, take, [], ◌∷◌, ◌++◌, IfOk, OnOk, OnErr, IfErr, Ok, Err};
+ghost use Rattle.emtp_fix.specs.declared.limit.TheConstants.{LARGEST_VALUE};
 ghost use Rattle.emtp_elim.specs.Matrix.{AreWithin, row_of};
 ghost use Rattle.emtp_elim.specs.Finished.{Finished, AddsRow, FaultsRow};
 ghost use Rattle.emtp_elim.specs.Stored.{AreStored, rows_kept};
@@ -102,7 +103,7 @@ impl SparseRows {
         requires rhs { length rhs.old ≡ self.now.size }
         requires x { length x.old ≡ self.now.size }
         ensures solved { OnOk result (SolvesAs self.now.rows rhs.old (Ok x.new)) }
-        ensures within { OnOk result (AreWithin (10 ^ 18) x.new) }
+        ensures within { OnOk result (AreWithin LARGEST_VALUE x.new) }
         ensures fault { IfErr result (λ fault. SolvesAs self.now.rows rhs.old (Err (PlainFault.Solve fault))) }
         ensures row { IfErr result (λ fault. fault.row < self.now.size) }
     {

@@ -1,5 +1,6 @@
 // A finished row put after those that are kept.
-ghost use Rattle.std.specs.Prelude.{◌≡◌, ℕ, ◌+◌, ◌^◌, ◌<◌, ◌≤◌, unsigned_abs, length, [], ◌∷◌, ◌++◌};
+ghost use Rattle.std.specs.Prelude.{◌≡◌, ℕ, ◌+◌, ◌<◌, ◌≤◌, unsigned_abs, length, [], ◌∷◌, ◌++◌};
+ghost use Rattle.emtp_fix.specs.declared.limit.TheConstants.{LARGEST_RATIO};
 ghost use Rattle.emtp_elim.specs.Matrix.{item};
 ghost use Rattle.emtp_elim.specs.Clearing.{IsFinishedRow};
 ghost use Rattle.emtp_elim.specs.Stored.{Packs, AreStored, rows_kept};
@@ -21,7 +22,7 @@ fn pack(
     requires few { length work.now ≤ 1000 }
     requires room { first + upto ≤ length columns.old + from }
     requires same_room { length values.old ≡ length columns.old }
-    requires numbers { (j : ℕ) → unsigned_abs (item work.now j) ≤ 10 ^ 18 }
+    requires numbers { (j : ℕ) → unsigned_abs (item work.now j) ≤ LARGEST_RATIO }
     ensures { Packs work.now from upto columns.old columns.new values.old values.new first result }
 {
     let mut at = first;

@@ -1,5 +1,6 @@
 // The work on the right sides, and the unknowns from the last row back.
-ghost use Rattle.std.specs.Prelude.{◌≡◌, ℕ, ◌*◌, ◌+◌, ◌-◌, ◌^◌, ◌<◌, ◌≤◌, pos, ◌*ℤ◌, ◌-ℤ◌, unsigned_abs, length, drop, IfSome, OnSome, IfNone, OnOk, IfErr};
+ghost use Rattle.std.specs.Prelude.{◌≡◌, ℕ, ◌*◌, ◌+◌, ◌-◌, ◌<◌, ◌≤◌, ◌*ℤ◌, ◌-ℤ◌, unsigned_abs, length, drop, IfSome, OnSome, IfNone, OnOk, IfErr};
+ghost use Rattle.emtp_fix.specs.declared.limit.TheConstants.{LARGEST_VALUE, LARGEST_WIDE, PICO};
 ghost use Rattle.emtp_elim.specs.Matrix.{Matrix, item, AreWithin, IsSquare, products};
 ghost use Rattle.emtp_elim.specs.Elimination.{last_unknowns};
 ghost use Rattle.emtp_elim.specs.Fault.{IsRightFault};
@@ -7,21 +8,21 @@ ghost use Rattle.emtp_elim.specs.Finished.{AreAllFinished};
 ghost use Rattle.emtp_elim.specs.Row.{numbers, IsRow};
 ghost use Rattle.emtp_elim.specs.Substitution.{partial_right, AreReduced, IsLastFault};
 
-use crate::arithmetic::{LARGEST_VALUE, ONE, less};
+use crate::arithmetic::less;
 use crate::fault::SolveFault;
 use crate::row::FinishedRow;
 use crate::sparse::SparseRows;
-use emtp_fix::near_by;
+use emtp_fix::{LARGEST_VALUE, PICO, near_by};
 
 /// The right side of row `i` less the products of the row's ratios and the right sides before it. None where it leaves
 /// its range.
 fn reduced(right: &[i128], i: usize, row: FinishedRow<'_>) -> Option<i128>
     requires index { i < length right.now }
     requires row { IsRow (length right.now) i row }
-    requires before { (k : ℕ) → k < i → unsigned_abs (item right.now k) ≤ 10 ^ 18 }
+    requires before { (k : ℕ) → k < i → unsigned_abs (item right.now k) ≤ LARGEST_VALUE }
     ensures value { IfSome result (λ v. v ≡ partial_right (item right.now i) (numbers (length right.now) row.entry) right.now i) }
-    ensures within { OnSome result ((k : ℕ) → k ≤ i → unsigned_abs (partial_right (item right.now i) (numbers (length right.now) row.entry) right.now k) ≤ 10 ^ 18) }
-    ensures out { IfNone result ((k : ℕ) × (k ≤ i) × (10 ^ 18 < unsigned_abs (partial_right (item right.now i) (numbers (length right.now) row.entry) right.now k))) }
+    ensures within { OnSome result ((k : ℕ) → k ≤ i → unsigned_abs (partial_right (item right.now i) (numbers (length right.now) row.entry) right.now k) ≤ LARGEST_VALUE) }
+    ensures out { IfNone result ((k : ℕ) × (k ≤ i) × (LARGEST_VALUE < unsigned_abs (partial_right (item right.now i) (numbers (length right.now) row.entry) right.now k))) }
 {
     let mut value = right[i];
     if value.unsigned_abs() > LARGEST_VALUE {
@@ -43,7 +44,7 @@ fn reduced(right: &[i128], i: usize, row: FinishedRow<'_>) -> Option<i128>
 pub fn reduce_right(done: &SparseRows, right: &mut [i128]) -> Result<(), SolveFault>
     requires full { length done.now.rows ≡ done.now.size }
     requires size { length right.old ≡ done.now.size }
-    ensures within { OnOk result (AreWithin (10 ^ 18) right.new) }
+    ensures within { OnOk result (AreWithin LARGEST_VALUE right.new) }
     ensures reduced { OnOk result ((rows : Matrix) → AreAllFinished rows done.now.rows → AreReduced rows right.old (length right.old) right.new) }
     ensures fault { IfErr result (λ fault. (rows : Matrix) → AreAllFinished rows done.now.rows → IsRightFault rows right.old fault.row) }
     ensures row { IfErr result (λ fault. fault.row < done.now.size) }
@@ -64,12 +65,12 @@ fn remainder(right: &[i128], k: usize, row: FinishedRow<'_>, x: &[i64]) -> i128
     requires lengths { length x.now ≡ length right.now }
     requires few { length x.now ≤ 1000 }
     requires row { IsRow (length x.now) k row }
-    requires right { AreWithin (10 ^ 18) right.now }
-    requires found { (j : ℕ) → k < j → unsigned_abs (item x.now j) ≤ 10 ^ 18 }
-    ensures value { result ≡ item right.now k *ℤ pos (10 ^ 12) -ℤ products (drop (k + 1) (numbers (length x.now) row.entry)) (drop (k + 1) x.now) (length x.now - (k + 1)) }
-    ensures bound { unsigned_abs result ≤ 16 * 10 ^ 37 }
+    requires right { AreWithin LARGEST_VALUE right.now }
+    requires found { (j : ℕ) → k < j → unsigned_abs (item x.now j) ≤ LARGEST_VALUE }
+    ensures value { result ≡ item right.now k *ℤ PICO -ℤ products (drop (k + 1) (numbers (length x.now) row.entry)) (drop (k + 1) x.now) (length x.now - (k + 1)) }
+    ensures bound { unsigned_abs result ≤ LARGEST_WIDE }
 {
-    let mut left = right[k] * ONE;
+    let mut left = right[k] * PICO;
     let columns = row.columns;
     let values = row.values;
     for e in row.pivot + 1..row.last {
@@ -83,10 +84,10 @@ fn remainder(right: &[i128], k: usize, row: FinishedRow<'_>, x: &[i64]) -> i128
 pub fn substitute_back(done: &SparseRows, right: &[i128], x: &mut [i64]) -> Result<(), SolveFault>
     requires full { length done.now.rows ≡ done.now.size }
     requires size { length right.now ≡ done.now.size }
-    requires right { AreWithin (10 ^ 18) right.now }
+    requires right { AreWithin LARGEST_VALUE right.now }
     requires x { length x.old ≡ done.now.size }
     ensures solved { OnOk result (x.new ≡ last_unknowns done.now.rows right.now (length done.now.rows)) }
-    ensures within { OnOk result (AreWithin (10 ^ 18) x.new) }
+    ensures within { OnOk result (AreWithin LARGEST_VALUE x.new) }
     ensures fault { IfErr result (λ fault. IsLastFault done.now.rows right.now fault.row) }
     ensures square { IsSquare done.now.rows }
 {
