@@ -5,13 +5,6 @@ use Rattle.std.proofs.lemmas.Bool.{cases_eq}
 use Rattle.emtp_elim.specs.Matrix.{Matrix, row_of}
 use Rattle.emtp_elim.specs.Finished.{Finished, AreFinished, IsNext, IsRowAdded, AddsRow}
 
-pub finished_none : (rows : Matrix) → AreFinished rows []
-finished_none rows = record {
-  within = omega arith;
-  finished = λ i h. absurd (omega arith);
-  good = λ i h. absurd (omega arith);
-}
-
 pub next_row : (rows done : Matrix) (n : ℕ) (row : List ℤ) → AreFinished rows done → length done ≡ n → n < length rows → row ≡ row_of rows n → IsNext rows done row
 next_row rows done n row finished count inside row_is = record { finished = finished; within = omega arith; row_is = ap (row_of rows) count ∙ sym row_is }
 

@@ -32,33 +32,6 @@ cases_column columns first (suc last) j = elim (cases_lt last first) [
 
 -- ---- the entries of more and more columns
 
-pub entries_none : (row : List ℤ) (from : ℕ) (columns : List ℕ) (values : List ℤ) (first : ℕ) → AreEntries row from from columns values first first
-entries_none row from columns values first = record {
-  order = omega arith;
-  few = omega arith;
-  low = λ e low high. absurd (omega arith);
-  high = λ e low high. absurd (omega arith);
-  rising = λ d e low before high. absurd (omega arith);
-  value_is = λ e low high. absurd (omega arith);
-  others = λ j low high none. absurd (omega arith);
-}
-
--- one column more, in which the row has 0
-pub entries_skip : (row : List ℤ) (from j : ℕ) (columns : List ℕ) (values : List ℤ) (first at : ℕ) → AreEntries row from j columns values first at
-    → item row j ≡ pos 0 → AreEntries row from (j + 1) columns values first at
-entries_skip row from j columns values first at was clear = record {
-  order = was.order;
-  few = omega (arith, was.few);
-  low = was.low;
-  high = λ e low high. omega (arith, was.high e low high);
-  rising = was.rising;
-  value_is = was.value_is;
-  others = λ h low high none. elim (cases_eq h j) [
-    | inl here ↦ rw here clear
-    | inr other ↦ was.others h low (omega arith) none
-  ];
-}
-
 -- one column more, whose number is put after the entries
 pub entries_more : (row : List ℤ) (from j : ℕ) (columns : List ℕ) (values : List ℤ) (first at : ℕ) (v : ℤ) → AreEntries row from j columns values first at
     → from ≤ j → at < length columns → at < length values → v ≡ item row j

@@ -57,10 +57,13 @@ row-Decides rows i =
         | inr fine ↦ fine
       ];
       ratios = both.1;
-    }) (λ fine. (λ k low j inside. elim (cases_lt j k) [
-      | inl before ↦ inl before
-      | inr from_on ↦ inr (fine.entries k j (omega arith) from_on inside)
-    ], fine.ratios)) (Decides-and _ _ stages ratios)
+    }) (λ fine. (
+      λ k low j inside. elim (cases_lt j k) [
+        | inl before ↦ inl before
+        | inr from_on ↦ inr (fine.entries k j (omega arith) from_on inside)
+      ],
+      fine.ratios,
+    )) (Decides-and _ _ stages ratios)
 
 row_fault-good : (rows : Matrix) (i : ℕ) → IsGoodRow rows i → row_fault rows i ≡ None
 unfolding row_fault

@@ -33,10 +33,6 @@ pub entry_stays : (rows : Matrix) (k i j : ℕ) → i ≤ k → i < length rows 
     → entry (stage rows (suc k)) i j ≡ entry (stage rows k) i j
 entry_stays rows k i j low h w = entry_next rows k i j h w ∙ grind (arith, nat_tests)
 
-pub entry_zero : (rows : Matrix) (k i j : ℕ) → k < i → j ≤ k → i < length rows → j < length (row_of rows i)
-    → entry (stage rows (suc k)) i j ≡ pos 0
-entry_zero rows k i j low_i low_j h w = entry_next rows k i j h w ∙ grind (arith, nat_tests)
-
 pub entry_start : (rows : Matrix) (i j : ℕ) → entry (stage rows 0) i j ≡ entry rows i j
 unfolding stage
 entry_start rows i j = refl
