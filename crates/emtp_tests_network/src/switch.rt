@@ -252,20 +252,20 @@ fn empty_group_is_at_ground(rt: HostRuntime) -> Result<(), Fail> {
     Ok(())
 }
 
-fn tied_steps() -> [Look; 2] {
+fn tied_steps() -> [Look; 3] {
     let still = ([0; 4], [0; 3], 0);
     let apart = ([0, 0, 0, 0], [0, 0, 0]);
     let before = row(still, [false, false, false], [SOURCE, KCL, KCL, KCL], apart);
     let mut after = row(still, [false, true, true], [KCL; 4], apart);
     after.kinds = Err(Tied { switch: 1 });
-    [before, after]
+    [before, before, after]
 }
 
 #[test]
 fn source_that_is_tied_to_ground_is_named(rt: HostRuntime) -> Result<(), Fail> {
     let first = never();
-    let second = breaker(1, 0, STEP, None);
-    let third = breaker(1, 0, STEP, None);
+    let second = breaker(1, 0, 2 * STEP, None);
+    let third = breaker(1, 0, 2 * STEP, None);
     let case = network(
         rt.alloc(),
         [ohm(1, 2), ohm(3, 4)],
