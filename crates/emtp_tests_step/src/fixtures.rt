@@ -5,6 +5,7 @@ ghost use Rattle.std.specs.List.{list_any};
 ghost use Rattle.emtp_case.specs.Branch.{HasLineNumbers, HasSeriesNumbers, IsCharacteristic};
 ghost use Rattle.emtp_case.specs.HistoryValues.{travel_steps};
 ghost use Rattle.emtp_case.specs.Range.{AreEnds};
+ghost use Rattle.emtp_case.specs.RunData.{IsRun};
 ghost use Rattle.emtp_case.specs.Source.{is_voltage_source_at};
 
 use emtp_case::{
@@ -44,7 +45,9 @@ pub enum Part {
 }
 
 /// Five steps of 100 microseconds, with the greatest residual in nA.
-fn run(tolerance: u32) -> RunData {
+fn run(tolerance: u32) -> RunData
+    ensures { IsRun result }
+{
     RunData {
         dt: STEP,
         steps: 5,
@@ -101,9 +104,7 @@ fn takes_branch(draft: &Draft, from: u32, to: u32) -> bool
     ensures room { result ≡ true → length draft.now.parts.branches < 5000 }
     ensures step { result ≡ true → draft.now.parts.run.dt ≡ STEP }
 {
-    draft.parts.branches.len() < 5000
-        && draft.parts.run.dt == STEP
-        && are_ends(draft, from, to)
+    draft.parts.branches.len() < 5000 && draft.parts.run.dt == STEP && are_ends(draft, from, to)
 }
 
 /// The step asks for no names, so all nodes have one.

@@ -65,12 +65,21 @@ fn ends<L: Ledger>(network: &mut Network<'_>, end: &End, steps: &mut Steps<L>) -
 }
 
 /// Whether the steps of a case end so.
-fn follows(alloc: Global, case: &Case, record: &[End]) -> Result<bool, AllocError> {
+fn follows<L: Ledger>(
+    alloc: Global,
+    case: &Case,
+    record: &[End],
+    blank: Blank,
+) -> Result<bool, AllocError>
+    requires name { blank.name ≡ L.name }
+    requires parts { blank.parts ≡ L.parts }
+    requires some { 0 < blank.parts }
+{
     if !has_room(case, record.len()) {
         return Ok(false);
     }
     let mut network = Network::open(alloc, case)?;
-    let mut steps = Steps::<Brand>::new(Blank::new(1));
+    let mut steps = Steps::<L>::new(blank);
     for n in 0..record.len() {
         if !ends(&mut network, &record[n], &mut steps) {
             return Ok(false);
@@ -80,14 +89,9 @@ fn follows(alloc: Global, case: &Case, record: &[End]) -> Result<bool, AllocErro
 }
 
 /// Whether the steps of a network of these parts end so, with the tolerance in nA.
-fn walk(
-    alloc: Global,
-    tolerance: u32,
-    parts: &[Part],
-    record: &[End],
-) -> Result<bool, AllocError> {
+fn walk(alloc: Global, tolerance: u32, parts: &[Part], record: &[End]) -> Result<bool, AllocError> {
     match fill(alloc, tolerance, parts)? {
-        Some(case) => follows(alloc, &case, record),
+        Some(case) => follows::<Brand>(alloc, &case, record, Blank::new(1)),
         None => Ok(false),
     }
 }
@@ -116,7 +120,10 @@ fn solves<L: Ledger>(
     let ([first, second], right) = *system;
     rows.set_conductance(0, pico(first));
     rows.set_conductance(1, pico(second));
-    kept.size() == 2 && rows.size() == 2 && kept.update(&*rows, steps).is_ok() && gives(kept, right, voltages)
+    kept.size() == 2
+        && rows.size() == 2
+        && kept.update(&*rows, steps).is_ok()
+        && gives(kept, right, voltages)
 }
 
 /// Whether a factor of two rows gives these voltages.
@@ -130,7 +137,16 @@ fn gives(kept: &Kept, mut right: [i128; 2], voltages: &[i64]) -> bool {
 
 /// Whether the steps of a case of two nodes and two branches, which leave out needless updates, give the voltages of a
 /// factor that is updated at every step.
-fn agrees(alloc: Global, case: &Case, systems: &[System]) -> Result<bool, AllocError> {
+fn agrees<L: Ledger>(
+    alloc: Global,
+    case: &Case,
+    systems: &[System],
+    blank: Blank,
+) -> Result<bool, AllocError>
+    requires name { blank.name ≡ L.name }
+    requires parts { blank.parts ≡ L.parts }
+    requires some { 0 < blank.parts }
+{
     if !has_room(case, systems.len()) || case.parts.branches.len() != 2 {
         return Ok(false);
     }
@@ -138,7 +154,7 @@ fn agrees(alloc: Global, case: &Case, systems: &[System]) -> Result<bool, AllocE
     let mut rows = NetRows::open(alloc, case, &order)?;
     let mut kept = Kept::open(alloc, &rows)?;
     let mut network = Network::open(alloc, case)?;
-    let mut steps = Steps::<Brand>::new(Blank::new(1));
+    let mut steps = Steps::<L>::new(blank);
     for n in 0..systems.len() {
         let ended = network.step(&[0; 6], &mut steps);
         let voltages = &network.voltages()[1..];
@@ -270,11 +286,7 @@ fn wave_reaches_the_open_end_of_a_line_and_comes_back(rt: HostRuntime) -> Result
 }
 
 /// 100 V on a reactor.
-const REACTOR: &[Part] = &[
-    Part::Node,
-    Part::Reactor(1),
-    Part::Voltage(1, 100 * NANO),
-];
+const REACTOR: &[Part] = &[Part::Node, Part::Reactor(1), Part::Voltage(1, 100 * NANO)];
 
 /// The flux is 0.005, 0.015 and 0.025 Wb. In the second step the first segment still holds.
 const REACTOR_STEPS: &[End] = &[
@@ -353,7 +365,7 @@ const ARRESTER_SYSTEMS: &[System] = &[
 #[test]
 fn steps_that_leave_out_an_update(rt: HostRuntime) -> Result<(), Fail> {
     let case = fill(rt.alloc(), LOOSE, ARRESTER)?.ok_or("a part doesn't fit")?;
-    assert!(rt; agrees(rt.alloc(), &case, ARRESTER_SYSTEMS)?);
+    assert!(rt; agrees::<Brand>(rt.alloc(), &case, ARRESTER_SYSTEMS, Blank::new(1))?);
     Ok(())
 }
 
