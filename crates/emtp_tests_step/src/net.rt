@@ -83,12 +83,12 @@ fn ends<L: Ledger>(network: &mut Network<'_>, end: &End, steps: &mut Steps<L>) -
 }
 
 /// Whether all steps end so.
-fn all_end<L: Ledger>(network: &mut Network<'_>, record: &[End], steps: &mut Steps<L>) -> bool
-    requires room { HasRoom network.old.case (length record.now) }
+fn all_end<L: Ledger>(network: &mut Network<'_>, expected: &[End], steps: &mut Steps<L>) -> bool
+    requires room { HasRoom network.old.case (length expected.now) }
     requires made { network.old.made ≡ 0 }
 {
-    for n in 0..record.len() {
-        if !ends(network, &record[n], steps) {
+    for n in 0..expected.len() {
+        if !ends(network, &expected[n], steps) {
             return false;
         }
     }
