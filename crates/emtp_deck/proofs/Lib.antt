@@ -1,5 +1,6 @@
 pub mod Walking
 pub mod Sounding
+pub mod BranchSounding
 pub mod Naming
 pub mod Copying
 pub mod Keeping

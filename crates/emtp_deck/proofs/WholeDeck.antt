@@ -2,7 +2,7 @@
 use Rattle.std.proofs.Common.{◌≡◌, ◌∙◌, ap, ℕ, ◌+◌, ◌*◌, ◌≤◌, false, Some, Ok, Err, arith, Bool, None, Result}
 use Rattle.std.proofs.Math.Nat.{mul-le-mul_right}
 use Rattle.std.proofs.lemmas.Bool.Decides.{nat_tests}
-use Rattle.std.specs.Prelude.{IfOk, nat_lt}
+use Rattle.std.specs.Prelude.{nat_lt}
 use Rattle.emtp_card.specs.Fault.{unless_bad}
 use Rattle.emtp_card.specs.declared.reason.Bad.{Bad}
 use Rattle.emtp_card.specs.declared.reason.Refused.{Refused}
@@ -95,7 +95,3 @@ cut_off line deck place NoMemory m few none h e = tt
 pub completed : (line : ℕ) (deck : Deck) (seen : Bool) (m : Made) → has_too_many (known_nodes deck (After seen)) (variable_names deck (After seen)) deck (After seen) ≡ false → control_bad (known_nodes deck (After seen)) (variable_names deck (After seen)) deck (After seen) ≡ None
     → made_of_deck (variable_names deck (After seen)) deck ≡ Ok m → filled line deck (After seen) ≡ Ok (case_of deck m)
 completed line deck seen m few none h = of_network line deck (After seen) (Ok m) few none h
-
-pub on_if_ok : {X E : Type 0} (r : Result X E) {P Q : X → Type 0} → ((x : X) → P x → Q x) → IfOk r P → IfOk r Q
-on_if_ok (Ok x) f p = f x p
-on_if_ok (Err e) f p = tt

@@ -24,3 +24,4 @@ pub mod TacsOutputs
 pub mod Samples
 pub mod Deck
 pub mod Laws
+pub mod Accepted

@@ -15,6 +15,7 @@ ghost use Rattle.emtp_deck.specs.ControlSensible.{IsSensibleBlock, IsSensibleCon
 ghost use Rattle.emtp_deck.specs.Coefficients.{IsBlockEntry};
 ghost use Rattle.emtp_deck.specs.Deck.{control_made};
 ghost use Rattle.emtp_deck.specs.Filling.{IsFilling, made_of};
+ghost use Rattle.emtp_deck.specs.Made.{empty_made};
 ghost use Rattle.emtp_deck.specs.Naming.{Continues};
 ghost use Rattle.emtp_deck.specs.Sound.{IsDeviceEntry, IsExtraEntry, IsFormulaCard, IsTacsSourceCard, IsWhole};
 ghost use Rattle.emtp_deck.specs.Variables.{variable_number};
@@ -242,27 +243,24 @@ fn add_variables(draft: &mut Draft, variables: &IndexSet<Name>) -> Result<(), Re
     Ok(())
 }
 
-/// What the control makes before the network: its variables, blocks and supplemental cards.
-pub(crate) fn control_filling(
-    alloc: Global,
-    deck: &Deck,
-    variables: IndexSet<Name>,
-) -> Result<Filling, Refused>
+/// Adds what the control makes before the network: its variables, blocks and supplemental cards.
+pub(crate) fn add_control(alloc: Global, filling: &mut Filling, deck: &Deck) -> Result<(), Refused>
+    requires empty { made_of filling.old ≡ empty_made deck.now.run }
+    requires nodes { filling.old.nodes.keys ≡ [] }
     requires whole { IsWhole deck.now }
-    requires sensible { IsSensibleControl variables.keys deck.now }
-    ensures ok { IfOk result (λ filling. made_of filling ≡ control_made variables.keys deck.now) }
-    ensures variables { IfOk result (λ filling. filling.variables.keys ≡ variables.keys) }
+    requires sensible { IsSensibleControl filling.old.variables.keys deck.now }
+    ensures ok { OnOk result (made_of filling.new ≡ control_made filling.old.variables.keys deck.now) }
+    ensures variables { OnOk result (filling.new.variables.keys ≡ filling.old.variables.keys) }
     ensures err { IfErr result IsWant }
-    ensures filling { IfOk result IsFilling }
+    ensures filling { OnOk result (IsFilling filling.new) }
 {
-    let mut filling = Filling::new(alloc, deck.run, variables)?;
     let (draft, variables) = (&mut filling.draft, &filling.variables);
     add_variables(draft, variables)?;
     add_blocks(alloc, draft, variables, deck.control.blocks.as_slice())?;
     let points = deck.points.as_slice();
     let extras = deck.control.extras.as_slice();
     filling.history = add_extras(alloc, draft, variables, points, extras)?;
-    Ok(filling)
+    Ok(())
 }
 
 // ---- sources

@@ -1,7 +1,7 @@
 //! The case in the making, while cards are taken.
 
 ghost use Rattle.std.specs.Prelude.{◌≡◌, ◌≤◌, All, length, IfErr, IfOk, OnOk, []};
-ghost use Rattle.emtp_case.specs.Case.{empty_parts};
+ghost use Rattle.emtp_case.specs.Case.{DefinesEach, empty_parts};
 ghost use Rattle.emtp_case.specs.HistoryValues.{history_values_of};
 ghost use Rattle.emtp_case.specs.Name.{IsName};
 ghost use Rattle.emtp_case.specs.RunData.{IsRun};
@@ -12,7 +12,7 @@ ghost use Rattle.emtp_deck.specs.Naming.{Continues};
 
 use crate::asked::Asked;
 use emtp_card::{Fault, Refused, Why};
-use emtp_case::{Draft, Name, RunData};
+use emtp_case::{Case, Draft, Name, RunData};
 use indexmap::IndexSet;
 use std::alloc::Global;
 
@@ -53,7 +53,28 @@ impl Filling {
             history: 0,
         })
     }
+
+    /// The case of its records.
+    pub(crate) fn into_case(self) -> Case
+        requires { DefinesEach self.draft.parts }
+        ensures { result.parts ≡ self.draft.parts }
+    {
+        let Filling {
+            draft,
+            nodes,
+            variables,
+            asked,
+            ..
+        } = self;
+        let_go(nodes);
+        let_go(variables);
+        let_go(asked);
+        draft.finish()
+    }
 }
+
+/// Drops a value by a call. Where a value of many lists is dropped in place, each of them is proved there anew.
+pub(crate) fn let_go<T: Drop>(_value: T) {}
 
 /// The fault of a limit by count that is exceeded, at this column.
 pub(crate) fn too_many(is: bool, column: u32) -> Option<Fault>

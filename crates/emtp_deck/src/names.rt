@@ -1,6 +1,6 @@
 //! The names of the nodes, and their numbers.
 
-ghost use Rattle.std.specs.Prelude.{◌≡◌, ◌≤◌, fold, length, IfErr, IfOk, OnOk};
+ghost use Rattle.std.specs.Prelude.{◌≡◌, ◌≤◌, [], fold, length, IfErr, OnOk};
 ghost use Rattle.emtp_deck.specs.Answer.{IsWant};
 ghost use Rattle.emtp_deck.specs.Names.{find_node, node_names, node_number, with_ends, with_entry_names, with_name, with_switch_names};
 
@@ -10,7 +10,6 @@ use emtp_card::Refused;
 use emtp_case::Name;
 use emtp_netcards::SwitchCard;
 use indexmap::IndexSet;
-use std::alloc::Global;
 
 /// Adds a name, unless it is there; ground has none.
 fn add_name(names: &mut IndexSet<Name>, name: &Option<Name>) -> Result<(), Refused>
@@ -36,15 +35,14 @@ pub(crate) fn add_ends(
     add_name(names, to)
 }
 
-/// The names of all nodes.
-pub(crate) fn node_names(alloc: Global, deck: &Deck) -> Result<IndexSet<Name>, Refused>
-    ensures ok { IfOk result (λ nodes. nodes.keys ≡ node_names deck.now) }
+/// Adds the names of all nodes.
+pub(crate) fn add_node_names(nodes: &mut IndexSet<Name>, deck: &Deck) -> Result<(), Refused>
+    requires empty { nodes.old.keys ≡ [] }
+    ensures ok { OnOk result (nodes.new.keys ≡ node_names deck.now) }
     ensures err { IfErr result IsWant }
 {
-    let mut nodes = IndexSet::new(alloc);
-    add_branch_names(&mut nodes, deck.branches.as_slice())?;
-    add_switch_names(&mut nodes, deck.switches.as_slice())?;
-    Ok(nodes)
+    add_branch_names(nodes, deck.branches.as_slice())?;
+    add_switch_names(nodes, deck.switches.as_slice())
 }
 
 fn add_branch_names(nodes: &mut IndexSet<Name>, entries: &[BranchEntry]) -> Result<(), Refused>

@@ -1,22 +1,25 @@
 //! The case of a deck.
 
 ghost use Rattle.std.specs.Prelude.{◌≡◌, ◌+◌, ◌*◌, ◌++◌, ◌≤◌, [], All, length, Ok, Err, IfErr, IfOk, OnOk, false, true};
+ghost use Rattle.emtp_case.specs.Case.{DefinesEach};
 ghost use Rattle.emtp_case.specs.Channel.{IsChannel};
 ghost use Rattle.emtp_case.specs.RunData.{samples_of};
 ghost use Rattle.emtp_case.specs.Sizes.{sizes_of};
+ghost use Rattle.emtp_deck.specs.Accepted.{IsAccepted};
 ghost use Rattle.emtp_deck.specs.Answer.{IfBad, IsWant};
 ghost use Rattle.emtp_deck.specs.ControlSensible.{IsSensibleWhole};
 ghost use Rattle.emtp_deck.specs.Deck.{case_of, control_made, deck_of, filled, is_ended, made_of_deck, missing_bad, unfinished};
 ghost use Rattle.emtp_deck.specs.Filling.{AreThere, Fills, IsFilling, made_of};
-ghost use Rattle.emtp_deck.specs.Made.{all_asked, count_asked};
+ghost use Rattle.emtp_deck.specs.Made.{all_asked, count_asked, empty_made};
 ghost use Rattle.emtp_deck.specs.Sound.{IsSound, IsWhole};
+ghost use Rattle.emtp_deck.specs.Variables.{variable_names};
 
 use crate::asked::Asked;
 use crate::branches::{pending_fault, take_branches};
-use crate::control_filling::{add_tacs_sources, control_filling};
+use crate::control_filling::{add_control, add_tacs_sources};
 use crate::control_sense::control_bad;
 use crate::deck::{Deck, Place};
-use crate::filling::Filling;
+use crate::filling::{Filling, let_go};
 use crate::outputs::take_outputs;
 use crate::samples::{has_too_many, samples_bad};
 use crate::sources::take_sources;
@@ -25,7 +28,8 @@ use crate::tacs_outputs::take_tacs_outputs;
 use crate::variables::KnownNames;
 use crate::walk::walk;
 use emtp_card::{Bad, Cards, Refused, Why};
-use emtp_case::{Case, Channel, Draft};
+use emtp_case::{Case, Channel, Draft, Name};
+use indexmap::IndexSet;
 use std::alloc::Global;
 
 /// Takes the cards of all sections, in the order of their lines.
@@ -73,26 +77,17 @@ fn add_asked(draft: &mut Draft, asked: &Asked) -> Result<(), Refused>
     add_channels(draft, asked.statuses.as_slice())
 }
 
-/// The case that was filled.
-fn finish(mut filling: Filling, deck: &Deck) -> Result<Case, Refused>
-    requires filling { IsFilling filling }
-    requires stored { count_asked filling.asked * samples_of filling.draft.parts.run ≤ 4000000 }
-    requires control { IsSensibleWhole filling deck.now }
-    ensures ok { IfOk result (λ case. case.parts ≡ case_of deck.now (made_of filling)) }
+/// Adds what is added to a whole network: the sources of the control, and the channels.
+fn finish(filling: &mut Filling, deck: &Deck) -> Result<(), Refused>
+    requires filling { IsFilling filling.old }
+    requires stored { count_asked filling.old.asked * samples_of filling.old.draft.parts.run ≤ 4000000 }
+    requires control { IsSensibleWhole filling.old deck.now }
+    ensures ok { OnOk result (filling.new.draft.parts ≡ case_of deck.now (made_of filling.old)) }
     ensures err { IfErr result IsWant }
 {
-    add_tacs_sources(
-        &mut filling,
-        deck.switches.as_slice(),
-        deck.control.sources.as_slice(),
-    )?;
-    let Filling {
-        mut draft,
-        asked,
-        ..
-    } = filling;
-    add_asked(&mut draft, &asked)?;
-    Ok(draft.finish())
+    let sources = deck.control.sources.as_slice();
+    add_tacs_sources(filling, deck.switches.as_slice(), sources)?;
+    add_asked(&mut filling.draft, &filling.asked)
 }
 
 /// Why a deck isn't whole after its last line: a card of a group that it cuts off, or the section that is missing.
@@ -112,6 +107,59 @@ fn unfinished(filling: &mut Filling, place: &Place, line: u32) -> Refused
     }
 }
 
+/// Makes the case of cards whose control has no fault of sense, from an empty one.
+fn complete(
+    alloc: Global,
+    filling: &mut Filling,
+    deck: &Deck,
+    place: &Place,
+    line: u32,
+) -> Result<(), Refused>
+    requires empty { made_of filling.old ≡ empty_made deck.now.run }
+    requires nodes { filling.old.nodes.keys ≡ [] }
+    requires sound { IsSound deck.now place.now }
+    requires whole { IsWhole deck.now }
+    requires variables { filling.old.variables.keys ≡ variable_names deck.now place.now }
+    requires accepted { IsAccepted deck.now place.now }
+    ensures ok { OnOk result (filled line deck.now place.now ≡ Ok filling.new.draft.parts) }
+    ensures each { OnOk result (DefinesEach filling.new.draft.parts) }
+    ensures bad { IfErr result (λ refused. IfBad refused (λ bad. filled line deck.now place.now ≡ Err bad)) }
+{
+    add_control(alloc, filling, deck)?;
+    match fill(filling, deck) {
+        Ok(()) => match place {
+            Place::After(_) => finish(filling, deck),
+            _ => Err(unfinished(filling, place, line)),
+        },
+        Err(refused) => Err(refused),
+    }
+}
+
+/// The case of cards whose control has no fault of sense.
+fn complete_case(
+    alloc: Global,
+    deck: &Deck,
+    place: &Place,
+    line: u32,
+    variables: IndexSet<Name>,
+) -> Result<Case, Refused>
+    requires sound { IsSound deck.now place.now }
+    requires whole { IsWhole deck.now }
+    requires variables { variables.keys ≡ variable_names deck.now place.now }
+    requires accepted { IsAccepted deck.now place.now }
+    ensures ok { IfOk result (λ case. filled line deck.now place.now ≡ Ok case.parts) }
+    ensures bad { IfErr result (λ refused. IfBad refused (λ bad. filled line deck.now place.now ≡ Err bad)) }
+{
+    let mut filling = Filling::new(alloc, deck.run, variables)?;
+    match complete(alloc, &mut filling, deck, place, line) {
+        Ok(()) => Ok(filling.into_case()),
+        Err(refused) => {
+            let_go(filling);
+            Err(refused)
+        }
+    }
+}
+
 /// The case of the cards that were read, or the first fault of sense.
 #[tactic(auto, unfolding(crate::specs::Deck::filled))]
 fn filled(alloc: Global, deck: &Deck, place: &Place, line: u32) -> Result<Case, Refused>
@@ -127,14 +175,7 @@ fn filled(alloc: Global, deck: &Deck, place: &Place, line: u32) -> Result<Case, 
         return Err(Refused::Bad(bad));
     }
     let KnownNames { variables, .. } = names;
-    let mut filling = control_filling(alloc, deck, variables)?;
-    match fill(&mut filling, deck) {
-        Ok(()) => match place {
-            Place::After(_) => finish(filling, deck),
-            _ => Err(unfinished(&mut filling, place, line)),
-        },
-        Err(refused) => Err(refused),
-    }
+    complete_case(alloc, deck, place, line, variables)
 }
 
 /// The case that the lines give, or the one fault that decides.
@@ -144,7 +185,11 @@ pub fn read(alloc: Global, cards: &Cards<'_>) -> Result<Case, Refused>
     ensures bad { IfErr result (λ refused. IfBad refused (λ bad. deck_of cards.now ≡ Err bad)) }
 {
     match walk(alloc, cards) {
-        Ok((deck, place)) => filled(alloc, &deck, &place, cards.len() as u32 + 1),
+        Ok((deck, place)) => {
+            let case = filled(alloc, &deck, &place, cards.len() as u32 + 1);
+            let_go(deck);
+            case
+        }
         Err(refused) => Err(refused),
     }
 }

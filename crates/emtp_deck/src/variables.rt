@@ -8,7 +8,7 @@ ghost use Rattle.emtp_deck.specs.Variables.{defined_variables, extra_name, find_
 
 use crate::control_cards::{BlockEntry, ControlCards, ControlPlace, ExtraEntry};
 use crate::deck::{Deck, Place};
-use crate::names::{add_ends, node_names};
+use crate::names::{add_ends, add_node_names};
 use emtp_card::{Fault, Refused, Why};
 use emtp_case::Name;
 use emtp_netcards::SourceCard;
@@ -31,11 +31,25 @@ impl KnownNames {
         ensures variables { IfOk result (λ names. names.variables.keys ≡ variable_names deck.now place.now) }
         ensures err { IfErr result IsWant }
     {
-        let mut nodes = node_names(alloc, deck)?;
-        add_pending_nodes(&mut nodes, place)?;
-        let mut variables = defined_variables(alloc, &deck.control)?;
-        add_pending_variable(&mut variables, place)?;
-        Ok(KnownNames { nodes, variables })
+        let mut names = KnownNames {
+            nodes: IndexSet::new(alloc),
+            variables: IndexSet::new(alloc),
+        };
+        names.add_all(deck, place)?;
+        Ok(names)
+    }
+
+    fn add_all(&mut self, deck: &Deck, place: &Place) -> Result<(), Refused>
+        requires no_node { self.old.nodes.keys ≡ [] }
+        requires no_variable { self.old.variables.keys ≡ [] }
+        ensures nodes { OnOk result (self.new.nodes.keys ≡ known_nodes deck.now place.now) }
+        ensures variables { OnOk result (self.new.variables.keys ≡ variable_names deck.now place.now) }
+        ensures err { IfErr result IsWant }
+    {
+        add_node_names(&mut self.nodes, deck)?;
+        add_pending_nodes(&mut self.nodes, place)?;
+        add_defined_variables(&mut self.variables, &deck.control)?;
+        add_pending_variable(&mut self.variables, place)
     }
 }
 
@@ -128,17 +142,16 @@ fn add_extras(names: &mut IndexSet<Name>, entries: &[ExtraEntry]) -> Result<(), 
     Ok(())
 }
 
-/// The variables of every case, and those that the cards define.
-fn defined_variables(alloc: Global, cards: &ControlCards) -> Result<IndexSet<Name>, Refused>
-    ensures ok { IfOk result (λ names. names.keys ≡ defined_variables cards.now) }
+/// Adds the variables of every case, and those that the cards define.
+fn add_defined_variables(names: &mut IndexSet<Name>, cards: &ControlCards) -> Result<(), Refused>
+    requires empty { names.old.keys ≡ [] }
+    ensures ok { OnOk result (names.new.keys ≡ defined_variables cards.now) }
     ensures err { IfErr result IsWant }
 {
-    let mut names = IndexSet::new(alloc);
-    add_standing(&mut names)?;
-    add_blocks(&mut names, cards.blocks.as_slice())?;
-    add_sources(&mut names, cards.sources.as_slice())?;
-    add_extras(&mut names, cards.extras.as_slice())?;
-    Ok(names)
+    add_standing(names)?;
+    add_blocks(names, cards.blocks.as_slice())?;
+    add_sources(names, cards.sources.as_slice())?;
+    add_extras(names, cards.extras.as_slice())
 }
 
 /// The number of the variable with a name, from 0.

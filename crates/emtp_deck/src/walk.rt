@@ -10,6 +10,7 @@ ghost use Rattle.emtp_deck.specs.WalkPlaces.{IsBeginning, IsEnding};
 use crate::branch_steps::{branch_step, point_step, start_step, third_step, waiting_step};
 use crate::control_steps::control_step;
 use crate::deck::{Deck, Place};
+use crate::filling::let_go;
 use crate::section_steps::{output_step, source_step, switch_step};
 use emtp_card::{Bad, Cards, Fault, Line, MAX_BYTES, Refused, Why, comment, ends_section, judge};
 use emtp_netcards::{first_card, second_card, tolerance};
@@ -26,7 +27,10 @@ pub(crate) fn walk(alloc: Global, cards: &Cards<'_>) -> Result<(Deck, Place), Re
     for at in 0..cards.len() {
         match advance(alloc, &mut deck, place, &cards.line(at)) {
             Ok(next) => place = next,
-            Err(refused) => return Err(refused),
+            Err(refused) => {
+                let_go(deck);
+                return Err(refused);
+            }
         }
     }
     Ok((deck, place))

@@ -1,0 +1,40 @@
+use Rattle.std.proofs.Common.{List, ap, fold, refl, subst, ℕ, ◌++◌, ◌∙◌, ◌≡◌}
+use Rattle.std.specs.Prelude.{All, map}
+use Rattle.emtp_case.specs.Case.{standing_names}
+use Rattle.emtp_case.specs.HistoryValues.{history_values_of}
+use Rattle.emtp_case.specs.Name.{IsName}
+use Rattle.emtp_case.specs.declared.case.Parts.{Parts}
+use Rattle.emtp_deck.specs.ControlFilling.{block_of, with_extra}
+use Rattle.emtp_deck.specs.Deck.{control_made}
+use Rattle.emtp_deck.specs.Filling.{made_of}
+use Rattle.emtp_deck.specs.Made.{Made, empty_made}
+use Rattle.emtp_deck.specs.declared.deck.Deck.{Deck}
+use Rattle.emtp_deck.specs.declared.filling.Filling.{Filling}
+use Rattle.emtp_deck.proofs.ControlAdding.{control_filled, summed}
+use Rattle.emtp_deck.proofs.control_filling.add_control.Goals as goal
+
+-- the variables, then the blocks, then the supplemental cards
+added : (f : Filling) (v b p : Parts) (deck : Deck) → made_of f ≡ empty_made deck.run → v ≡ record f.draft.parts { vars = f.variables.keys } → b ≡ record v { blocks = v.blocks ++ map (block_of f.variables.keys) deck.control.blocks }
+    → p ≡ fold (with_extra f.variables.keys deck.points) b deck.control.extras → ◌≡◌ {A = Made} (record { parts = p; asked = f.asked }) (control_made f.variables.keys deck)
+added f v b p deck empty to_v to_b to_p = rw (to_p, to_b, to_v, ap (λ (m : Made). m.parts) empty, ap (λ (m : Made). m.asked) empty) refl
+
+pub add_variables-requires-clause-names : goal.add_variables-requires-clause-names
+add_variables-requires-clause-names c =
+    let standing : All IsName standing_names = subst (All IsName) (ap (λ (m : Made). m.parts.vars) c.requires.empty) c.args.filling.now.draft.fits.control.names in
+    c.requires.sensible.names standing
+
+pub returns-clause-ok : goal.returns-clause-ok
+returns-clause-ok c =
+    let to_b = rw c.as_slice.ensures at c.in_ok-add_blocks.ensures.ok in
+    let to_p = rw (c.as_slice-points.ensures, c.as_slice-extras.ensures) at c.in_ok-filling.ensures.ok in
+    added c.args.filling.now c.add_variables.new.draft.parts c.add_blocks.new.draft.parts _ c.args.deck.now c.requires.empty c.in_ok-add_variables.ensures.ok to_b to_p
+
+pub returns-clause-filling : goal.returns-clause-filling
+returns-clause-filling c =
+    let to_b = rw c.as_slice.ensures at c.in_ok-add_blocks.ensures.ok in
+    let to_p = rw (c.as_slice-points.ensures, c.as_slice-extras.ensures) at c.in_ok-filling.ensures.ok in
+    let made = added c.args.filling.now c.add_variables.new.draft.parts c.add_blocks.new.draft.parts _ c.args.deck.now c.requires.empty c.in_ok-add_variables.ensures.ok to_b to_p in
+    let start : history_values_of c.args.filling.now.draft.parts ≡ 0 = ap (λ (m : Made). history_values_of m.parts) c.requires.empty in
+    let zero : history_values_of c.add_blocks.new.draft.parts ≡ 0 = ap history_values_of c.in_ok-add_blocks.ensures.ok ∙ c.in_ok-add_variables.ensures.history ∙ start in
+    let total = summed _ (history_values_of c.add_blocks.new.draft.parts) c.in_ok-filling.field-0 c.in_ok-filling.ensures.history zero in
+    control_filled _ c.args.filling.now.variables.keys c.args.deck.now made c.requires.nodes refl total

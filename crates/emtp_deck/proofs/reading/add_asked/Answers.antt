@@ -1,0 +1,26 @@
+use Rattle.std.proofs.Common.{◌+◌, ◌*◌, ◌≤◌, ◌++◌, arith, length, length-append, ℕ}
+use Rattle.std.proofs.Math.Nat.{mul-le-mul_right}
+use Rattle.emtp_case.specs.RunData.{samples_of}
+use Rattle.emtp_deck.specs.Made.{count_asked}
+use Rattle.emtp_deck.proofs.reading.add_asked.Goals as goal
+
+-- a part of the values that are stored
+part : (a b n s : ℕ) → a + b ≤ n → n * s ≤ 4000000 → (a + b) * s ≤ 4000000
+part a b n s l h = let less : (a + b) * s ≤ n * s = mul-le-mul_right s l in omega (arith, less, h)
+
+pub add_channels-requires-clause-stored : goal.add_channels-requires-clause-stored
+add_channels-requires-clause-stored c =
+    let a = c.args.asked.now in
+    rw (c.as_slice.ensures, c.requires.empty) (part 0 (length a.outputs) (count_asked a) (samples_of c.args.draft.now.parts.run) (omega arith) c.requires.stored)
+
+pub add_channels-requires-2-clause-stored : goal.add_channels-requires-2-clause-stored
+add_channels-requires-2-clause-stored c =
+    let a = c.args.asked.now in
+    rw (c.as_slice-2.ensures, c.in_ok-add_channels.ensures.ok, c.as_slice.ensures, c.requires.empty)
+    (part (length a.outputs) (length a.branches) (count_asked a) (samples_of c.args.draft.now.parts.run) (omega arith) c.requires.stored)
+
+pub add_channels-requires-3-clause-stored : goal.add_channels-requires-3-clause-stored
+add_channels-requires-3-clause-stored c =
+    let a = c.args.asked.now in
+    rw (c.as_slice-3.ensures, c.in_ok-add_channels-2.ensures.ok, c.as_slice-2.ensures, c.in_ok-add_channels.ensures.ok, c.as_slice.ensures, c.requires.empty)
+    (part (length (a.outputs ++ a.branches)) (length a.switches) (count_asked a) (samples_of c.args.draft.now.parts.run) (omega (arith, length-append a.outputs a.branches)) c.requires.stored)
