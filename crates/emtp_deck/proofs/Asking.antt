@@ -15,7 +15,7 @@ use Rattle.emtp_case.specs.declared.channel.Channel.{Channel}
 use Rattle.emtp_case.specs.declared.channel.Channel.TheVariants.{NodeVoltage as NodeChannel, SwitchCurrent, SwitchVoltage, Tacs as VariableChannel}
 use Rattle.emtp_deck.proofs.Growing.{length_entry}
 use Rattle.emtp_deck.proofs.Keeping.{length_of_nodes, length_of_switch}
-use Rattle.emtp_deck.specs.Answer.{go_on}
+use Rattle.emtp_walk.specs.Answer.{go_on}
 use Rattle.emtp_deck.specs.Branches.{entry_channels, entry_count, take_branches, take_entry, with_branches, with_entry, with_nodes, with_own, with_values}
 use Rattle.emtp_deck.specs.Channels.{channels_of, status_of}
 use Rattle.emtp_deck.specs.ControlFilling.{block_of, control_parts, with_extra}
@@ -27,15 +27,15 @@ use Rattle.emtp_deck.specs.Samples.{count_of_entry, count_of_switch, deck_count,
 use Rattle.emtp_deck.specs.Sources.{source_fault, take_source, take_sources, with_source}
 use Rattle.emtp_deck.specs.Switches.{switch_fault, take_switch, take_switches, with_switch}
 use Rattle.emtp_deck.specs.TacsOutputs.{take_tacs_outputs, take_variable, take_variable_name, take_variables, variable_fault, with_variable_channel}
-use Rattle.emtp_deck.specs.declared.control_cards.ExtraEntry.{ExtraEntry}
-use Rattle.emtp_deck.specs.declared.control_cards.ExtraEntry.TheVariants.{Device as DeviceEntry, Formula as FormulaEntry}
-use Rattle.emtp_deck.specs.declared.control_cards.TacsOutputEntry.{TacsOutputEntry}
+use Rattle.emtp_walk.specs.declared.control_cards.ExtraEntry.{ExtraEntry}
+use Rattle.emtp_walk.specs.declared.control_cards.ExtraEntry.TheVariants.{Device as DeviceEntry, Formula as FormulaEntry}
+use Rattle.emtp_walk.specs.declared.control_cards.TacsOutputEntry.{TacsOutputEntry}
 use Rattle.emtp_deck.specs.declared.copies.ValuesFrom.{ValuesFrom}
 use Rattle.emtp_deck.specs.declared.copies.ValuesFrom.TheVariants.{Card as OwnValues, Earlier, Missing}
-use Rattle.emtp_deck.specs.declared.deck.BranchEntry.{BranchEntry}
-use Rattle.emtp_deck.specs.declared.deck.BranchEntry.TheVariants.{Single, Trio}
-use Rattle.emtp_deck.specs.declared.deck.Deck.{Deck}
-use Rattle.emtp_deck.specs.declared.deck.OutputEntry.{OutputEntry}
+use Rattle.emtp_walk.specs.declared.deck.BranchEntry.{BranchEntry}
+use Rattle.emtp_walk.specs.declared.deck.BranchEntry.TheVariants.{Single, Trio}
+use Rattle.emtp_walk.specs.declared.deck.Deck.{Deck}
+use Rattle.emtp_walk.specs.declared.deck.OutputEntry.{OutputEntry}
 use Rattle.emtp_netcards.specs.declared.branch_card.BranchCard.{BranchCard}
 use Rattle.emtp_netcards.specs.declared.branch_card.BranchValues.{BranchValues}
 use Rattle.emtp_netcards.specs.declared.branch_card.BranchValues.TheVariants.{Line as LineCard, Lumped as LumpedCard, Reactor as ReactorCard, Resistor as ResistorCard, Second as SecondCard, Third as ThirdCard}

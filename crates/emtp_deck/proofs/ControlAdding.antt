@@ -14,9 +14,9 @@ use Rattle.emtp_deck.specs.ControlFilling.{with_extra}
 use Rattle.emtp_deck.specs.Deck.{control_made}
 use Rattle.emtp_deck.specs.Filling.{IsFilling, made_of}
 use Rattle.emtp_deck.specs.Made.{Made, none_asked}
-use Rattle.emtp_deck.specs.declared.control_cards.ExtraEntry.{ExtraEntry}
-use Rattle.emtp_deck.specs.declared.control_cards.ExtraEntry.TheVariants.{Device as DeviceEntry, Formula as FormulaEntry}
-use Rattle.emtp_deck.specs.declared.deck.Deck.{Deck}
+use Rattle.emtp_walk.specs.declared.control_cards.ExtraEntry.{ExtraEntry}
+use Rattle.emtp_walk.specs.declared.control_cards.ExtraEntry.TheVariants.{Device as DeviceEntry, Formula as FormulaEntry}
+use Rattle.emtp_walk.specs.declared.deck.Deck.{Deck}
 use Rattle.emtp_deck.specs.declared.filling.Filling.{Filling}
 
 taken : {A : Type 0} (xs : List A) (k : ℕ) (x : A) → x ≡ get_or xs k x → k < length xs → take (k + 1) xs ≡ take k xs ++ x ∷ []

@@ -17,14 +17,14 @@ use Rattle.emtp_case.specs.declared.control.DeviceCode.{DeviceCode}
 use Rattle.emtp_case.specs.declared.control.DeviceCode.TheVariants.{Counter, Delay, DelayedPulse, Derivative, EffectiveValue, Extreme, Gate, GateAbove, Integral, PeakHold, SampleHold, Selector, Table, Window}
 use Rattle.emtp_deck.proofs.Knowing.{known_inputs, known_name, known_names}
 use Rattle.emtp_deck.proofs.Numbering.{AreAbove}
-use Rattle.emtp_deck.specs.Answer.{first_bad}
+use Rattle.emtp_walk.specs.Answer.{first_bad}
 use Rattle.emtp_deck.specs.ControlSense.{block_bad, block_sense, blocks_bad, card_history_values, device_bad, device_sense, entry_history_values, extra_bad, formula_sense, inputs_sense, is_measurable, is_unknown, judge_extras, measured_sense, names_sense, second_sense, tacs_source_bad, tacs_source_sense, tacs_sources_bad}
 use Rattle.emtp_deck.specs.ControlSensible.{AreKnownInputs, IsKnown}
 use Rattle.emtp_deck.specs.Made.{too_many}
 use Rattle.emtp_deck.specs.Variables.{extra_name, unknown_name, variable_number}
-use Rattle.emtp_deck.specs.declared.control_cards.BlockEntry.{BlockEntry}
-use Rattle.emtp_deck.specs.declared.control_cards.ExtraEntry.{ExtraEntry}
-use Rattle.emtp_deck.specs.declared.control_cards.ExtraEntry.TheVariants.{Device as DeviceEntry, Formula as FormulaEntry}
+use Rattle.emtp_walk.specs.declared.control_cards.BlockEntry.{BlockEntry}
+use Rattle.emtp_walk.specs.declared.control_cards.ExtraEntry.{ExtraEntry}
+use Rattle.emtp_walk.specs.declared.control_cards.ExtraEntry.TheVariants.{Device as DeviceEntry, Formula as FormulaEntry}
 use Rattle.emtp_fix.proofs.Nearest.{unsigned_abs-near-le}
 use Rattle.emtp_fix.specs.Rounding.{near}
 use Rattle.emtp_netcards.specs.SourceCard.{unless_judged}

@@ -16,24 +16,24 @@ use Rattle.emtp_deck.proofs.Asking.{control_is, deck_asks}
 use Rattle.emtp_deck.proofs.ControlJudging.{AreFineBlocks, AreFineExtras, AreFineSources, IsKnownBlock, IsKnownExtra, block_fine, blocks_fine, device_fine, extras_fine, nothing_before, sources_fine}
 use Rattle.emtp_deck.proofs.Naming.{AreNamed, Each, all_named, with_names}
 use Rattle.emtp_deck.proofs.Numbering.{AreAbove, each_front, each_of, each_rest, each_two, folded, in_two, options_length, options_of, defined_once, in_row, row_is}
-use Rattle.emtp_deck.specs.Answer.{first_bad}
+use Rattle.emtp_walk.specs.Answer.{first_bad}
 use Rattle.emtp_deck.specs.ControlFilling.{block_of, tacs_source_of, with_extra}
 use Rattle.emtp_deck.specs.ControlSense.{blocks_bad, control_bad, extras_or_pending, first_extra, first_source, is_measurable, judge_extras, pending_control_bad, tacs_sources_bad}
 use Rattle.emtp_deck.specs.ControlSensible.{IsDefined, IsSensibleBlock, IsSensibleControl, IsSensibleExtra, IsSensibleTacsSource, IsSensibleWhole}
 use Rattle.emtp_deck.specs.Deck.{case_of, made_of_deck}
 use Rattle.emtp_deck.specs.Filling.{IsFilling, made_of}
 use Rattle.emtp_deck.specs.Names.{node_number, known_nodes}
-use Rattle.emtp_deck.specs.Sound.{IsExtraEntry, IsSound, IsWhole}
+use Rattle.emtp_walk.specs.Sound.{IsExtraEntry, IsSound, IsWhole}
 use Rattle.emtp_deck.specs.Variables.{defined_variables, extra_name, variable_names, variable_number, with_control_pending, with_pending_variable}
-use Rattle.emtp_deck.specs.declared.control_cards.BlockEntry.{BlockEntry}
-use Rattle.emtp_deck.specs.declared.control_cards.ControlCards.{ControlCards}
-use Rattle.emtp_deck.specs.declared.control_cards.ControlPlace.{ControlPlace}
-use Rattle.emtp_deck.specs.declared.control_cards.ControlPlace.TheVariants.{Blocks, Denominator, DevicePoints, Extras, Initial, Numerator, TacsOutputs, TacsSources}
-use Rattle.emtp_deck.specs.declared.control_cards.ExtraEntry.{ExtraEntry}
-use Rattle.emtp_deck.specs.declared.control_cards.ExtraEntry.TheVariants.{Device as DeviceEntry, Formula as FormulaEntry}
-use Rattle.emtp_deck.specs.declared.deck.Deck.{Deck}
-use Rattle.emtp_deck.specs.declared.deck.Place.{Place}
-use Rattle.emtp_deck.specs.declared.deck.Place.TheVariants.{After, Begin, Branches, Control, First, Outputs, Points, Second, Sources, Start, Switches, Third, Waiting}
+use Rattle.emtp_walk.specs.declared.control_cards.BlockEntry.{BlockEntry}
+use Rattle.emtp_walk.specs.declared.control_cards.ControlCards.{ControlCards}
+use Rattle.emtp_walk.specs.declared.control_cards.ControlPlace.{ControlPlace}
+use Rattle.emtp_walk.specs.declared.control_cards.ControlPlace.TheVariants.{Blocks, Denominator, DevicePoints, Extras, Initial, Numerator, TacsOutputs, TacsSources}
+use Rattle.emtp_walk.specs.declared.control_cards.ExtraEntry.{ExtraEntry}
+use Rattle.emtp_walk.specs.declared.control_cards.ExtraEntry.TheVariants.{Device as DeviceEntry, Formula as FormulaEntry}
+use Rattle.emtp_walk.specs.declared.deck.Deck.{Deck}
+use Rattle.emtp_walk.specs.declared.deck.Place.{Place}
+use Rattle.emtp_walk.specs.declared.deck.Place.TheVariants.{After, Begin, Branches, Control, First, Outputs, Points, Second, Sources, Start, Switches, Third, Waiting}
 use Rattle.emtp_deck.specs.declared.filling.Filling.{Filling}
 use Rattle.emtp_netcards.specs.declared.source_card.SourceCard.{SourceCard}
 use Rattle.emtp_netcards.specs.declared.switch_card.SwitchCard.{SwitchCard}

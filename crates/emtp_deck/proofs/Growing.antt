@@ -21,12 +21,12 @@ use Rattle.emtp_deck.specs.Copies.{missing_fault, values_from}
 use Rattle.emtp_deck.specs.Filling.{IsFilling}
 use Rattle.emtp_deck.specs.Made.{count_asked}
 use Rattle.emtp_deck.specs.Sensible.{AreOwnPoints, IsSensible}
-use Rattle.emtp_deck.specs.Sound.{IsEntry, IsSingleEntry, has_points, is_reactor}
-use Rattle.emtp_deck.specs.Walk.{is_phase}
+use Rattle.emtp_walk.specs.Sound.{IsEntry, IsSingleEntry, has_points, is_reactor}
+use Rattle.emtp_walk.specs.Walk.{is_phase}
 use Rattle.emtp_deck.specs.declared.copies.ValuesFrom.{ValuesFrom}
 use Rattle.emtp_deck.specs.declared.copies.ValuesFrom.TheVariants.{Card as OwnValues, Earlier, Missing}
-use Rattle.emtp_deck.specs.declared.deck.BranchEntry.{BranchEntry}
-use Rattle.emtp_deck.specs.declared.deck.BranchEntry.TheVariants.{Single, Trio}
+use Rattle.emtp_walk.specs.declared.deck.BranchEntry.{BranchEntry}
+use Rattle.emtp_walk.specs.declared.deck.BranchEntry.TheVariants.{Single, Trio}
 use Rattle.emtp_deck.specs.declared.filling.Filling.{Filling}
 use Rattle.emtp_netcards.specs.BranchCard.{kind_of_values}
 use Rattle.emtp_netcards.specs.declared.branch_card.BranchCard.{BranchCard}

@@ -1,6 +1,3 @@
-pub mod Walking
-pub mod Sounding
-pub mod BranchSounding
 pub mod Naming
 pub mod Copying
 pub mod Keeping
@@ -18,14 +15,4 @@ pub mod ControlRecords
 pub mod ControlAdding
 pub mod ControlWhole
 pub mod WholeDeck
-pub mod SameSteps
-pub mod Comments
-pub mod LineEnds
-pub mod Rising
-pub mod ControlOrder
-pub mod Order
-pub mod ControlCoefficients
-pub mod ControlNames
-pub mod DevicePoints
-pub mod ControlSounding
-pub mod ControlLines
+pub mod SameDeck

@@ -9,47 +9,18 @@ use Rattle.emtp_card.specs.declared.reason.Refused.{Refused}
 use Rattle.emtp_card.specs.declared.reason.Refused.TheVariants.{Bad as OfBad, NoMemory}
 use Rattle.emtp_case.specs.RunData.{samples_of}
 use Rattle.emtp_deck.proofs.Asking.{deck_asks, control_is}
-use Rattle.emtp_deck.proofs.Sounding.{head_whole}
-use Rattle.emtp_deck.specs.Answer.{IfBad, go_on}
+use Rattle.emtp_walk.specs.Answer.{IfBad, go_on}
 use Rattle.emtp_deck.specs.ControlSense.{control_bad}
 use Rattle.emtp_deck.specs.Deck.{case_of, filled, made_of_deck, unfinished}
 use Rattle.emtp_deck.specs.Filling.{Fills}
 use Rattle.emtp_deck.specs.Made.{Made, count_asked}
 use Rattle.emtp_deck.specs.Names.{known_nodes, node_names}
 use Rattle.emtp_deck.specs.Samples.{deck_count, has_too_many}
-use Rattle.emtp_deck.specs.Sound.{IsControlSound, IsSound, IsWhole}
 use Rattle.emtp_deck.specs.Variables.{variable_names}
-use Rattle.emtp_deck.specs.declared.control_cards.ControlPlace.{ControlPlace}
-use Rattle.emtp_deck.specs.declared.control_cards.ControlPlace.TheVariants.{Blocks, Denominator, DevicePoints, Extras, Initial, Numerator, TacsOutputs, TacsSources}
-use Rattle.emtp_deck.specs.declared.deck.Deck.{Deck}
-use Rattle.emtp_deck.specs.declared.deck.Place.{Place}
-use Rattle.emtp_deck.specs.declared.deck.Place.TheVariants.{After, Begin, Branches, Control, First, Outputs, Points, Second, Sources, Start, Switches, Third, Waiting}
+use Rattle.emtp_walk.specs.declared.deck.Deck.{Deck}
+use Rattle.emtp_walk.specs.declared.deck.Place.{Place}
+use Rattle.emtp_walk.specs.declared.deck.Place.TheVariants.{After}
 use Rattle.emtp_netcards.specs.SourceCard.{unless_judged}
-
-control_whole : (deck : Deck) (at : ControlPlace) → IsControlSound deck at → IsWhole deck
-control_whole deck Blocks h = h
-control_whole deck (Numerator card) h = h.0
-control_whole deck (Denominator card top line) h = h.0
-control_whole deck TacsSources h = h
-control_whole deck Extras h = h
-control_whole deck (DevicePoints group) h = h.0
-control_whole deck TacsOutputs h = h
-control_whole deck Initial h = h
-
-pub whole_of : (deck : Deck) (place : Place) → IsSound deck place → IsWhole deck
-whole_of deck Begin h = head_whole deck h
-whole_of deck (First seen) h = head_whole deck h
-whole_of deck Second h = head_whole deck h
-whole_of deck Start h = h
-whole_of deck (Control at) h = control_whole deck at h
-whole_of deck (Branches wide) h = h
-whole_of deck (Points group) h = h.0
-whole_of deck (Waiting card wide) h = h.0
-whole_of deck (Third zero' positive wide) h = h.0
-whole_of deck Switches h = h
-whole_of deck Sources h = h
-whole_of deck Outputs h = h
-whole_of deck (After seen) h = h
 
 small : (n m : ℕ) → nat_lt n m ≡ false → m ≤ n
 small n m e = grind (arith, nat_tests)

@@ -4,8 +4,8 @@ use Rattle.emtp_deck.specs.ControlSense.{control_bad}
 use Rattle.emtp_deck.specs.Names.{known_nodes}
 use Rattle.emtp_deck.specs.Samples.{has_too_many}
 use Rattle.emtp_deck.specs.Variables.{variable_names}
-use Rattle.emtp_deck.specs.declared.deck.Deck.{Deck}
-use Rattle.emtp_deck.specs.declared.deck.Place.{Place}
+use Rattle.emtp_walk.specs.declared.deck.Deck.{Deck}
+use Rattle.emtp_walk.specs.declared.deck.Place.{Place}
 
 pub record IsAccepted (deck : Deck) (place : Place) : Type 0 where
   pub few : has_too_many (known_nodes deck place) (variable_names deck place) deck place ≡ false

@@ -14,7 +14,7 @@ use Rattle.emtp_case.specs.declared.branch.Trio.{Trio}
 use Rattle.emtp_case.specs.declared.case.Parts.{Parts}
 use Rattle.emtp_case.specs.declared.channel.Channel.{Channel}
 use Rattle.emtp_case.specs.declared.channel.Channel.TheVariants.{BranchCurrent, BranchVoltage}
-use Rattle.emtp_deck.specs.Answer.{go_on, first_bad}
+use Rattle.emtp_walk.specs.Answer.{go_on, first_bad}
 use Rattle.emtp_deck.specs.Channels.{channel_count, channels_of}
 use Rattle.emtp_deck.specs.Copies.{line_numbers, missing_fault, phase_numbers, values_from}
 use Rattle.emtp_deck.specs.Made.{Made, count_asked, too_many}
@@ -23,10 +23,10 @@ use Rattle.emtp_deck.specs.declared.branches.Counts.{Counts}
 use Rattle.emtp_deck.specs.declared.copies.LineNumbers.{LineNumbers}
 use Rattle.emtp_deck.specs.declared.copies.ValuesFrom.{ValuesFrom}
 use Rattle.emtp_deck.specs.declared.copies.ValuesFrom.TheVariants.{Card as OwnValues, Earlier, Missing}
-use Rattle.emtp_deck.specs.declared.deck.BranchEntry.{BranchEntry}
-use Rattle.emtp_deck.specs.declared.deck.BranchEntry.TheVariants.{Single, Trio as TrioEntry}
-use Rattle.emtp_deck.specs.declared.deck.Place.{Place}
-use Rattle.emtp_deck.specs.declared.deck.Place.TheVariants.{After, Begin, Branches, First, Outputs, Points, Second, Sources, Start, Switches, Third, Waiting, Control}
+use Rattle.emtp_walk.specs.declared.deck.BranchEntry.{BranchEntry}
+use Rattle.emtp_walk.specs.declared.deck.BranchEntry.TheVariants.{Single, Trio as TrioEntry}
+use Rattle.emtp_walk.specs.declared.deck.Place.{Place}
+use Rattle.emtp_walk.specs.declared.deck.Place.TheVariants.{After, Begin, Branches, First, Outputs, Points, Second, Sources, Start, Switches, Third, Waiting, Control}
 use Rattle.emtp_netcards.specs.OutputCard.{names}
 use Rattle.emtp_netcards.specs.declared.branch_card.BranchCard.{BranchCard}
 use Rattle.emtp_netcards.specs.declared.branch_card.BranchValues.{BranchValues}

@@ -17,10 +17,10 @@ use Rattle.emtp_case.specs.declared.source.Source.{Source}
 use Rattle.emtp_deck.specs.ControlSense.{find_switch}
 use Rattle.emtp_deck.specs.Names.{find_node}
 use Rattle.emtp_deck.specs.Variables.{variable_number}
-use Rattle.emtp_deck.specs.declared.control_cards.BlockEntry.{BlockEntry}
-use Rattle.emtp_deck.specs.declared.control_cards.ExtraEntry.{ExtraEntry}
-use Rattle.emtp_deck.specs.declared.control_cards.ExtraEntry.TheVariants.{Device as DeviceEntry, Formula as FormulaEntry}
-use Rattle.emtp_deck.specs.declared.deck.Deck.{Deck}
+use Rattle.emtp_walk.specs.declared.control_cards.BlockEntry.{BlockEntry}
+use Rattle.emtp_walk.specs.declared.control_cards.ExtraEntry.{ExtraEntry}
+use Rattle.emtp_walk.specs.declared.control_cards.ExtraEntry.TheVariants.{Device as DeviceEntry, Formula as FormulaEntry}
+use Rattle.emtp_walk.specs.declared.deck.Deck.{Deck}
 use Rattle.emtp_netcards.specs.declared.source_card.SourceCard.{SourceCard}
 use Rattle.emtp_netcards.specs.declared.switch_card.SwitchCard.{SwitchCard}
 use Rattle.emtp_taccards.specs.Inputs.{inputs}

@@ -10,18 +10,18 @@ use Rattle.emtp_card.specs.declared.reason.Why.TheVariants.{TwoSources, UnknownN
 use Rattle.emtp_case.specs.HistoryValues.{device_history_values}
 use Rattle.emtp_case.specs.declared.source.Shape.{Shape}
 use Rattle.emtp_case.specs.declared.source.Shape.TheVariants.{NodeVoltage, SwitchCurrent, SwitchStatus}
-use Rattle.emtp_deck.specs.Answer.{first_bad}
+use Rattle.emtp_walk.specs.Answer.{first_bad}
 use Rattle.emtp_deck.specs.Made.{too_many}
 use Rattle.emtp_deck.specs.Variables.{find_variable, unknown_name, variable_number}
-use Rattle.emtp_deck.specs.declared.control_cards.BlockEntry.{BlockEntry}
-use Rattle.emtp_deck.specs.declared.control_cards.ControlCards.{ControlCards}
-use Rattle.emtp_deck.specs.declared.control_cards.ControlPlace.{ControlPlace}
-use Rattle.emtp_deck.specs.declared.control_cards.ControlPlace.TheVariants.{Blocks, Denominator, DevicePoints, Extras, Initial, Numerator, TacsOutputs, TacsSources}
-use Rattle.emtp_deck.specs.declared.control_cards.ExtraEntry.{ExtraEntry}
-use Rattle.emtp_deck.specs.declared.control_cards.ExtraEntry.TheVariants.{Device as DeviceEntry, Formula as FormulaEntry}
-use Rattle.emtp_deck.specs.declared.deck.Deck.{Deck}
-use Rattle.emtp_deck.specs.declared.deck.Place.{Place}
-use Rattle.emtp_deck.specs.declared.deck.Place.TheVariants.{Control}
+use Rattle.emtp_walk.specs.declared.control_cards.BlockEntry.{BlockEntry}
+use Rattle.emtp_walk.specs.declared.control_cards.ControlCards.{ControlCards}
+use Rattle.emtp_walk.specs.declared.control_cards.ControlPlace.{ControlPlace}
+use Rattle.emtp_walk.specs.declared.control_cards.ControlPlace.TheVariants.{Blocks, Denominator, DevicePoints, Extras, Initial, Numerator, TacsOutputs, TacsSources}
+use Rattle.emtp_walk.specs.declared.control_cards.ExtraEntry.{ExtraEntry}
+use Rattle.emtp_walk.specs.declared.control_cards.ExtraEntry.TheVariants.{Device as DeviceEntry, Formula as FormulaEntry}
+use Rattle.emtp_walk.specs.declared.deck.Deck.{Deck}
+use Rattle.emtp_walk.specs.declared.deck.Place.{Place}
+use Rattle.emtp_walk.specs.declared.deck.Place.TheVariants.{Control}
 use Rattle.emtp_netcards.specs.OutputCard.{names}
 use Rattle.emtp_netcards.specs.SourceCard.{unless_judged}
 use Rattle.emtp_netcards.specs.declared.source_card.SourceCard.{SourceCard}

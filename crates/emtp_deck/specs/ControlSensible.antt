@@ -8,12 +8,12 @@ use Rattle.emtp_deck.specs.ControlSense.{entry_history_values, is_measurable}
 use Rattle.emtp_deck.specs.Deck.{case_of}
 use Rattle.emtp_deck.specs.Filling.{made_of}
 use Rattle.emtp_deck.specs.Naming.{Continues}
-use Rattle.emtp_deck.specs.Sound.{IsTacsSourceCard}
+use Rattle.emtp_walk.specs.Sound.{IsTacsSourceCard}
 use Rattle.emtp_deck.specs.Variables.{variable_number}
-use Rattle.emtp_deck.specs.declared.control_cards.BlockEntry.{BlockEntry}
-use Rattle.emtp_deck.specs.declared.control_cards.ExtraEntry.{ExtraEntry}
-use Rattle.emtp_deck.specs.declared.control_cards.ExtraEntry.TheVariants.{Device as DeviceEntry, Formula as FormulaEntry}
-use Rattle.emtp_deck.specs.declared.deck.Deck.{Deck}
+use Rattle.emtp_walk.specs.declared.control_cards.BlockEntry.{BlockEntry}
+use Rattle.emtp_walk.specs.declared.control_cards.ExtraEntry.{ExtraEntry}
+use Rattle.emtp_walk.specs.declared.control_cards.ExtraEntry.TheVariants.{Device as DeviceEntry, Formula as FormulaEntry}
+use Rattle.emtp_walk.specs.declared.deck.Deck.{Deck}
 use Rattle.emtp_deck.specs.declared.filling.Filling.{Filling}
 use Rattle.emtp_netcards.specs.declared.source_card.SourceCard.{SourceCard}
 use Rattle.emtp_netcards.specs.declared.switch_card.SwitchCard.{SwitchCard}

@@ -6,7 +6,7 @@ use Rattle.emtp_card.specs.Fault.{unless_bad}
 use Rattle.emtp_card.specs.declared.reason.Bad.{Bad}
 use Rattle.emtp_card.specs.declared.reason.Why.TheVariants.{MissingSection}
 use Rattle.emtp_case.specs.declared.case.Parts.{Parts}
-use Rattle.emtp_deck.specs.Answer.{first_bad, go_on}
+use Rattle.emtp_walk.specs.Answer.{first_bad, go_on}
 use Rattle.emtp_deck.specs.Branches.{pending_fault, take_branches}
 use Rattle.emtp_deck.specs.ControlFilling.{control_parts, tacs_source_of}
 use Rattle.emtp_deck.specs.ControlSense.{control_bad}
@@ -18,10 +18,10 @@ use Rattle.emtp_deck.specs.Sources.{take_sources}
 use Rattle.emtp_deck.specs.Switches.{take_switches}
 use Rattle.emtp_deck.specs.TacsOutputs.{take_tacs_outputs}
 use Rattle.emtp_deck.specs.Variables.{variable_names}
-use Rattle.emtp_deck.specs.Walk.{empty_deck, walk}
-use Rattle.emtp_deck.specs.declared.deck.Deck.{Deck}
-use Rattle.emtp_deck.specs.declared.deck.Place.{Place}
-use Rattle.emtp_deck.specs.declared.deck.Place.TheVariants.{After, Begin, Branches, First, Outputs, Points, Second, Sources, Start, Switches, Third, Waiting, Control}
+use Rattle.emtp_walk.specs.Walk.{empty_deck, walk}
+use Rattle.emtp_walk.specs.declared.deck.Deck.{Deck}
+use Rattle.emtp_walk.specs.declared.deck.Place.{Place}
+use Rattle.emtp_walk.specs.declared.deck.Place.TheVariants.{After, Begin, Branches, First, Outputs, Points, Second, Sources, Start, Switches, Third, Waiting, Control}
 use Rattle.emtp_netcards.specs.SourceCard.{unless_judged}
 
 -- what the control makes before the network, given the names of its variables

@@ -1,10 +1,5 @@
-pub mod Answer
-pub mod LineRead
-pub mod Coefficients
-pub mod ControlSteps
-pub mod Walk
-pub mod WalkPlaces
-pub mod Sound
+pub use Rattle.emtp_walk.specs.Answer
+pub use Rattle.emtp_walk.specs.Laws
 pub mod Names
 pub mod Naming
 pub mod Made
@@ -23,5 +18,4 @@ pub mod ControlSensible
 pub mod TacsOutputs
 pub mod Samples
 pub mod Deck
-pub mod Laws
 pub mod Accepted

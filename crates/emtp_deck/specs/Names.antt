@@ -1,11 +1,11 @@
 -- The names of the nodes, and their numbers.
 use Rattle.std.specs.Prelude.{ℕ, ◌+◌, List, [], fold, length, position, unwrap_or, Option, Some, None, option_map}
 use Rattle.std.specs.Str.{bytes_eq}
-use Rattle.emtp_deck.specs.declared.deck.BranchEntry.{BranchEntry}
-use Rattle.emtp_deck.specs.declared.deck.BranchEntry.TheVariants.{Single, Trio}
-use Rattle.emtp_deck.specs.declared.deck.Deck.{Deck}
-use Rattle.emtp_deck.specs.declared.deck.Place.{Place}
-use Rattle.emtp_deck.specs.declared.deck.Place.TheVariants.{Points, Third, Waiting}
+use Rattle.emtp_walk.specs.declared.deck.BranchEntry.{BranchEntry}
+use Rattle.emtp_walk.specs.declared.deck.BranchEntry.TheVariants.{Single, Trio}
+use Rattle.emtp_walk.specs.declared.deck.Deck.{Deck}
+use Rattle.emtp_walk.specs.declared.deck.Place.{Place}
+use Rattle.emtp_walk.specs.declared.deck.Place.TheVariants.{Points, Third, Waiting}
 use Rattle.emtp_netcards.specs.OutputCard.{names}
 use Rattle.emtp_netcards.specs.declared.switch_card.SwitchCard.{SwitchCard}
 use Rattle.indexmap.specs.IndexSet.{insert_key}

@@ -5,11 +5,11 @@ use Rattle.emtp_card.specs.declared.reason.Bad.{Bad}
 use Rattle.emtp_card.specs.declared.reason.Why.TheVariants.{UnknownName}
 use Rattle.emtp_case.specs.declared.channel.Channel.{Channel}
 use Rattle.emtp_case.specs.declared.channel.Channel.TheVariants.{NodeVoltage as NodeChannel}
-use Rattle.emtp_deck.specs.Answer.{go_on}
+use Rattle.emtp_walk.specs.Answer.{go_on}
 use Rattle.emtp_deck.specs.Made.{Made, no_room, too_many, unless_fault}
 use Rattle.emtp_deck.specs.Names.{find_node}
 use Rattle.emtp_deck.specs.declared.asked.Asked.{Asked}
-use Rattle.emtp_deck.specs.declared.deck.OutputEntry.{OutputEntry}
+use Rattle.emtp_walk.specs.declared.deck.OutputEntry.{OutputEntry}
 use Rattle.emtp_netcards.specs.OutputCard.{names}
 use Rattle.emtp_netcards.specs.declared.output_card.OutputCard.{OutputCard}
 use Rattle.emtp_netcards.specs.declared.output_card.OutputCard.TheVariants.{All as AllNodes, Names}

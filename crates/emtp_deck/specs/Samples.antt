@@ -7,11 +7,11 @@ use Rattle.emtp_card.specs.declared.reason.Why.TheVariants.{TooManySamples}
 use Rattle.emtp_case.specs.RunData.{samples_of}
 use Rattle.emtp_deck.specs.Branches.{entry_count}
 use Rattle.emtp_deck.specs.Channels.{channel_count, switch_channel_count}
-use Rattle.emtp_deck.specs.declared.control_cards.TacsOutputEntry.{TacsOutputEntry}
-use Rattle.emtp_deck.specs.declared.deck.Deck.{Deck}
-use Rattle.emtp_deck.specs.declared.deck.OutputEntry.{OutputEntry}
-use Rattle.emtp_deck.specs.declared.deck.Place.{Place}
-use Rattle.emtp_deck.specs.declared.deck.Place.TheVariants.{After, Begin, Branches, First, Outputs, Points, Second, Sources, Start, Switches, Third, Waiting, Control}
+use Rattle.emtp_walk.specs.declared.control_cards.TacsOutputEntry.{TacsOutputEntry}
+use Rattle.emtp_walk.specs.declared.deck.Deck.{Deck}
+use Rattle.emtp_walk.specs.declared.deck.OutputEntry.{OutputEntry}
+use Rattle.emtp_walk.specs.declared.deck.Place.{Place}
+use Rattle.emtp_walk.specs.declared.deck.Place.TheVariants.{After, Begin, Branches, First, Outputs, Points, Second, Sources, Start, Switches, Third, Waiting, Control}
 use Rattle.emtp_netcards.specs.OutputCard.{names}
 use Rattle.emtp_netcards.specs.declared.output_card.OutputCard.{OutputCard}
 use Rattle.emtp_netcards.specs.declared.output_card.OutputCard.TheVariants.{All as AllNodes, Names}

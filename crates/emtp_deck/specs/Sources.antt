@@ -10,7 +10,7 @@ use Rattle.emtp_case.specs.declared.case.Parts.{Parts}
 use Rattle.emtp_case.specs.declared.source.Shape.{Shape}
 use Rattle.emtp_case.specs.declared.source.Shape.TheVariants.{Tacs}
 use Rattle.emtp_case.specs.declared.source.Source.{Source}
-use Rattle.emtp_deck.specs.Answer.{go_on}
+use Rattle.emtp_walk.specs.Answer.{go_on}
 use Rattle.emtp_deck.specs.Made.{Made, too_many, unless_fault}
 use Rattle.emtp_deck.specs.Names.{find_node}
 use Rattle.emtp_deck.specs.Variables.{unknown_name, variable_number}

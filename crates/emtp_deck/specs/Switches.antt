@@ -7,7 +7,7 @@ use Rattle.emtp_case.specs.declared.channel.Channel.TheVariants.{SwitchCurrent, 
 use Rattle.emtp_case.specs.declared.switch.Switch.{Switch}
 use Rattle.emtp_case.specs.declared.switch.SwitchKind.{SwitchKind}
 use Rattle.emtp_case.specs.declared.switch.SwitchKind.TheVariants.{Control, Measuring, Time, Valve}
-use Rattle.emtp_deck.specs.Answer.{go_on}
+use Rattle.emtp_walk.specs.Answer.{go_on}
 use Rattle.emtp_deck.specs.Branches.{with_nodes}
 use Rattle.emtp_deck.specs.Channels.{channels_of, status_of, switch_channel_count}
 use Rattle.emtp_deck.specs.Made.{Made, no_room, too_many, unless_fault}

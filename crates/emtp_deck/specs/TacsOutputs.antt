@@ -4,11 +4,11 @@ use Rattle.emtp_card.specs.declared.fault.Fault.{Fault}
 use Rattle.emtp_card.specs.declared.reason.Bad.{Bad}
 use Rattle.emtp_card.specs.declared.reason.Why.TheVariants.{UnknownName}
 use Rattle.emtp_case.specs.declared.channel.Channel.TheVariants.{Tacs as VariableChannel}
-use Rattle.emtp_deck.specs.Answer.{go_on}
+use Rattle.emtp_walk.specs.Answer.{go_on}
 use Rattle.emtp_deck.specs.Made.{Made, no_room, too_many, unless_fault}
 use Rattle.emtp_deck.specs.Variables.{find_variable}
 use Rattle.emtp_deck.specs.declared.asked.Asked.{Asked}
-use Rattle.emtp_deck.specs.declared.control_cards.TacsOutputEntry.{TacsOutputEntry}
+use Rattle.emtp_walk.specs.declared.control_cards.TacsOutputEntry.{TacsOutputEntry}
 use Rattle.emtp_netcards.specs.OutputCard.{names}
 
 -- a name in a column is that of a variable, for which there is room

@@ -4,15 +4,15 @@ use Rattle.std.specs.Str.{bytes_eq}
 use Rattle.emtp_card.specs.declared.fault.Fault.{Fault}
 use Rattle.emtp_card.specs.declared.reason.Why.TheVariants.{UnknownName}
 use Rattle.emtp_case.specs.Case.{standing_names}
-use Rattle.emtp_deck.specs.declared.control_cards.BlockEntry.{BlockEntry}
-use Rattle.emtp_deck.specs.declared.control_cards.ControlCards.{ControlCards}
-use Rattle.emtp_deck.specs.declared.control_cards.ControlPlace.{ControlPlace}
-use Rattle.emtp_deck.specs.declared.control_cards.ControlPlace.TheVariants.{Blocks, Denominator, DevicePoints, Extras, Initial, Numerator, TacsOutputs, TacsSources}
-use Rattle.emtp_deck.specs.declared.control_cards.ExtraEntry.{ExtraEntry}
-use Rattle.emtp_deck.specs.declared.control_cards.ExtraEntry.TheVariants.{Device as DeviceEntry, Formula as FormulaEntry}
-use Rattle.emtp_deck.specs.declared.deck.Deck.{Deck}
-use Rattle.emtp_deck.specs.declared.deck.Place.{Place}
-use Rattle.emtp_deck.specs.declared.deck.Place.TheVariants.{Control}
+use Rattle.emtp_walk.specs.declared.control_cards.BlockEntry.{BlockEntry}
+use Rattle.emtp_walk.specs.declared.control_cards.ControlCards.{ControlCards}
+use Rattle.emtp_walk.specs.declared.control_cards.ControlPlace.{ControlPlace}
+use Rattle.emtp_walk.specs.declared.control_cards.ControlPlace.TheVariants.{Blocks, Denominator, DevicePoints, Extras, Initial, Numerator, TacsOutputs, TacsSources}
+use Rattle.emtp_walk.specs.declared.control_cards.ExtraEntry.{ExtraEntry}
+use Rattle.emtp_walk.specs.declared.control_cards.ExtraEntry.TheVariants.{Device as DeviceEntry, Formula as FormulaEntry}
+use Rattle.emtp_walk.specs.declared.deck.Deck.{Deck}
+use Rattle.emtp_walk.specs.declared.deck.Place.{Place}
+use Rattle.emtp_walk.specs.declared.deck.Place.TheVariants.{Control}
 use Rattle.emtp_netcards.specs.OutputCard.{names}
 use Rattle.emtp_netcards.specs.declared.source_card.SourceCard.{SourceCard}
 use Rattle.indexmap.specs.IndexSet.{insert_key}

@@ -5,27 +5,27 @@ ghost use Rattle.emtp_case.specs.Branch.{HasLineNumbers, IsBranch};
 ghost use Rattle.emtp_case.specs.HistoryValues.{history_values_of};
 ghost use Rattle.emtp_case.specs.Range.{AreEnds, IsBetween};
 ghost use Rattle.emtp_case.specs.Sizes.{sizes_of};
-ghost use Rattle.emtp_deck.specs.Answer.{IsWant};
+ghost use Rattle.emtp_walk.specs.Answer.{IsWant};
 ghost use Rattle.emtp_deck.specs.Branches.{branch_channels, card_bad, card_fault, card_history, counts_of, entry_channels, entry_count, entry_fault, entry_history, first_counts, first_fault, line_branch, line_history, moved, numbers_for, pair_fault, pair_history, pending_fault, phase_for, second_counts, second_fault, take_branches, take_entry, third_fault, with_branches, with_counts, with_entry, with_own, with_phases, with_points, with_single};
 ghost use Rattle.emtp_deck.specs.Copies.{line_numbers, numbers_of_card, values_from};
 ghost use Rattle.emtp_deck.specs.Filling.{Fills, IsFilling, IsNaming, made_of};
 ghost use Rattle.emtp_deck.specs.Made.{count_asked};
 ghost use Rattle.emtp_deck.specs.Names.{with_ends, with_entry_names};
 ghost use Rattle.emtp_deck.specs.Sensible.{AreOwnPoints, FindsValues, IsLineKind, IsSensible, IsSensibleSingle, IsSensibleTrio};
-ghost use Rattle.emtp_deck.specs.Sound.{IsEntry, IsTrioEntry, has_points, is_pseudo, is_reactor};
-ghost use Rattle.emtp_deck.specs.Walk.{is_phase};
+ghost use Rattle.emtp_walk.specs.Sound.{IsEntry, IsTrioEntry, has_points, is_pseudo, is_reactor};
+ghost use Rattle.emtp_walk.specs.Walk.{is_phase};
 ghost use Rattle.emtp_netcards.specs.BranchCard.{HasNumbers, HasValues, kind_of_values};
 
 use crate::channels::{ask, channel_count};
 use crate::copies::{
     LineNumbers, ValuesFrom, line_numbers, missing_fault, phase_numbers, values_from,
 };
-use crate::deck::{BranchEntry, Place};
 use crate::filling::{Filling, add_nodes, too_many};
 use crate::names::{add_ends, node_number};
 use emtp_card::{Bad, Fault, Refused, least};
 use emtp_case::{Branch, Channel, Draft, Items, Line, Lumped, Name, Phase, Point, Pseudo, Trio};
 use emtp_netcards::{BranchCard, BranchValues};
+use emtp_walk::{BranchEntry, Place};
 use indexmap::IndexSet;
 
 /// How many there are of what has a limit.

@@ -6,10 +6,8 @@ ghost use Rattle.emtp_case.specs.Control.{HasRangeOfA};
 ghost use Rattle.emtp_case.specs.Range.{IsBetween};
 ghost use Rattle.emtp_case.specs.RunData.{IsRun};
 ghost use Rattle.emtp_deck.specs.ControlSense.{block_bad, block_sense, blocks_bad, card_history_values, control_bad, device_bad, device_sense, ends_at, entry_history_values, extra_bad, find_switch, first_extra, first_source, formula_bad, formula_sense, inputs_sense, is_end, is_measurable, is_unknown, judge_extras, measured_sense, names_sense, pending_control, pending_control_bad, pending_device, second_sense, tacs_source_bad, tacs_source_sense, tacs_sources_bad};
-ghost use Rattle.emtp_deck.specs.Sound.{IsDeviceDue, IsExtraEntry, IsSound};
+ghost use Rattle.emtp_walk.specs.Sound.{IsDeviceDue, IsExtraEntry, IsSound};
 
-use crate::control_cards::{BlockEntry, ControlPlace, ExtraEntry};
-use crate::deck::{Deck, Place};
 use crate::filling::too_many;
 use crate::names::find_node;
 use crate::variables::{KnownNames, unknown_name};
@@ -17,6 +15,7 @@ use emtp_card::{Bad, Fault, Why, least};
 use emtp_case::{Device, Items, Name, Point, Shape};
 use emtp_netcards::{SourceCard, SwitchCard};
 use emtp_taccards::{BlockCard, DeviceCard, FormulaCard};
+use emtp_walk::{BlockEntry, ControlPlace, Deck, ExtraEntry, Place};
 use indexmap::IndexSet;
 use std::alloc::Global;
 

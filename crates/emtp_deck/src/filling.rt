@@ -5,7 +5,7 @@ ghost use Rattle.emtp_case.specs.Case.{DefinesEach, empty_parts};
 ghost use Rattle.emtp_case.specs.HistoryValues.{history_values_of};
 ghost use Rattle.emtp_case.specs.Name.{IsName};
 ghost use Rattle.emtp_case.specs.RunData.{IsRun};
-ghost use Rattle.emtp_deck.specs.Answer.{IsWant};
+ghost use Rattle.emtp_walk.specs.Answer.{IsWant};
 ghost use Rattle.emtp_deck.specs.Filling.{IsFilling, made_of};
 ghost use Rattle.emtp_deck.specs.Made.{empty_made, too_many};
 ghost use Rattle.emtp_deck.specs.Naming.{Continues};

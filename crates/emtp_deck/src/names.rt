@@ -1,14 +1,14 @@
 //! The names of the nodes, and their numbers.
 
 ghost use Rattle.std.specs.Prelude.{◌≡◌, ◌≤◌, [], fold, length, IfErr, OnOk};
-ghost use Rattle.emtp_deck.specs.Answer.{IsWant};
+ghost use Rattle.emtp_walk.specs.Answer.{IsWant};
 ghost use Rattle.emtp_deck.specs.Names.{find_node, node_names, node_number, with_ends, with_entry_names, with_name, with_switch_names};
 
 use crate::branches::add_entry_names;
-use crate::deck::{BranchEntry, Deck};
 use emtp_card::Refused;
 use emtp_case::Name;
 use emtp_netcards::SwitchCard;
+use emtp_walk::{BranchEntry, Deck};
 use indexmap::IndexSet;
 
 /// Adds a name, unless it is there; ground has none.

@@ -1,19 +1,19 @@
 //! Filling the node outputs.
 
 ghost use Rattle.std.specs.Prelude.{◌≡◌, ◌≤◌, ◌++◌, length, Some, IfErr, OnOk};
-ghost use Rattle.emtp_deck.specs.Answer.{IsWant};
+ghost use Rattle.emtp_walk.specs.Answer.{IsWant};
 ghost use Rattle.emtp_deck.specs.Filling.{Fills, IsFilling, made_of};
 ghost use Rattle.emtp_deck.specs.Made.{count_asked};
 ghost use Rattle.emtp_deck.specs.Outputs.{name_fault, node_channels, take_all_nodes, take_name, take_names, take_node, take_output, take_outputs};
 
 use crate::asked::Asked;
 use crate::channels::no_room;
-use crate::deck::OutputEntry;
 use crate::filling::{Filling, too_many};
 use crate::names::find_node;
 use emtp_card::{Fault, Refused, Why};
 use emtp_case::{Channel, Items, Name};
 use emtp_netcards::OutputCard;
+use emtp_walk::OutputEntry;
 
 /// The fault of a name in a column, given the number of its node, if it is one.
 fn name_fault(asked: &Asked, column: u32, node: Option<u32>) -> Option<Fault>

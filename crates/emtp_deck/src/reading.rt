@@ -6,19 +6,18 @@ ghost use Rattle.emtp_case.specs.Channel.{IsChannel};
 ghost use Rattle.emtp_case.specs.RunData.{samples_of};
 ghost use Rattle.emtp_case.specs.Sizes.{sizes_of};
 ghost use Rattle.emtp_deck.specs.Accepted.{IsAccepted};
-ghost use Rattle.emtp_deck.specs.Answer.{IfBad, IsWant};
+ghost use Rattle.emtp_walk.specs.Answer.{IfBad, IsWant};
 ghost use Rattle.emtp_deck.specs.ControlSensible.{IsSensibleWhole};
 ghost use Rattle.emtp_deck.specs.Deck.{case_of, control_made, deck_of, filled, is_ended, made_of_deck, missing_bad, unfinished};
 ghost use Rattle.emtp_deck.specs.Filling.{AreThere, Fills, IsFilling, made_of};
 ghost use Rattle.emtp_deck.specs.Made.{all_asked, count_asked, empty_made};
-ghost use Rattle.emtp_deck.specs.Sound.{IsSound, IsWhole};
+ghost use Rattle.emtp_walk.specs.Sound.{IsSound, IsWhole};
 ghost use Rattle.emtp_deck.specs.Variables.{variable_names};
 
 use crate::asked::Asked;
 use crate::branches::{pending_fault, take_branches};
 use crate::control_filling::{add_control, add_tacs_sources};
 use crate::control_sense::control_bad;
-use crate::deck::{Deck, Place};
 use crate::filling::{Filling, let_go};
 use crate::outputs::take_outputs;
 use crate::samples::{has_too_many, samples_bad};
@@ -26,9 +25,9 @@ use crate::sources::take_sources;
 use crate::switches::take_switches;
 use crate::tacs_outputs::take_tacs_outputs;
 use crate::variables::KnownNames;
-use crate::walk::walk;
 use emtp_card::{Bad, Cards, Refused, Why};
 use emtp_case::{Case, Channel, Draft, Name};
+use emtp_walk::{Deck, Place, walk};
 use indexmap::IndexSet;
 use std::alloc::Global;
 
@@ -164,6 +163,7 @@ fn complete_case(
 #[tactic(auto, unfolding(crate::specs::Deck::filled))]
 fn filled(alloc: Global, deck: &Deck, place: &Place, line: u32) -> Result<Case, Refused>
     requires sound { IsSound deck.now place.now }
+    requires whole { IsWhole deck.now }
     ensures ok { IfOk result (λ case. filled line deck.now place.now ≡ Ok case.parts) }
     ensures bad { IfErr result (λ refused. IfBad refused (λ bad. filled line deck.now place.now ≡ Err bad)) }
 {

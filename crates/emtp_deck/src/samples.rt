@@ -7,12 +7,11 @@ ghost use Rattle.emtp_deck.specs.Branches.{entry_count};
 ghost use Rattle.emtp_deck.specs.Samples.{count_of_entry, count_of_switch, count_of_variables, deck_count, has_too_many, name_count, output_count, pending_count, samples_bad};
 
 use crate::channels::{channel_count, switch_channel_count};
-use crate::control_cards::TacsOutputEntry;
-use crate::deck::{BranchEntry, Deck, OutputEntry, Place};
 use crate::variables::KnownNames;
 use emtp_card::{Bad, Why};
 use emtp_case::Name;
 use emtp_netcards::{OutputCard, SwitchCard};
+use emtp_walk::{BranchEntry, Deck, OutputEntry, Place, TacsOutputEntry};
 use indexmap::IndexSet;
 
 /// More channels than any record has room for; a count is held there.

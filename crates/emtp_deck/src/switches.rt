@@ -2,7 +2,7 @@
 
 ghost use Rattle.std.specs.Prelude.{◌≡◌, ◌+◌, ◌<◌, ◌≤◌, All, length, IfErr, OnOk};
 ghost use Rattle.emtp_case.specs.Range.{AreEnds};
-ghost use Rattle.emtp_deck.specs.Answer.{IsWant};
+ghost use Rattle.emtp_walk.specs.Answer.{IsWant};
 ghost use Rattle.emtp_deck.specs.Filling.{Fills, IsFilling, made_of};
 ghost use Rattle.emtp_deck.specs.Made.{count_asked};
 ghost use Rattle.emtp_deck.specs.Branches.{with_nodes};

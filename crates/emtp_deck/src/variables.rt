@@ -2,16 +2,15 @@
 
 ghost use Rattle.std.specs.Prelude.{◌≡◌, ◌≤◌, [], fold, length, option_map, IfErr, IfOk, OnOk};
 ghost use Rattle.emtp_case.specs.Case.{standing_names};
-ghost use Rattle.emtp_deck.specs.Answer.{IsWant};
+ghost use Rattle.emtp_walk.specs.Answer.{IsWant};
 ghost use Rattle.emtp_deck.specs.Names.{known_nodes, with_pending_nodes};
 ghost use Rattle.emtp_deck.specs.Variables.{defined_variables, extra_name, find_variable, unknown_name, variable_names, variable_number, with_block_name, with_extra_name, with_pending_variable, with_source_name, with_variable};
 
-use crate::control_cards::{BlockEntry, ControlCards, ControlPlace, ExtraEntry};
-use crate::deck::{Deck, Place};
 use crate::names::{add_ends, add_node_names};
 use emtp_card::{Fault, Refused, Why};
 use emtp_case::Name;
 use emtp_netcards::SourceCard;
+use emtp_walk::{BlockEntry, ControlCards, ControlPlace, Deck, ExtraEntry, Place};
 use indexmap::IndexSet;
 use std::alloc::Global;
 

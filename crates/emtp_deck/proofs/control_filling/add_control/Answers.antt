@@ -1,4 +1,4 @@
-use Rattle.std.proofs.Common.{List, ap, fold, refl, subst, ℕ, ◌++◌, ◌∙◌, ◌≡◌}
+use Rattle.std.proofs.Common.{ap, fold, refl, subst, ◌++◌, ◌∙◌, ◌≡◌}
 use Rattle.std.specs.Prelude.{All, map}
 use Rattle.emtp_case.specs.Case.{standing_names}
 use Rattle.emtp_case.specs.HistoryValues.{history_values_of}
@@ -8,7 +8,7 @@ use Rattle.emtp_deck.specs.ControlFilling.{block_of, with_extra}
 use Rattle.emtp_deck.specs.Deck.{control_made}
 use Rattle.emtp_deck.specs.Filling.{made_of}
 use Rattle.emtp_deck.specs.Made.{Made, empty_made}
-use Rattle.emtp_deck.specs.declared.deck.Deck.{Deck}
+use Rattle.emtp_walk.specs.declared.deck.Deck.{Deck}
 use Rattle.emtp_deck.specs.declared.filling.Filling.{Filling}
 use Rattle.emtp_deck.proofs.ControlAdding.{control_filled, summed}
 use Rattle.emtp_deck.proofs.control_filling.add_control.Goals as goal

@@ -1,9 +1,5 @@
 use Rattle.std.proofs.Common.{◌∙◌, sym}
-use Rattle.emtp_deck.proofs.WholeDeck.{whole_of}
 use Rattle.emtp_deck.proofs.reading.filled.Goals as goal
-
-pub complete_case-requires-clause-whole : goal.complete_case-requires-clause-whole
-complete_case-requires-clause-whole c = whole_of c.args.deck.now c.args.place.now c.requires.sound
 
 pub complete_case-requires-clause-accepted : goal.complete_case-requires-clause-accepted
 complete_case-requires-clause-accepted c =

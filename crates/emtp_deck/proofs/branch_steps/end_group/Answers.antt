@@ -1,5 +1,0 @@
-use Rattle.emtp_deck.proofs.BranchSounding.{group_ended}
-use Rattle.emtp_deck.proofs.branch_steps.end_group.Goals as goal
-
-pub returns-clause-sound : goal.returns-clause-sound
-returns-clause-sound c = rw c.in_ok-push.ensures.ok (group_ended c.args.deck.now c.args.group.now c.requires.whole c.requires.group c.requires.some)

@@ -1,7 +1,0 @@
-use Rattle.std.proofs.Common.{◌≡◌}
-use Rattle.emtp_deck.specs.Coefficients.{quotient_of}
-use Rattle.emtp_deck.proofs.ControlCoefficients.{sum_below}
-use Rattle.emtp_deck.proofs.coefficients.numerator_sum.Given as goal
-
-abbrev pub invariant-loop-power : goal.invariant-loop-power
-invariant-loop-power l = l.sum ≡ sum_below (quotient_of l.dt l.top l.divisor) l.power

@@ -1,7 +1,0 @@
-use Rattle.std.proofs.Common.{◌≡◌, None}
-use Rattle.emtp_deck.specs.Coefficients.{quotient_of}
-use Rattle.emtp_deck.proofs.ControlCoefficients.{bad_below}
-use Rattle.emtp_deck.proofs.coefficients.quotients_bad.Given as goal
-
-abbrev pub invariant-loop-power : goal.invariant-loop-power
-invariant-loop-power l = bad_below l.line (quotient_of l.dt l.card l.divisor) l.power ≡ None

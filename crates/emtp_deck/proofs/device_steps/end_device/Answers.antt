@@ -1,5 +1,0 @@
-use Rattle.emtp_deck.proofs.DevicePoints.{device_ended}
-use Rattle.emtp_deck.proofs.device_steps.end_device.Goals as goal
-
-pub keep_extra-requires-clause-extra : goal.keep_extra-requires-clause-extra
-keep_extra-requires-clause-extra c = device_ended c.args.deck.now c.args.group.now c.requires.group c.requires.some

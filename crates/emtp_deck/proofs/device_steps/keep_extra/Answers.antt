@@ -1,5 +1,0 @@
-use Rattle.emtp_deck.proofs.ControlSounding.{one_more_extra}
-use Rattle.emtp_deck.proofs.device_steps.keep_extra.Goals as goal
-
-pub returns-clause-sound : goal.returns-clause-sound
-returns-clause-sound c = rw c.in_ok-push.ensures.ok (one_more_extra c.args.deck.now c.args.entry c.requires.whole c.requires.extra)

@@ -1,0 +1,102 @@
+-- The line of a card of the control is that on which it stands.
+use Rattle.std.proofs.Common.{◌≡◌, ◌∙◌, sym, subst, refl, ℕ, Bool, true, false, List, Result, Ok, Err}
+use Rattle.std.specs.Prelude.{if◌then◌else◌}
+use Rattle.emtp_card.specs.Fault.{judge}
+use Rattle.emtp_card.specs.Name.{name_field}
+use Rattle.emtp_card.specs.declared.reason.Bad.{Bad}
+use Rattle.emtp_card.specs.declared.reason.Why.{Why}
+use Rattle.emtp_case.specs.declared.control.DeviceCode.{DeviceCode}
+use Rattle.emtp_case.specs.declared.control.Group.{Group}
+use Rattle.emtp_expr.specs.Parsing.{expression_of}
+use Rattle.emtp_expr.specs.declared.parsing.Parsed.{Parsed}
+use Rattle.emtp_netcards.specs.Fields.{needed}
+use Rattle.emtp_netcards.specs.declared.source_card.SourceCard.{SourceCard}
+use Rattle.emtp_taccards.specs.BlockCard.{block_card, block_fault, block_with}
+use Rattle.emtp_taccards.specs.DeviceCard.{code_field, device_card, device_fault, device_with}
+use Rattle.emtp_taccards.specs.ExtraCard.{as_device, as_formula, extra_card, is_formula}
+use Rattle.emtp_taccards.specs.FormulaCard.{expression_text, formula_card, formula_fault, formula_with}
+use Rattle.emtp_taccards.specs.Group.{group_field}
+use Rattle.emtp_taccards.specs.TacsSourceCard.{driven, is_measured, measured, signal_field, tacs_source_card, tacs_source_fault, tacs_source_with}
+use Rattle.emtp_taccards.specs.declared.block_card.BlockCard.{BlockCard}
+use Rattle.emtp_taccards.specs.declared.device_card.DeviceCard.{DeviceCard}
+use Rattle.emtp_taccards.specs.declared.extra_card.ExtraCard.{ExtraCard}
+use Rattle.emtp_taccards.specs.declared.extra_card.ExtraCard.TheVariants.{Device, Formula}
+use Rattle.emtp_taccards.specs.declared.formula_card.FormulaCard.{FormulaCard}
+use Rattle.emtp_walk.proofs.ControlNames.{accepted, ok_is}
+
+-- ---- blocks
+
+block_stands : (number : ℕ) (line : List ℕ) (name : Result (List ℕ) Why) (card : BlockCard) → block_with number line name ≡ Ok card → card.line ≡ number
+block_stands number line (Ok name) card h = sym (ok_is (λ (c : BlockCard). c.line) _ card h)
+block_stands number line (Err why) card h = absurd (cc)
+
+pub block_line : (number : ℕ) (line : List ℕ) (card : BlockCard) → block_card number line ≡ Ok card → card.line ≡ number
+unfolding block_card
+block_line number line card h =
+    let both = accepted (judge number line (block_fault line)) (block_with number line (needed (name_field line 3))) card h in
+    block_stands number line (needed (name_field line 3)) card both.1
+
+-- ---- sources
+
+same_line : (measured : Bool) (a b : SourceCard) (number : ℕ) → a.line ≡ number → b.line ≡ number → (if measured then a else b).line ≡ number
+same_line true a b number h k = h
+same_line false a b number h k = k
+
+source_stands : (number : ℕ) (line : List ℕ) (name : Result (List ℕ) Why) (card : SourceCard) → tacs_source_with number line (signal_field line) name ≡ Ok card → card.line ≡ number
+source_stands number line (Ok name) card h =
+    let signal = signal_field line in
+    sym (ok_is (λ (c : SourceCard). c.line) (if is_measured signal then measured number line signal name else driven number line signal name) card h)
+    ∙ same_line (is_measured signal) (measured number line signal name) (driven number line signal name) number refl refl
+source_stands number line (Err why) card h = absurd (cc)
+
+pub tacs_source_line : (number : ℕ) (line : List ℕ) (card : SourceCard) → tacs_source_card number line ≡ Ok card → card.line ≡ number
+unfolding tacs_source_card
+tacs_source_line number line card h =
+    let both = accepted (judge number line (tacs_source_fault line (signal_field line))) (tacs_source_with number line (signal_field line) (needed (name_field line 3))) card h in
+    source_stands number line (needed (name_field line 3)) card both.1
+
+-- ---- devices and formulas
+
+device_stands : (number : ℕ) (line : List ℕ) (group : Result Group Why) (name : Result (List ℕ) Why) (code : Result DeviceCode Why) (card : DeviceCard) → device_with number line group name code ≡ Ok card → card.line ≡ number
+device_stands number line (Ok group) (Ok name) (Ok code) card h = sym (ok_is (λ (c : DeviceCard). c.line) _ card h)
+device_stands number line (Ok group) (Ok name) (Err why) card h = absurd (cc)
+device_stands number line (Ok group) (Err why) code card h = absurd (cc)
+device_stands number line (Err why) name code card h = absurd (cc)
+
+device_line : (number : ℕ) (line : List ℕ) (card : DeviceCard) → device_card number line ≡ Ok card → card.line ≡ number
+unfolding device_card
+device_line number line card h =
+    let both = accepted (judge number line (device_fault line (code_field line))) (device_with number line (group_field line) (needed (name_field line 3)) (code_field line)) card h in
+    device_stands number line (group_field line) (needed (name_field line 3)) (code_field line) card both.1
+
+formula_stands : (number : ℕ) (group : Result Group Why) (name : Result (List ℕ) Why) (parsed : Result Parsed ℕ) (card : FormulaCard) → formula_with number group name parsed ≡ Ok card → card.line ≡ number
+formula_stands number (Ok group) (Ok name) (Ok parsed) card h = sym (ok_is (λ (c : FormulaCard). c.line) _ card h)
+formula_stands number (Ok group) (Ok name) (Err column) card h = absurd (cc)
+formula_stands number (Ok group) (Err why) parsed card h = absurd (cc)
+formula_stands number (Err why) name parsed card h = absurd (cc)
+
+formula_line : (number : ℕ) (line : List ℕ) (parsed : Result Parsed ℕ) (card : FormulaCard) → formula_card number line parsed ≡ Ok card → card.line ≡ number
+unfolding formula_card
+formula_line number line parsed card h =
+    let both = accepted (judge number line (formula_fault line parsed)) (formula_with number (group_field line) (needed (name_field line 3)) parsed) card h in
+    formula_stands number (group_field line) (needed (name_field line 3)) parsed card both.1
+
+abbrev pub line_of_extra : ExtraCard → ℕ
+line_of_extra (Device card) = card.line
+line_of_extra (Formula card) = card.line
+
+as_device_line : (number : ℕ) (r : Result DeviceCard Bad) (card : ExtraCard) → ((c : DeviceCard) → r ≡ Ok c → c.line ≡ number) → as_device r ≡ Ok card → line_of_extra card ≡ number
+as_device_line number (Ok c) card f h = let same : Device c ≡ card = cc in subst (λ x. line_of_extra x ≡ number) same (f c refl)
+as_device_line number (Err bad) card f h = absurd (cc)
+
+as_formula_line : (number : ℕ) (r : Result FormulaCard Bad) (card : ExtraCard) → ((c : FormulaCard) → r ≡ Ok c → c.line ≡ number) → as_formula r ≡ Ok card → line_of_extra card ≡ number
+as_formula_line number (Ok c) card f h = let same : Formula c ≡ card = cc in subst (λ x. line_of_extra x ≡ number) same (f c refl)
+as_formula_line number (Err bad) card f h = absurd (cc)
+
+pub extra_line_is : (number : ℕ) (line : List ℕ) (card : ExtraCard) → extra_card number line ≡ Ok card → line_of_extra card ≡ number
+unfolding extra_card
+extra_line_is number line card h = by_test (is_formula line) h
+  where
+    by_test : (t : Bool) → (if t then as_formula (formula_card number line (expression_of (expression_text line))) else as_device (device_card number line)) ≡ Ok card → line_of_extra card ≡ number
+    by_test true h = as_formula_line number (formula_card number line (expression_of (expression_text line))) card (formula_line number line (expression_of (expression_text line))) h
+    by_test false h = as_device_line number (device_card number line) card (device_line number line) h

@@ -1,0 +1,186 @@
+-- The name that a card of the control gives is a name of a case.
+use Rattle.std.proofs.Common.{◌≡◌, ◌≢◌, ◌∙◌, sym, ap, subst, refl, ℕ, suc, ◌+◌, ◌-◌, ◌≤◌, min, Bool, true, false, List, [], ◌∷◌, length, drop, Option, Some, None, Result, Ok, Err, arith}
+use Rattle.std.proofs.lemmas.List.{length-take}
+use Rattle.std.specs.List.{list_all, list_any}
+use Rattle.std.specs.Prelude.{if◌then◌else◌, cond}
+use Rattle.emtp_card.specs.Fault.{judge, judge_by}
+use Rattle.emtp_card.specs.Field.{columns, field_of, filled, trimmed, without_leading, without_trailing}
+use Rattle.emtp_card.specs.Lines.{fault_of_line, is_blank}
+use Rattle.emtp_card.specs.Name.{is_comma, name_field, named}
+use Rattle.emtp_card.specs.declared.fault.Fault.{Fault}
+use Rattle.emtp_card.specs.declared.reason.Bad.{Bad}
+use Rattle.emtp_card.specs.declared.reason.Why.{Why}
+use Rattle.emtp_card.specs.declared.reason.Why.TheVariants.{BadName}
+use Rattle.emtp_card.proofs.Names.{field_is_name}
+use Rattle.emtp_case.specs.Name.{IsName}
+use Rattle.emtp_case.specs.declared.control.DeviceCode.{DeviceCode}
+use Rattle.emtp_case.specs.declared.control.Group.{Group}
+use Rattle.emtp_walk.specs.Sound.{IsExtraDue}
+use Rattle.emtp_expr.specs.Parsing.{expression_of}
+use Rattle.emtp_expr.specs.declared.parsing.Parsed.{Parsed}
+use Rattle.emtp_netcards.specs.Fields.{needed}
+use Rattle.emtp_netcards.specs.SourceCard.{unless_judged}
+use Rattle.emtp_netcards.specs.declared.source_card.SourceCard.{SourceCard}
+use Rattle.emtp_taccards.specs.BlockCard.{block_card, block_fault, block_with}
+use Rattle.emtp_taccards.specs.DeviceCard.{code_field, device_card, device_fault, device_with}
+use Rattle.emtp_taccards.specs.ExtraCard.{HasExtraNumbers, as_device, as_formula, extra_card, is_formula}
+use Rattle.emtp_taccards.specs.FormulaCard.{expression_text, formula_card, formula_fault, formula_with}
+use Rattle.emtp_taccards.specs.Group.{group_field}
+use Rattle.emtp_taccards.specs.TacsSourceCard.{driven, is_measured, measured, signal_field, tacs_source_card, tacs_source_fault, tacs_source_with}
+use Rattle.emtp_taccards.specs.declared.block_card.BlockCard.{BlockCard}
+use Rattle.emtp_taccards.specs.declared.device_card.DeviceCard.{DeviceCard}
+use Rattle.emtp_taccards.specs.declared.extra_card.ExtraCard.{ExtraCard}
+use Rattle.emtp_taccards.specs.declared.extra_card.ExtraCard.TheVariants.{Device, Formula}
+use Rattle.emtp_taccards.specs.declared.formula_card.FormulaCard.{FormulaCard}
+
+-- ---- the text of six columns has at most six bytes
+
+leading-short : (bytes : List ℕ) → length (without_leading bytes) ≤ length bytes
+leading-short [] = omega arith
+leading-short (byte ∷ bytes) = by_test (is_blank byte) (leading-short bytes)
+  where
+    by_test : (t : Bool) → length (without_leading bytes) ≤ length bytes → length (cond t (without_leading bytes) (byte ∷ bytes)) ≤ suc (length bytes)
+    by_test true h = omega (arith, h)
+    by_test false h = omega arith
+
+trailing-short : (bytes : List ℕ) → length (without_trailing bytes) ≤ length bytes
+trailing-short [] = omega arith
+trailing-short (byte ∷ bytes) = by_test (list_all is_blank (byte ∷ bytes)) (trailing-short bytes)
+  where
+    by_test : (t : Bool) → length (without_trailing bytes) ≤ length bytes → length (cond t [] (byte ∷ without_trailing bytes)) ≤ suc (length bytes)
+    by_test true h = omega arith
+    by_test false h = omega (arith, h)
+
+trimmed-short : (bytes : List ℕ) → length (trimmed bytes) ≤ length bytes
+unfolding trimmed
+trimmed-short bytes = let a = leading-short (without_trailing bytes) in let b = trailing-short bytes in omega (arith, a, b)
+
+min-first : (m n : ℕ) → min m n ≤ m
+min-first m n = omega arith
+
+columns-short : (line : List ℕ) (first : ℕ) → length (columns line first (first + 5)) ≤ 6
+unfolding columns
+columns-short line first =
+    let cut = length-take (first + 5 + 1 - first) (drop (first - 1) (filled line)) in
+    let least = min-first (first + 5 + 1 - first) (length (drop (first - 1) (filled line))) in
+    omega (arith, cut, least)
+
+field-short : (line : List ℕ) (first : ℕ) → length (field_of line first (first + 5)) ≤ 6
+field-short line first = let a = trimmed-short (columns line first (first + 5)) in let b = columns-short line first in omega (arith, a, b)
+
+-- ---- a field that was read
+
+text_named : (text name : List ℕ) → needed (Ok (named text)) ≡ Ok name → (text ≡ name) × (text ≢ [])
+text_named [] name h = absurd (cc)
+text_named (byte ∷ bytes) name h = (cc, λ e. absurd (cc))
+
+name_is : (line : List ℕ) (first : ℕ) (name : List ℕ) → fault_of_line line ≡ None → needed (name_field line first) ≡ Ok name → IsName name
+unfolding name_field
+name_is line first name whole h = by_test (list_any is_comma (columns line first (first + 5))) refl h
+  where
+    by_test : (t : Bool) → list_any is_comma (columns line first (first + 5)) ≡ t → needed (if◌then◌else◌ {A = Result (Option (List ℕ)) Why} t (Err BadName) (Ok (named (field_of line first (first + 5))))) ≡ Ok name → IsName name
+    by_test true e h = absurd (cc)
+    by_test false e h =
+        let both = text_named (field_of line first (first + 5)) name h in
+        subst IsName both.0 (field_is_name line first (field_of line first (first + 5)) refl both.1 (field-short line first) e whole)
+
+no_fault : (number : ℕ) (found : Option (ℕ × Why)) (fields : Option Fault) → judge_by number found fields ≡ None → found ≡ None
+no_fault number (Some f) fields e = absurd (cc)
+no_fault number None fields e = refl
+
+line_whole : (number : ℕ) (line : List ℕ) (fields : Option Fault) → judge number line fields ≡ None → fault_of_line line ≡ None
+line_whole number line fields e = no_fault number (fault_of_line line) fields e
+
+pub accepted : {A : Type 0} (bad : Option Bad) (r : Result A Bad) (x : A) → unless_judged bad r ≡ Ok x → (bad ≡ None) × (r ≡ Ok x)
+accepted (Some bad) r x h = absurd (cc)
+accepted None r x h = (refl, h)
+
+pub ok_is : {A B : Type 0} (f : A → B) (x y : A) → ◌≡◌ {A = Result A Bad} (Ok x) (Ok y) → f x ≡ f y
+ok_is f x y h = let same : x ≡ y = cc in ap f same
+
+-- ---- blocks
+
+block_named : (number : ℕ) (line : List ℕ) (name : Result (List ℕ) Why) (card : BlockCard) → block_with number line name ≡ Ok card → name ≡ Ok card.name
+block_named number line (Ok name) card h = ap Ok (ok_is (λ (c : BlockCard). c.name) _ card h)
+block_named number line (Err why) card h = absurd (cc)
+
+pub block_name : (number : ℕ) (line : List ℕ) (card : BlockCard) → block_card number line ≡ Ok card → IsName card.name
+unfolding block_card
+block_name number line card h =
+    let both = accepted (judge number line (block_fault line)) (block_with number line (needed (name_field line 3))) card h in
+    name_is line 3 card.name (line_whole number line (block_fault line) both.0) (block_named number line (needed (name_field line 3)) card both.1)
+
+-- ---- sources
+
+same_name : (measured : Bool) (a b : SourceCard) (name : List ℕ) → a.name ≡ name → b.name ≡ name → (if measured then a else b).name ≡ name
+same_name true a b name h k = h
+same_name false a b name h k = k
+
+source_named : (number : ℕ) (line : List ℕ) (name : Result (List ℕ) Why) (card : SourceCard) → tacs_source_with number line (signal_field line) name ≡ Ok card → name ≡ Ok card.name
+source_named number line (Ok name) card h =
+    ap Ok (sym (same_name (is_measured (signal_field line)) (measured number line (signal_field line) name) (driven number line (signal_field line) name) name refl refl)
+    ∙ ok_is (λ (c : SourceCard). c.name) (if is_measured (signal_field line) then measured number line (signal_field line) name else driven number line (signal_field line) name) card h)
+source_named number line (Err why) card h = absurd (cc)
+
+pub source_name : (number : ℕ) (line : List ℕ) (card : SourceCard) → tacs_source_card number line ≡ Ok card → IsName card.name
+unfolding tacs_source_card
+source_name number line card h =
+    let fields = tacs_source_fault line (signal_field line) in
+    let both = accepted (judge number line fields) (tacs_source_with number line (signal_field line) (needed (name_field line 3))) card h in
+    name_is line 3 card.name (line_whole number line fields both.0) (source_named number line (needed (name_field line 3)) card both.1)
+
+-- ---- devices and formulas
+
+device_named : (number : ℕ) (line : List ℕ) (group : Result Group Why) (name : Result (List ℕ) Why) (code : Result DeviceCode Why) (card : DeviceCard) → device_with number line group name code ≡ Ok card → name ≡ Ok card.name
+device_named number line (Ok group) (Ok name) (Ok code) card h = ap Ok (ok_is (λ (c : DeviceCard). c.name) _ card h)
+device_named number line (Ok group) (Ok name) (Err why) card h = absurd (cc)
+device_named number line (Ok group) (Err why) code card h = absurd (cc)
+device_named number line (Err why) name code card h = absurd (cc)
+
+device_name : (number : ℕ) (line : List ℕ) (card : DeviceCard) → device_card number line ≡ Ok card → IsName card.name
+unfolding device_card
+device_name number line card h =
+    let fields = device_fault line (code_field line) in
+    let both = accepted (judge number line fields) (device_with number line (group_field line) (needed (name_field line 3)) (code_field line)) card h in
+    name_is line 3 card.name (line_whole number line fields both.0) (device_named number line (group_field line) (needed (name_field line 3)) (code_field line) card both.1)
+
+formula_named : (number : ℕ) (group : Result Group Why) (name : Result (List ℕ) Why) (parsed : Result Parsed ℕ) (card : FormulaCard) → formula_with number group name parsed ≡ Ok card → name ≡ Ok card.name
+formula_named number (Ok group) (Ok name) (Ok parsed) card h = ap Ok (ok_is (λ (c : FormulaCard). c.name) _ card h)
+formula_named number (Ok group) (Ok name) (Err column) card h = absurd (cc)
+formula_named number (Ok group) (Err why) parsed card h = absurd (cc)
+formula_named number (Err why) name parsed card h = absurd (cc)
+
+formula_name : (number : ℕ) (line : List ℕ) (parsed : Result Parsed ℕ) (card : FormulaCard) → formula_card number line parsed ≡ Ok card → IsName card.name
+unfolding formula_card
+formula_name number line parsed card h =
+    let fields = formula_fault line parsed in
+    let both = accepted (judge number line fields) (formula_with number (group_field line) (needed (name_field line 3)) parsed) card h in
+    name_is line 3 card.name (line_whole number line fields both.0) (formula_named number (group_field line) (needed (name_field line 3)) parsed card both.1)
+
+-- the name of either
+abbrev HasName : ExtraCard → Type 0
+HasName (Device card) = IsName card.name
+HasName (Formula card) = IsName card.name
+
+as_device_name : (r : Result DeviceCard Bad) (card : ExtraCard) → ((c : DeviceCard) → r ≡ Ok c → IsName c.name) → as_device r ≡ Ok card → HasName card
+as_device_name (Ok c) card f h = let same : Device c ≡ card = cc in subst HasName same (f c refl)
+as_device_name (Err bad) card f h = absurd (cc)
+
+as_formula_name : (r : Result FormulaCard Bad) (card : ExtraCard) → ((c : FormulaCard) → r ≡ Ok c → IsName c.name) → as_formula r ≡ Ok card → HasName card
+as_formula_name (Ok c) card f h = let same : Formula c ≡ card = cc in subst HasName same (f c refl)
+as_formula_name (Err bad) card f h = absurd (cc)
+
+extra_name : (number : ℕ) (line : List ℕ) (card : ExtraCard) → extra_card number line ≡ Ok card → HasName card
+unfolding extra_card
+extra_name number line card h = by_test (is_formula line) h
+  where
+    by_test : (t : Bool) → (if t then as_formula (formula_card number line (expression_of (expression_text line))) else as_device (device_card number line)) ≡ Ok card → HasName card
+    by_test true h = as_formula_name (formula_card number line (expression_of (expression_text line))) card (formula_name number line (expression_of (expression_text line))) h
+    by_test false h = as_device_name (device_card number line) card (device_name number line) h
+
+due_of : (card : ExtraCard) → HasName card → HasExtraNumbers card → IsExtraDue card
+due_of (Device card) name numbers = record { name = name; numbers = numbers.0; d = numbers.1 }
+due_of (Formula card) name numbers = record { name = name; parsed = numbers }
+
+pub extra_due : (number : ℕ) (line : List ℕ) (card : ExtraCard) → extra_card number line ≡ Ok card → HasExtraNumbers card → IsExtraDue card
+extra_due number line card h numbers = due_of card (extra_name number line card h) numbers

@@ -1,0 +1,14 @@
+pub mod Walking
+pub mod Sounding
+pub mod BranchSounding
+pub mod SameSteps
+pub mod Comments
+pub mod LineEnds
+pub mod Rising
+pub mod ControlOrder
+pub mod Order
+pub mod ControlCoefficients
+pub mod ControlNames
+pub mod DevicePoints
+pub mod ControlSounding
+pub mod ControlLines

@@ -1,0 +1,16 @@
+use Rattle.std.proofs.Common.{◌≡◌, ◌∙◌, sym, to_z, of_z, arith}
+use mir.Syntax.{w64, w128}
+use Rattle.std.proofs.lemmas.Int.{ints, to_z-of_z}
+use Rattle.emtp_walk.specs.Coefficients.{IsBlockEntry}
+use Rattle.emtp_walk.proofs.ControlCoefficients.{block_divided, if_none}
+use Rattle.emtp_walk.proofs.coefficients.divided_bad.Goals as goal
+
+pub returns-clause-entry : goal.returns-clause-entry
+returns-clause-entry c =
+    let e = c.args.entry.now in
+    let dt : to_z w64 (of_z w64 c.args.dt) ≡ c.args.dt = to_z-of_z w64 c.args.dt c.ranges.dt in
+    let d : to_z w128 (of_z w128 c.divisor-divisor.result) ≡ c.divisor-divisor.result = omega (arith, ints, c.divisor-divisor.ensures.small) in
+    let is = rw dt at c.divisor-divisor.ensures.value in
+    let value = rw (dt, d) at c.divided_by.ensures in
+    if_none (IsBlockEntry c.args.dt e) c.divided_by.result (λ none.
+    block_divided c.args.dt e c.args.top c.args.bottom c.divisor-divisor.result is (λ zero. absurd (omega (arith, ints, zero, d))) c.requires.block c.requires.numerator c.requires.denominator (sym value ∙ none))

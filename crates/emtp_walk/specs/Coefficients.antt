@@ -1,0 +1,115 @@
+-- The coefficients of a block: the cards of its numerator and its denominator, and what their sum divides.
+use Rattle.std.specs.Ordering.{int_eq}
+use Rattle.std.specs.Prelude.{All, Bool, Err, List, None, Ok, Option, Result, Some, [], if◌then◌else◌, map, nat_le, nat_lt, pos, slice_index_or, suc, true, unsigned_abs, zero, ℕ, ℤ, ◌&&◌, ◌*ℤ◌, ◌*◌, ◌+◌, ◌^◌, ◌≤◌}
+use Rattle.emtp_card.specs.Fault.{fault_at, judge_due, least}
+use Rattle.emtp_card.specs.declared.fault.Fault.{Fault}
+use Rattle.emtp_card.specs.declared.reason.Bad.{Bad}
+use Rattle.emtp_card.specs.declared.reason.Why.{Why}
+use Rattle.emtp_card.specs.declared.reason.Why.TheVariants.{OutOfUnitRange}
+use Rattle.emtp_case.specs.Control.{HasCoefficients, bilinear, power_of, step_gain, sum_upto}
+use Rattle.emtp_case.specs.Name.{IsName}
+use Rattle.emtp_case.specs.declared.control.Block.{Block}
+use Rattle.emtp_case.specs.declared.control.Bound.TheVariants.{None as NoBound}
+use Rattle.emtp_walk.specs.Answer.{first_bad}
+use Rattle.emtp_walk.specs.declared.control_cards.BlockEntry.{BlockEntry}
+use Rattle.emtp_fix.specs.Rounding.{near}
+use Rattle.emtp_netcards.specs.Fields.{IsSmall}
+use Rattle.emtp_netcards.specs.SourceCard.{unless_judged}
+use Rattle.emtp_taccards.specs.BlockCard.{HasBlockNumbers, HasLimitsInOrder}
+use Rattle.emtp_taccards.specs.PolynomialCard.{coefficient_field, polynomial_card, powers}
+use Rattle.emtp_taccards.specs.declared.block_card.BlockCard.{BlockCard}
+
+-- ---- cards
+
+-- a coefficient stays in range while the bilinear rule takes it so many times
+abbrev pub stays : ℤ → ℤ → ℕ → Bool
+stays dt x zero = true
+stays dt x (suc j) = stays dt x j && nat_le (unsigned_abs (bilinear dt x (suc j))) (8 * 10 ^ 25)
+
+abbrev pub taken_by : ℤ → ℕ → Result ℤ Why → Result ℤ Why
+taken_by dt power (Ok x) = if stays dt x power then Ok x else Err OutOfUnitRange
+taken_by dt power (Err why) = Err why
+
+-- the coefficient of a power, which is taken as often as the power says
+abbrev pub taken_field : List ℕ → ℕ → ℤ → ℕ → Result ℤ Why
+taken_field line order dt power = taken_by dt power (coefficient_field line order power)
+
+unfoldable pub coefficients_fault : List ℕ → ℕ → ℤ → Option Fault
+coefficients_fault line order dt = least (map (λ power. fault_at (10 * power + 1) (taken_field line order dt power)) powers)
+
+-- the coefficients of a numerator or a denominator card
+unfoldable pub coefficient_card : ℕ → List ℕ → ℕ → ℤ → Result (List ℤ) Bad
+coefficient_card number line order dt = unless_judged (judge_due number line (coefficients_fault line order dt)) (polynomial_card number line order)
+
+-- ---- quotients
+
+abbrev pub range_bad : ℕ → ℕ → Bool → Option Bad
+range_bad line column is = if is then Some (record { line = line; column = column; why = OutOfUnitRange }) else None
+
+abbrev pub is_large : ℤ → Bool
+is_large x = nat_lt (10 ^ 18) (unsigned_abs x)
+
+-- the coefficient of a power as a part of the sum of the denominator
+abbrev pub quotient_of : ℤ → List ℤ → ℤ → ℕ → ℤ
+quotient_of dt card divisor power = near (power_of dt card power *ℤ pos (10 ^ 12)) divisor
+
+-- the first quotient up to a power that is too large, in the column of its field
+abbrev pub quotients_bad : ℕ → (ℕ → ℤ) → ℕ → Option Bad
+quotients_bad line f zero = range_bad line 1 (is_large (f 0))
+quotients_bad line f (suc n) = first_bad (quotients_bad line f n) (range_bad line (10 * (n + 1) + 1) (is_large (f (suc n))))
+
+abbrev pub gain_bad : ℕ → ℤ → ℤ → Option Bad
+gain_bad line gain sum = range_bad line 51 (is_large (near (gain *ℤ sum) (pos (10 ^ 12))))
+
+-- the denominators, the numerators and the gain within a step
+abbrev pub divided_by : ℤ → BlockEntry → ℕ → ℕ → ℤ → Option Bad
+divided_by dt e top bottom divisor =
+    let order = e.card.order in
+    first_bad (quotients_bad bottom (quotient_of dt e.bottom divisor) order)
+    (first_bad (quotients_bad top (quotient_of dt e.top divisor) order)
+    (gain_bad e.card.line e.card.gain (sum_upto (quotient_of dt e.top divisor) order)))
+
+-- What refuses the coefficients once both cards were read, whose lines are these: first their sum, which is at the first
+-- column of the denominator. Each fault has the line of its own field.
+unfoldable pub divided_bad : ℤ → BlockEntry → ℕ → ℕ → Option Bad
+divided_bad dt e top bottom =
+    let divisor = sum_upto (power_of dt e.bottom) e.card.order in
+    if int_eq divisor (pos 0) then range_bad bottom 1 true else divided_by dt e top bottom divisor
+
+-- ---- what a block keeps
+
+-- no magnitude on the way of a coefficient is too large
+abbrev pub HasWay : ℤ → ℤ → ℕ → Type 0
+HasWay dt x power = (i : ℕ) → i ≤ power → unsigned_abs (bilinear dt x i) ≤ 8 * 10 ^ 25
+
+-- the coefficients of a card
+pub record IsPolynomial (dt : ℤ) (order : ℕ) (card : List ℤ) : Type 0 where
+  pub small : All IsSmall card
+  pub way : (power : ℕ) → power ≤ order → HasWay dt (slice_index_or card power (pos 0)) power
+
+-- a block whose coefficients are due
+pub record IsBlockDue (card : BlockCard) : Type 0 where
+  pub name : IsName card.name
+  pub numbers : HasBlockNumbers card
+  pub limits : HasLimitsInOrder card
+
+-- a block as far as its coefficients go
+abbrev pub transfer : BlockEntry → Block
+transfer e = record {
+  line = e.card.line;
+  var = 0;
+  order = e.card.order;
+  inputs = [];
+  gain = e.card.gain;
+  top = e.top;
+  bottom = e.bottom;
+  low = NoBound;
+  high = NoBound;
+}
+
+pub record IsBlockEntry (dt : ℤ) (e : BlockEntry) : Type 0 where
+  pub card : IsBlockDue e.card
+  pub top : All IsSmall e.top
+  pub bottom : All IsSmall e.bottom
+  pub coefficients : 1 ≤ e.card.order → HasCoefficients dt (transfer e)
+  pub within_step : unsigned_abs (step_gain dt (transfer e)) ≤ 10 ^ 18
