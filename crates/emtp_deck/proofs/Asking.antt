@@ -20,8 +20,9 @@ use Rattle.emtp_deck.specs.Branches.{entry_channels, entry_count, take_branches,
 use Rattle.emtp_deck.specs.Channels.{channels_of, status_of}
 use Rattle.emtp_deck.specs.ControlFilling.{block_of, control_parts, with_extra}
 use Rattle.emtp_deck.specs.Deck.{made_of_deck, control_made}
-use Rattle.emtp_deck.specs.Made.{Made, count_asked, no_room, too_many, unless_fault}
-use Rattle.emtp_deck.specs.Names.{find_node, node_names, with_entry_names, with_switch_names}
+use Rattle.emtp_deck.specs.Made.{Made, count_asked, no_room, unless_fault}
+use Rattle.emtp_sense.specs.Limits.{too_many}
+use Rattle.emtp_sense.specs.Names.{find_node, node_names, with_entry_names, with_switch_names}
 use Rattle.emtp_deck.specs.Outputs.{name_fault, node_channels, take_all_nodes, take_name, take_names, take_node, take_output, take_outputs, with_node, with_outputs}
 use Rattle.emtp_deck.specs.Samples.{count_of_entry, count_of_switch, deck_count, name_count, output_count, count_of_variables}
 use Rattle.emtp_deck.specs.Sources.{source_fault, take_source, take_sources, with_source}

@@ -16,13 +16,13 @@ use Rattle.emtp_case.specs.declared.run_data.RunData.{RunData}
 use Rattle.emtp_case.specs.declared.source.Shape.{Shape}
 use Rattle.emtp_case.specs.declared.source.Shape.TheVariants.{Cosine, NodeVoltage, Pulse, Ramp, Saw, Step, SwitchCurrent, SwitchStatus, Tacs}
 use Rattle.emtp_case.specs.declared.source.Source.{Source}
-use Rattle.emtp_deck.proofs.Knowing.{known_number}
+use Rattle.emtp_sense.proofs.Knowing.{known_number}
 use Rattle.emtp_walk.specs.Coefficients.{IsBlockEntry}
 use Rattle.emtp_deck.specs.ControlFilling.{block_of, bound_of, device_of, formula_of, input_of, inputs_of, measuring, tacs_source_of}
-use Rattle.emtp_deck.specs.ControlSense.{ends_at, is_measurable}
-use Rattle.emtp_deck.specs.ControlSensible.{AreKnownInputs, IsKnown, IsSensibleBlock, IsSensibleDevice, IsSensibleFormula, IsSensibleTacsSource}
+use Rattle.emtp_sense.specs.ControlSense.{ends_at, is_measurable}
+use Rattle.emtp_sense.specs.ControlSensible.{AreKnownInputs, IsKnown, IsSensibleBlock, IsSensibleDevice, IsSensibleFormula, IsSensibleTacsSource}
 use Rattle.emtp_walk.specs.Sound.{IsDeviceDue, IsFormulaCard, IsTacsSourceCard}
-use Rattle.emtp_deck.specs.Variables.{variable_number}
+use Rattle.emtp_sense.specs.Variables.{variable_number}
 use Rattle.emtp_walk.specs.declared.control_cards.BlockEntry.{BlockEntry}
 use Rattle.emtp_netcards.specs.Fields.{IsSmall}
 use Rattle.emtp_netcards.specs.SourceCard.{source_of}

@@ -13,18 +13,19 @@ use Rattle.emtp_case.specs.declared.case.Parts.{Parts}
 use Rattle.emtp_case.specs.declared.control.Block.{Block}
 use Rattle.emtp_case.specs.declared.source.Source.{Source}
 use Rattle.emtp_deck.proofs.Asking.{control_is, deck_asks}
-use Rattle.emtp_deck.proofs.ControlJudging.{AreFineBlocks, AreFineExtras, AreFineSources, IsKnownBlock, IsKnownExtra, block_fine, blocks_fine, device_fine, extras_fine, nothing_before, sources_fine}
-use Rattle.emtp_deck.proofs.Naming.{AreNamed, Each, all_named, with_names}
-use Rattle.emtp_deck.proofs.Numbering.{AreAbove, each_front, each_of, each_rest, each_two, folded, in_two, options_length, options_of, defined_once, in_row, row_is}
+use Rattle.emtp_sense.proofs.ControlJudging.{AreFineBlocks, AreFineExtras, AreFineSources, IsKnownBlock, IsKnownExtra, block_fine, blocks_fine, device_fine, extras_fine, nothing_before, sources_fine}
+use Rattle.emtp_sense.proofs.Naming.{AreNamed, Each, all_named, with_names}
+use Rattle.emtp_sense.proofs.Numbering.{AreAbove, each_front, each_of, each_rest, each_two, folded, in_two, options_length, options_of, defined_once, in_row, row_is}
 use Rattle.emtp_walk.specs.Answer.{first_bad}
 use Rattle.emtp_deck.specs.ControlFilling.{block_of, tacs_source_of, with_extra}
-use Rattle.emtp_deck.specs.ControlSense.{blocks_bad, control_bad, extras_or_pending, first_extra, first_source, is_measurable, judge_extras, pending_control_bad, tacs_sources_bad}
-use Rattle.emtp_deck.specs.ControlSensible.{IsDefined, IsSensibleBlock, IsSensibleControl, IsSensibleExtra, IsSensibleTacsSource, IsSensibleWhole}
+use Rattle.emtp_sense.specs.ControlSense.{blocks_bad, control_bad, extras_or_pending, first_extra, first_source, is_measurable, judge_extras, pending_control_bad, tacs_sources_bad}
+use Rattle.emtp_sense.specs.ControlSensible.{IsDefined, IsSensibleBlock, IsSensibleExtra, IsSensibleTacsSource}
+use Rattle.emtp_deck.specs.ControlSensible.{IsSensibleControl, IsSensibleWhole}
 use Rattle.emtp_deck.specs.Deck.{case_of, made_of_deck}
 use Rattle.emtp_deck.specs.Filling.{IsFilling, made_of}
-use Rattle.emtp_deck.specs.Names.{node_number, known_nodes}
+use Rattle.emtp_sense.specs.Names.{node_number, known_nodes}
 use Rattle.emtp_walk.specs.Sound.{IsExtraEntry, IsSound, IsWhole}
-use Rattle.emtp_deck.specs.Variables.{defined_variables, extra_name, variable_names, variable_number, with_control_pending, with_pending_variable}
+use Rattle.emtp_sense.specs.Variables.{defined_variables, extra_name, variable_names, variable_number, with_control_pending, with_pending_variable}
 use Rattle.emtp_walk.specs.declared.control_cards.BlockEntry.{BlockEntry}
 use Rattle.emtp_walk.specs.declared.control_cards.ControlCards.{ControlCards}
 use Rattle.emtp_walk.specs.declared.control_cards.ControlPlace.{ControlPlace}

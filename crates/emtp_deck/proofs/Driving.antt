@@ -5,7 +5,7 @@ use Rattle.emtp_case.specs.Source.{HasShapeNumbers, IsNetworkShape, IsSource}
 use Rattle.emtp_case.specs.declared.source.Shape.{Shape}
 use Rattle.emtp_case.specs.declared.source.Shape.TheVariants.{Cosine, NodeVoltage, Pulse, Ramp, Saw, Step, SwitchCurrent, SwitchStatus, Tacs}
 use Rattle.emtp_case.specs.declared.source.Source.{Source}
-use Rattle.emtp_deck.proofs.Knowing.{known_name}
+use Rattle.emtp_sense.proofs.Knowing.{known_name}
 use Rattle.emtp_deck.specs.Sources.{driven_shape, driver_by, driver_fault, source_at}
 use Rattle.emtp_netcards.specs.Fields.{one_variable}
 use Rattle.emtp_netcards.specs.SourceCard.{HasSourceCardNumbers, source_of}

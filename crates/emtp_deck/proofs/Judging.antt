@@ -7,11 +7,12 @@ use Rattle.emtp_card.specs.declared.fault.Fault.{Fault}
 use Rattle.emtp_card.specs.declared.reason.Why.TheVariants.{TwoSources}
 use Rattle.emtp_case.specs.declared.case.Parts.{Parts}
 use Rattle.emtp_deck.specs.Channels.{switch_channel_count}
-use Rattle.emtp_deck.specs.Made.{Made, count_asked, no_room, too_many}
-use Rattle.emtp_deck.specs.Names.{node_number}
+use Rattle.emtp_deck.specs.Made.{Made, count_asked, no_room}
+use Rattle.emtp_sense.specs.Limits.{too_many}
+use Rattle.emtp_sense.specs.Names.{node_number}
 use Rattle.emtp_deck.specs.Sources.{is_second, node_fault, source_fault, driver_fault}
 use Rattle.emtp_deck.specs.Switches.{switch_fault}
-use Rattle.emtp_deck.specs.Variables.{unknown_name}
+use Rattle.emtp_sense.specs.Variables.{unknown_name}
 use Rattle.emtp_netcards.specs.declared.source_card.SourceCard.{SourceCard}
 use Rattle.emtp_netcards.specs.declared.switch_card.SwitchCard.{SwitchCard}
 

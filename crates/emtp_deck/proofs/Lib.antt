@@ -1,4 +1,3 @@
-pub mod Naming
 pub mod Copying
 pub mod Keeping
 pub mod Sensing
@@ -7,10 +6,7 @@ pub mod Modes
 pub mod Asking
 pub mod Judging
 pub mod Switching
-pub mod Knowing
-pub mod Numbering
 pub mod Driving
-pub mod ControlJudging
 pub mod ControlRecords
 pub mod ControlAdding
 pub mod ControlWhole

@@ -13,7 +13,7 @@ use Rattle.emtp_case.specs.declared.branch.Branch.TheVariants.{Line as OfLine, L
 use Rattle.emtp_case.specs.declared.case.Parts.{Parts}
 use Rattle.emtp_deck.specs.Branches.{line_history, modes_of, no_numbers}
 use Rattle.emtp_deck.specs.Copies.{IsEarlier, earlier_or_missing, is_like, line_numbers, missing_fault, mode_of_phase, no_trio, numbers_of_branch, numbers_of_card, type_of_pseudo, type_of_values, values_by}
-use Rattle.emtp_deck.specs.Names.{node_number}
+use Rattle.emtp_sense.specs.Names.{node_number}
 use Rattle.emtp_deck.specs.Sensible.{IsLineKind}
 use Rattle.emtp_deck.specs.declared.copies.LineNumbers.{LineNumbers}
 use Rattle.emtp_deck.proofs.Copying.{earlier}

@@ -10,14 +10,15 @@ use Rattle.emtp_case.specs.HistoryValues.{history_values_of}
 use Rattle.emtp_case.specs.Name.{IsName}
 use Rattle.emtp_case.specs.declared.branch.Point.{Point}
 use Rattle.emtp_case.specs.declared.run_data.RunData.{RunData}
-use Rattle.emtp_deck.proofs.Naming.{all_named, ends_of, with_names}
+use Rattle.emtp_sense.proofs.Naming.{all_named, ends_of, with_names}
 use Rattle.emtp_walk.specs.Answer.{first_bad}
 use Rattle.emtp_deck.specs.Branches.{card_bad, card_fault, card_history, entry_count, entry_fault, first_counts, first_fault, pair_fault, second_counts, second_fault, third_fault, with_counts}
 use Rattle.emtp_deck.specs.Channels.{channel_count}
 use Rattle.emtp_deck.specs.Copies.{missing_fault, values_from}
-use Rattle.emtp_deck.specs.Made.{Made, count_asked, too_many}
-use Rattle.emtp_deck.specs.Names.{node_number, with_entry_names}
-use Rattle.emtp_deck.specs.Naming.{Continues}
+use Rattle.emtp_deck.specs.Made.{Made, count_asked}
+use Rattle.emtp_sense.specs.Limits.{too_many}
+use Rattle.emtp_sense.specs.Names.{node_number, with_entry_names}
+use Rattle.emtp_sense.specs.Naming.{Continues}
 use Rattle.emtp_deck.specs.Sensible.{IsSensible}
 use Rattle.emtp_walk.specs.Sound.{IsEntry}
 use Rattle.emtp_deck.specs.declared.branches.Counts.{Counts}

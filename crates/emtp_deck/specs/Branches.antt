@@ -17,8 +17,9 @@ use Rattle.emtp_case.specs.declared.channel.Channel.TheVariants.{BranchCurrent, 
 use Rattle.emtp_walk.specs.Answer.{go_on, first_bad}
 use Rattle.emtp_deck.specs.Channels.{channel_count, channels_of}
 use Rattle.emtp_deck.specs.Copies.{line_numbers, missing_fault, phase_numbers, values_from}
-use Rattle.emtp_deck.specs.Made.{Made, count_asked, too_many}
-use Rattle.emtp_deck.specs.Names.{node_number, with_ends, with_entry_names}
+use Rattle.emtp_deck.specs.Made.{Made, count_asked}
+use Rattle.emtp_sense.specs.Limits.{too_many}
+use Rattle.emtp_sense.specs.Names.{node_number, with_ends, with_entry_names}
 use Rattle.emtp_deck.specs.declared.branches.Counts.{Counts}
 use Rattle.emtp_deck.specs.declared.copies.LineNumbers.{LineNumbers}
 use Rattle.emtp_deck.specs.declared.copies.ValuesFrom.{ValuesFrom}

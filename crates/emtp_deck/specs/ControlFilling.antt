@@ -14,9 +14,9 @@ use Rattle.emtp_case.specs.declared.control.Input.{Input}
 use Rattle.emtp_case.specs.declared.source.Shape.{Shape}
 use Rattle.emtp_case.specs.declared.source.Shape.TheVariants.{NodeVoltage, SwitchCurrent, SwitchStatus}
 use Rattle.emtp_case.specs.declared.source.Source.{Source}
-use Rattle.emtp_deck.specs.ControlSense.{find_switch}
-use Rattle.emtp_deck.specs.Names.{find_node}
-use Rattle.emtp_deck.specs.Variables.{variable_number}
+use Rattle.emtp_sense.specs.ControlSense.{find_switch}
+use Rattle.emtp_sense.specs.Names.{find_node}
+use Rattle.emtp_sense.specs.Variables.{variable_number}
 use Rattle.emtp_walk.specs.declared.control_cards.BlockEntry.{BlockEntry}
 use Rattle.emtp_walk.specs.declared.control_cards.ExtraEntry.{ExtraEntry}
 use Rattle.emtp_walk.specs.declared.control_cards.ExtraEntry.TheVariants.{Device as DeviceEntry, Formula as FormulaEntry}

@@ -1,7 +1,5 @@
 pub use Rattle.emtp_walk.specs.Answer
 pub use Rattle.emtp_walk.specs.Laws
-pub mod Names
-pub mod Naming
 pub mod Made
 pub mod Filling
 pub mod Copies
@@ -11,8 +9,6 @@ pub mod Sensible
 pub mod Switches
 pub mod Sources
 pub mod Outputs
-pub mod Variables
-pub mod ControlSense
 pub mod ControlFilling
 pub mod ControlSensible
 pub mod TacsOutputs

@@ -1,9 +1,8 @@
 -- What is made of the cards so far: the records of the case, and the channels that were asked for.
-use Rattle.std.specs.Prelude.{ℕ, ◌+◌, ◌++◌, [], List, length, nat_lt, Option, Some, None, Result, Ok, Err, Bool, if◌then◌else◌}
+use Rattle.std.specs.Prelude.{ℕ, ◌+◌, ◌++◌, [], List, length, nat_lt, Option, Some, None, Result, Ok, Err, Bool}
 use Rattle.emtp_card.specs.Fault.{bad_at}
 use Rattle.emtp_card.specs.declared.fault.Fault.{Fault}
 use Rattle.emtp_card.specs.declared.reason.Bad.{Bad}
-use Rattle.emtp_card.specs.declared.reason.Why.TheVariants.{TooMany}
 use Rattle.emtp_case.specs.Case.{empty_parts}
 use Rattle.emtp_case.specs.declared.case.Parts.{Parts}
 use Rattle.emtp_case.specs.declared.channel.Channel.{Channel}
@@ -27,10 +26,6 @@ none_asked = record { variables = []; outputs = []; branches = []; switches = []
 -- what is made of the miscellaneous cards alone
 abbrev pub empty_made : RunData → Made
 empty_made run = record { parts = empty_parts run; asked = none_asked }
-
--- a limit by count is exceeded, at this column
-abbrev pub too_many : Bool → ℕ → Option Fault
-too_many is column = if is then Some (record { column = column; why = TooMany }) else None
 
 -- so many channels more than a record may have
 abbrev pub no_room : Asked → ℕ → Bool

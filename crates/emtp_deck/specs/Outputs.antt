@@ -6,8 +6,9 @@ use Rattle.emtp_card.specs.declared.reason.Why.TheVariants.{UnknownName}
 use Rattle.emtp_case.specs.declared.channel.Channel.{Channel}
 use Rattle.emtp_case.specs.declared.channel.Channel.TheVariants.{NodeVoltage as NodeChannel}
 use Rattle.emtp_walk.specs.Answer.{go_on}
-use Rattle.emtp_deck.specs.Made.{Made, no_room, too_many, unless_fault}
-use Rattle.emtp_deck.specs.Names.{find_node}
+use Rattle.emtp_deck.specs.Made.{Made, no_room, unless_fault}
+use Rattle.emtp_sense.specs.Limits.{too_many}
+use Rattle.emtp_sense.specs.Names.{find_node}
 use Rattle.emtp_deck.specs.declared.asked.Asked.{Asked}
 use Rattle.emtp_walk.specs.declared.deck.OutputEntry.{OutputEntry}
 use Rattle.emtp_netcards.specs.OutputCard.{names}

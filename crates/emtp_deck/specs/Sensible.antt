@@ -7,7 +7,7 @@ use Rattle.emtp_case.specs.declared.branch.Point.{Point}
 use Rattle.emtp_case.specs.declared.case.Parts.{Parts}
 use Rattle.emtp_deck.specs.Branches.{card_history, pair_history}
 use Rattle.emtp_deck.specs.Copies.{missing_fault, values_from}
-use Rattle.emtp_deck.specs.Names.{node_number}
+use Rattle.emtp_sense.specs.Names.{node_number}
 use Rattle.emtp_walk.specs.declared.deck.BranchEntry.{BranchEntry}
 use Rattle.emtp_walk.specs.declared.deck.BranchEntry.TheVariants.{Single, Trio}
 use Rattle.emtp_netcards.specs.declared.branch_card.BranchCard.{BranchCard}

@@ -11,9 +11,10 @@ use Rattle.emtp_case.specs.declared.source.Shape.{Shape}
 use Rattle.emtp_case.specs.declared.source.Shape.TheVariants.{Tacs}
 use Rattle.emtp_case.specs.declared.source.Source.{Source}
 use Rattle.emtp_walk.specs.Answer.{go_on}
-use Rattle.emtp_deck.specs.Made.{Made, too_many, unless_fault}
-use Rattle.emtp_deck.specs.Names.{find_node}
-use Rattle.emtp_deck.specs.Variables.{unknown_name, variable_number}
+use Rattle.emtp_deck.specs.Made.{Made, unless_fault}
+use Rattle.emtp_sense.specs.Limits.{too_many}
+use Rattle.emtp_sense.specs.Names.{find_node}
+use Rattle.emtp_sense.specs.Variables.{unknown_name, variable_number}
 use Rattle.emtp_netcards.specs.SourceCard.{source_of}
 use Rattle.emtp_netcards.specs.declared.source_card.SourceCard.{SourceCard}
 

@@ -10,9 +10,10 @@ use Rattle.emtp_case.specs.declared.switch.SwitchKind.TheVariants.{Control, Meas
 use Rattle.emtp_walk.specs.Answer.{go_on}
 use Rattle.emtp_deck.specs.Branches.{with_nodes}
 use Rattle.emtp_deck.specs.Channels.{channels_of, status_of, switch_channel_count}
-use Rattle.emtp_deck.specs.Made.{Made, no_room, too_many, unless_fault}
-use Rattle.emtp_deck.specs.Names.{node_number, with_switch_names}
-use Rattle.emtp_deck.specs.Variables.{unknown_name, variable_number}
+use Rattle.emtp_deck.specs.Made.{Made, no_room, unless_fault}
+use Rattle.emtp_sense.specs.Limits.{too_many}
+use Rattle.emtp_sense.specs.Names.{node_number, with_switch_names}
+use Rattle.emtp_sense.specs.Variables.{unknown_name, variable_number}
 use Rattle.emtp_netcards.specs.OutputCard.{names}
 use Rattle.emtp_netcards.specs.declared.switch_card.SwitchCard.{SwitchCard}
 

@@ -10,7 +10,7 @@ ghost use Rattle.emtp_deck.specs.Branches.{branch_channels, card_bad, card_fault
 ghost use Rattle.emtp_deck.specs.Copies.{line_numbers, numbers_of_card, values_from};
 ghost use Rattle.emtp_deck.specs.Filling.{Fills, IsFilling, IsNaming, made_of};
 ghost use Rattle.emtp_deck.specs.Made.{count_asked};
-ghost use Rattle.emtp_deck.specs.Names.{with_ends, with_entry_names};
+ghost use Rattle.emtp_sense.specs.Names.{with_ends, with_entry_names};
 ghost use Rattle.emtp_deck.specs.Sensible.{AreOwnPoints, FindsValues, IsLineKind, IsSensible, IsSensibleSingle, IsSensibleTrio};
 ghost use Rattle.emtp_walk.specs.Sound.{IsEntry, IsTrioEntry, has_points, is_pseudo, is_reactor};
 ghost use Rattle.emtp_walk.specs.Walk.{is_phase};
@@ -20,11 +20,11 @@ use crate::channels::{ask, channel_count};
 use crate::copies::{
     LineNumbers, ValuesFrom, line_numbers, missing_fault, phase_numbers, values_from,
 };
-use crate::filling::{Filling, add_nodes, too_many};
-use crate::names::{add_ends, node_number};
+use crate::filling::{Filling, add_nodes};
 use emtp_card::{Bad, Fault, Refused, least};
 use emtp_case::{Branch, Channel, Draft, Items, Line, Lumped, Name, Phase, Point, Pseudo, Trio};
 use emtp_netcards::{BranchCard, BranchValues};
+use emtp_sense::{add_ends, add_entry_names, node_number, too_many};
 use emtp_walk::{BranchEntry, Place};
 use indexmap::IndexSet;
 
@@ -483,28 +483,6 @@ fn ask_entry(asked: &mut Items<Channel>, at: u32, entry: &BranchEntry) -> Result
             ask_branch(asked, at, zero)?;
             ask_branch(asked, at + 1, positive)?;
             ask_branch(asked, at + 2, third)
-        }
-    }
-}
-
-/// Adds the names of an entry's nodes.
-pub(crate) fn add_entry_names(
-    names: &mut IndexSet<Name>,
-    entry: &BranchEntry,
-) -> Result<(), Refused>
-    ensures ok { OnOk result (names.new.keys ≡ with_entry_names names.old.keys entry.now) }
-    ensures err { IfErr result IsWant }
-{
-    match entry {
-        BranchEntry::Single { card, .. } => add_ends(names, &card.from, &card.to),
-        BranchEntry::Trio {
-            zero,
-            positive,
-            third,
-        } => {
-            add_ends(names, &zero.from, &zero.to)?;
-            add_ends(names, &positive.from, &positive.to)?;
-            add_ends(names, &third.from, &third.to)
         }
     }
 }

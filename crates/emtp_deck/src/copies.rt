@@ -6,10 +6,10 @@ ghost use Rattle.emtp_case.specs.Branch.{IsBranch};
 ghost use Rattle.emtp_case.specs.Sizes.{sizes_of};
 ghost use Rattle.emtp_deck.specs.Copies.{IsTaken, is_like, line_numbers, missing_fault, mode_numbers, mode_of_phase, no_trio, numbers_of_branch, numbers_of_card, phase_numbers, type_of_branch, type_of_values, values_from};
 
-use crate::names::node_number;
 use emtp_card::{Fault, Why};
 use emtp_case::{Branch, Draft, Name, Phase, Trio};
 use emtp_netcards::{BranchCard, BranchValues};
+use emtp_sense::node_number;
 use indexmap::IndexSet;
 
 /// Where a branch card's values come from.

@@ -7,11 +7,11 @@ ghost use Rattle.emtp_case.specs.Name.{IsName};
 ghost use Rattle.emtp_case.specs.RunData.{IsRun};
 ghost use Rattle.emtp_walk.specs.Answer.{IsWant};
 ghost use Rattle.emtp_deck.specs.Filling.{IsFilling, made_of};
-ghost use Rattle.emtp_deck.specs.Made.{empty_made, too_many};
-ghost use Rattle.emtp_deck.specs.Naming.{Continues};
+ghost use Rattle.emtp_deck.specs.Made.{empty_made};
+ghost use Rattle.emtp_sense.specs.Naming.{Continues};
 
 use crate::asked::Asked;
-use emtp_card::{Fault, Refused, Why};
+use emtp_card::Refused;
 use emtp_case::{Case, Draft, Name, RunData};
 use indexmap::IndexSet;
 use std::alloc::Global;
@@ -75,20 +75,6 @@ impl Filling {
 
 /// Drops a value by a call. Where a value of many lists is dropped in place, each of them is proved there anew.
 pub(crate) fn let_go<T: Drop>(_value: T) {}
-
-/// The fault of a limit by count that is exceeded, at this column.
-pub(crate) fn too_many(is: bool, column: u32) -> Option<Fault>
-    ensures { result ≡ too_many is column }
-{
-    if is {
-        Some(Fault {
-            column,
-            why: Why::TooMany,
-        })
-    } else {
-        None
-    }
-}
 
 /// Gives a draft the nodes that are new.
 pub(crate) fn add_nodes(draft: &mut Draft, nodes: &IndexSet<Name>) -> Result<(), Refused>

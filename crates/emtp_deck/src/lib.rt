@@ -1,9 +1,9 @@
 //! The deck: the case that the lines of a file give, or the one card that is refused.
 //!
 //! The cards are read first, line by line (`emtp_walk`); the first line with a fault of form decides. Then names are
-//! numbered and each card is judged among all others, again in the order of lines, and the records of the case are
-//! filled. The crate stands on the walk of `emtp_walk`, the lines of `emtp_card`, the cards of `emtp_netcards` and
-//! `emtp_taccards`, and the records of `emtp_case`.
+//! numbered and the cards of the control judged (`emtp_sense`), and those of the network are judged here, again in the
+//! order of lines, while the records of the case are filled. The crate stands on these two, on the lines of `emtp_card`,
+//! the cards of `emtp_netcards` and `emtp_taccards`, and the records of `emtp_case`.
 //!
 //! ```text
 //! let cards = Cards::split(alloc, &bytes)?;
@@ -15,18 +15,15 @@ mod asked;
 mod branches;
 mod channels;
 mod control_filling;
-mod control_sense;
 mod copies;
 mod filling;
 mod laws;
-mod names;
 mod outputs;
 mod reading;
 mod samples;
 mod sources;
 mod switches;
 mod tacs_outputs;
-mod variables;
 
 pub use asked::Asked;
 pub use branches::Counts;

@@ -8,11 +8,11 @@ ghost use Rattle.emtp_deck.specs.Outputs.{name_fault, node_channels, take_all_no
 
 use crate::asked::Asked;
 use crate::channels::no_room;
-use crate::filling::{Filling, too_many};
-use crate::names::find_node;
+use crate::filling::Filling;
 use emtp_card::{Fault, Refused, Why};
 use emtp_case::{Channel, Items, Name};
 use emtp_netcards::OutputCard;
+use emtp_sense::{find_node, too_many};
 use emtp_walk::OutputEntry;
 
 /// The fault of a name in a column, given the number of its node, if it is one.

@@ -12,21 +12,20 @@ ghost use Rattle.emtp_deck.specs.Deck.{case_of, control_made, deck_of, filled, i
 ghost use Rattle.emtp_deck.specs.Filling.{AreThere, Fills, IsFilling, made_of};
 ghost use Rattle.emtp_deck.specs.Made.{all_asked, count_asked, empty_made};
 ghost use Rattle.emtp_walk.specs.Sound.{IsSound, IsWhole};
-ghost use Rattle.emtp_deck.specs.Variables.{variable_names};
+ghost use Rattle.emtp_sense.specs.Variables.{variable_names};
 
 use crate::asked::Asked;
 use crate::branches::{pending_fault, take_branches};
 use crate::control_filling::{add_control, add_tacs_sources};
-use crate::control_sense::control_bad;
 use crate::filling::{Filling, let_go};
 use crate::outputs::take_outputs;
 use crate::samples::{has_too_many, samples_bad};
 use crate::sources::take_sources;
 use crate::switches::take_switches;
 use crate::tacs_outputs::take_tacs_outputs;
-use crate::variables::KnownNames;
 use emtp_card::{Bad, Cards, Refused, Why};
 use emtp_case::{Case, Channel, Draft, Name};
+use emtp_sense::{KnownNames, control_bad};
 use emtp_walk::{Deck, Place, walk};
 use indexmap::IndexSet;
 use std::alloc::Global;

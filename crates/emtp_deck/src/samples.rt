@@ -7,10 +7,10 @@ ghost use Rattle.emtp_deck.specs.Branches.{entry_count};
 ghost use Rattle.emtp_deck.specs.Samples.{count_of_entry, count_of_switch, count_of_variables, deck_count, has_too_many, name_count, output_count, pending_count, samples_bad};
 
 use crate::channels::{channel_count, switch_channel_count};
-use crate::variables::KnownNames;
 use emtp_card::{Bad, Why};
 use emtp_case::Name;
 use emtp_netcards::{OutputCard, SwitchCard};
+use emtp_sense::KnownNames;
 use emtp_walk::{BranchEntry, Deck, OutputEntry, Place, TacsOutputEntry};
 use indexmap::IndexSet;
 

@@ -6,12 +6,11 @@ ghost use Rattle.emtp_deck.specs.Filling.{Fills, IsFilling, made_of};
 ghost use Rattle.emtp_deck.specs.Sources.{driven_shape, driver_fault, is_second, node_fault, source_at, source_fault, take_source, take_sources, with_source};
 ghost use Rattle.emtp_netcards.specs.SourceCard.{HasSourceCardNumbers};
 
-use crate::filling::{Filling, too_many};
-use crate::names::find_node;
-use crate::variables::{unknown_name, variable_number};
+use crate::filling::Filling;
 use emtp_card::{Fault, Refused, Why, least};
 use emtp_case::{Draft, Name, Shape, Source};
 use emtp_netcards::SourceCard;
+use emtp_sense::{find_node, too_many, unknown_name, variable_number};
 use indexmap::IndexSet;
 
 /// Whether a card is the second voltage source of a node.

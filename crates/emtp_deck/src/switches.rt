@@ -6,19 +6,18 @@ ghost use Rattle.emtp_walk.specs.Answer.{IsWant};
 ghost use Rattle.emtp_deck.specs.Filling.{Fills, IsFilling, made_of};
 ghost use Rattle.emtp_deck.specs.Made.{count_asked};
 ghost use Rattle.emtp_deck.specs.Branches.{with_nodes};
-ghost use Rattle.emtp_deck.specs.Names.{node_number};
+ghost use Rattle.emtp_sense.specs.Names.{node_number};
 ghost use Rattle.emtp_deck.specs.Channels.{switch_channel_count};
-ghost use Rattle.emtp_deck.specs.ControlSensible.{IsKnown};
+ghost use Rattle.emtp_sense.specs.ControlSensible.{IsKnown};
 ghost use Rattle.emtp_deck.specs.Switches.{controlled_kind, switch_at, switch_fault, take_switch, take_switches, with_switch};
 ghost use Rattle.emtp_netcards.specs.SwitchCard.{HasSwitchNumbers};
 
 use crate::channels::{ask, ask_status, no_room, switch_channel_count};
-use crate::filling::{Filling, add_nodes, too_many};
-use crate::names::{add_ends, node_number};
-use crate::variables::{number_of, unknown_name};
+use crate::filling::{Filling, add_nodes};
 use emtp_card::{Fault, Refused, least};
 use emtp_case::{Channel, Name, Switch, SwitchKind};
 use emtp_netcards::SwitchCard;
+use emtp_sense::{add_ends, node_number, number_of, too_many, unknown_name};
 use indexmap::IndexSet;
 
 /// The faults of sense of a card, its own names among those of the nodes.

@@ -7,10 +7,10 @@ ghost use Rattle.emtp_deck.specs.TacsOutputs.{take_tacs_outputs, take_variable, 
 
 use crate::asked::Asked;
 use crate::channels::no_room;
-use crate::filling::{Filling, too_many};
-use crate::variables::find_variable;
+use crate::filling::Filling;
 use emtp_card::{Fault, Refused, Why};
 use emtp_case::{Channel, Name};
+use emtp_sense::{find_variable, too_many};
 use emtp_walk::TacsOutputEntry;
 
 /// The fault of a name in a column, given the number of its variable, if it is one.

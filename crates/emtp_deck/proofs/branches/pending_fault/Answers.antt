@@ -1,5 +1,5 @@
 use Rattle.std.proofs.Common.{◌∷◌, [], arith}
-use Rattle.emtp_deck.proofs.Naming.{all_named}
+use Rattle.emtp_sense.proofs.Naming.{all_named}
 use Rattle.emtp_deck.proofs.branches.pending_fault.Goals as goal
 
 pub pair_fault-requires : goal.pair_fault-requires

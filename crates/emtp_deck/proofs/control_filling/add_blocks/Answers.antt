@@ -1,7 +1,7 @@
 use Rattle.std.proofs.Common.{◌≡◌, ap, length, subst, sym}
 use Rattle.emtp_case.specs.Sizes.{sizes_of}
 use Rattle.emtp_walk.specs.Coefficients.{IsBlockEntry}
-use Rattle.emtp_deck.specs.ControlSensible.{IsSensibleBlock}
+use Rattle.emtp_sense.specs.ControlSensible.{IsSensibleBlock}
 use Rattle.emtp_deck.proofs.ControlRecords.{block_fits}
 use Rattle.emtp_deck.proofs.control_filling.add_blocks.Goals as goal
 

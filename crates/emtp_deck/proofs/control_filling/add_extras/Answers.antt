@@ -5,7 +5,7 @@ use Rattle.emtp_case.specs.HistoryValues.{history_values_of}
 use Rattle.emtp_case.specs.declared.case.Parts.{Parts}
 use Rattle.emtp_case.specs.declared.run_data.RunData.{RunData}
 use Rattle.emtp_deck.specs.ControlFilling.{with_extra}
-use Rattle.emtp_deck.specs.ControlSense.{entry_history_values}
+use Rattle.emtp_sense.specs.ControlSense.{entry_history_values}
 use Rattle.emtp_deck.proofs.ControlAdding.{extra_more, fold_next, next_history, next_sum, room_for, sum_front, sum_next}
 use Rattle.emtp_deck.proofs.control_filling.add_extras.Goals as goal
 

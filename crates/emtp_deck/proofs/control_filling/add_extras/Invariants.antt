@@ -2,7 +2,7 @@ use Rattle.std.proofs.Common.{◌≡◌, ◌+◌, take, fold, length}
 use Rattle.std.specs.List.{sum_by}
 use Rattle.emtp_case.specs.HistoryValues.{history_values_of}
 use Rattle.emtp_deck.specs.ControlFilling.{with_extra}
-use Rattle.emtp_deck.specs.ControlSense.{entry_history_values}
+use Rattle.emtp_sense.specs.ControlSense.{entry_history_values}
 use Rattle.emtp_deck.proofs.control_filling.add_extras.Given as goal
 
 abbrev pub invariant-loop-entry : goal.invariant-loop-entry

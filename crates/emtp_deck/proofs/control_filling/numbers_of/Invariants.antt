@@ -1,6 +1,6 @@
 use Rattle.std.proofs.Common.{◌≡◌, take}
 use Rattle.std.specs.Prelude.{map}
-use Rattle.emtp_deck.specs.Variables.{variable_number}
+use Rattle.emtp_sense.specs.Variables.{variable_number}
 use Rattle.emtp_deck.proofs.control_filling.numbers_of.Given as goal
 
 abbrev pub invariant-loop-name : goal.invariant-loop-name

@@ -1,9 +1,0 @@
-use Rattle.std.proofs.Common.{◌≡◌, ◌≤◌, drop}
-use Rattle.emtp_deck.specs.ControlSense.{blocks_bad}
-use Rattle.emtp_deck.proofs.control_sense.blocks_bad.Given as goal
-
-abbrev pub invariant-loop-entry : goal.invariant-loop-entry
-invariant-loop-entry l = record {
-  same : blocks_bad l.variables.keys 0 l.entries ≡ blocks_bad l.variables.keys l.at (drop l.entry-index l.entries);
-  few : l.at ≤ 200;
-}

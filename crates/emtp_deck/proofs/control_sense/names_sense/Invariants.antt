@@ -1,6 +1,0 @@
-use Rattle.std.proofs.Common.{◌≡◌, drop}
-use Rattle.emtp_deck.specs.ControlSense.{names_sense}
-use Rattle.emtp_deck.proofs.control_sense.names_sense.Given as goal
-
-abbrev pub invariant-loop-name : goal.invariant-loop-name
-invariant-loop-name l = names_sense l.variables.keys l.names ≡ names_sense l.variables.keys (drop l.name-index l.names)

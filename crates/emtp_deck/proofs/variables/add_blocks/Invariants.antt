@@ -1,6 +1,0 @@
-use Rattle.std.proofs.Common.{◌≡◌, fold, take}
-use Rattle.emtp_deck.specs.Variables.{with_block_name}
-use Rattle.emtp_deck.proofs.variables.add_blocks.Given as goal
-
-abbrev pub invariant-loop-entry : goal.invariant-loop-entry
-invariant-loop-entry l = l.names.keys ≡ fold with_block_name l.initial.names.keys (take l.entry-index l.entries)

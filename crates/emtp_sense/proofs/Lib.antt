@@ -1,0 +1,4 @@
+pub mod Naming
+pub mod Knowing
+pub mod Numbering
+pub mod ControlJudging
