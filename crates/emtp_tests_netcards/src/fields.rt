@@ -2,11 +2,11 @@
 
 ghost use Rattle.emtp_case.specs.RunData.{IsRun};
 
-use super::grid::branches::*;
-use super::grid::points::*;
-use super::grid::sources::*;
-use super::grid::switches::*;
-use super::grid::*;
+use crate::grid::branches::*;
+use crate::grid::points::*;
+use crate::grid::sources::*;
+use crate::grid::switches::*;
+use crate::grid::*;
 use emtp_card::{Bad, Line, Why};
 use emtp_case::{Point, RunData};
 use emtp_netcards::*;
