@@ -1,5 +1,6 @@
 //! Each cell of the grid, read.
 
+ghost use Rattle.std.specs.Prelude.{◌≤◌};
 ghost use Rattle.emtp_case.specs.RunData.{IsRun};
 
 use crate::grid::branches::*;
@@ -7,34 +8,23 @@ use crate::grid::points::*;
 use crate::grid::sources::*;
 use crate::grid::switches::*;
 use crate::grid::*;
-use emtp_card::{Bad, Line, Why};
+use emtp_card::{Bad, Line, Why, byte_at};
 use emtp_case::{Point, RunData};
 use emtp_netcards::*;
 use std::process::Abort;
 
-/// What reads a card.
-#[derive(Clone, Copy)]
-enum Reader {
-    First,
-    Second,
-    Tolerance,
-    Branch,
-    WideBranch,
-    ResistorPoint,
-    ReactorPoint,
-    TablePoint,
-    Times,
-    Switch,
-    Source,
-    Output,
-    Vintage,
+/// Each cell of each card is read as its row says.
+fn read_cards(rt: &impl Abort, cards: &[Card], cells: &[Cells]) {
+    for (reader, card) in cards {
+        read_cells(rt, *reader, card, cells);
+    }
 }
 
-/// Each row's card is read as the row says.
-fn read_grid(rt: &impl Abort, reader: Reader, card: &str, cells: &[Cells]) {
+fn read_cells(rt: &impl Abort, reader: Reader, card: &str, cells: &[Cells]) {
     for (first, last, texts, column, why) in cells {
         for text in *texts {
-            let bytes = with_text(rt, card, *first, *last, text);
+            assert!(rt; card.len() <= 90 && has_room(*first, *last, text));
+            let bytes = with_text(card, *first, *last, text);
             assert!(rt;
                 refusal_by(reader, &bytes) == refusal(*column, *why),
                 "{card}: {text} at {first}"
@@ -44,14 +34,32 @@ fn read_grid(rt: &impl Abort, reader: Reader, card: &str, cells: &[Cells]) {
 }
 
 /// A card with a text at the right end of its columns from `first` to `last`.
-fn with_text(rt: &impl Abort, base: &str, first: usize, last: usize, text: &str) -> [u8; 90] {
-    assert!(rt; base.len() <= 90);
-    assert!(rt; 1 <= first && first <= last && last <= 90 && text.len() <= last - first + 1);
+fn with_text(card: &str, first: usize, last: usize, text: &str) -> [u8; 90] {
     let mut bytes = [b' '; 90];
-    bytes[..base.len()].copy_from_slice(base.as_bytes());
-    bytes[first - 1..last].fill(b' ');
-    bytes[last - text.len()..last].copy_from_slice(text.as_bytes());
+    for at in 0..90 {
+        bytes[at] = byte_in(card, first, last, text, at + 1);
+    }
     bytes
+}
+
+fn byte_in(card: &str, first: usize, last: usize, text: &str, column: usize) -> u8
+    requires { 1 ≤ column }
+{
+    if column < first || last < column {
+        return byte_at(card.as_bytes(), column);
+    }
+    let text = text.as_bytes();
+    let behind = last - column;
+    if behind < text.len() {
+        text[text.len() - 1 - behind]
+    } else {
+        b' '
+    }
+}
+
+/// Whether the columns are some of a card, and have room for the text.
+fn has_room(first: usize, last: usize, text: &str) -> bool {
+    1 <= first && first <= last && last <= 90 && text.len() <= last - first + 1
 }
 
 fn refusal(column: u32, why: Option<Why>) -> Option<Bad> {
@@ -147,64 +155,124 @@ fn vintage_refusal(bytes: &[u8; 90]) -> Option<Bad> {
 }
 
 #[test]
-fn run_cards(rt: HostRuntime) {
-    read_grid(&rt, Reader::First, FIRST, FIRST_CELLS);
-    read_grid(&rt, Reader::Second, SECOND, SECOND_CELLS);
-    read_grid(&rt, Reader::Tolerance, TOLERANCE, TOLERANCE_CELLS);
+fn miscellaneous_cards(rt: HostRuntime) {
+    read_cards(&rt, RUN_CARDS, BESIDE);
+    read_cells(&rt, Reader::First, FIRST, FIRST_CELLS);
+    read_cells(&rt, Reader::Second, SECOND, SECOND_CELLS);
+    read_cells(&rt, Reader::Tolerance, TOLERANCE, TOLERANCE_CELLS);
+}
+
+#[test]
+fn output_cards(rt: HostRuntime) {
+    read_cells(&rt, Reader::Output, OUTPUT, OUTPUT_CELLS);
+}
+
+#[test]
+fn vintage_cards(rt: HostRuntime) {
+    read_cells(&rt, Reader::Vintage, VINTAGE, VINTAGE_CELLS);
+}
+
+#[test]
+fn ends_and_channels(rt: HostRuntime) {
+    read_ends(&rt, BRANCHES);
+    read_ends(&rt, &[(Reader::Branch, THIRD_PHASE)]);
+    read_ends(&rt, SWITCHES);
+}
+
+fn read_ends(rt: &impl Abort, cards: &[Card]) {
+    read_cards(rt, cards, ENDS);
+    read_cards(rt, cards, ASKED);
+}
+
+#[test]
+fn copied_values(rt: HostRuntime) {
+    read_cards(&rt, BRANCHES, COPIED);
 }
 
 #[test]
 fn series_branches(rt: HostRuntime) {
-    read_grid(&rt, Reader::Branch, SERIES, SERIES_CELLS);
-    read_grid(&rt, Reader::WideBranch, WIDE, WIDE_CELLS);
-    read_grid(&rt, Reader::Vintage, VINTAGE, VINTAGE_CELLS);
+    read_cells(&rt, Reader::Branch, SERIES, SERIES_CELLS);
+    read_cells(&rt, Reader::WideBranch, WIDE, WIDE_CELLS);
 }
 
 #[test]
 fn lines(rt: HostRuntime) {
-    read_grid(&rt, Reader::Branch, LINE, LINE_CELLS);
-    read_grid(&rt, Reader::Branch, VELOCITY, VELOCITY_CELLS);
-    read_grid(&rt, Reader::Branch, PER_LENGTH, PER_LENGTH_CELLS);
-    read_grid(&rt, Reader::Branch, SECOND_PHASE, SECOND_PHASE_CELLS);
-    read_grid(&rt, Reader::Branch, THIRD_PHASE, THIRD_PHASE_CELLS);
+    read_cells(&rt, Reader::Branch, LINE, &[(1, 2, &["-1"], 0, FIT)]);
+    read_cells(
+        &rt,
+        Reader::Branch,
+        SECOND_PHASE,
+        &[(1, 2, &["-2"], 0, FIT)],
+    );
+    read_cards(
+        &rt,
+        &[(Reader::Branch, LINE), (Reader::Branch, SECOND_PHASE)],
+        LINE_CELLS,
+    );
+}
+
+#[test]
+fn other_lines(rt: HostRuntime) {
+    read_cells(&rt, Reader::Branch, VELOCITY, VELOCITY_CELLS);
+    read_cells(&rt, Reader::Branch, PER_LENGTH, PER_LENGTH_CELLS);
+    read_cells(&rt, Reader::Branch, THIRD_PHASE, THIRD_PHASE_CELLS);
 }
 
 #[test]
 fn reactors_and_resistors(rt: HostRuntime) {
-    read_grid(&rt, Reader::Branch, REACTOR, REACTOR_CELLS);
-    read_grid(&rt, Reader::Branch, RESISTOR, RESISTOR_CELLS);
+    read_cells(&rt, Reader::Branch, REACTOR, REACTOR_CELLS);
+    read_cells(&rt, Reader::Branch, RESISTOR, RESISTOR_CELLS);
 }
 
 #[test]
 fn points(rt: HostRuntime) {
-    read_grid(&rt, Reader::ResistorPoint, POINT, POINT_CELLS);
-    read_grid(
+    read_cards(&rt, PAIRS, EACH_PAIR);
+    read_cells(&rt, Reader::ResistorPoint, POINT, POINT_CELLS);
+    read_cells(
         &rt,
         Reader::ReactorPoint,
         REACTOR_POINT,
         REACTOR_POINT_CELLS,
     );
-    read_grid(&rt, Reader::TablePoint, TABLE_POINT, TABLE_POINT_CELLS);
-    read_grid(&rt, Reader::Times, TIMES, TIMES_CELLS);
+    read_cards(
+        &rt,
+        &[
+            (Reader::ResistorPoint, POINT),
+            (Reader::ReactorPoint, REACTOR_POINT),
+        ],
+        CURRENT,
+    );
+}
+
+#[test]
+fn tables_and_times(rt: HostRuntime) {
+    read_cells(&rt, Reader::TablePoint, TABLE_POINT, TABLE_POINT_CELLS);
+    read_cells(&rt, Reader::Times, TIMES, TIMES_CELLS);
 }
 
 #[test]
 fn switches(rt: HostRuntime) {
-    read_grid(&rt, Reader::Switch, SWITCH, SWITCH_CELLS);
-    read_grid(&rt, Reader::Switch, MEASURING, MEASURING_CELLS);
-    read_grid(&rt, Reader::Switch, VALVE, VALVE_CELLS);
-    read_grid(&rt, Reader::Switch, CONTROL, CONTROL_CELLS);
+    read_cards(&rt, SWITCHES, UNREAD);
+    read_cells(&rt, Reader::Switch, SWITCH, SWITCH_CELLS);
+    read_cells(&rt, Reader::Switch, MEASURING, MEASURING_CELLS);
+}
+
+#[test]
+fn valves_and_controlled_switches(rt: HostRuntime) {
+    read_cells(&rt, Reader::Switch, VALVE, VALVE_CELLS);
+    read_cells(&rt, Reader::Switch, CONTROL, CONTROL_CELLS);
+}
+
+#[test]
+fn what_sources_have_alike(rt: HostRuntime) {
+    read_cards(&rt, SOURCES, EACH_SOURCE);
+    read_cards(&rt, AMPLITUDES, AMPLITUDE);
 }
 
 #[test]
 fn sources(rt: HostRuntime) {
-    read_grid(&rt, Reader::Source, SOURCE, SOURCE_CELLS);
-    read_grid(&rt, Reader::Source, RAMP, RAMP_CELLS);
-    read_grid(&rt, Reader::Source, COSINE, COSINE_CELLS);
-    read_grid(&rt, Reader::Source, DRIVEN, DRIVEN_CELLS);
-}
-
-#[test]
-fn output_cards(rt: HostRuntime) {
-    read_grid(&rt, Reader::Output, OUTPUT, OUTPUT_CELLS);
+    read_cells(&rt, Reader::Source, LEVEL, LEVEL_CELLS);
+    read_cells(&rt, Reader::Source, RAMP, RAMP_CELLS);
+    read_cells(&rt, Reader::Source, COSINE, COSINE_CELLS);
+    read_cells(&rt, Reader::Source, DRIVEN, DRIVEN_CELLS);
 }
