@@ -1,11 +1,15 @@
-//! The tests of the card readers, one module a crate.
+//! The tests of emtp_card: tables of lines, fields, numbers and faults. The answers are those of an independent program,
+//! and of the rules by hand.
 //!
-//! A crate with tests is proved twice, with and without them. So these stand above the crates that they test. A test
-//! calls public items alone. Its expected values are worked out by hand or come from another program, and never from
-//! the output of the code that it tests.
+//! A crate with tests is proved twice, with and without them. So these stand above the crate that they test. A test calls
+//! public items alone, and no expected value comes from the output of the code that it tests.
 #![tactic(auto)]
 
 #[cfg(test)]
-mod card;
+mod faults;
 #[cfg(test)]
-mod netcards;
+mod fields;
+#[cfg(test)]
+mod lines;
+#[cfg(test)]
+mod numbers;

@@ -1,4 +1,4 @@
-//! The tests of the laws of branches, sources and switches, and of what they stand on; one module a crate.
+//! The tests of the laws of branches and of what they stand on; one module a crate.
 //!
 //! A crate with tests is proved twice, with and without them. So they stand here, above the crates that they test, and
 //! each of those is proved once. A test calls public items alone. Its expected values are worked out by hand or come
@@ -7,6 +7,8 @@
 #![tactic(auto)]
 
 #[cfg(test)]
+mod fixtures;
+#[cfg(test)]
 mod hist;
 #[cfg(test)]
 mod line;
@@ -14,5 +16,3 @@ mod line;
 mod lumped;
 #[cfg(test)]
 mod pseudo;
-#[cfg(test)]
-mod wave;

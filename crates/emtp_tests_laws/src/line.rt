@@ -7,27 +7,16 @@ ghost use Rattle.emtp_case.specs.Sizes.{sizes_with};
 ghost use Rattle.emtp_case.specs.declared.branch.Line.{Line};
 ghost use Rattle.emtp_line.specs.Lines.{IsLineAt};
 
-use emtp_case::{Branch, Case, Draft, Line, Name, RunData};
+use crate::fixtures::{OUT, RUN, V, let_go, nodes};
+use emtp_case::{Branch, Case, Line};
 use emtp_line::Lines;
 use std::alloc::{AllocError, Global};
 use std::test::Fail;
 
 mod phases;
 
-const RUN: RunData = RunData {
-    dt: 100_000_000,
-    steps: 5,
-    every: 1,
-    tolerance: 10_000_000,
-};
-
-const V: i64 = 1_000_000_000;
-
 /// The greatest current in nA.
 const LARGEST: i128 = 1_000_000_000_000_000_000;
-
-/// What stands for a current that is out of range.
-const OUT: i64 = i64::MIN;
 
 /// 100 ohm without loss, two steps.
 #[tactic(auto, unfolding(emtp_fix::specs::Rounding::near, emtp_fix::specs::Rounding::near_abs))]
@@ -83,11 +72,14 @@ fn one_line(alloc: Global, line: Line) -> Result<Case, AllocError>
     requires history { branch_history_values RUN.dt (Branch.Line line) ≤ 100 }
     ensures { IfOk result (λ case. case.parts.branches ≡ Branch.Line line ∷ []) }
 {
-    let mut draft = Draft::new(alloc, RUN)?;
-    draft.add_node(Name::new(b"A"))?;
-    draft.add_node(Name::new(b"B"))?;
-    draft.add_branch(Branch::Line(line))?;
-    Ok(draft.finish_network())
+    let mut draft = nodes(alloc, 2)?;
+    match draft.add_branch(Branch::Line(line)) {
+        Ok(()) => Ok(draft.finish_network()),
+        Err(error) => {
+            let_go(draft);
+            Err(error)
+        }
+    }
 }
 
 /// The history currents before, the branch current, and the currents of both ends after.
@@ -102,93 +94,117 @@ fn step(lines: &mut Lines<'_>, voltages: (i64, i64)) -> Step
     (histories, current, lines.end_currents(0))
 }
 
-/// Five steps at these voltages of the ends.
-fn five_steps(alloc: Global, line: Line, voltages: [(i64, i64); 5]) -> Result<[Step; 5], AllocError>
+/// The voltages of the ends, and the step that they make.
+type Row = ((i64, i64), Step);
+
+/// The first row that a line doesn't step like.
+fn difference(alloc: Global, line: Line, rows: &[Row]) -> Result<Option<usize>, AllocError>
     requires fits { IsLine RUN (sizes_with 2) line }
     requires history { branch_history_values RUN.dt (Branch.Line line) ≤ 100 }
 {
     let case = one_line(alloc, line)?;
-    let mut lines = Lines::open(alloc, &case)?;
-    let first = step(&mut lines, voltages[0]);
-    let second = step(&mut lines, voltages[1]);
-    let third = step(&mut lines, voltages[2]);
-    let fourth = step(&mut lines, voltages[3]);
-    let fifth = step(&mut lines, voltages[4]);
-    Ok([first, second, third, fourth, fifth])
+    let found = walk(alloc, &case, rows);
+    let_go(case);
+    found
 }
+
+fn walk(alloc: Global, case: &Case, rows: &[Row]) -> Result<Option<usize>, AllocError>
+    requires { (x : Line) × IsLineAt case.now.parts 0 x }
+{
+    let mut lines = Lines::open(alloc, case)?;
+    let found = first_difference(&mut lines, rows);
+    let_go(lines);
+    Ok(found)
+}
+
+fn first_difference(lines: &mut Lines<'_>, rows: &[Row]) -> Option<usize>
+    requires { (x : Line) × IsLineAt lines.old.case 0 x }
+{
+    for at in 0..rows.len() {
+        let (voltages, (histories, current, ends)) = rows[at];
+        let found = step(lines, voltages);
+        if found.0 != histories || found.1 != current || found.2 != ends {
+            return Some(at);
+        }
+    }
+    None
+}
+
+const TWO_STEPS: &[Row] = &[
+    ((50 * V, 0), ((0, 0), V / 2, (V / 2, 0))),
+    ((50 * V, 0), ((0, 0), V / 2, (V / 2, 0))),
+    ((50 * V, 100 * V), ((0, -1_000_000_000), V / 2, (V / 2, 0))),
+    ((50 * V, 100 * V), ((0, -1_000_000_000), V / 2, (V / 2, 0))),
+    (
+        (100 * V, 100 * V),
+        ((-1_000_000_000, -1_000_000_000), 0, (0, 0)),
+    ),
+];
 
 #[test]
 fn waves_arrive_after_the_travel_time(rt: HostRuntime) -> Result<(), Fail> {
-    let voltages = [
-        (50 * V, 0),
-        (50 * V, 0),
-        (50 * V, 100 * V),
-        (50 * V, 100 * V),
-        (100 * V, 100 * V),
-    ];
-    let expected = [
-        ((0, 0), V / 2, (V / 2, 0)),
-        ((0, 0), V / 2, (V / 2, 0)),
-        ((0, -1_000_000_000), V / 2, (V / 2, 0)),
-        ((0, -1_000_000_000), V / 2, (V / 2, 0)),
-        ((-1_000_000_000, -1_000_000_000), 0, (0, 0)),
-    ];
-    assert_eq!(rt; five_steps(rt.alloc(), two_steps(), voltages)?, expected);
+    assert_eq!(rt; difference(rt.alloc(), two_steps(), TWO_STEPS)?, None);
     Ok(())
 }
 
+const TWO_AND_A_HALF: &[Row] = &[
+    ((50 * V, 0), ((0, 0), V / 2, (V / 2, 0))),
+    ((50 * V, 0), ((0, 0), V / 2, (V / 2, 0))),
+    ((50 * V, 50 * V), ((0, -500_000_000), V / 2, (V / 2, 0))),
+    ((50 * V, 100 * V), ((0, -1_000_000_000), V / 2, (V / 2, 0))),
+    (
+        (50 * V, 100 * V),
+        ((-250_000_000, -1_000_000_000), V / 4, (V / 4, 0)),
+    ),
+];
+
 #[test]
 fn waves_that_arrive_within_a_step_are_shared(rt: HostRuntime) -> Result<(), Fail> {
-    let voltages = [
-        (50 * V, 0),
-        (50 * V, 0),
-        (50 * V, 50 * V),
-        (50 * V, 100 * V),
-        (50 * V, 100 * V),
-    ];
-    let expected = [
-        ((0, 0), V / 2, (V / 2, 0)),
-        ((0, 0), V / 2, (V / 2, 0)),
-        ((0, -500_000_000), V / 2, (V / 2, 0)),
-        ((0, -1_000_000_000), V / 2, (V / 2, 0)),
-        ((-250_000_000, -1_000_000_000), V / 4, (V / 4, 0)),
-    ];
     assert_eq!(rt;
-        five_steps(rt.alloc(), two_and_a_half(), voltages)?,
-        expected
+        difference(rt.alloc(), two_and_a_half(), TWO_AND_A_HALF)?,
+        None
     );
     Ok(())
 }
 
-#[test]
-fn losses_take_of_the_waves(rt: HostRuntime) -> Result<(), Fail> {
-    let voltages = [
+const WITH_LOSSES: &[Row] = &[
+    (
         (123_456_789_012, -987_654_321),
-        (-55_555_555_555, 7),
-        (31, 100 * V),
-        (99_999_999_999, -3),
-        (-123_456_789, 77_777_777_777),
-    ];
-    let expected = [
         ((0, 0), 378_787_844, (378_787_844, -3_030_303)),
+    ),
+    (
+        (-55_555_555_555, 7),
         ((0, 0), -170_454_531, (-170_454_531, 0)),
+    ),
+    (
+        (31, 100 * V),
         (
             (-16_151_523, -455_091_764),
             -16_151_523,
             (-16_151_523, -148_273_608),
         ),
+    ),
+    (
+        (99_999_999_999, -3),
         (
             (374_210, -35_563_177),
             307_192_366,
             (307_192_366, -35_563_177),
         ),
+    ),
+    (
+        (-123_456_789, 77_777_777_777),
         (
             (-102_055_318, 112_853_823),
             -102_434_106,
             (-102_434_106, 351_490_167),
         ),
-    ];
-    assert_eq!(rt; five_steps(rt.alloc(), with_losses(), voltages)?, expected);
+    ),
+];
+
+#[test]
+fn losses_take_of_the_waves(rt: HostRuntime) -> Result<(), Fail> {
+    assert_eq!(rt; difference(rt.alloc(), with_losses(), WITH_LOSSES)?, None);
     Ok(())
 }
 
@@ -208,23 +224,23 @@ fn lead() -> Line
     }
 }
 
+/// 5 kV make 0.5 GA and a wave of 1 GA, which is the greatest; 1 nV more is too much, at either end.
+const GREATEST_WAVE: &[Row] = &[
+    ((5_000 * V + 1, 0), ((0, 0), OUT, (0, 0))),
+    ((0, 5_000 * V + 1), ((0, 0), OUT, (0, 0))),
+    (
+        (5_000 * V, 0),
+        ((0, 0), 500_000_000 * V, (500_000_000 * V, 0)),
+    ),
+    ((0, 0), ((0, -LARGEST), 0, (0, -1_000_000_000 * V))),
+    (
+        (0, 0),
+        ((LARGEST, 0), 1_000_000_000 * V, (1_000_000_000 * V, 0)),
+    ),
+];
+
 #[test]
 fn a_line_out_of_range_stays_as_it_was(rt: HostRuntime) -> Result<(), Fail> {
-    // 5 kV make 0.5 GA and a wave of 1 GA, which is the greatest; 1 nV more is too much, at either end
-    let voltages = [
-        (5_000 * V + 1, 0),
-        (0, 5_000 * V + 1),
-        (5_000 * V, 0),
-        (0, 0),
-        (0, 0),
-    ];
-    let expected = [
-        ((0, 0), OUT, (0, 0)),
-        ((0, 0), OUT, (0, 0)),
-        ((0, 0), 500_000_000 * V, (500_000_000 * V, 0)),
-        ((0, -LARGEST), 0, (0, -1_000_000_000 * V)),
-        ((LARGEST, 0), 1_000_000_000 * V, (1_000_000_000 * V, 0)),
-    ];
-    assert_eq!(rt; five_steps(rt.alloc(), lead(), voltages)?, expected);
+    assert_eq!(rt; difference(rt.alloc(), lead(), GREATEST_WAVE)?, None);
     Ok(())
 }

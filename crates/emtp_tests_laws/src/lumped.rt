@@ -1,7 +1,8 @@
 //! The worked branches: 1 ohm with an inductance or a capacitance at 100 V, stepped by 100 microseconds.
 
-ghost use Rattle.std.specs.Prelude.{◌≡◌, ◌≢◌, ◌+◌, ◌<◌, [], ◌∷◌, List, ℕ, None, length, IfOk, OnErr, IfErr};
+ghost use Rattle.std.specs.Prelude.{◌≡◌, ◌≢◌, ◌+◌, ◌<◌, [], ◌∷◌, List, ℕ, None, length, IfOk, OnOk, OnErr, IfErr};
 ghost use Rattle.emtp_case.specs.Branch.{IsLumped};
+ghost use Rattle.emtp_case.specs.Case.{empty_parts};
 ghost use Rattle.emtp_case.specs.Sizes.{sizes_with};
 ghost use Rattle.emtp_case.specs.StepRecord.{StepRecord};
 ghost use Rattle.emtp_case.specs.declared.branch.Lumped.{Lumped};
@@ -9,7 +10,8 @@ ghost use Rattle.emtp_case.specs.declared.branch.LumpedState.{LumpedState};
 ghost use Rattle.emtp_lumped.specs.Lumps.{IsSeries, StandsAt, StandsFor, HasMoved, next_of};
 ghost use Rattle.emtp_tests_laws.specs.Stepping.{voltage_of, HaveMoved, IsNext, IsFirstOut};
 
-use emtp_case::{Branch, Case, Draft, Lumped, Name, RunData};
+use crate::fixtures::{OUT, RUN, V, let_go, nodes};
+use emtp_case::{Branch, Case, Draft, Lumped};
 use emtp_fix::OutOfRange;
 use emtp_lumped::Lumps;
 use std::alloc::{AllocError, Global};
@@ -72,15 +74,6 @@ fn accept_all(
 
 // Cases.
 
-const RUN: RunData = RunData {
-    dt: 100_000_000,
-    steps: 3,
-    every: 1,
-    tolerance: 10_000_000,
-};
-
-const VOLT: i64 = 1_000_000_000;
-
 /// 1 ohm and 0.05 mH.
 #[tactic(auto, unfolding(emtp_fix::specs::Rounding::near, emtp_fix::specs::Rounding::near_abs, emtp_case::specs::Branch::capacitor_impedance))]
 fn coil() -> Lumped
@@ -141,37 +134,67 @@ fn all_parts() -> Lumped
     }
 }
 
-/// A case of two branches from SRC to ground.
+/// A case of two branches from a node to ground.
 fn two_branches(alloc: Global, first: Lumped, second: Lumped) -> Result<Case, AllocError>
     requires first { IsLumped RUN (sizes_with 1) first }
     requires second { IsLumped RUN (sizes_with 1) second }
     ensures branches { IfOk result (λ case. case.parts.branches ≡ Branch.Lumped first ∷ Branch.Lumped second ∷ []) }
     ensures nodes { IfOk result (λ case. length case.parts.nodes ≡ 1) }
 {
-    let mut draft = Draft::new(alloc, RUN)?;
-    draft.add_node(Name::new(b"SRC"))?;
-    draft.add_lumped(first)?;
-    draft.add_lumped(second)?;
-    Ok(draft.finish_network())
+    let mut draft = nodes(alloc, 1)?;
+    match add_branches(&mut draft, first, second) {
+        Ok(()) => Ok(draft.finish_network()),
+        Err(error) => {
+            let_go(draft);
+            Err(error)
+        }
+    }
 }
 
-/// What stands for a current that is out of range.
-const OUT: i64 = i64::MIN;
+fn add_branches(draft: &mut Draft, first: Lumped, second: Lumped) -> Result<(), AllocError>
+    requires empty { draft.old.parts ≡ record (empty_parts RUN) { nodes = draft.old.parts.nodes } }
+    requires nodes { length draft.old.parts.nodes ≡ 1 }
+    requires first { IsLumped RUN (sizes_with 1) first }
+    requires second { IsLumped RUN (sizes_with 1) second }
+    ensures { OnOk result (draft.new.parts ≡ record draft.old.parts { branches = Branch.Lumped first ∷ Branch.Lumped second ∷ [] }) }
+{
+    draft.add_lumped(first)?;
+    draft.add_lumped(second)
+}
 
-/// The history current before and the current after each of three steps at these voltages of the ends.
-fn three_steps(
-    alloc: Global,
-    branch: Lumped,
-    voltages: [(i64, i64); 3],
-) -> Result<[(i128, i64); 3], AllocError>
+/// The voltages of the ends; then the history current before the step, and the current after it.
+type Row = ((i64, i64), i128, i64);
+
+/// The first row that a branch doesn't step like.
+fn difference(alloc: Global, branch: Lumped, rows: &[Row]) -> Result<Option<usize>, AllocError>
     requires { IsLumped RUN (sizes_with 1) branch }
 {
     let case = two_branches(alloc, branch, branch)?;
-    let mut lumps = Lumps::open(alloc, &case)?;
-    let first = step(&mut lumps, voltages[0]);
-    let second = step(&mut lumps, voltages[1]);
-    let third = step(&mut lumps, voltages[2]);
-    Ok([first, second, third])
+    let found = walk(alloc, &case, rows);
+    let_go(case);
+    found
+}
+
+fn walk(alloc: Global, case: &Case, rows: &[Row]) -> Result<Option<usize>, AllocError>
+    requires { (x : Lumped) × IsSeries case.now.parts 0 x }
+{
+    let mut lumps = Lumps::open(alloc, case)?;
+    let found = first_difference(&mut lumps, rows);
+    let_go(lumps);
+    Ok(found)
+}
+
+fn first_difference(lumps: &mut Lumps<'_>, rows: &[Row]) -> Option<usize>
+    requires { (x : Lumped) × IsSeries lumps.old.case 0 x }
+{
+    for at in 0..rows.len() {
+        let (voltages, history, current) = rows[at];
+        let (before, after) = step(lumps, voltages);
+        if before != history || after != current {
+            return Some(at);
+        }
+    }
+    None
 }
 
 fn step(lumps: &mut Lumps<'_>, voltages: (i64, i64)) -> (i128, i64)
@@ -185,92 +208,98 @@ fn step(lumps: &mut Lumps<'_>, voltages: (i64, i64)) -> (i128, i64)
     )
 }
 
-const V: i64 = 1_000_000_000;
+const COIL: &[Row] = &[
+    ((100 * V, 0), 0, 50 * V),
+    ((100 * V, 0), 50_000_000_000, 100 * V),
+    ((100 * V, 0), 50_000_000_000, 100 * V),
+];
+
+const CAPACITOR: &[Row] = &[
+    ((100 * V, 0), 0, 50 * V),
+    ((100 * V, 0), -50_000_000_000, 0),
+    ((100 * V, 0), -50_000_000_000, 0),
+];
+
+const SHORT_LEAD: &[Row] = &[
+    ((100 * V, 0), 0, 9_999_900_001),
+    ((100 * V, 0), 199_996, 10_000_099_997),
+    ((100 * V, 0), 4, 9_999_900_005),
+];
+
+const ALL_PARTS: &[Row] = &[
+    ((123_456_789_012, -987_654_321), 0, 15_897_496_659),
+    ((-55_555_555_555, 7), -14_344_598_538, -21_441_695_325),
+    ((31, 100 * V), -7_433_275_679, -20_208_049_890),
+];
+
+/// A difference of voltages that 64 bits don't hold comes first.
+const FAR_ENDS: &[Row] = &[
+    ((i64::MAX, i64::MIN), 0, OUT),
+    ((100 * V, 0), 0, 50 * V),
+    ((V, V), 50_000_000_000, 50 * V),
+];
 
 #[test]
 fn worked_branches(rt: HostRuntime) -> Result<(), Fail> {
-    let steady = [(100 * V, 0); 3];
-    let uneven = [
-        (123_456_789_012, -987_654_321),
-        (-55_555_555_555, 7),
-        (31, 100 * V),
-    ];
-    // a difference of voltages that 64 bits don't hold
-    let far = [(i64::MAX, i64::MIN), (100 * V, 0), (V, V)];
-    let rows = [
-        (
-            coil(),
-            steady,
-            [
-                (0, 50 * V),
-                (50_000_000_000, 100 * V),
-                (50_000_000_000, 100 * V),
-            ],
-        ),
-        (
-            capacitor(),
-            steady,
-            [(0, 50 * V), (-50_000_000_000, 0), (-50_000_000_000, 0)],
-        ),
-        (
-            short_lead(),
-            steady,
-            [
-                (0, 9_999_900_001),
-                (199_996, 10_000_099_997),
-                (4, 9_999_900_005),
-            ],
-        ),
-        (
-            all_parts(),
-            uneven,
-            [
-                (0, 15_897_496_659),
-                (-14_344_598_538, -21_441_695_325),
-                (-7_433_275_679, -20_208_049_890),
-            ],
-        ),
-        (
-            coil(),
-            far,
-            [(0, OUT), (0, 50 * V), (50_000_000_000, 50 * V)],
-        ),
-    ];
-    for (branch, voltages, expected) in rows {
-        assert_eq!(rt; three_steps(rt.alloc(), branch, voltages)?, expected);
-    }
+    assert_eq!(rt; difference(rt.alloc(), coil(), COIL)?, None);
+    assert_eq!(rt; difference(rt.alloc(), capacitor(), CAPACITOR)?, None);
+    assert_eq!(rt; difference(rt.alloc(), short_lead(), SHORT_LEAD)?, None);
+    assert_eq!(rt; difference(rt.alloc(), all_parts(), ALL_PARTS)?, None);
+    assert_eq!(rt; difference(rt.alloc(), coil(), FAR_ENDS)?, None);
     Ok(())
+}
+
+/// The conductances of both branches.
+fn conductances_of(alloc: Global, case: &Case) -> Result<[i64; 2], AllocError>
+    requires first { (x : Lumped) × IsSeries case.now.parts 0 x }
+    requires second { (x : Lumped) × IsSeries case.now.parts 1 x }
+{
+    let lumps = Lumps::open(alloc, case)?;
+    let found = [lumps.conductance(0), lumps.conductance(1)];
+    let_go(lumps);
+    Ok(found)
 }
 
 #[test]
 fn conductances(rt: HostRuntime) -> Result<(), Fail> {
     let case = two_branches(rt.alloc(), coil(), short_lead())?;
-    let lumps = Lumps::open(rt.alloc(), &case)?;
-    assert_eq!(rt; lumps.conductance(0), 500_000_000_000);
+    let found = conductances_of(rt.alloc(), &case);
+    let_go(case);
     // 10^18 over 10,000,100 micro-ohm
-    assert_eq!(rt; lumps.conductance(1), 99_999_000_010);
+    assert_eq!(rt; found?, [500_000_000_000, 99_999_000_010]);
     Ok(())
+}
+
+/// What a step of both branches at 100 V answers, their currents, and what the next answers at 5 GV.
+fn steps_of_both(
+    alloc: Global,
+    case: &Case,
+) -> Result<(Result<(), usize>, [i64; 2], Result<(), usize>), AllocError>
+    requires nodes { length case.now.parts.nodes ≡ 1 }
+    requires branches { length case.now.parts.branches ≡ 2 }
+{
+    let mut lumps = Lumps::open(alloc, case)?;
+    let mut currents = [0; 2];
+    let near = accept_all(case, &mut lumps, &[0, 100 * V], &mut currents);
+    let far = accept_all(
+        case,
+        &mut lumps,
+        &[0, 5_000_000_000_000_000_000],
+        &mut [0; 2],
+    );
+    let_go(lumps);
+    Ok((near, currents, far))
 }
 
 #[test]
 fn all_branches_step_by_step(rt: HostRuntime) -> Result<(), Fail> {
     let case = two_branches(rt.alloc(), short_lead(), coil())?;
-    let mut lumps = Lumps::open(rt.alloc(), &case)?;
-    let mut currents = [0; 2];
-    assert_eq!(rt;
-        accept_all(&case, &mut lumps, &[0, 100 * V], &mut currents),
-        Ok(())
-    );
+    let found = steps_of_both(rt.alloc(), &case);
+    let_go(case);
+    let (near, currents, far) = found?;
+    assert_eq!(rt; near, Ok(()));
     assert_eq!(rt; currents, [9_999_900_001, 50 * V]);
-    // 5 GV: 0.5 GA through the short lead is in range, 2.5 GA through the coil isn't
-    assert_eq!(rt;
-        accept_all(
-            &case,
-            &mut lumps,
-            &[0, 5_000_000_000_000_000_000],
-            &mut currents
-        ),
-        Err(1)
-    );
+    // 0.5 GA through the short lead is in range, 2.5 GA through the coil isn't
+    assert_eq!(rt; far, Err(1));
     Ok(())
 }

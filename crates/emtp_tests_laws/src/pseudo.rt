@@ -7,7 +7,8 @@ ghost use Rattle.emtp_case.specs.declared.branch.Pseudo.{Pseudo};
 ghost use Rattle.emtp_pseudo.specs.Pseudos.{IsPseudoAt, Moves, StandsAt, next_history_current, present};
 ghost use Rattle.emtp_pseudo.specs.declared.moment.Moment.{Moment};
 
-use emtp_case::{Branch, Case, Draft, Name, Point, Pseudo, RunData};
+use crate::fixtures::{RUN, V, let_go, nodes};
+use emtp_case::{Branch, Case, Point, Pseudo};
 use emtp_fix::OutOfRange;
 use emtp_pseudo::Pseudos;
 use std::alloc::{AllocError, Global};
@@ -43,14 +44,7 @@ fn step(pseudos: &mut Pseudos<'_>, branch: usize, v: i64, w: i64) -> BranchStep
 
 // Cases.
 
-const RUN: RunData = RunData {
-    dt: 100_000_000,
-    steps: 3,
-    every: 1,
-    tolerance: 10_000_000,
-};
-
-/// A case of one branch from SRC to ground.
+/// A case of one branch from a node to ground.
 fn one_branch(alloc: Global, reactor: bool, points: &[Point]) -> Result<Case, AllocError>
     requires some { 1 ≤ length points.now }
     requires few { length points.now ≤ 64 }
@@ -65,10 +59,14 @@ fn one_branch(alloc: Global, reactor: bool, points: &[Point]) -> Result<Case, Al
         first: 0,
         count: 0,
     };
-    let mut draft = Draft::new(alloc, RUN)?;
-    draft.add_node(Name::new(b"SRC"))?;
-    draft.add_pseudo(branch, points)?;
-    Ok(draft.finish_network())
+    let mut draft = nodes(alloc, 1)?;
+    match draft.add_pseudo(branch, points) {
+        Ok(()) => Ok(draft.finish_network()),
+        Err(error) => {
+            let_go(draft);
+            Err(error)
+        }
+    }
 }
 
 /// 0.01 Wb at 1 A, and 0.02 Wb at 11 A.
@@ -160,34 +158,187 @@ fn difference(
     requires characteristic { IsCharacteristic reactor RUN.dt points.now }
 {
     let case = one_branch(alloc, reactor, points)?;
-    let mut pseudos = Pseudos::open(alloc, &case)?;
-    for at in 0..rows.len() {
-        let (v, w, conductance, history_current, current, segment) = rows[at];
-        let step = step(&mut pseudos, 0, v, w);
-        let companion = step.conductance == conductance && step.history_current == history_current;
-        if !(companion && step.current == current && step.segment == segment) {
-            return Ok(Some(at));
-        }
-    }
-    Ok(None)
+    let found = walk(alloc, &case, rows);
+    let_go(case);
+    found
 }
 
-const V: i64 = 1_000_000_000;
+fn walk(alloc: Global, case: &Case, rows: &[Row]) -> Result<Option<usize>, AllocError>
+    requires { (x : Pseudo) × IsPseudoAt case.now.parts 0 x }
+{
+    let mut pseudos = Pseudos::open(alloc, case)?;
+    let found = first_difference(&mut pseudos, rows);
+    let_go(pseudos);
+    Ok(found)
+}
+
+fn first_difference(pseudos: &mut Pseudos<'_>, rows: &[Row]) -> Option<usize>
+    requires { (x : Pseudo) × IsPseudoAt pseudos.old.case 0 x }
+{
+    for at in 0..rows.len() {
+        let (v, w, conductance, history_current, current, segment) = rows[at];
+        let step = step(pseudos, 0, v, w);
+        let companion = step.conductance == conductance && step.history_current == history_current;
+        if !(companion && step.current == current && step.segment == segment) {
+            return Some(at);
+        }
+    }
+    None
+}
+
+/// The second step leaves the first segment and keeps its slope; the third has the new one.
+const SATURATING: &[Row] = &[
+    (100 * V, 0, 5_000_000_000, 0, Ok(V / 2), 0),
+    (100 * V, 0, 5_000_000_000, 1_000_000_000, Ok(V + V / 2), 1),
+    (100 * V, 0, 50_000_000_000, 11_000_000_000, Ok(16 * V), 1),
+];
+
+/// The voltages that a source of 126 V gives it: (126 - 105) / 10 ohm is 2.1 A, and (126 - 56) / 10 ohm is 7 A.
+const BEHIND_TEN_OHMS: &[Row] = &[
+    (105 * V, 0, 20_000_000_000, 0, Ok(2_100_000_000), 1),
+    (56 * V, 0, 1_000_000_000_000, -49_000_000_000, Ok(7 * V), 1),
+    (56 * V, 0, 1_000_000_000_000, -49_000_000_000, Ok(7 * V), 1),
+];
+
+/// One row has a difference of voltages that 64 bits don't hold, and the next goes on from before it.
+const UNEVEN_REACTOR: &[Row] = &[
+    (150 * V, 1, 624_999_994, 0, Ok(93_749_999), 0),
+    (7, -90 * V, 624_999_994, 187_499_998, Ok(243_749_997), 1),
+    (
+        60 * V,
+        60 * V,
+        22_500_000_811,
+        6_479_012_574,
+        Ok(6_479_012_574),
+        2,
+    ),
+    (
+        -123_456_789_012,
+        0,
+        1_698_112_831_911,
+        397_041_611_998,
+        Ok(187_398_054_390),
+        2,
+    ),
+    (
+        -200 * V,
+        0,
+        1_698_112_831_911,
+        -22_245_503_231,
+        Ok(-361_868_069_613),
+        1,
+    ),
+    (
+        -150 * V,
+        V,
+        22_500_000_811,
+        -8_076_543_457,
+        Ok(-11_474_043_579),
+        0,
+    ),
+    (0, 111 * V, 624_999_994, -293_070_983, Ok(-362_445_982), -1),
+    (
+        31,
+        0,
+        22_500_000_811,
+        -11_224_568_251,
+        Ok(-11_224_568_250),
+        -2,
+    ),
+    (
+        i64::MAX,
+        i64::MIN,
+        1_698_112_831_911,
+        -755_196_665_171,
+        Err(OutOfRange),
+        -2,
+    ),
+    (
+        90 * V,
+        0,
+        1_698_112_831_911,
+        -755_196_665_171,
+        Ok(-602_366_510_299),
+        -2,
+    ),
+];
+
+/// An end belongs to both of its segments.
+const UNEVEN_RESISTOR: &[Row] = &[
+    (45_678_901_234, 0, 2_702_709_255, 0, Ok(123_456_789), 0),
+    (50 * V, 1, 2_702_709_255, 0, Ok(135_135_463), 1),
+    (
+        58 * V,
+        0,
+        100_009_000_810,
+        -4_444_844_482,
+        Ok(1_355_677_565),
+        2,
+    ),
+    (
+        i64::MAX,
+        i64::MIN,
+        6_920_702_589_727,
+        -391_785_296_914,
+        Err(OutOfRange),
+        2,
+    ),
+    (
+        61 * V,
+        0,
+        6_920_702_589_727,
+        -391_785_296_914,
+        Ok(30_377_561_059),
+        2,
+    ),
+    (
+        -46 * V,
+        0,
+        6_920_702_589_727,
+        -391_785_296_914,
+        Ok(-710_137_616_041),
+        1,
+    ),
+    (
+        -46 * V,
+        3,
+        100_009_000_810,
+        -4_444_844_482,
+        Ok(-9_045_258_520),
+        0,
+    ),
+    (V, 47 * V, 2_702_709_255, 0, Ok(-124_324_626), -1),
+    (
+        0,
+        58 * V,
+        100_009_000_810,
+        4_444_844_482,
+        Ok(-1_355_677_565),
+        -2,
+    ),
+    (
+        -61 * V,
+        0,
+        6_920_702_589_727,
+        391_785_296_914,
+        Ok(-30_377_561_059),
+        -2,
+    ),
+    (
+        -V,
+        0,
+        6_920_702_589_727,
+        391_785_296_914,
+        Ok(384_864_594_324),
+        -1,
+    ),
+    (0, 0, 100_009_000_810, 4_444_844_482, Ok(4_444_844_482), 0),
+];
 
 #[test]
 fn saturating_reactor(rt: HostRuntime) -> Result<(), Fail> {
-    // the second step leaves the first segment and keeps its slope; the third has the new one
     assert_eq!(rt;
-        difference(
-            rt.alloc(),
-            true,
-            &saturation(),
-            &[
-                (100 * V, 0, 5_000_000_000, 0, Ok(V / 2), 0),
-                (100 * V, 0, 5_000_000_000, 1_000_000_000, Ok(V + V / 2), 1),
-                (100 * V, 0, 50_000_000_000, 11_000_000_000, Ok(16 * V), 1),
-            ],
-        )?,
+        difference(rt.alloc(), true, &saturation(), SATURATING)?,
         None
     );
     Ok(())
@@ -195,18 +346,8 @@ fn saturating_reactor(rt: HostRuntime) -> Result<(), Fail> {
 
 #[test]
 fn arrester_behind_ten_ohms(rt: HostRuntime) -> Result<(), Fail> {
-    // the voltages that a source of 126 V gives it: (126 - 105) / 10 ohm is 2.1 A, and (126 - 56) / 10 ohm is 7 A
     assert_eq!(rt;
-        difference(
-            rt.alloc(),
-            false,
-            &arrester(),
-            &[
-                (105 * V, 0, 20_000_000_000, 0, Ok(2_100_000_000), 1),
-                (56 * V, 0, 1_000_000_000_000, -49_000_000_000, Ok(7 * V), 1),
-                (56 * V, 0, 1_000_000_000_000, -49_000_000_000, Ok(7 * V), 1),
-            ],
-        )?,
+        difference(rt.alloc(), false, &arrester(), BEHIND_TEN_OHMS)?,
         None
     );
     Ok(())
@@ -214,151 +355,13 @@ fn arrester_behind_ten_ohms(rt: HostRuntime) -> Result<(), Fail> {
 
 #[test]
 fn uneven_numbers(rt: HostRuntime) -> Result<(), Fail> {
-    // one row has a difference of voltages that 64 bits don't hold, and the next goes on from before it
     assert_eq!(rt;
-        difference(
-            rt.alloc(),
-            true,
-            &uneven_reactor(),
-            &[
-                (150 * V, 1, 624_999_994, 0, Ok(93_749_999), 0),
-                (7, -90 * V, 624_999_994, 187_499_998, Ok(243_749_997), 1),
-                (
-                    60 * V,
-                    60 * V,
-                    22_500_000_811,
-                    6_479_012_574,
-                    Ok(6_479_012_574),
-                    2,
-                ),
-                (
-                    -123_456_789_012,
-                    0,
-                    1_698_112_831_911,
-                    397_041_611_998,
-                    Ok(187_398_054_390),
-                    2,
-                ),
-                (
-                    -200 * V,
-                    0,
-                    1_698_112_831_911,
-                    -22_245_503_231,
-                    Ok(-361_868_069_613),
-                    1,
-                ),
-                (
-                    -150 * V,
-                    V,
-                    22_500_000_811,
-                    -8_076_543_457,
-                    Ok(-11_474_043_579),
-                    0,
-                ),
-                (0, 111 * V, 624_999_994, -293_070_983, Ok(-362_445_982), -1),
-                (
-                    31,
-                    0,
-                    22_500_000_811,
-                    -11_224_568_251,
-                    Ok(-11_224_568_250),
-                    -2,
-                ),
-                (
-                    i64::MAX,
-                    i64::MIN,
-                    1_698_112_831_911,
-                    -755_196_665_171,
-                    Err(OutOfRange),
-                    -2,
-                ),
-                (
-                    90 * V,
-                    0,
-                    1_698_112_831_911,
-                    -755_196_665_171,
-                    Ok(-602_366_510_299),
-                    -2,
-                ),
-            ],
-        )?,
+        difference(rt.alloc(), true, &uneven_reactor(), UNEVEN_REACTOR)?,
         None
     );
-    assert_eq!(rt; difference(
-        rt.alloc(),
-        false,
-        &uneven_resistor(),
-        &[
-            // an end belongs to both of its segments
-            (45_678_901_234, 0, 2_702_709_255, 0, Ok(123_456_789), 0),
-            (50 * V, 1, 2_702_709_255, 0, Ok(135_135_463), 1),
-            (
-                58 * V,
-                0,
-                100_009_000_810,
-                -4_444_844_482,
-                Ok(1_355_677_565),
-                2,
-            ),
-            (
-                i64::MAX,
-                i64::MIN,
-                6_920_702_589_727,
-                -391_785_296_914,
-                Err(OutOfRange),
-                2,
-            ),
-            (
-                61 * V,
-                0,
-                6_920_702_589_727,
-                -391_785_296_914,
-                Ok(30_377_561_059),
-                2,
-            ),
-            (
-                -46 * V,
-                0,
-                6_920_702_589_727,
-                -391_785_296_914,
-                Ok(-710_137_616_041),
-                1,
-            ),
-            (
-                -46 * V,
-                3,
-                100_009_000_810,
-                -4_444_844_482,
-                Ok(-9_045_258_520),
-                0,
-            ),
-            (V, 47 * V, 2_702_709_255, 0, Ok(-124_324_626), -1),
-            (
-                0,
-                58 * V,
-                100_009_000_810,
-                4_444_844_482,
-                Ok(-1_355_677_565),
-                -2,
-            ),
-            (
-                -61 * V,
-                0,
-                6_920_702_589_727,
-                391_785_296_914,
-                Ok(-30_377_561_059),
-                -2,
-            ),
-            (
-                -V,
-                0,
-                6_920_702_589_727,
-                391_785_296_914,
-                Ok(384_864_594_324),
-                -1,
-            ),
-            (0, 0, 100_009_000_810, 4_444_844_482, Ok(4_444_844_482), 0),
-        ],
-    )?, None);
+    assert_eq!(rt;
+        difference(rt.alloc(), false, &uneven_resistor(), UNEVEN_RESISTOR)?,
+        None
+    );
     Ok(())
 }

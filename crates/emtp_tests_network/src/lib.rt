@@ -1,5 +1,5 @@
-//! The tests of the network's parts above the laws of single branches: switches, rows and the network's step; one module
-//! a crate.
+//! The tests of the network's parts beside and above the laws of single branches: sources, switches and rows; one module a
+//! crate.
 //!
 //! A crate with tests is proved twice, with and without them. So they stand here, above the crates that they test, and
 //! each of those is proved once. A test calls public items alone. Its expected values are worked out by hand or come
@@ -13,3 +13,5 @@ mod fixtures;
 mod rows;
 #[cfg(test)]
 mod switch;
+#[cfg(test)]
+mod wave;

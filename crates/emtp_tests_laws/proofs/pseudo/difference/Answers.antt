@@ -1,10 +1,9 @@
-use Rattle.std.proofs.Common.{◌∙◌, ap, List, length, slice_get}
+use Rattle.std.proofs.Common.{ap, List, length, slice_get}
 use Rattle.emtp_case.specs.declared.branch.Branch.{Branch}
 use Rattle.emtp_case.specs.declared.branch.Pseudo.{Pseudo}
-use Rattle.emtp_case.specs.declared.case.Parts.{Parts}
 use Rattle.emtp_tests_laws.proofs.pseudo.difference.Goals as goal
 
-pub loop-at-init : goal.loop-at-init
-loop-at-init c =
+pub walk-found-requires : goal.walk-found-requires
+walk-found-requires c =
     let x : Pseudo = record { line = 4; «from» = 1; to = 0; reactor = c.args.reactor; first = 0; count = length c.args.points.now } in
-    (x, ap (λ (p : Parts). slice_get p.branches 0) c.in_ok-pseudos.ensures.case ∙ ap (λ (bs : List Branch). slice_get bs 0) c.in_ok-case.ensures)
+    (x, ap (λ (bs : List Branch). slice_get bs 0) c.in_ok-case.ensures)

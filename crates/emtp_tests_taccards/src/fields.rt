@@ -1,6 +1,6 @@
 //! Each cell of the grid, read.
 
-use super::grid::*;
+use crate::grid::*;
 use emtp_card::{Bad, Line, Refused, Why};
 use emtp_taccards::*;
 use std::alloc::Global;

@@ -3,7 +3,8 @@
 //! beside it; of each card three faults at once, each mended in turn.
 //!
 //! A row replaces the columns from the first to the last number by each of its texts, at their right end. `FIT` rows are
-//! taken, the others refused in this column for this reason. The answers are those of an independent program.
+//! taken, the others refused in this column for this reason. Rows that several cards have alike stand once, beside a table of
+//! these cards. The answers are those of an independent program.
 
 use emtp_card::Why;
 
@@ -11,6 +12,27 @@ pub mod branches;
 pub mod points;
 pub mod sources;
 pub mod switches;
+
+/// What reads a card.
+#[derive(Clone, Copy)]
+pub enum Reader {
+    First,
+    Second,
+    Tolerance,
+    Branch,
+    WideBranch,
+    ResistorPoint,
+    ReactorPoint,
+    TablePoint,
+    Times,
+    Switch,
+    Source,
+    Output,
+    Vintage,
+}
+
+/// What reads a card, and the card.
+pub type Card = (Reader, &'static str);
 
 /// Columns, the texts that they get, and the refusal of the card.
 pub type Cells = (usize, usize, &'static [&'static str], u32, Option<Why>);
@@ -38,6 +60,33 @@ pub const BYTE: Option<Why> = Some(Why::ByteOutside);
 
 pub const PAST: Option<Why> = Some(Why::PastColumn80);
 
+/// The miscellaneous cards.
+pub const RUN_CARDS: &[Card] = &[
+    (Reader::First, FIRST),
+    (Reader::Second, SECOND),
+    (Reader::Tolerance, TOLERANCE),
+];
+
+/// The byte and the column that no card has.
+pub const BESIDE: &[Cells] = &[(79, 79, &["\t"], 79, BYTE), (81, 81, &["!"], 81, PAST)];
+
+/// The names of the ends of a branch or a switch.
+pub const ENDS: &[Cells] = &[
+    (3, 8, &["", "ABCDEF"], 0, FIT),
+    (3, 8, &["A,B", " ,"], 3, NAME),
+    (9, 14, &["", "ABCDEF"], 0, FIT),
+    (9, 14, &["A,B", " ,", "SRC   "], 9, NAME),
+];
+
+/// The channels that a branch or a switch asks for, and what stands beside them.
+pub const ASKED: &[Cells] = &[
+    (79, 79, &["\t"], 79, BYTE),
+    (80, 80, &["", "0", "1", "2", "3"], 0, FIT),
+    (80, 80, &["x", "-", "+", "."], 80, WHOLE),
+    (80, 80, &["4", "9"], 80, OUT),
+    (81, 81, &["!"], 81, PAST),
+];
+
 /// The first miscellaneous card.
 pub const FIRST: &str = "   1.E-4   3.E-4";
 
@@ -57,8 +106,6 @@ pub const FIRST_CELLS: &[Cells] = &[
     (25, 32, &["x", "-", "1 1"], 25, NAN),
     (25, 32, &["1E999", "-1.", "1.", ".5000000"], 25, OUT),
     (33, 33, &["x"], 0, FIT),
-    (79, 79, &["\t"], 79, BYTE),
-    (81, 81, &["!"], 81, PAST),
     (1, 24, &["       x      0.      1."], 1, NAN),
     (1, 24, &["   1.E-4      0.      1."], 9, OUT),
     (1, 24, &["   1.E-4   3.E-4      1."], 17, OUT),
@@ -77,8 +124,6 @@ pub const SECOND_CELLS: &[Cells] = &[
     (9, 16, &["x", "-", "1.", "1 1", "1E999"], 9, WHOLE),
     (9, 16, &["-1", "1000001"], 9, OUT),
     (17, 17, &["x"], 0, FIT),
-    (79, 79, &["\t"], 79, BYTE),
-    (81, 81, &["!"], 81, PAST),
 ];
 
 /// The card of the tolerance.
@@ -90,8 +135,6 @@ pub const TOLERANCE_CELLS: &[Cells] = &[
     (25, 32, &["x", "-", "1 1"], 25, NAN),
     (25, 32, &["1E999", "", "-1.-9", "1000.001"], 25, OUT),
     (33, 33, &["x"], 0, FIT),
-    (79, 79, &["\t"], 79, BYTE),
-    (81, 81, &["!"], 81, PAST),
 ];
 
 /// An output card.

@@ -2,16 +2,23 @@
 
 use super::*;
 
+/// The switch cards.
+pub const SWITCHES: &[Card] = &[
+    (Reader::Switch, SWITCH),
+    (Reader::Switch, MEASURING),
+    (Reader::Switch, VALVE),
+    (Reader::Switch, CONTROL),
+];
+
+/// A column that no switch has.
+pub const UNREAD: &[Cells] = &[(79, 79, &["x"], 0, FIT)];
+
 /// A time switch.
 pub const SWITCH: &str = "  SRC   MID";
 
 pub const SWITCH_CELLS: &[Cells] = &[
     (1, 2, &["", "0", "-0", "+0"], 0, FIT),
     (1, 2, &["x", "1", "12", "99", "-"], 1, TYPE),
-    (3, 8, &["", "ABCDEF"], 0, FIT),
-    (3, 8, &["A,B", " ,"], 3, NAME),
-    (9, 14, &["", "ABCDEF"], 0, FIT),
-    (9, 14, &["A,B", " ,", "SRC   "], 9, NAME),
     (15, 24, &["1E999", "", "-1000000.", "1000000."], 0, FIT),
     (15, 24, &[".500000000", "        1.", "-1000000.1"], 0, FIT),
     (15, 24, &["1000000.01"], 0, FIT),
@@ -29,12 +36,6 @@ pub const SWITCH_CELLS: &[Cells] = &[
     (55, 64, &["MEASURING", "MEASURING ", ""], 0, FIT),
     (55, 64, &["MEASURE", "measuring", "MEASURINGS"], 55, NAME),
     (65, 65, &["x"], 0, FIT),
-    (79, 79, &["x"], 0, FIT),
-    (79, 79, &["\t"], 79, BYTE),
-    (80, 80, &["", "0", "3", "1", "2"], 0, FIT),
-    (80, 80, &["x", "-", "+", "."], 80, WHOLE),
-    (80, 80, &["4", "9"], 80, OUT),
-    (81, 81, &["!"], 81, PAST),
     (
         9,
         64,
@@ -71,19 +72,9 @@ pub const MEASURING: &str = "  SRC   MID            x         x         x       
 pub const MEASURING_CELLS: &[Cells] = &[
     (1, 2, &["", "0"], 0, FIT),
     (1, 2, &["x", "-", "1."], 1, TYPE),
-    (3, 8, &["", "ABCDEF"], 0, FIT),
-    (3, 8, &["A,B", " ,"], 3, NAME),
-    (9, 14, &["", "ABCDEF"], 0, FIT),
-    (9, 14, &["A,B", " ,", "SRC   "], 9, NAME),
     (55, 64, &["MEASURING"], 0, FIT),
     (55, 64, &[""], 15, NAN),
     (65, 65, &["x"], 0, FIT),
-    (79, 79, &["x"], 0, FIT),
-    (79, 79, &["\t"], 79, BYTE),
-    (80, 80, &["", "0", "1", "2", "3"], 0, FIT),
-    (80, 80, &["x", "-", "+", "."], 80, WHOLE),
-    (80, 80, &["4", "9"], 80, OUT),
-    (81, 81, &["!"], 81, PAST),
 ];
 
 /// A valve.
@@ -92,10 +83,6 @@ pub const VALVE: &str = "11SRC   MID";
 pub const VALVE_CELLS: &[Cells] = &[
     (1, 2, &["11"], 0, FIT),
     (1, 2, &["x", "-", "1.", "10", "12"], 1, TYPE),
-    (3, 8, &["", "ABCDEF"], 0, FIT),
-    (3, 8, &["A,B", " ,"], 3, NAME),
-    (9, 14, &["", "ABCDEF"], 0, FIT),
-    (9, 14, &["A,B", " ,", "SRC   "], 9, NAME),
     (15, 24, &["", "0.", "1.+9", ".500000000"], 0, FIT),
     (15, 24, &["        1."], 0, FIT),
     (15, 24, &["x", "-", "1 1"], 15, NAN),
@@ -109,12 +96,6 @@ pub const VALVE_CELLS: &[Cells] = &[
     (65, 70, &["", "PLUS1"], 0, FIT),
     (65, 70, &["A,B", ","], 65, NAME),
     (71, 71, &["x"], 0, FIT),
-    (79, 79, &["x"], 0, FIT),
-    (79, 79, &["\t"], 79, BYTE),
-    (80, 80, &["", "0", "1", "2", "3"], 0, FIT),
-    (80, 80, &["x", "-", "+", "."], 80, WHOLE),
-    (80, 80, &["4", "9"], 80, OUT),
-    (81, 81, &["!"], 81, PAST),
     (3, 34, &["A,B   MID            -       1 1"], 3, NAME),
     (3, 34, &["SRC   MID            -       1 1"], 15, NAN),
     (3, 34, &["SRC   MID                    1 1"], 25, NAN),
@@ -131,10 +112,6 @@ pub const CONTROL_CELLS: &[Cells] = &[
     (1, 14, &[" xA,B        ,"], 1, TYPE),
     (1, 14, &["13A,B        ,"], 3, NAME),
     (1, 14, &["13SRC        ,"], 9, NAME),
-    (3, 8, &["", "ABCDEF"], 0, FIT),
-    (3, 8, &["A,B", " ,"], 3, NAME),
-    (9, 14, &["", "ABCDEF"], 0, FIT),
-    (9, 14, &["A,B", " ,", "SRC   "], 9, NAME),
     (15, 24, &["x"], 0, FIT),
     (25, 34, &["x"], 0, FIT),
     (35, 44, &["x"], 0, FIT),
@@ -142,10 +119,4 @@ pub const CONTROL_CELLS: &[Cells] = &[
     (65, 70, &["PLUS1", "ABCDEF"], 0, FIT),
     (65, 70, &["", "A,B", ","], 65, NAME),
     (71, 71, &["x"], 0, FIT),
-    (79, 79, &["x"], 0, FIT),
-    (79, 79, &["\t"], 79, BYTE),
-    (80, 80, &["", "0", "1", "2", "3"], 0, FIT),
-    (80, 80, &["x", "-", "+", "."], 80, WHOLE),
-    (80, 80, &["4", "9"], 80, OUT),
-    (81, 81, &["!"], 81, PAST),
 ];

@@ -1,5 +1,0 @@
-//! The network cards: the grid of fields, and the record of one card of each kind.
-
-mod fields;
-mod grid;
-mod records;
