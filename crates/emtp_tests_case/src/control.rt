@@ -1,7 +1,7 @@
 //! A control with each kind of source, block and supplemental card.
 
 ghost use Rattle.emtp_tests_case.specs.declared.fixtures.TheConstants.{RUN};
-ghost use Rattle.std.specs.Prelude.{◌≡◌, ◌<◌, ◌≤◌, All, IsSome, IsTrue, length, true, IfOk};
+ghost use Rattle.std.specs.Prelude.{◌≡◌, ◌<◌, ◌≤◌, All, IsSome, IsTrue, length, true, IfOk, OnOk};
 ghost use Rattle.std.specs.Option.{ForSome};
 ghost use Rattle.emtp_case.specs.Control.{AreTimes, HasRangeOfA, IsBlock, IsDeviceCard, IsFormula, IsTable, needs_d};
 ghost use Rattle.emtp_case.specs.HistoryValues.{history_values_of};
@@ -26,11 +26,6 @@ const OWN: [&str; 14] = [
     "STEP", "COS", "PULSE", "SAW", "VOLT", "CURR", "STAT", "DBL", "LAG", "TABLE", "TIMES", "DELAY",
     "MEMORY", "SUM",
 ];
-
-/// The switch whose current and state are signals, from SRC to MID.
-fn meter() -> Switch {
-    switch(11, 1, 2, SwitchKind::Measuring)
-}
 
 /// The signals: those whose course is given, of 3 units from 1 ms to 2 ms, and those that the network gives.
 fn signals() -> [Source; 7] {
@@ -190,17 +185,22 @@ fn formula(alloc: Global) -> Result<Formula, AllocError>
     })
 }
 
-/// Whether the draft has the time step and the variables of these blocks and cards.
-fn has_variables(parts: &Parts) -> bool
+/// Whether the draft has the time step and the variables of these blocks and cards, and room for them.
+fn takes_cards(parts: &Parts) -> bool
     ensures step { result ≡ true → parts.now.run.dt ≡ RUN.dt }
     ensures vars { result ≡ true → length parts.now.vars ≡ 20 }
+    ensures blocks { result ≡ true → length parts.now.blocks ≤ 100 }
+    ensures extras { result ≡ true → length parts.now.extras ≤ 100 }
 {
-    parts.run.dt == RUN.dt && parts.vars.len() == 20
+    parts.run.dt == RUN.dt
+        && parts.vars.len() == 20
+        && parts.blocks.len() <= 100
+        && parts.extras.len() <= 100
 }
 
 /// Adds the blocks.
 fn add_blocks(alloc: Global, draft: &mut Draft) -> Result<bool, AllocError> {
-    if !has_variables(&draft.parts) || !draft.parts.blocks.is_empty() {
+    if !takes_cards(&draft.parts) {
         return Ok(false);
     }
     draft.add_block(doubler(alloc)?)?;
@@ -208,50 +208,78 @@ fn add_blocks(alloc: Global, draft: &mut Draft) -> Result<bool, AllocError> {
     Ok(true)
 }
 
-/// Adds a table of points and a switch by times.
-fn add_tables(alloc: Global, draft: &mut Draft) -> Result<bool, AllocError>
-    ensures { IfOk result (λ all. all ≡ true → history_values_of draft.new.parts ≡ 0) }
+/// Adds a table of points.
+fn add_table(alloc: Global, draft: &mut Draft) -> Result<bool, AllocError>
+    requires history { history_values_of draft.old.parts ≡ 0 }
+    ensures { OnOk result (history_values_of draft.new.parts ≡ 0) }
 {
-    if !has_variables(&draft.parts) || !has_no_history(&draft.parts) {
+    if !takes_cards(&draft.parts) {
         return Ok(false);
     }
     let table = device(alloc, 41, 15, DeviceCode::Table, 0, None)?;
     draft.add_device(table, &table_points())?;
+    Ok(true)
+}
+
+/// Adds a switch by times.
+fn add_timer(alloc: Global, draft: &mut Draft) -> Result<bool, AllocError>
+    requires history { history_values_of draft.old.parts ≡ 0 }
+    ensures { OnOk result (history_values_of draft.new.parts ≡ 0) }
+{
+    if !takes_cards(&draft.parts) {
+        return Ok(false);
+    }
     let timer = device(alloc, 42, 16, DeviceCode::Window, 0, None)?;
     draft.add_device(timer, &closed_times())?;
     Ok(true)
 }
 
-/// Adds a delay of three steps, a memory that takes STEP, and the formula.
+/// Adds a delay of three steps.
 #[tactic(auto, unfolding(emtp_fix::specs::Rounding::near, emtp_fix::specs::Rounding::near_abs))]
-fn add_others(alloc: Global, draft: &mut Draft) -> Result<bool, AllocError>
-    requires { history_values_of draft.old.parts ≡ 0 }
+fn add_delay(alloc: Global, draft: &mut Draft) -> Result<bool, AllocError>
+    requires history { history_values_of draft.old.parts ≡ 0 }
 {
-    if !has_variables(&draft.parts) || draft.parts.extras.len() > 100 {
+    if !takes_cards(&draft.parts) {
         return Ok(false);
     }
     let delay = device(alloc, 43, 17, DeviceCode::Delay, 300_000_000, None)?;
     draft.add_device(delay, &[])?;
+    Ok(true)
+}
+
+/// Adds a memory that takes STEP, and the formula.
+fn add_others(alloc: Global, draft: &mut Draft) -> Result<bool, AllocError> {
+    if !takes_cards(&draft.parts) {
+        return Ok(false);
+    }
     let memory = device(alloc, 44, 18, DeviceCode::Selector, 0, Some(6))?;
     draft.add_device(memory, &[])?;
     draft.add_formula(formula(alloc)?)?;
     Ok(true)
 }
 
-fn fill(alloc: Global, draft: &mut Draft) -> Result<bool, AllocError> {
-    Ok(
-        add_nodes(draft, &["SRC", "MID"])?
-            && add_variables(draft, &OWN)?
-            && add_switches(draft, &[meter()])?
-            && add_signals(draft, &signals())?
-            && add_channels(draft, &CHANNELS)?
-            && add_blocks(alloc, draft)?
-            && add_tables(alloc, draft)?
-            && add_others(alloc, draft)?,
-    )
+fn add_cards(alloc: Global, draft: &mut Draft) -> Result<bool, AllocError> {
+    if !has_no_history(&draft.parts) {
+        return Ok(false);
+    }
+    let all = add_table(alloc, draft)?
+        && add_timer(alloc, draft)?
+        && add_delay(alloc, draft)?
+        && add_others(alloc, draft)?;
+    Ok(all)
 }
 
-/// The control.
+fn fill(alloc: Global, draft: &mut Draft) -> Result<bool, AllocError> {
+    let all = add_nodes(draft, &["SRC", "MID"])?
+        && add_variables(draft, &OWN)?
+        && add_switches(draft, &[switch(11, 1, 2, SwitchKind::Measuring)])?
+        && add_signals(draft, &signals())?
+        && add_channels(draft, &CHANNELS)?
+        && add_blocks(alloc, draft)?
+        && add_cards(alloc, draft)?;
+    Ok(all)
+}
+
 fn control(alloc: Global) -> Result<Option<Case>, AllocError> {
     let mut draft = Draft::new(alloc, RUN)?;
     let filled = fill(alloc, &mut draft);
@@ -263,16 +291,9 @@ fn reads_back_its_signals(rt: HostRuntime) -> Result<(), Fail> {
     let case = control(rt.alloc())?.ok_or("a record doesn't fit")?;
     let parts = &case.parts;
     assert!(rt; parts.tacs_sources.as_slice() == signals().as_slice());
-    assert!(rt; parts.run == RUN && parts.switches.as_slice() == [meter()].as_slice());
+    let meter = switch(11, 1, 2, SwitchKind::Measuring);
+    assert!(rt; parts.run == RUN && parts.switches.as_slice() == [meter].as_slice());
     let_go(case);
-    Ok(())
-}
-
-/// The blocks are read back.
-fn blocks_are_back(rt: &impl Abort, alloc: Global, blocks: &[Block]) -> Result<(), AllocError> {
-    assert!(rt; blocks.len() == 2);
-    block_is(rt, &blocks[0], &doubler(alloc)?);
-    block_is(rt, &blocks[1], &lag(alloc)?);
     Ok(())
 }
 
@@ -293,9 +314,13 @@ fn device_is(rt: &impl Abort, extra: &Extra, card: Card, first: u32, count: u32)
     assert!(rt; (device.first, device.count) == (first, count));
 }
 
-/// The supplemental cards are read back, the devices with the places of their points.
-fn extras_are_back(rt: &impl Abort, alloc: Global, extras: &[Extra]) -> Result<(), AllocError> {
-    assert!(rt; extras.len() == 5);
+/// The blocks and the supplemental cards are read back, the devices with the places of their points.
+fn cards_are_back(rt: &impl Abort, alloc: Global, parts: &Parts) -> Result<(), AllocError> {
+    let blocks = parts.blocks.as_slice();
+    let extras = parts.extras.as_slice();
+    assert!(rt; blocks.len() == 2 && extras.len() == 5);
+    block_is(rt, &blocks[0], &doubler(alloc)?);
+    block_is(rt, &blocks[1], &lag(alloc)?);
     device_is(rt, &extras[0], (41, 15, DeviceCode::Table, 0, None), 0, 2);
     device_is(rt, &extras[1], (42, 16, DeviceCode::Window, 0, None), 2, 2);
     let delay = (43, 17, DeviceCode::Delay, 300_000_000, None);
@@ -327,10 +352,8 @@ fn reads_back_its_blocks_and_devices(rt: HostRuntime) -> Result<(), Fail> {
         "S SRC-MID",
     ];
     channels_are_named(&rt, &case, &names);
-    let blocks = blocks_are_back(&rt, alloc, parts.blocks.as_slice());
-    let extras = extras_are_back(&rt, alloc, parts.extras.as_slice());
+    let checked = cards_are_back(&rt, alloc, parts);
     let_go(case);
-    blocks?;
-    extras?;
+    checked?;
     Ok(())
 }

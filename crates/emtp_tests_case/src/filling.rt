@@ -2,7 +2,7 @@
 //! doesn't fit is not added.
 
 ghost use Rattle.emtp_tests_case.specs.declared.fixtures.TheConstants.{RUN};
-ghost use Rattle.std.specs.Prelude.{◌≡◌, ◌≢◌, ◌+◌, ◌-◌, ◌*◌, ◌<◌, ◌≤◌, ◌^◌, [], All, false, length, map, slice_index_or, true, unsigned_abs};
+ghost use Rattle.std.specs.Prelude.{◌≡◌, ◌≢◌, ◌+◌, ◌-◌, ◌*◌, ◌<◌, ◌≤◌, ◌^◌, All, false, length, map, slice_index_or, true, unsigned_abs};
 ghost use Rattle.std.specs.List.{list_any, range_with_len};
 ghost use Rattle.std.specs.Option.{ForSome};
 ghost use Rattle.emtp_case.specs.Case.{DefinesEach, HasNoControl};
@@ -146,28 +146,20 @@ pub fn add_variables(draft: &mut Draft, names: &[&str]) -> Result<bool, AllocErr
 fn is_name(name: &[u8]) -> bool
     ensures { result ≡ true → IsName name.now }
 {
-    has_name_size(name) && has_no_outer_blank(name) && name.iter().all(|byte| is_name_byte(*byte))
+    has_name_ends(name)
+        && name
+            .iter()
+            .all(|byte| 32 <= *byte && *byte <= 126 && *byte != 44)
 }
 
-fn has_name_size(name: &[u8]) -> bool
+fn has_name_ends(name: &[u8]) -> bool
     ensures some { result ≡ true → 1 ≤ length name.now }
     ensures short { result ≡ true → length name.now ≤ 6 }
-{
-    1 <= name.len() && name.len() <= 6
-}
-
-fn has_no_outer_blank(name: &[u8]) -> bool
-    requires { 1 ≤ length name.now }
     ensures first { result ≡ true → slice_index_or name.now 0 32 ≢ 32 }
     ensures last { result ≡ true → slice_index_or name.now (length name.now - 1) 32 ≢ 32 }
 {
-    name[0] != 32 && name[name.len() - 1] != 32
-}
-
-fn is_name_byte(byte: u8) -> bool
-    ensures { result ≡ true → IsNameByte byte }
-{
-    32 <= byte && byte <= 126 && byte != 44
+    let size = name.len();
+    1 <= size && size <= 6 && name[0] != 32 && name[size - 1] != 32
 }
 
 /// Whether a branch or a switch may have these ends.
@@ -195,8 +187,7 @@ pub fn takes_branches(parts: &Parts, nodes: usize) -> bool
 
 /// Whether no branch and no supplemental card was added, so that no past values are kept.
 pub fn has_no_history(parts: &Parts) -> bool
-    ensures history { result ≡ true → history_values_of parts.now ≡ 0 }
-    ensures extras { result ≡ true → parts.now.extras ≡ [] }
+    ensures { result ≡ true → history_values_of parts.now ≡ 0 }
 {
     parts.branches.is_empty() && parts.trios.is_empty() && parts.extras.is_empty()
 }
@@ -241,8 +232,13 @@ fn takes_kind(parts: &Parts, kind: SwitchKind) -> bool
         SwitchKind::Valve {
             ignition,
             holding,
-            control,
-        } => is_from(0, ignition) && is_from(0, holding) && names_variable(parts, control),
+            control: None,
+        } => is_from(0, ignition) && is_from(0, holding),
+        SwitchKind::Valve {
+            ignition,
+            holding,
+            control: Some(control),
+        } => is_from(0, ignition) && is_from(0, holding) && is_variable(parts, control),
         SwitchKind::Control { control } => is_variable(parts, control),
     }
 }
@@ -254,15 +250,6 @@ pub fn are_times(close: i64, open_at: Option<i64>) -> bool
     match open_at {
         Some(open_at) => is_small(close) && is_small(open_at),
         None => is_small(close),
-    }
-}
-
-fn names_variable(parts: &Parts, var: Option<u32>) -> bool
-    ensures { result ≡ true → ForSome var (λ v. v < length parts.now.vars) }
-{
-    match var {
-        Some(var) => is_variable(parts, var),
-        None => true,
     }
 }
 

@@ -3,7 +3,7 @@
 ghost use Rattle.emtp_tests_case.specs.declared.fixtures.TheConstants.{RUN};
 ghost use Rattle.std.specs.Prelude.{◌≡◌, false, true};
 ghost use Rattle.emtp_case.specs.Branch.{HasSeriesNumbers, IsCharacteristic, IsLine, IsLumped, IsTrio};
-ghost use Rattle.emtp_case.specs.HistoryValues.{branch_history_values, trio_history_values};
+ghost use Rattle.emtp_case.specs.HistoryValues.{branch_history_values, history_values_of, trio_history_values};
 ghost use Rattle.emtp_case.specs.Sizes.{sizes_with};
 
 use crate::comparing::{channels_are_named, names_are, rows_are};
@@ -44,7 +44,17 @@ fn ohm(line: u32, from: u32, to: u32) -> Lumped
     lumped!(line, from, to, 1_000_000, 0, 0)
 }
 
-/// 100 V at SRC over two resistors of 1 ohm to ground, and what is recorded of them.
+/// Adds 1 ohm from SRC to MID and 1 ohm from MID to ground.
+fn add_resistors(draft: &mut Draft) -> Result<bool, AllocError> {
+    if !takes_branches(&draft.parts, 2) {
+        return Ok(false);
+    }
+    draft.add_lumped(ohm(4, 1, 2))?;
+    draft.add_lumped(ohm(4, 2, 0))?;
+    Ok(true)
+}
+
+/// 100 V at SRC over two resistors, and what is recorded of them.
 fn fill_divider(draft: &mut Draft) -> Result<bool, AllocError> {
     let battery = source(8, 1, Shape::Step, 100 * UNIT, 0, None);
     let channels = [
@@ -53,12 +63,11 @@ fn fill_divider(draft: &mut Draft) -> Result<bool, AllocError> {
         Channel::BranchVoltage(0),
         Channel::BranchCurrent(1),
     ];
-    if !add_nodes(draft, &["SRC", "MID"])? || !takes_branches(&draft.parts, 2) {
-        return Ok(false);
-    }
-    draft.add_lumped(ohm(4, 1, 2))?;
-    draft.add_lumped(ohm(4, 2, 0))?;
-    Ok(add_sources(draft, &[battery])? && add_channels(draft, &channels)?)
+    let all = add_nodes(draft, &["SRC", "MID"])?
+        && add_resistors(draft)?
+        && add_sources(draft, &[battery])?
+        && add_channels(draft, &channels)?;
+    Ok(all)
 }
 
 fn divider(alloc: Global) -> Result<Option<Case>, AllocError> {
@@ -232,8 +241,10 @@ const CHANNELS: [Channel; 7] = [
 ];
 
 /// Adds the series branches, the three-phase line and the single line.
-fn add_lines(draft: &mut Draft) -> Result<bool, AllocError> {
-    if !takes_branches(&draft.parts, 12) || !has_no_history(&draft.parts) {
+fn add_lines(draft: &mut Draft) -> Result<bool, AllocError>
+    requires { history_values_of draft.old.parts ≡ 0 }
+{
+    if !takes_branches(&draft.parts, 12) {
         return Ok(false);
     }
     draft.add_lumped(ohm(11, 1, 2))?;
@@ -256,37 +267,22 @@ fn add_pseudos(draft: &mut Draft) -> Result<bool, AllocError> {
 }
 
 fn fill_network(draft: &mut Draft) -> Result<bool, AllocError> {
-    Ok(
-        add_nodes(draft, &NODES)?
-            && add_lines(draft)?
-            && add_pseudos(draft)?
-            && add_switches(draft, &switches())?
-            && add_sources(draft, &sources())?
-            && draft.has_voltage_source(1)
-            && !draft.has_voltage_source(3)
-            && add_channels(draft, &CHANNELS)?,
-    )
+    let all = add_nodes(draft, &NODES)?
+        && has_no_history(&draft.parts)
+        && add_lines(draft)?
+        && add_pseudos(draft)?
+        && add_switches(draft, &switches())?
+        && add_sources(draft, &sources())?
+        && draft.has_voltage_source(1)
+        && !draft.has_voltage_source(3)
+        && add_channels(draft, &CHANNELS)?;
+    Ok(all)
 }
 
 fn network(alloc: Global) -> Result<Option<Case>, AllocError> {
     let mut draft = Draft::new(alloc, RUN)?;
     let filled = fill_network(&mut draft);
     case_of(draft, filled)
-}
-
-/// The branches, with the places that the draft set.
-fn branches() -> [Branch; 9] {
-    [
-        Branch::Lumped(ohm(11, 1, 2)),
-        Branch::Lumped(coil()),
-        Branch::Lumped(capacitor()),
-        Branch::Phase(phase(15, 4, 5, 0, 0)),
-        Branch::Phase(phase(16, 6, 7, 0, 1)),
-        Branch::Phase(phase(17, 8, 9, 0, 2)),
-        Branch::Line(line()),
-        Branch::Pseudo(pseudo(18, 11, false, 0, 2)),
-        Branch::Pseudo(pseudo(19, 12, true, 2, 3)),
-    ]
 }
 
 /// Each branch answers its nodes and its line.
@@ -306,7 +302,19 @@ fn reads_back_its_branches(rt: HostRuntime) -> Result<(), Fail> {
     let case = network(rt.alloc())?.ok_or("a record doesn't fit")?;
     let parts = &case.parts;
     assert!(rt; parts.run == RUN);
-    assert!(rt; parts.branches.as_slice() == branches().as_slice());
+    // The draft set the places.
+    let branches = [
+        Branch::Lumped(ohm(11, 1, 2)),
+        Branch::Lumped(coil()),
+        Branch::Lumped(capacitor()),
+        Branch::Phase(phase(15, 4, 5, 0, 0)),
+        Branch::Phase(phase(16, 6, 7, 0, 1)),
+        Branch::Phase(phase(17, 8, 9, 0, 2)),
+        Branch::Line(line()),
+        Branch::Pseudo(pseudo(18, 11, false, 0, 2)),
+        Branch::Pseudo(pseudo(19, 12, true, 2, 3)),
+    ];
+    assert!(rt; parts.branches.as_slice() == branches.as_slice());
     places_are(&rt, parts.branches.as_slice());
     assert!(rt; parts.trios.as_slice() == [modes(3)].as_slice());
     let [a, b] = arrester_points();

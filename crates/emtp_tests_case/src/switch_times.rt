@@ -1,8 +1,5 @@
 //! Other times for the time switches of a case.
 
-ghost use Rattle.std.specs.Prelude.{◌≡◌, count_by};
-ghost use Rattle.emtp_case.specs.Switch.{is_time_switch};
-
 use crate::comparing::{channels_are_named, names_are};
 use crate::filling::{add_channels, add_nodes, add_switches, are_times, case_of, let_go};
 use crate::fixtures::{MS, RUN, switch, timed, valve};
@@ -42,25 +39,16 @@ fn fill(draft: &mut Draft) -> Result<bool, AllocError> {
         Channel::SwitchVoltage(3),
         Channel::Status(0),
     ];
-    Ok(
-        add_nodes(draft, &["A", "B"])?
-            && add_switches(draft, &switches(starting()))?
-            && add_channels(draft, &channels)?,
-    )
+    let all = add_nodes(draft, &["A", "B"])?
+        && add_switches(draft, &switches(starting()))?
+        && add_channels(draft, &channels)?;
+    Ok(all)
 }
 
-/// The case of these switches.
 fn breakers(alloc: Global) -> Result<Option<Case>, AllocError> {
     let mut draft = Draft::new(alloc, RUN)?;
     let filled = fill(&mut draft);
     case_of(draft, filled)
-}
-
-/// The number of time switches.
-fn count_breakers(switches: &[Switch]) -> usize
-    ensures { result ≡ count_by is_time_switch switches.now }
-{
-    switches.iter().filter(|s| s.is_time()).count()
 }
 
 /// Gives the breakers other times.
@@ -68,7 +56,8 @@ fn give_times(rt: &impl Abort, case: &mut Case, times: [Times; 2]) {
     let [first, second] = times;
     assert!(rt; are_times(first.close, first.open_at));
     assert!(rt; are_times(second.close, second.open_at));
-    assert!(rt; count_breakers(case.parts.switches.as_slice()) == 2);
+    let switches = case.parts.switches.as_slice();
+    assert!(rt; switches.iter().filter(|s| s.is_time()).count() == 2);
     case.set_times(&[first, second]);
 }
 
