@@ -1,2 +1,3 @@
 pub mod Characteristics
-pub mod Histories
+pub mod Lag
+pub mod Numbering

@@ -1,6 +1,7 @@
 //! Records compared with what they should be. Each call stops the test where something differs.
 
-use emtp_case::{Block, Case, Device, Extra, Formula, Name};
+use emtp_case::{Block, Case, Extra, Formula, Name, order};
+use std::alloc::{AllocError, Global};
 use std::process::Abort;
 
 /// The channels have these names, and no others.
@@ -14,6 +15,26 @@ pub fn channels_are_named(rt: &impl Abort, case: &Case, names: &[&str]) {
     }
 }
 
+/// The rows are those of these nodes, in this order, and so many of them have a known voltage.
+pub fn rows_are(
+    rt: &impl Abort,
+    alloc: Global,
+    case: &Case,
+    fixed: usize,
+    nodes: &[u32],
+) -> Result<(), AllocError> {
+    let rows = order(alloc, case)?;
+    assert!(rt; case.parts.nodes.len() == nodes.len() && rows.fixed() == fixed);
+    for (row, node) in nodes.iter().enumerate() {
+        assert!(rt; 1 <= *node && *node as usize <= nodes.len());
+        assert!(rt;
+            rows.node_at(row) == *node && rows.row_of(*node) == row,
+            "row {row}"
+        );
+    }
+    Ok(())
+}
+
 /// The names are these, in this order.
 pub fn names_are(rt: &impl Abort, names: &[Name], texts: &[&str]) {
     assert!(rt; names.len() == texts.len());
@@ -24,35 +45,11 @@ pub fn names_are(rt: &impl Abort, names: &[Name], texts: &[&str]) {
 
 /// The block is this one.
 pub fn block_is(rt: &impl Abort, block: &Block, wanted: &Block) {
-    assert!(rt; block.line == wanted.line);
-    assert!(rt; block.var == wanted.var);
-    assert!(rt; block.order == wanted.order);
+    assert!(rt; (block.line, block.var, block.order) == (wanted.line, wanted.var, wanted.order));
     assert!(rt; block.inputs.as_slice() == wanted.inputs.as_slice());
     assert!(rt; block.gain == wanted.gain);
-    assert!(rt; block.top == wanted.top);
-    assert!(rt; block.bottom == wanted.bottom);
-    assert!(rt; block.low == wanted.low);
-    assert!(rt; block.high == wanted.high);
-}
-
-/// The card is this device, with so many points from a place on.
-pub fn device_is(rt: &impl Abort, extra: &Extra, wanted: &Device, first: u32, count: u32) {
-    let Extra::Device(device) = extra else {
-        assert!(rt; false);
-        return;
-    };
-    assert!(rt; device.line == wanted.line);
-    assert!(rt; device.var == wanted.var);
-    assert!(rt; device.group == wanted.group);
-    assert!(rt; device.code == wanted.code);
-    assert!(rt; device.inputs.as_slice() == wanted.inputs.as_slice());
-    assert!(rt; device.a == wanted.a);
-    assert!(rt; device.b == wanted.b);
-    assert!(rt; device.c == wanted.c);
-    assert!(rt; device.d == wanted.d);
-    assert!(rt; device.e == wanted.e);
-    assert!(rt; device.first == first);
-    assert!(rt; device.count == count);
+    assert!(rt; (block.top, block.bottom) == (wanted.top, wanted.bottom));
+    assert!(rt; (block.low, block.high) == (wanted.low, wanted.high));
 }
 
 /// The card is this formula.
@@ -61,8 +58,7 @@ pub fn formula_is(rt: &impl Abort, extra: &Extra, wanted: &Formula) {
         assert!(rt; false);
         return;
     };
-    assert!(rt; formula.line == wanted.line);
-    assert!(rt; formula.var == wanted.var);
+    assert!(rt; (formula.line, formula.var) == (wanted.line, wanted.var));
     assert!(rt; formula.group == wanted.group);
     assert!(rt; formula.vars.as_slice() == wanted.vars.as_slice());
     assert!(rt; formula.expr.as_slice() == wanted.expr.as_slice());

@@ -11,7 +11,7 @@ mod comparing;
 #[cfg(test)]
 mod control;
 #[cfg(test)]
-mod divider;
+mod filling;
 #[cfg(test)]
 mod fixtures;
 #[cfg(test)]

@@ -1,229 +1,90 @@
 //! Other times for the time switches of a case.
 
-ghost use Rattle.emtp_tests_case.specs.declared.fixtures.TheConstants.{RUN};
-ghost use Rattle.std.specs.Prelude.{◌≡◌, [], All, count_by, length, IfOk, OnOk};
-ghost use Rattle.emtp_case.specs.Case.{empty_parts, standing_names};
-ghost use Rattle.emtp_case.specs.Sizes.{sizes_with};
-ghost use Rattle.emtp_case.specs.Switch.{HasTimes, IsSwitch, is_time_switch};
-ghost use Rattle.emtp_case.specs.declared.switch.Times.{Times};
-
 use crate::comparing::{channels_are_named, names_are};
-use crate::fixtures::RUN;
-use emtp_case::{Case, Channel, Draft, Name, Switch, SwitchKind, Times};
+use crate::filling::{add_channels, add_nodes, add_switches, are_times, case_of, let_go};
+use crate::fixtures::{MS, RUN, switch, timed, valve};
+use emtp_case::{Case, Channel, Draft, Switch, SwitchKind, Times};
 use std::alloc::{AllocError, Global};
 use std::process::Abort;
 use std::test::Fail;
 
-/// A breaker from A to B.
-fn first_breaker(close: i64, open_at: Option<i64>) -> Switch {
-    Switch {
-        line: 11,
-        from: 1,
-        to: 2,
-        kind: SwitchKind::Time {
-            close,
-            open_at,
-            margin: 7_000_000,
-        },
-    }
+/// The times of a breaker.
+fn times(close: i64, open_at: Option<i64>) -> Times {
+    Times { close, open_at }
 }
 
-/// A breaker from A to ground.
-fn second_breaker(close: i64, open_at: Option<i64>) -> Switch {
-    Switch {
-        line: 13,
-        from: 1,
-        to: 0,
-        kind: SwitchKind::Time {
-            close,
-            open_at,
-            margin: 9_000_000,
-        },
-    }
+/// A breaker from A to B, a measuring switch from B to ground, a breaker from A to ground, and a valve from ground to A
+/// without control.
+fn switches(times: [Times; 2]) -> [Switch; 4] {
+    let [first, second] = times;
+    [
+        switch(11, 1, 2, timed(first.close, first.open_at, 7_000_000)),
+        switch(12, 2, 0, SwitchKind::Measuring),
+        switch(13, 1, 0, timed(second.close, second.open_at, 9_000_000)),
+        switch(14, 0, 1, valve(5, 6, None)),
+    ]
 }
 
-/// Closed from the start, and opens from 3 ms on.
-fn closed() -> Switch
-    ensures { IsSwitch (sizes_with 2) result }
-{
-    Switch {
-        line: 11,
-        from: 1,
-        to: 2,
-        kind: SwitchKind::Time {
-            close: -1_000_000_000_000,
-            open_at: Some(3_000_000_000),
-            margin: 7_000_000,
-        },
-    }
+/// The first breaker is closed from the start and opens from 3 ms on; the second closes at 1 ms and never opens.
+fn starting() -> [Times; 2] {
+    [times(-1_000 * MS, Some(3 * MS)), times(MS, None)]
 }
 
-/// A measuring switch from B to ground.
-fn meter() -> Switch
-    ensures { IsSwitch (sizes_with 2) result }
-{
-    Switch {
-        line: 12,
-        from: 2,
-        to: 0,
-        kind: SwitchKind::Measuring,
-    }
+fn fill(draft: &mut Draft) -> Result<bool, AllocError> {
+    let channels = [
+        Channel::NodeVoltage(1),
+        Channel::SwitchCurrent(0),
+        Channel::SwitchVoltage(0),
+        Channel::SwitchCurrent(2),
+        Channel::SwitchVoltage(3),
+        Channel::Status(0),
+    ];
+    let all = add_nodes(draft, &["A", "B"])?
+        && add_switches(draft, &switches(starting()))?
+        && add_channels(draft, &channels)?;
+    Ok(all)
 }
 
-/// Closes at 1 ms and never opens.
-fn open() -> Switch
-    ensures { IsSwitch (sizes_with 2) result }
-{
-    Switch {
-        line: 13,
-        from: 1,
-        to: 0,
-        kind: SwitchKind::Time {
-            close: 1_000_000_000,
-            open_at: None,
-            margin: 9_000_000,
-        },
-    }
-}
-
-/// A valve from ground to A, without control.
-fn valve() -> Switch
-    ensures { IsSwitch (sizes_with 2) result }
-{
-    Switch {
-        line: 14,
-        from: 0,
-        to: 1,
-        kind: SwitchKind::Valve {
-            ignition: 5,
-            holding: 6,
-            control: None,
-        },
-    }
-}
-
-/// A draft of the nodes A and B.
-fn two_nodes(alloc: Global) -> Result<Draft, AllocError>
-    ensures nodes { IfOk result (λ draft. length draft.parts.nodes ≡ 2) }
-    ensures rest { IfOk result (λ draft. draft.parts ≡ record (empty_parts RUN) { nodes = draft.parts.nodes }) }
-{
+fn breakers(alloc: Global) -> Result<Option<Case>, AllocError> {
     let mut draft = Draft::new(alloc, RUN)?;
-    draft.add_node(Name::new(b"A"))?;
-    draft.add_node(Name::new(b"B"))?;
-    Ok(draft)
-}
-
-/// Two breakers, a measuring switch between them and a valve.
-fn add_switches(draft: &mut Draft) -> Result<(), AllocError>
-    requires nodes { length draft.old.parts.nodes ≡ 2 }
-    requires vars { draft.old.parts.vars ≡ standing_names }
-    requires none { draft.old.parts.switches ≡ [] }
-    ensures count { OnOk result (length draft.new.parts.switches ≡ 4) }
-    ensures others { OnOk result (draft.new.parts ≡ record draft.old.parts { switches = draft.new.parts.switches }) }
-{
-    draft.add_switch(closed())?;
-    draft.add_switch(meter())?;
-    draft.add_switch(open())?;
-    draft.add_switch(valve())
-}
-
-/// What is recorded of the switches.
-fn add_channels(draft: &mut Draft) -> Result<(), AllocError>
-    requires run { draft.old.parts.run ≡ RUN }
-    requires nodes { length draft.old.parts.nodes ≡ 2 }
-    requires switches { length draft.old.parts.switches ≡ 4 }
-    requires none { draft.old.parts.channels ≡ [] }
-    ensures { OnOk result (draft.new.parts ≡ record draft.old.parts { channels = draft.new.parts.channels }) }
-{
-    draft.add_channel(Channel::NodeVoltage(1))?;
-    draft.add_channel(Channel::SwitchCurrent(0))?;
-    draft.add_channel(Channel::SwitchVoltage(0))?;
-    draft.add_channel(Channel::SwitchCurrent(2))?;
-    draft.add_channel(Channel::SwitchVoltage(3))?;
-    draft.add_channel(Channel::Status(0))
-}
-
-/// The case of these switches.
-fn breakers(alloc: Global) -> Result<Case, AllocError> {
-    let mut draft = two_nodes(alloc)?;
-    add_switches(&mut draft)?;
-    add_channels(&mut draft)?;
-    Ok(draft.finish_network())
-}
-
-/// The number of time switches.
-fn count_breakers(switches: &[Switch]) -> usize
-    ensures { result ≡ count_by is_time_switch switches.now }
-{
-    switches.iter().filter(|s| s.is_time()).count()
+    let filled = fill(&mut draft);
+    case_of(draft, filled)
 }
 
 /// Gives the breakers other times.
-fn give_times(rt: &impl Abort, case: &mut Case, times: &[Times])
-    requires { All (λ (t : Times). HasTimes t.close t.open_at) times.now }
-{
-    assert!(rt; count_breakers(case.parts.switches.as_slice()) == times.len());
-    case.set_times(times);
+fn give_times(rt: &impl Abort, case: &mut Case, times: [Times; 2]) {
+    let [first, second] = times;
+    assert!(rt; are_times(first.close, first.open_at));
+    assert!(rt; are_times(second.close, second.open_at));
+    let switches = case.parts.switches.as_slice();
+    assert!(rt; switches.iter().filter(|s| s.is_time()).count() == 2);
+    case.set_times(&[first, second]);
 }
 
-/// Later times for the first breaker, earlier ones for the second.
-fn moved() -> [Times; 2]
-    ensures { All (λ (t : Times). HasTimes t.close t.open_at) result }
-{
-    [
-        Times {
-            close: 2_000_000_000,
-            open_at: Some(4_000_000_000),
-        },
-        Times {
-            close: -1,
-            open_at: Some(5_000_000_000),
-        },
-    ]
-}
-
-/// Times at which neither opens.
-fn lasting() -> [Times; 2]
-    ensures { All (λ (t : Times). HasTimes t.close t.open_at) result }
-{
-    [
-        Times {
-            close: -3,
-            open_at: None,
-        },
-        Times {
-            close: 6_000_000_000,
-            open_at: None,
-        },
-    ]
-}
-
-/// The switches are the two breakers, with the measuring switch and the valve as they were, and nothing else changed.
-fn breakers_are(rt: &impl Abort, case: &Case, first: Switch, second: Switch) {
+/// The switches have these times, and nothing else changed.
+fn breakers_are(rt: &impl Abort, case: &Case, times: [Times; 2]) {
     let parts = &case.parts;
-    assert!(rt; parts.switches.as_slice() == [first, meter(), second, valve()].as_slice());
+    assert!(rt; parts.switches.as_slice() == switches(times).as_slice());
     assert!(rt; parts.run == RUN);
     names_are(rt, parts.nodes.as_slice(), &["A", "B"]);
-    channels_are_named(
-        rt,
-        case,
-        &["V A", "I A-B", "U A-B", "I A-0", "U 0-A", "S A-B"],
-    );
+    let names = ["V A", "I A-B", "U A-B", "I A-0", "U 0-A", "S A-B"];
+    channels_are_named(rt, case, &names);
     assert!(rt; parts.branches.is_empty() && parts.sources.is_empty());
     assert!(rt; parts.vars.len() == 6 && parts.extras.is_empty());
 }
 
 #[test]
 fn gives_other_times(rt: HostRuntime) -> Result<(), Fail> {
-    let mut case = breakers(rt.alloc())?;
-    breakers_are(&rt, &case, closed(), open());
-    give_times(&rt, &mut case, &moved());
-    let first = first_breaker(2_000_000_000, Some(4_000_000_000));
-    let second = second_breaker(-1, Some(5_000_000_000));
-    breakers_are(&rt, &case, first, second);
-    give_times(&rt, &mut case, &lasting());
-    let first = first_breaker(-3, None);
-    let second = second_breaker(6_000_000_000, None);
-    breakers_are(&rt, &case, first, second);
+    let mut case = breakers(rt.alloc())?.ok_or("a record doesn't fit")?;
+    breakers_are(&rt, &case, starting());
+    // Later times for the first breaker, earlier ones for the second.
+    let moved = [times(2 * MS, Some(4 * MS)), times(-1, Some(5 * MS))];
+    give_times(&rt, &mut case, moved);
+    breakers_are(&rt, &case, moved);
+    // Times at which neither opens.
+    let lasting = [times(-3, None), times(6 * MS, None)];
+    give_times(&rt, &mut case, lasting);
+    breakers_are(&rt, &case, lasting);
+    let_go(case);
     Ok(())
 }
