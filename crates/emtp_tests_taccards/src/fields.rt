@@ -1,29 +1,27 @@
 //! Each cell of the grid, read.
 
+ghost use Rattle.std.specs.Prelude.{◌≤◌};
+
 use crate::grid::*;
-use emtp_card::{Bad, Line, Refused, Why};
+use emtp_card::{Bad, Line, Refused, Why, byte_at};
 use emtp_taccards::*;
 use std::alloc::Global;
 use std::process::Abort;
 
-/// What reads a card.
-#[derive(Clone, Copy)]
-enum Reader {
-    Block,
-    /// A numerator or denominator of this order.
-    Polynomial(u8),
-    Source,
-    Extra(Global),
-    Output,
+/// Each cell of each card is read as its row says.
+fn read_cards(rt: &impl Abort, alloc: Global, cards: &[Card], cells: &[Cells]) {
+    for (reader, card) in cards {
+        read_cells(rt, alloc, *reader, card, cells);
+    }
 }
 
-/// Each row's card is read as the row says.
-fn read_grid(rt: &impl Abort, reader: Reader, card: &str, cells: &[Cells]) {
+fn read_cells(rt: &impl Abort, alloc: Global, reader: Reader, card: &str, cells: &[Cells]) {
     for (first, last, texts, column, why) in cells {
         for text in *texts {
-            let bytes = with_text(rt, card, *first, *last, text);
+            assert!(rt; card.len() <= 90 && has_room(*first, *last, text));
+            let bytes = with_text(card, *first, *last, text);
             assert!(rt;
-                refusal_by(reader, &bytes) == (*column, *why),
+                refusal_by(alloc, reader, &bytes) == (*column, *why),
                 "{card}: {text} at {first}"
             );
         }
@@ -31,22 +29,37 @@ fn read_grid(rt: &impl Abort, reader: Reader, card: &str, cells: &[Cells]) {
 }
 
 /// A card with a text at the left end of its columns from `first` to `last`.
-fn with_text(rt: &impl Abort, base: &str, first: usize, last: usize, text: &str) -> [u8; 90] {
-    assert!(rt; base.len() <= 90);
-    assert!(rt; 1 <= first && first <= last && last <= 90 && text.len() <= last - first + 1);
+fn with_text(card: &str, first: usize, last: usize, text: &str) -> [u8; 90] {
     let mut bytes = [b' '; 90];
-    bytes[..base.len()].copy_from_slice(base.as_bytes());
-    bytes[first - 1..last].fill(b' ');
-    bytes[first - 1..first - 1 + text.len()].copy_from_slice(text.as_bytes());
+    for at in 0..90 {
+        bytes[at] = byte_in(card, first, last, text, at + 1);
+    }
     bytes
 }
 
-fn refusal_by(reader: Reader, bytes: &[u8; 90]) -> (u32, Option<Why>) {
+fn byte_in(card: &str, first: usize, last: usize, text: &str, column: usize) -> u8
+    requires { 1 ≤ column }
+{
+    if column < first || last < column {
+        return byte_at(card.as_bytes(), column);
+    }
+    match text.as_bytes().get(column - first) {
+        Some(byte) => *byte,
+        None => b' ',
+    }
+}
+
+/// Whether the columns are some of a card, and have room for the text.
+fn has_room(first: usize, last: usize, text: &str) -> bool {
+    1 <= first && first <= last && last <= 90 && text.len() <= last - first + 1
+}
+
+fn refusal_by(alloc: Global, reader: Reader, bytes: &[u8; 90]) -> (u32, Option<Why>) {
     match reader {
         Reader::Block => block_refusal(bytes),
         Reader::Polynomial(order) => polynomial_refusal(bytes, order),
         Reader::Source => source_refusal(bytes),
-        Reader::Extra(alloc) => extra_refusal(alloc, bytes),
+        Reader::Extra => extra_refusal(alloc, bytes),
         Reader::Output => output_refusal(bytes),
     }
 }
@@ -93,14 +106,30 @@ fn output_refusal(bytes: &[u8; 90]) -> (u32, Option<Why>) {
 
 #[test]
 fn blocks(rt: HostRuntime) {
-    read_grid(&rt, Reader::Block, BLOCK, BLOCK_CELLS);
+    read_cells(&rt, rt.alloc(), Reader::Block, BLOCK, BLOCK_CELLS);
 }
 
 #[test]
-fn coefficients(rt: HostRuntime) {
-    read_grid(&rt, Reader::Polynomial(2), SECOND_ORDER, SECOND_ORDER_CELLS);
-    read_grid(
+fn inputs_of_blocks_and_devices(rt: HostRuntime) {
+    read_cards(&rt, rt.alloc(), WITH_INPUTS, INPUTS);
+}
+
+#[test]
+fn coefficients_of_order_2(rt: HostRuntime) {
+    read_cells(
         &rt,
+        rt.alloc(),
+        Reader::Polynomial(2),
+        SECOND_ORDER,
+        SECOND_ORDER_CELLS,
+    );
+}
+
+#[test]
+fn coefficients_of_order_7(rt: HostRuntime) {
+    read_cells(
+        &rt,
+        rt.alloc(),
         Reader::Polynomial(7),
         SEVENTH_ORDER,
         SEVENTH_ORDER_CELLS,
@@ -108,22 +137,40 @@ fn coefficients(rt: HostRuntime) {
 }
 
 #[test]
-fn sources(rt: HostRuntime) {
-    read_grid(&rt, Reader::Source, LEVEL, LEVEL_CELLS);
-    read_grid(&rt, Reader::Source, COSINE, COSINE_CELLS);
-    read_grid(&rt, Reader::Source, PULSE, PULSE_CELLS);
-    read_grid(&rt, Reader::Source, TEETH, TEETH_CELLS);
-    read_grid(&rt, Reader::Source, MEASURED, MEASURED_CELLS);
+fn what_sources_have_alike(rt: HostRuntime) {
+    read_cards(&rt, rt.alloc(), SOURCES, EACH_SOURCE);
+    read_cards(&rt, rt.alloc(), REPEATING, AMPLITUDE_AND_TIMES);
 }
 
 #[test]
-fn supplemental_cards(rt: HostRuntime) {
-    read_grid(&rt, Reader::Extra(rt.alloc()), FORMULA, FORMULA_CELLS);
-    read_grid(&rt, Reader::Extra(rt.alloc()), DEVICE, DEVICE_CELLS);
-    read_grid(&rt, Reader::Extra(rt.alloc()), CODE, CODE_CELLS);
+fn levels_and_measurements(rt: HostRuntime) {
+    read_cells(&rt, rt.alloc(), Reader::Source, LEVEL, LEVEL_CELLS);
+    read_cells(&rt, rt.alloc(), Reader::Source, MEASURED, MEASURED_CELLS);
+}
+
+#[test]
+fn repeating_sources(rt: HostRuntime) {
+    read_cells(&rt, rt.alloc(), Reader::Source, COSINE, COSINE_CELLS);
+    read_cells(&rt, rt.alloc(), Reader::Source, PULSE, PULSE_CELLS);
+    read_cells(&rt, rt.alloc(), Reader::Source, TEETH, TEETH_CELLS);
+}
+
+#[test]
+fn formulas(rt: HostRuntime) {
+    read_cells(&rt, rt.alloc(), Reader::Extra, FORMULA, FORMULA_CELLS);
+}
+
+#[test]
+fn devices(rt: HostRuntime) {
+    read_cells(&rt, rt.alloc(), Reader::Extra, DEVICE, DEVICE_CELLS);
+}
+
+#[test]
+fn codes_that_ask_for_more(rt: HostRuntime) {
+    read_cells(&rt, rt.alloc(), Reader::Extra, CODE, CODE_CELLS);
 }
 
 #[test]
 fn output_cards(rt: HostRuntime) {
-    read_grid(&rt, Reader::Output, OUTPUT, OUTPUT_CELLS);
+    read_cells(&rt, rt.alloc(), Reader::Output, OUTPUT, OUTPUT_CELLS);
 }
