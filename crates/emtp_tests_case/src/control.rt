@@ -1,7 +1,7 @@
 //! A control with each kind of source, block and supplemental card.
 
 ghost use Rattle.emtp_tests_case.specs.declared.fixtures.TheConstants.{RUN};
-ghost use Rattle.std.specs.Prelude.{◌≡◌, ◌<◌, ◌≤◌, All, IsSome, IsTrue, length, true, IfOk, OnOk};
+ghost use Rattle.std.specs.Prelude.{◌≡◌, ◌<◌, ◌≤◌, IsSome, IsTrue, length, true, IfOk, OnOk};
 ghost use Rattle.std.specs.Option.{ForSome};
 ghost use Rattle.emtp_case.specs.Control.{AreTimes, HasRangeOfA, IsBlock, IsDeviceCard, IsFormula, IsTable, needs_d};
 ghost use Rattle.emtp_case.specs.HistoryValues.{history_values_of};
@@ -15,7 +15,7 @@ use crate::filling::{
 use crate::fixtures::{MS, RUN, STANDING, UNIT, point, source, switch};
 use emtp_case::{
     BinaryOp, Block, Bound, Case, Channel, Device, DeviceCode, Draft, Extra, Formula, Group, Input,
-    Items, Node, Parts, Point, Shape, Source, Switch, SwitchKind, UnaryOp,
+    Items, Node, Parts, Point, Shape, Source, SwitchKind, UnaryOp,
 };
 use std::alloc::{AllocError, Global};
 use std::process::Abort;

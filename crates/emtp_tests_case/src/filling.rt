@@ -2,14 +2,14 @@
 //! doesn't fit is not added.
 
 ghost use Rattle.emtp_tests_case.specs.declared.fixtures.TheConstants.{RUN};
-ghost use Rattle.std.specs.Prelude.{◌≡◌, ◌≢◌, ◌+◌, ◌-◌, ◌*◌, ◌<◌, ◌≤◌, ◌^◌, All, false, length, map, slice_index_or, true, unsigned_abs};
+ghost use Rattle.std.specs.Prelude.{◌≡◌, ◌≢◌, ◌+◌, ◌-◌, ◌*◌, ◌<◌, ◌≤◌, ◌^◌, false, length, map, slice_index_or, true, unsigned_abs};
 ghost use Rattle.std.specs.List.{list_any, range_with_len};
 ghost use Rattle.std.specs.Option.{ForSome};
 ghost use Rattle.emtp_case.specs.Case.{DefinesEach, HasNoControl};
 ghost use Rattle.emtp_case.specs.Channel.{IsChannel};
 ghost use Rattle.emtp_case.specs.Control.{var_of};
 ghost use Rattle.emtp_case.specs.HistoryValues.{history_values_of};
-ghost use Rattle.emtp_case.specs.Name.{IsName, IsNameByte};
+ghost use Rattle.emtp_case.specs.Name.{IsName};
 ghost use Rattle.emtp_case.specs.Range.{AreEnds, IsBetween};
 ghost use Rattle.emtp_case.specs.RunData.{IsRun, samples_of};
 ghost use Rattle.emtp_case.specs.Sizes.{sizes_of};

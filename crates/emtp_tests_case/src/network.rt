@@ -13,7 +13,7 @@ use crate::filling::{
 };
 use crate::fixtures::{MS, RUN, STANDING, UNIT, point, source, switch, timed, valve};
 use emtp_case::{
-    Branch, Case, Channel, Draft, Line, Lumped, Parts, Phase, Point, Pseudo, Shape, Source, Switch,
+    Branch, Case, Channel, Draft, Line, Lumped, Phase, Point, Pseudo, Shape, Source, Switch,
     SwitchKind, Trio,
 };
 use std::alloc::{AllocError, Global};
