@@ -190,14 +190,18 @@ pub fn network(
     alloc: Global,
     resistors: [Lumped; 2],
     second_source: bool,
-    switches: [Switch; 3],
+    first: Switch,
+    second: Switch,
+    third: Switch,
 ) -> Result<Case, AllocError>
     requires resistors { All (IsLumped RUN (sizes_with 4)) resistors }
-    requires switches { All (IsSwitch (sizes_with 4)) switches }
+    requires first { IsSwitch (sizes_with 4) first }
+    requires second { IsSwitch (sizes_with 4) second }
+    requires third { IsSwitch (sizes_with 4) third }
     ensures { IfOk result (λ case. HasSizes case.parts) }
 {
     let mut draft = nodes(alloc, RUN, 4)?;
-    match add_parts(&mut draft, resistors, second_source, switches) {
+    match add_parts(&mut draft, resistors, second_source, first, second, third) {
         Ok(()) => Ok(draft.finish_network()),
         Err(error) => {
             let_go(draft);
@@ -210,17 +214,20 @@ fn add_parts(
     draft: &mut Draft,
     resistors: [Lumped; 2],
     second_source: bool,
-    switches: [Switch; 3],
+    first: Switch,
+    second: Switch,
+    third: Switch,
 ) -> Result<(), AllocError>
     requires nodes { length draft.old.parts.nodes ≡ 4 }
     requires others { draft.old.parts ≡ record (empty_parts RUN) { nodes = draft.old.parts.nodes } }
     requires resistors { All (IsLumped RUN (sizes_with 4)) resistors }
-    requires switches { All (IsSwitch (sizes_with 4)) switches }
+    requires first { IsSwitch (sizes_with 4) first }
+    requires second { IsSwitch (sizes_with 4) second }
+    requires third { IsSwitch (sizes_with 4) third }
     ensures count { OnOk result (length draft.new.parts.switches ≡ 3) }
     ensures others { OnOk result (draft.new.parts ≡ record draft.old.parts { branches = draft.new.parts.branches; sources = draft.new.parts.sources; switches = draft.new.parts.switches }) }
 {
     let [resistor, other] = resistors;
-    let [first, second, third] = switches;
     draft.add_lumped(resistor)?;
     draft.add_lumped(other)?;
     add_sources(draft, second_source)?;

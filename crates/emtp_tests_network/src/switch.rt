@@ -114,13 +114,17 @@ fn walk(
     alloc: Global,
     resistors: [Lumped; 2],
     second_source: bool,
-    switches: [Switch; 3],
+    first: Switch,
+    second: Switch,
+    third: Switch,
     steps: &[Look],
 ) -> Result<bool, AllocError>
     requires resistors { All (IsLumped RUN (sizes_with 4)) resistors }
-    requires switches { All (IsSwitch (sizes_with 4)) switches }
+    requires first { IsSwitch (sizes_with 4) first }
+    requires second { IsSwitch (sizes_with 4) second }
+    requires third { IsSwitch (sizes_with 4) third }
 {
-    let case = network(alloc, resistors, second_source, switches)?;
+    let case = network(alloc, resistors, second_source, first, second, third)?;
     let right = walk_of(alloc, &case, steps);
     let_go(case);
     right
@@ -208,13 +212,17 @@ fn breaker_steps() -> [Look; 6] {
 
 #[test]
 fn breaker_opens_once_its_current_has_passed_a_zero(rt: HostRuntime) -> Result<(), Fail> {
-    let switches = [breaker(2, 3, -1, Some(2 * STEP)), never(), never()];
+    let first = breaker(2, 3, -1, Some(2 * STEP));
+    let second = never();
+    let third = never();
     assert!(rt;
         walk(
             rt.alloc(),
             [ohm(1, 2), ohm(3, 4)],
             true,
-            switches,
+            first,
+            second,
+            third,
             &breaker_steps()
         )?
     );
@@ -238,17 +246,17 @@ fn chain_steps() -> [Look; 4] {
 
 #[test]
 fn empty_group_is_at_ground(rt: HostRuntime) -> Result<(), Fail> {
-    let switches = [
-        breaker(2, 4, 2 * STEP, None),
-        breaker(4, 3, 3 * STEP, None),
-        never(),
-    ];
+    let first = breaker(2, 4, 2 * STEP, None);
+    let second = breaker(4, 3, 3 * STEP, None);
+    let third = never();
     assert!(rt;
         walk(
             rt.alloc(),
             [ohm(1, 2), ohm(3, 0)],
             false,
-            switches,
+            first,
+            second,
+            third,
             &chain_steps()
         )?
     );
@@ -265,17 +273,17 @@ fn tied_steps() -> [Look; 3] {
 
 #[test]
 fn source_that_is_tied_to_ground_is_named(rt: HostRuntime) -> Result<(), Fail> {
-    let switches = [
-        never(),
-        breaker(1, 0, 2 * STEP, None),
-        breaker(1, 0, 2 * STEP, None),
-    ];
+    let first = never();
+    let second = breaker(1, 0, 2 * STEP, None);
+    let third = breaker(1, 0, 2 * STEP, None);
     assert!(rt;
         walk(
             rt.alloc(),
             [ohm(1, 2), ohm(3, 4)],
             false,
-            switches,
+            first,
+            second,
+            third,
             &tied_steps()
         )?
     );
@@ -294,17 +302,17 @@ fn loop_steps() -> [Look; 1] {
 
 #[test]
 fn last_switch_of_a_loop_carries_nothing(rt: HostRuntime) -> Result<(), Fail> {
-    let switches = [
-        breaker(2, 4, -1, None),
-        breaker(4, 3, -1, None),
-        breaker(3, 2, -1, None),
-    ];
+    let first = breaker(2, 4, -1, None);
+    let second = breaker(4, 3, -1, None);
+    let third = breaker(3, 2, -1, None);
     assert!(rt;
         walk(
             rt.alloc(),
             [ohm(1, 2), ohm(3, 0)],
             false,
-            switches,
+            first,
+            second,
+            third,
             &loop_steps()
         )?
     );
@@ -352,17 +360,17 @@ const VALVE: SwitchKind = SwitchKind::Valve {
 #[test]
 fn other_kinds_of_switches(rt: HostRuntime) -> Result<(), Fail> {
     // a measuring switch, a valve, and a switch that PLUS1 controls
-    let switches = [
-        switch(2, 3, SwitchKind::Measuring),
-        switch(1, 4, VALVE),
-        switch(3, 4, SwitchKind::Control { control: 4 }),
-    ];
+    let first = switch(2, 3, SwitchKind::Measuring);
+    let second = switch(1, 4, VALVE);
+    let third = switch(3, 4, SwitchKind::Control { control: 4 });
     assert!(rt;
         walk(
             rt.alloc(),
             [ohm(1, 2), ohm(3, 0)],
             false,
-            switches,
+            first,
+            second,
+            third,
             &kinds_steps()
         )?
     );
