@@ -2,6 +2,7 @@
 //! output back.
 
 ghost use Rattle.std.specs.Prelude.{◌≡◌, ◌∷◌, [], ◌<◌, ◌^◌, ◌≤ℤ◌, List, length, map, All, ◌≤◌, pos, slice_index_or, unsigned_abs, IfOk, OnOk};
+ghost use Rattle.emtp_case.specs.Case.{empty_parts};
 ghost use Rattle.emtp_case.specs.Control.{IsBlock, IsBound};
 ghost use Rattle.emtp_case.specs.Range.{IsBetween};
 ghost use Rattle.emtp_case.specs.RunData.{IsRun};
@@ -12,6 +13,7 @@ ghost use Rattle.emtp_fix.specs.declared.limit.TheConstants.{LARGEST_VALUE};
 ghost use Rattle.emtp_tests_control.specs.Fixtures.{one_sizes};
 ghost use Rattle.emtp_tests_control.specs.Stepping.{Steps};
 
+use crate::fixtures::{RUN, UNIT};
 use emtp_blocks::{BlockRows, rows_are_the_matrix};
 use emtp_case::{Block, Bound, Case, Draft, Input, Items, Name, RunData};
 use emtp_elim::eliminate_plain;
@@ -54,13 +56,6 @@ fn step(
     }
 }
 
-const RUN: RunData = RunData {
-    dt: 100_000_000,
-    steps: 6,
-    every: 1,
-    tolerance: 10_000_000,
-};
-
 /// A time step of 1 s, at which coefficients of all powers count.
 const SLOW: RunData = RunData {
     dt: 1_000_000_000_000,
@@ -70,7 +65,6 @@ const SLOW: RunData = RunData {
 };
 
 /// PLUS1 behind a lag of 0.05 ms, up to 6.
-#[tactic(auto, unfolding(emtp_fix::specs::Rounding::near, emtp_fix::specs::Rounding::near_abs))]
 fn lag(alloc: Global) -> Result<Block, AllocError>
     ensures fits { IfOk result (λ block. IsBlock RUN one_sizes block) }
     ensures var { IfOk result (λ block. block.var ≡ 6) }
@@ -177,9 +171,23 @@ fn one_block(alloc: Global, run: RunData, block: Block) -> Result<Case, AllocErr
     ensures blocks { IfOk result (λ case. length case.parts.blocks ≡ 1) }
 {
     let mut draft = Draft::new(alloc, run)?;
+    match add(&mut draft, block) {
+        Ok(()) => Ok(draft.finish()),
+        Err(error) => {
+            drop(draft);
+            Err(error)
+        }
+    }
+}
+
+fn add(draft: &mut Draft, block: Block) -> Result<(), AllocError>
+    requires empty { draft.old.parts ≡ empty_parts draft.old.parts.run }
+    requires fits { IsBlock draft.old.parts.run one_sizes block }
+    ensures vars { OnOk result (length draft.new.parts.vars ≡ 7) }
+    ensures others { OnOk result (draft.new.parts ≡ record draft.old.parts { vars = draft.new.parts.vars; blocks = block ∷ [] }) }
+{
     draft.add_variable(Name::new(b"LAG"))?;
-    draft.add_block(block)?;
-    Ok(draft.finish())
+    draft.add_block(block)
 }
 
 /// What stands for an output where the system has no solution.
@@ -201,21 +209,41 @@ fn outputs(
     requires inputs { All (λ u. unsigned_abs u ≤ LARGEST_VALUE) inputs }
 {
     let case = one_block(alloc, run, block)?;
-    let mut blocks = BlockRows::open(alloc, &case)?;
+    let found = walk(alloc, &case, inputs);
+    drop(case);
+    found
+}
+
+fn walk(alloc: Global, case: &Case, inputs: [i64; 6]) -> Result<[i64; 6], AllocError>
+    requires vars { length case.now.parts.vars ≡ 7 }
+    requires blocks { length case.now.parts.blocks ≡ 1 }
+    requires inputs { All (λ u. unsigned_abs u ≤ LARGEST_VALUE) inputs }
+{
+    let mut blocks = BlockRows::open(alloc, case)?;
+    let found = six_steps(alloc, &mut blocks, inputs);
+    drop(blocks);
+    Ok(found)
+}
+
+fn six_steps(alloc: Global, blocks: &mut BlockRows<'_>, inputs: [i64; 6]) -> [i64; 6]
+    requires vars { length blocks.old.case.vars ≡ 7 }
+    requires blocks { length blocks.old.case.blocks ≡ 1 }
+    requires inputs { All (λ u. unsigned_abs u ≤ LARGEST_VALUE) inputs }
+{
     let mut outputs = [0; 6];
     let mut rhs = [0i128];
     let mut x = [0i64];
     for at in 0..6 {
         let known = [0, 0, 0, 0, inputs[at], 0, 0];
-        match step(alloc, &mut blocks, &known, &mut rhs, &mut x) {
+        match step(alloc, blocks, &known, &mut rhs, &mut x) {
             Ok(()) => outputs[at] = x[0],
             Err(stop) => {
                 outputs[at] = sign_of(stop);
-                return Ok(outputs);
+                return outputs;
             }
         }
     }
-    Ok(outputs)
+    outputs
 }
 
 fn sign_of(stop: Stop) -> i64 {
@@ -224,8 +252,6 @@ fn sign_of(stop: Stop) -> i64 {
         Stop::OutOfRange => OUT_OF_RANGE,
     }
 }
-
-const UNIT: i64 = 1_000_000_000;
 
 #[test]
 fn limited_lag(rt: HostRuntime) -> Result<(), Fail> {

@@ -1,16 +1,19 @@
 //! The worked devices: at a time step of 0.1 ms what each puts out of the inputs of three steps.
 
-ghost use Rattle.std.specs.Prelude.{◌≡◌, ◌<◌, ◌≤◌, [], All, IfOk, IsSome, IsTrue, length, unsigned_abs};
+ghost use Rattle.std.specs.Prelude.{◌≡◌, ◌<◌, ◌≤◌, ◌∷◌, [], All, IfOk, OnOk, IsSome, IsTrue, length, unsigned_abs};
 ghost use Rattle.std.specs.Option.{ForSome};
+ghost use Rattle.emtp_case.specs.Case.{empty_parts};
 ghost use Rattle.emtp_case.specs.Control.{HasRangeOfA, IsDeviceCard, needs_d};
 ghost use Rattle.emtp_case.specs.declared.control.Device.{Device};
+ghost use Rattle.emtp_case.specs.declared.control.Extra.{Extra};
 ghost use Rattle.emtp_case.specs.declared.control.Input.{Input};
 ghost use Rattle.emtp_devices.specs.Devices.{IsDeviceAt};
 ghost use Rattle.emtp_devices.specs.Held.{AreRead};
 ghost use Rattle.emtp_fix.specs.declared.limit.TheConstants.{LARGEST_VALUE};
 ghost use Rattle.emtp_tests_control.specs.Fixtures.{FitsAlone, one_sizes};
 
-use emtp_case::{Case, Device, DeviceCode, Draft, Group, Input, Items, Name, Point, RunData};
+use crate::fixtures::{RUN, UNIT};
+use emtp_case::{Case, Device, DeviceCode, Draft, Group, Input, Items, Name, Point};
 use emtp_devices::Devices;
 use std::alloc::{AllocError, Global};
 use std::test::Fail;
@@ -29,15 +32,6 @@ fn output(devices: &mut Devices<'_>, extra: usize, step: u32, values: &[i64]) ->
 
 /// What stands for an output that is out of range.
 const NONE: i64 = i64::MIN;
-
-const RUN: RunData = RunData {
-    dt: 100_000_000,
-    steps: 3,
-    every: 1,
-    tolerance: 10_000_000,
-};
-
-const UNIT: i64 = 1_000_000_000;
 
 const PLUS: Input = Input {
     var: 4,
@@ -98,9 +92,24 @@ fn one_device(alloc: Global, device: Device, points: &[Point]) -> Result<Case, A
     ensures device { IfOk result (λ case. (x : Device) × IsDeviceAt case.parts 0 x) }
 {
     let mut draft = Draft::new(alloc, RUN)?;
+    match add(&mut draft, device, points) {
+        Ok(()) => Ok(draft.finish()),
+        Err(error) => {
+            drop(draft);
+            Err(error)
+        }
+    }
+}
+
+fn add(draft: &mut Draft, device: Device, points: &[Point]) -> Result<(), AllocError>
+    requires empty { draft.old.parts ≡ empty_parts RUN }
+    requires card { IsDeviceCard one_sizes device }
+    requires fits { FitsAlone device.code device.a points.now }
+    ensures vars { OnOk result (length draft.new.parts.vars ≡ 7) }
+    ensures others { OnOk result (draft.new.parts ≡ record draft.old.parts { vars = draft.new.parts.vars; points = points.now; extras = Extra.Device (record device { first = 0; count = length points.now }) ∷ [] }) }
+{
     draft.add_variable(Name::new(b"OUT"))?;
-    draft.add_device(device, points)?;
-    Ok(draft.finish())
+    draft.add_device(device, points)
 }
 
 /// The outputs of a device at these values of PLUS1.
@@ -116,13 +125,33 @@ fn outputs(
     requires inputs { All (λ s. unsigned_abs s ≤ LARGEST_VALUE) inputs }
 {
     let case = one_device(alloc, device, points)?;
-    let mut devices = Devices::open(alloc, &case)?;
+    let found = outputs_of(alloc, &case, inputs);
+    drop(case);
+    found
+}
+
+fn outputs_of(alloc: Global, case: &Case, inputs: [i64; 3]) -> Result<[i64; 3], AllocError>
+    requires vars { length case.now.parts.vars ≡ 7 }
+    requires device { (x : Device) × IsDeviceAt case.now.parts 0 x }
+    requires inputs { All (λ s. unsigned_abs s ≤ LARGEST_VALUE) inputs }
+{
+    let mut devices = Devices::open(alloc, case)?;
+    let found = three_steps(&mut devices, inputs);
+    drop(devices);
+    Ok(found)
+}
+
+fn three_steps(devices: &mut Devices<'_>, inputs: [i64; 3]) -> [i64; 3]
+    requires vars { length devices.old.case.vars ≡ 7 }
+    requires device { (x : Device) × IsDeviceAt devices.old.case 0 x }
+    requires inputs { All (λ s. unsigned_abs s ≤ LARGEST_VALUE) inputs }
+{
     let mut outputs = [0; 3];
     for at in 0..3 {
         let values = [0, 0, 0, 0, inputs[at], 0, 0];
-        outputs[at] = output(&mut devices, 0, at as u32 + 1, &values);
+        outputs[at] = output(devices, 0, at as u32 + 1, &values);
     }
-    Ok(outputs)
+    outputs
 }
 
 /// The same of a device of PLUS1 without points; where it has a D, that is PLUS1 too.

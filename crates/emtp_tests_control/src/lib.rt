@@ -13,4 +13,6 @@ mod devices;
 #[cfg(test)]
 mod expr;
 #[cfg(test)]
+mod fixtures;
+#[cfg(test)]
 mod tacs;

@@ -1,13 +1,15 @@
 //! The worked controls: a source of 8 for 0.3 ms before a block with a limit, and a formula of both. The block is a lag of
 //! 0.05 ms, or feeds its output back.
 
-ghost use Rattle.std.specs.Prelude.{◌≡◌, ◌<◌, [], length, IfOk};
+ghost use Rattle.std.specs.Prelude.{◌≡◌, ◌<◌, ◌∷◌, [], length, IfOk, OnOk};
+ghost use Rattle.emtp_case.specs.Case.{empty_parts};
 ghost use Rattle.emtp_case.specs.Control.{IsBlock, IsFormula};
+ghost use Rattle.emtp_case.specs.declared.control.Extra.{Extra};
 ghost use Rattle.emtp_tests_control.specs.Fixtures.{nine_sizes};
 
+use crate::fixtures::{RUN, UNIT};
 use emtp_case::{
-    BinaryOp, Block, Bound, Case, Draft, Formula, Group, Input, Items, Name, Node, RunData, Shape,
-    Source,
+    BinaryOp, Block, Bound, Case, Draft, Formula, Group, Input, Items, Name, Node, Shape, Source,
 };
 use emtp_fix::Steps;
 use emtp_tacs::{Tacs, TacsFault};
@@ -15,15 +17,6 @@ use std::alloc::{AllocError, Global};
 use std::marker::Brand;
 use std::process::Abort;
 use std::sync::ledger::{Blank, Ledger};
-
-const RUN: RunData = RunData {
-    dt: 100_000_000,
-    steps: 6,
-    every: 1,
-    tolerance: 10_000_000,
-};
-
-const UNIT: i64 = 1_000_000_000;
 
 /// The source, variable 7.
 const SOURCE: Source = Source {
@@ -37,7 +30,6 @@ const SOURCE: Source = Source {
 };
 
 /// The lag, variable 6.
-#[tactic(auto, unfolding(emtp_fix::specs::Rounding::near, emtp_fix::specs::Rounding::near_abs))]
 fn lag(alloc: Global) -> Result<Block, AllocError>
     ensures fits { IfOk result (λ block. IsBlock RUN nine_sizes block) }
     ensures var { IfOk result (λ block. block.var ≡ 6) }
@@ -55,7 +47,7 @@ fn lag(alloc: Global) -> Result<Block, AllocError>
         top: [1_000_000_000_000, 0, 0, 0, 0, 0, 0, 0],
         bottom: [1_000_000_000_000, 50_000_000, 0, 0, 0, 0, 0, 0],
         low: Bound::None,
-        high: Bound::Fixed(6 * UNIT),
+        high: Bound::Fixed(6_000_000_000),
     })
 }
 
@@ -109,14 +101,30 @@ fn control(alloc: Global, block: Block, group: Group) -> Result<Case, AllocError
     ensures switches { IfOk result (λ case. case.parts.switches ≡ []) }
     ensures vars { IfOk result (λ case. length case.parts.vars ≡ 9) }
 {
+    let formula = sum(alloc, group)?;
     let mut draft = Draft::new(alloc, RUN)?;
+    match add(&mut draft, block, formula) {
+        Ok(()) => Ok(draft.finish()),
+        Err(error) => {
+            drop(draft);
+            Err(error)
+        }
+    }
+}
+
+fn add(draft: &mut Draft, block: Block, formula: Formula) -> Result<(), AllocError>
+    requires empty { draft.old.parts ≡ empty_parts RUN }
+    requires block { IsBlock RUN nine_sizes block }
+    requires formula { IsFormula nine_sizes formula }
+    ensures vars { OnOk result (length draft.new.parts.vars ≡ 9) }
+    ensures others { OnOk result (draft.new.parts ≡ record draft.old.parts { vars = draft.new.parts.vars; blocks = block ∷ []; tacs_sources = SOURCE ∷ []; extras = Extra.Formula formula ∷ [] }) }
+{
     draft.add_variable(Name::new(b"X"))?;
     draft.add_variable(Name::new(b"U"))?;
     draft.add_variable(Name::new(b"SUM"))?;
     draft.add_block(block)?;
     draft.add_tacs_source(SOURCE)?;
-    draft.add_formula(sum(alloc, group)?)?;
-    Ok(draft.finish())
+    draft.add_formula(formula)
 }
 
 /// The values of a variable in the six steps, and how many rows they redid.
@@ -132,14 +140,28 @@ fn values<L: Ledger>(
     requires var { var < length case.now.parts.vars }
 {
     let mut tacs = Tacs::open(alloc, case)?;
+    let found = six_steps(&mut tacs, var, steps);
+    let redone = tacs.redone();
+    drop(tacs);
+    Ok((found, redone))
+}
+
+/// The values up to the first step that has a fault.
+fn six_steps<L: Ledger>(tacs: &mut Tacs<'_>, var: usize, steps: &mut Steps<L>) -> [i64; 6]
+    requires made { tacs.old.made ≡ 0 }
+    requires steps { tacs.old.case.run.steps ≡ 6 }
+    requires nodes { tacs.old.case.nodes ≡ [] }
+    requires switches { tacs.old.case.switches ≡ [] }
+    requires var { var < length tacs.old.case.vars }
+{
     let mut values = [0; 6];
     for at in 0..6 {
         if tacs.step(&[0], &[], &[], steps).is_err() {
-            return Ok((values, tacs.redone()));
+            return values;
         }
         values[at] = tacs.values()[var];
     }
-    Ok((values, tacs.redone()))
+    values
 }
 
 /// The fault of the first step, if it has one.
@@ -153,10 +175,9 @@ fn first_fault<L: Ledger>(
     requires switches { case.now.parts.switches ≡ [] }
 {
     let mut tacs = Tacs::open(alloc, case)?;
-    match tacs.step(&[0], &[], &[], steps) {
-        Ok(()) => Ok(None),
-        Err(fault) => Ok(Some(fault)),
-    }
+    let found = tacs.step(&[0], &[], &[], steps).err();
+    drop(tacs);
+    Ok(found)
 }
 
 fn limited_lag<L: Ledger>(rt: &impl Abort, alloc: Global, blank: Blank)
@@ -174,6 +195,7 @@ fn limited_lag<L: Ledger>(rt: &impl Abort, alloc: Global, blank: Blank)
     // after the blocks a name reads their outputs of this step
     let (found, _) = values(alloc, &after, 8, &mut steps).expect(rt, "memory");
     assert!(rt; found == [12 * UNIT, 14 * UNIT, 14 * UNIT, 6 * UNIT, 0, 0]);
+    drop(after);
 }
 
 fn lag_before_the_blocks<L: Ledger>(rt: &impl Abort, alloc: Global, blank: Blank)
@@ -187,6 +209,7 @@ fn lag_before_the_blocks<L: Ledger>(rt: &impl Abort, alloc: Global, blank: Blank
     // before the blocks a name reads their outputs of the last step, and the sources of this one
     let (found, _) = values(alloc, &before, 8, &mut steps).expect(rt, "memory");
     assert!(rt; found == [8 * UNIT, 12 * UNIT, 14 * UNIT, 6 * UNIT, 6 * UNIT, 0]);
+    drop(before);
 }
 
 fn fed_back<L: Ledger>(rt: &impl Abort, alloc: Global, blank: Blank)
@@ -200,6 +223,7 @@ fn fed_back<L: Ledger>(rt: &impl Abort, alloc: Global, blank: Blank)
     // it comes to its limit in step 1 and leaves it in step 4: its row is another one in steps 2 and 5
     let (found, redone) = values(alloc, &case, 6, &mut steps).expect(rt, "memory");
     assert!(rt; found == [3 * UNIT, 3 * UNIT, 3 * UNIT, 3 * UNIT, 0, 0] && redone == 2);
+    drop(case);
     let none = feedback(alloc, false).expect(rt, "memory");
     let case = control(alloc, none, Group::Output).expect(rt, "memory");
     // x = 8 + x has no solution: the pivot is 0
@@ -211,6 +235,7 @@ fn fed_back<L: Ledger>(rt: &impl Abort, alloc: Global, blank: Blank)
                 pivot: true
             })
     );
+    drop(case);
 }
 
 #[test]

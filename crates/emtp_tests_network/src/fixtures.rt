@@ -3,6 +3,7 @@
 ghost use Rattle.std.specs.Prelude.{◌≡◌, ◌≢◌, ◌≤◌, ◌∷◌, [], ◌*ℤ◌, ◌^◌, All, length, pos, unsigned_abs, IfOk, OnOk};
 ghost use Rattle.emtp_case.specs.Branch.{IsLumped};
 ghost use Rattle.emtp_case.specs.Case.{empty_parts, standing_names};
+ghost use Rattle.emtp_case.specs.RunData.{IsRun};
 ghost use Rattle.emtp_case.specs.Sizes.{sizes_with};
 ghost use Rattle.emtp_case.specs.Source.{IsSource};
 ghost use Rattle.emtp_case.specs.Switch.{HasTimes, IsSwitch, IsSwitchKind};
@@ -119,15 +120,35 @@ pub fn never() -> Switch
     breaker(1, 0, 1_000 * STEP, None)
 }
 
-fn four_nodes(alloc: Global) -> Result<Draft, AllocError>
-    ensures { IfOk result (λ draft. (draft.parts ≡ record (empty_parts RUN) { nodes = draft.parts.nodes }) × (length draft.parts.nodes ≡ 4)) }
+/// Drops a value. A case or what steps it has many lists: a call proves less than a drop in place.
+pub fn let_go<T: Drop>(_value: T) {}
+
+/// A case with so many nodes, and nothing else so far. Nothing here asks for their names, so all have one.
+pub fn nodes(alloc: Global, run: RunData, count: usize) -> Result<Draft, AllocError>
+    requires run { IsRun run }
+    requires few { count ≤ 6 }
+    ensures { IfOk result (λ draft. (draft.parts ≡ record (empty_parts run) { nodes = draft.parts.nodes }) × (length draft.parts.nodes ≡ count)) }
 {
-    let mut draft = Draft::new(alloc, RUN)?;
-    draft.add_node(Name::new(b"N1"))?;
-    draft.add_node(Name::new(b"N2"))?;
-    draft.add_node(Name::new(b"N3"))?;
-    draft.add_node(Name::new(b"N4"))?;
-    Ok(draft)
+    let mut draft = Draft::new(alloc, run)?;
+    match add_nodes(&mut draft, count) {
+        Ok(()) => Ok(draft),
+        Err(error) => {
+            let_go(draft);
+            Err(error)
+        }
+    }
+}
+
+fn add_nodes(draft: &mut Draft, count: usize) -> Result<(), AllocError>
+    requires few { count ≤ 6 }
+    requires none { draft.old.parts.nodes ≡ [] }
+    ensures others { OnOk result (draft.new.parts ≡ record draft.old.parts { nodes = draft.new.parts.nodes }) }
+    ensures count { OnOk result (length draft.new.parts.nodes ≡ count) }
+{
+    for _ in 0..count {
+        draft.add_node(Name::new(b"N"))?;
+    }
+    Ok(())
 }
 
 /// A voltage source at node 1, and perhaps one at node 4.
@@ -179,11 +200,36 @@ pub fn network(
     requires third { IsSwitch (sizes_with 4) third }
     ensures { IfOk result (λ case. HasSizes case.parts) }
 {
-    let mut draft = four_nodes(alloc)?;
+    let mut draft = nodes(alloc, RUN, 4)?;
+    match add_parts(&mut draft, resistors, second_source, first, second, third) {
+        Ok(()) => Ok(draft.finish_network()),
+        Err(error) => {
+            let_go(draft);
+            Err(error)
+        }
+    }
+}
+
+fn add_parts(
+    draft: &mut Draft,
+    resistors: [Lumped; 2],
+    second_source: bool,
+    first: Switch,
+    second: Switch,
+    third: Switch,
+) -> Result<(), AllocError>
+    requires nodes { length draft.old.parts.nodes ≡ 4 }
+    requires others { draft.old.parts ≡ record (empty_parts RUN) { nodes = draft.old.parts.nodes } }
+    requires resistors { All (IsLumped RUN (sizes_with 4)) resistors }
+    requires first { IsSwitch (sizes_with 4) first }
+    requires second { IsSwitch (sizes_with 4) second }
+    requires third { IsSwitch (sizes_with 4) third }
+    ensures count { OnOk result (length draft.new.parts.switches ≡ 3) }
+    ensures others { OnOk result (draft.new.parts ≡ record draft.old.parts { branches = draft.new.parts.branches; sources = draft.new.parts.sources; switches = draft.new.parts.switches }) }
+{
     let [resistor, other] = resistors;
     draft.add_lumped(resistor)?;
     draft.add_lumped(other)?;
-    add_sources(&mut draft, second_source)?;
-    add_switches(&mut draft, first, second, third)?;
-    Ok(draft.finish_network())
+    add_sources(draft, second_source)?;
+    add_switches(draft, first, second, third)
 }

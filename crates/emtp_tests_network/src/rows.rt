@@ -13,14 +13,16 @@ ghost use Rattle.emtp_elim.specs.Fault.{IsRowFault};
 ghost use Rattle.emtp_rows.specs.Nodal.{nodal_matrix};
 ghost use Rattle.emtp_rows.specs.Touched.{StandsUntouched};
 
+use crate::fixtures::{RUN, let_go, nodes};
 use emtp_case::{
-    Branch, Case, Draft, Line, Lumped, Name, Phase, RowKind, RunData, Shape, Source, Trio, order,
+    Branch, Case, Draft, Line, Lumped, Phase, RowKind, RowOrder, Shape, Source, Trio, order,
 };
 use emtp_elim::{RowFault, Rows};
 use emtp_fix::Steps;
 use emtp_rows::NetRows;
 use emtp_tail::Kept;
 use std::alloc::{AllocError, Global};
+use std::process::Abort;
 use std::sync::ledger::Ledger;
 use std::test::Fail;
 
@@ -49,13 +51,6 @@ pub fn follow<L: Ledger>(
 
 // A network: a resistance from SRC to MID and one from MID to ground, a line from MID to END, and a three-phase line
 // from END, B and C to ground. Its rows are SRC, which has a source, then B, C, END and MID by their number of ends.
-
-const RUN: RunData = RunData {
-    dt: 100_000_000,
-    steps: 3,
-    every: 1,
-    tolerance: 10_000_000,
-};
 
 /// 1 ohm from SRC to MID.
 #[tactic(auto, unfolding(emtp_fix::specs::Rounding::near, emtp_fix::specs::Rounding::near_abs, emtp_case::specs::Branch::capacitor_impedance))]
@@ -144,20 +139,6 @@ fn battery() -> Source
     }
 }
 
-/// The five nodes.
-fn nodes(alloc: Global) -> Result<Draft, AllocError>
-    ensures count { IfOk result (λ draft. length draft.parts.nodes ≡ 5) }
-    ensures rest { IfOk result (λ draft. draft.parts ≡ record (empty_parts RUN) { nodes = draft.parts.nodes }) }
-{
-    let mut draft = Draft::new(alloc, RUN)?;
-    draft.add_node(Name::new(b"SRC"))?;
-    draft.add_node(Name::new(b"MID"))?;
-    draft.add_node(Name::new(b"END"))?;
-    draft.add_node(Name::new(b"B"))?;
-    draft.add_node(Name::new(b"C"))?;
-    Ok(draft)
-}
-
 /// The network, its branches in this order: the line, the three phases, the lead and the load.
 fn network(alloc: Global, line: Line, modes: Trio) -> Result<Case, AllocError>
     requires line { IsLine RUN (sizes_with 5) line }
@@ -168,19 +149,38 @@ fn network(alloc: Global, line: Line, modes: Trio) -> Result<Case, AllocError>
     ensures branches { IfOk result (λ case. length case.parts.branches ≡ 6) }
     ensures trios { IfOk result (λ case. length case.parts.trios ≡ 1) }
 {
-    let mut draft = nodes(alloc)?;
+    let mut draft = nodes(alloc, RUN, 5)?;
+    match add_parts(&mut draft, line, modes) {
+        Ok(()) => Ok(draft.finish_network()),
+        Err(error) => {
+            let_go(draft);
+            Err(error)
+        }
+    }
+}
+
+fn add_parts(draft: &mut Draft, line: Line, modes: Trio) -> Result<(), AllocError>
+    requires nodes { length draft.old.parts.nodes ≡ 5 }
+    requires others { draft.old.parts ≡ record (empty_parts RUN) { nodes = draft.old.parts.nodes } }
+    requires line { IsLine RUN (sizes_with 5) line }
+    requires travel { branch_history_values RUN.dt (Branch.Line line) ≡ 22 }
+    requires modes { IsTrio RUN modes }
+    requires travels { trio_history_values RUN.dt modes ≡ 108 }
+    ensures branches { OnOk result (length draft.new.parts.branches ≡ 6) }
+    ensures trios { OnOk result (length draft.new.parts.trios ≡ 1) }
+    ensures others { OnOk result (draft.new.parts ≡ record draft.old.parts { branches = draft.new.parts.branches; trios = draft.new.parts.trios; sources = draft.new.parts.sources }) }
+{
     draft.add_branch(Branch::Line(line))?;
     draft.add_trio(modes, phase(3), phase(4), phase(5))?;
     draft.add_lumped(lead())?;
     draft.add_lumped(load())?;
-    draft.add_source(battery())?;
-    Ok(draft.finish_network())
+    draft.add_source(battery())
 }
 
 /// 1 in a row.
 const P: i128 = 1_000_000_000_000;
 
-fn has_rows(rows: &NetRows<'_>, expected: [[i128; 5]; 5]) -> bool {
+fn has_rows(rows: &NetRows<'_>, expected: &[[i128; 5]; 5]) -> bool {
     if rows.size() != 5 {
         return false;
     }
@@ -237,55 +237,85 @@ fn touched_by(rows: &mut NetRows<'_>, branch: usize, g: i64) -> usize
     rows.take_touched()
 }
 
+const AT_REST: [[i128; 5]; 5] = [
+    [P, 0, 0, 0, 0],
+    [0, 0, 0, 0, 0],
+    [0, 0, 0, 0, 0],
+    [0, 0, 0, 0, 0],
+    [0, 0, 0, 0, 0],
+];
+
+const APART: [[i128; 5]; 5] = [
+    [P, 0, 0, 0, 0],
+    [0, 42, -5, -5, 0],
+    [0, -5, 43, -5, 0],
+    [0, -5, -5, 71, 0],
+    [-10, 0, 0, 0, 60],
+];
+
+const TOGETHER: [[i128; 5]; 5] = [
+    [P, 0, 0, 0, 0],
+    [0, P, 0, 0, -P],
+    [0, 0, P, 0, 0],
+    [-P, 0, 0, P, 0],
+    [-10, 42, -5, -5, 60],
+];
+
 #[test]
 fn rows_of_all_kinds(rt: HostRuntime) -> Result<(), Fail> {
     let case = network(rt.alloc(), line(), modes())?;
-    let order = order(rt.alloc(), &case)?;
-    let mut rows = NetRows::open(rt.alloc(), &case, &order)?;
-    assert!(rt; rows.fixed() == 1 && rows.take_touched() == 0);
-    assert!(rt;
-        has_rows(
-            &rows,
-            [
-                [P, 0, 0, 0, 0],
-                [0, 0, 0, 0, 0],
-                [0, 0, 0, 0, 0],
-                [0, 0, 0, 0, 0],
-                [0, 0, 0, 0, 0],
-            ]
-        )
-    );
-    set_all(&mut rows);
-    assert!(rt;
-        has_rows(
-            &rows,
-            [
-                [P, 0, 0, 0, 0],
-                [0, 42, -5, -5, 0],
-                [0, -5, 43, -5, 0],
-                [0, -5, -5, 71, 0],
-                [-10, 0, 0, 0, 60],
-            ]
-        )
-    );
+    let found = all_kinds(&rt, rt.alloc(), &case);
+    let_go(case);
+    found?;
+    Ok(())
+}
+
+fn all_kinds(rt: &impl Abort, alloc: Global, case: &Case) -> Result<(), AllocError>
+    requires nodes { length case.now.parts.nodes ≡ 5 }
+    requires branches { length case.now.parts.branches ≡ 6 }
+    requires trios { length case.now.parts.trios ≡ 1 }
+{
+    let order = order(alloc, case)?;
+    let found = all_kinds_in(rt, alloc, case, &order);
+    let_go(order);
+    found
+}
+
+fn all_kinds_in(
+    rt: &impl Abort,
+    alloc: Global,
+    case: &Case,
+    order: &RowOrder,
+) -> Result<(), AllocError>
+    requires order { order.now ≡ order_of case.now.parts }
+    requires nodes { length case.now.parts.nodes ≡ 5 }
+    requires branches { length case.now.parts.branches ≡ 6 }
+    requires trios { length case.now.parts.trios ≡ 1 }
+{
+    let mut rows = NetRows::open(alloc, case, order)?;
+    assert!(rt; rows.fixed() == 1);
+    assert!(rt; rows.take_touched() == 0);
+    become_joined(rt, &mut rows);
+    let_go(rows);
+    Ok(())
+}
+
+fn become_joined(rt: &impl Abort, rows: &mut NetRows<'_>)
+    requires nodes { length rows.old.nodal.case.nodes ≡ 5 }
+    requires branches { length rows.old.nodal.case.branches ≡ 6 }
+    requires trios { length rows.old.nodal.case.trios ≡ 1 }
+    requires fixed { (order_of rows.old.nodal.case).fixed ≡ 1 }
+{
+    assert!(rt; has_rows(rows, &AT_REST));
+    set_all(rows);
+    assert!(rt; has_rows(rows, &APART));
     // phase B is the first row with a new conductance
     assert!(rt; rows.take_touched() == 1);
-    join(&mut rows);
+    join(rows);
     assert!(rt; rows.take_touched() == 1);
-    assert!(rt;
-        has_rows(
-            &rows,
-            [
-                [P, 0, 0, 0, 0],
-                [0, P, 0, 0, -P],
-                [0, 0, P, 0, 0],
-                [-P, 0, 0, P, 0],
-                [-10, 42, -5, -5, 60],
-            ]
-        )
-    );
+    assert!(rt; has_rows(rows, &TOGETHER));
     // the load is in the sum, the line besides in no row of its other end, which is tied to the source
-    assert!(rt; touched_by(&mut rows, 5, 21) == 4 && touched_by(&mut rows, 5, 21) == 5);
-    assert!(rt; touched_by(&mut rows, 0, 31) == 4);
-    Ok(())
+    assert!(rt; touched_by(rows, 5, 21) == 4);
+    assert!(rt; touched_by(rows, 5, 21) == 5);
+    assert!(rt; touched_by(rows, 0, 31) == 4);
 }

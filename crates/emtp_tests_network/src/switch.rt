@@ -2,7 +2,11 @@
 
 ghost use Rattle.std.specs.Prelude.{◌≡◌, ◌+◌, ◌≤◌, ◌∷◌, List, Some, length, unsigned_abs, IfErr, IfOk};
 ghost use Rattle.std.specs.List.{All};
+ghost use Rattle.emtp_case.specs.Branch.{IsLumped};
+ghost use Rattle.emtp_case.specs.RowOrder.{IsRowOrder};
+ghost use Rattle.emtp_case.specs.Sizes.{sizes_with};
 ghost use Rattle.emtp_case.specs.StepRecord.{StepRecord};
+ghost use Rattle.emtp_case.specs.Switch.{IsSwitch};
 ghost use Rattle.emtp_fix.specs.declared.limit.TheConstants.{LARGEST_VALUE};
 ghost use Rattle.emtp_switch.specs.Groups.{tied_of};
 ghost use Rattle.emtp_switch.specs.Kinds.{kinds_of};
@@ -10,8 +14,8 @@ ghost use Rattle.emtp_switch.specs.States.{next_states};
 ghost use Rattle.emtp_switch.specs.Switching.{AreLatest, StandsFor};
 ghost use Rattle.emtp_tests_network.specs.Fixtures.{HasSizes};
 
-use crate::fixtures::{NANO, STEP, breaker, nano, network, never, ohm, switch, wide};
-use emtp_case::{Case, RowKind, SwitchKind, order};
+use crate::fixtures::{NANO, RUN, STEP, breaker, let_go, nano, network, never, ohm, switch, wide};
+use emtp_case::{Case, Lumped, RowKind, RowOrder, Switch, SwitchKind, order};
 use emtp_switch::{Switches, Tied};
 use std::alloc::{AllocError, Global};
 use std::test::Fail;
@@ -45,42 +49,32 @@ fn decide(
 
 // Cases with four nodes and three switches, in volts and amperes.
 
-/// What the rest of the network gives before a step, and what the switches show after it.
-#[derive(Clone, Copy)]
-struct Look {
-    /// The voltages of the four nodes in the record before.
-    volts: [i16; 4],
-    /// The currents of the three switches in the record before.
-    amperes: [i16; 3],
-    /// The value of PLUS1 in the record before.
-    control: i16,
-    /// What leaves the nodes of the four rows.
-    leaving: [i16; 4],
-    /// Which switches are closed.
-    closed: [bool; 3],
-    /// The kinds of the rows, or the tied switch.
-    kinds: Result<[RowKind; 4], Tied>,
-    /// The currents of the switches, in amperes.
-    currents: [i16; 3],
-}
+/// What the record before has: the voltages of the four nodes, the currents of the three switches, the value of PLUS1.
+type Given = ([i16; 4], [i16; 3], i16);
+
+/// What leaves the nodes of the four rows, and the currents of the switches.
+type Crossing = ([i16; 4], [i16; 3]);
+
+/// What the rest of the network gives before a step; then which switches are closed, the kinds of the rows or the tied
+/// switch, and what crosses.
+type Look = (Given, [bool; 3], Result<[RowKind; 4], Tied>, Crossing);
 
 fn decide_step(switches: &mut Switches<'_>, n: u32, step: &Look)
     requires sizes { HasSizes switches.old.case }
     requires n { n ≤ 5 }
     ensures { switches.new.case ≡ switches.old.case }
 {
-    let [a, b, c, d] = step.volts;
-    let [i, j, k] = step.amperes;
+    let ([a, b, c, d], [i, j, k], control) = step.0;
     let voltages = [0, nano(a), nano(b), nano(c), nano(d)];
     let currents = [nano(i), nano(j), nano(k)];
-    let tacs = [0, 0, 0, 0, nano(step.control), 0];
+    let tacs = [0, 0, 0, 0, nano(control), 0];
     switches.decide(n, &voltages, &currents, &tacs);
 }
 
 fn has_states(switches: &Switches<'_>, step: &Look) -> bool
     requires { HasSizes switches.now.case }
 {
-    let [a, b, c] = step.closed;
+    let [a, b, c] = step.1;
     switches.closed(0) == a && switches.closed(1) == b && switches.closed(2) == c
 }
 
@@ -89,8 +83,8 @@ fn has_kinds(switches: &Switches<'_>, step: &Look) -> bool
 {
     let mut kinds = [RowKind::Kcl; 4];
     match switches.kinds(&mut kinds) {
-        Ok(()) => step.kinds == Ok(kinds),
-        Err(tied) => step.kinds == Err(tied),
+        Ok(()) => step.2 == Ok(kinds),
+        Err(tied) => step.2 == Err(tied),
     }
 }
 
@@ -98,8 +92,7 @@ fn has_currents(switches: &mut Switches<'_>, step: &Look) -> bool
     requires { HasSizes switches.old.case }
     ensures { switches.new ≡ switches.old }
 {
-    let [a, b, c, d] = step.leaving;
-    let [i, j, k] = step.currents;
+    let ([a, b, c, d], [i, j, k]) = step.3;
     let leaving = [wide(a), wide(b), wide(c), wide(d)];
     let mut currents = [0; 3];
     match switches.currents(&leaving, &mut currents) {
@@ -115,21 +108,60 @@ fn shows(switches: &mut Switches<'_>, step: &Look) -> bool
     has_states(switches, step) && has_kinds(switches, step) && has_currents(switches, step)
 }
 
-/// Whether the switches of a case show what the table tells of record 0 and of each step after it.
-fn walk(alloc: Global, case: &Case, steps: &[Look]) -> Result<bool, AllocError>
-    requires sizes { HasSizes case.now.parts }
-    requires some { 1 ≤ length steps.now }
-    requires few { length steps.now ≤ 6 }
+/// Whether the switches of a network of two resistors, one or two sources and three switches show what the table tells of
+/// record 0 and of each step after it.
+fn walk(
+    alloc: Global,
+    resistors: [Lumped; 2],
+    second_source: bool,
+    first: Switch,
+    second: Switch,
+    third: Switch,
+    steps: &[Look],
+) -> Result<bool, AllocError>
+    requires resistors { All (IsLumped RUN (sizes_with 4)) resistors }
+    requires first { IsSwitch (sizes_with 4) first }
+    requires second { IsSwitch (sizes_with 4) second }
+    requires third { IsSwitch (sizes_with 4) third }
+{
+    let case = network(alloc, resistors, second_source, first, second, third)?;
+    let right = walk_of(alloc, &case, steps);
+    let_go(case);
+    right
+}
+
+fn walk_of(alloc: Global, case: &Case, steps: &[Look]) -> Result<bool, AllocError>
+    requires { HasSizes case.now.parts }
 {
     let rows = order(alloc, case)?;
-    let mut switches = Switches::open(alloc, case, &rows)?;
-    let mut right = shows(&mut switches, &steps[0]);
-    for n in 1..steps.len() {
-        decide_step(&mut switches, n as u32, &steps[n]);
-        let shown = shows(&mut switches, &steps[n]);
-        right = right & shown;
-    }
+    let right = walk_in(alloc, case, &rows, steps);
+    let_go(rows);
+    right
+}
+
+fn walk_in(alloc: Global, case: &Case, rows: &RowOrder, steps: &[Look]) -> Result<bool, AllocError>
+    requires sizes { HasSizes case.now.parts }
+    requires order { IsRowOrder case.now.parts rows.now }
+{
+    let mut switches = Switches::open(alloc, case, rows)?;
+    let right = shows_each(&mut switches, steps);
+    let_go(switches);
     Ok(right)
+}
+
+fn shows_each(switches: &mut Switches<'_>, steps: &[Look]) -> bool
+    requires { HasSizes switches.old.case }
+{
+    if steps.is_empty() || steps.len() > 6 || !shows(switches, &steps[0]) {
+        return false;
+    }
+    for n in 1..steps.len() {
+        decide_step(switches, n as u32, &steps[n]);
+        if !shows(switches, &steps[n]) {
+            return false;
+        }
+    }
+    true
 }
 
 const KCL: RowKind = RowKind::Kcl;
@@ -142,93 +174,71 @@ const GROUND: RowKind = RowKind::Ground;
 
 const SOURCE: RowKind = RowKind::Source;
 
-fn row(
-    (volts, amperes, control): ([i16; 4], [i16; 3], i16),
-    closed: [bool; 3],
-    kinds: [RowKind; 4],
-    (leaving, currents): ([i16; 4], [i16; 3]),
-) -> Look {
-    Look {
-        volts,
-        amperes,
-        control,
-        leaving,
-        closed,
-        kinds: Ok(kinds),
-        currents,
-    }
-}
+const OFF: [bool; 3] = [false; 3];
 
+/// No voltage, no current and no control in the record before.
+const STILL: Given = ([0; 4], [0; 3], 0);
+
+/// Nothing leaves a node, and no switch carries a current.
+const APART: Crossing = ([0; 4], [0; 3]);
+
+const SHUT: Result<[RowKind; 4], Tied> = Ok([SOURCE, SOURCE, TIE, SUM]);
+
+const OPEN: Result<[RowKind; 4], Tied> = Ok([SOURCE, SOURCE, KCL, KCL]);
+
+const ONE: [bool; 3] = [true, false, false];
+
+/// 250 V at N1 and a ramp of 100 V a step at N4, 2 ohm between them with the breaker amid; it is to open from step 2 on.
 fn breaker_steps() -> [Look; 6] {
-    let on = [true, false, false];
-    let off = [false; 3];
-    let shut = [SOURCE, SOURCE, TIE, SUM];
-    let open = [SOURCE, SOURCE, KCL, KCL];
-    let rest = [0; 4];
     [
-        row((rest, [0, 0, 0], 0), on, shut, (rest, [0, 0, 0])),
-        row(
-            (rest, [0, 0, 0], 0),
-            on,
-            shut,
-            ([75, -75, -75, 75], [75, 0, 0]),
-        ),
-        row(
-            (rest, [75, 0, 0], 0),
-            on,
-            shut,
+        (STILL, ONE, SHUT, APART),
+        (STILL, ONE, SHUT, ([75, -75, -75, 75], [75, 0, 0])),
+        (
+            ([0; 4], [75, 0, 0], 0),
+            ONE,
+            SHUT,
             ([25, -25, -25, 25], [25, 0, 0]),
         ),
-        row(
-            (rest, [25, 0, 0], 0),
-            on,
-            shut,
+        (
+            ([0; 4], [25, 0, 0], 0),
+            ONE,
+            SHUT,
             ([-25, 25, 25, -25], [-25, 0, 0]),
         ),
-        row((rest, [-25, 0, 0], 0), off, open, (rest, [0, 0, 0])),
-        row((rest, [0, 0, 0], 0), off, open, (rest, [0, 0, 0])),
+        (([0; 4], [-25, 0, 0], 0), OFF, OPEN, APART),
+        (STILL, OFF, OPEN, APART),
     ]
 }
 
 #[test]
 fn breaker_opens_once_its_current_has_passed_a_zero(rt: HostRuntime) -> Result<(), Fail> {
-    // 250 V at N1 and a ramp of 100 V a step at N4, 2 ohm between them with the breaker amid; it is to open from step 2 on
     let first = breaker(2, 3, -1, Some(2 * STEP));
     let second = never();
     let third = never();
-    let case = network(
-        rt.alloc(),
-        [ohm(1, 2), ohm(3, 4)],
-        true,
-        first,
-        second,
-        third,
-    )?;
-    assert!(rt; walk(rt.alloc(), &case, &breaker_steps())?);
+    assert!(rt;
+        walk(
+            rt.alloc(),
+            [ohm(1, 2), ohm(3, 4)],
+            true,
+            first,
+            second,
+            third,
+            &breaker_steps()
+        )?
+    );
     Ok(())
 }
 
+/// N1 to N2 and N3 to ground, with switches N2 to N4 and N4 to N3: nothing else ends at N4.
 fn chain_steps() -> [Look; 4] {
-    let still = ([0; 4], [0; 3], 0);
-    let apart = ([0, 0, 0, 0], [0, 0, 0]);
     [
-        row(
-            still,
-            [false, false, false],
-            [SOURCE, KCL, KCL, GROUND],
-            apart,
-        ),
-        row(
-            still,
-            [false, false, false],
-            [SOURCE, KCL, KCL, GROUND],
-            apart,
-        ),
-        row(still, [true, false, false], [SOURCE, TIE, KCL, SUM], apart),
-        row(
-            still,
+        (STILL, OFF, Ok([SOURCE, KCL, KCL, GROUND]), APART),
+        (STILL, OFF, Ok([SOURCE, KCL, KCL, GROUND]), APART),
+        (STILL, ONE, Ok([SOURCE, TIE, KCL, SUM]), APART),
+        (
+            STILL,
             [true, true, false],
-            [SOURCE, TIE, TIE, SUM],
+            Ok([SOURCE, TIE, TIE, SUM]),
             ([50, -50, 50, 0], [50, 50, 0]),
         ),
     ]
@@ -236,29 +246,29 @@ fn chain_steps() -> [Look; 4] {
 
 #[test]
 fn empty_group_is_at_ground(rt: HostRuntime) -> Result<(), Fail> {
-    // N1 to N2 and N3 to ground, with switches N2 to N4 and N4 to N3: nothing else ends at N4
     let first = breaker(2, 4, 2 * STEP, None);
     let second = breaker(4, 3, 3 * STEP, None);
     let third = never();
-    let case = network(
-        rt.alloc(),
-        [ohm(1, 2), ohm(3, 0)],
-        false,
-        first,
-        second,
-        third,
-    )?;
-    assert!(rt; walk(rt.alloc(), &case, &chain_steps())?);
+    assert!(rt;
+        walk(
+            rt.alloc(),
+            [ohm(1, 2), ohm(3, 0)],
+            false,
+            first,
+            second,
+            third,
+            &chain_steps()
+        )?
+    );
     Ok(())
 }
 
 fn tied_steps() -> [Look; 3] {
-    let still = ([0; 4], [0; 3], 0);
-    let apart = ([0, 0, 0, 0], [0, 0, 0]);
-    let before = row(still, [false, false, false], [SOURCE, KCL, KCL, KCL], apart);
-    let mut after = row(still, [false, true, true], [KCL; 4], apart);
-    after.kinds = Err(Tied { switch: 1 });
-    [before, before, after]
+    [
+        (STILL, OFF, Ok([SOURCE, KCL, KCL, KCL]), APART),
+        (STILL, OFF, Ok([SOURCE, KCL, KCL, KCL]), APART),
+        (STILL, [false, true, true], Err(Tied { switch: 1 }), APART),
+    ]
 }
 
 #[test]
@@ -266,83 +276,103 @@ fn source_that_is_tied_to_ground_is_named(rt: HostRuntime) -> Result<(), Fail> {
     let first = never();
     let second = breaker(1, 0, 2 * STEP, None);
     let third = breaker(1, 0, 2 * STEP, None);
-    let case = network(
-        rt.alloc(),
-        [ohm(1, 2), ohm(3, 4)],
-        false,
-        first,
-        second,
-        third,
-    )?;
-    assert!(rt; walk(rt.alloc(), &case, &tied_steps())?);
+    assert!(rt;
+        walk(
+            rt.alloc(),
+            [ohm(1, 2), ohm(3, 4)],
+            false,
+            first,
+            second,
+            third,
+            &tied_steps()
+        )?
+    );
     Ok(())
 }
 
+/// N1 to N2, N3 to ground; the loop N2 to N4, N4 to N3, N3 to N2.
 fn loop_steps() -> [Look; 1] {
-    let still = ([0; 4], [0; 3], 0);
-    let kinds = [SOURCE, TIE, TIE, SUM];
-    let rest = row(still, [true; 3], kinds, ([50, -50, 50, 0], [50, 50, 0]));
-    [rest]
+    [(
+        STILL,
+        [true; 3],
+        Ok([SOURCE, TIE, TIE, SUM]),
+        ([50, -50, 50, 0], [50, 50, 0]),
+    )]
 }
 
 #[test]
 fn last_switch_of_a_loop_carries_nothing(rt: HostRuntime) -> Result<(), Fail> {
-    // N1 to N2, N3 to ground; the loop N2 to N4, N4 to N3, N3 to N2
     let first = breaker(2, 4, -1, None);
     let second = breaker(4, 3, -1, None);
     let third = breaker(3, 2, -1, None);
-    let case = network(
-        rt.alloc(),
-        [ohm(1, 2), ohm(3, 0)],
-        false,
-        first,
-        second,
-        third,
-    )?;
-    assert!(rt; walk(rt.alloc(), &case, &loop_steps())?);
+    assert!(rt;
+        walk(
+            rt.alloc(),
+            [ohm(1, 2), ohm(3, 0)],
+            false,
+            first,
+            second,
+            third,
+            &loop_steps()
+        )?
+    );
     Ok(())
 }
 
+const BOTH: [bool; 3] = [true, true, false];
+
+const IDLE: Result<[RowKind; 4], Tied> = Ok([SOURCE, RowKind::Tie(2), SUM, GROUND]);
+
+const LIT: Result<[RowKind; 4], Tied> = Ok([SOURCE, RowKind::Tie(2), SUM, RowKind::Tie(0)]);
+
+const ALL: Result<[RowKind; 4], Tied> = Ok([
+    SOURCE,
+    RowKind::Tie(0),
+    RowKind::Tie(0),
+    RowKind::Tie(0),
+]);
+
+const LOAD: Crossing = ([50, -50, 50, 0], [50, 0, 0]);
+
 fn kinds_steps() -> [Look; 6] {
-    let (one, both) = ([true, false, false], [true, true, false]);
-    let idle = [SOURCE, RowKind::Tie(2), SUM, GROUND];
-    let lit = [SOURCE, RowKind::Tie(2), SUM, RowKind::Tie(0)];
-    let all = [SOURCE, RowKind::Tie(0), RowKind::Tie(0), RowKind::Tie(0)];
-    let load = ([50, -50, 50, 0], [50, 0, 0]);
     [
-        row(([0; 4], [0, 0, 0], 0), one, idle, load),
-        row(([4, 0, 0, 0], [0, 0, 0], 0), one, idle, load),
-        row(
-            ([5, 0, 0, 0], [0, 0, 0], 1),
+        (STILL, ONE, IDLE, LOAD),
+        (([4, 0, 0, 0], [0; 3], 0), ONE, IDLE, LOAD),
+        (
+            ([5, 0, 0, 0], [0; 3], 1),
             [true; 3],
-            all,
+            ALL,
             ([0, 7, 5, 0], [-7, 12, -12]),
         ),
-        row(([9, 0, 0, 9], [0, 2, 0], 0), both, lit, load),
-        row(([9, 0, 0, 9], [0, 1, 0], -1), one, idle, load),
-        row(([0, 0, 0, 9], [0, 0, 0], 0), one, idle, load),
+        (([9, 0, 0, 9], [0, 2, 0], 0), BOTH, LIT, LOAD),
+        (([9, 0, 0, 9], [0, 1, 0], -1), ONE, IDLE, LOAD),
+        (([0, 0, 0, 9], [0; 3], 0), ONE, IDLE, LOAD),
     ]
 }
 
+/// A valve that ignites at 5 V and holds to 2 A.
+const VALVE: SwitchKind = SwitchKind::Valve {
+    ignition: 5 * NANO,
+    holding: 2 * NANO,
+    control: None,
+};
+
 #[test]
 fn other_kinds_of_switches(rt: HostRuntime) -> Result<(), Fail> {
-    // a measuring switch, a valve that ignites at 5 V and holds to 2 A, and a switch that PLUS1 controls
-    let valve = SwitchKind::Valve {
-        ignition: 5 * NANO,
-        holding: 2 * NANO,
-        control: None,
-    };
+    // a measuring switch, a valve, and a switch that PLUS1 controls
     let first = switch(2, 3, SwitchKind::Measuring);
-    let second = switch(1, 4, valve);
+    let second = switch(1, 4, VALVE);
     let third = switch(3, 4, SwitchKind::Control { control: 4 });
-    let case = network(
-        rt.alloc(),
-        [ohm(1, 2), ohm(3, 0)],
-        false,
-        first,
-        second,
-        third,
-    )?;
-    assert!(rt; walk(rt.alloc(), &case, &kinds_steps())?);
+    assert!(rt;
+        walk(
+            rt.alloc(),
+            [ohm(1, 2), ohm(3, 0)],
+            false,
+            first,
+            second,
+            third,
+            &kinds_steps()
+        )?
+    );
     Ok(())
 }

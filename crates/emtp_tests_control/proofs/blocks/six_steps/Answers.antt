@@ -3,10 +3,10 @@ use mir.Syntax.{w64}
 use Rattle.emtp_fix.specs.declared.limit.TheConstants.{LARGEST_VALUE}
 use Rattle.emtp_fix.proofs.Wide.{through_64}
 use Rattle.emtp_tests_control.proofs.Known.{known_small}
-use Rattle.emtp_tests_control.proofs.devices.outputs.Goals as goal
+use Rattle.emtp_tests_control.proofs.blocks.six_steps.Goals as goal
 
-pub output-requires-clause-values : goal.output-requires-clause-values
-output-requires-clause-values c =
+pub step-requires-clause-known : goal.step-requires-clause-known
+step-requires-clause-known c =
     let u = get_or c.args.inputs c.loop-at.at (pos 0) in
     let small : unsigned_abs u ≤ LARGEST_VALUE = c.requires.inputs c.loop-at.at (pos 0) (search arith) in
     let same : to_z w64 (of_z w64 u) ≡ u = through_64 u small in

@@ -1,5 +1,5 @@
 use Rattle.std.proofs.Common.{◌≡◌, length}
-use Rattle.emtp_tests_control.proofs.blocks.outputs.Given as goal
+use Rattle.emtp_tests_control.proofs.blocks.six_steps.Given as goal
 
 abbrev pub invariant-loop-at : goal.invariant-loop-at
 invariant-loop-at l = record {
