@@ -66,15 +66,13 @@ impl Filling {
             asked,
             ..
         } = self;
-        let_go(nodes);
-        let_go(variables);
-        let_go(asked);
+        // Dropped in place, each list would be proved here anew.
+        drop(nodes);
+        drop(variables);
+        drop(asked);
         draft.finish()
     }
 }
-
-/// Drops a value by a call. Where a value of many lists is dropped in place, each of them is proved there anew.
-pub(crate) fn let_go<T: Drop>(_value: T) {}
 
 /// Gives a draft the nodes that are new.
 pub(crate) fn add_nodes(draft: &mut Draft, nodes: &IndexSet<Name>) -> Result<(), Refused>

@@ -17,7 +17,7 @@ ghost use Rattle.emtp_sense.specs.Variables.{variable_names};
 use crate::asked::Asked;
 use crate::branches::{pending_fault, take_branches};
 use crate::control_filling::{add_control, add_tacs_sources};
-use crate::filling::{Filling, let_go};
+use crate::filling::Filling;
 use crate::outputs::take_outputs;
 use crate::samples::{has_too_many, samples_bad};
 use crate::sources::take_sources;
@@ -152,7 +152,7 @@ fn complete_case(
     match complete(alloc, &mut filling, deck, place, line) {
         Ok(()) => Ok(filling.into_case()),
         Err(refused) => {
-            let_go(filling);
+            drop(filling);
             Err(refused)
         }
     }
@@ -186,7 +186,7 @@ pub fn read(alloc: Global, cards: &Cards<'_>) -> Result<Case, Refused>
     match walk(alloc, cards) {
         Ok((deck, place)) => {
             let case = filled(alloc, &deck, &place, cards.len() as u32 + 1);
-            let_go(deck);
+            drop(deck);
             case
         }
         Err(refused) => Err(refused),

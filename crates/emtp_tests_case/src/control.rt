@@ -10,7 +10,6 @@ ghost use Rattle.emtp_tests_case.specs.Fixtures.{control_sizes};
 use crate::comparing::{block_is, channels_are_named, formula_is, names_are};
 use crate::filling::{
     add_channels, add_nodes, add_signals, add_switches, add_variables, case_of, has_no_history,
-    let_go,
 };
 use crate::fixtures::{MS, RUN, STANDING, UNIT, point, source, switch};
 use emtp_case::{
@@ -293,7 +292,7 @@ fn reads_back_its_signals(rt: HostRuntime) -> Result<(), Fail> {
     assert!(rt; parts.tacs_sources.as_slice() == signals().as_slice());
     let meter = switch(11, 1, 2, SwitchKind::Measuring);
     assert!(rt; parts.run == RUN && parts.switches.as_slice() == [meter].as_slice());
-    let_go(case);
+    drop(case);
     Ok(())
 }
 
@@ -353,7 +352,7 @@ fn reads_back_its_blocks_and_devices(rt: HostRuntime) -> Result<(), Fail> {
     ];
     channels_are_named(&rt, &case, &names);
     let checked = cards_are_back(&rt, alloc, parts);
-    let_go(case);
+    drop(case);
     checked?;
     Ok(())
 }

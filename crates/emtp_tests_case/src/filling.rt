@@ -25,15 +25,12 @@ use emtp_case::{
 };
 use std::alloc::AllocError;
 
-/// Drops a value by a call. Where a value of many lists is dropped in place, each of them is proved there anew.
-pub fn let_go<T: Drop>(_value: T) {}
-
 /// The case of a draft, where all records were added and each variable but the standing ones is that of one card.
 pub fn case_of(draft: Draft, filled: Result<bool, AllocError>) -> Result<Option<Case>, AllocError> {
     match filled {
         Ok(all) => Ok(finished(draft, all)),
         Err(error) => {
-            let_go(draft);
+            drop(draft);
             Err(error)
         }
     }
@@ -45,7 +42,7 @@ fn finished(draft: Draft, all: bool) -> Option<Case> {
     } else if all && is_defined(&draft.parts) {
         Some(draft.finish())
     } else {
-        let_go(draft);
+        drop(draft);
         None
     }
 }

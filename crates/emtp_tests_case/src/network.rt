@@ -8,8 +8,7 @@ ghost use Rattle.emtp_case.specs.Sizes.{sizes_with};
 
 use crate::comparing::{channels_are_named, names_are, rows_are};
 use crate::filling::{
-    add_channels, add_nodes, add_sources, add_switches, case_of, has_no_history, let_go,
-    takes_branches,
+    add_channels, add_nodes, add_sources, add_switches, case_of, has_no_history, takes_branches,
 };
 use crate::fixtures::{MS, RUN, STANDING, UNIT, point, source, switch, timed, valve};
 use emtp_case::{
@@ -83,7 +82,7 @@ fn network_of_resistors(rt: HostRuntime) -> Result<(), Fail> {
     channels_are_named(&rt, &case, &names);
     assert!(rt; case.node("MID") == Some(2) && case.node("MI").is_none());
     let checked = rows_are(&rt, rt.alloc(), &case, 1, &[1, 2]);
-    let_go(case);
+    drop(case);
     checked?;
     Ok(())
 }
@@ -320,7 +319,7 @@ fn reads_back_its_branches(rt: HostRuntime) -> Result<(), Fail> {
     let [a, b] = arrester_points();
     let [c, d, e] = reactor_points();
     assert!(rt; parts.points.as_slice() == [a, b, c, d, e].as_slice());
-    let_go(case);
+    drop(case);
     Ok(())
 }
 
@@ -338,7 +337,7 @@ fn reads_back_its_switches_and_sources(rt: HostRuntime) -> Result<(), Fail> {
     assert!(rt; parts.tacs_sources.is_empty() && parts.blocks.is_empty());
     assert!(rt; parts.extras.is_empty());
     names_are(&rt, parts.vars.as_slice(), &STANDING);
-    let_go(case);
+    drop(case);
     Ok(())
 }
 
@@ -353,7 +352,7 @@ fn orders_its_rows(rt: HostRuntime) -> Result<(), Fail> {
     // switch or a pseudo-nonlinear branch.
     let nodes = [1, 4, 6, 8, 3, 10, 5, 2, 7, 9, 11, 12];
     let checked = rows_are(&rt, rt.alloc(), &case, 4, &nodes);
-    let_go(case);
+    drop(case);
     checked?;
     Ok(())
 }

@@ -1,7 +1,7 @@
 //! Other times for the time switches of a case.
 
 use crate::comparing::{channels_are_named, names_are};
-use crate::filling::{add_channels, add_nodes, add_switches, are_times, case_of, let_go};
+use crate::filling::{add_channels, add_nodes, add_switches, are_times, case_of};
 use crate::fixtures::{MS, RUN, switch, timed, valve};
 use emtp_case::{Case, Channel, Draft, Switch, SwitchKind, Times};
 use std::alloc::{AllocError, Global};
@@ -85,6 +85,6 @@ fn gives_other_times(rt: HostRuntime) -> Result<(), Fail> {
     let lasting = [times(-3, None), times(6 * MS, None)];
     give_times(&rt, &mut case, lasting);
     breakers_are(&rt, &case, lasting);
-    let_go(case);
+    drop(case);
     Ok(())
 }

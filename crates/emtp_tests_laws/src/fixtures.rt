@@ -29,7 +29,7 @@ pub fn nodes(alloc: Global, count: usize) -> Result<Draft, AllocError>
     match add_nodes(&mut draft, count) {
         Ok(()) => Ok(draft),
         Err(error) => {
-            let_go(draft);
+            drop(draft);
             Err(error)
         }
     }
@@ -46,6 +46,3 @@ fn add_nodes(draft: &mut Draft, count: usize) -> Result<(), AllocError>
     }
     Ok(())
 }
-
-/// Drops a value. A case or what steps it has many lists: a call proves less than a drop in place.
-pub fn let_go<T: Drop>(_value: T) {}

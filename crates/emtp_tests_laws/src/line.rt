@@ -7,7 +7,7 @@ ghost use Rattle.emtp_case.specs.Sizes.{sizes_with};
 ghost use Rattle.emtp_case.specs.declared.branch.Line.{Line};
 ghost use Rattle.emtp_line.specs.Lines.{IsLineAt};
 
-use crate::fixtures::{OUT, RUN, V, let_go, nodes};
+use crate::fixtures::{OUT, RUN, V, nodes};
 use emtp_case::{Branch, Case, Line};
 use emtp_line::Lines;
 use std::alloc::{AllocError, Global};
@@ -76,7 +76,7 @@ fn one_line(alloc: Global, line: Line) -> Result<Case, AllocError>
     match draft.add_branch(Branch::Line(line)) {
         Ok(()) => Ok(draft.finish_network()),
         Err(error) => {
-            let_go(draft);
+            drop(draft);
             Err(error)
         }
     }
@@ -104,7 +104,7 @@ fn difference(alloc: Global, line: Line, rows: &[Row]) -> Result<Option<usize>, 
 {
     let case = one_line(alloc, line)?;
     let found = walk(alloc, &case, rows);
-    let_go(case);
+    drop(case);
     found
 }
 
@@ -113,7 +113,7 @@ fn walk(alloc: Global, case: &Case, rows: &[Row]) -> Result<Option<usize>, Alloc
 {
     let mut lines = Lines::open(alloc, case)?;
     let found = first_difference(&mut lines, rows);
-    let_go(lines);
+    drop(lines);
     Ok(found)
 }
 

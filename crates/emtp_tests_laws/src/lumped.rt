@@ -10,7 +10,7 @@ ghost use Rattle.emtp_case.specs.declared.branch.LumpedState.{LumpedState};
 ghost use Rattle.emtp_lumped.specs.Lumps.{IsSeries, StandsAt, StandsFor, HasMoved, next_of};
 ghost use Rattle.emtp_tests_laws.specs.Stepping.{voltage_of, HaveMoved, IsNext, IsFirstOut};
 
-use crate::fixtures::{OUT, RUN, V, let_go, nodes};
+use crate::fixtures::{OUT, RUN, V, nodes};
 use emtp_case::{Branch, Case, Draft, Lumped};
 use emtp_fix::OutOfRange;
 use emtp_lumped::Lumps;
@@ -145,7 +145,7 @@ fn two_branches(alloc: Global, first: Lumped, second: Lumped) -> Result<Case, Al
     match add_branches(&mut draft, first, second) {
         Ok(()) => Ok(draft.finish_network()),
         Err(error) => {
-            let_go(draft);
+            drop(draft);
             Err(error)
         }
     }
@@ -171,7 +171,7 @@ fn difference(alloc: Global, branch: Lumped, rows: &[Row]) -> Result<Option<usiz
 {
     let case = two_branches(alloc, branch, branch)?;
     let found = walk(alloc, &case, rows);
-    let_go(case);
+    drop(case);
     found
 }
 
@@ -180,7 +180,7 @@ fn walk(alloc: Global, case: &Case, rows: &[Row]) -> Result<Option<usize>, Alloc
 {
     let mut lumps = Lumps::open(alloc, case)?;
     let found = first_difference(&mut lumps, rows);
-    let_go(lumps);
+    drop(lumps);
     Ok(found)
 }
 
@@ -256,7 +256,7 @@ fn conductances_of(alloc: Global, case: &Case) -> Result<[i64; 2], AllocError>
 {
     let lumps = Lumps::open(alloc, case)?;
     let found = [lumps.conductance(0), lumps.conductance(1)];
-    let_go(lumps);
+    drop(lumps);
     Ok(found)
 }
 
@@ -264,7 +264,7 @@ fn conductances_of(alloc: Global, case: &Case) -> Result<[i64; 2], AllocError>
 fn conductances(rt: HostRuntime) -> Result<(), Fail> {
     let case = two_branches(rt.alloc(), coil(), short_lead())?;
     let found = conductances_of(rt.alloc(), &case);
-    let_go(case);
+    drop(case);
     // 10^18 over 10,000,100 micro-ohm
     assert_eq!(rt; found?, [500_000_000_000, 99_999_000_010]);
     Ok(())
@@ -287,7 +287,7 @@ fn steps_of_both(
         &[0, 5_000_000_000_000_000_000],
         &mut [0; 2],
     );
-    let_go(lumps);
+    drop(lumps);
     Ok((near, currents, far))
 }
 
@@ -295,7 +295,7 @@ fn steps_of_both(
 fn all_branches_step_by_step(rt: HostRuntime) -> Result<(), Fail> {
     let case = two_branches(rt.alloc(), short_lead(), coil())?;
     let found = steps_of_both(rt.alloc(), &case);
-    let_go(case);
+    drop(case);
     let (near, currents, far) = found?;
     assert_eq!(rt; near, Ok(()));
     assert_eq!(rt; currents, [9_999_900_001, 50 * V]);

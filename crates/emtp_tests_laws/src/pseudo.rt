@@ -7,7 +7,7 @@ ghost use Rattle.emtp_case.specs.declared.branch.Pseudo.{Pseudo};
 ghost use Rattle.emtp_pseudo.specs.Pseudos.{IsPseudoAt, Moves, StandsAt, next_history_current, present};
 ghost use Rattle.emtp_pseudo.specs.declared.moment.Moment.{Moment};
 
-use crate::fixtures::{RUN, V, let_go, nodes};
+use crate::fixtures::{RUN, V, nodes};
 use emtp_case::{Branch, Case, Point, Pseudo};
 use emtp_fix::OutOfRange;
 use emtp_pseudo::Pseudos;
@@ -63,7 +63,7 @@ fn one_branch(alloc: Global, reactor: bool, points: &[Point]) -> Result<Case, Al
     match draft.add_pseudo(branch, points) {
         Ok(()) => Ok(draft.finish_network()),
         Err(error) => {
-            let_go(draft);
+            drop(draft);
             Err(error)
         }
     }
@@ -159,7 +159,7 @@ fn difference(
 {
     let case = one_branch(alloc, reactor, points)?;
     let found = walk(alloc, &case, rows);
-    let_go(case);
+    drop(case);
     found
 }
 
@@ -168,7 +168,7 @@ fn walk(alloc: Global, case: &Case, rows: &[Row]) -> Result<Option<usize>, Alloc
 {
     let mut pseudos = Pseudos::open(alloc, case)?;
     let found = first_difference(&mut pseudos, rows);
-    let_go(pseudos);
+    drop(pseudos);
     Ok(found)
 }
 

@@ -120,9 +120,6 @@ pub fn never() -> Switch
     breaker(1, 0, 1_000 * STEP, None)
 }
 
-/// Drops a value. A case or what steps it has many lists: a call proves less than a drop in place.
-pub fn let_go<T: Drop>(_value: T) {}
-
 /// A case with so many nodes, and nothing else so far. Nothing here asks for their names, so all have one.
 pub fn nodes(alloc: Global, run: RunData, count: usize) -> Result<Draft, AllocError>
     requires run { IsRun run }
@@ -133,7 +130,7 @@ pub fn nodes(alloc: Global, run: RunData, count: usize) -> Result<Draft, AllocEr
     match add_nodes(&mut draft, count) {
         Ok(()) => Ok(draft),
         Err(error) => {
-            let_go(draft);
+            drop(draft);
             Err(error)
         }
     }
@@ -204,7 +201,7 @@ pub fn network(
     match add_parts(&mut draft, resistors, second_source, first, second, third) {
         Ok(()) => Ok(draft.finish_network()),
         Err(error) => {
-            let_go(draft);
+            drop(draft);
             Err(error)
         }
     }

@@ -13,7 +13,7 @@ ghost use Rattle.emtp_elim.specs.Fault.{IsRowFault};
 ghost use Rattle.emtp_rows.specs.Nodal.{nodal_matrix};
 ghost use Rattle.emtp_rows.specs.Touched.{StandsUntouched};
 
-use crate::fixtures::{RUN, let_go, nodes};
+use crate::fixtures::{RUN, nodes};
 use emtp_case::{
     Branch, Case, Draft, Line, Lumped, Phase, RowKind, RowOrder, Shape, Source, Trio, order,
 };
@@ -153,7 +153,7 @@ fn network(alloc: Global, line: Line, modes: Trio) -> Result<Case, AllocError>
     match add_parts(&mut draft, line, modes) {
         Ok(()) => Ok(draft.finish_network()),
         Err(error) => {
-            let_go(draft);
+            drop(draft);
             Err(error)
         }
     }
@@ -265,7 +265,7 @@ const TOGETHER: [[i128; 5]; 5] = [
 fn rows_of_all_kinds(rt: HostRuntime) -> Result<(), Fail> {
     let case = network(rt.alloc(), line(), modes())?;
     let found = all_kinds(&rt, rt.alloc(), &case);
-    let_go(case);
+    drop(case);
     found?;
     Ok(())
 }
@@ -277,7 +277,7 @@ fn all_kinds(rt: &impl Abort, alloc: Global, case: &Case) -> Result<(), AllocErr
 {
     let order = order(alloc, case)?;
     let found = all_kinds_in(rt, alloc, case, &order);
-    let_go(order);
+    drop(order);
     found
 }
 
@@ -296,7 +296,7 @@ fn all_kinds_in(
     assert!(rt; rows.fixed() == 1);
     assert!(rt; rows.take_touched() == 0);
     become_joined(rt, &mut rows);
-    let_go(rows);
+    drop(rows);
     Ok(())
 }
 

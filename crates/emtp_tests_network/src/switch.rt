@@ -14,7 +14,7 @@ ghost use Rattle.emtp_switch.specs.States.{next_states};
 ghost use Rattle.emtp_switch.specs.Switching.{AreLatest, StandsFor};
 ghost use Rattle.emtp_tests_network.specs.Fixtures.{HasSizes};
 
-use crate::fixtures::{NANO, RUN, STEP, breaker, let_go, nano, network, never, ohm, switch, wide};
+use crate::fixtures::{NANO, RUN, STEP, breaker, nano, network, never, ohm, switch, wide};
 use emtp_case::{Case, Lumped, RowKind, RowOrder, Switch, SwitchKind, order};
 use emtp_switch::{Switches, Tied};
 use std::alloc::{AllocError, Global};
@@ -126,7 +126,7 @@ fn walk(
 {
     let case = network(alloc, resistors, second_source, first, second, third)?;
     let right = walk_of(alloc, &case, steps);
-    let_go(case);
+    drop(case);
     right
 }
 
@@ -135,7 +135,7 @@ fn walk_of(alloc: Global, case: &Case, steps: &[Look]) -> Result<bool, AllocErro
 {
     let rows = order(alloc, case)?;
     let right = walk_in(alloc, case, &rows, steps);
-    let_go(rows);
+    drop(rows);
     right
 }
 
@@ -145,7 +145,7 @@ fn walk_in(alloc: Global, case: &Case, rows: &RowOrder, steps: &[Look]) -> Resul
 {
     let mut switches = Switches::open(alloc, case, rows)?;
     let right = shows_each(&mut switches, steps);
-    let_go(switches);
+    drop(switches);
     Ok(right)
 }
 

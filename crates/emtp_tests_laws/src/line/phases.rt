@@ -5,7 +5,7 @@ ghost use Rattle.emtp_case.specs.Branch.{IsTrio};
 ghost use Rattle.emtp_case.specs.HistoryValues.{trio_history_values};
 ghost use Rattle.emtp_tests_laws.specs.Phases.{leg, three_legs};
 
-use crate::fixtures::{OUT, RUN, V, let_go, nodes};
+use crate::fixtures::{OUT, RUN, V, nodes};
 use emtp_case::{Case, Phase, Trio};
 use emtp_line::{Lines, PhaseRange};
 use std::alloc::{AllocError, Global};
@@ -63,7 +63,7 @@ fn three_phases(alloc: Global, modes: Trio) -> Result<Case, AllocError>
     match draft.add_trio(modes, phase(1, 2), phase(3, 4), phase(5, 6)) {
         Ok(()) => Ok(draft.finish_network()),
         Err(error) => {
-            let_go(draft);
+            drop(draft);
             Err(error)
         }
     }
@@ -79,7 +79,7 @@ fn difference(alloc: Global, modes: Trio, rows: &[Row]) -> Result<Option<usize>,
 {
     let case = three_phases(alloc, modes)?;
     let found = walk(alloc, &case, rows);
-    let_go(case);
+    drop(case);
     found
 }
 
@@ -88,7 +88,7 @@ fn walk(alloc: Global, case: &Case, rows: &[Row]) -> Result<Option<usize>, Alloc
 {
     let mut lines = Lines::open(alloc, case)?;
     let found = first_difference(&mut lines, rows);
-    let_go(lines);
+    drop(lines);
     Ok(found)
 }
 
@@ -194,7 +194,7 @@ fn losses_take_of_both_sequences(rt: HostRuntime) -> Result<(), Fail> {
 fn phases_one_by_one(rt: HostRuntime) -> Result<(), Fail> {
     let case = three_phases(rt.alloc(), two_sequences())?;
     let found = one_by_one(&rt, rt.alloc(), &case);
-    let_go(case);
+    drop(case);
     found?;
     Ok(())
 }
@@ -213,7 +213,7 @@ fn one_by_one(rt: &impl Abort, alloc: Global, case: &Case) -> Result<(), AllocEr
     assert_eq!(rt; lines.history_currents(0), (0, -1_000_000_000));
     assert_eq!(rt; lines.history_currents(1), (0, 1_000_000_000));
     assert_eq!(rt; lines.history_currents(2), (0, 0));
-    let_go(lines);
+    drop(lines);
     Ok(())
 }
 
@@ -249,7 +249,7 @@ const REFUSALS: &[Refusal] = &[
 fn first_phase_out_of_range(rt: HostRuntime) -> Result<(), Fail> {
     let case = three_phases(rt.alloc(), leads())?;
     let found = refusals(&rt, rt.alloc(), &case);
-    let_go(case);
+    drop(case);
     found?;
     Ok(())
 }
@@ -262,7 +262,7 @@ fn refusals(rt: &impl Abort, alloc: Global, case: &Case) -> Result<(), AllocErro
     refuses_each(rt, &mut lines);
     // the five that were refused left it at rest
     assert_eq!(rt; lines.history_currents(2), (0, -1_000_000_000_000_000_000));
-    let_go(lines);
+    drop(lines);
     Ok(())
 }
 
