@@ -51,19 +51,6 @@ fn meter() -> Switch
     }
 }
 
-/// Two nodes of these names.
-fn two_nodes(alloc: Global, first: Name, second: Name) -> Result<Draft, AllocError>
-    requires first { IsName first }
-    requires second { IsName second }
-    ensures nodes { IfOk result (λ draft. length draft.parts.nodes ≡ 2) }
-    ensures rest { IfOk result (λ draft. draft.parts ≡ record (empty_parts RUN) { nodes = draft.parts.nodes }) }
-{
-    let mut draft = Draft::new(alloc, RUN)?;
-    draft.add_node(first)?;
-    draft.add_node(second)?;
-    Ok(draft)
-}
-
 /// A branch and a switch between the nodes.
 fn add_both(draft: &mut Draft) -> Result<(), AllocError>
     requires run { draft.old.parts.run ≡ RUN }
@@ -115,10 +102,34 @@ fn recorded(
     requires third { IsChannel (record (sizes_with 2) { branches = 1; switches = 1 }) channels.2 }
     ensures { IfOk result (λ case. length case.parts.channels ≡ 3) }
 {
-    let mut draft = two_nodes(alloc, nodes.0, nodes.1)?;
-    add_both(&mut draft)?;
-    add_channels(&mut draft, channels.0, channels.1, channels.2)?;
-    Ok(draft.finish_network())
+    let mut draft = Draft::new(alloc, RUN)?;
+    match add_parts(&mut draft, nodes, channels) {
+        Ok(()) => Ok(draft.finish_network()),
+        Err(error) => {
+            drop(draft);
+            Err(error)
+        }
+    }
+}
+
+fn add_parts(
+    draft: &mut Draft,
+    nodes: (Name, Name),
+    channels: (Channel, Channel, Channel),
+) -> Result<(), AllocError>
+    requires empty { draft.old.parts ≡ empty_parts RUN }
+    requires first_node { IsName nodes.0 }
+    requires second_node { IsName nodes.1 }
+    requires first { IsChannel (record (sizes_with 2) { branches = 1; switches = 1 }) channels.0 }
+    requires second { IsChannel (record (sizes_with 2) { branches = 1; switches = 1 }) channels.1 }
+    requires third { IsChannel (record (sizes_with 2) { branches = 1; switches = 1 }) channels.2 }
+    ensures count { OnOk result (length draft.new.parts.channels ≡ 3) }
+    ensures others { OnOk result (draft.new.parts ≡ record draft.old.parts { nodes = draft.new.parts.nodes; branches = draft.new.parts.branches; switches = draft.new.parts.switches; channels = draft.new.parts.channels }) }
+{
+    draft.add_node(nodes.0)?;
+    draft.add_node(nodes.1)?;
+    add_both(draft)?;
+    add_channels(draft, channels.0, channels.1, channels.2)
 }
 
 /// Samples of so many channels, in nV, nA or states.
@@ -164,10 +175,26 @@ fn record_is(
     requires few { length rows.now ≤ 1000 }
 {
     let samples = sampled(rt, alloc, 3, rows)?;
+    let files = files_of(rt, alloc, case, &samples, cfg, dat);
+    drop(samples);
+    files
+}
+
+fn files_of(
+    rt: &impl Abort,
+    alloc: Global,
+    case: &Case,
+    samples: &Samples,
+    cfg: &str,
+    dat: &str,
+) -> Result<(), AllocError>
+    requires { samples.now.channels ≡ length case.now.parts.channels }
+{
     let mut cabinet = MemoryCabinet::new(alloc, Vec::new(alloc), Vec::new(alloc), 4096, 4096)?;
-    assert!(rt; make_record(&mut cabinet, case, &samples).is_ok());
+    assert!(rt; make_record(&mut cabinet, case, samples).is_ok());
     assert!(rt; cabinet.written(Output::Cfg) == Some(cfg.as_bytes()));
     assert!(rt; cabinet.written(Output::Dat) == Some(dat.as_bytes()));
+    drop(cabinet);
     Ok(())
 }
 
@@ -194,7 +221,15 @@ const BRANCH_DAT: &str = concat!(
     "\x1a",
 );
 
-/// The node, current and voltage of a branch that carries 50 A at 50 V.
+/// A branch that carries 50 A at 50 V.
+const BRANCH_ROWS: &[&[i64]] = &[
+    &[0, 0, 0],
+    &[50_000_000_000, 50_000_000_000, 50_000_000_000],
+    &[50_000_000_000, 50_000_000_000, 50_000_000_000],
+    &[50_000_000_000, 50_000_000_000, 50_000_000_000],
+];
+
+/// The node, current and voltage of a branch.
 fn branch_record(rt: &impl Abort, alloc: Global) -> Result<(), AllocError> {
     let nodes = (Name::new(b"SRC"), Name::new(b"MID"));
     let channels = (
@@ -203,15 +238,9 @@ fn branch_record(rt: &impl Abort, alloc: Global) -> Result<(), AllocError> {
         Channel::BranchVoltage(0),
     );
     let case = recorded(alloc, nodes, channels)?;
-    let on: &[i64] = &[50_000_000_000, 50_000_000_000, 50_000_000_000];
-    record_is(
-        rt,
-        alloc,
-        &case,
-        &[&[0, 0, 0], on, on, on],
-        BRANCH_CFG,
-        BRANCH_DAT,
-    )
+    let files = record_is(rt, alloc, &case, BRANCH_ROWS, BRANCH_CFG, BRANCH_DAT);
+    drop(case);
+    files
 }
 
 #[test]
@@ -245,7 +274,17 @@ const SWITCH_DAT: &str = concat!(
     "\x1a",
 );
 
-/// The current, voltage and state of a breaker that opens at a current zero after 75 A.
+/// A breaker that opens at a current zero after 75 A.
+const SWITCH_ROWS: &[&[i64]] = &[
+    &[0, 0, 1],
+    &[75_000_000_000, 0, 1],
+    &[25_000_000_000, 0, 1],
+    &[-25_000_000_000, 0, 1],
+    &[0, 0, 0],
+    &[0, 0, 0],
+];
+
+/// The current, voltage and state of a switch.
 fn switch_record(rt: &impl Abort, alloc: Global) -> Result<(), AllocError> {
     let nodes = (Name::new(b"A"), Name::new(b"B"));
     let channels = (
@@ -254,15 +293,9 @@ fn switch_record(rt: &impl Abort, alloc: Global) -> Result<(), AllocError> {
         Channel::Status(0),
     );
     let case = recorded(alloc, nodes, channels)?;
-    let rows: [&[i64]; 6] = [
-        &[0, 0, 1],
-        &[75_000_000_000, 0, 1],
-        &[25_000_000_000, 0, 1],
-        &[-25_000_000_000, 0, 1],
-        &[0, 0, 0],
-        &[0, 0, 0],
-    ];
-    record_is(rt, alloc, &case, &rows, SWITCH_CFG, SWITCH_DAT)
+    let files = record_is(rt, alloc, &case, SWITCH_ROWS, SWITCH_CFG, SWITCH_DAT);
+    drop(case);
+    files
 }
 
 #[test]

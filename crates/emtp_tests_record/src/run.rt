@@ -1,6 +1,7 @@
 //! Whole calls over a cabinet in memory, in which each call of each kind fails in turn.
-ghost use Rattle.std.specs.Prelude.{◌<◌};
+ghost use Rattle.std.specs.Prelude.{◌≡◌, ◌<◌, ◌≤◌, length, IfOk};
 
+use crate::words::owned;
 use emtp_io::{Failing, MemoryCabinet, Op, Output};
 use emtp_run::{Status, emtp};
 use std::alloc::{AllocError, Global};
@@ -81,23 +82,23 @@ const REFUSED: &str = "BAD CARD LINE 1 COLUMN 1 REASON 16 MissingSection\n";
 const TRIAL: &str =
     "TRIAL 1 STEPS 2000 SAMPLES 101 REDONE 4 PEAK 145543352911428 SUM 1189507906597277\n";
 
-const RUN: [&str; 4] = ["run", "a.case", "a.cfg", "a.dat"];
+const RUN: &[&str] = &["run", "a.case", "a.cfg", "a.dat"];
 
 /// The outputs in the order in which they are made.
 const OUTPUTS: [Output; 4] = [Output::Cfg, Output::Dat, Output::Note, Output::Summary];
 
 /// A whole call, and what it answers and makes where no call of the cabinet fails.
 #[derive(Clone, Copy)]
-struct Row<'a> {
-    words: &'a [&'a str],
+struct Row {
+    words: &'static [&'static str],
     /// The bytes of the file `a.case`, and whether it is read.
-    case: &'a str,
+    case: &'static str,
     is_read: bool,
     status: Status,
     /// The status where an output can't be made.
     cut: Status,
     /// The bytes of each output, where it is made.
-    made: [Option<&'a str>; 4],
+    made: &'static [Option<&'static str>; 4],
 }
 
 /// How far a call came with its outputs: how many were created, and how many bytes of them stand.
@@ -117,19 +118,26 @@ fn failing(
 ) -> Result<MemoryCabinet, AllocError>
     requires { 0 < piece }
 {
-    let mut files = Vec::new(alloc);
-    let bytes = Vec::from_slice(alloc, case.as_bytes())?;
-    files.push((String::from_str(alloc, "a.case")?, bytes))?;
+    let files = one_file(alloc, case)?;
     let fails = Vec::from_slice(alloc, &[Failing { op, nth }])?;
     MemoryCabinet::new(alloc, files, fails, piece, 4096)
 }
 
+fn one_file(alloc: Global, case: &str) -> Result<Vec<(String, Vec<u8>)>, AllocError>
+    ensures { IfOk result (λ files. length files.items ≡ 1) }
+{
+    let name = String::from_str(alloc, "a.case")?;
+    let bytes = Vec::from_slice(alloc, case.as_bytes())?;
+    let mut files = Vec::new(alloc);
+    files.push((name, bytes))?;
+    Ok(files)
+}
+
 fn call(alloc: Global, words: &[&str], cabinet: &mut MemoryCabinet) -> Result<Status, AllocError> {
-    let mut owned = Vec::new(alloc);
-    for word in words {
-        owned.push(String::from_str(alloc, word)?)?;
-    }
-    Ok(emtp(alloc, &owned, cabinet))
+    let words = owned(alloc, words)?;
+    let status = emtp(alloc, &words, cabinet);
+    drop(words);
+    Ok(status)
 }
 
 /// How many bytes the first so many of these outputs have.
@@ -167,12 +175,61 @@ fn made_so_far(cabinet: &MemoryCabinet, made: &[Option<&str>; 4]) -> Option<Prog
     Some(Progress { created, bytes })
 }
 
-/// How many calls of this kind a row makes, each of which has failed in turn: without a file no output is created; a
+/// What a row answers whose nth call of this kind fails, and how far it came. None as in `made_so_far`.
+fn nth_failed(
+    alloc: Global,
+    row: &Row,
+    piece: usize,
+    op: Op,
+    nth: u32,
+) -> Result<Option<(Status, Progress)>, AllocError>
+    requires { 0 < piece }
+{
+    let mut cabinet = failing(alloc, row.case, piece, op, nth)?;
+    let status = call(alloc, row.words, &mut cabinet);
+    let made = made_so_far(&cabinet, row.made);
+    drop(cabinet);
+    let status = status?;
+    match made {
+        Some(now) => Ok(Some((status, now))),
+        None => Ok(None),
+    }
+}
+
+/// Whether this is what a row answers and makes whose nth call of this kind fails: without a file no output is created; a
 /// failed creation leaves those before it whole; a failed write leaves its output cut short, by one to `piece` bytes
-/// behind the write before. None where an answer is none of these.
+/// behind the write before.
+fn is_promised(
+    row: &Row,
+    piece: usize,
+    op: Op,
+    nth: u32,
+    before: Option<usize>,
+    status: Status,
+    now: Progress,
+) -> bool
+    requires { 1 ≤ nth }
+{
+    let end = bytes_of(row.made, now.created);
+    match op {
+        Op::Open | Op::Read => status == Status::ReadFault && now.created == 0,
+        Op::Create => status == row.cut && now.created == nth - 1 && now.bytes == end,
+        Op::Write => status == row.cut && now.bytes < end && follows(before, now.bytes, piece),
+    }
+}
+
+/// Whether so many bytes stand after one more write, of one to `piece` bytes; none before the first.
+fn follows(before: Option<usize>, bytes: usize, piece: usize) -> bool {
+    match before {
+        None => bytes == 0,
+        Some(before) => bytes > before && bytes <= piece.saturating_add(before),
+    }
+}
+
+/// How many calls of this kind a row makes, each of which has failed in turn as promised. None where one has not.
 fn failed_in_turn(
     alloc: Global,
-    row: &Row<'_>,
+    row: &Row,
     piece: usize,
     op: Op,
 ) -> Result<Option<usize>, AllocError>
@@ -180,30 +237,13 @@ fn failed_in_turn(
 {
     let mut before = None;
     for nth in 1..=1000u32 {
-        let mut cabinet = failing(alloc, row.case, piece, op, nth)?;
-        let status = call(alloc, row.words, &mut cabinet)?;
-        let Some(now) = made_so_far(&cabinet, &row.made) else {
+        let Some((status, now)) = nth_failed(alloc, row, piece, op, nth)? else {
             return Ok(None);
         };
-        if now.bytes == bytes_of(&row.made, 4) {
+        if now.bytes == bytes_of(row.made, 4) {
             return Ok((status == row.status).then_some((nth - 1) as usize));
         }
-        let end = bytes_of(&row.made, now.created);
-        let is_promised = match op {
-            Op::Open | Op::Read => status == Status::ReadFault && now.created == 0,
-            Op::Create => status == row.cut && now.created == nth - 1 && now.bytes == end,
-            Op::Write => {
-                status == row.cut
-                    && now.bytes < end
-                    && match before {
-                        None => now.bytes == 0,
-                        Some(bytes) => {
-                            now.bytes > bytes && now.bytes <= piece.saturating_add(bytes)
-                        }
-                    }
-            }
-        };
-        if !is_promised {
+        if !is_promised(row, piece, op, nth, before, status, now) {
             return Ok(None);
         }
         before = Some(now.bytes);
@@ -212,59 +252,57 @@ fn failed_in_turn(
 }
 
 /// A run to its end, one with an early end, a refused card, words that don't fit, and a trial.
-fn rows<'a>() -> [Row<'a>; 5] {
-    [
-        Row {
-            words: &RUN,
-            case: DIVIDER,
-            is_read: true,
-            status: Status::Done,
-            cut: Status::WriteFault,
-            made: [Some(CFG), Some(DAT), Some(NOTE), None],
-        },
-        Row {
-            words: &RUN,
-            case: UNBOUND,
-            is_read: true,
-            status: Status::Ended,
-            cut: Status::WriteFault,
-            made: [
-                Some(UNBOUND_CFG),
-                Some(UNBOUND_DAT),
-                Some(UNBOUND_NOTE),
-                None,
-            ],
-        },
-        Row {
-            words: &RUN,
-            case: "",
-            is_read: true,
-            status: Status::BadCard,
-            cut: Status::BadCard,
-            made: [None, None, Some(REFUSED), None],
-        },
-        Row {
-            words: &["run", "a.case", "a.dat", "a.dat"],
-            case: DIVIDER,
-            is_read: false,
-            status: Status::Usage,
-            cut: Status::Usage,
-            made: [None, None, Some("USAGE\n"), None],
-        },
-        Row {
-            words: &["trial", "1"],
-            case: DIVIDER,
-            is_read: false,
-            status: Status::Done,
-            cut: Status::WriteFault,
-            made: [None, None, None, Some(TRIAL)],
-        },
-    ]
-}
+const ROWS: &[Row] = &[
+    Row {
+        words: RUN,
+        case: DIVIDER,
+        is_read: true,
+        status: Status::Done,
+        cut: Status::WriteFault,
+        made: &[Some(CFG), Some(DAT), Some(NOTE), None],
+    },
+    Row {
+        words: RUN,
+        case: UNBOUND,
+        is_read: true,
+        status: Status::Ended,
+        cut: Status::WriteFault,
+        made: &[
+            Some(UNBOUND_CFG),
+            Some(UNBOUND_DAT),
+            Some(UNBOUND_NOTE),
+            None,
+        ],
+    },
+    Row {
+        words: RUN,
+        case: "",
+        is_read: true,
+        status: Status::BadCard,
+        cut: Status::BadCard,
+        made: &[None, None, Some(REFUSED), None],
+    },
+    Row {
+        words: &["run", "a.case", "a.dat", "a.dat"],
+        case: DIVIDER,
+        is_read: false,
+        status: Status::Usage,
+        cut: Status::Usage,
+        made: &[None, None, Some("USAGE\n"), None],
+    },
+    Row {
+        words: &["trial", "1"],
+        case: DIVIDER,
+        is_read: false,
+        status: Status::Done,
+        cut: Status::WriteFault,
+        made: &[None, None, None, Some(TRIAL)],
+    },
+];
 
 /// Whether each call of a row has failed in turn as promised: one opening, a read for each piece of the file and one
 /// that finds its end, a creation for each output, and at least a write for each piece of what is made.
-fn all_failed_in_turn(alloc: Global, row: &Row<'_>, piece: usize) -> Result<bool, AllocError>
+fn all_failed_in_turn(alloc: Global, row: &Row, piece: usize) -> Result<bool, AllocError>
     requires { 0 < piece }
 {
     let files = if row.is_read { 1 } else { 0 };
@@ -273,8 +311,9 @@ fn all_failed_in_turn(alloc: Global, row: &Row<'_>, piece: usize) -> Result<bool
     } else {
         0
     };
-    let outputs = row.made.iter().flatten().count();
-    let writes = bytes_of(&row.made, 4).div_ceil(piece);
+    let made = row.made;
+    let outputs = made.iter().flatten().count();
+    let writes = bytes_of(made, 4).div_ceil(piece);
     Ok(
         failed_in_turn(alloc, row, piece, Op::Open)? == Some(files)
             && failed_in_turn(alloc, row, piece, Op::Read)? == Some(reads)
@@ -285,22 +324,22 @@ fn all_failed_in_turn(alloc: Global, row: &Row<'_>, piece: usize) -> Result<bool
 
 #[test]
 fn stops_at_each_call_that_fails(rt: HostRuntime) -> Result<(), Fail> {
-    let alloc = rt.alloc();
-    for row in rows() {
-        assert!(rt; all_failed_in_turn(alloc, &row, 1)?);
-        assert!(rt; all_failed_in_turn(alloc, &row, 7)?);
-        assert!(rt; all_failed_in_turn(alloc, &row, 4096)?);
+    for row in ROWS {
+        assert!(rt; all_failed_in_turn(rt.alloc(), row, 1)?);
+        assert!(rt; all_failed_in_turn(rt.alloc(), row, 7)?);
+        assert!(rt; all_failed_in_turn(rt.alloc(), row, 4096)?);
     }
     Ok(())
 }
 
 #[test]
 fn names_its_outputs_by_the_words(rt: HostRuntime) -> Result<(), Fail> {
-    let alloc = rt.alloc();
-    let mut cabinet = failing(alloc, DIVIDER, 4096, Op::Write, 1000)?;
-    assert_eq!(rt; call(alloc, &RUN, &mut cabinet)?, Status::Done);
+    let mut cabinet = failing(rt.alloc(), DIVIDER, 4096, Op::Write, 1000)?;
+    let status = call(rt.alloc(), RUN, &mut cabinet);
     assert!(rt; cabinet.name(Output::Cfg) == Some("a.cfg"));
     assert!(rt; cabinet.name(Output::Dat) == Some("a.dat"));
     assert!(rt; cabinet.name(Output::Note) == Some(""));
+    drop(cabinet);
+    assert_eq!(rt; status?, Status::Done);
     Ok(())
 }
