@@ -59,12 +59,27 @@ fn run(tolerance: u32) -> RunData
 /// The case of these parts; none where one doesn't fit.
 pub fn fill(alloc: Global, tolerance: u32, parts: &[Part]) -> Result<Option<Case>, AllocError> {
     let mut draft = Draft::new(alloc, run(tolerance))?;
-    for part in parts {
-        if !add(&mut draft, *part)? {
-            return Ok(None);
+    match add_all(&mut draft, parts) {
+        Ok(true) => Ok(finished(draft)),
+        Ok(false) => {
+            drop(draft);
+            Ok(None)
+        }
+        Err(error) => {
+            drop(draft);
+            Err(error)
         }
     }
-    Ok(finished(draft))
+}
+
+/// Adds parts, up to the first that doesn't fit. Answers whether all fit.
+fn add_all(draft: &mut Draft, parts: &[Part]) -> Result<bool, AllocError> {
+    for part in parts {
+        if !add(draft, *part)? {
+            return Ok(false);
+        }
+    }
+    Ok(true)
 }
 
 /// The case, where it has the standing variables alone.
@@ -72,6 +87,7 @@ fn finished(draft: Draft) -> Option<Case> {
     if draft.parts.vars.len() == 6 {
         Some(draft.finish())
     } else {
+        drop(draft);
         None
     }
 }
