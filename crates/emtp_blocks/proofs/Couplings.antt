@@ -6,9 +6,9 @@ use Rattle.std.proofs.lemmas.Int.{ints}
 use Rattle.std.proofs.lemmas.List.{get_or_past}
 use Rattle.emtp_case.specs.declared.control.Input.{Input}
 use Rattle.emtp_elim.specs.Matrix.{item}
-use Rattle.emtp_blocks.specs.Sums.{total}
+use Rattle.emtp_case.specs.Sums.{total}
 use Rattle.emtp_blocks.specs.System.{signed, coupling_by}
-use Rattle.emtp_blocks.proofs.Sums.{total_small}
+use Rattle.emtp_case.proofs.Sums.{total_small}
 
 pub is_number : (a b : ℕ) → a ≡ b → (a == b) ≡ true
 is_number a b e = grind (arith, nat_tests)

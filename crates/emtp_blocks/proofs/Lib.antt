@@ -1,4 +1,3 @@
-pub mod Sums
 pub mod Chains
 pub mod Coefficients
 pub mod NextStates

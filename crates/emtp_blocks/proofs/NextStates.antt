@@ -10,13 +10,13 @@ use Rattle.emtp_case.specs.declared.control.BlockState.{BlockState}
 use Rattle.emtp_case.specs.declared.control.Block.{Block}
 use Rattle.emtp_fix.specs.Rounding.{near}
 use Rattle.emtp_elim.specs.Matrix.{item, list_of}
-use Rattle.emtp_blocks.specs.Sums.{sum_below}
+use Rattle.emtp_case.specs.Sums.{sum_below}
 use Rattle.emtp_blocks.specs.Block.{carried, past_output, error_of, chain_of, limiter_for, output_of, padded, unlimited, input_of, is_within, each_within, kept_of, next_state, IsLawOf, IsKept, HasState, Keeps}
 use Rattle.emtp_case.specs.declared.control.Limiter.{Limiter}
 use Rattle.emtp_blocks.specs.declared.law.BlockLaw.{BlockLaw}
 use Rattle.emtp_blocks.specs.declared.limits.Limits.{Limits}
 use Rattle.emtp_blocks.proofs.Chains.{carried_same, each_same, each_small}
-use Rattle.emtp_blocks.proofs.Sums.{sum_below_same}
+use Rattle.emtp_case.proofs.Sums.{sum_below_same}
 
 -- a number of a list that is made by a function
 pub list_item : (n : ℕ) (f : ℕ → ℤ) (j : ℕ) → j < n → item (list_of n f) j ≡ f j
@@ -31,13 +31,13 @@ padded_item order f j small below =
 -- a number of the new chain
 pub chain_is : (order : ℕ) (es ys es' ys' errors : List ℤ) (f : ℕ → ℤ) (clamped : Bool) (last : ℤ) (j : ℕ) → j < order → ((i : ℕ) → i < order → item es i ≡ item es' i) → ((i : ℕ) → i < order → item ys i ≡ item ys' i)
     → ((i : ℕ) → i < order → item errors i ≡ f i) → last ≡ f order
-    → (if clamped && (suc j == order) then last else carried es ys (j + 1) -ℤ sum_below (item errors) (j + 1)) ≡ chain_of order es' ys' f clamped j
+    → (if clamped && (suc j == order) then last else carried es ys (j + 1) -ℤ sum_below (j + 1) (item errors)) ≡ chain_of order es' ys' f clamped j
 chain_is order es ys es' ys' errors f clamped last j below same same' are is =
     let h : carried es ys (suc j) ≡ carried es' ys' (suc j) = carried_same es ys es' ys' order (suc j) same same' (omega (arith, below)) in
-    let s : sum_below (item errors) (suc j) ≡ sum_below f (suc j) = sum_below_same (item errors) f (suc j) (λ k inside. are k (omega (arith, inside, below))) in
+    let s : sum_below (suc j) (item errors) ≡ sum_below (suc j) f = sum_below_same (suc j) (item errors) f (λ k inside. are k (omega (arith, inside, below))) in
     let test : Bool = clamped && (suc j == order) in
-    rw add-one (ap (λ z. if test then z else carried es ys (suc j) -ℤ sum_below (item errors) (suc j)) is
-    ∙ ap (λ z. if test then f order else z -ℤ sum_below (item errors) (suc j)) h
+    rw add-one (ap (λ z. if test then z else carried es ys (suc j) -ℤ sum_below (suc j) (item errors)) is
+    ∙ ap (λ z. if test then f order else z -ℤ sum_below (suc j) (item errors)) h
     ∙ ap (λ z. if test then f order else carried es' ys' (suc j) -ℤ z) s)
 
 -- the code's fields are those of the definition
@@ -104,7 +104,7 @@ pub moved_is : (dt : ℤ) (b : Block) (limits : Limits) (r : BlockState) (old : 
     → limiter ≡ limiter_for limits z
     → ((j : ℕ) → j < b.order → item errors j ≡ error_of (item law.numerators) (item law.denominators) u x j)
     → last ≡ error_of (item law.numerators) (item law.denominators) u x b.order
-    → ((j : ℕ) → j < b.order → item chain0 j ≡ carried old.errors old.chain (j + 1) -ℤ sum_below (item errors) (j + 1))
+    → ((j : ℕ) → j < b.order → item chain0 j ≡ carried old.errors old.chain (j + 1) -ℤ sum_below (j + 1) (item errors))
     → ((j : ℕ) → j < b.order → item chain j ≡ (if not (int_eq x z) && (suc j == b.order) then last else item chain0 j))
     → HasState b.order (record { limiter = limiter; errors = errors; chain = chain }) (kept_of dt b limits r u x z)
 moved_is dt b limits r old law u x z last errors chain0 chain limiter small is has limiter_is errors_are last_is chain0_is chain_are =

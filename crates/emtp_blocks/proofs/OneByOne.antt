@@ -1,12 +1,10 @@
 -- Taking the outputs into one block after the other.
-use Rattle.std.proofs.Common.{◌≡◌, ◌≢◌, ◌∙◌, sym, ap, subst, ℕ, ◌+◌, ◌<◌, ◌≤◌, ℤ, pos, unsigned_abs, Bool, true, false, List, [], ◌∷◌, All, length, map, get_or, slice_get, slice_set, get_or-set_same, get_or-set_other, IsSome, is_none, Option, Some, None, unwrap_or, nat_lt, cond, position, refl, inl, inr, arith}
-use Rattle.std.specs.List.{range_with_len, position_or_len}
+use Rattle.std.proofs.Common.{◌≡◌, ◌≢◌, ◌∙◌, sym, ap, subst, ℕ, ◌+◌, ◌<◌, ◌≤◌, ℤ, pos, unsigned_abs, List, [], ◌∷◌, All, length, map, get_or, slice_get, slice_set, get_or-set_same, get_or-set_other, IsSome, is_none, Option, Some, None, unwrap_or, refl, inl, inr, arith}
 use Rattle.std.proofs.lemmas.Bool.{cases_eq}
-use Rattle.std.proofs.lemmas.Bool.Decides.{nat_tests}
 use Rattle.std.proofs.lemmas.List.{ext_get_or, get_or-map, get_or_default, length-map}
-use Rattle.std.proofs.lemmas.List.FromFn.{length-range_with_len, get_or-range_with_len, get_or-map-range_with_len, fill_by_all}
-use Rattle.std.proofs.lemmas.List.Sums.{position_or_len_is}
+use Rattle.std.proofs.lemmas.List.FromFn.{get_or-map-range_with_len, fill_by_all}
 use Rattle.std.proofs.lemmas.Option.{slice_get_within, slice_get-get_or}
+use Rattle.emtp_case.proofs.Places.{first_at, first_none, is_none-some}
 use Rattle.emtp_case.specs.StepRecord.{StepRecord, no_block}
 use Rattle.emtp_case.specs.declared.control.BlockState.{BlockState}
 use Rattle.emtp_case.specs.declared.case.Parts.{Parts}
@@ -19,38 +17,6 @@ use Rattle.emtp_blocks.specs.Block.{HasState}
 use Rattle.emtp_blocks.specs.BlockRows.{AreAccepted, Gives, Blocking, StandsAt, StandsFor, limiters_kept, no_kept}
 use Rattle.emtp_blocks.specs.System.{first_out, next_at, output_at, outputs, states_after, limiters_of, state_at}
 use Rattle.emtp_blocks.specs.declared.accepting.Accepted.{Accepted}
-
-is_none-some : {X : Type 0} (o : Option X) → IsSome o → is_none o ≡ false
-is_none-some (Some x) h = refl
-is_none-some None h = absurd (cc)
-
--- a test of the numbers below n that passes first at b
-pub place_is : (p : ℕ → Bool) (n b : ℕ) → b ≤ n → ((k : ℕ) → k < b → p k ≡ false) → (b < n → p b ≡ true) → position_or_len p (range_with_len 0 n) ≡ b
-place_is p n b within fails passes =
-    position_or_len_is p (range_with_len 0 n) b 0 (omega (arith, within, length-range_with_len 0 n))
-    (λ k h. let e : get_or (range_with_len 0 n) k 0 ≡ k = get_or-range_with_len 0 n k 0 (omega (arith, h, within)) ∙ plus_zero k in ap p e ∙ fails k h)
-    (λ h. let below : b < n = omega (arith, h, length-range_with_len 0 n) in let e : get_or (range_with_len 0 n) b 0 ≡ b = get_or-range_with_len 0 n b 0 below ∙ plus_zero b in ap p e ∙ passes below)
-  where
-    plus_zero : (k : ℕ) → 0 + k ≡ k
-    plus_zero k = omega arith
-
-found : (k n : ℕ) → k < n → cond (nat_lt k n) (Some k) None ≡ Some k
-found k n below = grind (arith, nat_tests)
-
-nowhere : (n : ℕ) → cond (nat_lt n n) (Some n) None ≡ None
-nowhere n = grind (arith, nat_tests)
-
-pub first_at : (p : ℕ → Bool) (n b : ℕ) → b < n → ((k : ℕ) → k < b → p k ≡ false) → p b ≡ true → position p (range_with_len 0 n) ≡ Some b
-first_at p n b below fails passes =
-    let place = place_is p n b (omega (arith, below)) fails (λ h. passes) in
-    let long = length-range_with_len 0 n in
-    rw (place, long) (found b n below)
-
-pub first_none : (p : ℕ → Bool) (n : ℕ) → ((k : ℕ) → k < n → p k ≡ false) → position p (range_with_len 0 n) ≡ None
-first_none p n fails =
-    let place = place_is p n n (omega arith) fails (λ h. absurd (omega (arith, h))) in
-    let long = length-range_with_len 0 n in
-    rw (place, long) (nowhere n)
 
 pub first_out_is : (case : Parts) (H : List StepRecord) (known xs : List ℤ) (i : ℕ) → i < length case.blocks → next_at case H known xs i ≡ None → ((k : ℕ) → k < i → IsSome (next_at case H known xs k)) → first_out case H known xs ≡ Some i
 first_out_is case H known xs i below none before = first_at (λ k. is_none (next_at case H known xs k)) (length case.blocks) i below (λ k h. is_none-some _ (before k h)) (ap is_none none)

@@ -10,7 +10,7 @@ use Rattle.emtp_case.specs.declared.control.Bound.TheVariants.{Fixed, Named, Non
 use Rattle.emtp_case.specs.declared.control.Limiter.{Limiter}
 use Rattle.emtp_case.specs.declared.control.Limiter.TheVariants.{Free, AtHigh, AtLow}
 use Rattle.emtp_fix.specs.Rounding.{near}
-use Rattle.emtp_blocks.specs.Sums.{sum_below}
+use Rattle.emtp_case.specs.Sums.{sum_below}
 use Rattle.emtp_blocks.specs.declared.law.BlockLaw.{BlockLaw}
 use Rattle.emtp_blocks.specs.declared.limits.Limits.{Limits}
 use Rattle.emtp_fix.specs.declared.limit.TheConstants.{LARGEST_VALUE, NANO, PICO}
@@ -38,7 +38,7 @@ error_of n d u x j = near (n j *ℤ u) (pos 1000) -ℤ near (d j *ℤ x) (pos 10
 
 -- Y(j+1) = H(j+1) - (E(0) + .. + E(j)). Where the output isn't what the chain would give, Y(N) is E(N).
 abbrev pub chain_of : ℕ → List ℤ → List ℤ → (ℕ → ℤ) → Bool → ℕ → ℤ
-chain_of order es ys e clamped j = if clamped && (suc j == order) then e order else carried es ys (suc j) -ℤ sum_below e (suc j)
+chain_of order es ys e clamped j = if clamped && (suc j == order) then e order else carried es ys (suc j) -ℤ sum_below (suc j) e
 
 -- ---- the limits
 

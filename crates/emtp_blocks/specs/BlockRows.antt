@@ -85,12 +85,7 @@ abbrev pub Gives : Option Accepted → Parts → List StepRecord → List ℤ �
 Gives None case H known xs i = next_at case H known xs i ≡ None
 Gives (Some a) case H known xs i = (IsSome (next_at case H known xs i)) × (a.output ≡ output_at case H known xs i) × ((s : BlockState) (b : Block) → next_at case H known xs i ≡ Some s → slice_get case.blocks i ≡ Some b → HasState b.order a.state s)
 
--- the values are those of variables, in range
-pub record AreKnown (case : Parts) (known : List ℤ) : Type 0 where
-  pub one_each : length known ≡ length case.vars
-  pub small : All (λ v. unsigned_abs v ≤ LARGEST_VALUE) known
-
--- and these are numbers of blocks, in range
+-- one number a block, each in range
 pub record AreUnknowns (case : Parts) (xs : List ℤ) : Type 0 where
   pub one_each : length xs ≡ length case.blocks
   pub small : All (λ v. unsigned_abs v ≤ LARGEST_VALUE) xs

@@ -1,4 +1,3 @@
-pub mod Sums
 pub mod Block
 pub mod System
 pub mod BlockRows

@@ -12,7 +12,7 @@ use Rattle.emtp_case.specs.declared.control.Input.{Input}
 use Rattle.emtp_case.specs.declared.control.Limiter.{Limiter}
 use Rattle.emtp_case.specs.declared.control.Limiter.TheVariants.{Free, AtHigh, AtLow}
 use Rattle.emtp_fix.specs.Rounding.{near}
-use Rattle.emtp_blocks.specs.Sums.{total}
+use Rattle.emtp_case.specs.Sums.{total}
 use Rattle.emtp_blocks.specs.Block.{held, limits_of, next_state, output_of, past_output}
 use Rattle.emtp_fix.specs.declared.limit.TheConstants.{PICO}
 

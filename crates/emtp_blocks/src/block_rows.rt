@@ -1,12 +1,12 @@
 //! The blocks of a case.
 
-ghost use Rattle.std.specs.Prelude.{◌≡◌, ◌^◌, ◌≤◌, ◌<◌, ◌∷◌, [], ℕ, ℤ, List, All, pos, length, map, position, ◌==◌, replicate, false, unsigned_abs, slice_get, slice_index_or, Some, IfOk, OnOk, IfErr};
-ghost use Rattle.std.specs.List.{range_with_len};
+ghost use Rattle.std.specs.Prelude.{◌≡◌, ◌≤◌, ◌<◌, ◌∷◌, [], ℕ, List, All, pos, length, position, ◌==◌, replicate, false, unsigned_abs, IfOk, OnOk, IfErr};
 ghost use Rattle.emtp_case.specs.StepRecord.{StepRecord, rest_of};
 ghost use Rattle.emtp_case.specs.declared.control.Block.{Block};
 ghost use Rattle.emtp_elim.specs.Matrix.{item, row_of};
 ghost use Rattle.emtp_blocks.specs.Block.{IsLaw};
-ghost use Rattle.emtp_blocks.specs.BlockRows.{Blocking, StandsFor, Accepts, AreKnown, AreLaws, AreUnknowns, limiters_kept, places_of, IsAtRest};
+ghost use Rattle.emtp_case.specs.Control.{AreKnown};
+ghost use Rattle.emtp_blocks.specs.BlockRows.{Blocking, StandsFor, Accepts, AreLaws, AreUnknowns, limiters_kept, places_of, IsAtRest};
 ghost use Rattle.emtp_blocks.specs.System.{block_of, control_matrix, right};
 ghost use Rattle.emtp_blocks.specs.declared.next.TheConstants.{LARGEST_CHAIN};
 

@@ -1,10 +1,10 @@
 //! The inputs of a block, and its row.
 
-ghost use Rattle.std.specs.Prelude.{◌≡◌, ◌^◌, ◌*◌, ◌≤◌, ◌<◌, ◌+ℤ◌, ℕ, ℤ, pos, neg_ℤ, length, All, unsigned_abs, slice_set, if◌then◌else◌};
+ghost use Rattle.std.specs.Prelude.{◌≡◌, ◌^◌, ◌*◌, ◌≤◌, ◌<◌, ◌+ℤ◌, ℕ, ℤ, neg_ℤ, length, All, unsigned_abs, slice_set};
 ghost use Rattle.std.specs.Option.{ForSome};
 ghost use Rattle.emtp_case.specs.declared.control.Input.{Input};
 ghost use Rattle.emtp_elim.specs.Matrix.{item};
-ghost use Rattle.emtp_blocks.specs.Sums.{total};
+ghost use Rattle.emtp_case.specs.Sums.{total};
 ghost use Rattle.emtp_blocks.specs.BlockRows.{place_in};
 ghost use Rattle.emtp_blocks.specs.System.{signed, outside_by, outside_sum, inside_by, input_sum, coupling_by, row_entry, unit};
 ghost use Rattle.emtp_fix.specs.declared.limit.TheConstants.{LARGEST_VALUE};

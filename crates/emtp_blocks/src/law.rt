@@ -1,15 +1,16 @@
 //! The numbers of a block that are the same in all steps.
 
-ghost use Rattle.std.specs.Prelude.{◌≡◌, ◌≢◌, ◌^◌, ◌*◌, ◌≤◌, ◌<◌, ◌+ℤ◌, ◌*ℤ◌, ℕ, pos, unsigned_abs, slice_index_or, length};
-ghost use Rattle.emtp_case.specs.Control.{bilinear, power_of, sum_upto, divisor_of, coefficient_sum, step_gain, HasCoefficients};
+ghost use Rattle.std.specs.Prelude.{◌≡◌, ◌≢◌, ◌^◌, ◌*◌, ◌≤◌, ◌*ℤ◌, ℕ, pos, unsigned_abs, slice_index_or, length};
+ghost use Rattle.emtp_case.specs.Control.{HasWay, quotient_of, step_gain, HasCoefficients};
+ghost use Rattle.emtp_case.specs.Sums.{sum_upto};
 ghost use Rattle.emtp_case.specs.Range.{IsBetween};
 ghost use Rattle.emtp_elim.specs.Matrix.{item};
 ghost use Rattle.emtp_fix.specs.Rounding.{near};
 ghost use Rattle.emtp_blocks.specs.Block.{IsLawOf, IsLaw};
 ghost use Rattle.emtp_fix.specs.declared.limit.TheConstants.{LARGEST_VALUE, PICO};
 
-use crate::scaling::{bilinear_step, product, quotient};
-use emtp_case::Block;
+use crate::scaling::product;
+use emtp_case::{Block, coefficient_divisor, coefficient_quotient};
 use emtp_fix::PICO;
 
 /// The numbers of a block that are the same in all steps.
@@ -25,63 +26,33 @@ pub(crate) struct BlockLaw {
     pub(crate) gain: i64,
 }
 
-/// A coefficient that was taken so many times through the bilinear rule.
-fn taken(dt: i64, x: i64, times: usize) -> i128
+/// The coefficient of a power as a part of the divisor, in 10^-12.
+fn coefficient(dt: i64, card: &[i64; 8], power: usize, divisor: i128) -> i64
     requires dt { IsBetween 1000 (10 ^ 12) dt }
-    requires way { (i : ℕ) → i ≤ times → unsigned_abs (bilinear dt x i) ≤ 8 * 10 ^ 25 }
-    ensures value { result ≡ bilinear dt x times }
-    ensures small { unsigned_abs result ≤ 8 * 10 ^ 25 }
-{
-    let mut p = x as i128;
-    for i in 0..times {
-        p = bilinear_step(dt, p);
-    }
-    p
-}
-
-/// The sum of the coefficients of a card, each taken through the rule as often as its power.
-fn divisor(dt: i64, card: &[i64], order: usize) -> i128
-    requires dt { IsBetween 1000 (10 ^ 12) dt }
-    requires order { order ≤ 7 }
-    requires card { 8 ≤ length card.now }
-    requires way { (j i : ℕ) → j ≤ order → i ≤ j → unsigned_abs (bilinear dt (slice_index_or card.now j (pos 0)) i) ≤ 8 * 10 ^ 25 }
-    ensures value { result ≡ sum_upto (power_of dt card.now) order }
-    ensures small { unsigned_abs result ≤ 64 * 10 ^ 25 }
-{
-    let mut sum = 0;
-    for j in 0..order + 1 {
-        sum += taken(dt, card[j], j);
-    }
-    sum
-}
-
-/// The quotient of a coefficient, in 10^-12.
-fn coefficient(dt: i64, x: i64, power: usize, divisor: i128) -> i64
-    requires dt { IsBetween 1000 (10 ^ 12) dt }
-    requires way { (i : ℕ) → i ≤ power → unsigned_abs (bilinear dt x i) ≤ 8 * 10 ^ 25 }
+    requires power { power ≤ 7 }
+    requires way { HasWay dt (slice_index_or card.now power (pos 0)) power }
     requires some { divisor ≢ pos 0 }
     requires divisor { unsigned_abs divisor ≤ 64 * 10 ^ 25 }
-    requires small { unsigned_abs (near (bilinear dt x power *ℤ PICO) divisor) ≤ LARGEST_VALUE }
-    ensures { result ≡ near (bilinear dt x power *ℤ PICO) divisor }
+    requires small { unsigned_abs (quotient_of dt card.now divisor power) ≤ LARGEST_VALUE }
+    ensures { result ≡ quotient_of dt card.now divisor power }
 {
-    quotient(taken(dt, x, power), divisor) as i64
+    coefficient_quotient(dt, card, power, divisor) as i64
 }
 
 /// The quotients of a card's coefficients by the powers up to the order, and 0 above it.
-fn coefficients(dt: i64, card: &[i64], order: usize, divisor: i128) -> [i64; 8]
+fn coefficients(dt: i64, card: &[i64; 8], order: usize, divisor: i128) -> [i64; 8]
     requires dt { IsBetween 1000 (10 ^ 12) dt }
     requires order { order ≤ 7 }
-    requires card { 8 ≤ length card.now }
-    requires way { (j i : ℕ) → j ≤ order → i ≤ j → unsigned_abs (bilinear dt (slice_index_or card.now j (pos 0)) i) ≤ 8 * 10 ^ 25 }
+    requires way { (power : ℕ) → power ≤ order → HasWay dt (slice_index_or card.now power (pos 0)) power }
     requires some { divisor ≢ pos 0 }
     requires divisor { unsigned_abs divisor ≤ 64 * 10 ^ 25 }
-    requires small { (j : ℕ) → j ≤ order → unsigned_abs (near (power_of dt card.now j *ℤ PICO) divisor) ≤ LARGEST_VALUE }
-    ensures value { (j : ℕ) → j ≤ order → item result j ≡ near (power_of dt card.now j *ℤ PICO) divisor }
+    requires small { (j : ℕ) → j ≤ order → unsigned_abs (quotient_of dt card.now divisor j) ≤ LARGEST_VALUE }
+    ensures value { (j : ℕ) → j ≤ order → item result j ≡ quotient_of dt card.now divisor j }
     ensures small { (j : ℕ) → unsigned_abs (item result j) ≤ LARGEST_VALUE }
 {
     let mut quotients = [0; 8];
     for j in 0..order + 1 {
-        quotients[j] = coefficient(dt, card[j], j, divisor);
+        quotients[j] = coefficient(dt, card, j, divisor);
     }
     quotients
 }
@@ -91,7 +62,7 @@ fn sum(quotients: &[i64], order: usize) -> i64
     requires order { order ≤ 7 }
     requires there { 8 ≤ length quotients.now }
     requires small { (j : ℕ) → unsigned_abs (item quotients.now j) ≤ LARGEST_VALUE }
-    ensures value { result ≡ sum_upto (item quotients.now) order }
+    ensures value { result ≡ sum_upto order (item quotients.now) }
     ensures small { unsigned_abs result ≤ 8 * 10 ^ 18 }
 {
     let mut sum = 0;
@@ -130,7 +101,7 @@ pub(crate) fn law(dt: i64, b: &Block) -> BlockLaw
         };
     }
     let order = b.order as usize;
-    let divisor = divisor(dt, &b.bottom, order);
+    let divisor = coefficient_divisor(dt, &b.bottom, order);
     let numerators = coefficients(dt, &b.top, order, divisor);
     let denominators = coefficients(dt, &b.bottom, order, divisor);
     let sum = sum(&numerators, order);

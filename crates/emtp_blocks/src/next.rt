@@ -5,8 +5,8 @@ ghost use Rattle.std.specs.Ordering.{int_eq};
 ghost use Rattle.emtp_case.specs.declared.control.BlockState.{BlockState};
 ghost use Rattle.emtp_elim.specs.Matrix.{item};
 ghost use Rattle.emtp_fix.specs.Rounding.{near};
-ghost use Rattle.emtp_blocks.specs.Sums.{sum_below};
-ghost use Rattle.emtp_blocks.specs.Block.{carried, error_of, chain_of, each_within, is_within, output_of, next_state, IsLaw, IsLawOf, IsKept, HasState, Keeps};
+ghost use Rattle.emtp_case.specs.Sums.{sum_below};
+ghost use Rattle.emtp_blocks.specs.Block.{carried, error_of, each_within, is_within, output_of, next_state, IsLaw, IsLawOf, IsKept, HasState, Keeps};
 ghost use Rattle.emtp_fix.specs.declared.limit.TheConstants.{LARGEST_VALUE, PICO};
 ghost use Rattle.emtp_blocks.specs.declared.next.TheConstants.{LARGEST_CHAIN};
 
@@ -69,7 +69,7 @@ fn chain(old: &BlockState, errors: &[i128], order: usize) -> [i128; 8]
     requires old { IsKept old.now }
     requires there { 8 ≤ length errors.now }
     requires small { (j : ℕ) → unsigned_abs (item errors.now j) ≤ 2 * 10 ^ 35 }
-    ensures value { (j : ℕ) → j < order → item result j ≡ carried old.now.errors old.now.chain (j + 1) -ℤ sum_below (item errors.now) (j + 1) }
+    ensures value { (j : ℕ) → j < order → item result j ≡ carried old.now.errors old.now.chain (j + 1) -ℤ sum_below (j + 1) (item errors.now) }
     ensures past { (j : ℕ) → order ≤ j → item result j ≡ pos 0 }
     ensures size { 8 ≤ length result }
 {

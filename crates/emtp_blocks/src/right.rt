@@ -1,14 +1,14 @@
 //! The right side of the block system.
 
-ghost use Rattle.std.specs.Prelude.{◌≡◌, ◌^◌, ◌*◌, ◌≤◌, ◌<◌, ◌+ℤ◌, ◌*ℤ◌, ℕ, ℤ, List, pos, length, slice_get, slice_index_or, unsigned_abs, All, Some};
-ghost use Rattle.emtp_case.specs.Control.{IsBlock, step_gain};
+ghost use Rattle.std.specs.Prelude.{◌≡◌, ◌*◌, ◌≤◌, ◌<◌, ◌+ℤ◌, ◌*ℤ◌, ℕ, ℤ, List, length, slice_get, unsigned_abs, All, Some};
 ghost use Rattle.emtp_case.specs.StepRecord.{StepRecord};
 ghost use Rattle.emtp_case.specs.declared.control.Block.{Block};
 ghost use Rattle.emtp_case.specs.declared.control.Input.{Input};
 ghost use Rattle.emtp_elim.specs.Matrix.{item};
 ghost use Rattle.emtp_fix.specs.Rounding.{near};
-ghost use Rattle.emtp_blocks.specs.Block.{HasState, IsKept, IsLaw, held, limits_of, past_output};
-ghost use Rattle.emtp_blocks.specs.BlockRows.{AreKnown, AreLaws, StandsAt, places_of, place_in, no_kept};
+ghost use Rattle.emtp_blocks.specs.Block.{HasState, IsKept, IsLaw, held, past_output};
+ghost use Rattle.emtp_case.specs.Control.{AreKnown};
+ghost use Rattle.emtp_blocks.specs.BlockRows.{AreLaws, StandsAt, places_of, place_in};
 ghost use Rattle.emtp_blocks.specs.System.{state_at, right, right_by, outside_sum};
 ghost use Rattle.emtp_fix.specs.declared.limit.TheConstants.{LARGEST_VALUE, PICO};
 ghost use Rattle.emtp_blocks.specs.declared.next.TheConstants.{LARGEST_CHAIN};

@@ -1,9 +1,9 @@
 //! Products that are brought back to their unit.
 
-ghost use Rattle.std.specs.Prelude.{◌≡◌, ◌≢◌, ◌^◌, ◌*◌, ◌≤◌, ◌<◌, ◌*ℤ◌, pos, unsigned_abs};
+ghost use Rattle.std.specs.Prelude.{◌≡◌, ◌^◌, ◌*◌, ◌≤◌, ◌*ℤ◌, unsigned_abs};
 ghost use Rattle.emtp_case.specs.Range.{IsBetween};
 ghost use Rattle.emtp_fix.specs.Rounding.{near};
-ghost use Rattle.emtp_fix.specs.declared.limit.TheConstants.{NANO, PICO};
+ghost use Rattle.emtp_fix.specs.declared.limit.TheConstants.{NANO};
 
 use emtp_fix::{NANO, PICO, near, scaled};
 
@@ -25,23 +25,4 @@ pub(crate) fn in_nano(x: i128) -> i128
     ensures bound { unsigned_abs result ≤ 10 ^ 30 }
 {
     near(x, NANO)
-}
-
-/// A number that is taken once through the bilinear rule.
-pub(crate) fn bilinear_step(dt: i64, p: i128) -> i128
-    requires dt { IsBetween 1000 (10 ^ 12) dt }
-    requires p { unsigned_abs p ≤ 8 * 10 ^ 25 }
-    ensures { result ≡ near (p *ℤ pos (2 * 10 ^ 12)) dt }
-{
-    near(p * (2 * PICO), dt as i128)
-}
-
-/// A coefficient as a part of a divisor, in 10^-12.
-pub(crate) fn quotient(p: i128, divisor: i128) -> i128
-    requires p { unsigned_abs p ≤ 8 * 10 ^ 25 }
-    requires some { divisor ≢ pos 0 }
-    requires divisor { unsigned_abs divisor ≤ 64 * 10 ^ 25 }
-    ensures { result ≡ near (p *ℤ PICO) divisor }
-{
-    near(p * PICO, divisor)
 }

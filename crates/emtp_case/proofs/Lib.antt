@@ -12,3 +12,4 @@ pub mod Ordered
 pub mod NodeOrder
 pub mod RowTables
 pub mod KeyCompared
+pub mod Sums

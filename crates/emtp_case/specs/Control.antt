@@ -3,7 +3,9 @@ use Rattle.emtp_case.specs.Branch.{origin, points_of}
 use Rattle.emtp_case.specs.Expr.{FitsPlaces, IsWhole}
 use Rattle.emtp_case.specs.Range.{IsBetween}
 use Rattle.emtp_case.specs.Sizes.{Sizes}
+use Rattle.emtp_case.specs.Sums.{sum_upto}
 use Rattle.emtp_case.specs.declared.branch.Point.{Point}
+use Rattle.emtp_case.specs.declared.case.Parts.{Parts}
 use Rattle.emtp_case.specs.declared.control.Block.{Block}
 use Rattle.emtp_case.specs.declared.control.Bound.{Bound}
 use Rattle.emtp_case.specs.declared.control.Bound.TheVariants.{Fixed, Named, None as NoBound}
@@ -16,8 +18,16 @@ use Rattle.emtp_case.specs.declared.control.Formula.{Formula}
 use Rattle.emtp_case.specs.declared.control.Input.{Input}
 use Rattle.emtp_case.specs.declared.run_data.RunData.{RunData}
 use Rattle.emtp_fix.specs.Rounding.{near}
+use Rattle.emtp_fix.specs.declared.limit.TheConstants.{LARGEST_VALUE}
 use Rattle.std.specs.Option.{ForSome}
-use Rattle.std.specs.Prelude.{◌≡◌, ◌≢◌, ◌+◌, ◌-◌, ◌*◌, ◌^◌, ◌<◌, ◌≤◌, ◌+ℤ◌, ◌*ℤ◌, ◌≤ℤ◌, ◌<ℤ◌, [], All, Bool, IsSome, IsTrue, List, false, length, pos, slice_index_or, suc, true, unsigned_abs, zero, ℕ, ℤ}
+use Rattle.std.specs.Prelude.{◌≡◌, ◌≢◌, ◌+◌, ◌-◌, ◌*◌, ◌^◌, ◌<◌, ◌≤◌, ◌*ℤ◌, ◌≤ℤ◌, ◌<ℤ◌, [], All, Bool, IsSome, IsTrue, List, false, length, pos, slice_index_or, suc, true, unsigned_abs, zero, ℕ, ℤ}
+
+-- Values
+
+-- one value a variable, each in range
+pub record AreKnown (case : Parts) (values : List ℤ) : Type 0 where
+  pub one_each : length values ≡ length case.vars
+  pub small : All (λ v. unsigned_abs v ≤ LARGEST_VALUE) values
 
 -- Blocks
 
@@ -26,30 +36,33 @@ abbrev pub bilinear : ℤ → ℤ → ℕ → ℤ
 bilinear dt x zero = x
 bilinear dt x (suc j) = near (bilinear dt x j *ℤ pos (2 * 10 ^ 12)) dt
 
--- the sum of f 0 to f n
-abbrev pub sum_upto : (ℕ → ℤ) → ℕ → ℤ
-sum_upto f zero = f zero
-sum_upto f (suc n) = sum_upto f n +ℤ f (suc n)
-
 -- P(j) and Q(j): the coefficient of the power j of a denominator or a numerator card
 abbrev pub power_of : ℤ → List ℤ → ℕ → ℤ
 power_of dt card j = bilinear dt (slice_index_or card j (pos 0)) j
 
+-- no magnitude on the way of a coefficient is too large
+abbrev pub HasWay : ℤ → ℤ → ℕ → Type 0
+HasWay dt x power = (i : ℕ) → i ≤ power → unsigned_abs (bilinear dt x i) ≤ 8 * 10 ^ 25
+
+-- the coefficient of a power as a part of a divisor, in 10^-12
+abbrev pub quotient_of : ℤ → List ℤ → ℤ → ℕ → ℤ
+quotient_of dt card divisor power = near (power_of dt card power *ℤ pos (10 ^ 12)) divisor
+
 -- S, by which all coefficients are divided
 abbrev pub divisor_of : ℤ → Block → ℤ
-divisor_of dt b = sum_upto (power_of dt b.bottom) b.order
+divisor_of dt b = sum_upto b.order (power_of dt b.bottom)
 
 -- d(j) and n(j)
 abbrev pub denominator_of : ℤ → Block → ℕ → ℤ
-denominator_of dt b j = near (power_of dt b.bottom j *ℤ pos (10 ^ 12)) (divisor_of dt b)
+denominator_of dt b j = quotient_of dt b.bottom (divisor_of dt b) j
 
 abbrev pub numerator_of : ℤ → Block → ℕ → ℤ
-numerator_of dt b j = near (power_of dt b.top j *ℤ pos (10 ^ 12)) (divisor_of dt b)
+numerator_of dt b j = quotient_of dt b.top (divisor_of dt b) j
 
 -- c, which is 1 for a plain gain
 abbrev pub coefficient_sum : ℤ → Block → ℕ → ℤ
 coefficient_sum dt b zero = pos (10 ^ 12)
-coefficient_sum dt b (suc n) = sum_upto (numerator_of dt b) (suc n)
+coefficient_sum dt b (suc n) = sum_upto (suc n) (numerator_of dt b)
 
 -- k, the gain of a block within one step
 abbrev pub step_gain : ℤ → Block → ℤ
@@ -57,8 +70,8 @@ step_gain dt b = near (b.gain *ℤ coefficient_sum dt b b.order) (pos (10 ^ 12))
 
 -- the coefficients of a block of order 1 to 7
 pub record HasCoefficients (dt : ℤ) (b : Block) : Type 0 where
-  pub bottom_way : (j i : ℕ) → j ≤ b.order → i ≤ j → unsigned_abs (bilinear dt (slice_index_or b.bottom j (pos 0)) i) ≤ 8 * 10 ^ 25
-  pub top_way : (j i : ℕ) → j ≤ b.order → i ≤ j → unsigned_abs (bilinear dt (slice_index_or b.top j (pos 0)) i) ≤ 8 * 10 ^ 25
+  pub bottom_way : (j : ℕ) → j ≤ b.order → HasWay dt (slice_index_or b.bottom j (pos 0)) j
+  pub top_way : (j : ℕ) → j ≤ b.order → HasWay dt (slice_index_or b.top j (pos 0)) j
   pub divisor : divisor_of dt b ≢ pos 0
   pub denominators : (j : ℕ) → j ≤ b.order → unsigned_abs (denominator_of dt b j) ≤ 10 ^ 18
   pub numerators : (j : ℕ) → j ≤ b.order → unsigned_abs (numerator_of dt b j) ≤ 10 ^ 18

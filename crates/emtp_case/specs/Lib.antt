@@ -2,6 +2,7 @@ pub mod Name
 pub mod Range
 pub mod RunData
 pub mod Sizes
+pub mod Sums
 pub mod Branch
 pub mod Switch
 pub mod Source

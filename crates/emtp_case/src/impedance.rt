@@ -1,7 +1,7 @@
 //! The numbers that a step makes of a card's: companions of inductances and capacitances, the impedance of a lossy
 //! line's end, the slope of a segment. A reader judges by them, and the laws step with them.
 
-ghost use Rattle.std.specs.Prelude.{◌≡◌, ◌*◌, ◌^◌, ◌≤◌, pos, ◌+ℤ◌, ◌-ℤ◌, ◌*ℤ◌, ◌<ℤ◌, unsigned_abs};
+ghost use Rattle.std.specs.Prelude.{◌≡◌, ◌*◌, ◌^◌, ◌≤◌, pos, ◌*ℤ◌, unsigned_abs};
 ghost use Rattle.emtp_case.specs.Branch.{IsRise, capacitor_impedance, inductor_impedance, line_impedance, series_impedance, slope_of};
 ghost use Rattle.emtp_case.specs.Range.{IsBetween};
 ghost use Rattle.emtp_fix.specs.Rounding.{near};

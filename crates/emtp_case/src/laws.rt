@@ -1,6 +1,6 @@
 //! What a reader that judges card by card may conclude. The functions do nothing: their clauses are proved.
 
-ghost use Rattle.std.specs.Prelude.{◌≡◌, ◌+◌, ◌≤◌, ◌++◌, ◌∷◌, [], ℕ, List, length, map, slice_index_or, pos};
+ghost use Rattle.std.specs.Prelude.{◌≡◌, ◌+◌, ◌++◌, ◌∷◌, [], ℕ, List, length, map, slice_index_or, pos};
 ghost use Rattle.std.specs.List.{range_with_len};
 ghost use Rattle.emtp_case.specs.Branch.{HasLineNumbers, IsCharacteristic, IsSegment, IsTrio, origin};
 ghost use Rattle.emtp_case.specs.Case.{DefinesEach};

@@ -16,6 +16,7 @@ mod branch;
 mod case;
 mod channel;
 mod channel_name;
+mod coefficients;
 mod control;
 mod draft;
 mod expr;
@@ -36,6 +37,7 @@ pub use branch::{
 };
 pub use case::{Case, Parts};
 pub use channel::Channel;
+pub use coefficients::{bilinear, bilinear_step, coefficient_divisor, coefficient_quotient};
 pub use control::{
     Block, BlockState, Bound, Device, DeviceCode, DeviceState, Extra, Formula, Group, Input,
     Limiter,

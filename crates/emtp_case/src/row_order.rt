@@ -1,10 +1,10 @@
 //! The order of the rows: which node stands in which row of the nodal matrix.
 
-ghost use Rattle.std.specs.Prelude.{◌≡◌, ◌+◌, ◌^◌, ◌<◌, ◌≤◌, ℕ, length, map, count_by, sum_by, All, IfOk, slice_index, slice_index_or};
+ghost use Rattle.std.specs.Prelude.{◌≡◌, ◌+◌, ◌<◌, ◌≤◌, ℕ, length, map, count_by, sum_by, IfOk, slice_index};
 ghost use Rattle.std.specs.List.{range_with_len, list_any};
 ghost use Rattle.std.specs.List.Sorted.{IsPermutation, IsSortedByKey};
 ghost use Rattle.emtp_case.specs.RowTable.{AreRows};
-ghost use Rattle.emtp_case.specs.RowOrder.{Rows, ends_at, is_pseudo_at, has_source, may_change, class_of, key_of, key_cmp, order_of, IsRowOrder};
+ghost use Rattle.emtp_case.specs.RowOrder.{Rows, ends_at, is_pseudo_at, has_source, class_of, key_of, key_cmp, order_of, IsRowOrder};
 
 use crate::branch::Branch;
 use crate::case::{Case, Parts};

@@ -1,7 +1,6 @@
 //! The configuration of a record.
 ghost use Rattle.std.specs.Prelude.{◌≡◌, ◌+◌, ◌<◌, ◌≤◌, ◌++◌, pos, ◌*ℤ◌, length, OnOk};
 ghost use Rattle.emtp_case.specs.ChannelName.{name_of_channel};
-ghost use Rattle.emtp_case.specs.RunData.{IsRun};
 ghost use Rattle.emtp_io.specs.Whole.{Appends};
 ghost use Rattle.emtp_comtrade.specs.Record.{joined, unit_of, unit_at, analog_before, status_before, analog_line, analog_line_at, status_line, status_line_at, cfg_head, cfg_tail, cfg_text, AreMultipliers};
 ghost use Rattle.emtp_comtrade.specs.Stream.{Gathers};

@@ -13,7 +13,8 @@ use Rattle.emtp_case.specs.declared.case.Parts.{Parts}
 use Rattle.emtp_case.specs.declared.control.Block.{Block}
 use Rattle.emtp_case.specs.declared.source.Source.{Source}
 use Rattle.emtp_deck.proofs.Asking.{control_is, deck_asks}
-use Rattle.emtp_sense.proofs.ControlJudging.{AreFineBlocks, AreFineExtras, AreFineSources, IsKnownBlock, IsKnownExtra, block_fine, blocks_fine, device_fine, extras_fine, nothing_before, sources_fine}
+use Rattle.emtp_sense.proofs.ControlJudging.{AreFineBlocks, AreFineExtras, AreFineSources, IsKnownBlock, IsKnownExtra, block_fine, blocks_fine, device_fine, extras_fine, sources_fine}
+use Rattle.emtp_walk.proofs.NoBad.{nothing_before}
 use Rattle.emtp_sense.proofs.Naming.{AreNamed, Each, all_named, with_names}
 use Rattle.emtp_sense.proofs.Numbering.{AreAbove, each_front, each_of, each_rest, each_two, folded, in_two, options_length, options_of, defined_once, in_row, row_is}
 use Rattle.emtp_walk.specs.Answer.{first_bad}

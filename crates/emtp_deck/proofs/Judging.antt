@@ -1,6 +1,5 @@
 -- What is known of a source or a switch without a fault of sense.
-use Rattle.std.proofs.Common.{◌≡◌, subst, refl, ℕ, ◌+◌, ◌<◌, ◌≤◌, Bool, true, false, List, [], ◌∷◌, length, Option, Some, None, arith}
-use Rattle.std.proofs.lemmas.Bool.Decides.{nat_tests}
+use Rattle.std.proofs.Common.{◌≡◌, subst, refl, ℕ, ◌+◌, ◌<◌, ◌≤◌, Bool, true, false, List, [], ◌∷◌, length, Option, Some, None}
 use Rattle.std.specs.Prelude.{if◌then◌else◌, nat_le, nat_lt}
 use Rattle.emtp_card.proofs.Faults.{least_none}
 use Rattle.emtp_card.specs.declared.fault.Fault.{Fault}
@@ -8,6 +7,7 @@ use Rattle.emtp_card.specs.declared.reason.Why.TheVariants.{TwoSources}
 use Rattle.emtp_case.specs.declared.case.Parts.{Parts}
 use Rattle.emtp_deck.specs.Channels.{switch_channel_count}
 use Rattle.emtp_deck.specs.Made.{Made, count_asked, no_room}
+use Rattle.emtp_sense.proofs.WithinLimits.{below, within}
 use Rattle.emtp_sense.specs.Limits.{too_many}
 use Rattle.emtp_sense.specs.Names.{node_number}
 use Rattle.emtp_deck.specs.Sources.{is_second, node_fault, source_fault, driver_fault}
@@ -15,19 +15,6 @@ use Rattle.emtp_deck.specs.Switches.{switch_fault}
 use Rattle.emtp_sense.specs.Variables.{unknown_name}
 use Rattle.emtp_netcards.specs.declared.source_card.SourceCard.{SourceCard}
 use Rattle.emtp_netcards.specs.declared.switch_card.SwitchCard.{SwitchCard}
-
-few : (is : Bool) (column : ℕ) → too_many is column ≡ None → is ≡ false
-few true column e = absurd (cc)
-few false column e = refl
-
-below : (n m : ℕ) → nat_le n m ≡ false → m < n
-below n m e = grind (arith, nat_tests)
-
-within : (n m : ℕ) → nat_lt n m ≡ false → m ≤ n
-within n m e = grind (arith, nat_tests)
-
-pub room_left : (limit n column : ℕ) → too_many (nat_lt limit n) column ≡ None → n ≤ limit
-room_left limit n column e = within limit n (few (nat_lt limit n) column e)
 
 -- ---- sources
 
@@ -46,7 +33,7 @@ sensible_source p card node (Some m) h e =
     let none = least_none (too_many (nat_le 500 (length p.sources)) 1 ∷ node_fault card p.sources (Some m) ∷ driver_fault p.vars card ∷ []) e in
     let same : m ≡ node = cc in
     record {
-      room = below 500 (length p.sources) (few (nat_le 500 (length p.sources)) 1 none.0);
+      room = below 500 (length p.sources) 1 none.0;
       first = subst (λ k. is_second card k p.sources ≡ false) same (single (is_second card m p.sources) none.1.0);
       driver = none.1.1.0;
     }
@@ -69,9 +56,9 @@ sensible_switch names m card e =
     ∷ unknown_name m.parts.vars 65 card.control
     ∷ []) e in
     record {
-      room = below 500 (length m.parts.switches) (few (nat_le 500 (length m.parts.switches)) 1 none.0);
-      asked = room_left 64 (count_asked m.asked + switch_channel_count card.asked) 1 none.1.0;
-      from_few = room_left 1000 (node_number names card.from) 3 none.1.1.0;
-      to_few = room_left 1000 (node_number names card.to) 9 none.1.1.1.0;
+      room = below 500 (length m.parts.switches) 1 none.0;
+      asked = within 64 (count_asked m.asked + switch_channel_count card.asked) 1 none.1.0;
+      from_few = within 1000 (node_number names card.from) 3 none.1.1.0;
+      to_few = within 1000 (node_number names card.to) 9 none.1.1.1.0;
       control = none.1.1.1.1.0;
     }

@@ -1,17 +1,14 @@
 -- What an entry without a fault of sense gives its records.
-use Rattle.std.proofs.Common.{◌≡◌, ℕ, ◌+◌, ◌<◌, ◌≤◌, Bool, true, false, List, [], ◌∷◌, length, Option, Some, None, option_map, refl, arith}
-use Rattle.std.proofs.lemmas.Bool.Decides.{nat_tests}
+use Rattle.std.proofs.Common.{◌≡◌, ℕ, ◌+◌, ◌<◌, ◌≤◌, List, [], ◌∷◌, length, None, arith}
 use Rattle.std.specs.Prelude.{All, nat_lt}
 use Rattle.emtp_card.proofs.Faults.{least_none}
-use Rattle.emtp_card.specs.Fault.{bad_at}
-use Rattle.emtp_card.specs.declared.fault.Fault.{Fault}
-use Rattle.emtp_card.specs.declared.reason.Bad.{Bad}
 use Rattle.emtp_case.specs.HistoryValues.{history_values_of}
 use Rattle.emtp_case.specs.Name.{IsName}
 use Rattle.emtp_case.specs.declared.branch.Point.{Point}
 use Rattle.emtp_case.specs.declared.run_data.RunData.{RunData}
+use Rattle.emtp_sense.proofs.WithinLimits.{within}
 use Rattle.emtp_sense.proofs.Naming.{all_named, ends_of, with_names}
-use Rattle.emtp_walk.specs.Answer.{first_bad}
+use Rattle.emtp_walk.proofs.NoBad.{no_bad, nothing_before}
 use Rattle.emtp_deck.specs.Branches.{card_bad, card_fault, card_history, entry_count, entry_fault, first_counts, first_fault, pair_fault, second_counts, second_fault, third_fault, with_counts}
 use Rattle.emtp_deck.specs.Channels.{channel_count}
 use Rattle.emtp_deck.specs.Copies.{missing_fault, values_from}
@@ -37,17 +34,6 @@ record IsFaultless (names : List (List ℕ)) (n : Counts) (card : BranchCard) (v
   to_few : node_number names card.to ≤ 1000
   taken : missing_fault values ≡ None
 
-not_so : (is : Bool) (column : ℕ) → too_many is column ≡ None → is ≡ false
-not_so true column e = cc
-not_so false column e = refl
-
-within : (m n column : ℕ) → too_many (nat_lt m n) column ≡ None → n ≤ m
-within m n column e = let h = not_so (nat_lt m n) column e in grind (arith, nat_tests)
-
-no_bad : (line : ℕ) (f : Option Fault) → option_map (bad_at line) f ≡ None → f ≡ None
-no_bad line None e = refl
-no_bad line (Some f) e = cc
-
 faultless : (names : List (List ℕ)) (n : Counts) (card : BranchCard) (values : ValuesFrom) → card_bad names n card values ≡ None → IsFaultless names n card values
 unfolding card_fault
 faultless names n card values e =
@@ -66,10 +52,6 @@ faultless names n card values e =
       to_few = within 1000 (node_number names card.to) 9 none.1.1.1.1.0;
       taken = none.1.1.1.1.1.0;
     }
-
-both_none : (a b : Option Bad) → first_bad a b ≡ None → (a ≡ None) × (b ≡ None)
-both_none None b e = (refl, e)
-both_none (Some x) b e = cc
 
 -- ---- sums
 
@@ -129,8 +111,8 @@ takable m run points (Trio zero' positive third) h few names e =
     let a = h.0.zero_numbers.ends in
     let b = h.0.positive_numbers.ends in
     let c = h.1.ends in
-    let none = both_none (pair_fault nodes m zero' positive) (third_fault nodes m zero' positive third) e in
-    let pair = both_none (first_fault nodes m zero') (second_fault nodes m zero' positive) none.0 in
+    let none = nothing_before (pair_fault nodes m zero' positive) (third_fault nodes m zero' positive third) e in
+    let pair = nothing_before (first_fault nodes m zero') (second_fault nodes m zero' positive) none.0 in
     let f = faultless nodes (first_counts nodes m zero') zero' (values_from nodes m.parts.branches zero') pair.0 in
     let g = faultless nodes (second_counts nodes m zero' positive) positive (values_from nodes m.parts.branches positive) pair.1 in
     let t = faultless nodes (with_counts (second_counts nodes m zero' positive) third 0) third OwnValues none.1 in

@@ -10,7 +10,7 @@ ghost use Rattle.emtp_deck.specs.Branches.{branch_channels, card_bad, card_fault
 ghost use Rattle.emtp_deck.specs.Copies.{line_numbers, numbers_of_card, values_from};
 ghost use Rattle.emtp_deck.specs.Filling.{Fills, IsFilling, IsNaming, made_of};
 ghost use Rattle.emtp_deck.specs.Made.{count_asked};
-ghost use Rattle.emtp_sense.specs.Names.{with_ends, with_entry_names};
+ghost use Rattle.emtp_sense.specs.Names.{with_ends};
 ghost use Rattle.emtp_deck.specs.Sensible.{AreOwnPoints, FindsValues, IsLineKind, IsSensible, IsSensibleSingle, IsSensibleTrio};
 ghost use Rattle.emtp_walk.specs.Sound.{IsEntry, IsTrioEntry, has_points, is_pseudo, is_reactor};
 ghost use Rattle.emtp_walk.specs.Walk.{is_phase};

@@ -1,24 +1,19 @@
 //! The records of the control, whose cards have no fault of sense.
 
-ghost use Rattle.std.specs.Prelude.{◌≡◌, ◌+◌, ◌<◌, ◌≤◌, ◌++◌, ◌∷◌, [], All, fold, length, map, sum_by, IfErr, IfOk, OnOk};
-ghost use Rattle.emtp_case.specs.Branch.{points_of};
-ghost use Rattle.emtp_case.specs.Case.{empty_parts};
-ghost use Rattle.emtp_case.specs.Control.{IsBlock, IsDeviceCard, IsFormula};
+ghost use Rattle.std.specs.Prelude.{◌≡◌, ◌+◌, ◌<◌, ◌≤◌, ◌++◌, [], All, fold, length, map, sum_by, IfErr, IfOk, OnOk};
 ghost use Rattle.emtp_case.specs.HistoryValues.{history_values_of};
 ghost use Rattle.emtp_case.specs.Name.{IsName};
-ghost use Rattle.emtp_case.specs.Sizes.{sizes_of};
-ghost use Rattle.emtp_case.specs.Source.{IsTacsSource};
 ghost use Rattle.emtp_walk.specs.Answer.{IsWant};
-ghost use Rattle.emtp_deck.specs.ControlFilling.{block_of, bound_of, control_parts, device_of, formula_of, input_of, inputs_of, measuring, switch_place, tacs_source_of, with_device, with_extra};
+ghost use Rattle.emtp_deck.specs.ControlFilling.{block_of, bound_of, device_of, formula_of, inputs_of, measuring, switch_place, tacs_source_of, with_extra};
 ghost use Rattle.emtp_sense.specs.ControlSense.{entry_history_values};
-ghost use Rattle.emtp_sense.specs.ControlSensible.{IsSensibleBlock, IsSensibleDevice, IsSensibleExtra, IsSensibleTacsSource};
+ghost use Rattle.emtp_sense.specs.ControlSensible.{IsSensibleBlock, IsSensibleExtra, IsSensibleTacsSource};
 ghost use Rattle.emtp_deck.specs.ControlSensible.{IsSensibleControl};
 ghost use Rattle.emtp_walk.specs.Coefficients.{IsBlockEntry};
 ghost use Rattle.emtp_deck.specs.Deck.{control_made};
 ghost use Rattle.emtp_deck.specs.Filling.{IsFilling, made_of};
 ghost use Rattle.emtp_deck.specs.Made.{empty_made};
 ghost use Rattle.emtp_sense.specs.Naming.{Continues};
-ghost use Rattle.emtp_walk.specs.Sound.{IsDeviceEntry, IsExtraEntry, IsFormulaCard, IsTacsSourceCard, IsWhole};
+ghost use Rattle.emtp_walk.specs.Sound.{IsExtraEntry, IsTacsSourceCard, IsWhole};
 ghost use Rattle.emtp_sense.specs.Variables.{variable_number};
 
 use crate::filling::Filling;

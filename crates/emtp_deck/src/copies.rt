@@ -1,10 +1,10 @@
 //! Where a branch card's values come from: itself, or the first earlier branch of its type between the two nodes that it
 //! names.
 
-ghost use Rattle.std.specs.Prelude.{◌≡◌, ◌≤◌, ◌<◌, find, length, slice_index_or, IfSome};
+ghost use Rattle.std.specs.Prelude.{◌≡◌, ◌≤◌, ◌<◌, find, length};
 ghost use Rattle.emtp_case.specs.Branch.{IsBranch};
 ghost use Rattle.emtp_case.specs.Sizes.{sizes_of};
-ghost use Rattle.emtp_deck.specs.Copies.{IsTaken, is_like, line_numbers, missing_fault, mode_numbers, mode_of_phase, no_trio, numbers_of_branch, numbers_of_card, phase_numbers, type_of_branch, type_of_values, values_from};
+ghost use Rattle.emtp_deck.specs.Copies.{IsTaken, is_like, line_numbers, missing_fault, mode_numbers, numbers_of_branch, numbers_of_card, phase_numbers, type_of_branch, type_of_values, values_from};
 
 use emtp_card::{Fault, Why};
 use emtp_case::{Branch, Draft, Name, Phase, Trio};

@@ -1,12 +1,12 @@
 //! The case in the making, while cards are taken.
 
 ghost use Rattle.std.specs.Prelude.{◌≡◌, ◌≤◌, All, length, IfErr, IfOk, OnOk, []};
-ghost use Rattle.emtp_case.specs.Case.{DefinesEach, empty_parts};
+ghost use Rattle.emtp_case.specs.Case.{DefinesEach};
 ghost use Rattle.emtp_case.specs.HistoryValues.{history_values_of};
 ghost use Rattle.emtp_case.specs.Name.{IsName};
 ghost use Rattle.emtp_case.specs.RunData.{IsRun};
 ghost use Rattle.emtp_walk.specs.Answer.{IsWant};
-ghost use Rattle.emtp_deck.specs.Filling.{IsFilling, made_of};
+ghost use Rattle.emtp_deck.specs.Filling.{made_of};
 ghost use Rattle.emtp_deck.specs.Made.{empty_made};
 ghost use Rattle.emtp_sense.specs.Naming.{Continues};
 

@@ -1,6 +1,6 @@
 //! The case of a deck.
 
-ghost use Rattle.std.specs.Prelude.{◌≡◌, ◌+◌, ◌*◌, ◌++◌, ◌≤◌, [], All, length, Ok, Err, IfErr, IfOk, OnOk, false, true};
+ghost use Rattle.std.specs.Prelude.{◌≡◌, ◌+◌, ◌*◌, ◌++◌, ◌≤◌, [], All, length, Ok, Err, IfErr, IfOk, OnOk, false};
 ghost use Rattle.emtp_case.specs.Case.{DefinesEach};
 ghost use Rattle.emtp_case.specs.Channel.{IsChannel};
 ghost use Rattle.emtp_case.specs.RunData.{samples_of};
@@ -8,7 +8,7 @@ ghost use Rattle.emtp_case.specs.Sizes.{sizes_of};
 ghost use Rattle.emtp_deck.specs.Accepted.{IsAccepted};
 ghost use Rattle.emtp_walk.specs.Answer.{IfBad, IsWant};
 ghost use Rattle.emtp_deck.specs.ControlSensible.{IsSensibleWhole};
-ghost use Rattle.emtp_deck.specs.Deck.{case_of, control_made, deck_of, filled, is_ended, made_of_deck, missing_bad, unfinished};
+ghost use Rattle.emtp_deck.specs.Deck.{case_of, control_made, deck_of, filled, is_ended, made_of_deck, unfinished};
 ghost use Rattle.emtp_deck.specs.Filling.{AreThere, Fills, IsFilling, made_of};
 ghost use Rattle.emtp_deck.specs.Made.{all_asked, count_asked, empty_made};
 ghost use Rattle.emtp_walk.specs.Sound.{IsSound, IsWhole};

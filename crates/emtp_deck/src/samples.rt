@@ -1,6 +1,6 @@
 //! How many channels all cards ask for, and whether their record would be too large.
 
-ghost use Rattle.std.specs.Prelude.{◌≡◌, ◌+◌, ◌≤◌, length, min};
+ghost use Rattle.std.specs.Prelude.{◌≡◌, ◌+◌, ◌≤◌, min};
 ghost use Rattle.std.specs.List.{sum_by};
 ghost use Rattle.emtp_case.specs.RunData.{IsRun};
 ghost use Rattle.emtp_deck.specs.Branches.{entry_count};

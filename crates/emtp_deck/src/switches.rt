@@ -5,7 +5,6 @@ ghost use Rattle.emtp_case.specs.Range.{AreEnds};
 ghost use Rattle.emtp_walk.specs.Answer.{IsWant};
 ghost use Rattle.emtp_deck.specs.Filling.{Fills, IsFilling, made_of};
 ghost use Rattle.emtp_deck.specs.Made.{count_asked};
-ghost use Rattle.emtp_deck.specs.Branches.{with_nodes};
 ghost use Rattle.emtp_sense.specs.Names.{node_number};
 ghost use Rattle.emtp_deck.specs.Channels.{switch_channel_count};
 ghost use Rattle.emtp_sense.specs.ControlSensible.{IsKnown};

@@ -1,7 +1,6 @@
 -- What is held of one device between two steps.
-use Rattle.std.specs.Prelude.{◌≡◌, ◌≤◌, ◌∷◌, [], All, List, Option, Some, length, max, pos, take, unsigned_abs, ℕ, ℤ}
+use Rattle.std.specs.Prelude.{◌≡◌, ◌≤◌, ◌∷◌, [], All, List, Option, Some, max, pos, take, unsigned_abs, ℕ, ℤ}
 use Rattle.emtp_case.specs.HistoryValues.{device_history_values, extra_history_values}
-use Rattle.emtp_case.specs.declared.case.Parts.{Parts}
 use Rattle.emtp_case.specs.declared.control.Device.{Device}
 use Rattle.emtp_case.specs.declared.control.DeviceCode.TheVariants.{EffectiveValue}
 use Rattle.emtp_case.specs.declared.control.DeviceState.{DeviceState}
@@ -10,11 +9,6 @@ use Rattle.emtp_devices.specs.Device.{inputs_of, newest, sum_of_squares}
 use Rattle.emtp_devices.specs.declared.held.HeldDevice.{HeldDevice}
 use Rattle.emtp_fix.specs.declared.limit.TheConstants.{LARGEST_VALUE}
 use Rattle.emtp_hist.specs.History.{Remembers}
-
--- one value a variable, each in range
-pub record AreRead (case : Parts) (values : List ℤ) : Type 0 where
-  pub one_each : length values ≡ length case.vars
-  pub small : All (λ v. unsigned_abs v ≤ LARGEST_VALUE) values
 
 -- what is held stands for what the records keep of the device, newest first: the last output and the last inputs
 pub record DeviceStands (h : HeldDevice) (past : List DeviceState) : Type 0 where

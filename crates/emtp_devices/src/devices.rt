@@ -1,10 +1,10 @@
 //! All devices of a case.
 
-ghost use Rattle.std.specs.Prelude.{◌≡◌, ◌≤◌, ◌<◌, ◌∷◌, [], All, IfOk, length, unsigned_abs};
+ghost use Rattle.std.specs.Prelude.{◌≡◌, ◌≤◌, ◌<◌, ◌∷◌, [], All, IfOk, unsigned_abs};
 ghost use Rattle.emtp_case.specs.StepRecord.{rest_of};
 ghost use Rattle.emtp_case.specs.declared.control.Device.{Device};
 ghost use Rattle.emtp_devices.specs.Devices.{IsDeviceAt, Moves, StandsFor};
-ghost use Rattle.emtp_devices.specs.Held.{AreRead};
+ghost use Rattle.emtp_case.specs.Control.{AreKnown};
 ghost use Rattle.emtp_fix.specs.declared.limit.TheConstants.{LARGEST_VALUE};
 
 use crate::held::{HeldDevice, all_at_rest};
@@ -50,7 +50,7 @@ impl<'a> Devices<'a> {
     /// 10^18 it is out of range.
     pub fn step(&mut self, extra: usize, step: u32, values: &[i64]) -> Result<i64, OutOfRange>
         requires device { (x : Device) × IsDeviceAt self.old.case extra x }
-        requires values { AreRead self.old.case values.now }
+        requires values { AreKnown self.old.case values.now }
         ensures moves { Moves self.old self.new extra step values.now result }
         ensures small { IfOk result (λ y. unsigned_abs y ≤ LARGEST_VALUE) }
     {

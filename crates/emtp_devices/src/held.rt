@@ -1,12 +1,12 @@
 //! What is held of one device.
 
 ghost use Rattle.std.specs.Prelude.{◌≡◌, ◌≤◌, ◌∷◌, IfOk, List, None, OnErr, map, take, unsigned_abs};
-ghost use Rattle.emtp_case.specs.Control.{IsDevice, IsExtra};
+ghost use Rattle.emtp_case.specs.Control.{IsDevice, IsExtra, AreKnown};
 ghost use Rattle.emtp_case.specs.Sizes.{sizes_of};
 ghost use Rattle.emtp_case.specs.declared.control.DeviceCode.TheVariants.{EffectiveValue};
 ghost use Rattle.emtp_case.specs.declared.control.DeviceState.{DeviceState};
 ghost use Rattle.emtp_devices.specs.Device.{next_state, sum_of_squares};
-ghost use Rattle.emtp_devices.specs.Held.{AreRead, DeviceMoved, DeviceStands, IsHeld, IsHeldOf, depth_of, held_at_rest};
+ghost use Rattle.emtp_devices.specs.Held.{DeviceMoved, DeviceStands, IsHeld, IsHeldOf, depth_of, held_at_rest};
 ghost use Rattle.emtp_fix.specs.declared.limit.TheConstants.{LARGEST_VALUE};
 
 use crate::effective::squares_after;
@@ -55,7 +55,7 @@ impl HeldDevice {
     ) -> Result<i64, OutOfRange>
         requires device { IsDevice (sizes_of case.now.parts) case.now.parts.points device.now }
         requires held { IsHeldOf case.now.parts.run.dt device.now self.old }
-        requires values { AreRead case.now.parts values.now }
+        requires values { AreKnown case.now.parts values.now }
         ensures fits { IsHeldOf case.now.parts.run.dt device.now self.new }
         ensures moved { (past : List DeviceState) → DeviceStands self.old past → IfOk result (DeviceMoved self.new past (next_state case.now.parts device.now step values.now past)) }
         ensures out { (past : List DeviceState) → DeviceStands self.old past → OnErr result (next_state case.now.parts device.now step values.now past ≡ None) }

@@ -1,6 +1,6 @@
 //! What a device reads of the variables.
 
-ghost use Rattle.std.specs.Prelude.{◌≡◌, ◌≤◌, ◌<◌, All, List, fold, length, map, pos, slice_index_or, unsigned_abs, ℤ, ℕ};
+ghost use Rattle.std.specs.Prelude.{◌≡◌, ◌≤◌, ◌<◌, All, fold, length, map, pos, slice_index_or, unsigned_abs};
 ghost use Rattle.std.specs.Option.{ForSome};
 ghost use Rattle.emtp_case.specs.declared.control.Input.{Input};
 ghost use Rattle.emtp_devices.specs.Device.{brought, brought_sum, extreme, extreme_of_two, is_positive, named_value};

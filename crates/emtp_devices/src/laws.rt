@@ -1,6 +1,6 @@
 //! What is true of devices in the field's own words. The functions do nothing: their clauses are proved.
 
-ghost use Rattle.std.specs.Prelude.{◌≡◌, ◌≢◌, ◌+◌, ◌<◌, ◌≤◌, ◌^◌, ◌+ℤ◌, ◌≤ℤ◌, ◌<ℤ◌, All, Bool, IfSome, List, false, length, map, pos, slice_index_or, true, ℕ, ℤ};
+ghost use Rattle.std.specs.Prelude.{◌≡◌, ◌≢◌, ◌+◌, ◌<◌, ◌≤◌, ◌+ℤ◌, ◌≤ℤ◌, ◌<ℤ◌, All, Bool, IfSome, List, false, length, map, pos, slice_index_or, true, ℕ, ℤ};
 ghost use Rattle.std.specs.List.{Contains};
 ghost use Rattle.emtp_case.specs.Branch.{origin, points_of};
 ghost use Rattle.emtp_case.specs.Control.{IsTable};

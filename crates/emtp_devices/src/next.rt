@@ -1,11 +1,11 @@
 //! One step of a device.
 
-ghost use Rattle.std.specs.Prelude.{◌≡◌, ◌≤◌, ◌<◌, ◌+◌, IfSome, List, length, unsigned_abs, ℤ};
-ghost use Rattle.emtp_case.specs.Control.{IsDevice};
+ghost use Rattle.std.specs.Prelude.{◌≡◌, ◌≤◌, ◌<◌, IfSome, List, unsigned_abs, ℤ};
+ghost use Rattle.emtp_case.specs.Control.{IsDevice, AreKnown};
 ghost use Rattle.emtp_case.specs.Sizes.{sizes_of};
 ghost use Rattle.emtp_case.specs.declared.control.DeviceState.{DeviceState};
 ghost use Rattle.emtp_devices.specs.Device.{next_state, output_by};
-ghost use Rattle.emtp_devices.specs.Held.{AreRead, DeviceStands, IsHeldOf};
+ghost use Rattle.emtp_devices.specs.Held.{DeviceStands, IsHeldOf};
 ghost use Rattle.emtp_fix.specs.declared.limit.TheConstants.{LARGEST_VALUE};
 ghost use Rattle.emtp_hist.specs.History.{Remembers};
 
@@ -31,7 +31,7 @@ pub(crate) fn next(
 ) -> Option<DeviceState>
     requires device { IsDevice (sizes_of case.now.parts) case.now.parts.points device.now }
     requires held { IsHeldOf case.now.parts.run.dt device.now held.now }
-    requires values { AreRead case.now.parts values.now }
+    requires values { AreKnown case.now.parts values.now }
     ensures value { (past : List DeviceState) → DeviceStands held.now past → result ≡ next_state case.now.parts device.now step values.now past }
     ensures input { IfSome result (λ state. unsigned_abs state.input ≤ LARGEST_VALUE) }
     ensures output { IfSome result (λ state. unsigned_abs state.output ≤ LARGEST_VALUE) }
@@ -52,7 +52,7 @@ fn output(
 ) -> i128
     requires device { IsDevice (sizes_of case.now.parts) case.now.parts.points device.now }
     requires held { IsHeldOf case.now.parts.run.dt device.now held.now }
-    requires values { AreRead case.now.parts values.now }
+    requires values { AreKnown case.now.parts values.now }
     requires s { unsigned_abs s ≤ LARGEST_VALUE }
     ensures { (inputs : List ℤ) → Remembers held.now.inputs inputs → result ≡ output_by case.now.parts device.now (record { step = step; values = values.now; s = s; inputs = inputs; last = held.now.output }) device.now.code }
 {

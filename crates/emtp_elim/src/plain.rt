@@ -1,7 +1,7 @@
 // A whole system, eliminated from its first row.
 ghost use Rattle.std.specs.Prelude.{◌≡◌, length, OnOk, IfOk, IfErr, Ok};
 ghost use Rattle.emtp_fix.specs.declared.limit.TheConstants.{LARGEST_VALUE};
-ghost use Rattle.emtp_elim.specs.Matrix.{Matrix, AreWithin};
+ghost use Rattle.emtp_elim.specs.Matrix.{AreWithin};
 ghost use Rattle.emtp_elim.specs.Finished.{AreAllFinished, IsMatrixFault};
 ghost use Rattle.emtp_elim.specs.Outcome.{outcome, EndsInFault, HasRow};
 

@@ -1,5 +1,5 @@
 // The finished rows of a matrix, and the next row finished by them.
-ghost use Rattle.std.specs.Prelude.{◌≡◌, ℕ, ◌+◌, ◌<◌, ◌≤◌, length, take, [], ◌∷◌, ◌++◌, IfOk, OnOk, OnErr, IfErr, Ok, Err};
+ghost use Rattle.std.specs.Prelude.{◌≡◌, ℕ, ◌+◌, ◌<◌, ◌≤◌, length, take, [], IfOk, OnOk, OnErr, IfErr, Ok, Err};
 ghost use Rattle.emtp_fix.specs.declared.limit.TheConstants.{LARGEST_VALUE};
 ghost use Rattle.emtp_elim.specs.Matrix.{AreWithin, row_of};
 ghost use Rattle.emtp_elim.specs.Finished.{Finished, AddsRow, FaultsRow};

@@ -1,6 +1,6 @@
 // Whole numbers printed as decimals.
-ghost use Rattle.std.specs.Prelude.{◌≡◌, ℕ, ◌+◌, ◌^◌, ◌<◌, ◌≤◌, ◌++◌, length, take};
-ghost use Rattle.emtp_fix.specs.Decimal.{fraction, point_fraction, sign, fixed_text};
+ghost use Rattle.std.specs.Prelude.{◌≡◌, ◌+◌, ◌^◌, ◌<◌, ◌≤◌, ◌++◌, length, take};
+ghost use Rattle.emtp_fix.specs.Decimal.{fraction, fixed_text};
 
 use itoa::Buffer;
 

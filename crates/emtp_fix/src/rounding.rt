@@ -1,5 +1,5 @@
 // Rounding to the nearest whole number, a half away from zero.
-ghost use Rattle.std.specs.Prelude.{true, ◌≡◌, ◌≢◌, ◌*◌, ◌+◌, ◌-◌, ◌/◌, ◌^◌, ◌<◌, ◌≤◌, ℕ, pos, unsigned_abs};
+ghost use Rattle.std.specs.Prelude.{◌≡◌, ◌≢◌, ◌+◌, ◌-◌, ◌/◌, ◌^◌, ◌<◌, ◌≤◌, ℕ, pos, unsigned_abs};
 ghost use Rattle.emtp_fix.specs.Rounding.{near, near_abs, IsNearest};
 ghost use Rattle.emtp_fix.specs.declared.limit.TheConstants.{LARGEST_WIDE, MICRO, NANO, PICO, ATTO};
 

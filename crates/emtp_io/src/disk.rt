@@ -1,5 +1,5 @@
 //! The real files of a runtime. A cabinet of these tells nothing of what they hold.
-ghost use Rattle.std.specs.Prelude.{◌≡◌, ◌<◌, ◌≤◌, true, false, length, is_some, None, IfSome, IsTrue, IsNone, IsSome, OnSome, OnOk, OnErr, IfOk};
+ghost use Rattle.std.specs.Prelude.{◌≡◌, ◌<◌, ◌≤◌, true, false, length, is_some, None, IfSome, IsTrue, IsSome, OnSome, OnOk, OnErr, IfOk};
 ghost use Rattle.std.specs.Bool.{OnTrue, OnFalse};
 ghost use Rattle.emtp_io.specs.Cabinet.{one_more, HasCause};
 ghost use Rattle.emtp_io.specs.Disk.{Disk, disk_state, is_created, with_created};

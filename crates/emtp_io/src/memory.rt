@@ -1,5 +1,5 @@
 //! A cabinet in memory.
-ghost use Rattle.std.specs.Prelude.{◌≡◌, ◌≢◌, ◌+◌, ◌<◌, ◌≤◌, ◌||◌, [], Some, None, length, take, is_err, is_none, IsTrue, IsSome, OnSome, OnOk, OnErr, IfOk, IfSome, AllPairs, string_bytes, option_map};
+ghost use Rattle.std.specs.Prelude.{◌≡◌, ◌≢◌, ◌+◌, ◌<◌, ◌≤◌, ◌||◌, [], Some, None, length, take, is_err, is_none, OnOk, OnErr, IfOk, IfSome, AllPairs, string_bytes, option_map};
 ghost use Rattle.std.specs.Option.{option_copied};
 ghost use Rattle.emtp_io.specs.Buffer.{created_of};
 ghost use Rattle.emtp_io.specs.Cabinet.{no_outputs, output, with_output, appended, put_back, one_more, IsAtEnd, HasCause, HasRoom};

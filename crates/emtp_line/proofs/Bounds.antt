@@ -8,9 +8,9 @@ use Rattle.emtp_case.proofs.Impedances.{conductance_range}
 use Rattle.emtp_case.specs.Branch.{HasLineNumbers, line_impedance}
 use Rattle.emtp_case.specs.Range.{IsBetween}
 use Rattle.emtp_fix.specs.Rounding.{near}
-use Rattle.emtp_fix.specs.declared.limit.TheConstants.{ATTO, LARGEST_ENTRY, LARGEST_IMPEDANCE, LEAST_IMPEDANCE, PICO}
+use Rattle.emtp_fix.specs.declared.limit.TheConstants.{ATTO, LARGEST_ENTRY, PICO}
 use Rattle.emtp_fix.proofs.Nearest.{unsigned_abs-near-le, near-zero}
-use Rattle.emtp_fix.proofs.Quotients.{near-within, near-nonneg, near-part, conductance-small, between-low, between-high}
+use Rattle.emtp_fix.proofs.Quotients.{near-within, near-nonneg, near-part, between-low, between-high}
 use Rattle.emtp_fix.proofs.Wide.{fits_between}
 use Rattle.emtp_line.specs.Mode.{IsMode, mode_of, far_share_of}
 use Rattle.emtp_line.specs.Wave.{wave_of, between}

@@ -1,12 +1,12 @@
 //! The numbers of one end of a three-phase line in one step, whether or not they are in range.
 
-ghost use Rattle.std.specs.Prelude.{◌≡◌, ◌^◌, ◌*◌, ◌≤◌, ◌∷◌, [], ℕ, ℤ, List, pos, ◌+ℤ◌, ◌-ℤ◌, ◌*ℤ◌, ◌≤ℤ◌, unsigned_abs};
+ghost use Rattle.std.specs.Prelude.{◌≡◌, ◌^◌, ◌*◌, ◌≤◌, ℕ, ℤ, pos, ◌+ℤ◌, ◌-ℤ◌, ◌*ℤ◌, ◌≤ℤ◌, unsigned_abs};
 ghost use Rattle.emtp_fix.specs.Rounding.{near};
 ghost use Rattle.emtp_fix.specs.declared.limit.TheConstants.{LARGEST_ENTRY, PICO};
 ghost use Rattle.emtp_line.specs.Held.{IsHeldTrio, held_modes};
 ghost use Rattle.emtp_line.specs.Mode.{IsMode};
 ghost use Rattle.emtp_line.specs.PhaseEnd.{AreWithin};
-ghost use Rattle.emtp_line.specs.Phases.{Modes, own_conductance, mutual_conductance, of_phase, mean, phase_currents, phase_waves, phase_end};
+ghost use Rattle.emtp_line.specs.Phases.{Modes, own_conductance, mutual_conductance, mean, phase_currents, phase_waves, phase_end};
 ghost use Rattle.emtp_line.specs.Wave.{wave_of};
 
 use crate::held_trio::HeldTrio;

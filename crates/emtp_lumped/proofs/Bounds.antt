@@ -1,5 +1,5 @@
 -- Bounds on what a companion is made of.
-use Rattle.std.proofs.Common.{◌≡◌, ◌*◌, ◌^◌, ◌≤◌, ℤ, pos, ◌+ℤ◌, ◌*ℤ◌, ◌≤ℤ◌, unsigned_abs, refl, arith}
+use Rattle.std.proofs.Common.{◌≡◌, ◌*◌, ◌^◌, ◌≤◌, ℤ, pos, ◌+ℤ◌, ◌*ℤ◌, ◌≤ℤ◌, refl, arith}
 use Rattle.std.proofs.lemmas.Int.{ints}
 use Rattle.std.specs.Ordering.{int_eq}
 use Rattle.std.specs.Prelude.{if◌then◌else◌, Bool, true, false}
@@ -7,7 +7,6 @@ use Rattle.emtp_case.specs.Branch.{HasSeriesNumbers, inductor_impedance, capacit
 use Rattle.emtp_case.specs.Range.{IsBetween}
 use Rattle.emtp_case.specs.declared.branch.Lumped.{Lumped}
 use Rattle.emtp_fix.specs.Rounding.{near}
-use Rattle.emtp_fix.specs.declared.limit.TheConstants.{ATTO, LARGEST_ENTRY, LARGEST_IMPEDANCE, LEAST_IMPEDANCE}
 use Rattle.emtp_case.proofs.Impedances.{conductance_range}
 use Rattle.emtp_fix.proofs.Quotients.{near-nonneg}
 use Rattle.emtp_lumped.specs.Companion.{companion_of, IsCompanion}

@@ -8,7 +8,6 @@ ghost use Rattle.emtp_case.specs.declared.branch.Lumped.{Lumped};
 ghost use Rattle.emtp_case.specs.declared.branch.LumpedState.{LumpedState};
 ghost use Rattle.emtp_fix.specs.declared.limit.TheConstants.{LARGEST_ENTRY};
 ghost use Rattle.emtp_lumped.specs.Companion.{companion_of};
-ghost use Rattle.emtp_lumped.specs.Held.{IsHeld};
 ghost use Rattle.emtp_lumped.specs.Lumps.{IsSeries, StandsAt, StandsFor, Moves, newest, HasNumbers, rest_at};
 ghost use Rattle.emtp_lumped.specs.Step.{history_current_of};
 

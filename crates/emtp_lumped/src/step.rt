@@ -1,6 +1,6 @@
 //! One step of a series branch. A function an equation.
 
-ghost use Rattle.std.specs.Prelude.{◌≡◌, ◌^◌, ◌*◌, ◌≤◌, ◌+ℤ◌, ◌-ℤ◌, ◌*ℤ◌, ◌≤ℤ◌, unsigned_abs, IfSome};
+ghost use Rattle.std.specs.Prelude.{◌≡◌, ◌^◌, ◌*◌, ◌≤◌, ◌*ℤ◌, ◌≤ℤ◌, unsigned_abs, IfSome};
 ghost use Rattle.emtp_fix.specs.Rounding.{near};
 ghost use Rattle.emtp_fix.specs.declared.limit.TheConstants.{LARGEST_VALUE, LARGEST_ENTRY, MICRO, PICO};
 ghost use Rattle.emtp_lumped.specs.Companion.{IsCompanion};

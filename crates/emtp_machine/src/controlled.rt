@@ -4,7 +4,7 @@ ghost use Rattle.std.specs.Prelude.{◌≡◌, ◌+◌, ◌<◌, ◌≤◌, [], 
 ghost use Rattle.emtp_case.specs.StepRecord.{StepRecord, rest_of};
 ghost use Rattle.emtp_machine.specs.Controlled.{IsNamed, IsOf, MayMove, StandsFor, StepsTo, redone_of};
 ghost use Rattle.emtp_machine.specs.History.{end_at, next_ticks, ticks_by};
-ghost use Rattle.emtp_machine.specs.Next.{control_fault, network_fault, next, node_name, variable_name};
+ghost use Rattle.emtp_machine.specs.Next.{control_fault, network_fault, next, node_name};
 ghost use Rattle.emtp_net.specs.Fault.{IsNode, NamesNode};
 ghost use Rattle.emtp_tacs.specs.Stages.{NamesVariable};
 

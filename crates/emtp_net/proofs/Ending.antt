@@ -1,16 +1,14 @@
 -- How a step ends, from what its parts answer.
-use Rattle.std.proofs.Common.{◌≡◌, ◌∙◌, ◌<◌, sym, ap, ℕ, ℤ, pos, List, length, IsSome, is_none, Option, Some, None, Result, Ok, Err, false, refl}
+use Rattle.std.proofs.Common.{◌≡◌, ◌∙◌, ◌<◌, sym, ap, ℕ, ℤ, pos, List, length, IsSome, is_none, Some, None, Result, Ok, Err, refl}
+use Rattle.emtp_case.proofs.Places.{first_at, first_none, is_none-some}
 use Rattle.emtp_case.specs.RowOrder.{order_of}
 use Rattle.emtp_case.specs.StepRecord.{StepRecord}
 use Rattle.emtp_case.specs.declared.case.Parts.{Parts}
-use Rattle.emtp_elim.proofs.Outcomes.{outcome_row}
-use Rattle.emtp_elim.specs.Fault.{IsRowFault}
 use Rattle.emtp_elim.specs.Outcome.{outcome}
 use Rattle.emtp_elim.specs.declared.fault.PlainFault.{PlainFault}
-use Rattle.emtp_elim.specs.declared.fault.PlainFault.TheVariants.{Solve}
+use Rattle.emtp_elim.specs.declared.fault.PlainFault.TheVariants.{Row, Solve}
 use Rattle.emtp_elim.specs.declared.fault.RowFault.{RowFault}
 use Rattle.emtp_elim.specs.declared.fault.SolveFault.{SolveFault}
-use Rattle.emtp_net.proofs.Residuals.{first_at, first_none}
 use Rattle.emtp_net.specs.Moving.{IsFirstOut}
 use Rattle.emtp_net.specs.Part.{first_out, name_of_branch, part_at, state_at, states_at, switch_currents_at, voltages_of}
 use Rattle.emtp_net.specs.Residual.{residual_of}
@@ -35,8 +33,8 @@ by_outcome case H o free is =
     ap (λ t. unless t (λ s. Tied (name_of_switch case s)) tt >>= (λ none. solution case H >>= (λ x. moved case H (voltages_of case x) >>= (λ part. switched case part >>= (λ within. balanced case H within))))) free
     ∙ ap (λ r. named case r >>= (λ x. moved case H (voltages_of case x) >>= (λ part. switched case part >>= (λ within. balanced case H within)))) is
 
-pub row_ends : (case : Parts) (H : List StepRecord) (fault : RowFault) (e : NetFault) → IsUntied case H → IsRowFault (matrix case H) fault.row fault.cause → e ≡ fault_by fault.cause (node_at case fault.row) → network_part case H ≡ Err e
-row_ends case H fault e free is named_so = by_outcome case H _ free (outcome_row (matrix case H) (right case H) fault.row fault.cause is) ∙ ap Err (sym named_so)
+pub row_ends : (case : Parts) (H : List StepRecord) (fault : RowFault) (e : NetFault) → IsUntied case H → outcome (matrix case H) (right case H) ≡ Err (Row fault) → e ≡ fault_by fault.cause (node_at case fault.row) → network_part case H ≡ Err e
+row_ends case H fault e free is named_so = by_outcome case H _ free is ∙ ap Err (sym named_so)
 
 pub solve_ends : (case : Parts) (H : List StepRecord) (fault : SolveFault) (n : ℕ) → IsUntied case H → outcome (matrix case H) (right case H) ≡ Err (Solve fault) → n ≡ node_at case fault.row → network_part case H ≡ Err (Range n)
 solve_ends case H fault n free is node = by_outcome case H _ free is ∙ ap (λ m. Err (Range m)) (sym node)
@@ -44,12 +42,8 @@ solve_ends case H fault n free is node = by_outcome case H _ free is ∙ ap (λ 
 by_voltages : (case : Parts) (H : List StepRecord) (vs : List ℤ) → AreVoltages case H vs → network_part case H ≡ (moved case H vs >>= (λ part. switched case part >>= (λ within. balanced case H within)))
 by_voltages case H vs are = by_outcome case H _ are.free are.solved ∙ ap (λ v. moved case H v >>= (λ part. switched case part >>= (λ within. balanced case H within))) (sym are.are)
 
-some_none : {X : Type 0} (o : Option X) → IsSome o → is_none o ≡ false
-some_none (Some x) h = refl
-some_none None h = absurd (cc)
-
 first_out_is : (case : Parts) (H : List StepRecord) (vs : List ℤ) (b : ℕ) → IsFirstOut case H vs b → first_out case H vs ≡ Some b
-first_out_is case H vs b out = first_at (λ k. is_none (state_at case H vs k)) (length case.branches) b out.there (λ k less. some_none (state_at case H vs k) (out.earlier k less)) (ap is_none out.none)
+first_out_is case H vs b out = first_at (λ k. is_none (state_at case H vs k)) (length case.branches) b out.there (λ k less. is_none-some (state_at case H vs k) (out.earlier k less)) (ap is_none out.none)
 
 pub branch_ends : (case : Parts) (H : List StepRecord) (vs : List ℤ) (b n : ℕ) → AreVoltages case H vs → IsFirstOut case H vs b → n ≡ name_of_branch case b → network_part case H ≡ Err (Range n)
 branch_ends case H vs b n are out node =
@@ -60,7 +54,7 @@ branch_ends case H vs b n are out node =
 by_part : (case : Parts) (H : List StepRecord) (vs : List ℤ) → AreVoltages case H vs → ((b : ℕ) → b < length case.branches → IsSome (state_at case H vs b)) → network_part case H ≡ (switched case (part_at case H vs) >>= (λ within. balanced case H within))
 by_part case H vs are all =
     by_voltages case H vs are
-    ∙ ap (λ o. unless o (λ b. Range (name_of_branch case b)) (part_at case H vs) >>= (λ part. switched case part >>= (λ within. balanced case H within))) (first_none (λ k. is_none (state_at case H vs k)) (length case.branches) (λ k below. some_none (state_at case H vs k) (all k below)))
+    ∙ ap (λ o. unless o (λ b. Range (name_of_branch case b)) (part_at case H vs) >>= (λ part. switched case part >>= (λ within. balanced case H within))) (first_none (λ k. is_none (state_at case H vs k)) (length case.branches) (λ k below. is_none-some (state_at case H vs k) (all k below)))
 
 pub part_currents : (case : Parts) (H : List StepRecord) (vs : List ℤ) → (part_at case H vs).switch_currents ≡ switch_currents_at case H (states_at case H vs)
 unfolding part_at

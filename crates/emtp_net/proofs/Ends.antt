@@ -4,8 +4,8 @@ use Rattle.std.proofs.lemmas.Int.{ints}
 use Rattle.emtp_case.specs.Branch.{from_of, to_of}
 use Rattle.emtp_case.specs.declared.branch.Branch.{Branch}
 use Rattle.emtp_case.specs.declared.case.Parts.{Parts}
-use Rattle.emtp_rows.specs.Sums.{sum_below}
-use Rattle.emtp_rows.proofs.Totals.{sum_below-more}
+use Rattle.emtp_case.specs.Sums.{sum_below}
+use Rattle.emtp_case.proofs.Sums.{sum_below-more}
 use Rattle.emtp_net.specs.System.{at_node}
 
 if_small : (b : Bool) (x : ℤ) (limit : ℕ) → unsigned_abs x ≤ limit → unsigned_abs (if b then x else pos 0) ≤ limit

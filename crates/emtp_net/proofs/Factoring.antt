@@ -1,7 +1,5 @@
 -- The factor of the next step, and what it costs.
-use Rattle.std.proofs.Common.{◌≡◌, ◌≢◌, ◌∙◌, sym, ap, ℕ, ◌+◌, ◌-◌, ◌≤◌, ◌==◌, if◌then◌else◌, List, [], ◌∷◌, length, take, refl, false, inl, inr, int_eq, arith}
-use Rattle.std.specs.Cmp.Lexicographic.{pointwise}
-use Rattle.std.proofs.lemmas.Bool.{cases_Bool}
+use Rattle.std.proofs.Common.{◌≡◌, ◌≢◌, ◌∙◌, sym, ap, ℕ, ◌+◌, ◌-◌, ◌≤◌, ◌==◌, if◌then◌else◌, List, [], ◌∷◌, length, take, refl, false, arith}
 use Rattle.std.proofs.lemmas.Bool.Decides.{nat_tests}
 use Rattle.std.proofs.lemmas.List.{take-take}
 use Rattle.emtp_case.specs.StepRecord.{StepRecord}
@@ -12,6 +10,7 @@ use Rattle.emtp_elim.specs.declared.fault.RowCause.TheVariants.{Range as RowRang
 use Rattle.emtp_rows.proofs.NodalRows.{length-nodal_matrix}
 use Rattle.emtp_rows.specs.Nodal.{Nodal, nodal_matrix}
 use Rattle.emtp_rows.specs.Touched.{NodalRows, StandsUntouched, Touches}
+use Rattle.emtp_tail.proofs.Redoing.{first_change_within}
 use Rattle.emtp_tail.specs.Good.{Good, first_change}
 use Rattle.emtp_net.specs.Holding.{HoldsRows}
 use Rattle.emtp_net.specs.Redone.{last_matrix, step_redone, step_ticks}
@@ -42,16 +41,6 @@ holds_next case old mid new kept left holds rest room nodal_is size stands = rec
   kept_size = size ∙ holds.kept_size;
   kept_stands = stands;
 }
-
--- the first change is no later than the end
-pub first_change_within : (old new : Matrix) → first_change old new ≤ length new
-unfolding first_change
-first_change_within [] new = omega arith
-first_change_within (row ∷ old) [] = omega arith
-first_change_within (row ∷ old) (other ∷ new) = elim (cases_Bool (pointwise int_eq row other)) [
-  | inl same ↦ rw same (omega (arith, first_change_within old new))
-  | inr off ↦ rw off (omega arith)
-]
 
 -- the ticks of a step
 pub ticks_are : (case : Parts) (H : List StepRecord) (old : Matrix) (rows : Nodal) (size before after : ℕ) → old ≡ last_matrix case H → rows ≡ nodal case H → size ≡ length case.nodes → after + first_change old (nodal_matrix rows) ≡ before + size → after ≡ before + step_ticks case H

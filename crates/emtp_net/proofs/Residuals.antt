@@ -1,11 +1,11 @@
 -- The residuals by row.
-use Rattle.std.proofs.Common.{◌≡◌, ◌∙◌, sym, ap, ℕ, ◌+◌, ◌<◌, ◌≤◌, ◌≤ℤ◌, IfSome, ℤ, pos, unsigned_abs, nat_lt, cond, true, false, Bool, List, length, map, get_or, position, Option, Some, None, refl, arith}
-use Rattle.std.specs.List.{position_or_len, range_with_len}
+use Rattle.std.proofs.Common.{◌≡◌, ◌∙◌, sym, ap, ℕ, ◌<◌, ◌≤◌, ◌≤ℤ◌, IfSome, ℤ, pos, unsigned_abs, nat_lt, true, false, List, length, map, Option, Some, None, refl, arith}
+use Rattle.std.specs.List.{range_with_len}
 use Rattle.std.proofs.lemmas.Bool.Decides.{nat_tests}
 use Rattle.std.proofs.lemmas.Int.{ints}
 use Rattle.std.proofs.lemmas.List.{ext_get_or}
-use Rattle.std.proofs.lemmas.List.FromFn.{get_or-map-range_with_len, get_or-range_with_len, length-map-range_with_len, length-range_with_len}
-use Rattle.std.proofs.lemmas.List.Sums.{position_or_len_is}
+use Rattle.std.proofs.lemmas.List.FromFn.{get_or-map-range_with_len, length-map-range_with_len}
+use Rattle.emtp_case.proofs.Places.{first_at, first_none}
 use Rattle.emtp_case.specs.StepRecord.{BranchState, StepRecord}
 use Rattle.emtp_case.specs.declared.case.Parts.{Parts}
 use Rattle.emtp_case.specs.declared.row_kind.RowKind.{RowKind}
@@ -18,36 +18,6 @@ use Rattle.emtp_net.specs.Residual.{residual_by, residual_of}
 use Rattle.emtp_net.specs.Sums.{group_total}
 use Rattle.emtp_net.specs.System.{kinds_of}
 use Rattle.emtp_rows.specs.Nodal.{group_sum, kind_at, node_at}
-
--- ---- the first place of a test
-
--- a test of the numbers below n that passes first at b
-place_is : (p : ℕ → Bool) (n b : ℕ) → b ≤ n → ((k : ℕ) → k < b → p k ≡ false) → (b < n → p b ≡ true) → position_or_len p (range_with_len 0 n) ≡ b
-place_is p n b within fails passes =
-    position_or_len_is p (range_with_len 0 n) b 0 (omega (arith, within, length-range_with_len 0 n))
-    (λ k h. let e : get_or (range_with_len 0 n) k 0 ≡ k = get_or-range_with_len 0 n k 0 (omega (arith, h, within)) ∙ plus_zero k in ap p e ∙ fails k h)
-    (λ h. let below : b < n = omega (arith, h, length-range_with_len 0 n) in let e : get_or (range_with_len 0 n) b 0 ≡ b = get_or-range_with_len 0 n b 0 below ∙ plus_zero b in ap p e ∙ passes below)
-  where
-    plus_zero : (k : ℕ) → 0 + k ≡ k
-    plus_zero k = omega arith
-
-found : (k n : ℕ) → k < n → cond (nat_lt k n) (Some k) None ≡ Some k
-found k n below = grind (arith, nat_tests)
-
-nowhere : (n : ℕ) → cond (nat_lt n n) (Some n) None ≡ None
-nowhere n = grind (arith, nat_tests)
-
-pub first_at : (p : ℕ → Bool) (n b : ℕ) → b < n → ((k : ℕ) → k < b → p k ≡ false) → p b ≡ true → position p (range_with_len 0 n) ≡ Some b
-first_at p n b below fails passes =
-    let place = place_is p n b (omega (arith, below)) fails (λ h. passes) in
-    let long = length-range_with_len 0 n in
-    rw (place, long) (found b n below)
-
-pub first_none : (p : ℕ → Bool) (n : ℕ) → ((k : ℕ) → k < n → p k ≡ false) → position p (range_with_len 0 n) ≡ None
-first_none p n fails =
-    let place = place_is p n n (omega arith) fails (λ h. absurd (omega (arith, h))) in
-    let long = length-range_with_len 0 n in
-    rw (place, long) (nowhere n)
 
 -- ---- what leaves the nodes
 

@@ -13,8 +13,8 @@ use Rattle.emtp_net.proofs.Sourcing.{voltage_is}
 use Rattle.emtp_net.specs.Rights.{place_at, places_of, row_value}
 use Rattle.emtp_net.specs.Sums.{group_total}
 use Rattle.emtp_net.specs.System.{kinds_of, right, right_by, right_current, source_value, source_values, voltage_of}
-use Rattle.emtp_rows.proofs.Totals.{sum_below_same}
-use Rattle.emtp_rows.specs.Sums.{sum_below}
+use Rattle.emtp_case.proofs.Sums.{sum_below_same}
+use Rattle.emtp_case.specs.Sums.{sum_below}
 use Rattle.emtp_rows.specs.Nodal.{group_sum, is_member, kind_at, node_at}
 
 -- the sum over the group of a row, of sums that are those of f at the nodes of the rows

@@ -12,7 +12,7 @@ use Rattle.emtp_case.specs.declared.source.Source.{Source}
 use Rattle.emtp_case.specs.declared.source.Shape.TheVariants.{Step}
 use Rattle.emtp_elim.specs.Matrix.{item}
 use Rattle.emtp_net.specs.Rights.{brought}
-use Rattle.emtp_rows.proofs.Totals.{total-more}
+use Rattle.emtp_case.proofs.Sums.{total-more}
 
 -- ---- current sources
 

@@ -21,7 +21,7 @@ use Rattle.emtp_net.specs.Holding.{HoldsSwitches}
 use Rattle.emtp_net.specs.Part.{leaving_rows, switch_currents_at}
 use Rattle.emtp_net.specs.Step.{first_beyond}
 use Rattle.emtp_net.specs.System.{kinds_of}
-use Rattle.emtp_net.proofs.Residuals.{first_at, first_none}
+use Rattle.emtp_case.proofs.Places.{first_at, first_none}
 
 -- a record with these states of its switches
 abbrev following : List SwitchState → StepRecord

@@ -1,5 +1,5 @@
 -- A step ends as tied only where its switches tie two known voltages.
-use Rattle.std.proofs.Common.{◌≡◌, ◌∙◌, ap, sym, subst, ℕ, ℤ, pos, List, Option, Some, None, Result, Ok, Err, refl}
+use Rattle.std.proofs.Common.{◌≡◌, sym, subst, ℕ, ℤ, pos, List, Option, Some, None, Result, Ok, Err}
 use Rattle.emtp_case.specs.StepRecord.{StepRecord}
 use Rattle.emtp_case.specs.declared.case.Parts.{Parts}
 use Rattle.emtp_elim.specs.Outcome.{outcome}

@@ -8,7 +8,7 @@ use Rattle.emtp_case.specs.declared.row_kind.RowKind.{RowKind}
 use Rattle.emtp_case.specs.declared.row_kind.RowKind.TheVariants.{Kcl, Sum, Tie, Ground, Source as SourceRow}
 use Rattle.emtp_case.specs.declared.source.Source.{Source}
 use Rattle.emtp_rows.specs.Nodal.{node_at}
-use Rattle.emtp_rows.specs.Sums.{total}
+use Rattle.emtp_case.specs.Sums.{total}
 
 -- what current sources of these values bring to node n
 abbrev pub brought : (Source → ℤ) → ℕ → List Source → ℤ

@@ -3,7 +3,7 @@ use Rattle.std.specs.Prelude.{◌≡◌, ◌==◌, ◌<◌, ◌+ℤ◌, if◌the
 use Rattle.emtp_case.specs.declared.row_kind.RowKind.{RowKind}
 use Rattle.emtp_elim.specs.Matrix.{item}
 use Rattle.emtp_rows.specs.Nodal.{is_member, kind_at}
-use Rattle.emtp_rows.specs.Sums.{sum_below}
+use Rattle.emtp_case.specs.Sums.{sum_below}
 use Rattle.emtp_rows.specs.Touched.{tied_row}
 
 -- the sum over the group of a row of what f gives for its rows

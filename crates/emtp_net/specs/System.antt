@@ -21,7 +21,7 @@ use Rattle.emtp_lumped.specs.Lumps as lumped
 use Rattle.emtp_lumped.specs.Step.{history_current_of}
 use Rattle.emtp_pseudo.specs.Pseudos as pseudo
 use Rattle.emtp_rows.specs.Nodal.{Nodal, nodal_matrix, node_at, kind_at, group_sum}
-use Rattle.emtp_rows.specs.Sums.{sum_below, total}
+use Rattle.emtp_case.specs.Sums.{sum_below, total}
 use Rattle.emtp_switch.specs.Kinds as switched
 use Rattle.emtp_switch.specs.States.{next_states}
 use Rattle.emtp_wave.specs.Wave.{value_of}

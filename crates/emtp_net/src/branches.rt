@@ -1,6 +1,6 @@
 //! All branches of a case, by their laws.
 
-ghost use Rattle.std.specs.Prelude.{◌≡◌, ◌+◌, ◌^◌, ◌<◌, ◌≤◌, ◌∷◌, [], neg_ℤ, false, true, ℕ, ℤ, List, length, slice_get, unsigned_abs, IfErr, IfOk, OnOk};
+ghost use Rattle.std.specs.Prelude.{◌≡◌, ◌+◌, ◌^◌, ◌<◌, ◌≤◌, ◌∷◌, [], false, true, ℤ, List, length, slice_get, unsigned_abs, IfErr, IfOk, OnOk};
 ghost use Rattle.emtp_case.specs.StepRecord.{StepRecord, branch_current_at, rest_of};
 ghost use Rattle.emtp_fix.specs.declared.limit.TheConstants.{LARGEST_ENTRY};
 ghost use Rattle.emtp_net.specs.Branches.{HasCase, StandsFor};

@@ -1,9 +1,11 @@
 //! The factor, brought up to date from the first row that changed.
 
-ghost use Rattle.std.specs.Prelude.{◌≡◌, ◌+◌, ◌-◌, ◌*◌, ◌^◌, ◌≤◌, ◌<◌, ◌==◌, List, length, if◌then◌else◌, OnOk, IfErr};
+ghost use Rattle.std.specs.Prelude.{◌≡◌, ◌+◌, ◌-◌, ◌*◌, ◌^◌, ◌≤◌, ◌<◌, ◌==◌, ℤ, List, length, if◌then◌else◌, Err, OnOk, IfErr};
 ghost use Rattle.emtp_case.specs.RowOrder.{order_of};
 ghost use Rattle.emtp_case.specs.StepRecord.{StepRecord};
 ghost use Rattle.emtp_elim.specs.Fault.{IsRowFault};
+ghost use Rattle.emtp_elim.specs.Outcome.{outcome};
+ghost use Rattle.emtp_elim.specs.declared.fault.PlainFault.{PlainFault};
 ghost use Rattle.emtp_net.specs.Branches.{HasCase, StandsFor as BranchesStandFor};
 ghost use Rattle.emtp_net.specs.Fault.{NamesNode};
 ghost use Rattle.emtp_net.specs.Holding.{HoldsRows};
@@ -57,6 +59,7 @@ fn follow<L: Ledger>(
     ensures good { OnOk result (kept.new.rows ≡ nodal_matrix rows.old.nodal) }
     ensures ticks { OnOk result (steps.new + first_change kept.old.rows (nodal_matrix rows.old.nodal) ≡ steps.old + kept.old.size) }
     ensures fault { IfErr result (λ fault. IsRowFault (nodal_matrix rows.old.nodal) fault.row fault.cause) }
+    ensures ends { IfErr result (λ fault. (right : List ℤ) → outcome (nodal_matrix rows.old.nodal) right ≡ Err (PlainFault.Row fault)) }
     ensures fault_ticks { IfErr result (λ fault. steps.new + first_change kept.old.rows (nodal_matrix rows.old.nodal) ≤ steps.old + kept.old.size) }
 {
     let from = rows.take_touched().min(kept.good());

@@ -2,14 +2,14 @@
 
 ghost use Rattle.std.specs.Prelude.{◌≡◌, ◌+◌, ◌^◌, ◌<◌, ◌≤◌, ◌∷◌, ℕ, ℤ, pos, All, List, length, replicate, unsigned_abs, IfErr, IfOk, OnOk};
 ghost use Rattle.emtp_case.specs.RowOrder.{order_of};
-ghost use Rattle.emtp_case.specs.StepRecord.{BranchState, StepRecord, latest};
+ghost use Rattle.emtp_case.specs.StepRecord.{StepRecord, latest};
 ghost use Rattle.emtp_elim.specs.Matrix.{item};
 ghost use Rattle.emtp_fix.specs.declared.limit.TheConstants.{LARGEST_VALUE};
 ghost use Rattle.emtp_net.specs.Branches.{HasCase};
 ghost use Rattle.emtp_net.specs.Fault.{NamesNode};
 ghost use Rattle.emtp_net.specs.Holding.{HasRoom, HoldsSwitches};
-ghost use Rattle.emtp_net.specs.Moving.{HaveMoved, IsNext};
-ghost use Rattle.emtp_net.specs.Part.{leaving_rows, states_at, switch_currents_at};
+ghost use Rattle.emtp_net.specs.Moving.{HaveMoved};
+ghost use Rattle.emtp_net.specs.Part.{leaving_rows, states_at};
 ghost use Rattle.emtp_net.specs.Redone.{step_redone};
 ghost use Rattle.emtp_net.specs.Stages.{AllInRange, AreVoltages, Ends, HasCurrents, IsBalanced, IsDecided, IsPosed};
 ghost use Rattle.emtp_net.specs.System.{kinds_of, source_values};

@@ -1,6 +1,6 @@
 //! The residuals of a step.
 
-ghost use Rattle.std.specs.Prelude.{◌≡◌, ◌^◌, ◌<◌, ◌≤◌, ◌+◌, ◌≤ℤ◌, ℕ, ℤ, List, pos, neg_ℤ, length, slice_get, unsigned_abs, IfSome};
+ghost use Rattle.std.specs.Prelude.{◌≡◌, ◌^◌, ◌<◌, ◌≤◌, ◌≤ℤ◌, ℕ, ℤ, List, pos, neg_ℤ, length, slice_get, unsigned_abs, IfSome};
 ghost use Rattle.emtp_elim.specs.Matrix.{item};
 ghost use Rattle.emtp_case.specs.RowOrder.{order_of};
 ghost use Rattle.emtp_case.specs.StepRecord.{BranchState, StepRecord};
@@ -9,7 +9,7 @@ ghost use Rattle.emtp_net.specs.Judging.{IsUnbalanced, Judges, magnitude_in};
 ghost use Rattle.emtp_net.specs.Moving.{HaveMoved, IsNext};
 ghost use Rattle.emtp_net.specs.Part.{brought_by, leaving_rows};
 ghost use Rattle.emtp_net.specs.System.{branch_sum, kinds_of, source_values};
-ghost use Rattle.emtp_rows.specs.Nodal.{kind_at, node_at};
+ghost use Rattle.emtp_rows.specs.Nodal.{node_at};
 
 use crate::branches::Branches;
 use crate::right::add_sources;

@@ -1,6 +1,6 @@
 //! The right side of the nodal system.
 
-ghost use Rattle.std.specs.Prelude.{◌≡◌, ◌+◌, ◌*◌, ◌^◌, ◌<◌, ◌≤◌, ◌+ℤ◌, ◌&&◌, ◌==◌, if◌then◌else◌, ℕ, ℤ, pos, List, length, map, slice_index, unsigned_abs, IfOk};
+ghost use Rattle.std.specs.Prelude.{◌≡◌, ◌+◌, ◌*◌, ◌^◌, ◌<◌, ◌≤◌, ◌+ℤ◌, if◌then◌else◌, ℕ, ℤ, pos, List, length, map, slice_index, unsigned_abs, IfOk};
 ghost use Rattle.std.specs.List.{position, position_or_len};
 ghost use Rattle.emtp_case.specs.Source.{is_voltage_source_at};
 ghost use Rattle.emtp_case.specs.RowOrder.{order_of};

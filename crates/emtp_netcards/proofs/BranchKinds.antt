@@ -1,7 +1,7 @@
 -- A branch card that isn't refused has the values of its type.
-use Rattle.std.proofs.Common.{◌≡◌, ℕ, ℤ, Bool, true, false, List, [], ◌∷◌, Option, Some, None, Result, Ok, Err, refl}
+use Rattle.std.proofs.Common.{◌≡◌, ℕ, ℤ, Bool, true, false, List, [], ◌∷◌, None, Result, Ok, Err, refl}
 use Rattle.std.specs.Prelude.{if◌then◌else◌}
-use Rattle.emtp_card.specs.Fault.{fault_at, judge, least}
+use Rattle.emtp_card.specs.Fault.{fault_at, judge}
 use Rattle.emtp_card.specs.Name.{name_field}
 use Rattle.emtp_card.specs.declared.reason.Why.{Why}
 use Rattle.emtp_card.proofs.Faults.{judge_none, least_none}

@@ -2,7 +2,7 @@
 use Rattle.std.proofs.Common.{◌≡◌, ℕ, ℤ, Bool, true, false, List, [], ◌∷◌, Option, Some, None, Result, Ok, Err, refl}
 use Rattle.std.specs.Result.{result_unwrap_or}
 use Rattle.std.specs.Prelude.{IfSome, if◌then◌else◌}
-use Rattle.emtp_card.specs.Fault.{fault_at, judge, judge_by, least}
+use Rattle.emtp_card.specs.Fault.{fault_at, judge, judge_by}
 use Rattle.emtp_card.specs.Lines.{fault_of_line}
 use Rattle.emtp_card.specs.Name.{name_field}
 use Rattle.emtp_card.specs.declared.fault.Fault.{Fault}

@@ -1,7 +1,6 @@
 //! Output cards.
 
 ghost use Rattle.std.specs.Prelude.{◌≡◌, ◌≤◌, length};
-ghost use Rattle.emtp_card.specs.Whole.{whole_field};
 ghost use Rattle.emtp_netcards.specs.OutputCard.{asks_all, mark_field, mark_of, names, names_fault, output_card, output_fault};
 
 use emtp_card::{

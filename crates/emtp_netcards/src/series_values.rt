@@ -1,8 +1,8 @@
 //! The values of a series branch's card.
 
-ghost use Rattle.std.specs.Prelude.{◌≡◌, ◌^◌, pos, IfOk, IsTrue};
+ghost use Rattle.std.specs.Prelude.{◌≡◌, ◌^◌, IfOk, IsTrue};
 ghost use Rattle.emtp_case.specs.Range.{IsBetween};
-ghost use Rattle.emtp_netcards.specs.SeriesValues.{IsSeries, c_field, is_branch_impedance, l_field, r_field, series_by, series_field, series_fault, series_of, series_values};
+ghost use Rattle.emtp_netcards.specs.SeriesValues.{IsSeries, c_field, is_branch_impedance, l_field, r_field, series_field, series_fault, series_of, series_values};
 
 use emtp_card::{Fault, Why, fault_at, least, number_or};
 use emtp_case::series_impedance;

@@ -1,6 +1,6 @@
 //! One straight segment of a characteristic.
 
-ghost use Rattle.std.specs.Prelude.{◌≡◌, ◌+◌, ◌^◌, ◌<◌, ◌≤◌, ◌<ℤ◌, Bool, List, length, unsigned_abs, IfSome};
+ghost use Rattle.std.specs.Prelude.{◌≡◌, ◌+◌, ◌^◌, ◌<◌, ◌≤◌, ◌<ℤ◌, Bool, length, unsigned_abs, IfSome};
 ghost use Rattle.emtp_case.specs.Branch.{IsCharacteristic, IsSegment};
 ghost use Rattle.emtp_case.specs.Range.{IsBetween};
 ghost use Rattle.emtp_fix.specs.Rounding.{near};

@@ -9,7 +9,7 @@ use Rattle.emtp_case.specs.declared.branch.Branch.TheVariants.{Lumped as OfLumpe
 use Rattle.emtp_case.specs.declared.branch.Phase.{Phase}
 use Rattle.emtp_case.specs.declared.case.Parts.{Parts}
 use Rattle.emtp_rows.specs.declared.term.Amount.TheVariants.{Own}
-use Rattle.emtp_rows.specs.Sums.{total}
+use Rattle.emtp_case.specs.Sums.{total}
 use Rattle.emtp_rows.specs.Nodal.{between, incidence, phase_node, same_node}
 use Rattle.emtp_rows.specs.Terms.{in_node, end_terms, terms_by, two_terms}
 use Rattle.emtp_rows.proofs.Orders.{isnt_number}

@@ -1,18 +1,27 @@
 -- How large the numbers of a row may be while it is filled, and entries that are added one by one.
 use Rattle.std.proofs.Common.{◌≡◌, ◌∙◌, sym, ap, ℕ, ◌+◌, ◌^◌, ◌<◌, ◌≤◌, ◌==◌, ℤ, pos, neg_ℤ, ◌+ℤ◌, ◌-ℤ◌, unsigned_abs, Bool, true, false, if◌then◌else◌, List, [], All, length, length-take-le, take, slice_set, slice_index_or, get_or-set_same, get_or-set_other, inl, inr, arith}
-use Rattle.std.proofs.lemmas.Bool.{cases_eq, cases_Bool}
+use Rattle.std.proofs.lemmas.Bool.{cases_eq, cases_lt, cases_Bool}
 use Rattle.std.proofs.lemmas.Int.{ints}
+use Rattle.std.proofs.lemmas.List.{get_or_past}
+use Rattle.std.proofs.lemmas.List.Elements.{All-get_or}
 use Rattle.emtp_fix.specs.declared.limit.TheConstants.{LARGEST_ENTRY, PICO}
 use Rattle.emtp_elim.specs.Matrix.{item}
 use Rattle.emtp_case.specs.declared.row_kind.RowKind.{RowKind}
 use Rattle.emtp_rows.specs.declared.term.Amount.{Amount}
 use Rattle.emtp_rows.specs.declared.term.Amount.TheVariants.{Own, Turned, Mutual}
 use Rattle.emtp_rows.specs.declared.term.Term.{Term}
-use Rattle.emtp_rows.specs.Sums.{sum_below, total}
+use Rattle.emtp_case.specs.Sums.{sum_below, total}
 use Rattle.emtp_rows.specs.Nodal.{is_member, unit}
 use Rattle.emtp_rows.specs.Terms.{amount_of, in_column, IsSmall, AreRowTerms}
 use Rattle.emtp_rows.proofs.Orders.{is_number, isnt_number}
-use Rattle.emtp_rows.proofs.Totals.{total_small, sum_below_small, sum_below-more, item_small}
+use Rattle.emtp_case.proofs.Sums.{total_small, sum_below_small, sum_below-more}
+
+-- a number of a list of small ones, or 0 past its end
+pub item_small : (xs : List ℤ) (i : ℕ) → All IsSmall xs → unsigned_abs (item xs i) ≤ LARGEST_ENTRY
+item_small xs i small = elim (cases_lt i (length xs)) [
+  | inl below ↦ All-get_or IsSmall xs i (pos 0) below small
+  | inr past ↦ rw (get_or_past xs i (pos 0) past) (omega (arith, ints))
+]
 
 pub amount_small : (own coupling : List ℤ) (a : Amount) → All IsSmall own → All IsSmall coupling → unsigned_abs (amount_of own coupling a) ≤ LARGEST_ENTRY
 amount_small own coupling (Own b) small small' = item_small own b small

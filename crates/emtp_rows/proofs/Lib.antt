@@ -1,4 +1,3 @@
-pub mod Totals
 pub mod Orders
 pub mod Between
 pub mod TermSteps

@@ -18,11 +18,11 @@ use Rattle.emtp_case.specs.declared.case.Parts.{Parts}
 use Rattle.emtp_case.specs.declared.row_kind.RowKind.{RowKind}
 use Rattle.emtp_case.specs.declared.row_kind.RowKind.TheVariants.{Kcl, Sum, Tie, Ground, Source}
 use Rattle.emtp_rows.specs.declared.term.Term.{Term}
-use Rattle.emtp_rows.specs.Sums.{sum_below, total}
+use Rattle.emtp_case.specs.Sums.{sum_below, total}
 use Rattle.emtp_rows.specs.Nodal.{Nodal, between, node_at, current_entry, group_sum, entry_by, is_member, kind_at, unit, nodal_matrix}
 use Rattle.emtp_case.specs.RowKinds.{AreKinds, TieIsThere}
 use Rattle.emtp_rows.specs.Terms.{in_node, terms_at, IsHeld, IsSmall, HasAllTerms, AreRowTerms, kinds_from, in_column, filled_entry}
-use Rattle.emtp_rows.proofs.Totals.{sum_below_small, sum_below_same}
+use Rattle.emtp_case.proofs.Sums.{sum_below_small, sum_below_same}
 use Rattle.emtp_rows.proofs.Filled.{row_total_small}
 use Rattle.emtp_rows.proofs.Orders.{fixed_within}
 use Rattle.emtp_rows.proofs.Between.{terms_between}

@@ -1,4 +1,3 @@
-pub mod Sums
 pub mod Nodal
 pub mod Touched
 pub mod Terms

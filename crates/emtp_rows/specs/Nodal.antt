@@ -11,7 +11,7 @@ use Rattle.emtp_case.specs.declared.branch.Phase.{Phase}
 use Rattle.emtp_case.specs.declared.case.Parts.{Parts}
 use Rattle.emtp_case.specs.declared.row_kind.RowKind.{RowKind}
 use Rattle.emtp_case.specs.declared.row_kind.RowKind.TheVariants.{Kcl, Sum, Tie, Ground, Source}
-use Rattle.emtp_rows.specs.Sums.{sum_below}
+use Rattle.emtp_case.specs.Sums.{sum_below}
 
 -- what the matrix depends on: the case, the conductances of its branches and the mutual ones of its three-phase lines,
 -- in pS, and the kinds of its rows

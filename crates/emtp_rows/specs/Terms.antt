@@ -14,7 +14,7 @@ use Rattle.emtp_case.specs.declared.row_kind.RowKind.TheVariants.{Kcl, Sum, Tie,
 use Rattle.emtp_rows.specs.declared.term.Amount.{Amount}
 use Rattle.emtp_rows.specs.declared.term.Amount.TheVariants.{Own, Turned, Mutual}
 use Rattle.emtp_rows.specs.declared.term.Term.{Term}
-use Rattle.emtp_rows.specs.Sums.{sum_below, total}
+use Rattle.emtp_case.specs.Sums.{sum_below, total}
 use Rattle.emtp_rows.specs.Nodal.{Nodal, end_node, is_member, node_at, phase_node, unit}
 use Rattle.emtp_rows.specs.Touched.{row_at}
 

@@ -1,9 +1,9 @@
 //! Filling a row.
 
-ghost use Rattle.std.specs.Prelude.{◌≡◌, ◌*◌, ◌^◌, ◌<◌, ◌≤◌, ◌+ℤ◌, ◌-ℤ◌, neg_ℤ, ℕ, List, All, [], pos, if◌then◌else◌, length, unsigned_abs, slice_index_or, slice_set};
+ghost use Rattle.std.specs.Prelude.{◌≡◌, ◌^◌, ◌<◌, ◌≤◌, ◌+ℤ◌, ℕ, All, [], pos, if◌then◌else◌, length, unsigned_abs, slice_index_or, slice_set};
 ghost use Rattle.emtp_elim.specs.Matrix.{item};
 ghost use Rattle.emtp_rows.specs.declared.term.Term.{Term};
-ghost use Rattle.emtp_rows.specs.Sums.{sum_below, total};
+ghost use Rattle.emtp_case.specs.Sums.{sum_below, total};
 ghost use Rattle.emtp_fix.specs.declared.limit.TheConstants.{LARGEST_ENTRY, PICO};
 ghost use Rattle.emtp_rows.specs.Nodal.{is_member, is_tie_to, kind_at};
 ghost use Rattle.emtp_rows.specs.Terms.{amount_of, in_column, IsTerm, IsSmall, AreRowTerms, filled_entry, AmountIsThere};

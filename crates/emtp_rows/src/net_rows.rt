@@ -1,14 +1,13 @@
 //! The nodal rows of a case.
 
-ghost use Rattle.std.specs.Prelude.{◌≡◌, ◌<◌, ◌≤◌, ◌+◌, ℕ, pos, replicate, length, unsigned_abs, slice_set, slice_index_or, slice_get, Some, IfOk};
+ghost use Rattle.std.specs.Prelude.{◌≡◌, ◌<◌, ◌≤◌, pos, replicate, length, unsigned_abs, slice_set, IfOk};
 ghost use Rattle.emtp_fix.specs.declared.limit.TheConstants.{LARGEST_ENTRY};
 ghost use Rattle.emtp_elim.specs.Matrix.{item};
-ghost use Rattle.emtp_case.specs.Branch.{first_of_trio};
 ghost use Rattle.emtp_case.specs.RowKinds.{AreKinds};
 ghost use Rattle.emtp_case.specs.RowOrder.{order_of};
 ghost use Rattle.emtp_rows.specs.Nodal.{Nodal};
 ghost use Rattle.emtp_rows.specs.Terms.{kinds_from, nodal_at_rest};
-ghost use Rattle.emtp_rows.specs.Touched.{NodalRows, Touches, equation_row};
+ghost use Rattle.emtp_rows.specs.Touched.{NodalRows, Touches};
 
 use crate::fill::fill_row;
 use crate::term::Term;

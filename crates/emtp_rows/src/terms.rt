@@ -1,12 +1,12 @@
 //! Which terms the branches bring into the rows.
 
-ghost use Rattle.std.specs.Prelude.{◌≡◌, ◌≢◌, ◌<◌, ◌≤◌, ◌∷◌, [], ℕ, length, drop, map, slice_get, slice_index_or, slice_index, Some, IfOk, OnOk};
-ghost use Rattle.emtp_case.specs.Branch.{IsBranch, from_of, to_of, first_of_trio};
+ghost use Rattle.std.specs.Prelude.{◌≡◌, ◌<◌, ◌≤◌, ◌∷◌, [], length, drop, map, slice_get, slice_index_or, Some, IfOk, OnOk};
+ghost use Rattle.emtp_case.specs.Branch.{IsBranch, first_of_trio};
 ghost use Rattle.emtp_case.specs.RowOrder.{order_of};
 ghost use Rattle.emtp_case.specs.declared.branch.Branch.TheVariants.{Phase as OfPhase};
 ghost use Rattle.emtp_case.specs.Sizes.{sizes_of};
 ghost use Rattle.emtp_rows.specs.Nodal.{end_node, phase_node};
-ghost use Rattle.emtp_rows.specs.Terms.{Adds, HasTerms, HasAllTerms, AmountIsThere, NodeTerm, end_rows, end_terms, terms_at};
+ghost use Rattle.emtp_rows.specs.Terms.{Adds, HasTerms, HasAllTerms, AmountIsThere, end_rows, end_terms, terms_at};
 ghost use Rattle.emtp_rows.specs.Touched.{row_at};
 
 use crate::term::{Amount, Term};

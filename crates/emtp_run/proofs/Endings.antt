@@ -1,11 +1,11 @@
 -- How a call ends that makes a note and nothing else.
-use Rattle.std.proofs.Common.{◌≡◌, ◌⊎◌, inl, inr, sym, None, IfSome, ℕ, List, [], ◌∷◌, refl, subst, Some, Option, Result, Ok, Err, IsTrue, IsOk}
+use Rattle.std.proofs.Common.{◌≡◌, inl, inr, sym, None, IfSome, ℕ, List, [], ◌∷◌, refl, subst, Some, Option, Result, Ok, Err, IsTrue, IsOk}
 use Rattle.emtp_io.specs.Cabinet.{CabinetState}
 use Rattle.emtp_io.specs.Writes.{Written, Makes}
 use Rattle.emtp_io.specs.declared.cabinet.Output.TheVariants.{Cfg, Dat}
 use Rattle.emtp_card.specs.declared.reason.Bad.{Bad}
 use Rattle.emtp_run.specs.Note.{usage_note, card_note}
-use Rattle.emtp_run.specs.Outcome.{Outcome, outcome_for, note, usage, bad_card, IsComplete, IsNoted, IsWholeOrCut, KeepsRecord, Ends}
+use Rattle.emtp_run.specs.Outcome.{Outcome, outcome_for, note, usage, bad_card, IsComplete, IsWholeOrCut, KeepsRecord, Ends}
 use Rattle.emtp_run.specs.Words.{Task}
 use Rattle.emtp_run.specs.declared.status.Status.{Status}
 use Rattle.emtp_run.specs.declared.status.Status.TheVariants.{Done, Usage, BadCard, Ended, ReadFault, WriteFault, NoMemory}

@@ -8,13 +8,12 @@ use Rattle.emtp_io.specs.Cabinet.{CabinetState, Rose}
 use Rattle.emtp_io.specs.Writes.{Written, with_all, IsCutShort, AllFit}
 use Rattle.emtp_io.specs.declared.cabinet.Output.TheVariants.{Cfg, Dat, Note, Summary}
 use Rattle.emtp_machine.specs.History.{History, history, samples}
-use Rattle.emtp_machine.specs.Laws.{SamplesBalance}
 use Rattle.emtp_machine.specs.Machine.{IsEnd}
 use Rattle.emtp_run.specs.Note.{usage_note, card_note}
 use Rattle.emtp_run.specs.Reading.{deck}
 use Rattle.emtp_run.specs.Texts.{run_note, trial_text}
 use Rattle.emtp_run.specs.TrialDeck.{trial_cards}
-use Rattle.emtp_run.specs.Words.{RunFiles, Task, Run, Trial, fits}
+use Rattle.emtp_run.specs.Words.{Task, Run, Trial, fits}
 use Rattle.emtp_run.specs.declared.status.Status.{Status}
 use Rattle.emtp_run.specs.declared.status.Status.TheVariants.{Done, Usage, BadCard, Ended, ReadFault, WriteFault, NoMemory}
 

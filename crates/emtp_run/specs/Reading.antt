@@ -1,5 +1,5 @@
 -- The case that the bytes of a file give.
-use Rattle.std.specs.Prelude.{ℕ, List, Option, Some, None, Result, Ok, Err}
+use Rattle.std.specs.Prelude.{ℕ, List, Option, Some, None, Result, Err}
 use Rattle.emtp_card.specs.Cards.{size_fault}
 use Rattle.emtp_card.specs.Lines.{lines_of}
 use Rattle.emtp_card.specs.declared.reason.Bad.{Bad}

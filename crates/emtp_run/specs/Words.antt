@@ -1,5 +1,5 @@
 -- What the words of a command line ask for.
-use Rattle.std.specs.Prelude.{ℕ, ◌+◌, ◌-◌, ◌*◌, List, [], ◌∷◌, Bool, false, true, not, ◌&&◌, ◌==◌, ◌≤◌, nat_le, Option, Some, None, if◌then◌else◌, map, option_map, String, string_bytes, codes}
+use Rattle.std.specs.Prelude.{ℕ, ◌+◌, ◌-◌, ◌*◌, List, [], ◌∷◌, Bool, false, not, ◌&&◌, ◌==◌, ◌≤◌, nat_le, Option, Some, None, if◌then◌else◌, map, option_map, String, string_bytes, codes}
 use Rattle.std.specs.Char.{is_ascii_digit}
 use Rattle.std.specs.Str.{bytes_eq}
 use Rattle.std.specs.declared.alloc.Global.{Global}

@@ -1,7 +1,6 @@
 //! The texts of the notes.
-ghost use Rattle.std.specs.Fmt.{signed_decimal};
-ghost use Rattle.std.specs.Prelude.{◌≡◌, ◌+◌, ◌≤◌, ◌++◌, length, decimal};
-ghost use Rattle.emtp_run.specs.Note.{usage_note, card_note, cause_word, counts_text, done_note, done_text, ended_note, measured_text, note_by, reason_name};
+ghost use Rattle.std.specs.Prelude.{◌≡◌, ◌+◌, ◌≤◌, ◌++◌, length};
+ghost use Rattle.emtp_run.specs.Note.{usage_note, card_note, cause_word, counts_text, done_text, ended_note, measured_text, note_by, reason_name};
 
 use crate::text::{Text, push, push_number};
 use emtp_card::{Bad, Why};

@@ -5,9 +5,8 @@ use Rattle.std.proofs.lemmas.Bool.Decides.{nat_tests}
 use Rattle.std.proofs.lemmas.List.Elements.{All-cons, All-nil}
 use Rattle.std.proofs.lemmas.List.Sums.{sum_by-cons}
 use Rattle.std.specs.List.{list_any, sum_by}
-use Rattle.std.specs.Prelude.{All, if◌then◌else◌, nat_le, nat_lt, option_map}
+use Rattle.std.specs.Prelude.{All, if◌then◌else◌, nat_le, nat_lt}
 use Rattle.emtp_card.proofs.Faults.{least_none}
-use Rattle.emtp_card.specs.Fault.{bad_at}
 use Rattle.emtp_card.specs.declared.fault.Fault.{Fault}
 use Rattle.emtp_card.specs.declared.reason.Bad.{Bad}
 use Rattle.emtp_card.specs.declared.reason.Why.TheVariants.{TwoSources, UnknownName}
@@ -16,7 +15,9 @@ use Rattle.emtp_case.specs.HistoryValues.{device_history_values}
 use Rattle.emtp_case.specs.declared.control.DeviceCode.{DeviceCode}
 use Rattle.emtp_case.specs.declared.control.DeviceCode.TheVariants.{Counter, Delay, DelayedPulse, Derivative, EffectiveValue, Extreme, Gate, GateAbove, Integral, PeakHold, SampleHold, Selector, Table, Window}
 use Rattle.emtp_sense.proofs.Knowing.{known_inputs, known_name, known_names}
+use Rattle.emtp_sense.proofs.WithinLimits.{below, within}
 use Rattle.emtp_sense.proofs.Numbering.{AreAbove}
+use Rattle.emtp_walk.proofs.NoBad.{no_bad, nothing_before}
 use Rattle.emtp_walk.specs.Answer.{first_bad}
 use Rattle.emtp_sense.specs.ControlSense.{block_bad, block_sense, blocks_bad, card_history_values, device_bad, device_sense, entry_history_values, extra_bad, formula_sense, inputs_sense, is_measurable, is_unknown, judge_extras, measured_sense, names_sense, second_sense, tacs_source_bad, tacs_source_sense, tacs_sources_bad}
 use Rattle.emtp_sense.specs.ControlSensible.{AreKnownInputs, IsKnown}
@@ -35,24 +36,6 @@ use Rattle.emtp_taccards.specs.declared.device_card.DeviceCard.{DeviceCard}
 
 -- ---- one card
 
-no_bad : (line : ℕ) (fault : Option Fault) → option_map (bad_at line) fault ≡ None → fault ≡ None
-no_bad line None e = refl
-no_bad line (Some fault) e = absurd (cc)
-
-pub nothing_before : (a b : Option Bad) → first_bad a b ≡ None → (a ≡ None) × (b ≡ None)
-nothing_before None b e = (refl, e)
-nothing_before (Some a) b e = absurd (cc)
-
-few : (is : Bool) (column : ℕ) → too_many is column ≡ None → is ≡ false
-few true column e = absurd (cc)
-few false column e = refl
-
-below : (n m : ℕ) → nat_le n m ≡ false → m < n
-below n m e = grind (arith, nat_tests)
-
-within : (n m : ℕ) → nat_lt n m ≡ false → m ≤ n
-within n m e = grind (arith, nat_tests)
-
 not_second : (is : Bool) (f : Fault) → if◌then◌else◌ {A = Option Fault} is (Some f) None ≡ None → is ≡ false
 not_second true f e = absurd (cc)
 not_second false f e = refl
@@ -62,7 +45,9 @@ known true f e = refl
 known false f e = absurd (cc)
 
 above : (variables : List (List ℕ)) (next : ℕ) (name : List ℕ) → second_sense variables next name ≡ None → next ≤ variable_number variables name
-above variables next name e = within (variable_number variables name) next (not_second (nat_lt (variable_number variables name) next) (record { column = 3; why = TwoSources }) e)
+above variables next name e =
+    let h = not_second (nat_lt (variable_number variables name) next) (record { column = 3; why = TwoSources }) e in
+    grind (arith, nat_tests)
 
 -- ---- blocks
 
@@ -87,7 +72,7 @@ block_fine variables at card e =
     ∷ unknown_name variables 75 card.high_name
     ∷ []) (no_bad card.line _ e) in
     record {
-      room = below 200 at (few (nat_le 200 at) 1 none.0);
+      room = below 200 at 1 none.0;
       above = above variables (6 + at) card.name none.1.0;
       names = record {
         inputs = known_inputs variables 12 card.inputs none.1.1.0;
@@ -126,7 +111,7 @@ unfolding tacs_source_sense
 source_fine nodes switches variables at next card e =
     let none = least_none (too_many (nat_le 200 at) 1 ∷ second_sense variables next card.name ∷ measured_sense nodes switches card ∷ []) (no_bad card.line _ e) in
     record {
-      room = below 200 at (few (nat_le 200 at) 1 none.0);
+      room = below 200 at 1 none.0;
       above = above variables next card.name none.1.0;
       measures = known (is_measurable nodes switches card.name card.shape) (record { column = 3; why = UnknownName }) none.1.1.0;
     }
@@ -177,9 +162,9 @@ device_fine variables at next history card e =
     ∷ unknown_name variables 75 card.e
     ∷ []) (no_bad card.line _ e) in
     record {
-      room = below 200 at (few (nat_le 200 at) 1 none.0);
+      room = below 200 at 1 none.0;
       above = above variables next card.name none.1.1.0;
-      total = within 2000000 history (few (nat_lt 2000000 history) 1 none.1.0);
+      total = within 2000000 history 1 none.1.0;
       names = record {
         inputs = known_inputs variables 12 card.inputs none.1.1.1.0;
         d = known_name variables 69 card.d none.1.1.1.1.0;
@@ -201,7 +186,7 @@ extra_fine variables dt at next history (DeviceEntry card first count) e =
 extra_fine variables dt at next history (FormulaEntry card) e =
     let none = least_none (too_many (nat_le 200 at) 1 ∷ second_sense variables next card.name ∷ names_sense variables card.parsed.names ∷ []) (no_bad card.line _ e) in
     record {
-      room = below 200 at (few (nat_le 200 at) 1 none.0);
+      room = below 200 at 1 none.0;
       above = above variables next card.name none.1.0;
       total = λ h. omega arith;
       names = known_names variables card.parsed.names (not_second (list_any (is_unknown variables) card.parsed.names) (record { column = 12; why = UnknownName }) none.1.1.0);

@@ -1,4 +1,5 @@
 pub mod Naming
 pub mod Knowing
 pub mod Numbering
+pub mod WithinLimits
 pub mod ControlJudging

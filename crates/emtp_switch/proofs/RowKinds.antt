@@ -1,5 +1,5 @@
 -- The kinds fit the order of the rows: sources come first, and ties name rows.
-use Rattle.std.proofs.Common.{◌≡◌, ◌≢◌, ◌∙◌, ℕ, zero, suc, ◌+◌, ◌<◌, ◌≤◌, ◌==◌, ◌++◌, ◌∷◌, [], Bool, true, false, if◌then◌else◌, List, length, map, take, drop, reverse, get_or, slice_index, slice_index_or, nat_lt, Some, None, refl, ap, sym, subst, inl, inr, arith}
+use Rattle.std.proofs.Common.{◌≡◌, ◌≢◌, ◌∙◌, ℕ, zero, suc, ◌+◌, ◌<◌, ◌≤◌, ◌==◌, ◌++◌, ◌∷◌, [], Bool, true, false, if◌then◌else◌, List, length, map, drop, reverse, slice_index, slice_index_or, nat_lt, Some, None, refl, ap, sym, subst, inl, inr, arith}
 use Rattle.std.specs.List.{All, Contains, find, position_or_len, range_with_len}
 use Rattle.std.specs.Option.{unwrap_or}
 use Rattle.std.proofs.lemmas.Bool.{cases_Bool, cases_eq, cases_lt, cond-false, cond-true, eq-eqb, eqb-true, lt-ltb, ne_eqb, true≢false}
@@ -15,7 +15,7 @@ use Rattle.emtp_case.specs.declared.row_kind.RowKind.{RowKind}
 use Rattle.emtp_case.specs.declared.row_kind.RowKind.TheVariants.{Ground, Kcl, Source as OfSource, Sum, Tie}
 use Rattle.emtp_case.specs.declared.switch.Switch.{Switch}
 use Rattle.emtp_case.specs.declared.switch.SwitchState.{SwitchState}
-use Rattle.emtp_switch.specs.Groups.{EndWithin, alone, by_rank, closed_switches, first_tied, groups, is_closed_at, join, known_nodes, labels_of, root_of, tied_of, ties}
+use Rattle.emtp_switch.specs.Groups.{EndWithin, alone, by_rank, closed_switches, first_tied, is_closed_at, join, known_nodes, labels_of, root_of, tied_of, ties}
 use Rattle.emtp_switch.specs.Kinds.{count_members, is_empty, kind_by, kind_of, kinds_of, row_of}
 use Rattle.emtp_switch.specs.Plan.{IsPlan}
 use Rattle.emtp_switch.specs.declared.plan.Plan.{Plan}

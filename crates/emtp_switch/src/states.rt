@@ -3,7 +3,6 @@
 ghost use Rattle.std.specs.Prelude.{◌≡◌, ◌≢◌, ◌≤◌, ◌<◌, ◌+◌, ◌-ℤ◌, List, false, true, length, slice_set, unsigned_abs};
 ghost use Rattle.std.specs.Option.{ForSome};
 ghost use Rattle.std.specs.List.{All};
-ghost use Rattle.emtp_case.specs.Switch.{IsSwitchKind};
 ghost use Rattle.emtp_case.specs.StepRecord.{StepRecord, starting_state};
 ghost use Rattle.emtp_fix.specs.declared.limit.TheConstants.{LARGEST_VALUE};
 ghost use Rattle.emtp_switch.specs.Groups.{state_at};

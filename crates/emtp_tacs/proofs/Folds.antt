@@ -8,8 +8,7 @@ use Rattle.std.proofs.lemmas.Int.{to_z-of_z}
 use Rattle.std.proofs.lemmas.List.{get_or-set_same, get_or-set_other}
 use Rattle.std.proofs.lemmas.List.Elements.{All-set}
 use Rattle.std.proofs.lemmas.Option.{slice_get_within}
-use Rattle.emtp_blocks.specs.BlockRows.{AreKnown}
-use Rattle.emtp_case.specs.Control.{var_of}
+use Rattle.emtp_case.specs.Control.{AreKnown, var_of}
 use Rattle.emtp_case.specs.StepRecord.{StepRecord, no_device}
 use Rattle.emtp_case.specs.declared.case.Parts.{Parts}
 use Rattle.emtp_case.specs.declared.control.Device.{Device}

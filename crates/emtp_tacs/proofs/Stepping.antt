@@ -5,9 +5,10 @@ use Rattle.emtp_blocks.proofs.Matrices.{length-control_matrix}
 use Rattle.emtp_blocks.specs.System.{limiters_of, matrix}
 use Rattle.emtp_case.specs.StepRecord.{StepRecord}
 use Rattle.emtp_case.specs.declared.case.Parts.{Parts}
+use Rattle.emtp_tail.proofs.Redoing.{first_change_within}
 use Rattle.emtp_tail.specs.Good.{first_change}
 use Rattle.emtp_blocks.specs.BlockRows.{rows_of_blocks}
-use Rattle.emtp_tacs.proofs.Systems.{first_change_within, rows_are}
+use Rattle.emtp_tacs.proofs.Systems.{rows_are}
 use Rattle.emtp_tacs.specs.Part.{ControlPart}
 use Rattle.emtp_tacs.specs.Stages.{Advances, HoldsSystem, VariablesStandFor}
 use Rattle.emtp_tacs.specs.Tacs.{HeldControl, StandsFor, StepsTo}

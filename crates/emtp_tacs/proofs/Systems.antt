@@ -1,7 +1,5 @@
 -- The system of the blocks, from what its stages answer.
-use Rattle.std.proofs.Common.{◌≡◌, ◌∙◌, ◌≤◌, sym, ap, subst, ℕ, ℤ, List, [], ◌∷◌, length, int_eq, inl, inr, arith, Option, Some, None, Ok, Err, refl}
-use Rattle.std.proofs.lemmas.Bool.{cases_Bool}
-use Rattle.std.specs.Cmp.Lexicographic.{pointwise}
+use Rattle.std.proofs.Common.{◌≡◌, ◌∙◌, ◌≤◌, sym, ap, subst, ℕ, ℤ, List, length, arith, Option, Some, None, Ok, Err, refl}
 use Rattle.emtp_blocks.proofs.Matrices.{length-control_matrix}
 use Rattle.emtp_blocks.proofs.OneByOne.{limiters_are}
 use Rattle.emtp_blocks.specs.BlockRows.{Blocking, StandsFor as BlocksStandFor, HaveAccepted, limiters_kept, rows_of_blocks}
@@ -13,20 +11,11 @@ use Rattle.emtp_elim.specs.Outcome.{outcome}
 use Rattle.emtp_elim.specs.declared.fault.PlainFault.TheVariants.{Row, Solve}
 use Rattle.emtp_elim.specs.declared.fault.RowFault.{RowFault}
 use Rattle.emtp_elim.specs.declared.fault.SolveFault.{SolveFault}
+use Rattle.emtp_tail.proofs.Redoing.{first_change_within}
 use Rattle.emtp_tail.specs.Good.{first_change}
 use Rattle.emtp_tacs.specs.Step.{accepted, block_var, blocks, range_fault, solved_by, system_fault, with_outputs}
 use Rattle.emtp_tacs.specs.Stages.{Solves}
 use Rattle.emtp_tacs.specs.declared.fault.TacsFault.{TacsFault}
-
--- the first change is no later than the end
-pub first_change_within : (old new : Matrix) → first_change old new ≤ length new
-unfolding first_change
-first_change_within [] new = omega arith
-first_change_within (row ∷ old) [] = omega arith
-first_change_within (row ∷ old) (other ∷ new) = elim (cases_Bool (pointwise int_eq row other)) [
-  | inl same ↦ rw same (omega (arith, first_change_within old new))
-  | inr off ↦ rw off (omega arith)
-]
 
 -- the rows of blocks that stand for the records are the matrix of the next step
 pub rows_are : (case : Parts) (s : Blocking) (H : List StepRecord) → s.case ≡ case → BlocksStandFor s H → rows_of_blocks s ≡ matrix case H

@@ -1,6 +1,7 @@
 -- What the stages of a step leave, one after the other.
 use Rattle.std.specs.Prelude.{◌≡◌, ◌≤◌, ◌<◌, ◌+◌, ℕ, ℤ, nat_lt, ◌&&◌, ◌||◌, if◌then◌else◌, Bool, false, true, List, ◌∷◌, length, slice_get, slice_index_or, Option, Some, None, Result, Ok, Err}
-use Rattle.emtp_blocks.specs.BlockRows.{AreKnown, Blocking, rows_of_blocks, StandsFor as BlocksStandFor}
+use Rattle.emtp_case.specs.Control.{AreKnown}
+use Rattle.emtp_blocks.specs.BlockRows.{Blocking, rows_of_blocks, StandsFor as BlocksStandFor}
 use Rattle.emtp_blocks.specs.System.{matrix}
 use Rattle.emtp_case.specs.StepRecord.{StepRecord, latest, no_device}
 use Rattle.emtp_case.specs.declared.case.Parts.{Parts}

@@ -1,7 +1,8 @@
 //! The blocks as one system over a kept factor.
 
-ghost use Rattle.std.specs.Prelude.{◌≡◌, ◌≤◌, ◌<◌, ◌+◌, ◌-◌, ◌*◌, ◌==◌, ◌∷◌, [], ℕ, ℤ, if◌then◌else◌, List, length, IfErr, IfOk, OnOk};
-ghost use Rattle.emtp_blocks.specs.BlockRows.{AreKnown, AreUnknowns, HaveAccepted, StandsFor as BlocksStandFor, rows_of_blocks};
+ghost use Rattle.std.specs.Prelude.{◌≡◌, ◌≤◌, ◌<◌, ◌+◌, ◌-◌, ◌*◌, ◌==◌, ◌∷◌, [], ℤ, if◌then◌else◌, List, length, IfErr, IfOk, OnOk};
+ghost use Rattle.emtp_case.specs.Control.{AreKnown};
+ghost use Rattle.emtp_blocks.specs.BlockRows.{AreUnknowns, HaveAccepted, StandsFor as BlocksStandFor, rows_of_blocks};
 ghost use Rattle.emtp_blocks.specs.System.{matrix, right};
 ghost use Rattle.emtp_case.specs.StepRecord.{StepRecord, rest_of};
 ghost use Rattle.emtp_elim.specs.Outcome.{outcome};

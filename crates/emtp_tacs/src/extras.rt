@@ -1,8 +1,7 @@
 //! The supplemental cards: a pass before the blocks and a pass after them, each in card order.
 
 ghost use Rattle.std.specs.Prelude.{◌≡◌, ◌≤◌, ◌<◌, ◌+◌, Bool, true, List, length, unsigned_abs, IfErr, IfOk, Some, slice_get};
-ghost use Rattle.emtp_blocks.specs.BlockRows.{AreKnown};
-ghost use Rattle.emtp_case.specs.Control.{var_of};
+ghost use Rattle.emtp_case.specs.Control.{AreKnown, var_of};
 ghost use Rattle.emtp_case.specs.StepRecord.{StepRecord};
 ghost use Rattle.emtp_case.specs.declared.control.Device.{Device};
 ghost use Rattle.emtp_case.specs.declared.control.Extra.{Extra};

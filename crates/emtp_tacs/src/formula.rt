@@ -1,8 +1,7 @@
 //! The value of a formula.
 
 ghost use Rattle.std.specs.Prelude.{◌≡◌, ◌≤◌, length, map};
-ghost use Rattle.emtp_blocks.specs.BlockRows.{AreKnown};
-ghost use Rattle.emtp_case.specs.Control.{IsFormula};
+ghost use Rattle.emtp_case.specs.Control.{AreKnown, IsFormula};
 ghost use Rattle.emtp_case.specs.Sizes.{sizes_of};
 ghost use Rattle.emtp_elim.specs.Matrix.{item};
 ghost use Rattle.emtp_expr.specs.Value.{Evaluates};

@@ -1,7 +1,7 @@
 //! The sources of the control.
 
 ghost use Rattle.std.specs.Prelude.{◌≡◌, ◌≤◌, List, IfErr};
-ghost use Rattle.emtp_blocks.specs.BlockRows.{AreKnown};
+ghost use Rattle.emtp_case.specs.Control.{AreKnown};
 ghost use Rattle.emtp_case.specs.Sizes.{sizes_of};
 ghost use Rattle.emtp_case.specs.Source.{IsTacsSource};
 ghost use Rattle.emtp_case.specs.declared.control.DeviceState.{DeviceState};

@@ -4,7 +4,7 @@ use Rattle.std.proofs.lemmas.List.{get_or-take, length-take-le, take_more, take_
 use Rattle.std.specs.Cmp.Lexicographic.{pointwise}
 use Rattle.std.proofs.lemmas.Slice.Eq.{slice_eq-Decides}
 use Rattle.std.proofs.lemmas.Bool.Decides.{Decides-int_eq}
-use Rattle.std.proofs.lemmas.Bool.{cases_eq, both_ways, not-true, not-false, cond-true, cond-false, false_from_ne_true}
+use Rattle.std.proofs.lemmas.Bool.{cases_Bool, cases_eq, both_ways, not-true, not-false, cond-true, cond-false, false_from_ne_true}
 use Rattle.std.proofs.lemmas.Nat.{row_fits}
 use borrow.Rule.Slice.PartMut.{put_mid}
 use Rattle.emtp_elim.specs.Matrix.{Matrix, row_of}
@@ -103,6 +103,16 @@ first_change_law [] new long = record { within = omega arith; same = λ h low. a
 first_change_law (row ∷ old) [] long = absurd (omega arith)
 first_change_law (row ∷ old) (other ∷ new) long =
     change_by row other old new (first_change old new) (pointwise int_eq row other) refl (first_change_law old new (omega arith))
+
+-- the first change is no later than the end
+pub first_change_within : (old new : Matrix) → first_change old new ≤ length new
+unfolding first_change
+first_change_within [] new = omega arith
+first_change_within (row ∷ old) [] = omega arith
+first_change_within (row ∷ old) (other ∷ new) = elim (cases_Bool (pointwise int_eq row other)) [
+  | inl same ↦ rw same (omega (arith, first_change_within old new))
+  | inr off ↦ rw off (omega arith)
+]
 
 -- rows that don't change
 pub first_change_same : (rows : Matrix) → first_change rows rows ≡ length rows

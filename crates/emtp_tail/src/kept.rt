@@ -1,6 +1,6 @@
 // The kept factor.
 ghost use Rattle.std.specs.Prelude.{◌≡◌, ◌+◌, ◌*◌, ◌^◌, ◌<◌, ◌≤◌, ℤ, List, length, take, [], IfOk, OnOk, IfErr, Ok, Err};
-ghost use Rattle.emtp_elim.specs.Matrix.{Matrix, AreWithin};
+ghost use Rattle.emtp_elim.specs.Matrix.{AreWithin};
 ghost use Rattle.emtp_elim.specs.Fault.{IsRowFault, IsGoodMatrix};
 ghost use Rattle.emtp_elim.specs.Finished.{AreFinished};
 ghost use Rattle.emtp_elim.specs.Outcome.{outcome};

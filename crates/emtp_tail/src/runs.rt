@@ -1,6 +1,5 @@
 // Whole runs of calls on a kept factor.
 ghost use Rattle.std.specs.Prelude.{◌≡◌, length, All, IfOk};
-ghost use Rattle.emtp_elim.specs.Matrix.{Matrix};
 ghost use Rattle.emtp_tail.specs.Runs.{FitsSize, SolvesTo, Step, Run};
 
 use crate::Kept;

@@ -1,11 +1,11 @@
 -- The coefficients of a lag, power by power.
-use Rattle.emtp_case.specs.Control.{HasCoefficients, bilinear, denominator_of, divisor_of, numerator_of, step_gain}
+use Rattle.emtp_case.specs.Control.{HasCoefficients, HasWay, denominator_of, divisor_of, numerator_of, step_gain}
 use Rattle.emtp_case.specs.declared.control.Block.{Block}
 use Rattle.emtp_case.specs.declared.control.Bound.TheVariants.{Fixed, None as NoBound}
 use Rattle.emtp_case.specs.declared.control.Input.{Input}
 use Rattle.emtp_fix.specs.Rounding.{near, near_abs}
 use Rattle.std.proofs.Math.Dec.{lit≤}
-use Rattle.std.proofs.Common.{rules, arith, pos, suc, zero, ℕ, ℤ, ◌≤◌, ◌*◌, ◌^◌, ◌∷◌, [], List, slice_index_or}
+use Rattle.std.proofs.Common.{rules, arith, pos, suc, zero, ℕ, ℤ, ◌≤◌, ◌^◌, ◌∷◌, [], List, slice_index_or}
 use Rattle.std.specs.Prelude.{unsigned_abs, ◌≢◌}
 
 -- the coefficients of the numerator and the denominator
@@ -28,23 +28,23 @@ lag_of inputs = record {
   high = Fixed (pos 8000000000);
 }
 
-way_of_bottom : (j i : ℕ) → j ≤ 1 → i ≤ j → unsigned_abs (bilinear (pos 100000000) (slice_index_or bottom j (pos 0)) i) ≤ 8 * 10 ^ 25
+way_of_bottom : (j : ℕ) → j ≤ 1 → HasWay (pos 100000000) (slice_index_or bottom j (pos 0)) j
 unfolding near near_abs
-way_of_bottom zero zero one h = lit≤ tt
-way_of_bottom zero (suc i) one h = absurd (omega arith)
-way_of_bottom (suc zero) zero one h = lit≤ tt
-way_of_bottom (suc zero) (suc zero) one h = lit≤ tt
-way_of_bottom (suc zero) (suc (suc i)) one h = absurd (omega arith)
-way_of_bottom (suc (suc j)) i one h = absurd (omega arith)
+way_of_bottom zero one zero h = lit≤ tt
+way_of_bottom zero one (suc i) h = absurd (omega arith)
+way_of_bottom (suc zero) one zero h = lit≤ tt
+way_of_bottom (suc zero) one (suc zero) h = lit≤ tt
+way_of_bottom (suc zero) one (suc (suc i)) h = absurd (omega arith)
+way_of_bottom (suc (suc j)) one i h = absurd (omega arith)
 
-way_of_top : (j i : ℕ) → j ≤ 1 → i ≤ j → unsigned_abs (bilinear (pos 100000000) (slice_index_or top j (pos 0)) i) ≤ 8 * 10 ^ 25
+way_of_top : (j : ℕ) → j ≤ 1 → HasWay (pos 100000000) (slice_index_or top j (pos 0)) j
 unfolding near near_abs
-way_of_top zero zero one h = lit≤ tt
-way_of_top zero (suc i) one h = absurd (omega arith)
-way_of_top (suc zero) zero one h = lit≤ tt
-way_of_top (suc zero) (suc zero) one h = lit≤ tt
-way_of_top (suc zero) (suc (suc i)) one h = absurd (omega arith)
-way_of_top (suc (suc j)) i one h = absurd (omega arith)
+way_of_top zero one zero h = lit≤ tt
+way_of_top zero one (suc i) h = absurd (omega arith)
+way_of_top (suc zero) one zero h = lit≤ tt
+way_of_top (suc zero) one (suc zero) h = lit≤ tt
+way_of_top (suc zero) one (suc (suc i)) h = absurd (omega arith)
+way_of_top (suc (suc j)) one i h = absurd (omega arith)
 
 denominators : (inputs : List Input) (j : ℕ) → j ≤ 1 → unsigned_abs (denominator_of (pos 100000000) (lag_of inputs) j) ≤ 10 ^ 18
 unfolding near near_abs

@@ -1,7 +1,8 @@
 -- Blocks whose coefficients are small, at a time step of 1 s.
 use Rattle.std.proofs.Common.{◌≡◌, ℕ, zero, suc, ◌+◌, ◌*◌, ◌^◌, ◌<◌, ◌≤◌, ℤ, pos, negsuc, ◌*ℤ◌, ◌≤ℤ◌, unsigned_abs, List, [], ◌∷◌, All, slice_index_or, get_or, replicate, arith}
 use Rattle.std.proofs.lemmas.Int.{ints}
-use Rattle.emtp_case.specs.Control.{HasCoefficients, bilinear, coefficient_sum, divisor_of, numerator_of, power_of, step_gain, sum_upto}
+use Rattle.emtp_case.specs.Control.{HasCoefficients, bilinear, coefficient_sum, divisor_of, numerator_of, power_of, step_gain}
+use Rattle.emtp_case.specs.Sums.{sum_upto}
 use Rattle.emtp_case.specs.Range.{IsBetween}
 use Rattle.emtp_case.specs.declared.control.Block.{Block}
 use Rattle.emtp_fix.specs.Rounding.{near}
@@ -40,11 +41,11 @@ way-nonneg : (x : ℤ) (i : ℕ) → pos 0 ≤ℤ x → pos 0 ≤ℤ bilinear (p
 way-nonneg x zero h = h
 way-nonneg x (suc i) h = near-nonneg (bilinear (pos (10 ^ 12)) x i *ℤ pos (2 * 10 ^ 12)) (pos (10 ^ 12)) (product-nonneg (bilinear (pos (10 ^ 12)) x i) (2 * 10 ^ 12) (way-nonneg x i h)) (omega (arith, ints))
 
-sum-least : (f : ℕ → ℤ) (low : ℤ) (n : ℕ) → ((j : ℕ) → pos 0 ≤ℤ f j) → low ≤ℤ f 0 → low ≤ℤ sum_upto f n
+sum-least : (f : ℕ → ℤ) (low : ℤ) (n : ℕ) → ((j : ℕ) → pos 0 ≤ℤ f j) → low ≤ℤ f 0 → low ≤ℤ sum_upto n f
 sum-least f low zero each first = first
 sum-least f low (suc n) each first = omega (arith, ints, sum-least f low n each first, each (suc n))
 
-sum-small : (f : ℕ → ℤ) (m n : ℕ) → ((j : ℕ) → j ≤ n → unsigned_abs (f j) ≤ m) → unsigned_abs (sum_upto f n) ≤ (n + 1) * m
+sum-small : (f : ℕ → ℤ) (m n : ℕ) → ((j : ℕ) → j ≤ n → unsigned_abs (f j) ≤ m) → unsigned_abs (sum_upto n f) ≤ (n + 1) * m
 sum-small f m zero each = omega (arith, each 0 (omega arith))
 sum-small f m (suc n) each = omega (arith, ints, sum-small f m n (λ j h. each j (omega (arith, h))), each (suc n) (omega arith))
 
@@ -68,8 +69,8 @@ pub filter-coefficients : (b : Block) → b.order ≤ 7 → All (IsBetween 0 (10
 filter-coefficients b order top bottom first =
     let least = divisor-least b bottom first in
     record {
-      bottom_way = λ j i h h'. omega (arith, way-small (slice_index_or b.bottom j (pos 0)) i (item-small b.bottom j bottom) (omega (arith, h, h', order)));
-      top_way = λ j i h h'. omega (arith, way-small (slice_index_or b.top j (pos 0)) i (item-small b.top j top) (omega (arith, h, h', order)));
+      bottom_way = λ j h i h'. omega (arith, way-small (slice_index_or b.bottom j (pos 0)) i (item-small b.bottom j bottom) (omega (arith, h, h', order)));
+      top_way = λ j h i h'. omega (arith, way-small (slice_index_or b.top j (pos 0)) i (item-small b.top j top) (omega (arith, h, h', order)));
       divisor = λ none. absurd (omega (arith, ints, least, none));
       denominators = λ j h. omega (arith, share-small b (power_of (pos (10 ^ 12)) b.bottom j) least (way-small (slice_index_or b.bottom j (pos 0)) j (item-small b.bottom j bottom) (omega (arith, h, order))));
       numerators = λ j h. omega (arith, share-small b (power_of (pos (10 ^ 12)) b.top j) least (way-small (slice_index_or b.top j (pos 0)) j (item-small b.top j top) (omega (arith, h, order))));

@@ -1,14 +1,14 @@
 //! The worked blocks: a lag whose output follows its input by the trapezoidal rule up to a limit, and gains that feed their
 //! output back.
 
-ghost use Rattle.std.specs.Prelude.{◌≡◌, ◌∷◌, [], ◌<◌, ◌^◌, ◌≤ℤ◌, List, length, map, All, ◌≤◌, pos, slice_index_or, unsigned_abs, IfOk, OnOk};
+ghost use Rattle.std.specs.Prelude.{◌≡◌, ◌∷◌, [], ◌<◌, ◌^◌, ◌≤ℤ◌, List, length, All, ◌≤◌, pos, slice_index_or, unsigned_abs, IfOk, OnOk};
 ghost use Rattle.emtp_case.specs.Case.{empty_parts};
-ghost use Rattle.emtp_case.specs.Control.{IsBlock, IsBound};
+ghost use Rattle.emtp_case.specs.Control.{IsBlock, IsBound, AreKnown};
 ghost use Rattle.emtp_case.specs.Range.{IsBetween};
 ghost use Rattle.emtp_case.specs.RunData.{IsRun};
 ghost use Rattle.emtp_case.specs.StepRecord.{StepRecord};
 ghost use Rattle.emtp_case.specs.declared.control.Block.{Block};
-ghost use Rattle.emtp_blocks.specs.BlockRows.{AreKnown, AreUnknowns, StandsFor};
+ghost use Rattle.emtp_blocks.specs.BlockRows.{StandsFor};
 ghost use Rattle.emtp_fix.specs.declared.limit.TheConstants.{LARGEST_VALUE};
 ghost use Rattle.emtp_tests_control.specs.Fixtures.{one_sizes};
 ghost use Rattle.emtp_tests_control.specs.Stepping.{Steps};

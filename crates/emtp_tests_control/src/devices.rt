@@ -3,12 +3,11 @@
 ghost use Rattle.std.specs.Prelude.{◌≡◌, ◌<◌, ◌≤◌, ◌∷◌, [], All, IfOk, OnOk, IsSome, IsTrue, length, unsigned_abs};
 ghost use Rattle.std.specs.Option.{ForSome};
 ghost use Rattle.emtp_case.specs.Case.{empty_parts};
-ghost use Rattle.emtp_case.specs.Control.{HasRangeOfA, IsDeviceCard, needs_d};
+ghost use Rattle.emtp_case.specs.Control.{HasRangeOfA, IsDeviceCard, needs_d, AreKnown};
 ghost use Rattle.emtp_case.specs.declared.control.Device.{Device};
 ghost use Rattle.emtp_case.specs.declared.control.Extra.{Extra};
 ghost use Rattle.emtp_case.specs.declared.control.Input.{Input};
 ghost use Rattle.emtp_devices.specs.Devices.{IsDeviceAt};
-ghost use Rattle.emtp_devices.specs.Held.{AreRead};
 ghost use Rattle.emtp_fix.specs.declared.limit.TheConstants.{LARGEST_VALUE};
 ghost use Rattle.emtp_tests_control.specs.Fixtures.{FitsAlone, one_sizes};
 
@@ -21,7 +20,7 @@ use std::test::Fail;
 /// The next output of a device as the control computes it at its turn; `NONE` where it is out of range.
 fn output(devices: &mut Devices<'_>, extra: usize, step: u32, values: &[i64]) -> i64
     requires device { (x : Device) × IsDeviceAt devices.old.case extra x }
-    requires values { AreRead devices.old.case values.now }
+    requires values { AreKnown devices.old.case values.now }
     ensures { devices.new.case ≡ devices.old.case }
 {
     match devices.step(extra, step, values) {

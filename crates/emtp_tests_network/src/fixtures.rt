@@ -1,6 +1,6 @@
 //! What the tests share.
 
-ghost use Rattle.std.specs.Prelude.{◌≡◌, ◌≢◌, ◌≤◌, ◌∷◌, [], ◌*ℤ◌, ◌^◌, All, length, pos, unsigned_abs, IfOk, OnOk};
+ghost use Rattle.std.specs.Prelude.{◌≡◌, ◌≢◌, ◌≤◌, [], ◌*ℤ◌, ◌^◌, All, length, pos, unsigned_abs, IfOk, OnOk};
 ghost use Rattle.emtp_case.specs.Branch.{IsLumped};
 ghost use Rattle.emtp_case.specs.Case.{empty_parts, standing_names};
 ghost use Rattle.emtp_case.specs.RunData.{IsRun};

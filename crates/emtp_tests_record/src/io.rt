@@ -1,5 +1,5 @@
 //! That the calls which take memory can succeed, and one row for each way to fail.
-ghost use Rattle.std.specs.Prelude.{◌<◌, ◌≢◌, length, AllPairs, string_bytes, IfOk};
+ghost use Rattle.std.specs.Prelude.{◌<◌};
 
 use emtp_io::{Cabinet, Failed, Failing, MemoryCabinet, Op, Output, ReadEnd, read_all, write_all};
 use std::alloc::{AllocError, Global};

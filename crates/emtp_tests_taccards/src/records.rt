@@ -1,6 +1,6 @@
 //! The record of a card of each kind. The numbers are worked out by hand.
 
-ghost use Rattle.std.specs.Prelude.{◌≡◌, ◌≤◌, Ok, length, IfSome};
+ghost use Rattle.std.specs.Prelude.{◌≤◌, Ok, length, IfSome};
 ghost use Rattle.emtp_case.specs.Expr.{IsWhole};
 
 use emtp_card::{Line, MAX_BYTES};

@@ -1,8 +1,7 @@
 -- The coefficients of a block: sums, quotients, and what a block keeps.
-use Rattle.std.proofs.Common.{◌≡◌, ◌∙◌, sym, ap, subst, refl, ℕ, zero, suc, ◌+◌, ◌*◌, ◌^◌, ◌<◌, ◌≤◌, ℤ, pos, ◌+ℤ◌, ◌*ℤ◌, unsigned_abs, Bool, true, false, List, Option, Some, None, Result, Ok, Err, All, inl, inr, add-one, arith}
+use Rattle.std.proofs.Common.{◌≡◌, ◌∙◌, sym, ap, subst, refl, ℕ, zero, suc, ◌+◌, ◌*◌, ◌^◌, ◌<◌, ◌≤◌, ℤ, pos, ◌*ℤ◌, unsigned_abs, Bool, true, false, List, Option, Some, None, Result, Ok, Err, All, inl, inr, add-one, arith}
 use Rattle.std.proofs.lemmas.Bool.{cases_lt}
 use Rattle.std.proofs.lemmas.Bool.Decides.{nat_tests}
-use Rattle.std.proofs.lemmas.Int.{ints}
 use Rattle.std.specs.Prelude.{IfNone, IfOk, if◌then◌else◌, map, nat_le, nat_lt, slice_index_or, ◌&&◌, ◌≢◌}
 use Rattle.std.specs.Result.{result_unwrap_or}
 use Rattle.emtp_card.specs.Fault.{fault_at, judge_due, unless_bad}
@@ -11,41 +10,15 @@ use Rattle.emtp_card.specs.declared.reason.Why.TheVariants.{OutOfUnitRange}
 use Rattle.emtp_card.proofs.Faults.{AreNone, judge_due_none, least_none}
 use Rattle.emtp_taccards.specs.PolynomialCard.{coefficient_field, coefficients, polynomial_card, polynomial_fault, powers}
 use Rattle.emtp_card.specs.declared.reason.Bad.{Bad}
-use Rattle.emtp_case.specs.Control.{bilinear, coefficient_sum, power_of, sum_upto}
+use Rattle.emtp_case.specs.Control.{bilinear, coefficient_sum, HasWay, power_of, quotient_of}
+use Rattle.emtp_case.specs.Sums.{sum_upto}
 use Rattle.emtp_fix.specs.Rounding.{near}
 use Rattle.emtp_fix.proofs.Quotients.{near-exact}
 use Rattle.emtp_netcards.specs.Fields.{IsSmall}
+use Rattle.emtp_walk.proofs.NoBad.{nothing_before}
 use Rattle.emtp_walk.specs.Answer.{first_bad}
-use Rattle.emtp_walk.specs.Coefficients.{HasWay, IsBlockDue, IsBlockEntry, IsPolynomial, coefficients_fault, divided_by, gain_bad, is_large, quotient_of, quotients_bad, range_bad, stays, taken_by, taken_field, transfer}
+use Rattle.emtp_walk.specs.Coefficients.{IsBlockDue, IsBlockEntry, IsPolynomial, coefficients_fault, divided_by, gain_bad, is_large, quotients_bad, range_bad, stays, taken_by, taken_field, transfer}
 use Rattle.emtp_walk.specs.declared.control_cards.BlockEntry.{BlockEntry}
-
--- ---- sums
-
--- the sum of f 0 to f (n - 1)
-abbrev pub sum_below : (ℕ → ℤ) → ℕ → ℤ
-sum_below f zero = pos 0
-sum_below f (suc n) = sum_below f n +ℤ f n
-
-pub sum_below-more : (f : ℕ → ℤ) (n : ℕ) → sum_below f (n + 1) ≡ sum_below f n +ℤ f n
-sum_below-more f n = rw add-one refl
-
-pub sum_upto-below : (f : ℕ → ℤ) (n : ℕ) → sum_below f (n + 1) ≡ sum_upto f n
-sum_upto-below f zero = omega (arith, ints)
-sum_upto-below f (suc n) =
-    let here = sum_upto-below f n in
-    let more = sum_below-more f (suc n) in
-    let e : sum_below f (suc n) ≡ sum_upto f n = next f n ∙ here in
-    more ∙ ap (λ z. z +ℤ f (suc n)) e
-  where
-    next : (f : ℕ → ℤ) (n : ℕ) → sum_below f (suc n) ≡ sum_below f (n + 1)
-    next f n = rw add-one refl
-
-pub sum_below_small : (f : ℕ → ℤ) (n limit : ℕ) → ((k : ℕ) → k < n → unsigned_abs (f k) ≤ limit) → unsigned_abs (sum_below f n) ≤ n * limit
-sum_below_small f zero limit small = omega (arith, ints)
-sum_below_small f (suc n) limit small =
-    let here : unsigned_abs (f n) ≤ limit = small n (omega arith) in
-    let before : unsigned_abs (sum_below f n) ≤ n * limit = sum_below_small f n limit (λ k below. small k (omega (arith, below))) in
-    omega (arith, ints, here, before)
 
 -- ---- tests
 
@@ -58,10 +31,6 @@ not_large x h = less (10 ^ 18) (unsigned_abs x) h
 pub range_none : (line column : ℕ) (is : Bool) → range_bad line column is ≡ None → is ≡ false
 range_none line column true h = absurd (cc)
 range_none line column false h = refl
-
-pub first_none : (a b : Option Bad) → first_bad a b ≡ None → (a ≡ None) × (b ≡ None)
-first_none (Some bad) b h = absurd (cc)
-first_none None b h = (refl, h)
 
 -- ---- the first quotient that is too large
 
@@ -96,7 +65,7 @@ bad_stays line f k (suc n) bad l h = elim (cases_lt n k) [
 pub quotients_small : (line : ℕ) (f : ℕ → ℤ) (n k : ℕ) → quotients_bad line f n ≡ None → k ≤ n → unsigned_abs (f k) ≤ 10 ^ 18
 quotients_small line f zero k h l = let same : k ≡ 0 = omega arith in subst (λ j. unsigned_abs (f j) ≤ 10 ^ 18) (sym same) (not_large (f 0) (range_none line 1 (is_large (f 0)) h))
 quotients_small line f (suc n) k h l =
-    let both = first_none (quotients_bad line f n) (range_bad line (10 * (n + 1) + 1) (is_large (f (suc n)))) h in
+    let both = nothing_before (quotients_bad line f n) (range_bad line (10 * (n + 1) + 1) (is_large (f (suc n)))) h in
     elim (cases_lt k (suc n)) [
       | inl less ↦ quotients_small line f n k both.0 (omega (arith, less))
       | inr past ↦ let same : k ≡ suc n = omega arith in subst (λ j. unsigned_abs (f j) ≤ 10 ^ 18) (sym same) (not_large (f (suc n)) (range_none line (10 * (n + 1) + 1) (is_large (f (suc n))) both.1))
@@ -130,29 +99,29 @@ left_way dt x k (suc n) l h = elim (cases_lt n k) [
 
 -- ---- what a block keeps
 
-within : (dt : ℤ) (e : BlockEntry) (n : ℕ) → IsSmall e.card.gain → gain_bad e.card.line e.card.gain (sum_upto (quotient_of dt e.top (sum_upto (power_of dt e.bottom) e.card.order)) n) ≡ None
+within : (dt : ℤ) (e : BlockEntry) (n : ℕ) → IsSmall e.card.gain → gain_bad e.card.line e.card.gain (sum_upto n (quotient_of dt e.top (sum_upto e.card.order (power_of dt e.bottom)))) ≡ None
     → unsigned_abs (near (e.card.gain *ℤ coefficient_sum dt (transfer e) n) (pos (10 ^ 12))) ≤ 10 ^ 18
 within dt e zero small h = rw (near-exact e.card.gain (10 ^ 12) (omega arith)) small
 within dt e (suc n) small h =
-    let k = near (e.card.gain *ℤ sum_upto (quotient_of dt e.top (sum_upto (power_of dt e.bottom) e.card.order)) (suc n)) (pos (10 ^ 12)) in
+    let k = near (e.card.gain *ℤ sum_upto (suc n) (quotient_of dt e.top (sum_upto e.card.order (power_of dt e.bottom)))) (pos (10 ^ 12)) in
     not_large k (range_none e.card.line 51 (is_large k) h)
 
-block_kept : (dt : ℤ) (e : BlockEntry) (top bottom : ℕ) → (sum_upto (power_of dt e.bottom) e.card.order ≢ pos 0) → IsBlockDue e.card → IsPolynomial dt e.card.order e.top → IsPolynomial dt e.card.order e.bottom → divided_by dt e top bottom (sum_upto (power_of dt e.bottom) e.card.order) ≡ None → IsBlockEntry dt e
+block_kept : (dt : ℤ) (e : BlockEntry) (top bottom : ℕ) → (sum_upto e.card.order (power_of dt e.bottom) ≢ pos 0) → IsBlockDue e.card → IsPolynomial dt e.card.order e.top → IsPolynomial dt e.card.order e.bottom → divided_by dt e top bottom (sum_upto e.card.order (power_of dt e.bottom)) ≡ None → IsBlockEntry dt e
 block_kept dt e top bottom some due above below h =
-    let divisor = sum_upto (power_of dt e.bottom) e.card.order in
+    let divisor = sum_upto e.card.order (power_of dt e.bottom) in
     let order = e.card.order in
     let lower = quotients_bad bottom (quotient_of dt e.bottom divisor) order in
     let upper = quotients_bad top (quotient_of dt e.top divisor) order in
-    let gain = gain_bad e.card.line e.card.gain (sum_upto (quotient_of dt e.top divisor) order) in
-    let first = first_none lower (first_bad upper gain) h in
-    let second = first_none upper gain first.1 in
+    let gain = gain_bad e.card.line e.card.gain (sum_upto order (quotient_of dt e.top divisor)) in
+    let first = nothing_before lower (first_bad upper gain) h in
+    let second = nothing_before upper gain first.1 in
     record {
       card = due;
       top = above.small;
       bottom = below.small;
       coefficients = λ more. record {
-        bottom_way = λ j i l k. below.way j l i k;
-        top_way = λ j i l k. above.way j l i k;
+        bottom_way = below.way;
+        top_way = above.way;
         divisor = some;
         denominators = λ j l. quotients_small bottom (quotient_of dt e.bottom divisor) order j first.0 l;
         numerators = λ j l. quotients_small top (quotient_of dt e.top divisor) order j second.0 l;
@@ -197,7 +166,7 @@ if_none P None h = h refl
 if_none P (Some bad) h = tt
 
 -- the sum is the divisor
-pub block_divided : (dt : ℤ) (e : BlockEntry) (top bottom : ℕ) (divisor : ℤ) → divisor ≡ sum_upto (power_of dt e.bottom) e.card.order → divisor ≢ pos 0 → IsBlockDue e.card → IsPolynomial dt e.card.order e.top → IsPolynomial dt e.card.order e.bottom → divided_by dt e top bottom divisor ≡ None → IsBlockEntry dt e
+pub block_divided : (dt : ℤ) (e : BlockEntry) (top bottom : ℕ) (divisor : ℤ) → divisor ≡ sum_upto e.card.order (power_of dt e.bottom) → divisor ≢ pos 0 → IsBlockDue e.card → IsPolynomial dt e.card.order e.top → IsPolynomial dt e.card.order e.bottom → divided_by dt e top bottom divisor ≡ None → IsBlockEntry dt e
 block_divided dt e top bottom divisor is some due above below h =
     block_kept dt e top bottom (λ z. some (is ∙ z)) due above below (subst (λ d. divided_by dt e top bottom d ≡ None) is h)
 

@@ -1,3 +1,4 @@
+pub mod NoBad
 pub mod Walking
 pub mod Sounding
 pub mod BranchSounding

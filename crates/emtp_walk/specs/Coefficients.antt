@@ -6,7 +6,8 @@ use Rattle.emtp_card.specs.declared.fault.Fault.{Fault}
 use Rattle.emtp_card.specs.declared.reason.Bad.{Bad}
 use Rattle.emtp_card.specs.declared.reason.Why.{Why}
 use Rattle.emtp_card.specs.declared.reason.Why.TheVariants.{OutOfUnitRange}
-use Rattle.emtp_case.specs.Control.{HasCoefficients, bilinear, power_of, step_gain, sum_upto}
+use Rattle.emtp_case.specs.Control.{bilinear, HasCoefficients, HasWay, power_of, quotient_of, step_gain}
+use Rattle.emtp_case.specs.Sums.{sum_upto}
 use Rattle.emtp_case.specs.Name.{IsName}
 use Rattle.emtp_case.specs.declared.control.Block.{Block}
 use Rattle.emtp_case.specs.declared.control.Bound.TheVariants.{None as NoBound}
@@ -49,10 +50,6 @@ range_bad line column is = if is then Some (record { line = line; column = colum
 abbrev pub is_large : ℤ → Bool
 is_large x = nat_lt (10 ^ 18) (unsigned_abs x)
 
--- the coefficient of a power as a part of the sum of the denominator
-abbrev pub quotient_of : ℤ → List ℤ → ℤ → ℕ → ℤ
-quotient_of dt card divisor power = near (power_of dt card power *ℤ pos (10 ^ 12)) divisor
-
 -- the first quotient up to a power that is too large, in the column of its field
 abbrev pub quotients_bad : ℕ → (ℕ → ℤ) → ℕ → Option Bad
 quotients_bad line f zero = range_bad line 1 (is_large (f 0))
@@ -67,20 +64,16 @@ divided_by dt e top bottom divisor =
     let order = e.card.order in
     first_bad (quotients_bad bottom (quotient_of dt e.bottom divisor) order)
     (first_bad (quotients_bad top (quotient_of dt e.top divisor) order)
-    (gain_bad e.card.line e.card.gain (sum_upto (quotient_of dt e.top divisor) order)))
+    (gain_bad e.card.line e.card.gain (sum_upto order (quotient_of dt e.top divisor))))
 
 -- What refuses the coefficients once both cards were read, whose lines are these: first their sum, which is at the first
 -- column of the denominator. Each fault has the line of its own field.
 unfoldable pub divided_bad : ℤ → BlockEntry → ℕ → ℕ → Option Bad
 divided_bad dt e top bottom =
-    let divisor = sum_upto (power_of dt e.bottom) e.card.order in
+    let divisor = sum_upto e.card.order (power_of dt e.bottom) in
     if int_eq divisor (pos 0) then range_bad bottom 1 true else divided_by dt e top bottom divisor
 
 -- ---- what a block keeps
-
--- no magnitude on the way of a coefficient is too large
-abbrev pub HasWay : ℤ → ℤ → ℕ → Type 0
-HasWay dt x power = (i : ℕ) → i ≤ power → unsigned_abs (bilinear dt x i) ≤ 8 * 10 ^ 25
 
 -- the coefficients of a card
 pub record IsPolynomial (dt : ℤ) (order : ℕ) (card : List ℤ) : Type 0 where

@@ -1,16 +1,17 @@
 //! The coefficients of a block: the cards of its numerator and its denominator, and what their sum divides.
 
-ghost use Rattle.std.specs.Prelude.{◌≡◌, ℕ, ◌≢◌, ◌*◌, ◌^◌, ◌≤◌, ◌*ℤ◌, length, pos, unsigned_abs, slice_index_or, IfOk, IfNone};
-ghost use Rattle.emtp_case.specs.Control.{bilinear, power_of, sum_upto};
+ghost use Rattle.std.specs.Prelude.{◌≡◌, ℕ, ◌≢◌, ◌*◌, ◌^◌, ◌≤◌, length, pos, unsigned_abs, IfOk, IfNone};
+ghost use Rattle.emtp_case.specs.Control.{bilinear, quotient_of};
+ghost use Rattle.emtp_case.specs.Sums.{sum_upto};
 ghost use Rattle.emtp_case.specs.Range.{IsBetween};
-ghost use Rattle.emtp_walk.specs.Coefficients.{HasWay, IsBlockDue, IsBlockEntry, IsPolynomial, coefficient_card, coefficients_fault, divided_bad, divided_by, gain_bad, is_large, quotient_of, quotients_bad, range_bad, stays, taken_field};
+ghost use Rattle.emtp_walk.specs.Coefficients.{IsBlockDue, IsBlockEntry, IsPolynomial, coefficient_card, coefficients_fault, divided_bad, divided_by, gain_bad, is_large, quotients_bad, range_bad, stays, taken_field};
 ghost use Rattle.emtp_netcards.specs.Fields.{IsSmall};
 ghost use Rattle.emtp_taccards.specs.PolynomialCard.{coefficient_field};
-ghost use Rattle.emtp_fix.specs.Rounding.{near};
 
 use crate::control_cards::BlockEntry;
 use emtp_card::{Bad, Fault, Line, MAX_BYTES, Why, fault_at, judge_due, least};
-use emtp_fix::{LARGEST_VALUE, PICO, near, scaled};
+use emtp_case::{bilinear_step, coefficient_divisor, coefficient_quotient};
+use emtp_fix::{LARGEST_VALUE, PICO, scaled};
 use emtp_netcards::signed_number;
 use emtp_taccards::polynomial;
 
@@ -94,59 +95,7 @@ fn stays(dt: i64, x: i64, times: u8) -> bool
     true
 }
 
-/// A number that is taken once through the bilinear rule.
-fn bilinear_step(dt: i64, p: i128) -> i128
-    requires dt { IsBetween 1000 (10 ^ 12) dt }
-    requires p { unsigned_abs p ≤ 8 * 10 ^ 25 }
-    ensures value { result ≡ near (p *ℤ pos (2 * 10 ^ 12)) dt }
-    ensures bound { unsigned_abs result ≤ 16 * 10 ^ 37 }
-{
-    near(p * (2 * PICO), dt as i128)
-}
-
 // ---- quotients
-
-/// A coefficient that was taken so many times through the bilinear rule.
-fn taken_through(dt: i64, x: i64, times: usize) -> i128
-    requires dt { IsBetween 1000 (10 ^ 12) dt }
-    requires way { HasWay dt x times }
-    ensures value { result ≡ bilinear dt x times }
-    ensures small { unsigned_abs result ≤ 8 * 10 ^ 25 }
-{
-    let mut p = x as i128;
-    for i in 0..times {
-        p = bilinear_step(dt, p);
-    }
-    p
-}
-
-/// S: the sum of the coefficients of a denominator.
-fn divisor(dt: i64, bottom: &[i64; 8], order: u8) -> i128
-    requires dt { IsBetween 1000 (10 ^ 12) dt }
-    requires order { order ≤ 7 }
-    requires bottom { IsPolynomial dt order bottom.now }
-    ensures value { result ≡ sum_upto (power_of dt bottom.now) order }
-    ensures small { unsigned_abs result ≤ 64 * 10 ^ 25 }
-{
-    let mut sum = 0;
-    for power in 0..order as usize + 1 {
-        sum += taken_through(dt, bottom[power], power);
-    }
-    sum
-}
-
-/// d(j) or n(j): the coefficient of a power as a part of S, in 10^-12.
-fn quotient(dt: i64, card: &[i64; 8], power: usize, divisor: i128) -> i128
-    requires dt { IsBetween 1000 (10 ^ 12) dt }
-    requires power { power ≤ 7 }
-    requires way { HasWay dt (slice_index_or card.now power (pos 0)) power }
-    requires some { divisor ≢ pos 0 }
-    requires divisor { unsigned_abs divisor ≤ 64 * 10 ^ 25 }
-    ensures value { result ≡ quotient_of dt card.now divisor power }
-    ensures small { unsigned_abs result ≤ 10 ^ 38 }
-{
-    near(taken_through(dt, card[power], power) * PICO, divisor)
-}
 
 /// What refuses a number at a column of a line, if it is too large.
 fn range_bad(line: u32, column: u32, is: bool) -> Option<Bad>
@@ -180,7 +129,7 @@ fn quotients_bad(line: u32, dt: i64, card: &[i64; 8], order: u8, divisor: i128) 
     ensures small { IfNone result ((k : ℕ) → k ≤ order → unsigned_abs (quotient_of dt card.now divisor k) ≤ 10 ^ 18) }
 {
     for power in 0..order as usize + 1 {
-        let quotient = quotient(dt, card, power, divisor);
+        let quotient = coefficient_quotient(dt, card, power, divisor);
         if let Some(bad) = range_bad(line, 10 * power as u32 + 1, is_large(quotient)) {
             return Some(bad);
         }
@@ -196,12 +145,12 @@ fn numerator_sum(dt: i64, top: &[i64; 8], order: u8, divisor: i128) -> i64
     requires some { divisor ≢ pos 0 }
     requires divisor { unsigned_abs divisor ≤ 64 * 10 ^ 25 }
     requires small { (k : ℕ) → k ≤ order → unsigned_abs (quotient_of dt top.now divisor k) ≤ 10 ^ 18 }
-    ensures value { result ≡ sum_upto (quotient_of dt top.now divisor) order }
+    ensures value { result ≡ sum_upto order (quotient_of dt top.now divisor) }
     ensures small { unsigned_abs result ≤ 8 * 10 ^ 18 }
 {
     let mut sum = 0;
     for power in 0..order as usize + 1 {
-        sum += quotient(dt, top, power, divisor) as i64;
+        sum += coefficient_quotient(dt, top, power, divisor) as i64;
     }
     sum
 }
@@ -249,7 +198,7 @@ pub(crate) fn divided_bad(dt: i64, entry: &BlockEntry, top: u32, bottom: u32) ->
     ensures value { result ≡ divided_bad dt entry.now top bottom }
     ensures entry { IfNone result (IsBlockEntry dt entry.now) }
 {
-    let divisor = divisor(dt, &entry.bottom, entry.card.order);
+    let divisor = coefficient_divisor(dt, &entry.bottom, entry.card.order as usize);
     if divisor == 0 {
         return range_bad(bottom, 1, true);
     }

@@ -1,6 +1,6 @@
 //! The table of the cosine.
 
-ghost use Rattle.std.specs.Prelude.{◌≡◌, ◌^◌, ◌*◌, ◌≤◌, ◌<◌, ◌+ℤ◌, ◌-ℤ◌, ◌*ℤ◌, pos, unsigned_abs, ℕ, ℤ, List, IfOk, slice_index_or};
+ghost use Rattle.std.specs.Prelude.{◌≡◌, ◌^◌, ◌*◌, ◌≤◌, ◌<◌, ◌*ℤ◌, pos, unsigned_abs, ℤ, List, IfOk};
 ghost use Rattle.emtp_fix.specs.Rounding.{near};
 ghost use Rattle.emtp_wave.specs.Cosine.{table, entry, near_entry, between, in_quarter, in_turn, reduced, cosine};
 

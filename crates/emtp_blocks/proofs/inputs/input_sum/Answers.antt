@@ -5,7 +5,7 @@ use Rattle.emtp_case.specs.declared.control.Input.{Input}
 use Rattle.emtp_fix.proofs.Wide.{through_64}
 use Rattle.emtp_blocks.specs.BlockRows.{place_in}
 use Rattle.emtp_blocks.specs.System.{inside_by}
-use Rattle.emtp_blocks.proofs.Sums.{total-more, one_more}
+use Rattle.emtp_case.proofs.Sums.{total-more, one_more}
 use Rattle.emtp_blocks.proofs.inputs.input_sum.Goals as goal
 
 pub loop-input-preserved : goal.loop-input-preserved

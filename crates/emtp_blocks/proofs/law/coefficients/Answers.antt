@@ -1,9 +1,8 @@
-use Rattle.std.proofs.Common.{◌≡◌, ◌^◌, ◌*ℤ◌, ◌≤◌, ◌<◌, pos, unsigned_abs, to_z, of_z, ℕ, ℤ, length, arith}
+use Rattle.std.proofs.Common.{◌≡◌, ◌^◌, ◌≤◌, ◌<◌, unsigned_abs, to_z, of_z, ℕ, length, arith}
 use mir.Syntax.{w64, w128}
 use Rattle.std.proofs.lemmas.Int.{ints, to_z-of_z}
-use Rattle.emtp_case.specs.Control.{power_of}
+use Rattle.emtp_case.specs.Control.{quotient_of}
 use Rattle.emtp_elim.specs.Matrix.{item}
-use Rattle.emtp_fix.specs.Rounding.{near}
 use Rattle.std.proofs.Math.ListN.{length-set}
 use Rattle.emtp_blocks.proofs.Chains.{set_done, set_small}
 use Rattle.emtp_blocks.proofs.law.coefficients.Goals as goal
@@ -13,9 +12,8 @@ loop-j-preserved c =
     let dt : to_z w64 (of_z w64 c.args.dt) ≡ c.args.dt = to_z-of_z w64 c.args.dt c.ranges.dt in
     let d : to_z w128 (of_z w128 c.args.divisor) ≡ c.args.divisor = omega (arith, ints, c.requires.divisor) in
     let j = c.loop-j.j in
-    let x : to_z w64 (of_z w64 (item c.args.card.now j)) ≡ item c.args.card.now j = to_z-of_z w64 _ (search arith) in
-    let f : ℕ → ℤ = λ i. near (power_of c.args.dt c.args.card.now i *ℤ pos (10 ^ 12)) c.args.divisor in
-    let is : c.coefficient.result ≡ f j = rw (dt, d, x) at c.coefficient.ensures in
+    let f = quotient_of c.args.dt c.args.card.now c.args.divisor in
+    let is : c.coefficient.result ≡ f j = rw (dt, d) at c.coefficient.ensures in
     let least = c.requires.small j (omega arith) in
     let small : unsigned_abs c.coefficient.result ≤ 10 ^ 18 = rw is least in
     let through : to_z w64 (of_z w64 c.coefficient.result) ≡ c.coefficient.result = omega (arith, ints, small) in

@@ -13,10 +13,10 @@ step_gain-requires-2-clause-small c =
     let dt : to_z w64 (of_z w64 c.args.dt) ≡ c.args.dt = to_z-of_z w64 c.args.dt c.ranges.dt in
     let gain : to_z w64 (of_z w64 b.gain) ≡ b.gain = through_64 b.gain c.requires.gain in
     let sum : to_z w64 (of_z w64 c.sum-sum.result) ≡ c.sum-sum.result = omega (arith, ints, c.sum-sum.ensures.small) in
-    let divisor = rw dt at c.divisor-divisor.ensures.value in
-    let d : to_z w128 (of_z w128 c.divisor-divisor.result) ≡ c.divisor-divisor.result = omega (arith, ints, c.divisor-divisor.ensures.small) in
+    let divisor = rw dt at c.coefficient_divisor-divisor.ensures.value in
+    let d : to_z w128 (of_z w128 c.coefficient_divisor-divisor.result) ≡ c.coefficient_divisor-divisor.result = omega (arith, ints, c.coefficient_divisor-divisor.ensures.small) in
     let each = rw (dt, d) at c.coefficients-numerators.ensures.value in
-    let is = c.sum-sum.ensures.value ∙ sum_is c.args.dt b c.coefficients-numerators.result c.divisor-divisor.result (omega arith) divisor each in
+    let is = c.sum-sum.ensures.value ∙ sum_is c.args.dt b c.coefficients-numerators.result c.coefficient_divisor-divisor.result (omega arith) divisor each in
     rw (gain, sum, is) c.requires.within_step
 
 pub returns-clause-value : goal.returns-clause-value
@@ -25,11 +25,11 @@ returns-clause-value c =
     let dt : to_z w64 (of_z w64 c.args.dt) ≡ c.args.dt = to_z-of_z w64 c.args.dt c.ranges.dt in
     let gain : to_z w64 (of_z w64 b.gain) ≡ b.gain = through_64 b.gain c.requires.gain in
     let sum : to_z w64 (of_z w64 c.sum-sum.result) ≡ c.sum-sum.result = omega (arith, ints, c.sum-sum.ensures.small) in
-    let divisor = rw dt at c.divisor-divisor.ensures.value in
-    let d : to_z w128 (of_z w128 c.divisor-divisor.result) ≡ c.divisor-divisor.result = omega (arith, ints, c.divisor-divisor.ensures.small) in
+    let divisor = rw dt at c.coefficient_divisor-divisor.ensures.value in
+    let d : to_z w128 (of_z w128 c.coefficient_divisor-divisor.result) ≡ c.coefficient_divisor-divisor.result = omega (arith, ints, c.coefficient_divisor-divisor.ensures.small) in
     let each = rw (dt, d) at c.coefficients-numerators.ensures.value in
     let each' = rw (dt, d) at c.coefficients-denominators.ensures.value in
-    let is = c.sum-sum.ensures.value ∙ sum_is c.args.dt b c.coefficients-numerators.result c.divisor-divisor.result (omega arith) divisor each in
+    let is = c.sum-sum.ensures.value ∙ sum_is c.args.dt b c.coefficients-numerators.result c.coefficient_divisor-divisor.result (omega arith) divisor each in
     let product : c.step_gain-2.result ≡ step_gain c.args.dt b = rw (gain, sum) at c.step_gain-2.ensures ∙ ap (λ z. near (b.gain *ℤ z) (pos (10 ^ 12))) is in
     let small : unsigned_abs c.step_gain-2.result ≤ 10 ^ 18 = rw product c.requires.within_step in
     let same : to_z w64 (of_z w64 c.step_gain-2.result) ≡ c.step_gain-2.result = through_64 c.step_gain-2.result small in
@@ -46,10 +46,10 @@ returns-clause-small c =
     let b = c.args.b.now in
     let dt : to_z w64 (of_z w64 c.args.dt) ≡ c.args.dt = to_z-of_z w64 c.args.dt c.ranges.dt in
     let gain : to_z w64 (of_z w64 b.gain) ≡ b.gain = through_64 b.gain c.requires.gain in
-    let divisor = rw dt at c.divisor-divisor.ensures.value in
-    let d : to_z w128 (of_z w128 c.divisor-divisor.result) ≡ c.divisor-divisor.result = omega (arith, ints, c.divisor-divisor.ensures.small) in
+    let divisor = rw dt at c.coefficient_divisor-divisor.ensures.value in
+    let d : to_z w128 (of_z w128 c.coefficient_divisor-divisor.result) ≡ c.coefficient_divisor-divisor.result = omega (arith, ints, c.coefficient_divisor-divisor.ensures.small) in
     let each = rw (dt, d) at c.coefficients-numerators.ensures.value in
-    let is = c.sum-sum.ensures.value ∙ sum_is c.args.dt b c.coefficients-numerators.result c.divisor-divisor.result (omega arith) divisor each in
+    let is = c.sum-sum.ensures.value ∙ sum_is c.args.dt b c.coefficients-numerators.result c.coefficient_divisor-divisor.result (omega arith) divisor each in
     let product : c.step_gain-2.result ≡ step_gain c.args.dt b = rw (gain, sum) at c.step_gain-2.ensures ∙ ap (λ z. near (b.gain *ℤ z) (pos (10 ^ 12))) is in
     let small : unsigned_abs c.step_gain-2.result ≤ 10 ^ 18 = rw product c.requires.within_step in
     record {

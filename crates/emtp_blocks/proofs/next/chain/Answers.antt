@@ -4,9 +4,9 @@ use Rattle.std.proofs.lemmas.Int.{ints}
 use Rattle.std.proofs.Math.ListN.{length-set}
 use Rattle.emtp_elim.specs.Matrix.{item}
 use Rattle.emtp_fix.proofs.Wide.{through}
-use Rattle.emtp_blocks.specs.Sums.{sum_below}
+use Rattle.emtp_case.specs.Sums.{sum_below}
 use Rattle.emtp_blocks.specs.Block.{carried}
-use Rattle.emtp_blocks.proofs.Sums.{sum_below-more, sum_below_small}
+use Rattle.emtp_case.proofs.Sums.{sum_below-more, sum_below_small}
 use Rattle.emtp_blocks.proofs.Chains.{set_done, set_past, carried_small, chain_number_small, carried-more, chain_number-more}
 use Rattle.emtp_blocks.proofs.next.chain.Goals as goal
 
@@ -23,7 +23,7 @@ link-carried-requires c =
 
 pub plus-sum-requires-clause-sum : goal.plus-sum-requires-clause-sum
 plus-sum-requires-clause-sum c =
-    let so_far = sum_below_small (item c.args.errors.now) c.loop-j.j (2 * 10 ^ 35) (λ k below. c.requires.small k) in
+    let so_far = sum_below_small c.loop-j.j (item c.args.errors.now) (2 * 10 ^ 35) (λ k below. c.requires.small k) in
     omega (arith, ints, so_far, c.loop-j.invariant.added)
 
 pub less-requires-clause-carried : goal.less-requires-clause-carried
@@ -41,7 +41,7 @@ less-requires-clause-sum c =
     let j = c.loop-j.j in
     let n : to_z w128 (of_z w128 (item es j)) ≡ item es j = omega (arith, ints, c.requires.small j) in
     let is = rw n at c.plus-sum.ensures in
-    omega (arith, ints, is, c.loop-j.invariant.added, c.requires.small j, sum_below_small (item es) j (2 * 10 ^ 35) (λ k below. c.requires.small k))
+    omega (arith, ints, is, c.loop-j.invariant.added, c.requires.small j, sum_below_small j (item es) (2 * 10 ^ 35) (λ k below. c.requires.small k))
 
 pub loop-j-preserved : goal.loop-j-preserved
 loop-j-preserved c =
@@ -55,13 +55,13 @@ loop-j-preserved c =
     let small = carried_small s j c.requires.old in
     let before = chain_number_small s j c.requires.old in
     let more = carried-more s.errors s.chain j in
-    let so_far = sum_below_small (item es) j (2 * 10 ^ 35) (λ k below. c.requires.small k) in
-    let add = sum_below-more (item es) j in
+    let so_far = sum_below_small j (item es) (2 * 10 ^ 35) (λ k below. c.requires.small k) in
+    let add = sum_below-more j (item es) in
     let carried' : c.link-carried.result ≡ carried s.errors s.chain (j + 1) = omega (arith, ints, c.loop-j.invariant.last, c.loop-j.invariant.so_far, more, is) in
     let h : to_z w128 (of_z w128 c.link-carried.result) ≡ c.link-carried.result = through c.link-carried.result (omega (arith, ints, carried', carried_small s (j + 1) c.requires.old)) in
     let inside : j < length c.loop-j.chain = omega (arith, c.loop-j.invariant.long, c.requires.order) in
-    let f : ℕ → ℤ = λ i. carried s.errors s.chain (i + 1) -ℤ sum_below (item es) (i + 1) in
-    let sum : c.plus-sum.result ≡ sum_below (item es) (j + 1) = rw n at c.plus-sum.ensures ∙ ap (λ z. z +ℤ item es j) c.loop-j.invariant.added ∙ sym add in
+    let f : ℕ → ℤ = λ i. carried s.errors s.chain (i + 1) -ℤ sum_below (i + 1) (item es) in
+    let sum : c.plus-sum.result ≡ sum_below (j + 1) (item es) = rw n at c.plus-sum.ensures ∙ ap (λ z. z +ℤ item es j) c.loop-j.invariant.added ∙ sym add in
     let sum' : to_z w128 (of_z w128 c.plus-sum.result) ≡ c.plus-sum.result = omega (arith, ints, sum, so_far, add, c.requires.small j) in
     let value = rw (h, sum') at c.less.ensures in
     let v' : c.less.result ≡ f j = value ∙ ap (λ z. z -ℤ c.plus-sum.result) carried' ∙ ap (λ z. carried s.errors s.chain (j + 1) -ℤ z) sum in

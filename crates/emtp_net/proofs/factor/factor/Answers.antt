@@ -1,9 +1,11 @@
-use Rattle.std.proofs.Common.{◌≡◌, ◌∙◌, ap, subst, length, arith}
-use Rattle.emtp_elim.specs.Fault.{IsRowFault}
+use Rattle.std.proofs.Common.{◌≡◌, ◌∙◌, Err, ap, subst, length, arith}
+use Rattle.emtp_elim.specs.Outcome.{outcome}
+use Rattle.emtp_elim.specs.declared.fault.PlainFault.TheVariants.{Row}
 use Rattle.emtp_case.specs.declared.case.Parts.{Parts}
 use Rattle.emtp_rows.proofs.NodalRows.{length-nodal_matrix}
 use Rattle.emtp_rows.specs.Nodal.{Nodal, nodal_matrix}
 use Rattle.emtp_net.proofs.Ending.{row_ends}
+use Rattle.emtp_net.specs.System.{right}
 use Rattle.emtp_net.proofs.Factoring.{nodal_is, redone_is, row_adds, stands_touched, ticks_are, ticks_most}
 use Rattle.emtp_net.proofs.factor.factor.Goals as goal
 
@@ -62,5 +64,5 @@ returns-in-Err-clause-ends g c = λ H ready.
     let case = c.args.case.now.parts in
     let mid = c.set_conductances.new.rows.nodal in
     let are = nodal_is case H c.args.rows.now.nodal mid c.requires.rows.case_is c.requires.rows.coupling_is ready.kinds (c.set_conductances.ensures.set H ready.stands) in
-    let faulty = subst (λ (n : Nodal). IsRowFault (nodal_matrix n) c.in-Err.fault.row c.in-Err.fault.cause) are c.in-Err.ensures.fault in
+    let faulty = subst (λ (n : Nodal). outcome (nodal_matrix n) (right case H) ≡ Err (Row c.in-Err.fault)) are (c.in-Err.ensures.ends (right case H)) in
     record { is = row_ends case H c.in-Err.fault c.row_fault.result ready.free faulty c.row_fault.ensures.value; adds = row_adds case H c.in-Err.fault.cause _ c.row_fault.result c.row_fault.ensures.value }

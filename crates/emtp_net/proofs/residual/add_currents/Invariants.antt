@@ -3,7 +3,7 @@ use Rattle.emtp_elim.specs.Matrix.{item}
 use Rattle.emtp_case.specs.StepRecord.{StepRecord}
 use Rattle.emtp_net.specs.Moving.{HaveMoved, IsNext}
 use Rattle.emtp_net.specs.Part.{brought_by}
-use Rattle.emtp_rows.specs.Sums.{sum_below}
+use Rattle.emtp_case.specs.Sums.{sum_below}
 use Rattle.emtp_rows.specs.Nodal.{node_at}
 use Rattle.emtp_net.specs.System.{at_node}
 use Rattle.emtp_net.proofs.residual.add_currents.Given as goal

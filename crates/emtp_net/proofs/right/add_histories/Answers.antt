@@ -1,6 +1,6 @@
 use Rattle.std.proofs.Common.{◌≡◌, ◌∙◌, ◌<◌, ℕ, ◌^◌, ap, length, slice_get, arith}
 use Rattle.emtp_elim.specs.Matrix.{item}
-use Rattle.emtp_rows.specs.Sums.{sum_below}
+use Rattle.emtp_case.specs.Sums.{sum_below}
 use Rattle.emtp_rows.specs.Nodal.{node_at}
 use Rattle.emtp_net.specs.System.{at_node, history_at}
 use Rattle.emtp_net.proofs.Ends.{ends_more, ends_bound}

@@ -2,7 +2,7 @@ use Rattle.std.proofs.Common.{◌≡◌, ◌<◌, ◌≤◌, ◌*◌, ◌^◌, �
 use Rattle.emtp_elim.specs.Matrix.{item}
 use Rattle.emtp_case.specs.StepRecord.{StepRecord}
 use Rattle.emtp_net.specs.Branches.{StandsFor}
-use Rattle.emtp_rows.specs.Sums.{sum_below}
+use Rattle.emtp_case.specs.Sums.{sum_below}
 use Rattle.emtp_rows.specs.Nodal.{node_at}
 use Rattle.emtp_net.specs.System.{at_node, history_at}
 use Rattle.emtp_net.proofs.right.add_histories.Given as goal

@@ -1,8 +1,8 @@
-use Rattle.std.proofs.Common.{◌≡◌, ◌∙◌, ap, sym, Result, Ok, FitsSigned, rules}
+use Rattle.std.proofs.Common.{◌∙◌, ap, sym, Result, Ok, FitsSigned, rules}
 use mir.Syntax.{w64}
 use Rattle.std.proofs.lemmas.Int.{to_z-of_z}
 use Rattle.emtp_card.specs.declared.reason.Why.{Why}
-use Rattle.emtp_netcards.specs.BranchCard.{kind_of_values, values_of}
+use Rattle.emtp_netcards.specs.BranchCard.{kind_of_values}
 use Rattle.emtp_netcards.specs.declared.branch_card.BranchKind.{BranchKind}
 use Rattle.emtp_netcards.specs.declared.branch_card.BranchValues.{BranchValues}
 use Rattle.emtp_netcards.proofs.BranchKinds.{kind_known}

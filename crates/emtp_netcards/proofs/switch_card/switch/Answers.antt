@@ -1,4 +1,4 @@
-use Rattle.std.proofs.Common.{◌≡◌, ◌∙◌, sym, rules}
+use Rattle.std.proofs.Common.{◌∙◌, sym, rules}
 use Rattle.emtp_netcards.proofs.Ends.{switch_ends}
 use Rattle.emtp_netcards.proofs.switch_card.switch.Goals as goal
 

@@ -1,6 +1,6 @@
-use Rattle.std.proofs.Common.{◌≡◌, ◌∙◌, ap, sym, Some}
+use Rattle.std.proofs.Common.{◌∙◌, ap, sym, Some}
 use Rattle.emtp_run.proofs.Endings.{run-complete}
-use Rattle.emtp_run.specs.Words.{Run, files_of, fits, task_of, texts}
+use Rattle.emtp_run.specs.Words.{Run, files_of, task_of}
 use Rattle.emtp_run.specs.declared.words.Words.{Words}
 use Rattle.emtp_run.proofs.run.emtp.Goals as goal
 

@@ -1,5 +1,5 @@
 use Rattle.std.proofs.Common.{◌≡◌, List, length, Ok}
-use Rattle.emtp_blocks.specs.BlockRows.{AreKnown}
+use Rattle.emtp_case.specs.Control.{AreKnown}
 use Rattle.emtp_case.specs.StepRecord.{StepRecord}
 use Rattle.emtp_tacs.specs.Stages.{IsSoFar, Reaches}
 use Rattle.emtp_tacs.specs.Step.{SoFar, extra_at, in_turn}

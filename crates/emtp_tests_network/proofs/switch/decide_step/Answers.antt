@@ -1,4 +1,4 @@
-use Rattle.std.proofs.Common.{◌≤◌, ◌∷◌, [], ℤ, List, pos, to_z, of_z, unsigned_abs, arith}
+use Rattle.std.proofs.Common.{◌≤◌, ◌∷◌, [], ℤ, pos, to_z, of_z, unsigned_abs, arith}
 use mir.Syntax.{w64}
 use Rattle.std.proofs.lemmas.List.Elements.{All-cons, All-nil}
 use Rattle.emtp_fix.proofs.Wide.{through_64}

@@ -9,8 +9,8 @@ pub returns-clause-entry : goal.returns-clause-entry
 returns-clause-entry c =
     let e = c.args.entry.now in
     let dt : to_z w64 (of_z w64 c.args.dt) ≡ c.args.dt = to_z-of_z w64 c.args.dt c.ranges.dt in
-    let d : to_z w128 (of_z w128 c.divisor-divisor.result) ≡ c.divisor-divisor.result = omega (arith, ints, c.divisor-divisor.ensures.small) in
-    let is = rw dt at c.divisor-divisor.ensures.value in
+    let d : to_z w128 (of_z w128 c.coefficient_divisor-divisor.result) ≡ c.coefficient_divisor-divisor.result = omega (arith, ints, c.coefficient_divisor-divisor.ensures.small) in
+    let is = rw dt at c.coefficient_divisor-divisor.ensures.value in
     let value = rw (dt, d) at c.divided_by.ensures in
     if_none (IsBlockEntry c.args.dt e) c.divided_by.result (λ none.
-    block_divided c.args.dt e c.args.top c.args.bottom c.divisor-divisor.result is (λ zero. absurd (omega (arith, ints, zero, d))) c.requires.block c.requires.numerator c.requires.denominator (sym value ∙ none))
+    block_divided c.args.dt e c.args.top c.args.bottom c.coefficient_divisor-divisor.result is (λ zero. absurd (omega (arith, ints, zero, d))) c.requires.block c.requires.numerator c.requires.denominator (sym value ∙ none))

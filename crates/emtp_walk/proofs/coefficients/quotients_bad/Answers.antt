@@ -1,7 +1,8 @@
+use Rattle.emtp_case.specs.Control.{quotient_of}
 use Rattle.std.proofs.Common.{◌≡◌, ◌∙◌, sym, ap, ◌+◌, ◌*◌, Some, to_z, of_z, arith}
 use mir.Syntax.{w64, w128}
 use Rattle.std.proofs.lemmas.Int.{ints, to_z-of_z}
-use Rattle.emtp_walk.specs.Coefficients.{is_large, quotient_of, range_bad}
+use Rattle.emtp_walk.specs.Coefficients.{is_large, range_bad}
 use Rattle.emtp_walk.proofs.ControlCoefficients.{bad_below, bad_below-more, bad_of, bad_stays, bad_upto-below, quotients_small}
 use Rattle.emtp_walk.proofs.coefficients.quotients_bad.Goals as goal
 
@@ -12,8 +13,8 @@ returns-in-Some-clause-value c =
     let f = quotient_of c.args.dt c.args.card.now c.args.divisor in
     let dt : to_z w64 (of_z w64 c.args.dt) ≡ c.args.dt = to_z-of_z w64 c.args.dt c.ranges.dt in
     let d : to_z w128 (of_z w128 c.args.divisor) ≡ c.args.divisor = omega (arith, ints, c.requires.divisor) in
-    let q : to_z w128 (of_z w128 c.quotient-quotient.result) ≡ c.quotient-quotient.result = omega (arith, ints, c.quotient-quotient.ensures.small) in
-    let value = rw (dt, d) at c.quotient-quotient.ensures.value in
+    let q : to_z w128 (of_z w128 c.coefficient_quotient-quotient.result) ≡ c.coefficient_quotient-quotient.result = omega (arith, ints, c.coefficient_quotient-quotient.ensures.small) in
+    let value = rw (dt, d) at c.coefficient_quotient-quotient.ensures.value in
     let large = rw q at c.is_large.ensures in
     let here : c.range_bad.result ≡ bad_of line f power = c.range_bad.ensures ∙ ap (range_bad line (10 * power + 1)) (large ∙ ap is_large value) in
     let none = rw (dt, d) at c.loop-power.invariant in

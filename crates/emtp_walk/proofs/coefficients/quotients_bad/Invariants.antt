@@ -1,5 +1,5 @@
+use Rattle.emtp_case.specs.Control.{quotient_of}
 use Rattle.std.proofs.Common.{◌≡◌, None}
-use Rattle.emtp_walk.specs.Coefficients.{quotient_of}
 use Rattle.emtp_walk.proofs.ControlCoefficients.{bad_below}
 use Rattle.emtp_walk.proofs.coefficients.quotients_bad.Given as goal
 

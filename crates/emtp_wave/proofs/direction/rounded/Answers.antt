@@ -1,6 +1,6 @@
 use Rattle.std.proofs.Common.{FitsSigned, ◌^◌, ◌*◌, pos, arith, rules}
 use mir.Syntax.{w64, w128}
-use Rattle.std.proofs.lemmas.Int.{ints, to_z-of_z}
+use Rattle.std.proofs.lemmas.Int.{to_z-of_z}
 use Rattle.emtp_fix.proofs.Quotients.{near-within}
 use Rattle.emtp_fix.proofs.Wide.{narrow_is}
 use Rattle.emtp_wave.proofs.direction.rounded.Goals as goal

@@ -1,7 +1,6 @@
-use Rattle.std.proofs.Common.{FitsSigned, ◌≡◌, ◌∙◌, ap, ◌^◌, ◌*◌, ◌≤◌, ◌+ℤ◌, ◌-ℤ◌, ◌*ℤ◌, pos, unsigned_abs, arith, rules}
-use mir.Syntax.{w64, w128}
+use Rattle.std.proofs.Common.{FitsSigned, ap, ◌^◌, ◌-ℤ◌, pos, unsigned_abs, arith, rules}
+use mir.Syntax.{w64}
 use Rattle.std.proofs.lemmas.Int.{ints, to_z-of_z, fits_signed_from_abs}
-use Rattle.emtp_wave.specs.Cosine.{between}
 use Rattle.emtp_fix.proofs.Quotients.{between-within}
 use Rattle.emtp_wave.proofs.table.between.Goals as goal
 

@@ -1,4 +1,4 @@
-use Rattle.std.proofs.Common.{FitsSigned, ◌≡◌, ◌^◌, ◌*◌, ◌≤◌, ◌*ℤ◌, pos, unsigned_abs, arith, rules, lit<}
+use Rattle.std.proofs.Common.{FitsSigned, ◌^◌, ◌*◌, ◌*ℤ◌, pos, arith, rules, lit<}
 use mir.Syntax.{w64, w128}
 use Rattle.std.proofs.lemmas.Int.{ints, to_z-of_z, fits_signed_mul}
 use Rattle.emtp_fix.specs.Rounding.{near}
