@@ -23,11 +23,13 @@ use Rattle.emtp_deck.specs.Deck.{made_of_deck, control_made}
 use Rattle.emtp_deck.specs.Made.{Made, count_asked, no_room, unless_fault}
 use Rattle.emtp_sense.specs.Limits.{too_many}
 use Rattle.emtp_sense.specs.Names.{find_node, node_names, with_entry_names, with_switch_names}
-use Rattle.emtp_deck.specs.Outputs.{name_fault, node_channels, take_all_nodes, take_name, take_names, take_node, take_output, take_outputs, with_node, with_outputs}
+use Rattle.emtp_sense.specs.Variables.{find_variable}
+use Rattle.emtp_deck.specs.Outputs.{channel_of, name_fault, node_channels, take_all_nodes, take_known_name, take_name, take_names, take_output, take_outputs, take_tacs_outputs, with_channel, with_channels}
 use Rattle.emtp_deck.specs.Samples.{count_of_entry, count_of_switch, deck_count, name_count, output_count, count_of_variables}
 use Rattle.emtp_deck.specs.Sources.{source_fault, take_source, take_sources, with_source}
 use Rattle.emtp_deck.specs.Switches.{switch_fault, take_switch, take_switches, with_switch}
-use Rattle.emtp_deck.specs.TacsOutputs.{take_tacs_outputs, take_variable, take_variable_name, take_variables, variable_fault, with_variable_channel}
+use Rattle.emtp_deck.specs.declared.outputs.Named.{Named}
+use Rattle.emtp_deck.specs.declared.outputs.Named.TheVariants.{Node, Variable}
 use Rattle.emtp_walk.specs.declared.control_cards.ExtraEntry.{ExtraEntry}
 use Rattle.emtp_walk.specs.declared.control_cards.ExtraEntry.TheVariants.{Device as DeviceEntry, Formula as FormulaEntry}
 use Rattle.emtp_walk.specs.declared.control_cards.TacsOutputEntry.{TacsOutputEntry}
@@ -196,36 +198,55 @@ sources_ask m m' (card ∷ cards) h =
 
 -- ---- outputs
 
-outputs_added : (m : Made) (channels : List Channel) → IsAsking m (with_outputs m channels) m.parts.nodes 0 (length channels)
-outputs_added m channels = record { nodes = refl; run = refl; control = record { vars = refl; blocks = refl; extras = refl }; switched = omega arith; asked = omega (arith, length-append m.asked.outputs channels) }
+channels_added : (named : Named) (m : Made) (channels : List Channel) → IsAsking m (with_channels named m channels) m.parts.nodes 0 (length channels)
+channels_added Node m channels = record { nodes = refl; run = refl; control = same_control m.parts; switched = omega arith; asked = omega (arith, length-append m.asked.outputs channels) }
+channels_added Variable m channels = record { nodes = refl; run = refl; control = same_control m.parts; switched = omega arith; asked = omega (arith, length-append m.asked.variables channels) }
 
-node_asks : (line : ℕ) (m m' : Made) (column : ℕ) (at : Option ℕ) → unless_fault line (name_fault m.asked column (option_map (λ k. k + 1) at)) (with_node m (option_map (λ k. k + 1) at)) ≡ Ok m' → IsAsking m m' m.parts.nodes 0 (if◌then◌else◌ {A = ℕ} (is_some at) 1 0)
-node_asks line m m' column None h = absurd (cc)
-node_asks line m m' column (Some k) h =
-    let is = unless_fault_ok line (name_fault m.asked column (Some (k + 1))) (with_outputs m (NodeChannel (k + 1) ∷ [])) m' h in
-    rw (sym is) (outputs_added m (NodeChannel (k + 1) ∷ []))
+channel_asks : (named : Named) (line : ℕ) (m m' : Made) (column : ℕ) (channel : Option Channel) → unless_fault line (name_fault m.asked column channel) (with_channel named m channel) ≡ Ok m' → IsAsking m m' m.parts.nodes 0 (if◌then◌else◌ {A = ℕ} (is_some channel) 1 0)
+channel_asks named line m m' column None h = absurd (cc)
+channel_asks named line m m' column (Some channel) h =
+    let is = unless_fault_ok line (name_fault m.asked column (Some channel)) (with_channels named m (channel ∷ [])) m' h in
+    rw (sym is) (channels_added named m (channel ∷ []))
 
-name_asks : (line : ℕ) (m m' : Made) (column : ℕ) (name : Option (List ℕ)) → take_name line m column name ≡ Ok m' → IsAsking m m' m.parts.nodes 0 (name_count m.parts.nodes name)
-unfolding take_node
-name_asks line m m' column None h = let is : m ≡ m' = cc in rw (sym is) (same_asking m)
-name_asks line m m' column (Some name) h = node_asks line m m' column (position (bytes_eq name) m.parts.nodes) h
+-- what the names of a card can be
+abbrev names_of : Named → Parts → List (List ℕ)
+names_of Node p = p.nodes
+names_of Variable p = p.vars
 
-names_ask : (line : ℕ) (m m' : Made) (column : ℕ) (names : List (Option (List ℕ))) → take_names line m column names ≡ Ok m' → IsAsking m m' m.parts.nodes 0 (sum_by (name_count m.parts.nodes) names)
-names_ask line m m' column [] h = let is : m ≡ m' = cc in rw (sym is) (same_asking m)
-names_ask line m m' column (name ∷ names) h =
-    let s = go_on_ok (λ (made : Made). take_names line made (column + 6) names) (take_name line m column name) m' h in
-    let first = name_asks line m s.0 column name s.1 in
-    let rest = names_ask line s.0 m' (column + 6) names s.2 in
-    after first (rw first.nodes at rest) refl (sum_by-cons (name_count m.parts.nodes) name names)
+same_names : (named : Named) (m m' : Made) (switches count : ℕ) → IsAsking m m' m.parts.nodes switches count → names_of named m'.parts ≡ names_of named m.parts
+same_names Node m m' switches count is = is.nodes
+same_names Variable m m' switches count is = is.control.vars
+
+is_some_mapped : {A B : Type 0} (f : A → B) (o : Option A) → is_some (option_map f o) ≡ is_some o
+is_some_mapped f None = refl
+is_some_mapped f (Some x) = refl
+
+is_known : (named : Named) (p : Parts) (name : List ℕ) → is_some (channel_of named p name) ≡ is_some (position (bytes_eq name) (names_of named p))
+is_known Node p name = is_some_mapped NodeChannel (find_node p.nodes name) ∙ is_some_mapped (λ at. at + 1) (position (bytes_eq name) p.nodes)
+is_known Variable p name = is_some_mapped VariableChannel (find_variable p.vars name)
+
+name_asks : (named : Named) (line : ℕ) (m m' : Made) (column : ℕ) (name : Option (List ℕ)) → take_name named line m column name ≡ Ok m' → IsAsking m m' m.parts.nodes 0 (name_count (names_of named m.parts) name)
+unfolding take_known_name
+name_asks named line m m' column None h = let is : m ≡ m' = cc in rw (sym is) (same_asking m)
+name_asks named line m m' column (Some name) h = rw (is_known named m.parts name) at (channel_asks named line m m' column (channel_of named m.parts name) h)
+
+names_ask : (named : Named) (line : ℕ) (m m' : Made) (column : ℕ) (names : List (Option (List ℕ))) → take_names named line m column names ≡ Ok m' → IsAsking m m' m.parts.nodes 0 (sum_by (name_count (names_of named m.parts)) names)
+names_ask named line m m' column [] h = let is : m ≡ m' = cc in rw (sym is) (same_asking m)
+names_ask named line m m' column (name ∷ names) h =
+    let s = go_on_ok (λ (made : Made). take_names named line made (column + 6) names) (take_name named line m column name) m' h in
+    let first = name_asks named line m s.0 column name s.1 in
+    let rest = names_ask named line s.0 m' (column + 6) names s.2 in
+    let same = same_names named m s.0 0 (name_count (names_of named m.parts) name) first in
+    after first (rw (first.nodes, same) at rest) refl (sum_by-cons (name_count (names_of named m.parts)) name names)
 
 output_asks : (line : ℕ) (m m' : Made) (card : OutputCard) → take_output line m card ≡ Ok m' → IsAsking m m' m.parts.nodes 0 (output_count m.parts.nodes card)
 unfolding take_all_nodes
 output_asks line m m' AllNodes h =
     let nodes = length m.parts.nodes in
-    let is = unless_fault_ok line (too_many (no_room m.asked nodes) 1) (with_outputs m (node_channels nodes)) m' h in
-    let added = outputs_added m (node_channels nodes) in
+    let is = unless_fault_ok line (too_many (no_room m.asked nodes) 1) (with_channels Node m (node_channels nodes)) m' h in
+    let added = channels_added Node m (node_channels nodes) in
     rw (sym is) (rw (length_of_nodes nodes) at added)
-output_asks line m m' (Names names) h = names_ask line m m' 3 names h
+output_asks line m m' (Names names) h = names_ask Node line m m' 3 names h
 
 pub outputs_ask : (m m' : Made) (entries : List OutputEntry) → take_outputs m entries ≡ Ok m' → IsAsking m m' m.parts.nodes 0 (sum_by (count_of_entry m.parts.nodes) entries)
 outputs_ask m m' [] h = let is : m ≡ m' = cc in rw (sym is) (same_asking m)
@@ -235,32 +256,11 @@ outputs_ask m m' (entry ∷ entries) h =
     let rest = outputs_ask s.0 m' entries s.2 in
     after first (rw first.nodes at rest) refl (sum_by-cons (count_of_entry m.parts.nodes) entry entries)
 
--- ---- outputs of the control
-
-variable_asks : (line : ℕ) (m m' : Made) (column : ℕ) (variable : Option ℕ) → unless_fault line (variable_fault m.asked column variable) (with_variable_channel m variable) ≡ Ok m' → IsAsking m m' m.parts.nodes 0 (if◌then◌else◌ {A = ℕ} (is_some variable) 1 0)
-variable_asks line m m' column None h = absurd (cc)
-variable_asks line m m' column (Some k) h =
-    let is = unless_fault_ok line (variable_fault m.asked column (Some k)) (with_variable_channel m (Some k)) m' h in
-    rw (sym is) (record { nodes = refl; run = refl; control = record { vars = refl; blocks = refl; extras = refl }; switched = omega arith; asked = omega (arith, length-append m.asked.variables (VariableChannel k ∷ [])) })
-
-variable_name_asks : (line : ℕ) (m m' : Made) (column : ℕ) (name : Option (List ℕ)) → take_variable_name line m column name ≡ Ok m' → IsAsking m m' m.parts.nodes 0 (name_count m.parts.vars name)
-unfolding take_variable
-variable_name_asks line m m' column None h = let is : m ≡ m' = cc in rw (sym is) (same_asking m)
-variable_name_asks line m m' column (Some name) h = variable_asks line m m' column (position (bytes_eq name) m.parts.vars) h
-
-variables_ask : (line : ℕ) (m m' : Made) (column : ℕ) (names : List (Option (List ℕ))) → take_variables line m column names ≡ Ok m' → IsAsking m m' m.parts.nodes 0 (sum_by (name_count m.parts.vars) names)
-variables_ask line m m' column [] h = let is : m ≡ m' = cc in rw (sym is) (same_asking m)
-variables_ask line m m' column (name ∷ names) h =
-    let s = go_on_ok (λ (made : Made). take_variables line made (column + 6) names) (take_variable_name line m column name) m' h in
-    let first = variable_name_asks line m s.0 column name s.1 in
-    let rest = variables_ask line s.0 m' (column + 6) names s.2 in
-    after first (rw (first.nodes, first.control.vars) at rest) refl (sum_by-cons (name_count m.parts.vars) name names)
-
 pub tacs_outputs_ask : (m m' : Made) (entries : List TacsOutputEntry) → take_tacs_outputs m entries ≡ Ok m' → IsAsking m m' m.parts.nodes 0 (sum_by (count_of_variables m.parts.vars) entries)
 tacs_outputs_ask m m' [] h = let is : m ≡ m' = cc in rw (sym is) (same_asking m)
 tacs_outputs_ask m m' (entry ∷ entries) h =
-    let s = go_on_ok (λ (made : Made). take_tacs_outputs made entries) (take_variables entry.line m 3 entry.names) m' h in
-    let first = variables_ask entry.line m s.0 3 entry.names s.1 in
+    let s = go_on_ok (λ (made : Made). take_tacs_outputs made entries) (take_names Variable entry.line m 3 entry.names) m' h in
+    let first = names_ask Variable entry.line m s.0 3 entry.names s.1 in
     let rest = tacs_outputs_ask s.0 m' entries s.2 in
     after first (rw (first.nodes, first.control.vars) at rest) refl (sum_by-cons (count_of_variables m.parts.vars) entry entries)
 

@@ -12,11 +12,10 @@ use Rattle.emtp_deck.specs.ControlFilling.{control_parts, tacs_source_of}
 use Rattle.emtp_sense.specs.ControlSense.{control_bad}
 use Rattle.emtp_deck.specs.Made.{Made, all_asked, none_asked}
 use Rattle.emtp_sense.specs.Names.{known_nodes}
-use Rattle.emtp_deck.specs.Outputs.{take_outputs}
+use Rattle.emtp_deck.specs.Outputs.{take_outputs, take_tacs_outputs}
 use Rattle.emtp_deck.specs.Samples.{has_too_many, samples_bad}
 use Rattle.emtp_deck.specs.Sources.{take_sources}
 use Rattle.emtp_deck.specs.Switches.{take_switches}
-use Rattle.emtp_deck.specs.TacsOutputs.{take_tacs_outputs}
 use Rattle.emtp_sense.specs.Variables.{variable_names}
 use Rattle.emtp_walk.specs.Walk.{empty_deck, walk}
 use Rattle.emtp_walk.specs.declared.deck.Deck.{Deck}

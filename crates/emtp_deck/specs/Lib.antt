@@ -11,7 +11,6 @@ pub mod Sources
 pub mod Outputs
 pub mod ControlFilling
 pub mod ControlSensible
-pub mod TacsOutputs
 pub mod Samples
 pub mod Deck
 pub mod Accepted

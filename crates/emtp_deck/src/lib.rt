@@ -23,7 +23,6 @@ mod reading;
 mod samples;
 mod sources;
 mod switches;
-mod tacs_outputs;
 
 pub use asked::Asked;
 pub use branches::Counts;

@@ -1,10 +1,13 @@
-//! Filling the node outputs.
+//! Filling the outputs: the channels that the cards of the network and those of the control ask for.
 
-ghost use Rattle.std.specs.Prelude.{◌≡◌, ◌≤◌, ◌++◌, length, Some, IfErr, OnOk};
+ghost use Rattle.std.specs.Option.{ForSome};
+ghost use Rattle.std.specs.Prelude.{◌≡◌, ◌<◌, ◌≤◌, ◌++◌, ◌∷◌, [], length, IfErr, OnOk};
+ghost use Rattle.emtp_case.specs.Channel.{IsChannel};
+ghost use Rattle.emtp_case.specs.Sizes.{sizes_of};
 ghost use Rattle.emtp_walk.specs.Answer.{IsWant};
 ghost use Rattle.emtp_deck.specs.Filling.{Fills, IsFilling, made_of};
 ghost use Rattle.emtp_deck.specs.Made.{count_asked};
-ghost use Rattle.emtp_deck.specs.Outputs.{name_fault, node_channels, take_all_nodes, take_names, take_node, take_output, take_outputs};
+ghost use Rattle.emtp_deck.specs.Outputs.{channel_of, name_fault, node_channels, take_all_nodes, take_known_name, take_names, take_output, take_outputs, take_tacs_outputs, with_channels};
 
 use crate::asked::Asked;
 use crate::channels::no_room;
@@ -12,15 +15,42 @@ use crate::filling::Filling;
 use emtp_card::{Fault, Refused, Why};
 use emtp_case::{Channel, Items, Name};
 use emtp_netcards::OutputCard;
-use emtp_sense::{find_node, too_many};
-use emtp_walk::OutputEntry;
+use emtp_sense::{find_node, find_variable, too_many};
+use emtp_walk::{OutputEntry, TacsOutputEntry};
 
-/// The fault of a name in a column, given the number of its node, if it is one.
-fn name_fault(asked: &Asked, column: u32, node: Option<u32>) -> Option<Fault>
-    requires { count_asked asked.now ≤ 64 }
-    ensures { result ≡ name_fault asked.now column node }
+/// What the names on output cards are those of.
+#[derive(Clone, Copy, PartialEq, Eq)]
+pub(crate) enum Named {
+    /// Nodes, whose voltages are asked for.
+    Node,
+    /// Variables of the control, whose values are asked for.
+    Variable,
+}
+
+/// The channel of what has a name, if anything has it.
+fn channel_of(filling: &Filling, named: Named, name: &Name) -> Option<Channel>
+    requires { IsFilling filling.now }
+    ensures value { result ≡ channel_of named filling.now.draft.parts name.now }
+    ensures there { ForSome result (IsChannel (sizes_of filling.now.draft.parts)) }
 {
-    match node {
+    match named {
+        Named::Node => match find_node(&filling.nodes, name) {
+            Some(node) => Some(Channel::NodeVoltage(node)),
+            None => None,
+        },
+        Named::Variable => match find_variable(&filling.variables, name) {
+            Some(variable) => Some(Channel::Tacs(variable)),
+            None => None,
+        },
+    }
+}
+
+/// The fault of a name in a column, given its channel, if it has one.
+fn name_fault(asked: &Asked, column: u32, channel: Option<Channel>) -> Option<Fault>
+    requires { count_asked asked.now ≤ 64 }
+    ensures { result ≡ name_fault asked.now column channel }
+{
+    match channel {
         None => Some(Fault {
             column,
             why: Why::UnknownName,
@@ -29,34 +59,61 @@ fn name_fault(asked: &Asked, column: u32, node: Option<u32>) -> Option<Fault>
     }
 }
 
-/// Takes a name in a column.
-#[tactic(auto, unfolding(crate::specs::Outputs::take_node))]
-fn take_node(filling: &mut Filling, line: u32, column: u32, name: &Name) -> Result<(), Refused>
+/// Asks for one channel more.
+fn ask_for(filling: &mut Filling, named: Named, channel: Channel) -> Result<(), Refused>
     requires filling { IsFilling filling.old }
-    ensures value { Fills result (take_node line (made_of filling.old) column name.now) (made_of filling.new) }
+    requires room { count_asked filling.old.asked < 64 }
+    requires there { IsChannel (sizes_of filling.old.draft.parts) channel }
+    ensures made { OnOk result (made_of filling.new ≡ with_channels named (made_of filling.old) (channel ∷ [])) }
     ensures filling { OnOk result (IsFilling filling.new) }
+    ensures err { IfErr result IsWant }
 {
-    let node = find_node(&filling.nodes, name);
-    if let Some(fault) = name_fault(&filling.asked, column, node) {
-        return Err(Refused::Bad(fault.on_line(line)));
-    }
-    if let Some(node) = node {
-        filling.asked.outputs.push(Channel::NodeVoltage(node))?;
+    match named {
+        Named::Node => filling.asked.outputs.push(channel)?,
+        Named::Variable => filling.asked.variables.push(channel)?,
     }
     Ok(())
 }
 
+/// Takes a name in a column.
+#[tactic(auto, unfolding(crate::specs::Outputs::take_known_name))]
+fn take_name(
+    filling: &mut Filling,
+    named: Named,
+    line: u32,
+    column: u32,
+    name: &Name,
+) -> Result<(), Refused>
+    requires filling { IsFilling filling.old }
+    ensures value { Fills result (take_known_name named line (made_of filling.old) column name.now) (made_of filling.new) }
+    ensures filling { OnOk result (IsFilling filling.new) }
+{
+    let channel = channel_of(filling, named, name);
+    if let Some(fault) = name_fault(&filling.asked, column, channel) {
+        return Err(Refused::Bad(fault.on_line(line)));
+    }
+    match channel {
+        Some(channel) => ask_for(filling, named, channel),
+        None => Ok(()),
+    }
+}
+
 /// Takes the names of a card; blank ones are skipped.
-fn take_names(filling: &mut Filling, line: u32, names: &[Option<Name>]) -> Result<(), Refused>
+fn take_names(
+    filling: &mut Filling,
+    named: Named,
+    line: u32,
+    names: &[Option<Name>],
+) -> Result<(), Refused>
     requires filling { IsFilling filling.old }
     requires few { length names.now ≤ 13 }
-    ensures value { Fills result (take_names line (made_of filling.old) 3 names.now) (made_of filling.new) }
+    ensures value { Fills result (take_names named line (made_of filling.old) 3 names.now) (made_of filling.new) }
     ensures filling { OnOk result (IsFilling filling.new) }
 {
     let mut column = 3;
     for name in names {
         if let Some(name) = name {
-            match take_node(filling, line, column, name) {
+            match take_name(filling, named, line, column, name) {
                 Ok(()) => {}
                 Err(refused) => return Err(refused),
             }
@@ -99,7 +156,7 @@ fn take_output(filling: &mut Filling, entry: &OutputEntry) -> Result<(), Refused
 {
     match &entry.card {
         OutputCard::All => take_all_nodes(filling, entry.line),
-        OutputCard::Names(names) => take_names(filling, entry.line, names),
+        OutputCard::Names(names) => take_names(filling, Named::Node, entry.line, names),
     }
 }
 
@@ -111,6 +168,24 @@ pub(crate) fn take_outputs(filling: &mut Filling, entries: &[OutputEntry]) -> Re
 {
     for entry in entries {
         match take_output(filling, entry) {
+            Ok(()) => {}
+            Err(refused) => return Err(refused),
+        }
+    }
+    Ok(())
+}
+
+/// Takes all output cards of the control, up to the first that has a fault.
+pub(crate) fn take_tacs_outputs(
+    filling: &mut Filling,
+    entries: &[TacsOutputEntry],
+) -> Result<(), Refused>
+    requires filling { IsFilling filling.old }
+    ensures value { Fills result (take_tacs_outputs (made_of filling.old) entries.now) (made_of filling.new) }
+    ensures filling { OnOk result (IsFilling filling.new) }
+{
+    for entry in entries {
+        match take_names(filling, Named::Variable, entry.line, &entry.names) {
             Ok(()) => {}
             Err(refused) => return Err(refused),
         }

@@ -1,7 +1,7 @@
 use Rattle.std.proofs.Common.{◌≡◌, drop}
 use Rattle.emtp_deck.specs.Filling.{IsFilling, made_of}
-use Rattle.emtp_deck.specs.TacsOutputs.{take_tacs_outputs}
-use Rattle.emtp_deck.proofs.tacs_outputs.take_tacs_outputs.Given as goal
+use Rattle.emtp_deck.specs.Outputs.{take_tacs_outputs}
+use Rattle.emtp_deck.proofs.outputs.take_tacs_outputs.Given as goal
 
 abbrev pub invariant-loop-entry : goal.invariant-loop-entry
 invariant-loop-entry l = record {
