@@ -95,14 +95,21 @@ fn refusal(found: Found) -> Option<Bad> {
 #[test]
 fn reads_the_text_of_columns(rt: HostRuntime) {
     let line = b"99  A =  B .AND. C";
-    assert_eq!(rt; field_text(line, 1, 2), b"99".as_slice());
-    assert_eq!(rt; field_text(line, 3, 6), b"A".as_slice());
-    assert_eq!(rt; field_text(line, 8, 80), b"B .AND. C".as_slice());
-    assert_eq!(rt; field_text(line, 19, 80), b"".as_slice());
-    assert_eq!(rt; byte_at(line, 7), b'=');
-    assert_eq!(rt; byte_at(line, 18), b'C');
-    assert_eq!(rt; byte_at(line, 19), b' ');
-    assert_eq!(rt; trim(b"  a b "), b"a b".as_slice());
+    let texts = [
+        (1, 2, "99"),
+        (3, 6, "A"),
+        (8, 80, "B .AND. C"),
+        (19, 80, ""),
+    ];
+    for (first, last, text) in texts {
+        assert!(rt;
+            field_text(line, first, last) == text.as_bytes(),
+            "at {first}"
+        );
+    }
+    let bytes = (byte_at(line, 7), byte_at(line, 18), byte_at(line, 19));
+    assert!(rt; bytes == (b'=', b'C', b' '));
+    assert!(rt; trim(b"  a b ") == b"a b".as_slice());
 }
 
 #[test]

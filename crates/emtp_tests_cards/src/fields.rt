@@ -309,10 +309,9 @@ fn reads_number_fields(rt: HostRuntime) {
         assert!(rt; 1 <= *first && *first <= *last && *last <= 80);
         assert!(rt; 0 <= *scale && *scale <= 18 && *low <= *high);
         let bytes = line.as_bytes();
-        let read = field_number(bytes, *first, *last, *scale, *low, *high);
-        assert_eq!(rt; read, *number, "at {first} of {line}");
-        let read = field_held(bytes, *first, *last, *scale, *low, *high);
-        assert_eq!(rt; read, *held, "held at {first} of {line}");
+        let is = field_number(bytes, *first, *last, *scale, *low, *high) == *number;
+        let is_held = field_held(bytes, *first, *last, *scale, *low, *high) == *held;
+        assert!(rt; is && is_held, "at {first} of {line}");
     }
 }
 
@@ -327,13 +326,13 @@ fn reads_whole_number_fields(rt: HostRuntime) {
 fn reads_name_fields(rt: HostRuntime) {
     for (line, first, name) in NAMES {
         assert!(rt; 1 <= *first && *first <= 75);
-        match (field_name(line.as_bytes(), *first), name) {
-            (Ok(Some(read)), Ok(Some(name))) => {
-                assert_eq!(rt; read.as_slice(), name.as_bytes(), "at {first} of {line}");
-            }
-            (Ok(None), Ok(None)) => {}
-            (Err(read), Err(why)) => assert_eq!(rt; read, *why, "at {first} of {line}"),
-            _ => assert!(rt; false, "at {first} of {line}"),
-        }
+        let read = field_name(line.as_bytes(), *first);
+        let is = match (&read, name) {
+            (Ok(Some(read)), Ok(Some(name))) => read.as_slice() == name.as_bytes(),
+            (Ok(None), Ok(None)) => true,
+            (Err(read), Err(why)) => *read == *why,
+            _ => false,
+        };
+        assert!(rt; is, "at {first} of {line}");
     }
 }
