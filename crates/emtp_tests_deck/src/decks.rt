@@ -2,8 +2,7 @@
 
 use emtp_card::{Cards, Refused};
 use emtp_deck::read;
-use std::alloc::Global;
-use std::test::Fail;
+use std::alloc::{AllocError, Global};
 
 /// Two resistors of 1 ohm at a source of 100 V.
 pub const DIVIDER: [&str; 11] = [
@@ -27,7 +26,7 @@ pub fn divider(
     cards: &[u8],
     times: usize,
     end: &[u8],
-) -> Result<Vec<u8>, Fail> {
+) -> Result<Vec<u8>, AllocError> {
     let mut bytes = Vec::new(alloc);
     for (k, line) in DIVIDER.iter().enumerate() {
         if k + 1 == at {

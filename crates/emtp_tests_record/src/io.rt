@@ -3,6 +3,7 @@ ghost use Rattle.std.specs.Prelude.{◌<◌};
 
 use emtp_io::{Cabinet, Failed, Failing, MemoryCabinet, Op, Output, ReadEnd, read_all, write_all};
 use std::alloc::{AllocError, Global};
+use std::process::Abort;
 use std::test::Fail;
 
 // The one file `case`, of seven bytes, read and written by three bytes at most.
@@ -15,29 +16,39 @@ fn seven_bytes(alloc: Global, fails: &[Failing], room: usize) -> Result<MemoryCa
     MemoryCabinet::new(alloc, files, Vec::from_slice(alloc, fails)?, 3, room)
 }
 
+/// Whether a read of so many bytes at most gives these.
+fn reads(alloc: Global, cabinet: &mut MemoryCabinet, most: usize, bytes: &[u8]) -> bool {
+    match read_all(alloc, cabinet, most) {
+        Ok(read) => read.as_slice() == bytes,
+        Err(_) => false,
+    }
+}
+
+fn reads_whole(rt: &impl Abort, alloc: Global, cabinet: &mut MemoryCabinet) {
+    assert!(rt; cabinet.open("none") == Err(Failed));
+    assert!(rt; matches!(read_all(alloc, cabinet, 9), Err(ReadEnd::Failed)));
+    assert!(rt; cabinet.open("case") == Ok(()));
+    assert!(rt; reads(alloc, cabinet, 5, b"abcde"));
+    assert!(rt; reads(alloc, cabinet, 9, b"fg"));
+}
+
+fn writes_whole(rt: &impl Abort, cabinet: &mut MemoryCabinet) {
+    assert!(rt; write_all(cabinet, Output::Dat, b"x") == Err(Failed));
+    assert!(rt; cabinet.create(Output::Dat, "too_long_") == Err(Failed));
+    assert!(rt; cabinet.create(Output::Dat, "a.dat") == Ok(()));
+    assert!(rt; write_all(cabinet, Output::Dat, b"1234567") == Ok(()));
+    assert!(rt; write_all(cabinet, Output::Dat, b"89") == Err(Failed));
+    assert!(rt; cabinet.written(Output::Dat) == Some(b"12345678".as_slice()));
+    assert!(rt; cabinet.name(Output::Dat) == Some("a.dat"));
+    assert!(rt; cabinet.written(Output::Cfg).is_none());
+}
+
 #[test]
 fn reads_and_writes_whole(rt: HostRuntime) -> Result<(), Fail> {
     let alloc = rt.alloc();
     let mut cabinet = seven_bytes(alloc, &[], 8)?;
-    assert_eq!(rt; cabinet.open("none"), Err(Failed));
-    assert_eq!(rt; read_all(alloc, &mut cabinet, 9), Err(ReadEnd::Failed));
-    cabinet.open("case")?;
-    assert_eq!(rt;
-        read_all(alloc, &mut cabinet, 5)?.as_slice(),
-        b"abcde".as_slice()
-    );
-    assert_eq!(rt;
-        read_all(alloc, &mut cabinet, 9)?.as_slice(),
-        b"fg".as_slice()
-    );
-    assert_eq!(rt; write_all(&mut cabinet, Output::Dat, b"x"), Err(Failed));
-    assert_eq!(rt; cabinet.create(Output::Dat, "too_long_"), Err(Failed));
-    cabinet.create(Output::Dat, "a.dat")?;
-    write_all(&mut cabinet, Output::Dat, b"1234567")?;
-    assert_eq!(rt; write_all(&mut cabinet, Output::Dat, b"89"), Err(Failed));
-    assert!(rt; cabinet.written(Output::Dat) == Some(b"12345678".as_slice()));
-    assert!(rt; cabinet.name(Output::Dat) == Some("a.dat"));
-    assert!(rt; cabinet.written(Output::Cfg).is_none());
+    reads_whole(&rt, alloc, &mut cabinet);
+    writes_whole(&rt, &mut cabinet);
     Ok(())
 }
 

@@ -40,10 +40,9 @@ fn finds_the_files_that_clap_finds(rt: HostRuntime) -> Result<(), Fail> {
     let own = owned(alloc, &words[1..])?;
     match (matches.subcommand(), read_words(&own)) {
         (Some((name, run)), Some(Words::Run(files))) => {
-            assert_eq!(rt; name, "run");
-            assert_eq!(rt; run.get_str("CASE"), Some(files.case));
-            assert_eq!(rt; run.get_str("CFG"), Some(files.cfg));
-            assert_eq!(rt; run.get_str("DAT"), Some(files.dat));
+            assert!(rt; name == "run" && run.get_str("CASE") == Some(files.case));
+            assert!(rt; run.get_str("CFG") == Some(files.cfg));
+            assert!(rt; run.get_str("DAT") == Some(files.dat));
         }
         _ => assert!(rt; false),
     }
@@ -58,9 +57,8 @@ fn finds_the_number_that_clap_finds(rt: HostRuntime) -> Result<(), Fail> {
     let own = owned(alloc, &words[1..])?;
     match (matches.subcommand(), read_words(&own)) {
         (Some((name, trial)), Some(Words::Trial(number))) => {
-            assert_eq!(rt; name, "trial");
-            assert_eq!(rt; trial.get_str("N"), Some("300"));
-            assert_eq!(rt; number, 300);
+            assert!(rt; name == "trial" && trial.get_str("N") == Some("300"));
+            assert!(rt; number == 300);
         }
         _ => assert!(rt; false),
     }
