@@ -75,9 +75,9 @@ fn ask_for(filling: &mut Filling, named: Named, channel: Channel) -> Result<(), 
     Ok(())
 }
 
-/// Takes a name in a column.
+/// Takes a name that is not blank, in a column.
 #[tactic(auto, unfolding(crate::specs::Outputs::take_known_name))]
-fn take_name(
+fn take_known_name(
     filling: &mut Filling,
     named: Named,
     line: u32,
@@ -113,7 +113,7 @@ fn take_names(
     let mut column = 3;
     for name in names {
         if let Some(name) = name {
-            match take_name(filling, named, line, column, name) {
+            match take_known_name(filling, named, line, column, name) {
                 Ok(()) => {}
                 Err(refused) => return Err(refused),
             }
