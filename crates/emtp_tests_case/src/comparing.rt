@@ -44,20 +44,25 @@ pub fn names_are(rt: &impl Abort, names: &[Name], texts: &[&str]) {
 }
 
 /// The block is this one.
-pub fn block_is(rt: &impl Abort, block: &Block, wanted: &Block) {
+pub fn block_is(rt: &impl Abort, block: &Block, wanted: Block) {
     assert!(rt; (block.line, block.var, block.order) == (wanted.line, wanted.var, wanted.order));
     assert!(rt; block.inputs.as_slice() == wanted.inputs.as_slice());
     assert!(rt; block.gain == wanted.gain);
     assert!(rt; (block.top, block.bottom) == (wanted.top, wanted.bottom));
     assert!(rt; (block.low, block.high) == (wanted.low, wanted.high));
+    drop(wanted);
 }
 
 /// The card is this formula.
-pub fn formula_is(rt: &impl Abort, extra: &Extra, wanted: &Formula) {
-    let Extra::Formula(formula) = extra else {
-        assert!(rt; false);
-        return;
-    };
+pub fn formula_is(rt: &impl Abort, extra: &Extra, wanted: Formula) {
+    match extra {
+        Extra::Formula(formula) => fields_are(rt, formula, &wanted),
+        Extra::Device(_) => assert!(rt; false),
+    }
+    drop(wanted);
+}
+
+fn fields_are(rt: &impl Abort, formula: &Formula, wanted: &Formula) {
     assert!(rt; (formula.line, formula.var) == (wanted.line, wanted.var));
     assert!(rt; formula.group == wanted.group);
     assert!(rt; formula.vars.as_slice() == wanted.vars.as_slice());

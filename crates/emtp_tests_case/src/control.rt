@@ -318,15 +318,15 @@ fn cards_are_back(rt: &impl Abort, alloc: Global, parts: &Parts) -> Result<(), A
     let blocks = parts.blocks.as_slice();
     let extras = parts.extras.as_slice();
     assert!(rt; blocks.len() == 2 && extras.len() == 5);
-    block_is(rt, &blocks[0], &doubler(alloc)?);
-    block_is(rt, &blocks[1], &lag(alloc)?);
+    block_is(rt, &blocks[0], doubler(alloc)?);
+    block_is(rt, &blocks[1], lag(alloc)?);
     device_is(rt, &extras[0], (41, 15, DeviceCode::Table, 0, None), 0, 2);
     device_is(rt, &extras[1], (42, 16, DeviceCode::Window, 0, None), 2, 2);
     let delay = (43, 17, DeviceCode::Delay, 300_000_000, None);
     device_is(rt, &extras[2], delay, 4, 0);
     let memory = (44, 18, DeviceCode::Selector, 0, Some(6));
     device_is(rt, &extras[3], memory, 4, 0);
-    formula_is(rt, &extras[4], &formula(alloc)?);
+    formula_is(rt, &extras[4], formula(alloc)?);
     Ok(())
 }
 

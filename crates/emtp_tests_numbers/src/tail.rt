@@ -1,5 +1,5 @@
 //! The kept factor and plain elimination side by side, and whole runs of calls.
-ghost use Rattle.std.specs.Prelude.{◌≡◌, ◌<◌, length, IfOk, OnOk, IfErr, Ok, Err};
+ghost use Rattle.std.specs.Prelude.{◌≡◌, ◌<◌, length, All, IfOk, OnOk, IfErr, Ok, Err};
 ghost use Rattle.emtp_elim.specs.Outcome.{outcome};
 ghost use Rattle.emtp_tail.specs.Runs.{FitsSize};
 ghost use Rattle.emtp_tests_numbers.specs.Tables.{table_rows};
@@ -53,14 +53,30 @@ fn five_updates<L: Ledger>(rt: &impl Abort, alloc: Global, blank: Blank)
     let broken = filled(alloc, 3, 1, &MIDDLE_GONE).expect(rt, "memory");
     let mut steps = Steps::<L>::new(blank);
     let mut kept = Kept::open(alloc, &first).expect(rt, "memory");
+    changes(rt, &mut kept, &first, &second, &broken, &mut steps);
+}
+
+fn changes<L: Ledger>(
+    rt: &impl Abort,
+    kept: &mut Kept,
+    first: &Table,
+    second: &Table,
+    broken: &Table,
+    steps: &mut Steps<L>,
+)
+    requires size { kept.old.size ≡ 3 }
+    requires first { first.now.size ≡ 3 }
+    requires second { second.now.size ≡ 3 }
+    requires broken { broken.now.size ≡ 3 }
+{
     assert!(rt; kept.size() == 3 && kept.good() == 0 && first.fixed() == 1);
-    assert!(rt; redone(&mut kept, &first, &mut steps) == Ok(0) && kept.good() == 3);
-    assert!(rt; redone(&mut kept, &first, &mut steps) == Ok(3) && kept.good() == 3);
-    assert!(rt; redone(&mut kept, &second, &mut steps) == Ok(2) && kept.good() == 3);
-    assert!(rt; divides(&kept));
-    assert!(rt; redone(&mut kept, &broken, &mut steps) == Err(MIDDLE_FAULT) && kept.good() == 1);
-    assert!(rt; redone(&mut kept, &second, &mut steps) == Ok(1) && kept.good() == 3);
-    assert!(rt; divides(&kept));
+    assert!(rt; redone(kept, first, steps) == Ok(0) && kept.good() == 3);
+    assert!(rt; redone(kept, first, steps) == Ok(3) && kept.good() == 3);
+    assert!(rt; redone(kept, second, steps) == Ok(2) && kept.good() == 3);
+    assert!(rt; divides(kept));
+    assert!(rt; redone(kept, broken, steps) == Err(MIDDLE_FAULT) && kept.good() == 1);
+    assert!(rt; redone(kept, second, steps) == Ok(1) && kept.good() == 3);
+    assert!(rt; divides(kept));
 }
 
 fn divides(kept: &Kept) -> bool {
@@ -143,16 +159,30 @@ fn side_by_side<L: Ledger>(rt: &impl Abort, alloc: Global, blank: Blank)
     let first = filled(alloc, 3, 0, &CHANGES[0]).expect(rt, "memory");
     let mut kept = Kept::open(alloc, &first).expect(rt, "memory");
     for k in 0..12 {
-        let rows = filled(alloc, 3, 0, &CHANGES[k]).expect(rt, "memory");
-        let currents = [20_000_000_000_000, 100_000_000_000, -300_000_000_000];
-        let mut expected = [0; 3];
-        let plain = eliminate_plain(alloc, &rows, &currents, &mut expected).map_err(named);
-        let mut right = currents;
-        let mut x = [0; 3];
-        let answer = solved(&mut kept, &rows, &mut right, &mut x, &mut steps).map_err(named);
-        assert!(rt; plain == answer, "at {k}");
-        assert!(rt; answer.is_err() || x == expected, "at {k}");
+        let is_right = agree(rt, alloc, &mut kept, &CHANGES[k], &mut steps);
+        assert!(rt; is_right, "at {k}");
     }
+}
+
+/// Whether the kept factor and plain elimination answer the same.
+fn agree<L: Ledger>(
+    rt: &impl Abort,
+    alloc: Global,
+    kept: &mut Kept,
+    cells: &[i64; 9],
+    steps: &mut Steps<L>,
+) -> bool
+    requires { kept.old.size ≡ 3 }
+    ensures { kept.new.size ≡ 3 }
+{
+    let rows = filled(alloc, 3, 0, cells).expect(rt, "memory");
+    let currents = [20_000_000_000_000, 100_000_000_000, -300_000_000_000];
+    let mut expected = [0; 3];
+    let plain = eliminate_plain(alloc, &rows, &currents, &mut expected).map_err(named);
+    let mut right = currents;
+    let mut x = [0; 3];
+    let answer = solved(kept, &rows, &mut right, &mut x, steps).map_err(named);
+    plain == answer && (answer.is_err() || x == expected)
 }
 
 #[test]
@@ -160,21 +190,58 @@ fn answers_as_plain_elimination_does(rt: HostRuntime) {
     side_by_side::<Brand>(&rt, rt.alloc(), Blank::new(1));
 }
 
-fn is_divided(reply: &Reply) -> bool {
-    match reply {
-        Reply::Solved(x) => x.as_slice() == DIVIDED.as_slice(),
+/// What a call is answered.
+#[derive(Clone, Copy)]
+enum Wanted {
+    Redone(usize),
+    Faulty(RowFault),
+    Divided,
+    NotReady,
+}
+
+/// Three updates, a solution, a matrix at fault with which nothing is solved, and an update that mends it. Where there is
+/// no matrix, the right side is solved for.
+const RUN: [(Option<[i64; 9]>, Wanted); 8] = [
+    (Some(AT_FIRST), Wanted::Redone(0)),
+    (Some(AT_FIRST), Wanted::Redone(3)),
+    (Some(LAST_CHANGED), Wanted::Redone(2)),
+    (None, Wanted::Divided),
+    (Some(MIDDLE_GONE), Wanted::Faulty(MIDDLE_FAULT)),
+    (None, Wanted::NotReady),
+    (Some(LAST_CHANGED), Wanted::Redone(1)),
+    (None, Wanted::Divided),
+];
+
+fn is_wanted(reply: &Reply, wanted: Wanted) -> bool {
+    match (reply, wanted) {
+        (Reply::Redone(first), Wanted::Redone(wanted)) => *first == wanted,
+        (Reply::Faulty(fault), Wanted::Faulty(wanted)) => *fault == wanted,
+        (Reply::Solved(x), Wanted::Divided) => x.as_slice() == DIVIDED.as_slice(),
+        (Reply::NotReady, Wanted::NotReady) => true,
         _ => false,
     }
 }
 
-fn update(alloc: Global, cells: &[i64]) -> Result<Call<Table>, AllocError>
-    requires { length cells.now ≡ 9 }
+fn call(alloc: Global, cells: Option<[i64; 9]>) -> Result<Call<Table>, AllocError>
     ensures { IfOk result (FitsSize (λ (t : Table). table_rows t.size t.fixed t.cells.items) 3) }
 {
-    Ok(Call::Update(filled(alloc, 3, 1, cells)?))
+    match cells {
+        Some(cells) => Ok(Call::Update(filled(alloc, 3, 1, &cells)?)),
+        None => Ok(Call::Solve(Vec::from_slice(alloc, &RIGHT)?)),
+    }
 }
 
-/// Three updates, a solution, a matrix at fault with which nothing is solved, and an update that mends it.
+fn all_calls(alloc: Global) -> Result<Vec<Call<Table>>, AllocError>
+    ensures { IfOk result (λ calls. All (FitsSize (λ (t : Table). table_rows t.size t.fixed t.cells.items) 3) calls.items) }
+{
+    let mut calls = Vec::new(alloc);
+    for (cells, _) in RUN {
+        calls.push(call(alloc, cells)?)?;
+    }
+    Ok(calls)
+}
+
+/// The whole run on one factor.
 fn eight_calls<L: Ledger>(rt: &impl Abort, alloc: Global, blank: Blank)
     requires name { blank.name ≡ L.name }
     requires parts { blank.parts ≡ L.parts }
@@ -183,26 +250,25 @@ fn eight_calls<L: Ledger>(rt: &impl Abort, alloc: Global, blank: Blank)
     let first = filled(alloc, 3, 1, &AT_FIRST).expect(rt, "memory");
     let mut kept = Kept::open(alloc, &first).expect(rt, "memory");
     let mut steps = Steps::<L>::new(blank);
-    let calls = [
-        update(alloc, &AT_FIRST).expect(rt, "memory"),
-        update(alloc, &AT_FIRST).expect(rt, "memory"),
-        update(alloc, &LAST_CHANGED).expect(rt, "memory"),
-        Call::Solve(Vec::from_slice(alloc, &RIGHT).expect(rt, "memory")),
-        update(alloc, &MIDDLE_GONE).expect(rt, "memory"),
-        Call::Solve(Vec::from_slice(alloc, &RIGHT).expect(rt, "memory")),
-        update(alloc, &LAST_CHANGED).expect(rt, "memory"),
-        Call::Solve(Vec::from_slice(alloc, &RIGHT).expect(rt, "memory")),
-    ];
-    let replies = answer_all(alloc, &mut kept, &calls, &mut steps).expect(rt, "memory");
-    assert!(rt; replies.len() == 8);
-    assert!(rt; matches!(replies[0], Reply::Redone(0)));
-    assert!(rt; matches!(replies[1], Reply::Redone(3)));
-    assert!(rt; matches!(replies[2], Reply::Redone(2)));
-    assert!(rt; is_divided(&replies[3]));
-    assert!(rt; matches!(replies[4], Reply::Faulty(MIDDLE_FAULT)));
-    assert!(rt; matches!(replies[5], Reply::NotReady));
-    assert!(rt; matches!(replies[6], Reply::Redone(1)));
-    assert!(rt; is_divided(&replies[7]));
+    answer_run(rt, alloc, &mut kept, &mut steps);
+}
+
+fn answer_run<L: Ledger>(rt: &impl Abort, alloc: Global, kept: &mut Kept, steps: &mut Steps<L>)
+    requires { kept.old.size ≡ 3 }
+{
+    let calls = all_calls(alloc).expect(rt, "memory");
+    let replies = answer_all(alloc, kept, &calls, steps).expect(rt, "memory");
+    run_is_right(rt, &replies);
+}
+
+fn run_is_right(rt: &impl Abort, replies: &[Reply]) {
+    assert!(rt; replies.len() == RUN.len());
+    for (at, (_, wanted)) in RUN.iter().enumerate() {
+        assert!(rt;
+            at < replies.len() && is_wanted(&replies[at], *wanted),
+            "call {at}"
+        );
+    }
 }
 
 #[test]
