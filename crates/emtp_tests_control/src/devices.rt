@@ -153,38 +153,40 @@ fn three_steps(devices: &mut Devices<'_>, inputs: [i64; 3]) -> [i64; 3]
     outputs
 }
 
-/// The same of a device of PLUS1 without points; where it has a D, that is PLUS1 too.
-fn walk(
+/// Whether these are the outputs of a device of PLUS1 without points; where it has a D, that is PLUS1 too.
+fn gives(
     alloc: Global,
     code: DeviceCode,
     a: i64,
     d: Option<u32>,
     inputs: [i64; 3],
-) -> Result<[i64; 3], AllocError>
+    wanted: [i64; 3],
+) -> Result<bool, AllocError>
     requires fits { FitsAlone code a [] }
     requires d { ForSome d (λ v. v < 7) }
     requires required { IsTrue (needs_d code) → IsSome d }
     requires inputs { All (λ s. unsigned_abs s ≤ LARGEST_VALUE) inputs }
 {
     let device = device(inputs_of(alloc, false)?, code, a, d);
-    outputs(alloc, device, &[], inputs)
+    Ok(outputs(alloc, device, &[], inputs)? == wanted)
 }
 
 /// The same of a device of PLUS1 and its negative.
-fn walk_both(
+fn both_give(
     alloc: Global,
     code: DeviceCode,
     a: i64,
     d: Option<u32>,
     inputs: [i64; 3],
-) -> Result<[i64; 3], AllocError>
+    wanted: [i64; 3],
+) -> Result<bool, AllocError>
     requires fits { FitsAlone code a [] }
     requires d { ForSome d (λ v. v < 7) }
     requires required { IsTrue (needs_d code) → IsSome d }
     requires inputs { All (λ s. unsigned_abs s ≤ LARGEST_VALUE) inputs }
 {
     let device = device(inputs_of(alloc, true)?, code, a, d);
-    outputs(alloc, device, &[], inputs)
+    Ok(outputs(alloc, device, &[], inputs)? == wanted)
 }
 
 #[test]
@@ -193,29 +195,35 @@ fn past_inputs(rt: HostRuntime) -> Result<(), Fail> {
     let alloc = rt.alloc();
     let u = 8 * UNIT;
     // two steps, one step; 5,000 Hz is a period of two steps
-    assert_eq!(rt;
-        walk(alloc, DeviceCode::Delay, 200_000_000, None, [u, u, u])?,
-        [0, 0, u]
+    assert!(rt;
+        gives(
+            alloc,
+            DeviceCode::Delay,
+            200_000_000,
+            None,
+            [u, u, u],
+            [0, 0, u]
+        )?
     );
-    assert_eq!(rt;
-        walk(
+    assert!(rt;
+        gives(
             alloc,
             DeviceCode::DelayedPulse,
             100_000_000,
             None,
-            [u, -u, u]
-        )?,
-        [0, UNIT, 0]
+            [u, -u, u],
+            [0, UNIT, 0]
+        )?
     );
-    assert_eq!(rt;
-        walk(
+    assert!(rt;
+        gives(
             alloc,
             DeviceCode::EffectiveValue,
             5_000_000_000,
             None,
-            [u, u, 0]
-        )?,
-        [5_656_854_249, u, 5_656_854_249]
+            [u, u, 0],
+            [5_656_854_249, u, 5_656_854_249]
+        )?
     );
     Ok(())
 }
@@ -224,23 +232,47 @@ fn past_inputs(rt: HostRuntime) -> Result<(), Fail> {
 fn past_outputs(rt: HostRuntime) -> Result<(), Fail> {
     let alloc = rt.alloc();
     let u = 8 * UNIT;
-    assert_eq!(rt;
-        walk(alloc, DeviceCode::Integral, 0, None, [u, u, u])?,
-        [400_000, 1_200_000, 2_000_000]
+    assert!(rt;
+        gives(
+            alloc,
+            DeviceCode::Integral,
+            0,
+            None,
+            [u, u, u],
+            [400_000, 1_200_000, 2_000_000]
+        )?
     );
-    assert_eq!(rt;
-        walk(alloc, DeviceCode::Derivative, 0, None, [u, u, u])?,
-        [80_000 * UNIT, 0, 0]
+    assert!(rt;
+        gives(
+            alloc,
+            DeviceCode::Derivative,
+            0,
+            None,
+            [u, u, u],
+            [80_000 * UNIT, 0, 0]
+        )?
     );
-    assert_eq!(rt;
-        walk(alloc, DeviceCode::PeakHold, 0, None, [-u, -3, -5])?,
-        [-u, -3, -3]
+    assert!(rt;
+        gives(
+            alloc,
+            DeviceCode::PeakHold,
+            0,
+            None,
+            [-u, -3, -5],
+            [-u, -3, -3]
+        )?
     );
     // what exceeds the range isn't kept: it goes on from the sum before
     let most = 600_000_000_000_000_000;
-    assert_eq!(rt;
-        walk(alloc, DeviceCode::Counter, 0, None, [most, most, 1])?,
-        [most, NONE, most + 1]
+    assert!(rt;
+        gives(
+            alloc,
+            DeviceCode::Counter,
+            0,
+            None,
+            [most, most, 1],
+            [most, NONE, most + 1]
+        )?
     );
     Ok(())
 }
@@ -249,17 +281,26 @@ fn past_outputs(rt: HostRuntime) -> Result<(), Fail> {
 fn conditions(rt: HostRuntime) -> Result<(), Fail> {
     let alloc = rt.alloc();
     let u = 8 * UNIT;
-    assert_eq!(rt;
-        walk(alloc, DeviceCode::Gate, 5, Some(4), [u, 3, -u])?,
-        [u, 0, -u]
+    assert!(rt; gives(alloc, DeviceCode::Gate, 5, Some(4), [u, 3, -u], [u, 0, -u])?);
+    assert!(rt;
+        gives(
+            alloc,
+            DeviceCode::GateAbove,
+            5,
+            Some(4),
+            [u, 3, -u],
+            [u, 0, 0]
+        )?
     );
-    assert_eq!(rt;
-        walk(alloc, DeviceCode::GateAbove, 5, Some(4), [u, 3, -u])?,
-        [u, 0, 0]
-    );
-    assert_eq!(rt;
-        walk(alloc, DeviceCode::SampleHold, 0, Some(4), [u, -3, 5])?,
-        [u, u, 5]
+    assert!(rt;
+        gives(
+            alloc,
+            DeviceCode::SampleHold,
+            0,
+            Some(4),
+            [u, -3, 5],
+            [u, u, 5]
+        )?
     );
     Ok(())
 }
@@ -268,20 +309,32 @@ fn conditions(rt: HostRuntime) -> Result<(), Fail> {
 fn one_of_two_inputs(rt: HostRuntime) -> Result<(), Fail> {
     let alloc = rt.alloc();
     let u = 8 * UNIT;
-    assert_eq!(rt;
-        walk_both(alloc, DeviceCode::Extreme, -UNIT, None, [u, u, u])?,
-        [-u, -u, -u]
+    assert!(rt;
+        both_give(
+            alloc,
+            DeviceCode::Extreme,
+            -UNIT,
+            None,
+            [u, u, u],
+            [-u, -u, -u]
+        )?
     );
     // the third is missing
-    assert_eq!(rt;
-        walk_both(alloc, DeviceCode::Selector, UNIT, Some(4), [-u, UNIT, u])?,
-        [-u, -UNIT, 0]
+    assert!(rt;
+        both_give(
+            alloc,
+            DeviceCode::Selector,
+            UNIT,
+            Some(4),
+            [-u, UNIT, u],
+            [-u, -UNIT, 0]
+        )?
     );
     Ok(())
 }
 
-/// The outputs of a table of three points.
-fn of_table(alloc: Global, inputs: [i64; 3]) -> Result<[i64; 3], AllocError>
+/// Whether these are the outputs of a table of three points.
+fn table_gives(alloc: Global, inputs: [i64; 3], wanted: [i64; 3]) -> Result<bool, AllocError>
     requires { All (λ s. unsigned_abs s ≤ LARGEST_VALUE) inputs }
 {
     let points = [
@@ -299,11 +352,11 @@ fn of_table(alloc: Global, inputs: [i64; 3]) -> Result<[i64; 3], AllocError>
         },
     ];
     let table = device(inputs_of(alloc, false)?, DeviceCode::Table, 0, None);
-    outputs(alloc, table, &points, inputs)
+    Ok(outputs(alloc, table, &points, inputs)? == wanted)
 }
 
-/// The outputs of a window that closes at the first step and opens at the second.
-fn of_window(alloc: Global, inputs: [i64; 3]) -> Result<[i64; 3], AllocError>
+/// Whether these are the outputs of a window that closes at the first step and opens at the second.
+fn window_gives(alloc: Global, inputs: [i64; 3], wanted: [i64; 3]) -> Result<bool, AllocError>
     requires { All (λ s. unsigned_abs s ≤ LARGEST_VALUE) inputs }
 {
     let pairs = [Point {
@@ -311,14 +364,14 @@ fn of_window(alloc: Global, inputs: [i64; 3]) -> Result<[i64; 3], AllocError>
         other: 200_000_000,
     }];
     let window = device(inputs_of(alloc, false)?, DeviceCode::Window, 0, None);
-    outputs(alloc, window, &pairs, inputs)
+    Ok(outputs(alloc, window, &pairs, inputs)? == wanted)
 }
 
 #[test]
 fn points_and_times(rt: HostRuntime) -> Result<(), Fail> {
     let alloc = rt.alloc();
-    assert_eq!(rt; of_table(alloc, [-5, 5, 15])?, [10, 20, 15]);
-    assert_eq!(rt; of_table(alloc, [0, 20, 25])?, [10, 0, 0]);
-    assert_eq!(rt; of_window(alloc, [7, 7, 7])?, [7, 0, 0]);
+    assert!(rt; table_gives(alloc, [-5, 5, 15], [10, 20, 15])?);
+    assert!(rt; table_gives(alloc, [0, 20, 25], [10, 0, 0])?);
+    assert!(rt; window_gives(alloc, [7, 7, 7], [7, 0, 0])?);
     Ok(())
 }

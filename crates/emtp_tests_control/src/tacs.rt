@@ -112,6 +112,18 @@ fn control(alloc: Global, block: Block, group: Group) -> Result<Case, AllocError
     }
 }
 
+/// The names and the source.
+fn add_names(draft: &mut Draft) -> Result<(), AllocError>
+    requires { draft.old.parts ≡ empty_parts RUN }
+    ensures vars { OnOk result (length draft.new.parts.vars ≡ 9) }
+    ensures others { OnOk result (draft.new.parts ≡ record draft.old.parts { vars = draft.new.parts.vars; tacs_sources = SOURCE ∷ [] }) }
+{
+    draft.add_variable(Name::new(b"X"))?;
+    draft.add_variable(Name::new(b"U"))?;
+    draft.add_variable(Name::new(b"SUM"))?;
+    draft.add_tacs_source(SOURCE)
+}
+
 fn add(draft: &mut Draft, block: Block, formula: Formula) -> Result<(), AllocError>
     requires empty { draft.old.parts ≡ empty_parts RUN }
     requires block { IsBlock RUN nine_sizes block }
@@ -119,11 +131,8 @@ fn add(draft: &mut Draft, block: Block, formula: Formula) -> Result<(), AllocErr
     ensures vars { OnOk result (length draft.new.parts.vars ≡ 9) }
     ensures others { OnOk result (draft.new.parts ≡ record draft.old.parts { vars = draft.new.parts.vars; blocks = block ∷ []; tacs_sources = SOURCE ∷ []; extras = Extra.Formula formula ∷ [] }) }
 {
-    draft.add_variable(Name::new(b"X"))?;
-    draft.add_variable(Name::new(b"U"))?;
-    draft.add_variable(Name::new(b"SUM"))?;
+    add_names(draft)?;
     draft.add_block(block)?;
-    draft.add_tacs_source(SOURCE)?;
     draft.add_formula(formula)
 }
 
