@@ -1,4 +1,4 @@
-use Rattle.std.proofs.Common.{◌≡◌, ◌∙◌, ◌+ℤ◌, ap, sym, subst, to_z, of_z, arith}
+use Rattle.std.proofs.Common.{◌≡◌, ◌∙◌, ◌+ℤ◌, ap, sym, subst, to_z, of_z, arith, rules}
 use mir.Syntax.{w64}
 use Rattle.emtp_case.specs.declared.control.Limiter.{Limiter}
 use Rattle.emtp_elim.specs.Matrix.{item}
@@ -14,3 +14,6 @@ returns-in-Free c = λ j below.
     let added = rw k' at (c.add_inputs.ensures j (omega arith)) in
     let P : Limiter → Type 0 = λ l. item c.add_inputs.new.out j ≡ row_entry (place_in c.args.places.now) c.args.gain c.args.inputs.now l c.args.i j in
     subst P (sym c.in-Free.is) (added ∙ ap (λ z. z +ℤ total (λ n. coupling_by c.args.gain j n (place_in c.args.places.now n.var)) c.args.inputs.now) (c.fill_unit.ensures.value j below))
+
+pub returns-in-AtHigh : goal.returns-in-AtHigh
+returns-in-AtHigh c = search rules

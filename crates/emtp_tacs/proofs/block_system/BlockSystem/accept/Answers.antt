@@ -1,3 +1,4 @@
+use Rattle.std.proofs.lemmas.Grind.{common_steps}
 use Rattle.std.proofs.Common.{sym, subst, List, ℤ, arith}
 use Rattle.std.proofs.lemmas.List.{with_items_is}
 use Rattle.emtp_blocks.specs.BlockRows.{HaveAccepted}
@@ -9,3 +10,6 @@ returns-in-Ok-clause-accepts c = λ H stands.
     let told = c.in-Ok.ensures.value H stands in
     let of_solved = subst (λ (xs : List ℤ). HaveAccepted c.accept.new.self c.accept.new.x H c.args.values.now xs) c.deref_mut.ensures.value told in
     subst (λ (ys : List ℤ). HaveAccepted c.accept.new.self ys H c.args.values.now c.args.self.now.x.items) (sym whole) of_solved
+
+pub returns-in-Ok-clause-holds : goal.returns-in-Ok-clause-holds
+returns-in-Ok-clause-holds c = grind (arith, common_steps)

@@ -1,0 +1,5 @@
+use Rattle.std.proofs.Common.{rules}
+use Rattle.emtp_wave.proofs.table.CosTable.in_turn.Goals as goal
+
+pub returns-then-p-clause-value : goal.returns-then-p-clause-value
+returns-then-p-clause-value c = search rules
