@@ -76,10 +76,9 @@ impl<'c> ControlledNetwork<'c> {
         ensures case { IfOk result (IsOf case.now.parts) }
         ensures rest { IfOk result (λ s. StandsFor s (rest_of case.now.parts ∷ [])) }
     {
-        Ok(ControlledNetwork {
-            network: Network::open(alloc, case)?,
-            control: Tacs::open(alloc, case)?,
-        })
+        let control = Tacs::open(alloc, case)?;
+        let network = Network::open(alloc, case)?;
+        Ok(ControlledNetwork { network, control })
     }
 
     /// Makes the next step, or answers its end; `step` is its number. After an end only the rows redone are stated.

@@ -54,10 +54,11 @@ impl<'c> Machine<'c> {
         ensures case { IfOk result (λ m. m.case ≡ case.now.parts) }
         ensures rest { IfOk result (λ m. m.tried ≡ 0) }
     {
+        // What owns most is opened last, so that no way out has to drop it: a drop in place is proved list by list.
         let channels = case.parts.channels.len();
-        let network = ControlledNetwork::open(alloc, case)?;
         let mut row = vec![in alloc; 0i64; channels]?;
         let mut samples = Samples::open(alloc, channels, case.parts.run.samples())?;
+        let network = ControlledNetwork::open(alloc, case)?;
         take_sample(case, &network, &mut row, &mut samples);
         Ok(Machine {
             case,

@@ -67,13 +67,14 @@ impl<'a> Network<'a> {
         ensures rest { IfOk result (λ network. StandsFor network (rest_of case.now.parts ∷ [])) }
         ensures made { IfOk result (λ network. network.made ≡ 0) }
     {
-        let order = order(alloc, case)?;
+        // What owns most is opened last, so that few ways out have to drop it: a drop in place is proved list by list.
         let table = CosTable::open(alloc)?;
-        let branches = Branches::open(alloc, case)?;
-        let switches = Switches::open(alloc, case, &order)?;
-        let (rows, kept) = rows_at_rest(alloc, case, &order, &branches)?;
+        let order = order(alloc, case)?;
         let system = NodalSystem::open(alloc, case, &order)?;
+        let switches = Switches::open(alloc, case, &order)?;
         let shown = shown_at_rest(alloc, case, &switches)?;
+        let branches = Branches::open(alloc, case)?;
+        let (rows, kept) = rows_at_rest(alloc, case, &order, &branches)?;
         Ok(Network {
             case,
             order,

@@ -162,7 +162,10 @@ fn run_case<C: Cabinet>(alloc: Global, words: Words<'_>, case: &Case, cabinet: &
     match Machine::open(alloc, case) {
         Ok(mut machine) => {
             let end = run_machine(&mut machine);
-            write_run(words, case, &machine, &end, cabinet)
+            let status = write_run(words, case, &machine, &end, cabinet);
+            // A call, since a drop in place is proved here list by list.
+            drop(machine);
+            status
         }
         Err(_) => Status::NoMemory,
     }

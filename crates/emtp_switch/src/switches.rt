@@ -69,6 +69,8 @@ impl<'a> Switches<'a> {
         let count = case.parts.switches.len();
         let states = starting_states(alloc, case)?;
         let before = no_currents(alloc, count)?;
+        let rest = vec![in alloc; 0i128; case.parts.nodes.len() + 1]?;
+        let flows = vec![in alloc; 0i128; count]?;
         let rows = order.copy(alloc)?;
         let plan = Plan::open(alloc, case, order)?;
         let mut groups = Groups::room(alloc, case)?;
@@ -81,8 +83,8 @@ impl<'a> Switches<'a> {
             states,
             before,
             changed: true,
-            rest: vec![in alloc; 0i128; case.parts.nodes.len() + 1]?,
-            flows: vec![in alloc; 0i128; count]?,
+            rest,
+            flows,
         })
     }
 

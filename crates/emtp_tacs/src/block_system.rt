@@ -44,10 +44,10 @@ impl<'a> BlockSystem<'a> {
         ensures redone { IfOk result (λ s. s.redone ≡ 0) }
     {
         let count = case.parts.blocks.len();
-        let blocks = BlockRows::open(alloc, case)?;
-        let kept = Kept::open(alloc, &blocks)?;
         let right = vec![in alloc; 0i128; count]?;
         let x = vec![in alloc; 0i64; count]?;
+        let blocks = BlockRows::open(alloc, case)?;
+        let kept = Kept::open(alloc, &blocks)?;
         Ok(BlockSystem {
             blocks,
             kept,

@@ -33,10 +33,10 @@ impl<'a> Variables<'a> {
         ensures holds { IfOk result (HoldsVariables case.now.parts) }
         ensures rest { IfOk result (λ v. VariablesStandFor case.now.parts v (rest_of case.now.parts ∷ [])) }
     {
-        let table = CosTable::open(alloc)?;
-        let devices = Devices::open(alloc, case)?;
         let values = vec![in alloc; 0i64; case.parts.vars.len()]?;
         let names = vec![in alloc; 0i64; most_names(case)]?;
+        let table = CosTable::open(alloc)?;
+        let devices = Devices::open(alloc, case)?;
         Ok(Variables {
             table,
             devices,
