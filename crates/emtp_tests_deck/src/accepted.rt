@@ -4,7 +4,7 @@ use crate::decks::divider;
 use emtp_card::{Cards, Refused};
 use emtp_case::*;
 use emtp_deck::read;
-use std::alloc::Global;
+use std::alloc::{AllocError, Global};
 use std::test::Fail;
 
 fn case(alloc: Global, bytes: &[u8]) -> Result<Case, Refused> {
@@ -47,15 +47,26 @@ const ROWS: &[(usize, &[u8], &[u8])] = &[
     (11, b"BLANK\n\nBEGIN NEW DATA CASE\n", b"\n"),
 ];
 
+/// Whether the divider is read where these cards stand in place of one of its own.
+fn gives_the_divider(
+    alloc: Global,
+    at: usize,
+    cards: &[u8],
+    end: &[u8],
+) -> Result<bool, AllocError> {
+    let bytes = divider(alloc, at, cards, 1, end)?;
+    let read = case(alloc, &bytes);
+    drop(bytes);
+    Ok(read.is_ok_and(|case| is_divider(&case)))
+}
+
 #[test]
 fn rows_give_the_divider(rt: HostRuntime) -> Result<(), Fail> {
     for (at, cards, end) in ROWS {
-        let bytes = divider(rt.alloc(), *at, cards, 1, end)?;
-        let Ok(case) = case(rt.alloc(), &bytes) else {
-            assert!(rt; false, "refused at {at}");
-            return Ok(());
-        };
-        assert!(rt; is_divider(&case), "another case at {at}");
+        assert!(rt;
+            gives_the_divider(rt.alloc(), *at, cards, end)?,
+            "another case at {at}"
+        );
     }
     Ok(())
 }
@@ -114,45 +125,52 @@ fn kind(branch: &Branch) -> char {
     }
 }
 
+fn has_branches(case: &Case) -> bool {
+    let branches = case.parts.branches.as_slice();
+    branches.len() == BRANCHES.len()
+        && branches.iter().zip(BRANCHES).all(|(branch, wanted)| {
+            let (from, to) = branch.ends();
+            (branch.line(), from, to, kind(branch)) == wanted
+        })
+}
+
 #[test]
 fn branches(rt: HostRuntime) {
-    let Ok(case) = case(rt.alloc(), NETWORK.as_bytes()) else {
-        assert!(rt; false, "refused");
-        return;
-    };
-    assert_eq!(rt; case.parts.branches.len(), BRANCHES.len());
-    for (branch, wanted) in case.parts.branches.as_slice().iter().zip(BRANCHES) {
-        let (from, to) = branch.ends();
-        assert_eq!(rt; (branch.line(), from, to, kind(branch)), wanted);
-    }
+    let read = case(rt.alloc(), NETWORK.as_bytes());
+    assert!(rt; read.is_ok_and(|case| has_branches(&case)));
+}
+
+/// The node voltages of the node card, and what branches and switches show.
+const CHANNELS: [Channel; 21] = [
+    Channel::NodeVoltage(7),
+    Channel::NodeVoltage(1),
+    Channel::NodeVoltage(1),
+    Channel::NodeVoltage(2),
+    Channel::NodeVoltage(3),
+    Channel::NodeVoltage(4),
+    Channel::NodeVoltage(5),
+    Channel::NodeVoltage(6),
+    Channel::NodeVoltage(7),
+    Channel::NodeVoltage(8),
+    Channel::NodeVoltage(9),
+    Channel::BranchCurrent(0),
+    Channel::BranchCurrent(1),
+    Channel::BranchVoltage(1),
+    Channel::BranchVoltage(3),
+    Channel::BranchCurrent(4),
+    Channel::SwitchCurrent(0),
+    Channel::SwitchVoltage(0),
+    Channel::SwitchCurrent(1),
+    Channel::Status(0),
+    Channel::Status(1),
+];
+
+fn has_channels(case: &Case) -> bool {
+    case.parts.channels.as_slice() == CHANNELS.as_slice()
 }
 
 #[test]
 fn channels(rt: HostRuntime) {
-    let Ok(case) = case(rt.alloc(), NETWORK.as_bytes()) else {
-        assert!(rt; false, "refused");
-        return;
-    };
-    let nodes = [7, 1, 1, 2, 3, 4, 5, 6, 7, 8, 9];
-    let others = [
-        Channel::BranchCurrent(0),
-        Channel::BranchCurrent(1),
-        Channel::BranchVoltage(1),
-        Channel::BranchVoltage(3),
-        Channel::BranchCurrent(4),
-        Channel::SwitchCurrent(0),
-        Channel::SwitchVoltage(0),
-        Channel::SwitchCurrent(1),
-        Channel::Status(0),
-        Channel::Status(1),
-    ];
-    let shown = case.parts.channels.as_slice();
-    assert_eq!(rt; shown.len(), 21);
-    for at in 0..11 {
-        assert!(rt;
-            shown[at] == Channel::NodeVoltage(nodes[at]),
-            "channel {at}"
-        );
-    }
-    assert!(rt; &shown[11..] == others.as_slice());
+    let read = case(rt.alloc(), NETWORK.as_bytes());
+    assert!(rt; read.is_ok_and(|case| has_channels(&case)));
 }

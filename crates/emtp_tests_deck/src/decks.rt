@@ -48,14 +48,11 @@ pub type Place = (u32, u32, u32);
 /// Where a deck is refused, and why.
 pub fn refusal(alloc: Global, bytes: &[u8]) -> Option<Place> {
     let refused = match Cards::split(alloc, bytes) {
-        Ok(cards) => match read(alloc, &cards) {
-            Ok(_) => return None,
-            Err(refused) => refused,
-        },
-        Err(refused) => refused,
+        Ok(cards) => read(alloc, &cards).err(),
+        Err(refused) => Some(refused),
     };
     match refused {
-        Refused::Bad(bad) => Some((bad.line, bad.column, bad.why.number())),
-        Refused::NoMemory => None,
+        Some(Refused::Bad(bad)) => Some((bad.line, bad.column, bad.why.number())),
+        Some(Refused::NoMemory) | None => None,
     }
 }
