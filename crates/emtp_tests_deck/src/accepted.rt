@@ -140,7 +140,7 @@ fn branches(rt: HostRuntime) {
     assert!(rt; read.is_ok_and(|case| has_branches(&case)));
 }
 
-/// The node voltages of the node card, and what branches and switches show.
+/// The node voltages of the two cards of outputs, and what branches and switches show.
 const CHANNELS: [Channel; 21] = [
     Channel::NodeVoltage(7),
     Channel::NodeVoltage(1),
