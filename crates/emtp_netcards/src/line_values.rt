@@ -10,7 +10,7 @@ ghost use Rattle.emtp_netcards.specs.LineValues.{IsDelay, IsFirstValue, IsLineVa
 
 use crate::fields::required;
 use emtp_card::{Fault, Why, fault_at, field_whole, least, number_or};
-use emtp_fix::{isqrt, near};
+use emtp_fix::{isqrt, near, scaled};
 
 const TERA: i64 = 1_000_000_000_000;
 
@@ -297,7 +297,7 @@ fn per_micro(r: i64, length: i64) -> i128
     ensures value { result ≡ near (r *ℤ length) (pos (10 ^ 6)) }
     ensures range { IsBetween 0 (10 ^ 18) result }
 {
-    near(r as i128 * length as i128, 1_000_000)
+    scaled(r as i128, length as i128, 1_000_000)
 }
 
 /// The travel time, judged where the fields that it comes from were read.
@@ -355,7 +355,7 @@ fn time_of_parts(l: i64, c: i64, length: i64) -> i128
     requires length { IsBetween 1 (10 ^ 12) length }
     ensures { result ≡ near (length *ℤ isqrt (l *ℤ c *ℤ pos (10 ^ 6))) (pos (10 ^ 9)) }
 {
-    near(length as i128 * root_of_parts(l, c), 1_000_000_000)
+    scaled(length as i128, root_of_parts(l, c), 1_000_000_000)
 }
 
 fn root_of_parts(l: i64, c: i64) -> i128

@@ -5,7 +5,7 @@ ghost use Rattle.emtp_fix.specs.Rounding.{near};
 ghost use Rattle.emtp_wave.specs.Cosine.{table, entry, near_entry, between, in_quarter, in_turn, reduced, cosine};
 
 use crate::direction::{EAST, rounded, turned};
-use emtp_fix::{ATTO, near};
+use emtp_fix::{ATTO, scaled};
 use std::alloc::{AllocError, Global};
 use std::marker::Model;
 
@@ -130,7 +130,7 @@ fn part(rise: i64, way: u64) -> i64
     requires way { way < 10 ^ 18 }
     ensures { result ≡ near (pos way *ℤ rise) (pos (10 ^ 18)) }
 {
-    near(i128::from(way) * rise as i128, ATTO) as i64
+    scaled(i128::from(way), rise as i128, ATTO) as i64
 }
 
 fn reduced(phase: i128) -> u64

@@ -1,10 +1,14 @@
-use Rattle.std.proofs.Common.{◌≡◌, ◌∙◌, ap, sym, FitsSigned, ◌-◌, slice_index_or, get_or, true, rules}
+use Rattle.std.proofs.Common.{◌≡◌, ◌≤◌, ◌-◌, ◌^◌, ◌∙◌, [], ap, arith, drop, FitsSigned, get_or, length, ℕ, of_z, rules, slice_index_or, sym, to_z, true, unsigned_abs}
 use mir.Syntax.{w64, w128}
 use Rattle.std.proofs.lemmas.Int.{to_z-of_z}
+use Rattle.std.proofs.lemmas.List.{drop_all}
+use Rattle.std.proofs.lemmas.List.Elements.{All-get_or}
 use Rattle.std.proofs.Math.Seq.{drop-cons}
 use Rattle.std.specs.Prelude.{int_le}
 use Rattle.emtp_case.specs.Branch.{origin}
-use Rattle.emtp_devices.specs.Device.{along}
+use Rattle.emtp_case.specs.declared.branch.Point.{Point}
+use Rattle.emtp_devices.specs.Device.{along, table_value}
+use Rattle.emtp_fix.proofs.Wide.{through, through_64}
 use Rattle.emtp_devices.proofs.table.table_value.Goals as goal
 
 pub returns-then-s-points-2 : goal.returns-then-s-points-2
@@ -16,3 +20,16 @@ returns-then-s-points-2 c =
     let cons = drop-cons c.args.points.now c.loop-at.at origin c.loop-at-test.true in
     let here : int_le c.args.s (get_or c.args.points.now c.loop-at.at origin).current ≡ true = search rules in
     to_z-of_z w128 c.between_points.result r ∙ (rw here is) ∙ sym (before ∙ ap (along c.args.s (slice_index_or c.args.points.now (c.loop-at.at - 1) origin)) cons)
+
+pub returns : goal.returns
+returns c =
+    let points = c.args.points.now in
+    let last = slice_index_or points (length points - 1) origin in
+    let s : FitsSigned w64 c.args.s = c.ranges.s in
+    let small : unsigned_abs last.other ≤ 10 ^ 18 = All-get_or (λ (p : Point). unsigned_abs p.other ≤ 10 ^ 18) points (length points - 1) origin (omega (arith, c.requires.table.some)) c.requires.table.outputs in
+    let over : c.loop-at.at ≡ length points = omega (arith, c.requires.table.some, c.loop-at.auto.at-end, c.loop-at-test.false) in
+    let none : drop c.loop-at.at points ≡ [] = drop_all c.loop-at.at points c.loop-at-test.false in
+    let before : table_value c.args.s points ≡ along c.args.s (slice_index_or points (c.loop-at.at - 1) origin) (drop c.loop-at.at points) = simp to_z-of_z at c.loop-at.invariant.value in
+    let ends : table_value c.args.s points ≡ last.other = before ∙ ap (along c.args.s (slice_index_or points (c.loop-at.at - 1) origin)) none ∙ ap (λ (n : ℕ). (slice_index_or points (n - 1) origin).other) over in
+    let narrow : to_z w64 (of_z w64 last.other) ≡ last.other = through_64 last.other (omega (arith, small)) in
+    rw narrow (through last.other (omega (arith, small)) ∙ sym ends)

@@ -1,4 +1,4 @@
-use Rattle.std.proofs.Common.{◌≡◌, ◌+◌, ◌==◌, ℕ, length, slice_index, take, ap, sym, ◌∙◌, subst, arith}
+use Rattle.std.proofs.Common.{◌≡◌, ◌+◌, ◌<◌, ◌==◌, ℕ, get_or, length, slice_index, take, ap, sym, ◌∙◌, subst, arith}
 use Rattle.std.proofs.lemmas.List.{with_items_is}
 use Rattle.emtp_switch.specs.Groups.{alone, groups}
 use Rattle.std.specs.Vec.{with_items}
@@ -53,3 +53,9 @@ returns-clause-tree c =
     tree_found p.switches read rows es taken labels (take c.grow-self.result c.grow-self.new.links) (take c.grow-self.result (with_items c.args.self.now.links c.grow-self.new.links).items) c.as_slice-switches.ensures same_es c.requires.labels
     (ap (take c.grow-self.result) (with_items_is c.args.self.now.links c.grow-self.new.links (omega (arith, ap length c.deref_mut-4.ensures.value, c.deref_mut-4.ensures.len))))
     (c.grow-self.ensures.tree (subst (λ l. StartsAtRoots rows l reached) by_bridges start))
+
+pub find_roots-requires-clause-ranked : goal.find_roots-requires-clause-ranked
+find_roots-requires-clause-ranked c = λ k d below.
+    let ranked = ranked_is c.args.case.now.parts c.args.order.now c.args.plan.now c.requires.plan in
+    let inside : k < length c.args.plan.now.ranked.items = omega (arith, ap length c.deref.ensures.value, below) in
+    omega (arith, ranked.within k d inside, ap (λ l. get_or l k d) c.deref.ensures.value, ap length c.deref-2.ensures.value, c.requires.room.labels_size, c.requires.plan.same_nodes)

@@ -1,0 +1,48 @@
+use Rattle.std.proofs.Common.{◌≡◌, ◌≢◌, ◌≤◌, ◌<◌, ◌^◌, ◌+◌, ◌+ℤ◌, ℤ, List, ap, length, length-set, pos, slice_set, of_z, to_z, unsigned_abs, arith}
+use mir.Syntax.{w128}
+use Rattle.std.proofs.lemmas.List.Sums.{get_or-le-sum_by, sum_by-set}
+use Rattle.emtp_fix.proofs.Wide.{abs-add-le, through}
+use Rattle.emtp_switch.specs.Currents.{item}
+use Rattle.emtp_switch.specs.Tree.{folded, weight}
+use Rattle.emtp_switch.specs.declared.sweep.Link.{Link}
+use Rattle.emtp_switch.proofs.sweep.fold.Goals as goal
+
+-- what the near end holds once the far one is empty
+abbrev left_near : Link → List ℤ → ℤ
+left_near link rest = item (slice_set rest link.leaf (pos 0)) link.near
+
+-- both ends together are within what all places hold
+both_light : (link : Link) (rest : List ℤ) → link.leaf < length rest → link.near < length rest → link.leaf ≢ link.near → unsigned_abs (left_near link rest) + unsigned_abs (item rest link.leaf) ≤ weight rest
+both_light link rest leaf near apart =
+    let emptied : weight (slice_set rest link.leaf (pos 0)) + unsigned_abs (item rest link.leaf) ≡ weight rest + 0 = sum_by-set unsigned_abs rest link.leaf (pos 0) (pos 0) leaf in
+    let there : unsigned_abs (left_near link rest) ≤ weight (slice_set rest link.leaf (pos 0)) = get_or-le-sum_by unsigned_abs (slice_set rest link.leaf (pos 0)) link.near (pos 0) (rw length-set near) in
+    omega (arith, emptied, there)
+
+-- the sum of both, as the code computes it
+moved : (link : Link) (rest : List ℤ) → link.leaf < length rest → link.near < length rest → link.leaf ≢ link.near → weight rest ≤ 10 ^ 30
+    → to_z w128 (of_z w128 (to_z w128 (of_z w128 (left_near link rest)) +ℤ to_z w128 (of_z w128 (item rest link.leaf)))) ≡ left_near link rest +ℤ item rest link.leaf
+moved link rest leaf near apart light =
+    let both = both_light link rest leaf near apart in
+    let there : to_z w128 (of_z w128 (left_near link rest)) ≡ left_near link rest = through (left_near link rest) (omega (arith, both, light)) in
+    let here : to_z w128 (of_z w128 (item rest link.leaf)) ≡ item rest link.leaf = through (item rest link.leaf) (omega (arith, both, light)) in
+    rw (there, here) (through (left_near link rest +ℤ item rest link.leaf) (omega (arith, both, light, abs-add-le (left_near link rest) (item rest link.leaf))))
+
+-- and all places hold no more than before
+light_left : (link : Link) (rest : List ℤ) → link.leaf < length rest → link.near < length rest → weight (folded link rest) ≤ weight rest
+light_left link rest leaf near =
+    let emptied : weight (slice_set rest link.leaf (pos 0)) + unsigned_abs (item rest link.leaf) ≡ weight rest + 0 = sum_by-set unsigned_abs rest link.leaf (pos 0) (pos 0) leaf in
+    let filled : weight (folded link rest) + unsigned_abs (left_near link rest) ≡ weight (slice_set rest link.leaf (pos 0)) + unsigned_abs (left_near link rest +ℤ item rest link.leaf)
+    = sum_by-set unsigned_abs (slice_set rest link.leaf (pos 0)) link.near (left_near link rest +ℤ item rest link.leaf) (pos 0) (rw length-set near) in
+    omega (arith, emptied, filled, abs-add-le (left_near link rest) (item rest link.leaf))
+
+pub returns-then-link-clause-rest : goal.returns-then-link-clause-rest
+returns-then-link-clause-rest c = ap (slice_set (slice_set c.args.rest.now c.args.link.leaf (pos 0)) c.args.link.near) (moved c.args.link c.args.rest.now c.requires.leaf c.requires.near c.requires.apart c.requires.light)
+
+pub returns-else-link-clause-rest : goal.returns-else-link-clause-rest
+returns-else-link-clause-rest c = ap (slice_set (slice_set c.args.rest.now c.args.link.leaf (pos 0)) c.args.link.near) (moved c.args.link c.args.rest.now c.requires.leaf c.requires.near c.requires.apart c.requires.light)
+
+pub returns-then-link-clause-light : goal.returns-then-link-clause-light
+returns-then-link-clause-light c = rw (returns-then-link-clause-rest c) (light_left c.args.link c.args.rest.now c.requires.leaf c.requires.near)
+
+pub returns-else-link-clause-light : goal.returns-else-link-clause-light
+returns-else-link-clause-light c = rw (returns-else-link-clause-rest c) (light_left c.args.link c.args.rest.now c.requires.leaf c.requires.near)
