@@ -1,4 +1,5 @@
 pub mod Bounds
+pub mod Products
 pub mod Holding
 pub mod Trios
 pub mod Worked

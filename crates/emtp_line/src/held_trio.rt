@@ -7,7 +7,7 @@ ghost use Rattle.emtp_case.specs.RunData.{IsRun};
 ghost use Rattle.emtp_case.specs.declared.branch.PhaseState.{PhaseState};
 ghost use Rattle.emtp_fix.specs.Rounding.{near};
 ghost use Rattle.emtp_fix.specs.declared.limit.TheConstants.{LARGEST_ENTRY, LARGEST_VALUE};
-ghost use Rattle.emtp_line.specs.Held.{IsHeldTrio, TrioStands, TrioMoved, held_from_histories, held_to_histories, held_modes, phase_held, trio_at_rest, with_states};
+ghost use Rattle.emtp_line.specs.Held.{IsHeldTrio, TrioStands, TrioMoved, held_at_rest, held_from_histories, held_to_histories, held_modes, phase_held, trio_at_rest, with_states};
 ghost use Rattle.emtp_line.specs.Mode.{IsMode};
 ghost use Rattle.emtp_line.specs.PhaseEnd.{AreWithin, AreSmall};
 ghost use Rattle.emtp_line.specs.Phases.{mode_of_trio, next_phases, phase_end, three_states};
@@ -48,13 +48,15 @@ impl HeldTrio {
     {
         let zero = mode_of_trio(run, trio, 0);
         let positive = mode_of_trio(run, trio, 1);
+        let zero_sequence = Waves::at_rest(alloc, zero)?;
+        let (first, second, third) = phases_at_rest(alloc, positive)?;
         Ok(HeldTrio {
             own: own_conductance(zero.conductance, positive.conductance),
             coupling: mutual_conductance(zero.conductance, positive.conductance),
-            zero_sequence: Waves::at_rest(alloc, zero)?,
-            first: HeldLine::at_rest(alloc, positive)?,
-            second: HeldLine::at_rest(alloc, positive)?,
-            third: HeldLine::at_rest(alloc, positive)?,
+            zero_sequence,
+            first,
+            second,
+            third,
         })
     }
 
@@ -153,6 +155,18 @@ impl HeldTrio {
         self.second.push(&positive_part(&states[1]), word);
         self.third.push(&positive_part(&states[2]), word);
     }
+}
+
+/// The phases of record 0, which have one mode. Apart, so that few ways out have to drop what was opened: a drop in
+/// place is proved list by list.
+fn phases_at_rest(alloc: Global, mode: Mode) -> Result<(HeldLine, HeldLine, HeldLine), AllocError>
+    requires { IsMode mode }
+    ensures { IfOk result (λ x. x ≡ (held_at_rest mode, held_at_rest mode, held_at_rest mode)) }
+{
+    let first = HeldLine::at_rest(alloc, mode)?;
+    let second = HeldLine::at_rest(alloc, mode)?;
+    let third = HeldLine::at_rest(alloc, mode)?;
+    Ok((first, second, third))
 }
 
 /// The currents of a phase, and its waves of the positive sequence.

@@ -1,18 +1,19 @@
-use Rattle.std.proofs.Common.{◌≡◌, ◌∙◌, ap, unsigned_abs, ◌≤◌, ◌^◌, ◌*ℤ◌, FitsSigned, arith, rules, lit<}
-use mir.Syntax.{w64, w128}
-use Rattle.std.proofs.lemmas.Int.{ints, to_z-of_z, fits_signed_mul}
+use Rattle.std.proofs.Common.{◌≡◌, ◌∙◌, ap, unsigned_abs, ◌≤◌, ◌^◌, ◌*ℤ◌, arith}
+use Rattle.std.proofs.lemmas.Int.{ints}
 use Rattle.emtp_fix.specs.Rounding.{near}
 use Rattle.emtp_fix.specs.declared.limit.TheConstants.{PICO}
 use Rattle.emtp_fix.proofs.Quotients.{near-product}
+use Rattle.emtp_line.proofs.Products.{product}
 use Rattle.emtp_line.proofs.wave.driven.Goals as goal
 
+pub overflow_mul-g : goal.overflow_mul-g
+overflow_mul-g c = (product c.ranges.g c.ranges.v c.requires.g c.requires.v (omega arith)).fits
+
+pub near-requires-clause-small_a : goal.near-requires-clause-small_a
+near-requires-clause-small_a c = (product c.ranges.g c.ranges.v c.requires.g c.requires.v (omega arith)).small
+
 is_driven : (c : goal.After-near) → c.near.result ≡ near (c.args.g *ℤ c.args.v) PICO
-is_driven c =
-    let g : FitsSigned w64 c.args.g = c.ranges.g in
-    let g' : FitsSigned w128 c.args.g = search rules in
-    let v : FitsSigned w128 c.args.v = c.ranges.v in
-    let product : FitsSigned w128 (c.args.g *ℤ c.args.v) = fits_signed_mul w128 c.args.g c.args.v (10 ^ 17) (10 ^ 20) c.requires.g c.requires.v (lit< tt) in
-    simp to_z-of_z at c.near.ensures.value
+is_driven c = c.near.ensures.value ∙ ap (λ z. near z PICO) (product c.ranges.g c.ranges.v c.requires.g c.requires.v (omega arith)).is
 
 small : (c : goal.After-near) → unsigned_abs c.near.result ≤ 10 ^ 25
 small c = omega (arith, ap unsigned_abs (is_driven c), near-product c.args.g c.args.v PICO (10 ^ 17) (10 ^ 20) (10 ^ 12) (10 ^ 25) c.requires.g c.requires.v (omega (arith, ints)) (omega arith))

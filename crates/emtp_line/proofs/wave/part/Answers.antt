@@ -1,9 +1,9 @@
-use Rattle.std.proofs.Common.{◌≡◌, ◌∙◌, ap, sym, unsigned_abs, ◌≤◌, ◌^◌, ◌*ℤ◌, pos, ℤ, FitsSigned, arith, rules, lit<}
-use mir.Syntax.{w64, w128}
-use Rattle.std.proofs.lemmas.Int.{ints, to_z-of_z, fits_signed_mul}
+use Rattle.std.proofs.Common.{◌≡◌, ◌∙◌, ap, sym, unsigned_abs, ◌≤◌, ◌*ℤ◌, pos, ℤ, arith}
+use Rattle.std.proofs.lemmas.Int.{ints}
 use Rattle.emtp_fix.specs.Rounding.{near}
 use Rattle.emtp_fix.specs.declared.limit.TheConstants.{PICO}
 use Rattle.emtp_fix.proofs.Quotients.{near-share, near-zero_times}
+use Rattle.emtp_line.proofs.Products.{product}
 use Rattle.emtp_line.proofs.wave.part.Goals as goal
 
 pub returns-then-share-eq0-clause-value : goal.returns-then-share-eq0-clause-value
@@ -11,13 +11,14 @@ returns-then-share-eq0-clause-value c =
     let zero' : c.args.share ≡ pos 0 = omega (arith, ints, c.if-share-eq0.true) in
     sym (ap (λ (z : ℤ). near (z *ℤ c.args.x) PICO) zero' ∙ near-zero_times c.args.x PICO)
 
+pub overflow_mul-share : goal.overflow_mul-share
+overflow_mul-share c = (product c.ranges.share c.ranges.x c.requires.share c.requires.x (omega arith)).fits
+
+pub near-requires-clause-small_a : goal.near-requires-clause-small_a
+near-requires-clause-small_a c = (product c.ranges.share c.ranges.x c.requires.share c.requires.x (omega arith)).small
+
 is_part : (c : goal.After-near) → c.near.result ≡ near (c.args.share *ℤ c.args.x) PICO
-is_part c =
-    let s : FitsSigned w64 c.args.share = c.ranges.share in
-    let s' : FitsSigned w128 c.args.share = search rules in
-    let x : FitsSigned w128 c.args.x = c.ranges.x in
-    let product : FitsSigned w128 (c.args.share *ℤ c.args.x) = fits_signed_mul w128 c.args.share c.args.x (10 ^ 12) (10 ^ 26) c.requires.share c.requires.x (lit< tt) in
-    simp to_z-of_z at c.near.ensures.value
+is_part c = c.near.ensures.value ∙ ap (λ z. near z PICO) (product c.ranges.share c.ranges.x c.requires.share c.requires.x (omega arith)).is
 
 small : (c : goal.After-near) → unsigned_abs c.near.result ≤ unsigned_abs c.args.x
 small c =

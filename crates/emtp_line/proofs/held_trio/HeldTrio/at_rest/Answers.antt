@@ -1,4 +1,4 @@
-use Rattle.std.proofs.Common.{◌≡◌, ◌∙◌, refl, ℤ, FitsSigned, rules}
+use Rattle.std.proofs.Common.{◌≡◌, ◌∙◌, ap, refl, ℤ, FitsSigned, rules}
 use mir.Syntax.{w64}
 use Rattle.std.proofs.lemmas.Int.{to_z-of_z}
 use Rattle.emtp_case.specs.declared.branch.Trio.{Trio}
@@ -22,5 +22,8 @@ returns c =
     let m : FitsSigned w64 c.mutual_conductance.result = search rules in
     let own = simp to_z-of_z at c.own_conductance.ensures.value in
     let coupling = simp to_z-of_z at c.mutual_conductance.ensures.value in
+    let first = ap (λ (p : HeldLine × HeldLine × HeldLine). p.0) c.in_ok-first.ensures in
+    let second = ap (λ (p : HeldLine × HeldLine × HeldLine). p.1) c.in_ok-first.ensures in
+    let third = ap (λ (p : HeldLine × HeldLine × HeldLine). p.2) c.in_ok-first.ensures in
     gathered c.args.run.now.dt c.args.trio.now c.mode_of_trio-zero.result c.mode_of_trio-positive.result _ _ _ _ _ _ c.mode_of_trio-zero.ensures.value c.mode_of_trio-positive.ensures.value
-    (to_z-of_z w64 c.own_conductance.result o ∙ own) (to_z-of_z w64 c.mutual_conductance.result m ∙ coupling) c.in_ok-at_rest.ensures c.in_ok-at_rest-2.ensures c.in_ok-at_rest-3.ensures c.in_ok-at_rest-4.ensures
+    (to_z-of_z w64 c.own_conductance.result o ∙ own) (to_z-of_z w64 c.mutual_conductance.result m ∙ coupling) c.in_ok-zero_sequence.ensures first second third

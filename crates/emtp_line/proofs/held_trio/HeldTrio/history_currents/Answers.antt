@@ -19,3 +19,21 @@ returns-clause-value c =
   where
     pair : {a b a' b' : ℤ} → a ≡ a' → b ≡ b' → ◌≡◌ {A = ℤ × ℤ} (a, b) (a', b')
     pair p q = rw (p, q) refl
+
+pub overflow_add-result : goal.overflow_add-result
+overflow_add-result c = omega (arith, ints, c.requires.held.zero_sequence.from_small, c.history_currents-from.ensures.from_bound)
+
+pub overflow_add-result-2 : goal.overflow_add-result-2
+overflow_add-result-2 c = omega (arith, ints, c.requires.held.zero_sequence.to_small, c.history_currents-from.ensures.to_bound)
+
+pub returns-clause-from_bound : goal.returns-clause-from_bound
+returns-clause-from_bound c =
+    let is = ap (λ (p : ℤ × ℤ). p.0) (returns-clause-value c) in
+    let h = phase_fits c.args.self.now c.args.phase c.requires.held c.requires.phase in
+    omega (arith, ints, is, c.requires.held.zero_sequence.from_small, h.waves.from_small)
+
+pub returns-clause-to_bound : goal.returns-clause-to_bound
+returns-clause-to_bound c =
+    let is = ap (λ (p : ℤ × ℤ). p.1) (returns-clause-value c) in
+    let h = phase_fits c.args.self.now c.args.phase c.requires.held c.requires.phase in
+    omega (arith, ints, is, c.requires.held.zero_sequence.to_small, h.waves.to_small)
