@@ -11,3 +11,6 @@ store_next-requires-clause-finished c =
 
 pub returns-clause-added : goal.returns-clause-added
 returns-clause-added c = adds_row _ _ _ (grind (arith, common_steps))
+
+pub invariant_of-self : goal.invariant_of-self
+invariant_of-self c = grind (arith, common_steps)
