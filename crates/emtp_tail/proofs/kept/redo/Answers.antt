@@ -47,3 +47,8 @@ returns-in-Err-clause-kept g c =
     kept_redone rows i _ c.eliminate_row.new.work c.eliminate_row.new.done c.finished_rows_stay.ensures was.few (omega arith)
     (rw c.size-size.ensures.size (length-put_row (length rows) i c.loop-i.given c.copy_from_slice.new.self (omega (arith, was.room)) same_row ∙ was.room))
     (omega (arith, was.room_work)) (returns-in-Err-clause-prefix g c)
+
+pub returns-clause-kept : goal.returns-clause-kept
+returns-clause-kept g c =
+    let was = c.loop-i.invariant in
+    kept_redone _ _ _ _ _ c.finished_rows_stay.ensures was.few (omega (arith, c.size-size.ensures.size)) was.room was.room_work was.redone
