@@ -1,7 +1,7 @@
-use Rattle.std.proofs.Common.{sym, subst, FitsSigned, arith}
+use Rattle.std.proofs.Common.{sym, subst, FitsSigned, arith, rules}
 use mir.Syntax.{w32, w64}
 use Rattle.std.proofs.lemmas.Int.{to_z-of_z}
-use Rattle.emtp_pseudo.specs.Segment.{IsSound}
+use Rattle.emtp_pseudo.specs.Segment.{IsSound, segment_of}
 use Rattle.emtp_pseudo.proofs.Segments.{made_sound, mirrored_sound}
 use Rattle.emtp_pseudo.proofs.segment.Segment.of.Goals as goal
 
@@ -30,3 +30,11 @@ returns-else-k-lt0-clause-sound c =
     let at = simp to_z-of_z at c.unsigned_abs.ensures.value in
     let is = simp to_z-of_z at c.outward-outward.ensures in
     made_sound c.args.reactor c.args.dt c.args.points.now _ c.outward-outward.result c.requires.dt c.requires.points (omega (arith, at, c.requires.within)) is
+
+pub returns-then-k-lt0-clause-value : goal.returns-then-k-lt0-clause-value
+unfolding segment_of
+returns-then-k-lt0-clause-value c = search rules
+
+pub returns-else-k-lt0-clause-value : goal.returns-else-k-lt0-clause-value
+unfolding segment_of
+returns-else-k-lt0-clause-value c = search rules
