@@ -42,8 +42,8 @@ fn redone<L: Ledger>(kept: &mut Kept, rows: &Table, steps: &mut Steps<L>) -> Res
     kept.update(rows, steps)
 }
 
-/// Five changes of one matrix, and what each redoes.
-fn five_updates<L: Ledger>(rt: &impl Abort, alloc: Global, blank: Blank)
+/// Five changes of one matrix, and whether each redoes what it should.
+fn five_updates<L: Ledger>(rt: &impl Abort, alloc: Global, blank: Blank) -> bool
     requires name { blank.name ≡ L.name }
     requires parts { blank.parts ≡ L.parts }
     requires some { 0 < blank.parts }
@@ -53,30 +53,31 @@ fn five_updates<L: Ledger>(rt: &impl Abort, alloc: Global, blank: Blank)
     let broken = filled(alloc, 3, 1, &MIDDLE_GONE).expect(rt, "memory");
     let mut steps = Steps::<L>::new(blank);
     let mut kept = Kept::open(alloc, &first).expect(rt, "memory");
-    changes(rt, &mut kept, &first, &second, &broken, &mut steps);
+    changes(&mut kept, &first, &second, &broken, &mut steps)
 }
 
 fn changes<L: Ledger>(
-    rt: &impl Abort,
     kept: &mut Kept,
     first: &Table,
     second: &Table,
     broken: &Table,
     steps: &mut Steps<L>,
-)
+) -> bool
     requires size { kept.old.size ≡ 3 }
     requires first { first.now.size ≡ 3 }
     requires second { second.now.size ≡ 3 }
     requires broken { broken.now.size ≡ 3 }
 {
-    assert!(rt; kept.size() == 3 && kept.good() == 0 && first.fixed() == 1);
-    assert!(rt; redone(kept, first, steps) == Ok(0) && kept.good() == 3);
-    assert!(rt; redone(kept, first, steps) == Ok(3) && kept.good() == 3);
-    assert!(rt; redone(kept, second, steps) == Ok(2) && kept.good() == 3);
-    assert!(rt; divides(kept));
-    assert!(rt; redone(kept, broken, steps) == Err(MIDDLE_FAULT) && kept.good() == 1);
-    assert!(rt; redone(kept, second, steps) == Ok(1) && kept.good() == 3);
-    assert!(rt; divides(kept));
+    kept.size() == 3
+        && kept.good() == 0
+        && first.fixed() == 1
+        && (redone(kept, first, steps), kept.good()) == (Ok(0), 3)
+        && (redone(kept, first, steps), kept.good()) == (Ok(3), 3)
+        && (redone(kept, second, steps), kept.good()) == (Ok(2), 3)
+        && divides(kept)
+        && (redone(kept, broken, steps), kept.good()) == (Err(MIDDLE_FAULT), 1)
+        && (redone(kept, second, steps), kept.good()) == (Ok(1), 3)
+        && divides(kept)
 }
 
 fn divides(kept: &Kept) -> bool {
@@ -90,7 +91,7 @@ fn divides(kept: &Kept) -> bool {
 
 #[test]
 fn redoes_from_the_first_change(rt: HostRuntime) {
-    five_updates::<Brand>(&rt, rt.alloc(), Blank::new(1));
+    assert!(rt; five_updates::<Brand>(&rt, rt.alloc(), Blank::new(1)));
 }
 
 /// Matrices of three rows, each followed by one that changes it early or late, mends it or breaks it.
@@ -159,19 +160,18 @@ fn side_by_side<L: Ledger>(rt: &impl Abort, alloc: Global, blank: Blank)
     let first = filled(alloc, 3, 0, &CHANGES[0]).expect(rt, "memory");
     let mut kept = Kept::open(alloc, &first).expect(rt, "memory");
     for k in 0..12 {
-        let is_right = agree(rt, alloc, &mut kept, &CHANGES[k], &mut steps);
-        assert!(rt; is_right, "at {k}");
+        agree(rt, alloc, &mut kept, &CHANGES[k], &mut steps);
     }
 }
 
-/// Whether the kept factor and plain elimination answer the same.
+/// The kept factor and plain elimination answer the same.
 fn agree<L: Ledger>(
     rt: &impl Abort,
     alloc: Global,
     kept: &mut Kept,
     cells: &[i64; 9],
     steps: &mut Steps<L>,
-) -> bool
+)
     requires { kept.old.size ≡ 3 }
     ensures { kept.new.size ≡ 3 }
 {
@@ -182,7 +182,11 @@ fn agree<L: Ledger>(
     let mut right = currents;
     let mut x = [0; 3];
     let answer = solved(kept, &rows, &mut right, &mut x, steps).map_err(named);
-    plain == answer && (answer.is_err() || x == expected)
+    drop(rows);
+    assert!(rt;
+        plain == answer && (answer.is_err() || x == expected),
+        "at {cells:?}"
+    );
 }
 
 #[test]
