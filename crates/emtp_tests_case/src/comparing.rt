@@ -1,70 +1,76 @@
-//! Records compared with what they should be. Each call stops the test where something differs.
+//! Whether records are what they should be.
 
 use emtp_case::{Block, Case, Extra, Formula, Name, order};
 use std::alloc::{AllocError, Global};
-use std::process::Abort;
 
-/// The channels have these names, and no others.
-pub fn channels_are_named(rt: &impl Abort, case: &Case, names: &[&str]) {
-    let channels = case.parts.channels.len();
-    assert!(rt; channels == names.len());
-    for channel in 0..channels {
+/// Whether the channels have these names, and no others.
+pub fn channels_are_named(case: &Case, names: &[&str]) -> bool {
+    if case.parts.channels.len() != names.len() {
+        return false;
+    }
+    for channel in 0..names.len() {
         let mut out = [0u8; 16];
         let length = case.channel_name(channel, &mut out);
-        assert!(rt; &out[..length] == names[channel].as_bytes());
+        if &out[..length] != names[channel].as_bytes() {
+            return false;
+        }
     }
+    true
 }
 
-/// The rows are those of these nodes, in this order, and so many of them have a known voltage.
-pub fn rows_are(
-    rt: &impl Abort,
-    alloc: Global,
-    case: &Case,
-    fixed: usize,
-    nodes: &[u32],
-) -> Result<(), AllocError> {
-    let rows = order(alloc, case)?;
-    assert!(rt; case.parts.nodes.len() == nodes.len() && rows.fixed() == fixed);
+/// Whether the case answers the number of each of these nodes, which are all it has, and none for other names.
+pub fn nodes_are(case: &Case, nodes: &[&str], others: &[&str]) -> bool {
+    case.parts.nodes.len() == nodes.len()
+        && nodes
+            .iter()
+            .zip(1..=1_000)
+            .all(|(name, number)| case.node(name) == Some(number))
+        && others.iter().all(|name| case.node(name).is_none())
+}
+
+/// Whether the rows are those of these nodes, in this order, and so many of them have a known voltage.
+pub fn rows_are(alloc: Global, case: &Case, fixed: usize, nodes: &[u32]) -> bool {
+    let Ok(rows) = order(alloc, case) else {
+        return false;
+    };
+    let count = case.parts.nodes.len();
+    let mut are = count == nodes.len() && rows.fixed() == fixed;
     for (row, node) in nodes.iter().enumerate() {
-        assert!(rt; 1 <= *node && *node as usize <= nodes.len());
-        assert!(rt;
-            rows.node_at(row) == *node && rows.row_of(*node) == row,
-            "row {row}"
-        );
+        are = are && row < count && rows.node_at(row) == *node && rows.row_of(*node) == row;
     }
-    Ok(())
+    drop(rows);
+    are
 }
 
-/// The names are these, in this order.
-pub fn names_are(rt: &impl Abort, names: &[Name], texts: &[&str]) {
-    assert!(rt; names.len() == texts.len());
-    for at in 0..names.len() {
-        assert!(rt; names[at].as_slice() == texts[at].as_bytes());
-    }
+/// Whether the names are these, in this order.
+pub fn names_are(names: &[Name], texts: &[&str]) -> bool {
+    names.len() == texts.len()
+        && names
+            .iter()
+            .zip(texts)
+            .all(|(name, text)| name.as_slice() == text.as_bytes())
 }
 
-/// The block is this one.
-pub fn block_is(rt: &impl Abort, block: &Block, wanted: Block) {
-    assert!(rt; (block.line, block.var, block.order) == (wanted.line, wanted.var, wanted.order));
-    assert!(rt; block.inputs.as_slice() == wanted.inputs.as_slice());
-    assert!(rt; block.gain == wanted.gain);
-    assert!(rt; (block.top, block.bottom) == (wanted.top, wanted.bottom));
-    assert!(rt; (block.low, block.high) == (wanted.low, wanted.high));
-    drop(wanted);
+/// Whether the block is the one that was made.
+pub fn block_is(block: &Block, made: Result<Block, AllocError>) -> bool {
+    made.is_ok_and(|made| {
+        let inputs = block.inputs.as_slice() == made.inputs.as_slice();
+        inputs
+            & ((block.line, block.var, block.order) == (made.line, made.var, made.order))
+            & ((block.gain, block.top, block.bottom) == (made.gain, made.top, made.bottom))
+            & ((block.low, block.high) == (made.low, made.high))
+    })
 }
 
-/// The card is this formula.
-pub fn formula_is(rt: &impl Abort, extra: &Extra, wanted: Formula) {
-    match extra {
-        Extra::Formula(formula) => fields_are(rt, formula, &wanted),
-        Extra::Device(_) => assert!(rt; false),
-    }
-    drop(wanted);
-}
-
-fn fields_are(rt: &impl Abort, formula: &Formula, wanted: &Formula) {
-    assert!(rt; (formula.line, formula.var) == (wanted.line, wanted.var));
-    assert!(rt; formula.group == wanted.group);
-    assert!(rt; formula.vars.as_slice() == wanted.vars.as_slice());
-    assert!(rt; formula.expr.as_slice() == wanted.expr.as_slice());
+/// Whether the card is the formula that was made.
+pub fn formula_is(extra: &Extra, made: Result<Formula, AllocError>) -> bool {
+    let Extra::Formula(formula) = extra else {
+        return false;
+    };
+    made.is_ok_and(|made| {
+        let vars = formula.vars.as_slice() == made.vars.as_slice();
+        let expr = formula.expr.as_slice() == made.expr.as_slice();
+        vars & expr
+            & ((formula.line, formula.var, formula.group) == (made.line, made.var, made.group))
+    })
 }

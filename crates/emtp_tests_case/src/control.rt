@@ -1,7 +1,7 @@
 //! A control with each kind of source, block and supplemental card.
 
 ghost use Rattle.emtp_tests_case.specs.declared.fixtures.TheConstants.{RUN};
-ghost use Rattle.std.specs.Prelude.{◌≡◌, ◌<◌, ◌≤◌, IsSome, IsTrue, length, true, IfOk, OnOk};
+ghost use Rattle.std.specs.Prelude.{◌≡◌, ◌<◌, ◌≤◌, IsSome, IsTrue, length, true, IfOk};
 ghost use Rattle.std.specs.Option.{ForSome};
 ghost use Rattle.emtp_case.specs.Control.{AreTimes, HasRangeOfA, IsBlock, IsDeviceCard, IsFormula, IsTable, needs_d};
 ghost use Rattle.emtp_case.specs.HistoryValues.{history_values_of};
@@ -17,7 +17,6 @@ use emtp_case::{
     Items, Node, Parts, Point, Shape, Source, SwitchKind, UnaryOp,
 };
 use std::alloc::{AllocError, Global};
-use std::process::Abort;
 use std::test::Fail;
 
 /// The names of the control's own variables.
@@ -207,37 +206,20 @@ fn add_blocks(alloc: Global, draft: &mut Draft) -> Result<bool, AllocError> {
     Ok(true)
 }
 
-/// Adds a table of points.
-fn add_table(alloc: Global, draft: &mut Draft) -> Result<bool, AllocError>
+/// Adds a table of points, a switch by times and a delay of three steps.
+fn add_devices(alloc: Global, draft: &mut Draft) -> Result<bool, AllocError>
     requires history { history_values_of draft.old.parts ≡ 0 }
-    ensures { OnOk result (history_values_of draft.new.parts ≡ 0) }
 {
     if !takes_cards(&draft.parts) {
         return Ok(false);
     }
     let table = device(alloc, 41, 15, DeviceCode::Table, 0, None)?;
     draft.add_device(table, &table_points())?;
-    Ok(true)
-}
-
-/// Adds a switch by times.
-fn add_timer(alloc: Global, draft: &mut Draft) -> Result<bool, AllocError>
-    requires history { history_values_of draft.old.parts ≡ 0 }
-    ensures { OnOk result (history_values_of draft.new.parts ≡ 0) }
-{
     if !takes_cards(&draft.parts) {
         return Ok(false);
     }
     let timer = device(alloc, 42, 16, DeviceCode::Window, 0, None)?;
     draft.add_device(timer, &closed_times())?;
-    Ok(true)
-}
-
-/// Adds a delay of three steps.
-#[tactic(auto, unfolding(emtp_fix::specs::Rounding::near, emtp_fix::specs::Rounding::near_abs))]
-fn add_delay(alloc: Global, draft: &mut Draft) -> Result<bool, AllocError>
-    requires history { history_values_of draft.old.parts ≡ 0 }
-{
     if !takes_cards(&draft.parts) {
         return Ok(false);
     }
@@ -253,17 +235,16 @@ fn add_others(alloc: Global, draft: &mut Draft) -> Result<bool, AllocError> {
     }
     let memory = device(alloc, 44, 18, DeviceCode::Selector, 0, Some(6))?;
     draft.add_device(memory, &[])?;
+    if !takes_cards(&draft.parts) {
+        return Ok(false);
+    }
     draft.add_formula(formula(alloc)?)?;
     Ok(true)
 }
 
 fn add_cards(alloc: Global, draft: &mut Draft) -> Result<bool, AllocError> {
-    if !has_no_history(&draft.parts) {
-        return Ok(false);
-    }
-    let all = add_table(alloc, draft)?
-        && add_timer(alloc, draft)?
-        && add_delay(alloc, draft)?
+    let all = has_no_history(&draft.parts)
+        && add_devices(alloc, draft)?
         && add_others(alloc, draft)?;
     Ok(all)
 }
@@ -285,64 +266,65 @@ fn control(alloc: Global) -> Result<Option<Case>, AllocError> {
     case_of(draft, filled)
 }
 
+fn has_signals(parts: &Parts) -> bool {
+    let meter = switch(11, 1, 2, SwitchKind::Measuring);
+    parts.run == RUN
+        && parts.tacs_sources.as_slice() == signals().as_slice()
+        && parts.switches.as_slice() == [meter].as_slice()
+}
+
 #[test]
 fn reads_back_its_signals(rt: HostRuntime) -> Result<(), Fail> {
     let case = control(rt.alloc())?.ok_or("a record doesn't fit")?;
-    let parts = &case.parts;
-    assert!(rt; parts.tacs_sources.as_slice() == signals().as_slice());
-    let meter = switch(11, 1, 2, SwitchKind::Measuring);
-    assert!(rt; parts.run == RUN && parts.switches.as_slice() == [meter].as_slice());
+    let are_back = has_signals(&case.parts);
     drop(case);
+    assert!(rt; are_back);
     Ok(())
 }
 
 /// Of a device the line, the variable, the code, the number A and the variable D.
 type Card = (u32, u32, DeviceCode, i64, Option<u32>);
 
-/// The card is this device, with so many points from a place on.
-fn device_is(rt: &impl Abort, extra: &Extra, card: Card, first: u32, count: u32) {
-    let Extra::Device(device) = extra else {
-        assert!(rt; false);
-        return;
-    };
-    assert!(rt; (device.line, device.var, device.code, device.a, device.d) == card);
-    assert!(rt;
-        device.group == Group::Inside && device.inputs.as_slice() == [input!(14, true)].as_slice()
-    );
-    assert!(rt; (device.b, device.c, device.e) == (0, 0, Some(7)));
-    assert!(rt; (device.first, device.count) == (first, count));
+/// Whether the card is this device, with so many points from a place on.
+fn device_is(extra: &Extra, card: Card, first: u32, count: u32) -> bool {
+    match extra {
+        Extra::Device(device) => {
+            (device.line, device.var, device.code, device.a, device.d) == card
+                && device.group == Group::Inside
+                && device.inputs.as_slice() == [input!(14, true)].as_slice()
+                && (device.b, device.c, device.e) == (0, 0, Some(7))
+                && (device.first, device.count) == (first, count)
+        }
+        Extra::Formula(_) => false,
+    }
 }
 
-/// The blocks and the supplemental cards are read back, the devices with the places of their points.
-fn cards_are_back(rt: &impl Abort, alloc: Global, parts: &Parts) -> Result<(), AllocError> {
+/// Whether the blocks and the supplemental cards are read back, the devices with their points and the places of these.
+fn cards_are_back(alloc: Global, parts: &Parts) -> bool {
     let blocks = parts.blocks.as_slice();
     let extras = parts.extras.as_slice();
-    assert!(rt; blocks.len() == 2 && extras.len() == 5);
-    block_is(rt, &blocks[0], doubler(alloc)?);
-    block_is(rt, &blocks[1], lag(alloc)?);
-    device_is(rt, &extras[0], (41, 15, DeviceCode::Table, 0, None), 0, 2);
-    device_is(rt, &extras[1], (42, 16, DeviceCode::Window, 0, None), 2, 2);
-    let delay = (43, 17, DeviceCode::Delay, 300_000_000, None);
-    device_is(rt, &extras[2], delay, 4, 0);
-    let memory = (44, 18, DeviceCode::Selector, 0, Some(6));
-    device_is(rt, &extras[3], memory, 4, 0);
-    formula_is(rt, &extras[4], formula(alloc)?);
-    Ok(())
-}
-
-#[test]
-fn reads_back_its_blocks_and_devices(rt: HostRuntime) -> Result<(), Fail> {
-    let alloc = rt.alloc();
-    let case = control(alloc)?.ok_or("a record doesn't fit")?;
-    let parts = &case.parts;
-    names_are(&rt, parts.nodes.as_slice(), &["SRC", "MID"]);
-    assert!(rt; parts.vars.len() == 20);
-    names_are(&rt, &parts.vars.as_slice()[..6], &STANDING);
-    names_are(&rt, &parts.vars.as_slice()[6..], &OWN);
     let [a, b] = table_points();
     let [c, d] = closed_times();
-    assert!(rt; parts.points.as_slice() == [a, b, c, d].as_slice());
-    let names = [
+    if blocks.len() != 2 || extras.len() != 5 {
+        return false;
+    }
+    let delay = (43, 17, DeviceCode::Delay, 300_000_000, None);
+    let memory = (44, 18, DeviceCode::Selector, 0, Some(6));
+    block_is(&blocks[0], doubler(alloc))
+        && block_is(&blocks[1], lag(alloc))
+        && device_is(&extras[0], (41, 15, DeviceCode::Table, 0, None), 0, 2)
+        && device_is(&extras[1], (42, 16, DeviceCode::Window, 0, None), 2, 2)
+        && device_is(&extras[2], delay, 4, 0)
+        && device_is(&extras[3], memory, 4, 0)
+        && formula_is(&extras[4], formula(alloc))
+        && parts.points.as_slice() == [a, b, c, d].as_slice()
+}
+
+/// Whether the nodes, the variables and the channels have their names.
+fn has_names(case: &Case) -> bool {
+    let parts = &case.parts;
+    let vars = parts.vars.as_slice();
+    let channels = [
         "V SRC",
         "I SRC-MID",
         "U SRC-MID",
@@ -350,9 +332,19 @@ fn reads_back_its_blocks_and_devices(rt: HostRuntime) -> Result<(), Fail> {
         "T LAG",
         "S SRC-MID",
     ];
-    channels_are_named(&rt, &case, &names);
-    let checked = cards_are_back(&rt, alloc, parts);
+    vars.len() == 20
+        && names_are(&vars[..6], &STANDING)
+        && names_are(&vars[6..], &OWN)
+        && names_are(parts.nodes.as_slice(), &["SRC", "MID"])
+        && channels_are_named(case, &channels)
+}
+
+#[test]
+fn reads_back_its_blocks_and_devices(rt: HostRuntime) -> Result<(), Fail> {
+    let case = control(rt.alloc())?.ok_or("a record doesn't fit")?;
+    let named = has_names(&case);
+    let are_back = cards_are_back(rt.alloc(), &case.parts);
     drop(case);
-    checked?;
+    assert!(rt; named && are_back);
     Ok(())
 }

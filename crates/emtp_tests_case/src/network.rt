@@ -6,7 +6,7 @@ ghost use Rattle.emtp_case.specs.Branch.{HasSeriesNumbers, IsCharacteristic, IsL
 ghost use Rattle.emtp_case.specs.HistoryValues.{branch_history_values, history_values_of, trio_history_values};
 ghost use Rattle.emtp_case.specs.Sizes.{sizes_with};
 
-use crate::comparing::{channels_are_named, names_are, rows_are};
+use crate::comparing::{channels_are_named, names_are, nodes_are, rows_are};
 use crate::filling::{
     add_channels, add_nodes, add_sources, add_switches, case_of, has_no_history, takes_branches,
 };
@@ -16,7 +16,6 @@ use emtp_case::{
     SwitchKind, Trio,
 };
 use std::alloc::{AllocError, Global};
-use std::process::Abort;
 use std::test::Fail;
 
 /// A series branch, by its line, its ends and its three numbers.
@@ -79,11 +78,11 @@ fn divider(alloc: Global) -> Result<Option<Case>, AllocError> {
 fn network_of_resistors(rt: HostRuntime) -> Result<(), Fail> {
     let case = divider(rt.alloc())?.ok_or("a record doesn't fit")?;
     let names = ["V MID", "I SRC-MID", "U SRC-MID", "I MID-0"];
-    channels_are_named(&rt, &case, &names);
-    assert!(rt; case.node("MID") == Some(2) && case.node("MI").is_none());
-    let checked = rows_are(&rt, rt.alloc(), &case, 1, &[1, 2]);
+    let named = channels_are_named(&case, &names);
+    let numbered = nodes_are(&case, &["SRC", "MID"], &["MI"]);
+    let ordered = rows_are(rt.alloc(), &case, 1, &[1, 2]);
     drop(case);
-    checked?;
+    assert!(rt; named && numbered && ordered);
     Ok(())
 }
 
@@ -284,75 +283,77 @@ fn network(alloc: Global) -> Result<Option<Case>, AllocError> {
     case_of(draft, filled)
 }
 
-/// Each branch answers its nodes and its line.
-fn places_are(rt: &impl Abort, branches: &[Branch]) {
-    let from = [1, 2, 2, 4, 6, 8, 5, 11, 12];
-    let to = [2, 3, 0, 5, 7, 9, 10, 0, 0];
-    let line = [11, 12, 13, 15, 16, 17, 14, 18, 19];
-    assert!(rt; branches.len() == 9);
-    for at in 0..branches.len() {
-        assert!(rt; branches[at].ends() == (from[at], to[at]));
-        assert!(rt; branches[at].line() == line[at]);
-    }
+/// Whether the branches are these, with the places that the draft set, and answer their lines and nodes.
+fn has_branches(case: &Case) -> bool {
+    let wanted = [
+        (11, (1, 2), Branch::Lumped(ohm(11, 1, 2))),
+        (12, (2, 3), Branch::Lumped(coil())),
+        (13, (2, 0), Branch::Lumped(capacitor())),
+        (15, (4, 5), Branch::Phase(phase(15, 4, 5, 0, 0))),
+        (16, (6, 7), Branch::Phase(phase(16, 6, 7, 0, 1))),
+        (17, (8, 9), Branch::Phase(phase(17, 8, 9, 0, 2))),
+        (14, (5, 10), Branch::Line(line())),
+        (18, (11, 0), Branch::Pseudo(pseudo(18, 11, false, 0, 2))),
+        (19, (12, 0), Branch::Pseudo(pseudo(19, 12, true, 2, 3))),
+    ];
+    let [a, b] = arrester_points();
+    let [c, d, e] = reactor_points();
+    let parts = &case.parts;
+    let branches = parts.branches.as_slice();
+    parts.run == RUN
+        && branches.len() == wanted.len()
+        && branches.iter().zip(wanted).all(|(branch, wanted)| (
+            branch.line(),
+            branch.ends(),
+            *branch,
+        ) == wanted)
+        && parts.trios.as_slice() == [modes(3)].as_slice()
+        && parts.points.as_slice() == [a, b, c, d, e].as_slice()
 }
 
 #[test]
 fn reads_back_its_branches(rt: HostRuntime) -> Result<(), Fail> {
     let case = network(rt.alloc())?.ok_or("a record doesn't fit")?;
-    let parts = &case.parts;
-    assert!(rt; parts.run == RUN);
-    // The draft set the places.
-    let branches = [
-        Branch::Lumped(ohm(11, 1, 2)),
-        Branch::Lumped(coil()),
-        Branch::Lumped(capacitor()),
-        Branch::Phase(phase(15, 4, 5, 0, 0)),
-        Branch::Phase(phase(16, 6, 7, 0, 1)),
-        Branch::Phase(phase(17, 8, 9, 0, 2)),
-        Branch::Line(line()),
-        Branch::Pseudo(pseudo(18, 11, false, 0, 2)),
-        Branch::Pseudo(pseudo(19, 12, true, 2, 3)),
-    ];
-    assert!(rt; parts.branches.as_slice() == branches.as_slice());
-    places_are(&rt, parts.branches.as_slice());
-    assert!(rt; parts.trios.as_slice() == [modes(3)].as_slice());
-    let [a, b] = arrester_points();
-    let [c, d, e] = reactor_points();
-    assert!(rt; parts.points.as_slice() == [a, b, c, d, e].as_slice());
+    let are_back = has_branches(&case);
     drop(case);
+    assert!(rt; are_back);
     Ok(())
+}
+
+/// Whether the tables without branches are these, and the variables and channels have their names.
+fn has_tables(case: &Case) -> bool {
+    let parts = &case.parts;
+    let names = [
+        "V END", "I A2-END", "U ARR-0", "I B2-C2", "U 0-C2", "T PLUS1", "S A1-0",
+    ];
+    parts.switches.as_slice() == switches().as_slice()
+        && parts.sources.as_slice() == sources().as_slice()
+        && parts.channels.as_slice() == CHANNELS.as_slice()
+        && channels_are_named(case, &names)
+        && names_are(parts.vars.as_slice(), &STANDING)
+        && parts.tacs_sources.is_empty()
+        && parts.blocks.is_empty()
+        && parts.extras.is_empty()
 }
 
 #[test]
 fn reads_back_its_switches_and_sources(rt: HostRuntime) -> Result<(), Fail> {
     let case = network(rt.alloc())?.ok_or("a record doesn't fit")?;
-    let parts = &case.parts;
-    assert!(rt; parts.switches.as_slice() == switches().as_slice());
-    assert!(rt; parts.sources.as_slice() == sources().as_slice());
-    assert!(rt; parts.channels.as_slice() == CHANNELS.as_slice());
-    let names = [
-        "V END", "I A2-END", "U ARR-0", "I B2-C2", "U 0-C2", "T PLUS1", "S A1-0",
-    ];
-    channels_are_named(&rt, &case, &names);
-    assert!(rt; parts.tacs_sources.is_empty() && parts.blocks.is_empty());
-    assert!(rt; parts.extras.is_empty());
-    names_are(&rt, parts.vars.as_slice(), &STANDING);
+    let are_back = has_tables(&case);
     drop(case);
+    assert!(rt; are_back);
     Ok(())
 }
 
 #[test]
 fn orders_its_rows(rt: HostRuntime) -> Result<(), Fail> {
     let case = network(rt.alloc())?.ok_or("a record doesn't fit")?;
-    for (at, name) in NODES.iter().enumerate() {
-        assert!(rt; case.node(name) == Some(at as u32 + 1), "{name}");
-    }
-    assert!(rt; case.node("A").is_none() && case.node("").is_none() && case.node("0").is_none());
+    let numbered = nodes_are(&case, &NODES, &["A", "", "0"]);
     // Sources at SRC, A1, B1 and C1; plain FAR and END with one end, A2 with two, MID with three; the others touch a
     // switch or a pseudo-nonlinear branch.
     let nodes = [1, 4, 6, 8, 3, 10, 5, 2, 7, 9, 11, 12];
-    let checked = rows_are(&rt, rt.alloc(), &case, 4, &nodes);
+    let ordered = rows_are(rt.alloc(), &case, 4, &nodes);
     drop(case);
-    checked?;
+    assert!(rt; numbered && ordered);
     Ok(())
 }

@@ -8,7 +8,6 @@ use emtp_case::{
     capacitor_impedance, inductor_impedance, line_impedance, series_impedance, slope,
 };
 use std::alloc::Global;
-use std::test::Fail;
 
 /// Points at 1 A and 100 V, or 1 A and 100 Wb, in nA and nV or pWb.
 const NEAR: Point = point!(1_000_000_000, 100_000_000_000);
@@ -16,7 +15,7 @@ const NEAR: Point = point!(1_000_000_000, 100_000_000_000);
 const FAR: Point = point!(4_000_000_000, 250_000_000_000);
 
 #[test]
-fn impedances_of_a_step(rt: HostRuntime) -> Result<(), Fail> {
+fn impedances_of_a_step(rt: HostRuntime) {
     let dt = RUN.dt;
     // 2 * 1 mH over 100 microseconds are 20 ohm; 100 microseconds over 2 * 1 microfarad are 50 ohm.
     assert!(rt; inductor_impedance(dt, 1_000_000) == 20_000_000);
@@ -29,15 +28,13 @@ fn impedances_of_a_step(rt: HostRuntime) -> Result<(), Fail> {
     // A quarter of 6 micro-ohm is rounded away from zero.
     assert!(rt; line_impedance(300_000_000, 4_000_000) == 301_000_000);
     assert!(rt; line_impedance(10, 6) == 12);
-    Ok(())
 }
 
 #[test]
-fn slopes_of_segments(rt: HostRuntime) -> Result<(), Fail> {
+fn slopes_of_segments(rt: HostRuntime) {
     // 150 V over 3 A are 50 ohm; 3 A over 150 mWb at 50 microseconds are 0.001 S.
     assert!(rt; slope(false, RUN.dt, NEAR, FAR) == 50_000_000);
     assert!(rt; slope(true, RUN.dt, NEAR, FAR) == 1_000_000_000);
-    Ok(())
 }
 
 const REACTOR: Pseudo = Pseudo {
@@ -50,7 +47,7 @@ const REACTOR: Pseudo = Pseudo {
 };
 
 #[test]
-fn history_values_of_lines(rt: HostRuntime) -> Result<(), Fail> {
+fn history_values_of_lines(rt: HostRuntime) {
     let modes = Trio {
         first: 0,
         zc: [500_000_000, 300_000_000],
@@ -71,7 +68,6 @@ fn history_values_of_lines(rt: HostRuntime) -> Result<(), Fail> {
     }
     assert!(rt; modes.history_values(RUN.dt) == 108);
     assert!(rt; Branch::Pseudo(REACTOR).history_values(RUN.dt) == 0);
-    Ok(())
 }
 
 /// How many past values a device of this code and this number A keeps.
@@ -96,7 +92,7 @@ fn kept(alloc: Global, code: DeviceCode, a: i64) -> u64
 }
 
 #[test]
-fn history_values_of_devices(rt: HostRuntime) -> Result<(), Fail> {
+fn history_values_of_devices(rt: HostRuntime) {
     let alloc = rt.alloc();
     // A delay keeps the steps that come nearest and one more; 60 Hz have 166.7 steps of 100 microseconds, 1 MHz none.
     assert!(rt; kept(alloc, DeviceCode::Delay, 349_999_999) == 4);
@@ -104,11 +100,10 @@ fn history_values_of_devices(rt: HostRuntime) -> Result<(), Fail> {
     assert!(rt; kept(alloc, DeviceCode::EffectiveValue, 60_000_000) == 167);
     assert!(rt; kept(alloc, DeviceCode::EffectiveValue, 1_000_000_000_000) == 1);
     assert!(rt; kept(alloc, DeviceCode::Integral, -5) == 0);
-    Ok(())
 }
 
 #[test]
-fn samples_of_runs(rt: HostRuntime) -> Result<(), Fail> {
+fn samples_of_runs(rt: HostRuntime) {
     // Record 0 and each every-th after it.
     for (steps, every, samples) in [(3, 1, 4), (3, 2, 2), (3, 4, 1), (1_000_000, 1, 1_000_001)] {
         let run = RunData {
@@ -119,5 +114,4 @@ fn samples_of_runs(rt: HostRuntime) -> Result<(), Fail> {
         assert!(rt; 1 <= run.every && run.steps <= 1_000_000);
         assert_eq!(rt; run.samples(), samples);
     }
-    Ok(())
 }
