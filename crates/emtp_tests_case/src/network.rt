@@ -302,11 +302,10 @@ fn has_branches(case: &Case) -> bool {
     let branches = parts.branches.as_slice();
     parts.run == RUN
         && branches.len() == wanted.len()
-        && branches.iter().zip(wanted).all(|(branch, wanted)| (
-            branch.line(),
-            branch.ends(),
-            *branch,
-        ) == wanted)
+        && branches.iter().zip(wanted).all(|(branch, wanted)| {
+            let read = (branch.line(), branch.ends(), *branch);
+            read == wanted
+        })
         && parts.trios.as_slice() == [modes(3)].as_slice()
         && parts.points.as_slice() == [a, b, c, d, e].as_slice()
 }
