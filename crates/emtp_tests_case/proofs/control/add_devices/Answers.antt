@@ -1,4 +1,4 @@
-use Rattle.std.proofs.Common.{◌≡◌, arith, refl}
+use Rattle.std.proofs.Common.{◌≡◌, arith, refl, rules}
 use Rattle.emtp_fix.specs.Rounding.{near, near_abs}
 use Rattle.emtp_case.specs.Control.{IsDeviceCard}
 use Rattle.emtp_case.specs.Sizes.{Sizes}
@@ -29,6 +29,12 @@ add_device-requires-2-clause-card c = card_among _ _ (c.if-not-takes_cards-2.ens
 
 pub add_device-requires-3-clause-card : goal.add_device-requires-3-clause-card
 add_device-requires-3-clause-card c = card_among _ _ (c.if-not-takes_cards-3.ensures.vars refl) c.in_ok-delay.ensures.card
+
+pub add_device-requires-2-clause-points : goal.add_device-requires-2-clause-points
+add_device-requires-2-clause-points c = rw c.in_ok-timer.ensures.code (search rules)
+
+pub add_device-requires-3-clause-points : goal.add_device-requires-3-clause-points
+add_device-requires-3-clause-points c = rw c.in_ok-delay.ensures.code (search rules)
 
 -- A table and a switch by times keep no past values.
 pub add_device-requires-2-clause-history : goal.add_device-requires-2-clause-history
