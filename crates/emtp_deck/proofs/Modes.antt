@@ -1,5 +1,5 @@
 -- The numbers that a line's card gives, and how many history values they need.
-use Rattle.std.proofs.Common.{◌≡◌, refl, ℕ, ◌+◌, ◌*◌, ◌^◌, ◌<◌, ◌≤◌, ◌==◌, ◌≤ℤ◌, ℤ, pos, Bool, true, false, List, Option, Some, None, unwrap_or, arith, FitsSigned}
+use Rattle.std.proofs.Common.{◌≡◌, refl, ℕ, ◌+◌, ◌*◌, ◌^◌, ◌<◌, ◌≤◌, ◌==◌, ◌≤ℤ◌, ℤ, pos, Bool, true, false, List, Option, Some, None, unwrap_or, length, arith, FitsSigned}
 use mir.Syntax.{w64}
 use Rattle.std.specs.Prelude.{if◌then◌else◌, All, find, unsigned_abs}
 use Rattle.std.proofs.Math.Nat.{div-le_of_le-mul}
@@ -7,11 +7,12 @@ use Rattle.std.proofs.lemmas.Int.{ints}
 use Rattle.std.proofs.lemmas.Nat.{mul-le}
 use Rattle.emtp_case.specs.Branch.{HasLineNumbers, IsBranch, IsTrio}
 use Rattle.emtp_case.specs.HistoryValues.{travel_steps, trio_history_values}
+use Rattle.emtp_case.specs.Range.{AreEnds}
 use Rattle.emtp_case.specs.Sizes.{sizes_of}
 use Rattle.emtp_case.specs.declared.branch.Branch.{Branch}
 use Rattle.emtp_case.specs.declared.branch.Branch.TheVariants.{Line as OfLine, Lumped as OfLumped, Phase as OfPhase, Pseudo as OfPseudo}
 use Rattle.emtp_case.specs.declared.case.Parts.{Parts}
-use Rattle.emtp_deck.specs.Branches.{line_history, modes_of, no_numbers}
+use Rattle.emtp_deck.specs.Branches.{line_history, modes_of, moved, no_numbers}
 use Rattle.emtp_deck.specs.Copies.{IsEarlier, earlier_or_missing, is_like, line_numbers, missing_fault, mode_of_phase, no_trio, numbers_of_branch, numbers_of_card, type_of_pseudo, type_of_values, values_by}
 use Rattle.emtp_sense.specs.Names.{node_number}
 use Rattle.emtp_deck.specs.Sensible.{IsLineKind}
@@ -87,6 +88,13 @@ branch_numbered p values (OfLumped x) k trios h = absurd (no_lumped values k h.s
 branch_numbered p values (OfLine x) k trios h = record { is = refl; range = h.there.numbers }
 branch_numbered p values (OfPseudo x) k trios h = absurd (no_pseudo x.reactor values k h.same)
 branch_numbered p values (OfPhase x) k trios h = record { is = refl; range = trios x.trio no_trio h.there.trio (mode_of_phase x.phase) (mode_below (x.phase == 0)) }
+
+-- a branch with the values of an earlier one, between other nodes
+pub moved_fits : (p : Parts) (line a b : ℕ) (x : Branch) → All (IsTrio p.run) p.trios → AreEnds (length p.nodes) a b → IsBranch p.run (sizes_of p) p.points x → IsBranch p.run (sizes_of p) p.points (moved p.trios line a b x)
+moved_fits p line a b (OfLumped x) trios ends h = record { ends = ends; numbers = h.numbers }
+moved_fits p line a b (OfLine x) trios ends h = record { ends = ends; numbers = h.numbers }
+moved_fits p line a b (OfPseudo x) trios ends h = record { ends = ends; some = h.some; few = h.few; there = h.there; characteristic = h.characteristic }
+moved_fits p line a b (OfPhase x) trios ends h = record { ends = ends; numbers = trios x.trio no_trio h.trio (mode_of_phase x.phase) (mode_below (x.phase == 0)) }
 
 found_numbered : (p : Parts) (values : BranchValues) (a b : ℕ) (o : Option Branch) → IsLineKind (kind_of_values values) → All (IsTrio p.run) p.trios → All (IsBranch p.run (sizes_of p) p.points) p.branches → find (is_like (type_of_values values) a b) p.branches ≡ o → missing_fault (earlier_or_missing o) ≡ None
     → IsNumbered p.run.dt (line_numbers p.trios values (earlier_or_missing o))
