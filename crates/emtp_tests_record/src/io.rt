@@ -52,29 +52,46 @@ fn reads_and_writes_whole(rt: HostRuntime) -> Result<(), Fail> {
     Ok(())
 }
 
+/// What a cabinet is told to do, and what it does then: what the case reads as, whether the note is created, and what of
+/// it is written.
+type Told = (Op, u32, &'static str, bool, &'static str);
+
+const TOLD: [Told; 5] = [
+    (Op::Open, 1, "", true, "1234567"),
+    (Op::Read, 3, "", true, "1234567"),
+    (Op::Create, 1, "abcdefg", false, ""),
+    (Op::Write, 2, "abcdefg", true, "123"),
+    (Op::Write, 4, "abcdefg", true, "1234567"),
+];
+
+/// Whether the case reads as these bytes; as none where it can't be opened or read.
+fn case_reads(alloc: Global, cabinet: &mut MemoryCabinet, bytes: &[u8]) -> bool {
+    let read = match cabinet.open("case") {
+        Ok(()) => read_all(alloc, cabinet, 100).ok(),
+        Err(Failed) => None,
+    };
+    match read {
+        Some(read) => read.as_slice() == bytes,
+        None => bytes.is_empty(),
+    }
+}
+
+fn fails_as_told(alloc: Global, told: Told) -> Result<bool, AllocError> {
+    let (op, nth, read, created, written) = told;
+    let mut cabinet = seven_bytes(alloc, &[Failing { op, nth }], 8)?;
+    let is_read = case_reads(alloc, &mut cabinet, read.as_bytes());
+    let is_created = cabinet.create(Output::Note, "").is_ok();
+    let _ = write_all(&mut cabinet, Output::Note, b"1234567");
+    let bytes = cabinet.written(Output::Note).unwrap_or(b"".as_slice());
+    let is_written = bytes == written.as_bytes();
+    drop(cabinet);
+    Ok(is_read && is_created == created && is_written)
+}
+
 #[test]
 fn fails_where_it_is_told_to(rt: HostRuntime) -> Result<(), Fail> {
-    let alloc = rt.alloc();
-    for (op, nth, read, created, written) in [
-        (Op::Open, 1, "", true, "1234567"),
-        (Op::Read, 3, "", true, "1234567"),
-        (Op::Create, 1, "abcdefg", false, ""),
-        (Op::Write, 2, "abcdefg", true, "123"),
-        (Op::Write, 4, "abcdefg", true, "1234567"),
-    ] {
-        let mut cabinet = seven_bytes(alloc, &[Failing { op, nth }], 8)?;
-        let bytes = match cabinet.open("case") {
-            Ok(()) => read_all(alloc, &mut cabinet, 100).unwrap_or(Vec::new(alloc)),
-            Err(Failed) => Vec::new(alloc),
-        };
-        assert_eq!(rt; bytes.as_slice(), read.as_bytes());
-        let is_created = cabinet.create(Output::Note, "").is_ok();
-        assert_eq!(rt; is_created, created);
-        let _ = write_all(&mut cabinet, Output::Note, b"1234567");
-        assert_eq!(rt;
-            cabinet.written(Output::Note).unwrap_or(b"".as_slice()),
-            written.as_bytes()
-        );
+    for (at, told) in TOLD.iter().enumerate() {
+        assert!(rt; fails_as_told(rt.alloc(), *told)?, "at {at}");
     }
     Ok(())
 }

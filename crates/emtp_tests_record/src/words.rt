@@ -1,22 +1,31 @@
 //! The words of a command line, beside a reader of command lines that others wrote.
 
-use clap::{Arg, ArgAction, Command, Error};
+use clap::{Arg, ArgAction, ArgMatches, Command, Error};
 use emtp_run::{Words, read_words, trial_deck};
 use std::alloc::{AllocError, Global};
 use std::test::Fail;
 
 /// The command line as clap sees it: `run CASE CFG DAT` or `trial N`, each word required.
 fn command<'a>(alloc: Global) -> Result<Command<'a>, Error> {
+    let trial = Command::new(alloc, "trial").arg(required(alloc, "N"))?;
+    match with_run(alloc) {
+        Ok(command) => Ok(command.subcommand(trial)?),
+        Err(error) => {
+            drop(trial);
+            Err(error)
+        }
+    }
+}
+
+fn with_run<'a>(alloc: Global) -> Result<Command<'a>, Error> {
     let run = Command::new(alloc, "run")
         .arg(required(alloc, "CASE"))?
         .arg(required(alloc, "CFG"))?
         .arg(required(alloc, "DAT"))?;
-    let trial = Command::new(alloc, "trial").arg(required(alloc, "N"))?;
     Ok(
         Command::new(alloc, "emtp")
             .subcommand_required(true)
-            .subcommand(run)?
-            .subcommand(trial)?,
+            .subcommand(run)?,
     )
 }
 
@@ -32,21 +41,38 @@ pub fn owned(alloc: Global, words: &[&str]) -> Result<Vec<String>, AllocError> {
     Ok(all)
 }
 
+/// Whether clap and the program find the same files.
+fn files_are_alike(matches: &ArgMatches, words: &[String]) -> bool {
+    match (matches.subcommand(), read_words(words)) {
+        (Some((name, run)), Some(Words::Run(files))) => {
+            name == "run"
+                && run.get_str("CASE") == Some(files.case)
+                && run.get_str("CFG") == Some(files.cfg)
+                && run.get_str("DAT") == Some(files.dat)
+        }
+        _ => false,
+    }
+}
+
 #[test]
 fn finds_the_files_that_clap_finds(rt: HostRuntime) -> Result<(), Fail> {
     let alloc = rt.alloc();
     let words = ["emtp", "run", "a.case", "a.cfg", "a.dat"];
     let matches = command(alloc)?.try_get_matches_from(&words)?;
-    let own = owned(alloc, &words[1..])?;
-    match (matches.subcommand(), read_words(&own)) {
-        (Some((name, run)), Some(Words::Run(files))) => {
-            assert!(rt; name == "run" && run.get_str("CASE") == Some(files.case));
-            assert!(rt; run.get_str("CFG") == Some(files.cfg));
-            assert!(rt; run.get_str("DAT") == Some(files.dat));
-        }
-        _ => assert!(rt; false),
-    }
+    let alike = owned(alloc, &words[1..]).is_ok_and(|own| files_are_alike(&matches, &own));
+    drop(matches);
+    assert!(rt; alike);
     Ok(())
+}
+
+/// Whether clap finds this text as the number of sections, and the program this number.
+fn number_is(matches: &ArgMatches, words: &[String], text: &str, wanted: u32) -> bool {
+    match (matches.subcommand(), read_words(words)) {
+        (Some((name, trial)), Some(Words::Trial(number))) => {
+            name == "trial" && trial.get_str("N") == Some(text) && number == wanted
+        }
+        _ => false,
+    }
 }
 
 #[test]
@@ -54,14 +80,9 @@ fn finds_the_number_that_clap_finds(rt: HostRuntime) -> Result<(), Fail> {
     let alloc = rt.alloc();
     let words = ["emtp", "trial", "300"];
     let matches = command(alloc)?.try_get_matches_from(&words)?;
-    let own = owned(alloc, &words[1..])?;
-    match (matches.subcommand(), read_words(&own)) {
-        (Some((name, trial)), Some(Words::Trial(number))) => {
-            assert!(rt; name == "trial" && trial.get_str("N") == Some("300"));
-            assert!(rt; number == 300);
-        }
-        _ => assert!(rt; false),
-    }
+    let alike = owned(alloc, &words[1..]).is_ok_and(|own| number_is(&matches, &own, "300", 300));
+    drop(matches);
+    assert!(rt; alike);
     Ok(())
 }
 
