@@ -1,10 +1,9 @@
 //! The outputs of a call, each made after the one before it is whole.
-ghost use Rattle.std.specs.Prelude.{◌≡◌, [], ◌∷◌, Some, length};
+ghost use Rattle.std.specs.Prelude.{◌≡◌, ◌+◌, [], ◌∷◌, Some, length};
 ghost use Rattle.emtp_card.specs.declared.reason.Bad.{Bad};
 ghost use Rattle.emtp_comtrade.specs.Record.{AreMultipliers};
 ghost use Rattle.emtp_io.specs.Writes.{Makes};
-ghost use Rattle.emtp_machine.specs.History.{history};
-ghost use Rattle.emtp_machine.specs.Machine.{history_of};
+ghost use Rattle.emtp_machine.specs.History.{history, redone as redone_by, samples as samples_of};
 ghost use Rattle.emtp_run.specs.Outcome.{cfg, dat, note, summary, usage, writes_of, bad_card, Ends};
 ghost use Rattle.emtp_run.specs.Words.{files_of, task_of, Run, Trial};
 
@@ -16,7 +15,7 @@ use emtp_card::Bad;
 use emtp_case::Case;
 use emtp_comtrade::{scales, write_cfg, write_dat};
 use emtp_io::{Cabinet, Failed, Output, write_all};
-use emtp_machine::{End, Machine, Samples};
+use emtp_machine::{End, Samples};
 
 /// Makes the configuration of the record.
 fn make_cfg<C: Cabinet>(
@@ -68,23 +67,26 @@ fn make_summary<C: Cabinet>(cabinet: &mut C, text: &[u8]) -> Result<(), Failed>
     write_all(cabinet, Output::Summary, text)
 }
 
-/// Makes the record and the note of a run, each output after the one before it is whole.
+/// Makes the record and the note of a run of so many steps and redone rows, each output after the one before it is whole.
 fn make_record<C: Cabinet>(
     cabinet: &mut C,
     words: RunWords<'_>,
     case: &Case,
-    machine: &Machine<'_>,
+    samples: &Samples,
+    steps: u32,
+    redone: u64,
     end: &Option<End>,
 ) -> Result<(), Failed>
-    requires case { machine.now.case ≡ case.now.parts }
-    requires run { history_of machine.now ≡ history case.now.parts }
+    requires channels { samples.now.channels ≡ length case.now.parts.channels }
+    requires samples { samples.now.rows ≡ samples_of case.now.parts (history case.now.parts) }
+    requires steps { steps + 1 ≡ length (history case.now.parts).records }
+    requires redone { redone ≡ redone_by case.now.parts (history case.now.parts) }
     requires end { end.now ≡ (history case.now.parts).end }
     ensures { Makes (C.state cabinet.old) (C.state cabinet.new)
         (writes_of (Run (files_of words.entry)) case.now.parts (history case.now.parts)) result }
 {
-    let samples = machine.samples();
     let multipliers = scales(case, samples);
-    let text = note::of_run(end, machine.done(), samples.count(), machine.redone());
+    let text = note::of_run(end, steps, samples.count(), redone);
     make_cfg(cabinet, words.cfg, case, samples, &multipliers)?;
     make_dat(cabinet, words.dat, case, samples, &multipliers)?;
     make_note(cabinet, text.as_slice())
@@ -95,25 +97,23 @@ pub fn make_all<C: Cabinet>(
     cabinet: &mut C,
     words: Words<'_>,
     case: &Case,
-    machine: &Machine<'_>,
+    samples: &Samples,
+    steps: u32,
+    redone: u64,
     end: &Option<End>,
 ) -> Result<(), Failed>
-    requires case { machine.now.case ≡ case.now.parts }
-    requires run { history_of machine.now ≡ history case.now.parts }
+    requires channels { samples.now.channels ≡ length case.now.parts.channels }
+    requires samples { samples.now.rows ≡ samples_of case.now.parts (history case.now.parts) }
+    requires steps { steps + 1 ≡ length (history case.now.parts).records }
+    requires redone { redone ≡ redone_by case.now.parts (history case.now.parts) }
     requires end { end.now ≡ (history case.now.parts).end }
     ensures { Makes (C.state cabinet.old) (C.state cabinet.new)
         (writes_of (task_of words.entry) case.now.parts (history case.now.parts)) result }
 {
     match words {
-        Words::Run(words) => make_record(cabinet, words, case, machine, end),
+        Words::Run(words) => make_record(cabinet, words, case, samples, steps, redone, end),
         Words::Trial(number) => {
-            let text = of_trial(
-                number,
-                end,
-                machine.done(),
-                machine.redone(),
-                machine.samples(),
-            );
+            let text = of_trial(number, end, steps, redone, samples);
             make_summary(cabinet, text.as_slice())
         }
     }

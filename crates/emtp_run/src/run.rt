@@ -214,7 +214,8 @@ fn write_run<C: Cabinet>(
     ensures ends { Ends result (Some (outcome_by (task_of words.entry) (Ok case.now.parts)))
         (C.state cabinet.old) (C.state cabinet.new) }
 {
-    match make_all(cabinet, words, case, machine, end) {
+    let (samples, steps, redone) = (machine.samples(), machine.done(), machine.redone());
+    match make_all(cabinet, words, case, samples, steps, redone, end) {
         Ok(()) => status_of(end),
         Err(_) => Status::WriteFault,
     }
