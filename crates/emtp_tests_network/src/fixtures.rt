@@ -1,6 +1,6 @@
 //! What the tests share.
 
-ghost use Rattle.std.specs.Prelude.{◌≡◌, ◌≢◌, ◌≤◌, [], ◌*ℤ◌, ◌^◌, All, length, pos, unsigned_abs, IfOk, OnOk};
+ghost use Rattle.std.specs.Prelude.{◌≡◌, ◌≢◌, ◌≤◌, [], ◌*ℤ◌, ◌^◌, length, pos, unsigned_abs, IfOk, OnOk};
 ghost use Rattle.emtp_case.specs.Branch.{IsLumped};
 ghost use Rattle.emtp_case.specs.Case.{empty_parts, standing_names};
 ghost use Rattle.emtp_case.specs.RunData.{IsRun};
@@ -43,7 +43,7 @@ pub fn wide(x: i16) -> i128
 
 /// 1 ohm between two of four nodes.
 #[tactic(auto, unfolding(emtp_fix::specs::Rounding::near, emtp_fix::specs::Rounding::near_abs, emtp_case::specs::Branch::capacitor_impedance))]
-pub fn ohm(from: u32, to: u32) -> Lumped
+fn ohm(from: u32, to: u32) -> Lumped
     requires from_there { from ≤ 4 }
     requires to_there { to ≤ 4 }
     requires apart { from ≢ to }
@@ -182,23 +182,25 @@ fn add_switches(
     draft.add_switch(third)
 }
 
-/// Four nodes, two resistors, a voltage source at node 1 and perhaps one at node 4, and three switches.
+/// Four nodes, a resistor from node 1 to 2 and one from node 3 to another, a voltage source at node 1 and perhaps one at
+/// node 4, and three switches.
 pub fn network(
     alloc: Global,
-    resistors: [Lumped; 2],
+    end: u32,
     second_source: bool,
     first: Switch,
     second: Switch,
     third: Switch,
 ) -> Result<Case, AllocError>
-    requires resistors { All (IsLumped RUN (sizes_with 4)) resistors }
+    requires there { end ≤ 4 }
+    requires apart { 3 ≢ end }
     requires first { IsSwitch (sizes_with 4) first }
     requires second { IsSwitch (sizes_with 4) second }
     requires third { IsSwitch (sizes_with 4) third }
     ensures { IfOk result (λ case. HasSizes case.parts) }
 {
     let mut draft = nodes(alloc, RUN, 4)?;
-    match add_parts(&mut draft, resistors, second_source, first, second, third) {
+    match add_parts(&mut draft, end, second_source, first, second, third) {
         Ok(()) => Ok(draft.finish_network()),
         Err(error) => {
             drop(draft);
@@ -209,7 +211,7 @@ pub fn network(
 
 fn add_parts(
     draft: &mut Draft,
-    resistors: [Lumped; 2],
+    end: u32,
     second_source: bool,
     first: Switch,
     second: Switch,
@@ -217,16 +219,16 @@ fn add_parts(
 ) -> Result<(), AllocError>
     requires nodes { length draft.old.parts.nodes ≡ 4 }
     requires others { draft.old.parts ≡ record (empty_parts RUN) { nodes = draft.old.parts.nodes } }
-    requires resistors { All (IsLumped RUN (sizes_with 4)) resistors }
+    requires there { end ≤ 4 }
+    requires apart { 3 ≢ end }
     requires first { IsSwitch (sizes_with 4) first }
     requires second { IsSwitch (sizes_with 4) second }
     requires third { IsSwitch (sizes_with 4) third }
     ensures count { OnOk result (length draft.new.parts.switches ≡ 3) }
     ensures others { OnOk result (draft.new.parts ≡ record draft.old.parts { branches = draft.new.parts.branches; sources = draft.new.parts.sources; switches = draft.new.parts.switches }) }
 {
-    let [resistor, other] = resistors;
-    draft.add_lumped(resistor)?;
-    draft.add_lumped(other)?;
+    draft.add_lumped(ohm(1, 2))?;
+    draft.add_lumped(ohm(3, end))?;
     add_sources(draft, second_source)?;
     add_switches(draft, first, second, third)
 }

@@ -1,6 +1,6 @@
 //! The rows of one network with all kinds of rows, worked out by hand.
 
-ghost use Rattle.std.specs.Prelude.{◌≡◌, ◌<◌, ◌≤◌, length, unsigned_abs, IfOk, IfErr, OnOk};
+ghost use Rattle.std.specs.Prelude.{◌≡◌, ◌<◌, ◌≤◌, length, true, unsigned_abs, IfOk, IfErr, OnOk};
 ghost use Rattle.emtp_fix.specs.declared.limit.TheConstants.{LARGEST_ENTRY};
 ghost use Rattle.emtp_case.specs.Branch.{IsLine, IsLumped, IsTrio};
 ghost use Rattle.emtp_case.specs.Case.{empty_parts};
@@ -22,9 +22,7 @@ use emtp_fix::Steps;
 use emtp_rows::NetRows;
 use emtp_tail::Kept;
 use std::alloc::{AllocError, Global};
-use std::process::Abort;
 use std::sync::ledger::Ledger;
-use std::test::Fail;
 
 /// Gives a branch another conductance, and redoes the kept factor from the first row that changed; rows before the
 /// first touched one are neither filled nor compared.
@@ -262,60 +260,82 @@ const TOGETHER: [[i128; 5]; 5] = [
 ];
 
 #[test]
-fn rows_of_all_kinds(rt: HostRuntime) -> Result<(), Fail> {
-    let case = network(rt.alloc(), line(), modes())?;
-    let found = all_kinds(&rt, rt.alloc(), &case);
-    drop(case);
-    found?;
-    Ok(())
+fn rows_of_all_kinds(rt: HostRuntime) {
+    assert!(rt; are_of_all_kinds(rt.alloc()));
 }
 
-fn all_kinds(rt: &impl Abort, alloc: Global, case: &Case) -> Result<(), AllocError>
+/// Whether the rows of the network are these at rest, with its branches apart, and with nodes joined.
+fn are_of_all_kinds(alloc: Global) -> bool {
+    match network(alloc, line(), modes()) {
+        Ok(case) => {
+            let right = case_has_all_kinds(alloc, &case);
+            drop(case);
+            right
+        }
+        Err(_) => false,
+    }
+}
+
+fn case_has_all_kinds(alloc: Global, case: &Case) -> bool
     requires nodes { length case.now.parts.nodes ≡ 5 }
     requires branches { length case.now.parts.branches ≡ 6 }
     requires trios { length case.now.parts.trios ≡ 1 }
 {
-    let order = order(alloc, case)?;
-    let found = all_kinds_in(rt, alloc, case, &order);
-    drop(order);
-    found
+    match order(alloc, case) {
+        Ok(order) => {
+            let right = order_has_all_kinds(alloc, case, &order);
+            drop(order);
+            right
+        }
+        Err(_) => false,
+    }
 }
 
-fn all_kinds_in(
-    rt: &impl Abort,
-    alloc: Global,
-    case: &Case,
-    order: &RowOrder,
-) -> Result<(), AllocError>
+fn order_has_all_kinds(alloc: Global, case: &Case, order: &RowOrder) -> bool
     requires order { order.now ≡ order_of case.now.parts }
     requires nodes { length case.now.parts.nodes ≡ 5 }
     requires branches { length case.now.parts.branches ≡ 6 }
     requires trios { length case.now.parts.trios ≡ 1 }
 {
-    let mut rows = NetRows::open(alloc, case, order)?;
-    assert!(rt; rows.fixed() == 1);
-    assert!(rt; rows.take_touched() == 0);
-    become_joined(rt, &mut rows);
-    drop(rows);
-    Ok(())
+    match NetRows::open(alloc, case, order) {
+        Ok(mut rows) => {
+            let right = are_at_rest(&mut rows)
+                && become_apart(&mut rows)
+                && become_joined(&mut rows);
+            drop(rows);
+            right
+        }
+        Err(_) => false,
+    }
 }
 
-fn become_joined(rt: &impl Abort, rows: &mut NetRows<'_>)
-    requires nodes { length rows.old.nodal.case.nodes ≡ 5 }
+fn are_at_rest(rows: &mut NetRows<'_>) -> bool
+    ensures case { rows.new.nodal.case ≡ rows.old.nodal.case }
+    ensures fixed { result ≡ true → (order_of rows.old.nodal.case).fixed ≡ 1 }
+{
+    rows.fixed() == 1 && rows.take_touched() == 0 && has_rows(rows, &AT_REST)
+}
+
+fn become_apart(rows: &mut NetRows<'_>) -> bool
     requires branches { length rows.old.nodal.case.branches ≡ 6 }
     requires trios { length rows.old.nodal.case.trios ≡ 1 }
+    ensures { rows.new.nodal.case ≡ rows.old.nodal.case }
+{
+    set_all(rows);
+    // phase B is the first row with a new conductance
+    rows.take_touched() == 1 && has_rows(rows, &APART)
+}
+
+fn become_joined(rows: &mut NetRows<'_>) -> bool
+    requires nodes { length rows.old.nodal.case.nodes ≡ 5 }
+    requires branches { length rows.old.nodal.case.branches ≡ 6 }
     requires fixed { (order_of rows.old.nodal.case).fixed ≡ 1 }
 {
-    assert!(rt; has_rows(rows, &AT_REST));
-    set_all(rows);
-    assert!(rt; has_rows(rows, &APART));
-    // phase B is the first row with a new conductance
-    assert!(rt; rows.take_touched() == 1);
     join(rows);
-    assert!(rt; rows.take_touched() == 1);
-    assert!(rt; has_rows(rows, &TOGETHER));
     // the load is in the sum, the line besides in no row of its other end, which is tied to the source
-    assert!(rt; touched_by(rows, 5, 21) == 4);
-    assert!(rt; touched_by(rows, 5, 21) == 5);
-    assert!(rt; touched_by(rows, 0, 31) == 4);
+    rows.take_touched() == 1
+        && has_rows(rows, &TOGETHER)
+        && touched_by(rows, 5, 21) == 4
+        && touched_by(rows, 5, 21) == 5
+        && touched_by(rows, 0, 31) == 4
 }

@@ -7,9 +7,7 @@ ghost use Rattle.emtp_wave.specs.Wave.{HasWave, value_of};
 
 use emtp_case::{RunData, Shape, Source};
 use emtp_wave::CosTable;
-use std::alloc::{AllocError, Global};
-use std::process::Abort;
-use std::test::Fail;
+use std::alloc::Global;
 
 /// A phase in 1e-18 turn, and its cosine in 1e-12.
 const COSINES: &[(i128, i64)] = &[
@@ -222,17 +220,28 @@ const COSINES: &[(i128, i64)] = &[
 ];
 
 #[test]
-fn cosines(rt: HostRuntime) -> Result<(), Fail> {
-    let table = CosTable::open(rt.alloc())?;
-    each_cosine(&rt, &table);
-    Ok(())
+fn cosines(rt: HostRuntime) {
+    assert!(rt; gives_cosines(rt.alloc()));
 }
 
-fn each_cosine(rt: &impl Abort, table: &CosTable) {
-    for (phase, cosine) in COSINES {
-        assert!(rt; phase.unsigned_abs() <= 10u128.pow(35));
-        assert_eq!(rt; table.cosine(*phase), *cosine, "at {phase}");
+fn gives_cosines(alloc: Global) -> bool {
+    match CosTable::open(alloc) {
+        Ok(table) => {
+            let right = has_cosines(&table);
+            drop(table);
+            right
+        }
+        Err(_) => false,
     }
+}
+
+fn has_cosines(table: &CosTable) -> bool {
+    for (phase, cosine) in COSINES {
+        if phase.unsigned_abs() > 10u128.pow(35) || table.cosine(*phase) != *cosine {
+            return false;
+        }
+    }
+    true
 }
 
 /// 50 microseconds a step.
@@ -254,12 +263,18 @@ fn first_value(table: &CosTable, source: &Source, run: &RunData) -> i64
 }
 
 /// Whether a source has these values in these steps, the first of them in step 1.
-fn steps_like(alloc: Global, source: &Source, rows: &[(u32, i64)]) -> Result<bool, AllocError>
+fn steps_like(alloc: Global, source: &Source, rows: &[(u32, i64)]) -> bool
     requires numbers { HasSourceNumbers source.now }
     requires shape { HasWave 0 source.now.shape }
 {
-    let table = CosTable::open(alloc)?;
-    Ok(begins_like(&table, source, rows) && agrees(&table, source, rows))
+    match CosTable::open(alloc) {
+        Ok(table) => {
+            let right = begins_like(&table, source, rows) && agrees(&table, source, rows);
+            drop(table);
+            right
+        }
+        Err(_) => false,
+    }
 }
 
 fn begins_like(table: &CosTable, source: &Source, rows: &[(u32, i64)]) -> bool
@@ -303,9 +318,8 @@ const CONSTANT_STEPS: &[(u32, i64)] = &[
 ];
 
 #[test]
-fn constant_sources(rt: HostRuntime) -> Result<(), Fail> {
-    assert!(rt; steps_like(rt.alloc(), &CONSTANT, CONSTANT_STEPS)?);
-    Ok(())
+fn constant_sources(rt: HostRuntime) {
+    assert!(rt; steps_like(rt.alloc(), &CONSTANT, CONSTANT_STEPS));
 }
 
 const RAMP: Source = Source {
@@ -327,9 +341,8 @@ const RAMP_STEPS: &[(u32, i64)] = &[
 ];
 
 #[test]
-fn ramps(rt: HostRuntime) -> Result<(), Fail> {
-    assert!(rt; steps_like(rt.alloc(), &RAMP, RAMP_STEPS)?);
-    Ok(())
+fn ramps(rt: HostRuntime) {
+    assert!(rt; steps_like(rt.alloc(), &RAMP, RAMP_STEPS));
 }
 
 const LATE_RAMP: Source = Source {
@@ -351,9 +364,8 @@ const LATE_RAMP_STEPS: &[(u32, i64)] = &[
 ];
 
 #[test]
-fn late_ramps(rt: HostRuntime) -> Result<(), Fail> {
-    assert!(rt; steps_like(rt.alloc(), &LATE_RAMP, LATE_RAMP_STEPS)?);
-    Ok(())
+fn late_ramps(rt: HostRuntime) {
+    assert!(rt; steps_like(rt.alloc(), &LATE_RAMP, LATE_RAMP_STEPS));
 }
 
 const SIXTY_HERTZ: Source = Source {
@@ -378,9 +390,8 @@ const SIXTY_HERTZ_STEPS: &[(u32, i64)] = &[
 ];
 
 #[test]
-fn sixty_hertz(rt: HostRuntime) -> Result<(), Fail> {
-    assert!(rt; steps_like(rt.alloc(), &SIXTY_HERTZ, SIXTY_HERTZ_STEPS)?);
-    Ok(())
+fn sixty_hertz(rt: HostRuntime) {
+    assert!(rt; steps_like(rt.alloc(), &SIXTY_HERTZ, SIXTY_HERTZ_STEPS));
 }
 
 const FIFTY_HERTZ: Source = Source {
@@ -405,9 +416,8 @@ const FIFTY_HERTZ_STEPS: &[(u32, i64)] = &[
 ];
 
 #[test]
-fn fifty_hertz(rt: HostRuntime) -> Result<(), Fail> {
-    assert!(rt; steps_like(rt.alloc(), &FIFTY_HERTZ, FIFTY_HERTZ_STEPS)?);
-    Ok(())
+fn fifty_hertz(rt: HostRuntime) {
+    assert!(rt; steps_like(rt.alloc(), &FIFTY_HERTZ, FIFTY_HERTZ_STEPS));
 }
 
 const PULSES: Source = Source {
@@ -426,9 +436,8 @@ const PULSES: Source = Source {
 const PULSES_STEPS: &[(u32, i64)] = &[(1, 0), (2, 187_800_000_000_000), (3, 0), (4, 0), (7, 0)];
 
 #[test]
-fn pulses(rt: HostRuntime) -> Result<(), Fail> {
-    assert!(rt; steps_like(rt.alloc(), &PULSES, PULSES_STEPS)?);
-    Ok(())
+fn pulses(rt: HostRuntime) {
+    assert!(rt; steps_like(rt.alloc(), &PULSES, PULSES_STEPS));
 }
 
 const TEETH: Source = Source {
@@ -452,7 +461,6 @@ const TEETH_STEPS: &[(u32, i64)] = &[
 ];
 
 #[test]
-fn teeth(rt: HostRuntime) -> Result<(), Fail> {
-    assert!(rt; steps_like(rt.alloc(), &TEETH, TEETH_STEPS)?);
-    Ok(())
+fn teeth(rt: HostRuntime) {
+    assert!(rt; steps_like(rt.alloc(), &TEETH, TEETH_STEPS));
 }
