@@ -1,6 +1,6 @@
 //! A case of a table of parts. What a part has to meet is looked at when it comes: one that doesn't fit is not added.
 
-ghost use Rattle.std.specs.Prelude.{◌≡◌, ◌<◌, ◌≤◌, ◌^◌, false, length, pos, true, unsigned_abs};
+ghost use Rattle.std.specs.Prelude.{◌≡◌, ◌<◌, ◌≤◌, ◌^◌, [], false, length, pos, true, unsigned_abs};
 ghost use Rattle.std.specs.List.{list_any};
 ghost use Rattle.emtp_case.specs.Branch.{HasLineNumbers, HasSeriesNumbers, IsCharacteristic};
 ghost use Rattle.emtp_case.specs.HistoryValues.{travel_steps};
@@ -12,7 +12,7 @@ use emtp_case::{
     Branch, Case, Draft, Line, Lumped, Name, Point, Pseudo, RunData, Shape, Source, Switch,
     SwitchKind,
 };
-use std::alloc::{AllocError, Global};
+use std::alloc::Global;
 
 /// The time step, in ps.
 const STEP: i64 = 100_000_000;
@@ -57,43 +57,32 @@ fn run(tolerance: u32) -> RunData
 }
 
 /// The case of these parts; none where one doesn't fit.
-pub fn fill(alloc: Global, tolerance: u32, parts: &[Part]) -> Result<Option<Case>, AllocError> {
-    let mut draft = Draft::new(alloc, run(tolerance))?;
-    match add_all(&mut draft, parts) {
-        Ok(true) => Ok(finished(draft)),
-        Ok(false) => {
-            drop(draft);
-            Ok(None)
+pub fn fill(alloc: Global, tolerance: u32, parts: &[Part]) -> Option<Case> {
+    match Draft::new(alloc, run(tolerance)) {
+        Ok(mut draft) => {
+            if add_all(&mut draft, parts) && draft.parts.vars.len() == 6 {
+                Some(draft.finish())
+            } else {
+                drop(draft);
+                None
+            }
         }
-        Err(error) => {
-            drop(draft);
-            Err(error)
-        }
+        Err(_) => None,
     }
 }
 
 /// Adds parts, up to the first that doesn't fit. Answers whether all fit.
-fn add_all(draft: &mut Draft, parts: &[Part]) -> Result<bool, AllocError> {
+fn add_all(draft: &mut Draft, parts: &[Part]) -> bool {
     for part in parts {
-        if !add(draft, *part)? {
-            return Ok(false);
+        if !add(draft, *part) {
+            return false;
         }
     }
-    Ok(true)
-}
-
-/// The case, where it has the standing variables alone.
-fn finished(draft: Draft) -> Option<Case> {
-    if draft.parts.vars.len() == 6 {
-        Some(draft.finish())
-    } else {
-        drop(draft);
-        None
-    }
+    true
 }
 
 /// Adds a part. Answers whether it fits.
-fn add(draft: &mut Draft, part: Part) -> Result<bool, AllocError> {
+fn add(draft: &mut Draft, part: Part) -> bool {
     match part {
         Part::Node => add_node(draft),
         Part::Resistor(from, to, r) => add_resistor(draft, from, to, r),
@@ -124,27 +113,20 @@ fn takes_branch(draft: &Draft, from: u32, to: u32) -> bool
 }
 
 /// The step asks for no names, so all nodes have one.
-fn add_node(draft: &mut Draft) -> Result<bool, AllocError> {
-    if draft.parts.nodes.len() >= 1000 {
-        return Ok(false);
-    }
-    draft.add_node(Name::new(b"N"))?;
-    Ok(true)
+fn add_node(draft: &mut Draft) -> bool {
+    draft.parts.nodes.len() < 1000 && draft.add_node(Name::new(b"N")).is_ok()
 }
 
-fn add_resistor(draft: &mut Draft, from: u32, to: u32, r: i64) -> Result<bool, AllocError> {
-    if !takes_branch(draft, from, to) || !is_resistance(r) {
-        return Ok(false);
-    }
-    draft.add_lumped(Lumped {
+fn add_resistor(draft: &mut Draft, from: u32, to: u32, r: i64) -> bool {
+    let resistor = Lumped {
         line: 4,
         from,
         to,
         r,
         l: 0,
         c: 0,
-    })?;
-    Ok(true)
+    };
+    takes_branch(draft, from, to) && is_resistance(r) && draft.add_lumped(resistor).is_ok()
 }
 
 /// Whether a resistor may have this resistance in micro-ohm.
@@ -155,14 +137,20 @@ fn is_resistance(r: i64) -> bool
     10 <= r && r <= 1_000_000_000_000_000
 }
 
-fn add_line(draft: &mut Draft, from: u32, to: u32) -> Result<bool, AllocError> {
+fn add_line(draft: &mut Draft, from: u32, to: u32) -> bool {
+    is_first(draft)
+        && takes_branch(draft, from, to)
+        && draft.add_branch(Branch::Line(line(from, to))).is_ok()
+}
+
+/// Whether the next branch is the first, and the first that keeps past values.
+fn is_first(draft: &Draft) -> bool
+    ensures branches { result ≡ true → draft.now.parts.branches ≡ [] }
+    ensures trios { result ≡ true → draft.now.parts.trios ≡ [] }
+    ensures extras { result ≡ true → draft.now.parts.extras ≡ [] }
+{
     let parts = &draft.parts;
-    let first = parts.branches.is_empty() && parts.trios.is_empty() && parts.extras.is_empty();
-    if !first || !takes_branch(draft, from, to) {
-        return Ok(false);
-    }
-    draft.add_branch(Branch::Line(line(from, to)))?;
-    Ok(true)
+    parts.branches.is_empty() && parts.trios.is_empty() && parts.extras.is_empty()
 }
 
 #[tactic(auto, unfolding(emtp_fix::specs::Rounding::near, emtp_fix::specs::Rounding::near_abs))]
@@ -182,22 +170,14 @@ fn line(from: u32, to: u32) -> Line
     }
 }
 
-fn add_arrester(draft: &mut Draft, from: u32) -> Result<bool, AllocError> {
+fn add_arrester(draft: &mut Draft, from: u32) -> bool {
     let points = arrester_points();
-    if !takes_branch(draft, from, 0) {
-        return Ok(false);
-    }
-    draft.add_pseudo(pseudo(from, false), &points)?;
-    Ok(true)
+    takes_branch(draft, from, 0) && draft.add_pseudo(pseudo(from, false), &points).is_ok()
 }
 
-fn add_reactor(draft: &mut Draft, from: u32) -> Result<bool, AllocError> {
+fn add_reactor(draft: &mut Draft, from: u32) -> bool {
     let points = reactor_points();
-    if !takes_branch(draft, from, 0) {
-        return Ok(false);
-    }
-    draft.add_pseudo(pseudo(from, true), &points)?;
-    Ok(true)
+    takes_branch(draft, from, 0) && draft.add_pseudo(pseudo(from, true), &points).is_ok()
 }
 
 fn pseudo(from: u32, reactor: bool) -> Pseudo
@@ -246,16 +226,8 @@ fn reactor_points() -> [Point; 2]
 }
 
 /// A source that is active from the start on.
-fn add_source(
-    draft: &mut Draft,
-    node: u32,
-    current: bool,
-    amplitude: i64,
-) -> Result<bool, AllocError> {
-    if !takes_source(draft, node, current) || !is_amplitude(amplitude) {
-        return Ok(false);
-    }
-    draft.add_source(Source {
+fn add_source(draft: &mut Draft, node: u32, current: bool, amplitude: i64) -> bool {
+    let source = Source {
         line: 8,
         node,
         current,
@@ -263,8 +235,10 @@ fn add_source(
         amplitude,
         start: -1,
         stop: None,
-    })?;
-    Ok(true)
+    };
+    takes_source(draft, node, current)
+        && is_amplitude(amplitude)
+        && draft.add_source(source).is_ok()
 }
 
 fn is_amplitude(amplitude: i64) -> bool
@@ -286,11 +260,8 @@ fn takes_source(draft: &Draft, node: u32, current: bool) -> bool
         && (current || !draft.has_voltage_source(node))
 }
 
-fn add_closed(draft: &mut Draft, from: u32, to: u32) -> Result<bool, AllocError> {
-    if draft.parts.switches.len() >= 500 || !are_ends(draft, from, to) {
-        return Ok(false);
-    }
-    draft.add_switch(Switch {
+fn add_closed(draft: &mut Draft, from: u32, to: u32) -> bool {
+    let switch = Switch {
         line: 6,
         from,
         to,
@@ -299,6 +270,8 @@ fn add_closed(draft: &mut Draft, from: u32, to: u32) -> Result<bool, AllocError>
             open_at: None,
             margin: 0,
         },
-    })?;
-    Ok(true)
+    };
+    draft.parts.switches.len() < 500
+        && are_ends(draft, from, to)
+        && draft.add_switch(switch).is_ok()
 }

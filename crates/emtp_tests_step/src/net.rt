@@ -15,7 +15,6 @@ use emtp_tail::Kept;
 use std::alloc::{AllocError, Global};
 use std::marker::Brand;
 use std::sync::ledger::{Blank, Ledger};
-use std::test::Fail;
 
 /// What a network shows after a step.
 #[derive(Clone, Copy)]
@@ -97,35 +96,34 @@ fn all_end<L: Ledger>(network: &mut Network<'_>, expected: &[End], steps: &mut S
 }
 
 /// Whether the steps of a case end so.
-fn follows<L: Ledger>(
-    alloc: Global,
-    case: &Case,
-    record: &[End],
-    blank: Blank,
-) -> Result<bool, AllocError>
+fn follows<L: Ledger>(alloc: Global, case: &Case, record: &[End], blank: Blank) -> bool
     requires name { blank.name ≡ L.name }
     requires parts { blank.parts ≡ L.parts }
     requires some { 0 < blank.parts }
 {
     if !has_room(case, record.len()) {
-        return Ok(false);
+        return false;
     }
-    let mut network = at_rest(alloc, case)?;
-    let mut steps = Steps::<L>::new(blank);
-    let same = all_end(&mut network, record, &mut steps);
-    drop(network);
-    Ok(same)
+    match at_rest(alloc, case) {
+        Ok(mut network) => {
+            let mut steps = Steps::<L>::new(blank);
+            let same = all_end(&mut network, record, &mut steps);
+            drop(network);
+            same
+        }
+        Err(_) => false,
+    }
 }
 
 /// Whether the steps of a network of these parts end so, with the tolerance in nA.
-fn walk(alloc: Global, tolerance: u32, parts: &[Part], record: &[End]) -> Result<bool, AllocError> {
-    match fill(alloc, tolerance, parts)? {
+fn walk(alloc: Global, tolerance: u32, parts: &[Part], record: &[End]) -> bool {
+    match fill(alloc, tolerance, parts) {
         Some(case) => {
             let same = follows::<Brand>(alloc, &case, record, Blank::new(1));
             drop(case);
             same
         }
-        None => Ok(false),
+        None => false,
     }
 }
 
@@ -211,23 +209,22 @@ fn all_agree<L: Ledger>(
 
 /// Whether the steps of a case of two nodes and two branches, which leave out needless updates, give the voltages of a
 /// factor that is updated at every step.
-fn side_by_side<L: Ledger>(
-    alloc: Global,
-    case: &Case,
-    systems: &[System],
-    blank: Blank,
-) -> Result<bool, AllocError>
+fn side_by_side<L: Ledger>(alloc: Global, case: &Case, systems: &[System], blank: Blank) -> bool
     requires name { blank.name ≡ L.name }
     requires parts { blank.parts ≡ L.parts }
     requires some { 0 < blank.parts }
 {
     if !has_room(case, systems.len()) || case.parts.branches.len() != 2 {
-        return Ok(false);
+        return false;
     }
-    let order = order(alloc, case)?;
-    let same = with_rows::<L>(alloc, case, &order, systems, blank);
-    drop(order);
-    same
+    match order(alloc, case) {
+        Ok(order) => {
+            let same = with_rows::<L>(alloc, case, &order, systems, blank);
+            drop(order);
+            same
+        }
+        Err(_) => false,
+    }
 }
 
 fn with_rows<L: Ledger>(
@@ -236,7 +233,7 @@ fn with_rows<L: Ledger>(
     order: &RowOrder,
     systems: &[System],
     blank: Blank,
-) -> Result<bool, AllocError>
+) -> bool
     requires room { HasRoom case.now.parts (length systems.now) }
     requires branches { length case.now.parts.branches ≡ 2 }
     requires order { order.now ≡ order_of case.now.parts }
@@ -244,10 +241,14 @@ fn with_rows<L: Ledger>(
     requires parts { blank.parts ≡ L.parts }
     requires some { 0 < blank.parts }
 {
-    let mut rows = NetRows::open(alloc, case, order)?;
-    let same = with_factor::<L>(alloc, case, &mut rows, systems, blank);
-    drop(rows);
-    same
+    match NetRows::open(alloc, case, order) {
+        Ok(mut rows) => {
+            let same = with_factor::<L>(alloc, case, &mut rows, systems, blank);
+            drop(rows);
+            same
+        }
+        Err(_) => false,
+    }
 }
 
 fn with_factor<L: Ledger>(
@@ -256,17 +257,21 @@ fn with_factor<L: Ledger>(
     rows: &mut NetRows<'_>,
     systems: &[System],
     blank: Blank,
-) -> Result<bool, AllocError>
+) -> bool
     requires room { HasRoom case.now.parts (length systems.now) }
     requires branches { length rows.old.nodal.case.branches ≡ 2 }
     requires name { blank.name ≡ L.name }
     requires parts { blank.parts ≡ L.parts }
     requires some { 0 < blank.parts }
 {
-    let mut kept = Kept::open(alloc, &*rows)?;
-    let same = with_network::<L>(alloc, case, rows, &mut kept, systems, blank);
-    drop(kept);
-    same
+    match Kept::open(alloc, &*rows) {
+        Ok(mut kept) => {
+            let same = with_network::<L>(alloc, case, rows, &mut kept, systems, blank);
+            drop(kept);
+            same
+        }
+        Err(_) => false,
+    }
 }
 
 fn with_network<L: Ledger>(
@@ -276,33 +281,33 @@ fn with_network<L: Ledger>(
     kept: &mut Kept,
     systems: &[System],
     blank: Blank,
-) -> Result<bool, AllocError>
+) -> bool
     requires room { HasRoom case.now.parts (length systems.now) }
     requires branches { length rows.old.nodal.case.branches ≡ 2 }
     requires name { blank.name ≡ L.name }
     requires parts { blank.parts ≡ L.parts }
     requires some { 0 < blank.parts }
 {
-    let mut network = at_rest(alloc, case)?;
-    let mut steps = Steps::<L>::new(blank);
-    let same = all_agree(&mut network, rows, kept, systems, &mut steps);
-    drop(network);
-    Ok(same)
+    match at_rest(alloc, case) {
+        Ok(mut network) => {
+            let mut steps = Steps::<L>::new(blank);
+            let same = all_agree(&mut network, rows, kept, systems, &mut steps);
+            drop(network);
+            same
+        }
+        Err(_) => false,
+    }
 }
 
 /// Whether the steps of a network of these parts agree with a factor that is updated at every step.
-fn walk_side_by_side(
-    alloc: Global,
-    parts: &[Part],
-    systems: &[System],
-) -> Result<bool, AllocError> {
-    match fill(alloc, LOOSE, parts)? {
+fn walk_side_by_side(alloc: Global, parts: &[Part], systems: &[System]) -> bool {
+    match fill(alloc, LOOSE, parts) {
         Some(case) => {
             let same = side_by_side::<Brand>(alloc, &case, systems, Blank::new(1));
             drop(case);
             same
         }
-        None => Ok(false),
+        None => false,
     }
 }
 
@@ -313,10 +318,9 @@ const LOOSE: u32 = 10_000_000;
 const FLOATING: &[Part] = &[Part::Node, Part::Node, Part::Resistor(1, 2, OHM)];
 
 #[test]
-fn floating_node_has_no_pivot(rt: HostRuntime) -> Result<(), Fail> {
+fn floating_node_has_no_pivot(rt: HostRuntime) {
     let record = [Err(NetFault::ZeroPivot(2))];
-    assert!(rt; walk(rt.alloc(), LOOSE, FLOATING, &record)?);
-    Ok(())
+    assert!(rt; walk(rt.alloc(), LOOSE, FLOATING, &record));
 }
 
 /// A resistor of a million ohm that takes a million amperes.
@@ -327,10 +331,9 @@ const OVERLOAD: &[Part] = &[
 ];
 
 #[test]
-fn voltage_out_of_range(rt: HostRuntime) -> Result<(), Fail> {
+fn voltage_out_of_range(rt: HostRuntime) {
     let record = [Err(NetFault::Range(1))];
-    assert!(rt; walk(rt.alloc(), LOOSE, OVERLOAD, &record)?);
-    Ok(())
+    assert!(rt; walk(rt.alloc(), LOOSE, OVERLOAD, &record));
 }
 
 /// 1 V over 1 and 2 milliohm: 333,333,333,000 nA come to the node between them, and 333,333,333,500 nA leave it.
@@ -343,22 +346,20 @@ const DIVIDER: &[Part] = &[
 ];
 
 #[test]
-fn residual_above_a_tolerance_of_100_nanoamperes(rt: HostRuntime) -> Result<(), Fail> {
+fn residual_above_a_tolerance_of_100_nanoamperes(rt: HostRuntime) {
     let record = [Err(NetFault::Residual(2, 500))];
-    assert!(rt; walk(rt.alloc(), 100, DIVIDER, &record)?);
-    Ok(())
+    assert!(rt; walk(rt.alloc(), 100, DIVIDER, &record));
 }
 
 #[test]
-fn residual_within_a_tolerance_of_10_milliamperes(rt: HostRuntime) -> Result<(), Fail> {
+fn residual_within_a_tolerance_of_10_milliamperes(rt: HostRuntime) {
     let record = [Ok(Look {
         volts: &[0, NANO, 666_666_667],
         current: 333_333_333_000,
         crossing: &[],
         redone: 0,
     })];
-    assert!(rt; walk(rt.alloc(), LOOSE, DIVIDER, &record)?);
-    Ok(())
+    assert!(rt; walk(rt.alloc(), LOOSE, DIVIDER, &record));
 }
 
 /// 1 nA into two resistors of 2 ohm, which take 1 nA each at 1 nV.
@@ -370,10 +371,9 @@ const TWO_ALIKE: &[Part] = &[
 ];
 
 #[test]
-fn two_branches_at_one_nanovolt_leave_a_residual(rt: HostRuntime) -> Result<(), Fail> {
+fn two_branches_at_one_nanovolt_leave_a_residual(rt: HostRuntime) {
     let record = [Err(NetFault::Residual(1, 1))];
-    assert!(rt; walk(rt.alloc(), 0, TWO_ALIKE, &record)?);
-    Ok(())
+    assert!(rt; walk(rt.alloc(), 0, TWO_ALIKE, &record));
 }
 
 /// 100 V over 100 ohm onto an open line.
@@ -421,9 +421,8 @@ const LINE_STEPS: &[End] = &[
 ];
 
 #[test]
-fn wave_reaches_the_open_end_of_a_line_and_comes_back(rt: HostRuntime) -> Result<(), Fail> {
-    assert!(rt; walk(rt.alloc(), LOOSE, OPEN_LINE, LINE_STEPS)?);
-    Ok(())
+fn wave_reaches_the_open_end_of_a_line_and_comes_back(rt: HostRuntime) {
+    assert!(rt; walk(rt.alloc(), LOOSE, OPEN_LINE, LINE_STEPS));
 }
 
 /// 100 V on a reactor.
@@ -452,9 +451,8 @@ const REACTOR_STEPS: &[End] = &[
 ];
 
 #[test]
-fn reactor_keeps_its_slope_within_a_step(rt: HostRuntime) -> Result<(), Fail> {
-    assert!(rt; walk(rt.alloc(), LOOSE, REACTOR, REACTOR_STEPS)?);
-    Ok(())
+fn reactor_keeps_its_slope_within_a_step(rt: HostRuntime) {
+    assert!(rt; walk(rt.alloc(), LOOSE, REACTOR, REACTOR_STEPS));
 }
 
 /// 126 V over 10 ohm on an arrester.
@@ -489,9 +487,8 @@ const ARRESTER_STEPS: &[End] = &[
 ];
 
 #[test]
-fn arrester_redoes_one_row(rt: HostRuntime) -> Result<(), Fail> {
-    assert!(rt; walk(rt.alloc(), LOOSE, ARRESTER, ARRESTER_STEPS)?);
-    Ok(())
+fn arrester_redoes_one_row(rt: HostRuntime) {
+    assert!(rt; walk(rt.alloc(), LOOSE, ARRESTER, ARRESTER_STEPS));
 }
 
 /// The system of the first step, and that of each later one.
@@ -504,9 +501,8 @@ const ARRESTER_SYSTEMS: &[System] = &[
 ];
 
 #[test]
-fn steps_that_leave_out_an_update(rt: HostRuntime) -> Result<(), Fail> {
-    assert!(rt; walk_side_by_side(rt.alloc(), ARRESTER, ARRESTER_SYSTEMS)?);
-    Ok(())
+fn steps_that_leave_out_an_update(rt: HostRuntime) {
+    assert!(rt; walk_side_by_side(rt.alloc(), ARRESTER, ARRESTER_SYSTEMS));
 }
 
 /// 100 V over 1 ohm to a loop of three closed switches, and from it 1 ohm to ground.
@@ -523,14 +519,16 @@ const RING: &[Part] = &[
     Part::Voltage(1, 100 * NANO),
 ];
 
+const RING_STEP: End = Ok(Look {
+    volts: &[0, 100 * NANO, 50 * NANO, 50 * NANO, 50 * NANO],
+    current: 50 * NANO,
+    crossing: &[50 * NANO, 50 * NANO, 0],
+    redone: 0,
+});
+
+const RING_STEPS: &[End] = &[RING_STEP, RING_STEP, RING_STEP];
+
 #[test]
-fn last_switch_of_a_loop_carries_nothing(rt: HostRuntime) -> Result<(), Fail> {
-    let look = Look {
-        volts: &[0, 100 * NANO, 50 * NANO, 50 * NANO, 50 * NANO],
-        current: 50 * NANO,
-        crossing: &[50 * NANO, 50 * NANO, 0],
-        redone: 0,
-    };
-    assert!(rt; walk(rt.alloc(), LOOSE, RING, &[Ok(look), Ok(look), Ok(look)])?);
-    Ok(())
+fn last_switch_of_a_loop_carries_nothing(rt: HostRuntime) {
+    assert!(rt; walk(rt.alloc(), LOOSE, RING, RING_STEPS));
 }
