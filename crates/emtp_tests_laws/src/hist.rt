@@ -17,13 +17,24 @@ fn delayed(history: &mut History, value: i64, steps: usize) -> i64
     history.back(steps)
 }
 
+/// What a quantity of depth 2 answers before its first value and after each of four.
+fn answers(history: &mut History) -> [i64; 5]
+    requires { history.old.depth ≡ 2 }
+{
+    [
+        history.back(0),
+        delayed(history, 10, 1),
+        delayed(history, -20, 1),
+        delayed(history, 30, 0),
+        delayed(history, 40, 1),
+    ]
+}
+
 #[test]
 fn looks_back_over_the_last_pushes(rt: HostRuntime) -> Result<(), Fail> {
     let mut history = History::open(rt.alloc(), 2)?;
-    assert_eq!(rt; history.back(0), 0);
-    assert_eq!(rt; delayed(&mut history, 10, 1), 0);
-    assert_eq!(rt; delayed(&mut history, -20, 1), 10);
-    assert_eq!(rt; delayed(&mut history, 30, 0), 30);
-    assert_eq!(rt; delayed(&mut history, 40, 1), 30);
+    let found = answers(&mut history);
+    drop(history);
+    assert_eq!(rt; found, [0, 0, 10, 30, 30]);
     Ok(())
 }

@@ -121,15 +121,15 @@ fn first_difference(lines: &mut Lines<'_>, rows: &[Row]) -> Option<usize>
     requires { (x : Line) × IsLineAt lines.old.case 0 x }
 {
     for at in 0..rows.len() {
-        let (voltages, (histories, current, ends)) = rows[at];
-        let found = step(lines, voltages);
-        if found.0 != histories || found.1 != current || found.2 != ends {
+        let (voltages, wanted) = rows[at];
+        if step(lines, voltages) != wanted {
             return Some(at);
         }
     }
     None
 }
 
+/// Waves arrive after the travel time.
 const TWO_STEPS: &[Row] = &[
     ((50 * V, 0), ((0, 0), V / 2, (V / 2, 0))),
     ((50 * V, 0), ((0, 0), V / 2, (V / 2, 0))),
@@ -141,12 +141,7 @@ const TWO_STEPS: &[Row] = &[
     ),
 ];
 
-#[test]
-fn waves_arrive_after_the_travel_time(rt: HostRuntime) -> Result<(), Fail> {
-    assert_eq!(rt; difference(rt.alloc(), two_steps(), TWO_STEPS)?, None);
-    Ok(())
-}
-
+/// Waves that arrive within a step are shared.
 const TWO_AND_A_HALF: &[Row] = &[
     ((50 * V, 0), ((0, 0), V / 2, (V / 2, 0))),
     ((50 * V, 0), ((0, 0), V / 2, (V / 2, 0))),
@@ -158,15 +153,7 @@ const TWO_AND_A_HALF: &[Row] = &[
     ),
 ];
 
-#[test]
-fn waves_that_arrive_within_a_step_are_shared(rt: HostRuntime) -> Result<(), Fail> {
-    assert_eq!(rt;
-        difference(rt.alloc(), two_and_a_half(), TWO_AND_A_HALF)?,
-        None
-    );
-    Ok(())
-}
-
+/// Losses take of the waves.
 const WITH_LOSSES: &[Row] = &[
     (
         (123_456_789_012, -987_654_321),
@@ -202,12 +189,6 @@ const WITH_LOSSES: &[Row] = &[
     ),
 ];
 
-#[test]
-fn losses_take_of_the_waves(rt: HostRuntime) -> Result<(), Fail> {
-    assert_eq!(rt; difference(rt.alloc(), with_losses(), WITH_LOSSES)?, None);
-    Ok(())
-}
-
 /// A lead of the least impedance, one step long.
 #[tactic(auto, unfolding(emtp_fix::specs::Rounding::near, emtp_fix::specs::Rounding::near_abs))]
 fn lead() -> Line
@@ -224,7 +205,8 @@ fn lead() -> Line
     }
 }
 
-/// 5 kV make 0.5 GA and a wave of 1 GA, which is the greatest; 1 nV more is too much, at either end.
+/// 5 kV make 0.5 GA and a wave of 1 GA, which is the greatest; 1 nV more is too much, at either end. A line out of
+/// range stays as it was.
 const GREATEST_WAVE: &[Row] = &[
     ((5_000 * V + 1, 0), ((0, 0), OUT, (0, 0))),
     ((0, 5_000 * V + 1), ((0, 0), OUT, (0, 0))),
@@ -239,8 +221,18 @@ const GREATEST_WAVE: &[Row] = &[
     ),
 ];
 
+/// The first differences of all lines.
+fn differences(alloc: Global) -> Result<[Option<usize>; 4], AllocError> {
+    Ok([
+        difference(alloc, two_steps(), TWO_STEPS)?,
+        difference(alloc, two_and_a_half(), TWO_AND_A_HALF)?,
+        difference(alloc, with_losses(), WITH_LOSSES)?,
+        difference(alloc, lead(), GREATEST_WAVE)?,
+    ])
+}
+
 #[test]
-fn a_line_out_of_range_stays_as_it_was(rt: HostRuntime) -> Result<(), Fail> {
-    assert_eq!(rt; difference(rt.alloc(), lead(), GREATEST_WAVE)?, None);
+fn worked_lines(rt: HostRuntime) -> Result<(), Fail> {
+    assert_eq!(rt; differences(rt.alloc())?, [None; 4]);
     Ok(())
 }

@@ -335,33 +335,18 @@ const UNEVEN_RESISTOR: &[Row] = &[
     (0, 0, 100_009_000_810, 4_444_844_482, Ok(4_444_844_482), 0),
 ];
 
-#[test]
-fn saturating_reactor(rt: HostRuntime) -> Result<(), Fail> {
-    assert_eq!(rt;
-        difference(rt.alloc(), true, &saturation(), SATURATING)?,
-        None
-    );
-    Ok(())
+/// The first differences of all branches.
+fn differences(alloc: Global) -> Result<[Option<usize>; 4], AllocError> {
+    Ok([
+        difference(alloc, true, &saturation(), SATURATING)?,
+        difference(alloc, false, &arrester(), BEHIND_TEN_OHMS)?,
+        difference(alloc, true, &uneven_reactor(), UNEVEN_REACTOR)?,
+        difference(alloc, false, &uneven_resistor(), UNEVEN_RESISTOR)?,
+    ])
 }
 
 #[test]
-fn arrester_behind_ten_ohms(rt: HostRuntime) -> Result<(), Fail> {
-    assert_eq!(rt;
-        difference(rt.alloc(), false, &arrester(), BEHIND_TEN_OHMS)?,
-        None
-    );
-    Ok(())
-}
-
-#[test]
-fn uneven_numbers(rt: HostRuntime) -> Result<(), Fail> {
-    assert_eq!(rt;
-        difference(rt.alloc(), true, &uneven_reactor(), UNEVEN_REACTOR)?,
-        None
-    );
-    assert_eq!(rt;
-        difference(rt.alloc(), false, &uneven_resistor(), UNEVEN_RESISTOR)?,
-        None
-    );
+fn worked_branches(rt: HostRuntime) -> Result<(), Fail> {
+    assert_eq!(rt; differences(rt.alloc())?, [None; 4]);
     Ok(())
 }

@@ -9,7 +9,6 @@ use crate::fixtures::{OUT, RUN, V, nodes};
 use emtp_case::{Case, Phase, Trio};
 use emtp_line::{Lines, PhaseRange};
 use std::alloc::{AllocError, Global};
-use std::process::Abort;
 use std::test::Fail;
 
 /// 400 ohm and two steps of the zero sequence, 100 ohm and two steps of the positive sequence.
@@ -111,6 +110,7 @@ fn currents(lines: &mut Lines<'_>, v: [i64; 3], w: [i64; 3]) -> [i64; 3]
     lines.accept_three(0, v, w).unwrap_or([OUT, OUT, OUT])
 }
 
+/// The zero sequence travels alone.
 const ZERO_SEQUENCE: &[Row] = &[
     ([50 * V; 3], [0; 3], [V / 8; 3]),
     ([50 * V; 3], [0; 3], [V / 8; 3]),
@@ -119,15 +119,7 @@ const ZERO_SEQUENCE: &[Row] = &[
     ([100 * V; 3], [100 * V; 3], [0; 3]),
 ];
 
-#[test]
-fn the_zero_sequence_travels_alone(rt: HostRuntime) -> Result<(), Fail> {
-    assert_eq!(rt;
-        difference(rt.alloc(), two_sequences(), ZERO_SEQUENCE)?,
-        None
-    );
-    Ok(())
-}
-
+/// The positive sequence travels as on a single line.
 const POSITIVE_SEQUENCE: &[Row] = &[
     ([50 * V, -50 * V, 0], [0; 3], [V / 2, -V / 2, 0]),
     ([50 * V, -50 * V, 0], [0; 3], [V / 2, -V / 2, 0]),
@@ -144,15 +136,7 @@ const POSITIVE_SEQUENCE: &[Row] = &[
     ([100 * V, -100 * V, 0], [100 * V, -100 * V, 0], [0; 3]),
 ];
 
-#[test]
-fn the_positive_sequence_travels_as_on_a_single_line(rt: HostRuntime) -> Result<(), Fail> {
-    assert_eq!(rt;
-        difference(rt.alloc(), two_sequences(), POSITIVE_SEQUENCE)?,
-        None
-    );
-    Ok(())
-}
-
+/// Losses take of both sequences.
 const WITH_LOSSES: &[Row] = &[
     (
         [123_456_789_012, -55_555_555_555, 31],
@@ -181,40 +165,55 @@ const WITH_LOSSES: &[Row] = &[
     ),
 ];
 
+/// The first differences of all lines.
+fn differences(alloc: Global) -> Result<[Option<usize>; 3], AllocError> {
+    Ok([
+        difference(alloc, two_sequences(), ZERO_SEQUENCE)?,
+        difference(alloc, two_sequences(), POSITIVE_SEQUENCE)?,
+        difference(alloc, sequences_with_losses(), WITH_LOSSES)?,
+    ])
+}
+
 #[test]
-fn losses_take_of_both_sequences(rt: HostRuntime) -> Result<(), Fail> {
-    assert_eq!(rt;
-        difference(rt.alloc(), sequences_with_losses(), WITH_LOSSES)?,
-        None
-    );
+fn worked_lines(rt: HostRuntime) -> Result<(), Fail> {
+    assert_eq!(rt; differences(rt.alloc())?, [None; 3]);
     Ok(())
 }
 
 #[test]
 fn phases_one_by_one(rt: HostRuntime) -> Result<(), Fail> {
     let case = three_phases(rt.alloc(), two_sequences())?;
-    let found = one_by_one(&rt, rt.alloc(), &case);
+    let found = one_by_one(rt.alloc(), &case);
     drop(case);
-    found?;
+    assert!(rt; found?);
     Ok(())
 }
 
-fn one_by_one(rt: &impl Abort, alloc: Global, case: &Case) -> Result<(), AllocError>
+fn one_by_one(alloc: Global, case: &Case) -> Result<bool, AllocError>
     requires trios { length case.now.parts.trios ≡ 1 }
     requires branches { case.now.parts.branches ≡ three_legs }
 {
     let mut lines = Lines::open(alloc, case)?;
-    // (2.5 + 2*10)/3 mS of a phase, (2.5 - 10)/3 mS from one to another
-    assert_eq!(rt; lines.conductance(1), 7_500_000_000);
-    assert_eq!(rt; lines.mutual(0), -2_500_000_000);
-    currents(&mut lines, [50 * V, -50 * V, 0], [0; 3]);
-    assert_eq!(rt; lines.end_currents(1), (-V / 2, 0));
-    currents(&mut lines, [0; 3], [0; 3]);
-    assert_eq!(rt; lines.history_currents(0), (0, -1_000_000_000));
-    assert_eq!(rt; lines.history_currents(1), (0, 1_000_000_000));
-    assert_eq!(rt; lines.history_currents(2), (0, 0));
+    let right = has_each_phase(&mut lines);
     drop(lines);
-    Ok(())
+    Ok(right)
+}
+
+/// Whether each phase of the two sequences has its conductances, and its currents after each of two steps.
+fn has_each_phase(lines: &mut Lines<'_>) -> bool
+    requires trios { length lines.old.case.trios ≡ 1 }
+    requires branches { lines.old.case.branches ≡ three_legs }
+{
+    // (2.5 + 2*10)/3 mS of a phase, (2.5 - 10)/3 mS from one to another
+    let own = lines.conductance(1) == 7_500_000_000;
+    let mutual = lines.mutual(0) == -2_500_000_000;
+    currents(lines, [50 * V, -50 * V, 0], [0; 3]);
+    let ends = lines.end_currents(1) == (-V / 2, 0);
+    currents(lines, [0; 3], [0; 3]);
+    let first = lines.history_currents(0) == (0, -1_000_000_000);
+    let second = lines.history_currents(1) == (0, 1_000_000_000);
+    let third = lines.history_currents(2) == (0, 0);
+    own & mutual & ends & first & second & third
 }
 
 /// Leads of the least impedance, one step long.
@@ -248,31 +247,36 @@ const REFUSALS: &[Refusal] = &[
 #[test]
 fn first_phase_out_of_range(rt: HostRuntime) -> Result<(), Fail> {
     let case = three_phases(rt.alloc(), leads())?;
-    let found = refusals(&rt, rt.alloc(), &case);
+    let found = refusals(rt.alloc(), &case);
     drop(case);
-    found?;
+    // the five that were refused left it at rest
+    assert_eq!(rt; found?, (None, (0, -1_000_000_000_000_000_000)));
     Ok(())
 }
 
-fn refusals(rt: &impl Abort, alloc: Global, case: &Case) -> Result<(), AllocError>
+/// The first row that is refused otherwise, and the history currents of the last phase after all.
+fn refusals(alloc: Global, case: &Case) -> Result<(Option<usize>, (i128, i128)), AllocError>
     requires trios { length case.now.parts.trios ≡ 1 }
     requires branches { case.now.parts.branches ≡ three_legs }
 {
     let mut lines = Lines::open(alloc, case)?;
-    refuses_each(rt, &mut lines);
-    // the five that were refused left it at rest
-    assert_eq!(rt; lines.history_currents(2), (0, -1_000_000_000_000_000_000));
+    let found = other_refusal(&mut lines);
+    let histories = lines.history_currents(2);
     drop(lines);
-    Ok(())
+    Ok((found, histories))
 }
 
-fn refuses_each(rt: &impl Abort, lines: &mut Lines<'_>)
+fn other_refusal(lines: &mut Lines<'_>) -> Option<usize>
     requires { 0 < length lines.old.case.trios }
     ensures { lines.new.case ≡ lines.old.case }
 {
-    for (v, w, expected) in REFUSALS {
-        assert_eq!(rt; refused(lines.accept_three(0, *v, *w)), *expected);
+    for at in 0..REFUSALS.len() {
+        let (v, w, expected) = REFUSALS[at];
+        if refused(lines.accept_three(0, v, w)) != expected {
+            return Some(at);
+        }
     }
+    None
 }
 
 /// The phase that an answer refuses.
