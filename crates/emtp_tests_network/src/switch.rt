@@ -83,10 +83,9 @@ fn has_kinds(switches: &Switches<'_>, wanted: Kinds) -> bool
     requires { HasSizes switches.now.case }
 {
     let mut kinds = [RowKind::Kcl; 4];
-    match (switches.kinds(&mut kinds), wanted) {
-        (Ok(()), Ok(wanted)) => kinds.as_slice() == wanted,
-        (Err(tied), Err(named)) => tied == named,
-        _ => false,
+    match switches.kinds(&mut kinds) {
+        Ok(()) => wanted == Ok(kinds.as_slice()),
+        Err(tied) => wanted == Err(tied),
     }
 }
 
