@@ -143,7 +143,7 @@ fn add_line(draft: &mut Draft, from: u32, to: u32) -> bool {
         && draft.add_branch(Branch::Line(line(from, to))).is_ok()
 }
 
-/// Whether the next branch is the first, and the first that keeps past values.
+/// Whether no branch is there, and nothing else that keeps past values.
 fn is_first(draft: &Draft) -> bool
     ensures branches { result ≡ true → draft.now.parts.branches ≡ [] }
     ensures trios { result ≡ true → draft.now.parts.trios ≡ [] }
