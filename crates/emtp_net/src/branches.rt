@@ -89,34 +89,22 @@ impl<'a> Branches<'a> {
         ensures moved { (H : List StepRecord) → StandsBefore self.old case.now.parts H voltages.now at → IfOk result (HasMoved self.old self.new case.now.parts H voltages.now at) }
         ensures stopped { (H : List StepRecord) → StandsBefore self.old case.now.parts H voltages.now at → IfErr result (HasStopped case.now.parts H voltages.now at) }
     {
-        match case.parts.branches.as_slice()[at] {
-            Branch::Lumped(b) => {
-                match self
-                    .lumps
-                    .accept(at, voltages[b.from as usize], voltages[b.to as usize])
-                {
-                    Ok(current) => Ok(current),
-                    Err(_) => Err(at),
-                }
-            }
-            Branch::Line(b) => {
-                match self
-                    .lines
-                    .accept(at, voltages[b.from as usize], voltages[b.to as usize])
-                {
-                    Ok(current) => Ok(current),
-                    Err(_) => Err(at),
-                }
-            }
-            Branch::Pseudo(b) => {
-                match self
-                    .pseudos
-                    .accept(at, voltages[b.from as usize], voltages[b.to as usize])
-                {
-                    Ok(current) => Ok(current),
-                    Err(_) => Err(at),
-                }
-            }
+        let branch = case.parts.branches.as_slice()[at];
+        let (from, to) = branch.ends();
+        let (v, w) = (voltages[from as usize], voltages[to as usize]);
+        match branch {
+            Branch::Lumped(_) => match self.lumps.accept(at, v, w) {
+                Ok(current) => Ok(current),
+                Err(_) => Err(at),
+            },
+            Branch::Line(_) => match self.lines.accept(at, v, w) {
+                Ok(current) => Ok(current),
+                Err(_) => Err(at),
+            },
+            Branch::Pseudo(_) => match self.pseudos.accept(at, v, w) {
+                Ok(current) => Ok(current),
+                Err(_) => Err(at),
+            },
             Branch::Phase(b) => {
                 if b.phase != 0 {
                     return Ok(0);

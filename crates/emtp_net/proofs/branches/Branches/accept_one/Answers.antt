@@ -1,6 +1,8 @@
-use Rattle.std.proofs.Common.{◌≡◌, slice_get, Some, FitsSigned, refl, to_z, of_z, rules, arith}
+use Rattle.std.proofs.Common.{◌≡◌, ◌∙◌, ℕ, ap, slice_get, Some, FitsSigned, refl, to_z, of_z, rules, arith}
 use mir.Syntax.{w64}
 use Rattle.std.proofs.lemmas.Int.{to_z-of_z}
+use Rattle.emtp_case.specs.Branch.{from_of, to_of}
+use Rattle.emtp_case.specs.declared.branch.Branch.{Branch}
 use Rattle.emtp_case.specs.declared.branch.Branch.TheVariants.{Lumped as OfLumped, Line as OfLine, Pseudo as OfPseudo, Phase as OfPhase}
 use Rattle.emtp_elim.specs.Matrix.{item}
 use Rattle.emtp_net.proofs.Moves.{line_moves, line_stops, lumped_moves, lumped_stops, phase_read, pseudo_moves, pseudo_stops}
@@ -13,13 +15,14 @@ pub returns-in-Ok-clause-moved : goal.returns-in-Ok-clause-moved
 returns-in-Ok-clause-moved c = λ H before.
     let case = c.args.case.now.parts in
     let vs = c.args.voltages.now in
-    let x = c.in-Lumped.b in
+    let x = c.in-Lumped.field-0 in
+    let ends : c.ends-from.result ≡ (x.from, x.to) = c.ends-from.ensures ∙ ap (λ (b : Branch). (from_of b, to_of b)) c.in-Lumped.is in
     let is : slice_get case.branches c.args.at ≡ Some (OfLumped x) = branch_read case _ c.args.at _ (OfLumped x) c.as_slice.ensures c.requires.there c.in-Lumped.is in
     let first : FitsSigned w64 (item vs x.from) = search rules in
     let second : FitsSigned w64 (item vs x.to) = search rules in
     let one : to_z w64 (of_z w64 (item vs x.from)) ≡ item vs x.from = to_z-of_z w64 _ first in
     let two : to_z w64 (of_z w64 (item vs x.to)) ≡ item vs x.to = to_z-of_z w64 _ second in
-    let moves = rw (one, two) at c.in-Ok.ensures in
+    let moves = rw (ap (λ (e : ℕ × ℕ). e.0) ends, ap (λ (e : ℕ × ℕ). e.1) ends, one, two) at c.in-Ok.ensures in
     let fits : FitsSigned w64 c.in-Ok.current = search rules in
     let wide : to_z w64 (of_z w64 c.in-Ok.current) ≡ c.in-Ok.current = to_z-of_z w64 _ fits in
     rw wide (lumped_moves case H vs c.args.at x c.args.self.now _ c.in-Ok.current c.args.case.now.fits.draft.network c.requires.same c.requires.there is refl refl moves before)
@@ -28,26 +31,28 @@ pub returns-in-Err-clause-stopped : goal.returns-in-Err-clause-stopped
 returns-in-Err-clause-stopped c = λ H before.
     let case = c.args.case.now.parts in
     let vs = c.args.voltages.now in
-    let x = c.in-Lumped.b in
+    let x = c.in-Lumped.field-0 in
+    let ends : c.ends-from.result ≡ (x.from, x.to) = c.ends-from.ensures ∙ ap (λ (b : Branch). (from_of b, to_of b)) c.in-Lumped.is in
     let is : slice_get case.branches c.args.at ≡ Some (OfLumped x) = branch_read case _ c.args.at _ (OfLumped x) c.as_slice.ensures c.requires.there c.in-Lumped.is in
     let first : FitsSigned w64 (item vs x.from) = search rules in
     let second : FitsSigned w64 (item vs x.to) = search rules in
     let one : to_z w64 (of_z w64 (item vs x.from)) ≡ item vs x.from = to_z-of_z w64 _ first in
     let two : to_z w64 (of_z w64 (item vs x.to)) ≡ item vs x.to = to_z-of_z w64 _ second in
-    let moves = rw (one, two) at c.in-Err.ensures in
+    let moves = rw (ap (λ (e : ℕ × ℕ). e.0) ends, ap (λ (e : ℕ × ℕ). e.1) ends, one, two) at c.in-Err.ensures in
     lumped_stops case H vs c.args.at x c.args.self.now (record c.args.self.now { lumps = c.accept.new.self }) c.in-Err.field-0 c.requires.same c.requires.there is moves before
 
 pub returns-in-Ok-accept-clause-moved : goal.returns-in-Ok-accept-clause-moved
 returns-in-Ok-accept-clause-moved c = λ H before.
     let case = c.args.case.now.parts in
     let vs = c.args.voltages.now in
-    let x = c.in-Line.b in
+    let x = c.in-Line.field-0 in
+    let ends : c.ends-from.result ≡ (x.from, x.to) = c.ends-from.ensures ∙ ap (λ (b : Branch). (from_of b, to_of b)) c.in-Line.is in
     let is : slice_get case.branches c.args.at ≡ Some (OfLine x) = branch_read case _ c.args.at _ (OfLine x) c.as_slice.ensures c.requires.there c.in-Line.is in
     let first : FitsSigned w64 (item vs x.from) = search rules in
     let second : FitsSigned w64 (item vs x.to) = search rules in
     let one : to_z w64 (of_z w64 (item vs x.from)) ≡ item vs x.from = to_z-of_z w64 _ first in
     let two : to_z w64 (of_z w64 (item vs x.to)) ≡ item vs x.to = to_z-of_z w64 _ second in
-    let moves = rw (one, two) at c.in-Ok-accept.ensures in
+    let moves = rw (ap (λ (e : ℕ × ℕ). e.0) ends, ap (λ (e : ℕ × ℕ). e.1) ends, one, two) at c.in-Ok-accept.ensures in
     let fits : FitsSigned w64 c.in-Ok-accept.current = search rules in
     let wide : to_z w64 (of_z w64 c.in-Ok-accept.current) ≡ c.in-Ok-accept.current = to_z-of_z w64 _ fits in
     rw wide (line_moves case H vs c.args.at x c.args.self.now _ c.in-Ok-accept.current c.args.case.now.fits.draft.network c.requires.same c.requires.there is refl refl moves before)
@@ -56,26 +61,28 @@ pub returns-in-Err-accept-clause-stopped : goal.returns-in-Err-accept-clause-sto
 returns-in-Err-accept-clause-stopped c = λ H before.
     let case = c.args.case.now.parts in
     let vs = c.args.voltages.now in
-    let x = c.in-Line.b in
+    let x = c.in-Line.field-0 in
+    let ends : c.ends-from.result ≡ (x.from, x.to) = c.ends-from.ensures ∙ ap (λ (b : Branch). (from_of b, to_of b)) c.in-Line.is in
     let is : slice_get case.branches c.args.at ≡ Some (OfLine x) = branch_read case _ c.args.at _ (OfLine x) c.as_slice.ensures c.requires.there c.in-Line.is in
     let first : FitsSigned w64 (item vs x.from) = search rules in
     let second : FitsSigned w64 (item vs x.to) = search rules in
     let one : to_z w64 (of_z w64 (item vs x.from)) ≡ item vs x.from = to_z-of_z w64 _ first in
     let two : to_z w64 (of_z w64 (item vs x.to)) ≡ item vs x.to = to_z-of_z w64 _ second in
-    let moves = rw (one, two) at c.in-Err-accept.ensures in
+    let moves = rw (ap (λ (e : ℕ × ℕ). e.0) ends, ap (λ (e : ℕ × ℕ). e.1) ends, one, two) at c.in-Err-accept.ensures in
     line_stops case H vs c.args.at x c.args.self.now (record c.args.self.now { lines = c.accept-in-Line.new.self }) c.in-Err-accept.field-0 c.requires.same c.requires.there is moves before
 
 pub returns-in-Ok-accept-2-clause-moved : goal.returns-in-Ok-accept-2-clause-moved
 returns-in-Ok-accept-2-clause-moved c = λ H before.
     let case = c.args.case.now.parts in
     let vs = c.args.voltages.now in
-    let x = c.in-Pseudo.b in
+    let x = c.in-Pseudo.field-0 in
+    let ends : c.ends-from.result ≡ (x.from, x.to) = c.ends-from.ensures ∙ ap (λ (b : Branch). (from_of b, to_of b)) c.in-Pseudo.is in
     let is : slice_get case.branches c.args.at ≡ Some (OfPseudo x) = branch_read case _ c.args.at _ (OfPseudo x) c.as_slice.ensures c.requires.there c.in-Pseudo.is in
     let first : FitsSigned w64 (item vs x.from) = search rules in
     let second : FitsSigned w64 (item vs x.to) = search rules in
     let one : to_z w64 (of_z w64 (item vs x.from)) ≡ item vs x.from = to_z-of_z w64 _ first in
     let two : to_z w64 (of_z w64 (item vs x.to)) ≡ item vs x.to = to_z-of_z w64 _ second in
-    let moves = rw (one, two) at c.in-Ok-accept-2.ensures in
+    let moves = rw (ap (λ (e : ℕ × ℕ). e.0) ends, ap (λ (e : ℕ × ℕ). e.1) ends, one, two) at c.in-Ok-accept-2.ensures in
     let fits : FitsSigned w64 c.in-Ok-accept-2.current = search rules in
     let wide : to_z w64 (of_z w64 c.in-Ok-accept-2.current) ≡ c.in-Ok-accept-2.current = to_z-of_z w64 _ fits in
     rw wide (pseudo_moves case H vs c.args.at x c.args.self.now _ c.in-Ok-accept-2.current c.args.case.now.fits.draft.network c.requires.same c.requires.there is refl refl moves before)
@@ -84,13 +91,14 @@ pub returns-in-Err-accept-2-clause-stopped : goal.returns-in-Err-accept-2-clause
 returns-in-Err-accept-2-clause-stopped c = λ H before.
     let case = c.args.case.now.parts in
     let vs = c.args.voltages.now in
-    let x = c.in-Pseudo.b in
+    let x = c.in-Pseudo.field-0 in
+    let ends : c.ends-from.result ≡ (x.from, x.to) = c.ends-from.ensures ∙ ap (λ (b : Branch). (from_of b, to_of b)) c.in-Pseudo.is in
     let is : slice_get case.branches c.args.at ≡ Some (OfPseudo x) = branch_read case _ c.args.at _ (OfPseudo x) c.as_slice.ensures c.requires.there c.in-Pseudo.is in
     let first : FitsSigned w64 (item vs x.from) = search rules in
     let second : FitsSigned w64 (item vs x.to) = search rules in
     let one : to_z w64 (of_z w64 (item vs x.from)) ≡ item vs x.from = to_z-of_z w64 _ first in
     let two : to_z w64 (of_z w64 (item vs x.to)) ≡ item vs x.to = to_z-of_z w64 _ second in
-    let moves = rw (one, two) at c.in-Err-accept-2.ensures in
+    let moves = rw (ap (λ (e : ℕ × ℕ). e.0) ends, ap (λ (e : ℕ × ℕ). e.1) ends, one, two) at c.in-Err-accept-2.ensures in
     pseudo_stops case H vs c.args.at x c.args.self.now (record c.args.self.now { pseudos = c.accept-in-Pseudo.new.self }) c.in-Err-accept-2.field-0 c.requires.same c.requires.there is moves before
 
 pub returns-then-b-ne0-clause-moved : goal.returns-then-b-ne0-clause-moved
