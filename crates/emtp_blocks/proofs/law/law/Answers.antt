@@ -1,11 +1,45 @@
-use Rattle.std.proofs.Common.{◌≡◌, ◌∙◌, ap, ◌^◌, ◌≤◌, ◌*ℤ◌, pos, unsigned_abs, to_z, of_z, arith}
+use Rattle.std.proofs.Common.{◌≡◌, ◌∙◌, ap, ◌^◌, ◌*◌, ◌≤◌, ◌*ℤ◌, ℤ, pos, FitsSigned, unsigned_abs, to_z, of_z, arith}
 use mir.Syntax.{w64, w128}
 use Rattle.std.proofs.lemmas.Int.{ints, to_z-of_z}
-use Rattle.emtp_case.specs.Control.{step_gain, power_of}
+use Rattle.emtp_case.specs.Control.{divisor_of, step_gain, power_of}
+use Rattle.emtp_case.specs.Sums.{sum_upto}
+use Rattle.emtp_case.specs.declared.control.Block.{Block}
 use Rattle.emtp_fix.specs.Rounding.{near}
 use Rattle.emtp_fix.proofs.Wide.{through_64}
 use Rattle.emtp_blocks.proofs.Coefficients.{sum_is}
 use Rattle.emtp_blocks.proofs.law.law.Goals as goal
+
+-- the divisor as the code has it
+divisor_is : (dt : ℤ) (b : Block) (d : ℤ) → FitsSigned w64 dt → unsigned_abs d ≤ 64 * 10 ^ 25 → d ≡ sum_upto b.order (power_of (to_z w64 (of_z w64 dt)) b.bottom) → to_z w128 (of_z w128 d) ≡ divisor_of dt b
+divisor_is dt b d fits small is =
+    let same : to_z w64 (of_z w64 dt) ≡ dt = to_z-of_z w64 dt fits in
+    let through : to_z w128 (of_z w128 d) ≡ d = omega (arith, ints, small) in
+    let whole = rw same at is in
+    through ∙ whole
+
+pub coefficients-numerators-requires-clause-some : goal.coefficients-numerators-requires-clause-some
+coefficients-numerators-requires-clause-some c =
+    let s = c.coefficient_divisor-divisor in
+    rw (divisor_is c.args.dt c.args.b.now s.result c.ranges.dt s.ensures.small s.ensures.value) (c.requires.coefficients (omega arith)).divisor
+
+pub coefficients-numerators-requires-clause-small : goal.coefficients-numerators-requires-clause-small
+coefficients-numerators-requires-clause-small c = λ j below.
+    let s = c.coefficient_divisor-divisor in
+    let dt : to_z w64 (of_z w64 c.args.dt) ≡ c.args.dt = to_z-of_z w64 c.args.dt c.ranges.dt in
+    let divisor = divisor_is c.args.dt c.args.b.now s.result c.ranges.dt s.ensures.small s.ensures.value in
+    rw (dt, divisor) ((c.requires.coefficients (omega arith)).numerators j below)
+
+pub coefficients-denominators-requires-clause-some : goal.coefficients-denominators-requires-clause-some
+coefficients-denominators-requires-clause-some c =
+    let s = c.coefficient_divisor-divisor in
+    rw (divisor_is c.args.dt c.args.b.now s.result c.ranges.dt s.ensures.small s.ensures.value) (c.requires.coefficients (omega arith)).divisor
+
+pub coefficients-denominators-requires-clause-small : goal.coefficients-denominators-requires-clause-small
+coefficients-denominators-requires-clause-small c = λ j below.
+    let s = c.coefficient_divisor-divisor in
+    let dt : to_z w64 (of_z w64 c.args.dt) ≡ c.args.dt = to_z-of_z w64 c.args.dt c.ranges.dt in
+    let divisor = divisor_is c.args.dt c.args.b.now s.result c.ranges.dt s.ensures.small s.ensures.value in
+    rw (dt, divisor) ((c.requires.coefficients (omega arith)).denominators j below)
 
 pub step_gain-requires-2-clause-small : goal.step_gain-requires-2-clause-small
 step_gain-requires-2-clause-small c =
