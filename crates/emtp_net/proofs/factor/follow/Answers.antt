@@ -35,6 +35,16 @@ update_from-requires-clause-size g c =
     let stays = ap (λ (s : NodalRows). length s.nodal.case.nodes) c.take_touched.ensures.rest in
     rw c.changed_from-first.ensures.same (c.requires.size ∙ sym (length-nodal_matrix new ∙ stays))
 
+pub update_from-requires-clause-first : goal.update_from-requires-clause-first
+update_from-requires-clause-first g c = rw c.changed_from-first.ensures.same c.changed_from-first.ensures.first
+
+pub returns-in-Ok-clause-ticks : goal.returns-in-Ok-clause-ticks
+returns-in-Ok-clause-ticks g c =
+    let nodal = ap (λ (s : NodalRows). s.nodal) c.take_touched.ensures.rest in
+    let size = ap (λ (k : Good). k.size) c.changed_from-first.ensures.same in
+    let first : c.changed_from-first.result ≡ first_change c.args.kept.now.rows (nodal_matrix c.args.rows.now.nodal) = c.changed_from-first.ensures.first ∙ ap (λ n. first_change c.args.kept.now.rows (nodal_matrix n)) nodal in
+    omega (arith, c.in-Ok.ensures.ticks, first, size)
+
 pub returns-in-Err-clause-fault_ticks : goal.returns-in-Err-clause-fault_ticks
 returns-in-Err-clause-fault_ticks g c =
     let new = c.take_touched.new.self.nodal in

@@ -1,4 +1,4 @@
-use Rattle.std.proofs.Common.{◌≡◌, ◌∙◌, sym, ap, refl, arith}
+use Rattle.std.proofs.Common.{◌≡◌, ◌∙◌, sym, ap, refl, rules, arith}
 use Rattle.std.proofs.lemmas.List.{with_items_is}
 use Rattle.emtp_case.specs.declared.case.Parts.{Parts}
 use Rattle.emtp_rows.specs.Nodal.{Nodal}
@@ -13,6 +13,9 @@ set_kinds-requires c =
     let holds : HoldsSwitches c.args.case.now.parts c.decide.new.self = record { case_is = c.decide.ensures.case ∙ c.requires.switches.case_is; rows_are = c.decide.ensures.rows ∙ c.requires.switches.rows_are } in
     let read : c.deref.result.now ≡ c.kinds.new.out = c.deref.ensures.value ∙ with_items_is c.args.self.now.kinds c.kinds.new.out (omega (arith, c.kinds.auto.out, c.deref_mut.ensures.len)) in
     rw read (are_kinds c.args.case.now.parts c.args.rows.now.nodal.case c.decide.new.self c.kinds.new.out holds c.requires.rows c.in-Ok.ensures.are)
+
+pub returns-in-Ok-clause-touched : goal.returns-in-Ok-clause-touched
+returns-in-Ok-clause-touched c = search rules
 
 pub returns-in-Ok-clause-stands : goal.returns-in-Ok-clause-stands
 returns-in-Ok-clause-stands c = λ H r stands latest is. c.decide.ensures.stands H r stands latest (is ∙ ap (λ (p : Parts). next_states p H) (sym c.requires.switches.case_is))
