@@ -13,6 +13,9 @@ take_branches-requires-clause-entries c =
     let run = asks.run ∙ ap (λ (m : Made). m.parts.run) c.requires.control ∙ (control_is variables deck).run in
     rw (c.as_slice-2.ensures, c.as_slice-3.ensures, run) c.requires.whole.branches
 
+pub returns-in_err-take_branches-clause-value : goal.returns-in_err-take_branches-clause-value
+returns-in_err-take_branches-clause-value c = search rules
+
 pub returns-in_err-take_sources-clause-value : goal.returns-in_err-take_sources-clause-value
 returns-in_err-take_sources-clause-value c = search rules
 
