@@ -1,8 +1,5 @@
 use Rattle.std.proofs.Common.{rules}
 use Rattle.emtp_taccards.proofs.tacs_source_card.period.Goals as goal
 
-pub returns-clause-value : goal.returns-clause-value
-returns-clause-value c = search rules
-
 pub returns-clause-range : goal.returns-clause-range
 returns-clause-range c = search rules
