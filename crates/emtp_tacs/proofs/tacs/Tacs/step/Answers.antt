@@ -1,4 +1,4 @@
-use Rattle.std.proofs.Common.{◌∙◌, ◌+◌, sym, ap, subst, arith}
+use Rattle.std.proofs.Common.{◌∙◌, ◌+◌, ◌<◌, sym, ap, subst, arith}
 use Rattle.emtp_blocks.specs.BlockRows.{Blocking, StandsFor as BlocksStandFor}
 use Rattle.emtp_tacs.specs.Step.{Measured, control_step}
 use Rattle.emtp_tacs.specs.Redone.{control_step_ticks}
@@ -33,3 +33,6 @@ returns-clause-most g c = λ H stands.
     let first = first_is case c.self.inside.variables c.self.inside.system c.self.inside.made c.first_changed-first.result H stood c.self.invariant.system_holds.case_is c.first_changed-first.ensures.first in
     let same = ap (λ (t : HeldControl). control_step_ticks t.case H) c.self.view_is in
     omega (arith, same, ticks_most case H c.first_changed-first.result c.args.steps.now c.advance.new.steps first c.advance.ensures.most)
+
+pub first_changed-first-requires-clause-made : goal.first_changed-first-requires-clause-made
+first_changed-first-requires-clause-made g c = subst (λ (t : HeldControl). t.made < t.case.run.steps) (sym c.self.view_is) c.requires.made
