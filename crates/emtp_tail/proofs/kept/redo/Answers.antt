@@ -1,5 +1,6 @@
-use Rattle.std.proofs.Common.{rules, ◌≡◌, ◌+◌, ◌*◌, ◌<◌, ◌≤◌, length, ◌∙◌, arith}
+use Rattle.std.proofs.Common.{rules, ◌≡◌, ◌+◌, ◌*◌, ◌<◌, ◌≤◌, length, ap, sym, ◌∙◌, arith}
 use Rattle.std.proofs.lemmas.Nat.{row_fits}
+use Rattle.emtp_elim.specs.Matrix.{row_of}
 use Rattle.emtp_tail.proofs.GivenRows.{length-rows_in, length-put_row}
 use Rattle.emtp_tail.proofs.Redoing.{redoing_start, redoing_more, given_kept, kept_redone}
 use Rattle.emtp_tail.proofs.kept.redo.Goals as goal
@@ -26,6 +27,18 @@ returns-in-Err-clause-prefix g c =
       given_first = given_kept rows i c.loop-i.given c.copy_from_slice.new.self inside was.room was.redone.given_first;
       finished = rw c.in-Err.ensures.kept was.redone.finished;
     })
+
+pub returns-in-Err-clause-fault : goal.returns-in-Err-clause-fault
+returns-in-Err-clause-fault g c =
+    let rows = g.R.Rows.matrix c.args.rows.now in
+    let i = c.loop-i.i in
+    let count = c.loop-i.invariant.redone.count in
+    let inside : i < length rows = omega (arith, c.size-size.ensures.size) in
+    let row_is = ap (row_of rows) count ∙ sym c.row.ensures in
+    rw (← count) (c.in-Err.ensures.fault.row_fault rows (record { finished = c.loop-i.invariant.redone.finished; within = omega (arith, count); row_is = row_is }))
+
+pub returns-in-Err-clause-fault_ticks : goal.returns-in-Err-clause-fault_ticks
+returns-in-Err-clause-fault_ticks g c = omega (arith, c.loop-i.invariant.ticked, c.eliminate_row.ensures.steps)
 
 pub loop-i-preserved : goal.loop-i-preserved
 loop-i-preserved g c =
