@@ -28,3 +28,10 @@ returns-clause-value c =
     let moment = simp to_z-of_z at c.with.ensures.moment in
     let value = simp to_z-of_z at c.in_ok-state.ensures.value in
     ap (λ (m : Moment). Some m) moment ∙ ap (λ (o : Option PseudoState). option_map (moment_at c.args.v) o) value
+
+pub returns-in_err-state-clause-value : goal.returns-in_err-state-clause-value
+returns-in_err-state-clause-value c =
+    let v : FitsSigned w128 c.args.v = c.ranges.v in
+    let dt : FitsSigned w64 c.args.case.now.parts.run.dt = search rules in
+    let value = simp to_z-of_z at c.in_err-state.ensures.value in
+    rw c.from_residual.ensures (ap (λ (o : Option PseudoState). option_map (moment_at c.args.v) o) value)
