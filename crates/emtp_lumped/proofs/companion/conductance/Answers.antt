@@ -10,3 +10,10 @@ returns-clause-bound c =
     let is = simp to_z-of_z at c.near.ensures.value in
     let range = conductance_range c.args.z c.requires in
     omega (arith, ints, ap unsigned_abs is, range.least, range.most)
+
+pub returns-clause-value : goal.returns-clause-value
+returns-clause-value c =
+    let z : FitsSigned w128 c.args.z = c.ranges.z in
+    let is = simp to_z-of_z at c.near.ensures.value in
+    let range = conductance_range c.args.z c.requires in
+    omega (arith, ints, is, range.least, range.most)
