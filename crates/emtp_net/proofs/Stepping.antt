@@ -1,5 +1,5 @@
 -- A step, from what its stages answer.
-use Rattle.std.proofs.Common.{◌≡◌, ◌∙◌, sym, ap, subst, ℕ, ◌+◌, ℤ, List, [], ◌∷◌, length, map, Result, Ok, Err, OnOk, IfErr, refl, arith}
+use Rattle.std.proofs.Common.{◌≡◌, ◌∙◌, sym, ap, subst, ℕ, ◌+◌, ℤ, List, [], ◌∷◌, length, map, Result, Ok, Err, OnOk, IfErr, IsErrAnd, refl, arith}
 use Rattle.emtp_case.specs.StepRecord.{StepRecord, is_closed, latest}
 use Rattle.emtp_case.specs.declared.case.Parts.{Parts}
 use Rattle.emtp_case.specs.declared.row_kind.RowKind.{RowKind}
@@ -7,6 +7,7 @@ use Rattle.emtp_rows.specs.Touched.{NodalRows}
 use Rattle.emtp_switch.specs.States.{next_states}
 use Rattle.emtp_switch.specs.Switching as switching
 use Rattle.emtp_tail.specs.Good.{Good}
+use Rattle.emtp_net.specs.Fault.{NamesNode}
 use Rattle.emtp_net.specs.Moving.{AreCurrents, AreLineCurrents, HaveMoved, IsNext}
 use Rattle.emtp_net.specs.Network.{Net, StandsFor, StepsTo}
 use Rattle.emtp_net.specs.Part.{NetworkPart, network_of, part_at, states_at, switch_currents_at}
@@ -32,6 +33,19 @@ pub posed_is : (s : Net) (H : List StepRecord) (rows : NodalRows) (switches : sw
 posed_is s H rows switches old system kept stands decided kinds values made = record { stands = stands.branches; free = decided.free; kinds = ap (λ k. k.items) kinds ∙ decided.kinds_are; values = values; kept_is = made }
 
 -- ---- the end
+
+-- a fault names a node, and claims nothing of what follows an `Ok`, where it is returned as it came
+pub err_names : (s now : Net) (result : Result (Unit {0}) NetFault) (e : NetFault) → s ≡ now → IsErrAnd result (λ y. y ≡ e) → NamesNode s.case e → IfErr result (NamesNode now.case)
+err_names s now (Ok u) e same is names = absurd is
+err_names s now (Err y) e same is names = subst (λ (n : Net). NamesNode n.case y) same (subst (NamesNode s.case) (sym is) names)
+
+pub err_claims : (P : Type 0) (result : Result (Unit {0}) NetFault) (e : NetFault) → IsErrAnd result (λ y. y ≡ e) → OnOk result P
+err_claims P (Ok u) e is = absurd is
+err_claims P (Err y) e is = tt
+
+pub ok_claims : (P : Type 0) (result : Result (Unit {0}) NetFault) → P → OnOk result P
+ok_claims P (Ok u) holds = holds
+ok_claims P (Err e) holds = tt
 
 pub err_steps : (s now left : Net) (H : List StepRecord) (result : Result (Unit {0}) NetFault) (e : NetFault) (redone : ℕ) → s ≡ now → StandsFor s H → left.case ≡ s.case → left.redone ≡ s.redone + redone → result ≡ Err e → Ends s.case H redone e → StepsTo result left H (network_part now.case H)
 err_steps s now left H result e redone same stands kept count is ends =

@@ -67,14 +67,29 @@ impl<'a> Network<'a> {
         ensures rest { IfOk result (λ network. StandsFor network (rest_of case.now.parts ∷ [])) }
         ensures made { IfOk result (λ network. network.made ≡ 0) }
     {
-        // What owns most is opened last, so that few ways out have to drop it: a drop in place is proved list by list.
+        // What is open is dropped by calls where a later part isn't opened: a drop in place is proved list by list.
         let table = CosTable::open(alloc)?;
         let order = order(alloc, case)?;
-        let system = NodalSystem::open(alloc, case, &order)?;
-        let switches = Switches::open(alloc, case, &order)?;
-        let shown = shown_at_rest(alloc, case, &switches)?;
-        let branches = Branches::open(alloc, case)?;
-        let (rows, kept) = rows_at_rest(alloc, case, &order, &branches)?;
+        let Ok(system) = NodalSystem::open(alloc, case, &order) else {
+            drop((table, order));
+            return Err(AllocError);
+        };
+        let Ok(switches) = Switches::open(alloc, case, &order) else {
+            drop((table, order, system));
+            return Err(AllocError);
+        };
+        let Ok(shown) = shown_at_rest(alloc, case, &switches) else {
+            drop((table, order, system, switches));
+            return Err(AllocError);
+        };
+        let Ok(branches) = Branches::open(alloc, case) else {
+            drop((table, order, system, switches, shown));
+            return Err(AllocError);
+        };
+        let Ok((rows, kept)) = rows_at_rest(alloc, case, &order, &branches) else {
+            drop((table, order, system, switches, shown, branches));
+            return Err(AllocError);
+        };
         Ok(Network {
             case,
             order,

@@ -1,19 +1,21 @@
-use Rattle.std.proofs.Common.{◌≡◌, ◌∙◌, ◌∷◌, ◌<◌, ◌≤◌, ◌+◌, sym, ap, subst, All, length, unsigned_abs, Err, refl, arith}
+use Rattle.std.proofs.Common.{◌≡◌, ◌∙◌, ◌∷◌, ◌<◌, ◌≤◌, ◌+◌, sym, ap, subst, All, length, unsigned_abs, Err, IfErr, refl, arith}
 use Rattle.std.specs.Vec.{with_items}
 use Rattle.std.proofs.lemmas.List.{with_items_is}
 use Rattle.std.proofs.lemmas.Result.{err_from_is_err_and}
 use Rattle.emtp_fix.specs.declared.limit.TheConstants.{LARGEST_VALUE}
 use Rattle.emtp_switch.specs.Switching as switching
 use Rattle.emtp_net.specs.Holding.{HoldsSwitches}
+use Rattle.emtp_net.specs.Fault.{NamesNode}
 use Rattle.emtp_net.specs.Moving.{HaveMoved}
 use Rattle.emtp_net.specs.Network.{Net, StandsFor}
+use Rattle.emtp_net.specs.Redone.{step_ticks}
 use Rattle.emtp_net.specs.Stages.{AreVoltages}
 use Rattle.emtp_net.proofs.Factoring.{holds_kinds}
 use Rattle.emtp_net.proofs.Holding.{few_next}
 use Rattle.emtp_net.specs.Step.{network_part}
 use Rattle.emtp_net.specs.declared.fault.NetFault.TheVariants.{Tied}
 use Rattle.emtp_net.proofs.Tying.{free_isnt_tied}
-use Rattle.emtp_net.proofs.Stepping.{HasStepped, err_steps, judge_steps, latest_is, posed_is, ready_is}
+use Rattle.emtp_net.proofs.Stepping.{HasStepped, err_steps, err_claims, err_names, judge_steps, latest_is, ok_claims, posed_is, ready_is}
 use Rattle.emtp_net.proofs.network.Network.step.Goals as goal
 
 pub invariant_of-self : goal.invariant_of-self
@@ -307,3 +309,232 @@ returns-clause-tied g c = λ H node stands tacs tied.
     let last = latest_is _ H c.deref.result.now c.deref-2.result.now c.args.tacs.now stood c.deref.ensures.value c.deref-2.ensures.value tacs in
     let decided = c.in_ok-decide.ensures.decided H stood.switches last in
     absurd (free_isnt_tied c.self.inside.case.now.parts H node decided.free (subst (λ (s : Net). network_part s.case H ≡ Err (Tied node)) (sym c.self.view_is) tied))
+
+pub returns-in_err-decide-clause-case : goal.returns-in_err-decide-clause-case
+returns-in_err-decide-clause-case g c = ap (λ (s : Net). s.case) c.self.view_is
+
+pub returns-in_err-decide-clause-made : goal.returns-in_err-decide-clause-made
+returns-in_err-decide-clause-made g c = ap (λ (s : Net). s.made + 1) c.self.view_is
+
+pub returns-in_err-decide-clause-few : goal.returns-in_err-decide-clause-few
+returns-in_err-decide-clause-few g c = omega (arith, ap (λ (s : Net). s.redone) c.self.view_is)
+
+pub returns-in_err-decide-clause-few_ticks : goal.returns-in_err-decide-clause-few_ticks
+returns-in_err-decide-clause-few_ticks g c = omega arith
+
+pub returns-in_err-decide-clause-most : goal.returns-in_err-decide-clause-most
+returns-in_err-decide-clause-most g c = λ H stands tacs. omega arith
+
+pub returns-in_err-decide-clause-node : goal.returns-in_err-decide-clause-node
+returns-in_err-decide-clause-node g c = err_names _ _ c.from_residual.result _ c.self.view_is c.from_residual.ensures.1 c.in_err-decide.ensures.node
+
+pub returns-in_err-decide-clause-ticks : goal.returns-in_err-decide-clause-ticks
+returns-in_err-decide-clause-ticks g c = λ H stands tacs. err_claims _ c.from_residual.result _ c.from_residual.ensures.1
+
+pub returns-in_err-factor-clause-case : goal.returns-in_err-factor-clause-case
+returns-in_err-factor-clause-case g c = ap (λ (s : Net). s.case) c.self.view_is
+
+pub returns-in_err-factor-clause-made : goal.returns-in_err-factor-clause-made
+returns-in_err-factor-clause-made g c = ap (λ (s : Net). s.made + 1) c.self.view_is
+
+pub returns-in_err-factor-clause-few : goal.returns-in_err-factor-clause-few
+returns-in_err-factor-clause-few g c = omega (arith, c.factor.ensures.few, ap (λ (s : Net). s.redone) c.self.view_is)
+
+pub returns-in_err-factor-clause-few_ticks : goal.returns-in_err-factor-clause-few_ticks
+returns-in_err-factor-clause-few_ticks g c = c.factor.ensures.few_ticks
+
+pub returns-in_err-factor-clause-most : goal.returns-in_err-factor-clause-most
+returns-in_err-factor-clause-most g c = λ H stands tacs.
+    let stood = subst (λ (s : Net). StandsFor s H) (sym c.self.view_is) stands in
+    let last = latest_is _ H c.deref.result.now c.deref-2.result.now c.args.tacs.now stood c.deref.ensures.value c.deref-2.ensures.value tacs in
+    let ready = ready_is _ H c.decide.new.self.kinds.items c.decide.new.rows c.decide.new.switches stood (c.in_ok-decide.ensures.decided H stood.switches last) in
+    subst (λ (s : Net). c.factor.new.steps ≤ c.args.steps.now + step_ticks s.case H) c.self.view_is (c.factor.ensures.most H ready)
+
+pub returns-in_err-factor-clause-node : goal.returns-in_err-factor-clause-node
+returns-in_err-factor-clause-node g c = err_names _ _ c.from_residual-in_err-factor.result _ c.self.view_is c.from_residual-in_err-factor.ensures.1 c.in_err-factor.ensures.node
+
+pub returns-in_err-factor-clause-ticks : goal.returns-in_err-factor-clause-ticks
+returns-in_err-factor-clause-ticks g c = λ H stands tacs. err_claims _ c.from_residual-in_err-factor.result _ c.from_residual-in_err-factor.ensures.1
+
+pub returns-in_err-solve-clause-case : goal.returns-in_err-solve-clause-case
+returns-in_err-solve-clause-case g c = ap (λ (s : Net). s.case) c.self.view_is
+
+pub returns-in_err-solve-clause-made : goal.returns-in_err-solve-clause-made
+returns-in_err-solve-clause-made g c = ap (λ (s : Net). s.made + 1) c.self.view_is
+
+pub returns-in_err-solve-clause-few : goal.returns-in_err-solve-clause-few
+returns-in_err-solve-clause-few g c = omega (arith, c.factor.ensures.few, ap (λ (s : Net). s.redone) c.self.view_is)
+
+pub returns-in_err-solve-clause-few_ticks : goal.returns-in_err-solve-clause-few_ticks
+returns-in_err-solve-clause-few_ticks g c = c.factor.ensures.few_ticks
+
+pub returns-in_err-solve-clause-most : goal.returns-in_err-solve-clause-most
+returns-in_err-solve-clause-most g c = λ H stands tacs.
+    let stood = subst (λ (s : Net). StandsFor s H) (sym c.self.view_is) stands in
+    let last = latest_is _ H c.deref.result.now c.deref-2.result.now c.args.tacs.now stood c.deref.ensures.value c.deref-2.ensures.value tacs in
+    let ready = ready_is _ H c.decide.new.self.kinds.items c.decide.new.rows c.decide.new.switches stood (c.in_ok-decide.ensures.decided H stood.switches last) in
+    subst (λ (s : Net). c.factor.new.steps ≤ c.args.steps.now + step_ticks s.case H) c.self.view_is (c.factor.ensures.most H ready)
+
+pub returns-in_err-solve-clause-node : goal.returns-in_err-solve-clause-node
+returns-in_err-solve-clause-node g c = err_names _ _ c.from_residual-in_err-solve.result _ c.self.view_is c.from_residual-in_err-solve.ensures.1 c.in_err-solve.ensures.node
+
+pub returns-in_err-solve-clause-ticks : goal.returns-in_err-solve-clause-ticks
+returns-in_err-solve-clause-ticks g c = λ H stands tacs. err_claims _ c.from_residual-in_err-solve.result _ c.from_residual-in_err-solve.ensures.1
+
+pub returns-in_err-accept-clause-case : goal.returns-in_err-accept-clause-case
+returns-in_err-accept-clause-case g c = ap (λ (s : Net). s.case) c.self.view_is
+
+pub returns-in_err-accept-clause-made : goal.returns-in_err-accept-clause-made
+returns-in_err-accept-clause-made g c = ap (λ (s : Net). s.made + 1) c.self.view_is
+
+pub returns-in_err-accept-clause-few : goal.returns-in_err-accept-clause-few
+returns-in_err-accept-clause-few g c = omega (arith, c.factor.ensures.few, ap (λ (s : Net). s.redone) c.self.view_is)
+
+pub returns-in_err-accept-clause-few_ticks : goal.returns-in_err-accept-clause-few_ticks
+returns-in_err-accept-clause-few_ticks g c = c.factor.ensures.few_ticks
+
+pub returns-in_err-accept-clause-most : goal.returns-in_err-accept-clause-most
+returns-in_err-accept-clause-most g c = λ H stands tacs.
+    let stood = subst (λ (s : Net). StandsFor s H) (sym c.self.view_is) stands in
+    let last = latest_is _ H c.deref.result.now c.deref-2.result.now c.args.tacs.now stood c.deref.ensures.value c.deref-2.ensures.value tacs in
+    let ready = ready_is _ H c.decide.new.self.kinds.items c.decide.new.rows c.decide.new.switches stood (c.in_ok-decide.ensures.decided H stood.switches last) in
+    subst (λ (s : Net). c.factor.new.steps ≤ c.args.steps.now + step_ticks s.case H) c.self.view_is (c.factor.ensures.most H ready)
+
+pub returns-in_err-accept-clause-node : goal.returns-in_err-accept-clause-node
+returns-in_err-accept-clause-node g c = err_names _ _ c.from_residual-in_err-accept.result _ c.self.view_is c.from_residual-in_err-accept.ensures.1 c.in_err-accept.ensures.node
+
+pub returns-in_err-accept-clause-ticks : goal.returns-in_err-accept-clause-ticks
+returns-in_err-accept-clause-ticks g c = λ H stands tacs. err_claims _ c.from_residual-in_err-accept.result _ c.from_residual-in_err-accept.ensures.1
+
+pub returns-in_err-find_currents-clause-case : goal.returns-in_err-find_currents-clause-case
+returns-in_err-find_currents-clause-case g c = ap (λ (s : Net). s.case) c.self.view_is
+
+pub returns-in_err-find_currents-clause-made : goal.returns-in_err-find_currents-clause-made
+returns-in_err-find_currents-clause-made g c = ap (λ (s : Net). s.made + 1) c.self.view_is
+
+pub returns-in_err-find_currents-clause-few : goal.returns-in_err-find_currents-clause-few
+returns-in_err-find_currents-clause-few g c = omega (arith, c.factor.ensures.few, ap (λ (s : Net). s.redone) c.self.view_is)
+
+pub returns-in_err-find_currents-clause-few_ticks : goal.returns-in_err-find_currents-clause-few_ticks
+returns-in_err-find_currents-clause-few_ticks g c = c.factor.ensures.few_ticks
+
+pub returns-in_err-find_currents-clause-most : goal.returns-in_err-find_currents-clause-most
+returns-in_err-find_currents-clause-most g c = λ H stands tacs.
+    let stood = subst (λ (s : Net). StandsFor s H) (sym c.self.view_is) stands in
+    let last = latest_is _ H c.deref.result.now c.deref-2.result.now c.args.tacs.now stood c.deref.ensures.value c.deref-2.ensures.value tacs in
+    let ready = ready_is _ H c.decide.new.self.kinds.items c.decide.new.rows c.decide.new.switches stood (c.in_ok-decide.ensures.decided H stood.switches last) in
+    subst (λ (s : Net). c.factor.new.steps ≤ c.args.steps.now + step_ticks s.case H) c.self.view_is (c.factor.ensures.most H ready)
+
+pub returns-in_err-find_currents-clause-node : goal.returns-in_err-find_currents-clause-node
+returns-in_err-find_currents-clause-node g c = err_names _ _ c.from_residual-in_err-find_currents.result _ c.self.view_is c.from_residual-in_err-find_currents.ensures.1 c.in_err-find_currents.ensures.node
+
+pub returns-in_err-find_currents-clause-ticks : goal.returns-in_err-find_currents-clause-ticks
+returns-in_err-find_currents-clause-ticks g c = λ H stands tacs. err_claims _ c.from_residual-in_err-find_currents.result _ c.from_residual-in_err-find_currents.ensures.1
+
+pub returns-clause-case : goal.returns-clause-case
+returns-clause-case g c = ap (λ (s : Net). s.case) c.self.view_is
+
+pub returns-clause-made : goal.returns-clause-made
+returns-clause-made g c = ap (λ (s : Net). s.made + 1) c.self.view_is
+
+pub returns-clause-few : goal.returns-clause-few
+returns-clause-few g c = omega (arith, c.factor.ensures.few, ap (λ (s : Net). s.redone) c.self.view_is)
+
+pub returns-clause-few_ticks : goal.returns-clause-few_ticks
+returns-clause-few_ticks g c = c.factor.ensures.few_ticks
+
+pub returns-clause-most : goal.returns-clause-most
+returns-clause-most g c = λ H stands tacs.
+    let stood = subst (λ (s : Net). StandsFor s H) (sym c.self.view_is) stands in
+    let last = latest_is _ H c.deref.result.now c.deref-2.result.now c.args.tacs.now stood c.deref.ensures.value c.deref-2.ensures.value tacs in
+    let ready = ready_is _ H c.decide.new.self.kinds.items c.decide.new.rows c.decide.new.switches stood (c.in_ok-decide.ensures.decided H stood.switches last) in
+    subst (λ (s : Net). c.factor.new.steps ≤ c.args.steps.now + step_ticks s.case H) c.self.view_is (c.factor.ensures.most H ready)
+
+pub returns-clause-node : goal.returns-clause-node
+returns-clause-node g c = subst (λ (s : Net). IfErr c.judge.result (NamesNode s.case)) c.self.view_is c.judge.ensures.node
+
+pub returns-clause-ticks : goal.returns-clause-ticks
+returns-clause-ticks g c = λ H stands tacs.
+    let stood = subst (λ (s : Net). StandsFor s H) (sym c.self.view_is) stands in
+    let last = latest_is _ H c.deref.result.now c.deref-2.result.now c.args.tacs.now stood c.deref.ensures.value c.deref-2.ensures.value tacs in
+    let ready = ready_is _ H c.decide.new.self.kinds.items c.decide.new.rows c.decide.new.switches stood (c.in_ok-decide.ensures.decided H stood.switches last) in
+    let same : c.factor.new.steps ≡ c.args.steps.now + step_ticks c.args.self.now.case H = subst (λ (s : Net). c.factor.new.steps ≡ c.args.steps.now + step_ticks s.case H) c.self.view_is (c.in_ok-factor.ensures.ticks H ready) in
+    ok_claims _ c.judge.result same
+
+pub decide-requires-clause-room : goal.decide-requires-clause-room
+decide-requires-clause-room g c = c.self.invariant.room
+
+pub decide-requires-clause-switches : goal.decide-requires-clause-switches
+decide-requires-clause-switches g c = c.self.invariant.switches_hold
+
+pub decide-requires-clause-rows : goal.decide-requires-clause-rows
+decide-requires-clause-rows g c = c.self.invariant.rows_hold.case_is
+
+pub decide-requires-clause-step : goal.decide-requires-clause-step
+decide-requires-clause-step g c = subst (λ (s : Net). s.made + 1 ≤ s.case.run.steps) (sym c.self.view_is) (omega (arith, c.requires.made))
+
+pub decide-requires-clause-voltages : goal.decide-requires-clause-voltages
+decide-requires-clause-voltages g c = ap length c.deref.ensures.value ∙ c.self.invariant.shown.voltages_count
+
+pub decide-requires-clause-small : goal.decide-requires-clause-small
+decide-requires-clause-small g c = subst (All (λ v. unsigned_abs v ≤ LARGEST_VALUE)) (sym c.deref.ensures.value) c.self.invariant.shown.voltages_small
+
+pub decide-requires-clause-currents : goal.decide-requires-clause-currents
+decide-requires-clause-currents g c = ap length c.deref-2.ensures.value ∙ c.self.invariant.shown.switch_count
+
+pub decide-requires-clause-tacs : goal.decide-requires-clause-tacs
+decide-requires-clause-tacs g c = subst (λ (s : Net). length c.args.tacs.now ≡ length s.case.vars) (sym c.self.view_is) c.requires.tacs
+
+pub factor-requires-clause-order : goal.factor-requires-clause-order
+factor-requires-clause-order g c = c.self.invariant.order_is
+
+pub factor-requires-clause-same : goal.factor-requires-clause-same
+factor-requires-clause-same g c = c.self.invariant.branches_case
+
+pub set_sources-requires-clause-room : goal.set_sources-requires-clause-room
+set_sources-requires-clause-room g c = c.decide.ensures.room
+
+pub set_sources-requires-clause-step : goal.set_sources-requires-clause-step
+set_sources-requires-clause-step g c = subst (λ (s : Net). s.made + 1 ≤ s.case.run.steps) (sym c.self.view_is) (omega (arith, c.requires.made))
+
+pub set_sources-requires-clause-tacs : goal.set_sources-requires-clause-tacs
+set_sources-requires-clause-tacs g c = subst (λ (s : Net). length c.args.tacs.now ≡ length s.case.vars) (sym c.self.view_is) c.requires.tacs
+
+pub solve-requires-clause-room : goal.solve-requires-clause-room
+solve-requires-clause-room g c = c.set_sources.ensures.room
+
+pub solve-requires-clause-order : goal.solve-requires-clause-order
+solve-requires-clause-order g c = c.self.invariant.order_is
+
+pub solve-requires-clause-same : goal.solve-requires-clause-same
+solve-requires-clause-same g c = c.self.invariant.branches_case
+
+pub solve-requires-clause-size : goal.solve-requires-clause-size
+solve-requires-clause-size g c = c.factor.ensures.rows.kept_size
+
+pub solve-requires-clause-all : goal.solve-requires-clause-all
+solve-requires-clause-all g c = c.in_ok-factor.ensures.all
+
+pub accept-requires-clause-same : goal.accept-requires-clause-same
+accept-requires-clause-same g c = c.self.invariant.branches_case
+
+pub find_currents-requires-clause-room : goal.find_currents-requires-clause-room
+find_currents-requires-clause-room g c = c.solve.ensures.room
+
+pub find_currents-requires-clause-order : goal.find_currents-requires-clause-order
+find_currents-requires-clause-order g c = c.self.invariant.order_is
+
+pub find_currents-requires-clause-same : goal.find_currents-requires-clause-same
+find_currents-requires-clause-same g c = c.accept.ensures.same
+
+pub find_currents-requires-clause-switches : goal.find_currents-requires-clause-switches
+find_currents-requires-clause-switches g c = c.decide.ensures.switches
+
+pub judge-requires-clause-room : goal.judge-requires-clause-room
+judge-requires-clause-room g c = c.find_currents.ensures.room
+
+pub judge-requires-clause-order : goal.judge-requires-clause-order
+judge-requires-clause-order g c = c.self.invariant.order_is
+
+pub judge-requires-clause-small : goal.judge-requires-clause-small
+judge-requires-clause-small g c = c.find_currents.ensures.small
