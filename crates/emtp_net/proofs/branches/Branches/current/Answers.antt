@@ -3,7 +3,7 @@ use mir.Syntax.{w64}
 use Rattle.std.proofs.lemmas.Int.{ints, to_z-of_z}
 use Rattle.emtp_case.specs.Branch.{first_of_trio}
 use Rattle.emtp_case.specs.StepRecord.{phase_state_at}
-use Rattle.emtp_case.specs.declared.branch.Branch.TheVariants.{Line as OfLine, Phase as OfPhase, Pseudo as OfPseudo}
+use Rattle.emtp_case.specs.declared.branch.Branch.TheVariants.{Line as OfLine, Lumped as OfLumped, Phase as OfPhase, Pseudo as OfPseudo}
 use Rattle.emtp_case.specs.declared.branch.PhaseState.{PhaseState}
 use Rattle.emtp_case.specs.declared.case.Parts.{Parts}
 use Rattle.emtp_elim.specs.Matrix.{item}
@@ -11,6 +11,14 @@ use Rattle.emtp_line.specs.Lines as lined
 use Rattle.emtp_net.proofs.Moves.{phase_read}
 use Rattle.emtp_net.proofs.Nodes.{branch_fits, branch_in, branch_read}
 use Rattle.emtp_net.proofs.branches.Branches.current.Goals as goal
+
+pub returns-in-Lumped : goal.returns-in-Lumped
+returns-in-Lumped c = λ r past stands currents lines.
+    let at = c.args.at in
+    let x = c.in-Lumped.field-0 in
+    let is = branch_read c.args.case.now.parts _ at _ (OfLumped x) c.as_slice.ensures c.requires.there c.in-Lumped.is in
+    let fits : FitsSigned w64 (item c.args.currents.now at) = search rules in
+    to_z-of_z w64 (item c.args.currents.now at) fits ∙ currents.lumps at x c.requires.there is
 
 pub returns-in-Pseudo : goal.returns-in-Pseudo
 returns-in-Pseudo c = λ r past stands currents lines.

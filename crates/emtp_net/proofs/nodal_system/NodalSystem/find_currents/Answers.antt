@@ -1,13 +1,26 @@
-use Rattle.std.proofs.Common.{◌≡◌, ◌∙◌, sym, ap, subst, length, refl, arith}
+use Rattle.std.proofs.Common.{◌≡◌, ◌∙◌, ◌<◌, ◌≤◌, ◌^◌, ℕ, ℤ, List, sym, ap, subst, length, unsigned_abs, refl, arith}
+use Rattle.std.specs.Vec.{with_items}
 use Rattle.std.proofs.lemmas.List.{with_items_is}
 use Rattle.emtp_case.specs.declared.case.Parts.{Parts}
+use Rattle.emtp_elim.specs.Matrix.{item}
 use Rattle.emtp_switch.specs.Currents.{IsFirstBeyond}
+use Rattle.emtp_net.specs.Holding.{HasRoom}
 use Rattle.emtp_net.specs.Part.{leaving_rows, states_at, switch_currents_at}
 use Rattle.emtp_net.specs.Step.{first_beyond}
+use Rattle.emtp_net.specs.declared.nodal_system.NodalSystem.{NodalSystem}
 use Rattle.emtp_net.proofs.Ending.{switch_ends}
 use Rattle.emtp_net.proofs.Moves.{is_next, next_record}
 use Rattle.emtp_net.proofs.Switching.{beyond_at, currents_next, length-currents, none_beyond}
 use Rattle.emtp_net.proofs.nodal_system.NodalSystem.find_currents.Goals as goal
+
+room : (case : Parts) (s : NodalSystem) (l : List ℤ) → HasRoom case s → length l ≡ length s.right.items → (with_items s.right l).items ≡ l → HasRoom case (record s { right = with_items s.right l })
+room case s l has long is = record { kinds = has.kinds; places = has.places; values = has.values; right = ap length is ∙ long ∙ has.right; x = has.x }
+
+small : (n m : ℕ) (l out : List ℤ) → ((j : ℕ) → j < m → unsigned_abs (item out j) ≤ 10 ^ 24) → m ≡ n → l ≡ out → (j : ℕ) → j < n → unsigned_abs (item l j) ≤ 10 ^ 24
+small n m l out each same is j below = subst (λ xs. unsigned_abs (item xs j) ≤ 10 ^ 24) (sym is) (each j (omega (arith, below, same)))
+
+pub currents-requires-clause-out : goal.currents-requires-clause-out
+currents-requires-clause-out c = c.requires.out ∙ sym (ap (λ (p : Parts). length p.switches) c.requires.switches.case_is)
 
 pub switch_name-requires : goal.switch_name-requires
 switch_name-requires c = omega (arith, c.in-Err.ensures.first.within, length-currents c.args.switches.now c.deref-2.result.now, ap (λ (p : Parts). length p.switches) c.requires.switches.case_is)
@@ -41,3 +54,30 @@ returns-in-Err-clause-ends c = λ H vs voltages moved values states.
     ∙ c.fill_leaving.ensures.value H vs (next_record H case vs) next moved (c.deref.ensures.value ∙ values) ∙ ap (leaving_rows case H) next.branches in
     let first = subst (λ l. IsFirstBeyond l c.in-Err.fault.switch) (currents_next case H c.args.switches.now (states_at case H vs) c.deref-2.result.now c.requires.switches states leave) c.in-Err.ensures.first in
     record { is = switch_ends case H vs c.in-Err.fault.switch c.switch_name.result voltages moved.in_range (beyond_at (switch_currents_at case H (states_at case H vs)) c.in-Err.fault.switch first) c.switch_name.ensures.value; adds = refl }
+
+pub returns-in-Ok-clause-room : goal.returns-in-Ok-clause-room
+returns-in-Ok-clause-room c = room c.args.case.now.parts c.args.self.now c.fill_leaving.new.out c.requires.room (c.fill_leaving.auto.out ∙ ap length c.deref_mut.ensures.value) (with_items_is c.args.self.now.right c.fill_leaving.new.out (omega (arith, c.fill_leaving.auto.out, c.deref_mut.ensures.len)))
+
+pub returns-in-Err-clause-room : goal.returns-in-Err-clause-room
+returns-in-Err-clause-room c = room c.args.case.now.parts c.args.self.now c.fill_leaving.new.out c.requires.room (c.fill_leaving.auto.out ∙ ap length c.deref_mut.ensures.value) (with_items_is c.args.self.now.right c.fill_leaving.new.out (omega (arith, c.fill_leaving.auto.out, c.deref_mut.ensures.len)))
+
+pub returns-in-Ok-clause-small : goal.returns-in-Ok-clause-small
+returns-in-Ok-clause-small c = small _ _ _ c.fill_leaving.new.out c.fill_leaving.ensures.small (ap length c.deref_mut.ensures.value ∙ c.requires.room.right) (with_items_is c.args.self.now.right c.fill_leaving.new.out (omega (arith, c.fill_leaving.auto.out, c.deref_mut.ensures.len)))
+
+pub returns-in-Err-clause-small : goal.returns-in-Err-clause-small
+returns-in-Err-clause-small c = small _ _ _ c.fill_leaving.new.out c.fill_leaving.ensures.small (ap length c.deref_mut.ensures.value ∙ c.requires.room.right) (with_items_is c.args.self.now.right c.fill_leaving.new.out (omega (arith, c.fill_leaving.auto.out, c.deref_mut.ensures.len)))
+
+pub returns-in-Err-clause-node : goal.returns-in-Err-clause-node
+returns-in-Err-clause-node c = c.switch_name.ensures.node
+
+pub returns-in-Ok-clause-ends : goal.returns-in-Ok-clause-ends
+returns-in-Ok-clause-ends c = λ H vs voltages moved values states. tt
+
+pub returns-in-Err-clause-found : goal.returns-in-Err-clause-found
+returns-in-Err-clause-found c = λ H vs voltages moved values states. tt
+
+pub returns-in-Ok-clause-kinds : goal.returns-in-Ok-clause-kinds
+returns-in-Ok-clause-kinds c = refl
+
+pub returns-in-Err-clause-kinds : goal.returns-in-Err-clause-kinds
+returns-in-Err-clause-kinds c = refl
