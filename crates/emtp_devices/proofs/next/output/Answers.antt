@@ -1,11 +1,16 @@
-use Rattle.std.proofs.Common.{◌≡◌, ◌∙◌, ◌-ℤ◌, ◌∷◌, ap, sym, subst, pos, map, slice_index_or, FitsSigned, to_z, of_z, arith, rules, List}
+use Rattle.std.proofs.Common.{◌≡◌, ◌≤◌, ◌<◌, ◌^◌, ◌∙◌, ◌-ℤ◌, ◌∷◌, All, ap, sym, subst, pos, map, length, slice_index_or, unsigned_abs, FitsSigned, to_z, of_z, arith, rules, ℕ, ℤ, List}
 use mir.Syntax.{w64, w128}
 use Rattle.std.proofs.lemmas.Int.{ints, to_z-of_z}
+use Rattle.emtp_case.specs.Branch.{points_of}
+use Rattle.emtp_case.specs.Control.{IsTable}
 use Rattle.emtp_case.specs.HistoryValues.{delay_steps}
+use Rattle.emtp_case.specs.Range.{IsBetween}
+use Rattle.emtp_case.specs.declared.branch.Point.{Point}
 use Rattle.emtp_case.specs.declared.control.DeviceCode.{DeviceCode}
 use Rattle.emtp_case.specs.declared.control.Input.{Input}
 use Rattle.emtp_devices.specs.Device.{brought, derivative, effective_value, one_above_zero, output_by, taken_input}
 use Rattle.emtp_devices.proofs.Rings.{delay-depth, period-depth, pulse-depth}
+use Rattle.emtp_fix.specs.declared.limit.TheConstants.{LARGEST_VALUE}
 use Rattle.emtp_devices.proofs.next.output.Goals as goal
 
 pub returns-in-Delay : goal.returns-in-Delay
@@ -75,3 +80,58 @@ returns-in-Derivative c = λ inputs past.
     let is = simp to_z-of_z at c.derivative.ensures in
     let P = λ (code : DeviceCode). to_z w128 (of_z w128 c.derivative.result) ≡ output_by case x (record { step = c.args.step; values = c.args.values.now; s = c.args.s; inputs = inputs; last = h.output }) code in
     subst P (sym c.in-Derivative.is) (to_z-of_z w128 c.derivative.result r ∙ is ∙ ap (λ z. derivative case.run.dt c.args.s z) (c.last_input.ensures.value inputs past))
+
+-- what the inputs name is there
+inputs_there : (n m : ℕ) (inputs seen : List Input) → n ≡ m → seen ≡ inputs → All (λ (i : Input). i.var < m) inputs → All (λ (i : Input). i.var < n) seen
+inputs_there n m inputs seen sized same there = subst (λ (xs : List Input). All (λ (i : Input). i.var < n) xs) (sym same) (subst (λ k. All (λ (i : Input). i.var < k) inputs) (sym sized) there)
+
+small_64 : (s : ℤ) → FitsSigned w64 s → unsigned_abs s ≤ LARGEST_VALUE → unsigned_abs (to_z w64 (of_z w64 s)) ≤ LARGEST_VALUE
+small_64 s fits small = subst (λ (z : ℤ). unsigned_abs z ≤ LARGEST_VALUE) (sym (to_z-of_z w64 s fits)) small
+
+dt_64 : (dt : ℤ) → FitsSigned w64 dt → IsBetween 1000 (10 ^ 12) dt → IsBetween 1000 (10 ^ 12) (to_z w64 (of_z w64 dt))
+dt_64 dt fits between = subst (IsBetween 1000 (10 ^ 12)) (sym (to_z-of_z w64 dt fits)) between
+
+pub derivative-requires-clause-s : goal.derivative-requires-clause-s
+derivative-requires-clause-s c = small_64 c.args.s c.ranges.s c.requires.s
+
+pub integrated-requires-clause-s : goal.integrated-requires-clause-s
+integrated-requires-clause-s c = small_64 c.args.s c.ranges.s c.requires.s
+
+pub effective_value-requires-clause-s : goal.effective_value-requires-clause-s
+effective_value-requires-clause-s c = small_64 c.args.s c.ranges.s c.requires.s
+
+pub table_value-requires-clause-s : goal.table_value-requires-clause-s
+table_value-requires-clause-s c = small_64 c.args.s c.ranges.s c.requires.s
+
+pub derivative-requires-clause-dt : goal.derivative-requires-clause-dt
+derivative-requires-clause-dt c = dt_64 c.args.case.now.parts.run.dt (search rules) c.args.case.now.fits.draft.run.dt
+
+pub integrated-requires-clause-dt : goal.integrated-requires-clause-dt
+integrated-requires-clause-dt c = dt_64 c.args.case.now.parts.run.dt (search rules) c.args.case.now.fits.draft.run.dt
+
+pub table_value-requires-clause-table : goal.table_value-requires-clause-table
+table_value-requires-clause-table c = subst IsTable (sym (c.points_of.ensures ∙ ap (λ (ps : List Point). points_of ps c.args.device.now.first c.args.device.now.count) c.as_slice-points.ensures)) (c.requires.device.points.table c.in-Table.is)
+
+pub extreme-requires-clause-there : goal.extreme-requires-clause-there
+extreme-requires-clause-there c = inputs_there (length c.args.values.now) (length c.args.case.now.parts.vars) c.args.device.now.inputs c.as_slice-inputs.result.now c.requires.values.one_each c.as_slice-inputs.ensures c.requires.device.card.inputs
+
+pub brought_at-requires-clause-there : goal.brought_at-requires-clause-there
+brought_at-requires-clause-there c = inputs_there (length c.args.values.now) (length c.args.case.now.parts.vars) c.args.device.now.inputs c.as_slice-inputs.result.now c.requires.values.one_each c.as_slice-inputs.ensures c.requires.device.card.inputs
+
+pub named_value-requires-clause-there : goal.named_value-requires-clause-there
+named_value-requires-clause-there c = λ v is. subst (λ n. v < n) (sym c.requires.values.one_each) (c.requires.device.card.d v is)
+
+pub named_value-requires-in-GateAbove-clause-there : goal.named_value-requires-in-GateAbove-clause-there
+named_value-requires-in-GateAbove-clause-there c = λ v is. subst (λ n. v < n) (sym c.requires.values.one_each) (c.requires.device.card.d v is)
+
+pub named_value-requires-in-Selector-clause-there : goal.named_value-requires-in-Selector-clause-there
+named_value-requires-in-Selector-clause-there c = λ v is. subst (λ n. v < n) (sym c.requires.values.one_each) (c.requires.device.card.d v is)
+
+pub is_positive-reset-requires-in-PeakHold : goal.is_positive-reset-requires-in-PeakHold
+is_positive-reset-requires-in-PeakHold c = λ v is. subst (λ n. v < n) (sym c.requires.values.one_each) (c.requires.device.card.d v is)
+
+pub is_positive-reset-requires : goal.is_positive-reset-requires
+is_positive-reset-requires c = λ v is. subst (λ n. v < n) (sym c.requires.values.one_each) (c.requires.device.card.e v is)
+
+pub effective_value-requires-clause-sum : goal.effective_value-requires-clause-sum
+effective_value-requires-clause-sum c = c.requires.held.squares c.in-EffectiveValue.is
