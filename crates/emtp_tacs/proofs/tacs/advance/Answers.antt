@@ -1,6 +1,7 @@
 use Rattle.std.proofs.Common.{◌∙◌, sym, ap, subst, List, ℤ, length, Ok, Err, false, refl, arith}
 use Rattle.std.proofs.lemmas.List.{with_items_is}
 use Rattle.std.proofs.lemmas.Result.{err_from_is_err_and}
+use Rattle.emtp_case.specs.Control.{AreKnown}
 use Rattle.emtp_tacs.specs.Stages.{IsSoFar, Solves}
 use Rattle.emtp_tacs.specs.Step.{Measured, blocks}
 use Rattle.emtp_tacs.proofs.Advancing.{advances, blocks_done, blocks_refused, known_refused}
@@ -33,3 +34,12 @@ returns-clause-advances g c = λ H long vars stands.
     let so_far = subst (λ (ys : List ℤ). IsSoFar case H false 0 ys held (record done.s { values = done.t.values })) (sym whole) done.so_far in
     advances case H m c.compute_extras.result c.solve.new.self.blocks c.solve.new.values held c.compute_extras.new.self c.solve.new.self c.compute_extras.ensures.holds refl (c.in_ok-solve.ensures.kept H stands) done
     (c.compute_extras.ensures.reaches H (record done.s { values = done.t.values }) long so_far)
+
+pub returns-in_err-solve-clause-variables : goal.returns-in_err-solve-clause-variables
+returns-in_err-solve-clause-variables g c = record { devices = c.compute_known.ensures.holds.devices; values = subst (AreKnown c.args.case.now.parts) (sym (with_items_is c.compute_known.new.self.values c.solve.new.values (omega (arith, c.solve.auto.values, c.deref_mut.ensures.len)))) c.solve.ensures.values; names = c.compute_known.ensures.holds.names }
+
+pub compute_extras-requires : goal.compute_extras-requires
+compute_extras-requires g c = record { holds = record { devices = c.compute_known.ensures.holds.devices; values = subst (AreKnown c.args.case.now.parts) (sym (with_items_is c.compute_known.new.self.values c.solve.new.values (omega (arith, c.solve.auto.values, c.deref_mut.ensures.len)))) c.solve.ensures.values; names = c.compute_known.ensures.holds.names } }
+
+pub solve-requires-clause-values : goal.solve-requires-clause-values
+solve-requires-clause-values g c = subst (AreKnown c.args.case.now.parts) (sym c.deref_mut.ensures.value) c.compute_known.ensures.holds.values
