@@ -1,12 +1,16 @@
-use Rattle.std.proofs.Common.{◌≡◌, ◌∙◌, sym, ap, subst, ℤ, pos, Some, None, length, get_or, slice_get, to_z, of_z, arith}
+use Rattle.std.proofs.Common.{◌≡◌, ◌∙◌, ◌<◌, ◌≤◌, sym, ap, subst, ℕ, ℤ, List, All, pos, Some, None, length, get_or, slice_get, to_z, of_z, unsigned_abs, arith}
 use mir.Syntax.{w64}
 use Rattle.std.proofs.lemmas.Int.{ints}
 use Rattle.std.proofs.lemmas.Option.{slice_get-get_or}
 use Rattle.emtp_case.specs.Sizes.{sizes_of}
 use Rattle.emtp_case.specs.Control.{IsBlock}
+use Rattle.emtp_case.specs.declared.case.Parts.{Parts}
 use Rattle.emtp_case.specs.declared.control.Block.{Block}
+use Rattle.emtp_case.specs.declared.control.Input.{Input}
 use Rattle.emtp_elim.specs.Matrix.{item}
 use Rattle.emtp_fix.proofs.Wide.{through_64}
+use Rattle.emtp_fix.specs.declared.limit.TheConstants.{LARGEST_VALUE}
+use Rattle.emtp_blocks.specs.BlockRows.{no_law}
 use Rattle.emtp_blocks.specs.Block.{Keeps, limits_of, next_state, output_of}
 use Rattle.emtp_blocks.specs.System.{block_of, input_sum, state_at}
 use Rattle.emtp_blocks.specs.declared.limits.Limits.{Limits}
@@ -95,3 +99,64 @@ returns-in-None-clause-value c = λ H stands.
     let K2 : ℤ → Type 0 = λ n. K (limits_of known b) (item xs at) n in
     let K3 : ℤ → Type 0 = λ y. K (limits_of known b) (item xs at) (input_sum (block_of case) known xs at y b.inputs) in
     gives_none case H known xs at b here (subst K3 out (subst K2 sum (subst K1 lim (rw (solved, s) at keeps))))
+
+-- ---- what is asked of the block, its law and its numbers
+
+block_is : (case : Parts) (seen : List Block) (at : ℕ) (b : Block) → All (IsBlock case.run (sizes_of case)) case.blocks → at < length case.blocks → seen ≡ case.blocks → b ≡ get_or seen at b → IsBlock case.run (sizes_of case) b
+block_is case seen at b fit there same read = subst (IsBlock case.run (sizes_of case)) (sym (read ∙ ap (λ (xs : List Block). get_or xs at b) same)) (fit at b there)
+
+small_64 : (z : ℤ) → unsigned_abs z ≤ LARGEST_VALUE → unsigned_abs (to_z w64 (of_z w64 z)) ≤ LARGEST_VALUE
+small_64 z small = subst (λ (y : ℤ). unsigned_abs y ≤ LARGEST_VALUE) (sym (through_64 z small)) small
+
+pub returns-in-Some-clause-small : goal.returns-in-Some-clause-small
+returns-in-Some-clause-small c = small_64 c.output-x.result c.output-x.ensures.small
+
+pub returns-in-Some-clause-kept : goal.returns-in-Some-clause-kept
+returns-in-Some-clause-kept c = c.in-Some.ensures.kept
+
+pub limits_in_step-limits-requires-clause-known : goal.limits_in_step-limits-requires-clause-known
+limits_in_step-limits-requires-clause-known c = c.requires.known.small
+
+pub output-x-requires-clause-high : goal.output-x-requires-clause-high
+output-x-requires-clause-high c = c.limits_in_step-limits.ensures.high
+
+pub output-x-requires-clause-low : goal.output-x-requires-clause-low
+output-x-requires-clause-low c = c.limits_in_step-limits.ensures.low
+
+pub output-x-requires-clause-solved : goal.output-x-requires-clause-solved
+output-x-requires-clause-solved c = small_64 (item c.args.xs.now c.args.at) (c.requires.xs.small c.args.at (pos 0) (omega (arith, c.requires.there, c.requires.xs.one_each)))
+
+pub input_sum-s-requires-clause-x : goal.input_sum-s-requires-clause-x
+input_sum-s-requires-clause-x c = small_64 c.output-x.result c.output-x.ensures.small
+
+pub input_sum-s-requires-clause-few : goal.input_sum-s-requires-clause-few
+input_sum-s-requires-clause-few c = subst (λ (xs : List Input). length xs ≤ 5) (sym c.as_slice-2.ensures) (block_is c.args.case.now.parts c.as_slice.result.now c.args.at c.index-as_slice-at.result c.args.case.now.fits.draft.control.blocks c.requires.there c.as_slice.ensures c.index-as_slice-at.is).few_inputs
+
+pub input_sum-s-requires-clause-there : goal.input_sum-s-requires-clause-there
+input_sum-s-requires-clause-there c =
+    let named = subst (λ n. All (λ (i : Input). i.var < n) c.index-as_slice-at.result.inputs) (sym c.requires.known.one_each) (block_is c.args.case.now.parts c.as_slice.result.now c.args.at c.index-as_slice-at.result c.args.case.now.fits.draft.control.blocks c.requires.there c.as_slice.ensures c.index-as_slice-at.is).inputs in
+    subst (λ (xs : List Input). All (λ (i : Input). i.var < length c.args.known.now) xs) (sym c.as_slice-2.ensures) named
+
+pub next-requires-clause-order : goal.next-requires-clause-order
+next-requires-clause-order c = (block_is c.args.case.now.parts c.as_slice.result.now c.args.at c.index-as_slice-at.result c.args.case.now.fits.draft.control.blocks c.requires.there c.as_slice.ensures c.index-as_slice-at.is).order
+
+pub next-requires-clause-gain : goal.next-requires-clause-gain
+next-requires-clause-gain c = (block_is c.args.case.now.parts c.as_slice.result.now c.args.at c.index-as_slice-at.result c.args.case.now.fits.draft.control.blocks c.requires.there c.as_slice.ensures c.index-as_slice-at.is).gain
+
+pub next-requires-clause-law : goal.next-requires-clause-law
+next-requires-clause-law c = c.requires.laws_fit c.args.at no_law (omega (arith, c.requires.law_each, c.requires.there))
+
+pub next-requires-clause-old : goal.next-requires-clause-old
+next-requires-clause-old c = c.requires.state
+
+pub next-requires-clause-solved : goal.next-requires-clause-solved
+next-requires-clause-solved c = small_64 (item c.args.xs.now c.args.at) (c.requires.xs.small c.args.at (pos 0) (omega (arith, c.requires.there, c.requires.xs.one_each)))
+
+pub next-requires-clause-x : goal.next-requires-clause-x
+next-requires-clause-x c = small_64 c.output-x.result c.output-x.ensures.small
+
+pub next-requires-clause-output : goal.next-requires-clause-output
+next-requires-clause-output c = through_64 c.output-x.result c.output-x.ensures.small ∙ c.output-x.ensures.value
+
+pub next-requires-clause-s : goal.next-requires-clause-s
+next-requires-clause-s c = omega (arith, ints, c.input_sum-s.ensures.small)
