@@ -193,16 +193,19 @@ fn the_value_of_a_text(rt: HostRuntime) {
     for (text, values, expected) in VALUES {
         let bytes = text.as_bytes();
         assert!(rt; bytes.len() < 100);
-        let Ok(values) = in_range_copy(rt.alloc(), values) else {
-            assert!(rt; false);
-            return;
-        };
-        assert_eq!(rt;
-            value_of(rt.alloc(), bytes, values.as_slice()),
-            *expected,
-            "{text}"
-        );
+        let found = value_at(rt.alloc(), bytes, values).expect(&rt, "memory");
+        assert_eq!(rt; found, *expected, "{text}");
     }
+}
+
+/// The value of a text at these values of its names.
+fn value_at(alloc: Global, text: &[u8], values: &[i64]) -> Result<Option<i64>, AllocError>
+    requires { length text.now ≤ MAX_BYTES }
+{
+    let values = in_range_copy(alloc, values)?;
+    let found = value_of(alloc, text, values.as_slice());
+    drop(values);
+    Ok(found)
 }
 
 /// The value of a text at values of its names; none where there are more or fewer names, where the text is no expression

@@ -197,14 +197,13 @@ fn limited_lag<L: Ledger>(rt: &impl Abort, alloc: Global, blank: Blank)
     let mut steps = Steps::<L>::new(blank);
     let block = lag(alloc).expect(rt, "memory");
     let after = control(alloc, block, Group::Output).expect(rt, "memory");
-    let lag = [4 * UNIT, 6 * UNIT, 6 * UNIT, 6 * UNIT, 0, 0];
     let (found, redone) = values(alloc, &after, 6, &mut steps).expect(rt, "memory");
-    // it is no input of a block, so its row stays wherever its limiter stands
-    assert!(rt; found == lag && redone == 0);
-    // after the blocks a name reads their outputs of this step
-    let (found, _) = values(alloc, &after, 8, &mut steps).expect(rt, "memory");
-    assert!(rt; found == [12 * UNIT, 14 * UNIT, 14 * UNIT, 6 * UNIT, 0, 0]);
+    let (sums, _) = values(alloc, &after, 8, &mut steps).expect(rt, "memory");
     drop(after);
+    // it is no input of a block, so its row stays wherever its limiter stands
+    assert!(rt; found == [4 * UNIT, 6 * UNIT, 6 * UNIT, 6 * UNIT, 0, 0] && redone == 0);
+    // after the blocks a name reads their outputs of this step
+    assert!(rt; sums == [12 * UNIT, 14 * UNIT, 14 * UNIT, 6 * UNIT, 0, 0]);
 }
 
 fn lag_before_the_blocks<L: Ledger>(rt: &impl Abort, alloc: Global, blank: Blank)
@@ -215,10 +214,10 @@ fn lag_before_the_blocks<L: Ledger>(rt: &impl Abort, alloc: Global, blank: Blank
     let mut steps = Steps::<L>::new(blank);
     let block = lag(alloc).expect(rt, "memory");
     let before = control(alloc, block, Group::Input).expect(rt, "memory");
-    // before the blocks a name reads their outputs of the last step, and the sources of this one
     let (found, _) = values(alloc, &before, 8, &mut steps).expect(rt, "memory");
-    assert!(rt; found == [8 * UNIT, 12 * UNIT, 14 * UNIT, 6 * UNIT, 6 * UNIT, 0]);
     drop(before);
+    // before the blocks a name reads their outputs of the last step, and the sources of this one
+    assert!(rt; found == [8 * UNIT, 12 * UNIT, 14 * UNIT, 6 * UNIT, 6 * UNIT, 0]);
 }
 
 fn fed_back<L: Ledger>(rt: &impl Abort, alloc: Global, blank: Blank)
@@ -229,14 +228,15 @@ fn fed_back<L: Ledger>(rt: &impl Abort, alloc: Global, blank: Blank)
     let mut steps = Steps::<L>::new(blank);
     let half = feedback(alloc, true).expect(rt, "memory");
     let case = control(alloc, half, Group::Output).expect(rt, "memory");
-    // it comes to its limit in step 1 and leaves it in step 4: its row is another one in steps 2 and 5
     let (found, redone) = values(alloc, &case, 6, &mut steps).expect(rt, "memory");
-    assert!(rt; found == [3 * UNIT, 3 * UNIT, 3 * UNIT, 3 * UNIT, 0, 0] && redone == 2);
     drop(case);
+    // it comes to its limit in step 1 and leaves it in step 4: its row is another one in steps 2 and 5
+    assert!(rt; found == [3 * UNIT, 3 * UNIT, 3 * UNIT, 3 * UNIT, 0, 0] && redone == 2);
     let none = feedback(alloc, false).expect(rt, "memory");
     let case = control(alloc, none, Group::Output).expect(rt, "memory");
-    // x = 8 + x has no solution: the pivot is 0
     let fault = first_fault(alloc, &case, &mut steps).expect(rt, "memory");
+    drop(case);
+    // x = 8 + x has no solution: the pivot is 0
     assert!(rt;
         fault
             == Some(TacsFault {
@@ -244,7 +244,6 @@ fn fed_back<L: Ledger>(rt: &impl Abort, alloc: Global, blank: Blank)
                 pivot: true
             })
     );
-    drop(case);
 }
 
 #[test]
