@@ -77,8 +77,14 @@ impl<'c> ControlledNetwork<'c> {
         ensures rest { IfOk result (λ s. StandsFor s (rest_of case.now.parts ∷ [])) }
     {
         let control = Tacs::open(alloc, case)?;
-        let network = Network::open(alloc, case)?;
-        Ok(ControlledNetwork { network, control })
+        match Network::open(alloc, case) {
+            Ok(network) => Ok(ControlledNetwork { network, control }),
+            Err(error) => {
+                // A call, since a drop in place is proved here list by list.
+                drop(control);
+                Err(error)
+            }
+        }
     }
 
     /// Makes the next step, or answers its end; `step` is its number. After an end only the rows redone are stated.

@@ -6,7 +6,6 @@ ghost use Rattle.emtp_machine.specs.History.{history, redone, rows_of_run, sampl
 ghost use Rattle.emtp_machine.specs.Machine.{HasTicked, IsEnd, MayStep, answer_of, history_of};
 ghost use Rattle.emtp_machine.specs.Laws.{SamplesBalance};
 
-use crate::channels::take_sample;
 use crate::controlled::ControlledNetwork;
 use crate::end::End;
 use crate::samples::Samples;
@@ -59,7 +58,7 @@ impl<'c> Machine<'c> {
         let mut row = vec![in alloc; 0i64; channels]?;
         let mut samples = Samples::open(alloc, channels, case.parts.run.samples())?;
         let network = ControlledNetwork::open(alloc, case)?;
-        take_sample(case, &network, &mut row, &mut samples);
+        network.take_sample(case, &mut row, &mut samples);
         Ok(Machine {
             case,
             network,
@@ -107,7 +106,8 @@ impl<'c> Machine<'c> {
             Ok(()) => {
                 self.made += 1;
                 if self.made % case.parts.run.every == 0 {
-                    take_sample(case, &self.network, &mut self.row, &mut self.samples);
+                    self.network
+                        .take_sample(case, &mut self.row, &mut self.samples);
                 }
             }
             Err(end) => self.end = Some(end),

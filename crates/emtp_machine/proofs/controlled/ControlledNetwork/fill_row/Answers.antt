@@ -2,7 +2,7 @@ use Rattle.std.proofs.Common.{arith}
 use Rattle.emtp_case.specs.StepRecord.{latest}
 use Rattle.emtp_machine.specs.Channels.{channel_value}
 use Rattle.emtp_machine.proofs.Rows.{filled_all}
-use Rattle.emtp_machine.proofs.channels.fill_row.Goals as goal
+use Rattle.emtp_machine.proofs.controlled.ControlledNetwork.fill_row.Goals as goal
 
 pub returns-clause-row : goal.returns-clause-row
 returns-clause-row c = λ H stands.
