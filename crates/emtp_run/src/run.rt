@@ -162,9 +162,10 @@ fn run_case<C: Cabinet>(alloc: Global, words: Words<'_>, case: &Case, cabinet: &
     match Machine::open(alloc, case) {
         Ok(mut machine) => {
             let end = run_machine(&mut machine);
-            let status = write_run(words, case, &machine, &end, cabinet);
+            let ran = Ran { machine, end };
+            let status = ran.write(words, case, cabinet);
             // A call, since a drop in place is proved here list by list.
-            drop(machine);
+            drop(ran);
             status
         }
         Err(_) => Status::NoMemory,
@@ -196,28 +197,32 @@ fn run_counted<L: Ledger>(machine: &mut Machine<'_>, blank: Blank) -> Option<End
     machine.run(&mut Steps::<L>::new(blank))
 }
 
-/// Makes what a run leaves, and answers how it ended.
-fn write_run<C: Cabinet>(
-    words: Words<'_>,
-    case: &Case,
-    machine: &Machine<'_>,
-    end: &Option<End>,
-    cabinet: &mut C,
-) -> Status
-    requires case { machine.now.case ≡ case.now.parts }
-    requires run { history_of machine.now ≡ history case.now.parts }
-    requires end { end.now ≡ (history case.now.parts).end }
-    ensures no_usage { result ≢ Status.Usage }
-    ensures no_read_fault { result ≢ Status.ReadFault }
-    ensures no_want { result ≢ Status.NoMemory }
-    ensures unread { (C.state cabinet.new).unread ≡ (C.state cabinet.old).unread }
-    ensures ends { Ends result (Some (outcome_by (task_of words.entry) (Ok case.now.parts)))
-        (C.state cabinet.old) (C.state cabinet.new) }
-{
-    let (samples, steps, redone) = (machine.samples(), machine.done(), machine.redone());
-    match make_all(cabinet, words, case, samples, steps, redone, end) {
-        Ok(()) => status_of(end),
-        Err(_) => Status::WriteFault,
+/// A machine that made all its steps, and its end, if it came.
+#[derive(Drop)]
+struct Ran<'c> {
+    machine: Machine<'c>,
+    end: Option<End>,
+}
+
+impl<'c> Ran<'c> {
+    /// Makes what a run leaves, and answers how it ended.
+    fn write<C: Cabinet>(&self, words: Words<'_>, case: &Case, cabinet: &mut C) -> Status
+        requires case { self.now.machine.case ≡ case.now.parts }
+        requires run { history_of self.now.machine ≡ history case.now.parts }
+        requires end { self.now.end ≡ (history case.now.parts).end }
+        ensures no_usage { result ≢ Status.Usage }
+        ensures no_read_fault { result ≢ Status.ReadFault }
+        ensures no_want { result ≢ Status.NoMemory }
+        ensures unread { (C.state cabinet.new).unread ≡ (C.state cabinet.old).unread }
+        ensures ends { Ends result (Some (outcome_by (task_of words.entry) (Ok case.now.parts)))
+            (C.state cabinet.old) (C.state cabinet.new) }
+    {
+        let machine = &self.machine;
+        let (samples, steps, redone) = (machine.samples(), machine.done(), machine.redone());
+        match make_all(cabinet, words, case, samples, steps, redone, &self.end) {
+            Ok(()) => status_of(&self.end),
+            Err(_) => Status::WriteFault,
+        }
     }
 }
 
