@@ -2,8 +2,8 @@
 
 ghost use Rattle.std.specs.Prelude.{◌≡◌, ◌<◌};
 
-use crate::table::{P, filled, named};
-use crate::tail::solved;
+use crate::table::{P, Table, filled, named};
+use crate::tail::{opened, solved};
 use emtp_elim::{RowCause, eliminate_plain};
 use emtp_fix::Steps;
 use emtp_tail::Kept;
@@ -160,6 +160,19 @@ fn kind(answer: &Result<[i64; N], Named>) -> usize
     }
 }
 
+/// The numbers of a system without a pattern, row after row, and its currents.
+fn system(seed: &mut u64) -> ([i64; N * N], [i128; N]) {
+    let mut cells = [0; N * N];
+    for at in 0..N * N {
+        cells[at] = cell(seed, at % (N + 1) == 0);
+    }
+    let mut currents = [0; N];
+    for at in 0..N {
+        currents[at] = current(seed);
+    }
+    (cells, currents)
+}
+
 /// One system without a pattern, by the reference and by both eliminations.
 fn one_system<L: Ledger>(
     rt: &impl Abort,
@@ -172,31 +185,45 @@ fn one_system<L: Ledger>(
     ensures size { kept.new.size ≡ 4 }
     ensures kind { result < 4 }
 {
-    let mut cells = [0; N * N];
-    for at in 0..N * N {
-        cells[at] = cell(seed, at % (N + 1) == 0);
-    }
-    let mut currents = [0; N];
-    for at in 0..N {
-        currents[at] = current(seed);
-    }
+    let (cells, currents) = system(seed);
     let expected = reference(&cells, &currents);
     let rows = filled(alloc, N, 0, &cells).expect(rt, "memory");
-    let mut plain = [0; N];
-    let by_plain = eliminate_plain(alloc, &rows, &currents, &mut plain).map_err(named);
-    let mut x = [0; N];
-    let mut right = currents;
-    let by_kept = solved(kept, &rows, &mut right, &mut x, steps).map_err(named);
+    let plain = plain_agrees(alloc, &rows, &currents, &expected);
+    let by_kept = kept_agrees(kept, &rows, &currents, &expected, steps);
     drop(rows);
-    assert!(rt;
-        agrees(&expected, by_plain, &plain),
-        "plain: {cells:?} {currents:?}"
-    );
-    assert!(rt;
-        agrees(&expected, by_kept, &x),
-        "kept: {cells:?} {currents:?}"
-    );
+    assert!(rt; plain, "plain: {cells:?} {currents:?}");
+    assert!(rt; by_kept, "kept: {cells:?} {currents:?}");
     kind(&expected)
+}
+
+fn plain_agrees(
+    alloc: Global,
+    rows: &Table,
+    currents: &[i128; N],
+    expected: &Result<[i64; N], Named>,
+) -> bool
+    requires { rows.now.size ≡ 4 }
+{
+    let mut x = [0; N];
+    let ended = eliminate_plain(alloc, rows, currents, &mut x).map_err(named);
+    agrees(expected, ended, &x)
+}
+
+fn kept_agrees<L: Ledger>(
+    kept: &mut Kept,
+    rows: &Table,
+    currents: &[i128; N],
+    expected: &Result<[i64; N], Named>,
+    steps: &mut Steps<L>,
+) -> bool
+    requires kept { kept.old.size ≡ 4 }
+    requires rows { rows.now.size ≡ 4 }
+    ensures { kept.new.size ≡ 4 }
+{
+    let mut right = *currents;
+    let mut x = [0; N];
+    let ended = solved(kept, rows, &mut right, &mut x, steps).map_err(named);
+    agrees(expected, ended, &x)
 }
 
 fn agrees(
@@ -217,14 +244,14 @@ fn many_systems<L: Ledger>(rt: &impl Abort, alloc: Global, blank: Blank) -> Coun
     requires some { 0 < blank.parts }
 {
     let mut steps = Steps::<L>::new(blank);
-    let empty = filled(alloc, N, 0, &[0; N * N]).expect(rt, "memory");
-    let mut kept = Kept::open(alloc, &empty).expect(rt, "memory");
+    let mut kept = opened(rt, alloc, N, &[0; N * N]);
     let mut seed = 1;
     let mut counts = [0u32; 4];
     for _ in 0..2_000 {
         let kind = one_system(rt, alloc, &mut kept, &mut seed, &mut steps);
         counts[kind] = counts[kind].wrapping_add(1);
     }
+    drop(kept);
     counts
 }
 

@@ -1,5 +1,5 @@
 //! The kept factor and plain elimination side by side, and whole runs of calls.
-ghost use Rattle.std.specs.Prelude.{◌≡◌, ◌<◌, length, All, IfOk, OnOk, IfErr, Ok, Err};
+ghost use Rattle.std.specs.Prelude.{◌≡◌, ◌*◌, ◌<◌, ◌≤◌, length, All, IfOk, OnOk, IfErr, Ok, Err};
 ghost use Rattle.emtp_elim.specs.Outcome.{outcome};
 ghost use Rattle.emtp_tail.specs.Runs.{FitsSize};
 ghost use Rattle.emtp_tests_numbers.specs.Tables.{table_rows};
@@ -53,7 +53,10 @@ fn five_updates<L: Ledger>(rt: &impl Abort, alloc: Global, blank: Blank) -> bool
     let broken = filled(alloc, 3, 1, &MIDDLE_GONE).expect(rt, "memory");
     let mut steps = Steps::<L>::new(blank);
     let mut kept = Kept::open(alloc, &first).expect(rt, "memory");
-    changes(&mut kept, &first, &second, &broken, &mut steps)
+    let is_right = changes(&mut kept, &first, &second, &broken, &mut steps);
+    drop((first, second, broken));
+    drop(kept);
+    is_right
 }
 
 fn changes<L: Ledger>(
@@ -150,6 +153,18 @@ pub fn solved<L: Ledger>(
     voltages(kept, rows, right, x, steps)
 }
 
+/// A factor for the table of these numbers, of which no row is good yet.
+pub fn opened(rt: &impl Abort, alloc: Global, size: usize, cells: &[i64]) -> Kept
+    requires few { size ≤ 1000 }
+    requires cells { length cells.now ≡ size * size }
+    ensures { result.size ≡ size }
+{
+    let rows = filled(alloc, size, 0, cells).expect(rt, "memory");
+    let kept = Kept::open(alloc, &rows).expect(rt, "memory");
+    drop(rows);
+    kept
+}
+
 /// The kept factor and plain elimination, at each of the matrices in turn.
 fn side_by_side<L: Ledger>(rt: &impl Abort, alloc: Global, blank: Blank)
     requires name { blank.name ≡ L.name }
@@ -157,11 +172,11 @@ fn side_by_side<L: Ledger>(rt: &impl Abort, alloc: Global, blank: Blank)
     requires some { 0 < blank.parts }
 {
     let mut steps = Steps::<L>::new(blank);
-    let first = filled(alloc, 3, 0, &CHANGES[0]).expect(rt, "memory");
-    let mut kept = Kept::open(alloc, &first).expect(rt, "memory");
+    let mut kept = opened(rt, alloc, 3, &CHANGES[0]);
     for k in 0..12 {
         agree(rt, alloc, &mut kept, &CHANGES[k], &mut steps);
     }
+    drop(kept);
 }
 
 /// The kept factor and plain elimination answer the same.
@@ -251,10 +266,10 @@ fn eight_calls<L: Ledger>(rt: &impl Abort, alloc: Global, blank: Blank)
     requires parts { blank.parts ≡ L.parts }
     requires some { 0 < blank.parts }
 {
-    let first = filled(alloc, 3, 1, &AT_FIRST).expect(rt, "memory");
-    let mut kept = Kept::open(alloc, &first).expect(rt, "memory");
+    let mut kept = opened(rt, alloc, 3, &AT_FIRST);
     let mut steps = Steps::<L>::new(blank);
     answer_run(rt, alloc, &mut kept, &mut steps);
+    drop(kept);
 }
 
 fn answer_run<L: Ledger>(rt: &impl Abort, alloc: Global, kept: &mut Kept, steps: &mut Steps<L>)
