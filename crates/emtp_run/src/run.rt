@@ -131,7 +131,12 @@ fn run_bytes<C: Cabinet>(alloc: Global, words: Words<'_>, bytes: &[u8], cabinet:
         (C.state cabinet.old) (C.state cabinet.new) }
 {
     match read_cards(alloc, bytes) {
-        Ok(case) => run_case(alloc, words, &case, cabinet),
+        Ok(case) => {
+            let status = run_case(alloc, words, &case, cabinet);
+            // A call, since a drop in place is proved here list by list.
+            drop(case);
+            status
+        }
         Err(Refused::Bad(bad)) => {
             refuse_card(cabinet, &bad);
             Status::BadCard
