@@ -38,7 +38,7 @@ const TABLES: &[(Found, Found, Found, Found)] = &[
 fn the_least_fault_counts(rt: HostRuntime) {
     for (first, second, third, wanted) in TABLES {
         let faults = [fault(*first), fault(*second), fault(*third)];
-        assert_eq!(rt; least(&faults), fault(*wanted));
+        assert!(rt; least(&faults) == fault(*wanted));
     }
 }
 
@@ -66,20 +66,19 @@ const JUDGED: &[(&str, Found, Found, Found)] = &[
     ("BLANK\t", None, Some((6, Why::ByteOutside)), None),
 ];
 
+/// Whether line 7 is refused so as a card, and so as one that is due.
+fn is_judged(bytes: &[u8], fields: Found, card: Found, due: Found) -> bool {
+    let line = Line { number: 7, bytes };
+    bytes.len() < 100
+        && judge(&line, fault(fields)) == refusal(card)
+        && judge_due(&line, fault(fields)) == refusal(due)
+}
+
 #[test]
 fn a_fault_of_the_bytes_decides_first(rt: HostRuntime) {
     for (text, fields, card, due) in JUDGED {
-        let line = Line {
-            number: 7,
-            bytes: text.as_bytes(),
-        };
-        assert!(rt; line.bytes.len() < 100);
-        assert_eq!(rt; judge(&line, fault(*fields)), refusal(*card), "at {text}");
-        assert_eq!(rt;
-            judge_due(&line, fault(*fields)),
-            refusal(*due),
-            "due at {text}"
-        );
+        let is = is_judged(text.as_bytes(), *fields, *card, *due);
+        assert!(rt; is, "at {text}");
     }
 }
 
@@ -114,9 +113,11 @@ fn reads_the_text_of_columns(rt: HostRuntime) {
 
 #[test]
 fn a_blank_field_means_its_value(rt: HostRuntime) {
-    assert_eq!(rt; number_or(5, b"      ", 1, 6, 0, 0, 9), Ok(5));
-    assert_eq!(rt; number_or(5, b"     7", 1, 6, 0, 0, 9), Ok(7));
-    assert_eq!(rt; number_or(5, b"    10", 1, 6, 0, 0, 9), Err(RANGE));
+    let fields = [("      ", Ok(5)), ("     7", Ok(7)), ("    10", Err(RANGE))];
+    for (field, value) in fields {
+        let is = number_or(5, field.as_bytes(), 1, 6, 0, 0, 9) == value;
+        assert!(rt; is, "at {field}");
+    }
 }
 
 #[test]

@@ -303,36 +303,55 @@ const NAMES: &[(&str, usize, Result<Option<&str>, Why>)] = &[
     ),
 ];
 
+/// Whether a field is read so as a number, and so where it is held to its range.
+fn is_read(
+    bytes: &[u8],
+    (first, last): (usize, usize),
+    scale: i32,
+    (low, high): (i64, i64),
+    number: &Read,
+    held: &Read,
+) -> bool {
+    if first < 1 || last < first || 80 < last || scale < 0 || 18 < scale || high < low {
+        return false;
+    }
+    field_number(bytes, first, last, scale, low, high) == *number
+        && field_held(bytes, first, last, scale, low, high) == *held
+}
+
 #[test]
 fn reads_number_fields(rt: HostRuntime) {
-    for (line, (first, last), scale, (low, high), number, held) in NUMBERS {
-        assert!(rt; 1 <= *first && *first <= *last && *last <= 80);
-        assert!(rt; 0 <= *scale && *scale <= 18 && *low <= *high);
-        let bytes = line.as_bytes();
-        let is = field_number(bytes, *first, *last, *scale, *low, *high) == *number;
-        let is_held = field_held(bytes, *first, *last, *scale, *low, *high) == *held;
-        assert!(rt; is && is_held, "at {first} of {line}");
+    for (line, columns, scale, range, number, held) in NUMBERS {
+        let is = is_read(line.as_bytes(), *columns, *scale, *range, number, held);
+        assert!(rt; is, "at {} of {line}", columns.0);
     }
 }
 
 #[test]
 fn reads_whole_number_fields(rt: HostRuntime) {
     for (line, value) in WHOLES {
-        assert_eq!(rt; field_whole(line.as_bytes(), 1, 80), *value, "at {line}");
+        let is = field_whole(line.as_bytes(), 1, 80) == *value;
+        assert!(rt; is, "at {line}");
+    }
+}
+
+/// Whether the name that begins in a column is this.
+fn is_name(line: &[u8], first: usize, name: &Result<Option<&str>, Why>) -> bool {
+    if first < 1 || 75 < first {
+        return false;
+    }
+    match (&field_name(line, first), name) {
+        (Ok(Some(read)), Ok(Some(name))) => read.as_slice() == name.as_bytes(),
+        (Ok(None), Ok(None)) => true,
+        (Err(read), Err(why)) => *read == *why,
+        _ => false,
     }
 }
 
 #[test]
 fn reads_name_fields(rt: HostRuntime) {
     for (line, first, name) in NAMES {
-        assert!(rt; 1 <= *first && *first <= 75);
-        let read = field_name(line.as_bytes(), *first);
-        let is = match (&read, name) {
-            (Ok(Some(read)), Ok(Some(name))) => read.as_slice() == name.as_bytes(),
-            (Ok(None), Ok(None)) => true,
-            (Err(read), Err(why)) => *read == *why,
-            _ => false,
-        };
+        let is = is_name(line.as_bytes(), *first, name);
         assert!(rt; is, "at {first} of {line}");
     }
 }
