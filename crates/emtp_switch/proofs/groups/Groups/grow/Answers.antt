@@ -3,7 +3,7 @@ use Rattle.std.proofs.lemmas.List.{with_items_is}
 use Rattle.emtp_switch.specs.Groups.{alone, groups}
 use Rattle.std.specs.Vec.{with_items}
 use Rattle.emtp_switch.specs.Tree.{StartsAtRoots, is_reached, root_in}
-use Rattle.emtp_switch.proofs.GroupRoots.{roots_are, roots_start}
+use Rattle.emtp_switch.proofs.GroupRoots.{ground_reached, roots_are, roots_start}
 use Rattle.emtp_switch.proofs.Regrouping.{labels_small, ranked_is, tree_found}
 use Rattle.emtp_switch.proofs.groups.Groups.grow.Goals as goal
 
@@ -59,3 +59,40 @@ find_roots-requires-clause-ranked c = λ k d below.
     let ranked = ranked_is c.args.case.now.parts c.args.order.now c.args.plan.now c.requires.plan in
     let inside : k < length c.args.plan.now.ranked.items = omega (arith, ap length c.deref.ensures.value, below) in
     omega (arith, ranked.within k d inside, ap (λ l. get_or l k d) c.deref.ensures.value, ap length c.deref-2.ensures.value, c.requires.room.labels_size, c.requires.plan.same_nodes)
+
+pub grow-self-requires-clause-ground : goal.grow-self-requires-clause-ground
+grow-self-requires-clause-ground c =
+    let rows = c.args.order.now in
+    let labels = c.args.self.now.labels.items in
+    let ranked = c.args.plan.now.ranked.items in
+    let roots = c.find_roots.new.roots in
+    let l = slice_index labels 0 in
+    let before = slice_index c.deref_mut.result.now l in
+    let kept : c.deref-3.result.now ≡ roots = c.deref-3.ensures.value ∙ with_items_is c.args.self.now.roots roots (omega (arith, ap length c.deref_mut.ensures.value, c.deref_mut.ensures.len)) in
+    let same_reached : c.deref_mut-3.result.now ≡ c.mark.new.reached = c.deref_mut-3.ensures.value ∙ with_items_is c.args.self.now.reached c.mark.new.reached (omega (arith, ap length c.deref_mut-2.ensures.value, c.deref_mut-2.ensures.len)) in
+    let small = labels_small c.args.case.now.parts.switches (length rows.nodes) (take c.args.bridges c.args.self.now.bridges.items) labels (length c.deref_mut.result.now) c.requires.plan.ends_within c.requires.labels
+    (omega (arith, ap length c.deref_mut.ensures.value, c.requires.room.roots_size, c.requires.plan.same_nodes)) in
+    ground_reached rows labels ranked roots before c.deref_mut-3.result.now (ranked_is c.args.case.now.parts rows c.args.plan.now c.requires.plan)
+    (c.find_roots.ensures l (small 0 (omega (arith, c.requires.room.labels_size))) ∙ ap (λ k. root_in k c.deref-2.result.now l before) c.deref.ensures.value ∙ ap (λ k. root_in ranked k l before) c.deref-2.ensures.value)
+    (ap (λ r. is_reached r 0) same_reached ∙ c.mark.ensures 0 (omega (arith, ap length c.deref-4.ensures.value, c.requires.room.labels_size)) ∙ ap (λ k. slice_index c.deref-3.result.now (slice_index k 0) == 0) c.deref-4.ensures.value ∙ ap (λ k. slice_index k l == 0) kept)
+
+pub returns-clause-within : goal.returns-clause-within
+returns-clause-within c = rw (with_items_is c.args.self.now.links c.grow-self.new.links (omega (arith, ap length c.deref_mut-4.ensures.value, c.deref_mut-4.ensures.len))) c.grow-self.ensures.within
+
+pub grow-self-requires-clause-size : goal.grow-self-requires-clause-size
+grow-self-requires-clause-size c = omega (arith, c.deref_mut-3.ensures.len, c.deref_mut-2.ensures.len, ap length c.deref_mut-2.ensures.value, c.requires.room.reached_size, c.requires.plan.same_nodes)
+
+pub returns-clause-room : goal.returns-clause-room
+returns-clause-room c =
+    let s = c.args.self.now in
+    let room = c.requires.room in
+    record {
+      labels_size = room.labels_size;
+      knowing_size = room.knowing_size;
+      bridges_size = room.bridges_size;
+      roots_size = rw (with_items_is s.roots c.find_roots.new.roots (omega (arith, ap length c.deref_mut.ensures.value, c.deref_mut.ensures.len))) (omega (arith, ap length c.deref_mut.ensures.value, room.roots_size));
+      reached_size = rw (with_items_is (with_items s.reached c.mark.new.reached) c.grow-self.new.reached (omega (arith, c.deref_mut-3.ensures.len))) (omega (arith, c.deref_mut-3.ensures.len, c.deref_mut-2.ensures.len, ap length c.deref_mut-2.ensures.value, room.reached_size));
+      links_size = rw (with_items_is s.links c.grow-self.new.links (omega (arith, ap length c.deref_mut-4.ensures.value, c.deref_mut-4.ensures.len))) (omega (arith, ap length c.deref_mut-4.ensures.value, room.links_size));
+      tallies_size = room.tallies_size;
+      kinds_size = room.kinds_size;
+    }

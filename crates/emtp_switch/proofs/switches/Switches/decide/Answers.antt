@@ -39,3 +39,44 @@ returns-then-self-clause-other c = λ on e.
     let new = c.move_states-self-inside.new.states in
     let kept = with_items_is s.states new (omega (arith, c.deref_mut.ensures.len, ap length c.deref_mut.ensures.value)) in
     c.move_states-self-inside.ensures.other on (sym kept ∙ e ∙ sym (c.deref_mut.ensures.value ∙ ap (λ (x : Switching). x.states) c.self.view_is))
+
+pub returns-else-self-clause-other : goal.returns-else-self-clause-other
+returns-else-self-clause-other c = λ on e.
+    let s = c.self.inside in
+    let new = c.move_states-self-inside.new.states in
+    let kept = with_items_is s.states new (omega (arith, c.deref_mut.ensures.len, ap length c.deref_mut.ensures.value)) in
+    c.move_states-self-inside.ensures.other on (sym kept ∙ e ∙ sym (c.deref_mut.ensures.value ∙ ap (λ (x : Switching). x.states) c.self.view_is))
+
+pub returns-else-self-clause-same : goal.returns-else-self-clause-same
+returns-else-self-clause-same c = λ off.
+    with_items_is c.self.inside.states c.move_states-self-inside.new.states (omega (arith, c.deref_mut.ensures.len, ap length c.deref_mut.ensures.value)) ∙ c.move_states-self-inside.ensures.same off ∙ c.deref_mut.ensures.value ∙ ap (λ (x : Switching). x.states) c.self.view_is
+
+pub returns-else-self-clause-case : goal.returns-else-self-clause-case
+returns-else-self-clause-case c = ap (λ (x : Switching). x.case) c.self.view_is
+
+pub returns-then-self-clause-rows : goal.returns-then-self-clause-rows
+returns-then-self-clause-rows c = ap (λ (x : Switching). x.rows) c.self.view_is
+
+pub move_states-self-inside-requires-clause-voltages : goal.move_states-self-inside-requires-clause-voltages
+move_states-self-inside-requires-clause-voltages c = omega (arith, c.requires.voltages, ap (λ (x : Switching). length x.case.nodes) c.self.view_is)
+
+pub move_states-self-inside-requires-clause-currents : goal.move_states-self-inside-requires-clause-currents
+move_states-self-inside-requires-clause-currents c = omega (arith, c.requires.currents, ap (λ (x : Switching). length x.case.switches) c.self.view_is)
+
+pub move_states-self-inside-requires-clause-values : goal.move_states-self-inside-requires-clause-values
+move_states-self-inside-requires-clause-values c = omega (arith, c.requires.tacs, ap (λ (x : Switching). length x.case.vars) c.self.view_is)
+
+pub move_states-self-inside-requires-clause-before : goal.move_states-self-inside-requires-clause-before
+move_states-self-inside-requires-clause-before c = omega (arith, ap length c.deref.ensures.value, c.self.invariant.before_size)
+
+pub move_states-self-inside-requires-clause-states : goal.move_states-self-inside-requires-clause-states
+move_states-self-inside-requires-clause-states c = omega (arith, ap length c.deref_mut.ensures.value, c.self.invariant.states_size)
+
+pub copy_from_slice-requires : goal.copy_from_slice-requires
+copy_from_slice-requires c = omega (arith, c.deref.ensures.len, ap length c.deref.ensures.value, c.self.invariant.before_size, c.requires.currents, ap (λ (x : Switching). length x.case.switches) c.self.view_is)
+
+pub regroup-requires-clause-states : goal.regroup-requires-clause-states
+regroup-requires-clause-states c = omega (arith, c.deref-then-self.ensures.len, c.deref_mut.ensures.len, ap length c.deref_mut.ensures.value, c.self.invariant.states_size)
+
+pub regroup-requires-clause-room : goal.regroup-requires-clause-room
+regroup-requires-clause-room c = c.self.invariant.groups_are.room
