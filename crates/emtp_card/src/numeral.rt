@@ -1,8 +1,11 @@
 //! Numbers as cards spell them.
 
-ghost use Rattle.std.specs.Prelude.{◌≡◌, ◌-◌, ◌<◌, ◌≤◌, length, take_while, unsigned_abs, IfSome, option_map};
+ghost use Rattle.std.specs.Prelude.{◌≡◌, ◌-◌, ◌<◌, ◌≤◌, ◌&&◌, nat_le, length, take_while, unsigned_abs, IfSome, option_map};
 ghost use Rattle.std.specs.Char.{is_ascii_digit, IsAsciiDigit};
+ghost use Rattle.emtp_card.specs.Decimal.{number_of};
 ghost use Rattle.emtp_card.specs.Numeral.{sign_of, digits_of, fraction_of, few_digits, power_of, exponent_of, decimal_of, meaning_of, IsNumeral, AreDigits};
+
+use crate::whole::are_digits;
 
 /// A spelled number: its sign, the digits before and after the point, and its power of ten, from
 /// -999 to 999. The digits stay in the text, so their number has no limit.
@@ -105,13 +108,31 @@ fn few_digits(text: &[u8]) -> Option<u32>
     ensures value { result ≡ few_digits text.now }
     ensures small { IfSome result (λ size. size < 1000) }
 {
+    if is_few(text.len()) && are_digits(text) {
+        Some(number(text))
+    } else {
+        None
+    }
+}
+
+fn is_few(digits: usize) -> bool
+    ensures { result ≡ (nat_le 1 digits && nat_le digits 3) }
+{
+    1 <= digits && digits <= 3
+}
+
+/// The number that up to three digits write.
+fn number(text: &[u8]) -> u32
+    requires digits { AreDigits text.now }
+    requires few { length text.now ≤ 3 }
+    ensures value { result ≡ number_of text.now }
+    ensures small { result < 1000 }
+{
     match text {
-        [a] if a.is_ascii_digit() => Some(digit(*a)),
-        [a, b] if a.is_ascii_digit() && b.is_ascii_digit() => Some(10 * digit(*a) + digit(*b)),
-        [a, b, c] if a.is_ascii_digit() && b.is_ascii_digit() && c.is_ascii_digit() => {
-            Some(100 * digit(*a) + 10 * digit(*b) + digit(*c))
-        }
-        _ => None,
+        [a] => digit(*a),
+        [a, b] => 10 * digit(*a) + digit(*b),
+        [a, b, c] => 100 * digit(*a) + 10 * digit(*b) + digit(*c),
+        _ => 0,
     }
 }
 

@@ -60,7 +60,7 @@ fn only_digits(text: &[u8]) -> bool
     !text.is_empty() && are_digits(text)
 }
 
-fn are_digits(text: &[u8]) -> bool
+pub(crate) fn are_digits(text: &[u8]) -> bool
     ensures value { result ≡ list_all is_ascii_digit text.now }
     ensures are { IsTrue result → AreDigits text.now }
 {
