@@ -1,7 +1,8 @@
 //! Switch cards.
 
-ghost use Rattle.std.specs.Prelude.{◌≡◌, ◌^◌, ◌<◌, ◌≤◌, length, IfOk};
+ghost use Rattle.std.specs.Prelude.{◌≡◌, ◌^◌, ◌<◌, ◌≤◌, length, pos, IfOk};
 ghost use Rattle.std.specs.Option.{ForSome};
+ghost use Rattle.std.specs.Result.{result_unwrap_or};
 ghost use Rattle.emtp_case.specs.Range.{IsBetween};
 ghost use Rattle.emtp_case.specs.Switch.{IsSwitchKind};
 ghost use Rattle.emtp_netcards.specs.Fields.{one_variable};
@@ -184,6 +185,17 @@ fn part(line: &[u8], first: usize, last: usize) -> Result<i64, Why>
     number_or(0, line, first, last, 9, 0, 1_000_000_000_000_000_000)
 }
 
+/// The same; a refused one doesn't matter.
+fn part_or_zero(line: &[u8], first: usize, last: usize) -> i64
+    requires first { 1 ≤ first }
+    requires order { first ≤ last }
+    requires last { last ≤ 80 }
+    ensures value { result ≡ result_unwrap_or (part_field line.now first last) (pos 0) }
+    ensures range { IsBetween 0 (10 ^ 18) result }
+{
+    part(line, first, last).unwrap_or(0)
+}
+
 fn switch_kind(line: &[u8], kind: &Result<SwitchType, Why>) -> SwitchKind
     ensures value { result ≡ switch_kind line.now kind.now }
     ensures numbers { IsSwitchKind one_variable result }
@@ -205,7 +217,7 @@ fn time_kind(line: &[u8]) -> SwitchKind
     SwitchKind::Time {
         close: held_time_or_zero(line, 15, 24).unwrap_or(0),
         open_at: held_time(line, 25, 34).unwrap_or(None),
-        margin: part(line, 35, 44).unwrap_or(0),
+        margin: part_or_zero(line, 35, 44),
     }
 }
 
@@ -214,8 +226,8 @@ fn valve_kind(line: &[u8]) -> SwitchKind
     ensures numbers { IsSwitchKind one_variable result }
 {
     SwitchKind::Valve {
-        ignition: part(line, 15, 24).unwrap_or(0),
-        holding: part(line, 25, 34).unwrap_or(0),
+        ignition: part_or_zero(line, 15, 24),
+        holding: part_or_zero(line, 25, 34),
         control: number_of_control(field_name(line, 65)),
     }
 }
