@@ -6,11 +6,11 @@ ghost use Rattle.emtp_case.specs.Range.{IsBetween};
 ghost use Rattle.emtp_case.specs.RunData.{IsRun};
 ghost use Rattle.emtp_netcards.specs.BranchCard.{HasNumbers, HasValues, are_blank, branch_card, copied_fault, copied_names, fields_fault, has_copy, kind_field, kind_of, kind_of_values, no_values, read_values, resistor_fault, values_fault, values_of};
 
-use crate::fields::{asked, ends_fault, name_or_ground};
+use crate::fields::{asked, ends_fault, name_or_ground, zero_field};
 use crate::line_values::{LineValues, line_fault, line_values};
 use crate::series_values::{SeriesValues, series_fault, series_values};
 use emtp_card::{
-    Bad, Fault, Line, MAX_BYTES, Why, fault_at, field_name, field_whole, judge, least, number_or,
+    Bad, Fault, Line, MAX_BYTES, Why, fault_at, field_name, field_whole, judge, least,
 };
 use emtp_case::{Name, RunData};
 
@@ -221,9 +221,9 @@ fn resistor_fault(line: &[u8]) -> Option<Fault>
     ensures { result ≡ resistor_fault line.now }
 {
     least(&[
-        fault_at(27, &number_or(0, line, 27, 32, 0, 0, 0)),
-        fault_at(33, &number_or(0, line, 33, 38, 0, 0, 0)),
-        fault_at(39, &number_or(0, line, 39, 44, 0, 0, 0)),
+        fault_at(27, &zero_field(line, 27, 32)),
+        fault_at(33, &zero_field(line, 33, 38)),
+        fault_at(39, &zero_field(line, 39, 44)),
     ])
 }
 

@@ -7,7 +7,7 @@ ghost use Rattle.emtp_card.specs.Lines.{fault_of_line};
 ghost use Rattle.emtp_card.specs.Name.{name_field};
 ghost use Rattle.emtp_card.specs.Number.{IsWithin, number_field};
 ghost use Rattle.emtp_case.specs.Name.{IsName};
-ghost use Rattle.emtp_netcards.specs.Fields.{IsSmall, asked_field, asked_of, ends_fault, held_time, is_same_name, name_or_ground, needed, required, signed_number};
+ghost use Rattle.emtp_netcards.specs.Fields.{IsSmall, asked_field, asked_of, ends_fault, held_time, is_same_name, name_or_ground, needed, required, signed_number, zero_field};
 
 use emtp_card::{Fault, Why, field_held, field_name, field_number, field_whole, number_or};
 use emtp_case::Name;
@@ -75,6 +75,16 @@ pub fn signed_number(line: &[u8], first: usize, last: usize, scale: i32) -> Resu
     ensures small { IfOk result IsSmall }
 {
     number_or(0, line, first, last, scale, -EXA, EXA)
+}
+
+/// A number field that has to hold 0, of which a blank is one.
+pub(crate) fn zero_field(line: &[u8], first: usize, last: usize) -> Result<i64, Why>
+    requires first { 1 ≤ first }
+    requires order { first ≤ last }
+    requires last { last ≤ 80 }
+    ensures { result ≡ zero_field line.now first last }
+{
+    number_or(0, line, first, last, 0, 0, 0)
 }
 
 /// A time in seconds that is held to 10^18 ps in magnitude.

@@ -1,6 +1,6 @@
 //! The values of a line's card, given in one of three ways.
 
-ghost use Rattle.std.specs.Prelude.{◌≡◌, ◌^◌, ◌*ℤ◌, ◌≤ℤ◌, pos, IfOk, IfSome, IsTrue};
+ghost use Rattle.std.specs.Prelude.{◌≡◌, ◌&&◌, ◌^◌, ◌*ℤ◌, ◌≤ℤ◌, int_le, pos, IfOk, IfSome, IsTrue};
 ghost use Rattle.emtp_case.specs.Branch.{line_impedance};
 ghost use Rattle.emtp_case.specs.Range.{IsBetween};
 ghost use Rattle.std.specs.Result.{result_unwrap_or};
@@ -238,8 +238,14 @@ fn is_surge(zc: i128, r: i128, end: i128) -> bool
     ensures r { IsTrue result → r ≤ℤ pos (10 ^ 15) }
     ensures end { IsTrue result → IsBetween 10 (10 ^ 15) end }
 {
-    let most = i128::from(PETA);
-    10 <= zc && zc <= most && r <= most && 10 <= end && end <= most
+    is_impedance(zc) && r <= i128::from(PETA) && is_impedance(end)
+}
+
+fn is_impedance(value: i128) -> bool
+    ensures value { result ≡ (int_le (pos 10) value && int_le value (pos (10 ^ 15))) }
+    ensures range { IsTrue result → IsBetween 10 (10 ^ 15) value }
+{
+    10 <= value && value <= i128::from(PETA)
 }
 
 /// The surge impedance, where its fields were read.

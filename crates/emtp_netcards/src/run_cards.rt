@@ -6,9 +6,9 @@ ghost use Rattle.emtp_card.specs.Whole.{whole_field};
 ghost use Rattle.emtp_case.specs.RunData.{IsRun};
 ghost use Rattle.emtp_netcards.specs.RunCards.{IsFirstCard, IsMillion, every_by, every_of, first_card, run_data, second_card, steps_by, steps_of, tolerance_card};
 
-use crate::fields::required;
+use crate::fields::{required, zero_field};
 use emtp_card::{
-    Bad, Fault, Line, MAX_BYTES, Why, ends_section, fault_at, field_whole, judge, least, number_or,
+    Bad, Fault, Line, MAX_BYTES, Why, ends_section, fault_at, field_whole, judge, least,
 };
 use emtp_case::RunData;
 use emtp_fix::near;
@@ -83,8 +83,8 @@ pub fn first_card(line: Line<'_>) -> Result<FirstCard, Bad>
         fault_at(1, &dt),
         fault_at(9, &end),
         fault_at(9, &steps),
-        fault_at(17, &number_or(0, bytes, 17, 24, 0, 0, 0)),
-        fault_at(25, &number_or(0, bytes, 25, 32, 0, 0, 0)),
+        fault_at(17, &zero_field(bytes, 17, 24)),
+        fault_at(25, &zero_field(bytes, 25, 32)),
     ];
     match judge(&line, least(&faults)) {
         Some(bad) => Err(bad),
