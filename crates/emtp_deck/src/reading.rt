@@ -167,9 +167,11 @@ fn filled(alloc: Global, deck: &Deck, place: &Place, line: u32) -> Result<Case, 
 {
     let names = KnownNames::new(alloc, deck, place)?;
     if has_too_many(&names, deck, place) {
+        drop(names);
         return Err(Refused::Bad(samples_bad(deck)));
     }
     if let Some(bad) = control_bad(alloc, &names, deck, place) {
+        drop(names);
         return Err(Refused::Bad(bad));
     }
     let KnownNames { variables, .. } = names;

@@ -35,7 +35,17 @@ add_channels-requires-4-clause-stored c =
 pub add_channels-requires-5-clause-stored : goal.add_channels-requires-5-clause-stored
 add_channels-requires-5-clause-stored c =
     let a = c.args.asked.now in
-    rw (c.as_slice-5.ensures, c.in_ok-add_channels-4.ensures.ok, c.as_slice-4.ensures, c.in_ok-add_channels-3.ensures.ok, c.as_slice-3.ensures, c.in_ok-add_channels-2.ensures.ok, c.as_slice-2.ensures, c.in_ok-add_channels.ensures.ok, c.as_slice.ensures,
-    c.requires.empty)
+    rw (
+      c.as_slice-5.ensures,
+      c.in_ok-add_channels-4.ensures.ok,
+      c.as_slice-4.ensures,
+      c.in_ok-add_channels-3.ensures.ok,
+      c.as_slice-3.ensures,
+      c.in_ok-add_channels-2.ensures.ok,
+      c.as_slice-2.ensures,
+      c.in_ok-add_channels.ensures.ok,
+      c.as_slice.ensures,
+      c.requires.empty,
+    )
     (part (length (((a.outputs ++ a.branches) ++ a.switches) ++ a.variables)) (length a.statuses) (count_asked a) (samples_of c.args.draft.now.parts.run)
     (omega (arith, length-append a.outputs a.branches, length-append (a.outputs ++ a.branches) a.switches, length-append ((a.outputs ++ a.branches) ++ a.switches) a.variables)) c.requires.stored)
