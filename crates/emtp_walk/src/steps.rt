@@ -26,8 +26,13 @@ pub fn walk(alloc: Global, cards: &Cards<'_>) -> Result<(Deck, Place), Refused>
     ensures whole { IfOk result (λ end. IsWhole end.0) }
 {
     let mut deck = Deck::new(alloc);
-    let place = take_lines(alloc, &mut deck, cards)?;
-    Ok((deck, place))
+    match take_lines(alloc, &mut deck, cards) {
+        Ok(place) => Ok((deck, place)),
+        Err(refused) => {
+            drop(deck);
+            Err(refused)
+        }
+    }
 }
 
 /// Takes all lines, one after the other.
