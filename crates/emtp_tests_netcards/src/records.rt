@@ -119,21 +119,22 @@ const BRANCHES: &[(&str, bool, BranchValues, u8)] = &[
     ),
 ];
 
+/// Whether line 4 is a branch card with these values that asks for this.
+fn is_branch(bytes: &[u8], wide: bool, values: &BranchValues, asked: u8) -> bool {
+    if bytes.len() >= 100 {
+        return false;
+    }
+    match branch(Line { number: 4, bytes }, &RUN, wide) {
+        Ok(card) => card.values == *values && card.line == 4 && card.asked == asked,
+        Err(_) => false,
+    }
+}
+
 #[test]
 fn branches(rt: HostRuntime) {
     for (text, wide, values, asked) in BRANCHES {
-        let line = Line {
-            number: 4,
-            bytes: text.as_bytes(),
-        };
-        assert!(rt; line.bytes.len() < 100);
-        let Ok(card) = branch(line, &RUN, *wide) else {
-            assert!(rt; false, "refused: {text}");
-            return;
-        };
-        assert_eq!(rt; card.values, *values, "at {text}");
-        assert_eq!(rt; card.line, 4);
-        assert_eq!(rt; card.asked, *asked);
+        let is = is_branch(text.as_bytes(), *wide, values, *asked);
+        assert!(rt; is, "at {text}");
     }
 }
 
@@ -201,19 +202,21 @@ const SWITCHES: &[(&str, SwitchKind)] = &[
     ),
 ];
 
+/// Whether line 4 is a switch card of this kind.
+fn is_switch(bytes: &[u8], kind: &SwitchKind) -> bool {
+    if bytes.len() >= 100 {
+        return false;
+    }
+    match switch(Line { number: 4, bytes }) {
+        Ok(card) => card.kind == *kind,
+        Err(_) => false,
+    }
+}
+
 #[test]
 fn switches(rt: HostRuntime) {
     for (text, kind) in SWITCHES {
-        let line = Line {
-            number: 4,
-            bytes: text.as_bytes(),
-        };
-        assert!(rt; line.bytes.len() < 100);
-        let Ok(card) = switch(line) else {
-            assert!(rt; false, "refused: {text}");
-            return;
-        };
-        assert!(rt; card.kind == *kind, "at {text}");
+        assert!(rt; is_switch(text.as_bytes(), kind), "at {text}");
     }
 }
 
@@ -245,22 +248,27 @@ const SHAPES: &[(&str, bool, Shape)] = &[
     ("60SRC           x", false, Shape::Tacs { var: 0 }),
 ];
 
+/// Whether line 4 is a source card of SRC with this shape and no stop.
+fn is_source(bytes: &[u8], current: bool, shape: &Shape) -> bool {
+    if bytes.len() >= 100 {
+        return false;
+    }
+    match source(Line { number: 4, bytes }) {
+        Ok(card) => {
+            card.shape == *shape
+                && card.current == current
+                && card.stop.is_none()
+                && card.name.as_slice() == b"SRC".as_slice()
+        }
+        Err(_) => false,
+    }
+}
+
 #[test]
 fn sources(rt: HostRuntime) {
     for (text, current, shape) in SHAPES {
-        let line = Line {
-            number: 4,
-            bytes: text.as_bytes(),
-        };
-        assert!(rt; line.bytes.len() < 100);
-        let Ok(card) = source(line) else {
-            assert!(rt; false, "refused: {text}");
-            return;
-        };
-        assert!(rt; card.shape == *shape, "at {text}");
-        assert_eq!(rt; card.current, *current, "at {text}");
-        assert_eq!(rt; card.stop, None);
-        assert_eq!(rt; card.name.as_slice(), b"SRC".as_slice());
+        let is = is_source(text.as_bytes(), *current, shape);
+        assert!(rt; is, "at {text}");
     }
 }
 
