@@ -28,6 +28,21 @@ latest_is s H voltages currents tacs stands first second third = record { step_i
 pub ready_is : (s : Net) (H : List StepRecord) (kinds : List RowKind) (rows : NodalRows) (switches : switching.Switching) → StandsFor s H → IsDecided s.case H kinds rows switches → IsReady s.case H s.branches rows s.kept s.made
 ready_is s H kinds rows switches stands decided = record { stands = stands.branches; free = decided.free; kinds = decided.rows_are; kept_is = stands.kept; steps = stands.steps }
 
+-- what a step decides, of its record as it stands
+abbrev pub Decides : (s : Net) (voltages currents tacs : List ℤ) (kinds : List RowKind) (rows : NodalRows) (switches : switching.Switching) → Type 0
+Decides s voltages currents tacs kinds rows switches = (H : List StepRecord) → switching.StandsFor s.switches H → switching.AreLatest (s.made + 1) voltages currents tacs H → IsDecided s.case H kinds rows switches
+
+pub decided_here : (s now : Net) (H : List StepRecord) (voltages currents tacs : List ℤ) (kinds : List RowKind) (rows : NodalRows) (switches : switching.Switching) → Decides s voltages currents tacs kinds rows switches
+    → s ≡ now → StandsFor now H → voltages ≡ s.voltages → currents ≡ s.switch_currents → tacs ≡ (latest H).values → IsDecided s.case H kinds rows switches
+decided_here s now H voltages currents tacs kinds rows switches decides same stands first second third =
+    let stood = subst (λ (n : Net). StandsFor n H) (sym same) stands in
+    decides H stood.switches (latest_is s H voltages currents tacs stood first second third)
+
+pub ready_here : (s now : Net) (H : List StepRecord) (voltages currents tacs : List ℤ) (kinds : List RowKind) (rows : NodalRows) (switches : switching.Switching) → Decides s voltages currents tacs kinds rows switches
+    → s ≡ now → StandsFor now H → voltages ≡ s.voltages → currents ≡ s.switch_currents → tacs ≡ (latest H).values → IsReady s.case H s.branches rows s.kept s.made
+ready_here s now H voltages currents tacs kinds rows switches decides same stands first second third =
+    ready_is s H kinds rows switches (subst (λ (n : Net). StandsFor n H) (sym same) stands) (decided_here s now H voltages currents tacs kinds rows switches decides same stands first second third)
+
 pub posed_is : (s : Net) (H : List StepRecord) (rows : NodalRows) (switches : switching.Switching) (old system : NodalSystem) (kept : Good) → StandsFor s H → IsDecided s.case H old.kinds.items rows switches → system.kinds ≡ old.kinds → system.values.items ≡ source_values s.case H → kept.rows ≡ matrix s.case H
     → IsPosed s.case H s.branches system kept
 posed_is s H rows switches old system kept stands decided kinds values made = record { stands = stands.branches; free = decided.free; kinds = ap (λ k. k.items) kinds ∙ decided.kinds_are; values = values; kept_is = made }

@@ -15,7 +15,7 @@ use Rattle.emtp_net.proofs.Holding.{few_next}
 use Rattle.emtp_net.specs.Step.{network_part}
 use Rattle.emtp_net.specs.declared.fault.NetFault.TheVariants.{Tied}
 use Rattle.emtp_net.proofs.Tying.{free_isnt_tied}
-use Rattle.emtp_net.proofs.Stepping.{HasStepped, err_steps, err_claims, err_names, judge_steps, latest_is, ok_claims, posed_is, ready_is}
+use Rattle.emtp_net.proofs.Stepping.{HasStepped, decided_here, err_steps, err_claims, err_names, judge_steps, latest_is, ok_claims, posed_is, ready_here, ready_is}
 use Rattle.emtp_net.proofs.network.Network.step.Goals as goal
 
 pub invariant_of-self : goal.invariant_of-self
@@ -277,37 +277,27 @@ returns-clause-step g c = λ H stands tacs.
 
 pub returns-in_err-factor-clause-tied : goal.returns-in_err-factor-clause-tied
 returns-in_err-factor-clause-tied g c = λ H node stands tacs tied.
-    let stood = subst (λ (s : Net). StandsFor s H) (sym c.self.view_is) stands in
-    let last = latest_is _ H c.deref.result.now c.deref-2.result.now c.args.tacs.now stood c.deref.ensures.value c.deref-2.ensures.value tacs in
-    let decided = c.in_ok-decide.ensures.decided H stood.switches last in
+    let decided = decided_here _ _ H _ _ _ _ _ _ c.in_ok-decide.ensures.decided c.self.view_is stands c.deref.ensures.value c.deref-2.ensures.value tacs in
     absurd (free_isnt_tied c.self.inside.case.now.parts H node decided.free (subst (λ (s : Net). network_part s.case H ≡ Err (Tied node)) (sym c.self.view_is) tied))
 
 pub returns-in_err-solve-clause-tied : goal.returns-in_err-solve-clause-tied
 returns-in_err-solve-clause-tied g c = λ H node stands tacs tied.
-    let stood = subst (λ (s : Net). StandsFor s H) (sym c.self.view_is) stands in
-    let last = latest_is _ H c.deref.result.now c.deref-2.result.now c.args.tacs.now stood c.deref.ensures.value c.deref-2.ensures.value tacs in
-    let decided = c.in_ok-decide.ensures.decided H stood.switches last in
+    let decided = decided_here _ _ H _ _ _ _ _ _ c.in_ok-decide.ensures.decided c.self.view_is stands c.deref.ensures.value c.deref-2.ensures.value tacs in
     absurd (free_isnt_tied c.self.inside.case.now.parts H node decided.free (subst (λ (s : Net). network_part s.case H ≡ Err (Tied node)) (sym c.self.view_is) tied))
 
 pub returns-in_err-accept-clause-tied : goal.returns-in_err-accept-clause-tied
 returns-in_err-accept-clause-tied g c = λ H node stands tacs tied.
-    let stood = subst (λ (s : Net). StandsFor s H) (sym c.self.view_is) stands in
-    let last = latest_is _ H c.deref.result.now c.deref-2.result.now c.args.tacs.now stood c.deref.ensures.value c.deref-2.ensures.value tacs in
-    let decided = c.in_ok-decide.ensures.decided H stood.switches last in
+    let decided = decided_here _ _ H _ _ _ _ _ _ c.in_ok-decide.ensures.decided c.self.view_is stands c.deref.ensures.value c.deref-2.ensures.value tacs in
     absurd (free_isnt_tied c.self.inside.case.now.parts H node decided.free (subst (λ (s : Net). network_part s.case H ≡ Err (Tied node)) (sym c.self.view_is) tied))
 
 pub returns-in_err-find_currents-clause-tied : goal.returns-in_err-find_currents-clause-tied
 returns-in_err-find_currents-clause-tied g c = λ H node stands tacs tied.
-    let stood = subst (λ (s : Net). StandsFor s H) (sym c.self.view_is) stands in
-    let last = latest_is _ H c.deref.result.now c.deref-2.result.now c.args.tacs.now stood c.deref.ensures.value c.deref-2.ensures.value tacs in
-    let decided = c.in_ok-decide.ensures.decided H stood.switches last in
+    let decided = decided_here _ _ H _ _ _ _ _ _ c.in_ok-decide.ensures.decided c.self.view_is stands c.deref.ensures.value c.deref-2.ensures.value tacs in
     absurd (free_isnt_tied c.self.inside.case.now.parts H node decided.free (subst (λ (s : Net). network_part s.case H ≡ Err (Tied node)) (sym c.self.view_is) tied))
 
 pub returns-clause-tied : goal.returns-clause-tied
 returns-clause-tied g c = λ H node stands tacs tied.
-    let stood = subst (λ (s : Net). StandsFor s H) (sym c.self.view_is) stands in
-    let last = latest_is _ H c.deref.result.now c.deref-2.result.now c.args.tacs.now stood c.deref.ensures.value c.deref-2.ensures.value tacs in
-    let decided = c.in_ok-decide.ensures.decided H stood.switches last in
+    let decided = decided_here _ _ H _ _ _ _ _ _ c.in_ok-decide.ensures.decided c.self.view_is stands c.deref.ensures.value c.deref-2.ensures.value tacs in
     absurd (free_isnt_tied c.self.inside.case.now.parts H node decided.free (subst (λ (s : Net). network_part s.case H ≡ Err (Tied node)) (sym c.self.view_is) tied))
 
 pub returns-in_err-decide-clause-case : goal.returns-in_err-decide-clause-case
@@ -345,9 +335,7 @@ returns-in_err-factor-clause-few_ticks g c = c.factor.ensures.few_ticks
 
 pub returns-in_err-factor-clause-most : goal.returns-in_err-factor-clause-most
 returns-in_err-factor-clause-most g c = λ H stands tacs.
-    let stood = subst (λ (s : Net). StandsFor s H) (sym c.self.view_is) stands in
-    let last = latest_is _ H c.deref.result.now c.deref-2.result.now c.args.tacs.now stood c.deref.ensures.value c.deref-2.ensures.value tacs in
-    let ready = ready_is _ H c.decide.new.self.kinds.items c.decide.new.rows c.decide.new.switches stood (c.in_ok-decide.ensures.decided H stood.switches last) in
+    let ready = ready_here _ _ H _ _ _ _ _ _ c.in_ok-decide.ensures.decided c.self.view_is stands c.deref.ensures.value c.deref-2.ensures.value tacs in
     subst (λ (s : Net). c.factor.new.steps ≤ c.args.steps.now + step_ticks s.case H) c.self.view_is (c.factor.ensures.most H ready)
 
 pub returns-in_err-factor-clause-node : goal.returns-in_err-factor-clause-node
@@ -370,9 +358,7 @@ returns-in_err-solve-clause-few_ticks g c = c.factor.ensures.few_ticks
 
 pub returns-in_err-solve-clause-most : goal.returns-in_err-solve-clause-most
 returns-in_err-solve-clause-most g c = λ H stands tacs.
-    let stood = subst (λ (s : Net). StandsFor s H) (sym c.self.view_is) stands in
-    let last = latest_is _ H c.deref.result.now c.deref-2.result.now c.args.tacs.now stood c.deref.ensures.value c.deref-2.ensures.value tacs in
-    let ready = ready_is _ H c.decide.new.self.kinds.items c.decide.new.rows c.decide.new.switches stood (c.in_ok-decide.ensures.decided H stood.switches last) in
+    let ready = ready_here _ _ H _ _ _ _ _ _ c.in_ok-decide.ensures.decided c.self.view_is stands c.deref.ensures.value c.deref-2.ensures.value tacs in
     subst (λ (s : Net). c.factor.new.steps ≤ c.args.steps.now + step_ticks s.case H) c.self.view_is (c.factor.ensures.most H ready)
 
 pub returns-in_err-solve-clause-node : goal.returns-in_err-solve-clause-node
@@ -395,9 +381,7 @@ returns-in_err-accept-clause-few_ticks g c = c.factor.ensures.few_ticks
 
 pub returns-in_err-accept-clause-most : goal.returns-in_err-accept-clause-most
 returns-in_err-accept-clause-most g c = λ H stands tacs.
-    let stood = subst (λ (s : Net). StandsFor s H) (sym c.self.view_is) stands in
-    let last = latest_is _ H c.deref.result.now c.deref-2.result.now c.args.tacs.now stood c.deref.ensures.value c.deref-2.ensures.value tacs in
-    let ready = ready_is _ H c.decide.new.self.kinds.items c.decide.new.rows c.decide.new.switches stood (c.in_ok-decide.ensures.decided H stood.switches last) in
+    let ready = ready_here _ _ H _ _ _ _ _ _ c.in_ok-decide.ensures.decided c.self.view_is stands c.deref.ensures.value c.deref-2.ensures.value tacs in
     subst (λ (s : Net). c.factor.new.steps ≤ c.args.steps.now + step_ticks s.case H) c.self.view_is (c.factor.ensures.most H ready)
 
 pub returns-in_err-accept-clause-node : goal.returns-in_err-accept-clause-node
@@ -420,9 +404,7 @@ returns-in_err-find_currents-clause-few_ticks g c = c.factor.ensures.few_ticks
 
 pub returns-in_err-find_currents-clause-most : goal.returns-in_err-find_currents-clause-most
 returns-in_err-find_currents-clause-most g c = λ H stands tacs.
-    let stood = subst (λ (s : Net). StandsFor s H) (sym c.self.view_is) stands in
-    let last = latest_is _ H c.deref.result.now c.deref-2.result.now c.args.tacs.now stood c.deref.ensures.value c.deref-2.ensures.value tacs in
-    let ready = ready_is _ H c.decide.new.self.kinds.items c.decide.new.rows c.decide.new.switches stood (c.in_ok-decide.ensures.decided H stood.switches last) in
+    let ready = ready_here _ _ H _ _ _ _ _ _ c.in_ok-decide.ensures.decided c.self.view_is stands c.deref.ensures.value c.deref-2.ensures.value tacs in
     subst (λ (s : Net). c.factor.new.steps ≤ c.args.steps.now + step_ticks s.case H) c.self.view_is (c.factor.ensures.most H ready)
 
 pub returns-in_err-find_currents-clause-node : goal.returns-in_err-find_currents-clause-node
@@ -445,9 +427,7 @@ returns-clause-few_ticks g c = c.factor.ensures.few_ticks
 
 pub returns-clause-most : goal.returns-clause-most
 returns-clause-most g c = λ H stands tacs.
-    let stood = subst (λ (s : Net). StandsFor s H) (sym c.self.view_is) stands in
-    let last = latest_is _ H c.deref.result.now c.deref-2.result.now c.args.tacs.now stood c.deref.ensures.value c.deref-2.ensures.value tacs in
-    let ready = ready_is _ H c.decide.new.self.kinds.items c.decide.new.rows c.decide.new.switches stood (c.in_ok-decide.ensures.decided H stood.switches last) in
+    let ready = ready_here _ _ H _ _ _ _ _ _ c.in_ok-decide.ensures.decided c.self.view_is stands c.deref.ensures.value c.deref-2.ensures.value tacs in
     subst (λ (s : Net). c.factor.new.steps ≤ c.args.steps.now + step_ticks s.case H) c.self.view_is (c.factor.ensures.most H ready)
 
 pub returns-clause-node : goal.returns-clause-node
@@ -455,9 +435,7 @@ returns-clause-node g c = subst (λ (s : Net). IfErr c.judge.result (NamesNode s
 
 pub returns-clause-ticks : goal.returns-clause-ticks
 returns-clause-ticks g c = λ H stands tacs.
-    let stood = subst (λ (s : Net). StandsFor s H) (sym c.self.view_is) stands in
-    let last = latest_is _ H c.deref.result.now c.deref-2.result.now c.args.tacs.now stood c.deref.ensures.value c.deref-2.ensures.value tacs in
-    let ready = ready_is _ H c.decide.new.self.kinds.items c.decide.new.rows c.decide.new.switches stood (c.in_ok-decide.ensures.decided H stood.switches last) in
+    let ready = ready_here _ _ H _ _ _ _ _ _ c.in_ok-decide.ensures.decided c.self.view_is stands c.deref.ensures.value c.deref-2.ensures.value tacs in
     let same : c.factor.new.steps ≡ c.args.steps.now + step_ticks c.args.self.now.case H = subst (λ (s : Net). c.factor.new.steps ≡ c.args.steps.now + step_ticks s.case H) c.self.view_is (c.in_ok-factor.ensures.ticks H ready) in
     ok_claims _ c.judge.result same
 
