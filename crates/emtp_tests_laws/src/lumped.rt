@@ -240,19 +240,19 @@ const FAR_ENDS: &[Row] = &[
 ];
 
 /// The first differences of all branches.
-fn differences(alloc: Global) -> Result<[Option<usize>; 5], AllocError> {
-    Ok([
-        difference(alloc, coil(), COIL)?,
-        difference(alloc, capacitor(), CAPACITOR)?,
-        difference(alloc, short_lead(), SHORT_LEAD)?,
-        difference(alloc, all_parts(), ALL_PARTS)?,
-        difference(alloc, coil(), FAR_ENDS)?,
-    ])
+fn differences(alloc: Global) -> [Result<Option<usize>, AllocError>; 5] {
+    [
+        difference(alloc, coil(), COIL),
+        difference(alloc, capacitor(), CAPACITOR),
+        difference(alloc, short_lead(), SHORT_LEAD),
+        difference(alloc, all_parts(), ALL_PARTS),
+        difference(alloc, coil(), FAR_ENDS),
+    ]
 }
 
 #[test]
 fn worked_branches(rt: HostRuntime) -> Result<(), Fail> {
-    assert_eq!(rt; differences(rt.alloc())?, [None; 5]);
+    assert_eq!(rt; differences(rt.alloc()), [Ok(None); 5]);
     Ok(())
 }
 

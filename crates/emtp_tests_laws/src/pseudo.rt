@@ -336,17 +336,17 @@ const UNEVEN_RESISTOR: &[Row] = &[
 ];
 
 /// The first differences of all branches.
-fn differences(alloc: Global) -> Result<[Option<usize>; 4], AllocError> {
-    Ok([
-        difference(alloc, true, &saturation(), SATURATING)?,
-        difference(alloc, false, &arrester(), BEHIND_TEN_OHMS)?,
-        difference(alloc, true, &uneven_reactor(), UNEVEN_REACTOR)?,
-        difference(alloc, false, &uneven_resistor(), UNEVEN_RESISTOR)?,
-    ])
+fn differences(alloc: Global) -> [Result<Option<usize>, AllocError>; 4] {
+    [
+        difference(alloc, true, &saturation(), SATURATING),
+        difference(alloc, false, &arrester(), BEHIND_TEN_OHMS),
+        difference(alloc, true, &uneven_reactor(), UNEVEN_REACTOR),
+        difference(alloc, false, &uneven_resistor(), UNEVEN_RESISTOR),
+    ]
 }
 
 #[test]
 fn worked_branches(rt: HostRuntime) -> Result<(), Fail> {
-    assert_eq!(rt; differences(rt.alloc())?, [None; 4]);
+    assert_eq!(rt; differences(rt.alloc()), [Ok(None); 4]);
     Ok(())
 }

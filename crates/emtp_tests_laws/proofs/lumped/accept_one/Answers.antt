@@ -9,6 +9,12 @@ use Rattle.emtp_tests_laws.specs.Stepping.{voltage_of}
 use Rattle.emtp_tests_laws.proofs.Reading.{branch_read, series_in, same_branch}
 use Rattle.emtp_tests_laws.proofs.lumped.accept_one.Goals as goal
 
+pub accept-requires : goal.accept-requires
+accept-requires c =
+    let case = c.args.case.now.parts in
+    let here : slice_get case.branches c.args.at ≡ Some (OfLumped c.in-Lumped.b) = branch_read case _ c.args.at _ (OfLumped c.in-Lumped.b) c.as_slice.ensures c.requires.there c.in-Lumped.is in
+    (c.in-Lumped.b, series_in c.args.lumps.now.case case c.args.at c.in-Lumped.b c.requires.same here)
+
 pub returns-in-Ok-clause-moved : goal.returns-in-Ok-clause-moved
 returns-in-Ok-clause-moved c = λ x past series stands.
     let case = c.args.case.now.parts in
