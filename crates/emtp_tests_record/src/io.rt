@@ -3,7 +3,6 @@ ghost use Rattle.std.specs.Prelude.{◌<◌};
 
 use emtp_io::{Cabinet, Failed, Failing, MemoryCabinet, Op, Output, ReadEnd, read_all, write_all};
 use std::alloc::{AllocError, Global};
-use std::process::Abort;
 use std::test::Fail;
 
 // The one file `case`, of seven bytes, read and written by three bytes at most.
@@ -24,31 +23,42 @@ fn reads(alloc: Global, cabinet: &mut MemoryCabinet, most: usize, bytes: &[u8]) 
     }
 }
 
-fn reads_whole(rt: &impl Abort, alloc: Global, cabinet: &mut MemoryCabinet) {
-    assert!(rt; cabinet.open("none") == Err(Failed));
-    assert!(rt; matches!(read_all(alloc, cabinet, 9), Err(ReadEnd::Failed)));
-    assert!(rt; cabinet.open("case") == Ok(()));
-    assert!(rt; reads(alloc, cabinet, 5, b"abcde"));
-    assert!(rt; reads(alloc, cabinet, 9, b"fg"));
+/// Whether a file is read to its end, and nothing is read before it was opened.
+fn reads_whole(alloc: Global, cabinet: &mut MemoryCabinet) -> bool {
+    cabinet.open("none") == Err(Failed)
+        && read_all(alloc, cabinet, 9).err() == Some(ReadEnd::Failed)
+        && cabinet.open("case") == Ok(())
+        && reads(alloc, cabinet, 5, b"abcde")
+        && reads(alloc, cabinet, 9, b"fg")
 }
 
-fn writes_whole(rt: &impl Abort, cabinet: &mut MemoryCabinet) {
-    assert!(rt; write_all(cabinet, Output::Dat, b"x") == Err(Failed));
-    assert!(rt; cabinet.create(Output::Dat, "too_long_") == Err(Failed));
-    assert!(rt; cabinet.create(Output::Dat, "a.dat") == Ok(()));
-    assert!(rt; write_all(cabinet, Output::Dat, b"1234567") == Ok(()));
-    assert!(rt; write_all(cabinet, Output::Dat, b"89") == Err(Failed));
-    assert!(rt; cabinet.written(Output::Dat) == Some(b"12345678".as_slice()));
-    assert!(rt; cabinet.name(Output::Dat) == Some("a.dat"));
-    assert!(rt; cabinet.written(Output::Cfg).is_none());
+/// Whether an output takes what has room, once it is created.
+fn writes_whole(cabinet: &mut MemoryCabinet) -> bool {
+    write_all(cabinet, Output::Dat, b"x") == Err(Failed)
+        && cabinet.create(Output::Dat, "too_long_") == Err(Failed)
+        && cabinet.create(Output::Dat, "a.dat") == Ok(())
+        && write_all(cabinet, Output::Dat, b"1234567") == Ok(())
+        && write_all(cabinet, Output::Dat, b"89") == Err(Failed)
+}
+
+/// Whether the data, and no configuration, were created, and hold the eight bytes that have room.
+fn holds_eight(cabinet: &MemoryCabinet) -> bool {
+    cabinet.written(Output::Dat) == Some(b"12345678".as_slice())
+        && cabinet.name(Output::Dat) == Some("a.dat")
+        && cabinet.written(Output::Cfg).is_none()
 }
 
 #[test]
 fn reads_and_writes_whole(rt: HostRuntime) -> Result<(), Fail> {
     let alloc = rt.alloc();
     let mut cabinet = seven_bytes(alloc, &[], 8)?;
-    reads_whole(&rt, alloc, &mut cabinet);
-    writes_whole(&rt, &mut cabinet);
+    let is_read = reads_whole(alloc, &mut cabinet);
+    let is_written = writes_whole(&mut cabinet);
+    let holds = holds_eight(&cabinet);
+    drop(cabinet);
+    assert!(rt; is_read);
+    assert!(rt; is_written);
+    assert!(rt; holds);
     Ok(())
 }
 

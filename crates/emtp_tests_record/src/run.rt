@@ -140,14 +140,22 @@ fn call(alloc: Global, words: &[&str], cabinet: &mut MemoryCabinet) -> Result<St
     Ok(status)
 }
 
+/// How many of these outputs are made.
+fn count_of(made: &[Option<&str>; 4]) -> usize {
+    made.iter().flatten().count()
+}
+
 /// How many bytes the first so many of these outputs have.
 fn bytes_of(made: &[Option<&str>; 4], count: u32) -> usize {
     let mut left = count;
     let mut bytes = 0usize;
-    for text in made.iter().flatten() {
-        if left > 0 {
-            left -= 1;
-            bytes = bytes.saturating_add(text.len());
+    for text in made.iter() {
+        match text {
+            Some(text) if left > 0 => {
+                left -= 1;
+                bytes = bytes.saturating_add(text.len());
+            }
+            _ => {}
         }
     }
     bytes
@@ -311,9 +319,8 @@ fn all_failed_in_turn(alloc: Global, row: &Row, piece: usize) -> Result<bool, Al
     } else {
         0
     };
-    let made = row.made;
-    let outputs = made.iter().flatten().count();
-    let writes = bytes_of(made, 4).div_ceil(piece);
+    let outputs = count_of(row.made);
+    let writes = bytes_of(row.made, 4).div_ceil(piece);
     Ok(
         failed_in_turn(alloc, row, piece, Op::Open)? == Some(files)
             && failed_in_turn(alloc, row, piece, Op::Read)? == Some(reads)
