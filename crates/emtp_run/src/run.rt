@@ -165,10 +165,9 @@ fn run_case<C: Cabinet>(alloc: Global, words: Words<'_>, case: &Case, cabinet: &
         (C.state cabinet.old) (C.state cabinet.new) }
 {
     match Machine::open(alloc, case) {
-        Ok(mut machine) => {
-            let end = run_machine(&mut machine);
-            let ran = Ran { machine, end };
-            let status = ran.write(words, case, cabinet);
+        Ok(machine) => {
+            let mut ran = Ran { machine, end: None };
+            let status = ran.run(words, case, cabinet);
             // A call, since a drop in place is proved here list by list.
             drop(ran);
             status
@@ -177,18 +176,7 @@ fn run_case<C: Cabinet>(alloc: Global, words: Words<'_>, case: &Case, cabinet: &
     }
 }
 
-/// Makes all steps, and answers the end of the run, if it came.
-fn run_machine(machine: &mut Machine<'_>) -> Option<End>
-    ensures case { machine.new.case ≡ machine.old.case }
-    ensures run { history_of machine.new ≡ history machine.old.case }
-    ensures end { result ≡ (history machine.old.case).end }
-    ensures balance { SamplesBalance machine.old.case }
-    ensures names { EndsWithin machine.old.case }
-{
-    run_counted::<Brand>(machine, Blank::new(1))
-}
-
-/// The same, over a ledger that counts the rows that are eliminated.
+/// Makes all steps, over a ledger that counts the rows that are eliminated, and answers the end of the run, if it came.
 fn run_counted<L: Ledger>(machine: &mut Machine<'_>, blank: Blank) -> Option<End>
     requires name { blank.name ≡ L.name }
     requires parts { blank.parts ≡ L.parts }
@@ -202,7 +190,7 @@ fn run_counted<L: Ledger>(machine: &mut Machine<'_>, blank: Blank) -> Option<End
     machine.run(&mut Steps::<L>::new(blank))
 }
 
-/// A machine that made all its steps, and its end, if it came.
+/// A machine, and its end, if it came.
 #[derive(Drop)]
 struct Ran<'c> {
     machine: Machine<'c>,
@@ -210,6 +198,21 @@ struct Ran<'c> {
 }
 
 impl<'c> Ran<'c> {
+    /// Makes all steps and what they leave, and answers how the run ended.
+    fn run<C: Cabinet>(&mut self, words: Words<'_>, case: &Case, cabinet: &mut C) -> Status
+        requires case { self.old.machine.case ≡ case.now.parts }
+        ensures no_usage { result ≢ Status.Usage }
+        ensures no_read_fault { result ≢ Status.ReadFault }
+        ensures unread { (C.state cabinet.new).unread ≡ (C.state cabinet.old).unread }
+        ensures balance { SamplesBalance case.now.parts }
+        ensures names { EndsWithin case.now.parts }
+        ensures ends { Ends result (Some (outcome_by (task_of words.entry) (Ok case.now.parts)))
+            (C.state cabinet.old) (C.state cabinet.new) }
+    {
+        self.end = run_counted::<Brand>(&mut self.machine, Blank::new(1));
+        self.write(words, case, cabinet)
+    }
+
     /// Makes what a run leaves, and answers how it ended.
     fn write<C: Cabinet>(&self, words: Words<'_>, case: &Case, cabinet: &mut C) -> Status
         requires case { self.now.machine.case ≡ case.now.parts }
