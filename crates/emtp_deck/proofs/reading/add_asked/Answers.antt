@@ -49,3 +49,42 @@ add_channels-requires-5-clause-stored c =
     )
     (part (length (((a.outputs ++ a.branches) ++ a.switches) ++ a.variables)) (length a.statuses) (count_asked a) (samples_of c.args.draft.now.parts.run)
     (omega (arith, length-append a.outputs a.branches, length-append (a.outputs ++ a.branches) a.switches, length-append ((a.outputs ++ a.branches) ++ a.switches) a.variables)) c.requires.stored)
+
+pub add_channels-requires-3-clause-room : goal.add_channels-requires-3-clause-room
+add_channels-requires-3-clause-room c =
+    let a = c.args.asked.now in
+    rw (c.as_slice-3.ensures, c.in_ok-add_channels-2.ensures.ok, c.as_slice-2.ensures, c.in_ok-add_channels.ensures.ok, c.as_slice.ensures, c.requires.empty)
+    (omega (arith, c.requires.few, length-append a.outputs a.branches))
+
+pub add_channels-requires-4-clause-room : goal.add_channels-requires-4-clause-room
+add_channels-requires-4-clause-room c =
+    let a = c.args.asked.now in
+    rw (c.as_slice-4.ensures, c.in_ok-add_channels-3.ensures.ok, c.as_slice-3.ensures, c.in_ok-add_channels-2.ensures.ok, c.as_slice-2.ensures, c.in_ok-add_channels.ensures.ok, c.as_slice.ensures, c.requires.empty)
+    (omega (arith, c.requires.few, length-append a.outputs a.branches, length-append (a.outputs ++ a.branches) a.switches))
+
+pub add_channels-requires-4-clause-fits : goal.add_channels-requires-4-clause-fits
+add_channels-requires-4-clause-fits c =
+    rw (c.as_slice-4.ensures, c.in_ok-add_channels-3.ensures.ok, c.in_ok-add_channels-2.ensures.ok, c.in_ok-add_channels.ensures.ok)
+    c.requires.there.variables
+
+pub add_channels-requires-5-clause-room : goal.add_channels-requires-5-clause-room
+add_channels-requires-5-clause-room c =
+    let a = c.args.asked.now in
+    rw (
+      c.as_slice-5.ensures,
+      c.in_ok-add_channels-4.ensures.ok,
+      c.as_slice-4.ensures,
+      c.in_ok-add_channels-3.ensures.ok,
+      c.as_slice-3.ensures,
+      c.in_ok-add_channels-2.ensures.ok,
+      c.as_slice-2.ensures,
+      c.in_ok-add_channels.ensures.ok,
+      c.as_slice.ensures,
+      c.requires.empty,
+    )
+    (omega (arith, c.requires.few, length-append a.outputs a.branches, length-append (a.outputs ++ a.branches) a.switches, length-append ((a.outputs ++ a.branches) ++ a.switches) a.variables))
+
+pub add_channels-requires-5-clause-fits : goal.add_channels-requires-5-clause-fits
+add_channels-requires-5-clause-fits c =
+    rw (c.as_slice-5.ensures, c.in_ok-add_channels-4.ensures.ok, c.in_ok-add_channels-3.ensures.ok, c.in_ok-add_channels-2.ensures.ok, c.in_ok-add_channels.ensures.ok)
+    c.requires.there.statuses
