@@ -3,11 +3,13 @@ use Rattle.emtp_case.proofs.Growth.{Extends-append, Extends-refl, IsBranch-grows
 use Rattle.emtp_case.proofs.Sources.{one_more_source, standing_stay}
 use Rattle.emtp_case.proofs.Threes.{ArePhases, threes_and_single, threes_and_trio}
 use Rattle.emtp_case.specs.Branch.{IsBranch, IsCharacteristic, IsPseudo, IsSingle, IsTrio, points_of}
-use Rattle.emtp_case.specs.Case.{HasCounts, IsDraft, phase_branches}
+use Rattle.emtp_case.specs.Case.{HasCounts, IsDraft, empty_parts, phase_branches}
+use Rattle.emtp_case.specs.Channel.{IsChannel}
 use Rattle.emtp_case.specs.Control.{HasDevicePoints, IsBlock, IsDevice, IsDeviceCard, IsExtra, IsFormula}
 use Rattle.emtp_case.specs.HistoryValues.{branch_history_values, device_history_values, extra_history_values, history_values_of, trio_history_values}
 use Rattle.emtp_case.specs.Name.{IsName}
 use Rattle.emtp_case.specs.Range.{AreEnds}
+use Rattle.emtp_case.specs.RunData.{IsRun}
 use Rattle.emtp_case.specs.Sizes.{Grows, Sizes, sizes_of}
 use Rattle.emtp_case.specs.Source.{IsSource, IsTacsSource, is_voltage_source_at}
 use Rattle.emtp_case.specs.Switch.{IsSwitch}
@@ -405,3 +407,39 @@ with_trio p x a b c h room ends0 ends1 ends2 modes history =
       };
       channels = old.channels;
     }
+
+-- the past values that one more record needs
+pub history_with_trio : (p : Parts) (x : Trio) (a b c : Phase) → history_values_of (record p { branches = p.branches ++ phase_branches (length p.trios) a b c; trios = p.trios ++ record x { first = length p.branches } ∷ [] }) ≡ history_values_of p + trio_history_values p.run.dt x
+history_with_trio p x a b c =
+    let set : Trio = record x { first = length p.branches } in
+    omega (arith, sum_by-append (branch_history_values p.run.dt) p.branches (phase_branches (length p.trios) a b c), sum_by-append (trio_history_values p.run.dt) p.trios (set ∷ []))
+
+pub history_with_pseudo : (p : Parts) (x : Pseudo) (new : List Point) → history_values_of (record p { points = p.points ++ new; branches = p.branches ++ OfPseudo (record x { first = length p.points; count = length new }) ∷ [] }) ≡ history_values_of p
+history_with_pseudo p x new = omega (arith, sum_by-append (branch_history_values p.run.dt) p.branches (OfPseudo (record x { first = length p.points; count = length new }) ∷ []))
+
+pub history_with_formula : (p : Parts) (x : Formula) → history_values_of (record p { extras = p.extras ++ OfFormula x ∷ [] }) ≡ history_values_of p
+history_with_formula p x = omega (arith, sum_by-append (extra_history_values p.run.dt) p.extras (OfFormula x ∷ []))
+
+-- the miscellaneous cards alone
+pub nothing_yet : (run : RunData) → IsRun run → IsDraft (empty_parts run)
+nothing_yet run h = record {
+  run = h;
+  counts = search rules;
+  network = record {
+    names = All-nil IsName;
+    branches = All-nil (IsBranch run (sizes_of (empty_parts run)) []);
+    trios = All-nil (IsTrio run);
+    in_threes = search rules;
+    switches = All-nil (IsSwitch (sizes_of (empty_parts run)));
+    sources = All-nil (IsSource (sizes_of (empty_parts run)));
+    one_voltage = search rules;
+  };
+  control = record {
+    standing = refl;
+    names = search rules;
+    tacs_sources = All-nil (IsTacsSource (sizes_of (empty_parts run)));
+    blocks = All-nil (IsBlock run (sizes_of (empty_parts run)));
+    extras = All-nil (IsExtra (sizes_of (empty_parts run)) []);
+  };
+  channels = All-nil (IsChannel (sizes_of (empty_parts run)));
+}

@@ -221,6 +221,16 @@ pub same_both : {X Y Z E : Type 0} (f : List X → List Y → Z) (r : Result (Un
 same_both f (Ok v) old new old' new' err err' = tt
 same_both f (Err e) old new old' new' err err' = ap (λ xs. f xs new') err ∙ ap (f old) err'
 
+-- what a function gives of the longer lists where the call succeeds
+pub longer_both : {X Y Z E : Type 0} (f : List X → List Y → Z) (r : Result (Unit {0}) E) (xs xs' : List X) (ys ys' : List Y) → OnOk r (xs ≡ xs') → OnOk r (ys ≡ ys') → OnOk r (f xs ys ≡ f xs' ys')
+longer_both f (Ok v) xs xs' ys ys' ok ok' = ap (λ zs. f zs ys) ok ∙ ap (f xs') ok'
+longer_both f (Err e) xs xs' ys ys' ok ok' = tt
+
+-- what a function gives of a result where the call succeeds
+pub then_ok : {X Y E : Type 0} (f : X → Y) (r : Result (Unit {0}) E) (x x' : X) (y : Y) → OnOk r (x ≡ x') → f x' ≡ y → OnOk r (f x ≡ y)
+then_ok f (Ok v) x x' y ok is = ap f ok ∙ is
+then_ok f (Err e) x x' y ok is = tt
+
 -- drafts of the same records are the same
 pub draft_same : (d e : Draft) → d.parts ≡ e.parts → d ≡ e
 draft_same d e same =
