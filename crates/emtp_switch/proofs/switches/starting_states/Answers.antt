@@ -1,6 +1,6 @@
 use Rattle.std.proofs.Common.{◌∙◌, ap, sym}
 use Rattle.std.proofs.lemmas.List.{map_more}
-use Rattle.std.specs.Prelude.{◌++◌, ◌∷◌, [], map, slice_index_or, take}
+use Rattle.std.specs.Prelude.{◌++◌, ◌∷◌, [], map, take}
 use Rattle.emtp_case.specs.StepRecord.{starting_state}
 use Rattle.emtp_case.specs.declared.switch.Switch.{Switch}
 use Rattle.emtp_switch.proofs.switches.starting_states.Goals as goal
