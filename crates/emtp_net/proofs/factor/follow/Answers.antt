@@ -1,5 +1,8 @@
-use Rattle.std.proofs.Common.{◌≡◌, ◌∙◌, ◌≤◌, sym, ap, length, take, arith}
+use Rattle.std.proofs.Common.{◌≡◌, ◌∙◌, ◌≤◌, ◌+◌, ◌-◌, ◌==◌, if◌then◌else◌, Err, sym, ap, subst, length, take, arith}
 use Rattle.std.proofs.Math.Nat.{min-le_left, min-le_right}
+use Rattle.emtp_elim.specs.Fault.{IsRowFault}
+use Rattle.emtp_elim.specs.Outcome.{outcome}
+use Rattle.emtp_elim.specs.declared.fault.PlainFault.TheVariants.{Row}
 use Rattle.emtp_rows.specs.Nodal.{nodal_matrix}
 use Rattle.emtp_rows.specs.Touched.{NodalRows}
 use Rattle.emtp_tail.specs.Good.{Good, first_change}
@@ -53,3 +56,45 @@ returns-in-Err-clause-fault_ticks g c =
     let size = ap (λ (s : NodalRows). length s.nodal.case.nodes) c.take_touched.ensures.rest in
     let first : c.changed_from-first.result ≡ first_change c.args.kept.now.rows (nodal_matrix c.args.rows.now.nodal) = c.changed_from-first.ensures.first ∙ ap (λ n. first_change c.args.kept.now.rows (nodal_matrix n)) nodal in
     omega (arith, c.in-Err.ensures.fault_ticks, first, within, length-nodal_matrix new, size, c.requires.size)
+
+pub returns-in-Ok-clause-nodal : goal.returns-in-Ok-clause-nodal
+returns-in-Ok-clause-nodal g c = ap (λ (s : NodalRows). s.nodal) c.take_touched.ensures.rest
+
+pub returns-in-Ok-clause-size : goal.returns-in-Ok-clause-size
+returns-in-Ok-clause-size g c = c.update_from.ensures.size ∙ ap (λ (k : Good). k.size) c.changed_from-first.ensures.same
+
+pub returns-in-Ok-clause-redone : goal.returns-in-Ok-clause-redone
+returns-in-Ok-clause-redone g c =
+    let size = ap (λ (k : Good). k.size) c.changed_from-first.ensures.same in
+    let first : c.changed_from-first.result ≡ first_change c.args.kept.now.rows (nodal_matrix c.args.rows.now.nodal) = c.changed_from-first.ensures.first ∙ ap (λ (s : NodalRows). first_change c.args.kept.now.rows (nodal_matrix s.nodal)) c.take_touched.ensures.rest in
+    c.count.ensures.value ∙ ap (λ n. c.args.redone.now + (if c.args.made == 0 then 0 else n)) (ap (λ n. n - c.changed_from-first.result) (c.size.ensures ∙ size) ∙ ap (λ n. c.args.kept.now.size - n) first)
+
+pub returns-in-Ok-clause-few : goal.returns-in-Ok-clause-few
+returns-in-Ok-clause-few g c = c.count.ensures.most
+
+pub returns-in-Ok-clause-stands : goal.returns-in-Ok-clause-stands
+returns-in-Ok-clause-stands g c = λ m early few. ap (take m) (sym c.in-Ok.ensures.rows)
+
+pub returns-in-Ok-clause-good : goal.returns-in-Ok-clause-good
+returns-in-Ok-clause-good g c = c.in-Ok.ensures.rows ∙ ap (λ (s : NodalRows). nodal_matrix s.nodal) c.take_touched.ensures.rest
+
+pub returns-in-Err-clause-nodal : goal.returns-in-Err-clause-nodal
+returns-in-Err-clause-nodal g c = ap (λ (s : NodalRows). s.nodal) c.take_touched.ensures.rest
+
+pub returns-in-Err-clause-size : goal.returns-in-Err-clause-size
+returns-in-Err-clause-size g c = c.update_from.ensures.size ∙ ap (λ (k : Good). k.size) c.changed_from-first.ensures.same
+
+pub returns-in-Err-clause-redone : goal.returns-in-Err-clause-redone
+returns-in-Err-clause-redone g c =
+    let size = ap (λ (k : Good). k.size) c.changed_from-first.ensures.same in
+    let first : c.changed_from-first.result ≡ first_change c.args.kept.now.rows (nodal_matrix c.args.rows.now.nodal) = c.changed_from-first.ensures.first ∙ ap (λ (s : NodalRows). first_change c.args.kept.now.rows (nodal_matrix s.nodal)) c.take_touched.ensures.rest in
+    c.count.ensures.value ∙ ap (λ n. c.args.redone.now + (if c.args.made == 0 then 0 else n)) (ap (λ n. n - c.changed_from-first.result) (c.size.ensures ∙ size) ∙ ap (λ n. c.args.kept.now.size - n) first)
+
+pub returns-in-Err-clause-few : goal.returns-in-Err-clause-few
+returns-in-Err-clause-few g c = c.count.ensures.most
+
+pub returns-in-Err-clause-fault : goal.returns-in-Err-clause-fault
+returns-in-Err-clause-fault g c = subst (λ (s : NodalRows). IsRowFault (nodal_matrix s.nodal) c.in-Err.fault.row c.in-Err.fault.cause) c.take_touched.ensures.rest c.in-Err.ensures.fault
+
+pub returns-in-Err-clause-ends : goal.returns-in-Err-clause-ends
+returns-in-Err-clause-ends g c = λ right. subst (λ (s : NodalRows). outcome (nodal_matrix s.nodal) right ≡ Err (Row c.in-Err.fault)) c.take_touched.ensures.rest (c.in-Err.ensures.ends right)

@@ -1,12 +1,13 @@
-use Rattle.std.proofs.Common.{◌≡◌, ◌∙◌, ℕ, ap, slice_get, Some, FitsSigned, refl, to_z, of_z, rules, arith}
+use Rattle.std.proofs.Common.{◌≡◌, ◌∙◌, ℕ, ap, slice_get, Some, FitsSigned, refl, to_z, of_z, rules, length, arith}
 use mir.Syntax.{w64}
 use Rattle.std.proofs.lemmas.Int.{to_z-of_z}
 use Rattle.emtp_case.specs.Branch.{from_of, to_of}
 use Rattle.emtp_case.specs.declared.branch.Branch.{Branch}
 use Rattle.emtp_case.specs.declared.branch.Branch.TheVariants.{Lumped as OfLumped, Line as OfLine, Pseudo as OfPseudo, Phase as OfPhase}
+use Rattle.emtp_case.specs.declared.case.Parts.{Parts}
 use Rattle.emtp_elim.specs.Matrix.{item}
 use Rattle.emtp_net.proofs.Moves.{line_moves, line_stops, lumped_moves, lumped_stops, phase_read, pseudo_moves, pseudo_stops}
-use Rattle.emtp_net.proofs.Nodes.{branch_fits, branch_read}
+use Rattle.emtp_net.proofs.Nodes.{branch_fits, branch_in, branch_read}
 use Rattle.emtp_net.proofs.PhaseMoves.{phase_waits, trio_moves, trio_stops}
 use Rattle.emtp_rows.proofs.Phases.{phase_there}
 use Rattle.emtp_net.proofs.branches.Branches.accept_one.Goals as goal
@@ -139,3 +140,88 @@ returns-in-Err-accept_three-clause-there c =
     let first : x.phase ≡ 0 = c.if-b-ne0.false in
     let inside = phase_there case.branches case.trios x.trio c.in-Err-accept_three.fault.phase network.in_threes fits.trio c.in-Err-accept_three.ensures.phase in
     omega (arith, place, first, inside)
+
+pub accept-requires : goal.accept-requires
+accept-requires c =
+    let case = c.args.case.now.parts in
+    let x = c.in-Lumped.field-0 in
+    let is : slice_get case.branches c.args.at ≡ Some (OfLumped x) = branch_read case _ c.args.at _ (OfLumped x) c.as_slice.ensures c.requires.there c.in-Lumped.is in
+    (x, branch_in c.args.self.now.lumps.case case c.args.at (OfLumped x) c.requires.same.lumps is)
+
+pub accept-requires-in-Line : goal.accept-requires-in-Line
+accept-requires-in-Line c =
+    let case = c.args.case.now.parts in
+    let x = c.in-Line.field-0 in
+    let is : slice_get case.branches c.args.at ≡ Some (OfLine x) = branch_read case _ c.args.at _ (OfLine x) c.as_slice.ensures c.requires.there c.in-Line.is in
+    (x, branch_in c.args.self.now.lines.case case c.args.at (OfLine x) c.requires.same.lines is)
+
+pub accept-requires-in-Pseudo : goal.accept-requires-in-Pseudo
+accept-requires-in-Pseudo c =
+    let case = c.args.case.now.parts in
+    let x = c.in-Pseudo.field-0 in
+    let is : slice_get case.branches c.args.at ≡ Some (OfPseudo x) = branch_read case _ c.args.at _ (OfPseudo x) c.as_slice.ensures c.requires.there c.in-Pseudo.is in
+    (x, branch_in c.args.self.now.pseudos.case case c.args.at (OfPseudo x) c.requires.same.pseudos is)
+
+pub returns-in-Ok-clause-same : goal.returns-in-Ok-clause-same
+returns-in-Ok-clause-same c = record { lumps = c.accept.ensures.case ∙ c.requires.same.lumps; lines = c.requires.same.lines; pseudos = c.requires.same.pseudos }
+
+pub returns-in-Err-clause-same : goal.returns-in-Err-clause-same
+returns-in-Err-clause-same c = record { lumps = c.accept.ensures.case ∙ c.requires.same.lumps; lines = c.requires.same.lines; pseudos = c.requires.same.pseudos }
+
+pub returns-in-Err-clause-there : goal.returns-in-Err-clause-there
+returns-in-Err-clause-there c = c.requires.there
+
+pub returns-in-Ok-accept-clause-same : goal.returns-in-Ok-accept-clause-same
+returns-in-Ok-accept-clause-same c = record { lumps = c.requires.same.lumps; lines = c.accept-in-Line.ensures.case ∙ c.requires.same.lines; pseudos = c.requires.same.pseudos }
+
+pub returns-in-Err-accept-clause-same : goal.returns-in-Err-accept-clause-same
+returns-in-Err-accept-clause-same c = record { lumps = c.requires.same.lumps; lines = c.accept-in-Line.ensures.case ∙ c.requires.same.lines; pseudos = c.requires.same.pseudos }
+
+pub returns-in-Err-accept-clause-there : goal.returns-in-Err-accept-clause-there
+returns-in-Err-accept-clause-there c = c.requires.there
+
+pub returns-in-Ok-accept-2-clause-same : goal.returns-in-Ok-accept-2-clause-same
+returns-in-Ok-accept-2-clause-same c = record { lumps = c.requires.same.lumps; lines = c.requires.same.lines; pseudos = c.accept-in-Pseudo.ensures.case ∙ c.requires.same.pseudos }
+
+pub returns-in-Err-accept-2-clause-same : goal.returns-in-Err-accept-2-clause-same
+returns-in-Err-accept-2-clause-same c = record { lumps = c.requires.same.lumps; lines = c.requires.same.lines; pseudos = c.accept-in-Pseudo.ensures.case ∙ c.requires.same.pseudos }
+
+pub returns-in-Err-accept-2-clause-there : goal.returns-in-Err-accept-2-clause-there
+returns-in-Err-accept-2-clause-there c = c.requires.there
+
+pub returns-in-Ok-accept_three-clause-same : goal.returns-in-Ok-accept_three-clause-same
+returns-in-Ok-accept_three-clause-same c = record { lumps = c.requires.same.lumps; lines = c.accept_three.ensures.case ∙ c.requires.same.lines; pseudos = c.requires.same.pseudos }
+
+pub returns-in-Err-accept_three-clause-same : goal.returns-in-Err-accept_three-clause-same
+returns-in-Err-accept_three-clause-same c = record { lumps = c.requires.same.lumps; lines = c.accept_three.ensures.case ∙ c.requires.same.lines; pseudos = c.requires.same.pseudos }
+
+pub returns-then-b-ne0-clause-same : goal.returns-then-b-ne0-clause-same
+returns-then-b-ne0-clause-same c = c.requires.same
+
+pub phase_voltages-v-requires-clause-trio : goal.phase_voltages-v-requires-clause-trio
+phase_voltages-v-requires-clause-trio c =
+    let case = c.args.case.now.parts in
+    let x = c.in-Phase.b in
+    let is : slice_get case.branches c.args.at ≡ Some (OfPhase x) = branch_read case _ c.args.at _ (OfPhase x) c.as_slice.ensures c.requires.there c.in-Phase.is in
+    (branch_fits case c.args.at (OfPhase x) c.args.case.now.fits.draft.network.branches c.requires.there is).trio
+
+pub phase_voltages-v-requires-clause-each : goal.phase_voltages-v-requires-clause-each
+phase_voltages-v-requires-clause-each c = c.requires.each
+
+pub phase_voltages-w-requires-clause-trio : goal.phase_voltages-w-requires-clause-trio
+phase_voltages-w-requires-clause-trio c =
+    let case = c.args.case.now.parts in
+    let x = c.in-Phase.b in
+    let is : slice_get case.branches c.args.at ≡ Some (OfPhase x) = branch_read case _ c.args.at _ (OfPhase x) c.as_slice.ensures c.requires.there c.in-Phase.is in
+    (branch_fits case c.args.at (OfPhase x) c.args.case.now.fits.draft.network.branches c.requires.there is).trio
+
+pub phase_voltages-w-requires-clause-each : goal.phase_voltages-w-requires-clause-each
+phase_voltages-w-requires-clause-each c = c.requires.each
+
+pub accept_three-requires : goal.accept_three-requires
+accept_three-requires c =
+    let case = c.args.case.now.parts in
+    let x = c.in-Phase.b in
+    let is : slice_get case.branches c.args.at ≡ Some (OfPhase x) = branch_read case _ c.args.at _ (OfPhase x) c.as_slice.ensures c.requires.there c.in-Phase.is in
+    let fits = branch_fits case c.args.at (OfPhase x) c.args.case.now.fits.draft.network.branches c.requires.there is in
+    omega (arith, fits.trio, ap (λ (p : Parts). length p.trios) c.requires.same.lines)

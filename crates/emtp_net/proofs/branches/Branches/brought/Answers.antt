@@ -65,3 +65,17 @@ returns-in-Phase-clause-value c = λ H vs r next moved.
     let newest : phase_state_at (first_of_trio c.args.self.now.lines.case.trios x.trio + x.phase) r ≡ phase_state_at at r = ap (λ (p : Parts). phase_state_at (first_of_trio p.trios x.trio + x.phase) r) c.requires.same.lines ∙ ap (λ n. phase_state_at n r) (sym place) in
     c.taken_narrow-in-Phase.ensures.value ∙ ap taken value ∙ ap (λ (z : PhaseState). taken (z.from_current, z.to_current)) newest
     ∙ phase_brings case H vs c.args.currents.now r c.args.self.now at (phase_next case H vs x.trio x.phase) c.requires.there (ap (state_by case H vs at) is) next moved
+
+pub end_currents-requires : goal.end_currents-requires
+end_currents-requires c =
+    let case = c.args.case.now.parts in
+    let x = c.in-Line.field-0 in
+    let is : slice_get case.branches c.args.at ≡ Some (OfLine x) = branch_read case _ c.args.at _ (OfLine x) c.as_slice.ensures c.requires.there c.in-Line.is in
+    rw (branch_in c.args.self.now.lines.case case c.args.at (OfLine x) c.requires.same.lines is) tt
+
+pub end_currents-requires-in-Phase : goal.end_currents-requires-in-Phase
+end_currents-requires-in-Phase c =
+    let case = c.args.case.now.parts in
+    let x = c.in-Phase.field-0 in
+    let is : slice_get case.branches c.args.at ≡ Some (OfPhase x) = branch_read case _ c.args.at _ (OfPhase x) c.as_slice.ensures c.requires.there c.in-Phase.is in
+    rw (branch_in c.args.self.now.lines.case case c.args.at (OfPhase x) c.requires.same.lines is) tt

@@ -51,3 +51,43 @@ returns-in-Phase-clause-value c = λ H stands.
     let held = branch_in c.args.self.now.lines.case case at (OfPhase x) c.requires.same.lines is in
     let wide : to_z w64 (of_z w64 c.conductance-in-Phase.result) ≡ c.conductance-in-Phase.result = omega (arith, ints, c.conductance-in-Phase.ensures.bound.least, c.conductance-in-Phase.ensures.bound.most) in
     wide ∙ c.conductance-in-Phase.ensures.phase x held ∙ ap (λ (p : Parts). own_conductance (modes_of p.run.dt (lined.trio_of p x.trio))) c.requires.same.lines ∙ sym (ap (conductance_by case H at) is)
+
+pub returns-in-Lumped-clause-small : goal.returns-in-Lumped-clause-small
+returns-in-Lumped-clause-small c = omega (arith, ints, c.conductance.ensures.bound.least, c.conductance.ensures.bound.most)
+
+pub returns-in-Line-clause-small : goal.returns-in-Line-clause-small
+returns-in-Line-clause-small c = omega (arith, ints, c.conductance-in-Line.ensures.bound.least, c.conductance-in-Line.ensures.bound.most)
+
+pub returns-in-Pseudo-clause-small : goal.returns-in-Pseudo-clause-small
+returns-in-Pseudo-clause-small c = omega (arith, ints, c.conductance-in-Pseudo.ensures.bound.least, c.conductance-in-Pseudo.ensures.bound.most)
+
+pub returns-in-Phase-clause-small : goal.returns-in-Phase-clause-small
+returns-in-Phase-clause-small c = omega (arith, ints, c.conductance-in-Phase.ensures.bound.least, c.conductance-in-Phase.ensures.bound.most)
+
+pub conductance-requires : goal.conductance-requires
+conductance-requires c =
+    let case = c.args.case.now.parts in
+    let x = c.in-Lumped.field-0 in
+    let is : slice_get case.branches c.args.at ≡ Some (OfLumped x) = branch_read case _ c.args.at _ (OfLumped x) c.as_slice.ensures c.requires.there c.in-Lumped.is in
+    (x, branch_in c.args.self.now.lumps.case case c.args.at (OfLumped x) c.requires.same.lumps is)
+
+pub conductance-requires-in-Line : goal.conductance-requires-in-Line
+conductance-requires-in-Line c =
+    let case = c.args.case.now.parts in
+    let x = c.in-Line.field-0 in
+    let is : slice_get case.branches c.args.at ≡ Some (OfLine x) = branch_read case _ c.args.at _ (OfLine x) c.as_slice.ensures c.requires.there c.in-Line.is in
+    rw (branch_in c.args.self.now.lines.case case c.args.at (OfLine x) c.requires.same.lines is) tt
+
+pub conductance-requires-in-Pseudo : goal.conductance-requires-in-Pseudo
+conductance-requires-in-Pseudo c =
+    let case = c.args.case.now.parts in
+    let x = c.in-Pseudo.field-0 in
+    let is : slice_get case.branches c.args.at ≡ Some (OfPseudo x) = branch_read case _ c.args.at _ (OfPseudo x) c.as_slice.ensures c.requires.there c.in-Pseudo.is in
+    (x, branch_in c.args.self.now.pseudos.case case c.args.at (OfPseudo x) c.requires.same.pseudos is)
+
+pub conductance-requires-in-Phase : goal.conductance-requires-in-Phase
+conductance-requires-in-Phase c =
+    let case = c.args.case.now.parts in
+    let x = c.in-Phase.field-0 in
+    let is : slice_get case.branches c.args.at ≡ Some (OfPhase x) = branch_read case _ c.args.at _ (OfPhase x) c.as_slice.ensures c.requires.there c.in-Phase.is in
+    rw (branch_in c.args.self.now.lines.case case c.args.at (OfPhase x) c.requires.same.lines is) tt

@@ -53,3 +53,17 @@ returns-in-Phase c = λ r past stands currents lines.
     let newest : phase_state_at (first_of_trio c.args.self.now.lines.case.trios x.trio + x.phase) r ≡ phase_state_at at r = ap (λ (p : Parts). phase_state_at (first_of_trio p.trios x.trio + x.phase) r) c.requires.same.lines ∙ ap (λ n. phase_state_at n r) (sym place) in
     let wide : to_z w64 (of_z w64 c.end_currents-in-Phase.result.0) ≡ c.end_currents-in-Phase.result.0 = omega (arith, ints, c.end_currents-in-Phase.ensures.from_bound) in
     wide ∙ ap (λ (p : ℤ × ℤ). p.0) value ∙ ap (λ (z : PhaseState). z.from_current) newest ∙ sym (lines.phases at x is)
+
+pub end_currents-requires : goal.end_currents-requires
+end_currents-requires c =
+    let case = c.args.case.now.parts in
+    let x = c.in-Line.field-0 in
+    let is : slice_get case.branches c.args.at ≡ Some (OfLine x) = branch_read case _ c.args.at _ (OfLine x) c.as_slice.ensures c.requires.there c.in-Line.is in
+    rw (branch_in c.args.self.now.lines.case case c.args.at (OfLine x) c.requires.same.lines is) tt
+
+pub end_currents-requires-in-Phase : goal.end_currents-requires-in-Phase
+end_currents-requires-in-Phase c =
+    let case = c.args.case.now.parts in
+    let x = c.in-Phase.field-0 in
+    let is : slice_get case.branches c.args.at ≡ Some (OfPhase x) = branch_read case _ c.args.at _ (OfPhase x) c.as_slice.ensures c.requires.there c.in-Phase.is in
+    rw (branch_in c.args.self.now.lines.case case c.args.at (OfPhase x) c.requires.same.lines is) tt

@@ -63,3 +63,73 @@ returns-in-Phase-clause-value c = λ H stands.
     let value = c.history_currents-in-Phase.ensures.phase x (lined.phase_states_of c.args.self.now.lines.case x.trio H) held (stands.lines.trios x.trio there)
     ∙ ap (λ (p : Parts). (phase_from_history (modes_of p.run.dt (lined.trio_of p x.trio)) (lined.phase_states_of p x.trio H 0) (lined.phase_states_of p x.trio H x.phase), phase_to_history (modes_of p.run.dt (lined.trio_of p x.trio)) (lined.phase_states_of p x.trio H 0) (lined.phase_states_of p x.trio H x.phase))) c.requires.same.lines in
     c.taken-in-Phase.ensures.value ∙ ap taken value ∙ sym (ap (history_by case H at) is)
+
+pub returns-in-Lumped-clause-first : goal.returns-in-Lumped-clause-first
+returns-in-Lumped-clause-first c = c.through.ensures.first
+
+pub returns-in-Lumped-clause-second : goal.returns-in-Lumped-clause-second
+returns-in-Lumped-clause-second c = c.through.ensures.second
+
+pub returns-in-Line-clause-first : goal.returns-in-Line-clause-first
+returns-in-Line-clause-first c = c.taken.ensures.first
+
+pub returns-in-Line-clause-second : goal.returns-in-Line-clause-second
+returns-in-Line-clause-second c = c.taken.ensures.second
+
+pub returns-in-Pseudo-clause-first : goal.returns-in-Pseudo-clause-first
+returns-in-Pseudo-clause-first c = c.through-in-Pseudo.ensures.first
+
+pub returns-in-Pseudo-clause-second : goal.returns-in-Pseudo-clause-second
+returns-in-Pseudo-clause-second c = c.through-in-Pseudo.ensures.second
+
+pub returns-in-Phase-clause-first : goal.returns-in-Phase-clause-first
+returns-in-Phase-clause-first c = c.taken-in-Phase.ensures.first
+
+pub returns-in-Phase-clause-second : goal.returns-in-Phase-clause-second
+returns-in-Phase-clause-second c = c.taken-in-Phase.ensures.second
+
+pub through-requires : goal.through-requires
+through-requires c = omega (arith, ints, c.history_current.ensures.bound)
+
+pub through-requires-in-Pseudo : goal.through-requires-in-Pseudo
+through-requires-in-Pseudo c = omega (arith, ints, c.history_current-in-Pseudo.ensures.bound)
+
+pub taken-requires-clause-first : goal.taken-requires-clause-first
+taken-requires-clause-first c = omega (arith, ints, c.history_currents.ensures.from_bound)
+
+pub taken-requires-clause-second : goal.taken-requires-clause-second
+taken-requires-clause-second c = omega (arith, ints, c.history_currents.ensures.to_bound)
+
+pub taken-requires-in-Phase-clause-first : goal.taken-requires-in-Phase-clause-first
+taken-requires-in-Phase-clause-first c = omega (arith, ints, c.history_currents-in-Phase.ensures.from_bound)
+
+pub taken-requires-in-Phase-clause-second : goal.taken-requires-in-Phase-clause-second
+taken-requires-in-Phase-clause-second c = omega (arith, ints, c.history_currents-in-Phase.ensures.to_bound)
+
+pub history_current-requires : goal.history_current-requires
+history_current-requires c =
+    let case = c.args.case.now.parts in
+    let x = c.in-Lumped.field-0 in
+    let is : slice_get case.branches c.args.at ≡ Some (OfLumped x) = branch_read case _ c.args.at _ (OfLumped x) c.as_slice.ensures c.requires.there c.in-Lumped.is in
+    (x, branch_in c.args.self.now.lumps.case case c.args.at (OfLumped x) c.requires.same.lumps is)
+
+pub history_currents-requires : goal.history_currents-requires
+history_currents-requires c =
+    let case = c.args.case.now.parts in
+    let x = c.in-Line.field-0 in
+    let is : slice_get case.branches c.args.at ≡ Some (OfLine x) = branch_read case _ c.args.at _ (OfLine x) c.as_slice.ensures c.requires.there c.in-Line.is in
+    rw (branch_in c.args.self.now.lines.case case c.args.at (OfLine x) c.requires.same.lines is) tt
+
+pub history_current-requires-in-Pseudo : goal.history_current-requires-in-Pseudo
+history_current-requires-in-Pseudo c =
+    let case = c.args.case.now.parts in
+    let x = c.in-Pseudo.field-0 in
+    let is : slice_get case.branches c.args.at ≡ Some (OfPseudo x) = branch_read case _ c.args.at _ (OfPseudo x) c.as_slice.ensures c.requires.there c.in-Pseudo.is in
+    (x, branch_in c.args.self.now.pseudos.case case c.args.at (OfPseudo x) c.requires.same.pseudos is)
+
+pub history_currents-requires-in-Phase : goal.history_currents-requires-in-Phase
+history_currents-requires-in-Phase c =
+    let case = c.args.case.now.parts in
+    let x = c.in-Phase.field-0 in
+    let is : slice_get case.branches c.args.at ≡ Some (OfPhase x) = branch_read case _ c.args.at _ (OfPhase x) c.as_slice.ensures c.requires.there c.in-Phase.is in
+    rw (branch_in c.args.self.now.lines.case case c.args.at (OfPhase x) c.requires.same.lines is) tt

@@ -2,6 +2,7 @@ use Rattle.std.proofs.Common.{◌≡◌, ◌∙◌, ◌∷◌, ◌<◌, ◌≤�
 use Rattle.std.specs.Vec.{with_items}
 use Rattle.std.proofs.lemmas.List.{with_items_is}
 use Rattle.std.proofs.lemmas.Result.{err_from_is_err_and}
+use Rattle.emtp_case.specs.declared.case.Parts.{Parts}
 use Rattle.emtp_fix.specs.declared.limit.TheConstants.{LARGEST_VALUE}
 use Rattle.emtp_switch.specs.Switching as switching
 use Rattle.emtp_net.specs.Holding.{HoldsSwitches}
@@ -28,6 +29,18 @@ invariant_of-self g c =
       rows_hold = holds_kinds c.self.inside.case.now.parts c.self.inside.rows c.decide.new.rows c.self.inside.kept c.self.invariant.rows_hold c.decide.ensures.rest c.decide.ensures.touched;
       shown = c.self.invariant.shown;
       few = few_next c.self.inside.case.now.parts c.self.inside.made c.self.inside.redone c.self.inside.redone c.self.invariant.few (subst (λ (s : Net). s.made < s.case.run.steps) (sym c.self.view_is) c.requires.made) (omega arith);
+    }
+
+pub invariant_of-self-in_err-factor : goal.invariant_of-self-in_err-factor
+invariant_of-self-in_err-factor g c =
+    record {
+      order_is = c.self.invariant.order_is;
+      branches_case = c.self.invariant.branches_case;
+      switches_hold = c.decide.ensures.switches;
+      room = c.decide.ensures.room;
+      rows_hold = c.factor.ensures.rows;
+      shown = c.self.invariant.shown;
+      few = few_next c.self.inside.case.now.parts c.self.inside.made c.self.inside.redone c.factor.new.redone c.self.invariant.few (subst (λ (s : Net). s.made < s.case.run.steps) (sym c.self.view_is) c.requires.made) c.factor.ensures.few;
     }
 
 pub factor-requires-clause-rows : goal.factor-requires-clause-rows
@@ -120,71 +133,55 @@ invariant_of-self-2 g c =
       few = few_next c.self.inside.case.now.parts c.self.inside.made c.self.inside.redone c.factor.new.redone c.self.invariant.few (subst (λ (s : Net). s.made < s.case.run.steps) (sym c.self.view_is) c.requires.made) c.factor.ensures.few;
     }
 
+pub returns-in_err-decide-clause-step : goal.returns-in_err-decide-clause-step
+returns-in_err-decide-clause-step g c = λ H stands tacs.
+    let stood = subst (λ (s : Net). StandsFor s H) (sym c.self.view_is) stands in
+    let last = latest_is _ H c.deref.result.now c.deref-2.result.now c.args.tacs.now stood c.deref.ensures.value c.deref-2.ensures.value tacs in
+    let returned = err_from_is_err_and c.from_residual.result c.from_residual.ensures.1 in
+    err_steps _ _ _ H c.from_residual.result _ 0 c.self.view_is stood refl (omega arith) (returned.1 ∙ ap Err returned.2) (c.in_err-decide.ensures.ends H stood.switches last)
+
+pub returns-in_err-factor-clause-step : goal.returns-in_err-factor-clause-step
+returns-in_err-factor-clause-step g c = λ H stands tacs.
+    let stood = subst (λ (s : Net). StandsFor s H) (sym c.self.view_is) stands in
+    let ready = ready_here _ _ H _ _ _ _ _ _ c.in_ok-decide.ensures.decided c.self.view_is stands c.deref.ensures.value c.deref-2.ensures.value tacs in
+    let returned = err_from_is_err_and c.from_residual-in_err-factor.result c.from_residual-in_err-factor.ensures.1 in
+    err_steps _ _ _ H c.from_residual-in_err-factor.result _ _ c.self.view_is stood refl (c.factor.ensures.redone H ready) (returned.1 ∙ ap Err returned.2) (c.in_err-factor.ensures.ends H ready)
+
+pub returns-in_err-solve-clause-step : goal.returns-in_err-solve-clause-step
+returns-in_err-solve-clause-step g c = λ H stands tacs.
+    let stood = subst (λ (s : Net). StandsFor s H) (sym c.self.view_is) stands in
+    let decided = decided_here _ _ H _ _ _ _ _ _ c.in_ok-decide.ensures.decided c.self.view_is stands c.deref.ensures.value c.deref-2.ensures.value tacs in
+    let ready = ready_is _ H _ _ _ stood decided in
+    let values = c.set_sources.ensures.values H stood.steps tacs in
+    let posed = posed_is _ H _ _ c.decide.new.self c.set_sources.new.self c.factor.new.kept stood decided c.set_sources.ensures.kinds values (c.in_ok-factor.ensures.made H ready) in
+    let returned = err_from_is_err_and c.from_residual-in_err-solve.result c.from_residual-in_err-solve.ensures.1 in
+    err_steps _ _ _ H c.from_residual-in_err-solve.result _ _ c.self.view_is stood refl (c.factor.ensures.redone H ready) (returned.1 ∙ ap Err returned.2) (c.in_err-solve.ensures.ends H posed)
+
 pub returns-in_err-accept-clause-step : goal.returns-in_err-accept-clause-step
 returns-in_err-accept-clause-step g c = λ H stands tacs.
-    let seen : Net = record {
-      case = c.self.inside.case.now.parts;
-      branches = c.self.inside.branches;
-      switches = c.self.inside.switches;
-      rows = c.self.inside.rows;
-      kept = c.self.inside.kept;
-      voltages = c.self.inside.voltages.items;
-      currents = c.self.inside.currents.items;
-      switch_currents = c.self.inside.switch_currents.items;
-      closed = c.self.inside.closed.items;
-      made = c.self.inside.made;
-      redone = c.self.inside.redone;
-    } in
-    let case = seen.case in
-    let stood : StandsFor seen H = subst (λ (s : Net). StandsFor s H) (sym c.self.view_is) stands in
-    let last = latest_is seen H c.deref.result.now c.deref-2.result.now c.args.tacs.now stood c.deref.ensures.value c.deref-2.ensures.value tacs in
+    let case = c.self.inside.case.now.parts in
+    let stood = subst (λ (s : Net). StandsFor s H) (sym c.self.view_is) stands in
+    let last = latest_is _ H c.deref.result.now c.deref-2.result.now c.args.tacs.now stood c.deref.ensures.value c.deref-2.ensures.value tacs in
     let decided = c.in_ok-decide.ensures.decided H stood.switches last in
-    let ready = ready_is seen H c.decide.new.self.kinds.items c.decide.new.rows c.decide.new.switches stood decided in
+    let ready = ready_is _ H c.decide.new.self.kinds.items c.decide.new.rows c.decide.new.switches stood decided in
     let values = c.set_sources.ensures.values H stood.steps tacs in
-    let posed = posed_is seen H c.decide.new.rows c.decide.new.switches c.decide.new.self c.set_sources.new.self c.factor.new.kept stood decided c.set_sources.ensures.kinds values (c.in_ok-factor.ensures.made H ready) in
+    let posed = posed_is _ H c.decide.new.rows c.decide.new.switches c.decide.new.self c.set_sources.new.self c.factor.new.kept stood decided c.set_sources.ensures.kinds values (c.in_ok-factor.ensures.made H ready) in
     let redone = c.factor.ensures.redone H ready in
     let vs = c.deref-3.result.now in
     let read = c.deref-3.ensures.value ∙ with_items_is c.self.inside.voltages c.solve.new.voltages (omega (arith, c.solve.auto.voltages, c.deref_mut.ensures.len)) in
     let voltages : AreVoltages case H vs = subst (AreVoltages case H) (sym read) (c.in_ok-solve.ensures.solved H posed) in
     let returned = err_from_is_err_and c.from_residual-in_err-accept.result c.from_residual-in_err-accept.ensures.1 in
-    err_steps seen c.args.self.now
-    (record {
-      case = case;
-      branches = c.accept.new.self;
-      switches = c.decide.new.switches;
-      rows = c.factor.new.rows;
-      kept = c.factor.new.kept;
-      voltages = (with_items c.self.inside.voltages c.solve.new.voltages).items;
-      currents = (with_items c.self.inside.currents c.accept.new.currents).items;
-      switch_currents = c.self.inside.switch_currents.items;
-      closed = c.self.inside.closed.items;
-      made = c.self.inside.made + 1;
-      redone = c.factor.new.redone;
-    })
-    H c.from_residual-in_err-accept.result _ _ c.self.view_is stood refl redone (returned.1 ∙ ap Err returned.2) (c.in_err-accept.ensures.ends H stood.branches voltages)
+    err_steps _ _ _ H c.from_residual-in_err-accept.result _ _ c.self.view_is stood refl redone (returned.1 ∙ ap Err returned.2) (c.in_err-accept.ensures.ends H stood.branches voltages)
 
 pub returns-in_err-find_currents-clause-step : goal.returns-in_err-find_currents-clause-step
 returns-in_err-find_currents-clause-step g c = λ H stands tacs.
-    let seen : Net = record {
-      case = c.self.inside.case.now.parts;
-      branches = c.self.inside.branches;
-      switches = c.self.inside.switches;
-      rows = c.self.inside.rows;
-      kept = c.self.inside.kept;
-      voltages = c.self.inside.voltages.items;
-      currents = c.self.inside.currents.items;
-      switch_currents = c.self.inside.switch_currents.items;
-      closed = c.self.inside.closed.items;
-      made = c.self.inside.made;
-      redone = c.self.inside.redone;
-    } in
-    let case = seen.case in
-    let stood : StandsFor seen H = subst (λ (s : Net). StandsFor s H) (sym c.self.view_is) stands in
-    let last = latest_is seen H c.deref.result.now c.deref-2.result.now c.args.tacs.now stood c.deref.ensures.value c.deref-2.ensures.value tacs in
+    let case = c.self.inside.case.now.parts in
+    let stood = subst (λ (s : Net). StandsFor s H) (sym c.self.view_is) stands in
+    let last = latest_is _ H c.deref.result.now c.deref-2.result.now c.args.tacs.now stood c.deref.ensures.value c.deref-2.ensures.value tacs in
     let decided = c.in_ok-decide.ensures.decided H stood.switches last in
-    let ready = ready_is seen H c.decide.new.self.kinds.items c.decide.new.rows c.decide.new.switches stood decided in
+    let ready = ready_is _ H c.decide.new.self.kinds.items c.decide.new.rows c.decide.new.switches stood decided in
     let values = c.set_sources.ensures.values H stood.steps tacs in
-    let posed = posed_is seen H c.decide.new.rows c.decide.new.switches c.decide.new.self c.set_sources.new.self c.factor.new.kept stood decided c.set_sources.ensures.kinds values (c.in_ok-factor.ensures.made H ready) in
+    let posed = posed_is _ H c.decide.new.rows c.decide.new.switches c.decide.new.self c.set_sources.new.self c.factor.new.kept stood decided c.set_sources.ensures.kinds values (c.in_ok-factor.ensures.made H ready) in
     let redone = c.factor.ensures.redone H ready in
     let vs = c.deref-3.result.now in
     let read = c.deref-3.ensures.value ∙ with_items_is c.self.inside.voltages c.solve.new.voltages (omega (arith, c.solve.auto.voltages, c.deref_mut.ensures.len)) in
@@ -194,21 +191,7 @@ returns-in_err-find_currents-clause-step g c = λ H stands tacs.
     let moved_so = subst (λ cs. HaveMoved c.accept.new.self cs case H vs) (sym flows) moved in
     let valued = ap (λ v. v.items) c.solve.ensures.values ∙ values in
     let returned = err_from_is_err_and c.from_residual-in_err-find_currents.result c.from_residual-in_err-find_currents.ensures.1 in
-    err_steps seen c.args.self.now
-    (record {
-      case = case;
-      branches = c.accept.new.self;
-      switches = c.find_currents.new.switches;
-      rows = c.factor.new.rows;
-      kept = c.factor.new.kept;
-      voltages = (with_items c.self.inside.voltages c.solve.new.voltages).items;
-      currents = (with_items c.self.inside.currents c.accept.new.currents).items;
-      switch_currents = (with_items c.self.inside.switch_currents c.find_currents.new.out).items;
-      closed = c.self.inside.closed.items;
-      made = c.self.inside.made + 1;
-      redone = c.factor.new.redone;
-    })
-    H c.from_residual-in_err-find_currents.result _ _ c.self.view_is stood refl redone (returned.1 ∙ ap Err returned.2) (c.in_err-find_currents.ensures.ends H vs voltages moved_so valued decided.states_are)
+    err_steps _ _ _ H c.from_residual-in_err-find_currents.result _ _ c.self.view_is stood refl redone (returned.1 ∙ ap Err returned.2) (c.in_err-find_currents.ensures.ends H vs voltages moved_so valued decided.states_are)
 
 pub returns-clause-step : goal.returns-clause-step
 returns-clause-step g c = λ H stands tacs.
@@ -516,3 +499,27 @@ judge-requires-clause-order g c = c.self.invariant.order_is
 
 pub judge-requires-clause-small : goal.judge-requires-clause-small
 judge-requires-clause-small g c = c.find_currents.ensures.small
+
+pub solve-requires-clause-voltages : goal.solve-requires-clause-voltages
+solve-requires-clause-voltages g c = ap length c.deref_mut.ensures.value ∙ c.self.invariant.shown.voltages_count
+
+pub solve-requires-clause-small : goal.solve-requires-clause-small
+solve-requires-clause-small g c = subst (All (λ v. unsigned_abs v ≤ LARGEST_VALUE)) (sym c.deref_mut.ensures.value) c.self.invariant.shown.voltages_small
+
+pub accept-requires-clause-each : goal.accept-requires-clause-each
+accept-requires-clause-each g c = ap length (c.deref-3.ensures.value ∙ with_items_is c.self.inside.voltages c.solve.new.voltages (omega (arith, c.solve.auto.voltages, c.deref_mut.ensures.len))) ∙ c.solve.auto.voltages ∙ ap length c.deref_mut.ensures.value ∙ c.self.invariant.shown.voltages_count
+
+pub accept-requires-clause-currents : goal.accept-requires-clause-currents
+accept-requires-clause-currents g c = ap length c.deref_mut-2.ensures.value ∙ c.self.invariant.shown.currents_count
+
+pub find_currents-requires-clause-currents : goal.find_currents-requires-clause-currents
+find_currents-requires-clause-currents g c = ap length (c.deref-4.ensures.value ∙ with_items_is c.self.inside.currents c.accept.new.currents (omega (arith, c.accept.auto.currents, c.deref_mut-2.ensures.len))) ∙ c.accept.auto.currents ∙ ap length c.deref_mut-2.ensures.value ∙ c.self.invariant.shown.currents_count
+
+pub find_currents-requires-clause-out : goal.find_currents-requires-clause-out
+find_currents-requires-clause-out g c = ap length c.deref_mut-3.ensures.value ∙ c.self.invariant.shown.switch_count
+
+pub write_closed-requires : goal.write_closed-requires
+write_closed-requires g c = ap length c.deref_mut-4.ensures.value ∙ c.self.invariant.shown.closed_count ∙ sym (ap (λ (s : switching.Switching). length s.case.switches) c.find_currents.ensures.same ∙ ap (λ (p : Parts). length p.switches) c.decide.ensures.switches.case_is)
+
+pub returns-in_err-decide-clause-tied : goal.returns-in_err-decide-clause-tied
+returns-in_err-decide-clause-tied g c = λ H node stands tacs tied. refl

@@ -81,3 +81,27 @@ returns-in-Ok-clause-kinds c = refl
 
 pub returns-in-Err-clause-kinds : goal.returns-in-Err-clause-kinds
 returns-in-Err-clause-kinds c = refl
+
+pub fill_leaving-requires-clause-order : goal.fill_leaving-requires-clause-order
+fill_leaving-requires-clause-order c = c.requires.order
+
+pub fill_leaving-requires-clause-same : goal.fill_leaving-requires-clause-same
+fill_leaving-requires-clause-same c = c.requires.same
+
+pub fill_leaving-requires-clause-currents : goal.fill_leaving-requires-clause-currents
+fill_leaving-requires-clause-currents c = c.requires.currents
+
+pub fill_leaving-requires-clause-values : goal.fill_leaving-requires-clause-values
+fill_leaving-requires-clause-values c = ap length c.deref.ensures.value ∙ c.requires.room.values
+
+pub fill_leaving-requires-clause-out : goal.fill_leaving-requires-clause-out
+fill_leaving-requires-clause-out c = ap length c.deref_mut.ensures.value ∙ c.requires.room.right
+
+pub returns-in-Ok-clause-same : goal.returns-in-Ok-clause-same
+returns-in-Ok-clause-same c = c.currents.ensures.same
+
+pub returns-in-Err-clause-same : goal.returns-in-Err-clause-same
+returns-in-Err-clause-same c = c.currents.ensures.same
+
+pub returns-in-Ok-clause-node : goal.returns-in-Ok-clause-node
+returns-in-Ok-clause-node c = tt

@@ -1,4 +1,4 @@
-use Rattle.std.proofs.Common.{◌≡◌, ◌∙◌, sym, ap, subst, All, unsigned_abs, refl, arith, ◌≤◌}
+use Rattle.std.proofs.Common.{◌≡◌, ◌∙◌, sym, ap, subst, length, All, unsigned_abs, refl, arith, ◌≤◌}
 use Rattle.std.proofs.lemmas.List.{with_items_is}
 use Rattle.emtp_elim.specs.Outcome.{outcome}
 use Rattle.emtp_net.specs.Part.{voltages_of}
@@ -28,3 +28,69 @@ returns-in-Ok-clause-small c =
     let case = c.args.case.now.parts in
     let whole = with_items_is c.args.self.now.x c.solve.new.x (omega (arith, c.solve.auto.x, c.deref_mut-3.ensures.len)) in
     subst (All (λ v. unsigned_abs v ≤ LARGEST_VALUE)) (sym (c.fill_voltages.ensures ∙ ap (voltages_of case) (c.deref-in-Ok.ensures.value ∙ whole))) (voltages_small case c.solve.new.x c.in-Ok.ensures.within)
+
+pub fill_right-requires-clause-order : goal.fill_right-requires-clause-order
+fill_right-requires-clause-order c = c.requires.order
+
+pub fill_right-requires-clause-same : goal.fill_right-requires-clause-same
+fill_right-requires-clause-same c = c.requires.same
+
+pub fill_right-requires-clause-kinds : goal.fill_right-requires-clause-kinds
+fill_right-requires-clause-kinds c = ap length c.deref.ensures.value ∙ c.requires.room.kinds
+
+pub fill_right-requires-clause-places : goal.fill_right-requires-clause-places
+fill_right-requires-clause-places c = c.deref-2.ensures.value ∙ c.requires.room.places
+
+pub fill_right-requires-clause-values : goal.fill_right-requires-clause-values
+fill_right-requires-clause-values c = ap length c.deref-3.ensures.value ∙ c.requires.room.values
+
+pub fill_right-requires-clause-out : goal.fill_right-requires-clause-out
+fill_right-requires-clause-out c = ap length c.deref_mut.ensures.value ∙ c.requires.room.right
+
+pub solve-requires-clause-all : goal.solve-requires-clause-all
+solve-requires-clause-all c = c.requires.all ∙ sym c.requires.size
+
+pub solve-requires-clause-rhs : goal.solve-requires-clause-rhs
+solve-requires-clause-rhs c = ap length (c.deref_mut-2.ensures.value ∙ with_items_is c.args.self.now.right c.fill_right.new.out (omega (arith, c.fill_right.auto.out, c.deref_mut.ensures.len))) ∙ c.fill_right.auto.out ∙ ap length c.deref_mut.ensures.value ∙ c.requires.room.right ∙ sym c.requires.size
+
+pub solve-requires-clause-x : goal.solve-requires-clause-x
+solve-requires-clause-x c = ap length c.deref_mut-3.ensures.value ∙ c.requires.room.x ∙ sym c.requires.size
+
+pub fill_voltages-requires-clause-order : goal.fill_voltages-requires-clause-order
+fill_voltages-requires-clause-order c = c.requires.order
+
+pub fill_voltages-requires-clause-out : goal.fill_voltages-requires-clause-out
+fill_voltages-requires-clause-out c = c.requires.voltages
+
+pub returns-in-Err-clause-small : goal.returns-in-Err-clause-small
+returns-in-Err-clause-small c = c.requires.small
+
+pub returns-in-Ok-clause-kinds : goal.returns-in-Ok-clause-kinds
+returns-in-Ok-clause-kinds c = refl
+
+pub returns-in-Err-clause-kinds : goal.returns-in-Err-clause-kinds
+returns-in-Err-clause-kinds c = refl
+
+pub returns-in-Ok-clause-values : goal.returns-in-Ok-clause-values
+returns-in-Ok-clause-values c = refl
+
+pub returns-in-Err-clause-values : goal.returns-in-Err-clause-values
+returns-in-Err-clause-values c = refl
+
+pub returns-in-Ok-clause-node : goal.returns-in-Ok-clause-node
+returns-in-Ok-clause-node c = tt
+
+pub returns-in-Ok-clause-ends : goal.returns-in-Ok-clause-ends
+returns-in-Ok-clause-ends c = λ H posed. tt
+
+pub returns-in-Err-clause-solved : goal.returns-in-Err-clause-solved
+returns-in-Err-clause-solved c = λ H posed. tt
+
+pub returns-in-Ok-clause-solved : goal.returns-in-Ok-clause-solved
+returns-in-Ok-clause-solved c = λ H posed.
+    let case = c.args.case.now.parts in
+    let given : c.fill_right.new.out ≡ right case H = c.fill_right.ensures H posed.stands (c.deref.ensures.value ∙ posed.kinds) (c.deref-3.ensures.value ∙ posed.values) in
+    let read = c.deref_mut-2.ensures.value ∙ with_items_is c.args.self.now.right c.fill_right.new.out (omega (arith, c.fill_right.auto.out, c.deref_mut.ensures.len)) ∙ given in
+    let solved : outcome (matrix case H) (right case H) ≡ _ = sym (ap (λ rows. outcome rows c.deref_mut-2.result.now) posed.kept_is ∙ ap (outcome (matrix case H)) read) ∙ c.in-Ok.ensures.solved in
+    let whole = with_items_is c.args.self.now.x c.solve.new.x (omega (arith, c.solve.auto.x, c.deref_mut-3.ensures.len)) in
+    record { free = posed.free; x = c.solve.new.x; solved = solved; are = c.fill_voltages.ensures ∙ ap (voltages_of case) (c.deref-in-Ok.ensures.value ∙ whole) }
