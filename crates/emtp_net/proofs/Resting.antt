@@ -1,5 +1,5 @@
 -- A network at rest.
-use Rattle.std.proofs.Common.{◌≡◌, ◌∙◌, sym, ap, subst, ℕ, zero, suc, ◌+◌, ◌≤◌, ◌<◌, ℤ, pos, Bool, List, [], ◌∷◌, All, length, map, replicate, slice_index_or, unsigned_abs, refl, arith}
+use Rattle.std.proofs.Common.{◌≡◌, ◌∙◌, sym, ap, subst, ℕ, zero, suc, ◌+◌, ◌≤◌, ◌<◌, ℤ, pos, Bool, List, [], ◌∷◌, All, Result, Ok, Err, IfOk, IsErrAnd, length, map, replicate, slice_index_or, unsigned_abs, refl, arith}
 use Rattle.std.proofs.lemmas.Int.{ints}
 use Rattle.std.proofs.lemmas.List.{length-replicate}
 use Rattle.emtp_case.specs.StepRecord.{is_closed, rest_of}
@@ -18,6 +18,11 @@ use Rattle.emtp_net.specs.Moving.{AreCurrents, AreLineCurrents}
 use Rattle.emtp_net.specs.Network.{Net, StandsFor}
 use Rattle.emtp_net.specs.System.{couplings}
 use Rattle.emtp_net.proofs.LineCurrents.{currents_rest, line_currents_rest}
+
+-- a way out by an error promises nothing of what it would have made
+pub nothing_made : {A E : Type 0} (P : A → Type 0) (Q : E → Type 0) (result : Result A E) → IsErrAnd result Q → IfOk result P
+nothing_made P Q (Ok x) is = absurd is
+nothing_made P Q (Err e) is = tt
 
 pub rows_rest : (case : Parts) (rows : NodalRows) (kept : Good) → rows.nodal ≡ record (nodal_at_rest case) { coupling = couplings case } → kept ≡ record { size = length (nodal_matrix rows.nodal); rows = []; done = [] } → HoldsRows case rows kept
 rows_rest case rows kept are is = record {
