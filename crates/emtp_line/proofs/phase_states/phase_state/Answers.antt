@@ -1,6 +1,6 @@
-use Rattle.std.proofs.Common.{◌≡◌, ◌∙◌, ap, refl, ℕ, Some, FitsSigned, rules}
+use Rattle.std.proofs.Common.{◌≡◌, ◌∙◌, ap, refl, ℕ, Some, FitsSigned, rules, arith}
 use mir.Syntax.{w64, w128}
-use Rattle.std.proofs.lemmas.Int.{to_z-of_z}
+use Rattle.std.proofs.lemmas.Int.{ints, to_z-of_z}
 use Rattle.emtp_case.specs.declared.branch.PhaseState.{PhaseState}
 use Rattle.emtp_fix.specs.Limit.{in_range}
 use Rattle.emtp_line.specs.Phases.{of_phase, phase_state, zero_wave_at}
@@ -40,3 +40,24 @@ returns-clause-value c =
     let from_zero_wave = simp to_z-of_z at c.in_ok-from_zero_wave.ensures.value in
     let to_zero_wave = simp to_z-of_z at c.in_ok-to_zero_wave.ensures.value in
     simp to_z-of_z (kept from to p _ from_current to_current from_wave to_wave (from_zero_wave ∙ ap in_range from_zero) (to_zero_wave ∙ ap in_range to_zero))
+
+pub returns-in_err-from_current-clause-small : goal.returns-in_err-from_current-clause-small
+returns-in_err-from_current-clause-small c = rw c.from_residual.ensures tt
+
+pub returns-in_err-to_current-clause-small : goal.returns-in_err-to_current-clause-small
+returns-in_err-to_current-clause-small c = rw c.from_residual-in_err-to_current.ensures tt
+
+pub returns-in_err-from_wave-clause-small : goal.returns-in_err-from_wave-clause-small
+returns-in_err-from_wave-clause-small c = rw c.from_residual-in_err-from_wave.ensures tt
+
+pub returns-in_err-to_wave-clause-small : goal.returns-in_err-to_wave-clause-small
+returns-in_err-to_wave-clause-small c = rw c.from_residual-in_err-to_wave.ensures tt
+
+pub returns-in_err-from_zero_wave-clause-small : goal.returns-in_err-from_zero_wave-clause-small
+returns-in_err-from_zero_wave-clause-small c = rw c.from_residual-in_err-from_zero_wave.ensures tt
+
+pub returns-in_err-to_zero_wave-clause-small : goal.returns-in_err-to_zero_wave-clause-small
+returns-in_err-to_zero_wave-clause-small c = rw c.from_residual-in_err-to_zero_wave.ensures tt
+
+pub returns-clause-small : goal.returns-clause-small
+returns-clause-small c = record { from_current = omega (arith, ints, c.in_ok-from_current.ensures.bound); to_current = omega (arith, ints, c.in_ok-to_current.ensures.bound) }
