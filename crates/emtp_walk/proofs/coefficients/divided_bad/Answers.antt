@@ -1,7 +1,7 @@
-use Rattle.std.proofs.Common.{◌≡◌, ◌∙◌, sym, to_z, of_z, arith}
+use Rattle.std.proofs.Common.{◌≡◌, ◌∙◌, sym, to_z, of_z, arith, rules}
 use mir.Syntax.{w64, w128}
 use Rattle.std.proofs.lemmas.Int.{ints, to_z-of_z}
-use Rattle.emtp_walk.specs.Coefficients.{IsBlockEntry}
+use Rattle.emtp_walk.specs.Coefficients.{IsBlockEntry, divided_bad}
 use Rattle.emtp_walk.proofs.ControlCoefficients.{block_divided, if_none}
 use Rattle.emtp_walk.proofs.coefficients.divided_bad.Goals as goal
 
@@ -14,3 +14,11 @@ returns-clause-entry c =
     let value = rw (dt, d) at c.divided_by.ensures in
     if_none (IsBlockEntry c.args.dt e) c.divided_by.result (λ none.
     block_divided c.args.dt e c.args.top c.args.bottom c.coefficient_divisor-divisor.result is (λ zero. absurd (omega (arith, ints, zero, d))) c.requires.block c.requires.numerator c.requires.denominator (sym value ∙ none))
+
+pub returns-then-divisor-eq0-clause-value : goal.returns-then-divisor-eq0-clause-value
+unfolding divided_bad
+returns-then-divisor-eq0-clause-value c = search rules
+
+pub returns-clause-value : goal.returns-clause-value
+unfolding divided_bad
+returns-clause-value c = search rules
