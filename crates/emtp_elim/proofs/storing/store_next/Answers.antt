@@ -1,9 +1,40 @@
-use Rattle.std.proofs.Common.{◌≡◌, ℕ, ℤ, length-set, to_z, of_z, arith}
+use Rattle.std.proofs.Common.{◌≡◌, ◌+◌, ◌<◌, ◌≤◌, ℕ, ℤ, List, length, slice_index, length-set, to_z, of_z, arith}
 use mir.Syntax.{w64, w128}
+use Rattle.std.proofs.lemmas.Nat.{row_fits}
 use Rattle.emtp_fix.proofs.Wide.{through, through_64}
 use Rattle.emtp_elim.specs.Matrix.{item}
+use Rattle.emtp_elim.specs.Stored.{AreStored}
 use Rattle.emtp_elim.proofs.KeptRows.{stored_more}
 use Rattle.emtp_elim.proofs.storing.store_next.Goals as goal
+
+-- one more row has room
+room : {size count : ℕ} {starts pivots columns : List ℕ} {values : List ℤ} {words : List ℕ} → AreStored size count starts pivots columns values words → count < size
+    → slice_index starts count + size ≤ length columns
+room {size = size} {count = count} was less = omega (arith, was.used count (omega arith), was.room_columns, row_fits count size size size less (omega arith))
+
+pub pack-pivot-requires-clause-room : goal.pack-pivot-requires-clause-room
+pack-pivot-requires-clause-room c = omega (arith, room c.requires.stored c.requires.room)
+
+pub offset_bounds-columns-pivot : goal.offset_bounds-columns-pivot
+offset_bounds-columns-pivot c = omega (arith, room c.requires.stored c.requires.room, c.pack-pivot.ensures.entries.few)
+
+pub bounds-columns-pivot : goal.bounds-columns-pivot
+bounds-columns-pivot c = omega (arith, room c.requires.stored c.requires.room, c.pack-pivot.ensures.entries.few)
+
+pub offset_bounds-values-pivot : goal.offset_bounds-values-pivot
+offset_bounds-values-pivot c = omega (arith, room c.requires.stored c.requires.room, c.pack-pivot.ensures.entries.few)
+
+pub bounds-values-pivot : goal.bounds-values-pivot
+bounds-values-pivot c = omega (arith, room c.requires.stored c.requires.room, c.pack-pivot.ensures.entries.few)
+
+pub overflow_add-pivot : goal.overflow_add-pivot
+overflow_add-pivot c = omega (arith, room c.requires.stored c.requires.room, c.pack-pivot.ensures.entries.few)
+
+pub pack-end-requires-clause-room : goal.pack-end-requires-clause-room
+pack-end-requires-clause-room c = omega (arith, length-set {A = ℕ}, room c.requires.stored c.requires.room, c.pack-pivot.ensures.entries.few)
+
+pub pack-end-requires-clause-same_room : goal.pack-end-requires-clause-same_room
+pack-end-requires-clause-same_room c = omega (arith, length-set {A = ℕ}, length-set {A = ℤ})
 
 pub returns : goal.returns
 returns c =
