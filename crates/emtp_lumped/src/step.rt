@@ -11,7 +11,6 @@ use emtp_case::LumpedState;
 use emtp_fix::{MICRO, PICO, in_range, scaled};
 
 /// What the next record keeps of a branch at a voltage, where all of it is in range.
-#[tactic(auto, unfolding(crate::specs::Step::next_state))]
 pub(crate) fn next(
     companion: &Companion,
     old: &LumpedState,

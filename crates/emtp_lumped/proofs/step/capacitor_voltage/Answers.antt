@@ -15,3 +15,15 @@ returns c =
     let is = simp to_z-of_z at c.product.ensures.value in
     let step : c.args.old.now.v_c +ℤ c.product.result ≡ capacitor_voltage_of c.args.companion.now c.args.old.now c.args.i = ap (λ z. c.args.old.now.v_c +ℤ z) is in
     omega (arith, ints) ∙ step
+
+pub overflow_add-i : goal.overflow_add-i
+overflow_add-i c = omega (arith, ints, c.requires.i, c.requires.old.current)
+
+pub product-requires-clause-a : goal.product-requires-clause-a
+product-requires-clause-a c = omega (arith, ints, c.requires.companion.capacitor.least, c.requires.companion.capacitor.most)
+
+pub product-requires-clause-b : goal.product-requires-clause-b
+product-requires-clause-b c = omega (arith, ints, c.requires.i, c.requires.old.current)
+
+pub overflow_add-result : goal.overflow_add-result
+overflow_add-result c = omega (arith, ints, c.product.ensures.bound)

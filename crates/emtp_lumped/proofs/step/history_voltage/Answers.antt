@@ -16,3 +16,18 @@ returns c =
     let is = simp to_z-of_z at c.product.ensures.value in
     let step : (c.args.v_l -ℤ c.args.v_c) +ℤ c.product.result ≡ history_voltage_of c.args.companion.now c.args.i c.args.v_l c.args.v_c = ap (λ z. (c.args.v_l -ℤ c.args.v_c) +ℤ z) is in
     omega (arith, ints) ∙ step
+
+pub overflow_sub-result : goal.overflow_sub-result
+overflow_sub-result c = omega (arith, ints, c.requires.v_l, c.requires.v_c)
+
+pub overflow_sub-companion : goal.overflow_sub-companion
+overflow_sub-companion c = omega (arith, ints, c.requires.companion.inductor.least, c.requires.companion.inductor.most, c.requires.companion.capacitor.least, c.requires.companion.capacitor.most)
+
+pub product-requires-clause-a : goal.product-requires-clause-a
+product-requires-clause-a c = omega (arith, ints, c.requires.companion.inductor.least, c.requires.companion.inductor.most, c.requires.companion.capacitor.least, c.requires.companion.capacitor.most)
+
+pub product-requires-clause-b : goal.product-requires-clause-b
+product-requires-clause-b c = omega (arith, ints, c.requires.i)
+
+pub overflow_add-result : goal.overflow_add-result
+overflow_add-result c = omega (arith, ints, c.product.ensures.bound, c.requires.v_l, c.requires.v_c)

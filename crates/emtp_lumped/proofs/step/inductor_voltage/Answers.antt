@@ -15,3 +15,15 @@ returns c =
     let is = simp to_z-of_z at c.product.ensures.value in
     let step : c.product.result -ℤ c.args.old.now.v_l ≡ inductor_voltage_of c.args.companion.now c.args.old.now c.args.i = ap (λ z. z -ℤ c.args.old.now.v_l) is in
     omega (arith, ints) ∙ step
+
+pub overflow_sub-i : goal.overflow_sub-i
+overflow_sub-i c = omega (arith, ints, c.requires.i, c.requires.old.current)
+
+pub product-requires-clause-a : goal.product-requires-clause-a
+product-requires-clause-a c = omega (arith, ints, c.requires.companion.inductor.least, c.requires.companion.inductor.most)
+
+pub product-requires-clause-b : goal.product-requires-clause-b
+product-requires-clause-b c = omega (arith, ints, c.requires.i, c.requires.old.current)
+
+pub overflow_sub-result : goal.overflow_sub-result
+overflow_sub-result c = omega (arith, ints, c.product.ensures.bound)

@@ -51,3 +51,18 @@ conductance-requires c =
       least = omega (arith, ints, c.impedance.ensures, c.narrow-inductor.ensures, c.narrow-capacitor.ensures, is_l, is_c, fits.inductor.least, fits.inductor.most, fits.capacitor.least, fits.capacitor.most, whole, h.least);
       most = omega (arith, ints, c.impedance.ensures, c.narrow-inductor.ensures, c.narrow-capacitor.ensures, is_l, is_c, fits.inductor.least, fits.inductor.most, fits.capacitor.least, fits.capacitor.most, whole, h.most);
     }
+
+pub inductor_impedance-requires-clause-dt : goal.inductor_impedance-requires-clause-dt
+inductor_impedance-requires-clause-dt c = let dt : FitsSigned w64 c.args.dt = c.ranges.dt in rw (to_z-of_z w64 c.args.dt dt) c.requires.dt
+
+pub capacitor_impedance-requires-clause-dt : goal.capacitor_impedance-requires-clause-dt
+capacitor_impedance-requires-clause-dt c = let dt : FitsSigned w64 c.args.dt = c.ranges.dt in rw (to_z-of_z w64 c.args.dt dt) c.requires.dt
+
+pub inductor_impedance-requires-clause-l : goal.inductor_impedance-requires-clause-l
+inductor_impedance-requires-clause-l c = let l : FitsSigned w64 c.args.b.now.l = search rules in rw (to_z-of_z w64 c.args.b.now.l l) c.requires.branch.inductance
+
+pub capacitor_impedance-requires-clause-c : goal.capacitor_impedance-requires-clause-c
+capacitor_impedance-requires-clause-c c = let cap : FitsSigned w64 c.args.b.now.c = search rules in rw (to_z-of_z w64 c.args.b.now.c cap) c.requires.branch.capacitance
+
+pub impedance-requires-clause-r : goal.impedance-requires-clause-r
+impedance-requires-clause-r c = omega (arith, ints, c.requires.branch.resistance.least, c.requires.branch.resistance.most)

@@ -1,12 +1,18 @@
 use Rattle.std.proofs.Common.{◌∙◌, ap, subst, ◌-ℤ◌, slice_set, Ok, Err, option_map, FitsSigned, to_z, of_z, rules, arith}
 use mir.Syntax.{w64, w128}
-use Rattle.std.proofs.lemmas.Int.{to_z-of_z}
+use Rattle.std.proofs.lemmas.Int.{ints, to_z-of_z}
 use Rattle.emtp_lumped.specs.Held.{with_state}
 use Rattle.emtp_lumped.specs.Lumps.{Lumping, Moves}
 use Rattle.emtp_lumped.specs.Step.{next_state}
 use Rattle.emtp_lumped.specs.declared.held.HeldBranch.{HeldBranch}
 use Rattle.emtp_lumped.proofs.Holding.{seen_within, branch_read, lumping-moved, moves-ok, moves-out}
 use Rattle.emtp_lumped.proofs.lumps.Lumps.accept.Goals as goal
+
+pub overflow_sub-v : goal.overflow_sub-v
+overflow_sub-v c = omega (arith, ints)
+
+pub after-requires-clause-v : goal.after-requires-clause-v
+after-requires-clause-v c = omega (arith, ints)
 
 pub index_mut-requires : goal.index_mut-requires
 index_mut-requires c =
