@@ -14,7 +14,6 @@ use emtp_case::PseudoState;
 use emtp_fix::{PICO, in_range, near_by, scaled};
 
 /// What the next record keeps at a branch voltage, where all of it is in range. `history` is the history current.
-#[tactic(auto, unfolding(crate::specs::Step::next_state))]
 pub(crate) fn next(
     reactor: bool,
     dt: i64,

@@ -18,3 +18,21 @@ returns-clause-value c =
     omega (arith, ints, c.driven.ensures.bound, c.along.ensures.bound, c.requires.segment.base_current)
     ∙ ap (λ z. (z +ℤ c.args.s.now.base.current) +ℤ c.along.result) is
     ∙ ap (λ z. (near (c.args.s.now.conductance *ℤ c.args.old.now.voltage) PICO +ℤ c.args.s.now.base.current) +ℤ z) is'
+
+pub driven-requires-clause-v : goal.driven-requires-clause-v
+driven-requires-clause-v c = omega (arith, ints, c.requires.old.voltage)
+
+pub overflow_add-result : goal.overflow_add-result
+overflow_add-result c = omega (arith, ints, c.driven.ensures.bound, c.requires.segment.base_current)
+
+pub overflow_sub-old : goal.overflow_sub-old
+overflow_sub-old c = omega (arith, ints, c.requires.old.flux, c.requires.segment.base_other)
+
+pub along-requires-clause-flux : goal.along-requires-clause-flux
+along-requires-clause-flux c = omega (arith, ints, c.requires.old.flux, c.requires.segment.base_other)
+
+pub overflow_add-result-2 : goal.overflow_add-result-2
+overflow_add-result-2 c = omega (arith, ints, c.driven.ensures.bound, c.along.ensures.bound, c.requires.segment.base_current)
+
+pub returns-clause-bound : goal.returns-clause-bound
+returns-clause-bound c = omega (arith, ints, c.driven.ensures.bound, c.along.ensures.bound, c.requires.segment.base_current)

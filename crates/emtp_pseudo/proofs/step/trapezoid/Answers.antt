@@ -16,3 +16,12 @@ returns-clause-bound c =
     let is = simp to_z-of_z at c.quotient.ensures in
     let small = near-product c.args.dt (c.args.old +ℤ c.args.v) DOUBLE_NANO (10 ^ 12) (2 ^ 65) (2 * 10 ^ 9) (10 ^ 30) (omega (arith, ints, c.requires.dt.least, c.requires.dt.most)) wide (omega arith) (omega arith) in
     omega (arith, ints, ap unsigned_abs is, small)
+
+pub overflow_add-old : goal.overflow_add-old
+overflow_add-old c = omega (arith, ints, c.requires.old, c.requires.v)
+
+pub quotient-requires-clause-a : goal.quotient-requires-clause-a
+quotient-requires-clause-a c = omega (arith, ints, c.requires.dt.least, c.requires.dt.most)
+
+pub quotient-requires-clause-b : goal.quotient-requires-clause-b
+quotient-requires-clause-b c = omega (arith, ints, c.requires.old, c.requires.v)
