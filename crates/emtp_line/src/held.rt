@@ -96,7 +96,6 @@ impl HeldLine {
 }
 
 /// What the next record keeps of a line at these voltages, where it is in range.
-#[tactic(auto, unfolding(crate::specs::Line::line_state))]
 fn next(waves: &Waves, v: i64, w: i64) -> Option<LineState>
     requires { IsWaves waves.now }
     ensures value { result ≡ line_state waves.now.mode (waves.now.from_history, waves.now.to_history) v w }

@@ -53,7 +53,6 @@ fn three_of(
 }
 
 /// What is kept of a phase, where all of it is in range.
-#[tactic(auto, unfolding(crate::specs::Phases::phase_state))]
 fn phase_state(from: &PhaseEnd, to: &PhaseEnd, phase: usize) -> Option<PhaseState>
     requires { phase < 3 }
     ensures value { result ≡ phase_state from.now to.now phase }

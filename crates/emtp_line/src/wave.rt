@@ -72,7 +72,6 @@ fn history(mode: &Mode, other: i64, own: i64) -> i128
 }
 
 /// The current and the wave of an end at a history current and a voltage, where both are in range.
-#[tactic(auto, unfolding(crate::specs::Wave::end_of))]
 pub(crate) fn end(mode: &Mode, history: i128, v: i64) -> Option<(i64, i64)>
     requires mode { IsMode mode.now }
     requires history { unsigned_abs history ≤ 10 ^ 20 }

@@ -1,6 +1,6 @@
-use Rattle.std.proofs.Common.{◌∙◌, FitsSigned, rules}
+use Rattle.std.proofs.Common.{◌∙◌, FitsSigned, arith, rules}
 use mir.Syntax.{w64, w128}
-use Rattle.std.proofs.lemmas.Int.{to_z-of_z}
+use Rattle.std.proofs.lemmas.Int.{ints, to_z-of_z}
 use Rattle.emtp_line.specs.Phases.{of_phase}
 use Rattle.emtp_line.proofs.Bounds.{three_same}
 use Rattle.emtp_line.proofs.phase_end.currents.Goals as goal
@@ -36,3 +36,30 @@ returns-clause-within c =
       second = rw (to_z-of_z w128 c.current-second.result i1) c.current-second.ensures.bound;
       third = rw (to_z-of_z w128 c.current-third.result i2) c.current-third.ensures.bound;
     }
+
+pub current-first-requires-clause-own : goal.current-first-requires-clause-own
+current-first-requires-clause-own c = omega (arith, ints, c.requires.own)
+
+pub current-first-requires-clause-coupling : goal.current-first-requires-clause-coupling
+current-first-requires-clause-coupling c = omega (arith, ints, c.requires.coupling)
+
+pub current-first-requires-clause-history : goal.current-first-requires-clause-history
+current-first-requires-clause-history c = omega (arith, ints, c.requires.histories.first)
+
+pub current-second-requires-clause-own : goal.current-second-requires-clause-own
+current-second-requires-clause-own c = omega (arith, ints, c.requires.own)
+
+pub current-second-requires-clause-coupling : goal.current-second-requires-clause-coupling
+current-second-requires-clause-coupling c = omega (arith, ints, c.requires.coupling)
+
+pub current-second-requires-clause-history : goal.current-second-requires-clause-history
+current-second-requires-clause-history c = omega (arith, ints, c.requires.histories.second)
+
+pub current-third-requires-clause-own : goal.current-third-requires-clause-own
+current-third-requires-clause-own c = omega (arith, ints, c.requires.own)
+
+pub current-third-requires-clause-coupling : goal.current-third-requires-clause-coupling
+current-third-requires-clause-coupling c = omega (arith, ints, c.requires.coupling)
+
+pub current-third-requires-clause-history : goal.current-third-requires-clause-history
+current-third-requires-clause-history c = omega (arith, ints, c.requires.histories.third)

@@ -29,3 +29,12 @@ returns-clause-within c = λ n m a b d most.
     let sum = sum_within c.args.a c.args.b c.args.c n a b d in
     let within = near-within (c.args.a +ℤ c.args.b +ℤ c.args.c) c.args.by m (omega (arith, sum, most)) in
     omega (arith, ints, s, ap unsigned_abs (is_quotient c), within)
+
+pub overflow_add-a : goal.overflow_add-a
+overflow_add-a c = omega (arith, ints, c.requires.a, c.requires.b)
+
+pub overflow_add-a-2 : goal.overflow_add-a-2
+overflow_add-a-2 c = omega (arith, ints, c.requires.a, c.requires.b, c.requires.c)
+
+pub near-requires-clause-small_a : goal.near-requires-clause-small_a
+near-requires-clause-small_a c = omega (arith, ints, c.requires.a, c.requires.b, c.requires.c)

@@ -1,6 +1,6 @@
-use Rattle.std.proofs.Common.{◌∙◌, FitsSigned, rules}
+use Rattle.std.proofs.Common.{◌∙◌, FitsSigned, arith, rules}
 use mir.Syntax.{w64, w128}
-use Rattle.std.proofs.lemmas.Int.{to_z-of_z}
+use Rattle.std.proofs.lemmas.Int.{ints, to_z-of_z}
 use Rattle.emtp_line.specs.Phases.{of_phase}
 use Rattle.emtp_line.proofs.Bounds.{three_same, wave_same}
 use Rattle.emtp_line.proofs.phase_end.waves.Goals as goal
@@ -27,3 +27,39 @@ returns c = λ m mode.
     (to_z-of_z w128 _ r0 ∙ w0 ∙ wave_same _ _ _ _ _ _ _ _ mode v i)
     (to_z-of_z w128 _ r1 ∙ w1 ∙ wave_same _ _ _ _ _ _ _ _ mode v i)
     (to_z-of_z w128 _ r2 ∙ w2 ∙ wave_same _ _ _ _ _ _ _ _ mode v i)
+
+pub wave_apart-first-requires-clause-mode : goal.wave_apart-first-requires-clause-mode
+wave_apart-first-requires-clause-mode c = c.requires.mode
+
+pub wave_apart-first-requires-clause-v_mean : goal.wave_apart-first-requires-clause-v_mean
+wave_apart-first-requires-clause-v_mean c = omega (arith, ints, c.mean_voltage-v_mean.ensures.bound)
+
+pub wave_apart-first-requires-clause-i : goal.wave_apart-first-requires-clause-i
+wave_apart-first-requires-clause-i c = omega (arith, ints, c.requires.i.first)
+
+pub wave_apart-first-requires-clause-i_mean : goal.wave_apart-first-requires-clause-i_mean
+wave_apart-first-requires-clause-i_mean c = omega (arith, ints, c.mean_current-i_mean.ensures.bound)
+
+pub wave_apart-second-requires-clause-mode : goal.wave_apart-second-requires-clause-mode
+wave_apart-second-requires-clause-mode c = c.requires.mode
+
+pub wave_apart-second-requires-clause-v_mean : goal.wave_apart-second-requires-clause-v_mean
+wave_apart-second-requires-clause-v_mean c = omega (arith, ints, c.mean_voltage-v_mean.ensures.bound)
+
+pub wave_apart-second-requires-clause-i : goal.wave_apart-second-requires-clause-i
+wave_apart-second-requires-clause-i c = omega (arith, ints, c.requires.i.second)
+
+pub wave_apart-second-requires-clause-i_mean : goal.wave_apart-second-requires-clause-i_mean
+wave_apart-second-requires-clause-i_mean c = omega (arith, ints, c.mean_current-i_mean.ensures.bound)
+
+pub wave_apart-third-requires-clause-mode : goal.wave_apart-third-requires-clause-mode
+wave_apart-third-requires-clause-mode c = c.requires.mode
+
+pub wave_apart-third-requires-clause-v_mean : goal.wave_apart-third-requires-clause-v_mean
+wave_apart-third-requires-clause-v_mean c = omega (arith, ints, c.mean_voltage-v_mean.ensures.bound)
+
+pub wave_apart-third-requires-clause-i : goal.wave_apart-third-requires-clause-i
+wave_apart-third-requires-clause-i c = omega (arith, ints, c.requires.i.third)
+
+pub wave_apart-third-requires-clause-i_mean : goal.wave_apart-third-requires-clause-i_mean
+wave_apart-third-requires-clause-i_mean c = omega (arith, ints, c.mean_current-i_mean.ensures.bound)

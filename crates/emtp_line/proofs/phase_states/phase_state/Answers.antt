@@ -61,3 +61,27 @@ returns-in_err-to_zero_wave-clause-small c = rw c.from_residual-in_err-to_zero_w
 
 pub returns-clause-small : goal.returns-clause-small
 returns-clause-small c = record { from_current = omega (arith, ints, c.in_ok-from_current.ensures.bound); to_current = omega (arith, ints, c.in_ok-to_current.ensures.bound) }
+
+pub returns-in_err-from_current-clause-value : goal.returns-in_err-from_current-clause-value
+unfolding phase_state
+returns-in_err-from_current-clause-value c = search rules
+
+pub returns-in_err-to_current-clause-value : goal.returns-in_err-to_current-clause-value
+unfolding phase_state
+returns-in_err-to_current-clause-value c = search rules
+
+pub returns-in_err-from_wave-clause-value : goal.returns-in_err-from_wave-clause-value
+unfolding phase_state
+returns-in_err-from_wave-clause-value c = search rules
+
+pub returns-in_err-to_wave-clause-value : goal.returns-in_err-to_wave-clause-value
+unfolding phase_state
+returns-in_err-to_wave-clause-value c = search rules
+
+pub returns-in_err-from_zero_wave-clause-value : goal.returns-in_err-from_zero_wave-clause-value
+unfolding phase_state
+returns-in_err-from_zero_wave-clause-value c = search rules
+
+pub returns-in_err-to_zero_wave-clause-value : goal.returns-in_err-to_zero_wave-clause-value
+unfolding phase_state
+returns-in_err-to_zero_wave-clause-value c = search rules

@@ -1,6 +1,6 @@
-use Rattle.std.proofs.Common.{◌≡◌, ◌∙◌, ap, refl, ℤ, Some, FitsSigned, rules}
+use Rattle.std.proofs.Common.{◌≡◌, ◌∙◌, ap, refl, ℤ, Some, FitsSigned, arith, rules}
 use mir.Syntax.{w64, w128}
-use Rattle.std.proofs.lemmas.Int.{to_z-of_z}
+use Rattle.std.proofs.lemmas.Int.{ints, to_z-of_z}
 use Rattle.emtp_fix.specs.Limit.{in_range}
 use Rattle.emtp_line.specs.Wave.{current_of, wave_of, end_of}
 use Rattle.emtp_line.specs.declared.mode.Mode.{Mode}
@@ -34,3 +34,44 @@ returns-clause-value c =
     let in_current = simp to_z-of_z at c.in_ok-current.ensures.value in
     let in_wave = simp to_z-of_z at c.in_ok-wave.ensures.value in
     rw (to_z-of_z w64 i i', to_z-of_z w64 w w') (ended m c.args.history c.args.v i w (in_current ∙ ap in_range (rw driven at current)) (in_wave ∙ ap in_range (rw (driven, part) at wave)))
+
+pub driven-driven-requires-clause-g : goal.driven-driven-requires-clause-g
+driven-driven-requires-clause-g c = omega (arith, ints, c.requires.mode.conductance.least, c.requires.mode.conductance.most)
+
+pub driven-driven-requires-clause-v : goal.driven-driven-requires-clause-v
+driven-driven-requires-clause-v c = omega (arith, ints)
+
+pub sum-requires-clause-x : goal.sum-requires-clause-x
+sum-requires-clause-x c = omega (arith, ints, c.driven-driven.ensures.bound)
+
+pub sum-requires-clause-y : goal.sum-requires-clause-y
+sum-requires-clause-y c = omega (arith, ints, c.requires.history)
+
+pub part-requires-clause-share : goal.part-requires-clause-share
+part-requires-clause-share c = omega (arith, ints, c.requires.mode.attenuation)
+
+pub part-requires-clause-x : goal.part-requires-clause-x
+part-requires-clause-x c = omega (arith, ints, c.in_ok-current.ensures.bound)
+
+pub sum-requires-2-clause-x : goal.sum-requires-2-clause-x
+sum-requires-2-clause-x c = omega (arith, ints, c.driven-driven.ensures.bound)
+
+pub sum-requires-2-clause-y : goal.sum-requires-2-clause-y
+sum-requires-2-clause-y c = omega (arith, ints, c.part.ensures.bound, c.in_ok-current.ensures.bound)
+
+pub returns-in_err-current-clause-value : goal.returns-in_err-current-clause-value
+unfolding end_of
+returns-in_err-current-clause-value c = search rules
+
+pub returns-in_err-current-clause-current : goal.returns-in_err-current-clause-current
+returns-in_err-current-clause-current c = rw c.from_residual.ensures tt
+
+pub returns-in_err-wave-clause-value : goal.returns-in_err-wave-clause-value
+unfolding end_of
+returns-in_err-wave-clause-value c = search rules
+
+pub returns-in_err-wave-clause-current : goal.returns-in_err-wave-clause-current
+returns-in_err-wave-clause-current c = rw c.from_residual-in_err-wave.ensures tt
+
+pub returns-clause-current : goal.returns-clause-current
+returns-clause-current c = omega (arith, ints, c.in_ok-current.ensures.bound)

@@ -36,3 +36,18 @@ returns-clause-value c = let p = parts c in omega (arith, ints, p.far, p.near', 
 
 pub returns-clause-bound : goal.returns-clause-bound
 returns-clause-bound c = let p = parts c in omega (arith, ints, p.far_small, p.near_small)
+
+pub part-requires-clause-share : goal.part-requires-clause-share
+part-requires-clause-share c = omega (arith, ints, c.requires.far_share.least, c.requires.far_share.most)
+
+pub part-requires-2-clause-share : goal.part-requires-2-clause-share
+part-requires-2-clause-share c = omega (arith, ints, c.requires.near_share.least, c.requires.near_share.most)
+
+pub part-requires-clause-x : goal.part-requires-clause-x
+part-requires-clause-x c = omega (arith, ints)
+
+pub part-requires-2-clause-x : goal.part-requires-2-clause-x
+part-requires-2-clause-x c = omega (arith, ints)
+
+pub overflow_sub-result : goal.overflow_sub-result
+overflow_sub-result c = omega (arith, ints, c.part.ensures.bound)

@@ -18,3 +18,30 @@ returns-clause-stands c = λ past stands.
       second = phase_pushed self.second c.push-3.new.self c.positive_part-2.result (state_at states 1) (past 1) c.positive_part-2.ensures c.push-3.ensures.from c.push-3.ensures.to c.push-3.ensures.waves stands.second;
       third = phase_pushed self.third c.push-4.new.self c.positive_part-3.result (state_at states 2) (past 2) c.positive_part-3.ensures c.push-4.ensures.from c.push-4.ensures.to c.push-4.ensures.waves stands.third;
     }
+
+pub push-requires-2-clause-held : goal.push-requires-2-clause-held
+push-requires-2-clause-held c = c.requires.held.first
+
+pub push-requires-2-clause-from : goal.push-requires-2-clause-from
+push-requires-2-clause-from c = rw c.positive_part.ensures c.requires.small.first.from_current
+
+pub push-requires-2-clause-to : goal.push-requires-2-clause-to
+push-requires-2-clause-to c = rw c.positive_part.ensures c.requires.small.first.to_current
+
+pub push-requires-3-clause-held : goal.push-requires-3-clause-held
+push-requires-3-clause-held c = c.requires.held.second
+
+pub push-requires-3-clause-from : goal.push-requires-3-clause-from
+push-requires-3-clause-from c = rw c.positive_part-2.ensures c.requires.small.second.from_current
+
+pub push-requires-3-clause-to : goal.push-requires-3-clause-to
+push-requires-3-clause-to c = rw c.positive_part-2.ensures c.requires.small.second.to_current
+
+pub push-requires-4-clause-held : goal.push-requires-4-clause-held
+push-requires-4-clause-held c = c.requires.held.third
+
+pub push-requires-4-clause-from : goal.push-requires-4-clause-from
+push-requires-4-clause-from c = rw c.positive_part-3.ensures c.requires.small.third.from_current
+
+pub push-requires-4-clause-to : goal.push-requires-4-clause-to
+push-requires-4-clause-to c = rw c.positive_part-3.ensures c.requires.small.third.to_current
