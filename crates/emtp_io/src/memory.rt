@@ -219,7 +219,6 @@ impl Cabinet for MemoryCabinet {
         }
     }
 
-    #[tactic(auto, using(crate::proofs::FilesLemmas::reading))]
     fn read(&mut self, buf: &mut [u8]) -> Result<usize, Failed>
         ensures exact { is_err result ≡ read_fails self.old }
         ensures cause { HasCause self.old.faults_in self.new.faults_in result }

@@ -1,0 +1,24 @@
+use Rattle.std.proofs.Common.{◌∙◌, ap, refl, sym, take, arith}
+use Rattle.emtp_io.specs.Memory.{Memory}
+use Rattle.emtp_io.proofs.FilesLemmas.{unread_of-read}
+use Rattle.emtp_io.proofs.memory.MemoryCabinetCabinet.read.Goals as goal
+
+pub returns-in-Some-clause-cause : goal.returns-in-Some-clause-cause
+returns-in-Some-clause-cause c = rw (← c.self.view_is) (record { later = omega arith; ok = refl; failed = tt })
+
+pub returns-in-Some-clause-count : goal.returns-in-Some-clause-count
+returns-in-Some-clause-count c = let rest = rw c.deref-2.ensures.value at c.in-Some.ensures in rw (← c.self.view_is, ← rest, c.copy_front-count.ensures.count) refl
+
+pub returns-in-Some-clause-bound : goal.returns-in-Some-clause-bound
+returns-in-Some-clause-bound c = omega (arith, c.copy_front-count.ensures.count)
+
+pub returns-in-Some-clause-bytes : goal.returns-in-Some-clause-bytes
+returns-in-Some-clause-bytes c =
+    let m = c.self.inside in
+    let n = c.copy_front-count.result in
+    let rest = rw c.deref-2.ensures.value at c.in-Some.ensures in
+    ap (λ (s : Memory). s.unread) (sym c.self.view_is)
+    ∙ unread_of-read m.files.items m.opened m.position n c.in-Some.rest.now (take n c.copy_front-count.new.to) (sym rest) c.copy_front-count.ensures.copied
+
+pub returns-in-Some-clause-ok : goal.returns-in-Some-clause-ok
+returns-in-Some-clause-ok c = rw (← c.self.view_is, c.next_fails-told.ensures.calls) refl
