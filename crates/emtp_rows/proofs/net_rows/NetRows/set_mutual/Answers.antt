@@ -1,7 +1,8 @@
-use Rattle.std.proofs.Common.{◌≡◌, ◌∙◌, ◌<◌, sym, ap, subst, [], length, slice_set, to_z, of_z, arith}
+use Rattle.std.proofs.Common.{◌≡◌, ◌∙◌, ◌<◌, sym, ap, subst, [], length, slice_set, to_z, of_z, FitsSigned, refl, length-set, arith}
 use mir.Syntax.{w64}
-use Rattle.std.proofs.lemmas.Int.{ints}
+use Rattle.std.proofs.lemmas.Int.{ints, to_z-of_z}
 use Rattle.std.proofs.lemmas.List.{length-map, set-get_or}
+use Rattle.std.proofs.lemmas.List.Elements.{All-set}
 use Rattle.emtp_rows.specs.Terms.{IsSmall, end_rows}
 use Rattle.emtp_rows.specs.Touched.{NodalRows, Touches}
 use Rattle.emtp_rows.proofs.Phases.{first_is, phase_there}
@@ -50,3 +51,31 @@ returns-else-index-g-clause-nodal c =
     let stays : slice_set inside.coupling.items c.args.trio c.args.g ≡ inside.coupling.items = ap (slice_set inside.coupling.items c.args.trio) (sym same ∙ c.index.ensures) ∙ set-get_or inside.coupling.items c.args.trio now in
     let P : NodalRows → Type 0 = λ s. s.nodal ≡ record s.nodal { coupling = slice_set s.nodal.coupling c.args.trio c.args.g } in
     subst P c.self.view_is (sym (ap (λ coupling. record seen.nodal { coupling = coupling }) stays))
+
+pub invariant_of-self : goal.invariant_of-self
+invariant_of-self c =
+    let was = c.self.invariant in
+    let coupling = c.self.inside.coupling.items in
+    let g = to_z w64 (of_z w64 c.args.g) in
+    let small : IsSmall g = omega (arith, ints, c.requires.small) in
+    record {
+      fixed_is = was.fixed_is;
+      touched_within = omega (arith, was.touched_within, c.min-self-inside.ensures);
+      ends_are = was.ends_are;
+      rows_count = was.rows_count;
+      terms = was.terms;
+      own_count = was.own_count;
+      own_small = was.own_small;
+      mutual_count = length-set coupling c.args.trio g ∙ was.mutual_count;
+      mutual_small = All-set IsSmall coupling c.args.trio g small was.mutual_small;
+      kinds_are = was.kinds_are;
+    }
+
+pub returns-then-index-g-clause-nodal : goal.returns-then-index-g-clause-nodal
+returns-then-index-g-clause-nodal c = let g : FitsSigned w64 c.args.g = c.ranges.g in rw (to_z-of_z w64 c.args.g g, ← c.self.view_is) refl
+
+pub returns-else-index-g-clause-touched : goal.returns-else-index-g-clause-touched
+returns-else-index-g-clause-touched c = record { earlier = omega arith; before = refl }
+
+pub returns-else-index-g-clause-same : goal.returns-else-index-g-clause-same
+returns-else-index-g-clause-same c = λ _. refl
