@@ -35,3 +35,30 @@ returns-in_err-state-clause-value c =
     let dt : FitsSigned w64 c.args.case.now.parts.run.dt = search rules in
     let value = simp to_z-of_z at c.in_err-state.ensures.value in
     rw c.from_residual.ensures (ap (λ (o : Option PseudoState). option_map (moment_at c.args.v) o) value)
+
+pub next-requires-clause-segment : goal.next-requires-clause-segment
+next-requires-clause-segment c = c.requires.held.sound
+
+pub next-requires-clause-old : goal.next-requires-clause-old
+next-requires-clause-old c = c.requires.held.moment
+
+pub next-requires-clause-history : goal.next-requires-clause-history
+next-requires-clause-history c = let kept : FitsSigned w128 c.args.self.now.history_current = search rules in to_z-of_z w128 c.args.self.now.history_current kept ∙ c.requires.held.history
+
+pub next-requires-clause-small : goal.next-requires-clause-small
+next-requires-clause-small c = omega (arith, ints, c.requires.held.history_small)
+
+pub next-requires-clause-v : goal.next-requires-clause-v
+next-requires-clause-v c = omega (arith, ints, c.requires.v)
+
+pub with-requires-clause-card : goal.with-requires-clause-card
+with-requires-clause-card c = c.requires.card
+
+pub with-requires-clause-held : goal.with-requires-clause-held
+with-requires-clause-held c = c.requires.held
+
+pub returns-clause-held : goal.returns-clause-held
+returns-clause-held c = c.with.ensures.held
+
+pub returns-in_err-state-clause-held : goal.returns-in_err-state-clause-held
+returns-in_err-state-clause-held c = rw c.from_residual.ensures tt
