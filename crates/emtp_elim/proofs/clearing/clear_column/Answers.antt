@@ -55,3 +55,12 @@ returns-clause-cleared c =
     let wide : to_z w128 (of_z w128 c.ratio-m.result) ≡ c.ratio-m.result = omega (arith, ints) in
     let all : c.loop-e.e ≡ c.args.above.last = omega (arith, row.pivot_within) in
     rw wide (cleared_lessened c.args.k row.later (rw (wide, all) at c.loop-e.invariant) c.requires.entries m_is (omega (arith, ints)) (omega arith))
+
+pub ratio-m-requires-clause-a : goal.ratio-m-requires-clause-a
+ratio-m-requires-clause-a c = omega (arith, ints, c.requires.entries c.args.k (omega arith))
+
+pub ratio-m-requires-clause-p : goal.ratio-m-requires-clause-p
+ratio-m-requires-clause-p c = let row = c.requires.above in omega (arith, ints, entry_small c.args.above.pivot row (omega arith) row.pivot_within)
+
+pub less-entry-requires-clause-p : goal.less-entry-requires-clause-p
+less-entry-requires-clause-p c = omega (arith, ints, entry_small c.loop-e.e c.requires.above (omega arith) c.loop-e-test.true)

@@ -42,3 +42,14 @@ returns-clause-within c = λ k low.
     let all : c.loop-e.e ≡ c.args.row.pivot = omega (arith, c.requires.row.ratios.order) in
     let was = rw all at c.loop-e.invariant in
     was.within k c.args.i low (omega arith) (at_end _ _ _ _ _ _ _ c.requires.row.ratios)
+
+pub less-value-requires-clause-m : goal.less-value-requires-clause-m
+less-value-requires-clause-m c =
+    let e = c.loop-e.e in
+    let row = c.requires.row in
+    let high = row.ratios.high e c.loop-e.auto.e c.loop-e-test.true in
+    let small_ratio = rw (← row.ratios.value_is e c.loop-e.auto.e c.loop-e-test.true) at (row.finished.ratios _ high) in
+    omega (arith, ints, small_ratio)
+
+pub less-value-requires-clause-p : goal.less-value-requires-clause-p
+less-value-requires-clause-p c = omega (arith, ints, c.requires.before _ (c.requires.row.ratios.high c.loop-e.e c.loop-e.auto.e c.loop-e-test.true))

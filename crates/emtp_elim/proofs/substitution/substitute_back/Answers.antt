@@ -40,3 +40,9 @@ returns-clause-solved c =
     let all : length c.args.done.now.rows - c.loop-k.k ≡ length c.args.done.now.rows = omega arith in
     let first : c.loop-k.k ≡ 0 = omega arith in
     rw (all, first) at c.loop-k.invariant.found
+
+pub near_by-unknown-requires-clause-small_a : goal.near_by-unknown-requires-clause-small_a
+near_by-unknown-requires-clause-small_a c = omega (arith, ints, c.remainder-left.ensures.bound)
+
+pub near_by-unknown-requires-clause-small_b : goal.near_by-unknown-requires-clause-small_b
+near_by-unknown-requires-clause-small_b c = let row = c.row-row.ensures.row in omega (arith, ints, entry_small c.row-row.result.pivot row (omega arith) row.pivot_within)
