@@ -65,3 +65,39 @@ pub returns-clause-kept : goal.returns-clause-kept
 returns-clause-kept g c =
     let was = c.loop-i.invariant in
     kept_redone _ _ _ _ _ c.finished_rows_stay.ensures was.few (omega (arith, c.size-size.ensures.size)) was.room was.room_work was.redone
+
+pub row-requires-clause-index : goal.row-requires-clause-index
+row-requires-clause-index g c = omega (arith, c.size-size.ensures.size)
+
+pub row-requires-clause-size : goal.row-requires-clause-size
+row-requires-clause-size g c = omega (arith, c.loop-i.invariant.room_work, c.size-size.ensures.size)
+
+pub eliminate_row-requires-clause-size : goal.eliminate_row-requires-clause-size
+eliminate_row-requires-clause-size g c = omega (arith, c.loop-i.invariant.room_work, c.loop-i.invariant.redone.same_size)
+
+pub eliminate_row-requires-clause-room : goal.eliminate_row-requires-clause-room
+eliminate_row-requires-clause-room g c = omega (arith, c.loop-i.invariant.redone.same_size, c.loop-i.invariant.redone.count, c.size-size.ensures.size)
+
+pub returns-in-Err-clause-redone : goal.returns-in-Err-clause-redone
+returns-in-Err-clause-redone g c = tt
+
+pub returns-in-Err-clause-ticks : goal.returns-in-Err-clause-ticks
+returns-in-Err-clause-ticks g c = tt
+
+pub returns-clause-ticks : goal.returns-clause-ticks
+returns-clause-ticks g c = omega (arith, c.loop-i.invariant.ticked, c.size-size.ensures.size)
+
+pub returns-clause-fault : goal.returns-clause-fault
+returns-clause-fault g c = tt
+
+pub returns-clause-prefix : goal.returns-clause-prefix
+returns-clause-prefix g c = tt
+
+pub returns-clause-fault_ticks : goal.returns-clause-fault_ticks
+returns-clause-fault_ticks g c = tt
+
+pub returns-in-Err-clause-earlier : goal.returns-in-Err-clause-earlier
+returns-in-Err-clause-earlier g c = rw c.in-Err.ensures.kept c.loop-i.invariant.earlier
+
+pub returns-clause-earlier : goal.returns-clause-earlier
+returns-clause-earlier g c = c.loop-i.invariant.earlier

@@ -25,3 +25,12 @@ returns-clause-prefix g c =
     let sized : c.self.inside.size ≡ length rows = ap (λ (v : Good). v.size) c.self.view_is ∙ c.requires.size in
     let whole = lent c.self.inside.given.len c.redo.new.given c.self.inside.given.items (omega (arith, c.deref_mut.ensures.len)) in
     IfErr-weaker c.redo.result _ _ (λ fault prefix. rw (sized, whole, prefix.count) prefix.given_first) c.redo.ensures.prefix
+
+pub returns-clause-fault : goal.returns-clause-fault
+returns-clause-fault g c = c.redo.ensures.fault
+
+pub returns-clause-fault_ticks : goal.returns-clause-fault_ticks
+returns-clause-fault_ticks g c = c.redo.ensures.fault_ticks
+
+pub returns-clause-ticks : goal.returns-clause-ticks
+returns-clause-ticks g c = rw c.requires.size c.redo.ensures.ticks
