@@ -96,5 +96,3 @@ pub unread_of-read : (files : List File) (opened : Option ℕ) (position n : ℕ
 unread_of-read files None position n bytes front left is = refl
 unread_of-read files (Some at) position n bytes front left is =
     rest-read (slice_get files at) position n bytes front left is
-
-pub ruleset reading = (unread_of-read)
