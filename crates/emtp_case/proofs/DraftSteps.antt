@@ -409,6 +409,9 @@ with_trio p x a b c h room ends0 ends1 ends2 modes history =
     }
 
 -- the past values that one more record needs
+pub history_with_branch : (p : Parts) (x : Branch) → history_values_of (record p { branches = p.branches ++ x ∷ [] }) ≡ history_values_of p + branch_history_values p.run.dt x
+history_with_branch p x = omega (arith, sum_by-append (branch_history_values p.run.dt) p.branches (x ∷ []))
+
 pub history_with_trio : (p : Parts) (x : Trio) (a b c : Phase) → history_values_of (record p { branches = p.branches ++ phase_branches (length p.trios) a b c; trios = p.trios ++ record x { first = length p.branches } ∷ [] }) ≡ history_values_of p + trio_history_values p.run.dt x
 history_with_trio p x a b c =
     let set : Trio = record x { first = length p.branches } in

@@ -33,7 +33,7 @@ use Rattle.std.proofs.Common.{◌∙◌, ap, arith, subst, sym}
 use Rattle.std.proofs.lemmas.List.{drop-append-le, length-append, length-drop, take-append-le}
 use Rattle.std.proofs.lemmas.List.Elements.{All-weaker}
 use Rattle.std.specs.Option.{ForSome}
-use Rattle.std.specs.Prelude.{◌≡◌, ◌+◌, ◌<◌, ◌≤◌, ◌∷◌, ◌++◌, [], All, Err, List, Ok, OnErr, OnOk, Option, Result, drop, length, refl, take, ℕ}
+use Rattle.std.specs.Prelude.{◌≡◌, ◌+◌, ◌<◌, ◌≤◌, ◌∷◌, ◌++◌, [], All, Err, IsErr, List, Ok, OnErr, OnOk, Option, Result, drop, length, refl, take, ℕ}
 
 -- one more item, or the list as before
 pub pushed_or_not : {X E : Type 0} (P : List X → Type 0) (r : Result (Unit {0}) E) (old new : List X) (x : X) → OnOk r (new ≡ old ++ x ∷ []) → OnErr r (new ≡ old) → P (old ++ x ∷ []) → P old → P new
@@ -240,3 +240,12 @@ draft_same d e same =
 pub drafts_same : {E : Type 0} (r : Result (Unit {0}) E) (d e : Draft) → OnErr r (d.parts ≡ e.parts) → OnErr r (d ≡ e)
 drafts_same (Ok v) d e h = tt
 drafts_same (Err x) d e h = draft_same d e h
+
+-- a call that failed promises nothing of where it succeeds
+pub no_ok : {E : Type 0} (P : Type 0) (r : Result (Unit {0}) E) → IsErr r → OnOk r P
+no_ok P (Ok v) is = absurd (cc)
+no_ok P (Err e) is = tt
+
+pub on_err : {E P : Type 0} (r : Result (Unit {0}) E) → P → OnErr r P
+on_err (Ok v) h = tt
+on_err (Err e) h = h

@@ -1,8 +1,10 @@
 use Rattle.std.specs.Prelude.{List}
+use Rattle.std.proofs.Common.{◌∙◌, ap}
 use Rattle.emtp_case.specs.declared.branch.Branch.{Branch}
 use Rattle.emtp_case.specs.Case.{IsDraft}
-use Rattle.emtp_case.proofs.Growth.{pushed_or_not}
-use Rattle.emtp_case.proofs.DraftSteps.{with_branch}
+use Rattle.emtp_case.specs.HistoryValues.{history_values_of}
+use Rattle.emtp_case.proofs.Growth.{draft_same, no_ok, on_err, pushed_or_not}
+use Rattle.emtp_case.proofs.DraftSteps.{history_with_branch, with_branch}
 use Rattle.emtp_case.proofs.draft.Draft.add_branch.Goals as goal
 
 pub invariant_of-self : goal.invariant_of-self
@@ -11,3 +13,27 @@ invariant_of-self c =
     let P : List Branch → Type 0 = λ xs. IsDraft (record p { branches = xs }) in
     let more = with_branch p c.args.branch c.args.self.now.fits c.requires.room c.requires.single c.requires.fits c.requires.history in
     record { fits = pushed_or_not P c.push.result p.branches c.push.new.self c.args.branch c.push.ensures.ok c.push.ensures.err more c.args.self.now.fits }
+
+pub returns-clause-ok : goal.returns-clause-ok
+returns-clause-ok c =
+    let p = c.args.self.now.parts in
+    ap (λ (xs : List Branch). record p { branches = xs }) c.in_ok-push.ensures.ok
+
+pub returns-clause-err : goal.returns-clause-err
+returns-clause-err c = tt
+
+pub returns-in_err-push-clause-ok : goal.returns-in_err-push-clause-ok
+returns-in_err-push-clause-ok c = no_ok _ c.from_residual.result c.from_residual.ensures.0
+
+pub returns-in_err-push-clause-err : goal.returns-in_err-push-clause-err
+returns-in_err-push-clause-err c =
+    let p = c.args.self.now.parts in
+    on_err c.from_residual.result (draft_same _ c.args.self.now (ap (λ (xs : List Branch). record p { branches = xs }) c.in_err-push.ensures.err))
+
+pub returns-in_err-push-clause-history : goal.returns-in_err-push-clause-history
+returns-in_err-push-clause-history c = no_ok _ c.from_residual.result c.from_residual.ensures.0
+
+pub returns-clause-history : goal.returns-clause-history
+returns-clause-history c =
+    let p = c.args.self.now.parts in
+    ap (λ (xs : List Branch). history_values_of (record p { branches = xs })) c.in_ok-push.ensures.ok ∙ history_with_branch p c.args.branch

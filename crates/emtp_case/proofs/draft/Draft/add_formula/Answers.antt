@@ -4,7 +4,7 @@ use Rattle.emtp_case.specs.declared.control.Extra.{Extra}
 use Rattle.emtp_case.specs.declared.control.Extra.TheVariants.{Formula as OfFormula}
 use Rattle.emtp_case.specs.Case.{IsDraft}
 use Rattle.emtp_case.specs.HistoryValues.{history_values_of}
-use Rattle.emtp_case.proofs.Growth.{pushed_or_not}
+use Rattle.emtp_case.proofs.Growth.{draft_same, no_ok, on_err, pushed_or_not}
 use Rattle.emtp_case.proofs.DraftSteps.{history_with_formula, with_formula}
 use Rattle.emtp_case.proofs.draft.Draft.add_formula.Goals as goal
 
@@ -19,3 +19,22 @@ pub returns-clause-history : goal.returns-clause-history
 returns-clause-history c =
     let p = c.args.self.now.parts in
     ap (λ (xs : List Extra). history_values_of (record p { extras = xs })) c.in_ok-push.ensures.ok ∙ history_with_formula p c.args.formula
+
+pub returns-clause-ok : goal.returns-clause-ok
+returns-clause-ok c =
+    let p = c.args.self.now.parts in
+    ap (λ (xs : List Extra). record p { extras = xs }) c.in_ok-push.ensures.ok
+
+pub returns-clause-err : goal.returns-clause-err
+returns-clause-err c = tt
+
+pub returns-in_err-push-clause-ok : goal.returns-in_err-push-clause-ok
+returns-in_err-push-clause-ok c = no_ok _ c.from_residual.result c.from_residual.ensures.0
+
+pub returns-in_err-push-clause-err : goal.returns-in_err-push-clause-err
+returns-in_err-push-clause-err c =
+    let p = c.args.self.now.parts in
+    on_err c.from_residual.result (draft_same _ c.args.self.now (ap (λ (xs : List Extra). record p { extras = xs }) c.in_err-push.ensures.err))
+
+pub returns-in_err-push-clause-history : goal.returns-in_err-push-clause-history
+returns-in_err-push-clause-history c = no_ok _ c.from_residual.result c.from_residual.ensures.0
