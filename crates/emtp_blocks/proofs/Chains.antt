@@ -1,9 +1,11 @@
 -- The chain of a block, link by link.
-use Rattle.std.proofs.Common.{◌≡◌, ◌≢◌, ◌∙◌, sym, ap, Bool, true, false, ◌&&◌, ℕ, zero, suc, ◌+◌, ◌*◌, ◌^◌, ◌<◌, ◌≤◌, ℤ, pos, ◌+ℤ◌, ◌-ℤ◌, unsigned_abs, List, length, slice_set, get_or-set_same, get_or-set_other, inl, inr, add-one, refl, arith}
+use Rattle.std.proofs.Common.{◌≡◌, ◌≢◌, ◌∙◌, sym, ap, to_z, of_z, Bool, true, false, ◌&&◌, ℕ, zero, suc, ◌+◌, ◌*◌, ◌^◌, ◌<◌, ◌≤◌, ℤ, pos, ◌+ℤ◌, ◌-ℤ◌, unsigned_abs, List, length, slice_set, get_or-set_same, get_or-set_other, inl, inr, add-one, refl, arith}
+use mir.Syntax.{w128}
 use Rattle.std.proofs.lemmas.Bool.{cases_eq}
 use Rattle.std.proofs.lemmas.Bool.Decides.{nat_tests}
 use Rattle.std.proofs.lemmas.Int.{ints}
 use Rattle.emtp_elim.specs.Matrix.{item}
+use Rattle.emtp_fix.proofs.Wide.{through}
 use Rattle.emtp_blocks.specs.Block.{carried, chain_number, is_within, each_within, IsKept}
 use Rattle.emtp_case.specs.declared.control.BlockState.{BlockState}
 
@@ -25,6 +27,23 @@ carried-more es ys j = rw add-one refl
 
 pub chain_number-more : (ys : List ℤ) (j : ℕ) → chain_number ys (j + 1) ≡ item ys j
 chain_number-more ys j = rw add-one refl
+
+-- what is kept goes to bits and is read again
+pub chain_through : (s : BlockState) (j : ℕ) → IsKept s → to_z w128 (of_z w128 (item s.chain j)) ≡ item s.chain j
+chain_through s j kept = through (item s.chain j) (omega (arith, kept.chain_small j))
+
+pub error_through : (s : BlockState) (j : ℕ) → IsKept s → to_z w128 (of_z w128 (item s.errors j)) ≡ item s.errors j
+error_through s j kept = through (item s.errors j) (omega (arith, kept.errors_small j))
+
+pub carried_through : (s : BlockState) (j : ℕ) (result : ℤ) → IsKept s → j ≤ 7 → result ≡ carried s.errors s.chain j → to_z w128 (of_z w128 result) ≡ result
+carried_through s j result kept few is = through result (omega (arith, few, ap unsigned_abs is, carried_small s j kept))
+
+-- one link more, as the code computes it
+pub carried_next : (s : BlockState) (j : ℕ) (before-carried before result : ℤ) → IsKept s → before-carried ≡ carried s.errors s.chain j → before ≡ chain_number s.chain j
+    → result ≡ ((to_z w128 (of_z w128 (item s.chain j)) +ℤ before) -ℤ to_z w128 (of_z w128 (item s.errors j))) +ℤ before-carried → result ≡ carried s.errors s.chain (j + 1)
+carried_next s j before-carried before result kept so_far last is =
+    is ∙ ap (λ y. ((y +ℤ before) -ℤ to_z w128 (of_z w128 (item s.errors j))) +ℤ before-carried) (chain_through s j kept) ∙ ap (λ e. ((item s.chain j +ℤ before) -ℤ e) +ℤ before-carried) (error_through s j kept)
+    ∙ ap (λ b. ((item s.chain j +ℤ b) -ℤ item s.errors j) +ℤ before-carried) last ∙ ap (λ h. ((item s.chain j +ℤ chain_number s.chain j) -ℤ item s.errors j) +ℤ h) so_far ∙ sym (carried-more s.errors s.chain j)
 
 -- a list that is filled place by place
 pub set_done : (f : ℕ → ℤ) (xs : List ℤ) (j : ℕ) (v : ℤ) → j < length xs → v ≡ f j → ((i : ℕ) → i < j → item xs i ≡ f i) → (i : ℕ) → i < j + 1 → item (slice_set xs j v) i ≡ f i

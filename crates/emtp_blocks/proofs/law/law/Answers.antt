@@ -5,7 +5,7 @@ use Rattle.emtp_case.specs.Control.{divisor_of, step_gain, power_of}
 use Rattle.emtp_case.specs.Sums.{sum_upto}
 use Rattle.emtp_case.specs.declared.control.Block.{Block}
 use Rattle.emtp_fix.specs.Rounding.{near}
-use Rattle.emtp_fix.proofs.Wide.{through_64}
+use Rattle.emtp_fix.proofs.Wide.{through, through_64}
 use Rattle.emtp_blocks.proofs.Coefficients.{sum_is}
 use Rattle.emtp_blocks.proofs.law.law.Goals as goal
 
@@ -13,9 +13,8 @@ use Rattle.emtp_blocks.proofs.law.law.Goals as goal
 divisor_is : (dt : ℤ) (b : Block) (d : ℤ) → FitsSigned w64 dt → unsigned_abs d ≤ 64 * 10 ^ 25 → d ≡ sum_upto b.order (power_of (to_z w64 (of_z w64 dt)) b.bottom) → to_z w128 (of_z w128 d) ≡ divisor_of dt b
 divisor_is dt b d fits small is =
     let same : to_z w64 (of_z w64 dt) ≡ dt = to_z-of_z w64 dt fits in
-    let through : to_z w128 (of_z w128 d) ≡ d = omega (arith, ints, small) in
     let whole = rw same at is in
-    through ∙ whole
+    through d (omega (arith, small)) ∙ whole
 
 pub coefficients-numerators-requires-clause-some : goal.coefficients-numerators-requires-clause-some
 coefficients-numerators-requires-clause-some c =
@@ -48,7 +47,7 @@ step_gain-requires-2-clause-small c =
     let gain : to_z w64 (of_z w64 b.gain) ≡ b.gain = through_64 b.gain c.requires.gain in
     let sum : to_z w64 (of_z w64 c.sum-sum.result) ≡ c.sum-sum.result = omega (arith, ints, c.sum-sum.ensures.small) in
     let divisor = rw dt at c.coefficient_divisor-divisor.ensures.value in
-    let d : to_z w128 (of_z w128 c.coefficient_divisor-divisor.result) ≡ c.coefficient_divisor-divisor.result = omega (arith, ints, c.coefficient_divisor-divisor.ensures.small) in
+    let d : to_z w128 (of_z w128 c.coefficient_divisor-divisor.result) ≡ c.coefficient_divisor-divisor.result = through c.coefficient_divisor-divisor.result (omega (arith, c.coefficient_divisor-divisor.ensures.small)) in
     let each = rw (dt, d) at c.coefficients-numerators.ensures.value in
     let is = c.sum-sum.ensures.value ∙ sum_is c.args.dt b c.coefficients-numerators.result c.coefficient_divisor-divisor.result (omega arith) divisor each in
     rw (gain, sum, is) c.requires.within_step
@@ -60,7 +59,7 @@ returns-clause-value c =
     let gain : to_z w64 (of_z w64 b.gain) ≡ b.gain = through_64 b.gain c.requires.gain in
     let sum : to_z w64 (of_z w64 c.sum-sum.result) ≡ c.sum-sum.result = omega (arith, ints, c.sum-sum.ensures.small) in
     let divisor = rw dt at c.coefficient_divisor-divisor.ensures.value in
-    let d : to_z w128 (of_z w128 c.coefficient_divisor-divisor.result) ≡ c.coefficient_divisor-divisor.result = omega (arith, ints, c.coefficient_divisor-divisor.ensures.small) in
+    let d : to_z w128 (of_z w128 c.coefficient_divisor-divisor.result) ≡ c.coefficient_divisor-divisor.result = through c.coefficient_divisor-divisor.result (omega (arith, c.coefficient_divisor-divisor.ensures.small)) in
     let each = rw (dt, d) at c.coefficients-numerators.ensures.value in
     let each' = rw (dt, d) at c.coefficients-denominators.ensures.value in
     let is = c.sum-sum.ensures.value ∙ sum_is c.args.dt b c.coefficients-numerators.result c.coefficient_divisor-divisor.result (omega arith) divisor each in
@@ -81,7 +80,7 @@ returns-clause-small c =
     let dt : to_z w64 (of_z w64 c.args.dt) ≡ c.args.dt = to_z-of_z w64 c.args.dt c.ranges.dt in
     let gain : to_z w64 (of_z w64 b.gain) ≡ b.gain = through_64 b.gain c.requires.gain in
     let divisor = rw dt at c.coefficient_divisor-divisor.ensures.value in
-    let d : to_z w128 (of_z w128 c.coefficient_divisor-divisor.result) ≡ c.coefficient_divisor-divisor.result = omega (arith, ints, c.coefficient_divisor-divisor.ensures.small) in
+    let d : to_z w128 (of_z w128 c.coefficient_divisor-divisor.result) ≡ c.coefficient_divisor-divisor.result = through c.coefficient_divisor-divisor.result (omega (arith, c.coefficient_divisor-divisor.ensures.small)) in
     let each = rw (dt, d) at c.coefficients-numerators.ensures.value in
     let is = c.sum-sum.ensures.value ∙ sum_is c.args.dt b c.coefficients-numerators.result c.coefficient_divisor-divisor.result (omega arith) divisor each in
     let product : c.step_gain-2.result ≡ step_gain c.args.dt b = rw (gain, sum) at c.step_gain-2.ensures ∙ ap (λ z. near (b.gain *ℤ z) (pos (10 ^ 12))) is in
