@@ -5,7 +5,7 @@ use Rattle.emtp_net.proofs.Resting.{nothing_made}
 use Rattle.emtp_net.proofs.network.shown_at_rest.Goals as goal
 
 marked : (c : goal.After-closed-3-1) → (with_items c.in_ok-closed.closed c.write_closed.new.out).items ≡ c.write_closed.new.out
-marked c = with_items_is c.in_ok-closed.closed c.write_closed.new.out (omega (arith, c.write_closed.auto.out, c.deref_mut.ensures.len))
+marked c = with_items_is c.in_ok-closed.closed c.write_closed.new.out (c.write_closed.auto.out ∙ c.deref_mut.ensures.len)
 
 pub returns-clause-closed : goal.returns-clause-closed
 returns-clause-closed c = marked c ∙ c.write_closed.ensures

@@ -50,7 +50,7 @@ factor-requires-clause-rows g c =
 pub invariant_of-self-in_err-solve : goal.invariant_of-self-in_err-solve
 invariant_of-self-in_err-solve g c =
     let kept_shown = c.self.invariant.shown in
-    let whole = with_items_is c.self.inside.voltages c.solve.new.voltages (omega (arith, c.solve.auto.voltages, c.deref_mut.ensures.len)) in
+    let whole = with_items_is c.self.inside.voltages c.solve.new.voltages (c.solve.auto.voltages ∙ c.deref_mut.ensures.len) in
     record {
       order_is = c.self.invariant.order_is;
       branches_case = c.self.invariant.branches_case;
@@ -70,8 +70,8 @@ invariant_of-self-in_err-solve g c =
 pub invariant_of-self-in_err-accept : goal.invariant_of-self-in_err-accept
 invariant_of-self-in_err-accept g c =
     let kept_shown = c.self.invariant.shown in
-    let whole = with_items_is c.self.inside.voltages c.solve.new.voltages (omega (arith, c.solve.auto.voltages, c.deref_mut.ensures.len)) in
-    let flows = with_items_is c.self.inside.currents c.accept.new.currents (omega (arith, c.accept.auto.currents, c.deref_mut-2.ensures.len)) in
+    let whole = with_items_is c.self.inside.voltages c.solve.new.voltages (c.solve.auto.voltages ∙ c.deref_mut.ensures.len) in
+    let flows = with_items_is c.self.inside.currents c.accept.new.currents (c.accept.auto.currents ∙ c.deref_mut-2.ensures.len) in
     record {
       order_is = c.self.invariant.order_is;
       branches_case = c.accept.ensures.same;
@@ -91,9 +91,9 @@ invariant_of-self-in_err-accept g c =
 pub invariant_of-self-in_err-find_currents : goal.invariant_of-self-in_err-find_currents
 invariant_of-self-in_err-find_currents g c =
     let kept_shown = c.self.invariant.shown in
-    let whole = with_items_is c.self.inside.voltages c.solve.new.voltages (omega (arith, c.solve.auto.voltages, c.deref_mut.ensures.len)) in
-    let flows = with_items_is c.self.inside.currents c.accept.new.currents (omega (arith, c.accept.auto.currents, c.deref_mut-2.ensures.len)) in
-    let crossed = with_items_is c.self.inside.switch_currents c.find_currents.new.out (omega (arith, c.find_currents.auto.out, c.deref_mut-3.ensures.len)) in
+    let whole = with_items_is c.self.inside.voltages c.solve.new.voltages (c.solve.auto.voltages ∙ c.deref_mut.ensures.len) in
+    let flows = with_items_is c.self.inside.currents c.accept.new.currents (c.accept.auto.currents ∙ c.deref_mut-2.ensures.len) in
+    let crossed = with_items_is c.self.inside.switch_currents c.find_currents.new.out (c.find_currents.auto.out ∙ c.deref_mut-3.ensures.len) in
     record {
       order_is = c.self.invariant.order_is;
       branches_case = c.accept.ensures.same;
@@ -113,10 +113,10 @@ invariant_of-self-in_err-find_currents g c =
 pub invariant_of-self-2 : goal.invariant_of-self-2
 invariant_of-self-2 g c =
     let kept_shown = c.self.invariant.shown in
-    let whole = with_items_is c.self.inside.voltages c.solve.new.voltages (omega (arith, c.solve.auto.voltages, c.deref_mut.ensures.len)) in
-    let flows = with_items_is c.self.inside.currents c.accept.new.currents (omega (arith, c.accept.auto.currents, c.deref_mut-2.ensures.len)) in
-    let crossed = with_items_is c.self.inside.switch_currents c.find_currents.new.out (omega (arith, c.find_currents.auto.out, c.deref_mut-3.ensures.len)) in
-    let marked = with_items_is c.self.inside.closed c.write_closed.new.out (omega (arith, c.write_closed.auto.out, c.deref_mut-4.ensures.len)) in
+    let whole = with_items_is c.self.inside.voltages c.solve.new.voltages (c.solve.auto.voltages ∙ c.deref_mut.ensures.len) in
+    let flows = with_items_is c.self.inside.currents c.accept.new.currents (c.accept.auto.currents ∙ c.deref_mut-2.ensures.len) in
+    let crossed = with_items_is c.self.inside.switch_currents c.find_currents.new.out (c.find_currents.auto.out ∙ c.deref_mut-3.ensures.len) in
+    let marked = with_items_is c.self.inside.closed c.write_closed.new.out (c.write_closed.auto.out ∙ c.deref_mut-4.ensures.len) in
     record {
       order_is = c.self.invariant.order_is;
       branches_case = c.accept.ensures.same;
@@ -168,7 +168,7 @@ returns-in_err-accept-clause-step g c = λ H stands tacs.
     let posed = posed_is _ H c.decide.new.rows c.decide.new.switches c.decide.new.self c.set_sources.new.self c.factor.new.kept stood decided c.set_sources.ensures.kinds values (c.in_ok-factor.ensures.made H ready) in
     let redone = c.factor.ensures.redone H ready in
     let vs = c.deref-3.result.now in
-    let read = c.deref-3.ensures.value ∙ with_items_is c.self.inside.voltages c.solve.new.voltages (omega (arith, c.solve.auto.voltages, c.deref_mut.ensures.len)) in
+    let read = c.deref-3.ensures.value ∙ with_items_is c.self.inside.voltages c.solve.new.voltages (c.solve.auto.voltages ∙ c.deref_mut.ensures.len) in
     let voltages : AreVoltages case H vs = subst (AreVoltages case H) (sym read) (c.in_ok-solve.ensures.solved H posed) in
     let returned = err_from_is_err_and c.from_residual-in_err-accept.result c.from_residual-in_err-accept.ensures.1 in
     err_steps _ _ _ H c.from_residual-in_err-accept.result _ _ c.self.view_is stood refl redone (returned.1 ∙ ap Err returned.2) (c.in_err-accept.ensures.ends H stood.branches voltages)
@@ -184,10 +184,10 @@ returns-in_err-find_currents-clause-step g c = λ H stands tacs.
     let posed = posed_is _ H c.decide.new.rows c.decide.new.switches c.decide.new.self c.set_sources.new.self c.factor.new.kept stood decided c.set_sources.ensures.kinds values (c.in_ok-factor.ensures.made H ready) in
     let redone = c.factor.ensures.redone H ready in
     let vs = c.deref-3.result.now in
-    let read = c.deref-3.ensures.value ∙ with_items_is c.self.inside.voltages c.solve.new.voltages (omega (arith, c.solve.auto.voltages, c.deref_mut.ensures.len)) in
+    let read = c.deref-3.ensures.value ∙ with_items_is c.self.inside.voltages c.solve.new.voltages (c.solve.auto.voltages ∙ c.deref_mut.ensures.len) in
     let voltages : AreVoltages case H vs = subst (AreVoltages case H) (sym read) (c.in_ok-solve.ensures.solved H posed) in
     let moved = c.in_ok-accept.ensures.moved H stood.branches in
-    let flows = c.deref-4.ensures.value ∙ with_items_is c.self.inside.currents c.accept.new.currents (omega (arith, c.accept.auto.currents, c.deref_mut-2.ensures.len)) in
+    let flows = c.deref-4.ensures.value ∙ with_items_is c.self.inside.currents c.accept.new.currents (c.accept.auto.currents ∙ c.deref_mut-2.ensures.len) in
     let moved_so = subst (λ cs. HaveMoved c.accept.new.self cs case H vs) (sym flows) moved in
     let valued = ap (λ v. v.items) c.solve.ensures.values ∙ values in
     let returned = err_from_is_err_and c.from_residual-in_err-find_currents.result c.from_residual-in_err-find_currents.ensures.1 in
@@ -217,18 +217,18 @@ returns-clause-step g c = λ H stands tacs.
     let posed = posed_is seen H c.decide.new.rows c.decide.new.switches c.decide.new.self c.set_sources.new.self c.factor.new.kept stood decided c.set_sources.ensures.kinds values (c.in_ok-factor.ensures.made H ready) in
     let redone = c.factor.ensures.redone H ready in
     let vs = c.deref-3.result.now in
-    let read = c.deref-3.ensures.value ∙ with_items_is c.self.inside.voltages c.solve.new.voltages (omega (arith, c.solve.auto.voltages, c.deref_mut.ensures.len)) in
+    let read = c.deref-3.ensures.value ∙ with_items_is c.self.inside.voltages c.solve.new.voltages (c.solve.auto.voltages ∙ c.deref_mut.ensures.len) in
     let voltages : AreVoltages case H vs = subst (AreVoltages case H) (sym read) (c.in_ok-solve.ensures.solved H posed) in
     let moved = c.in_ok-accept.ensures.moved H stood.branches in
-    let flows = c.deref-4.ensures.value ∙ with_items_is c.self.inside.currents c.accept.new.currents (omega (arith, c.accept.auto.currents, c.deref_mut-2.ensures.len)) in
+    let flows = c.deref-4.ensures.value ∙ with_items_is c.self.inside.currents c.accept.new.currents (c.accept.auto.currents ∙ c.deref_mut-2.ensures.len) in
     let moved_so = subst (λ cs. HaveMoved c.accept.new.self cs case H vs) (sym flows) moved in
     let valued = ap (λ v. v.items) c.solve.ensures.values ∙ values in
     let has = c.in_ok-find_currents.ensures.found H vs voltages moved_so valued decided.states_are in
     let leaving = c.find_currents.ensures.leaving H vs moved_so valued in
     let kinds = ap (λ v. v.items) (c.find_currents.ensures.kinds ∙ c.solve.ensures.kinds) ∙ posed.kinds in
-    let shown_flows = with_items_is c.self.inside.currents c.accept.new.currents (omega (arith, c.accept.auto.currents, c.deref_mut-2.ensures.len)) in
-    let crossed = with_items_is c.self.inside.switch_currents c.find_currents.new.out (omega (arith, c.find_currents.auto.out, c.deref_mut-3.ensures.len)) in
-    let marked = with_items_is c.self.inside.closed c.write_closed.new.out (omega (arith, c.write_closed.auto.out, c.deref_mut-4.ensures.len)) in
+    let shown_flows = with_items_is c.self.inside.currents c.accept.new.currents (c.accept.auto.currents ∙ c.deref_mut-2.ensures.len) in
+    let crossed = with_items_is c.self.inside.switch_currents c.find_currents.new.out (c.find_currents.auto.out ∙ c.deref_mut-3.ensures.len) in
+    let marked = with_items_is c.self.inside.closed c.write_closed.new.out (c.write_closed.auto.out ∙ c.deref_mut-4.ensures.len) in
     let left : Net = (record {
       case = case;
       branches = c.accept.new.self;
@@ -311,7 +311,7 @@ pub returns-in_err-factor-clause-made : goal.returns-in_err-factor-clause-made
 returns-in_err-factor-clause-made g c = ap (λ (s : Net). s.made + 1) c.self.view_is
 
 pub returns-in_err-factor-clause-few : goal.returns-in_err-factor-clause-few
-returns-in_err-factor-clause-few g c = omega (arith, c.factor.ensures.few, ap (λ (s : Net). s.redone) c.self.view_is)
+returns-in_err-factor-clause-few g c = subst (λ (s : Net). c.factor.new.redone ≤ s.redone + 1000) c.self.view_is c.factor.ensures.few
 
 pub returns-in_err-factor-clause-few_ticks : goal.returns-in_err-factor-clause-few_ticks
 returns-in_err-factor-clause-few_ticks g c = c.factor.ensures.few_ticks
@@ -334,7 +334,7 @@ pub returns-in_err-solve-clause-made : goal.returns-in_err-solve-clause-made
 returns-in_err-solve-clause-made g c = ap (λ (s : Net). s.made + 1) c.self.view_is
 
 pub returns-in_err-solve-clause-few : goal.returns-in_err-solve-clause-few
-returns-in_err-solve-clause-few g c = omega (arith, c.factor.ensures.few, ap (λ (s : Net). s.redone) c.self.view_is)
+returns-in_err-solve-clause-few g c = subst (λ (s : Net). c.factor.new.redone ≤ s.redone + 1000) c.self.view_is c.factor.ensures.few
 
 pub returns-in_err-solve-clause-few_ticks : goal.returns-in_err-solve-clause-few_ticks
 returns-in_err-solve-clause-few_ticks g c = c.factor.ensures.few_ticks
@@ -357,7 +357,7 @@ pub returns-in_err-accept-clause-made : goal.returns-in_err-accept-clause-made
 returns-in_err-accept-clause-made g c = ap (λ (s : Net). s.made + 1) c.self.view_is
 
 pub returns-in_err-accept-clause-few : goal.returns-in_err-accept-clause-few
-returns-in_err-accept-clause-few g c = omega (arith, c.factor.ensures.few, ap (λ (s : Net). s.redone) c.self.view_is)
+returns-in_err-accept-clause-few g c = subst (λ (s : Net). c.factor.new.redone ≤ s.redone + 1000) c.self.view_is c.factor.ensures.few
 
 pub returns-in_err-accept-clause-few_ticks : goal.returns-in_err-accept-clause-few_ticks
 returns-in_err-accept-clause-few_ticks g c = c.factor.ensures.few_ticks
@@ -380,7 +380,7 @@ pub returns-in_err-find_currents-clause-made : goal.returns-in_err-find_currents
 returns-in_err-find_currents-clause-made g c = ap (λ (s : Net). s.made + 1) c.self.view_is
 
 pub returns-in_err-find_currents-clause-few : goal.returns-in_err-find_currents-clause-few
-returns-in_err-find_currents-clause-few g c = omega (arith, c.factor.ensures.few, ap (λ (s : Net). s.redone) c.self.view_is)
+returns-in_err-find_currents-clause-few g c = subst (λ (s : Net). c.factor.new.redone ≤ s.redone + 1000) c.self.view_is c.factor.ensures.few
 
 pub returns-in_err-find_currents-clause-few_ticks : goal.returns-in_err-find_currents-clause-few_ticks
 returns-in_err-find_currents-clause-few_ticks g c = c.factor.ensures.few_ticks
@@ -403,7 +403,7 @@ pub returns-clause-made : goal.returns-clause-made
 returns-clause-made g c = ap (λ (s : Net). s.made + 1) c.self.view_is
 
 pub returns-clause-few : goal.returns-clause-few
-returns-clause-few g c = omega (arith, c.factor.ensures.few, ap (λ (s : Net). s.redone) c.self.view_is)
+returns-clause-few g c = subst (λ (s : Net). c.factor.new.redone ≤ s.redone + 1000) c.self.view_is c.factor.ensures.few
 
 pub returns-clause-few_ticks : goal.returns-clause-few_ticks
 returns-clause-few_ticks g c = c.factor.ensures.few_ticks
@@ -507,13 +507,13 @@ pub solve-requires-clause-small : goal.solve-requires-clause-small
 solve-requires-clause-small g c = subst (All (λ v. unsigned_abs v ≤ LARGEST_VALUE)) (sym c.deref_mut.ensures.value) c.self.invariant.shown.voltages_small
 
 pub accept-requires-clause-each : goal.accept-requires-clause-each
-accept-requires-clause-each g c = ap length (c.deref-3.ensures.value ∙ with_items_is c.self.inside.voltages c.solve.new.voltages (omega (arith, c.solve.auto.voltages, c.deref_mut.ensures.len))) ∙ c.solve.auto.voltages ∙ ap length c.deref_mut.ensures.value ∙ c.self.invariant.shown.voltages_count
+accept-requires-clause-each g c = ap length (c.deref-3.ensures.value ∙ with_items_is c.self.inside.voltages c.solve.new.voltages (c.solve.auto.voltages ∙ c.deref_mut.ensures.len)) ∙ c.solve.auto.voltages ∙ ap length c.deref_mut.ensures.value ∙ c.self.invariant.shown.voltages_count
 
 pub accept-requires-clause-currents : goal.accept-requires-clause-currents
 accept-requires-clause-currents g c = ap length c.deref_mut-2.ensures.value ∙ c.self.invariant.shown.currents_count
 
 pub find_currents-requires-clause-currents : goal.find_currents-requires-clause-currents
-find_currents-requires-clause-currents g c = ap length (c.deref-4.ensures.value ∙ with_items_is c.self.inside.currents c.accept.new.currents (omega (arith, c.accept.auto.currents, c.deref_mut-2.ensures.len))) ∙ c.accept.auto.currents ∙ ap length c.deref_mut-2.ensures.value ∙ c.self.invariant.shown.currents_count
+find_currents-requires-clause-currents g c = ap length (c.deref-4.ensures.value ∙ with_items_is c.self.inside.currents c.accept.new.currents (c.accept.auto.currents ∙ c.deref_mut-2.ensures.len)) ∙ c.accept.auto.currents ∙ ap length c.deref_mut-2.ensures.value ∙ c.self.invariant.shown.currents_count
 
 pub find_currents-requires-clause-out : goal.find_currents-requires-clause-out
 find_currents-requires-clause-out g c = ap length c.deref_mut-3.ensures.value ∙ c.self.invariant.shown.switch_count

@@ -11,7 +11,7 @@ use Rattle.emtp_net.proofs.nodal_system.NodalSystem.decide.Goals as goal
 pub set_kinds-requires : goal.set_kinds-requires
 set_kinds-requires c =
     let holds : HoldsSwitches c.args.case.now.parts c.decide.new.self = record { case_is = c.decide.ensures.case ∙ c.requires.switches.case_is; rows_are = c.decide.ensures.rows ∙ c.requires.switches.rows_are } in
-    let read : c.deref.result.now ≡ c.kinds.new.out = c.deref.ensures.value ∙ with_items_is c.args.self.now.kinds c.kinds.new.out (omega (arith, c.kinds.auto.out, c.deref_mut.ensures.len)) in
+    let read : c.deref.result.now ≡ c.kinds.new.out = c.deref.ensures.value ∙ with_items_is c.args.self.now.kinds c.kinds.new.out (c.kinds.auto.out ∙ c.deref_mut.ensures.len) in
     rw read (are_kinds c.args.case.now.parts c.args.rows.now.nodal.case c.decide.new.self c.kinds.new.out holds c.requires.rows c.in-Ok.ensures.are)
 
 pub returns-in-Ok-clause-touched : goal.returns-in-Ok-clause-touched
@@ -25,7 +25,7 @@ returns-in-Ok-clause-decided c = λ H stands latest.
     let case = c.args.case.now.parts in
     let holds : HoldsSwitches case c.decide.new.self = record { case_is = c.decide.ensures.case ∙ c.requires.switches.case_is; rows_are = c.decide.ensures.rows ∙ c.requires.switches.rows_are } in
     let states = states_next case H c.decide.new.self (λ r is. c.decide.ensures.stands H r stands latest (is ∙ ap (λ (p : Parts). next_states p H) (sym c.requires.switches.case_is))) in
-    let whole = with_items_is c.args.self.now.kinds c.kinds.new.out (omega (arith, c.kinds.auto.out, c.deref_mut.ensures.len)) in
+    let whole = with_items_is c.args.self.now.kinds c.kinds.new.out (c.kinds.auto.out ∙ c.deref_mut.ensures.len) in
     let kinds = kinds_next case H c.decide.new.self c.kinds.new.out holds states c.in-Ok.ensures.kinds in
     record {
       free = tied_next case H c.decide.new.self _ holds states c.in-Ok.ensures.untied;

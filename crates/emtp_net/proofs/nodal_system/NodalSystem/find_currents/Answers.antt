@@ -29,19 +29,19 @@ pub returns-in-Ok-clause-leaving : goal.returns-in-Ok-clause-leaving
 returns-in-Ok-clause-leaving c = λ H vs moved values.
     let case = c.args.case.now.parts in
     let next = is_next case H vs in
-    with_items_is c.args.self.now.right c.fill_leaving.new.out (omega (arith, c.fill_leaving.auto.out, c.deref_mut.ensures.len)) ∙ c.fill_leaving.ensures.value H vs (next_record H case vs) next moved (c.deref.ensures.value ∙ values) ∙ ap (leaving_rows case H) next.branches
+    with_items_is c.args.self.now.right c.fill_leaving.new.out (c.fill_leaving.auto.out ∙ c.deref_mut.ensures.len) ∙ c.fill_leaving.ensures.value H vs (next_record H case vs) next moved (c.deref.ensures.value ∙ values) ∙ ap (leaving_rows case H) next.branches
 
 pub returns-in-Err-clause-leaving : goal.returns-in-Err-clause-leaving
 returns-in-Err-clause-leaving c = λ H vs moved values.
     let case = c.args.case.now.parts in
     let next = is_next case H vs in
-    with_items_is c.args.self.now.right c.fill_leaving.new.out (omega (arith, c.fill_leaving.auto.out, c.deref_mut.ensures.len)) ∙ c.fill_leaving.ensures.value H vs (next_record H case vs) next moved (c.deref.ensures.value ∙ values) ∙ ap (leaving_rows case H) next.branches
+    with_items_is c.args.self.now.right c.fill_leaving.new.out (c.fill_leaving.auto.out ∙ c.deref_mut.ensures.len) ∙ c.fill_leaving.ensures.value H vs (next_record H case vs) next moved (c.deref.ensures.value ∙ values) ∙ ap (leaving_rows case H) next.branches
 
 pub returns-in-Ok-clause-found : goal.returns-in-Ok-clause-found
 returns-in-Ok-clause-found c = λ H vs voltages moved values states.
     let case = c.args.case.now.parts in
     let next = is_next case H vs in
-    let leave : c.deref-2.result.now ≡ leaving_rows case H (states_at case H vs) = c.deref-2.ensures.value ∙ with_items_is c.args.self.now.right c.fill_leaving.new.out (omega (arith, c.fill_leaving.auto.out, c.deref_mut.ensures.len))
+    let leave : c.deref-2.result.now ≡ leaving_rows case H (states_at case H vs) = c.deref-2.ensures.value ∙ with_items_is c.args.self.now.right c.fill_leaving.new.out (c.fill_leaving.auto.out ∙ c.deref_mut.ensures.len)
     ∙ c.fill_leaving.ensures.value H vs (next_record H case vs) next moved (c.deref.ensures.value ∙ values) ∙ ap (leaving_rows case H) next.branches in
     let are : c.currents.new.out ≡ switch_currents_at case H (states_at case H vs) = c.in-Ok.ensures.value ∙ currents_next case H c.args.switches.now (states_at case H vs) c.deref-2.result.now c.requires.switches states leave in
     record { are = are; within = ap first_beyond (sym are) ∙ none_beyond c.currents.new.out c.in-Ok.ensures.small }
@@ -50,22 +50,22 @@ pub returns-in-Err-clause-ends : goal.returns-in-Err-clause-ends
 returns-in-Err-clause-ends c = λ H vs voltages moved values states.
     let case = c.args.case.now.parts in
     let next = is_next case H vs in
-    let leave : c.deref-2.result.now ≡ leaving_rows case H (states_at case H vs) = c.deref-2.ensures.value ∙ with_items_is c.args.self.now.right c.fill_leaving.new.out (omega (arith, c.fill_leaving.auto.out, c.deref_mut.ensures.len))
+    let leave : c.deref-2.result.now ≡ leaving_rows case H (states_at case H vs) = c.deref-2.ensures.value ∙ with_items_is c.args.self.now.right c.fill_leaving.new.out (c.fill_leaving.auto.out ∙ c.deref_mut.ensures.len)
     ∙ c.fill_leaving.ensures.value H vs (next_record H case vs) next moved (c.deref.ensures.value ∙ values) ∙ ap (leaving_rows case H) next.branches in
     let first = subst (λ l. IsFirstBeyond l c.in-Err.fault.switch) (currents_next case H c.args.switches.now (states_at case H vs) c.deref-2.result.now c.requires.switches states leave) c.in-Err.ensures.first in
     record { is = switch_ends case H vs c.in-Err.fault.switch c.switch_name.result voltages moved.in_range (beyond_at (switch_currents_at case H (states_at case H vs)) c.in-Err.fault.switch first) c.switch_name.ensures.value; adds = refl }
 
 pub returns-in-Ok-clause-room : goal.returns-in-Ok-clause-room
-returns-in-Ok-clause-room c = room c.args.case.now.parts c.args.self.now c.fill_leaving.new.out c.requires.room (c.fill_leaving.auto.out ∙ ap length c.deref_mut.ensures.value) (with_items_is c.args.self.now.right c.fill_leaving.new.out (omega (arith, c.fill_leaving.auto.out, c.deref_mut.ensures.len)))
+returns-in-Ok-clause-room c = room c.args.case.now.parts c.args.self.now c.fill_leaving.new.out c.requires.room (c.fill_leaving.auto.out ∙ ap length c.deref_mut.ensures.value) (with_items_is c.args.self.now.right c.fill_leaving.new.out (c.fill_leaving.auto.out ∙ c.deref_mut.ensures.len))
 
 pub returns-in-Err-clause-room : goal.returns-in-Err-clause-room
-returns-in-Err-clause-room c = room c.args.case.now.parts c.args.self.now c.fill_leaving.new.out c.requires.room (c.fill_leaving.auto.out ∙ ap length c.deref_mut.ensures.value) (with_items_is c.args.self.now.right c.fill_leaving.new.out (omega (arith, c.fill_leaving.auto.out, c.deref_mut.ensures.len)))
+returns-in-Err-clause-room c = room c.args.case.now.parts c.args.self.now c.fill_leaving.new.out c.requires.room (c.fill_leaving.auto.out ∙ ap length c.deref_mut.ensures.value) (with_items_is c.args.self.now.right c.fill_leaving.new.out (c.fill_leaving.auto.out ∙ c.deref_mut.ensures.len))
 
 pub returns-in-Ok-clause-small : goal.returns-in-Ok-clause-small
-returns-in-Ok-clause-small c = small _ _ _ c.fill_leaving.new.out c.fill_leaving.ensures.small (ap length c.deref_mut.ensures.value ∙ c.requires.room.right) (with_items_is c.args.self.now.right c.fill_leaving.new.out (omega (arith, c.fill_leaving.auto.out, c.deref_mut.ensures.len)))
+returns-in-Ok-clause-small c = small _ _ _ c.fill_leaving.new.out c.fill_leaving.ensures.small (ap length c.deref_mut.ensures.value ∙ c.requires.room.right) (with_items_is c.args.self.now.right c.fill_leaving.new.out (c.fill_leaving.auto.out ∙ c.deref_mut.ensures.len))
 
 pub returns-in-Err-clause-small : goal.returns-in-Err-clause-small
-returns-in-Err-clause-small c = small _ _ _ c.fill_leaving.new.out c.fill_leaving.ensures.small (ap length c.deref_mut.ensures.value ∙ c.requires.room.right) (with_items_is c.args.self.now.right c.fill_leaving.new.out (omega (arith, c.fill_leaving.auto.out, c.deref_mut.ensures.len)))
+returns-in-Err-clause-small c = small _ _ _ c.fill_leaving.new.out c.fill_leaving.ensures.small (ap length c.deref_mut.ensures.value ∙ c.requires.room.right) (with_items_is c.args.self.now.right c.fill_leaving.new.out (c.fill_leaving.auto.out ∙ c.deref_mut.ensures.len))
 
 pub returns-in-Err-clause-node : goal.returns-in-Err-clause-node
 returns-in-Err-clause-node c = c.switch_name.ensures.node

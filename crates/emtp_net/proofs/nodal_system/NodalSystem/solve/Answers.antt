@@ -19,14 +19,14 @@ pub returns-in-Err-clause-ends : goal.returns-in-Err-clause-ends
 returns-in-Err-clause-ends c = λ H posed.
     let case = c.args.case.now.parts in
     let given : c.fill_right.new.out ≡ right case H = c.fill_right.ensures H posed.stands (c.deref.ensures.value ∙ posed.kinds) (c.deref-3.ensures.value ∙ posed.values) in
-    let read = c.deref_mut-2.ensures.value ∙ with_items_is c.args.self.now.right c.fill_right.new.out (omega (arith, c.fill_right.auto.out, c.deref_mut.ensures.len)) ∙ given in
+    let read = c.deref_mut-2.ensures.value ∙ with_items_is c.args.self.now.right c.fill_right.new.out (c.fill_right.auto.out ∙ c.deref_mut.ensures.len) ∙ given in
     let solved : outcome (matrix case H) (right case H) ≡ _ = sym (ap (λ rows. outcome rows c.deref_mut-2.result.now) posed.kept_is ∙ ap (outcome (matrix case H)) read) ∙ c.in-Err.ensures.fault in
     record { is = solve_ends case H c.in-Err.fault c.node_at.result posed.free solved (sym c.node_at.ensures.node ∙ order_at case c.args.order.now c.in-Err.fault.row c.requires.order); adds = refl }
 
 pub returns-in-Ok-clause-small : goal.returns-in-Ok-clause-small
 returns-in-Ok-clause-small c =
     let case = c.args.case.now.parts in
-    let whole = with_items_is c.args.self.now.x c.solve.new.x (omega (arith, c.solve.auto.x, c.deref_mut-3.ensures.len)) in
+    let whole = with_items_is c.args.self.now.x c.solve.new.x (c.solve.auto.x ∙ c.deref_mut-3.ensures.len) in
     subst (All (λ v. unsigned_abs v ≤ LARGEST_VALUE)) (sym (c.fill_voltages.ensures ∙ ap (voltages_of case) (c.deref-in-Ok.ensures.value ∙ whole))) (voltages_small case c.solve.new.x c.in-Ok.ensures.within)
 
 pub fill_right-requires-clause-order : goal.fill_right-requires-clause-order
@@ -51,7 +51,7 @@ pub solve-requires-clause-all : goal.solve-requires-clause-all
 solve-requires-clause-all c = c.requires.all ∙ sym c.requires.size
 
 pub solve-requires-clause-rhs : goal.solve-requires-clause-rhs
-solve-requires-clause-rhs c = ap length (c.deref_mut-2.ensures.value ∙ with_items_is c.args.self.now.right c.fill_right.new.out (omega (arith, c.fill_right.auto.out, c.deref_mut.ensures.len))) ∙ c.fill_right.auto.out ∙ ap length c.deref_mut.ensures.value ∙ c.requires.room.right ∙ sym c.requires.size
+solve-requires-clause-rhs c = ap length (c.deref_mut-2.ensures.value ∙ with_items_is c.args.self.now.right c.fill_right.new.out (c.fill_right.auto.out ∙ c.deref_mut.ensures.len)) ∙ c.fill_right.auto.out ∙ ap length c.deref_mut.ensures.value ∙ c.requires.room.right ∙ sym c.requires.size
 
 pub solve-requires-clause-x : goal.solve-requires-clause-x
 solve-requires-clause-x c = ap length c.deref_mut-3.ensures.value ∙ c.requires.room.x ∙ sym c.requires.size
@@ -90,7 +90,7 @@ pub returns-in-Ok-clause-solved : goal.returns-in-Ok-clause-solved
 returns-in-Ok-clause-solved c = λ H posed.
     let case = c.args.case.now.parts in
     let given : c.fill_right.new.out ≡ right case H = c.fill_right.ensures H posed.stands (c.deref.ensures.value ∙ posed.kinds) (c.deref-3.ensures.value ∙ posed.values) in
-    let read = c.deref_mut-2.ensures.value ∙ with_items_is c.args.self.now.right c.fill_right.new.out (omega (arith, c.fill_right.auto.out, c.deref_mut.ensures.len)) ∙ given in
+    let read = c.deref_mut-2.ensures.value ∙ with_items_is c.args.self.now.right c.fill_right.new.out (c.fill_right.auto.out ∙ c.deref_mut.ensures.len) ∙ given in
     let solved : outcome (matrix case H) (right case H) ≡ _ = sym (ap (λ rows. outcome rows c.deref_mut-2.result.now) posed.kept_is ∙ ap (outcome (matrix case H)) read) ∙ c.in-Ok.ensures.solved in
-    let whole = with_items_is c.args.self.now.x c.solve.new.x (omega (arith, c.solve.auto.x, c.deref_mut-3.ensures.len)) in
+    let whole = with_items_is c.args.self.now.x c.solve.new.x (c.solve.auto.x ∙ c.deref_mut-3.ensures.len) in
     record { free = posed.free; x = c.solve.new.x; solved = solved; are = c.fill_voltages.ensures ∙ ap (voltages_of case) (c.deref-in-Ok.ensures.value ∙ whole) }
