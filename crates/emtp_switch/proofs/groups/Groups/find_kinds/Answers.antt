@@ -28,8 +28,8 @@ returns-clause-kinds c =
     let roots = c.args.self.now.roots.items in
     let tallies = c.count.new.tallies in
     let ends = c.args.plan.now.ends.items in
-    let same : c.deref-5.result.now ≡ tallies = c.deref-5.ensures.value ∙ with_items_is c.args.self.now.tallies tallies (omega (arith, ap length c.deref_mut.ensures.value, c.deref_mut.ensures.len)) in
-    with_items_is c.args.self.now.kinds c.find_kinds.new.kinds (omega (arith, ap length c.deref_mut-2.ensures.value, c.deref_mut-2.ensures.len)) ∙ c.find_kinds.ensures
+    let same : c.deref-5.result.now ≡ tallies = c.deref-5.ensures.value ∙ with_items_is c.args.self.now.tallies tallies (c.count.auto.tallies ∙ c.deref_mut.ensures.len) in
+    with_items_is c.args.self.now.kinds c.find_kinds.new.kinds (c.find_kinds.auto.kinds ∙ c.deref_mut-2.ensures.len) ∙ c.find_kinds.ensures
     ∙ ap (λ l. map (kind_found rows l c.deref-4.result.now c.deref-5.result.now) rows.nodes) c.deref-3.ensures.value ∙ ap (λ l. map (kind_found rows labels l c.deref-5.result.now) rows.nodes) c.deref-4.ensures.value
     ∙ ap (λ l. map (kind_found rows labels roots l) rows.nodes) same
     ∙ kinds_found p rows c.args.plan.now labels roots tallies c.requires.plan c.requires.roots

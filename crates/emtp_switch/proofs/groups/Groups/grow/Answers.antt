@@ -15,7 +15,7 @@ find_roots-requires-clause-labels c =
 pub mark-requires-clause-labels : goal.mark-requires-clause-labels
 mark-requires-clause-labels c =
     let roots = c.find_roots.new.roots in
-    let same : c.deref-3.result.now ≡ roots = c.deref-3.ensures.value ∙ with_items_is c.args.self.now.roots roots (omega (arith, ap length c.deref_mut.ensures.value, c.deref_mut.ensures.len)) in
+    let same : c.deref-3.result.now ≡ roots = c.deref-3.ensures.value ∙ with_items_is c.args.self.now.roots roots (c.find_roots.auto.roots ∙ c.deref_mut.ensures.len) in
     labels_small c.args.case.now.parts.switches (length c.args.order.now.nodes) (take c.args.bridges c.args.self.now.bridges.items) c.deref-4.result.now (length c.deref-3.result.now) c.requires.plan.ends_within
     (c.deref-4.ensures.value ∙ c.requires.labels) (omega (arith, ap length same, ap length c.deref_mut.ensures.value, c.requires.room.roots_size, c.requires.plan.same_nodes))
 
@@ -26,7 +26,7 @@ returns-clause-roots c = λ x in_x.
     let ranked = c.args.plan.now.ranked.items in
     let roots = c.find_roots.new.roots in
     let before : ℕ → ℕ = λ l. slice_index c.deref_mut.result.now l in
-    let kept : (with_items c.args.self.now.roots roots).items ≡ roots = with_items_is c.args.self.now.roots roots (omega (arith, ap length c.deref_mut.ensures.value, c.deref_mut.ensures.len)) in
+    let kept : (with_items c.args.self.now.roots roots).items ≡ roots = with_items_is c.args.self.now.roots roots (c.find_roots.auto.roots ∙ c.deref_mut.ensures.len) in
     ap (λ l. slice_index l (slice_index labels x)) kept
     ∙ roots_are rows labels ranked roots before (ranked_is c.args.case.now.parts rows c.args.plan.now c.requires.plan) (omega (arith, c.requires.room.labels_size, c.requires.plan.same_nodes))
     (labels_small c.args.case.now.parts.switches (length rows.nodes) (take c.args.bridges c.args.self.now.bridges.items) labels (length roots) c.requires.plan.ends_within c.requires.labels
@@ -44,14 +44,14 @@ returns-clause-tree c =
     let taken = take c.args.bridges c.deref-5.result.now in
     let same_es : taken ≡ es = ap (take c.args.bridges) c.deref-5.ensures.value in
     let reached = c.deref_mut-3.result.now in
-    let same_reached : reached ≡ c.mark.new.reached = c.deref_mut-3.ensures.value ∙ with_items_is c.args.self.now.reached c.mark.new.reached (omega (arith, ap length c.deref_mut-2.ensures.value, c.deref_mut-2.ensures.len)) in
+    let same_reached : reached ≡ c.mark.new.reached = c.deref_mut-3.ensures.value ∙ with_items_is c.args.self.now.reached c.mark.new.reached (c.mark.auto.reached ∙ c.deref_mut-2.ensures.len) in
     let size : length labels ≡ n + 1 = omega (arith, c.requires.room.labels_size, c.requires.plan.same_nodes) in
     let start : StartsAtRoots rows labels reached = roots_start rows labels c.args.plan.now.ranked.items c.deref-3.result.now reached (ranked_is p rows c.args.plan.now c.requires.plan) size
     (λ x in_x. ap (λ l. slice_index l (slice_index labels x)) c.deref-3.ensures.value ∙ returns-clause-roots c x in_x)
     (λ x below. ap (λ l. is_reached l x) same_reached ∙ c.mark.ensures x (omega (arith, ap length c.deref-4.ensures.value)) ∙ ap (λ l. slice_index c.deref-3.result.now (slice_index l x) == x) c.deref-4.ensures.value) in
     let by_bridges : labels ≡ groups read (alone n) taken = c.requires.labels ∙ ap (groups p.switches (alone n)) (sym same_es) ∙ ap (λ sw. groups sw (alone n) taken) (sym c.as_slice-switches.ensures) in
     tree_found p.switches read rows es taken labels (take c.grow-self.result c.grow-self.new.links) (take c.grow-self.result (with_items c.args.self.now.links c.grow-self.new.links).items) c.as_slice-switches.ensures same_es c.requires.labels
-    (ap (take c.grow-self.result) (with_items_is c.args.self.now.links c.grow-self.new.links (omega (arith, ap length c.deref_mut-4.ensures.value, c.deref_mut-4.ensures.len))))
+    (ap (take c.grow-self.result) (with_items_is c.args.self.now.links c.grow-self.new.links (c.grow-self.auto.links ∙ c.deref_mut-4.ensures.len)))
     (c.grow-self.ensures.tree (subst (λ l. StartsAtRoots rows l reached) by_bridges start))
 
 pub find_roots-requires-clause-ranked : goal.find_roots-requires-clause-ranked
@@ -68,8 +68,8 @@ grow-self-requires-clause-ground c =
     let roots = c.find_roots.new.roots in
     let l = slice_index labels 0 in
     let before = slice_index c.deref_mut.result.now l in
-    let kept : c.deref-3.result.now ≡ roots = c.deref-3.ensures.value ∙ with_items_is c.args.self.now.roots roots (omega (arith, ap length c.deref_mut.ensures.value, c.deref_mut.ensures.len)) in
-    let same_reached : c.deref_mut-3.result.now ≡ c.mark.new.reached = c.deref_mut-3.ensures.value ∙ with_items_is c.args.self.now.reached c.mark.new.reached (omega (arith, ap length c.deref_mut-2.ensures.value, c.deref_mut-2.ensures.len)) in
+    let kept : c.deref-3.result.now ≡ roots = c.deref-3.ensures.value ∙ with_items_is c.args.self.now.roots roots (c.find_roots.auto.roots ∙ c.deref_mut.ensures.len) in
+    let same_reached : c.deref_mut-3.result.now ≡ c.mark.new.reached = c.deref_mut-3.ensures.value ∙ with_items_is c.args.self.now.reached c.mark.new.reached (c.mark.auto.reached ∙ c.deref_mut-2.ensures.len) in
     let small = labels_small c.args.case.now.parts.switches (length rows.nodes) (take c.args.bridges c.args.self.now.bridges.items) labels (length c.deref_mut.result.now) c.requires.plan.ends_within c.requires.labels
     (omega (arith, ap length c.deref_mut.ensures.value, c.requires.room.roots_size, c.requires.plan.same_nodes)) in
     ground_reached rows labels ranked roots before c.deref_mut-3.result.now (ranked_is c.args.case.now.parts rows c.args.plan.now c.requires.plan)
@@ -77,7 +77,7 @@ grow-self-requires-clause-ground c =
     (ap (λ r. is_reached r 0) same_reached ∙ c.mark.ensures 0 (omega (arith, ap length c.deref-4.ensures.value, c.requires.room.labels_size)) ∙ ap (λ k. slice_index c.deref-3.result.now (slice_index k 0) == 0) c.deref-4.ensures.value ∙ ap (λ k. slice_index k l == 0) kept)
 
 pub returns-clause-within : goal.returns-clause-within
-returns-clause-within c = rw (with_items_is c.args.self.now.links c.grow-self.new.links (omega (arith, ap length c.deref_mut-4.ensures.value, c.deref_mut-4.ensures.len))) c.grow-self.ensures.within
+returns-clause-within c = rw (with_items_is c.args.self.now.links c.grow-self.new.links (c.grow-self.auto.links ∙ c.deref_mut-4.ensures.len)) c.grow-self.ensures.within
 
 pub grow-self-requires-clause-size : goal.grow-self-requires-clause-size
 grow-self-requires-clause-size c = omega (arith, c.deref_mut-3.ensures.len, c.deref_mut-2.ensures.len, ap length c.deref_mut-2.ensures.value, c.requires.room.reached_size, c.requires.plan.same_nodes)
@@ -90,9 +90,9 @@ returns-clause-room c =
       labels_size = room.labels_size;
       knowing_size = room.knowing_size;
       bridges_size = room.bridges_size;
-      roots_size = rw (with_items_is s.roots c.find_roots.new.roots (omega (arith, ap length c.deref_mut.ensures.value, c.deref_mut.ensures.len))) (omega (arith, ap length c.deref_mut.ensures.value, room.roots_size));
-      reached_size = rw (with_items_is (with_items s.reached c.mark.new.reached) c.grow-self.new.reached (omega (arith, c.deref_mut-3.ensures.len))) (omega (arith, c.deref_mut-3.ensures.len, c.deref_mut-2.ensures.len, ap length c.deref_mut-2.ensures.value, room.reached_size));
-      links_size = rw (with_items_is s.links c.grow-self.new.links (omega (arith, ap length c.deref_mut-4.ensures.value, c.deref_mut-4.ensures.len))) (omega (arith, ap length c.deref_mut-4.ensures.value, room.links_size));
+      roots_size = rw (with_items_is s.roots c.find_roots.new.roots (c.find_roots.auto.roots ∙ c.deref_mut.ensures.len)) (omega (arith, ap length c.deref_mut.ensures.value, room.roots_size));
+      reached_size = rw (with_items_is (with_items s.reached c.mark.new.reached) c.grow-self.new.reached (c.grow-self.auto.reached ∙ c.deref_mut-3.ensures.len)) (omega (arith, c.deref_mut-3.ensures.len, c.deref_mut-2.ensures.len, ap length c.deref_mut-2.ensures.value, room.reached_size));
+      links_size = rw (with_items_is s.links c.grow-self.new.links (c.grow-self.auto.links ∙ c.deref_mut-4.ensures.len)) (omega (arith, ap length c.deref_mut-4.ensures.value, room.links_size));
       tallies_size = room.tallies_size;
       kinds_size = room.kinds_size;
     }

@@ -12,7 +12,7 @@ find_bridges-found-requires-clause-marks c =
     let n = length p.nodes in
     let first = c.reset.new.labels in
     let is : first ≡ alone n = c.reset.ensures n (omega (arith, ap length c.deref_mut.ensures.value, c.requires.room.labels_size)) in
-    let read : c.deref_mut-2.result.now ≡ first = c.deref_mut-2.ensures.value ∙ with_items_is c.args.self.now.labels first (omega (arith, ap length c.deref_mut.ensures.value, c.deref_mut.ensures.len)) in
+    let read : c.deref_mut-2.result.now ≡ first = c.deref_mut-2.ensures.value ∙ with_items_is c.args.self.now.labels first (c.reset.auto.labels ∙ c.deref_mut.ensures.len) in
     labels_small p.switches n [] c.deref_mut-2.result.now (length c.deref_mut-3.result.now) (switch_ends p c.args.case.now.fits) (read ∙ is) (omega (arith, ap length c.deref_mut-3.ensures.value, ap length c.copy_from_slice.ensures.items, ap length c.deref.ensures.value, c.requires.known))
 
 pub returns-clause-tied : goal.returns-clause-tied
@@ -23,7 +23,7 @@ returns-clause-tied c = λ rows plan.
     let first = c.reset.new.labels in
     let is : first ≡ alone n = c.reset.ensures n (omega (arith, ap length c.deref_mut.ensures.value, c.requires.room.labels_size)) in
     let read : c.deref_mut-2.result.now ≡ alone (length rows.nodes)
-    = c.deref_mut-2.ensures.value ∙ with_items_is c.args.self.now.labels first (omega (arith, ap length c.deref_mut.ensures.value, c.deref_mut.ensures.len)) ∙ is ∙ ap alone (sym plan.same_nodes) in
+    = c.deref_mut-2.ensures.value ∙ with_items_is c.args.self.now.labels first (c.reset.auto.labels ∙ c.deref_mut.ensures.len) ∙ is ∙ ap alone (sym plan.same_nodes) in
     let marks : c.deref_mut-3.result.now ≡ c.args.plan.now.known.items = c.deref_mut-3.ensures.value ∙ c.copy_from_slice.ensures.items ∙ c.deref.ensures.value in
     tied_found c.as_slice-switches.result.now p.switches rows c.args.states.now c.deref_mut-2.result.now c.deref_mut-3.result.now c.args.plan.now.known.items c.find_bridges-found.result.tied c.as_slice-switches.ensures read marks plan.nodes_within plan.known c.find_bridges-found.ensures.tied
 
@@ -43,8 +43,8 @@ returns-clause-labels c =
     let closed = closed_switches c.args.states.now in
     let first = c.reset.new.labels in
     let is : first ≡ alone n = c.reset.ensures n (omega (arith, ap length c.deref_mut.ensures.value, c.requires.room.labels_size)) in
-    let read : c.deref_mut-2.result.now ≡ first = c.deref_mut-2.ensures.value ∙ with_items_is c.args.self.now.labels first (omega (arith, ap length c.deref_mut.ensures.value, c.deref_mut.ensures.len)) in
-    with_items_is (with_items c.args.self.now.labels first) c.find_bridges-found.new.labels (omega (arith, c.deref_mut-2.ensures.len)) ∙ c.find_bridges-found.ensures.labels
+    let read : c.deref_mut-2.result.now ≡ first = c.deref_mut-2.ensures.value ∙ with_items_is c.args.self.now.labels first (c.reset.auto.labels ∙ c.deref_mut.ensures.len) in
+    with_items_is (with_items c.args.self.now.labels first) c.find_bridges-found.new.labels (c.find_bridges-found.auto.labels ∙ c.deref_mut-2.ensures.len) ∙ c.find_bridges-found.ensures.labels
     ∙ ap (λ l. groups c.as_slice-switches.result.now l closed) (read ∙ is) ∙ ap (λ sw. groups sw (alone n) closed) c.as_slice-switches.ensures
 
 pub returns-clause-bridges : goal.returns-clause-bridges
@@ -54,8 +54,8 @@ returns-clause-bridges c =
     let closed = closed_switches c.args.states.now in
     let first = c.reset.new.labels in
     let is : first ≡ alone n = c.reset.ensures n (omega (arith, ap length c.deref_mut.ensures.value, c.requires.room.labels_size)) in
-    let read : c.deref_mut-2.result.now ≡ first = c.deref_mut-2.ensures.value ∙ with_items_is c.args.self.now.labels first (omega (arith, ap length c.deref_mut.ensures.value, c.deref_mut.ensures.len)) in
-    ap (take c.find_bridges-found.result.bridges) (with_items_is c.args.self.now.bridges c.find_bridges-found.new.found (omega (arith, c.deref_mut-4.ensures.len))) ∙ c.find_bridges-found.ensures.bridges
+    let read : c.deref_mut-2.result.now ≡ first = c.deref_mut-2.ensures.value ∙ with_items_is c.args.self.now.labels first (c.reset.auto.labels ∙ c.deref_mut.ensures.len) in
+    ap (take c.find_bridges-found.result.bridges) (with_items_is c.args.self.now.bridges c.find_bridges-found.new.found (c.find_bridges-found.auto.found ∙ c.deref_mut-4.ensures.len)) ∙ c.find_bridges-found.ensures.bridges
     ∙ ap (λ l. bridges c.as_slice-switches.result.now l closed) (read ∙ is) ∙ ap (λ sw. bridges sw (alone n) closed) c.as_slice-switches.ensures
 
 pub returns-clause-room : goal.returns-clause-room
@@ -63,11 +63,11 @@ returns-clause-room c =
     let s = c.args.self.now in
     let room = c.requires.room in
     record {
-      labels_size = rw (with_items_is (with_items s.labels c.reset.new.labels) c.find_bridges-found.new.labels (omega (arith, c.deref_mut-2.ensures.len)))
+      labels_size = rw (with_items_is (with_items s.labels c.reset.new.labels) c.find_bridges-found.new.labels (c.find_bridges-found.auto.labels ∙ c.deref_mut-2.ensures.len))
           (omega (arith, c.deref_mut-2.ensures.len, c.deref_mut.ensures.len, ap length c.deref_mut.ensures.value, room.labels_size));
-      knowing_size = rw (with_items_is c.copy_from_slice.new.self c.find_bridges-found.new.marks (omega (arith, c.deref_mut-3.ensures.len)))
+      knowing_size = rw (with_items_is c.copy_from_slice.new.self c.find_bridges-found.new.marks (c.find_bridges-found.auto.marks ∙ c.deref_mut-3.ensures.len))
           (omega (arith, ap length c.deref_mut-3.ensures.value, ap length c.copy_from_slice.ensures.items, ap length c.deref.ensures.value, c.requires.known));
-      bridges_size = rw (with_items_is s.bridges c.find_bridges-found.new.found (omega (arith, c.deref_mut-4.ensures.len))) (omega (arith, ap length c.deref_mut-4.ensures.value, room.bridges_size));
+      bridges_size = rw (with_items_is s.bridges c.find_bridges-found.new.found (c.find_bridges-found.auto.found ∙ c.deref_mut-4.ensures.len)) (omega (arith, ap length c.deref_mut-4.ensures.value, room.bridges_size));
       roots_size = room.roots_size;
       reached_size = room.reached_size;
       links_size = room.links_size;

@@ -13,14 +13,14 @@ pub sweep-requires-clause-light : goal.sweep-requires-clause-light
 sweep-requires-clause-light c =
     let s = c.self.inside in
     let rest = c.load.new.rest in
-    let read : c.deref_mut-3.result.now ≡ rest = c.deref_mut-3.ensures.value ∙ with_items_is s.rest rest (omega (arith, ap length c.deref_mut.ensures.value, c.deref_mut.ensures.len)) in
+    let read : c.deref_mut-3.result.now ≡ rest = c.deref_mut-3.ensures.value ∙ with_items_is s.rest rest (c.load.auto.rest ∙ c.deref_mut.ensures.len) in
     light_first c.args.leaving.now c.deref_mut-3.result.now
     (omega (arith, c.requires.leaving, ap (λ (x : Switching). length x.case.nodes) c.self.view_is, s.case.now.fits.draft.counts.nodes)) c.requires.small (read ∙ c.load.ensures)
 
 pub sweep-requires-clause-still : goal.sweep-requires-clause-still
 sweep-requires-clause-still c = λ s.
     let flows = c.clear.new.flows in
-    ap (λ l. item l s) (c.deref_mut-4.ensures.value ∙ with_items_is c.self.inside.flows flows (omega (arith, ap length c.deref_mut-2.ensures.value, c.deref_mut-2.ensures.len))) ∙ c.clear.ensures s
+    ap (λ l. item l s) (c.deref_mut-4.ensures.value ∙ with_items_is c.self.inside.flows flows (c.clear.auto.flows ∙ c.deref_mut-2.ensures.len)) ∙ c.clear.ensures s
 
 -- what the sweep starts from, and where its flows are read
 record HasSwept (c : goal.After-out-1) : Type 0 where
@@ -41,7 +41,7 @@ has_swept c =
     let size : length flows ≡ s.flows.len = omega (arith, ap length flows_old, cleared_size) in
     record {
       rows_count = omega (arith, c.requires.leaving, in_view, inv.plan_is.same_nodes);
-      first_is = c.deref_mut-3.ensures.value ∙ with_items_is s.rest c.load.new.rest (omega (arith, ap length c.deref_mut.ensures.value, c.deref_mut.ensures.len)) ∙ c.load.ensures;
+      first_is = c.deref_mut-3.ensures.value ∙ with_items_is s.rest c.load.new.rest (c.load.auto.rest ∙ c.deref_mut.ensures.len) ∙ c.load.ensures;
       switches_count = omega (arith, inv.flows_size, c.deref_mut-2.ensures.len, ap length c.deref_mut-2.ensures.value, size);
       tree = subst (λ l. AreTree s.case.now.parts.switches s.order s.states.items (take s.groups.link_count l)) (sym c.deref.ensures.value) inv.groups_are.tree;
       read = c.deref-2.ensures.value ∙ with_items_is (with_items s.flows c.clear.new.flows) flows size;

@@ -23,7 +23,7 @@ returns-then-self-clause-stands c =
     let new = c.move_states-self-inside.new.states in
     stands_next c.args.self.now s.case.now.parts c.args.step c.args.voltages.now c.args.currents.now c.args.tacs.now c.deref.result.now c.copy_from_slice.new.self.items c.deref_mut.result.now new (with_items s.states new).items
     (ap (λ (x : Switching). x.case) (sym c.self.view_is)) (c.deref_mut.ensures.value ∙ ap (λ (x : Switching). x.states) c.self.view_is) (c.deref.ensures.value ∙ ap (λ (x : Switching). x.before) c.self.view_is)
-    c.move_states-self-inside.ensures.moved (with_items_is s.states new (omega (arith, c.deref_mut.ensures.len, ap length c.deref_mut.ensures.value))) c.copy_from_slice.ensures.items
+    c.move_states-self-inside.ensures.moved (with_items_is s.states new (c.move_states-self-inside.auto.states ∙ c.deref_mut.ensures.len)) c.copy_from_slice.ensures.items
 
 pub returns-else-self-clause-stands : goal.returns-else-self-clause-stands
 returns-else-self-clause-stands c =
@@ -31,25 +31,25 @@ returns-else-self-clause-stands c =
     let new = c.move_states-self-inside.new.states in
     stands_next c.args.self.now s.case.now.parts c.args.step c.args.voltages.now c.args.currents.now c.args.tacs.now c.deref.result.now c.copy_from_slice.new.self.items c.deref_mut.result.now new (with_items s.states new).items
     (ap (λ (x : Switching). x.case) (sym c.self.view_is)) (c.deref_mut.ensures.value ∙ ap (λ (x : Switching). x.states) c.self.view_is) (c.deref.ensures.value ∙ ap (λ (x : Switching). x.before) c.self.view_is)
-    c.move_states-self-inside.ensures.moved (with_items_is s.states new (omega (arith, c.deref_mut.ensures.len, ap length c.deref_mut.ensures.value))) c.copy_from_slice.ensures.items
+    c.move_states-self-inside.ensures.moved (with_items_is s.states new (c.move_states-self-inside.auto.states ∙ c.deref_mut.ensures.len)) c.copy_from_slice.ensures.items
 
 pub returns-then-self-clause-other : goal.returns-then-self-clause-other
 returns-then-self-clause-other c = λ on e.
     let s = c.self.inside in
     let new = c.move_states-self-inside.new.states in
-    let kept = with_items_is s.states new (omega (arith, c.deref_mut.ensures.len, ap length c.deref_mut.ensures.value)) in
+    let kept = with_items_is s.states new (c.move_states-self-inside.auto.states ∙ c.deref_mut.ensures.len) in
     c.move_states-self-inside.ensures.other on (sym kept ∙ e ∙ sym (c.deref_mut.ensures.value ∙ ap (λ (x : Switching). x.states) c.self.view_is))
 
 pub returns-else-self-clause-other : goal.returns-else-self-clause-other
 returns-else-self-clause-other c = λ on e.
     let s = c.self.inside in
     let new = c.move_states-self-inside.new.states in
-    let kept = with_items_is s.states new (omega (arith, c.deref_mut.ensures.len, ap length c.deref_mut.ensures.value)) in
+    let kept = with_items_is s.states new (c.move_states-self-inside.auto.states ∙ c.deref_mut.ensures.len) in
     c.move_states-self-inside.ensures.other on (sym kept ∙ e ∙ sym (c.deref_mut.ensures.value ∙ ap (λ (x : Switching). x.states) c.self.view_is))
 
 pub returns-else-self-clause-same : goal.returns-else-self-clause-same
 returns-else-self-clause-same c = λ off.
-    with_items_is c.self.inside.states c.move_states-self-inside.new.states (omega (arith, c.deref_mut.ensures.len, ap length c.deref_mut.ensures.value)) ∙ c.move_states-self-inside.ensures.same off ∙ c.deref_mut.ensures.value ∙ ap (λ (x : Switching). x.states) c.self.view_is
+    with_items_is c.self.inside.states c.move_states-self-inside.new.states (c.move_states-self-inside.auto.states ∙ c.deref_mut.ensures.len) ∙ c.move_states-self-inside.ensures.same off ∙ c.deref_mut.ensures.value ∙ ap (λ (x : Switching). x.states) c.self.view_is
 
 pub returns-else-self-clause-case : goal.returns-else-self-clause-case
 returns-else-self-clause-case c = ap (λ (x : Switching). x.case) c.self.view_is

@@ -1,4 +1,9 @@
+use Rattle.std.proofs.Common.{◌≡◌, ◌∙◌, ap, length, refl, subst, sym, arith}
+use Rattle.std.proofs.lemmas.List.{length-map, length-replicate}
 use Rattle.std.proofs.lemmas.Result.{IfOk-from_err}
+use Rattle.emtp_case.specs.RowOrder.{Rows}
+use Rattle.emtp_switch.specs.Grouping.{AreGroups}
+use Rattle.emtp_switch.specs.Plan.{IsPlan}
 use Rattle.emtp_switch.proofs.switches.Switches.open.Goals as goal
 
 pub returns-in_err-states : goal.returns-in_err-states
@@ -21,3 +26,24 @@ returns-in_err-plan c = let err = c.from_residual-in_err-plan.ensures.0 in recor
 
 pub returns-in_err-groups : goal.returns-in_err-groups
 returns-in_err-groups c = let err = c.from_residual-in_err-groups.ensures.0 in record { case = IfOk-from_err _ _ err; rows = IfOk-from_err _ _ err; stands = IfOk-from_err _ _ err }
+
+pub regroup-requires-clause-states : goal.regroup-requires-clause-states
+regroup-requires-clause-states c = ap length (c.deref.ensures.value ∙ c.in_ok-states.ensures) ∙ length-map _ _
+
+pub returns-clause-case : goal.returns-clause-case
+returns-clause-case c = refl
+
+pub returns-clause-rows : goal.returns-clause-rows
+returns-clause-rows c = c.in_ok-rows.ensures
+
+pub invariant_of-result : goal.invariant_of-result
+invariant_of-result c =
+    let p = c.args.case.now.parts in
+    record {
+      plan_is = subst (λ (o : Rows). IsPlan p o c.in_ok-plan.plan) (sym c.in_ok-rows.ensures) c.in_ok-plan.ensures;
+      groups_are = subst (λ (o : Rows). AreGroups p o c.in_ok-states.states.items c.regroup.new.self) (sym c.in_ok-rows.ensures) (subst (λ states. AreGroups p c.args.order.now states c.regroup.new.self) c.deref.ensures.value c.regroup.ensures);
+      states_size = ap length c.in_ok-states.ensures ∙ length-map _ _;
+      before_size = ap length c.in_ok-before.ensures ∙ length-replicate _ _ ∙ c.len-count.ensures;
+      rest_size = omega (arith, c.in_ok-rest.ensures.len, c.in_ok-rest.rest.ok.0, c.len.ensures);
+      flows_size = omega (arith, c.in_ok-flows.ensures.len, c.in_ok-flows.flows.ok.0, c.len-count.ensures);
+    }
