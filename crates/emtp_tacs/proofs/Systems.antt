@@ -1,5 +1,5 @@
 -- The system of the blocks, from what its stages answer.
-use Rattle.std.proofs.Common.{◌≡◌, ◌∙◌, ◌≤◌, sym, ap, subst, ℕ, ℤ, List, length, arith, Option, Some, None, Ok, Err, refl}
+use Rattle.std.proofs.Common.{◌≡◌, ◌∙◌, ◌≤◌, sym, ap, subst, ℕ, ℤ, List, length, arith, Option, Some, None, Result, Ok, Err, OnOk, IfErr, IsErrAnd, refl}
 use Rattle.emtp_blocks.proofs.Matrices.{length-control_matrix}
 use Rattle.emtp_blocks.proofs.OneByOne.{limiters_are}
 use Rattle.emtp_blocks.specs.BlockRows.{Blocking, StandsFor as BlocksStandFor, HaveAccepted, limiters_kept, rows_of_blocks}
@@ -14,7 +14,7 @@ use Rattle.emtp_elim.specs.declared.fault.SolveFault.{SolveFault}
 use Rattle.emtp_tail.proofs.Redoing.{first_change_within}
 use Rattle.emtp_tail.specs.Good.{first_change}
 use Rattle.emtp_tacs.specs.Step.{accepted, block_var, blocks, range_fault, solved_by, system_fault, with_outputs}
-use Rattle.emtp_tacs.specs.Stages.{Solves}
+use Rattle.emtp_tacs.specs.Stages.{NamesVariable, Solves}
 use Rattle.emtp_tacs.specs.declared.fault.TacsFault.{TacsFault}
 
 -- the rows of blocks that stand for the records are the matrix of the next step
@@ -65,3 +65,12 @@ system_solves case blocks_after H known xs ys values same solved took written =
 
 pub system_refuses : (case : Parts) (blocks_after : Blocking) (H : List StepRecord) (known values : List ℤ) (e : TacsFault) → blocks case H known ≡ Err e → Solves (Err e) blocks_after values H (blocks case H known)
 system_refuses case blocks_after H known values e is = subst (Solves (Err e) blocks_after values H) (sym is) refl
+
+-- a fault names a variable, and claims nothing of what follows an `Ok`, where it is returned as it came
+pub err_names : (case : Parts) (result : Result (Unit {0}) TacsFault) (e : TacsFault) → IsErrAnd result (λ y. y ≡ e) → NamesVariable case e → IfErr result (NamesVariable case)
+err_names case (Ok u) e is names = absurd is
+err_names case (Err y) e is names = subst (NamesVariable case) (sym is) names
+
+pub err_claims : (P : Type 0) (result : Result (Unit {0}) TacsFault) (e : TacsFault) → IsErrAnd result (λ y. y ≡ e) → OnOk result P
+err_claims P (Ok u) e is = absurd is
+err_claims P (Err y) e is = tt

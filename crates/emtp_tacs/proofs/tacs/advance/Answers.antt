@@ -28,7 +28,7 @@ returns-clause-advances g c = λ H long vars stands.
     let m : Measured = record { voltages = c.args.voltages.now; currents = c.args.currents.now; closed = c.args.closed.now } in
     let known = c.compute_known.new.self.values.items in
     let held = c.compute_known.new.self.devices in
-    let whole = with_items_is c.compute_known.new.self.values c.solve.new.values (omega (arith, c.solve.auto.values, c.deref_mut.ensures.len)) in
+    let whole = with_items_is c.compute_known.new.self.values c.solve.new.values (c.solve.auto.values ∙ c.deref_mut.ensures.len) in
     let took = subst (λ (xs : List ℤ). Solves (Ok tt) c.solve.new.self.blocks c.solve.new.values H (blocks case H xs)) c.deref_mut.ensures.value (c.in_ok-solve.ensures.solves H stands) in
     let done = blocks_done case H m known c.solve.new.values held c.solve.new.self.blocks (c.in_ok-compute_known.ensures.reaches H long vars) took in
     let so_far = subst (λ (ys : List ℤ). IsSoFar case H false 0 ys held (record done.s { values = done.t.values })) (sym whole) done.so_far in
@@ -36,10 +36,10 @@ returns-clause-advances g c = λ H long vars stands.
     (c.compute_extras.ensures.reaches H (record done.s { values = done.t.values }) long so_far)
 
 pub returns-in_err-solve-clause-variables : goal.returns-in_err-solve-clause-variables
-returns-in_err-solve-clause-variables g c = record { devices = c.compute_known.ensures.holds.devices; values = subst (AreKnown c.args.case.now.parts) (sym (with_items_is c.compute_known.new.self.values c.solve.new.values (omega (arith, c.solve.auto.values, c.deref_mut.ensures.len)))) c.solve.ensures.values; names = c.compute_known.ensures.holds.names }
+returns-in_err-solve-clause-variables g c = record { devices = c.compute_known.ensures.holds.devices; values = subst (AreKnown c.args.case.now.parts) (sym (with_items_is c.compute_known.new.self.values c.solve.new.values (c.solve.auto.values ∙ c.deref_mut.ensures.len))) c.solve.ensures.values; names = c.compute_known.ensures.holds.names }
 
 pub compute_extras-requires : goal.compute_extras-requires
-compute_extras-requires g c = record { holds = record { devices = c.compute_known.ensures.holds.devices; values = subst (AreKnown c.args.case.now.parts) (sym (with_items_is c.compute_known.new.self.values c.solve.new.values (omega (arith, c.solve.auto.values, c.deref_mut.ensures.len)))) c.solve.ensures.values; names = c.compute_known.ensures.holds.names } }
+compute_extras-requires g c = record { holds = record { devices = c.compute_known.ensures.holds.devices; values = subst (AreKnown c.args.case.now.parts) (sym (with_items_is c.compute_known.new.self.values c.solve.new.values (c.solve.auto.values ∙ c.deref_mut.ensures.len))) c.solve.ensures.values; names = c.compute_known.ensures.holds.names } }
 
 pub solve-requires-clause-values : goal.solve-requires-clause-values
 solve-requires-clause-values g c = subst (AreKnown c.args.case.now.parts) (sym c.deref_mut.ensures.value) c.compute_known.ensures.holds.values
