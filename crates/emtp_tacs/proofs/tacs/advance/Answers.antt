@@ -1,4 +1,4 @@
-use Rattle.std.proofs.Common.{◌∙◌, sym, ap, subst, List, ℤ, length, Ok, Err, false, refl, arith}
+use Rattle.std.proofs.Common.{◌∙◌, sym, ap, subst, List, ℤ, length, Ok, Err, false, refl}
 use Rattle.std.proofs.lemmas.List.{with_items_is}
 use Rattle.std.proofs.lemmas.Result.{err_from_is_err_and}
 use Rattle.emtp_case.specs.Control.{AreKnown}

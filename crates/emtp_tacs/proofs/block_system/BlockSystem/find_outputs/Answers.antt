@@ -1,4 +1,4 @@
-use Rattle.std.proofs.Common.{◌≡◌, ◌∙◌, sym, ap, subst, length, Ok, Err, arith}
+use Rattle.std.proofs.Common.{◌≡◌, ◌∙◌, sym, ap, subst, length, Ok, Err}
 use Rattle.std.proofs.lemmas.List.{with_items_is}
 use Rattle.emtp_blocks.proofs.OneByOne.{all_small}
 use Rattle.emtp_blocks.specs.BlockRows.{AreUnknowns}
