@@ -1,4 +1,4 @@
-use Rattle.std.proofs.Common.{◌≡◌, ◌∙◌, ◌<◌, ◌≤◌, ◌+◌, ◌-ℤ◌, ap, sym, subst, refl, ℕ, ℤ, pos, List, length, map, get_or, slice_index, slice_index_or, FitsSigned, arith, rules}
+use Rattle.std.proofs.Common.{◌≡◌, ◌∙◌, ◌<◌, ◌-ℤ◌, ap, sym, subst, refl, ℕ, ℤ, pos, List, length, map, get_or, slice_index, slice_index_or, FitsSigned, arith, rules}
 use mir.Syntax.{w64}
 use Rattle.std.proofs.lemmas.Int.{to_z-of_z}
 use Rattle.std.proofs.lemmas.List.{get_or-map}
