@@ -91,45 +91,69 @@ fn refusal(found: Found) -> Option<Bad> {
     })
 }
 
-#[test]
-fn reads_the_text_of_columns(rt: HostRuntime) {
-    let line = b"99  A =  B .AND. C";
-    let texts = [
-        (1, 2, "99"),
-        (3, 6, "A"),
-        (8, 80, "B .AND. C"),
-        (19, 80, ""),
-    ];
-    for (first, last, text) in texts {
-        assert!(rt;
-            field_text(line, first, last) == text.as_bytes(),
-            "at {first}"
-        );
-    }
-    let bytes = (byte_at(line, 7), byte_at(line, 18), byte_at(line, 19));
-    assert!(rt; bytes == (b'=', b'C', b' '));
-    assert!(rt; trim(b"  a b ") == b"a b".as_slice());
+const COLUMNS: &[u8] = b"99  A =  B .AND. C";
+
+/// The first and the last of some columns, and their text.
+const TEXTS: &[(usize, usize, &str)] = &[
+    (1, 2, "99"),
+    (3, 6, "A"),
+    (8, 80, "B .AND. C"),
+    (19, 80, ""),
+];
+
+fn has_text(first: usize, last: usize, text: &str) -> bool {
+    1 <= first && first <= last && last <= 80 && field_text(COLUMNS, first, last) == text.as_bytes()
 }
 
 #[test]
+fn reads_the_text_of_columns(rt: HostRuntime) {
+    for (first, last, text) in TEXTS {
+        let has = has_text(*first, *last, text);
+        assert!(rt; has, "at {first}");
+    }
+    assert!(rt; byte_at(COLUMNS, 7) == b'=');
+    assert!(rt; byte_at(COLUMNS, 18) == b'C');
+    assert!(rt; byte_at(COLUMNS, 19) == b' ');
+    assert!(rt; trim(b"  a b ") == b"a b".as_slice());
+}
+
+/// A field, and what it means where a blank one means 5.
+const FIELDS: &[(&str, Result<i64, Why>)] = &[
+    ("      ", Ok(5)),
+    ("     7", Ok(7)),
+    ("    10", Err(RANGE)),
+];
+
+#[test]
 fn a_blank_field_means_its_value(rt: HostRuntime) {
-    let fields = [("      ", Ok(5)), ("     7", Ok(7)), ("    10", Err(RANGE))];
-    for (field, value) in fields {
-        let is = number_or(5, field.as_bytes(), 1, 6, 0, 0, 9) == value;
+    for (field, value) in FIELDS {
+        let is = number_or(5, field.as_bytes(), 1, 6, 0, 0, 9) == *value;
         assert!(rt; is, "at {field}");
+    }
+}
+
+/// A text, and its first line with what is left after it.
+const CUT: &[(&str, Option<(&str, &str)>)] = &[
+    ("a\r\n\nb\r", Some(("a", "\nb\r"))),
+    ("\nb\r", Some(("", "b\r"))),
+    ("b\r", Some(("b\r", ""))),
+    ("", None),
+];
+
+fn is_cut(text: &[u8], wanted: Option<(&str, &str)>) -> bool {
+    match (next_line(text), wanted) {
+        (Some((line, after)), Some((first, rest))) => {
+            line == first.as_bytes() && after == rest.as_bytes()
+        }
+        (None, None) => true,
+        _ => false,
     }
 }
 
 #[test]
 fn cuts_a_text_into_lines(rt: HostRuntime) {
-    let mut rest = b"a\r\n\nb\r".as_slice();
-    for line in [b"a".as_slice(), b"", b"b\r"] {
-        let Some((first, after)) = next_line(rest) else {
-            assert!(rt; false);
-            return;
-        };
-        assert_eq!(rt; first, line);
-        rest = after;
+    for (text, wanted) in CUT {
+        let is = is_cut(text.as_bytes(), *wanted);
+        assert!(rt; is, "at {text}");
     }
-    assert!(rt; next_line(rest).is_none());
 }
