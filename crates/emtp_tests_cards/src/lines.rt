@@ -260,25 +260,38 @@ fn split(alloc: Global, text: &[u8]) -> (bool, Option<Bad>) {
     }
 }
 
+/// The front of a case, its bytes and newlines behind it, and the line that is too far.
+const LONG_CASES: &[(&str, usize, usize, Option<u32>)] = &[
+    ("", 0, 100_000, None),
+    ("", 0, 100_001, Some(100_001)),
+    ("", 9_000_000, 0, None),
+    ("", 9_000_000, 1, Some(1)),
+    ("\n", 9_000_000, 0, Some(2)),
+    ("\n\n", 8_950_000, 100_001, Some(50_001)),
+    ("\n\n", 8_800_000, 200_001, Some(100_001)),
+];
+
+fn is_refused_at(alloc: Global, text: &[u8], line: Option<u32>) -> bool {
+    let why = Why::TooManyLines;
+    let wanted = match line {
+        Some(line) => (
+            false,
+            Some(Bad {
+                line,
+                column: 1,
+                why,
+            }),
+        ),
+        None => (true, None),
+    };
+    split(alloc, text) == wanted
+}
+
 #[test]
 fn refuses_a_case_that_is_too_long(rt: HostRuntime) -> Result<(), Fail> {
-    let rows = [
-        ("", 0, 100_000, None),
-        ("", 0, 100_001, Some(100_001)),
-        ("", 9_000_000, 0, None),
-        ("", 9_000_000, 1, Some(1)),
-        ("\n", 9_000_000, 0, Some(2)),
-        ("\n\n", 8_950_000, 100_001, Some(50_001)),
-        ("\n\n", 8_800_000, 200_001, Some(100_001)),
-    ];
-    for (front, bytes, newlines, line) in rows {
-        let text = long_text(rt.alloc(), front, bytes, newlines)?;
-        let bad = line.map(|line| Bad {
-            line,
-            column: 1,
-            why: Why::TooManyLines,
-        });
-        let is = split(rt.alloc(), text.as_slice()) == (bad.is_none(), bad);
+    for (front, bytes, newlines, line) in LONG_CASES {
+        let text = long_text(rt.alloc(), front, *bytes, *newlines)?;
+        let is = is_refused_at(rt.alloc(), text.as_slice(), *line);
         drop(text);
         assert!(rt; is, "{bytes} bytes and {newlines} newlines");
     }

@@ -244,24 +244,26 @@ fn with_zeros(
     Ok(text)
 }
 
+/// What stands before and after so many zeros, and the number.
+const LONG_NUMBERS: &[(&str, usize, &str, Result<i128, Why>)] = &[
+    ("", 1_000_000, "25", Ok(25)),
+    ("-", 1_000_000, "25.5", Ok(-26)),
+    ("0.", 1_000_000, "1E300", Ok(0)),
+    (".", 299, "15E300", Ok(2)),
+    (".", 998, "145+999", Ok(1)),
+    ("1", 1_000_000, "", Err(Why::OutOfUnitRange)),
+    ("1", 1_000_000, "E-999", Err(Why::OutOfUnitRange)),
+    ("12", 998, "-999", Ok(1)),
+    ("5", 998, "-999", Ok(1)),
+    ("49", 997, "-999", Ok(0)),
+    ("1", 1_000_000, "x", Err(Why::NotANumber)),
+];
+
 #[test]
 fn reads_a_million_digits(rt: HostRuntime) -> Result<(), Fail> {
-    let rows = [
-        ("", 1_000_000, "25", Ok(25)),
-        ("-", 1_000_000, "25.5", Ok(-26)),
-        ("0.", 1_000_000, "1E300", Ok(0)),
-        (".", 299, "15E300", Ok(2)),
-        (".", 998, "145+999", Ok(1)),
-        ("1", 1_000_000, "", Err(Why::OutOfUnitRange)),
-        ("1", 1_000_000, "E-999", Err(Why::OutOfUnitRange)),
-        ("12", 998, "-999", Ok(1)),
-        ("5", 998, "-999", Ok(1)),
-        ("49", 997, "-999", Ok(0)),
-        ("1", 1_000_000, "x", Err(Why::NotANumber)),
-    ];
-    for (front, zeros, after, value) in rows {
-        let text = with_zeros(rt.alloc(), front, zeros, after)?;
-        let is = is_read(text.as_slice(), 0, &value);
+    for (front, zeros, after, value) in LONG_NUMBERS {
+        let text = with_zeros(rt.alloc(), front, *zeros, after)?;
+        let is = is_read(text.as_slice(), 0, value);
         drop(text);
         assert!(rt; is, "at {front}0..{after}");
     }
