@@ -8,28 +8,36 @@ pub fn channels_are_named(case: &Case, names: &[&str]) -> bool {
     if case.parts.channels.len() != names.len() {
         return false;
     }
+    let mut are = true;
     for channel in 0..names.len() {
         let mut out = [0u8; 16];
         let length = case.channel_name(channel, &mut out);
-        if &out[..length] != names[channel].as_bytes() {
-            return false;
-        }
+        are = are && &out[..length] == names[channel].as_bytes();
     }
-    true
+    are
 }
 
-/// Whether the case answers the number of each of these nodes, which are all it has, and none for other names.
-pub fn nodes_are(case: &Case, nodes: &[&str], others: &[&str]) -> bool {
-    case.parts.nodes.len() == nodes.len()
-        && nodes
-            .iter()
-            .zip(1..=1_000)
-            .all(|(name, number)| case.node(name) == Some(number))
-        && others.iter().all(|name| case.node(name).is_none())
+/// Whether the case answers the number of each of these nodes, which are all it has, and none for other names, and has
+/// these rows.
+pub fn nodes_are(
+    alloc: Global,
+    case: &Case,
+    nodes: &[&str],
+    others: &[&str],
+    (fixed, rows): (usize, &[u32]),
+) -> bool {
+    let mut are = case.parts.nodes.len() == nodes.len();
+    for (name, number) in nodes.iter().zip(1..=1_000) {
+        are = are && case.node(name) == Some(number);
+    }
+    for name in others {
+        are = are && case.node(name).is_none();
+    }
+    are && rows_are(alloc, case, fixed, rows)
 }
 
 /// Whether the rows are those of these nodes, in this order, and so many of them have a known voltage.
-pub fn rows_are(alloc: Global, case: &Case, fixed: usize, nodes: &[u32]) -> bool {
+fn rows_are(alloc: Global, case: &Case, fixed: usize, nodes: &[u32]) -> bool {
     let Ok(rows) = order(alloc, case) else {
         return false;
     };
@@ -44,33 +52,34 @@ pub fn rows_are(alloc: Global, case: &Case, fixed: usize, nodes: &[u32]) -> bool
 
 /// Whether the names are these, in this order.
 pub fn names_are(names: &[Name], texts: &[&str]) -> bool {
-    names.len() == texts.len()
-        && names
-            .iter()
-            .zip(texts)
-            .all(|(name, text)| name.as_slice() == text.as_bytes())
+    let mut are = names.len() == texts.len();
+    for (name, text) in names.iter().zip(texts) {
+        are = are && name.as_slice() == text.as_bytes();
+    }
+    are
 }
 
 /// Whether the block is the one that was made.
 pub fn block_is(block: &Block, made: Result<Block, AllocError>) -> bool {
-    made.is_ok_and(|made| {
-        let inputs = block.inputs.as_slice() == made.inputs.as_slice();
-        inputs
-            & ((block.line, block.var, block.order) == (made.line, made.var, made.order))
-            & ((block.gain, block.top, block.bottom) == (made.gain, made.top, made.bottom))
-            & ((block.low, block.high) == (made.low, made.high))
-    })
+    let Ok(made) = made else {
+        return false;
+    };
+    let same = block.inputs.as_slice() == made.inputs.as_slice()
+        && (block.line, block.var, block.order) == (made.line, made.var, made.order)
+        && (block.gain, block.top, block.bottom) == (made.gain, made.top, made.bottom)
+        && (block.low, block.high) == (made.low, made.high);
+    drop(made);
+    same
 }
 
 /// Whether the card is the formula that was made.
 pub fn formula_is(extra: &Extra, made: Result<Formula, AllocError>) -> bool {
-    let Extra::Formula(formula) = extra else {
+    let (Extra::Formula(formula), Ok(made)) = (extra, made) else {
         return false;
     };
-    made.is_ok_and(|made| {
-        let vars = formula.vars.as_slice() == made.vars.as_slice();
-        let expr = formula.expr.as_slice() == made.expr.as_slice();
-        vars & expr
-            & ((formula.line, formula.var, formula.group) == (made.line, made.var, made.group))
-    })
+    let same = formula.vars.as_slice() == made.vars.as_slice()
+        && formula.expr.as_slice() == made.expr.as_slice()
+        && (formula.line, formula.var, formula.group) == (made.line, made.var, made.group);
+    drop(made);
+    same
 }

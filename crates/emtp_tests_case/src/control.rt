@@ -242,13 +242,6 @@ fn add_others(alloc: Global, draft: &mut Draft) -> Result<bool, AllocError> {
     Ok(true)
 }
 
-fn add_cards(alloc: Global, draft: &mut Draft) -> Result<bool, AllocError> {
-    let all = has_no_history(&draft.parts)
-        && add_devices(alloc, draft)?
-        && add_others(alloc, draft)?;
-    Ok(all)
-}
-
 fn fill(alloc: Global, draft: &mut Draft) -> Result<bool, AllocError> {
     let all = add_nodes(draft, &["SRC", "MID"])?
         && add_variables(draft, &OWN)?
@@ -256,7 +249,9 @@ fn fill(alloc: Global, draft: &mut Draft) -> Result<bool, AllocError> {
         && add_signals(draft, &signals())?
         && add_channels(draft, &CHANNELS)?
         && add_blocks(alloc, draft)?
-        && add_cards(alloc, draft)?;
+        && has_no_history(&draft.parts)
+        && add_devices(alloc, draft)?
+        && add_others(alloc, draft)?;
     Ok(all)
 }
 
@@ -267,19 +262,9 @@ fn control(alloc: Global) -> Result<Option<Case>, AllocError> {
 }
 
 fn has_signals(parts: &Parts) -> bool {
-    let meter = switch(11, 1, 2, SwitchKind::Measuring);
     parts.run == RUN
         && parts.tacs_sources.as_slice() == signals().as_slice()
-        && parts.switches.as_slice() == [meter].as_slice()
-}
-
-#[test]
-fn reads_back_its_signals(rt: HostRuntime) -> Result<(), Fail> {
-    let case = control(rt.alloc())?.ok_or("a record doesn't fit")?;
-    let are_back = has_signals(&case.parts);
-    drop(case);
-    assert!(rt; are_back);
-    Ok(())
+        && parts.switches.as_slice() == [switch(11, 1, 2, SwitchKind::Measuring)].as_slice()
 }
 
 /// Of a device the line, the variable, the code, the number A and the variable D.
@@ -287,16 +272,14 @@ type Card = (u32, u32, DeviceCode, i64, Option<u32>);
 
 /// Whether the card is this device, with so many points from a place on.
 fn device_is(extra: &Extra, card: Card, first: u32, count: u32) -> bool {
-    match extra {
-        Extra::Device(device) => {
-            (device.line, device.var, device.code, device.a, device.d) == card
-                && device.group == Group::Inside
-                && device.inputs.as_slice() == [input!(14, true)].as_slice()
-                && (device.b, device.c, device.e) == (0, 0, Some(7))
-                && (device.first, device.count) == (first, count)
-        }
-        Extra::Formula(_) => false,
-    }
+    let Extra::Device(device) = extra else {
+        return false;
+    };
+    (device.line, device.var, device.code, device.a, device.d) == card
+        && device.group == Group::Inside
+        && device.inputs.as_slice() == [input!(14, true)].as_slice()
+        && (device.b, device.c, device.e) == (0, 0, Some(7))
+        && (device.first, device.count) == (first, count)
 }
 
 /// Whether the blocks and the supplemental cards are read back, the devices with their points and the places of these.
@@ -308,14 +291,17 @@ fn cards_are_back(alloc: Global, parts: &Parts) -> bool {
     if blocks.len() != 2 || extras.len() != 5 {
         return false;
     }
-    let delay = (43, 17, DeviceCode::Delay, 300_000_000, None);
-    let memory = (44, 18, DeviceCode::Selector, 0, Some(6));
     block_is(&blocks[0], doubler(alloc))
         && block_is(&blocks[1], lag(alloc))
         && device_is(&extras[0], (41, 15, DeviceCode::Table, 0, None), 0, 2)
         && device_is(&extras[1], (42, 16, DeviceCode::Window, 0, None), 2, 2)
-        && device_is(&extras[2], delay, 4, 0)
-        && device_is(&extras[3], memory, 4, 0)
+        && device_is(
+            &extras[2],
+            (43, 17, DeviceCode::Delay, 300_000_000, None),
+            4,
+            0,
+        )
+        && device_is(&extras[3], (44, 18, DeviceCode::Selector, 0, Some(6)), 4, 0)
         && formula_is(&extras[4], formula(alloc))
         && parts.points.as_slice() == [a, b, c, d].as_slice()
 }
@@ -339,12 +325,22 @@ fn has_names(case: &Case) -> bool {
         && channels_are_named(case, &channels)
 }
 
+/// Whether the signals and the cards are read back, and all has its name.
+fn is_control(alloc: Global, case: &Case) -> [bool; 3] {
+    [
+        has_signals(&case.parts),
+        cards_are_back(alloc, &case.parts),
+        has_names(case),
+    ]
+}
+
 #[test]
-fn reads_back_its_blocks_and_devices(rt: HostRuntime) -> Result<(), Fail> {
+fn reads_back_its_signals_and_cards(rt: HostRuntime) -> Result<(), Fail> {
     let case = control(rt.alloc())?.ok_or("a record doesn't fit")?;
-    let named = has_names(&case);
-    let are_back = cards_are_back(rt.alloc(), &case.parts);
+    let [signals, cards, names] = is_control(rt.alloc(), &case);
     drop(case);
-    assert!(rt; named && are_back);
+    assert!(rt; signals);
+    assert!(rt; cards);
+    assert!(rt; names);
     Ok(())
 }

@@ -28,22 +28,20 @@ use std::alloc::AllocError;
 /// The case of a draft, where all records were added and each variable but the standing ones is that of one card.
 pub fn case_of(draft: Draft, filled: Result<bool, AllocError>) -> Result<Option<Case>, AllocError> {
     match filled {
-        Ok(all) => Ok(finished(draft, all)),
+        Ok(all) => {
+            if all && has_no_control(&draft) {
+                Ok(Some(draft.finish_network()))
+            } else if all && is_defined(&draft.parts) {
+                Ok(Some(draft.finish()))
+            } else {
+                drop(draft);
+                Ok(None)
+            }
+        }
         Err(error) => {
             drop(draft);
             Err(error)
         }
-    }
-}
-
-fn finished(draft: Draft, all: bool) -> Option<Case> {
-    if all && has_no_control(&draft) {
-        Some(draft.finish_network())
-    } else if all && is_defined(&draft.parts) {
-        Some(draft.finish())
-    } else {
-        drop(draft);
-        None
     }
 }
 

@@ -6,13 +6,13 @@ ghost use Rattle.emtp_case.specs.Branch.{HasSeriesNumbers, IsCharacteristic, IsL
 ghost use Rattle.emtp_case.specs.HistoryValues.{branch_history_values, history_values_of, trio_history_values};
 ghost use Rattle.emtp_case.specs.Sizes.{sizes_with};
 
-use crate::comparing::{channels_are_named, names_are, nodes_are, rows_are};
+use crate::comparing::{channels_are_named, names_are, nodes_are};
 use crate::filling::{
     add_channels, add_nodes, add_sources, add_switches, case_of, has_no_history, takes_branches,
 };
 use crate::fixtures::{MS, RUN, STANDING, UNIT, point, source, switch, timed, valve};
 use emtp_case::{
-    Branch, Case, Channel, Draft, Line, Lumped, Phase, Point, Pseudo, Shape, Source, Switch,
+    Branch, Case, Channel, Draft, Line, Lumped, Parts, Phase, Point, Pseudo, Shape, Source, Switch,
     SwitchKind, Trio,
 };
 use std::alloc::{AllocError, Global};
@@ -74,15 +74,18 @@ fn divider(alloc: Global) -> Result<Option<Case>, AllocError> {
     case_of(draft, filled)
 }
 
+fn is_divider(alloc: Global, case: &Case) -> bool {
+    let names = ["V MID", "I SRC-MID", "U SRC-MID", "I MID-0"];
+    channels_are_named(case, &names)
+        && nodes_are(alloc, case, &["SRC", "MID"], &["MI"], (1, &[1, 2]))
+}
+
 #[test]
 fn network_of_resistors(rt: HostRuntime) -> Result<(), Fail> {
     let case = divider(rt.alloc())?.ok_or("a record doesn't fit")?;
-    let names = ["V MID", "I SRC-MID", "U SRC-MID", "I MID-0"];
-    let named = channels_are_named(&case, &names);
-    let numbered = nodes_are(&case, &["SRC", "MID"], &["MI"]);
-    let ordered = rows_are(rt.alloc(), &case, 1, &[1, 2]);
+    let is_back = is_divider(rt.alloc(), &case);
     drop(case);
-    assert!(rt; named && numbered && ordered);
+    assert!(rt; is_back);
     Ok(())
 }
 
@@ -284,7 +287,7 @@ fn network(alloc: Global) -> Result<Option<Case>, AllocError> {
 }
 
 /// Whether the branches are these, with the places that the draft set, and answer their lines and nodes.
-fn has_branches(case: &Case) -> bool {
+fn has_branches(parts: &Parts) -> bool {
     let wanted = [
         (11, (1, 2), Branch::Lumped(ohm(11, 1, 2))),
         (12, (2, 3), Branch::Lumped(coil())),
@@ -298,25 +301,13 @@ fn has_branches(case: &Case) -> bool {
     ];
     let [a, b] = arrester_points();
     let [c, d, e] = reactor_points();
-    let parts = &case.parts;
     let branches = parts.branches.as_slice();
-    parts.run == RUN
-        && branches.len() == wanted.len()
-        && branches.iter().zip(wanted).all(|(branch, wanted)| {
-            let read = (branch.line(), branch.ends(), *branch);
-            read == wanted
-        })
-        && parts.trios.as_slice() == [modes(3)].as_slice()
+    let mut are = parts.run == RUN && branches.len() == wanted.len();
+    for (branch, wanted) in branches.iter().zip(&wanted) {
+        are = are && (branch.line(), branch.ends(), *branch) == *wanted;
+    }
+    are && parts.trios.as_slice() == [modes(3)].as_slice()
         && parts.points.as_slice() == [a, b, c, d, e].as_slice()
-}
-
-#[test]
-fn reads_back_its_branches(rt: HostRuntime) -> Result<(), Fail> {
-    let case = network(rt.alloc())?.ok_or("a record doesn't fit")?;
-    let are_back = has_branches(&case);
-    drop(case);
-    assert!(rt; are_back);
-    Ok(())
 }
 
 /// Whether the tables without branches are these, and the variables and channels have their names.
@@ -335,24 +326,22 @@ fn has_tables(case: &Case) -> bool {
         && parts.extras.is_empty()
 }
 
-#[test]
-fn reads_back_its_switches_and_sources(rt: HostRuntime) -> Result<(), Fail> {
-    let case = network(rt.alloc())?.ok_or("a record doesn't fit")?;
-    let are_back = has_tables(&case);
-    drop(case);
-    assert!(rt; are_back);
-    Ok(())
+/// Whether the branches and the other tables are read back, and the rows are ordered.
+fn is_network(alloc: Global, case: &Case) -> [bool; 3] {
+    // Sources at SRC, A1, B1 and C1; plain FAR and END with one end, A2 with two, MID with three; the others touch a
+    // switch or a pseudo-nonlinear branch.
+    let rows = [1, 4, 6, 8, 3, 10, 5, 2, 7, 9, 11, 12];
+    let ordered = nodes_are(alloc, case, &NODES, &["A", "", "0"], (4, &rows));
+    [has_branches(&case.parts), has_tables(case), ordered]
 }
 
 #[test]
-fn orders_its_rows(rt: HostRuntime) -> Result<(), Fail> {
+fn reads_back_and_orders_its_rows(rt: HostRuntime) -> Result<(), Fail> {
     let case = network(rt.alloc())?.ok_or("a record doesn't fit")?;
-    let numbered = nodes_are(&case, &NODES, &["A", "", "0"]);
-    // Sources at SRC, A1, B1 and C1; plain FAR and END with one end, A2 with two, MID with three; the others touch a
-    // switch or a pseudo-nonlinear branch.
-    let nodes = [1, 4, 6, 8, 3, 10, 5, 2, 7, 9, 11, 12];
-    let ordered = rows_are(rt.alloc(), &case, 4, &nodes);
+    let [branches, tables, rows] = is_network(rt.alloc(), &case);
     drop(case);
-    assert!(rt; numbered && ordered);
+    assert!(rt; branches);
+    assert!(rt; tables);
+    assert!(rt; rows);
     Ok(())
 }

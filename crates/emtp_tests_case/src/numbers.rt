@@ -95,11 +95,12 @@ fn kept(alloc: Global, code: DeviceCode, a: i64) -> u64
 fn history_values_of_devices(rt: HostRuntime) {
     let alloc = rt.alloc();
     // A delay keeps the steps that come nearest and one more; 60 Hz have 166.7 steps of 100 microseconds, 1 MHz none.
-    assert!(rt; kept(alloc, DeviceCode::Delay, 349_999_999) == 4);
-    assert!(rt; kept(alloc, DeviceCode::DelayedPulse, 350_000_000) == 5);
-    assert!(rt; kept(alloc, DeviceCode::EffectiveValue, 60_000_000) == 167);
-    assert!(rt; kept(alloc, DeviceCode::EffectiveValue, 1_000_000_000_000) == 1);
-    assert!(rt; kept(alloc, DeviceCode::Integral, -5) == 0);
+    let are_kept = kept(alloc, DeviceCode::Delay, 349_999_999) == 4
+        && kept(alloc, DeviceCode::DelayedPulse, 350_000_000) == 5
+        && kept(alloc, DeviceCode::EffectiveValue, 60_000_000) == 167
+        && kept(alloc, DeviceCode::EffectiveValue, 1_000_000_000_000) == 1
+        && kept(alloc, DeviceCode::Integral, -5) == 0;
+    assert!(rt; are_kept);
 }
 
 #[test]
@@ -111,7 +112,6 @@ fn samples_of_runs(rt: HostRuntime) {
             every,
             ..RUN
         };
-        assert!(rt; 1 <= run.every && run.steps <= 1_000_000);
-        assert_eq!(rt; run.samples(), samples);
+        assert!(rt; 1 <= run.every && run.steps <= 1_000_000 && run.samples() == samples);
     }
 }

@@ -81,16 +81,21 @@ fn take_times(case: &mut Case, times: [Times; 2]) -> bool {
     breakers_are(case, times)
 }
 
+/// Later times for the first breaker, earlier ones for the second.
+const MOVED: [Times; 2] = [times!(2 * MS, Some(4 * MS)), times!(-1, Some(5 * MS))];
+
+/// Times at which neither opens.
+const LASTING: [Times; 2] = [times!(-3, None), times!(6 * MS, None)];
+
+fn take_in_turn(case: &mut Case) -> bool {
+    breakers_are(case, STARTING) && take_times(case, MOVED) && take_times(case, LASTING)
+}
+
 #[test]
 fn gives_other_times(rt: HostRuntime) -> Result<(), Fail> {
     let mut case = breakers(rt.alloc())?.ok_or("a record doesn't fit")?;
-    // Later times for the first breaker, earlier ones for the second.
-    let moved = [times!(2 * MS, Some(4 * MS)), times!(-1, Some(5 * MS))];
-    // Times at which neither opens.
-    let lasting = [times!(-3, None), times!(6 * MS, None)];
-    let started = breakers_are(&case, STARTING);
-    let changed = take_times(&mut case, moved) && take_times(&mut case, lasting);
+    let taken = take_in_turn(&mut case);
     drop(case);
-    assert!(rt; started && changed);
+    assert!(rt; taken);
     Ok(())
 }
