@@ -162,7 +162,7 @@ fn make_record(cabinet: &mut MemoryCabinet, case: &Case, samples: &Samples) -> R
     write_dat(cabinet, case, samples, &multipliers)
 }
 
-/// The record of these samples has these bytes.
+/// Whether the record of these samples has these bytes.
 fn record_is(
     rt: &impl Abort,
     alloc: Global,
@@ -170,32 +170,43 @@ fn record_is(
     rows: &[&[i64]],
     cfg: &str,
     dat: &str,
-) -> Result<(), AllocError>
+) -> Result<bool, AllocError>
     requires channels { length case.now.parts.channels ≡ 3 }
     requires few { length rows.now ≤ 1000 }
 {
     let samples = sampled(rt, alloc, 3, rows)?;
-    let files = files_of(rt, alloc, case, &samples, cfg, dat);
+    let is = files_are(alloc, case, &samples, cfg, dat);
     drop(samples);
-    files
+    is
 }
 
-fn files_of(
-    rt: &impl Abort,
+fn files_are(
     alloc: Global,
     case: &Case,
     samples: &Samples,
     cfg: &str,
     dat: &str,
-) -> Result<(), AllocError>
+) -> Result<bool, AllocError>
     requires { samples.now.channels ≡ length case.now.parts.channels }
 {
     let mut cabinet = MemoryCabinet::new(alloc, Vec::new(alloc), Vec::new(alloc), 4096, 4096)?;
-    assert!(rt; make_record(&mut cabinet, case, samples).is_ok());
-    assert!(rt; cabinet.written(Output::Cfg) == Some(cfg.as_bytes()));
-    assert!(rt; cabinet.written(Output::Dat) == Some(dat.as_bytes()));
+    let are = makes_files(&mut cabinet, case, samples, cfg, dat);
     drop(cabinet);
-    Ok(())
+    Ok(are)
+}
+
+fn makes_files(
+    cabinet: &mut MemoryCabinet,
+    case: &Case,
+    samples: &Samples,
+    cfg: &str,
+    dat: &str,
+) -> bool
+    requires { samples.now.channels ≡ length case.now.parts.channels }
+{
+    make_record(cabinet, case, samples).is_ok()
+        && cabinet.written(Output::Cfg) == Some(cfg.as_bytes())
+        && cabinet.written(Output::Dat) == Some(dat.as_bytes())
 }
 
 const BRANCH_CFG: &str = concat!(
@@ -229,8 +240,8 @@ const BRANCH_ROWS: &[&[i64]] = &[
     &[50_000_000_000, 50_000_000_000, 50_000_000_000],
 ];
 
-/// The node, current and voltage of a branch.
-fn branch_record(rt: &impl Abort, alloc: Global) -> Result<(), AllocError> {
+/// Whether the record of the node, current and voltage of a branch is written.
+fn branch_record(rt: &impl Abort, alloc: Global) -> Result<bool, AllocError> {
     let nodes = (Name::new(b"SRC"), Name::new(b"MID"));
     let channels = (
         Channel::NodeVoltage(2),
@@ -238,14 +249,14 @@ fn branch_record(rt: &impl Abort, alloc: Global) -> Result<(), AllocError> {
         Channel::BranchVoltage(0),
     );
     let case = recorded(alloc, nodes, channels)?;
-    let files = record_is(rt, alloc, &case, BRANCH_ROWS, BRANCH_CFG, BRANCH_DAT);
+    let is = record_is(rt, alloc, &case, BRANCH_ROWS, BRANCH_CFG, BRANCH_DAT);
     drop(case);
-    files
+    is
 }
 
 #[test]
 fn writes_the_record_of_a_branch(rt: HostRuntime) -> Result<(), Fail> {
-    branch_record(&rt, rt.alloc())?;
+    assert!(rt; branch_record(&rt, rt.alloc())?);
     Ok(())
 }
 
@@ -284,8 +295,8 @@ const SWITCH_ROWS: &[&[i64]] = &[
     &[0, 0, 0],
 ];
 
-/// The current, voltage and state of a switch.
-fn switch_record(rt: &impl Abort, alloc: Global) -> Result<(), AllocError> {
+/// Whether the record of the current, voltage and state of a switch is written.
+fn switch_record(rt: &impl Abort, alloc: Global) -> Result<bool, AllocError> {
     let nodes = (Name::new(b"A"), Name::new(b"B"));
     let channels = (
         Channel::SwitchCurrent(0),
@@ -293,13 +304,13 @@ fn switch_record(rt: &impl Abort, alloc: Global) -> Result<(), AllocError> {
         Channel::Status(0),
     );
     let case = recorded(alloc, nodes, channels)?;
-    let files = record_is(rt, alloc, &case, SWITCH_ROWS, SWITCH_CFG, SWITCH_DAT);
+    let is = record_is(rt, alloc, &case, SWITCH_ROWS, SWITCH_CFG, SWITCH_DAT);
     drop(case);
-    files
+    is
 }
 
 #[test]
 fn writes_the_record_of_a_switch(rt: HostRuntime) -> Result<(), Fail> {
-    switch_record(&rt, rt.alloc())?;
+    assert!(rt; switch_record(&rt, rt.alloc())?);
     Ok(())
 }

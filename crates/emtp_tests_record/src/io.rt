@@ -48,17 +48,17 @@ fn holds_eight(cabinet: &MemoryCabinet) -> bool {
         && cabinet.written(Output::Cfg).is_none()
 }
 
+fn reads_and_writes(alloc: Global, cabinet: &mut MemoryCabinet) -> bool {
+    reads_whole(alloc, cabinet) && writes_whole(cabinet) && holds_eight(cabinet)
+}
+
 #[test]
 fn reads_and_writes_whole(rt: HostRuntime) -> Result<(), Fail> {
     let alloc = rt.alloc();
     let mut cabinet = seven_bytes(alloc, &[], 8)?;
-    let is_read = reads_whole(alloc, &mut cabinet);
-    let is_written = writes_whole(&mut cabinet);
-    let holds = holds_eight(&cabinet);
+    let is_right = reads_and_writes(alloc, &mut cabinet);
     drop(cabinet);
-    assert!(rt; is_read);
-    assert!(rt; is_written);
-    assert!(rt; holds);
+    assert!(rt; is_right);
     Ok(())
 }
 
@@ -86,16 +86,27 @@ fn case_reads(alloc: Global, cabinet: &mut MemoryCabinet, bytes: &[u8]) -> bool 
     }
 }
 
+/// Whether the case reads so, and the note is created and written so.
+fn is_as_told(
+    alloc: Global,
+    cabinet: &mut MemoryCabinet,
+    read: &str,
+    created: bool,
+    written: &str,
+) -> bool {
+    let is_read = case_reads(alloc, cabinet, read.as_bytes());
+    let is_created = cabinet.create(Output::Note, "").is_ok();
+    let _ = write_all(cabinet, Output::Note, b"1234567");
+    let bytes = cabinet.written(Output::Note).unwrap_or(b"".as_slice());
+    is_read && is_created == created && bytes == written.as_bytes()
+}
+
 fn fails_as_told(alloc: Global, told: Told) -> Result<bool, AllocError> {
     let (op, nth, read, created, written) = told;
     let mut cabinet = seven_bytes(alloc, &[Failing { op, nth }], 8)?;
-    let is_read = case_reads(alloc, &mut cabinet, read.as_bytes());
-    let is_created = cabinet.create(Output::Note, "").is_ok();
-    let _ = write_all(&mut cabinet, Output::Note, b"1234567");
-    let bytes = cabinet.written(Output::Note).unwrap_or(b"".as_slice());
-    let is_written = bytes == written.as_bytes();
+    let is = is_as_told(alloc, &mut cabinet, read, created, written);
     drop(cabinet);
-    Ok(is_read && is_created == created && is_written)
+    Ok(is)
 }
 
 #[test]

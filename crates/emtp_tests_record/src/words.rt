@@ -59,7 +59,14 @@ fn finds_the_files_that_clap_finds(rt: HostRuntime) -> Result<(), Fail> {
     let alloc = rt.alloc();
     let words = ["emtp", "run", "a.case", "a.cfg", "a.dat"];
     let matches = command(alloc)?.try_get_matches_from(&words)?;
-    let alike = owned(alloc, &words[1..]).is_ok_and(|own| files_are_alike(&matches, &own));
+    let alike = match owned(alloc, &words[1..]) {
+        Ok(own) => {
+            let alike = files_are_alike(&matches, &own);
+            drop(own);
+            alike
+        }
+        Err(_) => false,
+    };
     drop(matches);
     assert!(rt; alike);
     Ok(())
@@ -80,7 +87,14 @@ fn finds_the_number_that_clap_finds(rt: HostRuntime) -> Result<(), Fail> {
     let alloc = rt.alloc();
     let words = ["emtp", "trial", "300"];
     let matches = command(alloc)?.try_get_matches_from(&words)?;
-    let alike = owned(alloc, &words[1..]).is_ok_and(|own| number_is(&matches, &own, "300", 300));
+    let alike = match owned(alloc, &words[1..]) {
+        Ok(own) => {
+            let alike = number_is(&matches, &own, "300", 300);
+            drop(own);
+            alike
+        }
+        Err(_) => false,
+    };
     drop(matches);
     assert!(rt; alike);
     Ok(())
