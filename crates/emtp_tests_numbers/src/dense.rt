@@ -43,15 +43,33 @@ fn lessened(a: i128, ratio: i128, above: i128) -> i128 {
     a.wrapping_sub(nearest(ratio.wrapping_mul(above), i128::from(P)))
 }
 
+/// Marks the rows from k on that have an entry out of range in the columns from k on.
+fn mark(a: &[[i128; N]; N], k: usize, is_out: &mut [bool; N]) {
+    for i in k..N {
+        for j in k..N {
+            is_out[i] = is_out[i] | (a[i][j].unsigned_abs() > LARGEST_ENTRY);
+        }
+    }
+}
+
+/// Takes row k from row i in its ratio, which is left in column k. The answer is whether the ratio is out of range.
+fn take_row(a: &mut [[i128; N]; N], k: usize, i: usize) -> bool
+    requires pivot { k < 4 }
+    requires row { i < 4 }
+{
+    let ratio = nearest(a[i][k].wrapping_mul(i128::from(P)), a[k][k]);
+    for j in k + 1..N {
+        a[i][j] = lessened(a[i][j], ratio, a[k][j]);
+    }
+    a[i][k] = ratio;
+    ratio.unsigned_abs() > LARGEST_VALUE
+}
+
 /// Leaves a row's ratios before its diagonal, and from there on what the elimination makes of it.
 fn triangulate(a: &mut [[i128; N]; N]) -> Result<(), Named> {
     let mut is_out = [false; N];
     for k in 0..N {
-        for i in k..N {
-            for j in k..N {
-                is_out[i] = is_out[i] | (a[i][j].unsigned_abs() > LARGEST_ENTRY);
-            }
-        }
+        mark(a, k, &mut is_out);
         if is_out[k] {
             return Err((k, Some(RowCause::Range)));
         }
@@ -59,12 +77,7 @@ fn triangulate(a: &mut [[i128; N]; N]) -> Result<(), Named> {
             return Err((k, Some(RowCause::ZeroPivot)));
         }
         for i in k + 1..N {
-            let ratio = nearest(a[i][k].wrapping_mul(i128::from(P)), a[k][k]);
-            is_out[i] = is_out[i] | (ratio.unsigned_abs() > LARGEST_VALUE);
-            for j in k + 1..N {
-                a[i][j] = lessened(a[i][j], ratio, a[k][j]);
-            }
-            a[i][k] = ratio;
+            is_out[i] = is_out[i] | take_row(a, k, i);
         }
     }
     Ok(())
@@ -185,14 +198,14 @@ fn one_system<L: Ledger>(
     ensures size { kept.new.size ≡ 4 }
     ensures kind { result < 4 }
 {
-    let (cells, currents) = system(seed);
-    let expected = reference(&cells, &currents);
-    let rows = filled(alloc, N, 0, &cells).expect(rt, "memory");
-    let plain = plain_agrees(alloc, &rows, &currents, &expected);
-    let by_kept = kept_agrees(kept, &rows, &currents, &expected, steps);
+    let system = system(seed);
+    let expected = reference(&system.0, &system.1);
+    let rows = filled(alloc, N, 0, &system.0).expect(rt, "memory");
+    let plain = plain_agrees(alloc, &rows, &system.1, &expected);
+    let by_kept = kept_agrees(kept, &rows, &system.1, &expected, steps);
     drop(rows);
-    assert!(rt; plain, "plain: {cells:?} {currents:?}");
-    assert!(rt; by_kept, "kept: {cells:?} {currents:?}");
+    assert!(rt; plain, "plain: {system:?}");
+    assert!(rt; by_kept, "kept: {system:?}");
     kind(&expected)
 }
 

@@ -87,21 +87,28 @@ fn scales_limits_and_roots(rt: HostRuntime) {
     assert!(rt; isqrt(10_000_000_000_000_000) == 100_000_000);
 }
 
+/// A number, the places behind its point, and its text.
+const DECIMALS: &[(i64, usize, &str)] = &[
+    (0, 9, "0"),
+    (1, 9, "0.000000001"),
+    (2_000_000, 9, "0.002"),
+    (-1_500, 3, "-1.5"),
+    (100_000_000, 6, "100"),
+    (42, 0, "42"),
+    (i64::MIN, 18, "-9.223372036854775808"),
+];
+
+fn prints(x: i64, places: usize, text: &[u8]) -> bool {
+    let mut out = [0u8; 40];
+    let length = print_fixed(x, places.min(18), &mut out);
+    &out[..length] == text
+}
+
 #[test]
 fn prints_decimals(rt: HostRuntime) {
-    let table: [(i64, usize, &str); 7] = [
-        (0, 9, "0"),
-        (1, 9, "0.000000001"),
-        (2_000_000, 9, "0.002"),
-        (-1_500, 3, "-1.5"),
-        (100_000_000, 6, "100"),
-        (42, 0, "42"),
-        (i64::MIN, 18, "-9.223372036854775808"),
-    ];
-    for (x, places, text) in table {
-        let mut out = [0u8; 40];
-        let length = print_fixed(x, places.min(18), &mut out);
-        assert!(rt; &out[..length] == text.as_bytes(), "{text}");
+    for (x, places, text) in DECIMALS {
+        let is = prints(*x, *places, text.as_bytes());
+        assert!(rt; is, "{text}");
     }
 }
 

@@ -42,45 +42,67 @@ fn redone<L: Ledger>(kept: &mut Kept, rows: &Table, steps: &mut Steps<L>) -> Res
     kept.update(rows, steps)
 }
 
-/// Five changes of one matrix, and whether each redoes what it should.
+/// The numbers of a matrix whose first row is a unit row; the first row that is redone, or the one at fault; how many rows
+/// are good then; whether the right side is divided.
+type Update = ([i64; 9], Result<usize, RowFault>, usize, bool);
+
+/// Five changes of one matrix.
+const UPDATES: [Update; 5] = [
+    (AT_FIRST, Ok(0), 3, false),
+    (AT_FIRST, Ok(3), 3, false),
+    (LAST_CHANGED, Ok(2), 3, true),
+    (MIDDLE_GONE, Err(MIDDLE_FAULT), 1, false),
+    (LAST_CHANGED, Ok(1), 3, true),
+];
+
+/// Whether each of the changes redoes what it should.
 fn five_updates<L: Ledger>(rt: &impl Abort, alloc: Global, blank: Blank) -> bool
     requires name { blank.name ≡ L.name }
     requires parts { blank.parts ≡ L.parts }
     requires some { 0 < blank.parts }
 {
-    let first = filled(alloc, 3, 1, &AT_FIRST).expect(rt, "memory");
-    let second = filled(alloc, 3, 1, &LAST_CHANGED).expect(rt, "memory");
-    let broken = filled(alloc, 3, 1, &MIDDLE_GONE).expect(rt, "memory");
     let mut steps = Steps::<L>::new(blank);
-    let mut kept = Kept::open(alloc, &first).expect(rt, "memory");
-    let is_right = changes(&mut kept, &first, &second, &broken, &mut steps);
-    drop((first, second, broken));
+    let mut kept = opened(rt, alloc, 3, &AT_FIRST);
+    let are_right = redo_in_turn(rt, alloc, &mut kept, &mut steps);
     drop(kept);
-    is_right
+    are_right
 }
 
-fn changes<L: Ledger>(
+fn redo_in_turn<L: Ledger>(
+    rt: &impl Abort,
+    alloc: Global,
     kept: &mut Kept,
-    first: &Table,
-    second: &Table,
-    broken: &Table,
     steps: &mut Steps<L>,
 ) -> bool
-    requires size { kept.old.size ≡ 3 }
-    requires first { first.now.size ≡ 3 }
-    requires second { second.now.size ≡ 3 }
-    requires broken { broken.now.size ≡ 3 }
+    requires { kept.old.size ≡ 3 }
 {
-    kept.size() == 3
-        && kept.good() == 0
-        && first.fixed() == 1
-        && (redone(kept, first, steps), kept.good()) == (Ok(0), 3)
-        && (redone(kept, first, steps), kept.good()) == (Ok(3), 3)
-        && (redone(kept, second, steps), kept.good()) == (Ok(2), 3)
-        && divides(kept)
-        && (redone(kept, broken, steps), kept.good()) == (Err(MIDDLE_FAULT), 1)
-        && (redone(kept, second, steps), kept.good()) == (Ok(1), 3)
-        && divides(kept)
+    if kept.size() != 3 || kept.good() != 0 {
+        return false;
+    }
+    for at in 0..5 {
+        if !redoes(rt, alloc, kept, &UPDATES[at], steps) {
+            return false;
+        }
+    }
+    true
+}
+
+/// Whether a change redoes what it should.
+fn redoes<L: Ledger>(
+    rt: &impl Abort,
+    alloc: Global,
+    kept: &mut Kept,
+    update: &Update,
+    steps: &mut Steps<L>,
+) -> bool
+    requires { kept.old.size ≡ 3 }
+    ensures { kept.new.size ≡ 3 }
+{
+    let (cells, answer, good, is_divided) = *update;
+    let rows = filled(alloc, 3, 1, &cells).expect(rt, "memory");
+    let found = (rows.fixed(), redone(kept, &rows, steps));
+    drop(rows);
+    found == (1, answer) && kept.good() == good && divides(kept) == is_divided
 }
 
 fn divides(kept: &Kept) -> bool {
