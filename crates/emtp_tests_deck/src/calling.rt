@@ -15,16 +15,29 @@ fn branch_count(alloc: Global, cards: &Cards<'_>) -> Option<usize>
     ensures { (bad : Bads) → deck_of cards.now ≡ Err bad → result ≡ None }
 {
     match read(alloc, cards) {
-        Ok(case) => Some(case.parts.branches.len()),
+        Ok(case) => {
+            let count = case.parts.branches.len();
+            drop(case);
+            Some(count)
+        }
         Err(_) => None,
     }
+}
+
+fn branches_of(alloc: Global, bytes: &[u8]) -> Option<usize> {
+    let Ok(cards) = Cards::split(alloc, bytes) else {
+        return None;
+    };
+    let count = branch_count(alloc, &cards);
+    drop(cards);
+    count
 }
 
 #[test]
 fn the_branches_are_counted(rt: HostRuntime) -> Result<(), Fail> {
     let bytes = divider(rt.alloc(), 1, b"BEGIN NEW DATA CASE", 1, b"\n")?;
-    if let Ok(cards) = Cards::split(rt.alloc(), &bytes) {
-        assert_eq!(rt; branch_count(rt.alloc(), &cards), Some(2));
-    }
+    let count = branches_of(rt.alloc(), &bytes);
+    drop(bytes);
+    assert_eq!(rt; count, Some(2));
     Ok(())
 }

@@ -30,16 +30,21 @@ pub fn divider(
     let mut bytes = Vec::new(alloc);
     for (k, line) in DIVIDER.iter().enumerate() {
         if k + 1 == at {
-            for _ in 0..times {
-                bytes.extend_from_slice(cards)?;
-                bytes.extend_from_slice(end)?;
-            }
+            add_lines(&mut bytes, cards, times, end)?;
         } else {
-            bytes.extend_from_slice(line.as_bytes())?;
-            bytes.extend_from_slice(end)?;
+            add_lines(&mut bytes, line.as_bytes(), 1, end)?;
         }
     }
     Ok(bytes)
+}
+
+/// Adds a line so many times.
+fn add_lines(bytes: &mut Vec<u8>, line: &[u8], times: usize, end: &[u8]) -> Result<(), AllocError> {
+    for _ in 0..times {
+        bytes.extend_from_slice(line)?;
+        bytes.extend_from_slice(end)?;
+    }
+    Ok(())
 }
 
 /// A line, a column and the number of a reason.
@@ -55,4 +60,18 @@ pub fn refusal(alloc: Global, bytes: &[u8]) -> Option<Place> {
         Some(Refused::Bad(bad)) => Some((bad.line, bad.column, bad.why.number())),
         Some(Refused::NoMemory) | None => None,
     }
+}
+
+/// Whether the divider with these cards, so many times in place of one, is refused there.
+pub fn is_refused(
+    alloc: Global,
+    at: usize,
+    cards: &[u8],
+    times: usize,
+    place: Place,
+) -> Result<bool, AllocError> {
+    let bytes = divider(alloc, at, cards, times, b"\n")?;
+    let found = refusal(alloc, &bytes);
+    drop(bytes);
+    Ok(found == Some(place))
 }
