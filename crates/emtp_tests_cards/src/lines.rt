@@ -227,15 +227,27 @@ fn has_lines(cards: &Cards<'_>, lines: &[&str]) -> bool {
     cards.len() == lines.len()
 }
 
+/// Whether a text is split into these lines.
+fn is_split(alloc: Global, text: &[u8], lines: &[&str]) -> bool {
+    let Ok(cards) = Cards::split(alloc, text) else {
+        return false;
+    };
+    let is = has_lines(&cards, lines);
+    drop(cards);
+    is
+}
+
 #[test]
 fn splits_into_lines(rt: HostRuntime) {
     for (text, lines) in CASES {
-        let split = Cards::split(rt.alloc(), text.as_bytes());
-        assert!(rt;
-            split.is_ok_and(|cards| has_lines(&cards, lines)),
-            "lines of {text}"
-        );
+        let is = is_split(rt.alloc(), text.as_bytes(), lines);
+        assert!(rt; is, "lines of {text}");
     }
+}
+
+/// Adds a byte so many times.
+pub fn add(text: &mut Vec<u8>, byte: u8, times: usize) -> Result<(), AllocError> {
+    text.resize(text.len().saturating_add(times), byte)
 }
 
 /// So many bytes and newlines behind a front.
@@ -246,8 +258,8 @@ fn long_text(
     newlines: usize,
 ) -> Result<Vec<u8>, AllocError> {
     let mut text = Vec::from_slice(alloc, front.as_bytes())?;
-    text.extend_from_slice(vec![in alloc; b'x'; bytes]?.as_slice())?;
-    text.extend_from_slice(vec![in alloc; b'\n'; newlines]?.as_slice())?;
+    add(&mut text, b'x', bytes)?;
+    add(&mut text, b'\n', newlines)?;
     Ok(text)
 }
 
@@ -271,27 +283,22 @@ const LONG_CASES: &[(&str, usize, usize, Option<u32>)] = &[
     ("\n\n", 8_800_000, 200_001, Some(100_001)),
 ];
 
-fn is_refused_at(alloc: Global, text: &[u8], line: Option<u32>) -> bool {
-    let why = Why::TooManyLines;
-    let wanted = match line {
-        Some(line) => (
-            false,
-            Some(Bad {
-                line,
-                column: 1,
-                why,
-            }),
-        ),
-        None => (true, None),
-    };
-    split(alloc, text) == wanted
+/// The refusal of a line that is too many, if there is one.
+fn too_many(line: Option<u32>) -> Option<Bad> {
+    let line = line?;
+    Some(Bad {
+        line,
+        column: 1,
+        why: Why::TooManyLines,
+    })
 }
 
 #[test]
 fn refuses_a_case_that_is_too_long(rt: HostRuntime) -> Result<(), Fail> {
     for (front, bytes, newlines, line) in LONG_CASES {
         let text = long_text(rt.alloc(), front, *bytes, *newlines)?;
-        let is = is_refused_at(rt.alloc(), text.as_slice(), *line);
+        let bad = too_many(*line);
+        let is = split(rt.alloc(), text.as_slice()) == (bad.is_none(), bad);
         drop(text);
         assert!(rt; is, "{bytes} bytes and {newlines} newlines");
     }

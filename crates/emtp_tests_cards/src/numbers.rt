@@ -1,3 +1,4 @@
+use crate::lines::add;
 use emtp_card::*;
 use std::alloc::{AllocError, Global};
 use std::test::Fail;
@@ -238,8 +239,7 @@ fn with_zeros(
     after: &str,
 ) -> Result<Vec<u8>, AllocError> {
     let mut text = Vec::from_slice(alloc, front.as_bytes())?;
-    let middle = vec![in alloc; b'0'; zeros]?;
-    text.extend_from_slice(middle.as_slice())?;
+    add(&mut text, b'0', zeros)?;
     text.extend_from_slice(after.as_bytes())?;
     Ok(text)
 }
