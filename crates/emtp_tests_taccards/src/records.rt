@@ -22,23 +22,32 @@ fn is_named(found: &Option<Name>, name: &[u8]) -> bool {
     }
 }
 
+/// Whether it is the card of a lag of U less V, held between -1 and HIGH or 1.
+fn is_lag(card: &BlockCard) -> bool {
+    card.line == 7
+        && card.name.as_slice() == b"LAG".as_slice()
+        && card.order == 2
+        && is_input(&card.inputs[0], false, b"U")
+        && is_input(&card.inputs[1], true, b"V")
+        && card.inputs[2].is_none()
+        && card.inputs[4].is_none()
+        && card.gain == 2_500_000_000_000
+        && (card.low, card.high) == (Some(-1_000_000_000), Some(1_000_000_000))
+        && card.low_name.is_none()
+        && is_named(&card.high_name, b"HIGH")
+}
+
 #[test]
 fn a_block(rt: HostRuntime) {
     let line = Line {
         number: 7,
         bytes: b" 2LAG     +U      -V                                 2.5   -1.    1.      HIGH",
     };
-    let Ok(card) = block(line) else {
-        assert!(rt; false);
-        return;
+    let is = match block(line) {
+        Ok(card) => is_lag(&card),
+        Err(_) => false,
     };
-    assert!(rt; card.line == 7 && card.name.as_slice() == b"LAG".as_slice() && card.order == 2);
-    assert!(rt; is_input(&card.inputs[0], false, b"U") && is_input(&card.inputs[1], true, b"V"));
-    assert!(rt; card.inputs[2].is_none() && card.inputs[4].is_none());
-    assert_eq!(rt; card.gain, 2_500_000_000_000);
-    assert_eq!(rt; card.low, Some(-1_000_000_000));
-    assert_eq!(rt; card.high, Some(1_000_000_000));
-    assert!(rt; card.low_name.is_none() && is_named(&card.high_name, b"HIGH"));
+    assert!(rt; is);
 }
 
 #[test]
@@ -94,17 +103,32 @@ const SOURCES: &[(&str, Shape, i64, i64, Option<i64>)] = &[
     ("93MID", Shape::SwitchStatus { switch: 0 }, 0, 0, None),
 ];
 
+/// Whether line 7 is a source card with this shape and amplitude, and these times.
+fn is_source(
+    bytes: &[u8],
+    shape: &Shape,
+    amplitude: i64,
+    (start, stop): (i64, Option<i64>),
+) -> bool {
+    if bytes.len() >= 100 {
+        return false;
+    }
+    match tacs_source(Line { number: 7, bytes }) {
+        Ok(card) => {
+            card.shape == *shape
+                && !card.current
+                && card.amplitude == amplitude
+                && (card.start, card.stop) == (start, stop)
+        }
+        Err(_) => false,
+    }
+}
+
 #[test]
 fn sources(rt: HostRuntime) {
     for (text, shape, amplitude, start, stop) in SOURCES {
-        let bytes = text.as_bytes();
-        assert!(rt; bytes.len() < 100);
-        let Ok(card) = tacs_source(Line { number: 7, bytes }) else {
-            assert!(rt; false, "refused: {text}");
-            return;
-        };
-        assert!(rt; card.shape == *shape && !card.current, "at {text}");
-        assert!(rt; card.amplitude == *amplitude && card.start == *start && card.stop == *stop);
+        let is = is_source(text.as_bytes(), shape, *amplitude, (*start, *stop));
+        assert!(rt; is, "at {text}");
     }
 }
 
@@ -119,20 +143,28 @@ fn device_of_card(alloc: Global, line: Line<'_>) -> Option<DeviceCard>
     }
 }
 
+/// Whether it is the card of a delay of V less U, with A, B, C, D and E.
+fn is_delay(card: &DeviceCard) -> bool {
+    card.group == Group::Output
+        && card.code == DeviceCode::Delay
+        && is_input(&card.inputs[0], true, b"U")
+        && is_input(&card.inputs[2], false, b"V")
+        && (card.a, card.b, card.c) == (200_000_000, 1_000_000_000, -2_000_000_000)
+        && is_named(&card.d, b"D")
+        && is_named(&card.e, b"E")
+}
+
 #[test]
 fn a_device(rt: HostRuntime) {
     let line = Line {
         number: 7,
         bytes: b"98Y     53-U               V                       2.E-4    1.   -2.D     E",
     };
-    let Some(card) = device_of_card(rt.alloc(), line) else {
-        assert!(rt; false);
-        return;
+    let is = match device_of_card(rt.alloc(), line) {
+        Some(card) => is_delay(&card),
+        None => false,
     };
-    assert!(rt; card.group == Group::Output && card.code == DeviceCode::Delay);
-    assert!(rt; is_input(&card.inputs[0], true, b"U") && is_input(&card.inputs[2], false, b"V"));
-    assert!(rt; card.a == 200_000_000 && card.b == 1_000_000_000 && card.c == -2_000_000_000);
-    assert!(rt; is_named(&card.d, b"D") && is_named(&card.e, b"E"));
+    assert!(rt; is);
 }
 
 /// The nodes of a formula's card, which are those of one whole expression.
@@ -164,7 +196,9 @@ fn a_formula(rt: HostRuntime) {
         Node::Number(1_000_000_000),
         Node::Binary(BinaryOp::Add),
     ];
-    assert!(rt; nodes.as_slice() == expected.as_slice());
+    let are = nodes.as_slice() == expected.as_slice();
+    drop(nodes);
+    assert!(rt; are);
 }
 
 #[test]
@@ -173,9 +207,11 @@ fn names_of_outputs(rt: HostRuntime) {
         number: 7,
         bytes: b"  DBL         X",
     };
-    let Ok(names) = tacs_outputs(line) else {
-        assert!(rt; false);
-        return;
+    let are = match tacs_outputs(line) {
+        Ok(names) => {
+            is_named(&names[0], b"DBL") && names[1].is_none() && is_named(&names[2], b"X")
+        }
+        Err(_) => false,
     };
-    assert!(rt; is_named(&names[0], b"DBL") && names[1].is_none() && is_named(&names[2], b"X"));
+    assert!(rt; are);
 }
