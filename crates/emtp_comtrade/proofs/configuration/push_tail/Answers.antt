@@ -9,13 +9,13 @@ returns c =
     let time = held ∙ c.sample_time.ensures in
     record {
       text =
-        simp (
-          time,
-          c.push-3.ensures.text,
-          c.push_fixed.ensures.text,
-          c.push-2.ensures.text,
-          c.push_number.ensures.text,
-          c.push.ensures.text,
-          append_assoc,
-        );
+          simp (
+            time,
+            c.push-3.ensures.text,
+            c.push_fixed.ensures.text,
+            c.push-2.ensures.text,
+            c.push_number.ensures.text,
+            c.push.ensures.text,
+            append_assoc,
+          );
     }
