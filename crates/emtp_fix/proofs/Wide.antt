@@ -45,7 +45,15 @@ product_through a b m n p q small small_m small_n =
 pub near_product-le : (a b d : ℤ) (m n : ℕ) → unsigned_abs a ≤ m → unsigned_abs b ≤ n → unsigned_abs (near (a *ℤ b) d) ≤ m * n
 near_product-le a b d m n p q = omega (arith, unsigned_abs-near-le (a *ℤ b) d, abs-mul-le a b m n p q)
 
--- ---- from 128 bits into 64
+-- ---- from 64 bits into 128
+
+pub wide_is : (z : ℤ) → unsigned_abs z ≤ LARGEST_VALUE → to_z w128 (of_z w128 (to_z w64 (of_z w64 z))) ≡ z
+wide_is z small = ap (λ y. to_z w128 (of_z w128 y)) (through_64 z small) ∙ through z (omega (arith, small))
+
+pub wide_fits : (z : ℤ) → unsigned_abs z ≤ LARGEST_VALUE → FitsSigned w128 (to_z w64 (of_z w64 z))
+wide_fits z small = subst (FitsSigned w128) (sym (through_64 z small)) (fits z (omega (arith, small)))
+
+-- ---- and from 128 into 64
 
 pub narrow_is : (r z : ℤ) → r ≡ z → unsigned_abs z ≤ 4 * 10 ^ 18 → to_z w64 (of_z w64 (to_z w128 (of_z w128 r))) ≡ z
 narrow_is r z e small = omega (arith, ints, e, small)

@@ -1,7 +1,7 @@
 use Rattle.std.proofs.Common.{◌≡◌, ◌≤◌, ◌*◌, ◌^◌, ◌∙◌, ap, ◌+ℤ◌, ◌*ℤ◌, ℤ, FitsSigned, of_z, refl, subst, sym, to_z, unsigned_abs, arith}
 use mir.Syntax.{w64, w128}
 use Rattle.std.proofs.lemmas.Int.{fits_signed_from_abs, to_z-of_z}
-use Rattle.emtp_fix.proofs.Wide.{abs-add-le, fits, through, through_64}
+use Rattle.emtp_fix.proofs.Wide.{abs-add-le, fits, through, through_64, wide_fits, wide_is}
 use Rattle.emtp_fix.specs.Rounding.{near}
 use Rattle.emtp_fix.specs.declared.limit.TheConstants.{LARGEST_VALUE, PICO}
 use Rattle.emtp_blocks.specs.Block.{unlimited}
@@ -66,14 +66,11 @@ returns-in-AtLow-clause-value c =
     sum_is c.product-in-AtLow.result c.args.past c.product-in-AtLow.ensures.bound c.requires.past ∙ ap (λ z. z +ℤ c.args.past) product ∙ sym (ap (λ m. unlimited law.sum m c.args.past c.args.solved c.args.u) c.in-AtLow.is)
 
 -- a free block puts out what was solved
-solved_is : (z : ℤ) → unsigned_abs z ≤ LARGEST_VALUE → to_z w128 (of_z w128 (to_z w64 (of_z w64 z))) ≡ z
-solved_is z small = ap (λ y. to_z w128 (of_z w128 y)) (through_64 z small) ∙ through z (omega (arith, small))
-
 pub overflow_cast-result : goal.overflow_cast-result
-overflow_cast-result c = subst (FitsSigned w128) (sym (through_64 c.args.solved c.requires.solved)) (fits c.args.solved (omega (arith, c.requires.solved)))
+overflow_cast-result c = wide_fits c.args.solved c.requires.solved
 
 pub returns-in-Free-clause-small : goal.returns-in-Free-clause-small
-returns-in-Free-clause-small c = omega (arith, ap unsigned_abs (solved_is c.args.solved c.requires.solved), c.requires.solved)
+returns-in-Free-clause-small c = omega (arith, ap unsigned_abs (wide_is c.args.solved c.requires.solved), c.requires.solved)
 
 pub returns-in-Free-clause-value : goal.returns-in-Free-clause-value
-returns-in-Free-clause-value c = solved_is c.args.solved c.requires.solved ∙ sym (ap (λ m. unlimited c.args.law.now.sum m c.args.past c.args.solved c.args.u) c.in-Free.is)
+returns-in-Free-clause-value c = wide_is c.args.solved c.requires.solved ∙ sym (ap (λ m. unlimited c.args.law.now.sum m c.args.past c.args.solved c.args.u) c.in-Free.is)

@@ -1,20 +1,13 @@
 use Rattle.std.proofs.Common.{◌≡◌, ◌≤◌, ◌*◌, ◌^◌, ◌∙◌, ap, ◌+ℤ◌, ◌-ℤ◌, ℤ, FitsSigned, of_z, refl, subst, sym, to_z, unsigned_abs, arith}
 use mir.Syntax.{w64, w128}
 use Rattle.std.proofs.lemmas.Int.{fits_signed_from_abs, ints, to_z-of_z}
-use Rattle.emtp_fix.proofs.Wide.{abs-add-le, abs-sub-le, fits, through, through_64}
+use Rattle.emtp_fix.proofs.Wide.{abs-add-le, abs-sub-le, fits, through, wide_fits, wide_is}
 use Rattle.emtp_fix.specs.declared.limit.TheConstants.{LARGEST_VALUE}
 use Rattle.emtp_devices.proofs.table.between_points.Goals as goal
 
--- a value in 128 bits
-fits_wide : (z : ℤ) → unsigned_abs z ≤ LARGEST_VALUE → FitsSigned w128 (to_z w64 (of_z w64 z))
-fits_wide z small = subst (FitsSigned w128) (sym (through_64 z small)) (fits z (omega (arith, small)))
-
-wide : (z : ℤ) → unsigned_abs z ≤ LARGEST_VALUE → to_z w128 (of_z w128 (to_z w64 (of_z w64 z))) ≡ z
-wide z small = ap (λ y. to_z w128 (of_z w128 y)) (through_64 z small) ∙ through z (omega (arith, small))
-
 -- the difference of two values
 difference : (a b : ℤ) → unsigned_abs a ≤ LARGEST_VALUE → unsigned_abs b ≤ LARGEST_VALUE → to_z w128 (of_z w128 (to_z w64 (of_z w64 a))) -ℤ to_z w128 (of_z w128 (to_z w64 (of_z w64 b))) ≡ a -ℤ b
-difference a b m n = rw (wide a m, wide b n) refl
+difference a b m n = rw (wide_is a m, wide_is b n) refl
 
 small_difference : (a b : ℤ) → unsigned_abs a ≤ LARGEST_VALUE → unsigned_abs b ≤ LARGEST_VALUE → unsigned_abs (a -ℤ b) ≤ 2 * 10 ^ 18
 small_difference a b m n = omega (arith, abs-sub-le a b, m, n)
@@ -27,25 +20,25 @@ wide_difference : (a b : ℤ) → unsigned_abs a ≤ LARGEST_VALUE → unsigned_
 wide_difference a b m n = ap (λ y. to_z w128 (of_z w128 y)) (difference a b m n) ∙ through (a -ℤ b) (omega (arith, small_difference a b m n))
 
 pub overflow_cast-s : goal.overflow_cast-s
-overflow_cast-s c = fits_wide c.args.s c.requires.s
+overflow_cast-s c = wide_fits c.args.s c.requires.s
 
 pub overflow_cast-p : goal.overflow_cast-p
-overflow_cast-p c = fits_wide c.args.p.now.current c.requires.p
+overflow_cast-p c = wide_fits c.args.p.now.current c.requires.p
 
 pub overflow_cast-q : goal.overflow_cast-q
-overflow_cast-q c = fits_wide c.args.q.now.other c.requires.q_other
+overflow_cast-q c = wide_fits c.args.q.now.other c.requires.q_other
 
 pub overflow_cast-p-2 : goal.overflow_cast-p-2
-overflow_cast-p-2 c = fits_wide c.args.p.now.other c.requires.p_other
+overflow_cast-p-2 c = wide_fits c.args.p.now.other c.requires.p_other
 
 pub overflow_cast-q-2 : goal.overflow_cast-q-2
-overflow_cast-q-2 c = fits_wide c.args.q.now.current c.requires.q
+overflow_cast-q-2 c = wide_fits c.args.q.now.current c.requires.q
 
 pub overflow_cast-p-3 : goal.overflow_cast-p-3
-overflow_cast-p-3 c = fits_wide c.args.p.now.current c.requires.p
+overflow_cast-p-3 c = wide_fits c.args.p.now.current c.requires.p
 
 pub overflow_cast-result : goal.overflow_cast-result
-overflow_cast-result c = fits_wide c.args.p.now.other c.requires.p_other
+overflow_cast-result c = wide_fits c.args.p.now.other c.requires.p_other
 
 pub overflow_sub-s : goal.overflow_sub-s
 overflow_sub-s c = fits_difference c.args.s c.args.p.now.current c.requires.s c.requires.p
@@ -70,7 +63,7 @@ scaled-share-requires-clause-nonzero c = λ e. absurd (omega (arith, ints, sym (
 
 -- the sum as the code computes it
 sum : (c : goal.After-result-1) → to_z w128 (of_z w128 (to_z w64 (of_z w64 c.args.p.now.other))) +ℤ to_z w128 (of_z w128 c.scaled-share.result) ≡ c.args.p.now.other +ℤ c.scaled-share.result
-sum c = rw (wide c.args.p.now.other c.requires.p_other, through c.scaled-share.result (omega (arith, c.scaled-share.ensures.bound))) refl
+sum c = rw (wide_is c.args.p.now.other c.requires.p_other, through c.scaled-share.result (omega (arith, c.scaled-share.ensures.bound))) refl
 
 fits_sum : (c : goal.After-result-1) → FitsSigned w128 (c.args.p.now.other +ℤ c.scaled-share.result)
 fits_sum c = fits_signed_from_abs w128 (c.args.p.now.other +ℤ c.scaled-share.result) (omega (arith, abs-add-le c.args.p.now.other c.scaled-share.result, c.requires.p_other, c.scaled-share.ensures.bound))
