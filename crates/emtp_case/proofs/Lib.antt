@@ -1,3 +1,4 @@
+pub mod FirstOrder
 pub mod Growth
 pub mod Threes
 pub mod Sources

@@ -1,8 +1,9 @@
--- A lag of half a time step of 0.1 ms, power by power, and plain gains.
+-- A lag of half a time step of 0.1 ms, and its coefficients.
 use Rattle.std.proofs.Math.Dec.{lit≤}
-use Rattle.std.proofs.Common.{◌≤◌, ◌^◌, ◌∷◌, [], List, rules, arith, pos, slice_index_or, suc, zero, ℕ, ℤ}
+use Rattle.std.proofs.Common.{◌≤◌, ◌^◌, ◌∷◌, [], List, pos, rules, ℤ}
 use Rattle.std.specs.Prelude.{unsigned_abs, ◌≢◌}
-use Rattle.emtp_case.specs.Control.{HasCoefficients, HasWay, denominator_of, divisor_of, numerator_of, step_gain}
+use Rattle.emtp_case.proofs.FirstOrder.{upto_1, ways}
+use Rattle.emtp_case.specs.Control.{HasCoefficients, denominator_of, divisor_of, numerator_of, step_gain}
 use Rattle.emtp_case.specs.declared.control.Block.{Block}
 use Rattle.emtp_case.specs.declared.control.Bound.TheVariants.{Fixed, None as NoBound}
 use Rattle.emtp_case.specs.declared.control.Input.{Input}
@@ -28,36 +29,6 @@ lag_of inputs = record {
   high = Fixed (pos 6000000000);
 }
 
-way_of_bottom : (j : ℕ) → j ≤ 1 → HasWay (pos 100000000) (slice_index_or bottom j (pos 0)) j
-unfolding near near_abs
-way_of_bottom zero one zero h = lit≤ tt
-way_of_bottom zero one (suc i) h = absurd (omega arith)
-way_of_bottom (suc zero) one zero h = lit≤ tt
-way_of_bottom (suc zero) one (suc zero) h = lit≤ tt
-way_of_bottom (suc zero) one (suc (suc i)) h = absurd (omega arith)
-way_of_bottom (suc (suc j)) one i h = absurd (omega arith)
-
-way_of_top : (j : ℕ) → j ≤ 1 → HasWay (pos 100000000) (slice_index_or top j (pos 0)) j
-unfolding near near_abs
-way_of_top zero one zero h = lit≤ tt
-way_of_top zero one (suc i) h = absurd (omega arith)
-way_of_top (suc zero) one zero h = lit≤ tt
-way_of_top (suc zero) one (suc zero) h = lit≤ tt
-way_of_top (suc zero) one (suc (suc i)) h = absurd (omega arith)
-way_of_top (suc (suc j)) one i h = absurd (omega arith)
-
-denominators : (inputs : List Input) (j : ℕ) → j ≤ 1 → unsigned_abs (denominator_of (pos 100000000) (lag_of inputs) j) ≤ 10 ^ 18
-unfolding near near_abs
-denominators inputs zero one = lit≤ tt
-denominators inputs (suc zero) one = lit≤ tt
-denominators inputs (suc (suc j)) one = absurd (omega arith)
-
-numerators : (inputs : List Input) (j : ℕ) → j ≤ 1 → unsigned_abs (numerator_of (pos 100000000) (lag_of inputs) j) ≤ 10 ^ 18
-unfolding near near_abs
-numerators inputs zero one = lit≤ tt
-numerators inputs (suc zero) one = lit≤ tt
-numerators inputs (suc (suc j)) one = absurd (omega arith)
-
 divides : (inputs : List Input) → divisor_of (pos 100000000) (lag_of inputs) ≢ pos 0
 unfolding near near_abs
 divides inputs = search rules
@@ -67,10 +38,11 @@ unfolding near near_abs
 within_step inputs = lit≤ tt
 
 pub coefficients : (inputs : List Input) → HasCoefficients (pos 100000000) (lag_of inputs)
+unfolding near near_abs
 coefficients inputs = record {
-  bottom_way = way_of_bottom;
-  top_way = way_of_top;
+  bottom_way = ways (pos 100000000) bottom (lit≤ tt) (lit≤ tt) (lit≤ tt);
+  top_way = ways (pos 100000000) top (lit≤ tt) (lit≤ tt) (lit≤ tt);
   divisor = divides inputs;
-  denominators = denominators inputs;
-  numerators = numerators inputs;
+  denominators = upto_1 (λ j. unsigned_abs (denominator_of (pos 100000000) (lag_of inputs) j) ≤ 10 ^ 18) (lit≤ tt) (lit≤ tt);
+  numerators = upto_1 (λ j. unsigned_abs (numerator_of (pos 100000000) (lag_of inputs) j) ≤ 10 ^ 18) (lit≤ tt) (lit≤ tt);
 }
