@@ -1,4 +1,5 @@
-use Rattle.std.proofs.Common.{◌≡◌, ◌≤◌, ◌<◌, ◌^◌, ◌∙◌, ◌-ℤ◌, ◌∷◌, All, ap, sym, subst, pos, map, length, slice_index_or, unsigned_abs, FitsSigned, to_z, of_z, arith, rules, ℕ, ℤ, List}
+use Rattle.std.proofs.Common.{◌≡◌, ◌≤◌, ◌<◌, ◌^◌, ◌∙◌, ◌-ℤ◌, ◌∷◌, int_lt, All, ap, sym, subst, pos, map, length, slice_index_or, unsigned_abs, FitsSigned, to_z, of_z, arith, rules, ℕ, ℤ, List}
+use lib.Signed.{mag}
 use mir.Syntax.{w64, w128}
 use Rattle.std.proofs.lemmas.Int.{ints, to_z-of_z}
 use Rattle.emtp_case.specs.Branch.{points_of}
@@ -6,53 +7,52 @@ use Rattle.emtp_case.specs.Control.{IsTable}
 use Rattle.emtp_case.specs.HistoryValues.{delay_steps}
 use Rattle.emtp_case.specs.Range.{IsBetween}
 use Rattle.emtp_case.specs.declared.branch.Point.{Point}
+use Rattle.emtp_case.specs.declared.case.Parts.{Parts}
+use Rattle.emtp_case.specs.declared.control.Device.{Device}
 use Rattle.emtp_case.specs.declared.control.DeviceCode.{DeviceCode}
 use Rattle.emtp_case.specs.declared.control.Input.{Input}
-use Rattle.emtp_devices.specs.Device.{brought, derivative, effective_value, one_above_zero, output_by, taken_input}
+use Rattle.emtp_devices.specs.Device.{Reading, brought, derivative, effective_value, extreme, gated, one_above_zero, output_by, table_value, taken_input}
 use Rattle.emtp_devices.proofs.Rings.{delay-depth, period-depth, pulse-depth}
+use Rattle.emtp_fix.proofs.Wide.{through_64}
 use Rattle.emtp_fix.specs.declared.limit.TheConstants.{LARGEST_VALUE}
 use Rattle.emtp_devices.proofs.next.output.Goals as goal
+
+-- a number of 64 bits among those of 128
+widened : (z : ℤ) → mag z < 2 ^ 63 → to_z w128 (of_z w128 (to_z w64 (of_z w64 z))) ≡ z
+widened z small = ap (λ z. to_z w128 (of_z w128 z)) (to_z-of_z w64 z (record { sfits = small })) ∙ to_z-of_z w128 z (record { sfits = omega (arith, small) })
+
+-- a value is that of the equation of the device's own code
+by_code : (case : Parts) (x : Device) (r : Reading) {code : DeviceCode} (z : ℤ) → x.code ≡ code → z ≡ output_by case x r code → z ≡ output_by case x r x.code
+by_code case x r z is value = value ∙ ap (output_by case x r) (sym is)
 
 pub returns-in-Delay : goal.returns-in-Delay
 returns-in-Delay c = λ inputs past.
     let case = c.args.case.now.parts in
     let x = c.args.device.now in
-    let h = c.args.held.now in
     let s : FitsSigned w64 c.args.s = c.ranges.s in
-    let r : FitsSigned w64 c.delayed.result = search rules in
-    let r' : FitsSigned w128 c.delayed.result = search rules in
-    let is = simp to_z-of_z at (c.delayed.ensures inputs (delay_steps case.run.dt x.a) (delay-depth case.run.dt x h c.requires.held c.in-Delay.is) past) in
-    let P = λ (code : DeviceCode). to_z w128 (of_z w128 (to_z w64 (of_z w64 c.delayed.result))) ≡ output_by case x (record { step = c.args.step; values = c.args.values.now; s = c.args.s; inputs = inputs; last = h.output }) code in
-    subst P (sym c.in-Delay.is) (ap (λ z. to_z w128 (of_z w128 z)) (to_z-of_z w64 c.delayed.result r) ∙ to_z-of_z w128 c.delayed.result r' ∙ is)
+    let is = simp to_z-of_z at (c.delayed.ensures inputs (delay_steps case.run.dt x.a) (delay-depth case.run.dt x c.args.held.now c.requires.held c.in-Delay.is) past) in
+    by_code case x _ _ c.in-Delay.is (widened c.delayed.result c.delayed.type_inv ∙ is)
 
 pub returns-in-DelayedPulse : goal.returns-in-DelayedPulse
 returns-in-DelayedPulse c = λ inputs past.
     let case = c.args.case.now.parts in
     let x = c.args.device.now in
-    let h = c.args.held.now in
     let s : FitsSigned w64 c.args.s = c.ranges.s in
-    let d : FitsSigned w64 c.delayed-in-DelayedPulse.result = search rules in
-    let r : FitsSigned w64 c.one_above_zero.result = search rules in
-    let r' : FitsSigned w128 c.one_above_zero.result = search rules in
-    let before = simp to_z-of_z at (c.delayed-in-DelayedPulse.ensures inputs (delay_steps case.run.dt x.a) (pulse-depth case.run.dt x h c.requires.held c.in-DelayedPulse.is) past) in
+    let d : FitsSigned w64 c.delayed-in-DelayedPulse.result = record { sfits = c.delayed-in-DelayedPulse.type_inv } in
+    let before = simp to_z-of_z at (c.delayed-in-DelayedPulse.ensures inputs (delay_steps case.run.dt x.a) (pulse-depth case.run.dt x c.args.held.now c.requires.held c.in-DelayedPulse.is) past) in
     let is = simp to_z-of_z at c.one_above_zero.ensures in
-    let P = λ (code : DeviceCode). to_z w128 (of_z w128 (to_z w64 (of_z w64 c.one_above_zero.result))) ≡ output_by case x (record { step = c.args.step; values = c.args.values.now; s = c.args.s; inputs = inputs; last = h.output }) code in
-    subst P (sym c.in-DelayedPulse.is) (ap (λ z. to_z w128 (of_z w128 z)) (to_z-of_z w64 c.one_above_zero.result r) ∙ to_z-of_z w128 c.one_above_zero.result r' ∙ is ∙ ap one_above_zero before)
+    by_code case x _ _ c.in-DelayedPulse.is (widened c.one_above_zero.result c.one_above_zero.type_inv ∙ is ∙ ap one_above_zero before)
 
 pub returns-in-Selector : goal.returns-in-Selector
 returns-in-Selector c = λ inputs past.
-    let case = c.args.case.now.parts in
     let x = c.args.device.now in
     let values = c.args.values.now in
-    let n : FitsSigned w64 c.named_value-in-Selector.result = search rules in
+    let n : FitsSigned w64 c.named_value-in-Selector.result = record { sfits = c.named_value-in-Selector.type_inv } in
     let a : FitsSigned w64 x.a = search rules in
     let na : to_z w64 (of_z w64 (c.named_value-in-Selector.result -ℤ x.a)) ≡ c.named_value-in-Selector.result -ℤ x.a = omega (arith, ints, c.named_value-in-Selector.ensures.small, c.requires.device.card.a.small) in
     let place = rw na at (simp to_z-of_z at c.taken_input.ensures) in
-    let r : FitsSigned w64 c.brought_at.result = search rules in
-    let r' : FitsSigned w128 c.brought_at.result = search rules in
-    let P = λ (code : DeviceCode). to_z w128 (of_z w128 (to_z w64 (of_z w64 c.brought_at.result))) ≡ output_by case x (record { step = c.args.step; values = values; s = c.args.s; inputs = inputs; last = c.args.held.now.output }) code in
-    subst P (sym c.in-Selector.is) (
-    ap (λ z. to_z w128 (of_z w128 z)) (to_z-of_z w64 c.brought_at.result r) ∙ to_z-of_z w128 c.brought_at.result r' ∙ c.brought_at.ensures
+    by_code c.args.case.now.parts x _ _ c.in-Selector.is (
+    widened c.brought_at.result c.brought_at.type_inv ∙ c.brought_at.ensures
     ∙ ap (λ (xs : List Input). slice_index_or (map (brought values) xs) c.taken_input.result (pos 0)) c.as_slice-inputs.ensures
     ∙ ap (λ k. slice_index_or (map (brought values) x.inputs) k (pos 0)) (place ∙ ap (λ z. taken_input (z -ℤ x.a)) c.named_value-in-Selector.ensures.value)
     )
@@ -61,25 +61,18 @@ pub returns-in-EffectiveValue : goal.returns-in-EffectiveValue
 returns-in-EffectiveValue c = λ inputs past.
     let case = c.args.case.now.parts in
     let x = c.args.device.now in
-    let h = c.args.held.now in
     let s : FitsSigned w64 c.args.s = c.ranges.s in
-    let r : FitsSigned w128 c.effective_value.result = search rules in
     let is = simp to_z-of_z at (c.effective_value.ensures inputs past) in
-    let P = λ (code : DeviceCode). to_z w128 (of_z w128 c.effective_value.result) ≡ output_by case x (record { step = c.args.step; values = c.args.values.now; s = c.args.s; inputs = inputs; last = h.output }) code in
-    subst P (sym c.in-EffectiveValue.is) (to_z-of_z w128 c.effective_value.result r ∙ is ∙ ap (λ k. effective_value k (c.args.s ∷ inputs)) (period-depth case.run.dt x h c.requires.held c.in-EffectiveValue.is))
+    by_code case x _ _ c.in-EffectiveValue.is (to_z-of_z w128 c.effective_value.result (record { sfits = c.effective_value.type_inv }) ∙ is ∙ ap (λ k. effective_value k (c.args.s ∷ inputs)) (period-depth case.run.dt x c.args.held.now c.requires.held c.in-EffectiveValue.is))
 
 pub returns-in-Derivative : goal.returns-in-Derivative
 returns-in-Derivative c = λ inputs past.
     let case = c.args.case.now.parts in
-    let x = c.args.device.now in
-    let h = c.args.held.now in
     let dt : FitsSigned w64 case.run.dt = search rules in
     let s : FitsSigned w64 c.args.s = c.ranges.s in
-    let b : FitsSigned w64 c.last_input.result = search rules in
-    let r : FitsSigned w128 c.derivative.result = search rules in
+    let b : FitsSigned w64 c.last_input.result = record { sfits = c.last_input.type_inv } in
     let is = simp to_z-of_z at c.derivative.ensures in
-    let P = λ (code : DeviceCode). to_z w128 (of_z w128 c.derivative.result) ≡ output_by case x (record { step = c.args.step; values = c.args.values.now; s = c.args.s; inputs = inputs; last = h.output }) code in
-    subst P (sym c.in-Derivative.is) (to_z-of_z w128 c.derivative.result r ∙ is ∙ ap (λ z. derivative case.run.dt c.args.s z) (c.last_input.ensures.value inputs past))
+    by_code case c.args.device.now _ _ c.in-Derivative.is (to_z-of_z w128 c.derivative.result (record { sfits = c.derivative.type_inv }) ∙ is ∙ ap (λ z. derivative case.run.dt c.args.s z) (c.last_input.ensures.value inputs past))
 
 -- what the inputs name is there
 inputs_there : (n m : ℕ) (inputs seen : List Input) → n ≡ m → seen ≡ inputs → All (λ (i : Input). i.var < m) inputs → All (λ (i : Input). i.var < n) seen
@@ -135,3 +128,59 @@ is_positive-reset-requires c = λ v is. subst (λ n. v < n) (sym c.requires.valu
 
 pub effective_value-requires-clause-sum : goal.effective_value-requires-clause-sum
 effective_value-requires-clause-sum c = c.requires.held.squares c.in-EffectiveValue.is
+
+pub returns-in-Gate : goal.returns-in-Gate
+returns-in-Gate c = λ inputs past.
+    let x = c.args.device.now in
+    let s : FitsSigned w64 c.args.s = c.ranges.s in
+    let a : FitsSigned w64 x.a = search rules in
+    let b : FitsSigned w64 x.b = search rules in
+    let d : FitsSigned w64 c.abs.result = record { sfits = c.abs.type_inv } in
+    let size = rw (through_64 c.named_value.result c.named_value.ensures.small) at c.abs.ensures.value in
+    let is = simp to_z-of_z at c.gated.ensures in
+    by_code c.args.case.now.parts x _ _ c.in-Gate.is (widened c.gated.result c.gated.type_inv ∙ is ∙ ap (λ z. gated (int_lt x.a z) x.b c.args.s) (size ∙ ap (λ z. pos (unsigned_abs z)) c.named_value.ensures.value))
+
+pub returns-in-GateAbove : goal.returns-in-GateAbove
+returns-in-GateAbove c = λ inputs past.
+    let x = c.args.device.now in
+    let s : FitsSigned w64 c.args.s = c.ranges.s in
+    let a : FitsSigned w64 x.a = search rules in
+    let b : FitsSigned w64 x.b = search rules in
+    let d : FitsSigned w64 c.named_value-in-GateAbove.result = record { sfits = c.named_value-in-GateAbove.type_inv } in
+    let is = simp to_z-of_z at c.gated-in-GateAbove.ensures in
+    by_code c.args.case.now.parts x _ _ c.in-GateAbove.is (widened c.gated-in-GateAbove.result c.gated-in-GateAbove.type_inv ∙ is ∙ ap (λ z. gated (int_lt x.a z) x.b c.args.s) c.named_value-in-GateAbove.ensures.value)
+
+pub returns-in-Extreme : goal.returns-in-Extreme
+returns-in-Extreme c = λ inputs past.
+    let x = c.args.device.now in
+    let values = c.args.values.now in
+    let a : FitsSigned w64 x.a = search rules in
+    let is = simp to_z-of_z at c.extreme.ensures in
+    by_code c.args.case.now.parts x _ _ c.in-Extreme.is (widened c.extreme.result c.extreme.type_inv ∙ is ∙ ap (extreme x.a values) c.as_slice-inputs.ensures)
+
+pub returns-in-Table : goal.returns-in-Table
+returns-in-Table c = λ inputs past.
+    let case = c.args.case.now.parts in
+    let x = c.args.device.now in
+    let s : FitsSigned w64 c.args.s = c.ranges.s in
+    let is = simp to_z-of_z at c.table_value.ensures in
+    let points = c.points_of.ensures ∙ ap (λ (ps : List Point). points_of ps x.first x.count) c.as_slice-points.ensures in
+    by_code case x _ _ c.in-Table.is (to_z-of_z w128 c.table_value.result (record { sfits = c.table_value.type_inv }) ∙ is ∙ ap (table_value c.args.s) points)
+
+pub derivative-requires-clause-before : goal.derivative-requires-clause-before
+derivative-requires-clause-before c = small_64 c.last_input.result (record { sfits = c.last_input.type_inv }) c.last_input.ensures.small
+
+pub named_value-requires-clause-values : goal.named_value-requires-clause-values
+named_value-requires-clause-values c = c.requires.values.small
+
+pub named_value-requires-in-Selector-clause-values : goal.named_value-requires-in-Selector-clause-values
+named_value-requires-in-Selector-clause-values c = c.requires.values.small
+
+pub named_value-requires-in-GateAbove-clause-values : goal.named_value-requires-in-GateAbove-clause-values
+named_value-requires-in-GateAbove-clause-values c = c.requires.values.small
+
+pub extreme-requires-clause-values : goal.extreme-requires-clause-values
+extreme-requires-clause-values c = c.requires.values.small
+
+pub brought_at-requires-clause-values : goal.brought_at-requires-clause-values
+brought_at-requires-clause-values c = c.requires.values.small
