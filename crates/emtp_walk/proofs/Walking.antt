@@ -1,11 +1,11 @@
 -- One more line of the walk, and what the cards keep wherever it ends.
-use Rattle.std.proofs.Common.{◌≡◌, ◌∙◌, ap, ℕ, ◌+◌, suc, List, ◌∷◌, drop, Some, Ok, Err, Result, add-one, drop-cons}
+use Rattle.std.proofs.Common.{◌≡◌, ◌∙◌, ap, ℕ, ◌+◌, suc, List, ◌∷◌, drop, Some, Ok, Err, IfErr, IfOk, Result, add-one, drop-cons}
 use Rattle.std.specs.Prelude.{slice_get}
 use Rattle.std.proofs.lemmas.Option.{slice_get_within, get_or_from_slice_get}
 use Rattle.emtp_card.specs.declared.reason.Bad.{Bad}
 use Rattle.emtp_card.specs.declared.reason.Refused.{Refused}
 use Rattle.emtp_card.specs.declared.reason.Refused.TheVariants.{Bad as OfBad, NoMemory}
-use Rattle.emtp_walk.specs.Answer.{IfBad, Leaves, go_on}
+use Rattle.emtp_walk.specs.Answer.{IfBad, IsWant, Leaves, go_on}
 use Rattle.emtp_walk.specs.Sound.{IsControlSound, IsSound, IsWhole}
 use Rattle.emtp_walk.specs.Walk.{advance, walk}
 use Rattle.emtp_walk.specs.declared.control_cards.ControlPlace.{ControlPlace}
@@ -31,6 +31,12 @@ walk_stops lines at number deck new place line NoMemory h e = tt
 pub refused_as : (refused : Refused) (a b : Result (Deck × Place) Bad) (new : Deck) → a ≡ b → Leaves {A = Place} {B = Deck} (Err refused) b new → Leaves {A = Place} {B = Deck} (Err refused) a new
 refused_as (OfBad bad) a b new e h = e ∙ h
 refused_as NoMemory a b new e h = tt
+
+-- a call that fails for want of memory alone
+pub leaves : {A B : Type 0} (result : Result A Refused) (defined : B × A) (read : Result (B × A) Bad) (left : B) → read ≡ Ok defined → IfOk result (λ x. defined ≡ (left, x)) → IfErr result IsWant → Leaves result read left
+leaves (Ok x) defined read left is ok bad = is ∙ ap Ok ok
+leaves (Err (OfBad fault)) defined read left is ok bad = absurd (cc)
+leaves (Err NoMemory) defined read left is ok bad = tt
 
 pub refusal : (refused : Refused) (walked : Result (Deck × Place) Bad) (new : Deck) → Leaves {A = Place} {B = Deck} (Err refused) walked new → IfBad refused (λ bad. walked ≡ Err bad)
 refusal (OfBad bad) walked new h = h
