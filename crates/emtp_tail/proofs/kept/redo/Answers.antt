@@ -1,4 +1,4 @@
-use Rattle.std.proofs.Common.{rules, ◌≡◌, ◌+◌, ◌*◌, ◌<◌, ◌≤◌, length, ap, sym, ◌∙◌, arith}
+use Rattle.std.proofs.Common.{rules, ℕ, ◌≡◌, ◌+◌, ◌*◌, ◌<◌, ◌≤◌, length, ap, sym, ◌∙◌, arith}
 use Rattle.std.proofs.lemmas.Nat.{row_fits}
 use Rattle.emtp_elim.specs.Matrix.{row_of}
 use Rattle.emtp_tail.proofs.GivenRows.{length-rows_in, length-put_row}
@@ -101,3 +101,20 @@ returns-in-Err-clause-earlier g c = rw c.in-Err.ensures.kept c.loop-i.invariant.
 
 pub returns-clause-earlier : goal.returns-clause-earlier
 returns-clause-earlier g c = c.loop-i.invariant.earlier
+
+row_low : (i size n : ℕ) → i < size → size ≡ n → n ≤ 1000 → i * size + size ≤ 1000 * 1000
+row_low i size n inside same few = row_fits i size 1000 1000 (omega arith) (omega arith)
+
+pub overflow_mul-at : goal.overflow_mul-at
+overflow_mul-at g c = omega (arith, row_low c.loop-i.i c.size-size.result _ c.loop-i-test.true c.size-size.ensures.size c.loop-i.invariant.few)
+
+pub overflow_add-at : goal.overflow_add-at
+overflow_add-at g c = omega (arith, row_low c.loop-i.i c.size-size.result _ c.loop-i-test.true c.size-size.ensures.size c.loop-i.invariant.few)
+
+pub offset_bounds-given-at : goal.offset_bounds-given-at
+offset_bounds-given-at g c = omega (arith, row_low c.loop-i.i c.size-size.result _ c.loop-i-test.true c.size-size.ensures.size c.loop-i.invariant.few)
+
+pub returns-clause-redone : goal.returns-clause-redone
+returns-clause-redone g c =
+    let all : c.loop-i.i ≡ length (g.R.Rows.matrix c.args.rows.now) = omega (arith, c.size-size.ensures.size, c.loop-i-test.false, c.loop-i.auto.i-end) in
+    rw all at c.loop-i.invariant.redone

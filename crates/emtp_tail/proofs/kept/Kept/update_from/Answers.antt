@@ -1,5 +1,6 @@
 use Rattle.std.proofs.Common.{◌≡◌, ◌≤◌, length, ap, ◌∙◌, arith}
-use Rattle.std.proofs.lemmas.Result.{IfErr-weaker}
+use Rattle.std.proofs.lemmas.List.{take_all}
+use Rattle.std.proofs.lemmas.Result.{IfErr-weaker, on_ok_weaker}
 use Rattle.emtp_tail.specs.Good.{Good}
 use Rattle.emtp_tail.proofs.GivenRows.{length-rows_in}
 use Rattle.emtp_tail.proofs.Redoing.{first_change_law, lent}
@@ -34,3 +35,26 @@ returns-clause-fault_ticks g c = c.redo.ensures.fault_ticks
 
 pub returns-clause-ticks : goal.returns-clause-ticks
 returns-clause-ticks g c = rw c.requires.size c.redo.ensures.ticks
+
+pub redo-requires-clause-kept : goal.redo-requires-clause-kept
+redo-requires-clause-kept g c =
+    let sized : c.self.inside.size ≡ length (g.R.Rows.matrix c.args.rows.now) = ap (λ (v : Good). v.size) c.self.view_is ∙ c.requires.size in
+    rw (c.deref_mut.ensures.value, c.deref_mut-2.ensures.value, ← sized) c.self.invariant
+
+pub invariant_of-self : goal.invariant_of-self
+invariant_of-self g c =
+    let m = c.self.inside in
+    let sized : m.size ≡ length (g.R.Rows.matrix c.args.rows.now) = ap (λ (v : Good). v.size) c.self.view_is ∙ c.requires.size in
+    let given = lent m.given.len c.redo.new.given m.given.items (omega (arith, c.deref_mut.ensures.len)) in
+    let work = lent m.work.len c.redo.new.work m.work.items (omega (arith, c.deref_mut-2.ensures.len)) in
+    rw (sized, given, work) c.redo.ensures.kept
+
+pub returns-clause-finished : goal.returns-clause-finished
+returns-clause-finished g c = (invariant_of-self g c).finished
+
+pub returns-clause-rows : goal.returns-clause-rows
+returns-clause-rows g c =
+    let rows = g.R.Rows.matrix c.args.rows.now in
+    let sized : c.self.inside.size ≡ length rows = ap (λ (v : Good). v.size) c.self.view_is ∙ c.requires.size in
+    let whole = lent c.self.inside.given.len c.redo.new.given c.self.inside.given.items (omega (arith, c.deref_mut.ensures.len)) in
+    on_ok_weaker c.redo.result (λ redone. rw (sized, whole, redone.count) (redone.given_first ∙ take_all (length rows) rows (omega arith))) c.redo.ensures.redone
