@@ -1,7 +1,7 @@
-use Rattle.std.proofs.Common.{◌≡◌, ◌≤◌, ◌<◌, ◌^◌, pos, length, slice_index, unsigned_abs, to_z, of_z, inr, arith}
+use Rattle.std.proofs.Common.{◌≡◌, ◌≤◌, ◌<◌, ◌^◌, ◌∙◌, pos, length, slice_index, unsigned_abs, to_z, of_z, inr, arith}
 use mir.Syntax.{w128}
-use Rattle.std.proofs.lemmas.Int.{ints}
-use Rattle.emtp_fix.proofs.Wide.{through}
+use Rattle.std.proofs.lemmas.Int.{ints, to_z-of_z}
+use Rattle.emtp_fix.proofs.Wide.{through, through_64}
 use Rattle.emtp_elim.specs.Matrix.{item}
 use Rattle.emtp_elim.specs.Row.{numbers}
 use Rattle.emtp_elim.proofs.KeptRows.{entry_small}
@@ -25,11 +25,11 @@ returns-then-unsigned_abs-gt-LARGEST_ENTRY-clause-out c =
     let row = c.requires.above in
     let small_pivot = entry_small c.args.above.pivot row (omega arith) row.pivot_within in
     let small_value = entry_small e row (omega arith) c.loop-e-test.true in
-    let m_is = ratio_read c.args.work.now c.from.result c.ratio-m.result row (c.requires.entries c.args.k (omega arith)) (omega (arith, ints, small_pivot)) c.ratio-m.ensures in
-    let wide : to_z w128 (of_z w128 c.ratio-m.result) ≡ c.ratio-m.result = omega (arith, ints) in
+    let m_is = ratio_read c.args.work.now c.from.result c.ratio-m.result row (c.requires.entries c.args.k (omega arith)) (c.from.ensures ∙ through_64 _ (omega (arith, small_pivot))) c.ratio-m.ensures in
+    let wide = to_z-of_z w128 c.ratio-m.result (omega (arith, c.ratio-m.type_inv)) in
     let value = lessened_next c.args.k c.from-in-loop-e.result c.less-entry.result row.later (rw wide at c.loop-e.invariant) c.loop-e.auto.e c.loop-e-test.true c.requires.entries row.finished.entries
-    (omega (arith, ints)) (omega (arith, ints, small_value)) c.less-entry.ensures in
-    let large : 10 ^ 17 < unsigned_abs c.less-entry.result = omega (arith, ints) in
+    (omega (arith, rw wide at c.unsigned_abs.ensures.value)) (c.from-in-loop-e.ensures ∙ through_64 _ (omega (arith, small_value))) c.less-entry.ensures in
+    let large : 10 ^ 17 < unsigned_abs c.less-entry.result = omega (arith, rw (to_z-of_z w128 c.less-entry.result (omega (arith, c.less-entry.type_inv))) at c.unsigned_abs-in-loop-e.ensures.value) in
     inr (slice_index c.args.above.columns.now e, omega (arith, row.later.low e c.loop-e.auto.e c.loop-e-test.true), row.later.high e c.loop-e.auto.e c.loop-e-test.true, rw (value, m_is) at large)
 
 pub bounds-work-column : goal.bounds-work-column
@@ -40,21 +40,21 @@ loop-e-preserved c =
     let e = c.loop-e.e in
     let row = c.requires.above in
     let small_value = entry_small e row (omega arith) c.loop-e-test.true in
-    let wide : to_z w128 (of_z w128 c.ratio-m.result) ≡ c.ratio-m.result = omega (arith, ints) in
+    let wide = to_z-of_z w128 c.ratio-m.result (omega (arith, c.ratio-m.type_inv)) in
     let was = rw wide at c.loop-e.invariant in
     let value = lessened_next c.args.k c.from-in-loop-e.result c.less-entry.result row.later was c.loop-e.auto.e c.loop-e-test.true c.requires.entries row.finished.entries
-    (omega (arith, ints)) (omega (arith, ints, small_value)) c.less-entry.ensures in
-    let wide_entry : to_z w128 (of_z w128 c.less-entry.result) ≡ c.less-entry.result = omega (arith, ints) in
-    rw (wide, wide_entry) (lessened_more c.less-entry.result row.later was c.loop-e.auto.e c.loop-e-test.true (omega arith) value (omega (arith, ints)))
+    (omega (arith, rw wide at c.unsigned_abs.ensures.value)) (c.from-in-loop-e.ensures ∙ through_64 _ (omega (arith, small_value))) c.less-entry.ensures in
+    let wide_entry = to_z-of_z w128 c.less-entry.result (omega (arith, c.less-entry.type_inv)) in
+    rw (wide, wide_entry) (lessened_more c.less-entry.result row.later was c.loop-e.auto.e c.loop-e-test.true (omega arith) value (omega (arith, rw wide_entry at c.unsigned_abs-in-loop-e.ensures.value)))
 
 pub returns-clause-cleared : goal.returns-clause-cleared
 returns-clause-cleared c =
     let row = c.requires.above in
     let small_pivot = entry_small c.args.above.pivot row (omega arith) row.pivot_within in
-    let m_is = ratio_read c.args.work.now c.from.result c.ratio-m.result row (c.requires.entries c.args.k (omega arith)) (omega (arith, ints, small_pivot)) c.ratio-m.ensures in
-    let wide : to_z w128 (of_z w128 c.ratio-m.result) ≡ c.ratio-m.result = omega (arith, ints) in
+    let m_is = ratio_read c.args.work.now c.from.result c.ratio-m.result row (c.requires.entries c.args.k (omega arith)) (c.from.ensures ∙ through_64 _ (omega (arith, small_pivot))) c.ratio-m.ensures in
+    let wide = to_z-of_z w128 c.ratio-m.result (omega (arith, c.ratio-m.type_inv)) in
     let all : c.loop-e.e ≡ c.args.above.last = omega (arith, row.pivot_within) in
-    rw wide (cleared_lessened c.args.k row.later (rw (wide, all) at c.loop-e.invariant) c.requires.entries m_is (omega (arith, ints)) (omega arith))
+    rw wide (cleared_lessened c.args.k row.later (rw (wide, all) at c.loop-e.invariant) c.requires.entries m_is (omega (arith, rw wide at c.unsigned_abs.ensures.value)) (omega arith))
 
 pub ratio-m-requires-clause-a : goal.ratio-m-requires-clause-a
 ratio-m-requires-clause-a c = omega (arith, ints, c.requires.entries c.args.k (omega arith))

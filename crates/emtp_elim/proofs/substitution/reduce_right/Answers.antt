@@ -1,5 +1,7 @@
-use Rattle.std.proofs.Common.{◌≡◌, ◌∙◌, to_z, of_z, arith}
+use Rattle.std.proofs.Common.{◌≡◌, ◌∙◌, length, pos, to_z, of_z, inl, inr, arith}
 use mir.Syntax.{w128}
+use Rattle.std.proofs.lemmas.Bool.{cases_lt}
+use Rattle.std.proofs.lemmas.List.{get_or_past}
 use Rattle.std.proofs.lemmas.Int.{ints}
 use Rattle.emtp_elim.proofs.Reduction.{reduced_more, right_fault}
 use Rattle.emtp_elim.proofs.substitution.reduce_right.Goals as goal
@@ -18,3 +20,14 @@ loop-i-preserved c =
     let wide : to_z w128 (of_z w128 c.in-Some.value) ≡ c.in-Some.value = omega (arith, ints) in
     rw wide (reduced_more c.args.done.now.rows c.args.right.now c.loop-i.right c.loop-i.i c.in-Some.value c.loop-i.invariant (omega arith) (omega arith) c.loop-i.auto.right
     (rw (sized, c.row.ensures.numbers) at c.in-Some.ensures.value) (rw (sized, c.row.ensures.numbers) at c.in-Some.ensures.within))
+
+pub returns-clause-within : goal.returns-clause-within
+returns-clause-within c i = elim (cases_lt i (length c.loop-i.right)) [
+  | inl inside ↦ c.loop-i.invariant.small i (omega (arith, c.loop-i-test.false, c.loop-i.auto.right))
+  | inr outside ↦ rw (get_or_past c.loop-i.right i (pos 0) outside) (omega arith)
+]
+
+pub returns-clause-reduced : goal.returns-clause-reduced
+returns-clause-reduced c =
+    let all : c.loop-i.i ≡ length c.args.right.now = omega (arith, c.loop-i-test.false, c.loop-i.auto.i-end) in
+    rw all at c.loop-i.invariant.reduced
