@@ -1,5 +1,5 @@
 -- Where a file stands in memory, and what is left of it.
-use Rattle.std.proofs.Common.{◌≡◌, ℕ, ◌+◌, ◌-◌, ◌<◌, ◌≤◌, min, arith, length, take, drop, get_or, length-drop, Bool, true, false, cond, nat_lt, List, [], ◌∷◌, ◌++◌, Option, Some, None, is_some, slice_get, refl, sym, ◌∙◌, ap}
+use Rattle.std.proofs.Common.{◌≡◌, ℕ, ◌+◌, ◌-◌, ◌^◌, ◌<◌, ◌≤◌, min, arith, length, take, drop, get_or, length-drop, Bool, true, false, cond, nat_lt, List, [], ◌∷◌, ◌++◌, Option, Some, None, is_some, slice_get, refl, sym, ◌∙◌, ap}
 use Rattle.std.specs.List.{find, position, position_or_len}
 use Rattle.std.specs.Option.{option_map}
 use Rattle.std.proofs.Math.Seq.{take-length}
@@ -96,3 +96,16 @@ pub unread_of-read : (files : List File) (opened : Option ℕ) (position n : ℕ
 unread_of-read files None position n bytes front left is = refl
 unread_of-read files (Some at) position n bytes front left is =
     rest-read (slice_get files at) position n bytes front left is
+
+end-fits : (file : Option File) (position n : ℕ) (bytes : List ℕ)
+    → position < 2 ^ 64 → rest position file ≡ Some bytes → n ≤ length bytes → position + n < 2 ^ 64
+end-fits None position n bytes fits left le = grind arith
+end-fits (Some file) position n bytes fits left le =
+    let whole : drop position file.1.items ≡ bytes = cc in
+    omega (arith, length-drop position file.1.items, ap length whole, file.1.ok, file.1.small)
+
+-- the place after the bytes read is a number of the machine
+pub unread_of-fits : (files : List File) (opened : Option ℕ) (position n : ℕ) (bytes : List ℕ)
+    → position < 2 ^ 64 → unread_of files opened position ≡ Some bytes → n ≤ length bytes → position + n < 2 ^ 64
+unread_of-fits files None position n bytes fits left le = grind arith
+unread_of-fits files (Some at) position n bytes fits left le = end-fits (slice_get files at) position n bytes fits left le

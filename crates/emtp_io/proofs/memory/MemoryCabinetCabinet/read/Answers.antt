@@ -1,6 +1,6 @@
 use Rattle.std.proofs.Common.{◌∙◌, ap, refl, sym, take, arith}
 use Rattle.emtp_io.specs.Memory.{Memory}
-use Rattle.emtp_io.proofs.FilesLemmas.{unread_of-read}
+use Rattle.emtp_io.proofs.FilesLemmas.{unread_of-read, unread_of-fits}
 use Rattle.emtp_io.proofs.memory.MemoryCabinetCabinet.read.Goals as goal
 
 pub returns-in-Some-clause-cause : goal.returns-in-Some-clause-cause
@@ -22,3 +22,9 @@ returns-in-Some-clause-bytes c =
 
 pub returns-in-Some-clause-ok : goal.returns-in-Some-clause-ok
 returns-in-Some-clause-ok c = rw (← c.self.view_is, c.next_fails-told.ensures.calls) refl
+
+pub overflow_add-self : goal.overflow_add-self
+overflow_add-self c =
+    let m = c.self.inside in
+    let left = rw c.deref-2.ensures.value at c.in-Some.ensures in
+    omega (arith, unread_of-fits m.files.items m.opened m.position c.copy_front-count.result c.in-Some.rest.now (omega (arith, c.self.ranges)) (sym left) (omega (arith, c.copy_front-count.ensures.count)))
