@@ -1,6 +1,7 @@
 use Rattle.std.proofs.Common.{◌∙◌, FitsSigned, arith, rules}
 use mir.Syntax.{w64, w128}
-use Rattle.std.proofs.lemmas.Int.{ints, to_z-of_z}
+use Rattle.std.proofs.lemmas.Int.{to_z-of_z}
+use Rattle.emtp_fix.proofs.Wide.{through}
 use Rattle.emtp_line.specs.Phases.{of_phase}
 use Rattle.emtp_line.proofs.Bounds.{three_same}
 use Rattle.emtp_line.proofs.phase_end.currents.Goals as goal
@@ -38,28 +39,28 @@ returns-clause-within c =
     }
 
 pub current-first-requires-clause-own : goal.current-first-requires-clause-own
-current-first-requires-clause-own c = omega (arith, ints, c.requires.own)
+current-first-requires-clause-own c = rw (to_z-of_z w64 c.args.own c.ranges.own) c.requires.own
 
 pub current-first-requires-clause-coupling : goal.current-first-requires-clause-coupling
-current-first-requires-clause-coupling c = omega (arith, ints, c.requires.coupling)
+current-first-requires-clause-coupling c = rw (to_z-of_z w64 c.args.coupling c.ranges.coupling) c.requires.coupling
 
 pub current-first-requires-clause-history : goal.current-first-requires-clause-history
-current-first-requires-clause-history c = omega (arith, ints, c.requires.histories.first)
+current-first-requires-clause-history c = rw (through (of_phase c.args.histories.now 0) (omega (arith, c.requires.histories.first))) c.requires.histories.first
 
 pub current-second-requires-clause-own : goal.current-second-requires-clause-own
-current-second-requires-clause-own c = omega (arith, ints, c.requires.own)
+current-second-requires-clause-own c = rw (to_z-of_z w64 c.args.own c.ranges.own) c.requires.own
 
 pub current-second-requires-clause-coupling : goal.current-second-requires-clause-coupling
-current-second-requires-clause-coupling c = omega (arith, ints, c.requires.coupling)
+current-second-requires-clause-coupling c = rw (to_z-of_z w64 c.args.coupling c.ranges.coupling) c.requires.coupling
 
 pub current-second-requires-clause-history : goal.current-second-requires-clause-history
-current-second-requires-clause-history c = omega (arith, ints, c.requires.histories.second)
+current-second-requires-clause-history c = rw (through (of_phase c.args.histories.now 1) (omega (arith, c.requires.histories.second))) c.requires.histories.second
 
 pub current-third-requires-clause-own : goal.current-third-requires-clause-own
-current-third-requires-clause-own c = omega (arith, ints, c.requires.own)
+current-third-requires-clause-own c = rw (to_z-of_z w64 c.args.own c.ranges.own) c.requires.own
 
 pub current-third-requires-clause-coupling : goal.current-third-requires-clause-coupling
-current-third-requires-clause-coupling c = omega (arith, ints, c.requires.coupling)
+current-third-requires-clause-coupling c = rw (to_z-of_z w64 c.args.coupling c.ranges.coupling) c.requires.coupling
 
 pub current-third-requires-clause-history : goal.current-third-requires-clause-history
-current-third-requires-clause-history c = omega (arith, ints, c.requires.histories.third)
+current-third-requires-clause-history c = rw (through (of_phase c.args.histories.now 2) (omega (arith, c.requires.histories.third))) c.requires.histories.third

@@ -1,6 +1,7 @@
 use Rattle.std.proofs.Common.{◌∙◌, FitsSigned, arith, rules}
 use mir.Syntax.{w64, w128}
-use Rattle.std.proofs.lemmas.Int.{ints, to_z-of_z}
+use Rattle.std.proofs.lemmas.Int.{to_z-of_z}
+use Rattle.emtp_fix.proofs.Wide.{through}
 use Rattle.emtp_line.specs.Phases.{of_phase}
 use Rattle.emtp_line.proofs.Bounds.{three_same, wave_same}
 use Rattle.emtp_line.proofs.phase_end.waves.Goals as goal
@@ -32,34 +33,34 @@ pub wave_apart-first-requires-clause-mode : goal.wave_apart-first-requires-claus
 wave_apart-first-requires-clause-mode c = c.requires.mode
 
 pub wave_apart-first-requires-clause-v_mean : goal.wave_apart-first-requires-clause-v_mean
-wave_apart-first-requires-clause-v_mean c = omega (arith, ints, c.mean_voltage-v_mean.ensures.bound)
+wave_apart-first-requires-clause-v_mean c = rw (through c.mean_voltage-v_mean.result (omega (arith, c.mean_voltage-v_mean.ensures.bound))) c.mean_voltage-v_mean.ensures.bound
 
 pub wave_apart-first-requires-clause-i : goal.wave_apart-first-requires-clause-i
-wave_apart-first-requires-clause-i c = omega (arith, ints, c.requires.i.first)
+wave_apart-first-requires-clause-i c = rw (through (of_phase c.args.i.now 0) (omega (arith, c.requires.i.first))) c.requires.i.first
 
 pub wave_apart-first-requires-clause-i_mean : goal.wave_apart-first-requires-clause-i_mean
-wave_apart-first-requires-clause-i_mean c = omega (arith, ints, c.mean_current-i_mean.ensures.bound)
+wave_apart-first-requires-clause-i_mean c = rw (through c.mean_current-i_mean.result (omega (arith, c.mean_current-i_mean.ensures.bound))) c.mean_current-i_mean.ensures.bound
 
 pub wave_apart-second-requires-clause-mode : goal.wave_apart-second-requires-clause-mode
 wave_apart-second-requires-clause-mode c = c.requires.mode
 
 pub wave_apart-second-requires-clause-v_mean : goal.wave_apart-second-requires-clause-v_mean
-wave_apart-second-requires-clause-v_mean c = omega (arith, ints, c.mean_voltage-v_mean.ensures.bound)
+wave_apart-second-requires-clause-v_mean c = rw (through c.mean_voltage-v_mean.result (omega (arith, c.mean_voltage-v_mean.ensures.bound))) c.mean_voltage-v_mean.ensures.bound
 
 pub wave_apart-second-requires-clause-i : goal.wave_apart-second-requires-clause-i
-wave_apart-second-requires-clause-i c = omega (arith, ints, c.requires.i.second)
+wave_apart-second-requires-clause-i c = rw (through (of_phase c.args.i.now 1) (omega (arith, c.requires.i.second))) c.requires.i.second
 
 pub wave_apart-second-requires-clause-i_mean : goal.wave_apart-second-requires-clause-i_mean
-wave_apart-second-requires-clause-i_mean c = omega (arith, ints, c.mean_current-i_mean.ensures.bound)
+wave_apart-second-requires-clause-i_mean c = rw (through c.mean_current-i_mean.result (omega (arith, c.mean_current-i_mean.ensures.bound))) c.mean_current-i_mean.ensures.bound
 
 pub wave_apart-third-requires-clause-mode : goal.wave_apart-third-requires-clause-mode
 wave_apart-third-requires-clause-mode c = c.requires.mode
 
 pub wave_apart-third-requires-clause-v_mean : goal.wave_apart-third-requires-clause-v_mean
-wave_apart-third-requires-clause-v_mean c = omega (arith, ints, c.mean_voltage-v_mean.ensures.bound)
+wave_apart-third-requires-clause-v_mean c = rw (through c.mean_voltage-v_mean.result (omega (arith, c.mean_voltage-v_mean.ensures.bound))) c.mean_voltage-v_mean.ensures.bound
 
 pub wave_apart-third-requires-clause-i : goal.wave_apart-third-requires-clause-i
-wave_apart-third-requires-clause-i c = omega (arith, ints, c.requires.i.third)
+wave_apart-third-requires-clause-i c = rw (through (of_phase c.args.i.now 2) (omega (arith, c.requires.i.third))) c.requires.i.third
 
 pub wave_apart-third-requires-clause-i_mean : goal.wave_apart-third-requires-clause-i_mean
-wave_apart-third-requires-clause-i_mean c = omega (arith, ints, c.mean_current-i_mean.ensures.bound)
+wave_apart-third-requires-clause-i_mean c = rw (through c.mean_current-i_mean.result (omega (arith, c.mean_current-i_mean.ensures.bound))) c.mean_current-i_mean.ensures.bound
