@@ -1,6 +1,7 @@
-use Rattle.std.proofs.Common.{rules, ◌≡◌, ◌≤◌, ◌<◌, ◌^◌, suc, slice_index, unsigned_abs, FitsSigned, to_z, of_z, arith}
+use Rattle.std.proofs.Common.{rules, ◌≡◌, ◌≤◌, ◌<◌, ◌^◌, ◌∙◌, suc, slice_index, unsigned_abs, FitsSigned, to_z, of_z, arith}
 use mir.Syntax.{w128}
 use Rattle.std.proofs.lemmas.Int.{ints, to_z-of_z}
+use Rattle.emtp_fix.proofs.Wide.{through_64}
 use Rattle.emtp_elim.specs.Matrix.{item}
 use Rattle.emtp_elim.proofs.Entries.{at_end}
 use Rattle.emtp_elim.proofs.RightSides.{partial_start, partial_next, partial_more}
@@ -21,8 +22,8 @@ returns-then-unsigned_abs-gt-LARGEST_VALUE-2-clause-out c =
     let high = row.ratios.high e c.loop-e.auto.e c.loop-e-test.true in
     let small_ratio = rw (← row.ratios.value_is e c.loop-e.auto.e c.loop-e-test.true) at (row.finished.ratios _ high) in
     let next = partial_next _ _ c.args.right.now c.args.i _ _ _ e _ c.loop-e.value c.from.result c.less-value.result row.ratios row.finished.ratios c.requires.before (rw c.loop-e.value-is at c.loop-e.invariant)
-    c.loop-e.auto.e c.loop-e-test.true (omega (arith, ints, small_ratio)) (rw c.loop-e.value-is at c.less-value.ensures) in
-    let large : 10 ^ 18 < unsigned_abs c.less-value.result = omega (arith, ints) in
+    c.loop-e.auto.e c.loop-e-test.true (c.from.ensures ∙ through_64 _ (omega (arith, small_ratio))) (rw c.loop-e.value-is at c.less-value.ensures) in
+    let large : 10 ^ 18 < unsigned_abs c.less-value.result = omega (arith, rw (to_z-of_z w128 c.less-value.result (omega (arith, c.less-value.type_inv))) at c.unsigned_abs-in-loop-e.ensures.value) in
     (suc (slice_index c.args.row.columns.now e), high, rw next at large)
 
 pub loop-e-preserved : goal.loop-e-preserved
@@ -33,9 +34,9 @@ loop-e-preserved c =
     let high = row.ratios.high e c.loop-e.auto.e c.loop-e-test.true in
     let small_ratio = rw (← row.ratios.value_is e c.loop-e.auto.e c.loop-e-test.true) at (row.finished.ratios _ high) in
     let next = partial_next _ _ c.args.right.now c.args.i _ _ _ e _ c.loop-e.value c.from.result c.less-value.result row.ratios row.finished.ratios c.requires.before was
-    c.loop-e.auto.e c.loop-e-test.true (omega (arith, ints, small_ratio)) (rw c.loop-e.value-is at c.less-value.ensures) in
-    let wide : to_z w128 (of_z w128 c.less-value.result) ≡ c.less-value.result = omega (arith, ints) in
-    rw wide (partial_more _ _ c.args.right.now c.args.i _ _ _ e _ c.loop-e.value c.less-value.result row.ratios was c.loop-e.auto.e c.loop-e-test.true next (omega (arith, ints)))
+    c.loop-e.auto.e c.loop-e-test.true (c.from.ensures ∙ through_64 _ (omega (arith, small_ratio))) (rw c.loop-e.value-is at c.less-value.ensures) in
+    let wide = to_z-of_z w128 c.less-value.result (omega (arith, c.less-value.type_inv)) in
+    rw wide (partial_more _ _ c.args.right.now c.args.i _ _ _ e _ c.loop-e.value c.less-value.result row.ratios was c.loop-e.auto.e c.loop-e-test.true next (omega (arith, rw wide at c.unsigned_abs-in-loop-e.ensures.value)))
 
 pub returns-clause-within : goal.returns-clause-within
 returns-clause-within c = λ k low.

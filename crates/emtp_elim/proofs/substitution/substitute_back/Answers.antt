@@ -1,6 +1,6 @@
-use Rattle.std.proofs.Common.{◌≡◌, ◌≤◌, ◌-◌, ◌^◌, length, unsigned_abs, sym, to_z, of_z, arith}
+use Rattle.std.proofs.Common.{◌≡◌, ◌≤◌, ◌-◌, ◌^◌, ◌∙◌, length, unsigned_abs, sym, to_z, of_z, arith}
 use mir.Syntax.{w128}
-use Rattle.std.proofs.lemmas.Int.{ints}
+use Rattle.std.proofs.lemmas.Int.{ints, to_z-of_z}
 use Rattle.emtp_fix.proofs.Wide.{through_64}
 use Rattle.emtp_elim.proofs.KeptRows.{entry_small}
 use Rattle.emtp_elim.proofs.Unknowns.{found_none, next_read, found_more, found_fault}
@@ -20,8 +20,8 @@ returns-then-unsigned_abs-gt-LARGEST_VALUE-clause-fault c =
     let row = c.row-row.ensures.row in
     let small_pivot = entry_small c.row-row.result.pivot row (omega arith) row.pivot_within in
     let next = next_read c.remainder-left.result _ c.near_by-unknown.result row c.row-row.ensures.numbers c.loop-k.invariant (omega arith) (sym c.requires.full) (omega arith)
-    c.remainder-left.ensures.value c.remainder-left.ensures.bound (omega (arith, ints, small_pivot)) c.near_by-unknown.ensures.value in
-    found_fault c.args.done.now.rows c.args.right.now c.loop-k.x c.loop-k.k k c.near_by-unknown.result c.loop-k.invariant (omega arith) (omega arith) (omega arith) next (omega (arith, ints))
+    c.remainder-left.ensures.value c.remainder-left.ensures.bound (to_z-of_z w128 c.from.result (omega (arith, c.from.type_inv)) ∙ c.from.ensures ∙ through_64 _ (omega (arith, small_pivot))) c.near_by-unknown.ensures.value in
+    found_fault c.args.done.now.rows c.args.right.now c.loop-k.x c.loop-k.k k c.near_by-unknown.result c.loop-k.invariant (omega arith) (omega arith) (omega arith) next (omega (arith, rw (to_z-of_z w128 c.near_by-unknown.result (omega (arith, c.near_by-unknown.type_inv))) at c.unsigned_abs.ensures.value))
 
 pub loop-k-preserved : goal.loop-k-preserved
 loop-k-preserved c =
@@ -29,9 +29,9 @@ loop-k-preserved c =
     let row = c.row-row.ensures.row in
     let small_pivot = entry_small c.row-row.result.pivot row (omega arith) row.pivot_within in
     let next = next_read c.remainder-left.result _ c.near_by-unknown.result row c.row-row.ensures.numbers c.loop-k.invariant (omega arith) (sym c.requires.full) (omega arith)
-    c.remainder-left.ensures.value c.remainder-left.ensures.bound (omega (arith, ints, small_pivot)) c.near_by-unknown.ensures.value in
-    let wide : to_z w128 (of_z w128 c.near_by-unknown.result) ≡ c.near_by-unknown.result = omega (arith, ints) in
-    let small : unsigned_abs c.near_by-unknown.result ≤ 10 ^ 18 = omega (arith, ints) in
+    c.remainder-left.ensures.value c.remainder-left.ensures.bound (to_z-of_z w128 c.from.result (omega (arith, c.from.type_inv)) ∙ c.from.ensures ∙ through_64 _ (omega (arith, small_pivot))) c.near_by-unknown.ensures.value in
+    let wide = to_z-of_z w128 c.near_by-unknown.result (omega (arith, c.near_by-unknown.type_inv)) in
+    let small : unsigned_abs c.near_by-unknown.result ≤ 10 ^ 18 = omega (arith, rw wide at c.unsigned_abs.ensures.value) in
     rw (wide, through_64 c.near_by-unknown.result small)
     (found_more c.args.done.now.rows c.args.right.now c.loop-k.x c.loop-k.k k c.near_by-unknown.result c.loop-k.invariant (omega arith) (omega arith) (omega arith) next small)
 
