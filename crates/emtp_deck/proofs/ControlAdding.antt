@@ -1,6 +1,6 @@
 -- One more record of the control, and what the control leaves.
-use Rattle.std.proofs.Common.{List, [], ap, arith, drop, fold, get_or, length, length-append, refl, sym, take, take-append-drop, ℕ, ◌++◌, ◌+◌, ◌<◌, ◌∙◌, ◌∷◌, ◌≡◌, ◌≤◌}
-use Rattle.std.proofs.lemmas.List.{take_more}
+use Rattle.std.proofs.Common.{List, [], ap, arith, drop, fold, get_or, length, length-append, map, refl, sym, take, take-append-drop, ℕ, ◌++◌, ◌+◌, ◌<◌, ◌∙◌, ◌∷◌, ◌≡◌, ◌≤◌}
+use Rattle.std.proofs.lemmas.List.{map_more, take_more}
 use Rattle.std.proofs.lemmas.List.Elements.{All-nil}
 use Rattle.std.proofs.lemmas.List.Sums.{fold-append, sum_by-append, sum_by-cons}
 use Rattle.std.specs.List.{sum_by}
@@ -24,6 +24,9 @@ taken xs k x is l = take_more xs k x l ∙ ap (λ y. take k xs ++ y ∷ []) (sym
 
 pub fold_next : {A B : Type 0} (g : B → A → B) (b : B) (xs : List A) (k : ℕ) (x : A) → x ≡ get_or xs k x → k < length xs → fold g b (take (k + 1) xs) ≡ g (fold g b (take k xs)) x
 fold_next g b xs k x is l = ap (fold g b) (taken xs k x is l) ∙ fold-append g b (take k xs) (x ∷ [])
+
+pub map_next : {A B : Type 0} (f : A → B) (xs : List A) (k : ℕ) (x : A) → x ≡ get_or xs k x → k < length xs → map f (take (k + 1) xs) ≡ map f (take k xs) ++ f x ∷ []
+map_next f xs k x is l = map_more f xs k x l ∙ ap (λ y. map f (take k xs) ++ f y ∷ []) (sym is)
 
 pub sum_next : {A : Type 0} (f : A → ℕ) (xs : List A) (k : ℕ) (x : A) → x ≡ get_or xs k x → k < length xs → sum_by f (take (k + 1) xs) ≡ sum_by f (take k xs) + f x
 sum_next f xs k x is l =

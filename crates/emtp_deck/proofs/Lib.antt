@@ -12,3 +12,4 @@ pub mod ControlAdding
 pub mod ControlWhole
 pub mod WholeDeck
 pub mod SameDeck
+pub mod Wanting
