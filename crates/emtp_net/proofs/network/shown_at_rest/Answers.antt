@@ -13,62 +13,46 @@ returns-clause-closed c = marked c ∙ c.write_closed.ensures
 pub returns-clause-count : goal.returns-clause-count
 returns-clause-count c = omega (arith, ap length (marked c), c.write_closed.auto.out, c.deref_mut.ensures.len, c.in_ok-closed.ensures.len, c.len-4.ensures)
 
-pub returns-in_err-voltages-clause-voltages : goal.returns-in_err-voltages-clause-voltages
-returns-in_err-voltages-clause-voltages c = nothing_made _ _ c.from_residual.result c.from_residual.ensures.1
+pub returns-in_err-voltages : goal.returns-in_err-voltages
+returns-in_err-voltages c =
+    let r = c.from_residual in
+    record {
+      voltages = nothing_made _ _ r.result r.ensures.1;
+      currents = nothing_made _ _ r.result r.ensures.1;
+      switch_currents = nothing_made _ _ r.result r.ensures.1;
+      closed = nothing_made _ _ r.result r.ensures.1;
+      count = nothing_made _ _ r.result r.ensures.1;
+    }
 
-pub returns-in_err-voltages-clause-currents : goal.returns-in_err-voltages-clause-currents
-returns-in_err-voltages-clause-currents c = nothing_made _ _ c.from_residual.result c.from_residual.ensures.1
+pub returns-in_err-currents : goal.returns-in_err-currents
+returns-in_err-currents c =
+    let r = c.from_residual-in_err-currents in
+    record {
+      voltages = nothing_made _ _ r.result r.ensures.1;
+      currents = nothing_made _ _ r.result r.ensures.1;
+      switch_currents = nothing_made _ _ r.result r.ensures.1;
+      closed = nothing_made _ _ r.result r.ensures.1;
+      count = nothing_made _ _ r.result r.ensures.1;
+    }
 
-pub returns-in_err-voltages-clause-switch_currents : goal.returns-in_err-voltages-clause-switch_currents
-returns-in_err-voltages-clause-switch_currents c = nothing_made _ _ c.from_residual.result c.from_residual.ensures.1
+pub returns-in_err-switch_currents : goal.returns-in_err-switch_currents
+returns-in_err-switch_currents c =
+    let r = c.from_residual-in_err-switch_currents in
+    record {
+      voltages = nothing_made _ _ r.result r.ensures.1;
+      currents = nothing_made _ _ r.result r.ensures.1;
+      switch_currents = nothing_made _ _ r.result r.ensures.1;
+      closed = nothing_made _ _ r.result r.ensures.1;
+      count = nothing_made _ _ r.result r.ensures.1;
+    }
 
-pub returns-in_err-voltages-clause-closed : goal.returns-in_err-voltages-clause-closed
-returns-in_err-voltages-clause-closed c = nothing_made _ _ c.from_residual.result c.from_residual.ensures.1
-
-pub returns-in_err-voltages-clause-count : goal.returns-in_err-voltages-clause-count
-returns-in_err-voltages-clause-count c = nothing_made _ _ c.from_residual.result c.from_residual.ensures.1
-
-pub returns-in_err-currents-clause-voltages : goal.returns-in_err-currents-clause-voltages
-returns-in_err-currents-clause-voltages c = nothing_made _ _ c.from_residual-in_err-currents.result c.from_residual-in_err-currents.ensures.1
-
-pub returns-in_err-currents-clause-currents : goal.returns-in_err-currents-clause-currents
-returns-in_err-currents-clause-currents c = nothing_made _ _ c.from_residual-in_err-currents.result c.from_residual-in_err-currents.ensures.1
-
-pub returns-in_err-currents-clause-switch_currents : goal.returns-in_err-currents-clause-switch_currents
-returns-in_err-currents-clause-switch_currents c = nothing_made _ _ c.from_residual-in_err-currents.result c.from_residual-in_err-currents.ensures.1
-
-pub returns-in_err-currents-clause-closed : goal.returns-in_err-currents-clause-closed
-returns-in_err-currents-clause-closed c = nothing_made _ _ c.from_residual-in_err-currents.result c.from_residual-in_err-currents.ensures.1
-
-pub returns-in_err-currents-clause-count : goal.returns-in_err-currents-clause-count
-returns-in_err-currents-clause-count c = nothing_made _ _ c.from_residual-in_err-currents.result c.from_residual-in_err-currents.ensures.1
-
-pub returns-in_err-switch_currents-clause-voltages : goal.returns-in_err-switch_currents-clause-voltages
-returns-in_err-switch_currents-clause-voltages c = nothing_made _ _ c.from_residual-in_err-switch_currents.result c.from_residual-in_err-switch_currents.ensures.1
-
-pub returns-in_err-switch_currents-clause-currents : goal.returns-in_err-switch_currents-clause-currents
-returns-in_err-switch_currents-clause-currents c = nothing_made _ _ c.from_residual-in_err-switch_currents.result c.from_residual-in_err-switch_currents.ensures.1
-
-pub returns-in_err-switch_currents-clause-switch_currents : goal.returns-in_err-switch_currents-clause-switch_currents
-returns-in_err-switch_currents-clause-switch_currents c = nothing_made _ _ c.from_residual-in_err-switch_currents.result c.from_residual-in_err-switch_currents.ensures.1
-
-pub returns-in_err-switch_currents-clause-closed : goal.returns-in_err-switch_currents-clause-closed
-returns-in_err-switch_currents-clause-closed c = nothing_made _ _ c.from_residual-in_err-switch_currents.result c.from_residual-in_err-switch_currents.ensures.1
-
-pub returns-in_err-switch_currents-clause-count : goal.returns-in_err-switch_currents-clause-count
-returns-in_err-switch_currents-clause-count c = nothing_made _ _ c.from_residual-in_err-switch_currents.result c.from_residual-in_err-switch_currents.ensures.1
-
-pub returns-in_err-closed-clause-voltages : goal.returns-in_err-closed-clause-voltages
-returns-in_err-closed-clause-voltages c = nothing_made _ _ c.from_residual-in_err-closed.result c.from_residual-in_err-closed.ensures.1
-
-pub returns-in_err-closed-clause-currents : goal.returns-in_err-closed-clause-currents
-returns-in_err-closed-clause-currents c = nothing_made _ _ c.from_residual-in_err-closed.result c.from_residual-in_err-closed.ensures.1
-
-pub returns-in_err-closed-clause-switch_currents : goal.returns-in_err-closed-clause-switch_currents
-returns-in_err-closed-clause-switch_currents c = nothing_made _ _ c.from_residual-in_err-closed.result c.from_residual-in_err-closed.ensures.1
-
-pub returns-in_err-closed-clause-closed : goal.returns-in_err-closed-clause-closed
-returns-in_err-closed-clause-closed c = nothing_made _ _ c.from_residual-in_err-closed.result c.from_residual-in_err-closed.ensures.1
-
-pub returns-in_err-closed-clause-count : goal.returns-in_err-closed-clause-count
-returns-in_err-closed-clause-count c = nothing_made _ _ c.from_residual-in_err-closed.result c.from_residual-in_err-closed.ensures.1
+pub returns-in_err-closed : goal.returns-in_err-closed
+returns-in_err-closed c =
+    let r = c.from_residual-in_err-closed in
+    record {
+      voltages = nothing_made _ _ r.result r.ensures.1;
+      currents = nothing_made _ _ r.result r.ensures.1;
+      switch_currents = nothing_made _ _ r.result r.ensures.1;
+      closed = nothing_made _ _ r.result r.ensures.1;
+      count = nothing_made _ _ r.result r.ensures.1;
+    }

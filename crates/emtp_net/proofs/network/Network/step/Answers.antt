@@ -47,6 +47,12 @@ pub factor-requires-clause-rows : goal.factor-requires-clause-rows
 factor-requires-clause-rows g c =
     holds_kinds c.self.inside.case.now.parts c.self.inside.rows c.decide.new.rows c.self.inside.kept c.self.invariant.rows_hold c.decide.ensures.rest c.decide.ensures.touched
 
+pub factor-requires-clause-order : goal.factor-requires-clause-order
+factor-requires-clause-order g c = c.self.invariant.order_is
+
+pub factor-requires-clause-same : goal.factor-requires-clause-same
+factor-requires-clause-same g c = c.self.invariant.branches_case
+
 pub invariant_of-self-in_err-solve : goal.invariant_of-self-in_err-solve
 invariant_of-self-in_err-solve g c =
     let kept_shown = c.self.invariant.shown in
@@ -133,393 +139,279 @@ invariant_of-self-2 g c =
       few = few_next c.self.inside.case.now.parts c.self.inside.made c.self.inside.redone c.factor.new.redone c.self.invariant.few (subst (λ (s : Net). s.made < s.case.run.steps) (sym c.self.view_is) c.requires.made) c.factor.ensures.few;
     }
 
-pub returns-in_err-decide-clause-step : goal.returns-in_err-decide-clause-step
-returns-in_err-decide-clause-step g c = λ H stands tacs.
-    let stood = subst (λ (s : Net). StandsFor s H) (sym c.self.view_is) stands in
-    let last = latest_is _ H c.deref.result.now c.deref-2.result.now c.args.tacs.now stood c.deref.ensures.value c.deref-2.ensures.value tacs in
-    let returned = err_from_is_err_and c.from_residual.result c.from_residual.ensures.1 in
-    err_steps _ _ _ H c.from_residual.result _ 0 c.self.view_is stood refl (omega arith) (returned.1 ∙ ap Err returned.2) (c.in_err-decide.ensures.ends H stood.switches last)
-
-pub returns-in_err-factor-clause-step : goal.returns-in_err-factor-clause-step
-returns-in_err-factor-clause-step g c = λ H stands tacs.
-    let stood = subst (λ (s : Net). StandsFor s H) (sym c.self.view_is) stands in
-    let ready = ready_here _ _ H _ _ _ _ _ _ c.in_ok-decide.ensures.decided c.self.view_is stands c.deref.ensures.value c.deref-2.ensures.value tacs in
-    let returned = err_from_is_err_and c.from_residual-in_err-factor.result c.from_residual-in_err-factor.ensures.1 in
-    err_steps _ _ _ H c.from_residual-in_err-factor.result _ _ c.self.view_is stood refl (c.factor.ensures.redone H ready) (returned.1 ∙ ap Err returned.2) (c.in_err-factor.ensures.ends H ready)
-
-pub returns-in_err-solve-clause-step : goal.returns-in_err-solve-clause-step
-returns-in_err-solve-clause-step g c = λ H stands tacs.
-    let stood = subst (λ (s : Net). StandsFor s H) (sym c.self.view_is) stands in
-    let decided = decided_here _ _ H _ _ _ _ _ _ c.in_ok-decide.ensures.decided c.self.view_is stands c.deref.ensures.value c.deref-2.ensures.value tacs in
-    let ready = ready_is _ H _ _ _ stood decided in
-    let values = c.set_sources.ensures.values H stood.steps tacs in
-    let posed = posed_is _ H _ _ c.decide.new.self c.set_sources.new.self c.factor.new.kept stood decided c.set_sources.ensures.kinds values (c.in_ok-factor.ensures.made H ready) in
-    let returned = err_from_is_err_and c.from_residual-in_err-solve.result c.from_residual-in_err-solve.ensures.1 in
-    err_steps _ _ _ H c.from_residual-in_err-solve.result _ _ c.self.view_is stood refl (c.factor.ensures.redone H ready) (returned.1 ∙ ap Err returned.2) (c.in_err-solve.ensures.ends H posed)
-
-pub returns-in_err-accept-clause-step : goal.returns-in_err-accept-clause-step
-returns-in_err-accept-clause-step g c = λ H stands tacs.
-    let case = c.self.inside.case.now.parts in
-    let stood = subst (λ (s : Net). StandsFor s H) (sym c.self.view_is) stands in
-    let last = latest_is _ H c.deref.result.now c.deref-2.result.now c.args.tacs.now stood c.deref.ensures.value c.deref-2.ensures.value tacs in
-    let decided = c.in_ok-decide.ensures.decided H stood.switches last in
-    let ready = ready_is _ H c.decide.new.self.kinds.items c.decide.new.rows c.decide.new.switches stood decided in
-    let values = c.set_sources.ensures.values H stood.steps tacs in
-    let posed = posed_is _ H c.decide.new.rows c.decide.new.switches c.decide.new.self c.set_sources.new.self c.factor.new.kept stood decided c.set_sources.ensures.kinds values (c.in_ok-factor.ensures.made H ready) in
-    let redone = c.factor.ensures.redone H ready in
-    let vs = c.deref-3.result.now in
-    let read = c.deref-3.ensures.value ∙ with_items_is c.self.inside.voltages c.solve.new.voltages (c.solve.auto.voltages ∙ c.deref_mut.ensures.len) in
-    let voltages : AreVoltages case H vs = subst (AreVoltages case H) (sym read) (c.in_ok-solve.ensures.solved H posed) in
-    let returned = err_from_is_err_and c.from_residual-in_err-accept.result c.from_residual-in_err-accept.ensures.1 in
-    err_steps _ _ _ H c.from_residual-in_err-accept.result _ _ c.self.view_is stood refl redone (returned.1 ∙ ap Err returned.2) (c.in_err-accept.ensures.ends H stood.branches voltages)
-
-pub returns-in_err-find_currents-clause-step : goal.returns-in_err-find_currents-clause-step
-returns-in_err-find_currents-clause-step g c = λ H stands tacs.
-    let case = c.self.inside.case.now.parts in
-    let stood = subst (λ (s : Net). StandsFor s H) (sym c.self.view_is) stands in
-    let last = latest_is _ H c.deref.result.now c.deref-2.result.now c.args.tacs.now stood c.deref.ensures.value c.deref-2.ensures.value tacs in
-    let decided = c.in_ok-decide.ensures.decided H stood.switches last in
-    let ready = ready_is _ H c.decide.new.self.kinds.items c.decide.new.rows c.decide.new.switches stood decided in
-    let values = c.set_sources.ensures.values H stood.steps tacs in
-    let posed = posed_is _ H c.decide.new.rows c.decide.new.switches c.decide.new.self c.set_sources.new.self c.factor.new.kept stood decided c.set_sources.ensures.kinds values (c.in_ok-factor.ensures.made H ready) in
-    let redone = c.factor.ensures.redone H ready in
-    let vs = c.deref-3.result.now in
-    let read = c.deref-3.ensures.value ∙ with_items_is c.self.inside.voltages c.solve.new.voltages (c.solve.auto.voltages ∙ c.deref_mut.ensures.len) in
-    let voltages : AreVoltages case H vs = subst (AreVoltages case H) (sym read) (c.in_ok-solve.ensures.solved H posed) in
-    let moved = c.in_ok-accept.ensures.moved H stood.branches in
-    let flows = c.deref-4.ensures.value ∙ with_items_is c.self.inside.currents c.accept.new.currents (c.accept.auto.currents ∙ c.deref_mut-2.ensures.len) in
-    let moved_so = subst (λ cs. HaveMoved c.accept.new.self cs case H vs) (sym flows) moved in
-    let valued = ap (λ v. v.items) c.solve.ensures.values ∙ values in
-    let returned = err_from_is_err_and c.from_residual-in_err-find_currents.result c.from_residual-in_err-find_currents.ensures.1 in
-    err_steps _ _ _ H c.from_residual-in_err-find_currents.result _ _ c.self.view_is stood refl redone (returned.1 ∙ ap Err returned.2) (c.in_err-find_currents.ensures.ends H vs voltages moved_so valued decided.states_are)
-
-pub returns-clause-step : goal.returns-clause-step
-returns-clause-step g c = λ H stands tacs.
-    let seen : Net = record {
-      case = c.self.inside.case.now.parts;
-      branches = c.self.inside.branches;
-      switches = c.self.inside.switches;
-      rows = c.self.inside.rows;
-      kept = c.self.inside.kept;
-      voltages = c.self.inside.voltages.items;
-      currents = c.self.inside.currents.items;
-      switch_currents = c.self.inside.switch_currents.items;
-      closed = c.self.inside.closed.items;
-      made = c.self.inside.made;
-      redone = c.self.inside.redone;
-    } in
-    let case = seen.case in
-    let stood : StandsFor seen H = subst (λ (s : Net). StandsFor s H) (sym c.self.view_is) stands in
-    let last = latest_is seen H c.deref.result.now c.deref-2.result.now c.args.tacs.now stood c.deref.ensures.value c.deref-2.ensures.value tacs in
-    let decided = c.in_ok-decide.ensures.decided H stood.switches last in
-    let ready = ready_is seen H c.decide.new.self.kinds.items c.decide.new.rows c.decide.new.switches stood decided in
-    let values = c.set_sources.ensures.values H stood.steps tacs in
-    let posed = posed_is seen H c.decide.new.rows c.decide.new.switches c.decide.new.self c.set_sources.new.self c.factor.new.kept stood decided c.set_sources.ensures.kinds values (c.in_ok-factor.ensures.made H ready) in
-    let redone = c.factor.ensures.redone H ready in
-    let vs = c.deref-3.result.now in
-    let read = c.deref-3.ensures.value ∙ with_items_is c.self.inside.voltages c.solve.new.voltages (c.solve.auto.voltages ∙ c.deref_mut.ensures.len) in
-    let voltages : AreVoltages case H vs = subst (AreVoltages case H) (sym read) (c.in_ok-solve.ensures.solved H posed) in
-    let moved = c.in_ok-accept.ensures.moved H stood.branches in
-    let flows = c.deref-4.ensures.value ∙ with_items_is c.self.inside.currents c.accept.new.currents (c.accept.auto.currents ∙ c.deref_mut-2.ensures.len) in
-    let moved_so = subst (λ cs. HaveMoved c.accept.new.self cs case H vs) (sym flows) moved in
-    let valued = ap (λ v. v.items) c.solve.ensures.values ∙ values in
-    let has = c.in_ok-find_currents.ensures.found H vs voltages moved_so valued decided.states_are in
-    let leaving = c.find_currents.ensures.leaving H vs moved_so valued in
-    let kinds = ap (λ v. v.items) (c.find_currents.ensures.kinds ∙ c.solve.ensures.kinds) ∙ posed.kinds in
-    let shown_flows = with_items_is c.self.inside.currents c.accept.new.currents (c.accept.auto.currents ∙ c.deref_mut-2.ensures.len) in
-    let crossed = with_items_is c.self.inside.switch_currents c.find_currents.new.out (c.find_currents.auto.out ∙ c.deref_mut-3.ensures.len) in
-    let marked = with_items_is c.self.inside.closed c.write_closed.new.out (c.write_closed.auto.out ∙ c.deref_mut-4.ensures.len) in
-    let left : Net = (record {
-      case = case;
-      branches = c.accept.new.self;
-      switches = c.find_currents.new.switches;
-      rows = c.factor.new.rows;
-      kept = c.factor.new.kept;
-      voltages = (with_items c.self.inside.voltages c.solve.new.voltages).items;
-      currents = (with_items c.self.inside.currents c.accept.new.currents).items;
-      switch_currents = (with_items c.self.inside.switch_currents c.find_currents.new.out).items;
-      closed = (with_items c.self.inside.closed c.write_closed.new.out).items;
-      made = c.self.inside.made + 1;
-      redone = c.factor.new.redone;
-    }) in
-    let stepped : HasStepped seen left H vs = record {
-      case_is = refl;
-      branches = subst (λ cs. HaveMoved c.accept.new.self cs case H vs) (sym shown_flows) moved;
-      switches = λ r is. subst (λ (s : switching.Switching). switching.StandsFor s (r ∷ H)) (sym c.find_currents.ensures.same) (c.decide.ensures.stands H r stood.switches last is);
-      states = ap (λ (s : switching.Switching). s.states) c.find_currents.ensures.same ∙ decided.states_are;
-      voltages = sym c.deref-3.ensures.value;
-      switch_currents = crossed ∙ has.are;
-      closed = marked ∙ c.write_closed.ensures;
-      kept = c.in_ok-factor.ensures.made H ready;
-      kept_size = c.factor.ensures.rows.kept_size;
-      made = refl;
-      redone = redone;
-    } in
-    judge_steps seen c.args.self.now left H vs c.find_currents.new.out c.judge.result c.self.view_is stood stepped voltages has
-    (c.judge.ensures.judged H vs c.find_currents.new.out voltages moved.in_range has kinds leaving) (c.judge.ensures.ends H vs c.find_currents.new.out voltages moved.in_range has kinds leaving)
-
-pub returns-in_err-factor-clause-tied : goal.returns-in_err-factor-clause-tied
-returns-in_err-factor-clause-tied g c = λ H node stands tacs tied.
-    let decided = decided_here _ _ H _ _ _ _ _ _ c.in_ok-decide.ensures.decided c.self.view_is stands c.deref.ensures.value c.deref-2.ensures.value tacs in
-    absurd (free_isnt_tied c.self.inside.case.now.parts H node decided.free (subst (λ (s : Net). network_part s.case H ≡ Err (Tied node)) (sym c.self.view_is) tied))
-
-pub returns-in_err-solve-clause-tied : goal.returns-in_err-solve-clause-tied
-returns-in_err-solve-clause-tied g c = λ H node stands tacs tied.
-    let decided = decided_here _ _ H _ _ _ _ _ _ c.in_ok-decide.ensures.decided c.self.view_is stands c.deref.ensures.value c.deref-2.ensures.value tacs in
-    absurd (free_isnt_tied c.self.inside.case.now.parts H node decided.free (subst (λ (s : Net). network_part s.case H ≡ Err (Tied node)) (sym c.self.view_is) tied))
-
-pub returns-in_err-accept-clause-tied : goal.returns-in_err-accept-clause-tied
-returns-in_err-accept-clause-tied g c = λ H node stands tacs tied.
-    let decided = decided_here _ _ H _ _ _ _ _ _ c.in_ok-decide.ensures.decided c.self.view_is stands c.deref.ensures.value c.deref-2.ensures.value tacs in
-    absurd (free_isnt_tied c.self.inside.case.now.parts H node decided.free (subst (λ (s : Net). network_part s.case H ≡ Err (Tied node)) (sym c.self.view_is) tied))
-
-pub returns-in_err-find_currents-clause-tied : goal.returns-in_err-find_currents-clause-tied
-returns-in_err-find_currents-clause-tied g c = λ H node stands tacs tied.
-    let decided = decided_here _ _ H _ _ _ _ _ _ c.in_ok-decide.ensures.decided c.self.view_is stands c.deref.ensures.value c.deref-2.ensures.value tacs in
-    absurd (free_isnt_tied c.self.inside.case.now.parts H node decided.free (subst (λ (s : Net). network_part s.case H ≡ Err (Tied node)) (sym c.self.view_is) tied))
-
-pub returns-clause-tied : goal.returns-clause-tied
-returns-clause-tied g c = λ H node stands tacs tied.
-    let decided = decided_here _ _ H _ _ _ _ _ _ c.in_ok-decide.ensures.decided c.self.view_is stands c.deref.ensures.value c.deref-2.ensures.value tacs in
-    absurd (free_isnt_tied c.self.inside.case.now.parts H node decided.free (subst (λ (s : Net). network_part s.case H ≡ Err (Tied node)) (sym c.self.view_is) tied))
-
-pub returns-in_err-decide-clause-case : goal.returns-in_err-decide-clause-case
-returns-in_err-decide-clause-case g c = ap (λ (s : Net). s.case) c.self.view_is
-
-pub returns-in_err-decide-clause-made : goal.returns-in_err-decide-clause-made
-returns-in_err-decide-clause-made g c = ap (λ (s : Net). s.made + 1) c.self.view_is
-
-pub returns-in_err-decide-clause-few : goal.returns-in_err-decide-clause-few
-returns-in_err-decide-clause-few g c = omega (arith, ap (λ (s : Net). s.redone) c.self.view_is)
-
-pub returns-in_err-decide-clause-few_ticks : goal.returns-in_err-decide-clause-few_ticks
-returns-in_err-decide-clause-few_ticks g c = omega arith
-
-pub returns-in_err-decide-clause-most : goal.returns-in_err-decide-clause-most
-returns-in_err-decide-clause-most g c = λ H stands tacs. omega arith
-
-pub returns-in_err-decide-clause-node : goal.returns-in_err-decide-clause-node
-returns-in_err-decide-clause-node g c = err_names _ _ c.from_residual.result _ c.self.view_is c.from_residual.ensures.1 c.in_err-decide.ensures.node
-
-pub returns-in_err-decide-clause-ticks : goal.returns-in_err-decide-clause-ticks
-returns-in_err-decide-clause-ticks g c = λ H stands tacs. err_claims _ c.from_residual.result _ c.from_residual.ensures.1
-
-pub returns-in_err-factor-clause-case : goal.returns-in_err-factor-clause-case
-returns-in_err-factor-clause-case g c = ap (λ (s : Net). s.case) c.self.view_is
-
-pub returns-in_err-factor-clause-made : goal.returns-in_err-factor-clause-made
-returns-in_err-factor-clause-made g c = ap (λ (s : Net). s.made + 1) c.self.view_is
-
-pub returns-in_err-factor-clause-few : goal.returns-in_err-factor-clause-few
-returns-in_err-factor-clause-few g c = subst (λ (s : Net). c.factor.new.redone ≤ s.redone + 1000) c.self.view_is c.factor.ensures.few
-
-pub returns-in_err-factor-clause-few_ticks : goal.returns-in_err-factor-clause-few_ticks
-returns-in_err-factor-clause-few_ticks g c = c.factor.ensures.few_ticks
-
-pub returns-in_err-factor-clause-most : goal.returns-in_err-factor-clause-most
-returns-in_err-factor-clause-most g c = λ H stands tacs.
-    let ready = ready_here _ _ H _ _ _ _ _ _ c.in_ok-decide.ensures.decided c.self.view_is stands c.deref.ensures.value c.deref-2.ensures.value tacs in
-    subst (λ (s : Net). c.factor.new.steps ≤ c.args.steps.now + step_ticks s.case H) c.self.view_is (c.factor.ensures.most H ready)
-
-pub returns-in_err-factor-clause-node : goal.returns-in_err-factor-clause-node
-returns-in_err-factor-clause-node g c = err_names _ _ c.from_residual-in_err-factor.result _ c.self.view_is c.from_residual-in_err-factor.ensures.1 c.in_err-factor.ensures.node
-
-pub returns-in_err-factor-clause-ticks : goal.returns-in_err-factor-clause-ticks
-returns-in_err-factor-clause-ticks g c = λ H stands tacs. err_claims _ c.from_residual-in_err-factor.result _ c.from_residual-in_err-factor.ensures.1
-
-pub returns-in_err-solve-clause-case : goal.returns-in_err-solve-clause-case
-returns-in_err-solve-clause-case g c = ap (λ (s : Net). s.case) c.self.view_is
-
-pub returns-in_err-solve-clause-made : goal.returns-in_err-solve-clause-made
-returns-in_err-solve-clause-made g c = ap (λ (s : Net). s.made + 1) c.self.view_is
-
-pub returns-in_err-solve-clause-few : goal.returns-in_err-solve-clause-few
-returns-in_err-solve-clause-few g c = subst (λ (s : Net). c.factor.new.redone ≤ s.redone + 1000) c.self.view_is c.factor.ensures.few
-
-pub returns-in_err-solve-clause-few_ticks : goal.returns-in_err-solve-clause-few_ticks
-returns-in_err-solve-clause-few_ticks g c = c.factor.ensures.few_ticks
-
-pub returns-in_err-solve-clause-most : goal.returns-in_err-solve-clause-most
-returns-in_err-solve-clause-most g c = λ H stands tacs.
-    let ready = ready_here _ _ H _ _ _ _ _ _ c.in_ok-decide.ensures.decided c.self.view_is stands c.deref.ensures.value c.deref-2.ensures.value tacs in
-    subst (λ (s : Net). c.factor.new.steps ≤ c.args.steps.now + step_ticks s.case H) c.self.view_is (c.factor.ensures.most H ready)
-
-pub returns-in_err-solve-clause-node : goal.returns-in_err-solve-clause-node
-returns-in_err-solve-clause-node g c = err_names _ _ c.from_residual-in_err-solve.result _ c.self.view_is c.from_residual-in_err-solve.ensures.1 c.in_err-solve.ensures.node
-
-pub returns-in_err-solve-clause-ticks : goal.returns-in_err-solve-clause-ticks
-returns-in_err-solve-clause-ticks g c = λ H stands tacs. err_claims _ c.from_residual-in_err-solve.result _ c.from_residual-in_err-solve.ensures.1
-
-pub returns-in_err-accept-clause-case : goal.returns-in_err-accept-clause-case
-returns-in_err-accept-clause-case g c = ap (λ (s : Net). s.case) c.self.view_is
-
-pub returns-in_err-accept-clause-made : goal.returns-in_err-accept-clause-made
-returns-in_err-accept-clause-made g c = ap (λ (s : Net). s.made + 1) c.self.view_is
-
-pub returns-in_err-accept-clause-few : goal.returns-in_err-accept-clause-few
-returns-in_err-accept-clause-few g c = subst (λ (s : Net). c.factor.new.redone ≤ s.redone + 1000) c.self.view_is c.factor.ensures.few
-
-pub returns-in_err-accept-clause-few_ticks : goal.returns-in_err-accept-clause-few_ticks
-returns-in_err-accept-clause-few_ticks g c = c.factor.ensures.few_ticks
-
-pub returns-in_err-accept-clause-most : goal.returns-in_err-accept-clause-most
-returns-in_err-accept-clause-most g c = λ H stands tacs.
-    let ready = ready_here _ _ H _ _ _ _ _ _ c.in_ok-decide.ensures.decided c.self.view_is stands c.deref.ensures.value c.deref-2.ensures.value tacs in
-    subst (λ (s : Net). c.factor.new.steps ≤ c.args.steps.now + step_ticks s.case H) c.self.view_is (c.factor.ensures.most H ready)
-
-pub returns-in_err-accept-clause-node : goal.returns-in_err-accept-clause-node
-returns-in_err-accept-clause-node g c = err_names _ _ c.from_residual-in_err-accept.result _ c.self.view_is c.from_residual-in_err-accept.ensures.1 c.in_err-accept.ensures.node
-
-pub returns-in_err-accept-clause-ticks : goal.returns-in_err-accept-clause-ticks
-returns-in_err-accept-clause-ticks g c = λ H stands tacs. err_claims _ c.from_residual-in_err-accept.result _ c.from_residual-in_err-accept.ensures.1
-
-pub returns-in_err-find_currents-clause-case : goal.returns-in_err-find_currents-clause-case
-returns-in_err-find_currents-clause-case g c = ap (λ (s : Net). s.case) c.self.view_is
-
-pub returns-in_err-find_currents-clause-made : goal.returns-in_err-find_currents-clause-made
-returns-in_err-find_currents-clause-made g c = ap (λ (s : Net). s.made + 1) c.self.view_is
-
-pub returns-in_err-find_currents-clause-few : goal.returns-in_err-find_currents-clause-few
-returns-in_err-find_currents-clause-few g c = subst (λ (s : Net). c.factor.new.redone ≤ s.redone + 1000) c.self.view_is c.factor.ensures.few
-
-pub returns-in_err-find_currents-clause-few_ticks : goal.returns-in_err-find_currents-clause-few_ticks
-returns-in_err-find_currents-clause-few_ticks g c = c.factor.ensures.few_ticks
-
-pub returns-in_err-find_currents-clause-most : goal.returns-in_err-find_currents-clause-most
-returns-in_err-find_currents-clause-most g c = λ H stands tacs.
-    let ready = ready_here _ _ H _ _ _ _ _ _ c.in_ok-decide.ensures.decided c.self.view_is stands c.deref.ensures.value c.deref-2.ensures.value tacs in
-    subst (λ (s : Net). c.factor.new.steps ≤ c.args.steps.now + step_ticks s.case H) c.self.view_is (c.factor.ensures.most H ready)
-
-pub returns-in_err-find_currents-clause-node : goal.returns-in_err-find_currents-clause-node
-returns-in_err-find_currents-clause-node g c = err_names _ _ c.from_residual-in_err-find_currents.result _ c.self.view_is c.from_residual-in_err-find_currents.ensures.1 c.in_err-find_currents.ensures.node
-
-pub returns-in_err-find_currents-clause-ticks : goal.returns-in_err-find_currents-clause-ticks
-returns-in_err-find_currents-clause-ticks g c = λ H stands tacs. err_claims _ c.from_residual-in_err-find_currents.result _ c.from_residual-in_err-find_currents.ensures.1
-
-pub returns-clause-case : goal.returns-clause-case
-returns-clause-case g c = ap (λ (s : Net). s.case) c.self.view_is
-
-pub returns-clause-made : goal.returns-clause-made
-returns-clause-made g c = ap (λ (s : Net). s.made + 1) c.self.view_is
-
-pub returns-clause-few : goal.returns-clause-few
-returns-clause-few g c = subst (λ (s : Net). c.factor.new.redone ≤ s.redone + 1000) c.self.view_is c.factor.ensures.few
-
-pub returns-clause-few_ticks : goal.returns-clause-few_ticks
-returns-clause-few_ticks g c = c.factor.ensures.few_ticks
-
-pub returns-clause-most : goal.returns-clause-most
-returns-clause-most g c = λ H stands tacs.
-    let ready = ready_here _ _ H _ _ _ _ _ _ c.in_ok-decide.ensures.decided c.self.view_is stands c.deref.ensures.value c.deref-2.ensures.value tacs in
-    subst (λ (s : Net). c.factor.new.steps ≤ c.args.steps.now + step_ticks s.case H) c.self.view_is (c.factor.ensures.most H ready)
-
-pub returns-clause-node : goal.returns-clause-node
-returns-clause-node g c = subst (λ (s : Net). IfErr c.judge.result (NamesNode s.case)) c.self.view_is c.judge.ensures.node
-
-pub returns-clause-ticks : goal.returns-clause-ticks
-returns-clause-ticks g c = λ H stands tacs.
-    let ready = ready_here _ _ H _ _ _ _ _ _ c.in_ok-decide.ensures.decided c.self.view_is stands c.deref.ensures.value c.deref-2.ensures.value tacs in
-    let same : c.factor.new.steps ≡ c.args.steps.now + step_ticks c.args.self.now.case H = subst (λ (s : Net). c.factor.new.steps ≡ c.args.steps.now + step_ticks s.case H) c.self.view_is (c.in_ok-factor.ensures.ticks H ready) in
-    ok_claims _ c.judge.result same
-
-pub decide-requires-clause-room : goal.decide-requires-clause-room
-decide-requires-clause-room g c = c.self.invariant.room
-
-pub decide-requires-clause-switches : goal.decide-requires-clause-switches
-decide-requires-clause-switches g c = c.self.invariant.switches_hold
-
-pub decide-requires-clause-rows : goal.decide-requires-clause-rows
-decide-requires-clause-rows g c = c.self.invariant.rows_hold.case_is
-
-pub decide-requires-clause-step : goal.decide-requires-clause-step
-decide-requires-clause-step g c = subst (λ (s : Net). s.made + 1 ≤ s.case.run.steps) (sym c.self.view_is) (omega (arith, c.requires.made))
-
-pub decide-requires-clause-voltages : goal.decide-requires-clause-voltages
-decide-requires-clause-voltages g c = ap length c.deref.ensures.value ∙ c.self.invariant.shown.voltages_count
-
-pub decide-requires-clause-small : goal.decide-requires-clause-small
-decide-requires-clause-small g c = subst (All (λ v. unsigned_abs v ≤ LARGEST_VALUE)) (sym c.deref.ensures.value) c.self.invariant.shown.voltages_small
-
-pub decide-requires-clause-currents : goal.decide-requires-clause-currents
-decide-requires-clause-currents g c = ap length c.deref-2.ensures.value ∙ c.self.invariant.shown.switch_count
-
-pub decide-requires-clause-tacs : goal.decide-requires-clause-tacs
-decide-requires-clause-tacs g c = subst (λ (s : Net). length c.args.tacs.now ≡ length s.case.vars) (sym c.self.view_is) c.requires.tacs
-
-pub factor-requires-clause-order : goal.factor-requires-clause-order
-factor-requires-clause-order g c = c.self.invariant.order_is
-
-pub factor-requires-clause-same : goal.factor-requires-clause-same
-factor-requires-clause-same g c = c.self.invariant.branches_case
-
-pub set_sources-requires-clause-room : goal.set_sources-requires-clause-room
-set_sources-requires-clause-room g c = c.decide.ensures.room
-
-pub set_sources-requires-clause-step : goal.set_sources-requires-clause-step
-set_sources-requires-clause-step g c = subst (λ (s : Net). s.made + 1 ≤ s.case.run.steps) (sym c.self.view_is) (omega (arith, c.requires.made))
-
-pub set_sources-requires-clause-tacs : goal.set_sources-requires-clause-tacs
-set_sources-requires-clause-tacs g c = subst (λ (s : Net). length c.args.tacs.now ≡ length s.case.vars) (sym c.self.view_is) c.requires.tacs
-
-pub solve-requires-clause-room : goal.solve-requires-clause-room
-solve-requires-clause-room g c = c.set_sources.ensures.room
-
-pub solve-requires-clause-order : goal.solve-requires-clause-order
-solve-requires-clause-order g c = c.self.invariant.order_is
-
-pub solve-requires-clause-same : goal.solve-requires-clause-same
-solve-requires-clause-same g c = c.self.invariant.branches_case
-
-pub solve-requires-clause-size : goal.solve-requires-clause-size
-solve-requires-clause-size g c = c.factor.ensures.rows.kept_size
-
-pub solve-requires-clause-all : goal.solve-requires-clause-all
-solve-requires-clause-all g c = c.in_ok-factor.ensures.all
-
-pub accept-requires-clause-same : goal.accept-requires-clause-same
-accept-requires-clause-same g c = c.self.invariant.branches_case
-
-pub find_currents-requires-clause-room : goal.find_currents-requires-clause-room
-find_currents-requires-clause-room g c = c.solve.ensures.room
-
-pub find_currents-requires-clause-order : goal.find_currents-requires-clause-order
-find_currents-requires-clause-order g c = c.self.invariant.order_is
-
-pub find_currents-requires-clause-same : goal.find_currents-requires-clause-same
-find_currents-requires-clause-same g c = c.accept.ensures.same
-
-pub find_currents-requires-clause-switches : goal.find_currents-requires-clause-switches
-find_currents-requires-clause-switches g c = c.decide.ensures.switches
-
-pub judge-requires-clause-room : goal.judge-requires-clause-room
-judge-requires-clause-room g c = c.find_currents.ensures.room
-
-pub judge-requires-clause-order : goal.judge-requires-clause-order
-judge-requires-clause-order g c = c.self.invariant.order_is
-
-pub judge-requires-clause-small : goal.judge-requires-clause-small
-judge-requires-clause-small g c = c.find_currents.ensures.small
-
-pub solve-requires-clause-voltages : goal.solve-requires-clause-voltages
-solve-requires-clause-voltages g c = ap length c.deref_mut.ensures.value ∙ c.self.invariant.shown.voltages_count
-
-pub solve-requires-clause-small : goal.solve-requires-clause-small
-solve-requires-clause-small g c = subst (All (λ v. unsigned_abs v ≤ LARGEST_VALUE)) (sym c.deref_mut.ensures.value) c.self.invariant.shown.voltages_small
-
-pub accept-requires-clause-each : goal.accept-requires-clause-each
-accept-requires-clause-each g c = ap length (c.deref-3.ensures.value ∙ with_items_is c.self.inside.voltages c.solve.new.voltages (c.solve.auto.voltages ∙ c.deref_mut.ensures.len)) ∙ c.solve.auto.voltages ∙ ap length c.deref_mut.ensures.value ∙ c.self.invariant.shown.voltages_count
-
-pub accept-requires-clause-currents : goal.accept-requires-clause-currents
-accept-requires-clause-currents g c = ap length c.deref_mut-2.ensures.value ∙ c.self.invariant.shown.currents_count
-
-pub find_currents-requires-clause-currents : goal.find_currents-requires-clause-currents
-find_currents-requires-clause-currents g c = ap length (c.deref-4.ensures.value ∙ with_items_is c.self.inside.currents c.accept.new.currents (c.accept.auto.currents ∙ c.deref_mut-2.ensures.len)) ∙ c.accept.auto.currents ∙ ap length c.deref_mut-2.ensures.value ∙ c.self.invariant.shown.currents_count
-
-pub find_currents-requires-clause-out : goal.find_currents-requires-clause-out
-find_currents-requires-clause-out g c = ap length c.deref_mut-3.ensures.value ∙ c.self.invariant.shown.switch_count
+pub returns-in_err-decide : goal.returns-in_err-decide
+returns-in_err-decide g c =
+    record {
+      step = λ H stands tacs.
+          let stood = subst (λ (s : Net). StandsFor s H) (sym c.self.view_is) stands in
+          let last = latest_is _ H c.deref.result.now c.deref-2.result.now c.args.tacs.now stood c.deref.ensures.value c.deref-2.ensures.value tacs in
+          let returned = err_from_is_err_and c.from_residual.result c.from_residual.ensures.1 in
+          err_steps _ _ _ H c.from_residual.result _ 0 c.self.view_is stood refl (omega arith) (returned.1 ∙ ap Err returned.2) (c.in_err-decide.ensures.ends H stood.switches last);
+      case = ap (λ (s : Net). s.case) c.self.view_is;
+      made = ap (λ (s : Net). s.made + 1) c.self.view_is;
+      few = omega (arith, ap (λ (s : Net). s.redone) c.self.view_is);
+      few_ticks = omega arith;
+      most = λ H stands tacs. omega arith;
+      node = err_names _ _ c.from_residual.result _ c.self.view_is c.from_residual.ensures.1 c.in_err-decide.ensures.node;
+      ticks = λ H stands tacs. err_claims _ c.from_residual.result _ c.from_residual.ensures.1;
+      tied = λ H node stands tacs tied. refl;
+    }
+
+pub returns-in_err-factor : goal.returns-in_err-factor
+returns-in_err-factor g c =
+    record {
+      step = λ H stands tacs.
+          let stood = subst (λ (s : Net). StandsFor s H) (sym c.self.view_is) stands in
+          let ready = ready_here _ _ H _ _ _ _ _ _ c.in_ok-decide.ensures.decided c.self.view_is stands c.deref.ensures.value c.deref-2.ensures.value tacs in
+          let returned = err_from_is_err_and c.from_residual-in_err-factor.result c.from_residual-in_err-factor.ensures.1 in
+          err_steps _ _ _ H c.from_residual-in_err-factor.result _ _ c.self.view_is stood refl (c.factor.ensures.redone H ready) (returned.1 ∙ ap Err returned.2) (c.in_err-factor.ensures.ends H ready);
+      tied = λ H node stands tacs tied.
+          let decided = decided_here _ _ H _ _ _ _ _ _ c.in_ok-decide.ensures.decided c.self.view_is stands c.deref.ensures.value c.deref-2.ensures.value tacs in
+          absurd (free_isnt_tied c.self.inside.case.now.parts H node decided.free (subst (λ (s : Net). network_part s.case H ≡ Err (Tied node)) (sym c.self.view_is) tied));
+      case = ap (λ (s : Net). s.case) c.self.view_is;
+      made = ap (λ (s : Net). s.made + 1) c.self.view_is;
+      few = subst (λ (s : Net). c.factor.new.redone ≤ s.redone + 1000) c.self.view_is c.factor.ensures.few;
+      few_ticks = c.factor.ensures.few_ticks;
+      most = λ H stands tacs.
+          let ready = ready_here _ _ H _ _ _ _ _ _ c.in_ok-decide.ensures.decided c.self.view_is stands c.deref.ensures.value c.deref-2.ensures.value tacs in
+          subst (λ (s : Net). c.factor.new.steps ≤ c.args.steps.now + step_ticks s.case H) c.self.view_is (c.factor.ensures.most H ready);
+      node = err_names _ _ c.from_residual-in_err-factor.result _ c.self.view_is c.from_residual-in_err-factor.ensures.1 c.in_err-factor.ensures.node;
+      ticks = λ H stands tacs. err_claims _ c.from_residual-in_err-factor.result _ c.from_residual-in_err-factor.ensures.1;
+    }
+
+pub returns-in_err-solve : goal.returns-in_err-solve
+returns-in_err-solve g c =
+    record {
+      step = λ H stands tacs.
+          let stood = subst (λ (s : Net). StandsFor s H) (sym c.self.view_is) stands in
+          let decided = decided_here _ _ H _ _ _ _ _ _ c.in_ok-decide.ensures.decided c.self.view_is stands c.deref.ensures.value c.deref-2.ensures.value tacs in
+          let ready = ready_is _ H _ _ _ stood decided in
+          let values = c.set_sources.ensures.values H stood.steps tacs in
+          let posed = posed_is _ H _ _ c.decide.new.self c.set_sources.new.self c.factor.new.kept stood decided c.set_sources.ensures.kinds values (c.in_ok-factor.ensures.made H ready) in
+          let returned = err_from_is_err_and c.from_residual-in_err-solve.result c.from_residual-in_err-solve.ensures.1 in
+          err_steps _ _ _ H c.from_residual-in_err-solve.result _ _ c.self.view_is stood refl (c.factor.ensures.redone H ready) (returned.1 ∙ ap Err returned.2) (c.in_err-solve.ensures.ends H posed);
+      tied = λ H node stands tacs tied.
+          let decided = decided_here _ _ H _ _ _ _ _ _ c.in_ok-decide.ensures.decided c.self.view_is stands c.deref.ensures.value c.deref-2.ensures.value tacs in
+          absurd (free_isnt_tied c.self.inside.case.now.parts H node decided.free (subst (λ (s : Net). network_part s.case H ≡ Err (Tied node)) (sym c.self.view_is) tied));
+      case = ap (λ (s : Net). s.case) c.self.view_is;
+      made = ap (λ (s : Net). s.made + 1) c.self.view_is;
+      few = subst (λ (s : Net). c.factor.new.redone ≤ s.redone + 1000) c.self.view_is c.factor.ensures.few;
+      few_ticks = c.factor.ensures.few_ticks;
+      most = λ H stands tacs.
+          let ready = ready_here _ _ H _ _ _ _ _ _ c.in_ok-decide.ensures.decided c.self.view_is stands c.deref.ensures.value c.deref-2.ensures.value tacs in
+          subst (λ (s : Net). c.factor.new.steps ≤ c.args.steps.now + step_ticks s.case H) c.self.view_is (c.factor.ensures.most H ready);
+      node = err_names _ _ c.from_residual-in_err-solve.result _ c.self.view_is c.from_residual-in_err-solve.ensures.1 c.in_err-solve.ensures.node;
+      ticks = λ H stands tacs. err_claims _ c.from_residual-in_err-solve.result _ c.from_residual-in_err-solve.ensures.1;
+    }
+
+pub returns-in_err-accept : goal.returns-in_err-accept
+returns-in_err-accept g c =
+    record {
+      step = λ H stands tacs.
+          let case = c.self.inside.case.now.parts in
+          let stood = subst (λ (s : Net). StandsFor s H) (sym c.self.view_is) stands in
+          let last = latest_is _ H c.deref.result.now c.deref-2.result.now c.args.tacs.now stood c.deref.ensures.value c.deref-2.ensures.value tacs in
+          let decided = c.in_ok-decide.ensures.decided H stood.switches last in
+          let ready = ready_is _ H c.decide.new.self.kinds.items c.decide.new.rows c.decide.new.switches stood decided in
+          let values = c.set_sources.ensures.values H stood.steps tacs in
+          let posed = posed_is _ H c.decide.new.rows c.decide.new.switches c.decide.new.self c.set_sources.new.self c.factor.new.kept stood decided c.set_sources.ensures.kinds values (c.in_ok-factor.ensures.made H ready) in
+          let redone = c.factor.ensures.redone H ready in
+          let vs = c.deref-3.result.now in
+          let read = c.deref-3.ensures.value ∙ with_items_is c.self.inside.voltages c.solve.new.voltages (c.solve.auto.voltages ∙ c.deref_mut.ensures.len) in
+          let voltages : AreVoltages case H vs = subst (AreVoltages case H) (sym read) (c.in_ok-solve.ensures.solved H posed) in
+          let returned = err_from_is_err_and c.from_residual-in_err-accept.result c.from_residual-in_err-accept.ensures.1 in
+          err_steps _ _ _ H c.from_residual-in_err-accept.result _ _ c.self.view_is stood refl redone (returned.1 ∙ ap Err returned.2) (c.in_err-accept.ensures.ends H stood.branches voltages);
+      tied = λ H node stands tacs tied.
+          let decided = decided_here _ _ H _ _ _ _ _ _ c.in_ok-decide.ensures.decided c.self.view_is stands c.deref.ensures.value c.deref-2.ensures.value tacs in
+          absurd (free_isnt_tied c.self.inside.case.now.parts H node decided.free (subst (λ (s : Net). network_part s.case H ≡ Err (Tied node)) (sym c.self.view_is) tied));
+      case = ap (λ (s : Net). s.case) c.self.view_is;
+      made = ap (λ (s : Net). s.made + 1) c.self.view_is;
+      few = subst (λ (s : Net). c.factor.new.redone ≤ s.redone + 1000) c.self.view_is c.factor.ensures.few;
+      few_ticks = c.factor.ensures.few_ticks;
+      most = λ H stands tacs.
+          let ready = ready_here _ _ H _ _ _ _ _ _ c.in_ok-decide.ensures.decided c.self.view_is stands c.deref.ensures.value c.deref-2.ensures.value tacs in
+          subst (λ (s : Net). c.factor.new.steps ≤ c.args.steps.now + step_ticks s.case H) c.self.view_is (c.factor.ensures.most H ready);
+      node = err_names _ _ c.from_residual-in_err-accept.result _ c.self.view_is c.from_residual-in_err-accept.ensures.1 c.in_err-accept.ensures.node;
+      ticks = λ H stands tacs. err_claims _ c.from_residual-in_err-accept.result _ c.from_residual-in_err-accept.ensures.1;
+    }
+
+pub returns-in_err-find_currents : goal.returns-in_err-find_currents
+returns-in_err-find_currents g c =
+    record {
+      step = λ H stands tacs.
+          let case = c.self.inside.case.now.parts in
+          let stood = subst (λ (s : Net). StandsFor s H) (sym c.self.view_is) stands in
+          let last = latest_is _ H c.deref.result.now c.deref-2.result.now c.args.tacs.now stood c.deref.ensures.value c.deref-2.ensures.value tacs in
+          let decided = c.in_ok-decide.ensures.decided H stood.switches last in
+          let ready = ready_is _ H c.decide.new.self.kinds.items c.decide.new.rows c.decide.new.switches stood decided in
+          let values = c.set_sources.ensures.values H stood.steps tacs in
+          let posed = posed_is _ H c.decide.new.rows c.decide.new.switches c.decide.new.self c.set_sources.new.self c.factor.new.kept stood decided c.set_sources.ensures.kinds values (c.in_ok-factor.ensures.made H ready) in
+          let redone = c.factor.ensures.redone H ready in
+          let vs = c.deref-3.result.now in
+          let read = c.deref-3.ensures.value ∙ with_items_is c.self.inside.voltages c.solve.new.voltages (c.solve.auto.voltages ∙ c.deref_mut.ensures.len) in
+          let voltages : AreVoltages case H vs = subst (AreVoltages case H) (sym read) (c.in_ok-solve.ensures.solved H posed) in
+          let moved = c.in_ok-accept.ensures.moved H stood.branches in
+          let flows = c.deref-4.ensures.value ∙ with_items_is c.self.inside.currents c.accept.new.currents (c.accept.auto.currents ∙ c.deref_mut-2.ensures.len) in
+          let moved_so = subst (λ cs. HaveMoved c.accept.new.self cs case H vs) (sym flows) moved in
+          let valued = ap (λ v. v.items) c.solve.ensures.values ∙ values in
+          let returned = err_from_is_err_and c.from_residual-in_err-find_currents.result c.from_residual-in_err-find_currents.ensures.1 in
+          err_steps _ _ _ H c.from_residual-in_err-find_currents.result _ _ c.self.view_is stood refl redone (returned.1 ∙ ap Err returned.2) (c.in_err-find_currents.ensures.ends H vs voltages moved_so valued decided.states_are);
+      tied = λ H node stands tacs tied.
+          let decided = decided_here _ _ H _ _ _ _ _ _ c.in_ok-decide.ensures.decided c.self.view_is stands c.deref.ensures.value c.deref-2.ensures.value tacs in
+          absurd (free_isnt_tied c.self.inside.case.now.parts H node decided.free (subst (λ (s : Net). network_part s.case H ≡ Err (Tied node)) (sym c.self.view_is) tied));
+      case = ap (λ (s : Net). s.case) c.self.view_is;
+      made = ap (λ (s : Net). s.made + 1) c.self.view_is;
+      few = subst (λ (s : Net). c.factor.new.redone ≤ s.redone + 1000) c.self.view_is c.factor.ensures.few;
+      few_ticks = c.factor.ensures.few_ticks;
+      most = λ H stands tacs.
+          let ready = ready_here _ _ H _ _ _ _ _ _ c.in_ok-decide.ensures.decided c.self.view_is stands c.deref.ensures.value c.deref-2.ensures.value tacs in
+          subst (λ (s : Net). c.factor.new.steps ≤ c.args.steps.now + step_ticks s.case H) c.self.view_is (c.factor.ensures.most H ready);
+      node = err_names _ _ c.from_residual-in_err-find_currents.result _ c.self.view_is c.from_residual-in_err-find_currents.ensures.1 c.in_err-find_currents.ensures.node;
+      ticks = λ H stands tacs. err_claims _ c.from_residual-in_err-find_currents.result _ c.from_residual-in_err-find_currents.ensures.1;
+    }
+
+pub returns : goal.returns
+returns g c =
+    record {
+      step = λ H stands tacs.
+          let seen : Net = record {
+            case = c.self.inside.case.now.parts;
+            branches = c.self.inside.branches;
+            switches = c.self.inside.switches;
+            rows = c.self.inside.rows;
+            kept = c.self.inside.kept;
+            voltages = c.self.inside.voltages.items;
+            currents = c.self.inside.currents.items;
+            switch_currents = c.self.inside.switch_currents.items;
+            closed = c.self.inside.closed.items;
+            made = c.self.inside.made;
+            redone = c.self.inside.redone;
+          } in
+          let case = seen.case in
+          let stood : StandsFor seen H = subst (λ (s : Net). StandsFor s H) (sym c.self.view_is) stands in
+          let last = latest_is seen H c.deref.result.now c.deref-2.result.now c.args.tacs.now stood c.deref.ensures.value c.deref-2.ensures.value tacs in
+          let decided = c.in_ok-decide.ensures.decided H stood.switches last in
+          let ready = ready_is seen H c.decide.new.self.kinds.items c.decide.new.rows c.decide.new.switches stood decided in
+          let values = c.set_sources.ensures.values H stood.steps tacs in
+          let posed = posed_is seen H c.decide.new.rows c.decide.new.switches c.decide.new.self c.set_sources.new.self c.factor.new.kept stood decided c.set_sources.ensures.kinds values (c.in_ok-factor.ensures.made H ready) in
+          let redone = c.factor.ensures.redone H ready in
+          let vs = c.deref-3.result.now in
+          let read = c.deref-3.ensures.value ∙ with_items_is c.self.inside.voltages c.solve.new.voltages (c.solve.auto.voltages ∙ c.deref_mut.ensures.len) in
+          let voltages : AreVoltages case H vs = subst (AreVoltages case H) (sym read) (c.in_ok-solve.ensures.solved H posed) in
+          let moved = c.in_ok-accept.ensures.moved H stood.branches in
+          let flows = c.deref-4.ensures.value ∙ with_items_is c.self.inside.currents c.accept.new.currents (c.accept.auto.currents ∙ c.deref_mut-2.ensures.len) in
+          let moved_so = subst (λ cs. HaveMoved c.accept.new.self cs case H vs) (sym flows) moved in
+          let valued = ap (λ v. v.items) c.solve.ensures.values ∙ values in
+          let has = c.in_ok-find_currents.ensures.found H vs voltages moved_so valued decided.states_are in
+          let leaving = c.find_currents.ensures.leaving H vs moved_so valued in
+          let kinds = ap (λ v. v.items) (c.find_currents.ensures.kinds ∙ c.solve.ensures.kinds) ∙ posed.kinds in
+          let shown_flows = with_items_is c.self.inside.currents c.accept.new.currents (c.accept.auto.currents ∙ c.deref_mut-2.ensures.len) in
+          let crossed = with_items_is c.self.inside.switch_currents c.find_currents.new.out (c.find_currents.auto.out ∙ c.deref_mut-3.ensures.len) in
+          let marked = with_items_is c.self.inside.closed c.write_closed.new.out (c.write_closed.auto.out ∙ c.deref_mut-4.ensures.len) in
+          let left : Net = (record {
+            case = case;
+            branches = c.accept.new.self;
+            switches = c.find_currents.new.switches;
+            rows = c.factor.new.rows;
+            kept = c.factor.new.kept;
+            voltages = (with_items c.self.inside.voltages c.solve.new.voltages).items;
+            currents = (with_items c.self.inside.currents c.accept.new.currents).items;
+            switch_currents = (with_items c.self.inside.switch_currents c.find_currents.new.out).items;
+            closed = (with_items c.self.inside.closed c.write_closed.new.out).items;
+            made = c.self.inside.made + 1;
+            redone = c.factor.new.redone;
+          }) in
+          let stepped : HasStepped seen left H vs = record {
+            case_is = refl;
+            branches = subst (λ cs. HaveMoved c.accept.new.self cs case H vs) (sym shown_flows) moved;
+            switches = λ r is. subst (λ (s : switching.Switching). switching.StandsFor s (r ∷ H)) (sym c.find_currents.ensures.same) (c.decide.ensures.stands H r stood.switches last is);
+            states = ap (λ (s : switching.Switching). s.states) c.find_currents.ensures.same ∙ decided.states_are;
+            voltages = sym c.deref-3.ensures.value;
+            switch_currents = crossed ∙ has.are;
+            closed = marked ∙ c.write_closed.ensures;
+            kept = c.in_ok-factor.ensures.made H ready;
+            kept_size = c.factor.ensures.rows.kept_size;
+            made = refl;
+            redone = redone;
+          } in
+          judge_steps seen c.args.self.now left H vs c.find_currents.new.out c.judge.result c.self.view_is stood stepped voltages has
+          (c.judge.ensures.judged H vs c.find_currents.new.out voltages moved.in_range has kinds leaving) (c.judge.ensures.ends H vs c.find_currents.new.out voltages moved.in_range has kinds leaving);
+      tied = λ H node stands tacs tied.
+          let decided = decided_here _ _ H _ _ _ _ _ _ c.in_ok-decide.ensures.decided c.self.view_is stands c.deref.ensures.value c.deref-2.ensures.value tacs in
+          absurd (free_isnt_tied c.self.inside.case.now.parts H node decided.free (subst (λ (s : Net). network_part s.case H ≡ Err (Tied node)) (sym c.self.view_is) tied));
+      case = ap (λ (s : Net). s.case) c.self.view_is;
+      made = ap (λ (s : Net). s.made + 1) c.self.view_is;
+      few = subst (λ (s : Net). c.factor.new.redone ≤ s.redone + 1000) c.self.view_is c.factor.ensures.few;
+      few_ticks = c.factor.ensures.few_ticks;
+      most = λ H stands tacs.
+          let ready = ready_here _ _ H _ _ _ _ _ _ c.in_ok-decide.ensures.decided c.self.view_is stands c.deref.ensures.value c.deref-2.ensures.value tacs in
+          subst (λ (s : Net). c.factor.new.steps ≤ c.args.steps.now + step_ticks s.case H) c.self.view_is (c.factor.ensures.most H ready);
+      node = subst (λ (s : Net). IfErr c.judge.result (NamesNode s.case)) c.self.view_is c.judge.ensures.node;
+      ticks = λ H stands tacs.
+          let ready = ready_here _ _ H _ _ _ _ _ _ c.in_ok-decide.ensures.decided c.self.view_is stands c.deref.ensures.value c.deref-2.ensures.value tacs in
+          let same : c.factor.new.steps ≡ c.args.steps.now + step_ticks c.args.self.now.case H = subst (λ (s : Net). c.factor.new.steps ≡ c.args.steps.now + step_ticks s.case H) c.self.view_is (c.in_ok-factor.ensures.ticks H ready) in
+          ok_claims _ c.judge.result same;
+    }
+
+pub decide-requires : goal.decide-requires
+decide-requires g c =
+    record {
+      room = c.self.invariant.room;
+      switches = c.self.invariant.switches_hold;
+      rows = c.self.invariant.rows_hold.case_is;
+      step = subst (λ (s : Net). s.made + 1 ≤ s.case.run.steps) (sym c.self.view_is) (omega (arith, c.requires.made));
+      voltages = ap length c.deref.ensures.value ∙ c.self.invariant.shown.voltages_count;
+      small = subst (All (λ v. unsigned_abs v ≤ LARGEST_VALUE)) (sym c.deref.ensures.value) c.self.invariant.shown.voltages_small;
+      currents = ap length c.deref-2.ensures.value ∙ c.self.invariant.shown.switch_count;
+      tacs = subst (λ (s : Net). length c.args.tacs.now ≡ length s.case.vars) (sym c.self.view_is) c.requires.tacs;
+    }
+
+pub set_sources-requires : goal.set_sources-requires
+set_sources-requires g c =
+    record {
+      room = c.decide.ensures.room;
+      step = subst (λ (s : Net). s.made + 1 ≤ s.case.run.steps) (sym c.self.view_is) (omega (arith, c.requires.made));
+      tacs = subst (λ (s : Net). length c.args.tacs.now ≡ length s.case.vars) (sym c.self.view_is) c.requires.tacs;
+    }
+
+pub solve-requires : goal.solve-requires
+solve-requires g c =
+    record {
+      room = c.set_sources.ensures.room;
+      order = c.self.invariant.order_is;
+      same = c.self.invariant.branches_case;
+      size = c.factor.ensures.rows.kept_size;
+      all = c.in_ok-factor.ensures.all;
+      voltages = ap length c.deref_mut.ensures.value ∙ c.self.invariant.shown.voltages_count;
+      small = subst (All (λ v. unsigned_abs v ≤ LARGEST_VALUE)) (sym c.deref_mut.ensures.value) c.self.invariant.shown.voltages_small;
+    }
+
+pub accept-requires : goal.accept-requires
+accept-requires g c =
+    record {
+      same = c.self.invariant.branches_case;
+      each = ap length (c.deref-3.ensures.value ∙ with_items_is c.self.inside.voltages c.solve.new.voltages (c.solve.auto.voltages ∙ c.deref_mut.ensures.len)) ∙ c.solve.auto.voltages ∙ ap length c.deref_mut.ensures.value ∙ c.self.invariant.shown.voltages_count;
+      currents = ap length c.deref_mut-2.ensures.value ∙ c.self.invariant.shown.currents_count;
+    }
+
+pub find_currents-requires : goal.find_currents-requires
+find_currents-requires g c =
+    record {
+      room = c.solve.ensures.room;
+      order = c.self.invariant.order_is;
+      same = c.accept.ensures.same;
+      switches = c.decide.ensures.switches;
+      currents = ap length (c.deref-4.ensures.value ∙ with_items_is c.self.inside.currents c.accept.new.currents (c.accept.auto.currents ∙ c.deref_mut-2.ensures.len)) ∙ c.accept.auto.currents ∙ ap length c.deref_mut-2.ensures.value ∙ c.self.invariant.shown.currents_count;
+      out = ap length c.deref_mut-3.ensures.value ∙ c.self.invariant.shown.switch_count;
+    }
+
+pub judge-requires : goal.judge-requires
+judge-requires g c =
+    record {
+      room = c.find_currents.ensures.room;
+      order = c.self.invariant.order_is;
+      small = c.find_currents.ensures.small;
+    }
 
 pub write_closed-requires : goal.write_closed-requires
 write_closed-requires g c = ap length c.deref_mut-4.ensures.value ∙ c.self.invariant.shown.closed_count ∙ sym (ap (λ (s : switching.Switching). length s.case.switches) c.find_currents.ensures.same ∙ ap (λ (p : Parts). length p.switches) c.decide.ensures.switches.case_is)
-
-pub returns-in_err-decide-clause-tied : goal.returns-in_err-decide-clause-tied
-returns-in_err-decide-clause-tied g c = λ H node stands tacs tied. refl

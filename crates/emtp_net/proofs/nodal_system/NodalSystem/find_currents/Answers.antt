@@ -1,6 +1,6 @@
-use Rattle.std.proofs.Common.{◌≡◌, ◌∙◌, ◌<◌, ◌≤◌, ◌^◌, ℕ, ℤ, List, sym, ap, subst, length, unsigned_abs, refl, arith}
+use Rattle.std.proofs.Common.{◌≡◌, ◌∙◌, ◌<◌, ◌≤◌, ◌^◌, ℕ, ℤ, List, sym, ap, subst, length, pos, unsigned_abs, refl, arith}
 use Rattle.std.specs.Vec.{with_items}
-use Rattle.std.proofs.lemmas.List.{with_items_is}
+use Rattle.std.proofs.lemmas.List.{get_or_default, with_items_is}
 use Rattle.emtp_case.specs.declared.case.Parts.{Parts}
 use Rattle.emtp_elim.specs.Matrix.{item}
 use Rattle.emtp_switch.specs.Currents.{IsFirstBeyond}
@@ -19,89 +19,69 @@ room case s l has long is = record { kinds = has.kinds; places = has.places; val
 small : (n m : ℕ) (l out : List ℤ) → ((j : ℕ) → j < m → unsigned_abs (item out j) ≤ 10 ^ 24) → m ≡ n → l ≡ out → (j : ℕ) → j < n → unsigned_abs (item l j) ≤ 10 ^ 24
 small n m l out each same is j below = subst (λ xs. unsigned_abs (item xs j) ≤ 10 ^ 24) (sym is) (each j (omega (arith, below, same)))
 
-pub currents-requires-clause-out : goal.currents-requires-clause-out
-currents-requires-clause-out c = c.requires.out ∙ sym (ap (λ (p : Parts). length p.switches) c.requires.switches.case_is)
+pub currents-requires : goal.currents-requires
+currents-requires c =
+    let out = c.fill_leaving.new.out in
+    let whole = c.deref-2.ensures.value ∙ with_items_is c.args.self.now.right out (c.fill_leaving.auto.out ∙ c.deref_mut.ensures.len) in
+    record {
+      leaving = ap length whole ∙ c.fill_leaving.auto.out ∙ ap length c.deref_mut.ensures.value ∙ c.requires.room.right ∙ sym (ap (λ (p : Parts). length p.nodes) c.requires.switches.case_is);
+      small = rw whole (λ k d below. rw (get_or_default out k d (pos 0) below) (c.fill_leaving.ensures.small k (omega (arith, below, c.fill_leaving.auto.out))));
+      out = c.requires.out ∙ sym (ap (λ (p : Parts). length p.switches) c.requires.switches.case_is);
+    }
 
 pub switch_name-requires : goal.switch_name-requires
 switch_name-requires c = omega (arith, c.in-Err.ensures.first.within, length-currents c.args.switches.now c.deref-2.result.now, ap (λ (p : Parts). length p.switches) c.requires.switches.case_is)
 
-pub returns-in-Ok-clause-leaving : goal.returns-in-Ok-clause-leaving
-returns-in-Ok-clause-leaving c = λ H vs moved values.
-    let case = c.args.case.now.parts in
-    let next = is_next case H vs in
-    with_items_is c.args.self.now.right c.fill_leaving.new.out (c.fill_leaving.auto.out ∙ c.deref_mut.ensures.len) ∙ c.fill_leaving.ensures.value H vs (next_record H case vs) next moved (c.deref.ensures.value ∙ values) ∙ ap (leaving_rows case H) next.branches
+pub returns-in-Ok : goal.returns-in-Ok
+returns-in-Ok c =
+    record {
+      leaving = λ H vs moved values.
+          let case = c.args.case.now.parts in
+          let next = is_next case H vs in
+          with_items_is c.args.self.now.right c.fill_leaving.new.out (c.fill_leaving.auto.out ∙ c.deref_mut.ensures.len) ∙ c.fill_leaving.ensures.value H vs (next_record H case vs) next moved (c.deref.ensures.value ∙ values) ∙ ap (leaving_rows case H) next.branches;
+      found = λ H vs voltages moved values states.
+          let case = c.args.case.now.parts in
+          let next = is_next case H vs in
+          let leave : c.deref-2.result.now ≡ leaving_rows case H (states_at case H vs) = c.deref-2.ensures.value ∙ with_items_is c.args.self.now.right c.fill_leaving.new.out (c.fill_leaving.auto.out ∙ c.deref_mut.ensures.len)
+          ∙ c.fill_leaving.ensures.value H vs (next_record H case vs) next moved (c.deref.ensures.value ∙ values) ∙ ap (leaving_rows case H) next.branches in
+          let are : c.currents.new.out ≡ switch_currents_at case H (states_at case H vs) = c.in-Ok.ensures.value ∙ currents_next case H c.args.switches.now (states_at case H vs) c.deref-2.result.now c.requires.switches states leave in
+          record { are = are; within = ap first_beyond (sym are) ∙ none_beyond c.currents.new.out c.in-Ok.ensures.small };
+      room = room c.args.case.now.parts c.args.self.now c.fill_leaving.new.out c.requires.room (c.fill_leaving.auto.out ∙ ap length c.deref_mut.ensures.value) (with_items_is c.args.self.now.right c.fill_leaving.new.out (c.fill_leaving.auto.out ∙ c.deref_mut.ensures.len));
+      small = small _ _ _ c.fill_leaving.new.out c.fill_leaving.ensures.small (ap length c.deref_mut.ensures.value ∙ c.requires.room.right) (with_items_is c.args.self.now.right c.fill_leaving.new.out (c.fill_leaving.auto.out ∙ c.deref_mut.ensures.len));
+      ends = λ H vs voltages moved values states. tt;
+      kinds = refl;
+      same = c.currents.ensures.same;
+      node = tt;
+    }
 
-pub returns-in-Err-clause-leaving : goal.returns-in-Err-clause-leaving
-returns-in-Err-clause-leaving c = λ H vs moved values.
-    let case = c.args.case.now.parts in
-    let next = is_next case H vs in
-    with_items_is c.args.self.now.right c.fill_leaving.new.out (c.fill_leaving.auto.out ∙ c.deref_mut.ensures.len) ∙ c.fill_leaving.ensures.value H vs (next_record H case vs) next moved (c.deref.ensures.value ∙ values) ∙ ap (leaving_rows case H) next.branches
+pub returns-in-Err : goal.returns-in-Err
+returns-in-Err c =
+    record {
+      leaving = λ H vs moved values.
+          let case = c.args.case.now.parts in
+          let next = is_next case H vs in
+          with_items_is c.args.self.now.right c.fill_leaving.new.out (c.fill_leaving.auto.out ∙ c.deref_mut.ensures.len) ∙ c.fill_leaving.ensures.value H vs (next_record H case vs) next moved (c.deref.ensures.value ∙ values) ∙ ap (leaving_rows case H) next.branches;
+      ends = λ H vs voltages moved values states.
+          let case = c.args.case.now.parts in
+          let next = is_next case H vs in
+          let leave : c.deref-2.result.now ≡ leaving_rows case H (states_at case H vs) = c.deref-2.ensures.value ∙ with_items_is c.args.self.now.right c.fill_leaving.new.out (c.fill_leaving.auto.out ∙ c.deref_mut.ensures.len)
+          ∙ c.fill_leaving.ensures.value H vs (next_record H case vs) next moved (c.deref.ensures.value ∙ values) ∙ ap (leaving_rows case H) next.branches in
+          let first = subst (λ l. IsFirstBeyond l c.in-Err.fault.switch) (currents_next case H c.args.switches.now (states_at case H vs) c.deref-2.result.now c.requires.switches states leave) c.in-Err.ensures.first in
+          record { is = switch_ends case H vs c.in-Err.fault.switch c.switch_name.result voltages moved.in_range (beyond_at (switch_currents_at case H (states_at case H vs)) c.in-Err.fault.switch first) c.switch_name.ensures.value; adds = refl };
+      room = room c.args.case.now.parts c.args.self.now c.fill_leaving.new.out c.requires.room (c.fill_leaving.auto.out ∙ ap length c.deref_mut.ensures.value) (with_items_is c.args.self.now.right c.fill_leaving.new.out (c.fill_leaving.auto.out ∙ c.deref_mut.ensures.len));
+      small = small _ _ _ c.fill_leaving.new.out c.fill_leaving.ensures.small (ap length c.deref_mut.ensures.value ∙ c.requires.room.right) (with_items_is c.args.self.now.right c.fill_leaving.new.out (c.fill_leaving.auto.out ∙ c.deref_mut.ensures.len));
+      node = c.switch_name.ensures.node;
+      found = λ H vs voltages moved values states. tt;
+      kinds = refl;
+      same = c.currents.ensures.same;
+    }
 
-pub returns-in-Ok-clause-found : goal.returns-in-Ok-clause-found
-returns-in-Ok-clause-found c = λ H vs voltages moved values states.
-    let case = c.args.case.now.parts in
-    let next = is_next case H vs in
-    let leave : c.deref-2.result.now ≡ leaving_rows case H (states_at case H vs) = c.deref-2.ensures.value ∙ with_items_is c.args.self.now.right c.fill_leaving.new.out (c.fill_leaving.auto.out ∙ c.deref_mut.ensures.len)
-    ∙ c.fill_leaving.ensures.value H vs (next_record H case vs) next moved (c.deref.ensures.value ∙ values) ∙ ap (leaving_rows case H) next.branches in
-    let are : c.currents.new.out ≡ switch_currents_at case H (states_at case H vs) = c.in-Ok.ensures.value ∙ currents_next case H c.args.switches.now (states_at case H vs) c.deref-2.result.now c.requires.switches states leave in
-    record { are = are; within = ap first_beyond (sym are) ∙ none_beyond c.currents.new.out c.in-Ok.ensures.small }
-
-pub returns-in-Err-clause-ends : goal.returns-in-Err-clause-ends
-returns-in-Err-clause-ends c = λ H vs voltages moved values states.
-    let case = c.args.case.now.parts in
-    let next = is_next case H vs in
-    let leave : c.deref-2.result.now ≡ leaving_rows case H (states_at case H vs) = c.deref-2.ensures.value ∙ with_items_is c.args.self.now.right c.fill_leaving.new.out (c.fill_leaving.auto.out ∙ c.deref_mut.ensures.len)
-    ∙ c.fill_leaving.ensures.value H vs (next_record H case vs) next moved (c.deref.ensures.value ∙ values) ∙ ap (leaving_rows case H) next.branches in
-    let first = subst (λ l. IsFirstBeyond l c.in-Err.fault.switch) (currents_next case H c.args.switches.now (states_at case H vs) c.deref-2.result.now c.requires.switches states leave) c.in-Err.ensures.first in
-    record { is = switch_ends case H vs c.in-Err.fault.switch c.switch_name.result voltages moved.in_range (beyond_at (switch_currents_at case H (states_at case H vs)) c.in-Err.fault.switch first) c.switch_name.ensures.value; adds = refl }
-
-pub returns-in-Ok-clause-room : goal.returns-in-Ok-clause-room
-returns-in-Ok-clause-room c = room c.args.case.now.parts c.args.self.now c.fill_leaving.new.out c.requires.room (c.fill_leaving.auto.out ∙ ap length c.deref_mut.ensures.value) (with_items_is c.args.self.now.right c.fill_leaving.new.out (c.fill_leaving.auto.out ∙ c.deref_mut.ensures.len))
-
-pub returns-in-Err-clause-room : goal.returns-in-Err-clause-room
-returns-in-Err-clause-room c = room c.args.case.now.parts c.args.self.now c.fill_leaving.new.out c.requires.room (c.fill_leaving.auto.out ∙ ap length c.deref_mut.ensures.value) (with_items_is c.args.self.now.right c.fill_leaving.new.out (c.fill_leaving.auto.out ∙ c.deref_mut.ensures.len))
-
-pub returns-in-Ok-clause-small : goal.returns-in-Ok-clause-small
-returns-in-Ok-clause-small c = small _ _ _ c.fill_leaving.new.out c.fill_leaving.ensures.small (ap length c.deref_mut.ensures.value ∙ c.requires.room.right) (with_items_is c.args.self.now.right c.fill_leaving.new.out (c.fill_leaving.auto.out ∙ c.deref_mut.ensures.len))
-
-pub returns-in-Err-clause-small : goal.returns-in-Err-clause-small
-returns-in-Err-clause-small c = small _ _ _ c.fill_leaving.new.out c.fill_leaving.ensures.small (ap length c.deref_mut.ensures.value ∙ c.requires.room.right) (with_items_is c.args.self.now.right c.fill_leaving.new.out (c.fill_leaving.auto.out ∙ c.deref_mut.ensures.len))
-
-pub returns-in-Err-clause-node : goal.returns-in-Err-clause-node
-returns-in-Err-clause-node c = c.switch_name.ensures.node
-
-pub returns-in-Ok-clause-ends : goal.returns-in-Ok-clause-ends
-returns-in-Ok-clause-ends c = λ H vs voltages moved values states. tt
-
-pub returns-in-Err-clause-found : goal.returns-in-Err-clause-found
-returns-in-Err-clause-found c = λ H vs voltages moved values states. tt
-
-pub returns-in-Ok-clause-kinds : goal.returns-in-Ok-clause-kinds
-returns-in-Ok-clause-kinds c = refl
-
-pub returns-in-Err-clause-kinds : goal.returns-in-Err-clause-kinds
-returns-in-Err-clause-kinds c = refl
-
-pub fill_leaving-requires-clause-order : goal.fill_leaving-requires-clause-order
-fill_leaving-requires-clause-order c = c.requires.order
-
-pub fill_leaving-requires-clause-same : goal.fill_leaving-requires-clause-same
-fill_leaving-requires-clause-same c = c.requires.same
-
-pub fill_leaving-requires-clause-currents : goal.fill_leaving-requires-clause-currents
-fill_leaving-requires-clause-currents c = c.requires.currents
-
-pub fill_leaving-requires-clause-values : goal.fill_leaving-requires-clause-values
-fill_leaving-requires-clause-values c = ap length c.deref.ensures.value ∙ c.requires.room.values
-
-pub fill_leaving-requires-clause-out : goal.fill_leaving-requires-clause-out
-fill_leaving-requires-clause-out c = ap length c.deref_mut.ensures.value ∙ c.requires.room.right
-
-pub returns-in-Ok-clause-same : goal.returns-in-Ok-clause-same
-returns-in-Ok-clause-same c = c.currents.ensures.same
-
-pub returns-in-Err-clause-same : goal.returns-in-Err-clause-same
-returns-in-Err-clause-same c = c.currents.ensures.same
-
-pub returns-in-Ok-clause-node : goal.returns-in-Ok-clause-node
-returns-in-Ok-clause-node c = tt
+pub fill_leaving-requires : goal.fill_leaving-requires
+fill_leaving-requires c =
+    record {
+      order = c.requires.order;
+      same = c.requires.same;
+      currents = c.requires.currents;
+      values = ap length c.deref.ensures.value ∙ c.requires.room.values;
+      out = ap length c.deref_mut.ensures.value ∙ c.requires.room.right;
+    }
