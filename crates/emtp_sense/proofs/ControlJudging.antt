@@ -255,9 +255,13 @@ pub sources_next : (nodes : List (List ℕ)) (switches : List SwitchCard) (varia
 sources_next nodes switches variables first at cards j x is l none =
     ap (tacs_sources_bad nodes switches variables first at) (here cards j x is l) ∙ ap (λ b. first_bad b (tacs_sources_bad nodes switches variables first (at + 1) (drop (j + 1) cards))) none
 
+pub extras_here : (variables : List (List ℕ)) (dt : ℤ) (first at history sum : ℕ) (es : List ExtraEntry) (j : ℕ) (x : ExtraEntry) → x ≡ get_or es j x → j < length es → sum ≡ history + entry_history_values dt x
+    → judge_extras variables dt first at history (drop j es) ≡ unless_judged (extra_bad variables at (first + at) sum x) (judge_extras variables dt first (at + 1) sum (drop (j + 1) es))
+extras_here variables dt first at history sum es j x is l same =
+    ap (judge_extras variables dt first at history) (here es j x is l)
+    ∙ ap (λ n. unless_judged (extra_bad variables at (first + at) n x) (judge_extras variables dt first (at + 1) n (drop (j + 1) es))) (sym same)
+
 pub extras_next : (variables : List (List ℕ)) (dt : ℤ) (first at history sum : ℕ) (es : List ExtraEntry) (j : ℕ) (x : ExtraEntry) → x ≡ get_or es j x → j < length es → sum ≡ history + entry_history_values dt x → extra_bad variables at (first + at) sum x ≡ None
     → judge_extras variables dt first at history (drop j es) ≡ judge_extras variables dt first (at + 1) sum (drop (j + 1) es)
 extras_next variables dt first at history sum es j x is l same none =
-    ap (judge_extras variables dt first at history) (here es j x is l)
-    ∙ ap (λ n. unless_judged (extra_bad variables at (first + at) n x) (judge_extras variables dt first (at + 1) n (drop (j + 1) es))) (sym same)
-    ∙ ap (λ b. unless_judged b (judge_extras variables dt first (at + 1) sum (drop (j + 1) es))) none
+    extras_here variables dt first at history sum es j x is l same ∙ ap (λ b. unless_judged b (judge_extras variables dt first (at + 1) sum (drop (j + 1) es))) none
