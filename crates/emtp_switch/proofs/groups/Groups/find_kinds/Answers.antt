@@ -37,3 +37,18 @@ returns-clause-kinds c =
     let l = slice_index labels x in
     c.count.ensures l (omega (arith, c.requires.labels x in_x, ap length c.deref_mut.ensures.value, c.requires.room.tallies_size, c.requires.plan.same_nodes))
     ∙ ap (λ k. tally_of rows.nodes k c.deref-2.result.now l) c.deref.ensures.value ∙ ap (λ e. tally_of rows.nodes labels e l) c.deref-2.ensures.value)
+
+pub returns-clause-room : goal.returns-clause-room
+returns-clause-room c =
+    let s = c.args.self.now in
+    let room = c.requires.room in
+    record {
+      labels_size = room.labels_size;
+      knowing_size = room.knowing_size;
+      bridges_size = room.bridges_size;
+      roots_size = room.roots_size;
+      reached_size = room.reached_size;
+      links_size = room.links_size;
+      tallies_size = rw (with_items_is s.tallies c.count.new.tallies (c.count.auto.tallies ∙ c.deref_mut.ensures.len)) (omega (arith, c.count.auto.tallies, ap length c.deref_mut.ensures.value, room.tallies_size));
+      kinds_size = rw (with_items_is s.kinds c.find_kinds.new.kinds (c.find_kinds.auto.kinds ∙ c.deref_mut-2.ensures.len)) (omega (arith, c.find_kinds.auto.kinds, ap length c.deref_mut-2.ensures.value, room.kinds_size));
+    }

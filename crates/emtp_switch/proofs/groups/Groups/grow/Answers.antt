@@ -1,8 +1,9 @@
 use Rattle.std.proofs.Common.{◌≡◌, ◌+◌, ◌<◌, ◌==◌, ℕ, get_or, length, slice_index, take, ap, sym, ◌∙◌, subst, arith}
+use Rattle.std.specs.List.{All}
 use Rattle.std.proofs.lemmas.List.{with_items_is}
 use Rattle.emtp_switch.specs.Groups.{alone, groups}
 use Rattle.std.specs.Vec.{with_items}
-use Rattle.emtp_switch.specs.Tree.{StartsAtRoots, is_reached, root_in}
+use Rattle.emtp_switch.specs.Tree.{AreLinks, StartsAtRoots, is_reached, root_in}
 use Rattle.emtp_switch.proofs.GroupRoots.{ground_reached, roots_are, roots_start}
 use Rattle.emtp_switch.proofs.Regrouping.{labels_small, ranked_is, tree_found}
 use Rattle.emtp_switch.proofs.groups.Groups.grow.Goals as goal
@@ -96,3 +97,15 @@ returns-clause-room c =
       tallies_size = room.tallies_size;
       kinds_size = room.kinds_size;
     }
+
+pub grow-self-requires-clause-bridges : goal.grow-self-requires-clause-bridges
+grow-self-requires-clause-bridges c =
+    subst (λ switches. All (λ s. s < length switches) (take c.args.bridges c.deref-5.result.now)) (sym c.as_slice-switches.ensures)
+    (subst (λ l. All (λ s. s < length c.args.case.now.parts.switches) (take c.args.bridges l)) (sym c.deref-5.ensures.value) c.requires.numbers)
+
+pub returns-clause-links : goal.returns-clause-links
+returns-clause-links c =
+    let size : length c.deref_mut-3.result.now ≡ length c.args.order.now.nodes + 1 = omega (arith, c.deref_mut-3.ensures.len, c.deref_mut-2.ensures.len, ap length c.deref_mut-2.ensures.value, c.requires.room.reached_size, c.requires.plan.same_nodes) in
+    rw (with_items_is c.args.self.now.links c.grow-self.new.links (c.grow-self.auto.links ∙ c.deref_mut-4.ensures.len))
+    (subst (AreLinks (take c.grow-self.result c.grow-self.new.links) (length c.args.order.now.nodes + 1)) (ap length c.as_slice-switches.ensures)
+    (subst (λ n. AreLinks (take c.grow-self.result c.grow-self.new.links) n (length c.as_slice-switches.result.now)) size c.grow-self.ensures.links))

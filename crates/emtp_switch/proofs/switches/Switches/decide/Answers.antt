@@ -1,9 +1,10 @@
-use Rattle.std.proofs.Common.{◌≡◌, ◌∷◌, ℕ, ℤ, List, length, ap, sym, ◌∙◌, arith}
+use Rattle.std.proofs.Common.{◌≡◌, ◌∷◌, ℕ, ℤ, List, length, ap, subst, sym, ◌∙◌, arith}
 use Rattle.std.specs.Vec.{with_items}
 use Rattle.std.proofs.lemmas.List.{with_items_is}
 use Rattle.emtp_case.specs.StepRecord.{StepRecord}
 use Rattle.emtp_case.specs.declared.case.Parts.{Parts}
 use Rattle.emtp_case.specs.declared.switch.SwitchState.{SwitchState}
+use Rattle.emtp_switch.specs.Grouping.{AreGroups}
 use Rattle.emtp_switch.specs.States.{next_states}
 use Rattle.emtp_switch.specs.Switching.{AreKept, AreLatest, StandsFor, Switching}
 use Rattle.emtp_switch.proofs.Deciding.{kept_next}
@@ -80,3 +81,16 @@ regroup-requires-clause-states c = omega (arith, c.deref-then-self.ensures.len, 
 
 pub regroup-requires-clause-room : goal.regroup-requires-clause-room
 regroup-requires-clause-room c = c.self.invariant.groups_are.room
+
+pub invariant_of-self-else-self : goal.invariant_of-self-else-self
+invariant_of-self-else-self c =
+    let i = c.self.invariant in
+    let states_are = with_items_is c.self.inside.states c.move_states-self-inside.new.states (c.move_states-self-inside.auto.states ∙ c.deref_mut.ensures.len) ∙ c.move_states-self-inside.ensures.same c.if-self.false ∙ c.deref_mut.ensures.value in
+    record {
+      plan_is = i.plan_is;
+      groups_are = subst (λ states. AreGroups c.self.inside.case.now.parts c.self.inside.order states c.self.inside.groups) (sym states_are) i.groups_are;
+      states_size = ap length states_are ∙ i.states_size;
+      before_size = ap length c.copy_from_slice.ensures.items ∙ c.requires.currents ∙ ap (λ (x : Switching). length x.case.switches) (sym c.self.view_is);
+      rest_size = i.rest_size;
+      flows_size = i.flows_size;
+    }

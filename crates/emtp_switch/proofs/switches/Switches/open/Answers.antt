@@ -1,7 +1,8 @@
-use Rattle.std.proofs.Common.{◌∙◌, ap, length, refl, subst, sym, arith}
-use Rattle.std.proofs.lemmas.List.{length-map, length-replicate}
+use Rattle.std.proofs.Common.{◌∙◌, ap, length, pos, refl, subst, sym, arith}
+use Rattle.std.proofs.lemmas.List.{get_or-replicate, length-map, length-replicate}
 use Rattle.std.proofs.lemmas.Result.{IfOk-from_err}
 use Rattle.emtp_case.specs.RowOrder.{Rows}
+use Rattle.emtp_switch.specs.Currents.{item}
 use Rattle.emtp_switch.specs.Grouping.{AreGroups}
 use Rattle.emtp_switch.specs.Plan.{IsPlan}
 use Rattle.emtp_switch.proofs.switches.Switches.open.Goals as goal
@@ -47,3 +48,9 @@ invariant_of-result c =
       rest_size = omega (arith, c.in_ok-rest.ensures.len, c.in_ok-rest.rest.ok.0, c.len.ensures);
       flows_size = omega (arith, c.in_ok-flows.ensures.len, c.in_ok-flows.flows.ok.0, c.len-count.ensures);
     }
+
+pub returns-clause-stands : goal.returns-clause-stands
+returns-clause-stands c = record {
+  states_are = c.in_ok-states.ensures;
+  before_are = λ s inside. ap (λ l. item l s) c.in_ok-before.ensures ∙ get_or-replicate c.len-count.result s (pos 0) (pos 0) (omega (arith, inside, ap length c.in_ok-before.ensures, length-replicate c.len-count.result (pos 0)));
+}
