@@ -1,5 +1,5 @@
 -- A run goes on by one call.
-use Rattle.std.proofs.Common.{ℕ, List, [], ◌∷◌, ◌++◌, refl, Result, Ok, Err, IsErr, IfOk}
+use Rattle.std.proofs.Common.{ℕ, List, [], ◌∷◌, ◌++◌, refl}
 use Rattle.emtp_elim.specs.Matrix.{Matrix}
 use Rattle.emtp_tail.specs.Good.{Good}
 use Rattle.emtp_tail.specs.Runs.{Step, Run}
@@ -13,8 +13,3 @@ run_more matrix old mid new before ticks after [] (r ∷ replies) call reply run
 run_more matrix old mid new before ticks after (c ∷ calls) [] call reply run step = absurd run
 run_more matrix old mid new before ticks after (c ∷ calls) (r ∷ replies) call reply run step =
     (run.0, run.1, run.2, run_more matrix run.0 mid new run.1 ticks after calls replies call reply run.3 step)
-
--- a call that failed promises nothing of where it succeeds
-pub no_ok : {T E : Type 0} (r : Result T E) (P : T → Type 0) → IsErr r → IfOk r P
-no_ok (Ok v) P is = absurd (cc)
-no_ok (Err e) P is = tt

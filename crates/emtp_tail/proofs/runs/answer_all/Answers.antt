@@ -1,7 +1,8 @@
 use Rattle.std.proofs.Common.{take, ◌∙◌, sym, subst, arith}
 use Rattle.std.proofs.lemmas.List.{take_more, take_all}
+use Rattle.std.proofs.lemmas.Result.{IfOk-from_err}
 use Rattle.emtp_tail.specs.Runs.{FitsSize}
-use Rattle.emtp_tail.proofs.Running.{run_more, no_ok}
+use Rattle.emtp_tail.proofs.Running.{run_more}
 use Rattle.emtp_tail.proofs.runs.answer_all.Goals as goal
 
 pub loop-call-preserved : goal.loop-call-preserved
@@ -16,10 +17,10 @@ loop-call-preserved g c =
     )
 
 pub returns-in_err-reply-clause-run : goal.returns-in_err-reply-clause-run
-returns-in_err-reply-clause-run g c = no_ok c.from_residual.result _ c.from_residual.ensures.0
+returns-in_err-reply-clause-run g c = IfOk-from_err c.from_residual.result _ c.from_residual.ensures.0
 
 pub returns-in_err-push-clause-run : goal.returns-in_err-push-clause-run
-returns-in_err-push-clause-run g c = no_ok c.from_residual-in_err-push.result _ c.from_residual-in_err-push.ensures.0
+returns-in_err-push-clause-run g c = IfOk-from_err c.from_residual-in_err-push.result _ c.from_residual-in_err-push.ensures.0
 
 pub returns-clause-run : goal.returns-clause-run
 returns-clause-run g c = rw (take_all c.loop-call.call-index c.args.calls.now (omega (arith, c.loop-call-test.false))) at c.loop-call.invariant.0

@@ -1,4 +1,4 @@
-use Rattle.std.proofs.Common.{◌≡◌, ◌∙◌, sym, ap, subst, All, length, ℕ, List}
+use Rattle.std.proofs.Common.{◌∙◌, sym, ap, subst, All, length, ℕ, List}
 use Rattle.emtp_case.specs.Control.{AreKnown}
 use Rattle.emtp_case.specs.declared.control.BlockState.{BlockState}
 use Rattle.emtp_blocks.specs.Block.{IsKept, IsLaw}

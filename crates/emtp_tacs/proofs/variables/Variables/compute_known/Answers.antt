@@ -4,8 +4,8 @@ use Rattle.std.proofs.lemmas.Result.{err_from_is_err_and}
 use Rattle.emtp_case.specs.Control.{AreKnown}
 use Rattle.emtp_case.specs.StepRecord.{latest}
 use Rattle.emtp_tacs.specs.Part.{standing_values}
-use Rattle.emtp_tacs.specs.Stages.{HoldsVariables, IsSoFar, Reaches}
-use Rattle.emtp_tacs.specs.Step.{Measured, SoFar, known_before, sources}
+use Rattle.emtp_tacs.specs.Stages.{IsSoFar, Reaches}
+use Rattle.emtp_tacs.specs.Step.{Measured, SoFar, sources}
 use Rattle.emtp_tacs.specs.declared.fault.TacsFault.{TacsFault}
 use Rattle.emtp_tacs.proofs.Starting.{known_fails, known_is, so_far_first}
 use Rattle.emtp_tacs.proofs.variables.Variables.compute_known.Goals as goal
