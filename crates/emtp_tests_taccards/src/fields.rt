@@ -2,6 +2,11 @@
 
 ghost use Rattle.std.specs.Prelude.{◌≤◌};
 
+use crate::grid::blocks::*;
+use crate::grid::devices::*;
+use crate::grid::formulas::*;
+use crate::grid::outputs::*;
+use crate::grid::sources::*;
 use crate::grid::*;
 use emtp_card::{Bad, Line, Refused, Why, byte_at};
 use emtp_taccards::*;
