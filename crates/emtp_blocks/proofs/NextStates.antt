@@ -100,6 +100,11 @@ law_error dt b law u x j is some below =
     ap (λ n. near (n *ℤ u) (pos 1000) -ℤ near (item law.denominators j *ℤ x) (pos 1000)) (is.numerators j some below)
     ∙ ap (λ d. near (numerator_of dt b j *ℤ u) (pos 1000) -ℤ near (d *ℤ x) (pos 1000)) (is.denominators j some below)
 
+-- a number that is asked for in one case alone may be another one in the other
+pub asked_alone : (asked here : Bool) (l e v : ℤ) → (asked ≡ true → l ≡ e) → (if asked && here then l else v) ≡ (if asked && here then e else v)
+asked_alone true here l e v is = ap (λ (z : ℤ). if here then z else v) (is refl)
+asked_alone false here l e v is = refl
+
 pub moved_is : (dt : ℤ) (b : Block) (limits : Limits) (r : BlockState) (old : BlockState) (law : BlockLaw) (u x z last : ℤ) (errors chain0 chain : List ℤ) (limiter : Limiter) → b.order ≤ 7 → IsLawOf dt b law → HasState b.order old r
     → limiter ≡ limiter_for limits z
     → ((j : ℕ) → j < b.order → item errors j ≡ error_of (item law.numerators) (item law.denominators) u x j)

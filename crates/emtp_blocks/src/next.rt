@@ -1,12 +1,12 @@
 //! What is kept of a block after a step.
 
-ghost use Rattle.std.specs.Prelude.{◌≡◌, ◌^◌, ◌*◌, ◌≤◌, ◌<◌, ◌+◌, ◌==◌, ◌&&◌, not, ◌+ℤ◌, ◌-ℤ◌, ◌*ℤ◌, ℕ, ℤ, suc, pos, unsigned_abs, length, Option, Some, None, if◌then◌else◌, IfSome};
+ghost use Rattle.std.specs.Prelude.{◌≡◌, ◌^◌, ◌*◌, ◌≤◌, ◌<◌, ◌+◌, ◌==◌, ◌&&◌, not, ◌+ℤ◌, ◌-ℤ◌, ◌*ℤ◌, ℕ, ℤ, suc, pos, true, unsigned_abs, length, Option, Some, None, if◌then◌else◌, IfSome};
 ghost use Rattle.std.specs.Ordering.{int_eq};
 ghost use Rattle.emtp_case.specs.declared.control.BlockState.{BlockState};
 ghost use Rattle.emtp_elim.specs.Matrix.{item};
 ghost use Rattle.emtp_fix.specs.Rounding.{near};
 ghost use Rattle.emtp_case.specs.Sums.{sum_below};
-ghost use Rattle.emtp_blocks.specs.Block.{carried, error_of, each_within, is_within, output_of, next_state, IsLaw, IsLawOf, IsKept, HasState, Keeps};
+ghost use Rattle.emtp_blocks.specs.Block.{carried, error_of, each_within, is_within, output_of, past_output, unlimited, next_state, IsLaw, IsLawOf, IsKept, HasState, Keeps};
 ghost use Rattle.emtp_fix.specs.declared.limit.TheConstants.{LARGEST_VALUE, PICO};
 ghost use Rattle.emtp_blocks.specs.declared.next.TheConstants.{LARGEST_CHAIN};
 
@@ -14,7 +14,7 @@ use crate::law::BlockLaw;
 use crate::limits::{Limits, limiter_for};
 use crate::moving::{error, link, past_output, unlimited};
 use crate::scaling::product;
-use emtp_case::{Block, BlockState};
+use emtp_case::{Block, BlockState, Limiter};
 use emtp_fix::{PICO, in_range};
 
 /// The greatest magnitude of a number of a chain, in 10^-18.
@@ -102,6 +102,32 @@ fn replaced(chain: [i128; 8], order: usize, clamped: bool, last: i128) -> [i128;
     chain
 }
 
+/// E of the order, where the output isn't what the chain would give; else 0, since nothing asks for it.
+fn last_error(law: &BlockLaw, u: i64, x: i64, order: usize, clamped: bool) -> i128
+    requires order { order ≤ 7 }
+    requires law { IsLaw law.now }
+    requires u { unsigned_abs u ≤ LARGEST_VALUE }
+    requires x { unsigned_abs x ≤ LARGEST_VALUE }
+    ensures value { clamped ≡ true → result ≡ error_of (item law.now.numerators) (item law.now.denominators) u x order }
+    ensures small { unsigned_abs result ≤ 2 * 10 ^ 35 }
+{
+    if clamped { error(law, u, x, order) } else { 0 }
+}
+
+/// What the past brings to the output of a block at a limit, in nano; 0 of a free one, which doesn't ask for it.
+fn past_at_limit(state: &BlockState, order: usize) -> i128
+    requires order { order ≤ 7 }
+    requires state { IsKept state.now }
+    ensures value { (c solved u : ℤ) → unlimited c state.now.limiter result solved u ≡ unlimited c state.now.limiter (past_output order state.now.errors state.now.chain) solved u }
+    ensures small { unsigned_abs result ≤ 10 ^ 30 }
+{
+    match state.limiter {
+        Limiter::Free => 0,
+        Limiter::AtHigh => past_output(state, order),
+        Limiter::AtLow => past_output(state, order),
+    }
+}
+
 /// Whether the output isn't what the chain would give.
 fn differs(x: i64, z: i128) -> bool
     ensures { result ≡ not (int_eq x z) }
@@ -146,10 +172,11 @@ pub(crate) fn next(
 {
     let order = block.order as usize;
     let u = input(block.gain, s)?;
-    let z = unlimited(law, old.limiter, past_output(old, order), solved, u);
+    let z = unlimited(law, old.limiter, past_at_limit(old, order), solved, u);
     let errors = errors(law, order, u, x);
-    let last = error(law, u, x, order);
-    let chain = replaced(chain(old, &errors, order), order, differs(x, z), last);
+    let clamped = differs(x, z);
+    let last = last_error(law, u, x, order, clamped);
+    let chain = replaced(chain(old, &errors, order), order, clamped, last);
     if !is_in_range(&chain, order) {
         return None;
     }

@@ -1,8 +1,6 @@
 -- The work on right sides, ratio by ratio.
-use Rattle.std.proofs.Common.{◌≡◌, ℕ, suc, ◌+◌, ◌^◌, ◌<◌, ◌≤◌, ℤ, unsigned_abs, List, slice_index, to_z, of_z, sym, ◌∙◌, inl, inr, arith}
-use mir.Syntax.{w128}
+use Rattle.std.proofs.Common.{◌≡◌, ℕ, suc, ◌+◌, ◌^◌, ◌<◌, ◌≤◌, ℤ, unsigned_abs, List, slice_index, sym, ◌∙◌, inl, inr, arith}
 use Rattle.std.proofs.lemmas.Bool.{cases_lt}
-use Rattle.emtp_fix.proofs.Wide.{through}
 use Rattle.emtp_elim.specs.Matrix.{item}
 use Rattle.emtp_elim.specs.Elimination.{less_product}
 use Rattle.emtp_elim.specs.Stored.{AreEntries}
@@ -35,20 +33,16 @@ partial_start start ratios above i columns values first last entries small =
       within = λ h g low inside at. rw (still h g low inside at) small;
     }
 
--- one product more, as the code computes it
-pub partial_next : (start : ℤ) (ratios above : List ℤ) (i : ℕ) (columns : List ℕ) (values : List ℤ) (first e last : ℕ) (value m v : ℤ)
-    → AreEntries ratios 0 i columns values first last → ((k : ℕ) → k < i → unsigned_abs (item ratios k) ≤ 10 ^ 18) → ((k : ℕ) → k < i → unsigned_abs (item above k) ≤ 10 ^ 18)
-    → IsPartial start ratios above i columns first e last value → first ≤ e → e < last → m ≡ item values e
-    → v ≡ less_product value (to_z w128 (of_z w128 m)) (to_z w128 (of_z w128 (item above (slice_index columns e))))
-    → v ≡ partial_right start ratios above (suc (slice_index columns e))
-partial_next start ratios above i columns values first e last value m v entries small_ratios small_above was low_e inside m_is v_is =
+-- one product more
+pub partial_next : (start : ℤ) (ratios above : List ℤ) (i : ℕ) (columns : List ℕ) (values : List ℤ) (first e last : ℕ) (value m p v : ℤ)
+    → AreEntries ratios 0 i columns values first last → IsPartial start ratios above i columns first e last value → first ≤ e → e < last
+    → m ≡ item values e → p ≡ item above (slice_index columns e) → v ≡ less_product value m p → v ≡ partial_right start ratios above (suc (slice_index columns e))
+partial_next start ratios above i columns values first e last value m p v entries was low_e inside m_is p_is v_is =
     let k = slice_index columns e in
     let before : k < i = entries.high e low_e inside in
     let ratio_is : m ≡ item ratios k = m_is ∙ entries.value_is e low_e inside in
     let same_value : value ≡ partial_right start ratios above k = was.value_is k (omega arith) (at_entry ratios 0 i columns values first e last entries low_e inside) in
-    let same_ratio : to_z w128 (of_z w128 m) ≡ item ratios k = rw ratio_is (through (item ratios k) (omega (arith, small_ratios k before))) in
-    let same_above : to_z w128 (of_z w128 (item above k)) ≡ item above k = through (item above k) (omega (arith, small_above k before)) in
-    rw (same_value, same_ratio, same_above) at v_is
+    rw (same_value, ratio_is, p_is) at v_is
 
 pub partial_more : (start : ℤ) (ratios above : List ℤ) (i : ℕ) (columns : List ℕ) (values : List ℤ) (first e last : ℕ) (value v : ℤ)
     → AreEntries ratios 0 i columns values first last → IsPartial start ratios above i columns first e last value → first ≤ e → e < last

@@ -1,9 +1,9 @@
 // The two sums of an elimination, in 128 bits.
-ghost use Rattle.std.specs.Prelude.{◌≡◌, ◌≢◌, ◌≤◌, pos, unsigned_abs};
+ghost use Rattle.std.specs.Prelude.{◌≡◌, ◌≢◌, ◌<◌, ◌≤◌, pos, unsigned_abs, IfNone, IfSome};
 ghost use Rattle.emtp_fix.specs.declared.limit.TheConstants.{LARGEST_ENTRY, LARGEST_RATIO, LARGEST_VALUE};
 ghost use Rattle.emtp_elim.specs.Elimination.{less_product, quotient};
 
-use emtp_fix::{PICO, scaled};
+use emtp_fix::{LARGEST_VALUE, PICO, narrow_product, scaled};
 
 /// `a / p`, in units of 1e-12.
 pub fn ratio(a: i128, p: i128) -> i128
@@ -26,4 +26,26 @@ pub fn less(a: i128, m: i128, p: i128) -> i128
         return a;
     }
     a - scaled(m, p, PICO)
+}
+
+/// The same in 64 bits, where it is in range; else None.
+pub fn less_in_range(a: i64, m: i64, p: i64) -> Option<i64>
+    requires a { unsigned_abs a ≤ LARGEST_VALUE }
+    requires m { unsigned_abs m ≤ LARGEST_RATIO }
+    requires p { unsigned_abs p ≤ LARGEST_VALUE }
+    ensures value { IfSome result (λ v. v ≡ less_product a m p) }
+    ensures within { IfSome result (λ v. unsigned_abs v ≤ LARGEST_VALUE) }
+    ensures out { IfNone result (LARGEST_VALUE < unsigned_abs (less_product a m p)) }
+{
+    match narrow_product(m, p) {
+        None => None,
+        Some(product) => {
+            let rest = a - product;
+            if rest.unsigned_abs() > LARGEST_VALUE as u64 {
+                None
+            } else {
+                Some(rest)
+            }
+        }
+    }
 }

@@ -8,7 +8,7 @@ ghost use Rattle.emtp_elim.specs.Finished.{AreAllFinished};
 ghost use Rattle.emtp_elim.specs.Row.{numbers, IsRow};
 ghost use Rattle.emtp_elim.specs.Substitution.{partial_right, AreReduced, IsLastFault};
 
-use crate::arithmetic::less;
+use crate::arithmetic::less_in_range;
 use crate::fault::SolveFault;
 use crate::row::FinishedRow;
 use crate::sparse::SparseRows;
@@ -24,20 +24,20 @@ fn reduced(right: &[i128], i: usize, row: FinishedRow<'_>) -> Option<i128>
     ensures within { OnSome result ((k : ℕ) → k ≤ i → unsigned_abs (partial_right (item right.now i) (numbers (length right.now) row.entry) right.now k) ≤ LARGEST_VALUE) }
     ensures out { IfNone result ((k : ℕ) × (k ≤ i) × (LARGEST_VALUE < unsigned_abs (partial_right (item right.now i) (numbers (length right.now) row.entry) right.now k))) }
 {
-    let mut value = right[i];
-    if value.unsigned_abs() > LARGEST_VALUE {
+    if right[i].unsigned_abs() > LARGEST_VALUE {
         return None;
     }
+    let mut value = right[i] as i64;
     let columns = row.columns;
     let values = row.values;
     for e in row.first..row.pivot {
-        let k = columns[e] as usize;
-        value = less(value, i128::from(values[e]), right[k]);
-        if value.unsigned_abs() > LARGEST_VALUE {
-            return None;
+        let above = right[columns[e] as usize] as i64;
+        match less_in_range(value, values[e], above) {
+            Some(less) => value = less,
+            None => return None,
         }
     }
-    Some(value)
+    Some(i128::from(value))
 }
 
 /// Does the work of the elimination on the right sides, by the finished rows.

@@ -22,10 +22,10 @@ mod steps;
 pub use decimal::print_fixed;
 pub use laws::decimals_read_back;
 pub use limit::{
-    ATTO, LARGEST_ENTRY, LARGEST_IMPEDANCE, LARGEST_RATIO, LARGEST_VALUE, LARGEST_WIDE,
+    ATTO, KILO, LARGEST_ENTRY, LARGEST_IMPEDANCE, LARGEST_RATIO, LARGEST_VALUE, LARGEST_WIDE,
     LEAST_IMPEDANCE, MICRO, NANO, OutOfRange, PICO, fit, in_range,
 };
-pub use product::scaled;
+pub use product::{micro_sum, narrow_product, scaled};
 pub use root::isqrt;
 pub use rounding::{near, near_by, word_of};
 pub use steps::Steps;

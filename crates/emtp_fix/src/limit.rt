@@ -23,6 +23,9 @@ pub const LARGEST_IMPEDANCE: u128 = 1_000_000_000_000_000;
 /// The greatest magnitude of a product or a sum on the way, as [`near`](crate::near) takes it: 1.6e38.
 pub const LARGEST_WIDE: u128 = 160_000_000_000_000_000_000_000_000_000_000_000_000;
 
+/// 1 in units of 10^-3: what products of 10^-12 and 10^-9 are brought to 10^-18 by.
+pub const KILO: i128 = 1000;
+
 /// 1 in units of 10^-6, as of impedances in micro-ohm.
 pub const MICRO: i128 = 1_000_000;
 

@@ -1,9 +1,12 @@
 // Products that are brought back to a unit.
-ghost use Rattle.std.specs.Prelude.{◌≡◌, ◌≢◌, ◌*◌, ◌^◌, ◌≤◌, ℕ, pos, ◌*ℤ◌, unsigned_abs};
+ghost use Rattle.std.specs.Prelude.{◌≡◌, ◌≢◌, ◌*◌, ◌^◌, ◌<◌, ◌≤◌, ℕ, pos, ◌+ℤ◌, ◌*ℤ◌, unsigned_abs, IfNone, IfSome};
+ghost use Rattle.emtp_fix.specs.Limit.{in_range};
 ghost use Rattle.emtp_fix.specs.Rounding.{near};
-ghost use Rattle.emtp_fix.specs.declared.limit.TheConstants.{LARGEST_WIDE};
+ghost use Rattle.emtp_fix.specs.declared.limit.TheConstants.{LARGEST_VALUE, LARGEST_WIDE, MICRO, PICO};
 
-use crate::rounding::near;
+use crate::limit::{LARGEST_VALUE, MICRO, PICO};
+use crate::quotient::{micro_quotient, pico_quotient};
+use crate::rounding::{narrow_with_sign_of, near};
 
 /// `a * b / unit`, rounded as by [`near`]: a product that is brought back to its unit, or a share of `a`.
 ///
@@ -19,4 +22,86 @@ pub fn scaled(a: i128, b: i128, unit: i128) -> i128
     ensures bound { unsigned_abs result ≤ LARGEST_WIDE }
 {
     near(a * b, unit)
+}
+
+/// The greatest magnitude of what [`narrow_product`] answers.
+const LARGEST_NARROW: u128 = 4_000_000_000_000_000_000;
+
+/// `a * b / 10^12`, rounded as by [`near`], where its magnitude is at most 4e18; else None. It costs less than
+/// [`scaled`], since what comes after is in 64 bits.
+pub fn narrow_product(a: i64, b: i64) -> Option<i64>
+    requires a { unsigned_abs a ≤ 2 * 10 ^ 18 }
+    requires b { unsigned_abs b ≤ 2 * 10 ^ 18 }
+    ensures value { IfSome result (λ z. z ≡ near (a *ℤ b) PICO) }
+    ensures small { IfSome result (λ z. unsigned_abs z ≤ 4 * 10 ^ 18) }
+    ensures large { IfNone result (4 * 10 ^ 18 < unsigned_abs (near (a *ℤ b) PICO)) }
+{
+    narrow_pico(i128::from(a) * i128::from(b))
+}
+
+fn narrow_pico(a: i128) -> Option<i64>
+    requires { unsigned_abs a ≤ LARGEST_WIDE }
+    ensures value { IfSome result (λ z. z ≡ near a PICO) }
+    ensures small { IfSome result (λ z. unsigned_abs z ≤ 4 * 10 ^ 18) }
+    ensures large { IfNone result (4 * 10 ^ 18 < unsigned_abs (near a PICO)) }
+{
+    let magnitude = pico_quotient(a.unsigned_abs() + PICO as u128 / 2);
+    if magnitude > LARGEST_NARROW {
+        None
+    } else {
+        Some(narrow_with_sign_of(a, magnitude))
+    }
+}
+
+/// `rest + a * b / 10^6`, where it is in the range of voltages, currents and values of the control; else None. An absent
+/// part, where `a` is 0, costs no division.
+pub fn micro_sum(a: i64, b: i64, rest: i64) -> Option<i64>
+    requires a { unsigned_abs a ≤ 2 * 10 ^ 18 }
+    requires b { unsigned_abs b ≤ 2 * 10 ^ 18 }
+    requires rest { unsigned_abs rest ≤ 2 * 10 ^ 18 }
+    ensures value { result ≡ in_range (rest +ℤ near (a *ℤ b) MICRO) }
+    ensures bound { IfSome result (λ y. unsigned_abs y ≤ LARGEST_VALUE) }
+{
+    if a == 0 {
+        return narrow_in_range(rest);
+    }
+    match micro_product(a, b) {
+        None => None,
+        Some(part) => narrow_in_range(rest + part),
+    }
+}
+
+fn micro_product(a: i64, b: i64) -> Option<i64>
+    requires a { unsigned_abs a ≤ 2 * 10 ^ 18 }
+    requires b { unsigned_abs b ≤ 2 * 10 ^ 18 }
+    ensures value { IfSome result (λ z. z ≡ near (a *ℤ b) MICRO) }
+    ensures small { IfSome result (λ z. unsigned_abs z ≤ 4 * 10 ^ 18) }
+    ensures large { IfNone result (4 * 10 ^ 18 < unsigned_abs (near (a *ℤ b) MICRO)) }
+{
+    narrow_micro(i128::from(a) * i128::from(b))
+}
+
+fn narrow_micro(a: i128) -> Option<i64>
+    requires { unsigned_abs a ≤ LARGEST_WIDE }
+    ensures value { IfSome result (λ z. z ≡ near a MICRO) }
+    ensures small { IfSome result (λ z. unsigned_abs z ≤ 4 * 10 ^ 18) }
+    ensures large { IfNone result (4 * 10 ^ 18 < unsigned_abs (near a MICRO)) }
+{
+    let magnitude = micro_quotient(a.unsigned_abs() + MICRO as u128 / 2);
+    if magnitude > LARGEST_NARROW {
+        None
+    } else {
+        Some(narrow_with_sign_of(a, magnitude))
+    }
+}
+
+fn narrow_in_range(x: i64) -> Option<i64>
+    ensures value { result ≡ in_range x }
+    ensures bound { IfSome result (λ y. unsigned_abs y ≤ LARGEST_VALUE) }
+{
+    if x.unsigned_abs() > LARGEST_VALUE as u64 {
+        None
+    } else {
+        Some(x)
+    }
 }

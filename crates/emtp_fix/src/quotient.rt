@@ -1,16 +1,23 @@
 // Whole quotients: guessed by a reciprocal word and checked, else by long division.
 ghost use Rattle.std.specs.Prelude.{true, ◌≡◌, ◌*◌, ◌+◌, ◌-◌, ◌/◌, ◌^◌, ◌<◌, ◌≤◌};
 
+const KILO: u64 = crate::limit::KILO as u64;
+
 const MICRO: u64 = crate::limit::MICRO as u64;
 
 const NANO: u64 = crate::limit::NANO as u64;
 
 const PICO: u64 = crate::limit::PICO as u64;
 
-/// The reciprocal words of 10^6 and 10^12: what `word_of` gives for them.
-const MICRO_WORD: u64 = 896_069_040_124_515_179;
+/// What a number less its lower bits is multiplied by for a guess: 2^73 / 10^3, 2^83 / 10^6, 2^93 / 10^9 and
+/// 2^103 / 10^12.
+const PER_KILO: u64 = 9_444_732_965_739_290_427;
 
-const PICO_WORD: u64 = 1_835_665_529_942_118_807;
+const PER_MICRO: u64 = 9_671_406_556_917_033_397;
+
+const PER_NANO: u64 = 9_903_520_314_283_042_199;
+
+const PER_PICO: u64 = 10_141_204_801_825_835_211;
 
 /// Whether `guess` is `x / b`.
 pub(crate) fn is_quotient(x: u128, b: u128, guess: u128) -> bool
@@ -33,33 +40,118 @@ pub(crate) fn guess(x: u128, b: u64, word: u64) -> u64 {
         .wrapping_add(shifted);
     let first = ((product / (1 << 64)) as u64).wrapping_add(1);
     let left = low.wrapping_sub(first.wrapping_mul(divisor));
-    if left > (product % (1 << 64)) as u64 {
-        // one too many, unless a divisor or more is left once one is added back
-        let under = left.wrapping_add(divisor) < divisor;
-        if under { first.wrapping_sub(1) } else { first }
-    } else if left >= divisor {
-        first.wrapping_add(1)
+    let over = left > (product % (1 << 64)) as u64;
+    let lower = if over { first.wrapping_sub(1) } else { first };
+    let kept = if over {
+        left.wrapping_add(divisor)
     } else {
-        first
+        left
+    };
+    if kept >= divisor {
+        lower.wrapping_add(1)
+    } else {
+        lower
     }
+}
+
+// The quotients by what the upper bits give. They branch on no sign and on no size but the outermost: those change from
+// step to step, and a branch that is foretold wrongly costs more than the quotient.
+
+/// `x / 10^3`, where `x` is below 2^72: what its upper bits give, or one more.
+fn kilo_near(x: u128) -> u64
+    requires { x < 2 ^ 72 }
+    ensures { result ≡ x / 10 ^ 3 }
+{
+    let top = (x / (1 << 8)) as u64;
+    let guess = (u128::from(top) * u128::from(PER_KILO) / (1 << 65)) as u64;
+    one_more(x, KILO, guess)
+}
+
+/// `x / 10^6`, where `x` is below 2^82: the same way.
+fn micro_near(x: u128) -> u64
+    requires { x < 2 ^ 82 }
+    ensures { result ≡ x / 10 ^ 6 }
+{
+    let top = (x / (1 << 18)) as u64;
+    let guess = (u128::from(top) * u128::from(PER_MICRO) / (1 << 65)) as u64;
+    one_more(x, MICRO, guess)
+}
+
+/// `x / 10^9`, where `x` is below 2^92.
+fn nano_near(x: u128) -> u64
+    requires { x < 2 ^ 92 }
+    ensures { result ≡ x / 10 ^ 9 }
+{
+    let top = (x / (1 << 28)) as u64;
+    let guess = (u128::from(top) * u128::from(PER_NANO) / (1 << 65)) as u64;
+    one_more(x, NANO, guess)
+}
+
+/// `x / 10^12`, where `x` is below 2^100.
+fn pico_near(x: u128) -> u64
+    requires { x < 2 ^ 100 }
+    ensures { result ≡ x / 10 ^ 12 }
+{
+    let top = (x / (1 << 36)) as u64;
+    let guess = (u128::from(top) * u128::from(PER_PICO) / (1 << 67)) as u64;
+    one_more(x, PICO, guess)
+}
+
+/// A quotient that is `guess` or one more.
+fn one_more(x: u128, b: u64, guess: u64) -> u64
+    requires b { b < 2 ^ 60 }
+    requires guess { guess < 2 ^ 63 }
+    requires low { guess * b ≤ x }
+    requires high { x < guess * b + b + b }
+    ensures low { result * b ≤ x }
+    ensures high { x < result * b + b }
+    ensures small { result ≤ guess + 1 }
+{
+    let left = ((x % (1 << 64)) as u64).wrapping_sub(guess.wrapping_mul(b));
+    if left >= b { guess + 1 } else { guess }
 }
 
 // The quotients by long division. What is left after the powers of two are shifted out is written in
 // digits of so many bits that a remainder by the power of five and one digit fill 64 bits.
+
+/// `x / 10^3`.
+pub(crate) fn kilo_quotient(x: u128) -> u128
+    requires { x < 2 ^ 128 - 1 }
+    ensures { result ≡ x / 10 ^ 3 }
+{
+    if x < 1 << 72 {
+        u128::from(kilo_near(x))
+    } else {
+        kilo_far(x)
+    }
+}
+
+/// The same by long division.
+#[inline(never)]
+fn kilo_far(x: u128) -> u128
+    requires { x < 2 ^ 128 - 1 }
+    ensures { result ≡ x / 10 ^ 3 }
+{
+    const FIVES: u64 = 125;
+    const DIGIT: u128 = 1 << 56;
+    let scaled = x / 8;
+    let high = scaled / DIGIT;
+    let top = (high / DIGIT) as u64;
+    let middle = top % FIVES * DIGIT as u64 + (high % DIGIT) as u64;
+    let low = middle % FIVES * DIGIT as u64 + (scaled % DIGIT) as u64;
+    (u128::from(top / FIVES) * DIGIT + u128::from(middle / FIVES)) * DIGIT + u128::from(low / FIVES)
+}
 
 /// `x / 10^6`.
 pub(crate) fn micro_quotient(x: u128) -> u128
     requires { x < 2 ^ 128 - 1 }
     ensures { result ≡ x / 10 ^ 6 }
 {
-    if x <= u128::from(u64::MAX) {
-        return u128::from(x as u64 / MICRO);
+    if x < 1 << 82 {
+        u128::from(micro_near(x))
+    } else {
+        micro_far(x)
     }
-    let guess = u128::from(guess(x, MICRO, MICRO_WORD));
-    if is_quotient(x, u128::from(MICRO), guess) {
-        return guess;
-    }
-    micro_far(x)
 }
 
 /// The same by long division.
@@ -84,11 +176,22 @@ pub(crate) fn nano_quotient(x: u128) -> u128
     requires { x < 2 ^ 128 - 1 }
     ensures { result ≡ x / 10 ^ 9 }
 {
+    if x < 1 << 92 {
+        u128::from(nano_near(x))
+    } else {
+        nano_far(x)
+    }
+}
+
+/// The same by long division.
+#[cold]
+#[inline(never)]
+fn nano_far(x: u128) -> u128
+    requires { x < 2 ^ 128 - 1 }
+    ensures { result ≡ x / 10 ^ 9 }
+{
     const FIVES: u64 = 1_953_125;
     const DIGIT: u128 = 1 << 40;
-    if x <= u128::from(u64::MAX) {
-        return u128::from(x as u64 / NANO);
-    }
     let scaled = x / 512;
     let high = scaled / DIGIT;
     let top = (high / DIGIT) as u64;
@@ -102,14 +205,11 @@ pub(crate) fn pico_quotient(x: u128) -> u128
     requires { x < 2 ^ 128 - 1 }
     ensures { result ≡ x / 10 ^ 12 }
 {
-    if x <= u128::from(u64::MAX) {
-        return u128::from(x as u64 / PICO);
+    if x < 1 << 100 {
+        u128::from(pico_near(x))
+    } else {
+        pico_far(x)
     }
-    let guess = u128::from(guess(x, PICO, PICO_WORD));
-    if is_quotient(x, u128::from(PICO), guess) {
-        return guess;
-    }
-    pico_far(x)
 }
 
 /// The same by long division.

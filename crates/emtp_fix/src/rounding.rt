@@ -1,10 +1,12 @@
 // Rounding to the nearest whole number, a half away from zero.
-ghost use Rattle.std.specs.Prelude.{◌≡◌, ◌≢◌, ◌+◌, ◌-◌, ◌/◌, ◌^◌, ◌<◌, ◌≤◌, ℕ, pos, unsigned_abs};
+ghost use Rattle.std.specs.Prelude.{◌≡◌, ◌≢◌, ◌+◌, ◌-◌, ◌*◌, ◌/◌, ◌^◌, ◌<◌, ◌≤◌, ℕ, pos, unsigned_abs};
 ghost use Rattle.emtp_fix.specs.Rounding.{near, near_abs, IsNearest};
-ghost use Rattle.emtp_fix.specs.declared.limit.TheConstants.{LARGEST_WIDE, MICRO, NANO, PICO, ATTO};
+ghost use Rattle.emtp_fix.specs.declared.limit.TheConstants.{LARGEST_WIDE, KILO, MICRO, NANO, PICO, ATTO};
 
-use crate::limit::{ATTO, MICRO, NANO, PICO};
-use crate::quotient::{guess, is_quotient, micro_quotient, nano_quotient, pico_quotient};
+use crate::limit::{ATTO, KILO, MICRO, NANO, PICO};
+use crate::quotient::{
+    guess, is_quotient, kilo_quotient, micro_quotient, nano_quotient, pico_quotient,
+};
 
 /// `a / b`, rounded to the nearest whole number, a half away from zero.
 ///
@@ -36,6 +38,8 @@ fn rounded(a: i128, b: i128) -> i128
         near_nano(a)
     } else if b == ATTO {
         near_atto(a)
+    } else if b == KILO {
+        near_kilo(a)
     } else {
         near_signed(a, b)
     }
@@ -86,6 +90,26 @@ fn with_sign_of(a: i128, magnitude: u128) -> i128
     } else {
         magnitude as i128
     }
+}
+
+/// The same in 64 bits.
+pub(crate) fn narrow_with_sign_of(a: i128, magnitude: u128) -> i64
+    requires { magnitude ≤ 4 * 10 ^ 18 }
+    ensures value { (d : ℕ) → magnitude ≡ near_abs (unsigned_abs a) d → result ≡ near a (pos d) }
+    ensures bound { unsigned_abs result ≤ magnitude }
+{
+    if a < 0 {
+        -(magnitude as i64)
+    } else {
+        magnitude as i64
+    }
+}
+
+fn near_kilo(a: i128) -> i128
+    requires { unsigned_abs a ≤ LARGEST_WIDE }
+    ensures { result ≡ near a KILO }
+{
+    with_sign_of(a, kilo_quotient(a.unsigned_abs() + KILO as u128 / 2))
 }
 
 fn near_micro(a: i128) -> i128

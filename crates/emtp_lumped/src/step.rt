@@ -1,6 +1,7 @@
 //! One step of a series branch. A function an equation.
 
 ghost use Rattle.std.specs.Prelude.{◌≡◌, ◌^◌, ◌*◌, ◌≤◌, ◌*ℤ◌, ◌≤ℤ◌, unsigned_abs, IfSome};
+ghost use Rattle.emtp_fix.specs.Limit.{in_range};
 ghost use Rattle.emtp_fix.specs.Rounding.{near};
 ghost use Rattle.emtp_fix.specs.declared.limit.TheConstants.{LARGEST_VALUE, LARGEST_ENTRY, MICRO, PICO};
 ghost use Rattle.emtp_lumped.specs.Companion.{IsCompanion};
@@ -8,7 +9,7 @@ ghost use Rattle.emtp_lumped.specs.Step.{IsInRange, history_current_of, current_
 
 use crate::companion::Companion;
 use emtp_case::LumpedState;
-use emtp_fix::{MICRO, PICO, in_range, scaled};
+use emtp_fix::{PICO, in_range, micro_sum, scaled};
 
 /// What the next record keeps of a branch at a voltage, where all of it is in range.
 pub(crate) fn next(
@@ -25,9 +26,9 @@ pub(crate) fn next(
     ensures range { IfSome result IsInRange }
 {
     let current = in_range(current(companion, old, history, v))?;
-    let v_l = in_range(inductor_voltage(companion, old, current))?;
-    let v_c = in_range(capacitor_voltage(companion, old, current))?;
-    let history_voltage = in_range(history_voltage(companion, current, v_l, v_c))?;
+    let v_l = inductor_voltage(companion, old, current)?;
+    let v_c = capacitor_voltage(companion, old, current)?;
+    let history_voltage = history_voltage(companion, current, v_l, v_c)?;
     Some(LumpedState {
         current,
         v_l,
@@ -55,32 +56,35 @@ fn current(companion: &Companion, old: &LumpedState, history: i128, v: i128) -> 
     product(companion.conductance, v, PICO) + history
 }
 
-fn inductor_voltage(companion: &Companion, old: &LumpedState, i: i64) -> i128
+fn inductor_voltage(companion: &Companion, old: &LumpedState, i: i64) -> Option<i64>
     requires companion { IsCompanion companion.now }
     requires old { IsInRange old.now }
     requires i { unsigned_abs i ≤ LARGEST_VALUE }
-    ensures { result ≡ inductor_voltage_of companion.now old.now i }
+    ensures value { result ≡ in_range (inductor_voltage_of companion.now old.now i) }
+    ensures bound { IfSome result (λ y. unsigned_abs y ≤ LARGEST_VALUE) }
 {
-    product(companion.inductor, (i - old.current) as i128, MICRO) - old.v_l as i128
+    micro_sum(companion.inductor, i - old.current, -old.v_l)
 }
 
-fn capacitor_voltage(companion: &Companion, old: &LumpedState, i: i64) -> i128
+fn capacitor_voltage(companion: &Companion, old: &LumpedState, i: i64) -> Option<i64>
     requires companion { IsCompanion companion.now }
     requires old { IsInRange old.now }
     requires i { unsigned_abs i ≤ LARGEST_VALUE }
-    ensures { result ≡ capacitor_voltage_of companion.now old.now i }
+    ensures value { result ≡ in_range (capacitor_voltage_of companion.now old.now i) }
+    ensures bound { IfSome result (λ y. unsigned_abs y ≤ LARGEST_VALUE) }
 {
-    old.v_c as i128 + product(companion.capacitor, (i + old.current) as i128, MICRO)
+    micro_sum(companion.capacitor, i + old.current, old.v_c)
 }
 
-fn history_voltage(companion: &Companion, i: i64, v_l: i64, v_c: i64) -> i128
+fn history_voltage(companion: &Companion, i: i64, v_l: i64, v_c: i64) -> Option<i64>
     requires companion { IsCompanion companion.now }
     requires i { unsigned_abs i ≤ LARGEST_VALUE }
     requires v_l { unsigned_abs v_l ≤ LARGEST_VALUE }
     requires v_c { unsigned_abs v_c ≤ LARGEST_VALUE }
-    ensures { result ≡ history_voltage_of companion.now i v_l v_c }
+    ensures value { result ≡ in_range (history_voltage_of companion.now i v_l v_c) }
+    ensures bound { IfSome result (λ y. unsigned_abs y ≤ LARGEST_VALUE) }
 {
-    (v_l - v_c) as i128 + product(companion.inductor - companion.capacitor, i as i128, MICRO)
+    micro_sum(companion.inductor - companion.capacitor, i, v_l - v_c)
 }
 
 /// `a * b / unit`, rounded. An absent part is skipped: a resistor has two of them, and each would cost a division.

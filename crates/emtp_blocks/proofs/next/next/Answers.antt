@@ -1,9 +1,11 @@
-use Rattle.std.proofs.Common.{◌≡◌, ◌∙◌, sym, ap, ◌^◌, true, false, to_z, of_z, refl, arith}
+use Rattle.std.proofs.Common.{◌≡◌, ◌∙◌, sym, ap, ℕ, suc, not, ◌==◌, ◌<◌, ◌^◌, true, false, to_z, of_z, refl, arith}
 use mir.Syntax.{w64, w128}
 use Rattle.std.proofs.lemmas.Int.{to_z-of_z}
 use Rattle.emtp_fix.proofs.Wide.{through, through_64}
-use Rattle.emtp_blocks.specs.Block.{input_of, output_of, limiter_for, is_within}
-use Rattle.emtp_blocks.proofs.NextStates.{next_is, next_none, moved_is, moved_kept, input_none, input_some, z_found}
+use Rattle.std.specs.Ordering.{int_eq}
+use Rattle.emtp_elim.specs.Matrix.{item}
+use Rattle.emtp_blocks.specs.Block.{error_of, past_output, input_of, output_of, limiter_for, is_within}
+use Rattle.emtp_blocks.proofs.NextStates.{next_is, next_none, moved_is, moved_kept, input_none, input_some, z_found, asked_alone}
 use Rattle.emtp_blocks.proofs.next.next.Goals as goal
 
 pub returns-in_err-u-clause-value : goal.returns-in_err-u-clause-value
@@ -26,19 +28,22 @@ returns-then-not-is_in_range-clause-value c = λ dt r law has.
     let solved : to_z w64 (of_z w64 c.args.solved) ≡ c.args.solved = through_64 c.args.solved c.requires.solved in
     let x : to_z w64 (of_z w64 c.args.x) ≡ c.args.x = through_64 c.args.x c.requires.x in
     let u : to_z w64 (of_z w64 c.in_ok-u.u) ≡ c.in_ok-u.u = through_64 c.in_ok-u.u c.in_ok-u.ensures.small in
-    let past : to_z w128 (of_z w128 c.past_output.result) ≡ c.past_output.result = through c.past_output.result (omega (arith, c.past_output.ensures.small)) in
+    let past : to_z w128 (of_z w128 c.past_at_limit.result) ≡ c.past_at_limit.result = through c.past_at_limit.result (omega (arith, c.past_at_limit.ensures.small)) in
+    let h = past_output b.order old.errors old.chain in
     let z : to_z w128 (of_z w128 c.unlimited-z.result) ≡ c.unlimited-z.result = through c.unlimited-z.result (omega (arith, c.unlimited-z.ensures.small)) in
-    let last : to_z w128 (of_z w128 c.error-last.result) ≡ c.error-last.result = through c.error-last.result (omega (arith, c.error-last.ensures.small)) in
+    let last : to_z w128 (of_z w128 c.last_error-last.result) ≡ c.last_error-last.result = through c.last_error-last.result (omega (arith, c.last_error-last.ensures.small)) in
     let value = rw (gain, s) at c.in_ok-u.ensures.value in
     let input = input_some c.in_ok-u.u (input_of b c.args.s) value in
     let small : is_within (10 ^ 18) c.in_ok-u.u ≡ true = ap (is_within (10 ^ 18)) input.1 ∙ input.0 in
-    let z_is = z_found dt b l r old c.args.solved c.in_ok-u.u c.past_output.result c.unlimited-z.result law has (rw (past, solved, u) at c.unlimited-z.ensures.value) c.past_output.ensures.value in
+    let z_is = z_found dt b l r old c.args.solved c.in_ok-u.u h c.unlimited-z.result law has ((rw (past, solved, u) at c.unlimited-z.ensures.value) ∙ c.past_at_limit.ensures.value l.sum c.args.solved c.in_ok-u.u) refl in
     let x_is : c.args.x ≡ output_of limits r.limiter c.args.solved = c.requires.output ∙ ap (λ m. output_of limits m c.args.solved) has.limiter_is in
-    let d = rw (x, z) at c.differs.ensures in
+    let d = rw (x, z) at c.differs-clamped.ensures in
+    let e = error_of (item l.numerators) (item l.denominators) c.in_ok-u.u c.args.x b.order in
     let errors = rw (u, x) at c.errors-errors.ensures.value in
-    let last_is = rw (u, x) at c.error-last.ensures.value in
-    let chain = rw (d, last) at c.replaced-chain.ensures.value in
-    let state = moved_is dt b limits r old l c.in_ok-u.u c.args.x c.unlimited-z.result c.error-last.result c.errors-errors.result c.chain.result c.replaced-chain.result (limiter_for limits c.unlimited-z.result) c.requires.order law has refl errors last_is c.chain.ensures.value chain in
+    let last_is = rw (d, u, x) at c.last_error-last.ensures.value in
+    let given = rw (d, last) at c.replaced-chain.ensures.value in
+    let chain = λ (j : ℕ) (below : j < b.order). given j below ∙ asked_alone (not (int_eq c.args.x c.unlimited-z.result)) (suc j == b.order) c.last_error-last.result e (item c.chain.result j) last_is in
+    let state = moved_is dt b limits r old l c.in_ok-u.u c.args.x c.unlimited-z.result e c.errors-errors.result c.chain.result c.replaced-chain.result (limiter_for limits c.unlimited-z.result) c.requires.order law has refl errors refl c.chain.ensures.value chain in
     next_is dt b limits r c.args.solved c.args.s c.in_ok-u.u c.args.x c.unlimited-z.result _ false input.1 x_is z_is small c.if-not-is_in_range.ensures state
 
 pub returns-clause-value : goal.returns-clause-value
@@ -52,20 +57,23 @@ returns-clause-value c = λ dt r law has.
     let solved : to_z w64 (of_z w64 c.args.solved) ≡ c.args.solved = through_64 c.args.solved c.requires.solved in
     let x : to_z w64 (of_z w64 c.args.x) ≡ c.args.x = through_64 c.args.x c.requires.x in
     let u : to_z w64 (of_z w64 c.in_ok-u.u) ≡ c.in_ok-u.u = through_64 c.in_ok-u.u c.in_ok-u.ensures.small in
-    let past : to_z w128 (of_z w128 c.past_output.result) ≡ c.past_output.result = through c.past_output.result (omega (arith, c.past_output.ensures.small)) in
+    let past : to_z w128 (of_z w128 c.past_at_limit.result) ≡ c.past_at_limit.result = through c.past_at_limit.result (omega (arith, c.past_at_limit.ensures.small)) in
+    let h = past_output b.order old.errors old.chain in
     let z : to_z w128 (of_z w128 c.unlimited-z.result) ≡ c.unlimited-z.result = through c.unlimited-z.result (omega (arith, c.unlimited-z.ensures.small)) in
-    let last : to_z w128 (of_z w128 c.error-last.result) ≡ c.error-last.result = through c.error-last.result (omega (arith, c.error-last.ensures.small)) in
+    let last : to_z w128 (of_z w128 c.last_error-last.result) ≡ c.last_error-last.result = through c.last_error-last.result (omega (arith, c.last_error-last.ensures.small)) in
     let value = rw (gain, s) at c.in_ok-u.ensures.value in
     let input = input_some c.in_ok-u.u (input_of b c.args.s) value in
     let small : is_within (10 ^ 18) c.in_ok-u.u ≡ true = ap (is_within (10 ^ 18)) input.1 ∙ input.0 in
-    let z_is = z_found dt b l r old c.args.solved c.in_ok-u.u c.past_output.result c.unlimited-z.result law has (rw (past, solved, u) at c.unlimited-z.ensures.value) c.past_output.ensures.value in
+    let z_is = z_found dt b l r old c.args.solved c.in_ok-u.u h c.unlimited-z.result law has ((rw (past, solved, u) at c.unlimited-z.ensures.value) ∙ c.past_at_limit.ensures.value l.sum c.args.solved c.in_ok-u.u) refl in
     let x_is : c.args.x ≡ output_of limits r.limiter c.args.solved = c.requires.output ∙ ap (λ m. output_of limits m c.args.solved) has.limiter_is in
-    let d = rw (x, z) at c.differs.ensures in
+    let d = rw (x, z) at c.differs-clamped.ensures in
+    let e = error_of (item l.numerators) (item l.denominators) c.in_ok-u.u c.args.x b.order in
     let errors = rw (u, x) at c.errors-errors.ensures.value in
-    let last_is = rw (u, x) at c.error-last.ensures.value in
-    let chain = rw (d, last) at c.replaced-chain.ensures.value in
+    let last_is = rw (d, u, x) at c.last_error-last.ensures.value in
+    let given = rw (d, last) at c.replaced-chain.ensures.value in
+    let chain = λ (j : ℕ) (below : j < b.order). given j below ∙ asked_alone (not (int_eq c.args.x c.unlimited-z.result)) (suc j == b.order) c.last_error-last.result e (item c.chain.result j) last_is in
     let limiter = rw z at c.limiter_for.ensures in
-    let state = moved_is dt b limits r old l c.in_ok-u.u c.args.x c.unlimited-z.result c.error-last.result c.errors-errors.result c.chain.result c.replaced-chain.result c.limiter_for.result c.requires.order law has limiter errors last_is c.chain.ensures.value chain in
+    let state = moved_is dt b limits r old l c.in_ok-u.u c.args.x c.unlimited-z.result e c.errors-errors.result c.chain.result c.replaced-chain.result c.limiter_for.result c.requires.order law has limiter errors refl c.chain.ensures.value chain in
     next_is dt b limits r c.args.solved c.args.s c.in_ok-u.u c.args.x c.unlimited-z.result _ true input.1 x_is z_is small c.if-not-is_in_range.ensures state
 
 pub returns-clause-kept : goal.returns-clause-kept
