@@ -30,6 +30,7 @@ use Rattle.emtp_walk.specs.declared.deck.Place.TheVariants.{After, Begin, Branch
 use Rattle.emtp_netcards.specs.BranchCard as branches
 use Rattle.emtp_netcards.specs.SourceCard as sources
 use Rattle.emtp_netcards.specs.SwitchCard as switches
+use Rattle.emtp_netcards.proofs.CardLines.{branch_line, switch_line}
 use Rattle.emtp_netcards.specs.declared.branch_card.BranchCard.{BranchCard}
 use Rattle.emtp_netcards.specs.declared.branch_card.BranchKind.{BranchKind}
 use Rattle.emtp_netcards.specs.declared.branch_card.BranchKind.TheVariants.{Line as LineKind, Reactor as ReactorKind, Resistor as ResistorKind, Second as SecondKind, Series as SeriesKind, Third as ThirdKind}
@@ -43,18 +44,6 @@ use Rattle.emtp_walk.proofs.Rising.{later, front, behind, if_ok, go_ok, unless_o
 use Rattle.emtp_walk.proofs.ControlOrder.{branches_next, control_order}
 
 -- ---- the lines of cards
-
-unless_is : {A : Type 0} (line : A → ℕ) (n : ℕ) (bad : Option Bad) (x y : A) → line x ≡ n → unless_bad bad x ≡ Ok y → line y ≡ n
-unless_is line n (Some bad) x y e h = absurd (cc)
-unless_is line n None x y e h = let same : x ≡ y = cc in ap line (sym same) ∙ e
-
-branch_line : (number : ℕ) (line : List ℕ) (dt : ℤ) (wide : Bool) (card : BranchCard) → branches.branch_card number line dt wide ≡ Ok card → card.line ≡ number
-unfolding branches.branch_card
-branch_line number line dt wide card h = unless_is (λ (c : BranchCard). c.line) number (judge number line (branches.fields_fault line (branches.kind_field line) dt wide)) _ card refl h
-
-switch_line : (number : ℕ) (line : List ℕ) (card : SwitchCard) → switches.switch_card number line ≡ Ok card → card.line ≡ number
-unfolding switches.switch_card
-switch_line number line card h = unless_is (λ (c : SwitchCard). c.line) number (judge number line (switches.fields_fault line (switches.type_field line))) _ card refl h
 
 named_line : (number : ℕ) (line : List ℕ) (name : Result (List ℕ) Why) (card : SourceCard) → sources.source_with number line (sources.type_field line) name ≡ Ok card → card.line ≡ number
 named_line number line (Ok name) card h = let line_of = λ (c : SourceCard). c.line in cc
