@@ -1,5 +1,7 @@
 -- Digits behind the point.
-use Rattle.std.proofs.Common.{◌≡◌, ◌≢◌, ℕ, zero, suc, ◌+◌, ◌-◌, ◌*◌, ◌/◌, ◌%◌, ◌^◌, ◌<◌, ◌==◌, if◌then◌else◌, List, [], ◌∷◌, ◌++◌, refl, ap, ◌∙◌, inl, inr, arith, pow-suc, sub-one, append_assoc}
+use Rattle.std.proofs.Common.{◌≡◌, ◌≢◌, ℕ, zero, suc, ◌+◌, ◌-◌, ◌*◌, ◌/◌, ◌%◌, ◌^◌, ◌<◌, ◌≤◌, ◌==◌, true, if◌then◌else◌, List, [], ◌∷◌, ◌++◌, length, refl, ap, ◌∙◌, inl, inr, arith, pow-suc, sub-one, append_assoc}
+use Rattle.std.specs.Char.{is_ascii_digit}
+use Rattle.std.specs.List.{list_all}
 use Rattle.std.proofs.lemmas.Bool.Decides.{nat_tests}
 use Rattle.std.proofs.Math.Nat.{div-lt_iff_lt-mul}
 use Rattle.std.proofs.lemmas.Bool.{cases_eq}
@@ -30,7 +32,7 @@ digit-less (suc places) left some less =
     let below : left < 10 * 10 ^ places = omega (arith, pow-suc 10 places) in
     rw sub-one ((div-lt_iff_lt-mul (power-above places)).1 below)
 
-choose_rest : (n : ℕ) (xs ys : List ℕ) → n ≢ 0 → (if n == 0 then xs else ys) ≡ ys
+pub choose_rest : (n : ℕ) (xs ys : List ℕ) → n ≢ 0 → (if n == 0 then xs else ys) ≡ ys
 choose_rest n xs ys some = grind (arith, nat_tests)
 
 -- the first digit, and those behind it
@@ -58,7 +60,7 @@ no_places : (r : ℕ) → fraction zero r ≡ []
 unfolding fraction
 no_places r = refl
 
-digit_next : (places r : ℕ) → r ≢ 0 → fraction (suc places) r ≡ (48 + r / 10 ^ places) ∷ fraction places (r % 10 ^ places)
+pub digit_next : (places r : ℕ) → r ≢ 0 → fraction (suc places) r ≡ (48 + r / 10 ^ places) ∷ fraction places (r % 10 ^ places)
 digit_next places r some = rw sub-one at (fraction-digit (suc places) r (omega arith) some)
 
 -- the digits write the number that they were made of
@@ -71,6 +73,27 @@ fraction-written (suc places) r less = elim (cases_eq r 0) [
       let rest : written places (fraction places (r % 10 ^ places)) ≡ r % 10 ^ places = fraction-written places (r % 10 ^ places) (mod-lt r (power-above places)) in
       let digit : 48 + r / 10 ^ places - 48 ≡ r / 10 ^ places = omega arith in
       rw (digit_next places r some, rest, digit) (div-add-mod' r (10 ^ places))
+]
+
+-- each of them is a digit
+pub fraction-digits : (places r : ℕ) → r < 10 ^ places → list_all is_ascii_digit (fraction places r) ≡ true
+fraction-digits zero r less = rw (no_places r) refl
+fraction-digits (suc places) r less = elim (cases_eq r 0) [
+  | inl none ↦ rw (none, fraction-none (suc places)) refl
+  | inr some ↦
+      let digit : r / 10 ^ places < 10 = rw sub-one at (digit-less (suc places) r (omega arith) less) in
+      rw (digit_next places r some, is_digit (r / 10 ^ places) digit) (fraction-digits places (r % 10 ^ places) (mod-lt r (power-above places)))
+]
+  where
+    is_digit : (d : ℕ) → d < 10 → is_ascii_digit (48 + d) ≡ true
+    is_digit d less = grind (arith, nat_tests)
+
+-- and there are no more than there are places
+pub fraction-short : (places r : ℕ) → length (fraction places r) ≤ places
+fraction-short zero r = rw (no_places r) (omega arith)
+fraction-short (suc places) r = elim (cases_eq r 0) [
+  | inl none ↦ rw (none, fraction-none (suc places)) (omega arith)
+  | inr some ↦ rw (digit_next places r some) (omega (arith, fraction-short places (r % 10 ^ places)))
 ]
 
 -- and the last of them isn't 0
