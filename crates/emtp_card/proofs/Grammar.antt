@@ -7,7 +7,7 @@ use Rattle.std.proofs.lemmas.List.Elements.{All-nil, All-head, All-tail, All-wea
 use Rattle.std.proofs.lemmas.Option.{cond_some}
 use Rattle.std.proofs.lemmas.List.Sums.{take_while-cons, AllPass-from_list_all}
 use Rattle.emtp_card.specs.Decimal.{Decimal, signed, number_of}
-use Rattle.emtp_card.specs.Numeral.{sign_of, digits_of, fraction_of, few_digits, power_of, is_marker, is_sign, exponent_of, composed, decimal_of, AreDigits}
+use Rattle.emtp_card.specs.Numeral.{sign_of, digits_of, fraction_of, few_digits, limited_whole, power_of, is_marker, is_sign, exponent_of, composed, decimal_of, AreDigits}
 use Rattle.emtp_card.specs.Spelling.{Sign, Unsigned, Plus, Minus, sign_text, is_minus, fraction_text, fraction_digits, Exponent, Absent, Lettered, Bare, exponent_text, exponent_value, AreFewDigits, IsExponent, Spelling, IsSpelling, text_of, decimal_meant, Spells}
 use Rattle.emtp_card.proofs.Digits.{digits_in_front, is_digit_means}
 
@@ -71,7 +71,7 @@ digits_pass : (digits : List ℕ) → AreDigits digits → list_all is_ascii_dig
 digits_pass [] are = refl
 digits_pass (digit ∷ digits) are = ap (λ t. t && list_all is_ascii_digit digits) (digit_true digit (All-head IsAsciiDigit digit digits are)) ∙ digits_pass digits (All-tail IsAsciiDigit digit digits are)
 
-few_digits-text : (digits : List ℕ) → AreFewDigits digits → few_digits digits ≡ Some (number_of digits)
+few_digits-text : (digits : List ℕ) → AreFewDigits digits → few_digits 3 digits ≡ Some (number_of digits)
 few_digits-text digits few =
     ap (λ t. cond (t && (nat_le 1 (length digits) && nat_le (length digits) 3)) (Some (number_of digits)) None) (digits_pass digits few.are)
     ∙ ap (λ t. cond t (Some (number_of digits)) None) (one_to_three (length digits) few.some few.few)
@@ -84,8 +84,9 @@ digits_no_sign [] are = tt
 digits_no_sign (digit ∷ digits) are = let first = All-head IsAsciiDigit digit digits are in (λ e. omega (arith, e, first.0), λ e. omega (arith, e, first.0))
 
 power_of-text : (sign : Sign) (digits : List ℕ) → AreFewDigits digits → power_of (sign_text sign ++ digits) ≡ Some (signed (is_minus sign) (number_of digits))
+unfolding limited_whole
 power_of-text sign digits few =
-    ap (λ s. option_map (signed s.0) (few_digits s.1)) (sign_of-text sign digits (digits_no_sign digits few.are))
+    ap (λ s. option_map (signed s.0) (few_digits 3 s.1)) (sign_of-text sign digits (digits_no_sign digits few.are))
     ∙ ap (option_map (signed (is_minus sign))) (few_digits-text digits few)
 
 exponent_of-text : (exponent : Exponent) → IsExponent exponent → exponent_of (exponent_text exponent) ≡ Some (exponent_value exponent)
@@ -211,7 +212,7 @@ map_some : {X Y : Type 0} (f : X → Y) (o : Option X) (y : Y) → option_map f 
 map_some f None y h = absurd (cc)
 map_some f (Some x) y h = (x, refl, cc)
 
-few_digits_are : (digits : List ℕ) (n : ℕ) → few_digits digits ≡ Some n → AreFewDigits digits × (number_of digits ≡ n)
+few_digits_are : (digits : List ℕ) (n : ℕ) → few_digits 3 digits ≡ Some n → AreFewDigits digits × (number_of digits ≡ n)
 few_digits_are digits n h =
     let found = cond_some (list_all is_ascii_digit digits && (nat_le 1 (length digits) && nat_le (length digits) 3)) (number_of digits) n h in
     let digital = and_true (list_all is_ascii_digit digits) (nat_le 1 (length digits) && nat_le (length digits) 3) found.0 in
@@ -235,9 +236,10 @@ record PowerIs (text : List ℕ) (power : ℤ) : Type 0 where
   pub value : signed (is_minus sign) (number_of digits) ≡ power
 
 power_is : (text : List ℕ) (power : ℤ) → power_of text ≡ Some power → PowerIs text power
+unfolding limited_whole
 power_is text power h =
     let sign = sign_is text in
-    let found = map_some (signed (sign_of text).0) (few_digits (sign_of text).1) power h in
+    let found = map_some (signed (sign_of text).0) (few_digits 3 (sign_of text).1) power h in
     let few = few_digits_are (sign_of text).1 found.0 found.1 in
     record {
       sign = sign.sign;

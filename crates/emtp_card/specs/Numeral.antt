@@ -19,13 +19,18 @@ abbrev pub fraction_of : List ℕ → List ℕ × List ℕ
 fraction_of [] = ([], [])
 fraction_of (byte ∷ bytes) = if byte == 46 then digits_of bytes else ([], byte ∷ bytes)
 
--- one to three digits, and nothing else
-abbrev pub few_digits : List ℕ → Option ℕ
-few_digits bytes = if list_all is_ascii_digit bytes && (nat_le 1 (length bytes) && nat_le (length bytes) 3) then Some (number_of bytes) else None
+-- one digit to so many, and nothing else
+abbrev pub few_digits : ℕ → List ℕ → Option ℕ
+few_digits most bytes =
+    if list_all is_ascii_digit bytes && (nat_le 1 (length bytes) && nat_le (length bytes) most) then Some (number_of bytes) else None
 
--- a sign or none, and one to three digits
+-- a sign or none, and one digit to so many
+unfoldable pub limited_whole : ℕ → List ℕ → Option ℤ
+limited_whole most bytes = option_map (signed (sign_of bytes).0) (few_digits most (sign_of bytes).1)
+
+-- the power of an exponent has at most three digits
 abbrev pub power_of : List ℕ → Option ℤ
-power_of bytes = option_map (signed (sign_of bytes).0) (few_digits (sign_of bytes).1)
+power_of bytes = limited_whole 3 bytes
 
 -- E, e, D or d
 abbrev pub is_marker : ℕ → Bool

@@ -34,4 +34,4 @@ pub use lines::{Line, comment, ends_section, line_fault};
 pub use name::field_name;
 pub use number::{field_held, field_number, read_number};
 pub use reason::{Bad, Refused, Why};
-pub use whole::field_whole;
+pub use whole::{field_whole, read_digits, read_whole};

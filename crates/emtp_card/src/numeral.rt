@@ -1,11 +1,10 @@
 //! Numbers as cards spell them.
 
-ghost use Rattle.std.specs.Prelude.{◌≡◌, ◌-◌, ◌<◌, ◌≤◌, ◌&&◌, nat_le, length, take_while, unsigned_abs, IfSome, option_map};
-ghost use Rattle.std.specs.Char.{is_ascii_digit, IsAsciiDigit};
-ghost use Rattle.emtp_card.specs.Decimal.{number_of};
-ghost use Rattle.emtp_card.specs.Numeral.{sign_of, digits_of, fraction_of, few_digits, power_of, exponent_of, decimal_of, meaning_of, IsNumeral, AreDigits};
+ghost use Rattle.std.specs.Prelude.{◌≡◌, ◌<◌, ◌≤◌, length, take_while, unsigned_abs, IfSome, option_map};
+ghost use Rattle.std.specs.Char.{is_ascii_digit};
+ghost use Rattle.emtp_card.specs.Numeral.{sign_of, digits_of, fraction_of, power_of, exponent_of, decimal_of, meaning_of, IsNumeral, AreDigits};
 
-use crate::whole::are_digits;
+use crate::whole::read_whole;
 
 /// A spelled number: its sign, the digits before and after the point, and its power of ten, from
 /// -999 to 999. The digits stay in the text, so their number has no limit.
@@ -99,47 +98,6 @@ fn power(text: &[u8]) -> Option<i32>
     ensures value { result ≡ power_of text.now }
     ensures small { IfSome result (λ power. unsigned_abs power < 1000) }
 {
-    let (minus, rest) = sign(text);
-    let size = few_digits(rest)? as i32;
-    Some(if minus { -size } else { size })
-}
-
-fn few_digits(text: &[u8]) -> Option<u32>
-    ensures value { result ≡ few_digits text.now }
-    ensures small { IfSome result (λ size. size < 1000) }
-{
-    if is_few(text.len()) && are_digits(text) {
-        Some(number(text))
-    } else {
-        None
-    }
-}
-
-fn is_few(digits: usize) -> bool
-    ensures { result ≡ (nat_le 1 digits && nat_le digits 3) }
-{
-    1 <= digits && digits <= 3
-}
-
-/// The number that up to three digits write.
-fn number(text: &[u8]) -> u32
-    requires digits { AreDigits text.now }
-    requires few { length text.now ≤ 3 }
-    ensures value { result ≡ number_of text.now }
-    ensures small { result < 1000 }
-{
-    match text {
-        [a] => digit(*a),
-        [a, b] => 10 * digit(*a) + digit(*b),
-        [a, b, c] => 100 * digit(*a) + 10 * digit(*b) + digit(*c),
-        _ => 0,
-    }
-}
-
-fn digit(byte: u8) -> u32
-    requires { IsAsciiDigit byte }
-    ensures value { result ≡ byte - 48 }
-    ensures small { result ≤ 9 }
-{
-    u32::from(byte - b'0')
+    let power = read_whole(text, 3)?;
+    Some(power as i32)
 }

@@ -1,12 +1,12 @@
-//! Fields that hold whole numbers.
+//! Whole numbers: those of fields, and those that are limited by their digits.
 
-ghost use Rattle.std.specs.Prelude.{◌≡◌, ◌^◌, ◌≤◌, ◌<◌, ◌↔◌, pos, Ok, None, IsTrue, IfOk, IfSome};
+ghost use Rattle.std.specs.Prelude.{◌≡◌, ◌^◌, ◌≤◌, ◌<◌, ◌↔◌, ◌&&◌, nat_le, length, pos, unsigned_abs, Ok, None, IsTrue, IfOk, IfSome};
 ghost use Rattle.std.specs.Char.{is_ascii_digit};
 ghost use Rattle.std.specs.List.{list_all};
 ghost use Rattle.std.specs.Option.{SomeIff};
 ghost use Rattle.emtp_card.specs.Decimal.{number_of};
 ghost use Rattle.emtp_card.specs.Field.{columns, IsBlank};
-ghost use Rattle.emtp_card.specs.Numeral.{AreDigits};
+ghost use Rattle.emtp_card.specs.Numeral.{AreDigits, few_digits, limited_whole};
 ghost use Rattle.emtp_card.specs.Whole.{all_digits, whole_in, whole_field, IsInBillion};
 
 use crate::field::field_text;
@@ -52,6 +52,54 @@ fn whole(text: &[u8]) -> Result<i64, Why>
     }
 }
 
+/// A text read as an optional sign and one digit to `most`, and nothing else.
+#[tactic(auto, unfolding(crate::specs::Numeral::limited_whole))]
+pub fn read_whole(text: &[u8], most: usize) -> Option<i64>
+    requires { most ≤ 18 }
+    ensures value { result ≡ limited_whole most text.now }
+    ensures small { IfSome result (λ whole. unsigned_abs whole < 10 ^ most) }
+{
+    let (negative, digits) = sign(text);
+    let size = read_digits(digits, most)? as i64;
+    Some(if negative { -size } else { size })
+}
+
+/// A text read as one digit to `most`, and nothing else.
+pub fn read_digits(text: &[u8], most: usize) -> Option<u64>
+    requires { most ≤ 18 }
+    ensures value { result ≡ few_digits most text.now }
+    ensures small { IfSome result (λ number. number < 10 ^ most) }
+    ensures fits { IfSome result (λ number. number < 10 ^ 18) }
+{
+    if are_digits(text) && is_few(text.len(), most) {
+        Some(number(text, most))
+    } else {
+        None
+    }
+}
+
+fn is_few(digits: usize, most: usize) -> bool
+    ensures { result ≡ (nat_le 1 digits && nat_le digits most) }
+{
+    1 <= digits && digits <= most
+}
+
+/// The number that at most so many digits write.
+fn number(digits: &[u8], most: usize) -> u64
+    requires digits { AreDigits digits.now }
+    requires few { length digits.now ≤ most }
+    requires most { most ≤ 18 }
+    ensures value { result ≡ number_of digits.now }
+    ensures small { result < 10 ^ most }
+    ensures fits { result < 10 ^ 18 }
+{
+    let mut number = 0;
+    for digit in digits {
+        number = 10 * number + u64::from(digit - b'0');
+    }
+    number
+}
+
 /// Whether a text has digits, and nothing else.
 fn only_digits(text: &[u8]) -> bool
     ensures value { result ≡ all_digits text.now }
@@ -60,7 +108,7 @@ fn only_digits(text: &[u8]) -> bool
     !text.is_empty() && are_digits(text)
 }
 
-pub(crate) fn are_digits(text: &[u8]) -> bool
+fn are_digits(text: &[u8]) -> bool
     ensures value { result ≡ list_all is_ascii_digit text.now }
     ensures are { IsTrue result → AreDigits text.now }
 {
