@@ -1,13 +1,10 @@
 -- Matrices of whole numbers, each the list of its rows.
 use Rattle.std.specs.Prelude.{◌≡◌, ℕ, zero, suc, ◌<◌, ◌≤◌, ℤ, pos, ◌+ℤ◌, ◌*ℤ◌, unsigned_abs, List, [], length, map, slice_index_or}
 use Rattle.std.specs.List.{range_with_len}
+pub use Rattle.emtp_fix.specs.Items.{item}
 
 abbrev pub Matrix : Type 0
 Matrix = List (List ℤ)
-
--- the number at a place of a list, or 0 past its end
-abbrev pub item : List ℤ → ℕ → ℤ
-item xs i = slice_index_or xs i (pos 0)
 
 -- a row, which is empty past the last one
 abbrev pub row_of : Matrix → ℕ → List ℤ

@@ -1,3 +1,4 @@
+pub mod Items
 pub mod Rounding
 pub mod Limit
 pub mod Root
