@@ -1,8 +1,8 @@
--- The switches get their times one after another.
+-- The switches get their times one after another; those set before leave no trace, and the cards' own leave the switches as they are.
 use Rattle.emtp_case.proofs.Growth.{Extends-refl, IsSwitch-grows, grown}
 use Rattle.emtp_case.specs.Case.{HasCounts, IsDraft}
 use Rattle.emtp_case.specs.Sizes.{Grows, Sizes, sizes_of}
-use Rattle.emtp_case.specs.Switch.{HasTimes, IsSwitch, IsSwitchKind, is_time_kind, is_time_switch, kind_with, switch_with, with_times}
+use Rattle.emtp_case.specs.Switch.{HasTimes, IsSwitch, IsSwitchKind, card_times, is_time_kind, is_time_switch, kind_with, switch_with, times_of_kind, with_times}
 use Rattle.emtp_case.specs.declared.case.Parts.{Parts}
 use Rattle.emtp_case.specs.declared.switch.Switch.{Switch}
 use Rattle.emtp_case.specs.declared.switch.SwitchKind.{SwitchKind}
@@ -14,6 +14,7 @@ use Rattle.std.proofs.Math.Seq.{drop-cons, take-suc, take-suc-set}
 use Rattle.std.proofs.lemmas.List.{append-nil, append_assoc, drop-set-lt}
 use Rattle.std.proofs.lemmas.List.Elements.{All-cons, All-head, All-nil, All-tail, All-weaker}
 use Rattle.std.proofs.lemmas.List.Sums.{sum_by-cons}
+use Rattle.std.specs.List.{cons_option}
 use Rattle.std.specs.Prelude.{◌≡◌, ◌+◌, ◌<◌, ◌≤◌, ◌∷◌, ◌++◌, if◌then◌else◌, [], All, Bool, List, count_by, drop, false, length, refl, slice_index_or, slice_set, suc, take, true, zero, ℕ}
 
 other_stays : (s : Switch) (t : Times) → is_time_switch s ≡ false → switch_with s t ≡ s
@@ -170,3 +171,75 @@ with_switches p ss h same fits =
       };
       channels = old.channels;
     }
+
+-- ---- times that are set twice
+
+kind_of_time : (k : SwitchKind) (t : Times) → is_time_kind (kind_with k t) ≡ is_time_kind k
+kind_of_time (Time close open_at margin) t = refl
+kind_of_time Measuring t = refl
+kind_of_time (Valve ignition holding control) t = refl
+kind_of_time (Control control) t = refl
+
+kind_twice : (k : SwitchKind) (t u : Times) → kind_with (kind_with k t) u ≡ kind_with k u
+kind_twice (Time close open_at margin) t u = refl
+kind_twice Measuring t u = refl
+kind_twice (Valve ignition holding control) t u = refl
+kind_twice (Control control) t u = refl
+
+switch_twice : (s : Switch) (t u : Times) → switch_with (switch_with s t) u ≡ switch_with s u
+switch_twice s t u = ap (λ k. let made : Switch = record s { kind = k } in made) (kind_twice s.kind t u)
+
+-- there are as many time switches as before
+pub count_stays : (ss : List Switch) (ts : List Times) → length ts ≡ count_by is_time_switch ss → count_by is_time_switch (with_times ss ts) ≡ count_by is_time_switch ss
+count_stays [] ts h = refl
+count_stays (s ∷ ss) ts h = by (is_time_switch s) refl ts h (count_stays ss)
+  where
+    by : (b : Bool) → is_time_switch s ≡ b → (ts : List Times) → length ts ≡ count_by is_time_switch (s ∷ ss)
+        → ((ts : List Times) → length ts ≡ count_by is_time_switch ss → count_by is_time_switch (with_times ss ts) ≡ count_by is_time_switch ss)
+        → count_by is_time_switch (with_times (s ∷ ss) ts) ≡ count_by is_time_switch (s ∷ ss)
+    by true time [] h later = absurd (omega (arith, h, counted s ss true time))
+    by true time (t ∷ ts) h later =
+        let rest = later ts (omega (arith, h, counted s ss true time)) in
+        let kept : is_time_switch (switch_with s t) ≡ true = kind_of_time s.kind t ∙ time in
+        ap (count_by is_time_switch) (with_times-time s ss t ts time) ∙ counted (switch_with s t) (with_times ss ts) true kept ∙ ap (λ n. 1 + n) rest ∙ sym (counted s ss true time)
+    by false other ts h later =
+        let rest = later ts (omega (arith, h, counted s ss false other)) in
+        ap (count_by is_time_switch) (with_times-other s ss ts other) ∙ counted s (with_times ss ts) false other ∙ ap (λ n. 0 + n) rest ∙ sym (counted s ss false other)
+
+-- the times that are set last alone count
+pub times_twice : (ss : List Switch) (ts us : List Times) → length ts ≡ count_by is_time_switch ss → length us ≡ count_by is_time_switch ss → with_times (with_times ss ts) us ≡ with_times ss us
+times_twice [] ts us h g = refl
+times_twice (s ∷ ss) ts us h g = by (is_time_switch s) refl ts us h g (times_twice ss)
+  where
+    by : (b : Bool) → is_time_switch s ≡ b → (ts us : List Times) → length ts ≡ count_by is_time_switch (s ∷ ss) → length us ≡ count_by is_time_switch (s ∷ ss)
+        → ((ts us : List Times) → length ts ≡ count_by is_time_switch ss → length us ≡ count_by is_time_switch ss → with_times (with_times ss ts) us ≡ with_times ss us)
+        → with_times (with_times (s ∷ ss) ts) us ≡ with_times (s ∷ ss) us
+    by true time [] us h g later = absurd (omega (arith, h, counted s ss true time))
+    by true time (t ∷ ts) [] h g later = absurd (omega (arith, g, counted s ss true time))
+    by true time (t ∷ ts) (u ∷ us) h g later =
+        let rest = later ts us (omega (arith, h, counted s ss true time)) (omega (arith, g, counted s ss true time)) in
+        let kept : is_time_switch (switch_with s t) ≡ true = kind_of_time s.kind t ∙ time in
+        ap (λ xs. with_times xs (u ∷ us)) (with_times-time s ss t ts time) ∙ with_times-time (switch_with s t) (with_times ss ts) u us kept
+        ∙ ap (λ x. x ∷ with_times (with_times ss ts) us) (switch_twice s t u) ∙ ap (λ xs. switch_with s u ∷ xs) rest ∙ sym (with_times-time s ss u us time)
+    by false other ts us h g later =
+        let rest = later ts us (omega (arith, h, counted s ss false other)) (omega (arith, g, counted s ss false other)) in
+        ap (λ xs. with_times xs us) (with_times-other s ss ts other) ∙ with_times-other s (with_times ss ts) us other ∙ ap (λ xs. s ∷ xs) rest ∙ sym (with_times-other s ss us other)
+
+-- the cards' own times leave the switches as they are
+pub own_times_stay : (ss : List Switch) → with_times ss (card_times ss) ≡ ss
+own_times_stay [] = refl
+own_times_stay (s ∷ ss) = by s.kind refl (own_times_stay ss)
+  where
+    other : (k : SwitchKind) → s.kind ≡ k → is_time_kind k ≡ false → cons_option (times_of_kind k) (card_times ss) ≡ card_times ss → with_times ss (card_times ss) ≡ ss → with_times (s ∷ ss) (card_times (s ∷ ss)) ≡ s ∷ ss
+    other k is no_time none later =
+        ap (with_times (s ∷ ss)) (ap (λ k. cons_option (times_of_kind k) (card_times ss)) is ∙ none) ∙ with_times-other s ss (card_times ss) (ap is_time_kind is ∙ no_time) ∙ ap (λ xs. s ∷ xs) later
+
+    by : (k : SwitchKind) → s.kind ≡ k → with_times ss (card_times ss) ≡ ss → with_times (s ∷ ss) (card_times (s ∷ ss)) ≡ s ∷ ss
+    by (Time close open_at margin) is later =
+        let t : Times = record { close = close; open_at = open_at } in
+        let first : card_times (s ∷ ss) ≡ t ∷ card_times ss = ap (λ k. cons_option (times_of_kind k) (card_times ss)) is in
+        let stays : switch_with s t ≡ s = ap (λ k. let made : Switch = record s { kind = k } in made) (ap (λ k. kind_with k t) is ∙ sym is) in
+        ap (with_times (s ∷ ss)) first ∙ with_times-time s ss t (card_times ss) (ap is_time_kind is) ∙ ap (λ x. x ∷ with_times ss (card_times ss)) stays ∙ ap (λ xs. s ∷ xs) later
+    by Measuring is later = other Measuring is refl refl later
+    by (Valve ignition holding control) is later = other (Valve ignition holding control) is refl refl later
+    by (Control control) is later = other (Control control) is refl refl later

@@ -6,7 +6,8 @@ use Rattle.emtp_case.specs.declared.switch.SwitchKind.{SwitchKind}
 use Rattle.emtp_case.specs.declared.switch.SwitchKind.TheVariants.{Control, Measuring, Time, Valve}
 use Rattle.emtp_case.specs.declared.switch.Times.{Times}
 use Rattle.std.specs.Option.{ForSome}
-use Rattle.std.specs.Prelude.{◌^◌, ◌<◌, ◌≤◌, ◌∷◌, if◌then◌else◌, [], Bool, List, Option, false, true, unsigned_abs, ℤ}
+use Rattle.std.specs.List.{filter_map}
+use Rattle.std.specs.Prelude.{◌^◌, ◌<◌, ◌≤◌, ◌∷◌, if◌then◌else◌, [], Bool, List, None, Option, Some, false, true, unsigned_abs, ℤ}
 
 -- a closing time and an opening time, if there is one
 pub record HasTimes (close : ℤ) (open_at : Option ℤ) : Type 0 where
@@ -34,6 +35,20 @@ is_time_kind (Control control) = false
 
 abbrev pub is_time_switch : Switch → Bool
 is_time_switch s = is_time_kind s.kind
+
+-- the times of a time switch
+abbrev pub times_of_kind : SwitchKind → Option Times
+times_of_kind (Time close open_at margin) = Some (record { close = close; open_at = open_at })
+times_of_kind Measuring = None
+times_of_kind (Valve ignition holding control) = None
+times_of_kind (Control control) = None
+
+abbrev pub own_times : Switch → Option Times
+own_times s = times_of_kind s.kind
+
+-- the times of the time switches, in card order
+abbrev pub card_times : List Switch → List Times
+card_times ss = filter_map own_times ss
 
 -- a time switch with other times
 abbrev pub kind_with : SwitchKind → Times → SwitchKind

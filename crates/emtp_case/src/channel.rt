@@ -1,5 +1,7 @@
 //! The channels of the record.
 
+ghost use Rattle.std.specs.Prelude.{◌≡◌};
+
 /// A channel of the record.
 #[derive(Clone, Copy, PartialEq, Eq)]
 pub enum Channel {
@@ -17,4 +19,15 @@ pub enum Channel {
     Tacs(u32),
     /// The state of a switch, 0 or 1, by its place.
     Status(u32),
+}
+
+impl Channel {
+    ghost use Rattle.emtp_case.specs.Channel.{is_status};
+
+    /// Whether it is that of a switch's state; every other is analog.
+    pub fn is_status(self) -> bool
+        ensures { result ≡ is_status self }
+    {
+        matches!(self, Channel::Status(_))
+    }
 }

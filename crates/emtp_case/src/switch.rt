@@ -16,13 +16,23 @@ pub struct Switch {
 }
 
 impl Switch {
-    ghost use Rattle.emtp_case.specs.Switch.{is_time_switch, switch_with};
+    ghost use Rattle.emtp_case.specs.Switch.{is_time_switch, own_times, switch_with};
 
     /// Whether it is a time switch.
     pub fn is_time(&self) -> bool
         ensures { result ≡ is_time_switch self.now }
     {
         matches!(self.kind, SwitchKind::Time { .. })
+    }
+
+    /// The times of a time switch; none of another.
+    pub fn times(&self) -> Option<Times>
+        ensures { result ≡ own_times self.now }
+    {
+        match self.kind {
+            SwitchKind::Time { close, open_at, .. } => Some(Times { close, open_at }),
+            _ => None,
+        }
     }
 
     /// The switch with other times, where it is a time switch.
