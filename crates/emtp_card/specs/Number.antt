@@ -59,6 +59,10 @@ held_field line first last scale low high =
 unfoldable pub read_number_of : List ℕ → ℤ → ℤ → Result ℤ Why
 read_number_of text scale limit = in_limit limit (number_in scale (trimmed text))
 
+-- the same, held to the nearer end of a range that the value lies outside
+unfoldable pub held_number : List ℕ → ℤ → ℤ → ℤ → Result ℤ Why
+held_number text scale low high = held_in low high (number_in scale (trimmed text))
+
 -- what the code reads of a value is the value, or beyond the greatest limit on the value's side
 pub record StandsFor (read value : ℤ) : Type 0 where
   pub exact : unsigned_abs value ≤ MOST → read ≡ value

@@ -32,6 +32,6 @@ pub use fault::{Fault, fault_at, judge, judge_due, least, number_or};
 pub use field::{byte_at, columns, field_text, trim};
 pub use lines::{Line, comment, ends_section, line_fault};
 pub use name::field_name;
-pub use number::{field_held, field_number, read_number};
+pub use number::{field_held, field_number, read_held, read_number};
 pub use reason::{Bad, Refused, Why};
 pub use whole::{field_whole, read_digits, read_whole};

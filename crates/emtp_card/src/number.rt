@@ -6,7 +6,7 @@ ghost use Rattle.emtp_card.specs.Field.{columns, trimmed, IsBlank};
 ghost use Rattle.emtp_card.specs.Numeral.{decimal_of, meaning_of, IsNumeral};
 ghost use Rattle.emtp_card.specs.Spelling.{Spells};
 ghost use Rattle.emtp_card.specs.Rounding.{magnitude_in};
-ghost use Rattle.emtp_card.specs.Number.{number_in, in_range, held_in, in_limit, number_field, held_field, read_number_of, unless_blank, IsWithin, Reads};
+ghost use Rattle.emtp_card.specs.Number.{number_in, in_range, held_in, in_limit, number_field, held_field, read_number_of, held_number, unless_blank, IsWithin, Reads};
 ghost use Rattle.emtp_card.specs.declared.reason.Why.{Why};
 
 use crate::field::{field_text, trim};
@@ -82,6 +82,19 @@ pub fn read_number(text: &[u8], scale: i32, limit: i128) -> Result<i128, Why>
     ensures spelling { (decimal : Decimal) → (decimal_of (trimmed text.now) ≡ Some decimal) ↔ Spells (trimmed text.now) decimal }
 {
     limited(value(trim(text), scale), limit)
+}
+
+/// A text without its outer blanks, read as [`read_number`] reads it, but the nearer end of the range where the value
+/// lies outside.
+#[tactic(auto, unfolding(crate::specs::Number::held_number))]
+pub fn read_held(text: &[u8], scale: i32, low: i64, high: i64) -> Result<i64, Why>
+    requires scale_low { pos 0 ≤ℤ scale }
+    requires scale_high { scale ≤ℤ pos 18 }
+    requires range { low ≤ℤ high }
+    ensures value { result ≡ held_number text.now scale low high }
+    ensures range { IfOk result (IsWithin low high) }
+{
+    held(value(trim(text), scale), low, high)
 }
 
 /// What was read of a field's text, and nothing where the text is empty.
