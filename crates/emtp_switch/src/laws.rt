@@ -11,8 +11,9 @@ ghost use Rattle.emtp_switch.specs.States.{MovesOn, next_state};
 
 use emtp_case::{Case, RowOrder, SwitchState};
 
-/// The kinds of the rows are the same in whatever order the closed switches are joined. So the order of the cards decides
-/// only which switch of a loop is slack, and never a voltage.
+/// Within a step, at given states and a given order of rows, the kinds of the rows are the same in whatever order the
+/// closed switches are joined: the order decides only which switch of a loop is slack. Over several steps it may decide
+/// more, since a slack switch carries no current and opens by that.
 pub fn kinds_in_any_order(case: &Case, order: &RowOrder, states: &[SwitchState])
     requires order { IsRowOrder case.now.parts order.now }
     ensures { (taken : List ℕ) → IsPermutation (closed_switches states.now) taken → kinds_of case.now.parts order.now states.now ≡ map (kind_of case.now.parts order.now (groups case.now.parts.switches (alone (length order.now.nodes)) taken)) order.now.nodes }
