@@ -111,7 +111,8 @@ impl<'a> Network<'a> {
     /// Makes the next step, with the values of the control of the record before. It answers the first fault, with the
     /// node that it is named by; after a fault only `redone` is stated.
     ///
-    /// Where no conductance and no kind of a row changed since the step before, no row is filled, compared or redone.
+    /// Where no conductance and no kind of a row changed since the step before, no row is redone, and none is filled or
+    /// compared; of filling and comparing no clause speaks.
     pub fn step<L: Ledger>(&mut self, tacs: &[i64], steps: &mut Steps<L>) -> Result<(), NetFault>
         requires made { self.old.made < self.old.case.run.steps }
         requires tacs { length tacs.now ≡ length self.old.case.vars }
