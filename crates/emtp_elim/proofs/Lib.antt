@@ -13,3 +13,6 @@ pub mod Unknowns
 pub mod Solutions
 pub mod Adding
 pub mod Prefix
+pub mod Opposites
+pub mod OddSolutions
+pub mod UnitRows

@@ -1,10 +1,14 @@
 -- Matrices of whole numbers, each the list of its rows.
-use Rattle.std.specs.Prelude.{◌≡◌, ℕ, zero, suc, ◌<◌, ◌≤◌, ℤ, pos, ◌+ℤ◌, ◌*ℤ◌, unsigned_abs, List, [], length, map, slice_index_or}
+use Rattle.std.specs.Prelude.{◌≡◌, ℕ, zero, suc, ◌<◌, ◌≤◌, ℤ, pos, neg_ℤ, ◌+ℤ◌, ◌*ℤ◌, unsigned_abs, List, [], length, map, slice_index_or}
 use Rattle.std.specs.List.{range_with_len}
 pub use Rattle.emtp_fix.specs.Items.{item}
 
 abbrev pub Matrix : Type 0
 Matrix = List (List ℤ)
+
+-- the numbers with the opposite signs
+abbrev pub opposites : List ℤ → List ℤ
+opposites xs = map neg_ℤ xs
 
 -- a row, which is empty past the last one
 abbrev pub row_of : Matrix → ℕ → List ℤ

@@ -3,7 +3,7 @@
 -- leaves its range; the last row whose unknown does.
 use Rattle.std.specs.Prelude.{◌≡◌, ⊤, ℕ, zero, suc, ◌<◌, ℤ, unsigned_abs, nat_le, nat_lt, nat_eq, Bool, true, ◌&&◌, ◌||◌, List, length, Option, Some, None, Result, Ok, Err, if◌then◌else◌}
 use Rattle.emtp_fix.specs.declared.limit.TheConstants.{LARGEST_ENTRY, LARGEST_RATIO, LARGEST_VALUE}
-use Rattle.emtp_elim.specs.Matrix.{Matrix, item, row_of, entry}
+use Rattle.emtp_elim.specs.Matrix.{Matrix, item, row_of, entry, opposites}
 use Rattle.emtp_elim.specs.Elimination.{ratio, stage, stage_right, solution}
 use Rattle.emtp_elim.specs.Fault.{pivot}
 use Rattle.emtp_elim.specs.declared.fault.RowCause.TheVariants.{Range, ZeroPivot}
@@ -76,6 +76,11 @@ outcome rows right =
     (unless (first_below (length rows) (right_fault rows right)) Solve
     (unless (last_below (length rows) (unknown_fault rows right)) Solve
     (Ok (solution rows right))))
+
+-- the same end for the opposite unknowns: a fault stays
+abbrev pub opposite_end : Result (List ℤ) PlainFault → Result (List ℤ) PlainFault
+opposite_end (Ok x) = Ok (opposites x)
+opposite_end (Err fault) = Err fault
 
 -- the elimination ends in this fault, or the fault is that there was no memory for it
 abbrev pub EndsInFault : Result (List ℤ) PlainFault → PlainFault → Type 0

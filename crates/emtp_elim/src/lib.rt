@@ -25,7 +25,7 @@ mod storing;
 mod substitution;
 
 pub use fault::{PlainFault, RowCause, RowFault, SolveFault};
-pub use laws::{finished_rows_stay, row_fault_ends_systems};
+pub use laws::{elimination_is_odd, finished_rows_stay, row_fault_ends_systems};
 pub use plain::eliminate_plain;
 pub use rows::Rows;
 pub use sparse::{SparseRows, eliminate_row};

@@ -1,5 +1,5 @@
 -- Laws of numbers that are kept in range, and of their chain.
-use Rattle.std.proofs.Common.{◌≡◌, ◌∙◌, ap, refl, ◌<◌, ◌≤◌, nat_le, ℤ, neg_ℤ, unsigned_abs, Option, Some, None, Bool, true, false, if◌then◌else◌, arith}
+use Rattle.std.proofs.Common.{◌≡◌, ◌∙◌, ap, refl, ◌<◌, ◌≤◌, nat_le, ℤ, neg_ℤ, unsigned_abs, Option, Some, None, option_map, Bool, true, false, if◌then◌else◌, arith}
 use Rattle.std.proofs.lemmas.Bool.Decides.{nat_tests}
 use Rattle.std.proofs.lemmas.Int.{ints}
 use Rattle.emtp_fix.specs.Limit.{in_range, ◌>>=◌}
@@ -41,15 +41,23 @@ pub chain-same : {A B : Type 0} {f g : A → Option B} (o : Option A) → ((x : 
 chain-same None h = refl
 chain-same (Some x) h = h x
 
--- a number turned is turned where it is kept
-pub in_range-neg : (x : ℤ) → in_range (neg_ℤ x) ≡ in_range x >>= (λ y. Some (neg_ℤ y))
-in_range-neg x =
+-- a number with the opposite sign is in range where the number is
+pub in_range_turned : (x y : ℤ) → y ≡ neg_ℤ x → in_range y ≡ option_map neg_ℤ (in_range x)
+in_range_turned x y e =
     let size : unsigned_abs (neg_ℤ x) ≡ unsigned_abs x = omega (arith, ints) in
-    ap (λ n. if nat_le n LARGEST_VALUE then Some (neg_ℤ x) else None) size ∙ by_test (nat_le (unsigned_abs x) LARGEST_VALUE)
+    ap in_range e ∙ ap (λ n. if nat_le n LARGEST_VALUE then Some (neg_ℤ x) else None) size ∙ by_test (nat_le (unsigned_abs x) LARGEST_VALUE)
   where
-    by_test : (b : Bool) → (if b then Some (neg_ℤ x) else None) ≡ (if b then Some x else None) >>= (λ y. Some (neg_ℤ y))
+    by_test : (b : Bool) → (if b then Some (neg_ℤ x) else None) ≡ option_map neg_ℤ (if b then Some x else None)
     by_test true = refl
     by_test false = refl
+
+-- a link of a chain: what it starts from goes through t, and then what it ends with goes through u
+pub chain_turned : {A B C : Type 0} (t : A → A) (u : B → C) (o p : Option A) (f : A → Option B) (g : A → Option C) → p ≡ option_map t o → ((x : A) → g (t x) ≡ option_map u (f x)) → p >>= g ≡ option_map u (o >>= f)
+chain_turned {A = A} t u o p f g e h = ap (λ q. q >>= g) e ∙ by_cases o
+  where
+    by_cases : (o : Option A) → option_map t o >>= g ≡ option_map u (o >>= f)
+    by_cases None = refl
+    by_cases (Some x) = h x
 
 -- and chains that begin with a number agree where the next links agree at this number
 pub in_range-chain : {B : Type 0} (x : ℤ) (f g : ℤ → Option B) → f x ≡ g x → in_range x >>= f ≡ in_range x >>= g

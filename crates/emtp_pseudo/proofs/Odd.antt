@@ -1,5 +1,6 @@
 -- Odd symmetry: the last record and the voltage turned, current, flux and segment turn.
-use Rattle.std.proofs.Common.{◌≡◌, ◌∙◌, ap, sym, refl, zero, suc, ℕ, ◌+◌, ◌<◌, pos, negsuc, neg_ℤ, ◌+ℤ◌, ◌-ℤ◌, ◌*ℤ◌, ◌≤ℤ◌, ℤ, List, length, Some, None, Option, Bool, true, false, if◌then◌else◌, int_lt, nat_lt, unsigned_abs, IfSome, arith}
+use Rattle.std.proofs.Common.{◌≡◌, ◌∙◌, ap, sym, refl, zero, suc, ℕ, ◌+◌, ◌<◌, pos, negsuc, neg_ℤ, ◌+ℤ◌, ◌-ℤ◌, ◌*ℤ◌, ◌≤ℤ◌, ◌≤◌, ℤ, List, length, Some, None, Option, option_map, Bool, true, false, if◌then◌else◌, int_lt, nat_lt, IfSome, inl, inr, arith}
+use Rattle.std.proofs.lemmas.Bool.{cases_lt}
 use Rattle.std.proofs.lemmas.Bool.Decides.{nat_tests}
 use Rattle.std.proofs.lemmas.Int.{ints}
 use Rattle.std.proofs.Math.IntN.{neg_ℤ-neg_ℤ}
@@ -12,14 +13,14 @@ use Rattle.emtp_fix.specs.Limit.{in_range, ◌>>=◌}
 use Rattle.emtp_fix.specs.Rounding.{near}
 use Rattle.emtp_fix.specs.declared.limit.TheConstants.{PICO}
 use Rattle.emtp_fix.proofs.Quotients.{near-mul_neg}
-use Rattle.emtp_fix.proofs.Ranges.{in_range-neg}
+use Rattle.emtp_fix.proofs.Ranges.{in_range_turned}
 use Rattle.emtp_pseudo.specs.Laws.{mirrored_moment, mirrored_next}
 use Rattle.emtp_pseudo.specs.Pseudos.{newest, next_of}
 use Rattle.emtp_pseudo.specs.Segment.{segment_of, outward, mirrored, mirrored_end, outer_end, inner_end, is_above, is_below, next_segment, point_at}
 use Rattle.emtp_pseudo.specs.Step.{DOUBLE_NANO, current_of, flux_of, place_of, history_current_of, next_state}
 use Rattle.emtp_pseudo.specs.declared.moment.Moment.{Moment}
 use Rattle.emtp_pseudo.specs.declared.segment.Segment.{Segment}
-use Rattle.emtp_pseudo.proofs.Segments.{count_is, points_fit, segment_there}
+use Rattle.emtp_pseudo.proofs.Segments.{points_fit, segment_there}
 
 -- ---- one step on a segment
 
@@ -75,10 +76,10 @@ below_turned : (y : ℤ) (o : Option ℤ) → is_below (neg_ℤ y) (mirrored_end
 below_turned y None = refl
 below_turned y (Some limit) = lt_turned y limit
 
-in_range_turned : (x : ℤ) → in_range (neg_ℤ x) ≡ mirrored_end (in_range x)
-in_range_turned x = in_range-neg x ∙ by_cases (in_range x)
+kept_turned : (x y : ℤ) → y ≡ neg_ℤ x → in_range y ≡ mirrored_end (in_range x)
+kept_turned x y e = in_range_turned x y e ∙ by_cases (in_range x)
   where
-    by_cases : (o : Option ℤ) → o >>= (λ y. Some (neg_ℤ y)) ≡ mirrored_end o
+    by_cases : (o : Option ℤ) → option_map neg_ℤ o ≡ mirrored_end o
     by_cases None = refl
     by_cases (Some y) = refl
 
@@ -127,10 +128,24 @@ mirrored_ordered None (Some b) h = tt
 mirrored_ordered (Some a) None h = tt
 mirrored_ordered (Some a) (Some b) h = omega (arith, ints, h)
 
-pub ordered : (reactor : Bool) (dt : ℤ) (ps : List Point) (k : ℤ) → IsCharacteristic reactor dt ps → unsigned_abs k < length ps → AreOrdered (segment_of reactor dt ps k).upper (segment_of reactor dt ps k).lower
+-- past the last segment there is no outer end
+outer_none : (ps : List Point) (k : ℕ) → length ps ≤ k → outer_end ps k ≡ None
+outer_none ps k h = by_test (nat_lt (k + 1) (length ps)) (grind (arith, nat_tests))
+  where
+    by_test : (b : Bool) → b ≡ false → (if b then Some (point_at ps (suc k)).other else None) ≡ None
+    by_test true e = absurd (cc)
+    by_test false e = refl
+
+pub ordered : (reactor : Bool) (dt : ℤ) (ps : List Point) (k : ℤ) → IsCharacteristic reactor dt ps → AreOrdered (segment_of reactor dt ps k).upper (segment_of reactor dt ps k).lower
 unfolding segment_of
-ordered reactor dt ps (pos k) h within = outward_ordered reactor dt ps k h within
-ordered reactor dt ps (negsuc k) h within = mirrored_ordered (outer_end ps (suc k)) (inner_end ps (suc k)) (outward_ordered reactor dt ps (suc k) h within)
+ordered reactor dt ps (pos k) h = elim (cases_lt k (length ps)) [
+  | inl within ↦ outward_ordered reactor dt ps k h within
+  | inr past ↦ rw (outer_none ps k past) tt
+]
+ordered reactor dt ps (negsuc k) h = elim (cases_lt (suc k) (length ps)) [
+  | inl within ↦ mirrored_ordered (outer_end ps (suc k)) (inner_end ps (suc k)) (outward_ordered reactor dt ps (suc k) h within)
+  | inr past ↦ rw (outer_none ps (suc k) past) tt
+]
 
 -- ---- the whole step
 
@@ -151,14 +166,14 @@ pub step_turned : (reactor : Bool) (dt : ℤ) (s : Segment) (m : Moment) (v : �
 unfolding next_state
 step_turned reactor dt s m v h =
     let k = m.state.segment in
-    ap (λ o. o >>= (λ i. in_range (flux_of reactor dt (mirrored_moment m) (neg_ℤ v)) >>= (λ flux. Some (record { current = i; segment = next_segment (mirrored s) (neg_ℤ k) (place_of reactor flux (neg_ℤ v)); flux = flux })))) (ap in_range (current_turned reactor s m v) ∙ in_range_turned (current_of reactor s m v))
-    ∙ ap (λ p. mirrored_end (in_range (current_of reactor s m v)) >>= (λ i. p >>= (λ flux. Some (record { current = i; segment = next_segment (mirrored s) (neg_ℤ k) (place_of reactor flux (neg_ℤ v)); flux = flux })))) (ap in_range (flux_turned reactor dt m v) ∙ in_range_turned (flux_of reactor dt m v))
+    ap (λ o. o >>= (λ i. in_range (flux_of reactor dt (mirrored_moment m) (neg_ℤ v)) >>= (λ flux. Some (record { current = i; segment = next_segment (mirrored s) (neg_ℤ k) (place_of reactor flux (neg_ℤ v)); flux = flux })))) (kept_turned (current_of reactor s m v) (current_of reactor (mirrored s) (mirrored_moment m) (neg_ℤ v)) (current_turned reactor s m v))
+    ∙ ap (λ p. mirrored_end (in_range (current_of reactor s m v)) >>= (λ i. p >>= (λ flux. Some (record { current = i; segment = next_segment (mirrored s) (neg_ℤ k) (place_of reactor flux (neg_ℤ v)); flux = flux })))) (kept_turned (flux_of reactor dt m v) (flux_of reactor dt (mirrored_moment m) (neg_ℤ v)) (flux_turned reactor dt m v))
     ∙ chain_turned reactor s k v (in_range (current_of reactor s m v)) (in_range (flux_of reactor dt m v)) h
 
-pub odd : (case : Parts) (x : Pseudo) (past turned : List Moment) (v : ℤ) → IsPseudo case.run (sizes_of case) case.points x → unsigned_abs (newest past).state.segment < x.count → newest turned ≡ mirrored_moment (newest past) → next_of case x turned (neg_ℤ v) ≡ mirrored_next (next_of case x past v)
-odd case x past turned v h within e =
+pub odd : (case : Parts) (x : Pseudo) (past turned : List Moment) (v : ℤ) → IsPseudo case.run (sizes_of case) case.points x → newest turned ≡ mirrored_moment (newest past) → next_of case x turned (neg_ℤ v) ≡ mirrored_next (next_of case x past v)
+odd case x past turned v h e =
     let m = newest past in
     let ps = points_of case.points x.first x.count in
     ap (λ (n : Moment). next_state x.reactor case.run.dt (segment_of x.reactor case.run.dt ps n.state.segment) n (neg_ℤ v)) e
     ∙ ap (λ (s : Segment). next_state x.reactor case.run.dt s (mirrored_moment m) (neg_ℤ v)) (segment_turned x.reactor case.run.dt ps m.state.segment)
-    ∙ step_turned x.reactor case.run.dt (segment_of x.reactor case.run.dt ps m.state.segment) m v (ordered x.reactor case.run.dt ps m.state.segment h.characteristic (omega (arith, within, count_is case.points x.first x.count h.there)))
+    ∙ step_turned x.reactor case.run.dt (segment_of x.reactor case.run.dt ps m.state.segment) m v (ordered x.reactor case.run.dt ps m.state.segment h.characteristic)

@@ -25,5 +25,5 @@ pub fn one_segment_a_step(case: &Case, x: &Pseudo)
 /// The branch is odd: with the last record and the voltage turned, current, flux and segment are turned.
 pub fn odd_symmetry(case: &Case, x: &Pseudo)
     requires { IsPseudo case.now.parts.run (sizes_of case.now.parts) case.now.parts.points x.now }
-    ensures { (past turned : List Moment) (v : ℤ) → unsigned_abs (newest past).state.segment < x.now.count → newest turned ≡ mirrored_moment (newest past) → next_of case.now.parts x.now turned (neg_ℤ v) ≡ mirrored_next (next_of case.now.parts x.now past v) }
+    ensures { (past turned : List Moment) (v : ℤ) → newest turned ≡ mirrored_moment (newest past) → next_of case.now.parts x.now turned (neg_ℤ v) ≡ mirrored_next (next_of case.now.parts x.now past v) }
 {}
