@@ -13,4 +13,5 @@ pub mod Ordered
 pub mod NodeOrder
 pub mod RowTables
 pub mod KeyCompared
+pub mod RowsOfNodes
 pub mod Sums

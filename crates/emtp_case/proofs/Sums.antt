@@ -1,8 +1,11 @@
 -- Sums, term by term, and how large they may be.
-use Rattle.std.proofs.Common.{◌≡◌, ◌∙◌, ap, ℕ, zero, suc, ◌+◌, ◌*◌, ◌<◌, ◌≤◌, ℤ, ◌+ℤ◌, unsigned_abs, List, [], ◌∷◌, ◌++◌, length, take, get_or, add-one, refl, arith}
+use Rattle.std.proofs.Common.{◌≡◌, ◌∙◌, ap, ℕ, zero, suc, ◌+◌, ◌*◌, ◌<◌, ◌≤◌, ℤ, pos, ◌+ℤ◌, unsigned_abs, Bool, if◌then◌else◌, List, [], ◌∷◌, ◌++◌, length, take, get_or, add-one, refl, arith}
 use Rattle.std.proofs.lemmas.Int.{ints}
 use Rattle.std.proofs.lemmas.List.{take_more}
+use Rattle.emtp_case.specs.NodeRows.{is_member, node_at}
 use Rattle.emtp_case.specs.Sums.{sum_below, sum_upto, total}
+use Rattle.emtp_case.specs.declared.case.Parts.{Parts}
+use Rattle.emtp_case.specs.declared.row_kind.RowKind.{RowKind}
 
 -- ---- over numbers
 
@@ -56,3 +59,17 @@ total_small f limit small (x ∷ xs) = omega (arith, ints, small x, total_small 
 
 pub one_more : (s r a b t : ℤ) → s ≡ a → r ≡ b → t ≡ a +ℤ b → s +ℤ r ≡ t
 one_more s r a b t is here more = omega (arith, ints, is, here, more)
+
+-- one number more of a sum
+pub sum_more : (F : ℕ → ℤ) (k : ℕ) (before amount after : ℤ) → amount ≡ F k → before ≡ sum_below k F → after ≡ before +ℤ amount → after ≡ sum_below (k + 1) F
+sum_more F k before amount after is so_far added =
+    let more = sum_below-more k F in
+    omega (arith, ints, is, so_far, added, more)
+
+-- one node of a group more, where f says what a node gives
+pub member_more : (f : ℕ → ℤ) (kinds : List RowKind) (case : Parts) (i k node : ℕ) (member : Bool) (before amount after : ℤ) → member ≡ is_member kinds i k → node ≡ node_at case k → amount ≡ (if member then f node else pos 0)
+    → before ≡ sum_below k (λ k. if is_member kinds i k then f (node_at case k) else pos 0) → after ≡ before +ℤ amount → after ≡ sum_below (k + 1) (λ k. if is_member kinds i k then f (node_at case k) else pos 0)
+member_more f kinds case i k node member before amount after is there value so_far added =
+    let F : ℕ → ℤ = λ k. if is_member kinds i k then f (node_at case k) else pos 0 in
+    let here : amount ≡ F k = value ∙ ap (λ b. if b then f node else pos 0) is ∙ ap (λ n. if is_member kinds i k then f n else pos 0) there in
+    sum_more F k before amount after here so_far added

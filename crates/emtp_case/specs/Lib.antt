@@ -18,3 +18,5 @@ pub mod StepRecord
 pub mod RowTable
 pub mod RowOrder
 pub mod RowKinds
+pub mod NodeRows
+pub mod EndNames

@@ -19,6 +19,7 @@ mod channel_name;
 mod coefficients;
 mod control;
 mod draft;
+mod end_names;
 mod expr;
 mod history_values;
 mod impedance;
@@ -43,6 +44,7 @@ pub use control::{
     Limiter,
 };
 pub use draft::Draft;
+pub use end_names::{branch_name, switch_name};
 pub use expr::{BinaryOp, MOST_VALUES, Node, UnaryOp};
 pub use impedance::{
     capacitor_impedance, inductor_impedance, line_impedance, series_impedance, slope,
