@@ -1,4 +1,3 @@
-pub mod Orders
 pub mod Between
 pub mod TermSteps
 pub mod Filled

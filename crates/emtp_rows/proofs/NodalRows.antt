@@ -24,7 +24,7 @@ use Rattle.emtp_case.specs.RowKinds.{AreKinds, TieIsThere}
 use Rattle.emtp_rows.specs.Terms.{in_node, terms_at, IsHeld, IsSmall, HasAllTerms, AreRowTerms, kinds_from, in_column, filled_entry}
 use Rattle.emtp_case.proofs.Sums.{sum_below_small, sum_below_same}
 use Rattle.emtp_rows.proofs.Filled.{row_total_small}
-use Rattle.emtp_rows.proofs.Orders.{fixed_within}
+use Rattle.emtp_case.proofs.RowsOfNodes.{fixed_within}
 use Rattle.emtp_rows.proofs.Between.{terms_between}
 use Rattle.emtp_rows.proofs.Phases.{branch_ends}
 

@@ -14,7 +14,7 @@ use Rattle.emtp_case.specs.Sums.{total}
 use Rattle.emtp_rows.specs.Nodal.{node_at}
 use Rattle.emtp_rows.specs.Terms.{NodeTerm, amount_of, in_node, end_terms, terms_by, terms_at, Adds, HasTerms, IsTerm, AmountIsThere, in_column}
 use Rattle.emtp_case.proofs.Sums.{total-append, sum_below-more}
-use Rattle.emtp_rows.proofs.Orders.{is_number, isnt_number, node_low}
+use Rattle.emtp_case.proofs.RowsOfNodes.{IsRowOf, is_number, isnt_number, node_low}
 
 nothing_more : (x : ℤ) → x ≡ x +ℤ (pos 0 +ℤ pos 0)
 nothing_more x = omega (arith, ints)
@@ -31,12 +31,6 @@ adds_ground case amount terms = record {
   few = omega arith;
   exist = λ all. all;
 }
-
--- the row of a node
-pub record IsRowOf (case : Parts) (n row : ℕ) : Type 0 where
-  pub within : row < length case.nodes
-  pub there : node_at case row ≡ n
-  pub only : (k : ℕ) → k < length case.nodes → node_at case k ≡ n → k ≡ row
 
 column_is : (case : Parts) (n row j : ℕ) (x : ℤ) → IsRowOf case n row → j < length case.nodes → (if row == j then x else pos 0) ≡ (if n == node_at case j then x else pos 0)
 column_is case n row j x is below = elim (cases_eq row j) [

@@ -19,7 +19,7 @@ use Rattle.emtp_rows.specs.Terms.{end_rows}
 use Rattle.emtp_rows.specs.Touched.{AgreesBy, NodalRows, StandsUntouched, Touches, equation_by, equation_row, row_at}
 use Rattle.emtp_rows.proofs.Between.{between_none}
 use Rattle.emtp_rows.proofs.NodalRows.{length-nodal_matrix, length-nodal_row, nodal_entry}
-use Rattle.emtp_rows.proofs.Orders.{row_at_is, row_at_within}
+use Rattle.emtp_case.proofs.RowsOfNodes.{row_at_is, row_at_within}
 use Rattle.emtp_case.proofs.Sums.{sum_below_same}
 
 -- ---- rows of two matrices

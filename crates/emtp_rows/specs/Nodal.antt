@@ -1,10 +1,9 @@
 -- The nodal matrix of a network, in units of 1e-12 S: what each row says of the currents that leave its node, and the
 -- conductances between nodes as incidence times conductance times incidence.
-use Rattle.std.specs.Prelude.{ℕ, ◌+◌, ◌==◌, ◌%◌, ◌||◌, ℤ, pos, ◌+ℤ◌, ◌-ℤ◌, ◌*ℤ◌, Bool, true, false, if◌then◌else◌, List, length, map, slice_get, slice_index, slice_index_or, Option, Some, None}
-use Rattle.emtp_fix.specs.declared.limit.TheConstants.{PICO}
+use Rattle.std.specs.Prelude.{ℕ, ◌+◌, ◌%◌, ℤ, pos, ◌+ℤ◌, ◌-ℤ◌, ◌*ℤ◌, Bool, true, false, List, length, map, slice_get, slice_index_or, Option, Some, None}
 use Rattle.emtp_elim.specs.Matrix.{Matrix, item, matrix_of}
 use Rattle.emtp_case.specs.Branch.{from_of, to_of, first_of_trio}
-use Rattle.emtp_case.specs.RowOrder.{order_of}
+pub use Rattle.emtp_case.specs.NodeRows.{same_node, node_at, unit, is_tie_to, kind_at, is_member, group_sum}
 use Rattle.emtp_case.specs.declared.branch.Branch.{Branch}
 use Rattle.emtp_case.specs.declared.branch.Branch.TheVariants.{Lumped as OfLumped, Line as OfLine, Pseudo as OfPseudo, Phase as OfPhase}
 use Rattle.emtp_case.specs.declared.branch.Phase.{Phase}
@@ -22,10 +21,6 @@ pub record Nodal : Type 0 where
   pub kinds : List RowKind
 
 -- ---- conductances between nodes
-
--- 1 where two nodes are one
-abbrev pub same_node : ℕ → ℕ → ℤ
-same_node n m = if n == m then pos 1 else pos 0
 
 -- 1 where the branch leaves the node, -1 where it comes to it, else 0
 abbrev pub incidence : Branch → ℕ → ℤ
@@ -70,32 +65,6 @@ abbrev pub current_entry : Parts → List ℤ → List ℤ → ℕ → ℕ → �
 current_entry case own coupling n m = sum_below (length case.branches) (λ b. between case (item own b) coupling n m (slice_get case.branches b))
 
 -- ---- the rows
-
--- the node of a row
-abbrev pub node_at : Parts → ℕ → ℕ
-node_at case i = slice_index (order_of case).nodes i
-
--- 1 in a row's own column
-abbrev pub unit : ℕ → ℕ → ℤ
-unit i j = if i == j then PICO else pos 0
-
-abbrev pub is_tie_to : ℕ → RowKind → Bool
-is_tie_to i Kcl = false
-is_tie_to i Sum = false
-is_tie_to i (Tie row) = row == i
-is_tie_to i Ground = false
-is_tie_to i Source = false
-
-abbrev pub kind_at : List RowKind → ℕ → RowKind
-kind_at kinds i = slice_index_or kinds i Ground
-
--- row k is row i, or is tied to it: its node is one of the group of row i
-abbrev pub is_member : List RowKind → ℕ → ℕ → Bool
-is_member kinds i k = (k == i) || is_tie_to i (kind_at kinds k)
-
--- the sum over the group of a row of what f gives for its nodes
-abbrev pub group_sum : Parts → List RowKind → ℕ → (ℕ → ℤ) → ℤ
-group_sum case kinds i f = sum_below (length case.nodes) (λ k. if is_member kinds i k then f (node_at case k) else pos 0)
 
 -- the entry of row i in column j: the current that leaves the node or the group, a voltage that is equal to another one,
 -- or a voltage that is known

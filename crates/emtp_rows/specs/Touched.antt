@@ -1,9 +1,7 @@
 -- Which rows a change touches.
-use Rattle.std.specs.Prelude.{◌≡◌, ◌≤◌, ℕ, ◌==◌, if◌then◌else◌, Bool, true, false, List, length, take}
-use Rattle.std.specs.List.{position_or_len}
+use Rattle.std.specs.Prelude.{◌≡◌, ◌≤◌, ℕ, if◌then◌else◌, Bool, true, false, List, length, take}
 use Rattle.emtp_elim.specs.Matrix.{Matrix}
-use Rattle.emtp_case.specs.RowOrder.{order_of}
-use Rattle.emtp_case.specs.declared.case.Parts.{Parts}
+pub use Rattle.emtp_case.specs.NodeRows.{row_at}
 use Rattle.emtp_case.specs.declared.row_kind.RowKind.{RowKind}
 use Rattle.emtp_case.specs.declared.row_kind.RowKind.TheVariants.{Kcl, Sum, Tie, Ground, Source}
 use Rattle.emtp_rows.specs.Nodal.{Nodal, nodal_matrix, kind_at, is_tie_to}
@@ -22,10 +20,6 @@ pub record Touches (old new : NodalRows) : Type 0 where
 -- these rows, as many as there are, are those of the matrix but for the touched ones: so they may be kept
 abbrev pub StandsUntouched : NodalRows → Matrix → Type 0
 StandsUntouched s rows = (n : ℕ) → n ≤ s.touched → n ≤ length rows → take n (nodal_matrix s.nodal) ≡ take n rows
-
--- the row of a node, or the number of rows for ground, which has none
-abbrev pub row_at : Parts → ℕ → ℕ
-row_at case n = position_or_len (λ m. m == n) (order_of case).nodes
 
 abbrev pub is_sum : RowKind → Bool
 is_sum Kcl = false

@@ -2,7 +2,8 @@ use Rattle.std.proofs.Common.{◌≡◌, ℕ, ap, length, slice_index, arith}
 use Rattle.emtp_case.specs.RowOrder.{Rows, order_of}
 use Rattle.emtp_case.proofs.NodeOrder.{length-order_of}
 use Rattle.emtp_rows.specs.Nodal.{node_at}
-use Rattle.emtp_rows.proofs.TermSteps.{IsRowOf, adds_ground, adds_term}
+use Rattle.emtp_case.proofs.RowsOfNodes.{IsRowOf}
+use Rattle.emtp_rows.proofs.TermSteps.{adds_ground, adds_term}
 use Rattle.emtp_rows.proofs.terms.add_term.Goals as goal
 
 pub row_of-column-requires-clause-high : goal.row_of-column-requires-clause-high

@@ -2,7 +2,7 @@ use Rattle.std.proofs.Common.{◌≡◌, ◌∙◌, ℕ, sym, ap, length, slice_
 use Rattle.emtp_case.specs.RowOrder.{Rows, order_of}
 use Rattle.emtp_case.proofs.NodeOrder.{length-order_of}
 use Rattle.emtp_rows.specs.Nodal.{node_at}
-use Rattle.emtp_rows.proofs.Orders.{row_at_is, row_at_ground}
+use Rattle.emtp_case.proofs.RowsOfNodes.{row_at_is, row_at_ground}
 use Rattle.emtp_rows.proofs.terms.row_at.Goals as goal
 
 pub row_of-requires-clause-high : goal.row_of-requires-clause-high
