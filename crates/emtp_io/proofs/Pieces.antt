@@ -51,10 +51,11 @@ put_back-put_back xs ys (Some rest) =
     ap (λ (bytes : List ℕ). Some bytes) (sym (append_assoc xs ys rest))
 
 -- one more piece was read
-pub took-next : (xs ys : List ℕ) (first middle last : Option (List ℕ))
-    → first ≡ put_back xs middle → middle ≡ put_back ys last → TookFront first last
-took-next xs ys first middle last p q = record {
+pub took-next : (most : ℕ) (xs ys : List ℕ) (first middle last : Option (List ℕ))
+    → length xs + length ys ≤ most → first ≡ put_back xs middle → middle ≡ put_back ys last → TookFront most first last
+took-next most xs ys first middle last fit p q = record {
   front = xs ++ ys;
+  within = omega (arith, length-append xs ys, fit);
   took = p ∙ ap (λ (o : Option (List ℕ)). put_back xs o) q ∙ put_back-put_back xs ys last;
 }
 

@@ -21,9 +21,10 @@ pub record Appends {T E : Type 0} (old new : CabinetState) (out : Output) (bytes
   pub calm : IsTrue old.nature.tells → IsTrue old.nature.calm
       → HasRoom (output old.outputs out) (length bytes) old.nature.room → IsOk result
 
--- a front of what was unread has been read
-pub record TookFront (old new : Option (List ℕ)) : Type 0 where
+-- a front of what was unread has been read, of at most so many bytes
+pub record TookFront (most : ℕ) (old new : Option (List ℕ)) : Type 0 where
   pub front : List ℕ
+  pub within : length front ≤ most
   pub took : old ≡ put_back front new
 
 -- the opened file was read to its end or to the bound, or a refusal has its cause; no output changed
@@ -39,5 +40,5 @@ pub record ReadsAll (old new : CabinetState) (most : ℕ) (result : Result (Vec 
   pub ok : IsTrue old.nature.tells → IfOk result (λ v. IfSome old.unread (λ bytes. v.items ≡ take most bytes))
   pub opened : IsTrue old.nature.tells → OnOk result (0 < most → IsSome old.unread)
   pub position : IsTrue old.nature.tells → IfOk result (λ v. old.unread ≡ put_back v.items new.unread)
-  pub taken : IsTrue old.nature.tells → TookFront old.unread new.unread
+  pub taken : IsTrue old.nature.tells → TookFront most old.unread new.unread
   pub calm : IsTrue old.nature.tells → IsTrue old.nature.calm → IsSome old.unread → IsErrOf result Failed → ⊥
