@@ -1,4 +1,5 @@
 pub mod GivenRows
 pub mod Redoing
+pub mod RedoneRows
 mod Worked
 pub mod Running
