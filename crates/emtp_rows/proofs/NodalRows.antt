@@ -8,6 +8,7 @@ use Rattle.std.proofs.lemmas.List.{get_or_past, ext_get_or}
 use Rattle.std.proofs.lemmas.List.FromFn.{length-map-range_with_len, get_or-map-range_with_len, fill_by_all}
 use Rattle.emtp_elim.specs.Matrix.{item, row_of, entry}
 use Rattle.emtp_elim.specs.Rows.{IsUnitRow, IsLawful}
+use Rattle.emtp_elim.proofs.UnitRows.{IsTieRow}
 use Rattle.emtp_fix.specs.declared.limit.TheConstants.{PICO}
 use Rattle.emtp_case.specs.Branch.{IsBranch, from_of, to_of}
 use Rattle.emtp_case.specs.Case.{IsNetwork}
@@ -131,13 +132,29 @@ past_row s i j past = ap (λ row. item row j) (get_or_past (nodal_matrix s) i []
 past_column : (s : Nodal) (i j : ℕ) → i < length s.case.nodes → length s.case.nodes ≤ j → entry (nodal_matrix s) i j ≡ pos 0
 past_column s i j below past = get_or_past (row_of (nodal_matrix s) i) j (pos 0) (omega (arith, past, length-nodal_row s i below))
 
-source_row : (s : Nodal) (i : ℕ) → i < length s.case.nodes → kind_at s.kinds i ≡ Source → IsUnitRow (nodal_matrix s) i
-source_row s i below is = record {
-  own = nodal_entry s i i below below ∙ ap (entry_by s i i) is ∙ unit_own i;
+-- a row whose entries are those of the unit matrix
+unit_row : (s : Nodal) (i : ℕ) → i < length s.case.nodes → ((j : ℕ) → entry_by s i j (kind_at s.kinds i) ≡ unit i j) → IsUnitRow (nodal_matrix s) i
+unit_row s i below each = record {
+  own = nodal_entry s i i below below ∙ each i ∙ unit_own i;
   others = λ j ne. elim (cases_lt j (length s.case.nodes)) [
-    | inl within ↦ nodal_entry s i j below within ∙ ap (entry_by s i j) is ∙ unit_other i j ne
+    | inl within ↦ nodal_entry s i j below within ∙ each j ∙ unit_other i j ne
     | inr past ↦ past_column s i j below past
   ];
+}
+
+pub source_row : (s : Nodal) (i : ℕ) → i < length s.case.nodes → kind_at s.kinds i ≡ Source → IsUnitRow (nodal_matrix s) i
+source_row s i below is = unit_row s i below (λ j. ap (entry_by s i j) is)
+
+pub ground_row : (s : Nodal) (i : ℕ) → i < length s.case.nodes → kind_at s.kinds i ≡ Ground → IsUnitRow (nodal_matrix s) i
+ground_row s i below is = unit_row s i below (λ j. ap (entry_by s i j) is)
+
+-- a row that is tied to another one
+pub tie_row : (s : Nodal) (i r : ℕ) → i < length s.case.nodes → r < length s.case.nodes → r ≢ i → kind_at s.kinds i ≡ Tie r → IsTieRow (nodal_matrix s) i r
+tie_row s i r below there ne is = record {
+  own = nodal_entry s i i below below ∙ ap (entry_by s i i) is ∙ omega (arith, ints, unit_own i, unit_other r i (λ e. ne (sym e)));
+  other = nodal_entry s i r below there ∙ ap (entry_by s i r) is ∙ omega (arith, ints, unit_own r, unit_other i r ne);
+  apart = ne;
+  rest = λ j a b within. nodal_entry s i j below (omega (arith, within, length-nodal_matrix s)) ∙ ap (entry_by s i j) is ∙ omega (arith, ints, unit_other i j a, unit_other r j b);
 }
 
 pub nodal_lawful : (s : Nodal) (fixed touched : ℕ) (ends : List (ℕ × ℕ)) (rows : List (List Term)) → IsHeld s.case fixed touched ends rows s.own s.coupling s.kinds → IsNetwork s.case → length s.case.nodes ≤ 1000 → length s.case.branches ≤ 5000 → IsLawful (nodal_matrix s) (order_of s.case).fixed

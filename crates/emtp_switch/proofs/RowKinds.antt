@@ -9,7 +9,7 @@ use Rattle.std.proofs.lemmas.List.FromFn.{get_or-range_with_len, length-range_wi
 use Rattle.std.proofs.lemmas.List.Sums.{fails_before_first}
 use Rattle.emtp_case.proofs.RowTables.{node_there, nodes_within}
 use Rattle.emtp_case.specs.RowKinds.{AreKinds, TieIsThere}
-use Rattle.emtp_case.specs.RowOrder.{Rows}
+use Rattle.emtp_case.specs.RowOrder.{IsRowOrder, Rows}
 use Rattle.emtp_case.specs.declared.case.Parts.{Parts}
 use Rattle.emtp_case.specs.declared.row_kind.RowKind.{RowKind}
 use Rattle.emtp_case.specs.declared.row_kind.RowKind.TheVariants.{Ground, Kcl, Source as OfSource, Sum, Tie}
@@ -22,7 +22,7 @@ use Rattle.emtp_switch.specs.declared.plan.Plan.{Plan}
 use Rattle.emtp_switch.proofs.GroupRoots.{root_within}
 use Rattle.emtp_switch.proofs.Meetings.{none_meet}
 use Rattle.emtp_switch.proofs.Plans.{once_each}
-use Rattle.emtp_switch.proofs.Regrouping.{known_within, rank_is}
+use Rattle.emtp_switch.proofs.Regrouping.{known_within, rank_is, rows_within}
 
 -- the first of a list that passes, whatever stands behind the list
 record IsFirst (p : ℕ → Bool) (xs : List ℕ) (y : ℕ) : Type 0 where
@@ -51,9 +51,9 @@ first_no_later nodes node i is inside = elim (cases_lt i (position_or_len (λ k.
 ]
 
 -- the root of a group with a node of known voltage is that node
-root_is_source : (p : Parts) (rows : Rows) (plan : Plan) (states : List SwitchState) (i : ℕ) → IsPlan p rows plan → tied_of p.switches rows states ≡ None → i < rows.fixed → i < length rows.nodes
+pub root_is_source : (p : Parts) (rows : Rows) (states : List SwitchState) (i : ℕ) → IsRowOrder p rows → EndWithin p.switches (length rows.nodes + 1) → tied_of p.switches rows states ≡ None → i < rows.fixed → i < length rows.nodes
     → root_of rows (labels_of p.switches rows states) (slice_index rows.nodes i) ≡ slice_index rows.nodes i
-root_is_source p rows plan states i plan_is none early inside =
+root_is_source p rows states i order within none early inside =
     let n = length rows.nodes in
     let node = slice_index rows.nodes i in
     let labels = labels_of p.switches rows states in
@@ -61,11 +61,12 @@ root_is_source p rows plan states i plan_is none early inside =
     let there : Contains (known_nodes rows) node = (suc i, omega (arith, length-take rows.fixed rows.nodes), get_or-take rows.fixed rows.nodes i node early ∙ sym (get_or_default rows.nodes i 0 node inside)) in
     let (root, first) = first_in test (known_nodes rows) node there (eq-eqb (slice_index labels node) (slice_index labels node) refl) in
     let long : length (alone n) ≡ n + 1 = length-range_with_len 0 (n + 1) in
-    let ends : EndWithin p.switches (length (alone n)) = subst (EndWithin p.switches) (sym long) plan_is.ends_within in
-    let all : All (λ k. k < length (alone n)) (known_nodes rows) = subst (λ m. All (λ k. k < m) (known_nodes rows)) (sym long) (known_within rows plan_is.nodes_within) in
+    let ends : EndWithin p.switches (length (alone n)) = subst (EndWithin p.switches) (sym long) within in
+    let known = known_within rows (rows_within p rows order) in
+    let all : All (λ k. k < length (alone n)) (known_nodes rows) = subst (λ m. All (λ k. k < m) (known_nodes rows)) (sym long) known in
     let meets = none_meet p.switches (known_nodes rows) (alone n) (closed_switches states) ends all none root node first.there there (eqb-true (slice_index labels root) (slice_index labels node) first.passes) in
-    let low : root < n + 1 = at_most (known_nodes rows) (n + 1) root (known_within rows plan_is.nodes_within) first.there in
-    ap (λ o. unwrap_or o 0) (first.found (reverse (drop rows.fixed rows.nodes))) ∙ sym (own n root low) ∙ meets ∙ own n node (omega (arith, plan_is.nodes_within i inside))
+    let low : root < n + 1 = at_most (known_nodes rows) (n + 1) root known first.there in
+    ap (λ o. unwrap_or o 0) (first.found (reverse (drop rows.fixed rows.nodes))) ∙ sym (own n root low) ∙ meets ∙ own n node (omega (arith, rows_within p rows order i inside))
   where
     own : (n x : ℕ) → x < n + 1 → slice_index (alone n) x ≡ x
     own n x inside = omega (arith, get_or-range_with_len 0 (n + 1) x 0 inside)
@@ -73,23 +74,24 @@ root_is_source p rows plan states i plan_is none early inside =
     at_most : (known : List ℕ) (n k : ℕ) → All (λ x. x < n) known → Contains known k → k < n
     at_most known n k all (i, below, is) = subst (λ x. x < n) is (all i k below)
 
+-- the row of the root of its own group, with a known voltage
+pub by_source : (rows : Rows) (node : ℕ) (empty single : Bool) → node ≢ 0 → row_of rows node < rows.fixed → kind_by rows node node empty single ≡ OfSource
+by_source rows node empty single apart before =
+    let off : (node == 0) ≡ false = ne_eqb node 0 apart in
+    let on : nat_lt (row_of rows node) rows.fixed ≡ true = lt-ltb (row_of rows node) rows.fixed before in
+    let same : (node == node) ≡ true = eq-eqb node node refl in
+    rw (off, on, same) refl
+
 -- so its row has the source
-source_row : (p : Parts) (rows : Rows) (plan : Plan) (states : List SwitchState) (i : ℕ) → IsPlan p rows plan → tied_of p.switches rows states ≡ None → i < rows.fixed → i < length rows.nodes
+pub source_row : (p : Parts) (rows : Rows) (states : List SwitchState) (i : ℕ) → IsRowOrder p rows → EndWithin p.switches (length rows.nodes + 1) → tied_of p.switches rows states ≡ None → i < rows.fixed → i < length rows.nodes
     → kind_of p rows (labels_of p.switches rows states) (slice_index rows.nodes i) ≡ OfSource
-source_row p rows plan states i plan_is none early inside =
+source_row p rows states i order within none early inside =
     let node = slice_index rows.nodes i in
     let labels = labels_of p.switches rows states in
-    let low = (nodes_within rows.nodes (once_each p rows plan_is.order) i inside).0 in
+    let low = (nodes_within rows.nodes (once_each p rows order) i inside).0 in
     let first = first_no_later rows.nodes node i refl inside in
-    ap (λ root. kind_by rows node root (is_empty p rows labels (slice_index labels node)) (count_members rows.nodes labels (slice_index labels node) == 1)) (root_is_source p rows plan states i plan_is none early inside)
+    ap (λ root. kind_by rows node root (is_empty p rows labels (slice_index labels node)) (count_members rows.nodes labels (slice_index labels node) == 1)) (root_is_source p rows states i order within none early inside)
     ∙ by_source rows node (is_empty p rows labels (slice_index labels node)) (count_members rows.nodes labels (slice_index labels node) == 1) (λ e. omega (arith, low, e)) (omega (arith, first, early))
-  where
-    by_source : (rows : Rows) (node : ℕ) (empty single : Bool) → node ≢ 0 → row_of rows node < rows.fixed → kind_by rows node node empty single ≡ OfSource
-    by_source rows node empty single apart before =
-        let off : (node == 0) ≡ false = ne_eqb node 0 apart in
-        let on : nat_lt (row_of rows node) rows.fixed ≡ true = lt-ltb (row_of rows node) rows.fixed before in
-        let same : (node == node) ≡ true = eq-eqb node node refl in
-        rw (off, on, same) refl
 
 -- the row of a node is one of the rows
 row_within : (rows : Rows) (p : Parts) (plan : Plan) (node : ℕ) → IsPlan p rows plan → 1 ≤ node → node ≤ length rows.nodes → row_of rows node < length rows.nodes
@@ -130,7 +132,7 @@ kinds_are p rows plan states kinds plan_is none few are =
       count = length-map rows.nodes (kind_of p rows labels) ∙ plan_is.same_nodes;
       sources = λ i early.
           let inside : i < n = omega (arith, early, few, plan_is.same_nodes) in
-          get_or-map (kind_of p rows labels) rows.nodes i 0 Ground inside ∙ source_row p rows plan states i plan_is none early inside;
+          get_or-map (kind_of p rows labels) rows.nodes i 0 Ground inside ∙ source_row p rows states i plan_is.order plan_is.ends_within none early inside;
       ties = subst (λ m. All (TieIsThere m) (map (kind_of p rows labels) rows.nodes)) plan_is.same_nodes
           (All-map (TieIsThere n) (kind_of p rows labels) rows.nodes (λ k d inside. tie_there p rows plan labels (slice_index_or rows.nodes k d) plan_is (within rows p plan k d plan_is inside)));
     })
