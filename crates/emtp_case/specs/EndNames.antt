@@ -14,8 +14,8 @@ pub record IsNode (case : Parts) (node : ℕ) : Type 0 where
 abbrev pub named_end : ℕ → ℕ → ℕ
 named_end «from» to = if «from» == 0 then to else «from»
 
-abbrev pub name_of_branch : Parts → ℕ → ℕ
-name_of_branch case b = slice_index (map (λ (x : Branch). named_end (from_of x) (to_of x)) case.branches) b
+abbrev pub node_of_branch : Parts → ℕ → ℕ
+node_of_branch case b = slice_index (map (λ (x : Branch). named_end (from_of x) (to_of x)) case.branches) b
 
-abbrev pub name_of_switch : Parts → ℕ → ℕ
-name_of_switch case s = slice_index (map (λ (x : Switch). named_end x.from x.to) case.switches) s
+abbrev pub node_of_switch : Parts → ℕ → ℕ
+node_of_switch case s = slice_index (map (λ (x : Switch). named_end x.from x.to) case.switches) s
