@@ -13,7 +13,7 @@ use Rattle.emtp_comtrade.specs.Multiplier.{multiplier_of, IsMultiplier}
 -- ---- places
 
 -- what stands at 0, at 1 and so on below n, one after the other
-abbrev pub joined : ℕ → (ℕ → List ℕ) → List ℕ
+abbrev pub joined : {A : Type 0} → ℕ → (ℕ → List A) → List A
 joined zero at = []
 joined (suc n) at = joined n at ++ at n
 

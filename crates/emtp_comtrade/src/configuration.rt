@@ -54,7 +54,7 @@ fn push_head(text: &mut Text, case: &Case)
 }
 
 /// The number of analog channels.
-fn analog_count(case: &Case) -> usize
+pub fn analog_count(case: &Case) -> usize
     ensures { result ≡ analog_before case.now.parts (length case.now.parts.channels) }
 {
     let mut analog = 0;
@@ -65,7 +65,7 @@ fn analog_count(case: &Case) -> usize
 }
 
 /// The number of status channels.
-fn status_count(case: &Case) -> usize
+pub fn status_count(case: &Case) -> usize
     ensures { result ≡ status_before case.now.parts (length case.now.parts.channels) }
 {
     let mut status = 0;
@@ -144,7 +144,8 @@ fn push_analog_line(text: &mut Text, case: &Case, place: usize, analog: usize, m
     text.push(b",0,0,-32767,32767,1,1,P\r\n");
 }
 
-fn unit_at(case: &Case, place: usize) -> &'static [u8]
+/// The unit of the channel at a place, `V`, `A` or `PU`; a status channel has none.
+pub fn unit_at(case: &Case, place: usize) -> &'static [u8]
     requires { place < length case.now.parts.channels }
     ensures unit { result.now ≡ unit_at case.now.parts place }
     ensures short { length result.now ≤ 2 }

@@ -18,6 +18,6 @@ mod multipliers;
 mod stream;
 mod text;
 
-pub use configuration::write_cfg;
+pub use configuration::{analog_count, status_count, unit_at, write_cfg};
 pub use data::{raw_value, write_dat};
-pub use multipliers::scales;
+pub use multipliers::{is_status_at, scales};
