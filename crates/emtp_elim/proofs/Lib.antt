@@ -1,5 +1,6 @@
 mod Worked
 pub mod Stages
+pub mod InRange
 pub mod Outcomes
 pub mod Products
 pub mod Entries

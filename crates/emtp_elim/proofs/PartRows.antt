@@ -1,15 +1,16 @@
 -- A row on its way to be finished.
-use Rattle.std.proofs.Common.{◌≡◌, ◌≢◌, ℕ, suc, ◌+◌, ◌^◌, ◌<◌, ◌≤◌, ℤ, pos, unsigned_abs, List, length, refl, ap, sym, ◌∙◌, inl, inr, add-one, arith}
+use Rattle.std.proofs.Common.{◌≡◌, ◌≢◌, ℕ, suc, ◌+◌, ◌^◌, ◌<◌, ◌≤◌, ℤ, pos, unsigned_abs, List, length, Some, refl, ap, sym, ◌∙◌, inl, inr, add-one, arith}
 use Rattle.std.specs.List.{All}
 use Rattle.std.proofs.lemmas.List.{get_or_past, get_or_default}
 use Rattle.std.proofs.lemmas.Bool.{cases_eq, cases_lt}
 use Rattle.emtp_elim.specs.Matrix.{Matrix, item, row_of, entry, AreWithin}
 use Rattle.emtp_elim.specs.Elimination.{quotient, ratio, stage}
-use Rattle.emtp_elim.specs.Fault.{IsRowInRange, IsCause}
+use Rattle.emtp_elim.specs.Fault.{row_fault}
 use Rattle.emtp_elim.specs.Clearing.{IsFinishedRow, IsClearedRow, LeavesRangeAt}
 use Rattle.emtp_elim.specs.Finished.{IsPartRow, IsNext, FinishesRow, FaultsRow}
 use Rattle.emtp_elim.specs.declared.fault.RowCause.{RowCause}
 use Rattle.emtp_elim.specs.declared.fault.RowCause.TheVariants.{Range, ZeroPivot}
+use Rattle.emtp_elim.proofs.InRange.{StaysInRange, row_fault-none, row_fault-pivot, row_fault-range}
 use Rattle.emtp_elim.proofs.Stages.{entry_start, entry_later}
 
 -- row i stayed in range until the columns before k were cleared
@@ -101,24 +102,24 @@ underway_more size k done given work new was later few same_work same_new finish
 
 -- ---- faults
 
-faults_for : (done : Matrix) (row : List ℤ) (cause : RowCause) → ((rows : Matrix) → IsNext rows done row → IsCause rows (length done) cause) → FaultsRow done row cause
-faults_for done row cause is_cause = record {
+faults_for : (done : Matrix) (row : List ℤ) (cause : RowCause) → ((rows : Matrix) → IsNext rows done row → row_fault rows (length done) ≡ Some (record { row = length done; cause = cause })) → FaultsRow done row cause
+faults_for done row cause is = record {
   row_fault = λ rows next. record {
     within = next.within;
     earlier = next.finished.good;
-    is_cause = is_cause rows next;
+    is = is rows next;
   };
 }
 
 pub faults_start : (done : Matrix) (given : List ℤ) → (All (λ x. unsigned_abs x ≤ 10 ^ 17) given → ⊥) → FaultsRow done given Range
-faults_start done given out = faults_for done given Range (λ rows next in_range. out (λ j d inside.
+faults_start done given out = faults_for done given Range (λ rows next. row_fault-range rows (length done) (λ in_range. out (λ j d inside.
     let same : length (row_of rows (length done)) ≡ length given = ap length next.row_is in
     let fine = in_range.entries 0 j (omega arith) (omega arith) (omega arith) in
-    rw (get_or_default given j d (pos 0) inside) (rw (entry_start rows (length done) j, next.row_is) at fine)))
+    rw (get_or_default given j d (pos 0) inside) (rw (entry_start rows (length done) j, next.row_is) at fine))))
 
 pub faults_clearing : (size k : ℕ) (done : Matrix) (given work : List ℤ) → IsUnderWay done k given work → k < length done → length done < size
     → length work ≡ size → IsFinishedRow size k (row_of done k) → LeavesRangeAt k work (row_of done k) → FaultsRow done given Range
-faults_clearing size k done given work was later few same_work finished out = faults_for done given Range (λ rows next in_range.
+faults_clearing size k done given work was later few same_work finished out = faults_for done given Range (λ rows next. row_fault-range rows (length done) (λ in_range.
     let part = was.part rows next in
     let upper = next.finished.finished k later in
     let ratio_is : quotient (item work k) (entry done k k) ≡ ratio (stage rows k) k (length done) =
@@ -129,24 +130,20 @@ faults_clearing size k done given work was later few same_work finished out = fa
           let same = entry_later rows k (length done) j later low next.within (omega (arith, part.length_is)) in
           let large = rw (ratio_is, part.entries j (omega arith) inside, upper.entries j (omega arith) (omega (arith, finished.length_is)), ← same) at entry_out in
           omega (arith, large, in_range.entries (suc k) j (omega arith) (omega arith) (omega (arith, part.length_is)))
-    ])
+    ]))
 
-in_range_all : (rows : Matrix) (i : ℕ) → IsInRangeUpTo rows i i → IsRowInRange rows i
+in_range_all : (rows : Matrix) (i : ℕ) → IsInRangeUpTo rows i i → StaysInRange rows i
 in_range_all rows i all = record { entries = all.entries; ratios = all.ratios }
 
 pub faults_pivot : (size : ℕ) (done : Matrix) (given work : List ℤ) → IsUnderWay done (length done) given work → length done < size
     → length work ≡ size → item work (length done) ≡ pos 0 → FaultsRow done given ZeroPivot
-faults_pivot size done given work all few same_work zero_pivot = faults_for done given ZeroPivot (λ rows next. (
-  in_range_all rows (length done) (all.in_range rows next),
-  sym ((all.part rows next).entries (length done) (omega arith) (omega arith)) ∙ zero_pivot,
-))
+faults_pivot size done given work all few same_work zero_pivot = faults_for done given ZeroPivot (λ rows next.
+    row_fault-pivot rows (length done) (in_range_all rows (length done) (all.in_range rows next)) (sym ((all.part rows next).entries (length done) (omega arith) (omega arith)) ∙ zero_pivot))
 
 pub finishes : (size : ℕ) (done : Matrix) (given work : List ℤ) → IsUnderWay done (length done) given work → length done < size
     → length work ≡ size → item work (length done) ≢ pos 0 → FinishesRow done given work
 finishes size done given work all few same_work nonzero = record {
   finished = all.part;
-  good = λ rows next. record {
-    in_range = in_range_all rows (length done) (all.in_range rows next);
-    nonzero = λ e. nonzero ((all.part rows next).entries (length done) (omega arith) (omega arith) ∙ e);
-  };
+  good = λ rows next.
+      row_fault-none rows (length done) (in_range_all rows (length done) (all.in_range rows next)) (λ e. nonzero ((all.part rows next).entries (length done) (omega arith) (omega arith) ∙ e));
 }

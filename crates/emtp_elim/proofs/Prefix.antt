@@ -4,6 +4,7 @@ use Rattle.std.proofs.lemmas.List.{get_or-take, length-take-le, length-take}
 use Rattle.emtp_elim.specs.Matrix.{Matrix, row_of, entry}
 use Rattle.emtp_elim.specs.Elimination.{ratio, stage}
 use Rattle.emtp_elim.specs.Finished.{AreFinished}
+use Rattle.emtp_elim.proofs.InRange.{StaysInRange, row_fault-fine, row_fault-none}
 use Rattle.emtp_elim.proofs.Stages.{entry_same}
 
 -- what is finished of one matrix is finished of another that begins with the same rows
@@ -21,13 +22,13 @@ finished_other a b done agree was =
         ratios = λ j before. (was.finished i h).ratios j before ∙ ratio_same j i (omega arith) h;
         entries = λ j from_on inside. (was.finished i h).entries j from_on inside ∙ stage_same i i j h;
       };
-      good = λ i h. record {
-        in_range = record {
-          entries = λ k j before from_on inside. rw (← stage_same k i j h) ((was.good i h).in_range.entries k j before from_on (rw (← same i h) at inside));
-          ratios = λ k before. rw (← ratio_same k i (omega arith) h) ((was.good i h).in_range.ratios k before);
-        };
-        nonzero = λ e. (was.good i h).nonzero (stage_same i i i h ∙ e);
-      };
+      good = λ i h.
+          let fine = row_fault-fine a i (was.good i h) in
+          let in_range : StaysInRange b i = record {
+            entries = λ k j before from_on inside. rw (← stage_same k i j h) (fine.0.entries k j before from_on (rw (← same i h) at inside));
+            ratios = λ k before. rw (← ratio_same k i (omega arith) h) (fine.0.ratios k before);
+          } in
+          row_fault-none b i in_range (λ e. fine.1 (stage_same i i i h ∙ e));
     }
 
 -- and fewer rows are finished too

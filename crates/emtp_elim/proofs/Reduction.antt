@@ -5,6 +5,7 @@ use Rattle.std.proofs.lemmas.Bool.{cases_eq}
 use Rattle.emtp_elim.specs.Matrix.{Matrix, item, row_of}
 use Rattle.emtp_elim.specs.Elimination.{stage_right}
 use Rattle.emtp_elim.specs.Fault.{IsRightFault}
+use Rattle.emtp_elim.proofs.InRange.{right_fault-none, right_fault-some}
 use Rattle.emtp_elim.specs.Finished.{AreAllFinished}
 use Rattle.emtp_elim.specs.Substitution.{partial_right, AreReduced}
 use Rattle.emtp_elim.proofs.Stages.{right_start, right_later}
@@ -51,7 +52,7 @@ reduced_more done given right i v was inside same same_right e within =
               | inr other ↦ rw get_or-set_other (old.reduced h (omega arith))
             ];
             in_range = λ h low. elim (cases_eq h i) [
-              | inl here ↦ λ k below. rw (here, ← is_stage k (omega arith)) (small k (omega arith))
+              | inl here ↦ rw here (right_fault-none rows given i (λ k below. rw (← is_stage k (omega arith)) (small k (omega arith))))
               | inr other ↦ old.in_range h (omega arith)
             ];
           };
@@ -67,5 +68,5 @@ right_fault done given right i k was inside same low out rows all =
     record {
       within = omega (arith, all.all);
       earlier = old.in_range;
-      out = λ in_range. omega (arith, large, in_range k low);
+      is = right_fault-some rows given i (λ in_range. omega (arith, large, in_range k low));
     }

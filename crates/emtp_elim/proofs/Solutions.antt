@@ -8,6 +8,7 @@ use Rattle.emtp_elim.specs.Finished.{AreAllFinished}
 use Rattle.emtp_elim.specs.Substitution.{AreReduced, IsLastFault, SolvesAs}
 use Rattle.emtp_elim.specs.declared.fault.PlainFault.TheVariants.{Solve}
 use Rattle.emtp_elim.proofs.Stages.{length-stage, entry_settled, right_settled}
+use Rattle.emtp_elim.proofs.InRange.{unknown_fault-none, unknown_fault-some}
 use Rattle.emtp_elim.proofs.Outcomes.{outcome_right, outcome_unknown, outcome_solved}
 use Rattle.emtp_elim.proofs.Unknowns.{last_unknowns-none, last_unknowns-more, length-last_unknowns}
 
@@ -67,8 +68,8 @@ solves_unknown_fault done given right i square same reduced fault = record {
       outcome_unknown rows given i (all_good rows done all) (record {
         within = omega (arith, fault.within, all.all);
         right_sides = λ h low. (reduced rows all).in_range h (omega (arith, all.all));
-        later = λ h low high. rw same_x at (fault.later h low (omega (arith, all.all)));
-        out = rw same_x at fault.out;
+        later = λ h low high. unknown_fault-none rows given h (rw same_x at (fault.later h low (omega (arith, all.all))));
+        is = unknown_fault-some rows given i (rw same_x at fault.out);
       });
 }
 
@@ -78,5 +79,5 @@ pub solves_ok : (done : Matrix) (given right x : List ℤ) → IsSquare done →
 solves_ok done given right x square same reduced x_is small = record {
   outcome_is = λ rows all.
       let same_x : x ≡ solution rows given = x_is ∙ solution_is rows done given right all square same (rw same at (reduced rows all)) in
-      rw same_x (outcome_solved rows given (all_good rows done all) (λ i h. (reduced rows all).in_range i (omega (arith, all.all))) (λ i h. rw same_x at (small i)));
+      rw same_x (outcome_solved rows given (all_good rows done all) (λ i h. (reduced rows all).in_range i (omega (arith, all.all))) (λ i h. unknown_fault-none rows given i (rw same_x at (small i))));
 }

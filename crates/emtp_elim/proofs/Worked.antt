@@ -2,7 +2,8 @@
 use Rattle.std.proofs.Common.{◌≡◌, ◌*◌, ◌^◌, ℤ, pos, neg_ℤ, [], ◌∷◌, Ok, Err, refl}
 use Rattle.emtp_fix.specs.Rounding.{near, near_abs}
 use Rattle.emtp_elim.specs.Elimination.{stage, stage_right, last_unknowns}
-use Rattle.emtp_elim.specs.Outcome.{outcome, row_fault, right_fault, unknown_fault}
+use Rattle.emtp_elim.specs.Fault.{right_fault, row_fault, unknown_fault}
+use Rattle.emtp_elim.specs.Outcome.{outcome}
 use Rattle.emtp_elim.specs.declared.fault.RowCause.TheVariants.{Range, ZeroPivot}
 use Rattle.emtp_elim.specs.declared.fault.PlainFault.TheVariants.{Row, Solve}
 

@@ -3,7 +3,7 @@ use Rattle.std.specs.Prelude.{◌≡◌, ℕ, zero, suc, ◌<◌, ◌≤◌, ℤ
 use Rattle.emtp_fix.specs.declared.limit.TheConstants.{LARGEST_VALUE}
 use Rattle.emtp_elim.specs.Matrix.{Matrix, item}
 use Rattle.emtp_elim.specs.Elimination.{less_product, stage_right, last_unknowns}
-use Rattle.emtp_elim.specs.Fault.{IsRightInRange}
+use Rattle.emtp_elim.specs.Fault.{IsGoodRight}
 use Rattle.emtp_elim.specs.Finished.{AreAllFinished}
 use Rattle.emtp_elim.specs.Outcome.{outcome}
 use Rattle.emtp_elim.specs.declared.fault.PlainFault.{PlainFault}
@@ -16,7 +16,7 @@ partial_right start ratios above (suc n) = less_product (partial_right start rat
 -- the first n right sides have had the work of the elimination done on them, and stayed in range
 pub record AreReduced (rows : Matrix) (given : List ℤ) (n : ℕ) (right : List ℤ) : Type 0 where
   pub reduced : (i : ℕ) → i < n → item right i ≡ item (stage_right rows given i) i
-  pub in_range : (i : ℕ) → i < n → IsRightInRange rows given i
+  pub in_range : (i : ℕ) → i < n → IsGoodRight rows given i
 
 -- row i is the last one whose unknown leaves its range, in a triangular system
 pub record IsLastFault (rows : Matrix) (right : List ℤ) (i : ℕ) : Type 0 where

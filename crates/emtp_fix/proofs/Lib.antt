@@ -1,3 +1,4 @@
+pub mod Chaining
 pub mod Nearest
 pub mod Quotients
 pub mod Wide

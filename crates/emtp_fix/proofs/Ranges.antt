@@ -1,7 +1,9 @@
 -- Laws of numbers that are kept in range, and of their chain.
-use Rattle.std.proofs.Common.{◌≡◌, ◌∙◌, ap, refl, ◌<◌, ◌≤◌, nat_le, ℤ, neg_ℤ, unsigned_abs, Option, Some, None, option_map, Bool, true, false, if◌then◌else◌, arith}
+use Rattle.std.proofs.Common.{◌≡◌, ◌∙◌, ap, refl, ℕ, zero, suc, ◌<◌, ◌≤◌, nat_le, ℤ, pos, neg_ℤ, unsigned_abs, All, List, [], ◌∷◌, Option, Some, None, IfSome, option_map, Bool, true, false, if◌then◌else◌, arith}
 use Rattle.std.proofs.lemmas.Bool.Decides.{nat_tests}
 use Rattle.std.proofs.lemmas.Int.{ints}
+use Rattle.std.proofs.lemmas.List.Elements.{All-head, All-tail}
+use Rattle.emtp_fix.specs.Items.{item}
 use Rattle.emtp_fix.specs.Limit.{in_range, ◌>>=◌}
 use Rattle.emtp_fix.specs.declared.limit.TheConstants.{LARGEST_VALUE}
 
@@ -35,6 +37,32 @@ in_range-small x y e = by_test (nat_le (unsigned_abs x) LARGEST_VALUE) refl e
         let same : y ≡ x = cc in
         rw same (grind (arith, nat_tests))
     by_test false is e = absurd (cc)
+
+-- a voltage, a current or a value of the control in its range
+abbrev pub IsSmall : ℤ → Type 0
+IsSmall x = unsigned_abs x ≤ LARGEST_VALUE
+
+pub in_range-within : (x : ℤ) → IfSome (in_range x) IsSmall
+in_range-within x = by (in_range x) refl
+  where
+    by : (o : Option ℤ) → in_range x ≡ o → IfSome o IsSmall
+    by None is = tt
+    by (Some y) is = in_range-small x y is
+
+-- what a chain gives, by what its first link gives
+pub chain-all : {A B : Type 0} (P : A → Type 0) (Q : B → Type 0) (o : Option A) (f : A → Option B) → IfSome o P → ((x : A) → P x → IfSome (f x) Q) → IfSome (o >>= f) Q
+chain-all P Q None f first next = tt
+chain-all P Q (Some x) f first next = next x first
+
+pub chain-any : {A B : Type 0} (Q : B → Type 0) (o : Option A) (f : A → Option B) → ((x : A) → IfSome (f x) Q) → IfSome (o >>= f) Q
+chain-any Q None f next = tt
+chain-any Q (Some x) f next = next x
+
+-- a number of a list in range, or 0 past its end
+pub item_small : (xs : List ℤ) (i : ℕ) → All IsSmall xs → IsSmall (item xs i)
+item_small [] i small = omega arith
+item_small (x ∷ xs) zero small = All-head IsSmall x xs small
+item_small (x ∷ xs) (suc i) small = item_small xs i (All-tail IsSmall x xs small)
 
 -- chains whose links agree agree
 pub chain-same : {A B : Type 0} {f g : A → Option B} (o : Option A) → ((x : A) → f x ≡ g x) → o >>= f ≡ o >>= g

@@ -1,3 +1,4 @@
+pub mod Chain
 pub mod Items
 pub mod Rounding
 pub mod Limit
