@@ -9,6 +9,7 @@ use Rattle.emtp_case.specs.declared.control.Bound.{Bound}
 use Rattle.emtp_case.specs.declared.control.Bound.TheVariants.{Fixed, Named, None as NoBound}
 use Rattle.emtp_case.specs.declared.control.Limiter.{Limiter}
 use Rattle.emtp_case.specs.declared.control.Limiter.TheVariants.{Free, AtHigh, AtLow}
+use Rattle.emtp_fix.specs.Limit.{is_within}
 use Rattle.emtp_fix.specs.Rounding.{near}
 use Rattle.emtp_case.specs.Sums.{sum_below}
 use Rattle.emtp_blocks.specs.declared.law.BlockLaw.{BlockLaw}
@@ -87,9 +88,6 @@ unlimited c AtLow h solved u = near (c *ℤ u) PICO +ℤ h
 -- u, the input of a block, from the sum s of its inputs
 abbrev pub input_of : Block → ℤ → ℤ
 input_of b s = near (b.gain *ℤ s) PICO
-
-abbrev pub is_within : ℕ → ℤ → Bool
-is_within limit z = nat_le (unsigned_abs z) limit
 
 abbrev pub each_within : ℕ → List ℤ → ℕ → Bool
 each_within limit xs zero = true

@@ -1,7 +1,7 @@
 use Rattle.std.proofs.Common.{◌≡◌, ◌^◌, sym, false, arith}
 use Rattle.std.proofs.lemmas.Bool.Decides.{nat_tests}
 use Rattle.emtp_elim.specs.Matrix.{item}
-use Rattle.emtp_blocks.specs.Block.{is_within}
+use Rattle.emtp_fix.specs.Limit.{is_within}
 use Rattle.emtp_blocks.proofs.Chains.{each_false}
 use Rattle.emtp_blocks.proofs.next.is_in_range.Goals as goal
 

@@ -4,7 +4,8 @@ use Rattle.std.proofs.lemmas.Int.{to_z-of_z}
 use Rattle.emtp_fix.proofs.Wide.{through, through_64}
 use Rattle.std.specs.Ordering.{int_eq}
 use Rattle.emtp_elim.specs.Matrix.{item}
-use Rattle.emtp_blocks.specs.Block.{error_of, past_output, input_of, output_of, limiter_for, is_within}
+use Rattle.emtp_fix.specs.Limit.{is_within}
+use Rattle.emtp_blocks.specs.Block.{error_of, past_output, input_of, output_of, limiter_for}
 use Rattle.emtp_blocks.proofs.NextStates.{next_is, next_none, moved_is, moved_kept, input_none, input_some, z_found, asked_alone}
 use Rattle.emtp_blocks.proofs.next.next.Goals as goal
 
