@@ -36,16 +36,27 @@ impl Trio {
 }
 
 impl Device {
-    /// How many past values a device needs at a time step in ps: the steps of a delay and one more, or the steps of a
-    /// period, one at least.
+    /// How many past values a device needs at a time step in ps, by its code and its number A.
     pub fn history_values(&self, dt: i64) -> u64
         requires dt { IsBetween 1000 (10 ^ 12) dt }
         requires a { HasRangeOfA self.now.code self.now.a }
         ensures { result ≡ device_history_values dt self.now.code self.now.a }
     {
-        match self.code {
-            DeviceCode::Delay | DeviceCode::DelayedPulse => delay_steps(dt, self.a) + 1,
-            DeviceCode::EffectiveValue => period_steps(dt, self.a),
+        self.code.history_values(self.a, dt)
+    }
+}
+
+impl DeviceCode {
+    /// How many past values a device of this code with the number A needs at a time step in ps: the steps of a delay, A in
+    /// ps, and one more, or the steps of a period, A in micro-hertz, one at least.
+    pub fn history_values(self, a: i64, dt: i64) -> u64
+        requires dt { IsBetween 1000 (10 ^ 12) dt }
+        requires a { HasRangeOfA self a }
+        ensures { result ≡ device_history_values dt self a }
+    {
+        match self {
+            DeviceCode::Delay | DeviceCode::DelayedPulse => delay_steps(dt, a) + 1,
+            DeviceCode::EffectiveValue => period_steps(dt, a),
             _ => 0,
         }
     }
