@@ -1,33 +1,15 @@
 -- The rows of nodes.
-use Rattle.std.proofs.Common.{◌≡◌, ◌≢◌, ◌∙◌, sym, ap, ℕ, ◌<◌, ◌≤◌, ◌==◌, ℤ, pos, ◌+ℤ◌, true, false, if◌then◌else◌, List, length, slice_index, slice_set, get_or-set_same, get_or-set_other, get_or, slice_get, Some, All, subst, refl, inl, inr, arith}
+use Rattle.std.proofs.Common.{◌≡◌, ◌≢◌, ◌∙◌, sym, ap, ℕ, ◌<◌, ◌==◌, ℤ, pos, ◌+ℤ◌, true, false, if◌then◌else◌, List, length, slice_set, get_or-set_same, get_or-set_other, slice_get, Some, All, subst, refl, inl, inr, arith}
 use Rattle.std.proofs.lemmas.Bool.{cases_eq}
 use Rattle.std.proofs.lemmas.Int.{ints}
-use Rattle.std.proofs.lemmas.Option.{get_or_from_slice_get, slice_get-get_or}
+use Rattle.std.proofs.lemmas.Option.{get_or_from_slice_get}
 use Rattle.emtp_case.specs.Branch.{IsBranch}
 use Rattle.emtp_case.specs.Sizes.{sizes_of}
 use Rattle.emtp_case.specs.declared.branch.Branch.{Branch}
 use Rattle.emtp_elim.specs.Matrix.{item}
-use Rattle.emtp_case.specs.RowOrder.{Rows, order_of}
 use Rattle.emtp_case.specs.declared.case.Parts.{Parts}
-use Rattle.emtp_case.proofs.NodeOrder.{length-order_of}
-use Rattle.emtp_net.specs.Fault.{IsNode}
 use Rattle.emtp_rows.specs.Nodal.{node_at}
-use Rattle.emtp_rows.proofs.Orders.{is_number, isnt_number, node_low}
-use Rattle.emtp_rows.proofs.TermSteps.{IsRowOf}
-
-pub order_size : (case : Parts) (order : Rows) → order ≡ order_of case → length order.nodes ≡ length case.nodes
-order_size case order is = ap (λ (o : Rows). length o.nodes) is ∙ length-order_of case
-
-pub order_at : (case : Parts) (order : Rows) (i : ℕ) → order ≡ order_of case → slice_index order.nodes i ≡ node_at case i
-order_at case order i is = ap (λ (o : Rows). slice_index o.nodes i) is
-
--- what row_of says, of the case
-pub row_read : (case : Parts) (order : Rows) (n row : ℕ) → order ≡ order_of case → row < length order.nodes → slice_index order.nodes row ≡ n → ((k : ℕ) → k < length order.nodes → slice_index order.nodes k ≡ n → k ≡ row) → IsRowOf case n row
-row_read case order n row is within there only = record {
-  within = omega (arith, within, order_size case order is);
-  there = sym (order_at case order row is) ∙ there;
-  only = λ k below e. only k (omega (arith, below, order_size case order is)) (order_at case order k is ∙ e);
-}
+use Rattle.emtp_case.proofs.RowsOfNodes.{is_number, isnt_number, node_low, IsRowOf}
 
 -- an amount in the row of a node
 pub node_set : (case : Parts) (out : List ℤ) (n row j : ℕ) (a : ℤ) → length out ≡ length case.nodes → IsRowOf case n row → j < length out → item (slice_set out row (item out row +ℤ a)) j ≡ item out j +ℤ (if n == node_at case j then a else pos 0)
@@ -54,10 +36,6 @@ ground_none case out j a long below =
     nothing : (x : ℤ) → x ≡ x +ℤ pos 0
     nothing x = omega (arith, ints)
 
--- the branch that an index read
-pub branch_read : (case : Parts) (bs : List Branch) (at : ℕ) (d x : Branch) → bs ≡ case.branches → at < length case.branches → get_or bs at d ≡ x → slice_get case.branches at ≡ Some x
-branch_read case bs at d x same there is = slice_get-get_or case.branches at d there ∙ ap (λ xs. Some (get_or xs at d)) (sym same) ∙ ap Some is
-
 -- the same of another value of the case
 pub branch_in : (held case : Parts) (at : ℕ) (x : Branch) → held ≡ case → slice_get case.branches at ≡ Some x → slice_get held.branches at ≡ Some x
 branch_in held case at x same is = ap (λ (p : Parts). slice_get p.branches at) same ∙ is
@@ -65,7 +43,3 @@ branch_in held case at x same is = ap (λ (p : Parts). slice_get p.branches at) 
 -- the branch at a place fits the case
 pub branch_fits : (case : Parts) (at : ℕ) (x : Branch) → All (IsBranch case.run (sizes_of case) case.points) case.branches → at < length case.branches → slice_get case.branches at ≡ Some x → IsBranch case.run (sizes_of case) case.points x
 branch_fits case at x all there is = subst (IsBranch case.run (sizes_of case) case.points) (get_or_from_slice_get case.branches at x x is) (all at x there)
-
--- what node_at says, of the case
-pub row_node : (case : Parts) (order : Rows) (node : ℕ) → order ≡ order_of case → 1 ≤ node → node ≤ length order.nodes → IsNode case node
-row_node case order node is low high = record { low = low; high = omega (arith, high, order_size case order is) }

@@ -11,7 +11,7 @@ use Rattle.emtp_case.specs.declared.switch.SwitchState.{SwitchState}
 use Rattle.emtp_elim.specs.Matrix.{item}
 use Rattle.emtp_elim.specs.Outcome.{is_within}
 use Rattle.emtp_fix.specs.declared.limit.TheConstants.{LARGEST_VALUE}
-use Rattle.emtp_rows.proofs.Orders.{fixed_within}
+use Rattle.emtp_case.proofs.RowsOfNodes.{fixed_within}
 use Rattle.emtp_switch.specs.Currents.{IsFirstBeyond, bridge_current, contains, currents_of}
 use Rattle.emtp_switch.specs.Groups.{bridges_of, tied_of}
 use Rattle.emtp_switch.specs.Kinds as switched

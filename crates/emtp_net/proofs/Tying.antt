@@ -7,10 +7,10 @@ use Rattle.emtp_elim.specs.declared.fault.PlainFault.{PlainFault}
 use Rattle.emtp_elim.specs.declared.fault.PlainFault.TheVariants.{NoMemory, Row, Solve}
 use Rattle.emtp_elim.specs.declared.fault.RowCause.{RowCause}
 use Rattle.emtp_elim.specs.declared.fault.RowCause.TheVariants.{Range as RowRange, ZeroPivot as RowPivot}
-use Rattle.emtp_net.specs.Part.{NetworkPart, first_out, name_of_branch, part_at, voltages_of}
+use Rattle.emtp_net.specs.Part.{NetworkPart, first_out, node_of_branch, part_at, voltages_of}
 use Rattle.emtp_net.specs.Residual.{residual_of}
 use Rattle.emtp_net.specs.Stages.{IsUntied}
-use Rattle.emtp_net.specs.Step.{◌>>=◌, balanced, fault_by, first_beyond, first_unbalanced, moved, name_of_switch, named, network_part, solution, switched, unless}
+use Rattle.emtp_net.specs.Step.{◌>>=◌, balanced, fault_by, first_beyond, first_unbalanced, moved, node_of_switch, named, network_part, solution, switched, unless}
 use Rattle.emtp_net.specs.System.{matrix, right}
 use Rattle.emtp_net.specs.declared.fault.NetFault.{NetFault}
 use Rattle.emtp_net.specs.declared.fault.NetFault.TheVariants.{Range, Residual, Tied, ZeroPivot}
@@ -48,10 +48,10 @@ later_named case (Err NoMemory) = tt
 later : (case : Parts) (H : List StepRecord) → IsUntied case H → EndsLater (network_part case H)
 unfolding network_part
 later case H free =
-    subst (λ o. EndsLater (unless o (λ s. Tied (name_of_switch case s)) tt >>= (λ none. solution case H >>= (λ x. moved case H (voltages_of case x) >>= (λ part. switched case part >>= (λ within. balanced case H within)))))) (sym free)
+    subst (λ o. EndsLater (unless o (λ s. Tied (node_of_switch case s)) tt >>= (λ none. solution case H >>= (λ x. moved case H (voltages_of case x) >>= (λ part. switched case part >>= (λ within. balanced case H within)))))) (sym free)
     (later_bind (solution case H) (λ x. moved case H (voltages_of case x) >>= (λ part. switched case part >>= (λ within. balanced case H within))) (later_named case (outcome (matrix case H) (right case H)))
-    (λ x. later_bind (moved case H (voltages_of case x)) (λ part. switched case part >>= (λ within. balanced case H within)) (later_unless (first_out case H (voltages_of case x)) (λ b. Range (name_of_branch case b)) (part_at case H (voltages_of case x)) (λ n. tt))
-    (λ part. later_bind (switched case part) (λ within. balanced case H within) (later_unless (first_beyond part.switch_currents) (λ s. Range (name_of_switch case s)) part (λ n. tt))
+    (λ x. later_bind (moved case H (voltages_of case x)) (λ part. switched case part >>= (λ within. balanced case H within)) (later_unless (first_out case H (voltages_of case x)) (λ b. Range (node_of_branch case b)) (part_at case H (voltages_of case x)) (λ n. tt))
+    (λ part. later_bind (switched case part) (λ within. balanced case H within) (later_unless (first_beyond part.switch_currents) (λ s. Range (node_of_switch case s)) part (λ n. tt))
     (λ within. later_unless (first_unbalanced case H within.branches) (λ i. Residual (node_at case i) (pos (residual_of case H within.branches i))) within (λ n. tt)))))
 
 -- where no two known voltages are tied, no step ends so

@@ -1,13 +1,9 @@
 -- What a fault names.
-use Rattle.std.specs.Prelude.{◌≤◌, ◌≤ℤ◌, ℕ, ℤ, pos, length}
+use Rattle.std.specs.Prelude.{◌≤ℤ◌, ℕ, ℤ, pos}
+pub use Rattle.emtp_case.specs.EndNames.{IsNode}
 use Rattle.emtp_case.specs.declared.case.Parts.{Parts}
 use Rattle.emtp_net.specs.declared.fault.NetFault.{NetFault}
 use Rattle.emtp_net.specs.declared.fault.NetFault.TheVariants.{Range, Residual, Tied, ZeroPivot}
-
--- a node of the case
-pub record IsNode (case : Parts) (node : ℕ) : Type 0 where
-  pub low : 1 ≤ node
-  pub high : node ≤ length case.nodes
 
 -- a node with a magnitude measured there
 pub record HasMeasure (case : Parts) (node : ℕ) (measured : ℤ) : Type 0 where

@@ -1,8 +1,8 @@
 -- The network's part of a record, and how the voltages make it.
 use Rattle.std.specs.List.{position, range_with_len}
-use Rattle.std.specs.Prelude.{ℕ, ◌==◌, ℤ, pos, neg_ℤ, ◌+ℤ◌, ◌-ℤ◌, if◌then◌else◌, Bool, true, false, List, [], ◌∷◌, length, map, slice_get, slice_index, Option, Some, None, is_none, option_map, unwrap_or}
+use Rattle.std.specs.Prelude.{ℕ, ℤ, pos, neg_ℤ, ◌+ℤ◌, ◌-ℤ◌, Bool, true, false, List, [], ◌∷◌, length, map, slice_get, Option, Some, None, is_none, option_map, unwrap_or}
 use Rattle.emtp_elim.specs.Matrix.{item, list_of}
-use Rattle.emtp_case.specs.Branch.{from_of, to_of}
+pub use Rattle.emtp_case.specs.EndNames.{node_of_branch}
 use Rattle.emtp_case.specs.RowOrder.{order_of}
 use Rattle.emtp_case.specs.StepRecord.{StepRecord, BranchState, LumpedBranch, LineBranch, PseudoBranch, PhaseBranch, no_lumped}
 use Rattle.emtp_case.specs.declared.branch.Branch.{Branch}
@@ -101,12 +101,3 @@ part_at case H vs = record {
   switch_states = next_states case H;
   switch_currents = switch_currents_at case H (states_at case H vs);
 }
-
--- ---- names of faults
-
--- a branch is named by its `from`, or by its `to` where `from` is ground
-abbrev pub named_end : ℕ → ℕ → ℕ
-named_end «from» to = if «from» == 0 then to else «from»
-
-abbrev pub name_of_branch : Parts → ℕ → ℕ
-name_of_branch case b = slice_index (map (λ (x : Branch). named_end (from_of x) (to_of x)) case.branches) b

@@ -1,11 +1,11 @@
 -- One step of the network: its part of the next record, or the first fault in this order. Two known voltages are tied;
 -- the elimination ends in a fault; a branch, then a switch, leaves its range; a residual exceeds the tolerance.
 use Rattle.std.specs.List.{position, range_with_len}
-use Rattle.std.specs.Prelude.{ℕ, ℤ, pos, unsigned_abs, nat_lt, not, List, length, map, slice_index, Option, Some, None, Result, Ok, Err}
+use Rattle.std.specs.Prelude.{ℕ, ℤ, pos, unsigned_abs, nat_lt, not, List, length, Option, Some, None, Result, Ok, Err}
+pub use Rattle.emtp_case.specs.EndNames.{node_of_switch}
 use Rattle.emtp_case.specs.RowOrder.{order_of}
 use Rattle.emtp_case.specs.StepRecord.{BranchState, StepRecord}
 use Rattle.emtp_case.specs.declared.case.Parts.{Parts}
-use Rattle.emtp_case.specs.declared.switch.Switch.{Switch}
 use Rattle.emtp_elim.specs.Outcome.{is_within, outcome}
 use Rattle.emtp_elim.specs.declared.fault.PlainFault.{PlainFault}
 use Rattle.emtp_elim.specs.declared.fault.PlainFault.TheVariants.{NoMemory, Row, Solve}
@@ -16,7 +16,7 @@ use Rattle.emtp_fix.specs.declared.limit.TheConstants.{LARGEST_VALUE}
 use Rattle.emtp_rows.specs.Nodal.{node_at}
 use Rattle.emtp_switch.specs.Groups.{tied_of}
 use Rattle.emtp_switch.specs.States.{next_states}
-use Rattle.emtp_net.specs.Part.{NetworkPart, first_out, name_of_branch, named_end, part_at, voltages_of}
+use Rattle.emtp_net.specs.Part.{NetworkPart, first_out, node_of_branch, part_at, voltages_of}
 use Rattle.emtp_net.specs.Residual.{residual_of}
 use Rattle.emtp_net.specs.System.{matrix, right}
 use Rattle.emtp_net.specs.declared.fault.NetFault.{NetFault}
@@ -33,13 +33,9 @@ abbrev pub unless : {A : Type 0} → Option ℕ → (ℕ → NetFault) → A →
 unless None fault x = Ok x
 unless (Some at) fault x = Err (fault at)
 
--- a switch is named like a branch
-abbrev pub name_of_switch : Parts → ℕ → ℕ
-name_of_switch case s = slice_index (map (λ (x : Switch). named_end x.from x.to) case.switches) s
-
 -- the switches of the next step tie no two known voltages
 abbrev pub untied : Parts → List StepRecord → Result (Unit {0}) NetFault
-untied case H = unless (tied_of case.switches (order_of case) (next_states case H)) (λ s. Tied (name_of_switch case s)) tt
+untied case H = unless (tied_of case.switches (order_of case) (next_states case H)) (λ s. Tied (node_of_switch case s)) tt
 
 -- a fault of the elimination is named by its row's node
 abbrev pub fault_by : RowCause → ℕ → NetFault
@@ -61,14 +57,14 @@ solution case H = named case (outcome (matrix case H) (right case H))
 
 -- the branches and switch currents at these voltages, or the first branch out of range
 abbrev pub moved : Parts → List StepRecord → List ℤ → Result NetworkPart NetFault
-moved case H vs = unless (first_out case H vs) (λ b. Range (name_of_branch case b)) (part_at case H vs)
+moved case H vs = unless (first_out case H vs) (λ b. Range (node_of_branch case b)) (part_at case H vs)
 
 -- the first switch whose current is out of range
 abbrev pub first_beyond : List ℤ → Option ℕ
 first_beyond currents = position (λ s. not (is_within LARGEST_VALUE (item currents s))) (range_with_len 0 (length currents))
 
 abbrev pub switched : Parts → NetworkPart → Result NetworkPart NetFault
-switched case part = unless (first_beyond part.switch_currents) (λ s. Range (name_of_switch case s)) part
+switched case part = unless (first_beyond part.switch_currents) (λ s. Range (node_of_switch case s)) part
 
 -- the first row whose residual exceeds the tolerance
 abbrev pub first_unbalanced : Parts → List StepRecord → List BranchState → Option ℕ

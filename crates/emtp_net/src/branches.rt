@@ -12,8 +12,7 @@ ghost use Rattle.emtp_net.specs.Part.{brought_by, phase_voltages};
 ghost use Rattle.emtp_net.specs.System.{conductance_by, history_at, taken, through};
 
 use crate::fault::NetFault;
-use crate::names::branch_name;
-use emtp_case::{Branch, Case};
+use emtp_case::{Branch, Case, branch_name};
 use emtp_line::Lines;
 use emtp_lumped::Lumps;
 use emtp_pseudo::Pseudos;

@@ -19,11 +19,10 @@ ghost use Rattle.emtp_switch.specs.Switching.{AreLatest, StandsFor as SwitchesSt
 
 use crate::branches::Branches;
 use crate::fault::NetFault;
-use crate::names::switch_name;
 use crate::residual::{fill_leaving, judge};
 use crate::right::{fill_right, fill_values, places_of};
 use crate::voltages::fill_voltages;
-use emtp_case::{Case, RowKind, RowOrder};
+use emtp_case::{Case, RowKind, RowOrder, switch_name};
 use emtp_rows::NetRows;
 use emtp_switch::Switches;
 use emtp_tail::Kept;

@@ -1,5 +1,5 @@
 use Rattle.std.proofs.Common.{arith}
-use Rattle.emtp_net.proofs.Nodes.{order_size, row_node}
+use Rattle.emtp_case.proofs.RowsOfNodes.{order_size, row_node}
 use Rattle.emtp_net.proofs.names.row_fault.Goals as goal
 
 pub node_at-node-requires : goal.node_at-node-requires

@@ -1,7 +1,8 @@
 use Rattle.std.proofs.Common.{◌≡◌, ◌<◌, length, to_z, of_z, arith}
 use mir.Syntax.{w128}
 use Rattle.std.proofs.lemmas.Int.{ints}
-use Rattle.emtp_net.proofs.Nodes.{order_size, row_read, node_set, ground_none}
+use Rattle.emtp_case.proofs.RowsOfNodes.{order_size, row_read}
+use Rattle.emtp_net.proofs.Nodes.{node_set, ground_none}
 use Rattle.emtp_net.proofs.sums.add_at.Goals as goal
 
 pub row_of-row-requires-clause-high : goal.row_of-row-requires-clause-high

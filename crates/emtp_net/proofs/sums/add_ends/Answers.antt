@@ -2,7 +2,7 @@ use Rattle.std.proofs.Common.{◌≡◌, ap, refl, to_z, of_z, ℕ, arith}
 use mir.Syntax.{w128}
 use Rattle.std.proofs.lemmas.Int.{ints}
 use Rattle.emtp_rows.specs.Nodal.{node_at}
-use Rattle.emtp_net.proofs.Nodes.{branch_read}
+use Rattle.emtp_case.proofs.RowsOfNodes.{branch_read}
 use Rattle.emtp_net.proofs.Ends.{at_node_read}
 use Rattle.emtp_net.proofs.sums.add_ends.Goals as goal
 

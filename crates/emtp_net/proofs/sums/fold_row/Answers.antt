@@ -7,7 +7,7 @@ use Rattle.emtp_case.specs.declared.row_kind.RowKind.TheVariants.{Ground, Kcl}
 use Rattle.emtp_elim.specs.Matrix.{item}
 use Rattle.emtp_fix.proofs.Wide.{through}
 use Rattle.emtp_net.proofs.Folding.{tie_is_plain}
-use Rattle.emtp_rows.proofs.Orders.{is_number, isnt_number}
+use Rattle.emtp_case.proofs.RowsOfNodes.{is_number, isnt_number}
 use Rattle.emtp_rows.specs.Nodal.{kind_at}
 use Rattle.emtp_rows.specs.Touched.{tied_row}
 use Rattle.emtp_net.proofs.sums.fold_row.Goals as goal

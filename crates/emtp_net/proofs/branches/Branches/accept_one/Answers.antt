@@ -7,7 +7,8 @@ use Rattle.emtp_case.specs.declared.branch.Branch.TheVariants.{Lumped as OfLumpe
 use Rattle.emtp_case.specs.declared.case.Parts.{Parts}
 use Rattle.emtp_elim.specs.Matrix.{item}
 use Rattle.emtp_net.proofs.Moves.{line_moves, line_stops, lumped_moves, lumped_stops, phase_read, pseudo_moves, pseudo_stops}
-use Rattle.emtp_net.proofs.Nodes.{branch_fits, branch_in, branch_read}
+use Rattle.emtp_case.proofs.RowsOfNodes.{branch_read}
+use Rattle.emtp_net.proofs.Nodes.{branch_fits, branch_in}
 use Rattle.emtp_net.proofs.PhaseMoves.{phase_waits, trio_moves, trio_stops}
 use Rattle.emtp_rows.proofs.Phases.{phase_there}
 use Rattle.emtp_net.proofs.branches.Branches.accept_one.Goals as goal

@@ -12,7 +12,8 @@ use Rattle.emtp_line.specs.Lines as lined
 use Rattle.emtp_line.specs.Mode.{mode_of_line}
 use Rattle.emtp_net.proofs.Bringing.{line_brings, lumped_brings, phase_brings, pseudo_brings}
 use Rattle.emtp_net.proofs.Moves.{phase_read}
-use Rattle.emtp_net.proofs.Nodes.{branch_fits, branch_in, branch_read}
+use Rattle.emtp_case.proofs.RowsOfNodes.{branch_read}
+use Rattle.emtp_net.proofs.Nodes.{branch_fits, branch_in}
 use Rattle.emtp_net.proofs.PhaseMoves.{phase_next}
 use Rattle.emtp_net.specs.System.{taken, through}
 use Rattle.emtp_net.specs.Part.{state_by}

@@ -9,7 +9,8 @@ use Rattle.emtp_line.specs.Phases.{modes_of, own_conductance}
 use Rattle.emtp_lumped.specs.Companion.{companion_of}
 use Rattle.emtp_pseudo.specs.Pseudos as pseudo
 use Rattle.emtp_net.specs.System.{conductance_by}
-use Rattle.emtp_net.proofs.Nodes.{branch_in, branch_read}
+use Rattle.emtp_case.proofs.RowsOfNodes.{branch_read}
+use Rattle.emtp_net.proofs.Nodes.{branch_in}
 use Rattle.emtp_net.proofs.branches.Branches.conductance.Goals as goal
 
 pub returns-in-Lumped-clause-value : goal.returns-in-Lumped-clause-value

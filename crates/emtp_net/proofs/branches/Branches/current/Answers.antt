@@ -9,7 +9,8 @@ use Rattle.emtp_case.specs.declared.case.Parts.{Parts}
 use Rattle.emtp_elim.specs.Matrix.{item}
 use Rattle.emtp_line.specs.Lines as lined
 use Rattle.emtp_net.proofs.Moves.{phase_read}
-use Rattle.emtp_net.proofs.Nodes.{branch_fits, branch_in, branch_read}
+use Rattle.emtp_case.proofs.RowsOfNodes.{branch_read}
+use Rattle.emtp_net.proofs.Nodes.{branch_fits, branch_in}
 use Rattle.emtp_net.proofs.branches.Branches.current.Goals as goal
 
 pub returns-in-Lumped : goal.returns-in-Lumped

@@ -12,7 +12,8 @@ use Rattle.emtp_lumped.specs.Lumps as lumped
 use Rattle.emtp_lumped.specs.Step.{history_current_of}
 use Rattle.emtp_pseudo.specs.Pseudos as pseudo
 use Rattle.emtp_net.specs.System.{history_by, taken, through}
-use Rattle.emtp_net.proofs.Nodes.{branch_fits, branch_in, branch_read}
+use Rattle.emtp_case.proofs.RowsOfNodes.{branch_read}
+use Rattle.emtp_net.proofs.Nodes.{branch_fits, branch_in}
 use Rattle.emtp_net.proofs.branches.Branches.history.Goals as goal
 
 pub returns-in-Lumped-clause-value : goal.returns-in-Lumped-clause-value

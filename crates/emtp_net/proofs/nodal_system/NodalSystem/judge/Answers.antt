@@ -3,7 +3,7 @@ use mir.Syntax.{w128}
 use Rattle.std.proofs.lemmas.Int.{to_z-of_z}
 use Rattle.emtp_net.specs.Part.{states_at}
 use Rattle.emtp_net.proofs.Ending.{residual_ends}
-use Rattle.emtp_net.proofs.Nodes.{order_at, order_size, row_node}
+use Rattle.emtp_case.proofs.RowsOfNodes.{order_at, order_size, row_node}
 use Rattle.emtp_net.proofs.nodal_system.NodalSystem.judge.Goals as goal
 
 pub node_at-requires : goal.node_at-requires

@@ -6,7 +6,7 @@ use Rattle.emtp_net.specs.System.{matrix, right}
 use Rattle.emtp_fix.specs.declared.limit.TheConstants.{LARGEST_VALUE}
 use Rattle.emtp_net.proofs.Ending.{solve_ends}
 use Rattle.emtp_net.proofs.NodeVoltages.{voltages_small}
-use Rattle.emtp_net.proofs.Nodes.{order_at, order_size, row_node}
+use Rattle.emtp_case.proofs.RowsOfNodes.{order_at, order_size, row_node}
 use Rattle.emtp_net.proofs.nodal_system.NodalSystem.solve.Goals as goal
 
 pub node_at-requires : goal.node_at-requires
