@@ -3,7 +3,7 @@ use Rattle.std.proofs.Common.{◌≡◌, ℕ, ◌∷◌, ℤ, List, [], refl, ap
 use Rattle.emtp_case.specs.StepRecord.{StepRecord, latest, record_back}
 use Rattle.emtp_case.specs.declared.case.Parts.{Parts}
 use Rattle.emtp_case.specs.declared.switch.SwitchState.{SwitchState}
-use Rattle.emtp_switch.specs.Currents.{item}
+use Rattle.emtp_fix.specs.Items.{item}
 use Rattle.emtp_switch.specs.States.{next_states}
 use Rattle.emtp_switch.specs.Switching.{AreKept, AreLatest}
 

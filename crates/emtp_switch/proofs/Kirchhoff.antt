@@ -9,7 +9,9 @@ use Rattle.emtp_case.proofs.RowTables.{nodes_apart, nodes_within}
 use Rattle.emtp_case.specs.RowOrder.{Rows}
 use Rattle.emtp_case.specs.declared.case.Parts.{Parts}
 use Rattle.emtp_case.specs.declared.switch.SwitchState.{SwitchState}
-use Rattle.emtp_switch.specs.Currents.{Balances, item, leaving_by, total}
+use Rattle.emtp_case.specs.Sums.{sum_below}
+use Rattle.emtp_fix.specs.Items.{item}
+use Rattle.emtp_switch.specs.Currents.{Balances, leaving_by}
 use Rattle.emtp_switch.specs.Grouping.{AreTree}
 use Rattle.emtp_switch.specs.Groups.{alone, closed_switches, from_at, root_of, to_at}
 use Rattle.emtp_switch.specs.Plan.{IsPlan}
@@ -17,7 +19,7 @@ use Rattle.emtp_switch.specs.Tree.{HasEnds, side_total, link_at}
 use Rattle.emtp_switch.specs.declared.plan.Plan.{Plan}
 use Rattle.emtp_switch.specs.declared.sweep.Link.{Link}
 use Rattle.emtp_switch.proofs.Finding.{groups-bridges}
-use Rattle.emtp_switch.proofs.Flows.{total-none, total-one}
+use Rattle.emtp_switch.proofs.Flows.{sum_below-none, sum_below-one}
 use Rattle.emtp_switch.proofs.Plans.{once_each}
 
 -- a side of one place
@@ -28,9 +30,9 @@ held_one : (rest : List ℤ) (row : ℕ) → row < length rest → side_total (o
 held_one rest row inside =
     let f : ℕ → ℤ = λ p. pos 0 in
     let g : ℕ → ℤ = λ p. if p == row then item rest p else pos 0 in
-    let none : total (length rest) f ≡ pos 0 = total-none (length rest) f (λ p below. refl) in
+    let none : sum_below (length rest) f ≡ pos 0 = sum_below-none (length rest) f (λ p below. refl) in
     let own : g row ≡ item rest row = cond-true (row == row) (item rest row) (pos 0) (eq-eqb row row refl) in
-    let one = total-one (length rest) row f g (item rest row) inside (omega (arith, ints, own)) (λ p below ne. cond-false (p == row) (item rest p) (pos 0) (ne_eqb p row ne)) in
+    let one = sum_below-one (length rest) row f g (item rest row) inside (omega (arith, ints, own)) (λ p below ne. cond-false (p == row) (item rest p) (pos 0) (ne_eqb p row ne)) in
     omega (arith, ints, one, none)
 
 -- a place is that of a node exactly where their nodes are one
@@ -72,7 +74,7 @@ ends_at p rows plan states links is tree row in_row =
 
 pub balances : (p : Parts) (rows : Rows) (plan : Plan) (states : List SwitchState) (links : List Link) (leaving first rest flows : List ℤ) (n : ℕ) → IsPlan p rows plan → AreTree p.switches rows states links
     → length rows.nodes ≡ length leaving → length p.switches ≡ n → first ≡ leaving ++ pos 0 ∷ [] → length rest ≡ length first
-    → ((side from_in to_in : ℕ → Bool) → HasEnds links side from_in to_in → side_total side rest ≡ side_total side first +ℤ total n (λ s. leaving_by (from_in s) (to_in s) (item flows s)))
+    → ((side from_in to_in : ℕ → Bool) → HasEnds links side from_in to_in → side_total side rest ≡ side_total side first +ℤ sum_below n (λ s. leaving_by (from_in s) (to_in s) (item flows s)))
     → ((j : ℕ) → j < length links → item rest (link_at links j).leaf ≡ pos 0)
     → Balances p.switches rows states leaving flows
 balances p rows plan states links leaving first rest flows n is tree size count first_is same balanced cleared = λ row in_row other.
@@ -83,6 +85,6 @@ balances p rows plan states links leaving first rest flows n is tree size count 
     let in_first : row < length first = omega (arith, ap length first_is, length_push leaving (pos 0), size) in
     let at_first : item first row ≡ item leaving row = ap (λ l. item l row) first_is ∙ get_or_append_left leaving (pos 0 ∷ []) (pos 0) row (omega (arith, size)) in
     let f : ℕ → ℤ = λ s. leaving_by (from_at sw s == node) (to_at sw s == node) (item flows s) in
-    let sum : side_total (one_place row) rest ≡ side_total (one_place row) first +ℤ total n f = balanced (one_place row) (λ s. from_at sw s == node) (λ s. to_at sw s == node) (ends_at p rows plan states links is tree row in_row) in
-    let all : total (length sw) f ≡ total n f = ap (λ (k : ℕ). total k f) count in
+    let sum : side_total (one_place row) rest ≡ side_total (one_place row) first +ℤ sum_below n f = balanced (one_place row) (λ s. from_at sw s == node) (λ s. to_at sw s == node) (ends_at p rows plan states links is tree row in_row) in
+    let all : sum_below (length sw) f ≡ sum_below n f = ap (λ (k : ℕ). sum_below k f) count in
     omega (arith, ints, held_one rest row (omega (arith, same)), held_one first row in_first, nothing, at_first, sum, all)

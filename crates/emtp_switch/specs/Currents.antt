@@ -2,23 +2,17 @@
 use Rattle.emtp_case.specs.RowOrder.{Rows}
 use Rattle.emtp_case.specs.declared.switch.Switch.{Switch}
 use Rattle.emtp_case.specs.declared.switch.SwitchState.{SwitchState}
+use Rattle.emtp_case.specs.Sums.{sum_below}
+use Rattle.emtp_fix.specs.Items.{item}
 use Rattle.emtp_fix.specs.declared.limit.TheConstants.{LARGEST_VALUE}
 use Rattle.emtp_switch.specs.Groups.{alone, bridges_of, from_at, groups, labels_of, root_of, to_at}
 use Rattle.std.specs.List.{filter, list_any, range_with_len}
-use Rattle.std.specs.Prelude.{◌≡◌, ◌≢◌, ◌<◌, ◌≤◌, ◌==◌, ◌+ℤ◌, ◌-ℤ◌, zero, suc, if◌then◌else◌, Bool, List, length, map, neg_ℤ, not, pos, slice_index, slice_index_or, unsigned_abs, ℕ, ℤ}
-
-abbrev pub item : List ℤ → ℕ → ℤ
-item xs i = slice_index_or xs i (pos 0)
-
--- the sum of what f gives below n
-abbrev pub total : ℕ → (ℕ → ℤ) → ℤ
-total zero f = pos 0
-total (suc n) f = total n f +ℤ f n
+use Rattle.std.specs.Prelude.{◌≡◌, ◌≢◌, ◌<◌, ◌≤◌, ◌==◌, ◌+ℤ◌, ◌-ℤ◌, if◌then◌else◌, Bool, List, length, map, neg_ℤ, not, pos, slice_index, unsigned_abs, ℕ, ℤ}
 
 -- what leaves the nodes that have a label, where what leaves each node goes by row
 abbrev pub leaving_side : Rows → List ℕ → ℕ → List ℤ → ℤ
 leaving_side rows labels l leaving =
-    total (length rows.nodes) (λ row. if slice_index labels (slice_index rows.nodes row) == l then item leaving row else pos 0)
+    sum_below (length rows.nodes) (λ row. if slice_index labels (slice_index rows.nodes row) == l then item leaving row else pos 0)
 
 -- the current from one end to the other, by labels that part the ends: what leaves the side without the root
 abbrev pub crossing : Rows → List ℕ → ℕ → ℕ → ℕ → List ℤ → ℤ
@@ -61,7 +55,7 @@ leaving_by from_in to_in i = (if from_in then i else pos 0) -ℤ (if to_in then 
 -- the current that leaves a node through all switches
 abbrev pub through_switches : List Switch → List ℤ → ℕ → ℤ
 through_switches switches currents node =
-    total (length switches) (λ s. leaving_by (from_at switches s == node) (to_at switches s == node) (item currents s))
+    sum_below (length switches) (λ s. leaving_by (from_at switches s == node) (to_at switches s == node) (item currents s))
 
 -- At each node but the roots, what leaves it through branches and what leaves it through switches cancel. A root with a
 -- known voltage takes what is left of its group; one without has its row to make it 0.

@@ -3,7 +3,7 @@ use Rattle.emtp_case.specs.RowOrder.{Rows}
 use Rattle.emtp_case.specs.StepRecord.{StepRecord, latest, record_back}
 use Rattle.emtp_case.specs.declared.case.Parts.{Parts}
 use Rattle.emtp_case.specs.declared.switch.SwitchState.{SwitchState}
-use Rattle.emtp_switch.specs.Currents.{item}
+use Rattle.emtp_fix.specs.Items.{item}
 use Rattle.emtp_switch.specs.Grouping.{AreGroups}
 use Rattle.emtp_switch.specs.Plan.{IsPlan}
 use Rattle.emtp_switch.specs.declared.groups.Groups.{Groups}

@@ -7,7 +7,7 @@ use Rattle.emtp_case.specs.StepRecord.{latest}
 use Rattle.emtp_case.specs.declared.switch.Switch.{Switch}
 use Rattle.emtp_fix.proofs.Wide.{through_64}
 use Rattle.emtp_switch.specs.Groups.{state_at, switch_at}
-use Rattle.emtp_switch.specs.Currents.{item}
+use Rattle.emtp_fix.specs.Items.{item}
 use Rattle.emtp_switch.specs.States.{state_after, view_of}
 use Rattle.emtp_switch.specs.Switching.{AreKept, AreLatest}
 use Rattle.emtp_switch.specs.declared.states.View.{View}

@@ -3,7 +3,7 @@ use mir.Syntax.{w64}
 use Rattle.std.proofs.lemmas.Int.{fits_signed_from_abs, to_z-of_z}
 use Rattle.emtp_fix.specs.declared.limit.TheConstants.{LARGEST_VALUE}
 use Rattle.emtp_fix.proofs.Wide.{abs-sub-le, through_64}
-use Rattle.emtp_switch.specs.Currents.{item}
+use Rattle.emtp_fix.specs.Items.{item}
 use Rattle.emtp_switch.proofs.states.view_of.Goals as goal
 
 -- the difference of two values fits

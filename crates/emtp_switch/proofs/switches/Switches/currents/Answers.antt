@@ -1,7 +1,8 @@
 use Rattle.std.proofs.Common.{◌≡◌, ◌++◌, ◌∷◌, [], pos, length, take, IfErr, IfOk, Result, Ok, Err, ap, sym, ◌∙◌, subst, arith}
 use Rattle.std.specs.Vec.{with_items}
 use Rattle.std.proofs.lemmas.List.{with_items_is}
-use Rattle.emtp_switch.specs.Currents.{Balances, IsFirstBeyond, currents_of, item}
+use Rattle.emtp_fix.specs.Items.{item}
+use Rattle.emtp_switch.specs.Currents.{Balances, IsFirstBeyond, currents_of}
 use Rattle.emtp_switch.specs.Grouping.{AreTree}
 use Rattle.emtp_switch.specs.Switching.{Switching}
 use Rattle.emtp_switch.specs.declared.currents.SwitchRange.{SwitchRange}

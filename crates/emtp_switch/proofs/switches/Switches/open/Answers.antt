@@ -2,7 +2,7 @@ use Rattle.std.proofs.Common.{◌∙◌, ap, length, pos, refl, subst, sym, arit
 use Rattle.std.proofs.lemmas.List.{get_or-replicate, length-map, length-replicate}
 use Rattle.std.proofs.lemmas.Result.{IfOk-from_err}
 use Rattle.emtp_case.specs.RowOrder.{Rows}
-use Rattle.emtp_switch.specs.Currents.{item}
+use Rattle.emtp_fix.specs.Items.{item}
 use Rattle.emtp_switch.specs.Grouping.{AreGroups}
 use Rattle.emtp_switch.specs.Plan.{IsPlan}
 use Rattle.emtp_switch.proofs.switches.Switches.open.Goals as goal
