@@ -1,10 +1,11 @@
 //! What is true of switches in the field's own words. The functions do nothing: their clauses are proved.
 
-ghost use Rattle.std.specs.Prelude.{◌≡◌, ◌↔◌, ℕ, IsSome, List, length, map, true};
+ghost use Rattle.std.specs.Prelude.{◌≡◌, ◌↔◌, ℕ, ℤ, IsSome, List, length, map, true};
 ghost use Rattle.std.specs.List.Sorted.{IsPermutation};
 ghost use Rattle.emtp_case.specs.RowOrder.{IsRowOrder};
 ghost use Rattle.emtp_case.specs.StepRecord.{StepRecord, latest, switch_state_at};
 ghost use Rattle.emtp_case.specs.Switch.{is_time_switch};
+ghost use Rattle.emtp_switch.specs.Currents.{Balances, RootsBalance, currents_of};
 ghost use Rattle.emtp_switch.specs.Groups.{KnownMeet, alone, closed_switches, groups, labels_of, switch_at, tied_of};
 ghost use Rattle.emtp_switch.specs.Kinds.{kind_of, kinds_of};
 ghost use Rattle.emtp_switch.specs.States.{MovesOn, next_state};
@@ -30,4 +31,14 @@ pub fn breaker_goes_one_way(case: &Case, switch: usize)
 pub fn tied_where_known_voltages_meet(case: &Case, order: &RowOrder, states: &[SwitchState])
     requires order { IsRowOrder case.now.parts order.now }
     ensures { IsSome (tied_of case.now.parts.switches order.now states.now) ↔ KnownMeet order.now (labels_of case.now.parts.switches order.now states.now) }
+{}
+
+/// Kirchhoff's law at the nodes that closed switches join, whatever currents leave them through branches: at each node but the
+/// root of its group, what leaves through branches and what leaves through switches cancel to the last digit; a root takes
+/// what leaves its whole group through branches.
+pub fn switch_currents_balance(case: &Case, order: &RowOrder, states: &[SwitchState])
+    requires order { IsRowOrder case.now.parts order.now }
+    requires states { length states.now ≡ length case.now.parts.switches }
+    ensures nodes { (leaving : List ℤ) → length leaving ≡ length order.now.nodes → Balances case.now.parts.switches order.now states.now leaving (currents_of case.now.parts.switches order.now states.now leaving) }
+    ensures roots { (leaving : List ℤ) → length leaving ≡ length order.now.nodes → RootsBalance case.now.parts.switches order.now states.now leaving (currents_of case.now.parts.switches order.now states.now leaving) }
 {}

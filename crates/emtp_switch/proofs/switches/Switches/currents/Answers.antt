@@ -71,7 +71,7 @@ they_balance c =
     let s = c.self.inside in
     let has = has_swept c in
     subst (λ (x : Switching). Balances x.case.switches x.rows x.states c.args.leaving.now c.sweep.new.flows) c.self.view_is
-    (balances s.case.now.parts s.order s.plan s.states.items (take s.groups.link_count c.deref.result.now) c.args.leaving.now c.deref_mut-3.result.now c.sweep.new.rest c.sweep.new.flows (length c.deref_mut-4.result.now) c.self.invariant.plan_is has.tree has.rows_count (omega (arith, has.switches_count))
+    (balances s.case.now.parts s.order s.states.items (take s.groups.link_count c.deref.result.now) c.args.leaving.now c.deref_mut-3.result.now c.sweep.new.rest c.sweep.new.flows (length c.deref_mut-4.result.now) c.self.invariant.plan_is.order has.tree has.rows_count (omega (arith, has.switches_count))
     has.first_is (omega arith) c.sweep.ensures.balanced c.sweep.ensures.cleared)
 
 pub returns-clause-kirchhoff : goal.returns-clause-kirchhoff
