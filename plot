@@ -29,8 +29,10 @@ def read_cfg(path):
     """The analog channels (name, unit, multiplier), the status channels, and us per time stamp."""
     with open(path, encoding="latin-1") as file:
         lines = [line.rstrip("\r\n") for line in file]
-    analogs = int(lines[1].split(",")[1].rstrip("A"))
-    states = int(lines[1].split(",")[2].rstrip("D"))
+    counts = re.match(r"\d+,(\d+)A,(\d+)D$", lines[1]) if len(lines) > 1 else None
+    if not counts:
+        sys.exit(f"plot: {path} is neither the configuration of a record nor lines of a scan or a batch")
+    analogs, states = int(counts[1]), int(counts[2])
     rows = [line.split(",") for line in lines[2:2 + analogs + states]]
     analog = [(row[1], row[4], float(row[5])) for row in rows[:analogs]]
     return analog, [row[1] for row in rows[analogs:]], float(lines[-1])
