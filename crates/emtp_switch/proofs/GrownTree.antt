@@ -127,7 +127,7 @@ fully (suc fuel) switches nodes es start reached links used was few room size gr
 
 -- ---- the whole tree
 
-bridges_all : (P : ℕ → Type 0) (switches : List Switch) (labels es : List ℕ) → All P es → All P (bridges switches labels es)
+pub bridges_all : (P : ℕ → Type 0) (switches : List Switch) (labels es : List ℕ) → All P es → All P (bridges switches labels es)
 bridges_all P switches labels [] all = all
 bridges_all P switches labels (s ∷ es) all = elim (cases_Bool (divides switches labels s)) [
   | inl on ↦
