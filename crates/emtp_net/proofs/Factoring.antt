@@ -1,6 +1,5 @@
 -- The factor of the next step, and what it costs.
 use Rattle.std.proofs.Common.{◌≡◌, ◌≢◌, ◌∙◌, sym, ap, ℕ, ◌+◌, ◌-◌, ◌≤◌, ◌==◌, if◌then◌else◌, List, [], ◌∷◌, length, take, refl, false, arith}
-use Rattle.std.proofs.lemmas.Bool.Decides.{nat_tests}
 use Rattle.std.proofs.lemmas.List.{take-take}
 use Rattle.emtp_case.specs.StepRecord.{StepRecord}
 use Rattle.emtp_case.specs.declared.case.Parts.{Parts}
@@ -10,7 +9,7 @@ use Rattle.emtp_elim.specs.declared.fault.RowCause.TheVariants.{Range as RowRang
 use Rattle.emtp_rows.proofs.NodalRows.{length-nodal_matrix}
 use Rattle.emtp_rows.specs.Nodal.{Nodal, nodal_matrix}
 use Rattle.emtp_rows.specs.Touched.{NodalRows, StandsUntouched, Touches}
-use Rattle.emtp_tail.proofs.Redoing.{first_change_within}
+use Rattle.emtp_tail.proofs.RedoneRows.{rows_counted, rows_ticked, rows_ticked_most}
 use Rattle.emtp_tail.specs.Good.{Good, first_change}
 use Rattle.emtp_net.specs.Holding.{HoldsRows}
 use Rattle.emtp_net.specs.Redone.{last_matrix, step_redone, step_ticks}
@@ -42,45 +41,25 @@ holds_next case old mid new kept left holds rest room nodal_is size stands = rec
   kept_stands = stands;
 }
 
+-- the rows that a step finds changed are those of its matrix
+changed_is : (case : Parts) (H : List StepRecord) (old : Matrix) (rows : Nodal) → old ≡ last_matrix case H → rows ≡ nodal case H → first_change old (nodal_matrix rows) ≡ first_change (last_matrix case H) (matrix case H)
+changed_is case H old rows is are =
+    ap (λ o. first_change o (nodal_matrix rows)) is ∙ ap (λ (r : Nodal). first_change (last_matrix case H) (nodal_matrix r)) are
+
 -- the ticks of a step
 pub ticks_are : (case : Parts) (H : List StepRecord) (old : Matrix) (rows : Nodal) (size before after : ℕ) → old ≡ last_matrix case H → rows ≡ nodal case H → size ≡ length case.nodes → after + first_change old (nodal_matrix rows) ≡ before + size → after ≡ before + step_ticks case H
-unfolding step_ticks
 ticks_are case H old rows size before after is are sized ticked =
-    let here : first_change old (nodal_matrix rows) ≡ first_change (last_matrix case H) (matrix case H) = ap (λ o. first_change o (nodal_matrix rows)) is ∙ ap (λ (r : Nodal). first_change (last_matrix case H) (nodal_matrix r)) are in
-    let within = first_change_within (last_matrix case H) (matrix case H) in
-    omega (arith, ticked, here, sized, within, length-nodal_matrix (nodal case H))
+    rows_ticked (length case.nodes) (matrix case) H (first_change old (nodal_matrix rows)) before after (length-nodal_matrix (nodal case H)) (changed_is case H old rows is are) (ticked ∙ ap (λ n. before + n) sized)
 
 pub ticks_most : (case : Parts) (H : List StepRecord) (old : Matrix) (rows : Nodal) (size before after : ℕ) → old ≡ last_matrix case H → rows ≡ nodal case H → size ≡ length case.nodes → after + first_change old (nodal_matrix rows) ≤ before + size → after ≤ before + step_ticks case H
-unfolding step_ticks
 ticks_most case H old rows size before after is are sized ticked =
-    let here : first_change old (nodal_matrix rows) ≡ first_change (last_matrix case H) (matrix case H) = ap (λ o. first_change o (nodal_matrix rows)) is ∙ ap (λ (r : Nodal). first_change (last_matrix case H) (nodal_matrix r)) are in
-    let within = first_change_within (last_matrix case H) (matrix case H) in
-    omega (arith, ticked, here, sized, within, length-nodal_matrix (nodal case H))
-
--- what the first step doesn't count
-counted : (case : Parts) (H : List StepRecord) (made : ℕ) → made + 1 ≡ length H → (if made == 0 then 0 else step_ticks case H) ≡ step_redone case H
-counted case [] made long = absurd (omega (arith, long))
-counted case (r ∷ []) made long =
-    let first : made ≡ 0 = omega (arith, long) in
-    rw first refl
-counted case (r ∷ s ∷ past) made long =
-    let later : made ≢ 0 = λ e. omega (arith, long, e) in
-    rw (isnt made later) refl
-  where
-    isnt : (n : ℕ) → n ≢ 0 → (n == 0) ≡ false
-    isnt n ne = grind (arith, nat_tests)
-
-step_ticks_is : (case : Parts) (H : List StepRecord) (n : ℕ) → n ≡ length case.nodes - first_change (last_matrix case H) (matrix case H) → n ≡ step_ticks case H
-unfolding step_ticks
-step_ticks_is case H n is = is
+    rows_ticked_most (length case.nodes) (matrix case) H (first_change old (nodal_matrix rows)) before after (changed_is case H old rows is are) (omega (arith, ticked, sized))
 
 pub redone_is : (case : Parts) (H : List StepRecord) (old : Matrix) (rows : Nodal) (made size before after : ℕ) → old ≡ last_matrix case H → rows ≡ nodal case H → made + 1 ≡ length H → size ≡ length case.nodes
     → after ≡ before + (if made == 0 then 0 else size - first_change old (nodal_matrix rows)) → after ≡ before + step_redone case H
 redone_is case H old rows made size before after is are long sized count =
     let first = first_change old (nodal_matrix rows) in
-    let here : first ≡ first_change (last_matrix case H) (matrix case H) = ap (λ o. first_change o (nodal_matrix rows)) is ∙ ap (λ (r : Nodal). first_change (last_matrix case H) (nodal_matrix r)) are in
-    let ticks : size - first ≡ step_ticks case H = step_ticks_is case H (size - first) (ap (λ n. n - first) sized ∙ ap (λ n. length case.nodes - n) here) in
-    count ∙ ap (λ n. before + (if made == 0 then 0 else n)) ticks ∙ ap (λ n. before + n) (counted case H made long)
+    rows_counted (length case.nodes) (matrix case) H first made before after (changed_is case H old rows is are) long (count ∙ ap (λ n. before + (if made == 0 then 0 else n - first)) sized)
 
 -- a fault of the elimination comes once rows are redone
 pub row_adds : (case : Parts) (H : List StepRecord) (cause : RowCause) (node : ℕ) (e : NetFault) → e ≡ fault_by cause node → step_adds e case H ≡ step_redone case H

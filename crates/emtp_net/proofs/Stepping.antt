@@ -6,6 +6,7 @@ use Rattle.emtp_case.specs.declared.row_kind.RowKind.{RowKind}
 use Rattle.emtp_rows.specs.Touched.{NodalRows}
 use Rattle.emtp_switch.specs.States.{next_states}
 use Rattle.emtp_switch.specs.Switching as switching
+use Rattle.emtp_tail.proofs.RedoneRows.{matrix_before_is}
 use Rattle.emtp_tail.specs.Good.{Good}
 use Rattle.emtp_net.specs.Fault.{NamesNode}
 use Rattle.emtp_net.specs.Moving.{AreCurrents, AreLineCurrents, HaveMoved, IsNext}
@@ -68,10 +69,6 @@ err_steps s now left H result e redone same stands kept count is ends =
     let counted : left.redone ≡ net_redone left.case H + step_adds e left.case H = omega (arith, count, stands.redone, ends.adds, ap (λ (p : Parts). net_redone p H) kept, ap (λ (p : Parts). step_adds e p H) kept) in
     subst (λ r. StepsTo r left H (network_part now.case H)) (sym is) (subst (StepsTo (Err e) left H) (sym reached) (refl, counted))
 
-last_matrix_is : (case : Parts) (H : List StepRecord) (made : ℕ) (r : StepRecord) → made + 1 ≡ length H → last_matrix case (r ∷ H) ≡ matrix case H
-last_matrix_is case [] made r long = absurd (omega (arith, long))
-last_matrix_is case (s ∷ past) made r long = refl
-
 -- all stages of a step after which the network is `left`
 pub record HasStepped (s left : Net) (H : List StepRecord) (vs : List ℤ) : Type 0 where
   pub case_is : left.case ≡ s.case
@@ -99,7 +96,7 @@ stands_next s left H vs r stands stepped is =
       line_currents = subst (λ (p : Parts). AreLineCurrents p r) (sym stepped.case_is) (line_currents_next s.case H vs r stepped.branches.in_range next);
       switch_currents = stepped.switch_currents ∙ sym currents;
       closed = stepped.closed ∙ ap (map is_closed) (stepped.states ∙ sym states);
-      kept = stepped.kept ∙ sym (last_matrix_is s.case H s.made r stands.steps) ∙ ap (λ (p : Parts). last_matrix p (r ∷ H)) (sym stepped.case_is);
+      kept = stepped.kept ∙ sym (matrix_before_is (matrix s.case) H s.made r stands.steps) ∙ ap (λ (p : Parts). last_matrix p (r ∷ H)) (sym stepped.case_is);
       kept_size = stepped.kept_size ∙ ap (λ (p : Parts). length p.nodes) (sym stepped.case_is);
       steps = omega (arith, stepped.made, stands.steps);
       redone = omega (arith, stepped.redone, stands.redone, ap (λ (p : Parts). net_redone p H) stepped.case_is, ap (λ (p : Parts). step_redone p H) stepped.case_is);

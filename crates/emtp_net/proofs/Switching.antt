@@ -9,7 +9,7 @@ use Rattle.emtp_case.specs.declared.case.Parts.{Parts}
 use Rattle.emtp_case.specs.declared.row_kind.RowKind.{RowKind}
 use Rattle.emtp_case.specs.declared.switch.SwitchState.{SwitchState}
 use Rattle.emtp_elim.specs.Matrix.{item}
-use Rattle.emtp_elim.specs.Outcome.{is_within}
+use Rattle.emtp_fix.specs.Limit.{is_within}
 use Rattle.emtp_fix.specs.declared.limit.TheConstants.{LARGEST_VALUE}
 use Rattle.emtp_case.proofs.RowsOfNodes.{fixed_within}
 use Rattle.emtp_switch.specs.Currents.{IsFirstBeyond, bridge_current, contains, currents_of}

@@ -3,6 +3,7 @@ use Rattle.std.proofs.Common.{◌≡◌, sym, subst, ℕ, ℤ, pos, List, Option
 use Rattle.emtp_case.specs.StepRecord.{StepRecord}
 use Rattle.emtp_case.specs.declared.case.Parts.{Parts}
 use Rattle.emtp_elim.specs.Outcome.{outcome}
+use Rattle.emtp_fix.specs.Chain.{◌>>=◌, unless}
 use Rattle.emtp_elim.specs.declared.fault.PlainFault.{PlainFault}
 use Rattle.emtp_elim.specs.declared.fault.PlainFault.TheVariants.{NoMemory, Row, Solve}
 use Rattle.emtp_elim.specs.declared.fault.RowCause.{RowCause}
@@ -10,7 +11,7 @@ use Rattle.emtp_elim.specs.declared.fault.RowCause.TheVariants.{Range as RowRang
 use Rattle.emtp_net.specs.Part.{NetworkPart, first_out, node_of_branch, part_at, voltages_of}
 use Rattle.emtp_net.specs.Residual.{residual_of}
 use Rattle.emtp_net.specs.Stages.{IsUntied}
-use Rattle.emtp_net.specs.Step.{◌>>=◌, balanced, fault_by, first_beyond, first_unbalanced, moved, node_of_switch, named, network_part, solution, switched, unless}
+use Rattle.emtp_net.specs.Step.{balanced, fault_by, first_beyond, first_unbalanced, moved, node_of_switch, named, network_part, solution, switched}
 use Rattle.emtp_net.specs.System.{matrix, right}
 use Rattle.emtp_net.specs.declared.fault.NetFault.{NetFault}
 use Rattle.emtp_net.specs.declared.fault.NetFault.TheVariants.{Range, Residual, Tied, ZeroPivot}
@@ -31,7 +32,7 @@ later_bind : {A B : Type 0} (m : Result A NetFault) (f : A → Result B NetFault
 later_bind (Ok x) f first then = then x
 later_bind (Err fault) f first then = first
 
-later_unless : {A : Type 0} (o : Option ℕ) (fault : ℕ → NetFault) (x : A) → ((n : ℕ) → IsLater (fault n)) → EndsLater (unless o fault x)
+later_unless : {A : Type 0} (o : Option ℕ) (fault : ℕ → NetFault) (x : A) → ((n : ℕ) → IsLater (fault n)) → EndsLater (unless o fault (Ok x))
 later_unless None fault x later = tt
 later_unless (Some n) fault x later = later n
 
@@ -48,7 +49,7 @@ later_named case (Err NoMemory) = tt
 later : (case : Parts) (H : List StepRecord) → IsUntied case H → EndsLater (network_part case H)
 unfolding network_part
 later case H free =
-    subst (λ o. EndsLater (unless o (λ s. Tied (node_of_switch case s)) tt >>= (λ none. solution case H >>= (λ x. moved case H (voltages_of case x) >>= (λ part. switched case part >>= (λ within. balanced case H within)))))) (sym free)
+    subst (λ o. EndsLater (unless o (λ s. Tied (node_of_switch case s)) (Ok tt) >>= (λ none. solution case H >>= (λ x. moved case H (voltages_of case x) >>= (λ part. switched case part >>= (λ within. balanced case H within)))))) (sym free)
     (later_bind (solution case H) (λ x. moved case H (voltages_of case x) >>= (λ part. switched case part >>= (λ within. balanced case H within))) (later_named case (outcome (matrix case H) (right case H)))
     (λ x. later_bind (moved case H (voltages_of case x)) (λ part. switched case part >>= (λ within. balanced case H within)) (later_unless (first_out case H (voltages_of case x)) (λ b. Range (node_of_branch case b)) (part_at case H (voltages_of case x)) (λ n. tt))
     (λ part. later_bind (switched case part) (λ within. balanced case H within) (later_unless (first_beyond part.switch_currents) (λ s. Range (node_of_switch case s)) part (λ n. tt))

@@ -15,13 +15,15 @@ use Rattle.emtp_case.specs.declared.source.Source.{Source}
 use Rattle.emtp_case.specs.declared.switch.Switch.{Switch}
 use Rattle.emtp_case.specs.declared.switch.SwitchKind.TheVariants.{Time}
 use Rattle.emtp_elim.specs.Elimination.{last_unknowns, stage, stage_right}
-use Rattle.emtp_elim.specs.Outcome.{outcome, right_fault, row_fault, unknown_fault}
+use Rattle.emtp_elim.specs.Fault.{right_fault, row_fault, unknown_fault}
+use Rattle.emtp_elim.specs.Outcome.{outcome}
+use Rattle.emtp_fix.specs.Chain.{◌>>=◌}
 use Rattle.emtp_fix.specs.Rounding.{near, near_abs}
 use Rattle.emtp_line.specs.Line.{line_state}
 use Rattle.emtp_line.specs.Wave.{end_of}
 use Rattle.emtp_lumped.specs.Step.{next_state as next_lumped}
 use Rattle.emtp_net.specs.Part.{NetworkPart, part_at, voltages_of}
-use Rattle.emtp_net.specs.Step.{◌>>=◌, network_part}
+use Rattle.emtp_net.specs.Step.{network_part}
 use Rattle.emtp_net.specs.System.{right}
 use Rattle.emtp_net.specs.declared.fault.NetFault.{NetFault}
 use Rattle.emtp_net.specs.declared.fault.NetFault.TheVariants.{Range, Residual, Tied, ZeroPivot}

@@ -6,7 +6,9 @@ pub use Rattle.emtp_case.specs.EndNames.{node_of_switch}
 use Rattle.emtp_case.specs.RowOrder.{order_of}
 use Rattle.emtp_case.specs.StepRecord.{BranchState, StepRecord}
 use Rattle.emtp_case.specs.declared.case.Parts.{Parts}
-use Rattle.emtp_elim.specs.Outcome.{is_within, outcome}
+use Rattle.emtp_elim.specs.Outcome.{outcome}
+use Rattle.emtp_fix.specs.Chain.{◌>>=◌, unless}
+use Rattle.emtp_fix.specs.Limit.{is_within}
 use Rattle.emtp_elim.specs.declared.fault.PlainFault.{PlainFault}
 use Rattle.emtp_elim.specs.declared.fault.PlainFault.TheVariants.{NoMemory, Row, Solve}
 use Rattle.emtp_elim.specs.declared.fault.RowCause.{RowCause}
@@ -22,20 +24,9 @@ use Rattle.emtp_net.specs.System.{matrix, right}
 use Rattle.emtp_net.specs.declared.fault.NetFault.{NetFault}
 use Rattle.emtp_net.specs.declared.fault.NetFault.TheVariants.{Range, Residual, Tied, ZeroPivot}
 
--- what is there goes on, a fault stays
-infixl 10 ◌>>=◌
-abbrev pub ◌>>=◌ : {A B : Type 0} → Result A NetFault → (A → Result B NetFault) → Result B NetFault
-(Ok x) >>= f = f x
-(Err fault) >>= f = Err fault
-
--- the fault at a place, or what there is where no place has one
-abbrev pub unless : {A : Type 0} → Option ℕ → (ℕ → NetFault) → A → Result A NetFault
-unless None fault x = Ok x
-unless (Some at) fault x = Err (fault at)
-
 -- the switches of the next step tie no two known voltages
 abbrev pub untied : Parts → List StepRecord → Result (Unit {0}) NetFault
-untied case H = unless (tied_of case.switches (order_of case) (next_states case H)) (λ s. Tied (node_of_switch case s)) tt
+untied case H = unless (tied_of case.switches (order_of case) (next_states case H)) (λ s. Tied (node_of_switch case s)) (Ok tt)
 
 -- a fault of the elimination is named by its row's node
 abbrev pub fault_by : RowCause → ℕ → NetFault
@@ -57,21 +48,21 @@ solution case H = named case (outcome (matrix case H) (right case H))
 
 -- the branches and switch currents at these voltages, or the first branch out of range
 abbrev pub moved : Parts → List StepRecord → List ℤ → Result NetworkPart NetFault
-moved case H vs = unless (first_out case H vs) (λ b. Range (node_of_branch case b)) (part_at case H vs)
+moved case H vs = unless (first_out case H vs) (λ b. Range (node_of_branch case b)) (Ok (part_at case H vs))
 
 -- the first switch whose current is out of range
 abbrev pub first_beyond : List ℤ → Option ℕ
 first_beyond currents = position (λ s. not (is_within LARGEST_VALUE (item currents s))) (range_with_len 0 (length currents))
 
 abbrev pub switched : Parts → NetworkPart → Result NetworkPart NetFault
-switched case part = unless (first_beyond part.switch_currents) (λ s. Range (node_of_switch case s)) part
+switched case part = unless (first_beyond part.switch_currents) (λ s. Range (node_of_switch case s)) (Ok part)
 
 -- the first row whose residual exceeds the tolerance
 abbrev pub first_unbalanced : Parts → List StepRecord → List BranchState → Option ℕ
 first_unbalanced case H branches = position (λ i. nat_lt (unsigned_abs case.run.tolerance) (residual_of case H branches i)) (range_with_len 0 (length case.nodes))
 
 abbrev pub balanced : Parts → List StepRecord → NetworkPart → Result NetworkPart NetFault
-balanced case H part = unless (first_unbalanced case H part.branches) (λ i. Residual (node_at case i) (pos (residual_of case H part.branches i))) part
+balanced case H part = unless (first_unbalanced case H part.branches) (λ i. Residual (node_at case i) (pos (residual_of case H part.branches i))) (Ok part)
 
 -- the network's part of the next record, or the first fault
 unfoldable pub network_part : Parts → List StepRecord → Result NetworkPart NetFault

@@ -1,8 +1,9 @@
 //! The network of a case.
 
-ghost use Rattle.std.specs.Prelude.{◌≡◌, ◌+◌, ◌*◌, ◌<◌, ◌≤◌, ◌∷◌, [], ℕ, List, length, map, pos, replicate, Err, IfErr, IfOk, OnOk};
+ghost use Rattle.std.specs.Prelude.{◌≡◌, ◌+◌, ◌*◌, ◌<◌, ◌≤◌, ◌∷◌, [], ℕ, List, length, map, pos, replicate, unsigned_abs, All, Err, IfErr, IfOk, OnOk};
 ghost use Rattle.emtp_case.specs.RowOrder.{order_of};
 ghost use Rattle.emtp_case.specs.StepRecord.{StepRecord, branch_current_at, is_closed, latest, rest_of};
+ghost use Rattle.emtp_fix.specs.declared.limit.TheConstants.{LARGEST_VALUE};
 ghost use Rattle.emtp_net.specs.Branches.{HasCase};
 ghost use Rattle.emtp_net.specs.Fault.{NamesNode};
 ghost use Rattle.emtp_net.specs.Holding.{HoldsRows};
@@ -170,10 +171,11 @@ impl<'a> Network<'a> {
         self.system.judge(self.case, &self.order)
     }
 
-    /// The node voltages of the last record by node number, ground first, in nV: to 10^18 in magnitude.
+    /// The node voltages of the last record by node number, ground first, in nV.
     pub fn voltages(&self) -> &[i64]
         ensures value { result.now ≡ self.now.voltages }
         ensures each { length result.now ≡ length self.now.case.nodes + 1 }
+        ensures small { All (λ v. unsigned_abs v ≤ LARGEST_VALUE) result.now }
     {
         self.voltages.as_slice()
     }
