@@ -6,3 +6,4 @@ pub mod Worked
 pub mod Finding
 pub mod Lining
 pub mod Physics
+pub mod CurrentRanges

@@ -2,3 +2,4 @@ pub mod Segments
 pub mod Holding
 pub mod Chain
 pub mod Odd
+pub mod CurrentRanges
