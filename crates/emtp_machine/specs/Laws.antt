@@ -1,10 +1,11 @@
 -- What is true of every run, in the field's words.
-use Rattle.std.specs.Prelude.{◌≡◌, ◌*◌, ◌<◌, ◌≤◌, ℕ, ℤ, List, [], ◌∷◌, length, slice_index_or, unsigned_abs, Ok, Err}
+use Rattle.std.specs.Prelude.{◌≡◌, ◌*◌, ◌<◌, ◌≤◌, ℕ, ℤ, List, [], ◌∷◌, length, slice_index_or, unsigned_abs, IfSome, Ok, Err}
 use Rattle.emtp_case.specs.StepRecord.{StepRecord, latest, rest_of}
 use Rattle.emtp_case.specs.declared.case.Parts.{Parts}
 use Rattle.emtp_net.specs.Residual.{residual}
 use Rattle.emtp_machine.specs.Channels.{sample_of}
 use Rattle.emtp_machine.specs.History.{end_at, history, history_upto, samples}
+use Rattle.emtp_machine.specs.Machine.{IsEnd}
 use Rattle.emtp_machine.specs.Next.{Fault, next}
 use Rattle.emtp_machine.specs.declared.end.End.{End}
 
@@ -37,3 +38,7 @@ pub record IsSampleOf (case : Parts) (rows : List (List ℤ)) (k : ℕ) : Type 0
 -- each sample of a case's run is that of a record in which each row balances
 pub record SamplesBalance (case : Parts) : Type 0 where
   pub each : (k : ℕ) → k < length (samples case (history case)) → IsSampleOf case (samples case (history case)) k
+
+-- where a case's run ends early, the end names a step of the run and a node or variable of the case
+abbrev pub EndsWithin : Parts → Type 0
+EndsWithin case = IfSome (history case).end (IsEnd case)

@@ -1,3 +1,4 @@
+pub mod End
 pub mod Samples
 pub mod Next
 pub mod Channels

@@ -24,8 +24,8 @@ pub(crate) struct ControlledNetwork<'c> {
     pub(crate) control: Tacs<'c>,
 }
 
-/// The name of a node.
-fn node_name(case: &Case, node: u32) -> Name
+/// The name of a node, whose number counts from 1.
+pub fn node_name(case: &Case, node: u32) -> Name
     requires { IsNode case.now.parts node }
     ensures { result ≡ node_name case.now.parts node }
 {

@@ -17,8 +17,10 @@ mod end;
 mod laws;
 mod machine;
 mod samples;
+mod whole_run;
 
-pub use end::{Cause, End};
+pub use controlled::node_name;
+pub use end::{Cause, End, put_cause};
 pub use laws::{
     each_record_balances, end_is_the_first_refusal, records_are_a_chain, samples_balance,
 };
