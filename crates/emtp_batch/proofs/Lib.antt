@@ -1,0 +1,7 @@
+mod FirstItem
+mod CardTimes
+mod Rows
+mod Tables
+mod AlteredCases
+mod Batches
+mod Peaks

@@ -1,0 +1,7 @@
+pub mod Items
+pub mod Row
+pub mod Table
+pub mod Answer
+pub mod Altered
+pub mod Report
+pub mod Summary
