@@ -7,3 +7,4 @@ pub mod NextStates
 pub mod Holding
 pub mod Resting
 pub mod Worked
+pub mod OutputRanges

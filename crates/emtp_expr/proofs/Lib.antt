@@ -12,3 +12,4 @@ pub mod Places
 pub mod NamePlaces
 pub mod TreeValues
 pub mod TextEnds
+pub mod ValueRanges
