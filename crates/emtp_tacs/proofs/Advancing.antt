@@ -8,7 +8,8 @@ use Rattle.emtp_case.specs.declared.control.Device.{Device}
 use Rattle.emtp_case.specs.declared.control.Extra.TheVariants.{Device as OfDevice}
 use Rattle.emtp_devices.specs.Devices.{HeldDevices, IsDeviceAt, StandsAt, StandsFor as DevicesStandFor, states_of}
 use Rattle.emtp_tacs.specs.Part.{ControlPart}
-use Rattle.emtp_tacs.specs.Step.{◌>>=◌, Measured, SoFar, Solved, blocks, completed, control_step, extras, is_in_pass, known_before}
+use Rattle.emtp_fix.specs.Chain.{◌>>=◌}
+use Rattle.emtp_tacs.specs.Step.{Measured, SoFar, Solved, blocks, completed, control_step, extras, is_in_pass, known_before}
 use Rattle.emtp_blocks.specs.BlockRows.{Blocking, StandsFor as BlocksStandFor}
 use Rattle.emtp_blocks.specs.System.{matrix}
 use Rattle.emtp_tacs.specs.Stages.{Advances, HaveMoved, Solves, HoldsVariables, IsSoFar, Reaches, VariablesStandFor, is_done, past_of}

@@ -25,7 +25,8 @@ use Rattle.emtp_fix.specs.Limit.{in_range}
 use Rattle.emtp_fix.specs.declared.limit.OutOfRange.{OutOfRange}
 use Rattle.emtp_fix.specs.declared.limit.TheConstants.{LARGEST_VALUE}
 use Rattle.emtp_tacs.specs.Stages.{IsSoFar, Reaches, is_done, is_done_by, past_of}
-use Rattle.emtp_tacs.specs.Step.{◌>>=◌, Measured, SoFar, device_by, extra_at, extra_by, extra_of, formula_value, group_of, in_turn, is_in_pass, range_fault, source_at, source_by, source_value, written}
+use Rattle.emtp_fix.specs.Chain.{◌>>=◌}
+use Rattle.emtp_tacs.specs.Step.{Measured, SoFar, device_by, extra_at, extra_by, extra_of, formula_value, group_of, in_turn, is_in_pass, range_fault, source_at, source_by, source_value, written}
 use Rattle.emtp_tacs.specs.declared.fault.TacsFault.{TacsFault}
 
 -- ---- values

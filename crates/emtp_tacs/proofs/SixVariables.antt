@@ -23,12 +23,13 @@ use Rattle.emtp_elim.specs.Outcome.{outcome}
 use Rattle.emtp_elim.specs.declared.fault.PlainFault.{PlainFault}
 use Rattle.emtp_fix.specs.Limit.{in_range}
 use Rattle.emtp_tacs.specs.Part.{ControlPart, standing_values}
-use Rattle.emtp_tacs.specs.Step.{◌>>=◌, Measured, SoFar, Solved, accepted, block_var, blocks, completed, control_step, device_by, extra_at, extra_by, extra_of, extras, formula_value, group_of, in_turn, is_in_pass, known_before, solved_by, source_at, source_by, source_value, sources, starting, with_outputs, written}
+use Rattle.emtp_fix.specs.Chain.{◌>>=◌}
+use Rattle.emtp_tacs.specs.Step.{Measured, SoFar, Solved, accepted, block_var, blocks, completed, control_step, device_by, extra_at, extra_by, extra_of, extras, formula_value, group_of, in_turn, is_in_pass, known_before, solved_by, source_at, source_by, source_value, sources, starting, with_outputs, written}
 use Rattle.emtp_tacs.specs.declared.fault.TacsFault.{TacsFault}
-use Rattle.emtp_tacs.proofs.Results.{ok, same_ok, then_ok}
+use Rattle.emtp_fix.proofs.Chaining.{same_ok, then_ok}
 
 -- what holds of each item holds of one that is read
-read_all : {X : Type 0} (P : X → Type 0) (xs : List X) (n : ℕ) (x : X) → All P xs → slice_get xs n ≡ Some x → P x
+pub read_all : {X : Type 0} (P : X → Type 0) (xs : List X) (n : ℕ) (x : X) → All P xs → slice_get xs n ≡ Some x → P x
 read_all P xs n x all is = subst P (get_or_from_slice_get xs n x x is) (all n x (slice_get_within xs n x is))
 
 -- ---- one card
@@ -98,7 +99,7 @@ blocks_six case H known t control is = by (outcome (matrix case H) (right case H
 
 -- ---- the step
 
-part_six : (last : SoFar) (bs : List BlockState) (part : ControlPart) → ok (record { values = last.values; blocks = bs; devices = last.devices }) ≡ ok part → take 6 part.values ≡ take 6 last.values
+part_six : (last : SoFar) (bs : List BlockState) (part : ControlPart) → (let made : Result ControlPart TacsFault = Ok (record { values = last.values; blocks = bs; devices = last.devices }) in made) ≡ Ok part → take 6 part.values ≡ take 6 last.values
 part_six last bs part is = ap (λ (p : ControlPart). take 6 p.values) (sym (same_ok (record { values = last.values; blocks = bs; devices = last.devices }) part is))
 
 pub standing_stay : (case : Parts) (H : List StepRecord) (m : Measured) (part : ControlPart) → IsControl case → control_step case H m ≡ Ok part → take 6 part.values ≡ standing_values case.run (length H)

@@ -5,7 +5,8 @@ use Rattle.emtp_case.specs.declared.case.Parts.{Parts}
 use Rattle.emtp_devices.specs.Devices.{HeldDevices, IsDeviceAt, StandsAt, StandsFor as DevicesStandFor}
 use Rattle.emtp_tacs.specs.Part.{standing_values}
 use Rattle.emtp_tacs.specs.Stages.{IsSoFar, past_of}
-use Rattle.emtp_tacs.specs.Step.{◌>>=◌, Measured, SoFar, extras, known_before, sources, starting}
+use Rattle.emtp_fix.specs.Chain.{◌>>=◌}
+use Rattle.emtp_tacs.specs.Step.{Measured, SoFar, extras, known_before, sources, starting}
 use Rattle.emtp_tacs.specs.declared.fault.TacsFault.{TacsFault}
 use Rattle.emtp_tacs.proofs.Folds.{none_done}
 

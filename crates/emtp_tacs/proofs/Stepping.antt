@@ -1,11 +1,10 @@
 -- A step, from what its stages answer.
-use Rattle.std.proofs.Common.{◌≡◌, ◌≢◌, ◌∙◌, sym, ap, ℕ, ◌+◌, ◌-◌, ◌≤◌, ◌==◌, if◌then◌else◌, List, [], ◌∷◌, length, Result, Ok, Err, OnOk, refl, false, arith}
-use Rattle.std.proofs.lemmas.Bool.Decides.{nat_tests}
+use Rattle.std.proofs.Common.{◌≡◌, ◌∙◌, sym, ap, ℕ, ◌+◌, ◌-◌, ◌==◌, if◌then◌else◌, List, ◌∷◌, length, Result, Ok, Err, OnOk, arith}
 use Rattle.emtp_blocks.proofs.Matrices.{length-control_matrix}
 use Rattle.emtp_blocks.specs.System.{limiters_of, matrix}
 use Rattle.emtp_case.specs.StepRecord.{StepRecord}
 use Rattle.emtp_case.specs.declared.case.Parts.{Parts}
-use Rattle.emtp_tail.proofs.Redoing.{first_change_within}
+use Rattle.emtp_tail.proofs.RedoneRows.{matrix_before_is, rows_counted, rows_ticked}
 use Rattle.emtp_tail.specs.Good.{first_change}
 use Rattle.emtp_blocks.specs.BlockRows.{rows_of_blocks}
 use Rattle.emtp_tacs.proofs.Systems.{rows_are}
@@ -16,47 +15,6 @@ use Rattle.emtp_tacs.specs.declared.block_system.BlockSystem.{BlockSystem}
 use Rattle.emtp_tacs.specs.declared.fault.TacsFault.{TacsFault}
 use Rattle.emtp_tacs.specs.declared.variables.Variables.{Variables}
 use Rattle.emtp_tacs.specs.Redone.{control_step_redone, control_step_ticks, last_control_matrix}
-
--- ---- rows redone
-
--- the ticks of a step that redoes the rows from the first changed one on
-pub ticks_are : (case : Parts) (H : List StepRecord) (first before after : ℕ) → first ≡ first_change (last_control_matrix case H) (matrix case H) → after + first ≡ before + length case.blocks → after ≡ before + control_step_ticks case H
-unfolding control_step_ticks
-ticks_are case H first before after is ticked =
-    omega (arith, ticked, is, first_change_within (last_control_matrix case H) (matrix case H), length-control_matrix case (limiters_of case H))
-
-pub ticks_most : (case : Parts) (H : List StepRecord) (first before after : ℕ) → first ≡ first_change (last_control_matrix case H) (matrix case H) → after ≤ before + (length case.blocks - first) → after ≤ before + control_step_ticks case H
-unfolding control_step_ticks
-ticks_most case H first before after is ticked =
-    omega (arith, ticked, is, first_change_within (last_control_matrix case H) (matrix case H), length-control_matrix case (limiters_of case H))
-
-step_ticks_is : (case : Parts) (H : List StepRecord) (first : ℕ) → first ≡ first_change (last_control_matrix case H) (matrix case H) → length case.blocks - first ≡ control_step_ticks case H
-unfolding control_step_ticks
-step_ticks_is case H first is = ap (λ n. length case.blocks - n) is
-
--- what the first step doesn't count
-counted : (case : Parts) (H : List StepRecord) (made : ℕ) → made + 1 ≡ length H → (if made == 0 then 0 else control_step_ticks case H) ≡ control_step_redone case H
-counted case [] made long = absurd (omega (arith, long))
-counted case (r ∷ []) made long =
-    let first : made ≡ 0 = omega (arith, long) in
-    rw first refl
-counted case (r ∷ s ∷ past) made long =
-    let later : made ≢ 0 = λ e. omega (arith, long, e) in
-    rw (isnt made later) refl
-  where
-    isnt : (n : ℕ) → n ≢ 0 → (n == 0) ≡ false
-    isnt n ne = grind (arith, nat_tests)
-
-pub redone_is : (case : Parts) (H : List StepRecord) (first made before after : ℕ) → first ≡ first_change (last_control_matrix case H) (matrix case H) → made + 1 ≡ length H
-    → after ≡ before + (if made == 0 then 0 else length case.blocks - first) → after ≡ before + control_step_redone case H
-redone_is case H first made before after is long count =
-    count ∙ ap (λ n. before + (if made == 0 then 0 else n)) (step_ticks_is case H first is) ∙ ap (λ n. before + n) (counted case H made long)
-
-pub last_matrix_is : (case : Parts) (H : List StepRecord) (made : ℕ) (r : StepRecord) → made + 1 ≡ length H → last_control_matrix case (r ∷ H) ≡ matrix case H
-last_matrix_is case [] made r long = absurd (omega (arith, long))
-last_matrix_is case (s ∷ past) made r long = refl
-
--- ---- the step
 
 -- what a contract sees of these fields
 abbrev pub held_of : Parts → Variables → BlockSystem → ℕ → HeldControl
@@ -81,17 +39,17 @@ steps_to case v w s t made first H (Ok u) (Ok part) stands held holds is count m
       devices = all.devices;
       devices_count = all.devices_count;
       values = all.values;
-      kept = made_so.kept ∙ sym (last_matrix_is case H made r stands.steps);
+      kept = made_so.kept ∙ sym (matrix_before_is (matrix case) H made r stands.steps);
       kept_size = holds.kept_size;
       steps = omega (arith, stands.steps);
-      redone = redone_is case H first made s.redone t.redone (first_is case v s made first H stands held.case_is is) stands.steps count ∙ ap (λ n. n + control_step_redone case H) stands.redone;
+      redone = rows_counted (length case.blocks) (matrix case) H first made s.redone t.redone (first_is case v s made first H stands held.case_is is) stands.steps count ∙ ap (λ n. n + control_step_redone case H) stands.redone;
     }
 steps_to case v w s t made first H (Ok u) (Err fault) stands held holds is count made_so = absurd made_so
 steps_to case v w s t made first H (Err e) (Ok part) stands held holds is count made_so = absurd made_so
 steps_to case v w s t made first H (Err e) (Err fault) stands held holds is count made_so =
-    (made_so, redone_is case H first made s.redone t.redone (first_is case v s made first H stands held.case_is is) stands.steps count ∙ ap (λ n. n + control_step_redone case H) stands.redone)
+    (made_so, rows_counted (length case.blocks) (matrix case) H first made s.redone t.redone (first_is case v s made first H stands held.case_is is) stands.steps count ∙ ap (λ n. n + control_step_redone case H) stands.redone)
 
 pub ticks_ok : (case : Parts) (v : Variables) (s : BlockSystem) (made : ℕ) (now : HeldControl) (H : List StepRecord) (first before after : ℕ) (result : Result (Unit {0}) TacsFault) → held_of case v s made ≡ now → first ≡ first_change (last_control_matrix case H) (matrix case H)
     → OnOk result (after + first ≡ before + length case.blocks) → OnOk result (after ≡ before + control_step_ticks now.case H)
-ticks_ok case v s made now H first before after (Ok u) same is ticked = ticks_are case H first before after is ticked ∙ ap (λ (t : HeldControl). before + control_step_ticks t.case H) same
+ticks_ok case v s made now H first before after (Ok u) same is ticked = rows_ticked (length case.blocks) (matrix case) H first before after (length-control_matrix case (limiters_of case H)) is ticked ∙ ap (λ (t : HeldControl). before + control_step_ticks t.case H) same
 ticks_ok case v s made now H first before after (Err e) same is ticked = tt

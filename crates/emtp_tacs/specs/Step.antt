@@ -25,6 +25,7 @@ use Rattle.emtp_elim.specs.declared.fault.PlainFault.TheVariants.{NoMemory, Row,
 use Rattle.emtp_elim.specs.declared.fault.RowCause.{RowCause}
 use Rattle.emtp_elim.specs.declared.fault.RowCause.TheVariants.{Range, ZeroPivot}
 use Rattle.emtp_expr.specs.Value.{value}
+use Rattle.emtp_fix.specs.Chain.{◌>>=◌}
 use Rattle.emtp_fix.specs.Limit.{in_range}
 use Rattle.emtp_fix.specs.declared.limit.TheConstants.{NANO}
 use Rattle.emtp_wave.specs.Wave.{value_of}
@@ -42,12 +43,6 @@ pub record Measured : Type 0 where
 pub record SoFar : Type 0 where
   pub values : List ℤ
   pub devices : List DeviceState
-
--- what is there goes on, a fault stays
-infixl 10 ◌>>=◌
-abbrev pub ◌>>=◌ : {A B : Type 0} → Result A TacsFault → (A → Result B TacsFault) → Result B TacsFault
-(Ok x) >>= f = f x
-(Err fault) >>= f = Err fault
 
 -- what the first n cards make of it, each after the ones before it; f has what the card at a place makes
 abbrev pub in_turn : (ℕ → SoFar → Result SoFar TacsFault) → ℕ → SoFar → Result SoFar TacsFault

@@ -1,9 +1,11 @@
-use Rattle.std.proofs.Common.{◌∙◌, ◌+◌, ◌<◌, sym, ap, subst, arith}
+use Rattle.std.proofs.Common.{◌∙◌, ◌+◌, ◌<◌, length, sym, ap, subst, arith}
 use Rattle.emtp_blocks.specs.BlockRows.{Blocking, StandsFor as BlocksStandFor}
+use Rattle.emtp_blocks.specs.System.{matrix}
+use Rattle.emtp_tail.proofs.RedoneRows.{rows_ticked_most}
 use Rattle.emtp_tacs.specs.Step.{Measured, control_step}
 use Rattle.emtp_tacs.specs.Redone.{control_step_ticks}
 use Rattle.emtp_tacs.specs.Tacs.{HeldControl, StandsFor, StepsTo}
-use Rattle.emtp_tacs.proofs.Stepping.{first_is, held_of, steps_to, ticks_most, ticks_ok, variables_stand}
+use Rattle.emtp_tacs.proofs.Stepping.{first_is, held_of, steps_to, ticks_ok, variables_stand}
 use Rattle.emtp_tacs.proofs.tacs.Tacs.step.Goals as goal
 
 pub returns-clause-step : goal.returns-clause-step
@@ -32,7 +34,7 @@ returns-clause-most g c = λ H stands.
     let stood : StandsFor (held_of case c.self.inside.variables c.self.inside.system c.self.inside.made) H = subst (λ (t : HeldControl). StandsFor t H) (sym c.self.view_is) stands in
     let first = first_is case c.self.inside.variables c.self.inside.system c.self.inside.made c.first_changed-first.result H stood c.self.invariant.system_holds.case_is c.first_changed-first.ensures.first in
     let same = ap (λ (t : HeldControl). control_step_ticks t.case H) c.self.view_is in
-    omega (arith, same, ticks_most case H c.first_changed-first.result c.args.steps.now c.advance.new.steps first c.advance.ensures.most)
+    omega (arith, same, rows_ticked_most (length case.blocks) (matrix case) H c.first_changed-first.result c.args.steps.now c.advance.new.steps first c.advance.ensures.most)
 
 pub first_changed-first-requires-clause-made : goal.first_changed-first-requires-clause-made
 first_changed-first-requires-clause-made g c = subst (λ (t : HeldControl). t.made < t.case.run.steps) (sym c.self.view_is) c.requires.made
