@@ -5,3 +5,5 @@ mod Tables
 mod AlteredCases
 mod Batches
 mod Peaks
+mod GreatestPeak
+mod OwnTimes

@@ -5,3 +5,4 @@ pub mod Answer
 pub mod Altered
 pub mod Report
 pub mod Summary
+pub mod Laws

@@ -13,11 +13,15 @@
 #![tactic(auto)]
 
 mod items;
+mod laws;
 mod report;
 mod row;
 mod summary;
 mod table;
 
+pub use laws::{
+    each_row_stands_alone, greatest_peak_is_of_a_row, own_times_give_the_case, stars_keep_the_cards,
+};
 pub use report::{RowReport, batch};
 pub use summary::batch_summary;
 pub use table::{MAX_ROWS, Row, TimesFault, read_times};
