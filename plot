@@ -112,7 +112,7 @@ def print_batch(names, peaks, ended):
         column = sorted(row[place] for row in peaks)
         most = column[-1]
         rows = [str(at + 1) for at, row in enumerate(peaks) if row[place] == most]
-        print(f"{name}: greatest {number(most)} in row {rows[0]}, 2 % of the rows exceed {number(two_percent(column))}, "
+        print(f"{name}: greatest {number(most)} in row {rows[0]}, at most 2 % of the rows exceed {number(two_percent(column))}, "
               f"half of them {number(column[(len(column) - 1) // 2])}")
 
 
@@ -244,7 +244,7 @@ def draw_batch(names, peaks, path):
         pane = drawn[place][0]
         column, share = shares([row[place] for row in peaks])
         pane.step(column, share, where="post", linewidth=0.9)
-        pane.axvline(two_percent(column), color="C3", linewidth=0.9, linestyle="--", label=f"2 % exceed {number(two_percent(column))}")
+        pane.axvline(two_percent(column), color="C3", linewidth=0.9, linestyle="--", label=f"2 % at most exceed {number(two_percent(column))}")
         pane.set_ylabel("% of rows")
         pane.set_xlabel(f"peak of {name}")
         pane.legend(loc="lower right", fontsize="small")
@@ -318,7 +318,7 @@ def page_batch(names, peaks, title, path):
         figure.add_trace(objects.Scatter(x=column, y=share, name=name, mode="lines", line={"shape": "hv"}, hovertemplate="%{y:.4g} % at or below %{x:.6g}"),
                          row=place + 1, col=1)
         figure.add_vline(x=two_percent(column), line_dash="dash", line_color="crimson", row=place + 1, col=1,
-                         annotation_text=f"2 % exceed {number(two_percent(column))}", annotation_position="bottom left")
+                         annotation_text=f"2 % at most exceed {number(two_percent(column))}", annotation_position="bottom left")
         figure.update_xaxes(title_text=f"peak of {name}", row=place + 1, col=1)
         figure.update_yaxes(title_text="% of rows", row=place + 1, col=1)
     write_page(figure, title, 120 + 260 * len(names), path)
