@@ -12,9 +12,9 @@ use Rattle.emtp_machine.specs.declared.controlled.ControlledNetwork.{ControlledN
 use Rattle.emtp_machine.specs.declared.end.Cause.{Cause}
 use Rattle.emtp_machine.specs.declared.end.Cause.TheVariants.{Range, Residual, TacsPivot, TacsRange, Tied, ZeroPivot}
 use Rattle.emtp_machine.specs.declared.end.End.{End}
-use Rattle.emtp_net.proofs.Runs.{ticks_of_run}
+use Rattle.emtp_net.proofs.Runs.{most_ticks, ticks_of_run}
 use Rattle.emtp_net.specs.Redone.{step_ticks, step_ticks_after}
-use Rattle.emtp_tacs.proofs.Runs.{ticks_of_run as control_ticks_of_run}
+use Rattle.emtp_tacs.proofs.Runs.{most_ticks as most_control_ticks, ticks_of_run as control_ticks_of_run}
 use Rattle.emtp_tacs.specs.Redone.{control_step_ticks, control_step_ticks_after}
 
 -- ---- one step
@@ -79,14 +79,6 @@ ticks-ended m case n (Some e) network now row s before after end view none = abs
 rest_ticks : (case : Parts) → ticks case (history_upto case 0) ≡ 0
 rest_ticks case = rw rest_history refl
 
-most_net : (case : Parts) (H : List StepRecord) → step_ticks case H ≤ length case.nodes
-unfolding step_ticks
-most_net case H = omega arith
-
-most_control : (case : Parts) (H : List StepRecord) → control_step_ticks case H ≤ length case.blocks
-unfolding control_step_ticks
-most_control case H = omega arith
-
 all_rows : (case : Parts) (H : List StepRecord) → 2 ≤ length H → rows_eliminated case H ≡ length case.nodes + length case.blocks + rows_redone case H
 all_rows case [] some = absurd (omega (arith, some))
 all_rows case (r ∷ []) some = absurd (omega (arith, some))
@@ -103,11 +95,11 @@ same_step case TacsRange r s past = refl
 
 most_step : (case : Parts) (cause : Cause) (H : List StepRecord) → ticks_by cause case H ≤ length case.nodes + length case.blocks
 most_step case Tied H = omega arith
-most_step case ZeroPivot H = omega (arith, most_net case H)
-most_step case Range H = omega (arith, most_net case H)
-most_step case Residual H = omega (arith, most_net case H)
-most_step case TacsPivot H = omega (arith, most_net case H, most_control case H)
-most_step case TacsRange H = omega (arith, most_net case H, most_control case H)
+most_step case ZeroPivot H = omega (arith, most_ticks case H)
+most_step case Range H = omega (arith, most_ticks case H)
+most_step case Residual H = omega (arith, most_ticks case H)
+most_step case TacsPivot H = omega (arith, most_ticks case H, most_control_ticks case H)
+most_step case TacsRange H = omega (arith, most_ticks case H, most_control_ticks case H)
 
 most_rows : (case : Parts) (cause : Cause) (H : List StepRecord) → 1 ≤ length H → rows_eliminated case H + ticks_by cause case H ≤ length case.nodes + length case.blocks + (rows_redone case H + redone_by cause case H)
 most_rows case cause [] some = absurd (omega (arith, some))
