@@ -8,3 +8,4 @@ pub mod Matrices
 pub mod LawLists
 pub mod Resting
 pub mod Limiters
+pub mod OutputRanges

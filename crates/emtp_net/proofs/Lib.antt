@@ -20,3 +20,5 @@ pub mod Stepping
 pub mod Runs
 mod Worked
 pub mod Tying
+pub mod BranchRanges
+pub mod PartRanges

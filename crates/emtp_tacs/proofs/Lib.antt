@@ -6,3 +6,4 @@ pub mod SixVariables
 pub mod NoCards
 pub mod Folds
 pub mod Starting
+pub mod ValueRanges
