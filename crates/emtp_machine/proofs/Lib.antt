@@ -7,3 +7,4 @@ pub mod Machines
 pub mod Ticks
 pub mod Chains
 pub mod SampleRecords
+pub mod RecordRanges

@@ -61,7 +61,7 @@ one_more case n r some are counted is = elim (cases_eq ((n + 1) % case.run.every
 ]
 
 -- as long as a run goes on
-running : (case : Parts) → 1 ≤ case.run.every → (n : ℕ) → (history_upto case n).end ≡ None → AreOf case n (samples_in case (records_upto case n))
+pub running : (case : Parts) → 1 ≤ case.run.every → (n : ℕ) → (history_upto case n).end ≡ None → AreOf case n (samples_in case (records_upto case n))
 unfolding history_upto
 running case some zero none = at_rest case some
 running case some (suc n) none =

@@ -6,3 +6,4 @@ pub mod History
 pub mod Controlled
 pub mod Machine
 pub mod Laws
+pub mod Ranges

@@ -22,7 +22,8 @@ mod whole_run;
 pub use controlled::node_name;
 pub use end::{Cause, End, put_cause};
 pub use laws::{
-    each_record_balances, end_is_the_first_refusal, records_are_a_chain, samples_balance,
+    each_record_balances, end_is_the_first_refusal, records_are_a_chain, records_are_in_range,
+    samples_are_in_range, samples_balance,
 };
 pub use machine::Machine;
 pub use samples::Samples;
