@@ -20,7 +20,8 @@ mod summary;
 mod table;
 
 pub use laws::{
-    each_row_stands_alone, greatest_peak_is_of_a_row, own_times_give_the_case, stars_keep_the_cards,
+    each_row_stands_alone, greatest_peak_is_of_a_row, own_times_give_the_case, peaks_are_in_range,
+    stars_keep_the_cards,
 };
 pub use report::{RowReport, batch};
 pub use summary::batch_summary;
