@@ -17,7 +17,7 @@ import os
 import re
 import sys
 
-UNITS = {"V": ("kV", 1e-3), "A": ("A", 1.0), "PU": ("1", 1.0)}
+UNITS = {"V": "V", "A": "A", "PU": "1"}
 STYLES = ["-", "--", "-.", ":"]
 DASHES = ["solid", "dash", "dashdot", "dot"]
 MOST = 20000  # points of a curve on a page; of more, the least and the greatest of each piece are drawn
@@ -49,12 +49,17 @@ def read_record(cfg, dat):
     analog, states, scale = read_cfg(cfg)
     samples = read_dat(dat)
     times = [sample[1] * scale * 1e-3 for sample in samples]
-    curves = []
-    for place, (name, unit, multiplier) in enumerate(analog):
-        shown, factor = UNITS.get(unit, (unit, 1.0))
-        curves.append((name, shown, [sample[2 + place] * multiplier * factor for sample in samples]))
+    curves = [(name, unit, [sample[2 + place] * multiplier for sample in samples]) for place, (name, unit, multiplier) in enumerate(analog)]
+    curves = [(name, *in_unit(unit, values, [it for _, own, it in curves if own == unit])) for name, unit, values in curves]
     bars = [(name, [sample[2 + len(analog) + place] for sample in samples]) for place, name in enumerate(states)]
     return times, curves, bars
+
+
+def in_unit(unit, values, group):
+    """The unit in which a channel is drawn, and its values in it: a thousand of them as kV or kA where the group is that large."""
+    if unit in ("V", "A") and max((abs(value) for channel in group for value in channel), default=0) >= (1e3 if unit == "V" else 1e4):
+        return "k" + unit, [value * 1e-3 for value in values]
+    return UNITS.get(unit, unit), values
 
 
 def read_scan(lines):
