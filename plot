@@ -25,6 +25,7 @@ MOST = 20000  # points of a curve on a page; of more, the least and the greatest
 
 # ---- what is read
 
+
 def read_cfg(path):
     """The analog channels (name, unit, multiplier), the status channels, and us per time stamp."""
     with open(path, encoding="latin-1") as file:
@@ -33,7 +34,7 @@ def read_cfg(path):
     if not counts:
         sys.exit(f"plot: {path} is neither the configuration of a record nor lines of a scan or a batch")
     analogs, states = int(counts[1]), int(counts[2])
-    rows = [line.split(",") for line in lines[2:2 + analogs + states]]
+    rows = [line.split(",") for line in lines[2 : 2 + analogs + states]]
     analog = [(row[1], row[4], float(row[5])) for row in rows[:analogs]]
     return analog, [row[1] for row in rows[analogs:]], float(lines[-1])
 
@@ -49,15 +50,22 @@ def read_record(cfg, dat):
     analog, states, scale = read_cfg(cfg)
     samples = read_dat(dat)
     times = [sample[1] * scale * 1e-3 for sample in samples]
-    curves = [(name, unit, [sample[2 + place] * multiplier for sample in samples]) for place, (name, unit, multiplier) in enumerate(analog)]
-    curves = [(name, *in_unit(unit, values, [it for _, own, it in curves if own == unit])) for name, unit, values in curves]
+    curves = [
+        (name, unit, [sample[2 + place] * multiplier for sample in samples])
+        for place, (name, unit, multiplier) in enumerate(analog)
+    ]
+    curves = [
+        (name, *in_unit(unit, values, [it for _, own, it in curves if own == unit])) for name, unit, values in curves
+    ]
     bars = [(name, [sample[2 + len(analog) + place] for sample in samples]) for place, name in enumerate(states)]
     return times, curves, bars
 
 
 def in_unit(unit, values, group):
     """The unit in which a channel is drawn, and its values in it: a thousand of them as kV or kA where the group is that large."""
-    if unit in ("V", "A") and max((abs(value) for channel in group for value in channel), default=0) >= (1e3 if unit == "V" else 1e4):
+    if unit in ("V", "A") and max((abs(value) for channel in group for value in channel), default=0) >= (
+        1e3 if unit == "V" else 1e4
+    ):
         return "k" + unit, [value * 1e-3 for value in values]
     return UNITS.get(unit, unit), values
 
@@ -90,6 +98,7 @@ def read_batch(lines):
 
 # ---- what is printed
 
+
 def number(value):
     return f"{value:.6g}"
 
@@ -98,8 +107,10 @@ def print_extremes(times, curves):
     for name, unit, values in curves:
         if values:
             low, high = min(values), max(values)
-            print(f"{name}: least {number(low)} {unit} at {number(times[values.index(low)])} ms, "
-                  f"greatest {number(high)} {unit} at {number(times[values.index(high)])} ms")
+            print(
+                f"{name}: least {number(low)} {unit} at {number(times[values.index(low)])} ms, "
+                f"greatest {number(high)} {unit} at {number(times[values.index(high)])} ms"
+            )
 
 
 def print_scan(points, resonances):
@@ -117,8 +128,10 @@ def print_batch(names, peaks, ended):
         column = sorted(row[place] for row in peaks)
         most = column[-1]
         rows = [str(at + 1) for at, row in enumerate(peaks) if row[place] == most]
-        print(f"{name}: greatest {number(most)} in row {rows[0]}, at most 2 % of the rows exceed {number(two_percent(column))}, "
-              f"half of them {number(column[(len(column) - 1) // 2])}")
+        print(
+            f"{name}: greatest {number(most)} in row {rows[0]}, at most 2 % of the rows exceed {number(two_percent(column))}, "
+            f"half of them {number(column[(len(column) - 1) // 2])}"
+        )
 
 
 def angle(value):
@@ -131,6 +144,7 @@ def two_percent(column):
 
 
 # ---- panes: what both kinds of drawing have in common
+
 
 def covering(curve, others):
     """How many of the other curves lie over this one for much of its time, so that it has to be drawn apart from them."""
@@ -183,19 +197,29 @@ def shares(column):
 
 # ---- pictures
 
+
 def pyplot():
     try:
         import matplotlib
     except ImportError:
-        sys.exit(f"plot: a picture needs matplotlib for {sys.executable}; for Debian's python3: apt install python3-matplotlib")
+        sys.exit(
+            f"plot: a picture needs matplotlib for {sys.executable}; for Debian's python3: apt install python3-matplotlib"
+        )
     matplotlib.use("Agg")
     from matplotlib import pyplot as made
+
     return made
 
 
 def axes(made, heights, width=9):
-    figure, panes = made.subplots(len(heights), 1, sharex=True, squeeze=False, figsize=(width, sum(heights) + 0.6),
-                                  gridspec_kw={"height_ratios": heights})
+    figure, panes = made.subplots(
+        len(heights),
+        1,
+        sharex=True,
+        squeeze=False,
+        figsize=(width, sum(heights) + 0.6),
+        gridspec_kw={"height_ratios": heights},
+    )
     return figure, [row[0] for row in panes]
 
 
@@ -217,7 +241,11 @@ def draw_record(times, curves, bars, path):
     if bars:
         pane = drawn[-1]
         for row, (_, values) in enumerate(bars):
-            pane.broken_barh([(start, stop - start) for start, stop in closed_times(times, values)], (row + 0.1, 0.8), color=f"C{row % 10}")
+            pane.broken_barh(
+                [(start, stop - start) for start, stop in closed_times(times, values)],
+                (row + 0.1, 0.8),
+                color=f"C{row % 10}",
+            )
         pane.set_yticks([row + 0.5 for row in range(len(bars))], [name for name, _ in bars])
         pane.set_ylim(0, len(bars))
     drawn[-1].set_xlabel("ms")
@@ -233,7 +261,9 @@ def draw_scan(points, resonances, path):
     for at, value in places:
         if at in resonances:
             upper.plot([at], [abs(value)], "o", color="C3", markersize=4)
-            upper.annotate(f"{number(at)} Hz", (at, abs(value)), textcoords="offset points", xytext=(4, 4), fontsize="small")
+            upper.annotate(
+                f"{number(at)} Hz", (at, abs(value)), textcoords="offset points", xytext=(4, 4), fontsize="small"
+            )
     upper.set_ylabel("magnitude, ohm")
     lower.set_ylabel("angle, degrees")
     lower.set_xlabel("Hz")
@@ -249,7 +279,13 @@ def draw_batch(names, peaks, path):
         pane = drawn[place][0]
         column, share = shares([row[place] for row in peaks])
         pane.step(column, share, where="post", linewidth=0.9)
-        pane.axvline(two_percent(column), color="C3", linewidth=0.9, linestyle="--", label=f"2 % at most exceed {number(two_percent(column))}")
+        pane.axvline(
+            two_percent(column),
+            color="C3",
+            linewidth=0.9,
+            linestyle="--",
+            label=f"2 % at most exceed {number(two_percent(column))}",
+        )
         pane.set_ylabel("% of rows")
         pane.set_xlabel(f"peak of {name}")
         pane.legend(loc="lower right", fontsize="small")
@@ -258,6 +294,7 @@ def draw_batch(names, peaks, path):
 
 
 # ---- pages
+
 
 def plotly():
     try:
@@ -280,19 +317,42 @@ def page_record(times, curves, bars, title, path):
     objects, subplots = plotly()
     panes = panes_of(times, curves)
     heights = [3.0] * len(panes) + ([0.4 + 0.3 * len(bars)] if bars else [])
-    figure = subplots.make_subplots(rows=len(heights) or 1, cols=1, shared_xaxes=True, vertical_spacing=0.04, row_heights=heights or None)
+    figure = subplots.make_subplots(
+        rows=len(heights) or 1, cols=1, shared_xaxes=True, vertical_spacing=0.04, row_heights=heights or None
+    )
     for row, (unit, group) in enumerate(panes, 1):
         for name, values, style in group:
             at, shown = thinned(times, values)
-            figure.add_trace(objects.Scatter(x=rounded(at), y=rounded(shown), name=name, mode="lines", line={"width": 1.3, "dash": DASHES[style]},
-                                             hovertemplate="%{y:.6g} " + unit), row=row, col=1)
+            figure.add_trace(
+                objects.Scatter(
+                    x=rounded(at),
+                    y=rounded(shown),
+                    name=name,
+                    mode="lines",
+                    line={"width": 1.3, "dash": DASHES[style]},
+                    hovertemplate="%{y:.6g} " + unit,
+                ),
+                row=row,
+                col=1,
+            )
         figure.update_yaxes(title_text=unit, row=row, col=1)
     for name, values in bars:
         spans = closed_times(times, values)
-        figure.add_trace(objects.Bar(y=[name] * len(spans), x=[stop - start for start, stop in spans], base=[start for start, _ in spans],
-                                     orientation="h", name=name, width=0.7,
-                                     text=[f"closed from {number(start)} to {number(stop)} ms" for start, stop in spans], textposition="none",
-                                     hovertemplate="%{text}"), row=len(heights), col=1)
+        figure.add_trace(
+            objects.Bar(
+                y=[name] * len(spans),
+                x=[stop - start for start, stop in spans],
+                base=[start for start, _ in spans],
+                orientation="h",
+                name=name,
+                width=0.7,
+                text=[f"closed from {number(start)} to {number(stop)} ms" for start, stop in spans],
+                textposition="none",
+                hovertemplate="%{text}",
+            ),
+            row=len(heights),
+            col=1,
+        )
     figure.update_xaxes(title_text="ms", row=len(heights) or 1, col=1)
     figure.update_layout(hovermode="x unified", barmode="overlay")
     write_page(figure, title, 140 + 90 * sum(heights), path)
@@ -303,11 +363,29 @@ def page_scan(points, resonances, title, path):
     places = impedances(points)
     figure = subplots.make_subplots(rows=2, cols=1, shared_xaxes=True, vertical_spacing=0.05, row_heights=[3, 2])
     at = [frequency for frequency, _ in places]
-    figure.add_trace(objects.Scatter(x=at, y=[abs(value) for _, value in places], name="magnitude", hovertemplate="%{y:.6g} ohm"), row=1, col=1)
+    figure.add_trace(
+        objects.Scatter(x=at, y=[abs(value) for _, value in places], name="magnitude", hovertemplate="%{y:.6g} ohm"),
+        row=1,
+        col=1,
+    )
     marked = [(frequency, value) for frequency, value in places if frequency in resonances]
-    figure.add_trace(objects.Scatter(x=[it for it, _ in marked], y=[abs(value) for _, value in marked], name="resonances", mode="markers+text",
-                                     text=[f"{number(it)} Hz" for it, _ in marked], textposition="top center"), row=1, col=1)
-    figure.add_trace(objects.Scatter(x=at, y=[angle(value) for _, value in places], name="angle", hovertemplate="%{y:.6g} degrees"), row=2, col=1)
+    figure.add_trace(
+        objects.Scatter(
+            x=[it for it, _ in marked],
+            y=[abs(value) for _, value in marked],
+            name="resonances",
+            mode="markers+text",
+            text=[f"{number(it)} Hz" for it, _ in marked],
+            textposition="top center",
+        ),
+        row=1,
+        col=1,
+    )
+    figure.add_trace(
+        objects.Scatter(x=at, y=[angle(value) for _, value in places], name="angle", hovertemplate="%{y:.6g} degrees"),
+        row=2,
+        col=1,
+    )
     figure.update_yaxes(title_text="ohm", row=1, col=1)
     figure.update_yaxes(title_text="degrees", row=2, col=1)
     figure.update_xaxes(title_text="Hz", row=2, col=1)
@@ -320,10 +398,27 @@ def page_batch(names, peaks, title, path):
     figure = subplots.make_subplots(rows=len(names), cols=1)
     for place, name in enumerate(names):
         column, share = shares([row[place] for row in peaks])
-        figure.add_trace(objects.Scatter(x=column, y=share, name=name, mode="lines", line={"shape": "hv"}, hovertemplate="%{y:.4g} % at or below %{x:.6g}"),
-                         row=place + 1, col=1)
-        figure.add_vline(x=two_percent(column), line_dash="dash", line_color="crimson", row=place + 1, col=1,
-                         annotation_text=f"2 % at most exceed {number(two_percent(column))}", annotation_position="bottom left")
+        figure.add_trace(
+            objects.Scatter(
+                x=column,
+                y=share,
+                name=name,
+                mode="lines",
+                line={"shape": "hv"},
+                hovertemplate="%{y:.4g} % at or below %{x:.6g}",
+            ),
+            row=place + 1,
+            col=1,
+        )
+        figure.add_vline(
+            x=two_percent(column),
+            line_dash="dash",
+            line_color="crimson",
+            row=place + 1,
+            col=1,
+            annotation_text=f"2 % at most exceed {number(two_percent(column))}",
+            annotation_position="bottom left",
+        )
         figure.update_xaxes(title_text=f"peak of {name}", row=place + 1, col=1)
         figure.update_yaxes(title_text="% of rows", row=place + 1, col=1)
     write_page(figure, title, 120 + 260 * len(names), path)
@@ -331,13 +426,14 @@ def page_batch(names, peaks, title, path):
 
 # ---- words
 
+
 def one_summary(words):
     """plot SUMMARY [--cfg CFG] [OUT]"""
     cfg = None
     if "--cfg" in words[:-1]:
         at = words.index("--cfg")
         cfg = words[at + 1]
-        words = words[:at] + words[at + 2:]
+        words = words[:at] + words[at + 2 :]
     with open(words[0], encoding="latin-1") as file:
         lines = file.read().split("\n")
     out = words[1] if len(words) > 1 else os.path.splitext(words[0])[0] + ".png"
