@@ -1,6 +1,7 @@
 -- The texts of a COMTRADE record (IEEE C37.111-1999): the configuration, and the data in ASCII form.
-use Rattle.std.specs.Prelude.{◌≡◌, ℕ, zero, suc, ◌+◌, ◌<◌, ◌≤◌, ℤ, pos, ◌*ℤ◌, Bool, true, false, not, ◌==◌, List, [], ◌∷◌, ◌++◌, length, map, slice_index_or, codes, decimal, unsigned_abs, if◌then◌else◌}
+use Rattle.std.specs.Prelude.{◌≡◌, ℕ, zero, suc, ◌+◌, ◌<◌, ◌≤◌, ℤ, pos, ◌*ℤ◌, Bool, false, not, ◌==◌, List, [], ◌∷◌, ◌++◌, length, map, slice_index_or, codes, decimal, unsigned_abs, if◌then◌else◌}
 use Rattle.std.specs.Fmt.{signed_decimal}
+use Rattle.emtp_case.specs.Channel.{is_status}
 use Rattle.emtp_case.specs.ChannelName.{name_of_channel}
 use Rattle.emtp_case.specs.declared.case.Parts.{Parts}
 use Rattle.emtp_case.specs.declared.channel.Channel.{Channel}
@@ -23,10 +24,6 @@ count_below test zero = 0
 count_below test (suc n) = count_below test n + (if test n then 1 else 0)
 
 -- ---- channels
-
-abbrev pub is_status : Channel → Bool
-is_status (Status s) = true
-is_status _ = false
 
 abbrev pub unit_of : Channel → List ℕ
 unit_of (NodeChannel n) = codes "V"

@@ -1,11 +1,11 @@
 //! The multipliers of the analog channels of a record.
 ghost use Rattle.std.specs.Prelude.{◌≡◌, ◌≢◌, ℕ, ℤ, List, false, ◌+◌, ◌<◌, length, pos};
-ghost use Rattle.emtp_comtrade.specs.Record.{is_status, is_status_at, analog_before, multiplier_at, MultipliersBelow, AreMultipliers};
+ghost use Rattle.emtp_comtrade.specs.Record.{is_status_at, analog_before, multiplier_at, MultipliersBelow, AreMultipliers};
 ghost use Rattle.emtp_machine.specs.Samples.{value_at, greatest};
 ghost use Rattle.emtp_comtrade.specs.Multiplier.{IsMultiplier, IsHeld};
 
 use crate::multiplier::least_multiplier;
-use emtp_case::{Case, Channel};
+use emtp_case::Case;
 use emtp_machine::Samples;
 
 /// The multipliers of the analog channels, in the order of the channels, in 1e-9 V, A or unit: the least of 1, 2
@@ -80,11 +80,5 @@ pub fn is_status_at(case: &Case, place: usize) -> bool
     requires { place < length case.now.parts.channels }
     ensures { result ≡ is_status_at case.now.parts place }
 {
-    is_status(case.parts.channels.as_slice()[place])
-}
-
-fn is_status(channel: Channel) -> bool
-    ensures { result ≡ is_status channel }
-{
-    matches!(channel, Channel::Status(_))
+    case.parts.channels.as_slice()[place].is_status()
 }
