@@ -1,0 +1,4 @@
+pub mod Reactances
+pub mod LeastLines
+pub mod Frequencies
+pub mod Probing

@@ -1,0 +1,6 @@
+use Rattle.std.proofs.Common.{◌≡◌, ◌-◌, length, drop}
+use Rattle.emtp_admittance.specs.Refusals.{branch_refused, least_refusal}
+use Rattle.emtp_admittance.proofs.refusals.least_branch.Given as goal
+
+abbrev pub invariant-loop-step : goal.invariant-loop-step
+invariant-loop-step l = l.best ≡ least_refusal (branch_refused l.freq) (drop (length l.case.parts.branches - l.step) l.case.parts.branches)

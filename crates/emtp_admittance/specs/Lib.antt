@@ -1,0 +1,6 @@
+pub mod Frequency
+pub mod Admittances
+pub mod Impedance
+pub mod Numbers
+pub mod Refusals
+pub mod Probes

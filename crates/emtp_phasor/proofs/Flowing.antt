@@ -1,0 +1,43 @@
+-- Currents of branches, one after another.
+use Rattle.std.proofs.Common.{◌≡◌, ◌∙◌, sym, ap, ℕ, ◌<◌, ℤ, ◌-ℤ◌, Bool, true, false, not, List, length, slice_get, get_or, Some, refl}
+use Rattle.std.proofs.lemmas.List.{get_or_default}
+use Rattle.std.proofs.lemmas.Option.{slice_get-get_or}
+use Rattle.emtp_case.specs.Sums.{sum_below}
+use Rattle.emtp_case.specs.declared.branch.Branch.{Branch}
+use Rattle.emtp_case.specs.declared.case.Parts.{Parts}
+use Rattle.emtp_admittance.specs.Admittances.{no_port, port_at}
+use Rattle.emtp_phasor.specs.Steady.{flows, leaving_node, leaving_through}
+use Rattle.emtp_phasor.specs.Volts.{source_phasors_into}
+use Rattle.emtp_admittance.specs.declared.admittance.TwoPort.{TwoPort}
+use Rattle.emtp_phasor.specs.declared.phasor.Phasor.{Phasor}
+
+pub not_true : (b : Bool) → b ≡ true → not b ≡ false
+not_true true e = refl
+not_true false e = absurd (cc)
+
+pub not_false : (b : Bool) → b ≡ false → not b ≡ true
+not_false false e = refl
+not_false true e = absurd (cc)
+
+-- whether the currents of the branch that an index read are in range
+pub flow_read : (case : Parts) (ports : List TwoPort) (volts : List Phasor) (others : List Branch) (at : ℕ) (d x : Branch) (e y : TwoPort) (r : Bool) → others ≡ case.branches → at < length case.branches → at < length ports → get_or others at d ≡ x → get_or ports at e ≡ y
+    → r ≡ flows y volts (Some x) → r ≡ flows (port_at ports at) volts (slice_get case.branches at)
+flow_read case ports volts others at d x e y r same there inside branch port is =
+    is
+    ∙ ap (λ z. flows z volts (Some x)) (sym port ∙ get_or_default ports at e no_port inside)
+    ∙ ap (λ o. flows (port_at ports at) volts o) (ap Some (sym branch ∙ ap (λ bs. get_or bs at d) same) ∙ sym (slice_get-get_or case.branches at d there))
+
+-- what leaves a node through the branch that an index read
+pub leaving_read : (case : Parts) (ports : List TwoPort) (volts : List Phasor) (imaginary : Bool) (n : ℕ) (others : List Branch) (at : ℕ) (d x : Branch) (e y : TwoPort) (r : ℤ) → others ≡ case.branches → at < length case.branches → at < length ports → get_or others at d ≡ x → get_or ports at e ≡ y
+    → r ≡ leaving_through imaginary y volts n (Some x) → r ≡ leaving_through imaginary (port_at ports at) volts n (slice_get case.branches at)
+leaving_read case ports volts imaginary n others at d x e y r same there inside branch port is =
+    is
+    ∙ ap (λ z. leaving_through imaginary z volts n (Some x)) (sym port ∙ get_or_default ports at e no_port inside)
+    ∙ ap (λ o. leaving_through imaginary (port_at ports at) volts n o) (ap Some (sym branch ∙ ap (λ bs. get_or bs at d) same) ∙ sym (slice_get-get_or case.branches at d there))
+
+-- what leaves a node, once all branches are added up
+pub leaving_is : (case : Parts) (ports : List TwoPort) (volts : List Phasor) (imaginary : Bool) (n count : ℕ) (sum s r : ℤ) → count ≡ length case.branches → sum ≡ sum_below count (λ b. leaving_through imaginary (port_at ports b) volts n (slice_get case.branches b)) → s ≡ source_phasors_into case imaginary n
+    → r ≡ sum -ℤ s → r ≡ leaving_node case ports volts imaginary n
+leaving_is case ports volts imaginary n count sum s r all is brought added =
+    let F : ℕ → ℤ = λ b. leaving_through imaginary (port_at ports b) volts n (slice_get case.branches b) in
+    added ∙ ap (λ x. x -ℤ s) (is ∙ ap (λ k. sum_below k F) all) ∙ ap (λ y. sum_below (length case.branches) F -ℤ y) brought

@@ -1,0 +1,11 @@
+pub mod Blocks
+pub mod Ports
+pub mod Doubling
+pub mod Sourcing
+pub mod Volting
+pub mod Flowing
+pub mod Steadying
+pub mod Judging
+pub mod AtRest
+pub mod Spans
+pub mod Lines

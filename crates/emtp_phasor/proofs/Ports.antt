@@ -1,0 +1,165 @@
+-- What the branches put into a row, one after another.
+use Rattle.std.proofs.Common.{◌≡◌, ◌≢◌, ◌∙◌, sym, ap, ℕ, ◌+◌, ◌*◌, ◌^◌, ◌<◌, ◌≤◌, ◌==◌, ℤ, pos, ◌+ℤ◌, ◌*ℤ◌, unsigned_abs, Bool, true, false, if◌then◌else◌, List, All, length, slice_get, get_or, Option, Some, None, subst, inl, inr, arith}
+use Rattle.std.proofs.lemmas.Bool.{cases_lt}
+use Rattle.std.proofs.lemmas.Bool.Decides.{nat_tests}
+use Rattle.std.proofs.lemmas.Int.{ints}
+use Rattle.std.proofs.lemmas.List.{get_or_past, get_or_default}
+use Rattle.std.proofs.lemmas.List.Elements.{All-get_or}
+use Rattle.emtp_fix.specs.declared.limit.TheConstants.{LARGEST_ENTRY}
+use Rattle.std.proofs.lemmas.Option.{get_or_from_slice_get}
+use Rattle.emtp_case.specs.Branch.{IsBranch, from_of, to_of}
+use Rattle.emtp_case.specs.Case.{IsNetwork}
+use Rattle.emtp_case.specs.Sizes.{sizes_of}
+use Rattle.emtp_rows.proofs.Phases.{branch_ends}
+use Rattle.emtp_case.specs.Sums.{sum_below}
+use Rattle.emtp_case.specs.declared.branch.Branch.{Branch}
+use Rattle.emtp_case.specs.declared.case.Parts.{Parts}
+use Rattle.emtp_case.specs.declared.row_kind.RowKind.{RowKind}
+use Rattle.emtp_case.proofs.Sums.{sum_below-more, sum_below_small}
+use Rattle.emtp_case.specs.NodeRows.{is_member, node_at}
+use Rattle.emtp_admittance.specs.Admittances.{in_block, no_port, port_at, IsSmallPort}
+use Rattle.emtp_phasor.specs.Doubled.{between_nodes, admittance_entry}
+use Rattle.emtp_admittance.specs.declared.admittance.TwoPort.{TwoPort}
+use Rattle.emtp_phasor.proofs.Blocks.{in_block_small}
+
+-- ---- one branch
+
+one : (b : Bool) (g : ℤ) → (if b then g else pos 0) ≡ pos 1 *ℤ g *ℤ (if b then pos 1 else pos 0)
+one true g = omega (arith, ints)
+one false g = omega (arith, ints)
+
+none : (b : Bool) (g : ℤ) → pos 0 ≡ pos 0 *ℤ g *ℤ (if b then pos 1 else pos 0)
+none true g = omega (arith, ints)
+none false g = omega (arith, ints)
+
+not_both : (p q n : ℕ) → p ≢ q → (p == n) ≡ true → (q == n) ≡ true → ⊥
+not_both p q n apart e f = apart (grind (arith, nat_tests))
+
+-- at the first end, at the second one, at none
+by_first : (c d : Bool) (g h : ℤ) → (if c then g else pos 0) +ℤ (if d then h else pos 0)
+    ≡ (pos 1 *ℤ g *ℤ (if c then pos 1 else pos 0) +ℤ pos 1 *ℤ h *ℤ (if d then pos 1 else pos 0)) +ℤ (pos 0 *ℤ g *ℤ (if d then pos 1 else pos 0) +ℤ pos 0 *ℤ h *ℤ (if c then pos 1 else pos 0))
+by_first c d g h = omega (arith, ints, one c g, one d h, none d g, none c h)
+
+by_second : (c d : Bool) (g h : ℤ) → (if d then g else pos 0) +ℤ (if c then h else pos 0)
+    ≡ (pos 0 *ℤ g *ℤ (if c then pos 1 else pos 0) +ℤ pos 0 *ℤ h *ℤ (if d then pos 1 else pos 0)) +ℤ (pos 1 *ℤ g *ℤ (if d then pos 1 else pos 0) +ℤ pos 1 *ℤ h *ℤ (if c then pos 1 else pos 0))
+by_second c d g h = omega (arith, ints, none c g, none d h, one d g, one c h)
+
+by_none : (c d : Bool) (g h : ℤ) → pos 0
+    ≡ (pos 0 *ℤ g *ℤ (if c then pos 1 else pos 0) +ℤ pos 0 *ℤ h *ℤ (if d then pos 1 else pos 0)) +ℤ (pos 0 *ℤ g *ℤ (if d then pos 1 else pos 0) +ℤ pos 0 *ℤ h *ℤ (if c then pos 1 else pos 0))
+by_none c d g h = omega (arith, ints, none c g, none d h, none d g, none c h)
+
+pub between_first : (row column : Bool) (y : TwoPort) (n m from to : ℕ) (o : Option Branch) (x : Branch) → o ≡ Some x → from ≡ from_of x → to ≡ to_of x → from ≢ to → from ≡ n
+    → (if from == m then in_block row column y.own else pos 0) +ℤ (if to == m then in_block row column y.other else pos 0) ≡ between_nodes row column y n m o
+between_first row column y n m from to o x is first second apart here =
+    let at : (from_of x == n) ≡ true = grind (arith, nat_tests) in
+    let off : (to_of x == n) ≡ false = grind (arith, nat_tests) in
+    rw (is, first, second, at, off) (by_first (from_of x == m) (to_of x == m) (in_block row column y.own) (in_block row column y.other))
+
+pub between_second : (row column : Bool) (y : TwoPort) (n m from to : ℕ) (o : Option Branch) (x : Branch) → o ≡ Some x → from ≡ from_of x → to ≡ to_of x → from ≢ n → to ≡ n
+    → (if to == m then in_block row column y.own else pos 0) +ℤ (if from == m then in_block row column y.other else pos 0) ≡ between_nodes row column y n m o
+between_second row column y n m from to o x is first second off here =
+    let away : (from_of x == n) ≡ false = grind (arith, nat_tests) in
+    let at : (to_of x == n) ≡ true = grind (arith, nat_tests) in
+    rw (is, first, second, away, at) (by_second (from_of x == m) (to_of x == m) (in_block row column y.own) (in_block row column y.other))
+
+pub between_none : (row column : Bool) (y : TwoPort) (n m from to : ℕ) (o : Option Branch) (x : Branch) → o ≡ Some x → from ≡ from_of x → to ≡ to_of x → from ≢ n → to ≢ n → pos 0 ≡ between_nodes row column y n m o
+between_none row column y n m from to o x is first second off away =
+    let one_off : (from_of x == n) ≡ false = grind (arith, nat_tests) in
+    let other_off : (to_of x == n) ≡ false = grind (arith, nat_tests) in
+    rw (is, one_off, other_off) (by_none (from_of x == m) (to_of x == m) (in_block row column y.own) (in_block row column y.other))
+
+-- ---- magnitudes
+
+product_small : (a c : Bool) (g : ℤ) → unsigned_abs g ≤ LARGEST_ENTRY → unsigned_abs ((if a then pos 1 else pos 0) *ℤ g *ℤ (if c then pos 1 else pos 0)) ≤ LARGEST_ENTRY
+product_small true c g small = rw (sym (one c g)) (if_small c g small)
+  where
+    if_small : (c : Bool) (g : ℤ) → unsigned_abs g ≤ LARGEST_ENTRY → unsigned_abs (if c then g else pos 0) ≤ LARGEST_ENTRY
+    if_small true g small = small
+    if_small false g small = omega (arith, ints)
+product_small false c g small = rw (sym (none c g)) (omega (arith, ints))
+
+pub between_small : (row column : Bool) (y : TwoPort) (n m : ℕ) (o : Option Branch) → IsSmallPort y → unsigned_abs (between_nodes row column y n m o) ≤ 4 * 10 ^ 17
+between_small row column y n m None small = omega (arith, ints)
+between_small row column y n m (Some x) small =
+    let own = in_block_small row column y.own small.own in
+    let other = in_block_small row column y.other small.other in
+    omega (
+      arith,
+      ints,
+      product_small (from_of x == n) (from_of x == m) (in_block row column y.own) own,
+      product_small (from_of x == n) (to_of x == m) (in_block row column y.other) other,
+      product_small (to_of x == n) (to_of x == m) (in_block row column y.own) own,
+      product_small (to_of x == n) (from_of x == m) (in_block row column y.other) other,
+    )
+
+pub port_small : (ports : List TwoPort) (b : ℕ) → All IsSmallPort ports → IsSmallPort (port_at ports b)
+port_small ports b small = elim (cases_lt b (length ports)) [
+  | inl below ↦ All-get_or IsSmallPort ports b no_port below small
+  | inr past ↦ rw (get_or_past ports b no_port past) (record {
+    own = record { conductance = omega (arith, ints); susceptance = omega (arith, ints) };
+    other = record { conductance = omega (arith, ints); susceptance = omega (arith, ints) };
+  })
+]
+
+-- what the first branches put into a row stays far from the limits
+pub branches_small : (case : Parts) (ports : List TwoPort) (row column : Bool) (n m count : ℕ) → All IsSmallPort ports → count ≤ 5000
+    → unsigned_abs (sum_below count (λ b. between_nodes row column (port_at ports b) n m (slice_get case.branches b))) ≤ 2 * 10 ^ 21
+branches_small case ports row column n m count small few =
+    omega (arith, sum_below_small count (λ b. between_nodes row column (port_at ports b) n m (slice_get case.branches b)) (4 * 10 ^ 17) (λ b below. between_small row column (port_at ports b) n m (slice_get case.branches b) (port_small ports b small)))
+
+pub current_small : (case : Parts) (ports : List TwoPort) (row column : Bool) (n m : ℕ) → All IsSmallPort ports → length case.branches ≤ 5000 → unsigned_abs (admittance_entry case ports row column n m) ≤ 2 * 10 ^ 21
+current_small case ports row column n m small few = branches_small case ports row column n m (length case.branches) small few
+
+member_small : (b : Bool) (x : ℤ) (limit : ℕ) → unsigned_abs x ≤ limit → unsigned_abs (if b then x else pos 0) ≤ limit
+member_small true x limit small = small
+member_small false x limit small = omega (arith, ints)
+
+pub group_small : (case : Parts) (ports : List TwoPort) (kinds : List RowKind) (row column : Bool) (i m count : ℕ) → All IsSmallPort ports → length case.branches ≤ 5000 → count ≤ 1000
+    → unsigned_abs (sum_below count (λ k. if is_member kinds i k then admittance_entry case ports row column (node_at case k) m else pos 0)) ≤ 2 * 10 ^ 24
+group_small case ports kinds row column i m count small few size =
+    omega (arith, sum_below_small count (λ k. if is_member kinds i k then admittance_entry case ports row column (node_at case k) m else pos 0) (2 * 10 ^ 21) (λ k below. member_small (is_member kinds i k) (admittance_entry case ports row column (node_at case k) m) (2 * 10 ^ 21) (current_small case ports row column (node_at case k) m small few)))
+
+-- ---- one more
+
+-- one branch more
+pub branch_more : (case : Parts) (ports : List TwoPort) (row column : Bool) (n m at : ℕ) (start before after : ℤ) (y : TwoPort) → y ≡ port_at ports at
+    → before ≡ start +ℤ sum_below at (λ b. between_nodes row column (port_at ports b) n m (slice_get case.branches b))
+    → after ≡ before +ℤ between_nodes row column y n m (slice_get case.branches at)
+    → after ≡ start +ℤ sum_below (at + 1) (λ b. between_nodes row column (port_at ports b) n m (slice_get case.branches b))
+branch_more case ports row column n m at start before after y is so_far added =
+    let F : ℕ → ℤ = λ b. between_nodes row column (port_at ports b) n m (slice_get case.branches b) in
+    let here : between_nodes row column y n m (slice_get case.branches at) ≡ F at = ap (λ y. between_nodes row column y n m (slice_get case.branches at)) is in
+    let more = sum_below-more at F in
+    omega (arith, ints, so_far, added, here, more)
+
+-- one node of a group more
+pub group_more : (case : Parts) (ports : List TwoPort) (kinds : List RowKind) (row column : Bool) (i m k node : ℕ) (before after : ℤ) (member : Bool) → member ≡ is_member kinds i k → node ≡ node_at case k
+    → before ≡ sum_below k (λ k. if is_member kinds i k then admittance_entry case ports row column (node_at case k) m else pos 0)
+    → after ≡ before +ℤ (if member then admittance_entry case ports row column node m else pos 0)
+    → after ≡ sum_below (k + 1) (λ k. if is_member kinds i k then admittance_entry case ports row column (node_at case k) m else pos 0)
+group_more case ports kinds row column i m k node before after member is there so_far added =
+    let F : ℕ → ℤ = λ k. if is_member kinds i k then admittance_entry case ports row column (node_at case k) m else pos 0 in
+    let here : (if member then admittance_entry case ports row column node m else pos 0) ≡ F k = ap (λ b. if b then admittance_entry case ports row column node m else pos 0) is ∙ ap (λ n. if is_member kinds i k then admittance_entry case ports row column n m else pos 0) there in
+    added ∙ ap (λ x. before +ℤ x) here ∙ ap (λ x. x +ℤ F k) so_far ∙ sym (sum_below-more k F)
+
+-- ---- what an index read
+
+pub part_small : (b : Bool) (x : ℤ) (limit : ℕ) → unsigned_abs x ≤ limit → unsigned_abs (if b then x else pos 0) ≤ limit
+part_small true x limit small = small
+part_small false x limit small = omega (arith, ints)
+
+-- the ends of a branch differ
+pub ends_apart : (case : Parts) (at : ℕ) (x : Branch) (from to : ℕ) → IsNetwork case → slice_get case.branches at ≡ Some x → at < length case.branches → from ≡ from_of x → to ≡ to_of x → from ≢ to
+ends_apart case at x from to network is there first second =
+    let fits : IsBranch case.run (sizes_of case) case.points x = subst (IsBranch case.run (sizes_of case) case.points) (get_or_from_slice_get case.branches at x x is) (network.branches at x there) in
+    rw (first, second) (branch_ends case.run (sizes_of case) case.points x fits).apart
+
+-- the port that an index read
+pub port_read : (ports : List TwoPort) (at : ℕ) (d x : TwoPort) → at < length ports → get_or ports at d ≡ x → x ≡ port_at ports at
+port_read ports at d x there is = sym is ∙ get_or_default ports at d no_port there
+
+pub ends_within : (case : Parts) (at : ℕ) (x : Branch) (from to : ℕ) → IsNetwork case → slice_get case.branches at ≡ Some x → at < length case.branches → from ≡ from_of x → to ≡ to_of x → (from ≤ length case.nodes) × (to ≤ length case.nodes)
+ends_within case at x from to network is there first second =
+    let fits : IsBranch case.run (sizes_of case) case.points x = subst (IsBranch case.run (sizes_of case) case.points) (get_or_from_slice_get case.branches at x x is) (network.branches at x there) in
+    let ends = branch_ends case.run (sizes_of case) case.points x fits in
+    (rw first ends.from_there, rw second ends.to_there)

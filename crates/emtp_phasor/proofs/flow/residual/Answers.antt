@@ -1,0 +1,39 @@
+use Rattle.std.proofs.Common.{◌≡◌, ◌∙◌, ◌<◌, ap, length, to_z, of_z, sym, arith}
+use mir.Syntax.{w128}
+use Rattle.std.proofs.lemmas.Int.{ints}
+use Rattle.std.proofs.lemmas.List.{get_or_default}
+use Rattle.emtp_case.specs.declared.row_kind.RowKind.TheVariants.{Ground, Kcl}
+use Rattle.emtp_case.proofs.RowsOfNodes.{order_at, order_size}
+use Rattle.emtp_phasor.proofs.Judging.{residual_kcl, residual_sum}
+use Rattle.emtp_phasor.proofs.Volting.{kinds_size}
+use Rattle.emtp_phasor.proofs.flow.residual.Goals as goal
+
+pub bounds : goal.bounds
+bounds c = omega (arith, ap length c.requires.kinds, kinds_size c.args.case.now.parts, c.requires.there)
+
+pub node_at-node-requires : goal.node_at-node-requires
+node_at-node-requires c = omega (arith, c.requires.there, order_size c.args.case.now.parts c.args.order.now c.requires.order)
+
+pub returns-in-Kcl-clause-value : goal.returns-in-Kcl-clause-value
+returns-in-Kcl-clause-value c =
+    let case = c.args.case.now.parts in
+    let i = c.args.i in
+    let inside : i < length c.args.kinds.now = omega (arith, ap length c.requires.kinds, kinds_size case, c.requires.there) in
+    let kind = get_or_default c.args.kinds.now i Ground Kcl inside ∙ c.in-Kcl.is in
+    let wide : to_z w128 (of_z w128 c.greater.result) ≡ c.greater.result = omega (arith, ints, c.greater.ensures.bound) in
+    let one : to_z w128 (of_z w128 c.leaving.result) ≡ c.leaving.result = omega (arith, ints, c.leaving.ensures.bound) in
+    let two : to_z w128 (of_z w128 c.leaving-in-Kcl.result) ≡ c.leaving-in-Kcl.result = omega (arith, ints, c.leaving-in-Kcl.ensures.bound) in
+    let value = rw (one, two) at c.greater.ensures.value in
+    wide ∙ value ∙ residual_kcl case c.args.ports.now c.args.volts.now c.args.kinds.now i c.node_at-node.result c.leaving.result c.leaving-in-Kcl.result c.requires.kinds kind (sym (order_at case c.args.order.now i c.requires.order) ∙ c.node_at-node.ensures.node) c.leaving.ensures.value c.leaving-in-Kcl.ensures.value
+
+pub returns-in-Sum-clause-value : goal.returns-in-Sum-clause-value
+returns-in-Sum-clause-value c =
+    let case = c.args.case.now.parts in
+    let i = c.args.i in
+    let inside : i < length c.args.kinds.now = omega (arith, ap length c.requires.kinds, kinds_size case, c.requires.there) in
+    let kind = get_or_default c.args.kinds.now i Ground Kcl inside ∙ c.in-Sum.is in
+    let wide : to_z w128 (of_z w128 c.greater-in-Sum.result) ≡ c.greater-in-Sum.result = omega (arith, ints, c.greater-in-Sum.ensures.bound) in
+    let one : to_z w128 (of_z w128 c.leaving_group.result) ≡ c.leaving_group.result = omega (arith, ints, c.leaving_group.ensures.bound) in
+    let two : to_z w128 (of_z w128 c.leaving_group-in-Sum.result) ≡ c.leaving_group-in-Sum.result = omega (arith, ints, c.leaving_group-in-Sum.ensures.bound) in
+    let value = rw (one, two) at c.greater-in-Sum.ensures.value in
+    wide ∙ value ∙ residual_sum case c.args.ports.now c.args.volts.now c.args.kinds.now i c.leaving_group.result c.leaving_group-in-Sum.result c.requires.kinds kind c.leaving_group.ensures.value c.leaving_group-in-Sum.ensures.value

@@ -1,0 +1,22 @@
+-- How the fields of a system hold together.
+use Rattle.std.specs.Prelude.{◌≡◌, ◌+◌, ◌*◌, None, length}
+use Rattle.emtp_case.specs.RowOrder.{order_of}
+use Rattle.emtp_case.specs.StepRecord.{rest_of}
+use Rattle.emtp_case.specs.declared.case.Parts.{Parts}
+use Rattle.emtp_switch.specs.Groups.{tied_of}
+use Rattle.emtp_phasor.specs.Steady.{resting_kinds, steady_right}
+use Rattle.emtp_phasor.specs.declared.system.System.{System}
+
+-- it is of the case, whose switches tie no two known voltages at rest, and its room has its lengths
+pub record IsReady (case : Parts) (s : System) : Type 0 where
+  pub order_is : s.order ≡ order_of case
+  pub free : tied_of case.switches (order_of case) (rest_of case).switch_states ≡ None
+  pub kinds_are : s.kinds.items ≡ resting_kinds case
+  pub rows_case : s.rows.case ≡ case
+  pub rows_kinds : s.rows.kinds ≡ resting_kinds case
+  pub kept_size : s.kept.size ≡ 2 * length case.nodes
+  pub right_is : s.right.items ≡ steady_right case
+  pub ports_count : length s.ports.items ≡ length case.branches
+  pub rhs_count : length s.rhs.items ≡ 2 * length case.nodes
+  pub x_count : length s.x.items ≡ 2 * length case.nodes
+  pub volts_count : length s.volts.items ≡ length case.nodes + 1

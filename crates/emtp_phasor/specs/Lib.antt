@@ -1,0 +1,11 @@
+pub mod Doubled
+pub mod Volts
+pub mod Steady
+pub mod Names
+pub mod Ending
+pub mod Solving
+pub mod Scanning
+pub mod Opening
+pub mod HeldRows
+pub mod HeldSystem
+pub mod HeldLines

@@ -1,0 +1,223 @@
+//! Filling a row of the doubled matrix.
+
+ghost use Rattle.std.specs.Prelude.{◌≡◌, ◌*◌, ◌/◌, ◌+◌, ◌^◌, ◌<◌, ◌≤◌, ◌==◌, ◌+ℤ◌, ℕ, All, false, true, pos, if◌then◌else◌, length, unsigned_abs, slice_get, slice_set};
+ghost use Rattle.emtp_elim.specs.Matrix.{item};
+ghost use Rattle.emtp_case.specs.RowOrder.{order_of};
+ghost use Rattle.emtp_case.specs.RowKinds.{TieIsThere};
+ghost use Rattle.emtp_case.specs.Sums.{sum_below};
+ghost use Rattle.emtp_case.specs.NodeRows.{is_member, is_tie_to, kind_at, node_at};
+ghost use Rattle.emtp_fix.specs.declared.limit.TheConstants.{LARGEST_ENTRY};
+ghost use Rattle.emtp_admittance.specs.Admittances.{in_block, is_imaginary, IsSmallAdmittance, IsSmallPort};
+ghost use Rattle.emtp_phasor.specs.Doubled.{Doubled, between_nodes, admittance_entry, doubled_entry};
+
+use emtp_admittance::{Admittance, TwoPort};
+use emtp_case::{Case, RowKind, RowOrder};
+use emtp_fix::PICO;
+
+/// Fills `out` with a row.
+pub(crate) fn fill_row(
+    case: &Case,
+    order: &RowOrder,
+    ports: &[TwoPort],
+    kinds: &[RowKind],
+    row: usize,
+    out: &mut [i128],
+)
+    requires order { order.now ≡ order_of case.now.parts }
+    requires ports { length ports.now ≡ length case.now.parts.branches }
+    requires small { All IsSmallPort ports.now }
+    requires kinds { length kinds.now ≡ length case.now.parts.nodes }
+    requires ties { All (TieIsThere (length case.now.parts.nodes)) kinds.now }
+    requires row { row < 2 * length case.now.parts.nodes }
+    requires out { length out.old ≡ 2 * length case.now.parts.nodes }
+    ensures { (c : ℕ) → c < length out.old → item out.new c ≡ doubled_entry (record { case = case.now.parts; ports = ports.now; kinds = kinds.now }) row c (kind_at kinds.now (row / 2)) }
+{
+    out.fill(0);
+    let imaginary = row % 2 == 1;
+    match kinds[row / 2] {
+        RowKind::Kcl => add_node(case, order, ports, order.node_at(row / 2), imaginary, out),
+        RowKind::Sum => add_group(case, order, ports, kinds, row / 2, imaginary, out),
+        RowKind::Tie(other) => {
+            add_to(out, row, PICO);
+            add_to(out, 2 * other as usize + row % 2, -PICO);
+        }
+        RowKind::Ground | RowKind::Source => add_to(out, row, PICO),
+    }
+}
+
+/// Adds the currents of each node of a group.
+fn add_group(
+    case: &Case,
+    order: &RowOrder,
+    ports: &[TwoPort],
+    kinds: &[RowKind],
+    i: usize,
+    imaginary: bool,
+    out: &mut [i128],
+)
+    requires order { order.now ≡ order_of case.now.parts }
+    requires ports { length ports.now ≡ length case.now.parts.branches }
+    requires small { All IsSmallPort ports.now }
+    requires kinds { length kinds.now ≡ length case.now.parts.nodes }
+    requires out { length out.old ≡ 2 * length case.now.parts.nodes }
+    requires zeros { (c : ℕ) → c < length out.old → item out.old c ≡ pos 0 }
+    ensures { (c : ℕ) → c < length out.old → item out.new c ≡ sum_below (length case.now.parts.nodes) (λ k. if is_member kinds.now i k then admittance_entry case.now.parts ports.now imaginary (is_imaginary c) (node_at case.now.parts k) (node_at case.now.parts (c / 2)) else pos 0) }
+{
+    for k in 0..kinds.len() {
+        let node = order.node_at(k);
+        add_member(
+            case,
+            order,
+            ports,
+            node,
+            imaginary,
+            is_member(kinds, i, k),
+            out,
+        );
+    }
+}
+
+/// Adds the currents of a node, where it is one of the group.
+fn add_member(
+    case: &Case,
+    order: &RowOrder,
+    ports: &[TwoPort],
+    node: u32,
+    imaginary: bool,
+    is_member: bool,
+    out: &mut [i128],
+)
+    requires order { order.now ≡ order_of case.now.parts }
+    requires ports { length ports.now ≡ length case.now.parts.branches }
+    requires small { All IsSmallPort ports.now }
+    requires out { length out.old ≡ 2 * length case.now.parts.nodes }
+    requires bound { (c : ℕ) → c < length out.old → unsigned_abs (item out.old c) ≤ 10 ^ 29 }
+    ensures { (c : ℕ) → c < length out.old → item out.new c ≡ item out.old c +ℤ (if is_member then admittance_entry case.now.parts ports.now imaginary (is_imaginary c) node (node_at case.now.parts (c / 2)) else pos 0) }
+{
+    if is_member {
+        add_node(case, order, ports, node, imaginary, out);
+    }
+}
+
+pub(crate) fn is_member(kinds: &[RowKind], i: usize, k: usize) -> bool
+    requires { k < length kinds.now }
+    ensures { result ≡ is_member kinds.now i k }
+{
+    k == i || is_tie_to(i, kinds[k])
+}
+
+fn is_tie_to(i: usize, kind: RowKind) -> bool
+    ensures { result ≡ is_tie_to i kind }
+{
+    match kind {
+        RowKind::Tie(row) => row as usize == i,
+        RowKind::Kcl | RowKind::Sum | RowKind::Ground | RowKind::Source => false,
+    }
+}
+
+/// Adds a part of the currents that leave a node through all branches, each in its columns.
+fn add_node(
+    case: &Case,
+    order: &RowOrder,
+    ports: &[TwoPort],
+    node: u32,
+    imaginary: bool,
+    out: &mut [i128],
+)
+    requires order { order.now ≡ order_of case.now.parts }
+    requires ports { length ports.now ≡ length case.now.parts.branches }
+    requires small { All IsSmallPort ports.now }
+    requires out { length out.old ≡ 2 * length case.now.parts.nodes }
+    requires bound { (c : ℕ) → c < length out.old → unsigned_abs (item out.old c) ≤ 10 ^ 29 }
+    ensures { (c : ℕ) → c < length out.old → item out.new c ≡ item out.old c +ℤ admittance_entry case.now.parts ports.now imaginary (is_imaginary c) node (node_at case.now.parts (c / 2)) }
+{
+    for at in 0..ports.len() {
+        add_branch(case, order, at, &ports[at], node, imaginary, out);
+    }
+}
+
+/// Adds a part of the current that leaves a node through a branch.
+fn add_branch(
+    case: &Case,
+    order: &RowOrder,
+    at: usize,
+    port: &TwoPort,
+    node: u32,
+    imaginary: bool,
+    out: &mut [i128],
+)
+    requires order { order.now ≡ order_of case.now.parts }
+    requires there { at < length case.now.parts.branches }
+    requires small { IsSmallPort port.now }
+    requires out { length out.old ≡ 2 * length case.now.parts.nodes }
+    requires bound { (c : ℕ) → c < length out.old → unsigned_abs (item out.old c) ≤ 10 ^ 30 }
+    ensures { (c : ℕ) → c < length out.old → item out.new c ≡ item out.old c +ℤ between_nodes imaginary (is_imaginary c) port.now node (node_at case.now.parts (c / 2)) (slice_get case.now.parts.branches at) }
+{
+    let (from, to) = case.parts.branches.as_slice()[at].ends();
+    if from == node {
+        add_end(case, order, from, &port.own, imaginary, out);
+        add_end(case, order, to, &port.other, imaginary, out);
+    } else if to == node {
+        add_end(case, order, to, &port.own, imaginary, out);
+        add_end(case, order, from, &port.other, imaginary, out);
+    }
+}
+
+/// Adds an admittance in the columns of a node; ground has none.
+fn add_end(
+    case: &Case,
+    order: &RowOrder,
+    node: u32,
+    y: &Admittance,
+    imaginary: bool,
+    out: &mut [i128],
+)
+    requires order { order.now ≡ order_of case.now.parts }
+    requires node { node ≤ length case.now.parts.nodes }
+    requires small { IsSmallAdmittance y.now }
+    requires out { length out.old ≡ 2 * length case.now.parts.nodes }
+    requires bound { (c : ℕ) → c < length out.old → unsigned_abs (item out.old c) ≤ 2 * 10 ^ 30 }
+    ensures { (c : ℕ) → c < length out.old → item out.new c ≡ item out.old c +ℤ (if node == node_at case.now.parts (c / 2) then in_block imaginary (is_imaginary c) y.now else pos 0) }
+{
+    if node != 0 {
+        let row = order.row_of(node);
+        add_to(out, 2 * row, real_column(imaginary, y));
+        add_to(out, 2 * row + 1, imaginary_column(imaginary, y));
+    }
+}
+
+/// What an admittance puts into the real column.
+pub(crate) fn real_column(imaginary: bool, y: &Admittance) -> i128
+    requires { IsSmallAdmittance y.now }
+    ensures value { result ≡ in_block imaginary false y.now }
+    ensures small { unsigned_abs result ≤ LARGEST_ENTRY }
+{
+    if imaginary {
+        y.susceptance as i128
+    } else {
+        y.conductance as i128
+    }
+}
+
+/// What an admittance puts into the imaginary column.
+pub(crate) fn imaginary_column(imaginary: bool, y: &Admittance) -> i128
+    requires { IsSmallAdmittance y.now }
+    ensures value { result ≡ in_block imaginary true y.now }
+    ensures small { unsigned_abs result ≤ LARGEST_ENTRY }
+{
+    if imaginary {
+        y.conductance as i128
+    } else {
+        -(y.susceptance as i128)
+    }
+}
+
+/// Adds an amount to an entry of a row.
+fn add_to(out: &mut [i128], at: usize, amount: i128)
+    requires place { at < length out.old }
+    requires entry { unsigned_abs (item out.old at) ≤ 10 ^ 31 }
+    requires amount { unsigned_abs amount ≤ 10 ^ 18 }
+    ensures { out.new ≡ slice_set out.old at (item out.old at +ℤ amount) }
+{
+    out[at] += amount;
+}

@@ -1,0 +1,317 @@
+//! The currents of branches in the steady state, and how far they are from Kirchhoff's current law.
+
+ghost use Rattle.std.specs.Prelude.{◌≡◌, ◌*◌, ◌+◌, ◌^◌, ◌<◌, ◌≤◌, ◌≤ℤ◌, ◌+ℤ◌, ◌*ℤ◌, ℕ, All, Some, true, max, pos, if◌then◌else◌, length, nat_lt, unsigned_abs, IfSome, IsNone};
+ghost use Rattle.emtp_fix.specs.declared.limit.TheConstants.{LARGEST_ENTRY, LARGEST_VALUE};
+ghost use Rattle.emtp_case.specs.Branch.{from_of, to_of};
+ghost use Rattle.emtp_case.specs.RowOrder.{order_of};
+ghost use Rattle.emtp_case.specs.NodeRows.{group_sum, kind_at, node_at};
+ghost use Rattle.emtp_admittance.specs.Admittances.{in_block, port_at, IsSmallPort};
+ghost use Rattle.emtp_phasor.specs.Steady.{AllFlow, JudgesResiduals, entering, first_current, first_flow_out, flows, is_in_range, resting_kinds, leaving_node, leaving_through, residual_in, row_residual, second_current};
+ghost use Rattle.emtp_phasor.specs.Volts.{IsVolt, volt_at};
+
+use crate::fill::{imaginary_column, is_member, real_column};
+use crate::phasor::Phasor;
+use crate::sources::sources_into;
+use emtp_admittance::{TwoPort, product};
+use emtp_case::{Branch, Case, RowKind, RowOrder};
+use emtp_fix::{LARGEST_VALUE, PICO, near};
+use emtp_wave::CosTable;
+
+/// A voltage times the two numbers of a row.
+fn weighted(g: i128, b: i128, v: Phasor) -> i128
+    requires g { unsigned_abs g ≤ LARGEST_ENTRY }
+    requires b { unsigned_abs b ≤ LARGEST_ENTRY }
+    requires v { IsVolt v }
+    ensures value { result ≡ g *ℤ v.re +ℤ b *ℤ v.im }
+    ensures bound { unsigned_abs result ≤ 2 * 10 ^ 36 }
+{
+    sum(product(g, v.re as i128), product(b, v.im as i128))
+}
+
+fn sum(a: i128, b: i128) -> i128
+    requires a { unsigned_abs a ≤ 2 * 10 ^ 36 }
+    requires b { unsigned_abs b ≤ 2 * 10 ^ 36 }
+    ensures value { result ≡ a +ℤ b }
+    ensures bound { unsigned_abs result ≤ unsigned_abs a + unsigned_abs b }
+{
+    a + b
+}
+
+/// A part of the current that enters a branch at an end with voltage `v`, where the other end has voltage `u`, in nA.
+fn entering(imaginary: bool, y: &TwoPort, v: Phasor, u: Phasor) -> i128
+    requires small { IsSmallPort y.now }
+    requires v { IsVolt v }
+    requires u { IsVolt u }
+    ensures value { result ≡ entering imaginary y.now v u }
+{
+    let own = weighted(
+        real_column(imaginary, &y.own),
+        imaginary_column(imaginary, &y.own),
+        v,
+    );
+    let other = weighted(
+        real_column(imaginary, &y.other),
+        imaginary_column(imaginary, &y.other),
+        u,
+    );
+    near(sum(own, other), PICO)
+}
+
+/// A part of the current at the first end of a branch.
+fn first_current(imaginary: bool, y: &TwoPort, volts: &[Phasor], b: &Branch) -> i128
+    requires small { IsSmallPort y.now }
+    requires volts { All IsVolt volts.now }
+    requires from { from_of b.now < length volts.now }
+    requires to { to_of b.now < length volts.now }
+    ensures { result ≡ first_current imaginary y.now volts.now b.now }
+{
+    let (from, to) = b.ends();
+    entering(imaginary, y, volts[from as usize], volts[to as usize])
+}
+
+/// A part of the current at the second end of a branch.
+fn second_current(imaginary: bool, y: &TwoPort, volts: &[Phasor], b: &Branch) -> i128
+    requires small { IsSmallPort y.now }
+    requires volts { All IsVolt volts.now }
+    requires from { from_of b.now < length volts.now }
+    requires to { to_of b.now < length volts.now }
+    ensures { result ≡ second_current imaginary y.now volts.now b.now }
+{
+    let (from, to) = b.ends();
+    entering(imaginary, y, volts[to as usize], volts[from as usize])
+}
+
+fn is_in_range(x: i128) -> bool
+    ensures { result ≡ is_in_range x }
+{
+    x.unsigned_abs() <= LARGEST_VALUE
+}
+
+/// Whether all currents of a branch are in range.
+fn flows(y: &TwoPort, volts: &[Phasor], b: &Branch) -> bool
+    requires small { IsSmallPort y.now }
+    requires volts { All IsVolt volts.now }
+    requires from { from_of b.now < length volts.now }
+    requires to { to_of b.now < length volts.now }
+    ensures { result ≡ flows y.now volts.now (Some b.now) }
+{
+    (is_in_range(first_current(false, y, volts, b))
+        && is_in_range(first_current(true, y, volts, b)))
+        && (is_in_range(second_current(false, y, volts, b))
+            && is_in_range(second_current(true, y, volts, b)))
+}
+
+/// The first branch with a current out of range.
+pub(crate) fn first_out(case: &Case, ports: &[TwoPort], volts: &[Phasor]) -> Option<usize>
+    requires ports { length ports.now ≡ length case.now.parts.branches }
+    requires small { All IsSmallPort ports.now }
+    requires volts { All IsVolt volts.now }
+    requires nodes { length volts.now ≡ length case.now.parts.nodes + 1 }
+    ensures value { result ≡ first_flow_out case.now.parts ports.now volts.now }
+    ensures there { IfSome result (λ b. b < length case.now.parts.branches) }
+    ensures none { IsNone result → AllFlow case.now.parts ports.now volts.now (length case.now.parts.branches) }
+{
+    let branches = case.parts.branches.as_slice();
+    for at in 0..branches.len() {
+        if !flows(&ports[at], volts, &branches[at]) {
+            return Some(at);
+        }
+    }
+    None
+}
+
+/// A part of the current that leaves a node through a branch.
+fn leaving_by(imaginary: bool, y: &TwoPort, volts: &[Phasor], node: u32, b: &Branch) -> i128
+    requires small { IsSmallPort y.now }
+    requires volts { All IsVolt volts.now }
+    requires from { from_of b.now < length volts.now }
+    requires to { to_of b.now < length volts.now }
+    requires flows { flows y.now volts.now (Some b.now) ≡ true }
+    ensures value { result ≡ leaving_through imaginary y.now volts.now node (Some b.now) }
+    ensures small { unsigned_abs result ≤ 2 * 10 ^ 18 }
+{
+    let (from, to) = b.ends();
+    if from == node {
+        if to == node {
+            first_current(imaginary, y, volts, b) + second_current(imaginary, y, volts, b)
+        } else {
+            first_current(imaginary, y, volts, b)
+        }
+    } else if to == node {
+        second_current(imaginary, y, volts, b)
+    } else {
+        0
+    }
+}
+
+/// A part of the current that leaves a node through branches, less what its current sources bring.
+fn leaving(
+    table: &CosTable,
+    case: &Case,
+    ports: &[TwoPort],
+    volts: &[Phasor],
+    imaginary: bool,
+    node: u32,
+) -> i128
+    requires ports { length ports.now ≡ length case.now.parts.branches }
+    requires small { All IsSmallPort ports.now }
+    requires volts { All IsVolt volts.now }
+    requires nodes { length volts.now ≡ length case.now.parts.nodes + 1 }
+    requires flows { AllFlow case.now.parts ports.now volts.now (length case.now.parts.branches) }
+    ensures value { result ≡ leaving_node case.now.parts ports.now volts.now imaginary node }
+    ensures bound { unsigned_abs result ≤ 10 ^ 23 }
+{
+    let branches = case.parts.branches.as_slice();
+    let mut sum = 0;
+    for at in 0..branches.len() {
+        sum += leaving_by(imaginary, &ports[at], volts, node, &branches[at]);
+    }
+    sum - sources_into(table, case, imaginary, node)
+}
+
+/// A part of the current that leaves a node, where it is one of a group.
+fn leaving_member(
+    table: &CosTable,
+    case: &Case,
+    ports: &[TwoPort],
+    volts: &[Phasor],
+    imaginary: bool,
+    node: u32,
+    is_member: bool,
+) -> i128
+    requires ports { length ports.now ≡ length case.now.parts.branches }
+    requires small { All IsSmallPort ports.now }
+    requires volts { All IsVolt volts.now }
+    requires nodes { length volts.now ≡ length case.now.parts.nodes + 1 }
+    requires flows { AllFlow case.now.parts ports.now volts.now (length case.now.parts.branches) }
+    ensures value { result ≡ (if is_member then leaving_node case.now.parts ports.now volts.now imaginary node else pos 0) }
+    ensures bound { unsigned_abs result ≤ 10 ^ 23 }
+{
+    if is_member {
+        leaving(table, case, ports, volts, imaginary, node)
+    } else {
+        0
+    }
+}
+
+/// A part of the current that leaves a group.
+fn leaving_group(
+    table: &CosTable,
+    case: &Case,
+    order: &RowOrder,
+    kinds: &[RowKind],
+    ports: &[TwoPort],
+    volts: &[Phasor],
+    imaginary: bool,
+    i: usize,
+) -> i128
+    requires order { order.now ≡ order_of case.now.parts }
+    requires kinds { kinds.now ≡ resting_kinds case.now.parts }
+    requires ports { length ports.now ≡ length case.now.parts.branches }
+    requires small { All IsSmallPort ports.now }
+    requires volts { All IsVolt volts.now }
+    requires nodes { length volts.now ≡ length case.now.parts.nodes + 1 }
+    requires flows { AllFlow case.now.parts ports.now volts.now (length case.now.parts.branches) }
+    ensures value { result ≡ group_sum case.now.parts kinds.now i (leaving_node case.now.parts ports.now volts.now imaginary) }
+    ensures bound { unsigned_abs result ≤ 10 ^ 27 }
+{
+    let mut sum = 0;
+    for k in 0..kinds.len() {
+        sum += leaving_member(
+            table,
+            case,
+            ports,
+            volts,
+            imaginary,
+            order.node_at(k),
+            is_member(kinds, i, k),
+        );
+    }
+    sum
+}
+
+/// The greater of two magnitudes.
+fn greater(a: i128, b: i128) -> i128
+    requires a { unsigned_abs a ≤ 10 ^ 30 }
+    requires b { unsigned_abs b ≤ 10 ^ 30 }
+    ensures value { result ≡ pos (max (unsigned_abs a) (unsigned_abs b)) }
+    ensures bound { unsigned_abs result ≤ 10 ^ 30 }
+{
+    let (a, b) = (a.unsigned_abs(), b.unsigned_abs());
+    if a < b { b as i128 } else { a as i128 }
+}
+
+/// The residual of a row.
+fn residual(
+    table: &CosTable,
+    case: &Case,
+    order: &RowOrder,
+    kinds: &[RowKind],
+    ports: &[TwoPort],
+    volts: &[Phasor],
+    i: usize,
+) -> i128
+    requires order { order.now ≡ order_of case.now.parts }
+    requires kinds { kinds.now ≡ resting_kinds case.now.parts }
+    requires ports { length ports.now ≡ length case.now.parts.branches }
+    requires small { All IsSmallPort ports.now }
+    requires volts { All IsVolt volts.now }
+    requires nodes { length volts.now ≡ length case.now.parts.nodes + 1 }
+    requires flows { AllFlow case.now.parts ports.now volts.now (length case.now.parts.branches) }
+    requires there { i < length case.now.parts.nodes }
+    ensures value { result ≡ pos (row_residual case.now.parts ports.now volts.now i) }
+    ensures bound { unsigned_abs result ≤ 10 ^ 30 }
+{
+    match kinds[i] {
+        RowKind::Kcl => {
+            let node = order.node_at(i);
+            greater(
+                leaving(table, case, ports, volts, false, node),
+                leaving(table, case, ports, volts, true, node),
+            )
+        }
+        RowKind::Sum => {
+            greater(
+                leaving_group(table, case, order, kinds, ports, volts, false, i),
+                leaving_group(table, case, order, kinds, ports, volts, true, i),
+            )
+        }
+        RowKind::Tie(_) | RowKind::Ground | RowKind::Source => 0,
+    }
+}
+
+/// Whether a residual exceeds the tolerance.
+fn exceeds(residual: i128, tolerance: i64) -> bool
+    ensures { result ≡ nat_lt (unsigned_abs tolerance) (unsigned_abs residual) }
+{
+    residual.unsigned_abs() > u128::from(tolerance.unsigned_abs())
+}
+
+/// The greatest residual, or the first row above the tolerance with its residual, in nA.
+pub(crate) fn judge(
+    table: &CosTable,
+    case: &Case,
+    order: &RowOrder,
+    kinds: &[RowKind],
+    ports: &[TwoPort],
+    volts: &[Phasor],
+) -> Result<i128, (usize, i128)>
+    requires order { order.now ≡ order_of case.now.parts }
+    requires kinds { kinds.now ≡ resting_kinds case.now.parts }
+    requires ports { length ports.now ≡ length case.now.parts.branches }
+    requires small { All IsSmallPort ports.now }
+    requires volts { All IsVolt volts.now }
+    requires nodes { length volts.now ≡ length case.now.parts.nodes + 1 }
+    requires flows { AllFlow case.now.parts ports.now volts.now (length case.now.parts.branches) }
+    ensures { JudgesResiduals case.now.parts ports.now volts.now result }
+{
+    let mut greatest = 0;
+    for i in 0..case.parts.nodes.len() {
+        let residual = residual(table, case, order, kinds, ports, volts, i);
+        if exceeds(residual, case.parts.run.tolerance) {
+            return Err((i, residual));
+        }
+        greatest = greater(greatest, residual);
+    }
+    Ok(greatest)
+}

@@ -1,0 +1,35 @@
+//! The sinusoidal steady state of a linear case, and its impedance over frequencies.
+//!
+//! [`solve`] answers the complex voltages of all nodes at one frequency, [`scan`] the impedance that the one source of a case
+//! sees at many. The complex nodal system is solved as a real one with twice the rows, over the rows, groups and kinds that
+//! the network's step has, with one kept factor: what a frequency costs is the elimination of its own system. The crate
+//! stands on `emtp_admittance`, `emtp_elim`, `emtp_tail`, `emtp_switch`, `emtp_wave`, `emtp_case` and, for the causes of
+//! ends, on `emtp_machine`.
+//!
+//! ```text
+//! let state = solve(alloc, &case, None)?;                        // volts of each node, in nV
+//! let lines = scan(alloc, &case, 50_000_000, 2_000_000_000, 50_000_000)?;    // 50 Hz to 2 kHz
+//! ```
+#![tactic(auto)]
+
+mod ending;
+mod fault;
+mod fill;
+mod flow;
+mod line;
+mod opening;
+mod phasor;
+mod phasor_rows;
+mod scanning;
+mod solving;
+mod sources;
+mod steady;
+mod system;
+
+pub use ending::Cause;
+pub use fault::PhasorFault;
+pub use line::{ScanAnswer, ScanLine};
+pub use phasor::Phasor;
+pub use phasor_rows::PhasorRows;
+pub use scanning::{MOST_FREQUENCIES, scan};
+pub use solving::{Phasors, solve};

@@ -1,0 +1,119 @@
+//! The steady state of a case.
+
+ghost use Rattle.std.specs.Prelude.{◌≡◌, ◌<◌, ◌≤◌, ◌∷◌, drop, length, IfOk, IfErr};
+ghost use Rattle.std.specs.Option.{ForSome};
+ghost use Rattle.emtp_admittance.specs.Frequency.{IsFrequency};
+ghost use Rattle.emtp_admittance.specs.declared.limit.TheConstants.{MOST_PHASOR_NODES};
+ghost use Rattle.emtp_phasor.specs.Ending.{EndsAlways, EndsSteady};
+ghost use Rattle.emtp_phasor.specs.Solving.{AnswersCase, FaultsAtFrequency};
+ghost use Rattle.emtp_phasor.specs.Steady.{IsSteady};
+ghost use Rattle.emtp_phasor.specs.Volts.{nothing};
+
+use crate::ending::{Ending, node_name};
+use crate::fault::PhasorFault;
+use crate::phasor::Phasor;
+use crate::system::{Stop, System};
+use emtp_admittance::judged_frequency;
+use emtp_case::Case;
+use emtp_fix::Steps;
+use emtp_wave::CosTable;
+use std::alloc::{AllocError, Global};
+use std::marker::Brand;
+use std::sync::ledger::{Blank, Ledger};
+
+/// The voltages of a steady state.
+#[derive(Debug, Drop)]
+pub struct Phasors {
+    /// The frequency, in micro-hertz.
+    pub freq: i64,
+    /// The greatest residual of Kirchhoff's current law, in nA; 0 where no row has one.
+    pub residual: i128,
+    /// The voltages by node number from 1, in nV.
+    pub volts: Vec<Phasor>,
+}
+
+/// The steady state of a case at the given frequency, in micro-hertz, or at that of its first source that has one.
+///
+/// The case is linear and without control: which cards are refused, and in which order, is decided by
+/// [`judged_frequency`]. The doubled system is eliminated from its first row, and each residual of an answer is within the
+/// tolerance of the case. This project's own.
+pub fn solve(alloc: Global, case: &Case, freq: Option<i64>) -> Result<Phasors, PhasorFault>
+    requires { ForSome freq IsFrequency }
+    ensures { AnswersCase case.now.parts freq result }
+{
+    match CosTable::open(alloc) {
+        Ok(table) => match judged_frequency(&table, case, freq) {
+            Ok(freq) => solve_at::<Brand>(alloc, &table, case, freq, Blank::new(1)),
+            Err(refused) => Err(PhasorFault::Refused {
+                line: refused.line,
+                reason: refused.reason,
+            }),
+        },
+        Err(_) => Err(PhasorFault::NoMemory),
+    }
+}
+
+/// The steady state at a frequency that is good.
+fn solve_at<L: Ledger>(
+    alloc: Global,
+    table: &CosTable,
+    case: &Case,
+    freq: i64,
+    blank: Blank,
+) -> Result<Phasors, PhasorFault>
+    requires few { length case.now.parts.nodes ≤ MOST_PHASOR_NODES }
+    requires freq { IsFrequency freq }
+    requires name { blank.name ≡ L.name }
+    requires parts { blank.parts ≡ L.parts }
+    requires some { 0 < blank.parts }
+    ensures freq { IfOk result (λ p. p.freq ≡ freq) }
+    ensures good { IfOk result (λ p. IsSteady case.now.parts freq (nothing ∷ p.volts.items) p.residual) }
+    ensures fault { IfErr result (FaultsAtFrequency case.now.parts freq) }
+{
+    match System::open(alloc, table, case) {
+        Ok(mut system) => {
+            let mut steps = Steps::<L>::new(blank);
+            match system.at(table, case, freq, &mut steps) {
+                Ok(residual) => match behind_ground(alloc, &system.volts) {
+                    Ok(volts) => Ok(Phasors {
+                        freq,
+                        residual,
+                        volts,
+                    }),
+                    Err(_) => Err(PhasorFault::NoMemory),
+                },
+                Err(end) => Err(ended(case, freq, end)),
+            }
+        }
+        Err(Stop::Ended(end)) => Err(always_ended(case, freq, end)),
+        Err(Stop::NoMemory) => Err(PhasorFault::NoMemory),
+    }
+}
+
+/// A copy of the voltages without that of ground.
+fn behind_ground(alloc: Global, volts: &[Phasor]) -> Result<Vec<Phasor>, AllocError>
+    requires { 1 ≤ length volts.now }
+    ensures { IfOk result (λ copy. copy.items ≡ drop 1 volts.now) }
+{
+    volts[1..].iter().copied().collect(alloc)
+}
+
+/// An end, told by the name of its node.
+fn ended(case: &Case, freq: i64, end: Ending) -> PhasorFault
+    requires { EndsSteady case.now.parts freq end }
+    ensures { FaultsAtFrequency case.now.parts freq result }
+{
+    PhasorFault::Ended {
+        name: node_name(case, end.node),
+        cause: end.cause,
+        measured: end.measured,
+    }
+}
+
+/// The same of an end of every frequency.
+fn always_ended(case: &Case, freq: i64, end: Ending) -> PhasorFault
+    requires { EndsAlways case.now.parts end }
+    ensures { FaultsAtFrequency case.now.parts freq result }
+{
+    ended(case, freq, end)
+}

@@ -1,0 +1,252 @@
+//! The steady state at a frequency.
+
+ghost use Rattle.std.specs.Prelude.{◌≡◌, ◌*◌, ◌+◌, ◌^◌, ◌<◌, ◌∷◌, ℤ, List, All, None, Ok, Err, drop, length, IfOk, IfErr, OnOk};
+ghost use Rattle.emtp_case.specs.StepRecord.{rest_of};
+ghost use Rattle.emtp_elim.specs.Matrix.{AreWithin};
+ghost use Rattle.emtp_elim.specs.Outcome.{outcome};
+ghost use Rattle.emtp_switch.specs.Groups.{tied_of};
+ghost use Rattle.emtp_admittance.specs.Frequency.{IsFrequency};
+ghost use Rattle.emtp_case.specs.EndNames.{IsNode};
+ghost use Rattle.emtp_case.specs.RowOrder.{order_of};
+ghost use Rattle.emtp_admittance.specs.Admittances.{IsSmallPort};
+ghost use Rattle.emtp_phasor.specs.Doubled.{doubled_matrix};
+ghost use Rattle.emtp_phasor.specs.Steady.{AreGood, IsSteady, judged_volts, resting_kinds, doubled_system, named_ending, port_or_none, ports_of, steady_right, doubled_solution, steady};
+ghost use Rattle.emtp_phasor.specs.Volts.{IsVolt, nothing, volt_in, phasors_of};
+
+use crate::ending::{Cause, Ending, cause_of, ending_at};
+use crate::flow::{first_out, judge};
+use crate::phasor::{NOTHING, Phasor};
+use crate::phasor_rows::PhasorRows;
+use emtp_admittance::{Admittance, Refusal, TwoPort, branch_port};
+use emtp_case::{Case, RowKind, RowOrder, branch_name};
+use emtp_fix::Steps;
+use emtp_tail::Kept;
+use emtp_wave::CosTable;
+use std::sync::ledger::Ledger;
+
+const NO_ADMITTANCE: Admittance = Admittance {
+    conductance: 0,
+    susceptance: 0,
+};
+
+/// The two-port of a branch that has none.
+pub(crate) const NO_PORT: TwoPort = TwoPort {
+    own: NO_ADMITTANCE,
+    other: NO_ADMITTANCE,
+};
+
+fn port_or_none(port: Result<TwoPort, Refusal>) -> TwoPort
+    requires { IfOk port IsSmallPort }
+    ensures value { result ≡ port_or_none port }
+    ensures small { IsSmallPort result }
+{
+    match port {
+        Ok(port) => port,
+        Err(_) => NO_PORT,
+    }
+}
+
+/// The two-ports of all branches at a frequency.
+fn fill_ports(table: &CosTable, case: &Case, freq: i64, out: &mut [TwoPort])
+    requires freq { IsFrequency freq }
+    requires out { length out.old ≡ length case.now.parts.branches }
+    ensures value { out.new ≡ ports_of case.now.parts freq }
+    ensures small { All IsSmallPort out.new }
+{
+    let branches = case.parts.branches.as_slice();
+    for at in 0..branches.len() {
+        out[at] = port_or_none(branch_port(table, freq, &branches[at]));
+    }
+}
+
+/// The voltages by node, ground first, from the unknowns by row.
+fn fill_volts(case: &Case, order: &RowOrder, x: &[i64], out: &mut [Phasor])
+    requires order { order.now ≡ order_of case.now.parts }
+    requires x { length x.now ≡ 2 * length case.now.parts.nodes }
+    requires out { length out.old ≡ length case.now.parts.nodes + 1 }
+    ensures { out.new ≡ phasors_of case.now.parts x.now }
+{
+    out[0] = NOTHING;
+    for at in 0..case.parts.nodes.len() {
+        out[at + 1] = volt_in(x, order.row_of(at as u32 + 1));
+    }
+}
+
+/// The two unknowns of a row.
+fn volt_in(x: &[i64], row: usize) -> Phasor
+    requires { 2 * row + 1 < length x.now }
+    ensures { result ≡ volt_in x.now row }
+{
+    Phasor {
+        re: x[2 * row],
+        im: x[2 * row + 1],
+    }
+}
+
+/// Makes the factor of the rows.
+fn factor<L: Ledger>(
+    case: &Case,
+    order: &RowOrder,
+    rows: &PhasorRows<'_>,
+    kept: &mut Kept,
+    steps: &mut Steps<L>,
+) -> Result<(), Ending>
+    requires order { order.now ≡ order_of case.now.parts }
+    requires same { rows.now.case ≡ case.now.parts }
+    requires size { kept.old.size ≡ 2 * length case.now.parts.nodes }
+    ensures size { kept.new.size ≡ kept.old.size }
+    ensures rows { OnOk result (kept.new.rows ≡ doubled_matrix rows.now) }
+    ensures fault { IfErr result (λ e. (right : List ℤ) → named_ending case.now.parts (outcome (doubled_matrix rows.now) right) ≡ Err e) }
+    ensures node { IfErr result (λ e. IsNode case.now.parts e.node) }
+{
+    match kept.update(rows, steps) {
+        Ok(_) => Ok(()),
+        Err(fault) => Err(ending_at(order.node_at(fault.row / 2), cause_of(fault.cause))),
+    }
+}
+
+/// Solves for the unknowns of a right side by the factor.
+fn solve_right(
+    case: &Case,
+    order: &RowOrder,
+    kept: &Kept,
+    right: &[i128],
+    rhs: &mut [i128],
+    x: &mut [i64],
+) -> Result<(), Ending>
+    requires order { order.now ≡ order_of case.now.parts }
+    requires size { kept.now.size ≡ 2 * length case.now.parts.nodes }
+    requires all { length kept.now.rows ≡ kept.now.size }
+    requires right { length right.now ≡ 2 * length case.now.parts.nodes }
+    requires rhs { length rhs.old ≡ 2 * length case.now.parts.nodes }
+    requires x { length x.old ≡ 2 * length case.now.parts.nodes }
+    ensures solved { OnOk result (outcome kept.now.rows right.now ≡ Ok x.new) }
+    ensures within { OnOk result (AreWithin (10 ^ 18) x.new) }
+    ensures fault { IfErr result (λ e. named_ending case.now.parts (outcome kept.now.rows right.now) ≡ Err e) }
+    ensures node { IfErr result (λ e. IsNode case.now.parts e.node) }
+{
+    rhs.copy_from_slice(right);
+    match kept.solve(rhs, x) {
+        Ok(()) => Ok(()),
+        Err(fault) => Err(ending_at(order.node_at(fault.row / 2), Cause::Range)),
+    }
+}
+
+/// Solves the doubled system at a frequency.
+pub(crate) fn solve_system<L: Ledger>(
+    table: &CosTable,
+    case: &Case,
+    order: &RowOrder,
+    freq: i64,
+    rows: &mut PhasorRows<'_>,
+    kept: &mut Kept,
+    ports: &mut [TwoPort],
+    right: &[i128],
+    rhs: &mut [i128],
+    x: &mut [i64],
+    steps: &mut Steps<L>,
+) -> Result<(), Ending>
+    requires order { order.now ≡ order_of case.now.parts }
+    requires freq { IsFrequency freq }
+    requires same { rows.old.case ≡ case.now.parts }
+    requires kinds { rows.old.kinds ≡ resting_kinds case.now.parts }
+    requires size { kept.old.size ≡ 2 * length case.now.parts.nodes }
+    requires ports { length ports.old ≡ length case.now.parts.branches }
+    requires right { right.now ≡ steady_right case.now.parts }
+    requires rhs { length rhs.old ≡ 2 * length case.now.parts.nodes }
+    requires x { length x.old ≡ 2 * length case.now.parts.nodes }
+    ensures case { rows.new.case ≡ case.now.parts }
+    ensures kinds { rows.new.kinds ≡ resting_kinds case.now.parts }
+    ensures size { kept.new.size ≡ 2 * length case.now.parts.nodes }
+    ensures ports { ports.new ≡ ports_of case.now.parts freq }
+    ensures small { All IsSmallPort ports.new }
+    ensures solved { OnOk result (outcome (doubled_system case.now.parts freq) (steady_right case.now.parts) ≡ Ok x.new) }
+    ensures within { OnOk result (AreWithin (10 ^ 18) x.new) }
+    ensures fault { IfErr result (λ e. doubled_solution case.now.parts freq ≡ Err e) }
+    ensures node { IfErr result (λ e. IsNode case.now.parts e.node) }
+{
+    fill_ports(table, case, freq, ports);
+    rows.set_ports(ports);
+    factor(case, order, rows, kept, steps)?;
+    solve_right(case, order, kept, right, rhs, x)
+}
+
+/// The greatest residual at these voltages, or the first branch or row that ends the solution.
+pub(crate) fn judge_volts(
+    table: &CosTable,
+    case: &Case,
+    order: &RowOrder,
+    kinds: &[RowKind],
+    ports: &[TwoPort],
+    volts: &[Phasor],
+) -> Result<i128, Ending>
+    requires order { order.now ≡ order_of case.now.parts }
+    requires kinds { kinds.now ≡ resting_kinds case.now.parts }
+    requires ports { length ports.now ≡ length case.now.parts.branches }
+    requires small { All IsSmallPort ports.now }
+    requires volts { All IsVolt volts.now }
+    requires nodes { length volts.now ≡ length case.now.parts.nodes + 1 }
+    ensures good { IfOk result (λ greatest. AreGood case.now.parts ports.now volts.now greatest) }
+    ensures fault { IfErr result (λ e. judged_volts case.now.parts ports.now volts.now ≡ Err e) }
+    ensures node { IfErr result (λ e. IsNode case.now.parts e.node) }
+{
+    if let Some(b) = first_out(case, ports, volts) {
+        return Err(ending_at(branch_name(case, b), Cause::Range));
+    }
+    match judge(table, case, order, kinds, ports, volts) {
+        Ok(greatest) => Ok(greatest),
+        Err((row, measured)) => Err(Ending {
+            node: order.node_at(row),
+            cause: Cause::Residual,
+            measured,
+        }),
+    }
+}
+
+/// The voltages and the greatest residual at a frequency, or how the solution ends.
+pub(crate) fn steady_at<L: Ledger>(
+    table: &CosTable,
+    case: &Case,
+    order: &RowOrder,
+    freq: i64,
+    kinds: &[RowKind],
+    rows: &mut PhasorRows<'_>,
+    kept: &mut Kept,
+    ports: &mut [TwoPort],
+    right: &[i128],
+    rhs: &mut [i128],
+    x: &mut [i64],
+    volts: &mut [Phasor],
+    steps: &mut Steps<L>,
+) -> Result<i128, Ending>
+    requires order { order.now ≡ order_of case.now.parts }
+    requires freq { IsFrequency freq }
+    requires untied { tied_of case.now.parts.switches (order_of case.now.parts) (rest_of case.now.parts).switch_states ≡ None }
+    requires given { kinds.now ≡ resting_kinds case.now.parts }
+    requires same { rows.old.case ≡ case.now.parts }
+    requires kinds { rows.old.kinds ≡ resting_kinds case.now.parts }
+    requires size { kept.old.size ≡ 2 * length case.now.parts.nodes }
+    requires ports { length ports.old ≡ length case.now.parts.branches }
+    requires right { right.now ≡ steady_right case.now.parts }
+    requires rhs { length rhs.old ≡ 2 * length case.now.parts.nodes }
+    requires x { length x.old ≡ 2 * length case.now.parts.nodes }
+    requires volts { length volts.old ≡ length case.now.parts.nodes + 1 }
+    ensures case { rows.new.case ≡ case.now.parts }
+    ensures kinds { rows.new.kinds ≡ resting_kinds case.now.parts }
+    ensures size { kept.new.size ≡ 2 * length case.now.parts.nodes }
+    ensures good { IfOk result (λ greatest. IsSteady case.now.parts freq volts.new greatest) }
+    ensures volts { OnOk result (All IsVolt volts.new) }
+    ensures ground { OnOk result (volts.new ≡ nothing ∷ drop 1 volts.new) }
+    ensures fault { IfErr result (λ e. steady case.now.parts freq ≡ Err e) }
+    ensures node { IfErr result (λ e. IsNode case.now.parts e.node) }
+{
+    match solve_system(
+        table, case, order, freq, rows, kept, ports, right, rhs, x, steps,
+    ) {
+        Ok(()) => {
+            fill_volts(case, order, x, volts);
+            judge_volts(table, case, order, kinds, ports, volts)
+        }
+        Err(end) => Err(end),
+    }
+}

@@ -1,0 +1,188 @@
+//! The doubled system of a case, which is solved for one frequency after the other.
+
+ghost use Rattle.std.specs.Prelude.{◌≡◌, ◌≤◌, ◌<◌, ◌∷◌, ◌*◌, All, None, length, drop, IfOk, IfErr, OnOk};
+ghost use Rattle.emtp_admittance.specs.Admittances.{IsSmallPort};
+ghost use Rattle.emtp_admittance.specs.Frequency.{IsFrequency};
+ghost use Rattle.emtp_admittance.specs.declared.limit.TheConstants.{MOST_PHASOR_NODES};
+ghost use Rattle.emtp_case.specs.RowKinds.{AreKinds};
+ghost use Rattle.emtp_case.specs.RowOrder.{order_of};
+ghost use Rattle.emtp_case.specs.StepRecord.{rest_of};
+ghost use Rattle.emtp_switch.specs.Groups.{tied_of};
+ghost use Rattle.emtp_phasor.specs.Ending.{EndsSteady, StopsOpening};
+ghost use Rattle.emtp_phasor.specs.HeldSystem.{IsReady};
+ghost use Rattle.emtp_phasor.specs.Opening.{IsClosed};
+ghost use Rattle.emtp_phasor.specs.Steady.{IsSteady, resting_kinds};
+ghost use Rattle.emtp_phasor.specs.Volts.{IsVolt, nothing};
+
+use crate::ending::{Cause, Ending, ending_at};
+use crate::opening::{Closed, right_side, row_kinds};
+use crate::phasor::{NOTHING, Phasor};
+use crate::phasor_rows::PhasorRows;
+use crate::steady::{NO_PORT, steady_at};
+use emtp_admittance::TwoPort;
+use emtp_case::{Case, RowKind, RowOrder, order, switch_name};
+use emtp_fix::Steps;
+use emtp_tail::Kept;
+use emtp_wave::CosTable;
+use std::alloc::{AllocError, Global};
+use std::sync::ledger::Ledger;
+
+/// Why there is no system.
+#[derive(Clone, Copy, Debug)]
+pub enum Stop {
+    /// Switches that are closed at rest tie two known voltages, so that each frequency ends so.
+    Ended(Ending),
+    /// No memory is left.
+    NoMemory,
+}
+
+impl From<AllocError> for Stop {
+    ghost use Rattle.emtp_phasor.specs.declared.system.Stop.TheVariants.{NoMemory};
+
+    ghost from_gives = { λ _ e. e ≡ NoMemory };
+
+    fn from(_: AllocError) -> Stop {
+        Stop::NoMemory
+    }
+}
+
+/// The doubled system of a case. The kinds of its rows and its right side are the same at all frequencies; the rest is
+/// room that is filled anew, and the factor, of which rows that stay are kept.
+#[derive(Drop)]
+pub(crate) struct System<'a> {
+    /// The order of the network's rows.
+    pub(crate) order: RowOrder,
+    /// The kinds of the network's rows, by the switches at rest.
+    pub(crate) kinds: Vec<RowKind>,
+    /// The doubled rows.
+    pub(crate) rows: PhasorRows<'a>,
+    /// The factor of the rows that were given last.
+    pub(crate) kept: Kept,
+    /// The two-ports of the branches at the last frequency.
+    pub(crate) ports: Vec<TwoPort>,
+    /// The right side, in nA and nV.
+    pub(crate) right: Vec<i128>,
+    /// Room for the right side while it is eliminated.
+    pub(crate) rhs: Vec<i128>,
+    /// The unknowns, in nV.
+    pub(crate) x: Vec<i64>,
+    /// The voltages by node, ground first, in nV.
+    pub(crate) volts: Vec<Phasor>,
+}
+
+/// How an opening stops that gave no kinds.
+fn stop_of(case: &Case, closed: Closed) -> Stop
+    requires { IsClosed case.now.parts closed }
+    ensures { StopsOpening case.now.parts result }
+{
+    match closed {
+        Closed::Tied(switch) => Stop::Ended(ending_at(switch_name(case, switch), Cause::Tied)),
+        Closed::NoMemory => Stop::NoMemory,
+    }
+}
+
+/// A copy of the kinds.
+fn copied(alloc: Global, kinds: &[RowKind]) -> Result<Vec<RowKind>, AllocError>
+    ensures { IfOk result (λ copy. copy.items ≡ kinds.now) }
+{
+    kinds.iter().copied().collect(alloc)
+}
+
+/// Room for the two-ports of a case.
+fn no_ports(alloc: Global, count: usize) -> Result<Vec<TwoPort>, AllocError>
+    ensures count { IfOk result (λ ports. length ports.items ≡ count) }
+    ensures small { IfOk result (λ ports. All IsSmallPort ports.items) }
+{
+    vec![in alloc; NO_PORT; count]
+}
+
+impl<'a> System<'a> {
+    /// The system of a case at rest.
+    pub(crate) fn open(alloc: Global, table: &CosTable, case: &'a Case) -> Result<System<'a>, Stop>
+        requires { length case.now.parts.nodes ≤ MOST_PHASOR_NODES }
+        ensures ready { IfOk result (IsReady case.now.parts) }
+        ensures stop { IfErr result (StopsOpening case.now.parts) }
+    {
+        let order = order(alloc, case)?;
+        match row_kinds(alloc, case, &order) {
+            Ok(kinds) => match System::over(alloc, table, case, order, kinds) {
+                Ok(system) => Ok(system),
+                Err(_) => Err(Stop::NoMemory),
+            },
+            Err(closed) => Err(stop_of(case, closed)),
+        }
+    }
+
+    /// The same, once the kinds of the rows are known.
+    fn over(
+        alloc: Global,
+        table: &CosTable,
+        case: &'a Case,
+        order: RowOrder,
+        kinds: Vec<RowKind>,
+    ) -> Result<System<'a>, AllocError>
+        requires order { order ≡ order_of case.now.parts }
+        requires few { length case.now.parts.nodes ≤ MOST_PHASOR_NODES }
+        requires kinds { kinds.items ≡ resting_kinds case.now.parts }
+        requires are { AreKinds (length case.now.parts.nodes) order.fixed kinds.items }
+        requires free { tied_of case.now.parts.switches (order_of case.now.parts) (rest_of case.now.parts).switch_states ≡ None }
+        ensures { IfOk result (IsReady case.now.parts) }
+    {
+        let nodes = case.parts.nodes.len();
+        let right = right_side(alloc, table, case, &order, &kinds)?;
+        let copy = order.copy(alloc)?;
+        let held = copied(alloc, &kinds)?;
+        let first = no_ports(alloc, case.parts.branches.len())?;
+        let ports = no_ports(alloc, case.parts.branches.len())?;
+        let rhs = vec![in alloc; 0i128; 2 * nodes]?;
+        let x = vec![in alloc; 0i64; 2 * nodes]?;
+        let volts = vec![in alloc; NOTHING; nodes + 1]?;
+        let rows = PhasorRows::new(case, copy, first, held);
+        let kept = Kept::open(alloc, &rows)?;
+        Ok(System {
+            order,
+            kinds,
+            rows,
+            kept,
+            ports,
+            right,
+            rhs,
+            x,
+            volts,
+        })
+    }
+
+    /// Solves the system at a frequency: the greatest residual in nA, or how the solution ends. The voltages stand in
+    /// `volts`. The answer is that of rows which are eliminated from the first one, whatever frequency was before.
+    pub(crate) fn at<L: Ledger>(
+        &mut self,
+        table: &CosTable,
+        case: &Case,
+        freq: i64,
+        steps: &mut Steps<L>,
+    ) -> Result<i128, Ending>
+        requires ready { IsReady case.now.parts self.old }
+        requires freq { IsFrequency freq }
+        ensures ready { IsReady case.now.parts self.new }
+        ensures good { IfOk result (λ greatest. IsSteady case.now.parts freq self.new.volts.items greatest) }
+        ensures volts { OnOk result (All IsVolt self.new.volts.items) }
+        ensures ground { OnOk result (self.new.volts.items ≡ nothing ∷ drop 1 self.new.volts.items) }
+        ensures fault { IfErr result (EndsSteady case.now.parts freq) }
+    {
+        steady_at(
+            table,
+            case,
+            &self.order,
+            freq,
+            &self.kinds,
+            &mut self.rows,
+            &mut self.kept,
+            &mut self.ports,
+            &self.right,
+            &mut self.rhs,
+            &mut self.x,
+            &mut self.volts,
+            steps,
+        )
+    }
+}
