@@ -1,0 +1,103 @@
+-- A small network, worked out by hand, on which the laws say what they should. 100 V feed 1 ohm, three closed switches in a loop
+-- and 1 ohm to ground: 50 A, and 50 V at each node of the loop.
+use Rattle.std.proofs.Common.{◌≡◌, ◌^◌, ◌*◌, ℕ, ℤ, pos, neg_ℤ, ◌*ℤ◌, false, List, [], ◌∷◌, map, Some, None, Ok, refl}
+use Rattle.emtp_blocks.specs.Block.{output_of}
+use Rattle.emtp_case.specs.Branch.{capacitor_impedance}
+use Rattle.emtp_case.specs.Case.{empty_parts}
+use Rattle.emtp_case.specs.StepRecord.{LumpedBranch, StepRecord, rest_of}
+use Rattle.emtp_case.specs.declared.branch.Branch.{Branch}
+use Rattle.emtp_case.specs.declared.branch.Branch.TheVariants.{Lumped as OfLumped}
+use Rattle.emtp_case.specs.declared.case.Parts.{Parts}
+use Rattle.emtp_case.specs.declared.control.Limiter.TheVariants.{Free}
+use Rattle.emtp_case.specs.declared.run_data.RunData.{RunData}
+use Rattle.emtp_case.specs.declared.source.Shape.TheVariants.{Step}
+use Rattle.emtp_case.specs.declared.switch.Switch.{Switch}
+use Rattle.emtp_case.specs.declared.switch.SwitchKind.TheVariants.{Measuring}
+use Rattle.emtp_case.specs.declared.switch.SwitchState.TheVariants.{Closed}
+use Rattle.emtp_elim.specs.Elimination.{last_unknowns, stage, stage_right}
+use Rattle.emtp_elim.specs.Fault.{right_fault, row_fault, unknown_fault}
+use Rattle.emtp_elim.specs.Outcome.{outcome}
+use Rattle.emtp_fix.specs.Rounding.{near, near_abs}
+use Rattle.emtp_line.specs.Line.{line_state, next_state as next_line}
+use Rattle.emtp_line.specs.Mode.{mode_of}
+use Rattle.emtp_line.specs.Wave.{end_of}
+use Rattle.emtp_lumped.specs.Step.{next_state as next_lumped}
+use Rattle.emtp_net.specs.Part.{NetworkPart, part_at, voltages_of}
+use Rattle.emtp_net.specs.Step.{network_part}
+use Rattle.emtp_net.specs.System.{conductances, couplings, right}
+use Rattle.emtp_rows.specs.Nodal.{current_entry, nodal_matrix}
+use Rattle.emtp_wave.specs.Wave.{active_value}
+use Rattle.emtp_laws.specs.Mirror.{mirror_image, mirrored_records}
+use Rattle.emtp_laws.specs.Nodes.{leaving_node}
+
+-- ---- the network
+
+abbrev run : RunData
+run = record { dt = pos (10 ^ 8); steps = 9; every = 4; tolerance = pos (10 ^ 7) }
+
+abbrev ohm : ℕ → ℕ → Branch
+ohm a b = OfLumped (record { line = 1; «from» = a; to = b; r = pos (10 ^ 6); l = pos 0; c = pos 0 })
+
+abbrev closed : ℕ → ℕ → Switch
+closed a b = record { line = 2; «from» = a; to = b; kind = Measuring }
+
+loop_at : ℕ → Parts
+loop_at volts = record (empty_parts run) {
+  nodes = [] ∷ [] ∷ [] ∷ [] ∷ [];
+  branches = ohm 1 2 ∷ ohm 3 0 ∷ [];
+  sources = record { line = 3; node = 1; current = false; shape = Step; amplitude = pos (volts * 10 ^ 9); start = pos 0; stop = None } ∷ [];
+  switches = closed 2 4 ∷ closed 4 3 ∷ closed 3 2 ∷ [];
+}
+
+at_rest : ℕ → List StepRecord
+at_rest volts = rest_of (loop_at volts) ∷ []
+
+carrying : ℤ → NetworkPart
+carrying i = record {
+  voltages = pos 0 ∷ (pos 2 *ℤ i) ∷ i ∷ i ∷ i ∷ [];
+  branches = LumpedBranch (record { current = i; v_l = pos 0; v_c = pos 0; history_voltage = pos 0 }) ∷ LumpedBranch (record { current = i; v_l = pos 0; v_c = pos 0; history_voltage = pos 0 }) ∷ [];
+  switch_states = Closed ∷ Closed ∷ Closed ∷ [];
+  switch_currents = i ∷ i ∷ pos 0 ∷ [];
+}
+
+-- both ends of each closed switch have 50 V, the source's node has 100 V, the slack switch carries nothing
+step : network_part (loop_at 100) (at_rest 100) ≡ Ok (carrying (pos (50 * 10 ^ 9)))
+unfolding network_part part_at voltages_of right nodal_matrix outcome row_fault right_fault unknown_fault stage stage_right last_unknowns near near_abs capacitor_impedance next_lumped active_value loop_at at_rest carrying
+step = refl
+
+-- nothing is left at nodes 2, 3 and 4; at node 1 the source brings what leaves
+currents_at_nodes : map (leaving_node (loop_at 100) (at_rest 100) (carrying (pos (50 * 10 ^ 9)))) (1 ∷ 2 ∷ 3 ∷ 4 ∷ []) ≡ pos (50 * 10 ^ 9) ∷ pos 0 ∷ pos 0 ∷ pos 0 ∷ []
+unfolding loop_at at_rest carrying
+currents_at_nodes = refl
+
+-- the mirrored case has the opposite numbers, and the one without a voltage has none
+mirrored : network_part (mirror_image (loop_at 100)) (mirrored_records (at_rest 100)) ≡ Ok (carrying (neg_ℤ (pos (50 * 10 ^ 9))))
+unfolding network_part part_at voltages_of right nodal_matrix outcome row_fault right_fault unknown_fault stage stage_right last_unknowns near near_abs capacitor_impedance next_lumped active_value loop_at at_rest carrying
+mirrored = refl
+
+quiet : network_part (loop_at 0) (at_rest 0) ≡ Ok (carrying (pos 0))
+unfolding network_part part_at voltages_of right nodal_matrix outcome row_fault right_fault unknown_fault stage stage_right last_unknowns near near_abs capacitor_impedance next_lumped active_value loop_at at_rest carrying
+quiet = refl
+
+-- of node 3 the conductances to ground and to the nodes 1 to 4 are -1, 0, 0, 1 and 0 S
+conductances_of_node_3 : map (current_entry (loop_at 100) (conductances (loop_at 100) (at_rest 100)) (couplings (loop_at 100)) 3) (0 ∷ 1 ∷ 2 ∷ 3 ∷ 4 ∷ []) ≡ neg_ℤ (pos (10 ^ 12)) ∷ pos 0 ∷ pos 0 ∷ pos (10 ^ 12) ∷ pos 0 ∷ []
+unfolding loop_at at_rest near near_abs capacitor_impedance
+conductances_of_node_3 = refl
+
+-- ---- a line of 100 ohm
+
+-- one that had 1 A waves at `from` alone, at 50 V and 100 V: the other way round it has the same numbers at the other ends
+one_way : next_line (mode_of (pos 100) (pos (10 ^ 8)) (pos 0) (pos 100)) (record { from_current = pos 0; to_current = pos 0; from_wave = pos (10 ^ 9); to_wave = pos 0 } ∷ []) (pos (50 * 10 ^ 9)) (pos (100 * 10 ^ 9))
+    ≡ Some (record { from_current = pos (5 * 10 ^ 8); to_current = pos 0; from_wave = pos (10 ^ 9); to_wave = pos (10 ^ 9) })
+unfolding line_state end_of near near_abs
+one_way = refl
+
+other_way : next_line (mode_of (pos 100) (pos (10 ^ 8)) (pos 0) (pos 100)) (record { from_current = pos 0; to_current = pos 0; from_wave = pos 0; to_wave = pos (10 ^ 9) } ∷ []) (pos (100 * 10 ^ 9)) (pos (50 * 10 ^ 9))
+    ≡ Some (record { from_current = pos 0; to_current = pos (5 * 10 ^ 8); from_wave = pos (10 ^ 9); to_wave = pos (10 ^ 9) })
+unfolding line_state end_of near near_abs
+other_way = refl
+
+-- ---- limits of -20 and 20
+
+outputs : map (output_of (record { low = Some (neg_ℤ (pos 20)); high = Some (pos 20) }) Free) (pos 30 ∷ pos 10 ∷ neg_ℤ (pos 30) ∷ []) ≡ pos 20 ∷ pos 10 ∷ neg_ℤ (pos 20) ∷ []
+outputs = refl

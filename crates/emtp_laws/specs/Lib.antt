@@ -1,0 +1,6 @@
+pub mod Nodes
+pub mod Switches
+pub mod Branches
+pub mod Mirror
+pub mod Runs
+pub mod Control

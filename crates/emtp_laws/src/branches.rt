@@ -1,0 +1,46 @@
+//! What is true of the branches of a network. The functions do nothing: their clauses are proved.
+
+ghost use Rattle.std.specs.Prelude.{◌≡◌, ◌+◌, ℕ, ℤ, pos, List, Some, length, map, option_map, slice_get};
+ghost use Rattle.emtp_case.specs.StepRecord.{StepRecord, latest};
+ghost use Rattle.emtp_case.specs.Sums.{sum_below};
+ghost use Rattle.emtp_case.specs.declared.branch.Branch.TheVariants.{Line as OfLine};
+ghost use Rattle.emtp_case.specs.declared.branch.Line.{Line};
+ghost use Rattle.emtp_case.specs.declared.branch.LineState.{LineState};
+ghost use Rattle.emtp_case.specs.declared.branch.Lumped.{Lumped};
+ghost use Rattle.emtp_line.specs.Line.{from_waves, line_histories, next_state, to_waves};
+ghost use Rattle.emtp_line.specs.Mode.{mode_of_line};
+ghost use Rattle.emtp_machine.specs.Laws.{records_upto};
+ghost use Rattle.emtp_net.specs.System.{conductances, couplings};
+ghost use Rattle.emtp_rows.specs.Nodal.{current_entry};
+ghost use Rattle.emtp_laws.specs.Branches.{AreHistoriesWithin, AreWavesWithin, HasNoThreePhaseLine, HasTwoPolesAlone, IsResistorAt, TakesPower, reversed_line};
+
+use emtp_case::Case;
+
+/// A resistor takes power and never gives it: in no record of a run is its voltage times its current below 0.
+pub fn resistor_takes_power(case: &Case)
+    ensures { (n b : ℕ) (x : Lumped) → IsResistorAt case.now.parts b x → TakesPower b x (latest (records_upto case.now.parts n)) }
+{}
+
+/// The conductance between two nodes is the same seen from either, in each step of a network without three-phase lines.
+pub fn conductances_are_symmetric(case: &Case)
+    requires plain { HasNoThreePhaseLine case.now.parts }
+    ensures { (H : List StepRecord) (n m : ℕ) → current_entry case.now.parts (conductances case.now.parts H) (couplings case.now.parts) n m ≡ current_entry case.now.parts (conductances case.now.parts H) (couplings case.now.parts) m n }
+{}
+
+/// Of series and pseudo-nonlinear branches alone the conductances at a node add up to 0 over all nodes with ground: a voltage
+/// that all nodes have against a point outside drives no current.
+pub fn conductances_add_up_to_zero(case: &Case)
+    requires plain { HasTwoPolesAlone case.now.parts }
+    ensures { (H : List StepRecord) (n : ℕ) → sum_below (length case.now.parts.nodes + 1) (λ m. current_entry case.now.parts (conductances case.now.parts H) (couplings case.now.parts) n m) ≡ pos 0 }
+{}
+
+/// A line doesn't amplify: the history current of an end is at most the greatest past wave of both ends, and 1 nA of rounding.
+pub fn line_does_not_amplify(case: &Case)
+    ensures { (b : ℕ) (x : Line) (past : List LineState) (limit : ℕ) → slice_get case.now.parts.branches b ≡ Some (OfLine x) → AreWavesWithin limit (from_waves past) → AreWavesWithin limit (to_waves past) → AreHistoriesWithin (limit + 1) (line_histories (mode_of_line case.now.parts.run.dt x) past) }
+{}
+
+/// A line that is put in the other way round answers alike: with the voltages of its ends exchanged, each end has what the other
+/// one had, to the last digit.
+pub fn reversed_line_answers_alike(case: &Case)
+    ensures { (x : Line) (past : List LineState) (v w : ℤ) → next_state (mode_of_line case.now.parts.run.dt x) (map reversed_line past) w v ≡ option_map reversed_line (next_state (mode_of_line case.now.parts.run.dt x) past v w) }
+{}
