@@ -1,12 +1,9 @@
--- How a call ends that makes a note and nothing else.
-use Rattle.std.proofs.Common.{◌≡◌, inl, inr, sym, None, IfSome, ℕ, List, [], ◌∷◌, refl, subst, Some, Option, Result, Ok, Err, IsTrue, IsOk}
+-- How a call ends that makes a note and nothing else, and that nothing else can happen.
+use Rattle.std.proofs.Common.{◌≡◌, ◌≢◌, ℕ, ◌≤◌, List, [], ◌∷◌, inl, inr, sym, refl, Some, None, Option, Result, Ok, Err, IsTrue, IsOk, IfSome}
 use Rattle.emtp_io.specs.Cabinet.{CabinetState}
 use Rattle.emtp_io.specs.Writes.{Written, Makes}
 use Rattle.emtp_io.specs.declared.cabinet.Output.TheVariants.{Cfg, Dat}
-use Rattle.emtp_card.specs.declared.reason.Bad.{Bad}
-use Rattle.emtp_run.specs.Note.{usage_note, card_note}
-use Rattle.emtp_run.specs.Outcome.{Outcome, outcome_for, note, usage, bad_card, IsComplete, IsWholeOrCut, KeepsRecord, Ends}
-use Rattle.emtp_run.specs.Words.{Task}
+use Rattle.emtp_run.specs.Outcome.{Outcome, note, refusal, Ends, HasStatusCause, IsComplete, IsNoted, IsWholeOrCut, KeepsRecord, Leaves, LeavesNote, Settles}
 use Rattle.emtp_run.specs.declared.status.Status.{Status}
 use Rattle.emtp_run.specs.declared.status.Status.TheVariants.{Done, Usage, BadCard, Ended, ReadFault, WriteFault, NoMemory}
 
@@ -24,41 +21,59 @@ no_fault : {T E : Type 0} {old new : CabinetState} {writes : List Written} (resu
 no_fault (Ok value) makes ok = makes.cause.ok
 no_fault (Err fault) makes ok = cc
 
--- the note of words that don't fit was made, or it is cut short
-pub usage-ends : {T E : Type 0} {old new : CabinetState} {text : List ℕ} (result : Result T E) → text ≡ usage_note
-    → Makes old new (note text ∷ []) result → Ends Usage (Some usage) old new
-usage-ends {old = old} {new = new} result is told =
-    let makes : Makes old new (note usage_note ∷ []) result = subst (λ (text : List ℕ). Makes old new (note text ∷ []) result) is told in
-    record {
-      nature = makes.nature;
-      cause = (makes.faults_in, makes.cause.later);
-      no_record = keeps_record result makes;
-      outcome = λ tells. (refl, whole_or_cut result makes tells);
-      calm = λ tells calm fit. record {
-        inputs = makes.faults_in;
-        outputs = no_fault result makes (makes.calm tells calm fit);
-        read = λ same. cc;
-        write = λ same. cc;
-      };
-    }
+-- ---- what the tables of statuses say of a refusal
 
--- the note of a card was made, or it is cut short
-pub card-ends : {T E : Type 0} {old new : CabinetState} {text : List ℕ} (bad : Bad) (result : Result T E) → text ≡ card_note bad
-    → Makes old new (note text ∷ []) result → Ends BadCard (Some (bad_card bad)) old new
-card-ends {old = old} {new = new} bad result is told =
-    let makes : Makes old new (note (card_note bad) ∷ []) result = subst (λ (text : List ℕ). Makes old new (note text ∷ []) result) is told in
-    record {
-      nature = makes.nature;
-      cause = (makes.faults_in, makes.cause.later);
-      no_record = keeps_record result makes;
-      outcome = λ tells. (refl, whole_or_cut result makes tells);
-      calm = λ tells calm fit. record {
-        inputs = makes.faults_in;
-        outputs = no_fault result makes (makes.calm tells calm fit);
-        read = λ same. cc;
-        write = λ same. cc;
-      };
-    }
+noted_cause : (status : Status) (old new : CabinetState) → LeavesNote status → new.faults_in ≡ old.faults_in → old.faults_out ≤ new.faults_out → HasStatusCause status old new
+noted_cause Done old new is same later = elim is [ ]
+noted_cause Usage old new is same later = (same, later)
+noted_cause BadCard old new is same later = (same, later)
+noted_cause Ended old new is same later = elim is [ ]
+noted_cause ReadFault old new is same later = elim is [ ]
+noted_cause WriteFault old new is same later = elim is [ ]
+noted_cause NoMemory old new is same later = elim is [ ]
+
+noted_leaves : (status : Status) (old new : CabinetState) → LeavesNote status → KeepsRecord old new → Leaves status old new
+noted_leaves Done old new is keeps = elim is [ ]
+noted_leaves Usage old new is keeps = keeps
+noted_leaves BadCard old new is keeps = keeps
+noted_leaves Ended old new is keeps = elim is [ ]
+noted_leaves ReadFault old new is keeps = elim is [ ]
+noted_leaves WriteFault old new is keeps = elim is [ ]
+noted_leaves NoMemory old new is keeps = elim is [ ]
+
+noted_settles : (status : Status) (o : Option Outcome) (old new : CabinetState) → LeavesNote status → IsNoted o status old new → Settles status o old new
+noted_settles Done o old new is noted = elim is [ ]
+noted_settles Usage o old new is noted = noted
+noted_settles BadCard o old new is noted = noted
+noted_settles Ended o old new is noted = elim is [ ]
+noted_settles ReadFault o old new is noted = elim is [ ]
+noted_settles WriteFault o old new is noted = elim is [ ]
+noted_settles NoMemory o old new is noted = elim is [ ]
+
+not_a_fault : (status : Status) → LeavesNote status → (status ≢ ReadFault) × (status ≢ WriteFault)
+not_a_fault Done is = elim is [ ]
+not_a_fault Usage is = ((λ same. cc), (λ same. cc))
+not_a_fault BadCard is = ((λ same. cc), (λ same. cc))
+not_a_fault Ended is = elim is [ ]
+not_a_fault ReadFault is = elim is [ ]
+not_a_fault WriteFault is = elim is [ ]
+not_a_fault NoMemory is = elim is [ ]
+
+-- the note of a refusal was made, or it is cut short
+pub note-ends : {T E : Type 0} {old new : CabinetState} {text : List ℕ} (status : Status) (result : Result T E) → LeavesNote status
+    → Makes old new (note text ∷ []) result → Ends status (Some (refusal status text)) old new
+note-ends {old = old} {new = new} {text = text} status result is makes = record {
+  nature = makes.nature;
+  cause = noted_cause status old new is makes.faults_in makes.cause.later;
+  no_record = noted_leaves status old new is (keeps_record result makes);
+  outcome = λ tells. noted_settles status (Some (refusal status text)) old new is (refl, whole_or_cut result makes tells);
+  calm = λ tells calm fit. record {
+    inputs = makes.faults_in;
+    outputs = no_fault result makes (makes.calm tells calm fit);
+    read = (not_a_fault status is).0;
+    write = (not_a_fault status is).1;
+  };
+}
 
 -- ---- nothing else can happen
 
@@ -78,7 +93,3 @@ complete_by old new NoMemory o ends tells = inr (inr (inr (refl, ends.outcome te
 pub ends-complete : (old new : CabinetState) (status : Status) (o : Option Outcome) → Ends status o old new → IsTrue old.nature.tells → IfSome o (IsComplete status old new)
 ends-complete old new status None ends tells = tt
 ends-complete old new status (Some o) ends tells = complete_by old new status o ends tells
-
-pub run-complete : (old new : CabinetState) (status : Status) (task : Option Task) (asked : Task) (files : List ℕ → Option (List ℕ)) → task ≡ Some asked → Ends status (outcome_for (Some asked) files) old new → IsTrue old.nature.tells
-    → IfSome (outcome_for task files) (IsComplete status old new)
-run-complete old new status task asked files is ends tells = rw is (ends-complete old new status (outcome_for (Some asked) files) ends tells)

@@ -1,2 +1,5 @@
+mod AfterReading
+mod Contents
 mod Decks
 mod Endings
+mod Readings

@@ -5,3 +5,5 @@ pub mod Summary
 pub mod Reading
 pub mod Texts
 pub mod Outcome
+pub mod Inputs
+pub mod Command

@@ -1,12 +1,10 @@
 -- The one line that a call leaves on how it ended.
-use Rattle.std.specs.Prelude.{ℕ, ℤ, List, [], ◌++◌, Option, Some, None, codes, decimal}
-use Rattle.std.specs.Fmt.{signed_decimal}
+use Rattle.std.specs.Prelude.{ℕ, List, ◌++◌, Option, Some, None, codes, decimal}
 use Rattle.emtp_card.specs.Reason.{reason_number}
 use Rattle.emtp_card.specs.declared.reason.Bad.{Bad}
 use Rattle.emtp_card.specs.declared.reason.Why.{Why}
 use Rattle.emtp_card.specs.declared.reason.Why.TheVariants.{ByteOutside, PastColumn80, NotANumber, NotWhole, OutOfUnitRange, TooManyLines, BadType, BadName, BadImpedance, ShortLine, BadPoints, BadOrder, UnknownName, TwoSources, TooMany, MissingSection, TooManySamples, BadExpression}
-use Rattle.emtp_machine.specs.declared.end.Cause.{Cause}
-use Rattle.emtp_machine.specs.declared.end.Cause.TheVariants.{Tied, ZeroPivot, Range, Residual, TacsPivot, TacsRange}
+use Rattle.emtp_machine.specs.End.{cause_word, measured_text}
 use Rattle.emtp_machine.specs.declared.end.End.{End}
 
 unfoldable pub usage_note : List ℕ
@@ -37,23 +35,6 @@ unfoldable pub card_note : Bad → List ℕ
 card_note bad =
     codes "BAD CARD LINE " ++ decimal bad.line ++ codes " COLUMN " ++ decimal bad.column
     ++ codes " REASON " ++ decimal (reason_number bad.why) ++ codes " " ++ reason_name bad.why ++ codes "\n"
-
-abbrev pub cause_word : Cause → List ℕ
-cause_word Tied = codes "TIED"
-cause_word ZeroPivot = codes "ZEROPIVOT"
-cause_word Range = codes "RANGE"
-cause_word Residual = codes "RESIDUAL"
-cause_word TacsPivot = codes "TACSPIVOT"
-cause_word TacsRange = codes "TACSRANGE"
-
--- the residual that was measured, where that is the cause
-abbrev pub measured_text : Cause → ℤ → List ℕ
-measured_text Tied measured = []
-measured_text ZeroPivot measured = []
-measured_text Range measured = []
-measured_text Residual measured = codes " " ++ signed_decimal measured
-measured_text TacsPivot measured = []
-measured_text TacsRange measured = []
 
 -- how many samples there are, and how many rows were redone
 abbrev pub counts_text : ℕ → ℕ → List ℕ

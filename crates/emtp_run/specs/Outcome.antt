@@ -1,6 +1,5 @@
--- What a call comes to, by its words and the bytes of the case.
-use Rattle.std.specs.Prelude.{◌≡◌, ◌≢◌, ◌⊎◌, ℕ, ◌≤◌, ℤ, List, [], ◌∷◌, take, IsTrue, Option, Some, None, IsSomeAnd, IfSome, option_map, Result, Ok, Err}
-use Rattle.std.specs.Option.{option_and_then}
+-- What a call may come to, and what its status says of counts and outputs.
+use Rattle.std.specs.Prelude.{◌≡◌, ◌≢◌, ◌⊎◌, ℕ, ◌≤◌, ℤ, List, [], ◌∷◌, IsTrue, Option, Some, None, IsSomeAnd}
 use Rattle.emtp_card.specs.declared.reason.Bad.{Bad}
 use Rattle.emtp_case.specs.declared.case.Parts.{Parts}
 use Rattle.emtp_comtrade.specs.Record.{cfg_text, dat_text}
@@ -8,12 +7,11 @@ use Rattle.emtp_io.specs.Cabinet.{CabinetState, Rose}
 use Rattle.emtp_io.specs.Writes.{Written, with_all, IsCutShort, AllFit}
 use Rattle.emtp_io.specs.declared.cabinet.Output.TheVariants.{Cfg, Dat, Note, Summary}
 use Rattle.emtp_machine.specs.History.{History, history, samples}
-use Rattle.emtp_machine.specs.Machine.{IsEnd}
 use Rattle.emtp_run.specs.Note.{usage_note, card_note}
-use Rattle.emtp_run.specs.Reading.{deck}
 use Rattle.emtp_run.specs.Texts.{run_note, trial_text}
-use Rattle.emtp_run.specs.TrialDeck.{trial_cards}
-use Rattle.emtp_run.specs.Words.{Task, Run, Trial, fits}
+use Rattle.emtp_run.specs.Words.{RunFiles, files_of}
+use Rattle.emtp_run.specs.declared.outputs.Product.{Product}
+use Rattle.emtp_run.specs.declared.outputs.Product.TheVariants.{Record as OfRecord, Trial as OfTrial}
 use Rattle.emtp_run.specs.declared.status.Status.{Status}
 use Rattle.emtp_run.specs.declared.status.Status.TheVariants.{Done, Usage, BadCard, Ended, ReadFault, WriteFault, NoMemory}
 
@@ -25,12 +23,16 @@ pub record Outcome : Type 0 where
 abbrev pub note : List ℕ → Written
 note text = record { out = Note; name = []; bytes = text }
 
+-- a refusal leaves its note alone
+abbrev pub refusal : Status → List ℕ → Outcome
+refusal status text = record { status = status; writes = note text ∷ [] }
+
 abbrev pub usage : Outcome
-usage = record { status = Usage; writes = note usage_note ∷ [] }
+usage = refusal Usage usage_note
 
 -- a card was refused
 abbrev pub bad_card : Bad → Outcome
-bad_card bad = record { status = BadCard; writes = note (card_note bad) ∷ [] }
+bad_card bad = refusal BadCard (card_note bad)
 
 -- the status of a run that ended early or not
 abbrev pub status_of : {X : Type 0} → Option X → Status
@@ -47,68 +49,38 @@ dat name case rows = record { out = Dat; name = name; bytes = dat_text case rows
 abbrev pub summary : List ℕ → Written
 summary text = record { out = Summary; name = []; bytes = text }
 
--- the record and the note of a run, from the case's history; a trial leaves its summary alone
-abbrev pub writes_of : Task → Parts → History → List Written
-writes_of (Run files) case h =
+-- the record and the note of a run, from the case's history
+abbrev pub record_of : RunFiles → Parts → History → List Written
+record_of files case h =
     cfg files.cfg case (samples case h) ∷ dat files.dat case (samples case h) ∷ note (run_note case h) ∷ []
-writes_of (Trial number) case h = summary (trial_text number case h) ∷ []
 
-abbrev pub outcome_by : Task → Result Parts Bad → Outcome
-outcome_by task (Err bad) = bad_card bad
-outcome_by task (Ok case) =
-    record { status = status_of (history case).end; writes = writes_of task case (history case) }
+-- a trial leaves its summary alone
+abbrev pub trial_of : ℕ → Parts → History → List Written
+trial_of number case h = summary (trial_text number case h) ∷ []
 
--- of a case of these bytes
-abbrev pub outcome_of : Task → List ℕ → Outcome
-outcome_of task bytes = outcome_by task (deck bytes)
+-- the case was run to its end, with these outputs
+abbrev pub ran : Parts → List Written → Outcome
+ran case writes = record { status = status_of (history case).end; writes = writes }
 
--- the most bytes of a case that are read
-abbrev pub bound : ℕ
-bound = 9000001
+abbrev pub writes_of : Product → Parts → History → List Written
+writes_of (OfRecord words) case h = record_of (files_of words) case h
+writes_of (OfTrial number) case h = trial_of number case h
 
--- the bytes of the case, as far as they are read
-abbrev pub case_at : List ℕ → (List ℕ → Option (List ℕ)) → Option (List ℕ)
-case_at name files = option_map (λ bytes. take bound bytes) (files name)
-
--- the bytes of the case that is run: those of a file, or the cards of a trial
-abbrev pub bytes_of : Task → (List ℕ → Option (List ℕ)) → Option (List ℕ)
-bytes_of (Run run) files = case_at run.case files
-bytes_of (Trial number) files = Some (trial_cards number)
-
-abbrev pub outcome_for : Option Task → (List ℕ → Option (List ℕ)) → Option Outcome
-outcome_for None files = Some usage
-outcome_for (Some task) files = option_map (λ bytes. outcome_of task bytes) (bytes_of task files)
-
--- what a call comes to over these files; nothing where the case isn't among them
-abbrev pub outcome : List (List ℕ) → (List ℕ → Option (List ℕ)) → Option Outcome
-outcome words files = outcome_for (fits words) files
-
-abbrev pub accepted : Result Parts Bad → Option Parts
-accepted (Ok case) = Some case
-accepted (Err bad) = None
-
-abbrev pub case_for : Option Task → (List ℕ → Option (List ℕ)) → Option Parts
-case_for None files = None
-case_for (Some task) files = option_and_then (λ bytes. accepted (deck bytes)) (bytes_of task files)
-
--- the case that is run: nothing where the words don't fit, its file isn't among these or a card of it is refused
-abbrev pub case_of : List (List ℕ) → (List ℕ → Option (List ℕ)) → Option Parts
-case_of words files = case_for (fits words) files
-
--- where the run of a case ends early, its end names one of the steps, and a node or a variable of the case
-abbrev pub EndsWithin : Parts → Type 0
-EndsWithin case = IfSome (history case).end (IsEnd case)
-
--- a trial opens no file, and so no failure of one is answered
+-- no file was opened, and so no failure of one is answered
 pub record IsUnopened (status : Status) (old new : CabinetState) : Type 0 where
   pub unread : new.unread ≡ old.unread
   pub inputs : new.faults_in ≡ old.faults_in
   pub read : status ≢ ReadFault
 
-abbrev pub OpensNothing : Option Task → Status → CabinetState → CabinetState → Type 0
-OpensNothing None status old new = IsUnopened status old new
-OpensNothing (Some (Run files)) status old new = Unit {0}
-OpensNothing (Some (Trial number)) status old new = IsUnopened status old new
+-- a status whose note is all that is made
+abbrev pub LeavesNote : Status → Type 0
+LeavesNote Done = ⊥
+LeavesNote Usage = Unit {0}
+LeavesNote BadCard = Unit {0}
+LeavesNote Ended = ⊥
+LeavesNote ReadFault = ⊥
+LeavesNote WriteFault = ⊥
+LeavesNote NoMemory = ⊥
 
 -- the run came to its end, by itself or early
 abbrev pub IsFinished : Status → Type 0
@@ -197,7 +169,14 @@ pub record Ends (status : Status) (o : Option Outcome) (old new : CabinetState) 
   pub outcome : IsTrue old.nature.tells → Settles status o old new
   pub calm : IsTrue old.nature.tells → IsTrue old.nature.calm → HasRoomFor o old.nature.room → IsCalmRun status old new
 
--- A call on the case failed, or one on an output did; or all of the outcome was made and its status answered; or memory
+-- a call that ends so once the words fit and all files were read: it reads no more
+pub record EndsAfterReading (status : Status) (o : Outcome) (old new : CabinetState) : Type 0 where
+  pub usage : status ≢ Usage
+  pub read : status ≢ ReadFault
+  pub unread : new.unread ≡ old.unread
+  pub ends : Ends status (Some o) old new
+
+-- A call on a file that is read failed, or one on an output did; or all of the outcome was made and its status answered; or memory
 -- was wanting and nothing was made.
 abbrev pub IsComplete : Status → CabinetState → CabinetState → Outcome → Type 0
 IsComplete status old new o =

@@ -12,6 +12,7 @@
 
 mod note;
 mod outputs;
+mod reading;
 mod run;
 mod status;
 mod summary;

@@ -1,6 +1,7 @@
 //! The texts of the notes.
 ghost use Rattle.std.specs.Prelude.{◌≡◌, ◌+◌, ◌≤◌, ◌++◌, length};
-ghost use Rattle.emtp_run.specs.Note.{usage_note, card_note, cause_word, counts_text, done_text, ended_note, measured_text, note_by, reason_name};
+ghost use Rattle.emtp_machine.specs.End.{measured_text};
+ghost use Rattle.emtp_run.specs.Note.{usage_note, card_note, counts_text, done_text, ended_note, note_by, reason_name};
 
 use crate::text::{Text, push, push_number};
 use emtp_card::{Bad, Why};
@@ -71,7 +72,7 @@ pub fn push_ended(note: &mut Text, end: &End, samples: u32, redone: u64)
     push(note, b"ENDED STEP ");
     push_number(note, end.step);
     push(note, b" ");
-    push(note, cause_word(end.cause));
+    push(note, end.cause.word());
     push(note, b" ");
     push(note, end.name.as_slice());
     push_measured(note, end);
@@ -100,20 +101,6 @@ fn push_counts(note: &mut Text, samples: u32, redone: u64)
     push_number(note, samples);
     push(note, b" REDONE ");
     push_number(note, redone);
-}
-
-fn cause_word(cause: Cause) -> &'static [u8]
-    ensures word { result.now ≡ cause_word cause }
-    ensures short { length result.now ≤ 9 }
-{
-    match cause {
-        Cause::Tied => b"TIED",
-        Cause::ZeroPivot => b"ZEROPIVOT",
-        Cause::Range => b"RANGE",
-        Cause::Residual => b"RESIDUAL",
-        Cause::TacsPivot => b"TACSPIVOT",
-        Cause::TacsRange => b"TACSRANGE",
-    }
 }
 
 fn reason_name(why: &Why) -> &'static [u8]

@@ -1,21 +1,28 @@
 //! The outputs of a call, each made after the one before it is whole.
 ghost use Rattle.std.specs.Prelude.{◌≡◌, ◌+◌, [], ◌∷◌, Some, length};
-ghost use Rattle.emtp_card.specs.declared.reason.Bad.{Bad};
 ghost use Rattle.emtp_comtrade.specs.Record.{AreMultipliers};
 ghost use Rattle.emtp_io.specs.Writes.{Makes};
 ghost use Rattle.emtp_machine.specs.History.{history, redone as redone_by, samples as samples_of};
-ghost use Rattle.emtp_run.specs.Outcome.{cfg, dat, note, summary, usage, writes_of, bad_card, Ends};
-ghost use Rattle.emtp_run.specs.Words.{files_of, task_of, Run, Trial};
+ghost use Rattle.emtp_run.specs.Outcome.{cfg, dat, note, record_of, refusal, summary, writes_of, Ends, LeavesNote};
+ghost use Rattle.emtp_run.specs.Words.{files_of};
 
 use crate::note;
 use crate::status::Status;
 use crate::summary::of_trial;
-use crate::words::{RunWords, Words};
-use emtp_card::Bad;
+use crate::words::RunWords;
 use emtp_case::Case;
 use emtp_comtrade::{scales, write_cfg, write_dat};
 use emtp_io::{Cabinet, Failed, Output, write_all};
 use emtp_machine::{End, Samples};
+
+/// What the run of a case is to leave.
+#[derive(Clone, Copy)]
+pub enum Product<'a> {
+    /// A record under these names, and a note.
+    Record(RunWords<'a>),
+    /// The summary of the trial of a number.
+    Trial(u32),
+}
 
 /// Makes the configuration of the record.
 fn make_cfg<C: Cabinet>(
@@ -83,7 +90,7 @@ fn make_record<C: Cabinet>(
     requires redone { redone ≡ redone_by case.now.parts (history case.now.parts) }
     requires end { end.now ≡ (history case.now.parts).end }
     ensures { Makes (C.state cabinet.old) (C.state cabinet.new)
-        (writes_of (Run (files_of words.entry)) case.now.parts (history case.now.parts)) result }
+        (record_of (files_of words.entry) case.now.parts (history case.now.parts)) result }
 {
     let multipliers = scales(case, samples);
     let text = note::of_run(end, steps, samples.count(), redone);
@@ -95,7 +102,7 @@ fn make_record<C: Cabinet>(
 /// Makes what a run leaves: its record and note, or the summary of a trial.
 pub fn make_all<C: Cabinet>(
     cabinet: &mut C,
-    words: Words<'_>,
+    product: Product<'_>,
     case: &Case,
     samples: &Samples,
     steps: u32,
@@ -108,29 +115,24 @@ pub fn make_all<C: Cabinet>(
     requires redone { redone ≡ redone_by case.now.parts (history case.now.parts) }
     requires end { end.now ≡ (history case.now.parts).end }
     ensures { Makes (C.state cabinet.old) (C.state cabinet.new)
-        (writes_of (task_of words.entry) case.now.parts (history case.now.parts)) result }
+        (writes_of product.entry case.now.parts (history case.now.parts)) result }
 {
-    match words {
-        Words::Run(words) => make_record(cabinet, words, case, samples, steps, redone, end),
-        Words::Trial(number) => {
+    match product {
+        Product::Record(words) => make_record(cabinet, words, case, samples, steps, redone, end),
+        Product::Trial(number) => {
             let text = of_trial(number, end, steps, redone, samples);
             make_summary(cabinet, text.as_slice())
         }
     }
 }
 
-/// Makes the note of words that don't fit. Where that fails, the refusal stays.
-pub fn refuse_words<C: Cabinet>(cabinet: &mut C)
-    ensures ends { Ends Status.Usage (Some usage) (C.state cabinet.old) (C.state cabinet.new) }
+/// Makes the note of a refusal, and answers its status, which stays where the note can't be written.
+pub fn refuse<C: Cabinet>(cabinet: &mut C, status: Status, text: &[u8]) -> Status
+    requires { LeavesNote status }
+    ensures status { result ≡ status }
     ensures unread { (C.state cabinet.new).unread ≡ (C.state cabinet.old).unread }
+    ensures ends { Ends status (Some (refusal status text.now)) (C.state cabinet.old) (C.state cabinet.new) }
 {
-    let _ = make_note(cabinet, note::usage().as_slice());
-}
-
-/// Makes the note of a refused card. Where that fails, the refusal stays.
-pub fn refuse_card<C: Cabinet>(cabinet: &mut C, bad: &Bad)
-    ensures ends { Ends Status.BadCard (Some (bad_card bad.now)) (C.state cabinet.old) (C.state cabinet.new) }
-    ensures unread { (C.state cabinet.new).unread ≡ (C.state cabinet.old).unread }
-{
-    let _ = make_note(cabinet, note::bad_card(bad).as_slice());
+    let _ = make_note(cabinet, text);
+    status
 }

@@ -45,7 +45,8 @@ pub fn read_words(words: &[String]) -> Option<Words<'_>>
 
 /// What `run CASE CFG DAT` names.
 fn run_words<'a>(command: &str, case: &'a str, cfg: &'a str, dat: &'a str) -> Option<Words<'a>>
-    ensures { option_map (λ w. task_of w) result ≡ fits (command.now ∷ case.entry.now ∷ cfg.entry.now ∷ dat.entry.now ∷ []) }
+    ensures value { option_map (λ w. task_of w) result ≡ fits (command.now ∷ case.entry.now ∷ cfg.entry.now ∷ dat.entry.now ∷ []) }
+    ensures task { IfSome result (λ w. IsTask (task_of w)) }
 {
     if command == "run" && is_name(case) && is_name(cfg) && is_name(dat) && differ(case, cfg, dat) {
         Some(Words::Run(RunWords { case, cfg, dat }))

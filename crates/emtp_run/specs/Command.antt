@@ -1,0 +1,119 @@
+-- The table of commands: which files each reads, and what it comes to by what they hold.
+use Rattle.std.specs.Prelude.{◌≡◌, ℕ, ◌+◌, List, [], ◌∷◌, ◌++◌, Option, Some, None, option_map, Result, Ok, Err, IfSome, IsTrue, All}
+use Rattle.emtp_card.specs.declared.cards.TheConstants.{MAX_BYTES}
+use Rattle.emtp_card.specs.declared.reason.Bad.{Bad}
+use Rattle.emtp_case.specs.declared.case.Parts.{Parts}
+use Rattle.emtp_io.specs.Cabinet.{CabinetState}
+use Rattle.emtp_machine.specs.History.{history}
+use Rattle.emtp_machine.specs.Laws.{EndsWithin, SamplesBalance}
+use Rattle.emtp_run.specs.Inputs.{Input, contents, text_at, TookOfOne, TookOfLast, UnlessAny}
+use Rattle.emtp_run.specs.Outcome.{Outcome, bad_card, usage, ran, record_of, trial_of, Ends, HasRun, IsComplete, IsUnopened}
+use Rattle.emtp_run.specs.Reading.{deck}
+use Rattle.emtp_run.specs.TrialDeck.{trial_cards}
+use Rattle.emtp_run.specs.Words.{Task, Run, Trial, fits}
+use Rattle.emtp_run.specs.declared.status.Status.{Status}
+use Rattle.emtp_run.specs.declared.status.Status.TheVariants.{Done, Usage, BadCard, Ended, ReadFault, WriteFault, NoMemory}
+
+-- ---- what is read
+
+-- a file of cards; a byte past the limit is enough to refuse it
+abbrev pub text_file : List ℕ → Input
+text_file name = record { name = name; bound = MAX_BYTES + 1 }
+
+-- the files of a command, in the order in which they are read
+abbrev pub reads : Task → List Input
+reads (Run files) = text_file files.case ∷ []
+reads (Trial number) = []
+
+-- cards that no file holds
+abbrev pub own_texts : Task → List (List ℕ)
+own_texts (Run files) = []
+own_texts (Trial number) = trial_cards number ∷ []
+
+-- all that a command is about, the cards first; nothing where a file isn't there
+abbrev pub texts_for : Task → (List ℕ → Option (List ℕ)) → Option (List (List ℕ))
+texts_for task files = option_map (λ texts. own_texts task ++ texts) (contents files (reads task))
+
+-- ---- what it comes to
+
+-- of a case that is accepted, with the texts of the command
+abbrev pub answer : Task → List (List ℕ) → Parts → Outcome
+answer (Run files) texts case = ran case (record_of files case (history case))
+answer (Trial number) texts case = ran case (trial_of number case (history case))
+
+abbrev pub answer_by : Task → List (List ℕ) → Result Parts Bad → Outcome
+answer_by task texts (Err bad) = bad_card bad
+answer_by task texts (Ok case) = answer task texts case
+
+-- of these texts; a card that is refused comes before all else
+abbrev pub outcome_of : Task → List (List ℕ) → Outcome
+outcome_of task texts = answer_by task texts (deck (text_at 0 texts))
+
+abbrev pub outcome_for : Option Task → (List ℕ → Option (List ℕ)) → Option Outcome
+outcome_for None files = Some usage
+outcome_for (Some task) files = option_map (outcome_of task) (texts_for task files)
+
+-- what a call comes to over these files; nothing where one that is read isn't among them
+abbrev pub outcome : List (List ℕ) → (List ℕ → Option (List ℕ)) → Option Outcome
+outcome words files = outcome_for (fits words) files
+
+-- ---- which cases are run
+
+-- for a case that is accepted
+abbrev pub runs : Task → List (List ℕ) → Parts → List Parts
+runs (Run files) texts case = case ∷ []
+runs (Trial number) texts case = case ∷ []
+
+abbrev pub runs_by : Task → List (List ℕ) → Result Parts Bad → List Parts
+runs_by task texts (Err bad) = []
+runs_by task texts (Ok case) = runs task texts case
+
+abbrev pub runs_of : Task → List (List ℕ) → List Parts
+runs_of task texts = runs_by task texts (deck (text_at 0 texts))
+
+abbrev pub cases_in : Task → Option (List (List ℕ)) → List Parts
+cases_in task None = []
+cases_in task (Some texts) = runs_of task texts
+
+abbrev pub cases_for : Option Task → (List ℕ → Option (List ℕ)) → List Parts
+cases_for None files = []
+cases_for (Some task) files = cases_in task (texts_for task files)
+
+-- the cases that are run: none where the words don't fit, a file isn't among these or a card is refused
+abbrev pub cases_of : List (List ℕ) → (List ℕ → Option (List ℕ)) → List Parts
+cases_of words files = cases_for (fits words) files
+
+-- what is promised of each case that is run
+pub record HoldsOfRuns (cases : List Parts) : Type 0 where
+  pub balance : All SamplesBalance cases
+  pub names : All EndsWithin cases
+
+-- ---- which files are opened
+
+-- a command that reads no file opens none
+abbrev pub OpensNothing : Option Task → Status → CabinetState → CabinetState → Type 0
+OpensNothing None status old new = IsUnopened status old new
+OpensNothing (Some task) status old new = UnlessAny (reads task) (IsUnopened status old new)
+
+-- How much of these files was taken, by what is unread before and now: after a call that came past its reading the last of
+-- them is open, and else one of them, or none was opened.
+abbrev pub TookSoFar : Status → (List ℕ → Option (List ℕ)) → List Input → Option (List ℕ) → Option (List ℕ) → Type 0
+TookSoFar Done files inputs old new = TookOfLast files inputs old new
+TookSoFar Usage files inputs old new = TookOfLast files inputs old new
+TookSoFar BadCard files inputs old new = TookOfLast files inputs old new
+TookSoFar Ended files inputs old new = TookOfLast files inputs old new
+TookSoFar ReadFault files inputs old new = TookOfOne files inputs old new
+TookSoFar WriteFault files inputs old new = TookOfLast files inputs old new
+TookSoFar NoMemory files inputs old new = TookOfOne files inputs old new
+
+abbrev pub Takes : Option Task → Status → CabinetState → CabinetState → Type 0
+Takes None status old new = new.unread ≡ old.unread
+Takes (Some task) status old new = TookSoFar status old.nature.files (reads task) old.unread new.unread
+
+-- what is promised of a call that asks for this, whatever it answers
+pub record IsAnswered (task : Option Task) (status : Status) (old new : CabinetState) : Type 0 where
+  pub unopened : OpensNothing task status old new
+  pub taken : IsTrue old.nature.tells → Takes task status old new
+  pub runs : IsTrue old.nature.tells → HasRun status → HoldsOfRuns (cases_for task old.nature.files)
+  pub ends : Ends status (outcome_for task old.nature.files) old new
+  pub complete : IsTrue old.nature.tells → IfSome (outcome_for task old.nature.files) (IsComplete status old new)
