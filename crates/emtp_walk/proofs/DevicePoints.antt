@@ -19,7 +19,7 @@ use Rattle.emtp_netcards.specs.PointCard.{Follows, IsPointOf, fewest_of}
 use Rattle.emtp_netcards.specs.declared.point_card.PointScale.{PointScale}
 use Rattle.emtp_netcards.specs.declared.point_card.PointScale.TheVariants.{Table as TableScale, Times as TimesScale}
 use Rattle.emtp_taccards.specs.declared.device_card.DeviceCard.{DeviceCard}
-use Rattle.emtp_walk.proofs.Sounding.{at_end, at_front, drop_push, few_more, pushed}
+use Rattle.emtp_walk.proofs.Sounding.{at_end, at_front, drop_push, pushed}
 
 -- ---- one more point
 
@@ -51,7 +51,7 @@ turn_more scale dt ps p here all k l = elim (cases_lt k (length ps)) [
       (subst (λ (q : Point). Follows scale dt (before_at ps (length ps)) q) (sym (at_end ps p origin)) here))
 ]
 
-pub device_group : (deck : Deck) (group : DeviceGroup) (point : Point) → IsDeviceGroup deck group → group.count ≢ 64 → IsPointOf (device_scale group.card.code) point → Follows (device_scale group.card.code) deck.run.dt group.before point
+pub device_group : (deck : Deck) (group : DeviceGroup) (point : Point) → IsDeviceGroup deck group → group.count < 64 → IsPointOf (device_scale group.card.code) point → Follows (device_scale group.card.code) deck.run.dt group.before point
     → IsDeviceGroup (record deck { points = deck.points ++ point ∷ [] }) (record group { count = group.count + 1; before = Some point })
 device_group deck group point of room range follows =
     let scale = device_scale group.card.code in
@@ -63,7 +63,7 @@ device_group deck group point of room range follows =
     record {
       card = of.card;
       follow = of.follow;
-      few = few_more group.count of.few room;
+      few = omega (arith, room);
       there = omega (arith, of.there, length-append deck.points (point ∷ []));
       before = sym (ap (λ xs. before_at xs (group.count + 1)) more ∙ before_end ps point group.count size);
       points = subst (All (IsPointOf scale)) (sym more) (pushed (IsPointOf scale) ps point of.points range);

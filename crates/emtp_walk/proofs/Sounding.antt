@@ -1,5 +1,5 @@
 -- What the deck keeps when a card is added.
-use Rattle.std.proofs.Common.{◌≡◌, ◌∙◌, sym, ap, subst, ℕ, zero, suc, ◌+◌, ◌≤◌, ◌<◌, ◌≢◌, ℤ, Bool, true, List, [], ◌∷◌, ◌++◌, length, take, drop, get_or, Option, Some, refl, inl, inr, arith, add-one, length-append, length-drop}
+use Rattle.std.proofs.Common.{◌≡◌, ◌∙◌, sym, ap, subst, ℕ, zero, suc, ◌+◌, ◌≤◌, ◌<◌, ℤ, Bool, true, List, [], ◌∷◌, ◌++◌, length, take, drop, get_or, Option, Some, refl, inl, inr, arith, add-one, length-append, length-drop}
 use Rattle.std.specs.Prelude.{All}
 use Rattle.std.proofs.lemmas.Bool.{cases_lt}
 use Rattle.std.proofs.lemmas.List.Elements.{All-append, All-cons, All-nil}
@@ -85,12 +85,6 @@ segment_of ThirdCard dt before p is h = absurd (cc)
 segment_of ReactorCard dt before p is h = h
 segment_of ResistorCard dt before p is h = h
 
-pub few_more : (n : ℕ) → n ≤ 64 → n ≢ 64 → n + 1 ≤ 64
-few_more n h other = elim (cases_lt n 64) [
-  | inl less ↦ omega (arith, less)
-  | inr past ↦ let same : n ≡ 64 = omega (arith, past, h) in absurd (other same)
-]
-
 extra_stays : (points : List Point) (p : Point) (e : ExtraEntry) → IsExtraEntry points e → IsExtraEntry (points ++ p ∷ []) e
 extra_stays points p (DeviceEntry card first count) h = record {
   due = h.due;
@@ -113,7 +107,7 @@ point_whole deck point whole = record {
   sources = whole.sources;
 }
 
-pub point_group : (deck : Deck) (group : Group) (point : Point) → IsGroupOf deck group → group.count ≢ 64 → IsPointOf (scale_of group) point → Follows (scale_of group) deck.run.dt group.before point
+pub point_group : (deck : Deck) (group : Group) (point : Point) → IsGroupOf deck group → group.count < 64 → IsPointOf (scale_of group) point → Follows (scale_of group) deck.run.dt group.before point
     → IsGroupOf (record deck { points = deck.points ++ point ∷ [] }) (record group { count = group.count + 1; before = Some point })
 point_group deck group point of room range follows =
     let ps = drop group.first deck.points in
@@ -125,7 +119,7 @@ point_group deck group point of room range follows =
     record {
       numbers = of.numbers;
       pseudo = of.pseudo;
-      few = few_more group.count of.few room;
+      few = omega (arith, room);
       there = omega (arith, of.there, length-append deck.points (point ∷ []));
       before = last;
       point = λ p is. let same : point ≡ p = cc in subst (IsPointOf (scale_of group)) same range;
