@@ -216,7 +216,7 @@ fn add_extras(
     let mut history = 0;
     for entry in entries {
         add_extra(alloc, draft, variables, points, entry)?;
-        history += entry_history_values(alloc, draft.parts.run.dt, points, entry);
+        history += entry_history_values(draft.parts.run.dt, points, entry);
     }
     Ok(history)
 }

@@ -170,7 +170,7 @@ fn filled(alloc: Global, deck: &Deck, place: &Place, line: u32) -> Result<Case, 
         drop(names);
         return Err(Refused::Bad(samples_bad(deck)));
     }
-    if let Some(bad) = control_bad(alloc, &names, deck, place) {
+    if let Some(bad) = control_bad(&names, deck, place) {
         drop(names);
         return Err(Refused::Bad(bad));
     }

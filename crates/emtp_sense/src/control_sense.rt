@@ -11,12 +11,11 @@ use crate::limits::too_many;
 use crate::names::find_node;
 use crate::variables::{KnownNames, unknown_name};
 use emtp_card::{Bad, Fault, Why, least};
-use emtp_case::{Device, Items, Name, Point, Shape};
+use emtp_case::{Name, Point, Shape};
 use emtp_netcards::{SourceCard, SwitchCard};
 use emtp_taccards::{BlockCard, DeviceCard, FormulaCard};
 use emtp_walk::{BlockEntry, ControlPlace, Deck, ExtraEntry, Place};
 use indexmap::IndexSet;
-use std::alloc::Global;
 
 /// The blocks, the sources or the supplemental cards that a case may have.
 const MOST_CARDS: usize = 200;
@@ -314,53 +313,31 @@ fn extra_bad(
     }
 }
 
-/// The device of a card, as far as its equation goes.
-fn plain_device(alloc: Global, card: &DeviceCard) -> Device
-    ensures code { result.code ≡ card.now.code }
-    ensures a { result.a ≡ card.now.a }
-{
-    Device {
-        line: card.line,
-        var: 0,
-        group: card.group,
-        code: card.code,
-        inputs: Items::new(alloc),
-        a: card.a,
-        b: card.b,
-        c: card.c,
-        d: None,
-        e: None,
-        first: 0,
-        count: 0,
-    }
-}
-
 /// How many past values the device of a card needs.
-fn card_history_values(alloc: Global, dt: i64, card: &DeviceCard) -> u64
+fn card_history_values(dt: i64, card: &DeviceCard) -> u64
     requires dt { IsBetween 1000 (10 ^ 12) dt }
     requires a { HasRangeOfA card.now.code card.now.a }
     ensures value { result ≡ card_history_values dt card.now }
     ensures few { result ≤ 2 * 10 ^ 18 }
 {
-    plain_device(alloc, card).history_values(dt)
+    card.code.history_values(card.a, dt)
 }
 
 /// How many past values the device of a supplemental card needs; a formula needs none.
-pub fn entry_history_values(alloc: Global, dt: i64, points: &[Point], entry: &ExtraEntry) -> u64
+pub fn entry_history_values(dt: i64, points: &[Point], entry: &ExtraEntry) -> u64
     requires dt { IsBetween 1000 (10 ^ 12) dt }
     requires entry { IsExtraEntry points.now entry.now }
     ensures value { result ≡ entry_history_values dt entry.now }
     ensures few { result ≤ 2 * 10 ^ 18 }
 {
     match entry {
-        ExtraEntry::Device { card, .. } => card_history_values(alloc, dt, card),
+        ExtraEntry::Device { card, .. } => card_history_values(dt, card),
         ExtraEntry::Formula(_) => 0,
     }
 }
 
 /// Judges all supplemental cards: how many history values they need, or what refuses the first that has a fault.
 fn judge_extras(
-    alloc: Global,
     variables: &IndexSet<Name>,
     dt: i64,
     first: usize,
@@ -376,7 +353,7 @@ fn judge_extras(
     let mut at = 0;
     let mut history = 0;
     for entry in entries {
-        history += entry_history_values(alloc, dt, points, entry);
+        history += entry_history_values(dt, points, entry);
         if let Some(bad) = extra_bad(variables, at, first + at, history, entry) {
             return Err(bad);
         }
@@ -389,7 +366,6 @@ fn judge_extras(
 
 /// What refuses the card of a group that the file cuts off, after cards that need so many history values.
 fn pending_control_bad(
-    alloc: Global,
     variables: &IndexSet<Name>,
     deck: &Deck,
     place: &Place,
@@ -413,14 +389,13 @@ fn pending_control_bad(
             block_bad(variables, cards.blocks.len(), card)
         }
         Place::Control(ControlPlace::DevicePoints(group)) => {
-            pending_device(alloc, variables, deck, first, history, &group.card)
+            pending_device(variables, deck, first, history, &group.card)
         }
         _ => None,
     }
 }
 
 fn pending_device(
-    alloc: Global,
     variables: &IndexSet<Name>,
     deck: &Deck,
     first: usize,
@@ -436,13 +411,13 @@ fn pending_device(
     ensures { result ≡ pending_device variables.now.keys deck.now.run.dt deck.now.control history card.now }
 {
     let at = deck.control.extras.len();
-    let sum = history + card_history_values(alloc, deck.run.dt, card);
+    let sum = history + card_history_values(deck.run.dt, card);
     device_bad(variables, at, first + at, sum, card)
 }
 
 /// What refuses the first card of the control that has a fault of sense.
 #[tactic(auto, unfolding(crate::specs::ControlSense::control_bad))]
-pub fn control_bad(alloc: Global, names: &KnownNames, deck: &Deck, place: &Place) -> Option<Bad>
+pub fn control_bad(names: &KnownNames, deck: &Deck, place: &Place) -> Option<Bad>
     requires sound { IsSound deck.now place.now }
     ensures { result ≡ control_bad names.now.nodes.keys names.now.variables.keys deck.now place.now }
 {
@@ -458,21 +433,13 @@ pub fn control_bad(alloc: Global, names: &KnownNames, deck: &Deck, place: &Place
     }
     let first_extra = first_source + sources.len();
     match judge_extras(
-        alloc,
         &names.variables,
         deck.run.dt,
         first_extra,
         deck.points.as_slice(),
         cards.extras.as_slice(),
     ) {
-        Ok(history) => pending_control_bad(
-            alloc,
-            &names.variables,
-            deck,
-            place,
-            first_extra,
-            history,
-        ),
+        Ok(history) => pending_control_bad(&names.variables, deck, place, first_extra, history),
         Err(bad) => Some(bad),
     }
 }

@@ -8,7 +8,7 @@
 //!
 //! ```text
 //! let names = KnownNames::new(alloc, &deck, &place)?;
-//! let bad = control_bad(alloc, &names, &deck, &place);  // the first card of the control with a fault, and its least fault
+//! let bad = control_bad(&names, &deck, &place);  // the first card of the control with a fault, and its least fault
 //! ```
 #![tactic(auto)]
 
