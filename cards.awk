@@ -4,10 +4,10 @@
 function ends(line) { return line ~ /^BLANK/ || line ~ /^ *$/ }
 function tells(what) { if (!wanted) print NR "\t" what; else if (NR == wanted) { print what; exit } }
 function type(line) { return substr(line, 1, 2) + 0 }
-function is_last(line) { return substr(line, 1, 16) + 0 == 9999 }
+function is_last(line) { line = substr(line, 1, 16); gsub(/[dD]/, "E", line); return line + 0 == 9999 }
 BEGIN {
   place = "begin"
-  split("blocks tacs_sources extras tacs_outputs initial branches switches sources outputs after", section, " ")
+  # the kinds of the sections: five of the control, from 6 on those of the network
   split("a block card,a TACS source,a supplemental card,a TACS output,an initial condition,a branch card,a switch card,a source card,a node output card", named, ",")
 }
 { sub(/\r$/, "") }
