@@ -10,7 +10,7 @@ use Rattle.emtp_phasor.specs.Steady.{AreGood, IsSteady, State, ending_at, judged
 use Rattle.emtp_phasor.specs.Ending.{EndsSteady}
 use Rattle.emtp_phasor.specs.Volts.{phasors_of}
 use Rattle.emtp_admittance.specs.declared.admittance.TwoPort.{TwoPort}
-use Rattle.emtp_phasor.specs.declared.ending.Cause.TheVariants.{Tied}
+use Rattle.emtp_machine.specs.declared.end.Cause.TheVariants.{Tied}
 use Rattle.emtp_phasor.specs.declared.ending.Ending.{Ending}
 use Rattle.emtp_phasor.specs.declared.phasor.Phasor.{Phasor}
 

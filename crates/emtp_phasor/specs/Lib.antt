@@ -1,7 +1,6 @@
 pub mod Doubled
 pub mod Volts
 pub mod Steady
-pub mod Names
 pub mod Ending
 pub mod Solving
 pub mod Scanning

@@ -10,10 +10,10 @@ use Rattle.emtp_admittance.specs.declared.limit.TheConstants.{LARGEST_FREQUENCY}
 use Rattle.emtp_admittance.specs.declared.probe.Probe.{Probe}
 use Rattle.emtp_admittance.specs.declared.refusal.Refused.{Refused}
 use Rattle.emtp_case.specs.declared.case.Parts.{Parts}
-use Rattle.emtp_phasor.specs.Names.{node_name}
+use Rattle.emtp_machine.specs.Next.{node_name}
 use Rattle.emtp_phasor.specs.Steady.{State, steady}
 use Rattle.emtp_phasor.specs.Volts.{volt_at}
-use Rattle.emtp_phasor.specs.declared.ending.Cause.TheVariants.{Range}
+use Rattle.emtp_machine.specs.declared.end.Cause.TheVariants.{Range}
 use Rattle.emtp_phasor.specs.declared.ending.Ending.{Ending}
 use Rattle.emtp_phasor.specs.declared.fault.PhasorFault.{PhasorFault}
 use Rattle.emtp_phasor.specs.declared.fault.PhasorFault.TheVariants.{Ended as FaultEnded, NoMemory, Refused as FaultRefused}

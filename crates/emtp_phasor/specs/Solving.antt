@@ -2,10 +2,10 @@
 use Rattle.std.specs.Prelude.{◌≡◌, ◌∷◌, ℕ, ℤ, List, Option, Result, Ok, Err}
 use Rattle.emtp_admittance.specs.Refusals.{judged_frequency}
 use Rattle.emtp_case.specs.declared.case.Parts.{Parts}
-use Rattle.emtp_phasor.specs.Names.{node_name}
+use Rattle.emtp_machine.specs.Next.{node_name}
 use Rattle.emtp_phasor.specs.Steady.{IsSteady, steady}
 use Rattle.emtp_phasor.specs.Volts.{nothing}
-use Rattle.emtp_phasor.specs.declared.ending.Cause.{Cause}
+use Rattle.emtp_machine.specs.declared.end.Cause.{Cause}
 use Rattle.emtp_phasor.specs.declared.ending.Ending.{Ending}
 use Rattle.emtp_phasor.specs.declared.fault.PhasorFault.{PhasorFault}
 use Rattle.emtp_phasor.specs.declared.fault.PhasorFault.TheVariants.{Ended, NoMemory, Refused}

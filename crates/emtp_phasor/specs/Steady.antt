@@ -2,10 +2,12 @@
 -- doubled system ends in a fault; a current of a branch leaves its range; a residual exceeds the tolerance.
 use Rattle.std.specs.List.{position, range_with_len}
 use Rattle.std.specs.Prelude.{◌≡◌, ◌<◌, ◌≤ℤ◌, ℕ, zero, suc, ◌/◌, ◌==◌, ◌&&◌, max, ℤ, pos, ◌+ℤ◌, ◌-ℤ◌, ◌*ℤ◌, unsigned_abs, nat_lt, not, Bool, true, false, if◌then◌else◌, List, length, map, slice_get, Option, Some, None, Result, Ok, Err}
+use Rattle.emtp_fix.specs.Chain.{◌>>=◌, unless}
+use Rattle.emtp_fix.specs.Limit.{is_within}
 use Rattle.emtp_fix.specs.Rounding.{near}
 use Rattle.emtp_fix.specs.declared.limit.TheConstants.{LARGEST_VALUE, PICO}
 use Rattle.emtp_elim.specs.Matrix.{Matrix}
-use Rattle.emtp_elim.specs.Outcome.{is_within, outcome}
+use Rattle.emtp_elim.specs.Outcome.{outcome}
 use Rattle.emtp_elim.specs.declared.fault.PlainFault.{PlainFault}
 use Rattle.emtp_elim.specs.declared.fault.PlainFault.TheVariants.{NoMemory, Row, Solve}
 use Rattle.emtp_elim.specs.declared.fault.RowCause.{RowCause}
@@ -27,8 +29,8 @@ use Rattle.emtp_phasor.specs.Doubled.{doubled_matrix}
 use Rattle.emtp_admittance.specs.Impedance.{port_of}
 use Rattle.emtp_phasor.specs.Volts.{doubled_right, source_phasors_into, volt_at, phasors_of}
 use Rattle.emtp_admittance.specs.declared.admittance.TwoPort.{TwoPort}
-use Rattle.emtp_phasor.specs.declared.ending.Cause.{Cause}
-use Rattle.emtp_phasor.specs.declared.ending.Cause.TheVariants.{Range, Residual, Tied, ZeroPivot}
+use Rattle.emtp_machine.specs.declared.end.Cause.{Cause}
+use Rattle.emtp_machine.specs.declared.end.Cause.TheVariants.{Range, Residual, Tied, ZeroPivot}
 use Rattle.emtp_phasor.specs.declared.ending.Ending.{Ending}
 use Rattle.emtp_phasor.specs.declared.phasor.Phasor.{Phasor}
 use Rattle.emtp_admittance.specs.declared.refusal.Refusal.{Refusal}
@@ -131,17 +133,8 @@ pub record State : Type 0 where
   pub volts : List Phasor
   pub residual : ℕ
 
-infixl 10 ◌>>=◌
-abbrev pub ◌>>=◌ : {A B : Type 0} → Result A Ending → (A → Result B Ending) → Result B Ending
-(Ok x) >>= f = f x
-(Err ending) >>= f = Err ending
-
-abbrev pub unless_ending : {A : Type 0} → Option ℕ → (ℕ → Ending) → A → Result A Ending
-unless_ending None ending x = Ok x
-unless_ending (Some at) ending x = Err (ending at)
-
 abbrev pub untied_at_rest : Parts → Result (Unit {0}) Ending
-untied_at_rest case = unless_ending (tied_of case.switches (order_of case) (rest_of case).switch_states) (λ s. ending_at (node_of_switch case s) Tied) tt
+untied_at_rest case = unless (tied_of case.switches (order_of case) (rest_of case).switch_states) (λ s. ending_at (node_of_switch case s) Tied) (Ok tt)
 
 abbrev pub named_ending : Parts → Result (List ℤ) PlainFault → Result (List ℤ) Ending
 named_ending case (Ok x) = Ok x
@@ -152,12 +145,12 @@ abbrev pub doubled_solution : Parts → ℤ → Result (List ℤ) Ending
 doubled_solution case freq = named_ending case (outcome (doubled_system case freq) (steady_right case))
 
 abbrev pub within : Parts → List TwoPort → List Phasor → Result (List Phasor) Ending
-within case ports volts = unless_ending (first_flow_out case ports volts) (λ b. ending_at (node_of_branch case b) Range) volts
+within case ports volts = unless (first_flow_out case ports volts) (λ b. ending_at (node_of_branch case b) Range) (Ok volts)
 
 abbrev pub balanced_residuals : Parts → List TwoPort → List Phasor → Result State Ending
 balanced_residuals case ports volts =
-    unless_ending (first_residual_above case ports volts) (λ i. record { node = node_at case i; cause = Residual; measured = pos (row_residual case ports volts i) })
-    (record { volts = volts; residual = greatest_below (length case.nodes) (row_residual case ports volts) })
+    unless (first_residual_above case ports volts) (λ i. record { node = node_at case i; cause = Residual; measured = pos (row_residual case ports volts i) })
+    (Ok (record { volts = volts; residual = greatest_below (length case.nodes) (row_residual case ports volts) }))
 
 unfoldable pub steady : Parts → ℤ → Result State Ending
 steady case freq = do

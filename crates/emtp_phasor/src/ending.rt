@@ -1,25 +1,10 @@
 //! How a solution ends that has no steady state.
 
 ghost use Rattle.std.specs.Prelude.{◌≡◌};
-ghost use Rattle.emtp_case.specs.EndNames.{IsNode};
-ghost use Rattle.emtp_phasor.specs.Names.{node_name};
 ghost use Rattle.emtp_phasor.specs.Steady.{cause_of, ending_at};
 
-use emtp_case::{Case, Name};
 use emtp_elim::RowCause;
-
-/// Why a step has no record.
-#[derive(Clone, Copy, Debug, PartialEq, Eq)]
-pub enum Cause {
-    /// Closed switches tie two known voltages.
-    Tied,
-    /// A pivot is 0.
-    ZeroPivot,
-    /// A number leaves its range.
-    Range,
-    /// A residual exceeds the tolerance.
-    Residual,
-}
+use emtp_machine::Cause;
 
 /// The end of a solution that isn't there.
 #[derive(Clone, Copy, Debug, PartialEq, Eq)]
@@ -30,14 +15,6 @@ pub struct Ending {
     pub cause: Cause,
     /// The residual in nA where that is the cause, else 0.
     pub measured: i128,
-}
-
-/// The name of a node.
-pub(crate) fn node_name(case: &Case, node: u32) -> Name
-    requires { IsNode case.now.parts node }
-    ensures { result ≡ node_name case.now.parts node }
-{
-    case.parts.nodes.as_slice()[node as usize - 1]
 }
 
 /// An end at a node that measures nothing.

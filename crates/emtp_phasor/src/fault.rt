@@ -2,9 +2,9 @@
 
 ghost use Rattle.std.specs.Prelude.{◌≡◌};
 
-use crate::ending::Cause;
 use emtp_admittance::Refusal;
 use emtp_case::Name;
+use emtp_machine::Cause;
 use std::alloc::AllocError;
 
 /// Why there is no answer.

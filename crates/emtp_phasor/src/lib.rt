@@ -26,10 +26,8 @@ mod sources;
 mod steady;
 mod system;
 
-pub use ending::Cause;
 pub use fault::PhasorFault;
 pub use line::{ScanAnswer, ScanLine};
 pub use phasor::Phasor;
-pub use phasor_rows::PhasorRows;
 pub use scanning::{MOST_FREQUENCIES, scan};
 pub use solving::{Phasors, solve};

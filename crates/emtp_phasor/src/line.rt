@@ -2,8 +2,8 @@
 
 ghost use Rattle.std.specs.Prelude.{◌≡◌};
 
-use crate::ending::Cause;
 use emtp_case::Name;
+use emtp_machine::Cause;
 
 /// What a scan finds at a frequency.
 #[derive(Clone, Copy, Debug)]

@@ -13,7 +13,7 @@ ghost use Rattle.emtp_phasor.specs.Scanning.{FaultsScan, IsScan, IsScanned, answ
 ghost use Rattle.emtp_phasor.specs.Steady.{steady};
 ghost use Rattle.emtp_phasor.specs.Volts.{IsVolt};
 
-use crate::ending::{Cause, Ending, node_name};
+use crate::ending::Ending;
 use crate::fault::PhasorFault;
 use crate::line::{ScanAnswer, ScanLine};
 use crate::phasor::Phasor;
@@ -21,6 +21,7 @@ use crate::system::{Stop, System};
 use emtp_admittance::{Probe, judged_frequency, judged_probe};
 use emtp_case::Case;
 use emtp_fix::{NANO, Steps, in_range, scaled};
+use emtp_machine::{Cause, node_name};
 use emtp_wave::CosTable;
 use std::alloc::{AllocError, Global};
 use std::marker::Brand;

@@ -9,13 +9,14 @@ ghost use Rattle.emtp_phasor.specs.Solving.{AnswersCase, FaultsAtFrequency};
 ghost use Rattle.emtp_phasor.specs.Steady.{IsSteady};
 ghost use Rattle.emtp_phasor.specs.Volts.{nothing};
 
-use crate::ending::{Ending, node_name};
+use crate::ending::Ending;
 use crate::fault::PhasorFault;
 use crate::phasor::Phasor;
 use crate::system::{Stop, System};
 use emtp_admittance::judged_frequency;
 use emtp_case::Case;
 use emtp_fix::Steps;
+use emtp_machine::node_name;
 use emtp_wave::CosTable;
 use std::alloc::{AllocError, Global};
 use std::marker::Brand;

@@ -13,13 +13,14 @@ ghost use Rattle.emtp_phasor.specs.Doubled.{doubled_matrix};
 ghost use Rattle.emtp_phasor.specs.Steady.{AreGood, IsSteady, judged_volts, resting_kinds, doubled_system, named_ending, port_or_none, ports_of, steady_right, doubled_solution, steady};
 ghost use Rattle.emtp_phasor.specs.Volts.{IsVolt, nothing, volt_in, phasors_of};
 
-use crate::ending::{Cause, Ending, cause_of, ending_at};
+use crate::ending::{Ending, cause_of, ending_at};
 use crate::flow::{first_out, judge};
 use crate::phasor::{NOTHING, Phasor};
 use crate::phasor_rows::PhasorRows;
 use emtp_admittance::{Admittance, Refusal, TwoPort, branch_port};
 use emtp_case::{Case, RowKind, RowOrder, branch_name};
 use emtp_fix::Steps;
+use emtp_machine::Cause;
 use emtp_tail::Kept;
 use emtp_wave::CosTable;
 use std::sync::ledger::Ledger;

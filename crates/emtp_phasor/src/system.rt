@@ -14,7 +14,7 @@ ghost use Rattle.emtp_phasor.specs.Opening.{IsClosed};
 ghost use Rattle.emtp_phasor.specs.Steady.{IsSteady, resting_kinds};
 ghost use Rattle.emtp_phasor.specs.Volts.{IsVolt, nothing};
 
-use crate::ending::{Cause, Ending, ending_at};
+use crate::ending::{Ending, ending_at};
 use crate::opening::{Closed, right_side, row_kinds};
 use crate::phasor::{NOTHING, Phasor};
 use crate::phasor_rows::PhasorRows;
@@ -22,6 +22,7 @@ use crate::steady::{NO_PORT, steady_at};
 use emtp_admittance::TwoPort;
 use emtp_case::{Case, RowKind, RowOrder, order, switch_name};
 use emtp_fix::Steps;
+use emtp_machine::Cause;
 use emtp_tail::Kept;
 use emtp_wave::CosTable;
 use std::alloc::{AllocError, Global};
