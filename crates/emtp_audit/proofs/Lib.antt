@@ -1,0 +1,27 @@
+pub mod Agreeing
+pub mod Answering
+pub mod AuditSame
+pub mod CfgFields
+pub mod CfgFile
+pub mod CfgLines
+pub mod CfgPlaces
+pub mod CfgSame
+pub mod CfgShort
+pub mod Checking
+pub mod DatFile
+pub mod DatLines
+pub mod Decimals
+pub mod FieldNumbers
+pub mod FieldsOfPieces
+pub mod Joined
+pub mod Limits
+pub mod LineWalks
+pub mod LinesOfPieces
+pub mod Matches
+pub mod Names
+pub mod Plain
+pub mod Reading
+pub mod Tests
+pub mod Walking
+pub mod Whole
+mod Worked

@@ -1,0 +1,10 @@
+use Rattle.std.proofs.Common.{length, arith}
+use Rattle.emtp_audit.specs.Dat.{scales_of, raw_rule_at}
+use Rattle.emtp_audit.proofs.Walking.{walks-end}
+use Rattle.emtp_audit.proofs.sample.walk_raws.Goals as goal
+
+pub returns-in-Err-clause-walks : goal.returns-in-Err-clause-walks
+returns-in-Err-clause-walks c =
+    let p = c.args.case.now.parts in
+    walks-end c.args.fields.now c.loop-place.fields (raw_rule_at p c.args.samples.now.rows (scales_of c.args.cfg.now.scales.items c.args.cfg.now.multiplier) c.args.sample) c.loop-place.place (length p.channels) c.in-Err.differs
+    (omega (arith, c.loop-place-test.true, c.len-place-end.ensures)) c.loop-place.invariant.walks c.in-Err.ensures.walks

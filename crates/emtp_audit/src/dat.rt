@@ -1,0 +1,123 @@
+//! The lines of the data, one after the other.
+ghost use Rattle.std.specs.Prelude.{◌≡◌, true, ◌+◌, ◌<◌, ◌≤◌, ◌∷◌, [], ℕ, ℤ, List, pos, ◌≤ℤ◌, unsigned_abs, ◌^◌, length, All, Ok, Err, IfOk, IfErr, MatchOption};
+ghost use Rattle.std.specs.List.{list_all};
+ghost use Rattle.emtp_card.specs.Lines.{lines_of};
+ghost use Rattle.emtp_comtrade.specs.Record.{analog_before};
+ghost use Rattle.emtp_audit.specs.Rules.{is_padding, audited_lines};
+ghost use Rattle.emtp_audit.specs.Dat.{told_by, dat_rule, first_stamp, dat_differs, IsScale};
+ghost use Rattle.emtp_audit.specs.Walk.{LineWalks, found_in, stamp_in};
+
+use crate::differs::{DifferCause, Differs};
+use crate::fields::Fields;
+use crate::lines::{MOST_BYTES, next_audited};
+use crate::numbers::stamp;
+use crate::sample::read_line;
+use crate::scale::Cfg;
+use emtp_case::Case;
+use emtp_machine::Samples;
+
+/// Compares the data with the samples, in one pass. It takes no memory.
+#[tactic(auto, unfolding(crate::specs::Dat::dat_differs))]
+pub fn read_dat(bytes: &[u8], case: &Case, samples: &Samples, cfg: &Cfg) -> Result<(), Differs>
+    requires channels { samples.now.channels ≡ length case.now.parts.channels }
+    requires count { length cfg.now.scales.items ≡ analog_before case.now.parts (length case.now.parts.channels) }
+    requires scales { All IsScale cfg.now.scales.items }
+    requires multiplier { unsigned_abs cfg.now.multiplier ≤ 10 ^ 18 }
+    ensures { dat_differs case.now.parts samples.now.rows (told_by cfg.now) bytes.now ≡ found_in result }
+{
+    if bytes.len() > MOST_BYTES {
+        return Err(Differs {
+            dat: true,
+            line: 0,
+            field: 0,
+            cause: DifferCause::Long,
+        });
+    }
+    let first = first_stamp(bytes);
+    let mut rest = bytes;
+    for sample in 0..samples.count() {
+        match read_sample(rest, case, samples, sample, cfg, first) {
+            Ok(tail) => rest = tail,
+            Err(differs) => return Err(differs),
+        }
+    }
+    match next_audited(rest) {
+        None => Ok(()),
+        Some(_) => Err(Differs {
+            dat: true,
+            line: samples.count() + 1,
+            field: 1,
+            cause: DifferCause::Extra,
+        }),
+    }
+}
+
+/// Compares the first line of a text with a sample, and answers what stands after it.
+fn read_sample<'a>(
+    rest: &'a [u8],
+    case: &Case,
+    samples: &Samples,
+    sample: u32,
+    cfg: &Cfg,
+    first: i64,
+) -> Result<&'a [u8], Differs>
+    requires channels { samples.now.channels ≡ length case.now.parts.channels }
+    requires sample { sample < length samples.now.rows }
+    requires room { sample + 1 < 2 ^ 32 }
+    requires count { length cfg.now.scales.items ≡ analog_before case.now.parts (length case.now.parts.channels) }
+    requires scales { All IsScale cfg.now.scales.items }
+    requires multiplier { unsigned_abs cfg.now.multiplier ≤ 10 ^ 18 }
+    requires first_low { pos 0 ≤ℤ first }
+    requires first_high { unsigned_abs first < 10 ^ 10 }
+    ensures ok { IfOk result (λ tail. LineWalks (Ok tail.now) (sample + 1)
+        (dat_rule case.now.parts samples.now.rows (told_by cfg.now) first sample) rest.now) }
+    ensures short { IfOk result (λ tail. length tail.now < length rest.now) }
+    ensures err { IfErr result (λ differs. LineWalks (Err differs) (sample + 1)
+        (dat_rule case.now.parts samples.now.rows (told_by cfg.now) first sample) rest.now) }
+{
+    match next_audited(rest) {
+        None => Err(Differs {
+            dat: true,
+            line: sample + 1,
+            field: 1,
+            cause: DifferCause::Missing,
+        }),
+        Some((line, tail)) => {
+            match read_line(sample + 1, line, case, samples, sample, cfg, first) {
+                Ok(()) => Ok(tail),
+                Err(differs) => Err(differs),
+            }
+        }
+    }
+}
+
+/// The stamp in the first line of the data.
+fn first_stamp(bytes: &[u8]) -> i64
+    ensures value { result ≡ first_stamp bytes.now }
+    ensures low { pos 0 ≤ℤ result }
+    ensures high { unsigned_abs result < 10 ^ 10 }
+{
+    match next_audited(bytes) {
+        None => 0,
+        Some((line, _)) => stamp_in(line),
+    }
+}
+
+/// The stamp in a line, or 0.
+fn stamp_in(line: &[u8]) -> i64
+    ensures value { result ≡ stamp_in line.now }
+    ensures low { pos 0 ≤ℤ result }
+    ensures high { unsigned_abs result < 10 ^ 10 }
+{
+    let mut fields = Fields::of(true, 1, line);
+    match fields.take() {
+        Err(_) => 0,
+        Ok(_) => match fields.take() {
+            Err(_) => 0,
+            Ok(field) => match stamp(field) {
+                Some(stamp) => stamp,
+                None => 0,
+            },
+        },
+    }
+}
