@@ -1,6 +1,6 @@
 -- Lines and fields that meet their rules.
 use Rattle.std.proofs.Common.{◌≡◌, ◌++◌, ◌∙◌, ap, ℕ, ◌+◌, Bool, List, [], ◌∷◌, None, refl}
-use Rattle.emtp_audit.specs.Rules.{Rule, LineRule, Anything, Fields, fields_differ, line_differs, lines_differ, or_later, or_else, fields_of}
+use Rattle.emtp_audit.specs.Rules.{Rule, LineRule, Anything, Fields, fields_differ, line_differs, lines_differ, cause_or_later, differs_or_later, comma_fields}
 
 -- each field passes its rule, and none is missing or too many
 abbrev pub Pass : List Rule → List (List ℕ) → Type 0
@@ -21,17 +21,17 @@ pass-none dat line number [] [] pass = refl
 pass-none dat line number [] (field ∷ fields) pass = absurd pass
 pass-none dat line number (rule ∷ rules) [] pass = absurd pass
 pass-none dat line number (rule ∷ rules) (field ∷ fields) pass =
-    ap (λ o. or_later dat line number o (fields_differ dat line (number + 1) rules fields)) pass.0
+    ap (λ o. cause_or_later dat line number o (fields_differ dat line (number + 1) rules fields)) pass.0
     ∙ pass-none dat line (number + 1) rules fields pass.1
 
 -- a line meets its rule
 abbrev pub Meets : LineRule → List ℕ → Type 0
 Meets Anything line = Unit {0}
-Meets (Fields rules) line = Pass rules (fields_of line)
+Meets (Fields rules) line = Pass rules (comma_fields line)
 
 pub meets-none : (dat : Bool) (number : ℕ) (rule : LineRule) (line : List ℕ) → Meets rule line → line_differs dat number rule line ≡ None
 meets-none dat number Anything line meets = refl
-meets-none dat number (Fields rules) line meets = pass-none dat number 1 rules (fields_of line) meets
+meets-none dat number (Fields rules) line meets = pass-none dat number 1 rules (comma_fields line) meets
 
 -- each line meets its rule, and none is missing or too many
 abbrev pub Agree : List LineRule → List (List ℕ) → Type 0
@@ -51,5 +51,5 @@ agree-none dat number [] [] agree = refl
 agree-none dat number [] (line ∷ lines) agree = absurd agree
 agree-none dat number (rule ∷ rules) [] agree = absurd agree
 agree-none dat number (rule ∷ rules) (line ∷ lines) agree =
-    ap (λ o. or_else o (lines_differ dat (number + 1) rules lines)) (meets-none dat number rule line agree.0)
+    ap (λ o. differs_or_later o (lines_differ dat (number + 1) rules lines)) (meets-none dat number rule line agree.0)
     ∙ agree-none dat (number + 1) rules lines agree.1

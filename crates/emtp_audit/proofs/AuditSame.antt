@@ -13,7 +13,7 @@ use Rattle.emtp_audit.specs.Cfg.{cfg_rules, rates_in, scales_in, cfg_differs}
 use Rattle.emtp_audit.specs.Dat.{step_of, dat_differs}
 use Rattle.emtp_comtrade.specs.Multiplier.{IsMultiplier}
 use Rattle.emtp_comtrade.specs.Record.{multiplier_at, cfg_text, dat_text}
-use Rattle.emtp_audit.specs.Rules.{or_else, audited_lines, lines_differ}
+use Rattle.emtp_audit.specs.Rules.{differs_or_later, audited_lines, lines_differ}
 use Rattle.emtp_machine.specs.Samples.{value_at, greatest}
 use Rattle.emtp_comtrade.proofs.LeastMultiplier.{IsMultiplier-multiplier_of}
 use Rattle.emtp_comtrade.proofs.HeldValues.{value-greatest, value-held}
@@ -117,5 +117,5 @@ pub record-same : (p : Parts) (rows : List (List ℤ)) → IsCase p → AreSampl
 unfolding audit_differs
 record-same p rows is samples =
     let u = unit_of p is in
-    ap (λ o. or_else o (dat_differs p rows (scales_in p (cfg_text p rows)) (dat_text p rows))) (cfg-same p rows is samples)
+    ap (λ o. differs_or_later o (dat_differs p rows (scales_in p (cfg_text p rows)) (dat_text p rows))) (cfg-same p rows is samples)
     ∙ dat-same p rows (scales_in p (cfg_text p rows)) (scaled-cfg p rows u.unit is (are-small p rows samples) u.is (few-rows p rows is samples) u.some u.most) (are-held p rows samples) (few-rows p rows is samples) (few-values p rows is samples)

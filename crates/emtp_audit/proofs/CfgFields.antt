@@ -15,7 +15,7 @@ use Rattle.emtp_card.specs.Field.{trimmed}
 use Rattle.emtp_card.specs.Number.{read_number_of, number_in, in_limit}
 use Rattle.emtp_card.specs.declared.reason.Why.TheVariants.{OutOfUnitRange}
 use Rattle.emtp_audit.specs.Numbers.{whole_of, decimal_in, found}
-use Rattle.emtp_audit.specs.Rules.{text_is, unless_wrong, judged}
+use Rattle.emtp_audit.specs.Rules.{text_is, unless_wrong, judged_number}
 use Rattle.emtp_audit.specs.Cfg.{counts, scale_number, unit_number, from_to}
 use Rattle.emtp_audit.proofs.Plain.{ArePlain, trimmed-plain, plain-digits, plain-both}
 use Rattle.emtp_audit.proofs.Whole.{decimal-digits, whole-decimal}
@@ -39,10 +39,10 @@ text_is-same text same = ap (text_is text) same ∙ ap unless_wrong (bytes-same 
 pub counts-decimal : (letter number : ℕ) → number < 10 ^ 9 → ArePlain (letter ∷ []) → to_ascii_uppercase letter ≡ letter → counts letter number (trimmed (decimal number ++ letter ∷ [])) ≡ None
 counts-decimal letter number few plain capital =
     ap (counts letter number) (trimmed-plain (decimal number ++ letter ∷ []) (plain-both (decimal number) (letter ∷ []) (plain-digits (decimal number) (decimal-digits number (omega arith))) plain))
-    ∙ ap (λ (k : ℕ). judged (whole_of (take k (decimal number ++ letter ∷ []))) (λ x. int_eq x (pos number) && (to_ascii_uppercase (get_or (decimal number ++ letter ∷ []) k 0) == letter))) (omega (arith, length-append (decimal number) (letter ∷ [])))
-    ∙ ap (λ (front : List ℕ). judged (whole_of front) (λ x. int_eq x (pos number) && (to_ascii_uppercase (get_or (decimal number ++ letter ∷ []) (length (decimal number)) 0) == letter))) (front_of (decimal number) letter)
-    ∙ ap (λ (b : ℕ). judged (whole_of (decimal number)) (λ x. int_eq x (pos number) && (to_ascii_uppercase b == letter))) (last_of (decimal number) letter)
-    ∙ ap (λ o. judged o (λ x. int_eq x (pos number) && (to_ascii_uppercase letter == letter))) (whole-decimal number few)
+    ∙ ap (λ (k : ℕ). judged_number (whole_of (take k (decimal number ++ letter ∷ []))) (λ x. int_eq x (pos number) && (to_ascii_uppercase (get_or (decimal number ++ letter ∷ []) k 0) == letter))) (omega (arith, length-append (decimal number) (letter ∷ [])))
+    ∙ ap (λ (front : List ℕ). judged_number (whole_of front) (λ x. int_eq x (pos number) && (to_ascii_uppercase (get_or (decimal number ++ letter ∷ []) (length (decimal number)) 0) == letter))) (front_of (decimal number) letter)
+    ∙ ap (λ (b : ℕ). judged_number (whole_of (decimal number)) (λ x. int_eq x (pos number) && (to_ascii_uppercase b == letter))) (last_of (decimal number) letter)
+    ∙ ap (λ o. judged_number o (λ x. int_eq x (pos number) && (to_ascii_uppercase letter == letter))) (whole-decimal number few)
     ∙ ap (λ t. unless_wrong (t && (to_ascii_uppercase letter == letter))) (same_int (pos number))
     ∙ ap unless_wrong (is letter capital)
   where

@@ -3,7 +3,7 @@ use Rattle.std.proofs.Common.{◌≡◌, ◌∙◌, sym, ap, ℕ, zero, suc, ◌
 use Rattle.std.specs.Prelude.{max}
 use Rattle.emtp_case.specs.declared.case.Parts.{Parts}
 use Rattle.emtp_comtrade.specs.Record.{joined, is_status_at, analog_before, status_before}
-use Rattle.emtp_audit.specs.Cfg.{line_at, scale_on, rate_rule, rate_rules, date_rules, head_rules, analog_rule, analog_rule_at, status_rule, status_rule_at, analog_scales_on, scales_at, analog_scales, rates_in, cfg_rules, cfg_differs}
+use Rattle.emtp_audit.specs.Cfg.{file_line, scale_on, rate_rule, rate_rules, date_rules, head_rules, analog_rule, analog_rule_at, status_rule, status_rule_at, analog_scales_on, scales_at, analog_scales, rates_in, cfg_rules, cfg_differs}
 use Rattle.emtp_audit.specs.Rules.{Fields, any_field, number_is, audited_lines}
 use Rattle.emtp_audit.specs.Walk.{Behind, LinesLeft, finds_lines}
 use Rattle.emtp_audit.specs.declared.differs.Differs.{Differs}
@@ -70,7 +70,7 @@ scales-next p place all now items is behind =
 -- the scales by the lines of all, and by those behind the head
 pub scales-behind : (p : Parts) (all rest : List (List ℕ)) → Behind all (length (head_rules p)) rest → analog_scales_on (analog_before p (length p.channels)) rest ≡ analog_scales p all
 scales-behind p all rest behind =
-    joined-same (λ number. scale_on (line_at rest number) ∷ []) (λ number. scale_on (line_at all (2 + number)) ∷ []) (analog_before p (length p.channels))
+    joined-same (λ number. scale_on (file_line rest number) ∷ []) (λ number. scale_on (file_line all (2 + number)) ∷ []) (analog_before p (length p.channels))
     (λ number less. ap (λ (line : List ℕ). scale_on line ∷ []) (sym (behind number)))
 
 -- behind all channels

@@ -11,7 +11,7 @@ use Rattle.emtp_case.specs.Case.{IsCase}
 use Rattle.emtp_case.specs.declared.case.Parts.{Parts}
 use Rattle.emtp_audit.specs.declared.scale.Scale.{Scale}
 use Rattle.emtp_comtrade.specs.Record.{joined, is_status_at, is_analog_at, analog_before, multiplier_at, cfg_text}
-use Rattle.emtp_audit.specs.Rules.{audited_lines, fields_of}
+use Rattle.emtp_audit.specs.Rules.{audited_lines, comma_fields}
 use Rattle.emtp_comtrade.proofs.Places.{count_below-le, count_below-less}
 use Rattle.emtp_audit.specs.Cfg.{scale_number, unit_number, rates_in, rates_on, scale_on, unit_on, unit_in, scales_in}
 use Rattle.emtp_audit.proofs.Joined.{joined-at}
@@ -27,7 +27,7 @@ use Rattle.emtp_audit.proofs.DatLines.{scale_by, IsScaledBy}
 -- ---- the sampling rates, and the unit of time stamps
 
 no_rates : rates_on (codes "0") ≡ 0
-unfolding rates_on fields_of trimmed whole_of limited_whole
+unfolding rates_on comma_fields trimmed whole_of limited_whole
 no_rates = refl
 
 pub rates-none : (p : Parts) (rows : List (List ℤ)) (unit : ℕ) → rates_in p (cfg_lines p rows unit) ≡ 0
@@ -98,8 +98,8 @@ scale-read p rows unit place is small there analog =
     ap (λ (j : ℕ). get_or (cfg_lines p rows unit) j []) (two (analog_before p place))
     ∙ get_or_append_left (joined n (analog_lines_at p rows)) (joined n (status_lines_at p) ++ tail_lines (length rows) unit) [] (analog_before p place) (omega (arith, at.0, length-analog p (λ place. analog_body p (multiplier_at rows place) place) n))
     ∙ at.1 in
-    let fields : fields_of (get_or (cfg_lines p rows unit) (2 + analog_before p place) []) ≡ map trimmed (decimal (analog_before p place + 1) ∷ analog_pieces p (multiplier_at rows place) place) =
-    ap fields_of line ∙ fields-pieces (decimal (analog_before p place + 1)) (analog_pieces p (multiplier_at rows place) place) (pieces-analog p (multiplier_at rows place) place is there (small place there analog) (omega arith)) in
+    let fields : comma_fields (get_or (cfg_lines p rows unit) (2 + analog_before p place) []) ≡ map trimmed (decimal (analog_before p place + 1) ∷ analog_pieces p (multiplier_at rows place) place) =
+    ap comma_fields line ∙ fields-pieces (decimal (analog_before p place + 1)) (analog_pieces p (multiplier_at rows place) place) (pieces-analog p (multiplier_at rows place) place is there (small place there analog) (omega arith)) in
     let made : ℤ → ℤ → Scale = λ a b. record { a = a; b = b } in
     ap (λ (fs : List (List ℕ)). made (unwrap_or (scale_number (get_or fs 5 [])) (pos 0)) (unwrap_or (scale_number (get_or fs 6 [])) (pos 0))) fields
     ∙ ap (λ o. made (unwrap_or o (pos 0)) (unwrap_or (scale_number (trimmed (codes "0"))) (pos 0))) (scale_number-fixed (multiplier_at rows place) (small place there analog))

@@ -14,7 +14,7 @@ use Rattle.emtp_audit.specs.Pieces.{ended}
 use Rattle.emtp_comtrade.specs.Record.{joined, is_status_at, multiplier_at, raw_at, state_at, dat_line, dat_text}
 use Rattle.emtp_comtrade.specs.Multiplier.{IsHeld}
 use Rattle.emtp_machine.specs.Samples.{value_at}
-use Rattle.emtp_audit.specs.Rules.{LineRule, file_differs, differs_at, lines_differ, is_padding, without_padding, audited_lines, fields_of}
+use Rattle.emtp_audit.specs.Rules.{LineRule, file_differs, differs_at, lines_differ, is_padding, without_padding, audited_lines, comma_fields}
 use Rattle.emtp_audit.specs.Dat.{Scales, dat_rule, dat_rules, first_stamp, dat_differs}
 use Rattle.emtp_audit.proofs.FieldsOfPieces.{fields-line, fields-piece, fields-both}
 use Rattle.emtp_audit.proofs.LinesOfPieces.{lines-piece}
@@ -40,11 +40,11 @@ joined-first zero at = sym (append-nil (at 0))
 joined-first (suc n) at = ap (λ (xs : List ℕ). xs ++ at (suc n)) (joined-first n at) ∙ append_assoc (at 0) (joined n (λ k. at (suc k))) (at (suc n))
 
 no_stamp : first_stamp (26 ∷ []) ≡ pos 0
-unfolding first_stamp audited_lines lines_of fields_of trimmed stamp_of
+unfolding first_stamp audited_lines lines_of comma_fields trimmed stamp_of
 no_stamp = refl
 
 stamp_in : List ℕ → ℤ
-stamp_in line = unwrap_or (stamp_of (get_or (fields_of line) 1 [])) (pos 0)
+stamp_in line = unwrap_or (stamp_of (get_or (comma_fields line) 1 [])) (pos 0)
 
 stamp_of-body : (p : Parts) (rows : List (List ℤ)) (scales : Scales) → IsScaledBy p rows scales → AreHeld p rows → 0 < length rows → stamp_in (dat_body p rows 0) ≡ pos 0
 unfolding stamp_in
@@ -61,8 +61,8 @@ stamp_of-body p rows scales scaled held some =
 first_line : (line rest : List ℕ) → is_padding line ≡ false → lines_of (ended line ++ rest) ≡ line ∷ lines_of rest → first_stamp (ended line ++ rest) ≡ stamp_in line
 unfolding first_stamp audited_lines stamp_in
 first_line line rest solid lines =
-    ap (λ (ls : List (List ℕ)). unwrap_or (stamp_of (get_or (fields_of (get_or (without_padding ls) 0 [])) 1 [])) (pos 0)) lines
-    ∙ ap (λ t. unwrap_or (stamp_of (get_or (fields_of (get_or (cond (t && list_all is_padding (lines_of rest)) [] (line ∷ without_padding (lines_of rest))) 0 [])) 1 [])) (pos 0)) solid
+    ap (λ (ls : List (List ℕ)). unwrap_or (stamp_of (get_or (comma_fields (get_or (without_padding ls) 0 [])) 1 [])) (pos 0)) lines
+    ∙ ap (λ t. unwrap_or (stamp_of (get_or (comma_fields (get_or (cond (t && list_all is_padding (lines_of rest)) [] (line ∷ without_padding (lines_of rest))) 0 [])) 1 [])) (pos 0)) solid
 
 pub first_stamp-dat : (p : Parts) (rows : List (List ℤ)) (scales : Scales) → IsScaledBy p rows scales → AreHeld p rows → length rows ≤ 1000001
     → first_stamp (dat_text p rows) ≡ pos 0

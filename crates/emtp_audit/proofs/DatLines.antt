@@ -18,7 +18,7 @@ use Rattle.emtp_audit.specs.Pieces.{ended}
 use Rattle.emtp_comtrade.specs.Record.{joined, is_status_at, analog_before, multiplier_at, raw_at, state_at, dat_line, end_of_line}
 use Rattle.emtp_comtrade.specs.Multiplier.{IsHeld}
 use Rattle.emtp_machine.specs.Samples.{value_at}
-use Rattle.emtp_audit.specs.Rules.{judged, unless_wrong, number_is, is_padding}
+use Rattle.emtp_audit.specs.Rules.{judged_number, unless_wrong, number_is, is_padding}
 use Rattle.emtp_audit.specs.Dat.{Scales, stands_for, raw_is, is_time, stamp_is, state_text, state_is, raw_rule_at, state_rule_at, step_of, dat_rule}
 use Rattle.emtp_audit.proofs.Plain.{ArePlain, trimmed-plain, plain-signed, plain-digits, plain-no_comma, plain-one_line}
 use Rattle.emtp_audit.proofs.Whole.{whole-decimal, whole-signed, stamp-decimal, decimal-digits, AreAllDigits}
@@ -30,7 +30,7 @@ use Rattle.emtp_audit.proofs.Tests.{same_int}
 pub number_is-decimal : (n : ℕ) → n < 10 ^ 9 → number_is (pos n) (trimmed (decimal n)) ≡ None
 number_is-decimal n few =
     ap (number_is (pos n)) (trimmed-plain (decimal n) (plain-digits (decimal n) (decimal-digits n (omega arith))))
-    ∙ ap (λ o. judged o (λ x. int_eq x (pos n))) (whole-decimal n few)
+    ∙ ap (λ o. judged_number o (λ x. int_eq x (pos n))) (whole-decimal n few)
     ∙ ap unless_wrong (same_int (pos n))
 
 -- ---- raw values
@@ -59,7 +59,7 @@ pub raw_is-near : (value : ℤ) (multiplier : ℕ) → IsHeld value multiplier
 raw_is-near value multiplier held =
     let raw = near value (pos multiplier) in
     ap (raw_is (scale_by multiplier) value) (trimmed-plain (signed_decimal raw) (plain-signed raw (omega (arith, held.within))))
-    ∙ ap (λ o. judged o (stands_for (scale_by multiplier) value)) (whole-signed raw (omega (arith, held.within)))
+    ∙ ap (λ o. judged_number o (stands_for (scale_by multiplier) value)) (whole-signed raw (omega (arith, held.within)))
     ∙ ap unless_wrong (close_enough value raw multiplier held.close)
 
 -- ---- stamps
@@ -83,7 +83,7 @@ on_time k step =
 pub stamp_is-decimal : (k : ℕ) (step : ℤ) → k < 10 ^ 10 → stamp_is step step (pos 0) k (trimmed (decimal k)) ≡ None
 stamp_is-decimal k step few =
     ap (stamp_is step step (pos 0) k) (trimmed-plain (decimal k) (plain-digits (decimal k) (decimal-digits k (omega arith))))
-    ∙ ap (λ o. judged o (is_time step step (pos 0) k)) (stamp-decimal k few)
+    ∙ ap (λ o. judged_number o (is_time step step (pos 0) k)) (stamp-decimal k few)
     ∙ ap unless_wrong (on_time k step)
 
 -- ---- states

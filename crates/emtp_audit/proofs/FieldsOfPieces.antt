@@ -7,7 +7,7 @@ use Rattle.std.proofs.lemmas.List.Elements.{All-append, All-cons}
 use Rattle.emtp_card.specs.Name.{is_comma}
 use Rattle.emtp_card.specs.Lines.{is_newline, HasNoNewline}
 use Rattle.emtp_card.specs.Field.{trimmed}
-use Rattle.emtp_audit.specs.Rules.{fields_of}
+use Rattle.emtp_audit.specs.Rules.{comma_fields}
 
 abbrev pub HasNoComma : List ℕ → Type 0
 HasNoComma bytes = All (λ byte. is_comma byte ≡ false) bytes
@@ -56,8 +56,8 @@ fields-both a b x y first second front =
     ∙ append_assoc (slice_split is_comma front) x y
 
 -- the first piece of a line, and the fields that follow it
-pub fields-line : (piece tail : List ℕ) (fields : List (List ℕ)) → HasNoComma piece → AddsFields tail fields → fields_of (piece ++ tail) ≡ trimmed piece ∷ map trimmed fields
-unfolding fields_of
+pub fields-line : (piece tail : List ℕ) (fields : List (List ℕ)) → HasNoComma piece → AddsFields tail fields → comma_fields (piece ++ tail) ≡ trimmed piece ∷ map trimmed fields
+unfolding comma_fields
 fields-line piece tail fields none adds =
     ap (map trimmed) (adds piece ∙ ap (λ (ps : List (List ℕ)). ps ++ fields) (slice_split_none is_comma piece none))
 
@@ -83,8 +83,8 @@ split-pieces piece (next ∷ pieces) are =
     ∙ ap (λ (ps : List (List ℕ)). piece ∷ ps) (split-pieces next pieces are.1)
 
 -- the fields of such a line are its pieces
-pub fields-pieces : (piece : List ℕ) (pieces : List (List ℕ)) → ArePieces (piece ∷ pieces) → fields_of (with_commas piece pieces) ≡ map trimmed (piece ∷ pieces)
-unfolding fields_of
+pub fields-pieces : (piece : List ℕ) (pieces : List (List ℕ)) → ArePieces (piece ∷ pieces) → comma_fields (with_commas piece pieces) ≡ map trimmed (piece ∷ pieces)
+unfolding comma_fields
 fields-pieces piece pieces are = ap (map trimmed) (split-pieces piece pieces are)
 
 pub one_line-pieces : (piece : List ℕ) (pieces : List (List ℕ)) → ArePieces (piece ∷ pieces) → HasNoNewline (with_commas piece pieces)

@@ -1,8 +1,8 @@
 -- Walks over the lines of a configuration.
 use Rattle.std.proofs.Common.{◌≡◌, ◌∙◌, sym, ap, ℕ, suc, ◌+◌, ◌<◌, false, List, [], ◌∷◌, ◌++◌, length, get_or, Option, Some, None, refl, arith, append_assoc, add-one, length-append}
 use Rattle.emtp_comtrade.specs.Record.{joined}
-use Rattle.emtp_audit.specs.Rules.{LineRule, or_else, line_differs, lines_differ, differs_at}
-use Rattle.emtp_audit.specs.Walk.{Behind, LinesLeft, finds_lines, Passes, Stops}
+use Rattle.emtp_audit.specs.Rules.{LineRule, differs_or_later, line_differs, lines_differ, differs_at}
+use Rattle.emtp_audit.specs.Walk.{Behind, LinesLeft, finds_lines, Passes, StopsAt}
 use Rattle.emtp_audit.specs.declared.differs.DifferCause.TheVariants.{Missing}
 use Rattle.emtp_audit.specs.declared.differs.Differs.{Differs}
 use Rattle.emtp_audit.proofs.Joined.{later}
@@ -26,11 +26,11 @@ behind-both all mid rest m n first second place =
 -- ---- one line
 
 first-line : (old new : LinesLeft) (line : List ℕ) (rule : LineRule) (found : Option Differs) → old.lines ≡ line ∷ new.lines → new.taken ≡ old.taken + 1
-    → line_differs false new.taken rule line ≡ found → (more : List LineRule) → finds_lines old (rule ∷ more) ≡ or_else found (finds_lines new more)
+    → line_differs false new.taken rule line ≡ found → (more : List LineRule) → finds_lines old (rule ∷ more) ≡ differs_or_later found (finds_lines new more)
 first-line old new line rule found lines taken differs more =
     ap (lines_differ false (old.taken + 1) (rule ∷ more)) lines
-    ∙ ap (λ (k : ℕ). or_else (line_differs false k rule line) (lines_differ false (k + 1) more new.lines)) (sym taken)
-    ∙ ap (λ (o : Option Differs). or_else o (finds_lines new more)) differs
+    ∙ ap (λ (k : ℕ). differs_or_later (line_differs false k rule line) (lines_differ false (k + 1) more new.lines)) (sym taken)
+    ∙ ap (λ (o : Option Differs). differs_or_later o (finds_lines new more)) differs
 
 pub passes-line : (old new : LinesLeft) (line : List ℕ) (rule : LineRule) → old.lines ≡ line ∷ new.lines → new.taken ≡ old.taken + 1
     → line_differs false new.taken rule line ≡ None → Passes old new (rule ∷ [])
@@ -40,10 +40,10 @@ passes-line old new line rule lines taken same = record {
 }
 
 pub stops-line : (old new : LinesLeft) (line : List ℕ) (rule : LineRule) (differs : Differs) → old.lines ≡ line ∷ new.lines → new.taken ≡ old.taken + 1
-    → line_differs false new.taken rule line ≡ Some differs → Stops old (rule ∷ []) differs
+    → line_differs false new.taken rule line ≡ Some differs → StopsAt old (rule ∷ []) differs
 stops-line old new line rule differs lines taken is = first-line old new line rule (Some differs) lines taken is
 
-pub stops-missing : (old : LinesLeft) (rule : LineRule) (differs : Differs) → old.lines ≡ [] → Some differs ≡ differs_at false (old.taken + 1) 1 Missing → Stops old (rule ∷ []) differs
+pub stops-missing : (old : LinesLeft) (rule : LineRule) (differs : Differs) → old.lines ≡ [] → Some differs ≡ differs_at false (old.taken + 1) 1 Missing → StopsAt old (rule ∷ []) differs
 stops-missing old rule differs none is more = ap (lines_differ false (old.taken + 1) (rule ∷ more)) none ∙ sym is
 
 -- ---- several lines
@@ -63,10 +63,10 @@ passes-both old mid new first second a b = record {
 }
 
 -- a difference behind rules that pass, and before others
-pub stops-later : (old mid : LinesLeft) (first second : List LineRule) (differs : Differs) → Passes old mid first → Stops mid second differs → Stops old (first ++ second) differs
+pub stops-later : (old mid : LinesLeft) (first second : List LineRule) (differs : Differs) → Passes old mid first → StopsAt mid second differs → StopsAt old (first ++ second) differs
 stops-later old mid first second differs a b more = ap (finds_lines old) (append_assoc first second more) ∙ a.pass (second ++ more) ∙ b more
 
-pub stops-more : (old : LinesLeft) (first second : List LineRule) (differs : Differs) → Stops old first differs → Stops old (first ++ second) differs
+pub stops-more : (old : LinesLeft) (first second : List LineRule) (differs : Differs) → StopsAt old first differs → StopsAt old (first ++ second) differs
 stops-more old first second differs a more = ap (finds_lines old) (append_assoc first second more) ∙ a (second ++ more)
 
 -- ---- lines place by place
@@ -76,7 +76,7 @@ passes-next old mid new rules k a b =
     let both = passes-both old mid new (joined k rules) (rules k) a b in
     rw (add-one k) both
 
-pub stops-joined : (old mid : LinesLeft) (rules : ℕ → List LineRule) (k n : ℕ) (differs : Differs) → k < n → Passes old mid (joined k rules) → Stops mid (rules k) differs → Stops old (joined n rules) differs
+pub stops-joined : (old mid : LinesLeft) (rules : ℕ → List LineRule) (k n : ℕ) (differs : Differs) → k < n → Passes old mid (joined k rules) → StopsAt mid (rules k) differs → StopsAt old (joined n rules) differs
 stops-joined old mid rules k n differs less a b more =
     let split = later n (suc k) rules (omega arith) in
     ap (λ (rs : List LineRule). finds_lines old (rs ++ more)) split.split

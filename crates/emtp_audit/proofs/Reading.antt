@@ -5,7 +5,7 @@ use Rattle.emtp_card.specs.Lines.{lines_of}
 use Rattle.emtp_card.specs.Field.{trimmed}
 use Rattle.emtp_comtrade.specs.Record.{joined}
 use Rattle.emtp_audit.specs.Numbers.{stamp_of}
-use Rattle.emtp_audit.specs.Rules.{LineRule, lines_differ, line_differs, or_else, is_padding, without_padding, audited_lines, fields_of}
+use Rattle.emtp_audit.specs.Rules.{LineRule, lines_differ, line_differs, differs_or_later, is_padding, without_padding, audited_lines, comma_fields}
 use Rattle.emtp_audit.specs.Dat.{first_stamp}
 use Rattle.emtp_audit.proofs.Joined.{later}
 use Rattle.emtp_audit.specs.Walk.{stamp_in}
@@ -27,32 +27,32 @@ audited-some text line tail t lines is e = ap without_padding lines ∙ ap (λ u
 
 -- ---- the first stamp
 
-no_stamp : unwrap_or (stamp_of (get_or (fields_of []) 1 [])) (pos 0) ≡ pos 0
-unfolding fields_of trimmed stamp_of
+no_stamp : unwrap_or (stamp_of (get_or (comma_fields []) 1 [])) (pos 0) ≡ pos 0
+unfolding comma_fields trimmed stamp_of
 no_stamp = refl
 
 pub first-none : (bytes : List ℕ) → audited_lines bytes ≡ [] → first_stamp bytes ≡ pos 0
 unfolding first_stamp
-first-none bytes none = ap (λ (ls : List (List ℕ)). unwrap_or (stamp_of (get_or (fields_of (get_or ls 0 [])) 1 [])) (pos 0)) none ∙ no_stamp
+first-none bytes none = ap (λ (ls : List (List ℕ)). unwrap_or (stamp_of (get_or (comma_fields (get_or ls 0 [])) 1 [])) (pos 0)) none ∙ no_stamp
 
 pub first-some : (bytes line : List ℕ) (lines : List (List ℕ)) → audited_lines bytes ≡ line ∷ lines → first_stamp bytes ≡ stamp_in line
 unfolding first_stamp stamp_in
-first-some bytes line lines some = ap (λ (ls : List (List ℕ)). unwrap_or (stamp_of (get_or (fields_of (get_or ls 0 [])) 1 [])) (pos 0)) some
+first-some bytes line lines some = ap (λ (ls : List (List ℕ)). unwrap_or (stamp_of (get_or (comma_fields (get_or ls 0 [])) 1 [])) (pos 0)) some
 
 none_at : unwrap_or (stamp_of []) (pos 0) ≡ pos 0
 unfolding stamp_of
 none_at = refl
 
 -- a line without fields, with one, and with two
-pub stamp-none : (line : List ℕ) → fields_of line ≡ [] → stamp_in line ≡ pos 0
+pub stamp-none : (line : List ℕ) → comma_fields line ≡ [] → stamp_in line ≡ pos 0
 unfolding stamp_in
 stamp-none line none = ap (λ (fs : List (List ℕ)). unwrap_or (stamp_of (get_or fs 1 [])) (pos 0)) none ∙ none_at
 
-pub stamp-one : (line field : List ℕ) (fields : List (List ℕ)) → fields_of line ≡ field ∷ fields → fields ≡ [] → stamp_in line ≡ pos 0
+pub stamp-one : (line field : List ℕ) (fields : List (List ℕ)) → comma_fields line ≡ field ∷ fields → fields ≡ [] → stamp_in line ≡ pos 0
 unfolding stamp_in
 stamp-one line field fields one none = ap (λ (fs : List (List ℕ)). unwrap_or (stamp_of (get_or fs 1 [])) (pos 0)) (one ∙ ap (λ (fs : List (List ℕ)). field ∷ fs) none) ∙ none_at
 
-pub stamp-two : (line field second : List ℕ) (fields rest : List (List ℕ)) → fields_of line ≡ field ∷ fields → fields ≡ second ∷ rest → stamp_in line ≡ unwrap_or (stamp_of second) (pos 0)
+pub stamp-two : (line field second : List ℕ) (fields rest : List (List ℕ)) → comma_fields line ≡ field ∷ fields → fields ≡ second ∷ rest → stamp_in line ≡ unwrap_or (stamp_of second) (pos 0)
 unfolding stamp_in
 stamp-two line field second fields rest one two = ap (λ (fs : List (List ℕ)). unwrap_or (stamp_of (get_or fs 1 [])) (pos 0)) (one ∙ ap (λ (fs : List (List ℕ)). field ∷ fs) two)
 
@@ -60,9 +60,9 @@ stamp-two line field second fields rest one two = ap (λ (fs : List (List ℕ)).
 
 -- a line that differs, and one that doesn't
 pub line-differs : (number : ℕ) (rule : LineRule) (more : List LineRule) (line : List ℕ) (lines : List (List ℕ)) (all : List (List ℕ)) (found : Option Differs) → all ≡ line ∷ lines → line_differs true number rule line ≡ found
-    → lines_differ true number (rule ∷ more) all ≡ or_else found (lines_differ true (number + 1) more lines)
+    → lines_differ true number (rule ∷ more) all ≡ differs_or_later found (lines_differ true (number + 1) more lines)
 line-differs number rule more line lines all found is e =
-    ap (lines_differ true number (rule ∷ more)) is ∙ ap (λ o. or_else o (lines_differ true (number + 1) more lines)) e
+    ap (lines_differ true number (rule ∷ more)) is ∙ ap (λ o. differs_or_later o (lines_differ true (number + 1) more lines)) e
 
 -- one more line
 pub lines-next : (all now next : List (List ℕ)) (rule : ℕ → LineRule) (k : ℕ)

@@ -13,8 +13,8 @@ use Rattle.emtp_comtrade.specs.Record.{joined}
 use Rattle.emtp_comtrade.specs.Record.{is_status_at, is_analog_at, analog_before}
 use Rattle.emtp_comtrade.proofs.Places.{count_below-less}
 use Rattle.emtp_audit.proofs.Joined.{later}
-use Rattle.emtp_audit.specs.Rules.{Rule, fields_of, fields_differ, differs_at, or_later}
-use Rattle.emtp_audit.specs.Walk.{Walked, finds, Walks, Takes, Judges}
+use Rattle.emtp_audit.specs.Rules.{Rule, comma_fields, fields_differ, differs_at, cause_or_later}
+use Rattle.emtp_audit.specs.Walk.{Walked, finds, Walks, TakesField, JudgesField}
 use Rattle.emtp_audit.specs.declared.differs.DifferCause.{DifferCause}
 use Rattle.emtp_audit.specs.declared.differs.DifferCause.TheVariants.{Extra}
 use Rattle.emtp_audit.specs.declared.differs.Differs.{Differs}
@@ -48,40 +48,40 @@ piece-none : (xs : List ℕ) → position is_comma xs ≡ None → slice_split i
 piece-none xs h = slice_split_none is_comma xs (λ k d below. fails_before_first is_comma xs k d (omega (arith, none_is xs h, below)))
 
 pub fields-some : (xs : List ℕ) (place : ℕ) → position is_comma xs ≡ Some place
-    → fields_of xs ≡ trimmed (take place xs) ∷ fields_of (take (length xs - (place + 1)) (drop (place + 1) xs))
-unfolding fields_of
+    → comma_fields xs ≡ trimmed (take place xs) ∷ comma_fields (take (length xs - (place + 1)) (drop (place + 1) xs))
+unfolding comma_fields
 fields-some xs place h = ap (map trimmed) (piece-some xs place h)
 
-pub fields-last : (xs : List ℕ) → position is_comma xs ≡ None → fields_of xs ≡ trimmed xs ∷ []
-unfolding fields_of
+pub fields-last : (xs : List ℕ) → position is_comma xs ≡ None → comma_fields xs ≡ trimmed xs ∷ []
+unfolding comma_fields
 fields-last xs h = ap (map trimmed) (piece-none xs h)
 
 -- ---- rules
 
 -- one rule
-pub walks-one : (old mid : Walked) (field : List ℕ) (rule : Rule) (cause : Option DifferCause) (result : Result (Unit {0}) Differs) → Takes (Ok field) old mid → cause ≡ rule field → Judges result mid cause
+pub walks-one : (old mid : Walked) (field : List ℕ) (rule : Rule) (cause : Option DifferCause) (result : Result (Unit {0}) Differs) → TakesField (Ok field) old mid → cause ≡ rule field → JudgesField result mid cause
     → Walks result old mid (rule ∷ [])
 walks-one old mid field rule cause (Ok u) takes is judges = λ more.
     ap (λ (fs : List (List ℕ)). fields_differ old.dat old.line old.number (rule ∷ more) fs) takes.0
-    ∙ ap (λ o. or_later old.dat old.line old.number o (fields_differ old.dat old.line (old.number + 1) more mid.fields)) (sym is ∙ judges)
+    ∙ ap (λ o. cause_or_later old.dat old.line old.number o (fields_differ old.dat old.line (old.number + 1) more mid.fields)) (sym is ∙ judges)
     ∙ ap (λ (l : ℕ). fields_differ old.dat l (old.number + 1) more mid.fields) (sym takes.1)
     ∙ ap (λ (n : ℕ). fields_differ old.dat mid.line n more mid.fields) (sym takes.2)
     ∙ ap (λ (d : Bool). fields_differ d mid.line mid.number more mid.fields) (sym takes.3)
 walks-one old mid field rule None (Err differs) takes is judges = absurd judges
 walks-one old mid field rule (Some cause) (Err differs) takes is judges = λ more.
     ap (λ (fs : List (List ℕ)). fields_differ old.dat old.line old.number (rule ∷ more) fs) takes.0
-    ∙ ap (λ o. or_later old.dat old.line old.number o (fields_differ old.dat old.line (old.number + 1) more mid.fields)) (sym is)
+    ∙ ap (λ o. cause_or_later old.dat old.line old.number o (fields_differ old.dat old.line (old.number + 1) more mid.fields)) (sym is)
     ∙ ap (λ (l : ℕ). differs_at old.dat l old.number cause) (sym takes.1)
     ∙ ap (λ (d : Bool). differs_at d mid.line old.number cause) (sym takes.3)
     ∙ sym (judges old.number takes.2)
 
 -- a field that is missing
-pub walks-missing : (T : Type 0) (old new : Walked) (rule : Rule) (differs : Differs) → Takes (Err differs) old new → Walks {T = T} (Err differs) old new (rule ∷ [])
+pub walks-missing : (T : Type 0) (old new : Walked) (rule : Rule) (differs : Differs) → TakesField (Err differs) old new → Walks {T = T} (Err differs) old new (rule ∷ [])
 walks-missing T old new rule differs takes = λ more.
     ap (λ (fs : List (List ℕ)). fields_differ old.dat old.line old.number (rule ∷ more) fs) takes.0 ∙ sym takes.1
 
 -- a field too many
-pub finds-extra : (old new : Walked) (field : List ℕ) (differs : Differs) → Takes (Ok field) old new
+pub finds-extra : (old new : Walked) (field : List ℕ) (differs : Differs) → TakesField (Ok field) old new
     → ((at : ℕ) → new.number ≡ at + 1 → Some differs ≡ differs_at new.dat new.line at Extra) → finds old [] ≡ Some differs
 finds-extra old new field differs takes is =
     ap (λ (fs : List (List ℕ)). fields_differ old.dat old.line old.number [] fs) takes.0

@@ -7,7 +7,7 @@ use Rattle.emtp_audit.specs.declared.differs.DifferCause.TheVariants.{Missing, W
 use Rattle.emtp_audit.specs.Audit.{audit_differs}
 use Rattle.emtp_audit.specs.Cfg.{rates_on, scale_on, unit_on, scales_in, cfg_differs}
 use Rattle.emtp_audit.specs.Dat.{first_stamp, dat_differs}
-use Rattle.emtp_audit.specs.Rules.{audited_lines, fields_of}
+use Rattle.emtp_audit.specs.Rules.{audited_lines, comma_fields}
 use Rattle.emtp_audit.specs.Numbers.{whole_of, stamp_of, decimal_in}
 use Rattle.emtp_card.specs.Lines.{lines_of}
 use Rattle.emtp_card.specs.Field.{trimmed}
@@ -65,25 +65,25 @@ dat_rated = ended (codes "1,0,0") ++ ended (codes "2,100,25000") ++ ended (codes
 
 -- as written
 as_written : audit_differs one_node four_samples (cfg_with (codes "V MID")) (dat_with (codes "3,2,25000") (line (codes "4,3,25000"))) ≡ None
-unfolding audit_differs cfg_differs dat_differs rates_on scale_on unit_on scales_in first_stamp audited_lines fields_of whole_of limited_whole stamp_of decimal_in lines_of trimmed decimal_of exponent_of value_in number_in read_number_of near near_abs one_node four_samples line ended cfg_with dat_with cfg_rated dat_rated
+unfolding audit_differs cfg_differs dat_differs rates_on scale_on unit_on scales_in first_stamp audited_lines comma_fields whole_of limited_whole stamp_of decimal_in lines_of trimmed decimal_of exponent_of value_in number_in read_number_of near near_abs one_node four_samples line ended cfg_with dat_with cfg_rated dat_rated
 as_written = refl
 
 one_step_off : audit_differs one_node four_samples (cfg_with (codes "V MID")) (dat_with (codes "3,2,25001") (line (codes "4,3,25000"))) ≡ None
-unfolding audit_differs cfg_differs dat_differs rates_on scale_on unit_on scales_in first_stamp audited_lines fields_of whole_of limited_whole stamp_of decimal_in lines_of trimmed decimal_of exponent_of value_in number_in read_number_of near near_abs one_node four_samples line ended cfg_with dat_with cfg_rated dat_rated
+unfolding audit_differs cfg_differs dat_differs rates_on scale_on unit_on scales_in first_stamp audited_lines comma_fields whole_of limited_whole stamp_of decimal_in lines_of trimmed decimal_of exponent_of value_in number_in read_number_of near near_abs one_node four_samples line ended cfg_with dat_with cfg_rated dat_rated
 one_step_off = refl
 
 two_steps_off : audit_differs one_node four_samples (cfg_with (codes "V MID")) (dat_with (codes "3,2,25002") (line (codes "4,3,25000"))) ≡ Some (record { dat = true; line = 3; field = 3; cause = Wrong })
-unfolding audit_differs cfg_differs dat_differs rates_on scale_on unit_on scales_in first_stamp audited_lines fields_of whole_of limited_whole stamp_of decimal_in lines_of trimmed decimal_of exponent_of value_in number_in read_number_of near near_abs one_node four_samples line ended cfg_with dat_with cfg_rated dat_rated
+unfolding audit_differs cfg_differs dat_differs rates_on scale_on unit_on scales_in first_stamp audited_lines comma_fields whole_of limited_whole stamp_of decimal_in lines_of trimmed decimal_of exponent_of value_in number_in read_number_of near near_abs one_node four_samples line ended cfg_with dat_with cfg_rated dat_rated
 two_steps_off = refl
 
 other_stamps : audit_differs one_node four_samples cfg_rated dat_rated ≡ None
-unfolding audit_differs cfg_differs dat_differs rates_on scale_on unit_on scales_in first_stamp audited_lines fields_of whole_of limited_whole stamp_of decimal_in lines_of trimmed decimal_of exponent_of value_in number_in read_number_of near near_abs one_node four_samples line ended cfg_with dat_with cfg_rated dat_rated
+unfolding audit_differs cfg_differs dat_differs rates_on scale_on unit_on scales_in first_stamp audited_lines comma_fields whole_of limited_whole stamp_of decimal_in lines_of trimmed decimal_of exponent_of value_in number_in read_number_of near near_abs one_node four_samples line ended cfg_with dat_with cfg_rated dat_rated
 other_stamps = refl
 
 last_line_missing : audit_differs one_node four_samples (cfg_with (codes "V MID")) (dat_with (codes "3,2,25000") []) ≡ Some (record { dat = true; line = 4; field = 1; cause = Missing })
-unfolding audit_differs cfg_differs dat_differs rates_on scale_on unit_on scales_in first_stamp audited_lines fields_of whole_of limited_whole stamp_of decimal_in lines_of trimmed decimal_of exponent_of value_in number_in read_number_of near near_abs one_node four_samples line ended cfg_with dat_with cfg_rated dat_rated
+unfolding audit_differs cfg_differs dat_differs rates_on scale_on unit_on scales_in first_stamp audited_lines comma_fields whole_of limited_whole stamp_of decimal_in lines_of trimmed decimal_of exponent_of value_in number_in read_number_of near near_abs one_node four_samples line ended cfg_with dat_with cfg_rated dat_rated
 last_line_missing = refl
 
 other_name : audit_differs one_node four_samples (cfg_with (codes "V MIX")) (dat_with (codes "3,2,25000") (line (codes "4,3,25000"))) ≡ Some (record { dat = false; line = 3; field = 2; cause = Wrong })
-unfolding audit_differs cfg_differs dat_differs rates_on scale_on unit_on scales_in first_stamp audited_lines fields_of whole_of limited_whole stamp_of decimal_in lines_of trimmed decimal_of exponent_of value_in number_in read_number_of near near_abs one_node four_samples line ended cfg_with dat_with cfg_rated dat_rated
+unfolding audit_differs cfg_differs dat_differs rates_on scale_on unit_on scales_in first_stamp audited_lines comma_fields whole_of limited_whole stamp_of decimal_in lines_of trimmed decimal_of exponent_of value_in number_in read_number_of near near_abs one_node four_samples line ended cfg_with dat_with cfg_rated dat_rated
 other_name = refl

@@ -8,7 +8,7 @@ use Rattle.emtp_case.specs.declared.case.Parts.{Parts}
 use Rattle.emtp_comtrade.specs.Record.{is_status_at, analog_before, status_before, unit_at}
 use Rattle.emtp_audit.specs.Numbers.{whole_of, decimal_in}
 use Rattle.emtp_comtrade.specs.Record.{joined}
-use Rattle.emtp_audit.specs.Rules.{Rule, LineRule, Anything, Fields, any_field, text_is, unless_wrong, judged, number_is, file_differs, audited_lines, fields_of}
+use Rattle.emtp_audit.specs.Rules.{Rule, LineRule, Anything, Fields, any_field, text_is, unless_wrong, judged_number, number_is, file_differs, audited_lines, comma_fields}
 use Rattle.emtp_audit.specs.Dat.{Scales, scales_of}
 use Rattle.emtp_audit.specs.declared.differs.DifferCause.{DifferCause}
 use Rattle.emtp_audit.specs.declared.differs.Differs.{Differs}
@@ -22,12 +22,12 @@ letters_are text field = unless_wrong (bytes_eq (map to_ascii_lowercase field) (
 
 -- a number that is read and not compared
 abbrev pub is_read : Option ℤ → Option DifferCause
-is_read number = judged number (λ _. true)
+is_read number = judged_number number (λ _. true)
 
 -- a number, and then a letter, in either case
 abbrev pub counts : ℕ → ℕ → Rule
 counts letter number field =
-    judged (whole_of (take (length field - 1) field))
+    judged_number (whole_of (take (length field - 1) field))
     (λ x. int_eq x (pos number) && (to_ascii_uppercase (slice_index_or field (length field - 1) 0) == letter))
 
 abbrev pub from_to : ℤ → ℤ → Option ℤ → Option ℤ
@@ -120,12 +120,12 @@ cfg_rules p count rates =
 -- ---- what is read
 
 -- a line, from 0
-abbrev pub line_at : List (List ℕ) → ℕ → List ℕ
-line_at lines line = slice_index_or lines line []
+abbrev pub file_line : List (List ℕ) → ℕ → List ℕ
+file_line lines line = slice_index_or lines line []
 
 -- a field of a line, from 0
 abbrev pub field_on : List ℕ → ℕ → List ℕ
-field_on line field = slice_index_or (fields_of line) field []
+field_on line field = slice_index_or (comma_fields line) field []
 
 -- the scale that a line tells
 unfoldable pub scale_on : List ℕ → Scale
@@ -144,23 +144,23 @@ unit_on line = unwrap_or (unit_number (field_on line 0)) (pos 0)
 
 -- how many sampling rates a configuration tells
 abbrev pub rates_in : Parts → List (List ℕ) → ℕ
-rates_in p lines = rates_on (line_at lines (length p.channels + 3))
+rates_in p lines = rates_on (file_line lines (length p.channels + 3))
 
 -- the unit of time stamps of a configuration
 abbrev pub unit_in : Parts → List (List ℕ) → ℤ
-unit_in p lines = unit_on (line_at lines (length p.channels + 7 + max (rates_in p lines) 1))
+unit_in p lines = unit_on (file_line lines (length p.channels + 7 + max (rates_in p lines) 1))
 
 -- the scales of so many analog channels, from their lines on
 abbrev pub analog_scales_on : ℕ → List (List ℕ) → List Scale
-analog_scales_on count lines = joined count (λ number. scale_on (line_at lines number) ∷ [])
+analog_scales_on count lines = joined count (λ number. scale_on (file_line lines number) ∷ [])
 
 -- the scale of the channel at a place, where it is an analog one, by the next line
 abbrev pub scales_at : Parts → ℕ → List (List ℕ) → List Scale
-scales_at p place lines = if is_status_at p place then [] else scale_on (line_at lines 0) ∷ []
+scales_at p place lines = if is_status_at p place then [] else scale_on (file_line lines 0) ∷ []
 
 -- the scales of the analog channels of a configuration, behind its head
 abbrev pub analog_scales : Parts → List (List ℕ) → List Scale
-analog_scales p lines = joined (analog_before p (length p.channels)) (λ number. scale_on (line_at lines (2 + number)) ∷ [])
+analog_scales p lines = joined (analog_before p (length p.channels)) (λ number. scale_on (file_line lines (2 + number)) ∷ [])
 
 -- what a configuration says of the data
 unfoldable pub scales_in : Parts → List ℕ → Scales

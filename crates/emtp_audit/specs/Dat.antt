@@ -6,7 +6,7 @@ use Rattle.emtp_comtrade.specs.Record.{is_status_at, analog_before}
 use Rattle.emtp_machine.specs.Samples.{value_at}
 use Rattle.emtp_audit.specs.Numbers.{whole_of, stamp_of}
 use Rattle.emtp_comtrade.specs.Record.{joined}
-use Rattle.emtp_audit.specs.Rules.{Rule, LineRule, Fields, judged, unless_wrong, number_is, file_differs, audited_lines, fields_of}
+use Rattle.emtp_audit.specs.Rules.{Rule, LineRule, Fields, judged_number, unless_wrong, number_is, file_differs, audited_lines, comma_fields}
 use Rattle.emtp_audit.specs.declared.differs.DifferCause.TheVariants.{NotNumber}
 use Rattle.emtp_audit.specs.declared.differs.Differs.{Differs}
 use Rattle.emtp_audit.specs.declared.scale.Cfg.{Cfg}
@@ -22,14 +22,14 @@ abbrev pub stands_for : Scale → ℤ → ℤ → Bool
 stands_for scale value raw = nat_le (unsigned_abs ((scale.a *ℤ raw +ℤ scale.b) -ℤ value *ℤ pos (10 ^ 9))) (unsigned_abs scale.a)
 
 abbrev pub raw_is : Scale → ℤ → Rule
-raw_is scale value field = judged (whole_of field) (stands_for scale value)
+raw_is scale value field = judged_number (whole_of field) (stands_for scale value)
 
 -- a stamp tells so many steps since the first stamp, to within one unit
 abbrev pub is_time : ℤ → ℤ → ℤ → ℕ → ℤ → Bool
 is_time step unit first steps stamp = nat_le (unsigned_abs ((stamp -ℤ first) *ℤ unit -ℤ pos steps *ℤ step)) (unsigned_abs unit)
 
 abbrev pub stamp_is : ℤ → ℤ → ℤ → ℕ → Rule
-stamp_is step unit first steps field = judged (stamp_of field) (is_time step unit first steps)
+stamp_is step unit first steps field = judged_number (stamp_of field) (is_time step unit first steps)
 
 abbrev pub state_text : ℤ → List ℕ
 state_text value = if unsigned_abs value == 0 then codes "0" else codes "1"
@@ -62,7 +62,7 @@ dat_rules p rows scales first = joined (length rows) (λ sample. dat_rule p rows
 
 -- the stamp in the first line of the data
 unfoldable pub first_stamp : List ℕ → ℤ
-first_stamp bytes = unwrap_or (stamp_of (slice_index_or (fields_of (slice_index_or (audited_lines bytes) 0 [])) 1 [])) (pos 0)
+first_stamp bytes = unwrap_or (stamp_of (slice_index_or (comma_fields (slice_index_or (audited_lines bytes) 0 [])) 1 [])) (pos 0)
 
 -- the first difference of the data
 unfoldable pub dat_differs : Parts → List (List ℤ) → Scales → List ℕ → Option Differs

@@ -27,8 +27,8 @@ unfoldable pub audited_lines : List ℕ → List (List ℕ)
 audited_lines bytes = without_padding (lines_of bytes)
 
 -- the fields of a line, without the blanks around them
-unfoldable pub fields_of : List ℕ → List (List ℕ)
-fields_of line = map trimmed (slice_split is_comma line)
+unfoldable pub comma_fields : List ℕ → List (List ℕ)
+comma_fields line = map trimmed (slice_split is_comma line)
 
 -- ---- fields
 
@@ -48,13 +48,13 @@ abbrev pub text_is : List ℕ → Rule
 text_is text field = unless_wrong (bytes_eq field text)
 
 -- a number that was read, and has to be right
-abbrev pub judged : Option ℤ → (ℤ → Bool) → Option DifferCause
-judged None right = Some NotNumber
-judged (Some number) right = unless_wrong (right number)
+abbrev pub judged_number : Option ℤ → (ℤ → Bool) → Option DifferCause
+judged_number None right = Some NotNumber
+judged_number (Some number) right = unless_wrong (right number)
 
 -- a number with this value, however it is spelled
 abbrev pub number_is : ℤ → Rule
-number_is number field = judged (whole_of field) (λ x. int_eq x number)
+number_is number field = judged_number (whole_of field) (λ x. int_eq x number)
 
 -- ---- the first difference
 
@@ -63,9 +63,9 @@ abbrev pub differs_at : Bool → ℕ → ℕ → DifferCause → Option Differs
 differs_at dat line field cause = Some (record { dat = dat; line = line; field = field; cause = cause })
 
 -- a cause in a field, or else what comes later
-abbrev pub or_later : Bool → ℕ → ℕ → Option DifferCause → Option Differs → Option Differs
-or_later dat line field (Some cause) later = differs_at dat line field cause
-or_later dat line field None later = later
+abbrev pub cause_or_later : Bool → ℕ → ℕ → Option DifferCause → Option Differs → Option Differs
+cause_or_later dat line field (Some cause) later = differs_at dat line field cause
+cause_or_later dat line field None later = later
 
 -- fields against their rules, from one on
 abbrev pub fields_differ : Bool → ℕ → ℕ → List Rule → List (List ℕ) → Option Differs
@@ -73,7 +73,7 @@ fields_differ dat line number [] [] = None
 fields_differ dat line number [] (field ∷ fields) = differs_at dat line number Extra
 fields_differ dat line number (rule ∷ rules) [] = differs_at dat line number Missing
 fields_differ dat line number (rule ∷ rules) (field ∷ fields) =
-    or_later dat line number (rule field) (fields_differ dat line (number + 1) rules fields)
+    cause_or_later dat line number (rule field) (fields_differ dat line (number + 1) rules fields)
 
 -- what a line has to be: anything, or fields by rules
 pub data LineRule : Type 0 where
@@ -82,12 +82,12 @@ pub data LineRule : Type 0 where
 
 abbrev pub line_differs : Bool → ℕ → LineRule → List ℕ → Option Differs
 line_differs dat number Anything line = None
-line_differs dat number (Fields rules) line = fields_differ dat number 1 rules (fields_of line)
+line_differs dat number (Fields rules) line = fields_differ dat number 1 rules (comma_fields line)
 
 -- a difference, or else a later one
-abbrev pub or_else : Option Differs → Option Differs → Option Differs
-or_else (Some differs) later = Some differs
-or_else None later = later
+abbrev pub differs_or_later : Option Differs → Option Differs → Option Differs
+differs_or_later (Some differs) later = Some differs
+differs_or_later None later = later
 
 -- lines against their rules, from one on
 abbrev pub lines_differ : Bool → ℕ → List LineRule → List (List ℕ) → Option Differs
@@ -95,7 +95,7 @@ lines_differ dat number [] [] = None
 lines_differ dat number [] (line ∷ lines) = differs_at dat number 1 Extra
 lines_differ dat number (rule ∷ rules) [] = differs_at dat number 1 Missing
 lines_differ dat number (rule ∷ rules) (line ∷ lines) =
-    or_else (line_differs dat number rule line) (lines_differ dat (number + 1) rules lines)
+    differs_or_later (line_differs dat number rule line) (lines_differ dat (number + 1) rules lines)
 
 -- a file against its rules
 abbrev pub file_differs : Bool → List LineRule → List ℕ → Option Differs

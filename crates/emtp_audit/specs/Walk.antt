@@ -1,6 +1,6 @@
 -- A walk over the fields of a line, and over the lines of a file.
 use Rattle.std.specs.Prelude.{◌≡◌, ℕ, ◌+◌, Bool, true, false, List, [], ◌∷◌, ◌++◌, length, Option, Some, None, Result, Ok, Err, ℤ, pos, slice_index_or, unwrap_or}
-use Rattle.emtp_audit.specs.Rules.{Rule, LineRule, fields_of, fields_differ, lines_differ, audited_lines, differs_at}
+use Rattle.emtp_audit.specs.Rules.{Rule, LineRule, comma_fields, fields_differ, lines_differ, audited_lines, differs_at}
 use Rattle.emtp_audit.specs.Numbers.{stamp_of}
 use Rattle.emtp_audit.specs.declared.differs.DifferCause.{DifferCause}
 use Rattle.emtp_audit.specs.declared.differs.DifferCause.TheVariants.{Missing}
@@ -25,20 +25,20 @@ Walks (Ok u) old new rules = (more : List Rule) → finds old (rules ++ more) �
 Walks (Err differs) old new rules = (more : List Rule) → finds old (rules ++ more) ≡ Some differs
 
 -- the next field was taken, or there is none
-abbrev pub Takes : Result (List ℕ) Differs → Walked → Walked → Type 0
-Takes (Ok field) old new = (old.fields ≡ field ∷ new.fields) × (new.line ≡ old.line) × (new.number ≡ old.number + 1) × (new.dat ≡ old.dat)
-Takes (Err differs) old new = (old.fields ≡ []) × (Some differs ≡ differs_at old.dat old.line old.number Missing)
+abbrev pub TakesField : Result (List ℕ) Differs → Walked → Walked → Type 0
+TakesField (Ok field) old new = (old.fields ≡ field ∷ new.fields) × (new.line ≡ old.line) × (new.number ≡ old.number + 1) × (new.dat ≡ old.dat)
+TakesField (Err differs) old new = (old.fields ≡ []) × (Some differs ≡ differs_at old.dat old.line old.number Missing)
 
 -- of the field that was taken last
-abbrev pub Judges : Result (Unit {0}) Differs → Walked → Option DifferCause → Type 0
-Judges (Ok u) w cause = cause ≡ None
-Judges (Err differs) w None = ⊥
-Judges (Err differs) w (Some cause) = (at : ℕ) → w.number ≡ at + 1 → Some differs ≡ differs_at w.dat w.line at cause
+abbrev pub JudgesField : Result (Unit {0}) Differs → Walked → Option DifferCause → Type 0
+JudgesField (Ok u) w cause = cause ≡ None
+JudgesField (Err differs) w None = ⊥
+JudgesField (Err differs) w (Some cause) = (at : ℕ) → w.number ≡ at + 1 → Some differs ≡ differs_at w.dat w.line at cause
 
 -- what was found
-abbrev pub found_in : {T : Type 0} → Result T Differs → Option Differs
-found_in (Ok u) = None
-found_in (Err differs) = Some differs
+abbrev pub difference_in : {T : Type 0} → Result T Differs → Option Differs
+difference_in (Ok u) = None
+difference_in (Err differs) = Some differs
 
 -- the next line was compared by a rule, and a text is left behind it
 abbrev pub LineWalks : Result (List ℕ) Differs → ℕ → LineRule → List ℕ → Type 0
@@ -47,7 +47,7 @@ LineWalks (Err differs) number rule rest = (more : List LineRule) → lines_diff
 
 -- the stamp in a line, or 0
 unfoldable pub stamp_in : List ℕ → ℤ
-stamp_in line = unwrap_or (stamp_of (slice_index_or (fields_of line) 1 [])) (pos 0)
+stamp_in line = unwrap_or (stamp_of (slice_index_or (comma_fields line) 1 [])) (pos 0)
 
 -- ---- what stands behind
 
@@ -72,8 +72,8 @@ pub record Passes (old new : LinesLeft) (rules : List LineRule) : Type 0 where
   pub behind : Behind old.lines (length rules) new.lines
 
 -- these rules find a difference
-abbrev pub Stops : LinesLeft → List LineRule → Differs → Type 0
-Stops old rules differs = (more : List LineRule) → finds_lines old (rules ++ more) ≡ Some differs
+abbrev pub StopsAt : LinesLeft → List LineRule → Differs → Type 0
+StopsAt old rules differs = (more : List LineRule) → finds_lines old (rules ++ more) ≡ Some differs
 
 -- what holds of the difference, where the fault is one
 abbrev pub OnDiffers : AuditFault → (Differs → Type 0) → Type 0

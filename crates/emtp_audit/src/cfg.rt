@@ -1,9 +1,9 @@
 //! The comparison of the configuration, and what it says of the data.
 ghost use Rattle.std.specs.Prelude.{◌≡◌, ◌+◌, ◌-◌, ◌<◌, ◌^◌, ◌≤ℤ◌, ◌++◌, [], ◌∷◌, None, Some, All, length, max, pos, IfOk, IfErr, OnOk};
 ghost use Rattle.emtp_comtrade.specs.Record.{joined, analog_before, status_before};
-ghost use Rattle.emtp_audit.specs.Cfg.{head_rules, numbers_rule, analog_rule_at, status_rule_at, middle_rules, rate_rule, rate_rules, date_rules, end_rules, line_at, rates_on, unit_on, analog_scales_on, scales_at, scales_in, cfg_differs};
+ghost use Rattle.emtp_audit.specs.Cfg.{head_rules, numbers_rule, analog_rule_at, status_rule_at, middle_rules, rate_rule, rate_rules, date_rules, end_rules, file_line, rates_on, unit_on, analog_scales_on, scales_at, scales_in, cfg_differs};
 ghost use Rattle.emtp_audit.specs.Dat.{told_by, IsScale};
-ghost use Rattle.emtp_audit.specs.Walk.{finds_lines, found_in, Passes, Stops, OnDiffers};
+ghost use Rattle.emtp_audit.specs.Walk.{finds_lines, difference_in, Passes, StopsAt, OnDiffers};
 
 use crate::cfg_lines::{read_rates, read_scale, read_unit};
 use crate::check::Check;
@@ -59,7 +59,7 @@ pub fn read_cfg(alloc: Global, bytes: &[u8], case: &Case, count: u32) -> Result<
 /// The station and the numbers of channels have to come next.
 fn walk_head(lines: &mut Lines<'_>, case: &Case) -> Result<(), Differs>
     ensures ok { OnOk result (Passes lines.old lines.new (head_rules case.now.parts)) }
-    ensures err { IfErr result (Stops lines.old (head_rules case.now.parts)) }
+    ensures err { IfErr result (StopsAt lines.old (head_rules case.now.parts)) }
 {
     match walk_line(lines, &[Check::Any, Check::Any, Check::Text(b"1999")]) {
         Ok(()) => walk_numbers(lines, case),
@@ -69,7 +69,7 @@ fn walk_head(lines: &mut Lines<'_>, case: &Case) -> Result<(), Differs>
 
 fn walk_numbers(lines: &mut Lines<'_>, case: &Case) -> Result<(), Differs>
     ensures ok { OnOk result (Passes lines.old lines.new (numbers_rule case.now.parts ∷ [])) }
-    ensures err { IfErr result (Stops lines.old (numbers_rule case.now.parts ∷ [])) }
+    ensures err { IfErr result (StopsAt lines.old (numbers_rule case.now.parts ∷ [])) }
 {
     let channels = case.parts.channels.len() as u32;
     let analog = analog_count(case) as u32;
@@ -91,7 +91,7 @@ fn read_scales(alloc: Global, lines: &mut Lines<'_>, case: &Case) -> Result<Vec<
     ensures ok { OnOk result (Passes lines.old lines.new
         (joined (length case.now.parts.channels) (analog_rule_at case.now.parts))) }
     ensures err { IfErr result (λ fault. OnDiffers fault
-        (Stops lines.old (joined (length case.now.parts.channels) (analog_rule_at case.now.parts)))) }
+        (StopsAt lines.old (joined (length case.now.parts.channels) (analog_rule_at case.now.parts)))) }
     ensures scales { IfOk result (λ scales. scales.items
         ≡ analog_scales_on (analog_before case.now.parts (length case.now.parts.channels)) lines.old.lines) }
     ensures are { IfOk result (λ scales. All IsScale scales.items) }
@@ -118,7 +118,7 @@ fn push_scale(
     requires are { All IsScale scales.old.items }
     ensures ok { OnOk result (Passes lines.old lines.new (analog_rule_at case.now.parts place)) }
     ensures err { IfErr result (λ fault. OnDiffers fault
-        (Stops lines.old (analog_rule_at case.now.parts place))) }
+        (StopsAt lines.old (analog_rule_at case.now.parts place))) }
     ensures scales { OnOk result (scales.new.items
         ≡ scales.old.items ++ scales_at case.now.parts place lines.old.lines) }
     ensures are { OnOk result (All IsScale scales.new.items) }
@@ -139,7 +139,7 @@ fn push_scale(
 fn walk_statuses(lines: &mut Lines<'_>, case: &Case) -> Result<(), Differs>
     ensures ok { OnOk result (Passes lines.old lines.new
         (joined (length case.now.parts.channels) (status_rule_at case.now.parts))) }
-    ensures err { IfErr result (Stops lines.old
+    ensures err { IfErr result (StopsAt lines.old
         (joined (length case.now.parts.channels) (status_rule_at case.now.parts))) }
 {
     let mut status = 0;
@@ -162,7 +162,7 @@ fn walk_status_at(
     requires place { place < length case.now.parts.channels }
     requires status { status ≡ status_before case.now.parts place }
     ensures ok { OnOk result (Passes lines.old lines.new (status_rule_at case.now.parts place)) }
-    ensures err { IfErr result (Stops lines.old (status_rule_at case.now.parts place)) }
+    ensures err { IfErr result (StopsAt lines.old (status_rule_at case.now.parts place)) }
     ensures status { IfOk result (λ status. status ≡ status_before case.now.parts (place + 1)) }
 {
     if !is_status_at(case, place) {
@@ -189,10 +189,10 @@ fn walk_status_at(
 
 /// The line frequency and all behind it have to come next, and nothing else. Answers the unit of time stamps.
 fn read_end(mut lines: Lines<'_>, count: u32) -> Result<i64, Differs>
-    ensures same { let rates = rates_on (line_at lines.entry.lines 1) in
-        finds_lines lines.entry (middle_rules count rates ++ end_rules) ≡ found_in result }
-    ensures value { let rates = rates_on (line_at lines.entry.lines 1) in
-        IfOk result (λ unit. unit ≡ unit_on (line_at lines.entry.lines (5 + max rates 1))) }
+    ensures same { let rates = rates_on (file_line lines.entry.lines 1) in
+        finds_lines lines.entry (middle_rules count rates ++ end_rules) ≡ difference_in result }
+    ensures value { let rates = rates_on (file_line lines.entry.lines 1) in
+        IfOk result (λ unit. unit ≡ unit_on (file_line lines.entry.lines (5 + max rates 1))) }
     ensures least { IfOk result (λ unit. pos 1 ≤ℤ unit) }
     ensures most { IfOk result (λ unit. unit ≤ℤ pos (10 ^ 18)) }
 {
@@ -208,8 +208,8 @@ fn read_end(mut lines: Lines<'_>, count: u32) -> Result<i64, Differs>
 
 /// The lines of the sampling rates and all behind them have to come next, and nothing else.
 fn read_times(mut lines: Lines<'_>, count: u32, rates: u32) -> Result<i64, Differs>
-    ensures same { finds_lines lines.entry (rate_rules rates count ++ end_rules) ≡ found_in result }
-    ensures value { IfOk result (λ unit. unit ≡ unit_on (line_at lines.entry.lines (3 + max rates 1))) }
+    ensures same { finds_lines lines.entry (rate_rules rates count ++ end_rules) ≡ difference_in result }
+    ensures value { IfOk result (λ unit. unit ≡ unit_on (file_line lines.entry.lines (3 + max rates 1))) }
     ensures least { IfOk result (λ unit. pos 1 ≤ℤ unit) }
     ensures most { IfOk result (λ unit. unit ≤ℤ pos (10 ^ 18)) }
 {
@@ -233,7 +233,7 @@ fn read_times(mut lines: Lines<'_>, count: u32, rates: u32) -> Result<i64, Diffe
 /// A line a sampling rate has to come next, and one for none. The last tells the number of samples.
 fn walk_rates(lines: &mut Lines<'_>, count: u32, rates: u32) -> Result<(), Differs>
     ensures ok { OnOk result (Passes lines.old lines.new (rate_rules rates count)) }
-    ensures err { IfErr result (Stops lines.old (rate_rules rates count)) }
+    ensures err { IfErr result (StopsAt lines.old (rate_rules rates count)) }
 {
     match walk_early_rates(lines, rates) {
         Ok(()) => walk_line(lines, &[Check::Any, Check::Number(count)]),
@@ -243,7 +243,7 @@ fn walk_rates(lines: &mut Lines<'_>, count: u32, rates: u32) -> Result<(), Diffe
 
 fn walk_early_rates(lines: &mut Lines<'_>, rates: u32) -> Result<(), Differs>
     ensures ok { OnOk result (Passes lines.old lines.new (joined (rates - 1) (λ rate. rate_rule ∷ []))) }
-    ensures err { IfErr result (Stops lines.old (joined (rates - 1) (λ rate. rate_rule ∷ []))) }
+    ensures err { IfErr result (StopsAt lines.old (joined (rates - 1) (λ rate. rate_rule ∷ []))) }
 {
     let early = rates.saturating_sub(1);
     for _rate in 0..early {
@@ -258,7 +258,7 @@ fn walk_early_rates(lines: &mut Lines<'_>, rates: u32) -> Result<(), Differs>
 /// Both dates and the file's type have to come next.
 fn walk_dates(lines: &mut Lines<'_>) -> Result<(), Differs>
     ensures ok { OnOk result (Passes lines.old lines.new date_rules) }
-    ensures err { IfErr result (Stops lines.old date_rules) }
+    ensures err { IfErr result (StopsAt lines.old date_rules) }
 {
     match walk_any(lines) {
         Ok(()) => {}

@@ -1,10 +1,10 @@
 //! The lines of the configuration that say something of the data.
 ghost use Rattle.std.specs.Prelude.{◌≡◌, false, ◌+◌, ◌<◌, ◌≤◌, ◌^◌, ◌≤ℤ◌, [], ◌∷◌, length, pos, slice_index_or, unsigned_abs, unwrap_or, IfOk, IfErr, OnOk};
 ghost use Rattle.emtp_comtrade.specs.Record.{analog_before};
-ghost use Rattle.emtp_audit.specs.Cfg.{analog_rule, named_rule, identity_rules, scale_rule, rates_rule, unit_rule, line_at, scale_number, scale_on, rates_number, rates_on, unit_number, unit_on};
+ghost use Rattle.emtp_audit.specs.Cfg.{analog_rule, named_rule, identity_rules, scale_rule, rates_rule, unit_rule, file_line, scale_number, scale_on, rates_number, rates_on, unit_number, unit_on};
 ghost use Rattle.emtp_audit.specs.Dat.{IsScale};
 ghost use Rattle.emtp_audit.specs.Rules.{any_field, line_differs};
-ghost use Rattle.emtp_audit.specs.Walk.{Walks, Behind, found_in, Passes, Stops};
+ghost use Rattle.emtp_audit.specs.Walk.{Walks, Behind, difference_in, Passes, StopsAt};
 
 use crate::check::{Check, walk_checks};
 use crate::differs::{DifferCause, Differs};
@@ -27,8 +27,8 @@ pub(crate) fn read_scale(
     requires place { place < length case.now.parts.channels }
     requires analog { analog ≡ analog_before case.now.parts place }
     ensures ok { OnOk result (Passes lines.old lines.new (analog_rule case.now.parts place ∷ [])) }
-    ensures err { IfErr result (Stops lines.old (analog_rule case.now.parts place ∷ [])) }
-    ensures value { IfOk result (λ scale. scale ≡ scale_on (line_at lines.old.lines 0)) }
+    ensures err { IfErr result (StopsAt lines.old (analog_rule case.now.parts place ∷ [])) }
+    ensures value { IfOk result (λ scale. scale ≡ scale_on (file_line lines.old.lines 0)) }
     ensures limits { IfOk result IsScale }
 {
     let mut name = [0; 16];
@@ -44,8 +44,8 @@ fn read_named<'a>(
     unit: &'a [u8],
 ) -> Result<Scale, Differs>
     ensures ok { OnOk result (Passes lines.old lines.new (named_rule number name.now unit.now ∷ [])) }
-    ensures err { IfErr result (Stops lines.old (named_rule number name.now unit.now ∷ [])) }
-    ensures value { IfOk result (λ scale. scale ≡ scale_on (line_at lines.old.lines 0)) }
+    ensures err { IfErr result (StopsAt lines.old (named_rule number name.now unit.now ∷ [])) }
+    ensures value { IfOk result (λ scale. scale ≡ scale_on (file_line lines.old.lines 0)) }
     ensures limits { IfOk result IsScale }
 {
     match lines.take() {
@@ -61,7 +61,7 @@ fn scale_line<'a>(
     name: &'a [u8],
     unit: &'a [u8],
 ) -> Result<Scale, Differs>
-    ensures same { line_differs false line (named_rule number name.now unit.now) text.now ≡ found_in result }
+    ensures same { line_differs false line (named_rule number name.now unit.now) text.now ≡ difference_in result }
     ensures value { IfOk result (λ scale. scale ≡ scale_on text.now) }
     ensures limits { IfOk result IsScale }
 {
@@ -153,8 +153,8 @@ fn read_scale_number(fields: &mut Fields<'_>) -> Result<i128, Differs>
 /// The number of sampling rates has to come next.
 pub(crate) fn read_rates(lines: &mut Lines<'_>) -> Result<u32, Differs>
     ensures ok { OnOk result (Passes lines.old lines.new (rates_rule ∷ [])) }
-    ensures err { IfErr result (Stops lines.old (rates_rule ∷ [])) }
-    ensures value { IfOk result (λ rates. rates ≡ rates_on (line_at lines.old.lines 0)) }
+    ensures err { IfErr result (StopsAt lines.old (rates_rule ∷ [])) }
+    ensures value { IfOk result (λ rates. rates ≡ rates_on (file_line lines.old.lines 0)) }
 {
     match lines.take() {
         Ok(text) => rates_line(lines.number(), text),
@@ -163,7 +163,7 @@ pub(crate) fn read_rates(lines: &mut Lines<'_>) -> Result<u32, Differs>
 }
 
 fn rates_line(line: u32, text: &[u8]) -> Result<u32, Differs>
-    ensures same { line_differs false line rates_rule text.now ≡ found_in result }
+    ensures same { line_differs false line rates_rule text.now ≡ difference_in result }
     ensures value { IfOk result (λ rates. rates ≡ rates_on text.now) }
 {
     let mut fields = Fields::of(false, line, text);
@@ -186,8 +186,8 @@ fn rates_line(line: u32, text: &[u8]) -> Result<u32, Differs>
 /// The unit of time stamps has to come next.
 pub(crate) fn read_unit(lines: &mut Lines<'_>) -> Result<i64, Differs>
     ensures ok { OnOk result (Passes lines.old lines.new (unit_rule ∷ [])) }
-    ensures err { IfErr result (Stops lines.old (unit_rule ∷ [])) }
-    ensures value { IfOk result (λ unit. unit ≡ unit_on (line_at lines.old.lines 0)) }
+    ensures err { IfErr result (StopsAt lines.old (unit_rule ∷ [])) }
+    ensures value { IfOk result (λ unit. unit ≡ unit_on (file_line lines.old.lines 0)) }
     ensures least { IfOk result (λ unit. pos 1 ≤ℤ unit) }
     ensures most { IfOk result (λ unit. unit ≤ℤ pos (10 ^ 18)) }
 {
@@ -198,7 +198,7 @@ pub(crate) fn read_unit(lines: &mut Lines<'_>) -> Result<i64, Differs>
 }
 
 fn unit_line(line: u32, text: &[u8]) -> Result<i64, Differs>
-    ensures same { line_differs false line unit_rule text.now ≡ found_in result }
+    ensures same { line_differs false line unit_rule text.now ≡ difference_in result }
     ensures value { IfOk result (λ unit. unit ≡ unit_on text.now) }
     ensures least { IfOk result (λ unit. pos 1 ≤ℤ unit) }
     ensures most { IfOk result (λ unit. unit ≤ℤ pos (10 ^ 18)) }

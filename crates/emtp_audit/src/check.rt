@@ -5,7 +5,7 @@ ghost use Rattle.emtp_audit.specs.Cfg.{letters_are, counts, is_read};
 ghost use Rattle.emtp_audit.specs.Check.{rule_of};
 ghost use Rattle.emtp_audit.specs.Numbers.{whole_of};
 ghost use Rattle.emtp_audit.specs.Rules.{LineRule, Fields, line_differs, text_is};
-ghost use Rattle.emtp_audit.specs.Walk.{Walks, Behind, found_in};
+ghost use Rattle.emtp_audit.specs.Walk.{Walks, Behind, difference_in};
 
 use crate::differs::{DifferCause, Differs};
 use crate::fields::{Fields, number_cause, unless_wrong};
@@ -31,7 +31,7 @@ pub(crate) enum Check<'a> {
 /// Compares a line of the configuration with a table.
 pub(crate) fn judge_line(line: u32, text: &[u8], checks: &[Check<'_>]) -> Result<(), Differs>
     requires { length checks.now ≤ 900 }
-    ensures { line_differs false line (LineRule.Fields (map rule_of checks.now)) text.now ≡ found_in result }
+    ensures { line_differs false line (LineRule.Fields (map rule_of checks.now)) text.now ≡ difference_in result }
 {
     let mut fields = Fields::of(false, line, text);
     match walk_checks(&mut fields, checks) {

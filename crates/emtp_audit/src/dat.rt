@@ -5,7 +5,7 @@ ghost use Rattle.emtp_card.specs.Lines.{lines_of};
 ghost use Rattle.emtp_comtrade.specs.Record.{analog_before};
 ghost use Rattle.emtp_audit.specs.Rules.{is_padding, audited_lines};
 ghost use Rattle.emtp_audit.specs.Dat.{told_by, dat_rule, first_stamp, dat_differs, IsScale};
-ghost use Rattle.emtp_audit.specs.Walk.{LineWalks, found_in, stamp_in};
+ghost use Rattle.emtp_audit.specs.Walk.{LineWalks, difference_in, stamp_in};
 
 use crate::differs::{DifferCause, Differs};
 use crate::fields::Fields;
@@ -23,7 +23,7 @@ pub fn read_dat(bytes: &[u8], case: &Case, samples: &Samples, cfg: &Cfg) -> Resu
     requires count { length cfg.now.scales.items ≡ analog_before case.now.parts (length case.now.parts.channels) }
     requires scales { All IsScale cfg.now.scales.items }
     requires multiplier { unsigned_abs cfg.now.multiplier ≤ 10 ^ 18 }
-    ensures { dat_differs case.now.parts samples.now.rows (told_by cfg.now) bytes.now ≡ found_in result }
+    ensures { dat_differs case.now.parts samples.now.rows (told_by cfg.now) bytes.now ≡ difference_in result }
 {
     if bytes.len() > MOST_BYTES {
         return Err(Differs {

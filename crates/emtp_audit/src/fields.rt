@@ -2,8 +2,8 @@
 ghost use Rattle.std.specs.Prelude.{◌≡◌, ◌+◌, ◌<◌, ◌≤◌, [], ◌∷◌, List, ℕ, pos, unsigned_abs, ◌^◌, Ok, Err, Result, MatchOption, IfOk, IfErr, OnOk, position, length, Some, None};
 ghost use Rattle.emtp_card.specs.Name.{is_comma};
 ghost use Rattle.emtp_card.specs.Field.{trimmed};
-ghost use Rattle.emtp_audit.specs.Rules.{fields_of, differs_at, number_is, unless_wrong};
-ghost use Rattle.emtp_audit.specs.Walk.{Walked, Walks, Takes, Judges, finds, found_in};
+ghost use Rattle.emtp_audit.specs.Rules.{comma_fields, differs_at, number_is, unless_wrong};
+ghost use Rattle.emtp_audit.specs.Walk.{Walked, Walks, TakesField, JudgesField, finds, difference_in};
 
 use crate::differs::{DifferCause, Differs};
 use crate::numbers::whole;
@@ -22,7 +22,7 @@ pub(crate) struct Fields<'a> {
 
 impl<'a> Model for Fields<'a> {
     ghost use Rattle.std.specs.Prelude.{◌+◌, [], if◌then◌else◌};
-    ghost use Rattle.emtp_audit.specs.Rules.{fields_of};
+    ghost use Rattle.emtp_audit.specs.Rules.{comma_fields};
     ghost use Rattle.emtp_audit.specs.Walk.{Walked};
 
     ghost Value = { Walked };
@@ -31,14 +31,14 @@ impl<'a> Model for Fields<'a> {
       dat = f.dat;
       line = f.line;
       number = f.taken + 1;
-      fields = if f.ended then [] else fields_of f.text.now;
+      fields = if f.ended then [] else comma_fields f.text.now;
     } };
 }
 
 impl<'a> Fields<'a> {
     /// Before the first field of a line, of the data or else of the configuration.
     pub fn of(dat: bool, line: u32, text: &'a [u8]) -> Fields<'a>
-        ensures { result ≡ record { dat = dat; line = line; number = 1; fields = fields_of text.now } }
+        ensures { result ≡ record { dat = dat; line = line; number = 1; fields = comma_fields text.now } }
     {
         Fields {
             dat,
@@ -49,11 +49,11 @@ impl<'a> Fields<'a> {
         }
     }
 
-    /// Takes the next field, without its outer blanks.
+    /// TakesField the next field, without its outer blanks.
     pub fn take(&mut self) -> Result<&'a [u8], Differs>
         requires { self.old.number ≤ 1000 }
-        ensures ok { IfOk result (λ field. Takes (Ok field.now) self.old self.new) }
-        ensures err { IfErr result (λ differs. Takes (Err differs) self.old self.new) }
+        ensures ok { IfOk result (λ field. TakesField (Ok field.now) self.old self.new) }
+        ensures err { IfErr result (λ differs. TakesField (Err differs) self.old self.new) }
     {
         if self.ended {
             return Err(Differs {
@@ -75,7 +75,7 @@ impl<'a> Fields<'a> {
     /// Whether no field is left.
     pub fn finish(mut self) -> Result<(), Differs>
         requires { self.number ≤ 1000 }
-        ensures { finds self.entry [] ≡ found_in result }
+        ensures { finds self.entry [] ≡ difference_in result }
     {
         match self.take() {
             Ok(_) => Err(self.differs(DifferCause::Extra)),
@@ -85,7 +85,7 @@ impl<'a> Fields<'a> {
 
     /// The difference in the field that was taken last, if there is one.
     pub fn judge(&self, cause: Option<DifferCause>) -> Result<(), Differs>
-        ensures { Judges result self.now cause }
+        ensures { JudgesField result self.now cause }
     {
         match cause {
             None => Ok(()),
@@ -138,8 +138,8 @@ pub(crate) fn unless_wrong(right: bool) -> Option<DifferCause>
 
 /// The first field of a text, without its outer blanks, and what stands after the comma behind it.
 fn first_field(text: &[u8]) -> (&[u8], Option<&[u8]>)
-    ensures { MatchOption result.1 (fields_of text.now ≡ result.0.now ∷ [])
-        (λ rest. fields_of text.now ≡ result.0.now ∷ fields_of rest.now) }
+    ensures { MatchOption result.1 (comma_fields text.now ≡ result.0.now ∷ [])
+        (λ rest. comma_fields text.now ≡ result.0.now ∷ comma_fields rest.now) }
 {
     match comma(text) {
         Some(end) => (trim(&text[..end]), Some(&text[end + 1..])),

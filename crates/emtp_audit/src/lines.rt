@@ -4,7 +4,7 @@ ghost use Rattle.std.specs.List.{list_all};
 ghost use Rattle.emtp_card.specs.Lines.{lines_of};
 ghost use Rattle.emtp_audit.specs.Check.{rule_of};
 ghost use Rattle.emtp_audit.specs.Rules.{LineRule, Fields, Anything, is_padding, audited_lines, differs_at};
-ghost use Rattle.emtp_audit.specs.Walk.{LinesLeft, finds_lines, found_in, Passes, Stops};
+ghost use Rattle.emtp_audit.specs.Walk.{LinesLeft, finds_lines, difference_in, Passes, StopsAt};
 ghost use Rattle.emtp_audit.specs.declared.differs.DifferCause.TheVariants.{Missing};
 
 use crate::check::{Check, judge_line};
@@ -46,7 +46,7 @@ impl<'a> Lines<'a> {
         }
     }
 
-    /// Takes the next line.
+    /// TakesField the next line.
     pub fn take(&mut self) -> Result<&'a [u8], Differs>
         ensures ok { IfOk result (λ line. self.old.lines ≡ line.now ∷ self.new.lines) }
         ensures taken { OnOk result (self.new.taken ≡ self.old.taken + 1) }
@@ -77,7 +77,7 @@ impl<'a> Lines<'a> {
 
     /// Whether no line is left.
     pub fn finish(self) -> Result<(), Differs>
-        ensures { finds_lines self.entry [] ≡ found_in result }
+        ensures { finds_lines self.entry [] ≡ difference_in result }
     {
         match next_audited(self.rest) {
             None => Ok(()),
@@ -94,7 +94,7 @@ impl<'a> Lines<'a> {
 /// A line has to come next, whatever it says.
 pub(crate) fn walk_any(lines: &mut Lines<'_>) -> Result<(), Differs>
     ensures ok { OnOk result (Passes lines.old lines.new (Anything ∷ [])) }
-    ensures err { IfErr result (Stops lines.old (Anything ∷ [])) }
+    ensures err { IfErr result (StopsAt lines.old (Anything ∷ [])) }
 {
     match lines.take() {
         Ok(_) => Ok(()),
@@ -106,7 +106,7 @@ pub(crate) fn walk_any(lines: &mut Lines<'_>) -> Result<(), Differs>
 pub(crate) fn walk_line(lines: &mut Lines<'_>, checks: &[Check<'_>]) -> Result<(), Differs>
     requires { length checks.now ≤ 900 }
     ensures ok { OnOk result (Passes lines.old lines.new (LineRule.Fields (map rule_of checks.now) ∷ [])) }
-    ensures err { IfErr result (Stops lines.old (LineRule.Fields (map rule_of checks.now) ∷ [])) }
+    ensures err { IfErr result (StopsAt lines.old (LineRule.Fields (map rule_of checks.now) ∷ [])) }
 {
     match lines.take() {
         Ok(text) => judge_line(lines.number(), text, checks),

@@ -4,7 +4,7 @@ ghost use Rattle.emtp_comtrade.specs.Record.{is_status_at, analog_before};
 ghost use Rattle.emtp_comtrade.specs.Record.{joined};
 ghost use Rattle.emtp_audit.specs.Rules.{line_differs, Fields};
 ghost use Rattle.emtp_audit.specs.Dat.{told_by, step_of, raw_rule_at, state_rule_at, dat_rule, IsScale};
-ghost use Rattle.emtp_audit.specs.Walk.{Walked, Walks, finds, found_in};
+ghost use Rattle.emtp_audit.specs.Walk.{Walked, Walks, finds, difference_in};
 
 use crate::differs::{DifferCause, Differs};
 use crate::fields::{Fields, walk_number};
@@ -33,7 +33,7 @@ pub(crate) fn read_line(
     requires first_low { pos 0 ≤ℤ first }
     requires first_high { unsigned_abs first < 10 ^ 10 }
     ensures { line_differs true line
-        (dat_rule case.now.parts samples.now.rows (told_by cfg.now) first sample) text.now ≡ found_in result }
+        (dat_rule case.now.parts samples.now.rows (told_by cfg.now) first sample) text.now ≡ difference_in result }
 {
     let mut fields = Fields::of(true, line, text);
     match walk_number(&mut fields, sample + 1) {

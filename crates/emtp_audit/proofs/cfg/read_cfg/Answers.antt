@@ -4,10 +4,10 @@ use Rattle.std.specs.Prelude.{max}
 use Rattle.std.proofs.lemmas.Int.{ints}
 use Rattle.emtp_fix.proofs.Wide.{through_64}
 use Rattle.emtp_comtrade.specs.Record.{joined, analog_before}
-use Rattle.emtp_audit.specs.Cfg.{analog_rule_at, status_rule_at, middle_rules, end_rules, rates_in, rates_on, unit_on, line_at, scale_on, analog_scales, scales_in, cfg_differs}
+use Rattle.emtp_audit.specs.Cfg.{analog_rule_at, status_rule_at, middle_rules, end_rules, rates_in, rates_on, unit_on, file_line, scale_on, analog_scales, scales_in, cfg_differs}
 use Rattle.emtp_audit.specs.Dat.{scales_of}
 use Rattle.emtp_audit.specs.Rules.{LineRule, audited_lines}
-use Rattle.emtp_audit.specs.Walk.{LinesLeft, Stops, finds_lines}
+use Rattle.emtp_audit.specs.Walk.{LinesLeft, StopsAt, finds_lines}
 use Rattle.emtp_audit.specs.declared.scale.Scale.{Scale}
 use Rattle.emtp_audit.proofs.Answering.{on_differs}
 use Rattle.emtp_audit.proofs.CfgPlaces.{scales-behind, behind-channels, cfg-start}
@@ -32,7 +32,7 @@ returns-in-Err-read_scales-clause-differs c =
     let status = joined n (status_rule_at p) in
     let rates = rates_in p (audited_lines c.args.bytes.now) in
     let rest : ℕ → List LineRule = λ rates. middle_rules c.args.count rates ++ end_rules in
-    on_differs c.in-Err-read_scales.fault (Stops c.walk_head.new.lines analog) (λ differs. cfg_differs p c.args.count c.args.bytes.now ≡ Some differs)
+    on_differs c.in-Err-read_scales.fault (StopsAt c.walk_head.new.lines analog) (λ differs. cfg_differs p c.args.count c.args.bytes.now ≡ Some differs)
     (λ differs stop. cfg-start p c.args.count c.args.bytes.now c.of-lines.result (Some differs) c.if-bytes-gt-MOST_BYTES.false c.of-lines.ensures (c.in-Ok.ensures.ok.pass (analog ++ (status ++ rest rates)) ∙ stop (status ++ rest rates)))
     c.in-Err-read_scales.ensures.err
 
@@ -56,7 +56,7 @@ returns-in-Ok-read_end-clause-same c =
     let rates = rates_in p (audited_lines c.args.bytes.now) in
     let rest : ℕ → List LineRule = λ rates. middle_rules c.args.count rates ++ end_rules in
     let behind = behind-channels p c.of-lines.result.lines c.walk_head.new.lines.lines c.read_scales.new.lines.lines c.walk_statuses.new.lines.lines c.in-Ok.ensures.ok.behind c.in-Ok-read_scales.ensures.ok.behind c.in-Ok-walk_statuses.ensures.ok.behind in
-    let told : rates ≡ rates_on (line_at c.walk_statuses.new.lines.lines 1) =
+    let told : rates ≡ rates_on (file_line c.walk_statuses.new.lines.lines 1) =
     ap (λ (ls : List (List ℕ)). rates_in p ls) (sym (ap (λ (w : LinesLeft). w.lines) c.of-lines.ensures)) ∙ ap (λ (k : ℕ). rates_on (get_or c.of-lines.result.lines k [])) (three n) ∙ ap rates_on (behind 1) in
     cfg-start p c.args.count c.args.bytes.now c.of-lines.result None c.if-bytes-gt-MOST_BYTES.false c.of-lines.ensures
     (c.in-Ok.ensures.ok.pass (analog ++ (status ++ rest rates)) ∙ c.in-Ok-read_scales.ensures.ok.pass (status ++ rest rates) ∙ c.in-Ok-walk_statuses.ensures.ok.pass (rest rates)
@@ -74,7 +74,7 @@ returns-in-Err-read_end-clause-differs c =
     let rates = rates_in p (audited_lines c.args.bytes.now) in
     let rest : ℕ → List LineRule = λ rates. middle_rules c.args.count rates ++ end_rules in
     let behind = behind-channels p c.of-lines.result.lines c.walk_head.new.lines.lines c.read_scales.new.lines.lines c.walk_statuses.new.lines.lines c.in-Ok.ensures.ok.behind c.in-Ok-read_scales.ensures.ok.behind c.in-Ok-walk_statuses.ensures.ok.behind in
-    let told : rates ≡ rates_on (line_at c.walk_statuses.new.lines.lines 1) =
+    let told : rates ≡ rates_on (file_line c.walk_statuses.new.lines.lines 1) =
     ap (λ (ls : List (List ℕ)). rates_in p ls) (sym (ap (λ (w : LinesLeft). w.lines) c.of-lines.ensures)) ∙ ap (λ (k : ℕ). rates_on (get_or c.of-lines.result.lines k [])) (three n) ∙ ap rates_on (behind 1) in
     cfg-start p c.args.count c.args.bytes.now c.of-lines.result (Some c.in-Err-read_end.differs) c.if-bytes-gt-MOST_BYTES.false c.of-lines.ensures
     (c.in-Ok.ensures.ok.pass (analog ++ (status ++ rest rates)) ∙ c.in-Ok-read_scales.ensures.ok.pass (status ++ rest rates) ∙ c.in-Ok-walk_statuses.ensures.ok.pass (rest rates)
@@ -90,17 +90,17 @@ returns-in-Ok-read_end-clause-says c =
     let n = length p.channels in
     let all = ap (λ (w : LinesLeft). w.lines) c.of-lines.ensures in
     let behind = behind-channels p c.of-lines.result.lines c.walk_head.new.lines.lines c.read_scales.new.lines.lines c.walk_statuses.new.lines.lines c.in-Ok.ensures.ok.behind c.in-Ok-read_scales.ensures.ok.behind c.in-Ok-walk_statuses.ensures.ok.behind in
-    let told : rates_in p c.of-lines.result.lines ≡ rates_on (line_at c.walk_statuses.new.lines.lines 1) =
+    let told : rates_in p c.of-lines.result.lines ≡ rates_on (file_line c.walk_statuses.new.lines.lines 1) =
     ap (λ (k : ℕ). rates_on (get_or c.of-lines.result.lines k [])) (three n) ∙ ap rates_on (behind 1) in
     let small : unsigned_abs c.in-Ok-read_end.multiplier ≤ 10 ^ 18 = omega (arith, ints, c.in-Ok-read_end.ensures.least, c.in-Ok-read_end.ensures.most) in
     let unit = through_64 c.in-Ok-read_end.multiplier (omega (arith, small)) ∙ c.in-Ok-read_end.ensures.value
-    ∙ ap (λ (r : ℕ). unit_on (line_at c.walk_statuses.new.lines.lines (5 + max r 1))) (sym told)
+    ∙ ap (λ (r : ℕ). unit_on (file_line c.walk_statuses.new.lines.lines (5 + max r 1))) (sym told)
     ∙ ap unit_on (sym (behind (5 + max (rates_in p c.of-lines.result.lines) 1)))
     ∙ ap (λ (k : ℕ). unit_on (get_or c.of-lines.result.lines k [])) (seven n (max (rates_in p c.of-lines.result.lines) 1)) in
     let scales = c.in-Ok-read_scales.ensures.scales ∙ scales-behind p c.of-lines.result.lines c.walk_head.new.lines.lines c.in-Ok.ensures.ok.behind in
     ap (λ (xs : List Scale). scales_of xs (to_z w64 (of_z w64 c.in-Ok-read_end.multiplier))) scales
     ∙ ap (scales_of (analog_scales p c.of-lines.result.lines)) unit
-    ∙ ap (λ (ls : List (List ℕ)). scales_of (analog_scales p ls) (unit_on (line_at ls (n + 7 + max (rates_in p ls) 1)))) all
+    ∙ ap (λ (ls : List (List ℕ)). scales_of (analog_scales p ls) (unit_on (file_line ls (n + 7 + max (rates_in p ls) 1)))) all
   where
     three : (n : ℕ) → n + 3 ≡ n + 2 + 1
     three n = omega arith
@@ -111,4 +111,4 @@ returns-in-Ok-read_end-clause-says c =
 pub returns-in-Ok-read_end-clause-count : goal.returns-in-Ok-read_end-clause-count
 returns-in-Ok-read_end-clause-count c =
     ap length c.in-Ok-read_scales.ensures.scales
-    ∙ length-joined (λ number. scale_on (line_at c.walk_head.new.lines.lines number)) (analog_before c.args.case.now.parts (length c.args.case.now.parts.channels))
+    ∙ length-joined (λ number. scale_on (file_line c.walk_head.new.lines.lines number)) (analog_before c.args.case.now.parts (length c.args.case.now.parts.channels))

@@ -1,7 +1,7 @@
 use Rattle.std.proofs.Common.{◌∙◌, ap, length, arith}
 use Rattle.emtp_comtrade.specs.Record.{analog_before, joined}
-use Rattle.emtp_audit.specs.Cfg.{analog_rule_at, scale_on, line_at}
-use Rattle.emtp_audit.specs.Walk.{Stops}
+use Rattle.emtp_audit.specs.Cfg.{analog_rule_at, scale_on, file_line}
+use Rattle.emtp_audit.specs.Walk.{StopsAt}
 use Rattle.emtp_audit.proofs.Answering.{on_differs}
 use Rattle.emtp_audit.proofs.CfgPlaces.{scales-next}
 use Rattle.emtp_audit.proofs.Joined.{length-joined}
@@ -10,12 +10,12 @@ use Rattle.emtp_audit.proofs.cfg.read_scales.Goals as goal
 
 pub push_scale-requires-clause-analog : goal.push_scale-requires-clause-analog
 push_scale-requires-clause-analog c =
-    ap length c.loop-place.invariant.scales ∙ length-joined (λ number. scale_on (line_at c.args.lines.now.lines number)) (analog_before c.args.case.now.parts c.loop-place.place)
+    ap length c.loop-place.invariant.scales ∙ length-joined (λ number. scale_on (file_line c.args.lines.now.lines number)) (analog_before c.args.case.now.parts c.loop-place.place)
 
 pub returns-in-Err-clause-err : goal.returns-in-Err-clause-err
 returns-in-Err-clause-err c =
     let p = c.args.case.now.parts in
-    on_differs c.in-Err.fault (Stops c.loop-place.lines (analog_rule_at p c.loop-place.place)) (Stops c.args.lines.now (joined (length p.channels) (analog_rule_at p)))
+    on_differs c.in-Err.fault (StopsAt c.loop-place.lines (analog_rule_at p c.loop-place.place)) (StopsAt c.args.lines.now (joined (length p.channels) (analog_rule_at p)))
     (λ differs stop. stops-joined c.args.lines.now c.loop-place.lines (analog_rule_at p) c.loop-place.place (length p.channels) differs (omega (arith, c.loop-place-test.true, c.len-place-end.ensures)) c.loop-place.invariant.passes stop)
     c.in-Err.ensures.err
 

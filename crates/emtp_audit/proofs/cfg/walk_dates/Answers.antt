@@ -1,7 +1,7 @@
 use Rattle.std.proofs.Common.{[], ◌∷◌}
 use Rattle.emtp_audit.specs.Cfg.{type_rule, date_rules}
 use Rattle.emtp_audit.specs.Rules.{Anything}
-use Rattle.emtp_audit.specs.Walk.{Passes, Stops}
+use Rattle.emtp_audit.specs.Walk.{Passes, StopsAt}
 use Rattle.emtp_audit.proofs.Answering.{on_ok, if_err}
 use Rattle.emtp_audit.proofs.LineWalks.{passes-both, stops-later, stops-more}
 use Rattle.emtp_audit.proofs.cfg.walk_dates.Goals as goal
@@ -23,7 +23,7 @@ returns-clause-ok c =
 
 pub returns-clause-err : goal.returns-clause-err
 returns-clause-err c =
-    if_err c.walk_line.result _ (Stops c.args.lines.now date_rules)
+    if_err c.walk_line.result _ (StopsAt c.args.lines.now date_rules)
     (λ differs stop. stops-later c.args.lines.now c.walk_any.new.lines (Anything ∷ []) (Anything ∷ type_rule ∷ []) differs c.in-Ok.ensures.ok
     (stops-later c.walk_any.new.lines c.walk_any-2.new.lines (Anything ∷ []) (type_rule ∷ []) differs c.in-Ok-walk_any.ensures.ok stop))
     c.walk_line.ensures.err

@@ -2,7 +2,7 @@ use Rattle.std.proofs.Common.{◌-◌, [], ◌∷◌, List, pos}
 use Rattle.emtp_comtrade.specs.Record.{joined}
 use Rattle.emtp_audit.specs.Cfg.{rate_rule, rate_rules}
 use Rattle.emtp_audit.specs.Rules.{LineRule, Fields, any_field, number_is}
-use Rattle.emtp_audit.specs.Walk.{Passes, Stops}
+use Rattle.emtp_audit.specs.Walk.{Passes, StopsAt}
 use Rattle.emtp_audit.proofs.Answering.{on_ok, if_err}
 use Rattle.emtp_audit.proofs.LineWalks.{passes-both, stops-later, stops-more}
 use Rattle.emtp_audit.proofs.cfg.walk_rates.Goals as goal
@@ -17,7 +17,7 @@ returns-in-Ok-clause-ok c =
 pub returns-in-Ok-clause-err : goal.returns-in-Ok-clause-err
 returns-in-Ok-clause-err c =
     let last : List LineRule = Fields (any_field ∷ number_is (pos c.args.count) ∷ []) ∷ [] in
-    if_err c.walk_line.result _ (Stops c.args.lines.now (rate_rules c.args.rates c.args.count))
+    if_err c.walk_line.result _ (StopsAt c.args.lines.now (rate_rules c.args.rates c.args.count))
     (λ differs stop. stops-later c.args.lines.now c.walk_early_rates.new.lines (joined (c.args.rates - 1) (λ rate. rate_rule ∷ [])) last differs c.in-Ok.ensures.ok stop)
     c.walk_line.ensures.err
 
