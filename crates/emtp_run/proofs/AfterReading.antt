@@ -6,11 +6,11 @@ use Rattle.emtp_io.specs.declared.whole.ReadEnd.TheVariants.{Failed, NoMemory as
 use Rattle.emtp_run.proofs.Endings.{ends-complete}
 use Rattle.emtp_run.proofs.Contents.{contents-there, one_of}
 use Rattle.emtp_run.specs.Command.{IsAnswered, HoldsOfRuns, TookSoFar, cases_in, outcome_for, outcome_of, own_texts, reads, runs_of, texts_for}
-use Rattle.emtp_run.specs.Inputs.{AreThere, Input, IsUntouched, ReadsInputs, TookOfLast, UnlessAny, contents}
+use Rattle.emtp_run.specs.Inputs.{FilesAreThere, Input, IsUntouched, ReadsInputs, TookOfLast, UnlessAny, contents}
 use Rattle.emtp_run.specs.Outcome.{Ends, EndsAfterReading, HasRoomFor, HasRun, HasStatusCause, Leaves, Outcome, Settles}
-use Rattle.emtp_run.specs.Words.{Task, Run, Trial}
+use Rattle.emtp_run.specs.Words.{Task, Batch, Run, Trial}
 use Rattle.emtp_run.specs.declared.status.Status.{Status}
-use Rattle.emtp_run.specs.declared.status.Status.TheVariants.{Done, Usage, BadCard, Ended, ReadFault, WriteFault, NoMemory}
+use Rattle.emtp_run.specs.declared.status.Status.TheVariants.{Done, Usage, BadCard, Ended, ReadFault, WriteFault, NoMemory, BadRow}
 
 -- ---- the tables of statuses over a cabinet that differs in what is unread alone
 
@@ -32,6 +32,7 @@ cause_from Ended old new u h = h
 cause_from ReadFault old new u h = h
 cause_from WriteFault old new u h = h
 cause_from NoMemory old new u h = h
+cause_from BadRow old new u h = h
 
 leaves_from : (s : Status) (old new : CabinetState) (u : Option (List ℕ)) → Leaves s (read_on old u) new → Leaves s old new
 leaves_from Done old new u h = h
@@ -41,6 +42,7 @@ leaves_from Ended old new u h = h
 leaves_from ReadFault old new u h = h
 leaves_from WriteFault old new u h = h
 leaves_from NoMemory old new u h = h
+leaves_from BadRow old new u h = h
 
 settles_from : (s : Status) (o : Option Outcome) (old new : CabinetState) (u : Option (List ℕ)) → Settles s o (read_on old u) new → Settles s o old new
 settles_from Done o old new u h = h
@@ -50,6 +52,7 @@ settles_from Ended o old new u h = h
 settles_from ReadFault o old new u h = h
 settles_from WriteFault o old new u h = h
 settles_from NoMemory o old new u h = h
+settles_from BadRow o old new u h = h
 
 ends_from : (s : Status) (o asked : Option Outcome) (old new : CabinetState) (u : Option (List ℕ)) → (IsTrue old.nature.tells → asked ≡ o) → Ends s o (read_on old u) new → Ends s asked old new
 ends_from s o asked old new u same ends = record {
@@ -70,6 +73,7 @@ ends_after inputs s o asked old mid new x read same ends =
 pub some_text : (task : Task) → 0 < length (own_texts task) + length (reads task)
 some_text (Run files) = omega arith
 some_text (Trial number) = omega arith
+some_text (Batch files) = omega arith
 
 -- ---- which files were opened
 
@@ -85,6 +89,7 @@ inputs_from Ended old new read h = h.0
 inputs_from ReadFault old new read h = absurd (read refl)
 inputs_from WriteFault old new read h = h.0
 inputs_from NoMemory old new read h = h.0
+inputs_from BadRow old new read h = h.0
 
 -- the last file is open, whatever is answered then
 so_far : (s : Status) (files : List ℕ → Option (List ℕ)) (inputs : List Input) (old new : Option (List ℕ)) → TookOfLast files inputs old new → TookSoFar s files inputs old new
@@ -95,6 +100,7 @@ so_far Ended files inputs old new took = took
 so_far ReadFault files inputs old new took = one_of files inputs old new took
 so_far WriteFault files inputs old new took = took
 so_far NoMemory files inputs old new took = one_of files inputs old new took
+so_far BadRow files inputs old new took = took
 
 -- ---- the three ways in which a reading ends
 
@@ -122,10 +128,10 @@ answered {A = A} task s texts old mid new x read untouched told hold after = rec
         (λ tells. ap (option_map (outcome_of task)) (told tells)) after.ends
 
 -- an outcome is known only where the files are there
-room_there : (task : Task) (files : List ℕ → Option (List ℕ)) (room : ℕ) → HasRoomFor (outcome_for (Some task) files) room → AreThere files (reads task)
+room_there : (task : Task) (files : List ℕ → Option (List ℕ)) (room : ℕ) → HasRoomFor (outcome_for (Some task) files) room → FilesAreThere files (reads task)
 room_there task files room fit = by (contents files (reads task)) refl
   where
-    by : (o : Option (List (List ℕ))) → contents files (reads task) ≡ o → AreThere files (reads task)
+    by : (o : Option (List (List ℕ))) → contents files (reads task) ≡ o → FilesAreThere files (reads task)
     by None is = elim (subst (λ (o : Option (List (List ℕ))). HasRoomFor (option_map (outcome_of task) (option_map (λ texts. own_texts task ++ texts) o)) room) is fit) [ ]
     by (Some texts) is = contents-there files (reads task) texts is
 

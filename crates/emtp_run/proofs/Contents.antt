@@ -7,7 +7,7 @@ use Rattle.std.specs.Prelude.{slice_index_or}
 use Rattle.std.specs.declared.alloc.Global.{Global}
 use Rattle.std.specs.declared.vec.Vec.{Vec}
 use Rattle.emtp_io.specs.Whole.{TookFront}
-use Rattle.emtp_run.specs.Inputs.{AreThere, Input, TookOfLast, TookOfOne, and_content, content, contents, input_of, inputs_of, text_at, texts_of}
+use Rattle.emtp_run.specs.Inputs.{FilesAreThere, Input, TookOfLast, TookOfOne, and_content, content, contents, named_input, named_inputs, text_at, texts_of}
 use Rattle.emtp_run.specs.declared.reading.InputFile.{InputFile}
 
 -- ---- what was read
@@ -40,38 +40,38 @@ one_more files inputs input texts text h is = contents-last files inputs input �
 
 -- the files up to the one at a place, and the others
 front_is : (inputs : List InputFile) (at : ℕ) (d : InputFile) → at < length inputs
-    → inputs_of (take (at + 1) inputs) ≡ inputs_of (take at inputs) ++ input_of (slice_index_or inputs at d) ∷ []
+    → named_inputs (take (at + 1) inputs) ≡ named_inputs (take at inputs) ++ named_input (slice_index_or inputs at d) ∷ []
 front_is inputs at d within =
     let front : take (at + 1) inputs ≡ take at inputs ++ slice_index_or inputs at d ∷ [] = rw add-one (take-suc inputs at d within) in
-    ap inputs_of front ∙ map-append input_of (take at inputs) (slice_index_or inputs at d ∷ [])
+    ap named_inputs front ∙ map-append named_input (take at inputs) (slice_index_or inputs at d ∷ [])
 
-all_is : (inputs : List InputFile) (at : ℕ) → inputs_of inputs ≡ inputs_of (take at inputs) ++ inputs_of (drop at inputs)
-all_is inputs at = ap inputs_of (sym (take-append-drop at inputs)) ∙ map-append input_of (take at inputs) (drop at inputs)
+all_is : (inputs : List InputFile) (at : ℕ) → named_inputs inputs ≡ named_inputs (take at inputs) ++ named_inputs (drop at inputs)
+all_is inputs at = ap named_inputs (sym (take-append-drop at inputs)) ∙ map-append named_input (take at inputs) (drop at inputs)
 
 -- what a turn of the loop leaves
 pub read_more : (files : List ℕ → Option (List ℕ)) (inputs : List InputFile) (at : ℕ) (d : InputFile) (old new : List (Vec ℕ Global)) (text : Vec ℕ Global) → at < length inputs
-    → contents files (inputs_of (take at inputs)) ≡ Some (texts_of old) → content files (input_of (slice_index_or inputs at d)) ≡ Some text.items → new ≡ old ++ text ∷ []
-    → contents files (inputs_of (take (at + 1) inputs)) ≡ Some (texts_of new)
+    → contents files (named_inputs (take at inputs)) ≡ Some (texts_of old) → content files (named_input (slice_index_or inputs at d)) ≡ Some text.items → new ≡ old ++ text ∷ []
+    → contents files (named_inputs (take (at + 1) inputs)) ≡ Some (texts_of new)
 read_more files inputs at d old new text within was is new_is =
     ap (contents files) (front_is inputs at d within)
-    ∙ one_more files (inputs_of (take at inputs)) (input_of (slice_index_or inputs at d)) (texts_of old) text.items was is
+    ∙ one_more files (named_inputs (take at inputs)) (named_input (slice_index_or inputs at d)) (texts_of old) text.items was is
     ∙ ap Some (sym (ap texts_of new_is ∙ map-append (λ (t : Vec ℕ Global). t.items) old (text ∷ [])))
 
 -- ---- which files are there
 
-pub there_at : (files : List ℕ → Option (List ℕ)) (inputs : List InputFile) (at : ℕ) (d : InputFile) → AreThere files (inputs_of inputs) → at < length inputs → AreThere files (input_of (slice_index_or inputs at d) ∷ [])
+pub there_at : (files : List ℕ → Option (List ℕ)) (inputs : List InputFile) (at : ℕ) (d : InputFile) → FilesAreThere files (named_inputs inputs) → at < length inputs → FilesAreThere files (named_input (slice_index_or inputs at d) ∷ [])
 there_at files inputs at d there within =
-    All-cons (λ (input : Input). IsSome (files input.name)) (input_of (slice_index_or inputs at d)) []
-    (subst (λ (input : Input). IsSome (files input.name)) (get_or-map input_of inputs at d (input_of d) within) (there at (input_of d) (omega (arith, within, length-map inputs input_of))))
+    All-cons (λ (input : Input). IsSome (files input.name)) (named_input (slice_index_or inputs at d)) []
+    (subst (λ (input : Input). IsSome (files input.name)) (get_or-map named_input inputs at d (named_input d) within) (there at (named_input d) (omega (arith, within, length-map inputs named_input))))
     (All-nil (λ (input : Input). IsSome (files input.name)))
 
 -- what is read of all files is known only where they are there
-pub contents-there : (files : List ℕ → Option (List ℕ)) (inputs : List Input) (texts : List (List ℕ)) → contents files inputs ≡ Some texts → AreThere files inputs
+pub contents-there : (files : List ℕ → Option (List ℕ)) (inputs : List Input) (texts : List (List ℕ)) → contents files inputs ≡ Some texts → FilesAreThere files inputs
 contents-there files [] texts is = All-nil (λ (input : Input). IsSome (files input.name))
 contents-there files (input ∷ more) texts is = by (files input.name) (contents files more) refl refl (contents-there files more)
   where
     by : (file : Option (List ℕ)) (others : Option (List (List ℕ))) → files input.name ≡ file → contents files more ≡ others
-        → ((read : List (List ℕ)) → contents files more ≡ Some read → AreThere files more) → AreThere files (input ∷ more)
+        → ((read : List (List ℕ)) → contents files more ≡ Some read → FilesAreThere files more) → FilesAreThere files (input ∷ more)
     by None others file are later = absurd (cc)
     by (Some bytes) None file are later = absurd (cc)
     by (Some bytes) (Some read) file are later = All-cons (λ (i : Input). IsSome (files i.name)) input more (rw file refl) (later read are)
@@ -98,22 +98,22 @@ one_of files inputs old new took = subst (λ (xs : List Input). TookOfOne files 
 
 -- a file more was read
 pub took_more : (files : List ℕ → Option (List ℕ)) (inputs : List InputFile) (at : ℕ) (d : InputFile) (old new : Option (List ℕ)) → at < length inputs
-    → TookFront (slice_index_or inputs at d).bound (files (slice_index_or inputs at d).name.now) new → TookOfLast files (inputs_of (take (at + 1) inputs)) old new
+    → TookFront (slice_index_or inputs at d).bound (files (slice_index_or inputs at d).name.now) new → TookOfLast files (named_inputs (take (at + 1) inputs)) old new
 took_more files inputs at d old new within took =
-    rw (front_is inputs at d within) (took_last files (inputs_of (take at inputs)) (input_of (slice_index_or inputs at d)) old new took)
+    rw (front_is inputs at d within) (took_last files (named_inputs (take at inputs)) (named_input (slice_index_or inputs at d)) old new took)
 
 -- it stopped behind so many files
 pub took_upto : (files : List ℕ → Option (List ℕ)) (inputs : List InputFile) (at : ℕ) (old new : Option (List ℕ))
-    → TookOfLast files (inputs_of (take at inputs)) old new → TookOfOne files (inputs_of inputs) old new
-took_upto files inputs at old new took = rw (all_is inputs at) (last_is_one files (inputs_of (take at inputs)) (inputs_of (drop at inputs)) old new took)
+    → TookOfLast files (named_inputs (take at inputs)) old new → TookOfOne files (named_inputs inputs) old new
+took_upto files inputs at old new took = rw (all_is inputs at) (last_is_one files (named_inputs (take at inputs)) (named_inputs (drop at inputs)) old new took)
 
 -- it stopped in a file, or where that was to be opened
 pub took_stopped : (files : List ℕ → Option (List ℕ)) (inputs : List InputFile) (at : ℕ) (d : InputFile) (old mid new : Option (List ℕ)) → at < length inputs
-    → TookOfLast files (inputs_of (take at inputs)) old mid → TookOfOne files (input_of (slice_index_or inputs at d) ∷ []) mid new → TookOfOne files (inputs_of inputs) old new
+    → TookOfLast files (named_inputs (take at inputs)) old mid → TookOfOne files (named_input (slice_index_or inputs at d) ∷ []) mid new → TookOfOne files (named_inputs inputs) old new
 took_stopped files inputs at d old mid new within before (inl took) =
     took_upto files inputs (at + 1) old new (took_more files inputs at d old new within took)
 took_stopped files inputs at d old mid new within before (inr same) =
-    took_upto files inputs at old new (subst (λ (o : Option (List ℕ)). TookOfLast files (inputs_of (take at inputs)) old o) (sym same) before)
+    took_upto files inputs at old new (subst (λ (o : Option (List ℕ)). TookOfLast files (named_inputs (take at inputs)) old o) (sym same) before)
 
 -- ---- the texts that were read
 

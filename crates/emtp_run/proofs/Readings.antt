@@ -6,7 +6,7 @@ use Rattle.emtp_io.specs.Cabinet.{CabinetState, IsInputCall}
 use Rattle.emtp_io.specs.declared.whole.ReadEnd.{ReadEnd}
 use Rattle.emtp_io.specs.declared.whole.ReadEnd.TheVariants.{Failed, NoMemory}
 use Rattle.emtp_run.proofs.Contents.{one_of, there_at, took_more, took_stopped, took_upto}
-use Rattle.emtp_run.specs.Inputs.{Input, ReadsInputs, input_of, inputs_of}
+use Rattle.emtp_run.specs.Inputs.{Input, ReadsInputs, named_input, named_inputs}
 use Rattle.emtp_run.specs.declared.reading.InputFile.{InputFile}
 
 -- the file couldn't be opened
@@ -29,8 +29,8 @@ reads-refused input old new fault (Err e) is call same never = record {
 
 -- a file more
 pub reads-more : {A : Type 0} (inputs : List InputFile) (at : ℕ) (d : InputFile) (old mid new : CabinetState) (x : A) → at < length inputs
-    → ReadsInputs {A = Unit {0}} (inputs_of (take at inputs)) old mid (Ok tt) → ReadsInputs {A = A} (input_of (slice_index_or inputs at d) ∷ []) mid new (Ok x)
-    → ReadsInputs {A = Unit {0}} (inputs_of (take (at + 1) inputs)) old new (Ok tt)
+    → ReadsInputs {A = Unit {0}} (named_inputs (take at inputs)) old mid (Ok tt) → ReadsInputs {A = A} (named_input (slice_index_or inputs at d) ∷ []) mid new (Ok x)
+    → ReadsInputs {A = Unit {0}} (named_inputs (take (at + 1) inputs)) old new (Ok tt)
 reads-more inputs at d old mid new x within first second =
     let took = rw first.nature at second.last in
     let last = λ (tells : IsTrue old.nature.tells). took_more old.nature.files inputs at d old.unread new.unread within (took tells) in
@@ -41,7 +41,7 @@ reads-more inputs at d old mid new x within first second =
       failed = λ failed. absurd (cc);
       memory = λ wanting. absurd (cc);
       count = second.count ∙ first.count;
-      taken = λ tells. one_of old.nature.files (inputs_of (take (at + 1) inputs)) old.unread new.unread (last tells);
+      taken = λ tells. one_of old.nature.files (named_inputs (take (at + 1) inputs)) old.unread new.unread (last tells);
       last = last;
       calm = λ tells calm there failed. cc;
     }
@@ -51,8 +51,8 @@ same_fault e f kind is of = cc
 
 -- it stopped in a file
 pub reads-stopped : {A B : Type 0} (inputs : List InputFile) (at : ℕ) (d : InputFile) (old mid new : CabinetState) (e : ReadEnd) (result : Result B ReadEnd) → at < length inputs → IsErrAnd result (λ f. f ≡ e)
-    → ReadsInputs {A = Unit {0}} (inputs_of (take at inputs)) old mid (Ok tt) → ReadsInputs {A = A} (input_of (slice_index_or inputs at d) ∷ []) mid new (Err e)
-    → ReadsInputs {A = B} (inputs_of inputs) old new result
+    → ReadsInputs {A = Unit {0}} (named_inputs (take at inputs)) old mid (Ok tt) → ReadsInputs {A = A} (named_input (slice_index_or inputs at d) ∷ []) mid new (Err e)
+    → ReadsInputs {A = B} (named_inputs inputs) old new result
 reads-stopped inputs at d old mid new e (Ok x) within is first second = elim is [ ]
 reads-stopped {A = A} {B = B} inputs at d old mid new e (Err f) within is first second =
     let took = rw first.nature at second.taken in
@@ -71,7 +71,7 @@ reads-stopped {A = A} {B = B} inputs at d old mid new e (Err f) within is first 
 
 -- there was no memory for what a file holds
 pub reads-wanting : {B : Type 0} (inputs : List InputFile) (at : ℕ) (old new : CabinetState) (e : ReadEnd) (result : Result B ReadEnd) → e ≡ NoMemory → IsErrAnd result (λ f. f ≡ e)
-    → ReadsInputs {A = Unit {0}} (inputs_of (take at inputs)) old new (Ok tt) → ReadsInputs {A = B} (inputs_of inputs) old new result
+    → ReadsInputs {A = Unit {0}} (named_inputs (take at inputs)) old new (Ok tt) → ReadsInputs {A = B} (named_inputs inputs) old new result
 reads-wanting inputs at old new e (Ok x) wanting is first = elim is [ ]
 reads-wanting inputs at old new e (Err f) none is first = record {
   nature = first.nature;
@@ -87,10 +87,10 @@ reads-wanting inputs at old new e (Err f) none is first = record {
 
 -- all files were read
 pub reads-all : {B : Type 0} (inputs : List InputFile) (at : ℕ) (old new : CabinetState) (x : B) → length inputs ≤ at
-    → ReadsInputs {A = Unit {0}} (inputs_of (take at inputs)) old new (Ok tt) → ReadsInputs {A = B} (inputs_of inputs) old new (Ok x)
+    → ReadsInputs {A = Unit {0}} (named_inputs (take at inputs)) old new (Ok tt) → ReadsInputs {A = B} (named_inputs inputs) old new (Ok x)
 reads-all inputs at old new x past first =
     let all : take at inputs ≡ inputs = take_all at inputs past in
-    let read = subst (λ (xs : List InputFile). ReadsInputs {A = Unit {0}} (inputs_of xs) old new (Ok tt)) all first in
+    let read = subst (λ (xs : List InputFile). ReadsInputs {A = Unit {0}} (named_inputs xs) old new (Ok tt)) all first in
     record {
       nature = read.nature;
       outputs = read.outputs;

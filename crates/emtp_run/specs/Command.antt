@@ -1,5 +1,10 @@
 -- The table of commands: which files each reads, and what it comes to by what they hold.
 use Rattle.std.specs.Prelude.{◌≡◌, ℕ, ◌+◌, List, [], ◌∷◌, ◌++◌, Option, Some, None, option_map, Result, Ok, Err, IfSome, IsTrue, All}
+use Rattle.emtp_batch.specs.Altered.{altered_cases}
+use Rattle.emtp_batch.specs.Report.{reports_of}
+use Rattle.emtp_batch.specs.Summary.{batch_text}
+use Rattle.emtp_batch.specs.Table.{FaultyItem, times_table}
+use Rattle.emtp_batch.specs.declared.table.Row.{Row}
 use Rattle.emtp_card.specs.declared.cards.TheConstants.{MAX_BYTES}
 use Rattle.emtp_card.specs.declared.reason.Bad.{Bad}
 use Rattle.emtp_case.specs.declared.case.Parts.{Parts}
@@ -7,16 +12,16 @@ use Rattle.emtp_io.specs.Cabinet.{CabinetState}
 use Rattle.emtp_machine.specs.History.{history}
 use Rattle.emtp_machine.specs.Laws.{EndsWithin, SamplesBalance}
 use Rattle.emtp_run.specs.Inputs.{Input, contents, text_at, TookOfOne, TookOfLast, UnlessAny}
-use Rattle.emtp_run.specs.Outcome.{Outcome, bad_card, usage, ran, record_of, trial_of, Ends, HasRun, IsComplete, IsUnopened}
+use Rattle.emtp_run.specs.Outcome.{Outcome, bad_card, bad_row, summarised, usage, ran, record_writes, trial_writes, Ends, HasRun, IsComplete, IsUnopened}
 use Rattle.emtp_run.specs.Reading.{deck}
 use Rattle.emtp_run.specs.TrialDeck.{trial_cards}
-use Rattle.emtp_run.specs.Words.{Task, Run, Trial, fits}
+use Rattle.emtp_run.specs.Words.{Task, Batch, Run, Trial, fits}
 use Rattle.emtp_run.specs.declared.status.Status.{Status}
-use Rattle.emtp_run.specs.declared.status.Status.TheVariants.{Done, Usage, BadCard, Ended, ReadFault, WriteFault, NoMemory}
+use Rattle.emtp_run.specs.declared.status.Status.TheVariants.{Done, Usage, BadCard, Ended, ReadFault, WriteFault, NoMemory, BadRow}
 
 -- ---- what is read
 
--- a file of cards; a byte past the limit is enough to refuse it
+-- a file of cards, or of a table of times; a byte past the limit is enough to refuse it
 abbrev pub text_file : List ℕ → Input
 text_file name = record { name = name; bound = MAX_BYTES + 1 }
 
@@ -24,11 +29,13 @@ text_file name = record { name = name; bound = MAX_BYTES + 1 }
 abbrev pub reads : Task → List Input
 reads (Run files) = text_file files.case ∷ []
 reads (Trial number) = []
+reads (Batch files) = text_file files.case ∷ text_file files.times ∷ []
 
 -- cards that no file holds
 abbrev pub own_texts : Task → List (List ℕ)
 own_texts (Run files) = []
 own_texts (Trial number) = trial_cards number ∷ []
+own_texts (Batch files) = []
 
 -- all that a command is about, the cards first; nothing where a file isn't there
 abbrev pub texts_for : Task → (List ℕ → Option (List ℕ)) → Option (List (List ℕ))
@@ -36,10 +43,16 @@ texts_for task files = option_map (λ texts. own_texts task ++ texts) (contents 
 
 -- ---- what it comes to
 
+-- of a table of switch times; each row's report is that of its altered case alone
+abbrev pub batch_outcome : Parts → Result (List Row) FaultyItem → Outcome
+batch_outcome case (Err faulty) = bad_row faulty.line faulty.item
+batch_outcome case (Ok rows) = summarised (batch_text (reports_of case rows))
+
 -- of a case that is accepted, with the texts of the command
 abbrev pub answer : Task → List (List ℕ) → Parts → Outcome
-answer (Run files) texts case = ran case (record_of files case (history case))
-answer (Trial number) texts case = ran case (trial_of number case (history case))
+answer (Run files) texts case = ran case (record_writes files case (history case))
+answer (Trial number) texts case = ran case (trial_writes number case (history case))
+answer (Batch files) texts case = batch_outcome case (times_table (text_at 1 texts) case)
 
 abbrev pub answer_by : Task → List (List ℕ) → Result Parts Bad → Outcome
 answer_by task texts (Err bad) = bad_card bad
@@ -59,10 +72,15 @@ outcome words files = outcome_for (fits words) files
 
 -- ---- which cases are run
 
+abbrev pub altered_in : Parts → Result (List Row) FaultyItem → List Parts
+altered_in case (Err faulty) = []
+altered_in case (Ok rows) = altered_cases case rows
+
 -- for a case that is accepted
 abbrev pub runs : Task → List (List ℕ) → Parts → List Parts
 runs (Run files) texts case = case ∷ []
 runs (Trial number) texts case = case ∷ []
+runs (Batch files) texts case = altered_in case (times_table (text_at 1 texts) case)
 
 abbrev pub runs_by : Task → List (List ℕ) → Result Parts Bad → List Parts
 runs_by task texts (Err bad) = []
@@ -79,7 +97,7 @@ abbrev pub cases_for : Option Task → (List ℕ → Option (List ℕ)) → List
 cases_for None files = []
 cases_for (Some task) files = cases_in task (texts_for task files)
 
--- the cases that are run: none where the words don't fit, a file isn't among these or a card is refused
+-- the cases that are run: none where the words don't fit, a file isn't among these, or a card or a row is refused
 abbrev pub cases_of : List (List ℕ) → (List ℕ → Option (List ℕ)) → List Parts
 cases_of words files = cases_for (fits words) files
 
@@ -105,15 +123,16 @@ TookSoFar Ended files inputs old new = TookOfLast files inputs old new
 TookSoFar ReadFault files inputs old new = TookOfOne files inputs old new
 TookSoFar WriteFault files inputs old new = TookOfLast files inputs old new
 TookSoFar NoMemory files inputs old new = TookOfOne files inputs old new
+TookSoFar BadRow files inputs old new = TookOfLast files inputs old new
 
-abbrev pub Takes : Option Task → Status → CabinetState → CabinetState → Type 0
-Takes None status old new = new.unread ≡ old.unread
-Takes (Some task) status old new = TookSoFar status old.nature.files (reads task) old.unread new.unread
+abbrev pub TakesWithin : Option Task → Status → CabinetState → CabinetState → Type 0
+TakesWithin None status old new = new.unread ≡ old.unread
+TakesWithin (Some task) status old new = TookSoFar status old.nature.files (reads task) old.unread new.unread
 
 -- what is promised of a call that asks for this, whatever it answers
 pub record IsAnswered (task : Option Task) (status : Status) (old new : CabinetState) : Type 0 where
   pub unopened : OpensNothing task status old new
-  pub taken : IsTrue old.nature.tells → Takes task status old new
+  pub taken : IsTrue old.nature.tells → TakesWithin task status old new
   pub runs : IsTrue old.nature.tells → HasRun status → HoldsOfRuns (cases_for task old.nature.files)
   pub ends : Ends status (outcome_for task old.nature.files) old new
   pub complete : IsTrue old.nature.tells → IfSome (outcome_for task old.nature.files) (IsComplete status old new)

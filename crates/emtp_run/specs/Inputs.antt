@@ -28,8 +28,8 @@ contents files [] = Some []
 contents files (input ∷ more) = and_content (content files input) (contents files more)
 
 -- the files are all there
-abbrev pub AreThere : (List ℕ → Option (List ℕ)) → List Input → Type 0
-AreThere files inputs = All (λ (input : Input). IsSome (files input.name)) inputs
+abbrev pub FilesAreThere : (List ℕ → Option (List ℕ)) → List Input → Type 0
+FilesAreThere files inputs = All (λ (input : Input). IsSome (files input.name)) inputs
 
 -- One of these files is open, and at most its bound was taken of it; or none of them was opened. What is unread was so
 -- before, and is so now.
@@ -59,7 +59,7 @@ pub record ReadsInputs {A : Type 0} (inputs : List Input) (old new : CabinetStat
   pub count : OnOk result (new.faults_in ≡ old.faults_in)
   pub taken : IsTrue old.nature.tells → TookOfOne old.nature.files inputs old.unread new.unread
   pub last : IsTrue old.nature.tells → OnOk result (TookOfLast old.nature.files inputs old.unread new.unread)
-  pub calm : IsTrue old.nature.tells → IsTrue old.nature.calm → AreThere old.nature.files inputs → IsErrOf result Failed → ⊥
+  pub calm : IsTrue old.nature.tells → IsTrue old.nature.calm → FilesAreThere old.nature.files inputs → IsErrOf result Failed → ⊥
 
 -- no call on a file was made
 pub record IsUntouched {A : Type 0} (old new : CabinetState) (result : Result A ReadEnd) : Type 0 where
@@ -67,11 +67,11 @@ pub record IsUntouched {A : Type 0} (old new : CabinetState) (result : Result A 
   pub inputs : new.faults_in ≡ old.faults_in
   pub read : IsErrOf result Failed → ⊥
 
-abbrev pub input_of : InputFile → Input
-input_of file = record { name = file.name.now; bound = file.bound }
+abbrev pub named_input : InputFile → Input
+named_input file = record { name = file.name.now; bound = file.bound }
 
-abbrev pub inputs_of : List InputFile → List Input
-inputs_of files = map input_of files
+abbrev pub named_inputs : List InputFile → List Input
+named_inputs files = map named_input files
 
 -- the bytes of texts
 abbrev pub texts_of : List (Vec ℕ Global) → List (List ℕ)

@@ -36,6 +36,10 @@ card_note bad =
     codes "BAD CARD LINE " ++ decimal bad.line ++ codes " COLUMN " ++ decimal bad.column
     ++ codes " REASON " ++ decimal (reason_number bad.why) ++ codes " " ++ reason_name bad.why ++ codes "\n"
 
+-- where a row of a table is refused
+unfoldable pub row_note : ℕ → ℕ → List ℕ
+row_note line item = codes "BAD ROW LINE " ++ decimal line ++ codes " ITEM " ++ decimal item ++ codes "\n"
+
 -- how many samples there are, and how many rows were redone
 abbrev pub counts_text : ℕ → ℕ → List ℕ
 counts_text samples redone = codes " SAMPLES " ++ decimal samples ++ codes " REDONE " ++ decimal redone

@@ -7,13 +7,13 @@ use Rattle.emtp_io.specs.Cabinet.{CabinetState, Rose}
 use Rattle.emtp_io.specs.Writes.{Written, with_all, IsCutShort, AllFit}
 use Rattle.emtp_io.specs.declared.cabinet.Output.TheVariants.{Cfg, Dat, Note, Summary}
 use Rattle.emtp_machine.specs.History.{History, history, samples}
-use Rattle.emtp_run.specs.Note.{usage_note, card_note}
+use Rattle.emtp_run.specs.Note.{usage_note, card_note, row_note}
 use Rattle.emtp_run.specs.Texts.{run_note, trial_text}
 use Rattle.emtp_run.specs.Words.{RunFiles, files_of}
 use Rattle.emtp_run.specs.declared.outputs.Product.{Product}
 use Rattle.emtp_run.specs.declared.outputs.Product.TheVariants.{Record as OfRecord, Trial as OfTrial}
 use Rattle.emtp_run.specs.declared.status.Status.{Status}
-use Rattle.emtp_run.specs.declared.status.Status.TheVariants.{Done, Usage, BadCard, Ended, ReadFault, WriteFault, NoMemory}
+use Rattle.emtp_run.specs.declared.status.Status.TheVariants.{Done, Usage, BadCard, Ended, ReadFault, WriteFault, NoMemory, BadRow}
 
 -- a status, and the outputs in the order in which they are made
 pub record Outcome : Type 0 where
@@ -34,6 +34,10 @@ usage = refusal Usage usage_note
 abbrev pub bad_card : Bad → Outcome
 bad_card bad = refusal BadCard (card_note bad)
 
+-- a row of a table was refused
+abbrev pub bad_row : ℕ → ℕ → Outcome
+bad_row line item = refusal BadRow (row_note line item)
+
 -- the status of a run that ended early or not
 abbrev pub status_of : {X : Type 0} → Option X → Status
 status_of None = Done
@@ -50,21 +54,25 @@ abbrev pub summary : List ℕ → Written
 summary text = record { out = Summary; name = []; bytes = text }
 
 -- the record and the note of a run, from the case's history
-abbrev pub record_of : RunFiles → Parts → History → List Written
-record_of files case h =
+abbrev pub record_writes : RunFiles → Parts → History → List Written
+record_writes files case h =
     cfg files.cfg case (samples case h) ∷ dat files.dat case (samples case h) ∷ note (run_note case h) ∷ []
 
 -- a trial leaves its summary alone
-abbrev pub trial_of : ℕ → Parts → History → List Written
-trial_of number case h = summary (trial_text number case h) ∷ []
+abbrev pub trial_writes : ℕ → Parts → History → List Written
+trial_writes number case h = summary (trial_text number case h) ∷ []
 
 -- the case was run to its end, with these outputs
 abbrev pub ran : Parts → List Written → Outcome
 ran case writes = record { status = status_of (history case).end; writes = writes }
 
+-- a tool that came to its end leaves its summary alone
+abbrev pub summarised : List ℕ → Outcome
+summarised text = record { status = Done; writes = summary text ∷ [] }
+
 abbrev pub writes_of : Product → Parts → History → List Written
-writes_of (OfRecord words) case h = record_of (files_of words) case h
-writes_of (OfTrial number) case h = trial_of number case h
+writes_of (OfRecord words) case h = record_writes (files_of words) case h
+writes_of (OfTrial number) case h = trial_writes number case h
 
 -- no file was opened, and so no failure of one is answered
 pub record IsUnopened (status : Status) (old new : CabinetState) : Type 0 where
@@ -81,6 +89,7 @@ LeavesNote Ended = ⊥
 LeavesNote ReadFault = ⊥
 LeavesNote WriteFault = ⊥
 LeavesNote NoMemory = ⊥
+LeavesNote BadRow = Unit {0}
 
 -- the run came to its end, by itself or early
 abbrev pub IsFinished : Status → Type 0
@@ -91,6 +100,7 @@ IsFinished Ended = Unit {0}
 IsFinished ReadFault = ⊥
 IsFinished WriteFault = ⊥
 IsFinished NoMemory = ⊥
+IsFinished BadRow = ⊥
 
 -- the case was run, whether or not all that it came to could be written
 abbrev pub HasRun : Status → Type 0
@@ -101,6 +111,7 @@ HasRun Ended = Unit {0}
 HasRun ReadFault = ⊥
 HasRun WriteFault = Unit {0}
 HasRun NoMemory = ⊥
+HasRun BadRow = ⊥
 
 -- all of it was made
 abbrev pub IsMade : Option Outcome → Status → CabinetState → CabinetState → Type 0
@@ -125,6 +136,7 @@ Settles Ended o old new = IsMade o Ended old new
 Settles ReadFault o old new = new.outputs ≡ old.outputs
 Settles WriteFault o old new = IsSomeAnd o (λ o. IsFinished o.status × IsCutShort old.outputs o.writes new.outputs)
 Settles NoMemory o old new = new.outputs ≡ old.outputs
+Settles BadRow o old new = IsNoted o BadRow old new
 
 -- what a status says of the counts of faults
 abbrev pub HasStatusCause : Status → CabinetState → CabinetState → Type 0
@@ -135,6 +147,7 @@ HasStatusCause Ended old new = (new.faults_in ≡ old.faults_in) × (new.faults_
 HasStatusCause ReadFault old new = Rose old.faults_in new.faults_in × (new.faults_out ≡ old.faults_out)
 HasStatusCause WriteFault old new = (new.faults_in ≡ old.faults_in) × Rose old.faults_out new.faults_out
 HasStatusCause NoMemory old new = (new.faults_in ≡ old.faults_in) × (new.faults_out ≡ old.faults_out)
+HasStatusCause BadRow old new = (new.faults_in ≡ old.faults_in) × (old.faults_out ≤ new.faults_out)
 
 -- the record of a run is as it was
 abbrev pub KeepsRecord : CabinetState → CabinetState → Type 0
@@ -149,6 +162,7 @@ Leaves Ended old new = Unit {0}
 Leaves ReadFault old new = new.outputs ≡ old.outputs
 Leaves WriteFault old new = Unit {0}
 Leaves NoMemory old new = new.outputs ≡ old.outputs
+Leaves BadRow old new = KeepsRecord old new
 
 -- neither count rose, and no failure is answered
 pub record IsCalmRun (status : Status) (old new : CabinetState) : Type 0 where

@@ -3,9 +3,10 @@ use Rattle.std.specs.Prelude.{ℕ, ◌+◌, ◌-◌, ◌*◌, List, [], ◌∷�
 use Rattle.std.specs.Char.{is_ascii_digit}
 use Rattle.std.specs.Str.{bytes_eq}
 use Rattle.std.specs.declared.alloc.Global.{Global}
+use Rattle.emtp_run.specs.declared.words.BatchWords.{BatchWords}
 use Rattle.emtp_run.specs.declared.words.RunWords.{RunWords}
 use Rattle.emtp_run.specs.declared.words.Words.{Words}
-use Rattle.emtp_run.specs.declared.words.Words.TheVariants.{Run as OfRun, Trial as OfTrial}
+use Rattle.emtp_run.specs.declared.words.Words.TheVariants.{Batch as OfBatch, Run as OfRun, Trial as OfTrial}
 
 abbrev pub texts : List (String Global) → List (List ℕ)
 texts words = map (λ word. string_bytes word) words
@@ -16,10 +17,17 @@ pub record RunFiles : Type 0 where
   pub cfg : List ℕ
   pub dat : List ℕ
 
--- what is asked for: the run of a case from its file, or of the trial case of a number
+-- the two files of `batch CASE TIMES`
+pub record BatchFiles : Type 0 where
+  pub case : List ℕ
+  pub times : List ℕ
+
+-- what is asked for: the run of a case from its file, or of the trial case of a number, or the runs of a case under each
+-- row of a table of switch times
 pub data Task : Type 0 where
   Run : RunFiles → Task
   Trial : ℕ → Task
+  Batch : BatchFiles → Task
 
 -- a word names a file where it isn't empty and doesn't begin with a dash
 abbrev pub is_name : List ℕ → Bool
@@ -50,13 +58,18 @@ trial_number (a ∷ b ∷ c ∷ d ∷ more) = None
 abbrev pub IsTask : Task → Type 0
 IsTask (Run files) = Unit {0}
 IsTask (Trial number) = (1 ≤ number) × (number ≤ 900)
+IsTask (Batch files) = Unit {0}
 
--- the words fit where they are `run` and the names of three different files, or `trial` and a number
+-- the words fit where they are `run` and the names of three different files, `trial` and a number, or `batch` and the names
+-- of two different files
 abbrev pub fits : List (List ℕ) → Option Task
 fits [] = None
 fits (command ∷ []) = None
 fits (command ∷ number ∷ []) = if bytes_eq command (codes "trial") then option_map Trial (trial_number number) else None
-fits (command ∷ case ∷ cfg ∷ []) = None
+fits (command ∷ case ∷ times ∷ []) =
+    if bytes_eq command (codes "batch") && is_name case && is_name times && not (bytes_eq case times)
+    then Some (Batch (record { case = case; times = times }))
+    else None
 fits (command ∷ case ∷ cfg ∷ dat ∷ []) =
     if bytes_eq command (codes "run") && is_name case && is_name cfg && is_name dat && differ case cfg dat
     then Some (Run (record { case = case; cfg = cfg; dat = dat }))
@@ -66,6 +79,10 @@ fits (command ∷ case ∷ cfg ∷ dat ∷ other ∷ more) = None
 abbrev pub files_of : RunWords → RunFiles
 files_of words = record { case = words.case.now; cfg = words.cfg.now; dat = words.dat.now }
 
+abbrev pub batch_files_of : BatchWords → BatchFiles
+batch_files_of words = record { case = words.case.now; times = words.times.now }
+
 abbrev pub task_of : Words → Task
 task_of (OfRun words) = Run (files_of words)
 task_of (OfTrial number) = Trial number
+task_of (OfBatch words) = Batch (batch_files_of words)

@@ -10,6 +10,7 @@
 //! ```
 #![tactic(auto)]
 
+mod batch;
 mod note;
 mod outputs;
 mod reading;
@@ -23,4 +24,4 @@ mod words;
 pub use run::emtp;
 pub use status::Status;
 pub use trial::trial_deck;
-pub use words::{RunWords, Words, read_words};
+pub use words::{BatchWords, RunWords, Words, read_words};

@@ -1,7 +1,7 @@
 //! The texts of the notes.
 ghost use Rattle.std.specs.Prelude.{◌≡◌, ◌+◌, ◌≤◌, ◌++◌, length};
 ghost use Rattle.emtp_machine.specs.End.{measured_text};
-ghost use Rattle.emtp_run.specs.Note.{usage_note, card_note, counts_text, done_text, ended_note, note_by, reason_name};
+ghost use Rattle.emtp_run.specs.Note.{usage_note, card_note, counts_text, done_text, ended_note, note_by, reason_name, row_note};
 
 use crate::text::{Text, push, push_number};
 use emtp_card::{Bad, Why};
@@ -31,6 +31,20 @@ pub fn bad_card(bad: &Bad) -> Text
     push_number(&mut note, bad.why.number());
     push(&mut note, b" ");
     push(&mut note, reason_name(&bad.why));
+    push(&mut note, b"\n");
+    note
+}
+
+/// The note of a refused row.
+#[tactic(auto, unfolding(crate::specs::Note::row_note))]
+pub fn bad_row(line: u32, item: u32) -> Text
+    ensures { result.items ≡ row_note line item }
+{
+    let mut note = Text::new();
+    push(&mut note, b"BAD ROW LINE ");
+    push_number(&mut note, line);
+    push(&mut note, b" ITEM ");
+    push_number(&mut note, item);
     push(&mut note, b"\n");
     note
 }

@@ -3,7 +3,7 @@ ghost use Rattle.std.specs.Prelude.{◌≡◌, ◌+◌, [], ◌∷◌, Some, len
 ghost use Rattle.emtp_comtrade.specs.Record.{AreMultipliers};
 ghost use Rattle.emtp_io.specs.Writes.{Makes};
 ghost use Rattle.emtp_machine.specs.History.{history, redone as redone_by, samples as samples_of};
-ghost use Rattle.emtp_run.specs.Outcome.{cfg, dat, note, record_of, refusal, summary, writes_of, Ends, LeavesNote};
+ghost use Rattle.emtp_run.specs.Outcome.{cfg, dat, note, record_writes, refusal, summarised, summary, writes_of, Ends, EndsAfterReading, LeavesNote};
 ghost use Rattle.emtp_run.specs.Words.{files_of};
 
 use crate::note;
@@ -90,7 +90,7 @@ fn make_record<C: Cabinet>(
     requires redone { redone ≡ redone_by case.now.parts (history case.now.parts) }
     requires end { end.now ≡ (history case.now.parts).end }
     ensures { Makes (C.state cabinet.old) (C.state cabinet.new)
-        (record_of (files_of words.entry) case.now.parts (history case.now.parts)) result }
+        (record_writes (files_of words.entry) case.now.parts (history case.now.parts)) result }
 {
     let multipliers = scales(case, samples);
     let text = note::of_run(end, steps, samples.count(), redone);
@@ -123,6 +123,16 @@ pub fn make_all<C: Cabinet>(
             let text = of_trial(number, end, steps, redone, samples);
             make_summary(cabinet, text.as_slice())
         }
+    }
+}
+
+/// Makes the summary of a tool that came to its end, and answers how the call ends.
+pub fn leave_summary<C: Cabinet>(cabinet: &mut C, text: &[u8]) -> Status
+    ensures { EndsAfterReading result (summarised text.now) (C.state cabinet.old) (C.state cabinet.new) }
+{
+    match make_summary(cabinet, text) {
+        Ok(()) => Status::Done,
+        Err(_) => Status::WriteFault,
     }
 }
 

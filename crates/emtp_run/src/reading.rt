@@ -2,7 +2,7 @@
 ghost use Rattle.std.specs.Prelude.{◌≡◌, ◌+◌, ◌≤◌, ◌∷◌, [], ◌++◌, length, Some, IsTrue, IfOk, IfErr, IsErrOf, OnOk};
 ghost use Rattle.emtp_io.specs.declared.whole.ReadEnd.{ReadEnd};
 ghost use Rattle.emtp_run.specs.Command.{own_texts, reads, texts_for};
-ghost use Rattle.emtp_run.specs.Inputs.{IsUntouched, ReadsInputs, UnlessAny, content, contents, input_of, inputs_of, texts_of};
+ghost use Rattle.emtp_run.specs.Inputs.{IsUntouched, ReadsInputs, UnlessAny, content, contents, named_input, named_inputs, texts_of};
 ghost use Rattle.emtp_run.specs.TrialDeck.{trial_cards};
 ghost use Rattle.emtp_run.specs.Words.{IsTask, task_of};
 
@@ -37,10 +37,14 @@ pub fn read_texts<C: Cabinet>(
     match words {
         Words::Run(words) => read_inputs(alloc, &[text_file(words.case)], cabinet),
         Words::Trial(number) => own_text(alloc, number),
+        Words::Batch(words) => {
+            let inputs = [text_file(words.case), text_file(words.times)];
+            read_inputs(alloc, &inputs, cabinet)
+        }
     }
 }
 
-/// A file of cards. A byte past the limit is enough to refuse it.
+/// A file of cards, or of a table of times. A byte past the limit is enough to refuse it.
 fn text_file<'a>(name: &'a str) -> InputFile<'a>
     ensures { result ≡ record { name = name.entry; bound = MAX_BYTES + 1 } }
 {
@@ -70,9 +74,9 @@ fn read_inputs<C: Cabinet>(
     inputs: &[InputFile<'_>],
     cabinet: &mut C,
 ) -> Result<Vec<Vec<u8>>, ReadEnd>
-    ensures reading { ReadsInputs (inputs_of inputs.now) (C.state cabinet.old) (C.state cabinet.new) result }
+    ensures reading { ReadsInputs (named_inputs inputs.now) (C.state cabinet.old) (C.state cabinet.new) result }
     ensures bytes { IsTrue (C.state cabinet.old).nature.tells →
-        IfOk result (λ v. contents (C.state cabinet.old).nature.files (inputs_of inputs.now) ≡ Some (texts_of v.items)) }
+        IfOk result (λ v. contents (C.state cabinet.old).nature.files (named_inputs inputs.now) ≡ Some (texts_of v.items)) }
     ensures count { IfOk result (λ v. length v.items ≡ length inputs.now) }
 {
     let mut texts = Vec::new(alloc);
@@ -89,9 +93,9 @@ fn read_input<C: Cabinet>(
     input: InputFile<'_>,
     cabinet: &mut C,
 ) -> Result<Vec<u8>, ReadEnd>
-    ensures reading { ReadsInputs (input_of input.entry ∷ []) (C.state cabinet.old) (C.state cabinet.new) result }
+    ensures reading { ReadsInputs (named_input input.entry ∷ []) (C.state cabinet.old) (C.state cabinet.new) result }
     ensures bytes { IsTrue (C.state cabinet.old).nature.tells →
-        IfOk result (λ v. content (C.state cabinet.old).nature.files (input_of input.entry) ≡ Some v.items) }
+        IfOk result (λ v. content (C.state cabinet.old).nature.files (named_input input.entry) ≡ Some v.items) }
 {
     cabinet.open(input.name)?;
     read_all(alloc, cabinet, input.bound)

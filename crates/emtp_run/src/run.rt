@@ -1,15 +1,16 @@
 //! The top call.
-ghost use Rattle.std.specs.Prelude.{◌≡◌, ◌≢◌, ◌↔◌, ◌+◌, ◌<◌, List, [], ◌∷◌, All, Some, None, Ok, Err, length, IsTrue, IfSome, IfOk, IfErr, ℕ};
+ghost use Rattle.std.specs.Prelude.{◌≡◌, ◌≢◌, ◌↔◌, ◌+◌, ◌<◌, [], ◌∷◌, All, Some, None, Ok, Err, length, IsTrue, IfSome, IfOk, IfErr};
 ghost use Rattle.emtp_deck.specs.Answer.{IfBad};
 ghost use Rattle.emtp_machine.specs.History.{history};
 ghost use Rattle.emtp_machine.specs.Laws.{EndsWithin, SamplesBalance};
 ghost use Rattle.emtp_machine.specs.Machine.{history_of};
-ghost use Rattle.emtp_run.specs.Command.{answer, cases_of, outcome, outcome_of, own_texts, reads, runs, runs_of, HoldsOfRuns, IsAnswered, OpensNothing, Takes};
+ghost use Rattle.emtp_run.specs.Command.{answer, cases_of, outcome, outcome_of, own_texts, reads, runs, runs_of, HoldsOfRuns, IsAnswered, OpensNothing, TakesWithin};
 ghost use Rattle.emtp_run.specs.Inputs.{texts_of};
 ghost use Rattle.emtp_run.specs.Outcome.{ran, status_of, writes_of, EndsAfterReading, HasRoomFor, HasRun, HasStatusCause, IsCalmRun, IsComplete, Leaves, Settles};
 ghost use Rattle.emtp_run.specs.Reading.{deck};
 ghost use Rattle.emtp_run.specs.Words.{fits, task_of, texts, IsTask};
 
+use crate::batch::run_table;
 use crate::note;
 use crate::outputs::{Product, make_all, refuse};
 use crate::reading::read_texts;
@@ -24,7 +25,8 @@ use std::alloc::Global;
 
 /// Does what the words after the program's name ask for: `run CASE CFG DAT` reads the cards of a case, steps it by
 /// Dommel's method (1969), and makes the record (IEEE C37.111-1999) and a note; `trial N` runs the trial case with N
-/// sections and makes its summary. All files that a command reads are read before any of them is judged.
+/// sections and makes its summary; `batch CASE TIMES` runs a case under each row of a table of switch times and makes the
+/// summary of all rows. All files that a command reads are read before any of them is judged.
 ///
 /// Each status says how the outputs stand. The status of a refusal stays where its note can't be written.
 pub fn emtp<C: Cabinet>(alloc: Global, words: &[String], cabinet: &mut C) -> Status
@@ -42,7 +44,7 @@ pub fn emtp<C: Cabinet>(alloc: Global, words: &[String], cabinet: &mut C) -> Sta
         (C.state cabinet.old) (C.state cabinet.new) }
     // Of a file at most its bound is taken, also where a call fails.
     ensures taken { IsTrue (C.state cabinet.old).nature.tells →
-        Takes (fits (texts words.now)) result (C.state cabinet.old) (C.state cabinet.new) }
+        TakesWithin (fits (texts words.now)) result (C.state cabinet.old) (C.state cabinet.new) }
     // Each sample of a run is that of a record in which the currents at each node or group balance.
     ensures residual { IsTrue (C.state cabinet.old).nature.tells → HasRun result →
         All SamplesBalance (cases_of (texts words.now) (C.state cabinet.old).nature.files) }
@@ -75,12 +77,7 @@ fn answer<C: Cabinet>(alloc: Global, words: Words<'_>, cabinet: &mut C) -> Statu
 }
 
 /// Judges the cards, and goes on with the case that they give.
-fn judge<C: Cabinet>(
-    alloc: Global,
-    words: Words<'_>,
-    texts: &[Vec<u8>],
-    cabinet: &mut C,
-) -> Status
+fn judge<C: Cabinet>(alloc: Global, words: Words<'_>, texts: &[Vec<u8>], cabinet: &mut C) -> Status
     requires { length texts.now ≡ length (own_texts (task_of words)) + length (reads (task_of words)) }
     ensures runs { HasRun result → HoldsOfRuns (runs_of (task_of words.entry) (texts_of texts.now)) }
     ensures ends { EndsAfterReading result (outcome_of (task_of words.entry) (texts_of texts.now))
@@ -88,7 +85,8 @@ fn judge<C: Cabinet>(
 {
     match read_cards(alloc, &texts[0]) {
         Ok(case) => {
-            let status = work(alloc, words, &case, cabinet);
+            let mut case = case;
+            let status = work(alloc, words, &mut case, texts, cabinet);
             // A call, since a drop in place is proved here list by list.
             drop(case);
             status
@@ -99,14 +97,22 @@ fn judge<C: Cabinet>(
 }
 
 /// Does with an accepted case what the words ask for.
-fn work<C: Cabinet>(alloc: Global, words: Words<'_>, case: &Case, cabinet: &mut C) -> Status
-    ensures runs { (texts : List (List ℕ)) → HasRun result → HoldsOfRuns (runs (task_of words.entry) texts case.now.parts) }
-    ensures ends { (texts : List (List ℕ)) → EndsAfterReading result (answer (task_of words.entry) texts case.now.parts)
+fn work<C: Cabinet>(
+    alloc: Global,
+    words: Words<'_>,
+    case: &mut Case,
+    texts: &[Vec<u8>],
+    cabinet: &mut C,
+) -> Status
+    requires { length texts.now ≡ length (own_texts (task_of words)) + length (reads (task_of words)) }
+    ensures runs { HasRun result → HoldsOfRuns (runs (task_of words.entry) (texts_of texts.now) case.old.parts) }
+    ensures ends { EndsAfterReading result (answer (task_of words.entry) (texts_of texts.now) case.old.parts)
         (C.state cabinet.old) (C.state cabinet.new) }
 {
     match words {
         Words::Run(words) => run_case(alloc, Product::Record(words), case, cabinet),
         Words::Trial(number) => run_case(alloc, Product::Trial(number), case, cabinet),
+        Words::Batch(_) => run_table(alloc, case, &texts[1], cabinet),
     }
 }
 
@@ -120,12 +126,7 @@ fn read_cards(alloc: Global, bytes: &[u8]) -> Result<Case, Refused>
 }
 
 /// Runs the case, and makes what it is to leave.
-fn run_case<C: Cabinet>(
-    alloc: Global,
-    product: Product<'_>,
-    case: &Case,
-    cabinet: &mut C,
-) -> Status
+fn run_case<C: Cabinet>(alloc: Global, product: Product<'_>, case: &Case, cabinet: &mut C) -> Status
     ensures runs { HasRun result → HoldsOfRuns (case.now.parts ∷ []) }
     ensures ends { EndsAfterReading result (ran case.now.parts (writes_of product.entry case.now.parts (history case.now.parts)))
         (C.state cabinet.old) (C.state cabinet.new) }

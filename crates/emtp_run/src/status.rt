@@ -3,7 +3,7 @@
 /// How a call of the program ends, with the number that it exits with.
 #[derive(Clone, Copy, Debug, PartialEq, Eq)]
 pub enum Status {
-    /// The run came to its last step; its record and note are whole.
+    /// The run came to its last step, or the tool to its end; all that it makes is whole.
     Done = 0,
     /// The words don't fit.
     Usage = 1,
@@ -11,11 +11,13 @@ pub enum Status {
     BadCard = 2,
     /// The run ended early, and the note names step, cause and node. The record holds the samples before.
     Ended = 3,
-    /// The case couldn't be opened or read, and nothing was created.
+    /// A file couldn't be opened or read, and nothing was created.
     ReadFault = 4,
     /// An output couldn't be created or written. It wasn't created, or holds the first of its bytes; those before it are
     /// whole, and those after it weren't created.
     WriteFault = 5,
     /// There was not enough memory, and nothing was created.
     NoMemory = 6,
+    /// A row of a table of switch times is refused, and the note names its line and item.
+    BadRow = 9,
 }

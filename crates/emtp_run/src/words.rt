@@ -14,6 +14,15 @@ pub struct RunWords<'a> {
     pub dat: &'a str,
 }
 
+/// The two files of `batch CASE TIMES`, by their names. Both are read.
+#[derive(Clone, Copy)]
+pub struct BatchWords<'a> {
+    /// The data cards.
+    pub case: &'a str,
+    /// The table of switch times.
+    pub times: &'a str,
+}
+
 /// What the words ask for.
 #[derive(Clone, Copy)]
 pub enum Words<'a> {
@@ -21,6 +30,8 @@ pub enum Words<'a> {
     Run(RunWords<'a>),
     /// The run of the trial case of a number, from 1 to 900.
     Trial(u32),
+    /// The runs of a case under each row of a table of switch times.
+    Batch(BatchWords<'a>),
 }
 
 /// What the words after the program's name ask for, where they fit. It takes no memory.
@@ -32,7 +43,7 @@ pub fn read_words(words: &[String]) -> Option<Words<'_>>
         [] => None,
         [_] => None,
         [command, number] => trial_words(command.as_str(), number.as_str()),
-        [_, _, _] => None,
+        [command, case, times] => batch_words(command.as_str(), case.as_str(), times.as_str()),
         [command, case, cfg, dat] => run_words(
             command.as_str(),
             case.as_str(),
@@ -50,6 +61,18 @@ fn run_words<'a>(command: &str, case: &'a str, cfg: &'a str, dat: &'a str) -> Op
 {
     if command == "run" && is_name(case) && is_name(cfg) && is_name(dat) && differ(case, cfg, dat) {
         Some(Words::Run(RunWords { case, cfg, dat }))
+    } else {
+        None
+    }
+}
+
+/// What `batch CASE TIMES` names.
+fn batch_words<'a>(command: &str, case: &'a str, times: &'a str) -> Option<Words<'a>>
+    ensures value { option_map (λ w. task_of w) result ≡ fits (command.now ∷ case.entry.now ∷ times.entry.now ∷ []) }
+    ensures task { IfSome result (λ w. IsTask (task_of w)) }
+{
+    if command == "batch" && is_name(case) && is_name(times) && case != times {
+        Some(Words::Batch(BatchWords { case, times }))
     } else {
         None
     }

@@ -1,5 +1,5 @@
 //! Whole calls over a cabinet in memory, in which each call of each kind fails in turn.
-ghost use Rattle.std.specs.Prelude.{◌≡◌, ◌<◌, ◌≤◌, length, IfOk};
+ghost use Rattle.std.specs.Prelude.{◌≡◌, ◌≢◌, ◌<◌, ◌≤◌, AllPairs, IfOk, string_bytes};
 
 use crate::words::owned;
 use emtp_io::{Failing, MemoryCabinet, Op, Output};
@@ -82,7 +82,38 @@ const REFUSED: &str = "BAD CARD LINE 1 COLUMN 1 REASON 16 MissingSection\n";
 const TRIAL: &str =
     "TRIAL 1 STEPS 2000 SAMPLES 101 REDONE 4 PEAK 145543352911428 SUM 1189507906597277\n";
 
+/// A switch that opens at a zero of its current, between a step and a ramp, for five steps.
+const BREAKER: &str = concat!(
+    "BEGIN NEW DATA CASE\n",
+    "   1.E-4   5.E-4\n",
+    "       1       1\n",
+    "  S1    A                     1.\n",
+    "  B     S2                    1.\n",
+    "BLANK\n",
+    "  A     B            -1.     2.E-4                                             1\n",
+    "BLANK\n",
+    "11S1            250.\n",
+    "12S2            600.               6.E-4\n",
+    "BLANK\n",
+    "BLANK\n",
+);
+
+/// The times of its card, the switch that never opens, and the one that stays open.
+const TIMES: &str = "-1. 2.E-4\n* -\n1. -\n";
+
+const PEAKS: &str = concat!(
+    "ROW 1 DONE PEAKS 75\n",
+    "ROW 2 DONE PEAKS 125\n",
+    "ROW 3 DONE PEAKS 0\n",
+    "MAX 1 125 ROW 2\n",
+);
+
+/// The note on a table of no bytes.
+const NO_ROW: &str = "BAD ROW LINE 1 ITEM 1\n";
+
 const RUN: &[&str] = &["run", "a.case", "a.cfg", "a.dat"];
+
+const BATCH: &[&str] = &["batch", "a.case", "a.times"];
 
 /// The outputs in the order in which they are made.
 const OUTPUTS: [Output; 4] = [Output::Cfg, Output::Dat, Output::Note, Output::Summary];
@@ -91,9 +122,9 @@ const OUTPUTS: [Output; 4] = [Output::Cfg, Output::Dat, Output::Note, Output::Su
 #[derive(Clone, Copy)]
 struct Row {
     words: &'static [&'static str],
-    /// The bytes of the file `a.case`, and whether it is read.
-    case: &'static str,
-    is_read: bool,
+    /// The bytes of the files `a.case` and `a.times`, and how many of these two are read.
+    texts: [&'static str; 2],
+    read: usize,
     status: Status,
     /// The status where an output can't be made.
     cut: Status,
@@ -108,29 +139,38 @@ struct Progress {
     bytes: usize,
 }
 
-/// The one file `a.case`, in a cabinet that moves at most `piece` bytes a call, and whose nth call of this kind fails.
+/// The files `a.case` and `a.times`, in a cabinet that moves at most `piece` bytes a call, and whose nth call of this kind fails.
 fn failing(
     alloc: Global,
-    case: &str,
+    texts: &[&str; 2],
     piece: usize,
     op: Op,
     nth: u32,
 ) -> Result<MemoryCabinet, AllocError>
     requires { 0 < piece }
 {
-    let files = one_file(alloc, case)?;
+    let files = two_files(alloc, texts)?;
     let fails = Vec::from_slice(alloc, &[Failing { op, nth }])?;
     MemoryCabinet::new(alloc, files, fails, piece, 4096)
 }
 
-fn one_file(alloc: Global, case: &str) -> Result<Vec<(String, Vec<u8>)>, AllocError>
-    ensures { IfOk result (λ files. length files.items ≡ 1) }
+fn two_files(alloc: Global, texts: &[&str; 2]) -> Result<Vec<(String, Vec<u8>)>, AllocError>
+    ensures { IfOk result (λ files. AllPairs (λ a b. string_bytes a.0 ≢ string_bytes b.0) files.items) }
 {
-    let name = String::from_str(alloc, "a.case")?;
-    let bytes = Vec::from_slice(alloc, case.as_bytes())?;
+    let case = file(alloc, "a.case", texts[0])?;
+    let times = file(alloc, "a.times", texts[1])?;
     let mut files = Vec::new(alloc);
-    files.push((name, bytes))?;
+    files.push(case)?;
+    files.push(times)?;
     Ok(files)
+}
+
+fn file(alloc: Global, name: &str, text: &str) -> Result<(String, Vec<u8>), AllocError>
+    ensures { IfOk result (λ file. string_bytes file.0 ≡ name.now) }
+{
+    let name = String::from_str(alloc, name)?;
+    let bytes = Vec::from_slice(alloc, text.as_bytes())?;
+    Ok((name, bytes))
 }
 
 fn call(alloc: Global, words: &[&str], cabinet: &mut MemoryCabinet) -> Result<Status, AllocError> {
@@ -193,7 +233,7 @@ fn nth_failed(
 ) -> Result<Option<(Status, Progress)>, AllocError>
     requires { 0 < piece }
 {
-    let mut cabinet = failing(alloc, row.case, piece, op, nth)?;
+    let mut cabinet = failing(alloc, &row.texts, piece, op, nth)?;
     let status = call(alloc, row.words, &mut cabinet);
     let made = made_so_far(&cabinet, row.made);
     drop(cabinet);
@@ -259,20 +299,21 @@ fn failed_in_turn(
     Ok(None)
 }
 
-/// A run to its end, one with an early end, a refused card, words that don't fit, and a trial.
+/// A run to its end, one with an early end, a refused card, words that don't fit, a trial; a batch, a refused row, and a
+/// refused card beside a table.
 const ROWS: &[Row] = &[
     Row {
         words: RUN,
-        case: DIVIDER,
-        is_read: true,
+        texts: [DIVIDER, ""],
+        read: 1,
         status: Status::Done,
         cut: Status::WriteFault,
         made: &[Some(CFG), Some(DAT), Some(NOTE), None],
     },
     Row {
         words: RUN,
-        case: UNBOUND,
-        is_read: true,
+        texts: [UNBOUND, ""],
+        read: 1,
         status: Status::Ended,
         cut: Status::WriteFault,
         made: &[
@@ -284,46 +325,77 @@ const ROWS: &[Row] = &[
     },
     Row {
         words: RUN,
-        case: "",
-        is_read: true,
+        texts: ["", ""],
+        read: 1,
         status: Status::BadCard,
         cut: Status::BadCard,
         made: &[None, None, Some(REFUSED), None],
     },
     Row {
         words: &["run", "a.case", "a.dat", "a.dat"],
-        case: DIVIDER,
-        is_read: false,
+        texts: [DIVIDER, ""],
+        read: 0,
         status: Status::Usage,
         cut: Status::Usage,
         made: &[None, None, Some("USAGE\n"), None],
     },
     Row {
         words: &["trial", "1"],
-        case: DIVIDER,
-        is_read: false,
+        texts: [DIVIDER, ""],
+        read: 0,
         status: Status::Done,
         cut: Status::WriteFault,
         made: &[None, None, None, Some(TRIAL)],
     },
+    Row {
+        words: BATCH,
+        texts: [BREAKER, TIMES],
+        read: 2,
+        status: Status::Done,
+        cut: Status::WriteFault,
+        made: &[None, None, None, Some(PEAKS)],
+    },
+    Row {
+        words: BATCH,
+        texts: [BREAKER, ""],
+        read: 2,
+        status: Status::BadRow,
+        cut: Status::BadRow,
+        made: &[None, None, Some(NO_ROW), None],
+    },
+    Row {
+        words: BATCH,
+        texts: ["", TIMES],
+        read: 2,
+        status: Status::BadCard,
+        cut: Status::BadCard,
+        made: &[None, None, Some(REFUSED), None],
+    },
 ];
 
-/// Whether each call of a row has failed in turn as promised: one opening, a read for each piece of the file and one
-/// that finds its end, a creation for each output, and at least a write for each piece of what is made.
+/// How many reads it takes to find the ends of the files that a row reads: one for each piece, and one that finds the end.
+fn reads_of(row: &Row, piece: usize) -> usize
+    requires { 0 < piece }
+{
+    let mut reads = 0usize;
+    for text in row.texts.iter().take(row.read) {
+        reads = reads
+            .saturating_add(text.len().div_ceil(piece))
+            .saturating_add(1);
+    }
+    reads
+}
+
+/// Whether each call of a row has failed in turn as promised: one opening for each file that is read, the reads to their
+/// ends, a creation for each output, and at least a write for each piece of what is made.
 fn all_failed_in_turn(alloc: Global, row: &Row, piece: usize) -> Result<bool, AllocError>
     requires { 0 < piece }
 {
-    let files = if row.is_read { 1 } else { 0 };
-    let reads = if row.is_read {
-        row.case.len().div_ceil(piece).saturating_add(1)
-    } else {
-        0
-    };
     let outputs = count_of(row.made);
     let writes = bytes_of(row.made, 4).div_ceil(piece);
     Ok(
-        failed_in_turn(alloc, row, piece, Op::Open)? == Some(files)
-            && failed_in_turn(alloc, row, piece, Op::Read)? == Some(reads)
+        failed_in_turn(alloc, row, piece, Op::Open)? == Some(row.read)
+            && failed_in_turn(alloc, row, piece, Op::Read)? == Some(reads_of(row, piece))
             && failed_in_turn(alloc, row, piece, Op::Create)? == Some(outputs)
             && failed_in_turn(alloc, row, piece, Op::Write)?.unwrap_or(0) >= writes,
     )
@@ -352,7 +424,7 @@ fn names_outputs(alloc: Global, cabinet: &mut MemoryCabinet) -> Result<bool, All
 
 #[test]
 fn names_its_outputs_by_the_words(rt: HostRuntime) -> Result<(), Fail> {
-    let mut cabinet = failing(rt.alloc(), DIVIDER, 4096, Op::Write, 1000)?;
+    let mut cabinet = failing(rt.alloc(), &[DIVIDER, ""], 4096, Op::Write, 1000)?;
     let is_named = names_outputs(rt.alloc(), &mut cabinet);
     drop(cabinet);
     assert!(rt; is_named?);

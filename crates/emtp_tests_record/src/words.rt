@@ -5,13 +5,27 @@ use emtp_run::{Words, read_words, trial_deck};
 use std::alloc::{AllocError, Global};
 use std::test::Fail;
 
-/// The command line as clap sees it: `run CASE CFG DAT` or `trial N`, each word required.
+/// The command line as clap sees it: `run CASE CFG DAT`, `trial N` or `batch CASE TIMES`, each word required.
 fn command<'a>(alloc: Global) -> Result<Command<'a>, Error> {
     let trial = Command::new(alloc, "trial").arg(required(alloc, "N"))?;
-    match with_run(alloc) {
+    match with_files(alloc) {
         Ok(command) => Ok(command.subcommand(trial)?),
         Err(error) => {
             drop(trial);
+            Err(error)
+        }
+    }
+}
+
+/// The commands that name files.
+fn with_files<'a>(alloc: Global) -> Result<Command<'a>, Error> {
+    let batch = Command::new(alloc, "batch")
+        .arg(required(alloc, "CASE"))?
+        .arg(required(alloc, "TIMES"))?;
+    match with_run(alloc) {
+        Ok(command) => Ok(command.subcommand(batch)?),
+        Err(error) => {
+            drop(batch);
             Err(error)
         }
     }
@@ -50,16 +64,19 @@ fn files_are_alike(matches: &ArgMatches, words: &[String]) -> bool {
                 && run.get_str("CFG") == Some(files.cfg)
                 && run.get_str("DAT") == Some(files.dat)
         }
+        (Some((name, batch)), Some(Words::Batch(files))) => {
+            name == "batch"
+                && batch.get_str("CASE") == Some(files.case)
+                && batch.get_str("TIMES") == Some(files.times)
+        }
         _ => false,
     }
 }
 
-#[test]
-fn finds_the_files_that_clap_finds(rt: HostRuntime) -> Result<(), Fail> {
-    let alloc = rt.alloc();
-    let words = ["emtp", "run", "a.case", "a.cfg", "a.dat"];
-    let matches = command(alloc)?.try_get_matches_from(&words)?;
-    let alike = match owned(alloc, &words[1..]) {
+/// Whether clap, of a command line, and the program, of the words after its name, find the same files.
+fn finds_alike(alloc: Global, line: &[&str], words: &[&str]) -> Result<bool, Error> {
+    let matches = command(alloc)?.try_get_matches_from(line)?;
+    let alike = match owned(alloc, words) {
         Ok(own) => {
             let alike = files_are_alike(&matches, &own);
             drop(own);
@@ -68,7 +85,16 @@ fn finds_the_files_that_clap_finds(rt: HostRuntime) -> Result<(), Fail> {
         Err(_) => false,
     };
     drop(matches);
-    assert!(rt; alike);
+    Ok(alike)
+}
+
+#[test]
+fn finds_the_files_that_clap_finds(rt: HostRuntime) -> Result<(), Fail> {
+    let alloc = rt.alloc();
+    let run = ["emtp", "run", "a.case", "a.cfg", "a.dat"];
+    let batch = ["emtp", "batch", "a.case", "a.times"];
+    assert!(rt; finds_alike(alloc, &run, &run[1..])?);
+    assert!(rt; finds_alike(alloc, &batch, &batch[1..])?);
     Ok(())
 }
 
@@ -110,6 +136,7 @@ fn refused(alloc: Global, line: &[&str], words: &[&str]) -> Result<bool, Error> 
 fn refuses_words_as_clap_does(rt: HostRuntime) -> Result<(), Fail> {
     let alloc = rt.alloc();
     assert!(rt; refused(alloc, &["emtp", "run", "A", "B"], &["run", "A", "B"])?);
+    assert!(rt; refused(alloc, &["emtp", "batch", "A"], &["batch", "A"])?);
     assert!(rt; refused(alloc, &["emtp"], &[])?);
     Ok(())
 }

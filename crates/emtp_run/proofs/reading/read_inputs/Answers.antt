@@ -27,7 +27,7 @@ returns-in_err-put-clause-reading g c =
     reads-wanting c.args.inputs.now (c.loop-input.input-index + 1) (g.C.Cabinet.state c.args.cabinet.now) (g.C.Cabinet.state c.read_input.new.cabinet) c.in_err-put.field-0.0 c.from_residual-in_err-put.result
     c.in_err-put.ensures.err c.from_residual-in_err-put.ensures.1
     (reads-more c.args.inputs.now c.loop-input.input-index _ (g.C.Cabinet.state c.args.cabinet.now) (g.C.Cabinet.state c.loop-input.cabinet) (g.C.Cabinet.state c.read_input.new.cabinet) c.in_ok-text.text
-      c.loop-input-test.true c.loop-input.invariant.reading c.in_ok-text.ensures.reading)
+    c.loop-input-test.true c.loop-input.invariant.reading c.in_ok-text.ensures.reading)
 
 pub returns-clause-reading : goal.returns-clause-reading
 returns-clause-reading g c =

@@ -1,5 +1,5 @@
 use Rattle.std.proofs.Common.{◌≡◌, take, length, Some, true, Ok}
-use Rattle.emtp_run.specs.Inputs.{ReadsInputs, contents, inputs_of, texts_of}
+use Rattle.emtp_run.specs.Inputs.{ReadsInputs, contents, named_inputs, texts_of}
 use Rattle.emtp_run.proofs.reading.read_inputs.Given as goal
 
 -- the first files were read, and these are their texts
@@ -8,7 +8,7 @@ invariant-loop-input g l =
     let old = g.C.Cabinet.state l.initial.cabinet in
     let now = g.C.Cabinet.state l.cabinet in
     record {
-      reading : ReadsInputs {A = Unit {0}} (inputs_of (take l.input-index l.inputs)) old now (Ok tt);
+      reading : ReadsInputs {A = Unit {0}} (named_inputs (take l.input-index l.inputs)) old now (Ok tt);
       count : length l.texts.items ≡ l.input-index;
-      texts : old.nature.tells ≡ true → contents old.nature.files (inputs_of (take l.input-index l.inputs)) ≡ Some (texts_of l.texts.items);
+      texts : old.nature.tells ≡ true → contents old.nature.files (named_inputs (take l.input-index l.inputs)) ≡ Some (texts_of l.texts.items);
     }
