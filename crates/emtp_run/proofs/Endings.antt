@@ -5,7 +5,7 @@ use Rattle.emtp_io.specs.Writes.{Written, Makes}
 use Rattle.emtp_io.specs.declared.cabinet.Output.TheVariants.{Cfg, Dat}
 use Rattle.emtp_run.specs.Outcome.{Outcome, note, refusal, Ends, HasStatusCause, IsComplete, IsNoted, IsWholeOrCut, KeepsRecord, Leaves, LeavesNote, Settles}
 use Rattle.emtp_run.specs.declared.status.Status.{Status}
-use Rattle.emtp_run.specs.declared.status.Status.TheVariants.{Done, Usage, BadCard, Ended, ReadFault, WriteFault, NoMemory, BadRow}
+use Rattle.emtp_run.specs.declared.status.Status.TheVariants.{Done, Usage, BadCard, Ended, ReadFault, WriteFault, NoMemory, Differs, BadRow}
 
 whole_or_cut : {T E : Type 0} {old new : CabinetState} {writes : List Written} (result : Result T E)
     → Makes old new writes result → IsTrue old.nature.tells → IsWholeOrCut writes old new
@@ -31,6 +31,7 @@ noted_cause Ended old new is same later = elim is [ ]
 noted_cause ReadFault old new is same later = elim is [ ]
 noted_cause WriteFault old new is same later = elim is [ ]
 noted_cause NoMemory old new is same later = elim is [ ]
+noted_cause Differs old new is same later = (same, later)
 noted_cause BadRow old new is same later = (same, later)
 
 noted_leaves : (status : Status) (old new : CabinetState) → LeavesNote status → KeepsRecord old new → Leaves status old new
@@ -41,6 +42,7 @@ noted_leaves Ended old new is keeps = elim is [ ]
 noted_leaves ReadFault old new is keeps = elim is [ ]
 noted_leaves WriteFault old new is keeps = elim is [ ]
 noted_leaves NoMemory old new is keeps = elim is [ ]
+noted_leaves Differs old new is keeps = keeps
 noted_leaves BadRow old new is keeps = keeps
 
 noted_settles : (status : Status) (o : Option Outcome) (old new : CabinetState) → LeavesNote status → IsNoted o status old new → Settles status o old new
@@ -51,6 +53,7 @@ noted_settles Ended o old new is noted = elim is [ ]
 noted_settles ReadFault o old new is noted = elim is [ ]
 noted_settles WriteFault o old new is noted = elim is [ ]
 noted_settles NoMemory o old new is noted = elim is [ ]
+noted_settles Differs o old new is noted = noted
 noted_settles BadRow o old new is noted = noted
 
 not_a_fault : (status : Status) → LeavesNote status → (status ≢ ReadFault) × (status ≢ WriteFault)
@@ -61,6 +64,7 @@ not_a_fault Ended is = elim is [ ]
 not_a_fault ReadFault is = elim is [ ]
 not_a_fault WriteFault is = elim is [ ]
 not_a_fault NoMemory is = elim is [ ]
+not_a_fault Differs is = ((λ same. cc), (λ same. cc))
 not_a_fault BadRow is = ((λ same. cc), (λ same. cc))
 
 -- the note of a refusal was made, or it is cut short
@@ -93,6 +97,7 @@ complete_by old new Ended o ends tells = let is = ends.outcome tells in inr (inr
 complete_by old new ReadFault o ends tells = inl ends.cause.0
 complete_by old new WriteFault o ends tells = inr (inl ends.cause.1)
 complete_by old new NoMemory o ends tells = inr (inr (inr (refl, ends.outcome tells)))
+complete_by old new Differs o ends tells = let is = ends.outcome tells in noted old new Differs o is.0 is.1
 complete_by old new BadRow o ends tells = let is = ends.outcome tells in noted old new BadRow o is.0 is.1
 
 pub ends-complete : (old new : CabinetState) (status : Status) (o : Option Outcome) → Ends status o old new → IsTrue old.nature.tells → IfSome o (IsComplete status old new)

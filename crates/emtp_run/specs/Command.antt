@@ -1,5 +1,8 @@
 -- The table of commands: which files each reads, and what it comes to by what they hold.
-use Rattle.std.specs.Prelude.{◌≡◌, ℕ, ◌+◌, List, [], ◌∷◌, ◌++◌, Option, Some, None, option_map, Result, Ok, Err, IfSome, IsTrue, All}
+use Rattle.std.specs.Prelude.{◌≡◌, ℕ, ◌+◌, length, List, [], ◌∷◌, ◌++◌, Option, Some, None, option_map, Result, Ok, Err, IfSome, IsTrue, All}
+use Rattle.emtp_audit.specs.Audit.{audit_differs}
+use Rattle.emtp_audit.specs.Note.{differs_note, same_text}
+use Rattle.emtp_audit.specs.declared.differs.Differs.{Differs as Difference}
 use Rattle.emtp_batch.specs.Altered.{altered_cases}
 use Rattle.emtp_batch.specs.Report.{reports_of}
 use Rattle.emtp_batch.specs.Summary.{batch_text}
@@ -9,15 +12,16 @@ use Rattle.emtp_card.specs.declared.cards.TheConstants.{MAX_BYTES}
 use Rattle.emtp_card.specs.declared.reason.Bad.{Bad}
 use Rattle.emtp_case.specs.declared.case.Parts.{Parts}
 use Rattle.emtp_io.specs.Cabinet.{CabinetState}
-use Rattle.emtp_machine.specs.History.{history}
+use Rattle.emtp_machine.specs.History.{history, samples}
 use Rattle.emtp_machine.specs.Laws.{EndsWithin, SamplesBalance}
 use Rattle.emtp_run.specs.Inputs.{Input, contents, text_at, TookOfOne, TookOfLast, UnlessAny}
-use Rattle.emtp_run.specs.Outcome.{Outcome, bad_card, bad_row, summarised, usage, ran, record_writes, trial_writes, Ends, HasRun, IsComplete, IsUnopened}
+use Rattle.emtp_run.specs.Outcome.{Outcome, bad_card, bad_row, refusal, summarised, usage, ran, record_writes, trial_writes, Ends, HasRun, IsComplete, IsUnopened}
 use Rattle.emtp_run.specs.Reading.{deck}
 use Rattle.emtp_run.specs.TrialDeck.{trial_cards}
-use Rattle.emtp_run.specs.Words.{Task, Batch, Run, Trial, fits}
+use Rattle.emtp_run.specs.Words.{Task, Audit, Batch, Run, Trial, fits}
+use Rattle.emtp_run.specs.declared.reading.TheConstants.{RECORD_BOUND}
 use Rattle.emtp_run.specs.declared.status.Status.{Status}
-use Rattle.emtp_run.specs.declared.status.Status.TheVariants.{Done, Usage, BadCard, Ended, ReadFault, WriteFault, NoMemory, BadRow}
+use Rattle.emtp_run.specs.declared.status.Status.TheVariants.{Done, Usage, BadCard, Ended, ReadFault, WriteFault, NoMemory, Differs, BadRow}
 
 -- ---- what is read
 
@@ -25,17 +29,23 @@ use Rattle.emtp_run.specs.declared.status.Status.TheVariants.{Done, Usage, BadCa
 abbrev pub text_file : List ℕ → Input
 text_file name = record { name = name; bound = MAX_BYTES + 1 }
 
+-- a file of a record; a byte past an audit's limit is enough to refuse it
+abbrev pub record_file : List ℕ → Input
+record_file name = record { name = name; bound = RECORD_BOUND }
+
 -- the files of a command, in the order in which they are read
 abbrev pub reads : Task → List Input
 reads (Run files) = text_file files.case ∷ []
 reads (Trial number) = []
 reads (Batch files) = text_file files.case ∷ text_file files.times ∷ []
+reads (Audit files) = text_file files.case ∷ record_file files.cfg ∷ record_file files.dat ∷ []
 
 -- cards that no file holds
 abbrev pub own_texts : Task → List (List ℕ)
 own_texts (Run files) = []
 own_texts (Trial number) = trial_cards number ∷ []
 own_texts (Batch files) = []
+own_texts (Audit files) = []
 
 -- all that a command is about, the cards first; nothing where a file isn't there
 abbrev pub texts_for : Task → (List ℕ → Option (List ℕ)) → Option (List (List ℕ))
@@ -48,11 +58,20 @@ abbrev pub batch_outcome : Parts → Result (List Row) FaultyItem → Outcome
 batch_outcome case (Err faulty) = bad_row faulty.line faulty.item
 batch_outcome case (Ok rows) = summarised (batch_text (reports_of case rows))
 
+-- of a record with this first difference, or none, beside a case's samples
+abbrev pub audit_by : Parts → Option Difference → Outcome
+audit_by case None = summarised (same_text (length (samples case (history case))))
+audit_by case (Some difference) = refusal Differs (differs_note difference)
+
+abbrev pub audit_outcome : Parts → List ℕ → List ℕ → Outcome
+audit_outcome case cfg dat = audit_by case (audit_differs case (samples case (history case)) cfg dat)
+
 -- of a case that is accepted, with the texts of the command
 abbrev pub answer : Task → List (List ℕ) → Parts → Outcome
 answer (Run files) texts case = ran case (record_writes files case (history case))
 answer (Trial number) texts case = ran case (trial_writes number case (history case))
 answer (Batch files) texts case = batch_outcome case (times_table (text_at 1 texts) case)
+answer (Audit files) texts case = audit_outcome case (text_at 1 texts) (text_at 2 texts)
 
 abbrev pub answer_by : Task → List (List ℕ) → Result Parts Bad → Outcome
 answer_by task texts (Err bad) = bad_card bad
@@ -81,6 +100,7 @@ abbrev pub runs : Task → List (List ℕ) → Parts → List Parts
 runs (Run files) texts case = case ∷ []
 runs (Trial number) texts case = case ∷ []
 runs (Batch files) texts case = altered_in case (times_table (text_at 1 texts) case)
+runs (Audit files) texts case = case ∷ []
 
 abbrev pub runs_by : Task → List (List ℕ) → Result Parts Bad → List Parts
 runs_by task texts (Err bad) = []
@@ -123,6 +143,7 @@ TookSoFar Ended files inputs old new = TookOfLast files inputs old new
 TookSoFar ReadFault files inputs old new = TookOfOne files inputs old new
 TookSoFar WriteFault files inputs old new = TookOfLast files inputs old new
 TookSoFar NoMemory files inputs old new = TookOfOne files inputs old new
+TookSoFar Differs files inputs old new = TookOfLast files inputs old new
 TookSoFar BadRow files inputs old new = TookOfLast files inputs old new
 
 abbrev pub TakesWithin : Option Task → Status → CabinetState → CabinetState → Type 0

@@ -13,7 +13,7 @@ use Rattle.emtp_run.specs.Words.{RunFiles, files_of}
 use Rattle.emtp_run.specs.declared.outputs.Product.{Product}
 use Rattle.emtp_run.specs.declared.outputs.Product.TheVariants.{Record as OfRecord, Trial as OfTrial}
 use Rattle.emtp_run.specs.declared.status.Status.{Status}
-use Rattle.emtp_run.specs.declared.status.Status.TheVariants.{Done, Usage, BadCard, Ended, ReadFault, WriteFault, NoMemory, BadRow}
+use Rattle.emtp_run.specs.declared.status.Status.TheVariants.{Done, Usage, BadCard, Ended, ReadFault, WriteFault, NoMemory, Differs, BadRow}
 
 -- a status, and the outputs in the order in which they are made
 pub record Outcome : Type 0 where
@@ -89,6 +89,7 @@ LeavesNote Ended = ⊥
 LeavesNote ReadFault = ⊥
 LeavesNote WriteFault = ⊥
 LeavesNote NoMemory = ⊥
+LeavesNote Differs = Unit {0}
 LeavesNote BadRow = Unit {0}
 
 -- the run came to its end, by itself or early
@@ -100,6 +101,7 @@ IsFinished Ended = Unit {0}
 IsFinished ReadFault = ⊥
 IsFinished WriteFault = ⊥
 IsFinished NoMemory = ⊥
+IsFinished Differs = ⊥
 IsFinished BadRow = ⊥
 
 -- the case was run, whether or not all that it came to could be written
@@ -111,6 +113,7 @@ HasRun Ended = Unit {0}
 HasRun ReadFault = ⊥
 HasRun WriteFault = Unit {0}
 HasRun NoMemory = ⊥
+HasRun Differs = Unit {0}
 HasRun BadRow = ⊥
 
 -- all of it was made
@@ -136,6 +139,7 @@ Settles Ended o old new = IsMade o Ended old new
 Settles ReadFault o old new = new.outputs ≡ old.outputs
 Settles WriteFault o old new = IsSomeAnd o (λ o. IsFinished o.status × IsCutShort old.outputs o.writes new.outputs)
 Settles NoMemory o old new = new.outputs ≡ old.outputs
+Settles Differs o old new = IsNoted o Differs old new
 Settles BadRow o old new = IsNoted o BadRow old new
 
 -- what a status says of the counts of faults
@@ -147,6 +151,7 @@ HasStatusCause Ended old new = (new.faults_in ≡ old.faults_in) × (new.faults_
 HasStatusCause ReadFault old new = Rose old.faults_in new.faults_in × (new.faults_out ≡ old.faults_out)
 HasStatusCause WriteFault old new = (new.faults_in ≡ old.faults_in) × Rose old.faults_out new.faults_out
 HasStatusCause NoMemory old new = (new.faults_in ≡ old.faults_in) × (new.faults_out ≡ old.faults_out)
+HasStatusCause Differs old new = (new.faults_in ≡ old.faults_in) × (old.faults_out ≤ new.faults_out)
 HasStatusCause BadRow old new = (new.faults_in ≡ old.faults_in) × (old.faults_out ≤ new.faults_out)
 
 -- the record of a run is as it was
@@ -162,6 +167,7 @@ Leaves Ended old new = Unit {0}
 Leaves ReadFault old new = new.outputs ≡ old.outputs
 Leaves WriteFault old new = Unit {0}
 Leaves NoMemory old new = new.outputs ≡ old.outputs
+Leaves Differs old new = KeepsRecord old new
 Leaves BadRow old new = KeepsRecord old new
 
 -- neither count rose, and no failure is answered

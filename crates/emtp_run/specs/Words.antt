@@ -6,12 +6,12 @@ use Rattle.std.specs.declared.alloc.Global.{Global}
 use Rattle.emtp_run.specs.declared.words.BatchWords.{BatchWords}
 use Rattle.emtp_run.specs.declared.words.RunWords.{RunWords}
 use Rattle.emtp_run.specs.declared.words.Words.{Words}
-use Rattle.emtp_run.specs.declared.words.Words.TheVariants.{Batch as OfBatch, Run as OfRun, Trial as OfTrial}
+use Rattle.emtp_run.specs.declared.words.Words.TheVariants.{Audit as OfAudit, Batch as OfBatch, Run as OfRun, Trial as OfTrial}
 
 abbrev pub texts : List (String Global) → List (List ℕ)
 texts words = map (λ word. string_bytes word) words
 
--- the three files of `run CASE CFG DAT`
+-- the three files of `run CASE CFG DAT` and of `audit CASE CFG DAT`
 pub record RunFiles : Type 0 where
   pub case : List ℕ
   pub cfg : List ℕ
@@ -22,12 +22,13 @@ pub record BatchFiles : Type 0 where
   pub case : List ℕ
   pub times : List ℕ
 
--- what is asked for: the run of a case from its file, or of the trial case of a number, or the runs of a case under each
--- row of a table of switch times
+-- what is asked for: the run of a case from its file, or of the trial case of a number; the runs of a case under each row of
+-- a table of switch times; whether two files are the record of a case
 pub data Task : Type 0 where
   Run : RunFiles → Task
   Trial : ℕ → Task
   Batch : BatchFiles → Task
+  Audit : RunFiles → Task
 
 -- a word names a file where it isn't empty and doesn't begin with a dash
 abbrev pub is_name : List ℕ → Bool
@@ -59,9 +60,17 @@ abbrev pub IsTask : Task → Type 0
 IsTask (Run files) = Unit {0}
 IsTask (Trial number) = (1 ≤ number) × (number ≤ 900)
 IsTask (Batch files) = Unit {0}
+IsTask (Audit files) = Unit {0}
 
--- the words fit where they are `run` and the names of three different files, `trial` and a number, or `batch` and the names
--- of two different files
+-- what the command asks for that names three files
+abbrev pub of_three : List ℕ → RunFiles → Option Task
+of_three command files =
+    if bytes_eq command (codes "run") then Some (Run files)
+    else if bytes_eq command (codes "audit") then Some (Audit files)
+    else None
+
+-- the words fit where they are `run` or `audit` and the names of three different files, `trial` and a number, or `batch` and
+-- the names of two different files
 abbrev pub fits : List (List ℕ) → Option Task
 fits [] = None
 fits (command ∷ []) = None
@@ -71,8 +80,8 @@ fits (command ∷ case ∷ times ∷ []) =
     then Some (Batch (record { case = case; times = times }))
     else None
 fits (command ∷ case ∷ cfg ∷ dat ∷ []) =
-    if bytes_eq command (codes "run") && is_name case && is_name cfg && is_name dat && differ case cfg dat
-    then Some (Run (record { case = case; cfg = cfg; dat = dat }))
+    if is_name case && is_name cfg && is_name dat && differ case cfg dat
+    then of_three command (record { case = case; cfg = cfg; dat = dat })
     else None
 fits (command ∷ case ∷ cfg ∷ dat ∷ other ∷ more) = None
 
@@ -86,3 +95,4 @@ abbrev pub task_of : Words → Task
 task_of (OfRun words) = Run (files_of words)
 task_of (OfTrial number) = Trial number
 task_of (OfBatch words) = Batch (batch_files_of words)
+task_of (OfAudit words) = Audit (files_of words)

@@ -10,6 +10,7 @@
 //! ```
 #![tactic(auto)]
 
+mod audit;
 mod batch;
 mod note;
 mod outputs;

@@ -1,9 +1,11 @@
 //! The texts of the notes.
 ghost use Rattle.std.specs.Prelude.{◌≡◌, ◌+◌, ◌≤◌, ◌++◌, length};
+ghost use Rattle.emtp_audit.specs.Note.{differs_note};
 ghost use Rattle.emtp_machine.specs.End.{measured_text};
 ghost use Rattle.emtp_run.specs.Note.{usage_note, card_note, counts_text, done_text, ended_note, note_by, reason_name, row_note};
 
 use crate::text::{Text, push, push_number};
+use emtp_audit::Differs;
 use emtp_card::{Bad, Why};
 use emtp_machine::{Cause, End};
 
@@ -45,6 +47,24 @@ pub fn bad_row(line: u32, item: u32) -> Text
     push_number(&mut note, line);
     push(&mut note, b" ITEM ");
     push_number(&mut note, item);
+    push(&mut note, b"\n");
+    note
+}
+
+/// The note of a record that differs.
+#[tactic(auto, unfolding(emtp_audit::specs::Note::differs_note))]
+pub fn differs(differs: &Differs) -> Text
+    ensures { result.items ≡ differs_note differs.now }
+{
+    let mut note = Text::new();
+    push(&mut note, b"DIFFERS ");
+    push(&mut note, differs.file());
+    push(&mut note, b" LINE ");
+    push_number(&mut note, differs.line);
+    push(&mut note, b" FIELD ");
+    push_number(&mut note, differs.field);
+    push(&mut note, b" ");
+    push(&mut note, differs.cause.word());
     push(&mut note, b"\n");
     note
 }

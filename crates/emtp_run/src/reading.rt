@@ -12,6 +12,9 @@ use emtp_card::MAX_BYTES;
 use emtp_io::{Cabinet, ReadEnd, read_all};
 use std::alloc::Global;
 
+/// The most bytes of a file of a record that are read. A byte past an audit's limit is enough to refuse it.
+pub const RECORD_BOUND: usize = 64_000_001;
+
 /// A file that is read.
 #[derive(Clone, Copy)]
 pub struct InputFile<'a> {
@@ -41,6 +44,14 @@ pub fn read_texts<C: Cabinet>(
             let inputs = [text_file(words.case), text_file(words.times)];
             read_inputs(alloc, &inputs, cabinet)
         }
+        Words::Audit(words) => {
+            let inputs = [
+                text_file(words.case),
+                record_file(words.cfg),
+                record_file(words.dat),
+            ];
+            read_inputs(alloc, &inputs, cabinet)
+        }
     }
 }
 
@@ -51,6 +62,16 @@ fn text_file<'a>(name: &'a str) -> InputFile<'a>
     InputFile {
         name,
         bound: MAX_BYTES + 1,
+    }
+}
+
+/// A file of a record.
+fn record_file<'a>(name: &'a str) -> InputFile<'a>
+    ensures { result ≡ record { name = name.entry; bound = RECORD_BOUND } }
+{
+    InputFile {
+        name,
+        bound: RECORD_BOUND,
     }
 }
 

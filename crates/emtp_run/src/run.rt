@@ -10,6 +10,7 @@ ghost use Rattle.emtp_run.specs.Outcome.{ran, status_of, writes_of, EndsAfterRea
 ghost use Rattle.emtp_run.specs.Reading.{deck};
 ghost use Rattle.emtp_run.specs.Words.{fits, task_of, texts, IsTask};
 
+use crate::audit::run_audit;
 use crate::batch::run_table;
 use crate::note;
 use crate::outputs::{Product, make_all, refuse};
@@ -26,7 +27,7 @@ use std::alloc::Global;
 /// Does what the words after the program's name ask for: `run CASE CFG DAT` reads the cards of a case, steps it by
 /// Dommel's method (1969), and makes the record (IEEE C37.111-1999) and a note; `trial N` runs the trial case with N
 /// sections and makes its summary; `batch CASE TIMES` runs a case under each row of a table of switch times and makes the
-/// summary of all rows. All files that a command reads are read before any of them is judged.
+/// summary of all rows; `audit CASE CFG DAT` runs a case and says whether the two files are its record. All files that a command reads are read before any of them is judged.
 ///
 /// Each status says how the outputs stand. The status of a refusal stays where its note can't be written.
 pub fn emtp<C: Cabinet>(alloc: Global, words: &[String], cabinet: &mut C) -> Status
@@ -113,6 +114,7 @@ fn work<C: Cabinet>(
         Words::Run(words) => run_case(alloc, Product::Record(words), case, cabinet),
         Words::Trial(number) => run_case(alloc, Product::Trial(number), case, cabinet),
         Words::Batch(_) => run_table(alloc, case, &texts[1], cabinet),
+        Words::Audit(_) => run_audit(alloc, case, &texts[1], &texts[2], cabinet),
     }
 }
 

@@ -1,5 +1,6 @@
-//! The summary of a trial.
+//! The summaries of a trial and of an audit.
 ghost use Rattle.std.specs.Prelude.{◌≡◌, ◌+◌, ◌≤◌, ◌++◌, length};
+ghost use Rattle.emtp_audit.specs.Note.{same_text};
 ghost use Rattle.emtp_run.specs.Summary.{peak_of, sums_text, trial_head, trial_summary};
 
 use crate::note::{push_done, push_ended};
@@ -23,6 +24,18 @@ pub fn of_trial(number: u32, end: &Option<End>, steps: u32, redone: u64, samples
             push_sums(&mut text, samples);
         }
     }
+    text
+}
+
+/// The summary of an audit that found no difference, of so many samples.
+#[tactic(auto, unfolding(emtp_audit::specs::Note::same_text))]
+pub fn of_audit(samples: u32) -> Text
+    ensures { result.items ≡ same_text samples }
+{
+    let mut text = Text::new();
+    push(&mut text, b"AUDIT SAME SAMPLES ");
+    push_number(&mut text, samples);
+    push(&mut text, b"\n");
     text
 }
 

@@ -1,16 +1,16 @@
 //! The words of a command line.
 ghost use Rattle.std.specs.Char.{is_ascii_digit};
 ghost use Rattle.std.specs.Prelude.{◌≡◌, ◌-◌, ◌≤◌, [], ◌∷◌, option_map, IfSome, IsTrue};
-ghost use Rattle.emtp_run.specs.Words.{texts, is_name, is_leading, in_trial, differ, fits, task_of, trial_number, IsTask};
+ghost use Rattle.emtp_run.specs.Words.{texts, is_name, is_leading, in_trial, differ, files_of, fits, of_three, task_of, trial_number, IsTask};
 
-/// The three files of `run CASE CFG DAT`, by their names.
+/// The three files of `run CASE CFG DAT` and of `audit CASE CFG DAT`, by their names.
 #[derive(Clone, Copy)]
 pub struct RunWords<'a> {
     /// The data cards, which are read.
     pub case: &'a str,
-    /// The configuration of the record, which is written.
+    /// The configuration of the record, which is written, or read by an audit.
     pub cfg: &'a str,
-    /// The samples of the record, which are written.
+    /// The samples of the record, which are written, or read by an audit.
     pub dat: &'a str,
 }
 
@@ -32,6 +32,8 @@ pub enum Words<'a> {
     Trial(u32),
     /// The runs of a case under each row of a table of switch times.
     Batch(BatchWords<'a>),
+    /// Whether two files are the record of a case.
+    Audit(RunWords<'a>),
 }
 
 /// What the words after the program's name ask for, where they fit. It takes no memory.
@@ -44,7 +46,7 @@ pub fn read_words(words: &[String]) -> Option<Words<'_>>
         [_] => None,
         [command, number] => trial_words(command.as_str(), number.as_str()),
         [command, case, times] => batch_words(command.as_str(), case.as_str(), times.as_str()),
-        [command, case, cfg, dat] => run_words(
+        [command, case, cfg, dat] => record_words(
             command.as_str(),
             case.as_str(),
             cfg.as_str(),
@@ -54,13 +56,27 @@ pub fn read_words(words: &[String]) -> Option<Words<'_>>
     }
 }
 
-/// What `run CASE CFG DAT` names.
-fn run_words<'a>(command: &str, case: &'a str, cfg: &'a str, dat: &'a str) -> Option<Words<'a>>
+/// What `run CASE CFG DAT` and `audit CASE CFG DAT` name.
+fn record_words<'a>(command: &str, case: &'a str, cfg: &'a str, dat: &'a str) -> Option<Words<'a>>
     ensures value { option_map (λ w. task_of w) result ≡ fits (command.now ∷ case.entry.now ∷ cfg.entry.now ∷ dat.entry.now ∷ []) }
     ensures task { IfSome result (λ w. IsTask (task_of w)) }
 {
-    if command == "run" && is_name(case) && is_name(cfg) && is_name(dat) && differ(case, cfg, dat) {
-        Some(Words::Run(RunWords { case, cfg, dat }))
+    if is_name(case) && is_name(cfg) && is_name(dat) && differ(case, cfg, dat) {
+        of_three(command, RunWords { case, cfg, dat })
+    } else {
+        None
+    }
+}
+
+/// What the command asks for that names these three files.
+fn of_three<'a>(command: &str, words: RunWords<'a>) -> Option<Words<'a>>
+    ensures value { option_map (λ w. task_of w) result ≡ of_three command.now (files_of words.entry) }
+    ensures task { IfSome result (λ w. IsTask (task_of w)) }
+{
+    if command == "run" {
+        Some(Words::Run(words))
+    } else if command == "audit" {
+        Some(Words::Audit(words))
     } else {
         None
     }
