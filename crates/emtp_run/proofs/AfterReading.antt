@@ -8,9 +8,9 @@ use Rattle.emtp_run.proofs.Contents.{contents-there, one_of}
 use Rattle.emtp_run.specs.Command.{IsAnswered, HoldsOfRuns, TookSoFar, cases_in, outcome_for, outcome_of, own_texts, reads, runs_of, texts_for}
 use Rattle.emtp_run.specs.Inputs.{FilesAreThere, Input, IsUntouched, ReadsInputs, TookOfLast, UnlessAny, contents}
 use Rattle.emtp_run.specs.Outcome.{Ends, EndsAfterReading, HasRoomFor, HasRun, HasStatusCause, Leaves, Outcome, Settles}
-use Rattle.emtp_run.specs.Words.{Task, Audit, Batch, Run, Trial}
+use Rattle.emtp_run.specs.Words.{Task, Audit, Batch, Phasor, Run, Scan, Trial}
 use Rattle.emtp_run.specs.declared.status.Status.{Status}
-use Rattle.emtp_run.specs.declared.status.Status.TheVariants.{Done, Usage, BadCard, Ended, ReadFault, WriteFault, NoMemory, Differs, BadRow}
+use Rattle.emtp_run.specs.declared.status.Status.TheVariants.{Done, Usage, BadCard, Ended, ReadFault, WriteFault, NoMemory, Refused, Differs, BadRow}
 
 -- ---- the tables of statuses over a cabinet that differs in what is unread alone
 
@@ -32,6 +32,7 @@ cause_from Ended old new u h = h
 cause_from ReadFault old new u h = h
 cause_from WriteFault old new u h = h
 cause_from NoMemory old new u h = h
+cause_from Refused old new u h = h
 cause_from Differs old new u h = h
 cause_from BadRow old new u h = h
 
@@ -43,6 +44,7 @@ leaves_from Ended old new u h = h
 leaves_from ReadFault old new u h = h
 leaves_from WriteFault old new u h = h
 leaves_from NoMemory old new u h = h
+leaves_from Refused old new u h = h
 leaves_from Differs old new u h = h
 leaves_from BadRow old new u h = h
 
@@ -54,6 +56,7 @@ settles_from Ended o old new u h = h
 settles_from ReadFault o old new u h = h
 settles_from WriteFault o old new u h = h
 settles_from NoMemory o old new u h = h
+settles_from Refused o old new u h = h
 settles_from Differs o old new u h = h
 settles_from BadRow o old new u h = h
 
@@ -78,6 +81,8 @@ some_text (Run files) = omega arith
 some_text (Trial number) = omega arith
 some_text (Batch files) = omega arith
 some_text (Audit files) = omega arith
+some_text (Phasor case) = omega arith
+some_text (Scan s) = omega arith
 
 -- ---- which files were opened
 
@@ -93,6 +98,7 @@ inputs_from Ended old new read h = h.0
 inputs_from ReadFault old new read h = absurd (read refl)
 inputs_from WriteFault old new read h = h.0
 inputs_from NoMemory old new read h = h.0
+inputs_from Refused old new read h = h.0
 inputs_from Differs old new read h = h.0
 inputs_from BadRow old new read h = h.0
 
@@ -105,6 +111,7 @@ so_far Ended files inputs old new took = took
 so_far ReadFault files inputs old new took = one_of files inputs old new took
 so_far WriteFault files inputs old new took = took
 so_far NoMemory files inputs old new took = one_of files inputs old new took
+so_far Refused files inputs old new took = took
 so_far Differs files inputs old new took = took
 so_far BadRow files inputs old new took = took
 

@@ -5,7 +5,7 @@ use Rattle.emtp_io.specs.Writes.{Written, Makes}
 use Rattle.emtp_io.specs.declared.cabinet.Output.TheVariants.{Cfg, Dat}
 use Rattle.emtp_run.specs.Outcome.{Outcome, note, refusal, Ends, HasStatusCause, IsComplete, IsNoted, IsWholeOrCut, KeepsRecord, Leaves, LeavesNote, Settles}
 use Rattle.emtp_run.specs.declared.status.Status.{Status}
-use Rattle.emtp_run.specs.declared.status.Status.TheVariants.{Done, Usage, BadCard, Ended, ReadFault, WriteFault, NoMemory, Differs, BadRow}
+use Rattle.emtp_run.specs.declared.status.Status.TheVariants.{Done, Usage, BadCard, Ended, ReadFault, WriteFault, NoMemory, Refused, Differs, BadRow}
 
 whole_or_cut : {T E : Type 0} {old new : CabinetState} {writes : List Written} (result : Result T E)
     → Makes old new writes result → IsTrue old.nature.tells → IsWholeOrCut writes old new
@@ -31,6 +31,7 @@ noted_cause Ended old new is same later = elim is [ ]
 noted_cause ReadFault old new is same later = elim is [ ]
 noted_cause WriteFault old new is same later = elim is [ ]
 noted_cause NoMemory old new is same later = elim is [ ]
+noted_cause Refused old new is same later = (same, later)
 noted_cause Differs old new is same later = (same, later)
 noted_cause BadRow old new is same later = (same, later)
 
@@ -42,6 +43,7 @@ noted_leaves Ended old new is keeps = elim is [ ]
 noted_leaves ReadFault old new is keeps = elim is [ ]
 noted_leaves WriteFault old new is keeps = elim is [ ]
 noted_leaves NoMemory old new is keeps = elim is [ ]
+noted_leaves Refused old new is keeps = keeps
 noted_leaves Differs old new is keeps = keeps
 noted_leaves BadRow old new is keeps = keeps
 
@@ -53,6 +55,7 @@ noted_settles Ended o old new is noted = elim is [ ]
 noted_settles ReadFault o old new is noted = elim is [ ]
 noted_settles WriteFault o old new is noted = elim is [ ]
 noted_settles NoMemory o old new is noted = elim is [ ]
+noted_settles Refused o old new is noted = noted
 noted_settles Differs o old new is noted = noted
 noted_settles BadRow o old new is noted = noted
 
@@ -64,6 +67,7 @@ not_a_fault Ended is = elim is [ ]
 not_a_fault ReadFault is = elim is [ ]
 not_a_fault WriteFault is = elim is [ ]
 not_a_fault NoMemory is = elim is [ ]
+not_a_fault Refused is = ((λ same. cc), (λ same. cc))
 not_a_fault Differs is = ((λ same. cc), (λ same. cc))
 not_a_fault BadRow is = ((λ same. cc), (λ same. cc))
 
@@ -97,6 +101,7 @@ complete_by old new Ended o ends tells = let is = ends.outcome tells in inr (inr
 complete_by old new ReadFault o ends tells = inl ends.cause.0
 complete_by old new WriteFault o ends tells = inr (inl ends.cause.1)
 complete_by old new NoMemory o ends tells = inr (inr (inr (refl, ends.outcome tells)))
+complete_by old new Refused o ends tells = let is = ends.outcome tells in noted old new Refused o is.0 is.1
 complete_by old new Differs o ends tells = let is = ends.outcome tells in noted old new Differs o is.0 is.1
 complete_by old new BadRow o ends tells = let is = ends.outcome tells in noted old new BadRow o is.0 is.1
 

@@ -14,14 +14,17 @@ use Rattle.emtp_case.specs.declared.case.Parts.{Parts}
 use Rattle.emtp_io.specs.Cabinet.{CabinetState}
 use Rattle.emtp_machine.specs.History.{history, samples}
 use Rattle.emtp_machine.specs.Laws.{EndsWithin, SamplesBalance}
+use Rattle.emtp_phasor_text.specs.Reports.{scan_report, steady_report}
+use Rattle.emtp_phasor_text.specs.declared.report.Report.{Report}
+use Rattle.emtp_phasor_text.specs.declared.report.Report.TheVariants.{Ended as TellsEnd, Refused as TellsRefusal, Summary as TellsSummary}
 use Rattle.emtp_run.specs.Inputs.{Input, contents, text_at, TookOfOne, TookOfLast, UnlessAny}
-use Rattle.emtp_run.specs.Outcome.{Outcome, bad_card, bad_row, refusal, summarised, usage, ran, record_writes, trial_writes, Ends, HasRun, IsComplete, IsUnopened}
+use Rattle.emtp_run.specs.Outcome.{Outcome, bad_card, bad_row, ended_alone, refusal, summarised, usage, ran, record_writes, trial_writes, Ends, HasRun, IsComplete, IsUnopened}
 use Rattle.emtp_run.specs.Reading.{deck}
 use Rattle.emtp_run.specs.TrialDeck.{trial_cards}
-use Rattle.emtp_run.specs.Words.{Task, Audit, Batch, Run, Trial, fits}
+use Rattle.emtp_run.specs.Words.{Task, Audit, Batch, Phasor, Run, Scan, Trial, fits}
 use Rattle.emtp_run.specs.declared.reading.TheConstants.{RECORD_BOUND}
 use Rattle.emtp_run.specs.declared.status.Status.{Status}
-use Rattle.emtp_run.specs.declared.status.Status.TheVariants.{Done, Usage, BadCard, Ended, ReadFault, WriteFault, NoMemory, Differs, BadRow}
+use Rattle.emtp_run.specs.declared.status.Status.TheVariants.{Done, Usage, BadCard, Ended, ReadFault, WriteFault, NoMemory, Refused, Differs, BadRow}
 
 -- ---- what is read
 
@@ -39,6 +42,8 @@ reads (Run files) = text_file files.case ∷ []
 reads (Trial number) = []
 reads (Batch files) = text_file files.case ∷ text_file files.times ∷ []
 reads (Audit files) = text_file files.case ∷ record_file files.cfg ∷ record_file files.dat ∷ []
+reads (Phasor case) = text_file case ∷ []
+reads (Scan s) = text_file s.case ∷ []
 
 -- cards that no file holds
 abbrev pub own_texts : Task → List (List ℕ)
@@ -46,6 +51,8 @@ own_texts (Run files) = []
 own_texts (Trial number) = trial_cards number ∷ []
 own_texts (Batch files) = []
 own_texts (Audit files) = []
+own_texts (Phasor case) = []
+own_texts (Scan s) = []
 
 -- all that a command is about, the cards first; nothing where a file isn't there
 abbrev pub texts_for : Task → (List ℕ → Option (List ℕ)) → Option (List (List ℕ))
@@ -66,12 +73,20 @@ audit_by case (Some difference) = refusal Differs (differs_note difference)
 abbrev pub audit_outcome : Parts → List ℕ → List ℕ → Outcome
 audit_outcome case cfg dat = audit_by case (audit_differs case (samples case (history case)) cfg dat)
 
+-- of what is told of a steady state or a scan
+abbrev pub report_outcome : Report → Outcome
+report_outcome (TellsSummary text) = summarised text
+report_outcome (TellsRefusal text) = refusal Refused text
+report_outcome (TellsEnd text) = ended_alone text
+
 -- of a case that is accepted, with the texts of the command
 abbrev pub answer : Task → List (List ℕ) → Parts → Outcome
 answer (Run files) texts case = ran case (record_writes files case (history case))
 answer (Trial number) texts case = ran case (trial_writes number case (history case))
 answer (Batch files) texts case = batch_outcome case (times_table (text_at 1 texts) case)
 answer (Audit files) texts case = audit_outcome case (text_at 1 texts) (text_at 2 texts)
+answer (Phasor name) texts case = report_outcome (steady_report case None)
+answer (Scan s) texts case = report_outcome (scan_report case s.first s.last s.by)
 
 abbrev pub answer_by : Task → List (List ℕ) → Result Parts Bad → Outcome
 answer_by task texts (Err bad) = bad_card bad
@@ -101,6 +116,8 @@ runs (Run files) texts case = case ∷ []
 runs (Trial number) texts case = case ∷ []
 runs (Batch files) texts case = altered_in case (times_table (text_at 1 texts) case)
 runs (Audit files) texts case = case ∷ []
+runs (Phasor name) texts case = []
+runs (Scan s) texts case = []
 
 abbrev pub runs_by : Task → List (List ℕ) → Result Parts Bad → List Parts
 runs_by task texts (Err bad) = []
@@ -143,6 +160,7 @@ TookSoFar Ended files inputs old new = TookOfLast files inputs old new
 TookSoFar ReadFault files inputs old new = TookOfOne files inputs old new
 TookSoFar WriteFault files inputs old new = TookOfLast files inputs old new
 TookSoFar NoMemory files inputs old new = TookOfOne files inputs old new
+TookSoFar Refused files inputs old new = TookOfLast files inputs old new
 TookSoFar Differs files inputs old new = TookOfLast files inputs old new
 TookSoFar BadRow files inputs old new = TookOfLast files inputs old new
 

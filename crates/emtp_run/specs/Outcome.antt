@@ -13,7 +13,7 @@ use Rattle.emtp_run.specs.Words.{RunFiles, files_of}
 use Rattle.emtp_run.specs.declared.outputs.Product.{Product}
 use Rattle.emtp_run.specs.declared.outputs.Product.TheVariants.{Record as OfRecord, Trial as OfTrial}
 use Rattle.emtp_run.specs.declared.status.Status.{Status}
-use Rattle.emtp_run.specs.declared.status.Status.TheVariants.{Done, Usage, BadCard, Ended, ReadFault, WriteFault, NoMemory, Differs, BadRow}
+use Rattle.emtp_run.specs.declared.status.Status.TheVariants.{Done, Usage, BadCard, Ended, ReadFault, WriteFault, NoMemory, Refused, Differs, BadRow}
 
 -- a status, and the outputs in the order in which they are made
 pub record Outcome : Type 0 where
@@ -70,6 +70,10 @@ ran case writes = record { status = status_of (history case).end; writes = write
 abbrev pub summarised : List ℕ → Outcome
 summarised text = record { status = Done; writes = summary text ∷ [] }
 
+-- a solution that ended early leaves its note alone
+abbrev pub ended_alone : List ℕ → Outcome
+ended_alone text = record { status = Ended; writes = note text ∷ [] }
+
 abbrev pub writes_of : Product → Parts → History → List Written
 writes_of (OfRecord words) case h = record_writes (files_of words) case h
 writes_of (OfTrial number) case h = trial_writes number case h
@@ -89,6 +93,7 @@ LeavesNote Ended = ⊥
 LeavesNote ReadFault = ⊥
 LeavesNote WriteFault = ⊥
 LeavesNote NoMemory = ⊥
+LeavesNote Refused = Unit {0}
 LeavesNote Differs = Unit {0}
 LeavesNote BadRow = Unit {0}
 
@@ -101,6 +106,7 @@ IsFinished Ended = Unit {0}
 IsFinished ReadFault = ⊥
 IsFinished WriteFault = ⊥
 IsFinished NoMemory = ⊥
+IsFinished Refused = ⊥
 IsFinished Differs = ⊥
 IsFinished BadRow = ⊥
 
@@ -113,6 +119,7 @@ HasRun Ended = Unit {0}
 HasRun ReadFault = ⊥
 HasRun WriteFault = Unit {0}
 HasRun NoMemory = ⊥
+HasRun Refused = ⊥
 HasRun Differs = Unit {0}
 HasRun BadRow = ⊥
 
@@ -139,6 +146,7 @@ Settles Ended o old new = IsMade o Ended old new
 Settles ReadFault o old new = new.outputs ≡ old.outputs
 Settles WriteFault o old new = IsSomeAnd o (λ o. IsFinished o.status × IsCutShort old.outputs o.writes new.outputs)
 Settles NoMemory o old new = new.outputs ≡ old.outputs
+Settles Refused o old new = IsNoted o Refused old new
 Settles Differs o old new = IsNoted o Differs old new
 Settles BadRow o old new = IsNoted o BadRow old new
 
@@ -151,6 +159,7 @@ HasStatusCause Ended old new = (new.faults_in ≡ old.faults_in) × (new.faults_
 HasStatusCause ReadFault old new = Rose old.faults_in new.faults_in × (new.faults_out ≡ old.faults_out)
 HasStatusCause WriteFault old new = (new.faults_in ≡ old.faults_in) × Rose old.faults_out new.faults_out
 HasStatusCause NoMemory old new = (new.faults_in ≡ old.faults_in) × (new.faults_out ≡ old.faults_out)
+HasStatusCause Refused old new = (new.faults_in ≡ old.faults_in) × (old.faults_out ≤ new.faults_out)
 HasStatusCause Differs old new = (new.faults_in ≡ old.faults_in) × (old.faults_out ≤ new.faults_out)
 HasStatusCause BadRow old new = (new.faults_in ≡ old.faults_in) × (old.faults_out ≤ new.faults_out)
 
@@ -167,6 +176,7 @@ Leaves Ended old new = Unit {0}
 Leaves ReadFault old new = new.outputs ≡ old.outputs
 Leaves WriteFault old new = Unit {0}
 Leaves NoMemory old new = new.outputs ≡ old.outputs
+Leaves Refused old new = KeepsRecord old new
 Leaves Differs old new = KeepsRecord old new
 Leaves BadRow old new = KeepsRecord old new
 

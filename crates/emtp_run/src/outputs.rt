@@ -3,7 +3,7 @@ ghost use Rattle.std.specs.Prelude.{◌≡◌, ◌+◌, [], ◌∷◌, Some, len
 ghost use Rattle.emtp_comtrade.specs.Record.{AreMultipliers};
 ghost use Rattle.emtp_io.specs.Writes.{Makes};
 ghost use Rattle.emtp_machine.specs.History.{history, redone as redone_by, samples as samples_of};
-ghost use Rattle.emtp_run.specs.Outcome.{cfg, dat, note, record_writes, refusal, summarised, summary, writes_of, Ends, EndsAfterReading, LeavesNote};
+ghost use Rattle.emtp_run.specs.Outcome.{cfg, dat, ended_alone, note, record_writes, refusal, summarised, summary, writes_of, Ends, EndsAfterReading, LeavesNote};
 ghost use Rattle.emtp_run.specs.Words.{files_of};
 
 use crate::note;
@@ -132,6 +132,16 @@ pub fn leave_summary<C: Cabinet>(cabinet: &mut C, text: &[u8]) -> Status
 {
     match make_summary(cabinet, text) {
         Ok(()) => Status::Done,
+        Err(_) => Status::WriteFault,
+    }
+}
+
+/// Makes the note of a solution that ended early, and answers how the call ends.
+pub fn leave_end<C: Cabinet>(cabinet: &mut C, text: &[u8]) -> Status
+    ensures { EndsAfterReading result (ended_alone text.now) (C.state cabinet.old) (C.state cabinet.new) }
+{
+    match make_note(cabinet, text) {
+        Ok(()) => Status::Ended,
         Err(_) => Status::WriteFault,
     }
 }

@@ -44,6 +44,8 @@ pub fn read_texts<C: Cabinet>(
             let inputs = [text_file(words.case), text_file(words.times)];
             read_inputs(alloc, &inputs, cabinet)
         }
+        Words::Phasor(name) => read_inputs(alloc, &[text_file(name)], cabinet),
+        Words::Scan(words) => read_inputs(alloc, &[text_file(words.case)], cabinet),
         Words::Audit(words) => {
             let inputs = [
                 text_file(words.case),

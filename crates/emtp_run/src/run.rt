@@ -15,6 +15,7 @@ use crate::batch::run_table;
 use crate::note;
 use crate::outputs::{Product, make_all, refuse};
 use crate::reading::read_texts;
+use crate::report::{tell_scan, tell_state};
 use crate::status::Status;
 use crate::words::{Words, read_words};
 use emtp_card::{Cards, Refused};
@@ -27,7 +28,8 @@ use std::alloc::Global;
 /// Does what the words after the program's name ask for: `run CASE CFG DAT` reads the cards of a case, steps it by
 /// Dommel's method (1969), and makes the record (IEEE C37.111-1999) and a note; `trial N` runs the trial case with N
 /// sections and makes its summary; `batch CASE TIMES` runs a case under each row of a table of switch times and makes the
-/// summary of all rows; `audit CASE CFG DAT` runs a case and says whether the two files are its record. All files that a command reads are read before any of them is judged.
+/// summary of all rows; `audit CASE CFG DAT` runs a case and says whether the two files are its record;
+/// `phasor CASE` and `scan CASE F0 F1 DF` tell its steady state, and its impedance over frequencies. All files that a command reads are read before any of them is judged.
 ///
 /// Each status says how the outputs stand. The status of a refusal stays where its note can't be written.
 pub fn emtp<C: Cabinet>(alloc: Global, words: &[String], cabinet: &mut C) -> Status
@@ -79,7 +81,8 @@ fn answer<C: Cabinet>(alloc: Global, words: Words<'_>, cabinet: &mut C) -> Statu
 
 /// Judges the cards, and goes on with the case that they give.
 fn judge<C: Cabinet>(alloc: Global, words: Words<'_>, texts: &[Vec<u8>], cabinet: &mut C) -> Status
-    requires { length texts.now ≡ length (own_texts (task_of words)) + length (reads (task_of words)) }
+    requires task { IsTask (task_of words) }
+    requires count { length texts.now ≡ length (own_texts (task_of words)) + length (reads (task_of words)) }
     ensures runs { HasRun result → HoldsOfRuns (runs_of (task_of words.entry) (texts_of texts.now)) }
     ensures ends { EndsAfterReading result (outcome_of (task_of words.entry) (texts_of texts.now))
         (C.state cabinet.old) (C.state cabinet.new) }
@@ -105,7 +108,8 @@ fn work<C: Cabinet>(
     texts: &[Vec<u8>],
     cabinet: &mut C,
 ) -> Status
-    requires { length texts.now ≡ length (own_texts (task_of words)) + length (reads (task_of words)) }
+    requires task { IsTask (task_of words) }
+    requires count { length texts.now ≡ length (own_texts (task_of words)) + length (reads (task_of words)) }
     ensures runs { HasRun result → HoldsOfRuns (runs (task_of words.entry) (texts_of texts.now) case.old.parts) }
     ensures ends { EndsAfterReading result (answer (task_of words.entry) (texts_of texts.now) case.old.parts)
         (C.state cabinet.old) (C.state cabinet.new) }
@@ -115,6 +119,8 @@ fn work<C: Cabinet>(
         Words::Trial(number) => run_case(alloc, Product::Trial(number), case, cabinet),
         Words::Batch(_) => run_table(alloc, case, &texts[1], cabinet),
         Words::Audit(_) => run_audit(alloc, case, &texts[1], &texts[2], cabinet),
+        Words::Phasor(_) => tell_state(alloc, case, cabinet),
+        Words::Scan(words) => tell_scan(alloc, case, words, cabinet),
     }
 }
 

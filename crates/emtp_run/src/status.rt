@@ -18,6 +18,8 @@ pub enum Status {
     WriteFault = 5,
     /// There was not enough memory, and nothing was created.
     NoMemory = 6,
+    /// A card of the case is one that the tool can't take, and the note names it.
+    Refused = 7,
     /// The files of a record aren't those of the case, and the note names the first field that differs.
     Differs = 8,
     /// A row of a table of switch times is refused, and the note names its line and item.

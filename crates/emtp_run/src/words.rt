@@ -1,7 +1,12 @@
 //! The words of a command line.
 ghost use Rattle.std.specs.Char.{is_ascii_digit};
-ghost use Rattle.std.specs.Prelude.{◌≡◌, ◌-◌, ◌≤◌, [], ◌∷◌, option_map, IfSome, IsTrue};
-ghost use Rattle.emtp_run.specs.Words.{texts, is_name, is_leading, in_trial, differ, files_of, fits, of_three, task_of, trial_number, IsTask};
+ghost use Rattle.std.specs.Prelude.{◌≡◌, ◌-◌, ◌≤◌, [], ◌∷◌, option_map, IfSome, IsTrue, nat_le};
+ghost use Rattle.std.specs.Option.{ForSome};
+ghost use Rattle.emtp_phasor.specs.Scanning.{frequency_count};
+ghost use Rattle.emtp_run.specs.Words.{texts, is_name, is_leading, in_scan, in_trial, differ, files_of, fits, frequency_of_word, of_one, of_scan, of_three, task_of, trial_number, IsScanned, IsTask, Trial};
+
+use emtp_card::read_digits;
+use emtp_phasor::MOST_FREQUENCIES;
 
 /// The three files of `run CASE CFG DAT` and of `audit CASE CFG DAT`, by their names.
 #[derive(Clone, Copy)]
@@ -23,6 +28,19 @@ pub struct BatchWords<'a> {
     pub times: &'a str,
 }
 
+/// The case of `scan CASE F0 F1 DF` by its name, and its frequencies in micro-hertz.
+#[derive(Clone, Copy)]
+pub struct ScanWords<'a> {
+    /// The data cards.
+    pub case: &'a str,
+    /// The first frequency.
+    pub first: i64,
+    /// The greatest that the last one may be.
+    pub last: i64,
+    /// From one to the next.
+    pub by: i64,
+}
+
 /// What the words ask for.
 #[derive(Clone, Copy)]
 pub enum Words<'a> {
@@ -34,6 +52,10 @@ pub enum Words<'a> {
     Batch(BatchWords<'a>),
     /// Whether two files are the record of a case.
     Audit(RunWords<'a>),
+    /// The steady state of a case.
+    Phasor(&'a str),
+    /// The impedance of a case over frequencies.
+    Scan(ScanWords<'a>),
 }
 
 /// What the words after the program's name ask for, where they fit. It takes no memory.
@@ -44,13 +66,20 @@ pub fn read_words(words: &[String]) -> Option<Words<'_>>
     match words {
         [] => None,
         [_] => None,
-        [command, number] => trial_words(command.as_str(), number.as_str()),
+        [command, word] => of_one(command.as_str(), word.as_str()),
         [command, case, times] => batch_words(command.as_str(), case.as_str(), times.as_str()),
         [command, case, cfg, dat] => record_words(
             command.as_str(),
             case.as_str(),
             cfg.as_str(),
             dat.as_str(),
+        ),
+        [command, case, first, last, by] => scan_words(
+            command.as_str(),
+            case.as_str(),
+            first.as_str(),
+            last.as_str(),
+            by.as_str(),
         ),
         _ => None,
     }
@@ -94,17 +123,112 @@ fn batch_words<'a>(command: &str, case: &'a str, times: &'a str) -> Option<Words
     }
 }
 
-/// The number of `trial N`.
-fn trial_words<'a>(command: &str, number: &str) -> Option<Words<'a>>
-    ensures value { option_map (λ w. task_of w) result ≡ fits (command.now ∷ number.now ∷ []) }
+/// What the command asks for that has this one word.
+fn of_one<'a>(command: &str, word: &'a str) -> Option<Words<'a>>
+    ensures value { option_map (λ w. task_of w) result ≡ of_one command.now word.entry.now }
     ensures task { IfSome result (λ w. IsTask (task_of w)) }
 {
-    if command != "trial" {
-        return None;
+    if command == "trial" {
+        return of_trial(trial_number(word.as_bytes()));
     }
-    match trial_number(number.as_bytes()) {
+    if command == "phasor" && is_name(word) {
+        Some(Words::Phasor(word))
+    } else {
+        None
+    }
+}
+
+fn of_trial<'a>(number: Option<u32>) -> Option<Words<'a>>
+    requires { ForSome number (λ n. (1 ≤ n) × (n ≤ 900)) }
+    ensures value { option_map (λ w. task_of w) result ≡ option_map Trial number }
+    ensures task { IfSome result (λ w. IsTask (task_of w)) }
+{
+    match number {
         Some(number) => Some(Words::Trial(number)),
         None => None,
+    }
+}
+
+/// What `scan CASE F0 F1 DF` names.
+fn scan_words<'a>(
+    command: &str,
+    case: &'a str,
+    first: &str,
+    last: &str,
+    by: &str,
+) -> Option<Words<'a>>
+    ensures value { option_map (λ w. task_of w) result ≡ fits (command.now ∷ case.entry.now ∷ first.now ∷ last.now ∷ by.now ∷ []) }
+    ensures task { IfSome result (λ w. IsTask (task_of w)) }
+{
+    if command == "scan" && is_name(case) {
+        of_scan(
+            case,
+            frequency(first.as_bytes()),
+            frequency(last.as_bytes()),
+            frequency(by.as_bytes()),
+        )
+    } else {
+        None
+    }
+}
+
+/// The scan of these frequencies, where they are few and in order.
+fn of_scan<'a>(
+    case: &'a str,
+    first: Option<i64>,
+    last: Option<i64>,
+    by: Option<i64>,
+) -> Option<Words<'a>>
+    requires first { ForSome first IsScanned }
+    requires last { ForSome last IsScanned }
+    requires by { ForSome by IsScanned }
+    ensures value { option_map (λ w. task_of w) result ≡ of_scan case.entry.now first last by }
+    ensures task { IfSome result (λ w. IsTask (task_of w)) }
+{
+    match (first, last, by) {
+        (Some(first), Some(last), Some(by)) if first <= last && are_few(first, last, by) => {
+            Some(Words::Scan(ScanWords {
+                case,
+                first,
+                last,
+                by,
+            }))
+        }
+        _ => None,
+    }
+}
+
+fn are_few(first: i64, last: i64, by: i64) -> bool
+    requires first { IsScanned first }
+    requires last { IsScanned last }
+    requires by { IsScanned by }
+    ensures { result ≡ nat_le (frequency_count first last by) MOST_FREQUENCIES }
+{
+    (last - first).unsigned_abs() / by.unsigned_abs() + 1 <= MOST_FREQUENCIES as u64
+}
+
+/// A frequency in whole hertz, one to eight digits without a leading 0, in micro-hertz.
+fn frequency(word: &[u8]) -> Option<i64>
+    ensures value { result ≡ frequency_of_word word.now }
+    ensures range { IfSome result IsScanned }
+{
+    match word {
+        [first, ..] if is_leading(*first) => match read_digits(word, 8) {
+            Some(hertz) => in_scan(hertz),
+            None => None,
+        },
+        _ => None,
+    }
+}
+
+fn in_scan(hertz: u64) -> Option<i64>
+    ensures value { result ≡ in_scan hertz }
+    ensures range { IfSome result IsScanned }
+{
+    if hertz >= 1 && hertz <= 10_000_000 {
+        Some(hertz as i64 * 1_000_000)
+    } else {
+        None
     }
 }
 
