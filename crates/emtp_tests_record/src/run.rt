@@ -123,7 +123,8 @@ const OUTPUTS: [Output; 4] = [Output::Cfg, Output::Dat, Output::Note, Output::Su
 struct Row {
     words: &'static [&'static str],
     /// The bytes of the files `a.case` and `a.times`, and how many of these two are read.
-    texts: [&'static str; 2],
+    case: &'static str,
+    times: &'static str,
     read: usize,
     status: Status,
     /// The status where an output can't be made.
@@ -142,23 +143,24 @@ struct Progress {
 /// The files `a.case` and `a.times`, in a cabinet that moves at most `piece` bytes a call, and whose nth call of this kind fails.
 fn failing(
     alloc: Global,
-    texts: &[&str; 2],
+    case: &str,
+    times: &str,
     piece: usize,
     op: Op,
     nth: u32,
 ) -> Result<MemoryCabinet, AllocError>
     requires { 0 < piece }
 {
-    let files = two_files(alloc, texts)?;
+    let files = two_files(alloc, case, times)?;
     let fails = Vec::from_slice(alloc, &[Failing { op, nth }])?;
     MemoryCabinet::new(alloc, files, fails, piece, 4096)
 }
 
-fn two_files(alloc: Global, texts: &[&str; 2]) -> Result<Vec<(String, Vec<u8>)>, AllocError>
+fn two_files(alloc: Global, case: &str, times: &str) -> Result<Vec<(String, Vec<u8>)>, AllocError>
     ensures { IfOk result (λ files. AllPairs (λ a b. string_bytes a.0 ≢ string_bytes b.0) files.items) }
 {
-    let case = file(alloc, "a.case", texts[0])?;
-    let times = file(alloc, "a.times", texts[1])?;
+    let case = file(alloc, "a.case", case)?;
+    let times = file(alloc, "a.times", times)?;
     let mut files = Vec::new(alloc);
     files.push(case)?;
     files.push(times)?;
@@ -233,7 +235,7 @@ fn nth_failed(
 ) -> Result<Option<(Status, Progress)>, AllocError>
     requires { 0 < piece }
 {
-    let mut cabinet = failing(alloc, &row.texts, piece, op, nth)?;
+    let mut cabinet = failing(alloc, row.case, row.times, piece, op, nth)?;
     let status = call(alloc, row.words, &mut cabinet);
     let made = made_so_far(&cabinet, row.made);
     drop(cabinet);
@@ -304,7 +306,8 @@ fn failed_in_turn(
 const ROWS: &[Row] = &[
     Row {
         words: RUN,
-        texts: [DIVIDER, ""],
+        case: DIVIDER,
+        times: "",
         read: 1,
         status: Status::Done,
         cut: Status::WriteFault,
@@ -312,7 +315,8 @@ const ROWS: &[Row] = &[
     },
     Row {
         words: RUN,
-        texts: [UNBOUND, ""],
+        case: UNBOUND,
+        times: "",
         read: 1,
         status: Status::Ended,
         cut: Status::WriteFault,
@@ -325,7 +329,8 @@ const ROWS: &[Row] = &[
     },
     Row {
         words: RUN,
-        texts: ["", ""],
+        case: "",
+        times: "",
         read: 1,
         status: Status::BadCard,
         cut: Status::BadCard,
@@ -333,7 +338,8 @@ const ROWS: &[Row] = &[
     },
     Row {
         words: &["run", "a.case", "a.dat", "a.dat"],
-        texts: [DIVIDER, ""],
+        case: DIVIDER,
+        times: "",
         read: 0,
         status: Status::Usage,
         cut: Status::Usage,
@@ -341,7 +347,8 @@ const ROWS: &[Row] = &[
     },
     Row {
         words: &["trial", "1"],
-        texts: [DIVIDER, ""],
+        case: DIVIDER,
+        times: "",
         read: 0,
         status: Status::Done,
         cut: Status::WriteFault,
@@ -349,7 +356,8 @@ const ROWS: &[Row] = &[
     },
     Row {
         words: BATCH,
-        texts: [BREAKER, TIMES],
+        case: BREAKER,
+        times: TIMES,
         read: 2,
         status: Status::Done,
         cut: Status::WriteFault,
@@ -357,7 +365,8 @@ const ROWS: &[Row] = &[
     },
     Row {
         words: BATCH,
-        texts: [BREAKER, ""],
+        case: BREAKER,
+        times: "",
         read: 2,
         status: Status::BadRow,
         cut: Status::BadRow,
@@ -365,7 +374,8 @@ const ROWS: &[Row] = &[
     },
     Row {
         words: BATCH,
-        texts: ["", TIMES],
+        case: "",
+        times: TIMES,
         read: 2,
         status: Status::BadCard,
         cut: Status::BadCard,
@@ -373,17 +383,22 @@ const ROWS: &[Row] = &[
     },
 ];
 
-/// How many reads it takes to find the ends of the files that a row reads: one for each piece, and one that finds the end.
+/// How many reads it takes to find the ends of the files that a row reads.
 fn reads_of(row: &Row, piece: usize) -> usize
     requires { 0 < piece }
 {
-    let mut reads = 0usize;
-    for text in row.texts.iter().take(row.read) {
-        reads = reads
-            .saturating_add(text.len().div_ceil(piece))
-            .saturating_add(1);
+    match row.read {
+        0 => 0,
+        1 => reads_to_end(row.case, piece),
+        _ => reads_to_end(row.case, piece).saturating_add(reads_to_end(row.times, piece)),
     }
-    reads
+}
+
+/// A read for each piece, and one that finds the end.
+fn reads_to_end(text: &str, piece: usize) -> usize
+    requires { 0 < piece }
+{
+    text.len().div_ceil(piece).saturating_add(1)
 }
 
 /// Whether each call of a row has failed in turn as promised: one opening for each file that is read, the reads to their
@@ -424,7 +439,7 @@ fn names_outputs(alloc: Global, cabinet: &mut MemoryCabinet) -> Result<bool, All
 
 #[test]
 fn names_its_outputs_by_the_words(rt: HostRuntime) -> Result<(), Fail> {
-    let mut cabinet = failing(rt.alloc(), &[DIVIDER, ""], 4096, Op::Write, 1000)?;
+    let mut cabinet = failing(rt.alloc(), DIVIDER, "", 4096, Op::Write, 1000)?;
     let is_named = names_outputs(rt.alloc(), &mut cabinet);
     drop(cabinet);
     assert!(rt; is_named?);

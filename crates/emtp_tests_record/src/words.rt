@@ -1,46 +1,52 @@
 //! The words of a command line, beside a reader of command lines that others wrote.
 
 use clap::{Arg, ArgAction, ArgMatches, Command, Error};
-use emtp_run::{Words, read_words, trial_deck};
+use emtp_run::{RunWords, Words, read_words, trial_deck};
 use std::alloc::{AllocError, Global};
 use std::test::Fail;
 
-/// The command line as clap sees it: `run CASE CFG DAT`, `trial N` or `batch CASE TIMES`, each word required.
+/// The command line as clap sees it, with each command of the table and its words, all of them required.
 fn command<'a>(alloc: Global) -> Result<Command<'a>, Error> {
-    let trial = Command::new(alloc, "trial").arg(required(alloc, "N"))?;
-    match with_files(alloc) {
-        Ok(command) => Ok(command.subcommand(trial)?),
+    let program = Command::new(alloc, "emtp").subcommand_required(true);
+    let program = with(program, of_three(alloc, "run", "CASE", "CFG", "DAT"))?;
+    let program = with(program, of_three(alloc, "audit", "CASE", "CFG", "DAT"))?;
+    let program = with(program, of_one(alloc, "trial", "N"))?;
+    let program = with(program, of_two(alloc, "batch", "CASE", "TIMES"))?;
+    let program = with(program, of_one(alloc, "phasor", "CASE"))?;
+    with(program, scan(alloc))
+}
+
+/// The program with a command more, if that could be made.
+fn with<'a>(program: Command<'a>, more: Result<Command<'a>, Error>) -> Result<Command<'a>, Error> {
+    match more {
+        Ok(more) => Ok(program.subcommand(more)?),
         Err(error) => {
-            drop(trial);
+            drop(program);
             Err(error)
         }
     }
 }
 
-/// The commands that name files.
-fn with_files<'a>(alloc: Global) -> Result<Command<'a>, Error> {
-    let batch = Command::new(alloc, "batch")
-        .arg(required(alloc, "CASE"))?
-        .arg(required(alloc, "TIMES"))?;
-    match with_run(alloc) {
-        Ok(command) => Ok(command.subcommand(batch)?),
-        Err(error) => {
-            drop(batch);
-            Err(error)
-        }
-    }
+fn of_one<'a>(alloc: Global, name: &'a str, a: &'a str) -> Result<Command<'a>, Error> {
+    Ok(Command::new(alloc, name).arg(required(alloc, a))?)
 }
 
-fn with_run<'a>(alloc: Global) -> Result<Command<'a>, Error> {
-    let run = Command::new(alloc, "run")
-        .arg(required(alloc, "CASE"))?
-        .arg(required(alloc, "CFG"))?
-        .arg(required(alloc, "DAT"))?;
-    Ok(
-        Command::new(alloc, "emtp")
-            .subcommand_required(true)
-            .subcommand(run)?,
-    )
+fn of_two<'a>(alloc: Global, name: &'a str, a: &'a str, b: &'a str) -> Result<Command<'a>, Error> {
+    Ok(of_one(alloc, name, a)?.arg(required(alloc, b))?)
+}
+
+fn of_three<'a>(
+    alloc: Global,
+    name: &'a str,
+    a: &'a str,
+    b: &'a str,
+    c: &'a str,
+) -> Result<Command<'a>, Error> {
+    Ok(of_two(alloc, name, a, b)?.arg(required(alloc, c))?)
+}
+
+fn scan<'a>(alloc: Global) -> Result<Command<'a>, Error> {
+    Ok(of_three(alloc, "scan", "CASE", "F0", "F1")?.arg(required(alloc, "DF"))?)
 }
 
 fn required<'a>(alloc: Global, name: &'a str) -> Arg<'a> {
@@ -58,19 +64,29 @@ pub fn owned(alloc: Global, words: &[&str]) -> Result<Vec<String>, AllocError> {
 /// Whether clap and the program find the same files.
 fn files_are_alike(matches: &ArgMatches, words: &[String]) -> bool {
     match (matches.subcommand(), read_words(words)) {
-        (Some((name, run)), Some(Words::Run(files))) => {
-            name == "run"
-                && run.get_str("CASE") == Some(files.case)
-                && run.get_str("CFG") == Some(files.cfg)
-                && run.get_str("DAT") == Some(files.dat)
+        (Some((name, run)), Some(Words::Run(files))) => name == "run" && are_record(run, files),
+        (Some((name, audit)), Some(Words::Audit(files))) => {
+            name == "audit" && are_record(audit, files)
         }
         (Some((name, batch)), Some(Words::Batch(files))) => {
             name == "batch"
                 && batch.get_str("CASE") == Some(files.case)
                 && batch.get_str("TIMES") == Some(files.times)
         }
+        (Some((name, phasor)), Some(Words::Phasor(case))) => {
+            name == "phasor" && phasor.get_str("CASE") == Some(case)
+        }
+        (Some((name, scan)), Some(Words::Scan(words))) => {
+            name == "scan" && scan.get_str("CASE") == Some(words.case)
+        }
         _ => false,
     }
+}
+
+fn are_record(matches: &ArgMatches, files: RunWords<'_>) -> bool {
+    matches.get_str("CASE") == Some(files.case)
+        && matches.get_str("CFG") == Some(files.cfg)
+        && matches.get_str("DAT") == Some(files.dat)
 }
 
 /// Whether clap, of a command line, and the program, of the words after its name, find the same files.
@@ -92,9 +108,15 @@ fn finds_alike(alloc: Global, line: &[&str], words: &[&str]) -> Result<bool, Err
 fn finds_the_files_that_clap_finds(rt: HostRuntime) -> Result<(), Fail> {
     let alloc = rt.alloc();
     let run = ["emtp", "run", "a.case", "a.cfg", "a.dat"];
+    let audit = ["emtp", "audit", "a.case", "a.cfg", "a.dat"];
     let batch = ["emtp", "batch", "a.case", "a.times"];
+    let phasor = ["emtp", "phasor", "a.case"];
+    let scan = ["emtp", "scan", "a.case", "50", "150", "50"];
     assert!(rt; finds_alike(alloc, &run, &run[1..])?);
+    assert!(rt; finds_alike(alloc, &audit, &audit[1..])?);
     assert!(rt; finds_alike(alloc, &batch, &batch[1..])?);
+    assert!(rt; finds_alike(alloc, &phasor, &phasor[1..])?);
+    assert!(rt; finds_alike(alloc, &scan, &scan[1..])?);
     Ok(())
 }
 
@@ -136,8 +158,52 @@ fn refused(alloc: Global, line: &[&str], words: &[&str]) -> Result<bool, Error> 
 fn refuses_words_as_clap_does(rt: HostRuntime) -> Result<(), Fail> {
     let alloc = rt.alloc();
     assert!(rt; refused(alloc, &["emtp", "run", "A", "B"], &["run", "A", "B"])?);
+    assert!(rt; refused(alloc, &["emtp", "audit", "A", "B"], &["audit", "A", "B"])?);
     assert!(rt; refused(alloc, &["emtp", "batch", "A"], &["batch", "A"])?);
+    assert!(rt; refused(alloc, &["emtp", "phasor"], &["phasor"])?);
+    assert!(rt;
+        refused(
+            alloc,
+            &["emtp", "scan", "A", "1", "2"],
+            &["scan", "A", "1", "2"]
+        )?
+    );
     assert!(rt; refused(alloc, &["emtp"], &[])?);
+    Ok(())
+}
+
+/// Words of a scan that don't fit: a frequency of 0, the first above the last, a leading 0, and 10,001 frequencies.
+const NO_SCANS: [[&str; 5]; 4] = [
+    ["scan", "A", "0", "10", "1"],
+    ["scan", "A", "10", "5", "1"],
+    ["scan", "A", "1", "010", "1"],
+    ["scan", "A", "1", "10001", "1"],
+];
+
+/// Whether the words are a scan from 1 to 10,000 Hz, in micro-hertz.
+fn is_scan(words: &[String]) -> bool {
+    match read_words(words) {
+        Some(Words::Scan(words)) => {
+            words.first == 1_000_000 && words.last == 10_000_000_000 && words.by == 1_000_000
+        }
+        _ => false,
+    }
+}
+
+fn scan_is_read(alloc: Global) -> Result<bool, AllocError> {
+    let words = owned(alloc, &["scan", "A", "1", "10000", "1"])?;
+    let is = is_scan(&words);
+    drop(words);
+    Ok(is)
+}
+
+#[test]
+fn reads_the_frequencies_of_a_scan(rt: HostRuntime) -> Result<(), Fail> {
+    let alloc = rt.alloc();
+    assert!(rt; scan_is_read(alloc)?);
+    for words in NO_SCANS.iter() {
+        assert!(rt; read_words(&owned(alloc, words.as_slice())?).is_none());
+    }
     Ok(())
 }
 
