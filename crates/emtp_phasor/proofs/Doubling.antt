@@ -80,8 +80,8 @@ source_row s r below is = record {
   ];
 }
 
-pub doubled_lawful : (s : Doubled) (order : Rows) → HoldsDoubled s.case order s.ports s.kinds → length s.case.branches ≤ 5000 → IsLawful (doubled_matrix s) (2 * (order_of s.case).fixed)
-doubled_lawful s order held few =
+pub doubled_lawful : (s : Doubled) (order : Rows) (lists : List (List ℕ)) → HoldsDoubled s.case order s.ports s.kinds lists → length s.case.branches ≤ 5000 → IsLawful (doubled_matrix s) (2 * (order_of s.case).fixed)
+doubled_lawful s order lists held few =
     let fixed : order.fixed ≡ (order_of s.case).fixed = ap (λ (o : Rows). o.fixed) held.order_is in
     record {
       few = omega (arith, length-doubled_matrix s, held.few);

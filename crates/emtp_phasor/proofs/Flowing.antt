@@ -1,13 +1,17 @@
 -- Currents of branches, one after another.
-use Rattle.std.proofs.Common.{◌≡◌, ◌∙◌, sym, ap, ℕ, ◌<◌, ℤ, ◌-ℤ◌, Bool, true, false, not, List, length, slice_get, get_or, Some, refl}
+use Rattle.std.proofs.Common.{◌≡◌, ◌∙◌, sym, ap, ℕ, ◌<◌, ◌≤◌, ◌==◌, ℤ, pos, ◌-ℤ◌, Bool, true, false, not, List, length, take, slice_get, get_or, Option, Some, None, refl}
 use Rattle.std.proofs.lemmas.List.{get_or_default}
 use Rattle.std.proofs.lemmas.Option.{slice_get-get_or}
-use Rattle.emtp_case.specs.Sums.{sum_below}
+use Rattle.emtp_case.specs.Sums.{sum_below, total}
+use Rattle.emtp_case.specs.Branch.{from_of, to_of}
 use Rattle.emtp_case.specs.declared.branch.Branch.{Branch}
 use Rattle.emtp_case.specs.declared.case.Parts.{Parts}
 use Rattle.emtp_admittance.specs.Admittances.{no_port, port_at}
 use Rattle.emtp_phasor.specs.Steady.{flows, leaving_node, leaving_through}
+use Rattle.emtp_phasor.specs.HeldBranches.{branches_at, has_end_at}
 use Rattle.emtp_phasor.specs.Volts.{source_phasors_into}
+use Rattle.emtp_phasor.proofs.BranchLists.{places_total}
+use Rattle.emtp_phasor.proofs.Ports.{ends_away}
 use Rattle.emtp_admittance.specs.declared.admittance.TwoPort.{TwoPort}
 use Rattle.emtp_phasor.specs.declared.phasor.Phasor.{Phasor}
 
@@ -35,9 +39,18 @@ leaving_read case ports volts imaginary n others at d x e y r same there inside 
     ∙ ap (λ z. leaving_through imaginary z volts n (Some x)) (sym port ∙ get_or_default ports at e no_port inside)
     ∙ ap (λ o. leaving_through imaginary (port_at ports at) volts n o) (ap Some (sym branch ∙ ap (λ bs. get_or bs at d) same) ∙ sym (slice_get-get_or case.branches at d there))
 
--- what leaves a node, once all branches are added up
-pub leaving_is : (case : Parts) (ports : List TwoPort) (volts : List Phasor) (imaginary : Bool) (n count : ℕ) (sum s r : ℤ) → count ≡ length case.branches → sum ≡ sum_below count (λ b. leaving_through imaginary (port_at ports b) volts n (slice_get case.branches b)) → s ≡ source_phasors_into case imaginary n
-    → r ≡ sum -ℤ s → r ≡ leaving_node case ports volts imaginary n
-leaving_is case ports volts imaginary n count sum s r all is brought added =
+-- nothing leaves a node through a branch elsewhere
+leaving_away : (imaginary : Bool) (y : TwoPort) (volts : List Phasor) (n : ℕ) (o : Option Branch) → has_end_at n o ≡ false → leaving_through imaginary y volts n o ≡ pos 0
+leaving_away imaginary y volts n None away = refl
+leaving_away imaginary y volts n (Some x) away =
+    let off : (from_of x == n) ≡ false = (ends_away n x away).0 in
+    let other_off : (to_of x == n) ≡ false = (ends_away n x away).1 in
+    rw (off, other_off) refl
+
+-- what leaves a node, once all branches at it are added up
+pub leaving_is : (case : Parts) (ports : List TwoPort) (volts : List Phasor) (imaginary : Bool) (n i : ℕ) (places : List ℕ) (sum s r : ℤ) → places ≡ branches_at case n → length places ≤ i
+    → sum ≡ total (λ b. leaving_through imaginary (port_at ports b) volts n (slice_get case.branches b)) (take i places) → s ≡ source_phasors_into case imaginary n → r ≡ sum -ℤ s → r ≡ leaving_node case ports volts imaginary n
+leaving_is case ports volts imaginary n i places sum s r are past is brought added =
     let F : ℕ → ℤ = λ b. leaving_through imaginary (port_at ports b) volts n (slice_get case.branches b) in
-    added ∙ ap (λ x. x -ℤ s) (is ∙ ap (λ k. sum_below k F) all) ∙ ap (λ y. sum_below (length case.branches) F -ℤ y) brought
+    let all = places_total case n i places F (λ b away. leaving_away imaginary (port_at ports b) volts n (slice_get case.branches b) away) are past in
+    added ∙ ap (λ x. x -ℤ s) (is ∙ all) ∙ ap (λ y. sum_below (length case.branches) F -ℤ y) brought

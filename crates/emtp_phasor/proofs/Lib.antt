@@ -1,3 +1,4 @@
+pub mod BranchLists
 pub mod Blocks
 pub mod Ports
 pub mod Doubling

@@ -1,5 +1,5 @@
 -- What the branches put into a row, one after another.
-use Rattle.std.proofs.Common.{◌≡◌, ◌≢◌, ◌∙◌, sym, ap, ℕ, ◌+◌, ◌*◌, ◌^◌, ◌<◌, ◌≤◌, ◌==◌, ℤ, pos, ◌+ℤ◌, ◌*ℤ◌, unsigned_abs, Bool, true, false, if◌then◌else◌, List, All, length, slice_get, get_or, Option, Some, None, subst, inl, inr, arith}
+use Rattle.std.proofs.Common.{◌≡◌, ◌≢◌, ◌∙◌, sym, ap, ℕ, ◌+◌, ◌*◌, ◌^◌, ◌<◌, ◌≤◌, ◌==◌, ◌||◌, ℤ, pos, ◌+ℤ◌, ◌*ℤ◌, unsigned_abs, Bool, true, false, if◌then◌else◌, List, All, length, length-take-le, take, slice_get, get_or, Option, Some, None, refl, subst, inl, inr, arith}
 use Rattle.std.proofs.lemmas.Bool.{cases_lt}
 use Rattle.std.proofs.lemmas.Bool.Decides.{nat_tests}
 use Rattle.std.proofs.lemmas.Int.{ints}
@@ -11,14 +11,16 @@ use Rattle.emtp_case.specs.Branch.{IsBranch, from_of, to_of}
 use Rattle.emtp_case.specs.Case.{IsNetwork}
 use Rattle.emtp_case.specs.Sizes.{sizes_of}
 use Rattle.emtp_rows.proofs.Phases.{branch_ends}
-use Rattle.emtp_case.specs.Sums.{sum_below}
+use Rattle.emtp_case.specs.Sums.{sum_below, total}
 use Rattle.emtp_case.specs.declared.branch.Branch.{Branch}
 use Rattle.emtp_case.specs.declared.case.Parts.{Parts}
 use Rattle.emtp_case.specs.declared.row_kind.RowKind.{RowKind}
-use Rattle.emtp_case.proofs.Sums.{sum_below-more, sum_below_small}
+use Rattle.emtp_case.proofs.Sums.{sum_below-more, sum_below_small, total_small}
 use Rattle.emtp_case.specs.NodeRows.{is_member, node_at}
 use Rattle.emtp_admittance.specs.Admittances.{in_block, no_port, port_at, IsSmallPort}
 use Rattle.emtp_phasor.specs.Doubled.{between_nodes, admittance_entry}
+use Rattle.emtp_phasor.specs.HeldBranches.{branches_at, has_end_at}
+use Rattle.emtp_phasor.proofs.BranchLists.{place_sum_more, places_few, places_total}
 use Rattle.emtp_admittance.specs.declared.admittance.TwoPort.{TwoPort}
 use Rattle.emtp_phasor.proofs.Blocks.{in_block_small}
 
@@ -68,6 +70,21 @@ between_none row column y n m from to o x is first second off away =
     let other_off : (to_of x == n) ≡ false = grind (arith, nat_tests) in
     rw (is, one_off, other_off) (by_none (from_of x == m) (to_of x == m) (in_block row column y.own) (in_block row column y.other))
 
+-- a branch elsewhere brings nothing
+neither : (a b : Bool) → (a || b) ≡ false → (a ≡ false) × (b ≡ false)
+neither true b e = absurd (cc)
+neither false b e = (refl, e)
+
+pub ends_away : (n : ℕ) (x : Branch) → has_end_at n (Some x) ≡ false → ((from_of x == n) ≡ false) × ((to_of x == n) ≡ false)
+ends_away n x away = neither (from_of x == n) (to_of x == n) away
+
+pub between_away : (row column : Bool) (y : TwoPort) (n m : ℕ) (o : Option Branch) → has_end_at n o ≡ false → between_nodes row column y n m o ≡ pos 0
+between_away row column y n m None away = refl
+between_away row column y n m (Some x) away =
+    let off : (from_of x == n) ≡ false = (ends_away n x away).0 in
+    let other_off : (to_of x == n) ≡ false = (ends_away n x away).1 in
+    rw (off, other_off) (sym (by_none (from_of x == m) (to_of x == m) (in_block row column y.own) (in_block row column y.other)))
+
 -- ---- magnitudes
 
 product_small : (a c : Bool) (g : ℤ) → unsigned_abs g ≤ LARGEST_ENTRY → unsigned_abs ((if a then pos 1 else pos 0) *ℤ g *ℤ (if c then pos 1 else pos 0)) ≤ LARGEST_ENTRY
@@ -101,14 +118,17 @@ port_small ports b small = elim (cases_lt b (length ports)) [
   })
 ]
 
--- what the first branches put into a row stays far from the limits
-pub branches_small : (case : Parts) (ports : List TwoPort) (row column : Bool) (n m count : ℕ) → All IsSmallPort ports → count ≤ 5000
-    → unsigned_abs (sum_below count (λ b. between_nodes row column (port_at ports b) n m (slice_get case.branches b))) ≤ 2 * 10 ^ 21
-branches_small case ports row column n m count small few =
-    omega (arith, sum_below_small count (λ b. between_nodes row column (port_at ports b) n m (slice_get case.branches b)) (4 * 10 ^ 17) (λ b below. between_small row column (port_at ports b) n m (slice_get case.branches b) (port_small ports b small)))
+-- what branches put into a row stays far from the limits
+pub places_small : (case : Parts) (ports : List TwoPort) (row column : Bool) (n m i : ℕ) (places : List ℕ) → All IsSmallPort ports → places ≡ branches_at case n → i ≤ length places → length case.branches ≤ 5000
+    → unsigned_abs (total (λ b. between_nodes row column (port_at ports b) n m (slice_get case.branches b)) (take i places)) ≤ 2 * 10 ^ 21
+places_small case ports row column n m i places small are within few =
+    let F : ℕ → ℤ = λ b. between_nodes row column (port_at ports b) n m (slice_get case.branches b) in
+    let short : length (take i places) ≤ 5000 = omega (arith, length-take-le i places within, within, ap length are, places_few case n, few) in
+    omega (arith, short, total_small F (4 * 10 ^ 17) (λ b. between_small row column (port_at ports b) n m (slice_get case.branches b) (port_small ports b small)) (take i places))
 
 pub current_small : (case : Parts) (ports : List TwoPort) (row column : Bool) (n m : ℕ) → All IsSmallPort ports → length case.branches ≤ 5000 → unsigned_abs (admittance_entry case ports row column n m) ≤ 2 * 10 ^ 21
-current_small case ports row column n m small few = branches_small case ports row column n m (length case.branches) small few
+current_small case ports row column n m small few =
+    omega (arith, few, sum_below_small (length case.branches) (λ b. between_nodes row column (port_at ports b) n m (slice_get case.branches b)) (4 * 10 ^ 17) (λ b below. between_small row column (port_at ports b) n m (slice_get case.branches b) (port_small ports b small)))
 
 member_small : (b : Bool) (x : ℤ) (limit : ℕ) → unsigned_abs x ≤ limit → unsigned_abs (if b then x else pos 0) ≤ limit
 member_small true x limit small = small
@@ -121,16 +141,22 @@ group_small case ports kinds row column i m count small few size =
 
 -- ---- one more
 
--- one branch more
-pub branch_more : (case : Parts) (ports : List TwoPort) (row column : Bool) (n m at : ℕ) (start before after : ℤ) (y : TwoPort) → y ≡ port_at ports at
-    → before ≡ start +ℤ sum_below at (λ b. between_nodes row column (port_at ports b) n m (slice_get case.branches b))
-    → after ≡ before +ℤ between_nodes row column y n m (slice_get case.branches at)
-    → after ≡ start +ℤ sum_below (at + 1) (λ b. between_nodes row column (port_at ports b) n m (slice_get case.branches b))
-branch_more case ports row column n m at start before after y is so_far added =
+-- one branch at the node more
+pub branch_more : (case : Parts) (ports : List TwoPort) (row column : Bool) (n m i : ℕ) (places : List ℕ) (start before after : ℤ) (y : TwoPort) → i < length places → y ≡ port_at ports (get_or places i 0)
+    → before ≡ start +ℤ total (λ b. between_nodes row column (port_at ports b) n m (slice_get case.branches b)) (take i places)
+    → after ≡ before +ℤ between_nodes row column y n m (slice_get case.branches (get_or places i 0))
+    → after ≡ start +ℤ total (λ b. between_nodes row column (port_at ports b) n m (slice_get case.branches b)) (take (i + 1) places)
+branch_more case ports row column n m i places start before after y inside is so_far added =
     let F : ℕ → ℤ = λ b. between_nodes row column (port_at ports b) n m (slice_get case.branches b) in
-    let here : between_nodes row column y n m (slice_get case.branches at) ≡ F at = ap (λ y. between_nodes row column y n m (slice_get case.branches at)) is in
-    let more = sum_below-more at F in
-    omega (arith, ints, so_far, added, here, more)
+    let here : between_nodes row column y n m (slice_get case.branches (get_or places i 0)) ≡ F (get_or places i 0) = ap (λ y. between_nodes row column y n m (slice_get case.branches (get_or places i 0))) is in
+    place_sum_more F places i start before (between_nodes row column y n m (slice_get case.branches (get_or places i 0))) after inside here so_far added
+
+-- all of them
+pub node_entry : (case : Parts) (ports : List TwoPort) (row column : Bool) (n m i : ℕ) (places : List ℕ) (start x : ℤ) → places ≡ branches_at case n → length places ≤ i
+    → x ≡ start +ℤ total (λ b. between_nodes row column (port_at ports b) n m (slice_get case.branches b)) (take i places) → x ≡ start +ℤ admittance_entry case ports row column n m
+node_entry case ports row column n m i places start x are past is =
+    let F : ℕ → ℤ = λ b. between_nodes row column (port_at ports b) n m (slice_get case.branches b) in
+    is ∙ ap (λ s. start +ℤ s) (places_total case n i places F (λ b away. between_away row column (port_at ports b) n m (slice_get case.branches b) away) are past)
 
 -- one node of a group more
 pub group_more : (case : Parts) (ports : List TwoPort) (kinds : List RowKind) (row column : Bool) (i m k node : ℕ) (before after : ℤ) (member : Bool) → member ≡ is_member kinds i k → node ≡ node_at case k

@@ -5,6 +5,7 @@ pub mod Ending
 pub mod Solving
 pub mod Scanning
 pub mod Opening
+pub mod HeldBranches
 pub mod HeldRows
 pub mod HeldSystem
 pub mod HeldLines

@@ -8,10 +8,11 @@ ghost use Rattle.emtp_case.specs.Sums.{sum_below};
 ghost use Rattle.emtp_case.specs.NodeRows.{is_member, is_tie_to, kind_at, node_at};
 ghost use Rattle.emtp_fix.specs.declared.limit.TheConstants.{LARGEST_ENTRY};
 ghost use Rattle.emtp_admittance.specs.Admittances.{in_block, is_imaginary, IsSmallAdmittance, IsSmallPort};
+ghost use Rattle.emtp_phasor.specs.HeldBranches.{branches_at, branches_by_row};
 ghost use Rattle.emtp_phasor.specs.Doubled.{Doubled, between_nodes, admittance_entry, doubled_entry};
 
 use emtp_admittance::{Admittance, TwoPort};
-use emtp_case::{Case, RowKind, RowOrder};
+use emtp_case::{Case, Items, RowKind, RowOrder};
 use emtp_fix::PICO;
 
 /// Fills `out` with a row.
@@ -20,6 +21,7 @@ pub(crate) fn fill_row(
     order: &RowOrder,
     ports: &[TwoPort],
     kinds: &[RowKind],
+    lists: &[Items<u32>],
     row: usize,
     out: &mut [i128],
 )
@@ -28,6 +30,7 @@ pub(crate) fn fill_row(
     requires small { All IsSmallPort ports.now }
     requires kinds { length kinds.now ≡ length case.now.parts.nodes }
     requires ties { All (TieIsThere (length case.now.parts.nodes)) kinds.now }
+    requires lists { lists.now ≡ branches_by_row case.now.parts }
     requires row { row < 2 * length case.now.parts.nodes }
     requires out { length out.old ≡ 2 * length case.now.parts.nodes }
     ensures { (c : ℕ) → c < length out.old → item out.new c ≡ doubled_entry (record { case = case.now.parts; ports = ports.now; kinds = kinds.now }) row c (kind_at kinds.now (row / 2)) }
@@ -35,8 +38,12 @@ pub(crate) fn fill_row(
     out.fill(0);
     let imaginary = row % 2 == 1;
     match kinds[row / 2] {
-        RowKind::Kcl => add_node(case, order, ports, order.node_at(row / 2), imaginary, out),
-        RowKind::Sum => add_group(case, order, ports, kinds, row / 2, imaginary, out),
+        RowKind::Kcl => {
+            let node = order.node_at(row / 2);
+            let places = lists[row / 2].as_slice();
+            add_node(case, order, ports, places, node, imaginary, out);
+        }
+        RowKind::Sum => add_group(case, order, ports, kinds, lists, row / 2, imaginary, out),
         RowKind::Tie(other) => {
             add_to(out, row, PICO);
             add_to(out, 2 * other as usize + row % 2, -PICO);
@@ -51,6 +58,7 @@ fn add_group(
     order: &RowOrder,
     ports: &[TwoPort],
     kinds: &[RowKind],
+    lists: &[Items<u32>],
     i: usize,
     imaginary: bool,
     out: &mut [i128],
@@ -59,6 +67,7 @@ fn add_group(
     requires ports { length ports.now ≡ length case.now.parts.branches }
     requires small { All IsSmallPort ports.now }
     requires kinds { length kinds.now ≡ length case.now.parts.nodes }
+    requires lists { lists.now ≡ branches_by_row case.now.parts }
     requires out { length out.old ≡ 2 * length case.now.parts.nodes }
     requires zeros { (c : ℕ) → c < length out.old → item out.old c ≡ pos 0 }
     ensures { (c : ℕ) → c < length out.old → item out.new c ≡ sum_below (length case.now.parts.nodes) (λ k. if is_member kinds.now i k then admittance_entry case.now.parts ports.now imaginary (is_imaginary c) (node_at case.now.parts k) (node_at case.now.parts (c / 2)) else pos 0) }
@@ -69,6 +78,7 @@ fn add_group(
             case,
             order,
             ports,
+            lists[k].as_slice(),
             node,
             imaginary,
             is_member(kinds, i, k),
@@ -82,6 +92,7 @@ fn add_member(
     case: &Case,
     order: &RowOrder,
     ports: &[TwoPort],
+    places: &[u32],
     node: u32,
     imaginary: bool,
     is_member: bool,
@@ -90,12 +101,13 @@ fn add_member(
     requires order { order.now ≡ order_of case.now.parts }
     requires ports { length ports.now ≡ length case.now.parts.branches }
     requires small { All IsSmallPort ports.now }
+    requires places { places.now ≡ branches_at case.now.parts node }
     requires out { length out.old ≡ 2 * length case.now.parts.nodes }
     requires bound { (c : ℕ) → c < length out.old → unsigned_abs (item out.old c) ≤ 10 ^ 29 }
     ensures { (c : ℕ) → c < length out.old → item out.new c ≡ item out.old c +ℤ (if is_member then admittance_entry case.now.parts ports.now imaginary (is_imaginary c) node (node_at case.now.parts (c / 2)) else pos 0) }
 {
     if is_member {
-        add_node(case, order, ports, node, imaginary, out);
+        add_node(case, order, ports, places, node, imaginary, out);
     }
 }
 
@@ -115,11 +127,12 @@ fn is_tie_to(i: usize, kind: RowKind) -> bool
     }
 }
 
-/// Adds a part of the currents that leave a node through all branches, each in its columns.
+/// Adds a part of the currents that leave a node through the branches at it, each in its columns.
 fn add_node(
     case: &Case,
     order: &RowOrder,
     ports: &[TwoPort],
+    places: &[u32],
     node: u32,
     imaginary: bool,
     out: &mut [i128],
@@ -127,11 +140,13 @@ fn add_node(
     requires order { order.now ≡ order_of case.now.parts }
     requires ports { length ports.now ≡ length case.now.parts.branches }
     requires small { All IsSmallPort ports.now }
+    requires places { places.now ≡ branches_at case.now.parts node }
     requires out { length out.old ≡ 2 * length case.now.parts.nodes }
     requires bound { (c : ℕ) → c < length out.old → unsigned_abs (item out.old c) ≤ 10 ^ 29 }
     ensures { (c : ℕ) → c < length out.old → item out.new c ≡ item out.old c +ℤ admittance_entry case.now.parts ports.now imaginary (is_imaginary c) node (node_at case.now.parts (c / 2)) }
 {
-    for at in 0..ports.len() {
+    for place in places {
+        let at = *place as usize;
         add_branch(case, order, at, &ports[at], node, imaginary, out);
     }
 }

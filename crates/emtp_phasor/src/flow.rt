@@ -6,6 +6,7 @@ ghost use Rattle.emtp_case.specs.Branch.{from_of, to_of};
 ghost use Rattle.emtp_case.specs.RowOrder.{order_of};
 ghost use Rattle.emtp_case.specs.NodeRows.{group_sum, kind_at, node_at};
 ghost use Rattle.emtp_admittance.specs.Admittances.{in_block, port_at, IsSmallPort};
+ghost use Rattle.emtp_phasor.specs.HeldBranches.{branches_at, branches_by_row};
 ghost use Rattle.emtp_phasor.specs.Steady.{AllFlow, JudgesResiduals, entering, first_current, first_flow_out, flows, is_in_range, resting_kinds, leaving_node, leaving_through, residual_in, row_residual, second_current};
 ghost use Rattle.emtp_phasor.specs.Volts.{IsVolt, volt_at};
 
@@ -13,7 +14,7 @@ use crate::fill::{imaginary_column, is_member, real_column};
 use crate::phasor::Phasor;
 use crate::sources::sources_into;
 use emtp_admittance::{TwoPort, product};
-use emtp_case::{Branch, Case, RowKind, RowOrder};
+use emtp_case::{Branch, Case, Items, RowKind, RowOrder};
 use emtp_fix::{LARGEST_VALUE, PICO, near};
 use emtp_wave::CosTable;
 
@@ -149,12 +150,14 @@ fn leaving(
     table: &CosTable,
     case: &Case,
     ports: &[TwoPort],
+    places: &[u32],
     volts: &[Phasor],
     imaginary: bool,
     node: u32,
 ) -> i128
     requires ports { length ports.now ≡ length case.now.parts.branches }
     requires small { All IsSmallPort ports.now }
+    requires places { places.now ≡ branches_at case.now.parts node }
     requires volts { All IsVolt volts.now }
     requires nodes { length volts.now ≡ length case.now.parts.nodes + 1 }
     requires flows { AllFlow case.now.parts ports.now volts.now (length case.now.parts.branches) }
@@ -163,7 +166,8 @@ fn leaving(
 {
     let branches = case.parts.branches.as_slice();
     let mut sum = 0;
-    for at in 0..branches.len() {
+    for place in places {
+        let at = *place as usize;
         sum += leaving_by(imaginary, &ports[at], volts, node, &branches[at]);
     }
     sum - sources_into(table, case, imaginary, node)
@@ -174,6 +178,7 @@ fn leaving_member(
     table: &CosTable,
     case: &Case,
     ports: &[TwoPort],
+    places: &[u32],
     volts: &[Phasor],
     imaginary: bool,
     node: u32,
@@ -181,6 +186,7 @@ fn leaving_member(
 ) -> i128
     requires ports { length ports.now ≡ length case.now.parts.branches }
     requires small { All IsSmallPort ports.now }
+    requires places { places.now ≡ branches_at case.now.parts node }
     requires volts { All IsVolt volts.now }
     requires nodes { length volts.now ≡ length case.now.parts.nodes + 1 }
     requires flows { AllFlow case.now.parts ports.now volts.now (length case.now.parts.branches) }
@@ -188,7 +194,7 @@ fn leaving_member(
     ensures bound { unsigned_abs result ≤ 10 ^ 23 }
 {
     if is_member {
-        leaving(table, case, ports, volts, imaginary, node)
+        leaving(table, case, ports, places, volts, imaginary, node)
     } else {
         0
     }
@@ -201,6 +207,7 @@ fn leaving_group(
     order: &RowOrder,
     kinds: &[RowKind],
     ports: &[TwoPort],
+    lists: &[Items<u32>],
     volts: &[Phasor],
     imaginary: bool,
     i: usize,
@@ -209,6 +216,7 @@ fn leaving_group(
     requires kinds { kinds.now ≡ resting_kinds case.now.parts }
     requires ports { length ports.now ≡ length case.now.parts.branches }
     requires small { All IsSmallPort ports.now }
+    requires lists { lists.now ≡ branches_by_row case.now.parts }
     requires volts { All IsVolt volts.now }
     requires nodes { length volts.now ≡ length case.now.parts.nodes + 1 }
     requires flows { AllFlow case.now.parts ports.now volts.now (length case.now.parts.branches) }
@@ -221,6 +229,7 @@ fn leaving_group(
             table,
             case,
             ports,
+            lists[k].as_slice(),
             volts,
             imaginary,
             order.node_at(k),
@@ -248,6 +257,7 @@ fn residual(
     order: &RowOrder,
     kinds: &[RowKind],
     ports: &[TwoPort],
+    lists: &[Items<u32>],
     volts: &[Phasor],
     i: usize,
 ) -> i128
@@ -255,6 +265,7 @@ fn residual(
     requires kinds { kinds.now ≡ resting_kinds case.now.parts }
     requires ports { length ports.now ≡ length case.now.parts.branches }
     requires small { All IsSmallPort ports.now }
+    requires lists { lists.now ≡ branches_by_row case.now.parts }
     requires volts { All IsVolt volts.now }
     requires nodes { length volts.now ≡ length case.now.parts.nodes + 1 }
     requires flows { AllFlow case.now.parts ports.now volts.now (length case.now.parts.branches) }
@@ -265,15 +276,16 @@ fn residual(
     match kinds[i] {
         RowKind::Kcl => {
             let node = order.node_at(i);
+            let places = lists[i].as_slice();
             greater(
-                leaving(table, case, ports, volts, false, node),
-                leaving(table, case, ports, volts, true, node),
+                leaving(table, case, ports, places, volts, false, node),
+                leaving(table, case, ports, places, volts, true, node),
             )
         }
         RowKind::Sum => {
             greater(
-                leaving_group(table, case, order, kinds, ports, volts, false, i),
-                leaving_group(table, case, order, kinds, ports, volts, true, i),
+                leaving_group(table, case, order, kinds, ports, lists, volts, false, i),
+                leaving_group(table, case, order, kinds, ports, lists, volts, true, i),
             )
         }
         RowKind::Tie(_) | RowKind::Ground | RowKind::Source => 0,
@@ -294,12 +306,14 @@ pub(crate) fn judge(
     order: &RowOrder,
     kinds: &[RowKind],
     ports: &[TwoPort],
+    lists: &[Items<u32>],
     volts: &[Phasor],
 ) -> Result<i128, (usize, i128)>
     requires order { order.now ≡ order_of case.now.parts }
     requires kinds { kinds.now ≡ resting_kinds case.now.parts }
     requires ports { length ports.now ≡ length case.now.parts.branches }
     requires small { All IsSmallPort ports.now }
+    requires lists { lists.now ≡ branches_by_row case.now.parts }
     requires volts { All IsVolt volts.now }
     requires nodes { length volts.now ≡ length case.now.parts.nodes + 1 }
     requires flows { AllFlow case.now.parts ports.now volts.now (length case.now.parts.branches) }
@@ -307,7 +321,7 @@ pub(crate) fn judge(
 {
     let mut greatest = 0;
     for i in 0..case.parts.nodes.len() {
-        let residual = residual(table, case, order, kinds, ports, volts, i);
+        let residual = residual(table, case, order, kinds, ports, lists, volts, i);
         if exceeds(residual, case.parts.run.tolerance) {
             return Err((i, residual));
         }

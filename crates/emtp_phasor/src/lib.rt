@@ -17,6 +17,7 @@ mod fault;
 mod fill;
 mod flow;
 mod line;
+mod node_branches;
 mod opening;
 mod phasor;
 mod phasor_rows;

@@ -5,20 +5,23 @@ ghost use Rattle.emtp_case.specs.RowKinds.{AreKinds};
 ghost use Rattle.emtp_case.specs.RowOrder.{order_of};
 ghost use Rattle.emtp_admittance.specs.Admittances.{IsSmallPort};
 ghost use Rattle.emtp_admittance.specs.declared.limit.TheConstants.{MOST_PHASOR_NODES};
+ghost use Rattle.emtp_phasor.specs.HeldBranches.{branches_by_row};
 
 use crate::fill::fill_row;
 use emtp_admittance::TwoPort;
-use emtp_case::{Case, RowKind, RowOrder};
+use emtp_case::{Case, Items, RowKind, RowOrder};
 use emtp_elim::Rows;
 use std::marker::Model;
 
-/// The rows of the doubled nodal matrix, in pS.
+/// The rows of the doubled nodal matrix, in pS. Each row of the network has a list of the branches at its node, so that
+/// filling one costs its length and those branches.
 #[derive(Drop)]
 pub struct PhasorRows<'a> {
     case: &'a Case,
     order: RowOrder,
     ports: Vec<TwoPort>,
     kinds: Vec<RowKind>,
+    lists: Vec<Items<u32>>,
 }
 
 impl<'a> Model for PhasorRows<'a> {
@@ -33,7 +36,7 @@ impl<'a> Model for PhasorRows<'a> {
 
     ghost view = { λ s. record { case = s.case.now.parts; ports = s.ports.items; kinds = s.kinds.items } };
 
-    ghost invariant = { λ s. HoldsDoubled s.case.now.parts s.order s.ports.items s.kinds.items };
+    ghost invariant = { λ s. HoldsDoubled s.case.now.parts s.order s.ports.items s.kinds.items s.lists.items };
 }
 
 impl<'a> PhasorRows<'a> {
@@ -43,12 +46,14 @@ impl<'a> PhasorRows<'a> {
         order: RowOrder,
         ports: Vec<TwoPort>,
         kinds: Vec<RowKind>,
+        lists: Vec<Items<u32>>,
     ) -> PhasorRows<'a>
         requires few { length case.now.parts.nodes ≤ MOST_PHASOR_NODES }
         requires order { order ≡ order_of case.now.parts }
         requires ports { length ports.items ≡ length case.now.parts.branches }
         requires small { All IsSmallPort ports.items }
         requires kinds { AreKinds (length case.now.parts.nodes) order.fixed kinds.items }
+        requires lists { lists.items ≡ branches_by_row case.now.parts }
         ensures { result ≡ record { case = case.now.parts; ports = ports.items; kinds = kinds.items } }
     {
         PhasorRows {
@@ -56,7 +61,15 @@ impl<'a> PhasorRows<'a> {
             order,
             ports,
             kinds,
+            lists,
         }
+    }
+
+    /// For each row of the network the places of the branches at its node.
+    pub(crate) fn lists(&self) -> &[Items<u32>]
+        ensures { result.now ≡ branches_by_row self.now.case }
+    {
+        &self.lists
     }
 
     /// Gives the branches other admittances.
@@ -87,6 +100,14 @@ impl<'a> Rows for PhasorRows<'a> {
     }
 
     fn row(&self, i: usize, out: &mut [i128]) {
-        fill_row(self.case, &self.order, &self.ports, &self.kinds, i, out);
+        fill_row(
+            self.case,
+            &self.order,
+            &self.ports,
+            &self.kinds,
+            &self.lists,
+            i,
+            out,
+        );
     }
 }

@@ -10,6 +10,7 @@ ghost use Rattle.emtp_case.specs.EndNames.{IsNode};
 ghost use Rattle.emtp_case.specs.RowOrder.{order_of};
 ghost use Rattle.emtp_admittance.specs.Admittances.{IsSmallPort};
 ghost use Rattle.emtp_phasor.specs.Doubled.{doubled_matrix};
+ghost use Rattle.emtp_phasor.specs.HeldBranches.{branches_by_row};
 ghost use Rattle.emtp_phasor.specs.Steady.{AreGood, IsSteady, judged_volts, resting_kinds, doubled_system, named_ending, port_or_none, ports_of, steady_right, doubled_solution, steady};
 ghost use Rattle.emtp_phasor.specs.Volts.{IsVolt, nothing, volt_in, phasors_of};
 
@@ -18,7 +19,7 @@ use crate::flow::{first_out, judge};
 use crate::phasor::{NOTHING, Phasor};
 use crate::phasor_rows::PhasorRows;
 use emtp_admittance::{Admittance, Refusal, TwoPort, branch_port};
-use emtp_case::{Case, RowKind, RowOrder, branch_name};
+use emtp_case::{Case, Items, RowKind, RowOrder, branch_name};
 use emtp_fix::Steps;
 use emtp_machine::Cause;
 use emtp_tail::Kept;
@@ -179,12 +180,14 @@ pub(crate) fn judge_volts(
     order: &RowOrder,
     kinds: &[RowKind],
     ports: &[TwoPort],
+    lists: &[Items<u32>],
     volts: &[Phasor],
 ) -> Result<i128, Ending>
     requires order { order.now ≡ order_of case.now.parts }
     requires kinds { kinds.now ≡ resting_kinds case.now.parts }
     requires ports { length ports.now ≡ length case.now.parts.branches }
     requires small { All IsSmallPort ports.now }
+    requires lists { lists.now ≡ branches_by_row case.now.parts }
     requires volts { All IsVolt volts.now }
     requires nodes { length volts.now ≡ length case.now.parts.nodes + 1 }
     ensures good { IfOk result (λ greatest. AreGood case.now.parts ports.now volts.now greatest) }
@@ -194,7 +197,7 @@ pub(crate) fn judge_volts(
     if let Some(b) = first_out(case, ports, volts) {
         return Err(ending_at(branch_name(case, b), Cause::Range));
     }
-    match judge(table, case, order, kinds, ports, volts) {
+    match judge(table, case, order, kinds, ports, lists, volts) {
         Ok(greatest) => Ok(greatest),
         Err((row, measured)) => Err(Ending {
             node: order.node_at(row),
@@ -246,7 +249,7 @@ pub(crate) fn steady_at<L: Ledger>(
     ) {
         Ok(()) => {
             fill_volts(case, order, x, volts);
-            judge_volts(table, case, order, kinds, ports, volts)
+            judge_volts(table, case, order, kinds, ports, rows.lists(), volts)
         }
         Err(end) => Err(end),
     }

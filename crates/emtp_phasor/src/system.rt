@@ -15,6 +15,7 @@ ghost use Rattle.emtp_phasor.specs.Steady.{IsSteady, resting_kinds};
 ghost use Rattle.emtp_phasor.specs.Volts.{IsVolt, nothing};
 
 use crate::ending::{Ending, ending_at};
+use crate::node_branches::branches_by_row;
 use crate::opening::{Closed, right_side, row_kinds};
 use crate::phasor::{NOTHING, Phasor};
 use crate::phasor_rows::PhasorRows;
@@ -138,7 +139,8 @@ impl<'a> System<'a> {
         let rhs = vec![in alloc; 0i128; 2 * nodes]?;
         let x = vec![in alloc; 0i64; 2 * nodes]?;
         let volts = vec![in alloc; NOTHING; nodes + 1]?;
-        let rows = PhasorRows::new(case, copy, first, held);
+        let lists = branches_by_row(alloc, case, &order)?;
+        let rows = PhasorRows::new(case, copy, first, held, lists);
         let kept = Kept::open(alloc, &rows)?;
         Ok(System {
             order,

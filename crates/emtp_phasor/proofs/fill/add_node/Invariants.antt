@@ -1,10 +1,11 @@
-use Rattle.std.proofs.Common.{◌≡◌, ◌<◌, ◌/◌, ◌+ℤ◌, ℕ, length, slice_get}
-use Rattle.emtp_case.specs.Sums.{sum_below}
+use Rattle.std.proofs.Common.{◌≡◌, ◌<◌, ◌/◌, ◌+ℤ◌, ℕ, length, slice_get, take}
+use Rattle.emtp_case.specs.Sums.{total}
 use Rattle.emtp_elim.specs.Matrix.{item}
 use Rattle.emtp_case.specs.NodeRows.{node_at}
 use Rattle.emtp_admittance.specs.Admittances.{is_imaginary, port_at}
 use Rattle.emtp_phasor.specs.Doubled.{between_nodes}
 use Rattle.emtp_phasor.proofs.fill.add_node.Given as goal
 
-abbrev pub invariant-loop-at : goal.invariant-loop-at
-invariant-loop-at l = (c : ℕ) → c < length l.out → item l.out c ≡ item l.fn.out c +ℤ sum_below l.at (λ b. between_nodes l.imaginary (is_imaginary c) (port_at l.ports b) l.node (node_at l.case.parts (c / 2)) (slice_get l.case.parts.branches b))
+abbrev pub invariant-loop-place : goal.invariant-loop-place
+invariant-loop-place l = (c : ℕ) → c < length l.out
+    → item l.out c ≡ item l.fn.out c +ℤ total (λ b. between_nodes l.imaginary (is_imaginary c) (port_at l.ports b) l.node (node_at l.case.parts (c / 2)) (slice_get l.case.parts.branches b)) (take l.place-index l.places)

@@ -1,4 +1,4 @@
-use Rattle.std.proofs.Common.{◌≡◌, ◌∙◌, ◌<◌, ◌+◌, ◌*◌, ◌/◌, ◌%◌, arith, ℕ, length, pos, subst, inl, inr}
+use Rattle.std.proofs.Common.{◌≡◌, ◌∙◌, ◌<◌, ◌+◌, ◌*◌, ◌/◌, ◌%◌, ap, sym, arith, ℕ, length, pos, subst, inl, inr}
 use Rattle.std.proofs.lemmas.Grind.{common_steps}
 use Rattle.std.proofs.lemmas.List.{get_or_default}
 use Rattle.emtp_case.specs.declared.row_kind.RowKind.TheVariants.{Ground, Kcl, Tie}
@@ -6,11 +6,22 @@ use Rattle.emtp_case.specs.RowKinds.{TieIsThere}
 use Rattle.emtp_elim.specs.Matrix.{item}
 use Rattle.emtp_case.specs.NodeRows.{kind_at, unit}
 use Rattle.emtp_rows.proofs.Filled.{tie_set, unit_set}
-use Rattle.emtp_case.proofs.RowsOfNodes.{order_size}
+use Rattle.emtp_case.proofs.RowsOfNodes.{order_at, order_size}
+use Rattle.emtp_phasor.proofs.BranchLists.{list_read, lists_count}
 use Rattle.emtp_phasor.proofs.fill.fill_row.Goals as goal
 
-pub node_at-requires : goal.node_at-requires
-node_at-requires c = omega (arith, order_size c.args.case.now.parts c.args.order.now c.requires.order, c.requires.row)
+pub node_at-node-requires : goal.node_at-node-requires
+node_at-node-requires c = omega (arith, order_size c.args.case.now.parts c.args.order.now c.requires.order, c.requires.row)
+
+pub bounds-lists-row : goal.bounds-lists-row
+bounds-lists-row c = omega (arith, c.requires.row, ap length c.requires.lists, lists_count c.args.case.now.parts)
+
+pub add_node-requires-clause-places : goal.add_node-requires-clause-places
+add_node-requires-clause-places c =
+    let case = c.args.case.now.parts in
+    let half : c.args.row / 2 < length case.nodes = omega (arith, c.requires.row) in
+    list_read case c.args.lists.now (c.args.row / 2) c.node_at-node.result c.index-lists-row.result c.as_slice-places.result.now c.requires.lists half c.index-lists-row.is c.as_slice-places.ensures
+    (sym c.node_at-node.ensures.node ∙ order_at case c.args.order.now (c.args.row / 2) c.requires.order)
 
 pub returns-in-Tie : goal.returns-in-Tie
 returns-in-Tie c = λ j below.

@@ -1,11 +1,11 @@
-use Rattle.std.proofs.Common.{◌≡◌, ◌≤◌, ◌*◌, ◌^◌, unsigned_abs, slice_get}
-use Rattle.emtp_case.specs.Sums.{sum_below}
+use Rattle.std.proofs.Common.{◌≡◌, ◌≤◌, ◌*◌, ◌^◌, unsigned_abs, slice_get, take}
+use Rattle.emtp_case.specs.Sums.{total}
 use Rattle.emtp_admittance.specs.Admittances.{port_at}
 use Rattle.emtp_phasor.specs.Steady.{leaving_through}
 use Rattle.emtp_phasor.proofs.flow.leaving.Given as goal
 
-abbrev pub invariant-loop-at : goal.invariant-loop-at
-invariant-loop-at l = record {
-  sum_is : l.sum ≡ sum_below l.at (λ b. leaving_through l.imaginary (port_at l.ports b) l.volts l.node (slice_get l.case.parts.branches b));
-  small : unsigned_abs l.sum ≤ l.at * (2 * 10 ^ 18);
+abbrev pub invariant-loop-place : goal.invariant-loop-place
+invariant-loop-place l = record {
+  sum_is : l.sum ≡ total (λ b. leaving_through l.imaginary (port_at l.ports b) l.volts l.node (slice_get l.case.parts.branches b)) (take l.place-index l.places);
+  small : unsigned_abs l.sum ≤ l.place-index * (2 * 10 ^ 18);
 }

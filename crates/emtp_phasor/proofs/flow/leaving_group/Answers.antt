@@ -6,6 +6,7 @@ use Rattle.emtp_case.specs.NodeRows.{is_member, node_at}
 use Rattle.emtp_phasor.specs.Steady.{leaving_node}
 use Rattle.emtp_case.proofs.RowsOfNodes.{order_at}
 use Rattle.emtp_case.proofs.Sums.{member_more}
+use Rattle.emtp_phasor.proofs.BranchLists.{list_read, lists_count}
 use Rattle.emtp_phasor.proofs.Volting.{kinds_size}
 use Rattle.emtp_phasor.proofs.flow.leaving_group.Goals as goal
 
@@ -36,3 +37,21 @@ returns-clause-bound c =
     let case = c.args.case.now.parts in
     let few : c.loop-k.k ≤ 1000 = omega (arith, c.loop-k.auto.k-end, ap length c.requires.kinds, kinds_size case, c.args.case.now.fits.draft.counts.nodes) in
     omega (arith, ints, c.loop-k.invariant.small, few)
+
+pub offset_bounds-lists-k : goal.offset_bounds-lists-k
+offset_bounds-lists-k c =
+    let case = c.args.case.now.parts in
+    let few : c.loop-k.k < 1000 = omega (arith, c.loop-k-test.true, ap length c.requires.kinds, kinds_size case, c.args.case.now.fits.draft.counts.nodes) in
+    omega (arith, few)
+
+pub bounds-lists-k : goal.bounds-lists-k
+bounds-lists-k c =
+    let case = c.args.case.now.parts in
+    omega (arith, c.loop-k-test.true, ap length c.requires.kinds, kinds_size case, ap length c.requires.lists, lists_count case)
+
+pub leaving_member-sum-requires-clause-places : goal.leaving_member-sum-requires-clause-places
+leaving_member-sum-requires-clause-places c =
+    let case = c.args.case.now.parts in
+    let inside : c.loop-k.k < length case.nodes = omega (arith, c.loop-k-test.true, ap length c.requires.kinds, kinds_size case) in
+    list_read case c.args.lists.now c.loop-k.k c.node_at.result c.index-lists-k.result c.as_slice.result.now c.requires.lists inside c.index-lists-k.is c.as_slice.ensures
+    (sym c.node_at.ensures.node ∙ order_at case c.args.order.now c.loop-k.k c.requires.order)

@@ -4,6 +4,7 @@ use Rattle.std.proofs.lemmas.Int.{ints}
 use Rattle.std.proofs.lemmas.List.{get_or_default}
 use Rattle.emtp_case.specs.declared.row_kind.RowKind.TheVariants.{Ground, Kcl}
 use Rattle.emtp_case.proofs.RowsOfNodes.{order_at, order_size}
+use Rattle.emtp_phasor.proofs.BranchLists.{list_read, lists_count}
 use Rattle.emtp_phasor.proofs.Judging.{residual_kcl, residual_sum}
 use Rattle.emtp_phasor.proofs.Volting.{kinds_size}
 use Rattle.emtp_phasor.proofs.flow.residual.Goals as goal
@@ -37,3 +38,18 @@ returns-in-Sum-clause-value c =
     let two : to_z w128 (of_z w128 c.leaving_group-in-Sum.result) ≡ c.leaving_group-in-Sum.result = omega (arith, ints, c.leaving_group-in-Sum.ensures.bound) in
     let value = rw (one, two) at c.greater-in-Sum.ensures.value in
     wide ∙ value ∙ residual_sum case c.args.ports.now c.args.volts.now c.args.kinds.now i c.leaving_group.result c.leaving_group-in-Sum.result c.requires.kinds kind c.leaving_group.ensures.value c.leaving_group-in-Sum.ensures.value
+
+pub bounds-lists-i : goal.bounds-lists-i
+bounds-lists-i c = omega (arith, c.requires.there, ap length c.requires.lists, lists_count c.args.case.now.parts)
+
+pub leaving-requires-clause-places : goal.leaving-requires-clause-places
+leaving-requires-clause-places c =
+    let case = c.args.case.now.parts in
+    list_read case c.args.lists.now c.args.i c.node_at-node.result c.index-lists-i.result c.as_slice-places.result.now c.requires.lists c.requires.there c.index-lists-i.is c.as_slice-places.ensures
+    (sym c.node_at-node.ensures.node ∙ order_at case c.args.order.now c.args.i c.requires.order)
+
+pub leaving-requires-in-Kcl-clause-places : goal.leaving-requires-in-Kcl-clause-places
+leaving-requires-in-Kcl-clause-places c =
+    let case = c.args.case.now.parts in
+    list_read case c.args.lists.now c.args.i c.node_at-node.result c.index-lists-i.result c.as_slice-places.result.now c.requires.lists c.requires.there c.index-lists-i.is c.as_slice-places.ensures
+    (sym c.node_at-node.ensures.node ∙ order_at case c.args.order.now c.args.i c.requires.order)

@@ -13,6 +13,6 @@ returns-clause-size c =
 pub returns-clause-law : goal.returns-clause-law
 returns-clause-law c =
     let seen : Doubled = record { case = c.self.inside.case.now.parts; ports = c.self.inside.ports.items; kinds = c.self.inside.kinds.items } in
-    let law = doubled_lawful seen c.self.inside.order c.self.invariant c.self.inside.case.now.fits.draft.counts.branches in
+    let law = doubled_lawful seen c.self.inside.order c.self.inside.lists.items c.self.invariant c.self.inside.case.now.fits.draft.counts.branches in
     let P : Doubled → Type 0 = λ s. IsLawful (doubled_matrix s) (2 * (order_of s.case).fixed) in
     subst P c.self.view_is law
