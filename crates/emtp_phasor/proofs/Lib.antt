@@ -10,3 +10,5 @@ pub mod Judging
 pub mod AtRest
 pub mod Spans
 pub mod Lines
+pub mod ComplexMatrix
+pub mod PhasorLaws

@@ -1,4 +1,5 @@
 pub mod Doubled
+pub mod ComplexEntries
 pub mod Volts
 pub mod Steady
 pub mod Ending

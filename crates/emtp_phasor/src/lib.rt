@@ -16,6 +16,7 @@ mod ending;
 mod fault;
 mod fill;
 mod flow;
+mod laws;
 mod line;
 mod node_branches;
 mod opening;
@@ -28,6 +29,10 @@ mod steady;
 mod system;
 
 pub use fault::PhasorFault;
+pub use laws::{
+    admittances_are_symmetric, matrix_is_complex, scan_line_is_the_phasor, scan_lines_stand_alone,
+    series_current_goes_by_the_difference,
+};
 pub use line::{ScanAnswer, ScanLine};
 pub use phasor::Phasor;
 pub use scanning::{MOST_FREQUENCIES, scan};
