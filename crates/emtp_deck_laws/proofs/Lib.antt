@@ -1,0 +1,9 @@
+pub mod FirstRefusal
+pub mod LeastRefusal
+pub mod JudgedControl
+pub mod JudgedNetwork
+pub mod JudgedDeck
+pub mod UnbegunSections
+pub mod JudgedLines
+pub mod WalkedFront
+pub mod DeckFaults

@@ -1,0 +1,3 @@
+pub mod CardFaults
+pub mod JudgedCards
+pub mod LeastFault

@@ -1,0 +1,28 @@
+//! Which fault of a file is answered. The functions do nothing: their clauses are proved.
+
+ghost use Rattle.std.specs.Prelude.{◌≡◌, ◌+◌, ◌++◌, ℕ, List, Ok, Err, length, map};
+ghost use Rattle.emtp_card.specs.declared.reason.Bad.{Bad};
+ghost use Rattle.emtp_case.specs.declared.case.Parts.{Parts};
+ghost use Rattle.emtp_deck.specs.Deck.{deck_of};
+ghost use Rattle.emtp_deck_laws.specs.JudgedCards.{Judged, judged_cards};
+ghost use Rattle.emtp_deck_laws.specs.LeastFault.{IsFaultAmong, IsLeastAmong};
+ghost use Rattle.emtp_walk.specs.Laws.{Rises};
+ghost use Rattle.emtp_walk.specs.Walk.{empty_deck, walk};
+ghost use Rattle.emtp_walk.specs.declared.deck.Deck.{Deck};
+ghost use Rattle.emtp_walk.specs.declared.deck.Place.{Place};
+ghost use Rattle.emtp_walk.specs.declared.deck.Place.TheVariants.{Begin};
+
+/// Where all cards of a file can be read, its refusal is the least fault of all its cards by line, column and number of the
+/// reason: one card has it, and no card has one that comes before it. A file whose cards have no fault is a case. The cards
+/// are judged in the order of their lines, the second miscellaneous card first and the end of the file last.
+pub fn the_fault_is_the_least()
+    ensures order { (lines : List (List ℕ)) (deck : Deck) (place : Place) → walk 1 empty_deck Begin lines ≡ Ok (deck, place) → Rises deck.second (map (λ (card : Judged). card.line) (judged_cards (length lines) deck place)) (length lines + 2) }
+    ensures refused { (lines : List (List ℕ)) (deck : Deck) (place : Place) (bad : Bad) → walk 1 empty_deck Begin lines ≡ Ok (deck, place) → deck_of lines ≡ Err bad → IsLeastAmong (judged_cards (length lines) deck place) bad }
+    ensures accepted { (lines : List (List ℕ)) (deck : Deck) (place : Place) (case : Parts) (bad : Bad) → walk 1 empty_deck Begin lines ≡ Ok (deck, place) → deck_of lines ≡ Ok case → ¬ IsFaultAmong (judged_cards (length lines) deck place) bad }
+{}
+
+/// Lines behind a card that can't be read don't matter: where the lines of a file as far as one of them are refused, so is
+/// the file, whatever comes behind.
+pub fn lines_behind_a_fault_do_not_matter()
+    ensures { (front behind : List (List ℕ)) (bad : Bad) → walk 1 empty_deck Begin front ≡ Err bad → deck_of (front ++ behind) ≡ Err bad }
+{}

@@ -1,0 +1,15 @@
+//! What holds of every deck as a whole: which fault is answered, and what doesn't matter for it.
+//!
+//! Each law is a function that does nothing: its clauses are proved, and say what holds of every file. No program calls
+//! them. They are stated over the lines of a file, as `emtp_deck` reads them, and over the cards that `emtp_walk` finds in
+//! them, so this crate stands above both, and nothing stands on it. To use a law in a proof, call it:
+//!
+//! ```text
+//! the_fault_is_the_least();
+//! // now of every file whose cards can all be read, the refusal is known to be the least of all faults of its cards
+//! ```
+#![tactic(auto)]
+
+mod faults;
+
+pub use faults::{lines_behind_a_fault_do_not_matter, the_fault_is_the_least};
