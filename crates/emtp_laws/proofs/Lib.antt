@@ -9,6 +9,7 @@ mod NamedNodes
 mod OpenSwitches
 mod Breakers
 mod NodalConductances
+mod CoupledPhases
 mod Resistors
 mod ResistorRuns
 mod LineWaves

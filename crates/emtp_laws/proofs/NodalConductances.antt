@@ -1,5 +1,5 @@
 -- The conductances between nodes: symmetric, and of branches between two nodes their sum over all nodes with ground is 0.
-use Rattle.std.proofs.Common.{◌≡◌, ◌∙◌, ◌+◌, ◌<◌, ◌==◌, ℕ, zero, suc, ℤ, pos, ◌+ℤ◌, ◌-ℤ◌, ◌*ℤ◌, if◌then◌else◌, Bool, true, false, List, length, slice_get, slice_index_or, Option, Some, refl, ap, sym, subst, inl, inr, arith}
+use Rattle.std.proofs.Common.{◌≡◌, ◌∙◌, ◌+◌, ◌<◌, ◌==◌, ℕ, zero, suc, ℤ, pos, ◌+ℤ◌, ◌-ℤ◌, ◌*ℤ◌, if◌then◌else◌, Bool, true, false, List, length, slice_get, slice_index_or, Option, Some, None, refl, ap, sym, subst, inl, inr, arith}
 use Rattle.std.specs.List.{All}
 use Rattle.std.proofs.lemmas.Bool.{eq-eqb, ne_eqb, true≢false}
 use Rattle.std.proofs.lemmas.Int.{ints}
@@ -14,9 +14,9 @@ use Rattle.emtp_case.specs.declared.branch.Branch.TheVariants.{Lumped as OfLumpe
 use Rattle.emtp_case.specs.declared.case.Parts.{Parts}
 use Rattle.emtp_elim.specs.Matrix.{item}
 use Rattle.emtp_fix.proofs.Wide.{mul_add}
-use Rattle.emtp_rows.specs.Nodal.{between, current_entry, incidence, same_node}
+use Rattle.emtp_rows.specs.Nodal.{across, between, current_entry, incidence, same_node, to_ground}
 use Rattle.emtp_switch.proofs.Flows.{sum_below-none, sum_below-one}
-use Rattle.emtp_laws.specs.Branches.{HasNoThreePhaseLine, HasTwoPolesAlone, is_no_phase, is_two_pole}
+use Rattle.emtp_laws.specs.Branches.{HasTwoPolesAlone, is_two_pole}
 
 -- ---- symmetric
 
@@ -42,42 +42,39 @@ turn false false true false g = omega (arith, ints)
 turn false false false true g = omega (arith, ints)
 turn false false false false g = omega (arith, ints)
 
-abbrev one_if : Bool → ℤ
+abbrev pub one_if : Bool → ℤ
 one_if p = if p then pos 1 else pos 0
 
-turn_end : (p q : Bool) (g : ℤ) → one_if p *ℤ g *ℤ one_if q ≡ one_if q *ℤ g *ℤ one_if p
+pub turn_end : (p q : Bool) (g : ℤ) → one_if p *ℤ g *ℤ one_if q ≡ one_if q *ℤ g *ℤ one_if p
 turn_end true true g = refl
 turn_end true false g = omega (arith, ints)
 turn_end false true g = omega (arith, ints)
 turn_end false false g = refl
 
-between_symmetric : (case : Parts) (g : ℤ) (coupling : List ℤ) (n m : ℕ) (x : Branch) → is_no_phase x ≡ true → between case g coupling n m (Some x) ≡ between case g coupling m n (Some x)
-between_symmetric case g coupling n m (OfLumped x) plain = turn (x.from == n) (x.to == n) (x.from == m) (x.to == m) g
-between_symmetric case g coupling n m (OfPseudo x) plain = turn (x.from == n) (x.to == n) (x.from == m) (x.to == m) g
-between_symmetric case g coupling n m (OfLine x) plain = omega (arith, ints, turn_end (x.from == n) (x.from == m) g, turn_end (x.to == n) (x.to == m) g)
-between_symmetric case g coupling n m (OfPhase x) plain = absurd (true≢false (sym plain))
+-- what the branch at a place puts between nodes n and m by its own conductance alone
+abbrev pub own_part : ℤ → ℕ → ℕ → Option Branch → ℤ
+own_part g n m None = pos 0
+own_part g n m (Some (OfLumped x)) = across (OfLumped x) g n m
+own_part g n m (Some (OfPseudo x)) = across (OfPseudo x) g n m
+own_part g n m (Some (OfLine x)) = to_ground false (OfLine x) g n m +ℤ to_ground true (OfLine x) g n m
+own_part g n m (Some (OfPhase x)) = to_ground false (OfPhase x) g n m +ℤ to_ground true (OfPhase x) g n m
 
-pub symmetric : (case : Parts) (own coupling : List ℤ) (n m : ℕ) → HasNoThreePhaseLine case → current_entry case own coupling n m ≡ current_entry case own coupling m n
-symmetric case own coupling n m plain =
-    sum_below_same (length case.branches) (λ b. between case (item own b) coupling n m (slice_get case.branches b)) (λ b. between case (item own b) coupling m n (slice_get case.branches b)) (λ b below. elim ((slice_get_cases case.branches b).1) [
-      | inl is ↦
-          let x = is.0 in
-          let own_plain : is_no_phase x ≡ true = subst (λ (y : Branch). is_no_phase y ≡ true) is.3 (plain b x below) in
-          ap (λ (o : Option Branch). between case (item own b) coupling n m o) is.2
-          ∙ between_symmetric case (item own b) coupling n m x own_plain
-          ∙ sym (ap (λ (o : Option Branch). between case (item own b) coupling m n o) is.2)
-      | inr past ↦ absurd (omega (arith, below, past.0))
-    ])
+pub own_symmetric : (g : ℤ) (n m : ℕ) (o : Option Branch) → own_part g n m o ≡ own_part g m n o
+own_symmetric g n m None = refl
+own_symmetric g n m (Some (OfLumped x)) = turn (x.from == n) (x.to == n) (x.from == m) (x.to == m) g
+own_symmetric g n m (Some (OfPseudo x)) = turn (x.from == n) (x.to == n) (x.from == m) (x.to == m) g
+own_symmetric g n m (Some (OfLine x)) = omega (arith, ints, turn_end (x.from == n) (x.from == m) g, turn_end (x.to == n) (x.to == m) g)
+own_symmetric g n m (Some (OfPhase x)) = omega (arith, ints, turn_end (x.from == n) (x.from == m) g, turn_end (x.to == n) (x.to == m) g)
 
 -- ---- sums over all nodes
 
-sum_swapped : (a b : ℕ) (f : ℕ → ℕ → ℤ) → sum_below a (λ i. sum_below b (λ j. f i j)) ≡ sum_below b (λ j. sum_below a (λ i. f i j))
+pub sum_added : (n : ℕ) (g h : ℕ → ℤ) → sum_below n (λ j. g j +ℤ h j) ≡ sum_below n g +ℤ sum_below n h
+sum_added zero g h = refl
+sum_added (suc n) g h = omega (arith, ints, sum_added n g h)
+
+pub sum_swapped : (a b : ℕ) (f : ℕ → ℕ → ℤ) → sum_below a (λ i. sum_below b (λ j. f i j)) ≡ sum_below b (λ j. sum_below a (λ i. f i j))
 sum_swapped zero b f = sym (sum_below-none b (λ j. pos 0) (λ j below. refl))
-sum_swapped (suc a) b f = ap (λ x. x +ℤ sum_below b (λ j. f a j)) (sum_swapped a b f) ∙ joined b (λ j. sum_below a (λ i. f i j)) (λ j. f a j)
-  where
-    joined : (n : ℕ) (g h : ℕ → ℤ) → sum_below n g +ℤ sum_below n h ≡ sum_below n (λ j. g j +ℤ h j)
-    joined zero g h = refl
-    joined (suc n) g h = omega (arith, ints, joined n g h)
+sum_swapped (suc a) b f = ap (λ x. x +ℤ sum_below b (λ j. f a j)) (sum_swapped a b f) ∙ sym (sum_added b (λ j. sum_below a (λ i. f i j)) (λ j. f a j))
 
 sum_scaled : (n : ℕ) (c : ℤ) (f : ℕ → ℤ) → sum_below n (λ j. c *ℤ f j) ≡ c *ℤ sum_below n f
 sum_scaled zero c f = omega (arith, ints)

@@ -15,17 +15,6 @@ is_two_pole (OfLine x) = false
 is_two_pole (OfPseudo x) = true
 is_two_pole (OfPhase x) = false
 
--- any branch but a phase of a three-phase line
-abbrev pub is_no_phase : Branch → Bool
-is_no_phase (OfLumped x) = true
-is_no_phase (OfLine x) = true
-is_no_phase (OfPseudo x) = true
-is_no_phase (OfPhase x) = false
-
--- the network has no three-phase line
-abbrev pub HasNoThreePhaseLine : Parts → Type 0
-HasNoThreePhaseLine case = All (λ (x : Branch). is_no_phase x ≡ true) case.branches
-
 -- all branches are between two nodes
 abbrev pub HasTwoPolesAlone : Parts → Type 0
 HasTwoPolesAlone case = All (λ (x : Branch). is_two_pole x ≡ true) case.branches

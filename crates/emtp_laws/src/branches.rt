@@ -12,7 +12,7 @@ ghost use Rattle.emtp_line.specs.Mode.{mode_of_line};
 ghost use Rattle.emtp_machine.specs.Laws.{records_upto};
 ghost use Rattle.emtp_net.specs.System.{conductances, couplings};
 ghost use Rattle.emtp_rows.specs.Nodal.{current_entry};
-ghost use Rattle.emtp_laws.specs.Branches.{AreHistoriesWithin, AreWavesWithin, HasNoThreePhaseLine, HasTwoPolesAlone, IsResistorAt, TakesPower, reversed_line};
+ghost use Rattle.emtp_laws.specs.Branches.{AreHistoriesWithin, AreWavesWithin, HasTwoPolesAlone, IsResistorAt, TakesPower, reversed_line};
 
 use emtp_case::Case;
 
@@ -21,9 +21,8 @@ pub fn resistor_takes_power(case: &Case)
     ensures { (n b : ℕ) (x : Lumped) → IsResistorAt case.now.parts b x → TakesPower b x (latest (records_upto case.now.parts n)) }
 {}
 
-/// The conductance between two nodes is the same seen from either, in each step of a network without three-phase lines.
+/// The conductance between two nodes is the same seen from either, in each step of any network, three-phase lines among it.
 pub fn conductances_are_symmetric(case: &Case)
-    requires plain { HasNoThreePhaseLine case.now.parts }
     ensures { (H : List StepRecord) (n m : ℕ) → current_entry case.now.parts (conductances case.now.parts H) (couplings case.now.parts) n m ≡ current_entry case.now.parts (conductances case.now.parts H) (couplings case.now.parts) m n }
 {}
 
