@@ -14,9 +14,13 @@ mod Resistors
 mod ResistorRuns
 mod LineWaves
 mod LimitedOutputs
+mod LimitersOfRuns
+mod VariablesOfBlocks
 mod SampleCounts
 mod MirroredNumbers
 mod OddBranches
+mod ReversedSeries
+mod SeriesVoltages
 mod OddSegments
 mod MirroredRecords
 mod MirroredBranches

@@ -1,12 +1,16 @@
 -- What is true of the branches of a network.
-use Rattle.std.specs.Prelude.{◌≡◌, ◌≤◌, ◌≤ℤ◌, ◌-ℤ◌, ◌*ℤ◌, ℕ, ℤ, pos, List, unsigned_abs, slice_get, Some, Bool, true, false, All}
+use Rattle.std.specs.Prelude.{◌≡◌, ◌≤◌, ◌≤ℤ◌, ◌+◌, ◌*◌, ◌^◌, ◌+ℤ◌, ◌-ℤ◌, ◌*ℤ◌, ℕ, ℤ, pos, List, unsigned_abs, slice_get, Some, Bool, true, false, All}
+use Rattle.emtp_case.specs.Branch.{series_impedance}
 use Rattle.emtp_case.specs.StepRecord.{StepRecord, branch_current_at, voltage_at}
 use Rattle.emtp_case.specs.declared.branch.Branch.{Branch}
 use Rattle.emtp_case.specs.declared.branch.Branch.TheVariants.{Lumped as OfLumped, Line as OfLine, Pseudo as OfPseudo, Phase as OfPhase}
 use Rattle.emtp_case.specs.declared.branch.LineState.{LineState}
 use Rattle.emtp_case.specs.declared.branch.Lumped.{Lumped}
+use Rattle.emtp_case.specs.declared.branch.LumpedState.{LumpedState}
 use Rattle.emtp_case.specs.declared.case.Parts.{Parts}
 use Rattle.emtp_elim.specs.Matrix.{item}
+use Rattle.emtp_lumped.specs.Step.{history_voltage_of}
+use Rattle.emtp_lumped.specs.declared.companion.Companion.{Companion}
 
 -- a branch between two nodes, of which no end touches ground by itself: no line and no phase of one
 abbrev pub is_two_pole : Branch → Bool
@@ -22,6 +26,30 @@ HasTwoPolesAlone case = All (λ (x : Branch). is_two_pole x ≡ true) case.branc
 -- the same line seen from its other end
 abbrev pub reversed_line : LineState → LineState
 reversed_line s = record { from_current = s.to_current; to_current = s.from_current; from_wave = s.to_wave; to_wave = s.from_wave }
+
+-- the same series branch, put in the other way round
+abbrev pub reversed_series : Lumped → Lumped
+reversed_series x = record x { «from» = x.to; to = x.from }
+
+-- the voltage of a branch, from its first node to its second
+abbrev pub voltage_across : List ℤ → Lumped → ℤ
+voltage_across voltages x = item voltages x.from -ℤ item voltages x.to
+
+-- by how much a branch's voltage exceeds the drops at its resistance, its inductance and its capacitance, in 1e-6 nV
+abbrev pub excess_voltage : Lumped → ℤ → LumpedState → ℤ
+excess_voltage x v s = pos (10 ^ 6) *ℤ v -ℤ (x.r *ℤ s.current +ℤ pos (10 ^ 6) *ℤ (s.v_l +ℤ s.v_c))
+
+-- The voltage of a branch is the sum of its drops within 1.5 nV, 1 nA times its impedance Z in a step, and the part Z / 2e12 of the
+-- magnitudes of the voltage and of the last record's history voltage: what its quotients round. Twice 1e12 times the excess,
+-- so that nothing is divided.
+abbrev pub AddsUpDrops : ℤ → Lumped → LumpedState → ℤ → LumpedState → Type 0
+AddsUpDrops dt x old v new =
+    let z = unsigned_abs (series_impedance dt x.r x.l x.c) in
+    2 * 10 ^ 12 * unsigned_abs (excess_voltage x v new) ≤ 3 * 10 ^ 18 + 2 * 10 ^ 12 * z + z * (unsigned_abs v + unsigned_abs old.history_voltage)
+
+-- the history voltage that a record keeps is that of its current and of its two other voltages
+abbrev pub HasItsHistoryVoltage : Companion → LumpedState → Type 0
+HasItsHistoryVoltage c s = s.history_voltage ≡ history_voltage_of c s.current s.v_l s.v_c
 
 -- no wave of the list exceeds the limit in magnitude
 abbrev pub AreWavesWithin : ℕ → List ℤ → Type 0

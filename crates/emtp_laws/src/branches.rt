@@ -1,18 +1,22 @@
 //! What is true of the branches of a network. The functions do nothing: their clauses are proved.
 
 ghost use Rattle.std.specs.Prelude.{◌≡◌, ◌+◌, ℕ, ℤ, pos, List, Some, length, map, option_map, slice_get};
-ghost use Rattle.emtp_case.specs.StepRecord.{StepRecord, latest};
+ghost use Rattle.emtp_case.specs.StepRecord.{StepRecord, latest, no_lumped};
 ghost use Rattle.emtp_case.specs.Sums.{sum_below};
-ghost use Rattle.emtp_case.specs.declared.branch.Branch.TheVariants.{Line as OfLine};
+ghost use Rattle.emtp_case.specs.declared.branch.Branch.TheVariants.{Line as OfLine, Lumped as OfLumped};
 ghost use Rattle.emtp_case.specs.declared.branch.Line.{Line};
 ghost use Rattle.emtp_case.specs.declared.branch.LineState.{LineState};
 ghost use Rattle.emtp_case.specs.declared.branch.Lumped.{Lumped};
 ghost use Rattle.emtp_line.specs.Line.{from_waves, line_histories, next_state, to_waves};
 ghost use Rattle.emtp_line.specs.Mode.{mode_of_line};
+ghost use Rattle.emtp_case.specs.declared.branch.LumpedState.{LumpedState};
+ghost use Rattle.emtp_lumped.specs.Companion.{companion_of};
+ghost use Rattle.emtp_lumped.specs.Lumps.{newest, next_of};
 ghost use Rattle.emtp_machine.specs.Laws.{records_upto};
 ghost use Rattle.emtp_net.specs.System.{conductances, couplings};
 ghost use Rattle.emtp_rows.specs.Nodal.{current_entry};
-ghost use Rattle.emtp_laws.specs.Branches.{AreHistoriesWithin, AreWavesWithin, HasTwoPolesAlone, IsResistorAt, TakesPower, reversed_line};
+ghost use Rattle.emtp_laws.specs.Branches.{AddsUpDrops, AreHistoriesWithin, AreWavesWithin, HasItsHistoryVoltage, HasTwoPolesAlone, IsResistorAt, TakesPower, reversed_line, reversed_series, voltage_across};
+ghost use Rattle.emtp_laws.specs.Mirror.{mirrored_lumped};
 
 use emtp_case::Case;
 
@@ -42,4 +46,18 @@ pub fn line_does_not_amplify(case: &Case)
 /// one had, to the last digit.
 pub fn reversed_line_answers_alike(case: &Case)
     ensures { (x : Line) (past : List LineState) (v w : ℤ) → next_state (mode_of_line case.now.parts.run.dt x) (map reversed_line past) w v ≡ option_map reversed_line (next_state (mode_of_line case.now.parts.run.dt x) past v w) }
+{}
+
+/// A series branch that is put in the other way round has the opposite current and the opposite voltages inside, to the last
+/// digit, whatever the voltages of its nodes are.
+pub fn reversed_series_branch_answers_opposite(case: &Case)
+    ensures { (x : Lumped) (past : List LumpedState) (voltages : List ℤ) → next_of case.now.parts (reversed_series x) (map mirrored_lumped past) (voltage_across voltages (reversed_series x)) ≡ option_map mirrored_lumped (next_of case.now.parts x past (voltage_across voltages x)) }
+{}
+
+/// Along a series branch the voltage is the sum of its drops R i + vL + vC, within the rounding of a step: 1.5 nV, 1 nA times the
+/// impedance Z of the branch, and the part Z / 2e12 of the magnitudes of the voltage and of the last history voltage, Z in
+/// micro-ohm. Each record keeps the history voltage that the next one's sum asks for, the first one too.
+pub fn series_voltage_is_the_sum_of_its_drops(case: &Case)
+    ensures rest { (x : Lumped) → HasItsHistoryVoltage (companion_of case.now.parts.run.dt x) no_lumped }
+    ensures step { (b : ℕ) (x : Lumped) (past : List LumpedState) (v : ℤ) (new : LumpedState) → slice_get case.now.parts.branches b ≡ Some (OfLumped x) → HasItsHistoryVoltage (companion_of case.now.parts.run.dt x) (newest past) → next_of case.now.parts x past v ≡ Some new → AddsUpDrops case.now.parts.run.dt x (newest past) v new × HasItsHistoryVoltage (companion_of case.now.parts.run.dt x) new }
 {}

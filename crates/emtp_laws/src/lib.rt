@@ -20,9 +20,10 @@ mod switches;
 
 pub use branches::{
     conductances_add_up_to_zero, conductances_are_symmetric, line_does_not_amplify,
-    resistor_takes_power, reversed_line_answers_alike,
+    resistor_takes_power, reversed_line_answers_alike, reversed_series_branch_answers_opposite,
+    series_voltage_is_the_sum_of_its_drops,
 };
-pub use control::outputs_lie_between_their_limits;
+pub use control::{block_variables_have_their_outputs, outputs_lie_between_their_limits};
 pub use mirror::{
     mirror_image_is_a_case, mirrored_run, mirrored_run_with_control, mirrored_step,
     network_is_blind_to_the_control, quiet_network_stays_at_rest,
