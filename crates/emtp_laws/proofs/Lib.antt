@@ -16,6 +16,7 @@ mod LineWaves
 mod LimitedOutputs
 mod LimitersOfRuns
 mod VariablesOfBlocks
+mod LimitsOfRuns
 mod SampleCounts
 mod MirroredNumbers
 mod OddBranches

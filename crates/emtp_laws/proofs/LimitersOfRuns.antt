@@ -67,7 +67,7 @@ next_left case H r e = record_left case H r (network_part case H) e
 
 -- ---- the limiter of a block
 
-abbrev StandsRight : List ℤ → Block → BlockState → Type 0
+abbrev pub StandsRight : List ℤ → Block → BlockState → Type 0
 StandsRight later b s = HasItsLimit (limit_of later b.low) (limit_of later b.high) s.limiter
 
 kept_right : (later : List ℤ) (b : Block) (o : Option BlockState) → IfSome o (StandsRight later b) → StandsRight later b (unwrap_or o no_block)
@@ -95,7 +95,7 @@ rest_right : (case : Parts) (later : List ℤ) (i : ℕ) (b : Block) → slice_g
 rest_right case later i b is =
     subst (StandsRight later b) (sym (get_or-replicate (length case.blocks) i no_block no_block (slice_get_within case.blocks i b is))) tt
 
-chain_right : (case : Parts) (H : List StepRecord) (later : List ℤ) (i : ℕ) (b : Block) → slice_get case.blocks i ≡ Some b → IsChain case H → StandsRight later b (state_at H i)
+pub chain_right : (case : Parts) (H : List StepRecord) (later : List ℤ) (i : ℕ) (b : Block) → slice_get case.blocks i ≡ Some b → IsChain case H → StandsRight later b (state_at H i)
 chain_right case [] later i b at is = absurd is
 chain_right case (r ∷ []) later i b at is = subst (λ (x : StepRecord). StandsRight later b (slice_index_or x.blocks i no_block)) (sym is) (rest_right case later i b at)
 chain_right case (r ∷ s ∷ past) later i b at is = next_right case (s ∷ past) r later i b at is.0

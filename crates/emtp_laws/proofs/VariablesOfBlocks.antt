@@ -83,7 +83,7 @@ other_card case i n e each own there below is same =
 -- ---- what a write leaves
 
 -- a value of this variable leaves what `of` reads as it was
-abbrev Leaves : {X : Type 0} → (List ℤ → X) → ℕ → Type 0
+abbrev pub Leaves : {X : Type 0} → (List ℤ → X) → ℕ → Type 0
 Leaves of var = (vs : List ℤ) (y : ℤ) → of (slice_set vs var y) ≡ of vs
 
 written_leaves : {X : Type 0} (of : List ℤ → X) (var : ℕ) (s t : SoFar) (o : Option ℤ) → Leaves of var → written var s o ≡ Ok t → of t.values ≡ of s.values
@@ -117,16 +117,16 @@ turn_leaves of f keeps (suc n) s t is =
     let one = then_ok (in_turn f n s) (f n) t is in
     keeps n one.0 t one.2 ∙ turn_leaves of f keeps n s one.0 one.1
 
-extras_leave : {X : Type 0} (of : List ℤ → X) (case : Parts) (H : List StepRecord) (early : Bool) (s t : SoFar) → ((n : ℕ) (e : Extra) → slice_get case.extras n ≡ Some e → Leaves of (var_of e)) → extras case H early s ≡ Ok t → of t.values ≡ of s.values
+pub extras_leave : {X : Type 0} (of : List ℤ → X) (case : Parts) (H : List StepRecord) (early : Bool) (s t : SoFar) → ((n : ℕ) (e : Extra) → slice_get case.extras n ≡ Some e → Leaves of (var_of e)) → extras case H early s ≡ Ok t → of t.values ≡ of s.values
 extras_leave of case H early s t left is =
     turn_leaves of (extra_at case H early) (λ n u w made. extra_leaves of case H early n u w (slice_get case.extras n) (left n) made) (length case.extras) s t is
 
 -- ---- how many values there are
 
-as_many : (var : ℕ) → Leaves (length {A = ℤ}) var
+pub as_many : (var : ℕ) → Leaves (length {A = ℤ}) var
 as_many var vs y = length-set vs var y
 
-known_count : (case : Parts) (H : List StepRecord) (m : Measured) (known : SoFar) → length (latest H).values ≡ length case.vars → 6 ≤ length case.vars → known_before case H m ≡ Ok known → length known.values ≡ length case.vars
+pub known_count : (case : Parts) (H : List StepRecord) (m : Measured) (known : SoFar) → length (latest H).values ≡ length case.vars → 6 ≤ length case.vars → known_before case H m ≡ Ok known → length known.values ≡ length case.vars
 known_count case H m known count six is =
     let first = then_ok (sources case (length H) m (starting case H)) (extras case H true) known is in
     let behind = extras_leave (length {A = ℤ}) case H true first.0 known (λ n e at. as_many (var_of e)) first.2 in
@@ -136,7 +136,7 @@ known_count case H m known count six is =
 
 -- ---- the outputs among the values
 
-outputs_count : (case : Parts) (ys : List ℤ) (n : ℕ) (known : List ℤ) → length (with_outputs case ys n known) ≡ length known
+pub outputs_count : (case : Parts) (ys : List ℤ) (n : ℕ) (known : List ℤ) → length (with_outputs case ys n known) ≡ length known
 outputs_count case ys zero known = refl
 outputs_count case ys (suc n) known = length-set (with_outputs case ys n known) (block_var case n) (item ys n) ∙ outputs_count case ys n known
 
@@ -154,15 +154,15 @@ output_there case ys known i (suc n) below within there apart =
     ]
 
 -- the values are those with the outputs, from some solved unknowns
-record HaveOutputs (case : Parts) (H : List StepRecord) (known values : List ℤ) : Type 0 where
-  solved : List ℤ
-  are : values ≡ with_outputs case (outputs case H known solved) (length case.blocks) known
+pub record HaveOutputs (case : Parts) (H : List StepRecord) (known values : List ℤ) : Type 0 where
+  pub solved : List ℤ
+  pub are : values ≡ with_outputs case (outputs case H known solved) (length case.blocks) known
 
 accepted_outputs : (case : Parts) (H : List StepRecord) (known xs : List ℤ) (out : Option ℕ) (s : Solved) → accepted case H known xs out ≡ Ok s → HaveOutputs case H known s.values
 accepted_outputs case H known xs (Some i) s e = absurd (cc)
 accepted_outputs case H known xs None s e = record { solved = xs; are = sym (ap (λ (t : Solved). t.values) (same_ok _ s e)) }
 
-solved_outputs : (case : Parts) (H : List StepRecord) (known : List ℤ) (o : Result (List ℤ) PlainFault) (s : Solved) → solved_by case H known o ≡ Ok s → HaveOutputs case H known s.values
+pub solved_outputs : (case : Parts) (H : List StepRecord) (known : List ℤ) (o : Result (List ℤ) PlainFault) (s : Solved) → solved_by case H known o ≡ Ok s → HaveOutputs case H known s.values
 solved_outputs case H known (Err fault) s e = absurd (cc)
 solved_outputs case H known (Ok xs) s e = accepted_outputs case H known xs (first_out case H known xs) s e
 

@@ -10,7 +10,7 @@ ghost use Rattle.emtp_elim.specs.Matrix.{item};
 ghost use Rattle.emtp_tacs.specs.Part.{ControlPart};
 ghost use Rattle.emtp_tacs.specs.Step.{Measured, SoFar, control_step, known_before};
 ghost use Rattle.emtp_machine.specs.Laws.{records_upto};
-ghost use Rattle.emtp_laws.specs.Control.{AreOrderedLimits, HasItsLimit, IsWithinLimits};
+ghost use Rattle.emtp_laws.specs.Control.{AreLimitsKept, AreOrderedLimits, HasItsLimit, IsWithinLimits};
 
 use emtp_case::Case;
 
@@ -23,8 +23,14 @@ pub fn outputs_lie_between_their_limits(case: &Case)
     ensures run { (n : ℕ) (known xs : List ℤ) (i : ℕ) (b : Block) → slice_get case.now.parts.blocks i ≡ Some b → AreOrderedLimits (limit_of known b.low) (limit_of known b.high) → IsWithinLimits (limit_of known b.low) (limit_of known b.high) (output_at case.now.parts (records_upto case.now.parts n) known xs i) }
 {}
 
+/// In each record of a run the variable of each block lies between the block's limits, where the low one is at most the high
+/// one: it has the output that the blocks record, and no other card writes it behind them.
+pub fn block_variables_lie_between_their_limits(case: &Case)
+    ensures { (n : ℕ) → AreLimitsKept case.now.parts (records_upto case.now.parts n) }
+{}
+
 /// In each step of the control the variable of a block has the output that the blocks record: no other card writes it behind
-/// them. So whoever reads it reads an output between its limits.
+/// them.
 pub fn block_variables_have_their_outputs(case: &Case)
     ensures { (H : List StepRecord) (m : Measured) (known : SoFar) (part : ControlPart) (i : ℕ) (b : Block) → length (latest H).values ≡ length case.now.parts.vars → known_before case.now.parts H m ≡ Ok known → control_step case.now.parts H m ≡ Ok part → slice_get case.now.parts.blocks i ≡ Some b → (xs : List ℤ) × (item part.values b.var ≡ output_at case.now.parts H known.values xs i) }
 {}

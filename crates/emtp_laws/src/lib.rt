@@ -23,7 +23,10 @@ pub use branches::{
     resistor_takes_power, reversed_line_answers_alike, reversed_series_branch_answers_opposite,
     series_voltage_is_the_sum_of_its_drops,
 };
-pub use control::{block_variables_have_their_outputs, outputs_lie_between_their_limits};
+pub use control::{
+    block_variables_have_their_outputs, block_variables_lie_between_their_limits,
+    outputs_lie_between_their_limits,
+};
 pub use mirror::{
     mirror_image_is_a_case, mirrored_run, mirrored_run_with_control, mirrored_step,
     network_is_blind_to_the_control, quiet_network_stays_at_rest,
