@@ -1,12 +1,13 @@
 -- A small network, worked out by hand, on which the laws say what they should. 100 V feed 1 ohm, three closed switches in a loop
 -- and 1 ohm to ground: 50 A, and 50 V at each node of the loop.
-use Rattle.std.proofs.Common.{◌≡◌, ◌^◌, ◌*◌, ℕ, ℤ, pos, neg_ℤ, ◌*ℤ◌, false, List, [], ◌∷◌, map, Some, None, Ok, refl}
+use Rattle.std.proofs.Common.{◌≡◌, ◌^◌, ◌*◌, ◌+◌, ℕ, ℤ, pos, neg_ℤ, ◌*ℤ◌, false, List, [], ◌∷◌, map, Some, None, Ok, refl}
 use Rattle.emtp_blocks.specs.Block.{output_of}
 use Rattle.emtp_case.specs.Branch.{capacitor_impedance}
 use Rattle.emtp_case.specs.Case.{empty_parts}
-use Rattle.emtp_case.specs.StepRecord.{LumpedBranch, StepRecord, rest_of}
+use Rattle.emtp_case.specs.StepRecord.{LumpedBranch, StepRecord, no_lumped, rest_of}
 use Rattle.emtp_case.specs.declared.branch.Branch.{Branch}
-use Rattle.emtp_case.specs.declared.branch.Branch.TheVariants.{Lumped as OfLumped}
+use Rattle.emtp_case.specs.declared.branch.Branch.TheVariants.{Lumped as OfLumped, Phase as OfPhase}
+use Rattle.emtp_case.specs.declared.branch.Lumped.{Lumped}
 use Rattle.emtp_case.specs.declared.case.Parts.{Parts}
 use Rattle.emtp_case.specs.declared.control.Limiter.TheVariants.{Free}
 use Rattle.emtp_case.specs.declared.run_data.RunData.{RunData}
@@ -21,12 +22,14 @@ use Rattle.emtp_fix.specs.Rounding.{near, near_abs}
 use Rattle.emtp_line.specs.Line.{line_state, next_state as next_line}
 use Rattle.emtp_line.specs.Mode.{mode_of}
 use Rattle.emtp_line.specs.Wave.{end_of}
+use Rattle.emtp_lumped.specs.Companion.{companion_of}
 use Rattle.emtp_lumped.specs.Step.{next_state as next_lumped}
 use Rattle.emtp_net.specs.Part.{NetworkPart, part_at, voltages_of}
 use Rattle.emtp_net.specs.Step.{network_part}
 use Rattle.emtp_net.specs.System.{conductances, couplings, right}
 use Rattle.emtp_rows.specs.Nodal.{current_entry, nodal_matrix}
 use Rattle.emtp_wave.specs.Wave.{active_value}
+use Rattle.emtp_laws.specs.Branches.{excess_voltage, reversed_series}
 use Rattle.emtp_laws.specs.Mirror.{mirror_image, mirrored_records}
 use Rattle.emtp_laws.specs.Nodes.{leaving_node}
 
@@ -101,3 +104,49 @@ other_way = refl
 
 outputs : map (output_of (record { low = Some (neg_ℤ (pos 20)); high = Some (pos 20) }) Free) (pos 30 ∷ pos 10 ∷ neg_ℤ (pos 30) ∷ []) ≡ pos 20 ∷ pos 10 ∷ neg_ℤ (pos 20) ∷ []
 outputs = refl
+
+-- ---- 1 ohm and 1 mH in series, of which the inductance has 20 ohm in a step of 100 us
+
+coil : Lumped
+coil = record { line = 1; «from» = 1; to = 2; r = pos (10 ^ 6); l = pos (10 ^ 6); c = pos 0 }
+
+-- from rest 21 V drive 1 A, and 20 V drop at the inductance
+coil_moves : next_lumped (companion_of (pos (10 ^ 8)) coil) no_lumped (pos (21 * 10 ^ 9))
+    ≡ Some (record { current = pos (10 ^ 9); v_l = pos (20 * 10 ^ 9); v_c = pos 0; history_voltage = pos (40 * 10 ^ 9) })
+unfolding coil next_lumped near near_abs capacitor_impedance
+coil_moves = refl
+
+-- the other way round all of it is opposite
+coil_turned : next_lumped (companion_of (pos (10 ^ 8)) (reversed_series coil)) no_lumped (neg_ℤ (pos (21 * 10 ^ 9)))
+    ≡ Some (record { current = neg_ℤ (pos (10 ^ 9)); v_l = neg_ℤ (pos (20 * 10 ^ 9)); v_c = pos 0; history_voltage = neg_ℤ (pos (40 * 10 ^ 9)) })
+unfolding coil next_lumped near near_abs capacitor_impedance
+coil_turned = refl
+
+-- 21 V are the sum of the drops; of 22 V the rounded current of 1,047,619,048 nA leaves -8 nV, and up to 22.5 nV would be allowed
+nothing_left : excess_voltage coil (pos (21 * 10 ^ 9)) (record { current = pos (10 ^ 9); v_l = pos (20 * 10 ^ 9); v_c = pos 0; history_voltage = pos 0 }) ≡ pos 0
+unfolding coil
+nothing_left = refl
+
+little_left : excess_voltage coil (pos (22 * 10 ^ 9)) (record { current = pos 1047619048; v_l = pos 20952380960; v_c = pos 0; history_voltage = pos 0 }) ≡ neg_ℤ (pos (8 * 10 ^ 6))
+unfolding coil
+little_left = refl
+
+-- ---- a three-phase line from the nodes 1, 2 and 3 to 4, 5 and 6, with 7, 8 and 9 pS of its phases and 3 pS between them
+
+abbrev phase : ℕ → Branch
+phase p = OfPhase (record { line = p; «from» = p + 1; to = p + 4; trio = 0; phase = p })
+
+three : Parts
+three = record (empty_parts run) {
+  branches = phase 0 ∷ phase 1 ∷ phase 2 ∷ [];
+  trios = record { first = 0; zc = []; r = []; delay = [] } ∷ [];
+}
+
+-- what node 2 has with the nodes 1 to 6, and they with it
+from_node_2 : map (current_entry three (pos 7 ∷ pos 8 ∷ pos 9 ∷ []) (pos 3 ∷ []) 2) (1 ∷ 2 ∷ 3 ∷ 4 ∷ 5 ∷ 6 ∷ []) ≡ pos 3 ∷ pos 8 ∷ pos 3 ∷ pos 0 ∷ pos 0 ∷ pos 0 ∷ []
+unfolding three
+from_node_2 = refl
+
+to_node_2 : map (λ n. current_entry three (pos 7 ∷ pos 8 ∷ pos 9 ∷ []) (pos 3 ∷ []) n 2) (1 ∷ 2 ∷ 3 ∷ 4 ∷ 5 ∷ 6 ∷ []) ≡ pos 3 ∷ pos 8 ∷ pos 3 ∷ pos 0 ∷ pos 0 ∷ pos 0 ∷ []
+unfolding three
+to_node_2 = refl
