@@ -7,3 +7,4 @@ pub mod UnbegunSections
 pub mod JudgedLines
 pub mod WalkedFront
 pub mod DeckFaults
+pub mod Worked
