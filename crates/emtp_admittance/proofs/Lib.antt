@@ -2,3 +2,4 @@ pub mod Reactances
 pub mod LeastLines
 pub mod Frequencies
 pub mod Probing
+pub mod ResistanceAlone

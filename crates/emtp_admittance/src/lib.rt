@@ -13,6 +13,7 @@
 
 mod admittance;
 mod impedance;
+mod laws;
 mod limit;
 mod probe;
 mod refusal;
@@ -20,6 +21,7 @@ mod refusals;
 
 pub use admittance::{Admittance, TwoPort};
 pub use impedance::{branch_port, product};
+pub use laws::equal_reactances_leave_the_resistance;
 pub use limit::{LARGEST_FREQUENCY, MOST_PHASOR_NODES};
 pub use probe::{Probe, judged_probe};
 pub use refusal::{Refusal, Refused};
