@@ -49,7 +49,7 @@ fn port_or_none(port: Result<TwoPort, Refusal>) -> TwoPort
 }
 
 /// The two-ports of all branches at a frequency.
-fn fill_ports(table: &CosTable, case: &Case, freq: i64, out: &mut [TwoPort])
+pub(crate) fn fill_ports(table: &CosTable, case: &Case, freq: i64, out: &mut [TwoPort])
     requires freq { IsFrequency freq }
     requires out { length out.old ≡ length case.now.parts.branches }
     ensures value { out.new ≡ ports_of case.now.parts freq }
@@ -62,7 +62,7 @@ fn fill_ports(table: &CosTable, case: &Case, freq: i64, out: &mut [TwoPort])
 }
 
 /// The voltages by node, ground first, from the unknowns by row.
-fn fill_volts(case: &Case, order: &RowOrder, x: &[i64], out: &mut [Phasor])
+pub(crate) fn fill_volts(case: &Case, order: &RowOrder, x: &[i64], out: &mut [Phasor])
     requires order { order.now ≡ order_of case.now.parts }
     requires x { length x.now ≡ 2 * length case.now.parts.nodes }
     requires out { length out.old ≡ length case.now.parts.nodes + 1 }
@@ -86,7 +86,7 @@ fn volt_in(x: &[i64], row: usize) -> Phasor
 }
 
 /// Makes the factor of the rows.
-fn factor<L: Ledger>(
+pub(crate) fn factor<L: Ledger>(
     case: &Case,
     order: &RowOrder,
     rows: &PhasorRows<'_>,
@@ -108,7 +108,7 @@ fn factor<L: Ledger>(
 }
 
 /// Solves for the unknowns of a right side by the factor.
-fn solve_right(
+pub(crate) fn solve_right(
     case: &Case,
     order: &RowOrder,
     kept: &Kept,
@@ -132,45 +132,6 @@ fn solve_right(
         Ok(()) => Ok(()),
         Err(fault) => Err(ending_at(order.node_at(fault.row / 2), Cause::Range)),
     }
-}
-
-/// Solves the doubled system at a frequency.
-pub(crate) fn solve_system<L: Ledger>(
-    table: &CosTable,
-    case: &Case,
-    order: &RowOrder,
-    freq: i64,
-    rows: &mut PhasorRows<'_>,
-    kept: &mut Kept,
-    ports: &mut [TwoPort],
-    right: &[i128],
-    rhs: &mut [i128],
-    x: &mut [i64],
-    steps: &mut Steps<L>,
-) -> Result<(), Ending>
-    requires order { order.now ≡ order_of case.now.parts }
-    requires freq { IsFrequency freq }
-    requires same { rows.old.case ≡ case.now.parts }
-    requires kinds { rows.old.kinds ≡ resting_kinds case.now.parts }
-    requires size { kept.old.size ≡ 2 * length case.now.parts.nodes }
-    requires ports { length ports.old ≡ length case.now.parts.branches }
-    requires right { right.now ≡ steady_right case.now.parts }
-    requires rhs { length rhs.old ≡ 2 * length case.now.parts.nodes }
-    requires x { length x.old ≡ 2 * length case.now.parts.nodes }
-    ensures case { rows.new.case ≡ case.now.parts }
-    ensures kinds { rows.new.kinds ≡ resting_kinds case.now.parts }
-    ensures size { kept.new.size ≡ 2 * length case.now.parts.nodes }
-    ensures ports { ports.new ≡ ports_of case.now.parts freq }
-    ensures small { All IsSmallPort ports.new }
-    ensures solved { OnOk result (outcome (doubled_system case.now.parts freq) (steady_right case.now.parts) ≡ Ok x.new) }
-    ensures within { OnOk result (AreWithin (10 ^ 18) x.new) }
-    ensures fault { IfErr result (λ e. doubled_solution case.now.parts freq ≡ Err e) }
-    ensures node { IfErr result (λ e. IsNode case.now.parts e.node) }
-{
-    fill_ports(table, case, freq, ports);
-    rows.set_ports(ports);
-    factor(case, order, rows, kept, steps)?;
-    solve_right(case, order, kept, right, rhs, x)
 }
 
 /// The greatest residual at these voltages, or the first branch or row that ends the solution.
@@ -204,53 +165,5 @@ pub(crate) fn judge_volts(
             cause: Cause::Residual,
             measured,
         }),
-    }
-}
-
-/// The voltages and the greatest residual at a frequency, or how the solution ends.
-pub(crate) fn steady_at<L: Ledger>(
-    table: &CosTable,
-    case: &Case,
-    order: &RowOrder,
-    freq: i64,
-    kinds: &[RowKind],
-    rows: &mut PhasorRows<'_>,
-    kept: &mut Kept,
-    ports: &mut [TwoPort],
-    right: &[i128],
-    rhs: &mut [i128],
-    x: &mut [i64],
-    volts: &mut [Phasor],
-    steps: &mut Steps<L>,
-) -> Result<i128, Ending>
-    requires order { order.now ≡ order_of case.now.parts }
-    requires freq { IsFrequency freq }
-    requires untied { tied_of case.now.parts.switches (order_of case.now.parts) (rest_of case.now.parts).switch_states ≡ None }
-    requires given { kinds.now ≡ resting_kinds case.now.parts }
-    requires same { rows.old.case ≡ case.now.parts }
-    requires kinds { rows.old.kinds ≡ resting_kinds case.now.parts }
-    requires size { kept.old.size ≡ 2 * length case.now.parts.nodes }
-    requires ports { length ports.old ≡ length case.now.parts.branches }
-    requires right { right.now ≡ steady_right case.now.parts }
-    requires rhs { length rhs.old ≡ 2 * length case.now.parts.nodes }
-    requires x { length x.old ≡ 2 * length case.now.parts.nodes }
-    requires volts { length volts.old ≡ length case.now.parts.nodes + 1 }
-    ensures case { rows.new.case ≡ case.now.parts }
-    ensures kinds { rows.new.kinds ≡ resting_kinds case.now.parts }
-    ensures size { kept.new.size ≡ 2 * length case.now.parts.nodes }
-    ensures good { IfOk result (λ greatest. IsSteady case.now.parts freq volts.new greatest) }
-    ensures volts { OnOk result (All IsVolt volts.new) }
-    ensures ground { OnOk result (volts.new ≡ nothing ∷ drop 1 volts.new) }
-    ensures fault { IfErr result (λ e. steady case.now.parts freq ≡ Err e) }
-    ensures node { IfErr result (λ e. IsNode case.now.parts e.node) }
-{
-    match solve_system(
-        table, case, order, freq, rows, kept, ports, right, rhs, x, steps,
-    ) {
-        Ok(()) => {
-            fill_volts(case, order, x, volts);
-            judge_volts(table, case, order, kinds, ports, rows.lists(), volts)
-        }
-        Err(end) => Err(end),
     }
 }

@@ -1,17 +1,20 @@
 //! The doubled system of a case, which is solved for one frequency after the other.
 
-ghost use Rattle.std.specs.Prelude.{◌≡◌, ◌≤◌, ◌<◌, ◌∷◌, ◌*◌, All, None, length, drop, IfOk, IfErr, OnOk};
+ghost use Rattle.std.specs.Prelude.{◌≡◌, ◌≤◌, ◌<◌, ◌∷◌, ◌*◌, ◌^◌, All, None, Ok, Err, length, drop, IfOk, IfErr, OnOk};
 ghost use Rattle.emtp_admittance.specs.Admittances.{IsSmallPort};
 ghost use Rattle.emtp_admittance.specs.Frequency.{IsFrequency};
 ghost use Rattle.emtp_admittance.specs.declared.limit.TheConstants.{MOST_PHASOR_NODES};
+ghost use Rattle.emtp_case.specs.EndNames.{IsNode};
 ghost use Rattle.emtp_case.specs.RowKinds.{AreKinds};
 ghost use Rattle.emtp_case.specs.RowOrder.{order_of};
 ghost use Rattle.emtp_case.specs.StepRecord.{rest_of};
+ghost use Rattle.emtp_elim.specs.Matrix.{AreWithin};
+ghost use Rattle.emtp_elim.specs.Outcome.{outcome};
 ghost use Rattle.emtp_switch.specs.Groups.{tied_of};
 ghost use Rattle.emtp_phasor.specs.Ending.{EndsSteady, StopsOpening};
 ghost use Rattle.emtp_phasor.specs.HeldSystem.{IsReady};
 ghost use Rattle.emtp_phasor.specs.Opening.{IsClosed};
-ghost use Rattle.emtp_phasor.specs.Steady.{IsSteady, resting_kinds};
+ghost use Rattle.emtp_phasor.specs.Steady.{AreGood, IsSteady, doubled_solution, doubled_system, judged_volts, ports_of, resting_kinds, steady_right};
 ghost use Rattle.emtp_phasor.specs.Volts.{IsVolt, nothing};
 
 use crate::ending::{Ending, ending_at};
@@ -19,7 +22,7 @@ use crate::node_branches::branches_by_row;
 use crate::opening::{Closed, right_side, row_kinds};
 use crate::phasor::{NOTHING, Phasor};
 use crate::phasor_rows::PhasorRows;
-use crate::steady::{NO_PORT, steady_at};
+use crate::steady::{NO_PORT, factor, fill_ports, fill_volts, judge_volts, solve_right};
 use emtp_admittance::TwoPort;
 use emtp_case::{Case, RowKind, RowOrder, order, switch_name};
 use emtp_fix::Steps;
@@ -172,20 +175,63 @@ impl<'a> System<'a> {
         ensures ground { OnOk result (self.new.volts.items ≡ nothing ∷ drop 1 self.new.volts.items) }
         ensures fault { IfErr result (EndsSteady case.now.parts freq) }
     {
-        steady_at(
-            table,
+        match self.solve(table, case, freq, steps) {
+            Ok(()) => {
+                fill_volts(case, &self.order, &self.x, &mut self.volts);
+                self.judge(table, case)
+            }
+            Err(end) => Err(end),
+        }
+    }
+
+    /// Finds the unknowns at a frequency, and the two-ports of the branches.
+    fn solve<L: Ledger>(
+        &mut self,
+        table: &CosTable,
+        case: &Case,
+        freq: i64,
+        steps: &mut Steps<L>,
+    ) -> Result<(), Ending>
+        requires ready { IsReady case.now.parts self.old }
+        requires freq { IsFrequency freq }
+        ensures ready { IsReady case.now.parts self.new }
+        ensures ports { self.new.ports.items ≡ ports_of case.now.parts freq }
+        ensures small { All IsSmallPort self.new.ports.items }
+        ensures solved { OnOk result (outcome (doubled_system case.now.parts freq) (steady_right case.now.parts) ≡ Ok self.new.x.items) }
+        ensures within { OnOk result (AreWithin (10 ^ 18) self.new.x.items) }
+        ensures fault { IfErr result (λ e. doubled_solution case.now.parts freq ≡ Err e) }
+        ensures node { IfErr result (λ e. IsNode case.now.parts e.node) }
+    {
+        fill_ports(table, case, freq, &mut self.ports);
+        self.rows.set_ports(&self.ports);
+        factor(case, &self.order, &self.rows, &mut self.kept, steps)?;
+        solve_right(
             case,
             &self.order,
-            freq,
-            &self.kinds,
-            &mut self.rows,
-            &mut self.kept,
-            &mut self.ports,
+            &self.kept,
             &self.right,
             &mut self.rhs,
             &mut self.x,
-            &mut self.volts,
-            steps,
+        )
+    }
+
+    /// The greatest residual at the voltages, or the first branch or row that ends the solution.
+    fn judge(&self, table: &CosTable, case: &Case) -> Result<i128, Ending>
+        requires ready { IsReady case.now.parts self.now }
+        requires small { All IsSmallPort self.now.ports.items }
+        requires volts { All IsVolt self.now.volts.items }
+        ensures good { IfOk result (λ greatest. AreGood case.now.parts self.now.ports.items self.now.volts.items greatest) }
+        ensures fault { IfErr result (λ e. judged_volts case.now.parts self.now.ports.items self.now.volts.items ≡ Err e) }
+        ensures node { IfErr result (λ e. IsNode case.now.parts e.node) }
+    {
+        judge_volts(
+            table,
+            case,
+            &self.order,
+            &self.kinds,
+            &self.ports,
+            self.rows.lists(),
+            &self.volts,
         )
     }
 }
