@@ -1,5 +1,5 @@
 -- What a series branch is where its two reactances are equal.
-use Rattle.std.proofs.Common.{◌≡◌, ◌∙◌, sym, ap, subst, ℤ, pos, neg_ℤ, ◌-ℤ◌, ◌*ℤ◌, ◌||◌, nat_lt, unsigned_abs, Bool, true, false, if◌then◌else◌, Option, Some, None, IfSome, refl, arith}
+use Rattle.std.proofs.Common.{◌≡◌, ap, ℤ, pos, neg_ℤ, ◌-ℤ◌, ◌*ℤ◌, ◌||◌, nat_lt, unsigned_abs, Bool, true, false, if◌then◌else◌, Option, Some, None, IfSome, arith}
 use Rattle.std.proofs.lemmas.Int.{ints}
 use Rattle.emtp_fix.proofs.Quotients.{near-zero_times}
 use Rattle.emtp_fix.specs.Rounding.{near}

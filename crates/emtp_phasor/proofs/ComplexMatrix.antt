@@ -1,9 +1,7 @@
 -- The doubled matrix as one of complex numbers, and its symmetry.
-use Rattle.std.proofs.Common.{◌≡◌, ◌≢◌, ◌∙◌, sym, ap, ℕ, zero, suc, ◌+◌, ◌*◌, ◌/◌, ◌%◌, ◌<◌, ◌==◌, ℤ, pos, neg_ℤ, ◌+ℤ◌, ◌-ℤ◌, ◌*ℤ◌, Bool, true, false, if◌then◌else◌, List, length, slice_get, Option, Some, None, inl, inr, refl, arith}
+use Rattle.std.proofs.Common.{◌≡◌, ◌∙◌, sym, ap, ℕ, zero, suc, ◌+◌, ◌*◌, ◌/◌, ◌%◌, ◌<◌, ◌==◌, ℤ, pos, neg_ℤ, ◌*ℤ◌, Bool, true, false, if◌then◌else◌, List, length, slice_get, Option, Some, None, inl, inr, refl, arith}
 use Rattle.std.proofs.lemmas.Bool.{cases_eq}
 use Rattle.std.proofs.lemmas.Int.{ints}
-use Rattle.emtp_fix.specs.declared.limit.TheConstants.{PICO}
-use Rattle.emtp_elim.specs.Matrix.{entry}
 use Rattle.emtp_case.specs.Branch.{from_of, to_of}
 use Rattle.emtp_case.specs.NodeRows.{group_sum, is_member, kind_at, node_at, unit}
 use Rattle.emtp_case.specs.Sums.{sum_below}
@@ -13,10 +11,10 @@ use Rattle.emtp_case.specs.declared.row_kind.RowKind.{RowKind}
 use Rattle.emtp_case.specs.declared.row_kind.RowKind.TheVariants.{Kcl, Sum, Tie, Ground, Source}
 use Rattle.emtp_case.proofs.RowsOfNodes.{is_number, isnt_number}
 use Rattle.emtp_case.proofs.Sums.{sum_below_same}
-use Rattle.emtp_admittance.specs.Admittances.{in_block, is_imaginary, port_at}
+use Rattle.emtp_admittance.specs.Admittances.{in_block, port_at}
 use Rattle.emtp_admittance.specs.declared.admittance.TwoPort.{TwoPort}
 use Rattle.emtp_phasor.specs.ComplexEntries.{IsComplexAt}
-use Rattle.emtp_phasor.specs.Doubled.{Doubled, admittance_entry, between_nodes, doubled_entry, doubled_matrix}
+use Rattle.emtp_phasor.specs.Doubled.{Doubled, admittance_entry, between_nodes, doubled_entry}
 use Rattle.emtp_phasor.proofs.Blocks.{even_real, half_even, half_odd, odd_imaginary}
 use Rattle.emtp_phasor.proofs.Doubling.{doubled_matrix_entry}
 

@@ -1,4 +1,4 @@
-use Rattle.std.proofs.Common.{◌≡◌, ◌<◌, ◌/◌, get_or, length, refl, arith}
+use Rattle.std.proofs.Common.{◌<◌, ◌/◌, get_or, length, refl, arith}
 use Rattle.std.proofs.lemmas.Int.{ints}
 use Rattle.emtp_case.specs.NodeRows.{node_at}
 use Rattle.emtp_admittance.specs.Admittances.{is_imaginary}

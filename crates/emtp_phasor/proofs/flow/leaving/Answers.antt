@@ -1,7 +1,6 @@
-use Rattle.std.proofs.Common.{◌≡◌, ◌∙◌, ◌<◌, ◌≤◌, ap, get_or, length, refl, slice_get, arith}
+use Rattle.std.proofs.Common.{◌∙◌, ◌<◌, ◌≤◌, ap, get_or, length, refl, slice_get, arith}
 use Rattle.std.proofs.lemmas.Int.{ints}
-use Rattle.std.proofs.lemmas.List.Elements.{All-get_or}
-use Rattle.emtp_admittance.specs.Admittances.{IsSmallPort, port_at}
+use Rattle.emtp_admittance.specs.Admittances.{port_at}
 use Rattle.emtp_phasor.specs.Steady.{leaving_through}
 use Rattle.emtp_phasor.proofs.BranchLists.{place_total_more, place_there, places_few}
 use Rattle.emtp_phasor.proofs.Flowing.{flow_read, leaving_is, leaving_read}
