@@ -1,8 +1,10 @@
-//! The top call of the simulator: words and a cabinet of files in, a COMTRADE record, a note and a status out.
+//! The top call of the simulator: words and a cabinet of files in, outputs and a status out.
 //!
-//! [`emtp`] reads the data cards of a case, runs it, and writes the record and a note, or the summary of a trial case. It
-//! stands on `emtp_card` and `emtp_deck` for the cards, on `emtp_machine` for the run, on `emtp_comtrade` for the record
-//! and on `emtp_io` for the files. It says nothing of rows or cards itself.
+//! [`emtp`] goes by one table of commands (`specs/Command.antt`): `run` steps a case and writes its COMTRADE record and a
+//! note, `trial` runs a case of its own, `batch` runs a case under each row of a table of switch times, `audit` lays a
+//! record beside a case, `phasor` and `scan` solve its steady state. All files of a command are read before any is judged.
+//! It stands on `emtp_card` and `emtp_deck` for the cards, on `emtp_machine` and `emtp_comtrade` for runs and records, on the
+//! crates of the tools, and on `emtp_io` for the files. It says nothing of rows or cards itself.
 //!
 //! ```text
 //! let words = [run, divider.case, divider.cfg, divider.dat];
