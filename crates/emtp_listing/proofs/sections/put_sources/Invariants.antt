@@ -1,0 +1,8 @@
+use Rattle.std.proofs.Common.{map, take}
+use Rattle.emtp_listing.specs.Lines.{lines_text}
+use Rattle.emtp_listing.specs.NetworkLines.{source_line}
+use Rattle.emtp_listing.specs.Puts.{Puts}
+use Rattle.emtp_listing.proofs.sections.put_sources.Given as goal
+
+abbrev pub invariant-loop-source : goal.invariant-loop-source
+invariant-loop-source l = Puts l.initial.out.items (lines_text (map (source_line l.parts.nodes l.parts.vars) (take l.source-index l.parts.sources))) l.out.items

@@ -1,0 +1,10 @@
+-- what a listing is
+pub mod Entry
+pub mod Lines
+pub mod NetworkLines
+pub mod ControlLines
+pub mod ChannelLines
+pub mod Listing
+-- how a text grows, and what its calls hold
+pub mod HeldLines
+pub mod Puts
