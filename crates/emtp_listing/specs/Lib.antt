@@ -5,6 +5,8 @@ pub mod NetworkLines
 pub mod ControlLines
 pub mod ChannelLines
 pub mod Listing
+-- what two cases of the same listing have in common
+pub mod Law
 -- how a text grows, and what its calls hold
 pub mod HeldLines
 pub mod Puts
