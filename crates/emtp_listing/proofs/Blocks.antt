@@ -8,7 +8,7 @@ use Rattle.emtp_case.specs.declared.control.Block.{Block}
 use Rattle.emtp_case.specs.declared.control.Bound.{Bound}
 use Rattle.emtp_case.specs.declared.control.Bound.TheVariants.{Fixed, Named, None as NoBound}
 use Rattle.emtp_case.specs.declared.control.Input.{Input}
-use Rattle.emtp_listing.specs.ControlLines.{block_entries, block_lines, bound_entry, input_entries, input_entry, polynomial_line, power_entry, sign_of}
+use Rattle.emtp_listing.specs.ControlLines.{block_entries, block_lines, bound_entry, input_entries, input_entry, polynomial_line, power_entry, input_sign}
 use Rattle.emtp_listing.specs.Law.{IsFree, AllFree, AreApart, Around, HasPowers, HasVarNames}
 use Rattle.emtp_listing.specs.Lines.{all_separated, numbered}
 use Rattle.emtp_listing.proofs.Branches.{card-free, card-same}
@@ -21,16 +21,16 @@ use Rattle.emtp_listing.proofs.Words.{variable-free, variable-same}
 
 -- ---- inputs
 
-sign-text : (t : Bool) → IsText (sign_of t)
+sign-text : (t : Bool) → IsText (input_sign t)
 sign-text false = refl
 sign-text true = refl
 
 input-free : (b : ℕ) (vars : List (List ℕ)) (i : Input) → IsMark b → All IsName vars → i.var < length vars → IsFree b (input_entry vars i)
 input-free b vars i mark names there =
-    word-free b (codes "input") (sign_of i.minus ++ get_or vars i.var []) mark refl
-    (text-both (sign_of i.minus) (get_or vars i.var []) (sign-text i.minus) (name-text (get_or vars i.var []) (All-get_or IsName vars i.var [] there names)))
+    word-free b (codes "input") (input_sign i.minus ++ get_or vars i.var []) mark refl
+    (text-both (input_sign i.minus) (get_or vars i.var []) (sign-text i.minus) (name-text (get_or vars i.var []) (All-get_or IsName vars i.var [] there names)))
 
-signed-same : (vars : List (List ℕ)) (s t : Bool) (v w : ℕ) → AreApart vars → v < length vars → w < length vars → sign_of s ++ get_or vars v [] ≡ sign_of t ++ get_or vars w [] → (s ≡ t) × (v ≡ w)
+signed-same : (vars : List (List ℕ)) (s t : Bool) (v w : ℕ) → AreApart vars → v < length vars → w < length vars → input_sign s ++ get_or vars v [] ≡ input_sign t ++ get_or vars w [] → (s ≡ t) × (v ≡ w)
 signed-same vars false false v w apart there there_w e = (refl, apart v w there there_w (ap (λ (l : List ℕ). drop 1 l) e))
 signed-same vars false true v w apart there there_w e = let l : 43 ≡ 45 = ap (λ (l : List ℕ). get_or l 0 0) e in absurd (omega (arith, l))
 signed-same vars true false v w apart there there_w e = let l : 45 ≡ 43 = ap (λ (l : List ℕ). get_or l 0 0) e in absurd (omega (arith, l))
@@ -38,7 +38,7 @@ signed-same vars true true v w apart there there_w e = (refl, apart v w there th
 
 input-same : (vars : List (List ℕ)) (i j : Input) → AreApart vars → i.var < length vars → j.var < length vars → input_entry vars i ≡ input_entry vars j → i ≡ j
 input-same vars i j apart there there_j e =
-    let parts = signed-same vars i.minus j.minus i.var j.var apart there there_j (word-same (codes "input") (sign_of i.minus ++ get_or vars i.var []) (sign_of j.minus ++ get_or vars j.var []) e) in
+    let parts = signed-same vars i.minus j.minus i.var j.var apart there there_j (word-same (codes "input") (input_sign i.minus ++ get_or vars i.var []) (input_sign j.minus ++ get_or vars j.var []) e) in
     ap (λ (v : ℕ). made v i.minus) parts.1 ∙ ap (λ (m : Bool). made j.var m) parts.0
   where
     made : ℕ → Bool → Input

@@ -6,7 +6,7 @@ use Rattle.emtp_case.specs.declared.branch.Branch.TheVariants.{Line as OfLine, L
 use Rattle.emtp_case.specs.declared.branch.Pseudo.{Pseudo}
 use Rattle.emtp_listing.specs.Law.{AllFree, AreApart, Around, HasNodeNames, characteristic_of}
 use Rattle.emtp_listing.specs.Lines.{numbered}
-use Rattle.emtp_listing.specs.NetworkLines.{branch_lines, branch_points, segment_line}
+use Rattle.emtp_listing.specs.NetworkLines.{branch_group, branch_points, segment_line}
 use Rattle.emtp_listing.proofs.Branches.{branch-free, branch-same}
 use Rattle.emtp_listing.proofs.Lists.{front-same, numbered-free, numbered-length, numbered-same}
 use Rattle.emtp_listing.proofs.Marks.{line_end}
@@ -20,8 +20,8 @@ points-free w (OfPseudo x) is =
     (omega (arith, is.few, points-count w.points x.first x.count is.there)) (characteristic-small x.reactor w.run.dt (points_of w.points x.first x.count) is.characteristic)
 points-free w (OfPhase x) is = tt
 
-pub branch_lines-free : (w : Around) (nodes : List (List ℕ)) (x : Branch) → HasNodeNames w nodes → IsBranch w.run w.sizes w.points x → line_of x < 2 ^ 32 → AllFree 10 (branch_lines nodes w.points x)
-branch_lines-free w nodes x few is small = (branch-free 10 w nodes x (omega arith) line_end few is small, points-free w x is)
+pub branch_group-free : (w : Around) (nodes : List (List ℕ)) (x : Branch) → HasNodeNames w nodes → IsBranch w.run w.sizes w.points x → line_of x < 2 ^ 32 → AllFree 10 (branch_group nodes w.points x)
+branch_group-free w nodes x few is small = (branch-free 10 w nodes x (omega arith) line_end few is small, points-free w x is)
 
 characteristic-same : (w v : Around) (x : Pseudo) → IsPseudo w.run w.sizes w.points x → IsPseudo v.run v.sizes v.points x
     → numbered (segment_line x.reactor) 1 (points_of w.points x.first x.count) ≡ numbered (segment_line x.reactor) 1 (points_of v.points x.first x.count) → points_of w.points x.first x.count ≡ points_of v.points x.first x.count
@@ -42,10 +42,10 @@ points-same w v (OfPseudo x) s t is js e =
     (characteristic-same w v x is js parts.0, parts.1)
 points-same w v (OfPhase x) s t is js e = (refl, e)
 
-pub branch_lines-same : (w v : Around) (nodes : List (List ℕ)) (x y : Branch) (s t : List (List ℕ)) → HasNodeNames w nodes → HasNodeNames v nodes → AreApart nodes
-    → IsBranch w.run w.sizes w.points x → IsBranch v.run v.sizes v.points y → line_of x < 2 ^ 32 → line_of y < 2 ^ 32 → branch_lines nodes w.points x ++ s ≡ branch_lines nodes v.points y ++ t
+pub branch_group-same : (w v : Around) (nodes : List (List ℕ)) (x y : Branch) (s t : List (List ℕ)) → HasNodeNames w nodes → HasNodeNames v nodes → AreApart nodes
+    → IsBranch w.run w.sizes w.points x → IsBranch v.run v.sizes v.points y → line_of x < 2 ^ 32 → line_of y < 2 ^ 32 → branch_group nodes w.points x ++ s ≡ branch_group nodes v.points y ++ t
     → (x ≡ y) × ((characteristic_of w.points x ≡ characteristic_of v.points y) × (s ≡ t))
-branch_lines-same w v nodes x y s t few few2 apart is js small_x small_y e =
+branch_group-same w v nodes x y s t few few2 apart is js small_x small_y e =
     let first = branch-same w v nodes x y few few2 apart is js small_x small_y (ap (λ (l : List (List ℕ)). get_or l 0 []) e) in
     let rest : branch_points w.points x ++ s ≡ branch_points v.points x ++ t =
     ap (λ (l : List (List ℕ)). drop 1 l) e ∙ ap (λ (z : Branch). branch_points v.points z ++ t) (sym first) in

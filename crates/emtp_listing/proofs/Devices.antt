@@ -10,7 +10,7 @@ use Rattle.emtp_case.specs.declared.control.Extra.{Extra}
 use Rattle.emtp_case.specs.declared.control.Extra.TheVariants.{Device as OfDevice, Formula as OfFormula}
 use Rattle.emtp_case.specs.declared.control.Group.{Group}
 use Rattle.emtp_case.specs.declared.control.Input.{Input}
-use Rattle.emtp_listing.specs.ControlLines.{a_places, a_tail, code_number, device_entries, extra_line, extra_lines, extra_points, formula_entries, group_number, table_line}
+use Rattle.emtp_listing.specs.ControlLines.{a_places, a_tail, code_number, device_entries, extra_card_line, extra_lines, extra_points, formula_entries, group_number, table_line}
 use Rattle.emtp_listing.specs.Entry.{figure_entry}
 use Rattle.emtp_listing.specs.Law.{AllFree, AreApart, Around, HasFewNames, HasVarNames, table_of}
 use Rattle.emtp_listing.specs.Lines.{numbered}
@@ -164,7 +164,7 @@ device-same w v vars x y named named2 apart few few2 is js line e =
 -- ---- any supplemental card
 
 extra-line-same : (w v : Around) (vars : List (List ℕ)) (x y : Extra) → HasVarNames w vars → HasVarNames v vars → AreApart vars → length w.points < 2 ^ 32 → length v.points < 2 ^ 32
-    → IsExtra w.sizes w.points x → IsExtra v.sizes v.points y → HasFewNames x → HasFewNames y → extra_line vars x ≡ extra_line vars y → x ≡ y
+    → IsExtra w.sizes w.points x → IsExtra v.sizes v.points y → HasFewNames x → HasFewNames y → extra_card_line vars x ≡ extra_card_line vars y → x ≡ y
 extra-line-same w v vars (OfDevice x) (OfDevice y) named named2 apart few few2 is js has hbs e =
     let parts = card-same x.line y.line (codes "device") (codes "device") (device_entries vars x) (device_entries vars y) has hbs refl refl (device-free 44 w vars x comma named few is) (device-free 44 v vars y comma named2 few2 js) e in
     ap OfDevice (device-same w v vars x y named named2 apart few few2 is js parts.0 parts.1.1)

@@ -19,11 +19,11 @@ use Rattle.emtp_listing.specs.ChannelLines.{channel_line}
 use Rattle.emtp_listing.specs.ControlLines.{block_lines, extra_lines, tacs_source_line}
 use Rattle.emtp_listing.specs.Law.{HasFewNames, HasFileLine, HasModes, HasPowers, AllFree, AreApart, Around, HasNodeNames, HasVarNames, FitsTypes, AreSame, characteristic_of, table_of}
 use Rattle.emtp_listing.specs.Lines.{grouped, numbered}
-use Rattle.emtp_listing.specs.Listing.{control_part, listed_lines, listing, name_line, network_part}
-use Rattle.emtp_listing.specs.NetworkLines.{branch_lines, source_line, switch_line, trio_line}
+use Rattle.emtp_listing.specs.Listing.{control_part, listed_lines, listing, name_line, network_lines}
+use Rattle.emtp_listing.specs.NetworkLines.{branch_group, source_line, switch_line, trio_line}
 use Rattle.emtp_listing.proofs.Blocks.{block-free, block-same}
 use Rattle.emtp_listing.proofs.Channels.{channel-free, channel-same}
-use Rattle.emtp_listing.proofs.Characteristics.{branch_lines-free, branch_lines-same}
+use Rattle.emtp_listing.proofs.Characteristics.{branch_group-free, branch_group-same}
 use Rattle.emtp_listing.proofs.Cut.{lines-same}
 use Rattle.emtp_listing.proofs.Devices.{extra-free, extra-same}
 use Rattle.emtp_listing.proofs.Heads.{HasLengths, case-free, case-same, name-line-free, name-same, run-free, run-same}
@@ -96,12 +96,12 @@ names-free : (word : List ℕ) (first : ℕ) (names : List (List ℕ)) → IsTex
 names-free word first names named few all =
     numbered-free 10 (2 ^ 32) (name_line word) IsName (λ n x less is. name-line-free 10 word n x (omega arith) line_end named less is) first names (omega (arith, few)) all
 
-network-free : (p : Parts) → IsCase p → FitsTypes p → AllFree 10 (network_part p)
+network-free : (p : Parts) → IsCase p → FitsTypes p → AllFree 10 (network_lines p)
 network-free p is types =
     let few = few-of p is in
     let named = named-of p is in
-    let branches = grouped-free 10 (branch_lines p.nodes p.points) (Both (IsBranch p.run (sizes_of p) p.points) HasBranchLine)
-    (λ x h. branch_lines-free (around p) p.nodes x few h.0 h.1) p.branches (branches-held p is types) in
+    let branches = grouped-free 10 (branch_group p.nodes p.points) (Both (IsBranch p.run (sizes_of p) p.points) HasBranchLine)
+    (λ x h. branch_group-free (around p) p.nodes x few h.0 h.1) p.branches (branches-held p is types) in
     let trios = map-free 10 trio_line (Both (IsTrio p.run) HasModes) (λ x h. trio-free p.run x few.timed h.0 h.1) p.trios (trios-held p is types) in
     let switches = map-free 10 (switch_line p.nodes p.vars) (Both (IsSwitch (sizes_of p)) HasSmallLine)
     (λ x h. switch-free 10 (around p) p.nodes p.vars x (omega arith) line_end few named h.0 h.1) p.switches (switches-held p is types) in
@@ -177,20 +177,20 @@ record AreNetworksSame (p q : Parts) (s t : List (List ℕ)) : Type 0 where
 
 -- the same part of the second case, over the names of the first
 renamed-network : (p q : Parts) → p.nodes ≡ q.nodes → p.vars ≡ q.vars
-    → network_part q ≡ grouped (branch_lines p.nodes q.points) q.branches ++ (map trio_line q.trios ++ (map (switch_line p.nodes p.vars) q.switches ++ map (source_line p.nodes p.vars) q.sources))
+    → network_lines q ≡ grouped (branch_group p.nodes q.points) q.branches ++ (map trio_line q.trios ++ (map (switch_line p.nodes p.vars) q.switches ++ map (source_line p.nodes p.vars) q.sources))
 renamed-network p q nodes vars = sym (ap (λ (ns : List (List ℕ)). over ns p.vars) nodes ∙ ap (over q.nodes) vars)
   where
     over : List (List ℕ) → List (List ℕ) → List (List ℕ)
-    over ns vs = grouped (branch_lines ns q.points) q.branches ++ (map trio_line q.trios ++ (map (switch_line ns vs) q.switches ++ map (source_line ns vs) q.sources))
+    over ns vs = grouped (branch_group ns q.points) q.branches ++ (map trio_line q.trios ++ (map (switch_line ns vs) q.switches ++ map (source_line ns vs) q.sources))
 
-networks-same : (p q : Parts) (s t : List (List ℕ)) → AreNamedAlike p q → network_part p ++ s ≡ network_part q ++ t → AreNetworksSame p q s t
+networks-same : (p q : Parts) (s t : List (List ℕ)) → AreNamedAlike p q → network_lines p ++ s ≡ network_lines q ++ t → AreNetworksSame p q s t
 networks-same p q s t alike e =
     let few = few-of p alike.is in
     let few2 = few-other p q alike in
     let named = named-of p alike.is in
     let named2 = named-other p q alike in
-    let bs = grouped (branch_lines p.nodes p.points) p.branches in
-    let bs2 = grouped (branch_lines p.nodes q.points) q.branches in
+    let bs = grouped (branch_group p.nodes p.points) p.branches in
+    let bs2 = grouped (branch_group p.nodes q.points) q.branches in
     let ts = map trio_line p.trios in
     let ts2 = map trio_line q.trios in
     let ss = map (switch_line p.nodes p.vars) p.switches in
@@ -199,9 +199,9 @@ networks-same p q s t alike e =
     let vs2 = map (source_line p.nodes p.vars) q.sources in
     let whole : bs ++ (ts ++ (ss ++ (vs ++ s))) ≡ bs2 ++ (ts2 ++ (ss2 ++ (vs2 ++ t))) =
     sym (apart_four bs ts ss vs s) ∙ e ∙ ap (λ (l : List (List ℕ)). l ++ t) (renamed-network p q alike.nodes alike.vars) ∙ apart_four bs2 ts2 ss2 vs2 t in
-    let r1 = grouped-same (branch_lines p.nodes p.points) (branch_lines p.nodes q.points) (characteristic_of p.points) (characteristic_of q.points)
+    let r1 = grouped-same (branch_group p.nodes p.points) (branch_group p.nodes q.points) (characteristic_of p.points) (characteristic_of q.points)
     (Both (IsBranch p.run (sizes_of p) p.points) HasBranchLine) (Both (IsBranch q.run (sizes_of q) q.points) HasBranchLine)
-    (λ x y m n h k same. branch_lines-same (around p) (around q) p.nodes x y m n few few2 alike.apart h.0 k.0 h.1 k.1 same)
+    (λ x y m n h k same. branch_group-same (around p) (around q) p.nodes x y m n few few2 alike.apart h.0 k.0 h.1 k.1 same)
     p.branches q.branches (ts ++ (ss ++ (vs ++ s))) (ts2 ++ (ss2 ++ (vs2 ++ t))) alike.long.branches (branches-held p alike.is alike.types) (branches-held q alike.other alike.other_types) whole in
     let r2 = map-front trio_line (Both (IsTrio p.run) HasModes) (Both (IsTrio q.run) HasModes) p.trios q.trios (ss ++ (vs ++ s)) (ss2 ++ (vs2 ++ t))
     (λ x y h k same. trio-same p.run q.run x y few.timed few2.timed h.0 k.0 h.1 k.1 same) (trios-held p alike.is alike.types) (trios-held q alike.other alike.other_types) alike.long.trios r1.1.1 in
@@ -268,9 +268,9 @@ case-listed-same p q is js types types2 apart apart_vars e =
     let all = lines-same (listed_lines p) (listed_lines q) (lines-free p is types) (lines-free q js types2) e in
     let long = case-same p q is.draft.counts js.draft.counts (ap (λ (l : List (List ℕ)). get_or l 0 []) all) in
     let run = run-same p.run q.run is.draft.run js.draft.run (ap (λ (l : List (List ℕ)). get_or l 1 []) all) in
-    let r1 = names-front (codes "node") 1 p.nodes q.nodes (numbered (name_line (codes "variable")) 0 p.vars ++ (network_part p ++ control_part p)) (numbered (name_line (codes "variable")) 0 q.vars ++ (network_part q ++ control_part q))
+    let r1 = names-front (codes "node") 1 p.nodes q.nodes (numbered (name_line (codes "variable")) 0 p.vars ++ (network_lines p ++ control_part p)) (numbered (name_line (codes "variable")) 0 q.vars ++ (network_lines q ++ control_part q))
     refl (omega (arith, is.draft.counts.nodes)) is.draft.network.names js.draft.network.names long.nodes (ap (λ (l : List (List ℕ)). drop 2 l) all) in
-    let r2 = names-front (codes "variable") 0 p.vars q.vars (network_part p ++ control_part p) (network_part q ++ control_part q)
+    let r2 = names-front (codes "variable") 0 p.vars q.vars (network_lines p ++ control_part p) (network_lines q ++ control_part q)
     refl (omega (arith, is.draft.counts.vars)) is.draft.control.names js.draft.control.names long.vars r1.1 in
     let alike : AreNamedAlike p q = record { is = is; other = js; types = types; other_types = types2; nodes = r1.0; vars = r2.0; apart = apart; apart_vars = apart_vars; long = long } in
     let network = networks-same p q (control_part p) (control_part q) alike r2.1 in

@@ -38,13 +38,13 @@ tacs_source_line nodes vars s =
 
 -- ---- inputs
 
-abbrev pub sign_of : Bool → List ℕ
-sign_of false = codes "+"
-sign_of true = codes "-"
+abbrev pub input_sign : Bool → List ℕ
+input_sign false = codes "+"
+input_sign true = codes "-"
 
 -- the sign and the variable
 abbrev pub input_entry : List (List ℕ) → Input → List ℕ
-input_entry vars i = word_entry (codes "input") (sign_of i.minus ++ slice_index_or vars i.var [])
+input_entry vars i = word_entry (codes "input") (input_sign i.minus ++ slice_index_or vars i.var [])
 
 -- how many there are, and each
 abbrev pub input_entries : List (List ℕ) → List Input → List (List ℕ)
@@ -182,9 +182,9 @@ formula_entries vars x =
 
 -- ---- supplemental cards
 
-abbrev pub extra_line : List (List ℕ) → Extra → List ℕ
-extra_line vars (OfDevice x) = card_line x.line (codes "device") (device_entries vars x)
-extra_line vars (OfFormula x) = card_line x.line (codes "formula") (formula_entries vars x)
+abbrev pub extra_card_line : List (List ℕ) → Extra → List ℕ
+extra_card_line vars (OfDevice x) = card_line x.line (codes "device") (device_entries vars x)
+extra_card_line vars (OfFormula x) = card_line x.line (codes "formula") (formula_entries vars x)
 
 abbrev pub extra_points : List Point → Extra → List (List ℕ)
 extra_points points (OfDevice x) = numbered (table_line x.code) 1 (points_of points x.first x.count)
@@ -192,4 +192,4 @@ extra_points points (OfFormula x) = []
 
 -- a card and its points
 abbrev pub extra_lines : List (List ℕ) → List Point → Extra → List (List ℕ)
-extra_lines vars points x = extra_line vars x ∷ extra_points points x
+extra_lines vars points x = extra_card_line vars x ∷ extra_points points x

@@ -6,7 +6,7 @@ use Rattle.emtp_listing.specs.ChannelLines.{channel_line}
 use Rattle.emtp_listing.specs.ControlLines.{block_lines, extra_lines, tacs_source_line}
 use Rattle.emtp_listing.specs.Entry.{count_entry, number_entry, word_entry}
 use Rattle.emtp_listing.specs.Lines.{all_separated, grouped, head_text, lines_text, numbered}
-use Rattle.emtp_listing.specs.NetworkLines.{branch_lines, source_line, switch_line, trio_line}
+use Rattle.emtp_listing.specs.NetworkLines.{branch_group, source_line, switch_line, trio_line}
 
 -- ---- the case as a whole
 
@@ -43,15 +43,15 @@ control_part p =
     map (tacs_source_line p.nodes p.vars) p.tacs_sources
     ++ (grouped (block_lines p.vars) p.blocks ++ (grouped (extra_lines p.vars p.points) p.extras ++ numbered (channel_line p) 1 p.channels))
 
-abbrev pub network_part : Parts → List (List ℕ)
-network_part p =
-    grouped (branch_lines p.nodes p.points) p.branches
+abbrev pub network_lines : Parts → List (List ℕ)
+network_lines p =
+    grouped (branch_group p.nodes p.points) p.branches
     ++ (map trio_line p.trios ++ (map (switch_line p.nodes p.vars) p.switches ++ map (source_line p.nodes p.vars) p.sources))
 
 abbrev pub listed_lines : Parts → List (List ℕ)
 listed_lines p =
     case_line p ∷ run_line p.run
-    ∷ (numbered (name_line (codes "node")) 1 p.nodes ++ (numbered (name_line (codes "variable")) 0 p.vars ++ (network_part p ++ control_part p)))
+    ∷ (numbered (name_line (codes "node")) 1 p.nodes ++ (numbered (name_line (codes "variable")) 0 p.vars ++ (network_lines p ++ control_part p)))
 
 unfoldable pub listing : Parts → List ℕ
 listing p = lines_text (listed_lines p)

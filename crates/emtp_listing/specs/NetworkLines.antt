@@ -80,8 +80,8 @@ branch_points points (OfLine b) = []
 branch_points points (OfPseudo b) = numbered (segment_line b.reactor) 1 (points_of points b.first b.count)
 branch_points points (OfPhase b) = []
 
-abbrev pub branch_lines : List (List ℕ) → List Point → Branch → List (List ℕ)
-branch_lines nodes points b = branch_line nodes b ∷ branch_points points b
+abbrev pub branch_group : List (List ℕ) → List Point → Branch → List (List ℕ)
+branch_group nodes points b = branch_line nodes b ∷ branch_points points b
 
 -- ---- the modes of three-phase lines: at place 0 the zero sequence, at place 1 the positive sequence
 

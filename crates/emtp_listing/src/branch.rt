@@ -5,7 +5,7 @@ ghost use Rattle.emtp_case.specs.Branch.{IsBranch, from_of, points_of, to_of};
 ghost use Rattle.emtp_case.specs.Sizes.{sizes_of};
 ghost use Rattle.emtp_listing.specs.Puts.{Puts};
 ghost use Rattle.emtp_listing.specs.Lines.{all_separated, card_line, lines_text, numbered};
-ghost use Rattle.emtp_listing.specs.NetworkLines.{series_entries, line_entries, pseudo_word, pseudo_entries, phase_entries, branch_line, branch_lines, branch_points, segment_entries, segment_line, trio_line};
+ghost use Rattle.emtp_listing.specs.NetworkLines.{series_entries, line_entries, pseudo_word, pseudo_entries, phase_entries, branch_line, branch_group, branch_points, segment_entries, segment_line, trio_line};
 
 use crate::piece::{put_count, put_end, put_head, put_node, put_place, put_quantity, put_word};
 use emtp_case::{Branch, Line, Lumped, Parts, Phase, Point, Pseudo, Trio};
@@ -19,7 +19,7 @@ pub(crate) fn put_branch(
     branch: &Branch,
 ) -> Result<(), AllocError>
     requires { IsBranch parts.now.run (sizes_of parts.now) parts.now.points branch.now }
-    ensures { OnOk result (Puts out.old.items (lines_text (branch_lines parts.now.nodes parts.now.points branch.now)) out.new.items) }
+    ensures { OnOk result (Puts out.old.items (lines_text (branch_group parts.now.nodes parts.now.points branch.now)) out.new.items) }
 {
     put_kind(out, parts, branch)?;
     put_end(out)?;

@@ -4,7 +4,7 @@ ghost use Rattle.std.specs.Prelude.{◌≡◌, ◌+◌, ◌<◌, ◌≤◌, ◌+
 ghost use Rattle.emtp_case.specs.Control.{IsBlock, IsBound};
 ghost use Rattle.emtp_case.specs.Sizes.{sizes_of};
 ghost use Rattle.emtp_case.specs.declared.control.Input.{Input};
-ghost use Rattle.emtp_listing.specs.ControlLines.{block_entries, block_lines, bound_entry, input_entries, input_entry, polynomial_line, power_entry, sign_of};
+ghost use Rattle.emtp_listing.specs.ControlLines.{block_entries, block_lines, bound_entry, input_entries, input_entry, polynomial_line, power_entry, input_sign};
 ghost use Rattle.emtp_listing.specs.Lines.{all_separated, card_line, lines_text, numbered, separated};
 ghost use Rattle.emtp_listing.specs.Puts.{Puts};
 
@@ -99,12 +99,12 @@ fn put_input(out: &mut Vec<u8>, parts: &Parts, input: Input) -> Result<(), Alloc
     ensures { OnOk result (Puts out.old.items (separated (input_entry parts.now.vars input)) out.new.items) }
 {
     put(out, b", input=")?;
-    put(out, sign_of(input.minus))?;
+    put(out, input_sign(input.minus))?;
     put(out, parts.vars.as_slice()[input.var as usize].as_slice())
 }
 
-fn sign_of(minus: bool) -> &'static [u8]
-    ensures { result.now ≡ sign_of minus }
+fn input_sign(minus: bool) -> &'static [u8]
+    ensures { result.now ≡ input_sign minus }
 {
     if minus { b"-" } else { b"+" }
 }

@@ -3,7 +3,7 @@
 ghost use Rattle.std.specs.Prelude.{◌≡◌, ◌+◌, ◌<◌, ◌≤◌, ◌++◌, ◌∷◌, [], All, OnOk, codes, length, map};
 ghost use Rattle.emtp_case.specs.Control.{IsDevice, IsExtra, IsFormula};
 ghost use Rattle.emtp_case.specs.Sizes.{sizes_of};
-ghost use Rattle.emtp_listing.specs.ControlLines.{a_places, a_tail, binary_word, code_number, device_entries, extra_line, extra_lines, extra_points, formula_entries, group_number, node_of_expr_entry, table_entries, table_line, unary_word};
+ghost use Rattle.emtp_listing.specs.ControlLines.{a_places, a_tail, binary_word, code_number, device_entries, extra_card_line, extra_lines, extra_points, formula_entries, group_number, node_of_expr_entry, table_entries, table_line, unary_word};
 ghost use Rattle.emtp_listing.specs.Entry.{variable_entry};
 ghost use Rattle.emtp_listing.specs.Lines.{all_separated, card_line, lines_text, numbered, separated};
 ghost use Rattle.emtp_listing.specs.Puts.{Puts};
@@ -31,7 +31,7 @@ pub(crate) fn put_extra(out: &mut Vec<u8>, parts: &Parts, extra: &Extra) -> Resu
 /// Puts the line of a supplemental card after a text.
 fn put_extra_card(out: &mut Vec<u8>, parts: &Parts, extra: &Extra) -> Result<(), AllocError>
     requires { IsExtra (sizes_of parts.now) parts.now.points extra.now }
-    ensures { OnOk result (Puts out.old.items (extra_line parts.now.vars extra.now) out.new.items) }
+    ensures { OnOk result (Puts out.old.items (extra_card_line parts.now.vars extra.now) out.new.items) }
 {
     match extra {
         Extra::Device(device) => put_device(out, parts, device),

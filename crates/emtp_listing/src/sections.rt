@@ -4,8 +4,8 @@ ghost use Rattle.std.specs.Prelude.{◌≡◌, ◌≤◌, ◌++◌, ◌∷◌, [
 ghost use Rattle.emtp_case.specs.Case.{IsCase};
 ghost use Rattle.emtp_listing.specs.ControlLines.{block_lines, extra_lines, tacs_source_line};
 ghost use Rattle.emtp_listing.specs.Lines.{all_separated, grouped, lines_text, numbered};
-ghost use Rattle.emtp_listing.specs.Listing.{case_line, control_part, listing, name_line, network_part, run_line};
-ghost use Rattle.emtp_listing.specs.NetworkLines.{branch_lines, source_line, switch_line, trio_line};
+ghost use Rattle.emtp_listing.specs.Listing.{case_line, control_part, listing, name_line, network_lines, run_line};
+ghost use Rattle.emtp_listing.specs.NetworkLines.{branch_group, source_line, switch_line, trio_line};
 ghost use Rattle.emtp_listing.specs.Puts.{Puts};
 
 use crate::branch::{put_branch, put_trio};
@@ -41,7 +41,7 @@ pub fn listing(alloc: Global, case: &Case) -> Result<Vec<u8>, AllocError>
 /// Puts the lines of the network's records after a text.
 fn put_network(out: &mut Vec<u8>, parts: &Parts) -> Result<(), AllocError>
     requires { IsCase parts.now }
-    ensures { OnOk result (Puts out.old.items (lines_text (network_part parts.now)) out.new.items) }
+    ensures { OnOk result (Puts out.old.items (lines_text (network_lines parts.now)) out.new.items) }
 {
     put_branches(out, parts)?;
     put_trios(out, parts)?;
@@ -112,7 +112,7 @@ fn put_names(out: &mut Vec<u8>, word: &[u8], first: u32, names: &[Name]) -> Resu
 /// Puts the lines of all branches after a text.
 fn put_branches(out: &mut Vec<u8>, parts: &Parts) -> Result<(), AllocError>
     requires { IsCase parts.now }
-    ensures { OnOk result (Puts out.old.items (lines_text (grouped (branch_lines parts.now.nodes parts.now.points) parts.now.branches)) out.new.items) }
+    ensures { OnOk result (Puts out.old.items (lines_text (grouped (branch_group parts.now.nodes parts.now.points) parts.now.branches)) out.new.items) }
 {
     for branch in parts.branches.as_slice() {
         put_branch(out, parts, branch)?;
