@@ -264,6 +264,7 @@ def draw_scan(points, resonances, path):
             upper.annotate(
                 f"{number(at)} Hz", (at, abs(value)), textcoords="offset points", xytext=(4, 4), fontsize="small"
             )
+    upper.margins(y=0.12)
     upper.set_ylabel("magnitude, ohm")
     lower.set_ylabel("angle, degrees")
     lower.set_xlabel("Hz")
