@@ -3,3 +3,6 @@ pub mod LeastLines
 pub mod Frequencies
 pub mod Probing
 pub mod ResistanceAlone
+pub mod Products
+pub mod InverseRests
+pub mod Worked

@@ -10,7 +10,7 @@ use Rattle.emtp_admittance.specs.EqualReactances.{resistance_alone}
 use Rattle.emtp_admittance.specs.declared.admittance.Admittance.{Admittance}
 use Rattle.emtp_admittance.specs.declared.admittance.TwoPort.{TwoPort}
 
-unless_none : (b : Bool) (o : Option TwoPort) (P : TwoPort → Type 0) → IfSome o P → IfSome (if b then None else o) P
+pub unless_none : (b : Bool) (o : Option TwoPort) (P : TwoPort → Type 0) → IfSome o P → IfSome (if b then None else o) P
 unless_none true o P holds = tt
 unless_none false o P holds = holds
 

@@ -21,7 +21,7 @@ mod refusals;
 
 pub use admittance::{Admittance, TwoPort};
 pub use impedance::{branch_port, product};
-pub use laws::equal_reactances_leave_the_resistance;
+pub use laws::{equal_reactances_leave_the_resistance, series_impedance_is_r_and_x};
 pub use limit::{LARGEST_FREQUENCY, MOST_PHASOR_NODES};
 pub use probe::{Probe, judged_probe};
 pub use refusal::{Refusal, Refused};
