@@ -1,0 +1,84 @@
+-- One column, one record, one line more.
+use Rattle.std.proofs.Common.{◌≡◌, ◌++◌, ◌∙◌, ◌+◌, sym, ap, refl, List, [], ◌∷◌, ℕ, suc, append_assoc, take, drop, add-one, drop-cons}
+use Rattle.std.specs.Prelude.{Bool, Option, Some, slice_get}
+use Rattle.std.proofs.lemmas.Option.{slice_get_within, get_or_from_slice_get}
+use Rattle.emtp_case.specs.Branch.{from_of, line_of, to_of}
+use Rattle.emtp_case.specs.declared.branch.Branch.{Branch}
+use Rattle.emtp_case.specs.declared.case.Parts.{Parts}
+use Rattle.emtp_warnings.proofs.Adding.{rewritten, then}
+use Rattle.emtp_warnings.specs.Adds.{Adds}
+use Rattle.emtp_warnings.specs.ColumnWarnings.{at_column, run_to, run_with, up_to_column}
+use Rattle.emtp_warnings.specs.Finding.{when}
+use Rattle.emtp_warnings.specs.RecordWarnings.{branch_warnings, delay_of, ends_warnings, is_short}
+use Rattle.emtp_warnings.specs.Section.{next_section}
+use Rattle.emtp_warnings.specs.Warnings.{count_on, line_warnings, warnings_from}
+use Rattle.emtp_warnings.specs.declared.finding.Finding.TheVariants.{ShortTravel}
+use Rattle.emtp_warnings.specs.declared.finding.Spot.TheVariants.{Line as OfTheLine}
+use Rattle.emtp_warnings.specs.declared.finding.Warning.{Warning}
+use Rattle.emtp_warnings.specs.declared.section.Section.{Section}
+
+-- ---- columns
+
+run_turn : (ruler line : List ℕ) (before : ℕ) → run_with ruler line (before + 1) (run_to ruler line before) ≡ run_to ruler line (before + 1)
+run_turn ruler line before = rw add-one refl
+
+pub run-more : (ruler line : List ℕ) (before : ℕ) (run next : Option ℕ) → run ≡ run_to ruler line before → next ≡ run_with ruler line (before + 1) run → next ≡ run_to ruler line (before + 1)
+run-more ruler line before run next same is = is ∙ ap (run_with ruler line (before + 1)) same ∙ run_turn ruler line before
+
+column_turn : (ruler : List ℕ) (number : ℕ) (line : List ℕ) (before : ℕ)
+    → up_to_column ruler number line before ++ at_column ruler number line (before + 1) (run_to ruler line (before + 1)) ≡ up_to_column ruler number line (before + 1)
+column_turn ruler number line before = rw add-one refl
+
+pub column-more : {old mid new : List Warning} (ruler : List ℕ) (number : ℕ) (line : List ℕ) (before : ℕ) (run : Option ℕ) → run ≡ run_to ruler line (before + 1)
+    → Adds old (up_to_column ruler number line before) mid → Adds mid (at_column ruler number line (before + 1) run) new → Adds old (up_to_column ruler number line (before + 1)) new
+column-more ruler number line before run same front here =
+    rewritten (ap (λ (r : Option ℕ). up_to_column ruler number line before ++ at_column ruler number line (before + 1) r) same ∙ column_turn ruler number line before) (then front here)
+
+-- ---- a branch
+
+pub branch-added : {old mid new : List Warning} (p : Parts) (b : Branch) (line again a to : ℕ) (short : Bool)
+    → line ≡ line_of b → again ≡ line_of b → a ≡ from_of b → to ≡ to_of b → short ≡ is_short p.run.dt (delay_of p b)
+    → Adds old (ends_warnings p line a to) mid → Adds mid (when short (record { spot = OfTheLine again; finding = ShortTravel })) new → Adds old (branch_warnings p b) new
+branch-added p b line again a to short l l' f t s ends travel =
+    rewritten
+    (ap (λ (n : ℕ). ends_warnings p n a to ++ when short (record { spot = OfTheLine again; finding = ShortTravel })) l
+    ∙ ap (λ (n : ℕ). ends_warnings p (line_of b) n to ++ when short (record { spot = OfTheLine again; finding = ShortTravel })) f
+    ∙ ap (λ (n : ℕ). ends_warnings p (line_of b) (from_of b) n ++ when short (record { spot = OfTheLine again; finding = ShortTravel })) t
+    ∙ ap (λ (n : ℕ). ends_warnings p (line_of b) (from_of b) (to_of b) ++ when short (record { spot = OfTheLine n; finding = ShortTravel })) l'
+    ∙ ap (λ (is : Bool). ends_warnings p (line_of b) (from_of b) (to_of b) ++ when is (record { spot = OfTheLine (line_of b); finding = ShortTravel })) s)
+    (then ends travel)
+
+-- ---- lines
+
+drop_next : {A : Type 0} (xs : List A) (at : ℕ) (x : A) → slice_get xs at ≡ Some x → drop at xs ≡ x ∷ drop (at + 1) xs
+drop_next xs at x h =
+    rw (add-one) (drop-cons xs at x (slice_get_within xs at x h) ∙ ap (λ y. y ∷ drop (suc at) xs) (get_or_from_slice_get xs at x x h))
+
+-- what is left from a line on: what is on this line, and what is left behind it
+turn : (cards : List (List ℕ)) (at : ℕ) (line : List ℕ) (section : Section) (rest out whole : List Warning) → slice_get cards at ≡ Some line
+    → out ++ warnings_from (at + 1) section (drop at cards) rest ≡ whole
+    → ((out ++ line_warnings (at + 1) section line) ++ take (count_on (at + 1) rest) rest)
+    ++ warnings_from (at + 1 + 1) (next_section (at + 1) line section) (drop (at + 1) cards) (drop (count_on (at + 1) rest) rest) ≡ whole
+turn cards at line section rest out whole found h =
+    let here = line_warnings (at + 1) section line in
+    let records = take (count_on (at + 1) rest) rest in
+    let behind = warnings_from (at + 1 + 1) (next_section (at + 1) line section) (drop (at + 1) cards) (drop (count_on (at + 1) rest) rest) in
+    append_assoc (out ++ here) records behind
+    ∙ append_assoc out here (records ++ behind)
+    ∙ sym (ap (λ (lines : List (List ℕ)). out ++ warnings_from (at + 1) section lines rest) (drop_next cards at line found))
+    ∙ h
+
+pub line-more : (cards : List (List ℕ)) (at count : ℕ) (line : List ℕ) (section next : Section) (rest front back out mid new whole : List Warning)
+    → slice_get cards at ≡ Some line → count ≡ count_on (at + 1) rest → front ≡ take count rest → back ≡ drop count rest → next ≡ next_section (at + 1) line section
+    → out ++ warnings_from (at + 1) section (drop at cards) rest ≡ whole
+    → Adds out (line_warnings (at + 1) section line) mid → new ≡ mid ++ front
+    → new ++ warnings_from (at + 1 + 1) next (drop (at + 1) cards) back ≡ whole
+line-more cards at count line section next rest front back out mid new whole found counted is_front is_back is_next h added is_new =
+    let here = line_warnings (at + 1) section line in
+    let front' : front ≡ take (count_on (at + 1) rest) rest = is_front ∙ ap (λ (n : ℕ). take n rest) counted in
+    let back' : back ≡ drop (count_on (at + 1) rest) rest = is_back ∙ ap (λ (n : ℕ). drop n rest) counted in
+    let new' : new ≡ (out ++ here) ++ take (count_on (at + 1) rest) rest = is_new ∙ ap (λ (t : List Warning). t ++ front) added.is ∙ ap (λ (t : List Warning). (out ++ here) ++ t) front' in
+    ap (λ (t : List Warning). t ++ warnings_from (at + 1 + 1) next (drop (at + 1) cards) back) new'
+    ∙ ap (λ (s : Section). ((out ++ here) ++ take (count_on (at + 1) rest) rest) ++ warnings_from (at + 1 + 1) s (drop (at + 1) cards) back) is_next
+    ∙ ap (λ (r : List Warning). ((out ++ here) ++ take (count_on (at + 1) rest) rest) ++ warnings_from (at + 1 + 1) (next_section (at + 1) line section) (drop (at + 1) cards) r) back'
+    ∙ turn cards at line section rest out whole found h

@@ -1,0 +1,130 @@
+-- Which columns of a line are read: the ruler of its card.
+use Rattle.std.specs.List.{starts_with}
+use Rattle.std.specs.Prelude.{ℕ, ◌+◌, ◌*◌, ◌==◌, min, nat_eq, length, take, Bool, true, false, ◌||◌, List, codes, Option, Some, None, Result, Ok, Err, if◌then◌else◌}
+use Rattle.emtp_card.specs.Field.{field_of}
+use Rattle.emtp_card.specs.Lines.{is_comment, is_section_end}
+use Rattle.emtp_card.specs.declared.reason.Bad.{Bad}
+use Rattle.emtp_card.specs.declared.reason.Why.{Why}
+use Rattle.emtp_case.specs.declared.source.Shape.{Shape}
+use Rattle.emtp_case.specs.declared.source.Shape.TheVariants.{Cosine, NodeVoltage, Pulse, Ramp, Saw, Step, SwitchCurrent, SwitchStatus, Tacs}
+use Rattle.emtp_netcards.specs.BranchCard.{kind_field}
+use Rattle.emtp_netcards.specs.OutputCard.{output_card}
+use Rattle.emtp_netcards.specs.SourceCard as sources
+use Rattle.emtp_netcards.specs.SwitchCard as switches
+use Rattle.emtp_netcards.specs.VintageCard.{is_vintage}
+use Rattle.emtp_netcards.specs.declared.branch_card.BranchKind.{BranchKind}
+use Rattle.emtp_netcards.specs.declared.branch_card.BranchKind.TheVariants.{Line as LineKind, Reactor as ReactorKind, Resistor as ResistorKind, Second as SecondKind, Series as SeriesKind, Third as ThirdKind}
+use Rattle.emtp_netcards.specs.declared.output_card.OutputCard.{OutputCard}
+use Rattle.emtp_netcards.specs.declared.output_card.OutputCard.TheVariants.{All as AllNodes, Names}
+use Rattle.emtp_netcards.specs.declared.source_card.SourceCard.{SourceCard}
+use Rattle.emtp_netcards.specs.declared.source_card.SourceType.{SourceType}
+use Rattle.emtp_netcards.specs.declared.source_card.SourceType.TheVariants.{Cosine as CosineType, Ramp as RampType, Step as StepType, Tacs as TacsType}
+use Rattle.emtp_netcards.specs.declared.switch_card.SwitchType.{SwitchType}
+use Rattle.emtp_netcards.specs.declared.switch_card.SwitchType.TheVariants.{Control as ControlType, Time as TimeType, Valve as ValveType}
+use Rattle.emtp_taccards.specs.TacsSourceCard.{tacs_source_card}
+use Rattle.emtp_warnings.specs.Section.{ends_points, names_another}
+use Rattle.emtp_warnings.specs.declared.rulers.TheConstants.{ALL_NODES, BLOCK, CONTROLLED, COPY, COSINE, DEVICE, ENDING, FIRST_RUN, FORMULA, FREE, LEVEL, LINE, MEASURED, MEASURING, NAMES, POINT, POLYNOMIAL, PULSE, RAMP, RESISTOR, SAW, SECOND_RUN, SERIES, STEP, TACS_COSINE, THIRD_PHASE, TIME_SWITCH, TOLERANCE, VALVE, VARIABLE, WIDE_SERIES}
+use Rattle.emtp_warnings.specs.declared.section.Section.{Section}
+use Rattle.emtp_warnings.specs.declared.section.Section.TheVariants.{After, Begin, Blocks, Branches, Denominator, DevicePoints, Extras, First, Initial, Numerator, Outputs, Points, Second, Sources, Start, Switches, TacsOutputs, TacsSources, Third, Waiting}
+
+-- ---- branches
+
+-- the values of a card that takes those of another aren't read
+abbrev pub copy_or : Bool → List ℕ → List ℕ
+copy_or copies own = if copies then COPY.now else own
+
+abbrev pub series_ruler : Bool → List ℕ
+series_ruler wide = if wide then WIDE_SERIES.now else SERIES.now
+
+abbrev pub ruler_of_kind : Bool → Bool → Result BranchKind Why → List ℕ
+ruler_of_kind wide copies (Ok SeriesKind) = copy_or copies (series_ruler wide)
+ruler_of_kind wide copies (Ok LineKind) = copy_or copies LINE.now
+ruler_of_kind wide copies (Ok SecondKind) = copy_or copies LINE.now
+ruler_of_kind wide copies (Ok ThirdKind) = THIRD_PHASE.now
+ruler_of_kind wide copies (Ok ReactorKind) = COPY.now
+ruler_of_kind wide copies (Ok ResistorKind) = copy_or copies RESISTOR.now
+ruler_of_kind wide copies (Err why) = FREE.now
+
+abbrev pub branch_ruler : List ℕ → Bool → List ℕ
+branch_ruler line wide = if is_section_end line || is_vintage line then FREE.now else ruler_of_kind wide (names_another line) (kind_field line)
+
+-- ---- switches, sources, outputs
+
+abbrev pub switch_ruler : Bool → Result SwitchType Why → List ℕ
+switch_ruler measuring (Ok TimeType) = if measuring then MEASURING.now else TIME_SWITCH.now
+switch_ruler measuring (Ok ValveType) = VALVE.now
+switch_ruler measuring (Ok ControlType) = CONTROLLED.now
+switch_ruler measuring (Err why) = FREE.now
+
+abbrev pub source_ruler : Result SourceType Why → List ℕ
+source_ruler (Ok StepType) = STEP.now
+source_ruler (Ok RampType) = RAMP.now
+source_ruler (Ok CosineType) = COSINE.now
+source_ruler (Ok TacsType) = VARIABLE.now
+source_ruler (Err why) = FREE.now
+
+abbrev pub output_ruler : Result OutputCard Bad → List ℕ
+output_ruler (Ok AllNodes) = ALL_NODES.now
+output_ruler (Ok (Names names)) = NAMES.now
+output_ruler (Err bad) = FREE.now
+
+-- ---- points
+
+abbrev pub point_ruler : Bool → List ℕ
+point_ruler last = if last then ENDING.now else POINT.now
+
+-- ---- the control
+
+-- the coefficients of powers above the order aren't read
+abbrev pub polynomial_ruler : ℕ → List ℕ
+polynomial_ruler order = take (min (10 * (order + 1)) 80) POLYNOMIAL.now
+
+abbrev pub ruler_of_shape : Shape → List ℕ
+ruler_of_shape Step = LEVEL.now
+ruler_of_shape (Ramp rise) = FREE.now
+ruler_of_shape (Cosine freq phase) = TACS_COSINE.now
+ruler_of_shape (Tacs var) = FREE.now
+ruler_of_shape (Pulse period width) = PULSE.now
+ruler_of_shape (Saw period) = SAW.now
+ruler_of_shape (NodeVoltage node) = MEASURED.now
+ruler_of_shape (SwitchCurrent switch) = MEASURED.now
+ruler_of_shape (SwitchStatus switch) = MEASURED.now
+
+abbrev pub tacs_source_ruler : Result SourceCard Bad → List ℕ
+tacs_source_ruler (Ok card) = ruler_of_shape card.shape
+tacs_source_ruler (Err bad) = FREE.now
+
+-- a formula is known by its blank columns 9 and 10
+abbrev pub extra_ruler : List ℕ → List ℕ
+extra_ruler line = if length (field_of line 9 10) == 0 then FORMULA.now else DEVICE.now
+
+-- ---- all sections
+
+abbrev pub unless_end : List ℕ → List ℕ → List ℕ
+unless_end line ruler = if is_section_end line then FREE.now else ruler
+
+abbrev pub ruler_in : ℕ → List ℕ → Section → List ℕ
+ruler_in number line Begin = FREE.now
+ruler_in number line First = if starts_with nat_eq line (codes "RESIDUAL TOLERANCE") then TOLERANCE.now else FIRST_RUN.now
+ruler_in number line Second = unless_end line SECOND_RUN.now
+ruler_in number line Start = if starts_with nat_eq line (codes "TACS HYBRID") then FREE.now else branch_ruler line false
+ruler_in number line Blocks = unless_end line BLOCK.now
+ruler_in number line (Numerator order) = polynomial_ruler order
+ruler_in number line (Denominator order) = polynomial_ruler order
+ruler_in number line TacsSources = unless_end line (tacs_source_ruler (tacs_source_card number line))
+ruler_in number line Extras = unless_end line (extra_ruler line)
+ruler_in number line (DevicePoints scale) = point_ruler (ends_points number line scale)
+ruler_in number line TacsOutputs = unless_end line NAMES.now
+ruler_in number line Initial = FREE.now
+ruler_in number line (Branches wide) = branch_ruler line wide
+ruler_in number line (Points scale wide) = point_ruler (ends_points number line scale)
+ruler_in number line (Waiting wide) = branch_ruler line wide
+ruler_in number line (Third wide) = branch_ruler line wide
+ruler_in number line Switches = unless_end line (switch_ruler (switches.is_measuring line) (switches.type_field line))
+ruler_in number line Sources = unless_end line (source_ruler (sources.type_field line))
+ruler_in number line Outputs = unless_end line (output_ruler (output_card number line))
+ruler_in number line After = FREE.now
+
+-- a comment is free
+abbrev pub ruler_at : ℕ → List ℕ → Section → List ℕ
+ruler_at number line section = if is_comment line then FREE.now else ruler_in number line section

@@ -1,0 +1,124 @@
+-- The warnings of the records of a case.
+use Rattle.std.specs.Prelude.{ℕ, ◌+◌, ◌-◌, ◌==◌, ℤ, pos, int_lt, ◌*ℤ◌, count_by, flat_map, slice_get, Bool, true, false, not, ◌&&◌, ◌||◌, List, [], ◌∷◌, ◌++◌, Option, Some, None, codes, if◌then◌else◌}
+use Rattle.std.specs.Ordering.{int_eq}
+use Rattle.std.specs.Str.{bytes_eq}
+use Rattle.emtp_case.specs.Branch.{from_of, line_of, to_of}
+use Rattle.emtp_case.specs.RunData.{time_of}
+use Rattle.emtp_case.specs.declared.branch.Branch.{Branch}
+use Rattle.emtp_case.specs.declared.branch.Branch.TheVariants.{Line as OfLine, Lumped as OfLumped, Phase as OfPhase, Pseudo as OfPseudo}
+use Rattle.emtp_case.specs.declared.branch.Trio.{Trio}
+use Rattle.emtp_case.specs.declared.case.Parts.{Parts}
+use Rattle.emtp_case.specs.declared.source.Shape.{Shape}
+use Rattle.emtp_case.specs.declared.source.Shape.TheVariants.{Cosine, NodeVoltage, Pulse, Ramp, Saw, Step, SwitchCurrent, SwitchStatus, Tacs}
+use Rattle.emtp_case.specs.declared.source.Source.{Source}
+use Rattle.emtp_case.specs.declared.switch.Switch.{Switch}
+use Rattle.emtp_case.specs.declared.switch.SwitchKind.{SwitchKind}
+use Rattle.emtp_case.specs.declared.switch.SwitchKind.TheVariants.{Control, Measuring, Time, Valve}
+use Rattle.emtp_warnings.specs.Finding.{of_columns, when}
+use Rattle.emtp_warnings.specs.declared.finding.Finding.TheVariants.{AfterEnd, LoneNode, NoFrequency, NodeZero, ShortTravel}
+use Rattle.emtp_warnings.specs.declared.finding.Spot.TheVariants.{Line as OfTheLine}
+use Rattle.emtp_warnings.specs.declared.finding.Warning.{Warning}
+
+-- ---- nodes
+
+abbrev pub branch_ends_at : ℕ → Branch → Bool
+branch_ends_at node b = (from_of b == node) || (to_of b == node)
+
+abbrev pub switch_ends_at : ℕ → Switch → Bool
+switch_ends_at node s = (s.from == node) || (s.to == node)
+
+abbrev pub source_stands_at : ℕ → Source → Bool
+source_stands_at node s = s.node == node
+
+-- how many branches, switches and sources a node has
+abbrev pub records_at : Parts → ℕ → ℕ
+records_at p node = count_by (branch_ends_at node) p.branches + count_by (switch_ends_at node) p.switches + count_by (source_stands_at node) p.sources
+
+-- ground has no name
+abbrev pub is_lone : Parts → ℕ → Bool
+is_lone p node = not (node == 0) && (records_at p node == 1)
+
+abbrev pub is_zero_name : Option (List ℕ) → Bool
+is_zero_name None = false
+is_zero_name (Some name) = bytes_eq name (codes "0")
+
+abbrev pub is_node_zero : Parts → ℕ → Bool
+is_node_zero p node = not (node == 0) && is_zero_name (slice_get p.nodes (node - 1))
+
+-- what the end of a branch or a switch warns of, by the columns of its name
+abbrev pub end_warnings : Parts → ℕ → ℕ → ℕ × ℕ → List Warning
+end_warnings p line node columns =
+    when (is_lone p node) (of_columns line columns.0 columns.1 LoneNode) ++ when (is_node_zero p node) (of_columns line columns.0 columns.1 NodeZero)
+
+-- BUS1 and BUS2
+abbrev pub ends_warnings : Parts → ℕ → ℕ → ℕ → List Warning
+ends_warnings p line a b = end_warnings p line a (3, 8) ++ end_warnings p line b (9, 14)
+
+-- ---- branches
+
+-- of a three-phase line the travel time of the zero sequence stands on the card of its first phase, that of the positive one on
+-- the card of its second
+abbrev pub mode_delay : Option Trio → ℕ → Option ℤ
+mode_delay None phase = None
+mode_delay (Some t) phase = slice_get t.delay phase
+
+abbrev pub delay_of : Parts → Branch → Option ℤ
+delay_of p (OfLumped b) = None
+delay_of p (OfLine b) = Some b.delay
+delay_of p (OfPseudo b) = None
+delay_of p (OfPhase b) = mode_delay (slice_get p.trios b.trio) b.phase
+
+-- below two steps
+abbrev pub is_short : ℤ → Option ℤ → Bool
+is_short dt None = false
+is_short dt (Some delay) = int_lt delay (pos 2 *ℤ dt)
+
+abbrev pub branch_warnings : Parts → Branch → List Warning
+branch_warnings p b =
+    ends_warnings p (line_of b) (from_of b) (to_of b) ++ when (is_short p.run.dt (delay_of p b)) (record { spot = OfTheLine (line_of b); finding = ShortTravel })
+
+-- ---- switches
+
+abbrev pub is_after_end : ℤ → Option ℤ → Bool
+is_after_end last None = false
+is_after_end last (Some time) = int_lt last time
+
+-- the times of a time switch; a switch that never opens has no T-OPEN
+abbrev pub times_warnings : ℤ → ℕ → SwitchKind → List Warning
+times_warnings last line (Time close open_at margin) =
+    when (int_lt last close) (of_columns line 15 24 AfterEnd) ++ when (is_after_end last open_at) (of_columns line 25 34 AfterEnd)
+times_warnings last line Measuring = []
+times_warnings last line (Valve ignition holding control) = []
+times_warnings last line (Control control) = []
+
+-- the time of the last step
+abbrev pub end_of_run : Parts → ℤ
+end_of_run p = time_of p.run p.run.steps
+
+abbrev pub switch_warnings : Parts → Switch → List Warning
+switch_warnings p s = ends_warnings p s.line s.from s.to ++ times_warnings (end_of_run p) s.line s.kind
+
+-- ---- sources
+
+abbrev pub is_constant : Shape → Bool
+is_constant Step = false
+is_constant (Ramp rise) = false
+is_constant (Cosine freq phase) = int_eq freq (pos 0)
+is_constant (Tacs var) = false
+is_constant (Pulse period width) = false
+is_constant (Saw period) = false
+is_constant (NodeVoltage node) = false
+is_constant (SwitchCurrent switch) = false
+is_constant (SwitchStatus switch) = false
+
+-- of the network, or of the control
+abbrev pub source_warnings : ℤ → Source → List Warning
+source_warnings last s =
+    when (is_constant s.shape) (of_columns s.line 21 30 NoFrequency) ++ when (int_lt last s.start) (of_columns s.line 61 70 AfterEnd)
+
+-- ---- all records, in the order of their lines
+
+abbrev pub record_warnings : Parts → List Warning
+record_warnings p =
+    flat_map (source_warnings (end_of_run p)) p.tacs_sources
+    ++ (flat_map (branch_warnings p) p.branches ++ (flat_map (switch_warnings p) p.switches ++ flat_map (source_warnings (end_of_run p)) p.sources))

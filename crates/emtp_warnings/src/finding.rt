@@ -1,0 +1,65 @@
+//! What a warning is.
+
+ghost use Rattle.std.specs.Prelude.{◌≡◌};
+ghost use Rattle.emtp_warnings.specs.Finding.{is_on};
+
+/// Where a warning points.
+#[derive(Clone, Copy, PartialEq, Eq)]
+pub enum Spot {
+    /// Columns of a line, the first and the last one counted from 1.
+    Columns {
+        /// The number of the line, from 1.
+        line: u32,
+        /// The first column.
+        first: usize,
+        /// The last column.
+        last: usize,
+    },
+    /// A line, by its number from 1.
+    Line(u32),
+    /// A channel, by its place in the record from 1.
+    Channel(usize),
+}
+
+/// What is warned of.
+#[derive(Clone, Copy, PartialEq, Eq)]
+pub enum Finding {
+    /// Columns that are not blank, and that no field has.
+    NotRead,
+    /// The last byte of a number's field and the first byte of the next one's: the number may be one.
+    NumbersTouch,
+    /// A node that no other card names.
+    LoneNode,
+    /// A node whose name is `0`, which is not ground.
+    NodeZero,
+    /// A cosine of frequency 0.
+    NoFrequency,
+    /// A travel time below two steps.
+    ShortTravel,
+    /// A time after the end of the run.
+    AfterEnd,
+    /// A channel that was asked for before.
+    AskedTwice,
+}
+
+/// A warning.
+#[derive(Clone, Copy, PartialEq, Eq)]
+pub struct Warning {
+    /// Where it points.
+    pub spot: Spot,
+    /// What it warns of.
+    pub finding: Finding,
+}
+
+impl Warning {
+    /// Whether it points to a line, or to columns of it.
+    pub(crate) fn is_on(&self, number: u32) -> bool
+        ensures { result ≡ is_on number self.now }
+    {
+        match self.spot {
+            Spot::Columns { line, .. } => line == number,
+            Spot::Line(line) => line == number,
+            Spot::Channel(_) => false,
+        }
+    }
+}

@@ -1,0 +1,211 @@
+//! Which columns of a line are read: the ruler of its card.
+
+ghost use Rattle.std.specs.Prelude.{◌≡◌, ◌≤◌, length};
+ghost use Rattle.emtp_netcards.specs.OutputCard.{output_card};
+ghost use Rattle.emtp_netcards.specs.SourceCard as sources;
+ghost use Rattle.emtp_netcards.specs.SwitchCard as switches;
+ghost use Rattle.emtp_taccards.specs.TacsSourceCard.{tacs_source_card};
+ghost use Rattle.emtp_warnings.specs.Marked.{branch_ruler, copy_or, extra_ruler, output_ruler, point_ruler, polynomial_ruler, ruler_at, ruler_in, ruler_of_kind, ruler_of_shape, series_ruler, source_ruler, switch_ruler, tacs_source_ruler, unless_end};
+ghost use Rattle.emtp_warnings.specs.Section.{ends_points};
+
+use crate::rulers::{
+    ALL_NODES, BLOCK, CONTROLLED, COPY, COSINE, DEVICE, ENDING, FIRST_RUN, FORMULA, FREE, LEVEL,
+    LINE, MEASURED, MEASURING, NAMES, POINT, POLYNOMIAL, PULSE, RAMP, RESISTOR, SAW, SECOND_RUN,
+    SERIES, STEP, TACS_COSINE, THIRD_PHASE, TIME_SWITCH, TOLERANCE, VALVE, VARIABLE, WIDE_SERIES,
+};
+use crate::section::{Section, ends_points, names_another};
+use emtp_card::{Line, MAX_BYTES, Why, comment, ends_section, field_text};
+use emtp_case::Shape;
+use emtp_netcards::{
+    BranchKind, OutputCard, PointScale, SourceType, SwitchType, branch_kind, outputs, source_type,
+    switch_type,
+};
+use emtp_taccards::tacs_source;
+
+/// The ruler of a line; a comment is free.
+pub(crate) fn ruler_at(line: &Line<'_>, section: Section) -> &'static [u8]
+    requires { length line.now.bytes.now ≤ MAX_BYTES }
+    ensures { result.now ≡ ruler_at line.now.number line.now.bytes.now section }
+{
+    if comment(line.bytes) {
+        FREE
+    } else {
+        ruler_in(line, section)
+    }
+}
+
+fn ruler_in(line: &Line<'_>, section: Section) -> &'static [u8]
+    requires { length line.now.bytes.now ≤ MAX_BYTES }
+    ensures { result.now ≡ ruler_in line.now.number line.now.bytes.now section }
+{
+    match section {
+        Section::Begin | Section::Initial | Section::After => FREE,
+        Section::First => first_ruler(line.bytes),
+        Section::Second => unless_end(line.bytes, SECOND_RUN),
+        Section::Start => start_ruler(line.bytes),
+        Section::Blocks => unless_end(line.bytes, BLOCK),
+        Section::Numerator(order) | Section::Denominator(order) => polynomial_ruler(order),
+        Section::TacsSources => unless_end(line.bytes, tacs_source_ruler(line)),
+        Section::Extras => unless_end(line.bytes, extra_ruler(line.bytes)),
+        Section::TacsOutputs => unless_end(line.bytes, NAMES),
+        Section::Branches(wide) | Section::Waiting(wide) | Section::Third(wide) => {
+            branch_ruler(line.bytes, wide)
+        }
+        Section::DevicePoints(scale) | Section::Points(scale, _) => point_ruler(line, scale),
+        Section::Switches => unless_end(line.bytes, switch_ruler(line.bytes)),
+        Section::Sources => unless_end(line.bytes, source_ruler(line.bytes)),
+        Section::Outputs => unless_end(line.bytes, output_ruler(line)),
+    }
+}
+
+/// A line that ends a section is free.
+fn unless_end(line: &[u8], ruler: &'static [u8]) -> &'static [u8]
+    ensures { result.now ≡ unless_end line.now ruler.now }
+{
+    if ends_section(line) { FREE } else { ruler }
+}
+
+fn first_ruler(line: &[u8]) -> &'static [u8]
+    ensures { result.now ≡ ruler_in 0 line.now Section.First }
+{
+    if line.starts_with(b"RESIDUAL TOLERANCE") {
+        TOLERANCE
+    } else {
+        FIRST_RUN
+    }
+}
+
+fn start_ruler(line: &[u8]) -> &'static [u8]
+    ensures { result.now ≡ ruler_in 0 line.now Section.Start }
+{
+    if line.starts_with(b"TACS HYBRID") {
+        FREE
+    } else {
+        branch_ruler(line, false)
+    }
+}
+
+fn branch_ruler(line: &[u8], wide: bool) -> &'static [u8]
+    ensures { result.now ≡ branch_ruler line.now wide }
+{
+    if ends_section(line) || line.starts_with(b"$VINTAGE") {
+        FREE
+    } else {
+        ruler_of_kind(wide, names_another(line), &branch_kind(line))
+    }
+}
+
+fn ruler_of_kind(wide: bool, copies: bool, kind: &Result<BranchKind, Why>) -> &'static [u8]
+    ensures { result.now ≡ ruler_of_kind wide copies kind.now }
+{
+    match kind {
+        Ok(BranchKind::Series) => copy_or(copies, series_ruler(wide)),
+        Ok(BranchKind::Line) | Ok(BranchKind::Second) => copy_or(copies, LINE),
+        Ok(BranchKind::Third) => THIRD_PHASE,
+        Ok(BranchKind::Reactor) => COPY,
+        Ok(BranchKind::Resistor) => copy_or(copies, RESISTOR),
+        Err(_) => FREE,
+    }
+}
+
+/// The values of a card that takes those of another aren't read.
+fn copy_or(copies: bool, own: &'static [u8]) -> &'static [u8]
+    ensures { result.now ≡ copy_or copies own.now }
+{
+    if copies { COPY } else { own }
+}
+
+fn series_ruler(wide: bool) -> &'static [u8]
+    ensures { result.now ≡ series_ruler wide }
+{
+    if wide { WIDE_SERIES } else { SERIES }
+}
+
+fn switch_ruler(line: &[u8]) -> &'static [u8]
+    ensures { result.now ≡ switch_ruler (switches.is_measuring line.now) (switches.type_field line.now) }
+{
+    let measuring = field_text(line, 55, 64) == b"MEASURING".as_slice();
+    match switch_type(line) {
+        Ok(SwitchType::Time) => { if measuring { MEASURING } else { TIME_SWITCH } }
+        Ok(SwitchType::Valve) => VALVE,
+        Ok(SwitchType::Control) => CONTROLLED,
+        Err(_) => FREE,
+    }
+}
+
+fn source_ruler(line: &[u8]) -> &'static [u8]
+    ensures { result.now ≡ source_ruler (sources.type_field line.now) }
+{
+    match source_type(line) {
+        Ok(SourceType::Step) => STEP,
+        Ok(SourceType::Ramp) => RAMP,
+        Ok(SourceType::Cosine) => COSINE,
+        Ok(SourceType::Tacs) => VARIABLE,
+        Err(_) => FREE,
+    }
+}
+
+fn output_ruler(line: &Line<'_>) -> &'static [u8]
+    requires { length line.now.bytes.now ≤ MAX_BYTES }
+    ensures { result.now ≡ output_ruler (output_card line.now.number line.now.bytes.now) }
+{
+    match outputs(*line) {
+        Ok(OutputCard::All) => ALL_NODES,
+        Ok(OutputCard::Names(_)) => NAMES,
+        Err(_) => FREE,
+    }
+}
+
+fn point_ruler(line: &Line<'_>, scale: PointScale) -> &'static [u8]
+    requires { length line.now.bytes.now ≤ MAX_BYTES }
+    ensures { result.now ≡ point_ruler (ends_points line.now.number line.now.bytes.now scale) }
+{
+    if ends_points(line, scale) {
+        ENDING
+    } else {
+        POINT
+    }
+}
+
+/// The coefficients of powers above the order aren't read.
+fn polynomial_ruler(order: u8) -> &'static [u8]
+    ensures { result.now ≡ polynomial_ruler order }
+{
+    &POLYNOMIAL[..(10 * (order as usize + 1)).min(80)]
+}
+
+fn tacs_source_ruler(line: &Line<'_>) -> &'static [u8]
+    requires { length line.now.bytes.now ≤ MAX_BYTES }
+    ensures { result.now ≡ tacs_source_ruler (tacs_source_card line.now.number line.now.bytes.now) }
+{
+    match tacs_source(*line) {
+        Ok(card) => ruler_of_shape(&card.shape),
+        Err(_) => FREE,
+    }
+}
+
+fn ruler_of_shape(shape: &Shape) -> &'static [u8]
+    ensures { result.now ≡ ruler_of_shape shape.now }
+{
+    match shape {
+        Shape::Step => LEVEL,
+        Shape::Cosine { .. } => TACS_COSINE,
+        Shape::Pulse { .. } => PULSE,
+        Shape::Saw { .. } => SAW,
+        Shape::NodeVoltage { .. } | Shape::SwitchCurrent { .. } | Shape::SwitchStatus { .. } => {
+            MEASURED
+        }
+        Shape::Ramp { .. } | Shape::Tacs { .. } => FREE,
+    }
+}
+
+/// A formula is known by its blank columns 9 and 10.
+fn extra_ruler(line: &[u8]) -> &'static [u8]
+    ensures { result.now ≡ extra_ruler line.now }
+{
+    if field_text(line, 9, 10).is_empty() {
+        FORMULA
+    } else {
+        DEVICE
+    }
+}

@@ -1,0 +1,81 @@
+//! The text of warnings, a line each.
+
+ghost use Rattle.std.specs.Prelude.{◌≡◌, ◌++◌, IfOk, OnOk};
+ghost use Rattle.emtp_warnings.specs.WarningText.{columns_text, finding_text, spot_text, warning_line, warnings_text};
+
+use crate::finding::{Finding, Spot, Warning};
+use emtp_text::{put, put_number};
+use std::alloc::{AllocError, Global};
+
+/// The text of warnings, a line each: `warning, line 39, columns 45-54, not read` and so on. This project's own form.
+///
+/// # Errors
+///
+/// [`AllocError`] where memory is wanting.
+pub fn warnings_text(alloc: Global, found: &[Warning]) -> Result<Vec<u8>, AllocError>
+    ensures { IfOk result (λ text. text.items ≡ warnings_text found.now) }
+{
+    let mut text = Vec::new(alloc);
+    for warning in found {
+        put_warning(&mut text, warning)?;
+    }
+    Ok(text)
+}
+
+/// Puts the line of a warning after a text.
+#[tactic(auto, unfolding(crate::specs::WarningText::warning_line))]
+fn put_warning(text: &mut Vec<u8>, warning: &Warning) -> Result<(), AllocError>
+    ensures { OnOk result (text.new.items ≡ text.old.items ++ warning_line warning.now) }
+{
+    put(text, b"warning, ")?;
+    put_spot(text, &warning.spot)?;
+    put(text, b", ")?;
+    put(text, finding_text(warning.finding))?;
+    put(text, b"\n")
+}
+
+/// Puts after a text where a warning points.
+fn put_spot(text: &mut Vec<u8>, spot: &Spot) -> Result<(), AllocError>
+    ensures { OnOk result (text.new.items ≡ text.old.items ++ spot_text spot.now) }
+{
+    match spot {
+        Spot::Columns { line, first, last } => put_columns(text, *line, *first, *last),
+        Spot::Line(line) => {
+            put(text, b"line ")?;
+            put_number(text, *line)
+        }
+        Spot::Channel(place) => {
+            put(text, b"channel ")?;
+            put_number(text, *place)
+        }
+    }
+}
+
+/// Puts columns of a line after a text.
+#[tactic(auto, unfolding(crate::specs::WarningText::columns_text))]
+fn put_columns(text: &mut Vec<u8>, line: u32, first: usize, last: usize) -> Result<(), AllocError>
+    ensures { OnOk result (text.new.items ≡ text.old.items ++ columns_text line first last) }
+{
+    put(text, b"line ")?;
+    put_number(text, line)?;
+    put(text, b", columns ")?;
+    put_number(text, first)?;
+    put(text, b"-")?;
+    put_number(text, last)
+}
+
+/// The words for what is warned of.
+fn finding_text(finding: Finding) -> &'static [u8]
+    ensures { result.now ≡ finding_text finding }
+{
+    match finding {
+        Finding::NotRead => b"not read",
+        Finding::NumbersTouch => b"two numbers touch",
+        Finding::LoneNode => b"no other card names the node",
+        Finding::NodeZero => b"node 0 is not ground",
+        Finding::NoFrequency => b"cosine of frequency 0",
+        Finding::ShortTravel => b"travel time below two steps",
+        Finding::AfterEnd => b"after the end of the run",
+        Finding::AskedTwice => b"asked for twice",
+    }
+}
