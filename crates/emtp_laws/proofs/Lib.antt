@@ -13,10 +13,13 @@ mod CoupledPhases
 mod Resistors
 mod ResistorRuns
 mod LineWaves
+mod RenumberedPhases
 mod LimitedOutputs
 mod LimitersOfRuns
 mod VariablesOfBlocks
 mod LimitsOfRuns
+mod TrapezoidalBlocks
+mod LoneBlocks
 mod SampleCounts
 mod MirroredNumbers
 mod OddBranches

@@ -3,7 +3,7 @@ use Rattle.std.proofs.Common.{◌≡◌, ◌∙◌, ℕ, ℤ, false, List, [], �
 use Rattle.std.proofs.lemmas.List.{get_or-replicate}
 use Rattle.std.proofs.lemmas.List.FromFn.{get_or-map-range_with_len}
 use Rattle.std.proofs.lemmas.Option.{slice_get_within}
-use Rattle.emtp_blocks.specs.Block.{limit_of, limits_of, next_state}
+use Rattle.emtp_blocks.specs.Block.{limit_of}
 use Rattle.emtp_blocks.specs.System.{block_of, first_out, input_sum, next_at, next_by, output_at, output_by, state_at, states_after}
 use Rattle.emtp_blocks.specs.System as system
 use Rattle.emtp_case.specs.StepRecord.{StepRecord, no_block, rest_of}

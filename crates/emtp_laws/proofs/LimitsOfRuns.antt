@@ -1,12 +1,12 @@
 -- In each record of a run the variables of the blocks lie between their limits.
-use Rattle.std.proofs.Common.{◌≡◌, ◌∙◌, ◌≤◌, ◌<◌, ℕ, ℤ, false, List, [], ◌∷◌, length, slice_get, Option, Some, Result, Ok, Err, refl, ap, sym, subst, arith}
+use Rattle.std.proofs.Common.{◌≡◌, ◌∙◌, ◌≤◌, ℕ, ℤ, false, List, [], ◌∷◌, length, slice_get, Some, Result, Ok, Err, refl, ap, sym, subst, arith}
 use Rattle.std.proofs.lemmas.List.{length-replicate}
 use Rattle.emtp_blocks.specs.Block.{limit_of}
 use Rattle.emtp_blocks.specs.System as system
 use Rattle.emtp_case.specs.Case.{IsCase}
 use Rattle.emtp_case.specs.Control.{IsBlock, var_of}
 use Rattle.emtp_case.specs.Sizes.{sizes_of}
-use Rattle.emtp_case.specs.StepRecord.{StepRecord, latest, rest_of}
+use Rattle.emtp_case.specs.StepRecord.{StepRecord, latest}
 use Rattle.emtp_case.specs.declared.case.Parts.{Parts}
 use Rattle.emtp_case.specs.declared.control.Block.{Block}
 use Rattle.emtp_elim.specs.Outcome.{outcome}

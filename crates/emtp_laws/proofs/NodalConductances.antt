@@ -4,7 +4,6 @@ use Rattle.std.specs.List.{All}
 use Rattle.std.proofs.lemmas.Bool.{eq-eqb, ne_eqb, true≢false}
 use Rattle.std.proofs.lemmas.Int.{ints}
 use Rattle.std.proofs.lemmas.Option.{slice_get_cases}
-use Rattle.emtp_case.proofs.Sums.{sum_below_same}
 use Rattle.emtp_case.specs.Branch.{IsBranch, from_of, to_of}
 use Rattle.emtp_case.specs.Case.{IsCase}
 use Rattle.emtp_case.specs.Sizes.{sizes_of}

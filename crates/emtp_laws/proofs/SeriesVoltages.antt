@@ -23,7 +23,7 @@ use Rattle.emtp_lumped.specs.Lumps.{newest, next_of}
 use Rattle.emtp_net.proofs.Nodes.{branch_fits}
 use Rattle.emtp_lumped.specs.Step.{capacitor_voltage_of, current_of, history_voltage_of, inductor_voltage_of, next_state}
 use Rattle.emtp_lumped.specs.declared.companion.Companion.{Companion}
-use Rattle.emtp_laws.specs.Branches.{AddsUpDrops, HasItsHistoryVoltage, excess_voltage}
+use Rattle.emtp_laws.specs.Branches.{AddsUpDrops, HasItsHistoryVoltage}
 
 -- ---- products
 

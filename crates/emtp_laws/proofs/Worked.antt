@@ -1,7 +1,7 @@
 -- A small network, worked out by hand, on which the laws say what they should. 100 V feed 1 ohm, three closed switches in a loop
 -- and 1 ohm to ground: 50 A, and 50 V at each node of the loop.
-use Rattle.std.proofs.Common.{◌≡◌, ◌^◌, ◌*◌, ◌+◌, ℕ, ℤ, pos, neg_ℤ, ◌*ℤ◌, false, List, [], ◌∷◌, map, Some, None, Ok, refl}
-use Rattle.emtp_blocks.specs.Block.{output_of}
+use Rattle.std.proofs.Common.{◌≡◌, ◌^◌, ◌*◌, ◌+◌, ℕ, ℤ, pos, neg_ℤ, ◌*ℤ◌, false, true, List, [], ◌∷◌, map, Some, None, Ok, refl}
+use Rattle.emtp_blocks.specs.Block.{chain_of, output_of}
 use Rattle.emtp_case.specs.Branch.{capacitor_impedance}
 use Rattle.emtp_case.specs.Case.{empty_parts}
 use Rattle.emtp_case.specs.StepRecord.{LumpedBranch, StepRecord, no_lumped, rest_of}
@@ -9,15 +9,17 @@ use Rattle.emtp_case.specs.declared.branch.Branch.{Branch}
 use Rattle.emtp_case.specs.declared.branch.Branch.TheVariants.{Lumped as OfLumped, Phase as OfPhase}
 use Rattle.emtp_case.specs.declared.branch.Lumped.{Lumped}
 use Rattle.emtp_case.specs.declared.case.Parts.{Parts}
+use Rattle.emtp_case.specs.declared.control.BlockState.{BlockState}
 use Rattle.emtp_case.specs.declared.control.Limiter.TheVariants.{Free}
 use Rattle.emtp_case.specs.declared.run_data.RunData.{RunData}
 use Rattle.emtp_case.specs.declared.source.Shape.TheVariants.{Step}
 use Rattle.emtp_case.specs.declared.switch.Switch.{Switch}
 use Rattle.emtp_case.specs.declared.switch.SwitchKind.TheVariants.{Measuring}
-use Rattle.emtp_case.specs.declared.switch.SwitchState.TheVariants.{Closed}
+use Rattle.emtp_case.specs.declared.switch.SwitchState.TheVariants.{Closed, Opened}
 use Rattle.emtp_elim.specs.Elimination.{last_unknowns, stage, stage_right}
 use Rattle.emtp_elim.specs.Fault.{right_fault, row_fault, unknown_fault}
 use Rattle.emtp_elim.specs.Outcome.{outcome}
+use Rattle.emtp_elim.specs.Matrix.{item}
 use Rattle.emtp_fix.specs.Rounding.{near, near_abs}
 use Rattle.emtp_line.specs.Line.{line_state, next_state as next_line}
 use Rattle.emtp_line.specs.Mode.{mode_of}
@@ -28,10 +30,14 @@ use Rattle.emtp_net.specs.Part.{NetworkPart, part_at, voltages_of}
 use Rattle.emtp_net.specs.Step.{network_part}
 use Rattle.emtp_net.specs.System.{conductances, couplings, right}
 use Rattle.emtp_rows.specs.Nodal.{current_entry, nodal_matrix}
+use Rattle.emtp_switch.specs.States.{breaker_state}
+use Rattle.emtp_switch.specs.declared.states.View.{View}
 use Rattle.emtp_wave.specs.Wave.{active_value}
 use Rattle.emtp_laws.specs.Branches.{excess_voltage, reversed_series}
+use Rattle.emtp_laws.specs.Control.{RisesByTheRule}
 use Rattle.emtp_laws.specs.Mirror.{mirror_image, mirrored_records}
 use Rattle.emtp_laws.specs.Nodes.{leaving_node}
+use Rattle.emtp_laws.specs.Phases.{cycled, exchanged, renumbered}
 
 -- ---- the network
 
@@ -150,3 +156,40 @@ from_node_2 = refl
 to_node_2 : map (λ n. current_entry three (pos 7 ∷ pos 8 ∷ pos 9 ∷ []) (pos 3 ∷ []) n 2) (1 ∷ 2 ∷ 3 ∷ 4 ∷ 5 ∷ 6 ∷ []) ≡ pos 3 ∷ pos 8 ∷ pos 3 ∷ pos 0 ∷ pos 0 ∷ pos 0 ∷ []
 unfolding three
 to_node_2 = refl
+
+-- by the new numbers of its phases a list of three goes round, or its last two change places
+went_round : renumbered cycled (pos 4 ∷ pos 5 ∷ pos 6 ∷ []) ≡ pos 5 ∷ pos 6 ∷ pos 4 ∷ []
+went_round = refl
+
+changed_places : renumbered exchanged (pos 4 ∷ pos 5 ∷ pos 6 ∷ []) ≡ pos 4 ∷ pos 6 ∷ pos 5 ∷ []
+changed_places = refl
+
+-- ---- a breaker that is to open at 5 ps, with a margin of 2 nA
+
+abbrev seen : ℤ → ℤ → ℤ → View
+seen time current before = record { time = time; current = current; before = before; voltage = pos 0; on = true }
+
+-- before its time it stays closed; then it opens at its margin, not beyond it, and after a change of sign
+breakers : map (λ v. breaker_state (pos 0) (Some (pos 5)) (pos 2) v Closed) (seen (pos 4) (pos 1) (pos 9) ∷ seen (pos 5) (pos 2) (pos 9) ∷ seen (pos 5) (pos 3) (pos 9) ∷ seen (pos 5) (pos 3) (neg_ℤ (pos 9)) ∷ [])
+    ≡ Closed ∷ Opened ∷ Closed ∷ Opened ∷ []
+breakers = refl
+
+-- ---- a block of order 2 that had the errors 2 and 5 and the numbers 7 and 11, and has the errors 3 and 1
+
+old_block : BlockState
+old_block = record { limiter = Free; errors = pos 2 ∷ pos 5 ∷ []; chain = pos 7 ∷ pos 11 ∷ [] }
+
+new_block : BlockState
+new_block = record { limiter = Free; errors = pos 3 ∷ pos 1 ∷ []; chain = pos 2 ∷ pos 14 ∷ [] }
+
+new_numbers : map (chain_of 2 (pos 2 ∷ pos 5 ∷ []) (pos 7 ∷ pos 11 ∷ []) (item (pos 3 ∷ pos 1 ∷ [])) false) (0 ∷ 1 ∷ []) ≡ pos 2 ∷ pos 14 ∷ []
+new_numbers = refl
+
+-- the first falls by 3 and 2, the second rises by 2 - 1 and 7 - 5
+first_number_rises : RisesByTheRule old_block 0 new_block
+unfolding old_block new_block
+first_number_rises = refl
+
+second_number_rises : RisesByTheRule old_block 1 new_block
+unfolding old_block new_block
+second_number_rises = refl

@@ -1,4 +1,5 @@
 pub mod Nodes
+pub mod Phases
 pub mod Switches
 pub mod Branches
 pub mod Mirror

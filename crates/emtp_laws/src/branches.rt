@@ -9,6 +9,7 @@ ghost use Rattle.emtp_case.specs.declared.branch.LineState.{LineState};
 ghost use Rattle.emtp_case.specs.declared.branch.Lumped.{Lumped};
 ghost use Rattle.emtp_line.specs.Line.{from_waves, line_histories, next_state, to_waves};
 ghost use Rattle.emtp_line.specs.Mode.{mode_of_line};
+ghost use Rattle.emtp_line.specs.Phases.{Modes};
 ghost use Rattle.emtp_case.specs.declared.branch.LumpedState.{LumpedState};
 ghost use Rattle.emtp_lumped.specs.Companion.{companion_of};
 ghost use Rattle.emtp_lumped.specs.Lumps.{newest, next_of};
@@ -17,6 +18,7 @@ ghost use Rattle.emtp_net.specs.System.{conductances, couplings};
 ghost use Rattle.emtp_rows.specs.Nodal.{current_entry};
 ghost use Rattle.emtp_laws.specs.Branches.{AddsUpDrops, AreHistoriesWithin, AreWavesWithin, HasItsHistoryVoltage, HasTwoPolesAlone, IsResistorAt, TakesPower, reversed_line, reversed_series, voltage_across};
 ghost use Rattle.emtp_laws.specs.Mirror.{mirrored_lumped};
+ghost use Rattle.emtp_laws.specs.Phases.{AnswersBy, cycled, exchanged};
 
 use emtp_case::Case;
 
@@ -46,6 +48,13 @@ pub fn line_does_not_amplify(case: &Case)
 /// one had, to the last digit.
 pub fn reversed_line_answers_alike(case: &Case)
     ensures { (x : Line) (past : List LineState) (v w : ℤ) → next_state (mode_of_line case.now.parts.run.dt x) (map reversed_line past) w v ≡ option_map reversed_line (next_state (mode_of_line case.now.parts.run.dt x) past v w) }
+{}
+
+/// A transposed three-phase line whose phases have other numbers answers by these numbers, to the last digit: each phase has the
+/// currents and waves that it had, and the wave of the zero sequence is the same.
+pub fn renumbered_phases_answer_renumbered()
+    ensures cycled { (m : Modes) → AnswersBy cycled m }
+    ensures exchanged { (m : Modes) → AnswersBy exchanged m }
 {}
 
 /// A series branch that is put in the other way round has the opposite current and the opposite voltages inside, to the last

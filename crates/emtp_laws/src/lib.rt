@@ -20,12 +20,12 @@ mod switches;
 
 pub use branches::{
     conductances_add_up_to_zero, conductances_are_symmetric, line_does_not_amplify,
-    resistor_takes_power, reversed_line_answers_alike, reversed_series_branch_answers_opposite,
-    series_voltage_is_the_sum_of_its_drops,
+    renumbered_phases_answer_renumbered, resistor_takes_power, reversed_line_answers_alike,
+    reversed_series_branch_answers_opposite, series_voltage_is_the_sum_of_its_drops,
 };
 pub use control::{
     block_variables_have_their_outputs, block_variables_lie_between_their_limits,
-    outputs_lie_between_their_limits,
+    blocks_are_trapezoidal, blocks_that_stand_alone_are_exact, outputs_lie_between_their_limits,
 };
 pub use mirror::{
     mirror_image_is_a_case, mirrored_run, mirrored_run_with_control, mirrored_step,
