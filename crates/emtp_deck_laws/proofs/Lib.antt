@@ -7,4 +7,5 @@ pub mod UnbegunSections
 pub mod JudgedLines
 pub mod WalkedFront
 pub mod DeckFaults
+pub mod WideSeries
 pub mod Worked

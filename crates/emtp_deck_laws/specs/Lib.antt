@@ -1,3 +1,4 @@
 pub mod CardFaults
 pub mod JudgedCards
 pub mod LeastFault
+pub mod WideCards

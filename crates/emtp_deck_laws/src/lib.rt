@@ -1,4 +1,4 @@
-//! What holds of every deck as a whole: which fault is answered, and what doesn't matter for it.
+//! What holds of every deck as a whole: which fault is answered, what doesn't matter for it, and which cards are the same.
 //!
 //! Each law is a function that does nothing: its clauses are proved, and say what holds of every file. No program calls
 //! them. They are stated over the lines of a file, as `emtp_deck` reads them, and over the cards that `emtp_walk` finds in
@@ -10,6 +10,8 @@
 //! ```
 #![tactic(auto)]
 
+mod cards;
 mod faults;
 
+pub use cards::wide_series_card_has_the_narrow_values;
 pub use faults::{lines_behind_a_fault_do_not_matter, the_fault_is_the_least};
