@@ -1,6 +1,6 @@
 -- Lists to which parts are added, one after the other.
-use Rattle.std.proofs.Common.{◌≡◌, ◌++◌, ◌∙◌, ◌+◌, ◌<◌, sym, ap, refl, List, [], ◌∷◌, ℕ, append_assoc, append-nil, take, drop, length, get_or, suc, add-one}
-use Rattle.std.specs.Prelude.{Bool, true, false, flat_map}
+use Rattle.std.proofs.Common.{◌≡◌, ◌++◌, ◌∙◌, ◌+◌, ◌<◌, sym, ap, List, [], ◌∷◌, ℕ, append_assoc, append-nil, take, length, get_or}
+use Rattle.std.specs.Prelude.{flat_map}
 use Rattle.std.proofs.lemmas.Grind.{flat_map-append}
 use Rattle.std.proofs.lemmas.List.{take_more}
 use Rattle.emtp_warnings.specs.Adds.{Adds}

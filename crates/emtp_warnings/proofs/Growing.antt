@@ -1,5 +1,5 @@
 -- One column, one record, one line more.
-use Rattle.std.proofs.Common.{◌≡◌, ◌++◌, ◌∙◌, ◌+◌, sym, ap, refl, List, [], ◌∷◌, ℕ, suc, append_assoc, take, drop, add-one, drop-cons}
+use Rattle.std.proofs.Common.{◌≡◌, ◌++◌, ◌∙◌, ◌+◌, sym, ap, refl, List, ◌∷◌, ℕ, suc, append_assoc, take, drop, add-one, drop-cons}
 use Rattle.std.specs.Prelude.{Bool, Option, Some, slice_get}
 use Rattle.std.proofs.lemmas.Option.{slice_get_within, get_or_from_slice_get}
 use Rattle.emtp_case.specs.Branch.{from_of, line_of, to_of}

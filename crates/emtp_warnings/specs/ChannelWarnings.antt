@@ -1,6 +1,6 @@
 -- The warnings of the channels of a case.
 use Rattle.std.specs.List.{list_any}
-use Rattle.std.specs.Prelude.{ℕ, zero, suc, ◌+◌, ◌==◌, length, slice_get, take, Bool, false, List, [], ◌∷◌, ◌++◌, Option, Some, None}
+use Rattle.std.specs.Prelude.{ℕ, zero, suc, ◌+◌, ◌==◌, length, slice_get, take, Bool, false, List, [], ◌++◌, Option, Some, None}
 use Rattle.emtp_case.specs.declared.channel.Channel.{Channel}
 use Rattle.emtp_case.specs.declared.channel.Channel.TheVariants.{BranchCurrent, BranchVoltage, NodeVoltage, Status, SwitchCurrent, SwitchVoltage, Tacs}
 use Rattle.emtp_warnings.specs.Finding.{when}

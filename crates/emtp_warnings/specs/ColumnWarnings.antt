@@ -1,5 +1,5 @@
 -- The warnings of a line's columns, under the ruler of its card.
-use Rattle.std.specs.Prelude.{ℕ, zero, suc, ◌+◌, ◌==◌, length, Bool, true, false, not, ◌&&◌, List, [], ◌∷◌, ◌++◌, Option, Some, None, unwrap_or, if◌then◌else◌}
+use Rattle.std.specs.Prelude.{ℕ, zero, suc, ◌+◌, ◌==◌, length, Bool, not, ◌&&◌, List, [], ◌++◌, Option, Some, None, unwrap_or, if◌then◌else◌}
 use Rattle.std.specs.Char.{is_ascii_digit}
 use Rattle.emtp_card.specs.Field.{byte_in}
 use Rattle.emtp_card.specs.Lines.{is_blank}

@@ -7,5 +7,7 @@ pub mod RecordWarnings
 pub mod ChannelWarnings
 pub mod Warnings
 pub mod WarningText
+-- what lines have in common that agree under a ruler
+pub mod Law
 -- how a list grows
 pub mod Adds

@@ -1,6 +1,6 @@
 -- Which columns of a line are read: the ruler of its card.
 use Rattle.std.specs.List.{starts_with}
-use Rattle.std.specs.Prelude.{ℕ, ◌+◌, ◌*◌, ◌==◌, min, nat_eq, length, take, Bool, true, false, ◌||◌, List, codes, Option, Some, None, Result, Ok, Err, if◌then◌else◌}
+use Rattle.std.specs.Prelude.{ℕ, ◌+◌, ◌*◌, ◌==◌, min, nat_eq, length, take, Bool, false, ◌||◌, List, codes, Result, Ok, Err, if◌then◌else◌}
 use Rattle.emtp_card.specs.Field.{field_of}
 use Rattle.emtp_card.specs.Lines.{is_comment, is_section_end}
 use Rattle.emtp_card.specs.declared.reason.Bad.{Bad}

@@ -1,5 +1,5 @@
 -- The warnings of the records of a case.
-use Rattle.std.specs.Prelude.{ℕ, ◌+◌, ◌-◌, ◌==◌, ℤ, pos, int_lt, ◌*ℤ◌, count_by, flat_map, slice_get, Bool, true, false, not, ◌&&◌, ◌||◌, List, [], ◌∷◌, ◌++◌, Option, Some, None, codes, if◌then◌else◌}
+use Rattle.std.specs.Prelude.{ℕ, ◌+◌, ◌-◌, ◌==◌, ℤ, pos, int_lt, ◌*ℤ◌, count_by, flat_map, slice_get, Bool, false, not, ◌&&◌, ◌||◌, List, [], ◌++◌, Option, Some, None, codes}
 use Rattle.std.specs.Ordering.{int_eq}
 use Rattle.std.specs.Str.{bytes_eq}
 use Rattle.emtp_case.specs.Branch.{from_of, line_of, to_of}

@@ -1,5 +1,5 @@
 -- All warnings of a case, line by line: first those of the line's columns, then those of its record; the channels come last.
-use Rattle.std.specs.Prelude.{ℕ, ◌+◌, length, position, drop, take, Bool, not, List, [], ◌∷◌, ◌++◌, unwrap_or}
+use Rattle.std.specs.Prelude.{ℕ, ◌+◌, length, position, drop, take, not, List, [], ◌∷◌, ◌++◌, unwrap_or}
 use Rattle.emtp_case.specs.declared.case.Parts.{Parts}
 use Rattle.emtp_warnings.specs.ChannelWarnings.{channel_warnings}
 use Rattle.emtp_warnings.specs.ColumnWarnings.{column_warnings}

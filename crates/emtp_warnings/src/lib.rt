@@ -17,11 +17,13 @@
 //! - `records`, `channels`: the warnings of a case
 //! - `listed`: all warnings, in order
 //! - `text`: their text
+//! - `laws`: what is true of columns that no field has
 #![tactic(auto)]
 
 mod channels;
 mod columns;
 mod finding;
+mod laws;
 mod listed;
 mod marked;
 mod records;
@@ -30,6 +32,7 @@ mod section;
 mod text;
 
 pub use finding::{Finding, Spot, Warning};
+pub use laws::unmarked_columns_of_the_network_dont_matter;
 pub use listed::warnings;
 pub use section::Section;
 pub use text::warnings_text;

@@ -1,0 +1,63 @@
+-- Worked rows: cards, and what is warned of on them.
+use Rattle.std.proofs.Common.{◌≡◌, refl, [], ◌∷◌}
+use Rattle.std.specs.Prelude.{codes, pos, Some, None, false}
+use Rattle.emtp_case.specs.declared.branch.Branch.TheVariants.{Line as OfLine, Lumped as OfLumped}
+use Rattle.emtp_case.specs.declared.case.Parts.{Parts}
+use Rattle.emtp_case.specs.declared.channel.Channel.TheVariants.{NodeVoltage, Tacs as OfVariable}
+use Rattle.emtp_case.specs.declared.source.Shape.TheVariants.{Cosine}
+use Rattle.emtp_case.specs.declared.switch.SwitchKind.TheVariants.{Time}
+use Rattle.emtp_warnings.specs.ChannelWarnings.{channel_warnings}
+use Rattle.emtp_warnings.specs.ColumnWarnings.{column_warnings}
+use Rattle.emtp_warnings.specs.Finding.{of_columns}
+use Rattle.emtp_warnings.specs.RecordWarnings.{record_warnings}
+use Rattle.emtp_warnings.specs.declared.finding.Finding.TheVariants.{AfterEnd, AskedTwice, LoneNode, NoFrequency, NodeZero, NotRead, NumbersTouch, ShortTravel}
+use Rattle.emtp_warnings.specs.declared.finding.Spot.TheVariants.{Channel, Line}
+use Rattle.emtp_warnings.specs.declared.rulers.TheConstants.{COPY, FIRST_RUN, SERIES, TIME_SWITCH}
+
+-- a flashover voltage, which ATP has in columns 45 to 54 of a switch
+flashover : column_warnings TIME_SWITCH.now 39 (codes "  BUS   SEND        .005       1.0            5.E3") ≡ of_columns 39 47 50 NotRead ∷ []
+flashover = refl
+
+-- 1.5 and 0.25, each one column off
+touching : column_warnings SERIES.now 12 (codes "  SRC   MID                1.5000.25") ≡ of_columns 12 32 33 NumbersTouch ∷ []
+touching = refl
+
+-- a card as it should be
+right_card : column_warnings SERIES.now 12 (codes "  SRC   MID                  1.0  10.0                                         1") ≡ []
+right_card = refl
+
+-- a branch that takes the values of another has none of its own
+copied : column_warnings COPY.now 13 (codes "  B     C     SRC   MID      2.0   5.0") ≡ of_columns 13 30 32 NotRead ∷ of_columns 13 36 38 NotRead ∷ []
+copied = refl
+
+-- a number behind COPT
+behind : column_warnings FIRST_RUN.now 2 (codes "   1.E-4   3.E-4                  60.") ≡ of_columns 2 35 37 NotRead ∷ []
+behind = refl
+
+-- a branch, a line of one and a half steps, a switch to a node of the name 0, and a source that begins after the end
+abbrev parts : Parts
+parts = record {
+  run = record { dt = pos 1000000; steps = 100; every = 1; tolerance = pos 10000000 };
+  nodes = codes "SRC" ∷ codes "MID" ∷ codes "0" ∷ [];
+  branches = OfLumped (record { line = 5; «from» = 1; to = 2; r = pos 1000000; l = pos 0; c = pos 0 })
+      ∷ OfLine (record { line = 6; «from» = 1; to = 2; zc = pos 1000000; r = pos 0; delay = pos 1500000 }) ∷ [];
+  trios = [];
+  points = [];
+  switches = record { line = 8; «from» = 2; to = 3; kind = Time (pos 100000000) (Some (pos 100000001)) (pos 0) } ∷ [];
+  sources = record { line = 10; node = 1; current = false; shape = Cosine (pos 0) (pos 0); amplitude = pos 1; start = pos 200000000; stop = None } ∷ [];
+  vars = [];
+  tacs_sources = [];
+  blocks = [];
+  extras = [];
+  channels = [];
+}
+
+records : record_warnings parts
+    ≡ record { spot = Line 6; finding = ShortTravel }
+    ∷ of_columns 8 9 14 LoneNode ∷ of_columns 8 9 14 NodeZero ∷ of_columns 8 25 34 AfterEnd
+    ∷ of_columns 10 21 30 NoFrequency ∷ of_columns 10 61 70 AfterEnd ∷ []
+records = refl
+
+-- a node that two output cards name
+channels : channel_warnings (NodeVoltage 2 ∷ NodeVoltage 1 ∷ NodeVoltage 2 ∷ OfVariable 2 ∷ []) ≡ (record { spot = Channel 3; finding = AskedTwice }) ∷ []
+channels = refl
