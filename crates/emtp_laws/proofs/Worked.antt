@@ -1,6 +1,7 @@
 -- A small network, worked out by hand, on which the laws say what they should. 100 V feed 1 ohm, three closed switches in a loop
 -- and 1 ohm to ground: 50 A, and 50 V at each node of the loop.
-use Rattle.std.proofs.Common.{◌≡◌, ◌^◌, ◌*◌, ◌+◌, ℕ, ℤ, pos, neg_ℤ, ◌*ℤ◌, false, true, List, [], ◌∷◌, map, Some, None, Ok, refl}
+use Rattle.std.proofs.Common.{◌≡◌, ◌^◌, ◌*◌, ◌+◌, ◌/◌, length, ℕ, ℤ, pos, neg_ℤ, ◌*ℤ◌, false, true, List, [], ◌∷◌, map, Some, None, Ok, refl}
+use Rattle.std.specs.Prelude.{codes}
 use Rattle.emtp_blocks.specs.Block.{chain_of, output_of}
 use Rattle.emtp_case.specs.Branch.{capacitor_impedance}
 use Rattle.emtp_case.specs.Case.{empty_parts}
@@ -25,6 +26,10 @@ use Rattle.emtp_line.specs.Line.{line_state, next_state as next_line}
 use Rattle.emtp_line.specs.Mode.{mode_of}
 use Rattle.emtp_line.specs.Wave.{end_of}
 use Rattle.emtp_lumped.specs.Companion.{companion_of}
+use Rattle.emtp_machine.specs.Channels.{samples_in}
+use Rattle.emtp_machine.specs.History.{history_upto, samples}
+use Rattle.emtp_machine.specs.Next.{next}
+use Rattle.emtp_machine.specs.declared.end.Cause.TheVariants.{Tied}
 use Rattle.emtp_lumped.specs.Step.{next_state as next_lumped}
 use Rattle.emtp_net.specs.Part.{NetworkPart, part_at, voltages_of}
 use Rattle.emtp_net.specs.Step.{network_part}
@@ -38,6 +43,7 @@ use Rattle.emtp_laws.specs.Control.{RisesByTheRule}
 use Rattle.emtp_laws.specs.Mirror.{mirror_image, mirrored_records}
 use Rattle.emtp_laws.specs.Nodes.{leaving_node}
 use Rattle.emtp_laws.specs.Phases.{cycled, exchanged, renumbered}
+use Rattle.emtp_laws.specs.Runs.{with_steps}
 
 -- ---- the network
 
@@ -193,3 +199,23 @@ first_number_rises = refl
 second_number_rises : RisesByTheRule old_block 1 new_block
 unfolding old_block new_block
 second_number_rises = refl
+
+-- ---- a source of 100 V that a closed switch ties to ground
+
+shorted : Parts
+shorted = record (loop_at 100) { nodes = codes "SRC" ∷ []; branches = ohm 1 0 ∷ []; switches = closed 1 0 ∷ [] }
+
+-- its run ends in the first step, and names the source's node
+end_of_the_short : (history_upto shorted 3).end ≡ Some (record { step = 1; name = codes "SRC"; cause = Tied; measured = pos 0 })
+unfolding history_upto next network_part shorted loop_at
+end_of_the_short = refl
+
+-- rest is its only sample: no step over 4, and one
+samples_of_the_short : length (samples shorted (history_upto shorted 3)) ≡ 0 / 4 + 1
+unfolding history_upto next network_part samples_in shorted loop_at
+samples_of_the_short = refl
+
+-- with more steps it is the same
+longer_short : history_upto (with_steps 20 shorted) 3 ≡ history_upto shorted 3
+unfolding history_upto next network_part shorted loop_at
+longer_short = refl
