@@ -6,10 +6,10 @@ use Rattle.emtp_case.specs.Branch.{from_of, line_of, to_of}
 use Rattle.emtp_case.specs.declared.branch.Branch.{Branch}
 use Rattle.emtp_case.specs.declared.case.Parts.{Parts}
 use Rattle.emtp_warnings.proofs.Adding.{rewritten, then}
-use Rattle.emtp_warnings.specs.Adds.{Adds}
+use Rattle.emtp_warnings.specs.AddsTo.{AddsTo}
 use Rattle.emtp_warnings.specs.ColumnWarnings.{at_column, run_to, run_with, up_to_column}
 use Rattle.emtp_warnings.specs.Finding.{when}
-use Rattle.emtp_warnings.specs.RecordWarnings.{branch_warnings, delay_of, ends_warnings, is_short}
+use Rattle.emtp_warnings.specs.RecordWarnings.{branch_warnings, travel_time_of, ends_warnings, is_short}
 use Rattle.emtp_warnings.specs.Section.{next_section}
 use Rattle.emtp_warnings.specs.Warnings.{count_on, line_warnings, warnings_from}
 use Rattle.emtp_warnings.specs.declared.finding.Finding.TheVariants.{ShortTravel}
@@ -30,15 +30,15 @@ column_turn : (ruler : List ℕ) (number : ℕ) (line : List ℕ) (before : ℕ)
 column_turn ruler number line before = rw add-one refl
 
 pub column-more : {old mid new : List Warning} (ruler : List ℕ) (number : ℕ) (line : List ℕ) (before : ℕ) (run : Option ℕ) → run ≡ run_to ruler line (before + 1)
-    → Adds old (up_to_column ruler number line before) mid → Adds mid (at_column ruler number line (before + 1) run) new → Adds old (up_to_column ruler number line (before + 1)) new
+    → AddsTo old (up_to_column ruler number line before) mid → AddsTo mid (at_column ruler number line (before + 1) run) new → AddsTo old (up_to_column ruler number line (before + 1)) new
 column-more ruler number line before run same front here =
     rewritten (ap (λ (r : Option ℕ). up_to_column ruler number line before ++ at_column ruler number line (before + 1) r) same ∙ column_turn ruler number line before) (then front here)
 
 -- ---- a branch
 
 pub branch-added : {old mid new : List Warning} (p : Parts) (b : Branch) (line again a to : ℕ) (short : Bool)
-    → line ≡ line_of b → again ≡ line_of b → a ≡ from_of b → to ≡ to_of b → short ≡ is_short p.run.dt (delay_of p b)
-    → Adds old (ends_warnings p line a to) mid → Adds mid (when short (record { spot = OfTheLine again; finding = ShortTravel })) new → Adds old (branch_warnings p b) new
+    → line ≡ line_of b → again ≡ line_of b → a ≡ from_of b → to ≡ to_of b → short ≡ is_short p.run.dt (travel_time_of p b)
+    → AddsTo old (ends_warnings p line a to) mid → AddsTo mid (when short (record { spot = OfTheLine again; finding = ShortTravel })) new → AddsTo old (branch_warnings p b) new
 branch-added p b line again a to short l l' f t s ends travel =
     rewritten
     (ap (λ (n : ℕ). ends_warnings p n a to ++ when short (record { spot = OfTheLine again; finding = ShortTravel })) l
@@ -71,7 +71,7 @@ turn cards at line section rest out whole found h =
 pub line-more : (cards : List (List ℕ)) (at count : ℕ) (line : List ℕ) (section next : Section) (rest front back out mid new whole : List Warning)
     → slice_get cards at ≡ Some line → count ≡ count_on (at + 1) rest → front ≡ take count rest → back ≡ drop count rest → next ≡ next_section (at + 1) line section
     → out ++ warnings_from (at + 1) section (drop at cards) rest ≡ whole
-    → Adds out (line_warnings (at + 1) section line) mid → new ≡ mid ++ front
+    → AddsTo out (line_warnings (at + 1) section line) mid → new ≡ mid ++ front
     → new ++ warnings_from (at + 1 + 1) next (drop (at + 1) cards) back ≡ whole
 line-more cards at count line section next rest front back out mid new whole found counted is_front is_back is_next h added is_new =
     let here = line_warnings (at + 1) section line in

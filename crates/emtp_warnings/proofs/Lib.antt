@@ -1,5 +1,8 @@
 pub mod Adding
 pub mod Agreeing
+pub mod ControlCards
 pub mod Growing
 pub mod NetworkCards
+pub mod OutputCards
+pub mod PointCards
 mod Worked

@@ -10,4 +10,4 @@ pub mod WarningText
 -- what lines have in common that agree under a ruler
 pub mod Law
 -- how a list grows
-pub mod Adds
+pub mod AddsTo

@@ -62,11 +62,11 @@ abbrev pub mode_delay : Option Trio → ℕ → Option ℤ
 mode_delay None phase = None
 mode_delay (Some t) phase = slice_get t.delay phase
 
-abbrev pub delay_of : Parts → Branch → Option ℤ
-delay_of p (OfLumped b) = None
-delay_of p (OfLine b) = Some b.delay
-delay_of p (OfPseudo b) = None
-delay_of p (OfPhase b) = mode_delay (slice_get p.trios b.trio) b.phase
+abbrev pub travel_time_of : Parts → Branch → Option ℤ
+travel_time_of p (OfLumped b) = None
+travel_time_of p (OfLine b) = Some b.delay
+travel_time_of p (OfPseudo b) = None
+travel_time_of p (OfPhase b) = mode_delay (slice_get p.trios b.trio) b.phase
 
 -- below two steps
 abbrev pub is_short : ℤ → Option ℤ → Bool
@@ -75,7 +75,7 @@ is_short dt (Some delay) = int_lt delay (pos 2 *ℤ dt)
 
 abbrev pub branch_warnings : Parts → Branch → List Warning
 branch_warnings p b =
-    ends_warnings p (line_of b) (from_of b) (to_of b) ++ when (is_short p.run.dt (delay_of p b)) (record { spot = OfTheLine (line_of b); finding = ShortTravel })
+    ends_warnings p (line_of b) (from_of b) (to_of b) ++ when (is_short p.run.dt (travel_time_of p b)) (record { spot = OfTheLine (line_of b); finding = ShortTravel })
 
 -- ---- switches
 

@@ -3,7 +3,7 @@ use Rattle.std.specs.Prelude.{ℕ, ◌+◌, length, position, drop, take, not, L
 use Rattle.emtp_case.specs.declared.case.Parts.{Parts}
 use Rattle.emtp_warnings.specs.ChannelWarnings.{channel_warnings}
 use Rattle.emtp_warnings.specs.ColumnWarnings.{column_warnings}
-use Rattle.emtp_warnings.specs.Finding.{is_on}
+use Rattle.emtp_warnings.specs.Finding.{points_to}
 use Rattle.emtp_warnings.specs.Marked.{ruler_at}
 use Rattle.emtp_warnings.specs.RecordWarnings.{record_warnings}
 use Rattle.emtp_warnings.specs.Section.{next_section}
@@ -17,7 +17,7 @@ line_warnings number section line = column_warnings (ruler_at number line sectio
 
 -- how many of the first warnings are on a line
 abbrev pub count_on : ℕ → List Warning → ℕ
-count_on number records = unwrap_or (position (λ (w : Warning). not (is_on number w)) records) (length records)
+count_on number records = unwrap_or (position (λ (w : Warning). not (points_to number w)) records) (length records)
 
 -- the lines from a number on, with the warnings of records that are left
 abbrev pub warnings_from : ℕ → Section → List (List ℕ) → List Warning → List Warning

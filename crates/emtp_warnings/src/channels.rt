@@ -1,7 +1,7 @@
 //! The warnings of the channels of a case.
 
 ghost use Rattle.std.specs.Prelude.{◌≡◌, ◌+◌, ◌<◌, OnOk, length, slice_get, take};
-ghost use Rattle.emtp_warnings.specs.Adds.{Adds};
+ghost use Rattle.emtp_warnings.specs.AddsTo.{AddsTo};
 ghost use Rattle.emtp_warnings.specs.ChannelWarnings.{at_channel, channel_warnings, is_among, is_node_channel, is_variable_channel, was_asked};
 ghost use Rattle.std.specs.List.{list_any};
 
@@ -11,7 +11,7 @@ use std::alloc::AllocError;
 
 /// Adds a warning for each channel that an earlier one asks for as well.
 pub(crate) fn add_channels(out: &mut Vec<Warning>, channels: &[Channel]) -> Result<(), AllocError>
-    ensures { OnOk result (Adds out.old.items (channel_warnings channels.now) out.new.items) }
+    ensures { OnOk result (AddsTo out.old.items (channel_warnings channels.now) out.new.items) }
 {
     for place in 0..channels.len() {
         add_channel(out, channels, place)?;
@@ -22,7 +22,7 @@ pub(crate) fn add_channels(out: &mut Vec<Warning>, channels: &[Channel]) -> Resu
 /// Adds the warning of the channel after so many.
 fn add_channel(out: &mut Vec<Warning>, channels: &[Channel], place: usize) -> Result<(), AllocError>
     requires { place < length channels.now }
-    ensures { OnOk result (Adds out.old.items (at_channel channels.now place) out.new.items) }
+    ensures { OnOk result (AddsTo out.old.items (at_channel channels.now place) out.new.items) }
 {
     if was_asked(channels, place) {
         out.push(Warning {

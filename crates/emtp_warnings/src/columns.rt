@@ -1,7 +1,7 @@
 //! The warnings of a line's columns, under the ruler of its card.
 
 ghost use Rattle.std.specs.Prelude.{◌≡◌, ◌+◌, ◌≤◌, OnOk, length};
-ghost use Rattle.emtp_warnings.specs.Adds.{Adds};
+ghost use Rattle.emtp_warnings.specs.AddsTo.{AddsTo};
 ghost use Rattle.emtp_warnings.specs.ColumnWarnings.{at_column, column_warnings, is_border, is_unread, run_warnings, run_with, touches};
 ghost use Rattle.emtp_warnings.specs.Finding.{of_columns, when};
 
@@ -17,7 +17,7 @@ pub(crate) fn add_columns(
     columns: (usize, usize),
     finding: Finding,
 ) -> Result<(), AllocError>
-    ensures { OnOk result (Adds out.old.items (when cause (of_columns line columns.0 columns.1 finding)) out.new.items) }
+    ensures { OnOk result (AddsTo out.old.items (when cause (of_columns line columns.0 columns.1 finding)) out.new.items) }
 {
     if cause {
         let (first, last) = columns;
@@ -34,7 +34,7 @@ pub(crate) fn add_column_warnings(
     line: &Line<'_>,
 ) -> Result<(), AllocError>
     requires { length line.now.bytes.now ≤ MAX_BYTES }
-    ensures { OnOk result (Adds out.old.items (column_warnings ruler.now line.now.number line.now.bytes.now) out.new.items) }
+    ensures { OnOk result (AddsTo out.old.items (column_warnings ruler.now line.now.number line.now.bytes.now) out.new.items) }
 {
     let mut run = None;
     for before in 0..line.bytes.len() {
@@ -61,23 +61,17 @@ fn add_at_column(
     out: &mut Vec<Warning>,
     ruler: &[u8],
     line: &Line<'_>,
-    column: usize,
+    at: usize,
     run: Option<usize>,
 ) -> Result<(), AllocError>
-    requires some { 1 ≤ column }
-    requires few { column ≤ MAX_BYTES }
-    ensures { OnOk result (Adds out.old.items (at_column ruler.now line.now.number line.now.bytes.now column run) out.new.items) }
+    requires some { 1 ≤ at }
+    requires few { at ≤ MAX_BYTES }
+    ensures { OnOk result (AddsTo out.old.items (at_column ruler.now line.now.number line.now.bytes.now at run) out.new.items) }
 {
-    let touch = touches(ruler, line.bytes, column);
-    add_columns(
-        out,
-        touch,
-        line.number,
-        (column, column + 1),
-        Finding::NumbersTouch,
-    )?;
-    let goes_on = is_unread(ruler, line.bytes, column + 1);
-    add_run(out, line.number, run, column, goes_on)?;
+    let touch = touches(ruler, line.bytes, at);
+    add_columns(out, touch, line.number, (at, at + 1), Finding::NumbersTouch)?;
+    let goes_on = is_unread(ruler, line.bytes, at + 1);
+    add_run(out, line.number, run, at, goes_on)?;
     Ok(())
 }
 
@@ -89,7 +83,7 @@ fn add_run(
     column: usize,
     goes_on: bool,
 ) -> Result<(), AllocError>
-    ensures { OnOk result (Adds out.old.items (run_warnings number run column goes_on) out.new.items) }
+    ensures { OnOk result (AddsTo out.old.items (run_warnings number run column goes_on) out.new.items) }
 {
     match run {
         None => Ok(()),

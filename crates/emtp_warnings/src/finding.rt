@@ -1,7 +1,7 @@
 //! What a warning is.
 
 ghost use Rattle.std.specs.Prelude.{◌≡◌};
-ghost use Rattle.emtp_warnings.specs.Finding.{is_on};
+ghost use Rattle.emtp_warnings.specs.Finding.{points_to};
 
 /// Where a warning points.
 #[derive(Clone, Copy, PartialEq, Eq)]
@@ -53,8 +53,8 @@ pub struct Warning {
 
 impl Warning {
     /// Whether it points to a line, or to columns of it.
-    pub(crate) fn is_on(&self, number: u32) -> bool
-        ensures { result ≡ is_on number self.now }
+    pub(crate) fn points_to(&self, number: u32) -> bool
+        ensures { result ≡ points_to number self.now }
     {
         match self.spot {
             Spot::Columns { line, .. } => line == number,

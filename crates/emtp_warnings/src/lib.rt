@@ -32,7 +32,9 @@ mod section;
 mod text;
 
 pub use finding::{Finding, Spot, Warning};
-pub use laws::unmarked_columns_of_the_network_dont_matter;
+pub use laws::{
+    unmarked_columns_of_the_control_dont_matter, unmarked_columns_of_the_network_dont_matter,
+};
 pub use listed::warnings;
 pub use section::Section;
 pub use text::warnings_text;

@@ -1,8 +1,8 @@
 //! All warnings of a case, in order.
 
 ghost use Rattle.std.specs.Prelude.{◌≡◌, ◌<◌, ◌≤◌, IfOk, IfSome, OnOk, length, not, position};
-ghost use Rattle.emtp_warnings.specs.Adds.{Adds};
-ghost use Rattle.emtp_warnings.specs.Finding.{is_on};
+ghost use Rattle.emtp_warnings.specs.AddsTo.{AddsTo};
+ghost use Rattle.emtp_warnings.specs.Finding.{points_to};
 ghost use Rattle.emtp_warnings.specs.Warnings.{count_on, line_warnings, warnings, warnings_from};
 
 use crate::channels::add_channels;
@@ -38,7 +38,7 @@ fn add_lines(
     cards: &Cards<'_>,
     records: &[Warning],
 ) -> Result<(), AllocError>
-    ensures { OnOk result (Adds out.old.items (warnings_from 1 Section.Begin cards.now records.now) out.new.items) }
+    ensures { OnOk result (AddsTo out.old.items (warnings_from 1 Section.Begin cards.now records.now) out.new.items) }
 {
     let mut section = Section::Begin;
     let mut rest = records;
@@ -57,7 +57,7 @@ fn add_lines(
 /// Adds the warnings of the columns of a line.
 fn add_line(out: &mut Vec<Warning>, line: &Line<'_>, section: Section) -> Result<(), AllocError>
     requires { length line.now.bytes.now ≤ MAX_BYTES }
-    ensures { OnOk result (Adds out.old.items (line_warnings line.now.number section line.now.bytes.now) out.new.items) }
+    ensures { OnOk result (AddsTo out.old.items (line_warnings line.now.number section line.now.bytes.now) out.new.items) }
 {
     add_column_warnings(out, ruler_at(line, section), line)
 }
@@ -75,8 +75,10 @@ fn count_on(number: u32, records: &[Warning]) -> usize
 
 /// The place of the first warning that isn't on a line.
 fn first_elsewhere(number: u32, records: &[Warning]) -> Option<usize>
-    ensures value { result ≡ position (λ w. not (is_on number w)) records.now }
+    ensures value { result ≡ position (λ w. not (points_to number w)) records.now }
     ensures within { IfSome result (λ at. at < length records.now) }
 {
-    records.iter().position(|warning| !warning.is_on(number))
+    records
+        .iter()
+        .position(|warning| !warning.points_to(number))
 }

@@ -1,10 +1,9 @@
 //! The warnings of the records of a case.
 
 ghost use Rattle.std.specs.Prelude.{◌≡◌, ◌+◌, ◌<◌, ◌++◌, OnOk, count_by, flat_map, length, slice_get};
-ghost use Rattle.emtp_warnings.specs.Adds.{Adds};
-ghost use Rattle.emtp_warnings.specs.RecordWarnings.{branch_ends_at, branch_warnings, delay_of, end_of_run, end_warnings, ends_warnings, is_after_end, is_constant, is_lone, is_node_zero, is_short, is_zero_name, mode_delay, record_warnings, records_at, source_stands_at, source_warnings, switch_ends_at, switch_warnings, times_warnings};
-ghost use Rattle.emtp_warnings.specs.Finding.{when};
-ghost use Rattle.emtp_warnings.specs.declared.finding.Spot.TheVariants.{Line as OfTheLine};
+ghost use Rattle.emtp_warnings.specs.AddsTo.{AddsTo};
+ghost use Rattle.emtp_warnings.specs.RecordWarnings.{branch_ends_at, branch_warnings, travel_time_of, end_of_run, end_warnings, ends_warnings, is_after_end, is_constant, is_lone, is_node_zero, is_short, is_zero_name, mode_delay, record_warnings, records_at, source_stands_at, source_warnings, switch_ends_at, switch_warnings, times_warnings};
+ghost use Rattle.emtp_warnings.specs.Finding.{of_line, when};
 
 use crate::columns::add_columns;
 use crate::finding::{Finding, Spot, Warning};
@@ -19,7 +18,7 @@ const BUS2: (usize, usize) = (9, 14);
 
 /// Adds the warnings of all records, in the order of their lines.
 pub(crate) fn add_records(out: &mut Vec<Warning>, case: &Case) -> Result<(), AllocError>
-    ensures { OnOk result (Adds out.old.items (record_warnings case.now.parts) out.new.items) }
+    ensures { OnOk result (AddsTo out.old.items (record_warnings case.now.parts) out.new.items) }
 {
     let last = case.parts.run.time(case.parts.run.steps);
     add_sources(out, last, case.parts.tacs_sources.as_slice())?;
@@ -30,7 +29,7 @@ pub(crate) fn add_records(out: &mut Vec<Warning>, case: &Case) -> Result<(), All
 }
 
 fn add_branches(out: &mut Vec<Warning>, parts: &Parts) -> Result<(), AllocError>
-    ensures { OnOk result (Adds out.old.items (flat_map (branch_warnings parts.now) parts.now.branches) out.new.items) }
+    ensures { OnOk result (AddsTo out.old.items (flat_map (branch_warnings parts.now) parts.now.branches) out.new.items) }
 {
     for branch in parts.branches.as_slice() {
         add_branch(out, parts, branch)?;
@@ -40,7 +39,7 @@ fn add_branches(out: &mut Vec<Warning>, parts: &Parts) -> Result<(), AllocError>
 
 fn add_switches(out: &mut Vec<Warning>, parts: &Parts, last: i64) -> Result<(), AllocError>
     requires { last ≡ end_of_run parts.now }
-    ensures { OnOk result (Adds out.old.items (flat_map (switch_warnings parts.now) parts.now.switches) out.new.items) }
+    ensures { OnOk result (AddsTo out.old.items (flat_map (switch_warnings parts.now) parts.now.switches) out.new.items) }
 {
     for switch in parts.switches.as_slice() {
         add_switch(out, parts, last, switch)?;
@@ -50,7 +49,7 @@ fn add_switches(out: &mut Vec<Warning>, parts: &Parts, last: i64) -> Result<(), 
 
 /// Adds the warnings of sources of the network, or of the control.
 fn add_sources(out: &mut Vec<Warning>, last: i64, sources: &[Source]) -> Result<(), AllocError>
-    ensures { OnOk result (Adds out.old.items (flat_map (source_warnings last) sources.now) out.new.items) }
+    ensures { OnOk result (AddsTo out.old.items (flat_map (source_warnings last) sources.now) out.new.items) }
 {
     for source in sources {
         add_source(out, last, source)?;
@@ -59,7 +58,7 @@ fn add_sources(out: &mut Vec<Warning>, last: i64, sources: &[Source]) -> Result<
 }
 
 fn add_branch(out: &mut Vec<Warning>, parts: &Parts, branch: &Branch) -> Result<(), AllocError>
-    ensures { OnOk result (Adds out.old.items (branch_warnings parts.now branch.now) out.new.items) }
+    ensures { OnOk result (AddsTo out.old.items (branch_warnings parts.now branch.now) out.new.items) }
 {
     let (from, to) = branch.ends();
     add_ends(out, parts, branch.line(), from, to)?;
@@ -69,7 +68,7 @@ fn add_branch(out: &mut Vec<Warning>, parts: &Parts, branch: &Branch) -> Result<
 
 /// Adds that the travel time of a line is short, where it is.
 fn add_short(out: &mut Vec<Warning>, short: bool, line: u32) -> Result<(), AllocError>
-    ensures { OnOk result (Adds out.old.items (when short (record { spot = OfTheLine line; finding = Finding.ShortTravel })) out.new.items) }
+    ensures { OnOk result (AddsTo out.old.items (when short (of_line line Finding.ShortTravel)) out.new.items) }
 {
     if short {
         out.push(Warning {
@@ -87,7 +86,7 @@ fn add_switch(
     switch: &Switch,
 ) -> Result<(), AllocError>
     requires { last ≡ end_of_run parts.now }
-    ensures { OnOk result (Adds out.old.items (switch_warnings parts.now switch.now) out.new.items) }
+    ensures { OnOk result (AddsTo out.old.items (switch_warnings parts.now switch.now) out.new.items) }
 {
     add_ends(out, parts, switch.line, switch.from, switch.to)?;
     add_times(out, last, switch)?;
@@ -96,7 +95,7 @@ fn add_switch(
 
 /// Adds the warnings of the times of a switch.
 fn add_times(out: &mut Vec<Warning>, last: i64, switch: &Switch) -> Result<(), AllocError>
-    ensures { OnOk result (Adds out.old.items (times_warnings last switch.now.line switch.now.kind) out.new.items) }
+    ensures { OnOk result (AddsTo out.old.items (times_warnings last switch.now.line switch.now.kind) out.new.items) }
 {
     match switch.kind {
         SwitchKind::Time { close, open_at, .. } => {
@@ -120,7 +119,7 @@ fn is_after_end(last: i64, time: Option<i64>) -> bool
 }
 
 fn add_source(out: &mut Vec<Warning>, last: i64, source: &Source) -> Result<(), AllocError>
-    ensures { OnOk result (Adds out.old.items (source_warnings last source.now) out.new.items) }
+    ensures { OnOk result (AddsTo out.old.items (source_warnings last source.now) out.new.items) }
 {
     let constant = is_constant(&source.shape);
     add_columns(out, constant, source.line, (21, 30), Finding::NoFrequency)?;
@@ -152,7 +151,7 @@ fn add_ends(
     from: u32,
     to: u32,
 ) -> Result<(), AllocError>
-    ensures { OnOk result (Adds out.old.items (ends_warnings parts.now line from to) out.new.items) }
+    ensures { OnOk result (AddsTo out.old.items (ends_warnings parts.now line from to) out.new.items) }
 {
     add_end(out, parts, line, from, BUS1)?;
     add_end(out, parts, line, to, BUS2)?;
@@ -167,7 +166,7 @@ fn add_end(
     node: u32,
     columns: (usize, usize),
 ) -> Result<(), AllocError>
-    ensures { OnOk result (Adds out.old.items (end_warnings parts.now line node columns) out.new.items) }
+    ensures { OnOk result (AddsTo out.old.items (end_warnings parts.now line node columns) out.new.items) }
 {
     add_columns(out, is_lone(parts, node), line, columns, Finding::LoneNode)?;
     add_columns(
@@ -241,8 +240,8 @@ fn is_zero_name(names: &[Name], at: usize) -> bool
 }
 
 /// The travel time of a line; that of the zero sequence of a first phase, and that of the positive one of a second.
-fn delay_of(parts: &Parts, branch: &Branch) -> Option<i64>
-    ensures { result ≡ delay_of parts.now branch.now }
+fn travel_time_of(parts: &Parts, branch: &Branch) -> Option<i64>
+    ensures { result ≡ travel_time_of parts.now branch.now }
 {
     match branch {
         Branch::Line(line) => Some(line.delay),
@@ -266,9 +265,9 @@ fn mode_delay(trios: &[Trio], at: usize, phase: u8) -> Option<i64>
 
 /// Whether the travel time of a line is below two steps.
 fn is_short(parts: &Parts, branch: &Branch) -> bool
-    ensures { result ≡ is_short parts.now.run.dt (delay_of parts.now branch.now) }
+    ensures { result ≡ is_short parts.now.run.dt (travel_time_of parts.now branch.now) }
 {
-    match delay_of(parts, branch) {
+    match travel_time_of(parts, branch) {
         None => false,
         Some(delay) => i128::from(delay) < 2 * i128::from(parts.run.dt),
     }

@@ -1,7 +1,7 @@
 use Rattle.std.proofs.Common.{flat_map, take}
-use Rattle.emtp_warnings.specs.Adds.{Adds}
+use Rattle.emtp_warnings.specs.AddsTo.{AddsTo}
 use Rattle.emtp_warnings.specs.RecordWarnings.{switch_warnings}
 use Rattle.emtp_warnings.proofs.records.add_switches.Given as goal
 
 abbrev pub invariant-loop-switch : goal.invariant-loop-switch
-invariant-loop-switch l = Adds l.initial.out.items (flat_map (switch_warnings l.parts) (take l.switch-index l.parts.switches)) l.out.items
+invariant-loop-switch l = AddsTo l.initial.out.items (flat_map (switch_warnings l.parts) (take l.switch-index l.parts.switches)) l.out.items

@@ -1,0 +1,6 @@
+use Rattle.emtp_warnings.proofs.ControlCards.{block_under, device_under}
+use Rattle.emtp_warnings.proofs.OutputCards.{tacs_output_under}
+use Rattle.emtp_warnings.proofs.laws.unmarked_columns_of_the_control_dont_matter.Goals as goal
+
+pub returns : goal.returns
+returns c = record { block = block_under; device = device_under; output = tacs_output_under }
