@@ -12,3 +12,6 @@ pub mod Spans
 pub mod Lines
 pub mod ComplexMatrix
 pub mod PhasorLaws
+pub mod OhmsLaw
+pub mod SingleBranches
+pub mod Worked

@@ -1,13 +1,13 @@
 -- Currents by differences of voltages, and lines of scans.
 use Rattle.std.proofs.Common.{◌≡◌, ◌∙◌, ap, ℕ, ◌<◌, ◌∷◌, ℤ, neg_ℤ, ◌+ℤ◌, ◌-ℤ◌, ◌*ℤ◌, true, false, map, slice_get, Some, refl, arith}
 use Rattle.std.specs.List.{range_with_len}
-use Rattle.std.proofs.Math.IntN.{neg_ℤ-neg_ℤ, *ℤ_comm}
+use Rattle.std.proofs.Math.IntN.{neg_ℤ-neg_ℤ}
 use Rattle.std.proofs.lemmas.Int.{ints}
 use Rattle.std.proofs.lemmas.List.FromFn.{get_or-map-range_with_len, length-map-range_with_len}
 use Rattle.std.proofs.lemmas.Option.{slice_get-get_or}
-use Rattle.emtp_fix.proofs.Wide.{mul_add, mul_neg}
 use Rattle.emtp_fix.specs.Rounding.{near}
 use Rattle.emtp_fix.specs.declared.limit.TheConstants.{PICO}
+use Rattle.emtp_admittance.proofs.Products.{neg_times, times_difference}
 use Rattle.emtp_admittance.specs.Impedance.{across_ends}
 use Rattle.emtp_admittance.specs.declared.admittance.Admittance.{Admittance}
 use Rattle.emtp_admittance.specs.declared.probe.Probe.{Probe}
@@ -21,14 +21,6 @@ use Rattle.emtp_phasor.specs.declared.phasor.Phasor.{Phasor}
 use Rattle.emtp_phasor.specs.declared.solving.Phasors.{Phasors}
 
 -- ---- currents
-
-times_difference : (g x y : ℤ) → g *ℤ (x -ℤ y) ≡ g *ℤ x -ℤ g *ℤ y
-times_difference g x y =
-    let whole : (x -ℤ y) +ℤ y ≡ x = omega (arith, ints) in
-    omega (arith, ints, mul_add g (x -ℤ y) y, ap (λ z. g *ℤ z) whole)
-
-neg_times : (g x : ℤ) → neg_ℤ g *ℤ x ≡ neg_ℤ (g *ℤ x)
-neg_times g x = *ℤ_comm (neg_ℤ g) x ∙ mul_neg x g ∙ ap neg_ℤ (*ℤ_comm x g)
 
 real_part : (g b a c p q : ℤ) → (g *ℤ a +ℤ neg_ℤ b *ℤ c) +ℤ (neg_ℤ g *ℤ p +ℤ neg_ℤ (neg_ℤ b) *ℤ q) ≡ g *ℤ (a -ℤ p) -ℤ b *ℤ (c -ℤ q)
 real_part g b a c p q = omega (arith, ints, times_difference g a p, times_difference b c q, neg_times b c, neg_times g p, ap (λ z. z *ℤ q) (neg_ℤ-neg_ℤ b))

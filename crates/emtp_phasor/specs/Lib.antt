@@ -5,6 +5,7 @@ pub mod Steady
 pub mod Ending
 pub mod Solving
 pub mod Scanning
+pub mod SingleBranch
 pub mod Opening
 pub mod HeldBranches
 pub mod HeldRows

@@ -1,20 +1,24 @@
 //! What an engineer may count on in steady states and scans. The functions do nothing: their clauses are proved, and a caller
 //! has them by a call.
 
-ghost use Rattle.std.specs.Prelude.{◌≡◌, ◌<◌, ◌+ℤ◌, ◌-ℤ◌, ◌*ℤ◌, ℕ, ℤ, Bool, false, true, ◌∷◌, List, Some, length, slice_get};
+ghost use Rattle.std.specs.Prelude.{◌≡◌, ◌<◌, ◌+ℤ◌, ◌-ℤ◌, ◌*ℤ◌, ℕ, ℤ, Bool, false, true, ◌∷◌, List, Some, Ok, length, slice_get};
 ghost use Rattle.emtp_fix.specs.Rounding.{near};
 ghost use Rattle.emtp_fix.specs.declared.limit.TheConstants.{PICO};
 ghost use Rattle.emtp_admittance.specs.Impedance.{across_ends};
+ghost use Rattle.emtp_admittance.specs.Probes.{judged_probe};
 ghost use Rattle.emtp_admittance.specs.declared.admittance.Admittance.{Admittance};
 ghost use Rattle.emtp_admittance.specs.declared.admittance.TwoPort.{TwoPort};
 ghost use Rattle.emtp_admittance.specs.declared.probe.Probe.{Probe};
+ghost use Rattle.emtp_case.specs.declared.branch.Lumped.{Lumped};
 ghost use Rattle.emtp_case.specs.declared.case.Parts.{Parts};
 ghost use Rattle.emtp_phasor.specs.ComplexEntries.{IsComplexAt};
 ghost use Rattle.emtp_phasor.specs.Doubled.{Doubled, admittance_entry};
 ghost use Rattle.emtp_phasor.specs.Scanning.{frequency_at, frequency_count, impedance_seen, line_at, scan_lines};
+ghost use Rattle.emtp_phasor.specs.SingleBranch.{IsBranchToGround, IsSeen, reactance_at};
 ghost use Rattle.emtp_phasor.specs.Solving.{IsSolved};
 ghost use Rattle.emtp_phasor.specs.Steady.{entering};
 ghost use Rattle.emtp_phasor.specs.Volts.{nothing, volt_at};
+ghost use Rattle.emtp_phasor.specs.declared.line.ScanAnswer.TheVariants.{Impedance};
 ghost use Rattle.emtp_phasor.specs.declared.phasor.Phasor.{Phasor};
 ghost use Rattle.emtp_phasor.specs.declared.solving.Phasors.{Phasors};
 
@@ -45,4 +49,10 @@ pub fn scan_lines_stand_alone()
 /// node, over the amplitude.
 pub fn scan_line_is_the_phasor()
     ensures { (case : Parts) (probe : Probe) (freq : ℤ) (p : Phasors) → IsSolved case (Some freq) p → (line_at case probe freq).answer ≡ impedance_seen case probe (volt_at (nothing ∷ p.volts.items) probe.node) }
+{}
+
+/// The source of a scan that feeds a single series branch to ground sees R + jX, each part within half a nano-ohm, |R| + |X|
+/// times the tolerance and half a nA over the amplitude, and |R| + |X| times half a pS times the magnitudes that it sees.
+pub fn single_branch_is_seen_as_r_and_x()
+    ensures { (case : Parts) (probe : Probe) (b : Lumped) (freq re im : ℤ) → judged_probe case ≡ Ok probe → IsBranchToGround case b probe.node → (line_at case probe freq).answer ≡ Impedance re im → IsSeen b.r (reactance_at freq b) case.run.tolerance probe.amplitude re im }
 {}

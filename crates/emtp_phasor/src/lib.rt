@@ -31,7 +31,7 @@ mod system;
 pub use fault::PhasorFault;
 pub use laws::{
     admittances_are_symmetric, matrix_is_complex, scan_line_is_the_phasor, scan_lines_stand_alone,
-    series_current_goes_by_the_difference,
+    series_current_goes_by_the_difference, single_branch_is_seen_as_r_and_x,
 };
 pub use line::{ScanAnswer, ScanLine};
 pub use phasor::Phasor;
