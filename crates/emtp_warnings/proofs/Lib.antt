@@ -5,4 +5,5 @@ pub mod Growing
 pub mod NetworkCards
 pub mod OutputCards
 pub mod PointCards
+pub mod PolynomialCards
 mod Worked

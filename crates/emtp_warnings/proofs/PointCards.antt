@@ -21,7 +21,7 @@ one_way : {A : Type 0} (t : Bool) (a : A) → cond t a a ≡ a
 one_way true a = refl
 one_way false a = refl
 
-due_is : (number : ℕ) (line : List ℕ) (fault : Option Fault) → fault_of_line line ≡ None → judge_due number line fault ≡ option_map (bad_at number) fault
+pub due_is : (number : ℕ) (line : List ℕ) (fault : Option Fault) → fault_of_line line ≡ None → judge_due number line fault ≡ option_map (bad_at number) fault
 due_is number line fault e =
     ap (λ (bytes : Option (ℕ × Why)). cond (is_section_end line) (option_map (bad_at number) fault) (judge_by number bytes fault)) e
     ∙ one_way (is_section_end line) (option_map (bad_at number) fault)

@@ -9,7 +9,8 @@ use Rattle.emtp_netcards.specs.PointCard.{next_point}
 use Rattle.emtp_netcards.specs.SourceCard as sources
 use Rattle.emtp_netcards.specs.SwitchCard as switches
 use Rattle.emtp_netcards.specs.declared.point_card.PointScale.{PointScale}
-use Rattle.emtp_warnings.specs.Marked.{output_ruler, point_ruler, ruler_of_kind, source_ruler, switch_ruler}
+use Rattle.emtp_taccards.specs.PolynomialCard.{polynomial_card}
+use Rattle.emtp_warnings.specs.Marked.{output_ruler, point_ruler, polynomial_ruler, ruler_of_kind, source_ruler, switch_ruler}
 use Rattle.emtp_warnings.specs.Section.{ends_points, names_another}
 
 -- two lines agree in all columns that a ruler marks; columns past a line's end are blank
@@ -58,3 +59,7 @@ abbrev pub ArePointsReadUnder : Type 0
 ArePointsReadUnder =
     (scale : PointScale) (before : Option Point) (count : ℕ) (dt : ℤ)
     → IsReadUnder (λ number line. point_ruler (ends_points number line scale)) (λ number line. next_point number line scale before count dt)
+
+-- the coefficients of a block of each order
+abbrev pub ArePolynomialsReadUnder : Type 0
+ArePolynomialsReadUnder = (order : ℕ) → order ≤ 7 → IsReadUnder (λ number line. polynomial_ruler order) (λ number line. polynomial_card number line order)

@@ -7,7 +7,7 @@ ghost use Rattle.emtp_netcards.specs.SwitchCard.{switch_card};
 ghost use Rattle.emtp_taccards.specs.BlockCard.{block_card};
 ghost use Rattle.emtp_taccards.specs.DeviceCard.{device_card};
 ghost use Rattle.emtp_taccards.specs.TacsOutputCard.{tacs_output_card};
-ghost use Rattle.emtp_warnings.specs.Law.{AreBranchesReadUnder, ArePointsReadUnder, IsReadUnder, IsReadUnderUnlessEnd, output_card_ruler, source_card_ruler, switch_card_ruler};
+ghost use Rattle.emtp_warnings.specs.Law.{AreBranchesReadUnder, ArePointsReadUnder, ArePolynomialsReadUnder, IsReadUnder, IsReadUnderUnlessEnd, output_card_ruler, source_card_ruler, switch_card_ruler};
 ghost use Rattle.emtp_warnings.specs.declared.rulers.TheConstants.{BLOCK, DEVICE, FIRST_RUN, NAMES, SECOND_RUN, TOLERANCE};
 
 /// Two lines without a faulty byte that agree in all columns that the ruler of one of them marks give the same card of the
@@ -24,9 +24,10 @@ pub fn unmarked_columns_of_the_network_dont_matter()
     ensures output { IsReadUnder output_card_ruler output_card }
 {}
 
-/// The same of blocks, devices and outputs of the control.
+/// The same of blocks, their polynomials, devices and outputs of the control.
 pub fn unmarked_columns_of_the_control_dont_matter()
     ensures block { IsReadUnder (λ number line. BLOCK.now) block_card }
+    ensures polynomial { ArePolynomialsReadUnder }
     ensures device { IsReadUnder (λ number line. DEVICE.now) device_card }
     ensures output { IsReadUnder (λ number line. NAMES.now) tacs_output_card }
 {}
