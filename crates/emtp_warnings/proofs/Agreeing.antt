@@ -70,7 +70,7 @@ some_first first e = grind (arith, nat_tests)
 le_by : (a b : ℕ) → nat_le a b ≡ true → a ≤ b
 le_by a b e = grind (arith, nat_tests)
 
-marked_byte : (ruler : List ℕ) (first last k : ℕ) → 1 ≤ first → last ≤ length ruler → list_all is_mark (take (last + 1 - first) (drop (first - 1) ruler)) ≡ true → k < last + 1 - first
+pub marked_byte : (ruler : List ℕ) (first last k : ℕ) → 1 ≤ first → last ≤ length ruler → list_all is_mark (take (last + 1 - first) (drop (first - 1) ruler)) ≡ true → k < last + 1 - first
     → is_blank (byte_in ruler (first + k)) ≡ false
 marked_byte ruler first last k some long all within =
     let count : length (take (last + 1 - first) (drop (first - 1) ruler)) ≡ last + 1 - first =

@@ -1,6 +1,7 @@
 pub mod Adding
 pub mod Agreeing
 pub mod ControlCards
+pub mod ExtraCards
 pub mod Growing
 pub mod NetworkCards
 pub mod OutputCards

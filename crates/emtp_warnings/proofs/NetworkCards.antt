@@ -35,7 +35,7 @@ use Rattle.emtp_warnings.specs.Section.{names_another}
 use Rattle.emtp_warnings.specs.declared.rulers.TheConstants.{CONTROLLED, COPY, COSINE, FIRST_RUN, FREE, LINE, MEASURING, RAMP, RESISTOR, SECOND_RUN, SERIES, STEP, THIRD_PHASE, TIME_SWITCH, TOLERANCE, VALVE, VARIABLE, WIDE_SERIES}
 
 -- by a test
-either : {P : Type 0} (t : Bool) → (t ≡ true → P) → (t ≡ false → P) → P
+pub either : {P : Type 0} (t : Bool) → (t ≡ true → P) → (t ≡ false → P) → P
 either true so otherwise = so refl
 either false so otherwise = otherwise refl
 
