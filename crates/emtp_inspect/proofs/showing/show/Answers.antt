@@ -1,0 +1,33 @@
+use Rattle.std.proofs.Common.{refl, subst, List, ℕ, Err, Ok}
+use Rattle.emtp_io.specs.declared.whole.ReadEnd.TheVariants.{Failed, NoMemory}
+use Rattle.emtp_inspect.specs.Showing.{told_outcome}
+use Rattle.emtp_inspect.specs.Telling.{told_of}
+use Rattle.emtp_run.specs.Outcome.{EndsAfterReading}
+use Rattle.emtp_inspect.proofs.showing.show.Goals as goal
+
+pub returns-in-Ok : goal.returns-in-Ok
+returns-in-Ok g c = record {
+  between = g.C.Cabinet.state c.read_file.new.cabinet;
+  end = Ok c.in-Ok.bytes;
+  reading = c.in-Ok.ensures.reading;
+  bytes = c.in-Ok.ensures.bytes;
+  telling = subst (λ (bytes : List ℕ). EndsAfterReading c.leave.result (told_outcome (told_of bytes)) (g.C.Cabinet.state c.read_file.new.cabinet) (g.C.Cabinet.state c.leave.new.cabinet)) c.deref.ensures.value c.leave.ensures;
+}
+
+pub returns-in-Err-Failed : goal.returns-in-Err-Failed
+returns-in-Err-Failed g c = record {
+  between = g.C.Cabinet.state c.read_file.new.cabinet;
+  end = Err Failed;
+  reading = rw c.in-Err-Failed.field-0-is at c.in-Err-Failed.ensures.reading;
+  bytes = λ tells. tt;
+  telling = (refl, refl);
+}
+
+pub returns-in-Err-NoMemory : goal.returns-in-Err-NoMemory
+returns-in-Err-NoMemory g c = record {
+  between = g.C.Cabinet.state c.read_file.new.cabinet;
+  end = Err NoMemory;
+  reading = rw c.in-Err-NoMemory.field-0-is at c.in-Err-NoMemory.ensures.reading;
+  bytes = λ tells. tt;
+  telling = (refl, refl);
+}

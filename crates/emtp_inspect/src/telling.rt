@@ -1,0 +1,149 @@
+//! The text that the bytes of a file give.
+ghost use Rattle.std.specs.Prelude.{◌≡◌, ◌++◌, ◌≤◌, IfOk, codes, length, take};
+ghost use Rattle.emtp_inspect.specs.Section.{place_before};
+ghost use Rattle.emtp_inspect.specs.Telling.{ends_text, listed_front, listed_of, listed_lines_of, refused_at, refused_text, told_of, told_of_lines};
+ghost use Rattle.emtp_listing.specs.Lines.{lines_text};
+ghost use Rattle.emtp_listing.specs.Listing.{listing};
+ghost use Rattle.emtp_run.specs.Note.{card_note};
+
+use crate::note::put_bad;
+use crate::section::{lines_before, place_behind, put_section, whole_count};
+use emtp_card::{Bad, Cards, Refused};
+use emtp_case::{Case, Items};
+use emtp_deck::read;
+use emtp_listing::listing;
+use emtp_text::put;
+use emtp_walk::Place;
+use std::alloc::{AllocError, Global};
+
+/// What is told of a file, each text with its line ends.
+#[derive(Drop)]
+pub enum Told {
+    /// The listing of its case.
+    Listing(Items<u8>),
+    /// What is told of a card that is refused.
+    Refusal(Items<u8>),
+}
+
+/// What is told of these bytes: the listing of their case; or, of a card that is refused, the records before it, its note,
+/// and as what it was read.
+///
+/// # Errors
+///
+/// [`AllocError`] where memory is wanting.
+pub fn tell(alloc: Global, bytes: &[u8]) -> Result<Told, AllocError>
+    ensures { IfOk result (λ told. told ≡ told_of bytes.now) }
+{
+    match Cards::split(alloc, bytes) {
+        Ok(cards) => tell_cards(alloc, &cards),
+        Err(Refused::Bad(bad)) => tell_size(alloc, &bad),
+        Err(Refused::NoMemory) => Err(AllocError),
+    }
+}
+
+fn tell_cards(alloc: Global, cards: &Cards<'_>) -> Result<Told, AllocError>
+    ensures { IfOk result (λ told. told ≡ told_of_lines cards.now) }
+{
+    match read(alloc, cards) {
+        Ok(case) => tell_case(alloc, &case),
+        Err(Refused::Bad(bad)) => tell_bad(alloc, cards, &bad),
+        Err(Refused::NoMemory) => Err(AllocError),
+    }
+}
+
+fn tell_case(alloc: Global, case: &Case) -> Result<Told, AllocError>
+    ensures { IfOk result (λ told. told ≡ Told.Listing (listing case.now.parts)) }
+{
+    let text = listing(alloc, case)?;
+    Ok(Told::Listing(Items::from_vec(text)))
+}
+
+/// Of a file that is too long the lines aren't read.
+fn tell_size(alloc: Global, bad: &Bad) -> Result<Told, AllocError>
+    ensures { IfOk result (λ told. told ≡ Told.Refusal (card_note bad.now)) }
+{
+    let mut text = Vec::new(alloc);
+    put_bad(&mut text, bad)?;
+    Ok(Told::Refusal(Items::from_vec(text)))
+}
+
+fn tell_bad(alloc: Global, cards: &Cards<'_>, bad: &Bad) -> Result<Told, AllocError>
+    ensures { IfOk result (λ told. told ≡ Told.Refusal (refused_text cards.now bad.now)) }
+{
+    // A match, since `?` has no proof where a value holds names.
+    match place_before(alloc, cards, lines_before(bad.line)) {
+        Ok(place) => tell_at(alloc, cards, bad, &place),
+        Err(error) => Err(error),
+    }
+}
+
+/// Of a refused card whose place is this one, where it is known.
+fn tell_at(
+    alloc: Global,
+    cards: &Cards<'_>,
+    bad: &Bad,
+    place: &Option<Place>,
+) -> Result<Told, AllocError>
+    ensures { IfOk result (λ told. told ≡ Told.Refusal (refused_at cards.now bad.now place.now)) }
+{
+    let count = whole_count(place, lines_before(bad.line));
+    let mut text = listed_front(alloc, cards, count)?;
+    put_bad(&mut text, bad)?;
+    put_section(&mut text, cards, bad.line, place)?;
+    Ok(Told::Refusal(Items::from_vec(text)))
+}
+
+/// The place of the line behind so many.
+fn place_before(alloc: Global, cards: &Cards<'_>, count: usize) -> Result<Option<Place>, AllocError>
+    ensures { IfOk result (λ place. place ≡ place_before cards.now count) }
+{
+    let text = front_text(alloc, cards, count)?;
+    place_behind(alloc, &text)
+}
+
+/// The first lines, each ended by LF.
+fn front_text(alloc: Global, cards: &Cards<'_>, count: usize) -> Result<Vec<u8>, AllocError>
+    ensures { IfOk result (λ text. text.items ≡ lines_text (take count cards.now)) }
+{
+    let mut text = Vec::new(alloc);
+    for at in 0..count.min(cards.len()) {
+        put(&mut text, cards.line(at).bytes)?;
+        put(&mut text, b"\n")?;
+    }
+    Ok(text)
+}
+
+/// The records of the first lines: the listing of the case that they are with an end of each section behind them, or
+/// nothing where they are none.
+fn listed_front(alloc: Global, cards: &Cards<'_>, count: usize) -> Result<Vec<u8>, AllocError>
+    ensures { IfOk result (λ text. text.items ≡ listed_front cards.now count) }
+{
+    let mut text = front_text(alloc, cards, count)?;
+    // An end of each section, of the control and of the network.
+    put(
+        &mut text,
+        b"BLANK\nBLANK\nBLANK\nBLANK\nBLANK\nBLANK\nBLANK\nBLANK\nBLANK\n",
+    )?;
+    listed_of(alloc, &text)
+}
+
+/// The listing of a text's case, or nothing where it is none.
+fn listed_of(alloc: Global, text: &[u8]) -> Result<Vec<u8>, AllocError>
+    ensures { IfOk result (λ listed. listed.items ≡ listed_of text.now) }
+{
+    match Cards::split(alloc, text) {
+        Ok(cards) => listed_lines_of(alloc, &cards),
+        Err(Refused::Bad(_)) => Ok(Vec::new(alloc)),
+        Err(Refused::NoMemory) => Err(AllocError),
+    }
+}
+
+fn listed_lines_of(alloc: Global, cards: &Cards<'_>) -> Result<Vec<u8>, AllocError>
+    ensures { IfOk result (λ listed. listed.items ≡ listed_lines_of cards.now) }
+{
+    match read(alloc, cards) {
+        Ok(case) => listing(alloc, &case),
+        Err(Refused::Bad(_)) => Ok(Vec::new(alloc)),
+        Err(Refused::NoMemory) => Err(AllocError),
+    }
+}
