@@ -19,9 +19,9 @@ pub record IsBranchToGround (case : Parts) (b : Lumped) (n : ℕ) : Type 0 where
 abbrev pub reactance_at : ℤ → Lumped → ℤ
 reactance_at freq b = inductive_reactance (angular_frequency freq) b.l -ℤ capacitive_reactance (angular_frequency freq) b.c
 
--- how far each part of the impedance re + j im that is seen may be from that of R + jX, times twice the amplitude A, in
--- 10^-27 V. Divided by it: half a nano-ohm, and |R| + |X| times the tolerance and half a nA over A, and |R| + |X| times half
--- a pS times the magnitudes that are seen
+-- how far each part of the impedance re + j im that is seen may be from that of R + jX, in 10^-9 ohm, times 2 * 10^18 A, with A
+-- the amplitude. Over that it is half a nano-ohm, and |R| + |X| times the tolerance and half a nA over A, and |R| + |X| times
+-- half a pS times the magnitudes that are seen
 abbrev pub sight_bound : ℤ → ℤ → ℤ → ℤ → ℤ → ℤ → ℕ
 sight_bound r x tolerance amplitude re im =
     10 ^ 18 * unsigned_abs amplitude
