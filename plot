@@ -10,6 +10,7 @@ each other, status channels as bars below. A scan is drawn as magnitude and angl
 batch as the share of its rows that stay at or below a peak, with the value that 2 % of them exceed.
 
 It is no part of the program. Pictures need matplotlib (Debian: python3-matplotlib), pages plotly (Debian: python3-plotly).
+Debian's packages are those of /usr/bin/python3; where `python3` is another one, start it as `/usr/bin/python3 plot ..`.
 """
 import cmath
 import math
@@ -42,13 +43,18 @@ def read_cfg(path):
 def read_dat(path):
     """One list a sample: number, time stamp and raw values."""
     with open(path, encoding="latin-1") as file:
-        return [[int(field) for field in line.split(",")] for line in file.read().rstrip("\x1a").split()]
+        try:
+            return [[int(field) for field in line.split(",")] for line in file.read().rstrip("\x1a").split()]
+        except ValueError:
+            sys.exit(f"plot: {path} is no data file of a record")
 
 
 def read_record(cfg, dat):
     """The times in ms, the analog channels (name, unit, values in the unit drawn), and the status channels (name, values)."""
     analog, states, scale = read_cfg(cfg)
     samples = read_dat(dat)
+    if any(len(sample) != 2 + len(analog) + len(states) for sample in samples):
+        sys.exit(f"plot: {dat} has other channels than {cfg} names")
     times = [sample[1] * scale * 1e-3 for sample in samples]
     curves = [
         (name, unit, [sample[2 + place] * multiplier for sample in samples])
@@ -198,13 +204,18 @@ def shares(column):
 # ---- pictures
 
 
+def lacks(what, package):
+    """Stops where this python hasn't what is needed."""
+    own = os.path.realpath(sys.executable).startswith("/usr/bin/")
+    start = "" if own else f", and start it as /usr/bin/python3 {' '.join(sys.argv)}"
+    sys.exit(f"plot: {what} needs {package} for {sys.executable}; for Debian's python3: apt install python3-{package}{start}")
+
+
 def pyplot():
     try:
         import matplotlib
     except ImportError:
-        sys.exit(
-            f"plot: a picture needs matplotlib for {sys.executable}; for Debian's python3: apt install python3-matplotlib"
-        )
+        lacks("a picture", "matplotlib")
     matplotlib.use("Agg")
     from matplotlib import pyplot as made
 
@@ -225,7 +236,11 @@ def axes(made, heights, width=9):
 
 def save(figure, path):
     figure.tight_layout()
-    figure.savefig(path, dpi=80)
+    try:
+        figure.savefig(path, dpi=80)
+    except ValueError as fault:
+        sys.exit(f"plot: {path}: {fault}")
+    print(f"drawn: {path}")
 
 
 def draw_record(times, curves, bars, path):
@@ -301,13 +316,14 @@ def plotly():
     try:
         from plotly import graph_objects, subplots
     except ImportError:
-        sys.exit(f"plot: a page needs plotly for {sys.executable}; for Debian's python3: apt install python3-plotly")
+        lacks("a page", "plotly")
     return graph_objects, subplots
 
 
 def write_page(figure, title, height, path):
     figure.update_layout(title=title, height=height, template="plotly_white", margin={"t": 60, "r": 20})
     figure.write_html(path, include_plotlyjs=True, full_html=True, config={"displaylogo": False, "responsive": True})
+    print(f"drawn: {path}")
 
 
 def rounded(values):
@@ -449,6 +465,8 @@ def one_summary(words):
     names = [f"channel {place + 1}" for place in range(len(peaks[0]))]
     if cfg:
         names = [f"{name} in {unit}" for name, unit, _ in read_cfg(cfg)[0]]
+    if len(names) != len(peaks[0]):
+        sys.exit(f"plot: {words[0]} has {len(peaks[0])} channels, and {cfg} {len(names)}")
     print_batch(names, peaks, ended)
     return page_batch(names, peaks, title, out) if page else draw_batch(names, peaks, out)
 
@@ -472,6 +490,9 @@ def is_summary(path):
 
 def main():
     words = sys.argv[1:]
+    if words == ["--help"]:
+        print(__doc__.strip())
+        return
     if not words or words[0].startswith("-") or len(words) > 4:
         sys.exit(__doc__.strip())
     try:
@@ -482,7 +503,7 @@ def main():
         else:
             sys.exit(__doc__.strip())
     except OSError as fault:
-        sys.exit(f"plot: {fault}")
+        sys.exit(f"plot: {fault.filename}: {fault.strerror}" if fault.filename else f"plot: {fault}")
 
 
 if __name__ == "__main__":
