@@ -1,5 +1,5 @@
 -- A closed switch has no voltage across it, in each step and in each record of a run.
-use Rattle.std.proofs.Common.{◌≡◌, ◌∙◌, ◌+◌, ◌<◌, ℕ, zero, suc, pos, Bool, true, List, [], ◌∷◌, length, replicate, slice_index, Ok, refl, ap, sym, subst, inl, inr, arith}
+use Rattle.std.proofs.Common.{◌≡◌, ◌∙◌, ◌+◌, ◌<◌, ℕ, zero, suc, pos, Bool, true, List, [], ◌∷◌, length, replicate, slice_index, IfOk, Result, Ok, Err, refl, ap, sym, subst, inl, inr, arith}
 use Rattle.std.specs.List.{AllByRecursion as Each, filter, range_with_len}
 use Rattle.std.proofs.lemmas.Bool.{cases_Bool, cond-false, cond-true}
 use Rattle.std.proofs.lemmas.List.FromFn.{get_or-range_with_len, length-map-range_with_len, length-range_with_len}
@@ -9,18 +9,21 @@ use Rattle.emtp_case.specs.RowOrder.{order_of}
 use Rattle.emtp_case.specs.StepRecord.{StepRecord, latest, rest_of}
 use Rattle.emtp_case.specs.declared.case.Parts.{Parts}
 use Rattle.emtp_case.specs.declared.switch.SwitchState.{SwitchState}
+use Rattle.emtp_elim.specs.Elimination.{solution}
 use Rattle.emtp_elim.specs.Matrix.{item}
 use Rattle.emtp_machine.proofs.Chains.{chain}
 use Rattle.emtp_machine.specs.Laws.{IsChain, records_upto}
 use Rattle.emtp_machine.specs.Next.{next}
 use Rattle.emtp_net.specs.Part.{NetworkPart, network_of}
 use Rattle.emtp_net.specs.Step.{network_part}
+use Rattle.emtp_net.specs.System.{matrix, right}
+use Rattle.emtp_net.specs.declared.fault.NetFault.{NetFault}
 use Rattle.emtp_switch.proofs.Labels.{OneLabel, groups-joins}
 use Rattle.emtp_switch.proofs.Plans.{switch_ends}
 use Rattle.emtp_switch.specs.Groups.{EndWithin, alone, closed_switches, from_at, is_closed_at, to_at}
 use Rattle.emtp_switch.specs.States.{next_state, next_states}
-use Rattle.emtp_laws.specs.Nodes.{JoinEnds, labels_next}
-use Rattle.emtp_laws.proofs.GroupVoltages.{one_voltage}
+use Rattle.emtp_laws.specs.Nodes.{IsGroundKept, JoinEnds, KeepsGround, labels_next}
+use Rattle.emtp_laws.proofs.GroupVoltages.{one_voltage, voltage_ground}
 use Rattle.emtp_laws.proofs.SolvedSteps.{next_made, step_solved}
 
 -- ---- closed switches
@@ -89,3 +92,31 @@ latest_joined case (r ∷ s ∷ past) fits is = next_joined case (s ∷ past) r 
 
 pub run_joined : (case : Parts) (n : ℕ) → IsCase case → JoinEnds case (latest (records_upto case n)).switch_states (latest (records_upto case n)).voltages
 run_joined case n fits = latest_joined case (records_upto case n) fits (chain case n)
+
+-- ---- ground
+
+ground_kept : (case : Parts) (H : List StepRecord) (part : NetworkPart) → network_part case H ≡ Ok part → KeepsGround case H part.voltages
+ground_kept case H part made = λ n high same.
+    let is = step_solved case H part made in
+    ap (λ vs. item vs n) is.voltages ∙ one_voltage case H n 0 high (omega arith) same ∙ voltage_ground case (solution (matrix case H) (right case H))
+
+pub step_grounded : (case : Parts) (H : List StepRecord) → IfOk (network_part case H) (λ part. KeepsGround case H part.voltages)
+step_grounded case H = by (network_part case H) refl
+  where
+    by : (made : Result NetworkPart NetFault) → network_part case H ≡ made → IfOk made (λ part. KeepsGround case H part.voltages)
+    by (Ok part) is = ground_kept case H part is
+    by (Err fault) is = tt
+
+next_grounded : (case : Parts) (H : List StepRecord) (r : StepRecord) → next case H ≡ Ok r → KeepsGround case H r.voltages
+next_grounded case H r is =
+    let from = next_made case H r is in
+    let keeps : KeepsGround case H (network_of r).voltages = subst (λ (p : NetworkPart). KeepsGround case H p.voltages) (sym from.is) (ground_kept case H from.part from.made) in
+    keeps
+
+all_grounded : (case : Parts) (H : List StepRecord) → IsChain case H → IsGroundKept case H
+all_grounded case [] is = tt
+all_grounded case (r ∷ []) is = tt
+all_grounded case (r ∷ s ∷ past) is = next_grounded case (s ∷ past) r is.0
+
+pub run_grounded : (case : Parts) (n : ℕ) → IsGroundKept case (records_upto case n)
+run_grounded case n = all_grounded case (records_upto case n) (chain case n)

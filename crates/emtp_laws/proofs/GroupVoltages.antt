@@ -126,7 +126,7 @@ unfolding voltages_of
 voltage_there case x zero low high = absurd (omega (arith, low))
 voltage_there case x (suc k) low high = get_or-map-range_with_len (λ n. item x (row_at case n)) 1 (length case.nodes) k (suc k) (pos 0) (omega (arith, high)) (omega arith)
 
-voltage_ground : (case : Parts) (x : List ℤ) → item (voltages_of case x) 0 ≡ pos 0
+pub voltage_ground : (case : Parts) (x : List ℤ) → item (voltages_of case x) 0 ≡ pos 0
 unfolding voltages_of
 voltage_ground case x = refl
 

@@ -1,5 +1,6 @@
 mod Counting
 mod Worked
+mod WorkedRuns
 mod SolvedSteps
 mod GroupVoltages
 mod ClosedSwitches
@@ -14,6 +15,7 @@ mod Resistors
 mod ResistorRuns
 mod LineWaves
 mod RenumberedPhases
+mod ReversedPhases
 mod LimitedOutputs
 mod LimitersOfRuns
 mod VariablesOfBlocks
@@ -28,6 +30,9 @@ mod SeriesVoltages
 mod OddSegments
 mod MirroredRecords
 mod MirroredBranches
+mod AlikeRows
+mod AlikeSteps
+mod AlikeRuns
 mod MirroredRows
 mod MirroredSwitches
 mod MirroredSystem
@@ -37,8 +42,8 @@ mod MirroredSteps
 mod MirroredSamples
 mod MirroredControl
 mod Quiet
-mod LongerControl
 mod LongerRuns
 mod LongerSamples
+mod Causality
 mod NamedVariables
 mod EndNames

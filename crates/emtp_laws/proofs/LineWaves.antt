@@ -1,5 +1,5 @@
 -- A line doesn't amplify, and answers alike from both ends.
-use Rattle.std.proofs.Common.{◌≡◌, ◌∙◌, ◌+◌, ◌-◌, ◌*◌, ◌≤◌, ◌^◌, ℕ, ℤ, pos, negsuc, neg_ℤ, ◌+ℤ◌, ◌-ℤ◌, ◌*ℤ◌, ◌≤ℤ◌, unsigned_abs, List, slice_get, map, Option, Some, None, option_map, refl, ap, arith}
+use Rattle.std.proofs.Common.{◌≡◌, ◌∙◌, ◌+◌, ◌-◌, ◌*◌, ◌≤◌, ◌^◌, ℕ, ℤ, pos, negsuc, neg_ℤ, ◌+ℤ◌, ◌-ℤ◌, ◌*ℤ◌, ◌≤ℤ◌, ◌<◌, unsigned_abs, List, length, slice_get, slice_index_or, map, Option, Some, None, option_map, lit≤, refl, ap, arith}
 use Rattle.std.proofs.Math.IntN.{*ℤ_comm}
 use Rattle.std.proofs.lemmas.Int.{ints}
 use Rattle.std.proofs.lemmas.Simd.{map-map}
@@ -8,6 +8,7 @@ use Rattle.emtp_case.specs.Case.{IsCase}
 use Rattle.emtp_case.specs.declared.branch.Branch.TheVariants.{Line as OfLine}
 use Rattle.emtp_case.specs.declared.branch.Line.{Line}
 use Rattle.emtp_case.specs.declared.branch.LineState.{LineState}
+use Rattle.emtp_case.specs.declared.branch.PhaseState.{PhaseState}
 use Rattle.emtp_case.specs.declared.case.Parts.{Parts}
 use Rattle.emtp_net.proofs.Nodes.{branch_fits}
 use Rattle.emtp_fix.proofs.Nearest.{near_abs-mono, unsigned_abs-near}
@@ -19,10 +20,12 @@ use Rattle.emtp_fix.specs.declared.limit.TheConstants.{PICO}
 use Rattle.emtp_hist.specs.History.{value_before}
 use Rattle.emtp_line.specs.Line.{from_waves, line_histories, line_state, next_state, to_waves}
 use Rattle.emtp_line.proofs.Bounds.{mode_fits}
+use Rattle.emtp_line.specs.Lines.{no_trio, trio_of}
 use Rattle.emtp_line.specs.Mode.{IsMode, mode_of, mode_of_line}
+use Rattle.emtp_line.specs.Phases.{modes_of, phase_from_waves, phase_to_waves, zero_from_waves, zero_to_waves}
 use Rattle.emtp_line.specs.Wave.{end_of, history_of, past_wave}
 use Rattle.emtp_line.specs.declared.mode.Mode.{Mode}
-use Rattle.emtp_laws.specs.Branches.{AreHistoriesWithin, AreWavesWithin, reversed_line}
+use Rattle.emtp_laws.specs.Branches.{AreHistoriesWithin, ArePhaseWavesWithin, AreWavesWithin, phase_histories, reversed_line}
 
 -- ---- no wave grows
 
@@ -107,3 +110,21 @@ histories_small case b x past limit fits is small_from small_to =
       at_from = history_small m (to_waves past) (from_waves past) limit ranges whole small_to small_from;
       at_to = history_small m (from_waves past) (to_waves past) limit ranges whole small_from small_to;
     }
+
+-- each history current of a phase is the sum of those of two modes
+pub phase_small : (case : Parts) (t : ℕ) (first past : List PhaseState) (zero_limit limit : ℕ) → IsCase case → t < length case.trios → ArePhaseWavesWithin zero_limit limit first past
+    → AreHistoriesWithin (zero_limit + limit + 2) (phase_histories (modes_of case.run.dt (trio_of case t)) first past)
+phase_small case t first past zero_limit limit fits there waves =
+    let dt = case.run.dt in
+    let trio = trio_of case t in
+    let m = modes_of dt trio in
+    let numbers = fits.draft.network.trios t no_trio there in
+    let zero_fits = mode_fits dt _ _ _ fits.draft.run.dt (numbers 0 (lit≤ tt)) in
+    let own_fits = mode_fits dt _ _ _ fits.draft.run.dt (numbers 1 (lit≤ tt)) in
+    let zero_whole = whole_shares dt (slice_index_or trio.zc 0 (pos 0)) (slice_index_or trio.r 0 (pos 0)) (slice_index_or trio.delay 0 (pos 0)) in
+    let own_whole = whole_shares dt (slice_index_or trio.zc 1 (pos 0)) (slice_index_or trio.r 1 (pos 0)) (slice_index_or trio.delay 1 (pos 0)) in
+    let from_zero = history_small m.zero_sequence (zero_to_waves first) (zero_from_waves first) zero_limit zero_fits zero_whole waves.zero_to waves.zero_from in
+    let from_own = history_small m.positive (phase_to_waves past) (phase_from_waves past) limit own_fits own_whole waves.own_to waves.own_from in
+    let to_zero = history_small m.zero_sequence (zero_from_waves first) (zero_to_waves first) zero_limit zero_fits zero_whole waves.zero_from waves.zero_to in
+    let to_own = history_small m.positive (phase_from_waves past) (phase_to_waves past) limit own_fits own_whole waves.own_from waves.own_to in
+    record { at_from = omega (arith, ints, from_zero, from_own); at_to = omega (arith, ints, to_zero, to_own) }

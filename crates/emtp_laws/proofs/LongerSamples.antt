@@ -8,16 +8,12 @@ use Rattle.emtp_machine.specs.History.{History, advanced, after_step, history, h
 use Rattle.emtp_machine.specs.Next.{Fault, next}
 use Rattle.emtp_machine.specs.declared.end.End.{End}
 use Rattle.emtp_laws.specs.Runs.{BeginsWith, with_steps}
-use Rattle.emtp_laws.proofs.LongerRuns.{history_same}
+use Rattle.emtp_laws.proofs.AlikeRuns.{samples_alike}
+use Rattle.emtp_laws.proofs.LongerRuns.{history_same, same_sources}
 
-samples_in_same : (case : Parts) (m : ℕ) (H : List StepRecord) → samples_in (with_steps m case) H ≡ samples_in case H
-unfolding samples_in
-samples_in_same case m [] = refl
-samples_in_same case m (r ∷ past) = ap (λ (xs : List (List ℤ)). if length past % case.run.every == 0 then xs ++ sample_of case r ∷ [] else xs) (samples_in_same case m past)
-
-record GoesOn (xs ys : List (List ℤ)) : Type 0 where
-  more : List (List ℤ)
-  is : ys ≡ xs ++ more
+pub record GoesOn (xs ys : List (List ℤ)) : Type 0 where
+  pub more : List (List ℤ)
+  pub is : ys ≡ xs ++ more
 
 by_test : (b : Bool) (xs : List (List ℤ)) (y : List ℤ) → GoesOn xs (if b then xs ++ y ∷ [] else xs)
 by_test true xs y = record { more = y ∷ []; is = refl }
@@ -45,7 +41,7 @@ one_step : (case : Parts) (n : ℕ) → GoesOn (samples case (history_upto case 
 unfolding history_upto
 one_step case n = advances case (history_upto case n) (history_upto case n).end
 
-steps : (case : Parts) (k n m : ℕ) → m ≡ k + n → GoesOn (samples case (history_upto case n)) (samples case (history_upto case m))
+pub steps : (case : Parts) (k n m : ℕ) → m ≡ k + n → GoesOn (samples case (history_upto case n)) (samples case (history_upto case m))
 steps case zero n m e =
     let none : n ≡ m = omega (arith, e) in
     subst (λ j. GoesOn (samples case (history_upto case n)) (samples case (history_upto case j))) none (same (samples case (history_upto case n)))
@@ -54,13 +50,13 @@ steps case (suc k) n m e =
     subst (λ j. GoesOn (samples case (history_upto case n)) (samples case (history_upto case j))) one
     (both (samples case (history_upto case n)) (samples case (history_upto case (k + n))) (samples case (history_upto case (suc (k + n)))) (steps case k n (k + n) refl) (one_step case (k + n)))
 
-begins : (xs more : List (List ℤ)) → take (length xs) (xs ++ more) ≡ xs
+pub begins : (xs more : List (List ℤ)) → take (length xs) (xs ++ more) ≡ xs
 begins [] more = refl
 begins (x ∷ xs) more = ap (λ ys. x ∷ ys) (begins xs more)
 
 -- the samples of a case with another number of steps
 of_steps : (case : Parts) (m : ℕ) → samples (with_steps m case) (history (with_steps m case)) ≡ samples case (history_upto case m)
-of_steps case m = ap (λ (h : History). samples (with_steps m case) h) (history_same case m m) ∙ samples_in_same case m (history_upto case m).records
+of_steps case m = ap (λ (h : History). samples (with_steps m case) h) (history_same case m m) ∙ samples_alike case (same_sources case m) (history_upto case m).records
 
 pub samples_begin : (case : Parts) (fewer more : ℕ) → fewer ≤ more → BeginsWith (samples (with_steps more case) (history (with_steps more case))) (samples (with_steps fewer case) (history (with_steps fewer case)))
 samples_begin case fewer more low =

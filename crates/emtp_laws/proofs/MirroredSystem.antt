@@ -31,7 +31,8 @@ use Rattle.emtp_wave.specs.Wave.{active_value, is_active, value_of}
 use Rattle.emtp_laws.specs.Mirror.{HasNoSign, is_plain_shape, mirror_image, mirrored_bare, bare_records, mirrored_source}
 use Rattle.emtp_laws.proofs.MirroredBranches.{branch_sum_opposite, conductances_same, history_opposite}
 use Rattle.emtp_laws.proofs.MirroredSwitches.{states_same}
-use Rattle.emtp_laws.proofs.MirroredRows.{kinds_same, matrix_same, nodal_with, nodes_same, order_same}
+use Rattle.emtp_laws.proofs.AlikeRows.{nodal_with}
+use Rattle.emtp_laws.proofs.MirroredRows.{kinds_same, matrix_same, nodes_same, order_same}
 use Rattle.emtp_elim.proofs.Opposites.{list_of_turned}
 use Rattle.emtp_laws.proofs.MirroredNumbers.{if_zero, sum_turned}
 

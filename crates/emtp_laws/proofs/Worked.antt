@@ -1,14 +1,15 @@
 -- A small network, worked out by hand, on which the laws say what they should. 100 V feed 1 ohm, three closed switches in a loop
 -- and 1 ohm to ground: 50 A, and 50 V at each node of the loop.
-use Rattle.std.proofs.Common.{◌≡◌, ◌^◌, ◌*◌, ◌+◌, ◌/◌, length, ℕ, ℤ, pos, neg_ℤ, ◌*ℤ◌, false, true, List, [], ◌∷◌, map, Some, None, Ok, refl}
+use Rattle.std.proofs.Common.{◌≡◌, ◌^◌, ◌*◌, ◌+◌, ◌/◌, length, ℕ, ℤ, pos, neg_ℤ, ◌-ℤ◌, ◌*ℤ◌, false, true, List, [], ◌∷◌, map, Some, None, Ok, refl}
 use Rattle.std.specs.Prelude.{codes}
 use Rattle.emtp_blocks.specs.Block.{chain_of, output_of}
 use Rattle.emtp_case.specs.Branch.{capacitor_impedance}
 use Rattle.emtp_case.specs.Case.{empty_parts}
-use Rattle.emtp_case.specs.StepRecord.{LumpedBranch, StepRecord, no_lumped, rest_of}
+use Rattle.emtp_case.specs.StepRecord.{LumpedBranch, StepRecord, branch_current_at, no_lumped, rest_of, voltage_at}
 use Rattle.emtp_case.specs.declared.branch.Branch.{Branch}
 use Rattle.emtp_case.specs.declared.branch.Branch.TheVariants.{Lumped as OfLumped, Phase as OfPhase}
 use Rattle.emtp_case.specs.declared.branch.Lumped.{Lumped}
+use Rattle.emtp_case.specs.declared.branch.PhaseState.{PhaseState}
 use Rattle.emtp_case.specs.declared.case.Parts.{Parts}
 use Rattle.emtp_case.specs.declared.control.BlockState.{BlockState}
 use Rattle.emtp_case.specs.declared.control.Limiter.TheVariants.{Free}
@@ -22,13 +23,15 @@ use Rattle.emtp_elim.specs.Fault.{right_fault, row_fault, unknown_fault}
 use Rattle.emtp_elim.specs.Outcome.{outcome}
 use Rattle.emtp_elim.specs.Matrix.{item}
 use Rattle.emtp_fix.specs.Rounding.{near, near_abs}
-use Rattle.emtp_line.specs.Line.{line_state, next_state as next_line}
+use Rattle.emtp_line.specs.Line.{line_histories, line_state, next_state as next_line}
 use Rattle.emtp_line.specs.Mode.{mode_of}
+use Rattle.emtp_line.specs.Phases.{Modes, next_phases, phase_currents, phase_state}
 use Rattle.emtp_line.specs.Wave.{end_of}
+use Rattle.emtp_line.specs.declared.mode.Mode.{Mode}
 use Rattle.emtp_lumped.specs.Companion.{companion_of}
 use Rattle.emtp_machine.specs.Channels.{samples_in}
 use Rattle.emtp_machine.specs.History.{history_upto, samples}
-use Rattle.emtp_machine.specs.Next.{next}
+use Rattle.emtp_machine.specs.Next.{next, record_of}
 use Rattle.emtp_machine.specs.declared.end.Cause.TheVariants.{Tied}
 use Rattle.emtp_lumped.specs.Step.{next_state as next_lumped}
 use Rattle.emtp_net.specs.Part.{NetworkPart, part_at, voltages_of}
@@ -37,6 +40,7 @@ use Rattle.emtp_net.specs.System.{conductances, couplings, right}
 use Rattle.emtp_rows.specs.Nodal.{current_entry, nodal_matrix}
 use Rattle.emtp_switch.specs.States.{breaker_state}
 use Rattle.emtp_switch.specs.declared.states.View.{View}
+use Rattle.emtp_tacs.specs.Part.{control_of}
 use Rattle.emtp_wave.specs.Wave.{active_value}
 use Rattle.emtp_laws.specs.Branches.{excess_voltage, reversed_series}
 use Rattle.emtp_laws.specs.Control.{RisesByTheRule}
@@ -99,7 +103,43 @@ conductances_of_node_3 : map (current_entry (loop_at 100) (conductances (loop_at
 unfolding loop_at at_rest near near_abs capacitor_impedance
 conductances_of_node_3 = refl
 
+-- the resistor to ground takes 50 V times 50 A
+power : (voltage_at 3 (record_of (carrying (pos (50 * 10 ^ 9))) (control_of (rest_of (loop_at 100)))) -ℤ voltage_at 0 (record_of (carrying (pos (50 * 10 ^ 9))) (control_of (rest_of (loop_at 100)))))
+    *ℤ branch_current_at 1 (record_of (carrying (pos (50 * 10 ^ 9))) (control_of (rest_of (loop_at 100))))
+    ≡ pos (25 * 10 ^ 20)
+unfolding loop_at carrying
+power = refl
+
+-- whatever the control keeps, the step is the same
+blind : network_part (loop_at 100) (record (rest_of (loop_at 100)) { values = pos 7 ∷ [] } ∷ []) ≡ Ok (carrying (pos (50 * 10 ^ 9)))
+unfolding network_part part_at voltages_of right nodal_matrix outcome row_fault right_fault unknown_fault stage stage_right last_unknowns near near_abs capacitor_impedance next_lumped active_value loop_at carrying
+blind = refl
+
+-- the mirror image of the mirror image
+twice : mirror_image (mirror_image (loop_at 100)) ≡ loop_at 100
+unfolding loop_at
+twice = refl
+
+-- 100 V over 1 ohm and two closed switches to ground: both nodes behind the resistor are at 0, and 100 A flow
+to_ground : Parts
+to_ground = record (loop_at 100) { nodes = [] ∷ [] ∷ [] ∷ []; branches = ohm 1 2 ∷ []; switches = closed 2 3 ∷ closed 3 0 ∷ [] }
+
+grounded : network_part to_ground (rest_of to_ground ∷ [])
+    ≡ Ok (record {
+      voltages = pos 0 ∷ pos (100 * 10 ^ 9) ∷ pos 0 ∷ pos 0 ∷ [];
+      branches = LumpedBranch (record { current = pos (100 * 10 ^ 9); v_l = pos 0; v_c = pos 0; history_voltage = pos 0 }) ∷ [];
+      switch_states = Closed ∷ Closed ∷ [];
+      switch_currents = pos (100 * 10 ^ 9) ∷ pos (100 * 10 ^ 9) ∷ [];
+    })
+unfolding network_part part_at voltages_of right nodal_matrix outcome row_fault right_fault unknown_fault stage stage_right last_unknowns near near_abs capacitor_impedance next_lumped active_value loop_at to_ground
+grounded = refl
+
 -- ---- a line of 100 ohm
+
+-- the wave of 1 A that left `from` one travel time before is the history current of the other end, and no greater
+histories : line_histories (mode_of (pos 100) (pos (10 ^ 8)) (pos 0) (pos 100)) (record { from_current = pos 0; to_current = pos 0; from_wave = pos (10 ^ 9); to_wave = pos 0 } ∷ []) ≡ (pos 0, neg_ℤ (pos (10 ^ 9)))
+unfolding near near_abs
+histories = refl
 
 -- one that had 1 A waves at `from` alone, at 50 V and 100 V: the other way round it has the same numbers at the other ends
 one_way : next_line (mode_of (pos 100) (pos (10 ^ 8)) (pos 0) (pos 100)) (record { from_current = pos 0; to_current = pos 0; from_wave = pos (10 ^ 9); to_wave = pos 0 } ∷ []) (pos (50 * 10 ^ 9)) (pos (100 * 10 ^ 9))
@@ -169,6 +209,38 @@ went_round = refl
 
 changed_places : renumbered exchanged (pos 4 ∷ pos 5 ∷ pos 6 ∷ []) ≡ pos 4 ∷ pos 6 ∷ pos 5 ∷ []
 changed_places = refl
+
+-- 4 S of the zero sequence and 1 S of the positive one: 2 S of each phase to the others and to ground, 1 S to each other phase
+abbrev sequence : ℕ → Mode
+sequence siemens = record { conductance = pos (siemens * 10 ^ 12); attenuation = pos 0; far_share = pos 0; near_share = pos 0; steps = 1; rest = pos 0; dt = pos 1 }
+
+modes : Modes
+modes = record { zero_sequence = sequence 4; positive = sequence 1 }
+
+-- 1, 2 and 3 nV drive 7, 8 and 9 nA, and by new numbers the same ones
+by_old_numbers : phase_currents modes (pos 0 ∷ pos 0 ∷ pos 0 ∷ []) (pos 1 ∷ pos 2 ∷ pos 3 ∷ []) ≡ pos 7 ∷ pos 8 ∷ pos 9 ∷ []
+unfolding modes near near_abs
+by_old_numbers = refl
+
+by_new_numbers : phase_currents modes (pos 0 ∷ pos 0 ∷ pos 0 ∷ []) (renumbered cycled (pos 1 ∷ pos 2 ∷ pos 3 ∷ [])) ≡ pos 8 ∷ pos 9 ∷ pos 7 ∷ []
+unfolding modes near near_abs
+by_new_numbers = refl
+
+-- what a phase has at one end where nothing is at the other
+at_one_end : ℤ → ℤ → ℤ → PhaseState
+at_one_end i w w0 = record { from_current = i; to_current = pos 0; from_wave = w; to_wave = pos 0; from_zero_wave = w0; to_zero_wave = pos 0 }
+
+at_the_other : ℤ → ℤ → ℤ → PhaseState
+at_the_other i w w0 = record { from_current = pos 0; to_current = i; from_wave = pos 0; to_wave = w; from_zero_wave = pos 0; to_zero_wave = w0 }
+
+-- the waves are 1 S times what each voltage is apart from the mean of 2 nV, and 4 S times the mean, which stands with phase 0
+three_one_way : next_phases modes (λ p. []) (pos 1 ∷ pos 2 ∷ pos 3 ∷ []) (pos 0 ∷ pos 0 ∷ pos 0 ∷ []) ≡ Ok (at_one_end (pos 7) (neg_ℤ (pos 1)) (pos 8) ∷ at_one_end (pos 8) (pos 0) (pos 0) ∷ at_one_end (pos 9) (pos 1) (pos 0) ∷ [])
+unfolding modes near near_abs phase_state at_one_end
+three_one_way = refl
+
+three_other_way : next_phases modes (λ p. []) (pos 0 ∷ pos 0 ∷ pos 0 ∷ []) (pos 1 ∷ pos 2 ∷ pos 3 ∷ []) ≡ Ok (at_the_other (pos 7) (neg_ℤ (pos 1)) (pos 8) ∷ at_the_other (pos 8) (pos 0) (pos 0) ∷ at_the_other (pos 9) (pos 1) (pos 0) ∷ [])
+unfolding modes near near_abs phase_state at_the_other
+three_other_way = refl
 
 -- ---- a breaker that is to open at 5 ps, with a margin of 2 nA
 

@@ -7,8 +7,10 @@ use Rattle.emtp_case.specs.declared.branch.Branch.TheVariants.{Lumped as OfLumpe
 use Rattle.emtp_case.specs.declared.branch.LineState.{LineState}
 use Rattle.emtp_case.specs.declared.branch.Lumped.{Lumped}
 use Rattle.emtp_case.specs.declared.branch.LumpedState.{LumpedState}
+use Rattle.emtp_case.specs.declared.branch.PhaseState.{PhaseState}
 use Rattle.emtp_case.specs.declared.case.Parts.{Parts}
 use Rattle.emtp_elim.specs.Matrix.{item}
+use Rattle.emtp_line.specs.Phases.{Modes, phase_from_history, phase_from_waves, phase_to_history, phase_to_waves, zero_from_waves, zero_to_waves}
 use Rattle.emtp_lumped.specs.Step.{history_voltage_of}
 use Rattle.emtp_lumped.specs.declared.companion.Companion.{Companion}
 
@@ -59,6 +61,23 @@ AreWavesWithin limit waves = (k : ℕ) → unsigned_abs (item waves k) ≤ limit
 pub record AreHistoriesWithin (limit : ℕ) (histories : ℤ × ℤ) : Type 0 where
   pub at_from : unsigned_abs histories.0 ≤ limit
   pub at_to : unsigned_abs histories.1 ≤ limit
+
+-- the waves from which the history currents of a phase of a three-phase line come: those of the zero sequence, which phase 0 keeps,
+-- and those of the phase itself
+pub record ArePhaseWavesWithin (zero_limit limit : ℕ) (first past : List PhaseState) : Type 0 where
+  pub zero_from : AreWavesWithin zero_limit (zero_from_waves first)
+  pub zero_to : AreWavesWithin zero_limit (zero_to_waves first)
+  pub own_from : AreWavesWithin limit (phase_from_waves past)
+  pub own_to : AreWavesWithin limit (phase_to_waves past)
+
+-- the history currents of a phase at both ends
+abbrev pub phase_histories : Modes → List PhaseState → List PhaseState → ℤ × ℤ
+phase_histories m first past = (phase_from_history m first past, phase_to_history m first past)
+
+-- no history current of a phase exceeds the greatest waves of both kinds but for 2 nA of rounding
+abbrev pub DoesNotAmplify : Modes → Type 0
+DoesNotAmplify m =
+    (first past : List PhaseState) (zero_limit limit : ℕ) → ArePhaseWavesWithin zero_limit limit first past → AreHistoriesWithin (zero_limit + limit + 2) (phase_histories m first past)
 
 -- the branch at place b is this resistor: it has neither inductance nor capacitance
 pub record IsResistorAt (case : Parts) (b : ℕ) (x : Lumped) : Type 0 where

@@ -5,3 +5,4 @@ pub mod Branches
 pub mod Mirror
 pub mod Runs
 pub mod Control
+pub mod Causality

@@ -29,11 +29,21 @@ AreSourcesKept case [] = Unit {0}
 AreSourcesKept case (r ∷ []) = Unit {0}
 AreSourcesKept case (r ∷ s ∷ past) = KeepSources case (s ∷ past) r.voltages
 
--- ---- currents
-
 -- the groups of nodes that closed switches join in the step after the records: nodes of one group have one label
 abbrev pub labels_next : Parts → List StepRecord → List ℕ
 labels_next case H = labels_of case.switches (order_of case) (next_states case H)
+
+-- each node that closed switches join to ground in the step after the records, through other nodes too, is exactly at 0
+abbrev pub KeepsGround : Parts → List StepRecord → List ℤ → Type 0
+KeepsGround case H voltages = (n : ℕ) → n ≤ length case.nodes → slice_index (labels_next case H) n ≡ slice_index (labels_next case H) 0 → item voltages n ≡ pos 0
+
+-- the same in the last record of a run, after the ones before it; in record 0 all is 0
+abbrev pub IsGroundKept : Parts → List StepRecord → Type 0
+IsGroundKept case [] = Unit {0}
+IsGroundKept case (r ∷ []) = Unit {0}
+IsGroundKept case (r ∷ s ∷ past) = KeepsGround case (s ∷ past) r.voltages
+
+-- ---- currents
 
 -- the root of the group of a node
 abbrev pub root_next : Parts → List StepRecord → ℕ → ℕ

@@ -1,8 +1,29 @@
--- A three-phase line whose phases have other numbers. Each order of three phases comes from these two changes, one after the
+-- A three-phase line that is put in the other way round, and one whose phases have other numbers. Each order of three phases comes from these two changes, one after the
 -- other.
-use Rattle.std.specs.Prelude.{◌≡◌, ◌+◌, ◌-◌, ◌%◌, ◌∷◌, [], List, ℕ, ℤ}
+use Rattle.std.specs.Prelude.{◌≡◌, ◌+◌, ◌-◌, ◌%◌, ◌∷◌, [], List, Result, Ok, Err, map, ℕ, ℤ}
 use Rattle.emtp_case.specs.declared.branch.PhaseState.{PhaseState}
-use Rattle.emtp_line.specs.Phases.{Modes, from_histories, of_phase, phase_currents, phase_from_waves, phase_to_waves, phase_waves, to_histories, zero_from_waves, zero_to_waves, zero_wave}
+use Rattle.emtp_line.specs.Phases.{Modes, from_histories, next_phases, of_phase, phase_currents, phase_from_waves, phase_to_waves, phase_waves, to_histories, zero_from_waves, zero_to_waves, zero_wave}
+use Rattle.emtp_line.specs.declared.phase_states.PhaseRange.{PhaseRange}
+
+-- what is kept of a phase, seen from the other end
+abbrev pub reversed_phase : PhaseState → PhaseState
+reversed_phase s = record {
+  from_current = s.to_current;
+  to_current = s.from_current;
+  from_wave = s.to_wave;
+  to_wave = s.from_wave;
+  from_zero_wave = s.to_zero_wave;
+  to_zero_wave = s.from_zero_wave;
+}
+
+-- the next step of a line, seen from the other end; the first phase that is out of range is the same
+abbrev pub reversed_phases : Result (List PhaseState) PhaseRange → Result (List PhaseState) PhaseRange
+reversed_phases (Ok states) = Ok (map reversed_phase states)
+reversed_phases (Err out) = Err out
+
+-- with the voltages of its ends exchanged each phase has at each end what it had at the other
+abbrev pub AnswersReversed : Modes → Type 0
+AnswersReversed m = (past : ℕ → List PhaseState) (v w : List ℤ) → next_phases m (λ p. map reversed_phase (past p)) w v ≡ reversed_phases (next_phases m past v w)
 
 -- a new number of the phases: which phase of before each of them is
 pub record Renumbering : Type 0 where

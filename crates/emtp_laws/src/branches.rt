@@ -1,6 +1,6 @@
 //! What is true of the branches of a network. The functions do nothing: their clauses are proved.
 
-ghost use Rattle.std.specs.Prelude.{◌≡◌, ◌+◌, ℕ, ℤ, pos, List, Some, length, map, option_map, slice_get};
+ghost use Rattle.std.specs.Prelude.{◌≡◌, ◌+◌, ◌<◌, ℕ, ℤ, pos, List, Some, length, map, option_map, slice_get};
 ghost use Rattle.emtp_case.specs.StepRecord.{StepRecord, latest, no_lumped};
 ghost use Rattle.emtp_case.specs.Sums.{sum_below};
 ghost use Rattle.emtp_case.specs.declared.branch.Branch.TheVariants.{Line as OfLine, Lumped as OfLumped};
@@ -8,17 +8,18 @@ ghost use Rattle.emtp_case.specs.declared.branch.Line.{Line};
 ghost use Rattle.emtp_case.specs.declared.branch.LineState.{LineState};
 ghost use Rattle.emtp_case.specs.declared.branch.Lumped.{Lumped};
 ghost use Rattle.emtp_line.specs.Line.{from_waves, line_histories, next_state, to_waves};
+ghost use Rattle.emtp_line.specs.Lines.{trio_of};
 ghost use Rattle.emtp_line.specs.Mode.{mode_of_line};
-ghost use Rattle.emtp_line.specs.Phases.{Modes};
+ghost use Rattle.emtp_line.specs.Phases.{Modes, modes_of};
 ghost use Rattle.emtp_case.specs.declared.branch.LumpedState.{LumpedState};
 ghost use Rattle.emtp_lumped.specs.Companion.{companion_of};
 ghost use Rattle.emtp_lumped.specs.Lumps.{newest, next_of};
 ghost use Rattle.emtp_machine.specs.Laws.{records_upto};
 ghost use Rattle.emtp_net.specs.System.{conductances, couplings};
 ghost use Rattle.emtp_rows.specs.Nodal.{current_entry};
-ghost use Rattle.emtp_laws.specs.Branches.{AddsUpDrops, AreHistoriesWithin, AreWavesWithin, HasItsHistoryVoltage, HasTwoPolesAlone, IsResistorAt, TakesPower, reversed_line, reversed_series, voltage_across};
+ghost use Rattle.emtp_laws.specs.Branches.{AddsUpDrops, AreHistoriesWithin, AreWavesWithin, DoesNotAmplify, HasItsHistoryVoltage, HasTwoPolesAlone, IsResistorAt, TakesPower, reversed_line, reversed_series, voltage_across};
 ghost use Rattle.emtp_laws.specs.Mirror.{mirrored_lumped};
-ghost use Rattle.emtp_laws.specs.Phases.{AnswersBy, cycled, exchanged};
+ghost use Rattle.emtp_laws.specs.Phases.{AnswersBy, AnswersReversed, cycled, exchanged};
 
 use emtp_case::Case;
 
@@ -44,10 +45,22 @@ pub fn line_does_not_amplify(case: &Case)
     ensures { (b : ℕ) (x : Line) (past : List LineState) (limit : ℕ) → slice_get case.now.parts.branches b ≡ Some (OfLine x) → AreWavesWithin limit (from_waves past) → AreWavesWithin limit (to_waves past) → AreHistoriesWithin (limit + 1) (line_histories (mode_of_line case.now.parts.run.dt x) past) }
 {}
 
+/// Neither does a transposed three-phase line: the history current of a phase at an end is at most the greatest past wave of the
+/// zero sequence and the greatest one of the phase, of both ends, and 2 nA of rounding.
+pub fn three_phase_line_does_not_amplify(case: &Case)
+    ensures { (t : ℕ) → t < length case.now.parts.trios → DoesNotAmplify (modes_of case.now.parts.run.dt (trio_of case.now.parts t)) }
+{}
+
 /// A line that is put in the other way round answers alike: with the voltages of its ends exchanged, each end has what the other
 /// one had, to the last digit.
 pub fn reversed_line_answers_alike(case: &Case)
     ensures { (x : Line) (past : List LineState) (v w : ℤ) → next_state (mode_of_line case.now.parts.run.dt x) (map reversed_line past) w v ≡ option_map reversed_line (next_state (mode_of_line case.now.parts.run.dt x) past v w) }
+{}
+
+/// So does a transposed three-phase line: with the voltages of its ends exchanged, each phase has at each end what it had at the
+/// other, or the same phase is the first out of range.
+pub fn reversed_three_phase_line_answers_alike()
+    ensures { (m : Modes) → AnswersReversed m }
 {}
 
 /// A transposed three-phase line whose phases have other numbers answers by these numbers, to the last digit: each phase has the

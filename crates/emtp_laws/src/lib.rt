@@ -21,7 +21,8 @@ mod switches;
 pub use branches::{
     conductances_add_up_to_zero, conductances_are_symmetric, line_does_not_amplify,
     renumbered_phases_answer_renumbered, resistor_takes_power, reversed_line_answers_alike,
-    reversed_series_branch_answers_opposite, series_voltage_is_the_sum_of_its_drops,
+    reversed_series_branch_answers_opposite, reversed_three_phase_line_answers_alike,
+    series_voltage_is_the_sum_of_its_drops, three_phase_line_does_not_amplify,
 };
 pub use control::{
     block_variables_have_their_outputs, block_variables_lie_between_their_limits,
@@ -32,7 +33,11 @@ pub use mirror::{
     network_is_blind_to_the_control, quiet_network_stays_at_rest,
 };
 pub use nodes::{
-    closed_switch_has_no_voltage, currents_at_each_node_add_up_to_zero, voltage_sources_are_exact,
+    closed_switch_has_no_voltage, currents_at_each_node_add_up_to_zero,
+    grounded_nodes_have_no_voltage, voltage_sources_are_exact,
 };
-pub use runs::{ends_name_what_they_blame, longer_run_begins_alike, samples_are_counted};
+pub use runs::{
+    ends_name_what_they_blame, longer_run_begins_alike, runs_agree_until_sources_differ,
+    runs_agree_until_sources_end, samples_are_counted,
+};
 pub use switches::{breaker_opens_near_zero_current, idle_switches_have_no_current};
