@@ -1,5 +1,5 @@
 -- Two lines without a faulty byte that agree under the ruler of one of them give the same supplemental card.
-use Rattle.std.proofs.Common.{◌≡◌, ◌∙◌, sym, ap, subst, refl, ℕ, zero, suc, ◌+◌, ◌-◌, ◌<◌, ◌≤◌, Bool, true, false, List, [], ◌∷◌, get_or, length, arith, lit≤}
+use Rattle.std.proofs.Common.{◌≡◌, ◌∙◌, sym, ap, subst, refl, ℕ, zero, suc, ◌+◌, ◌-◌, ◌<◌, ◌≤◌, Bool, true, false, List, [], ◌∷◌, get_or, length, take, arith, lit≤}
 use Rattle.std.specs.Prelude.{nat_lt, ◌==◌, not, ◌&&◌, cond, Option, Some, None}
 use Rattle.std.specs.List.{list_all}
 use Rattle.std.proofs.lemmas.Bool.Decides.{nat_tests}
@@ -11,7 +11,7 @@ use Rattle.emtp_card.proofs.Blanks.{is_blank_means, without_trailing-blanks}
 use Rattle.emtp_card.proofs.LineEnds.{trailing-alike}
 use Rattle.emtp_taccards.specs.ExtraCard.{extra_card, is_empty, is_formula}
 use Rattle.emtp_taccards.proofs.LineEnds.{extra_card_alike}
-use Rattle.emtp_warnings.proofs.Agreeing.{marked_byte, text_under}
+use Rattle.emtp_warnings.proofs.Agreeing.{is_mark, marked_byte, text_under}
 use Rattle.emtp_warnings.proofs.ControlCards.{device_under}
 use Rattle.emtp_warnings.proofs.NetworkCards.{either}
 use Rattle.emtp_warnings.specs.Law.{AgreeUnder, AreFaultless}
@@ -31,7 +31,7 @@ all_blank_same (a ∷ xs) [] h = all_blank (a ∷ xs) h
 all_blank_same (a ∷ xs) (b ∷ ys) h =
     ap (λ (c : ℕ). is_blank c && list_all is_blank xs) (h zero) ∙ ap (λ (t : Bool). is_blank b && t) (all_blank_same xs ys (λ place. h (suc place)))
 
-trailing_same : (x y : List ℕ) → ((place : ℕ) → get_or x place 32 ≡ get_or y place 32) → without_trailing x ≡ without_trailing y
+pub trailing_same : (x y : List ℕ) → ((place : ℕ) → get_or x place 32 ≡ get_or y place 32) → without_trailing x ≡ without_trailing y
 trailing_same [] [] h = refl
 trailing_same [] (b ∷ ys) h = sym (without_trailing-blanks (b ∷ ys) (sym (all_blank_same [] (b ∷ ys) h)))
 trailing_same (a ∷ xs) [] h = without_trailing-blanks (a ∷ xs) (all_blank_same (a ∷ xs) [] h)
@@ -73,15 +73,15 @@ past_80 (byte ∷ bytes) column (suc place) e far =
     past_80 bytes (column + 1) place (later_none (fault_of_byte column byte) column (first_fault (column + 1) bytes) e) (omega arith)
 
 module _ (x y : List ℕ) (sound : AreFaultless x y) where
-  -- lines that agree in all 80 columns
-  same_everywhere : AgreeUnder FORMULA.now x y → (place : ℕ) → get_or x place 32 ≡ get_or y place 32
+  -- lines that agree under a ruler of 80 marks
+  pub same_everywhere : (ruler : List ℕ) → 80 ≤ length ruler → list_all is_mark (take 80 ruler) ≡ true → AgreeUnder ruler x y → (place : ℕ) → get_or x place 32 ≡ get_or y place 32
   unfolding fault_of_line
-  same_everywhere h place =
+  same_everywhere ruler long marks h place =
       either (nat_lt place 80)
       (λ e.
       let low : place < 80 = near_by place 80 e in
       let same : 1 + place - 1 ≡ place = omega arith in
-      subst (λ (n : ℕ). get_or x n 32 ≡ get_or y n 32) same (h.marked (1 + place) (omega arith) (marked_byte FORMULA.now 1 80 place (lit≤ tt) (lit≤ tt) refl (omega arith))))
+      subst (λ (n : ℕ). get_or x n 32 ≡ get_or y n 32) same (h.marked (1 + place) (omega arith) (marked_byte ruler 1 80 place (lit≤ tt) long marks (omega arith))))
       (λ e.
       let high : 80 ≤ place = not_near place 80 e in
       is_blank_means (get_or x place 32) (past_80 x 1 place sound.one (omega arith)) ∙ sym (is_blank_means (get_or y place 32) (past_80 y 1 place sound.other (omega arith))))
@@ -89,7 +89,7 @@ module _ (x y : List ℕ) (sound : AreFaultless x y) where
   formula_same : (number : ℕ) → AgreeUnder FORMULA.now x y → extra_card number x ≡ extra_card number y
   formula_same number h =
       extra_card_alike x (without_trailing x) (trailing-alike x) number
-      ∙ ap (extra_card number) (trailing_same x y (same_everywhere h))
+      ∙ ap (extra_card number) (trailing_same x y (same_everywhere FORMULA.now (lit≤ tt) refl h))
       ∙ sym (extra_card_alike y (without_trailing y) (trailing-alike y) number)
 
   no_formula : (text : List ℕ) → (length text == 0) ≡ false → is_empty text ≡ false

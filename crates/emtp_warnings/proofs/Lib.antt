@@ -2,6 +2,7 @@ pub mod Adding
 pub mod Agreeing
 pub mod ControlCards
 pub mod ExtraCards
+mod ControlSources
 pub mod Growing
 pub mod NetworkCards
 pub mod OutputCards

@@ -10,7 +10,8 @@ use Rattle.emtp_netcards.specs.SourceCard as sources
 use Rattle.emtp_netcards.specs.SwitchCard as switches
 use Rattle.emtp_netcards.specs.declared.point_card.PointScale.{PointScale}
 use Rattle.emtp_taccards.specs.PolynomialCard.{polynomial_card}
-use Rattle.emtp_warnings.specs.Marked.{output_ruler, point_ruler, polynomial_ruler, ruler_of_kind, source_ruler, switch_ruler}
+use Rattle.emtp_taccards.specs.TacsSourceCard.{tacs_source_card}
+use Rattle.emtp_warnings.specs.Marked.{output_ruler, point_ruler, polynomial_ruler, ruler_of_kind, source_ruler, switch_ruler, tacs_source_ruler}
 use Rattle.emtp_warnings.specs.Section.{ends_points, names_another}
 
 -- two lines agree in all columns that a ruler marks; columns past a line's end are blank
@@ -46,6 +47,9 @@ switch_card_ruler number line = switch_ruler (switches.is_measuring line) (switc
 
 abbrev pub source_card_ruler : ℕ → List ℕ → List ℕ
 source_card_ruler number line = source_ruler (sources.type_field line)
+
+abbrev pub tacs_source_card_ruler : ℕ → List ℕ → List ℕ
+tacs_source_card_ruler number line = tacs_source_ruler (tacs_source_card number line)
 
 abbrev pub output_card_ruler : ℕ → List ℕ → List ℕ
 output_card_ruler number line = output_ruler (output_card number line)

@@ -7,7 +7,8 @@ ghost use Rattle.emtp_netcards.specs.SwitchCard.{switch_card};
 ghost use Rattle.emtp_taccards.specs.BlockCard.{block_card};
 ghost use Rattle.emtp_taccards.specs.ExtraCard.{extra_card};
 ghost use Rattle.emtp_taccards.specs.TacsOutputCard.{tacs_output_card};
-ghost use Rattle.emtp_warnings.specs.Law.{AreBranchesReadUnder, ArePointsReadUnder, ArePolynomialsReadUnder, IsReadUnder, IsReadUnderUnlessEnd, output_card_ruler, source_card_ruler, switch_card_ruler};
+ghost use Rattle.emtp_taccards.specs.TacsSourceCard.{tacs_source_card};
+ghost use Rattle.emtp_warnings.specs.Law.{AreBranchesReadUnder, ArePointsReadUnder, ArePolynomialsReadUnder, IsReadUnder, IsReadUnderUnlessEnd, output_card_ruler, source_card_ruler, switch_card_ruler, tacs_source_card_ruler};
 ghost use Rattle.emtp_warnings.specs.Marked.{extra_ruler};
 ghost use Rattle.emtp_warnings.specs.declared.rulers.TheConstants.{BLOCK, FIRST_RUN, NAMES, SECOND_RUN, TOLERANCE};
 
@@ -25,10 +26,11 @@ pub fn unmarked_columns_of_the_network_dont_matter()
     ensures output { IsReadUnder output_card_ruler output_card }
 {}
 
-/// The same of blocks, their polynomials, supplemental cards and outputs of the control.
+/// The same of blocks, their polynomials, sources, supplemental cards and outputs of the control.
 pub fn unmarked_columns_of_the_control_dont_matter()
     ensures block { IsReadUnder (λ number line. BLOCK.now) block_card }
     ensures polynomial { ArePolynomialsReadUnder }
+    ensures source { IsReadUnder tacs_source_card_ruler tacs_source_card }
     ensures extra { IsReadUnder (λ number line. extra_ruler line) extra_card }
     ensures output { IsReadUnder (λ number line. NAMES.now) tacs_output_card }
 {}

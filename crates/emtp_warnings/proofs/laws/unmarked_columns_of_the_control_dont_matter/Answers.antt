@@ -1,4 +1,5 @@
 use Rattle.emtp_warnings.proofs.ControlCards.{block_under}
+use Rattle.emtp_warnings.proofs.ControlSources.{tacs_source_under}
 use Rattle.emtp_warnings.proofs.ExtraCards.{extra_under}
 use Rattle.emtp_warnings.proofs.OutputCards.{tacs_output_under}
 use Rattle.emtp_warnings.proofs.PolynomialCards.{polynomial_under}
@@ -8,6 +9,7 @@ pub returns : goal.returns
 returns c = record {
   block = block_under;
   polynomial = λ order few x y sound number h. polynomial_under x y sound order few number h;
+  source = tacs_source_under;
   extra = extra_under;
   output = tacs_output_under;
 }
