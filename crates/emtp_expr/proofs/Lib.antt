@@ -13,3 +13,5 @@ pub mod NamePlaces
 pub mod TreeValues
 pub mod TextEnds
 pub mod ValueRanges
+pub mod Longest
+mod Worked

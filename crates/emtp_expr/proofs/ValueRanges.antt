@@ -1,10 +1,10 @@
 -- A value of an expression is in range where the values of its names and its numbers are.
-use Rattle.std.proofs.Common.{◌≡◌, ◌≤◌, ◌+◌, ◌*◌, ◌/◌, ℕ, zero, suc, ℤ, pos, negsuc, neg_ℤ, ◌+ℤ◌, ◌-ℤ◌, ◌*ℤ◌, unsigned_abs, Bool, true, false, All, List, [], ◌∷◌, Option, Some, None, IfSome, refl, arith}
+use Rattle.std.proofs.Common.{◌+◌, ℕ, ℤ, pos, negsuc, neg_ℤ, ◌+ℤ◌, ◌-ℤ◌, ◌*ℤ◌, unsigned_abs, Bool, true, false, All, List, [], ◌∷◌, Option, Some, None, IfSome, arith}
 use Rattle.std.proofs.Math.Nat.{div-mul-le_self}
 use Rattle.std.proofs.lemmas.Int.{ints}
 use Rattle.std.proofs.lemmas.List.Elements.{All-cons, All-head, All-nil, All-tail}
 use Rattle.std.specs.Ordering.{int_eq}
-use Rattle.std.specs.Prelude.{int_lt, if◌then◌else◌, slice_index_or, length}
+use Rattle.std.specs.Prelude.{int_lt, if◌then◌else◌}
 use Rattle.emtp_case.specs.Expr.{FitsPlaces}
 use Rattle.emtp_case.specs.declared.expr.BinaryOp.{BinaryOp}
 use Rattle.emtp_case.specs.declared.expr.BinaryOp.TheVariants.{Add, Sub, Mul, Div, Gt, Ge, Lt, Le, Eq, Ne, And, Or}
@@ -16,7 +16,7 @@ use Rattle.emtp_fix.proofs.Ranges.{IsSmall, in_range-within, item_small}
 use Rattle.emtp_fix.specs.Limit.{in_range}
 use Rattle.emtp_fix.specs.Root.{isqrt}
 use Rattle.emtp_fix.specs.Rounding.{near}
-use Rattle.emtp_fix.specs.declared.limit.TheConstants.{LARGEST_VALUE, NANO}
+use Rattle.emtp_fix.specs.declared.limit.TheConstants.{NANO}
 use Rattle.emtp_expr.specs.Value.{AreInRange, after, after_all, binary, divided, only, push_value, signum, square_root, truth, unary, value, whole}
 
 -- ---- operators

@@ -28,7 +28,7 @@ use Rattle.emtp_net.specs.System.{right}
 use Rattle.emtp_rows.specs.Nodal.{nodal_matrix}
 use Rattle.emtp_tacs.specs.Step.{Measured, control_step}
 use Rattle.emtp_wave.specs.Wave.{active_value}
-use Rattle.emtp_laws.specs.Causality.{as_far_as}
+use Rattle.emtp_laws.specs.Causality.{DifferInLaterStops, as_far_as}
 use Rattle.emtp_laws.specs.Control.{solved_output}
 use Rattle.emtp_laws.specs.Mirror.{bare_records, mirror_image, without_control}
 
@@ -50,9 +50,11 @@ feeding stop = record (empty_parts run) {
 voltages_upto : Parts → ℕ → List (List ℤ)
 voltages_upto case n = map (λ (r : StepRecord). r.voltages) (records_upto case n)
 
--- one that ends at the time of step 1 and one that doesn't are the same as far as that time, and another one a picosecond later
-same_so_far : as_far_as (pos (10 ^ 8)) (source_until (Some (pos (10 ^ 8)))) ≡ as_far_as (pos (10 ^ 8)) (source_until None)
-same_so_far = refl
+-- one that ends at the time of step 1 and one that doesn't differ in a later end alone, as far as that step; a picosecond later
+-- the end is seen
+later_end : DifferInLaterStops 1 (feeding None) (feeding (Some (pos (10 ^ 8))))
+unfolding feeding
+later_end = record { else_same = refl; network = refl; control = refl }
 
 not_longer : as_far_as (pos (10 ^ 8 + 1)) (source_until (Some (pos (10 ^ 8)))) ≡ source_until (Some (pos (10 ^ 8)))
 not_longer = refl
