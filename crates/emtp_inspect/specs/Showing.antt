@@ -1,58 +1,47 @@
 -- How a call ends that reads a file and tells what was read.
-use Rattle.std.specs.Prelude.{◌≡◌, ◌∷◌, [], List, Option, Some, None, Result, Ok, Err, IfOk, IsTrue, if◌then◌else◌, ℕ}
+use Rattle.std.specs.Prelude.{◌≡◌, ◌∷◌, [], List, Option, Some, None, Result, Ok, Err, IfOk, IsTrue, ℕ}
 use Rattle.std.specs.declared.alloc.Global.{Global}
 use Rattle.std.specs.declared.vec.Vec.{Vec}
 use Rattle.emtp_inspect.specs.Telling.{told_of}
 use Rattle.emtp_inspect.specs.declared.telling.Told.{Told}
-use Rattle.emtp_inspect.specs.declared.telling.Told.TheVariants.{Listing, Refusal}
+use Rattle.emtp_inspect.specs.declared.telling.Told.TheVariants.{Answer, Refusal}
+use Rattle.emtp_inspect.specs.declared.words.Wanted.{Wanted}
 use Rattle.emtp_io.specs.Cabinet.{CabinetState}
 use Rattle.emtp_io.specs.declared.whole.ReadEnd.{ReadEnd}
 use Rattle.emtp_io.specs.declared.whole.ReadEnd.TheVariants.{Failed, NoMemory as Wanting}
 use Rattle.emtp_run.specs.Command.{text_file}
 use Rattle.emtp_run.specs.Inputs.{ReadsInputs, content}
 use Rattle.emtp_run.specs.Outcome.{Ends, EndsAfterReading, Outcome, refusal, summarised, usage}
-use Rattle.emtp_run.specs.Words.{is_name}
 use Rattle.emtp_run.specs.declared.status.Status.{Status}
 use Rattle.emtp_run.specs.declared.status.Status.TheVariants.{BadCard, NoMemory, ReadFault}
 
--- ---- what is asked for
-
-abbrev pub named : List ℕ → Option (List ℕ)
-named word = if is_name word then Some word else None
-
--- the one word names a file
-abbrev pub asked : List (List ℕ) → Option (List ℕ)
-asked [] = None
-asked (word ∷ []) = named word
-asked (word ∷ next ∷ more) = None
-
 -- ---- what it comes to
 
--- a listing leaves a summary, a refusal its note
+-- an answer leaves a summary, a refusal its note
 abbrev pub told_outcome : Told → Outcome
-told_outcome (Listing text) = summarised text
+told_outcome (Answer text) = summarised text
 told_outcome (Refusal text) = refusal BadCard text
 
 -- what comes after the reading of a file, by its bytes or by why it couldn't be read
-abbrev pub TellsOf : Result (Vec ℕ Global) ReadEnd → Status → CabinetState → CabinetState → Type 0
-TellsOf (Ok bytes) status old new = EndsAfterReading status (told_outcome (told_of bytes.items)) old new
-TellsOf (Err Failed) status old new = (status ≡ ReadFault) × (new ≡ old)
-TellsOf (Err Wanting) status old new = (status ≡ NoMemory) × (new ≡ old)
+abbrev pub TellsOf : Wanted → Result (Vec ℕ Global) ReadEnd → Status → CabinetState → CabinetState → Type 0
+TellsOf wanted (Ok bytes) status old new = EndsAfterReading status (told_outcome (told_of wanted bytes.items)) old new
+TellsOf wanted (Err Failed) status old new = (status ≡ ReadFault) × (new ≡ old)
+TellsOf wanted (Err Wanting) status old new = (status ≡ NoMemory) × (new ≡ old)
 
--- a file is read, as the commands of `emtp` read theirs, and then what it holds is told
-pub record Shows (name : List ℕ) (status : Status) (old new : CabinetState) : Type 0 where
+-- a file is read, as the commands of `emtp` read theirs, and then what is wanted of it is told
+pub record Shows (wanted : Wanted) (name : List ℕ) (status : Status) (old new : CabinetState) : Type 0 where
   -- the cabinet once the file was read, and its bytes or why they aren't there
   pub between : CabinetState
   pub end : Result (Vec ℕ Global) ReadEnd
   pub reading : ReadsInputs (text_file name ∷ []) old between end
   pub bytes : IsTrue old.nature.tells → IfOk end (λ v. content old.nature.files (text_file name) ≡ Some v.items)
-  pub telling : TellsOf end status between new
+  pub telling : TellsOf wanted end status between new
 
 -- words that don't fit leave the note of usage, and open no file
 pub record RefusesWords (status : Status) (old new : CabinetState) : Type 0 where
   pub unread : new.unread ≡ old.unread
   pub ends : Ends status (Some usage) old new
 
-abbrev pub Inspects : Option (List ℕ) → Status → CabinetState → CabinetState → Type 0
+abbrev pub Inspects : Option (Wanted × List ℕ) → Status → CabinetState → CabinetState → Type 0
 Inspects None status old new = RefusesWords status old new
-Inspects (Some name) status old new = Shows name status old new
+Inspects (Some a) status old new = Shows a.0 a.1 status old new

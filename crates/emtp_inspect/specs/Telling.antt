@@ -1,5 +1,5 @@
 -- What is told of the bytes of a file.
-use Rattle.std.specs.Prelude.{◌-◌, ◌++◌, List, [], Option, Some, None, Result, Ok, Err, codes, slice_get, take, ℕ}
+use Rattle.std.specs.Prelude.{◌-◌, ◌++◌, List, [], Option, Some, None, Result, Ok, Err, codes, decimal, length, slice_get, take, ℕ}
 use Rattle.emtp_card.specs.Cards.{size_fault}
 use Rattle.emtp_card.specs.Lines.{lines_of}
 use Rattle.emtp_card.specs.declared.reason.Bad.{Bad}
@@ -7,11 +7,15 @@ use Rattle.emtp_case.specs.declared.case.Parts.{Parts}
 use Rattle.emtp_deck.specs.Deck.{deck_of}
 use Rattle.emtp_inspect.specs.Section.{place_before, section_text, whole_count}
 use Rattle.emtp_inspect.specs.declared.telling.Told.{Told}
-use Rattle.emtp_inspect.specs.declared.telling.Told.TheVariants.{Listing, Refusal}
+use Rattle.emtp_inspect.specs.declared.telling.Told.TheVariants.{Answer, Refusal}
+use Rattle.emtp_inspect.specs.declared.words.Wanted.{Wanted}
+use Rattle.emtp_inspect.specs.declared.words.Wanted.TheVariants.{Listing, WarningCount}
 use Rattle.emtp_listing.specs.Lines.{lines_text}
 use Rattle.emtp_listing.specs.Listing.{listing}
-use Rattle.emtp_walk.specs.declared.deck.Place.{Place}
 use Rattle.emtp_run.specs.Note.{card_note}
+use Rattle.emtp_walk.specs.declared.deck.Place.{Place}
+use Rattle.emtp_warnings.specs.WarningText.{warnings_text}
+use Rattle.emtp_warnings.specs.Warnings.{warnings}
 
 -- ---- the records of the first lines
 
@@ -48,19 +52,26 @@ refused_at lines bad place =
 abbrev pub refused_text : List (List ℕ) → Bad → List ℕ
 refused_text lines bad = refused_at lines bad (place_before lines (bad.line - 1))
 
+-- ---- a case that is accepted
+
+-- its listing and below it its warnings, or how many these are
+abbrev pub answer_text : Wanted → List (List ℕ) → Parts → List ℕ
+answer_text Listing lines case = listing case ++ warnings_text (warnings lines case)
+answer_text WarningCount lines case = decimal (length (warnings lines case)) ++ codes "\n"
+
 -- ---- the whole
 
-abbrev pub told_case : List (List ℕ) → Result Parts Bad → Told
-told_case lines (Ok case) = Listing (listing case)
-told_case lines (Err bad) = Refusal (refused_text lines bad)
+abbrev pub told_case : Wanted → List (List ℕ) → Result Parts Bad → Told
+told_case wanted lines (Ok case) = Answer (answer_text wanted lines case)
+told_case wanted lines (Err bad) = Refusal (refused_text lines bad)
 
-abbrev pub told_of_lines : List (List ℕ) → Told
-told_of_lines lines = told_case lines (deck_of lines)
+abbrev pub told_of_lines : Wanted → List (List ℕ) → Told
+told_of_lines wanted lines = told_case wanted lines (deck_of lines)
 
 -- of too many lines or bytes none are read
-abbrev pub told_sized : Option Bad → List (List ℕ) → Told
-told_sized (Some bad) lines = Refusal (card_note bad)
-told_sized None lines = told_of_lines lines
+abbrev pub told_sized : Wanted → Option Bad → List (List ℕ) → Told
+told_sized wanted (Some bad) lines = Refusal (card_note bad)
+told_sized wanted None lines = told_of_lines wanted lines
 
-abbrev pub told_of : List ℕ → Told
-told_of bytes = told_sized (size_fault bytes) (lines_of bytes)
+abbrev pub told_of : Wanted → List ℕ → Told
+told_of wanted bytes = told_sized wanted (size_fault bytes) (lines_of bytes)

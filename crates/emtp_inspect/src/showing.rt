@@ -1,62 +1,39 @@
 //! The file that is read, and the output that is made.
-ghost use Rattle.std.specs.Prelude.{◌≡◌, ◌∷◌, [], None, Some, IfOk, IsTrue, option_map};
-ghost use Rattle.emtp_inspect.specs.Showing.{Inspects, Shows, asked, named, told_outcome};
+ghost use Rattle.std.specs.Prelude.{◌≡◌, ◌∷◌, [], None, Some, IfOk, IsTrue};
+ghost use Rattle.emtp_inspect.specs.Asking.{asked};
+ghost use Rattle.emtp_inspect.specs.Showing.{Inspects, Shows, told_outcome};
 ghost use Rattle.emtp_inspect.specs.Telling.{told_of};
 ghost use Rattle.emtp_io.specs.Writes.{Makes};
 ghost use Rattle.emtp_run.specs.Command.{text_file};
 ghost use Rattle.emtp_run.specs.Inputs.{ReadsInputs, content};
 ghost use Rattle.emtp_run.specs.Outcome.{EndsAfterReading, Ends, note, refusal, summarised, summary, usage};
-ghost use Rattle.emtp_run.specs.Words.{is_name, texts};
+ghost use Rattle.emtp_run.specs.Words.{texts};
 
 use crate::telling::{Told, tell};
+use crate::words::{Wanted, read_words};
 use emtp_card::MAX_BYTES;
 use emtp_io::{Cabinet, Failed, Output, ReadEnd, read_all, write_all};
 use emtp_run::Status;
 use std::alloc::Global;
 
-/// Does what the words after the program's name ask for: the one word names the file of a case, which is read, and what was
-/// read is told. The status is Done where it is a case, BadCard where a card is refused, and Usage where the words don't fit.
+/// Does what the words after the program's name ask for: the last word names the file of a case, which is read, and what
+/// was read is told with its warnings, or, behind the word `--count`, how many warnings there are. The status is Done where
+/// it is a case, BadCard where a card is refused, and Usage where the words don't fit.
 pub fn inspect<C: Cabinet>(alloc: Global, words: &[String], cabinet: &mut C) -> Status
     ensures { Inspects (asked (texts words.now)) result (C.state cabinet.old) (C.state cabinet.new) }
 {
-    match read_word(words) {
-        Some(name) => show(alloc, name, cabinet),
+    match read_words(words) {
+        Some((wanted, name)) => show(alloc, wanted, name, cabinet),
         None => refuse_words(cabinet),
     }
 }
 
-/// The file that the words name, where they fit.
-fn read_word(words: &[String]) -> Option<&str>
-    ensures { option_map (λ name. name.now) result ≡ asked (texts words.now) }
-{
-    match words {
-        [word] => named(word.as_str()),
-        _ => None,
-    }
-}
-
-fn named<'a>(word: &'a str) -> Option<&'a str>
-    ensures { option_map (λ name. name.now) result ≡ named word.entry.now }
-{
-    if is_name(word) { Some(word) } else { None }
-}
-
-/// Whether a word names a file: it isn't empty and doesn't begin with a dash.
-fn is_name(word: &str) -> bool
-    ensures { result ≡ is_name word.now }
-{
-    match word.as_bytes() {
-        [] => false,
-        [first, ..] => *first != b'-',
-    }
-}
-
 /// Reads a file, and leaves what is told of it.
-fn show<C: Cabinet>(alloc: Global, name: &str, cabinet: &mut C) -> Status
-    ensures { Shows name.now result (C.state cabinet.old) (C.state cabinet.new) }
+fn show<C: Cabinet>(alloc: Global, wanted: Wanted, name: &str, cabinet: &mut C) -> Status
+    ensures { Shows wanted name.now result (C.state cabinet.old) (C.state cabinet.new) }
 {
     match read_file(alloc, name, cabinet) {
-        Ok(bytes) => leave(alloc, &bytes, cabinet),
+        Ok(bytes) => leave(alloc, wanted, &bytes, cabinet),
         Err(ReadEnd::Failed) => Status::ReadFault,
         Err(ReadEnd::NoMemory) => Status::NoMemory,
     }
@@ -73,10 +50,10 @@ fn read_file<C: Cabinet>(alloc: Global, name: &str, cabinet: &mut C) -> Result<V
 }
 
 /// Leaves what is told of these bytes, whole before any output is created.
-fn leave<C: Cabinet>(alloc: Global, bytes: &[u8], cabinet: &mut C) -> Status
-    ensures { EndsAfterReading result (told_outcome (told_of bytes.now)) (C.state cabinet.old) (C.state cabinet.new) }
+fn leave<C: Cabinet>(alloc: Global, wanted: Wanted, bytes: &[u8], cabinet: &mut C) -> Status
+    ensures { EndsAfterReading result (told_outcome (told_of wanted bytes.now)) (C.state cabinet.old) (C.state cabinet.new) }
 {
-    match tell(alloc, bytes) {
+    match tell(alloc, wanted, bytes) {
         Ok(told) => leave_told(&told, cabinet),
         Err(_) => Status::NoMemory,
     }
@@ -86,13 +63,13 @@ fn leave_told<C: Cabinet>(told: &Told, cabinet: &mut C) -> Status
     ensures { EndsAfterReading result (told_outcome told.now) (C.state cabinet.old) (C.state cabinet.new) }
 {
     match told {
-        Told::Listing(text) => leave_listing(cabinet, text.as_slice()),
+        Told::Answer(text) => leave_answer(cabinet, text.as_slice()),
         Told::Refusal(text) => refuse_card(cabinet, text.as_slice()),
     }
 }
 
 /// Makes the summary of a case that was read.
-fn leave_listing<C: Cabinet>(cabinet: &mut C, text: &[u8]) -> Status
+fn leave_answer<C: Cabinet>(cabinet: &mut C, text: &[u8]) -> Status
     ensures { EndsAfterReading result (summarised text.now) (C.state cabinet.old) (C.state cabinet.new) }
 {
     match make_summary(cabinet, text) {

@@ -1,61 +1,106 @@
 //! The text that the bytes of a file give.
-ghost use Rattle.std.specs.Prelude.{◌≡◌, ◌++◌, ◌≤◌, IfOk, codes, length, take};
+ghost use Rattle.std.specs.Prelude.{◌≡◌, ◌++◌, ◌≤◌, IfOk, codes, decimal, length, take};
 ghost use Rattle.emtp_inspect.specs.Section.{place_before};
-ghost use Rattle.emtp_inspect.specs.Telling.{ends_text, listed_front, listed_of, listed_lines_of, refused_at, refused_text, told_of, told_of_lines};
+ghost use Rattle.emtp_inspect.specs.Telling.{answer_text, ends_text, listed_front, listed_of, listed_lines_of, refused_at, refused_text, told_of, told_of_lines};
 ghost use Rattle.emtp_listing.specs.Lines.{lines_text};
 ghost use Rattle.emtp_listing.specs.Listing.{listing};
 ghost use Rattle.emtp_run.specs.Note.{card_note};
+ghost use Rattle.emtp_warnings.specs.WarningText.{warnings_text};
+ghost use Rattle.emtp_warnings.specs.Warnings.{warnings};
 
 use crate::note::put_bad;
 use crate::section::{lines_before, place_behind, put_section, whole_count};
+use crate::words::Wanted;
 use emtp_card::{Bad, Cards, Refused};
 use emtp_case::{Case, Items};
 use emtp_deck::read;
 use emtp_listing::listing;
-use emtp_text::put;
+use emtp_text::{put, put_number};
 use emtp_walk::Place;
+use emtp_warnings::{Warning, warnings, warnings_text};
 use std::alloc::{AllocError, Global};
 
 /// What is told of a file, each text with its line ends.
 #[derive(Drop)]
 pub enum Told {
-    /// The listing of its case.
-    Listing(Items<u8>),
+    /// What is wanted of its case.
+    Answer(Items<u8>),
     /// What is told of a card that is refused.
     Refusal(Items<u8>),
 }
 
-/// What is told of these bytes: the listing of their case; or, of a card that is refused, the records before it, its note,
-/// and as what it was read.
+/// What is told of these bytes: the listing of their case and its warnings, or how many warnings there are; or, of a card
+/// that is refused, the records before it, its note, and as what it was read.
 ///
 /// # Errors
 ///
 /// [`AllocError`] where memory is wanting.
-pub fn tell(alloc: Global, bytes: &[u8]) -> Result<Told, AllocError>
-    ensures { IfOk result (λ told. told ≡ told_of bytes.now) }
+pub fn tell(alloc: Global, wanted: Wanted, bytes: &[u8]) -> Result<Told, AllocError>
+    ensures { IfOk result (λ told. told ≡ told_of wanted bytes.now) }
 {
     match Cards::split(alloc, bytes) {
-        Ok(cards) => tell_cards(alloc, &cards),
+        Ok(cards) => tell_cards(alloc, wanted, &cards),
         Err(Refused::Bad(bad)) => tell_size(alloc, &bad),
         Err(Refused::NoMemory) => Err(AllocError),
     }
 }
 
-fn tell_cards(alloc: Global, cards: &Cards<'_>) -> Result<Told, AllocError>
-    ensures { IfOk result (λ told. told ≡ told_of_lines cards.now) }
+fn tell_cards(alloc: Global, wanted: Wanted, cards: &Cards<'_>) -> Result<Told, AllocError>
+    ensures { IfOk result (λ told. told ≡ told_of_lines wanted cards.now) }
 {
     match read(alloc, cards) {
-        Ok(case) => tell_case(alloc, &case),
+        Ok(case) => tell_case(alloc, wanted, cards, &case),
         Err(Refused::Bad(bad)) => tell_bad(alloc, cards, &bad),
         Err(Refused::NoMemory) => Err(AllocError),
     }
 }
 
-fn tell_case(alloc: Global, case: &Case) -> Result<Told, AllocError>
-    ensures { IfOk result (λ told. told ≡ Told.Listing (listing case.now.parts)) }
+fn tell_case(
+    alloc: Global,
+    wanted: Wanted,
+    cards: &Cards<'_>,
+    case: &Case,
+) -> Result<Told, AllocError>
+    ensures { IfOk result (λ told. told ≡ Told.Answer (answer_text wanted cards.now case.now.parts)) }
 {
-    let text = listing(alloc, case)?;
-    Ok(Told::Listing(Items::from_vec(text)))
+    let text = answer_text(alloc, wanted, cards, case)?;
+    Ok(Told::Answer(Items::from_vec(text)))
+}
+
+/// What is wanted of a case that is accepted.
+fn answer_text(
+    alloc: Global,
+    wanted: Wanted,
+    cards: &Cards<'_>,
+    case: &Case,
+) -> Result<Vec<u8>, AllocError>
+    ensures { IfOk result (λ text. text.items ≡ answer_text wanted cards.now case.now.parts) }
+{
+    let found = warnings(alloc, cards, case)?;
+    match wanted {
+        Wanted::Listing => listing_with(alloc, case, &found),
+        Wanted::WarningCount => count_line(alloc, found.len()),
+    }
+}
+
+/// The listing of a case, and warnings below it.
+fn listing_with(alloc: Global, case: &Case, found: &[Warning]) -> Result<Vec<u8>, AllocError>
+    ensures { IfOk result (λ text. text.items ≡ listing case.now.parts ++ warnings_text found.now) }
+{
+    let mut text = listing(alloc, case)?;
+    let below = warnings_text(alloc, found)?;
+    put(&mut text, &below)?;
+    Ok(text)
+}
+
+/// A line with a count.
+fn count_line(alloc: Global, count: usize) -> Result<Vec<u8>, AllocError>
+    ensures { IfOk result (λ text. text.items ≡ decimal count ++ codes "\n") }
+{
+    let mut text = Vec::new(alloc);
+    put_number(&mut text, count)?;
+    put(&mut text, b"\n")?;
+    Ok(text)
 }
 
 /// Of a file that is too long the lines aren't read.

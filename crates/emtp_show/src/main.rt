@@ -1,12 +1,13 @@
-//! The program that shows what was read of a case: the word of its command line, over the real files.
+//! The program that shows what was read of a case: the words of its command line, over the real files.
 //!
 //! ```text
 //! emtp_show divider.case
+//! emtp_show --count divider.case
 //! ```
 //!
-//! It reads the cards of a case, and writes the listing of its records, or which card is refused, to standard output. The
-//! exit status is the number of the [`Status`], as that of `emtp`. It stands on `emtp_inspect` for all that, and on
-//! `emtp_io` for the files.
+//! It reads the cards of a case, and writes the listing of its records with the warnings below it, or how many warnings there
+//! are, or which card is refused, to standard output. The exit status is the number of the [`Status`], as that of `emtp`. It
+//! stands on `emtp_inspect` for all that, and on `emtp_io` for the files.
 #![tactic(auto)]
 
 use emtp_inspect::inspect;

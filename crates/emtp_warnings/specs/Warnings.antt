@@ -1,5 +1,6 @@
 -- All warnings of a case, line by line: first those of the line's columns, then those of its record; the channels come last.
-use Rattle.std.specs.Prelude.{ℕ, ◌+◌, length, position, drop, take, not, List, [], ◌∷◌, ◌++◌, unwrap_or}
+use Rattle.std.specs.Prelude.{ℕ, ◌+◌, length, position, drop, take, not, List, [], ◌∷◌, ◌++◌, unwrap_or, if◌then◌else◌}
+use Rattle.emtp_card.specs.Lines.{is_comment}
 use Rattle.emtp_case.specs.declared.case.Parts.{Parts}
 use Rattle.emtp_warnings.specs.ChannelWarnings.{channel_warnings}
 use Rattle.emtp_warnings.specs.ColumnWarnings.{column_warnings}
@@ -11,9 +12,9 @@ use Rattle.emtp_warnings.specs.declared.finding.Warning.{Warning}
 use Rattle.emtp_warnings.specs.declared.section.Section.{Section}
 use Rattle.emtp_warnings.specs.declared.section.Section.TheVariants.{Begin}
 
--- what a line of a section warns of
+-- what a line of a section warns of; a comment, which may be longer than a ruler, of nothing
 abbrev pub line_warnings : ℕ → Section → List ℕ → List Warning
-line_warnings number section line = column_warnings (ruler_at number line section) number line
+line_warnings number section line = if is_comment line then [] else column_warnings (ruler_at number line section) number line
 
 -- how many of the first warnings are on a line
 abbrev pub count_on : ℕ → List Warning → ℕ

@@ -36,5 +36,5 @@ pub use laws::{
     unmarked_columns_of_the_control_dont_matter, unmarked_columns_of_the_network_dont_matter,
 };
 pub use listed::warnings;
-pub use section::Section;
+pub use section::{Section, next_section};
 pub use text::warnings_text;

@@ -11,7 +11,7 @@ use crate::finding::Warning;
 use crate::marked::ruler_at;
 use crate::records::add_records;
 use crate::section::{Section, next_section};
-use emtp_card::{Cards, Line, MAX_BYTES};
+use emtp_card::{Cards, Line, MAX_BYTES, comment};
 use emtp_case::Case;
 use std::alloc::{AllocError, Global};
 
@@ -54,11 +54,14 @@ fn add_lines(
     Ok(())
 }
 
-/// Adds the warnings of the columns of a line.
+/// Adds the warnings of the columns of a line. A comment has none: it may be longer than a ruler.
 fn add_line(out: &mut Vec<Warning>, line: &Line<'_>, section: Section) -> Result<(), AllocError>
     requires { length line.now.bytes.now ≤ MAX_BYTES }
     ensures { OnOk result (AddsTo out.old.items (line_warnings line.now.number section line.now.bytes.now) out.new.items) }
 {
+    if comment(line.bytes) {
+        return Ok(());
+    }
     add_column_warnings(out, ruler_at(line, section), line)
 }
 

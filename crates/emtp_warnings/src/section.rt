@@ -55,7 +55,7 @@ pub enum Section {
 }
 
 /// What the line after a line is read as; comments are skipped.
-pub(crate) fn next_section(line: &Line<'_>, section: Section) -> Section
+pub fn next_section(line: &Line<'_>, section: Section) -> Section
     requires { length line.now.bytes.now ≤ MAX_BYTES }
     ensures { result ≡ next_section line.now.number line.now.bytes.now section }
 {

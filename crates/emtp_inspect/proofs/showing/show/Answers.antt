@@ -11,7 +11,7 @@ returns-in-Ok g c = record {
   end = Ok c.in-Ok.bytes;
   reading = c.in-Ok.ensures.reading;
   bytes = c.in-Ok.ensures.bytes;
-  telling = subst (λ (bytes : List ℕ). EndsAfterReading c.leave.result (told_outcome (told_of bytes)) (g.C.Cabinet.state c.read_file.new.cabinet) (g.C.Cabinet.state c.leave.new.cabinet)) c.deref.ensures.value c.leave.ensures;
+  telling = subst (λ (bytes : List ℕ). EndsAfterReading c.leave.result (told_outcome (told_of c.args.wanted bytes)) (g.C.Cabinet.state c.read_file.new.cabinet) (g.C.Cabinet.state c.leave.new.cabinet)) c.deref.ensures.value c.leave.ensures;
 }
 
 pub returns-in-Err-Failed : goal.returns-in-Err-Failed

@@ -1,0 +1,54 @@
+//! What the words of a command line ask for.
+ghost use Rattle.std.specs.Prelude.{◌≡◌, ◌∷◌, [], None, option_map};
+ghost use Rattle.emtp_inspect.specs.Asking.{asked, counted, named};
+ghost use Rattle.emtp_run.specs.Words.{is_name, texts};
+
+/// What is wanted of a case that is read.
+#[derive(Clone, Copy)]
+pub enum Wanted {
+    /// Its listing, and the warnings below it.
+    Listing,
+    /// How many warnings there are.
+    WarningCount,
+}
+
+/// What is wanted, and the name of the case's file, where the words fit: `CASE` or `--count CASE`.
+pub(crate) fn read_words(words: &[String]) -> Option<(Wanted, &str)>
+    ensures { option_map (λ a. (a.0, a.1.now)) result ≡ asked (texts words.now) }
+{
+    match words {
+        [word] => named(Wanted::Listing, word.as_str()),
+        [first, word] => counted(first.as_str(), word.as_str()),
+        _ => None,
+    }
+}
+
+fn counted<'a>(first: &str, word: &'a str) -> Option<(Wanted, &'a str)>
+    ensures { option_map (λ a. (a.0, a.1.now)) result ≡ counted first.now word.entry.now }
+{
+    if first == "--count" {
+        named(Wanted::WarningCount, word)
+    } else {
+        None
+    }
+}
+
+fn named<'a>(wanted: Wanted, word: &'a str) -> Option<(Wanted, &'a str)>
+    ensures { option_map (λ a. (a.0, a.1.now)) result ≡ named wanted word.entry.now }
+{
+    if is_name(word) {
+        Some((wanted, word))
+    } else {
+        None
+    }
+}
+
+/// Whether a word names a file: it isn't empty and doesn't begin with a dash.
+fn is_name(word: &str) -> bool
+    ensures { result ≡ is_name word.now }
+{
+    match word.as_bytes() {
+        [] => false,
+        [first, ..] => *first != b'-',
+    }
+}
