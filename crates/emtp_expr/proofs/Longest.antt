@@ -6,7 +6,7 @@ use Rattle.std.specs.List.{list_all, prefix_len}
 use Rattle.std.proofs.lemmas.Bool.{eqb-true}
 use Rattle.std.proofs.lemmas.Bool.Decides.{nat_tests}
 use Rattle.std.proofs.lemmas.List.Folds.{length-prefix_len}
-use Rattle.emtp_expr.specs.Longest.{HasOwnPoint, IsNameText, IsNumber, IsPower, IsSign, IsTakenWhole, NumberParts, Power, fraction_size, fraction_text, power_size, power_text}
+use Rattle.emtp_expr.specs.Longest.{HasOwnPoint, IsNameText, IsNumber, IsPower, IsSign, IsTakenWhole, NumberParts, Power, fraction_size, text_from_point, power_size, text_from_power}
 use Rattle.emtp_expr.specs.Words.{digit_count, dotted, exponent_length, fraction_length, letter_count, mantissa_length, name_length, number_length, power_length, sign_length}
 
 -- ---- fronts
@@ -125,17 +125,17 @@ power_there letter bytes n is some low =
     let whole = some_or 1 (power_length bytes) (omega (arith, some, low)) in
     omega (arith, here, whole, low)
 
-power_longest : (power : Option Power) (behind : List ℕ) → IfSome power IsPower → power_size power ≤ exponent_length (power_text power behind)
+power_longest : (power : Option Power) (behind : List ℕ) → IfSome power IsPower → power_size power ≤ exponent_length (text_from_power power behind)
 power_longest None behind is = omega arith
 power_longest (Some p) behind is =
     power_there p.letter (p.sign ++ (p.digits ++ behind)) (length p.sign + length p.digits) is.letter (omega (arith, is.some)) (signed_power p.sign p.digits behind is.sign is.some is.few is.digits)
 
 -- a power begins with no digit and with no point
-no_digit : (p : Power) (behind : List ℕ) → IsPower p → digit_count (power_text (Some p) behind) ≡ 0
+no_digit : (p : Power) (behind : List ℕ) → IsPower p → digit_count (text_from_power (Some p) behind) ≡ 0
 no_digit p behind is =
-    length-prefix_len is_ascii_digit (power_text (Some p) behind) ∙ by_byte p.letter 69 68 (λ byte. prefix_len is_ascii_digit (byte ∷ (p.sign ++ (p.digits ++ behind))) ≡ 0) refl refl is.letter
+    length-prefix_len is_ascii_digit (text_from_power (Some p) behind) ∙ by_byte p.letter 69 68 (λ byte. prefix_len is_ascii_digit (byte ∷ (p.sign ++ (p.digits ++ behind))) ≡ 0) refl refl is.letter
 
-no_point : (p : Power) (behind : List ℕ) → IsPower p → fraction_length (power_text (Some p) behind) ≡ 0
+no_point : (p : Power) (behind : List ℕ) → IsPower p → fraction_length (text_from_power (Some p) behind) ≡ 0
 unfolding fraction_length
 no_point p behind is = by_byte p.letter 69 68 (λ byte. cond ((byte == 46) && is_none (dotted (byte ∷ (p.sign ++ (p.digits ++ behind))))) (1 + digit_count (p.sign ++ (p.digits ++ behind))) 0 ≡ 0) refl refl is.letter
 
@@ -177,9 +177,9 @@ plain whole behind all some =
     let is = number_from text d (fraction_length (drop d text)) (count_front is_ascii_digit whole behind all) refl (inl (omega (arith, some))) in
     omega (arith, is)
 
-with_power : (whole : List ℕ) (p : Power) (behind : List ℕ) → list_all is_ascii_digit whole ≡ true → 1 ≤ length whole → IsPower p → length whole + power_size (Some p) ≤ number_length (whole ++ power_text (Some p) behind)
+with_power : (whole : List ℕ) (p : Power) (behind : List ℕ) → list_all is_ascii_digit whole ≡ true → 1 ≤ length whole → IsPower p → length whole + power_size (Some p) ≤ number_length (whole ++ text_from_power (Some p) behind)
 with_power whole p behind all some power =
-    let tail = power_text (Some p) behind in
+    let tail = text_from_power (Some p) behind in
     let text = whole ++ tail in
     let digits : digit_count text ≡ length whole = omega (arith, count_front is_ascii_digit whole tail all, no_digit p behind power) in
     let is = number_from text (length whole) 0 digits (ap fraction_length (drop_front whole tail) ∙ no_point p behind power) (inl some) in
@@ -210,15 +210,15 @@ pointed whole digits tail all all_digits some own =
     enough (inr h) = inr (omega (arith, h))
 
 number_by : (whole : List ℕ) (fraction : Option (List ℕ)) (power : Option Power) (behind : List ℕ) → list_all is_ascii_digit whole ≡ true → IfSome fraction (λ digits. list_all is_ascii_digit digits ≡ true)
-    → (1 ≤ length whole) ⊎ (2 ≤ fraction_size fraction) → IfSome power IsPower → IfSome fraction (λ digits. dotted (46 ∷ (digits ++ power_text power behind)) ≡ None)
-    → length whole + fraction_size fraction + power_size power ≤ number_length (whole ++ fraction_text fraction (power_text power behind))
+    → (1 ≤ length whole) ⊎ (2 ≤ fraction_size fraction) → IfSome power IsPower → IfSome fraction (λ digits. dotted (46 ∷ (digits ++ text_from_power power behind)) ≡ None)
+    → length whole + fraction_size fraction + power_size power ≤ number_length (whole ++ text_from_point fraction (text_from_power power behind))
 number_by whole None None behind all digits (inl some) power own = omega (arith, plain whole behind all some)
 number_by whole None None behind all digits (inr some) power own = absurd (omega (arith, some))
 number_by whole None (Some p) behind all digits (inl some) power own = omega (arith, with_power whole p behind all some power)
 number_by whole None (Some p) behind all digits (inr some) power own = absurd (omega (arith, some))
 number_by whole (Some digits) None behind all all_digits some power own = omega (arith, pointed whole digits behind all all_digits some own)
 number_by whole (Some digits) (Some p) behind all all_digits some power own =
-    let tail = power_text (Some p) behind in
+    let tail = text_from_power (Some p) behind in
     let is = pointed whole digits tail all all_digits some own in
     let none = no_digit p behind power in
     let rest : drop (digit_count tail) tail ≡ tail = ap (λ n. drop n tail) none in

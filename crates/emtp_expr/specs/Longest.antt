@@ -7,14 +7,14 @@ use Rattle.emtp_expr.specs.Words.{dotted, number_length}
 -- ---- names
 
 -- a letter and up to five letters or digits
-pub record IsName (letter : ℕ) (others : List ℕ) : Type 0 where
+pub record AreNameBytes (letter : ℕ) (others : List ℕ) : Type 0 where
   pub begins : is_ascii_alphabetic letter ≡ true
   pub goes_on : list_all is_ascii_alphanumeric others ≡ true
   pub few : length others ≤ 5
 
 abbrev pub IsNameText : List ℕ → Type 0
 IsNameText [] = ⊥
-IsNameText (letter ∷ others) = IsName letter others
+IsNameText (letter ∷ others) = AreNameBytes letter others
 
 -- ---- numbers
 
@@ -45,16 +45,16 @@ pub record NumberParts : Type 0 where
   pub power : Option Power
 
 -- a part, with what stands behind it
-abbrev pub power_text : Option Power → List ℕ → List ℕ
-power_text None behind = behind
-power_text (Some p) behind = p.letter ∷ (p.sign ++ (p.digits ++ behind))
+abbrev pub text_from_power : Option Power → List ℕ → List ℕ
+text_from_power None behind = behind
+text_from_power (Some p) behind = p.letter ∷ (p.sign ++ (p.digits ++ behind))
 
-abbrev pub fraction_text : Option (List ℕ) → List ℕ → List ℕ
-fraction_text None behind = behind
-fraction_text (Some digits) behind = 46 ∷ (digits ++ behind)
+abbrev pub text_from_point : Option (List ℕ) → List ℕ → List ℕ
+text_from_point None behind = behind
+text_from_point (Some digits) behind = 46 ∷ (digits ++ behind)
 
 abbrev pub number_text : NumberParts → List ℕ → List ℕ
-number_text x behind = x.whole ++ fraction_text x.fraction (power_text x.power behind)
+number_text x behind = x.whole ++ text_from_point x.fraction (text_from_power x.power behind)
 
 -- how many bytes a part has
 abbrev pub power_size : Option Power → ℕ
@@ -77,7 +77,7 @@ pub record IsNumber (x : NumberParts) : Type 0 where
 
 -- its point isn't that of a dotted word
 abbrev pub HasOwnPoint : NumberParts → List ℕ → Type 0
-HasOwnPoint x behind = IfSome x.fraction (λ digits. dotted (46 ∷ (digits ++ power_text x.power behind)) ≡ None)
+HasOwnPoint x behind = IfSome x.fraction (λ digits. dotted (46 ∷ (digits ++ text_from_power x.power behind)) ≡ None)
 
 -- the number that is taken of the text is no shorter
 abbrev pub IsTakenWhole : NumberParts → List ℕ → Type 0
