@@ -110,6 +110,26 @@ entries_joined row a b c columns values first mid last left right = record {
   ];
 }
 
+-- the same between columns that stand farther apart, where the row has only zeros besides
+pub entries_wider : (row : List ℤ) (from upto low high : ℕ) (columns : List ℕ) (values : List ℤ) (first last : ℕ) → low ≤ from → upto ≤ high
+    → ((j : ℕ) → low ≤ j → j < from → item row j ≡ pos 0) → ((j : ℕ) → upto ≤ j → j < high → item row j ≡ pos 0)
+    → AreEntries row from upto columns values first last → AreEntries row low high columns values first last
+entries_wider row from upto low high columns values first last lower higher before after was = record {
+  order = was.order;
+  few = omega (arith, was.few);
+  low = λ e from_on inside. omega (arith, was.low e from_on inside);
+  high = λ e from_on inside. omega (arith, was.high e from_on inside);
+  rising = was.rising;
+  value_is = was.value_is;
+  others = λ j from_on inside none. elim (cases_lt j from) [
+    | inl earlier ↦ before j from_on earlier
+    | inr here ↦ elim (cases_lt j upto) [
+      | inl among ↦ was.others j here among none
+      | inr later ↦ after j later inside
+    ]
+  ];
+}
+
 -- ---- between two entries
 
 -- column h comes after the entries before place e, and not after the others

@@ -5,6 +5,7 @@ pub mod Outcomes
 pub mod Products
 pub mod Entries
 pub mod ClearedRows
+pub mod Extents
 pub mod KeptRows
 pub mod PartRows
 pub mod RightSides

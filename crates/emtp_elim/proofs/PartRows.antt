@@ -1,5 +1,5 @@
 -- A row on its way to be finished.
-use Rattle.std.proofs.Common.{◌≡◌, ◌≢◌, ℕ, suc, ◌+◌, ◌^◌, ◌<◌, ◌≤◌, ℤ, pos, unsigned_abs, List, length, Some, refl, ap, sym, ◌∙◌, inl, inr, add-one, arith}
+use Rattle.std.proofs.Common.{◌≡◌, ◌≢◌, ℕ, zero, suc, ◌+◌, ◌^◌, ◌<◌, ◌≤◌, ℤ, pos, unsigned_abs, List, length, Some, refl, ap, sym, ◌∙◌, inl, inr, add-one, arith}
 use Rattle.std.specs.List.{All}
 use Rattle.std.proofs.lemmas.List.{get_or_past, get_or_default}
 use Rattle.std.proofs.lemmas.Bool.{cases_eq, cases_lt}
@@ -10,6 +10,7 @@ use Rattle.emtp_elim.specs.Clearing.{IsFinishedRow, IsClearedRow, LeavesRangeAt}
 use Rattle.emtp_elim.specs.Finished.{IsPartRow, IsNext, FinishesRow, FaultsRow}
 use Rattle.emtp_elim.specs.declared.fault.RowCause.{RowCause}
 use Rattle.emtp_elim.specs.declared.fault.RowCause.TheVariants.{Range, ZeroPivot}
+use Rattle.emtp_elim.proofs.ClearedRows.{cleared_nothing}
 use Rattle.emtp_elim.proofs.InRange.{StaysInRange, row_fault-none, row_fault-pivot, row_fault-range}
 use Rattle.emtp_elim.proofs.Stages.{entry_start, entry_later}
 
@@ -82,11 +83,11 @@ underway_start done given small = record {
 }
 
 pub underway_more : (size k : ℕ) (done : Matrix) (given work new : List ℤ) → IsUnderWay done k given work → k < length done → length done < size
-    → length work ≡ size → length new ≡ size → IsFinishedRow size k (row_of done k) → IsClearedRow k work (row_of done k) new
+    → length work ≡ size → length new ≡ size → length (row_of done k) ≡ size → IsClearedRow k work (row_of done k) new
     → IsUnderWay done (k + 1) given new
-underway_more size k done given work new was later few same_work same_new finished cleared =
+underway_more size k done given work new was later few same_work same_new wide cleared =
     let part : (rows : Matrix) → IsNext rows done given → IsPartRow rows (length done) (suc k) new = λ rows next.
-    part_more rows (length done) k work (row_of done k) new later next.within (omega (arith, finished.length_is)) (omega arith) (was.part rows next) (next.finished.finished k later) cleared (omega arith) in
+    part_more rows (length done) k work (row_of done k) new later next.within (omega (arith, wide)) (omega arith) (was.part rows next) (next.finished.finished k later) cleared (omega arith) in
     record {
       ratios = λ j low. elim (cases_eq j k) [
         | inl here ↦ rw here cleared.ratio_within
@@ -99,6 +100,20 @@ underway_more size k done given work new was later few same_work same_new finish
       part = λ rows next. rw (add-one k) (part rows next);
       in_range = λ rows next. rw (add-one k) (in_range_more rows (length done) k work (row_of done k) new (omega arith) (was.in_range rows next) (part rows next) cleared);
     }
+
+-- a column that is clear already
+pub underway_clear : (size k : ℕ) (done : Matrix) (given work : List ℤ) → IsUnderWay done k given work → k < length done → length done < size → length work ≡ size
+    → length (row_of done k) ≡ size → item work k ≡ pos 0 → IsUnderWay done (k + 1) given work
+underway_clear size k done given work was later few same_work wide clear =
+    underway_more size k done given work work was later few same_work same_work wide (cleared_nothing k work (row_of done k) clear was.entries)
+
+-- all columns before the first number
+pub underway_from : (size first : ℕ) (done : Matrix) (given : List ℤ) → AreWithin (10 ^ 17) given → first ≤ length done → length done < size → length given ≡ size
+    → ((i : ℕ) → i < length done → length (row_of done i) ≡ size) → ((j : ℕ) → j < first → item given j ≡ pos 0) → IsUnderWay done first given given
+underway_from size zero done given small low few same wide clear = underway_start done given small
+underway_from size (suc k) done given small low few same wide clear =
+    let so_far = underway_from size k done given small (omega arith) few same wide (λ j below. clear j (omega arith)) in
+    rw (← add-one k) (underway_clear size k done given given so_far (omega arith) few same (wide k (omega arith)) (clear k (omega arith)))
 
 -- ---- faults
 

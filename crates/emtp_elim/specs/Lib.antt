@@ -7,4 +7,5 @@ pub mod Finished
 pub mod Clearing
 pub mod Stored
 pub mod Row
+pub mod Extent
 pub mod Substitution

@@ -11,7 +11,7 @@ use crate::row::FinishedRow;
 use emtp_fix::{LARGEST_ENTRY, LARGEST_RATIO};
 
 /// Clears column `k` from a row by finished row `k`, and puts the ratio of the two in its place. False where the ratio
-/// or an entry leaves its range.
+/// or an entry leaves its range. A row that is clear there already needs no call.
 pub fn clear_column(work: &mut [i128], above: FinishedRow<'_>, k: usize) -> bool
     requires above { IsRow (length work.old) k above }
     requires place { k < length work.old }
@@ -19,9 +19,6 @@ pub fn clear_column(work: &mut [i128], above: FinishedRow<'_>, k: usize) -> bool
     ensures cleared { OnTrue result (IsClearedRow k work.old (numbers (length work.old) above.entry) work.new) }
     ensures out { OnFalse result (LeavesRangeAt k work.old (numbers (length work.old) above.entry)) }
 {
-    if work[k] == 0 {
-        return true;
-    }
     let columns = above.columns;
     let values = above.values;
     let m = ratio(work[k], i128::from(values[above.pivot]));

@@ -3,7 +3,8 @@
 //!
 //! A matrix comes row by row ([`Rows`]). [`eliminate_plain`] solves one system from its first row. [`SparseRows`] keeps
 //! finished rows with their ratios, of each the numbers that aren't 0 side by side; [`eliminate_row`] finishes the next
-//! one by them and counts it, and [`SparseRows::solve`] solves for one right side after another. It stands on `emtp_fix`.
+//! one by them and counts it, at work between the row's first number and its last one alone, and [`SparseRows::solve`]
+//! solves for one right side after another. It stands on `emtp_fix`.
 //!
 //! ```text
 //! 1 0 0     100 A                                        100 V
@@ -14,6 +15,7 @@
 
 mod arithmetic;
 mod clearing;
+mod extent;
 mod fault;
 mod finishing;
 mod laws;

@@ -120,14 +120,14 @@ impl SparseRows {
         ensures kept { OnErr result (self.new ≡ self.old) }
         ensures fault { IfErr result (FaultsRow self.old.rows work.old) }
     {
-        finish_row(self, work)?;
+        let extent = finish_row(self, work)?;
         store_next(
             &mut self.starts,
             &mut self.pivots,
             &mut self.columns,
             &mut self.values,
             &mut self.words,
-            self.count,
+            extent,
             work,
         );
         self.count += 1;

@@ -3,8 +3,10 @@ ghost use Rattle.std.specs.Prelude.{◌≡◌, ℕ, ◌+◌, ◌<◌, ◌≤◌,
 ghost use Rattle.emtp_fix.specs.declared.limit.TheConstants.{LARGEST_RATIO};
 ghost use Rattle.emtp_elim.specs.Matrix.{item};
 ghost use Rattle.emtp_elim.specs.Clearing.{IsFinishedRow};
+ghost use Rattle.emtp_elim.specs.Extent.{IsExtent};
 ghost use Rattle.emtp_elim.specs.Stored.{Packs, AreStored, rows_kept};
 
+use crate::extent::Extent;
 use emtp_fix::word_of;
 
 /// Puts the numbers of a row that aren't 0, from column `from` on and before `upto`, with their columns after the
@@ -37,26 +39,28 @@ fn pack(
     at
 }
 
-/// Keeps a finished row, and the word of its pivot, after the `count` that are kept.
+/// Keeps a finished row, and the word of its pivot, after those that are kept: as many as the number of its diagonal.
 pub fn store_next(
     starts: &mut [usize],
     pivots: &mut [usize],
     columns: &mut [u16],
     values: &mut [i64],
     words: &mut [u64],
-    count: usize,
+    extent: Extent,
     work: &[i128],
 )
-    requires stored { AreStored (length work.now) count starts.old pivots.old columns.old values.old words.old }
-    requires room { count < length work.now }
-    requires finished { IsFinishedRow (length work.now) count work.now }
-    ensures stored { AreStored (length work.now) (count + 1) starts.new pivots.new columns.new values.new words.new }
-    ensures rows { rows_kept (length work.now) (count + 1) starts.new columns.new values.new ≡ rows_kept (length work.now) count starts.old columns.old values.old ++ work.now ∷ [] }
+    requires extent { IsExtent work.now extent }
+    requires stored { AreStored (length work.now) extent.diagonal starts.old pivots.old columns.old values.old words.old }
+    requires room { extent.diagonal < length work.now }
+    requires finished { IsFinishedRow (length work.now) extent.diagonal work.now }
+    ensures stored { AreStored (length work.now) (extent.diagonal + 1) starts.new pivots.new columns.new values.new words.new }
+    ensures rows { rows_kept (length work.now) (extent.diagonal + 1) starts.new columns.new values.new ≡ rows_kept (length work.now) extent.diagonal starts.old columns.old values.old ++ work.now ∷ [] }
 {
-    let pivot = pack(work, 0, count, columns, values, starts[count]);
+    let count = extent.diagonal;
+    let pivot = pack(work, extent.first, count, columns, values, starts[count]);
     columns[pivot] = count as u16;
     values[pivot] = work[count] as i64;
-    let end = pack(work, count + 1, work.len(), columns, values, pivot + 1);
+    let end = pack(work, count + 1, extent.end, columns, values, pivot + 1);
     pivots[count] = pivot;
     words[count] = word_of(work[count]);
     starts[count + 1] = end;

@@ -1,17 +1,11 @@
-use Rattle.std.proofs.Common.{◌≡◌, ◌≤◌, ◌<◌, ◌^◌, ◌∙◌, pos, length, slice_index, unsigned_abs, inr, arith}
+use Rattle.std.proofs.Common.{◌≡◌, ◌≤◌, ◌<◌, ◌^◌, ◌∙◌, slice_index, unsigned_abs, inr, arith}
 use mir.Syntax.{w128}
 use Rattle.std.proofs.lemmas.Int.{ints, to_z-of_z}
 use Rattle.emtp_fix.proofs.Wide.{through, through_64}
 use Rattle.emtp_elim.specs.Matrix.{item}
-use Rattle.emtp_elim.specs.Row.{numbers}
 use Rattle.emtp_elim.proofs.KeptRows.{entry_small}
-use Rattle.emtp_elim.proofs.ClearedRows.{lessened_small, lessened_next, lessened_more, cleared_nothing, cleared_lessened, ratio_read}
+use Rattle.emtp_elim.proofs.ClearedRows.{lessened_small, lessened_next, lessened_more, cleared_lessened, ratio_read}
 use Rattle.emtp_elim.proofs.clearing.clear_column.Goals as goal
-
-pub returns-then-work-k-eq0-clause-cleared : goal.returns-then-work-k-eq0-clause-cleared
-returns-then-work-k-eq0-clause-cleared c =
-    let clear : item c.args.work.now c.args.k ≡ pos 0 = omega (arith, ints, c.requires.entries c.args.k) in
-    cleared_nothing c.args.k c.args.work.now (numbers (length c.args.work.now) c.args.above) clear c.requires.entries
 
 pub less-entry-requires-clause-a : goal.less-entry-requires-clause-a
 less-entry-requires-clause-a c =

@@ -1,9 +1,10 @@
-use Rattle.std.proofs.Common.{◌≡◌, ◌+◌, ◌<◌, ◌≤◌, ℕ, ℤ, List, length, slice_index, length-set, to_z, of_z, arith}
+use Rattle.std.proofs.Common.{◌≡◌, ◌+◌, ◌<◌, ◌≤◌, ℕ, ℤ, List, length, slice_index, length-set, to_z, of_z, refl, arith}
 use mir.Syntax.{w64, w128}
 use Rattle.std.proofs.lemmas.Nat.{row_fits}
 use Rattle.emtp_fix.proofs.Wide.{through, through_64}
 use Rattle.emtp_elim.specs.Matrix.{item}
 use Rattle.emtp_elim.specs.Stored.{AreStored}
+use Rattle.emtp_elim.proofs.Extents.{later_packed, ratios_packed}
 use Rattle.emtp_elim.proofs.KeptRows.{stored_more}
 use Rattle.emtp_elim.proofs.storing.store_next.Goals as goal
 
@@ -16,30 +17,30 @@ pub pack-pivot-requires-clause-room : goal.pack-pivot-requires-clause-room
 pack-pivot-requires-clause-room c = omega (arith, room c.requires.stored c.requires.room)
 
 pub offset_bounds-columns-pivot : goal.offset_bounds-columns-pivot
-offset_bounds-columns-pivot c = omega (arith, room c.requires.stored c.requires.room, c.pack-pivot.ensures.entries.few)
+offset_bounds-columns-pivot c = omega (arith, room c.requires.stored c.requires.room, c.pack-pivot.ensures.entries.few, c.requires.extent.within)
 
 pub bounds-columns-pivot : goal.bounds-columns-pivot
-bounds-columns-pivot c = omega (arith, room c.requires.stored c.requires.room, c.pack-pivot.ensures.entries.few)
+bounds-columns-pivot c = omega (arith, room c.requires.stored c.requires.room, c.pack-pivot.ensures.entries.few, c.requires.extent.within)
 
 pub offset_bounds-values-pivot : goal.offset_bounds-values-pivot
-offset_bounds-values-pivot c = omega (arith, room c.requires.stored c.requires.room, c.pack-pivot.ensures.entries.few)
+offset_bounds-values-pivot c = omega (arith, room c.requires.stored c.requires.room, c.pack-pivot.ensures.entries.few, c.requires.extent.within)
 
 pub bounds-values-pivot : goal.bounds-values-pivot
-bounds-values-pivot c = omega (arith, room c.requires.stored c.requires.room, c.pack-pivot.ensures.entries.few)
+bounds-values-pivot c = omega (arith, room c.requires.stored c.requires.room, c.pack-pivot.ensures.entries.few, c.requires.extent.within)
 
 pub overflow_add-pivot : goal.overflow_add-pivot
-overflow_add-pivot c = omega (arith, room c.requires.stored c.requires.room, c.pack-pivot.ensures.entries.few)
+overflow_add-pivot c = omega (arith, room c.requires.stored c.requires.room, c.pack-pivot.ensures.entries.few, c.requires.extent.within)
 
 pub pack-end-requires-clause-room : goal.pack-end-requires-clause-room
-pack-end-requires-clause-room c = omega (arith, length-set {A = ℕ}, room c.requires.stored c.requires.room, c.pack-pivot.ensures.entries.few)
+pack-end-requires-clause-room c = omega (arith, length-set {A = ℕ}, room c.requires.stored c.requires.room, c.pack-pivot.ensures.entries.few, c.requires.extent.within)
 
 pub pack-end-requires-clause-same_room : goal.pack-end-requires-clause-same_room
 pack-end-requires-clause-same_room c = omega (arith, length-set {A = ℕ}, length-set {A = ℤ})
 
 pub returns : goal.returns
 returns c =
-    let number = item c.args.work.now c.args.count in
-    let small = c.requires.finished.entries c.args.count (omega arith) in
+    let number = item c.args.work.now c.args.extent.diagonal in
+    let small = c.requires.finished.entries c.args.extent.diagonal (omega arith) in
     let wide : to_z w128 (of_z w128 number) ≡ number = through number (omega (arith, small)) in
     let narrow : to_z w64 (of_z w64 number) ≡ number = through_64 number (omega (arith, small)) in
     let both = stored_more _ _ c.word_of.result c.args.starts.now c.args.pivots.now _ _ _ _ _ _ c.args.words.now _ _ c.args.work.now c.requires.stored (record {
@@ -49,7 +50,7 @@ returns c =
       long_values = omega (arith, length-set {A = ℤ});
       mid_columns_long = omega arith;
       mid_values_long = omega arith;
-      ratios = c.pack-pivot.ensures;
-      later = rw (wide, narrow) at c.pack-end.ensures;
+      ratios = ratios_packed c.requires.extent c.pack-pivot.ensures;
+      later = later_packed c.requires.extent refl (rw (wide, narrow) at c.pack-end.ensures);
     }) in
     record { stored = both.0; rows = both.1 }

@@ -1,0 +1,75 @@
+// Between which columns a row has its numbers.
+ghost use Rattle.std.specs.Prelude.{◌≡◌, ℕ, ◌<◌, ◌≤◌, pos, length};
+ghost use Rattle.emtp_elim.specs.Matrix.{item};
+ghost use Rattle.emtp_elim.specs.Extent.{IsExtent, IsClearAfter};
+ghost use Rattle.emtp_elim.specs.Row.{numbers, IsRow};
+
+use crate::row::FinishedRow;
+
+/// The columns from `first` on and before `end`, among them that of the diagonal: the row has only zeros elsewhere.
+///
+/// The work on a row stays in them, so that its cost goes with them and not with the width of the matrix.
+#[derive(Clone, Copy)]
+pub struct Extent {
+    pub first: usize,
+    pub diagonal: usize,
+    pub end: usize,
+}
+
+/// The first column before `upto` with a number that isn't 0, or `upto`.
+fn first_column(row: &[i128], upto: usize) -> usize
+    requires { upto ≤ length row.now }
+    ensures within { result ≤ upto }
+    ensures clear { (j : ℕ) → j < result → item row.now j ≡ pos 0 }
+{
+    for j in 0..upto {
+        if row[j] != 0 {
+            return j;
+        }
+    }
+    upto
+}
+
+/// The column after the last one from `from` on with a number that isn't 0, or `from`.
+fn end_column(row: &[i128], from: usize) -> usize
+    requires { from ≤ length row.now }
+    ensures low { from ≤ result }
+    ensures within { result ≤ length row.now }
+    ensures clear { IsClearAfter row.now result }
+{
+    for j in (from..row.len()).rev() {
+        if row[j] != 0 {
+            return j + 1;
+        }
+    }
+    from
+}
+
+/// The extent of a row with its diagonal in this column.
+pub fn extent_of(row: &[i128], diagonal: usize) -> Extent
+    requires { diagonal < length row.now }
+    ensures extent { IsExtent row.now result }
+    ensures diagonal { result.diagonal ≡ diagonal }
+{
+    Extent {
+        first: first_column(row, diagonal),
+        diagonal,
+        end: end_column(row, diagonal + 1),
+    }
+}
+
+/// The end of a row of `size` numbers, from whose columns before `end` finished row `k` is taken away.
+pub fn end_with(end: usize, above: FinishedRow<'_>, k: usize, size: usize) -> usize
+    requires above { IsRow size k above }
+    requires place { k < end }
+    requires end { end ≤ size }
+    ensures low { end ≤ result }
+    ensures within { result ≤ size }
+    ensures clear { IsClearAfter (numbers size above.entry) result }
+{
+    if above.pivot + 1 == above.last {
+        return end;
+    }
+    let last = above.columns[above.last - 1] as usize;
+    if last < end { end } else { last + 1 }
+}
