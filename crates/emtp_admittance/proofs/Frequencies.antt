@@ -4,10 +4,10 @@ use Rattle.std.specs.Ordering.{int_eq}
 use Rattle.std.proofs.lemmas.Int.{ints}
 use Rattle.std.proofs.lemmas.Bool.{true≢false}
 use Rattle.std.proofs.lemmas.Bool.Decides.{Decides-int_eq}
-use Rattle.emtp_case.specs.Range.{IsBetween}
-use Rattle.emtp_admittance.specs.Frequency.{IsFrequency}
-use Rattle.emtp_case.specs.Sizes.{Sizes}
-use Rattle.emtp_case.specs.Source.{HasShapeNumbers, IsSource}
+use Rattle.emtp_case.specs.held.Range.{IsBetween}
+use Rattle.emtp_admittance.specs.held.Frequency.{IsFrequency}
+use Rattle.emtp_case.specs.held.Sizes.{Sizes}
+use Rattle.emtp_case.specs.held.Source.{HasShapeNumbers, IsSource}
 use Rattle.emtp_case.specs.declared.source.Shape.{Shape}
 use Rattle.emtp_case.specs.declared.source.Shape.TheVariants.{Cosine, NodeVoltage, Pulse, Ramp, Saw, Step, SwitchCurrent, SwitchStatus, Tacs}
 use Rattle.emtp_case.specs.declared.source.Source.{Source}

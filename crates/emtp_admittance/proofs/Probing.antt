@@ -1,11 +1,12 @@
 -- The source of a scan stands in the case.
 use Rattle.std.proofs.Common.{◌≡◌, subst, ℤ, pos, ◌<ℤ◌, int_lt, ◌&&◌, Bool, true, false, if◌then◌else◌, All, List, [], ◌∷◌, Option, Some, None, Result, Ok, Err, IfOk, refl, arith}
 use Rattle.std.proofs.lemmas.Int.{ints}
-use Rattle.emtp_case.specs.Sizes.{sizes_of}
-use Rattle.emtp_case.specs.Source.{IsSource}
+use Rattle.emtp_case.specs.held.Sizes.{sizes_of}
+use Rattle.emtp_case.specs.held.Source.{IsSource}
 use Rattle.emtp_case.specs.declared.case.Parts.{Parts}
 use Rattle.emtp_case.specs.declared.source.Source.{Source}
-use Rattle.emtp_admittance.specs.Probes.{IsProbe, card_barred, is_plain_cosine, is_probe, probe_in, scanned_by, unless_barred}
+use Rattle.emtp_admittance.specs.Probes.{card_barred, is_plain_cosine, is_probe, probe_in, scanned_by, unless_barred}
+use Rattle.emtp_admittance.specs.held.Probes.{IsProbe}
 use Rattle.emtp_admittance.specs.declared.probe.Probe.{Probe}
 use Rattle.emtp_admittance.specs.declared.refusal.Refused.{Refused}
 

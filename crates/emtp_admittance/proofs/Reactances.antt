@@ -8,8 +8,8 @@ use Rattle.emtp_fix.specs.Rounding.{near, near_abs}
 use Rattle.emtp_fix.specs.declared.limit.TheConstants.{ATTO, LARGEST_ENTRY, PICO}
 use Rattle.emtp_fix.proofs.Nearest.{near-from_zero, near_abs-low, near_abs-high, near_abs-mono, near_abs_is, unsigned_abs-near}
 use Rattle.emtp_fix.proofs.Wide.{abs-mul-le}
-use Rattle.emtp_case.specs.Range.{IsBetween}
-use Rattle.emtp_admittance.specs.Frequency.{IsFrequency}
+use Rattle.emtp_case.specs.held.Range.{IsBetween}
+use Rattle.emtp_admittance.specs.held.Frequency.{IsFrequency}
 use Rattle.emtp_admittance.specs.Impedance.{lossless_port, squared, susceptance}
 use Rattle.emtp_admittance.specs.declared.admittance.Admittance.{Admittance}
 use Rattle.emtp_admittance.specs.declared.admittance.TwoPort.{TwoPort}

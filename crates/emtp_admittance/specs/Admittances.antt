@@ -1,6 +1,5 @@
 -- Complex admittances as blocks of real numbers.
-use Rattle.std.specs.Prelude.{◌≤◌, ℕ, ◌==◌, ◌%◌, ℤ, pos, neg_ℤ, unsigned_abs, Bool, true, false, List, slice_index_or}
-use Rattle.emtp_fix.specs.declared.limit.TheConstants.{LARGEST_ENTRY}
+use Rattle.std.specs.Prelude.{ℕ, ◌==◌, ◌%◌, ℤ, pos, neg_ℤ, Bool, true, false, List, slice_index_or}
 use Rattle.emtp_admittance.specs.declared.admittance.Admittance.{Admittance}
 use Rattle.emtp_admittance.specs.declared.admittance.TwoPort.{TwoPort}
 
@@ -23,12 +22,3 @@ no_port = record { own = no_admittance; other = no_admittance }
 
 abbrev pub port_at : List TwoPort → ℕ → TwoPort
 port_at ports b = slice_index_or ports b no_port
-
--- both parts are in range
-pub record IsSmallAdmittance (y : Admittance) : Type 0 where
-  pub conductance : unsigned_abs y.conductance ≤ LARGEST_ENTRY
-  pub susceptance : unsigned_abs y.susceptance ≤ LARGEST_ENTRY
-
-pub record IsSmallPort (y : TwoPort) : Type 0 where
-  pub own : IsSmallAdmittance y.own
-  pub other : IsSmallAdmittance y.other

@@ -1,7 +1,6 @@
 -- Which cases can be scanned, and the one source that a scan wants.
 use Rattle.std.specs.Ordering.{int_eq}
-use Rattle.std.specs.Prelude.{pos, ◌<ℤ◌, int_lt, nat_lt, ◌&&◌, Bool, false, if◌then◌else◌, List, [], ◌∷◌, length, Option, Some, None, Result, Ok, Err}
-use Rattle.emtp_case.specs.EndNames.{IsNode}
+use Rattle.std.specs.Prelude.{pos, int_lt, nat_lt, ◌&&◌, Bool, false, if◌then◌else◌, List, [], ◌∷◌, length, Option, Some, None, Result, Ok, Err}
 use Rattle.emtp_case.specs.declared.branch.Branch.{Branch}
 use Rattle.emtp_case.specs.declared.branch.Branch.TheVariants.{Lumped as OfLumped, Line as OfLine, Pseudo as OfPseudo, Phase as OfPhase}
 use Rattle.emtp_case.specs.declared.case.Parts.{Parts}
@@ -39,11 +38,6 @@ abbrev pub probe_in : List Source → Option Probe
 probe_in [] = None
 probe_in (s ∷ []) = probe_by s
 probe_in (s ∷ other ∷ rest) = None
-
--- it stands at a node of the case, and its amplitude is above 0
-pub record IsProbe (case : Parts) (p : Probe) : Type 0 where
-  pub node : IsNode case p.node
-  pub above : pos 0 <ℤ p.amplitude
 
 -- ---- the case
 

@@ -1,13 +1,13 @@
 //! The admittances of branches at a frequency.
 
 ghost use Rattle.std.specs.Prelude.{◌≡◌, ◌≢◌, ◌*◌, ◌^◌, ◌≤◌, ◌-ℤ◌, ◌*ℤ◌, pos, ℕ, unsigned_abs, false, IfSome, IfOk};
-ghost use Rattle.emtp_case.specs.Range.{IsBetween};
-ghost use Rattle.emtp_admittance.specs.Frequency.{IsFrequency};
+ghost use Rattle.emtp_case.specs.held.Range.{IsBetween};
+ghost use Rattle.emtp_admittance.specs.held.Frequency.{IsFrequency};
 ghost use Rattle.emtp_fix.specs.Rounding.{near};
 ghost use Rattle.emtp_fix.specs.declared.limit.TheConstants.{ATTO, LARGEST_ENTRY, LARGEST_IMPEDANCE, LARGEST_WIDE};
-ghost use Rattle.emtp_admittance.specs.Admittances.{IsSmallAdmittance, IsSmallPort};
+ghost use Rattle.emtp_admittance.specs.held.Admittances.{IsSmallAdmittance, IsSmallPort};
 ghost use Rattle.emtp_admittance.specs.Impedance.{across_ends, across_impedance, angular_frequency, capacitive_reactance, inductive_reactance, inverse, is_too_large, line_port, lossless_port, or_refused, port_of, reactance_port, series_port, squared, susceptance, turn_port, opposite_admittance};
-ghost use Rattle.emtp_admittance.specs.Numbers.{HasPortNumbers};
+ghost use Rattle.emtp_admittance.specs.held.Numbers.{HasPortNumbers};
 
 use crate::admittance::{Admittance, TwoPort};
 use crate::refusal::Refusal;

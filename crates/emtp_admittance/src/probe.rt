@@ -1,7 +1,8 @@
 //! Which cases can be scanned.
 
 ghost use Rattle.std.specs.Prelude.{◌≡◌, ◌≤◌, length, IfOk, OnOk};
-ghost use Rattle.emtp_admittance.specs.Probes.{IsProbe, branch_barred, card_barred, is_plain_cosine, is_probe, judged_probe, probe_by, probe_in, scanned_by};
+ghost use Rattle.emtp_admittance.specs.Probes.{branch_barred, card_barred, is_plain_cosine, is_probe, judged_probe, probe_by, probe_in, scanned_by};
+ghost use Rattle.emtp_admittance.specs.held.Probes.{IsProbe};
 ghost use Rattle.emtp_admittance.specs.Refusals.{least_refusal};
 ghost use Rattle.emtp_admittance.specs.declared.limit.TheConstants.{MOST_PHASOR_NODES};
 

@@ -1,12 +1,12 @@
 //! Which card of a case is refused.
 
 ghost use Rattle.std.specs.Prelude.{◌≡◌, ◌≤◌, ◌^◌, length, IfOk, OnOk};
-ghost use Rattle.emtp_admittance.specs.Frequency.{IsFrequency};
+ghost use Rattle.emtp_admittance.specs.held.Frequency.{IsFrequency};
 ghost use Rattle.emtp_admittance.specs.declared.limit.TheConstants.{MOST_PHASOR_NODES};
 ghost use Rattle.emtp_case.specs.declared.source.Source.{Source};
 ghost use Rattle.emtp_case.specs.declared.control.Block.{Block};
 ghost use Rattle.std.specs.Option.{ForSome};
-ghost use Rattle.emtp_admittance.specs.Numbers.{HasPortNumbers};
+ghost use Rattle.emtp_admittance.specs.held.Numbers.{HasPortNumbers};
 ghost use Rattle.emtp_admittance.specs.Refusals.{branch_refused, control_cards, control_refused, control_line, first_frequency, frequency_in, is_cosine, judged_frequency, kind_refused, least_refusal, least_refused, refused_as, source_refused, switch_refused, unless_refused};
 
 use crate::admittance::TwoPort;

@@ -1,7 +1,7 @@
 -- What an answer of one call says of the answer of another.
 use Rattle.std.proofs.Common.{Result, Ok, Err, OnOk}
 use Rattle.std.specs.Prelude.{IfErr}
-use Rattle.emtp_audit.specs.Walk.{OnDiffers}
+use Rattle.emtp_audit.specs.held.Walk.{OnDiffers}
 use Rattle.emtp_audit.specs.declared.differs.AuditFault.{AuditFault}
 use Rattle.emtp_audit.specs.declared.differs.AuditFault.TheVariants.{Differs as Difference, NoMemory}
 use Rattle.emtp_audit.specs.declared.differs.Differs.{Differs}

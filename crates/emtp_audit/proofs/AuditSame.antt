@@ -4,14 +4,14 @@ use Rattle.std.specs.Prelude.{◌*ℤ◌}
 use Rattle.std.proofs.lemmas.Int.{ints}
 use Rattle.std.proofs.Math.Nat.{div-le_self, mul-le-mul_left, mul-le-mul_right}
 use Rattle.std.proofs.Math.IntN.{pos-*ℤ-pos}
-use Rattle.emtp_case.specs.Case.{IsCase}
+use Rattle.emtp_case.specs.held.Case.{IsCase}
 use Rattle.emtp_case.specs.RunData.{samples_of}
 use Rattle.emtp_case.specs.declared.case.Parts.{Parts}
 use Rattle.emtp_audit.specs.Audit.{audit_differs}
 use Rattle.emtp_machine.specs.Ranges.{AreSamplesInRange}
 use Rattle.emtp_audit.specs.Cfg.{cfg_rules, rates_in, scales_in, cfg_differs}
 use Rattle.emtp_audit.specs.Dat.{step_of, dat_differs}
-use Rattle.emtp_comtrade.specs.Multiplier.{IsMultiplier}
+use Rattle.emtp_comtrade.specs.held.Multiplier.{IsMultiplier}
 use Rattle.emtp_comtrade.specs.Record.{multiplier_at, cfg_text, dat_text}
 use Rattle.emtp_audit.specs.Rules.{differs_or_later, audited_lines, lines_differ}
 use Rattle.emtp_machine.specs.Samples.{value_at, greatest}

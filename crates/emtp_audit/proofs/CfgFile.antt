@@ -8,13 +8,14 @@ use Rattle.std.proofs.lemmas.List.Sums.{AllPass-from_list_all}
 use Rattle.std.proofs.Math.Nat.{div-le_self}
 use Rattle.emtp_fix.specs.Decimal.{fixed_text, point_fraction}
 use Rattle.emtp_card.proofs.Splitting.{lines_of-nil}
-use Rattle.emtp_card.specs.Lines.{lines_of, is_newline, HasNoNewline}
+use Rattle.emtp_card.specs.Lines.{lines_of, is_newline}
+use Rattle.emtp_card.specs.held.Lines.{HasNoNewline}
 use Rattle.emtp_card.specs.Numeral.{limited_whole}
 use Rattle.emtp_card.specs.Field.{trimmed}
-use Rattle.emtp_case.specs.Case.{IsCase}
+use Rattle.emtp_case.specs.held.Case.{IsCase}
 use Rattle.emtp_case.specs.declared.case.Parts.{Parts}
 use Rattle.emtp_audit.specs.Numbers.{whole_of}
-use Rattle.emtp_audit.specs.Pieces.{ended}
+use Rattle.emtp_audit.specs.held.Pieces.{ended}
 use Rattle.emtp_comtrade.specs.Record.{joined, is_status_at, is_analog_at, analog_before, status_before, multiplier_at, analog_line, status_line, analog_line_at, status_line_at, cfg_head, cfg_tail, cfg_text, end_of_line}
 use Rattle.emtp_audit.specs.Rules.{Rule, LineRule, Anything, Fields, any_field, text_is, number_is, is_padding, audited_lines}
 use Rattle.emtp_audit.specs.Cfg.{counts, is_read, unit_number, rates_number, analog_rule, status_rule, analog_rule_at, status_rule_at, head_rules, middle_rules, end_rules, letters_are, cfg_rules}

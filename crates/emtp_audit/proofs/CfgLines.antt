@@ -4,12 +4,12 @@ use Rattle.std.specs.Fmt.{digits}
 use Rattle.std.proofs.lemmas.Fmt.{decimal_nonempty}
 use Rattle.emtp_fix.specs.Decimal.{fixed_text}
 use Rattle.emtp_card.specs.Field.{trimmed}
-use Rattle.emtp_case.specs.Case.{IsCase}
+use Rattle.emtp_case.specs.held.Case.{IsCase}
 use Rattle.emtp_case.specs.ChannelName.{name_of_channel}
 use Rattle.emtp_case.specs.declared.case.Parts.{Parts}
 use Rattle.emtp_case.specs.declared.channel.Channel.{Channel}
 use Rattle.emtp_case.specs.declared.channel.Channel.TheVariants.{BranchCurrent, BranchVoltage, SwitchCurrent as CurrentChannel, NodeVoltage as NodeChannel, Tacs as OfTacs, Status, SwitchVoltage}
-use Rattle.emtp_audit.specs.Pieces.{ended}
+use Rattle.emtp_audit.specs.held.Pieces.{ended}
 use Rattle.emtp_comtrade.specs.Record.{analog_before, status_before, unit_at, unit_of, analog_line, status_line, end_of_line}
 use Rattle.emtp_audit.specs.Cfg.{is_read, scale_number, analog_rule, status_rule}
 use Rattle.emtp_audit.proofs.FieldsOfPieces.{IsPiece, ArePieces, with_commas}

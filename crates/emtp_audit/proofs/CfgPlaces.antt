@@ -3,9 +3,10 @@ use Rattle.std.proofs.Common.{◌≡◌, ◌∙◌, sym, ap, ℕ, zero, suc, ◌
 use Rattle.std.specs.Prelude.{max}
 use Rattle.emtp_case.specs.declared.case.Parts.{Parts}
 use Rattle.emtp_comtrade.specs.Record.{joined, is_status_at, analog_before, status_before}
-use Rattle.emtp_audit.specs.Cfg.{file_line, scale_on, rate_rule, rate_rules, date_rules, head_rules, analog_rule, analog_rule_at, status_rule, status_rule_at, analog_scales_on, scales_at, analog_scales, rates_in, cfg_rules, cfg_differs}
+use Rattle.emtp_audit.specs.Cfg.{file_line, scale_on, rate_rule, rate_rules, date_rules, head_rules, analog_rule, analog_rule_at, status_rule, status_rule_at, analog_scales, rates_in, cfg_rules, cfg_differs}
+use Rattle.emtp_audit.specs.held.Cfg.{analog_scales_on, scales_at}
 use Rattle.emtp_audit.specs.Rules.{Fields, any_field, number_is, audited_lines}
-use Rattle.emtp_audit.specs.Walk.{Behind, LinesLeft, finds_lines}
+use Rattle.emtp_audit.specs.held.Walk.{Behind, LinesLeft, finds_lines}
 use Rattle.emtp_audit.specs.declared.differs.Differs.{Differs}
 use Rattle.emtp_audit.specs.declared.scale.Scale.{Scale}
 use Rattle.emtp_audit.proofs.DatFile.{short_enough}

@@ -7,7 +7,7 @@ use Rattle.std.proofs.lemmas.List.{get_or-append-add, get_or_append_left}
 use Rattle.emtp_fix.specs.Decimal.{fixed_text}
 use Rattle.emtp_card.specs.Numeral.{limited_whole}
 use Rattle.emtp_card.specs.Field.{trimmed}
-use Rattle.emtp_case.specs.Case.{IsCase}
+use Rattle.emtp_case.specs.held.Case.{IsCase}
 use Rattle.emtp_case.specs.declared.case.Parts.{Parts}
 use Rattle.emtp_audit.specs.declared.scale.Scale.{Scale}
 use Rattle.emtp_comtrade.specs.Record.{joined, is_status_at, is_analog_at, analog_before, multiplier_at, cfg_text}

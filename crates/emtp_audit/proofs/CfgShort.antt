@@ -2,12 +2,12 @@
 use Rattle.std.proofs.Common.{◌≡◌, ◌++◌, ◌∙◌, ap, ℕ, zero, suc, ◌+◌, ◌^◌, ◌<◌, ◌≤◌, ℤ, pos, true, false, cond, List, [], ◌∷◌, map, length, get_or, refl, arith, decimal, codes, length-append}
 use Rattle.std.proofs.lemmas.Fmt.{length-decimal-le}
 use Rattle.emtp_fix.specs.Decimal.{fixed_text}
-use Rattle.emtp_case.specs.Case.{IsCase}
+use Rattle.emtp_case.specs.held.Case.{IsCase}
 use Rattle.emtp_case.specs.ChannelName.{name_of_channel}
 use Rattle.emtp_case.specs.declared.case.Parts.{Parts}
 use Rattle.emtp_case.specs.declared.channel.Channel.{Channel}
 use Rattle.emtp_case.specs.declared.channel.Channel.TheVariants.{BranchCurrent, BranchVoltage, SwitchCurrent as CurrentChannel, NodeVoltage as NodeChannel, Tacs as OfTacs, Status, SwitchVoltage}
-use Rattle.emtp_audit.specs.Pieces.{ended}
+use Rattle.emtp_audit.specs.held.Pieces.{ended}
 use Rattle.emtp_comtrade.specs.Record.{joined, is_status_at, is_analog_at, analog_before, status_before, unit_at, unit_of, multiplier_at, analog_line, status_line, analog_line_at, status_line_at, cfg_head, cfg_tail, cfg_text}
 use Rattle.emtp_audit.specs.Dat.{step_of}
 use Rattle.emtp_audit.proofs.FieldsOfPieces.{with_commas}

@@ -2,9 +2,9 @@
 use Rattle.std.proofs.Common.{◌≡◌, ◌∙◌, sym, ap, ℕ, suc, ◌<◌, List, ◌∷◌, ◌++◌, map, length, take, drop, get_or, Some, append_assoc, take-append-drop}
 use Rattle.std.proofs.Math.Seq.{drop-cons}
 use Rattle.std.proofs.lemmas.List.{map-append}
-use Rattle.emtp_audit.specs.Check.{rule_of}
+use Rattle.emtp_audit.specs.held.Check.{rule_of}
 use Rattle.emtp_audit.specs.Rules.{Rule}
-use Rattle.emtp_audit.specs.Walk.{Walked, finds}
+use Rattle.emtp_audit.specs.held.Walk.{Walked, finds}
 use Rattle.emtp_audit.specs.declared.check.Check.{Check}
 use Rattle.emtp_audit.specs.declared.differs.Differs.{Differs}
 

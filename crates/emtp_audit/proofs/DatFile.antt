@@ -10,9 +10,9 @@ use Rattle.emtp_card.specs.Field.{trimmed}
 use Rattle.emtp_case.specs.declared.case.Parts.{Parts}
 use Rattle.emtp_audit.specs.declared.differs.DifferCause.TheVariants.{Long}
 use Rattle.emtp_audit.specs.Numbers.{stamp_of}
-use Rattle.emtp_audit.specs.Pieces.{ended}
+use Rattle.emtp_audit.specs.held.Pieces.{ended}
 use Rattle.emtp_comtrade.specs.Record.{joined, is_status_at, multiplier_at, raw_at, state_at, dat_line, dat_text}
-use Rattle.emtp_comtrade.specs.Multiplier.{IsHeld}
+use Rattle.emtp_comtrade.specs.held.Multiplier.{IsHeld}
 use Rattle.emtp_machine.specs.Samples.{value_at}
 use Rattle.emtp_audit.specs.Rules.{LineRule, file_differs, differs_at, lines_differ, is_padding, without_padding, audited_lines, comma_fields}
 use Rattle.emtp_audit.specs.Dat.{Scales, dat_rule, dat_rules, first_stamp, dat_differs}

@@ -14,9 +14,9 @@ use Rattle.emtp_card.specs.Field.{trimmed}
 use Rattle.emtp_case.specs.declared.case.Parts.{Parts}
 use Rattle.emtp_audit.specs.declared.scale.Scale.{Scale}
 use Rattle.emtp_audit.specs.declared.differs.DifferCause.TheVariants.{NotNumber}
-use Rattle.emtp_audit.specs.Pieces.{ended}
+use Rattle.emtp_audit.specs.held.Pieces.{ended}
 use Rattle.emtp_comtrade.specs.Record.{joined, is_status_at, analog_before, multiplier_at, raw_at, state_at, dat_line, end_of_line}
-use Rattle.emtp_comtrade.specs.Multiplier.{IsHeld}
+use Rattle.emtp_comtrade.specs.held.Multiplier.{IsHeld}
 use Rattle.emtp_machine.specs.Samples.{value_at}
 use Rattle.emtp_audit.specs.Rules.{judged_number, unless_wrong, number_is, is_padding}
 use Rattle.emtp_audit.specs.Dat.{Scales, stands_for, raw_is, is_time, stamp_is, state_text, state_is, raw_rule_at, state_rule_at, step_of, dat_rule}

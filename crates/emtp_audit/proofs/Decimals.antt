@@ -10,7 +10,8 @@ use Rattle.std.proofs.lemmas.Bool.Decides.{nat_tests}
 use Rattle.std.proofs.lemmas.List.Sums.{take_while-cons}
 use Rattle.std.proofs.lemmas.Fmt.{decimal_nonempty}
 use Rattle.std.proofs.Math.Nat.{mod-lt, div-add-mod', div-le_self}
-use Rattle.emtp_fix.specs.Decimal.{fraction, written, point_fraction, fixed_text}
+use Rattle.emtp_fix.specs.Decimal.{fraction, point_fraction, fixed_text}
+use Rattle.emtp_fix.specs.held.Decimal.{written}
 use Rattle.emtp_fix.proofs.Digits.{fraction-none, fraction-digits, fraction-short, fraction-written, point_fraction-none, point_fraction-some, power-above}
 use Rattle.emtp_card.specs.Decimal.{Decimal, with_digits, number_of, times_power, value_in}
 use Rattle.emtp_card.specs.Numeral.{digits_of, fraction_of, exponent_of, composed, decimal_of}

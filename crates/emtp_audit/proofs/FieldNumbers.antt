@@ -2,7 +2,7 @@
 use Rattle.std.proofs.Common.{◌≡◌, ◌∙◌, sym, ap, ℕ, ℤ, pos, unsigned_abs, List, [], ◌∷◌, get_or, Option, Some, unwrap_or}
 use Rattle.emtp_audit.specs.Cfg.{scale_number, scale_on, rates_number, rates_on, unit_number, unit_on}
 use Rattle.emtp_audit.specs.Rules.{comma_fields}
-use Rattle.emtp_audit.specs.Walk.{Behind}
+use Rattle.emtp_audit.specs.held.Walk.{Behind}
 use Rattle.emtp_audit.specs.declared.scale.Scale.{Scale}
 
 pub unit_on-first : (text field : List ℕ) (rest fields : List (List ℕ)) (unit : ℤ) → fields ≡ comma_fields text → fields ≡ field ∷ rest → Some unit ≡ unit_number field → unit ≡ unit_on text

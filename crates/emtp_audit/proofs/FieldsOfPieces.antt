@@ -5,7 +5,8 @@ use Rattle.std.specs.List.{slice_split, onto_first}
 use Rattle.std.proofs.lemmas.List.Splits.{slice_split_none, slice_split_at, slice_split-cons_yes, slice_split-cons_no}
 use Rattle.std.proofs.lemmas.List.Elements.{All-append, All-cons}
 use Rattle.emtp_card.specs.Name.{is_comma}
-use Rattle.emtp_card.specs.Lines.{is_newline, HasNoNewline}
+use Rattle.emtp_card.specs.Lines.{is_newline}
+use Rattle.emtp_card.specs.held.Lines.{HasNoNewline}
 use Rattle.emtp_card.specs.Field.{trimmed}
 use Rattle.emtp_audit.specs.Rules.{comma_fields}
 

@@ -2,7 +2,7 @@
 use Rattle.std.proofs.Common.{◌≡◌, ◌∙◌, sym, ap, ℕ, suc, ◌+◌, ◌<◌, false, List, [], ◌∷◌, ◌++◌, length, get_or, Option, Some, None, refl, arith, append_assoc, add-one, length-append}
 use Rattle.emtp_comtrade.specs.Record.{joined}
 use Rattle.emtp_audit.specs.Rules.{LineRule, differs_or_later, line_differs, lines_differ, differs_at}
-use Rattle.emtp_audit.specs.Walk.{Behind, LinesLeft, finds_lines, Passes, StopsAt}
+use Rattle.emtp_audit.specs.held.Walk.{Behind, LinesLeft, finds_lines, Passes, StopsAt}
 use Rattle.emtp_audit.specs.declared.differs.DifferCause.TheVariants.{Missing}
 use Rattle.emtp_audit.specs.declared.differs.Differs.{Differs}
 use Rattle.emtp_audit.proofs.Joined.{later}

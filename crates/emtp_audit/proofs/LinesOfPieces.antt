@@ -2,8 +2,9 @@
 use Rattle.std.proofs.Common.{◌≡◌, ◌++◌, ◌∙◌, sym, ap, ℕ, ◌-◌, ◌==◌, false, cond, List, [], ◌∷◌, take, length, get_or, refl, arith, append_assoc, length-append}
 use Rattle.std.specs.Str.Lines.{strip_carriage_return}
 use Rattle.std.proofs.lemmas.List.Elements.{All-append, All-cons, All-nil}
-use Rattle.emtp_card.specs.Lines.{lines_of, is_newline, HasNoNewline}
-use Rattle.emtp_audit.specs.Pieces.{ended, IsLines}
+use Rattle.emtp_card.specs.Lines.{lines_of, is_newline}
+use Rattle.emtp_card.specs.held.Lines.{HasNoNewline}
+use Rattle.emtp_audit.specs.held.Pieces.{ended, IsLines}
 use Rattle.emtp_card.proofs.Splitting.{lines_by_pieces}
 
 -- a CR at the end is taken away

@@ -5,9 +5,10 @@ use Rattle.std.specs.List.{list_all}
 use Rattle.std.proofs.lemmas.List.{map-append}
 use Rattle.std.proofs.lemmas.List.Folds.{list_all-append}
 use Rattle.std.proofs.lemmas.List.Elements.{All-append, All-cons, All-nil}
-use Rattle.emtp_card.specs.Lines.{is_newline, HasNoNewline, lines_of}
+use Rattle.emtp_card.specs.Lines.{is_newline, lines_of}
+use Rattle.emtp_card.specs.held.Lines.{HasNoNewline}
 use Rattle.emtp_card.specs.Field.{trimmed}
-use Rattle.emtp_audit.specs.Pieces.{ended, IsLines}
+use Rattle.emtp_audit.specs.held.Pieces.{ended, IsLines}
 use Rattle.emtp_comtrade.specs.Record.{joined}
 use Rattle.emtp_audit.specs.Rules.{Rule, LineRule, Fields, lines_differ, is_padding, without_padding, audited_lines}
 use Rattle.emtp_audit.proofs.LinesOfPieces.{lines-piece, lines-none, lines-both}

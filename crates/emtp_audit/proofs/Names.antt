@@ -6,13 +6,14 @@ use Rattle.std.proofs.lemmas.List.{get_or-append-add}
 use Rattle.std.proofs.lemmas.List.Elements.{All-append, All-cons, All-nil, All-head, All-tail, All-get_or, All-weaker}
 use Rattle.emtp_card.specs.Lines.{is_newline}
 use Rattle.emtp_card.specs.Name.{is_comma}
-use Rattle.emtp_case.specs.Branch.{IsBranch, from_of, to_of}
-use Rattle.emtp_case.specs.Case.{IsCase}
-use Rattle.emtp_case.specs.Channel.{IsChannel}
+use Rattle.emtp_case.specs.Branch.{from_of, to_of}
+use Rattle.emtp_case.specs.held.Branch.{IsBranch}
+use Rattle.emtp_case.specs.held.Case.{IsCase}
+use Rattle.emtp_case.specs.held.Channel.{IsChannel}
 use Rattle.emtp_case.specs.ChannelName.{name_of_node, name_of_var, name_of_ends, name_of_branch, name_of_switch, text_of, name_of_channel}
-use Rattle.emtp_case.specs.Name.{IsName, IsNameByte}
-use Rattle.emtp_case.specs.Sizes.{Sizes, sizes_of}
-use Rattle.emtp_case.specs.Switch.{IsSwitch}
+use Rattle.emtp_case.specs.held.Name.{IsName, IsNameByte}
+use Rattle.emtp_case.specs.held.Sizes.{Sizes, sizes_of}
+use Rattle.emtp_case.specs.held.Switch.{IsSwitch}
 use Rattle.emtp_case.specs.declared.branch.Branch.{Branch}
 use Rattle.emtp_case.specs.declared.branch.Branch.TheVariants.{Lumped as OfLumped, Line as OfLine, Pseudo as OfPseudo, Phase as OfPhase}
 use Rattle.emtp_case.specs.declared.branch.Point.{Point}

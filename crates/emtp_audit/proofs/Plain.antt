@@ -8,7 +8,8 @@ use Rattle.std.proofs.lemmas.Bool.Decides.{nat_tests}
 use Rattle.std.proofs.lemmas.List.Folds.{list_all-append}
 use Rattle.std.proofs.lemmas.List.Elements.{All-weaker}
 use Rattle.std.proofs.lemmas.List.Sums.{AllPass-from_list_all}
-use Rattle.emtp_card.specs.Lines.{is_blank, is_newline, HasNoNewline}
+use Rattle.emtp_card.specs.Lines.{is_blank, is_newline}
+use Rattle.emtp_card.specs.held.Lines.{HasNoNewline}
 use Rattle.emtp_card.specs.Name.{is_comma}
 use Rattle.emtp_card.specs.Field.{trimmed, without_leading, without_trailing}
 use Rattle.emtp_audit.proofs.FieldsOfPieces.{HasNoComma}

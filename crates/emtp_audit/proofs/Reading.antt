@@ -8,7 +8,7 @@ use Rattle.emtp_audit.specs.Numbers.{stamp_of}
 use Rattle.emtp_audit.specs.Rules.{LineRule, lines_differ, line_differs, differs_or_later, is_padding, without_padding, audited_lines, comma_fields}
 use Rattle.emtp_audit.specs.Dat.{first_stamp}
 use Rattle.emtp_audit.proofs.Joined.{later}
-use Rattle.emtp_audit.specs.Walk.{stamp_in}
+use Rattle.emtp_audit.specs.held.Walk.{stamp_in}
 use Rattle.emtp_audit.specs.declared.differs.Differs.{Differs}
 
 -- ---- lines that are compared

@@ -14,7 +14,7 @@ use Rattle.emtp_comtrade.specs.Record.{is_status_at, is_analog_at, analog_before
 use Rattle.emtp_comtrade.proofs.Places.{count_below-less}
 use Rattle.emtp_audit.proofs.Joined.{later}
 use Rattle.emtp_audit.specs.Rules.{Rule, comma_fields, fields_differ, differs_at, cause_or_later}
-use Rattle.emtp_audit.specs.Walk.{Walked, finds, Walks, TakesField, JudgesField}
+use Rattle.emtp_audit.specs.held.Walk.{Walked, finds, Walks, TakesField, JudgesField}
 use Rattle.emtp_audit.specs.declared.differs.DifferCause.{DifferCause}
 use Rattle.emtp_audit.specs.declared.differs.DifferCause.TheVariants.{Extra}
 use Rattle.emtp_audit.specs.declared.differs.Differs.{Differs}

@@ -150,14 +150,6 @@ rates_in p lines = rates_on (file_line lines (length p.channels + 3))
 abbrev pub unit_in : Parts → List (List ℕ) → ℤ
 unit_in p lines = unit_on (file_line lines (length p.channels + 7 + max (rates_in p lines) 1))
 
--- the scales of so many analog channels, from their lines on
-abbrev pub analog_scales_on : ℕ → List (List ℕ) → List Scale
-analog_scales_on count lines = joined count (λ number. scale_on (file_line lines number) ∷ [])
-
--- the scale of the channel at a place, where it is an analog one, by the next line
-abbrev pub scales_at : Parts → ℕ → List (List ℕ) → List Scale
-scales_at p place lines = if is_status_at p place then [] else scale_on (file_line lines 0) ∷ []
-
 -- the scales of the analog channels of a configuration, behind its head
 abbrev pub analog_scales : Parts → List (List ℕ) → List Scale
 analog_scales p lines = joined (analog_before p (length p.channels)) (λ number. scale_on (file_line lines (2 + number)) ∷ [])

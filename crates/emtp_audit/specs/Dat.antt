@@ -1,5 +1,5 @@
 -- What the lines of the data have to be.
-use Rattle.std.specs.Prelude.{ℕ, ◌+◌, ◌^◌, ◌≤◌, ◌==◌, nat_le, ℤ, pos, ◌+ℤ◌, ◌-ℤ◌, ◌*ℤ◌, unsigned_abs, Bool, true, ◌||◌, List, [], ◌∷◌, ◌++◌, length, slice_index_or, codes, Option, Some, unwrap_or, if◌then◌else◌}
+use Rattle.std.specs.Prelude.{ℕ, ◌+◌, ◌^◌, ◌==◌, nat_le, ℤ, pos, ◌+ℤ◌, ◌-ℤ◌, ◌*ℤ◌, unsigned_abs, Bool, true, ◌||◌, List, [], ◌∷◌, ◌++◌, length, slice_index_or, codes, Option, Some, unwrap_or, if◌then◌else◌}
 use Rattle.std.specs.Str.{bytes_eq}
 use Rattle.emtp_case.specs.declared.case.Parts.{Parts}
 use Rattle.emtp_comtrade.specs.Record.{is_status_at, analog_before}
@@ -9,7 +9,6 @@ use Rattle.emtp_comtrade.specs.Record.{joined}
 use Rattle.emtp_audit.specs.Rules.{Rule, LineRule, Fields, judged_number, unless_wrong, number_is, file_differs, audited_lines, comma_fields}
 use Rattle.emtp_audit.specs.declared.differs.DifferCause.TheVariants.{NotNumber}
 use Rattle.emtp_audit.specs.declared.differs.Differs.{Differs}
-use Rattle.emtp_audit.specs.declared.scale.Cfg.{Cfg}
 use Rattle.emtp_audit.specs.declared.scale.Scale.{Scale}
 
 -- what the configuration says: the scale of each analog channel, by its number from 0, and the unit of time stamps in ps
@@ -71,12 +70,3 @@ dat_differs p rows scales bytes = file_differs true (dat_rules p rows scales (fi
 -- what a configuration that was read says: the scales in order, and the unit
 abbrev pub scales_of : List Scale → ℤ → Scales
 scales_of scales unit = record { scale = λ number. slice_index_or scales number (record { a = pos 0; b = pos 0 }); unit = unit }
-
--- what a configuration tells that was read
-abbrev pub told_by : Cfg → Scales
-told_by cfg = scales_of cfg.scales.items cfg.multiplier
-
--- the numbers of a scale have limits
-pub record IsScale (scale : Scale) : Type 0 where
-  pub a : unsigned_abs scale.a ≤ 10 ^ 28
-  pub b : unsigned_abs scale.b ≤ 10 ^ 28

@@ -1,11 +1,9 @@
--- ---- what a promise says
+-- what the clauses of the program say
 pub mod Audit
 pub mod Cfg
 pub mod Dat
 pub mod Rules
 pub mod Numbers
 pub mod Note
-pub mod Pieces
--- ---- how the code walks
-pub mod Check
-pub mod Walk
+-- what values hold for their proofs
+pub mod held

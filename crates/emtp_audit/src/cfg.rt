@@ -1,9 +1,10 @@
 //! The comparison of the configuration, and what it says of the data.
 ghost use Rattle.std.specs.Prelude.{◌≡◌, ◌+◌, ◌-◌, ◌<◌, ◌^◌, ◌≤ℤ◌, ◌++◌, [], ◌∷◌, None, Some, All, length, max, pos, IfOk, IfErr, OnOk};
 ghost use Rattle.emtp_comtrade.specs.Record.{joined, analog_before, status_before};
-ghost use Rattle.emtp_audit.specs.Cfg.{head_rules, numbers_rule, analog_rule_at, status_rule_at, middle_rules, rate_rule, rate_rules, date_rules, end_rules, file_line, rates_on, unit_on, analog_scales_on, scales_at, scales_in, cfg_differs};
-ghost use Rattle.emtp_audit.specs.Dat.{told_by, IsScale};
-ghost use Rattle.emtp_audit.specs.Walk.{finds_lines, difference_in, Passes, StopsAt, OnDiffers};
+ghost use Rattle.emtp_audit.specs.Cfg.{head_rules, numbers_rule, analog_rule_at, status_rule_at, middle_rules, rate_rule, rate_rules, date_rules, end_rules, file_line, rates_on, unit_on, scales_in, cfg_differs};
+ghost use Rattle.emtp_audit.specs.held.Cfg.{analog_scales_on, scales_at};
+ghost use Rattle.emtp_audit.specs.held.Dat.{told_by, IsScale};
+ghost use Rattle.emtp_audit.specs.held.Walk.{finds_lines, difference_in, Passes, StopsAt, OnDiffers};
 
 use crate::cfg_lines::{read_rates, read_scale, read_unit};
 use crate::check::Check;

@@ -4,8 +4,9 @@ ghost use Rattle.std.specs.List.{list_all};
 ghost use Rattle.emtp_card.specs.Lines.{lines_of};
 ghost use Rattle.emtp_comtrade.specs.Record.{analog_before};
 ghost use Rattle.emtp_audit.specs.Rules.{is_padding, audited_lines};
-ghost use Rattle.emtp_audit.specs.Dat.{told_by, dat_rule, first_stamp, dat_differs, IsScale};
-ghost use Rattle.emtp_audit.specs.Walk.{LineWalks, difference_in, stamp_in};
+ghost use Rattle.emtp_audit.specs.Dat.{dat_rule, first_stamp, dat_differs};
+ghost use Rattle.emtp_audit.specs.held.Dat.{told_by, IsScale};
+ghost use Rattle.emtp_audit.specs.held.Walk.{LineWalks, difference_in, stamp_in};
 
 use crate::differs::{DifferCause, Differs};
 use crate::fields::Fields;

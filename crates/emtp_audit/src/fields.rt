@@ -3,7 +3,7 @@ ghost use Rattle.std.specs.Prelude.{◌≡◌, ◌+◌, ◌<◌, ◌≤◌, [], 
 ghost use Rattle.emtp_card.specs.Name.{is_comma};
 ghost use Rattle.emtp_card.specs.Field.{trimmed};
 ghost use Rattle.emtp_audit.specs.Rules.{comma_fields, differs_at, number_is, unless_wrong};
-ghost use Rattle.emtp_audit.specs.Walk.{Walked, Walks, TakesField, JudgesField, finds, difference_in};
+ghost use Rattle.emtp_audit.specs.held.Walk.{Walked, Walks, TakesField, JudgesField, finds, difference_in};
 
 use crate::differs::{DifferCause, Differs};
 use crate::numbers::whole;
@@ -23,7 +23,7 @@ pub(crate) struct Fields<'a> {
 impl<'a> Model for Fields<'a> {
     ghost use Rattle.std.specs.Prelude.{◌+◌, [], if◌then◌else◌};
     ghost use Rattle.emtp_audit.specs.Rules.{comma_fields};
-    ghost use Rattle.emtp_audit.specs.Walk.{Walked};
+    ghost use Rattle.emtp_audit.specs.held.Walk.{Walked};
 
     ghost Value = { Walked };
 

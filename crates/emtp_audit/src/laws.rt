@@ -2,14 +2,14 @@
 ghost use Rattle.std.specs.Prelude.{◌≡◌, ℕ, ℤ, List, [], ◌∷◌, ◌++◌, Some, None, pos, ◌<◌, ◌≤◌, ◌*◌, ◌-◌, ◌^◌, decimal, unsigned_abs};
 ghost use Rattle.std.specs.Fmt.{signed_decimal};
 ghost use Rattle.emtp_fix.specs.Decimal.{fixed_text};
-ghost use Rattle.emtp_card.specs.Lines.{HasNoNewline};
-ghost use Rattle.emtp_case.specs.Case.{IsCase};
+ghost use Rattle.emtp_card.specs.held.Lines.{HasNoNewline};
+ghost use Rattle.emtp_case.specs.held.Case.{IsCase};
 ghost use Rattle.emtp_case.specs.declared.case.Parts.{Parts};
 ghost use Rattle.emtp_audit.specs.Audit.{audit_differs};
 ghost use Rattle.emtp_machine.specs.History.{history, samples};
 ghost use Rattle.emtp_machine.specs.Ranges.{AreSamplesInRange};
 ghost use Rattle.emtp_audit.specs.Numbers.{whole_of, stamp_of};
-ghost use Rattle.emtp_audit.specs.Pieces.{IsLines, ended};
+ghost use Rattle.emtp_audit.specs.held.Pieces.{IsLines, ended};
 ghost use Rattle.emtp_comtrade.specs.Record.{cfg_text, dat_text};
 
 /// The lines of a text that is made of pieces, each ended by CR and LF, are those pieces, and then those of the rest.

@@ -2,9 +2,9 @@
 ghost use Rattle.std.specs.Prelude.{◌≡◌, false, ◌+◌, ◌<◌, ◌≤◌, [], ◌∷◌, Some, length, map, IfOk, IfErr, IfSome, OnOk, MatchOption};
 ghost use Rattle.std.specs.List.{list_all};
 ghost use Rattle.emtp_card.specs.Lines.{lines_of};
-ghost use Rattle.emtp_audit.specs.Check.{rule_of};
+ghost use Rattle.emtp_audit.specs.held.Check.{rule_of};
 ghost use Rattle.emtp_audit.specs.Rules.{LineRule, Fields, Anything, is_padding, audited_lines, differs_at};
-ghost use Rattle.emtp_audit.specs.Walk.{LinesLeft, finds_lines, difference_in, Passes, StopsAt};
+ghost use Rattle.emtp_audit.specs.held.Walk.{LinesLeft, finds_lines, difference_in, Passes, StopsAt};
 ghost use Rattle.emtp_audit.specs.declared.differs.DifferCause.TheVariants.{Missing};
 
 use crate::check::{Check, judge_line};
@@ -25,7 +25,7 @@ pub(crate) struct Lines<'a> {
 impl<'a> Model for Lines<'a> {
     ghost use Rattle.std.specs.Prelude.{◌+◌, ◌≤◌, length};
     ghost use Rattle.emtp_audit.specs.Rules.{audited_lines};
-    ghost use Rattle.emtp_audit.specs.Walk.{LinesLeft};
+    ghost use Rattle.emtp_audit.specs.held.Walk.{LinesLeft};
 
     ghost Value = { LinesLeft };
 

@@ -1,7 +1,7 @@
 //! Whether two files are the record of a case.
 ghost use Rattle.std.specs.Prelude.{◌≡◌, None, Some, length, IfErr, OnOk};
 ghost use Rattle.emtp_audit.specs.Audit.{audit_differs};
-ghost use Rattle.emtp_audit.specs.Walk.{OnDiffers};
+ghost use Rattle.emtp_audit.specs.held.Walk.{OnDiffers};
 
 use crate::cfg::read_cfg;
 use crate::dat::read_dat;

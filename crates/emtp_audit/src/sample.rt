@@ -3,8 +3,9 @@ ghost use Rattle.std.specs.Prelude.{◌≡◌, true, ◌+◌, ◌<◌, ◌≤◌
 ghost use Rattle.emtp_comtrade.specs.Record.{is_status_at, analog_before};
 ghost use Rattle.emtp_comtrade.specs.Record.{joined};
 ghost use Rattle.emtp_audit.specs.Rules.{line_differs, Fields};
-ghost use Rattle.emtp_audit.specs.Dat.{told_by, step_of, raw_rule_at, state_rule_at, dat_rule, IsScale};
-ghost use Rattle.emtp_audit.specs.Walk.{Walked, Walks, finds, difference_in};
+ghost use Rattle.emtp_audit.specs.Dat.{step_of, raw_rule_at, state_rule_at, dat_rule};
+ghost use Rattle.emtp_audit.specs.held.Dat.{told_by, IsScale};
+ghost use Rattle.emtp_audit.specs.held.Walk.{Walked, Walks, finds, difference_in};
 
 use crate::differs::{DifferCause, Differs};
 use crate::fields::{Fields, walk_number};

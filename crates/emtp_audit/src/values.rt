@@ -1,8 +1,9 @@
 //! The comparisons of a line of the data.
 ghost use Rattle.std.specs.Prelude.{◌≡◌, ◌+◌, ◌*◌, ◌<◌, ◌≤◌, ◌∷◌, [], ℕ, ℤ, pos, ◌≤ℤ◌, ◌*ℤ◌, unsigned_abs, ◌-ℤ◌, ◌^◌, OnOk};
 ghost use Rattle.emtp_fix.specs.declared.limit.TheConstants.{LARGEST_WIDE};
-ghost use Rattle.emtp_audit.specs.Dat.{is_time, stamp_is, stands_for, raw_is, state_text, state_is, IsScale};
-ghost use Rattle.emtp_audit.specs.Walk.{Walked, Walks};
+ghost use Rattle.emtp_audit.specs.Dat.{is_time, stamp_is, stands_for, raw_is, state_text, state_is};
+ghost use Rattle.emtp_audit.specs.held.Dat.{IsScale};
+ghost use Rattle.emtp_audit.specs.held.Walk.{Walked, Walks};
 
 use crate::differs::{DifferCause, Differs};
 use crate::fields::{Fields, unless_wrong};

@@ -3,8 +3,9 @@ use Rattle.std.proofs.Common.{◌≡◌, ap, List, [], ◌∷◌, ◌++◌, All,
 use Rattle.std.proofs.lemmas.List.Elements.{All-head, All-tail}
 use Rattle.emtp_case.proofs.SwitchTimes.{count_stays, times_twice}
 use Rattle.emtp_case.specs.declared.case.Parts.{Parts}
-use Rattle.emtp_batch.specs.Altered.{after_rows, altered, time_switches}
-use Rattle.emtp_batch.specs.Row.{IsRowFor}
+use Rattle.emtp_batch.specs.Altered.{altered}
+use Rattle.emtp_batch.specs.held.Altered.{after_rows, time_switches}
+use Rattle.emtp_batch.specs.held.Row.{IsRowFor}
 use Rattle.emtp_batch.specs.declared.table.Row.{Row}
 
 pub one_row_more : (case : Parts) (rows : List Row) (row : Row) → after_rows case (rows ++ row ∷ []) ≡ altered case row

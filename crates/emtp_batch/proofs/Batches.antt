@@ -8,9 +8,10 @@ use Rattle.std.specs.Result.{OnErr}
 use Rattle.emtp_case.specs.Switch.{with_times}
 use Rattle.emtp_case.specs.declared.case.Parts.{Parts}
 use Rattle.emtp_case.specs.declared.switch.Times.{Times}
-use Rattle.emtp_batch.specs.Altered.{IsAfterSome, after_rows, altered, altered_cases, time_switches}
+use Rattle.emtp_batch.specs.Altered.{altered, altered_cases}
+use Rattle.emtp_batch.specs.held.Altered.{IsAfterSome, after_rows, time_switches}
 use Rattle.emtp_batch.specs.Report.{report_of, reports_of}
-use Rattle.emtp_batch.specs.Row.{IsRowFor}
+use Rattle.emtp_batch.specs.held.Row.{IsRowFor}
 use Rattle.emtp_batch.specs.declared.report.RowReport.{RowReport}
 use Rattle.emtp_batch.specs.declared.table.Row.{Row}
 use Rattle.emtp_batch.proofs.AlteredCases.{altered_after, count_after, one_row_more}

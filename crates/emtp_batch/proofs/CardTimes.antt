@@ -6,13 +6,14 @@ use Rattle.std.proofs.lemmas.List.Sums.{sum_by-cons}
 use Rattle.std.proofs.lemmas.List.{take_all}
 use Rattle.std.specs.List.{cons_option}
 use Rattle.std.specs.Prelude.{slice_index_or}
-use Rattle.emtp_case.specs.Sizes.{Sizes}
-use Rattle.emtp_case.specs.Switch.{IsSwitch, IsSwitchKind, card_times, is_time_kind, is_time_switch, own_times, times_of_kind}
+use Rattle.emtp_case.specs.held.Sizes.{Sizes}
+use Rattle.emtp_case.specs.Switch.{card_times, is_time_kind, is_time_switch, own_times, times_of_kind}
+use Rattle.emtp_case.specs.held.Switch.{IsSwitch, IsSwitchKind}
 use Rattle.emtp_case.specs.declared.switch.Switch.{Switch}
 use Rattle.emtp_case.specs.declared.switch.SwitchKind.{SwitchKind}
 use Rattle.emtp_case.specs.declared.switch.SwitchKind.TheVariants.{Control, Measuring, Time, Valve}
 use Rattle.emtp_case.specs.declared.switch.Times.{Times}
-use Rattle.emtp_batch.specs.Row.{AreTimesInRange}
+use Rattle.emtp_batch.specs.held.Row.{AreTimesInRange}
 
 pub length-card_times : (ss : List Switch) → length (card_times ss) ≡ count_by is_time_switch ss
 length-card_times [] = refl

@@ -1,12 +1,8 @@
 -- The case under a row of the table.
-use Rattle.std.specs.Prelude.{◌≡◌, ℕ, ◌≤◌, List, [], ◌∷◌, length, map, take, count_by}
-use Rattle.emtp_case.specs.Switch.{is_time_switch, with_times}
+use Rattle.std.specs.Prelude.{List, map}
+use Rattle.emtp_case.specs.Switch.{with_times}
 use Rattle.emtp_case.specs.declared.case.Parts.{Parts}
 use Rattle.emtp_batch.specs.declared.table.Row.{Row}
-
--- how many entries a row has
-abbrev pub time_switches : Parts → ℕ
-time_switches case = count_by is_time_switch case.switches
 
 -- the case with the times of a row
 abbrev pub altered : Parts → Row → Parts
@@ -15,15 +11,3 @@ altered case row = record case { switches = with_times case.switches row.times }
 -- the cases that the rows of a table make of a case, each from the case itself
 abbrev pub altered_cases : Parts → List Row → List Parts
 altered_cases case rows = map (λ row. altered case row) rows
-
--- the case as the rows leave it: with the times of the last one
-abbrev pub after_rows : Parts → List Row → Parts
-after_rows case [] = case
-after_rows case (row ∷ []) = altered case row
-after_rows case (row ∷ next ∷ more) = after_rows case (next ∷ more)
-
--- the case as some of the rows leave it, or as it was
-pub record IsAfterSome (case : Parts) (rows : List Row) (now : Parts) : Type 0 where
-  pub count : ℕ
-  pub few : count ≤ length rows
-  pub is : now ≡ after_rows case (take count rows)

@@ -1,14 +1,12 @@
 -- A row: a closing and an opening time for each time switch.
-use Rattle.std.specs.Prelude.{◌≡◌, ℕ, ◌+◌, ℤ, pos, neg_ℤ, List, [], ◌∷◌, length, drop, slice_get, All, Option, Some, None, option_map, Result, Ok, Err, codes, if◌then◌else◌}
+use Rattle.std.specs.Prelude.{ℕ, ◌+◌, ℤ, pos, neg_ℤ, List, [], ◌∷◌, drop, slice_get, Option, Some, None, option_map, Result, Ok, Err, codes, if◌then◌else◌}
 use Rattle.std.specs.Option.{option_and_then}
 use Rattle.std.specs.Result.{result_ok}
 use Rattle.std.specs.Str.{bytes_eq}
 use Rattle.emtp_card.specs.Number.{held_number}
-use Rattle.emtp_case.specs.Switch.{HasTimes}
 use Rattle.emtp_case.specs.declared.switch.Times.{Times}
 use Rattle.emtp_batch.specs.Items.{items_of}
 use Rattle.emtp_batch.specs.declared.row.TheConstants.{LATEST_TIME}
-use Rattle.emtp_batch.specs.declared.table.Row.{Row}
 
 -- ---- items
 
@@ -54,12 +52,3 @@ times_from at (card ∷ cards) items = cons_result (times_at at card items) (tim
 -- the times of a row, or the number of its least faulty item
 unfoldable pub row_times : List Times → List ℕ → Result (List Times) ℕ
 row_times cards line = times_from 1 cards (items_of line)
-
--- a closing and an opening time in range
-abbrev pub AreTimesInRange : Times → Type 0
-AreTimesInRange t = HasTimes t.close t.open_at
-
--- a row for so many time switches: one entry each, in range
-pub record IsRowFor (count : ℕ) (row : Row) : Type 0 where
-  pub count_is : length row.times ≡ count
-  pub in_range : All AreTimesInRange row.times

@@ -1,9 +1,10 @@
 //! What the run of each row gives.
 
 ghost use Rattle.std.specs.Prelude.{◌≡◌, ◌<◌, ◌≤◌, length, unsigned_abs, All, IfOk, OnOk, OnErr};
-ghost use Rattle.emtp_batch.specs.Altered.{IsAfterSome, after_rows, altered_cases, time_switches};
+ghost use Rattle.emtp_batch.specs.Altered.{altered_cases};
+ghost use Rattle.emtp_batch.specs.held.Altered.{IsAfterSome, after_rows, time_switches};
 ghost use Rattle.emtp_batch.specs.Report.{peak_of_channel, peaks_of, report_of, reports_of};
-ghost use Rattle.emtp_batch.specs.Row.{IsRowFor};
+ghost use Rattle.emtp_batch.specs.held.Row.{IsRowFor};
 ghost use Rattle.emtp_fix.specs.declared.limit.TheConstants.{LARGEST_VALUE};
 ghost use Rattle.emtp_machine.specs.Laws.{EndsWithin, SamplesBalance};
 ghost use Rattle.emtp_machine.specs.Ranges.{AreSamplesInRange};

@@ -2,11 +2,12 @@
 
 ghost use Rattle.std.specs.Prelude.{◌≡◌, ◌+◌, ◌≤◌, ◌<◌, ◌^◌, ◌++◌, ◌∷◌, [], length, count_by, drop, map, All, Some, Ok, Err, IfOk, IfErr, unsigned_abs};
 ghost use Rattle.std.specs.Option.{ForSome};
-ghost use Rattle.emtp_card.specs.Number.{IsWithin};
+ghost use Rattle.emtp_card.specs.held.Number.{IsWithin};
 ghost use Rattle.emtp_case.specs.Switch.{card_times, is_time_switch};
-ghost use Rattle.emtp_batch.specs.Answer.{IsRefused};
+ghost use Rattle.emtp_batch.specs.held.Answer.{IsRefused};
 ghost use Rattle.emtp_batch.specs.Items.{items_of};
-ghost use Rattle.emtp_batch.specs.Row.{AreTimesInRange, IsRowFor, closing_time, opening_time, row_times, time_of, times_at};
+ghost use Rattle.emtp_batch.specs.Row.{closing_time, opening_time, row_times, time_of, times_at};
+ghost use Rattle.emtp_batch.specs.held.Row.{AreTimesInRange, IsRowFor};
 ghost use Rattle.emtp_batch.specs.Table.{on_line};
 
 use crate::items::next_item;

@@ -1,9 +1,9 @@
 //! The table of switch times: a row a line.
 
 ghost use Rattle.std.specs.Prelude.{◌≡◌, ◌≤◌, length, count_by, All, IfOk, IfErr};
-ghost use Rattle.emtp_batch.specs.Altered.{time_switches};
-ghost use Rattle.emtp_batch.specs.Answer.{IsRefused};
-ghost use Rattle.emtp_batch.specs.Row.{AreTimesInRange, IsRowFor};
+ghost use Rattle.emtp_batch.specs.held.Altered.{time_switches};
+ghost use Rattle.emtp_batch.specs.held.Answer.{IsRefused};
+ghost use Rattle.emtp_batch.specs.held.Row.{AreTimesInRange, IsRowFor};
 ghost use Rattle.emtp_batch.specs.Table.{is_skipped, row_on_line, rows_in, times_table};
 ghost use Rattle.emtp_card.specs.Lines.{is_blank};
 ghost use Rattle.std.specs.List.{list_all};

@@ -7,7 +7,8 @@ use Rattle.std.proofs.lemmas.Int.{ints}
 use Rattle.emtp_elim.specs.Matrix.{item}
 use Rattle.emtp_fix.proofs.Wide.{through}
 use Rattle.emtp_fix.specs.Limit.{is_within}
-use Rattle.emtp_blocks.specs.Block.{carried, chain_number, each_within, IsKept}
+use Rattle.emtp_blocks.specs.Block.{carried, chain_number, each_within}
+use Rattle.emtp_blocks.specs.held.Block.{IsKept}
 use Rattle.emtp_case.specs.declared.control.BlockState.{BlockState}
 
 pub chain_number_small : (s : BlockState) (j : ℕ) → IsKept s → unsigned_abs (chain_number s.chain j) ≤ 10 ^ 36

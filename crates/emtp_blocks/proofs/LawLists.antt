@@ -5,8 +5,8 @@ use Rattle.std.proofs.lemmas.List.{get_or_append_left}
 use Rattle.std.proofs.Math.Seq.{get_or-append_seam}
 use Rattle.emtp_case.specs.declared.case.Parts.{Parts}
 use Rattle.emtp_case.specs.declared.control.Block.{Block}
-use Rattle.emtp_blocks.specs.Block.{IsLawOf}
-use Rattle.emtp_blocks.specs.BlockRows.{AreLaws, no_law}
+use Rattle.emtp_blocks.specs.held.Block.{IsLawOf}
+use Rattle.emtp_blocks.specs.held.BlockRows.{AreLaws, no_law}
 use Rattle.emtp_blocks.specs.declared.law.BlockLaw.{BlockLaw}
 
 pub laws_more : (case : Parts) (laws new : List BlockLaw) (at : ℕ) (l : BlockLaw) → length laws ≡ at → new ≡ laws ++ l ∷ [] → ((b : Block) → slice_get case.blocks at ≡ Some b → IsLawOf case.run.dt b l) → AreLaws case laws at → AreLaws case new (at + 1)

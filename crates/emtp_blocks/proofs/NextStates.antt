@@ -12,7 +12,8 @@ use Rattle.emtp_fix.specs.Rounding.{near}
 use Rattle.emtp_elim.specs.Matrix.{item, list_of}
 use Rattle.emtp_case.specs.Sums.{sum_below}
 use Rattle.emtp_fix.specs.Limit.{is_within}
-use Rattle.emtp_blocks.specs.Block.{carried, past_output, error_of, chain_of, limiter_for, output_of, padded, unlimited, input_of, each_within, kept_of, next_state, IsLawOf, IsKept, HasState, Keeps}
+use Rattle.emtp_blocks.specs.Block.{carried, past_output, error_of, chain_of, limiter_for, output_of, padded, unlimited, input_of, each_within, kept_of, next_state}
+use Rattle.emtp_blocks.specs.held.Block.{IsLawOf, IsKept, HasState, Keeps}
 use Rattle.emtp_case.specs.declared.control.Limiter.{Limiter}
 use Rattle.emtp_blocks.specs.declared.law.BlockLaw.{BlockLaw}
 use Rattle.emtp_blocks.specs.declared.limits.Limits.{Limits}

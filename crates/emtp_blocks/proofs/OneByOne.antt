@@ -13,8 +13,8 @@ use Rattle.emtp_case.specs.declared.control.Limiter.{Limiter}
 use Rattle.emtp_case.specs.declared.control.Limiter.TheVariants.{Free}
 use Rattle.emtp_case.specs.declared.control.Bound.TheVariants.{None as NoBound}
 use Rattle.emtp_elim.specs.Matrix.{item}
-use Rattle.emtp_blocks.specs.Block.{HasState}
-use Rattle.emtp_blocks.specs.BlockRows.{AreAccepted, Gives, Blocking, StandsAt, StandsFor, limiters_kept, no_kept}
+use Rattle.emtp_blocks.specs.held.Block.{HasState}
+use Rattle.emtp_blocks.specs.held.BlockRows.{AreAccepted, Gives, Blocking, StandsAt, StandsFor, limiters_kept, no_kept}
 use Rattle.emtp_blocks.specs.System.{first_out, next_at, output_at, outputs, states_after, limiters_of, state_at}
 use Rattle.emtp_blocks.specs.declared.accepting.Accepted.{Accepted}
 

@@ -3,9 +3,9 @@ use Rattle.std.proofs.Common.{◌≡◌, subst, ℕ, ℤ, pos, All, List, length
 use Rattle.std.specs.List.{range_with_len}
 use Rattle.std.proofs.lemmas.List.Elements.{All-map}
 use Rattle.std.proofs.lemmas.Option.{get_or_from_slice_get, slice_get_within}
-use Rattle.emtp_case.specs.Case.{IsControl}
-use Rattle.emtp_case.specs.Control.{IsBlock, IsBound}
-use Rattle.emtp_case.specs.Sizes.{sizes_of}
+use Rattle.emtp_case.specs.held.Case.{IsControl}
+use Rattle.emtp_case.specs.held.Control.{IsBlock, IsBound}
+use Rattle.emtp_case.specs.held.Sizes.{sizes_of}
 use Rattle.emtp_case.specs.StepRecord.{StepRecord}
 use Rattle.emtp_case.specs.declared.case.Parts.{Parts}
 use Rattle.emtp_case.specs.declared.control.Block.{Block}
@@ -13,7 +13,8 @@ use Rattle.emtp_case.specs.declared.control.Bound.{Bound}
 use Rattle.emtp_case.specs.declared.control.Bound.TheVariants.{Fixed, Named, None as NoBound}
 use Rattle.emtp_case.specs.declared.control.Limiter.{Limiter}
 use Rattle.emtp_case.specs.declared.control.Limiter.TheVariants.{AtHigh, AtLow, Free}
-use Rattle.emtp_elim.specs.Matrix.{AreWithin, item}
+use Rattle.emtp_elim.specs.Matrix.{item}
+use Rattle.emtp_elim.specs.held.Matrix.{AreWithin}
 use Rattle.emtp_fix.proofs.Ranges.{IsSmall, item_small}
 use Rattle.emtp_fix.specs.declared.limit.TheConstants.{LARGEST_VALUE}
 use Rattle.emtp_blocks.specs.Block.{held, limit_of, limiter_for, limits_of, output_of}

@@ -8,8 +8,8 @@ use Rattle.emtp_case.specs.StepRecord.{no_block, rest_of}
 use Rattle.emtp_case.specs.declared.control.BlockState.{BlockState}
 use Rattle.emtp_case.specs.declared.case.Parts.{Parts}
 use Rattle.emtp_elim.specs.Matrix.{item}
-use Rattle.emtp_blocks.specs.Block.{HasState, IsKept}
-use Rattle.emtp_blocks.specs.BlockRows.{IsAtRest, StandsAt, no_kept}
+use Rattle.emtp_blocks.specs.held.Block.{HasState, IsKept}
+use Rattle.emtp_blocks.specs.held.BlockRows.{IsAtRest, StandsAt, no_kept}
 use Rattle.emtp_blocks.specs.System.{state_at}
 
 zero_at : (n j : ℕ) → item (replicate n (pos 0)) j ≡ pos 0

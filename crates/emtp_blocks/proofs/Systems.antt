@@ -13,8 +13,9 @@ use Rattle.emtp_case.specs.declared.control.Block.{Block}
 use Rattle.emtp_case.specs.declared.control.Input.{Input}
 use Rattle.emtp_elim.specs.Matrix.{item}
 use Rattle.emtp_case.specs.Sums.{total}
-use Rattle.emtp_blocks.specs.Block.{HasState, Keeps, held, limits_of, next_state, output_of, past_output}
-use Rattle.emtp_blocks.specs.BlockRows.{Gives, place_in, places_of}
+use Rattle.emtp_blocks.specs.Block.{held, limits_of, next_state, output_of, past_output}
+use Rattle.emtp_blocks.specs.held.Block.{HasState, Keeps}
+use Rattle.emtp_blocks.specs.held.BlockRows.{Gives, place_in, places_of}
 use Rattle.emtp_blocks.specs.System.{block_of, inside_by, outside_by, outside_sum, free_right, right_by, right, row_entry, unit, coupling_by, input_sum, next_at, next_by, output_by, state_at}
 use Rattle.emtp_blocks.specs.declared.accepting.Accepted.{Accepted}
 use Rattle.emtp_blocks.proofs.Chains.{carried_same}

@@ -1,8 +1,8 @@
 -- One block within a step: its chain, its limits and its limiter. Its state is that of the last record.
-use Rattle.std.specs.Prelude.{◌≡◌, ℕ, zero, suc, ◌*◌, ◌^◌, ◌<◌, ◌≤◌, ◌==◌, ◌&&◌, not, ℤ, pos, neg_ℤ, ◌+ℤ◌, ◌-ℤ◌, ◌*ℤ◌, int_lt, nat_le, nat_lt, unsigned_abs, Bool, true, false, if◌then◌else◌, List, Option, Some, None, unwrap_or}
+use Rattle.std.specs.Prelude.{ℕ, zero, suc, ◌*◌, ◌==◌, ◌&&◌, not, ℤ, pos, neg_ℤ, ◌+ℤ◌, ◌-ℤ◌, ◌*ℤ◌, int_lt, nat_lt, Bool, true, false, if◌then◌else◌, List, Option, Some, None, unwrap_or}
 use Rattle.std.specs.Ordering.{int_eq}
 use Rattle.emtp_elim.specs.Matrix.{item, list_of}
-use Rattle.emtp_case.specs.Control.{numerator_of, denominator_of, coefficient_sum, step_gain}
+use Rattle.emtp_case.specs.Control.{numerator_of, denominator_of, coefficient_sum}
 use Rattle.emtp_case.specs.declared.control.BlockState.{BlockState}
 use Rattle.emtp_case.specs.declared.control.Block.{Block}
 use Rattle.emtp_case.specs.declared.control.Bound.{Bound}
@@ -12,7 +12,6 @@ use Rattle.emtp_case.specs.declared.control.Limiter.TheVariants.{Free, AtHigh, A
 use Rattle.emtp_fix.specs.Limit.{is_within}
 use Rattle.emtp_fix.specs.Rounding.{near}
 use Rattle.emtp_case.specs.Sums.{sum_below}
-use Rattle.emtp_blocks.specs.declared.law.BlockLaw.{BlockLaw}
 use Rattle.emtp_blocks.specs.declared.limits.Limits.{Limits}
 use Rattle.emtp_fix.specs.declared.limit.TheConstants.{LARGEST_VALUE, NANO, PICO}
 use Rattle.emtp_blocks.specs.declared.next.TheConstants.{LARGEST_CHAIN}
@@ -115,37 +114,3 @@ unfoldable pub next_state : ℤ → Block → Limits → BlockState → ℤ → 
 next_state dt b limits old solved s =
     let new = kept_of dt b limits old (input_of b s) (output_of limits old.limiter solved) (unlimited_output dt b old solved s) in
     if is_within LARGEST_VALUE (input_of b s) && each_within LARGEST_CHAIN new.chain b.order then Some new else None
-
--- ---- what the code holds of it
-
--- the coefficients of a block
-pub record IsLawOf (dt : ℤ) (b : Block) (law : BlockLaw) : Type 0 where
-  pub numerators : (j : ℕ) → 1 ≤ b.order → j ≤ b.order → item law.numerators j ≡ numerator_of dt b j
-  pub denominators : (j : ℕ) → 1 ≤ b.order → j ≤ b.order → item law.denominators j ≡ denominator_of dt b j
-  pub sum : law.sum ≡ coefficient_sum dt b b.order
-  pub gain : law.gain ≡ step_gain dt b
-
--- they are in range
-pub record IsLaw (law : BlockLaw) : Type 0 where
-  pub numerators_small : (j : ℕ) → unsigned_abs (item law.numerators j) ≤ LARGEST_VALUE
-  pub denominators_small : (j : ℕ) → unsigned_abs (item law.denominators j) ≤ LARGEST_VALUE
-  pub sum_small : unsigned_abs law.sum ≤ 8 * 10 ^ 18
-  pub gain_small : unsigned_abs law.gain ≤ LARGEST_VALUE
-
--- a block of this order is kept as a record has it
-pub record HasState (order : ℕ) (kept : BlockState) (s : BlockState) : Type 0 where
-  pub limiter_is : kept.limiter ≡ s.limiter
-  pub errors_are : (j : ℕ) → j < order → item kept.errors j ≡ item s.errors j
-  pub chain_is : (j : ℕ) → j < order → item kept.chain j ≡ item s.chain j
-
--- what is kept is in range
-pub record IsKept (kept : BlockState) : Type 0 where
-  pub errors_small : (j : ℕ) → unsigned_abs (item kept.errors j) ≤ 2 * 10 ^ 35
-  pub chain_small : (j : ℕ) → unsigned_abs (item kept.chain j) ≤ LARGEST_CHAIN
-
--- the code's answer is the definition's
-abbrev pub Keeps : ℕ → Option BlockState → Option BlockState → Type 0
-Keeps order None None = Unit {0}
-Keeps order None (Some s) = ⊥
-Keeps order (Some kept) None = ⊥
-Keeps order (Some kept) (Some s) = HasState order kept s

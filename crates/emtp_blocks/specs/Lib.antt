@@ -1,3 +1,5 @@
+-- what the clauses of the program say
 pub mod Block
 pub mod System
-pub mod BlockRows
+-- what values hold for their proofs
+pub mod held

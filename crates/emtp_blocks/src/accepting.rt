@@ -3,9 +3,9 @@
 ghost use Rattle.std.specs.Prelude.{◌≡◌, ◌≤◌, ◌<◌, ℕ, List, length, slice_get, slice_set, slice_index_or, unsigned_abs, All, Some, None, OnOk, IfErr, IfSome, true, false};
 ghost use Rattle.emtp_case.specs.StepRecord.{StepRecord};
 ghost use Rattle.emtp_case.specs.declared.control.Block.{Block};
-ghost use Rattle.emtp_blocks.specs.Block.{HasState, IsKept, IsLaw};
-ghost use Rattle.emtp_case.specs.Control.{AreKnown};
-ghost use Rattle.emtp_blocks.specs.BlockRows.{AreUnknowns, AreLaws, Gives, AcceptsAll, StandsAt, places_of, no_kept};
+ghost use Rattle.emtp_blocks.specs.held.Block.{HasState, IsKept, IsLaw};
+ghost use Rattle.emtp_case.specs.held.Control.{AreKnown};
+ghost use Rattle.emtp_blocks.specs.held.BlockRows.{AreUnknowns, AreLaws, Gives, AcceptsAll, StandsAt, places_of, no_kept};
 ghost use Rattle.emtp_blocks.specs.System.{state_at};
 ghost use Rattle.emtp_fix.specs.declared.limit.TheConstants.{LARGEST_VALUE};
 

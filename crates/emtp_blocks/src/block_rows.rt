@@ -4,9 +4,9 @@ ghost use Rattle.std.specs.Prelude.{◌≡◌, ◌≤◌, ◌<◌, ◌∷◌, []
 ghost use Rattle.emtp_case.specs.StepRecord.{StepRecord, rest_of};
 ghost use Rattle.emtp_case.specs.declared.control.Block.{Block};
 ghost use Rattle.emtp_elim.specs.Matrix.{item, row_of};
-ghost use Rattle.emtp_blocks.specs.Block.{IsLaw};
-ghost use Rattle.emtp_case.specs.Control.{AreKnown};
-ghost use Rattle.emtp_blocks.specs.BlockRows.{Blocking, StandsFor, Accepts, AreLaws, AreUnknowns, limiters_kept, places_of, IsAtRest};
+ghost use Rattle.emtp_blocks.specs.held.Block.{IsLaw};
+ghost use Rattle.emtp_case.specs.held.Control.{AreKnown};
+ghost use Rattle.emtp_blocks.specs.held.BlockRows.{Blocking, StandsFor, Accepts, AreLaws, AreUnknowns, limiters_kept, places_of, IsAtRest};
 ghost use Rattle.emtp_blocks.specs.System.{block_of, control_matrix, right};
 ghost use Rattle.emtp_blocks.specs.declared.next.TheConstants.{LARGEST_CHAIN};
 
@@ -40,7 +40,7 @@ pub struct BlockRows<'a> {
 }
 
 impl<'a> Model for BlockRows<'a> {
-    ghost use Rattle.emtp_blocks.specs.BlockRows.{Blocking, IsHeld};
+    ghost use Rattle.emtp_blocks.specs.held.BlockRows.{Blocking, IsHeld};
 
     ghost Value = { Blocking };
 
@@ -127,7 +127,7 @@ impl<'a> BlockRows<'a> {
 }
 
 impl<'a> Rows for BlockRows<'a> {
-    ghost use Rattle.emtp_blocks.specs.BlockRows.{rows_of_blocks};
+    ghost use Rattle.emtp_blocks.specs.held.BlockRows.{rows_of_blocks};
 
     ghost matrix = { rows_of_blocks };
 

@@ -5,7 +5,7 @@ ghost use Rattle.std.specs.Option.{ForSome};
 ghost use Rattle.emtp_case.specs.declared.control.Input.{Input};
 ghost use Rattle.emtp_elim.specs.Matrix.{item};
 ghost use Rattle.emtp_case.specs.Sums.{total};
-ghost use Rattle.emtp_blocks.specs.BlockRows.{place_in};
+ghost use Rattle.emtp_blocks.specs.held.BlockRows.{place_in};
 ghost use Rattle.emtp_blocks.specs.System.{signed, outside_by, outside_sum, inside_by, input_sum, coupling_by, row_entry, unit};
 ghost use Rattle.emtp_fix.specs.declared.limit.TheConstants.{LARGEST_VALUE};
 

@@ -1,12 +1,13 @@
 //! The numbers of a block that are the same in all steps.
 
 ghost use Rattle.std.specs.Prelude.{◌≡◌, ◌≢◌, ◌^◌, ◌*◌, ◌≤◌, ◌*ℤ◌, ℕ, pos, unsigned_abs, slice_index_or, length};
-ghost use Rattle.emtp_case.specs.Control.{HasWay, quotient_of, step_gain, HasCoefficients};
+ghost use Rattle.emtp_case.specs.Control.{quotient_of, step_gain};
+ghost use Rattle.emtp_case.specs.held.Control.{HasWay, HasCoefficients};
 ghost use Rattle.emtp_case.specs.Sums.{sum_upto};
-ghost use Rattle.emtp_case.specs.Range.{IsBetween};
+ghost use Rattle.emtp_case.specs.held.Range.{IsBetween};
 ghost use Rattle.emtp_elim.specs.Matrix.{item};
 ghost use Rattle.emtp_fix.specs.Rounding.{near};
-ghost use Rattle.emtp_blocks.specs.Block.{IsLawOf, IsLaw};
+ghost use Rattle.emtp_blocks.specs.held.Block.{IsLawOf, IsLaw};
 ghost use Rattle.emtp_fix.specs.declared.limit.TheConstants.{LARGEST_VALUE, PICO};
 
 use crate::scaling::product;

@@ -7,7 +7,7 @@ ghost use Rattle.emtp_case.specs.declared.control.BlockState.{BlockState};
 ghost use Rattle.emtp_case.specs.declared.control.Limiter.TheVariants.{AtHigh, AtLow, Free};
 ghost use Rattle.emtp_elim.specs.Matrix.{item};
 ghost use Rattle.emtp_blocks.specs.Block.{is_above, is_below, limiter_for, next_state, output_of, unlimited_output};
-ghost use Rattle.emtp_blocks.specs.BlockRows.{StandsFor, rows_of_blocks};
+ghost use Rattle.emtp_blocks.specs.held.BlockRows.{StandsFor, rows_of_blocks};
 ghost use Rattle.emtp_blocks.specs.System.{matrix};
 ghost use Rattle.emtp_blocks.specs.declared.limits.Limits.{Limits};
 

@@ -2,8 +2,8 @@
 
 ghost use Rattle.std.specs.Prelude.{◌≡◌, ◌≤◌, ◌<◌, length, All, unsigned_abs};
 ghost use Rattle.std.specs.Option.{ForSome};
-ghost use Rattle.emtp_case.specs.Control.{IsBound};
-ghost use Rattle.emtp_case.specs.Sizes.{Sizes};
+ghost use Rattle.emtp_case.specs.held.Control.{IsBound};
+ghost use Rattle.emtp_case.specs.held.Sizes.{Sizes};
 ghost use Rattle.emtp_blocks.specs.Block.{limit_of, limits_of, is_above, is_below, limiter_for, held, output_of};
 ghost use Rattle.emtp_fix.specs.declared.limit.TheConstants.{LARGEST_VALUE};
 

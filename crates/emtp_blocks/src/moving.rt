@@ -2,7 +2,8 @@
 
 ghost use Rattle.std.specs.Prelude.{◌≡◌, ◌^◌, ◌*◌, ◌≤◌, ◌+ℤ◌, ◌-ℤ◌, unsigned_abs};
 ghost use Rattle.emtp_elim.specs.Matrix.{item};
-ghost use Rattle.emtp_blocks.specs.Block.{carried, past_output, error_of, unlimited, IsLaw, IsKept};
+ghost use Rattle.emtp_blocks.specs.Block.{carried, past_output, error_of, unlimited};
+ghost use Rattle.emtp_blocks.specs.held.Block.{IsLaw, IsKept};
 ghost use Rattle.emtp_fix.specs.declared.limit.TheConstants.{LARGEST_VALUE};
 ghost use Rattle.emtp_blocks.specs.declared.next.TheConstants.{LARGEST_CHAIN};
 

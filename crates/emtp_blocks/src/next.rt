@@ -7,7 +7,8 @@ ghost use Rattle.emtp_elim.specs.Matrix.{item};
 ghost use Rattle.emtp_fix.specs.Rounding.{near};
 ghost use Rattle.emtp_case.specs.Sums.{sum_below};
 ghost use Rattle.emtp_fix.specs.Limit.{is_within};
-ghost use Rattle.emtp_blocks.specs.Block.{carried, error_of, each_within, output_of, past_output, unlimited, next_state, IsLaw, IsLawOf, IsKept, HasState, Keeps};
+ghost use Rattle.emtp_blocks.specs.Block.{carried, error_of, each_within, output_of, past_output, unlimited, next_state};
+ghost use Rattle.emtp_blocks.specs.held.Block.{IsLaw, IsLawOf, IsKept, HasState, Keeps};
 ghost use Rattle.emtp_fix.specs.declared.limit.TheConstants.{LARGEST_VALUE, PICO};
 ghost use Rattle.emtp_blocks.specs.declared.next.TheConstants.{LARGEST_CHAIN};
 

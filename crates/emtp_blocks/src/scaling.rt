@@ -1,7 +1,7 @@
 //! Products that are brought back to their unit.
 
 ghost use Rattle.std.specs.Prelude.{◌≡◌, ◌^◌, ◌*◌, ◌≤◌, ◌*ℤ◌, unsigned_abs};
-ghost use Rattle.emtp_case.specs.Range.{IsBetween};
+ghost use Rattle.emtp_case.specs.held.Range.{IsBetween};
 ghost use Rattle.emtp_fix.specs.Rounding.{near};
 ghost use Rattle.emtp_fix.specs.declared.limit.TheConstants.{NANO};
 

@@ -7,7 +7,8 @@ use Rattle.std.proofs.lemmas.List.Folds.{list_all-append, list_any-append}
 use Rattle.std.proofs.lemmas.List.Elements.{All-weaker}
 use Rattle.std.proofs.lemmas.List.Sums.{AllPass-from_list_all, list_all-from_AllPass}
 use Rattle.emtp_card.specs.Lines.{is_blank}
-use Rattle.emtp_card.specs.Field.{IsBlank, without_leading, without_trailing, trimmed, columns, field_of}
+use Rattle.emtp_card.specs.Field.{without_leading, without_trailing, trimmed, columns, field_of}
+use Rattle.emtp_card.specs.held.Field.{IsBlank}
 
 -- what is all blank is cut off
 pub without_trailing-blanks : (bytes : List ℕ) → list_all is_blank bytes ≡ true → without_trailing bytes ≡ []

@@ -9,7 +9,7 @@ use Rattle.std.proofs.lemmas.List.Elements.{All-tail, All-drop}
 use Rattle.emtp_fix.specs.Rounding.{near_abs}
 use Rattle.emtp_fix.proofs.Nearest.{near_abs_is}
 use Rattle.emtp_card.specs.Decimal.{number_of}
-use Rattle.emtp_card.specs.Numeral.{AreDigits}
+use Rattle.emtp_card.specs.held.Numeral.{AreDigits}
 use Rattle.emtp_card.proofs.Digits.{with_digits-append, with_digits-is, number_of-lt}
 
 -- a quotient and a rest, rounded

@@ -7,7 +7,7 @@ use Rattle.std.proofs.lemmas.Bool.Decides.{nat_tests}
 use Rattle.std.proofs.lemmas.List.Elements.{All-nil, All-cons, All-head, All-tail}
 use Rattle.std.proofs.lemmas.List.Sums.{take_while-cons}
 use Rattle.emtp_card.specs.Decimal.{with_digits, number_of}
-use Rattle.emtp_card.specs.Numeral.{AreDigits}
+use Rattle.emtp_card.specs.held.Numeral.{AreDigits}
 
 pub is_digit_means : (byte : ℕ) → is_ascii_digit byte ≡ true → IsAsciiDigit byte
 is_digit_means byte h = grind (arith, nat_tests)

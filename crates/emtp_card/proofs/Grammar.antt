@@ -7,7 +7,8 @@ use Rattle.std.proofs.lemmas.List.Elements.{All-nil, All-head, All-tail, All-wea
 use Rattle.std.proofs.lemmas.Option.{cond_some}
 use Rattle.std.proofs.lemmas.List.Sums.{take_while-cons, AllPass-from_list_all}
 use Rattle.emtp_card.specs.Decimal.{Decimal, signed, number_of}
-use Rattle.emtp_card.specs.Numeral.{sign_of, digits_of, fraction_of, few_digits, limited_whole, power_of, is_marker, is_sign, exponent_of, composed, decimal_of, AreDigits}
+use Rattle.emtp_card.specs.Numeral.{sign_of, digits_of, fraction_of, few_digits, limited_whole, power_of, is_marker, is_sign, exponent_of, composed, decimal_of}
+use Rattle.emtp_card.specs.held.Numeral.{AreDigits}
 use Rattle.emtp_card.specs.Spelling.{Sign, Unsigned, Plus, Minus, sign_text, is_minus, fraction_text, fraction_digits, Exponent, Absent, Lettered, Bare, exponent_text, exponent_value, AreFewDigits, IsExponent, Spelling, IsSpelling, text_of, decimal_meant, Spells}
 use Rattle.emtp_card.proofs.Digits.{digits_in_front, is_digit_means}
 

@@ -4,7 +4,7 @@ use Rattle.std.specs.Prelude.{slice_index_or, nat_lt, if◌then◌else◌}
 use Rattle.std.proofs.lemmas.Bool.Decides.{nat_tests}
 use Rattle.std.proofs.lemmas.List.Elements.{All-append, All-cons, All-drop, All-nil, All-replicate, All-take}
 use Rattle.std.specs.List.{list_all, list_any}
-use Rattle.emtp_case.specs.Name.{IsName, IsNameByte}
+use Rattle.emtp_case.specs.held.Name.{IsName, IsNameByte}
 use Rattle.emtp_card.specs.Field.{columns, filled, trimmed, without_leading, without_trailing}
 use Rattle.emtp_card.specs.Lines.{fault_of_byte, fault_of_line, first_fault, first_of, is_blank}
 use Rattle.emtp_card.specs.Name.{is_comma}

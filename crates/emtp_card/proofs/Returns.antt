@@ -5,7 +5,8 @@ use Rattle.std.proofs.Math.Seq.{get_or-append_seam, take-append_seam}
 use Rattle.std.proofs.lemmas.Bool.Decides.{nat_tests}
 use Rattle.std.proofs.lemmas.List.{append-nil, append_assoc, length-take}
 use Rattle.std.proofs.lemmas.List.Elements.{All-append, All-cons, All-nil}
-use Rattle.emtp_card.specs.Lines.{HasNoNewline, is_newline, lines_of, without_return}
+use Rattle.emtp_card.specs.Lines.{is_newline, lines_of}
+use Rattle.emtp_card.specs.held.Lines.{HasNoNewline, without_return}
 use Rattle.emtp_card.proofs.Splitting.{lines_by_pieces}
 
 -- whether a text ends with CR

@@ -7,7 +7,8 @@ use Rattle.std.proofs.lemmas.List.Sums.{position_or_len_is, fails_before_first}
 use Rattle.std.proofs.lemmas.List.Splits.{slice_split_first, slice_split_none, slice_split_at}
 use Rattle.std.specs.List.{slice_split, onto_first, before_first, after_first, position_or_len}
 use Rattle.std.specs.Str.Lines.{lines_of_parts, strip_carriage_return}
-use Rattle.emtp_card.specs.Lines.{lines_of, is_newline, without_return, HasNoNewline, SplitsIntoLines}
+use Rattle.emtp_card.specs.Lines.{lines_of, is_newline}
+use Rattle.emtp_card.specs.held.Lines.{without_return, HasNoNewline, SplitsIntoLines}
 
 -- where the first LF is
 pub found_is : (xs : List ℕ) (place : ℕ) → position is_newline xs ≡ Some place → (place < length xs) × (position_or_len is_newline xs ≡ place)

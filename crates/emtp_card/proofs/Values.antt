@@ -3,8 +3,8 @@ use Rattle.std.proofs.Common.{◌≡◌, ◌∙◌, sym, ap, ℕ, zero, suc, ◌
 use Rattle.std.proofs.lemmas.Int.{ints}
 use Rattle.emtp_fix.proofs.Nearest.{near-neg, near-from_zero}
 use Rattle.emtp_card.specs.Decimal.{Decimal, signed, times_power, value_in}
-use Rattle.emtp_card.specs.Rounding.{scaled, magnitude_in}
-use Rattle.emtp_card.specs.Number.{StandsFor}
+use Rattle.emtp_card.specs.held.Rounding.{scaled, magnitude_in}
+use Rattle.emtp_card.specs.held.Number.{StandsFor}
 use Rattle.emtp_card.specs.declared.rounding.TheConstants.{MOST}
 
 -- times a power of ten, rounded

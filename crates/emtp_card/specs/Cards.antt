@@ -1,15 +1,9 @@
 -- How long a case may be, and the line where it is too long.
-use Rattle.std.specs.Prelude.{ℕ, ◌+◌, ◌≤◌, nat_lt, min, List, length, take, count_by, Option, Some, None, option_map, All, if◌then◌else◌}
-use Rattle.std.specs.Borrow.{Bor}
+use Rattle.std.specs.Prelude.{ℕ, ◌+◌, nat_lt, min, List, length, take, count_by, Option, Some, None, option_map, if◌then◌else◌}
 use Rattle.emtp_card.specs.Lines.{lines_of, is_newline}
 use Rattle.emtp_card.specs.declared.reason.Bad.{Bad}
 use Rattle.emtp_card.specs.declared.reason.Why.TheVariants.{TooManyLines}
 use Rattle.emtp_card.specs.declared.cards.TheConstants.{MAX_LINES, MAX_BYTES}
-
--- the lines that are held: at most so many, none longer than a case may be
-pub record AreInSize (lines : List (Bor (List ℕ))) : Type 0 where
-  pub few : length lines ≤ MAX_LINES
-  pub short : All (λ (line : Bor (List ℕ)). length line.now ≤ MAX_BYTES) lines
 
 -- line 100,001, where there are so many lines
 unfoldable pub line_past_count : List ℕ → Option ℕ

@@ -1,5 +1,5 @@
 -- The faults of one card, and the least of them.
-use Rattle.std.specs.Prelude.{◌≡◌, ◌⊎◌, [], ◌∷◌, false, ℕ, ◌==◌, nat_lt, Bool, ◌||◌, ◌&&◌, List, fold, Option, Some, None, option_map, Result, Ok, Err, if◌then◌else◌}
+use Rattle.std.specs.Prelude.{ℕ, ◌==◌, nat_lt, Bool, ◌||◌, ◌&&◌, List, fold, Option, Some, None, option_map, Result, Ok, Err, if◌then◌else◌}
 use Rattle.emtp_card.specs.Lines.{fault_of_line, is_section_end}
 use Rattle.emtp_card.specs.Reason.{reason_number}
 use Rattle.emtp_card.specs.declared.fault.Fault.{Fault}
@@ -19,21 +19,6 @@ lesser (Some a) (Some b) = if comes_before b a then Some b else Some a
 -- the least of the faults that are there
 unfoldable pub least : List (Option Fault) → Option Fault
 least faults = fold lesser None faults
-
--- no fault of the list comes before this one
-abbrev pub IsNotAfter : Fault → List (Option Fault) → Type 0
-IsNotAfter f [] = Unit {0}
-IsNotAfter f (g ∷ gs) = ((x : Fault) → g ≡ Some x → comes_before x f ≡ false) × IsNotAfter f gs
-
--- the fault is in the list
-abbrev pub IsIn : Fault → List (Option Fault) → Type 0
-IsIn f [] = ⊥
-IsIn f (g ∷ gs) = (g ≡ Some f) ⊎ IsIn f gs
-
--- the fault is in the list, and none of the list comes before it
-pub record IsLeastOf (faults : List (Option Fault)) (f : Fault) : Type 0 where
-  pub there : IsIn f faults
-  pub first : IsNotAfter f faults
 
 -- the fault of a field that was read, in its first column
 abbrev pub fault_at : {A : Type 0} → ℕ → Result A Why → Option Fault

@@ -1,5 +1,5 @@
 -- The columns of a card, and the field that they hold.
-use Rattle.std.specs.Prelude.{◌≡◌, ℕ, ◌+◌, ◌-◌, List, [], ◌∷◌, ◌++◌, take, drop, replicate, slice_index_or, All, if◌then◌else◌}
+use Rattle.std.specs.Prelude.{ℕ, ◌+◌, ◌-◌, List, [], ◌∷◌, ◌++◌, take, drop, replicate, slice_index_or, if◌then◌else◌}
 use Rattle.std.specs.List.{list_all}
 use Rattle.emtp_card.specs.Lines.{is_blank}
 
@@ -10,9 +10,6 @@ filled line = line ++ replicate 80 32
 -- the bytes of the columns first to last, counted from 1; columns past the line's end are blank
 unfoldable pub columns : List ℕ → ℕ → ℕ → List ℕ
 columns line first last = take (last + 1 - first) (drop (first - 1) (filled line))
-
-abbrev pub IsBlank : List ℕ → Type 0
-IsBlank bytes = All (λ byte. byte ≡ 32) bytes
 
 -- a text without its blanks in front
 abbrev pub without_leading : List ℕ → List ℕ

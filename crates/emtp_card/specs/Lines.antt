@@ -1,14 +1,10 @@
 -- The lines of a case, and what one line is.
-use Rattle.std.specs.Prelude.{◌≡◌, ◌≢◌, ℕ, ◌+◌, ◌-◌, ◌<◌, ◌≤◌, ◌==◌, nat_lt, nat_eq, Bool, false, ◌&&◌, ◌||◌, not, List, [], ◌∷◌, ◌++◌, length, slice_index_or, All, Option, Some, None, codes, if◌then◌else◌}
+use Rattle.std.specs.Prelude.{ℕ, ◌+◌, ◌==◌, nat_lt, nat_eq, Bool, ◌&&◌, ◌||◌, not, List, [], ◌∷◌, Option, Some, None, codes, if◌then◌else◌}
 use Rattle.std.specs.List.{list_all, starts_with}
 use Rattle.std.specs.Str.{bytes_eq}
-use Rattle.std.specs.Str.Lines.{lines, strip_carriage_return}
+use Rattle.std.specs.Str.Lines.{lines}
 use Rattle.emtp_card.specs.declared.reason.Why.{Why}
 use Rattle.emtp_card.specs.declared.reason.Why.TheVariants.{ByteOutside, PastColumn80}
-
--- a text without the one CR at its end, if it has one
-abbrev pub without_return : List ℕ → List ℕ
-without_return bytes = strip_carriage_return bytes
 
 -- The lines of a case. A line ends with LF, and one CR just before it is dropped; a last piece without LF is a line as it stands, where it isn't empty.
 unfoldable pub lines_of : List ℕ → List (List ℕ)
@@ -22,15 +18,6 @@ is_newline byte = byte == 10
 abbrev pub is_blank : ℕ → Bool
 is_blank byte = byte == 32
 
-abbrev pub HasNoNewline : List ℕ → Type 0
-HasNoNewline bytes = All (λ byte. is_newline byte ≡ false) bytes
-
--- what the lines are, piece by piece
-pub record SplitsIntoLines (bytes : List ℕ) : Type 0 where
-  pub none : bytes ≡ [] → lines_of bytes ≡ []
-  pub ended : (piece rest : List ℕ) → HasNoNewline piece → bytes ≡ piece ++ 10 ∷ rest → lines_of bytes ≡ without_return piece ∷ lines_of rest
-  pub last : HasNoNewline bytes → bytes ≢ [] → lines_of bytes ≡ bytes ∷ []
-
 -- `C` alone, or `C` and a blank in front
 unfoldable pub is_comment : List ℕ → Bool
 is_comment line = bytes_eq line (codes "C") || starts_with nat_eq line (codes "C ")
@@ -42,20 +29,6 @@ is_section_end line = list_all is_blank line || starts_with nat_eq line (codes "
 -- why a byte may not stand in a column, if it may not: it isn't from 0x20 to 0x7E, or is no blank past column 80
 abbrev pub fault_of_byte : ℕ → ℕ → Option Why
 fault_of_byte column byte = if nat_lt byte 32 || nat_lt 126 byte then Some ByteOutside else if nat_lt 80 column && not (is_blank byte) then Some PastColumn80 else None
-
--- the fault at a place of a line, counted from 0
-abbrev pub fault_at : List ℕ → ℕ → Option Why
-fault_at line place = fault_of_byte (place + 1) (slice_index_or line place 32)
-
-abbrev pub IsFaultless : List ℕ → Type 0
-IsFaultless line = (place : ℕ) → place < length line → fault_at line place ≡ None
-
--- a column, counted from 1, has this fault, and no column before it has one
-pub record IsFirstFault (line : List ℕ) (column : ℕ) (why : Why) : Type 0 where
-  pub some : 1 ≤ column
-  pub within : column ≤ length line
-  pub here : fault_at line (column - 1) ≡ Some why
-  pub before : (place : ℕ) → place + 1 < column → fault_at line place ≡ None
 
 -- a fault here, or else a later one
 abbrev pub first_of : Option Why → ℕ → Option (ℕ × Why) → Option (ℕ × Why)

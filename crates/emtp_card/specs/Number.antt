@@ -1,12 +1,11 @@
 -- Numbers of fields: the value in its unit, and what its range makes of it.
-use Rattle.std.specs.Prelude.{◌≡◌, ℕ, ◌≤◌, nat_lt, ℤ, pos, neg_ℤ, ◌<ℤ◌, ◌≤ℤ◌, int_lt, unsigned_abs, ◌||◌, List, [], ◌∷◌, Option, Some, None, Result, Ok, Err, if◌then◌else◌}
+use Rattle.std.specs.Prelude.{ℕ, nat_lt, ℤ, int_lt, unsigned_abs, ◌||◌, List, [], ◌∷◌, Option, Some, None, Result, Ok, Err, if◌then◌else◌}
 use Rattle.std.specs.Int.{int_min, int_max}
 use Rattle.emtp_card.specs.Decimal.{Decimal, value_in}
 use Rattle.emtp_card.specs.Numeral.{decimal_of}
 use Rattle.emtp_card.specs.Field.{field_of, trimmed}
 use Rattle.emtp_card.specs.declared.reason.Why.{Why}
 use Rattle.emtp_card.specs.declared.reason.Why.TheVariants.{NotANumber, OutOfUnitRange}
-use Rattle.emtp_card.specs.declared.rounding.TheConstants.{MOST}
 
 abbrev pub valued : ℤ → Option Decimal → Result ℤ Why
 valued scale None = Err NotANumber
@@ -15,11 +14,6 @@ valued scale (Some decimal) = Ok (value_in scale decimal)
 -- the value that a text spells, in a unit of 10^-scale
 unfoldable pub number_in : ℤ → List ℕ → Result ℤ Why
 number_in scale text = valued scale (decimal_of text)
-
--- a value lies in a range, both ends of which belong to it
-pub record IsWithin (low high value : ℤ) : Type 0 where
-  pub least : low ≤ℤ value
-  pub most : value ≤ℤ high
 
 -- a value that has to lie in a range
 abbrev pub in_range : ℤ → ℤ → Result ℤ Why → Result ℤ Why
@@ -62,15 +56,3 @@ read_number_of text scale limit = in_limit limit (number_in scale (trimmed text)
 -- the same, held to the nearer end of a range that the value lies outside
 unfoldable pub held_number : List ℕ → ℤ → ℤ → ℤ → Result ℤ Why
 held_number text scale low high = held_in low high (number_in scale (trimmed text))
-
--- what the code reads of a value is the value, or beyond the greatest limit on the value's side
-pub record StandsFor (read value : ℤ) : Type 0 where
-  pub exact : unsigned_abs value ≤ MOST → read ≡ value
-  pub above : pos MOST <ℤ value → pos MOST <ℤ read
-  pub below : value <ℤ neg_ℤ (pos MOST) → read <ℤ neg_ℤ (pos MOST)
-
-abbrev pub Reads : Result ℤ Why → Result ℤ Why → Type 0
-Reads (Ok read) (Ok value) = StandsFor read value
-Reads (Ok read) (Err why) = ⊥
-Reads (Err cause) (Ok value) = ⊥
-Reads (Err cause) (Err why) = cause ≡ why

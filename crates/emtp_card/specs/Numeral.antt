@@ -1,9 +1,8 @@
 -- How bytes are read as a number.
-use Rattle.std.specs.Prelude.{ℕ, ◌<◌, ◌==◌, nat_le, ℤ, pos, ◌-ℤ◌, Bool, true, false, ◌&&◌, ◌||◌, List, [], ◌∷◌, ◌++◌, length, drop, take_while, Option, Some, None, option_map, All, unsigned_abs, if◌then◌else◌}
-use Rattle.std.specs.Char.{is_ascii_digit, IsAsciiDigit}
+use Rattle.std.specs.Prelude.{ℕ, ◌==◌, nat_le, ℤ, pos, ◌-ℤ◌, Bool, true, false, ◌&&◌, ◌||◌, List, [], ◌∷◌, ◌++◌, length, drop, take_while, Option, Some, None, option_map, if◌then◌else◌}
+use Rattle.std.specs.Char.{is_ascii_digit}
 use Rattle.std.specs.List.{list_all}
 use Rattle.emtp_card.specs.Decimal.{Decimal, signed, number_of}
-use Rattle.emtp_card.specs.declared.numeral.Numeral.{Numeral}
 
 -- a sign in front, `+` or `-`, or none: whether it is a minus, and what stands after it
 abbrev pub sign_of : List ℕ → Bool × List ℕ
@@ -56,16 +55,3 @@ decimal_of text =
     let fraction = fraction_of whole.1 in
     if (length whole.0 == 0) && (length fraction.0 == 0) then None
     else option_map (composed sign.0 whole.0 fraction.0) (exponent_of fraction.1)
-
-abbrev pub AreDigits : List ℕ → Type 0
-AreDigits bytes = All IsAsciiDigit bytes
-
--- the decimal that a spelled number means, as the code takes it apart
-abbrev pub meaning_of : Numeral → Decimal
-meaning_of n = composed n.negative n.whole.now n.fraction.now n.exponent
-
--- its parts are digits, and its power has at most three of them
-pub record IsNumeral (n : Numeral) : Type 0 where
-  pub whole : AreDigits n.whole.now
-  pub fraction : AreDigits n.fraction.now
-  pub exponent : unsigned_abs n.exponent < 1000

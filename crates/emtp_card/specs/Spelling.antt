@@ -1,7 +1,8 @@
 -- How a number may be spelled, and the decimal that a spelling means.
 use Rattle.std.specs.Prelude.{◌≡◌, ◌≢◌, ℕ, ◌+◌, ◌≤◌, ℤ, pos, Bool, true, false, IsTrue, List, [], ◌∷◌, ◌++◌, length, Option, Some, None}
 use Rattle.emtp_card.specs.Decimal.{Decimal, signed, number_of}
-use Rattle.emtp_card.specs.Numeral.{composed, is_marker, AreDigits}
+use Rattle.emtp_card.specs.Numeral.{composed, is_marker}
+use Rattle.emtp_card.specs.held.Numeral.{AreDigits}
 
 -- a sign, `+` or `-`, or none
 pub data Sign : Type 0 where

@@ -1,10 +1,10 @@
 -- Whole numbers of fields.
-use Rattle.std.specs.Prelude.{ℕ, nat_lt, ◌==◌, ◌^◌, ℤ, pos, neg_ℤ, unsigned_abs, Bool, ◌&&◌, not, List, length, Option, Result, Ok, Err, if◌then◌else◌}
+use Rattle.std.specs.Prelude.{ℕ, nat_lt, ◌==◌, ◌^◌, ℤ, unsigned_abs, Bool, ◌&&◌, not, List, length, Option, Result, Ok, Err, if◌then◌else◌}
 use Rattle.std.specs.Char.{is_ascii_digit}
 use Rattle.std.specs.List.{list_all}
 use Rattle.emtp_card.specs.Decimal.{signed, number_of}
 use Rattle.emtp_card.specs.Numeral.{sign_of}
-use Rattle.emtp_card.specs.Number.{unless_blank, IsWithin}
+use Rattle.emtp_card.specs.Number.{unless_blank}
 use Rattle.emtp_card.specs.Field.{field_of}
 use Rattle.emtp_card.specs.declared.reason.Why.{Why}
 use Rattle.emtp_card.specs.declared.reason.Why.TheVariants.{NotWhole, OutOfUnitRange}
@@ -16,10 +16,6 @@ all_digits text = not (length text == 0) && list_all is_ascii_digit text
 -- a whole number of a magnitude up to 10^9
 abbrev pub in_billion : ℤ → Result ℤ Why
 in_billion value = if nat_lt (10 ^ 9) (unsigned_abs value) then Err OutOfUnitRange else Ok value
-
--- what the readers of whole numbers answer lies in this range
-abbrev pub IsInBillion : ℤ → Type 0
-IsInBillion value = IsWithin (neg_ℤ (pos (10 ^ 9))) (pos (10 ^ 9)) value
 
 -- an optional sign and digits
 unfoldable pub whole_in : List ℕ → Result ℤ Why

@@ -1,9 +1,11 @@
 //! The lines of a case.
 
 ghost use Rattle.std.specs.Prelude.{◌≡◌, ◌+◌, ◌<◌, ◌≤◌, [], ◌∷◌, Some, None, length, take, count_by, slice_get, position, MatchOption, IfSome, IfOk, OnOk, IsTrue, ◌↔◌, List, ℕ, map};
-ghost use Rattle.emtp_card.specs.Lines.{lines_of, is_newline, without_return, SplitsIntoLines};
+ghost use Rattle.emtp_card.specs.Lines.{lines_of, is_newline};
+ghost use Rattle.emtp_card.specs.held.Lines.{without_return, SplitsIntoLines};
 ghost use Rattle.std.specs.Borrow.{Bor};
-ghost use Rattle.emtp_card.specs.Cards.{AreInSize, lesser_line, line_past_bytes, size_fault, too_many_at};
+ghost use Rattle.emtp_card.specs.Cards.{lesser_line, line_past_bytes, size_fault, too_many_at};
+ghost use Rattle.emtp_card.specs.held.Cards.{AreInSize};
 
 use crate::lines::Line;
 use crate::reason::{Bad, Refused, Why};
@@ -24,7 +26,7 @@ pub struct Cards<'a> {
 
 impl<'a> Model for Cards<'a> {
     ghost use Rattle.std.specs.Prelude.{List, ℕ, map};
-    ghost use Rattle.emtp_card.specs.Cards.{AreInSize};
+    ghost use Rattle.emtp_card.specs.held.Cards.{AreInSize};
     ghost use Rattle.std.specs.Borrow.{Bor};
 
     ghost Value = { List (List ℕ) };

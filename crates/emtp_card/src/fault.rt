@@ -4,8 +4,10 @@
 //! [`least`] of it. So no reader keeps an order of columns, and a rule is silent where one of its fields is refused.
 
 ghost use Rattle.std.specs.Prelude.{◌≡◌, ◌≤◌, ◌≤ℤ◌, length, option_map, pos, IfOk, IfSome};
-ghost use Rattle.emtp_card.specs.Fault.{IsLeastOf, bad_at, comes_before, fault_at, filled_with, judge, judge_due, least, lesser};
-ghost use Rattle.emtp_card.specs.Number.{IsWithin, number_field};
+ghost use Rattle.emtp_card.specs.Fault.{bad_at, comes_before, fault_at, filled_with, judge, judge_due, least, lesser};
+ghost use Rattle.emtp_card.specs.held.Fault.{IsLeastOf};
+ghost use Rattle.emtp_card.specs.Number.{number_field};
+ghost use Rattle.emtp_card.specs.held.Number.{IsWithin};
 
 use crate::cards::MAX_BYTES;
 use crate::lines::{Line, ends_section, line_fault};

@@ -1,7 +1,8 @@
 //! The text of a field: the bytes of its columns, without the outer blanks.
 
 ghost use Rattle.std.specs.Prelude.{◌≡◌, ◌+◌, ◌-◌, ◌≤◌, ◌↔◌, [], length, take, drop};
-ghost use Rattle.emtp_card.specs.Field.{byte_in, columns, field_of, IsBlank, trimmed, without_leading, without_trailing};
+ghost use Rattle.emtp_card.specs.Field.{byte_in, columns, field_of, trimmed, without_leading, without_trailing};
+ghost use Rattle.emtp_card.specs.held.Field.{IsBlank};
 
 /// The text in the columns from `first` to `last`, counted from 1, without its outer blanks. It is
 /// empty exactly where these columns are blank; columns past the line's end are.

@@ -2,7 +2,8 @@
 
 ghost use Rattle.std.specs.Prelude.{◌≡◌, ◌+◌, ◌≤◌, length, MatchOption};
 ghost use Rattle.std.specs.List.{list_all};
-ghost use Rattle.emtp_card.specs.Lines.{is_blank, is_comment, is_section_end, fault_of_line, fault_of_byte, IsFaultless, IsFirstFault};
+ghost use Rattle.emtp_card.specs.Lines.{is_blank, is_comment, is_section_end, fault_of_line, fault_of_byte};
+ghost use Rattle.emtp_card.specs.held.Lines.{IsFaultless, IsFirstFault};
 
 use crate::cards::MAX_BYTES;
 use crate::reason::Why;

@@ -2,8 +2,9 @@
 
 ghost use Rattle.std.specs.Prelude.{◌≡◌, ◌+◌, ◌≤◌, ◌↔◌, Ok, None, IfOk, IfSome};
 ghost use Rattle.std.specs.List.{list_any};
-ghost use Rattle.emtp_case.specs.Name.{IsName};
-ghost use Rattle.emtp_card.specs.Field.{columns, IsBlank};
+ghost use Rattle.emtp_case.specs.held.Name.{IsName};
+ghost use Rattle.emtp_card.specs.Field.{columns};
+ghost use Rattle.emtp_card.specs.held.Field.{IsBlank};
 ghost use Rattle.emtp_card.specs.Lines.{fault_of_line};
 ghost use Rattle.emtp_card.specs.Name.{is_comma, name_field};
 

@@ -2,11 +2,14 @@
 
 ghost use Rattle.std.specs.Prelude.{◌≡◌, ◌+◌, ◌^◌, ◌≤◌, ◌<◌, ◌≤ℤ◌, ◌↔◌, ℤ, pos, unsigned_abs, Some, None, Ok, Result, IfOk, IfSome};
 ghost use Rattle.emtp_card.specs.Decimal.{Decimal, signed};
-ghost use Rattle.emtp_card.specs.Field.{columns, trimmed, IsBlank};
-ghost use Rattle.emtp_card.specs.Numeral.{decimal_of, meaning_of, IsNumeral};
+ghost use Rattle.emtp_card.specs.Field.{columns, trimmed};
+ghost use Rattle.emtp_card.specs.held.Field.{IsBlank};
+ghost use Rattle.emtp_card.specs.Numeral.{decimal_of};
+ghost use Rattle.emtp_card.specs.held.Numeral.{meaning_of, IsNumeral};
 ghost use Rattle.emtp_card.specs.Spelling.{Spells};
-ghost use Rattle.emtp_card.specs.Rounding.{magnitude_in};
-ghost use Rattle.emtp_card.specs.Number.{number_in, in_range, held_in, in_limit, number_field, held_field, read_number_of, held_number, unless_blank, IsWithin, Reads};
+ghost use Rattle.emtp_card.specs.held.Rounding.{magnitude_in};
+ghost use Rattle.emtp_card.specs.Number.{number_in, in_range, held_in, in_limit, number_field, held_field, read_number_of, held_number, unless_blank};
+ghost use Rattle.emtp_card.specs.held.Number.{IsWithin, Reads};
 ghost use Rattle.emtp_card.specs.declared.reason.Why.{Why};
 
 use crate::field::{field_text, trim};

@@ -2,7 +2,8 @@
 
 ghost use Rattle.std.specs.Prelude.{◌≡◌, ◌<◌, ◌≤◌, length, take_while, unsigned_abs, IfSome, option_map};
 ghost use Rattle.std.specs.Char.{is_ascii_digit};
-ghost use Rattle.emtp_card.specs.Numeral.{sign_of, digits_of, fraction_of, power_of, exponent_of, decimal_of, meaning_of, IsNumeral, AreDigits};
+ghost use Rattle.emtp_card.specs.Numeral.{sign_of, digits_of, fraction_of, power_of, exponent_of, decimal_of};
+ghost use Rattle.emtp_card.specs.held.Numeral.{meaning_of, IsNumeral, AreDigits};
 
 use crate::whole::read_whole;
 

@@ -7,8 +7,8 @@ ghost use Rattle.std.specs.Prelude.{◌≡◌, ◌+◌, ◌*◌, ◌^◌, ◌<�
 ghost use Rattle.std.specs.Option.{SomeIff};
 ghost use Rattle.emtp_fix.specs.Rounding.{near_abs};
 ghost use Rattle.emtp_card.specs.Decimal.{number_of, with_digits};
-ghost use Rattle.emtp_card.specs.Numeral.{meaning_of, AreDigits, IsNumeral};
-ghost use Rattle.emtp_card.specs.Rounding.{digits_in, magnitude_in};
+ghost use Rattle.emtp_card.specs.held.Numeral.{meaning_of, AreDigits, IsNumeral};
+ghost use Rattle.emtp_card.specs.held.Rounding.{digits_in, magnitude_in};
 
 use crate::numeral::Numeral;
 

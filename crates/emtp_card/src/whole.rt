@@ -5,9 +5,12 @@ ghost use Rattle.std.specs.Char.{is_ascii_digit};
 ghost use Rattle.std.specs.List.{list_all};
 ghost use Rattle.std.specs.Option.{SomeIff};
 ghost use Rattle.emtp_card.specs.Decimal.{number_of};
-ghost use Rattle.emtp_card.specs.Field.{columns, IsBlank};
-ghost use Rattle.emtp_card.specs.Numeral.{AreDigits, few_digits, limited_whole};
-ghost use Rattle.emtp_card.specs.Whole.{all_digits, whole_in, whole_field, IsInBillion};
+ghost use Rattle.emtp_card.specs.Field.{columns};
+ghost use Rattle.emtp_card.specs.held.Field.{IsBlank};
+ghost use Rattle.emtp_card.specs.Numeral.{few_digits, limited_whole};
+ghost use Rattle.emtp_card.specs.held.Numeral.{AreDigits};
+ghost use Rattle.emtp_card.specs.Whole.{all_digits, whole_in, whole_field};
+ghost use Rattle.emtp_card.specs.held.Whole.{IsInBillion};
 
 use crate::field::field_text;
 use crate::number::unless_blank;

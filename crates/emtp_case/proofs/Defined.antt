@@ -1,6 +1,6 @@
 -- Each variable is defined once, where the cards number their variables one after another.
-use Rattle.emtp_case.specs.Case.{DefinesEach, defined_vars}
-use Rattle.emtp_case.specs.Control.{var_of}
+use Rattle.emtp_case.specs.held.Case.{DefinesEach, defined_vars}
+use Rattle.emtp_case.specs.held.Control.{var_of}
 use Rattle.emtp_case.specs.declared.case.Parts.{Parts}
 use Rattle.emtp_case.specs.declared.control.Block.{Block}
 use Rattle.emtp_case.specs.declared.source.Source.{Source}

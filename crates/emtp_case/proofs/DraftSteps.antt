@@ -2,17 +2,20 @@
 use Rattle.emtp_case.proofs.Growth.{Extends-append, Extends-refl, IsBranch-grows, IsSwitch-grows, grown}
 use Rattle.emtp_case.proofs.Sources.{one_more_source, standing_stay}
 use Rattle.emtp_case.proofs.Threes.{ArePhases, threes_and_single, threes_and_trio}
-use Rattle.emtp_case.specs.Branch.{IsBranch, IsCharacteristic, IsPseudo, IsSingle, IsTrio, points_of}
-use Rattle.emtp_case.specs.Case.{HasCounts, IsDraft, empty_parts, phase_branches}
-use Rattle.emtp_case.specs.Channel.{IsChannel}
-use Rattle.emtp_case.specs.Control.{HasDevicePoints, IsBlock, IsDevice, IsDeviceCard, IsExtra, IsFormula}
+use Rattle.emtp_case.specs.Branch.{points_of}
+use Rattle.emtp_case.specs.held.Branch.{IsBranch, IsCharacteristic, IsPseudo, IsSingle, IsTrio}
+use Rattle.emtp_case.specs.Case.{empty_parts, phase_branches}
+use Rattle.emtp_case.specs.held.Case.{HasCounts, IsDraft}
+use Rattle.emtp_case.specs.held.Channel.{IsChannel}
+use Rattle.emtp_case.specs.held.Control.{HasDevicePoints, IsBlock, IsDevice, IsDeviceCard, IsExtra, IsFormula}
 use Rattle.emtp_case.specs.HistoryValues.{branch_history_values, device_history_values, extra_history_values, history_values_of, trio_history_values}
-use Rattle.emtp_case.specs.Name.{IsName}
-use Rattle.emtp_case.specs.Range.{AreEnds}
-use Rattle.emtp_case.specs.RunData.{IsRun}
-use Rattle.emtp_case.specs.Sizes.{Grows, Sizes, sizes_of}
-use Rattle.emtp_case.specs.Source.{IsSource, IsTacsSource, is_voltage_source_at}
-use Rattle.emtp_case.specs.Switch.{IsSwitch}
+use Rattle.emtp_case.specs.held.Name.{IsName}
+use Rattle.emtp_case.specs.held.Range.{AreEnds}
+use Rattle.emtp_case.specs.held.RunData.{IsRun}
+use Rattle.emtp_case.specs.held.Sizes.{Grows, Sizes, sizes_of}
+use Rattle.emtp_case.specs.Source.{is_voltage_source_at}
+use Rattle.emtp_case.specs.held.Source.{IsSource, IsTacsSource}
+use Rattle.emtp_case.specs.held.Switch.{IsSwitch}
 use Rattle.emtp_case.specs.declared.branch.Branch.{Branch}
 use Rattle.emtp_case.specs.declared.branch.Branch.TheVariants.{Phase as OfPhase, Pseudo as OfPseudo}
 use Rattle.emtp_case.specs.declared.branch.Phase.{Phase}

@@ -1,6 +1,7 @@
 -- What holds for the coefficients of a block of order 1, from what holds for each.
 use Rattle.std.proofs.Common.{◌≤◌, ◌*◌, ◌^◌, List, arith, pos, slice_index_or, suc, unsigned_abs, zero, ℕ, ℤ}
-use Rattle.emtp_case.specs.Control.{HasWay, bilinear}
+use Rattle.emtp_case.specs.Control.{bilinear}
+use Rattle.emtp_case.specs.held.Control.{HasWay}
 
 -- what holds at 0 and at 1 holds up to 1
 pub upto_1 : (P : ℕ → Type 0) → P 0 → P 1 → (j : ℕ) → j ≤ 1 → P j

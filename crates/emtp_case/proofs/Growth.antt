@@ -1,13 +1,14 @@
 -- A record that fits a case fits a larger one.
-use Rattle.emtp_case.specs.Branch.{IsBranch, IsCharacteristic, points_of}
-use Rattle.emtp_case.specs.Case.{IsDraft}
-use Rattle.emtp_case.specs.Channel.{IsChannel}
-use Rattle.emtp_case.specs.Control.{HasDevicePoints, IsBlock, IsBound, IsDeviceCard, IsExtra}
-use Rattle.emtp_case.specs.OneProof.{IsDraft-prop}
-use Rattle.emtp_case.specs.Range.{AreEnds}
-use Rattle.emtp_case.specs.Sizes.{Grows, Sizes, sizes_of}
-use Rattle.emtp_case.specs.Source.{IsControlShape, IsNetworkShape, IsSource, IsTacsSource}
-use Rattle.emtp_case.specs.Switch.{IsSwitch, IsSwitchKind}
+use Rattle.emtp_case.specs.Branch.{points_of}
+use Rattle.emtp_case.specs.held.Branch.{IsBranch, IsCharacteristic}
+use Rattle.emtp_case.specs.held.Case.{IsDraft}
+use Rattle.emtp_case.specs.held.Channel.{IsChannel}
+use Rattle.emtp_case.specs.held.Control.{HasDevicePoints, IsBlock, IsBound, IsDeviceCard, IsExtra}
+use Rattle.emtp_case.specs.held.OneProof.{IsDraft-prop}
+use Rattle.emtp_case.specs.held.Range.{AreEnds}
+use Rattle.emtp_case.specs.held.Sizes.{Grows, Sizes, sizes_of}
+use Rattle.emtp_case.specs.held.Source.{IsControlShape, IsNetworkShape, IsSource, IsTacsSource}
+use Rattle.emtp_case.specs.held.Switch.{IsSwitch, IsSwitchKind}
 use Rattle.emtp_case.specs.declared.branch.Branch.{Branch}
 use Rattle.emtp_case.specs.declared.branch.Branch.TheVariants.{Line as OfLine, Lumped as OfLumped, Phase as OfPhase, Pseudo as OfPseudo}
 use Rattle.emtp_case.specs.declared.branch.Point.{Point}

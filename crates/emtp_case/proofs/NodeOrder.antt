@@ -1,6 +1,7 @@
 -- The nodes of a case in order.
 use Rattle.emtp_case.proofs.Ordered.{IsOrder, IsPermutation-put_in, IsPermutation-range_more, Rises, Rises-from_sorted, Rises-put_in, Rises-sorted, rises_once, sum_by-put_in, sum_by-range_more, times_in}
-use Rattle.emtp_case.specs.RowOrder.{IsRowOrder, Rows, class_of, class_rank, goes_before, has_source, in_order, key_cmp, key_of, may_change, order_of}
+use Rattle.emtp_case.specs.RowOrder.{Rows, class_of, class_rank, goes_before, has_source, in_order, key_cmp, key_of, may_change, order_of}
+use Rattle.emtp_case.specs.held.RowOrder.{IsRowOrder}
 use Rattle.emtp_case.specs.declared.case.Parts.{Parts}
 use Rattle.emtp_case.specs.declared.row_order.Class.TheVariants.{Changing, Constant, Source as SourceClass}
 use Rattle.emtp_case.specs.declared.row_order.Key.{Key}

@@ -1,6 +1,7 @@
 -- Lists of points that grow by one, for readers that judge point by point; the two modes of a three-phase line.
-use Rattle.emtp_case.specs.Branch.{HasLineNumbers, IsCharacteristic, IsSegment, IsTrio, origin}
-use Rattle.emtp_case.specs.Control.{AreTimes, FollowsInTable, FollowsInTime, IsTable}
+use Rattle.emtp_case.specs.Branch.{origin}
+use Rattle.emtp_case.specs.held.Branch.{HasLineNumbers, IsCharacteristic, IsSegment, IsTrio}
+use Rattle.emtp_case.specs.held.Control.{AreTimes, FollowsInTable, FollowsInTime, IsTable}
 use Rattle.emtp_case.specs.declared.branch.Point.{Point}
 use Rattle.emtp_case.specs.declared.branch.Trio.{Trio}
 use Rattle.emtp_case.specs.declared.run_data.RunData.{RunData}

@@ -1,6 +1,6 @@
 -- The table of the rows of the nodes, filled row by row.
 use Rattle.emtp_case.proofs.Ordered.{one_place, range_once}
-use Rattle.emtp_case.specs.RowTable.{AreRows}
+use Rattle.emtp_case.specs.held.RowTable.{AreRows}
 use Rattle.std.proofs.Common.{◌∙◌, ap, arith, sym, ⊎_elim}
 use Rattle.std.proofs.Math.ListN.{length-set}
 use Rattle.std.proofs.lemmas.Bool.{cases_lt}

@@ -7,7 +7,7 @@ use Rattle.std.proofs.lemmas.Bool.Decides.{nat_tests}
 use Rattle.std.proofs.lemmas.List.FromFn.{length-range_with_len}
 use Rattle.std.proofs.lemmas.List.Sums.{count_by-le-length, position_or_len_is, prefix_len-le-length}
 use Rattle.std.proofs.lemmas.Option.{slice_get-get_or}
-use Rattle.emtp_case.specs.EndNames.{IsNode}
+use Rattle.emtp_case.specs.held.EndNames.{IsNode}
 use Rattle.emtp_case.specs.NodeRows.{node_at, row_at}
 use Rattle.emtp_case.specs.RowOrder.{Rows, has_source, order_of}
 use Rattle.emtp_case.specs.declared.branch.Branch.{Branch}

@@ -1,6 +1,7 @@
 -- One more source among sources.
 use Rattle.emtp_case.specs.Case.{standing_names}
-use Rattle.emtp_case.specs.Source.{OneVoltageEach, is_voltage_source_at}
+use Rattle.emtp_case.specs.Source.{is_voltage_source_at}
+use Rattle.emtp_case.specs.held.Source.{OneVoltageEach}
 use Rattle.emtp_case.specs.declared.source.Source.{Source}
 use Rattle.std.proofs.Common.{◌∙◌, ap, arith, inl, inr, sym}
 use Rattle.std.proofs.lemmas.Bool.{cases_Bool}

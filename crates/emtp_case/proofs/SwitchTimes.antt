@@ -1,8 +1,9 @@
 -- The switches get their times one after another; those set before leave no trace, and the cards' own leave the switches as they are.
 use Rattle.emtp_case.proofs.Growth.{Extends-refl, IsSwitch-grows, grown}
-use Rattle.emtp_case.specs.Case.{HasCounts, IsDraft}
-use Rattle.emtp_case.specs.Sizes.{Grows, Sizes, sizes_of}
-use Rattle.emtp_case.specs.Switch.{HasTimes, IsSwitch, IsSwitchKind, card_times, is_time_kind, is_time_switch, kind_with, switch_with, times_of_kind, with_times}
+use Rattle.emtp_case.specs.held.Case.{HasCounts, IsDraft}
+use Rattle.emtp_case.specs.held.Sizes.{Grows, Sizes, sizes_of}
+use Rattle.emtp_case.specs.Switch.{card_times, is_time_kind, is_time_switch, kind_with, switch_with, times_of_kind, with_times}
+use Rattle.emtp_case.specs.held.Switch.{HasTimes, IsSwitch, IsSwitchKind}
 use Rattle.emtp_case.specs.declared.case.Parts.{Parts}
 use Rattle.emtp_case.specs.declared.switch.Switch.{Switch}
 use Rattle.emtp_case.specs.declared.switch.SwitchKind.{SwitchKind}

@@ -1,6 +1,7 @@
 -- The phases of three-phase lines keep their places where branches are added.
-use Rattle.emtp_case.specs.Branch.{AreInThrees, IsBranch, IsSingle, first_of_trio, phase_at, phase_of}
-use Rattle.emtp_case.specs.Sizes.{Sizes}
+use Rattle.emtp_case.specs.Branch.{first_of_trio}
+use Rattle.emtp_case.specs.held.Branch.{AreInThrees, IsBranch, IsSingle, phase_at, phase_of}
+use Rattle.emtp_case.specs.held.Sizes.{Sizes}
 use Rattle.emtp_case.specs.declared.branch.Branch.{Branch}
 use Rattle.emtp_case.specs.declared.branch.Branch.TheVariants.{Line as OfLine, Lumped as OfLumped, Phase as OfPhase, Pseudo as OfPseudo}
 use Rattle.emtp_case.specs.declared.branch.Point.{Point}

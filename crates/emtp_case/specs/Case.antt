@@ -1,83 +1,14 @@
 -- What a case keeps.
-use Rattle.emtp_case.specs.Branch.{AreInThrees, IsBranch, IsTrio}
-use Rattle.emtp_case.specs.Channel.{IsChannel}
-use Rattle.emtp_case.specs.Control.{IsBlock, IsExtra, var_of}
-use Rattle.emtp_case.specs.HistoryValues.{history_values_of}
-use Rattle.emtp_case.specs.Name.{IsName}
-use Rattle.emtp_case.specs.RunData.{IsRun, samples_of}
-use Rattle.emtp_case.specs.Sizes.{sizes_of}
-use Rattle.emtp_case.specs.Source.{IsSource, IsTacsSource, OneVoltageEach}
-use Rattle.emtp_case.specs.Switch.{IsSwitch}
 use Rattle.emtp_case.specs.declared.branch.Branch.{Branch}
 use Rattle.emtp_case.specs.declared.branch.Branch.TheVariants.{Phase as OfPhase}
 use Rattle.emtp_case.specs.declared.branch.Phase.{Phase}
 use Rattle.emtp_case.specs.declared.case.Parts.{Parts}
-use Rattle.emtp_case.specs.declared.control.Block.{Block}
 use Rattle.emtp_case.specs.declared.run_data.RunData.{RunData}
-use Rattle.emtp_case.specs.declared.source.Source.{Source}
-use Rattle.std.specs.Prelude.{◌≡◌, ◌+◌, ◌*◌, ◌<◌, ◌≤◌, ◌∷◌, ◌++◌, ◌==◌, [], All, List, codes, count_by, length, map, take, ℕ}
+use Rattle.std.specs.Prelude.{◌∷◌, [], List, codes, ℕ}
 
 -- the names of the variables that every case has: TIMEX, ISTEP, DELTAT, ZERO, PLUS1, MINUS1
 abbrev pub standing_names : List (List ℕ)
 standing_names = codes "TIMEX" ∷ codes "ISTEP" ∷ codes "DELTAT" ∷ codes "ZERO" ∷ codes "PLUS1" ∷ codes "MINUS1" ∷ []
-
--- the limits by count
-pub record HasCounts (p : Parts) : Type 0 where
-  pub nodes : length p.nodes ≤ 1000
-  pub branches : length p.branches ≤ 5000
-  pub trios : 3 * length p.trios ≤ length p.branches
-  pub points : length p.points ≤ 64 * (length p.branches + length p.extras)
-  pub switches : length p.switches ≤ 500
-  pub sources : length p.sources ≤ 500
-  pub vars : length p.vars ≤ 606
-  pub tacs_sources : length p.tacs_sources ≤ 200
-  pub blocks : length p.blocks ≤ 200
-  pub extras : length p.extras ≤ 200
-  pub channels : length p.channels ≤ 64
-  pub stored : length p.channels * samples_of p.run ≤ 4000000
-  pub history : history_values_of p ≤ 2000000
-
--- the branches, switches and sources
-pub record IsNetwork (p : Parts) : Type 0 where
-  pub names : All IsName p.nodes
-  pub branches : All (IsBranch p.run (sizes_of p) p.points) p.branches
-  pub trios : All (IsTrio p.run) p.trios
-  pub in_threes : AreInThrees p.branches p.trios
-  pub switches : All (IsSwitch (sizes_of p)) p.switches
-  pub sources : All (IsSource (sizes_of p)) p.sources
-  pub one_voltage : OneVoltageEach p.sources
-
--- the variables, and what computes them
-pub record IsControl (p : Parts) : Type 0 where
-  pub standing : take 6 p.vars ≡ standing_names
-  pub names : All IsName p.vars
-  pub tacs_sources : All (IsTacsSource (sizes_of p)) p.tacs_sources
-  pub blocks : All (IsBlock p.run (sizes_of p)) p.blocks
-  pub extras : All (IsExtra (sizes_of p) p.points) p.extras
-
--- the variables that the cards define
-abbrev pub defined_vars : Parts → List ℕ
-defined_vars p = map (λ (s : Source). s.node) p.tacs_sources ++ map (λ (b : Block). b.var) p.blocks ++ map var_of p.extras
-
--- each variable but the standing ones is that of exactly one card
-abbrev pub DefinesEach : Parts → Type 0
-DefinesEach p = (v : ℕ) → 6 ≤ v → v < length p.vars → count_by (λ d. d == v) (defined_vars p) ≡ 1
-
-abbrev pub AreChannels : Parts → Type 0
-AreChannels p = All (IsChannel (sizes_of p)) p.channels
-
--- the records fit each other, but for variables that no card defines yet
-pub record IsDraft (p : Parts) : Type 0 where
-  pub run : IsRun p.run
-  pub counts : HasCounts p
-  pub network : IsNetwork p
-  pub control : IsControl p
-  pub channels : AreChannels p
-
--- the records fit each other
-pub record IsCase (p : Parts) : Type 0 where
-  pub draft : IsDraft p
-  pub defined : DefinesEach p
 
 -- the case of the miscellaneous cards alone
 abbrev pub empty_parts : RunData → Parts
@@ -95,13 +26,6 @@ empty_parts run = record {
   extras = [];
   channels = [];
 }
-
--- the case has no control
-pub record HasNoControl (p : Parts) : Type 0 where
-  pub vars : p.vars ≡ standing_names
-  pub tacs_sources : p.tacs_sources ≡ []
-  pub blocks : p.blocks ≡ []
-  pub extras : p.extras ≡ []
 
 -- the three phases of a three-phase line, whose numbers are to be set
 abbrev pub phase_branches : ℕ → Phase → Phase → Phase → List Branch

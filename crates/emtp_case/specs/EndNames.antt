@@ -1,14 +1,9 @@
 -- The nodes that branches and switches are named by.
-use Rattle.std.specs.Prelude.{◌≤◌, ◌==◌, ℕ, if◌then◌else◌, length, map, slice_index}
+use Rattle.std.specs.Prelude.{◌==◌, ℕ, if◌then◌else◌, map, slice_index}
 use Rattle.emtp_case.specs.Branch.{from_of, to_of}
 use Rattle.emtp_case.specs.declared.branch.Branch.{Branch}
 use Rattle.emtp_case.specs.declared.case.Parts.{Parts}
 use Rattle.emtp_case.specs.declared.switch.Switch.{Switch}
-
--- a node of the case
-pub record IsNode (case : Parts) (node : ℕ) : Type 0 where
-  pub low : 1 ≤ node
-  pub high : node ≤ length case.nodes
 
 -- a branch or a switch is named by its `from`, or by its `to` where `from` is ground
 abbrev pub named_end : ℕ → ℕ → ℕ

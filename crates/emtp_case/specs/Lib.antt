@@ -1,22 +1,17 @@
-pub mod Name
-pub mod Range
+-- what the clauses of the program say
 pub mod RunData
-pub mod Sizes
 pub mod Sums
 pub mod Branch
 pub mod Switch
 pub mod Source
-pub mod Expr
 pub mod Control
 pub mod Channel
 pub mod HistoryValues
 pub mod Case
-pub mod OneProof
-pub mod Node
 pub mod ChannelName
 pub mod StepRecord
-pub mod RowTable
 pub mod RowOrder
-pub mod RowKinds
 pub mod NodeRows
 pub mod EndNames
+-- what values hold for their proofs
+pub mod held

@@ -10,9 +10,8 @@ use Rattle.emtp_case.specs.declared.row_order.Class.TheVariants.{Changing, Const
 use Rattle.emtp_case.specs.declared.row_order.Key.{Key}
 use Rattle.emtp_case.specs.declared.switch.Switch.{Switch}
 use Rattle.std.specs.List.{list_any, range_with_len}
-use Rattle.std.specs.List.Sorted.{IsPermutation, IsSortedByKey}
 use Rattle.std.specs.Ordering.{is_lt, nat_cmp, on, then_cmp}
-use Rattle.std.specs.Prelude.{◌≡◌, ◌+◌, ◌<◌, ◌∷◌, ◌==◌, ◌&&◌, ◌||◌, if◌then◌else◌, [], Bool, List, count_by, false, length, nat_lt, slice_index, suc, sum_by, true, zero, ℕ}
+use Rattle.std.specs.Prelude.{◌+◌, ◌∷◌, ◌==◌, ◌&&◌, ◌||◌, if◌then◌else◌, [], Bool, List, count_by, false, length, suc, sum_by, true, zero, ℕ}
 use Rattle.std.specs.declared.cmp.Ordering.{Ordering}
 
 -- a branch has one end at each of its nodes
@@ -84,9 +83,3 @@ pub record Rows : Type 0 where
 
 abbrev pub order_of : Parts → Rows
 order_of p = record { nodes = in_order p (length p.nodes); fixed = count_by (has_source p) (range_with_len 1 (length p.nodes)) }
-
--- the rows list each node once, in rising order of their keys, and those of voltage sources come first
-pub record IsRowOrder (p : Parts) (r : Rows) : Type 0 where
-  pub each_once : IsPermutation (range_with_len 1 (length p.nodes)) r.nodes
-  pub rising : IsSortedByKey (key_of p) key_cmp r.nodes
-  pub sources_first : (row : ℕ) → row < length r.nodes → has_source p (slice_index r.nodes row) ≡ nat_lt row r.fixed

@@ -8,14 +8,13 @@ use Rattle.emtp_case.specs.declared.branch.PseudoState.{PseudoState}
 use Rattle.emtp_case.specs.declared.case.Parts.{Parts}
 use Rattle.emtp_case.specs.declared.control.BlockState.{BlockState}
 use Rattle.emtp_case.specs.declared.control.DeviceState.{DeviceState}
-use Rattle.emtp_case.specs.declared.control.Limiter.{Limiter}
 use Rattle.emtp_case.specs.declared.control.Limiter.TheVariants.{Free}
 use Rattle.emtp_case.specs.declared.switch.Switch.{Switch}
 use Rattle.emtp_case.specs.declared.switch.SwitchKind.{SwitchKind}
 use Rattle.emtp_case.specs.declared.switch.SwitchKind.TheVariants.{Control, Measuring, Time, Valve}
 use Rattle.emtp_case.specs.declared.switch.SwitchState.{SwitchState}
 use Rattle.emtp_case.specs.declared.switch.SwitchState.TheVariants.{Closed, Opened, Waiting}
-use Rattle.std.specs.Prelude.{◌+◌, ◌-◌, if◌then◌else◌, [], Bool, List, false, int_lt, length, map, pos, replicate, slice_index_or, true, ℕ, ℤ}
+use Rattle.std.specs.Prelude.{◌+◌, if◌then◌else◌, [], Bool, List, false, int_lt, length, map, pos, replicate, slice_index_or, true, ℕ, ℤ}
 
 -- Lists of records go newest first: the head is the last record, and the record k steps before it stands at place k.
 
@@ -141,17 +140,6 @@ branch_current_at branch r = slice_index_or (map current_of r.branches) branch (
 
 abbrev pub block_at : ℕ → StepRecord → BlockState
 block_at block r = slice_index_or r.blocks block no_block
-
-abbrev pub limiter_at : ℕ → StepRecord → Limiter
-limiter_at block r = (block_at block r).limiter
-
--- E(j), from j = 0
-abbrev pub error_at : ℕ → ℕ → StepRecord → ℤ
-error_at j block r = slice_index_or (block_at block r).errors j (pos 0)
-
--- Y(j), from j = 1
-abbrev pub chain_at : ℕ → ℕ → StepRecord → ℤ
-chain_at j block r = slice_index_or (block_at block r).chain (j - 1) (pos 0)
 
 abbrev pub device_at : ℕ → StepRecord → DeviceState
 device_at extra r = slice_index_or r.devices extra no_device

@@ -1,31 +1,10 @@
 -- The switches.
-use Rattle.emtp_case.specs.Range.{AreEnds, IsBetween}
-use Rattle.emtp_case.specs.Sizes.{Sizes}
 use Rattle.emtp_case.specs.declared.switch.Switch.{Switch}
 use Rattle.emtp_case.specs.declared.switch.SwitchKind.{SwitchKind}
 use Rattle.emtp_case.specs.declared.switch.SwitchKind.TheVariants.{Control, Measuring, Time, Valve}
 use Rattle.emtp_case.specs.declared.switch.Times.{Times}
-use Rattle.std.specs.Option.{ForSome}
 use Rattle.std.specs.List.{filter_map}
-use Rattle.std.specs.Prelude.{◌^◌, ◌<◌, ◌≤◌, ◌∷◌, if◌then◌else◌, [], Bool, List, None, Option, Some, false, true, unsigned_abs, ℤ}
-
--- a closing time and an opening time, if there is one
-pub record HasTimes (close : ℤ) (open_at : Option ℤ) : Type 0 where
-  pub close_small : unsigned_abs close ≤ 10 ^ 18
-  pub open_small : ForSome open_at (λ t. unsigned_abs t ≤ 10 ^ 18)
-
--- what opens and closes a switch, among so many records
-abbrev pub IsSwitchKind : Sizes → SwitchKind → Type 0
-IsSwitchKind n (Time close open_at margin) = HasTimes close open_at × IsBetween 0 (10 ^ 18) margin
-IsSwitchKind n Measuring = Unit {0}
-IsSwitchKind n (Valve ignition holding control) =
-    IsBetween 0 (10 ^ 18) ignition × IsBetween 0 (10 ^ 18) holding × ForSome control (λ v. v < n.vars)
-IsSwitchKind n (Control control) = control < n.vars
-
--- a switch among so many records
-pub record IsSwitch (n : Sizes) (s : Switch) : Type 0 where
-  pub ends : AreEnds n.nodes s.from s.to
-  pub kind : IsSwitchKind n s.kind
+use Rattle.std.specs.Prelude.{◌∷◌, if◌then◌else◌, [], Bool, List, None, Option, Some, false, true}
 
 abbrev pub is_time_kind : SwitchKind → Bool
 is_time_kind (Time close open_at margin) = true

@@ -2,10 +2,11 @@
 
 ghost use Rattle.std.specs.Prelude.{◌≡◌, ◌≢◌, ◌-◌, ◌≤◌, length, count_by, position, slice_get, All, IsNone, IfSome};
 ghost use Rattle.std.specs.Str.{bytes_eq};
-ghost use Rattle.emtp_case.specs.Node.{node_of};
-ghost use Rattle.emtp_case.specs.Switch.{HasTimes, is_time_switch, with_times};
-ghost use Rattle.emtp_case.specs.Case.{IsCase};
-ghost use Rattle.emtp_case.specs.OneProof.{IsCase-prop};
+ghost use Rattle.emtp_case.specs.held.Node.{node_of};
+ghost use Rattle.emtp_case.specs.Switch.{is_time_switch, with_times};
+ghost use Rattle.emtp_case.specs.held.Switch.{HasTimes};
+ghost use Rattle.emtp_case.specs.held.Case.{IsCase};
+ghost use Rattle.emtp_case.specs.held.OneProof.{IsCase-prop};
 
 use crate::branch::{Branch, Point, Trio};
 use crate::channel::Channel;

@@ -6,8 +6,9 @@
 //! nearest whole number, a half away from zero.
 
 ghost use Rattle.std.specs.Prelude.{◌≡◌, ◌≢◌, ◌^◌, ◌*◌, ◌≤◌, ◌*ℤ◌, ℕ, pos, unsigned_abs, slice_index_or};
-ghost use Rattle.emtp_case.specs.Control.{HasWay, bilinear, power_of, quotient_of};
-ghost use Rattle.emtp_case.specs.Range.{IsBetween};
+ghost use Rattle.emtp_case.specs.Control.{bilinear, power_of, quotient_of};
+ghost use Rattle.emtp_case.specs.held.Control.{HasWay};
+ghost use Rattle.emtp_case.specs.held.Range.{IsBetween};
 ghost use Rattle.emtp_case.specs.Sums.{sum_upto};
 ghost use Rattle.emtp_fix.specs.Rounding.{near};
 

@@ -2,18 +2,21 @@
 
 ghost use Rattle.std.specs.Prelude.{◌≡◌, ◌+◌, ◌*◌, ◌<◌, ◌≤◌, ◌++◌, [], ◌∷◌, length, false, IfOk, OnOk, OnErr};
 ghost use Rattle.std.specs.List.{list_any};
-ghost use Rattle.emtp_case.specs.Branch.{IsBranch, IsLumped, IsSingle, IsCharacteristic, IsTrio};
-ghost use Rattle.emtp_case.specs.Range.{AreEnds};
-ghost use Rattle.emtp_case.specs.Case.{IsDraft, DefinesEach, HasNoControl, empty_parts, phase_branches, standing_names};
-ghost use Rattle.emtp_case.specs.Channel.{IsChannel};
-ghost use Rattle.emtp_case.specs.Control.{IsBlock, IsDeviceCard, HasDevicePoints, IsFormula};
+ghost use Rattle.emtp_case.specs.held.Branch.{IsBranch, IsLumped, IsSingle, IsCharacteristic, IsTrio};
+ghost use Rattle.emtp_case.specs.held.Range.{AreEnds};
+ghost use Rattle.emtp_case.specs.Case.{empty_parts, phase_branches, standing_names};
+ghost use Rattle.emtp_case.specs.held.Case.{IsDraft, DefinesEach, HasNoControl};
+ghost use Rattle.emtp_case.specs.held.Channel.{IsChannel};
+ghost use Rattle.emtp_case.specs.held.Control.{IsBlock, IsDeviceCard, HasDevicePoints, IsFormula};
 ghost use Rattle.emtp_case.specs.HistoryValues.{history_values_of, branch_history_values, trio_history_values, device_history_values};
-ghost use Rattle.emtp_case.specs.Name.{IsName};
-ghost use Rattle.emtp_case.specs.OneProof.{IsDraft-prop};
-ghost use Rattle.emtp_case.specs.RunData.{IsRun, samples_of};
-ghost use Rattle.emtp_case.specs.Sizes.{sizes_of};
-ghost use Rattle.emtp_case.specs.Source.{IsSource, IsTacsSource, is_voltage_source_at};
-ghost use Rattle.emtp_case.specs.Switch.{IsSwitch};
+ghost use Rattle.emtp_case.specs.held.Name.{IsName};
+ghost use Rattle.emtp_case.specs.held.OneProof.{IsDraft-prop};
+ghost use Rattle.emtp_case.specs.RunData.{samples_of};
+ghost use Rattle.emtp_case.specs.held.RunData.{IsRun};
+ghost use Rattle.emtp_case.specs.held.Sizes.{sizes_of};
+ghost use Rattle.emtp_case.specs.Source.{is_voltage_source_at};
+ghost use Rattle.emtp_case.specs.held.Source.{IsSource, IsTacsSource};
+ghost use Rattle.emtp_case.specs.held.Switch.{IsSwitch};
 
 use crate::branch::{Branch, Lumped, Phase, Point, Pseudo, Trio};
 use crate::case::{Case, Parts};

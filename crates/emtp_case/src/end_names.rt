@@ -1,7 +1,8 @@
 //! The nodes that branches and switches are named by.
 
 ghost use Rattle.std.specs.Prelude.{◌≡◌, ◌<◌, length};
-ghost use Rattle.emtp_case.specs.EndNames.{IsNode, node_of_branch, node_of_switch};
+ghost use Rattle.emtp_case.specs.EndNames.{node_of_branch, node_of_switch};
+ghost use Rattle.emtp_case.specs.held.EndNames.{IsNode};
 
 use crate::case::Case;
 

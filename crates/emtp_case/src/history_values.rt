@@ -1,9 +1,9 @@
 //! History values: how many past values lines and devices need.
 
 ghost use Rattle.std.specs.Prelude.{◌≡◌, ◌+◌, ◌*◌, ◌^◌, ◌≤◌};
-ghost use Rattle.emtp_case.specs.Control.{HasRangeOfA};
+ghost use Rattle.emtp_case.specs.held.Control.{HasRangeOfA};
 ghost use Rattle.emtp_case.specs.HistoryValues.{branch_history_values, delay_steps, device_history_values, period_steps, travel_steps, trio_history_values};
-ghost use Rattle.emtp_case.specs.Range.{IsBetween};
+ghost use Rattle.emtp_case.specs.held.Range.{IsBetween};
 
 use crate::branch::{Branch, Trio};
 use crate::control::{Device, DeviceCode};

@@ -2,8 +2,9 @@
 //! line's end, the slope of a segment. A reader judges by them, and the laws step with them.
 
 ghost use Rattle.std.specs.Prelude.{◌≡◌, ◌*◌, ◌^◌, ◌≤◌, pos, ◌*ℤ◌, unsigned_abs};
-ghost use Rattle.emtp_case.specs.Branch.{IsRise, capacitor_impedance, inductor_impedance, line_impedance, series_impedance, slope_of};
-ghost use Rattle.emtp_case.specs.Range.{IsBetween};
+ghost use Rattle.emtp_case.specs.Branch.{capacitor_impedance, inductor_impedance, line_impedance, series_impedance, slope_of};
+ghost use Rattle.emtp_case.specs.held.Branch.{IsRise};
+ghost use Rattle.emtp_case.specs.held.Range.{IsBetween};
 ghost use Rattle.emtp_fix.specs.Rounding.{near};
 
 use crate::branch::Point;

@@ -2,9 +2,10 @@
 
 ghost use Rattle.std.specs.Prelude.{◌≡◌, ◌+◌, ◌++◌, ◌∷◌, [], ℕ, List, length, map, slice_index_or, pos};
 ghost use Rattle.std.specs.List.{range_with_len};
-ghost use Rattle.emtp_case.specs.Branch.{HasLineNumbers, IsCharacteristic, IsSegment, IsTrio, origin};
-ghost use Rattle.emtp_case.specs.Case.{DefinesEach};
-ghost use Rattle.emtp_case.specs.Control.{AreTimes, FollowsInTable, FollowsInTime, IsTable, var_of};
+ghost use Rattle.emtp_case.specs.Branch.{origin};
+ghost use Rattle.emtp_case.specs.held.Branch.{HasLineNumbers, IsCharacteristic, IsSegment, IsTrio};
+ghost use Rattle.emtp_case.specs.held.Case.{DefinesEach};
+ghost use Rattle.emtp_case.specs.held.Control.{AreTimes, FollowsInTable, FollowsInTime, IsTable, var_of};
 ghost use Rattle.emtp_case.specs.StepRecord.{StepRecord, latest, record_back};
 ghost use Rattle.emtp_case.specs.declared.control.Block.{Block};
 ghost use Rattle.emtp_case.specs.declared.source.Source.{Source};

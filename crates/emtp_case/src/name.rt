@@ -21,7 +21,7 @@ impl Model for Name {
 
     ghost Value = { List ℕ };
 
-    ghost use Rattle.emtp_case.specs.Name.{bytes_of, IsPadded, name_of, name_of-bytes_of};
+    ghost use Rattle.emtp_case.specs.held.Name.{bytes_of, IsPadded, name_of, name_of-bytes_of};
 
     ghost view = { bytes_of };
 

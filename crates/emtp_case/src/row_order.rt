@@ -3,8 +3,9 @@
 ghost use Rattle.std.specs.Prelude.{◌≡◌, ◌+◌, ◌<◌, ◌≤◌, ℕ, length, map, count_by, sum_by, IfOk, slice_index};
 ghost use Rattle.std.specs.List.{range_with_len, list_any};
 ghost use Rattle.std.specs.List.Sorted.{IsPermutation, IsSortedByKey};
-ghost use Rattle.emtp_case.specs.RowTable.{AreRows};
-ghost use Rattle.emtp_case.specs.RowOrder.{Rows, ends_at, is_pseudo_at, has_source, class_of, key_of, key_cmp, order_of, IsRowOrder};
+ghost use Rattle.emtp_case.specs.held.RowTable.{AreRows};
+ghost use Rattle.emtp_case.specs.RowOrder.{Rows, ends_at, is_pseudo_at, has_source, class_of, key_of, key_cmp, order_of};
+ghost use Rattle.emtp_case.specs.held.RowOrder.{IsRowOrder};
 
 use crate::branch::Branch;
 use crate::case::{Case, Parts};
@@ -46,7 +47,7 @@ pub struct RowOrder {
 
 impl Model for RowOrder {
     ghost use Rattle.emtp_case.specs.RowOrder.{Rows};
-    ghost use Rattle.emtp_case.specs.RowTable.{AreRows};
+    ghost use Rattle.emtp_case.specs.held.RowTable.{AreRows};
 
     ghost Value = { Rows };
 

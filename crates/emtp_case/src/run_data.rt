@@ -1,7 +1,7 @@
 //! The numbers of the miscellaneous cards.
 
 ghost use Rattle.std.specs.Prelude.{◌≡◌, ◌≤◌, ◌^◌};
-ghost use Rattle.emtp_case.specs.Range.{IsBetween};
+ghost use Rattle.emtp_case.specs.held.Range.{IsBetween};
 
 /// The numbers of the miscellaneous cards, and the tolerance of the residual.
 #[derive(Clone, Copy, PartialEq, Eq)]
@@ -17,7 +17,8 @@ pub struct RunData {
 }
 
 impl RunData {
-    ghost use Rattle.emtp_case.specs.RunData.{IsRun, samples_of, time_of};
+    ghost use Rattle.emtp_case.specs.RunData.{samples_of, time_of};
+    ghost use Rattle.emtp_case.specs.held.RunData.{IsRun};
 
     /// The time of a step, in ps: from 0 to 10^18.
     pub fn time(&self, step: u32) -> i64

@@ -3,9 +3,10 @@ use Rattle.std.proofs.Common.{◌≡◌, inl, inr, ℕ, ◌+◌, ◌<◌, ◌≤
 use Rattle.std.proofs.lemmas.Bool.{cases_order}
 use Rattle.std.proofs.lemmas.List.{get_or-replicate, get_or-set_same, get_or-set_other}
 use Rattle.emtp_case.specs.declared.case.Parts.{Parts}
-use Rattle.emtp_comtrade.specs.Record.{MultipliersBelow, is_status_at, is_analog_at, analog_before, status_before, multiplier_at}
+use Rattle.emtp_comtrade.specs.Record.{is_status_at, is_analog_at, analog_before, status_before, multiplier_at}
+use Rattle.emtp_comtrade.specs.held.Record.{MultipliersBelow}
 use Rattle.emtp_machine.specs.Samples.{greatest}
-use Rattle.emtp_comtrade.specs.Multiplier.{IsMultiplier}
+use Rattle.emtp_comtrade.specs.held.Multiplier.{IsMultiplier}
 use Rattle.emtp_comtrade.proofs.Places.{count_below-le, count_below-pass, count_below-fail, count_below-less}
 
 pub analog_before-status : (p : Parts) (place : ℕ) → is_status_at p place ≡ true → analog_before p (place + 1) ≡ analog_before p place

@@ -5,7 +5,7 @@ use Rattle.std.proofs.Math.Nat.{mul-le-mul_right}
 use Rattle.emtp_fix.specs.Rounding.{near_abs}
 use Rattle.emtp_fix.proofs.Nearest.{near_abs-low, near-rest, unsigned_abs-near}
 use Rattle.emtp_machine.specs.Samples.{value_at, greatest}
-use Rattle.emtp_comtrade.specs.Multiplier.{IsMultiplier, IsHeld}
+use Rattle.emtp_comtrade.specs.held.Multiplier.{IsMultiplier, IsHeld}
 use Rattle.emtp_comtrade.proofs.LeastMultiplier.{multiplier-positive}
 
 -- no value exceeds the greatest magnitude

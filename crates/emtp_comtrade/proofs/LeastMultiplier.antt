@@ -2,7 +2,8 @@
 use Rattle.std.proofs.Common.{◌≡◌, ◌⊎◌, inl, inr, ℕ, zero, suc, ◌+◌, ◌-◌, ◌*◌, ◌^◌, ◌<◌, ◌≤◌, Bool, true, false, cond, nat_le, Option, Some, None, unwrap_or, add-one, add-zero, arith, refl, sym, ◌∙◌, ap, subst}
 use Rattle.std.proofs.Math.Nat.{pow-le-pow_right, one-le-pow, pow-suc}
 use Rattle.std.proofs.lemmas.Bool.{cases_order}
-use Rattle.emtp_comtrade.specs.Multiplier.{IsOneTwoFive, IsMultiplier, multiplier_in, multiplier_from, multiplier_of}
+use Rattle.emtp_comtrade.specs.Multiplier.{multiplier_in, multiplier_from, multiplier_of}
+use Rattle.emtp_comtrade.specs.held.Multiplier.{IsOneTwoFive, IsMultiplier}
 
 -- ---- the search
 

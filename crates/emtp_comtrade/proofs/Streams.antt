@@ -3,10 +3,10 @@ use Rattle.std.proofs.Common.{◌≡◌, inl, inr, ℕ, zero, suc, ◌+◌, ◌<
 use Rattle.std.proofs.lemmas.Bool.{cases_order}
 use Rattle.emtp_io.specs.declared.cabinet.Output.{Output}
 use Rattle.emtp_io.specs.Cabinet.{CabinetState}
-use Rattle.emtp_io.specs.Whole.{Appends}
+use Rattle.emtp_io.specs.held.Whole.{Appends}
 use Rattle.emtp_io.proofs.Appending.{appends-nothing, appends-append, appends-front}
 use Rattle.emtp_comtrade.specs.Record.{joined}
-use Rattle.emtp_comtrade.specs.Stream.{Gathers}
+use Rattle.emtp_comtrade.specs.held.Stream.{Gathers}
 
 -- all of a text waits
 pub gathers-none : {T E : Type 0} {state : CabinetState} {out : Output} {text : List ℕ} {value : T}

@@ -1,3 +1,5 @@
+-- what the clauses of the program say
 pub mod Record
 pub mod Multiplier
-pub mod Stream
+-- what values hold for their proofs
+pub mod held

@@ -1,5 +1,5 @@
 -- The texts of a COMTRADE record (IEEE C37.111-1999): the configuration, and the data in ASCII form.
-use Rattle.std.specs.Prelude.{◌≡◌, ℕ, zero, suc, ◌+◌, ◌<◌, ◌≤◌, ℤ, pos, ◌*ℤ◌, Bool, false, not, ◌==◌, List, [], ◌∷◌, ◌++◌, length, map, slice_index_or, codes, decimal, unsigned_abs, if◌then◌else◌}
+use Rattle.std.specs.Prelude.{ℕ, zero, suc, ◌+◌, ℤ, pos, ◌*ℤ◌, Bool, false, not, ◌==◌, List, [], ◌∷◌, ◌++◌, length, map, slice_index_or, codes, decimal, unsigned_abs, if◌then◌else◌}
 use Rattle.std.specs.Fmt.{signed_decimal}
 use Rattle.emtp_case.specs.Channel.{is_status}
 use Rattle.emtp_case.specs.ChannelName.{name_of_channel}
@@ -9,7 +9,7 @@ use Rattle.emtp_case.specs.declared.channel.Channel.TheVariants.{BranchCurrent, 
 use Rattle.emtp_fix.specs.Decimal.{fixed_text}
 use Rattle.emtp_fix.specs.Rounding.{near}
 use Rattle.emtp_machine.specs.Samples.{value_at, greatest}
-use Rattle.emtp_comtrade.specs.Multiplier.{multiplier_of, IsMultiplier}
+use Rattle.emtp_comtrade.specs.Multiplier.{multiplier_of}
 
 -- ---- places
 
@@ -53,18 +53,6 @@ status_before p place = count_below (is_status_at p) place
 -- the multiplier of the channel at a place, in 1e-9
 abbrev pub multiplier_at : List (List ℤ) → ℕ → ℕ
 multiplier_at samples place = multiplier_of (greatest samples place (length samples))
-
--- the multipliers of the analog channels below a place, in order, and 1 after them
-pub record MultipliersBelow (p : Parts) (samples : List (List ℤ)) (n : ℕ) (multipliers : List ℤ) : Type 0 where
-  pub analog : (place : ℕ) → place < n → is_status_at p place ≡ false
-      → slice_index_or multipliers (analog_before p place) (pos 0) ≡ pos (multiplier_at samples place)
-  pub after : (c : ℕ) → analog_before p n ≤ c → c < 64 → slice_index_or multipliers c (pos 0) ≡ pos 1
-  pub least : (place : ℕ) → place < n → is_status_at p place ≡ false
-      → IsMultiplier (greatest samples place (length samples)) (multiplier_at samples place)
-
--- the multipliers of the analog channels, in order, and 1 after them
-abbrev pub AreMultipliers : Parts → List (List ℤ) → List ℤ → Type 0
-AreMultipliers p samples multipliers = MultipliersBelow p samples (length p.channels) multipliers
 
 -- ---- the configuration
 

@@ -1,9 +1,10 @@
 //! The configuration of a record.
 ghost use Rattle.std.specs.Prelude.{◌≡◌, ◌+◌, ◌<◌, ◌≤◌, ◌++◌, pos, ◌*ℤ◌, length, OnOk};
 ghost use Rattle.emtp_case.specs.ChannelName.{name_of_channel};
-ghost use Rattle.emtp_io.specs.Whole.{Appends};
-ghost use Rattle.emtp_comtrade.specs.Record.{joined, unit_of, unit_at, analog_before, status_before, analog_line, analog_line_at, status_line, status_line_at, cfg_head, cfg_tail, cfg_text, AreMultipliers};
-ghost use Rattle.emtp_comtrade.specs.Stream.{Gathers};
+ghost use Rattle.emtp_io.specs.held.Whole.{Appends};
+ghost use Rattle.emtp_comtrade.specs.Record.{joined, unit_of, unit_at, analog_before, status_before, analog_line, analog_line_at, status_line, status_line_at, cfg_head, cfg_tail, cfg_text};
+ghost use Rattle.emtp_comtrade.specs.held.Record.{AreMultipliers};
+ghost use Rattle.emtp_comtrade.specs.held.Stream.{Gathers};
 
 use crate::multipliers::{is_status_at, multiplier_at};
 use crate::stream::{flush, make_room};

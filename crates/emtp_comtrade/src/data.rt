@@ -1,9 +1,10 @@
 //! The lines of the data.
 ghost use Rattle.std.specs.Prelude.{◌≡◌, ◌≢◌, ◌+◌, ◌*◌, ◌<◌, ◌≤◌, ◌++◌, pos, ◌-ℤ◌, ◌*ℤ◌, unsigned_abs, length, ◌==◌, OnOk};
 ghost use Rattle.emtp_fix.specs.Rounding.{near};
-ghost use Rattle.emtp_io.specs.Whole.{Appends};
-ghost use Rattle.emtp_comtrade.specs.Record.{joined, is_status_at, analog_before, raw_at, state_at, dat_line, dat_text, AreMultipliers};
-ghost use Rattle.emtp_comtrade.specs.Stream.{Gathers};
+ghost use Rattle.emtp_io.specs.held.Whole.{Appends};
+ghost use Rattle.emtp_comtrade.specs.Record.{joined, is_status_at, analog_before, raw_at, state_at, dat_line, dat_text};
+ghost use Rattle.emtp_comtrade.specs.held.Record.{AreMultipliers};
+ghost use Rattle.emtp_comtrade.specs.held.Stream.{Gathers};
 
 use crate::multipliers::{is_status_at, multiplier_at};
 use crate::stream::{flush, make_room};

@@ -1,6 +1,7 @@
 //! The multiplier of an analog channel.
 ghost use Rattle.std.specs.Prelude.{◌≡◌, ◌≤◌, ◌^◌, IfSome};
-ghost use Rattle.emtp_comtrade.specs.Multiplier.{multiplier_in, multiplier_of, IsMultiplier};
+ghost use Rattle.emtp_comtrade.specs.Multiplier.{multiplier_in, multiplier_of};
+ghost use Rattle.emtp_comtrade.specs.held.Multiplier.{IsMultiplier};
 
 /// The least of 1, 2 and 5 times a power of ten by which a magnitude is held in 16 bits.
 #[tactic(auto, using(crate::proofs::LeastMultiplier::searching))]

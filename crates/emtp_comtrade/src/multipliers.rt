@@ -1,8 +1,9 @@
 //! The multipliers of the analog channels of a record.
 ghost use Rattle.std.specs.Prelude.{◌≡◌, ◌≢◌, ℕ, ℤ, List, false, ◌+◌, ◌<◌, length, pos};
-ghost use Rattle.emtp_comtrade.specs.Record.{is_status_at, analog_before, multiplier_at, MultipliersBelow, AreMultipliers};
+ghost use Rattle.emtp_comtrade.specs.Record.{is_status_at, analog_before, multiplier_at};
+ghost use Rattle.emtp_comtrade.specs.held.Record.{MultipliersBelow, AreMultipliers};
 ghost use Rattle.emtp_machine.specs.Samples.{value_at, greatest};
-ghost use Rattle.emtp_comtrade.specs.Multiplier.{IsMultiplier, IsHeld};
+ghost use Rattle.emtp_comtrade.specs.held.Multiplier.{IsMultiplier, IsHeld};
 
 use crate::multiplier::least_multiplier;
 use emtp_case::Case;

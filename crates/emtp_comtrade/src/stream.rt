@@ -1,7 +1,7 @@
 //! Texts that are written as they grow.
 ghost use Rattle.std.specs.Prelude.{◌≡◌, ◌+◌, ◌≤◌, [], length, OnOk};
-ghost use Rattle.emtp_io.specs.Whole.{Appends};
-ghost use Rattle.emtp_comtrade.specs.Stream.{Gathers};
+ghost use Rattle.emtp_io.specs.held.Whole.{Appends};
+ghost use Rattle.emtp_comtrade.specs.held.Stream.{Gathers};
 
 use crate::text::{LINE_ROOM, TEXT_ROOM, Text};
 use emtp_io::{Cabinet, Failed, Output, write_all};

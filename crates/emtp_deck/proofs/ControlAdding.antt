@@ -4,15 +4,15 @@ use Rattle.std.proofs.lemmas.List.{map_more, take_more}
 use Rattle.std.proofs.lemmas.List.Elements.{All-nil}
 use Rattle.std.proofs.lemmas.List.Sums.{fold-append, sum_by-append, sum_by-cons}
 use Rattle.std.specs.List.{sum_by}
-use Rattle.emtp_case.specs.Channel.{IsChannel}
+use Rattle.emtp_case.specs.held.Channel.{IsChannel}
 use Rattle.emtp_case.specs.HistoryValues.{history_values_of}
-use Rattle.emtp_case.specs.Sizes.{sizes_of}
+use Rattle.emtp_case.specs.held.Sizes.{sizes_of}
 use Rattle.emtp_case.specs.declared.branch.Point.{Point}
 use Rattle.emtp_case.specs.declared.case.Parts.{Parts}
 use Rattle.emtp_deck.proofs.Asking.{control_is}
 use Rattle.emtp_deck.specs.ControlFilling.{with_extra}
 use Rattle.emtp_deck.specs.Deck.{control_made}
-use Rattle.emtp_deck.specs.Filling.{IsFilling, made_of}
+use Rattle.emtp_deck.specs.held.Filling.{IsFilling, made_of}
 use Rattle.emtp_deck.specs.Made.{Made, none_asked}
 use Rattle.emtp_walk.specs.declared.control_cards.ExtraEntry.{ExtraEntry}
 use Rattle.emtp_walk.specs.declared.control_cards.ExtraEntry.TheVariants.{Device as DeviceEntry, Formula as FormulaEntry}

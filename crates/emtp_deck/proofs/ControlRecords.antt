@@ -7,29 +7,29 @@ use Rattle.std.specs.List.{position_or_len}
 use Rattle.std.specs.Option.{ForSome}
 use Rattle.std.specs.Prelude.{All, IsSome, int_lt, is_some, map, option_map, position}
 use Rattle.std.specs.Str.{bytes_eq}
-use Rattle.emtp_case.specs.Control.{AreBounds, IsBlock, IsBound, IsDeviceCard, IsFormula}
-use Rattle.emtp_case.specs.Expr.{FitsPlaces}
-use Rattle.emtp_case.specs.Sizes.{Sizes}
-use Rattle.emtp_case.specs.Source.{HasShapeNumbers, IsControlShape, IsTacsSource}
+use Rattle.emtp_case.specs.held.Control.{AreBounds, IsBlock, IsBound, IsDeviceCard, IsFormula}
+use Rattle.emtp_case.specs.held.Expr.{FitsPlaces}
+use Rattle.emtp_case.specs.held.Sizes.{Sizes}
+use Rattle.emtp_case.specs.held.Source.{HasShapeNumbers, IsControlShape, IsTacsSource}
 use Rattle.emtp_case.specs.declared.control.Input.{Input}
 use Rattle.emtp_case.specs.declared.run_data.RunData.{RunData}
 use Rattle.emtp_case.specs.declared.source.Shape.{Shape}
 use Rattle.emtp_case.specs.declared.source.Shape.TheVariants.{Cosine, NodeVoltage, Pulse, Ramp, Saw, Step, SwitchCurrent, SwitchStatus, Tacs}
 use Rattle.emtp_case.specs.declared.source.Source.{Source}
 use Rattle.emtp_sense.proofs.Knowing.{known_number}
-use Rattle.emtp_walk.specs.Coefficients.{IsBlockEntry}
+use Rattle.emtp_walk.specs.held.Coefficients.{IsBlockEntry}
 use Rattle.emtp_deck.specs.ControlFilling.{block_of, bound_of, device_of, formula_of, input_of, inputs_of, measuring, tacs_source_of}
 use Rattle.emtp_sense.specs.ControlSense.{ends_at, is_measurable}
-use Rattle.emtp_sense.specs.ControlSensible.{AreKnownInputs, IsKnown, IsSensibleBlock, IsSensibleDevice, IsSensibleFormula, IsSensibleTacsSource}
-use Rattle.emtp_walk.specs.Sound.{IsDeviceDue, IsFormulaCard, IsTacsSourceCard}
+use Rattle.emtp_sense.specs.held.ControlSensible.{AreKnownInputs, IsKnown, IsSensibleBlock, IsSensibleDevice, IsSensibleFormula, IsSensibleTacsSource}
+use Rattle.emtp_walk.specs.held.Sound.{IsDeviceDue, IsFormulaCard, IsTacsSourceCard}
 use Rattle.emtp_sense.specs.Variables.{variable_number}
 use Rattle.emtp_walk.specs.declared.control_cards.BlockEntry.{BlockEntry}
-use Rattle.emtp_netcards.specs.Fields.{IsSmall}
+use Rattle.emtp_netcards.specs.held.Fields.{IsSmall}
 use Rattle.emtp_netcards.specs.SourceCard.{source_of}
 use Rattle.emtp_netcards.specs.declared.source_card.SourceCard.{SourceCard}
 use Rattle.emtp_netcards.specs.declared.switch_card.SwitchCard.{SwitchCard}
 use Rattle.emtp_taccards.specs.BlockCard.{are_crossed}
-use Rattle.emtp_taccards.specs.TacsSourceCard.{IsUnresolved}
+use Rattle.emtp_taccards.specs.held.TacsSourceCard.{IsUnresolved}
 use Rattle.emtp_taccards.specs.declared.device_card.DeviceCard.{DeviceCard}
 use Rattle.emtp_taccards.specs.declared.formula_card.FormulaCard.{FormulaCard}
 

@@ -6,8 +6,8 @@ use Rattle.std.specs.List.{range_with_len}
 use Rattle.std.specs.Prelude.{All, IfSome, map}
 use Rattle.emtp_card.specs.declared.reason.Bad.{Bad}
 use Rattle.emtp_case.specs.Case.{standing_names}
-use Rattle.emtp_case.specs.Control.{var_of}
-use Rattle.emtp_case.specs.Name.{IsName}
+use Rattle.emtp_case.specs.held.Control.{var_of}
+use Rattle.emtp_case.specs.held.Name.{IsName}
 use Rattle.emtp_case.specs.declared.branch.Point.{Point}
 use Rattle.emtp_case.specs.declared.case.Parts.{Parts}
 use Rattle.emtp_case.specs.declared.control.Block.{Block}
@@ -20,12 +20,12 @@ use Rattle.emtp_sense.proofs.Numbering.{AreAbove, each_front, each_of, each_rest
 use Rattle.emtp_walk.specs.Answer.{first_bad}
 use Rattle.emtp_deck.specs.ControlFilling.{block_of, tacs_source_of, with_extra}
 use Rattle.emtp_sense.specs.ControlSense.{blocks_bad, control_bad, extras_or_pending, first_extra, first_source, is_measurable, judge_extras, pending_control_bad, tacs_sources_bad}
-use Rattle.emtp_sense.specs.ControlSensible.{IsDefined, IsSensibleBlock, IsSensibleExtra, IsSensibleTacsSource}
-use Rattle.emtp_deck.specs.ControlSensible.{IsSensibleControl, IsSensibleWhole}
+use Rattle.emtp_sense.specs.held.ControlSensible.{IsDefined, IsSensibleBlock, IsSensibleExtra, IsSensibleTacsSource}
+use Rattle.emtp_deck.specs.held.ControlSensible.{IsSensibleControl, IsSensibleWhole}
 use Rattle.emtp_deck.specs.Deck.{case_of, made_of_deck}
-use Rattle.emtp_deck.specs.Filling.{IsFilling, made_of}
+use Rattle.emtp_deck.specs.held.Filling.{IsFilling, made_of}
 use Rattle.emtp_sense.specs.Names.{node_number, known_nodes}
-use Rattle.emtp_walk.specs.Sound.{IsExtraEntry, IsSound, IsWhole}
+use Rattle.emtp_walk.specs.held.Sound.{IsExtraEntry, IsSound, IsWhole}
 use Rattle.emtp_sense.specs.Variables.{defined_variables, extra_name, variable_names, variable_number, with_control_pending, with_pending_variable}
 use Rattle.emtp_walk.specs.declared.control_cards.BlockEntry.{BlockEntry}
 use Rattle.emtp_walk.specs.declared.control_cards.ControlCards.{ControlCards}

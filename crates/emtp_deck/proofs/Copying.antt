@@ -2,11 +2,13 @@
 use Rattle.std.proofs.Common.{◌≡◌, subst, ℕ, suc, ◌==◌, ℤ, Bool, true, false, ◌&&◌, List, [], ◌∷◌, Option, Some, refl, arith}
 use Rattle.std.specs.Prelude.{All, find, if◌then◌else◌}
 use Rattle.std.specs.Ordering.{int_eq}
-use Rattle.emtp_case.specs.Branch.{IsBranch, from_of, to_of}
-use Rattle.emtp_case.specs.Sizes.{sizes_of}
+use Rattle.emtp_case.specs.Branch.{from_of, to_of}
+use Rattle.emtp_case.specs.held.Branch.{IsBranch}
+use Rattle.emtp_case.specs.held.Sizes.{sizes_of}
 use Rattle.emtp_case.specs.declared.branch.Branch.{Branch}
 use Rattle.emtp_case.specs.declared.case.Parts.{Parts}
-use Rattle.emtp_deck.specs.Copies.{IsEarlier, is_like, type_of_branch}
+use Rattle.emtp_deck.specs.Copies.{is_like, type_of_branch}
+use Rattle.emtp_deck.specs.held.Copies.{IsEarlier}
 
 -- what is found passes the test, and has what all have
 record IsFound {X : Type 0} (p : X → Bool) (P : X → Type 0) (x : X) : Type 0 where

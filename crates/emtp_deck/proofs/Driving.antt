@@ -1,14 +1,15 @@
 -- The source of a card whose variable is known.
 use Rattle.std.proofs.Common.{List, None, Some, length, refl, sym, ℕ, ◌≡◌, ◌≤◌}
-use Rattle.emtp_case.specs.Sizes.{Sizes}
-use Rattle.emtp_case.specs.Source.{HasShapeNumbers, IsNetworkShape, IsSource}
+use Rattle.emtp_case.specs.held.Sizes.{Sizes}
+use Rattle.emtp_case.specs.held.Source.{HasShapeNumbers, IsNetworkShape, IsSource}
 use Rattle.emtp_case.specs.declared.source.Shape.{Shape}
 use Rattle.emtp_case.specs.declared.source.Shape.TheVariants.{Cosine, NodeVoltage, Pulse, Ramp, Saw, Step, SwitchCurrent, SwitchStatus, Tacs}
 use Rattle.emtp_case.specs.declared.source.Source.{Source}
 use Rattle.emtp_sense.proofs.Knowing.{known_name}
 use Rattle.emtp_deck.specs.Sources.{driven_shape, driver_by, driver_fault, source_at}
-use Rattle.emtp_netcards.specs.Fields.{one_variable}
-use Rattle.emtp_netcards.specs.SourceCard.{HasSourceCardNumbers, source_of}
+use Rattle.emtp_netcards.specs.held.Fields.{one_variable}
+use Rattle.emtp_netcards.specs.SourceCard.{source_of}
+use Rattle.emtp_netcards.specs.held.SourceCard.{HasSourceCardNumbers}
 use Rattle.emtp_netcards.specs.declared.source_card.SourceCard.{SourceCard}
 
 record IsDriven (n : Sizes) (s : Source) (shape : Shape) : Type 0 where

@@ -4,9 +4,9 @@ use Rattle.std.proofs.Common.{◌≡◌, ◌∙◌, sym, ap, refl, ℕ, ◌+◌,
 use Rattle.std.proofs.lemmas.List.Elements.{All-append}
 use Rattle.std.specs.Prelude.{All, drop, take, ◌==◌, if◌then◌else◌}
 use Rattle.emtp_case.specs.Branch.{points_of}
-use Rattle.emtp_case.specs.Channel.{IsChannel}
+use Rattle.emtp_case.specs.held.Channel.{IsChannel}
 use Rattle.emtp_case.specs.HistoryValues.{history_values_of}
-use Rattle.emtp_case.specs.Sizes.{Sizes, sizes_of}
+use Rattle.emtp_case.specs.held.Sizes.{Sizes, sizes_of}
 use Rattle.emtp_case.specs.declared.branch.Branch.{Branch}
 use Rattle.emtp_case.specs.declared.branch.Point.{Point}
 use Rattle.emtp_case.specs.declared.case.Parts.{Parts}
@@ -15,20 +15,21 @@ use Rattle.emtp_case.specs.declared.channel.Channel.TheVariants.{BranchCurrent, 
 use Rattle.emtp_case.specs.declared.draft.Draft.{Draft}
 use Rattle.emtp_case.specs.declared.run_data.RunData.{RunData}
 use Rattle.emtp_deck.proofs.Keeping.{channels_of_there, there_grows}
-use Rattle.emtp_deck.specs.Branches.{branch_channels, entry_channels, entry_count, entry_history, with_branches, with_own, with_values}
+use Rattle.emtp_deck.specs.Branches.{branch_channels, entry_channels, entry_count, with_branches, with_own, with_values}
+use Rattle.emtp_deck.specs.held.Branches.{entry_history}
 use Rattle.emtp_deck.specs.Channels.{channel_count, channels_of}
 use Rattle.emtp_deck.specs.Copies.{missing_fault, values_from}
-use Rattle.emtp_deck.specs.Filling.{IsFilling}
+use Rattle.emtp_deck.specs.held.Filling.{IsFilling}
 use Rattle.emtp_deck.specs.Made.{count_asked}
-use Rattle.emtp_deck.specs.Sensible.{AreOwnPoints, IsSensible}
-use Rattle.emtp_walk.specs.Sound.{IsEntry, IsSingleEntry, has_points, is_reactor}
+use Rattle.emtp_deck.specs.held.Sensible.{AreOwnPoints, IsSensible}
+use Rattle.emtp_walk.specs.held.Sound.{IsEntry, IsSingleEntry, has_points, is_reactor}
 use Rattle.emtp_walk.specs.Walk.{is_phase}
 use Rattle.emtp_deck.specs.declared.copies.ValuesFrom.{ValuesFrom}
 use Rattle.emtp_deck.specs.declared.copies.ValuesFrom.TheVariants.{Card as OwnValues, Earlier, Missing}
 use Rattle.emtp_walk.specs.declared.deck.BranchEntry.{BranchEntry}
 use Rattle.emtp_walk.specs.declared.deck.BranchEntry.TheVariants.{Single, Trio}
 use Rattle.emtp_deck.specs.declared.filling.Filling.{Filling}
-use Rattle.emtp_netcards.specs.BranchCard.{kind_of_values}
+use Rattle.emtp_netcards.specs.held.BranchCard.{kind_of_values}
 use Rattle.emtp_netcards.specs.declared.branch_card.BranchCard.{BranchCard}
 use Rattle.emtp_netcards.specs.declared.branch_card.BranchValues.{BranchValues}
 use Rattle.emtp_netcards.specs.declared.branch_card.BranchValues.TheVariants.{Line as LineCard, Lumped as LumpedCard, Reactor as ReactorCard, Resistor as ResistorCard, Second as SecondCard, Third as ThirdCard}

@@ -3,14 +3,14 @@ use Rattle.std.proofs.Common.{◌≡◌, refl, ℕ, zero, suc, ◌+◌, ◌==◌
 use Rattle.std.proofs.lemmas.List.Elements.{All-append, All-cons, All-nil, All-weaker}
 use Rattle.std.specs.Prelude.{All, OnOk, Ok, Err, Result, if◌then◌else◌}
 use Rattle.emtp_case.proofs.Growth.{IsChannel-grows}
-use Rattle.emtp_case.specs.Channel.{IsChannel}
-use Rattle.emtp_case.specs.Sizes.{Grows, Sizes, sizes_of}
+use Rattle.emtp_case.specs.held.Channel.{IsChannel}
+use Rattle.emtp_case.specs.held.Sizes.{Grows, Sizes, sizes_of}
 use Rattle.emtp_case.specs.declared.channel.Channel.{Channel}
 use Rattle.emtp_case.specs.declared.channel.Channel.TheVariants.{NodeVoltage as NodeChannel, Status, SwitchCurrent, SwitchVoltage}
 use Rattle.emtp_case.specs.declared.draft.Draft.{Draft}
 use Rattle.emtp_case.specs.declared.source.Source.{Source}
 use Rattle.emtp_deck.specs.Channels.{channels_of, status_of, switch_channel_count}
-use Rattle.emtp_deck.specs.Filling.{AreThere, IsFilling}
+use Rattle.emtp_deck.specs.held.Filling.{AreThere, IsFilling}
 use Rattle.emtp_deck.specs.Made.{count_asked}
 use Rattle.emtp_deck.specs.Outputs.{node_channels}
 use Rattle.emtp_deck.specs.Switches.{switch_at}

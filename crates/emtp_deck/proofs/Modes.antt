@@ -5,20 +5,21 @@ use Rattle.std.specs.Prelude.{if◌then◌else◌, All, find, unsigned_abs}
 use Rattle.std.proofs.Math.Nat.{div-le_of_le-mul}
 use Rattle.std.proofs.lemmas.Int.{ints}
 use Rattle.std.proofs.lemmas.Nat.{mul-le}
-use Rattle.emtp_case.specs.Branch.{HasLineNumbers, IsBranch, IsTrio}
+use Rattle.emtp_case.specs.held.Branch.{HasLineNumbers, IsBranch, IsTrio}
 use Rattle.emtp_case.specs.HistoryValues.{travel_steps, trio_history_values}
-use Rattle.emtp_case.specs.Range.{AreEnds}
-use Rattle.emtp_case.specs.Sizes.{sizes_of}
+use Rattle.emtp_case.specs.held.Range.{AreEnds}
+use Rattle.emtp_case.specs.held.Sizes.{sizes_of}
 use Rattle.emtp_case.specs.declared.branch.Branch.{Branch}
 use Rattle.emtp_case.specs.declared.branch.Branch.TheVariants.{Line as OfLine, Lumped as OfLumped, Phase as OfPhase, Pseudo as OfPseudo}
 use Rattle.emtp_case.specs.declared.case.Parts.{Parts}
 use Rattle.emtp_deck.specs.Branches.{line_history, modes_of, moved, no_numbers}
-use Rattle.emtp_deck.specs.Copies.{IsEarlier, earlier_or_missing, is_like, line_numbers, missing_fault, mode_of_phase, no_trio, numbers_of_branch, numbers_of_card, type_of_pseudo, type_of_values, values_by}
+use Rattle.emtp_deck.specs.Copies.{earlier_or_missing, is_like, line_numbers, missing_fault, mode_of_phase, no_trio, numbers_of_branch, numbers_of_card, type_of_pseudo, type_of_values, values_by}
+use Rattle.emtp_deck.specs.held.Copies.{IsEarlier}
 use Rattle.emtp_sense.specs.Names.{node_number}
-use Rattle.emtp_deck.specs.Sensible.{IsLineKind}
+use Rattle.emtp_deck.specs.held.Sensible.{IsLineKind}
 use Rattle.emtp_deck.specs.declared.copies.LineNumbers.{LineNumbers}
 use Rattle.emtp_deck.proofs.Copying.{earlier}
-use Rattle.emtp_netcards.specs.BranchCard.{HasValues, kind_of_values}
+use Rattle.emtp_netcards.specs.held.BranchCard.{HasValues, kind_of_values}
 use Rattle.emtp_netcards.specs.declared.branch_card.BranchValues.{BranchValues}
 use Rattle.emtp_netcards.specs.declared.branch_card.BranchValues.TheVariants.{Line as LineCard, Lumped as LumpedCard, Reactor as ReactorCard, Resistor as ResistorCard, Second as SecondCard, Third as ThirdCard}
 

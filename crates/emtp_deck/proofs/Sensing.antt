@@ -3,7 +3,7 @@ use Rattle.std.proofs.Common.{◌≡◌, ℕ, ◌+◌, ◌<◌, ◌≤◌, List,
 use Rattle.std.specs.Prelude.{All, nat_lt}
 use Rattle.emtp_card.proofs.Faults.{least_none}
 use Rattle.emtp_case.specs.HistoryValues.{history_values_of}
-use Rattle.emtp_case.specs.Name.{IsName}
+use Rattle.emtp_case.specs.held.Name.{IsName}
 use Rattle.emtp_case.specs.declared.branch.Point.{Point}
 use Rattle.emtp_case.specs.declared.run_data.RunData.{RunData}
 use Rattle.emtp_sense.proofs.WithinLimits.{within}
@@ -15,9 +15,9 @@ use Rattle.emtp_deck.specs.Copies.{missing_fault, values_from}
 use Rattle.emtp_deck.specs.Made.{Made, count_asked}
 use Rattle.emtp_sense.specs.Limits.{too_many}
 use Rattle.emtp_sense.specs.Names.{node_number, with_entry_names}
-use Rattle.emtp_sense.specs.Naming.{Continues}
-use Rattle.emtp_deck.specs.Sensible.{IsSensible}
-use Rattle.emtp_walk.specs.Sound.{IsEntry}
+use Rattle.emtp_sense.specs.held.Naming.{Continues}
+use Rattle.emtp_deck.specs.held.Sensible.{IsSensible}
+use Rattle.emtp_walk.specs.held.Sound.{IsEntry}
 use Rattle.emtp_deck.specs.declared.branches.Counts.{Counts}
 use Rattle.emtp_deck.specs.declared.copies.ValuesFrom.{ValuesFrom}
 use Rattle.emtp_deck.specs.declared.copies.ValuesFrom.TheVariants.{Card as OwnValues}

@@ -1,20 +1,20 @@
 -- A switch card without a fault of sense, whose names are among those of the nodes.
 use Rattle.std.proofs.Common.{◌≡◌, ◌∙◌, ap, ℕ, ◌+◌, ◌<◌, ◌≤◌, List, [], ◌∷◌, length, None, subst, sym}
 use Rattle.std.specs.Prelude.{All}
-use Rattle.emtp_case.specs.Name.{IsName}
-use Rattle.emtp_case.specs.Range.{AreEnds}
+use Rattle.emtp_case.specs.held.Name.{IsName}
+use Rattle.emtp_case.specs.held.Range.{AreEnds}
 use Rattle.emtp_deck.proofs.Judging.{sensible_switch}
 use Rattle.emtp_sense.proofs.Knowing.{known_name}
 use Rattle.emtp_sense.proofs.Naming.{all_named, ends_of}
 use Rattle.emtp_deck.specs.Channels.{switch_channel_count}
-use Rattle.emtp_sense.specs.ControlSensible.{IsKnown}
-use Rattle.emtp_deck.specs.Filling.{IsFilling, made_of}
+use Rattle.emtp_sense.specs.held.ControlSensible.{IsKnown}
+use Rattle.emtp_deck.specs.held.Filling.{IsFilling, made_of}
 use Rattle.emtp_deck.specs.Made.{count_asked}
 use Rattle.emtp_sense.specs.Names.{node_number, with_switch_names}
-use Rattle.emtp_sense.specs.Naming.{Continues}
+use Rattle.emtp_sense.specs.held.Naming.{Continues}
 use Rattle.emtp_deck.specs.Switches.{switch_fault}
 use Rattle.emtp_deck.specs.declared.filling.Filling.{Filling}
-use Rattle.emtp_netcards.specs.SwitchCard.{HasSwitchNumbers}
+use Rattle.emtp_netcards.specs.held.SwitchCard.{HasSwitchNumbers}
 use Rattle.emtp_netcards.specs.declared.switch_card.SwitchCard.{SwitchCard}
 
 -- what the nodes and the draft need before the switch is added

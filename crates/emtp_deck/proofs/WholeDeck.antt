@@ -9,10 +9,11 @@ use Rattle.emtp_card.specs.declared.reason.Refused.{Refused}
 use Rattle.emtp_card.specs.declared.reason.Refused.TheVariants.{Bad as OfBad, NoMemory}
 use Rattle.emtp_case.specs.RunData.{samples_of}
 use Rattle.emtp_deck.proofs.Asking.{deck_asks, control_is}
-use Rattle.emtp_walk.specs.Answer.{IfBad, go_on}
+use Rattle.emtp_walk.specs.Answer.{go_on}
+use Rattle.emtp_walk.specs.held.Answer.{IfBad}
 use Rattle.emtp_sense.specs.ControlSense.{control_bad}
 use Rattle.emtp_deck.specs.Deck.{case_of, filled, made_of_deck, unfinished}
-use Rattle.emtp_deck.specs.Filling.{Fills}
+use Rattle.emtp_deck.specs.held.Filling.{Fills}
 use Rattle.emtp_deck.specs.Made.{Made, count_asked}
 use Rattle.emtp_sense.specs.Names.{known_nodes, node_names}
 use Rattle.emtp_deck.specs.Samples.{deck_count, has_too_many}

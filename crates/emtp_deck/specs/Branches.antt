@@ -192,14 +192,6 @@ with_entry points m e = record {
   asked = record m.asked { branches = m.asked.branches ++ entry_channels (length m.parts.branches) e };
 }
 
--- how many past values an entry needs, whose nodes are there
-abbrev pub pair_history : Parts → BranchCard → BranchCard → ℕ
-pair_history p zero' positive = card_history 1 p.nodes p zero' + card_history 3 p.nodes p positive
-
-abbrev pub entry_history : Parts → BranchEntry → ℕ
-entry_history p (Single card first count) = card_history 1 p.nodes p card
-entry_history p (TrioEntry zero' positive third) = pair_history p zero' positive
-
 abbrev pub with_nodes : Made → List (List ℕ) → Made
 with_nodes m names = record m { parts = record m.parts { nodes = names } }
 

@@ -1,16 +1,14 @@
 -- Where a branch card's values come from: itself, or the first earlier branch of its type between the two nodes that it
 -- names.
 use Rattle.std.specs.Ordering.{int_eq}
-use Rattle.std.specs.Prelude.{◌≡◌, ℕ, ◌==◌, ◌&&◌, ℤ, pos, negsuc, Bool, true, false, List, [], find, slice_index_or, Option, Some, None, if◌then◌else◌}
+use Rattle.std.specs.Prelude.{ℕ, ◌==◌, ◌&&◌, ℤ, pos, negsuc, Bool, true, false, List, [], find, slice_index_or, Option, Some, None, if◌then◌else◌}
 use Rattle.emtp_card.specs.declared.fault.Fault.{Fault}
 use Rattle.emtp_card.specs.declared.reason.Why.TheVariants.{UnknownName}
-use Rattle.emtp_case.specs.Branch.{IsBranch, from_of, to_of}
-use Rattle.emtp_case.specs.Sizes.{sizes_of}
+use Rattle.emtp_case.specs.Branch.{from_of, to_of}
 use Rattle.emtp_case.specs.declared.branch.Branch.{Branch}
 use Rattle.emtp_case.specs.declared.branch.Branch.TheVariants.{Line as OfLine, Lumped as OfLumped, Phase as OfPhase, Pseudo as OfPseudo}
 use Rattle.emtp_case.specs.declared.branch.Phase.{Phase}
 use Rattle.emtp_case.specs.declared.branch.Trio.{Trio}
-use Rattle.emtp_case.specs.declared.case.Parts.{Parts}
 use Rattle.emtp_sense.specs.Names.{node_number}
 use Rattle.emtp_deck.specs.declared.copies.LineNumbers.{LineNumbers}
 use Rattle.emtp_deck.specs.declared.copies.ValuesFrom.{ValuesFrom}
@@ -63,16 +61,6 @@ abbrev pub missing_fault : ValuesFrom → Option Fault
 missing_fault OwnValues = None
 missing_fault (Earlier b) = None
 missing_fault Missing = Some (record { column = 15; why = UnknownName })
-
--- an earlier branch is one of the case, and of the card's type
-pub record IsEarlier (p : Parts) (type : ℤ) (b : Branch) : Type 0 where
-  pub there : IsBranch p.run (sizes_of p) p.points b
-  pub same : type_of_branch b ≡ type
-
-abbrev pub IsTaken : Parts → ℤ → ValuesFrom → Type 0
-IsTaken p type OwnValues = Unit {0}
-IsTaken p type (Earlier b) = IsEarlier p type b
-IsTaken p type Missing = Unit {0}
 
 -- ---- lines
 

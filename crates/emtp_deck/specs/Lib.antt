@@ -1,16 +1,15 @@
 pub use Rattle.emtp_walk.specs.Answer
 pub use Rattle.emtp_walk.specs.Laws
+-- what the clauses of the program say
 pub mod Made
-pub mod Filling
 pub mod Copies
 pub mod Channels
 pub mod Branches
-pub mod Sensible
 pub mod Switches
 pub mod Sources
 pub mod Outputs
 pub mod ControlFilling
-pub mod ControlSensible
 pub mod Samples
 pub mod Deck
-pub mod Accepted
+-- what values hold for their proofs
+pub mod held

@@ -3,10 +3,8 @@ use Rattle.std.specs.Prelude.{ℕ, ◌+◌, ◌++◌, [], List, length, nat_lt, 
 use Rattle.emtp_card.specs.Fault.{bad_at}
 use Rattle.emtp_card.specs.declared.fault.Fault.{Fault}
 use Rattle.emtp_card.specs.declared.reason.Bad.{Bad}
-use Rattle.emtp_case.specs.Case.{empty_parts}
 use Rattle.emtp_case.specs.declared.case.Parts.{Parts}
 use Rattle.emtp_case.specs.declared.channel.Channel.{Channel}
-use Rattle.emtp_case.specs.declared.run_data.RunData.{RunData}
 use Rattle.emtp_deck.specs.declared.asked.Asked.{Asked}
 
 pub record Made : Type 0 where
@@ -22,10 +20,6 @@ count_asked a = length a.variables + length a.outputs + length a.branches + leng
 
 abbrev pub none_asked : Asked
 none_asked = record { variables = []; outputs = []; branches = []; switches = []; statuses = [] }
-
--- what is made of the miscellaneous cards alone
-abbrev pub empty_made : RunData → Made
-empty_made run = record { parts = empty_parts run; asked = none_asked }
 
 -- so many channels more than a record may have
 abbrev pub no_room : Asked → ℕ → Bool

@@ -1,20 +1,21 @@
 //! The branches of a case, and the faults of sense of their cards.
 
 ghost use Rattle.std.specs.Prelude.{◌≡◌, ◌+◌, ◌*◌, ◌^◌, ◌<◌, ◌≤◌, ◌++◌, All, length, Ok, Some, IfErr, IfOk, OnOk, false, true};
-ghost use Rattle.emtp_case.specs.Branch.{HasLineNumbers, IsBranch};
+ghost use Rattle.emtp_case.specs.held.Branch.{HasLineNumbers, IsBranch};
 ghost use Rattle.emtp_case.specs.HistoryValues.{history_values_of};
-ghost use Rattle.emtp_case.specs.Range.{AreEnds, IsBetween};
-ghost use Rattle.emtp_case.specs.Sizes.{sizes_of};
-ghost use Rattle.emtp_walk.specs.Answer.{IsWant};
-ghost use Rattle.emtp_deck.specs.Branches.{branch_channels, card_bad, card_fault, card_history, counts_of, entry_channels, entry_count, entry_fault, entry_history, first_counts, first_fault, line_branch, line_history, moved, numbers_for, pair_fault, pair_history, pending_fault, phase_for, second_counts, second_fault, take_branches, take_entry, third_fault, with_branches, with_counts, with_entry, with_own, with_phases, with_points, with_single};
+ghost use Rattle.emtp_case.specs.held.Range.{AreEnds, IsBetween};
+ghost use Rattle.emtp_case.specs.held.Sizes.{sizes_of};
+ghost use Rattle.emtp_walk.specs.held.Answer.{IsWant};
+ghost use Rattle.emtp_deck.specs.Branches.{branch_channels, card_bad, card_fault, card_history, counts_of, entry_channels, entry_count, entry_fault, first_counts, first_fault, line_branch, line_history, moved, numbers_for, pair_fault, pending_fault, phase_for, second_counts, second_fault, take_branches, take_entry, third_fault, with_branches, with_counts, with_entry, with_own, with_phases, with_points, with_single};
+ghost use Rattle.emtp_deck.specs.held.Branches.{entry_history, pair_history};
 ghost use Rattle.emtp_deck.specs.Copies.{line_numbers, numbers_of_card, values_from};
-ghost use Rattle.emtp_deck.specs.Filling.{Fills, IsFilling, IsNaming, made_of};
+ghost use Rattle.emtp_deck.specs.held.Filling.{Fills, IsFilling, IsNaming, made_of};
 ghost use Rattle.emtp_deck.specs.Made.{count_asked};
 ghost use Rattle.emtp_sense.specs.Names.{with_ends};
-ghost use Rattle.emtp_deck.specs.Sensible.{AreOwnPoints, FindsValues, IsLineKind, IsSensible, IsSensibleSingle, IsSensibleTrio};
-ghost use Rattle.emtp_walk.specs.Sound.{IsEntry, IsTrioEntry, has_points, is_pseudo, is_reactor};
+ghost use Rattle.emtp_deck.specs.held.Sensible.{AreOwnPoints, FindsValues, IsLineKind, IsSensible, IsSensibleSingle, IsSensibleTrio};
+ghost use Rattle.emtp_walk.specs.held.Sound.{IsEntry, IsTrioEntry, has_points, is_pseudo, is_reactor};
 ghost use Rattle.emtp_walk.specs.Walk.{is_phase};
-ghost use Rattle.emtp_netcards.specs.BranchCard.{HasNumbers, HasValues, kind_of_values};
+ghost use Rattle.emtp_netcards.specs.held.BranchCard.{HasNumbers, HasValues, kind_of_values};
 
 use crate::channels::{ask, channel_count};
 use crate::copies::{

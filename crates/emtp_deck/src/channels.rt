@@ -1,7 +1,7 @@
 //! The channels that a card asks for in column 80.
 
 ghost use Rattle.std.specs.Prelude.{◌≡◌, ◌≤◌, ◌++◌, IfErr, OnOk};
-ghost use Rattle.emtp_walk.specs.Answer.{IsWant};
+ghost use Rattle.emtp_walk.specs.held.Answer.{IsWant};
 ghost use Rattle.emtp_deck.specs.Made.{count_asked, no_room};
 ghost use Rattle.emtp_deck.specs.Channels.{channel_count, channels_of, status_of, switch_channel_count};
 

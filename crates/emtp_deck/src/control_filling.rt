@@ -2,18 +2,18 @@
 
 ghost use Rattle.std.specs.Prelude.{◌≡◌, ◌+◌, ◌<◌, ◌≤◌, ◌++◌, [], All, fold, length, map, sum_by, IfErr, IfOk, OnOk};
 ghost use Rattle.emtp_case.specs.HistoryValues.{history_values_of};
-ghost use Rattle.emtp_case.specs.Name.{IsName};
-ghost use Rattle.emtp_walk.specs.Answer.{IsWant};
+ghost use Rattle.emtp_case.specs.held.Name.{IsName};
+ghost use Rattle.emtp_walk.specs.held.Answer.{IsWant};
 ghost use Rattle.emtp_deck.specs.ControlFilling.{block_of, bound_of, device_of, formula_of, inputs_of, measuring, switch_place, tacs_source_of, with_extra};
 ghost use Rattle.emtp_sense.specs.ControlSense.{entry_history_values};
-ghost use Rattle.emtp_sense.specs.ControlSensible.{IsSensibleBlock, IsSensibleExtra, IsSensibleTacsSource};
-ghost use Rattle.emtp_deck.specs.ControlSensible.{IsSensibleControl};
-ghost use Rattle.emtp_walk.specs.Coefficients.{IsBlockEntry};
+ghost use Rattle.emtp_sense.specs.held.ControlSensible.{IsSensibleBlock, IsSensibleExtra, IsSensibleTacsSource};
+ghost use Rattle.emtp_deck.specs.held.ControlSensible.{IsSensibleControl};
+ghost use Rattle.emtp_walk.specs.held.Coefficients.{IsBlockEntry};
 ghost use Rattle.emtp_deck.specs.Deck.{control_made};
-ghost use Rattle.emtp_deck.specs.Filling.{IsFilling, made_of};
-ghost use Rattle.emtp_deck.specs.Made.{empty_made};
-ghost use Rattle.emtp_sense.specs.Naming.{Continues};
-ghost use Rattle.emtp_walk.specs.Sound.{IsExtraEntry, IsTacsSourceCard, IsWhole};
+ghost use Rattle.emtp_deck.specs.held.Filling.{IsFilling, made_of};
+ghost use Rattle.emtp_deck.specs.held.Made.{empty_made};
+ghost use Rattle.emtp_sense.specs.held.Naming.{Continues};
+ghost use Rattle.emtp_walk.specs.held.Sound.{IsExtraEntry, IsTacsSourceCard, IsWhole};
 ghost use Rattle.emtp_sense.specs.Variables.{variable_number};
 
 use crate::filling::Filling;

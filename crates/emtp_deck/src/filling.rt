@@ -1,14 +1,14 @@
 //! The case in the making, while cards are taken.
 
 ghost use Rattle.std.specs.Prelude.{◌≡◌, ◌≤◌, All, length, IfErr, IfOk, OnOk, []};
-ghost use Rattle.emtp_case.specs.Case.{DefinesEach};
+ghost use Rattle.emtp_case.specs.held.Case.{DefinesEach};
 ghost use Rattle.emtp_case.specs.HistoryValues.{history_values_of};
-ghost use Rattle.emtp_case.specs.Name.{IsName};
-ghost use Rattle.emtp_case.specs.RunData.{IsRun};
-ghost use Rattle.emtp_walk.specs.Answer.{IsWant};
-ghost use Rattle.emtp_deck.specs.Filling.{made_of};
-ghost use Rattle.emtp_deck.specs.Made.{empty_made};
-ghost use Rattle.emtp_sense.specs.Naming.{Continues};
+ghost use Rattle.emtp_case.specs.held.Name.{IsName};
+ghost use Rattle.emtp_case.specs.held.RunData.{IsRun};
+ghost use Rattle.emtp_walk.specs.held.Answer.{IsWant};
+ghost use Rattle.emtp_deck.specs.held.Filling.{made_of};
+ghost use Rattle.emtp_deck.specs.held.Made.{empty_made};
+ghost use Rattle.emtp_sense.specs.held.Naming.{Continues};
 
 use crate::asked::Asked;
 use emtp_card::Refused;

@@ -3,7 +3,8 @@
 
 ghost use Rattle.std.specs.Prelude.{◌≡◌, ◌++◌, ◌∷◌, ℕ, List, map};
 ghost use Rattle.emtp_card.specs.Field.{without_trailing};
-ghost use Rattle.emtp_card.specs.Lines.{lines_of, without_return};
+ghost use Rattle.emtp_card.specs.Lines.{lines_of};
+ghost use Rattle.emtp_card.specs.held.Lines.{without_return};
 ghost use Rattle.emtp_deck.specs.Deck.{deck_of};
 ghost use Rattle.emtp_walk.specs.Laws.{AreAlike};
 

@@ -2,10 +2,10 @@
 
 ghost use Rattle.std.specs.Option.{ForSome};
 ghost use Rattle.std.specs.Prelude.{◌≡◌, ◌<◌, ◌≤◌, ◌++◌, ◌∷◌, [], length, IfErr, OnOk};
-ghost use Rattle.emtp_case.specs.Channel.{IsChannel};
-ghost use Rattle.emtp_case.specs.Sizes.{sizes_of};
-ghost use Rattle.emtp_walk.specs.Answer.{IsWant};
-ghost use Rattle.emtp_deck.specs.Filling.{Fills, IsFilling, made_of};
+ghost use Rattle.emtp_case.specs.held.Channel.{IsChannel};
+ghost use Rattle.emtp_case.specs.held.Sizes.{sizes_of};
+ghost use Rattle.emtp_walk.specs.held.Answer.{IsWant};
+ghost use Rattle.emtp_deck.specs.held.Filling.{Fills, IsFilling, made_of};
 ghost use Rattle.emtp_deck.specs.Made.{count_asked};
 ghost use Rattle.emtp_deck.specs.Outputs.{channel_of, name_fault, node_channels, take_all_nodes, take_known_name, take_names, take_output, take_outputs, take_tacs_outputs, with_channels};
 

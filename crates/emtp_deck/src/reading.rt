@@ -1,17 +1,18 @@
 //! The case of a deck.
 
 ghost use Rattle.std.specs.Prelude.{◌≡◌, ◌+◌, ◌*◌, ◌++◌, ◌≤◌, [], All, length, Ok, Err, IfErr, IfOk, OnOk, false};
-ghost use Rattle.emtp_case.specs.Case.{DefinesEach};
-ghost use Rattle.emtp_case.specs.Channel.{IsChannel};
+ghost use Rattle.emtp_case.specs.held.Case.{DefinesEach};
+ghost use Rattle.emtp_case.specs.held.Channel.{IsChannel};
 ghost use Rattle.emtp_case.specs.RunData.{samples_of};
-ghost use Rattle.emtp_case.specs.Sizes.{sizes_of};
-ghost use Rattle.emtp_deck.specs.Accepted.{IsAccepted};
-ghost use Rattle.emtp_walk.specs.Answer.{IfBad, IsWant};
-ghost use Rattle.emtp_deck.specs.ControlSensible.{IsSensibleWhole};
+ghost use Rattle.emtp_case.specs.held.Sizes.{sizes_of};
+ghost use Rattle.emtp_deck.specs.held.Accepted.{IsAccepted};
+ghost use Rattle.emtp_walk.specs.held.Answer.{IfBad, IsWant};
+ghost use Rattle.emtp_deck.specs.held.ControlSensible.{IsSensibleWhole};
 ghost use Rattle.emtp_deck.specs.Deck.{case_of, control_made, deck_of, filled, is_ended, made_of_deck, unfinished};
-ghost use Rattle.emtp_deck.specs.Filling.{AreThere, Fills, IsFilling, made_of};
-ghost use Rattle.emtp_deck.specs.Made.{all_asked, count_asked, empty_made};
-ghost use Rattle.emtp_walk.specs.Sound.{IsSound, IsWhole};
+ghost use Rattle.emtp_deck.specs.held.Filling.{AreThere, Fills, IsFilling, made_of};
+ghost use Rattle.emtp_deck.specs.Made.{all_asked, count_asked};
+ghost use Rattle.emtp_deck.specs.held.Made.{empty_made};
+ghost use Rattle.emtp_walk.specs.held.Sound.{IsSound, IsWhole};
 ghost use Rattle.emtp_sense.specs.Variables.{variable_names};
 
 use crate::asked::Asked;

@@ -2,7 +2,7 @@
 
 ghost use Rattle.std.specs.Prelude.{◌≡◌, ◌+◌, ◌≤◌, min};
 ghost use Rattle.std.specs.List.{sum_by};
-ghost use Rattle.emtp_case.specs.RunData.{IsRun};
+ghost use Rattle.emtp_case.specs.held.RunData.{IsRun};
 ghost use Rattle.emtp_deck.specs.Branches.{entry_count};
 ghost use Rattle.emtp_deck.specs.Samples.{count_of_entry, count_of_switch, count_of_variables, deck_count, has_too_many, name_count, output_count, pending_count, samples_bad};
 

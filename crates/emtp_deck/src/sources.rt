@@ -1,10 +1,10 @@
 //! Filling the sources.
 
 ghost use Rattle.std.specs.Prelude.{◌≡◌, ◌<◌, ◌≤◌, All, Some, false, length, IfErr, OnOk};
-ghost use Rattle.emtp_walk.specs.Answer.{IsWant};
-ghost use Rattle.emtp_deck.specs.Filling.{Fills, IsFilling, made_of};
+ghost use Rattle.emtp_walk.specs.held.Answer.{IsWant};
+ghost use Rattle.emtp_deck.specs.held.Filling.{Fills, IsFilling, made_of};
 ghost use Rattle.emtp_deck.specs.Sources.{driven_shape, driver_fault, is_second, node_fault, source_at, source_fault, take_source, take_sources, with_source};
-ghost use Rattle.emtp_netcards.specs.SourceCard.{HasSourceCardNumbers};
+ghost use Rattle.emtp_netcards.specs.held.SourceCard.{HasSourceCardNumbers};
 
 use crate::filling::Filling;
 use emtp_card::{Fault, Refused, Why, least};

@@ -1,15 +1,15 @@
 //! Filling the switches.
 
 ghost use Rattle.std.specs.Prelude.{◌≡◌, ◌+◌, ◌<◌, ◌≤◌, All, length, IfErr, OnOk};
-ghost use Rattle.emtp_case.specs.Range.{AreEnds};
-ghost use Rattle.emtp_walk.specs.Answer.{IsWant};
-ghost use Rattle.emtp_deck.specs.Filling.{Fills, IsFilling, made_of};
+ghost use Rattle.emtp_case.specs.held.Range.{AreEnds};
+ghost use Rattle.emtp_walk.specs.held.Answer.{IsWant};
+ghost use Rattle.emtp_deck.specs.held.Filling.{Fills, IsFilling, made_of};
 ghost use Rattle.emtp_deck.specs.Made.{count_asked};
 ghost use Rattle.emtp_sense.specs.Names.{node_number};
 ghost use Rattle.emtp_deck.specs.Channels.{switch_channel_count};
-ghost use Rattle.emtp_sense.specs.ControlSensible.{IsKnown};
+ghost use Rattle.emtp_sense.specs.held.ControlSensible.{IsKnown};
 ghost use Rattle.emtp_deck.specs.Switches.{controlled_kind, switch_at, switch_fault, take_switch, take_switches, with_switch};
-ghost use Rattle.emtp_netcards.specs.SwitchCard.{HasSwitchNumbers};
+ghost use Rattle.emtp_netcards.specs.held.SwitchCard.{HasSwitchNumbers};
 
 use crate::channels::{ask, ask_status, no_room, switch_channel_count};
 use crate::filling::{Filling, add_nodes};

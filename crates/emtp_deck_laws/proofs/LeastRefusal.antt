@@ -4,7 +4,8 @@ use Rattle.std.specs.List.{Any}
 use Rattle.std.specs.Prelude.{map, nat_lt, slice_index_or}
 use Rattle.std.proofs.lemmas.Bool.Decides.{nat_tests}
 use Rattle.emtp_card.proofs.Faults.{AreNone, least_is_least, least_none}
-use Rattle.emtp_card.specs.Fault.{IsIn, IsLeastOf, IsNotAfter, bad_at, comes_before, least}
+use Rattle.emtp_card.specs.Fault.{bad_at, comes_before, least}
+use Rattle.emtp_card.specs.held.Fault.{IsIn, IsLeastOf, IsNotAfter}
 use Rattle.emtp_card.specs.declared.fault.Fault.{Fault}
 use Rattle.emtp_card.specs.declared.reason.Bad.{Bad}
 use Rattle.emtp_deck_laws.specs.JudgedCards.{Judged}

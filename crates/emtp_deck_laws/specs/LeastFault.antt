@@ -1,7 +1,8 @@
 -- The least fault of a deck, by line, column and number.
 use Rattle.std.specs.List.{Any}
 use Rattle.std.specs.Prelude.{◌≡◌, ◌==◌, nat_lt, Bool, false, ◌||◌, ◌&&◌, List}
-use Rattle.emtp_card.specs.Fault.{IsIn, comes_before}
+use Rattle.emtp_card.specs.Fault.{comes_before}
+use Rattle.emtp_card.specs.held.Fault.{IsIn}
 use Rattle.emtp_card.specs.declared.fault.Fault.{Fault}
 use Rattle.emtp_card.specs.declared.reason.Bad.{Bad}
 use Rattle.emtp_deck_laws.specs.JudgedCards.{Judged}

@@ -4,17 +4,17 @@ use Rattle.std.proofs.lemmas.Bool.{cases_eq}
 use Rattle.std.proofs.lemmas.List.{get_or_default, get_or-set_same, get_or-set_other, set-get_or}
 use Rattle.std.proofs.lemmas.Option.{slice_get_within, get_or_from_slice_get}
 use Rattle.std.proofs.Math.ListN.{length-set}
-use Rattle.emtp_case.specs.Case.{IsCase}
-use Rattle.emtp_case.specs.Control.{IsDevice, IsExtra}
-use Rattle.emtp_case.specs.Sizes.{sizes_of}
+use Rattle.emtp_case.specs.held.Case.{IsCase}
+use Rattle.emtp_case.specs.held.Control.{IsDevice, IsExtra}
+use Rattle.emtp_case.specs.held.Sizes.{sizes_of}
 use Rattle.emtp_case.specs.declared.case.Parts.{Parts}
 use Rattle.emtp_case.specs.declared.control.Device.{Device}
 use Rattle.emtp_case.specs.declared.control.DeviceState.{DeviceState}
 use Rattle.emtp_case.specs.declared.control.Extra.{Extra}
 use Rattle.emtp_case.specs.declared.control.Extra.TheVariants.{Device as OfDevice, Formula as OfFormula}
 use Rattle.emtp_devices.specs.Device.{next_state}
-use Rattle.emtp_devices.specs.Devices.{AreHeld, HeldDevices, IsDeviceAt, Moves, StandsAt, device_held}
-use Rattle.emtp_devices.specs.Held.{DeviceMoved, DeviceStands, IsHeldOf, held_at_rest}
+use Rattle.emtp_devices.specs.held.Devices.{AreHeld, HeldDevices, IsDeviceAt, Moves, StandsAt, device_held}
+use Rattle.emtp_devices.specs.held.Held.{DeviceMoved, DeviceStands, IsHeldOf, held_at_rest}
 use Rattle.emtp_devices.specs.declared.held.HeldDevice.{HeldDevice}
 use Rattle.emtp_fix.specs.declared.limit.OutOfRange.{OutOfRange}
 

@@ -3,15 +3,15 @@ use Rattle.std.proofs.Common.{◌≡◌, ◌∙◌, ap, sym, subst, refl, ℕ, z
 use Rattle.std.proofs.lemmas.List.{get_or-map, length-map}
 use Rattle.std.proofs.lemmas.List.Sums.{get_or-le-sum_by}
 use Rattle.std.proofs.lemmas.Option.{slice_get_within, get_or_from_slice_get}
-use Rattle.emtp_case.specs.Case.{IsCase}
+use Rattle.emtp_case.specs.held.Case.{IsCase}
 use Rattle.emtp_case.specs.HistoryValues.{device_history_values, extra_history_values}
 use Rattle.emtp_case.specs.StepRecord.{no_device, rest_of}
 use Rattle.emtp_case.specs.declared.case.Parts.{Parts}
 use Rattle.emtp_case.specs.declared.control.Device.{Device}
 use Rattle.emtp_case.specs.declared.control.Extra.{Extra}
 use Rattle.emtp_case.specs.declared.control.Extra.TheVariants.{Device as OfDevice}
-use Rattle.emtp_devices.specs.Devices.{AreHeld, IsDeviceAt, StandsFor, device_held}
-use Rattle.emtp_devices.specs.Held.{DeviceStands, IsHeldOf, depth_of, held_at_rest}
+use Rattle.emtp_devices.specs.held.Devices.{AreHeld, IsDeviceAt, StandsFor, device_held}
+use Rattle.emtp_devices.specs.held.Held.{DeviceStands, IsHeldOf, depth_of, held_at_rest}
 use Rattle.emtp_devices.specs.declared.held.HeldDevice.{HeldDevice}
 use Rattle.emtp_devices.proofs.Rings.{rest-held, rest-squares}
 

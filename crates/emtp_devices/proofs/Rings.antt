@@ -8,11 +8,12 @@ use Rattle.emtp_case.specs.declared.control.Device.{Device}
 use Rattle.emtp_case.specs.declared.control.DeviceCode.{DeviceCode}
 use Rattle.emtp_case.specs.declared.control.DeviceCode.TheVariants.{Delay, DelayedPulse, EffectiveValue}
 use Rattle.emtp_devices.specs.Device.{square, sum_of_squares}
-use Rattle.emtp_devices.specs.Held.{IsHeld, IsHeldOf, held_at_rest}
+use Rattle.emtp_devices.specs.held.Held.{IsHeld, IsHeldOf, held_at_rest}
 use Rattle.emtp_devices.specs.declared.held.HeldDevice.{HeldDevice}
 use Rattle.emtp_devices.proofs.Squares.{square-zero, squares-exchanged, squares-nonneg, squares-small}
 use Rattle.emtp_fix.specs.declared.limit.TheConstants.{LARGEST_VALUE}
-use Rattle.emtp_hist.specs.History.{Remembers, value_before}
+use Rattle.emtp_hist.specs.History.{value_before}
+use Rattle.emtp_hist.specs.held.History.{Remembers}
 
 -- it holds no more than its depth
 pub ring-short : (h : HeldDevice) → IsHeld h → length h.inputs.values ≤ h.depth

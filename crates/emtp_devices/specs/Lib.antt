@@ -1,3 +1,5 @@
+-- what the clauses of the program say
 pub mod Device
-pub mod Held
 pub mod Devices
+-- what values hold for their proofs
+pub mod held

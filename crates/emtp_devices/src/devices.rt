@@ -3,8 +3,8 @@
 ghost use Rattle.std.specs.Prelude.{◌≡◌, ◌≤◌, ◌<◌, ◌∷◌, [], All, IfOk, unsigned_abs};
 ghost use Rattle.emtp_case.specs.StepRecord.{rest_of};
 ghost use Rattle.emtp_case.specs.declared.control.Device.{Device};
-ghost use Rattle.emtp_devices.specs.Devices.{IsDeviceAt, Moves, StandsFor};
-ghost use Rattle.emtp_case.specs.Control.{AreKnown};
+ghost use Rattle.emtp_devices.specs.held.Devices.{IsDeviceAt, Moves, StandsFor};
+ghost use Rattle.emtp_case.specs.held.Control.{AreKnown};
 ghost use Rattle.emtp_fix.specs.declared.limit.TheConstants.{LARGEST_VALUE};
 
 use crate::held::{HeldDevice, all_at_rest};
@@ -22,7 +22,7 @@ pub struct Devices<'a> {
 }
 
 impl<'a> Model for Devices<'a> {
-    ghost use Rattle.emtp_devices.specs.Devices.{AreHeld, HeldDevices};
+    ghost use Rattle.emtp_devices.specs.held.Devices.{AreHeld, HeldDevices};
 
     ghost Value = { HeldDevices };
 

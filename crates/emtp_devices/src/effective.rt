@@ -2,10 +2,10 @@
 
 ghost use Rattle.std.specs.Prelude.{◌≡◌, ◌*◌, ◌^◌, ◌≤◌, ◌≤ℤ◌, ◌∷◌, ◌+ℤ◌, ◌*ℤ◌, List, pos, take, unsigned_abs, ℤ};
 ghost use Rattle.emtp_devices.specs.Device.{effective_value, square, sum_of_squares};
-ghost use Rattle.emtp_devices.specs.Held.{IsHeld};
+ghost use Rattle.emtp_devices.specs.held.Held.{IsHeld};
 ghost use Rattle.emtp_fix.specs.Rounding.{near};
 ghost use Rattle.emtp_fix.specs.declared.limit.TheConstants.{LARGEST_VALUE, NANO};
-ghost use Rattle.emtp_hist.specs.History.{Remembers};
+ghost use Rattle.emtp_hist.specs.held.History.{Remembers};
 
 use crate::held::HeldDevice;
 use emtp_fix::{NANO, isqrt, near, scaled};

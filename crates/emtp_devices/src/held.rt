@@ -1,12 +1,12 @@
 //! What is held of one device.
 
 ghost use Rattle.std.specs.Prelude.{◌≡◌, ◌≤◌, ◌∷◌, IfOk, List, None, OnErr, map, take, unsigned_abs};
-ghost use Rattle.emtp_case.specs.Control.{IsDevice, IsExtra, AreKnown};
-ghost use Rattle.emtp_case.specs.Sizes.{sizes_of};
+ghost use Rattle.emtp_case.specs.held.Control.{IsDevice, IsExtra, AreKnown};
+ghost use Rattle.emtp_case.specs.held.Sizes.{sizes_of};
 ghost use Rattle.emtp_case.specs.declared.control.DeviceCode.TheVariants.{EffectiveValue};
 ghost use Rattle.emtp_case.specs.declared.control.DeviceState.{DeviceState};
 ghost use Rattle.emtp_devices.specs.Device.{next_state, sum_of_squares};
-ghost use Rattle.emtp_devices.specs.Held.{DeviceMoved, DeviceStands, IsHeld, IsHeldOf, depth_of, held_at_rest};
+ghost use Rattle.emtp_devices.specs.held.Held.{DeviceMoved, DeviceStands, IsHeld, IsHeldOf, depth_of, held_at_rest};
 ghost use Rattle.emtp_fix.specs.declared.limit.TheConstants.{LARGEST_VALUE};
 
 use crate::effective::squares_after;

@@ -3,7 +3,7 @@
 ghost use Rattle.std.specs.Prelude.{◌≡◌, ◌≢◌, ◌+◌, ◌<◌, ◌≤◌, ◌+ℤ◌, ◌≤ℤ◌, ◌<ℤ◌, All, Bool, IfSome, List, false, length, map, pos, slice_index_or, true, ℕ, ℤ};
 ghost use Rattle.std.specs.List.{Contains};
 ghost use Rattle.emtp_case.specs.Branch.{origin, points_of};
-ghost use Rattle.emtp_case.specs.Control.{IsTable};
+ghost use Rattle.emtp_case.specs.held.Control.{IsTable};
 ghost use Rattle.emtp_case.specs.HistoryValues.{delay_steps};
 ghost use Rattle.emtp_case.specs.StepRecord.{no_device};
 ghost use Rattle.emtp_case.specs.declared.case.Parts.{Parts};

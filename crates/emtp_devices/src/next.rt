@@ -1,13 +1,13 @@
 //! One step of a device.
 
 ghost use Rattle.std.specs.Prelude.{◌≡◌, ◌≤◌, ◌<◌, IfSome, List, unsigned_abs, ℤ};
-ghost use Rattle.emtp_case.specs.Control.{IsDevice, AreKnown};
-ghost use Rattle.emtp_case.specs.Sizes.{sizes_of};
+ghost use Rattle.emtp_case.specs.held.Control.{IsDevice, AreKnown};
+ghost use Rattle.emtp_case.specs.held.Sizes.{sizes_of};
 ghost use Rattle.emtp_case.specs.declared.control.DeviceState.{DeviceState};
 ghost use Rattle.emtp_devices.specs.Device.{next_state, output_by};
-ghost use Rattle.emtp_devices.specs.Held.{DeviceStands, IsHeldOf};
+ghost use Rattle.emtp_devices.specs.held.Held.{DeviceStands, IsHeldOf};
 ghost use Rattle.emtp_fix.specs.declared.limit.TheConstants.{LARGEST_VALUE};
-ghost use Rattle.emtp_hist.specs.History.{Remembers};
+ghost use Rattle.emtp_hist.specs.held.History.{Remembers};
 
 use crate::effective::effective_value;
 use crate::held::HeldDevice;

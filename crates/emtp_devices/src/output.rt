@@ -1,11 +1,12 @@
 //! The parts of the equations.
 
 ghost use Rattle.std.specs.Prelude.{◌≡◌, ◌*◌, ◌^◌, ◌+◌, ◌≤◌, ◌==◌, ◌||◌, ◌∷◌, ◌+ℤ◌, List, if◌then◌else◌, pos, unsigned_abs, ℕ, ℤ};
-ghost use Rattle.emtp_case.specs.Range.{IsBetween};
+ghost use Rattle.emtp_case.specs.held.Range.{IsBetween};
 ghost use Rattle.emtp_devices.specs.Device.{derivative, extreme_of_two, gated, integral, last_input, one_above_zero, taken_input};
-ghost use Rattle.emtp_devices.specs.Held.{IsHeld};
+ghost use Rattle.emtp_devices.specs.held.Held.{IsHeld};
 ghost use Rattle.emtp_fix.specs.declared.limit.TheConstants.{LARGEST_VALUE};
-ghost use Rattle.emtp_hist.specs.History.{Remembers, value_before};
+ghost use Rattle.emtp_hist.specs.History.{value_before};
+ghost use Rattle.emtp_hist.specs.held.History.{Remembers};
 
 use crate::held::HeldDevice;
 use emtp_fix::{NANO, PICO, scaled};

@@ -2,7 +2,7 @@
 
 ghost use Rattle.std.specs.Prelude.{◌≡◌, ◌+◌, ◌≤◌, ◌<ℤ◌, length, unsigned_abs};
 ghost use Rattle.emtp_case.specs.Branch.{points_of};
-ghost use Rattle.emtp_case.specs.Control.{IsTable};
+ghost use Rattle.emtp_case.specs.held.Control.{IsTable};
 ghost use Rattle.emtp_case.specs.RunData.{time_of};
 ghost use Rattle.emtp_devices.specs.Device.{between_points, is_within_pair, table_value};
 ghost use Rattle.emtp_fix.specs.declared.limit.TheConstants.{LARGEST_VALUE};

@@ -3,7 +3,7 @@ use Rattle.std.proofs.Common.{◌≡◌, ℕ, ◌<◌, ℤ, List, [], length, ap
 use Rattle.std.proofs.lemmas.List.{get_or-take}
 use Rattle.std.proofs.lemmas.Bool.{cases_eq}
 use Rattle.emtp_elim.specs.Matrix.{Matrix, row_of}
-use Rattle.emtp_elim.specs.Finished.{Finished, AreFinished, IsNext, IsRowAdded, AddsRow}
+use Rattle.emtp_elim.specs.held.Finished.{Finished, AreFinished, IsNext, IsRowAdded, AddsRow}
 
 pub next_row : (rows done : Matrix) (n : ℕ) (row : List ℤ) → AreFinished rows done → length done ≡ n → n < length rows → row ≡ row_of rows n → IsNext rows done row
 next_row rows done n row finished count inside row_is = record { finished = finished; within = omega arith; row_is = ap (row_of rows) count ∙ sym row_is }

@@ -6,8 +6,8 @@ use Rattle.std.proofs.lemmas.Bool.{cases_eq}
 use Rattle.emtp_fix.proofs.Wide.{through}
 use Rattle.emtp_elim.specs.Matrix.{item}
 use Rattle.emtp_elim.specs.Elimination.{less_product, quotient}
-use Rattle.emtp_elim.specs.Clearing.{IsClearedRow}
-use Rattle.emtp_elim.specs.Stored.{dense_row, AreEntries, IsStoredRow}
+use Rattle.emtp_elim.specs.held.Clearing.{IsClearedRow}
+use Rattle.emtp_elim.specs.held.Stored.{dense_row, AreEntries, IsStoredRow}
 use Rattle.emtp_elim.proofs.Entries.{LacksColumn, cases_column}
 use Rattle.emtp_elim.proofs.Products.{less_product-zero_left, less_product-zero_right, quotient-zero}
 

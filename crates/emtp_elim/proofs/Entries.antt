@@ -4,7 +4,7 @@ use Rattle.std.proofs.lemmas.List.{ext_get_or, get_or-set_same, get_or-set_other
 use Rattle.std.proofs.lemmas.List.FromFn.{length-map-range_with_len, get_or-map-range_with_len}
 use Rattle.std.proofs.lemmas.Bool.{cases_eq, cases_lt, cond-true, cond-false, eq-eqb, ne_eqb}
 use Rattle.emtp_elim.specs.Matrix.{item}
-use Rattle.emtp_elim.specs.Stored.{number_in, dense_row, AreEntries}
+use Rattle.emtp_elim.specs.held.Stored.{number_in, dense_row, AreEntries}
 
 -- one of the entries has this column
 abbrev pub HasColumn : List ℕ → ℕ → ℕ → ℕ → Type 0

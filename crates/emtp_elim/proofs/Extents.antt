@@ -3,9 +3,9 @@ use Rattle.std.proofs.Common.{◌≡◌, ℕ, ◌+◌, ◌-◌, ◌<◌, ◌≤�
 use Rattle.std.proofs.lemmas.List.{get_or_past}
 use Rattle.std.proofs.lemmas.Bool.{cases_eq, cases_lt}
 use Rattle.emtp_elim.specs.Matrix.{item}
-use Rattle.emtp_elim.specs.Clearing.{IsClearedRow}
-use Rattle.emtp_elim.specs.Extent.{IsClearAfter, IsExtent}
-use Rattle.emtp_elim.specs.Stored.{AreEntries, Packs}
+use Rattle.emtp_elim.specs.held.Clearing.{IsClearedRow}
+use Rattle.emtp_elim.specs.held.Extent.{IsClearAfter, IsExtent}
+use Rattle.emtp_elim.specs.held.Stored.{AreEntries, Packs}
 use Rattle.emtp_elim.specs.declared.extent.Extent.{Extent}
 use Rattle.emtp_elim.proofs.Entries.{entries_wider}
 use Rattle.emtp_elim.proofs.Products.{less_product-zero_right}

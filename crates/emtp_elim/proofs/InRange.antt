@@ -9,7 +9,8 @@ use Rattle.emtp_fix.specs.Limit.{is_within}
 use Rattle.emtp_fix.specs.declared.limit.TheConstants.{LARGEST_ENTRY, LARGEST_RATIO, LARGEST_VALUE}
 use Rattle.emtp_elim.specs.Matrix.{Matrix, item, row_of, entry}
 use Rattle.emtp_elim.specs.Elimination.{ratio, stage, stage_right, solution}
-use Rattle.emtp_elim.specs.Fault.{IsGoodRight, IsGoodRow, each_below, is_ratio_in_range, is_right_in_range, is_row_in_range, is_stage_in_range, pivot, right_fault, row_fault, unknown_fault}
+use Rattle.emtp_elim.specs.Fault.{each_below, is_ratio_in_range, is_right_in_range, is_row_in_range, is_stage_in_range, pivot, right_fault, row_fault, unknown_fault}
+use Rattle.emtp_elim.specs.held.Fault.{IsGoodRight, IsGoodRow}
 use Rattle.emtp_elim.specs.declared.fault.RowCause.TheVariants.{Range, ZeroPivot}
 use Rattle.emtp_elim.specs.declared.fault.RowFault.{RowFault}
 use Rattle.emtp_elim.specs.declared.fault.SolveFault.{SolveFault}

@@ -5,9 +5,9 @@ use Rattle.std.proofs.lemmas.List.FromFn.{length-map-range_with_len, get_or-map-
 use Rattle.std.proofs.lemmas.Nat.{row_fits}
 use Rattle.std.proofs.lemmas.Bool.{cases_eq}
 use Rattle.emtp_elim.specs.Matrix.{item, row_of}
-use Rattle.emtp_elim.specs.Clearing.{IsFinishedRow}
-use Rattle.emtp_elim.specs.Finished.{Finished}
-use Rattle.emtp_elim.specs.Stored.{dense_row, rows_kept, Packs, IsStoredRow, AreStored}
+use Rattle.emtp_elim.specs.held.Clearing.{IsFinishedRow}
+use Rattle.emtp_elim.specs.held.Finished.{Finished}
+use Rattle.emtp_elim.specs.held.Stored.{dense_row, rows_kept, Packs, IsStoredRow, AreStored}
 use Rattle.emtp_elim.proofs.Entries.{entries_more, entries_same, entries_joined, length-dense_row, dense_row_is, dense_row_same}
 
 pub length-rows_kept : (size count : ℕ) (starts columns : List ℕ) (values : List ℤ) → length (rows_kept size count starts columns values) ≡ count

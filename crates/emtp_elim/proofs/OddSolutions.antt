@@ -8,10 +8,12 @@ use Rattle.emtp_fix.proofs.Quotients.{near-mul_neg}
 use Rattle.emtp_fix.proofs.Wide.{mul_neg}
 use Rattle.emtp_fix.specs.Rounding.{near}
 use Rattle.emtp_fix.specs.declared.limit.TheConstants.{LARGEST_VALUE, PICO}
-use Rattle.emtp_elim.specs.Matrix.{Matrix, entry, item, list_of, opposites, products, row_of}
+use Rattle.emtp_elim.specs.Matrix.{Matrix, entry, item, list_of, products, row_of}
+use Rattle.emtp_elim.specs.held.Matrix.{opposites}
 use Rattle.emtp_elim.specs.Elimination.{cleared_right, last_unknowns, less_product, ratio, solution, stage, stage_right, unknown}
 use Rattle.emtp_elim.specs.Fault.{each_below, is_right_in_range, right_fault, row_fault, unknown_fault}
-use Rattle.emtp_elim.specs.Outcome.{first_below, last_below, opposite_end, outcome}
+use Rattle.emtp_elim.specs.Outcome.{first_below, last_below, outcome}
+use Rattle.emtp_elim.specs.held.Outcome.{opposite_end}
 use Rattle.emtp_fix.specs.Chain.{unless}
 use Rattle.emtp_fix.specs.Limit.{is_within}
 use Rattle.emtp_elim.specs.declared.fault.PlainFault.TheVariants.{Row, Solve}

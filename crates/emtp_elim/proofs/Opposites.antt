@@ -4,7 +4,8 @@ use Rattle.std.specs.List.{range_with_len}
 use Rattle.std.proofs.Math.Path.{fun_ext}
 use Rattle.std.proofs.lemmas.Int.{ints}
 use Rattle.std.proofs.lemmas.Simd.{map-map}
-use Rattle.emtp_elim.specs.Matrix.{item, list_of, opposites}
+use Rattle.emtp_elim.specs.Matrix.{item, list_of}
+use Rattle.emtp_elim.specs.held.Matrix.{opposites}
 
 -- where f keeps what stands for no element, it may be applied before or after reading
 pub place_map : {X Y : Type 0} (f : X → Y) (xs : List X) (i : ℕ) (d : X) → slice_index_or (map f xs) i (f d) ≡ f (slice_index_or xs i d)

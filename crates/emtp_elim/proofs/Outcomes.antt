@@ -4,9 +4,11 @@ use Rattle.std.proofs.lemmas.Bool.{cases_eq, cases_lt}
 use Rattle.std.proofs.lemmas.List.{get_or_past}
 use Rattle.emtp_fix.specs.declared.limit.TheConstants.{LARGEST_VALUE}
 use Rattle.emtp_fix.proofs.Chaining.{unless_ok}
-use Rattle.emtp_elim.specs.Matrix.{AreWithin, Matrix, item}
+use Rattle.emtp_elim.specs.Matrix.{Matrix, item}
+use Rattle.emtp_elim.specs.held.Matrix.{AreWithin}
 use Rattle.emtp_elim.specs.Elimination.{solution, stage, stage_right}
-use Rattle.emtp_elim.specs.Fault.{IsGoodMatrix, IsGoodRight, IsRightFault, IsRowFault, right_fault, row_fault, unknown_fault}
+use Rattle.emtp_elim.specs.Fault.{right_fault, row_fault, unknown_fault}
+use Rattle.emtp_elim.specs.held.Fault.{IsGoodMatrix, IsGoodRight, IsRightFault, IsRowFault}
 use Rattle.emtp_elim.specs.Outcome.{first_below, last_below, or_else, outcome}
 use Rattle.emtp_elim.specs.declared.fault.PlainFault.{PlainFault}
 use Rattle.emtp_elim.specs.declared.fault.PlainFault.TheVariants.{Row, Solve}

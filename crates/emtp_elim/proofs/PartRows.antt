@@ -3,11 +3,12 @@ use Rattle.std.proofs.Common.{◌≡◌, ◌≢◌, ℕ, zero, suc, ◌+◌, ◌
 use Rattle.std.specs.List.{All}
 use Rattle.std.proofs.lemmas.List.{get_or_past, get_or_default}
 use Rattle.std.proofs.lemmas.Bool.{cases_eq, cases_lt}
-use Rattle.emtp_elim.specs.Matrix.{Matrix, item, row_of, entry, AreWithin}
+use Rattle.emtp_elim.specs.Matrix.{Matrix, item, row_of, entry}
+use Rattle.emtp_elim.specs.held.Matrix.{AreWithin}
 use Rattle.emtp_elim.specs.Elimination.{quotient, ratio, stage}
 use Rattle.emtp_elim.specs.Fault.{row_fault}
-use Rattle.emtp_elim.specs.Clearing.{IsFinishedRow, IsClearedRow, LeavesRangeAt}
-use Rattle.emtp_elim.specs.Finished.{IsPartRow, IsNext, FinishesRow, FaultsRow}
+use Rattle.emtp_elim.specs.held.Clearing.{IsFinishedRow, IsClearedRow, LeavesRangeAt}
+use Rattle.emtp_elim.specs.held.Finished.{IsPartRow, IsNext, FinishesRow, FaultsRow}
 use Rattle.emtp_elim.specs.declared.fault.RowCause.{RowCause}
 use Rattle.emtp_elim.specs.declared.fault.RowCause.TheVariants.{Range, ZeroPivot}
 use Rattle.emtp_elim.proofs.ClearedRows.{cleared_nothing}

@@ -3,7 +3,7 @@ use Rattle.std.proofs.Common.{◌≡◌, ℕ, ◌<◌, ◌≤◌, [], length, ta
 use Rattle.std.proofs.lemmas.List.{get_or-take, length-take-le, length-take}
 use Rattle.emtp_elim.specs.Matrix.{Matrix, row_of, entry}
 use Rattle.emtp_elim.specs.Elimination.{ratio, stage}
-use Rattle.emtp_elim.specs.Finished.{AreFinished}
+use Rattle.emtp_elim.specs.held.Finished.{AreFinished}
 use Rattle.emtp_elim.proofs.InRange.{StaysInRange, row_fault-fine, row_fault-none}
 use Rattle.emtp_elim.proofs.Stages.{entry_same}
 

@@ -4,10 +4,10 @@ use Rattle.std.proofs.lemmas.List.{get_or-set_same, get_or-set_other}
 use Rattle.std.proofs.lemmas.Bool.{cases_eq}
 use Rattle.emtp_elim.specs.Matrix.{Matrix, item, row_of}
 use Rattle.emtp_elim.specs.Elimination.{stage_right}
-use Rattle.emtp_elim.specs.Fault.{IsRightFault}
+use Rattle.emtp_elim.specs.held.Fault.{IsRightFault}
 use Rattle.emtp_elim.proofs.InRange.{right_fault-none, right_fault-some}
-use Rattle.emtp_elim.specs.Finished.{AreAllFinished}
-use Rattle.emtp_elim.specs.Substitution.{partial_right, AreReduced}
+use Rattle.emtp_elim.specs.held.Finished.{AreAllFinished}
+use Rattle.emtp_elim.specs.held.Substitution.{partial_right, AreReduced}
 use Rattle.emtp_elim.proofs.Stages.{right_start, right_later}
 
 -- the first n right sides are reduced, the others are as given

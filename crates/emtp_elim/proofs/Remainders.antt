@@ -6,7 +6,7 @@ use Rattle.std.proofs.lemmas.Int.{ints}
 use Rattle.emtp_fix.proofs.Wide.{abs-mul-le, fits, through}
 use Rattle.emtp_fix.specs.declared.limit.TheConstants.{LARGEST_WIDE}
 use Rattle.emtp_elim.specs.Matrix.{item, products}
-use Rattle.emtp_elim.specs.Stored.{dense_row, AreEntries, IsStoredRow}
+use Rattle.emtp_elim.specs.held.Stored.{dense_row, AreEntries, IsStoredRow}
 use Rattle.emtp_elim.proofs.KeptRows.{entry_small}
 use Rattle.emtp_elim.proofs.Entries.{IsAt, at_start, at_entry, at_next, stands_still}
 

@@ -3,8 +3,8 @@ use Rattle.std.proofs.Common.{◌≡◌, ℕ, suc, ◌+◌, ◌^◌, ◌<◌, �
 use Rattle.std.proofs.lemmas.Bool.{cases_lt}
 use Rattle.emtp_elim.specs.Matrix.{item}
 use Rattle.emtp_elim.specs.Elimination.{less_product}
-use Rattle.emtp_elim.specs.Stored.{AreEntries}
-use Rattle.emtp_elim.specs.Substitution.{partial_right}
+use Rattle.emtp_elim.specs.held.Stored.{AreEntries}
+use Rattle.emtp_elim.specs.held.Substitution.{partial_right}
 use Rattle.emtp_elim.proofs.Entries.{IsAt, at_start, at_entry, at_next, stands_still}
 use Rattle.emtp_elim.proofs.Products.{less_product-zero_left}
 

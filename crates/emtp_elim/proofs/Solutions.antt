@@ -1,11 +1,12 @@
 -- Right sides and unknowns by finished rows are those of full elimination.
 use Rattle.std.proofs.Common.{◌≡◌, ℕ, zero, suc, ◌+◌, ◌-◌, ◌^◌, ◌<◌, ◌≤◌, ℤ, pos, List, length, drop, refl, ap, sym, ◌∙◌, Ok, Err, arith}
 use Rattle.std.proofs.lemmas.List.{get_or-drop}
-use Rattle.emtp_elim.specs.Matrix.{Matrix, item, row_of, entry, products, AreWithin, IsSquare}
+use Rattle.emtp_elim.specs.Matrix.{Matrix, item, row_of, entry, products}
+use Rattle.emtp_elim.specs.held.Matrix.{AreWithin, IsSquare}
 use Rattle.emtp_elim.specs.Elimination.{last_unknowns, stage, stage_right, solution}
-use Rattle.emtp_elim.specs.Fault.{IsGoodMatrix, IsRightFault}
-use Rattle.emtp_elim.specs.Finished.{AreAllFinished}
-use Rattle.emtp_elim.specs.Substitution.{AreReduced, IsLastFault, SolvesAs}
+use Rattle.emtp_elim.specs.held.Fault.{IsGoodMatrix, IsRightFault}
+use Rattle.emtp_elim.specs.held.Finished.{AreAllFinished}
+use Rattle.emtp_elim.specs.held.Substitution.{AreReduced, IsLastFault, SolvesAs}
 use Rattle.emtp_elim.specs.declared.fault.PlainFault.TheVariants.{Solve}
 use Rattle.emtp_elim.proofs.Stages.{length-stage, entry_settled, right_settled}
 use Rattle.emtp_elim.proofs.InRange.{unknown_fault-none, unknown_fault-some}

@@ -8,8 +8,9 @@ use Rattle.std.proofs.lemmas.List.{get_or-drop}
 use Rattle.emtp_fix.proofs.Quotients.{near-exact, near-mul_neg, near-times_zero, near-zero_times}
 use Rattle.emtp_fix.specs.Rounding.{near}
 use Rattle.emtp_fix.specs.declared.limit.TheConstants.{PICO}
-use Rattle.emtp_elim.specs.Rows.{IsUnitRow}
-use Rattle.emtp_elim.specs.Matrix.{IsSquare, Matrix, entry, item, products, row_of}
+use Rattle.emtp_elim.specs.held.Rows.{IsUnitRow}
+use Rattle.emtp_elim.specs.Matrix.{Matrix, entry, item, products, row_of}
+use Rattle.emtp_elim.specs.held.Matrix.{IsSquare}
 use Rattle.emtp_elim.specs.Elimination.{last_unknowns, less_product, quotient, ratio, solution, stage, stage_right, unknown}
 use Rattle.emtp_elim.proofs.Stages.{entry_later, entry_settled, entry_start, length-stage, right_later, right_settled, right_start}
 use Rattle.emtp_elim.proofs.Unknowns.{last_unknowns-more, length-last_unknowns}

@@ -7,8 +7,8 @@ use Rattle.emtp_fix.specs.Rounding.{near}
 use Rattle.emtp_fix.proofs.Wide.{through}
 use Rattle.emtp_elim.specs.Matrix.{Matrix, item, row_of, entry, products}
 use Rattle.emtp_elim.specs.Elimination.{unknown, last_unknowns}
-use Rattle.emtp_elim.specs.Stored.{dense_row, IsStoredRow}
-use Rattle.emtp_elim.specs.Substitution.{IsLastFault}
+use Rattle.emtp_elim.specs.held.Stored.{dense_row, IsStoredRow}
+use Rattle.emtp_elim.specs.held.Substitution.{IsLastFault}
 
 pub length-last_unknowns : (rows : Matrix) (right : List ℤ) (n : ℕ) → length (last_unknowns rows right n) ≡ n
 unfolding last_unknowns

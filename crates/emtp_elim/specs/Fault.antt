@@ -1,10 +1,9 @@
 -- What is wrong with a row of a matrix, with a right side, and with an unknown: each test and each fault stands here once.
-use Rattle.std.specs.Prelude.{◌≡◌, ℕ, zero, suc, ◌<◌, ℤ, unsigned_abs, nat_lt, nat_eq, Bool, true, ◌&&◌, ◌||◌, List, length, Option, Some, None, if◌then◌else◌}
+use Rattle.std.specs.Prelude.{ℕ, zero, suc, ℤ, unsigned_abs, nat_lt, nat_eq, Bool, true, ◌&&◌, ◌||◌, List, length, Option, Some, None, if◌then◌else◌}
 use Rattle.emtp_fix.specs.Limit.{is_within}
 use Rattle.emtp_fix.specs.declared.limit.TheConstants.{LARGEST_ENTRY, LARGEST_RATIO, LARGEST_VALUE}
 use Rattle.emtp_elim.specs.Matrix.{Matrix, item, row_of, entry}
 use Rattle.emtp_elim.specs.Elimination.{ratio, stage, stage_right, solution}
-use Rattle.emtp_elim.specs.declared.fault.RowCause.{RowCause}
 use Rattle.emtp_elim.specs.declared.fault.RowCause.TheVariants.{Range, ZeroPivot}
 use Rattle.emtp_elim.specs.declared.fault.RowFault.{RowFault}
 use Rattle.emtp_elim.specs.declared.fault.SolveFault.{SolveFault}
@@ -39,19 +38,6 @@ row_fault rows i =
     then (if nat_eq (unsigned_abs (pivot rows i)) 0 then Some (record { row = i; cause = ZeroPivot }) else None)
     else Some (record { row = i; cause = Range })
 
-abbrev pub IsGoodRow : Matrix → ℕ → Type 0
-IsGoodRow rows i = row_fault rows i ≡ None
-
--- row i is the least faulty one, and this is its cause
-pub record IsRowFault (rows : Matrix) (i : ℕ) (cause : RowCause) : Type 0 where
-  pub within : i < length rows
-  pub earlier : (h : ℕ) → h < i → IsGoodRow rows h
-  pub is : row_fault rows i ≡ Some (record { row = i; cause = cause })
-
--- every row is good
-pub record IsGoodMatrix (rows : Matrix) : Type 0 where
-  pub each : (i : ℕ) → i < length rows → IsGoodRow rows i
-
 -- ---- right sides and unknowns
 
 -- the right side of row i leaves its range neither at the start nor after a subtraction
@@ -61,15 +47,6 @@ is_right_in_range rows right i = each_below (suc i) (λ k. is_within LARGEST_VAL
 -- what is wrong with the right side of row i
 unfoldable pub right_fault : Matrix → List ℤ → ℕ → Option SolveFault
 right_fault rows right i = if is_right_in_range rows right i then None else Some (record { row = i })
-
-abbrev pub IsGoodRight : Matrix → List ℤ → ℕ → Type 0
-IsGoodRight rows right i = right_fault rows right i ≡ None
-
--- row i is the least one whose right side leaves its range
-pub record IsRightFault (rows : Matrix) (right : List ℤ) (i : ℕ) : Type 0 where
-  pub within : i < length rows
-  pub earlier : (h : ℕ) → h < i → IsGoodRight rows right h
-  pub is : right_fault rows right i ≡ Some (record { row = i })
 
 -- what is wrong with the unknown of row i
 unfoldable pub unknown_fault : Matrix → List ℤ → ℕ → Option SolveFault

@@ -1,11 +1,7 @@
+-- what the clauses of the program say
 pub mod Matrix
-pub mod Rows
 pub mod Elimination
 pub mod Fault
 pub mod Outcome
-pub mod Finished
-pub mod Clearing
-pub mod Stored
-pub mod Row
-pub mod Extent
-pub mod Substitution
+-- what values hold for their proofs
+pub mod held

@@ -1,14 +1,10 @@
 -- Matrices of whole numbers, each the list of its rows.
-use Rattle.std.specs.Prelude.{◌≡◌, ℕ, zero, suc, ◌<◌, ◌≤◌, ℤ, pos, neg_ℤ, ◌+ℤ◌, ◌*ℤ◌, unsigned_abs, List, [], length, map, slice_index_or}
+use Rattle.std.specs.Prelude.{ℕ, zero, suc, ℤ, pos, ◌+ℤ◌, ◌*ℤ◌, List, [], map, slice_index_or}
 use Rattle.std.specs.List.{range_with_len}
 pub use Rattle.emtp_fix.specs.Items.{item}
 
 abbrev pub Matrix : Type 0
 Matrix = List (List ℤ)
-
--- the numbers with the opposite signs
-abbrev pub opposites : List ℤ → List ℤ
-opposites xs = map neg_ℤ xs
 
 -- a row, which is empty past the last one
 abbrev pub row_of : Matrix → ℕ → List ℤ
@@ -29,14 +25,6 @@ rows_of n f = map f (range_with_len 0 n)
 -- the matrix of n rows and n columns whose entries f gives
 abbrev pub matrix_of : ℕ → (ℕ → ℕ → ℤ) → Matrix
 matrix_of n f = rows_of n (λ i. list_of n (f i))
-
--- each row has as many entries as there are rows
-abbrev pub IsSquare : Matrix → Type 0
-IsSquare rows = (i : ℕ) → i < length rows → length (row_of rows i) ≡ length rows
-
--- no number of the list exceeds the limit in magnitude
-abbrev pub AreWithin : ℕ → List ℤ → Type 0
-AreWithin limit xs = (i : ℕ) → unsigned_abs (item xs i) ≤ limit
 
 -- the first n products of two lists, place by place, added up
 abbrev pub products : List ℤ → List ℤ → ℕ → ℤ

@@ -1,13 +1,13 @@
 -- How an elimination ends, as a function of the matrix and the right side: with the solution, or with the first fault
 -- in this order. The least faulty row of the matrix, out of range before a zero pivot; the least row whose right side
 -- leaves its range; the last row whose unknown does.
-use Rattle.std.specs.Prelude.{◌≡◌, ⊤, ℕ, zero, suc, ◌<◌, ℤ, List, length, Option, Some, None, Result, Ok, Err}
+use Rattle.std.specs.Prelude.{ℕ, zero, suc, ℤ, List, length, Option, Some, None, Result, Ok}
 use Rattle.emtp_fix.specs.Chain.{unless}
-use Rattle.emtp_elim.specs.Matrix.{Matrix, opposites}
+use Rattle.emtp_elim.specs.Matrix.{Matrix}
 use Rattle.emtp_elim.specs.Elimination.{solution}
 use Rattle.emtp_elim.specs.Fault.{right_fault, row_fault, unknown_fault}
 use Rattle.emtp_elim.specs.declared.fault.PlainFault.{PlainFault}
-use Rattle.emtp_elim.specs.declared.fault.PlainFault.TheVariants.{Row, Solve, NoMemory}
+use Rattle.emtp_elim.specs.declared.fault.PlainFault.TheVariants.{Row, Solve}
 
 -- the first of two values that is there
 abbrev pub or_else : {X : Type 0} → Option X → Option X → Option X
@@ -31,20 +31,3 @@ outcome rows right =
     (unless (first_below (length rows) (right_fault rows right)) Solve
     (unless (last_below (length rows) (unknown_fault rows right)) Solve
     (Ok (solution rows right))))
-
--- the same end for the opposite unknowns: a fault stays
-abbrev pub opposite_end : Result (List ℤ) PlainFault → Result (List ℤ) PlainFault
-opposite_end (Ok x) = Ok (opposites x)
-opposite_end (Err fault) = Err fault
-
--- the elimination ends in this fault, or the fault is that there was no memory for it
-abbrev pub EndsInFault : Result (List ℤ) PlainFault → PlainFault → Type 0
-EndsInFault end (Row fault) = end ≡ Err (Row fault)
-EndsInFault end (Solve fault) = end ≡ Err (Solve fault)
-EndsInFault end NoMemory = ⊤
-
--- the fault names one of n rows, or is the want of memory
-abbrev pub HasRow : ℕ → PlainFault → Type 0
-HasRow n (Row fault) = fault.row < n
-HasRow n (Solve fault) = fault.row < n
-HasRow n NoMemory = ⊤

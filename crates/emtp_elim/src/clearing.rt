@@ -3,8 +3,8 @@ ghost use Rattle.std.specs.Prelude.{ℕ, ◌<◌, ◌≤◌, unsigned_abs, lengt
 ghost use Rattle.std.specs.Bool.{OnTrue, OnFalse};
 ghost use Rattle.emtp_fix.specs.declared.limit.TheConstants.{LARGEST_ENTRY};
 ghost use Rattle.emtp_elim.specs.Matrix.{item};
-ghost use Rattle.emtp_elim.specs.Clearing.{IsClearedRow, LeavesRangeAt};
-ghost use Rattle.emtp_elim.specs.Row.{numbers, IsRow};
+ghost use Rattle.emtp_elim.specs.held.Clearing.{IsClearedRow, LeavesRangeAt};
+ghost use Rattle.emtp_elim.specs.held.Row.{numbers, IsRow};
 
 use crate::arithmetic::{less, ratio};
 use crate::row::FinishedRow;

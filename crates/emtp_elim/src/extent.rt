@@ -1,8 +1,8 @@
 // Between which columns a row has its numbers.
 ghost use Rattle.std.specs.Prelude.{◌≡◌, ℕ, ◌<◌, ◌≤◌, pos, length};
 ghost use Rattle.emtp_elim.specs.Matrix.{item};
-ghost use Rattle.emtp_elim.specs.Extent.{IsExtent, IsClearAfter};
-ghost use Rattle.emtp_elim.specs.Row.{numbers, IsRow};
+ghost use Rattle.emtp_elim.specs.held.Extent.{IsExtent, IsClearAfter};
+ghost use Rattle.emtp_elim.specs.held.Row.{numbers, IsRow};
 
 use crate::row::FinishedRow;
 

@@ -2,10 +2,11 @@
 ghost use Rattle.std.specs.Prelude.{◌≡◌, ℕ, ◌<◌, ◌≤◌, unsigned_abs, length, IfOk, OnOk, IfErr};
 ghost use Rattle.std.specs.Bool.{OnTrue, OnFalse};
 ghost use Rattle.emtp_fix.specs.declared.limit.TheConstants.{LARGEST_ENTRY};
-ghost use Rattle.emtp_elim.specs.Matrix.{item, AreWithin};
-ghost use Rattle.emtp_elim.specs.Clearing.{IsFinishedRow};
-ghost use Rattle.emtp_elim.specs.Extent.{IsExtent};
-ghost use Rattle.emtp_elim.specs.Finished.{FinishesRow, FaultsRow};
+ghost use Rattle.emtp_elim.specs.Matrix.{item};
+ghost use Rattle.emtp_elim.specs.held.Matrix.{AreWithin};
+ghost use Rattle.emtp_elim.specs.held.Clearing.{IsFinishedRow};
+ghost use Rattle.emtp_elim.specs.held.Extent.{IsExtent};
+ghost use Rattle.emtp_elim.specs.held.Finished.{FinishesRow, FaultsRow};
 
 use crate::clearing::clear_column;
 use crate::extent::{Extent, end_with, extent_of};

@@ -2,10 +2,12 @@
 //! proved, and a caller has them by a call.
 
 ghost use Rattle.std.specs.Prelude.{◌≡◌, ℤ, List, Err};
-ghost use Rattle.emtp_elim.specs.Matrix.{Matrix, opposites};
-ghost use Rattle.emtp_elim.specs.Fault.{IsRowFault};
-ghost use Rattle.emtp_elim.specs.Finished.{FinishedRowsStay};
-ghost use Rattle.emtp_elim.specs.Outcome.{opposite_end, outcome};
+ghost use Rattle.emtp_elim.specs.Matrix.{Matrix};
+ghost use Rattle.emtp_elim.specs.held.Matrix.{opposites};
+ghost use Rattle.emtp_elim.specs.held.Fault.{IsRowFault};
+ghost use Rattle.emtp_elim.specs.held.Finished.{FinishedRowsStay};
+ghost use Rattle.emtp_elim.specs.Outcome.{outcome};
+ghost use Rattle.emtp_elim.specs.held.Outcome.{opposite_end};
 ghost use Rattle.emtp_elim.specs.declared.fault.PlainFault.{PlainFault};
 ghost use Rattle.emtp_elim.specs.declared.fault.RowFault.{RowFault};
 

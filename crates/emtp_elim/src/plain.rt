@@ -1,9 +1,10 @@
 // A whole system, eliminated from its first row.
 ghost use Rattle.std.specs.Prelude.{◌≡◌, length, OnOk, IfOk, IfErr, Ok};
 ghost use Rattle.emtp_fix.specs.declared.limit.TheConstants.{LARGEST_VALUE};
-ghost use Rattle.emtp_elim.specs.Matrix.{AreWithin};
-ghost use Rattle.emtp_elim.specs.Finished.{AreAllFinished, IsMatrixFault};
-ghost use Rattle.emtp_elim.specs.Outcome.{outcome, EndsInFault, HasRow};
+ghost use Rattle.emtp_elim.specs.held.Matrix.{AreWithin};
+ghost use Rattle.emtp_elim.specs.held.Finished.{AreAllFinished, IsMatrixFault};
+ghost use Rattle.emtp_elim.specs.Outcome.{outcome};
+ghost use Rattle.emtp_elim.specs.held.Outcome.{EndsInFault, HasRow};
 
 use crate::fault::{PlainFault, RowFault};
 use crate::rows::Rows;

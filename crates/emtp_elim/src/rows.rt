@@ -1,7 +1,7 @@
 // A matrix that is given row by row.
 ghost use Rattle.std.specs.Prelude.{◌≡◌, ℕ, ◌<◌, length};
 ghost use Rattle.emtp_elim.specs.Matrix.{Matrix, row_of};
-ghost use Rattle.emtp_elim.specs.Rows.{IsLawful};
+ghost use Rattle.emtp_elim.specs.held.Rows.{IsLawful};
 
 /// A square matrix of at most 1,000 rows, given row by row, in units of 1e-12.
 ///

@@ -1,11 +1,12 @@
 // The finished rows of a matrix, and the next row finished by them.
 ghost use Rattle.std.specs.Prelude.{◌≡◌, ℕ, ◌+◌, ◌<◌, ◌≤◌, length, take, [], IfOk, OnOk, OnErr, IfErr, Ok, Err};
 ghost use Rattle.emtp_fix.specs.declared.limit.TheConstants.{LARGEST_VALUE};
-ghost use Rattle.emtp_elim.specs.Matrix.{AreWithin, row_of};
-ghost use Rattle.emtp_elim.specs.Finished.{Finished, AddsRow, FaultsRow};
-ghost use Rattle.emtp_elim.specs.Stored.{AreStored, rows_kept};
-ghost use Rattle.emtp_elim.specs.Row.{numbers, IsRow};
-ghost use Rattle.emtp_elim.specs.Substitution.{SolvesAs};
+ghost use Rattle.emtp_elim.specs.Matrix.{row_of};
+ghost use Rattle.emtp_elim.specs.held.Matrix.{AreWithin};
+ghost use Rattle.emtp_elim.specs.held.Finished.{Finished, AddsRow, FaultsRow};
+ghost use Rattle.emtp_elim.specs.held.Stored.{AreStored, rows_kept};
+ghost use Rattle.emtp_elim.specs.held.Row.{numbers, IsRow};
+ghost use Rattle.emtp_elim.specs.held.Substitution.{SolvesAs};
 ghost use Rattle.emtp_elim.specs.declared.fault.PlainFault.{PlainFault};
 
 use crate::fault::{RowCause, SolveFault};

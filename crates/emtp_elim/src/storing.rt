@@ -2,9 +2,9 @@
 ghost use Rattle.std.specs.Prelude.{◌≡◌, ℕ, ◌+◌, ◌<◌, ◌≤◌, unsigned_abs, length, [], ◌∷◌, ◌++◌};
 ghost use Rattle.emtp_fix.specs.declared.limit.TheConstants.{LARGEST_RATIO};
 ghost use Rattle.emtp_elim.specs.Matrix.{item};
-ghost use Rattle.emtp_elim.specs.Clearing.{IsFinishedRow};
-ghost use Rattle.emtp_elim.specs.Extent.{IsExtent};
-ghost use Rattle.emtp_elim.specs.Stored.{Packs, AreStored, rows_kept};
+ghost use Rattle.emtp_elim.specs.held.Clearing.{IsFinishedRow};
+ghost use Rattle.emtp_elim.specs.held.Extent.{IsExtent};
+ghost use Rattle.emtp_elim.specs.held.Stored.{Packs, AreStored, rows_kept};
 
 use crate::extent::Extent;
 use emtp_fix::word_of;

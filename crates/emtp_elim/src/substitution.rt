@@ -1,12 +1,13 @@
 // The work on the right sides, and the unknowns from the last row back.
 ghost use Rattle.std.specs.Prelude.{◌≡◌, ℕ, ◌*◌, ◌+◌, ◌-◌, ◌<◌, ◌≤◌, ◌*ℤ◌, ◌-ℤ◌, unsigned_abs, length, drop, IfSome, OnSome, IfNone, OnOk, IfErr};
 ghost use Rattle.emtp_fix.specs.declared.limit.TheConstants.{LARGEST_VALUE, LARGEST_WIDE, PICO};
-ghost use Rattle.emtp_elim.specs.Matrix.{Matrix, item, AreWithin, IsSquare, products};
+ghost use Rattle.emtp_elim.specs.Matrix.{Matrix, item, products};
+ghost use Rattle.emtp_elim.specs.held.Matrix.{AreWithin, IsSquare};
 ghost use Rattle.emtp_elim.specs.Elimination.{last_unknowns};
-ghost use Rattle.emtp_elim.specs.Fault.{IsRightFault};
-ghost use Rattle.emtp_elim.specs.Finished.{AreAllFinished};
-ghost use Rattle.emtp_elim.specs.Row.{numbers, IsRow};
-ghost use Rattle.emtp_elim.specs.Substitution.{partial_right, AreReduced, IsLastFault};
+ghost use Rattle.emtp_elim.specs.held.Fault.{IsRightFault};
+ghost use Rattle.emtp_elim.specs.held.Finished.{AreAllFinished};
+ghost use Rattle.emtp_elim.specs.held.Row.{numbers, IsRow};
+ghost use Rattle.emtp_elim.specs.held.Substitution.{partial_right, AreReduced, IsLastFault};
 
 use crate::arithmetic::less_in_range;
 use crate::fault::SolveFault;

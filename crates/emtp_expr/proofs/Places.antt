@@ -2,7 +2,7 @@
 use Rattle.std.proofs.Common.{◌≡◌, ℕ, zero, suc, ◌+◌, ◌-◌, ◌==◌, nat_eq, nat_lt, not, pos, take, length, All, Option, Some, None, Result, Ok, Err, ◌^◌, ◌<◌, ◌≤◌, ℤ, Bool, true, false, List, [], ◌∷◌, ◌++◌, replicate, unsigned_abs, arith, refl}
 use Rattle.std.specs.Prelude.{if◌then◌else◌, int_lt, ◌≤ℤ◌}
 use Rattle.std.proofs.lemmas.Int.{ints}
-use Rattle.emtp_case.specs.Range.{IsBetween}
+use Rattle.emtp_case.specs.held.Range.{IsBetween}
 use Rattle.emtp_fix.specs.Limit.{in_range}
 use Rattle.emtp_fix.specs.declared.limit.TheConstants.{LARGEST_VALUE}
 use Rattle.emtp_fix.proofs.Ranges.{in_range-small}
@@ -18,7 +18,7 @@ use Rattle.emtp_expr.specs.declared.words.Word.{Word}
 use Rattle.emtp_expr.specs.declared.words.Word.TheVariants.{Number, Name, Function as FunctionWord, Operator as OperatorWord, Not as NotWord, Open as OpenWord, Close as CloseWord, Nothing as NothingWord}
 use Rattle.emtp_case.specs.declared.expr.Node.TheVariants.{Unary as UnaryNode, Binary as BinaryNode}
 use Rattle.std.specs.Str.{bytes_eq}
-use Rattle.emtp_case.specs.Expr.{FitsPlaces}
+use Rattle.emtp_case.specs.held.Expr.{FitsPlaces}
 use Rattle.emtp_case.specs.declared.expr.BinaryOp.TheVariants.{And, Or}
 use Rattle.emtp_case.specs.declared.expr.Node.{Node}
 use Rattle.emtp_expr.specs.Grammar.{Atom, Constant, Place, atom_node, AFactor, ANot, ARelation, ASum, ATerm, AnAnd, AnOr, Level, Symbol, Value, Function, Operator, Not, Open, Close, Nothing, Tree, Leaf, Unary, Binary, negated, postfix, Phrase, or_one, or_more, and_one, and_more, nots, relation_one, relation_two, sum_one, sum_plus, sum_minus, sum_more, term_one, term_more, value, group, call}

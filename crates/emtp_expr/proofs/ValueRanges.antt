@@ -5,7 +5,7 @@ use Rattle.std.proofs.lemmas.Int.{ints}
 use Rattle.std.proofs.lemmas.List.Elements.{All-cons, All-head, All-nil, All-tail}
 use Rattle.std.specs.Ordering.{int_eq}
 use Rattle.std.specs.Prelude.{int_lt, if◌then◌else◌}
-use Rattle.emtp_case.specs.Expr.{FitsPlaces}
+use Rattle.emtp_case.specs.held.Expr.{FitsPlaces}
 use Rattle.emtp_case.specs.declared.expr.BinaryOp.{BinaryOp}
 use Rattle.emtp_case.specs.declared.expr.BinaryOp.TheVariants.{Add, Sub, Mul, Div, Gt, Ge, Lt, Le, Eq, Ne, And, Or}
 use Rattle.emtp_case.specs.declared.expr.Node.{Node}
@@ -17,7 +17,8 @@ use Rattle.emtp_fix.specs.Limit.{in_range}
 use Rattle.emtp_fix.specs.Root.{isqrt}
 use Rattle.emtp_fix.specs.Rounding.{near}
 use Rattle.emtp_fix.specs.declared.limit.TheConstants.{NANO}
-use Rattle.emtp_expr.specs.Value.{AreInRange, after, after_all, binary, divided, only, push_value, signum, square_root, truth, unary, value, whole}
+use Rattle.emtp_expr.specs.Value.{after, after_all, binary, divided, only, push_value, signum, square_root, truth, unary, value, whole}
+use Rattle.emtp_expr.specs.held.Value.{AreInRange}
 
 -- ---- operators
 

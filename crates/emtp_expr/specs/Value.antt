@@ -1,18 +1,16 @@
 -- The value of an expression, in nano: 1 is 10^9.
-use Rattle.std.specs.Prelude.{◌≡◌, ℕ, ◌+◌, ◌*◌, ◌≤◌, ℤ, pos, negsuc, neg_ℤ, ◌+ℤ◌, ◌-ℤ◌, ◌*ℤ◌, ◌/◌, int_lt, unsigned_abs, Bool, true, false, All, length, ◌&&◌, ◌||◌, not, List, [], ◌∷◌, slice_index_or, Option, Some, None, Result, Ok, Err, if◌then◌else◌}
+use Rattle.std.specs.Prelude.{◌+◌, ◌*◌, ℤ, pos, negsuc, neg_ℤ, ◌+ℤ◌, ◌-ℤ◌, ◌*ℤ◌, ◌/◌, int_lt, unsigned_abs, Bool, ◌&&◌, ◌||◌, not, List, [], ◌∷◌, slice_index_or, Option, Some, None, if◌then◌else◌}
 use Rattle.std.specs.Ordering.{int_eq}
-use Rattle.emtp_case.specs.Expr.{height_after}
 use Rattle.emtp_case.specs.declared.expr.BinaryOp.{BinaryOp}
 use Rattle.emtp_case.specs.declared.expr.BinaryOp.TheVariants.{Add, Sub, Mul, Div, Gt, Ge, Lt, Le, Eq, Ne, And, Or}
 use Rattle.emtp_case.specs.declared.expr.Node.{Node}
 use Rattle.emtp_case.specs.declared.expr.Node.TheVariants.{Number, Var, Unary, Binary}
-use Rattle.emtp_case.specs.declared.expr.TheConstants.{MOST_VALUES}
 use Rattle.emtp_case.specs.declared.expr.UnaryOp.{UnaryOp}
 use Rattle.emtp_case.specs.declared.expr.UnaryOp.TheVariants.{Minus, Not, Abs, Sqrt, Trunc, Sign}
 use Rattle.emtp_fix.specs.Limit.{in_range}
 use Rattle.emtp_fix.specs.Root.{isqrt}
 use Rattle.emtp_fix.specs.Rounding.{near}
-use Rattle.emtp_fix.specs.declared.limit.TheConstants.{LARGEST_VALUE, NANO}
+use Rattle.emtp_fix.specs.declared.limit.TheConstants.{NANO}
 
 -- Operators
 
@@ -94,27 +92,3 @@ only (Some (x ∷ stack)) = Some x
 -- the value of an expression; none where it is out of range
 unfoldable pub value : List ℤ → List Node → Option ℤ
 value values nodes = only (after_all values nodes (Some []))
-
--- values of variables
-abbrev pub AreInRange : List ℤ → Type 0
-AreInRange values = All (λ x. unsigned_abs x ≤ LARGEST_VALUE) values
-
--- there are the values that a node works on, and room for the one that it gives
-pub record CanCompute (node : Node) (stack : List ℤ) : Type 0 where
-  pub next : ℕ
-  pub room : height_after node (length stack) ≡ Some next
-
--- what a call tells of a node, and the values that it leaves, are those of the definition
-abbrev pub Computes : Bool → List ℤ → Option (List ℤ) → Type 0
-Computes true next defined = defined ≡ Some next
-Computes false next defined = defined ≡ None
-
--- a call answers the defined value, in range, or refuses where there is none
-abbrev pub Evaluates : {E : Type 0} → Result ℤ E → Option ℤ → Type 0
-Evaluates (Ok x) defined = (defined ≡ Some x) × (unsigned_abs x ≤ LARGEST_VALUE)
-Evaluates (Err e) defined = defined ≡ None
-
--- a stack of values: so many, and each in range
-pub record IsStack (values : List ℤ) : Type 0 where
-  pub few : length values ≤ MOST_VALUES
-  pub small : AreInRange values

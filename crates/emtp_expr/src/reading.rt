@@ -6,7 +6,8 @@ ghost use Rattle.indexmap.specs.IndexSet.{insert_key};
 ghost use Rattle.emtp_expr.specs.Expects.{wants_value};
 ghost use Rattle.emtp_expr.specs.Pending.{emitted, relation_waits, settle};
 ghost use Rattle.emtp_card.specs.declared.cards.TheConstants.{MAX_BYTES};
-ghost use Rattle.emtp_expr.specs.Reading.{IfTaken, Takes, closed, names_after, opened, place_in, settled, start, take_close, take_next, take_not, take_open, take_operator, with_operator, with_pending, with_sign, with_value};
+ghost use Rattle.emtp_expr.specs.Reading.{closed, names_after, opened, place_in, settled, start, take_close, take_next, take_not, take_open, take_operator, with_operator, with_pending, with_sign, with_value};
+ghost use Rattle.emtp_expr.specs.held.Reading.{IfTaken, Takes};
 
 use crate::expects::{Expects, right_side};
 use crate::pending::{Pending, rank};

@@ -6,7 +6,8 @@ use Rattle.std.proofs.lemmas.Bool.Decides.{nat_tests}
 use Rattle.std.proofs.Math.Nat.{div-lt_iff_lt-mul}
 use Rattle.std.proofs.lemmas.Bool.{cases_eq}
 use Rattle.std.proofs.Math.Nat.{mod-lt, div-add-mod'}
-use Rattle.emtp_fix.specs.Decimal.{fraction, written, last_digit, point_fraction}
+use Rattle.emtp_fix.specs.Decimal.{fraction, point_fraction}
+use Rattle.emtp_fix.specs.held.Decimal.{written, last_digit}
 
 pub power-above : (n : ℕ) → 0 < 10 ^ n
 power-above zero = omega arith

@@ -3,7 +3,8 @@ use Rattle.std.proofs.Common.{◌≡◌, ◌≢◌, inl, inr, ℕ, zero, suc, �
 use Rattle.std.proofs.lemmas.Int.{ints, unsigned_abs-mul}
 use Rattle.std.proofs.lemmas.Bool.{cases_order, cases_lt}
 use Rattle.std.proofs.Math.Nat.{div-eq_of_lt-le, mul-le-mul_right, mul-le-mul_left, div-zero, div-mul-le_self, lt-div-mul-add}
-use Rattle.emtp_fix.specs.Rounding.{near, near_abs, rest, IsNearest}
+use Rattle.emtp_fix.specs.Rounding.{near, near_abs}
+use Rattle.emtp_fix.specs.held.Rounding.{rest, IsNearest}
 
 -- ---- over whole numbers without sign
 

@@ -1,6 +1,7 @@
 // Rounding to the nearest whole number, a half away from zero.
 ghost use Rattle.std.specs.Prelude.{◌≡◌, ◌≢◌, ◌+◌, ◌-◌, ◌*◌, ◌/◌, ◌^◌, ◌<◌, ◌≤◌, ℕ, pos, unsigned_abs};
-ghost use Rattle.emtp_fix.specs.Rounding.{near, near_abs, IsNearest};
+ghost use Rattle.emtp_fix.specs.Rounding.{near, near_abs};
+ghost use Rattle.emtp_fix.specs.held.Rounding.{IsNearest};
 ghost use Rattle.emtp_fix.specs.declared.limit.TheConstants.{LARGEST_WIDE, KILO, MICRO, NANO, PICO, ATTO};
 
 use crate::limit::{ATTO, KILO, MICRO, NANO, PICO};

@@ -1,1 +1,4 @@
+-- what the clauses of the program say
 pub mod History
+-- what values hold for their proofs
+pub mod held

@@ -1,5 +1,6 @@
 ghost use Rattle.std.specs.Prelude.{◌≡◌, ℤ, ◌<◌, ◌≤◌, List, [], ◌∷◌, pos, IfOk, slice_index_or};
-ghost use Rattle.emtp_hist.specs.History.{Past, Remembers, value_before};
+ghost use Rattle.emtp_hist.specs.History.{value_before};
+ghost use Rattle.emtp_hist.specs.held.History.{Past, Remembers};
 
 use circular_buffer::HeapCircularBuffer;
 use std::alloc::{AllocError, Global};

@@ -3,13 +3,16 @@ use Rattle.std.proofs.Common.{◌≡◌, List, [], ◌∷◌, inl, inr, ℕ, ref
 use Rattle.std.specs.Prelude.{IsErrAnd}
 use Rattle.emtp_inspect.specs.Showing.{RefusesWords}
 use Rattle.emtp_io.specs.Cabinet.{CabinetState, IsInputCall}
-use Rattle.emtp_io.specs.Writes.{Written, Makes}
+use Rattle.emtp_io.specs.Writes.{Written}
+use Rattle.emtp_io.specs.held.Writes.{Makes}
 use Rattle.emtp_io.specs.declared.cabinet.Output.TheVariants.{Cfg, Dat}
 use Rattle.emtp_io.specs.declared.whole.ReadEnd.{ReadEnd}
 use Rattle.emtp_io.specs.declared.whole.ReadEnd.TheVariants.{Failed}
-use Rattle.emtp_run.specs.Inputs.{Input, ReadsInputs}
+use Rattle.emtp_run.specs.Inputs.{Input}
+use Rattle.emtp_run.specs.held.Inputs.{ReadsInputs}
 use Rattle.emtp_run.specs.Note.{usage_note}
-use Rattle.emtp_run.specs.Outcome.{EndsAfterReading, Ends, IsWholeOrCut, KeepsRecord, note, refusal}
+use Rattle.emtp_run.specs.Outcome.{IsWholeOrCut, KeepsRecord, note, refusal}
+use Rattle.emtp_run.specs.held.Outcome.{EndsAfterReading, Ends}
 use Rattle.emtp_run.specs.declared.status.Status.TheVariants.{BadCard, Usage}
 
 whole_or_cut : {T E : Type 0} {old new : CabinetState} {writes : List Written} (result : Result T E)

@@ -10,8 +10,10 @@ use Rattle.emtp_io.specs.Cabinet.{CabinetState}
 use Rattle.emtp_io.specs.declared.whole.ReadEnd.{ReadEnd}
 use Rattle.emtp_io.specs.declared.whole.ReadEnd.TheVariants.{Failed, NoMemory as Wanting}
 use Rattle.emtp_run.specs.Command.{text_file}
-use Rattle.emtp_run.specs.Inputs.{ReadsInputs, content}
-use Rattle.emtp_run.specs.Outcome.{Ends, EndsAfterReading, Outcome, refusal, summarised, usage}
+use Rattle.emtp_run.specs.Inputs.{content}
+use Rattle.emtp_run.specs.held.Inputs.{ReadsInputs}
+use Rattle.emtp_run.specs.Outcome.{Outcome, refusal, summarised, usage}
+use Rattle.emtp_run.specs.held.Outcome.{Ends, EndsAfterReading}
 use Rattle.emtp_run.specs.declared.status.Status.{Status}
 use Rattle.emtp_run.specs.declared.status.Status.TheVariants.{BadCard, NoMemory, ReadFault}
 

@@ -3,10 +3,12 @@ ghost use Rattle.std.specs.Prelude.{◌≡◌, ◌∷◌, [], None, Some, IfOk, 
 ghost use Rattle.emtp_inspect.specs.Asking.{asked};
 ghost use Rattle.emtp_inspect.specs.Showing.{Inspects, Shows, told_outcome};
 ghost use Rattle.emtp_inspect.specs.Telling.{told_of};
-ghost use Rattle.emtp_io.specs.Writes.{Makes};
+ghost use Rattle.emtp_io.specs.held.Writes.{Makes};
 ghost use Rattle.emtp_run.specs.Command.{text_file};
-ghost use Rattle.emtp_run.specs.Inputs.{ReadsInputs, content};
-ghost use Rattle.emtp_run.specs.Outcome.{EndsAfterReading, Ends, note, refusal, summarised, summary, usage};
+ghost use Rattle.emtp_run.specs.Inputs.{content};
+ghost use Rattle.emtp_run.specs.held.Inputs.{ReadsInputs};
+ghost use Rattle.emtp_run.specs.Outcome.{note, refusal, summarised, summary, usage};
+ghost use Rattle.emtp_run.specs.held.Outcome.{EndsAfterReading, Ends};
 ghost use Rattle.emtp_run.specs.Words.{texts};
 
 use crate::telling::{Told, tell};

@@ -3,7 +3,7 @@ use Rattle.std.proofs.Common.{◌≡◌, ℕ, ◌+◌, length, arith, length-app
 use Rattle.std.proofs.lemmas.Result.{on_ok_weaker, on_err_weaker}
 use Rattle.emtp_io.specs.declared.cabinet.Output.{Output}
 use Rattle.emtp_io.specs.Cabinet.{CabinetState, Nature, Outputs, output, appended, HasRoom, HasCause, IsOutputCall}
-use Rattle.emtp_io.specs.Whole.{Appends}
+use Rattle.emtp_io.specs.held.Whole.{Appends}
 use Rattle.emtp_io.proofs.Pieces.{appended-nil, appended-append, grew-first, grew-second, room-appended, room_less}
 
 -- a call that worked, and the next one

@@ -7,7 +7,7 @@ use Rattle.std.proofs.lemmas.List.{drop_min, drop-drop, take-append-drop}
 use Rattle.std.proofs.lemmas.List.Folds.{find_at}
 use Rattle.std.proofs.lemmas.Option.{slice_get_past, slice_get-get_or, slice_get_read}
 use Rattle.emtp_io.specs.Cabinet.{put_back}
-use Rattle.emtp_io.specs.Files.{File, is_named, file_named, unread_of}
+use Rattle.emtp_io.specs.held.Files.{File, is_named, file_named, unread_of}
 
 -- the bytes of a file from a position on, if there is a file
 abbrev rest : ℕ → Option File → Option (List ℕ)

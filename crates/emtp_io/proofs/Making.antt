@@ -4,8 +4,9 @@ use Rattle.std.proofs.lemmas.Result.{on_ok_weaker, on_err_weaker}
 use Rattle.emtp_io.specs.declared.cabinet.Output.{Output}
 use Rattle.emtp_io.specs.declared.cabinet.Output.TheVariants.{Cfg, Dat, Note, Summary}
 use Rattle.emtp_io.specs.Cabinet.{CabinetState, Nature, Outputs, output, with_output, appended, HasRoom, HasCause, IsOutputCall}
-use Rattle.emtp_io.specs.Whole.{Appends}
-use Rattle.emtp_io.specs.Writes.{Written, with_written, with_all, IsCutShort, AllFit, IsOther, Makes}
+use Rattle.emtp_io.specs.held.Whole.{Appends}
+use Rattle.emtp_io.specs.Writes.{Written, with_written, with_all, IsCutShort, AllFit}
+use Rattle.emtp_io.specs.held.Writes.{IsOther, Makes}
 use Rattle.emtp_io.proofs.Appending.{call-call, tells-later, calm-later}
 
 -- an output under a name, with no byte

@@ -5,7 +5,8 @@ use Rattle.std.proofs.lemmas.List.{take-append-le, take_rest}
 use Rattle.emtp_io.specs.declared.cabinet.Output.{Output}
 use Rattle.emtp_io.specs.declared.cabinet.Output.TheVariants.{Cfg, Dat, Note, Summary}
 use Rattle.emtp_io.specs.Cabinet.{CreatedOutput, Outputs, output, with_output, with_bytes, appended, put_back, HasRoom}
-use Rattle.emtp_io.specs.Whole.{GrewByPrefix, TookFront}
+use Rattle.emtp_io.specs.Whole.{TookFront}
+use Rattle.emtp_io.specs.held.Whole.{GrewByPrefix}
 
 pub with_bytes-append : (e : Option CreatedOutput) (xs ys : List ℕ) → with_bytes (with_bytes e xs) ys ≡ with_bytes e (xs ++ ys)
 with_bytes-append None xs ys = refl

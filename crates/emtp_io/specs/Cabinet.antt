@@ -1,5 +1,5 @@
 -- What a cabinet holds, and what its calls do to it.
-use Rattle.std.specs.Prelude.{◌≡◌, ◌≢◌, ℕ, ◌+◌, ◌-◌, ◌^◌, ◌≤◌, min, Bool, false, List, [], ◌++◌, length, Option, Some, None, Result, OnOk, OnErr}
+use Rattle.std.specs.Prelude.{◌≡◌, ◌≢◌, ℕ, ◌+◌, ◌-◌, ◌^◌, ◌≤◌, min, Bool, List, [], ◌++◌, length, Option, Some, None, Result, OnOk, OnErr}
 use Rattle.emtp_io.specs.declared.cabinet.Output.{Output}
 use Rattle.emtp_io.specs.declared.cabinet.Output.TheVariants.{Cfg, Dat, Note, Summary}
 
@@ -101,10 +101,3 @@ pub record IsOutputCall {T E : Type 0} (old new : CabinetState) (out : Output) (
 abbrev pub HasRoom : Option CreatedOutput → ℕ → ℕ → Type 0
 HasRoom None more room = ⊥
 HasRoom (Some e) more room = length e.bytes + more ≤ room
-
--- a cabinet that tells nothing
-abbrev pub untold : Nature
-untold = record { tells = false; calm = false; room = 0; files = λ _. None }
-
-abbrev pub no_outputs : Outputs
-no_outputs = record { cfg = None; dat = None; note = None; summary = None }

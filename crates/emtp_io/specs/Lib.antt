@@ -1,8 +1,6 @@
-pub mod Buffer
+-- what the clauses of the program say
 pub mod Cabinet
-pub mod Calls
-pub mod Disk
-pub mod Files
-pub mod Memory
 pub mod Whole
 pub mod Writes
+-- what values hold for their proofs
+pub mod held

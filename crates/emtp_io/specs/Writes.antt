@@ -1,6 +1,6 @@
 -- Outputs that are made one after the other.
-use Rattle.std.specs.Prelude.{◌≡◌, ◌≢◌, ◌⊎◌, ℕ, ◌≤◌, List, [], ◌∷◌, length, take, Some, Result, IsTrue, IsOk, OnOk, OnErr}
-use Rattle.emtp_io.specs.Cabinet.{CabinetState, Outputs, output, with_output, HasCause}
+use Rattle.std.specs.Prelude.{◌≡◌, ◌⊎◌, ℕ, ◌≤◌, List, [], ◌∷◌, length, take, Some}
+use Rattle.emtp_io.specs.Cabinet.{Outputs, with_output}
 use Rattle.emtp_io.specs.declared.cabinet.Output.{Output}
 
 -- an output to be made, with its name and all its bytes
@@ -30,19 +30,3 @@ IsCutShort outputs (w ∷ writes) new = (new ≡ outputs)
 abbrev pub AllFit : List Written → ℕ → Type 0
 AllFit [] room = Unit {0}
 AllFit (w ∷ writes) room = (length w.name ≤ room) × (length w.bytes ≤ room) × AllFit writes room
-
--- an output that is none of these
-abbrev pub IsOther : Output → List Written → Type 0
-IsOther other [] = Unit {0}
-IsOther other (w ∷ writes) = (other ≢ w.out) × IsOther other writes
-
--- these outputs were made one after the other, or it stopped at one of them and a call failed; all else stays
-pub record Makes {T E : Type 0} (old new : CabinetState) (writes : List Written) (result : Result T E) : Type 0 where
-  pub nature : new.nature ≡ old.nature
-  pub faults_in : new.faults_in ≡ old.faults_in
-  pub cause : HasCause old.faults_out new.faults_out result
-  pub unread : new.unread ≡ old.unread
-  pub others : (other : Output) → IsOther other writes → output new.outputs other ≡ output old.outputs other
-  pub ok : IsTrue old.nature.tells → OnOk result (new.outputs ≡ with_all old.outputs writes)
-  pub err : IsTrue old.nature.tells → OnErr result (IsCutShort old.outputs writes new.outputs)
-  pub calm : IsTrue old.nature.tells → IsTrue old.nature.calm → AllFit writes old.nature.room → IsOk result

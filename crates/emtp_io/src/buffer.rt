@@ -23,7 +23,7 @@ impl OutputBuffer {
     ghost use Rattle.std.specs.Prelude.{◌≡◌, ◌↔◌, ◌+◌, ◌≤◌, [], Some, None, length, IsTrue, IfOk, option_map};
     ghost use Rattle.std.specs.Option.{option_copied};
     ghost use Rattle.emtp_io.specs.Cabinet.{with_bytes, HasRoom};
-    ghost use Rattle.emtp_io.specs.Buffer.{created_of, spare_of};
+    ghost use Rattle.emtp_io.specs.held.Buffer.{created_of, spare_of};
 
     /// An output that is not yet created, with its room reserved.
     pub fn new(alloc: Global, room: usize) -> Result<OutputBuffer, AllocError>

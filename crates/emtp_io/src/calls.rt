@@ -1,6 +1,6 @@
 //! Calls that are counted, and those that are told to fail.
 ghost use Rattle.std.specs.Prelude.{◌≡◌};
-ghost use Rattle.emtp_io.specs.Calls.{calls_of, counted, lists};
+ghost use Rattle.emtp_io.specs.held.Calls.{calls_of, counted, lists};
 
 use crate::count::count_one;
 

@@ -1,7 +1,7 @@
 //! Files in memory, by name.
 ghost use Rattle.std.specs.Prelude.{◌≡◌, min, length, take, is_some, position};
 ghost use Rattle.std.specs.Option.{option_copied};
-ghost use Rattle.emtp_io.specs.Files.{is_named, file_named, unread_of};
+ghost use Rattle.emtp_io.specs.held.Files.{is_named, file_named, unread_of};
 
 /// The place of the file of this name.
 pub fn find(files: &[(String, Vec<u8>)], name: &str) -> Option<usize>

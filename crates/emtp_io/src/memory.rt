@@ -1,11 +1,12 @@
 //! A cabinet in memory.
 ghost use Rattle.std.specs.Prelude.{◌≡◌, ◌≢◌, ◌+◌, ◌<◌, ◌≤◌, ◌||◌, [], Some, None, length, take, is_err, is_none, OnOk, OnErr, IfOk, IfSome, AllPairs, string_bytes, option_map};
 ghost use Rattle.std.specs.Option.{option_copied};
-ghost use Rattle.emtp_io.specs.Buffer.{created_of};
-ghost use Rattle.emtp_io.specs.Cabinet.{no_outputs, output, with_output, appended, put_back, one_more, IsAtEnd, HasCause, HasRoom};
-ghost use Rattle.emtp_io.specs.Calls.{counted};
-ghost use Rattle.emtp_io.specs.Files.{file_named, unread_of};
-ghost use Rattle.emtp_io.specs.Memory.{Memory, memory_state, open_fails, read_fails, read_count, create_fails, spare_in, is_full_for, write_fails, write_count};
+ghost use Rattle.emtp_io.specs.held.Buffer.{created_of};
+ghost use Rattle.emtp_io.specs.Cabinet.{output, with_output, appended, put_back, one_more, IsAtEnd, HasCause, HasRoom};
+ghost use Rattle.emtp_io.specs.held.Cabinet.{no_outputs};
+ghost use Rattle.emtp_io.specs.held.Calls.{counted};
+ghost use Rattle.emtp_io.specs.held.Files.{file_named, unread_of};
+ghost use Rattle.emtp_io.specs.held.Memory.{Memory, memory_state, open_fails, read_fails, read_count, create_fails, spare_in, is_full_for, write_fails, write_count};
 
 use crate::buffer::OutputBuffer;
 use crate::calls::{Calls, Failing, Op};

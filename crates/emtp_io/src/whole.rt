@@ -1,6 +1,6 @@
 //! All of a file, and all of some bytes.
 ghost use Rattle.std.specs.Prelude.{◌≡◌};
-ghost use Rattle.emtp_io.specs.Whole.{Appends, ReadsAll};
+ghost use Rattle.emtp_io.specs.held.Whole.{Appends, ReadsAll};
 ghost use Rattle.emtp_io.specs.declared.whole.ReadEnd.{ReadEnd};
 
 use crate::{Cabinet, Failed, Output};

@@ -15,7 +15,7 @@ use Rattle.emtp_case.specs.declared.source.Source.{Source}
 use Rattle.emtp_case.specs.declared.switch.SwitchState.{SwitchState}
 use Rattle.emtp_elim.specs.Matrix.{matrix_of}
 use Rattle.emtp_rows.specs.Nodal.{Nodal, current_entry, entry_by, is_member, kind_at, nodal_matrix, node_at}
-use Rattle.emtp_rows.specs.Touched.{row_at}
+use Rattle.emtp_rows.specs.held.Touched.{row_at}
 use Rattle.emtp_switch.specs.Groups.{labels_of, root_of}
 use Rattle.emtp_switch.specs.Kinds.{count_members, has_feed, has_member, kind_by, kinds_of}
 

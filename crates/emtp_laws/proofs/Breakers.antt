@@ -9,9 +9,11 @@ use Rattle.emtp_case.specs.declared.case.Parts.{Parts}
 use Rattle.emtp_case.specs.declared.switch.SwitchState.TheVariants.{Opened, Waiting}
 use Rattle.emtp_elim.specs.Matrix.{item}
 use Rattle.emtp_machine.proofs.Chains.{chain}
-use Rattle.emtp_machine.specs.Laws.{IsChain, records_upto}
+use Rattle.emtp_machine.specs.Laws.{records_upto}
+use Rattle.emtp_machine.specs.held.Laws.{IsChain}
 use Rattle.emtp_machine.specs.Next.{next}
-use Rattle.emtp_net.specs.Part.{NetworkPart, leaving_rows, network_of}
+use Rattle.emtp_net.specs.Part.{NetworkPart, leaving_rows}
+use Rattle.emtp_net.specs.held.Part.{network_of}
 use Rattle.emtp_net.specs.Step.{network_part}
 use Rattle.emtp_switch.specs.Currents.{contains}
 use Rattle.emtp_switch.specs.Groups.{bridges_of, is_closed_at}

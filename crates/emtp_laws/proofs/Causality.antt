@@ -7,7 +7,7 @@ use Rattle.std.proofs.lemmas.List.{length-map}
 use Rattle.std.proofs.lemmas.Option.{slice_get-map}
 use Rattle.std.proofs.lemmas.Nat.{mul-le}
 use Rattle.std.proofs.lemmas.Simd.{map-map}
-use Rattle.emtp_case.specs.Case.{IsCase}
+use Rattle.emtp_case.specs.held.Case.{IsCase}
 use Rattle.emtp_case.specs.RowOrder.{has_source}
 use Rattle.emtp_case.specs.RunData.{time_of}
 use Rattle.emtp_case.specs.StepRecord.{StepRecord, latest}

@@ -4,7 +4,7 @@ use Rattle.std.specs.List.{AllByRecursion as Each, filter, range_with_len}
 use Rattle.std.proofs.lemmas.Bool.{cases_Bool, cond-false, cond-true}
 use Rattle.std.proofs.lemmas.List.FromFn.{get_or-range_with_len, length-map-range_with_len, length-range_with_len}
 use Rattle.emtp_case.proofs.NodeOrder.{length-order_of}
-use Rattle.emtp_case.specs.Case.{IsCase}
+use Rattle.emtp_case.specs.held.Case.{IsCase}
 use Rattle.emtp_case.specs.RowOrder.{order_of}
 use Rattle.emtp_case.specs.StepRecord.{StepRecord, latest, rest_of}
 use Rattle.emtp_case.specs.declared.case.Parts.{Parts}
@@ -12,15 +12,18 @@ use Rattle.emtp_case.specs.declared.switch.SwitchState.{SwitchState}
 use Rattle.emtp_elim.specs.Elimination.{solution}
 use Rattle.emtp_elim.specs.Matrix.{item}
 use Rattle.emtp_machine.proofs.Chains.{chain}
-use Rattle.emtp_machine.specs.Laws.{IsChain, records_upto}
+use Rattle.emtp_machine.specs.Laws.{records_upto}
+use Rattle.emtp_machine.specs.held.Laws.{IsChain}
 use Rattle.emtp_machine.specs.Next.{next}
-use Rattle.emtp_net.specs.Part.{NetworkPart, network_of}
+use Rattle.emtp_net.specs.Part.{NetworkPart}
+use Rattle.emtp_net.specs.held.Part.{network_of}
 use Rattle.emtp_net.specs.Step.{network_part}
 use Rattle.emtp_net.specs.System.{matrix, right}
 use Rattle.emtp_net.specs.declared.fault.NetFault.{NetFault}
 use Rattle.emtp_switch.proofs.Labels.{OneLabel, groups-joins}
 use Rattle.emtp_switch.proofs.Plans.{switch_ends}
-use Rattle.emtp_switch.specs.Groups.{EndWithin, alone, closed_switches, from_at, is_closed_at, to_at}
+use Rattle.emtp_switch.specs.Groups.{alone, closed_switches, from_at, is_closed_at, to_at}
+use Rattle.emtp_switch.specs.held.Groups.{EndWithin}
 use Rattle.emtp_switch.specs.States.{next_state, next_states}
 use Rattle.emtp_laws.specs.Nodes.{IsGroundKept, JoinEnds, KeepsGround, labels_next}
 use Rattle.emtp_laws.proofs.GroupVoltages.{one_voltage, voltage_ground}

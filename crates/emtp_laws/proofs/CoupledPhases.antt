@@ -6,9 +6,10 @@ use Rattle.std.proofs.lemmas.Int.{ints}
 use Rattle.std.proofs.lemmas.List.{get_or-map}
 use Rattle.std.proofs.lemmas.Option.{slice_get_cases}
 use Rattle.emtp_case.proofs.Sums.{sum_below_same}
-use Rattle.emtp_case.specs.Branch.{AreInThrees, IsBranch, first_of_trio, phase_at, phase_of}
-use Rattle.emtp_case.specs.Case.{IsCase}
-use Rattle.emtp_case.specs.Sizes.{sizes_of}
+use Rattle.emtp_case.specs.Branch.{first_of_trio}
+use Rattle.emtp_case.specs.held.Branch.{AreInThrees, IsBranch, phase_at, phase_of}
+use Rattle.emtp_case.specs.held.Case.{IsCase}
+use Rattle.emtp_case.specs.held.Sizes.{sizes_of}
 use Rattle.emtp_case.specs.Sums.{sum_below}
 use Rattle.emtp_case.specs.declared.branch.Branch.{Branch}
 use Rattle.emtp_case.specs.declared.branch.Branch.TheVariants.{Lumped as OfLumped, Line as OfLine, Pseudo as OfPseudo, Phase as OfPhase}

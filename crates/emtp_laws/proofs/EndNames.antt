@@ -1,20 +1,20 @@
 -- The end of a run names what its cause blames.
 use Rattle.std.proofs.Common.{◌≡◌, ℕ, Bool, true, false, List, [], Option, Some, None, IfSome, Result, Ok, Err, sym, subst}
 use Rattle.std.specs.Prelude.{Contains}
-use Rattle.emtp_case.specs.Case.{IsCase}
+use Rattle.emtp_case.specs.held.Case.{IsCase}
 use Rattle.emtp_case.specs.StepRecord.{StepRecord}
 use Rattle.emtp_case.specs.declared.case.Parts.{Parts}
 use Rattle.emtp_machine.proofs.Chains.{ends_well}
 use Rattle.emtp_machine.proofs.Joining.{node_named}
 use Rattle.emtp_machine.specs.History.{history}
-use Rattle.emtp_machine.specs.Laws.{IsRefusal}
+use Rattle.emtp_machine.specs.held.Laws.{IsRefusal}
 use Rattle.emtp_machine.specs.Next.{Fault, control_cause, control_fault, joined, measured_of, network_fault, next, variable_name, with_control}
 use Rattle.emtp_machine.specs.declared.end.End.{End}
 use Rattle.emtp_net.specs.Part.{NetworkPart}
 use Rattle.emtp_net.specs.Step.{network_part}
 use Rattle.emtp_net.specs.declared.fault.NetFault.{NetFault}
 use Rattle.emtp_net.specs.declared.fault.NetFault.TheVariants.{Range, Residual, Tied, ZeroPivot}
-use Rattle.emtp_case.specs.EndNames.{IsNode}
+use Rattle.emtp_case.specs.held.EndNames.{IsNode}
 use Rattle.emtp_tacs.specs.Part.{ControlPart}
 use Rattle.emtp_tacs.specs.Step.{control_step}
 use Rattle.emtp_tacs.specs.declared.fault.TacsFault.{TacsFault}

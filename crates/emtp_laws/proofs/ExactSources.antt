@@ -7,7 +7,7 @@ use Rattle.std.proofs.lemmas.List.Folds.{list_any-from_Any}
 use Rattle.std.proofs.lemmas.List.Sums.{sum_by-cons}
 use Rattle.emtp_case.proofs.NodeOrder.{length-order_of, order_of-IsRowOrder}
 use Rattle.emtp_case.proofs.RowTables.{node_there}
-use Rattle.emtp_case.specs.Case.{IsCase}
+use Rattle.emtp_case.specs.held.Case.{IsCase}
 use Rattle.emtp_case.specs.RowOrder.{has_source, order_of}
 use Rattle.emtp_case.specs.Source.{is_voltage_source_at}
 use Rattle.emtp_case.specs.StepRecord.{StepRecord}
@@ -17,19 +17,21 @@ use Rattle.emtp_case.specs.declared.source.Source.{Source}
 use Rattle.emtp_elim.specs.Elimination.{solution}
 use Rattle.emtp_elim.specs.Matrix.{item}
 use Rattle.emtp_machine.proofs.Chains.{chain}
-use Rattle.emtp_machine.specs.Laws.{IsChain, records_upto}
+use Rattle.emtp_machine.specs.Laws.{records_upto}
+use Rattle.emtp_machine.specs.held.Laws.{IsChain}
 use Rattle.emtp_machine.specs.Next.{next}
-use Rattle.emtp_net.specs.Part.{NetworkPart, network_of, voltages_of}
-use Rattle.emtp_net.specs.Stages.{IsUntied}
+use Rattle.emtp_net.specs.Part.{NetworkPart, voltages_of}
+use Rattle.emtp_net.specs.held.Part.{network_of}
+use Rattle.emtp_net.specs.held.Stages.{IsUntied}
 use Rattle.emtp_net.specs.Step.{network_part}
 use Rattle.emtp_net.specs.System.{kinds_of, matrix, nodal, right, right_by, source_value, voltage_of}
 use Rattle.emtp_rows.proofs.NodalRows.{source_row}
 use Rattle.emtp_case.proofs.RowsOfNodes.{row_at_is}
 use Rattle.emtp_rows.specs.Nodal.{kind_at, node_at}
-use Rattle.emtp_rows.specs.Touched.{row_at}
+use Rattle.emtp_rows.specs.held.Touched.{row_at}
 use Rattle.emtp_switch.proofs.Plans.{once_each, switch_ends}
 use Rattle.emtp_switch.proofs.RowKinds.{by_source, root_is_source}
-use Rattle.emtp_switch.specs.Groups.{EndWithin}
+use Rattle.emtp_switch.specs.held.Groups.{EndWithin}
 use Rattle.emtp_switch.specs.Kinds.{kind_by}
 use Rattle.emtp_switch.specs.States.{next_states}
 use Rattle.emtp_laws.specs.Nodes.{AreSourcesKept, KeepSources, root_next}

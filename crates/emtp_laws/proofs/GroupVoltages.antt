@@ -11,13 +11,14 @@ use Rattle.emtp_case.specs.declared.case.Parts.{Parts}
 use Rattle.emtp_case.specs.declared.row_kind.RowKind.{RowKind}
 use Rattle.emtp_case.specs.declared.row_kind.RowKind.TheVariants.{Kcl, Sum, Tie, Ground, Source as SourceRow}
 use Rattle.emtp_elim.specs.Elimination.{solution}
-use Rattle.emtp_elim.specs.Matrix.{IsSquare, item}
+use Rattle.emtp_elim.specs.Matrix.{item}
+use Rattle.emtp_elim.specs.held.Matrix.{IsSquare}
 use Rattle.emtp_net.specs.Part.{voltages_of}
 use Rattle.emtp_net.specs.System.{kinds_of, matrix, nodal, right, right_by}
 use Rattle.emtp_rows.proofs.NodalRows.{ground_row, length-nodal_matrix, length-nodal_row, source_row, tie_row}
 use Rattle.emtp_case.proofs.RowsOfNodes.{fixed_within, row_at_is}
 use Rattle.emtp_rows.specs.Nodal.{kind_at, node_at}
-use Rattle.emtp_rows.specs.Touched.{row_at}
+use Rattle.emtp_rows.specs.held.Touched.{row_at}
 use Rattle.emtp_switch.proofs.Plans.{once_each}
 use Rattle.emtp_switch.proofs.RowKinds.{by_source}
 use Rattle.emtp_laws.specs.Nodes.{labels_next, root_next}

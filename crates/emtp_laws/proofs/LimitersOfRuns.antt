@@ -17,7 +17,8 @@ use Rattle.emtp_fix.proofs.Chaining.{same_ok, then_ok}
 use Rattle.emtp_laws.proofs.LimitedOutputs.{limit_there, step_within}
 use Rattle.emtp_laws.specs.Control.{AreOrderedLimits, HasItsLimit, IsWithinLimits}
 use Rattle.emtp_machine.proofs.Chains.{chain}
-use Rattle.emtp_machine.specs.Laws.{IsChain, records_upto}
+use Rattle.emtp_machine.specs.Laws.{records_upto}
+use Rattle.emtp_machine.specs.held.Laws.{IsChain}
 use Rattle.emtp_machine.specs.Next.{joined, measured_of, next, record_of, with_control}
 use Rattle.emtp_net.specs.Part.{NetworkPart}
 use Rattle.emtp_net.specs.Step.{network_part}

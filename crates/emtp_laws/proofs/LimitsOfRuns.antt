@@ -3,9 +3,9 @@ use Rattle.std.proofs.Common.{◌≡◌, ◌∙◌, ◌≤◌, ℕ, ℤ, false, 
 use Rattle.std.proofs.lemmas.List.{length-replicate}
 use Rattle.emtp_blocks.specs.Block.{limit_of}
 use Rattle.emtp_blocks.specs.System as system
-use Rattle.emtp_case.specs.Case.{IsCase}
-use Rattle.emtp_case.specs.Control.{IsBlock, var_of}
-use Rattle.emtp_case.specs.Sizes.{sizes_of}
+use Rattle.emtp_case.specs.held.Case.{IsCase}
+use Rattle.emtp_case.specs.held.Control.{IsBlock, var_of}
+use Rattle.emtp_case.specs.held.Sizes.{sizes_of}
 use Rattle.emtp_case.specs.StepRecord.{StepRecord, latest}
 use Rattle.emtp_case.specs.declared.case.Parts.{Parts}
 use Rattle.emtp_case.specs.declared.control.Block.{Block}
@@ -16,7 +16,8 @@ use Rattle.emtp_laws.proofs.LimitersOfRuns.{chain_right}
 use Rattle.emtp_laws.proofs.VariablesOfBlocks.{as_many, extras_leave, known_count, outputs_count, solved_outputs, variable_is_output}
 use Rattle.emtp_laws.specs.Control.{AreLimitsKept, IsWithinLimits, KeepsLimits}
 use Rattle.emtp_machine.proofs.Chains.{chain}
-use Rattle.emtp_machine.specs.Laws.{IsChain, records_upto}
+use Rattle.emtp_machine.specs.Laws.{records_upto}
+use Rattle.emtp_machine.specs.held.Laws.{IsChain}
 use Rattle.emtp_machine.specs.Next.{joined, measured_of, next, record_of, with_control}
 use Rattle.emtp_net.specs.Part.{NetworkPart}
 use Rattle.emtp_net.specs.Step.{network_part}

@@ -4,7 +4,7 @@ use Rattle.std.proofs.Math.IntN.{*ℤ_comm}
 use Rattle.std.proofs.lemmas.Int.{ints}
 use Rattle.std.proofs.lemmas.Simd.{map-map}
 use Rattle.std.proofs.lemmas.Option.{slice_get_within}
-use Rattle.emtp_case.specs.Case.{IsCase}
+use Rattle.emtp_case.specs.held.Case.{IsCase}
 use Rattle.emtp_case.specs.declared.branch.Branch.TheVariants.{Line as OfLine}
 use Rattle.emtp_case.specs.declared.branch.Line.{Line}
 use Rattle.emtp_case.specs.declared.branch.LineState.{LineState}
@@ -21,7 +21,8 @@ use Rattle.emtp_hist.specs.History.{value_before}
 use Rattle.emtp_line.specs.Line.{from_waves, line_histories, line_state, next_state, to_waves}
 use Rattle.emtp_line.proofs.Bounds.{mode_fits}
 use Rattle.emtp_line.specs.Lines.{no_trio, trio_of}
-use Rattle.emtp_line.specs.Mode.{IsMode, mode_of, mode_of_line}
+use Rattle.emtp_line.specs.Mode.{mode_of, mode_of_line}
+use Rattle.emtp_line.specs.held.Mode.{IsMode}
 use Rattle.emtp_line.specs.Phases.{modes_of, phase_from_waves, phase_to_waves, zero_from_waves, zero_to_waves}
 use Rattle.emtp_line.specs.Wave.{end_of, history_of, past_wave}
 use Rattle.emtp_line.specs.declared.mode.Mode.{Mode}

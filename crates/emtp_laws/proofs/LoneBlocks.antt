@@ -9,7 +9,7 @@ use Rattle.std.proofs.lemmas.List.FromFn.{get_or-map-range_with_len, length-map-
 use Rattle.std.proofs.lemmas.Option.{slice_get_within}
 use Rattle.emtp_blocks.proofs.Matrices.{control_entry, control_lawful, length-control_matrix, length-control_row}
 use Rattle.emtp_blocks.specs.System.{block_of, coupling_by, entry_by, limiters_of, matrix, right, right_by, row_entry, state_at, unit}
-use Rattle.emtp_case.specs.Case.{IsCase}
+use Rattle.emtp_case.specs.held.Case.{IsCase}
 use Rattle.emtp_case.specs.Control.{step_gain}
 use Rattle.emtp_case.specs.StepRecord.{StepRecord}
 use Rattle.emtp_case.specs.Sums.{total}
@@ -20,7 +20,7 @@ use Rattle.emtp_case.specs.declared.control.Limiter.{Limiter}
 use Rattle.emtp_case.specs.declared.control.Limiter.TheVariants.{AtHigh, AtLow, Free}
 use Rattle.emtp_elim.proofs.UnitRows.{unit_solved}
 use Rattle.emtp_elim.specs.Matrix.{entry, item, row_of}
-use Rattle.emtp_elim.specs.Rows.{IsUnitRow}
+use Rattle.emtp_elim.specs.held.Rows.{IsUnitRow}
 use Rattle.emtp_fix.specs.declared.limit.TheConstants.{PICO}
 use Rattle.emtp_laws.specs.Control.{IsExactAlone, StandsAlone}
 

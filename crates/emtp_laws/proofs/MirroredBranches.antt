@@ -4,14 +4,16 @@ use Rattle.std.specs.List.{All}
 use Rattle.std.proofs.Math.Path.{fun_ext}
 use Rattle.std.proofs.lemmas.Int.{ints}
 use Rattle.std.proofs.lemmas.List.Elements.{All-head, All-tail}
-use Rattle.emtp_case.specs.Branch.{IsBranch, IsCharacteristic, from_of, points_of, to_of}
-use Rattle.emtp_case.specs.Sizes.{sizes_of}
+use Rattle.emtp_case.specs.Branch.{from_of, points_of, to_of}
+use Rattle.emtp_case.specs.held.Branch.{IsBranch, IsCharacteristic}
+use Rattle.emtp_case.specs.held.Sizes.{sizes_of}
 use Rattle.emtp_case.specs.StepRecord.{BranchState, LumpedBranch, LineBranch, PseudoBranch, PhaseBranch, StepRecord}
 use Rattle.emtp_case.specs.declared.branch.Branch.{Branch}
 use Rattle.emtp_case.specs.declared.branch.Branch.TheVariants.{Lumped as OfLumped, Line as OfLine, Pseudo as OfPseudo, Phase as OfPhase}
 use Rattle.emtp_case.specs.declared.branch.PhaseState.{PhaseState}
 use Rattle.emtp_case.specs.declared.case.Parts.{Parts}
-use Rattle.emtp_elim.specs.Matrix.{item, list_of, opposites}
+use Rattle.emtp_elim.specs.Matrix.{item, list_of}
+use Rattle.emtp_elim.specs.held.Matrix.{opposites}
 use Rattle.emtp_line.specs.Line.{line_histories, next_state as next_line}
 use Rattle.emtp_line.specs.Lines as lined
 use Rattle.emtp_line.specs.Mode.{mode_of_line}

@@ -7,9 +7,10 @@ use Rattle.std.proofs.lemmas.List.{length-map, map-id}
 use Rattle.std.proofs.lemmas.List.Elements.{All-map}
 use Rattle.std.proofs.lemmas.List.Sums.{sum_by-cons}
 use Rattle.std.proofs.lemmas.Simd.{map-map}
-use Rattle.emtp_case.specs.Case.{HasCounts, IsCase, IsControl, IsDraft, IsNetwork}
-use Rattle.emtp_case.specs.Sizes.{Sizes, sizes_of}
-use Rattle.emtp_case.specs.Source.{HasShapeNumbers, HasSourceNumbers, IsMeasured, IsSource, OneVoltageEach, is_voltage_source_at}
+use Rattle.emtp_case.specs.held.Case.{HasCounts, IsCase, IsControl, IsDraft, IsNetwork}
+use Rattle.emtp_case.specs.held.Sizes.{Sizes, sizes_of}
+use Rattle.emtp_case.specs.Source.{is_voltage_source_at}
+use Rattle.emtp_case.specs.held.Source.{HasShapeNumbers, HasSourceNumbers, IsMeasured, IsSource, OneVoltageEach}
 use Rattle.emtp_case.specs.declared.case.Parts.{Parts}
 use Rattle.emtp_case.specs.declared.source.Shape.{Shape}
 use Rattle.emtp_case.specs.declared.source.Shape.TheVariants.{Cosine, NodeVoltage, Pulse, Ramp, Saw, Step, SwitchCurrent, SwitchStatus, Tacs}

@@ -5,7 +5,8 @@ use Rattle.emtp_case.specs.declared.case.Parts.{Parts}
 use Rattle.emtp_machine.proofs.Histories.{is_made}
 use Rattle.emtp_machine.specs.History.{history_upto}
 use Rattle.emtp_machine.specs.Laws.{records_upto}
-use Rattle.emtp_net.specs.Part.{NetworkPart, network_of}
+use Rattle.emtp_net.specs.Part.{NetworkPart}
+use Rattle.emtp_net.specs.held.Part.{network_of}
 use Rattle.emtp_net.specs.Step.{network_part}
 use Rattle.emtp_net.specs.declared.fault.NetFault.{NetFault}
 use Rattle.emtp_laws.specs.Mirror.{HasNoSign, bare, bare_records, mirror_image, mirrored_bare, mirrored_part, mirrored_step, without_control}

@@ -13,7 +13,8 @@ use Rattle.emtp_case.specs.declared.row_kind.RowKind.{RowKind}
 use Rattle.emtp_case.specs.declared.row_kind.RowKind.TheVariants.{Kcl, Sum, Tie, Ground, Source as SourceRow}
 use Rattle.emtp_case.specs.declared.switch.Switch.{Switch}
 use Rattle.emtp_case.specs.declared.switch.SwitchState.{SwitchState}
-use Rattle.emtp_elim.specs.Matrix.{item, opposites}
+use Rattle.emtp_elim.specs.Matrix.{item}
+use Rattle.emtp_elim.specs.held.Matrix.{opposites}
 use Rattle.emtp_fix.specs.Limit.{is_within}
 use Rattle.emtp_fix.specs.declared.limit.TheConstants.{LARGEST_VALUE}
 use Rattle.emtp_net.specs.Part.{NetworkPart, brought_by, first_out, leaving, leaving_rows, part_at, state_at, states_at, switch_currents_at, voltages_of}
@@ -21,7 +22,7 @@ use Rattle.emtp_net.specs.Residual.{residual_by, residual_of}
 use Rattle.emtp_net.specs.Step.{first_beyond}
 use Rattle.emtp_net.specs.System.{kinds_of}
 use Rattle.emtp_rows.specs.Nodal.{group_sum, kind_at, node_at}
-use Rattle.emtp_rows.specs.Touched.{row_at}
+use Rattle.emtp_rows.specs.held.Touched.{row_at}
 use Rattle.emtp_switch.specs.Currents as switched
 use Rattle.emtp_switch.specs.Groups.{alone, bridges_of, from_at, groups, root_of, to_at}
 use Rattle.emtp_switch.specs.States.{next_states}

@@ -4,15 +4,17 @@ use Rattle.std.specs.List.{position, range_with_len}
 use Rattle.std.proofs.Math.Path.{fun_ext}
 use Rattle.std.proofs.lemmas.List.{length-map}
 use Rattle.std.proofs.lemmas.Simd.{map-map}
-use Rattle.emtp_case.specs.Case.{HasNoControl}
+use Rattle.emtp_case.specs.held.Case.{HasNoControl}
 use Rattle.emtp_case.specs.RowOrder.{Rows, order_of}
 use Rattle.emtp_case.specs.StepRecord.{BranchState, StepRecord, branch_at_rest, latest, record_back, rest_of}
 use Rattle.emtp_case.specs.declared.branch.Branch.{Branch}
 use Rattle.emtp_case.specs.declared.branch.Branch.TheVariants.{Lumped as OfLumped, Line as OfLine, Pseudo as OfPseudo, Phase as OfPhase}
 use Rattle.emtp_case.specs.declared.case.Parts.{Parts}
 use Rattle.emtp_case.specs.declared.switch.SwitchState.{SwitchState}
-use Rattle.emtp_elim.specs.Matrix.{Matrix, opposites}
-use Rattle.emtp_elim.specs.Outcome.{opposite_end, outcome}
+use Rattle.emtp_elim.specs.Matrix.{Matrix}
+use Rattle.emtp_elim.specs.held.Matrix.{opposites}
+use Rattle.emtp_elim.specs.Outcome.{outcome}
+use Rattle.emtp_elim.specs.held.Outcome.{opposite_end}
 use Rattle.emtp_elim.specs.declared.fault.PlainFault.{PlainFault}
 use Rattle.emtp_elim.specs.declared.fault.PlainFault.TheVariants.{NoMemory, Row, Solve}
 use Rattle.emtp_machine.specs.History.{History, advanced, after_step, end_at, history_upto}

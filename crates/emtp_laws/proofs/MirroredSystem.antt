@@ -19,7 +19,8 @@ use Rattle.emtp_case.specs.declared.source.Shape.{Shape}
 use Rattle.emtp_case.specs.declared.source.Shape.TheVariants.{Cosine, NodeVoltage, Pulse, Ramp, Saw, Step, SwitchCurrent, SwitchStatus, Tacs}
 use Rattle.emtp_case.specs.declared.source.Source.{Source}
 use Rattle.emtp_case.specs.declared.switch.SwitchState.{SwitchState}
-use Rattle.emtp_elim.specs.Matrix.{list_of, opposites}
+use Rattle.emtp_elim.specs.Matrix.{list_of}
+use Rattle.emtp_elim.specs.held.Matrix.{opposites}
 use Rattle.emtp_fix.proofs.Nearest.{near-neg}
 use Rattle.emtp_fix.proofs.Wide.{mul_neg}
 use Rattle.emtp_fix.specs.Rounding.{near}

@@ -5,12 +5,14 @@ use Rattle.std.proofs.lemmas.Bool.{cases_eq, eq-eqb, ne_eqb}
 use Rattle.std.proofs.lemmas.List.{get_or-map}
 use Rattle.std.proofs.lemmas.List.FromFn.{length-map-range_with_len, length-range_with_len}
 use Rattle.std.proofs.lemmas.List.Quantifiers.{position-Some}
-use Rattle.emtp_case.specs.Branch.{IsBranch, from_of, to_of}
-use Rattle.emtp_case.specs.Case.{IsCase}
-use Rattle.emtp_case.specs.EndNames.{IsNode, named_end, node_of_branch, node_of_switch}
-use Rattle.emtp_case.specs.Range.{AreEnds}
+use Rattle.emtp_case.specs.Branch.{from_of, to_of}
+use Rattle.emtp_case.specs.held.Branch.{IsBranch}
+use Rattle.emtp_case.specs.held.Case.{IsCase}
+use Rattle.emtp_case.specs.EndNames.{named_end, node_of_branch, node_of_switch}
+use Rattle.emtp_case.specs.held.EndNames.{IsNode}
+use Rattle.emtp_case.specs.held.Range.{AreEnds}
 use Rattle.emtp_case.specs.RowOrder.{order_of}
-use Rattle.emtp_case.specs.Sizes.{sizes_of}
+use Rattle.emtp_case.specs.held.Sizes.{sizes_of}
 use Rattle.emtp_case.specs.StepRecord.{StepRecord}
 use Rattle.emtp_case.specs.declared.branch.Branch.{Branch}
 use Rattle.emtp_case.specs.declared.branch.Branch.TheVariants.{Lumped as OfLumped, Line as OfLine, Pseudo as OfPseudo, Phase as OfPhase}

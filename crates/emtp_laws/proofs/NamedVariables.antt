@@ -3,9 +3,9 @@ use Rattle.std.proofs.Common.{◌≡◌, ◌<◌, ℕ, zero, suc, ℤ, if◌then
 use Rattle.std.proofs.lemmas.Option.{get_or_from_slice_get, slice_get_within}
 use Rattle.emtp_blocks.proofs.Matrices.{length-control_matrix}
 use Rattle.emtp_blocks.specs.System.{first_out, limiters_of, matrix, right}
-use Rattle.emtp_case.specs.Case.{IsCase}
-use Rattle.emtp_case.specs.Control.{IsExtra}
-use Rattle.emtp_case.specs.Sizes.{sizes_of}
+use Rattle.emtp_case.specs.held.Case.{IsCase}
+use Rattle.emtp_case.specs.held.Control.{IsExtra}
+use Rattle.emtp_case.specs.held.Sizes.{sizes_of}
 use Rattle.emtp_case.specs.StepRecord.{StepRecord}
 use Rattle.emtp_case.specs.declared.case.Parts.{Parts}
 use Rattle.emtp_case.specs.declared.control.Block.{Block}
@@ -17,7 +17,7 @@ use Rattle.emtp_elim.specs.Outcome.{outcome}
 use Rattle.emtp_elim.specs.declared.fault.PlainFault.{PlainFault}
 use Rattle.emtp_elim.specs.declared.fault.PlainFault.TheVariants.{NoMemory, Row, Solve}
 use Rattle.emtp_fix.specs.Chain.{◌>>=◌}
-use Rattle.emtp_tacs.specs.Stages.{NamesVariable}
+use Rattle.emtp_tacs.specs.held.Stages.{NamesVariable}
 use Rattle.emtp_tacs.specs.Step.{Measured, SoFar, accepted, block_var, blocks, control_step, device_by, extra_at, extra_by, extra_of, extras, group_of, in_turn, is_in_pass, known_before, solved_by, source_at, source_by, sources, starting, written}
 use Rattle.emtp_tacs.specs.declared.fault.TacsFault.{TacsFault}
 use Rattle.emtp_laws.proofs.NamedNodes.{NamesRow, found_below, outcome_named}

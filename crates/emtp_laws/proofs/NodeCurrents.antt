@@ -11,7 +11,7 @@ use Rattle.emtp_case.proofs.RowTables.{node_there, nodes_within}
 use Rattle.emtp_case.proofs.RowsOfNodes.{fixed_within, row_at_is, rows_apart}
 use Rattle.emtp_case.proofs.Sums.{sum_below_same}
 use Rattle.emtp_case.specs.Branch.{from_of, to_of}
-use Rattle.emtp_case.specs.Case.{IsCase}
+use Rattle.emtp_case.specs.held.Case.{IsCase}
 use Rattle.emtp_case.specs.RowOrder.{has_source, order_of, touches_switch}
 use Rattle.emtp_case.specs.StepRecord.{BranchState, StepRecord}
 use Rattle.emtp_case.specs.Sums.{sum_below, total}
@@ -22,15 +22,17 @@ use Rattle.emtp_case.specs.declared.row_kind.RowKind.TheVariants.{Kcl, Sum, Tie,
 use Rattle.emtp_case.specs.declared.source.Source.{Source}
 use Rattle.emtp_elim.specs.Matrix.{item}
 use Rattle.emtp_machine.proofs.Chains.{chain}
-use Rattle.emtp_machine.specs.Laws.{IsChain, records_upto}
+use Rattle.emtp_machine.specs.Laws.{records_upto}
+use Rattle.emtp_machine.specs.held.Laws.{IsChain}
 use Rattle.emtp_machine.specs.Next.{next}
 use Rattle.emtp_net.proofs.Runs.{residual_small}
-use Rattle.emtp_net.specs.Part.{NetworkPart, brought_by, leaving, leaving_rows, network_of}
+use Rattle.emtp_net.specs.Part.{NetworkPart, brought_by, leaving, leaving_rows}
+use Rattle.emtp_net.specs.held.Part.{network_of}
 use Rattle.emtp_net.specs.Residual.{residual_by}
 use Rattle.emtp_net.specs.Step.{network_part}
 use Rattle.emtp_net.specs.System.{at_node, branch_sum, kinds_of, source_value}
 use Rattle.emtp_rows.specs.Nodal.{group_sum, is_member, is_tie_to, kind_at, node_at}
-use Rattle.emtp_rows.specs.Touched.{row_at}
+use Rattle.emtp_rows.specs.held.Touched.{row_at}
 use Rattle.emtp_switch.proofs.Balancing.{AreBalanced, currents_balance}
 use Rattle.emtp_switch.proofs.Flows.{sum_below-none, sum_below-one}
 use Rattle.emtp_switch.proofs.GroupRoots.{root_within}
@@ -38,8 +40,10 @@ use Rattle.emtp_switch.proofs.Plans.{once_each, switch_ends}
 use Rattle.emtp_switch.proofs.Regrouping.{rank_is}
 use Rattle.emtp_switch.proofs.RootPlaces.{root_passes}
 use Rattle.emtp_switch.proofs.Sides.{root_same}
-use Rattle.emtp_switch.specs.Currents.{leaving_side, through_switches}
-use Rattle.emtp_switch.specs.Groups.{EndWithin, by_rank}
+use Rattle.emtp_switch.specs.Currents.{leaving_side}
+use Rattle.emtp_switch.specs.held.Currents.{through_switches}
+use Rattle.emtp_switch.specs.Groups.{by_rank}
+use Rattle.emtp_switch.specs.held.Groups.{EndWithin}
 use Rattle.emtp_switch.specs.Kinds.{count_members, has_feed, has_member, is_branch_at, is_current_source_at, is_empty, kind_by}
 use Rattle.emtp_switch.specs.States.{next_state, next_states}
 use Rattle.emtp_laws.specs.Nodes.{HasUnknownVoltage, HoldsCurrentLaw, KeepsCurrentLaw, labels_next, leaving_node, root_next}

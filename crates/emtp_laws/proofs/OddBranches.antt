@@ -18,7 +18,7 @@ use Rattle.emtp_line.specs.Wave.{current_of, end_of, history_of, past_wave, wave
 use Rattle.emtp_line.specs.declared.mode.Mode.{Mode}
 use Rattle.emtp_lumped.specs.Step as lumped
 use Rattle.emtp_lumped.specs.declared.companion.Companion.{Companion}
-use Rattle.emtp_elim.specs.Matrix.{opposites}
+use Rattle.emtp_elim.specs.held.Matrix.{opposites}
 use Rattle.emtp_laws.specs.Mirror.{mirrored_line, mirrored_lumped, mirrored_phase}
 use Rattle.emtp_elim.proofs.Opposites.{item_turned}
 use Rattle.emtp_fix.proofs.Ranges.{chain_turned, in_range_turned}

@@ -1,6 +1,7 @@
 -- Pseudo-nonlinear branches are odd, on whatever segment.
 use Rattle.std.proofs.Common.{◌≡◌, ◌∙◌, ℤ, neg_ℤ, List, [], ◌∷◌, map, Option, Some, None, option_map, refl, ap}
-use Rattle.emtp_case.specs.Branch.{IsCharacteristic, points_of}
+use Rattle.emtp_case.specs.Branch.{points_of}
+use Rattle.emtp_case.specs.held.Branch.{IsCharacteristic}
 use Rattle.emtp_case.specs.declared.branch.Pseudo.{Pseudo}
 use Rattle.emtp_case.specs.declared.branch.PseudoState.{PseudoState}
 use Rattle.emtp_case.specs.declared.case.Parts.{Parts}

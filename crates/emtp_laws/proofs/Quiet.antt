@@ -2,7 +2,7 @@
 use Rattle.std.proofs.Common.{◌≡◌, ◌∙◌, ℕ, ℤ, pos, neg_ℤ, List, [], ◌∷◌, All, map, refl, ap, sym, arith}
 use Rattle.std.proofs.lemmas.Int.{ints}
 use Rattle.std.proofs.lemmas.List.Elements.{All-head, All-tail}
-use Rattle.emtp_case.specs.Case.{HasNoControl}
+use Rattle.emtp_case.specs.held.Case.{HasNoControl}
 use Rattle.emtp_case.specs.StepRecord.{StepRecord, branch_current_at, current_of, record_back, switch_current_at, voltage_at}
 use Rattle.emtp_case.specs.declared.case.Parts.{Parts}
 use Rattle.emtp_case.specs.declared.source.Source.{Source}

@@ -6,7 +6,7 @@ use Rattle.std.proofs.lemmas.List.FromFn.{get_or-map-range_with_len}
 use Rattle.std.proofs.lemmas.Option.{slice_get_within}
 use Rattle.std.proofs.lemmas.Simd.{map-map}
 use Rattle.emtp_case.specs.Branch.{capacitor_impedance, inductor_impedance}
-use Rattle.emtp_case.specs.Case.{IsCase}
+use Rattle.emtp_case.specs.held.Case.{IsCase}
 use Rattle.emtp_case.specs.StepRecord.{BranchState, LumpedBranch, StepRecord, branch_at_rest, branch_current_at, current_of, latest, lumped_at, lumped_of, no_lumped, rest_of, voltage_at}
 use Rattle.emtp_case.specs.declared.branch.Branch.{Branch}
 use Rattle.emtp_case.specs.declared.branch.Branch.TheVariants.{Lumped as OfLumped, Line as OfLine, Pseudo as OfPseudo, Phase as OfPhase}
@@ -20,12 +20,15 @@ use Rattle.emtp_fix.specs.Rounding.{near}
 use Rattle.emtp_fix.specs.declared.limit.TheConstants.{PICO}
 use Rattle.emtp_lumped.proofs.Bounds.{companion-fits}
 use Rattle.emtp_lumped.proofs.Chain.{resistor_forgets}
-use Rattle.emtp_lumped.specs.Companion.{IsCompanion, IsResistor, companion_of}
+use Rattle.emtp_lumped.specs.Companion.{companion_of}
+use Rattle.emtp_lumped.specs.held.Companion.{IsCompanion, IsResistor}
 use Rattle.emtp_lumped.specs.Lumps as lumped
-use Rattle.emtp_lumped.specs.Step.{HasNoHistory, next_state}
+use Rattle.emtp_lumped.specs.Step.{next_state}
+use Rattle.emtp_lumped.specs.held.Step.{HasNoHistory}
 use Rattle.emtp_lumped.specs.declared.companion.Companion.{Companion}
 use Rattle.emtp_machine.proofs.Chains.{chain}
-use Rattle.emtp_machine.specs.Laws.{IsChain, records_upto}
+use Rattle.emtp_machine.specs.Laws.{records_upto}
+use Rattle.emtp_machine.specs.held.Laws.{IsChain}
 use Rattle.emtp_machine.specs.Next.{next}
 use Rattle.emtp_net.proofs.LineCurrents.{currents_rest}
 use Rattle.emtp_net.proofs.Nodes.{branch_fits}

@@ -9,8 +9,9 @@ use Rattle.emtp_fix.proofs.Wide.{mul_neg}
 use Rattle.emtp_fix.specs.Limit.{in_range, ◌>>=◌}
 use Rattle.emtp_fix.specs.Rounding.{near}
 use Rattle.emtp_fix.specs.declared.limit.TheConstants.{PICO}
-use Rattle.emtp_lumped.specs.Companion.{IsCompanion}
-use Rattle.emtp_lumped.specs.Step.{HasNoHistory, capacitor_voltage_of, current_of, history_voltage_of, inductor_voltage_of, next_state}
+use Rattle.emtp_lumped.specs.held.Companion.{IsCompanion}
+use Rattle.emtp_lumped.specs.Step.{capacitor_voltage_of, current_of, history_voltage_of, inductor_voltage_of, next_state}
+use Rattle.emtp_lumped.specs.held.Step.{HasNoHistory}
 use Rattle.emtp_lumped.specs.declared.companion.Companion.{Companion}
 
 product_nonneg : (a b : ℤ) → pos 0 ≤ℤ a → pos 0 ≤ℤ b → pos 0 ≤ℤ (a *ℤ b)

@@ -4,7 +4,8 @@ use Rattle.std.proofs.lemmas.Simd.{map-map}
 use Rattle.emtp_case.specs.declared.branch.PhaseState.{PhaseState}
 use Rattle.emtp_fix.specs.Limit.{◌>>=◌, in_range}
 use Rattle.emtp_line.proofs.Bounds.{three_same}
-use Rattle.emtp_line.specs.Phases.{Modes, from_histories, next_phases, of_phase, phase_end, phase_from_history, phase_from_waves, phase_state, phase_to_history, phase_to_waves, three_of, three_states, to_histories, zero_from_waves, zero_to_waves, zero_wave_at}
+use Rattle.emtp_line.specs.Phases.{Modes, from_histories, of_phase, phase_end, phase_from_history, phase_from_waves, phase_state, phase_to_history, phase_to_waves, to_histories, zero_from_waves, zero_to_waves, zero_wave_at}
+use Rattle.emtp_line.specs.held.Phases.{next_phases, three_of, three_states}
 use Rattle.emtp_line.specs.Wave.{history_of}
 use Rattle.emtp_laws.specs.Phases.{reversed_phase, reversed_phases}
 

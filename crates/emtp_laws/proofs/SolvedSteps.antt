@@ -11,8 +11,9 @@ use Rattle.emtp_elim.specs.declared.fault.PlainFault.TheVariants.{Row, Solve}
 use Rattle.emtp_fix.proofs.Chaining.{same_ok, then_ok, unless_ok}
 use Rattle.emtp_machine.specs.Next.{joined, measured_of, next, with_control}
 use Rattle.emtp_net.proofs.Ending.{part_branches, part_currents, part_states, part_voltages}
-use Rattle.emtp_net.specs.Part.{NetworkPart, network_of, part_at, states_at, switch_currents_at, voltages_of}
-use Rattle.emtp_net.specs.Stages.{IsUntied}
+use Rattle.emtp_net.specs.Part.{NetworkPart, part_at, states_at, switch_currents_at, voltages_of}
+use Rattle.emtp_net.specs.held.Part.{network_of}
+use Rattle.emtp_net.specs.held.Stages.{IsUntied}
 use Rattle.emtp_net.specs.Step.{moved, named, network_part, solution as solved, switched, untied}
 use Rattle.emtp_net.specs.System.{matrix, right}
 use Rattle.emtp_net.specs.declared.fault.NetFault.{NetFault}

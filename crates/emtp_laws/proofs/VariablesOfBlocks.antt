@@ -7,9 +7,9 @@ use Rattle.std.proofs.lemmas.Option.{get_or_from_slice_get, slice_get_within}
 use Rattle.emtp_blocks.proofs.NextStates.{list_item}
 use Rattle.emtp_blocks.specs.System.{first_out, output_at, outputs}
 use Rattle.emtp_blocks.specs.System as system
-use Rattle.emtp_case.specs.Case.{DefinesEach, IsCase, defined_vars}
-use Rattle.emtp_case.specs.Control.{IsBlock, var_of}
-use Rattle.emtp_case.specs.Sizes.{sizes_of}
+use Rattle.emtp_case.specs.held.Case.{DefinesEach, IsCase, defined_vars}
+use Rattle.emtp_case.specs.held.Control.{IsBlock, var_of}
+use Rattle.emtp_case.specs.held.Sizes.{sizes_of}
 use Rattle.emtp_case.specs.StepRecord.{StepRecord, latest}
 use Rattle.emtp_case.specs.declared.case.Parts.{Parts}
 use Rattle.emtp_case.specs.declared.control.Block.{Block}

@@ -25,7 +25,8 @@ use Rattle.emtp_elim.specs.Matrix.{item}
 use Rattle.emtp_fix.specs.Rounding.{near, near_abs}
 use Rattle.emtp_line.specs.Line.{line_histories, line_state, next_state as next_line}
 use Rattle.emtp_line.specs.Mode.{mode_of}
-use Rattle.emtp_line.specs.Phases.{Modes, next_phases, phase_currents, phase_state}
+use Rattle.emtp_line.specs.Phases.{Modes, phase_currents, phase_state}
+use Rattle.emtp_line.specs.held.Phases.{next_phases}
 use Rattle.emtp_line.specs.Wave.{end_of}
 use Rattle.emtp_line.specs.declared.mode.Mode.{Mode}
 use Rattle.emtp_lumped.specs.Companion.{companion_of}
@@ -40,7 +41,7 @@ use Rattle.emtp_net.specs.System.{conductances, couplings, right}
 use Rattle.emtp_rows.specs.Nodal.{current_entry, nodal_matrix}
 use Rattle.emtp_switch.specs.States.{breaker_state}
 use Rattle.emtp_switch.specs.declared.states.View.{View}
-use Rattle.emtp_tacs.specs.Part.{control_of}
+use Rattle.emtp_tacs.specs.held.Part.{control_of}
 use Rattle.emtp_wave.specs.Wave.{active_value}
 use Rattle.emtp_laws.specs.Branches.{excess_voltage, reversed_series}
 use Rattle.emtp_laws.specs.Control.{RisesByTheRule}

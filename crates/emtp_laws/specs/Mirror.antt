@@ -14,7 +14,7 @@ use Rattle.emtp_case.specs.declared.source.Source.{Source}
 use Rattle.emtp_case.specs.declared.switch.Switch.{Switch}
 use Rattle.emtp_case.specs.declared.switch.SwitchKind.{SwitchKind}
 use Rattle.emtp_case.specs.declared.switch.SwitchKind.TheVariants.{Control, Measuring, Time, Valve}
-use Rattle.emtp_elim.specs.Matrix.{opposites}
+use Rattle.emtp_elim.specs.held.Matrix.{opposites}
 use Rattle.emtp_machine.specs.History.{History}
 use Rattle.emtp_net.specs.Part.{NetworkPart}
 use Rattle.emtp_net.specs.declared.fault.NetFault.{NetFault}

@@ -6,9 +6,10 @@ use Rattle.emtp_case.specs.declared.case.Parts.{Parts}
 use Rattle.emtp_case.specs.declared.source.Source.{Source}
 use Rattle.emtp_case.specs.declared.switch.SwitchState.{SwitchState}
 use Rattle.emtp_elim.specs.Matrix.{item}
-use Rattle.emtp_net.specs.Part.{NetworkPart, leaving, network_of}
+use Rattle.emtp_net.specs.Part.{NetworkPart, leaving}
+use Rattle.emtp_net.specs.held.Part.{network_of}
 use Rattle.emtp_net.specs.System.{source_value}
-use Rattle.emtp_switch.specs.Currents.{through_switches}
+use Rattle.emtp_switch.specs.held.Currents.{through_switches}
 use Rattle.emtp_switch.specs.Groups.{from_at, is_closed_at, labels_of, root_of, to_at}
 use Rattle.emtp_switch.specs.States.{next_states}
 

@@ -2,7 +2,8 @@
 -- other.
 use Rattle.std.specs.Prelude.{◌≡◌, ◌+◌, ◌-◌, ◌%◌, ◌∷◌, [], List, Result, Ok, Err, map, ℕ, ℤ}
 use Rattle.emtp_case.specs.declared.branch.PhaseState.{PhaseState}
-use Rattle.emtp_line.specs.Phases.{Modes, from_histories, next_phases, of_phase, phase_currents, phase_from_waves, phase_to_waves, phase_waves, to_histories, zero_from_waves, zero_to_waves, zero_wave}
+use Rattle.emtp_line.specs.Phases.{Modes, from_histories, of_phase, phase_currents, phase_from_waves, phase_to_waves, phase_waves, to_histories, zero_from_waves, zero_to_waves, zero_wave}
+use Rattle.emtp_line.specs.held.Phases.{next_phases}
 use Rattle.emtp_line.specs.declared.phase_states.PhaseRange.{PhaseRange}
 
 -- what is kept of a phase, seen from the other end

@@ -2,7 +2,7 @@
 //! their clauses are proved.
 
 ghost use Rattle.std.specs.Prelude.{◌≡◌, ℕ, pos, All, List, map, None};
-ghost use Rattle.emtp_case.specs.Case.{HasNoControl, IsCase};
+ghost use Rattle.emtp_case.specs.held.Case.{HasNoControl, IsCase};
 ghost use Rattle.emtp_case.specs.StepRecord.{StepRecord, record_back};
 ghost use Rattle.emtp_case.specs.declared.source.Source.{Source};
 ghost use Rattle.emtp_machine.specs.History.{history, history_upto, samples};

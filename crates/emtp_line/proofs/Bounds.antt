@@ -5,16 +5,18 @@ use Rattle.std.proofs.lemmas.Bool.{cases_lt}
 use Rattle.std.proofs.lemmas.Int.{ints, unsigned_abs-mul}
 use Rattle.std.proofs.Math.Nat.{mul-le-mul_left, mod-lt, lt-div-mul-add, div-mul-le_self}
 use Rattle.emtp_case.proofs.Impedances.{conductance_range}
-use Rattle.emtp_case.specs.Branch.{HasLineNumbers, line_impedance}
-use Rattle.emtp_case.specs.Range.{IsBetween}
+use Rattle.emtp_case.specs.Branch.{line_impedance}
+use Rattle.emtp_case.specs.held.Branch.{HasLineNumbers}
+use Rattle.emtp_case.specs.held.Range.{IsBetween}
 use Rattle.emtp_fix.specs.Rounding.{near}
 use Rattle.emtp_fix.specs.declared.limit.TheConstants.{ATTO, LARGEST_ENTRY, PICO}
 use Rattle.emtp_fix.proofs.Nearest.{unsigned_abs-near-le, near-zero}
 use Rattle.emtp_fix.proofs.Quotients.{near-within, near-nonneg, near-part, between-low, between-high}
 use Rattle.emtp_fix.proofs.Wide.{fits_between}
-use Rattle.emtp_line.specs.Mode.{IsMode, mode_of, far_share_of}
+use Rattle.emtp_line.specs.Mode.{mode_of, far_share_of}
+use Rattle.emtp_line.specs.held.Mode.{IsMode}
 use Rattle.emtp_line.specs.Wave.{wave_of, between}
-use Rattle.emtp_line.specs.Lines.{no_mode}
+use Rattle.emtp_line.specs.held.Lines.{no_mode}
 use Rattle.emtp_line.specs.declared.mode.Mode.{Mode}
 
 pub quarter_range : (r : ℤ) → IsBetween 0 (10 ^ 15) r → IsBetween 0 (10 ^ 15) (near r (pos 4))

@@ -1,10 +1,10 @@
 -- What the lines hold at a branch.
 use Rattle.std.proofs.Common.{◌≡◌, ◌∙◌, ap, sym, subst, refl, ℕ, ◌<◌, ◌+ℤ◌, ℤ, List, length, get_or, slice_get, Option, Some, None, unwrap_or, arith}
 use Rattle.std.proofs.lemmas.Option.{slice_get_within, slice_get-get_or}
-use Rattle.emtp_case.specs.Branch.{IsBranch, phase_of}
-use Rattle.emtp_case.specs.Case.{IsCase}
-use Rattle.emtp_case.specs.Range.{IsBetween}
-use Rattle.emtp_case.specs.Sizes.{sizes_of}
+use Rattle.emtp_case.specs.held.Branch.{IsBranch, phase_of}
+use Rattle.emtp_case.specs.held.Case.{IsCase}
+use Rattle.emtp_case.specs.held.Range.{IsBetween}
+use Rattle.emtp_case.specs.held.Sizes.{sizes_of}
 use Rattle.emtp_case.specs.declared.branch.Branch.{Branch}
 use Rattle.emtp_case.specs.declared.branch.Branch.TheVariants.{Lumped as OfLumped, Line as OfLine, Pseudo as OfPseudo, Phase as OfPhase}
 use Rattle.emtp_case.specs.declared.branch.Line.{Line}
@@ -13,9 +13,10 @@ use Rattle.emtp_case.specs.declared.branch.Phase.{Phase}
 use Rattle.emtp_case.specs.declared.branch.PhaseState.{PhaseState}
 use Rattle.emtp_case.specs.declared.case.Parts.{Parts}
 use Rattle.emtp_fix.specs.declared.limit.TheConstants.{LARGEST_ENTRY}
-use Rattle.emtp_line.specs.Held.{IsHeld, IsHeldTrio, LineStands, TrioStands, held_modes, newest, newest_phase, phase_held}
+use Rattle.emtp_line.specs.held.Held.{IsHeld, IsHeldTrio, LineStands, TrioStands, held_modes, newest, newest_phase, phase_held}
 use Rattle.emtp_line.specs.Line.{line_histories}
-use Rattle.emtp_line.specs.Lines.{Lining, IsLining, IsLineAt, IsPhaseAt, HasWaves, StandsAt, TrioStandsAt, line_held, trio_held, trio_of}
+use Rattle.emtp_line.specs.Lines.{trio_of}
+use Rattle.emtp_line.specs.held.Lines.{Lining, IsLining, IsLineAt, IsPhaseAt, HasWaves, StandsAt, TrioStandsAt, line_held, trio_held}
 use Rattle.emtp_line.specs.Mode.{mode_of_line}
 use Rattle.emtp_line.specs.Phases.{Modes, modes_of, own_conductance, phase_from_history, phase_to_history}
 use Rattle.emtp_line.specs.declared.held.HeldLine.{HeldLine}

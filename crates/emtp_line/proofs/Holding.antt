@@ -5,10 +5,10 @@ use Rattle.std.proofs.lemmas.List.{get_or-map, get_or_default, get_or-set_same, 
 use Rattle.std.proofs.lemmas.List.Elements.{All-set, All-map, All-weaker}
 use Rattle.std.proofs.lemmas.Option.{slice_get_within, get_or_from_slice_get}
 use Rattle.std.proofs.Math.ListN.{length-set}
-use Rattle.emtp_case.specs.Branch.{IsBranch}
-use Rattle.emtp_case.specs.Case.{IsCase}
-use Rattle.emtp_case.specs.Range.{IsBetween}
-use Rattle.emtp_case.specs.Sizes.{Sizes, sizes_of}
+use Rattle.emtp_case.specs.held.Branch.{IsBranch}
+use Rattle.emtp_case.specs.held.Case.{IsCase}
+use Rattle.emtp_case.specs.held.Range.{IsBetween}
+use Rattle.emtp_case.specs.held.Sizes.{Sizes, sizes_of}
 use Rattle.emtp_case.specs.StepRecord.{rest_of, branch_at_rest, line_state_of, no_line}
 use Rattle.emtp_case.specs.declared.branch.Branch.{Branch}
 use Rattle.emtp_case.specs.declared.branch.Branch.TheVariants.{Lumped as OfLumped, Line as OfLine, Pseudo as OfPseudo, Phase as OfPhase}
@@ -18,10 +18,12 @@ use Rattle.emtp_case.specs.declared.branch.Point.{Point}
 use Rattle.emtp_case.specs.declared.case.Parts.{Parts}
 use Rattle.emtp_case.specs.declared.run_data.RunData.{RunData}
 use Rattle.emtp_hist.specs.History.{value_before}
-use Rattle.emtp_line.specs.Held.{IsHeld, LineStands, held_at_rest}
-use Rattle.emtp_line.specs.Lines.{IsLining, IsLineAt, StandsAt, HasMode, mode_at, rest_at, line_held, no_mode, states_of}
-use Rattle.emtp_line.specs.Mode.{IsMode, mode_of_line}
-use Rattle.emtp_line.specs.Waves.{IsWaves, WavesStand, waves_at_rest}
+use Rattle.emtp_line.specs.held.Held.{IsHeld, LineStands, held_at_rest}
+use Rattle.emtp_line.specs.Lines.{states_of}
+use Rattle.emtp_line.specs.held.Lines.{IsLining, IsLineAt, StandsAt, HasMode, mode_at, rest_at, line_held, no_mode}
+use Rattle.emtp_line.specs.Mode.{mode_of_line}
+use Rattle.emtp_line.specs.held.Mode.{IsMode}
+use Rattle.emtp_line.specs.held.Waves.{IsWaves, WavesStand, waves_at_rest}
 use Rattle.emtp_line.specs.declared.held.HeldLine.{HeldLine}
 use Rattle.emtp_line.specs.declared.held_trio.HeldTrio.{HeldTrio}
 use Rattle.emtp_line.specs.declared.mode.Mode.{Mode}

@@ -1,16 +1,18 @@
 -- The lines of record 0, and a step of a line among all others.
 use Rattle.std.proofs.Common.{◌≡◌, ◌∙◌, ap, sym, subst, refl, ℕ, ◌<◌, ℤ, pos, List, [], ◌∷◌, length, map, slice_set, Result, Ok, Err, IfOk, IfErr, OnErr, None}
 use Rattle.std.proofs.lemmas.List.{length-map, set-get_or}
-use Rattle.emtp_case.specs.Case.{IsCase}
+use Rattle.emtp_case.specs.held.Case.{IsCase}
 use Rattle.emtp_case.specs.StepRecord.{rest_of}
 use Rattle.emtp_case.specs.declared.branch.LineState.{LineState}
 use Rattle.emtp_case.specs.declared.branch.PhaseState.{PhaseState}
 use Rattle.emtp_case.specs.declared.case.Parts.{Parts}
 use Rattle.emtp_fix.specs.declared.limit.OutOfRange.{OutOfRange}
-use Rattle.emtp_line.specs.Held.{LineStands, LineMoved, TrioStands, TrioMoved, held_at_rest, held_modes, trio_at_rest, with_states}
+use Rattle.emtp_line.specs.held.Held.{LineStands, LineMoved, TrioStands, TrioMoved, held_at_rest, held_modes, trio_at_rest, with_states}
 use Rattle.emtp_line.specs.Line.{next_state}
-use Rattle.emtp_line.specs.Lines.{IsLining, StandsFor, Moves, TrioMoves, rest_at, line_held, trio_held, no_mode, no_trio}
-use Rattle.emtp_line.specs.Phases.{Modes, next_phases}
+use Rattle.emtp_line.specs.Lines.{no_trio}
+use Rattle.emtp_line.specs.held.Lines.{IsLining, StandsFor, Moves, TrioMoves, rest_at, line_held, trio_held, no_mode}
+use Rattle.emtp_line.specs.Phases.{Modes}
+use Rattle.emtp_line.specs.held.Phases.{next_phases}
 use Rattle.emtp_line.specs.declared.held.HeldLine.{HeldLine}
 use Rattle.emtp_line.specs.declared.held_trio.HeldTrio.{HeldTrio}
 use Rattle.emtp_line.specs.declared.mode.Mode.{Mode}

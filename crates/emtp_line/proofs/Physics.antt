@@ -1,10 +1,11 @@
 -- What is true of lines in the field's own words.
 use Rattle.std.proofs.Common.{◌≡◌, ◌≢◌, ◌∙◌, ap, sym, ◌+◌, ◌*◌, ◌-◌, ◌%◌, ◌≤◌, ◌^◌, zero, suc, ℕ, ℤ, pos, neg_ℤ, ◌+ℤ◌, ◌-ℤ◌, ◌*ℤ◌, unsigned_abs, List, [], ◌∷◌, get_or, map, Some, refl, arith}
 use Rattle.std.proofs.lemmas.Int.{ints}
-use Rattle.emtp_case.specs.Range.{IsBetween}
+use Rattle.emtp_case.specs.held.Range.{IsBetween}
 use Rattle.emtp_case.specs.StepRecord.{no_line}
 use Rattle.emtp_case.specs.declared.branch.LineState.{LineState}
-use Rattle.emtp_fix.specs.Rounding.{near, rest}
+use Rattle.emtp_fix.specs.Rounding.{near}
+use Rattle.emtp_fix.specs.held.Rounding.{rest}
 use Rattle.emtp_fix.specs.declared.limit.TheConstants.{LARGEST_IMPEDANCE, LEAST_IMPEDANCE, PICO}
 use Rattle.emtp_fix.proofs.Nearest.{near-zero, near-rest}
 use Rattle.emtp_fix.proofs.Quotients.{near-exact, near-apart, near-times_zero}

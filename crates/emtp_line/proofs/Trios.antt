@@ -5,9 +5,10 @@ use Rattle.std.proofs.lemmas.Int.{ints}
 use Rattle.std.proofs.lemmas.List.{get_or-map, get_or_default, get_or-set_same, get_or-set_other, length-map}
 use Rattle.std.proofs.lemmas.List.Elements.{All-set, All-map, All-weaker}
 use Rattle.std.proofs.Math.ListN.{length-set}
-use Rattle.emtp_case.specs.Branch.{IsTrio, first_of_trio}
-use Rattle.emtp_case.specs.Case.{IsCase}
-use Rattle.emtp_case.specs.Range.{IsBetween}
+use Rattle.emtp_case.specs.Branch.{first_of_trio}
+use Rattle.emtp_case.specs.held.Branch.{IsTrio}
+use Rattle.emtp_case.specs.held.Case.{IsCase}
+use Rattle.emtp_case.specs.held.Range.{IsBetween}
 use Rattle.emtp_case.specs.StepRecord.{rest_of, branch_at_rest, phase_state_of, no_phase}
 use Rattle.emtp_case.specs.declared.branch.Branch.{Branch}
 use Rattle.emtp_case.specs.declared.branch.Branch.TheVariants.{Lumped as OfLumped, Line as OfLine, Pseudo as OfPseudo, Phase as OfPhase}
@@ -16,11 +17,12 @@ use Rattle.emtp_case.specs.declared.branch.PhaseState.{PhaseState}
 use Rattle.emtp_case.specs.declared.branch.Trio.{Trio}
 use Rattle.emtp_case.specs.declared.case.Parts.{Parts}
 use Rattle.emtp_case.specs.declared.run_data.RunData.{RunData}
-use Rattle.emtp_line.specs.Held.{IsHeld, IsHeldTrio, PhaseStands, TrioStands, held_at_rest, held_modes, phase_held, trio_at_rest}
-use Rattle.emtp_line.specs.Lines.{IsLining, TrioStandsAt, trio_of, trio_held, no_trio, phase_states_of}
-use Rattle.emtp_line.specs.Mode.{IsMode}
+use Rattle.emtp_line.specs.held.Held.{IsHeld, IsHeldTrio, PhaseStands, TrioStands, held_at_rest, held_modes, phase_held, trio_at_rest}
+use Rattle.emtp_line.specs.Lines.{trio_of, no_trio, phase_states_of}
+use Rattle.emtp_line.specs.held.Lines.{IsLining, TrioStandsAt, trio_held}
+use Rattle.emtp_line.specs.held.Mode.{IsMode}
 use Rattle.emtp_line.specs.Phases.{modes_of, mode_of_trio, phase_from_waves, phase_to_waves}
-use Rattle.emtp_line.specs.Waves.{WavesStand}
+use Rattle.emtp_line.specs.held.Waves.{WavesStand}
 use Rattle.emtp_line.specs.declared.held.HeldLine.{HeldLine}
 use Rattle.emtp_line.specs.declared.held_trio.HeldTrio.{HeldTrio}
 use Rattle.emtp_line.specs.declared.mode.Mode.{Mode}

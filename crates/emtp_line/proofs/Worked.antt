@@ -6,7 +6,8 @@ use Rattle.emtp_case.specs.declared.branch.PhaseState.{PhaseState}
 use Rattle.emtp_fix.specs.Rounding.{near, near_abs}
 use Rattle.emtp_line.specs.Line.{line_histories, line_state, next_state}
 use Rattle.emtp_line.specs.Mode.{mode_of}
-use Rattle.emtp_line.specs.Phases.{Modes, own_conductance, mutual_conductance, phase_state, next_phases}
+use Rattle.emtp_line.specs.Phases.{Modes, own_conductance, mutual_conductance, phase_state}
+use Rattle.emtp_line.specs.held.Phases.{next_phases}
 use Rattle.emtp_line.specs.Wave.{end_of}
 use Rattle.emtp_line.specs.declared.mode.Mode.{Mode}
 

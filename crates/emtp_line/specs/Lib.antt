@@ -1,9 +1,10 @@
+-- what the clauses of the program say
 pub mod Mode
 pub mod Wave
 pub mod Line
 pub mod Phases
-pub mod Waves
-pub mod Held
-pub mod PhaseEnd
 pub mod Lines
+-- what laws say
 pub mod Laws
+-- what values hold for their proofs
+pub mod held

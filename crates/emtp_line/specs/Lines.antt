@@ -1,47 +1,13 @@
 -- What the lines of a case stand for.
-use Rattle.std.specs.Prelude.{◌≡◌, ◌≢◌, ◌+◌, ◌<◌, ◌∷◌, [], ℕ, ℤ, List, All, length, map, pos, slice_get, slice_index_or, Option, Some, None, Result, Ok, Err, IfOk, IfErr, OnErr}
-use Rattle.emtp_case.specs.Branch.{HasLineNumbers, first_of_trio}
+use Rattle.std.specs.Prelude.{◌+◌, [], ℕ, List, map, slice_index_or}
+use Rattle.emtp_case.specs.Branch.{first_of_trio}
 use Rattle.emtp_case.specs.StepRecord.{StepRecord, line_at, phase_state_at}
-use Rattle.emtp_case.specs.declared.branch.Branch.{Branch}
-use Rattle.emtp_case.specs.declared.branch.Branch.TheVariants.{Lumped as OfLumped, Line as OfLine, Pseudo as OfPseudo, Phase as OfPhase}
-use Rattle.emtp_case.specs.declared.branch.Line.{Line}
 use Rattle.emtp_case.specs.declared.branch.LineState.{LineState}
-use Rattle.emtp_case.specs.declared.branch.Phase.{Phase}
 use Rattle.emtp_case.specs.declared.branch.PhaseState.{PhaseState}
 use Rattle.emtp_case.specs.declared.branch.Trio.{Trio}
 use Rattle.emtp_case.specs.declared.case.Parts.{Parts}
-use Rattle.emtp_fix.specs.declared.limit.OutOfRange.{OutOfRange}
-use Rattle.emtp_line.specs.Held.{IsHeld, LineStands, IsHeldTrio, TrioStands, held_at_rest, held_modes, trio_at_rest, currents_of, with_states}
-use Rattle.emtp_line.specs.Line.{next_state}
-use Rattle.emtp_line.specs.Mode.{mode_of_line}
-use Rattle.emtp_line.specs.Phases.{modes_of, next_phases}
-use Rattle.emtp_line.specs.declared.held.HeldLine.{HeldLine}
-use Rattle.emtp_line.specs.declared.held_trio.HeldTrio.{HeldTrio}
-use Rattle.emtp_line.specs.declared.mode.Mode.{Mode}
-use Rattle.emtp_line.specs.declared.phase_states.PhaseRange.{PhaseRange}
-
--- what a contract sees: the case, what is held of each branch, and what is held of each three-phase line
-pub record Lining : Type 0 where
-  pub case : Parts
-  pub lines : List HeldLine
-  pub trios : List HeldTrio
 
 -- ---- records
-
--- a branch of a case is this line, or this phase
-abbrev pub IsLineAt : Parts → ℕ → Line → Type 0
-IsLineAt case b x = slice_get case.branches b ≡ Some (OfLine x)
-
-abbrev pub IsPhaseAt : Parts → ℕ → Phase → Type 0
-IsPhaseAt case b x = slice_get case.branches b ≡ Some (OfPhase x)
-
--- it is one of both
-abbrev pub HasWaves : Option Branch → Type 0
-HasWaves None = ⊥
-HasWaves (Some (OfLumped b)) = ⊥
-HasWaves (Some (OfLine b)) = Unit {0}
-HasWaves (Some (OfPseudo b)) = ⊥
-HasWaves (Some (OfPhase b)) = Unit {0}
 
 abbrev pub no_trio : Trio
 no_trio = record { first = 0; zc = []; r = []; delay = [] }
@@ -55,95 +21,3 @@ states_of b H = map (line_at b) H
 
 abbrev pub phase_states_of : Parts → ℕ → List StepRecord → ℕ → List PhaseState
 phase_states_of case t H p = map (phase_state_at (first_of_trio case.trios t + p)) H
-
--- ---- standing for records
-
--- the numbers of a branch without waves: they are never read
-abbrev pub no_mode : Mode
-no_mode = record { conductance = pos 0; attenuation = pos 0; far_share = pos 0; near_share = pos 0; steps = 1; rest = pos 0; dt = pos 1 }
-
-abbrev pub line_held : List HeldLine → ℕ → HeldLine
-line_held lines b = slice_index_or lines b (held_at_rest no_mode)
-
-abbrev pub trio_held : List HeldTrio → ℕ → HeldTrio
-trio_held trios t = slice_index_or trios t (trio_at_rest (pos 1) no_trio)
-
--- at a line the value stands for what the records keep of it
-pub record StandsAt (s : Lining) (b : ℕ) (past : List LineState) : Type 0 where
-  pub there : b < length s.lines
-  pub stands : LineStands (line_held s.lines b) past
-
--- at a three-phase line for what they keep of its phases
-pub record TrioStandsAt (s : Lining) (t : ℕ) (past : ℕ → List PhaseState) : Type 0 where
-  pub there : t < length s.trios
-  pub stands : TrioStands (trio_held s.trios t) past
-
--- the value stands for the records
-pub record StandsFor (s : Lining) (H : List StepRecord) : Type 0 where
-  pub lines : (b : ℕ) (x : Line) → IsLineAt s.case b x → StandsAt s b (states_of b H)
-  pub trios : (t : ℕ) → t < length s.case.trios → TrioStandsAt s t (phase_states_of s.case t H)
-
--- ---- moving
-
--- a line moved by one step: its next state's current is the answer, and this state is the newest
-pub record HasMoved (new : Lining) (branch : ℕ) (past : List LineState) (next : Option LineState) (i : ℤ) : Type 0 where
-  pub state : LineState
-  pub is : next ≡ Some state
-  pub current : i ≡ state.from_current
-  pub stands : StandsAt new branch (state ∷ past)
-
--- The whole of a call that takes the voltages of its ends into one line. On Ok the line moved, whatever past it stood
--- for; an Err comes exactly where there is no next state, and changes nothing.
-pub record Moves (old new : Lining) (branch : ℕ) (v w : ℤ) (result : Result ℤ OutOfRange) : Type 0 where
-  pub case : new.case ≡ old.case
-  pub moved : (x : Line) (past : List LineState) → IsLineAt old.case branch x → StandsAt old branch past → IfOk result (HasMoved new branch past (next_state (mode_of_line old.case.run.dt x) past v w))
-  pub out : (x : Line) (past : List LineState) → IsLineAt old.case branch x → StandsAt old branch past → OnErr result (next_state (mode_of_line old.case.run.dt x) past v w ≡ None)
-  pub others : (b : ℕ) (past : List LineState) → b ≢ branch → StandsAt old b past → StandsAt new b past
-  pub trios : (t : ℕ) (past : ℕ → List PhaseState) → TrioStandsAt old t past → TrioStandsAt new t past
-  pub same : OnErr result (new ≡ old)
-
--- the same of a three-phase line
-pub record TrioHasMoved (new : Lining) (trio : ℕ) (past : ℕ → List PhaseState) (next : Result (List PhaseState) PhaseRange) (i : List ℤ) : Type 0 where
-  pub states : List PhaseState
-  pub is : next ≡ Ok states
-  pub currents : i ≡ currents_of states
-  pub stands : TrioStandsAt new trio (with_states states past)
-
--- And of a call that takes the voltages of all of its ends into one three-phase line. An Err names the first phase that
--- is out of range.
-pub record TrioMoves (old new : Lining) (trio : ℕ) (v w : List ℤ) (result : Result (List ℤ) PhaseRange) : Type 0 where
-  pub case : new.case ≡ old.case
-  pub moved : (past : ℕ → List PhaseState) → TrioStandsAt old trio past → IfOk result (TrioHasMoved new trio past (next_phases (modes_of old.case.run.dt (trio_of old.case trio)) past v w))
-  pub out : (past : ℕ → List PhaseState) → TrioStandsAt old trio past → IfErr result (λ fault. next_phases (modes_of old.case.run.dt (trio_of old.case trio)) past v w ≡ Err fault)
-  pub others : (t : ℕ) (past : ℕ → List PhaseState) → t ≢ trio → TrioStandsAt old t past → TrioStandsAt new t past
-  pub lines : (b : ℕ) (past : List LineState) → StandsAt old b past → StandsAt new b past
-  pub same : OnErr result (new ≡ old)
-  pub phase : IfErr result (λ fault. fault.phase < 3)
-
--- ---- what is held
-
--- the numbers that the mode of a single line needs
-abbrev pub HasMode : ℤ → Branch → Type 0
-HasMode dt (OfLumped b) = Unit {0}
-HasMode dt (OfLine b) = HasLineNumbers dt b.zc b.r b.delay
-HasMode dt (OfPseudo b) = Unit {0}
-HasMode dt (OfPhase b) = Unit {0}
-
-abbrev pub mode_at : ℤ → Branch → Mode
-mode_at dt (OfLumped b) = no_mode
-mode_at dt (OfLine b) = mode_of_line dt b
-mode_at dt (OfPseudo b) = no_mode
-mode_at dt (OfPhase b) = no_mode
-
--- a branch of record 0
-abbrev pub rest_at : ℤ → Branch → HeldLine
-rest_at dt b = held_at_rest (mode_at dt b)
-
--- what the lists keep of the case
-pub record IsLining (case : Parts) (lines : List HeldLine) (trios : List HeldTrio) : Type 0 where
-  pub one_each : length lines ≡ length case.branches
-  pub one_each_trio : length trios ≡ length case.trios
-  pub modes : (b : ℕ) (x : Line) → IsLineAt case b x → (line_held lines b).waves.mode ≡ mode_of_line case.run.dt x
-  pub trio_modes : (t : ℕ) → t < length case.trios → held_modes (trio_held trios t) ≡ modes_of case.run.dt (trio_of case t)
-  pub lines_fit : All IsHeld lines
-  pub trios_fit : All IsHeldTrio trios

@@ -1,6 +1,6 @@
 -- One step of a transposed three-phase line, in terms of its zero sequence and its positive sequence. A list of three
 -- numbers has one a phase.
-use Rattle.std.specs.Prelude.{◌+◌, ◌%◌, ◌==◌, ◌+ℤ◌, ◌-ℤ◌, ◌*ℤ◌, ◌∷◌, [], if◌then◌else◌, pos, slice_index_or, map, List, Option, Some, None, Result, Ok, Err, ℕ, ℤ}
+use Rattle.std.specs.Prelude.{◌+◌, ◌%◌, ◌==◌, ◌+ℤ◌, ◌-ℤ◌, ◌*ℤ◌, ◌∷◌, [], if◌then◌else◌, pos, slice_index_or, map, List, Option, Some, ℕ, ℤ}
 use Rattle.emtp_case.specs.declared.branch.PhaseState.{PhaseState}
 use Rattle.emtp_case.specs.declared.branch.Trio.{Trio}
 use Rattle.emtp_fix.specs.Limit.{in_range, ◌>>=◌}
@@ -10,7 +10,6 @@ use Rattle.emtp_line.specs.Mode.{mode_of}
 use Rattle.emtp_line.specs.Wave.{history_of, wave_of}
 use Rattle.emtp_line.specs.declared.mode.Mode.{Mode}
 use Rattle.emtp_line.specs.declared.phase_end.PhaseEnd.{PhaseEnd}
-use Rattle.emtp_line.specs.declared.phase_states.PhaseRange.{PhaseRange}
 
 -- ---- the modes
 
@@ -115,18 +114,3 @@ phase_state from to p = do
   w0 ← in_range (zero_wave_at p from.zero_wave)
   u0 ← in_range (zero_wave_at p to.zero_wave)
   Some (record { from_current = i; to_current = k; from_wave = w; to_wave = u; from_zero_wave = w0; to_zero_wave = u0 })
-
--- all three, or the first phase that is out of range
-abbrev pub three_of : Option PhaseState → Option PhaseState → Option PhaseState → Result (List PhaseState) PhaseRange
-three_of None second third = Err (record { phase = 0 })
-three_of (Some a) None third = Err (record { phase = 1 })
-three_of (Some a) (Some b) None = Err (record { phase = 2 })
-three_of (Some a) (Some b) (Some c) = Ok (a ∷ b ∷ c ∷ [])
-
--- what a record keeps of the three phases
-abbrev pub three_states : PhaseEnd → PhaseEnd → Result (List PhaseState) PhaseRange
-three_states from to = three_of (phase_state from to 0) (phase_state from to 1) (phase_state from to 2)
-
--- what the next record keeps of them at the voltages v of `from` and w of `to`, or the first phase that is out of range
-abbrev pub next_phases : Modes → (ℕ → List PhaseState) → List ℤ → List ℤ → Result (List PhaseState) PhaseRange
-next_phases m past v w = three_states (phase_end m (from_histories m past) v) (phase_end m (to_histories m past) w)

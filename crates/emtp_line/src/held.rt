@@ -3,10 +3,10 @@
 ghost use Rattle.std.specs.Prelude.{◌≡◌, ◌≤◌, ◌^◌, ◌∷◌, unsigned_abs, List, ℤ, None, IfOk, IfSome, OnErr};
 ghost use Rattle.emtp_case.specs.declared.branch.LineState.{LineState};
 ghost use Rattle.emtp_fix.specs.declared.limit.TheConstants.{LARGEST_VALUE};
-ghost use Rattle.emtp_line.specs.Held.{IsHeld, LineStands, LineMoved, held_at_rest};
+ghost use Rattle.emtp_line.specs.held.Held.{IsHeld, LineStands, LineMoved, held_at_rest};
 ghost use Rattle.emtp_line.specs.Line.{line_state, next_state};
-ghost use Rattle.emtp_line.specs.Mode.{IsMode};
-ghost use Rattle.emtp_line.specs.Waves.{IsWaves, WavesStand};
+ghost use Rattle.emtp_line.specs.held.Mode.{IsMode};
+ghost use Rattle.emtp_line.specs.held.Waves.{IsWaves, WavesStand};
 
 use crate::mode::Mode;
 use crate::wave::end;

@@ -1,16 +1,17 @@
 //! What is held of a three-phase line between two steps.
 
 ghost use Rattle.std.specs.Prelude.{◌≡◌, ◌^◌, ◌<◌, ◌≤◌, pos, ◌+ℤ◌, ◌-ℤ◌, ◌*ℤ◌, unsigned_abs, List, ℕ, Err, IfOk, IfErr, OnErr};
-ghost use Rattle.emtp_case.specs.Branch.{IsTrio};
-ghost use Rattle.emtp_case.specs.Range.{IsBetween};
-ghost use Rattle.emtp_case.specs.RunData.{IsRun};
+ghost use Rattle.emtp_case.specs.held.Branch.{IsTrio};
+ghost use Rattle.emtp_case.specs.held.Range.{IsBetween};
+ghost use Rattle.emtp_case.specs.held.RunData.{IsRun};
 ghost use Rattle.emtp_case.specs.declared.branch.PhaseState.{PhaseState};
 ghost use Rattle.emtp_fix.specs.Rounding.{near};
 ghost use Rattle.emtp_fix.specs.declared.limit.TheConstants.{LARGEST_ENTRY, LARGEST_VALUE};
-ghost use Rattle.emtp_line.specs.Held.{IsHeldTrio, TrioStands, TrioMoved, held_at_rest, held_from_histories, held_to_histories, held_modes, phase_held, trio_at_rest, with_states};
-ghost use Rattle.emtp_line.specs.Mode.{IsMode};
-ghost use Rattle.emtp_line.specs.PhaseEnd.{AreWithin, AreSmall};
-ghost use Rattle.emtp_line.specs.Phases.{mode_of_trio, next_phases, phase_end, three_states};
+ghost use Rattle.emtp_line.specs.held.Held.{IsHeldTrio, TrioStands, TrioMoved, held_at_rest, held_from_histories, held_to_histories, held_modes, phase_held, trio_at_rest, with_states};
+ghost use Rattle.emtp_line.specs.held.Mode.{IsMode};
+ghost use Rattle.emtp_line.specs.held.PhaseEnd.{AreWithin, AreSmall};
+ghost use Rattle.emtp_line.specs.Phases.{mode_of_trio, phase_end};
+ghost use Rattle.emtp_line.specs.held.Phases.{next_phases, three_states};
 
 use crate::held::HeldLine;
 use crate::mode::Mode;

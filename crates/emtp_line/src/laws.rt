@@ -1,7 +1,7 @@
 //! What is true of lines in the field's own words. The functions do nothing: their clauses are proved.
 
 ghost use Rattle.std.specs.Prelude.{◌≡◌, ◌∷◌, ◌≤◌, ◌+ℤ◌, ◌-ℤ◌, ◌*ℤ◌, neg_ℤ, unsigned_abs, pos, Some, List, ℕ, ℤ};
-ghost use Rattle.emtp_case.specs.Range.{IsBetween};
+ghost use Rattle.emtp_case.specs.held.Range.{IsBetween};
 ghost use Rattle.emtp_case.specs.StepRecord.{no_line};
 ghost use Rattle.emtp_case.specs.declared.branch.LineState.{LineState};
 ghost use Rattle.emtp_fix.specs.Rounding.{near};

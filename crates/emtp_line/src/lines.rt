@@ -1,17 +1,18 @@
 //! All lines of a case.
 
 ghost use Rattle.std.specs.Prelude.{◌≡◌, ◌^◌, ◌≤◌, ◌<◌, ◌∷◌, [], ℕ, unsigned_abs, List, length, slice_get, IfOk};
-ghost use Rattle.emtp_case.specs.Branch.{phase_of};
-ghost use Rattle.emtp_case.specs.Range.{IsBetween};
+ghost use Rattle.emtp_case.specs.held.Branch.{phase_of};
+ghost use Rattle.emtp_case.specs.held.Range.{IsBetween};
 ghost use Rattle.emtp_case.specs.StepRecord.{rest_of};
 ghost use Rattle.emtp_case.specs.declared.branch.Line.{Line};
 ghost use Rattle.emtp_case.specs.declared.branch.LineState.{LineState};
 ghost use Rattle.emtp_case.specs.declared.branch.Phase.{Phase};
 ghost use Rattle.emtp_case.specs.declared.branch.PhaseState.{PhaseState};
 ghost use Rattle.emtp_fix.specs.declared.limit.TheConstants.{LARGEST_ENTRY, LARGEST_VALUE};
-ghost use Rattle.emtp_line.specs.Held.{newest, newest_phase};
+ghost use Rattle.emtp_line.specs.held.Held.{newest, newest_phase};
 ghost use Rattle.emtp_line.specs.Line.{line_histories};
-ghost use Rattle.emtp_line.specs.Lines.{HasWaves, IsLineAt, IsPhaseAt, Moves, StandsAt, StandsFor, TrioMoves, TrioStandsAt, trio_of};
+ghost use Rattle.emtp_line.specs.Lines.{trio_of};
+ghost use Rattle.emtp_line.specs.held.Lines.{HasWaves, IsLineAt, IsPhaseAt, Moves, StandsAt, StandsFor, TrioMoves, TrioStandsAt};
 ghost use Rattle.emtp_line.specs.Mode.{mode_of_line};
 ghost use Rattle.emtp_line.specs.Phases.{modes_of, mutual_conductance, own_conductance, phase_from_history, phase_to_history};
 
@@ -37,7 +38,7 @@ pub struct Lines<'a> {
 }
 
 impl<'a> Model for Lines<'a> {
-    ghost use Rattle.emtp_line.specs.Lines.{Lining, IsLining};
+    ghost use Rattle.emtp_line.specs.held.Lines.{Lining, IsLining};
 
     ghost Value = { Lining };
 

@@ -1,11 +1,12 @@
 //! The numbers that a line, or a mode of a three-phase line, has in all steps.
 
 ghost use Rattle.std.specs.Prelude.{◌≡◌, ◌^◌, ◌≤◌, ◌*ℤ◌, unsigned_abs};
-ghost use Rattle.emtp_case.specs.Branch.{HasLineNumbers};
-ghost use Rattle.emtp_case.specs.Range.{IsBetween};
+ghost use Rattle.emtp_case.specs.held.Branch.{HasLineNumbers};
+ghost use Rattle.emtp_case.specs.held.Range.{IsBetween};
 ghost use Rattle.emtp_fix.specs.Rounding.{near};
 ghost use Rattle.emtp_fix.specs.declared.limit.TheConstants.{ATTO, LARGEST_ENTRY, LARGEST_IMPEDANCE, LEAST_IMPEDANCE, PICO};
-ghost use Rattle.emtp_line.specs.Mode.{IsMode, mode_of};
+ghost use Rattle.emtp_line.specs.Mode.{mode_of};
+ghost use Rattle.emtp_line.specs.held.Mode.{IsMode};
 
 use emtp_case::line_impedance;
 use emtp_fix::{ATTO, PICO, near, scaled};

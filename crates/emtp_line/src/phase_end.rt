@@ -3,9 +3,9 @@
 ghost use Rattle.std.specs.Prelude.{◌≡◌, ◌^◌, ◌*◌, ◌≤◌, ℕ, ℤ, pos, ◌+ℤ◌, ◌-ℤ◌, ◌*ℤ◌, ◌≤ℤ◌, unsigned_abs};
 ghost use Rattle.emtp_fix.specs.Rounding.{near};
 ghost use Rattle.emtp_fix.specs.declared.limit.TheConstants.{LARGEST_ENTRY, PICO};
-ghost use Rattle.emtp_line.specs.Held.{IsHeldTrio, held_modes};
-ghost use Rattle.emtp_line.specs.Mode.{IsMode};
-ghost use Rattle.emtp_line.specs.PhaseEnd.{AreWithin};
+ghost use Rattle.emtp_line.specs.held.Held.{IsHeldTrio, held_modes};
+ghost use Rattle.emtp_line.specs.held.Mode.{IsMode};
+ghost use Rattle.emtp_line.specs.held.PhaseEnd.{AreWithin};
 ghost use Rattle.emtp_line.specs.Phases.{Modes, own_conductance, mutual_conductance, mean, phase_currents, phase_waves, phase_end};
 ghost use Rattle.emtp_line.specs.Wave.{wave_of};
 

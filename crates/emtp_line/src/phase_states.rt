@@ -1,8 +1,9 @@
 //! What a record keeps of the three phases of a line, or the first phase that is out of range.
 
 ghost use Rattle.std.specs.Prelude.{◌≡◌, ◌<◌, IfSome, IfErr, IfOk};
-ghost use Rattle.emtp_line.specs.PhaseEnd.{AreSmall, IsSmall};
-ghost use Rattle.emtp_line.specs.Phases.{phase_state, three_of, three_states, zero_wave_at};
+ghost use Rattle.emtp_line.specs.held.PhaseEnd.{AreSmall, IsSmall};
+ghost use Rattle.emtp_line.specs.Phases.{phase_state, zero_wave_at};
+ghost use Rattle.emtp_line.specs.held.Phases.{three_of, three_states};
 
 use crate::phase_end::PhaseEnd;
 use emtp_case::PhaseState;

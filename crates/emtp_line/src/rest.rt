@@ -1,10 +1,10 @@
 //! The lines of record 0.
 
 ghost use Rattle.std.specs.Prelude.{◌≡◌, map, IfOk};
-ghost use Rattle.emtp_case.specs.RunData.{IsRun};
-ghost use Rattle.emtp_line.specs.Held.{trio_at_rest};
-ghost use Rattle.emtp_line.specs.Lines.{HasMode, mode_at, rest_at};
-ghost use Rattle.emtp_line.specs.Mode.{IsMode};
+ghost use Rattle.emtp_case.specs.held.RunData.{IsRun};
+ghost use Rattle.emtp_line.specs.held.Held.{trio_at_rest};
+ghost use Rattle.emtp_line.specs.held.Lines.{HasMode, mode_at, rest_at};
+ghost use Rattle.emtp_line.specs.held.Mode.{IsMode};
 
 use crate::held::HeldLine;
 use crate::held_trio::HeldTrio;

@@ -3,8 +3,8 @@
 ghost use Rattle.std.specs.Prelude.{◌≡◌, ◌^◌, ◌+◌, ◌≤◌, ◌+ℤ◌, ◌-ℤ◌, ◌*ℤ◌, neg_ℤ, ℤ, List, unsigned_abs, IfSome};
 ghost use Rattle.emtp_fix.specs.Rounding.{near};
 ghost use Rattle.emtp_fix.specs.declared.limit.TheConstants.{LARGEST_ENTRY, LARGEST_VALUE, PICO};
-ghost use Rattle.emtp_hist.specs.History.{Remembers};
-ghost use Rattle.emtp_line.specs.Mode.{IsMode};
+ghost use Rattle.emtp_hist.specs.held.History.{Remembers};
+ghost use Rattle.emtp_line.specs.held.Mode.{IsMode};
 ghost use Rattle.emtp_line.specs.Wave.{between, past_wave, history_of, wave_of, end_of};
 
 use crate::mode::Mode;

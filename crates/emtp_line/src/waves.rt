@@ -1,8 +1,8 @@
 //! What is held of the waves of one mode between two steps.
 
 ghost use Rattle.std.specs.Prelude.{◌≡◌, ◌∷◌, List, ℤ, IfOk};
-ghost use Rattle.emtp_line.specs.Mode.{IsMode};
-ghost use Rattle.emtp_line.specs.Waves.{IsWaves, WavesStand, waves_at_rest};
+ghost use Rattle.emtp_line.specs.held.Mode.{IsMode};
+ghost use Rattle.emtp_line.specs.held.Waves.{IsWaves, WavesStand, waves_at_rest};
 
 use crate::mode::Mode;
 use crate::wave::histories;

@@ -1,7 +1,8 @@
 -- Branches are known by their lines.
 use Rattle.std.proofs.Common.{◌≡◌, ◌≢◌, ◌++◌, ◌∙◌, sym, ap, refl, arith, ◌^◌, ◌<◌, Bool, true, false, List, [], ◌∷◌, ℕ, ℤ, length, get_or, drop, subst, codes, decimal}
 use Rattle.std.proofs.lemmas.Fmt.{decimal_injective}
-use Rattle.emtp_case.specs.Branch.{IsBranch, IsLumped, IsLine, IsPseudo, IsPhase, line_of}
+use Rattle.emtp_case.specs.Branch.{line_of}
+use Rattle.emtp_case.specs.held.Branch.{IsBranch, IsLumped, IsLine, IsPseudo, IsPhase}
 use Rattle.emtp_case.specs.declared.branch.Branch.{Branch}
 use Rattle.emtp_case.specs.declared.branch.Branch.TheVariants.{Line as OfLine, Lumped as OfLumped, Phase as OfPhase, Pseudo as OfPseudo}
 use Rattle.emtp_case.specs.declared.branch.Line.{Line}

@@ -2,9 +2,9 @@
 use Rattle.std.proofs.Common.{◌≡◌, ◌++◌, ◌∙◌, sym, ap, subst, refl, arith, ◌^◌, ◌<◌, List, [], ◌∷◌, ℕ, zero, suc, map, get_or, codes, decimal}
 use Rattle.std.specs.Prelude.{All}
 use Rattle.emtp_case.specs.Branch.{from_of, to_of}
-use Rattle.emtp_case.specs.Channel.{IsChannel}
+use Rattle.emtp_case.specs.held.Channel.{IsChannel}
 use Rattle.emtp_case.specs.ChannelName.{name_of_branch, name_of_ends, name_of_node, name_of_switch, text_of}
-use Rattle.emtp_case.specs.Name.{IsName}
+use Rattle.emtp_case.specs.held.Name.{IsName}
 use Rattle.emtp_case.specs.declared.case.Parts.{Parts}
 use Rattle.emtp_case.specs.declared.channel.Channel.{Channel}
 use Rattle.emtp_case.specs.declared.channel.Channel.TheVariants.{BranchCurrent, BranchVoltage, SwitchCurrent as CurrentChannel, NodeVoltage as NodeChannel, Tacs as OfTacs, Status, SwitchVoltage}

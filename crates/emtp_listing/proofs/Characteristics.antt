@@ -1,6 +1,7 @@
 -- Branches and their points are known by their lines.
 use Rattle.std.proofs.Common.{◌≡◌, ◌++◌, ◌∙◌, sym, ap, refl, arith, ◌^◌, ◌<◌, List, [], ℕ, get_or, drop, subst}
-use Rattle.emtp_case.specs.Branch.{IsBranch, IsPseudo, line_of, points_of}
+use Rattle.emtp_case.specs.Branch.{line_of, points_of}
+use Rattle.emtp_case.specs.held.Branch.{IsBranch, IsPseudo}
 use Rattle.emtp_case.specs.declared.branch.Branch.{Branch}
 use Rattle.emtp_case.specs.declared.branch.Branch.TheVariants.{Line as OfLine, Lumped as OfLumped, Phase as OfPhase, Pseudo as OfPseudo}
 use Rattle.emtp_case.specs.declared.branch.Pseudo.{Pseudo}

@@ -2,7 +2,7 @@
 use Rattle.std.proofs.Common.{◌≡◌, ◌++◌, ◌∙◌, sym, ap, refl, arith, ◌^◌, ◌<◌, ◌==◌, List, [], ℕ, ℤ, Option, length, get_or, drop, subst, codes}
 use Rattle.std.specs.Prelude.{if◌then◌else◌}
 use Rattle.emtp_case.specs.Branch.{points_of}
-use Rattle.emtp_case.specs.Control.{IsDevice, IsExtra}
+use Rattle.emtp_case.specs.held.Control.{IsDevice, IsExtra}
 use Rattle.emtp_case.specs.declared.control.Device.{Device}
 use Rattle.emtp_case.specs.declared.control.DeviceCode.{DeviceCode}
 use Rattle.emtp_case.specs.declared.control.DeviceCode.TheVariants.{Counter, Delay, DelayedPulse, Derivative, EffectiveValue, Extreme, Gate, GateAbove, Integral, PeakHold, SampleHold, Selector, Table, Window}

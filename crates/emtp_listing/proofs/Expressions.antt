@@ -3,8 +3,8 @@ use Rattle.std.proofs.Common.{◌≡◌, ◌∙◌, sym, ap, refl, arith, ◌^�
 use Rattle.std.specs.Prelude.{All, if◌then◌else◌}
 use Rattle.std.specs.Str.{bytes_eq}
 use Rattle.std.proofs.lemmas.List.Elements.{All-weaker}
-use Rattle.emtp_case.specs.Control.{IsFormula}
-use Rattle.emtp_case.specs.Expr.{FitsPlaces}
+use Rattle.emtp_case.specs.held.Control.{IsFormula}
+use Rattle.emtp_case.specs.held.Expr.{FitsPlaces}
 use Rattle.emtp_case.specs.declared.control.Formula.{Formula}
 use Rattle.emtp_case.specs.declared.control.Group.{Group}
 use Rattle.emtp_case.specs.declared.control.Group.TheVariants.{Input as BeforeBlocks, Inside, Output}

@@ -1,8 +1,8 @@
 -- The lines of the case, of its run and of its names.
 use Rattle.std.proofs.Common.{◌≡◌, ◌∙◌, ap, refl, arith, ◌^◌, ◌<◌, List, [], ◌∷◌, ℕ, ℤ, length, get_or, drop, codes, decimal}
-use Rattle.emtp_case.specs.Name.{IsName}
-use Rattle.emtp_case.specs.Case.{HasCounts}
-use Rattle.emtp_case.specs.RunData.{IsRun}
+use Rattle.emtp_case.specs.held.Name.{IsName}
+use Rattle.emtp_case.specs.held.Case.{HasCounts}
+use Rattle.emtp_case.specs.held.RunData.{IsRun}
 use Rattle.emtp_case.specs.declared.case.Parts.{Parts}
 use Rattle.emtp_case.specs.declared.run_data.RunData.{RunData}
 use Rattle.emtp_listing.specs.Entry.{count_entry, number_entry, word_entry}

@@ -11,7 +11,8 @@ use Rattle.std.proofs.lemmas.Str.Parse.{IsNumeralModel, numerals_by_fold}
 use Rattle.std.proofs.lemmas.Fmt.{digits_decimal, decimal_injective, decimal_nonempty}
 use Rattle.std.proofs.Math.Nat.{mod-lt, div-add-mod', div-le_self}
 use Rattle.emtp_card.specs.Decimal.{with_digits, number_of}
-use Rattle.emtp_fix.specs.Decimal.{fraction, written, point_fraction, fixed_text}
+use Rattle.emtp_fix.specs.Decimal.{fraction, point_fraction, fixed_text}
+use Rattle.emtp_fix.specs.held.Decimal.{written}
 use Rattle.emtp_fix.proofs.Digits.{fraction-none, fraction-digit, fraction-written, digit-less, point_fraction-none, point_fraction-some, power-above}
 use Rattle.emtp_listing.specs.Entry.{count_entry, figure_entry, number_entry, place_entry}
 use Rattle.emtp_listing.specs.Law.{IsFree}

@@ -4,8 +4,9 @@ use Rattle.std.specs.Prelude.{All, ◌≤ℤ◌, ◌<ℤ◌}
 use Rattle.std.proofs.lemmas.Int.{ints}
 use Rattle.std.proofs.lemmas.List.{length-drop, length-take-le}
 use Rattle.std.proofs.lemmas.List.Elements.{All-cons, All-from_get_or, All-get_or, All-nil, All-same}
-use Rattle.emtp_case.specs.Branch.{IsCharacteristic, IsSegment, origin, points_of}
-use Rattle.emtp_case.specs.Control.{AreTimes, HasDevicePoints, IsTable}
+use Rattle.emtp_case.specs.Branch.{origin, points_of}
+use Rattle.emtp_case.specs.held.Branch.{IsCharacteristic, IsSegment}
+use Rattle.emtp_case.specs.held.Control.{AreTimes, HasDevicePoints, IsTable}
 use Rattle.emtp_case.specs.declared.branch.Point.{Point}
 use Rattle.emtp_case.specs.declared.control.DeviceCode.{DeviceCode}
 use Rattle.emtp_case.specs.declared.control.DeviceCode.TheVariants.{Counter, Delay, DelayedPulse, Derivative, EffectiveValue, Extreme, Gate, GateAbove, Integral, PeakHold, SampleHold, Selector, Table, Window}

@@ -3,14 +3,15 @@ use Rattle.std.proofs.Common.{◌≡◌, ◌++◌, ◌∙◌, sym, ap, refl, ari
 use Rattle.std.specs.Prelude.{All}
 use Rattle.std.proofs.lemmas.Int.{ints}
 use Rattle.std.proofs.lemmas.List.Elements.{All-cons, All-head, All-nil, All-tail}
-use Rattle.emtp_case.specs.Branch.{IsBranch, IsTrio, line_of}
-use Rattle.emtp_case.specs.Case.{IsCase}
-use Rattle.emtp_case.specs.Channel.{IsChannel}
-use Rattle.emtp_case.specs.Control.{IsBlock, IsExtra}
-use Rattle.emtp_case.specs.Name.{IsName}
-use Rattle.emtp_case.specs.Sizes.{sizes_of}
-use Rattle.emtp_case.specs.Source.{IsSource, IsTacsSource}
-use Rattle.emtp_case.specs.Switch.{IsSwitch}
+use Rattle.emtp_case.specs.Branch.{line_of}
+use Rattle.emtp_case.specs.held.Branch.{IsBranch, IsTrio}
+use Rattle.emtp_case.specs.held.Case.{IsCase}
+use Rattle.emtp_case.specs.held.Channel.{IsChannel}
+use Rattle.emtp_case.specs.held.Control.{IsBlock, IsExtra}
+use Rattle.emtp_case.specs.held.Name.{IsName}
+use Rattle.emtp_case.specs.held.Sizes.{sizes_of}
+use Rattle.emtp_case.specs.held.Source.{IsSource, IsTacsSource}
+use Rattle.emtp_case.specs.held.Switch.{IsSwitch}
 use Rattle.emtp_case.specs.declared.branch.Branch.{Branch}
 use Rattle.emtp_case.specs.declared.case.Parts.{Parts}
 use Rattle.emtp_case.specs.declared.control.Block.{Block}

@@ -1,7 +1,7 @@
 -- The courses of sources are known by their entries.
 use Rattle.std.proofs.Common.{◌≡◌, ◌∙◌, ap, refl, arith, ◌-◌, ◌^◌, List, [], ℕ, ℤ, get_or, codes}
-use Rattle.emtp_case.specs.Sizes.{Sizes}
-use Rattle.emtp_case.specs.Source.{HasShapeNumbers, IsControlShape, IsNetworkShape}
+use Rattle.emtp_case.specs.held.Sizes.{Sizes}
+use Rattle.emtp_case.specs.held.Source.{HasShapeNumbers, IsControlShape, IsNetworkShape}
 use Rattle.emtp_case.specs.declared.source.Shape.{Shape}
 use Rattle.emtp_case.specs.declared.source.Shape.TheVariants.{Cosine, NodeVoltage, Pulse, Ramp, Saw, Step, SwitchCurrent, SwitchStatus, Tacs}
 use Rattle.emtp_case.specs.declared.source.Source.{Source}

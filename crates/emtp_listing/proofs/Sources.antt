@@ -2,8 +2,8 @@
 use Rattle.std.proofs.Common.{◌≡◌, ◌∙◌, sym, ap, refl, arith, ◌^◌, ◌<◌, ◌≤◌, Bool, true, false, List, [], ◌∷◌, ℕ, ℤ, pos, negsuc, unsigned_abs, get_or, drop, codes, Option}
 use Rattle.std.specs.Option.{ForSome}
 use Rattle.std.proofs.lemmas.Int.{ints}
-use Rattle.emtp_case.specs.Range.{IsBetween}
-use Rattle.emtp_case.specs.Source.{IsSource, IsTacsSource}
+use Rattle.emtp_case.specs.held.Range.{IsBetween}
+use Rattle.emtp_case.specs.held.Source.{IsSource, IsTacsSource}
 use Rattle.emtp_case.specs.declared.source.Shape.{Shape}
 use Rattle.emtp_case.specs.declared.source.Source.{Source}
 use Rattle.emtp_listing.specs.ControlLines.{tacs_source_line}

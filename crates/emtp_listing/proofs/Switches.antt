@@ -1,6 +1,6 @@
 -- Switches are known by their lines.
 use Rattle.std.proofs.Common.{◌≡◌, ◌∙◌, ap, refl, arith, ◌^◌, ◌<◌, List, [], ◌∷◌, ℕ, ℤ, length, get_or, drop, codes, Option}
-use Rattle.emtp_case.specs.Switch.{IsSwitch, IsSwitchKind}
+use Rattle.emtp_case.specs.held.Switch.{IsSwitch, IsSwitchKind}
 use Rattle.emtp_case.specs.declared.switch.Switch.{Switch}
 use Rattle.emtp_case.specs.declared.switch.SwitchKind.{SwitchKind}
 use Rattle.emtp_case.specs.declared.switch.SwitchKind.TheVariants.{Control, Measuring, Time, Valve}

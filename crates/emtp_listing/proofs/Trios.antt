@@ -1,7 +1,7 @@
 -- The modes of three-phase lines are known by their lines.
 use Rattle.std.proofs.Common.{◌≡◌, ◌∙◌, ap, refl, arith, ◌^◌, List, [], ◌∷◌, ℕ, ℤ, pos, length, get_or, drop, codes}
 use Rattle.std.specs.Prelude.{◌≤ℤ◌}
-use Rattle.emtp_case.specs.Branch.{IsTrio}
+use Rattle.emtp_case.specs.held.Branch.{IsTrio}
 use Rattle.emtp_case.specs.declared.branch.Trio.{Trio}
 use Rattle.emtp_case.specs.declared.run_data.RunData.{RunData}
 use Rattle.emtp_listing.specs.Law.{IsFree, AllFree, HasModes}

@@ -4,7 +4,7 @@ use Rattle.std.specs.Prelude.{All}
 use Rattle.std.specs.Option.{ForSome}
 use Rattle.std.proofs.lemmas.List.{append_cancel_left}
 use Rattle.std.proofs.lemmas.List.Elements.{All-get_or}
-use Rattle.emtp_case.specs.Name.{IsName}
+use Rattle.emtp_case.specs.held.Name.{IsName}
 use Rattle.emtp_fix.specs.Decimal.{fixed_text}
 use Rattle.emtp_listing.specs.Entry.{number_entry, time_entry, word_entry, variable_entry, choice_entry}
 use Rattle.emtp_listing.specs.Law.{IsFree, AreApart}

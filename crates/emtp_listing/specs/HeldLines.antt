@@ -1,6 +1,6 @@
 -- What the calls that put a line hold of its record.
 use Rattle.std.specs.Prelude.{◌<◌, ◌≤◌}
-use Rattle.emtp_case.specs.Sizes.{Sizes}
+use Rattle.emtp_case.specs.held.Sizes.{Sizes}
 use Rattle.emtp_case.specs.declared.source.Shape.{Shape}
 use Rattle.emtp_case.specs.declared.source.Shape.TheVariants.{NodeVoltage, SwitchCurrent, SwitchStatus, Tacs}
 

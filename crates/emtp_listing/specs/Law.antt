@@ -2,8 +2,8 @@
 use Rattle.std.specs.Prelude.{◌≡◌, ◌<◌, ◌^◌, ◌==◌, ◌∷◌, not, true, [], All, List, length, map, pos, slice_index_or, ◌≤ℤ◌, ℕ}
 use Rattle.std.specs.List.{list_all}
 use Rattle.emtp_case.specs.Branch.{line_of, points_of}
-use Rattle.emtp_case.specs.Name.{IsName}
-use Rattle.emtp_case.specs.Sizes.{Sizes}
+use Rattle.emtp_case.specs.held.Name.{IsName}
+use Rattle.emtp_case.specs.held.Sizes.{Sizes}
 use Rattle.emtp_case.specs.declared.branch.Branch.{Branch}
 use Rattle.emtp_case.specs.declared.branch.Branch.TheVariants.{Pseudo as OfPseudo}
 use Rattle.emtp_case.specs.declared.branch.Point.{Point}

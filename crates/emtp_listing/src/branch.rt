@@ -1,8 +1,9 @@
 //! The lines of branches.
 
 ghost use Rattle.std.specs.Prelude.{◌≡◌, ◌+◌, ◌≤◌, ◌++◌, ◌∷◌, [], OnOk, codes, length};
-ghost use Rattle.emtp_case.specs.Branch.{IsBranch, from_of, points_of, to_of};
-ghost use Rattle.emtp_case.specs.Sizes.{sizes_of};
+ghost use Rattle.emtp_case.specs.Branch.{from_of, points_of, to_of};
+ghost use Rattle.emtp_case.specs.held.Branch.{IsBranch};
+ghost use Rattle.emtp_case.specs.held.Sizes.{sizes_of};
 ghost use Rattle.emtp_listing.specs.Puts.{Puts};
 ghost use Rattle.emtp_listing.specs.Lines.{all_separated, card_line, lines_text, numbered};
 ghost use Rattle.emtp_listing.specs.NetworkLines.{series_entries, line_entries, pseudo_word, pseudo_entries, phase_entries, branch_line, branch_group, branch_points, segment_entries, segment_line, trio_line};

@@ -1,9 +1,9 @@
 //! The lines of channels.
 
 ghost use Rattle.std.specs.Prelude.{◌≡◌, ◌+◌, ◌-◌, ◌<◌, ◌≤◌, ◌++◌, ◌∷◌, [], OnOk, codes, length, slice_index_or};
-ghost use Rattle.emtp_case.specs.Channel.{IsChannel};
+ghost use Rattle.emtp_case.specs.held.Channel.{IsChannel};
 ghost use Rattle.emtp_case.specs.ChannelName.{name_of_channel, text_of};
-ghost use Rattle.emtp_case.specs.Sizes.{sizes_of};
+ghost use Rattle.emtp_case.specs.held.Sizes.{sizes_of};
 ghost use Rattle.emtp_case.specs.declared.channel.Channel.{Channel};
 ghost use Rattle.emtp_listing.specs.ChannelLines.{channel_line, measured_entry, measured_word};
 ghost use Rattle.emtp_listing.specs.Entry.{word_entry};

@@ -1,8 +1,8 @@
 //! The lines of blocks.
 
 ghost use Rattle.std.specs.Prelude.{◌≡◌, ◌+◌, ◌<◌, ◌≤◌, ◌++◌, ◌∷◌, [], All, OnOk, codes, length, map};
-ghost use Rattle.emtp_case.specs.Control.{IsBlock, IsBound};
-ghost use Rattle.emtp_case.specs.Sizes.{sizes_of};
+ghost use Rattle.emtp_case.specs.held.Control.{IsBlock, IsBound};
+ghost use Rattle.emtp_case.specs.held.Sizes.{sizes_of};
 ghost use Rattle.emtp_case.specs.declared.control.Input.{Input};
 ghost use Rattle.emtp_listing.specs.ControlLines.{block_entries, block_lines, bound_entry, input_entries, input_entry, polynomial_line, power_entry, input_sign};
 ghost use Rattle.emtp_listing.specs.Lines.{all_separated, card_line, lines_text, numbered, separated};

@@ -1,8 +1,8 @@
 //! The lines of supplemental cards: devices and formulas.
 
 ghost use Rattle.std.specs.Prelude.{◌≡◌, ◌+◌, ◌<◌, ◌≤◌, ◌++◌, ◌∷◌, [], All, OnOk, codes, length, map};
-ghost use Rattle.emtp_case.specs.Control.{IsDevice, IsExtra, IsFormula};
-ghost use Rattle.emtp_case.specs.Sizes.{sizes_of};
+ghost use Rattle.emtp_case.specs.held.Control.{IsDevice, IsExtra, IsFormula};
+ghost use Rattle.emtp_case.specs.held.Sizes.{sizes_of};
 ghost use Rattle.emtp_listing.specs.ControlLines.{a_places, a_tail, binary_word, code_number, device_entries, extra_card_line, extra_lines, extra_points, formula_entries, group_number, node_of_expr_entry, table_entries, table_line, unary_word};
 ghost use Rattle.emtp_listing.specs.Entry.{variable_entry};
 ghost use Rattle.emtp_listing.specs.Lines.{all_separated, card_line, lines_text, numbered, separated};

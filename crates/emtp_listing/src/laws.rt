@@ -1,7 +1,7 @@
 //! What is true of listings in the reader's own words. The functions do nothing: their clauses are proved.
 
 ghost use Rattle.std.specs.Prelude.{◌≡◌, ◌<◌, ◌^◌, ℕ, ℤ, List, unsigned_abs};
-ghost use Rattle.emtp_case.specs.Case.{IsCase};
+ghost use Rattle.emtp_case.specs.held.Case.{IsCase};
 ghost use Rattle.emtp_case.specs.declared.case.Parts.{Parts};
 ghost use Rattle.emtp_fix.specs.Decimal.{fixed_text};
 ghost use Rattle.emtp_listing.specs.Law.{AllFree, AreApart, AreSame, FitsTypes};

@@ -1,7 +1,7 @@
 //! The listing of a case, section by section.
 
 ghost use Rattle.std.specs.Prelude.{◌≡◌, ◌≤◌, ◌++◌, ◌∷◌, [], IfOk, OnOk, codes, length, map};
-ghost use Rattle.emtp_case.specs.Case.{IsCase};
+ghost use Rattle.emtp_case.specs.held.Case.{IsCase};
 ghost use Rattle.emtp_listing.specs.ControlLines.{block_lines, extra_lines, tacs_source_line};
 ghost use Rattle.emtp_listing.specs.Lines.{all_separated, grouped, lines_text, numbered};
 ghost use Rattle.emtp_listing.specs.Listing.{case_line, control_part, listing, name_line, network_lines, run_line};

@@ -1,8 +1,8 @@
 //! The lines of sources, of the network and of the control.
 
 ghost use Rattle.std.specs.Prelude.{◌≡◌, ◌≤◌, ◌++◌, [], ◌∷◌, OnOk, codes, length};
-ghost use Rattle.emtp_case.specs.Sizes.{sizes_of};
-ghost use Rattle.emtp_case.specs.Source.{IsSource, IsTacsSource};
+ghost use Rattle.emtp_case.specs.held.Sizes.{sizes_of};
+ghost use Rattle.emtp_case.specs.held.Source.{IsSource, IsTacsSource};
 ghost use Rattle.emtp_listing.specs.ControlLines.{tacs_source_line};
 ghost use Rattle.emtp_listing.specs.HeldLines.{IsListedShape};
 ghost use Rattle.emtp_listing.specs.Puts.{Puts};

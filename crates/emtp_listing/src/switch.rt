@@ -1,8 +1,8 @@
 //! The lines of switches.
 
 ghost use Rattle.std.specs.Prelude.{◌≡◌, ◌≤◌, ◌++◌, [], ◌∷◌, OnOk, codes, length};
-ghost use Rattle.emtp_case.specs.Sizes.{sizes_of};
-ghost use Rattle.emtp_case.specs.Switch.{IsSwitch, IsSwitchKind};
+ghost use Rattle.emtp_case.specs.held.Sizes.{sizes_of};
+ghost use Rattle.emtp_case.specs.held.Switch.{IsSwitch, IsSwitchKind};
 ghost use Rattle.emtp_listing.specs.Puts.{Puts};
 ghost use Rattle.emtp_listing.specs.Lines.{all_separated, card_line};
 ghost use Rattle.emtp_listing.specs.NetworkLines.{switch_word, switch_kind_entries, switch_line};

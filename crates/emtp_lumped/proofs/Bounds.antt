@@ -3,13 +3,15 @@ use Rattle.std.proofs.Common.{◌≡◌, ◌*◌, ◌^◌, ℤ, pos, ◌+ℤ◌,
 use Rattle.std.proofs.lemmas.Int.{ints}
 use Rattle.std.specs.Ordering.{int_eq}
 use Rattle.std.specs.Prelude.{if◌then◌else◌, Bool, true, false}
-use Rattle.emtp_case.specs.Branch.{HasSeriesNumbers, inductor_impedance, capacitor_impedance, series_impedance}
-use Rattle.emtp_case.specs.Range.{IsBetween}
+use Rattle.emtp_case.specs.Branch.{inductor_impedance, capacitor_impedance, series_impedance}
+use Rattle.emtp_case.specs.held.Branch.{HasSeriesNumbers}
+use Rattle.emtp_case.specs.held.Range.{IsBetween}
 use Rattle.emtp_case.specs.declared.branch.Lumped.{Lumped}
 use Rattle.emtp_fix.specs.Rounding.{near}
 use Rattle.emtp_case.proofs.Impedances.{conductance_range}
 use Rattle.emtp_fix.proofs.Quotients.{near-nonneg}
-use Rattle.emtp_lumped.specs.Companion.{companion_of, IsCompanion}
+use Rattle.emtp_lumped.specs.Companion.{companion_of}
+use Rattle.emtp_lumped.specs.held.Companion.{IsCompanion}
 
 inductor-nonneg : (dt l : ℤ) → IsBetween 1000 (10 ^ 12) dt → IsBetween 0 (10 ^ 15) l → pos 0 ≤ℤ inductor_impedance dt l
 inductor-nonneg dt l h h' = near-nonneg (pos (2 * 10 ^ 9) *ℤ l) dt (omega (arith, ints, h'.least)) (omega (arith, ints, h.least))

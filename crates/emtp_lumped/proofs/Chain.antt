@@ -9,8 +9,9 @@ use Rattle.emtp_fix.specs.declared.limit.TheConstants.{MICRO, PICO}
 use Rattle.emtp_fix.proofs.Quotients.{near-times_zero, near-zero_times}
 use Rattle.emtp_fix.proofs.Ranges.{in_range-chain}
 use Rattle.emtp_lumped.specs.declared.companion.Companion.{Companion}
-use Rattle.emtp_lumped.specs.Companion.{IsResistor}
-use Rattle.emtp_lumped.specs.Step.{current_of, inductor_voltage_of, capacitor_voltage_of, history_voltage_of, next_state, HasNoHistory, current_alone}
+use Rattle.emtp_lumped.specs.held.Companion.{IsResistor}
+use Rattle.emtp_lumped.specs.Step.{current_of, inductor_voltage_of, capacitor_voltage_of, history_voltage_of, next_state}
+use Rattle.emtp_lumped.specs.held.Step.{HasNoHistory, current_alone}
 
 -- the chain with its four links given
 abbrev linked : ℤ → (ℤ → ℤ) → (ℤ → ℤ) → (ℤ → ℤ → ℤ → ℤ) → Option LumpedState

@@ -6,10 +6,10 @@ use Rattle.std.proofs.lemmas.List.{get_or-map, get_or_default, get_or-set_same, 
 use Rattle.std.proofs.lemmas.List.Elements.{All-map, All-set, All-weaker}
 use Rattle.std.proofs.lemmas.Option.{slice_get_within, get_or_from_slice_get}
 use Rattle.std.proofs.Math.ListN.{length-set}
-use Rattle.emtp_case.specs.Branch.{IsBranch}
-use Rattle.emtp_case.specs.Sizes.{Sizes, sizes_of}
-use Rattle.emtp_case.specs.Case.{IsCase}
-use Rattle.emtp_case.specs.Range.{IsBetween}
+use Rattle.emtp_case.specs.held.Branch.{IsBranch}
+use Rattle.emtp_case.specs.held.Sizes.{Sizes, sizes_of}
+use Rattle.emtp_case.specs.held.Case.{IsCase}
+use Rattle.emtp_case.specs.held.Range.{IsBetween}
 use Rattle.emtp_case.specs.StepRecord.{no_lumped, lumped_of, branch_at_rest, rest_of}
 use Rattle.emtp_case.specs.declared.branch.Branch.{Branch}
 use Rattle.emtp_case.specs.declared.branch.Branch.TheVariants.{Lumped as OfLumped, Line as OfLine, Pseudo as OfPseudo, Phase as OfPhase}
@@ -20,11 +20,14 @@ use Rattle.emtp_case.specs.declared.case.Parts.{Parts}
 use Rattle.emtp_case.specs.declared.run_data.RunData.{RunData}
 use Rattle.emtp_fix.specs.declared.limit.TheConstants.{PICO}
 use Rattle.emtp_fix.proofs.Quotients.{near-product, near-times_zero}
-use Rattle.emtp_lumped.specs.Companion.{companion_of, IsCompanion}
+use Rattle.emtp_lumped.specs.Companion.{companion_of}
+use Rattle.emtp_lumped.specs.held.Companion.{IsCompanion}
 use Rattle.emtp_fix.specs.declared.limit.OutOfRange.{OutOfRange}
-use Rattle.emtp_lumped.specs.Step.{IsInRange, history_current_of, next_state}
-use Rattle.emtp_lumped.specs.Held.{IsHeld, held_at_rest, with_state}
-use Rattle.emtp_lumped.specs.Lumps.{Lumping, IsLumping, IsSeries, StandsAt, StandsFor, states_of, HasNumbers, rest_at, branch_at, newest, next_of, no_companion, Moves}
+use Rattle.emtp_lumped.specs.Step.{history_current_of, next_state}
+use Rattle.emtp_lumped.specs.held.Step.{IsInRange}
+use Rattle.emtp_lumped.specs.held.Held.{IsHeld, held_at_rest, with_state}
+use Rattle.emtp_lumped.specs.Lumps.{states_of, newest, next_of}
+use Rattle.emtp_lumped.specs.held.Lumps.{Lumping, IsLumping, IsSeries, StandsAt, StandsFor, HasNumbers, rest_at, branch_at, no_companion, Moves}
 use Rattle.emtp_lumped.specs.declared.companion.Companion.{Companion}
 use Rattle.emtp_lumped.specs.declared.held.HeldBranch.{HeldBranch}
 use Rattle.emtp_lumped.proofs.Bounds.{companion-fits}

@@ -1,8 +1,8 @@
 //! The companion of a series branch: what its card makes of it, the same in all steps.
 
 ghost use Rattle.std.specs.Prelude.{◌≡◌, ◌^◌, ◌≤◌, ◌+ℤ◌, unsigned_abs};
-ghost use Rattle.emtp_case.specs.Branch.{HasSeriesNumbers};
-ghost use Rattle.emtp_case.specs.Range.{IsBetween};
+ghost use Rattle.emtp_case.specs.held.Branch.{HasSeriesNumbers};
+ghost use Rattle.emtp_case.specs.held.Range.{IsBetween};
 ghost use Rattle.emtp_fix.specs.Rounding.{near};
 ghost use Rattle.emtp_fix.specs.declared.limit.TheConstants.{ATTO, LARGEST_ENTRY, LARGEST_IMPEDANCE, LEAST_IMPEDANCE};
 ghost use Rattle.emtp_lumped.specs.Companion.{companion_of};

@@ -1,8 +1,8 @@
 //! What is held of one series branch.
 
 ghost use Rattle.std.specs.Prelude.{◌≡◌, ◌^◌, ◌≤◌, unsigned_abs, option_map, IfSome};
-ghost use Rattle.emtp_lumped.specs.Companion.{IsCompanion};
-ghost use Rattle.emtp_lumped.specs.Held.{IsHeld, held_at_rest, with_state};
+ghost use Rattle.emtp_lumped.specs.held.Companion.{IsCompanion};
+ghost use Rattle.emtp_lumped.specs.held.Held.{IsHeld, held_at_rest, with_state};
 ghost use Rattle.emtp_lumped.specs.Step.{next_state};
 
 use crate::companion::Companion;

@@ -4,8 +4,9 @@ ghost use Rattle.std.specs.Prelude.{◌≡◌, ◌*ℤ◌, pos, Some};
 ghost use Rattle.emtp_case.specs.StepRecord.{no_lumped};
 ghost use Rattle.emtp_fix.specs.Rounding.{near};
 ghost use Rattle.emtp_fix.specs.declared.limit.TheConstants.{PICO};
-ghost use Rattle.emtp_lumped.specs.Companion.{IsResistor};
-ghost use Rattle.emtp_lumped.specs.Step.{next_state, current_alone, HasNoHistory};
+ghost use Rattle.emtp_lumped.specs.held.Companion.{IsResistor};
+ghost use Rattle.emtp_lumped.specs.Step.{next_state};
+ghost use Rattle.emtp_lumped.specs.held.Step.{current_alone, HasNoHistory};
 
 use crate::companion::Companion;
 use emtp_case::LumpedState;

@@ -1,14 +1,15 @@
 //! All series branches of a case.
 
 ghost use Rattle.std.specs.Prelude.{◌≡◌, ◌^◌, ◌≤◌, ◌∷◌, [], List, ◌-ℤ◌, unsigned_abs, map, IfOk};
-ghost use Rattle.emtp_case.specs.Range.{IsBetween};
-ghost use Rattle.emtp_case.specs.RunData.{IsRun};
+ghost use Rattle.emtp_case.specs.held.Range.{IsBetween};
+ghost use Rattle.emtp_case.specs.held.RunData.{IsRun};
 ghost use Rattle.emtp_case.specs.StepRecord.{rest_of};
 ghost use Rattle.emtp_case.specs.declared.branch.Lumped.{Lumped};
 ghost use Rattle.emtp_case.specs.declared.branch.LumpedState.{LumpedState};
 ghost use Rattle.emtp_fix.specs.declared.limit.TheConstants.{LARGEST_ENTRY};
 ghost use Rattle.emtp_lumped.specs.Companion.{companion_of};
-ghost use Rattle.emtp_lumped.specs.Lumps.{IsSeries, StandsAt, StandsFor, Moves, newest, HasNumbers, rest_at};
+ghost use Rattle.emtp_lumped.specs.Lumps.{newest};
+ghost use Rattle.emtp_lumped.specs.held.Lumps.{IsSeries, StandsAt, StandsFor, Moves, HasNumbers, rest_at};
 ghost use Rattle.emtp_lumped.specs.Step.{history_current_of};
 
 use crate::companion::Companion;
@@ -28,7 +29,7 @@ pub struct Lumps<'a> {
 }
 
 impl<'a> Model for Lumps<'a> {
-    ghost use Rattle.emtp_lumped.specs.Lumps.{Lumping, IsLumping};
+    ghost use Rattle.emtp_lumped.specs.held.Lumps.{Lumping, IsLumping};
 
     ghost Value = { Lumping };
 

@@ -4,8 +4,9 @@ ghost use Rattle.std.specs.Prelude.{◌≡◌, ◌^◌, ◌*◌, ◌≤◌, ◌*
 ghost use Rattle.emtp_fix.specs.Limit.{in_range};
 ghost use Rattle.emtp_fix.specs.Rounding.{near};
 ghost use Rattle.emtp_fix.specs.declared.limit.TheConstants.{LARGEST_VALUE, LARGEST_ENTRY, MICRO, PICO};
-ghost use Rattle.emtp_lumped.specs.Companion.{IsCompanion};
-ghost use Rattle.emtp_lumped.specs.Step.{IsInRange, history_current_of, current_of, inductor_voltage_of, capacitor_voltage_of, history_voltage_of, next_state};
+ghost use Rattle.emtp_lumped.specs.held.Companion.{IsCompanion};
+ghost use Rattle.emtp_lumped.specs.Step.{history_current_of, current_of, inductor_voltage_of, capacitor_voltage_of, history_voltage_of, next_state};
+ghost use Rattle.emtp_lumped.specs.held.Step.{IsInRange};
 
 use crate::companion::Companion;
 use emtp_case::LumpedState;

@@ -8,7 +8,8 @@ use Rattle.emtp_net.specs.Residual.{residual_of}
 use Rattle.emtp_net.specs.Step.{network_part}
 use Rattle.emtp_net.specs.declared.fault.NetFault.{NetFault}
 use Rattle.emtp_machine.specs.History.{History, advanced, after_step, history_upto}
-use Rattle.emtp_machine.specs.Laws.{IsBalanced, IsChain, IsRefusal, records_upto}
+use Rattle.emtp_machine.specs.Laws.{IsBalanced, records_upto}
+use Rattle.emtp_machine.specs.held.Laws.{IsChain, IsRefusal}
 use Rattle.emtp_machine.specs.Next.{Fault, joined, measured_of, next, with_control}
 use Rattle.emtp_machine.specs.declared.end.End.{End}
 use Rattle.emtp_tacs.specs.Part.{ControlPart}

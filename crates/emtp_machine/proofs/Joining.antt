@@ -4,24 +4,29 @@ use Rattle.std.specs.Prelude.{Contains}
 use Rattle.std.proofs.lemmas.List.Elements.{Contains-get_or}
 use Rattle.emtp_case.specs.StepRecord.{StepRecord}
 use Rattle.emtp_case.specs.declared.case.Parts.{Parts}
-use Rattle.emtp_machine.specs.Controlled.{IsNamed, IsOf, StandsFor, StepsTo, Stops}
-use Rattle.emtp_machine.specs.History.{end_at, next_redone, next_ticks, redone_by, ticks_by}
+use Rattle.emtp_machine.specs.Controlled.{IsNamed}
+use Rattle.emtp_machine.specs.held.Controlled.{IsOf, StandsFor, StepsTo, Stops}
+use Rattle.emtp_machine.specs.History.{end_at, next_redone, redone_by}
+use Rattle.emtp_machine.specs.held.History.{next_ticks, ticks_by}
 use Rattle.emtp_machine.specs.Next.{control_cause, control_fault, joined, measured_of, network_fault, next, node_name, record_of, variable_name, with_control}
 use Rattle.emtp_machine.specs.declared.controlled.ControlledNetwork.{ControlledNetwork}
 use Rattle.emtp_machine.specs.declared.end.End.{End}
-use Rattle.emtp_net.specs.Fault.{IsNode}
-use Rattle.emtp_net.specs.Network.{Net, StandsFor as NetworkStandsFor, StepsTo as NetworkStepsTo}
-use Rattle.emtp_net.specs.Part.{NetworkPart, network_of}
-use Rattle.emtp_net.specs.Redone.{net_redone, step_redone, step_ticks}
-use Rattle.emtp_net.specs.Stages.{step_adds}
+use Rattle.emtp_net.specs.held.Fault.{IsNode}
+use Rattle.emtp_net.specs.held.Network.{Net, StandsFor as NetworkStandsFor, StepsTo as NetworkStepsTo}
+use Rattle.emtp_net.specs.Part.{NetworkPart}
+use Rattle.emtp_net.specs.held.Part.{network_of}
+use Rattle.emtp_net.specs.Redone.{net_redone, step_redone}
+use Rattle.emtp_net.specs.held.Redone.{step_ticks}
+use Rattle.emtp_net.specs.held.Stages.{step_adds}
 use Rattle.emtp_net.specs.Step.{network_part}
 use Rattle.emtp_net.specs.declared.fault.NetFault.{NetFault}
 use Rattle.emtp_net.specs.declared.fault.NetFault.TheVariants.{Range, Residual, Tied, ZeroPivot}
 use Rattle.emtp_tacs.specs.Part.{ControlPart}
-use Rattle.emtp_tacs.specs.Redone.{control_redone, control_step_redone, control_step_ticks}
-use Rattle.emtp_tacs.specs.Stages.{NamesVariable}
+use Rattle.emtp_tacs.specs.Redone.{control_redone, control_step_redone}
+use Rattle.emtp_tacs.specs.held.Redone.{control_step_ticks}
+use Rattle.emtp_tacs.specs.held.Stages.{NamesVariable}
 use Rattle.emtp_tacs.specs.Step.{Measured, control_step}
-use Rattle.emtp_tacs.specs.Tacs.{HeldControl, StandsFor as ControlStandsFor, StepsTo as ControlStepsTo}
+use Rattle.emtp_tacs.specs.held.Tacs.{HeldControl, StandsFor as ControlStandsFor, StepsTo as ControlStepsTo}
 use Rattle.emtp_tacs.specs.declared.fault.TacsFault.{TacsFault}
 
 -- ---- the network refuses a step

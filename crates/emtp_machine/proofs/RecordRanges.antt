@@ -5,8 +5,9 @@ use Rattle.std.proofs.lemmas.Bool.{cases_eq}
 use Rattle.std.proofs.lemmas.Int.{ints, clamps}
 use Rattle.std.proofs.lemmas.List.Elements.{All-append, All-cons, All-head, All-map, All-nil, All-replicate, All-tail}
 use Rattle.emtp_case.specs.Branch.{from_of, to_of}
-use Rattle.emtp_case.specs.Case.{IsCase}
-use Rattle.emtp_case.specs.RunData.{IsRun, samples_of}
+use Rattle.emtp_case.specs.held.Case.{IsCase}
+use Rattle.emtp_case.specs.RunData.{samples_of}
+use Rattle.emtp_case.specs.held.RunData.{IsRun}
 use Rattle.emtp_case.specs.StepRecord.{BranchState, StepRecord, before_start, branch_at_rest, current_of, is_closed, latest, rest_of, switch_state_at, voltage_at}
 use Rattle.emtp_case.specs.declared.branch.Branch.{Branch}
 use Rattle.emtp_case.specs.declared.branch.Branch.TheVariants.{Line as OfLine, Lumped as OfLumped, Phase as OfPhase, Pseudo as OfPseudo}

@@ -3,7 +3,8 @@ use Rattle.std.proofs.Common.{◌≡◌, ℕ, zero, suc, ◌+◌, ◌*◌, ◌<�
 use Rattle.std.proofs.Math.Seq.{take-length}
 use Rattle.std.proofs.Math.Nat.{mul-le-mul_right}
 use Rattle.std.proofs.lemmas.List.{get_or-take, get_or-drop, take-append-le, drop-append-le}
-use Rattle.emtp_machine.specs.Samples.{rows_of, value_at}
+use Rattle.emtp_machine.specs.Samples.{value_at}
+use Rattle.emtp_machine.specs.held.Samples.{rows_of}
 
 pub length-rows_of : (channels count : ℕ) (values : List ℤ) → length (rows_of channels count values) ≡ count
 length-rows_of channels zero values = refl

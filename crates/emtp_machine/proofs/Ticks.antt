@@ -4,18 +4,19 @@ use Rattle.emtp_case.specs.StepRecord.{StepRecord}
 use Rattle.emtp_case.specs.declared.case.Parts.{Parts}
 use Rattle.emtp_machine.proofs.Histories.{count, some_records}
 use Rattle.emtp_machine.proofs.Machines.{Answers, HasMoved, halts, history_ended, more, moves, rest_history, seen}
-use Rattle.emtp_machine.specs.Controlled.{StandsFor}
-use Rattle.emtp_machine.specs.History.{History, history, history_upto, next_ticks, redone, redone_by, rows_eliminated, rows_of_run, rows_redone, ticks, ticks_by, ticks_in}
-use Rattle.emtp_machine.specs.Machine.{HasTicked, IsMachine, Progress, history_of, tried_of}
-use Rattle.emtp_machine.specs.Samples.{Sampled}
+use Rattle.emtp_machine.specs.held.Controlled.{StandsFor}
+use Rattle.emtp_machine.specs.History.{History, history, history_upto, redone, redone_by, rows_redone}
+use Rattle.emtp_machine.specs.held.History.{next_ticks, rows_eliminated, rows_of_run, ticks, ticks_by, ticks_in}
+use Rattle.emtp_machine.specs.held.Machine.{HasTicked, IsMachine, Progress, history_of, tried_of}
+use Rattle.emtp_machine.specs.held.Samples.{Sampled}
 use Rattle.emtp_machine.specs.declared.controlled.ControlledNetwork.{ControlledNetwork}
 use Rattle.emtp_machine.specs.declared.end.Cause.{Cause}
 use Rattle.emtp_machine.specs.declared.end.Cause.TheVariants.{Range, Residual, TacsPivot, TacsRange, Tied, ZeroPivot}
 use Rattle.emtp_machine.specs.declared.end.End.{End}
 use Rattle.emtp_net.proofs.Runs.{most_ticks, ticks_of_run}
-use Rattle.emtp_net.specs.Redone.{step_ticks, step_ticks_after}
+use Rattle.emtp_net.specs.held.Redone.{step_ticks, step_ticks_after}
 use Rattle.emtp_tacs.proofs.Runs.{most_ticks as most_control_ticks, ticks_of_run as control_ticks_of_run}
-use Rattle.emtp_tacs.specs.Redone.{control_step_ticks, control_step_ticks_after}
+use Rattle.emtp_tacs.specs.held.Redone.{control_step_ticks, control_step_ticks_after}
 
 -- ---- one step
 

@@ -1,25 +1,11 @@
 -- What is true of every run, in the field's words.
-use Rattle.std.specs.Prelude.{◌≡◌, ◌*◌, ◌<◌, ◌≤◌, ℕ, ℤ, List, [], ◌∷◌, length, slice_index_or, unsigned_abs, IfSome, Ok, Err}
-use Rattle.emtp_case.specs.StepRecord.{StepRecord, latest, rest_of}
+use Rattle.std.specs.Prelude.{◌≡◌, ◌*◌, ◌<◌, ◌≤◌, ℕ, ℤ, List, [], length, slice_index_or, unsigned_abs, IfSome}
+use Rattle.emtp_case.specs.StepRecord.{StepRecord, latest}
 use Rattle.emtp_case.specs.declared.case.Parts.{Parts}
 use Rattle.emtp_net.specs.Residual.{residual}
 use Rattle.emtp_machine.specs.Channels.{sample_of}
-use Rattle.emtp_machine.specs.History.{end_at, history, history_upto, samples}
+use Rattle.emtp_machine.specs.History.{history, history_upto, samples}
 use Rattle.emtp_machine.specs.Machine.{IsEnd}
-use Rattle.emtp_machine.specs.Next.{Fault, next}
-use Rattle.emtp_machine.specs.declared.end.End.{End}
-
--- the first record is rest, and each other one is the record after those before it
-abbrev pub IsChain : Parts → List StepRecord → Type 0
-IsChain case [] = ⊥
-IsChain case (r ∷ []) = r ≡ rest_of case
-IsChain case (r ∷ s ∷ past) = (next case (s ∷ past) ≡ Ok r) × IsChain case (s ∷ past)
-
--- an end is that of the step after the records: there is no next record
-pub record IsRefusal (case : Parts) (H : List StepRecord) (end : End) : Type 0 where
-  pub fault : Fault
-  pub refused : next case H ≡ Err fault
-  pub is : end ≡ end_at (length H) fault
 
 -- in the last of the records the currents at each node, or at each group of nodes, add up to 0 within the tolerance. They are
 -- those of the branch laws. A row that says no current equation (its node's voltage is known, or another's) has residual 0.

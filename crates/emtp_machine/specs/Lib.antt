@@ -1,3 +1,4 @@
+-- what the clauses of the program say
 pub mod End
 pub mod Samples
 pub mod Next
@@ -6,4 +7,7 @@ pub mod History
 pub mod Controlled
 pub mod Machine
 pub mod Laws
+-- what laws say
 pub mod Ranges
+-- what values hold for their proofs
+pub mod held

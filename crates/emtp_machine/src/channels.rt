@@ -1,11 +1,11 @@
 //! The values of the channels at the last record.
 
 ghost use Rattle.std.specs.Prelude.{◌≡◌, ◌<◌, ◌-ℤ◌, ◌++◌, ◌∷◌, [], List, length, pos, slice_index_or};
-ghost use Rattle.emtp_case.specs.Channel.{IsChannel};
-ghost use Rattle.emtp_case.specs.Sizes.{sizes_of};
+ghost use Rattle.emtp_case.specs.held.Channel.{IsChannel};
+ghost use Rattle.emtp_case.specs.held.Sizes.{sizes_of};
 ghost use Rattle.emtp_case.specs.StepRecord.{StepRecord, latest};
 ghost use Rattle.emtp_machine.specs.Channels.{channel_value, sample_of, within_range};
-ghost use Rattle.emtp_machine.specs.Controlled.{IsOf, StandsFor};
+ghost use Rattle.emtp_machine.specs.held.Controlled.{IsOf, StandsFor};
 
 use crate::controlled::ControlledNetwork;
 use crate::samples::Samples;

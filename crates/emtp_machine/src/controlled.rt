@@ -2,11 +2,13 @@
 
 ghost use Rattle.std.specs.Prelude.{◌≡◌, ◌+◌, ◌<◌, ◌≤◌, [], ◌∷◌, List, IfErr, IfOk, OnOk};
 ghost use Rattle.emtp_case.specs.StepRecord.{StepRecord, rest_of};
-ghost use Rattle.emtp_machine.specs.Controlled.{IsNamed, IsOf, MayMove, StandsFor, StepsTo, redone_of};
-ghost use Rattle.emtp_machine.specs.History.{end_at, next_ticks, ticks_by};
+ghost use Rattle.emtp_machine.specs.Controlled.{IsNamed};
+ghost use Rattle.emtp_machine.specs.held.Controlled.{IsOf, MayMove, StandsFor, StepsTo, redone_of};
+ghost use Rattle.emtp_machine.specs.History.{end_at};
+ghost use Rattle.emtp_machine.specs.held.History.{next_ticks, ticks_by};
 ghost use Rattle.emtp_machine.specs.Next.{control_fault, network_fault, next, node_name};
-ghost use Rattle.emtp_net.specs.Fault.{IsNode, NamesNode};
-ghost use Rattle.emtp_tacs.specs.Stages.{NamesVariable};
+ghost use Rattle.emtp_net.specs.held.Fault.{IsNode, NamesNode};
+ghost use Rattle.emtp_tacs.specs.held.Stages.{NamesVariable};
 
 use crate::end::{Cause, End};
 use emtp_case::{Case, Name};

@@ -2,7 +2,8 @@
 
 ghost use Rattle.std.specs.Prelude.{ℕ, ◌≤◌, All, IfSome};
 ghost use Rattle.emtp_machine.specs.History.{history, samples};
-ghost use Rattle.emtp_machine.specs.Laws.{IsBalanced, IsChain, IsRefusal, SamplesBalance, records_upto};
+ghost use Rattle.emtp_machine.specs.Laws.{IsBalanced, SamplesBalance, records_upto};
+ghost use Rattle.emtp_machine.specs.held.Laws.{IsChain, IsRefusal};
 ghost use Rattle.emtp_machine.specs.Ranges.{AreSamplesInRange, IsRecordInRange};
 
 use emtp_case::Case;

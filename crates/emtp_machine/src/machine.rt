@@ -2,8 +2,10 @@
 
 ghost use Rattle.std.specs.Prelude.{◌≡◌, ◌≢◌, ◌+◌, ◌<◌, ◌≤◌, length, None, IfErr, IfNone, IfOk, IfSome};
 ghost use Rattle.std.specs.Bool.{OnFalse, OnTrue};
-ghost use Rattle.emtp_machine.specs.History.{history, redone, rows_of_run, samples};
-ghost use Rattle.emtp_machine.specs.Machine.{HasTicked, IsEnd, MayStep, answer_of, history_of};
+ghost use Rattle.emtp_machine.specs.History.{history, redone, samples};
+ghost use Rattle.emtp_machine.specs.held.History.{rows_of_run};
+ghost use Rattle.emtp_machine.specs.Machine.{IsEnd};
+ghost use Rattle.emtp_machine.specs.held.Machine.{HasTicked, MayStep, answer_of, history_of};
 ghost use Rattle.emtp_machine.specs.Laws.{SamplesBalance};
 
 use crate::controlled::ControlledNetwork;
@@ -30,7 +32,7 @@ pub struct Machine<'c> {
 
 impl<'c> Model for Machine<'c> {
     ghost use Rattle.emtp_machine.specs.History.{history_upto};
-    ghost use Rattle.emtp_machine.specs.Machine.{IsMachine, Progress, tried_of};
+    ghost use Rattle.emtp_machine.specs.held.Machine.{IsMachine, Progress, tried_of};
 
     ghost Value = { Progress };
 

@@ -1,6 +1,7 @@
 // The samples of a record.
 ghost use Rattle.std.specs.Prelude.{◌≡◌, ◌+◌, ◌*◌, ◌^◌, ◌<◌, ◌≤◌, ◌++◌, [], ◌∷◌, length, pos, slice_index_or, unsigned_abs, IfOk, vec_capacity};
-ghost use Rattle.emtp_machine.specs.Samples.{Sampled, IsReserved, greatest, rows_of, sum_of, total_of, value_at};
+ghost use Rattle.emtp_machine.specs.Samples.{greatest, sum_of, total_of, value_at};
+ghost use Rattle.emtp_machine.specs.held.Samples.{Sampled, IsReserved, rows_of};
 
 use std::alloc::{AllocError, Global};
 use std::marker::Model;

@@ -3,7 +3,7 @@
 ghost use Rattle.std.specs.Prelude.{◌≡◌, ◌<◌};
 ghost use Rattle.emtp_machine.specs.History.{history};
 ghost use Rattle.emtp_machine.specs.Laws.{EndsWithin, SamplesBalance};
-ghost use Rattle.emtp_machine.specs.Machine.{history_of};
+ghost use Rattle.emtp_machine.specs.held.Machine.{history_of};
 
 use crate::end::End;
 use crate::machine::Machine;

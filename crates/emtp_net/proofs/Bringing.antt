@@ -14,7 +14,7 @@ use Rattle.emtp_elim.specs.Matrix.{item}
 use Rattle.emtp_lumped.specs.Lumps as lumped
 use Rattle.emtp_pseudo.specs.Pseudos as pseudo
 use Rattle.emtp_net.proofs.Moves.{next_state_read}
-use Rattle.emtp_net.specs.Moving.{HaveMoved, IsNext}
+use Rattle.emtp_net.specs.held.Moving.{HaveMoved, IsNext}
 use Rattle.emtp_net.specs.Part.{brought_by, state_at, state_by, states_at}
 use Rattle.emtp_net.specs.System.{taken, through}
 use Rattle.emtp_net.specs.declared.branches.Branches.{Branches}

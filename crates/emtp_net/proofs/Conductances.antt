@@ -9,7 +9,7 @@ use Rattle.emtp_case.specs.declared.case.Parts.{Parts}
 use Rattle.emtp_elim.specs.Matrix.{item}
 use Rattle.emtp_net.specs.System.{conductance_by, conductances}
 use Rattle.emtp_rows.specs.Nodal.{nodal_matrix}
-use Rattle.emtp_rows.specs.Touched.{NodalRows, Touches}
+use Rattle.emtp_rows.specs.held.Touched.{NodalRows, Touches}
 
 -- one change after another
 pub touches_then : (old mid new : NodalRows) → Touches old mid → Touches mid new → Touches old new

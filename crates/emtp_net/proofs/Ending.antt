@@ -10,11 +10,11 @@ use Rattle.emtp_elim.specs.declared.fault.PlainFault.{PlainFault}
 use Rattle.emtp_elim.specs.declared.fault.PlainFault.TheVariants.{Row, Solve}
 use Rattle.emtp_elim.specs.declared.fault.RowFault.{RowFault}
 use Rattle.emtp_elim.specs.declared.fault.SolveFault.{SolveFault}
-use Rattle.emtp_net.specs.Moving.{IsFirstOut}
+use Rattle.emtp_net.specs.held.Moving.{IsFirstOut}
 use Rattle.emtp_net.specs.Part.{first_out, node_of_branch, part_at, state_at, states_at, switch_currents_at, voltages_of}
 use Rattle.emtp_net.specs.Residual.{residual_of}
 use Rattle.emtp_net.specs.Step.{balanced, fault_by, first_beyond, first_unbalanced, moved, named, node_of_switch, network_part, solution, switched}
-use Rattle.emtp_net.specs.Stages.{AreVoltages, IsUntied}
+use Rattle.emtp_net.specs.held.Stages.{AreVoltages, IsUntied}
 use Rattle.emtp_net.specs.System.{matrix, right}
 use Rattle.emtp_net.specs.declared.fault.NetFault.{NetFault}
 use Rattle.emtp_net.specs.declared.fault.NetFault.TheVariants.{Range, Residual, Tied}

@@ -8,12 +8,14 @@ use Rattle.emtp_elim.specs.declared.fault.RowCause.{RowCause}
 use Rattle.emtp_elim.specs.declared.fault.RowCause.TheVariants.{Range as RowRange, ZeroPivot as RowPivot}
 use Rattle.emtp_rows.proofs.NodalRows.{length-nodal_matrix}
 use Rattle.emtp_rows.specs.Nodal.{Nodal, nodal_matrix}
-use Rattle.emtp_rows.specs.Touched.{NodalRows, StandsUntouched, Touches}
+use Rattle.emtp_rows.specs.held.Touched.{NodalRows, StandsUntouched, Touches}
 use Rattle.emtp_tail.proofs.RedoneRows.{rows_counted, rows_ticked, rows_ticked_most}
-use Rattle.emtp_tail.specs.Good.{Good, first_change}
-use Rattle.emtp_net.specs.Holding.{HoldsRows}
-use Rattle.emtp_net.specs.Redone.{last_matrix, step_redone, step_ticks}
-use Rattle.emtp_net.specs.Stages.{step_adds}
+use Rattle.emtp_tail.specs.Good.{first_change}
+use Rattle.emtp_tail.specs.held.Good.{Good}
+use Rattle.emtp_net.specs.held.Holding.{HoldsRows}
+use Rattle.emtp_net.specs.Redone.{step_redone}
+use Rattle.emtp_net.specs.held.Redone.{last_matrix, step_ticks}
+use Rattle.emtp_net.specs.held.Stages.{step_adds}
 use Rattle.emtp_net.specs.Step.{fault_by}
 use Rattle.emtp_net.specs.System.{conductances, couplings, kinds_of, matrix, nodal}
 use Rattle.emtp_net.specs.declared.fault.NetFault.{NetFault}

@@ -5,12 +5,12 @@ use Rattle.std.proofs.lemmas.Int.{ints}
 use Rattle.emtp_case.specs.declared.row_kind.RowKind.{RowKind}
 use Rattle.emtp_case.specs.declared.row_kind.RowKind.TheVariants.{Kcl, Sum, Tie, Ground, Source}
 use Rattle.emtp_elim.specs.Matrix.{item}
-use Rattle.emtp_net.specs.Sums.{IsFolded, group_total, tied_to}
+use Rattle.emtp_net.specs.held.Sums.{IsFolded, group_total, tied_to}
 use Rattle.emtp_case.proofs.RowsOfNodes.{is_number, isnt_number}
 use Rattle.emtp_case.proofs.Sums.{sum_below-more, sum_below_same, sum_below_small}
 use Rattle.emtp_rows.specs.Nodal.{is_tie_to, kind_at}
 use Rattle.emtp_case.specs.Sums.{sum_below}
-use Rattle.emtp_rows.specs.Touched.{is_sum, tied_row}
+use Rattle.emtp_rows.specs.held.Touched.{is_sum, tied_row}
 
 -- ---- which rows are tied to a sum
 

@@ -14,10 +14,10 @@ use Rattle.emtp_line.specs.Mode.{mode_of_line}
 use Rattle.emtp_net.proofs.Bringing.{there_is}
 use Rattle.emtp_net.proofs.Moves.{next_state_read}
 use Rattle.emtp_net.proofs.PhaseMoves.{phase_next}
-use Rattle.emtp_net.specs.Branches.{StandsFor}
-use Rattle.emtp_net.specs.Moving.{AreCurrents, AreLineCurrents, IsNext}
+use Rattle.emtp_net.specs.held.Branches.{StandsFor}
+use Rattle.emtp_net.specs.held.Moving.{AreCurrents, AreLineCurrents, IsNext}
 use Rattle.emtp_net.specs.Part.{state_at, state_by}
-use Rattle.emtp_net.specs.Stages.{AllInRange}
+use Rattle.emtp_net.specs.held.Stages.{AllInRange}
 use Rattle.emtp_net.specs.declared.branches.Branches.{Branches}
 
 line_current : (case : Parts) (H : List StepRecord) (vs : List ℤ) (r : StepRecord) (b : ℕ) (o : Option LineState) → b < length case.branches → state_at case H vs b ≡ option_map LineBranch o → IsNext case H vs r → IsSome (state_at case H vs b) → branch_current_at b r ≡ (line_at b r).from_current

@@ -5,9 +5,10 @@ use Rattle.std.proofs.lemmas.Bool.{cases_eq}
 use Rattle.std.proofs.lemmas.Bool.Decides.{nat_tests}
 use Rattle.std.proofs.lemmas.List.{get_or-map}
 use Rattle.std.proofs.lemmas.List.FromFn.{get_or-map-range_with_len, length-map-range_with_len}
-use Rattle.emtp_case.specs.Case.{IsNetwork}
-use Rattle.emtp_case.specs.Sizes.{sizes_of}
-use Rattle.emtp_case.specs.Branch.{AreInThrees, IsBranch, first_of_trio, phase_at, phase_of}
+use Rattle.emtp_case.specs.held.Case.{IsNetwork}
+use Rattle.emtp_case.specs.held.Sizes.{sizes_of}
+use Rattle.emtp_case.specs.Branch.{first_of_trio}
+use Rattle.emtp_case.specs.held.Branch.{AreInThrees, IsBranch, phase_at, phase_of}
 use Rattle.emtp_case.specs.StepRecord.{StepRecord, BranchState, LumpedBranch, LineBranch, PseudoBranch, current_of, line_at, line_state_of, lumped_at, lumped_of, no_line, no_lumped, no_pseudo, pseudo_at, pseudo_of, voltage_at}
 use Rattle.emtp_case.specs.declared.branch.Branch.{Branch}
 use Rattle.emtp_case.specs.declared.branch.Branch.TheVariants.{Lumped as OfLumped, Line as OfLine, Pseudo as OfPseudo, Phase as OfPhase}
@@ -19,13 +20,16 @@ use Rattle.emtp_elim.specs.Matrix.{item}
 use Rattle.emtp_fix.specs.declared.limit.OutOfRange.{OutOfRange}
 use Rattle.emtp_line.specs.Line.{next_state as next_line}
 use Rattle.emtp_line.specs.Lines as lined
+use Rattle.emtp_line.specs.held.Lines as held_lined
 use Rattle.emtp_line.specs.Mode.{mode_of_line}
 use Rattle.emtp_lumped.specs.Lumps as lumped
+use Rattle.emtp_lumped.specs.held.Lumps as held_lumped
 use Rattle.emtp_pseudo.specs.Held.{moment_at}
 use Rattle.emtp_pseudo.specs.Pseudos as pseudo
+use Rattle.emtp_pseudo.specs.held.Pseudos as held_pseudo
 use Rattle.emtp_net.proofs.Nodes.{branch_fits, branch_in}
-use Rattle.emtp_net.specs.Branches.{HasCase}
-use Rattle.emtp_net.specs.Moving.{HasMoved, HasStopped, IsNext, StandsBefore, head_at, head_by, upto}
+use Rattle.emtp_net.specs.held.Branches.{HasCase}
+use Rattle.emtp_net.specs.held.Moving.{HasMoved, HasStopped, IsNext, StandsBefore, head_at, head_by, upto}
 use Rattle.emtp_net.specs.Part.{state_at, state_by, states_at}
 use Rattle.emtp_net.specs.declared.branches.Branches.{Branches}
 
@@ -119,11 +123,11 @@ lumped_state : (case held : Parts) (H : List StepRecord) (vs : List ℤ) (at : �
 lumped_state case held H vs at x same is = ap (state_by case H vs at) is ∙ ap (λ p. option_map LumpedBranch (lumped.next_of p x (lumped.states_of at H) (item vs x.from -ℤ item vs x.to))) (sym same)
 
 pub lumped_moves : (case : Parts) (H : List StepRecord) (vs : List ℤ) (at : ℕ) (x : Lumped) (s t : Branches) (i : ℤ) → IsNetwork case → HasCase s case → at < length case.branches → slice_get case.branches at ≡ Some (OfLumped x) → t.lines ≡ s.lines → t.pseudos ≡ s.pseudos
-    → lumped.Moves s.lumps t.lumps at (item vs x.from -ℤ item vs x.to) (Ok i) → StandsBefore s case H vs at → HasMoved s t case H vs at i
+    → held_lumped.Moves s.lumps t.lumps at (item vs x.from -ℤ item vs x.to) (Ok i) → StandsBefore s case H vs at → HasMoved s t case H vs at i
 lumped_moves case H vs at x s t i network same there is lines pseudos moves before =
-    let held : lumped.IsSeries s.lumps.case at x = branch_in s.lumps.case case at (OfLumped x) same.lumps is in
+    let held : held_lumped.IsSeries s.lumps.case at x = branch_in s.lumps.case case at (OfLumped x) same.lumps is in
     let at_rest = before (next_record H case vs) (is_next case H vs) in
-    let stood : lumped.StandsAt s.lumps at (lumped.states_of at H) = subst (λ h. lumped.StandsAt s.lumps at (lumped.states_of at h)) (upto_before at (next_record H case vs) H) (at_rest.lumps at x is) in
+    let stood : held_lumped.StandsAt s.lumps at (lumped.states_of at H) = subst (λ h. held_lumped.StandsAt s.lumps at (lumped.states_of at h)) (upto_before at (next_record H case vs) H) (at_rest.lumps at x is) in
     let moved = moves.moved x (lumped.states_of at H) held stood in
     let state : state_at case H vs at ≡ Some (LumpedBranch moved.state) = lumped_state case s.lumps.case H vs at x same.lumps is ∙ ap (option_map LumpedBranch) moved.is in
     record {
@@ -131,20 +135,20 @@ lumped_moves case H vs at x s t i network same there is lines pseudos moves befo
         lumps = λ b y here. elim (cases_eq b at) [
           | inl e ↦
               let newest : lumped_at at r ≡ moved.state = next_state_read lumped_of no_lumped case H vs r at (LumpedBranch moved.state) next there state in
-              let told : lumped.StandsAt t.lumps at (lumped_at at r ∷ lumped.states_of at H) = subst (λ z. lumped.StandsAt t.lumps at (z ∷ lumped.states_of at H)) (sym newest) moved.stands in
-              let all : lumped.StandsAt t.lumps at (lumped.states_of at (upto (at + 1) at r H)) = subst (λ h. lumped.StandsAt t.lumps at (lumped.states_of at h)) (sym (upto_here at r H)) told in
-              subst (λ k. lumped.StandsAt t.lumps k (lumped.states_of k (upto (at + 1) k r H))) (sym e) all
-          | inr ne ↦ subst (λ h. lumped.StandsAt t.lumps b (lumped.states_of b h)) (sym (upto_other at b r H ne)) (moves.others b (lumped.states_of b (upto at b r H)) ne (upto_at.lumps b y here))
+              let told : held_lumped.StandsAt t.lumps at (lumped_at at r ∷ lumped.states_of at H) = subst (λ z. held_lumped.StandsAt t.lumps at (z ∷ lumped.states_of at H)) (sym newest) moved.stands in
+              let all : held_lumped.StandsAt t.lumps at (lumped.states_of at (upto (at + 1) at r H)) = subst (λ h. held_lumped.StandsAt t.lumps at (lumped.states_of at h)) (sym (upto_here at r H)) told in
+              subst (λ k. held_lumped.StandsAt t.lumps k (lumped.states_of k (upto (at + 1) k r H))) (sym e) all
+          | inr ne ↦ subst (λ h. held_lumped.StandsAt t.lumps b (lumped.states_of b h)) (sym (upto_other at b r H ne)) (moves.others b (lumped.states_of b (upto at b r H)) ne (upto_at.lumps b y here))
         ];
         lines = λ b y here.
             let ne : b ≢ at = λ e. lumped_line x y (other_kind case at b (OfLumped x) (OfLine y) is here e) in
-            subst (λ h. lined.StandsAt t.lines b (lined.states_of b h)) (sym (upto_other at b r H ne)) (subst (λ z. lined.StandsAt z b (lined.states_of b (upto at b r H))) (sym lines) (upto_at.lines b y here));
+            subst (λ h. held_lined.StandsAt t.lines b (lined.states_of b h)) (sym (upto_other at b r H ne)) (subst (λ z. held_lined.StandsAt z b (lined.states_of b (upto at b r H))) (sym lines) (upto_at.lines b y here));
         trios = λ u below.
             let ne : first_of_trio case.trios u ≢ at = begins_elsewhere case at u (OfLumped x) network.in_threes below there is refl in
-            subst (λ h. lined.TrioStandsAt t.lines u (lined.phase_states_of case u h)) (sym (upto_other at (first_of_trio case.trios u) r H ne)) (subst (λ z. lined.TrioStandsAt z u (lined.phase_states_of case u (upto at (first_of_trio case.trios u) r H))) (sym lines) (upto_at.trios u below));
+            subst (λ h. held_lined.TrioStandsAt t.lines u (lined.phase_states_of case u h)) (sym (upto_other at (first_of_trio case.trios u) r H ne)) (subst (λ z. held_lined.TrioStandsAt z u (lined.phase_states_of case u (upto at (first_of_trio case.trios u) r H))) (sym lines) (upto_at.trios u below));
         pseudos = λ b y here.
             let ne : b ≢ at = λ e. lumped_pseudo x y (other_kind case at b (OfLumped x) (OfPseudo y) is here e) in
-            subst (λ h. pseudo.StandsAt t.pseudos b (pseudo.moments_of y b h)) (sym (upto_other at b r H ne)) (subst (λ z. pseudo.StandsAt z b (pseudo.moments_of y b (upto at b r H))) (sym pseudos) (upto_at.pseudos b y here));
+            subst (λ h. held_pseudo.StandsAt t.pseudos b (pseudo.moments_of y b h)) (sym (upto_other at b r H ne)) (subst (λ z. held_pseudo.StandsAt z b (pseudo.moments_of y b (upto at b r H))) (sym pseudos) (upto_at.pseudos b y here));
       };
       in_range = alone_in_range case H vs at (OfLumped x) network there is refl (some_is (state_at case H vs at) (LumpedBranch moved.state) state);
       lumped = λ y r next here. moved.current ∙ sym (next_state_read current_of (pos 0) case H vs r at (LumpedBranch moved.state) next there state);
@@ -158,11 +162,11 @@ lumped_moves case H vs at x s t i network same there is lines pseudos moves befo
     lumped_pseudo x y e = cc
 
 pub lumped_stops : (case : Parts) (H : List StepRecord) (vs : List ℤ) (at : ℕ) (x : Lumped) (s t : Branches) (e : OutOfRange) → HasCase s case → at < length case.branches → slice_get case.branches at ≡ Some (OfLumped x)
-    → lumped.Moves s.lumps t.lumps at (item vs x.from -ℤ item vs x.to) (Err e) → StandsBefore s case H vs at → HasStopped case H vs at at
+    → held_lumped.Moves s.lumps t.lumps at (item vs x.from -ℤ item vs x.to) (Err e) → StandsBefore s case H vs at → HasStopped case H vs at at
 lumped_stops case H vs at x s t e same there is moves before =
-    let held : lumped.IsSeries s.lumps.case at x = branch_in s.lumps.case case at (OfLumped x) same.lumps is in
+    let held : held_lumped.IsSeries s.lumps.case at x = branch_in s.lumps.case case at (OfLumped x) same.lumps is in
     let at_rest = before (next_record H case vs) (is_next case H vs) in
-    let stood : lumped.StandsAt s.lumps at (lumped.states_of at H) = subst (λ h. lumped.StandsAt s.lumps at (lumped.states_of at h)) (upto_before at (next_record H case vs) H) (at_rest.lumps at x is) in
+    let stood : held_lumped.StandsAt s.lumps at (lumped.states_of at H) = subst (λ h. held_lumped.StandsAt s.lumps at (lumped.states_of at h)) (upto_before at (next_record H case vs) H) (at_rest.lumps at x is) in
     record {
       later = omega arith;
       there = there;
@@ -176,32 +180,32 @@ line_state : (case held : Parts) (H : List StepRecord) (vs : List ℤ) (at : ℕ
 line_state case held H vs at x same is = ap (state_by case H vs at) is ∙ ap (λ (p : Parts). option_map LineBranch (next_line (mode_of_line p.run.dt x) (lined.states_of at H) (item vs x.from) (item vs x.to))) (sym same)
 
 pub line_moves : (case : Parts) (H : List StepRecord) (vs : List ℤ) (at : ℕ) (x : Line) (s t : Branches) (i : ℤ) → IsNetwork case → HasCase s case → at < length case.branches → slice_get case.branches at ≡ Some (OfLine x) → t.lumps ≡ s.lumps → t.pseudos ≡ s.pseudos
-    → lined.Moves s.lines t.lines at (item vs x.from) (item vs x.to) (Ok i) → StandsBefore s case H vs at → HasMoved s t case H vs at i
+    → held_lined.Moves s.lines t.lines at (item vs x.from) (item vs x.to) (Ok i) → StandsBefore s case H vs at → HasMoved s t case H vs at i
 line_moves case H vs at x s t i network same there is lumps pseudos moves before =
-    let held : lined.IsLineAt s.lines.case at x = branch_in s.lines.case case at (OfLine x) same.lines is in
+    let held : held_lined.IsLineAt s.lines.case at x = branch_in s.lines.case case at (OfLine x) same.lines is in
     let at_rest = before (next_record H case vs) (is_next case H vs) in
-    let stood : lined.StandsAt s.lines at (lined.states_of at H) = subst (λ h. lined.StandsAt s.lines at (lined.states_of at h)) (upto_before at (next_record H case vs) H) (at_rest.lines at x is) in
+    let stood : held_lined.StandsAt s.lines at (lined.states_of at H) = subst (λ h. held_lined.StandsAt s.lines at (lined.states_of at h)) (upto_before at (next_record H case vs) H) (at_rest.lines at x is) in
     let moved = moves.moved x (lined.states_of at H) held stood in
     let state : state_at case H vs at ≡ Some (LineBranch moved.state) = line_state case s.lines.case H vs at x same.lines is ∙ ap (option_map LineBranch) moved.is in
     record {
       stands = λ r next upto_at. record {
         lumps = λ b y here.
             let ne : b ≢ at = λ e. line_lumped x y (other_kind case at b (OfLine x) (OfLumped y) is here e) in
-            subst (λ h. lumped.StandsAt t.lumps b (lumped.states_of b h)) (sym (upto_other at b r H ne)) (subst (λ z. lumped.StandsAt z b (lumped.states_of b (upto at b r H))) (sym lumps) (upto_at.lumps b y here));
+            subst (λ h. held_lumped.StandsAt t.lumps b (lumped.states_of b h)) (sym (upto_other at b r H ne)) (subst (λ z. held_lumped.StandsAt z b (lumped.states_of b (upto at b r H))) (sym lumps) (upto_at.lumps b y here));
         lines = λ b y here. elim (cases_eq b at) [
           | inl e ↦
               let newest : line_at at r ≡ moved.state = next_state_read line_state_of no_line case H vs r at (LineBranch moved.state) next there state in
-              let told : lined.StandsAt t.lines at (line_at at r ∷ lined.states_of at H) = subst (λ z. lined.StandsAt t.lines at (z ∷ lined.states_of at H)) (sym newest) moved.stands in
-              let all : lined.StandsAt t.lines at (lined.states_of at (upto (at + 1) at r H)) = subst (λ h. lined.StandsAt t.lines at (lined.states_of at h)) (sym (upto_here at r H)) told in
-              subst (λ k. lined.StandsAt t.lines k (lined.states_of k (upto (at + 1) k r H))) (sym e) all
-          | inr ne ↦ subst (λ h. lined.StandsAt t.lines b (lined.states_of b h)) (sym (upto_other at b r H ne)) (moves.others b (lined.states_of b (upto at b r H)) ne (upto_at.lines b y here))
+              let told : held_lined.StandsAt t.lines at (line_at at r ∷ lined.states_of at H) = subst (λ z. held_lined.StandsAt t.lines at (z ∷ lined.states_of at H)) (sym newest) moved.stands in
+              let all : held_lined.StandsAt t.lines at (lined.states_of at (upto (at + 1) at r H)) = subst (λ h. held_lined.StandsAt t.lines at (lined.states_of at h)) (sym (upto_here at r H)) told in
+              subst (λ k. held_lined.StandsAt t.lines k (lined.states_of k (upto (at + 1) k r H))) (sym e) all
+          | inr ne ↦ subst (λ h. held_lined.StandsAt t.lines b (lined.states_of b h)) (sym (upto_other at b r H ne)) (moves.others b (lined.states_of b (upto at b r H)) ne (upto_at.lines b y here))
         ];
         trios = λ u below.
             let ne : first_of_trio case.trios u ≢ at = begins_elsewhere case at u (OfLine x) network.in_threes below there is refl in
-            subst (λ h. lined.TrioStandsAt t.lines u (lined.phase_states_of case u h)) (sym (upto_other at (first_of_trio case.trios u) r H ne)) (moves.trios u (lined.phase_states_of case u (upto at (first_of_trio case.trios u) r H)) (upto_at.trios u below));
+            subst (λ h. held_lined.TrioStandsAt t.lines u (lined.phase_states_of case u h)) (sym (upto_other at (first_of_trio case.trios u) r H ne)) (moves.trios u (lined.phase_states_of case u (upto at (first_of_trio case.trios u) r H)) (upto_at.trios u below));
         pseudos = λ b y here.
             let ne : b ≢ at = λ e. line_pseudo x y (other_kind case at b (OfLine x) (OfPseudo y) is here e) in
-            subst (λ h. pseudo.StandsAt t.pseudos b (pseudo.moments_of y b h)) (sym (upto_other at b r H ne)) (subst (λ z. pseudo.StandsAt z b (pseudo.moments_of y b (upto at b r H))) (sym pseudos) (upto_at.pseudos b y here));
+            subst (λ h. held_pseudo.StandsAt t.pseudos b (pseudo.moments_of y b h)) (sym (upto_other at b r H ne)) (subst (λ z. held_pseudo.StandsAt z b (pseudo.moments_of y b (upto at b r H))) (sym pseudos) (upto_at.pseudos b y here));
       };
       in_range = alone_in_range case H vs at (OfLine x) network there is refl (some_is (state_at case H vs at) (LineBranch moved.state) state);
       lumped = λ y r next here. absurd (line_lumped x y (other_kind case at at (OfLine x) (OfLumped y) is here refl));
@@ -215,11 +219,11 @@ line_moves case H vs at x s t i network same there is lumps pseudos moves before
     line_pseudo x y e = cc
 
 pub line_stops : (case : Parts) (H : List StepRecord) (vs : List ℤ) (at : ℕ) (x : Line) (s t : Branches) (e : OutOfRange) → HasCase s case → at < length case.branches → slice_get case.branches at ≡ Some (OfLine x)
-    → lined.Moves s.lines t.lines at (item vs x.from) (item vs x.to) (Err e) → StandsBefore s case H vs at → HasStopped case H vs at at
+    → held_lined.Moves s.lines t.lines at (item vs x.from) (item vs x.to) (Err e) → StandsBefore s case H vs at → HasStopped case H vs at at
 line_stops case H vs at x s t e same there is moves before =
-    let held : lined.IsLineAt s.lines.case at x = branch_in s.lines.case case at (OfLine x) same.lines is in
+    let held : held_lined.IsLineAt s.lines.case at x = branch_in s.lines.case case at (OfLine x) same.lines is in
     let at_rest = before (next_record H case vs) (is_next case H vs) in
-    let stood : lined.StandsAt s.lines at (lined.states_of at H) = subst (λ h. lined.StandsAt s.lines at (lined.states_of at h)) (upto_before at (next_record H case vs) H) (at_rest.lines at x is) in
+    let stood : held_lined.StandsAt s.lines at (lined.states_of at H) = subst (λ h. held_lined.StandsAt s.lines at (lined.states_of at h)) (upto_before at (next_record H case vs) H) (at_rest.lines at x is) in
     record {
       later = omega arith;
       there = there;
@@ -233,36 +237,36 @@ pseudo_state : (case held : Parts) (H : List StepRecord) (vs : List ℤ) (at : �
 pseudo_state case held H vs at x same is = ap (state_by case H vs at) is ∙ ap (λ p. option_map PseudoBranch (pseudo.next_of p x (pseudo.moments_of x at H) (item vs x.from -ℤ item vs x.to))) (sym same)
 
 pub pseudo_moves : (case : Parts) (H : List StepRecord) (vs : List ℤ) (at : ℕ) (x : Pseudo) (s t : Branches) (i : ℤ) → IsNetwork case → HasCase s case → at < length case.branches → slice_get case.branches at ≡ Some (OfPseudo x) → t.lumps ≡ s.lumps → t.lines ≡ s.lines
-    → pseudo.Moves s.pseudos t.pseudos at (item vs x.from -ℤ item vs x.to) (Ok i) → StandsBefore s case H vs at → HasMoved s t case H vs at i
+    → held_pseudo.Moves s.pseudos t.pseudos at (item vs x.from -ℤ item vs x.to) (Ok i) → StandsBefore s case H vs at → HasMoved s t case H vs at i
 pseudo_moves case H vs at x s t i network same there is lumps lines moves before =
     let v = item vs x.from -ℤ item vs x.to in
-    let held : pseudo.IsPseudoAt s.pseudos.case at x = branch_in s.pseudos.case case at (OfPseudo x) same.pseudos is in
+    let held : held_pseudo.IsPseudoAt s.pseudos.case at x = branch_in s.pseudos.case case at (OfPseudo x) same.pseudos is in
     let at_rest = before (next_record H case vs) (is_next case H vs) in
-    let stood : pseudo.StandsAt s.pseudos at (pseudo.moments_of x at H) = subst (λ h. pseudo.StandsAt s.pseudos at (pseudo.moments_of x at h)) (upto_before at (next_record H case vs) H) (at_rest.pseudos at x is) in
+    let stood : held_pseudo.StandsAt s.pseudos at (pseudo.moments_of x at H) = subst (λ h. held_pseudo.StandsAt s.pseudos at (pseudo.moments_of x at h)) (upto_before at (next_record H case vs) H) (at_rest.pseudos at x is) in
     let moved = moves.moved x (pseudo.moments_of x at H) held stood in
     let state : state_at case H vs at ≡ Some (PseudoBranch moved.state) = pseudo_state case s.pseudos.case H vs at x same.pseudos is ∙ ap (option_map PseudoBranch) moved.is in
     record {
       stands = λ r next upto_at. record {
         lumps = λ b y here.
             let ne : b ≢ at = λ e. pseudo_lumped x y (other_kind case at b (OfPseudo x) (OfLumped y) is here e) in
-            subst (λ h. lumped.StandsAt t.lumps b (lumped.states_of b h)) (sym (upto_other at b r H ne)) (subst (λ z. lumped.StandsAt z b (lumped.states_of b (upto at b r H))) (sym lumps) (upto_at.lumps b y here));
+            subst (λ h. held_lumped.StandsAt t.lumps b (lumped.states_of b h)) (sym (upto_other at b r H ne)) (subst (λ z. held_lumped.StandsAt z b (lumped.states_of b (upto at b r H))) (sym lumps) (upto_at.lumps b y here));
         lines = λ b y here.
             let ne : b ≢ at = λ e. pseudo_line x y (other_kind case at b (OfPseudo x) (OfLine y) is here e) in
-            subst (λ h. lined.StandsAt t.lines b (lined.states_of b h)) (sym (upto_other at b r H ne)) (subst (λ z. lined.StandsAt z b (lined.states_of b (upto at b r H))) (sym lines) (upto_at.lines b y here));
+            subst (λ h. held_lined.StandsAt t.lines b (lined.states_of b h)) (sym (upto_other at b r H ne)) (subst (λ z. held_lined.StandsAt z b (lined.states_of b (upto at b r H))) (sym lines) (upto_at.lines b y here));
         trios = λ u below.
             let ne : first_of_trio case.trios u ≢ at = begins_elsewhere case at u (OfPseudo x) network.in_threes below there is refl in
-            subst (λ h. lined.TrioStandsAt t.lines u (lined.phase_states_of case u h)) (sym (upto_other at (first_of_trio case.trios u) r H ne)) (subst (λ z. lined.TrioStandsAt z u (lined.phase_states_of case u (upto at (first_of_trio case.trios u) r H))) (sym lines) (upto_at.trios u below));
+            subst (λ h. held_lined.TrioStandsAt t.lines u (lined.phase_states_of case u h)) (sym (upto_other at (first_of_trio case.trios u) r H ne)) (subst (λ z. held_lined.TrioStandsAt z u (lined.phase_states_of case u (upto at (first_of_trio case.trios u) r H))) (sym lines) (upto_at.trios u below));
         pseudos = λ b y here. elim (cases_eq b at) [
           | inl e ↦
               let same_card : y ≡ x = pseudo_same y x (other_kind case at b (OfPseudo x) (OfPseudo y) is here e) in
               let newest : pseudo_at at r ≡ moved.state = next_state_read pseudo_of no_pseudo case H vs r at (PseudoBranch moved.state) next there state in
               let volts : voltage_at x.from r -ℤ voltage_at x.to r ≡ v = ap (λ us. item us x.from -ℤ item us x.to) next.voltages in
               let moment : pseudo.moment_of x at r ≡ moment_at v moved.state = ap (λ z. moment_at z (pseudo_at at r)) volts ∙ ap (moment_at v) newest in
-              let told : pseudo.StandsAt t.pseudos at (pseudo.moment_of x at r ∷ pseudo.moments_of x at H) = subst (λ m. pseudo.StandsAt t.pseudos at (m ∷ pseudo.moments_of x at H)) (sym moment) moved.stands in
-              let all : pseudo.StandsAt t.pseudos at (pseudo.moments_of x at (upto (at + 1) at r H)) = subst (λ h. pseudo.StandsAt t.pseudos at (pseudo.moments_of x at h)) (sym (upto_here at r H)) told in
-              let own : pseudo.StandsAt t.pseudos at (pseudo.moments_of y at (upto (at + 1) at r H)) = subst (λ c. pseudo.StandsAt t.pseudos at (pseudo.moments_of c at (upto (at + 1) at r H))) (sym same_card) all in
-              subst (λ k. pseudo.StandsAt t.pseudos k (pseudo.moments_of y k (upto (at + 1) k r H))) (sym e) own
-          | inr ne ↦ subst (λ h. pseudo.StandsAt t.pseudos b (pseudo.moments_of y b h)) (sym (upto_other at b r H ne)) (moves.others b (pseudo.moments_of y b (upto at b r H)) ne (upto_at.pseudos b y here))
+              let told : held_pseudo.StandsAt t.pseudos at (pseudo.moment_of x at r ∷ pseudo.moments_of x at H) = subst (λ m. held_pseudo.StandsAt t.pseudos at (m ∷ pseudo.moments_of x at H)) (sym moment) moved.stands in
+              let all : held_pseudo.StandsAt t.pseudos at (pseudo.moments_of x at (upto (at + 1) at r H)) = subst (λ h. held_pseudo.StandsAt t.pseudos at (pseudo.moments_of x at h)) (sym (upto_here at r H)) told in
+              let own : held_pseudo.StandsAt t.pseudos at (pseudo.moments_of y at (upto (at + 1) at r H)) = subst (λ c. held_pseudo.StandsAt t.pseudos at (pseudo.moments_of c at (upto (at + 1) at r H))) (sym same_card) all in
+              subst (λ k. held_pseudo.StandsAt t.pseudos k (pseudo.moments_of y k (upto (at + 1) k r H))) (sym e) own
+          | inr ne ↦ subst (λ h. held_pseudo.StandsAt t.pseudos b (pseudo.moments_of y b h)) (sym (upto_other at b r H ne)) (moves.others b (pseudo.moments_of y b (upto at b r H)) ne (upto_at.pseudos b y here))
         ];
       };
       in_range = alone_in_range case H vs at (OfPseudo x) network there is refl (some_is (state_at case H vs at) (PseudoBranch moved.state) state);
@@ -280,11 +284,11 @@ pseudo_moves case H vs at x s t i network same there is lumps lines moves before
     pseudo_same y x e = cc
 
 pub pseudo_stops : (case : Parts) (H : List StepRecord) (vs : List ℤ) (at : ℕ) (x : Pseudo) (s t : Branches) (e : OutOfRange) → HasCase s case → at < length case.branches → slice_get case.branches at ≡ Some (OfPseudo x)
-    → pseudo.Moves s.pseudos t.pseudos at (item vs x.from -ℤ item vs x.to) (Err e) → StandsBefore s case H vs at → HasStopped case H vs at at
+    → held_pseudo.Moves s.pseudos t.pseudos at (item vs x.from -ℤ item vs x.to) (Err e) → StandsBefore s case H vs at → HasStopped case H vs at at
 pseudo_stops case H vs at x s t e same there is moves before =
-    let held : pseudo.IsPseudoAt s.pseudos.case at x = branch_in s.pseudos.case case at (OfPseudo x) same.pseudos is in
+    let held : held_pseudo.IsPseudoAt s.pseudos.case at x = branch_in s.pseudos.case case at (OfPseudo x) same.pseudos is in
     let at_rest = before (next_record H case vs) (is_next case H vs) in
-    let stood : pseudo.StandsAt s.pseudos at (pseudo.moments_of x at H) = subst (λ h. pseudo.StandsAt s.pseudos at (pseudo.moments_of x at h)) (upto_before at (next_record H case vs) H) (at_rest.pseudos at x is) in
+    let stood : held_pseudo.StandsAt s.pseudos at (pseudo.moments_of x at H) = subst (λ h. held_pseudo.StandsAt s.pseudos at (pseudo.moments_of x at h)) (upto_before at (next_record H case vs) H) (at_rest.pseudos at x is) in
     record {
       later = omega arith;
       there = there;

@@ -6,12 +6,13 @@ use Rattle.std.proofs.lemmas.List.{ext_get_or}
 use Rattle.std.proofs.lemmas.List.FromFn.{length-map-range_with_len, get_or-map-range_with_len}
 use Rattle.std.proofs.lemmas.Int.{ints}
 use Rattle.std.proofs.lemmas.List.Elements.{All-cons, All-map}
-use Rattle.emtp_elim.specs.Matrix.{AreWithin, item}
+use Rattle.emtp_elim.specs.Matrix.{item}
+use Rattle.emtp_elim.specs.held.Matrix.{AreWithin}
 use Rattle.emtp_fix.specs.declared.limit.TheConstants.{LARGEST_VALUE}
 use Rattle.emtp_case.specs.declared.case.Parts.{Parts}
 use Rattle.emtp_case.proofs.RowsOfNodes.{IsRowOf, row_at_is}
 use Rattle.emtp_net.specs.Part.{voltages_of}
-use Rattle.emtp_rows.specs.Touched.{row_at}
+use Rattle.emtp_rows.specs.held.Touched.{row_at}
 
 pub row_is_at : (case : Parts) (n row : ℕ) → IsRowOf case n row → row_at case n ≡ row
 row_is_at case n row is = row_at_is case n row is.within is.there

@@ -10,7 +10,8 @@ use Rattle.emtp_case.specs.NodeRows.{node_at}
 use Rattle.emtp_case.specs.StepRecord.{BranchState, LumpedBranch, StepRecord, current_of, no_lumped}
 use Rattle.emtp_case.specs.declared.case.Parts.{Parts}
 use Rattle.emtp_elim.proofs.Outcomes.{outcome_small}
-use Rattle.emtp_elim.specs.Matrix.{AreWithin, item}
+use Rattle.emtp_elim.specs.Matrix.{item}
+use Rattle.emtp_elim.specs.held.Matrix.{AreWithin}
 use Rattle.emtp_elim.specs.Outcome.{outcome}
 use Rattle.emtp_elim.specs.declared.fault.PlainFault.{PlainFault}
 use Rattle.emtp_fix.proofs.Chaining.{same_ok, then_ok, unless_ok}
@@ -18,7 +19,7 @@ use Rattle.emtp_fix.proofs.Ranges.{IsSmall}
 use Rattle.emtp_fix.specs.Chain.{◌>>=◌}
 use Rattle.emtp_fix.specs.Limit.{is_within}
 use Rattle.emtp_fix.specs.declared.limit.TheConstants.{LARGEST_VALUE}
-use Rattle.emtp_rows.specs.Touched.{row_at}
+use Rattle.emtp_rows.specs.held.Touched.{row_at}
 use Rattle.emtp_net.proofs.BranchRanges.{state_small}
 use Rattle.emtp_net.proofs.Ending.{part_branches, part_voltages}
 use Rattle.emtp_net.specs.Part.{NetworkPart, first_out, node_of_branch, part_at, state_at, states_at, voltages_of}

@@ -2,9 +2,10 @@
 use Rattle.std.proofs.Common.{◌≡◌, ◌≢◌, ◌∙◌, sym, ap, subst, ℕ, zero, suc, ◌+◌, ◌-◌, ◌<◌, ℤ, pos, true, false, All, List, [], ◌∷◌, length, get_or, slice_get, IsSome, Option, option_map, Some, None, Result, Ok, Err, refl, inl, inr, arith}
 use Rattle.std.proofs.lemmas.Bool.{cases_eq}
 use Rattle.std.proofs.lemmas.Option.{slice_get-get_or}
-use Rattle.emtp_case.specs.Branch.{AreInThrees, IsBranch, first_of_trio, phase_at, phase_of}
-use Rattle.emtp_case.specs.Case.{IsNetwork}
-use Rattle.emtp_case.specs.Sizes.{sizes_of}
+use Rattle.emtp_case.specs.Branch.{first_of_trio}
+use Rattle.emtp_case.specs.held.Branch.{AreInThrees, IsBranch, phase_at, phase_of}
+use Rattle.emtp_case.specs.held.Case.{IsNetwork}
+use Rattle.emtp_case.specs.held.Sizes.{sizes_of}
 use Rattle.emtp_case.specs.StepRecord.{StepRecord, PhaseBranch, no_phase, phase_state_at, phase_state_of}
 use Rattle.emtp_case.specs.declared.branch.Branch.{Branch}
 use Rattle.emtp_case.specs.declared.branch.Branch.TheVariants.{Lumped as OfLumped, Line as OfLine, Pseudo as OfPseudo, Phase as OfPhase}
@@ -14,19 +15,23 @@ use Rattle.emtp_case.specs.declared.branch.Phase.{Phase}
 use Rattle.emtp_case.specs.declared.branch.PhaseState.{PhaseState}
 use Rattle.emtp_case.specs.declared.branch.Pseudo.{Pseudo}
 use Rattle.emtp_case.specs.declared.case.Parts.{Parts}
-use Rattle.emtp_line.specs.Held.{PhaseStands, state_at as phase_in, with_states}
+use Rattle.emtp_line.specs.held.Held.{PhaseStands, state_at as phase_in, with_states}
 use Rattle.emtp_line.specs.Lines as lined
-use Rattle.emtp_line.specs.Phases.{from_histories, modes_of, next_phases, phase_end, phase_state, three_of, to_histories, zero_from_waves, zero_to_waves}
-use Rattle.emtp_line.specs.Waves.{WavesStand}
+use Rattle.emtp_line.specs.held.Lines as held_lined
+use Rattle.emtp_line.specs.Phases.{from_histories, modes_of, phase_end, phase_state, to_histories, zero_from_waves, zero_to_waves}
+use Rattle.emtp_line.specs.held.Phases.{next_phases, three_of}
+use Rattle.emtp_line.specs.held.Waves.{WavesStand}
 use Rattle.emtp_line.specs.declared.phase_states.PhaseRange.{PhaseRange}
 use Rattle.emtp_lumped.specs.Lumps as lumped
+use Rattle.emtp_lumped.specs.held.Lumps as held_lumped
 use Rattle.emtp_net.proofs.Moves.{is_next, next_record, next_state_read, phase_read, upto_before, upto_here, upto_other}
 use Rattle.emtp_net.proofs.Nodes.{branch_fits}
-use Rattle.emtp_net.specs.Branches.{HasCase}
-use Rattle.emtp_net.specs.Moving.{HasMoved, HasStopped, StandsBefore, head_by, upto}
+use Rattle.emtp_net.specs.held.Branches.{HasCase}
+use Rattle.emtp_net.specs.held.Moving.{HasMoved, HasStopped, StandsBefore, head_by, upto}
 use Rattle.emtp_net.specs.Part.{phase_voltages, state_at, state_by}
 use Rattle.emtp_net.specs.declared.branches.Branches.{Branches}
 use Rattle.emtp_pseudo.specs.Pseudos as pseudo
+use Rattle.emtp_pseudo.specs.held.Pseudos as held_pseudo
 use Rattle.emtp_rows.proofs.Phases.{phase_there}
 
 some_is : {X : Type 0} (o : Option X) (x : X) → o ≡ Some x → IsSome o
@@ -124,16 +129,16 @@ phase_waits case H vs at x s i network there is later before = record {
   stands = λ r next upto_at. record {
     lumps = λ b y here.
         let ne : b ≢ at = λ e. not_lumped x y (other_kind case at b x (OfLumped y) is here e) in
-        subst (λ h. lumped.StandsAt s.lumps b (lumped.states_of b h)) (sym (upto_other at b r H ne)) (upto_at.lumps b y here);
+        subst (λ h. held_lumped.StandsAt s.lumps b (lumped.states_of b h)) (sym (upto_other at b r H ne)) (upto_at.lumps b y here);
     lines = λ b y here.
         let ne : b ≢ at = λ e. not_line x y (other_kind case at b x (OfLine y) is here e) in
-        subst (λ h. lined.StandsAt s.lines b (lined.states_of b h)) (sym (upto_other at b r H ne)) (upto_at.lines b y here);
+        subst (λ h. held_lined.StandsAt s.lines b (lined.states_of b h)) (sym (upto_other at b r H ne)) (upto_at.lines b y here);
     trios = λ u below.
         let ne : first_of_trio case.trios u ≢ at = λ e. later (begins_one case at u x network.in_threes below there is e).1 in
-        subst (λ h. lined.TrioStandsAt s.lines u (lined.phase_states_of case u h)) (sym (upto_other at (first_of_trio case.trios u) r H ne)) (upto_at.trios u below);
+        subst (λ h. held_lined.TrioStandsAt s.lines u (lined.phase_states_of case u h)) (sym (upto_other at (first_of_trio case.trios u) r H ne)) (upto_at.trios u below);
     pseudos = λ b y here.
         let ne : b ≢ at = λ e. not_pseudo x y (other_kind case at b x (OfPseudo y) is here e) in
-        subst (λ h. pseudo.StandsAt s.pseudos b (pseudo.moments_of y b h)) (sym (upto_other at b r H ne)) (upto_at.pseudos b y here);
+        subst (λ h. held_pseudo.StandsAt s.pseudos b (pseudo.moments_of y b h)) (sym (upto_other at b r H ne)) (upto_at.pseudos b y here);
   };
   in_range = λ b below head.
       let y = get_or case.branches b (OfPhase x) in
@@ -159,7 +164,7 @@ each_of_three P a b c (suc (suc zero)) few = c
 each_of_three P a b c (suc (suc (suc p))) few = absurd (omega arith)
 
 pub trio_moves : (case : Parts) (H : List StepRecord) (vs : List ℤ) (at : ℕ) (x : Phase) (s t : Branches) (is_i : List ℤ) (i : ℤ) → IsNetwork case → HasCase s case → at < length case.branches → slice_get case.branches at ≡ Some (OfPhase x) → x.phase ≡ 0 → t.lumps ≡ s.lumps → t.pseudos ≡ s.pseudos
-    → lined.TrioMoves s.lines t.lines x.trio (phase_voltages case false x.trio vs) (phase_voltages case true x.trio vs) (Ok is_i) → StandsBefore s case H vs at → HasMoved s t case H vs at i
+    → held_lined.TrioMoves s.lines t.lines x.trio (phase_voltages case false x.trio vs) (phase_voltages case true x.trio vs) (Ok is_i) → StandsBefore s case H vs at → HasMoved s t case H vs at i
 trio_moves case H vs at x s t is_i i network same there is first lumps pseudos moves before =
     let threes = network.in_threes in
     let fits = branch_fits case at (OfPhase x) network.branches there is in
@@ -168,7 +173,7 @@ trio_moves case H vs at x s t is_i i network same there is first lumps pseudos m
     let start = next_record H case vs in
     let at_rest = before start (is_next case H vs) in
     let past = lined.phase_states_of case x.trio H in
-    let stood : lined.TrioStandsAt s.lines x.trio past = subst (λ h. lined.TrioStandsAt s.lines x.trio (lined.phase_states_of case x.trio h)) (ap (λ n. upto at n start H) begin ∙ upto_before at start H) (at_rest.trios x.trio line_there) in
+    let stood : held_lined.TrioStandsAt s.lines x.trio past = subst (λ h. held_lined.TrioStandsAt s.lines x.trio (lined.phase_states_of case x.trio h)) (ap (λ n. upto at n start H) begin ∙ upto_before at start H) (at_rest.trios x.trio line_there) in
     let moved = moves.moved past stood in
     let states = moved.states in
     let made = subst (λ (p : Parts). next_phases (modes_of p.run.dt (lined.trio_of p x.trio)) past (phase_voltages case false x.trio vs) (phase_voltages case true x.trio vs) ≡ Ok states) same.lines moved.is in
@@ -182,26 +187,26 @@ trio_moves case H vs at x s t is_i i network same there is first lumps pseudos m
       stands = λ r next upto_at. record {
         lumps = λ b y here.
             let ne : b ≢ at = λ e. not_lumped x y (other_kind case at b x (OfLumped y) is here e) in
-            subst (λ h. lumped.StandsAt t.lumps b (lumped.states_of b h)) (sym (upto_other at b r H ne)) (subst (λ z. lumped.StandsAt z b (lumped.states_of b (upto at b r H))) (sym lumps) (upto_at.lumps b y here));
+            subst (λ h. held_lumped.StandsAt t.lumps b (lumped.states_of b h)) (sym (upto_other at b r H ne)) (subst (λ z. held_lumped.StandsAt z b (lumped.states_of b (upto at b r H))) (sym lumps) (upto_at.lumps b y here));
         lines = λ b y here.
             let ne : b ≢ at = λ e. not_line x y (other_kind case at b x (OfLine y) is here e) in
-            subst (λ h. lined.StandsAt t.lines b (lined.states_of b h)) (sym (upto_other at b r H ne)) (moves.lines b (lined.states_of b (upto at b r H)) (upto_at.lines b y here));
+            subst (λ h. held_lined.StandsAt t.lines b (lined.states_of b h)) (sym (upto_other at b r H ne)) (moves.lines b (lined.states_of b (upto at b r H)) (upto_at.lines b y here));
         trios = λ u below. elim (cases_eq u x.trio) [
           | inl e ↦
               let newest : (p : ℕ) → p < 3 → phase_state_at (first_of_trio case.trios x.trio + p) r ≡ phase_in states p =
               λ p few. next_state_read phase_state_of no_phase case H vs r (first_of_trio case.trios x.trio + p) (PhaseBranch (phase_in states p)) next (phase_there case.branches case.trios x.trio p threes line_there few) (state p few) in
-              let told : lined.TrioStandsAt t.lines x.trio (lined.phase_states_of case x.trio (r ∷ H)) = trio_told t.lines x.trio (with_states states past) (lined.phase_states_of case x.trio (r ∷ H)) moved.stands
+              let told : held_lined.TrioStandsAt t.lines x.trio (lined.phase_states_of case x.trio (r ∷ H)) = trio_told t.lines x.trio (with_states states past) (lined.phase_states_of case x.trio (r ∷ H)) moved.stands
               (λ p few. ap (λ z. z ∷ past p) (sym (newest p few))) in
-              let all : lined.TrioStandsAt t.lines x.trio (lined.phase_states_of case x.trio (upto (at + 1) (first_of_trio case.trios x.trio) r H)) =
-              subst (λ h. lined.TrioStandsAt t.lines x.trio (lined.phase_states_of case x.trio h)) (sym (ap (λ n. upto (at + 1) n r H) begin ∙ upto_here at r H)) told in
-              subst (λ k. lined.TrioStandsAt t.lines k (lined.phase_states_of case k (upto (at + 1) (first_of_trio case.trios k) r H))) (sym e) all
+              let all : held_lined.TrioStandsAt t.lines x.trio (lined.phase_states_of case x.trio (upto (at + 1) (first_of_trio case.trios x.trio) r H)) =
+              subst (λ h. held_lined.TrioStandsAt t.lines x.trio (lined.phase_states_of case x.trio h)) (sym (ap (λ n. upto (at + 1) n r H) begin ∙ upto_here at r H)) told in
+              subst (λ k. held_lined.TrioStandsAt t.lines k (lined.phase_states_of case k (upto (at + 1) (first_of_trio case.trios k) r H))) (sym e) all
           | inr ne ↦
               let off : first_of_trio case.trios u ≢ at = λ e. ne (sym (begins_one case at u x threes below there is e).0) in
-              subst (λ h. lined.TrioStandsAt t.lines u (lined.phase_states_of case u h)) (sym (upto_other at (first_of_trio case.trios u) r H off)) (moves.others u (lined.phase_states_of case u (upto at (first_of_trio case.trios u) r H)) ne (upto_at.trios u below))
+              subst (λ h. held_lined.TrioStandsAt t.lines u (lined.phase_states_of case u h)) (sym (upto_other at (first_of_trio case.trios u) r H off)) (moves.others u (lined.phase_states_of case u (upto at (first_of_trio case.trios u) r H)) ne (upto_at.trios u below))
         ];
         pseudos = λ b y here.
             let ne : b ≢ at = λ e. not_pseudo x y (other_kind case at b x (OfPseudo y) is here e) in
-            subst (λ h. pseudo.StandsAt t.pseudos b (pseudo.moments_of y b h)) (sym (upto_other at b r H ne)) (subst (λ z. pseudo.StandsAt z b (pseudo.moments_of y b (upto at b r H))) (sym pseudos) (upto_at.pseudos b y here));
+            subst (λ h. held_pseudo.StandsAt t.pseudos b (pseudo.moments_of y b h)) (sym (upto_other at b r H ne)) (subst (λ z. held_pseudo.StandsAt z b (pseudo.moments_of y b (upto at b r H))) (sym pseudos) (upto_at.pseudos b y here));
       };
       in_range = λ b below head.
           let y = get_or case.branches b (OfPhase x) in
@@ -212,9 +217,9 @@ trio_moves case H vs at x s t is_i i network same there is first lumps pseudos m
       pseudo = λ y r next here. absurd (not_pseudo x y (other_kind case at at x (OfPseudo y) is here refl));
     }
   where
-    trio_told : (lines : lined.Lining) (u : ℕ) (old new : ℕ → List PhaseState) → lined.TrioStandsAt lines u old → ((p : ℕ) → p < 3 → old p ≡ new p) → lined.TrioStandsAt lines u new
+    trio_told : (lines : held_lined.Lining) (u : ℕ) (old new : ℕ → List PhaseState) → held_lined.TrioStandsAt lines u old → ((p : ℕ) → p < 3 → old p ≡ new p) → held_lined.TrioStandsAt lines u new
     trio_told lines u old new told same =
-        let held = lined.trio_held lines.trios u in
+        let held = held_lined.trio_held lines.trios u in
         let zeroth = same 0 (omega arith) in
         record {
           there = told.there;
@@ -265,7 +270,7 @@ three_stops of fault is = by_first (of 0) (of 1) (of 2) refl refl refl is
     by_first (Some x) (Some y) (Some z) e0 e1 e2 is = absurd (cc)
 
 pub trio_stops : (case : Parts) (H : List StepRecord) (vs : List ℤ) (at : ℕ) (x : Phase) (s t : Branches) (fault : PhaseRange) → IsNetwork case → HasCase s case → at < length case.branches → slice_get case.branches at ≡ Some (OfPhase x) → x.phase ≡ 0
-    → lined.TrioMoves s.lines t.lines x.trio (phase_voltages case false x.trio vs) (phase_voltages case true x.trio vs) (Err fault) → StandsBefore s case H vs at → (fault.phase < 3) × HasStopped case H vs at (at + fault.phase)
+    → held_lined.TrioMoves s.lines t.lines x.trio (phase_voltages case false x.trio vs) (phase_voltages case true x.trio vs) (Err fault) → StandsBefore s case H vs at → (fault.phase < 3) × HasStopped case H vs at (at + fault.phase)
 trio_stops case H vs at x s t fault network same there is first moves before =
     let threes = network.in_threes in
     let fits = branch_fits case at (OfPhase x) network.branches there is in
@@ -273,7 +278,7 @@ trio_stops case H vs at x s t fault network same there is first moves before =
     let start = next_record H case vs in
     let at_rest = before start (is_next case H vs) in
     let past = lined.phase_states_of case x.trio H in
-    let stood : lined.TrioStandsAt s.lines x.trio past = subst (λ h. lined.TrioStandsAt s.lines x.trio (lined.phase_states_of case x.trio h)) (ap (λ n. upto at n start H) begin ∙ upto_before at start H) (at_rest.trios x.trio fits.trio) in
+    let stood : held_lined.TrioStandsAt s.lines x.trio past = subst (λ h. held_lined.TrioStandsAt s.lines x.trio (lined.phase_states_of case x.trio h)) (ap (λ n. upto at n start H) begin ∙ upto_before at start H) (at_rest.trios x.trio fits.trio) in
     let made = subst (λ (p : Parts). next_phases (modes_of p.run.dt (lined.trio_of p x.trio)) past (phase_voltages case false x.trio vs) (phase_voltages case true x.trio vs) ≡ Err fault) same.lines (moves.out past stood) in
     let stop = three_stops (phase_next case H vs x.trio) fault made in
     let place : (q : ℕ) → first_of_trio case.trios x.trio + q ≡ at + q = λ q. ap (λ n. n + q) begin in

@@ -12,10 +12,10 @@ use Rattle.emtp_case.specs.declared.row_kind.RowKind.{RowKind}
 use Rattle.emtp_case.specs.declared.row_kind.RowKind.TheVariants.{Kcl, Sum, Tie, Ground, Source}
 use Rattle.emtp_elim.specs.Matrix.{item}
 use Rattle.emtp_net.proofs.Righting.{group_sums}
-use Rattle.emtp_net.specs.Judging.{IsUnbalanced, Judges, magnitude_at, magnitude_in}
+use Rattle.emtp_net.specs.held.Judging.{IsUnbalanced, Judges, magnitude_at, magnitude_in}
 use Rattle.emtp_net.specs.Part.{leaving, leaving_rows}
 use Rattle.emtp_net.specs.Residual.{residual_by, residual_of}
-use Rattle.emtp_net.specs.Sums.{group_total}
+use Rattle.emtp_net.specs.held.Sums.{group_total}
 use Rattle.emtp_net.specs.System.{kinds_of}
 use Rattle.emtp_rows.specs.Nodal.{group_sum, kind_at, node_at}
 

@@ -8,14 +8,14 @@ use Rattle.emtp_elim.specs.Matrix.{item}
 use Rattle.emtp_fix.specs.declared.limit.TheConstants.{LARGEST_VALUE}
 use Rattle.emtp_rows.proofs.NodalRows.{length-nodal_matrix}
 use Rattle.emtp_rows.specs.Nodal.{Nodal, nodal_matrix}
-use Rattle.emtp_rows.specs.Terms.{nodal_at_rest}
-use Rattle.emtp_rows.specs.Touched.{NodalRows}
-use Rattle.emtp_switch.specs.Switching as switching
-use Rattle.emtp_tail.specs.Good.{Good}
-use Rattle.emtp_net.specs.Branches.{StandsFor as BranchesStandFor}
-use Rattle.emtp_net.specs.Holding.{HasShown, HoldsRows}
-use Rattle.emtp_net.specs.Moving.{AreCurrents, AreLineCurrents}
-use Rattle.emtp_net.specs.Network.{Net, StandsFor}
+use Rattle.emtp_rows.specs.held.Terms.{nodal_at_rest}
+use Rattle.emtp_rows.specs.held.Touched.{NodalRows}
+use Rattle.emtp_switch.specs.held.Switching as switching
+use Rattle.emtp_tail.specs.held.Good.{Good}
+use Rattle.emtp_net.specs.held.Branches.{StandsFor as BranchesStandFor}
+use Rattle.emtp_net.specs.held.Holding.{HasShown, HoldsRows}
+use Rattle.emtp_net.specs.held.Moving.{AreCurrents, AreLineCurrents}
+use Rattle.emtp_net.specs.held.Network.{Net, StandsFor}
 use Rattle.emtp_net.specs.System.{couplings}
 use Rattle.emtp_net.proofs.LineCurrents.{currents_rest, line_currents_rest}
 

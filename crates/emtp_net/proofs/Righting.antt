@@ -10,9 +10,10 @@ use Rattle.emtp_case.specs.declared.row_kind.RowKind.{RowKind}
 use Rattle.emtp_case.specs.declared.row_kind.RowKind.TheVariants.{Kcl, Sum, Tie, Ground, Source as SourceRow}
 use Rattle.emtp_elim.specs.Matrix.{item}
 use Rattle.emtp_net.proofs.Sourcing.{voltage_is}
-use Rattle.emtp_net.specs.Rights.{place_at, places_of, row_value}
-use Rattle.emtp_net.specs.Sums.{group_total}
-use Rattle.emtp_net.specs.System.{kinds_of, right, right_by, right_current, source_value, source_values, voltage_of}
+use Rattle.emtp_net.specs.held.Rights.{place_at, places_of, row_value}
+use Rattle.emtp_net.specs.held.Sums.{group_total}
+use Rattle.emtp_net.specs.System.{kinds_of, right, right_by, right_current, source_value, voltage_of}
+use Rattle.emtp_net.specs.held.System.{source_values}
 use Rattle.emtp_case.proofs.Sums.{sum_below_same}
 use Rattle.emtp_case.specs.Sums.{sum_below}
 use Rattle.emtp_rows.specs.Nodal.{group_sum, is_member, kind_at, node_at}

@@ -13,7 +13,8 @@ use Rattle.emtp_rows.proofs.NodalRows.{length-nodal_matrix}
 use Rattle.emtp_tail.proofs.RedoneRows.{none_redone as same_redone, rows_next_most, rows_of_run}
 use Rattle.emtp_rows.specs.Nodal.{Nodal, nodal_matrix}
 use Rattle.emtp_net.specs.Part.{NetworkPart, voltages_of}
-use Rattle.emtp_net.specs.Redone.{net_redone, net_ticks, step_redone, step_ticks}
+use Rattle.emtp_net.specs.Redone.{net_redone, step_redone}
+use Rattle.emtp_net.specs.held.Redone.{net_ticks, step_ticks}
 use Rattle.emtp_net.specs.Residual.{residual_of}
 use Rattle.emtp_net.specs.Step.{balanced, first_unbalanced, moved, network_part, solution, switched, untied}
 use Rattle.emtp_net.specs.System.{conductances, couplings, kinds_of, matrix, nodal}

@@ -11,7 +11,7 @@ use Rattle.std.proofs.lemmas.Option.{slice_get-get_or, slice_get_past}
 use Rattle.emtp_case.specs.declared.source.Source.{Source}
 use Rattle.emtp_case.specs.declared.source.Shape.TheVariants.{Step}
 use Rattle.emtp_elim.specs.Matrix.{item}
-use Rattle.emtp_net.specs.Rights.{brought}
+use Rattle.emtp_net.specs.held.Rights.{brought}
 use Rattle.emtp_case.proofs.Sums.{total-more}
 
 -- ---- current sources

@@ -3,19 +3,22 @@ use Rattle.std.proofs.Common.{◌≡◌, ◌∙◌, sym, ap, subst, ℕ, ◌+◌
 use Rattle.emtp_case.specs.StepRecord.{StepRecord, is_closed, latest}
 use Rattle.emtp_case.specs.declared.case.Parts.{Parts}
 use Rattle.emtp_case.specs.declared.row_kind.RowKind.{RowKind}
-use Rattle.emtp_rows.specs.Touched.{NodalRows}
+use Rattle.emtp_rows.specs.held.Touched.{NodalRows}
 use Rattle.emtp_switch.specs.States.{next_states}
-use Rattle.emtp_switch.specs.Switching as switching
+use Rattle.emtp_switch.specs.held.Switching as switching
 use Rattle.emtp_tail.proofs.RedoneRows.{matrix_before_is}
-use Rattle.emtp_tail.specs.Good.{Good}
-use Rattle.emtp_net.specs.Fault.{NamesNode}
-use Rattle.emtp_net.specs.Moving.{AreCurrents, AreLineCurrents, HaveMoved, IsNext}
-use Rattle.emtp_net.specs.Network.{Net, StandsFor, StepsTo}
-use Rattle.emtp_net.specs.Part.{NetworkPart, network_of, part_at, states_at, switch_currents_at}
-use Rattle.emtp_net.specs.Redone.{last_matrix, net_redone, step_redone}
-use Rattle.emtp_net.specs.Stages.{AreVoltages, Ends, HasCurrents, IsBalanced, IsDecided, IsPosed, IsReady, step_adds}
+use Rattle.emtp_tail.specs.held.Good.{Good}
+use Rattle.emtp_net.specs.held.Fault.{NamesNode}
+use Rattle.emtp_net.specs.held.Moving.{AreCurrents, AreLineCurrents, HaveMoved, IsNext}
+use Rattle.emtp_net.specs.held.Network.{Net, StandsFor, StepsTo}
+use Rattle.emtp_net.specs.Part.{NetworkPart, part_at, states_at, switch_currents_at}
+use Rattle.emtp_net.specs.held.Part.{network_of}
+use Rattle.emtp_net.specs.Redone.{net_redone, step_redone}
+use Rattle.emtp_net.specs.held.Redone.{last_matrix}
+use Rattle.emtp_net.specs.held.Stages.{AreVoltages, Ends, HasCurrents, IsBalanced, IsDecided, IsPosed, IsReady, step_adds}
 use Rattle.emtp_net.specs.Step.{network_part}
-use Rattle.emtp_net.specs.System.{matrix, source_values}
+use Rattle.emtp_net.specs.System.{matrix}
+use Rattle.emtp_net.specs.held.System.{source_values}
 use Rattle.emtp_net.specs.declared.fault.NetFault.{NetFault}
 use Rattle.emtp_net.specs.declared.nodal_system.NodalSystem.{NodalSystem}
 use Rattle.emtp_net.proofs.Ending.{part_branches, part_currents, part_made, part_states, part_voltages}

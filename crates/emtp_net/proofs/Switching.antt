@@ -2,7 +2,7 @@
 use Rattle.std.proofs.Common.{◌≡◌, ◌∙◌, sym, ap, subst, ℕ, ◌<◌, ◌≤◌, ℤ, List, [], ◌∷◌, All, length, unsigned_abs, if◌then◌else◌, not, Option, Some, None, true, false, refl, arith, pos}
 use Rattle.std.proofs.lemmas.Bool.Decides.{nat_tests}
 use Rattle.std.proofs.lemmas.List.FromFn.{length-map-range_with_len}
-use Rattle.emtp_case.specs.RowKinds.{AreKinds}
+use Rattle.emtp_case.specs.held.RowKinds.{AreKinds}
 use Rattle.emtp_case.specs.RowOrder.{Rows, order_of}
 use Rattle.emtp_case.specs.StepRecord.{BranchState, StepRecord}
 use Rattle.emtp_case.specs.declared.case.Parts.{Parts}
@@ -12,12 +12,13 @@ use Rattle.emtp_elim.specs.Matrix.{item}
 use Rattle.emtp_fix.specs.Limit.{is_within}
 use Rattle.emtp_fix.specs.declared.limit.TheConstants.{LARGEST_VALUE}
 use Rattle.emtp_case.proofs.RowsOfNodes.{fixed_within}
-use Rattle.emtp_switch.specs.Currents.{IsFirstBeyond, bridge_current, contains, currents_of}
+use Rattle.emtp_switch.specs.Currents.{bridge_current, contains, currents_of}
+use Rattle.emtp_switch.specs.held.Currents.{IsFirstBeyond}
 use Rattle.emtp_switch.specs.Groups.{bridges_of, tied_of}
 use Rattle.emtp_switch.specs.Kinds as switched
 use Rattle.emtp_switch.specs.States.{next_states}
-use Rattle.emtp_switch.specs.Switching as switching
-use Rattle.emtp_net.specs.Holding.{HoldsSwitches}
+use Rattle.emtp_switch.specs.held.Switching as switching
+use Rattle.emtp_net.specs.held.Holding.{HoldsSwitches}
 use Rattle.emtp_net.specs.Part.{leaving_rows, switch_currents_at}
 use Rattle.emtp_net.specs.Step.{first_beyond}
 use Rattle.emtp_net.specs.System.{kinds_of}

@@ -10,7 +10,7 @@ use Rattle.emtp_elim.specs.declared.fault.RowCause.{RowCause}
 use Rattle.emtp_elim.specs.declared.fault.RowCause.TheVariants.{Range as RowRange, ZeroPivot as RowPivot}
 use Rattle.emtp_net.specs.Part.{NetworkPart, first_out, node_of_branch, part_at, voltages_of}
 use Rattle.emtp_net.specs.Residual.{residual_of}
-use Rattle.emtp_net.specs.Stages.{IsUntied}
+use Rattle.emtp_net.specs.held.Stages.{IsUntied}
 use Rattle.emtp_net.specs.Step.{balanced, fault_by, first_beyond, first_unbalanced, moved, node_of_switch, named, network_part, solution, switched}
 use Rattle.emtp_net.specs.System.{matrix, right}
 use Rattle.emtp_net.specs.declared.fault.NetFault.{NetFault}

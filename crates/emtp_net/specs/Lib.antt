@@ -1,14 +1,8 @@
-pub mod Sums
-pub mod Rights
+-- what the clauses of the program say
 pub mod System
 pub mod Part
 pub mod Residual
 pub mod Redone
 pub mod Step
-pub mod Judging
-pub mod Branches
-pub mod Moving
-pub mod Fault
-pub mod Stages
-pub mod Holding
-pub mod Network
+-- what values hold for their proofs
+pub mod held

@@ -18,7 +18,7 @@ use Rattle.emtp_line.specs.Phases.{Modes, from_histories, modes_of, phase_end, p
 use Rattle.emtp_lumped.specs.Lumps as lumped
 use Rattle.emtp_pseudo.specs.Pseudos as pseudo
 use Rattle.emtp_rows.specs.Nodal.{node_at, phase_node}
-use Rattle.emtp_rows.specs.Touched.{row_at}
+use Rattle.emtp_rows.specs.held.Touched.{row_at}
 use Rattle.emtp_switch.specs.Currents as switched
 use Rattle.emtp_switch.specs.States.{next_states}
 use Rattle.emtp_net.specs.System.{branch_sum, sources_into, taken, through}
@@ -29,9 +29,6 @@ pub record NetworkPart : Type 0 where
   pub branches : List BranchState
   pub switch_states : List SwitchState
   pub switch_currents : List ℤ
-
-abbrev pub network_of : StepRecord → NetworkPart
-network_of r = record { voltages = r.voltages; branches = r.branches; switch_states = r.switch_states; switch_currents = r.switch_currents }
 
 -- ---- voltages
 

@@ -1,6 +1,6 @@
 -- The nodal system of the next step, from the case and its records, newest first, and nothing else.
 use Rattle.std.specs.List.{find}
-use Rattle.std.specs.Prelude.{ℕ, ◌==◌, ◌&&◌, ℤ, pos, neg_ℤ, ◌+ℤ◌, if◌then◌else◌, List, length, map, slice_get, Option, Some, None, unwrap_or, option_map}
+use Rattle.std.specs.Prelude.{ℕ, ◌==◌, ◌&&◌, ℤ, pos, neg_ℤ, ◌+ℤ◌, if◌then◌else◌, List, length, slice_get, Option, Some, None, unwrap_or, option_map}
 use Rattle.emtp_elim.specs.Matrix.{Matrix, list_of}
 use Rattle.emtp_case.specs.Branch.{from_of, to_of}
 use Rattle.emtp_case.specs.RowOrder.{order_of}
@@ -67,9 +67,6 @@ branch_sum case f n = sum_below (length case.branches) (λ b. at_node n (slice_g
 -- the value of a source in the next step: the values of the control are those of the last record
 abbrev pub source_value : Parts → List StepRecord → Source → ℤ
 source_value case H s = value_of case.run (latest H).values s (length H)
-
-abbrev pub source_values : Parts → List StepRecord → List ℤ
-source_values case H = map (source_value case H) case.sources
 
 -- the sum of the current sources of node n
 abbrev pub sources_into : Parts → List StepRecord → ℕ → ℤ

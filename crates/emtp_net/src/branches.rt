@@ -3,11 +3,11 @@
 ghost use Rattle.std.specs.Prelude.{◌≡◌, ◌+◌, ◌^◌, ◌<◌, ◌≤◌, ◌∷◌, [], false, true, ℤ, List, length, slice_get, unsigned_abs, IfErr, IfOk, OnOk};
 ghost use Rattle.emtp_case.specs.StepRecord.{StepRecord, branch_current_at, rest_of};
 ghost use Rattle.emtp_fix.specs.declared.limit.TheConstants.{LARGEST_ENTRY};
-ghost use Rattle.emtp_net.specs.Branches.{HasCase, StandsFor};
-ghost use Rattle.emtp_net.specs.Fault.{NamesNode};
+ghost use Rattle.emtp_net.specs.held.Branches.{HasCase, StandsFor};
+ghost use Rattle.emtp_net.specs.held.Fault.{NamesNode};
 ghost use Rattle.emtp_net.specs.Redone.{step_redone};
-ghost use Rattle.emtp_net.specs.Stages.{AreVoltages, Ends};
-ghost use Rattle.emtp_net.specs.Moving.{AreCurrents, AreLineCurrents, HasMoved, HasStopped, HaveMoved, IsFirstOut, IsNext, StandsBefore};
+ghost use Rattle.emtp_net.specs.held.Stages.{AreVoltages, Ends};
+ghost use Rattle.emtp_net.specs.held.Moving.{AreCurrents, AreLineCurrents, HasMoved, HasStopped, HaveMoved, IsFirstOut, IsNext, StandsBefore};
 ghost use Rattle.emtp_net.specs.Part.{brought_by, phase_voltages};
 ghost use Rattle.emtp_net.specs.System.{conductance_by, history_at, taken, through};
 

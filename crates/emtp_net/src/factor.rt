@@ -3,17 +3,18 @@
 ghost use Rattle.std.specs.Prelude.{◌≡◌, ◌+◌, ◌-◌, ◌*◌, ◌^◌, ◌≤◌, ◌<◌, ◌==◌, ℤ, List, length, if◌then◌else◌, Err, OnOk, IfErr};
 ghost use Rattle.emtp_case.specs.RowOrder.{order_of};
 ghost use Rattle.emtp_case.specs.StepRecord.{StepRecord};
-ghost use Rattle.emtp_elim.specs.Fault.{IsRowFault};
+ghost use Rattle.emtp_elim.specs.held.Fault.{IsRowFault};
 ghost use Rattle.emtp_elim.specs.Outcome.{outcome};
 ghost use Rattle.emtp_elim.specs.declared.fault.PlainFault.{PlainFault};
-ghost use Rattle.emtp_net.specs.Branches.{HasCase, StandsFor as BranchesStandFor};
-ghost use Rattle.emtp_net.specs.Fault.{NamesNode};
-ghost use Rattle.emtp_net.specs.Holding.{HoldsRows};
-ghost use Rattle.emtp_net.specs.Redone.{step_redone, step_ticks};
-ghost use Rattle.emtp_net.specs.Stages.{Ends, IsReady};
+ghost use Rattle.emtp_net.specs.held.Branches.{HasCase, StandsFor as BranchesStandFor};
+ghost use Rattle.emtp_net.specs.held.Fault.{NamesNode};
+ghost use Rattle.emtp_net.specs.held.Holding.{HoldsRows};
+ghost use Rattle.emtp_net.specs.Redone.{step_redone};
+ghost use Rattle.emtp_net.specs.held.Redone.{step_ticks};
+ghost use Rattle.emtp_net.specs.held.Stages.{Ends, IsReady};
 ghost use Rattle.emtp_net.specs.System.{conductances, couplings, matrix};
 ghost use Rattle.emtp_rows.specs.Nodal.{nodal_matrix};
-ghost use Rattle.emtp_rows.specs.Touched.{StandsUntouched, Touches};
+ghost use Rattle.emtp_rows.specs.held.Touched.{StandsUntouched, Touches};
 ghost use Rattle.emtp_tail.specs.Good.{first_change};
 
 use crate::branches::Branches;

@@ -3,7 +3,8 @@
 ghost use Rattle.std.specs.Prelude.{◌≡◌, ◌+◌, ◌≤◌, ◌<◌, ◌∷◌, ℕ, List, length, unsigned_abs, Ok};
 ghost use Rattle.emtp_case.specs.StepRecord.{StepRecord};
 ghost use Rattle.emtp_net.specs.Part.{NetworkPart};
-ghost use Rattle.emtp_net.specs.Redone.{net_redone, net_ticks, step_redone};
+ghost use Rattle.emtp_net.specs.Redone.{net_redone, step_redone};
+ghost use Rattle.emtp_net.specs.held.Redone.{net_ticks};
 ghost use Rattle.emtp_net.specs.Residual.{residual_of};
 ghost use Rattle.emtp_net.specs.Step.{network_part};
 ghost use Rattle.emtp_net.specs.System.{conductances, kinds_of};

@@ -4,11 +4,11 @@ ghost use Rattle.std.specs.Prelude.{◌≡◌, ◌+◌, ◌*◌, ◌<◌, ◌≤
 ghost use Rattle.emtp_case.specs.RowOrder.{order_of};
 ghost use Rattle.emtp_case.specs.StepRecord.{StepRecord, branch_current_at, is_closed, latest, rest_of};
 ghost use Rattle.emtp_fix.specs.declared.limit.TheConstants.{LARGEST_VALUE};
-ghost use Rattle.emtp_net.specs.Branches.{HasCase};
-ghost use Rattle.emtp_net.specs.Fault.{NamesNode};
-ghost use Rattle.emtp_net.specs.Holding.{HoldsRows};
-ghost use Rattle.emtp_net.specs.Network.{StandsFor, StepsTo};
-ghost use Rattle.emtp_net.specs.Redone.{step_ticks};
+ghost use Rattle.emtp_net.specs.held.Branches.{HasCase};
+ghost use Rattle.emtp_net.specs.held.Fault.{NamesNode};
+ghost use Rattle.emtp_net.specs.held.Holding.{HoldsRows};
+ghost use Rattle.emtp_net.specs.held.Network.{StandsFor, StepsTo};
+ghost use Rattle.emtp_net.specs.held.Redone.{step_ticks};
 ghost use Rattle.emtp_net.specs.Step.{network_part};
 
 use crate::branches::Branches;
@@ -47,8 +47,8 @@ pub struct Network<'a> {
 }
 
 impl<'a> Model for Network<'a> {
-    ghost use Rattle.emtp_net.specs.Holding.{HoldsTogether};
-    ghost use Rattle.emtp_net.specs.Network.{Net};
+    ghost use Rattle.emtp_net.specs.held.Holding.{HoldsTogether};
+    ghost use Rattle.emtp_net.specs.held.Network.{Net};
 
     ghost Value = { Net };
 

@@ -4,11 +4,12 @@ ghost use Rattle.std.specs.Prelude.{◌≡◌, ◌^◌, ◌<◌, ◌≤◌, ◌�
 ghost use Rattle.emtp_elim.specs.Matrix.{item};
 ghost use Rattle.emtp_case.specs.RowOrder.{order_of};
 ghost use Rattle.emtp_case.specs.StepRecord.{BranchState, StepRecord};
-ghost use Rattle.emtp_net.specs.Branches.{HasCase};
-ghost use Rattle.emtp_net.specs.Judging.{IsUnbalanced, Judges, magnitude_in};
-ghost use Rattle.emtp_net.specs.Moving.{HaveMoved, IsNext};
+ghost use Rattle.emtp_net.specs.held.Branches.{HasCase};
+ghost use Rattle.emtp_net.specs.held.Judging.{IsUnbalanced, Judges, magnitude_in};
+ghost use Rattle.emtp_net.specs.held.Moving.{HaveMoved, IsNext};
 ghost use Rattle.emtp_net.specs.Part.{brought_by, leaving_rows};
-ghost use Rattle.emtp_net.specs.System.{branch_sum, kinds_of, source_values};
+ghost use Rattle.emtp_net.specs.System.{branch_sum, kinds_of};
+ghost use Rattle.emtp_net.specs.held.System.{source_values};
 ghost use Rattle.emtp_rows.specs.Nodal.{node_at};
 
 use crate::branches::Branches;

@@ -7,9 +7,10 @@ ghost use Rattle.emtp_case.specs.RowOrder.{order_of};
 ghost use Rattle.emtp_case.specs.declared.source.Source.{Source};
 ghost use Rattle.emtp_elim.specs.Matrix.{item};
 ghost use Rattle.emtp_case.specs.StepRecord.{StepRecord};
-ghost use Rattle.emtp_net.specs.Branches.{HasCase, StandsFor};
-ghost use Rattle.emtp_net.specs.System.{branch_sum, history_at, kinds_of, right, source_values};
-ghost use Rattle.emtp_net.specs.Rights.{brought, places_of, row_value};
+ghost use Rattle.emtp_net.specs.held.Branches.{HasCase, StandsFor};
+ghost use Rattle.emtp_net.specs.System.{branch_sum, history_at, kinds_of, right};
+ghost use Rattle.emtp_net.specs.held.System.{source_values};
+ghost use Rattle.emtp_net.specs.held.Rights.{brought, places_of, row_value};
 ghost use Rattle.emtp_rows.specs.Nodal.{kind_at, node_at};
 ghost use Rattle.emtp_wave.specs.Wave.{value_of};
 

@@ -4,10 +4,10 @@ ghost use Rattle.std.specs.Prelude.{◌≡◌, ◌+◌, ◌*◌, ◌^◌, ◌<�
 ghost use Rattle.emtp_case.specs.RowOrder.{order_of};
 ghost use Rattle.emtp_case.specs.declared.row_kind.RowKind.TheVariants.{Kcl, Sum};
 ghost use Rattle.emtp_elim.specs.Matrix.{item};
-ghost use Rattle.emtp_net.specs.Sums.{group_total, tied_to};
+ghost use Rattle.emtp_net.specs.held.Sums.{group_total, tied_to};
 ghost use Rattle.emtp_net.specs.System.{at_node};
 ghost use Rattle.emtp_rows.specs.Nodal.{kind_at, node_at};
-ghost use Rattle.emtp_rows.specs.Touched.{is_sum, tied_row};
+ghost use Rattle.emtp_rows.specs.held.Touched.{is_sum, tied_row};
 
 use emtp_case::{Case, RowKind, RowOrder};
 

@@ -8,7 +8,8 @@ use Rattle.emtp_case.specs.declared.case.Parts.{Parts}
 use Rattle.emtp_case.specs.NodeRows.{node_at}
 use Rattle.emtp_case.proofs.RowsOfNodes.{is_number, isnt_number, node_low}
 use Rattle.emtp_case.proofs.RowsOfNodes.{IsRowOf}
-use Rattle.emtp_admittance.specs.Admittances.{in_block, is_imaginary, IsSmallAdmittance}
+use Rattle.emtp_admittance.specs.Admittances.{in_block, is_imaginary}
+use Rattle.emtp_admittance.specs.held.Admittances.{IsSmallAdmittance}
 use Rattle.emtp_admittance.specs.declared.admittance.Admittance.{Admittance}
 
 -- ---- halves

@@ -9,7 +9,7 @@ use Rattle.emtp_case.proofs.Sums.{total-append, total-more}
 use Rattle.emtp_case.specs.NodeRows.{node_at}
 use Rattle.emtp_case.specs.Sums.{sum_below, total}
 use Rattle.emtp_case.specs.declared.case.Parts.{Parts}
-use Rattle.emtp_phasor.specs.HeldBranches.{branches_at, branches_below, branches_by_row, has_end_at, place_if}
+use Rattle.emtp_phasor.specs.held.HeldBranches.{branches_at, branches_below, branches_by_row, has_end_at, place_if}
 
 -- ---- sums
 

@@ -6,7 +6,7 @@ use Rattle.std.proofs.lemmas.Int.{ints}
 use Rattle.std.proofs.lemmas.List.{get_or_past, ext_get_or}
 use Rattle.std.proofs.lemmas.List.FromFn.{length-map-range_with_len, get_or-map-range_with_len}
 use Rattle.emtp_elim.specs.Matrix.{item, row_of, entry}
-use Rattle.emtp_elim.specs.Rows.{IsUnitRow, IsLawful}
+use Rattle.emtp_elim.specs.held.Rows.{IsUnitRow, IsLawful}
 use Rattle.emtp_fix.specs.declared.limit.TheConstants.{PICO}
 use Rattle.emtp_case.specs.RowOrder.{Rows, order_of}
 use Rattle.emtp_case.specs.declared.case.Parts.{Parts}
@@ -14,10 +14,11 @@ use Rattle.emtp_case.specs.declared.row_kind.RowKind.{RowKind}
 use Rattle.emtp_case.specs.declared.row_kind.RowKind.TheVariants.{Kcl, Sum, Tie, Ground, Source}
 use Rattle.emtp_case.specs.NodeRows.{node_at, kind_at, unit}
 use Rattle.emtp_case.proofs.RowsOfNodes.{fixed_within}
-use Rattle.emtp_admittance.specs.Admittances.{is_imaginary, IsSmallPort}
+use Rattle.emtp_admittance.specs.Admittances.{is_imaginary}
+use Rattle.emtp_admittance.specs.held.Admittances.{IsSmallPort}
 use Rattle.emtp_admittance.specs.declared.limit.TheConstants.{MOST_PHASOR_NODES}
 use Rattle.emtp_phasor.specs.Doubled.{Doubled, doubled_matrix, doubled_entry}
-use Rattle.emtp_phasor.specs.HeldRows.{HoldsDoubled}
+use Rattle.emtp_phasor.specs.held.HeldRows.{HoldsDoubled}
 use Rattle.emtp_phasor.specs.Volts.{doubled_right_by, doubled_right}
 use Rattle.emtp_phasor.proofs.Blocks.{half_below}
 use Rattle.emtp_phasor.proofs.Ports.{current_small, group_small}

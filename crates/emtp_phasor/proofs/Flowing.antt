@@ -8,7 +8,7 @@ use Rattle.emtp_case.specs.declared.branch.Branch.{Branch}
 use Rattle.emtp_case.specs.declared.case.Parts.{Parts}
 use Rattle.emtp_admittance.specs.Admittances.{no_port, port_at}
 use Rattle.emtp_phasor.specs.Steady.{flows, leaving_node, leaving_through}
-use Rattle.emtp_phasor.specs.HeldBranches.{branches_at, has_end_at}
+use Rattle.emtp_phasor.specs.held.HeldBranches.{branches_at, has_end_at}
 use Rattle.emtp_phasor.specs.Volts.{source_phasors_into}
 use Rattle.emtp_phasor.proofs.BranchLists.{places_total}
 use Rattle.emtp_phasor.proofs.Ports.{ends_away}

@@ -13,7 +13,7 @@ use Rattle.emtp_admittance.specs.declared.admittance.Admittance.{Admittance}
 use Rattle.emtp_admittance.specs.declared.probe.Probe.{Probe}
 use Rattle.emtp_case.specs.declared.case.Parts.{Parts}
 use Rattle.emtp_phasor.specs.Scanning.{frequency_at, frequency_count, impedance_seen, line_at, scan_lines}
-use Rattle.emtp_phasor.specs.Solving.{IsSolved}
+use Rattle.emtp_phasor.specs.held.Solving.{IsSolved}
 use Rattle.emtp_phasor.specs.Steady.{entering}
 use Rattle.emtp_phasor.specs.Volts.{nothing, volt_at}
 use Rattle.emtp_phasor.specs.declared.line.ScanLine.{ScanLine}

@@ -7,9 +7,10 @@ use Rattle.std.proofs.lemmas.List.{get_or_past, get_or_default}
 use Rattle.std.proofs.lemmas.List.Elements.{All-get_or}
 use Rattle.emtp_fix.specs.declared.limit.TheConstants.{LARGEST_ENTRY}
 use Rattle.std.proofs.lemmas.Option.{get_or_from_slice_get}
-use Rattle.emtp_case.specs.Branch.{IsBranch, from_of, to_of}
-use Rattle.emtp_case.specs.Case.{IsNetwork}
-use Rattle.emtp_case.specs.Sizes.{sizes_of}
+use Rattle.emtp_case.specs.Branch.{from_of, to_of}
+use Rattle.emtp_case.specs.held.Branch.{IsBranch}
+use Rattle.emtp_case.specs.held.Case.{IsNetwork}
+use Rattle.emtp_case.specs.held.Sizes.{sizes_of}
 use Rattle.emtp_rows.proofs.Phases.{branch_ends}
 use Rattle.emtp_case.specs.Sums.{sum_below, total}
 use Rattle.emtp_case.specs.declared.branch.Branch.{Branch}
@@ -17,9 +18,10 @@ use Rattle.emtp_case.specs.declared.case.Parts.{Parts}
 use Rattle.emtp_case.specs.declared.row_kind.RowKind.{RowKind}
 use Rattle.emtp_case.proofs.Sums.{sum_below-more, sum_below_small, total_small}
 use Rattle.emtp_case.specs.NodeRows.{is_member, node_at}
-use Rattle.emtp_admittance.specs.Admittances.{in_block, no_port, port_at, IsSmallPort}
+use Rattle.emtp_admittance.specs.Admittances.{in_block, no_port, port_at}
+use Rattle.emtp_admittance.specs.held.Admittances.{IsSmallPort}
 use Rattle.emtp_phasor.specs.Doubled.{between_nodes, admittance_entry}
-use Rattle.emtp_phasor.specs.HeldBranches.{branches_at, has_end_at}
+use Rattle.emtp_phasor.specs.held.HeldBranches.{branches_at, has_end_at}
 use Rattle.emtp_phasor.proofs.BranchLists.{place_sum_more, places_few, places_total}
 use Rattle.emtp_admittance.specs.declared.admittance.TwoPort.{TwoPort}
 use Rattle.emtp_phasor.proofs.Blocks.{in_block_small}

@@ -2,7 +2,8 @@
 use Rattle.std.proofs.Common.{◌≡◌, ℕ, ◌+◌, ◌*◌, ◌^◌, ◌/◌, ◌%◌, ◌<◌, ◌≤◌, ℤ, pos, negsuc, ◌-ℤ◌, ◌*ℤ◌, ◌≤ℤ◌, unsigned_abs, arith}
 use Rattle.std.proofs.lemmas.Int.{ints, unsigned_abs-mul}
 use Rattle.std.proofs.lemmas.Nat.{div-add-mod', mul-le}
-use Rattle.emtp_phasor.specs.Scanning.{IsScan, frequency_at, frequency_count}
+use Rattle.emtp_phasor.specs.Scanning.{frequency_at, frequency_count}
+use Rattle.emtp_phasor.specs.held.Scanning.{IsScan}
 
 pub times_up : (k : ℕ) (by : ℤ) → pos 1 ≤ℤ by → pos 0 ≤ℤ (pos k *ℤ by)
 times_up k (pos b) least = omega (arith, ints)

@@ -1,13 +1,15 @@
 -- The chain of a steady state, link by link.
 use Rattle.std.proofs.Common.{◌≡◌, ℕ, ℤ, List, Some, Result, Ok, Err, IfOk, IfErr, OnOk, None, refl}
 use Rattle.emtp_elim.specs.Outcome.{outcome}
-use Rattle.emtp_case.specs.EndNames.{IsNode, node_of_switch}
+use Rattle.emtp_case.specs.EndNames.{node_of_switch}
+use Rattle.emtp_case.specs.held.EndNames.{IsNode}
 use Rattle.emtp_case.specs.RowOrder.{order_of}
 use Rattle.emtp_case.specs.StepRecord.{rest_of}
 use Rattle.emtp_case.specs.declared.case.Parts.{Parts}
 use Rattle.emtp_switch.specs.Groups.{tied_of}
-use Rattle.emtp_phasor.specs.Steady.{AreGood, IsSteady, State, ending_at, judged_volts, doubled_system, ports_of, steady_right, doubled_solution, steady}
-use Rattle.emtp_phasor.specs.Ending.{EndsSteady}
+use Rattle.emtp_phasor.specs.Steady.{State, ending_at, doubled_system, ports_of, steady_right, doubled_solution, steady}
+use Rattle.emtp_phasor.specs.held.Steady.{AreGood, IsSteady, judged_volts}
+use Rattle.emtp_phasor.specs.held.Ending.{EndsSteady}
 use Rattle.emtp_phasor.specs.Volts.{phasors_of}
 use Rattle.emtp_admittance.specs.declared.admittance.TwoPort.{TwoPort}
 use Rattle.emtp_machine.specs.declared.end.Cause.TheVariants.{Tied}

@@ -6,7 +6,7 @@ use Rattle.std.proofs.lemmas.List.{ext_get_or, get_or-map, get_or_default, lengt
 use Rattle.std.proofs.lemmas.List.FromFn.{length-map-range_with_len, get_or-map-range_with_len}
 use Rattle.std.proofs.lemmas.Int.{ints}
 use Rattle.std.proofs.lemmas.List.Elements.{All-cons, All-map}
-use Rattle.emtp_elim.specs.Matrix.{AreWithin}
+use Rattle.emtp_elim.specs.held.Matrix.{AreWithin}
 use Rattle.emtp_fix.specs.declared.limit.TheConstants.{LARGEST_VALUE}
 use Rattle.emtp_case.specs.declared.branch.Branch.{Branch}
 use Rattle.emtp_case.specs.declared.case.Parts.{Parts}
@@ -15,10 +15,13 @@ use Rattle.emtp_case.proofs.NodeOrder.{length-order_of}
 use Rattle.emtp_case.proofs.RowsOfNodes.{IsRowOf}
 use Rattle.emtp_case.specs.NodeRows.{row_at}
 use Rattle.emtp_case.proofs.RowsOfNodes.{row_at_is}
-use Rattle.emtp_admittance.specs.Admittances.{IsSmallPort, no_port, port_at}
+use Rattle.emtp_admittance.specs.Admittances.{no_port, port_at}
+use Rattle.emtp_admittance.specs.held.Admittances.{IsSmallPort}
 use Rattle.emtp_admittance.specs.Impedance.{port_of}
-use Rattle.emtp_phasor.specs.Steady.{ArePorts, resting_kinds, port_or_none, ports_of}
-use Rattle.emtp_phasor.specs.Volts.{IsVolt, nothing, volt_at, volt_in, phasors_of}
+use Rattle.emtp_phasor.specs.Steady.{resting_kinds, port_or_none, ports_of}
+use Rattle.emtp_phasor.specs.held.Steady.{ArePorts}
+use Rattle.emtp_phasor.specs.Volts.{nothing, volt_at, volt_in, phasors_of}
+use Rattle.emtp_phasor.specs.held.Volts.{IsVolt}
 use Rattle.emtp_admittance.specs.declared.admittance.TwoPort.{TwoPort}
 use Rattle.emtp_phasor.specs.declared.phasor.Phasor.{Phasor}
 

@@ -1,13 +1,10 @@
+-- what the clauses of the program say
 pub mod Doubled
-pub mod ComplexEntries
 pub mod Volts
 pub mod Steady
-pub mod Ending
-pub mod Solving
 pub mod Scanning
+-- what laws say
+pub mod ComplexEntries
 pub mod SingleBranch
-pub mod Opening
-pub mod HeldBranches
-pub mod HeldRows
-pub mod HeldSystem
-pub mod HeldLines
+-- what values hold for their proofs
+pub mod held

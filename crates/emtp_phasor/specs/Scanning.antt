@@ -1,12 +1,10 @@
 -- The impedance over frequencies, line by line.
 use Rattle.std.specs.List.{range_with_len}
-use Rattle.std.specs.Prelude.{◌≡◌, ℕ, ◌+◌, ◌/◌, ◌≤◌, ℤ, pos, ◌+ℤ◌, ◌-ℤ◌, ◌*ℤ◌, ◌≤ℤ◌, unsigned_abs, List, map, Option, Some, None, Result, Ok, Err}
+use Rattle.std.specs.Prelude.{ℕ, ◌+◌, ◌/◌, ℤ, pos, ◌+ℤ◌, ◌-ℤ◌, ◌*ℤ◌, unsigned_abs, List, map, Option, Some, None, Result, Ok, Err}
 use Rattle.emtp_fix.specs.Limit.{in_range}
 use Rattle.emtp_fix.specs.Rounding.{near}
 use Rattle.emtp_fix.specs.declared.limit.TheConstants.{NANO}
-use Rattle.emtp_admittance.specs.Probes.{judged_probe}
 use Rattle.emtp_admittance.specs.Refusals.{judged_frequency}
-use Rattle.emtp_admittance.specs.declared.limit.TheConstants.{LARGEST_FREQUENCY}
 use Rattle.emtp_admittance.specs.declared.probe.Probe.{Probe}
 use Rattle.emtp_admittance.specs.declared.refusal.Refused.{Refused}
 use Rattle.emtp_case.specs.declared.case.Parts.{Parts}
@@ -15,13 +13,10 @@ use Rattle.emtp_phasor.specs.Steady.{State, steady}
 use Rattle.emtp_phasor.specs.Volts.{volt_at}
 use Rattle.emtp_machine.specs.declared.end.Cause.TheVariants.{Range}
 use Rattle.emtp_phasor.specs.declared.ending.Ending.{Ending}
-use Rattle.emtp_phasor.specs.declared.fault.PhasorFault.{PhasorFault}
-use Rattle.emtp_phasor.specs.declared.fault.PhasorFault.TheVariants.{Ended as FaultEnded, NoMemory, Refused as FaultRefused}
 use Rattle.emtp_phasor.specs.declared.line.ScanAnswer.{ScanAnswer}
 use Rattle.emtp_phasor.specs.declared.line.ScanAnswer.TheVariants.{Ended as LineEnded, Impedance, Refused as LineRefused}
 use Rattle.emtp_phasor.specs.declared.line.ScanLine.{ScanLine}
 use Rattle.emtp_phasor.specs.declared.phasor.Phasor.{Phasor}
-use Rattle.emtp_phasor.specs.declared.scanning.TheConstants.{MOST_FREQUENCIES}
 
 -- ---- frequencies
 
@@ -31,14 +26,6 @@ frequency_count first last by = unsigned_abs (last -ℤ first) / unsigned_abs by
 -- each frequency is the one before and a step more
 abbrev pub frequency_at : ℤ → ℤ → ℕ → ℤ
 frequency_at first by k = first +ℤ pos k *ℤ by
-
--- what is scanned: from 1 micro-hertz up, few frequencies
-pub record IsScan (first last by : ℤ) : Type 0 where
-  pub first_least : pos 1 ≤ℤ first
-  pub by_least : pos 1 ≤ℤ by
-  pub ordered : first ≤ℤ last
-  pub most : last ≤ℤ pos LARGEST_FREQUENCY
-  pub few : frequency_count first last by ≤ MOST_FREQUENCIES
 
 -- ---- a line
 
@@ -77,15 +64,3 @@ line_at case probe freq = record { freq = freq; answer = answer_by case probe (j
 -- a line for each frequency
 abbrev pub scan_lines : Parts → Probe → ℤ → ℤ → ℤ → List ScanLine
 scan_lines case probe first last by = map (λ k. line_at case probe (frequency_at first by k)) (range_with_len 0 (frequency_count first last by))
-
--- the case has its source, and each frequency its line
-pub record IsScanned (case : Parts) (first last by : ℤ) (lines : List ScanLine) : Type 0 where
-  pub probe : Probe
-  pub good : judged_probe case ≡ Ok probe
-  pub lines_are : lines ≡ scan_lines case probe first last by
-
--- no end stops a scan, and want of memory is free
-abbrev pub FaultsScan : Parts → PhasorFault → Type 0
-FaultsScan case (FaultRefused line reason) = judged_probe case ≡ Err (record { line = line; reason = reason })
-FaultsScan case (FaultEnded name cause measured) = ⊥
-FaultsScan case NoMemory = Unit {0}

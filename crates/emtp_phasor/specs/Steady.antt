@@ -1,7 +1,7 @@
 -- The steady state at a frequency, or why there is none, in this order. Two known voltages are tied; the elimination of the
 -- doubled system ends in a fault; a current of a branch leaves its range; a residual exceeds the tolerance.
 use Rattle.std.specs.List.{position, range_with_len}
-use Rattle.std.specs.Prelude.{◌≡◌, ◌<◌, ◌≤ℤ◌, ℕ, zero, suc, ◌/◌, ◌==◌, ◌&&◌, max, ℤ, pos, ◌+ℤ◌, ◌-ℤ◌, ◌*ℤ◌, unsigned_abs, nat_lt, not, Bool, true, false, if◌then◌else◌, List, length, map, slice_get, Option, Some, None, Result, Ok, Err}
+use Rattle.std.specs.Prelude.{ℕ, zero, suc, ◌/◌, ◌==◌, ◌&&◌, max, ℤ, pos, ◌+ℤ◌, ◌-ℤ◌, ◌*ℤ◌, unsigned_abs, nat_lt, not, Bool, true, false, if◌then◌else◌, List, length, map, slice_get, Option, Some, None, Result, Ok, Err}
 use Rattle.emtp_fix.specs.Chain.{◌>>=◌, unless}
 use Rattle.emtp_fix.specs.Limit.{is_within}
 use Rattle.emtp_fix.specs.Rounding.{near}
@@ -24,7 +24,7 @@ use Rattle.emtp_case.specs.declared.row_kind.RowKind.TheVariants.{Kcl, Sum, Tie,
 use Rattle.emtp_case.specs.NodeRows.{group_sum, kind_at, node_at}
 use Rattle.emtp_switch.specs.Groups.{tied_of}
 use Rattle.emtp_switch.specs.Kinds as switched
-use Rattle.emtp_admittance.specs.Admittances.{IsSmallPort, in_block, no_port, port_at}
+use Rattle.emtp_admittance.specs.Admittances.{in_block, no_port, port_at}
 use Rattle.emtp_phasor.specs.Doubled.{doubled_matrix}
 use Rattle.emtp_admittance.specs.Impedance.{port_of}
 use Rattle.emtp_phasor.specs.Volts.{doubled_right, source_phasors_into, volt_at, phasors_of}
@@ -158,43 +158,3 @@ steady case freq = do
   x ← doubled_solution case freq
   volts ← within case (ports_of case freq) (phasors_of case x)
   balanced_residuals case (ports_of case freq) volts
-
--- the same from the voltages on
-abbrev pub judged_volts : Parts → List TwoPort → List Phasor → Result State Ending
-judged_volts case ports volts = within case ports volts >>= (λ vs. balanced_residuals case ports vs)
-
--- ---- what the code goes by
-
--- these voltages are good, and the greatest residual is this
-abbrev pub AreGood : Parts → List TwoPort → List Phasor → ℤ → Type 0
-AreGood case ports volts greatest =
-    (judged_volts case ports volts ≡ Ok (record { volts = volts; residual = unsigned_abs greatest })) × (pos 0 ≤ℤ greatest)
-
--- the steady state has these voltages, and the greatest residual is this
-abbrev pub IsSteady : Parts → ℤ → List Phasor → ℤ → Type 0
-IsSteady case freq volts greatest =
-    (steady case freq ≡ Ok (record { volts = volts; residual = unsigned_abs greatest })) × (pos 0 ≤ℤ greatest)
-
--- the currents of the first branches are in range
-abbrev pub AllFlow : Parts → List TwoPort → List Phasor → ℕ → Type 0
-AllFlow case ports volts count = (b : ℕ) → b < count → flows (port_at ports b) volts (slice_get case.branches b) ≡ true
-
--- row p.0 is the first one whose residual exceeds the tolerance, and p.1 is that residual; or none does, and the residual is
--- the greatest one
-pub record IsFirstResidualAbove (case : Parts) (ports : List TwoPort) (volts : List Phasor) (row : ℕ) (measured : ℤ) : Type 0 where
-  pub there : row < length case.nodes
-  pub first : first_residual_above case ports volts ≡ Some row
-  pub is : measured ≡ pos (row_residual case ports volts row)
-
-pub record AreBelow (case : Parts) (ports : List TwoPort) (volts : List Phasor) (greatest : ℤ) : Type 0 where
-  pub none : first_residual_above case ports volts ≡ None
-  pub is : greatest ≡ pos (greatest_below (length case.nodes) (row_residual case ports volts))
-
-abbrev pub JudgesResiduals : Parts → List TwoPort → List Phasor → Result ℤ (ℕ × ℤ) → Type 0
-JudgesResiduals case ports volts (Ok greatest) = AreBelow case ports volts greatest
-JudgesResiduals case ports volts (Err p) = IsFirstResidualAbove case ports volts p.0 p.1
-
--- the two-ports of the first branches are in their places
-pub record ArePorts (case : Parts) (freq : ℤ) (out : List TwoPort) (count : ℕ) : Type 0 where
-  pub value : (k : ℕ) → k < count → port_at out k ≡ port_at (ports_of case freq) k
-  pub small : (k : ℕ) → k < count → IsSmallPort (port_at out k)

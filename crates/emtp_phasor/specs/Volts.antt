@@ -1,8 +1,8 @@
 -- Voltages and sources in the steady state.
 use Rattle.std.specs.List.{find, range_with_len}
-use Rattle.std.specs.Prelude.{ℕ, ◌+◌, ◌*◌, ◌/◌, ◌^◌, ◌==◌, ◌&&◌, ℤ, pos, ◌-ℤ◌, ◌*ℤ◌, unsigned_abs, ◌≤◌, Bool, true, false, if◌then◌else◌, List, ◌∷◌, length, map, slice_index_or, option_map, unwrap_or}
+use Rattle.std.specs.Prelude.{ℕ, ◌+◌, ◌*◌, ◌/◌, ◌^◌, ◌==◌, ◌&&◌, ℤ, pos, ◌-ℤ◌, ◌*ℤ◌, Bool, true, false, if◌then◌else◌, List, ◌∷◌, length, map, slice_index_or, option_map, unwrap_or}
 use Rattle.emtp_fix.specs.Rounding.{near}
-use Rattle.emtp_fix.specs.declared.limit.TheConstants.{LARGEST_VALUE, PICO}
+use Rattle.emtp_fix.specs.declared.limit.TheConstants.{PICO}
 use Rattle.emtp_elim.specs.Matrix.{item, list_of}
 use Rattle.emtp_case.specs.Source.{is_voltage_source_at}
 use Rattle.emtp_case.specs.Sums.{total}
@@ -75,8 +75,3 @@ phasors_of case x = nothing ∷ map (λ n. volt_in x (row_at case n)) (range_wit
 
 abbrev pub volt_at : List Phasor → ℕ → Phasor
 volt_at volts n = slice_index_or volts n nothing
-
--- both parts are in range
-pub record IsVolt (v : Phasor) : Type 0 where
-  pub re : unsigned_abs v.re ≤ LARGEST_VALUE
-  pub im : unsigned_abs v.im ≤ LARGEST_VALUE

@@ -3,12 +3,13 @@
 ghost use Rattle.std.specs.Prelude.{◌≡◌, ◌*◌, ◌/◌, ◌+◌, ◌^◌, ◌<◌, ◌≤◌, ◌==◌, ◌+ℤ◌, ℕ, All, false, true, pos, if◌then◌else◌, length, unsigned_abs, slice_get, slice_set};
 ghost use Rattle.emtp_elim.specs.Matrix.{item};
 ghost use Rattle.emtp_case.specs.RowOrder.{order_of};
-ghost use Rattle.emtp_case.specs.RowKinds.{TieIsThere};
+ghost use Rattle.emtp_case.specs.held.RowKinds.{TieIsThere};
 ghost use Rattle.emtp_case.specs.Sums.{sum_below};
 ghost use Rattle.emtp_case.specs.NodeRows.{is_member, is_tie_to, kind_at, node_at};
 ghost use Rattle.emtp_fix.specs.declared.limit.TheConstants.{LARGEST_ENTRY};
-ghost use Rattle.emtp_admittance.specs.Admittances.{in_block, is_imaginary, IsSmallAdmittance, IsSmallPort};
-ghost use Rattle.emtp_phasor.specs.HeldBranches.{branches_at, branches_by_row};
+ghost use Rattle.emtp_admittance.specs.Admittances.{in_block, is_imaginary};
+ghost use Rattle.emtp_admittance.specs.held.Admittances.{IsSmallAdmittance, IsSmallPort};
+ghost use Rattle.emtp_phasor.specs.held.HeldBranches.{branches_at, branches_by_row};
 ghost use Rattle.emtp_phasor.specs.Doubled.{Doubled, between_nodes, admittance_entry, doubled_entry};
 
 use emtp_admittance::{Admittance, TwoPort};

@@ -5,10 +5,13 @@ ghost use Rattle.emtp_fix.specs.declared.limit.TheConstants.{LARGEST_ENTRY, LARG
 ghost use Rattle.emtp_case.specs.Branch.{from_of, to_of};
 ghost use Rattle.emtp_case.specs.RowOrder.{order_of};
 ghost use Rattle.emtp_case.specs.NodeRows.{group_sum, kind_at, node_at};
-ghost use Rattle.emtp_admittance.specs.Admittances.{in_block, port_at, IsSmallPort};
-ghost use Rattle.emtp_phasor.specs.HeldBranches.{branches_at, branches_by_row};
-ghost use Rattle.emtp_phasor.specs.Steady.{AllFlow, JudgesResiduals, entering, first_current, first_flow_out, flows, is_in_range, resting_kinds, leaving_node, leaving_through, residual_in, row_residual, second_current};
-ghost use Rattle.emtp_phasor.specs.Volts.{IsVolt, volt_at};
+ghost use Rattle.emtp_admittance.specs.Admittances.{in_block, port_at};
+ghost use Rattle.emtp_admittance.specs.held.Admittances.{IsSmallPort};
+ghost use Rattle.emtp_phasor.specs.held.HeldBranches.{branches_at, branches_by_row};
+ghost use Rattle.emtp_phasor.specs.Steady.{entering, first_current, first_flow_out, flows, is_in_range, resting_kinds, leaving_node, leaving_through, residual_in, row_residual, second_current};
+ghost use Rattle.emtp_phasor.specs.held.Steady.{AllFlow, JudgesResiduals};
+ghost use Rattle.emtp_phasor.specs.Volts.{volt_at};
+ghost use Rattle.emtp_phasor.specs.held.Volts.{IsVolt};
 
 use crate::fill::{imaginary_column, is_member, real_column};
 use crate::phasor::Phasor;

@@ -15,7 +15,7 @@ ghost use Rattle.emtp_phasor.specs.ComplexEntries.{IsComplexAt};
 ghost use Rattle.emtp_phasor.specs.Doubled.{Doubled, admittance_entry};
 ghost use Rattle.emtp_phasor.specs.Scanning.{frequency_at, frequency_count, impedance_seen, line_at, scan_lines};
 ghost use Rattle.emtp_phasor.specs.SingleBranch.{IsBranchToGround, IsSeen, reactance_at};
-ghost use Rattle.emtp_phasor.specs.Solving.{IsSolved};
+ghost use Rattle.emtp_phasor.specs.held.Solving.{IsSolved};
 ghost use Rattle.emtp_phasor.specs.Steady.{entering};
 ghost use Rattle.emtp_phasor.specs.Volts.{nothing, volt_at};
 ghost use Rattle.emtp_phasor.specs.declared.line.ScanAnswer.TheVariants.{Impedance};

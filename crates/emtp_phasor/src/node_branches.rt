@@ -2,7 +2,7 @@
 
 ghost use Rattle.std.specs.Prelude.{◌≡◌, ◌<◌, ◌++◌, length, slice_get, Some, IfOk, OnOk};
 ghost use Rattle.emtp_case.specs.RowOrder.{order_of};
-ghost use Rattle.emtp_phasor.specs.HeldBranches.{branches_at, branches_by_row, has_end_at, place_if};
+ghost use Rattle.emtp_phasor.specs.held.HeldBranches.{branches_at, branches_by_row, has_end_at, place_if};
 
 use emtp_case::{Branch, Case, Items, RowOrder};
 use std::alloc::{AllocError, Global};

@@ -1,12 +1,13 @@
 //! What is the same at all frequencies: the kinds of the rows, by the switches at rest, and the right side.
 
 ghost use Rattle.std.specs.Prelude.{◌≡◌, ◌*◌, None, length, IfOk, IfErr, OnOk};
-ghost use Rattle.emtp_case.specs.RowKinds.{AreKinds};
-ghost use Rattle.emtp_case.specs.RowOrder.{IsRowOrder, order_of};
+ghost use Rattle.emtp_case.specs.held.RowKinds.{AreKinds};
+ghost use Rattle.emtp_case.specs.RowOrder.{order_of};
+ghost use Rattle.emtp_case.specs.held.RowOrder.{IsRowOrder};
 ghost use Rattle.emtp_case.specs.StepRecord.{rest_of};
 ghost use Rattle.emtp_switch.specs.Groups.{tied_of};
 ghost use Rattle.emtp_phasor.specs.declared.opening.Closed.{Closed};
-ghost use Rattle.emtp_phasor.specs.Opening.{IsClosed};
+ghost use Rattle.emtp_phasor.specs.held.Opening.{IsClosed};
 ghost use Rattle.emtp_phasor.specs.Steady.{resting_kinds, steady_right};
 
 use crate::sources::fill_right;

@@ -1,11 +1,11 @@
 //! The doubled rows of a case.
 
 ghost use Rattle.std.specs.Prelude.{◌≡◌, ◌≤◌, All, length};
-ghost use Rattle.emtp_case.specs.RowKinds.{AreKinds};
+ghost use Rattle.emtp_case.specs.held.RowKinds.{AreKinds};
 ghost use Rattle.emtp_case.specs.RowOrder.{order_of};
-ghost use Rattle.emtp_admittance.specs.Admittances.{IsSmallPort};
+ghost use Rattle.emtp_admittance.specs.held.Admittances.{IsSmallPort};
 ghost use Rattle.emtp_admittance.specs.declared.limit.TheConstants.{MOST_PHASOR_NODES};
-ghost use Rattle.emtp_phasor.specs.HeldBranches.{branches_by_row};
+ghost use Rattle.emtp_phasor.specs.held.HeldBranches.{branches_by_row};
 
 use crate::fill::fill_row;
 use emtp_admittance::TwoPort;
@@ -26,7 +26,7 @@ pub struct PhasorRows<'a> {
 
 impl<'a> Model for PhasorRows<'a> {
     ghost use Rattle.emtp_phasor.specs.Doubled.{Doubled};
-    ghost use Rattle.emtp_phasor.specs.HeldRows.{HoldsDoubled};
+    ghost use Rattle.emtp_phasor.specs.held.HeldRows.{HoldsDoubled};
 
     ghost Value = { Doubled };
 

@@ -1,17 +1,18 @@
 //! The impedance that the one source of a case sees, over frequencies.
 
 ghost use Rattle.std.specs.Prelude.{◌≡◌, ◌<◌, ◌≤◌, ◌<ℤ◌, pos, Some, length, unsigned_abs, IfOk, IfErr};
-ghost use Rattle.emtp_admittance.specs.Frequency.{IsFrequency};
-ghost use Rattle.emtp_admittance.specs.Probes.{IsProbe};
+ghost use Rattle.emtp_admittance.specs.held.Frequency.{IsFrequency};
+ghost use Rattle.emtp_admittance.specs.held.Probes.{IsProbe};
 ghost use Rattle.emtp_admittance.specs.Refusals.{judged_frequency};
 ghost use Rattle.emtp_admittance.specs.declared.limit.TheConstants.{MOST_PHASOR_NODES};
-ghost use Rattle.emtp_case.specs.EndNames.{IsNode};
+ghost use Rattle.emtp_case.specs.held.EndNames.{IsNode};
 ghost use Rattle.emtp_fix.specs.declared.limit.TheConstants.{LARGEST_VALUE};
-ghost use Rattle.emtp_phasor.specs.Ending.{EndsAlways};
-ghost use Rattle.emtp_phasor.specs.HeldSystem.{IsReady};
-ghost use Rattle.emtp_phasor.specs.Scanning.{FaultsScan, IsScan, IsScanned, answer_by, answer_of_state, frequency_at, frequency_count, impedance_or_range, impedance_seen, over_amplitude, scan_lines, told_end};
+ghost use Rattle.emtp_phasor.specs.held.Ending.{EndsAlways};
+ghost use Rattle.emtp_phasor.specs.held.HeldSystem.{IsReady};
+ghost use Rattle.emtp_phasor.specs.Scanning.{answer_by, answer_of_state, frequency_at, frequency_count, impedance_or_range, impedance_seen, over_amplitude, scan_lines, told_end};
+ghost use Rattle.emtp_phasor.specs.held.Scanning.{FaultsScan, IsScan, IsScanned};
 ghost use Rattle.emtp_phasor.specs.Steady.{steady};
-ghost use Rattle.emtp_phasor.specs.Volts.{IsVolt};
+ghost use Rattle.emtp_phasor.specs.held.Volts.{IsVolt};
 
 use crate::ending::Ending;
 use crate::fault::PhasorFault;

@@ -2,11 +2,11 @@
 
 ghost use Rattle.std.specs.Prelude.{◌≡◌, ◌<◌, ◌≤◌, ◌∷◌, drop, length, IfOk, IfErr};
 ghost use Rattle.std.specs.Option.{ForSome};
-ghost use Rattle.emtp_admittance.specs.Frequency.{IsFrequency};
+ghost use Rattle.emtp_admittance.specs.held.Frequency.{IsFrequency};
 ghost use Rattle.emtp_admittance.specs.declared.limit.TheConstants.{MOST_PHASOR_NODES};
-ghost use Rattle.emtp_phasor.specs.Ending.{EndsAlways, EndsSteady};
-ghost use Rattle.emtp_phasor.specs.Solving.{AnswersCase, FaultsAtFrequency};
-ghost use Rattle.emtp_phasor.specs.Steady.{IsSteady};
+ghost use Rattle.emtp_phasor.specs.held.Ending.{EndsAlways, EndsSteady};
+ghost use Rattle.emtp_phasor.specs.held.Solving.{AnswersCase, FaultsAtFrequency};
+ghost use Rattle.emtp_phasor.specs.held.Steady.{IsSteady};
 ghost use Rattle.emtp_phasor.specs.Volts.{nothing};
 
 use crate::ending::Ending;

@@ -2,17 +2,19 @@
 
 ghost use Rattle.std.specs.Prelude.{◌≡◌, ◌*◌, ◌+◌, ◌^◌, ◌<◌, ◌∷◌, ℤ, List, All, None, Ok, Err, drop, length, IfOk, IfErr, OnOk};
 ghost use Rattle.emtp_case.specs.StepRecord.{rest_of};
-ghost use Rattle.emtp_elim.specs.Matrix.{AreWithin};
+ghost use Rattle.emtp_elim.specs.held.Matrix.{AreWithin};
 ghost use Rattle.emtp_elim.specs.Outcome.{outcome};
 ghost use Rattle.emtp_switch.specs.Groups.{tied_of};
-ghost use Rattle.emtp_admittance.specs.Frequency.{IsFrequency};
-ghost use Rattle.emtp_case.specs.EndNames.{IsNode};
+ghost use Rattle.emtp_admittance.specs.held.Frequency.{IsFrequency};
+ghost use Rattle.emtp_case.specs.held.EndNames.{IsNode};
 ghost use Rattle.emtp_case.specs.RowOrder.{order_of};
-ghost use Rattle.emtp_admittance.specs.Admittances.{IsSmallPort};
+ghost use Rattle.emtp_admittance.specs.held.Admittances.{IsSmallPort};
 ghost use Rattle.emtp_phasor.specs.Doubled.{doubled_matrix};
-ghost use Rattle.emtp_phasor.specs.HeldBranches.{branches_by_row};
-ghost use Rattle.emtp_phasor.specs.Steady.{AreGood, IsSteady, judged_volts, resting_kinds, doubled_system, named_ending, port_or_none, ports_of, steady_right, doubled_solution, steady};
-ghost use Rattle.emtp_phasor.specs.Volts.{IsVolt, nothing, volt_in, phasors_of};
+ghost use Rattle.emtp_phasor.specs.held.HeldBranches.{branches_by_row};
+ghost use Rattle.emtp_phasor.specs.Steady.{resting_kinds, doubled_system, named_ending, port_or_none, ports_of, steady_right, doubled_solution, steady};
+ghost use Rattle.emtp_phasor.specs.held.Steady.{AreGood, IsSteady, judged_volts};
+ghost use Rattle.emtp_phasor.specs.Volts.{nothing, volt_in, phasors_of};
+ghost use Rattle.emtp_phasor.specs.held.Volts.{IsVolt};
 
 use crate::ending::{Ending, cause_of, ending_at};
 use crate::flow::{first_out, judge};

@@ -1,21 +1,23 @@
 //! The doubled system of a case, which is solved for one frequency after the other.
 
 ghost use Rattle.std.specs.Prelude.{◌≡◌, ◌≤◌, ◌<◌, ◌∷◌, ◌*◌, ◌^◌, All, None, Ok, Err, length, drop, IfOk, IfErr, OnOk};
-ghost use Rattle.emtp_admittance.specs.Admittances.{IsSmallPort};
-ghost use Rattle.emtp_admittance.specs.Frequency.{IsFrequency};
+ghost use Rattle.emtp_admittance.specs.held.Admittances.{IsSmallPort};
+ghost use Rattle.emtp_admittance.specs.held.Frequency.{IsFrequency};
 ghost use Rattle.emtp_admittance.specs.declared.limit.TheConstants.{MOST_PHASOR_NODES};
-ghost use Rattle.emtp_case.specs.EndNames.{IsNode};
-ghost use Rattle.emtp_case.specs.RowKinds.{AreKinds};
+ghost use Rattle.emtp_case.specs.held.EndNames.{IsNode};
+ghost use Rattle.emtp_case.specs.held.RowKinds.{AreKinds};
 ghost use Rattle.emtp_case.specs.RowOrder.{order_of};
 ghost use Rattle.emtp_case.specs.StepRecord.{rest_of};
-ghost use Rattle.emtp_elim.specs.Matrix.{AreWithin};
+ghost use Rattle.emtp_elim.specs.held.Matrix.{AreWithin};
 ghost use Rattle.emtp_elim.specs.Outcome.{outcome};
 ghost use Rattle.emtp_switch.specs.Groups.{tied_of};
-ghost use Rattle.emtp_phasor.specs.Ending.{EndsSteady, StopsOpening};
-ghost use Rattle.emtp_phasor.specs.HeldSystem.{IsReady};
-ghost use Rattle.emtp_phasor.specs.Opening.{IsClosed};
-ghost use Rattle.emtp_phasor.specs.Steady.{AreGood, IsSteady, doubled_solution, doubled_system, judged_volts, ports_of, resting_kinds, steady_right};
-ghost use Rattle.emtp_phasor.specs.Volts.{IsVolt, nothing};
+ghost use Rattle.emtp_phasor.specs.held.Ending.{EndsSteady, StopsOpening};
+ghost use Rattle.emtp_phasor.specs.held.HeldSystem.{IsReady};
+ghost use Rattle.emtp_phasor.specs.held.Opening.{IsClosed};
+ghost use Rattle.emtp_phasor.specs.Steady.{doubled_solution, doubled_system, ports_of, resting_kinds, steady_right};
+ghost use Rattle.emtp_phasor.specs.held.Steady.{AreGood, IsSteady, judged_volts};
+ghost use Rattle.emtp_phasor.specs.Volts.{nothing};
+ghost use Rattle.emtp_phasor.specs.held.Volts.{IsVolt};
 
 use crate::ending::{Ending, ending_at};
 use crate::node_branches::branches_by_row;

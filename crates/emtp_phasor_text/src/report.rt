@@ -2,9 +2,9 @@
 
 ghost use Rattle.std.specs.Prelude.{◌≡◌, ◌∷◌, ◌≤◌, length, IfOk};
 ghost use Rattle.std.specs.Option.{ForSome};
-ghost use Rattle.emtp_admittance.specs.Frequency.{IsFrequency};
-ghost use Rattle.emtp_phasor.specs.Scanning.{FaultsScan, IsScan};
-ghost use Rattle.emtp_phasor.specs.Solving.{FaultsAt, IsSolved};
+ghost use Rattle.emtp_admittance.specs.held.Frequency.{IsFrequency};
+ghost use Rattle.emtp_phasor.specs.held.Scanning.{FaultsScan, IsScan};
+ghost use Rattle.emtp_phasor.specs.held.Solving.{FaultsAt, IsSolved};
 ghost use Rattle.emtp_phasor_text.specs.Reports.{scan_report, steady_report};
 
 use crate::texts::{put_end, put_refusal, put_scan, put_steady};

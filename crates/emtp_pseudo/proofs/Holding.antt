@@ -6,9 +6,10 @@ use Rattle.std.proofs.lemmas.List.{get_or_default, get_or-set_same, get_or-set_o
 use Rattle.std.proofs.lemmas.Option.{slice_get_within, get_or_from_slice_get}
 use Rattle.std.proofs.Math.ListN.{length-set, get_or-append}
 use Rattle.std.proofs.Math.Seq.{get_or-append_seam}
-use Rattle.emtp_case.specs.Branch.{IsBranch, IsPseudo, points_of}
-use Rattle.emtp_case.specs.Case.{IsCase}
-use Rattle.emtp_case.specs.Sizes.{sizes_of}
+use Rattle.emtp_case.specs.Branch.{points_of}
+use Rattle.emtp_case.specs.held.Branch.{IsBranch, IsPseudo}
+use Rattle.emtp_case.specs.held.Case.{IsCase}
+use Rattle.emtp_case.specs.held.Sizes.{sizes_of}
 use Rattle.emtp_case.specs.StepRecord.{rest_of, branch_at_rest, pseudo_of, no_pseudo}
 use Rattle.emtp_case.specs.declared.branch.Branch.{Branch}
 use Rattle.emtp_case.specs.declared.branch.Branch.TheVariants.{Lumped as OfLumped, Line as OfLine, Pseudo as OfPseudo, Phase as OfPhase}
@@ -16,8 +17,10 @@ use Rattle.emtp_case.specs.declared.branch.Pseudo.{Pseudo}
 use Rattle.emtp_case.specs.declared.branch.PseudoState.{PseudoState}
 use Rattle.emtp_case.specs.declared.case.Parts.{Parts}
 use Rattle.emtp_fix.specs.declared.limit.OutOfRange.{OutOfRange}
-use Rattle.emtp_pseudo.specs.Held.{HasNumbers, IsHeld, IsHeldAtRest, IsOfBranch, moment_at, moment_in, segment_in}
-use Rattle.emtp_pseudo.specs.Pseudos.{HeldPseudos, AreHeld, AreHeldAtRest, IsPseudoAt, Moves, StandsAt, StandsFor, branch_at, moment_of, newest, next_of, next_history_current, no_branch, present}
+use Rattle.emtp_pseudo.specs.Held.{moment_at, segment_in}
+use Rattle.emtp_pseudo.specs.held.Held.{HasNumbers, IsHeld, IsHeldAtRest, IsOfBranch, moment_in}
+use Rattle.emtp_pseudo.specs.Pseudos.{moment_of, newest, next_of, next_history_current, present}
+use Rattle.emtp_pseudo.specs.held.Pseudos.{HeldPseudos, AreHeld, AreHeldAtRest, IsPseudoAt, Moves, StandsAt, StandsFor, branch_at, no_branch}
 use Rattle.emtp_pseudo.specs.Segment.{next_segment}
 use Rattle.emtp_pseudo.specs.Step.{history_current_of, moment_at_rest, next_state}
 use Rattle.emtp_pseudo.specs.declared.held.HeldBranch.{HeldBranch}

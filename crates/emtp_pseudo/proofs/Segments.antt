@@ -5,14 +5,16 @@ use Rattle.std.proofs.lemmas.Int.{ints, unsigned_abs-mul}
 use Rattle.std.proofs.lemmas.List.{length-take-le, length-drop}
 use Rattle.std.proofs.lemmas.Nat.{mul-le}
 use Rattle.std.proofs.Math.Nat.{mul-le-mul_right}
-use Rattle.emtp_case.specs.Branch.{IsCharacteristic, IsSegment, slope_of}
-use Rattle.emtp_case.specs.Range.{IsBetween}
+use Rattle.emtp_case.specs.Branch.{slope_of}
+use Rattle.emtp_case.specs.held.Branch.{IsCharacteristic, IsSegment}
+use Rattle.emtp_case.specs.held.Range.{IsBetween}
 use Rattle.emtp_case.specs.declared.branch.Point.{Point}
 use Rattle.emtp_fix.specs.Rounding.{near, near_abs}
 use Rattle.emtp_fix.specs.declared.limit.TheConstants.{ATTO, LARGEST_ENTRY, LARGEST_VALUE}
 use Rattle.emtp_fix.proofs.Nearest.{near_abs-high, unsigned_abs-near}
 use Rattle.emtp_fix.proofs.Quotients.{conductance-small, near-nonneg, near-within}
-use Rattle.emtp_pseudo.specs.Segment.{IsSound, IsPoint, conductance_of, point_at, rise_of, outer_end, inner_end, outward, mirrored_end, mirrored, segment_of, next_segment, is_above, is_below}
+use Rattle.emtp_pseudo.specs.Segment.{conductance_of, point_at, rise_of, outer_end, inner_end, outward, mirrored_end, mirrored, segment_of, next_segment, is_above, is_below}
+use Rattle.emtp_pseudo.specs.held.Segment.{IsSound, IsPoint}
 use Rattle.emtp_pseudo.specs.declared.segment.Segment.{Segment}
 
 -- ---- ranges

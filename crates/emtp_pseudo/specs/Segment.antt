@@ -1,11 +1,10 @@
 -- One straight segment of a characteristic. Point 0 is the origin, segment 0 passes through it, and the segments below 0
 -- are the mirror images at the origin of those above.
-use Rattle.std.specs.Prelude.{◌≡◌, ◌+◌, ◌*◌, ◌^◌, ◌≤◌, ◌∷◌, ◌+ℤ◌, ◌-ℤ◌, if◌then◌else◌, Bool, IfSome, List, None, Option, Some, false, int_lt, length, nat_lt, neg_ℤ, negsuc, pos, slice_index_or, suc, true, unsigned_abs, zero, ℕ, ℤ}
+use Rattle.std.specs.Prelude.{◌+◌, ◌∷◌, ◌+ℤ◌, ◌-ℤ◌, if◌then◌else◌, Bool, List, None, Option, Some, false, int_lt, length, nat_lt, neg_ℤ, negsuc, pos, slice_index_or, suc, true, zero, ℕ, ℤ}
 use Rattle.emtp_case.specs.Branch.{origin, slope_of}
-use Rattle.emtp_case.specs.Range.{IsBetween}
 use Rattle.emtp_case.specs.declared.branch.Point.{Point}
 use Rattle.emtp_fix.specs.Rounding.{near}
-use Rattle.emtp_fix.specs.declared.limit.TheConstants.{ATTO, LARGEST_ENTRY, LARGEST_VALUE}
+use Rattle.emtp_fix.specs.declared.limit.TheConstants.{ATTO}
 use Rattle.emtp_pseudo.specs.declared.segment.Segment.{Segment}
 
 -- point k of a characteristic
@@ -69,21 +68,3 @@ is_below y (Some end) = int_lt y end
 -- the number of the segment after a step on segment k that ends at the voltage or flux y
 abbrev pub next_segment : Segment → ℤ → ℤ → ℤ
 next_segment s k y = if is_above y s.upper then k +ℤ pos 1 else if is_below y s.lower then k -ℤ pos 1 else k
-
--- ---- ranges
-
--- a point of a characteristic
-pub record IsPoint (p : Point) : Type 0 where
-  pub current : IsBetween 0 LARGEST_VALUE p.current
-  pub other : IsBetween 0 LARGEST_VALUE p.other
-
--- the numbers of a segment; a reactor's rises no more steeply than its conductance allows
-pub record IsSound (reactor : Bool) (s : Segment) : Type 0 where
-  pub conductance : IsBetween 0 LARGEST_ENTRY s.conductance
-  pub base_current : unsigned_abs s.base.current ≤ LARGEST_VALUE
-  pub base_other : unsigned_abs s.base.other ≤ LARGEST_VALUE
-  pub rise_current : IsBetween 1 LARGEST_VALUE s.rise.current
-  pub rise_other : IsBetween 1 LARGEST_VALUE s.rise.other
-  pub flat : reactor ≡ true → unsigned_abs s.rise.current ≤ 3 * 10 ^ 11 * unsigned_abs s.rise.other
-  pub upper_end : IfSome s.upper (λ y. unsigned_abs y ≤ LARGEST_VALUE)
-  pub lower_end : IfSome s.lower (λ y. unsigned_abs y ≤ LARGEST_VALUE)

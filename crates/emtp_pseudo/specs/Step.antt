@@ -1,11 +1,11 @@
 -- One step of a pseudo-nonlinear branch in whole numbers. It stays on one segment; what it ends with decides the segment
 -- of the next step.
-use Rattle.std.specs.Prelude.{◌^◌, ◌*◌, ◌≤◌, ◌+ℤ◌, ◌-ℤ◌, ◌*ℤ◌, Bool, Option, Some, false, pos, true, unsigned_abs, ℤ}
+use Rattle.std.specs.Prelude.{◌^◌, ◌*◌, ◌+ℤ◌, ◌-ℤ◌, ◌*ℤ◌, Bool, Option, Some, false, pos, true, ℤ}
 use Rattle.emtp_case.specs.StepRecord.{no_pseudo}
 use Rattle.emtp_case.specs.declared.branch.PseudoState.{PseudoState}
 use Rattle.emtp_fix.specs.Limit.{in_range, ◌>>=◌}
 use Rattle.emtp_fix.specs.Rounding.{near}
-use Rattle.emtp_fix.specs.declared.limit.TheConstants.{LARGEST_VALUE, PICO}
+use Rattle.emtp_fix.specs.declared.limit.TheConstants.{PICO}
 use Rattle.emtp_pseudo.specs.Segment.{next_segment}
 use Rattle.emtp_pseudo.specs.declared.moment.Moment.{Moment}
 use Rattle.emtp_pseudo.specs.declared.segment.Segment.{Segment}
@@ -43,10 +43,3 @@ next_state reactor dt s old v = do
   i ← in_range (current_of reactor s old v)
   flux ← in_range (flux_of reactor dt old v)
   Some (record { current = i; segment = next_segment s old.state.segment (place_of reactor flux v); flux = flux })
-
--- the ranges of what a record says of a branch
-pub record IsMoment (m : Moment) : Type 0 where
-  pub current : unsigned_abs m.state.current ≤ LARGEST_VALUE
-  pub segment : unsigned_abs m.state.segment ≤ 63
-  pub flux : unsigned_abs m.state.flux ≤ LARGEST_VALUE
-  pub voltage : unsigned_abs m.voltage ≤ 2 ^ 64

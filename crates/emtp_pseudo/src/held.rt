@@ -1,12 +1,15 @@
 //! What is held of one pseudo-nonlinear branch.
 
 ghost use Rattle.std.specs.Prelude.{◌≡◌, ◌<◌, ◌+◌, ◌^◌, ◌≤◌, unsigned_abs, length, option_map, IfSome};
-ghost use Rattle.emtp_case.specs.Branch.{IsPseudo, points_of};
-ghost use Rattle.emtp_case.specs.Sizes.{sizes_of};
+ghost use Rattle.emtp_case.specs.Branch.{points_of};
+ghost use Rattle.emtp_case.specs.held.Branch.{IsPseudo};
+ghost use Rattle.emtp_case.specs.held.Sizes.{sizes_of};
 ghost use Rattle.emtp_case.specs.declared.case.Parts.{Parts};
-ghost use Rattle.emtp_pseudo.specs.Held.{IsHeld, moment_in, moment_at, segment_in};
-ghost use Rattle.emtp_pseudo.specs.Segment.{IsSound};
-ghost use Rattle.emtp_pseudo.specs.Step.{IsMoment, history_current_of, next_state};
+ghost use Rattle.emtp_pseudo.specs.Held.{moment_at, segment_in};
+ghost use Rattle.emtp_pseudo.specs.held.Held.{IsHeld, moment_in};
+ghost use Rattle.emtp_pseudo.specs.held.Segment.{IsSound};
+ghost use Rattle.emtp_pseudo.specs.Step.{history_current_of, next_state};
+ghost use Rattle.emtp_pseudo.specs.held.Step.{IsMoment};
 
 use crate::moment::Moment;
 use crate::segment::Segment;

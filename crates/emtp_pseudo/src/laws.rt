@@ -1,8 +1,8 @@
 //! What is true of pseudo-nonlinear branches in the field's own words. The functions do nothing: their clauses are proved.
 
 ghost use Rattle.std.specs.Prelude.{◌≡◌, ◌≤◌, ◌<◌, ◌-ℤ◌, neg_ℤ, ℤ, List, pos, Some, IfSome, unsigned_abs};
-ghost use Rattle.emtp_case.specs.Branch.{IsPseudo};
-ghost use Rattle.emtp_case.specs.Sizes.{sizes_of};
+ghost use Rattle.emtp_case.specs.held.Branch.{IsPseudo};
+ghost use Rattle.emtp_case.specs.held.Sizes.{sizes_of};
 ghost use Rattle.emtp_case.specs.StepRecord.{no_pseudo};
 ghost use Rattle.emtp_pseudo.specs.Laws.{mirrored_moment, mirrored_next};
 ghost use Rattle.emtp_pseudo.specs.Pseudos.{newest, next_of};

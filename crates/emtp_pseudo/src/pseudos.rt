@@ -1,12 +1,13 @@
 //! All pseudo-nonlinear branches of a case.
 
 ghost use Rattle.std.specs.Prelude.{◌≡◌, ◌^◌, ◌≤◌, ◌∷◌, [], ◌-ℤ◌, List, length, unsigned_abs, IfOk};
-ghost use Rattle.emtp_case.specs.Range.{IsBetween};
+ghost use Rattle.emtp_case.specs.held.Range.{IsBetween};
 ghost use Rattle.emtp_case.specs.StepRecord.{rest_of};
 ghost use Rattle.emtp_case.specs.declared.branch.Pseudo.{Pseudo};
 ghost use Rattle.emtp_fix.specs.declared.limit.TheConstants.{LARGEST_ENTRY};
-ghost use Rattle.emtp_pseudo.specs.Held.{HasNumbers, IsOfBranch};
-ghost use Rattle.emtp_pseudo.specs.Pseudos.{IsPseudoAt, Moves, StandsAt, StandsFor, next_history_current, newest, present, AreHeldAtRest};
+ghost use Rattle.emtp_pseudo.specs.held.Held.{HasNumbers, IsOfBranch};
+ghost use Rattle.emtp_pseudo.specs.Pseudos.{next_history_current, newest, present};
+ghost use Rattle.emtp_pseudo.specs.held.Pseudos.{IsPseudoAt, Moves, StandsAt, StandsFor, AreHeldAtRest};
 ghost use Rattle.emtp_pseudo.specs.declared.moment.Moment.{Moment};
 
 use crate::held::HeldBranch;
@@ -27,7 +28,7 @@ pub struct Pseudos<'a> {
 }
 
 impl<'a> Model for Pseudos<'a> {
-    ghost use Rattle.emtp_pseudo.specs.Pseudos.{HeldPseudos, AreHeld};
+    ghost use Rattle.emtp_pseudo.specs.held.Pseudos.{HeldPseudos, AreHeld};
 
     ghost Value = { HeldPseudos };
 

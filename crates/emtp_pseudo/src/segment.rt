@@ -1,11 +1,12 @@
 //! One straight segment of a characteristic.
 
 ghost use Rattle.std.specs.Prelude.{◌≡◌, ◌+◌, ◌^◌, ◌<◌, ◌≤◌, ◌<ℤ◌, Bool, length, unsigned_abs, IfSome};
-ghost use Rattle.emtp_case.specs.Branch.{IsCharacteristic, IsSegment};
-ghost use Rattle.emtp_case.specs.Range.{IsBetween};
+ghost use Rattle.emtp_case.specs.held.Branch.{IsCharacteristic, IsSegment};
+ghost use Rattle.emtp_case.specs.held.Range.{IsBetween};
 ghost use Rattle.emtp_fix.specs.Rounding.{near};
 ghost use Rattle.emtp_fix.specs.declared.limit.TheConstants.{ATTO, LARGEST_ENTRY, LARGEST_IMPEDANCE, LARGEST_VALUE, LEAST_IMPEDANCE};
-ghost use Rattle.emtp_pseudo.specs.Segment.{IsSound, IsPoint, conductance_of, inner_end, is_above, is_below, mirrored, mirrored_end, mirrored_point, next_segment, outer_end, outward, point_at, rise_of, segment_of};
+ghost use Rattle.emtp_pseudo.specs.Segment.{conductance_of, inner_end, is_above, is_below, mirrored, mirrored_end, mirrored_point, next_segment, outer_end, outward, point_at, rise_of, segment_of};
+ghost use Rattle.emtp_pseudo.specs.held.Segment.{IsSound, IsPoint};
 
 use emtp_case::{Point, slope};
 use emtp_fix::{ATTO, near};

@@ -1,11 +1,13 @@
 //! One step of a pseudo-nonlinear branch. A function an equation.
 
 ghost use Rattle.std.specs.Prelude.{◌≡◌, ◌≢◌, ◌^◌, ◌*◌, ◌≤◌, pos, ◌+ℤ◌, ◌*ℤ◌, Bool, true, false, unsigned_abs, IfSome};
-ghost use Rattle.emtp_case.specs.Range.{IsBetween};
+ghost use Rattle.emtp_case.specs.held.Range.{IsBetween};
 ghost use Rattle.emtp_fix.specs.Rounding.{near};
 ghost use Rattle.emtp_fix.specs.declared.limit.TheConstants.{LARGEST_ENTRY, LARGEST_VALUE, PICO};
-ghost use Rattle.emtp_pseudo.specs.Segment.{IsSound, next_segment};
-ghost use Rattle.emtp_pseudo.specs.Step.{IsMoment, current_of, flux_of, history_current_of, next_state, place_of, DOUBLE_NANO};
+ghost use Rattle.emtp_pseudo.specs.Segment.{next_segment};
+ghost use Rattle.emtp_pseudo.specs.held.Segment.{IsSound};
+ghost use Rattle.emtp_pseudo.specs.Step.{current_of, flux_of, history_current_of, next_state, place_of, DOUBLE_NANO};
+ghost use Rattle.emtp_pseudo.specs.held.Step.{IsMoment};
 ghost use Rattle.emtp_pseudo.specs.declared.moment.Moment.{Moment};
 
 use crate::moment::Moment;

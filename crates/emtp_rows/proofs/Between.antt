@@ -11,7 +11,7 @@ use Rattle.emtp_case.specs.declared.case.Parts.{Parts}
 use Rattle.emtp_rows.specs.declared.term.Amount.TheVariants.{Own}
 use Rattle.emtp_case.specs.Sums.{total}
 use Rattle.emtp_rows.specs.Nodal.{between, incidence, phase_node, same_node}
-use Rattle.emtp_rows.specs.Terms.{in_node, end_terms, terms_by, two_terms}
+use Rattle.emtp_rows.specs.held.Terms.{in_node, end_terms, terms_by, two_terms}
 use Rattle.emtp_case.proofs.RowsOfNodes.{isnt_number}
 
 -- ---- sums, by which nodes are the same

@@ -12,7 +12,7 @@ use Rattle.emtp_rows.specs.declared.term.Amount.TheVariants.{Own, Turned, Mutual
 use Rattle.emtp_rows.specs.declared.term.Term.{Term}
 use Rattle.emtp_case.specs.Sums.{sum_below, total}
 use Rattle.emtp_rows.specs.Nodal.{is_member, unit}
-use Rattle.emtp_rows.specs.Terms.{amount_of, in_column, IsSmall, AreRowTerms}
+use Rattle.emtp_rows.specs.held.Terms.{amount_of, in_column, IsSmall, AreRowTerms}
 use Rattle.emtp_case.proofs.RowsOfNodes.{is_number, isnt_number}
 use Rattle.emtp_case.proofs.Sums.{total_small, sum_below_small, sum_below-more}
 

@@ -7,12 +7,13 @@ use Rattle.std.proofs.lemmas.Option.{slice_get_cases}
 use Rattle.std.proofs.lemmas.List.{get_or_past, ext_get_or}
 use Rattle.std.proofs.lemmas.List.FromFn.{length-map-range_with_len, get_or-map-range_with_len, fill_by_all}
 use Rattle.emtp_elim.specs.Matrix.{item, row_of, entry}
-use Rattle.emtp_elim.specs.Rows.{IsUnitRow, IsLawful}
+use Rattle.emtp_elim.specs.held.Rows.{IsUnitRow, IsLawful}
 use Rattle.emtp_elim.proofs.UnitRows.{IsTieRow}
 use Rattle.emtp_fix.specs.declared.limit.TheConstants.{PICO}
-use Rattle.emtp_case.specs.Branch.{IsBranch, from_of, to_of}
-use Rattle.emtp_case.specs.Case.{IsNetwork}
-use Rattle.emtp_case.specs.Sizes.{sizes_of}
+use Rattle.emtp_case.specs.Branch.{from_of, to_of}
+use Rattle.emtp_case.specs.held.Branch.{IsBranch}
+use Rattle.emtp_case.specs.held.Case.{IsNetwork}
+use Rattle.emtp_case.specs.held.Sizes.{sizes_of}
 use Rattle.emtp_case.specs.declared.branch.Branch.{Branch}
 use Rattle.emtp_case.specs.RowOrder.{order_of}
 use Rattle.emtp_case.specs.declared.case.Parts.{Parts}
@@ -21,8 +22,8 @@ use Rattle.emtp_case.specs.declared.row_kind.RowKind.TheVariants.{Kcl, Sum, Tie,
 use Rattle.emtp_rows.specs.declared.term.Term.{Term}
 use Rattle.emtp_case.specs.Sums.{sum_below, total}
 use Rattle.emtp_rows.specs.Nodal.{Nodal, between, node_at, current_entry, group_sum, entry_by, is_member, kind_at, unit, nodal_matrix}
-use Rattle.emtp_case.specs.RowKinds.{AreKinds, TieIsThere}
-use Rattle.emtp_rows.specs.Terms.{in_node, terms_at, IsHeld, IsSmall, HasAllTerms, AreRowTerms, kinds_from, in_column, filled_entry}
+use Rattle.emtp_case.specs.held.RowKinds.{AreKinds, TieIsThere}
+use Rattle.emtp_rows.specs.held.Terms.{in_node, terms_at, IsHeld, IsSmall, HasAllTerms, AreRowTerms, kinds_from, in_column, filled_entry}
 use Rattle.emtp_case.proofs.Sums.{sum_below_small, sum_below_same}
 use Rattle.emtp_rows.proofs.Filled.{row_total_small}
 use Rattle.emtp_case.proofs.RowsOfNodes.{fixed_within}

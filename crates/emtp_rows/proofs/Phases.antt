@@ -2,9 +2,10 @@
 use Rattle.std.proofs.Common.{◌≡◌, ◌∙◌, sym, ℕ, ◌+◌, ◌<◌, ◌≤◌, pos, Bool, true, false, not, List, [], ◌∷◌, All, length, map, get_or, Some, None, refl, inl, inr, arith, ◌⊎◌}
 use Rattle.std.proofs.lemmas.Bool.{cases_lt}
 use Rattle.std.proofs.lemmas.List.{get_or-map, get_or_past, length-map}
-use Rattle.emtp_case.specs.Branch.{IsBranch, from_of, to_of, phase_of, phase_at, first_of_trio, AreInThrees}
-use Rattle.emtp_case.specs.Range.{AreEnds}
-use Rattle.emtp_case.specs.Sizes.{Sizes, sizes_of}
+use Rattle.emtp_case.specs.Branch.{from_of, to_of, first_of_trio}
+use Rattle.emtp_case.specs.held.Branch.{IsBranch, phase_of, phase_at, AreInThrees}
+use Rattle.emtp_case.specs.held.Range.{AreEnds}
+use Rattle.emtp_case.specs.held.Sizes.{Sizes, sizes_of}
 use Rattle.emtp_case.specs.declared.branch.Branch.{Branch}
 use Rattle.emtp_case.specs.declared.branch.Branch.TheVariants.{Lumped as OfLumped, Line as OfLine, Pseudo as OfPseudo, Phase as OfPhase}
 use Rattle.emtp_case.specs.declared.branch.Lumped.{Lumped}
@@ -15,7 +16,7 @@ use Rattle.emtp_case.specs.declared.case.Parts.{Parts}
 use Rattle.emtp_case.specs.declared.run_data.RunData.{RunData}
 use Rattle.emtp_rows.specs.declared.term.Amount.TheVariants.{Own, Turned}
 use Rattle.emtp_rows.specs.Nodal.{end_node, phase_node}
-use Rattle.emtp_rows.specs.Terms.{end_terms}
+use Rattle.emtp_rows.specs.held.Terms.{end_terms}
 
 -- a phase stands among the branches
 pub phase_there : (branches : List Branch) (trios : List Trio) (t p : ℕ) → AreInThrees branches trios → t < length trios → p < 3 → first_of_trio trios t + p < length branches

@@ -12,7 +12,7 @@ use Rattle.emtp_rows.specs.declared.term.Amount.{Amount}
 use Rattle.emtp_rows.specs.declared.term.Term.{Term}
 use Rattle.emtp_case.specs.Sums.{total}
 use Rattle.emtp_rows.specs.Nodal.{node_at}
-use Rattle.emtp_rows.specs.Terms.{NodeTerm, amount_of, in_node, end_terms, terms_by, terms_at, Adds, HasTerms, IsTerm, AmountIsThere, in_column}
+use Rattle.emtp_rows.specs.held.Terms.{NodeTerm, amount_of, in_node, end_terms, terms_by, terms_at, Adds, HasTerms, IsTerm, AmountIsThere, in_column}
 use Rattle.emtp_case.proofs.Sums.{total-append, sum_below-more}
 use Rattle.emtp_case.proofs.RowsOfNodes.{IsRowOf, is_number, isnt_number, node_low}
 

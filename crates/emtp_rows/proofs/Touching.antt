@@ -6,8 +6,9 @@ use Rattle.std.proofs.lemmas.Bool.Decides.{nat_tests}
 use Rattle.std.proofs.lemmas.List.{ext_get_or, get_or-map, length-map, get_or-take, length-take, take-take}
 use Rattle.std.proofs.lemmas.Option.{get_or_from_slice_get, slice_get-map, slice_get_cases, slice_get_read}
 use Rattle.emtp_elim.specs.Matrix.{Matrix, item, row_of}
-use Rattle.emtp_case.specs.Branch.{AreInThrees, IsBranch, IsPhase, first_of_trio, from_of, phase_at, phase_of, to_of}
-use Rattle.emtp_case.specs.Sizes.{sizes_of}
+use Rattle.emtp_case.specs.Branch.{first_of_trio, from_of, to_of}
+use Rattle.emtp_case.specs.held.Branch.{AreInThrees, IsBranch, IsPhase, phase_at, phase_of}
+use Rattle.emtp_case.specs.held.Sizes.{sizes_of}
 use Rattle.emtp_case.specs.declared.branch.Branch.{Branch}
 use Rattle.emtp_case.specs.declared.branch.Branch.TheVariants.{Lumped as OfLumped, Line as OfLine, Pseudo as OfPseudo, Phase as OfPhase}
 use Rattle.emtp_case.specs.declared.branch.Phase.{Phase}
@@ -15,8 +16,8 @@ use Rattle.emtp_case.specs.declared.case.Parts.{Parts}
 use Rattle.emtp_case.specs.declared.row_kind.RowKind.{RowKind}
 use Rattle.emtp_case.specs.declared.row_kind.RowKind.TheVariants.{Kcl, Sum, Tie, Ground, Source}
 use Rattle.emtp_rows.specs.Nodal.{Nodal, between, current_entry, entry_by, is_member, is_tie_to, kind_at, node_at, nodal_matrix}
-use Rattle.emtp_rows.specs.Terms.{end_rows}
-use Rattle.emtp_rows.specs.Touched.{AgreesBy, NodalRows, StandsUntouched, Touches, equation_by, equation_row, row_at}
+use Rattle.emtp_rows.specs.held.Terms.{end_rows}
+use Rattle.emtp_rows.specs.held.Touched.{AgreesBy, NodalRows, StandsUntouched, Touches, equation_by, equation_row, row_at}
 use Rattle.emtp_rows.proofs.Between.{between_none}
 use Rattle.emtp_rows.proofs.NodalRows.{length-nodal_matrix, length-nodal_row, nodal_entry}
 use Rattle.emtp_case.proofs.RowsOfNodes.{row_at_is, row_at_within}

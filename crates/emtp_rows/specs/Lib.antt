@@ -1,3 +1,4 @@
+-- what the clauses of the program say
 pub mod Nodal
-pub mod Touched
-pub mod Terms
+-- what values hold for their proofs
+pub mod held

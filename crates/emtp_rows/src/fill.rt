@@ -6,8 +6,8 @@ ghost use Rattle.emtp_rows.specs.declared.term.Term.{Term};
 ghost use Rattle.emtp_case.specs.Sums.{sum_below, total};
 ghost use Rattle.emtp_fix.specs.declared.limit.TheConstants.{LARGEST_ENTRY, PICO};
 ghost use Rattle.emtp_rows.specs.Nodal.{is_member, is_tie_to, kind_at};
-ghost use Rattle.emtp_rows.specs.Terms.{amount_of, in_column, IsTerm, IsSmall, AreRowTerms, filled_entry, AmountIsThere};
-ghost use Rattle.emtp_case.specs.RowKinds.{TieIsThere};
+ghost use Rattle.emtp_rows.specs.held.Terms.{amount_of, in_column, IsTerm, IsSmall, AreRowTerms, filled_entry, AmountIsThere};
+ghost use Rattle.emtp_case.specs.held.RowKinds.{TieIsThere};
 
 use crate::term::{Amount, Term};
 use emtp_case::{Items, RowKind};

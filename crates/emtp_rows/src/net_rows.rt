@@ -3,11 +3,11 @@
 ghost use Rattle.std.specs.Prelude.{◌≡◌, ◌<◌, ◌≤◌, pos, replicate, length, unsigned_abs, slice_set, IfOk};
 ghost use Rattle.emtp_fix.specs.declared.limit.TheConstants.{LARGEST_ENTRY};
 ghost use Rattle.emtp_elim.specs.Matrix.{item};
-ghost use Rattle.emtp_case.specs.RowKinds.{AreKinds};
+ghost use Rattle.emtp_case.specs.held.RowKinds.{AreKinds};
 ghost use Rattle.emtp_case.specs.RowOrder.{order_of};
 ghost use Rattle.emtp_rows.specs.Nodal.{Nodal};
-ghost use Rattle.emtp_rows.specs.Terms.{kinds_from, nodal_at_rest};
-ghost use Rattle.emtp_rows.specs.Touched.{NodalRows, Touches};
+ghost use Rattle.emtp_rows.specs.held.Terms.{kinds_from, nodal_at_rest};
+ghost use Rattle.emtp_rows.specs.held.Touched.{NodalRows, Touches};
 
 use crate::fill::fill_row;
 use crate::term::Term;
@@ -36,8 +36,8 @@ pub struct NetRows<'a> {
 }
 
 impl<'a> Model for NetRows<'a> {
-    ghost use Rattle.emtp_rows.specs.Terms.{IsHeld};
-    ghost use Rattle.emtp_rows.specs.Touched.{NodalRows};
+    ghost use Rattle.emtp_rows.specs.held.Terms.{IsHeld};
+    ghost use Rattle.emtp_rows.specs.held.Touched.{NodalRows};
 
     ghost Value = { NodalRows };
 

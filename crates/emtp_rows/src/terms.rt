@@ -1,13 +1,14 @@
 //! Which terms the branches bring into the rows.
 
 ghost use Rattle.std.specs.Prelude.{◌≡◌, ◌<◌, ◌≤◌, ◌∷◌, [], length, drop, map, slice_get, slice_index_or, Some, IfOk, OnOk};
-ghost use Rattle.emtp_case.specs.Branch.{IsBranch, first_of_trio};
+ghost use Rattle.emtp_case.specs.Branch.{first_of_trio};
+ghost use Rattle.emtp_case.specs.held.Branch.{IsBranch};
 ghost use Rattle.emtp_case.specs.RowOrder.{order_of};
 ghost use Rattle.emtp_case.specs.declared.branch.Branch.TheVariants.{Phase as OfPhase};
-ghost use Rattle.emtp_case.specs.Sizes.{sizes_of};
+ghost use Rattle.emtp_case.specs.held.Sizes.{sizes_of};
 ghost use Rattle.emtp_rows.specs.Nodal.{end_node, phase_node};
-ghost use Rattle.emtp_rows.specs.Terms.{Adds, HasTerms, HasAllTerms, AmountIsThere, end_rows, end_terms, terms_at};
-ghost use Rattle.emtp_rows.specs.Touched.{row_at};
+ghost use Rattle.emtp_rows.specs.held.Terms.{Adds, HasTerms, HasAllTerms, AmountIsThere, end_rows, end_terms, terms_at};
+ghost use Rattle.emtp_rows.specs.held.Touched.{row_at};
 
 use crate::term::{Amount, Term};
 use emtp_case::{Branch, Case, Items, Phase, RowOrder, Trio};

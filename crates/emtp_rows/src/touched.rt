@@ -2,7 +2,7 @@
 
 ghost use Rattle.std.specs.Prelude.{◌≡◌, ◌+◌, ◌<◌, ◌≤◌, ℕ, length, slice_get, Some};
 ghost use Rattle.emtp_rows.specs.Nodal.{kind_at};
-ghost use Rattle.emtp_rows.specs.Touched.{AgreesBy, equation_row, sum_row, tied_row};
+ghost use Rattle.emtp_rows.specs.held.Touched.{AgreesBy, equation_row, sum_row, tied_row};
 
 use emtp_case::RowKind;
 

@@ -5,9 +5,12 @@ use Rattle.emtp_io.specs.Cabinet.{CabinetState, Outputs, Nature}
 use Rattle.emtp_io.specs.declared.whole.ReadEnd.TheVariants.{Failed, NoMemory as Wanting}
 use Rattle.emtp_run.proofs.Endings.{ends-complete}
 use Rattle.emtp_run.proofs.Contents.{contents-there, one_of}
-use Rattle.emtp_run.specs.Command.{IsAnswered, HoldsOfRuns, TookSoFar, cases_in, outcome_for, outcome_of, own_texts, reads, runs_of, texts_for}
-use Rattle.emtp_run.specs.Inputs.{FilesAreThere, Input, IsUntouched, ReadsInputs, TookOfLast, UnlessAny, contents}
-use Rattle.emtp_run.specs.Outcome.{Ends, EndsAfterReading, HasRoomFor, HasRun, HasStatusCause, Leaves, Outcome, Settles}
+use Rattle.emtp_run.specs.Command.{TookSoFar, cases_in, outcome_for, outcome_of, own_texts, reads, runs_of, texts_for}
+use Rattle.emtp_run.specs.held.Command.{IsAnswered, HoldsOfRuns}
+use Rattle.emtp_run.specs.Inputs.{Input, TookOfLast, UnlessAny, contents}
+use Rattle.emtp_run.specs.held.Inputs.{FilesAreThere, IsUntouched, ReadsInputs}
+use Rattle.emtp_run.specs.Outcome.{HasRoomFor, HasRun, HasStatusCause, Leaves, Outcome, Settles}
+use Rattle.emtp_run.specs.held.Outcome.{Ends, EndsAfterReading}
 use Rattle.emtp_run.specs.Words.{Task, Audit, Batch, Phasor, Run, Scan, Trial}
 use Rattle.emtp_run.specs.declared.status.Status.{Status}
 use Rattle.emtp_run.specs.declared.status.Status.TheVariants.{Done, Usage, BadCard, Ended, ReadFault, WriteFault, NoMemory, Refused, Differs, BadRow}

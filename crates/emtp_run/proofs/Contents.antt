@@ -7,7 +7,8 @@ use Rattle.std.specs.Prelude.{slice_index_or}
 use Rattle.std.specs.declared.alloc.Global.{Global}
 use Rattle.std.specs.declared.vec.Vec.{Vec}
 use Rattle.emtp_io.specs.Whole.{TookFront}
-use Rattle.emtp_run.specs.Inputs.{FilesAreThere, Input, TookOfLast, TookOfOne, and_content, content, contents, named_input, named_inputs, text_at, texts_of}
+use Rattle.emtp_run.specs.Inputs.{Input, TookOfLast, TookOfOne, and_content, content, contents, text_at}
+use Rattle.emtp_run.specs.held.Inputs.{FilesAreThere, named_input, named_inputs, texts_of}
 use Rattle.emtp_run.specs.declared.reading.InputFile.{InputFile}
 
 -- ---- what was read

@@ -8,7 +8,7 @@ use Rattle.emtp_card.specs.declared.reason.Refused.TheVariants.{Bad as OfBad, No
 use Rattle.std.specs.Prelude.{IsErrAnd}
 use Rattle.emtp_case.specs.declared.case.Case.{Case}
 use Rattle.emtp_case.specs.declared.case.Parts.{Parts}
-use Rattle.emtp_deck.specs.Answer.{IfBad}
+use Rattle.emtp_walk.specs.held.Answer.{IfBad}
 use Rattle.emtp_deck.specs.Deck.{deck_of}
 use Rattle.emtp_run.specs.Reading.{deck, deck_by}
 

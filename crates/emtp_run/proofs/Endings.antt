@@ -1,9 +1,11 @@
 -- How a call ends that makes a note and nothing else, and that nothing else can happen.
 use Rattle.std.proofs.Common.{◌≡◌, ◌≢◌, ℕ, ◌≤◌, List, [], ◌∷◌, inl, inr, sym, refl, Some, None, Option, Result, Ok, Err, IsTrue, IsOk, IfSome}
 use Rattle.emtp_io.specs.Cabinet.{CabinetState}
-use Rattle.emtp_io.specs.Writes.{Written, Makes}
+use Rattle.emtp_io.specs.Writes.{Written}
+use Rattle.emtp_io.specs.held.Writes.{Makes}
 use Rattle.emtp_io.specs.declared.cabinet.Output.TheVariants.{Cfg, Dat}
-use Rattle.emtp_run.specs.Outcome.{Outcome, note, refusal, Ends, HasStatusCause, IsComplete, IsNoted, IsWholeOrCut, KeepsRecord, Leaves, LeavesNote, Settles}
+use Rattle.emtp_run.specs.Outcome.{Outcome, note, refusal, HasStatusCause, IsComplete, IsNoted, IsWholeOrCut, KeepsRecord, Leaves, Settles}
+use Rattle.emtp_run.specs.held.Outcome.{Ends, LeavesNote}
 use Rattle.emtp_run.specs.declared.status.Status.{Status}
 use Rattle.emtp_run.specs.declared.status.Status.TheVariants.{Done, Usage, BadCard, Ended, ReadFault, WriteFault, NoMemory, Refused, Differs, BadRow}
 

@@ -6,7 +6,8 @@ use Rattle.emtp_io.specs.Cabinet.{CabinetState, IsInputCall}
 use Rattle.emtp_io.specs.declared.whole.ReadEnd.{ReadEnd}
 use Rattle.emtp_io.specs.declared.whole.ReadEnd.TheVariants.{Failed, NoMemory}
 use Rattle.emtp_run.proofs.Contents.{one_of, there_at, took_more, took_stopped, took_upto}
-use Rattle.emtp_run.specs.Inputs.{Input, ReadsInputs, named_input, named_inputs}
+use Rattle.emtp_run.specs.Inputs.{Input}
+use Rattle.emtp_run.specs.held.Inputs.{ReadsInputs, named_input, named_inputs}
 use Rattle.emtp_run.specs.declared.reading.InputFile.{InputFile}
 
 -- the file couldn't be opened

@@ -1,5 +1,5 @@
 -- The table of commands: which files each reads, and what it comes to by what they hold.
-use Rattle.std.specs.Prelude.{◌≡◌, ℕ, ◌+◌, length, List, [], ◌∷◌, ◌++◌, Option, Some, None, option_map, Result, Ok, Err, IfSome, IsTrue, All}
+use Rattle.std.specs.Prelude.{◌≡◌, ℕ, ◌+◌, length, List, [], ◌∷◌, ◌++◌, Option, Some, None, option_map, Result, Ok, Err}
 use Rattle.emtp_audit.specs.Audit.{audit_differs}
 use Rattle.emtp_audit.specs.Note.{differs_note, same_text}
 use Rattle.emtp_audit.specs.declared.differs.Differs.{Differs as Difference}
@@ -13,12 +13,11 @@ use Rattle.emtp_card.specs.declared.reason.Bad.{Bad}
 use Rattle.emtp_case.specs.declared.case.Parts.{Parts}
 use Rattle.emtp_io.specs.Cabinet.{CabinetState}
 use Rattle.emtp_machine.specs.History.{history, samples}
-use Rattle.emtp_machine.specs.Laws.{EndsWithin, SamplesBalance}
 use Rattle.emtp_phasor_text.specs.Reports.{scan_report, steady_report}
 use Rattle.emtp_phasor_text.specs.declared.report.Report.{Report}
 use Rattle.emtp_phasor_text.specs.declared.report.Report.TheVariants.{Ended as TellsEnd, Refused as TellsRefusal, Summary as TellsSummary}
 use Rattle.emtp_run.specs.Inputs.{Input, contents, text_at, TookOfOne, TookOfLast, UnlessAny}
-use Rattle.emtp_run.specs.Outcome.{Outcome, bad_card, bad_row, ended_alone, refusal, summarised, usage, ran, record_writes, trial_writes, Ends, HasRun, IsComplete, IsUnopened}
+use Rattle.emtp_run.specs.Outcome.{Outcome, bad_card, bad_row, ended_alone, refusal, summarised, usage, ran, record_writes, trial_writes, IsUnopened}
 use Rattle.emtp_run.specs.Reading.{deck}
 use Rattle.emtp_run.specs.TrialDeck.{trial_cards}
 use Rattle.emtp_run.specs.Words.{Task, Audit, Batch, Phasor, Run, Scan, Trial, fits}
@@ -138,11 +137,6 @@ cases_for (Some task) files = cases_in task (texts_for task files)
 abbrev pub cases_of : List (List ℕ) → (List ℕ → Option (List ℕ)) → List Parts
 cases_of words files = cases_for (fits words) files
 
--- what is promised of each case that is run
-pub record HoldsOfRuns (cases : List Parts) : Type 0 where
-  pub balance : All SamplesBalance cases
-  pub names : All EndsWithin cases
-
 -- ---- which files are opened
 
 -- a command that reads no file opens none
@@ -167,11 +161,3 @@ TookSoFar BadRow files inputs old new = TookOfLast files inputs old new
 abbrev pub TakesWithin : Option Task → Status → CabinetState → CabinetState → Type 0
 TakesWithin None status old new = new.unread ≡ old.unread
 TakesWithin (Some task) status old new = TookSoFar status old.nature.files (reads task) old.unread new.unread
-
--- what is promised of a call that asks for this, whatever it answers
-pub record IsAnswered (task : Option Task) (status : Status) (old new : CabinetState) : Type 0 where
-  pub unopened : OpensNothing task status old new
-  pub taken : IsTrue old.nature.tells → TakesWithin task status old new
-  pub runs : IsTrue old.nature.tells → HasRun status → HoldsOfRuns (cases_for task old.nature.files)
-  pub ends : Ends status (outcome_for task old.nature.files) old new
-  pub complete : IsTrue old.nature.tells → IfSome (outcome_for task old.nature.files) (IsComplete status old new)

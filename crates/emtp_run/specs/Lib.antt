@@ -1,3 +1,4 @@
+-- what the clauses of the program say
 pub mod Words
 pub mod Note
 pub mod TrialDeck
@@ -7,3 +8,5 @@ pub mod Texts
 pub mod Outcome
 pub mod Inputs
 pub mod Command
+-- what values hold for their proofs
+pub mod held

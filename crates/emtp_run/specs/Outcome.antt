@@ -1,5 +1,5 @@
 -- What a call may come to, and what its status says of counts and outputs.
-use Rattle.std.specs.Prelude.{◌≡◌, ◌≢◌, ◌⊎◌, ℕ, ◌≤◌, ℤ, List, [], ◌∷◌, IsTrue, Option, Some, None, IsSomeAnd}
+use Rattle.std.specs.Prelude.{◌≡◌, ◌≢◌, ◌⊎◌, ℕ, ◌≤◌, ℤ, List, [], ◌∷◌, Option, Some, None, IsSomeAnd}
 use Rattle.emtp_card.specs.declared.reason.Bad.{Bad}
 use Rattle.emtp_case.specs.declared.case.Parts.{Parts}
 use Rattle.emtp_comtrade.specs.Record.{cfg_text, dat_text}
@@ -9,9 +9,7 @@ use Rattle.emtp_io.specs.declared.cabinet.Output.TheVariants.{Cfg, Dat, Note, Su
 use Rattle.emtp_machine.specs.History.{History, history, samples}
 use Rattle.emtp_run.specs.Note.{usage_note, card_note, row_note}
 use Rattle.emtp_run.specs.Texts.{run_note, trial_text}
-use Rattle.emtp_run.specs.Words.{RunFiles, files_of}
-use Rattle.emtp_run.specs.declared.outputs.Product.{Product}
-use Rattle.emtp_run.specs.declared.outputs.Product.TheVariants.{Record as OfRecord, Trial as OfTrial}
+use Rattle.emtp_run.specs.Words.{RunFiles}
 use Rattle.emtp_run.specs.declared.status.Status.{Status}
 use Rattle.emtp_run.specs.declared.status.Status.TheVariants.{Done, Usage, BadCard, Ended, ReadFault, WriteFault, NoMemory, Refused, Differs, BadRow}
 
@@ -74,28 +72,11 @@ summarised text = record { status = Done; writes = summary text ∷ [] }
 abbrev pub ended_alone : List ℕ → Outcome
 ended_alone text = record { status = Ended; writes = note text ∷ [] }
 
-abbrev pub writes_of : Product → Parts → History → List Written
-writes_of (OfRecord words) case h = record_writes (files_of words) case h
-writes_of (OfTrial number) case h = trial_writes number case h
-
 -- no file was opened, and so no failure of one is answered
 pub record IsUnopened (status : Status) (old new : CabinetState) : Type 0 where
   pub unread : new.unread ≡ old.unread
   pub inputs : new.faults_in ≡ old.faults_in
   pub read : status ≢ ReadFault
-
--- a status whose note is all that is made
-abbrev pub LeavesNote : Status → Type 0
-LeavesNote Done = ⊥
-LeavesNote Usage = Unit {0}
-LeavesNote BadCard = Unit {0}
-LeavesNote Ended = ⊥
-LeavesNote ReadFault = ⊥
-LeavesNote WriteFault = ⊥
-LeavesNote NoMemory = ⊥
-LeavesNote Refused = Unit {0}
-LeavesNote Differs = Unit {0}
-LeavesNote BadRow = Unit {0}
 
 -- the run came to its end, by itself or early
 abbrev pub IsFinished : Status → Type 0
@@ -190,21 +171,6 @@ pub record IsCalmRun (status : Status) (old new : CabinetState) : Type 0 where
 -- the outcome has room
 abbrev pub HasRoomFor : Option Outcome → ℕ → Type 0
 HasRoomFor o room = IsSomeAnd o (λ o. AllFit o.writes room)
-
--- how a call with this outcome ends, whatever it answers
-pub record Ends (status : Status) (o : Option Outcome) (old new : CabinetState) : Type 0 where
-  pub nature : new.nature ≡ old.nature
-  pub cause : HasStatusCause status old new
-  pub no_record : Leaves status old new
-  pub outcome : IsTrue old.nature.tells → Settles status o old new
-  pub calm : IsTrue old.nature.tells → IsTrue old.nature.calm → HasRoomFor o old.nature.room → IsCalmRun status old new
-
--- a call that ends so once the words fit and all files were read: it reads no more
-pub record EndsAfterReading (status : Status) (o : Outcome) (old new : CabinetState) : Type 0 where
-  pub usage : status ≢ Usage
-  pub read : status ≢ ReadFault
-  pub unread : new.unread ≡ old.unread
-  pub ends : Ends status (Some o) old new
 
 -- A call on a file that is read failed, or one on an output did; or all of the outcome was made and its status answered; or memory
 -- was wanting and nothing was made.

@@ -1,17 +1,12 @@
 -- What the words of a command line ask for.
-use Rattle.std.specs.Prelude.{ℕ, ℤ, pos, ◌≤ℤ◌, ◌+◌, ◌-◌, ◌*◌, List, [], ◌∷◌, Bool, false, not, ◌&&◌, ◌==◌, ◌≤◌, nat_le, int_le, Option, Some, None, if◌then◌else◌, map, option_map, String, string_bytes, codes}
+use Rattle.std.specs.Prelude.{ℕ, ℤ, pos, ◌+◌, ◌-◌, ◌*◌, List, [], ◌∷◌, Bool, false, not, ◌&&◌, ◌==◌, nat_le, int_le, Option, Some, None, if◌then◌else◌, map, option_map, String, string_bytes, codes}
 use Rattle.std.specs.Char.{is_ascii_digit}
 use Rattle.std.specs.Option.{option_and_then}
 use Rattle.std.specs.Str.{bytes_eq}
 use Rattle.std.specs.declared.alloc.Global.{Global}
 use Rattle.emtp_card.specs.Numeral.{few_digits}
-use Rattle.emtp_phasor.specs.Scanning.{IsScan, frequency_count}
+use Rattle.emtp_phasor.specs.Scanning.{frequency_count}
 use Rattle.emtp_phasor.specs.declared.scanning.TheConstants.{MOST_FREQUENCIES}
-use Rattle.emtp_run.specs.declared.words.BatchWords.{BatchWords}
-use Rattle.emtp_run.specs.declared.words.RunWords.{RunWords}
-use Rattle.emtp_run.specs.declared.words.ScanWords.{ScanWords}
-use Rattle.emtp_run.specs.declared.words.Words.{Words}
-use Rattle.emtp_run.specs.declared.words.Words.TheVariants.{Audit as OfAudit, Batch as OfBatch, Phasor as OfPhasor, Run as OfRun, Scan as OfScan, Trial as OfTrial}
 
 abbrev pub texts : List (String Global) → List (List ℕ)
 texts words = map (λ word. string_bytes word) words
@@ -80,20 +75,6 @@ abbrev pub frequency_of_word : List ℕ → Option ℤ
 frequency_of_word [] = None
 frequency_of_word (first ∷ rest) = if is_leading first then option_and_then in_scan (few_digits 8 (first ∷ rest)) else None
 
--- a frequency of a scan, in micro-hertz
-pub record IsScanned (frequency : ℤ) : Type 0 where
-  pub some : pos 1 ≤ℤ frequency
-  pub most : frequency ≤ℤ pos 10000000000000
-
--- a trial case has from 1 to 900 sections, and a scan few frequencies in order
-abbrev pub IsTask : Task → Type 0
-IsTask (Run files) = Unit {0}
-IsTask (Trial number) = (1 ≤ number) × (number ≤ 900)
-IsTask (Batch files) = Unit {0}
-IsTask (Audit files) = Unit {0}
-IsTask (Phasor case) = Unit {0}
-IsTask (Scan s) = IsScan s.first s.last s.by
-
 -- what the command asks for that has one word
 abbrev pub of_one : List ℕ → List ℕ → Option Task
 of_one command word =
@@ -137,20 +118,3 @@ fits (command ∷ case ∷ first ∷ last ∷ by ∷ []) =
     then of_scan case (frequency_of_word first) (frequency_of_word last) (frequency_of_word by)
     else None
 fits (command ∷ case ∷ first ∷ last ∷ by ∷ other ∷ more) = None
-
-abbrev pub files_of : RunWords → RunFiles
-files_of words = record { case = words.case.now; cfg = words.cfg.now; dat = words.dat.now }
-
-abbrev pub batch_files_of : BatchWords → BatchFiles
-batch_files_of words = record { case = words.case.now; times = words.times.now }
-
-abbrev pub scanned_of : ScanWords → Scanned
-scanned_of words = record { case = words.case.now; first = words.first; last = words.last; by = words.by }
-
-abbrev pub task_of : Words → Task
-task_of (OfRun words) = Run (files_of words)
-task_of (OfTrial number) = Trial number
-task_of (OfBatch words) = Batch (batch_files_of words)
-task_of (OfAudit words) = Audit (files_of words)
-task_of (OfPhasor name) = Phasor name.now
-task_of (OfScan words) = Scan (scanned_of words)

@@ -1,10 +1,12 @@
 //! The command `audit CASE CFG DAT`: whether two files are the record of a case.
 ghost use Rattle.std.specs.Prelude.{◌≡◌, [], ◌∷◌, None, Some, length, IfOk, IfErr, OnOk};
 ghost use Rattle.emtp_audit.specs.Audit.{audit_differs};
-ghost use Rattle.emtp_audit.specs.Walk.{OnDiffers};
+ghost use Rattle.emtp_audit.specs.held.Walk.{OnDiffers};
 ghost use Rattle.emtp_machine.specs.History.{history, samples};
-ghost use Rattle.emtp_run.specs.Command.{audit_outcome, HoldsOfRuns};
-ghost use Rattle.emtp_run.specs.Outcome.{EndsAfterReading, HasRun};
+ghost use Rattle.emtp_run.specs.Command.{audit_outcome};
+ghost use Rattle.emtp_run.specs.held.Command.{HoldsOfRuns};
+ghost use Rattle.emtp_run.specs.Outcome.{HasRun};
+ghost use Rattle.emtp_run.specs.held.Outcome.{EndsAfterReading};
 
 use crate::note;
 use crate::outputs::{leave_summary, refuse};

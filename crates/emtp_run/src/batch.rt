@@ -1,12 +1,15 @@
 //! The command `batch CASE TIMES`: a case under each row of a table of switch times.
 ghost use Rattle.std.specs.Prelude.{◌≡◌, All, IfOk, OnOk};
-ghost use Rattle.emtp_batch.specs.Altered.{altered_cases, time_switches};
+ghost use Rattle.emtp_batch.specs.Altered.{altered_cases};
+ghost use Rattle.emtp_batch.specs.held.Altered.{time_switches};
 ghost use Rattle.emtp_batch.specs.Report.{reports_of};
-ghost use Rattle.emtp_batch.specs.Row.{IsRowFor};
+ghost use Rattle.emtp_batch.specs.held.Row.{IsRowFor};
 ghost use Rattle.emtp_batch.specs.Summary.{batch_text};
 ghost use Rattle.emtp_batch.specs.Table.{times_table};
-ghost use Rattle.emtp_run.specs.Command.{altered_in, batch_outcome, HoldsOfRuns};
-ghost use Rattle.emtp_run.specs.Outcome.{summarised, EndsAfterReading, HasRun};
+ghost use Rattle.emtp_run.specs.Command.{altered_in, batch_outcome};
+ghost use Rattle.emtp_run.specs.held.Command.{HoldsOfRuns};
+ghost use Rattle.emtp_run.specs.Outcome.{summarised, HasRun};
+ghost use Rattle.emtp_run.specs.held.Outcome.{EndsAfterReading};
 
 use crate::note;
 use crate::outputs::{leave_summary, refuse};

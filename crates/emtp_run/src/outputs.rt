@@ -1,10 +1,11 @@
 //! The outputs of a call, each made after the one before it is whole.
 ghost use Rattle.std.specs.Prelude.{◌≡◌, ◌+◌, [], ◌∷◌, Some, length};
-ghost use Rattle.emtp_comtrade.specs.Record.{AreMultipliers};
-ghost use Rattle.emtp_io.specs.Writes.{Makes};
+ghost use Rattle.emtp_comtrade.specs.held.Record.{AreMultipliers};
+ghost use Rattle.emtp_io.specs.held.Writes.{Makes};
 ghost use Rattle.emtp_machine.specs.History.{history, redone as redone_by, samples as samples_of};
-ghost use Rattle.emtp_run.specs.Outcome.{cfg, dat, ended_alone, note, record_writes, refusal, summarised, summary, writes_of, Ends, EndsAfterReading, LeavesNote};
-ghost use Rattle.emtp_run.specs.Words.{files_of};
+ghost use Rattle.emtp_run.specs.Outcome.{cfg, dat, ended_alone, note, record_writes, refusal, summarised, summary};
+ghost use Rattle.emtp_run.specs.held.Outcome.{writes_of, Ends, EndsAfterReading, LeavesNote};
+ghost use Rattle.emtp_run.specs.held.Words.{files_of};
 
 use crate::note;
 use crate::status::Status;

@@ -2,9 +2,10 @@
 ghost use Rattle.std.specs.Prelude.{◌≡◌, ◌+◌, ◌≤◌, ◌∷◌, [], ◌++◌, length, Some, IsTrue, IfOk, IfErr, IsErrOf, OnOk};
 ghost use Rattle.emtp_io.specs.declared.whole.ReadEnd.{ReadEnd};
 ghost use Rattle.emtp_run.specs.Command.{own_texts, reads, texts_for};
-ghost use Rattle.emtp_run.specs.Inputs.{IsUntouched, ReadsInputs, UnlessAny, content, contents, named_input, named_inputs, texts_of};
+ghost use Rattle.emtp_run.specs.Inputs.{UnlessAny, content, contents};
+ghost use Rattle.emtp_run.specs.held.Inputs.{IsUntouched, ReadsInputs, named_input, named_inputs, texts_of};
 ghost use Rattle.emtp_run.specs.TrialDeck.{trial_cards};
-ghost use Rattle.emtp_run.specs.Words.{IsTask, task_of};
+ghost use Rattle.emtp_run.specs.held.Words.{IsTask, task_of};
 
 use crate::trial::trial_deck;
 use crate::words::Words;

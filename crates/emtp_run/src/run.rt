@@ -1,14 +1,17 @@
 //! The top call.
 ghost use Rattle.std.specs.Prelude.{◌≡◌, ◌≢◌, ◌↔◌, ◌+◌, ◌<◌, [], ◌∷◌, All, Some, None, Ok, Err, length, IsTrue, IfSome, IfOk, IfErr};
-ghost use Rattle.emtp_deck.specs.Answer.{IfBad};
+ghost use Rattle.emtp_walk.specs.held.Answer.{IfBad};
 ghost use Rattle.emtp_machine.specs.History.{history};
 ghost use Rattle.emtp_machine.specs.Laws.{EndsWithin, SamplesBalance};
-ghost use Rattle.emtp_machine.specs.Machine.{history_of};
-ghost use Rattle.emtp_run.specs.Command.{answer, cases_of, outcome, outcome_of, own_texts, reads, runs, runs_of, HoldsOfRuns, IsAnswered, OpensNothing, TakesWithin};
-ghost use Rattle.emtp_run.specs.Inputs.{texts_of};
-ghost use Rattle.emtp_run.specs.Outcome.{ran, status_of, writes_of, EndsAfterReading, HasRoomFor, HasRun, HasStatusCause, IsCalmRun, IsComplete, Leaves, Settles};
+ghost use Rattle.emtp_machine.specs.held.Machine.{history_of};
+ghost use Rattle.emtp_run.specs.Command.{answer, cases_of, outcome, outcome_of, own_texts, reads, runs, runs_of, OpensNothing, TakesWithin};
+ghost use Rattle.emtp_run.specs.held.Command.{HoldsOfRuns, IsAnswered};
+ghost use Rattle.emtp_run.specs.held.Inputs.{texts_of};
+ghost use Rattle.emtp_run.specs.Outcome.{ran, status_of, HasRoomFor, HasRun, HasStatusCause, IsCalmRun, IsComplete, Leaves, Settles};
+ghost use Rattle.emtp_run.specs.held.Outcome.{writes_of, EndsAfterReading};
 ghost use Rattle.emtp_run.specs.Reading.{deck};
-ghost use Rattle.emtp_run.specs.Words.{fits, task_of, texts, IsTask};
+ghost use Rattle.emtp_run.specs.Words.{fits, texts};
+ghost use Rattle.emtp_run.specs.held.Words.{task_of, IsTask};
 
 use crate::audit::run_audit;
 use crate::batch::run_table;

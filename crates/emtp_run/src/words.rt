@@ -3,7 +3,8 @@ ghost use Rattle.std.specs.Char.{is_ascii_digit};
 ghost use Rattle.std.specs.Prelude.{◌≡◌, ◌-◌, ◌≤◌, [], ◌∷◌, option_map, IfSome, IsTrue, nat_le};
 ghost use Rattle.std.specs.Option.{ForSome};
 ghost use Rattle.emtp_phasor.specs.Scanning.{frequency_count};
-ghost use Rattle.emtp_run.specs.Words.{texts, is_name, is_leading, in_scan, in_trial, differ, files_of, fits, frequency_of_word, of_one, of_scan, of_three, task_of, trial_number, IsScanned, IsTask, Trial};
+ghost use Rattle.emtp_run.specs.Words.{texts, is_name, is_leading, in_scan, in_trial, differ, fits, frequency_of_word, of_one, of_scan, of_three, trial_number, Trial};
+ghost use Rattle.emtp_run.specs.held.Words.{files_of, task_of, IsScanned, IsTask};
 
 use emtp_card::read_digits;
 use emtp_phasor::MOST_FREQUENCIES;

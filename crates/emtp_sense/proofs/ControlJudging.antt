@@ -10,7 +10,7 @@ use Rattle.emtp_card.proofs.Faults.{least_none}
 use Rattle.emtp_card.specs.declared.fault.Fault.{Fault}
 use Rattle.emtp_card.specs.declared.reason.Bad.{Bad}
 use Rattle.emtp_card.specs.declared.reason.Why.TheVariants.{TwoSources, UnknownName}
-use Rattle.emtp_case.specs.Control.{HasRangeOfA}
+use Rattle.emtp_case.specs.held.Control.{HasRangeOfA}
 use Rattle.emtp_case.specs.HistoryValues.{device_history_values}
 use Rattle.emtp_case.specs.declared.control.DeviceCode.{DeviceCode}
 use Rattle.emtp_case.specs.declared.control.DeviceCode.TheVariants.{Counter, Delay, DelayedPulse, Derivative, EffectiveValue, Extreme, Gate, GateAbove, Integral, PeakHold, SampleHold, Selector, Table, Window}
@@ -20,7 +20,7 @@ use Rattle.emtp_sense.proofs.Numbering.{AreAbove}
 use Rattle.emtp_walk.proofs.NoBad.{no_bad, nothing_before}
 use Rattle.emtp_walk.specs.Answer.{first_bad}
 use Rattle.emtp_sense.specs.ControlSense.{block_bad, block_sense, blocks_bad, card_history_values, device_bad, device_sense, entry_history_values, extra_bad, formula_sense, inputs_sense, is_measurable, is_unknown, judge_extras, measured_sense, names_sense, second_sense, tacs_source_bad, tacs_source_sense, tacs_sources_bad}
-use Rattle.emtp_sense.specs.ControlSensible.{AreKnownInputs, IsKnown}
+use Rattle.emtp_sense.specs.held.ControlSensible.{AreKnownInputs, IsKnown}
 use Rattle.emtp_sense.specs.Limits.{too_many}
 use Rattle.emtp_sense.specs.Variables.{extra_name, unknown_name, variable_number}
 use Rattle.emtp_walk.specs.declared.control_cards.BlockEntry.{BlockEntry}

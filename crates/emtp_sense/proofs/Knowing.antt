@@ -9,7 +9,7 @@ use Rattle.std.specs.Str.{bytes_eq}
 use Rattle.emtp_card.specs.declared.fault.Fault.{Fault}
 use Rattle.emtp_card.specs.declared.reason.Why.TheVariants.{UnknownName}
 use Rattle.emtp_sense.specs.ControlSense.{first_fault, inputs_sense, is_unknown}
-use Rattle.emtp_sense.specs.ControlSensible.{AreKnownInputs, IsKnown}
+use Rattle.emtp_sense.specs.held.ControlSensible.{AreKnownInputs, IsKnown}
 use Rattle.emtp_sense.specs.Variables.{unknown_name, variable_number}
 
 below : (a b : ℕ) → ltb a b ≡ true → a < b

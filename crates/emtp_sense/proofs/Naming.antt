@@ -11,11 +11,12 @@ use Rattle.std.proofs.lemmas.List.Sums.{prefix_len-le-length}
 use Rattle.std.proofs.lemmas.List.Folds.{position_or_len_push}
 use Rattle.std.proofs.lemmas.List.{take-append-le}
 use Rattle.std.proofs.Math.Seq.{take-length}
-use Rattle.emtp_case.specs.Name.{IsName}
-use Rattle.emtp_case.specs.Range.{AreEnds}
+use Rattle.emtp_case.specs.held.Name.{IsName}
+use Rattle.emtp_case.specs.held.Range.{AreEnds}
 use Rattle.emtp_sense.specs.Names.{node_number, with_name}
-use Rattle.emtp_sense.specs.Naming.{Continues}
-use Rattle.emtp_netcards.specs.Fields.{AreEndNames, is_same_name}
+use Rattle.emtp_sense.specs.held.Naming.{Continues}
+use Rattle.emtp_netcards.specs.Fields.{is_same_name}
+use Rattle.emtp_netcards.specs.held.Fields.{AreEndNames}
 
 place_of : List (List ℕ) → List ℕ → ℕ
 place_of nodes name = position_or_len (bytes_eq name) nodes

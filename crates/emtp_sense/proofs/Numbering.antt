@@ -5,8 +5,8 @@ use Rattle.std.specs.List.{range_with_len}
 use Rattle.std.specs.Prelude.{All, IfSome, count_by, if◌then◌else◌, map}
 use Rattle.std.specs.Str.{bytes_eq}
 use Rattle.emtp_case.proofs.Defined.{once_in_row}
-use Rattle.emtp_case.specs.Case.{DefinesEach}
-use Rattle.emtp_case.specs.Control.{var_of}
+use Rattle.emtp_case.specs.held.Case.{DefinesEach}
+use Rattle.emtp_case.specs.held.Control.{var_of}
 use Rattle.emtp_case.specs.declared.case.Parts.{Parts}
 use Rattle.emtp_case.specs.declared.control.Block.{Block}
 use Rattle.emtp_case.specs.declared.source.Source.{Source}

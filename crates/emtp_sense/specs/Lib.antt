@@ -1,7 +1,8 @@
 pub use Rattle.emtp_walk.specs.Answer
+-- what the clauses of the program say
 pub mod Names
-pub mod Naming
 pub mod Variables
 pub mod Limits
 pub mod ControlSense
-pub mod ControlSensible
+-- what values hold for their proofs
+pub mod held

@@ -1,11 +1,11 @@
 //! The faults of sense of the cards of the control.
 
 ghost use Rattle.std.specs.Prelude.{◌≡◌, ◌+◌, ◌*◌, ◌^◌, ◌<◌, ◌≤◌, All, length, IfOk};
-ghost use Rattle.emtp_case.specs.Control.{HasRangeOfA};
-ghost use Rattle.emtp_case.specs.Range.{IsBetween};
-ghost use Rattle.emtp_case.specs.RunData.{IsRun};
+ghost use Rattle.emtp_case.specs.held.Control.{HasRangeOfA};
+ghost use Rattle.emtp_case.specs.held.Range.{IsBetween};
+ghost use Rattle.emtp_case.specs.held.RunData.{IsRun};
 ghost use Rattle.emtp_sense.specs.ControlSense.{block_bad, block_sense, blocks_bad, card_history_values, control_bad, device_bad, device_sense, ends_at, entry_history_values, extra_bad, find_switch, first_extra, first_source, formula_bad, formula_sense, inputs_sense, is_end, is_measurable, is_unknown, judge_extras, measured_sense, names_sense, pending_control_bad, pending_device, second_sense, tacs_source_bad, tacs_source_sense, tacs_sources_bad};
-ghost use Rattle.emtp_walk.specs.Sound.{IsDeviceDue, IsExtraEntry, IsSound};
+ghost use Rattle.emtp_walk.specs.held.Sound.{IsDeviceDue, IsExtraEntry, IsSound};
 
 use crate::limits::too_many;
 use crate::names::find_node;

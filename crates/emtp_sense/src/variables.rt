@@ -2,7 +2,7 @@
 
 ghost use Rattle.std.specs.Prelude.{◌≡◌, ◌≤◌, [], fold, length, option_map, IfErr, IfOk, OnOk};
 ghost use Rattle.emtp_case.specs.Case.{standing_names};
-ghost use Rattle.emtp_walk.specs.Answer.{IsWant};
+ghost use Rattle.emtp_walk.specs.held.Answer.{IsWant};
 ghost use Rattle.emtp_sense.specs.Names.{known_nodes, with_pending_nodes};
 ghost use Rattle.emtp_sense.specs.Variables.{defined_variables, extra_name, find_variable, unknown_name, variable_names, variable_number, with_block_name, with_extra_name, with_pending_variable, with_source_name, with_variable};
 

@@ -3,13 +3,16 @@
 use Rattle.std.proofs.Common.{◌≡◌, ◌∙◌, ◌+◌, ◌++◌, ◌<◌, ◌≢◌, ℕ, zero, suc, ℤ, pos, List, [], ◌∷◌, length, replicate, slice_set, length-set, refl, sym, subst, arith}
 use Rattle.std.proofs.lemmas.List.FromFn.{length-range_with_len}
 use Rattle.std.proofs.lemmas.List.{length_push, length-replicate}
-use Rattle.emtp_case.specs.RowOrder.{IsRowOrder, Rows}
+use Rattle.emtp_case.specs.RowOrder.{Rows}
+use Rattle.emtp_case.specs.held.RowOrder.{IsRowOrder}
 use Rattle.emtp_case.specs.declared.case.Parts.{Parts}
 use Rattle.emtp_case.specs.declared.switch.SwitchState.{SwitchState}
 use Rattle.emtp_fix.specs.Items.{item}
-use Rattle.emtp_switch.specs.Currents.{Balances, RootsBalance, currents_of}
-use Rattle.emtp_switch.specs.Groups.{EndWithin, alone}
-use Rattle.emtp_switch.specs.Tree.{AreLinks, flow_of, folded, link_at}
+use Rattle.emtp_switch.specs.Currents.{currents_of}
+use Rattle.emtp_switch.specs.held.Currents.{Balances, RootsBalance}
+use Rattle.emtp_switch.specs.Groups.{alone}
+use Rattle.emtp_switch.specs.held.Groups.{EndWithin}
+use Rattle.emtp_switch.specs.held.Tree.{AreLinks, flow_of, folded, link_at}
 use Rattle.emtp_switch.specs.declared.sweep.Link.{Link}
 use Rattle.emtp_switch.proofs.Flows.{AreCarried, carried_more, carried_none}
 use Rattle.emtp_switch.proofs.FoundCurrents.{flows_are}

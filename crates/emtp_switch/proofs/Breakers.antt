@@ -5,7 +5,8 @@ use Rattle.emtp_case.specs.declared.switch.SwitchKind.{SwitchKind}
 use Rattle.emtp_case.specs.declared.switch.SwitchKind.TheVariants.{Control, Measuring, Time, Valve}
 use Rattle.emtp_case.specs.declared.switch.SwitchState.{SwitchState}
 use Rattle.emtp_case.specs.declared.switch.SwitchState.TheVariants.{Closed, Opened, Waiting}
-use Rattle.emtp_switch.specs.States.{MovesOn, closes, interrupts, is_due, opens, state_after, stays}
+use Rattle.emtp_switch.specs.States.{interrupts, is_due, state_after}
+use Rattle.emtp_switch.specs.held.States.{MovesOn, closes, opens, stays}
 use Rattle.emtp_switch.specs.declared.states.View.{View}
 
 may_close : (b : Bool) → MovesOn Waiting (if b then Closed else Waiting)

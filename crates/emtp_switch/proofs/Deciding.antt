@@ -5,7 +5,7 @@ use Rattle.emtp_case.specs.declared.case.Parts.{Parts}
 use Rattle.emtp_case.specs.declared.switch.SwitchState.{SwitchState}
 use Rattle.emtp_fix.specs.Items.{item}
 use Rattle.emtp_switch.specs.States.{next_states}
-use Rattle.emtp_switch.specs.Switching.{AreKept, AreLatest}
+use Rattle.emtp_switch.specs.held.Switching.{AreKept, AreLatest}
 
 back_one : (r : StepRecord) (H : List StepRecord) → latest H ≡ record_back (r ∷ H) 1
 back_one r [] = refl

@@ -5,16 +5,19 @@ use Rattle.std.proofs.lemmas.Int.{ints}
 use Rattle.std.proofs.lemmas.List.{get_or_append_left, get_or_past, length_push}
 use Rattle.emtp_case.proofs.RowTables.{nodes_within}
 use Rattle.emtp_case.proofs.Sums.{sum_below_same}
-use Rattle.emtp_case.specs.RowOrder.{IsRowOrder, Rows}
+use Rattle.emtp_case.specs.RowOrder.{Rows}
+use Rattle.emtp_case.specs.held.RowOrder.{IsRowOrder}
 use Rattle.emtp_case.specs.Sums.{sum_below}
 use Rattle.emtp_case.specs.declared.case.Parts.{Parts}
 use Rattle.emtp_case.specs.declared.switch.Switch.{Switch}
 use Rattle.emtp_case.specs.declared.switch.SwitchState.{SwitchState}
 use Rattle.emtp_fix.specs.Items.{item}
-use Rattle.emtp_switch.specs.Currents.{RootsBalance, contains, leaving_by, leaving_side}
-use Rattle.emtp_switch.specs.Grouping.{AreTree}
-use Rattle.emtp_switch.specs.Groups.{EndWithin, alone, bridges_of, closed_switches, from_at, groups, labels_of, root_of, to_at}
-use Rattle.emtp_switch.specs.Tree.{HasEnds, link_at, side_total}
+use Rattle.emtp_switch.specs.Currents.{contains, leaving_side}
+use Rattle.emtp_switch.specs.held.Currents.{RootsBalance, leaving_by}
+use Rattle.emtp_switch.specs.held.Grouping.{AreTree}
+use Rattle.emtp_switch.specs.Groups.{alone, bridges_of, closed_switches, from_at, groups, labels_of, root_of, to_at}
+use Rattle.emtp_switch.specs.held.Groups.{EndWithin}
+use Rattle.emtp_switch.specs.held.Tree.{HasEnds, link_at, side_total}
 use Rattle.emtp_switch.specs.declared.sweep.Link.{Link}
 use Rattle.emtp_switch.proofs.Cuts.{each_among}
 use Rattle.emtp_switch.proofs.Finding.{groups-bridges}

@@ -7,13 +7,15 @@ use Rattle.std.proofs.lemmas.List.{get_or_past, length-replicate}
 use Rattle.std.proofs.lemmas.List.Elements.{All-cons, All-filter, All-head, All-nil, All-tail}
 use Rattle.std.proofs.lemmas.List.FromFn.{get_or-map-range_with_len, get_or-range_with_len, length-map-range_with_len, length-range_with_len}
 use Rattle.emtp_case.proofs.RowTables.{node_there, nodes_apart}
-use Rattle.emtp_case.specs.RowOrder.{IsRowOrder, Rows}
+use Rattle.emtp_case.specs.RowOrder.{Rows}
+use Rattle.emtp_case.specs.held.RowOrder.{IsRowOrder}
 use Rattle.emtp_case.specs.declared.case.Parts.{Parts}
 use Rattle.emtp_case.specs.declared.switch.Switch.{Switch}
 use Rattle.emtp_case.specs.declared.switch.SwitchState.{SwitchState}
-use Rattle.emtp_switch.specs.Grouping.{AreTree}
-use Rattle.emtp_switch.specs.Groups.{EndWithin, alone, bridges, bridges_of, by_rank, closed_switches, divides, from_at, groups, is_closed_at, join, to_at}
-use Rattle.emtp_switch.specs.Tree.{LeadsOn, StartsAtRoots, is_reached, no_link, root_in}
+use Rattle.emtp_switch.specs.held.Grouping.{AreTree}
+use Rattle.emtp_switch.specs.Groups.{alone, bridges, bridges_of, by_rank, closed_switches, divides, from_at, groups, is_closed_at, join, to_at}
+use Rattle.emtp_switch.specs.held.Groups.{EndWithin}
+use Rattle.emtp_switch.specs.held.Tree.{LeadsOn, StartsAtRoots, is_reached, no_link, root_in}
 use Rattle.emtp_switch.specs.declared.sweep.Link.{Link}
 use Rattle.emtp_switch.proofs.GroupRoots.{ground_reached, roots_are, roots_start}
 use Rattle.emtp_switch.proofs.Growth.{IsGrown, far_new, fewer_left, grown_links, grown_more, grown_none, grown_tree, leads_on, some_left, unreached}

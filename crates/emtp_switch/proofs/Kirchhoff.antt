@@ -6,15 +6,16 @@ use Rattle.std.proofs.lemmas.List.{get_or_append_left, get_or_past, length_push}
 use Rattle.std.specs.List.{range_with_len}
 use Rattle.std.specs.List.Sorted.{IsPermutation}
 use Rattle.emtp_case.proofs.RowTables.{nodes_apart, nodes_within}
-use Rattle.emtp_case.specs.RowOrder.{IsRowOrder, Rows}
+use Rattle.emtp_case.specs.RowOrder.{Rows}
+use Rattle.emtp_case.specs.held.RowOrder.{IsRowOrder}
 use Rattle.emtp_case.specs.declared.case.Parts.{Parts}
 use Rattle.emtp_case.specs.declared.switch.SwitchState.{SwitchState}
 use Rattle.emtp_case.specs.Sums.{sum_below}
 use Rattle.emtp_fix.specs.Items.{item}
-use Rattle.emtp_switch.specs.Currents.{Balances, leaving_by}
-use Rattle.emtp_switch.specs.Grouping.{AreTree}
+use Rattle.emtp_switch.specs.held.Currents.{Balances, leaving_by}
+use Rattle.emtp_switch.specs.held.Grouping.{AreTree}
 use Rattle.emtp_switch.specs.Groups.{alone, closed_switches, from_at, root_of, to_at}
-use Rattle.emtp_switch.specs.Tree.{HasEnds, side_total, link_at}
+use Rattle.emtp_switch.specs.held.Tree.{HasEnds, side_total, link_at}
 use Rattle.emtp_switch.specs.declared.sweep.Link.{Link}
 use Rattle.emtp_switch.proofs.Finding.{groups-bridges}
 use Rattle.emtp_switch.proofs.Flows.{sum_below-none, sum_below-one}

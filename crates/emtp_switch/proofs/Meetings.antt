@@ -6,7 +6,8 @@ use Rattle.std.proofs.lemmas.List.Folds.{Any-from_list_any, list_any-from_Any}
 use Rattle.std.proofs.lemmas.List.FromFn.{get_or-range_with_len, length-range_with_len}
 use Rattle.emtp_case.specs.RowOrder.{Rows}
 use Rattle.emtp_case.specs.declared.switch.Switch.{Switch}
-use Rattle.emtp_switch.specs.Groups.{EndWithin, KnownMeet, alone, divides, first_tied, from_at, groups, join, known_nodes, knows, ties, to_at}
+use Rattle.emtp_switch.specs.Groups.{alone, divides, first_tied, from_at, groups, join, known_nodes, knows, ties, to_at}
+use Rattle.emtp_switch.specs.held.Groups.{EndWithin, KnownMeet}
 use Rattle.emtp_switch.proofs.Labels.{groups-keeps, join-at, join-keeps, length-join, moved, moved_at, moved_from, moved_off, within_more}
 
 -- two of some nodes, of different groups at first, that come into one

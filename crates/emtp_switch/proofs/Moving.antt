@@ -13,7 +13,7 @@ use Rattle.emtp_case.specs.declared.switch.SwitchState.TheVariants.{Waiting}
 use Rattle.emtp_switch.specs.Groups.{state_at}
 use Rattle.emtp_fix.specs.Items.{item}
 use Rattle.emtp_switch.specs.States.{control_of, is_on, next_state, next_states, view_of}
-use Rattle.emtp_switch.specs.Switching.{AreKept, AreLatest}
+use Rattle.emtp_switch.specs.held.Switching.{AreKept, AreLatest}
 use Rattle.emtp_switch.specs.declared.states.View.{View}
 
 -- a switch before s has another state than at first

@@ -8,10 +8,12 @@ use Rattle.std.proofs.lemmas.Bool.{cases_eq, eq-eqb, eqb-true, ne_eqb}
 use Rattle.std.proofs.lemmas.List.Elements.{All-from_get_or, All-weaker}
 use Rattle.std.proofs.lemmas.List.FromFn.{length-range_with_len}
 use Rattle.std.proofs.lemmas.List.Sorted.{Contains-permutation, IsPermutation-sym}
-use Rattle.emtp_case.specs.RowOrder.{IsRowOrder, Rows, touches_switch}
+use Rattle.emtp_case.specs.RowOrder.{Rows, touches_switch}
+use Rattle.emtp_case.specs.held.RowOrder.{IsRowOrder}
 use Rattle.emtp_case.specs.declared.case.Parts.{Parts}
 use Rattle.emtp_case.specs.declared.switch.Switch.{Switch}
-use Rattle.emtp_switch.specs.Groups.{EndWithin, alone, by_rank, groups, root_of}
+use Rattle.emtp_switch.specs.Groups.{alone, by_rank, groups, root_of}
+use Rattle.emtp_switch.specs.held.Groups.{EndWithin}
 use Rattle.emtp_switch.specs.Kinds.{count_members, has_feed, has_member, kind_of}
 use Rattle.emtp_switch.proofs.Alike.{any_same, count_same, find_same, map_same}
 use Rattle.emtp_switch.proofs.Cuts.{Among, alone-follows, each_among}

@@ -9,14 +9,16 @@ use Rattle.std.proofs.lemmas.List.FromFn.{get_or-range_with_len, length-range_wi
 use Rattle.std.proofs.lemmas.List.Sorted.{length_permutation}
 use Rattle.std.specs.List.Sorted.{IsPermutation}
 use Rattle.emtp_case.proofs.RowTables.{nodes_within}
-use Rattle.emtp_case.specs.Case.{IsCase}
-use Rattle.emtp_case.specs.RowOrder.{IsRowOrder, Rows}
+use Rattle.emtp_case.specs.held.Case.{IsCase}
+use Rattle.emtp_case.specs.RowOrder.{Rows}
+use Rattle.emtp_case.specs.held.RowOrder.{IsRowOrder}
 use Rattle.emtp_case.specs.declared.case.Parts.{Parts}
 use Rattle.emtp_case.specs.declared.switch.Switch.{Switch}
-use Rattle.emtp_switch.specs.Groups.{EndWithin, alone, by_rank, from_at, known_nodes, knows, no_switch, switch_at, to_at}
-use Rattle.emtp_switch.specs.Plan.{IsPlan, MarksKnown}
-use Rattle.emtp_switch.specs.Tallies.{ends_of}
-use Rattle.emtp_switch.specs.Tree.{is_reached}
+use Rattle.emtp_switch.specs.Groups.{alone, by_rank, from_at, known_nodes, knows, no_switch, switch_at, to_at}
+use Rattle.emtp_switch.specs.held.Groups.{EndWithin}
+use Rattle.emtp_switch.specs.held.Plan.{IsPlan, MarksKnown}
+use Rattle.emtp_switch.specs.held.Tallies.{ends_of}
+use Rattle.emtp_switch.specs.held.Tree.{is_reached}
 use Rattle.emtp_switch.specs.declared.kinds.Ends.{Ends}
 use Rattle.emtp_switch.specs.declared.plan.Plan.{Plan}
 

@@ -8,15 +8,17 @@ use Rattle.std.proofs.lemmas.List.Elements.{All-cons, All-take, All-from_get_or}
 use Rattle.std.proofs.lemmas.List.FromFn.{get_or-map-range_with_len, length-range_with_len}
 use Rattle.std.proofs.lemmas.List.Sorted.{All-permutation, Contains-permutation, IsPermutation-append_right, IsPermutation-reverse}
 use Rattle.emtp_case.proofs.RowTables.{node_there, nodes_within}
-use Rattle.emtp_case.specs.RowOrder.{IsRowOrder, Rows, touches_switch}
+use Rattle.emtp_case.specs.RowOrder.{Rows, touches_switch}
+use Rattle.emtp_case.specs.held.RowOrder.{IsRowOrder}
 use Rattle.emtp_case.specs.declared.case.Parts.{Parts}
 use Rattle.emtp_case.specs.declared.switch.Switch.{Switch}
 use Rattle.emtp_case.specs.declared.switch.SwitchState.{SwitchState}
-use Rattle.emtp_switch.specs.Groups.{EndWithin, alone, by_rank, closed_switches, first_tied, groups, known_nodes, root_of, tied_of}
+use Rattle.emtp_switch.specs.Groups.{alone, by_rank, closed_switches, first_tied, groups, known_nodes, root_of, tied_of}
+use Rattle.emtp_switch.specs.held.Groups.{EndWithin}
 use Rattle.emtp_switch.specs.Kinds.{has_member, kind_by, kind_of}
-use Rattle.emtp_switch.specs.Plan.{IsPlan, MarksKnown}
-use Rattle.emtp_switch.specs.Tallies.{ends_from, ends_of, is_empty_tally, kind_found, no_ends, tally_at, tally_of}
-use Rattle.emtp_switch.specs.Tree.{IsRanked, IsTree}
+use Rattle.emtp_switch.specs.held.Plan.{IsPlan, MarksKnown}
+use Rattle.emtp_switch.specs.held.Tallies.{ends_from, ends_of, is_empty_tally, kind_found, no_ends, tally_at, tally_of}
+use Rattle.emtp_switch.specs.held.Tree.{IsRanked, IsTree}
 use Rattle.emtp_switch.specs.declared.kinds.Ends.{Ends}
 use Rattle.emtp_switch.specs.declared.kinds.Tally.{Tally}
 use Rattle.emtp_switch.specs.declared.plan.Plan.{Plan}

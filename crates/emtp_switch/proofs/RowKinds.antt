@@ -8,16 +8,18 @@ use Rattle.std.proofs.lemmas.List.Elements.{All-filter, All-map}
 use Rattle.std.proofs.lemmas.List.FromFn.{get_or-range_with_len, length-range_with_len}
 use Rattle.std.proofs.lemmas.List.Sums.{fails_before_first}
 use Rattle.emtp_case.proofs.RowTables.{node_there, nodes_within}
-use Rattle.emtp_case.specs.RowKinds.{AreKinds, TieIsThere}
-use Rattle.emtp_case.specs.RowOrder.{IsRowOrder, Rows}
+use Rattle.emtp_case.specs.held.RowKinds.{AreKinds, TieIsThere}
+use Rattle.emtp_case.specs.RowOrder.{Rows}
+use Rattle.emtp_case.specs.held.RowOrder.{IsRowOrder}
 use Rattle.emtp_case.specs.declared.case.Parts.{Parts}
 use Rattle.emtp_case.specs.declared.row_kind.RowKind.{RowKind}
 use Rattle.emtp_case.specs.declared.row_kind.RowKind.TheVariants.{Ground, Kcl, Source as OfSource, Sum, Tie}
 use Rattle.emtp_case.specs.declared.switch.Switch.{Switch}
 use Rattle.emtp_case.specs.declared.switch.SwitchState.{SwitchState}
-use Rattle.emtp_switch.specs.Groups.{EndWithin, alone, by_rank, closed_switches, first_tied, is_closed_at, join, known_nodes, labels_of, root_of, tied_of, ties}
+use Rattle.emtp_switch.specs.Groups.{alone, by_rank, closed_switches, first_tied, is_closed_at, join, known_nodes, labels_of, root_of, tied_of, ties}
+use Rattle.emtp_switch.specs.held.Groups.{EndWithin}
 use Rattle.emtp_switch.specs.Kinds.{count_members, is_empty, kind_by, kind_of, kinds_of, row_of}
-use Rattle.emtp_switch.specs.Plan.{IsPlan}
+use Rattle.emtp_switch.specs.held.Plan.{IsPlan}
 use Rattle.emtp_switch.specs.declared.plan.Plan.{Plan}
 use Rattle.emtp_switch.proofs.GroupRoots.{root_within}
 use Rattle.emtp_switch.proofs.Meetings.{none_meet}

@@ -5,9 +5,9 @@ use Rattle.emtp_case.specs.declared.switch.Switch.{Switch}
 use Rattle.emtp_case.specs.declared.switch.SwitchKind.TheVariants.{Time}
 use Rattle.emtp_case.specs.declared.switch.SwitchState.{SwitchState}
 use Rattle.emtp_case.specs.declared.switch.SwitchState.TheVariants.{Waiting}
-use Rattle.std.specs.List.{Contains, filter, find, list_any, range_with_len}
+use Rattle.std.specs.List.{filter, find, list_any, range_with_len}
 use Rattle.std.specs.Option.{unwrap_or}
-use Rattle.std.specs.Prelude.{◌≡◌, ◌≢◌, ◌+◌, ◌<◌, ◌∷◌, ◌++◌, ◌==◌, ◌&&◌, if◌then◌else◌, [], Bool, List, None, Option, Some, drop, length, map, not, pos, reverse, slice_index, slice_index_or, take, ℕ}
+use Rattle.std.specs.Prelude.{◌+◌, ◌∷◌, ◌++◌, ◌==◌, ◌&&◌, if◌then◌else◌, [], Bool, List, None, Option, Some, drop, length, map, not, pos, reverse, slice_index, slice_index_or, take, ℕ}
 
 -- The ends of a switch
 
@@ -22,11 +22,6 @@ from_at switches s = (switch_at switches s).from
 
 abbrev pub to_at : List Switch → ℕ → ℕ
 to_at switches s = (switch_at switches s).to
-
--- all switches end at nodes below n
-pub record EndWithin (switches : List Switch) (n : ℕ) : Type 0 where
-  pub from_there : (s : ℕ) → from_at switches s < n
-  pub to_there : (s : ℕ) → to_at switches s < n
 
 -- Groups
 
@@ -107,12 +102,3 @@ first_tied switches known labels (s ∷ rest) = if ties switches known labels s 
 
 abbrev pub tied_of : List Switch → Rows → List SwitchState → Option ℕ
 tied_of switches rows states = first_tied switches (known_nodes rows) (alone (length rows.nodes)) (closed_switches states)
-
--- two nodes with a known voltage are in one group
-pub record KnownMeet (rows : Rows) (labels : List ℕ) : Type 0 where
-  pub one : ℕ
-  pub other : ℕ
-  pub one_known : Contains (known_nodes rows) one
-  pub other_known : Contains (known_nodes rows) other
-  pub apart : one ≢ other
-  pub together : slice_index labels one ≡ slice_index labels other

@@ -79,9 +79,3 @@ next_state p H s =
 
 abbrev pub next_states : Parts → List StepRecord → List SwitchState
 next_states p H = map (next_state p H) (range_with_len 0 (length p.switches))
-
--- the same state or the next one on the way from waiting over closed to opened
-pub data MovesOn : SwitchState → SwitchState → Type 0 where
-  stays : (s : SwitchState) → MovesOn s s
-  closes : MovesOn Waiting Closed
-  opens : MovesOn Closed Opened

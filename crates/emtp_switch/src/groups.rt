@@ -4,10 +4,10 @@ ghost use Rattle.std.specs.Prelude.{◌≡◌, ◌≤◌, ◌<◌, ◌+◌, ℕ,
 ghost use Rattle.std.specs.List.{All};
 ghost use Rattle.emtp_case.specs.RowOrder.{Rows};
 ghost use Rattle.emtp_switch.specs.Groups.{alone, bridges, closed_switches, groups, root_of, tied_of};
-ghost use Rattle.emtp_switch.specs.Grouping.{AreGroups, HasPlaces};
+ghost use Rattle.emtp_switch.specs.held.Grouping.{AreGroups, HasPlaces};
 ghost use Rattle.emtp_switch.specs.Kinds.{kind_of};
-ghost use Rattle.emtp_switch.specs.Plan.{IsPlan};
-ghost use Rattle.emtp_switch.specs.Tree.{AreLinks, IsTree};
+ghost use Rattle.emtp_switch.specs.held.Plan.{IsPlan};
+ghost use Rattle.emtp_switch.specs.held.Tree.{AreLinks, IsTree};
 
 use crate::bridges::find_bridges;
 use crate::grow::grow;

@@ -2,13 +2,16 @@
 
 ghost use Rattle.std.specs.Prelude.{◌≡◌, ◌↔◌, ℕ, ℤ, IsSome, List, length, map, true};
 ghost use Rattle.std.specs.List.Sorted.{IsPermutation};
-ghost use Rattle.emtp_case.specs.RowOrder.{IsRowOrder};
+ghost use Rattle.emtp_case.specs.held.RowOrder.{IsRowOrder};
 ghost use Rattle.emtp_case.specs.StepRecord.{StepRecord, latest, switch_state_at};
 ghost use Rattle.emtp_case.specs.Switch.{is_time_switch};
-ghost use Rattle.emtp_switch.specs.Currents.{Balances, RootsBalance, currents_of};
-ghost use Rattle.emtp_switch.specs.Groups.{KnownMeet, alone, closed_switches, groups, labels_of, switch_at, tied_of};
+ghost use Rattle.emtp_switch.specs.Currents.{currents_of};
+ghost use Rattle.emtp_switch.specs.held.Currents.{Balances, RootsBalance};
+ghost use Rattle.emtp_switch.specs.Groups.{alone, closed_switches, groups, labels_of, switch_at, tied_of};
+ghost use Rattle.emtp_switch.specs.held.Groups.{KnownMeet};
 ghost use Rattle.emtp_switch.specs.Kinds.{kind_of, kinds_of};
-ghost use Rattle.emtp_switch.specs.States.{MovesOn, next_state};
+ghost use Rattle.emtp_switch.specs.States.{next_state};
+ghost use Rattle.emtp_switch.specs.held.States.{MovesOn};
 
 use emtp_case::{Case, RowOrder, SwitchState};
 

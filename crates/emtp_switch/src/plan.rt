@@ -2,10 +2,10 @@
 
 ghost use Rattle.std.specs.Prelude.{◌≡◌, ◌≤◌, ◌+◌, length, map, min, IfOk};
 ghost use Rattle.std.specs.List.{range_with_len};
-ghost use Rattle.emtp_case.specs.RowOrder.{IsRowOrder};
+ghost use Rattle.emtp_case.specs.held.RowOrder.{IsRowOrder};
 ghost use Rattle.emtp_switch.specs.Groups.{alone, by_rank, known_nodes};
-ghost use Rattle.emtp_switch.specs.Plan.{IsPlan, MarksKnown};
-ghost use Rattle.emtp_switch.specs.Tallies.{ends_of};
+ghost use Rattle.emtp_switch.specs.held.Plan.{IsPlan, MarksKnown};
+ghost use Rattle.emtp_switch.specs.held.Tallies.{ends_of};
 
 use crate::kinds::Ends;
 use emtp_case::{Case, Parts, RowOrder};

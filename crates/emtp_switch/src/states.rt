@@ -8,7 +8,7 @@ ghost use Rattle.emtp_fix.specs.declared.limit.TheConstants.{LARGEST_VALUE};
 ghost use Rattle.emtp_switch.specs.Groups.{state_at};
 ghost use Rattle.emtp_fix.specs.Items.{item};
 ghost use Rattle.emtp_switch.specs.States.{oppose, interrupts, is_due, breaker_state, valve_state, state_after, control_of, is_on, next_states};
-ghost use Rattle.emtp_switch.specs.Switching.{AreKept, AreLatest};
+ghost use Rattle.emtp_switch.specs.held.Switching.{AreKept, AreLatest};
 
 use emtp_case::{Case, Switch, SwitchKind, SwitchState};
 

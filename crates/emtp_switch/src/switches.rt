@@ -2,16 +2,17 @@
 
 ghost use Rattle.std.specs.Prelude.{◌≡◌, ◌≢◌, ◌≤◌, ◌<◌, ◌+◌, ◌∷◌, [], ◌^◌, false, true, List, None, Some, length, map, pos, replicate, unsigned_abs, IfErr, IfOk};
 ghost use Rattle.std.specs.List.{All};
-ghost use Rattle.emtp_case.specs.RowKinds.{AreKinds};
-ghost use Rattle.emtp_case.specs.RowOrder.{IsRowOrder};
+ghost use Rattle.emtp_case.specs.held.RowKinds.{AreKinds};
+ghost use Rattle.emtp_case.specs.held.RowOrder.{IsRowOrder};
 ghost use Rattle.emtp_case.specs.StepRecord.{StepRecord, is_closed, rest_of, starting_state};
 ghost use Rattle.emtp_case.specs.declared.switch.Switch.{Switch as SwitchCard};
 ghost use Rattle.emtp_fix.specs.declared.limit.TheConstants.{LARGEST_VALUE};
-ghost use Rattle.emtp_switch.specs.Currents.{Balances, IsFirstBeyond, currents_of};
+ghost use Rattle.emtp_switch.specs.Currents.{currents_of};
+ghost use Rattle.emtp_switch.specs.held.Currents.{Balances, IsFirstBeyond};
 ghost use Rattle.emtp_switch.specs.Groups.{is_closed_at, tied_of};
 ghost use Rattle.emtp_switch.specs.Kinds.{kinds_of};
 ghost use Rattle.emtp_switch.specs.States.{next_states};
-ghost use Rattle.emtp_switch.specs.Switching.{AreLatest, StandsFor};
+ghost use Rattle.emtp_switch.specs.held.Switching.{AreLatest, StandsFor};
 
 use crate::bridges::is_closed;
 use crate::currents::{SwitchRange, clear, load, narrow};
@@ -45,7 +46,7 @@ pub struct Switches<'a> {
 }
 
 impl<'a> Model for Switches<'a> {
-    ghost use Rattle.emtp_switch.specs.Switching.{IsSwitching, Switching};
+    ghost use Rattle.emtp_switch.specs.held.Switching.{IsSwitching, Switching};
 
     ghost Value = { Switching };
 

@@ -9,8 +9,10 @@ use Rattle.emtp_card.specs.declared.reason.Why.{Why}
 use Rattle.emtp_card.specs.declared.reason.Why.TheVariants.{BadName, OutOfUnitRange}
 use Rattle.emtp_card.proofs.Faults.{judge_none, least_none}
 use Rattle.emtp_netcards.specs.Fields.{name_or_ground}
-use Rattle.emtp_taccards.specs.BlockCard.{HasLimitsInOrder, are_crossed, block_fault, block_with, limit_field, limits_fault}
-use Rattle.emtp_taccards.specs.DeviceCard.{HasItsD, d_fault, device_fault, device_with}
+use Rattle.emtp_taccards.specs.BlockCard.{are_crossed, block_fault, block_with, limit_field, limits_fault}
+use Rattle.emtp_taccards.specs.held.BlockCard.{HasLimitsInOrder}
+use Rattle.emtp_taccards.specs.DeviceCard.{d_fault, device_fault, device_with}
+use Rattle.emtp_taccards.specs.held.DeviceCard.{HasItsD}
 use Rattle.emtp_case.specs.Control.{needs_d}
 use Rattle.emtp_case.specs.declared.control.DeviceCode.{DeviceCode}
 use Rattle.emtp_case.specs.declared.control.Group.{Group}

@@ -1,6 +1,5 @@
 -- Block cards: the table of fields and rules, and the record.
-use Rattle.std.specs.Prelude.{◌≡◌, ◌≢◌, ℕ, ◌+◌, ◌^◌, ◌≤◌, ℤ, pos, neg_ℤ, int_lt, unsigned_abs, Bool, false, ◌||◌, List, [], ◌∷◌, Option, Some, None, Result, Ok, Err, if◌then◌else◌}
-use Rattle.std.specs.Option.{ForSome}
+use Rattle.std.specs.Prelude.{ℕ, ◌+◌, ◌^◌, ℤ, pos, neg_ℤ, int_lt, unsigned_abs, Bool, false, ◌||◌, List, [], ◌∷◌, Option, Some, None, Result, Ok, Err, if◌then◌else◌}
 use Rattle.std.specs.Ordering.{int_eq}
 use Rattle.std.specs.Result.{result_unwrap_or}
 use Rattle.emtp_card.specs.Fault.{bad_at, fault_at, judge, least}
@@ -12,7 +11,7 @@ use Rattle.emtp_card.specs.declared.reason.Bad.{Bad}
 use Rattle.emtp_card.specs.declared.reason.Why.{Why}
 use Rattle.emtp_card.specs.declared.reason.Why.TheVariants.{OutOfUnitRange}
 use Rattle.emtp_fix.specs.declared.limit.TheConstants.{PICO}
-use Rattle.emtp_netcards.specs.Fields.{IsSmall, name_or_ground, needed, signed_number}
+use Rattle.emtp_netcards.specs.Fields.{name_or_ground, needed, signed_number}
 use Rattle.emtp_netcards.specs.SourceCard.{unless_judged}
 use Rattle.emtp_taccards.specs.Inputs.{inputs, inputs_fault}
 use Rattle.emtp_taccards.specs.declared.block_card.BlockCard.{BlockCard}
@@ -90,15 +89,3 @@ named_block number line = block_with number line (needed (name_field line 3))
 
 unfoldable pub block_card : ℕ → List ℕ → Result BlockCard Bad
 block_card number line = unless_judged (judge number line (block_fault line)) (named_block number line)
-
--- what a card keeps
-pub record HasBlockNumbers (card : BlockCard) : Type 0 where
-  pub order : card.order ≤ 7
-  pub some_gain : card.gain ≢ pos 0
-  pub gain : IsSmall card.gain
-  pub low : ForSome card.low IsSmall
-  pub high : ForSome card.high IsSmall
-
--- its fixed limits don't cross, where neither is replaced by a named one
-abbrev pub HasLimitsInOrder : BlockCard → Type 0
-HasLimitsInOrder card = card.low_name ≡ None → card.high_name ≡ None → are_crossed card.low card.high ≡ false

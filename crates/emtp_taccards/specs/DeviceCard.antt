@@ -1,5 +1,5 @@
 -- The cards of devices: the table of fields and rules, and the record.
-use Rattle.std.specs.Prelude.{ℕ, ◌+◌, ◌^◌, ℤ, pos, IsSome, IsTrue, List, [], ◌∷◌, Option, Some, None, Result, Ok, Err, if◌then◌else◌}
+use Rattle.std.specs.Prelude.{ℕ, ◌+◌, ◌^◌, ℤ, pos, List, [], ◌∷◌, Option, Some, None, Result, Ok, Err, if◌then◌else◌}
 use Rattle.std.specs.Ordering.{int_eq}
 use Rattle.std.specs.Result.{result_unwrap_or}
 use Rattle.emtp_card.specs.Fault.{bad_at, fault_at, filled_with, judge, least}
@@ -10,11 +10,11 @@ use Rattle.emtp_card.specs.declared.fault.Fault.{Fault}
 use Rattle.emtp_card.specs.declared.reason.Bad.{Bad}
 use Rattle.emtp_card.specs.declared.reason.Why.{Why}
 use Rattle.emtp_card.specs.declared.reason.Why.TheVariants.{BadName, BadType}
-use Rattle.emtp_case.specs.Control.{HasRangeOfA, needs_d}
+use Rattle.emtp_case.specs.Control.{needs_d}
 use Rattle.emtp_case.specs.declared.control.DeviceCode.{DeviceCode}
 use Rattle.emtp_case.specs.declared.control.DeviceCode.TheVariants.{Counter, Delay, DelayedPulse, Derivative, EffectiveValue, Extreme, Gate, GateAbove, Integral, PeakHold, SampleHold, Selector, Table, Window}
 use Rattle.emtp_case.specs.declared.control.Group.{Group}
-use Rattle.emtp_netcards.specs.Fields.{IsSmall, name_or_ground, needed, required, signed_number}
+use Rattle.emtp_netcards.specs.Fields.{name_or_ground, needed, required, signed_number}
 use Rattle.emtp_netcards.specs.SourceCard.{unless_judged}
 use Rattle.emtp_taccards.specs.Group.{group_field}
 use Rattle.emtp_taccards.specs.Inputs.{inputs, inputs_fault}
@@ -133,13 +133,3 @@ named_device number line code = device_with number line (group_field line) (need
 
 unfoldable pub device_card : ℕ → List ℕ → Result DeviceCard Bad
 device_card number line = unless_judged (judge number line (device_fault line (code_field line))) (named_device number line (code_field line))
-
--- what a card keeps
-pub record HasDeviceNumbers (card : DeviceCard) : Type 0 where
-  pub a : HasRangeOfA card.code card.a
-  pub b : IsSmall card.b
-  pub c : IsSmall card.c
-
--- a device that looks at a variable D names one
-abbrev pub HasItsD : DeviceCard → Type 0
-HasItsD card = IsTrue (needs_d card.code) → IsSome card.d

@@ -3,8 +3,8 @@ use Rattle.std.specs.Prelude.{ℕ, Bool, true, false, List, [], ◌∷◌, Resul
 use Rattle.emtp_card.specs.Field.{field_of}
 use Rattle.emtp_card.specs.declared.reason.Bad.{Bad}
 use Rattle.emtp_expr.specs.Parsing.{expression_of}
-use Rattle.emtp_taccards.specs.DeviceCard.{HasDeviceNumbers, HasItsD, device_card}
-use Rattle.emtp_taccards.specs.FormulaCard.{IsParsed, expression_text, formula_card}
+use Rattle.emtp_taccards.specs.DeviceCard.{device_card}
+use Rattle.emtp_taccards.specs.FormulaCard.{expression_text, formula_card}
 use Rattle.emtp_taccards.specs.declared.device_card.DeviceCard.{DeviceCard}
 use Rattle.emtp_taccards.specs.declared.extra_card.ExtraCard.{ExtraCard}
 use Rattle.emtp_taccards.specs.declared.extra_card.ExtraCard.TheVariants.{Device, Formula}
@@ -31,8 +31,3 @@ unfoldable pub extra_card : ℕ → List ℕ → Result ExtraCard Bad
 extra_card number line =
     if is_formula line then as_formula (formula_card number line (expression_of (expression_text line)))
     else as_device (device_card number line)
-
--- what a card keeps
-abbrev pub HasExtraNumbers : ExtraCard → Type 0
-HasExtraNumbers (Device card) = HasDeviceNumbers card × HasItsD card
-HasExtraNumbers (Formula card) = IsParsed card.parsed

@@ -1,5 +1,5 @@
 -- The cards of formulas: the table of fields, and the record.
-use Rattle.std.specs.Prelude.{ℕ, ◌+◌, ◌==◌, All, List, [], ◌∷◌, length, take, drop, Option, Some, None, Result, Ok, Err, if◌then◌else◌}
+use Rattle.std.specs.Prelude.{ℕ, ◌+◌, ◌==◌, List, [], ◌∷◌, take, drop, Option, Some, None, Result, Ok, Err, if◌then◌else◌}
 use Rattle.emtp_card.specs.Fault.{bad_at, fault_at, judge, least}
 use Rattle.emtp_card.specs.Field.{byte_in}
 use Rattle.emtp_card.specs.Name.{name_field}
@@ -7,7 +7,6 @@ use Rattle.emtp_card.specs.declared.fault.Fault.{Fault}
 use Rattle.emtp_card.specs.declared.reason.Bad.{Bad}
 use Rattle.emtp_card.specs.declared.reason.Why.{Why}
 use Rattle.emtp_card.specs.declared.reason.Why.TheVariants.{BadExpression}
-use Rattle.emtp_case.specs.Expr.{FitsPlaces, IsWhole}
 use Rattle.emtp_case.specs.declared.control.Group.{Group}
 use Rattle.emtp_expr.specs.declared.parsing.Parsed.{Parsed}
 use Rattle.emtp_netcards.specs.Fields.{needed}
@@ -48,8 +47,3 @@ named_formula number line parsed = formula_with number (group_field line) (neede
 
 unfoldable pub formula_card : ℕ → List ℕ → Result Parsed ℕ → Result FormulaCard Bad
 formula_card number line parsed = unless_judged (judge number line (formula_fault line parsed)) (named_formula number line parsed)
-
--- an expression whose places and numbers fit its names, and which leaves one value
-pub record IsParsed (parsed : Parsed) : Type 0 where
-  pub places : All (FitsPlaces (length parsed.names)) parsed.nodes
-  pub whole : IsWhole parsed.nodes

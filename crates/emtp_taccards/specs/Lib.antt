@@ -1,3 +1,4 @@
+-- what the clauses of the program say
 pub mod Inputs
 pub mod BlockCard
 pub mod PolynomialCard
@@ -7,3 +8,5 @@ pub mod FormulaCard
 pub mod DeviceCard
 pub mod ExtraCard
 pub mod TacsOutputCard
+-- what values hold for their proofs
+pub mod held

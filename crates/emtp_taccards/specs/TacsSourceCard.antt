@@ -1,6 +1,6 @@
 -- Source cards of the control: the table of fields, and the record. Fields that they share with the network's sources
 -- are those of emtp_netcards.
-use Rattle.std.specs.Prelude.{◌≡◌, ℕ, ◌^◌, ℤ, pos, Bool, true, false, List, [], ◌∷◌, Option, Some, None, Result, Ok, Err, if◌then◌else◌}
+use Rattle.std.specs.Prelude.{ℕ, ◌^◌, ℤ, pos, Bool, true, false, List, [], ◌∷◌, Option, Some, None, Result, Ok, Err, if◌then◌else◌}
 use Rattle.std.specs.Ordering.{int_eq}
 use Rattle.std.specs.Result.{result_unwrap_or}
 use Rattle.emtp_card.specs.Fault.{bad_at, fault_at, judge, least}
@@ -11,11 +11,10 @@ use Rattle.emtp_card.specs.declared.fault.Fault.{Fault}
 use Rattle.emtp_card.specs.declared.reason.Bad.{Bad}
 use Rattle.emtp_card.specs.declared.reason.Why.{Why}
 use Rattle.emtp_card.specs.declared.reason.Why.TheVariants.{BadType}
-use Rattle.emtp_case.specs.Source.{HasSourceNumbers}
 use Rattle.emtp_case.specs.declared.source.Shape.{Shape}
-use Rattle.emtp_case.specs.declared.source.Shape.TheVariants.{Cosine, NodeVoltage, Pulse, Ramp, Saw, Step, SwitchCurrent, SwitchStatus, Tacs}
+use Rattle.emtp_case.specs.declared.source.Shape.TheVariants.{NodeVoltage, Pulse, Saw, Step, SwitchCurrent, SwitchStatus}
 use Rattle.emtp_netcards.specs.Fields.{needed, required, signed_number}
-use Rattle.emtp_netcards.specs.SourceCard.{cosine_fault, cosine_shape, source_of, start_field, stop_field, unless_judged}
+use Rattle.emtp_netcards.specs.SourceCard.{cosine_fault, cosine_shape, start_field, stop_field, unless_judged}
 use Rattle.emtp_netcards.specs.declared.source_card.SourceCard.{SourceCard}
 use Rattle.emtp_taccards.specs.declared.tacs_source_card.Signal.{Signal}
 use Rattle.emtp_taccards.specs.declared.tacs_source_card.Signal.TheVariants.{Cosine as CosineSignal, Level, NodeVoltage as OfNode, Pulse as PulseSignal, Saw as SawSignal, SwitchCurrent as OfSwitch, SwitchStatus as StatusOfSwitch}
@@ -138,23 +137,3 @@ named_source number line signal = tacs_source_with number line signal (needed (n
 
 unfoldable pub tacs_source_card : ℕ → List ℕ → Result SourceCard Bad
 tacs_source_card number line = unless_judged (judge number line (tacs_source_fault line (signal_field line))) (named_source number line (signal_field line))
-
--- ---- ranges
-
--- a shape of the control's sources, whose node or switch isn't resolved
-abbrev pub IsUnresolved : Shape → Type 0
-IsUnresolved Step = Unit {0}
-IsUnresolved (Ramp rise) = ⊥
-IsUnresolved (Cosine freq phase) = Unit {0}
-IsUnresolved (Tacs var) = ⊥
-IsUnresolved (Pulse period width) = Unit {0}
-IsUnresolved (Saw period) = Unit {0}
-IsUnresolved (NodeVoltage node) = node ≡ 0
-IsUnresolved (SwitchCurrent switch) = switch ≡ 0
-IsUnresolved (SwitchStatus switch) = switch ≡ 0
-
--- what a card keeps: the numbers of a source of the control
-pub record HasTacsSourceNumbers (card : SourceCard) : Type 0 where
-  pub no_current : card.current ≡ false
-  pub numbers : HasSourceNumbers (source_of card)
-  pub shape : IsUnresolved card.shape

@@ -2,8 +2,9 @@
 
 ghost use Rattle.std.specs.Prelude.{◌≡◌, ◌≢◌, ◌+◌, ◌≤◌, length, pos, IfOk};
 ghost use Rattle.std.specs.Option.{ForSome};
-ghost use Rattle.emtp_netcards.specs.Fields.{IsSmall};
-ghost use Rattle.emtp_taccards.specs.BlockCard.{HasBlockNumbers, HasLimitsInOrder, are_crossed, block_card, block_fault, gain_field, limit_field, limits_fault, named_block, order_field, order_of};
+ghost use Rattle.emtp_netcards.specs.held.Fields.{IsSmall};
+ghost use Rattle.emtp_taccards.specs.BlockCard.{are_crossed, block_card, block_fault, gain_field, limit_field, limits_fault, named_block, order_field, order_of};
+ghost use Rattle.emtp_taccards.specs.held.BlockCard.{HasBlockNumbers, HasLimitsInOrder};
 
 use crate::EXA;
 use crate::inputs::{inputs, inputs_fault};

@@ -1,10 +1,12 @@
 //! The cards of devices.
 
 ghost use Rattle.std.specs.Prelude.{◌≡◌, ◌+◌, ◌^◌, ◌≤◌, length, IfOk};
-ghost use Rattle.emtp_case.specs.Control.{HasRangeOfA, needs_d};
-ghost use Rattle.emtp_case.specs.Range.{IsBetween};
-ghost use Rattle.emtp_netcards.specs.Fields.{IsSmall};
-ghost use Rattle.emtp_taccards.specs.DeviceCard.{HasDeviceNumbers, HasItsD, a_by, a_field, a_of, code_field, code_of, d_fault, delay_field, device_card, device_fault, device_of, hertz_field, named_device, plain_field, plain_of};
+ghost use Rattle.emtp_case.specs.Control.{needs_d};
+ghost use Rattle.emtp_case.specs.held.Control.{HasRangeOfA};
+ghost use Rattle.emtp_case.specs.held.Range.{IsBetween};
+ghost use Rattle.emtp_netcards.specs.held.Fields.{IsSmall};
+ghost use Rattle.emtp_taccards.specs.DeviceCard.{a_by, a_field, a_of, code_field, code_of, d_fault, delay_field, device_card, device_fault, device_of, hertz_field, named_device, plain_field, plain_of};
+ghost use Rattle.emtp_taccards.specs.held.DeviceCard.{HasDeviceNumbers, HasItsD};
 
 use crate::EXA;
 use crate::group::group_field;

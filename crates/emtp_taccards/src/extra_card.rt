@@ -1,7 +1,8 @@
 //! Supplemental cards: devices and formulas.
 
 ghost use Rattle.std.specs.Prelude.{◌≡◌, ◌≤◌, length, Err, Ok, IfOk};
-ghost use Rattle.emtp_taccards.specs.ExtraCard.{HasExtraNumbers, extra_card};
+ghost use Rattle.emtp_taccards.specs.ExtraCard.{extra_card};
+ghost use Rattle.emtp_taccards.specs.held.ExtraCard.{HasExtraNumbers};
 
 use crate::device_card::{DeviceCard, device};
 use crate::formula_card::{FormulaCard, formula};

@@ -2,7 +2,8 @@
 
 ghost use Rattle.std.specs.Prelude.{◌≡◌, ◌≤◌, length, Err, Ok, IfErr, IfOk};
 ghost use Rattle.emtp_expr.specs.Parsing.{expression_of};
-ghost use Rattle.emtp_taccards.specs.FormulaCard.{IsParsed, equals_field, expression_fault, expression_text, formula_card, formula_fault, named_formula};
+ghost use Rattle.emtp_taccards.specs.FormulaCard.{equals_field, expression_fault, expression_text, formula_card, formula_fault, named_formula};
+ghost use Rattle.emtp_taccards.specs.held.FormulaCard.{IsParsed};
 
 use crate::group::group_field;
 use emtp_card::{

@@ -1,7 +1,7 @@
 //! Numerator and denominator cards of a block.
 
 ghost use Rattle.std.specs.Prelude.{◌≡◌, ◌≤◌, length, All, IfOk};
-ghost use Rattle.emtp_netcards.specs.Fields.{IsSmall};
+ghost use Rattle.emtp_netcards.specs.held.Fields.{IsSmall};
 ghost use Rattle.emtp_taccards.specs.PolynomialCard.{coefficient_field, coefficients, polynomial_card, polynomial_fault};
 
 use emtp_card::{Bad, Fault, Line, MAX_BYTES, Why, fault_at, judge_due, least};

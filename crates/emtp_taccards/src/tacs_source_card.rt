@@ -1,11 +1,12 @@
 //! Source cards of the control.
 
 ghost use Rattle.std.specs.Prelude.{◌≡◌, ◌^◌, ◌≤◌, false, length, true, IfOk};
-ghost use Rattle.emtp_case.specs.Range.{IsBetween};
-ghost use Rattle.emtp_case.specs.Source.{HasShapeNumbers, IsMeasured};
+ghost use Rattle.emtp_case.specs.held.Range.{IsBetween};
+ghost use Rattle.emtp_case.specs.held.Source.{HasShapeNumbers, IsMeasured};
 ghost use Rattle.emtp_case.specs.declared.source.Source.{Source};
-ghost use Rattle.emtp_netcards.specs.Fields.{IsSmall};
-ghost use Rattle.emtp_taccards.specs.TacsSourceCard.{HasTacsSourceNumbers, IsUnresolved, driven, driven_fault, is_measured, level_field, measured, named_source, period_field, pulse_fault, pulse_shape, saw_shape, signal_fault, signal_field, signal_of, signal_shape, tacs_source_card, tacs_source_fault, width_field};
+ghost use Rattle.emtp_netcards.specs.held.Fields.{IsSmall};
+ghost use Rattle.emtp_taccards.specs.TacsSourceCard.{driven, driven_fault, is_measured, level_field, measured, named_source, period_field, pulse_fault, pulse_shape, saw_shape, signal_fault, signal_field, signal_of, signal_shape, tacs_source_card, tacs_source_fault, width_field};
+ghost use Rattle.emtp_taccards.specs.held.TacsSourceCard.{HasTacsSourceNumbers, IsUnresolved};
 
 use crate::EXA;
 use emtp_card::{Bad, Fault, Line, MAX_BYTES, Why, fault_at, field_whole, judge, least};

@@ -6,13 +6,14 @@ use Rattle.emtp_case.specs.StepRecord.{StepRecord, no_device}
 use Rattle.emtp_case.specs.declared.case.Parts.{Parts}
 use Rattle.emtp_case.specs.declared.control.Device.{Device}
 use Rattle.emtp_case.specs.declared.control.Extra.TheVariants.{Device as OfDevice}
-use Rattle.emtp_devices.specs.Devices.{HeldDevices, IsDeviceAt, StandsAt, StandsFor as DevicesStandFor, states_of}
+use Rattle.emtp_devices.specs.Devices.{states_of}
+use Rattle.emtp_devices.specs.held.Devices.{HeldDevices, IsDeviceAt, StandsAt, StandsFor as DevicesStandFor}
 use Rattle.emtp_tacs.specs.Part.{ControlPart}
 use Rattle.emtp_fix.specs.Chain.{◌>>=◌}
 use Rattle.emtp_tacs.specs.Step.{Measured, SoFar, Solved, blocks, completed, control_step, extras, is_in_pass, known_before}
-use Rattle.emtp_blocks.specs.BlockRows.{Blocking, StandsFor as BlocksStandFor}
+use Rattle.emtp_blocks.specs.held.BlockRows.{Blocking, StandsFor as BlocksStandFor}
 use Rattle.emtp_blocks.specs.System.{matrix}
-use Rattle.emtp_tacs.specs.Stages.{Advances, HaveMoved, Solves, HoldsVariables, IsSoFar, Reaches, VariablesStandFor, is_done, past_of}
+use Rattle.emtp_tacs.specs.held.Stages.{Advances, HaveMoved, Solves, HoldsVariables, IsSoFar, Reaches, VariablesStandFor, is_done, past_of}
 use Rattle.emtp_tacs.specs.declared.block_system.BlockSystem.{BlockSystem}
 use Rattle.emtp_tacs.specs.declared.fault.TacsFault.{TacsFault}
 use Rattle.emtp_tacs.specs.declared.variables.Variables.{Variables}

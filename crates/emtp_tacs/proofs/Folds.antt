@@ -8,7 +8,7 @@ use Rattle.std.proofs.lemmas.Int.{to_z-of_z}
 use Rattle.std.proofs.lemmas.List.{get_or-set_same, get_or-set_other}
 use Rattle.std.proofs.lemmas.List.Elements.{All-set}
 use Rattle.std.proofs.lemmas.Option.{slice_get_within}
-use Rattle.emtp_case.specs.Control.{AreKnown, var_of}
+use Rattle.emtp_case.specs.held.Control.{AreKnown, var_of}
 use Rattle.emtp_case.specs.StepRecord.{StepRecord, no_device}
 use Rattle.emtp_case.specs.declared.case.Parts.{Parts}
 use Rattle.emtp_case.specs.declared.control.Device.{Device}
@@ -20,11 +20,12 @@ use Rattle.emtp_case.specs.declared.control.Group.{Group}
 use Rattle.emtp_case.specs.declared.control.Group.TheVariants.{Input, Inside, Output}
 use Rattle.emtp_case.specs.declared.source.Source.{Source}
 use Rattle.emtp_devices.specs.Device.{next_state}
-use Rattle.emtp_devices.specs.Devices.{HasMoved, HeldDevices, IsDeviceAt, Moves, StandsAt, states_of}
+use Rattle.emtp_devices.specs.Devices.{states_of}
+use Rattle.emtp_devices.specs.held.Devices.{HasMoved, HeldDevices, IsDeviceAt, Moves, StandsAt}
 use Rattle.emtp_fix.specs.Limit.{in_range}
 use Rattle.emtp_fix.specs.declared.limit.OutOfRange.{OutOfRange}
 use Rattle.emtp_fix.specs.declared.limit.TheConstants.{LARGEST_VALUE}
-use Rattle.emtp_tacs.specs.Stages.{IsSoFar, Reaches, is_done, is_done_by, past_of}
+use Rattle.emtp_tacs.specs.held.Stages.{IsSoFar, Reaches, is_done, is_done_by, past_of}
 use Rattle.emtp_fix.specs.Chain.{◌>>=◌}
 use Rattle.emtp_tacs.specs.Step.{Measured, SoFar, device_by, extra_at, extra_by, extra_of, formula_value, group_of, in_turn, is_in_pass, range_fault, source_at, source_by, source_value, written}
 use Rattle.emtp_tacs.specs.declared.fault.TacsFault.{TacsFault}

@@ -2,7 +2,7 @@
 use Rattle.std.proofs.Common.{◌≡◌, ◌∙◌, ap, ℤ, true, false, ◌++◌, drop, List, [], ◌∷◌, length, Ok, None, refl}
 use Rattle.emtp_blocks.proofs.Matrices.{length-control_matrix}
 use Rattle.emtp_blocks.specs.System.{first_out, limiters_of, matrix, outputs, right, states_after}
-use Rattle.emtp_case.specs.Case.{HasNoControl}
+use Rattle.emtp_case.specs.held.Case.{HasNoControl}
 use Rattle.emtp_case.specs.StepRecord.{StepRecord, latest}
 use Rattle.emtp_case.specs.declared.case.Parts.{Parts}
 use Rattle.emtp_elim.specs.Elimination.{solution}

@@ -5,7 +5,8 @@ use Rattle.emtp_blocks.specs.System.{control_matrix, limiters_of, matrix}
 use Rattle.emtp_case.specs.StepRecord.{StepRecord}
 use Rattle.emtp_case.specs.declared.case.Parts.{Parts}
 use Rattle.emtp_tail.proofs.RedoneRows.{none_redone as same_redone, rows_next_most, rows_of_run}
-use Rattle.emtp_tacs.specs.Redone.{control_redone, control_step_redone, control_step_ticks, control_ticks}
+use Rattle.emtp_tacs.specs.Redone.{control_redone, control_step_redone}
+use Rattle.emtp_tacs.specs.held.Redone.{control_step_ticks, control_ticks}
 
 -- a step eliminates each row at most once
 pub most_ticks : (case : Parts) (H : List StepRecord) → control_step_ticks case H ≤ length case.blocks

@@ -3,10 +3,10 @@ use Rattle.std.proofs.Common.{◌≡◌, ◌∙◌, ◌<◌, ◌≤◌, sym, ap,
 use Rattle.std.proofs.lemmas.List.{get_or-map, take-set-le}
 use Rattle.std.proofs.lemmas.Option.{get_or_from_slice_get, slice_get-get_or, slice_get_within}
 use Rattle.emtp_blocks.specs.System.{first_out, matrix, right}
-use Rattle.emtp_case.specs.Case.{IsControl}
-use Rattle.emtp_case.specs.Control.{IsBlock, IsExtra}
-use Rattle.emtp_case.specs.Sizes.{sizes_of}
-use Rattle.emtp_case.specs.Source.{IsTacsSource}
+use Rattle.emtp_case.specs.held.Case.{IsControl}
+use Rattle.emtp_case.specs.held.Control.{IsBlock, IsExtra}
+use Rattle.emtp_case.specs.held.Sizes.{sizes_of}
+use Rattle.emtp_case.specs.held.Source.{IsTacsSource}
 use Rattle.emtp_case.specs.StepRecord.{StepRecord}
 use Rattle.emtp_case.specs.declared.case.Parts.{Parts}
 use Rattle.emtp_case.specs.declared.control.Block.{Block}

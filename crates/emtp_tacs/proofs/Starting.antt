@@ -2,9 +2,9 @@
 use Rattle.std.proofs.Common.{◌≡◌, ◌∙◌, ◌++◌, sym, ap, subst, refl, ℕ, ℤ, drop, List, length, true, Result, Ok, Err}
 use Rattle.emtp_case.specs.StepRecord.{StepRecord, latest}
 use Rattle.emtp_case.specs.declared.case.Parts.{Parts}
-use Rattle.emtp_devices.specs.Devices.{HeldDevices, IsDeviceAt, StandsAt, StandsFor as DevicesStandFor}
+use Rattle.emtp_devices.specs.held.Devices.{HeldDevices, IsDeviceAt, StandsAt, StandsFor as DevicesStandFor}
 use Rattle.emtp_tacs.specs.Part.{standing_values}
-use Rattle.emtp_tacs.specs.Stages.{IsSoFar, past_of}
+use Rattle.emtp_tacs.specs.held.Stages.{IsSoFar, past_of}
 use Rattle.emtp_fix.specs.Chain.{◌>>=◌}
 use Rattle.emtp_tacs.specs.Step.{Measured, SoFar, extras, known_before, sources, starting}
 use Rattle.emtp_tacs.specs.declared.fault.TacsFault.{TacsFault}

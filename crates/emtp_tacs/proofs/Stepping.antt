@@ -6,15 +6,16 @@ use Rattle.emtp_case.specs.StepRecord.{StepRecord}
 use Rattle.emtp_case.specs.declared.case.Parts.{Parts}
 use Rattle.emtp_tail.proofs.RedoneRows.{matrix_before_is, rows_counted, rows_ticked}
 use Rattle.emtp_tail.specs.Good.{first_change}
-use Rattle.emtp_blocks.specs.BlockRows.{rows_of_blocks}
+use Rattle.emtp_blocks.specs.held.BlockRows.{rows_of_blocks}
 use Rattle.emtp_tacs.proofs.Systems.{rows_are}
 use Rattle.emtp_tacs.specs.Part.{ControlPart}
-use Rattle.emtp_tacs.specs.Stages.{Advances, HoldsSystem, VariablesStandFor}
-use Rattle.emtp_tacs.specs.Tacs.{HeldControl, StandsFor, StepsTo}
+use Rattle.emtp_tacs.specs.held.Stages.{Advances, HoldsSystem, VariablesStandFor}
+use Rattle.emtp_tacs.specs.held.Tacs.{HeldControl, StandsFor, StepsTo}
 use Rattle.emtp_tacs.specs.declared.block_system.BlockSystem.{BlockSystem}
 use Rattle.emtp_tacs.specs.declared.fault.TacsFault.{TacsFault}
 use Rattle.emtp_tacs.specs.declared.variables.Variables.{Variables}
-use Rattle.emtp_tacs.specs.Redone.{control_step_redone, control_step_ticks, last_control_matrix}
+use Rattle.emtp_tacs.specs.Redone.{control_step_redone}
+use Rattle.emtp_tacs.specs.held.Redone.{control_step_ticks, last_control_matrix}
 
 -- what a contract sees of these fields
 abbrev pub held_of : Parts → Variables → BlockSystem → ℕ → HeldControl

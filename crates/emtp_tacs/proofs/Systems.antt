@@ -2,7 +2,7 @@
 use Rattle.std.proofs.Common.{◌≡◌, ◌∙◌, ◌≤◌, sym, ap, subst, ℕ, ℤ, List, length, arith, Option, Some, None, Result, Ok, Err, OnOk, IfErr, IsErrAnd, refl}
 use Rattle.emtp_blocks.proofs.Matrices.{length-control_matrix}
 use Rattle.emtp_blocks.proofs.OneByOne.{limiters_are}
-use Rattle.emtp_blocks.specs.BlockRows.{Blocking, StandsFor as BlocksStandFor, HaveAccepted, limiters_kept, rows_of_blocks}
+use Rattle.emtp_blocks.specs.held.BlockRows.{Blocking, StandsFor as BlocksStandFor, HaveAccepted, limiters_kept, rows_of_blocks}
 use Rattle.emtp_blocks.specs.System.{control_matrix, first_out, matrix, outputs, right, states_after}
 use Rattle.emtp_case.specs.StepRecord.{StepRecord}
 use Rattle.emtp_case.specs.declared.case.Parts.{Parts}
@@ -14,7 +14,7 @@ use Rattle.emtp_elim.specs.declared.fault.SolveFault.{SolveFault}
 use Rattle.emtp_tail.proofs.Redoing.{first_change_within}
 use Rattle.emtp_tail.specs.Good.{first_change}
 use Rattle.emtp_tacs.specs.Step.{accepted, block_var, blocks, range_fault, solved_by, system_fault, with_outputs}
-use Rattle.emtp_tacs.specs.Stages.{NamesVariable, Solves}
+use Rattle.emtp_tacs.specs.held.Stages.{NamesVariable, Solves}
 use Rattle.emtp_tacs.specs.declared.fault.TacsFault.{TacsFault}
 
 -- the rows of blocks that stand for the records are the matrix of the next step

@@ -4,10 +4,11 @@ use Rattle.std.proofs.lemmas.Int.{ints}
 use Rattle.std.proofs.lemmas.List.Elements.{All-append, All-cons, All-drop, All-map, All-nil, All-set}
 use Rattle.emtp_blocks.proofs.OutputRanges.{outputs_small}
 use Rattle.emtp_blocks.specs.System.{first_out, matrix, outputs, right}
-use Rattle.emtp_case.specs.Case.{IsControl}
-use Rattle.emtp_case.specs.Control.{IsExtra}
-use Rattle.emtp_case.specs.RunData.{IsRun, time_of}
-use Rattle.emtp_case.specs.Sizes.{sizes_of}
+use Rattle.emtp_case.specs.held.Case.{IsControl}
+use Rattle.emtp_case.specs.held.Control.{IsExtra}
+use Rattle.emtp_case.specs.RunData.{time_of}
+use Rattle.emtp_case.specs.held.RunData.{IsRun}
+use Rattle.emtp_case.specs.held.Sizes.{sizes_of}
 use Rattle.emtp_case.specs.StepRecord.{StepRecord, latest}
 use Rattle.emtp_case.specs.declared.case.Parts.{Parts}
 use Rattle.emtp_case.specs.declared.control.BlockState.{BlockState}
@@ -22,7 +23,8 @@ use Rattle.emtp_devices.proofs.OutputRanges.{next_small}
 use Rattle.emtp_devices.specs.Device.{next_state}
 use Rattle.emtp_devices.specs.Devices.{states_of}
 use Rattle.emtp_elim.proofs.Outcomes.{outcome_small}
-use Rattle.emtp_elim.specs.Matrix.{AreWithin, item}
+use Rattle.emtp_elim.specs.Matrix.{item}
+use Rattle.emtp_elim.specs.held.Matrix.{AreWithin}
 use Rattle.emtp_elim.specs.Outcome.{outcome}
 use Rattle.emtp_elim.specs.declared.fault.PlainFault.{PlainFault}
 use Rattle.emtp_expr.proofs.ValueRanges.{value_small}

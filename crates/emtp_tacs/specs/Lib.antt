@@ -1,5 +1,6 @@
+-- what the clauses of the program say
 pub mod Part
 pub mod Step
 pub mod Redone
-pub mod Stages
-pub mod Tacs
+-- what values hold for their proofs
+pub mod held

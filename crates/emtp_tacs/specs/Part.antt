@@ -1,7 +1,6 @@
 -- The control's part of a record.
 use Rattle.std.specs.Prelude.{ℕ, ℤ, pos, neg_ℤ, ◌*ℤ◌, List, [], ◌∷◌}
 use Rattle.emtp_case.specs.RunData.{time_of}
-use Rattle.emtp_case.specs.StepRecord.{StepRecord}
 use Rattle.emtp_case.specs.declared.control.BlockState.{BlockState}
 use Rattle.emtp_case.specs.declared.control.DeviceState.{DeviceState}
 use Rattle.emtp_case.specs.declared.run_data.RunData.{RunData}
@@ -13,9 +12,6 @@ pub record ControlPart : Type 0 where
   pub values : List ℤ
   pub blocks : List BlockState
   pub devices : List DeviceState
-
-abbrev pub control_of : StepRecord → ControlPart
-control_of r = record { values = r.values; blocks = r.blocks; devices = r.devices }
 
 -- the variables that every case has, in a step: TIMEX and DELTAT go by time in ps, brought to nanoseconds, and ISTEP is the
 -- step's number; then ZERO, PLUS1 and MINUS1

@@ -3,16 +3,7 @@ use Rattle.std.specs.Prelude.{ℕ, List, length}
 use Rattle.emtp_blocks.specs.System.{matrix}
 use Rattle.emtp_case.specs.StepRecord.{StepRecord}
 use Rattle.emtp_case.specs.declared.case.Parts.{Parts}
-use Rattle.emtp_elim.specs.Matrix.{Matrix}
-use Rattle.emtp_tail.specs.Redone.{matrix_before, redone_next, redone_over, rows_after, rows_next, rows_over}
-
--- the matrix of the last step, of which record 0 has none
-abbrev pub last_control_matrix : Parts → List StepRecord → Matrix
-last_control_matrix case H = matrix_before (matrix case) H
-
--- the rows of the next step's matrix from the first one on that differs from the last step's
-abbrev pub control_step_ticks : Parts → List StepRecord → ℕ
-control_step_ticks case H = rows_next (length case.blocks) (matrix case) H
+use Rattle.emtp_tail.specs.Redone.{redone_next, redone_over}
 
 -- the same as it counts: the first step counts nothing
 abbrev pub control_step_redone : Parts → List StepRecord → ℕ
@@ -21,11 +12,3 @@ control_step_redone case H = redone_next (length case.blocks) (matrix case) H
 -- the sum over the steps that made the records
 abbrev pub control_redone : Parts → List StepRecord → ℕ
 control_redone case H = redone_over (length case.blocks) (matrix case) H
-
--- the ticks of the step that follows the records; no step makes record 0
-abbrev pub control_step_ticks_after : Parts → List StepRecord → ℕ
-control_step_ticks_after case H = rows_after (length case.blocks) (matrix case) H
-
--- the ticks of the steps that made the records
-abbrev pub control_ticks : Parts → List StepRecord → ℕ
-control_ticks case H = rows_over (length case.blocks) (matrix case) H

@@ -1,13 +1,13 @@
 //! The blocks as one system over a kept factor.
 
 ghost use Rattle.std.specs.Prelude.{◌≡◌, ◌≤◌, ◌<◌, ◌+◌, ◌-◌, ◌*◌, ◌==◌, ◌∷◌, [], ℤ, if◌then◌else◌, List, length, IfErr, IfOk, OnOk};
-ghost use Rattle.emtp_case.specs.Control.{AreKnown};
-ghost use Rattle.emtp_blocks.specs.BlockRows.{AreUnknowns, HaveAccepted, StandsFor as BlocksStandFor, rows_of_blocks};
+ghost use Rattle.emtp_case.specs.held.Control.{AreKnown};
+ghost use Rattle.emtp_blocks.specs.held.BlockRows.{AreUnknowns, HaveAccepted, StandsFor as BlocksStandFor, rows_of_blocks};
 ghost use Rattle.emtp_blocks.specs.System.{matrix, right};
 ghost use Rattle.emtp_case.specs.StepRecord.{StepRecord, rest_of};
 ghost use Rattle.emtp_elim.specs.Outcome.{outcome};
 ghost use Rattle.emtp_elim.specs.declared.fault.PlainFault.{PlainFault};
-ghost use Rattle.emtp_tacs.specs.Stages.{HoldsSystem, NamesVariable, Solves};
+ghost use Rattle.emtp_tacs.specs.held.Stages.{HoldsSystem, NamesVariable, Solves};
 ghost use Rattle.emtp_tacs.specs.Step.{block_var, blocks, system_fault, with_outputs};
 ghost use Rattle.emtp_tail.specs.Good.{first_change};
 

@@ -1,15 +1,15 @@
 //! The supplemental cards: a pass before the blocks and a pass after them, each in card order.
 
 ghost use Rattle.std.specs.Prelude.{◌≡◌, ◌≤◌, ◌<◌, ◌+◌, Bool, true, List, length, unsigned_abs, IfErr, IfOk, Some, slice_get};
-ghost use Rattle.emtp_case.specs.Control.{AreKnown, var_of};
+ghost use Rattle.emtp_case.specs.held.Control.{AreKnown, var_of};
 ghost use Rattle.emtp_case.specs.StepRecord.{StepRecord};
 ghost use Rattle.emtp_case.specs.declared.control.Device.{Device};
 ghost use Rattle.emtp_case.specs.declared.control.Extra.{Extra};
 ghost use Rattle.emtp_case.specs.declared.control.Formula.{Formula};
-ghost use Rattle.emtp_devices.specs.Devices.{IsDeviceAt, Moves};
-ghost use Rattle.emtp_expr.specs.Value.{Evaluates};
+ghost use Rattle.emtp_devices.specs.held.Devices.{IsDeviceAt, Moves};
+ghost use Rattle.emtp_expr.specs.held.Value.{Evaluates};
 ghost use Rattle.emtp_fix.specs.declared.limit.TheConstants.{LARGEST_VALUE};
-ghost use Rattle.emtp_tacs.specs.Stages.{HasNameRoom, IsSoFar, NamesVariable, Reaches};
+ghost use Rattle.emtp_tacs.specs.held.Stages.{HasNameRoom, IsSoFar, NamesVariable, Reaches};
 ghost use Rattle.emtp_tacs.specs.Step.{SoFar, extra_of, extras, formula_value, group_of, is_in_pass};
 
 use crate::fault::{TacsFault, range_fault};

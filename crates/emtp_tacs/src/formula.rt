@@ -1,10 +1,10 @@
 //! The value of a formula.
 
 ghost use Rattle.std.specs.Prelude.{◌≡◌, ◌≤◌, length, map};
-ghost use Rattle.emtp_case.specs.Control.{AreKnown, IsFormula};
-ghost use Rattle.emtp_case.specs.Sizes.{sizes_of};
+ghost use Rattle.emtp_case.specs.held.Control.{AreKnown, IsFormula};
+ghost use Rattle.emtp_case.specs.held.Sizes.{sizes_of};
 ghost use Rattle.emtp_elim.specs.Matrix.{item};
-ghost use Rattle.emtp_expr.specs.Value.{Evaluates};
+ghost use Rattle.emtp_expr.specs.held.Value.{Evaluates};
 ghost use Rattle.emtp_tacs.specs.Step.{formula_value};
 
 use emtp_case::{Case, Formula};

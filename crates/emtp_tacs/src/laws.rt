@@ -2,11 +2,12 @@
 
 ghost use Rattle.std.specs.Prelude.{◌≡◌, ◌≢◌, ◌+◌, ◌<◌, ◌∷◌, ◌++◌, [], ℕ, ℤ, List, drop, length, take, Some, Ok, IfOk};
 ghost use Rattle.emtp_blocks.specs.System.{limiters_of};
-ghost use Rattle.emtp_case.specs.Case.{HasNoControl};
+ghost use Rattle.emtp_case.specs.held.Case.{HasNoControl};
 ghost use Rattle.emtp_case.specs.StepRecord.{StepRecord, latest};
 ghost use Rattle.emtp_elim.specs.Matrix.{item};
 ghost use Rattle.emtp_tacs.specs.Part.{ControlPart, standing_values};
-ghost use Rattle.emtp_tacs.specs.Redone.{control_redone, control_step_redone, control_ticks};
+ghost use Rattle.emtp_tacs.specs.Redone.{control_redone, control_step_redone};
+ghost use Rattle.emtp_tacs.specs.held.Redone.{control_ticks};
 ghost use Rattle.emtp_tacs.specs.Step.{Measured, SoFar, control_step, written};
 
 use emtp_case::Case;

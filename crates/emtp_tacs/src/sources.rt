@@ -1,11 +1,11 @@
 //! The sources of the control.
 
 ghost use Rattle.std.specs.Prelude.{◌≡◌, ◌≤◌, List, IfErr};
-ghost use Rattle.emtp_case.specs.Control.{AreKnown};
-ghost use Rattle.emtp_case.specs.Sizes.{sizes_of};
-ghost use Rattle.emtp_case.specs.Source.{IsTacsSource};
+ghost use Rattle.emtp_case.specs.held.Control.{AreKnown};
+ghost use Rattle.emtp_case.specs.held.Sizes.{sizes_of};
+ghost use Rattle.emtp_case.specs.held.Source.{IsTacsSource};
 ghost use Rattle.emtp_case.specs.declared.control.DeviceState.{DeviceState};
-ghost use Rattle.emtp_tacs.specs.Stages.{IsMeasured, NamesVariable, so_far_of};
+ghost use Rattle.emtp_tacs.specs.held.Stages.{IsMeasured, NamesVariable, so_far_of};
 ghost use Rattle.emtp_tacs.specs.Step.{source_value, sources};
 
 use crate::fault::{TacsFault, range_fault};

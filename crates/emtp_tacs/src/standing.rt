@@ -1,7 +1,7 @@
 //! The variables that every case has.
 
 ghost use Rattle.std.specs.Prelude.{◌≡◌, ◌≤◌, ◌^◌, ◌++◌, drop, pos, unsigned_abs};
-ghost use Rattle.emtp_case.specs.Control.{AreKnown};
+ghost use Rattle.emtp_case.specs.held.Control.{AreKnown};
 ghost use Rattle.emtp_fix.specs.Rounding.{near};
 ghost use Rattle.emtp_tacs.specs.Part.{standing_values};
 

@@ -1,13 +1,13 @@
 //! The control of a case.
 
 ghost use Rattle.std.specs.Prelude.{◌≡◌, ◌+◌, ◌-◌, ◌*◌, ◌<◌, ◌≤◌, ◌∷◌, [], All, List, length, unsigned_abs, IfErr, IfOk, OnOk};
-ghost use Rattle.emtp_blocks.specs.BlockRows.{StandsFor as BlocksStandFor, rows_of_blocks};
+ghost use Rattle.emtp_blocks.specs.held.BlockRows.{StandsFor as BlocksStandFor, rows_of_blocks};
 ghost use Rattle.emtp_case.specs.StepRecord.{StepRecord, rest_of};
 ghost use Rattle.emtp_fix.specs.declared.limit.TheConstants.{LARGEST_VALUE};
-ghost use Rattle.emtp_tacs.specs.Redone.{control_step_ticks};
-ghost use Rattle.emtp_tacs.specs.Stages.{Advances, HoldsSystem, HoldsVariables, IsMeasured, NamesVariable, VariablesStandFor};
+ghost use Rattle.emtp_tacs.specs.held.Redone.{control_step_ticks};
+ghost use Rattle.emtp_tacs.specs.held.Stages.{Advances, HoldsSystem, HoldsVariables, IsMeasured, NamesVariable, VariablesStandFor};
 ghost use Rattle.emtp_tacs.specs.Step.{control_step};
-ghost use Rattle.emtp_tacs.specs.Tacs.{StandsFor, StepsTo};
+ghost use Rattle.emtp_tacs.specs.held.Tacs.{StandsFor, StepsTo};
 ghost use Rattle.emtp_tail.specs.Good.{first_change};
 
 use crate::block_system::BlockSystem;
@@ -30,7 +30,7 @@ pub struct Tacs<'a> {
 }
 
 impl<'a> Model for Tacs<'a> {
-    ghost use Rattle.emtp_tacs.specs.Tacs.{HeldControl, HoldsTogether};
+    ghost use Rattle.emtp_tacs.specs.held.Tacs.{HeldControl, HoldsTogether};
 
     ghost Value = { HeldControl };
 

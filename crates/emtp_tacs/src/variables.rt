@@ -4,7 +4,7 @@ ghost use Rattle.std.specs.Prelude.{◌≡◌, ◌≤◌, ◌∷◌, [], true, L
 ghost use Rattle.emtp_case.specs.declared.control.Extra.{Extra};
 ghost use Rattle.emtp_case.specs.declared.control.Formula.{Formula};
 ghost use Rattle.emtp_case.specs.StepRecord.{StepRecord, rest_of};
-ghost use Rattle.emtp_tacs.specs.Stages.{HasNameRoom, HoldsVariables, IsMeasured, IsSoFar, NamesVariable, Reaches, VariablesStandFor};
+ghost use Rattle.emtp_tacs.specs.held.Stages.{HasNameRoom, HoldsVariables, IsMeasured, IsSoFar, NamesVariable, Reaches, VariablesStandFor};
 ghost use Rattle.emtp_tacs.specs.Step.{SoFar, extras, known_before};
 
 use crate::extras::compute_extras;

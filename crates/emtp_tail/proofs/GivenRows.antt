@@ -6,7 +6,7 @@ use Rattle.std.proofs.lemmas.Nat.{row_fits}
 use Rattle.std.proofs.lemmas.Slice.{between_is, between-put_mid, take-put_mid_below}
 use borrow.Rule.Slice.PartMut.{put_mid}
 use Rattle.emtp_elim.specs.Matrix.{row_of}
-use Rattle.emtp_tail.specs.Given.{rows_in}
+use Rattle.emtp_tail.specs.held.Given.{rows_in}
 
 pub length-rows_in : (size count : ℕ) (values : List ℤ) → length (rows_in size count values) ≡ count
 length-rows_in size count values = length-map-range_with_len _ 0 count

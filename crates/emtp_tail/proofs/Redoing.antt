@@ -8,11 +8,12 @@ use Rattle.std.proofs.lemmas.Bool.{cases_Bool, cases_eq, both_ways, not-true, no
 use Rattle.std.proofs.lemmas.Nat.{row_fits}
 use borrow.Rule.Slice.PartMut.{put_mid}
 use Rattle.emtp_elim.specs.Matrix.{Matrix, row_of}
-use Rattle.emtp_elim.specs.Finished.{Finished, FinishedRowsStay, AddsRow}
-use Rattle.emtp_tail.specs.Given.{rows_in}
+use Rattle.emtp_elim.specs.held.Finished.{Finished, FinishedRowsStay, AddsRow}
+use Rattle.emtp_tail.specs.held.Given.{rows_in}
 use Rattle.emtp_tail.proofs.GivenRows.{length-rows_in, rows_in-same, take-rows_in, length-put_row, row_kept, put_rows}
-use Rattle.emtp_tail.specs.Good.{first_change, IsFirstChange}
-use Rattle.emtp_tail.specs.Keeping.{IsKept, IsRedone}
+use Rattle.emtp_tail.specs.Good.{first_change}
+use Rattle.emtp_tail.specs.held.Good.{IsFirstChange}
+use Rattle.emtp_tail.specs.held.Keeping.{IsKept, IsRedone}
 
 -- ---- the first change
 

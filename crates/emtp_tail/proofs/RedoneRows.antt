@@ -4,7 +4,8 @@ use Rattle.std.proofs.lemmas.Bool.Decides.{nat_tests}
 use Rattle.emtp_elim.specs.Matrix.{Matrix}
 use Rattle.emtp_tail.proofs.Redoing.{first_change_none, first_change_same, first_change_within}
 use Rattle.emtp_tail.specs.Good.{first_change}
-use Rattle.emtp_tail.specs.Redone.{matrix_before, redone_next, redone_over, rows_next, rows_over}
+use Rattle.emtp_tail.specs.Redone.{matrix_before, redone_next, redone_over, rows_next}
+use Rattle.emtp_tail.specs.held.Redone.{rows_over}
 
 -- after a step its matrix is the last one
 pub matrix_before_is : {R : Type 0} (matrix : List R → Matrix) (H : List R) (made : ℕ) (r : R) → made + 1 ≡ length H → matrix_before matrix (r ∷ H) ≡ matrix H

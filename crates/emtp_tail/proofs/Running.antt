@@ -1,7 +1,7 @@
 -- A run goes on by one call.
 use Rattle.std.proofs.Common.{ℕ, List, [], ◌∷◌, ◌++◌, refl}
 use Rattle.emtp_elim.specs.Matrix.{Matrix}
-use Rattle.emtp_tail.specs.Good.{Good}
+use Rattle.emtp_tail.specs.held.Good.{Good}
 use Rattle.emtp_tail.specs.Runs.{Step, Run}
 use Rattle.emtp_tail.specs.declared.runs.Call.{Call}
 use Rattle.emtp_tail.specs.declared.runs.Reply.{Reply}

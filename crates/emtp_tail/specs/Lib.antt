@@ -1,5 +1,7 @@
-pub mod Given
+-- what the clauses of the program say
 pub mod Good
-pub mod Keeping
 pub mod Redone
+-- what laws say
 pub mod Runs
+-- what values hold for their proofs
+pub mod held

@@ -24,13 +24,3 @@ redone_next size matrix (r ∷ s ∷ past) = rows_next size matrix (r ∷ s ∷ 
 abbrev pub redone_over : {R : Type 0} → ℕ → (List R → Matrix) → List R → ℕ
 redone_over size matrix [] = 0
 redone_over size matrix (r ∷ past) = redone_over size matrix past + redone_next size matrix past
-
--- the rows that the step after the records eliminates; no step makes record 0
-abbrev pub rows_after : {R : Type 0} → ℕ → (List R → Matrix) → List R → ℕ
-rows_after size matrix [] = 0
-rows_after size matrix (s ∷ past) = rows_next size matrix (s ∷ past)
-
--- the rows that the steps that made the records eliminated: the first step's count too
-abbrev pub rows_over : {R : Type 0} → ℕ → (List R → Matrix) → List R → ℕ
-rows_over size matrix [] = 0
-rows_over size matrix (r ∷ past) = rows_over size matrix past + rows_after size matrix past

@@ -1,11 +1,12 @@
 -- Whole runs of calls on a kept factor: what may be answered, and what is good afterwards.
 use Rattle.std.specs.Prelude.{◌≡◌, ◌<◌, ℕ, ◌+◌, ℤ, List, [], ◌∷◌, length, take, vec_len, Ok, Err}
 use Rattle.emtp_elim.specs.Matrix.{Matrix}
-use Rattle.emtp_elim.specs.Fault.{IsRowFault, IsGoodMatrix}
-use Rattle.emtp_elim.specs.Finished.{AreFinished}
+use Rattle.emtp_elim.specs.held.Fault.{IsRowFault, IsGoodMatrix}
+use Rattle.emtp_elim.specs.held.Finished.{AreFinished}
 use Rattle.emtp_elim.specs.Outcome.{outcome}
 use Rattle.emtp_elim.specs.declared.fault.PlainFault.{PlainFault}
-use Rattle.emtp_tail.specs.Good.{Good, first_change}
+use Rattle.emtp_tail.specs.Good.{first_change}
+use Rattle.emtp_tail.specs.held.Good.{Good}
 use Rattle.emtp_tail.specs.declared.runs.Call.{Call}
 use Rattle.emtp_tail.specs.declared.runs.Call.TheVariants.{Update, Solve}
 use Rattle.emtp_tail.specs.declared.runs.Reply.{Reply}

@@ -1,13 +1,14 @@
 // The kept factor.
 ghost use Rattle.std.specs.Prelude.{◌≡◌, ◌+◌, ◌*◌, ◌^◌, ◌<◌, ◌≤◌, ℤ, List, length, take, [], IfOk, OnOk, IfErr, Ok, Err};
-ghost use Rattle.emtp_elim.specs.Matrix.{AreWithin};
-ghost use Rattle.emtp_elim.specs.Fault.{IsRowFault, IsGoodMatrix};
-ghost use Rattle.emtp_elim.specs.Finished.{AreFinished};
+ghost use Rattle.emtp_elim.specs.held.Matrix.{AreWithin};
+ghost use Rattle.emtp_elim.specs.held.Fault.{IsRowFault, IsGoodMatrix};
+ghost use Rattle.emtp_elim.specs.held.Finished.{AreFinished};
 ghost use Rattle.emtp_elim.specs.Outcome.{outcome};
-ghost use Rattle.emtp_tail.specs.Given.{rows_in};
+ghost use Rattle.emtp_tail.specs.held.Given.{rows_in};
 ghost use Rattle.emtp_elim.specs.declared.fault.PlainFault.{PlainFault};
-ghost use Rattle.emtp_tail.specs.Good.{Good, first_change, IsFirstChange};
-ghost use Rattle.emtp_tail.specs.Keeping.{IsKept, IsRedone};
+ghost use Rattle.emtp_tail.specs.Good.{first_change};
+ghost use Rattle.emtp_tail.specs.held.Good.{Good, IsFirstChange};
+ghost use Rattle.emtp_tail.specs.held.Keeping.{IsKept, IsRedone};
 
 use emtp_elim::{
     RowFault, Rows, SolveFault, SparseRows, eliminate_row, finished_rows_stay,

@@ -2,7 +2,8 @@
 
 ghost use Rattle.std.specs.Prelude.{◌≡◌, ℕ, ◌≤◌, length, []};
 ghost use Rattle.emtp_elim.specs.Matrix.{Matrix};
-ghost use Rattle.emtp_tail.specs.Good.{first_change, IsFirstChange};
+ghost use Rattle.emtp_tail.specs.Good.{first_change};
+ghost use Rattle.emtp_tail.specs.held.Good.{IsFirstChange};
 
 /// `first_change` is the least row that differs, of no rows 0 and of rows that don't change their number.
 pub fn first_change_is_least()

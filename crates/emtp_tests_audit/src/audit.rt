@@ -2,8 +2,8 @@
 
 ghost use Rattle.std.specs.Prelude.{◌≡◌, length, IfOk, OnOk};
 ghost use Rattle.emtp_case.specs.Case.{empty_parts};
-ghost use Rattle.emtp_case.specs.Sizes.{sizes_with};
-ghost use Rattle.emtp_case.specs.Switch.{IsSwitch};
+ghost use Rattle.emtp_case.specs.held.Sizes.{sizes_with};
+ghost use Rattle.emtp_case.specs.held.Switch.{IsSwitch};
 
 use emtp_audit::{AuditFault, DifferCause, Differs, audit};
 use emtp_case::{Case, Channel, Draft, Name, RunData, Switch, SwitchKind};

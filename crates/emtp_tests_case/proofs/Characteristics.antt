@@ -1,5 +1,6 @@
 -- Characteristics of two and of three points, segment by segment.
-use Rattle.emtp_case.specs.Branch.{IsCharacteristic, IsSegment, origin}
+use Rattle.emtp_case.specs.Branch.{origin}
+use Rattle.emtp_case.specs.held.Branch.{IsCharacteristic, IsSegment}
 use Rattle.emtp_case.specs.declared.branch.Point.{Point}
 use Rattle.std.proofs.Common.{arith, ◌∷◌, [], suc, zero, Bool, ℤ}
 

@@ -1,6 +1,7 @@
 -- A lag, and its coefficients at a time step of 0.1 ms.
 use Rattle.emtp_case.proofs.FirstOrder.{upto_1, ways}
-use Rattle.emtp_case.specs.Control.{HasCoefficients, denominator_of, divisor_of, numerator_of, step_gain}
+use Rattle.emtp_case.specs.Control.{denominator_of, divisor_of, numerator_of, step_gain}
+use Rattle.emtp_case.specs.held.Control.{HasCoefficients}
 use Rattle.emtp_case.specs.declared.control.Block.{Block}
 use Rattle.emtp_case.specs.declared.control.Bound.TheVariants.{Fixed, None as NoBound}
 use Rattle.emtp_case.specs.declared.control.Input.{Input}

@@ -1,5 +1,5 @@
 -- What the tests share.
-use Rattle.emtp_case.specs.Sizes.{Sizes, sizes_with}
+use Rattle.emtp_case.specs.held.Sizes.{Sizes, sizes_with}
 
 -- two nodes, a switch and twenty variables
 abbrev pub control_sizes : Sizes

@@ -3,7 +3,8 @@
 ghost use Rattle.emtp_tests_case.specs.declared.fixtures.TheConstants.{RUN};
 ghost use Rattle.std.specs.Prelude.{◌≡◌, ◌<◌, ◌≤◌, IsSome, IsTrue, length, true, IfOk};
 ghost use Rattle.std.specs.Option.{ForSome};
-ghost use Rattle.emtp_case.specs.Control.{AreTimes, HasRangeOfA, IsBlock, IsDeviceCard, IsFormula, IsTable, needs_d};
+ghost use Rattle.emtp_case.specs.Control.{needs_d};
+ghost use Rattle.emtp_case.specs.held.Control.{AreTimes, HasRangeOfA, IsBlock, IsDeviceCard, IsFormula, IsTable};
 ghost use Rattle.emtp_case.specs.HistoryValues.{history_values_of};
 ghost use Rattle.emtp_tests_case.specs.Fixtures.{control_sizes};
 

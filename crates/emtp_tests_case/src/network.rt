@@ -2,9 +2,9 @@
 
 ghost use Rattle.emtp_tests_case.specs.declared.fixtures.TheConstants.{RUN};
 ghost use Rattle.std.specs.Prelude.{◌≡◌, false, true};
-ghost use Rattle.emtp_case.specs.Branch.{HasSeriesNumbers, IsCharacteristic, IsLine, IsLumped, IsTrio};
+ghost use Rattle.emtp_case.specs.held.Branch.{HasSeriesNumbers, IsCharacteristic, IsLine, IsLumped, IsTrio};
 ghost use Rattle.emtp_case.specs.HistoryValues.{branch_history_values, history_values_of, trio_history_values};
-ghost use Rattle.emtp_case.specs.Sizes.{sizes_with};
+ghost use Rattle.emtp_case.specs.held.Sizes.{sizes_with};
 
 use crate::comparing::{channels_are_named, names_are, nodes_are};
 use crate::filling::{

@@ -1,6 +1,6 @@
 //! The numbers that a reader judges by and the laws step with, by hand.
 
-ghost use Rattle.emtp_case.specs.Control.{HasRangeOfA};
+ghost use Rattle.emtp_case.specs.held.Control.{HasRangeOfA};
 
 use crate::fixtures::{RUN, point};
 use emtp_case::{

@@ -1,9 +1,10 @@
 -- Blocks whose coefficients are small, at a time step of 1 s.
 use Rattle.std.proofs.Common.{◌≡◌, ℕ, zero, suc, ◌+◌, ◌*◌, ◌^◌, ◌<◌, ◌≤◌, ℤ, pos, negsuc, ◌*ℤ◌, ◌≤ℤ◌, unsigned_abs, List, [], ◌∷◌, All, slice_index_or, get_or, replicate, arith}
 use Rattle.std.proofs.lemmas.Int.{ints}
-use Rattle.emtp_case.specs.Control.{HasCoefficients, bilinear, coefficient_sum, divisor_of, numerator_of, power_of, step_gain}
+use Rattle.emtp_case.specs.Control.{bilinear, coefficient_sum, divisor_of, numerator_of, power_of, step_gain}
+use Rattle.emtp_case.specs.held.Control.{HasCoefficients}
 use Rattle.emtp_case.specs.Sums.{sum_upto}
-use Rattle.emtp_case.specs.Range.{IsBetween}
+use Rattle.emtp_case.specs.held.Range.{IsBetween}
 use Rattle.emtp_case.specs.declared.control.Block.{Block}
 use Rattle.emtp_fix.specs.Rounding.{near}
 use Rattle.emtp_fix.proofs.Quotients.{near-nonneg, near-product}

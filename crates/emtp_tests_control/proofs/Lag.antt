@@ -3,7 +3,8 @@ use Rattle.std.proofs.Math.Dec.{lit≤}
 use Rattle.std.proofs.Common.{◌≤◌, ◌^◌, ◌∷◌, [], List, pos, rules, ℤ}
 use Rattle.std.specs.Prelude.{unsigned_abs, ◌≢◌}
 use Rattle.emtp_case.proofs.FirstOrder.{upto_1, ways}
-use Rattle.emtp_case.specs.Control.{HasCoefficients, denominator_of, divisor_of, numerator_of, step_gain}
+use Rattle.emtp_case.specs.Control.{denominator_of, divisor_of, numerator_of, step_gain}
+use Rattle.emtp_case.specs.held.Control.{HasCoefficients}
 use Rattle.emtp_case.specs.declared.control.Block.{Block}
 use Rattle.emtp_case.specs.declared.control.Bound.TheVariants.{Fixed, None as NoBound}
 use Rattle.emtp_case.specs.declared.control.Input.{Input}

@@ -1,8 +1,8 @@
 -- The cases of one block or one device.
 use Rattle.std.specs.Prelude.{◌^◌, ◌≤◌, List, length, pos, ℤ}
-use Rattle.emtp_case.specs.Control.{HasDevicePoints, HasRangeOfA}
+use Rattle.emtp_case.specs.held.Control.{HasDevicePoints, HasRangeOfA}
 use Rattle.emtp_case.specs.HistoryValues.{device_history_values}
-use Rattle.emtp_case.specs.Sizes.{Sizes, sizes_with}
+use Rattle.emtp_case.specs.held.Sizes.{Sizes, sizes_with}
 use Rattle.emtp_case.specs.declared.branch.Point.{Point}
 use Rattle.emtp_case.specs.declared.control.DeviceCode.{DeviceCode}
 

@@ -3,7 +3,7 @@ use Rattle.std.specs.Prelude.{◌≡◌, ℤ, List, Ok}
 use Rattle.emtp_case.specs.StepRecord.{StepRecord}
 use Rattle.emtp_case.specs.declared.case.Parts.{Parts}
 use Rattle.emtp_elim.specs.Outcome.{outcome}
-use Rattle.emtp_blocks.specs.BlockRows.{Accepts, Blocking}
+use Rattle.emtp_blocks.specs.held.BlockRows.{Accepts, Blocking}
 use Rattle.emtp_blocks.specs.System.{matrix, right}
 
 -- a step of the blocks: their system has this solution, and the value takes it in

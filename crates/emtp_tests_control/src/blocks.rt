@@ -3,12 +3,12 @@
 
 ghost use Rattle.std.specs.Prelude.{◌≡◌, ◌∷◌, [], ◌<◌, ◌^◌, ◌≤ℤ◌, List, length, All, ◌≤◌, pos, slice_index_or, unsigned_abs, IfOk, OnOk};
 ghost use Rattle.emtp_case.specs.Case.{empty_parts};
-ghost use Rattle.emtp_case.specs.Control.{IsBlock, IsBound, AreKnown};
-ghost use Rattle.emtp_case.specs.Range.{IsBetween};
-ghost use Rattle.emtp_case.specs.RunData.{IsRun};
+ghost use Rattle.emtp_case.specs.held.Control.{IsBlock, IsBound, AreKnown};
+ghost use Rattle.emtp_case.specs.held.Range.{IsBetween};
+ghost use Rattle.emtp_case.specs.held.RunData.{IsRun};
 ghost use Rattle.emtp_case.specs.StepRecord.{StepRecord};
 ghost use Rattle.emtp_case.specs.declared.control.Block.{Block};
-ghost use Rattle.emtp_blocks.specs.BlockRows.{StandsFor};
+ghost use Rattle.emtp_blocks.specs.held.BlockRows.{StandsFor};
 ghost use Rattle.emtp_fix.specs.declared.limit.TheConstants.{LARGEST_VALUE};
 ghost use Rattle.emtp_tests_control.specs.Fixtures.{one_sizes};
 ghost use Rattle.emtp_tests_control.specs.Stepping.{Steps};

@@ -3,11 +3,12 @@
 ghost use Rattle.std.specs.Prelude.{◌≡◌, ◌<◌, ◌≤◌, ◌∷◌, [], All, IfOk, OnOk, IsSome, IsTrue, length, unsigned_abs};
 ghost use Rattle.std.specs.Option.{ForSome};
 ghost use Rattle.emtp_case.specs.Case.{empty_parts};
-ghost use Rattle.emtp_case.specs.Control.{HasRangeOfA, IsDeviceCard, needs_d, AreKnown};
+ghost use Rattle.emtp_case.specs.Control.{needs_d};
+ghost use Rattle.emtp_case.specs.held.Control.{HasRangeOfA, IsDeviceCard, AreKnown};
 ghost use Rattle.emtp_case.specs.declared.control.Device.{Device};
 ghost use Rattle.emtp_case.specs.declared.control.Extra.{Extra};
 ghost use Rattle.emtp_case.specs.declared.control.Input.{Input};
-ghost use Rattle.emtp_devices.specs.Devices.{IsDeviceAt};
+ghost use Rattle.emtp_devices.specs.held.Devices.{IsDeviceAt};
 ghost use Rattle.emtp_fix.specs.declared.limit.TheConstants.{LARGEST_VALUE};
 ghost use Rattle.emtp_tests_control.specs.Fixtures.{FitsAlone, one_sizes};
 

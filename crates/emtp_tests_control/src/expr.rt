@@ -3,7 +3,8 @@
 ghost use Rattle.std.specs.Prelude.{◌≡◌, ◌≤◌, Some, length, unsigned_abs, IfOk, IfSome};
 ghost use Rattle.emtp_fix.specs.declared.limit.TheConstants.{LARGEST_VALUE};
 ghost use Rattle.emtp_expr.specs.Parsing.{expression_of};
-ghost use Rattle.emtp_expr.specs.Value.{AreInRange, value};
+ghost use Rattle.emtp_expr.specs.Value.{value};
+ghost use Rattle.emtp_expr.specs.held.Value.{AreInRange};
 
 use emtp_card::MAX_BYTES;
 use emtp_expr::{ExprFault, eval, parse};

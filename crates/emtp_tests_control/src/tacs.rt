@@ -3,7 +3,7 @@
 
 ghost use Rattle.std.specs.Prelude.{◌≡◌, ◌<◌, ◌∷◌, [], length, IfOk, OnOk};
 ghost use Rattle.emtp_case.specs.Case.{empty_parts};
-ghost use Rattle.emtp_case.specs.Control.{IsBlock, IsFormula};
+ghost use Rattle.emtp_case.specs.held.Control.{IsBlock, IsFormula};
 ghost use Rattle.emtp_case.specs.declared.control.Extra.{Extra};
 ghost use Rattle.emtp_tests_control.specs.Fixtures.{nine_sizes};
 

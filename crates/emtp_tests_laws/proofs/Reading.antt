@@ -4,7 +4,7 @@ use Rattle.std.proofs.lemmas.Option.{slice_get-get_or}
 use Rattle.emtp_case.specs.declared.branch.Branch.{Branch}
 use Rattle.emtp_case.specs.declared.branch.Lumped.{Lumped}
 use Rattle.emtp_case.specs.declared.case.Parts.{Parts}
-use Rattle.emtp_lumped.specs.Lumps.{IsSeries}
+use Rattle.emtp_lumped.specs.held.Lumps.{IsSeries}
 
 -- the branch that an index read
 pub branch_read : (case : Parts) (bs : List Branch) (at : ℕ) (d x : Branch) → bs ≡ case.branches → at < length case.branches → get_or bs at d ≡ x → slice_get case.branches at ≡ Some x

@@ -7,7 +7,8 @@ use Rattle.emtp_case.specs.declared.branch.Branch.TheVariants.{Lumped as OfLumpe
 use Rattle.emtp_case.specs.declared.branch.Lumped.{Lumped}
 use Rattle.emtp_case.specs.declared.branch.LumpedState.{LumpedState}
 use Rattle.emtp_case.specs.declared.case.Parts.{Parts}
-use Rattle.emtp_lumped.specs.Lumps.{Lumping, IsSeries, HasMoved, StandsAt, StandsFor, states_of}
+use Rattle.emtp_lumped.specs.Lumps.{states_of}
+use Rattle.emtp_lumped.specs.held.Lumps.{Lumping, IsSeries, HasMoved, StandsAt, StandsFor}
 use Rattle.emtp_tests_laws.specs.Stepping.{next_at, HaveMoved, IsNext}
 use Rattle.emtp_tests_laws.proofs.Reading.{series_in}
 

@@ -4,7 +4,8 @@ use Rattle.emtp_case.specs.StepRecord.{StepRecord, lumped_at}
 use Rattle.emtp_case.specs.declared.branch.Lumped.{Lumped}
 use Rattle.emtp_case.specs.declared.branch.LumpedState.{LumpedState}
 use Rattle.emtp_case.specs.declared.case.Parts.{Parts}
-use Rattle.emtp_lumped.specs.Lumps.{Lumping, IsSeries, HasMoved, next_of, states_of}
+use Rattle.emtp_lumped.specs.Lumps.{next_of, states_of}
+use Rattle.emtp_lumped.specs.held.Lumps.{Lumping, IsSeries, HasMoved}
 
 -- the voltage of a branch at voltages by node, ground first
 abbrev pub voltage_of : Lumped → List ℤ → ℤ

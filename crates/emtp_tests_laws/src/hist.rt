@@ -1,7 +1,8 @@
 //! The last values of one quantity.
 
 ghost use Rattle.std.specs.Prelude.{◌≡◌, ℤ, ◌<◌, List, ◌∷◌};
-ghost use Rattle.emtp_hist.specs.History.{Remembers, value_before};
+ghost use Rattle.emtp_hist.specs.History.{value_before};
+ghost use Rattle.emtp_hist.specs.held.History.{Remembers};
 
 use emtp_hist::History;
 use std::test::Fail;

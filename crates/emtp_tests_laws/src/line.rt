@@ -1,11 +1,11 @@
 //! The worked lines: of 100 ohm and two steps, or two and a half, one with losses, and one of the least impedance.
 
 ghost use Rattle.std.specs.Prelude.{◌≡◌, ◌≤◌, [], ◌∷◌, IfOk};
-ghost use Rattle.emtp_case.specs.Branch.{IsLine};
+ghost use Rattle.emtp_case.specs.held.Branch.{IsLine};
 ghost use Rattle.emtp_case.specs.HistoryValues.{branch_history_values};
-ghost use Rattle.emtp_case.specs.Sizes.{sizes_with};
+ghost use Rattle.emtp_case.specs.held.Sizes.{sizes_with};
 ghost use Rattle.emtp_case.specs.declared.branch.Line.{Line};
-ghost use Rattle.emtp_line.specs.Lines.{IsLineAt};
+ghost use Rattle.emtp_line.specs.held.Lines.{IsLineAt};
 
 use crate::fixtures::{OUT, RUN, V, nodes};
 use emtp_case::{Branch, Case, Line};

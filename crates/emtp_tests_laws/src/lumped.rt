@@ -1,13 +1,14 @@
 //! The worked branches: 1 ohm with an inductance or a capacitance at 100 V, stepped by 100 microseconds.
 
 ghost use Rattle.std.specs.Prelude.{◌≡◌, ◌≢◌, ◌+◌, ◌<◌, [], ◌∷◌, List, ℕ, None, length, IfOk, OnOk, OnErr, IfErr};
-ghost use Rattle.emtp_case.specs.Branch.{IsLumped};
+ghost use Rattle.emtp_case.specs.held.Branch.{IsLumped};
 ghost use Rattle.emtp_case.specs.Case.{empty_parts};
-ghost use Rattle.emtp_case.specs.Sizes.{sizes_with};
+ghost use Rattle.emtp_case.specs.held.Sizes.{sizes_with};
 ghost use Rattle.emtp_case.specs.StepRecord.{StepRecord};
 ghost use Rattle.emtp_case.specs.declared.branch.Lumped.{Lumped};
 ghost use Rattle.emtp_case.specs.declared.branch.LumpedState.{LumpedState};
-ghost use Rattle.emtp_lumped.specs.Lumps.{IsSeries, StandsAt, StandsFor, HasMoved, next_of};
+ghost use Rattle.emtp_lumped.specs.Lumps.{next_of};
+ghost use Rattle.emtp_lumped.specs.held.Lumps.{IsSeries, StandsAt, StandsFor, HasMoved};
 ghost use Rattle.emtp_tests_laws.specs.Stepping.{voltage_of, HaveMoved, IsNext, IsFirstOut};
 
 use crate::fixtures::{OUT, RUN, V, nodes};

@@ -2,9 +2,10 @@
 //! one of each whose numbers don't divide evenly, which goes through all of its segments.
 
 ghost use Rattle.std.specs.Prelude.{◌≡◌, ◌≤◌, ◌-ℤ◌, ◌∷◌, [], List, true, false, length, IfOk};
-ghost use Rattle.emtp_case.specs.Branch.{IsCharacteristic};
+ghost use Rattle.emtp_case.specs.held.Branch.{IsCharacteristic};
 ghost use Rattle.emtp_case.specs.declared.branch.Pseudo.{Pseudo};
-ghost use Rattle.emtp_pseudo.specs.Pseudos.{IsPseudoAt, Moves, StandsAt, next_history_current, present};
+ghost use Rattle.emtp_pseudo.specs.Pseudos.{next_history_current, present};
+ghost use Rattle.emtp_pseudo.specs.held.Pseudos.{IsPseudoAt, Moves, StandsAt};
 ghost use Rattle.emtp_pseudo.specs.declared.moment.Moment.{Moment};
 
 use crate::fixtures::{RUN, V, nodes};

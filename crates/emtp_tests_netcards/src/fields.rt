@@ -1,7 +1,7 @@
 //! Each cell of the grid, read.
 
 ghost use Rattle.std.specs.Prelude.{◌≤◌};
-ghost use Rattle.emtp_case.specs.RunData.{IsRun};
+ghost use Rattle.emtp_case.specs.held.RunData.{IsRun};
 
 use crate::grid::branches::*;
 use crate::grid::points::*;

@@ -1,7 +1,7 @@
 //! The record of a card of each kind. The numbers are worked out by hand.
 
 ghost use Rattle.std.specs.Prelude.{◌<◌, ◌≤◌, length};
-ghost use Rattle.emtp_case.specs.RunData.{IsRun};
+ghost use Rattle.emtp_case.specs.held.RunData.{IsRun};
 
 use emtp_card::{Line, MAX_BYTES};
 use emtp_case::{Name, Point, RunData, Shape, SwitchKind};

@@ -1,12 +1,12 @@
 //! What the tests share.
 
 ghost use Rattle.std.specs.Prelude.{◌≡◌, ◌≢◌, ◌≤◌, [], ◌*ℤ◌, ◌^◌, length, pos, unsigned_abs, IfOk, OnOk};
-ghost use Rattle.emtp_case.specs.Branch.{IsLumped};
+ghost use Rattle.emtp_case.specs.held.Branch.{IsLumped};
 ghost use Rattle.emtp_case.specs.Case.{empty_parts, standing_names};
-ghost use Rattle.emtp_case.specs.RunData.{IsRun};
-ghost use Rattle.emtp_case.specs.Sizes.{sizes_with};
-ghost use Rattle.emtp_case.specs.Source.{IsSource};
-ghost use Rattle.emtp_case.specs.Switch.{HasTimes, IsSwitch, IsSwitchKind};
+ghost use Rattle.emtp_case.specs.held.RunData.{IsRun};
+ghost use Rattle.emtp_case.specs.held.Sizes.{sizes_with};
+ghost use Rattle.emtp_case.specs.held.Source.{IsSource};
+ghost use Rattle.emtp_case.specs.held.Switch.{HasTimes, IsSwitch, IsSwitchKind};
 ghost use Rattle.emtp_tests_network.specs.Fixtures.{HasSizes};
 
 use emtp_case::{Case, Draft, Lumped, Name, RunData, Shape, Source, Switch, SwitchKind};

@@ -2,16 +2,16 @@
 
 ghost use Rattle.std.specs.Prelude.{◌≡◌, ◌<◌, ◌≤◌, length, true, unsigned_abs, IfOk, IfErr, OnOk};
 ghost use Rattle.emtp_fix.specs.declared.limit.TheConstants.{LARGEST_ENTRY};
-ghost use Rattle.emtp_case.specs.Branch.{IsLine, IsLumped, IsTrio};
+ghost use Rattle.emtp_case.specs.held.Branch.{IsLine, IsLumped, IsTrio};
 ghost use Rattle.emtp_case.specs.Case.{empty_parts};
-ghost use Rattle.emtp_case.specs.Range.{AreEnds};
+ghost use Rattle.emtp_case.specs.held.Range.{AreEnds};
 ghost use Rattle.emtp_case.specs.RowOrder.{order_of};
 ghost use Rattle.emtp_case.specs.HistoryValues.{branch_history_values, trio_history_values};
-ghost use Rattle.emtp_case.specs.Sizes.{sizes_with};
-ghost use Rattle.emtp_case.specs.Source.{IsSource};
-ghost use Rattle.emtp_elim.specs.Fault.{IsRowFault};
+ghost use Rattle.emtp_case.specs.held.Sizes.{sizes_with};
+ghost use Rattle.emtp_case.specs.held.Source.{IsSource};
+ghost use Rattle.emtp_elim.specs.held.Fault.{IsRowFault};
 ghost use Rattle.emtp_rows.specs.Nodal.{nodal_matrix};
-ghost use Rattle.emtp_rows.specs.Touched.{StandsUntouched};
+ghost use Rattle.emtp_rows.specs.held.Touched.{StandsUntouched};
 
 use crate::fixtures::{RUN, nodes};
 use emtp_case::{

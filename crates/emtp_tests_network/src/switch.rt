@@ -2,15 +2,15 @@
 
 ghost use Rattle.std.specs.Prelude.{◌≡◌, ◌≢◌, ◌+◌, ◌≤◌, ◌∷◌, List, Some, length, unsigned_abs, IfErr, IfOk};
 ghost use Rattle.std.specs.List.{All};
-ghost use Rattle.emtp_case.specs.RowOrder.{IsRowOrder};
-ghost use Rattle.emtp_case.specs.Sizes.{sizes_with};
+ghost use Rattle.emtp_case.specs.held.RowOrder.{IsRowOrder};
+ghost use Rattle.emtp_case.specs.held.Sizes.{sizes_with};
 ghost use Rattle.emtp_case.specs.StepRecord.{StepRecord};
-ghost use Rattle.emtp_case.specs.Switch.{IsSwitch};
+ghost use Rattle.emtp_case.specs.held.Switch.{IsSwitch};
 ghost use Rattle.emtp_fix.specs.declared.limit.TheConstants.{LARGEST_VALUE};
 ghost use Rattle.emtp_switch.specs.Groups.{tied_of};
 ghost use Rattle.emtp_switch.specs.Kinds.{kinds_of};
 ghost use Rattle.emtp_switch.specs.States.{next_states};
-ghost use Rattle.emtp_switch.specs.Switching.{AreLatest, StandsFor};
+ghost use Rattle.emtp_switch.specs.held.Switching.{AreLatest, StandsFor};
 ghost use Rattle.emtp_tests_network.specs.Fixtures.{HasSizes};
 
 use crate::fixtures::{NANO, RUN, STEP, breaker, nano, network, never, switch, wide};

@@ -1,9 +1,10 @@
 //! The cosine and the values of sources. The answers are those of an independent program.
 
 ghost use Rattle.std.specs.Prelude.{◌≡◌, []};
-ghost use Rattle.emtp_case.specs.RunData.{IsRun};
-ghost use Rattle.emtp_case.specs.Source.{HasSourceNumbers};
-ghost use Rattle.emtp_wave.specs.Wave.{HasWave, value_of};
+ghost use Rattle.emtp_case.specs.held.RunData.{IsRun};
+ghost use Rattle.emtp_case.specs.held.Source.{HasSourceNumbers};
+ghost use Rattle.emtp_wave.specs.Wave.{value_of};
+ghost use Rattle.emtp_wave.specs.held.Wave.{HasWave};
 
 use emtp_case::{RunData, Shape, Source};
 use emtp_wave::CosTable;

@@ -5,8 +5,9 @@ use Rattle.std.proofs.lemmas.List.Edits.{length-between, get_or-between}
 use Rattle.std.proofs.lemmas.List.FromFn.{length-map-range_with_len, get_or-map-range_with_len}
 use Rattle.std.proofs.lemmas.Nat.{row_fits}
 use Rattle.std.proofs.lemmas.Bool.{cases_eq, cases_lt, cond-true, cond-false, lt-ltb, le-ltb}
-use Rattle.emtp_elim.specs.Matrix.{item, row_of, AreWithin}
-use Rattle.emtp_elim.specs.Rows.{IsLawful}
+use Rattle.emtp_elim.specs.Matrix.{item, row_of}
+use Rattle.emtp_elim.specs.held.Matrix.{AreWithin}
+use Rattle.emtp_elim.specs.held.Rows.{IsLawful}
 use Rattle.emtp_tests_numbers.specs.Tables.{unit_row, table_rows}
 
 pub length-table_rows : (size fixed : ℕ) (cells : List ℤ) → length (table_rows size fixed cells) ≡ size

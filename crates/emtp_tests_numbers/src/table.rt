@@ -1,6 +1,6 @@
 //! A matrix by its numbers, for the tests.
 ghost use Rattle.std.specs.Prelude.{◌≡◌, ◌*◌, ◌+◌, ◌^◌, ◌<◌, ◌≤◌, length, slice_range, vec_len, IfOk};
-ghost use Rattle.emtp_elim.specs.Matrix.{AreWithin};
+ghost use Rattle.emtp_elim.specs.held.Matrix.{AreWithin};
 ghost use Rattle.emtp_tests_numbers.specs.Tables.{unit_row, table_rows};
 
 use emtp_elim::{PlainFault, RowCause, Rows};

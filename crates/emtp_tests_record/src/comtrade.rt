@@ -1,12 +1,12 @@
 //! Records of several channels: configuration and data, to the byte.
 
 ghost use Rattle.std.specs.Prelude.{◌≡◌, ◌≤◌, [], length, IfOk, OnOk};
-ghost use Rattle.emtp_case.specs.Branch.{IsLumped};
+ghost use Rattle.emtp_case.specs.held.Branch.{IsLumped};
 ghost use Rattle.emtp_case.specs.Case.{empty_parts, standing_names};
-ghost use Rattle.emtp_case.specs.Channel.{IsChannel};
-ghost use Rattle.emtp_case.specs.Name.{IsName};
-ghost use Rattle.emtp_case.specs.Sizes.{sizes_of, sizes_with};
-ghost use Rattle.emtp_case.specs.Switch.{IsSwitch};
+ghost use Rattle.emtp_case.specs.held.Channel.{IsChannel};
+ghost use Rattle.emtp_case.specs.held.Name.{IsName};
+ghost use Rattle.emtp_case.specs.held.Sizes.{sizes_of, sizes_with};
+ghost use Rattle.emtp_case.specs.held.Switch.{IsSwitch};
 
 use emtp_case::{Case, Channel, Draft, Lumped, Name, RunData, Switch, SwitchKind};
 use emtp_comtrade::{scales, write_cfg, write_dat};

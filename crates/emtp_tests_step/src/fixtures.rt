@@ -2,10 +2,10 @@
 
 ghost use Rattle.std.specs.Prelude.{◌≡◌, ◌<◌, ◌≤◌, ◌^◌, [], false, length, pos, true, unsigned_abs};
 ghost use Rattle.std.specs.List.{list_any};
-ghost use Rattle.emtp_case.specs.Branch.{HasLineNumbers, HasSeriesNumbers, IsCharacteristic};
+ghost use Rattle.emtp_case.specs.held.Branch.{HasLineNumbers, HasSeriesNumbers, IsCharacteristic};
 ghost use Rattle.emtp_case.specs.HistoryValues.{travel_steps};
-ghost use Rattle.emtp_case.specs.Range.{AreEnds};
-ghost use Rattle.emtp_case.specs.RunData.{IsRun};
+ghost use Rattle.emtp_case.specs.held.Range.{AreEnds};
+ghost use Rattle.emtp_case.specs.held.RunData.{IsRun};
 ghost use Rattle.emtp_case.specs.Source.{is_voltage_source_at};
 
 use emtp_case::{

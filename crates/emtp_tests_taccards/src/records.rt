@@ -1,7 +1,7 @@
 //! The record of a card of each kind. The numbers are worked out by hand.
 
 ghost use Rattle.std.specs.Prelude.{◌≤◌, Ok, length, IfSome};
-ghost use Rattle.emtp_case.specs.Expr.{IsWhole};
+ghost use Rattle.emtp_case.specs.held.Expr.{IsWhole};
 
 use emtp_card::{Line, MAX_BYTES};
 use emtp_case::{BinaryOp, DeviceCode, Group, Items, Name, Node, Shape};

@@ -1,14 +1,14 @@
 -- What the deck keeps when a branch is added.
 use Rattle.std.proofs.Common.{◌≡◌, ◌+◌, ◌≤◌, ◌++◌, ◌∷◌, [], Ok, arith, drop, false, length, length-drop, refl, subst, sym, true}
 use Rattle.std.proofs.lemmas.List.{take_all}
-use Rattle.emtp_case.specs.Branch.{IsCharacteristic}
-use Rattle.emtp_walk.specs.Sound.{IsEntry, IsGroupOf, IsWhole, has_points, is_pseudo, is_reactor}
+use Rattle.emtp_case.specs.held.Branch.{IsCharacteristic}
+use Rattle.emtp_walk.specs.held.Sound.{IsEntry, IsGroupOf, IsWhole, has_points, is_pseudo, is_reactor}
 use Rattle.emtp_walk.specs.Walk.{end_group, is_phase, with_card}
 use Rattle.emtp_walk.specs.declared.deck.BranchEntry.{BranchEntry}
 use Rattle.emtp_walk.specs.declared.deck.BranchEntry.TheVariants.{Single}
 use Rattle.emtp_walk.specs.declared.deck.Deck.{Deck}
 use Rattle.emtp_walk.specs.declared.deck.Group.{Group}
-use Rattle.emtp_netcards.specs.BranchCard.{HasNumbers, kind_of_values}
+use Rattle.emtp_netcards.specs.held.BranchCard.{HasNumbers, kind_of_values}
 use Rattle.emtp_netcards.specs.declared.branch_card.BranchCard.{BranchCard}
 use Rattle.emtp_netcards.specs.declared.branch_card.BranchValues.{BranchValues}
 use Rattle.emtp_netcards.specs.declared.branch_card.BranchValues.TheVariants.{Line as LineCard, Lumped as LumpedCard, Reactor as ReactorCard, Resistor as ResistorCard, Second as SecondCard, Third as ThirdCard}

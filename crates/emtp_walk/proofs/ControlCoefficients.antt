@@ -10,14 +10,16 @@ use Rattle.emtp_card.specs.declared.reason.Why.TheVariants.{OutOfUnitRange}
 use Rattle.emtp_card.proofs.Faults.{AreNone, judge_due_none, least_none}
 use Rattle.emtp_taccards.specs.PolynomialCard.{coefficient_field, coefficients, polynomial_card, polynomial_fault, powers}
 use Rattle.emtp_card.specs.declared.reason.Bad.{Bad}
-use Rattle.emtp_case.specs.Control.{bilinear, coefficient_sum, HasWay, power_of, quotient_of}
+use Rattle.emtp_case.specs.Control.{bilinear, coefficient_sum, power_of, quotient_of}
+use Rattle.emtp_case.specs.held.Control.{HasWay}
 use Rattle.emtp_case.specs.Sums.{sum_upto}
 use Rattle.emtp_fix.specs.Rounding.{near}
 use Rattle.emtp_fix.proofs.Quotients.{near-exact}
-use Rattle.emtp_netcards.specs.Fields.{IsSmall}
+use Rattle.emtp_netcards.specs.held.Fields.{IsSmall}
 use Rattle.emtp_walk.proofs.NoBad.{nothing_before}
 use Rattle.emtp_walk.specs.Answer.{first_bad}
-use Rattle.emtp_walk.specs.Coefficients.{IsBlockDue, IsBlockEntry, IsPolynomial, coefficients_fault, divided_by, gain_bad, is_large, quotients_bad, range_bad, stays, taken_by, taken_field, transfer}
+use Rattle.emtp_walk.specs.Coefficients.{coefficients_fault, divided_by, gain_bad, is_large, quotients_bad, range_bad, stays, taken_by, taken_field}
+use Rattle.emtp_walk.specs.held.Coefficients.{IsBlockDue, IsBlockEntry, IsPolynomial, transfer}
 use Rattle.emtp_walk.specs.declared.control_cards.BlockEntry.{BlockEntry}
 
 -- ---- tests

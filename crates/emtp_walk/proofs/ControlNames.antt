@@ -12,10 +12,10 @@ use Rattle.emtp_card.specs.declared.reason.Bad.{Bad}
 use Rattle.emtp_card.specs.declared.reason.Why.{Why}
 use Rattle.emtp_card.specs.declared.reason.Why.TheVariants.{BadName}
 use Rattle.emtp_card.proofs.Names.{field_is_name}
-use Rattle.emtp_case.specs.Name.{IsName}
+use Rattle.emtp_case.specs.held.Name.{IsName}
 use Rattle.emtp_case.specs.declared.control.DeviceCode.{DeviceCode}
 use Rattle.emtp_case.specs.declared.control.Group.{Group}
-use Rattle.emtp_walk.specs.Sound.{IsExtraDue}
+use Rattle.emtp_walk.specs.held.Sound.{IsExtraDue}
 use Rattle.emtp_expr.specs.Parsing.{expression_of}
 use Rattle.emtp_expr.specs.declared.parsing.Parsed.{Parsed}
 use Rattle.emtp_netcards.specs.Fields.{needed}
@@ -23,7 +23,8 @@ use Rattle.emtp_netcards.specs.SourceCard.{unless_judged}
 use Rattle.emtp_netcards.specs.declared.source_card.SourceCard.{SourceCard}
 use Rattle.emtp_taccards.specs.BlockCard.{block_card, block_fault, block_with}
 use Rattle.emtp_taccards.specs.DeviceCard.{code_field, device_card, device_fault, device_with}
-use Rattle.emtp_taccards.specs.ExtraCard.{HasExtraNumbers, as_device, as_formula, extra_card, is_formula}
+use Rattle.emtp_taccards.specs.ExtraCard.{as_device, as_formula, extra_card, is_formula}
+use Rattle.emtp_taccards.specs.held.ExtraCard.{HasExtraNumbers}
 use Rattle.emtp_taccards.specs.FormulaCard.{expression_text, formula_card, formula_fault, formula_with}
 use Rattle.emtp_taccards.specs.Group.{group_field}
 use Rattle.emtp_taccards.specs.TacsSourceCard.{driven, is_measured, measured, signal_field, tacs_source_card, tacs_source_fault, tacs_source_with}

@@ -1,8 +1,8 @@
 -- What the deck keeps when a card of the control is added.
 use Rattle.std.proofs.Common.{List}
-use Rattle.emtp_walk.specs.Coefficients.{IsBlockEntry}
+use Rattle.emtp_walk.specs.held.Coefficients.{IsBlockEntry}
 use Rattle.emtp_walk.specs.ControlSteps.{keep_block, keep_extra, with_tacs_output, with_tacs_source}
-use Rattle.emtp_walk.specs.Sound.{IsExtraEntry, IsTacsSourceCard, IsWhole}
+use Rattle.emtp_walk.specs.held.Sound.{IsExtraEntry, IsTacsSourceCard, IsWhole}
 use Rattle.emtp_walk.specs.declared.control_cards.BlockEntry.{BlockEntry}
 use Rattle.emtp_walk.specs.declared.control_cards.ExtraEntry.{ExtraEntry}
 use Rattle.emtp_walk.specs.declared.deck.Deck.{Deck}

@@ -7,15 +7,16 @@ use Rattle.std.proofs.lemmas.List.Elements.{All-nil}
 use Rattle.std.proofs.lemmas.Option.{slice_get-get_or}
 use Rattle.std.specs.Prelude.{slice_get, int_lt, int_le}
 use Rattle.emtp_case.specs.Branch.{origin, points_of}
-use Rattle.emtp_case.specs.Control.{AreTimes, HasDevicePoints, IsTable}
+use Rattle.emtp_case.specs.held.Control.{AreTimes, HasDevicePoints, IsTable}
 use Rattle.emtp_case.specs.declared.branch.Point.{Point}
 use Rattle.emtp_case.specs.declared.control.DeviceCode.{DeviceCode}
 use Rattle.emtp_case.specs.declared.control.DeviceCode.TheVariants.{Counter, Delay, DelayedPulse, Derivative, EffectiveValue, Extreme, Gate, GateAbove, Integral, PeakHold, SampleHold, Selector, Table, Window}
 use Rattle.emtp_walk.specs.ControlSteps.{device_scale, points_follow}
-use Rattle.emtp_walk.specs.Sound.{AreInTurn, IsDeviceDue, IsDeviceEntry, IsDeviceGroup, before_at}
+use Rattle.emtp_walk.specs.held.Sound.{AreInTurn, IsDeviceDue, IsDeviceEntry, IsDeviceGroup, before_at}
 use Rattle.emtp_walk.specs.declared.control_cards.DeviceGroup.{DeviceGroup}
 use Rattle.emtp_walk.specs.declared.deck.Deck.{Deck}
-use Rattle.emtp_netcards.specs.PointCard.{Follows, IsPointOf, fewest_of}
+use Rattle.emtp_netcards.specs.PointCard.{fewest_of}
+use Rattle.emtp_netcards.specs.held.PointCard.{Follows, IsPointOf}
 use Rattle.emtp_netcards.specs.declared.point_card.PointScale.{PointScale}
 use Rattle.emtp_netcards.specs.declared.point_card.PointScale.TheVariants.{Table as TableScale, Times as TimesScale}
 use Rattle.emtp_taccards.specs.declared.device_card.DeviceCard.{DeviceCard}

@@ -4,13 +4,14 @@ use Rattle.std.specs.Prelude.{All}
 use Rattle.std.proofs.lemmas.Bool.{cases_lt}
 use Rattle.std.proofs.lemmas.List.Elements.{All-append, All-cons, All-nil}
 use Rattle.std.proofs.lemmas.List.{take-append-le}
-use Rattle.emtp_case.specs.Branch.{IsCharacteristic, IsSegment, origin, points_of}
+use Rattle.emtp_case.specs.Branch.{origin, points_of}
+use Rattle.emtp_case.specs.held.Branch.{IsCharacteristic, IsSegment}
 use Rattle.emtp_case.specs.declared.branch.Point.{Point}
 use Rattle.emtp_case.specs.declared.run_data.RunData.{RunData}
-use Rattle.emtp_case.specs.Control.{HasDevicePoints}
-use Rattle.emtp_walk.specs.Coefficients.{IsBlockEntry}
+use Rattle.emtp_case.specs.held.Control.{HasDevicePoints}
+use Rattle.emtp_walk.specs.held.Coefficients.{IsBlockEntry}
 use Rattle.emtp_walk.specs.ControlSteps.{no_control}
-use Rattle.emtp_walk.specs.Sound.{IsControlWhole, IsEntry, IsExtraEntry, IsGroupOf, IsHead, IsTacsSourceCard, IsWhole, is_pseudo, is_reactor}
+use Rattle.emtp_walk.specs.held.Sound.{IsControlWhole, IsEntry, IsExtraEntry, IsGroupOf, IsHead, IsTacsSourceCard, IsWhole, is_pseudo, is_reactor}
 use Rattle.emtp_walk.specs.declared.control_cards.ExtraEntry.{ExtraEntry}
 use Rattle.emtp_walk.specs.declared.control_cards.ExtraEntry.TheVariants.{Device as DeviceEntry, Formula as FormulaEntry}
 use Rattle.emtp_walk.specs.Walk.{scale_by, scale_of}
@@ -18,9 +19,10 @@ use Rattle.emtp_walk.specs.declared.deck.BranchEntry.{BranchEntry}
 use Rattle.emtp_walk.specs.declared.deck.BranchEntry.TheVariants.{Single, Trio}
 use Rattle.emtp_walk.specs.declared.deck.Deck.{Deck}
 use Rattle.emtp_walk.specs.declared.deck.Group.{Group}
-use Rattle.emtp_netcards.specs.PointCard.{Follows, IsPointOf, origin_or}
-use Rattle.emtp_netcards.specs.SourceCard.{HasSourceCardNumbers}
-use Rattle.emtp_netcards.specs.SwitchCard.{HasSwitchNumbers}
+use Rattle.emtp_netcards.specs.PointCard.{origin_or}
+use Rattle.emtp_netcards.specs.held.PointCard.{Follows, IsPointOf}
+use Rattle.emtp_netcards.specs.held.SourceCard.{HasSourceCardNumbers}
+use Rattle.emtp_netcards.specs.held.SwitchCard.{HasSwitchNumbers}
 use Rattle.emtp_netcards.specs.declared.branch_card.BranchValues.{BranchValues}
 use Rattle.emtp_netcards.specs.declared.branch_card.BranchValues.TheVariants.{Line as LineCard, Lumped as LumpedCard, Reactor as ReactorCard, Resistor as ResistorCard, Second as SecondCard, Third as ThirdCard}
 

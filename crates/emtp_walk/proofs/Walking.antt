@@ -5,8 +5,9 @@ use Rattle.std.proofs.lemmas.Option.{slice_get_within, get_or_from_slice_get}
 use Rattle.emtp_card.specs.declared.reason.Bad.{Bad}
 use Rattle.emtp_card.specs.declared.reason.Refused.{Refused}
 use Rattle.emtp_card.specs.declared.reason.Refused.TheVariants.{Bad as OfBad, NoMemory}
-use Rattle.emtp_walk.specs.Answer.{IfBad, IsWant, Leaves, go_on}
-use Rattle.emtp_walk.specs.Sound.{IsControlSound, IsSound, IsWhole}
+use Rattle.emtp_walk.specs.Answer.{go_on}
+use Rattle.emtp_walk.specs.held.Answer.{IfBad, IsWant, Leaves}
+use Rattle.emtp_walk.specs.held.Sound.{IsControlSound, IsSound, IsWhole}
 use Rattle.emtp_walk.specs.Walk.{advance, walk}
 use Rattle.emtp_walk.specs.declared.control_cards.ControlPlace.{ControlPlace}
 use Rattle.emtp_walk.specs.declared.control_cards.ControlPlace.TheVariants.{Blocks, Denominator, DevicePoints, Extras, Initial, Numerator, TacsOutputs, TacsSources}

@@ -1,24 +1,18 @@
 -- The coefficients of a block: the cards of its numerator and its denominator, and what their sum divides.
 use Rattle.std.specs.Ordering.{int_eq}
-use Rattle.std.specs.Prelude.{All, Bool, Err, List, None, Ok, Option, Result, Some, [], if◌then◌else◌, map, nat_le, nat_lt, pos, slice_index_or, suc, true, unsigned_abs, zero, ℕ, ℤ, ◌&&◌, ◌*ℤ◌, ◌*◌, ◌+◌, ◌^◌, ◌≤◌}
+use Rattle.std.specs.Prelude.{Bool, Err, List, None, Ok, Option, Result, Some, if◌then◌else◌, map, nat_le, nat_lt, pos, suc, true, unsigned_abs, zero, ℕ, ℤ, ◌&&◌, ◌*ℤ◌, ◌*◌, ◌+◌, ◌^◌}
 use Rattle.emtp_card.specs.Fault.{fault_at, judge_due, least}
 use Rattle.emtp_card.specs.declared.fault.Fault.{Fault}
 use Rattle.emtp_card.specs.declared.reason.Bad.{Bad}
 use Rattle.emtp_card.specs.declared.reason.Why.{Why}
 use Rattle.emtp_card.specs.declared.reason.Why.TheVariants.{OutOfUnitRange}
-use Rattle.emtp_case.specs.Control.{bilinear, HasCoefficients, HasWay, power_of, quotient_of, step_gain}
+use Rattle.emtp_case.specs.Control.{bilinear, power_of, quotient_of}
 use Rattle.emtp_case.specs.Sums.{sum_upto}
-use Rattle.emtp_case.specs.Name.{IsName}
-use Rattle.emtp_case.specs.declared.control.Block.{Block}
-use Rattle.emtp_case.specs.declared.control.Bound.TheVariants.{None as NoBound}
 use Rattle.emtp_walk.specs.Answer.{first_bad}
 use Rattle.emtp_walk.specs.declared.control_cards.BlockEntry.{BlockEntry}
 use Rattle.emtp_fix.specs.Rounding.{near}
-use Rattle.emtp_netcards.specs.Fields.{IsSmall}
 use Rattle.emtp_netcards.specs.SourceCard.{unless_judged}
-use Rattle.emtp_taccards.specs.BlockCard.{HasBlockNumbers, HasLimitsInOrder}
 use Rattle.emtp_taccards.specs.PolynomialCard.{coefficient_field, polynomial_card, powers}
-use Rattle.emtp_taccards.specs.declared.block_card.BlockCard.{BlockCard}
 
 -- ---- cards
 
@@ -72,37 +66,3 @@ unfoldable pub divided_bad : ℤ → BlockEntry → ℕ → ℕ → Option Bad
 divided_bad dt e top bottom =
     let divisor = sum_upto e.card.order (power_of dt e.bottom) in
     if int_eq divisor (pos 0) then range_bad bottom 1 true else divided_by dt e top bottom divisor
-
--- ---- what a block keeps
-
--- the coefficients of a card
-pub record IsPolynomial (dt : ℤ) (order : ℕ) (card : List ℤ) : Type 0 where
-  pub small : All IsSmall card
-  pub way : (power : ℕ) → power ≤ order → HasWay dt (slice_index_or card power (pos 0)) power
-
--- a block whose coefficients are due
-pub record IsBlockDue (card : BlockCard) : Type 0 where
-  pub name : IsName card.name
-  pub numbers : HasBlockNumbers card
-  pub limits : HasLimitsInOrder card
-
--- a block as far as its coefficients go
-abbrev pub transfer : BlockEntry → Block
-transfer e = record {
-  line = e.card.line;
-  var = 0;
-  order = e.card.order;
-  inputs = [];
-  gain = e.card.gain;
-  top = e.top;
-  bottom = e.bottom;
-  low = NoBound;
-  high = NoBound;
-}
-
-pub record IsBlockEntry (dt : ℤ) (e : BlockEntry) : Type 0 where
-  pub card : IsBlockDue e.card
-  pub top : All IsSmall e.top
-  pub bottom : All IsSmall e.bottom
-  pub coefficients : 1 ≤ e.card.order → HasCoefficients dt (transfer e)
-  pub within_step : unsigned_abs (step_gain dt (transfer e)) ≤ 10 ^ 18

@@ -1,11 +1,11 @@
 //! Lines of the branch section.
 
 ghost use Rattle.std.specs.Prelude.{◌≡◌, ◌<◌, ◌+◌, ◌≤◌, length, Ok, Err, IfOk, IfErr, false};
-ghost use Rattle.emtp_walk.specs.Answer.{IsWant, Leaves};
-ghost use Rattle.emtp_walk.specs.Sound.{IsGroupOf, IsSound, IsTrioEntry, IsWaiting, IsWhole, has_points};
+ghost use Rattle.emtp_walk.specs.held.Answer.{IsWant, Leaves};
+ghost use Rattle.emtp_walk.specs.held.Sound.{IsGroupOf, IsSound, IsTrioEntry, IsWaiting, IsWhole, has_points};
 ghost use Rattle.emtp_walk.specs.Walk.{branch_step, card_step, end_group, is_phase, is_second, point_step, scale_of, start_step, take_branch, take_point, take_third, third_step, waiting_step, with_card};
-ghost use Rattle.emtp_netcards.specs.BranchCard.{HasNumbers, kind_of_values};
-ghost use Rattle.emtp_netcards.specs.PointCard.{Follows, IsPointOf};
+ghost use Rattle.emtp_netcards.specs.held.BranchCard.{HasNumbers, kind_of_values};
+ghost use Rattle.emtp_netcards.specs.held.PointCard.{Follows, IsPointOf};
 
 use crate::control_cards::ControlPlace;
 use crate::deck::{BranchEntry, Deck, Group, Place};

@@ -3,9 +3,10 @@
 ghost use Rattle.std.specs.Prelude.{◌≡◌, ℕ, ◌≢◌, ◌*◌, ◌^◌, ◌≤◌, length, pos, unsigned_abs, IfOk, IfNone};
 ghost use Rattle.emtp_case.specs.Control.{bilinear, quotient_of};
 ghost use Rattle.emtp_case.specs.Sums.{sum_upto};
-ghost use Rattle.emtp_case.specs.Range.{IsBetween};
-ghost use Rattle.emtp_walk.specs.Coefficients.{IsBlockDue, IsBlockEntry, IsPolynomial, coefficient_card, coefficients_fault, divided_bad, divided_by, gain_bad, is_large, quotients_bad, range_bad, stays, taken_field};
-ghost use Rattle.emtp_netcards.specs.Fields.{IsSmall};
+ghost use Rattle.emtp_case.specs.held.Range.{IsBetween};
+ghost use Rattle.emtp_walk.specs.Coefficients.{coefficient_card, coefficients_fault, divided_bad, divided_by, gain_bad, is_large, quotients_bad, range_bad, stays, taken_field};
+ghost use Rattle.emtp_walk.specs.held.Coefficients.{IsBlockDue, IsBlockEntry, IsPolynomial};
+ghost use Rattle.emtp_netcards.specs.held.Fields.{IsSmall};
 ghost use Rattle.emtp_taccards.specs.PolynomialCard.{coefficient_field};
 
 use crate::control_cards::BlockEntry;

@@ -1,10 +1,10 @@
 //! Lines of the control: five sections, each ended by a line that ends a section.
 
 ghost use Rattle.std.specs.Prelude.{◌≡◌, ◌≤◌, length, Ok, Err, IfOk, IfErr, false};
-ghost use Rattle.emtp_walk.specs.Answer.{Answers, IsWant, Leaves};
+ghost use Rattle.emtp_walk.specs.held.Answer.{Answers, IsWant, Leaves};
 ghost use Rattle.emtp_walk.specs.ControlSteps.{block_step, control_step, denominator_step, initial_place, keep_block, numerator_step, tacs_output_step, tacs_source_step, take_block};
-ghost use Rattle.emtp_walk.specs.Coefficients.{IsBlockDue, IsBlockEntry, IsPolynomial};
-ghost use Rattle.emtp_walk.specs.Sound.{IsControlSound, IsSound, IsWhole};
+ghost use Rattle.emtp_walk.specs.held.Coefficients.{IsBlockDue, IsBlockEntry, IsPolynomial};
+ghost use Rattle.emtp_walk.specs.held.Sound.{IsControlSound, IsSound, IsWhole};
 
 use crate::coefficients::{coefficient_card, divided_bad};
 use crate::control_cards::{BlockEntry, ControlPlace, TacsOutputEntry};

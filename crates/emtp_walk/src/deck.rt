@@ -1,10 +1,10 @@
 //! The cards of a case, section by section, and the place of the next line.
 
 ghost use Rattle.std.specs.Prelude.{◌≡◌, IfOk, IfErr};
-ghost use Rattle.emtp_walk.specs.Answer.{IsWant};
-ghost use Rattle.emtp_walk.specs.Sound.{IsTrioEntry, IsWhole};
+ghost use Rattle.emtp_walk.specs.held.Answer.{IsWant};
+ghost use Rattle.emtp_walk.specs.held.Sound.{IsTrioEntry, IsWhole};
 ghost use Rattle.emtp_walk.specs.Walk.{empty_deck, with_trio};
-ghost use Rattle.emtp_netcards.specs.BranchCard.{HasNumbers};
+ghost use Rattle.emtp_netcards.specs.held.BranchCard.{HasNumbers};
 
 use crate::control_cards::{ControlCards, ControlPlace};
 use emtp_card::Refused;

@@ -1,10 +1,11 @@
 //! Lines of the section of supplemental cards, and the points and times that follow them.
 
 ghost use Rattle.std.specs.Prelude.{◌≡◌, ◌<◌, ◌≤◌, length, Ok, Err, IfOk, IfErr};
-ghost use Rattle.emtp_walk.specs.Answer.{IsWant, Leaves};
+ghost use Rattle.emtp_walk.specs.held.Answer.{IsWant, Leaves};
 ghost use Rattle.emtp_walk.specs.ControlSteps.{device_point_step, device_scale, end_device, extra_step, keep_extra, points_follow, take_device, take_device_point, take_extra};
-ghost use Rattle.emtp_walk.specs.Sound.{IsDeviceGroup, IsDeviceDue, IsExtraDue, IsExtraEntry, IsSound, IsWhole};
-ghost use Rattle.emtp_netcards.specs.PointCard.{Follows, IsPointOf, fewest_of};
+ghost use Rattle.emtp_walk.specs.held.Sound.{IsDeviceGroup, IsDeviceDue, IsExtraDue, IsExtraEntry, IsSound, IsWhole};
+ghost use Rattle.emtp_netcards.specs.PointCard.{fewest_of};
+ghost use Rattle.emtp_netcards.specs.held.PointCard.{Follows, IsPointOf};
 
 use crate::control_cards::{ControlPlace, DeviceGroup, ExtraEntry};
 use crate::deck::{Deck, Place};

@@ -1,8 +1,8 @@
 //! Lines of the sections after the branches.
 
 ghost use Rattle.std.specs.Prelude.{◌≤◌, length, Ok, Err, IfOk};
-ghost use Rattle.emtp_walk.specs.Answer.{Leaves};
-ghost use Rattle.emtp_walk.specs.Sound.{IsSound, IsWhole};
+ghost use Rattle.emtp_walk.specs.held.Answer.{Leaves};
+ghost use Rattle.emtp_walk.specs.held.Sound.{IsSound, IsWhole};
 ghost use Rattle.emtp_walk.specs.Walk.{output_step, source_step, switch_step};
 
 use crate::deck::{Deck, OutputEntry, Place};

@@ -1,11 +1,11 @@
 //! The walk over all lines of a case.
 
 ghost use Rattle.std.specs.Prelude.{◌≡◌, ◌≤◌, length, Ok, Err, IfOk, IfErr, true};
-ghost use Rattle.emtp_walk.specs.Answer.{Answers, IfBad, Leaves};
+ghost use Rattle.emtp_walk.specs.held.Answer.{Answers, IfBad, Leaves};
 ghost use Rattle.emtp_walk.specs.LineRead.{order_fault};
-ghost use Rattle.emtp_walk.specs.Sound.{IsHead, IsSound, IsWhole};
+ghost use Rattle.emtp_walk.specs.held.Sound.{IsHead, IsSound, IsWhole};
 ghost use Rattle.emtp_walk.specs.Walk.{advance, after_place, begin_fault, begin_place, empty_deck, first_step, second_step, step, times_step, tolerance_step, walk};
-ghost use Rattle.emtp_walk.specs.WalkPlaces.{IsBeginning, IsEnding};
+ghost use Rattle.emtp_walk.specs.held.WalkPlaces.{IsBeginning, IsEnding};
 
 use crate::branch_steps::{branch_step, point_step, start_step, third_step, waiting_step};
 use crate::control_steps::control_step;

@@ -7,7 +7,8 @@ use Rattle.emtp_card.specs.declared.fault.Fault.{Fault}
 use Rattle.emtp_card.specs.declared.reason.Bad.{Bad}
 use Rattle.emtp_card.specs.declared.reason.Why.{Why}
 use Rattle.emtp_case.specs.declared.branch.Point.{Point}
-use Rattle.emtp_netcards.specs.PointCard.{ending_number, fewest_fault, first_field, is_ending, is_number, next_fault, next_point, point_card, point_fault, point_of, second_field}
+use Rattle.emtp_netcards.specs.PointCard.{ending_number, fewest_fault, first_field, is_ending, is_number, next_fault, next_point, point_of, second_field}
+use Rattle.emtp_netcards.specs.held.PointCard.{point_card, point_fault}
 use Rattle.emtp_netcards.specs.declared.point_card.PointScale.{PointScale}
 use Rattle.emtp_netcards.specs.declared.point_card.PointScale.TheVariants.{Reactor, Resistor, Table, Times}
 use Rattle.emtp_warnings.proofs.Agreeing.{has_field, number_under}

@@ -9,7 +9,7 @@ use Rattle.emtp_card.specs.declared.reason.Bad.{Bad}
 use Rattle.emtp_card.specs.declared.reason.Why.{Why}
 use Rattle.emtp_case.specs.declared.branch.Point.{Point}
 use Rattle.emtp_netcards.specs.BranchCard.{kind_field}
-use Rattle.emtp_netcards.specs.PointCard.{point_card}
+use Rattle.emtp_netcards.specs.held.PointCard.{point_card}
 use Rattle.emtp_netcards.specs.VintageCard.{vintage_card}
 use Rattle.emtp_netcards.specs.declared.branch_card.BranchKind.{BranchKind}
 use Rattle.emtp_netcards.specs.declared.branch_card.BranchKind.TheVariants.{Line as LineKind, Reactor as ReactorKind, Resistor as ResistorKind, Second as SecondKind, Series as SeriesKind, Third as ThirdKind}

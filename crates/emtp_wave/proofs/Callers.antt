@@ -1,9 +1,9 @@
 -- For the crates above: the sources of a network have waves.
-use Rattle.emtp_case.specs.Sizes.{Sizes}
-use Rattle.emtp_case.specs.Source.{IsNetworkShape}
+use Rattle.emtp_case.specs.held.Sizes.{Sizes}
+use Rattle.emtp_case.specs.held.Source.{IsNetworkShape}
 use Rattle.emtp_case.specs.declared.source.Shape.{Shape}
 use Rattle.emtp_case.specs.declared.source.Shape.TheVariants.{Cosine, NodeVoltage, Pulse, Ramp, Saw, Step, SwitchCurrent, SwitchStatus, Tacs}
-use Rattle.emtp_wave.specs.Wave.{HasWave}
+use Rattle.emtp_wave.specs.held.Wave.{HasWave}
 
 pub network_has_wave : (n : Sizes) (s : Shape) → IsNetworkShape n s → HasWave n.vars s
 network_has_wave n Step h = tt

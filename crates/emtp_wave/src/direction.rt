@@ -2,7 +2,8 @@
 
 ghost use Rattle.std.specs.Prelude.{◌≡◌, ◌^◌, ◌*◌, ◌≤◌, ◌+ℤ◌, ◌-ℤ◌, ◌*ℤ◌, pos, unsigned_abs};
 ghost use Rattle.emtp_fix.specs.Rounding.{near};
-ghost use Rattle.emtp_wave.specs.Cosine.{IsSmall, turned, rounded};
+ghost use Rattle.emtp_wave.specs.Cosine.{turned, rounded};
+ghost use Rattle.emtp_wave.specs.held.Cosine.{IsSmall};
 
 use emtp_fix::{ATTO, near};
 

@@ -2,7 +2,8 @@
 
 ghost use Rattle.std.specs.Prelude.{◌≡◌, ◌^◌, ◌*◌, ◌≤◌, ◌<◌, ◌*ℤ◌, pos, unsigned_abs, ℤ, List, IfOk};
 ghost use Rattle.emtp_fix.specs.Rounding.{near};
-ghost use Rattle.emtp_wave.specs.Cosine.{table, entry, near_entry, between, in_quarter, in_turn, reduced, cosine};
+ghost use Rattle.emtp_wave.specs.Cosine.{entry, near_entry, between, in_quarter, in_turn, reduced, cosine};
+ghost use Rattle.emtp_wave.specs.held.Cosine.{table};
 
 use crate::direction::{EAST, rounded, turned};
 use emtp_fix::{ATTO, scaled};
@@ -23,7 +24,7 @@ pub struct CosTable {
 
 impl Model for CosTable {
     ghost use Rattle.std.specs.Prelude.{◌≡◌, List, ℤ};
-    ghost use Rattle.emtp_wave.specs.Cosine.{table};
+    ghost use Rattle.emtp_wave.specs.held.Cosine.{table};
 
     ghost Value = { List ℤ };
 

@@ -1,7 +1,7 @@
 //! The worked three-phase lines: sequences that travel apart, one with losses, and one of the least impedance.
 
 ghost use Rattle.std.specs.Prelude.{◌≡◌, ◌≤◌, ◌<◌, length, IfOk};
-ghost use Rattle.emtp_case.specs.Branch.{IsTrio};
+ghost use Rattle.emtp_case.specs.held.Branch.{IsTrio};
 ghost use Rattle.emtp_case.specs.HistoryValues.{trio_history_values};
 ghost use Rattle.emtp_tests_laws.specs.Phases.{leg, three_legs};
 

@@ -1,7 +1,7 @@
 use Rattle.std.proofs.Common.{◌≡◌, ◌∙◌, sym, ap, Some, to_z, of_z, arith}
 use mir.Syntax.{w64}
 use Rattle.std.proofs.lemmas.Int.{ints}
-use Rattle.emtp_case.specs.Sizes.{sizes_of}
+use Rattle.emtp_case.specs.held.Sizes.{sizes_of}
 use Rattle.emtp_admittance.specs.Refusals.{first_frequency}
 use Rattle.emtp_admittance.proofs.Frequencies.{first_range}
 use Rattle.emtp_admittance.proofs.refusals.judged_frequency.Goals as goal

@@ -3,7 +3,7 @@ use Rattle.std.specs.Prelude.{All}
 use Rattle.std.proofs.lemmas.List.Elements.{All-append, All-cons, All-nil}
 use Rattle.emtp_comtrade.specs.Record.{is_analog_at}
 use Rattle.emtp_comtrade.proofs.Places.{count_below-le}
-use Rattle.emtp_audit.specs.Dat.{IsScale}
+use Rattle.emtp_audit.specs.held.Dat.{IsScale}
 use Rattle.emtp_audit.proofs.cfg.push_scale.Goals as goal
 
 pub overflow_cast-len : goal.overflow_cast-len

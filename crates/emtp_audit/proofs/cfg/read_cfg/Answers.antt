@@ -7,7 +7,7 @@ use Rattle.emtp_comtrade.specs.Record.{joined, analog_before}
 use Rattle.emtp_audit.specs.Cfg.{analog_rule_at, status_rule_at, middle_rules, end_rules, rates_in, rates_on, unit_on, file_line, scale_on, analog_scales, scales_in, cfg_differs}
 use Rattle.emtp_audit.specs.Dat.{scales_of}
 use Rattle.emtp_audit.specs.Rules.{LineRule, audited_lines}
-use Rattle.emtp_audit.specs.Walk.{LinesLeft, StopsAt, finds_lines}
+use Rattle.emtp_audit.specs.held.Walk.{LinesLeft, StopsAt, finds_lines}
 use Rattle.emtp_audit.specs.declared.scale.Scale.{Scale}
 use Rattle.emtp_audit.proofs.Answering.{on_differs}
 use Rattle.emtp_audit.proofs.CfgPlaces.{scales-behind, behind-channels, cfg-start}

@@ -1,7 +1,7 @@
 use Rattle.std.proofs.Common.{◌≡◌, ◌∙◌, sym, ap, ℕ, ◌∷◌, ◌++◌, List}
 use Rattle.emtp_audit.specs.Cfg.{rates_rule, rate_rules, end_rules, file_line, rates_on}
 use Rattle.emtp_audit.specs.Rules.{LineRule}
-use Rattle.emtp_audit.specs.Walk.{finds_lines}
+use Rattle.emtp_audit.specs.held.Walk.{finds_lines}
 use Rattle.emtp_audit.proofs.cfg.read_end.Goals as goal
 
 pub returns-in-Err-clause-same : goal.returns-in-Err-clause-same

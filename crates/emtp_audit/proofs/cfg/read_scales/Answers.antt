@@ -1,7 +1,7 @@
 use Rattle.std.proofs.Common.{◌∙◌, ap, length, arith}
 use Rattle.emtp_comtrade.specs.Record.{analog_before, joined}
 use Rattle.emtp_audit.specs.Cfg.{analog_rule_at, scale_on, file_line}
-use Rattle.emtp_audit.specs.Walk.{StopsAt}
+use Rattle.emtp_audit.specs.held.Walk.{StopsAt}
 use Rattle.emtp_audit.proofs.Answering.{on_differs}
 use Rattle.emtp_audit.proofs.CfgPlaces.{scales-next}
 use Rattle.emtp_audit.proofs.Joined.{length-joined}

@@ -1,9 +1,10 @@
 use Rattle.std.proofs.Common.{◌≡◌}
 use Rattle.std.specs.Prelude.{All}
 use Rattle.emtp_comtrade.specs.Record.{joined, analog_before}
-use Rattle.emtp_audit.specs.Cfg.{analog_rule_at, analog_scales_on}
-use Rattle.emtp_audit.specs.Dat.{IsScale}
-use Rattle.emtp_audit.specs.Walk.{Passes}
+use Rattle.emtp_audit.specs.Cfg.{analog_rule_at}
+use Rattle.emtp_audit.specs.held.Cfg.{analog_scales_on}
+use Rattle.emtp_audit.specs.held.Dat.{IsScale}
+use Rattle.emtp_audit.specs.held.Walk.{Passes}
 use Rattle.emtp_audit.proofs.cfg.read_scales.Given as goal
 
 abbrev pub invariant-loop-place : goal.invariant-loop-place

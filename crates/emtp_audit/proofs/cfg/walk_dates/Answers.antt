@@ -1,7 +1,7 @@
 use Rattle.std.proofs.Common.{[], ◌∷◌}
 use Rattle.emtp_audit.specs.Cfg.{type_rule, date_rules}
 use Rattle.emtp_audit.specs.Rules.{Anything}
-use Rattle.emtp_audit.specs.Walk.{Passes, StopsAt}
+use Rattle.emtp_audit.specs.held.Walk.{Passes, StopsAt}
 use Rattle.emtp_audit.proofs.Answering.{on_ok, if_err}
 use Rattle.emtp_audit.proofs.LineWalks.{passes-both, stops-later, stops-more}
 use Rattle.emtp_audit.proofs.cfg.walk_dates.Goals as goal

@@ -1,7 +1,7 @@
 use Rattle.std.proofs.Common.{[], ◌∷◌, codes}
 use Rattle.emtp_audit.specs.Cfg.{head_rules, numbers_rule}
 use Rattle.emtp_audit.specs.Rules.{Fields, any_field, text_is}
-use Rattle.emtp_audit.specs.Walk.{Passes, StopsAt}
+use Rattle.emtp_audit.specs.held.Walk.{Passes, StopsAt}
 use Rattle.emtp_audit.proofs.Answering.{on_ok, if_err}
 use Rattle.emtp_audit.proofs.LineWalks.{passes-both, stops-later, stops-more}
 use Rattle.emtp_audit.proofs.cfg.walk_head.Goals as goal

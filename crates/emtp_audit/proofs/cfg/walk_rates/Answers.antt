@@ -2,7 +2,7 @@ use Rattle.std.proofs.Common.{◌-◌, [], ◌∷◌, List, pos}
 use Rattle.emtp_comtrade.specs.Record.{joined}
 use Rattle.emtp_audit.specs.Cfg.{rate_rule, rate_rules}
 use Rattle.emtp_audit.specs.Rules.{LineRule, Fields, any_field, number_is}
-use Rattle.emtp_audit.specs.Walk.{Passes, StopsAt}
+use Rattle.emtp_audit.specs.held.Walk.{Passes, StopsAt}
 use Rattle.emtp_audit.proofs.Answering.{on_ok, if_err}
 use Rattle.emtp_audit.proofs.LineWalks.{passes-both, stops-later, stops-more}
 use Rattle.emtp_audit.proofs.cfg.walk_rates.Goals as goal

@@ -1,7 +1,7 @@
 use Rattle.std.proofs.Common.{◌≡◌}
 use Rattle.emtp_comtrade.specs.Record.{joined, status_before}
 use Rattle.emtp_audit.specs.Cfg.{status_rule_at}
-use Rattle.emtp_audit.specs.Walk.{Passes}
+use Rattle.emtp_audit.specs.held.Walk.{Passes}
 use Rattle.emtp_audit.proofs.cfg.walk_statuses.Given as goal
 
 abbrev pub invariant-loop-place : goal.invariant-loop-place

@@ -2,7 +2,7 @@ use Rattle.std.proofs.Common.{◌∙◌, sym, ap, List, [], ◌∷◌, ◌++◌}
 use Rattle.std.specs.Prelude.{replicate}
 use Rattle.emtp_audit.specs.Cfg.{identity_rules, scale_rule}
 use Rattle.emtp_audit.specs.Rules.{Rule, any_field}
-use Rattle.emtp_audit.specs.Walk.{Walked, finds}
+use Rattle.emtp_audit.specs.held.Walk.{Walked, finds}
 use Rattle.emtp_audit.proofs.FieldNumbers.{scale_on-behind}
 use Rattle.emtp_audit.proofs.cfg_lines.scale_line.Goals as goal
 

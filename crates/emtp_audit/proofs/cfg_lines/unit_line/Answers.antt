@@ -4,7 +4,7 @@ use Rattle.std.proofs.lemmas.Int.{ints}
 use Rattle.emtp_fix.proofs.Wide.{through, through_64}
 use Rattle.emtp_audit.specs.Cfg.{is_read, unit_number}
 use Rattle.emtp_audit.specs.Rules.{Rule}
-use Rattle.emtp_audit.specs.Walk.{Walked, finds}
+use Rattle.emtp_audit.specs.held.Walk.{Walked, finds}
 use Rattle.emtp_audit.specs.declared.differs.DifferCause.TheVariants.{NotNumber}
 use Rattle.emtp_audit.proofs.FieldNumbers.{unit_on-first}
 use Rattle.emtp_audit.proofs.Walking.{walks-one}

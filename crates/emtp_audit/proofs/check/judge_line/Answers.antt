@@ -1,6 +1,6 @@
 use Rattle.std.proofs.Common.{◌∙◌, sym, ap, [], map, append-nil}
-use Rattle.emtp_audit.specs.Check.{rule_of}
-use Rattle.emtp_audit.specs.Walk.{Walked, finds}
+use Rattle.emtp_audit.specs.held.Check.{rule_of}
+use Rattle.emtp_audit.specs.held.Walk.{Walked, finds}
 use Rattle.emtp_audit.proofs.check.judge_line.Goals as goal
 
 pub returns-in-Ok : goal.returns-in-Ok

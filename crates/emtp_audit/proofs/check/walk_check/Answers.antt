@@ -1,4 +1,4 @@
-use Rattle.emtp_audit.specs.Check.{rule_of}
+use Rattle.emtp_audit.specs.held.Check.{rule_of}
 use Rattle.emtp_audit.proofs.Walking.{walks-one}
 use Rattle.emtp_audit.proofs.check.walk_check.Goals as goal
 

@@ -1,6 +1,6 @@
 use Rattle.std.proofs.Common.{◌≡◌, ◌+◌, Ok, map, take}
-use Rattle.emtp_audit.specs.Check.{rule_of}
-use Rattle.emtp_audit.specs.Walk.{Walks, Behind}
+use Rattle.emtp_audit.specs.held.Check.{rule_of}
+use Rattle.emtp_audit.specs.held.Walk.{Walks, Behind}
 use Rattle.emtp_audit.proofs.check.walk_checks.Given as goal
 
 abbrev pub invariant-loop-check : goal.invariant-loop-check

@@ -1,6 +1,6 @@
 use Rattle.std.proofs.Common.{◌∙◌, sym, ap, ℤ, pos, Option, unwrap_or, arith}
 use Rattle.emtp_fix.proofs.Wide.{through_64}
-use Rattle.emtp_audit.specs.Walk.{Walked}
+use Rattle.emtp_audit.specs.held.Walk.{Walked}
 use Rattle.emtp_audit.proofs.Reading.{stamp-none, stamp-one, stamp-two}
 use Rattle.emtp_audit.proofs.dat.stamp_in.Goals as goal
 

@@ -5,7 +5,7 @@ use Rattle.emtp_fix.proofs.Wide.{through_64}
 use Rattle.emtp_comtrade.specs.Record.{joined}
 use Rattle.emtp_audit.specs.Rules.{Rule, number_is}
 use Rattle.emtp_audit.specs.Dat.{scales_of, step_of, stamp_is, raw_rule_at, state_rule_at}
-use Rattle.emtp_audit.specs.Walk.{Walked, finds}
+use Rattle.emtp_audit.specs.held.Walk.{Walked, finds}
 use Rattle.emtp_audit.proofs.sample.read_line.Goals as goal
 
 -- a rule of a stamp at the numbers that were passed

@@ -2,7 +2,7 @@ use Rattle.std.proofs.Common.{◌≡◌, ◌+◌, ◌≤◌, Ok}
 use Rattle.emtp_comtrade.specs.Record.{analog_before}
 use Rattle.emtp_comtrade.specs.Record.{joined}
 use Rattle.emtp_audit.specs.Dat.{scales_of, raw_rule_at}
-use Rattle.emtp_audit.specs.Walk.{Walks}
+use Rattle.emtp_audit.specs.held.Walk.{Walks}
 use Rattle.emtp_audit.proofs.sample.walk_raws.Given as goal
 
 abbrev pub invariant-loop-place : goal.invariant-loop-place

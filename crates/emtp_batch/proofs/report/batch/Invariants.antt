@@ -1,6 +1,7 @@
 use Rattle.std.proofs.Common.{◌≡◌, All, take}
 use Rattle.emtp_machine.specs.Laws.{EndsWithin, SamplesBalance}
-use Rattle.emtp_batch.specs.Altered.{after_rows, altered_cases}
+use Rattle.emtp_batch.specs.Altered.{altered_cases}
+use Rattle.emtp_batch.specs.held.Altered.{after_rows}
 use Rattle.emtp_batch.specs.Report.{reports_of}
 use Rattle.emtp_batch.proofs.report.batch.Given as goal
 

@@ -1,7 +1,7 @@
 use Rattle.std.proofs.Common.{◌∙◌, sym, ap, subst, length, count_by, All}
 use Rattle.emtp_case.specs.Switch.{card_times, is_time_switch}
-use Rattle.emtp_case.specs.Sizes.{sizes_of}
-use Rattle.emtp_batch.specs.Row.{AreTimesInRange}
+use Rattle.emtp_case.specs.held.Sizes.{sizes_of}
+use Rattle.emtp_batch.specs.held.Row.{AreTimesInRange}
 use Rattle.emtp_batch.proofs.CardTimes.{put, pass, all_taken, length-card_times, card_times-in_range}
 use Rattle.emtp_batch.proofs.row.card_times.Goals as goal
 use Rattle.emtp_batch.proofs.row.card_times.Goals.{in-Some+in_ok-push, in_default}

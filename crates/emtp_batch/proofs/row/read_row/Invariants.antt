@@ -1,6 +1,7 @@
 use Rattle.std.proofs.Common.{◌≡◌, ◌+◌, ◌*◌, length, drop, All}
 use Rattle.emtp_batch.specs.Items.{items_of}
-use Rattle.emtp_batch.specs.Row.{AreTimesInRange, times_from}
+use Rattle.emtp_batch.specs.Row.{times_from}
+use Rattle.emtp_batch.specs.held.Row.{AreTimesInRange}
 use Rattle.emtp_batch.proofs.Rows.{append_result}
 use Rattle.emtp_batch.proofs.row.read_row.Given as goal
 

@@ -4,7 +4,7 @@ use Rattle.emtp_batch.proofs.Rows.{append_result}
 use Rattle.std.proofs.lemmas.List.Elements.{All-append, All-cons, All-nil}
 use Rattle.std.proofs.lemmas.Grind.{common_steps}
 use Rattle.emtp_card.specs.Lines.{lines_of}
-use Rattle.emtp_batch.specs.Row.{IsRowFor}
+use Rattle.emtp_batch.specs.held.Row.{IsRowFor}
 use Rattle.emtp_batch.specs.Table.{row_on_line, rows_from}
 use Rattle.emtp_batch.proofs.Tables.{skipped, added}
 use Rattle.emtp_batch.proofs.table.read_rows.Goals as goal

@@ -1,7 +1,7 @@
 use Rattle.std.proofs.Common.{◌≡◌, ◌≤◌, ◌+◌, length, All}
 use Rattle.emtp_card.specs.Lines.{lines_of}
 use Rattle.emtp_card.specs.declared.cards.TheConstants.{MAX_BYTES}
-use Rattle.emtp_batch.specs.Row.{IsRowFor}
+use Rattle.emtp_batch.specs.held.Row.{IsRowFor}
 use Rattle.emtp_batch.specs.Table.{rows_from}
 use Rattle.emtp_batch.proofs.Rows.{append_result}
 use Rattle.emtp_batch.proofs.table.read_rows.Given as goal

@@ -1,8 +1,8 @@
 use Rattle.std.proofs.Common.{◌≡◌, ◌∙◌, sym, ap, subst, ◌<◌, ◌^◌, Some, length, get_or, slice_get, arith}
 use Rattle.std.proofs.lemmas.List.Elements.{All-set}
 use Rattle.emtp_case.specs.declared.control.Block.{Block}
-use Rattle.emtp_blocks.specs.Block.{HasState, IsKept}
-use Rattle.emtp_blocks.specs.BlockRows.{no_kept}
+use Rattle.emtp_blocks.specs.held.Block.{HasState, IsKept}
+use Rattle.emtp_blocks.specs.held.BlockRows.{no_kept}
 use Rattle.emtp_blocks.specs.System.{state_at}
 use Rattle.emtp_case.specs.declared.control.BlockState.{BlockState}
 use Rattle.emtp_blocks.proofs.OneByOne.{accepted_more, left_more, same_more, first_out_is, all_small}

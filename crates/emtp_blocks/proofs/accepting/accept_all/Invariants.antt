@@ -1,8 +1,8 @@
 use Rattle.std.proofs.Common.{◌≡◌, ◌<◌, ◌≤◌, ℕ, List, All, false, slice_index_or, unsigned_abs, ◌^◌}
 use Rattle.emtp_elim.specs.Matrix.{item}
 use Rattle.emtp_case.specs.StepRecord.{StepRecord}
-use Rattle.emtp_blocks.specs.Block.{IsKept}
-use Rattle.emtp_blocks.specs.BlockRows.{AreAccepted, StandsAt, no_kept}
+use Rattle.emtp_blocks.specs.held.Block.{IsKept}
+use Rattle.emtp_blocks.specs.held.BlockRows.{AreAccepted, StandsAt, no_kept}
 use Rattle.emtp_blocks.proofs.accepting.accept_all.Given as goal
 
 abbrev pub invariant-loop-at : goal.invariant-loop-at

@@ -2,16 +2,17 @@ use Rattle.std.proofs.Common.{◌≡◌, ◌∙◌, ◌<◌, ◌≤◌, sym, ap,
 use mir.Syntax.{w64}
 use Rattle.std.proofs.lemmas.Int.{ints}
 use Rattle.std.proofs.lemmas.Option.{slice_get-get_or}
-use Rattle.emtp_case.specs.Sizes.{sizes_of}
-use Rattle.emtp_case.specs.Control.{IsBlock}
+use Rattle.emtp_case.specs.held.Sizes.{sizes_of}
+use Rattle.emtp_case.specs.held.Control.{IsBlock}
 use Rattle.emtp_case.specs.declared.case.Parts.{Parts}
 use Rattle.emtp_case.specs.declared.control.Block.{Block}
 use Rattle.emtp_case.specs.declared.control.Input.{Input}
 use Rattle.emtp_elim.specs.Matrix.{item}
 use Rattle.emtp_fix.proofs.Wide.{through_64}
 use Rattle.emtp_fix.specs.declared.limit.TheConstants.{LARGEST_VALUE}
-use Rattle.emtp_blocks.specs.BlockRows.{no_law}
-use Rattle.emtp_blocks.specs.Block.{Keeps, limits_of, next_state, output_of}
+use Rattle.emtp_blocks.specs.held.BlockRows.{no_law}
+use Rattle.emtp_blocks.specs.Block.{limits_of, next_state, output_of}
+use Rattle.emtp_blocks.specs.held.Block.{Keeps}
 use Rattle.emtp_blocks.specs.System.{block_of, input_sum, state_at}
 use Rattle.emtp_blocks.specs.declared.limits.Limits.{Limits}
 use Rattle.emtp_blocks.proofs.Systems.{length-places_of, place_there, input_sum_is, gives_some, gives_none}

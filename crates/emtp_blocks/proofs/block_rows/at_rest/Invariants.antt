@@ -1,5 +1,5 @@
 use Rattle.std.proofs.Common.{◌≡◌, All, length}
-use Rattle.emtp_blocks.specs.BlockRows.{IsAtRest}
+use Rattle.emtp_blocks.specs.held.BlockRows.{IsAtRest}
 use Rattle.emtp_blocks.proofs.block_rows.at_rest.Given as goal
 
 abbrev pub invariant-loop-at : goal.invariant-loop-at

@@ -2,13 +2,13 @@ use Rattle.std.proofs.Common.{◌≡◌, ◌∙◌, sym, ap, subst, ◌≤◌, �
 use mir.Syntax.{w64}
 use Rattle.std.proofs.lemmas.List.{get_or-map}
 use Rattle.std.proofs.lemmas.Option.{slice_get-get_or}
-use Rattle.emtp_case.specs.Sizes.{sizes_of}
-use Rattle.emtp_case.specs.Control.{IsBlock}
+use Rattle.emtp_case.specs.held.Sizes.{sizes_of}
+use Rattle.emtp_case.specs.held.Control.{IsBlock}
 use Rattle.emtp_case.specs.declared.control.Block.{Block}
 use Rattle.emtp_case.specs.declared.control.Limiter.TheVariants.{Free}
 use Rattle.emtp_elim.specs.Matrix.{item}
 use Rattle.emtp_fix.proofs.Wide.{through_64}
-use Rattle.emtp_blocks.specs.BlockRows.{limiters_kept, no_kept, no_law}
+use Rattle.emtp_blocks.specs.held.BlockRows.{limiters_kept, no_kept, no_law}
 use Rattle.emtp_case.specs.declared.control.BlockState.{BlockState}
 use Rattle.emtp_blocks.proofs.Matrices.{row_is}
 use Rattle.emtp_blocks.proofs.Systems.{length-places_of, place_there, row_entry_is}

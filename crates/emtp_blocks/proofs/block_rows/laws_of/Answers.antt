@@ -4,7 +4,7 @@ use Rattle.std.proofs.lemmas.Int.{ints}
 use Rattle.std.proofs.lemmas.List.Elements.{All-append}
 use Rattle.std.proofs.lemmas.Option.{get_or_from_slice_get}
 use Rattle.emtp_case.specs.declared.control.Block.{Block}
-use Rattle.emtp_blocks.specs.Block.{IsLaw, IsLawOf}
+use Rattle.emtp_blocks.specs.held.Block.{IsLaw, IsLawOf}
 use Rattle.emtp_blocks.proofs.LawLists.{laws_more}
 use Rattle.emtp_blocks.proofs.block_rows.laws_of.Goals as goal
 

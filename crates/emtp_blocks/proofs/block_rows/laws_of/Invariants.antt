@@ -1,6 +1,6 @@
 use Rattle.std.proofs.Common.{◌≡◌, All, length}
-use Rattle.emtp_blocks.specs.Block.{IsLaw}
-use Rattle.emtp_blocks.specs.BlockRows.{AreLaws}
+use Rattle.emtp_blocks.specs.held.Block.{IsLaw}
+use Rattle.emtp_blocks.specs.held.BlockRows.{AreLaws}
 use Rattle.emtp_blocks.proofs.block_rows.laws_of.Given as goal
 
 abbrev pub invariant-loop-at : goal.invariant-loop-at

@@ -1,7 +1,7 @@
 use Rattle.std.proofs.Common.{◌≡◌, ◌<◌, ◌+ℤ◌, ℕ, take, length}
 use Rattle.emtp_elim.specs.Matrix.{item}
 use Rattle.emtp_case.specs.Sums.{total}
-use Rattle.emtp_blocks.specs.BlockRows.{place_in}
+use Rattle.emtp_blocks.specs.held.BlockRows.{place_in}
 use Rattle.emtp_blocks.specs.System.{coupling_by}
 use Rattle.emtp_blocks.proofs.inputs.add_inputs.Given as goal
 

@@ -3,7 +3,7 @@ use mir.Syntax.{w64}
 use Rattle.emtp_case.specs.declared.control.Limiter.{Limiter}
 use Rattle.emtp_elim.specs.Matrix.{item}
 use Rattle.emtp_fix.proofs.Wide.{through_64}
-use Rattle.emtp_blocks.specs.BlockRows.{place_in}
+use Rattle.emtp_blocks.specs.held.BlockRows.{place_in}
 use Rattle.emtp_case.specs.Sums.{total}
 use Rattle.emtp_blocks.specs.System.{coupling_by, row_entry}
 use Rattle.emtp_blocks.proofs.inputs.fill_row.Goals as goal

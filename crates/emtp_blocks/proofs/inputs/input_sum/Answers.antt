@@ -3,7 +3,7 @@ use mir.Syntax.{w64}
 use Rattle.std.proofs.lemmas.Int.{ints}
 use Rattle.emtp_case.specs.declared.control.Input.{Input}
 use Rattle.emtp_fix.proofs.Wide.{through_64}
-use Rattle.emtp_blocks.specs.BlockRows.{place_in}
+use Rattle.emtp_blocks.specs.held.BlockRows.{place_in}
 use Rattle.emtp_blocks.specs.System.{inside_by}
 use Rattle.emtp_case.proofs.Sums.{total-more, one_more}
 use Rattle.emtp_blocks.proofs.inputs.input_sum.Goals as goal

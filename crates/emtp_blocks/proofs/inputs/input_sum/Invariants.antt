@@ -1,5 +1,5 @@
 use Rattle.std.proofs.Common.{◌≡◌, ◌≤◌, ◌*◌, ◌^◌, take, unsigned_abs}
-use Rattle.emtp_blocks.specs.BlockRows.{place_in}
+use Rattle.emtp_blocks.specs.held.BlockRows.{place_in}
 use Rattle.emtp_blocks.specs.System.{input_sum}
 use Rattle.emtp_blocks.proofs.inputs.input_sum.Given as goal
 

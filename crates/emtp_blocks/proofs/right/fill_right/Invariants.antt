@@ -1,7 +1,7 @@
 use Rattle.std.proofs.Common.{◌≡◌, ◌<◌, ◌≤◌, ◌^◌, ℕ, List, slice_get, unsigned_abs}
 use Rattle.emtp_case.specs.StepRecord.{StepRecord}
 use Rattle.emtp_elim.specs.Matrix.{item}
-use Rattle.emtp_blocks.specs.BlockRows.{StandsAt}
+use Rattle.emtp_blocks.specs.held.BlockRows.{StandsAt}
 use Rattle.emtp_blocks.specs.System.{right_by}
 use Rattle.emtp_blocks.proofs.right.fill_right.Given as goal
 

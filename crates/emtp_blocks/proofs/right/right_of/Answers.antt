@@ -1,14 +1,14 @@
 use Rattle.std.proofs.Common.{◌≡◌, ◌∙◌, sym, ap, subst, ◌+ℤ◌, ◌*ℤ◌, ◌^◌, pos, Some, length, get_or, slice_get, to_z, of_z, arith}
 use mir.Syntax.{w64, w128}
 use Rattle.std.proofs.lemmas.Option.{slice_get-get_or}
-use Rattle.emtp_case.specs.Sizes.{sizes_of}
-use Rattle.emtp_case.specs.Control.{IsBlock}
+use Rattle.emtp_case.specs.held.Sizes.{sizes_of}
+use Rattle.emtp_case.specs.held.Control.{IsBlock}
 use Rattle.emtp_case.specs.declared.control.Block.{Block}
 use Rattle.emtp_case.specs.declared.control.Limiter.TheVariants.{AtHigh, AtLow}
 use Rattle.emtp_fix.specs.Rounding.{near}
 use Rattle.emtp_fix.proofs.Wide.{through, through_64}
 use Rattle.emtp_blocks.specs.Block.{held, past_output}
-use Rattle.emtp_blocks.specs.BlockRows.{no_law}
+use Rattle.emtp_blocks.specs.held.BlockRows.{no_law}
 use Rattle.emtp_blocks.specs.declared.limits.Limits.{Limits}
 use Rattle.emtp_blocks.proofs.Systems.{length-places_of, outside_sum_is, right_free, right_held}
 use Rattle.emtp_blocks.proofs.right.right_of.Goals as goal

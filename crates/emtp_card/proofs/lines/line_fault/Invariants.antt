@@ -1,5 +1,6 @@
 use Rattle.std.proofs.Common.{◌≡◌, ℕ, ◌+◌, ◌<◌, None, drop}
-use Rattle.emtp_card.specs.Lines.{first_fault, fault_at}
+use Rattle.emtp_card.specs.Lines.{first_fault}
+use Rattle.emtp_card.specs.held.Lines.{fault_at}
 use Rattle.emtp_card.proofs.lines.line_fault.Given as goal
 
 -- no byte so far has a fault, so the first fault of what is left is that of the line

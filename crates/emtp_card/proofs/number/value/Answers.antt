@@ -2,9 +2,10 @@ use Rattle.std.specs.Int.{w32, w128}
 use Rattle.std.proofs.Common.{◌≡◌, ◌∙◌, sym, subst, ℕ, ◌+◌, ◌<◌, ◌≤◌, ℤ, Some, Ok, to_z, of_z, arith}
 use Rattle.std.proofs.lemmas.Int.{ints}
 use Rattle.emtp_card.specs.Decimal.{Decimal, signed, value_in}
-use Rattle.emtp_card.specs.Numeral.{meaning_of}
-use Rattle.emtp_card.specs.Rounding.{magnitude_in}
-use Rattle.emtp_card.specs.Number.{valued, number_in, Reads, StandsFor}
+use Rattle.emtp_card.specs.held.Numeral.{meaning_of}
+use Rattle.emtp_card.specs.held.Rounding.{magnitude_in}
+use Rattle.emtp_card.specs.Number.{valued, number_in}
+use Rattle.emtp_card.specs.held.Number.{Reads, StandsFor}
 use Rattle.emtp_card.specs.declared.rounding.TheConstants.{MOST}
 use Rattle.emtp_card.proofs.Values.{value_in-signed, bounded_stands}
 use Rattle.emtp_card.proofs.number.value.Goals as goal

@@ -1,7 +1,7 @@
 use Rattle.std.proofs.lemmas.Grind.{common_steps}
 use Rattle.std.proofs.Common.{arith, ◌≡◌, sym, subst, take_while}
 use Rattle.std.specs.Char.{is_ascii_digit}
-use Rattle.emtp_card.specs.Numeral.{AreDigits}
+use Rattle.emtp_card.specs.held.Numeral.{AreDigits}
 use Rattle.emtp_card.proofs.Digits.{digits_in_front}
 use Rattle.emtp_card.proofs.numeral.digits.Goals as goal
 

@@ -4,7 +4,8 @@ use Rattle.std.specs.List.Sorted.{IsPermutation}
 use Rattle.std.proofs.Common.{◌∙◌, ap, sym, subst, arith}
 use Rattle.std.proofs.lemmas.List.FromFn.{length-range_with_len}
 use Rattle.std.proofs.lemmas.List.Sorted.{length_permutation}
-use Rattle.emtp_case.specs.RowOrder.{Rows, IsRowOrder}
+use Rattle.emtp_case.specs.RowOrder.{Rows}
+use Rattle.emtp_case.specs.held.RowOrder.{IsRowOrder}
 use Rattle.emtp_case.proofs.NodeOrder.{AreSorted, rows_are, order_of-IsRowOrder, length-order_of}
 use Rattle.emtp_case.proofs.row_order.order.Goals as goal
 

@@ -1,6 +1,6 @@
 use Rattle.std.proofs.Common.{◌≡◌, ◌∙◌, ◌++◌, ℕ, List, length, ap, append_assoc, subst, sym}
 use Rattle.emtp_io.specs.declared.cabinet.Output.TheVariants.{Cfg}
-use Rattle.emtp_io.specs.Whole.{Appends}
+use Rattle.emtp_io.specs.held.Whole.{Appends}
 use Rattle.emtp_comtrade.specs.Record.{joined, analog_line_at, status_line_at, cfg_head, cfg_tail, cfg_text}
 use Rattle.emtp_comtrade.proofs.Streams.{gathers-more, appends-end, appends-stopped}
 use Rattle.emtp_comtrade.proofs.configuration.write_cfg.Goals as goal

@@ -2,7 +2,7 @@ use Rattle.std.proofs.Common.{◌≡◌, ◌+◌, ◌≤◌, ◌++◌, length, O
 use Rattle.emtp_io.specs.declared.cabinet.Failed.{Failed}
 use Rattle.emtp_io.specs.declared.cabinet.Output.TheVariants.{Cfg}
 use Rattle.emtp_comtrade.specs.Record.{joined, status_line_at, status_before}
-use Rattle.emtp_comtrade.specs.Stream.{Gathers}
+use Rattle.emtp_comtrade.specs.held.Stream.{Gathers}
 use Rattle.emtp_comtrade.specs.declared.text.TheConstants.{LINE_ROOM, TEXT_ROOM}
 use Rattle.emtp_comtrade.proofs.configuration.write_status_lines.Given as goal
 

@@ -1,6 +1,6 @@
 use Rattle.std.proofs.Common.{◌∷◌, [], ◌++◌, ℕ, List, length, subst}
 use Rattle.emtp_io.specs.declared.cabinet.Output.TheVariants.{Dat}
-use Rattle.emtp_io.specs.Whole.{Appends}
+use Rattle.emtp_io.specs.held.Whole.{Appends}
 use Rattle.emtp_comtrade.specs.Record.{joined, dat_line, dat_text}
 use Rattle.emtp_comtrade.proofs.Streams.{appends-end, appends-stopped}
 use Rattle.emtp_comtrade.proofs.data.write_dat.Goals as goal

@@ -2,7 +2,7 @@ use Rattle.std.proofs.Common.{◌+◌, ◌≤◌, ◌++◌, length, Ok}
 use Rattle.emtp_io.specs.declared.cabinet.Failed.{Failed}
 use Rattle.emtp_io.specs.declared.cabinet.Output.TheVariants.{Dat}
 use Rattle.emtp_comtrade.specs.Record.{joined, dat_line}
-use Rattle.emtp_comtrade.specs.Stream.{Gathers}
+use Rattle.emtp_comtrade.specs.held.Stream.{Gathers}
 use Rattle.emtp_comtrade.specs.declared.text.TheConstants.{LINE_ROOM, TEXT_ROOM}
 use Rattle.emtp_comtrade.proofs.data.write_samples.Given as goal
 

@@ -1,5 +1,6 @@
 use Rattle.std.proofs.Common.{◌≡◌, ◌^◌, ℕ, ap, subst, sym, ◌∙◌}
-use Rattle.emtp_comtrade.specs.Multiplier.{multiplier_in, multiplier_of, IsMultiplier}
+use Rattle.emtp_comtrade.specs.Multiplier.{multiplier_in, multiplier_of}
+use Rattle.emtp_comtrade.specs.held.Multiplier.{IsMultiplier}
 use Rattle.emtp_comtrade.proofs.LeastMultiplier.{multiplier_from-here, multiplier_from-end, IsMultiplier-multiplier_of}
 use Rattle.emtp_comtrade.proofs.multiplier.least_multiplier.Goals as goal
 

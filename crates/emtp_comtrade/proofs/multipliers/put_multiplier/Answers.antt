@@ -1,5 +1,6 @@
 use Rattle.std.proofs.Common.{rules, w64, to_z, of_z, false, true, ◌∙◌, ◌≡◌, ◌+◌, ◌<◌, ℕ, arith, length, set, subst, sym}
-use Rattle.emtp_comtrade.specs.Record.{MultipliersBelow, analog_before, is_status_at}
+use Rattle.emtp_comtrade.specs.Record.{analog_before, is_status_at}
+use Rattle.emtp_comtrade.specs.held.Record.{MultipliersBelow}
 use Rattle.emtp_comtrade.proofs.ChannelMultipliers.{MultipliersBelow-analog, MultipliersBelow-status, analog_before-within}
 use Rattle.emtp_comtrade.proofs.multipliers.put_multiplier.Goals as goal
 

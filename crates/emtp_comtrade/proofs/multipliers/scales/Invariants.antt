@@ -1,5 +1,6 @@
 use Rattle.std.proofs.Common.{◌≡◌}
-use Rattle.emtp_comtrade.specs.Record.{MultipliersBelow, analog_before}
+use Rattle.emtp_comtrade.specs.Record.{analog_before}
+use Rattle.emtp_comtrade.specs.held.Record.{MultipliersBelow}
 use Rattle.emtp_comtrade.proofs.multipliers.scales.Given as goal
 
 abbrev pub invariant-loop-place : goal.invariant-loop-place

@@ -1,5 +1,5 @@
 use Rattle.std.proofs.Common.{length}
-use Rattle.emtp_case.specs.Range.{AreEnds}
+use Rattle.emtp_case.specs.held.Range.{AreEnds}
 use Rattle.emtp_deck.proofs.Modes.{moved_fits}
 use Rattle.emtp_deck.proofs.branches.add_single.Goals as goal
 

@@ -1,6 +1,6 @@
 use Rattle.std.proofs.Common.{◌≡◌, drop}
 use Rattle.emtp_deck.specs.Branches.{take_branches}
-use Rattle.emtp_deck.specs.Filling.{IsFilling, made_of}
+use Rattle.emtp_deck.specs.held.Filling.{IsFilling, made_of}
 use Rattle.emtp_deck.proofs.branches.take_branches.Given as goal
 
 abbrev pub invariant-loop-entry : goal.invariant-loop-entry

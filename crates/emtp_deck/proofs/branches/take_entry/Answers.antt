@@ -1,5 +1,5 @@
 use Rattle.std.proofs.Common.{sym, refl}
-use Rattle.emtp_deck.specs.Filling.{made_of}
+use Rattle.emtp_deck.specs.held.Filling.{made_of}
 use Rattle.emtp_deck.proofs.Keeping.{with_more_nodes}
 use Rattle.emtp_deck.proofs.Sensing.{names_more, takable}
 use Rattle.emtp_deck.proofs.branches.take_entry.Goals as goal

@@ -1,8 +1,8 @@
 use Rattle.std.proofs.Common.{◌≡◌, ◌∙◌, List, [], ◌∷◌, ◌++◌, ap, append_assoc, arith, length, length-append, length-take, map, refl, subst, sym, take, take_all}
 use Rattle.std.proofs.lemmas.List.{length-map}
-use Rattle.emtp_case.specs.Sizes.{sizes_of}
-use Rattle.emtp_walk.specs.Coefficients.{IsBlockEntry}
-use Rattle.emtp_sense.specs.ControlSensible.{IsSensibleBlock}
+use Rattle.emtp_case.specs.held.Sizes.{sizes_of}
+use Rattle.emtp_walk.specs.held.Coefficients.{IsBlockEntry}
+use Rattle.emtp_sense.specs.held.ControlSensible.{IsSensibleBlock}
 use Rattle.emtp_case.specs.declared.control.Block.{Block}
 use Rattle.emtp_case.proofs.Growth.{no_ok}
 use Rattle.emtp_deck.specs.ControlFilling.{block_of}

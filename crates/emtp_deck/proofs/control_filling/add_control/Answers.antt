@@ -2,12 +2,13 @@ use Rattle.std.proofs.Common.{ap, arith, fold, refl, subst, ◌++◌, ◌∙◌,
 use Rattle.std.specs.Prelude.{All, map}
 use Rattle.emtp_case.specs.Case.{standing_names}
 use Rattle.emtp_case.specs.HistoryValues.{history_values_of}
-use Rattle.emtp_case.specs.Name.{IsName}
+use Rattle.emtp_case.specs.held.Name.{IsName}
 use Rattle.emtp_case.specs.declared.case.Parts.{Parts}
 use Rattle.emtp_deck.specs.ControlFilling.{block_of, with_extra}
 use Rattle.emtp_deck.specs.Deck.{control_made}
-use Rattle.emtp_deck.specs.Filling.{made_of}
-use Rattle.emtp_deck.specs.Made.{Made, empty_made}
+use Rattle.emtp_deck.specs.held.Filling.{made_of}
+use Rattle.emtp_deck.specs.Made.{Made}
+use Rattle.emtp_deck.specs.held.Made.{empty_made}
 use Rattle.emtp_walk.specs.declared.deck.Deck.{Deck}
 use Rattle.emtp_deck.specs.declared.filling.Filling.{Filling}
 use Rattle.emtp_deck.proofs.ControlAdding.{control_filled, summed}

@@ -1,6 +1,6 @@
 use Rattle.std.proofs.Common.{◌≡◌, ◌+◌, ◌-◌, ap, arith, drop, length, subst, take, ℕ}
-use Rattle.emtp_case.specs.Control.{HasDevicePoints}
-use Rattle.emtp_case.specs.Sizes.{sizes_of}
+use Rattle.emtp_case.specs.held.Control.{HasDevicePoints}
+use Rattle.emtp_case.specs.held.Sizes.{sizes_of}
 use Rattle.emtp_deck.proofs.ControlRecords.{device_fits, formula_fits}
 use Rattle.emtp_deck.proofs.control_filling.add_extra.Goals as goal
 

@@ -1,12 +1,12 @@
 use Rattle.std.proofs.Common.{ap, arith, length, length-take, refl, subst, sym, take, take_all}
 use Rattle.std.proofs.lemmas.List.{length-map}
-use Rattle.emtp_case.specs.Sizes.{sizes_of}
+use Rattle.emtp_case.specs.held.Sizes.{sizes_of}
 use Rattle.emtp_case.proofs.Growth.{no_ok}
 use Rattle.emtp_deck.specs.ControlFilling.{tacs_source_of}
 use Rattle.emtp_deck.proofs.ControlAdding.{map_next}
 use Rattle.emtp_deck.proofs.Wanting.{want_left}
-use Rattle.emtp_sense.specs.ControlSensible.{IsSensibleTacsSource}
-use Rattle.emtp_walk.specs.Sound.{IsTacsSourceCard}
+use Rattle.emtp_sense.specs.held.ControlSensible.{IsSensibleTacsSource}
+use Rattle.emtp_walk.specs.held.Sound.{IsTacsSourceCard}
 use Rattle.emtp_deck.proofs.ControlRecords.{source_fits}
 use Rattle.emtp_deck.proofs.control_filling.add_tacs_sources.Goals as goal
 

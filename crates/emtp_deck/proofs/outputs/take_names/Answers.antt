@@ -4,7 +4,7 @@ use Rattle.emtp_card.specs.declared.reason.Bad.{Bad}
 use Rattle.emtp_card.specs.declared.reason.Refused.{Refused}
 use Rattle.emtp_card.specs.declared.reason.Refused.TheVariants.{Bad as OfBad, NoMemory}
 use Rattle.emtp_walk.specs.Answer.{go_on}
-use Rattle.emtp_deck.specs.Filling.{Fills, made_of}
+use Rattle.emtp_deck.specs.held.Filling.{Fills, made_of}
 use Rattle.emtp_deck.specs.Made.{Made}
 use Rattle.emtp_deck.specs.declared.outputs.Named.{Named}
 use Rattle.emtp_deck.specs.Outputs.{take_name, take_names}

@@ -1,5 +1,5 @@
 use Rattle.std.proofs.Common.{◌≡◌, drop}
-use Rattle.emtp_deck.specs.Filling.{IsFilling, made_of}
+use Rattle.emtp_deck.specs.held.Filling.{IsFilling, made_of}
 use Rattle.emtp_deck.specs.Outputs.{take_outputs}
 use Rattle.emtp_deck.proofs.outputs.take_outputs.Given as goal
 

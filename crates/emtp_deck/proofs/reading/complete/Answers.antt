@@ -1,6 +1,6 @@
 use Rattle.std.proofs.Common.{◌∙◌, Ok, ap, subst, sym}
-use Rattle.emtp_case.specs.Case.{DefinesEach}
-use Rattle.emtp_deck.specs.Filling.{made_of}
+use Rattle.emtp_case.specs.held.Case.{DefinesEach}
+use Rattle.emtp_deck.specs.held.Filling.{made_of}
 use Rattle.emtp_deck.proofs.ControlWhole.{control_sensible, control_whole_is}
 use Rattle.emtp_deck.proofs.Keeping.{on_ok}
 use Rattle.emtp_deck.proofs.WholeDeck.{completed, cut_off, stopped, stored_within}

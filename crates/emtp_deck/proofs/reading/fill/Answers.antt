@@ -1,5 +1,5 @@
 use Rattle.std.proofs.Common.{◌∙◌, ap, rules}
-use Rattle.emtp_deck.specs.Filling.{made_of}
+use Rattle.emtp_deck.specs.held.Filling.{made_of}
 use Rattle.emtp_deck.specs.Made.{Made}
 use Rattle.emtp_deck.proofs.Asking.{control_is, tacs_outputs_ask}
 use Rattle.emtp_deck.proofs.reading.fill.Goals as goal

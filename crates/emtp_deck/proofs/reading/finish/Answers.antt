@@ -1,7 +1,7 @@
 use Rattle.std.proofs.Common.{◌≡◌, ◌∙◌, refl}
 use Rattle.emtp_case.proofs.Growth.{no_ok}
 use Rattle.emtp_deck.specs.Deck.{case_of}
-use Rattle.emtp_deck.specs.Filling.{made_of}
+use Rattle.emtp_deck.specs.held.Filling.{made_of}
 use Rattle.emtp_deck.specs.Made.{all_asked}
 use Rattle.emtp_deck.proofs.Keeping.{on_ok}
 use Rattle.emtp_deck.proofs.Wanting.{want_left}

@@ -1,5 +1,5 @@
 use Rattle.std.proofs.Common.{ap, length}
-use Rattle.emtp_case.specs.Sizes.{sizes_of}
+use Rattle.emtp_case.specs.held.Sizes.{sizes_of}
 use Rattle.emtp_deck.proofs.Driving.{driven_source}
 use Rattle.emtp_deck.proofs.Keeping.{with_more_sources}
 use Rattle.emtp_deck.specs.Sources.{source_at}

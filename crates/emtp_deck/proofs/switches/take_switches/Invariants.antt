@@ -1,5 +1,5 @@
 use Rattle.std.proofs.Common.{◌≡◌, drop}
-use Rattle.emtp_deck.specs.Filling.{IsFilling, made_of}
+use Rattle.emtp_deck.specs.held.Filling.{IsFilling, made_of}
 use Rattle.emtp_deck.specs.Switches.{take_switches}
 use Rattle.emtp_deck.proofs.switches.take_switches.Given as goal
 

@@ -1,5 +1,5 @@
 use Rattle.std.specs.Prelude.{◌≡◌, map, take}
-use Rattle.emtp_devices.specs.Held.{depth_of, held_at_rest}
+use Rattle.emtp_devices.specs.held.Held.{depth_of, held_at_rest}
 use Rattle.emtp_devices.proofs.held.all_at_rest.Given as goal
 
 abbrev pub invariant-loop-extra : goal.invariant-loop-extra

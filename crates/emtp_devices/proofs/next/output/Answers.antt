@@ -3,9 +3,9 @@ use lib.Signed.{mag}
 use mir.Syntax.{w64, w128}
 use Rattle.std.proofs.lemmas.Int.{ints, to_z-of_z}
 use Rattle.emtp_case.specs.Branch.{points_of}
-use Rattle.emtp_case.specs.Control.{IsTable}
+use Rattle.emtp_case.specs.held.Control.{IsTable}
 use Rattle.emtp_case.specs.HistoryValues.{delay_steps}
-use Rattle.emtp_case.specs.Range.{IsBetween}
+use Rattle.emtp_case.specs.held.Range.{IsBetween}
 use Rattle.emtp_case.specs.declared.branch.Point.{Point}
 use Rattle.emtp_case.specs.declared.case.Parts.{Parts}
 use Rattle.emtp_case.specs.declared.control.Device.{Device}

@@ -1,5 +1,5 @@
 use Rattle.std.proofs.Common.{◌+◌, length}
-use Rattle.emtp_elim.specs.Row.{numbers}
+use Rattle.emtp_elim.specs.held.Row.{numbers}
 use Rattle.emtp_elim.proofs.ClearedRows.{IsLessenedUpTo}
 use Rattle.emtp_elim.proofs.clearing.clear_column.Given as goal
 

@@ -1,4 +1,4 @@
-use Rattle.emtp_elim.specs.Extent.{IsClearAfter}
+use Rattle.emtp_elim.specs.held.Extent.{IsClearAfter}
 use Rattle.emtp_elim.proofs.extent.end_column.Given as goal
 
 abbrev pub invariant-loop-j : goal.invariant-loop-j

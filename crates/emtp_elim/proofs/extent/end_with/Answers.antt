@@ -1,5 +1,5 @@
 use Rattle.std.proofs.Common.{◌+◌, ◌-◌, ◌<◌, slice_index, arith}
-use Rattle.emtp_elim.specs.Row.{numbers}
+use Rattle.emtp_elim.specs.held.Row.{numbers}
 use Rattle.emtp_elim.proofs.Extents.{clear_after, clear_without}
 use Rattle.emtp_elim.proofs.extent.end_with.Goals as goal
 

@@ -1,4 +1,4 @@
-use Rattle.emtp_elim.specs.Extent.{IsExtent}
+use Rattle.emtp_elim.specs.held.Extent.{IsExtent}
 use Rattle.emtp_elim.proofs.PartRows.{IsUnderWay}
 use Rattle.emtp_elim.proofs.finishing.finish_row.Given as goal
 

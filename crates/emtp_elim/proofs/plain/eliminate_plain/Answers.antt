@@ -1,8 +1,9 @@
 use Rattle.std.proofs.Common.{ℤ, List}
 use Rattle.std.proofs.lemmas.Result.{err_from_is_err_and}
 use Rattle.emtp_elim.specs.Matrix.{Matrix}
-use Rattle.emtp_elim.specs.Finished.{IsMatrixFault}
-use Rattle.emtp_elim.specs.Outcome.{outcome, EndsInFault}
+use Rattle.emtp_elim.specs.held.Finished.{IsMatrixFault}
+use Rattle.emtp_elim.specs.Outcome.{outcome}
+use Rattle.emtp_elim.specs.held.Outcome.{EndsInFault}
 use Rattle.emtp_elim.specs.declared.fault.PlainFault.{PlainFault}
 use Rattle.emtp_elim.specs.declared.fault.PlainFault.TheVariants.{Row, Solve, NoMemory}
 use Rattle.emtp_elim.proofs.Outcomes.{outcome_row}

@@ -1,5 +1,5 @@
 use Rattle.std.proofs.Common.{◌≡◌, length}
-use Rattle.emtp_elim.specs.Finished.{AreFinished}
+use Rattle.emtp_elim.specs.held.Finished.{AreFinished}
 use Rattle.emtp_elim.proofs.plain.factor.Given as goal
 
 abbrev pub invariant-loop-i : goal.invariant-loop-i

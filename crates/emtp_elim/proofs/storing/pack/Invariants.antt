@@ -1,4 +1,4 @@
-use Rattle.emtp_elim.specs.Stored.{Packs}
+use Rattle.emtp_elim.specs.held.Stored.{Packs}
 use Rattle.emtp_elim.proofs.storing.pack.Given as goal
 
 abbrev pub invariant-loop-j : goal.invariant-loop-j

@@ -3,7 +3,7 @@ use mir.Syntax.{w64, w128}
 use Rattle.std.proofs.lemmas.Nat.{row_fits}
 use Rattle.emtp_fix.proofs.Wide.{through, through_64}
 use Rattle.emtp_elim.specs.Matrix.{item}
-use Rattle.emtp_elim.specs.Stored.{AreStored}
+use Rattle.emtp_elim.specs.held.Stored.{AreStored}
 use Rattle.emtp_elim.proofs.Extents.{later_packed, ratios_packed}
 use Rattle.emtp_elim.proofs.KeptRows.{stored_more}
 use Rattle.emtp_elim.proofs.storing.store_next.Goals as goal

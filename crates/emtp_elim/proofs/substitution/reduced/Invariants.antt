@@ -1,6 +1,6 @@
 use Rattle.std.proofs.Common.{length}
 use Rattle.emtp_elim.specs.Matrix.{item}
-use Rattle.emtp_elim.specs.Row.{numbers}
+use Rattle.emtp_elim.specs.held.Row.{numbers}
 use Rattle.emtp_elim.proofs.RightSides.{IsPartial}
 use Rattle.emtp_elim.proofs.substitution.reduced.Given as goal
 

@@ -1,6 +1,6 @@
 use Rattle.std.proofs.Common.{length, ◌+◌}
 use Rattle.emtp_elim.specs.Matrix.{item}
-use Rattle.emtp_elim.specs.Row.{numbers}
+use Rattle.emtp_elim.specs.held.Row.{numbers}
 use Rattle.emtp_elim.proofs.Remainders.{IsRemainder}
 use Rattle.emtp_elim.proofs.substitution.remainder.Given as goal
 

@@ -2,7 +2,7 @@ use Rattle.std.proofs.Common.{refl, subst, List, ℕ, Err, Ok}
 use Rattle.emtp_io.specs.declared.whole.ReadEnd.TheVariants.{Failed, NoMemory}
 use Rattle.emtp_inspect.specs.Showing.{told_outcome}
 use Rattle.emtp_inspect.specs.Telling.{told_of}
-use Rattle.emtp_run.specs.Outcome.{EndsAfterReading}
+use Rattle.emtp_run.specs.held.Outcome.{EndsAfterReading}
 use Rattle.emtp_inspect.proofs.showing.show.Goals as goal
 
 pub returns-in-Ok : goal.returns-in-Ok

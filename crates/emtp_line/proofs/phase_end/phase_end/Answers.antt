@@ -1,7 +1,7 @@
 use Rattle.std.proofs.Common.{◌≡◌, ◌∙◌, refl, ℤ, List, FitsSigned, rules}
 use mir.Syntax.{w64, w128}
 use Rattle.std.proofs.lemmas.Int.{to_z-of_z}
-use Rattle.emtp_line.specs.Held.{held_modes}
+use Rattle.emtp_line.specs.held.Held.{held_modes}
 use Rattle.emtp_line.specs.Phases.{Modes, phase_currents, phase_waves, zero_wave, phase_end}
 use Rattle.emtp_line.proofs.phase_end.phase_end.Goals as goal
 

@@ -1,7 +1,7 @@
 use Rattle.std.proofs.Common.{length, ap, sym, arith}
 use Rattle.std.proofs.lemmas.List.{map_more}
-use Rattle.emtp_case.specs.Sizes.{sizes_of}
-use Rattle.emtp_line.specs.Lines.{rest_at}
+use Rattle.emtp_case.specs.held.Sizes.{sizes_of}
+use Rattle.emtp_line.specs.held.Lines.{rest_at}
 use Rattle.emtp_line.proofs.Holding.{branch_has_mode}
 use Rattle.emtp_line.proofs.rest.lines_at_rest.Goals as goal
 

@@ -1,5 +1,5 @@
 use Rattle.std.specs.Prelude.{◌≡◌, map, take}
-use Rattle.emtp_line.specs.Lines.{rest_at}
+use Rattle.emtp_line.specs.held.Lines.{rest_at}
 use Rattle.emtp_line.proofs.rest.lines_at_rest.Given as goal
 
 abbrev pub invariant-loop-branch : goal.invariant-loop-branch

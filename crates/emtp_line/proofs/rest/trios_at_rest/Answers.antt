@@ -1,6 +1,6 @@
 use Rattle.std.proofs.Common.{sym}
 use Rattle.std.proofs.lemmas.List.{map_more}
-use Rattle.emtp_line.specs.Held.{trio_at_rest}
+use Rattle.emtp_line.specs.held.Held.{trio_at_rest}
 use Rattle.emtp_line.proofs.rest.trios_at_rest.Goals as goal
 
 pub loop-trio-preserved : goal.loop-trio-preserved

@@ -5,7 +5,7 @@ use Rattle.emtp_fix.specs.Rounding.{near}
 use Rattle.emtp_line.proofs.Bounds.{portion_small}
 use Rattle.emtp_line.proofs.Products.{IsProduct, product}
 use Rattle.emtp_line.specs.declared.mode.Mode.{Mode}
-use Rattle.emtp_line.specs.Mode.{IsMode}
+use Rattle.emtp_line.specs.held.Mode.{IsMode}
 use Rattle.emtp_line.proofs.wave.portion.Goals as goal
 
 rest_product : {m : Mode} {rise : ℤ} → IsMode m → FitsSigned w128 rise → unsigned_abs rise ≤ 2 ^ 64 → IsProduct m.rest rise

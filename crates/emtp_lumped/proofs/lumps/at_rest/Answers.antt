@@ -1,6 +1,6 @@
 use Rattle.std.proofs.Common.{length, ap, arith}
 use Rattle.std.proofs.lemmas.Grind.{common_steps}
-use Rattle.emtp_case.specs.Sizes.{sizes_of}
+use Rattle.emtp_case.specs.held.Sizes.{sizes_of}
 use Rattle.emtp_lumped.proofs.Holding.{branch_has_numbers}
 use Rattle.emtp_lumped.proofs.lumps.at_rest.Goals as goal
 

@@ -1,5 +1,5 @@
 use Rattle.std.specs.Prelude.{◌≡◌, map, take}
-use Rattle.emtp_lumped.specs.Lumps.{rest_at}
+use Rattle.emtp_lumped.specs.held.Lumps.{rest_at}
 use Rattle.emtp_lumped.proofs.lumps.at_rest.Given as goal
 
 abbrev pub invariant-loop-branch : goal.invariant-loop-branch

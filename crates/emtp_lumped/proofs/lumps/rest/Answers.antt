@@ -1,8 +1,8 @@
 use Rattle.std.proofs.Common.{sym, subst, FitsSigned, rules}
 use mir.Syntax.{w64}
 use Rattle.std.proofs.lemmas.Int.{to_z-of_z}
-use Rattle.emtp_lumped.specs.Companion.{IsCompanion}
-use Rattle.emtp_lumped.specs.Lumps.{HasNumbers}
+use Rattle.emtp_lumped.specs.held.Companion.{IsCompanion}
+use Rattle.emtp_lumped.specs.held.Lumps.{HasNumbers}
 use Rattle.emtp_lumped.proofs.Bounds.{companion-fits}
 use Rattle.emtp_lumped.proofs.lumps.rest.Goals as goal
 

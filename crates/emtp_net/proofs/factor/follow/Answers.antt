@@ -1,8 +1,9 @@
 use Rattle.std.proofs.Common.{◌≡◌, ◌∙◌, ◌≤◌, ap, arith, length, length-take, refl, sym, take, take-take}
 use Rattle.std.proofs.Math.Nat.{min-le_left, min-le_right}
 use Rattle.emtp_rows.specs.Nodal.{nodal_matrix}
-use Rattle.emtp_rows.specs.Touched.{NodalRows}
-use Rattle.emtp_tail.specs.Good.{Good, first_change}
+use Rattle.emtp_rows.specs.held.Touched.{NodalRows}
+use Rattle.emtp_tail.specs.Good.{first_change}
+use Rattle.emtp_tail.specs.held.Good.{Good}
 use Rattle.emtp_tail.proofs.Redoing.{first_change_law}
 use Rattle.emtp_rows.proofs.NodalRows.{length-nodal_matrix}
 use Rattle.emtp_net.proofs.factor.follow.Goals as goal

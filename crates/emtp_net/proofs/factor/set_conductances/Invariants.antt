@@ -1,9 +1,9 @@
 use Rattle.std.proofs.Common.{◌≡◌, ◌<◌, ℕ, List, length, slice_get}
 use Rattle.emtp_case.specs.StepRecord.{StepRecord}
 use Rattle.emtp_elim.specs.Matrix.{item}
-use Rattle.emtp_net.specs.Branches.{StandsFor}
+use Rattle.emtp_net.specs.held.Branches.{StandsFor}
 use Rattle.emtp_net.specs.System.{conductance_by}
-use Rattle.emtp_rows.specs.Touched.{Touches}
+use Rattle.emtp_rows.specs.held.Touched.{Touches}
 use Rattle.emtp_net.proofs.factor.set_conductances.Given as goal
 
 abbrev pub invariant-loop-at : goal.invariant-loop-at

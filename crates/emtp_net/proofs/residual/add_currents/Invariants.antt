@@ -1,7 +1,7 @@
 use Rattle.std.proofs.Common.{◌≡◌, ◌<◌, ◌≤◌, ◌*◌, ◌^◌, ℕ, ℤ, List, length, slice_get, unsigned_abs}
 use Rattle.emtp_elim.specs.Matrix.{item}
 use Rattle.emtp_case.specs.StepRecord.{StepRecord}
-use Rattle.emtp_net.specs.Moving.{HaveMoved, IsNext}
+use Rattle.emtp_net.specs.held.Moving.{HaveMoved, IsNext}
 use Rattle.emtp_net.specs.Part.{brought_by}
 use Rattle.emtp_case.specs.Sums.{sum_below}
 use Rattle.emtp_rows.specs.Nodal.{node_at}

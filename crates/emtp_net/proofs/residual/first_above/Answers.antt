@@ -5,7 +5,7 @@ use Rattle.std.proofs.lemmas.Int.{ints, to_z-of_z}
 use Rattle.std.proofs.lemmas.List.{get_or_default}
 use Rattle.emtp_case.specs.declared.row_kind.RowKind.TheVariants.{Ground, Kcl}
 use Rattle.emtp_elim.specs.Matrix.{item}
-use Rattle.emtp_net.specs.Judging.{magnitude_at, magnitude_in}
+use Rattle.emtp_net.specs.held.Judging.{magnitude_at, magnitude_in}
 use Rattle.emtp_net.proofs.residual.first_above.Goals as goal
 
 pub returns-then-residual-tolerance : goal.returns-then-residual-tolerance

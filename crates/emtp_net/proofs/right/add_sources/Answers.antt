@@ -3,7 +3,7 @@ use mir.Syntax.{w128, w64}
 use Rattle.std.proofs.lemmas.Int.{ints, to_z-of_z}
 use Rattle.std.proofs.lemmas.List.{get_or-map, take_all}
 use Rattle.emtp_elim.specs.Matrix.{item}
-use Rattle.emtp_net.specs.Rights.{brought}
+use Rattle.emtp_net.specs.held.Rights.{brought}
 use Rattle.emtp_rows.specs.Nodal.{node_at}
 use Rattle.emtp_net.proofs.Sourcing.{source_more, source_small}
 use Rattle.emtp_net.proofs.right.add_sources.Goals as goal

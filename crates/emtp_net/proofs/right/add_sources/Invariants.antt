@@ -1,7 +1,7 @@
 use Rattle.std.proofs.Common.{◌≡◌, ◌<◌, ◌≤◌, ◌+◌, ◌*◌, ◌^◌, ◌+ℤ◌, ℕ, ℤ, length, map, take, unsigned_abs}
 use Rattle.emtp_case.specs.declared.source.Source.{Source}
 use Rattle.emtp_elim.specs.Matrix.{item}
-use Rattle.emtp_net.specs.Rights.{brought}
+use Rattle.emtp_net.specs.held.Rights.{brought}
 use Rattle.emtp_rows.specs.Nodal.{node_at}
 use Rattle.emtp_net.proofs.right.add_sources.Given as goal
 

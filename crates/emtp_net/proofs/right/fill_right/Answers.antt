@@ -1,7 +1,7 @@
 use Rattle.std.proofs.Common.{◌≡◌, ◌∙◌, ◌+ℤ◌, ap, length, arith}
 use Rattle.std.proofs.lemmas.List.FromFn.{length-map-range_with_len}
 use Rattle.emtp_rows.specs.Nodal.{node_at}
-use Rattle.emtp_net.specs.Rights.{place_at}
+use Rattle.emtp_net.specs.held.Rights.{place_at}
 use Rattle.emtp_net.specs.System.{source_value, sources_into}
 use Rattle.emtp_net.proofs.Righting.{right_is}
 use Rattle.emtp_net.proofs.right.fill_right.Goals as goal

@@ -2,7 +2,7 @@ use Rattle.std.proofs.Common.{◌≡◌, ◌∙◌, ap, sym, ◌++◌, ◌∷◌
 use Rattle.std.proofs.lemmas.List.FromFn.{map-range_with_len_more}
 use Rattle.std.specs.List.{range_with_len}
 use Rattle.emtp_rows.specs.Nodal.{node_at}
-use Rattle.emtp_net.specs.Rights.{place_at}
+use Rattle.emtp_net.specs.held.Rights.{place_at}
 use Rattle.emtp_case.proofs.RowsOfNodes.{order_at, order_size}
 use Rattle.emtp_net.proofs.right.places_of.Goals as goal
 

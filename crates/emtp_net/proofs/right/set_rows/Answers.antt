@@ -5,7 +5,7 @@ use Rattle.std.proofs.lemmas.Int.{to_z-of_z}
 use Rattle.std.proofs.lemmas.List.{get_or_default}
 use Rattle.emtp_case.specs.declared.row_kind.RowKind.TheVariants.{Ground, Kcl}
 use Rattle.emtp_elim.specs.Matrix.{item}
-use Rattle.emtp_net.specs.Rights.{row_value}
+use Rattle.emtp_net.specs.held.Rights.{row_value}
 use Rattle.emtp_rows.specs.Nodal.{kind_at}
 use Rattle.emtp_net.proofs.right.set_rows.Goals as goal
 

@@ -1,6 +1,6 @@
 use Rattle.std.proofs.Common.{◌≡◌, ◌<◌, ◌≤◌, ℕ, slice_index}
 use Rattle.emtp_elim.specs.Matrix.{item}
-use Rattle.emtp_net.specs.Rights.{row_value}
+use Rattle.emtp_net.specs.held.Rights.{row_value}
 use Rattle.emtp_rows.specs.Nodal.{kind_at}
 use Rattle.emtp_net.proofs.right.set_rows.Given as goal
 

@@ -1,4 +1,4 @@
-use Rattle.emtp_net.specs.Sums.{IsFolded}
+use Rattle.emtp_net.specs.held.Sums.{IsFolded}
 use Rattle.emtp_net.proofs.sums.fold.Given as goal
 
 abbrev pub invariant-loop-k : goal.invariant-loop-k

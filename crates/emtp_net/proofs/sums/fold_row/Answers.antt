@@ -9,7 +9,7 @@ use Rattle.emtp_fix.proofs.Wide.{through}
 use Rattle.emtp_net.proofs.Folding.{tie_is_plain}
 use Rattle.emtp_case.proofs.RowsOfNodes.{is_number, isnt_number}
 use Rattle.emtp_rows.specs.Nodal.{kind_at}
-use Rattle.emtp_rows.specs.Touched.{tied_row}
+use Rattle.emtp_rows.specs.held.Touched.{tied_row}
 use Rattle.emtp_net.proofs.sums.fold_row.Goals as goal
 
 pub add_to-requires-clause-amount : goal.add_to-requires-clause-amount

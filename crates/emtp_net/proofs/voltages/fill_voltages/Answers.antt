@@ -2,7 +2,7 @@ use Rattle.std.proofs.Common.{◌≡◌, ◌≢◌, ◌∙◌, ◌<◌, ◌+◌,
 use mir.Syntax.{w64}
 use Rattle.std.proofs.lemmas.Int.{to_z-of_z}
 use Rattle.emtp_elim.specs.Matrix.{item}
-use Rattle.emtp_rows.specs.Touched.{row_at}
+use Rattle.emtp_rows.specs.held.Touched.{row_at}
 use Rattle.emtp_case.proofs.RowsOfNodes.{order_size, row_read}
 use Rattle.emtp_net.proofs.NodeVoltages.{row_is_at, voltages_all, voltages_more}
 use Rattle.emtp_net.proofs.voltages.fill_voltages.Goals as goal

@@ -1,6 +1,6 @@
 use Rattle.std.proofs.Common.{◌≡◌, ◌<◌, ◌+◌, ℕ, pos}
 use Rattle.emtp_elim.specs.Matrix.{item}
-use Rattle.emtp_rows.specs.Touched.{row_at}
+use Rattle.emtp_rows.specs.held.Touched.{row_at}
 use Rattle.emtp_net.proofs.voltages.fill_voltages.Given as goal
 
 abbrev pub invariant-loop-at : goal.invariant-loop-at

@@ -1,4 +1,4 @@
-use Rattle.emtp_phasor.specs.HeldLines.{HasLines}
+use Rattle.emtp_phasor.specs.held.HeldLines.{HasLines}
 use Rattle.emtp_phasor.proofs.scanning.solved_lines.Given as goal
 
 abbrev pub invariant-loop-k : goal.invariant-loop-k

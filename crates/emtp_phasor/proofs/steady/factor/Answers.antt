@@ -1,5 +1,5 @@
 use Rattle.std.proofs.Common.{sym, ap, subst, length, arith}
-use Rattle.emtp_case.specs.EndNames.{IsNode}
+use Rattle.emtp_case.specs.held.EndNames.{IsNode}
 use Rattle.emtp_case.specs.declared.case.Parts.{Parts}
 use Rattle.emtp_case.proofs.RowsOfNodes.{order_size, row_node}
 use Rattle.emtp_phasor.specs.declared.ending.Ending.{Ending}

@@ -1,5 +1,5 @@
 use Rattle.std.proofs.Common.{sym, subst, arith}
-use Rattle.emtp_case.specs.EndNames.{IsNode}
+use Rattle.emtp_case.specs.held.EndNames.{IsNode}
 use Rattle.emtp_case.proofs.RowsOfNodes.{order_size, row_node}
 use Rattle.emtp_phasor.specs.declared.ending.Ending.{Ending}
 use Rattle.emtp_phasor.proofs.steady.solve_right.Goals as goal

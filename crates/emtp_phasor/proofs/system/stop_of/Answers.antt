@@ -1,6 +1,6 @@
 use Rattle.std.proofs.Common.{sym, ap, subst}
-use Rattle.emtp_phasor.specs.Ending.{EndsAlways}
-use Rattle.emtp_phasor.specs.Opening.{IsClosed, IsTiedBy}
+use Rattle.emtp_phasor.specs.held.Ending.{EndsAlways}
+use Rattle.emtp_phasor.specs.held.Opening.{IsClosed, IsTiedBy}
 use Rattle.emtp_phasor.specs.Steady.{ending_at}
 use Rattle.emtp_machine.specs.declared.end.Cause.TheVariants.{Tied}
 use Rattle.emtp_phasor.proofs.Steadying.{steady_tied}

@@ -1,7 +1,7 @@
 use Rattle.std.proofs.Common.{◌∙◌, ap, subst, ◌++◌, FitsSigned, rules}
 use mir.Syntax.{w128}
 use Rattle.std.proofs.lemmas.Int.{to_z-of_z}
-use Rattle.emtp_phasor.specs.Solving.{FaultsAt}
+use Rattle.emtp_phasor.specs.held.Solving.{FaultsAt}
 use Rattle.emtp_phasor_text.specs.Texts.{refusal_note, steady_end_note}
 use Rattle.emtp_phasor_text.proofs.Told.{end_told, refused_told}
 use Rattle.emtp_phasor_text.proofs.report.fault_report.Goals as goal

@@ -1,7 +1,7 @@
 use Rattle.std.proofs.Common.{◌+◌, List, sym, subst, length, get_or, ap, arith}
 use Rattle.emtp_case.specs.declared.branch.Branch.{Branch}
 use Rattle.emtp_pseudo.proofs.Holding.{branch_has_numbers, one_more_at_rest}
-use Rattle.emtp_pseudo.specs.Pseudos.{AreHeldAtRest}
+use Rattle.emtp_pseudo.specs.held.Pseudos.{AreHeldAtRest}
 use Rattle.emtp_pseudo.proofs.pseudos.at_rest.Goals as goal
 
 pub rest-requires : goal.rest-requires

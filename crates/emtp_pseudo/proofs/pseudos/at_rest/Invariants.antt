@@ -1,4 +1,4 @@
-use Rattle.emtp_pseudo.specs.Pseudos.{AreHeldAtRest}
+use Rattle.emtp_pseudo.specs.held.Pseudos.{AreHeldAtRest}
 use Rattle.emtp_pseudo.proofs.pseudos.at_rest.Given as goal
 
 abbrev pub invariant-loop-branch : goal.invariant-loop-branch

@@ -6,7 +6,7 @@ use Rattle.std.proofs.lemmas.List.{get_or_default}
 use Rattle.emtp_case.specs.declared.row_kind.RowKind.TheVariants.{Ground, Kcl, Sum, Tie}
 use Rattle.emtp_elim.specs.Matrix.{item}
 use Rattle.emtp_rows.proofs.Filled.{tie_set, unit_set}
-use Rattle.emtp_case.specs.RowKinds.{TieIsThere}
+use Rattle.emtp_case.specs.held.RowKinds.{TieIsThere}
 use Rattle.emtp_rows.specs.Nodal.{kind_at, unit}
 use Rattle.emtp_rows.proofs.fill.fill_row.Goals as goal
 

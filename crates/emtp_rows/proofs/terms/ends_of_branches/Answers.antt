@@ -1,12 +1,13 @@
 use Rattle.std.proofs.Common.{◌≡◌, ◌∙◌, ℕ, ◌+◌, ◌<◌, List, All, [], ◌∷◌, ◌++◌, ap, get_or, length, map, sym, take}
 use Rattle.std.proofs.lemmas.List.{map_more}
-use Rattle.emtp_case.specs.Branch.{IsBranch, from_of, to_of}
-use Rattle.emtp_case.specs.Range.{AreEnds}
-use Rattle.emtp_case.specs.Sizes.{sizes_of}
+use Rattle.emtp_case.specs.Branch.{from_of, to_of}
+use Rattle.emtp_case.specs.held.Branch.{IsBranch}
+use Rattle.emtp_case.specs.held.Range.{AreEnds}
+use Rattle.emtp_case.specs.held.Sizes.{sizes_of}
 use Rattle.emtp_case.specs.declared.branch.Branch.{Branch}
 use Rattle.emtp_case.specs.declared.case.Parts.{Parts}
-use Rattle.emtp_rows.specs.Terms.{end_rows}
-use Rattle.emtp_rows.specs.Touched.{row_at}
+use Rattle.emtp_rows.specs.held.Terms.{end_rows}
+use Rattle.emtp_rows.specs.held.Touched.{row_at}
 use Rattle.emtp_rows.proofs.Phases.{branch_ends}
 use Rattle.emtp_rows.proofs.terms.ends_of_branches.Goals as goal
 

@@ -1,5 +1,5 @@
 use Rattle.std.proofs.Common.{◌≡◌, map, take}
-use Rattle.emtp_rows.specs.Terms.{end_rows}
+use Rattle.emtp_rows.specs.held.Terms.{end_rows}
 use Rattle.emtp_rows.proofs.terms.ends_of_branches.Given as goal
 
 abbrev pub invariant-loop-branch : goal.invariant-loop-branch

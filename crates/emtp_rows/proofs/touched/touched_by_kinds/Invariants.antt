@@ -1,6 +1,6 @@
 use Rattle.std.proofs.Common.{◌≡◌, ◌<◌, ℕ, length}
 use Rattle.emtp_rows.specs.Nodal.{kind_at}
-use Rattle.emtp_rows.specs.Touched.{AgreesBy}
+use Rattle.emtp_rows.specs.held.Touched.{AgreesBy}
 use Rattle.emtp_rows.proofs.touched.touched_by_kinds.Given as goal
 
 abbrev pub invariant-loop-k : goal.invariant-loop-k

@@ -1,5 +1,5 @@
 use Rattle.emtp_run.proofs.Readings.{reads-refused}
-use Rattle.emtp_run.specs.Inputs.{named_input}
+use Rattle.emtp_run.specs.held.Inputs.{named_input}
 use Rattle.emtp_run.proofs.reading.read_input.Goals as goal
 
 pub returns-in_err-open-clause-reading : goal.returns-in_err-open-clause-reading

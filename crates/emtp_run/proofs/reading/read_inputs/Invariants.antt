@@ -1,5 +1,6 @@
 use Rattle.std.proofs.Common.{◌≡◌, take, length, Some, true, Ok}
-use Rattle.emtp_run.specs.Inputs.{ReadsInputs, contents, named_inputs, texts_of}
+use Rattle.emtp_run.specs.Inputs.{contents}
+use Rattle.emtp_run.specs.held.Inputs.{ReadsInputs, named_inputs, texts_of}
 use Rattle.emtp_run.proofs.reading.read_inputs.Given as goal
 
 -- the first files were read, and these are their texts

@@ -2,8 +2,8 @@ use Rattle.std.proofs.Common.{◌∙◌, ap, sym, ℕ, List, Some}
 use Rattle.std.specs.declared.alloc.Global.{Global}
 use Rattle.std.specs.declared.vec.Vec.{Vec}
 use Rattle.emtp_run.proofs.AfterReading.{answered, failed, wanting}
-use Rattle.emtp_run.specs.Inputs.{texts_of}
-use Rattle.emtp_run.specs.Words.{task_of}
+use Rattle.emtp_run.specs.held.Inputs.{texts_of}
+use Rattle.emtp_run.specs.held.Words.{task_of}
 use Rattle.emtp_run.proofs.run.answer.Goals as goal
 
 pub returns-in-Ok-clause-answers : goal.returns-in-Ok-clause-answers

@@ -5,11 +5,13 @@ use Rattle.emtp_card.specs.declared.reason.Bad.{Bad}
 use Rattle.emtp_case.specs.declared.case.Parts.{Parts}
 use Rattle.emtp_run.proofs.AfterReading.{some_text}
 use Rattle.emtp_run.proofs.Contents.{text_at-is}
-use Rattle.emtp_run.specs.Command.{HoldsOfRuns, answer_by, runs_by}
-use Rattle.emtp_run.specs.Inputs.{text_at, texts_of}
-use Rattle.emtp_run.specs.Outcome.{EndsAfterReading}
+use Rattle.emtp_run.specs.Command.{answer_by, runs_by}
+use Rattle.emtp_run.specs.held.Command.{HoldsOfRuns}
+use Rattle.emtp_run.specs.Inputs.{text_at}
+use Rattle.emtp_run.specs.held.Inputs.{texts_of}
+use Rattle.emtp_run.specs.held.Outcome.{EndsAfterReading}
 use Rattle.emtp_run.specs.Reading.{deck}
-use Rattle.emtp_run.specs.Words.{task_of}
+use Rattle.emtp_run.specs.held.Words.{task_of}
 use Rattle.emtp_run.proofs.run.judge.Goals as goal
 
 pub returns-in-Ok-clause-runs : goal.returns-in-Ok-clause-runs

@@ -1,5 +1,5 @@
 use Rattle.std.proofs.Common.{◌≡◌, ℕ, ◌<◌, length, take}
-use Rattle.emtp_switch.specs.Tallies.{tally_at, tally_of}
+use Rattle.emtp_switch.specs.held.Tallies.{tally_at, tally_of}
 use Rattle.emtp_switch.proofs.kinds.count.Given as goal
 
 abbrev pub invariant-loop-row : goal.invariant-loop-row

@@ -1,5 +1,6 @@
 use Rattle.std.proofs.Common.{◌+◌, length, subst, sym}
-use Rattle.emtp_switch.specs.Groups.{EndWithin, alone, closed_switches, groups}
+use Rattle.emtp_switch.specs.Groups.{alone, closed_switches, groups}
+use Rattle.emtp_switch.specs.held.Groups.{EndWithin}
 use Rattle.emtp_switch.proofs.Orders.{kinds_alike, part_alike}
 use Rattle.emtp_switch.proofs.Plans.{same_count, switch_ends}
 use Rattle.emtp_switch.proofs.laws.kinds_in_any_order.Goals as goal

@@ -1,10 +1,11 @@
 use Rattle.std.proofs.Common.{◌≡◌, ◌+◌, ℤ, List, length, sym, subst}
-use Rattle.emtp_case.specs.Case.{IsCase}
-use Rattle.emtp_case.specs.RowOrder.{IsRowOrder, Rows}
+use Rattle.emtp_case.specs.held.Case.{IsCase}
+use Rattle.emtp_case.specs.RowOrder.{Rows}
+use Rattle.emtp_case.specs.held.RowOrder.{IsRowOrder}
 use Rattle.emtp_case.specs.declared.case.Parts.{Parts}
 use Rattle.emtp_case.specs.declared.switch.SwitchState.{SwitchState}
 use Rattle.emtp_switch.specs.Currents.{currents_of}
-use Rattle.emtp_switch.specs.Groups.{EndWithin}
+use Rattle.emtp_switch.specs.held.Groups.{EndWithin}
 use Rattle.emtp_switch.proofs.Balancing.{AreBalanced, currents_balance}
 use Rattle.emtp_switch.proofs.Plans.{same_count, switch_ends}
 use Rattle.emtp_switch.proofs.laws.switch_currents_balance.Goals as goal

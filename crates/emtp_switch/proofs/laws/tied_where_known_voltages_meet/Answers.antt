@@ -1,5 +1,6 @@
 use Rattle.std.proofs.Common.{◌+◌, length, subst, sym}
-use Rattle.emtp_switch.specs.Groups.{EndWithin, closed_switches}
+use Rattle.emtp_switch.specs.Groups.{closed_switches}
+use Rattle.emtp_switch.specs.held.Groups.{EndWithin}
 use Rattle.emtp_switch.proofs.Meetings.{tied_where_they_meet}
 use Rattle.emtp_switch.proofs.Plans.{same_count, switch_ends}
 use Rattle.emtp_switch.proofs.Regrouping.{known_within, rows_within}

@@ -1,6 +1,6 @@
 use Rattle.std.specs.Prelude.{◌≡◌, map}
 use Rattle.std.specs.List.{range_with_len}
-use Rattle.emtp_switch.specs.Tallies.{ends_of}
+use Rattle.emtp_switch.specs.held.Tallies.{ends_of}
 use Rattle.emtp_switch.proofs.plan.find_ends.Given as goal
 
 abbrev pub invariant-loop-node : goal.invariant-loop-node

@@ -1,6 +1,6 @@
 use Rattle.std.specs.Prelude.{◌≡◌, ◌≤◌, ◌∷◌, ◌+◌, length, take, ℕ}
 use Rattle.emtp_switch.specs.Groups.{alone, knows}
-use Rattle.emtp_switch.specs.Tree.{is_reached}
+use Rattle.emtp_switch.specs.held.Tree.{is_reached}
 use Rattle.emtp_switch.proofs.plan.know.Given as goal
 
 abbrev pub invariant-loop-row : goal.invariant-loop-row

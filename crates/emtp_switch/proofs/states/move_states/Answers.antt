@@ -2,14 +2,14 @@ use Rattle.std.proofs.Common.{◌≡◌, ◌^◌, ℤ, length, to_z, of_z, ap, s
 use mir.Syntax.{w64}
 use Rattle.std.proofs.lemmas.Bool.{true≢false}
 use Rattle.std.proofs.lemmas.Int.{ints, to_z-of_z}
-use Rattle.emtp_case.specs.Range.{IsBetween}
+use Rattle.emtp_case.specs.held.Range.{IsBetween}
 use Rattle.emtp_case.specs.StepRecord.{latest}
 use Rattle.emtp_case.specs.declared.switch.Switch.{Switch}
 use Rattle.emtp_fix.proofs.Wide.{through_64}
 use Rattle.emtp_switch.specs.Groups.{state_at, switch_at}
 use Rattle.emtp_fix.specs.Items.{item}
 use Rattle.emtp_switch.specs.States.{state_after, view_of}
-use Rattle.emtp_switch.specs.Switching.{AreKept, AreLatest}
+use Rattle.emtp_switch.specs.held.Switching.{AreKept, AreLatest}
 use Rattle.emtp_switch.specs.declared.states.View.{View}
 use Rattle.emtp_switch.proofs.Moving.{all_moved, moved_more, view_is}
 use Rattle.emtp_switch.proofs.states.move_states.Goals as goal

@@ -1,4 +1,4 @@
-use Rattle.emtp_switch.specs.Switching.{AreKept, AreLatest}
+use Rattle.emtp_switch.specs.held.Switching.{AreKept, AreLatest}
 use Rattle.emtp_switch.proofs.Moving.{AreMoved}
 use Rattle.emtp_switch.proofs.states.move_states.Given as goal
 

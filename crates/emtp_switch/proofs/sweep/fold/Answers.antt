@@ -4,7 +4,7 @@ use Rattle.std.proofs.lemmas.Int.{fits_signed_from_abs, ints}
 use Rattle.std.proofs.lemmas.List.Sums.{get_or-le-sum_by, sum_by-set}
 use Rattle.emtp_fix.proofs.Wide.{abs-add-le, through}
 use Rattle.emtp_fix.specs.Items.{item}
-use Rattle.emtp_switch.specs.Tree.{folded, weight}
+use Rattle.emtp_switch.specs.held.Tree.{folded, weight}
 use Rattle.emtp_switch.specs.declared.sweep.Link.{Link}
 use Rattle.emtp_switch.proofs.sweep.fold.Goals as goal
 

@@ -3,7 +3,7 @@ use Rattle.std.specs.Prelude.{IfOk}
 use Rattle.emtp_card.specs.Fault.{judge}
 use Rattle.emtp_card.specs.Name.{name_field}
 use Rattle.emtp_netcards.specs.Fields.{needed}
-use Rattle.emtp_taccards.specs.BlockCard.{HasLimitsInOrder}
+use Rattle.emtp_taccards.specs.held.BlockCard.{HasLimitsInOrder}
 use Rattle.emtp_taccards.proofs.Rules.{block_limits}
 use Rattle.emtp_taccards.proofs.block_card.block.Goals as goal
 

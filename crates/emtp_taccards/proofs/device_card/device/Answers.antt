@@ -3,7 +3,7 @@ use Rattle.std.specs.Prelude.{IfOk}
 use Rattle.emtp_card.specs.Fault.{judge}
 use Rattle.emtp_card.specs.Name.{name_field}
 use Rattle.emtp_netcards.specs.Fields.{needed}
-use Rattle.emtp_taccards.specs.DeviceCard.{HasItsD}
+use Rattle.emtp_taccards.specs.held.DeviceCard.{HasItsD}
 use Rattle.emtp_taccards.specs.Group.{group_field}
 use Rattle.emtp_taccards.proofs.Rules.{device_d}
 use Rattle.emtp_taccards.proofs.device_card.device.Goals as goal

@@ -1,5 +1,5 @@
 use Rattle.std.proofs.Common.{◌≡◌}
-use Rattle.emtp_case.specs.Control.{AreKnown}
+use Rattle.emtp_case.specs.held.Control.{AreKnown}
 use Rattle.emtp_tacs.specs.Step.{with_outputs}
 use Rattle.emtp_tacs.proofs.block_system.put_outputs.Given as goal
 

@@ -1,9 +1,9 @@
 use Rattle.std.proofs.Common.{◌≡◌, ◌∙◌, ◌+◌, ap, sym, subst, get_or, to_z, of_z, Result, Err}
 use mir.Syntax.{w64}
 use Rattle.std.proofs.lemmas.Option.{get_or_from_slice_get}
-use Rattle.emtp_case.specs.Control.{var_of}
+use Rattle.emtp_case.specs.held.Control.{var_of}
 use Rattle.emtp_fix.proofs.Wide.{through_64}
-use Rattle.emtp_tacs.specs.Stages.{Reaches}
+use Rattle.emtp_tacs.specs.held.Stages.{Reaches}
 use Rattle.emtp_tacs.specs.Step.{SoFar}
 use Rattle.emtp_tacs.specs.declared.fault.TacsFault.{TacsFault}
 use Rattle.emtp_tacs.proofs.Folds.{card_out, card_reaches}

@@ -1,6 +1,6 @@
 use Rattle.std.proofs.Common.{◌≡◌, ◌∙◌, ◌+◌, ◌<◌, ap, sym, subst, get_or, length, slice_get, Some, Ok, Err, true, ℕ, arith}
 use Rattle.std.proofs.lemmas.Option.{slice_get-get_or}
-use Rattle.emtp_tacs.specs.Stages.{Reaches}
+use Rattle.emtp_tacs.specs.held.Stages.{Reaches}
 use Rattle.emtp_tacs.specs.Step.{extra_at, group_of, in_turn, is_in_pass}
 use Rattle.emtp_tacs.proofs.Folds.{pass_ends, pass_more, pass_skips}
 use Rattle.emtp_tacs.proofs.extras.compute_extras.Goals as goal

@@ -1,7 +1,7 @@
 use Rattle.std.proofs.Common.{◌≡◌, List, length, Ok}
-use Rattle.emtp_case.specs.Control.{AreKnown}
+use Rattle.emtp_case.specs.held.Control.{AreKnown}
 use Rattle.emtp_case.specs.StepRecord.{StepRecord}
-use Rattle.emtp_tacs.specs.Stages.{IsSoFar, Reaches}
+use Rattle.emtp_tacs.specs.held.Stages.{IsSoFar, Reaches}
 use Rattle.emtp_tacs.specs.Step.{SoFar, extra_at, in_turn}
 use Rattle.emtp_tacs.proofs.extras.compute_extras.Given as goal
 

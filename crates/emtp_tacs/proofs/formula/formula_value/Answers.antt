@@ -2,7 +2,7 @@ use Rattle.std.proofs.Common.{◌≡◌, ◌∙◌, ◌<◌, ◌≤◌, ◌++◌
 use Rattle.std.proofs.lemmas.List.{length-map, take_at}
 use Rattle.std.proofs.lemmas.List.Elements.{All-map}
 use Rattle.emtp_elim.specs.Matrix.{item}
-use Rattle.emtp_expr.specs.Value.{AreInRange}
+use Rattle.emtp_expr.specs.held.Value.{AreInRange}
 use Rattle.emtp_fix.specs.declared.limit.TheConstants.{LARGEST_VALUE}
 use Rattle.emtp_tacs.proofs.formula.formula_value.Goals as goal
 

@@ -1,5 +1,5 @@
 use Rattle.std.proofs.Common.{◌≡◌, List, Ok}
-use Rattle.emtp_case.specs.Control.{AreKnown}
+use Rattle.emtp_case.specs.held.Control.{AreKnown}
 use Rattle.emtp_case.specs.declared.control.DeviceState.{DeviceState}
 use Rattle.emtp_tacs.specs.Step.{in_turn, source_at}
 use Rattle.emtp_tacs.proofs.sources.put_sources.Given as goal

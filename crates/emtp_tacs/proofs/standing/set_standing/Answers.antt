@@ -2,8 +2,8 @@ use Rattle.std.proofs.Common.{◌≤◌, ◌*ℤ◌, List, ℤ, ap, length, lt-l
 use mir.Syntax.{w64}
 use Rattle.std.proofs.lemmas.Int.{ints}
 use Rattle.std.proofs.lemmas.List.{length-take}
-use Rattle.emtp_case.specs.Case.{IsControl}
-use Rattle.emtp_case.specs.Control.{AreKnown}
+use Rattle.emtp_case.specs.held.Case.{IsControl}
+use Rattle.emtp_case.specs.held.Control.{AreKnown}
 use Rattle.emtp_case.specs.declared.case.Parts.{Parts}
 use Rattle.emtp_fix.proofs.Wide.{through_64}
 use Rattle.emtp_fix.specs.declared.limit.TheConstants.{LARGEST_VALUE}

@@ -1,8 +1,8 @@
 use Rattle.std.proofs.Common.{◌∙◌, sym, ap, subst, List, ℤ, length, Ok, Err, false, refl}
 use Rattle.std.proofs.lemmas.List.{with_items_is}
 use Rattle.std.proofs.lemmas.Result.{err_from_is_err_and}
-use Rattle.emtp_case.specs.Control.{AreKnown}
-use Rattle.emtp_tacs.specs.Stages.{IsSoFar, Solves}
+use Rattle.emtp_case.specs.held.Control.{AreKnown}
+use Rattle.emtp_tacs.specs.held.Stages.{IsSoFar, Solves}
 use Rattle.emtp_tacs.specs.Step.{Measured, blocks}
 use Rattle.emtp_tacs.proofs.Advancing.{advances, blocks_done, blocks_refused, known_refused}
 use Rattle.emtp_tacs.proofs.tacs.advance.Goals as goal

@@ -1,5 +1,5 @@
 use Rattle.std.proofs.Common.{◌≡◌, length, arith}
-use Rattle.emtp_tail.specs.Given.{rows_in}
+use Rattle.emtp_tail.specs.held.Given.{rows_in}
 use Rattle.emtp_tail.proofs.GivenRows.{length-rows_in, row_of-rows_in}
 use Rattle.emtp_tail.proofs.Redoing.{same_from, same_more, change_here, change_none, rows_differ, rows_equal}
 use Rattle.emtp_tail.proofs.kept.changed_row.Goals as goal

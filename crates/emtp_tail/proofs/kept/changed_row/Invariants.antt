@@ -1,5 +1,5 @@
 use Rattle.std.proofs.Common.{◌≡◌, length}
-use Rattle.emtp_tail.specs.Given.{rows_in}
+use Rattle.emtp_tail.specs.held.Given.{rows_in}
 use Rattle.emtp_tail.proofs.Redoing.{IsSameUpTo}
 use Rattle.emtp_tail.proofs.kept.changed_row.Given as goal
 

@@ -1,7 +1,7 @@
 use Rattle.std.proofs.Common.{◌≡◌, arith, refl, rules}
 use Rattle.emtp_fix.specs.Rounding.{near, near_abs}
-use Rattle.emtp_case.specs.Control.{IsDeviceCard}
-use Rattle.emtp_case.specs.Sizes.{Sizes}
+use Rattle.emtp_case.specs.held.Control.{IsDeviceCard}
+use Rattle.emtp_case.specs.held.Sizes.{Sizes}
 use Rattle.emtp_case.specs.declared.control.Device.{Device}
 use Rattle.emtp_tests_case.specs.Fixtures.{control_sizes}
 use Rattle.emtp_tests_case.proofs.control.add_devices.Goals as goal

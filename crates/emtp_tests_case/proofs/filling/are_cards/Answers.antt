@@ -1,4 +1,4 @@
-use Rattle.emtp_case.specs.Control.{var_of}
+use Rattle.emtp_case.specs.held.Control.{var_of}
 use Rattle.emtp_tests_case.proofs.Numbering.{one_more}
 use Rattle.emtp_tests_case.proofs.filling.are_cards.Goals as goal
 

@@ -1,4 +1,4 @@
-use Rattle.emtp_case.specs.Control.{var_of}
+use Rattle.emtp_case.specs.held.Control.{var_of}
 use Rattle.std.specs.List.{range_with_len}
 use Rattle.std.specs.Prelude.{◌≡◌, map, take}
 use Rattle.emtp_tests_case.proofs.filling.are_cards.Given as goal

@@ -1,7 +1,7 @@
 use Rattle.std.proofs.Common.{◌≡◌, subst, ℤ, List, Ok, arith}
 use Rattle.emtp_elim.specs.Matrix.{Matrix}
 use Rattle.emtp_elim.specs.Outcome.{outcome}
-use Rattle.emtp_blocks.specs.BlockRows.{limiters_kept}
+use Rattle.emtp_blocks.specs.held.BlockRows.{limiters_kept}
 use Rattle.emtp_blocks.specs.System.{matrix}
 use Rattle.emtp_blocks.proofs.Matrices.{length-control_matrix}
 use Rattle.emtp_blocks.proofs.OneByOne.{all_small}

@@ -1,6 +1,6 @@
 use Rattle.std.proofs.Common.{◌≡◌, length}
 use Rattle.emtp_case.specs.declared.control.Device.{Device}
-use Rattle.emtp_devices.specs.Devices.{IsDeviceAt}
+use Rattle.emtp_devices.specs.held.Devices.{IsDeviceAt}
 use Rattle.emtp_tests_control.proofs.devices.three_steps.Given as goal
 
 abbrev pub invariant-loop-at : goal.invariant-loop-at

@@ -1,6 +1,6 @@
 use Rattle.std.proofs.Common.{◌≤◌, sym, subst, unsigned_abs, ℤ}
 use Rattle.std.proofs.lemmas.List.Elements.{All-push}
-use Rattle.emtp_expr.specs.Value.{AreInRange}
+use Rattle.emtp_expr.specs.held.Value.{AreInRange}
 use Rattle.emtp_fix.proofs.Wide.{through_64}
 use Rattle.emtp_fix.specs.declared.limit.TheConstants.{LARGEST_VALUE}
 use Rattle.emtp_tests_control.proofs.expr.in_range_copy.Goals as goal

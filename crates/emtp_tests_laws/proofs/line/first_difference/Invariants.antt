@@ -1,5 +1,5 @@
 use Rattle.emtp_case.specs.declared.branch.Line.{Line}
-use Rattle.emtp_line.specs.Lines.{IsLineAt}
+use Rattle.emtp_line.specs.held.Lines.{IsLineAt}
 use Rattle.emtp_tests_laws.proofs.line.first_difference.Given as goal
 
 abbrev pub invariant-loop-at : goal.invariant-loop-at

@@ -1,6 +1,6 @@
 use Rattle.std.proofs.Common.{◌≡◌, List}
 use Rattle.emtp_case.specs.StepRecord.{StepRecord}
-use Rattle.emtp_lumped.specs.Lumps.{StandsFor}
+use Rattle.emtp_lumped.specs.held.Lumps.{StandsFor}
 use Rattle.emtp_tests_laws.specs.Stepping.{HaveMoved}
 use Rattle.emtp_tests_laws.proofs.Stepping.{HaveStayed}
 use Rattle.emtp_tests_laws.proofs.lumped.accept_all.Given as goal

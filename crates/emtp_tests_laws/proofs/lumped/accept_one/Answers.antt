@@ -4,7 +4,8 @@ use Rattle.std.proofs.lemmas.Int.{to_z-of_z}
 use Rattle.emtp_case.specs.declared.branch.Branch.TheVariants.{Lumped as OfLumped, Line as OfLine, Pseudo as OfPseudo, Phase as OfPhase}
 use Rattle.emtp_case.specs.declared.branch.Lumped.{Lumped}
 use Rattle.emtp_case.specs.declared.case.Parts.{Parts}
-use Rattle.emtp_lumped.specs.Lumps.{HasMoved, next_of}
+use Rattle.emtp_lumped.specs.Lumps.{next_of}
+use Rattle.emtp_lumped.specs.held.Lumps.{HasMoved}
 use Rattle.emtp_tests_laws.specs.Stepping.{voltage_of}
 use Rattle.emtp_tests_laws.proofs.Reading.{branch_read, series_in, same_branch}
 use Rattle.emtp_tests_laws.proofs.lumped.accept_one.Goals as goal

@@ -1,5 +1,5 @@
 use Rattle.emtp_case.specs.declared.branch.Lumped.{Lumped}
-use Rattle.emtp_lumped.specs.Lumps.{IsSeries}
+use Rattle.emtp_lumped.specs.held.Lumps.{IsSeries}
 use Rattle.emtp_tests_laws.proofs.lumped.first_difference.Given as goal
 
 abbrev pub invariant-loop-at : goal.invariant-loop-at

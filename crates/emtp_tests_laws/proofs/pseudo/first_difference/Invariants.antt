@@ -1,5 +1,5 @@
 use Rattle.emtp_case.specs.declared.branch.Pseudo.{Pseudo}
-use Rattle.emtp_pseudo.specs.Pseudos.{IsPseudoAt}
+use Rattle.emtp_pseudo.specs.held.Pseudos.{IsPseudoAt}
 use Rattle.emtp_tests_laws.proofs.pseudo.first_difference.Given as goal
 
 abbrev pub invariant-loop-at : goal.invariant-loop-at

@@ -1,7 +1,7 @@
 use Rattle.std.proofs.Common.{◌∙◌, ◌≤◌, sym, ap, length, take, arith}
 use Rattle.std.proofs.Math.Nat.{min-le_left, min-le_right}
 use Rattle.emtp_rows.specs.Nodal.{Nodal, nodal_matrix}
-use Rattle.emtp_rows.specs.Touched.{NodalRows}
+use Rattle.emtp_rows.specs.held.Touched.{NodalRows}
 use Rattle.emtp_rows.proofs.NodalRows.{length-nodal_matrix}
 use Rattle.emtp_rows.proofs.Touching.{stands_untouched}
 use Rattle.emtp_tests_network.proofs.rows.follow.Goals as goal

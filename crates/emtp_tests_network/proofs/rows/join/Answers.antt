@@ -2,7 +2,7 @@ use Rattle.std.proofs.Common.{arith, ℕ, zero, suc, ◌≡◌, ◌<◌, ◌∷�
 use Rattle.emtp_case.specs.declared.row_kind.RowKind.{RowKind}
 use Rattle.emtp_case.specs.declared.row_kind.RowKind.TheVariants.{Ground, Source, Sum, Tie}
 use Rattle.emtp_rows.specs.Nodal.{kind_at}
-use Rattle.emtp_case.specs.RowKinds.{AreKinds, TieIsThere}
+use Rattle.emtp_case.specs.held.RowKinds.{AreKinds, TieIsThere}
 use Rattle.emtp_tests_network.proofs.rows.join.Goals as goal
 
 joined : List RowKind

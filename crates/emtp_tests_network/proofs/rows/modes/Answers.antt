@@ -1,5 +1,5 @@
 use Rattle.std.proofs.Common.{rules, arith, pos, suc, zero, ℕ, ◌<◌, ◌∷◌, [], slice_index_or}
-use Rattle.emtp_case.specs.Branch.{HasLineNumbers}
+use Rattle.emtp_case.specs.held.Branch.{HasLineNumbers}
 use Rattle.emtp_fix.specs.Rounding.{near, near_abs}
 use Rattle.emtp_tests_network.proofs.rows.modes.Goals as goal
 

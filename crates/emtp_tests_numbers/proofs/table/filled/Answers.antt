@@ -1,5 +1,5 @@
 use Rattle.std.proofs.Common.{rules, arith, ◌^◌, ◌≤◌, ◌++◌, ◌∷◌, [], List, ℤ, zero, suc, unsigned_abs}
-use Rattle.emtp_elim.specs.Matrix.{AreWithin}
+use Rattle.emtp_elim.specs.held.Matrix.{AreWithin}
 use Rattle.emtp_tests_numbers.proofs.table.filled.Goals as goal
 
 one_more_within : (xs : List ℤ) (last : ℤ) → AreWithin (10 ^ 26) xs → unsigned_abs last ≤ 10 ^ 26 → AreWithin (10 ^ 26) (xs ++ last ∷ [])

@@ -1,5 +1,5 @@
 use Rattle.std.proofs.Common.{◌≡◌, ◌^◌, length}
-use Rattle.emtp_elim.specs.Matrix.{AreWithin}
+use Rattle.emtp_elim.specs.held.Matrix.{AreWithin}
 use Rattle.emtp_tests_numbers.proofs.table.filled.Given as goal
 
 abbrev pub invariant-loop-cell : goal.invariant-loop-cell

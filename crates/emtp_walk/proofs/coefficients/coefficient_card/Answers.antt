@@ -3,8 +3,8 @@ use mir.Syntax.{w64}
 use Rattle.std.specs.Prelude.{All, IfOk}
 use Rattle.std.proofs.lemmas.Int.{to_z-of_z}
 use Rattle.emtp_card.specs.Fault.{judge_due}
-use Rattle.emtp_netcards.specs.Fields.{IsSmall}
-use Rattle.emtp_walk.specs.Coefficients.{IsPolynomial}
+use Rattle.emtp_netcards.specs.held.Fields.{IsSmall}
+use Rattle.emtp_walk.specs.held.Coefficients.{IsPolynomial}
 use Rattle.emtp_walk.proofs.ControlCoefficients.{polynomial_kept}
 use Rattle.emtp_walk.proofs.coefficients.coefficient_card.Goals as goal
 

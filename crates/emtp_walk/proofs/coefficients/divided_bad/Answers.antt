@@ -1,7 +1,8 @@
 use Rattle.std.proofs.Common.{◌≡◌, ◌∙◌, sym, to_z, of_z, arith, rules}
 use mir.Syntax.{w64, w128}
 use Rattle.std.proofs.lemmas.Int.{ints, to_z-of_z}
-use Rattle.emtp_walk.specs.Coefficients.{IsBlockEntry, divided_bad}
+use Rattle.emtp_walk.specs.Coefficients.{divided_bad}
+use Rattle.emtp_walk.specs.held.Coefficients.{IsBlockEntry}
 use Rattle.emtp_walk.proofs.ControlCoefficients.{block_divided, if_none}
 use Rattle.emtp_walk.proofs.coefficients.divided_bad.Goals as goal
 

@@ -1,6 +1,6 @@
 use Rattle.std.proofs.Common.{pos, All, replicate, arith}
 use Rattle.std.proofs.lemmas.List.Elements.{All-replicate}
-use Rattle.emtp_netcards.specs.Fields.{IsSmall}
+use Rattle.emtp_netcards.specs.held.Fields.{IsSmall}
 use Rattle.emtp_walk.proofs.ControlCoefficients.{plain_block}
 use Rattle.emtp_walk.proofs.control_steps.take_block.Goals as goal
 

@@ -5,7 +5,7 @@ use Rattle.std.proofs.lemmas.List.Elements.{All-head, All-tail}
 use Rattle.emtp_case.specs.declared.branch.Point.{Point}
 use Rattle.emtp_walk.specs.Answer.{go_on}
 use Rattle.emtp_walk.specs.ControlSteps.{device_point_or_end, device_point_step}
-use Rattle.emtp_walk.specs.Sound.{before_at}
+use Rattle.emtp_walk.specs.held.Sound.{before_at}
 use Rattle.emtp_walk.proofs.Walking.{leaves}
 use Rattle.emtp_walk.proofs.device_steps.device_point_step.Goals as goal
 

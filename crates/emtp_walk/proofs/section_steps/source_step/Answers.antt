@@ -1,4 +1,4 @@
-use Rattle.emtp_netcards.specs.SourceCard.{HasSourceCardNumbers}
+use Rattle.emtp_netcards.specs.held.SourceCard.{HasSourceCardNumbers}
 use Rattle.emtp_walk.proofs.Sounding.{pushed}
 use Rattle.emtp_walk.proofs.section_steps.source_step.Goals as goal
 

@@ -1,4 +1,4 @@
-use Rattle.emtp_netcards.specs.SwitchCard.{HasSwitchNumbers}
+use Rattle.emtp_netcards.specs.held.SwitchCard.{HasSwitchNumbers}
 use Rattle.emtp_walk.proofs.Sounding.{pushed}
 use Rattle.emtp_walk.proofs.section_steps.switch_step.Goals as goal
 

@@ -1,5 +1,5 @@
 use Rattle.std.proofs.Common.{◌≡◌, ◌+◌, drop}
-use Rattle.emtp_walk.specs.Sound.{IsSound}
+use Rattle.emtp_walk.specs.held.Sound.{IsSound}
 use Rattle.emtp_walk.specs.Walk.{empty_deck, walk}
 use Rattle.emtp_walk.specs.declared.deck.Place.TheVariants.{Begin}
 use Rattle.emtp_walk.proofs.steps.take_lines.Given as goal

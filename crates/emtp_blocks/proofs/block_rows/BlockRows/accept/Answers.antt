@@ -1,8 +1,8 @@
 use Rattle.std.proofs.Common.{◌≡◌, ◌∙◌, sym, ap, subst, ◌∷◌, ◌++◌, ℕ, ℤ, All, List, length, arith, take, take_at, drop, Option}
-use Rattle.emtp_blocks.specs.Block.{IsKept, IsLaw}
-use Rattle.emtp_blocks.specs.BlockRows.{AreLaws, AreUnknowns, Blocking, IsHeld, StandsAt, StandsFor, limiters_kept}
+use Rattle.emtp_blocks.specs.held.Block.{IsKept, IsLaw}
+use Rattle.emtp_blocks.specs.held.BlockRows.{AreLaws, AreUnknowns, Blocking, IsHeld, StandsAt, StandsFor, limiters_kept}
 use Rattle.emtp_blocks.specs.declared.law.BlockLaw.{BlockLaw}
-use Rattle.emtp_case.specs.Control.{AreKnown}
+use Rattle.emtp_case.specs.held.Control.{AreKnown}
 use Rattle.emtp_case.specs.declared.case.Parts.{Parts}
 use Rattle.emtp_case.specs.declared.control.BlockState.{BlockState}
 use Rattle.emtp_blocks.proofs.OneByOne.{none_out_is, outputs_all, stands_next, limiters_same}

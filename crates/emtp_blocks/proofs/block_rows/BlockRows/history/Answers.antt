@@ -1,8 +1,8 @@
 use Rattle.std.proofs.Common.{◌∙◌, sym, ap, subst, All, length, ℕ, List}
-use Rattle.emtp_case.specs.Control.{AreKnown}
+use Rattle.emtp_case.specs.held.Control.{AreKnown}
 use Rattle.emtp_case.specs.declared.control.BlockState.{BlockState}
-use Rattle.emtp_blocks.specs.Block.{IsKept, IsLaw}
-use Rattle.emtp_blocks.specs.BlockRows.{AreLaws, Blocking, StandsAt, StandsFor}
+use Rattle.emtp_blocks.specs.held.Block.{IsKept, IsLaw}
+use Rattle.emtp_blocks.specs.held.BlockRows.{AreLaws, Blocking, StandsAt, StandsFor}
 use Rattle.emtp_blocks.specs.System.{right}
 use Rattle.emtp_blocks.specs.declared.law.BlockLaw.{BlockLaw}
 use Rattle.emtp_blocks.proofs.block_rows.BlockRows.history.Goals as goal

@@ -2,8 +2,8 @@ use Rattle.std.proofs.Common.{◌∙◌, ap, refl, pos, length}
 use Rattle.std.proofs.lemmas.List.{length-replicate}
 use Rattle.std.proofs.lemmas.List.Elements.{All-weaker}
 use Rattle.std.proofs.lemmas.Result.{IfOk-from_err}
-use Rattle.emtp_blocks.specs.Block.{IsKept}
-use Rattle.emtp_blocks.specs.BlockRows.{IsAtRest}
+use Rattle.emtp_blocks.specs.held.Block.{IsKept}
+use Rattle.emtp_blocks.specs.held.BlockRows.{IsAtRest}
 use Rattle.emtp_blocks.proofs.Resting.{rest_kept, stands_at_rest}
 use Rattle.emtp_blocks.proofs.block_rows.BlockRows.open.Goals as goal
 

@@ -1,5 +1,5 @@
 use Rattle.std.proofs.Common.{ap, length, arith}
-use Rattle.emtp_blocks.specs.BlockRows.{Blocking, limiters_kept}
+use Rattle.emtp_blocks.specs.held.BlockRows.{Blocking, limiters_kept}
 use Rattle.emtp_blocks.proofs.Matrices.{length-control_matrix}
 use Rattle.emtp_blocks.proofs.block_rows.BlockRowsRows.row.Goals as goal
 

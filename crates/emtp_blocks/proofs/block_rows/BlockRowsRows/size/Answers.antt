@@ -1,8 +1,8 @@
 use Rattle.std.proofs.Common.{◌∙◌, sym, ap, subst, [], pos, length}
-use Rattle.emtp_elim.specs.Rows.{IsLawful}
+use Rattle.emtp_elim.specs.held.Rows.{IsLawful}
 use Rattle.emtp_case.specs.declared.control.Block.{Block}
 use Rattle.emtp_case.specs.declared.control.Bound.TheVariants.{None as NoBound}
-use Rattle.emtp_blocks.specs.BlockRows.{Blocking, limiters_kept, rows_of_blocks}
+use Rattle.emtp_blocks.specs.held.BlockRows.{Blocking, limiters_kept, rows_of_blocks}
 use Rattle.emtp_blocks.proofs.Matrices.{length-control_matrix, control_lawful}
 use Rattle.emtp_blocks.proofs.block_rows.BlockRowsRows.size.Goals as goal
 

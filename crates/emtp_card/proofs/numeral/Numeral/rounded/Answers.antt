@@ -3,8 +3,8 @@ use Rattle.std.specs.Char.{IsAsciiDigit}
 use Rattle.std.proofs.lemmas.List.Elements.{All-append}
 use Rattle.emtp_fix.specs.Rounding.{near_abs}
 use Rattle.emtp_card.specs.Decimal.{number_of}
-use Rattle.emtp_card.specs.Rounding.{digits_in}
-use Rattle.emtp_card.specs.Numeral.{AreDigits, IsNumeral}
+use Rattle.emtp_card.specs.held.Rounding.{digits_in}
+use Rattle.emtp_card.specs.held.Numeral.{AreDigits, IsNumeral}
 use Rattle.emtp_card.specs.declared.numeral.Numeral.{Numeral}
 use Rattle.emtp_card.proofs.Cutting.{IsCut, cut_is, cut_all, front-le_cut}
 use Rattle.emtp_card.proofs.numeral.Numeral.rounded.Goals as goal

@@ -2,7 +2,7 @@ use Rattle.std.proofs.Common.{ap, ◌≤◌, ◌^◌, arith, mul-le-mul_left}
 use Rattle.std.proofs.lemmas.List.{take_all}
 use Rattle.emtp_fix.proofs.Digits.{power-above}
 use Rattle.emtp_card.specs.Decimal.{number_of}
-use Rattle.emtp_card.specs.Rounding.{digits_in}
+use Rattle.emtp_card.specs.held.Rounding.{digits_in}
 use Rattle.emtp_card.proofs.numeral.Numeral.shifted.Goals as goal
 
 pub returns-in-None : goal.returns-in-None

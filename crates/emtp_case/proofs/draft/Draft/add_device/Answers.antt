@@ -2,7 +2,7 @@ use Rattle.emtp_case.specs.declared.branch.Point.{Point}
 use Rattle.emtp_case.specs.declared.control.Extra.{Extra}
 use Rattle.emtp_case.specs.declared.control.Extra.TheVariants.{Device as OfDevice}
 use Rattle.std.specs.Prelude.{List, length}
-use Rattle.emtp_case.specs.Case.{IsDraft}
+use Rattle.emtp_case.specs.held.Case.{IsDraft}
 use Rattle.emtp_case.specs.declared.case.Parts.{Parts}
 use Rattle.emtp_case.proofs.Growth.{both_or_not, same_both, drafts_same}
 use Rattle.emtp_case.proofs.DraftSteps.{with_device}

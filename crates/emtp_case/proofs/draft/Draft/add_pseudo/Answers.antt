@@ -2,7 +2,7 @@ use Rattle.emtp_case.specs.declared.branch.Point.{Point}
 use Rattle.emtp_case.specs.declared.branch.Branch.{Branch}
 use Rattle.emtp_case.specs.declared.branch.Branch.TheVariants.{Pseudo as OfPseudo}
 use Rattle.std.specs.Prelude.{◌++◌, ◌∷◌, [], List, length}
-use Rattle.emtp_case.specs.Case.{IsDraft}
+use Rattle.emtp_case.specs.held.Case.{IsDraft}
 use Rattle.emtp_case.specs.HistoryValues.{history_values_of}
 use Rattle.emtp_case.specs.declared.case.Parts.{Parts}
 use Rattle.emtp_case.proofs.Growth.{both_or_not, longer_both, then_ok}

@@ -1,7 +1,7 @@
 use Rattle.std.specs.Prelude.{List}
 use Rattle.std.proofs.Common.{ap}
 use Rattle.emtp_case.specs.declared.source.Source.{Source}
-use Rattle.emtp_case.specs.Case.{IsDraft}
+use Rattle.emtp_case.specs.held.Case.{IsDraft}
 use Rattle.emtp_case.proofs.Growth.{draft_same, no_ok, on_err, pushed_or_not}
 use Rattle.emtp_case.proofs.DraftSteps.{with_tacs_source}
 use Rattle.emtp_case.proofs.draft.Draft.add_tacs_source.Goals as goal

@@ -2,7 +2,7 @@ use Rattle.emtp_case.specs.declared.branch.Trio.{Trio}
 use Rattle.emtp_case.specs.declared.branch.Branch.{Branch}
 use Rattle.emtp_case.specs.Case.{phase_branches}
 use Rattle.std.specs.Prelude.{◌++◌, ◌∷◌, [], List, length}
-use Rattle.emtp_case.specs.Case.{IsDraft}
+use Rattle.emtp_case.specs.held.Case.{IsDraft}
 use Rattle.emtp_case.specs.HistoryValues.{history_values_of}
 use Rattle.emtp_case.specs.declared.case.Parts.{Parts}
 use Rattle.emtp_case.proofs.Growth.{both_or_not, drafts_same, longer_both, same_both, then_ok}

@@ -2,7 +2,7 @@ use Rattle.std.proofs.Common.{◌≡◌, ◌≤◌, ◌<◌, ◌∙◌, ap, arit
 use Rattle.std.proofs.lemmas.List.{get_or_default}
 use Rattle.std.specs.Prelude.{List, slice_index, ℕ}
 use Rattle.emtp_case.specs.RowOrder.{Rows}
-use Rattle.emtp_case.specs.RowTable.{AreRows}
+use Rattle.emtp_case.specs.held.RowTable.{AreRows}
 use Rattle.emtp_case.proofs.row_order.RowOrder.row_of.Goals as goal
 
 row_read : (nodes rows : List ℕ) (node d : ℕ) → AreRows nodes rows → node ≤ length nodes → get_or rows node d ≡ slice_index rows node

@@ -1,10 +1,10 @@
 use Rattle.std.proofs.Common.{◌∙◌, ap, sym, subst, get_or, slice_set, List, arith}
-use Rattle.emtp_case.specs.Control.{IsDevice}
-use Rattle.emtp_case.specs.Sizes.{sizes_of}
+use Rattle.emtp_case.specs.held.Control.{IsDevice}
+use Rattle.emtp_case.specs.held.Sizes.{sizes_of}
 use Rattle.emtp_case.specs.declared.control.Device.{Device}
 use Rattle.emtp_case.specs.declared.control.Extra.{Extra}
-use Rattle.emtp_devices.specs.Devices.{HeldDevices, Moves}
-use Rattle.emtp_devices.specs.Held.{IsHeldOf}
+use Rattle.emtp_devices.specs.held.Devices.{HeldDevices, Moves}
+use Rattle.emtp_devices.specs.held.Held.{IsHeldOf}
 use Rattle.emtp_devices.proofs.Holding.{at_seen, card_fits, card_is, held_fits, held_set, moves, there}
 use Rattle.emtp_devices.proofs.devices.Devices.step.Goals as goal
 

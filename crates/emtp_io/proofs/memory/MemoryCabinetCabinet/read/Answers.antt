@@ -1,5 +1,5 @@
 use Rattle.std.proofs.Common.{◌∙◌, ap, refl, sym, take, arith}
-use Rattle.emtp_io.specs.Memory.{Memory}
+use Rattle.emtp_io.specs.held.Memory.{Memory}
 use Rattle.emtp_io.proofs.FilesLemmas.{unread_of-read, unread_of-fits}
 use Rattle.emtp_io.proofs.memory.MemoryCabinetCabinet.read.Goals as goal
 

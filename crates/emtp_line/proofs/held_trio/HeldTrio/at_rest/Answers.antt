@@ -2,9 +2,9 @@ use Rattle.std.proofs.Common.{◌≡◌, ◌∙◌, ap, refl, ℤ, FitsSigned, r
 use mir.Syntax.{w64}
 use Rattle.std.proofs.lemmas.Int.{to_z-of_z}
 use Rattle.emtp_case.specs.declared.branch.Trio.{Trio}
-use Rattle.emtp_line.specs.Held.{held_at_rest, trio_at_rest}
+use Rattle.emtp_line.specs.held.Held.{held_at_rest, trio_at_rest}
 use Rattle.emtp_line.specs.Phases.{mode_of_trio, own_conductance, mutual_conductance}
-use Rattle.emtp_line.specs.Waves.{waves_at_rest}
+use Rattle.emtp_line.specs.held.Waves.{waves_at_rest}
 use Rattle.emtp_line.specs.declared.held.HeldLine.{HeldLine}
 use Rattle.emtp_line.specs.declared.mode.Mode.{Mode}
 use Rattle.emtp_line.specs.declared.waves.Waves.{Waves}

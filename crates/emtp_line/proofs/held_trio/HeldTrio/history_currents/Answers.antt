@@ -1,6 +1,6 @@
 use Rattle.std.proofs.Common.{◌≡◌, ◌∙◌, ap, subst, sym, ℤ, arith, refl}
 use Rattle.std.proofs.lemmas.Int.{ints}
-use Rattle.emtp_line.specs.Held.{IsHeld, phase_held}
+use Rattle.emtp_line.specs.held.Held.{IsHeld, phase_held}
 use Rattle.emtp_line.specs.declared.held.HeldLine.{HeldLine}
 use Rattle.emtp_line.proofs.Trios.{phase_fits}
 use Rattle.emtp_line.proofs.held_trio.HeldTrio.history_currents.Goals as goal

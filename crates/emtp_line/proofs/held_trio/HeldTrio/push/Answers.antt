@@ -1,7 +1,7 @@
 use Rattle.std.proofs.Common.{FitsSigned, rules}
 use mir.Syntax.{w64}
 use Rattle.std.proofs.lemmas.Int.{to_z-of_z}
-use Rattle.emtp_line.specs.Held.{state_at}
+use Rattle.emtp_line.specs.held.Held.{state_at}
 use Rattle.emtp_line.specs.Phases.{zero_from_waves, zero_to_waves}
 use Rattle.emtp_line.proofs.Trios.{phase_pushed}
 use Rattle.emtp_line.proofs.held_trio.HeldTrio.push.Goals as goal

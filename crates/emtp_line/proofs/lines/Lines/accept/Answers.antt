@@ -1,8 +1,8 @@
 use Rattle.std.proofs.Common.{◌≡◌, ◌∙◌, ap, sym, subst, slice_set, FitsSigned}
 use mir.Syntax.{w64}
 use Rattle.std.proofs.lemmas.Int.{to_z-of_z}
-use Rattle.emtp_line.specs.Held.{IsHeld}
-use Rattle.emtp_line.specs.Lines.{Lining, IsLineAt, Moves}
+use Rattle.emtp_line.specs.held.Held.{IsHeld}
+use Rattle.emtp_line.specs.held.Lines.{Lining, IsLineAt, Moves}
 use Rattle.emtp_line.specs.declared.held.HeldLine.{HeldLine}
 use Rattle.emtp_line.proofs.Holding.{line_within, line_read, held_read, lining-set}
 use Rattle.emtp_line.proofs.Lining.{moves}

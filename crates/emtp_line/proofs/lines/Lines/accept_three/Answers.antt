@@ -1,6 +1,6 @@
 use Rattle.std.proofs.Common.{◌≡◌, ◌∙◌, ◌<◌, ap, sym, subst, slice_set, length}
-use Rattle.emtp_line.specs.Held.{held_modes}
-use Rattle.emtp_line.specs.Lines.{Lining, TrioMoves}
+use Rattle.emtp_line.specs.held.Held.{held_modes}
+use Rattle.emtp_line.specs.held.Lines.{Lining, TrioMoves}
 use Rattle.emtp_line.proofs.Trios.{trio_within, trio_read, lining-set_trio}
 use Rattle.emtp_line.proofs.Lining.{trio_moves}
 use Rattle.emtp_line.proofs.lines.Lines.accept_three.Goals as goal

@@ -1,9 +1,10 @@
 use Rattle.std.proofs.Common.{◌≡◌, ◌∙◌, sym, subst, slice_get, FitsSigned, rules}
 use mir.Syntax.{w64}
 use Rattle.std.proofs.lemmas.Int.{to_z-of_z}
-use Rattle.emtp_case.specs.Range.{IsBetween}
+use Rattle.emtp_case.specs.held.Range.{IsBetween}
 use Rattle.emtp_fix.specs.declared.limit.TheConstants.{LARGEST_ENTRY}
-use Rattle.emtp_line.specs.Lines.{Lining, IsLineAt, IsPhaseAt, HasWaves, trio_of}
+use Rattle.emtp_line.specs.Lines.{trio_of}
+use Rattle.emtp_line.specs.held.Lines.{Lining, IsLineAt, IsPhaseAt, HasWaves}
 use Rattle.emtp_line.specs.Phases.{modes_of, own_conductance}
 use Rattle.emtp_line.proofs.Finding.{found_line, found_phase, no_line_found, no_phase_found, own_between, phase_own, line_conductance}
 use Rattle.emtp_line.proofs.lines.Lines.conductance.Goals as goal

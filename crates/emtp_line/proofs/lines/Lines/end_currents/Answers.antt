@@ -1,5 +1,5 @@
 use Rattle.std.proofs.Common.{◌≡◌, ◌∙◌, sym, subst, refl, slice_get, arith}
-use Rattle.emtp_line.specs.Lines.{Lining, IsLineAt, IsPhaseAt, HasWaves, StandsAt, TrioStandsAt}
+use Rattle.emtp_line.specs.held.Lines.{Lining, IsLineAt, IsPhaseAt, HasWaves, StandsAt, TrioStandsAt}
 use Rattle.emtp_line.proofs.Finding.{found_line, found_phase, no_line_found, no_phase_found, waves_within, line_currents_held, phase_currents_held}
 use Rattle.emtp_line.proofs.lines.Lines.end_currents.Goals as goal
 

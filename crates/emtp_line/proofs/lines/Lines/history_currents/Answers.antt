@@ -2,7 +2,8 @@ use Rattle.std.proofs.Common.{◌≡◌, ◌∙◌, sym, subst, refl, ℤ, slice
 use Rattle.emtp_line.specs.Line.{line_histories}
 use Rattle.emtp_line.specs.Mode.{mode_of_line}
 use Rattle.emtp_line.specs.Phases.{modes_of, phase_from_history, phase_to_history}
-use Rattle.emtp_line.specs.Lines.{Lining, IsLineAt, IsPhaseAt, HasWaves, StandsAt, TrioStandsAt, trio_of}
+use Rattle.emtp_line.specs.Lines.{trio_of}
+use Rattle.emtp_line.specs.held.Lines.{Lining, IsLineAt, IsPhaseAt, HasWaves, StandsAt, TrioStandsAt}
 use Rattle.emtp_line.proofs.Finding.{found_line, found_phase, no_line_found, no_phase_found, waves_within, line_histories_held, phase_histories_held}
 use Rattle.emtp_line.proofs.lines.Lines.history_currents.Goals as goal
 

@@ -1,7 +1,8 @@
 use Rattle.std.proofs.Common.{◌≡◌, ◌∙◌, ap, sym, subst, ◌<◌, length, FitsSigned, rules}
 use mir.Syntax.{w64}
 use Rattle.std.proofs.lemmas.Int.{to_z-of_z}
-use Rattle.emtp_line.specs.Lines.{Lining, trio_of}
+use Rattle.emtp_line.specs.Lines.{trio_of}
+use Rattle.emtp_line.specs.held.Lines.{Lining}
 use Rattle.emtp_line.specs.Phases.{modes_of, mutual_conductance}
 use Rattle.emtp_line.specs.declared.held_trio.HeldTrio.{HeldTrio}
 use Rattle.emtp_line.proofs.Trios.{trio_within, trio_read, held_trio_read}

@@ -5,7 +5,8 @@ use Rattle.emtp_case.specs.Branch.{line_impedance}
 use Rattle.emtp_fix.specs.Rounding.{near}
 use Rattle.emtp_fix.specs.declared.limit.TheConstants.{PICO}
 use Rattle.emtp_fix.proofs.Wide.{through_64}
-use Rattle.emtp_line.specs.Mode.{IsMode, far_share_of}
+use Rattle.emtp_line.specs.Mode.{far_share_of}
+use Rattle.emtp_line.specs.held.Mode.{IsMode}
 use Rattle.std.proofs.Math.Nat.{mod-lt}
 use Rattle.emtp_line.proofs.Bounds.{made, mode_fits, quarter_range}
 use Rattle.emtp_line.proofs.mode.Mode.of.Goals as goal

@@ -1,7 +1,7 @@
 use Rattle.std.proofs.Common.{◌∙◌, ap, ◌∷◌, ℤ, FitsSigned, rules}
 use mir.Syntax.{w64, w128}
 use Rattle.std.proofs.lemmas.Int.{to_z-of_z}
-use Rattle.emtp_hist.specs.History.{Remembers}
+use Rattle.emtp_hist.specs.held.History.{Remembers}
 use Rattle.emtp_line.proofs.waves.Waves.push.Goals as goal
 
 pub returns-clause-stands : goal.returns-clause-stands

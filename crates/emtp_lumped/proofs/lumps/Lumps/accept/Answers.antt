@@ -1,8 +1,8 @@
 use Rattle.std.proofs.Common.{◌∙◌, ap, subst, ◌-ℤ◌, slice_set, Ok, Err, option_map, FitsSigned, to_z, of_z, rules, arith}
 use mir.Syntax.{w64, w128}
 use Rattle.std.proofs.lemmas.Int.{ints, to_z-of_z}
-use Rattle.emtp_lumped.specs.Held.{with_state}
-use Rattle.emtp_lumped.specs.Lumps.{Lumping, Moves}
+use Rattle.emtp_lumped.specs.held.Held.{with_state}
+use Rattle.emtp_lumped.specs.held.Lumps.{Lumping, Moves}
 use Rattle.emtp_lumped.specs.Step.{next_state}
 use Rattle.emtp_lumped.specs.declared.held.HeldBranch.{HeldBranch}
 use Rattle.emtp_lumped.proofs.Holding.{seen_within, branch_read, lumping-moved, moves-ok, moves-out}

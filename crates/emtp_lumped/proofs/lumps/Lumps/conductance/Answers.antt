@@ -1,11 +1,11 @@
 use Rattle.std.proofs.Common.{◌≡◌, ◌∙◌, ap, sym, subst, FitsSigned, rules}
 use mir.Syntax.{w64}
 use Rattle.std.proofs.lemmas.Int.{to_z-of_z}
-use Rattle.emtp_case.specs.Range.{IsBetween}
+use Rattle.emtp_case.specs.held.Range.{IsBetween}
 use Rattle.emtp_fix.specs.declared.limit.TheConstants.{LARGEST_ENTRY}
 use Rattle.emtp_lumped.specs.Companion.{companion_of}
 use Rattle.emtp_lumped.specs.declared.companion.Companion.{Companion}
-use Rattle.emtp_lumped.specs.Lumps.{Lumping, IsSeries}
+use Rattle.emtp_lumped.specs.held.Lumps.{Lumping, IsSeries}
 use Rattle.emtp_lumped.specs.declared.held.HeldBranch.{HeldBranch}
 use Rattle.emtp_lumped.proofs.Holding.{series_within, branch_read, held_read}
 use Rattle.emtp_lumped.proofs.lumps.Lumps.conductance.Goals as goal

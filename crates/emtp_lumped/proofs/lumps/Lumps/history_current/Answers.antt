@@ -3,7 +3,8 @@ use Rattle.emtp_fix.proofs.Wide.{through}
 use Rattle.emtp_lumped.specs.Companion.{companion_of}
 use Rattle.emtp_lumped.specs.Step.{history_current_of}
 use Rattle.emtp_lumped.specs.declared.companion.Companion.{Companion}
-use Rattle.emtp_lumped.specs.Lumps.{Lumping, IsSeries, StandsAt, newest, branch_at}
+use Rattle.emtp_lumped.specs.Lumps.{newest}
+use Rattle.emtp_lumped.specs.held.Lumps.{Lumping, IsSeries, StandsAt, branch_at}
 use Rattle.emtp_lumped.specs.declared.held.HeldBranch.{HeldBranch}
 use Rattle.emtp_lumped.proofs.Holding.{series_within, branch_read, held_read, history-small}
 use Rattle.emtp_lumped.proofs.lumps.Lumps.history_current.Goals as goal

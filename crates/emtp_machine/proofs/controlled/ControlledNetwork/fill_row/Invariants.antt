@@ -1,6 +1,6 @@
 use Rattle.std.proofs.Common.{◌≡◌, List, length}
 use Rattle.emtp_case.specs.StepRecord.{StepRecord, latest}
-use Rattle.emtp_machine.specs.Controlled.{StandsFor}
+use Rattle.emtp_machine.specs.held.Controlled.{StandsFor}
 use Rattle.emtp_machine.specs.Channels.{channel_value}
 use Rattle.emtp_machine.proofs.Rows.{AreFilled}
 use Rattle.emtp_machine.proofs.controlled.ControlledNetwork.fill_row.Given as goal

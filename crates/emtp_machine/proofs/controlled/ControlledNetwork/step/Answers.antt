@@ -1,12 +1,12 @@
 use Rattle.std.proofs.Common.{◌≡◌, ◌∙◌, sym, subst, refl, ℕ, ◌+◌, ◌≤◌, Ok, Err}
 use Rattle.emtp_case.specs.declared.case.Parts.{Parts}
 use Rattle.emtp_machine.proofs.Joining.{refused, refused_ticks, shown_by, steps_ended, steps_made}
-use Rattle.emtp_net.specs.Network.{StepsTo as NetworkStepsTo}
-use Rattle.emtp_net.specs.Redone.{step_ticks}
+use Rattle.emtp_net.specs.held.Network.{StepsTo as NetworkStepsTo}
+use Rattle.emtp_net.specs.held.Redone.{step_ticks}
 use Rattle.emtp_net.specs.Step.{network_part}
 use Rattle.emtp_net.specs.declared.fault.NetFault.TheVariants.{Tied}
 use Rattle.emtp_tacs.specs.Step.{Measured, control_step}
-use Rattle.emtp_tacs.specs.Tacs.{StepsTo as ControlStepsTo}
+use Rattle.emtp_tacs.specs.held.Tacs.{StepsTo as ControlStepsTo}
 use Rattle.emtp_machine.proofs.controlled.ControlledNetwork.step.Goals as goal
 
 pub returns-in-Err-clause-step : goal.returns-in-Err-clause-step

@@ -2,7 +2,7 @@ use Rattle.std.proofs.Common.{◌∙◌, ap, sym, length}
 use Rattle.emtp_machine.proofs.Machines.{ends, has_room, is_left, is_running, may_step, passes, takes, written}
 use Rattle.emtp_machine.proofs.Ticks.{ticks-ended, ticks-made}
 use Rattle.emtp_machine.specs.History.{history_upto}
-use Rattle.emtp_machine.specs.Machine.{tried_of}
+use Rattle.emtp_machine.specs.held.Machine.{tried_of}
 use Rattle.emtp_machine.proofs.machine.Machine.advance.Goals as goal
 
 pub step-requires-clause-left : goal.step-requires-clause-left

@@ -1,6 +1,6 @@
 use Rattle.std.proofs.Common.{◌∙◌, ap, subst}
 use Rattle.emtp_case.specs.declared.case.Parts.{Parts}
-use Rattle.emtp_machine.specs.Machine.{Progress}
+use Rattle.emtp_machine.specs.held.Machine.{Progress}
 use Rattle.emtp_machine.proofs.Machines.{steps_of}
 use Rattle.emtp_machine.proofs.Ticks.{run-all, run-most, whole_history}
 use Rattle.emtp_machine.proofs.SampleRecords.{are_of}

@@ -1,5 +1,5 @@
 use Rattle.std.proofs.Common.{◌≡◌, ◌-◌}
-use Rattle.emtp_machine.specs.Machine.{HasTicked}
+use Rattle.emtp_machine.specs.held.Machine.{HasTicked}
 use Rattle.emtp_machine.proofs.machine.Machine.run.Given as goal
 
 abbrev pub invariant-steps : goal.invariant-steps

@@ -1,5 +1,5 @@
 use Rattle.std.proofs.Common.{ap, arith, length, sym, ◌∙◌}
-use Rattle.emtp_machine.specs.Samples.{Sampled}
+use Rattle.emtp_machine.specs.held.Samples.{Sampled}
 use Rattle.emtp_machine.proofs.SampleRows.{length-rows_of}
 use Rattle.emtp_machine.proofs.samples.Samples.count.Goals as goal
 

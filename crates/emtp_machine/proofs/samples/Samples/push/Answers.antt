@@ -1,5 +1,5 @@
 use Rattle.std.proofs.Common.{◌≡◌, ◌+◌, ◌*◌, ◌<◌, ◌++◌, ◌∷◌, [], List, ℤ, ap, arith, length, length-append}
-use Rattle.emtp_machine.specs.Samples.{Sampled, rows_of}
+use Rattle.emtp_machine.specs.held.Samples.{Sampled, rows_of}
 use Rattle.emtp_machine.proofs.SampleRows.{length-rows_of, rows_of-pushed, room-more}
 use Rattle.emtp_machine.proofs.samples.Samples.push.Goals as goal
 

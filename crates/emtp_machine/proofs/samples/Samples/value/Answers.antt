@@ -1,6 +1,7 @@
 use Rattle.std.proofs.Common.{rules, ◌≡◌, ◌+◌, ◌*◌, ◌<◌, List, ℤ, pos, slice_index_or, ap, arith, length, sym, ◌∙◌}
 use Rattle.std.proofs.Math.Nat.{mul-le-mul_right}
-use Rattle.emtp_machine.specs.Samples.{Sampled, value_at}
+use Rattle.emtp_machine.specs.Samples.{value_at}
+use Rattle.emtp_machine.specs.held.Samples.{Sampled}
 use Rattle.emtp_machine.proofs.SampleRows.{length-rows_of, place-within, value_at-rows_of}
 use Rattle.emtp_machine.proofs.samples.Samples.value.Goals as goal
 

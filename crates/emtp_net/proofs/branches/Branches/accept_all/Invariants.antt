@@ -1,7 +1,7 @@
 use Rattle.std.proofs.Common.{List}
 use Rattle.emtp_case.specs.StepRecord.{StepRecord}
-use Rattle.emtp_net.specs.Branches.{HasCase, StandsFor}
-use Rattle.emtp_net.specs.Moving.{AreCurrents, AreInRange, IsNext, StandsBefore}
+use Rattle.emtp_net.specs.held.Branches.{HasCase, StandsFor}
+use Rattle.emtp_net.specs.held.Moving.{AreCurrents, AreInRange, IsNext, StandsBefore}
 use Rattle.emtp_net.proofs.branches.Branches.accept_all.Given as goal
 
 abbrev pub invariant-loop-at : goal.invariant-loop-at

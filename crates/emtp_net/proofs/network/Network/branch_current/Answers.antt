@@ -2,8 +2,8 @@ use Rattle.std.proofs.Common.{◌∙◌, sym, subst, length, FitsSigned, rules}
 use mir.Syntax.{w64}
 use Rattle.std.proofs.lemmas.Int.{to_z-of_z}
 use Rattle.emtp_case.specs.StepRecord.{latest}
-use Rattle.emtp_net.specs.Moving.{AreCurrents}
-use Rattle.emtp_net.specs.Network.{Net, StandsFor}
+use Rattle.emtp_net.specs.held.Moving.{AreCurrents}
+use Rattle.emtp_net.specs.held.Network.{Net, StandsFor}
 use Rattle.emtp_net.proofs.LineCurrents.{current_at}
 use Rattle.emtp_net.proofs.network.Network.branch_current.Goals as goal
 

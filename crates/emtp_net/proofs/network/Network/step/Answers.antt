@@ -4,13 +4,13 @@ use Rattle.std.proofs.lemmas.List.{with_items_is}
 use Rattle.std.proofs.lemmas.Result.{err_from_is_err_and}
 use Rattle.emtp_case.specs.declared.case.Parts.{Parts}
 use Rattle.emtp_fix.specs.declared.limit.TheConstants.{LARGEST_VALUE}
-use Rattle.emtp_switch.specs.Switching as switching
-use Rattle.emtp_net.specs.Holding.{HoldsSwitches}
-use Rattle.emtp_net.specs.Fault.{NamesNode}
-use Rattle.emtp_net.specs.Moving.{HaveMoved}
-use Rattle.emtp_net.specs.Network.{Net, StandsFor}
-use Rattle.emtp_net.specs.Redone.{step_ticks}
-use Rattle.emtp_net.specs.Stages.{AreVoltages}
+use Rattle.emtp_switch.specs.held.Switching as switching
+use Rattle.emtp_net.specs.held.Holding.{HoldsSwitches}
+use Rattle.emtp_net.specs.held.Fault.{NamesNode}
+use Rattle.emtp_net.specs.held.Moving.{HaveMoved}
+use Rattle.emtp_net.specs.held.Network.{Net, StandsFor}
+use Rattle.emtp_net.specs.held.Redone.{step_ticks}
+use Rattle.emtp_net.specs.held.Stages.{AreVoltages}
 use Rattle.emtp_net.proofs.Factoring.{holds_kinds}
 use Rattle.emtp_net.proofs.Holding.{few_next}
 use Rattle.emtp_net.specs.Step.{network_part}

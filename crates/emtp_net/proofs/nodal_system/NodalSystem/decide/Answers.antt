@@ -3,7 +3,7 @@ use Rattle.std.proofs.lemmas.List.{with_items_is}
 use Rattle.emtp_case.specs.declared.case.Parts.{Parts}
 use Rattle.emtp_rows.specs.Nodal.{Nodal}
 use Rattle.emtp_switch.specs.States.{next_states}
-use Rattle.emtp_net.specs.Holding.{HoldsSwitches}
+use Rattle.emtp_net.specs.held.Holding.{HoldsSwitches}
 use Rattle.emtp_net.proofs.Ending.{tied_ends}
 use Rattle.emtp_net.proofs.Switching.{are_kinds, kinds_next, states_next, tied_next}
 use Rattle.emtp_net.proofs.nodal_system.NodalSystem.decide.Goals as goal

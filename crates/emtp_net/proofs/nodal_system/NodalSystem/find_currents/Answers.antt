@@ -3,8 +3,8 @@ use Rattle.std.specs.Vec.{with_items}
 use Rattle.std.proofs.lemmas.List.{get_or_default, with_items_is}
 use Rattle.emtp_case.specs.declared.case.Parts.{Parts}
 use Rattle.emtp_elim.specs.Matrix.{item}
-use Rattle.emtp_switch.specs.Currents.{IsFirstBeyond}
-use Rattle.emtp_net.specs.Holding.{HasRoom}
+use Rattle.emtp_switch.specs.held.Currents.{IsFirstBeyond}
+use Rattle.emtp_net.specs.held.Holding.{HasRoom}
 use Rattle.emtp_net.specs.Part.{leaving_rows, states_at, switch_currents_at}
 use Rattle.emtp_net.specs.Step.{first_beyond}
 use Rattle.emtp_net.specs.declared.nodal_system.NodalSystem.{NodalSystem}

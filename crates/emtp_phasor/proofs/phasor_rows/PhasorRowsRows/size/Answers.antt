@@ -1,5 +1,5 @@
 use Rattle.std.proofs.Common.{◌≡◌, ◌*◌, ap, subst, length, arith}
-use Rattle.emtp_elim.specs.Rows.{IsLawful}
+use Rattle.emtp_elim.specs.held.Rows.{IsLawful}
 use Rattle.emtp_case.specs.RowOrder.{order_of}
 use Rattle.emtp_phasor.specs.Doubled.{Doubled, doubled_matrix}
 use Rattle.emtp_phasor.proofs.Doubling.{length-doubled_matrix, doubled_lawful}

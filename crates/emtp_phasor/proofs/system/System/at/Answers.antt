@@ -2,7 +2,8 @@ use Rattle.std.proofs.Common.{◌≡◌, ◌∙◌, ◌∷◌, sym, ap, subst, d
 use mir.Syntax.{w64}
 use Rattle.std.proofs.lemmas.Int.{to_z-of_z}
 use Rattle.std.proofs.lemmas.List.{take_at}
-use Rattle.emtp_phasor.specs.Volts.{IsVolt, nothing, phasors_of}
+use Rattle.emtp_phasor.specs.Volts.{nothing, phasors_of}
+use Rattle.emtp_phasor.specs.held.Volts.{IsVolt}
 use Rattle.emtp_phasor.specs.declared.phasor.Phasor.{Phasor}
 use Rattle.emtp_phasor.proofs.Steadying.{ends_steady, fault_from, good_from, on_ok, steady_fault}
 use Rattle.emtp_phasor.proofs.Volting.{voltages_behind_ground, voltages_small}

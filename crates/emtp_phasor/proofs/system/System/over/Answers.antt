@@ -1,5 +1,5 @@
 use Rattle.std.proofs.Common.{◌∙◌, ◌*◌, ap, length, arith}
-use Rattle.emtp_tail.specs.Good.{Good}
+use Rattle.emtp_tail.specs.held.Good.{Good}
 use Rattle.emtp_phasor.specs.Doubled.{Doubled}
 use Rattle.emtp_phasor.proofs.Doubling.{length-doubled_matrix}
 use Rattle.emtp_phasor.proofs.system.System.over.Goals as goal

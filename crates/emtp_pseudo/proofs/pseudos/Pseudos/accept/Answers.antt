@@ -2,8 +2,8 @@ use Rattle.std.proofs.Common.{subst, ◌-ℤ◌, slice_set, Ok, Err, to_z, of_z,
 use mir.Syntax.{w64, w128}
 use Rattle.std.proofs.lemmas.Int.{to_z-of_z}
 use Rattle.emtp_case.specs.declared.branch.Pseudo.{Pseudo}
-use Rattle.emtp_pseudo.specs.Held.{IsHeld}
-use Rattle.emtp_pseudo.specs.Pseudos.{HeldPseudos, Moves}
+use Rattle.emtp_pseudo.specs.held.Held.{IsHeld}
+use Rattle.emtp_pseudo.specs.held.Pseudos.{HeldPseudos, Moves}
 use Rattle.emtp_pseudo.proofs.Holding.{at_seen, there, held_read, own_held, own_card, held_set, apart_fits, moves-ok, moves-out}
 use Rattle.emtp_pseudo.proofs.pseudos.Pseudos.accept.Goals as goal
 

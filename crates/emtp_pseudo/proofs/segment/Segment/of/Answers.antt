@@ -1,7 +1,8 @@
 use Rattle.std.proofs.Common.{sym, subst, FitsSigned, arith, rules}
 use mir.Syntax.{w32, w64}
 use Rattle.std.proofs.lemmas.Int.{to_z-of_z}
-use Rattle.emtp_pseudo.specs.Segment.{IsSound, segment_of}
+use Rattle.emtp_pseudo.specs.Segment.{segment_of}
+use Rattle.emtp_pseudo.specs.held.Segment.{IsSound}
 use Rattle.emtp_pseudo.proofs.Segments.{made_sound, mirrored_sound}
 use Rattle.emtp_pseudo.proofs.segment.Segment.of.Goals as goal
 

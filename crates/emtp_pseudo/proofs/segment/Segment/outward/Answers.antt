@@ -1,5 +1,5 @@
 use Rattle.std.proofs.Common.{sym, subst, suc, arith}
-use Rattle.emtp_pseudo.specs.Segment.{IsPoint}
+use Rattle.emtp_pseudo.specs.held.Segment.{IsPoint}
 use Rattle.emtp_pseudo.proofs.Segments.{points_fit}
 use Rattle.emtp_pseudo.proofs.segment.Segment.outward.Goals as goal
 

@@ -4,7 +4,7 @@ use Rattle.std.proofs.lemmas.List.{length-replicate}
 use Rattle.std.proofs.lemmas.List.Elements.{All-replicate}
 use Rattle.emtp_case.specs.RowOrder.{Rows, order_of}
 use Rattle.emtp_fix.specs.declared.limit.TheConstants.{LARGEST_ENTRY}
-use Rattle.emtp_rows.specs.Terms.{IsSmall}
+use Rattle.emtp_rows.specs.held.Terms.{IsSmall}
 use Rattle.emtp_case.proofs.RowsOfNodes.{fixed_within}
 use Rattle.emtp_rows.proofs.NodalRows.{kinds_from-AreKinds}
 use Rattle.emtp_rows.proofs.net_rows.NetRows.open.Goals as goal

@@ -5,8 +5,8 @@ use Rattle.std.proofs.lemmas.List.{set-get_or}
 use Rattle.std.proofs.lemmas.List.Elements.{All-set}
 use Rattle.std.proofs.lemmas.Option.{slice_get-get_or}
 use Rattle.emtp_case.specs.declared.branch.Branch.TheVariants.{Lumped as OfLumped}
-use Rattle.emtp_rows.specs.Terms.{IsSmall}
-use Rattle.emtp_rows.specs.Touched.{NodalRows, Touches}
+use Rattle.emtp_rows.specs.held.Terms.{IsSmall}
+use Rattle.emtp_rows.specs.held.Touched.{NodalRows, Touches}
 use Rattle.emtp_rows.proofs.Touching.{conductance_touches, ends_read, ends_within, later_at}
 use Rattle.emtp_rows.proofs.net_rows.NetRows.set_conductance.Goals as goal
 

@@ -2,8 +2,8 @@ use Rattle.std.proofs.Common.{◌≡◌, ◌∙◌, sym, ap, subst, List, length
 use Rattle.std.proofs.Math.Nat.{min-le_left, min-eq_left}
 use Rattle.emtp_case.specs.RowOrder.{order_of}
 use Rattle.emtp_case.specs.declared.row_kind.RowKind.{RowKind}
-use Rattle.emtp_case.specs.RowKinds.{AreKinds}
-use Rattle.emtp_rows.specs.Touched.{NodalRows, Touches}
+use Rattle.emtp_case.specs.held.RowKinds.{AreKinds}
+use Rattle.emtp_rows.specs.held.Touched.{NodalRows, Touches}
 use Rattle.emtp_rows.proofs.Touching.{kinds_touch}
 use Rattle.emtp_rows.proofs.net_rows.NetRows.set_kinds.Goals as goal
 

@@ -3,8 +3,8 @@ use mir.Syntax.{w64}
 use Rattle.std.proofs.lemmas.Int.{ints, to_z-of_z}
 use Rattle.std.proofs.lemmas.List.{length-map, set-get_or}
 use Rattle.std.proofs.lemmas.List.Elements.{All-set}
-use Rattle.emtp_rows.specs.Terms.{IsSmall, end_rows}
-use Rattle.emtp_rows.specs.Touched.{NodalRows, Touches}
+use Rattle.emtp_rows.specs.held.Terms.{IsSmall, end_rows}
+use Rattle.emtp_rows.specs.held.Touched.{NodalRows, Touches}
 use Rattle.emtp_rows.proofs.Phases.{first_is, phase_there}
 use Rattle.emtp_rows.proofs.Touching.{coupling_touches, ends_within, phases_later}
 use Rattle.emtp_rows.proofs.net_rows.NetRows.set_mutual.Goals as goal

@@ -1,6 +1,6 @@
 use Rattle.std.proofs.Common.{◌≡◌, ◌∙◌, ◌<◌, ap, length, arith}
 use Rattle.emtp_elim.specs.Matrix.{row_of}
-use Rattle.emtp_rows.specs.Touched.{NodalRows}
+use Rattle.emtp_rows.specs.held.Touched.{NodalRows}
 use Rattle.emtp_rows.specs.Nodal.{Nodal, nodal_matrix}
 use Rattle.emtp_rows.proofs.NodalRows.{length-nodal_matrix, row_is}
 use Rattle.emtp_rows.proofs.net_rows.NetRowsRows.row.Goals as goal

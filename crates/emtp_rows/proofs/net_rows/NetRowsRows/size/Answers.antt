@@ -1,7 +1,7 @@
 use Rattle.std.proofs.Common.{◌≡◌, ◌∙◌, sym, ap, subst, length}
-use Rattle.emtp_elim.specs.Rows.{IsLawful}
+use Rattle.emtp_elim.specs.held.Rows.{IsLawful}
 use Rattle.emtp_case.specs.RowOrder.{order_of}
-use Rattle.emtp_rows.specs.Touched.{NodalRows}
+use Rattle.emtp_rows.specs.held.Touched.{NodalRows}
 use Rattle.emtp_rows.specs.Nodal.{Nodal, nodal_matrix}
 use Rattle.emtp_rows.proofs.NodalRows.{length-nodal_matrix, nodal_lawful}
 use Rattle.emtp_rows.proofs.net_rows.NetRowsRows.size.Goals as goal

@@ -2,7 +2,7 @@ use Rattle.std.proofs.Common.{◌≡◌, ◌≤◌, ◌+◌, length, map, slice_
 use Rattle.std.proofs.lemmas.List.{with_items_is}
 use Rattle.std.proofs.lemmas.List.FromFn.{length-map-range_with_len}
 use Rattle.emtp_switch.specs.Groups.{root_of}
-use Rattle.emtp_switch.specs.Tallies.{ends_of, kind_found, tally_of}
+use Rattle.emtp_switch.specs.held.Tallies.{ends_of, kind_found, tally_of}
 use Rattle.emtp_switch.proofs.GroupRoots.{root_within}
 use Rattle.emtp_switch.proofs.Regrouping.{kinds_found, ranked_is}
 use Rattle.emtp_switch.proofs.groups.Groups.find_kinds.Goals as goal

@@ -3,7 +3,7 @@ use Rattle.std.specs.List.{All}
 use Rattle.std.proofs.lemmas.List.{with_items_is}
 use Rattle.emtp_switch.specs.Groups.{alone, groups}
 use Rattle.std.specs.Vec.{with_items}
-use Rattle.emtp_switch.specs.Tree.{AreLinks, StartsAtRoots, is_reached, root_in}
+use Rattle.emtp_switch.specs.held.Tree.{AreLinks, StartsAtRoots, is_reached, root_in}
 use Rattle.emtp_switch.proofs.GroupRoots.{ground_reached, roots_are, roots_start}
 use Rattle.emtp_switch.proofs.Regrouping.{labels_small, ranked_is, tree_found}
 use Rattle.emtp_switch.proofs.groups.Groups.grow.Goals as goal

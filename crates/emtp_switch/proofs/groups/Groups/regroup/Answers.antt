@@ -1,7 +1,7 @@
 use Rattle.std.proofs.Common.{◌≡◌, ◌+◌, length, map, take, ap, sym, ◌∙◌, subst, refl, arith}
 use Rattle.emtp_switch.specs.Groups.{alone, bridges, bridges_of, closed_switches, groups, labels_of}
 use Rattle.emtp_switch.specs.Kinds.{kind_of}
-use Rattle.emtp_switch.specs.Tree.{AreLinks, IsTree}
+use Rattle.emtp_switch.specs.held.Tree.{AreLinks, IsTree}
 use Rattle.emtp_switch.proofs.Finding.{groups-bridges}
 use Rattle.emtp_switch.proofs.Regrouping.{labels_small, same_tree}
 use Rattle.emtp_switch.proofs.Plans.{switch_ends}

@@ -2,9 +2,10 @@ use Rattle.std.proofs.Common.{◌≡◌, ◌++◌, ◌∷◌, [], pos, length, t
 use Rattle.std.specs.Vec.{with_items}
 use Rattle.std.proofs.lemmas.List.{with_items_is}
 use Rattle.emtp_fix.specs.Items.{item}
-use Rattle.emtp_switch.specs.Currents.{Balances, IsFirstBeyond, currents_of}
-use Rattle.emtp_switch.specs.Grouping.{AreTree}
-use Rattle.emtp_switch.specs.Switching.{Switching}
+use Rattle.emtp_switch.specs.Currents.{currents_of}
+use Rattle.emtp_switch.specs.held.Currents.{Balances, IsFirstBeyond}
+use Rattle.emtp_switch.specs.held.Grouping.{AreTree}
+use Rattle.emtp_switch.specs.held.Switching.{Switching}
 use Rattle.emtp_switch.specs.declared.currents.SwitchRange.{SwitchRange}
 use Rattle.emtp_switch.proofs.Kirchhoff.{balances}
 use Rattle.emtp_switch.proofs.FoundCurrents.{flows_are, light_first}

@@ -4,9 +4,9 @@ use Rattle.std.proofs.lemmas.List.{with_items_is}
 use Rattle.emtp_case.specs.StepRecord.{StepRecord}
 use Rattle.emtp_case.specs.declared.case.Parts.{Parts}
 use Rattle.emtp_case.specs.declared.switch.SwitchState.{SwitchState}
-use Rattle.emtp_switch.specs.Grouping.{AreGroups}
+use Rattle.emtp_switch.specs.held.Grouping.{AreGroups}
 use Rattle.emtp_switch.specs.States.{next_states}
-use Rattle.emtp_switch.specs.Switching.{AreKept, AreLatest, StandsFor, Switching}
+use Rattle.emtp_switch.specs.held.Switching.{AreKept, AreLatest, StandsFor, Switching}
 use Rattle.emtp_switch.proofs.Deciding.{kept_next}
 use Rattle.emtp_switch.proofs.switches.Switches.decide.Goals as goal
 

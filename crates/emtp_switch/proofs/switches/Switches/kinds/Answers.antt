@@ -1,6 +1,6 @@
 use Rattle.std.proofs.Common.{◌∙◌, ◌<◌, ◌≤◌, length, sym, subst}
-use Rattle.emtp_case.specs.RowKinds.{AreKinds}
-use Rattle.emtp_switch.specs.Switching.{Switching}
+use Rattle.emtp_case.specs.held.RowKinds.{AreKinds}
+use Rattle.emtp_switch.specs.held.Switching.{Switching}
 use Rattle.emtp_switch.proofs.RowKinds.{kinds_are, tied_there}
 use Rattle.emtp_switch.proofs.switches.Switches.kinds.Goals as goal
 

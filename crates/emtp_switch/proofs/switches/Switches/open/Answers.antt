@@ -3,8 +3,8 @@ use Rattle.std.proofs.lemmas.List.{get_or-replicate, length-map, length-replicat
 use Rattle.std.proofs.lemmas.Result.{IfOk-from_err}
 use Rattle.emtp_case.specs.RowOrder.{Rows}
 use Rattle.emtp_fix.specs.Items.{item}
-use Rattle.emtp_switch.specs.Grouping.{AreGroups}
-use Rattle.emtp_switch.specs.Plan.{IsPlan}
+use Rattle.emtp_switch.specs.held.Grouping.{AreGroups}
+use Rattle.emtp_switch.specs.held.Plan.{IsPlan}
 use Rattle.emtp_switch.proofs.switches.Switches.open.Goals as goal
 
 pub returns-in_err-states : goal.returns-in_err-states

@@ -1,7 +1,7 @@
 use Rattle.std.proofs.lemmas.Grind.{common_steps}
 use Rattle.std.proofs.Common.{◌∙◌, sym, subst, List, ℤ, arith}
 use Rattle.std.proofs.lemmas.List.{with_items_is}
-use Rattle.emtp_blocks.specs.BlockRows.{HaveAccepted}
+use Rattle.emtp_blocks.specs.held.BlockRows.{HaveAccepted}
 use Rattle.emtp_tacs.proofs.block_system.BlockSystem.accept.Goals as goal
 
 pub returns-in-Ok-clause-accepts : goal.returns-in-Ok-clause-accepts

@@ -1,7 +1,7 @@
 use Rattle.std.proofs.Common.{◌≡◌, ◌∙◌, sym, ap, subst, length, Ok, Err}
 use Rattle.std.proofs.lemmas.List.{with_items_is}
 use Rattle.emtp_blocks.proofs.OneByOne.{all_small}
-use Rattle.emtp_blocks.specs.BlockRows.{AreUnknowns}
+use Rattle.emtp_blocks.specs.held.BlockRows.{AreUnknowns}
 use Rattle.emtp_blocks.specs.System.{matrix, right}
 use Rattle.emtp_case.specs.declared.case.Parts.{Parts}
 use Rattle.emtp_elim.specs.Outcome.{outcome}

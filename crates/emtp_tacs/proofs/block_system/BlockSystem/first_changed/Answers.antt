@@ -1,5 +1,5 @@
 use Rattle.std.proofs.Common.{◌∙◌, sym, ap, refl, take, arith}
-use Rattle.emtp_tail.specs.Good.{Good}
+use Rattle.emtp_tail.specs.held.Good.{Good}
 use Rattle.emtp_tacs.proofs.Systems.{first_within, rows_size}
 use Rattle.emtp_tacs.proofs.block_system.BlockSystem.first_changed.Goals as goal
 use Rattle.emtp_tacs.proofs.block_system.BlockSystem.first_changed.Goals.{then-self, else-self}

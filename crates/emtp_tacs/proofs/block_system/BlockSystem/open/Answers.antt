@@ -1,9 +1,9 @@
 use Rattle.std.proofs.Common.{◌∙◌, ap, length, arith}
 use Rattle.std.proofs.lemmas.Bool.{false≢true}
 use Rattle.emtp_blocks.proofs.Matrices.{length-control_matrix}
-use Rattle.emtp_blocks.specs.BlockRows.{limiters_kept}
+use Rattle.emtp_blocks.specs.held.BlockRows.{limiters_kept}
 use Rattle.emtp_case.specs.declared.case.Parts.{Parts}
-use Rattle.emtp_tail.specs.Good.{Good}
+use Rattle.emtp_tail.specs.held.Good.{Good}
 use Rattle.emtp_tacs.proofs.block_system.BlockSystem.open.Goals as goal
 
 pub returns-clause-holds : goal.returns-clause-holds

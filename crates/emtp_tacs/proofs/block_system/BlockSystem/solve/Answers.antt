@@ -1,8 +1,8 @@
 use Rattle.std.proofs.Common.{◌∙◌, sym, ap, subst, length, Err, Result}
 use Rattle.std.proofs.lemmas.Result.{err_from_is_err_and}
-use Rattle.emtp_blocks.specs.BlockRows.{Blocking, rows_of_blocks, StandsFor as BlocksStandFor}
-use Rattle.emtp_tail.specs.Good.{Good}
-use Rattle.emtp_tacs.specs.Stages.{Solves}
+use Rattle.emtp_blocks.specs.held.BlockRows.{Blocking, rows_of_blocks, StandsFor as BlocksStandFor}
+use Rattle.emtp_tail.specs.held.Good.{Good}
+use Rattle.emtp_tacs.specs.held.Stages.{Solves}
 use Rattle.emtp_tacs.specs.Step.{blocks, with_outputs}
 use Rattle.emtp_tacs.specs.declared.fault.TacsFault.{TacsFault}
 use Rattle.emtp_tacs.proofs.Systems.{err_claims, err_names, rows_are, system_refuses, system_solves}

@@ -1,10 +1,10 @@
 use Rattle.std.proofs.Common.{◌∙◌, ◌+◌, ◌<◌, length, sym, ap, subst, arith}
-use Rattle.emtp_blocks.specs.BlockRows.{Blocking, StandsFor as BlocksStandFor}
+use Rattle.emtp_blocks.specs.held.BlockRows.{Blocking, StandsFor as BlocksStandFor}
 use Rattle.emtp_blocks.specs.System.{matrix}
 use Rattle.emtp_tail.proofs.RedoneRows.{rows_ticked_most}
 use Rattle.emtp_tacs.specs.Step.{Measured, control_step}
-use Rattle.emtp_tacs.specs.Redone.{control_step_ticks}
-use Rattle.emtp_tacs.specs.Tacs.{HeldControl, StandsFor, StepsTo}
+use Rattle.emtp_tacs.specs.held.Redone.{control_step_ticks}
+use Rattle.emtp_tacs.specs.held.Tacs.{HeldControl, StandsFor, StepsTo}
 use Rattle.emtp_tacs.proofs.Stepping.{first_is, held_of, steps_to, ticks_ok, variables_stand}
 use Rattle.emtp_tacs.proofs.tacs.Tacs.step.Goals as goal
 

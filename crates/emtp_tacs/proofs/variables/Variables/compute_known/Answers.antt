@@ -1,10 +1,10 @@
 use Rattle.std.proofs.Common.{◌≡◌, ◌∙◌, ◌++◌, ap, sym, subst, drop, length, take, true, ℤ, List, Ok, Err, Result, refl, ℕ, arith}
 use Rattle.std.proofs.lemmas.List.{take_at}
 use Rattle.std.proofs.lemmas.Result.{err_from_is_err_and}
-use Rattle.emtp_case.specs.Control.{AreKnown}
+use Rattle.emtp_case.specs.held.Control.{AreKnown}
 use Rattle.emtp_case.specs.StepRecord.{latest}
 use Rattle.emtp_tacs.specs.Part.{standing_values}
-use Rattle.emtp_tacs.specs.Stages.{IsSoFar, Reaches}
+use Rattle.emtp_tacs.specs.held.Stages.{IsSoFar, Reaches}
 use Rattle.emtp_tacs.specs.Step.{Measured, SoFar, sources}
 use Rattle.emtp_tacs.specs.declared.fault.TacsFault.{TacsFault}
 use Rattle.emtp_tacs.proofs.Starting.{known_fails, known_is, so_far_first}

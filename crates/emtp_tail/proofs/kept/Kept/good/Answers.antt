@@ -1,6 +1,6 @@
 use Rattle.std.proofs.Common.{◌≡◌, length, ap, sym, ◌∙◌, arith}
 use Rattle.emtp_tail.proofs.GivenRows.{length-rows_in}
-use Rattle.emtp_tail.specs.Good.{Good}
+use Rattle.emtp_tail.specs.held.Good.{Good}
 use Rattle.emtp_tail.proofs.kept.Kept.good.Goals as goal
 
 pub returns-clause-count : goal.returns-clause-count

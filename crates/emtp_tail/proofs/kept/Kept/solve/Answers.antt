@@ -1,8 +1,8 @@
 use Rattle.std.proofs.Common.{◌≡◌, length, ap, sym, ◌∙◌, arith}
 use Rattle.std.proofs.lemmas.Result.{on_ok_weaker, IfErr-weaker}
-use Rattle.emtp_elim.specs.Finished.{AreAllFinished}
+use Rattle.emtp_elim.specs.held.Finished.{AreAllFinished}
 use Rattle.emtp_tail.proofs.GivenRows.{length-rows_in}
-use Rattle.emtp_tail.specs.Good.{Good}
+use Rattle.emtp_tail.specs.held.Good.{Good}
 use Rattle.emtp_tail.proofs.kept.Kept.solve.Goals as goal
 
 pub solve-requires-clause-full : goal.solve-requires-clause-full

@@ -1,7 +1,7 @@
 use Rattle.std.proofs.Common.{◌≡◌, ◌≤◌, length, ap, ◌∙◌, arith}
 use Rattle.std.proofs.lemmas.List.{take_all}
 use Rattle.std.proofs.lemmas.Result.{IfErr-weaker, on_ok_weaker}
-use Rattle.emtp_tail.specs.Good.{Good}
+use Rattle.emtp_tail.specs.held.Good.{Good}
 use Rattle.emtp_tail.proofs.GivenRows.{length-rows_in}
 use Rattle.emtp_tail.proofs.Redoing.{first_change_law, lent}
 use Rattle.emtp_tail.proofs.kept.Kept.update_from.Goals as goal

@@ -1,0 +1,5 @@
+-- What values hold for their proofs, and what premises say. No clause of the program reaches it.
+pub mod Admittances
+pub mod Frequency
+pub mod Numbers
+pub mod Probes

@@ -1,0 +1,4 @@
+-- What values hold for their proofs, and what premises say. No clause of the program reaches it.
+pub mod Altered
+pub mod Answer
+pub mod Row

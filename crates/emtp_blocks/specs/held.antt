@@ -1,0 +1,3 @@
+-- What values hold for their proofs, and what premises say. No clause of the program reaches it.
+pub mod Block
+pub mod BlockRows

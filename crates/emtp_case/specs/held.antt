@@ -1,0 +1,19 @@
+-- What values hold for their proofs, and what premises say. No clause of the program reaches it.
+pub mod Branch
+pub mod Case
+pub mod Channel
+pub mod Control
+pub mod EndNames
+pub mod Expr
+pub mod Name
+pub mod Node
+pub mod OneProof
+pub mod Range
+pub mod RowKinds
+pub mod RowOrder
+pub mod RowTable
+pub mod RunData
+pub mod Sizes
+pub mod Source
+pub mod StepRecord
+pub mod Switch

@@ -1,0 +1,18 @@
+-- Beside `Record`: what values hold for their proofs, and what premises say. No clause of the program reaches it.
+use Rattle.std.specs.Prelude.{◌≡◌, ℕ, ◌<◌, ◌≤◌, ℤ, pos, false, List, length, slice_index_or}
+use Rattle.emtp_case.specs.declared.case.Parts.{Parts}
+use Rattle.emtp_machine.specs.Samples.{greatest}
+use Rattle.emtp_comtrade.specs.held.Multiplier.{IsMultiplier}
+use Rattle.emtp_comtrade.specs.Record.{is_status_at, analog_before, multiplier_at}
+
+-- the multipliers of the analog channels below a place, in order, and 1 after them
+pub record MultipliersBelow (p : Parts) (samples : List (List ℤ)) (n : ℕ) (multipliers : List ℤ) : Type 0 where
+  pub analog : (place : ℕ) → place < n → is_status_at p place ≡ false
+      → slice_index_or multipliers (analog_before p place) (pos 0) ≡ pos (multiplier_at samples place)
+  pub after : (c : ℕ) → analog_before p n ≤ c → c < 64 → slice_index_or multipliers c (pos 0) ≡ pos 1
+  pub least : (place : ℕ) → place < n → is_status_at p place ≡ false
+      → IsMultiplier (greatest samples place (length samples)) (multiplier_at samples place)
+
+-- the multipliers of the analog channels, in order, and 1 after them
+abbrev pub AreMultipliers : Parts → List (List ℤ) → List ℤ → Type 0
+AreMultipliers p samples multipliers = MultipliersBelow p samples (length p.channels) multipliers

@@ -1,0 +1,57 @@
+-- What a branch card without a fault of sense gives its records, behind these parts of a case, which have its nodes.
+use Rattle.std.specs.Prelude.{◌≡◌, ◌+◌, ◌<◌, ◌≤◌, ℤ, Bool, List, length, None}
+use Rattle.emtp_case.specs.held.Branch.{IsCharacteristic}
+use Rattle.emtp_case.specs.HistoryValues.{history_values_of}
+use Rattle.emtp_case.specs.held.Range.{AreEnds}
+use Rattle.emtp_case.specs.declared.branch.Point.{Point}
+use Rattle.emtp_case.specs.declared.case.Parts.{Parts}
+use Rattle.emtp_deck.specs.Branches.{card_history}
+use Rattle.emtp_deck.specs.held.Branches.{pair_history}
+use Rattle.emtp_deck.specs.Copies.{missing_fault, values_from}
+use Rattle.emtp_sense.specs.Names.{node_number}
+use Rattle.emtp_walk.specs.declared.deck.BranchEntry.{BranchEntry}
+use Rattle.emtp_walk.specs.declared.deck.BranchEntry.TheVariants.{Single, Trio}
+use Rattle.emtp_netcards.specs.declared.branch_card.BranchCard.{BranchCard}
+use Rattle.emtp_netcards.specs.declared.branch_card.BranchKind.{BranchKind}
+use Rattle.emtp_netcards.specs.declared.branch_card.BranchKind.TheVariants.{Line as LineKind, Reactor as ReactorKind, Resistor as ResistorKind, Second as SecondKind, Series as SeriesKind, Third as ThirdKind}
+
+-- the points of one branch
+pub record AreOwnPoints (reactor : Bool) (dt : ℤ) (points : List Point) : Type 0 where
+  pub some : 1 ≤ length points
+  pub few : length points ≤ 64
+  pub characteristic : IsCharacteristic reactor dt points
+
+-- the card has the numbers of a line
+abbrev pub IsLineKind : BranchKind → Type 0
+IsLineKind SeriesKind = ⊥
+IsLineKind LineKind = Unit {0}
+IsLineKind SecondKind = Unit {0}
+IsLineKind ThirdKind = ⊥
+IsLineKind ReactorKind = ⊥
+IsLineKind ResistorKind = ⊥
+
+abbrev pub HasEnds : Parts → BranchCard → Type 0
+HasEnds p card = AreEnds (length p.nodes) (node_number p.nodes card.from) (node_number p.nodes card.to)
+
+-- the values that a card takes are there
+abbrev pub FindsValues : Parts → BranchCard → Type 0
+FindsValues p card = missing_fault (values_from p.nodes p.branches card) ≡ None
+
+pub record IsSensibleSingle (p : Parts) (card : BranchCard) : Type 0 where
+  pub room : length p.branches < 5000
+  pub ends : HasEnds p card
+  pub taken : FindsValues p card
+  pub history : history_values_of p + card_history 1 p.nodes p card ≤ 2000000
+
+pub record IsSensibleTrio (p : Parts) (zero' positive third : BranchCard) : Type 0 where
+  pub room : length p.branches + 3 ≤ 5000
+  pub zero_ends : HasEnds p zero'
+  pub positive_ends : HasEnds p positive
+  pub third_ends : HasEnds p third
+  pub zero_taken : FindsValues p zero'
+  pub positive_taken : FindsValues p positive
+  pub history : history_values_of p + pair_history p zero' positive ≤ 2000000
+
+abbrev pub IsSensible : Parts → BranchEntry → Type 0
+IsSensible p (Single card first count) = IsSensibleSingle p card
+IsSensible p (Trio zero' positive third) = IsSensibleTrio p zero' positive third

@@ -1,0 +1,11 @@
+-- Beside `History`: what values hold for their proofs, and what premises say. No clause of the program reaches it.
+use Rattle.std.specs.Prelude.{◌≡◌, ℕ, ℤ, List, take}
+
+-- how many pushes a history looks back on, and the values that it holds, newest first
+pub record Past : Type 0 where
+  pub depth : ℕ
+  pub values : List ℤ
+
+-- the history remembers these pushes, newest first: it holds the newest ones, as many as its depth
+abbrev pub Remembers : Past → List ℤ → Type 0
+Remembers past pushes = past.values ≡ take past.depth pushes

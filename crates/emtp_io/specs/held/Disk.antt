@@ -1,0 +1,52 @@
+-- What a cabinet of real files has opened and created.
+use Rattle.std.specs.Prelude.{ℕ, Bool, true, false, List, [], Option, Some, None}
+use Rattle.emtp_io.specs.Cabinet.{CabinetState, CreatedOutput}
+use Rattle.emtp_io.specs.held.Cabinet.{untold}
+use Rattle.emtp_io.specs.declared.cabinet.Output.{Output}
+use Rattle.emtp_io.specs.declared.cabinet.Output.TheVariants.{Cfg, Dat, Note, Summary}
+
+-- whether a file is open, which outputs were created, and how often a call has failed
+pub record Disk : Type 0 where
+  pub is_open : Bool
+  pub cfg : Bool
+  pub dat : Bool
+  pub note : Bool
+  pub summary : Bool
+  pub faults_in : ℕ
+  pub faults_out : ℕ
+
+abbrev pub is_created : Disk → Output → Bool
+is_created d Cfg = d.cfg
+is_created d Dat = d.dat
+is_created d Note = d.note
+is_created d Summary = d.summary
+
+abbrev pub with_created : Disk → Output → Disk
+with_created d Cfg = record d { cfg = true }
+with_created d Dat = record d { dat = true }
+with_created d Note = record d { note = true }
+with_created d Summary = record d { summary = true }
+
+-- what is told of an output: that it was created, and nothing of its name and bytes
+abbrev pub created_where : Bool → Option CreatedOutput
+created_where false = None
+created_where true = Some (record { name = []; bytes = [] })
+
+-- what is told of a file: that it is open, and nothing of its bytes
+abbrev pub open_where : Bool → Option (List ℕ)
+open_where false = None
+open_where true = Some []
+
+abbrev pub disk_state : Disk → CabinetState
+disk_state d = record {
+  nature = untold;
+  unread = open_where d.is_open;
+  outputs = record {
+    cfg = created_where d.cfg;
+    dat = created_where d.dat;
+    note = created_where d.note;
+    summary = created_where d.summary;
+  };
+  faults_in = d.faults_in;
+  faults_out = d.faults_out;
+}

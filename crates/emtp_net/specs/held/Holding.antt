@@ -1,0 +1,56 @@
+-- How the fields of a network hold together.
+use Rattle.std.specs.Prelude.{◌≡◌, ◌+◌, ◌*◌, ◌≤◌, ℕ, ℤ, All, Bool, List, length, unsigned_abs}
+use Rattle.emtp_case.specs.RowOrder.{Rows, order_of}
+use Rattle.emtp_case.specs.declared.case.Parts.{Parts}
+use Rattle.emtp_fix.specs.declared.limit.TheConstants.{LARGEST_VALUE}
+use Rattle.emtp_rows.specs.held.Touched.{NodalRows, StandsUntouched}
+use Rattle.emtp_switch.specs.held.Switching.{Switching}
+use Rattle.emtp_tail.specs.held.Good.{Good}
+use Rattle.emtp_net.specs.held.Branches.{HasCase}
+use Rattle.emtp_net.specs.held.Rights.{places_of}
+use Rattle.emtp_net.specs.System.{couplings}
+use Rattle.emtp_net.specs.declared.branches.Branches.{Branches}
+use Rattle.emtp_net.specs.declared.nodal_system.NodalSystem.{NodalSystem}
+
+-- the lists of the nodal system have their lengths
+pub record HasRoom (case : Parts) (system : NodalSystem) : Type 0 where
+  pub kinds : length system.kinds.items ≡ length case.nodes
+  pub places : system.places.items ≡ places_of case
+  pub values : length system.values.items ≡ length case.sources
+  pub right : length system.right.items ≡ length case.nodes
+  pub x : length system.x.items ≡ length case.nodes
+
+-- the switches go by the case and its row order
+pub record HoldsSwitches (case : Parts) (switches : Switching) : Type 0 where
+  pub case_is : switches.case ≡ case
+  pub rows_are : switches.rows ≡ order_of case
+
+-- the rows are those of the case, and the factor may be kept before the first touched row
+pub record HoldsRows (case : Parts) (rows : NodalRows) (kept : Good) : Type 0 where
+  pub case_is : rows.nodal.case ≡ case
+  pub own_room : length rows.nodal.own ≡ length case.branches
+  pub coupling_is : rows.nodal.coupling ≡ couplings case
+  pub kept_size : kept.size ≡ length case.nodes
+  pub kept_stands : StandsUntouched rows kept.rows
+
+-- what the network shows has its lengths
+pub record HasShown (case : Parts) (voltages currents switch_currents : List ℤ) (closed : List Bool) : Type 0 where
+  pub voltages_count : length voltages ≡ length case.nodes + 1
+  pub voltages_small : All (λ v. unsigned_abs v ≤ LARGEST_VALUE) voltages
+  pub currents_count : length currents ≡ length case.branches
+  pub switch_count : length switch_currents ≡ length case.switches
+  pub closed_count : length closed ≡ length case.switches
+
+-- the steps are no more than the case has, and each redoes no more rows than there are
+pub record AreFew (case : Parts) (made redone : ℕ) : Type 0 where
+  pub made_few : made ≤ case.run.steps
+  pub redone_few : redone ≤ 1000 * made
+
+pub record HoldsTogether (case : Parts) (order : Rows) (branches : Branches) (switches : Switching) (system : NodalSystem) (rows : NodalRows) (kept : Good) (voltages currents switch_currents : List ℤ) (closed : List Bool) (made redone : ℕ) : Type 0 where
+  pub order_is : order ≡ order_of case
+  pub branches_case : HasCase branches case
+  pub switches_hold : HoldsSwitches case switches
+  pub room : HasRoom case system
+  pub rows_hold : HoldsRows case rows kept
+  pub shown : HasShown case voltages currents switch_currents closed
+  pub few : AreFew case made redone

@@ -1,0 +1,92 @@
+-- What the stages of a step find, one after the other, each with the records alone.
+use Rattle.std.specs.Prelude.{◌≡◌, ◌+◌, ◌<◌, ℕ, ℤ, IsSome, List, length, None, Ok, Err}
+use Rattle.emtp_case.specs.RowOrder.{order_of}
+use Rattle.emtp_case.specs.StepRecord.{StepRecord}
+use Rattle.emtp_case.specs.declared.case.Parts.{Parts}
+use Rattle.emtp_case.specs.declared.row_kind.RowKind.{RowKind}
+use Rattle.emtp_elim.specs.Outcome.{outcome}
+use Rattle.emtp_rows.specs.held.Touched.{NodalRows}
+use Rattle.emtp_switch.specs.Groups.{tied_of}
+use Rattle.emtp_switch.specs.States.{next_states}
+use Rattle.emtp_switch.specs.held.Switching.{Switching}
+use Rattle.emtp_tail.specs.held.Good.{Good}
+use Rattle.emtp_net.specs.held.Branches.{StandsFor as BranchesStandFor}
+use Rattle.emtp_net.specs.Part.{state_at, states_at, switch_currents_at, voltages_of}
+use Rattle.emtp_net.specs.Redone.{step_redone}
+use Rattle.emtp_net.specs.held.Redone.{last_matrix}
+use Rattle.emtp_net.specs.Step.{first_beyond, first_unbalanced, network_part}
+use Rattle.emtp_net.specs.System.{kinds_of, matrix, right}
+use Rattle.emtp_net.specs.held.System.{source_values}
+use Rattle.emtp_net.specs.declared.branches.Branches.{Branches}
+use Rattle.emtp_net.specs.declared.fault.NetFault.{NetFault}
+use Rattle.emtp_net.specs.declared.fault.NetFault.TheVariants.{Range, Residual, Tied, ZeroPivot}
+use Rattle.emtp_net.specs.declared.nodal_system.NodalSystem.{NodalSystem}
+
+-- ---- the end
+
+-- the rows redone in a step that ends so: none where the switches tie two known voltages
+abbrev pub step_adds : NetFault → Parts → List StepRecord → ℕ
+step_adds (Tied node) case H = 0
+step_adds (ZeroPivot node) case H = step_redone case H
+step_adds (Range node) case H = step_redone case H
+step_adds (Residual node x) case H = step_redone case H
+
+-- the step ends with this fault, once so many rows are redone
+pub record Ends (case : Parts) (H : List StepRecord) (redone : ℕ) (fault : NetFault) : Type 0 where
+  pub is : network_part case H ≡ Err fault
+  pub adds : step_adds fault case H ≡ redone
+
+-- ---- switches
+
+-- no two known voltages are tied in the next step
+abbrev pub IsUntied : Parts → List StepRecord → Type 0
+IsUntied case H = tied_of case.switches (order_of case) (next_states case H) ≡ None
+
+-- the switches have their next states, and the rows their kinds
+pub record IsDecided (case : Parts) (H : List StepRecord) (kinds : List RowKind) (rows : NodalRows) (switches : Switching) : Type 0 where
+  pub free : IsUntied case H
+  pub states_are : switches.states ≡ next_states case H
+  pub kinds_are : kinds ≡ kinds_of case H
+  pub rows_are : rows.nodal.kinds ≡ kinds_of case H
+
+-- ---- the factor
+
+-- the factor is that of the last step's matrix, and rows have their next kinds
+pub record IsReady (case : Parts) (H : List StepRecord) (branches : Branches) (rows : NodalRows) (kept : Good) (made : ℕ) : Type 0 where
+  pub stands : BranchesStandFor branches H
+  pub free : IsUntied case H
+  pub kinds : rows.nodal.kinds ≡ kinds_of case H
+  pub kept_is : kept.rows ≡ last_matrix case H
+  pub steps : made + 1 ≡ length H
+
+-- ---- voltages
+
+-- the factor is that of the next step's matrix, and the kinds and the sources are those of the next step
+pub record IsPosed (case : Parts) (H : List StepRecord) (branches : Branches) (system : NodalSystem) (kept : Good) : Type 0 where
+  pub stands : BranchesStandFor branches H
+  pub free : IsUntied case H
+  pub kinds : system.kinds.items ≡ kinds_of case H
+  pub values : system.values.items ≡ source_values case H
+  pub kept_is : kept.rows ≡ matrix case H
+
+-- the voltages of the next step are these
+pub record AreVoltages (case : Parts) (H : List StepRecord) (vs : List ℤ) : Type 0 where
+  pub free : IsUntied case H
+  pub x : List ℤ
+  pub solved : outcome (matrix case H) (right case H) ≡ Ok x
+  pub are : vs ≡ voltages_of case x
+
+-- ---- currents
+
+-- each branch is in range at these voltages
+abbrev pub AllInRange : Parts → List StepRecord → List ℤ → Type 0
+AllInRange case H vs = (b : ℕ) → b < length case.branches → IsSome (state_at case H vs b)
+
+-- the switch currents of the next step are these, and in range
+pub record HasCurrents (case : Parts) (H : List StepRecord) (vs currents : List ℤ) : Type 0 where
+  pub are : currents ≡ switch_currents_at case H (states_at case H vs)
+  pub within : first_beyond (switch_currents_at case H (states_at case H vs)) ≡ None
+
+-- no residual exceeds the tolerance
+abbrev pub IsBalanced : Parts → List StepRecord → List ℤ → Type 0
+IsBalanced case H vs = first_unbalanced case H (states_at case H vs) ≡ None

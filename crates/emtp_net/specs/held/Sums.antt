@@ -1,0 +1,20 @@
+-- Sums over groups of rows.
+use Rattle.std.specs.Prelude.{◌≡◌, ◌==◌, ◌<◌, ◌+ℤ◌, if◌then◌else◌, ℕ, ℤ, pos, Bool, List, length}
+use Rattle.emtp_case.specs.declared.row_kind.RowKind.{RowKind}
+use Rattle.emtp_elim.specs.Matrix.{item}
+use Rattle.emtp_rows.specs.Nodal.{is_member, kind_at}
+use Rattle.emtp_case.specs.Sums.{sum_below}
+use Rattle.emtp_rows.specs.held.Touched.{tied_row}
+
+-- the sum over the group of a row of what f gives for its rows
+abbrev pub group_total : List RowKind → (ℕ → ℤ) → ℕ → ℤ
+group_total kinds f j = sum_below (length kinds) (λ k. if is_member kinds j k then f k else pos 0)
+
+-- row k is tied to row j, which is the sum of a group
+abbrev pub tied_to : List RowKind → ℕ → ℕ → Bool
+tied_to kinds j k = tied_row kinds (kind_at kinds k) == j
+
+-- the rows below n that are tied to a sum have been added to it, and no other row is changed
+pub record IsFolded (kinds : List RowKind) (n : ℕ) (old new : List ℤ) : Type 0 where
+  pub sums : (j : ℕ) → j < length old → item new j ≡ item old j +ℤ sum_below n (λ k. if tied_to kinds j k then item old k else pos 0)
+  pub size : length new ≡ length old

@@ -1,0 +1,8 @@
+-- Beside `System`: what values hold for their proofs, and what premises say. No clause of the program reaches it.
+use Rattle.std.specs.Prelude.{ℤ, List, map}
+use Rattle.emtp_case.specs.StepRecord.{StepRecord}
+use Rattle.emtp_case.specs.declared.case.Parts.{Parts}
+use Rattle.emtp_net.specs.System.{source_value}
+
+abbrev pub source_values : Parts → List StepRecord → List ℤ
+source_values case H = map (source_value case H) case.sources

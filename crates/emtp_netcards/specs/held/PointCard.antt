@@ -1,0 +1,49 @@
+-- Beside `PointCard`: what values hold for their proofs, and what premises say. No clause of the program reaches it.
+use Rattle.std.specs.Prelude.{◌≡◌, ℕ, ◌^◌, ℤ, pos, neg_ℤ, int_lt, true, false, List, [], ◌∷◌, Option, Some, None, Result, if◌then◌else◌}
+use Rattle.emtp_card.specs.Fault.{fault_at, judge_due, least, unless_bad}
+use Rattle.emtp_card.specs.held.Number.{IsWithin}
+use Rattle.emtp_card.specs.declared.fault.Fault.{Fault}
+use Rattle.emtp_card.specs.declared.reason.Bad.{Bad}
+use Rattle.emtp_case.specs.held.Branch.{IsRise, IsSegment}
+use Rattle.emtp_case.specs.declared.branch.Point.{Point}
+use Rattle.emtp_netcards.specs.declared.point_card.PointScale.{PointScale}
+use Rattle.emtp_netcards.specs.declared.point_card.PointScale.TheVariants.{Reactor, Resistor, Table, Times}
+use Rattle.emtp_netcards.specs.PointCard.{first_field, second_field, is_ending, point_of, goes_on, origin_or}
+
+unfoldable pub point_fault : List ℕ → PointScale → Option Fault
+point_fault line scale = least (fault_at 1 (first_field line scale) ∷ fault_at 17 (second_field line scale) ∷ [])
+
+-- a card by itself
+unfoldable pub point_card : ℕ → List ℕ → PointScale → Result (Option Point) Bad
+point_card number line scale =
+    if is_ending line scale then unless_bad (judge_due number line None) None
+    else unless_bad (judge_due number line (point_fault line scale)) (Some (point_of line scale))
+
+abbrev pub IsValueOf : PointScale → ℤ → Type 0
+IsValueOf Resistor x = IsWithin (pos 1) (pos (10 ^ 18)) x
+IsValueOf Reactor x = IsWithin (pos 1) (pos (10 ^ 18)) x
+IsValueOf Table x = IsWithin (neg_ℤ (pos (10 ^ 18))) (pos (10 ^ 18)) x
+IsValueOf Times x = IsWithin (pos 0) (pos (10 ^ 18)) x
+
+pub record IsPointOf (scale : PointScale) (p : Point) : Type 0 where
+  pub current : IsValueOf scale p.current
+  pub other : IsValueOf scale p.other
+
+abbrev pub IsFirstAfter : PointScale → Option Point → ℤ → Type 0
+IsFirstAfter Resistor before x = IsRise (origin_or before).current x
+IsFirstAfter Reactor before x = IsRise (origin_or before).current x
+IsFirstAfter Table before x = Unit {0}
+IsFirstAfter Times before x = Unit {0}
+
+-- what a point of a group has against the one before it: the segment to it, or the order of inputs and times
+abbrev pub Follows : PointScale → ℤ → Option Point → Point → Type 0
+Follows Resistor dt before p = IsSegment false dt (origin_or before) p
+Follows Reactor dt before p = IsSegment true dt (origin_or before) p
+Follows Table dt before p = goes_on Table before p.current ≡ true
+Follows Times dt before p = (goes_on Times before p.current ≡ true) × (int_lt p.current p.other ≡ true)
+
+abbrev pub IsSecondAfter : PointScale → Option Point → ℤ → Type 0
+IsSecondAfter Resistor before y = IsRise (origin_or before).other y
+IsSecondAfter Reactor before y = IsRise (origin_or before).other y
+IsSecondAfter Table before y = Unit {0}
+IsSecondAfter Times before y = Unit {0}

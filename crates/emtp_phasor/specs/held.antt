@@ -1,0 +1,11 @@
+-- What values hold for their proofs, and what premises say. No clause of the program reaches it.
+pub mod Ending
+pub mod HeldBranches
+pub mod HeldLines
+pub mod HeldRows
+pub mod HeldSystem
+pub mod Opening
+pub mod Scanning
+pub mod Solving
+pub mod Steady
+pub mod Volts

@@ -1,0 +1,44 @@
+-- Beside `Outcome`: what values hold for their proofs, and what premises say. No clause of the program reaches it.
+use Rattle.std.specs.Prelude.{◌≡◌, ◌≢◌, List, IsTrue, Option, Some}
+use Rattle.emtp_case.specs.declared.case.Parts.{Parts}
+use Rattle.emtp_io.specs.Cabinet.{CabinetState}
+use Rattle.emtp_io.specs.Writes.{Written}
+use Rattle.emtp_machine.specs.History.{History}
+use Rattle.emtp_run.specs.held.Words.{files_of}
+use Rattle.emtp_run.specs.declared.outputs.Product.{Product}
+use Rattle.emtp_run.specs.declared.outputs.Product.TheVariants.{Record as OfRecord, Trial as OfTrial}
+use Rattle.emtp_run.specs.declared.status.Status.{Status}
+use Rattle.emtp_run.specs.declared.status.Status.TheVariants.{Done, Usage, BadCard, Ended, ReadFault, WriteFault, NoMemory, Refused, Differs, BadRow}
+use Rattle.emtp_run.specs.Outcome.{Outcome, usage, record_writes, trial_writes, Settles, HasStatusCause, Leaves, IsCalmRun, HasRoomFor}
+
+abbrev pub writes_of : Product → Parts → History → List Written
+writes_of (OfRecord words) case h = record_writes (files_of words) case h
+writes_of (OfTrial number) case h = trial_writes number case h
+
+-- a status whose note is all that is made
+abbrev pub LeavesNote : Status → Type 0
+LeavesNote Done = ⊥
+LeavesNote Usage = Unit {0}
+LeavesNote BadCard = Unit {0}
+LeavesNote Ended = ⊥
+LeavesNote ReadFault = ⊥
+LeavesNote WriteFault = ⊥
+LeavesNote NoMemory = ⊥
+LeavesNote Refused = Unit {0}
+LeavesNote Differs = Unit {0}
+LeavesNote BadRow = Unit {0}
+
+-- how a call with this outcome ends, whatever it answers
+pub record Ends (status : Status) (o : Option Outcome) (old new : CabinetState) : Type 0 where
+  pub nature : new.nature ≡ old.nature
+  pub cause : HasStatusCause status old new
+  pub no_record : Leaves status old new
+  pub outcome : IsTrue old.nature.tells → Settles status o old new
+  pub calm : IsTrue old.nature.tells → IsTrue old.nature.calm → HasRoomFor o old.nature.room → IsCalmRun status old new
+
+-- a call that ends so once the words fit and all files were read: it reads no more
+pub record EndsAfterReading (status : Status) (o : Outcome) (old new : CabinetState) : Type 0 where
+  pub usage : status ≢ Usage
+  pub read : status ≢ ReadFault
+  pub unread : new.unread ≡ old.unread
+  pub ends : Ends status (Some o) old new

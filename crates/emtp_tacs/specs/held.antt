@@ -1,0 +1,5 @@
+-- What values hold for their proofs, and what premises say. No clause of the program reaches it.
+pub mod Part
+pub mod Redone
+pub mod Stages
+pub mod Tacs

@@ -1,0 +1,117 @@
+-- What the stages of a step leave, one after the other.
+use Rattle.std.specs.Prelude.{◌≡◌, ◌≤◌, ◌<◌, ◌+◌, ℕ, ℤ, nat_lt, ◌&&◌, ◌||◌, if◌then◌else◌, Bool, false, true, List, ◌∷◌, length, slice_get, slice_index_or, Option, Some, None, Result, Ok, Err}
+use Rattle.emtp_case.specs.held.Control.{AreKnown}
+use Rattle.emtp_blocks.specs.held.BlockRows.{Blocking, rows_of_blocks, StandsFor as BlocksStandFor}
+use Rattle.emtp_blocks.specs.System.{matrix}
+use Rattle.emtp_case.specs.StepRecord.{StepRecord, latest, no_device}
+use Rattle.emtp_case.specs.declared.case.Parts.{Parts}
+use Rattle.emtp_case.specs.declared.control.Device.{Device}
+use Rattle.emtp_case.specs.declared.control.DeviceState.{DeviceState}
+use Rattle.emtp_case.specs.declared.control.Extra.{Extra}
+use Rattle.emtp_case.specs.declared.control.Extra.TheVariants.{Formula as OfFormula}
+use Rattle.emtp_case.specs.declared.control.Formula.{Formula}
+use Rattle.emtp_devices.specs.Devices.{states_of}
+use Rattle.emtp_devices.specs.held.Devices.{HeldDevices, IsDeviceAt, StandsAt, StandsFor as DevicesStandFor}
+use Rattle.emtp_tacs.specs.Part.{ControlPart}
+use Rattle.emtp_tacs.specs.held.Part.{control_of}
+use Rattle.emtp_tacs.specs.Step.{Measured, SoFar, Solved, group_of, is_in_pass}
+use Rattle.emtp_tacs.specs.declared.block_system.BlockSystem.{BlockSystem}
+use Rattle.emtp_tacs.specs.declared.fault.TacsFault.{TacsFault}
+use Rattle.emtp_tacs.specs.declared.variables.Variables.{Variables}
+
+-- a fault names a variable of the case
+abbrev pub NamesVariable : Parts → TacsFault → Type 0
+NamesVariable case fault = fault.var < length case.vars
+
+-- the lists of the network have their lengths
+pub record IsMeasured (case : Parts) (m : Measured) : Type 0 where
+  pub voltages : length m.voltages ≡ length case.nodes + 1
+  pub currents : length m.currents ≡ length case.switches
+  pub closed : length m.closed ≡ length case.switches
+
+-- ---- variables
+
+-- there is room for the values of any formula's names
+abbrev pub HasNameRoom : Parts → List ℤ → Type 0
+HasNameRoom case names = (at : ℕ) (x : Formula) → slice_get case.extras at ≡ Some (OfFormula x) → length x.vars ≤ length names
+
+-- the variables are those of the case
+pub record HoldsVariables (case : Parts) (v : Variables) : Type 0 where
+  pub devices : v.devices.case ≡ case
+  pub values : AreKnown case v.values.items
+  pub names : HasNameRoom case v.names.items
+
+-- the variables and the devices stand for the records
+pub record VariablesStandFor (case : Parts) (v : Variables) (H : List StepRecord) : Type 0 where
+  pub devices : DevicesStandFor v.devices H
+  pub devices_count : length (latest H).devices ≡ length case.extras
+  pub values : v.values.items ≡ (latest H).values
+
+-- ---- the fold over the cards
+
+-- how a write of values ends, where the devices keep this
+abbrev pub so_far_of : Result (Unit {0}) TacsFault → List ℤ → List DeviceState → Result SoFar TacsFault
+so_far_of (Ok u) values devices = Ok (record { values = values; devices = devices })
+so_far_of (Err fault) values devices = Err fault
+
+-- a card was computed in this step, once its pass has come to place n: of the later pass all cards of the earlier one were
+abbrev pub is_done_by : Bool → ℕ → ℕ → Option Extra → Bool
+is_done_by early n at None = false
+is_done_by true n at (Some e) = is_in_pass true (group_of e) && nat_lt at n
+is_done_by false n at (Some e) = is_in_pass true (group_of e) || nat_lt at n
+
+abbrev pub is_done : Parts → Bool → ℕ → ℕ → Bool
+is_done case early n at = is_done_by early n at (slice_get case.extras at)
+
+-- what is kept of a device up to now, newest first
+abbrev pub past_of : Bool → List DeviceState → List StepRecord → ℕ → List DeviceState
+past_of done devices H at = if done then slice_index_or devices at no_device ∷ states_of at H else states_of at H
+
+-- values and devices are what the step has so far, once a pass has come to place n
+pub record IsSoFar (case : Parts) (H : List StepRecord) (early : Bool) (n : ℕ) (values : List ℤ) (held : HeldDevices) (s : SoFar) : Type 0 where
+  pub values_are : values ≡ s.values
+  pub count : length s.devices ≡ length case.extras
+  pub devices : (at : ℕ) (x : Device) → IsDeviceAt case at x → StandsAt held at (past_of (is_done case early n at) s.devices H at)
+
+-- a call that goes on to place n answers and leaves what the definition says
+abbrev pub Reaches : Result (Unit {0}) TacsFault → Parts → List StepRecord → Bool → ℕ → List ℤ → HeldDevices → Result SoFar TacsFault → Type 0
+Reaches (Ok u) case H early n values held (Ok s) = IsSoFar case H early n values held s
+Reaches (Ok u) case H early n values held (Err fault) = ⊥
+Reaches (Err e) case H early n values held (Ok s) = ⊥
+Reaches (Err e) case H early n values held (Err fault) = e ≡ fault
+
+-- ---- the blocks
+
+-- the lists of the block system have their lengths, and where the factor is current, it is that of the blocks' matrix
+pub record HoldsSystem (case : Parts) (s : BlockSystem) : Type 0 where
+  pub case_is : s.blocks.case ≡ case
+  pub kept_size : s.kept.size ≡ length case.blocks
+  pub current : s.current ≡ true → s.kept.rows ≡ rows_of_blocks s.blocks
+  pub right : length s.right.items ≡ length case.blocks
+  pub x : length s.x.items ≡ length case.blocks
+
+-- the blocks moved: the values have their outputs, and they stand for the records and any further one that keeps this
+pub record HaveMoved (blocks : Blocking) (values : List ℤ) (H : List StepRecord) (s : Solved) : Type 0 where
+  pub values_are : values ≡ s.values
+  pub stands : (r : StepRecord) → r.blocks ≡ s.blocks → BlocksStandFor blocks (r ∷ H)
+
+abbrev pub Solves : Result (Unit {0}) TacsFault → Blocking → List ℤ → List StepRecord → Result Solved TacsFault → Type 0
+Solves (Ok u) blocks values H (Ok s) = HaveMoved blocks values H s
+Solves (Ok u) blocks values H (Err fault) = ⊥
+Solves (Err e) blocks values H (Ok s) = ⊥
+Solves (Err e) blocks values H (Err fault) = e ≡ fault
+
+-- ---- the whole step
+
+-- all variables have their values of the next record: variables and blocks stand for the records and any further one with
+-- this control part, and the factor is that of the step's matrix
+pub record HaveAdvanced (case : Parts) (H : List StepRecord) (variables : Variables) (system : BlockSystem) (part : ControlPart) : Type 0 where
+  pub variables_stand : (r : StepRecord) → control_of r ≡ part → VariablesStandFor case variables (r ∷ H)
+  pub blocks_stand : (r : StepRecord) → control_of r ≡ part → BlocksStandFor system.blocks (r ∷ H)
+  pub kept : system.kept.rows ≡ matrix case H
+
+abbrev pub Advances : Result (Unit {0}) TacsFault → Parts → List StepRecord → Variables → BlockSystem → Result ControlPart TacsFault → Type 0
+Advances (Ok u) case H variables system (Ok part) = HaveAdvanced case H variables system part
+Advances (Ok u) case H variables system (Err fault) = ⊥
+Advances (Err e) case H variables system (Ok part) = ⊥
+Advances (Err e) case H variables system (Err fault) = e ≡ fault

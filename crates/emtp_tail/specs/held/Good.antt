@@ -1,0 +1,15 @@
+-- Beside `Good`: what values hold for their proofs, and what premises say. No clause of the program reaches it.
+use Rattle.std.specs.Prelude.{◌≡◌, ◌≢◌, ℕ, ◌<◌, ◌≤◌, length}
+use Rattle.emtp_elim.specs.Matrix.{Matrix, row_of}
+
+-- the size; the good rows, which are the first rows of the matrix that was given last; what elimination makes of them
+pub record Good : Type 0 where
+  pub size : ℕ
+  pub rows : Matrix
+  pub done : Matrix
+
+-- row i is that row
+pub record IsFirstChange (old new : Matrix) (i : ℕ) : Type 0 where
+  pub within : i ≤ length old
+  pub same : (h : ℕ) → h < i → row_of old h ≡ row_of new h
+  pub differs : i < length old → row_of old i ≢ row_of new i
