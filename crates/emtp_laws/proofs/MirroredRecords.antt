@@ -10,7 +10,7 @@ use Rattle.emtp_case.specs.declared.branch.Pseudo.{Pseudo}
 use Rattle.emtp_case.specs.declared.case.Parts.{Parts}
 use Rattle.emtp_line.specs.Lines as lined
 use Rattle.emtp_lumped.specs.Lumps as lumped
-use Rattle.emtp_pseudo.specs.Held.{moment_at}
+use Rattle.emtp_pseudo.specs.Moment.{moment_at}
 use Rattle.emtp_pseudo.specs.Laws as odd
 use Rattle.emtp_pseudo.specs.Pseudos as pseudo
 use Rattle.emtp_laws.specs.Mirror.{mirrored_line, mirrored_lumped, mirrored_phase, mirrored_bare, bare_records, mirrored_branch}

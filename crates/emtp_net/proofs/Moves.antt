@@ -24,7 +24,7 @@ use Rattle.emtp_line.specs.held.Lines as held_lined
 use Rattle.emtp_line.specs.Mode.{mode_of_line}
 use Rattle.emtp_lumped.specs.Lumps as lumped
 use Rattle.emtp_lumped.specs.held.Lumps as held_lumped
-use Rattle.emtp_pseudo.specs.Held.{moment_at}
+use Rattle.emtp_pseudo.specs.Moment.{moment_at}
 use Rattle.emtp_pseudo.specs.Pseudos as pseudo
 use Rattle.emtp_pseudo.specs.held.Pseudos as held_pseudo
 use Rattle.emtp_net.proofs.Nodes.{branch_fits, branch_in}

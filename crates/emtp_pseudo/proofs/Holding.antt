@@ -17,7 +17,7 @@ use Rattle.emtp_case.specs.declared.branch.Pseudo.{Pseudo}
 use Rattle.emtp_case.specs.declared.branch.PseudoState.{PseudoState}
 use Rattle.emtp_case.specs.declared.case.Parts.{Parts}
 use Rattle.emtp_fix.specs.declared.limit.OutOfRange.{OutOfRange}
-use Rattle.emtp_pseudo.specs.Held.{moment_at, segment_in}
+use Rattle.emtp_pseudo.specs.Moment.{moment_at, segment_in}
 use Rattle.emtp_pseudo.specs.held.Held.{HasNumbers, IsHeld, IsHeldAtRest, IsOfBranch, moment_in}
 use Rattle.emtp_pseudo.specs.Pseudos.{moment_of, newest, next_of, next_history_current, present}
 use Rattle.emtp_pseudo.specs.held.Pseudos.{HeldPseudos, AreHeld, AreHeldAtRest, IsPseudoAt, Moves, StandsAt, StandsFor, branch_at, no_branch}

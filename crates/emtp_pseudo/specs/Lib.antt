@@ -1,7 +1,7 @@
 -- what the clauses of the program say
 pub mod Segment
 pub mod Step
-pub mod Held
+pub mod Moment
 pub mod Pseudos
 -- what laws say
 pub mod Laws

@@ -4,7 +4,7 @@ use Rattle.emtp_case.specs.StepRecord.{StepRecord, pseudo_at, voltage_at}
 use Rattle.emtp_case.specs.declared.branch.Pseudo.{Pseudo}
 use Rattle.emtp_case.specs.declared.branch.PseudoState.{PseudoState}
 use Rattle.emtp_case.specs.declared.case.Parts.{Parts}
-use Rattle.emtp_pseudo.specs.Held.{moment_at, segment_in}
+use Rattle.emtp_pseudo.specs.Moment.{moment_at, segment_in}
 use Rattle.emtp_pseudo.specs.Step.{history_current_of, moment_at_rest, next_state}
 use Rattle.emtp_pseudo.specs.declared.moment.Moment.{Moment}
 use Rattle.emtp_pseudo.specs.declared.segment.Segment.{Segment}

@@ -5,7 +5,7 @@ ghost use Rattle.emtp_case.specs.Branch.{points_of};
 ghost use Rattle.emtp_case.specs.held.Branch.{IsPseudo};
 ghost use Rattle.emtp_case.specs.held.Sizes.{sizes_of};
 ghost use Rattle.emtp_case.specs.declared.case.Parts.{Parts};
-ghost use Rattle.emtp_pseudo.specs.Held.{moment_at, segment_in};
+ghost use Rattle.emtp_pseudo.specs.Moment.{moment_at, segment_in};
 ghost use Rattle.emtp_pseudo.specs.held.Held.{IsHeld, moment_in};
 ghost use Rattle.emtp_pseudo.specs.held.Segment.{IsSound};
 ghost use Rattle.emtp_pseudo.specs.Step.{history_current_of, next_state};

@@ -11,7 +11,7 @@ use Rattle.emtp_pseudo.specs.Step.{history_current_of, moment_at_rest}
 use Rattle.emtp_pseudo.specs.held.Step.{IsMoment}
 use Rattle.emtp_pseudo.specs.declared.held.HeldBranch.{HeldBranch}
 use Rattle.emtp_pseudo.specs.declared.moment.Moment.{Moment}
-use Rattle.emtp_pseudo.specs.Held.{segment_in}
+use Rattle.emtp_pseudo.specs.Moment.{segment_in}
 
 abbrev pub moment_in : HeldBranch → Moment
 moment_in h = h.moment

@@ -7,7 +7,7 @@ use Rattle.emtp_case.specs.declared.branch.Pseudo.{Pseudo}
 use Rattle.emtp_case.specs.declared.branch.PseudoState.{PseudoState}
 use Rattle.emtp_case.specs.declared.case.Parts.{Parts}
 use Rattle.emtp_fix.specs.declared.limit.OutOfRange.{OutOfRange}
-use Rattle.emtp_pseudo.specs.Held.{moment_at}
+use Rattle.emtp_pseudo.specs.Moment.{moment_at}
 use Rattle.emtp_pseudo.specs.held.Held.{IsHeld, IsHeldAtRest}
 use Rattle.emtp_pseudo.specs.Step.{moment_at_rest}
 use Rattle.emtp_pseudo.specs.declared.held.HeldBranch.{HeldBranch}

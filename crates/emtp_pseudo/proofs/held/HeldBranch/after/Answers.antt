@@ -2,7 +2,7 @@ use Rattle.std.proofs.Common.{◌∙◌, ap, Option, Some, option_map, ◌<◌, 
 use mir.Syntax.{w64, w128}
 use Rattle.std.proofs.lemmas.Int.{ints, to_z-of_z}
 use Rattle.emtp_case.specs.declared.branch.PseudoState.{PseudoState}
-use Rattle.emtp_pseudo.specs.Held.{moment_at}
+use Rattle.emtp_pseudo.specs.Moment.{moment_at}
 use Rattle.emtp_pseudo.specs.declared.moment.Moment.{Moment}
 use Rattle.emtp_pseudo.proofs.Holding.{after_within}
 use Rattle.emtp_pseudo.proofs.held.HeldBranch.after.Goals as goal

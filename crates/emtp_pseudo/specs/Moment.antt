@@ -1,4 +1,4 @@
--- What is held of one pseudo-nonlinear branch.
+-- What is held of one pseudo-nonlinear branch: its segment by its number, and its last moment.
 use Rattle.std.specs.Prelude.{ℤ}
 use Rattle.emtp_case.specs.Branch.{points_of}
 use Rattle.emtp_case.specs.declared.branch.Pseudo.{Pseudo}
