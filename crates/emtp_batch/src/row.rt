@@ -1,5 +1,6 @@
 //! A row of the table: a closing and an opening time for each time switch.
 
+ghost use Rattle.emtp_case.specs.declared.limit.TheConstants.{MOST_SWITCHES};
 ghost use Rattle.std.specs.Prelude.{◌≡◌, ◌+◌, ◌≤◌, ◌<◌, ◌^◌, ◌++◌, ◌∷◌, [], length, count_by, drop, map, All, Some, Ok, Err, IfOk, IfErr, unsigned_abs};
 ghost use Rattle.std.specs.Option.{ForSome};
 ghost use Rattle.emtp_card.specs.held.Number.{IsWithin};
@@ -106,7 +107,7 @@ pub(crate) fn read_row(
     line: u32,
     cards: &[Times],
 ) -> Result<Row, TimesFault>
-    requires few { length cards.now ≤ 500 }
+    requires few { length cards.now ≤ MOST_SWITCHES }
     requires cards { All AreTimesInRange cards.now }
     ensures ok { IfOk result (λ row. row_times cards.now text.now ≡ Ok row.times) }
     ensures fits { IfOk result (IsRowFor (length cards.now)) }

@@ -1,5 +1,6 @@
 //! The table of switch times: a row a line.
 
+ghost use Rattle.emtp_case.specs.declared.limit.TheConstants.{MOST_SWITCHES};
 ghost use Rattle.std.specs.Prelude.{◌≡◌, ◌≤◌, length, count_by, All, IfOk, IfErr};
 ghost use Rattle.emtp_batch.specs.held.Altered.{time_switches};
 ghost use Rattle.emtp_batch.specs.held.Answer.{IsRefused};
@@ -93,7 +94,7 @@ fn all_blank(line: &[u8]) -> bool
 #[tactic(auto, unfolding(crate::specs::Table::rows_in))]
 fn read_rows(alloc: Global, bytes: &[u8], cards: &[Times]) -> Result<Vec<Row>, TimesFault>
     requires short { length bytes.now ≤ MAX_BYTES }
-    requires few { length cards.now ≤ 500 }
+    requires few { length cards.now ≤ MOST_SWITCHES }
     requires cards { All AreTimesInRange cards.now }
     ensures ok { IfOk result (λ rows. rows_in cards.now bytes.now ≡ Ok rows.items) }
     ensures bad { IfErr result (λ fault. IsRefused fault (rows_in cards.now bytes.now)) }
@@ -124,7 +125,7 @@ fn row_after(
     line: u32,
     cards: &[Times],
 ) -> Result<Row, TimesFault>
-    requires few { length cards.now ≤ 500 }
+    requires few { length cards.now ≤ MOST_SWITCHES }
     requires cards { All AreTimesInRange cards.now }
     ensures ok { IfOk result (λ row. row_on_line cards.now line count text.now ≡ Ok row) }
     ensures bad { IfErr result (λ fault. IsRefused fault (row_on_line cards.now line count text.now)) }

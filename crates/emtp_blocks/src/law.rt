@@ -1,10 +1,10 @@
 //! The numbers of a block that are the same in all steps.
 
+ghost use Rattle.emtp_case.specs.held.RunData.{IsTimeStep};
 ghost use Rattle.std.specs.Prelude.{◌≡◌, ◌≢◌, ◌^◌, ◌*◌, ◌≤◌, ◌*ℤ◌, ℕ, pos, unsigned_abs, slice_index_or, length};
 ghost use Rattle.emtp_case.specs.Control.{quotient_of, step_gain};
 ghost use Rattle.emtp_case.specs.held.Control.{HasWay, HasCoefficients};
 ghost use Rattle.emtp_case.specs.Sums.{sum_upto};
-ghost use Rattle.emtp_case.specs.held.Range.{IsBetween};
 ghost use Rattle.emtp_elim.specs.Matrix.{item};
 ghost use Rattle.emtp_fix.specs.Rounding.{near};
 ghost use Rattle.emtp_blocks.specs.held.Block.{IsLawOf, IsLaw};
@@ -29,7 +29,7 @@ pub(crate) struct BlockLaw {
 
 /// The coefficient of a power as a part of the divisor, in 10^-12.
 fn coefficient(dt: i64, card: &[i64; 8], power: usize, divisor: i128) -> i64
-    requires dt { IsBetween 1000 (10 ^ 12) dt }
+    requires dt { IsTimeStep dt }
     requires power { power ≤ 7 }
     requires way { HasWay dt (slice_index_or card.now power (pos 0)) power }
     requires some { divisor ≢ pos 0 }
@@ -42,7 +42,7 @@ fn coefficient(dt: i64, card: &[i64; 8], power: usize, divisor: i128) -> i64
 
 /// The quotients of a card's coefficients by the powers up to the order, and 0 above it.
 fn coefficients(dt: i64, card: &[i64; 8], order: usize, divisor: i128) -> [i64; 8]
-    requires dt { IsBetween 1000 (10 ^ 12) dt }
+    requires dt { IsTimeStep dt }
     requires order { order ≤ 7 }
     requires way { (power : ℕ) → power ≤ order → HasWay dt (slice_index_or card.now power (pos 0)) power }
     requires some { divisor ≢ pos 0 }
@@ -85,7 +85,7 @@ fn step_gain(gain: i64, sum: i64) -> i64
 
 /// The law of a block at a time step in ps.
 pub(crate) fn law(dt: i64, b: &Block) -> BlockLaw
-    requires dt { IsBetween 1000 (10 ^ 12) dt }
+    requires dt { IsTimeStep dt }
     requires order { b.now.order ≤ 7 }
     requires coefficients { 1 ≤ b.now.order → HasCoefficients dt b.now }
     requires gain { unsigned_abs b.now.gain ≤ LARGEST_VALUE }

@@ -1,7 +1,7 @@
 //! Products that are brought back to their unit.
 
+ghost use Rattle.emtp_case.specs.held.RunData.{IsTimeStep};
 ghost use Rattle.std.specs.Prelude.{◌≡◌, ◌^◌, ◌*◌, ◌≤◌, ◌*ℤ◌, unsigned_abs};
-ghost use Rattle.emtp_case.specs.held.Range.{IsBetween};
 ghost use Rattle.emtp_fix.specs.Rounding.{near};
 ghost use Rattle.emtp_fix.specs.declared.limit.TheConstants.{NANO};
 
@@ -11,7 +11,7 @@ use emtp_fix::{NANO, PICO, near, scaled};
 pub(crate) fn product(a: i64, b: i64, unit: i128) -> i128
     requires a { unsigned_abs a ≤ 8 * 10 ^ 18 }
     requires b { unsigned_abs b ≤ 8 * 10 ^ 18 }
-    requires unit { IsBetween 1000 (10 ^ 12) unit }
+    requires unit { IsTimeStep unit }
     ensures value { result ≡ near (a *ℤ b) unit }
     ensures bound { unsigned_abs result ≤ 10 ^ 35 }
 {

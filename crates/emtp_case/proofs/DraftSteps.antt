@@ -1,4 +1,5 @@
 -- A draft with one more record still fits.
+use Rattle.emtp_case.specs.declared.limit.TheConstants.{MOST_BRANCHES, MOST_CONTROL_CARDS, MOST_HISTORY_VALUES, MOST_NODES, MOST_POINTS, MOST_SOURCES, MOST_SWITCHES, MOST_VARIABLES}
 use Rattle.emtp_case.proofs.Growth.{Extends-append, Extends-refl, IsBranch-grows, IsSwitch-grows, grown}
 use Rattle.emtp_case.proofs.Sources.{one_more_source, standing_stay}
 use Rattle.emtp_case.proofs.Threes.{ArePhases, threes_and_single, threes_and_trio}
@@ -48,10 +49,10 @@ room_push xs x most room = omega (arith, length-append xs (x ∷ []))
 same : (n : ℕ) → n ≤ n
 same n = omega arith
 
-pub with_node : (p : Parts) (x : Name) → IsDraft p → length p.nodes < 1000 → IsName x → IsDraft (record p { nodes = p.nodes ++ x ∷ [] })
+pub with_node : (p : Parts) (x : Name) → IsDraft p → length p.nodes < MOST_NODES → IsName x → IsDraft (record p { nodes = p.nodes ++ x ∷ [] })
 with_node p x h room name =
     let q : Parts = record p { nodes = p.nodes ++ x ∷ [] } in
-    let few : length q.nodes ≤ 1000 = room_push p.nodes x 1000 room in
+    let few : length q.nodes ≤ MOST_NODES = room_push p.nodes x 1000 room in
     let counts : HasCounts q = search rules in
     let g : Grows (sizes_of p) (sizes_of q) = record { nodes = le_push p.nodes x; branches = same (length p.branches); trios = same (length p.trios); switches = same (length p.switches); vars = same (length p.vars) } in
     let old = grown p (sizes_of q) q.points h g (Extends-refl p.points) in
@@ -77,10 +78,10 @@ with_node p x h room name =
       channels = old.channels;
     }
 
-pub with_variable : (p : Parts) (x : Name) → IsDraft p → length p.vars < 606 → IsName x → IsDraft (record p { vars = p.vars ++ x ∷ [] })
+pub with_variable : (p : Parts) (x : Name) → IsDraft p → length p.vars < MOST_VARIABLES → IsName x → IsDraft (record p { vars = p.vars ++ x ∷ [] })
 with_variable p x h room name =
     let q : Parts = record p { vars = p.vars ++ x ∷ [] } in
-    let few : length q.vars ≤ 606 = room_push p.vars x 606 room in
+    let few : length q.vars ≤ MOST_VARIABLES = room_push p.vars x MOST_VARIABLES room in
     let counts : HasCounts q = search rules in
     let g : Grows (sizes_of p) (sizes_of q) = record { nodes = same (length p.nodes); branches = same (length p.branches); trios = same (length p.trios); switches = same (length p.switches); vars = le_push p.vars x } in
     let old = grown p (sizes_of q) q.points h g (Extends-refl p.points) in
@@ -106,14 +107,14 @@ with_variable p x h room name =
       channels = old.channels;
     }
 
-pub with_branch : (p : Parts) (x : Branch) → IsDraft p → length p.branches < 5000 → IsSingle x → IsBranch p.run (sizes_of p) p.points x → history_values_of p + branch_history_values p.run.dt x ≤ 2000000 → IsDraft (record p { branches = p.branches ++ x ∷ [] })
+pub with_branch : (p : Parts) (x : Branch) → IsDraft p → length p.branches < MOST_BRANCHES → IsSingle x → IsBranch p.run (sizes_of p) p.points x → history_values_of p + branch_history_values p.run.dt x ≤ MOST_HISTORY_VALUES → IsDraft (record p { branches = p.branches ++ x ∷ [] })
 with_branch p x h room single fits history =
     let q : Parts = record p { branches = p.branches ++ x ∷ [] } in
     let more : length p.branches ≤ length q.branches = le_push p.branches x in
-    let few : length q.branches ≤ 5000 = room_push p.branches x 5000 room in
+    let few : length q.branches ≤ MOST_BRANCHES = room_push p.branches x MOST_BRANCHES room in
     let trios : 3 * length p.trios ≤ length q.branches = omega (arith, h.counts.trios) in
-    let points : length p.points ≤ 64 * (length q.branches + length p.extras) = omega (arith, h.counts.points) in
-    let past : history_values_of q ≤ 2000000 = omega (arith, history, sum_by-append (branch_history_values p.run.dt) p.branches (x ∷ [])) in
+    let points : length p.points ≤ MOST_POINTS * (length q.branches + length p.extras) = omega (arith, h.counts.points) in
+    let past : history_values_of q ≤ MOST_HISTORY_VALUES = omega (arith, history, sum_by-append (branch_history_values p.run.dt) p.branches (x ∷ [])) in
     let counts : HasCounts q = search rules in
     let g : Grows (sizes_of p) (sizes_of q) = record { nodes = same (length p.nodes); branches = more; trios = same (length p.trios); switches = same (length p.switches); vars = same (length p.vars) } in
     let old = grown p (sizes_of q) q.points h g (Extends-refl p.points) in
@@ -139,10 +140,10 @@ with_branch p x h room single fits history =
       channels = old.channels;
     }
 
-pub with_switch : (p : Parts) (x : Switch) → IsDraft p → length p.switches < 500 → IsSwitch (sizes_of p) x → IsDraft (record p { switches = p.switches ++ x ∷ [] })
+pub with_switch : (p : Parts) (x : Switch) → IsDraft p → length p.switches < MOST_SWITCHES → IsSwitch (sizes_of p) x → IsDraft (record p { switches = p.switches ++ x ∷ [] })
 with_switch p x h room fits =
     let q : Parts = record p { switches = p.switches ++ x ∷ [] } in
-    let few : length q.switches ≤ 500 = room_push p.switches x 500 room in
+    let few : length q.switches ≤ MOST_SWITCHES = room_push p.switches x MOST_SWITCHES room in
     let counts : HasCounts q = search rules in
     let g : Grows (sizes_of p) (sizes_of q) = record { nodes = same (length p.nodes); branches = same (length p.branches); trios = same (length p.trios); switches = le_push p.switches x; vars = same (length p.vars) } in
     let old = grown p (sizes_of q) q.points h g (Extends-refl p.points) in
@@ -168,10 +169,10 @@ with_switch p x h room fits =
       channels = old.channels;
     }
 
-pub with_source : (p : Parts) (x : Source) → IsDraft p → length p.sources < 500 → IsSource (sizes_of p) x → (x.current ≡ false → list_any (is_voltage_source_at x.node) p.sources ≡ false) → IsDraft (record p { sources = p.sources ++ x ∷ [] })
+pub with_source : (p : Parts) (x : Source) → IsDraft p → length p.sources < MOST_SOURCES → IsSource (sizes_of p) x → (x.current ≡ false → list_any (is_voltage_source_at x.node) p.sources ≡ false) → IsDraft (record p { sources = p.sources ++ x ∷ [] })
 with_source p x h room fits one =
     let q : Parts = record p { sources = p.sources ++ x ∷ [] } in
-    let few : length q.sources ≤ 500 = room_push p.sources x 500 room in
+    let few : length q.sources ≤ MOST_SOURCES = room_push p.sources x MOST_SOURCES room in
     let counts : HasCounts q = search rules in
     record {
       run = h.run;
@@ -195,10 +196,10 @@ with_source p x h room fits one =
       channels = h.channels;
     }
 
-pub with_tacs_source : (p : Parts) (x : Source) → IsDraft p → length p.tacs_sources < 200 → IsTacsSource (sizes_of p) x → IsDraft (record p { tacs_sources = p.tacs_sources ++ x ∷ [] })
+pub with_tacs_source : (p : Parts) (x : Source) → IsDraft p → length p.tacs_sources < MOST_CONTROL_CARDS → IsTacsSource (sizes_of p) x → IsDraft (record p { tacs_sources = p.tacs_sources ++ x ∷ [] })
 with_tacs_source p x h room fits =
     let q : Parts = record p { tacs_sources = p.tacs_sources ++ x ∷ [] } in
-    let few : length q.tacs_sources ≤ 200 = room_push p.tacs_sources x 200 room in
+    let few : length q.tacs_sources ≤ MOST_CONTROL_CARDS = room_push p.tacs_sources x MOST_CONTROL_CARDS room in
     let counts : HasCounts q = search rules in
     record {
       run = h.run;
@@ -222,10 +223,10 @@ with_tacs_source p x h room fits =
       channels = h.channels;
     }
 
-pub with_block : (p : Parts) (x : Block) → IsDraft p → length p.blocks < 200 → IsBlock p.run (sizes_of p) x → IsDraft (record p { blocks = p.blocks ++ x ∷ [] })
+pub with_block : (p : Parts) (x : Block) → IsDraft p → length p.blocks < MOST_CONTROL_CARDS → IsBlock p.run (sizes_of p) x → IsDraft (record p { blocks = p.blocks ++ x ∷ [] })
 with_block p x h room fits =
     let q : Parts = record p { blocks = p.blocks ++ x ∷ [] } in
-    let few : length q.blocks ≤ 200 = room_push p.blocks x 200 room in
+    let few : length q.blocks ≤ MOST_CONTROL_CARDS = room_push p.blocks x MOST_CONTROL_CARDS room in
     let counts : HasCounts q = search rules in
     record {
       run = h.run;
@@ -252,12 +253,12 @@ with_block p x h room fits =
 points_after : (ps more : List Point) → points_of (ps ++ more) (length ps) (length more) ≡ more
 points_after ps more = ap (take (length more)) (drop-append_seam ps more) ∙ take-length more
 
-pub with_formula : (p : Parts) (x : Formula) → IsDraft p → length p.extras < 200 → IsFormula (sizes_of p) x → IsDraft (record p { extras = p.extras ++ OfFormula x ∷ [] })
+pub with_formula : (p : Parts) (x : Formula) → IsDraft p → length p.extras < MOST_CONTROL_CARDS → IsFormula (sizes_of p) x → IsDraft (record p { extras = p.extras ++ OfFormula x ∷ [] })
 with_formula p x h room fits =
     let q : Parts = record p { extras = p.extras ++ OfFormula x ∷ [] } in
-    let few : length q.extras ≤ 200 = room_push p.extras (OfFormula x) 200 room in
-    let points : length p.points ≤ 64 * (length p.branches + length q.extras) = omega (arith, h.counts.points, le_push p.extras (OfFormula x)) in
-    let past : history_values_of q ≤ 2000000 = omega (arith, h.counts.history, sum_by-append (extra_history_values p.run.dt) p.extras (OfFormula x ∷ [])) in
+    let few : length q.extras ≤ MOST_CONTROL_CARDS = room_push p.extras (OfFormula x) MOST_CONTROL_CARDS room in
+    let points : length p.points ≤ MOST_POINTS * (length p.branches + length q.extras) = omega (arith, h.counts.points, le_push p.extras (OfFormula x)) in
+    let past : history_values_of q ≤ MOST_HISTORY_VALUES = omega (arith, h.counts.history, sum_by-append (extra_history_values p.run.dt) p.extras (OfFormula x ∷ [])) in
     let counts : HasCounts q = search rules in
     record {
       run = h.run;
@@ -296,14 +297,14 @@ card_set n x first count h = record {
   required = h.required;
 }
 
-pub with_device : (p : Parts) (x : Device) (new : List Point) → IsDraft p → length p.extras < 200 → IsDeviceCard (sizes_of p) x → length new ≤ 64 → HasDevicePoints x.code new → history_values_of p + device_history_values p.run.dt x.code x.a ≤ 2000000 → IsDraft (record p { points = p.points ++ new; extras = p.extras ++ OfDevice (record x { first = length p.points; count = length new }) ∷ [] })
+pub with_device : (p : Parts) (x : Device) (new : List Point) → IsDraft p → length p.extras < MOST_CONTROL_CARDS → IsDeviceCard (sizes_of p) x → length new ≤ MOST_POINTS → HasDevicePoints x.code new → history_values_of p + device_history_values p.run.dt x.code x.a ≤ MOST_HISTORY_VALUES → IsDraft (record p { points = p.points ++ new; extras = p.extras ++ OfDevice (record x { first = length p.points; count = length new }) ∷ [] })
 with_device p x new h room card few points history =
     let q : Parts = record p { points = p.points ++ new; extras = p.extras ++ OfDevice (record x { first = length p.points; count = length new }) ∷ [] } in
     let set : Device = record x { first = length p.points; count = length new } in
     let fits : IsDevice (sizes_of q) q.points set = record { card = card_set (sizes_of p) x (length p.points) (length new) card; points_there = omega (arith, length-append p.points new); few_points = few; points = subst (HasDevicePoints x.code) (sym (points_after p.points new)) points } in
-    let some : length q.extras ≤ 200 = room_push p.extras (OfDevice set) 200 room in
-    let all : length q.points ≤ 64 * (length p.branches + length q.extras) = omega (arith, h.counts.points, few, length-append p.points new, length-append p.extras (OfDevice set ∷ [])) in
-    let past : history_values_of q ≤ 2000000 = omega (arith, history, sum_by-append (extra_history_values p.run.dt) p.extras (OfDevice set ∷ [])) in
+    let some : length q.extras ≤ MOST_CONTROL_CARDS = room_push p.extras (OfDevice set) MOST_CONTROL_CARDS room in
+    let all : length q.points ≤ MOST_POINTS * (length p.branches + length q.extras) = omega (arith, h.counts.points, few, length-append p.points new, length-append p.extras (OfDevice set ∷ [])) in
+    let past : history_values_of q ≤ MOST_HISTORY_VALUES = omega (arith, history, sum_by-append (extra_history_values p.run.dt) p.extras (OfDevice set ∷ [])) in
     let counts : HasCounts q = search rules in
     let g : Grows (sizes_of p) (sizes_of q) = record { nodes = same (length p.nodes); branches = same (length p.branches); trios = same (length p.trios); switches = same (length p.switches); vars = same (length p.vars) } in
     let old = grown p (sizes_of q) q.points h g (Extends-append p.points new) in
@@ -329,16 +330,16 @@ with_device p x new h room card few points history =
       channels = old.channels;
     }
 
-pub with_pseudo : (p : Parts) (x : Pseudo) (new : List Point) → IsDraft p → length p.branches < 5000 → AreEnds (length p.nodes) x.from x.to → 1 ≤ length new → length new ≤ 64 → IsCharacteristic x.reactor p.run.dt new → IsDraft (record p { points = p.points ++ new; branches = p.branches ++ OfPseudo (record x { first = length p.points; count = length new }) ∷ [] })
+pub with_pseudo : (p : Parts) (x : Pseudo) (new : List Point) → IsDraft p → length p.branches < MOST_BRANCHES → AreEnds (length p.nodes) x.from x.to → 1 ≤ length new → length new ≤ MOST_POINTS → IsCharacteristic x.reactor p.run.dt new → IsDraft (record p { points = p.points ++ new; branches = p.branches ++ OfPseudo (record x { first = length p.points; count = length new }) ∷ [] })
 with_pseudo p x new h room ends some few rises =
     let q : Parts = record p { points = p.points ++ new; branches = p.branches ++ OfPseudo (record x { first = length p.points; count = length new }) ∷ [] } in
     let set : Pseudo = record x { first = length p.points; count = length new } in
     let fits : IsPseudo p.run (sizes_of q) q.points set = record { ends = ends; some = some; few = few; there = omega (arith, length-append p.points new); characteristic = subst (IsCharacteristic x.reactor p.run.dt) (sym (points_after p.points new)) rises } in
-    let most : length q.branches ≤ 5000 = room_push p.branches (OfPseudo set) 5000 room in
+    let most : length q.branches ≤ MOST_BRANCHES = room_push p.branches (OfPseudo set) MOST_BRANCHES room in
     let more : length p.branches ≤ length q.branches = le_push p.branches (OfPseudo set) in
     let trios : 3 * length p.trios ≤ length q.branches = omega (arith, h.counts.trios) in
-    let all : length q.points ≤ 64 * (length q.branches + length p.extras) = omega (arith, h.counts.points, few, length-append p.points new, length-append p.branches (OfPseudo set ∷ [])) in
-    let past : history_values_of q ≤ 2000000 = omega (arith, h.counts.history, sum_by-append (branch_history_values p.run.dt) p.branches (OfPseudo set ∷ [])) in
+    let all : length q.points ≤ MOST_POINTS * (length q.branches + length p.extras) = omega (arith, h.counts.points, few, length-append p.points new, length-append p.branches (OfPseudo set ∷ [])) in
+    let past : history_values_of q ≤ MOST_HISTORY_VALUES = omega (arith, h.counts.history, sum_by-append (branch_history_values p.run.dt) p.branches (OfPseudo set ∷ [])) in
     let counts : HasCounts q = search rules in
     let g : Grows (sizes_of p) (sizes_of q) = record { nodes = same (length p.nodes); branches = more; trios = same (length p.trios); switches = same (length p.switches); vars = same (length p.vars) } in
     let old = grown p (sizes_of q) q.points h g (Extends-append p.points new) in
@@ -373,17 +374,17 @@ three_fit run n t ps a b c last ends0 ends1 ends2 =
     (All-push P [] (OfPhase (record b { trio = t; phase = 1 })) (All-nil P) (record { ends = ends1; trio = last; phase = lit< tt }))
     (All-push P [] (OfPhase (record c { trio = t; phase = 2 })) (All-nil P) (record { ends = ends2; trio = last; phase = lit< tt })))
 
-pub with_trio : (p : Parts) (x : Trio) (a : Phase) (b : Phase) (c : Phase) → IsDraft p → length p.branches + 3 ≤ 5000 → AreEnds (length p.nodes) a.from a.to → AreEnds (length p.nodes) b.from b.to → AreEnds (length p.nodes) c.from c.to → IsTrio p.run x → history_values_of p + trio_history_values p.run.dt x ≤ 2000000 → IsDraft (record p { branches = p.branches ++ phase_branches (length p.trios) a b c; trios = p.trios ++ record x { first = length p.branches } ∷ [] })
+pub with_trio : (p : Parts) (x : Trio) (a : Phase) (b : Phase) (c : Phase) → IsDraft p → length p.branches + 3 ≤ MOST_BRANCHES → AreEnds (length p.nodes) a.from a.to → AreEnds (length p.nodes) b.from b.to → AreEnds (length p.nodes) c.from c.to → IsTrio p.run x → history_values_of p + trio_history_values p.run.dt x ≤ MOST_HISTORY_VALUES → IsDraft (record p { branches = p.branches ++ phase_branches (length p.trios) a b c; trios = p.trios ++ record x { first = length p.branches } ∷ [] })
 with_trio p x a b c h room ends0 ends1 ends2 modes history =
     let q : Parts = record p { branches = p.branches ++ phase_branches (length p.trios) a b c; trios = p.trios ++ record x { first = length p.branches } ∷ [] } in
     let set : Trio = record x { first = length p.branches } in
     let three : length (phase_branches (length p.trios) a b c) ≡ 3 = refl in
     let more : length p.branches ≤ length q.branches = omega (arith, length-append p.branches (phase_branches (length p.trios) a b c)) in
     let last : length p.trios < length q.trios = omega (arith, length-append p.trios (set ∷ [])) in
-    let most : length q.branches ≤ 5000 = omega (arith, three, length-append p.branches (phase_branches (length p.trios) a b c)) in
+    let most : length q.branches ≤ MOST_BRANCHES = omega (arith, three, length-append p.branches (phase_branches (length p.trios) a b c)) in
     let trios : 3 * length q.trios ≤ length q.branches = omega (arith, h.counts.trios, three, length-append p.branches (phase_branches (length p.trios) a b c), length-append p.trios (set ∷ [])) in
-    let points : length p.points ≤ 64 * (length q.branches + length p.extras) = omega (arith, h.counts.points) in
-    let past : history_values_of q ≤ 2000000 = omega (arith, history, sum_by-append (branch_history_values p.run.dt) p.branches (phase_branches (length p.trios) a b c), sum_by-append (trio_history_values p.run.dt) p.trios (set ∷ [])) in
+    let points : length p.points ≤ MOST_POINTS * (length q.branches + length p.extras) = omega (arith, h.counts.points) in
+    let past : history_values_of q ≤ MOST_HISTORY_VALUES = omega (arith, history, sum_by-append (branch_history_values p.run.dt) p.branches (phase_branches (length p.trios) a b c), sum_by-append (trio_history_values p.run.dt) p.trios (set ∷ [])) in
     let placed : ArePhases p.branches p.trios set (OfPhase (record a { trio = length p.trios; phase = 0 })) (OfPhase (record b { trio = length p.trios; phase = 1 })) (OfPhase (record c { trio = length p.trios; phase = 2 })) = record { first = refl; phase0 = refl; phase1 = refl; phase2 = refl } in
     let counts : HasCounts q = search rules in
     let g : Grows (sizes_of p) (sizes_of q) = record { nodes = same (length p.nodes); branches = more; trios = le_push p.trios set; switches = same (length p.switches); vars = same (length p.vars) } in

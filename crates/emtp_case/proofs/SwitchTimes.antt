@@ -1,4 +1,5 @@
 -- The switches get their times one after another; those set before leave no trace, and the cards' own leave the switches as they are.
+use Rattle.emtp_case.specs.declared.limit.TheConstants.{MOST_SWITCHES}
 use Rattle.emtp_case.proofs.Growth.{Extends-refl, IsSwitch-grows, grown}
 use Rattle.emtp_case.specs.held.Case.{HasCounts, IsDraft}
 use Rattle.emtp_case.specs.held.Sizes.{Grows, Sizes, sizes_of}
@@ -146,7 +147,7 @@ length-with_times (s ∷ ss) (t ∷ times) = ap suc (behind (is_time_switch s) (
 -- the draft with other switches, of the same number
 pub with_switches : (p : Parts) (ss : List Switch) → IsDraft p → length ss ≡ length p.switches → All (IsSwitch (sizes_of p)) ss → IsDraft (record p { switches = ss })
 with_switches p ss h same fits =
-    let few : length ss ≤ 500 = omega (arith, same, h.counts.switches) in
+    let few : length ss ≤ MOST_SWITCHES = omega (arith, same, h.counts.switches) in
     let q : Parts = record p { switches = ss } in
     let counts : HasCounts q = search rules in
     let g : Grows (sizes_of p) (sizes_of q) = record { nodes = omega arith; branches = omega arith; trios = omega arith; switches = omega (arith, same); vars = omega arith } in

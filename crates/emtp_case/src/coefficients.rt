@@ -5,10 +5,10 @@
 //! The time step is in ps throughout: from 1,000 (a nanosecond) to 10^12 (a second). Each quotient is rounded to the
 //! nearest whole number, a half away from zero.
 
+ghost use Rattle.emtp_case.specs.held.RunData.{IsTimeStep};
 ghost use Rattle.std.specs.Prelude.{◌≡◌, ◌≢◌, ◌^◌, ◌*◌, ◌≤◌, ◌*ℤ◌, ℕ, pos, unsigned_abs, slice_index_or};
 ghost use Rattle.emtp_case.specs.Control.{bilinear, power_of, quotient_of};
 ghost use Rattle.emtp_case.specs.held.Control.{HasWay};
-ghost use Rattle.emtp_case.specs.held.Range.{IsBetween};
 ghost use Rattle.emtp_case.specs.Sums.{sum_upto};
 ghost use Rattle.emtp_fix.specs.Rounding.{near};
 
@@ -16,7 +16,7 @@ use emtp_fix::{PICO, near};
 
 /// One factor 2/dt of the bilinear rule: `p` times 2 s over `dt`, at a time step in ps. What is in 10^-12 stays so.
 pub fn bilinear_step(dt: i64, p: i128) -> i128
-    requires dt { IsBetween 1000 (10 ^ 12) dt }
+    requires dt { IsTimeStep dt }
     requires p { unsigned_abs p ≤ 8 * 10 ^ 25 }
     ensures value { result ≡ near (p *ℤ pos (2 * 10 ^ 12)) dt }
     ensures bound { unsigned_abs result ≤ 16 * 10 ^ 37 }
@@ -27,7 +27,7 @@ pub fn bilinear_step(dt: i64, p: i128) -> i128
 /// A card's coefficient, in 10^-12, that is taken so many times through the bilinear rule at a time step in ps: P of a
 /// denominator's power and Q of a numerator's, in 10^-12. Times 0 it is the coefficient itself.
 pub fn bilinear(dt: i64, x: i64, times: usize) -> i128
-    requires dt { IsBetween 1000 (10 ^ 12) dt }
+    requires dt { IsTimeStep dt }
     requires way { HasWay dt x times }
     ensures value { result ≡ bilinear dt x times }
     ensures small { unsigned_abs result ≤ 8 * 10 ^ 25 }
@@ -43,7 +43,7 @@ pub fn bilinear(dt: i64, x: i64, times: usize) -> i128
 /// taken through the bilinear rule as often as its power, in 10^-12. The coefficients are a card's, in 10^-12, and the
 /// time step is in ps. It can be 0, which no block may divide by: the reader refuses such a card.
 pub fn coefficient_divisor(dt: i64, bottom: &[i64; 8], order: usize) -> i128
-    requires dt { IsBetween 1000 (10 ^ 12) dt }
+    requires dt { IsTimeStep dt }
     requires order { order ≤ 7 }
     requires way { (power : ℕ) → power ≤ order → HasWay dt (slice_index_or bottom.now power (pos 0)) power }
     ensures value { result ≡ sum_upto order (power_of dt bottom.now) }
@@ -60,7 +60,7 @@ pub fn coefficient_divisor(dt: i64, bottom: &[i64; 8], order: usize) -> i128
 /// in 10^-12, taken through the bilinear rule as often as its power and divided by S, in 10^-12 too. The time step is in
 /// ps.
 pub fn coefficient_quotient(dt: i64, card: &[i64; 8], power: usize, divisor: i128) -> i128
-    requires dt { IsBetween 1000 (10 ^ 12) dt }
+    requires dt { IsTimeStep dt }
     requires power { power ≤ 7 }
     requires way { HasWay dt (slice_index_or card.now power (pos 0)) power }
     requires some { divisor ≢ pos 0 }

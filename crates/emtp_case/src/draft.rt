@@ -1,5 +1,6 @@
 //! A case that a reader fills card by card.
 
+ghost use Rattle.emtp_case.specs.declared.limit.TheConstants.{MOST_BRANCHES, MOST_CHANNELS, MOST_CONTROL_CARDS, MOST_HISTORY_VALUES, MOST_NODES, MOST_POINTS, MOST_SOURCES, MOST_STORED_VALUES, MOST_SWITCHES, MOST_VARIABLES};
 ghost use Rattle.std.specs.Prelude.{◌≡◌, ◌+◌, ◌*◌, ◌<◌, ◌≤◌, ◌++◌, [], ◌∷◌, length, false, IfOk, OnOk, OnErr};
 ghost use Rattle.std.specs.List.{list_any};
 ghost use Rattle.emtp_case.specs.held.Branch.{IsBranch, IsLumped, IsSingle, IsCharacteristic, IsTrio};
@@ -65,7 +66,7 @@ impl Draft {
 
     /// Adds the next node.
     pub fn add_node(&mut self, name: Name) -> Result<(), AllocError>
-        requires room { length self.old.parts.nodes < 1000 }
+        requires room { length self.old.parts.nodes < MOST_NODES }
         requires name { IsName name }
         ensures ok { OnOk result (self.new.parts ≡ record self.old.parts { nodes = self.old.parts.nodes ++ name ∷ [] }) }
         ensures err { OnErr result (self.new ≡ self.old) }
@@ -76,7 +77,7 @@ impl Draft {
 
     /// Adds the next variable.
     pub fn add_variable(&mut self, name: Name) -> Result<(), AllocError>
-        requires room { length self.old.parts.vars < 606 }
+        requires room { length self.old.parts.vars < MOST_VARIABLES }
         requires name { IsName name }
         ensures ok { OnOk result (self.new.parts ≡ record self.old.parts { vars = self.old.parts.vars ++ name ∷ [] }) }
         ensures err { OnErr result (self.new ≡ self.old) }
@@ -87,7 +88,7 @@ impl Draft {
 
     /// Adds a series branch.
     pub fn add_lumped(&mut self, branch: Lumped) -> Result<(), AllocError>
-        requires room { length self.old.parts.branches < 5000 }
+        requires room { length self.old.parts.branches < MOST_BRANCHES }
         requires fits { IsLumped self.old.parts.run (sizes_of self.old.parts) branch }
         ensures ok { OnOk result (self.new.parts ≡ record self.old.parts { branches = self.old.parts.branches ++ Branch.Lumped branch ∷ [] }) }
         ensures history { OnOk result (history_values_of self.new.parts ≡ history_values_of self.old.parts) }
@@ -98,10 +99,10 @@ impl Draft {
 
     /// Adds a branch other than a phase. A pseudo-nonlinear one has the points of an earlier one.
     pub fn add_branch(&mut self, branch: Branch) -> Result<(), AllocError>
-        requires room { length self.old.parts.branches < 5000 }
+        requires room { length self.old.parts.branches < MOST_BRANCHES }
         requires single { IsSingle branch }
         requires fits { IsBranch self.old.parts.run (sizes_of self.old.parts) self.old.parts.points branch }
-        requires history { history_values_of self.old.parts + branch_history_values self.old.parts.run.dt branch ≤ 2000000 }
+        requires history { history_values_of self.old.parts + branch_history_values self.old.parts.run.dt branch ≤ MOST_HISTORY_VALUES }
         ensures ok { OnOk result (self.new.parts ≡ record self.old.parts { branches = self.old.parts.branches ++ branch ∷ [] }) }
         ensures history { OnOk result (history_values_of self.new.parts ≡ history_values_of self.old.parts + branch_history_values self.old.parts.run.dt branch) }
         ensures err { OnErr result (self.new ≡ self.old) }
@@ -113,10 +114,10 @@ impl Draft {
     /// Adds a pseudo-nonlinear branch with its points. Their place and number in `branch` don't matter: they are
     /// set here.
     pub fn add_pseudo(&mut self, branch: Pseudo, points: &[Point]) -> Result<(), AllocError>
-        requires room { length self.old.parts.branches < 5000 }
+        requires room { length self.old.parts.branches < MOST_BRANCHES }
         requires ends { AreEnds (length self.old.parts.nodes) branch.from branch.to }
         requires some { 1 ≤ length points.now }
-        requires few { length points.now ≤ 64 }
+        requires few { length points.now ≤ MOST_POINTS }
         requires characteristic { IsCharacteristic branch.reactor self.old.parts.run.dt points.now }
         ensures ok { OnOk result (self.new.parts ≡ record self.old.parts { points = self.old.parts.points ++ points.now; branches = self.old.parts.branches ++ Branch.Pseudo (record branch { first = length self.old.parts.points; count = length points.now }) ∷ [] }) }
         ensures history { OnOk result (history_values_of self.new.parts ≡ history_values_of self.old.parts) }
@@ -138,12 +139,12 @@ impl Draft {
     /// Adds a three-phase line: its modes and the cards of its phases. The place in `modes`, and the trio and the number
     /// in each phase, don't matter: they are set here. The number of each card's line is the caller's.
     pub fn add_trio(&mut self, modes: Trio, a: Phase, b: Phase, c: Phase) -> Result<(), AllocError>
-        requires room { length self.old.parts.branches + 3 ≤ 5000 }
+        requires room { length self.old.parts.branches + 3 ≤ MOST_BRANCHES }
         requires a { AreEnds (length self.old.parts.nodes) a.from a.to }
         requires b { AreEnds (length self.old.parts.nodes) b.from b.to }
         requires c { AreEnds (length self.old.parts.nodes) c.from c.to }
         requires modes { IsTrio self.old.parts.run modes }
-        requires history { history_values_of self.old.parts + trio_history_values self.old.parts.run.dt modes ≤ 2000000 }
+        requires history { history_values_of self.old.parts + trio_history_values self.old.parts.run.dt modes ≤ MOST_HISTORY_VALUES }
         ensures ok { OnOk result (self.new.parts ≡ record self.old.parts { branches = self.old.parts.branches ++ phase_branches (length self.old.parts.trios) a b c; trios = self.old.parts.trios ++ record modes { first = length self.old.parts.branches } ∷ [] }) }
         ensures history { OnOk result (history_values_of self.new.parts ≡ history_values_of self.old.parts + trio_history_values self.old.parts.run.dt modes) }
         ensures err { OnErr result (self.new ≡ self.old) }
@@ -177,7 +178,7 @@ impl Draft {
 
     /// Adds a switch.
     pub fn add_switch(&mut self, switch: Switch) -> Result<(), AllocError>
-        requires room { length self.old.parts.switches < 500 }
+        requires room { length self.old.parts.switches < MOST_SWITCHES }
         requires fits { IsSwitch (sizes_of self.old.parts) switch }
         ensures ok { OnOk result (self.new.parts ≡ record self.old.parts { switches = self.old.parts.switches ++ switch ∷ [] }) }
         ensures err { OnErr result (self.new ≡ self.old) }
@@ -199,7 +200,7 @@ impl Draft {
 
     /// Adds a source of the network. A second voltage source of a node is out.
     pub fn add_source(&mut self, source: Source) -> Result<(), AllocError>
-        requires room { length self.old.parts.sources < 500 }
+        requires room { length self.old.parts.sources < MOST_SOURCES }
         requires fits { IsSource (sizes_of self.old.parts) source }
         requires one { source.current ≡ false → list_any (is_voltage_source_at source.node) self.old.parts.sources ≡ false }
         ensures ok { OnOk result (self.new.parts ≡ record self.old.parts { sources = self.old.parts.sources ++ source ∷ [] }) }
@@ -211,7 +212,7 @@ impl Draft {
 
     /// Adds a source of the control.
     pub fn add_tacs_source(&mut self, source: Source) -> Result<(), AllocError>
-        requires room { length self.old.parts.tacs_sources < 200 }
+        requires room { length self.old.parts.tacs_sources < MOST_CONTROL_CARDS }
         requires fits { IsTacsSource (sizes_of self.old.parts) source }
         ensures ok { OnOk result (self.new.parts ≡ record self.old.parts { tacs_sources = self.old.parts.tacs_sources ++ source ∷ [] }) }
         ensures err { OnErr result (self.new ≡ self.old) }
@@ -222,7 +223,7 @@ impl Draft {
 
     /// Adds a block.
     pub fn add_block(&mut self, block: Block) -> Result<(), AllocError>
-        requires room { length self.old.parts.blocks < 200 }
+        requires room { length self.old.parts.blocks < MOST_CONTROL_CARDS }
         requires fits { IsBlock self.old.parts.run (sizes_of self.old.parts) block }
         ensures ok { OnOk result (self.new.parts ≡ record self.old.parts { blocks = self.old.parts.blocks ++ block ∷ [] }) }
         ensures err { OnErr result (self.new ≡ self.old) }
@@ -233,11 +234,11 @@ impl Draft {
 
     /// Adds a device with its points or times. Their place and number in `device` don't matter: they are set here.
     pub fn add_device(&mut self, mut device: Device, points: &[Point]) -> Result<(), AllocError>
-        requires room { length self.old.parts.extras < 200 }
+        requires room { length self.old.parts.extras < MOST_CONTROL_CARDS }
         requires card { IsDeviceCard (sizes_of self.old.parts) device }
-        requires few { length points.now ≤ 64 }
+        requires few { length points.now ≤ MOST_POINTS }
         requires points { HasDevicePoints device.code points.now }
-        requires history { history_values_of self.old.parts + device_history_values self.old.parts.run.dt device.code device.a ≤ 2000000 }
+        requires history { history_values_of self.old.parts + device_history_values self.old.parts.run.dt device.code device.a ≤ MOST_HISTORY_VALUES }
         ensures ok { OnOk result (self.new.parts ≡ record self.old.parts { points = self.old.parts.points ++ points.now; extras = self.old.parts.extras ++ Extra.Device (record device { first = length self.old.parts.points; count = length points.now }) ∷ [] }) }
         ensures history { OnOk result (history_values_of self.new.parts ≡ history_values_of self.old.parts + device_history_values self.old.parts.run.dt device.code device.a) }
         ensures err { OnErr result (self.new ≡ self.old) }
@@ -254,7 +255,7 @@ impl Draft {
 
     /// Adds a formula.
     pub fn add_formula(&mut self, formula: Formula) -> Result<(), AllocError>
-        requires room { length self.old.parts.extras < 200 }
+        requires room { length self.old.parts.extras < MOST_CONTROL_CARDS }
         requires fits { IsFormula (sizes_of self.old.parts) formula }
         ensures ok { OnOk result (self.new.parts ≡ record self.old.parts { extras = self.old.parts.extras ++ Extra.Formula formula ∷ [] }) }
         ensures history { OnOk result (history_values_of self.new.parts ≡ history_values_of self.old.parts) }
@@ -266,9 +267,9 @@ impl Draft {
 
     /// Adds a channel.
     pub fn add_channel(&mut self, channel: Channel) -> Result<(), AllocError>
-        requires room { length self.old.parts.channels < 64 }
+        requires room { length self.old.parts.channels < MOST_CHANNELS }
         requires fits { IsChannel (sizes_of self.old.parts) channel }
-        requires stored { (length self.old.parts.channels + 1) * samples_of self.old.parts.run ≤ 4000000 }
+        requires stored { (length self.old.parts.channels + 1) * samples_of self.old.parts.run ≤ MOST_STORED_VALUES }
         ensures ok { OnOk result (self.new.parts ≡ record self.old.parts { channels = self.old.parts.channels ++ channel ∷ [] }) }
         ensures err { OnErr result (self.new ≡ self.old) }
     {

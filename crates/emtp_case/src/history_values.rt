@@ -1,5 +1,6 @@
 //! History values: how many past values lines and devices need.
 
+ghost use Rattle.emtp_case.specs.held.RunData.{IsTimeStep};
 ghost use Rattle.std.specs.Prelude.{◌≡◌, ◌+◌, ◌*◌, ◌^◌, ◌≤◌};
 ghost use Rattle.emtp_case.specs.held.Control.{HasRangeOfA};
 ghost use Rattle.emtp_case.specs.HistoryValues.{branch_history_values, delay_steps, device_history_values, period_steps, travel_steps, trio_history_values};
@@ -14,7 +15,7 @@ impl Branch {
     /// How many past values a branch needs at a time step in ps: those of both ends of a single line, none of another
     /// branch. Those of a three-phase line are counted with its modes.
     pub fn history_values(&self, dt: i64) -> u64
-        requires { IsBetween 1000 (10 ^ 12) dt }
+        requires { IsTimeStep dt }
         ensures { result ≡ branch_history_values dt self.now }
     {
         match self {
@@ -28,7 +29,7 @@ impl Trio {
     /// How many past values a three-phase line needs at a time step in ps: those of both ends of the zero sequence, and
     /// of both ends of the positive sequence in each phase.
     pub fn history_values(&self, dt: i64) -> u64
-        requires { IsBetween 1000 (10 ^ 12) dt }
+        requires { IsTimeStep dt }
         ensures { result ≡ trio_history_values dt self.now }
     {
         2 * (travel_steps(dt, self.delay[0]) + 1) + 6 * (travel_steps(dt, self.delay[1]) + 1)
@@ -38,7 +39,7 @@ impl Trio {
 impl Device {
     /// How many past values a device needs at a time step in ps, by its code and its number A.
     pub fn history_values(&self, dt: i64) -> u64
-        requires dt { IsBetween 1000 (10 ^ 12) dt }
+        requires dt { IsTimeStep dt }
         requires a { HasRangeOfA self.now.code self.now.a }
         ensures { result ≡ device_history_values dt self.now.code self.now.a }
     {
@@ -50,7 +51,7 @@ impl DeviceCode {
     /// How many past values a device of this code with the number A needs at a time step in ps: the steps of a delay, A in
     /// ps, and one more, or the steps of a period, A in micro-hertz, one at least.
     pub fn history_values(self, a: i64, dt: i64) -> u64
-        requires dt { IsBetween 1000 (10 ^ 12) dt }
+        requires dt { IsTimeStep dt }
         requires a { HasRangeOfA self a }
         ensures { result ≡ device_history_values dt self a }
     {
@@ -64,7 +65,7 @@ impl DeviceCode {
 
 /// A travel time in whole steps.
 fn travel_steps(dt: i64, delay: i64) -> u64
-    requires { IsBetween 1000 (10 ^ 12) dt }
+    requires { IsTimeStep dt }
     ensures value { result ≡ travel_steps dt delay }
     ensures few { result ≤ 2 * 10 ^ 16 }
 {
@@ -72,7 +73,7 @@ fn travel_steps(dt: i64, delay: i64) -> u64
 }
 
 fn delay_steps(dt: i64, a: i64) -> u64
-    requires dt { IsBetween 1000 (10 ^ 12) dt }
+    requires dt { IsTimeStep dt }
     requires a { IsBetween 0 (10 ^ 18) a }
     ensures value { result ≡ delay_steps dt a }
     ensures few { result ≤ 10 ^ 18 }
@@ -81,7 +82,7 @@ fn delay_steps(dt: i64, a: i64) -> u64
 }
 
 fn period_steps(dt: i64, a: i64) -> u64
-    requires dt { IsBetween 1000 (10 ^ 12) dt }
+    requires dt { IsTimeStep dt }
     requires a { IsBetween 1 (10 ^ 13) a }
     ensures value { result ≡ period_steps dt a }
 {

@@ -1,6 +1,7 @@
 //! The numbers that a step makes of a card's: companions of inductances and capacitances, the impedance of a lossy
 //! line's end, the slope of a segment. A reader judges by them, and the laws step with them.
 
+ghost use Rattle.emtp_case.specs.held.RunData.{IsTimeStep};
 ghost use Rattle.std.specs.Prelude.{◌≡◌, ◌*◌, ◌^◌, ◌≤◌, pos, ◌*ℤ◌, unsigned_abs};
 ghost use Rattle.emtp_case.specs.Branch.{capacitor_impedance, inductor_impedance, line_impedance, series_impedance, slope_of};
 ghost use Rattle.emtp_case.specs.held.Branch.{IsRise};
@@ -12,7 +13,7 @@ use emtp_fix::near;
 
 /// The impedance in micro-ohm of an inductance in nH, at a time step in ps, by the trapezoidal rule (Dommel 1969).
 pub fn inductor_impedance(dt: i64, l: i64) -> i128
-    requires dt { IsBetween 1000 (10 ^ 12) dt }
+    requires dt { IsTimeStep dt }
     requires l { IsBetween 0 (10 ^ 15) l }
     ensures value { result ≡ inductor_impedance dt l }
     ensures bound { unsigned_abs result ≤ 2 * 10 ^ 24 }
@@ -23,7 +24,7 @@ pub fn inductor_impedance(dt: i64, l: i64) -> i128
 /// The impedance in micro-ohm of a capacitance in fF, at a time step in ps, by the trapezoidal rule (Dommel 1969).
 /// A capacitance of 0 is absent, and has none.
 pub fn capacitor_impedance(dt: i64, c: i64) -> i128
-    requires dt { IsBetween 1000 (10 ^ 12) dt }
+    requires dt { IsTimeStep dt }
     requires c { IsBetween 0 (10 ^ 15) c }
     ensures value { result ≡ capacitor_impedance dt c }
     ensures bound { unsigned_abs result ≤ 10 ^ 21 }
@@ -33,7 +34,7 @@ pub fn capacitor_impedance(dt: i64, c: i64) -> i128
 
 /// The whole number nearest to `dt * 10^9 / (2 * c)`.
 fn half_step(dt: i64, c: i64) -> i128
-    requires dt { IsBetween 1000 (10 ^ 12) dt }
+    requires dt { IsTimeStep dt }
     requires c { IsBetween 1 (10 ^ 15) c }
     ensures value { result ≡ near (dt *ℤ pos (10 ^ 9)) (pos 2 *ℤ c) }
     ensures bound { unsigned_abs result ≤ 10 ^ 21 }
@@ -43,7 +44,7 @@ fn half_step(dt: i64, c: i64) -> i128
 
 /// The impedance in micro-ohm of a resistance, an inductance and a capacitance in series, over one step in ps.
 pub fn series_impedance(dt: i64, r: i64, l: i64, c: i64) -> i128
-    requires dt { IsBetween 1000 (10 ^ 12) dt }
+    requires dt { IsTimeStep dt }
     requires r { IsBetween 0 (10 ^ 15) r }
     requires l { IsBetween 0 (10 ^ 15) l }
     requires c { IsBetween 0 (10 ^ 15) c }
@@ -65,7 +66,7 @@ pub fn line_impedance(zc: i64, r: i64) -> i128
 /// The resistance in micro-ohm of a resistor's segment from point `a` to point `b`, or the conductance in pS of a
 /// reactor's at a time step in ps.
 pub fn slope(reactor: bool, dt: i64, a: Point, b: Point) -> i128
-    requires dt { IsBetween 1000 (10 ^ 12) dt }
+    requires dt { IsTimeStep dt }
     requires current { IsRise a.current b.current }
     requires other { IsRise a.other b.other }
     ensures { result ≡ slope_of reactor dt a b }
@@ -86,7 +87,7 @@ fn resistor_slope(current: i64, voltage: i64) -> i128
 }
 
 fn reactor_slope(dt: i64, current: i64, flux: i64) -> i128
-    requires dt { IsBetween 1000 (10 ^ 12) dt }
+    requires dt { IsTimeStep dt }
     requires current { IsBetween 1 (10 ^ 18) current }
     requires flux { IsBetween 1 (10 ^ 18) flux }
     ensures { result ≡ near (dt *ℤ current *ℤ pos 1000) (pos 2 *ℤ flux) }

@@ -25,6 +25,7 @@ mod history_values;
 mod impedance;
 mod items;
 mod laws;
+mod limit;
 mod name;
 mod row_kind;
 mod row_order;
@@ -52,6 +53,10 @@ pub use impedance::{
 pub use items::Items;
 pub use laws::{
     defined_in_turn, one_back, one_more_in_table, one_more_pair, one_more_point, two_modes,
+};
+pub use limit::{
+    MOST_BRANCHES, MOST_CHANNELS, MOST_CONTROL_CARDS, MOST_HISTORY_VALUES, MOST_NODES, MOST_POINTS,
+    MOST_SOURCES, MOST_STEPS, MOST_STORED_VALUES, MOST_SWITCHES, MOST_VARIABLES,
 };
 pub use name::Name;
 pub use row_kind::RowKind;

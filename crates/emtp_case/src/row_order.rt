@@ -1,5 +1,6 @@
 //! The order of the rows: which node stands in which row of the nodal matrix.
 
+ghost use Rattle.emtp_case.specs.declared.limit.TheConstants.{MOST_BRANCHES, MOST_NODES};
 ghost use Rattle.std.specs.Prelude.{◌≡◌, ◌+◌, ◌<◌, ◌≤◌, ℕ, length, map, count_by, sum_by, IfOk, slice_index};
 ghost use Rattle.std.specs.List.{range_with_len, list_any};
 ghost use Rattle.std.specs.List.Sorted.{IsPermutation, IsSortedByKey};
@@ -116,8 +117,8 @@ pub fn order(alloc: Global, case: &Case) -> Result<RowOrder, AllocError>
 }
 
 fn nodes_in_order(alloc: Global, parts: &Parts) -> Result<Vec<u32>, AllocError>
-    requires branches { length parts.now.branches ≤ 5000 }
-    requires nodes { length parts.now.nodes ≤ 1000 }
+    requires branches { length parts.now.branches ≤ MOST_BRANCHES }
+    requires nodes { length parts.now.nodes ≤ MOST_NODES }
     ensures each_once { IfOk result (λ nodes. IsPermutation (range_with_len 1 (length parts.now.nodes)) nodes.items) }
     ensures rising { IfOk result (λ nodes. IsSortedByKey (key_of parts.now) key_cmp nodes.items) }
 {
@@ -129,8 +130,8 @@ fn nodes_in_order(alloc: Global, parts: &Parts) -> Result<Vec<u32>, AllocError>
 
 /// The keys of all nodes, by node.
 fn keys_of(alloc: Global, parts: &Parts) -> Result<Vec<Key>, AllocError>
-    requires branches { length parts.now.branches ≤ 5000 }
-    requires nodes { length parts.now.nodes ≤ 1000 }
+    requires branches { length parts.now.branches ≤ MOST_BRANCHES }
+    requires nodes { length parts.now.nodes ≤ MOST_NODES }
     ensures { IfOk result (λ keys. keys.items ≡ map (key_of parts.now) (range_with_len 1 (length parts.now.nodes))) }
 {
     let mut keys = Vec::new(alloc);
@@ -147,7 +148,7 @@ fn nodes_of(alloc: Global, keys: &[Key]) -> Result<Vec<u32>, AllocError>
 }
 
 fn fixed_of(parts: &Parts) -> usize
-    requires { length parts.now.nodes ≤ 1000 }
+    requires { length parts.now.nodes ≤ MOST_NODES }
     ensures { result ≡ count_by (has_source parts.now) (range_with_len 1 (length parts.now.nodes)) }
 {
     let mut count = 0;
@@ -160,7 +161,7 @@ fn fixed_of(parts: &Parts) -> usize
 }
 
 fn key_of(parts: &Parts, node: u32) -> Key
-    requires { length parts.now.branches ≤ 5000 }
+    requires { length parts.now.branches ≤ MOST_BRANCHES }
     ensures { result ≡ key_of parts.now node }
 {
     let class = class_of(parts, node);
@@ -215,7 +216,7 @@ fn is_pseudo_at(branch: &Branch, node: u32) -> bool
 
 /// The number of branch ends at a node.
 fn ends_of(parts: &Parts, node: u32) -> u32
-    requires { length parts.now.branches ≤ 5000 }
+    requires { length parts.now.branches ≤ MOST_BRANCHES }
     ensures { result ≡ sum_by (ends_at node) parts.now.branches }
 {
     parts
@@ -236,7 +237,7 @@ fn ends_at(branch: &Branch, node: u32) -> u32
 
 /// The row of each node, with an unused place for ground.
 fn rows_of(alloc: Global, nodes: &[u32]) -> Result<Vec<u32>, AllocError>
-    requires few { length nodes.now ≤ 1000 }
+    requires few { length nodes.now ≤ MOST_NODES }
     requires each_once { IsPermutation (range_with_len 1 (length nodes.now)) nodes.now }
     ensures { IfOk result (λ rows. AreRows nodes.now rows.items) }
 {

@@ -1,5 +1,6 @@
 //! The numbers of the miscellaneous cards.
 
+ghost use Rattle.emtp_case.specs.declared.limit.TheConstants.{MOST_STEPS};
 ghost use Rattle.std.specs.Prelude.{◌≡◌, ◌≤◌, ◌^◌};
 ghost use Rattle.emtp_case.specs.held.Range.{IsBetween};
 
@@ -33,7 +34,7 @@ impl RunData {
     /// The number of samples: record 0, and each `every`th one after it.
     pub fn samples(&self) -> u32
         requires some { 1 ≤ self.now.every }
-        requires few { self.now.steps ≤ 1000000 }
+        requires few { self.now.steps ≤ MOST_STEPS }
         ensures value { result ≡ samples_of self.now }
         ensures few { result ≤ 1000001 }
     {

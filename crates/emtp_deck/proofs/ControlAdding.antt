@@ -1,4 +1,5 @@
 -- One more record of the control, and what the control leaves.
+use Rattle.emtp_case.specs.declared.limit.TheConstants.{MOST_HISTORY_VALUES}
 use Rattle.std.proofs.Common.{List, [], ap, arith, drop, fold, get_or, length, length-append, map, refl, sym, take, take-append-drop, ℕ, ◌++◌, ◌+◌, ◌<◌, ◌∙◌, ◌∷◌, ◌≡◌, ◌≤◌}
 use Rattle.std.proofs.lemmas.List.{map_more, take_more}
 use Rattle.std.proofs.lemmas.List.Elements.{All-nil}
@@ -48,7 +49,7 @@ pub extra_more : (variables : List (List ℕ)) (points : List Point) (p : Parts)
 extra_more variables points p (DeviceEntry card first count) = record { vars = refl; run = refl; room = length-append p.extras _ }
 extra_more variables points p (FormulaEntry card) = record { vars = refl; run = refl; room = length-append p.extras _ }
 
-pub room_for : (h before t s e all : ℕ) → h ≡ before + t → t ≡ s → s + e ≤ all → before + all ≤ 2000000 → h + e ≤ 2000000
+pub room_for : (h before t s e all : ℕ) → h ≡ before + t → t ≡ s → s + e ≤ all → before + all ≤ MOST_HISTORY_VALUES → h + e ≤ MOST_HISTORY_VALUES
 room_for h before t s e all is sum front most = omega (arith, is, sum, front, most)
 
 pub next_history : (new old before t e r : ℕ) → new ≡ old + e → old ≡ before + t → r ≡ e → new ≡ before + (t + r)

@@ -1,4 +1,5 @@
 -- What the control's cards without a fault of sense are together.
+use Rattle.emtp_case.specs.declared.limit.TheConstants.{MOST_CONTROL_CARDS, MOST_VARIABLES}
 use Rattle.std.proofs.Common.{Err, List, None, Ok, Option, Result, Some, [], ap, arith, length, length-append, refl, subst, suc, sym, true, ℕ, ◌++◌, ◌+◌, ◌∙◌, ◌∷◌, ◌≡◌, ◌≤◌, Bool, append-nil, append_assoc, fold}
 use Rattle.std.proofs.lemmas.List.{map-append}
 use Rattle.std.proofs.lemmas.List.Elements.{All-cons, All-nil}
@@ -167,7 +168,7 @@ pending_names deck other h = tt
 
 -- ---- how many
 
-pending_few : (variables : List (List ℕ)) (deck : Deck) (place : Place) (history : ℕ) → length deck.control.blocks ≤ 200 → length deck.control.extras ≤ 200 → pending_control_bad variables deck place history ≡ None
+pending_few : (variables : List (List ℕ)) (deck : Deck) (place : Place) (history : ℕ) → length deck.control.blocks ≤ MOST_CONTROL_CARDS → length deck.control.extras ≤ MOST_CONTROL_CARDS → pending_control_bad variables deck place history ≡ None
     → length deck.control.blocks + length deck.control.extras + length (pending_at place) ≤ 400
 pending_few variables deck (Control Blocks) history b x e = omega (arith, b, x)
 pending_few variables deck (Control (Numerator card)) history b x e = let f = block_fine variables (length deck.control.blocks) card e in omega (arith, f.room, x)
@@ -223,7 +224,7 @@ control_sensible nodes deck place sound whole e =
     let xs = options_of extra_name cards.extras in
     let behind = each_rest P bs (ss ++ (xs ++ pending_at place)) n.known in
     let extras = each_front P xs (pending_at place) (each_rest P ss (xs ++ pending_at place) behind) in
-    let few : length variables ≤ 606 = omega (
+    let few : length variables ≤ MOST_VARIABLES = omega (
       arith,
       n.more,
       length-append bs (ss ++ (xs ++ pending_at place)),

@@ -1,4 +1,5 @@
 -- What is made of the cards stays whole where the branches of an entry are added.
+use Rattle.emtp_case.specs.declared.limit.TheConstants.{MOST_POINTS}
 use Rattle.emtp_case.specs.declared.branch.Trio as modes
 use Rattle.std.proofs.Common.{◌≡◌, ◌∙◌, sym, ap, refl, ℕ, ◌+◌, ◌<◌, ◌≤◌, Bool, true, false, List, [], ◌∷◌, ◌++◌, length, None, Ok, arith, length-append, length-take, length-drop}
 use Rattle.std.proofs.lemmas.List.Elements.{All-append}
@@ -131,7 +132,7 @@ entry_there n at (Trio zero' positive third) l =
     (All-append (IsChannel n) zs ps (branch_there n at zero' (omega arith)) (branch_there n (at + 1) positive (omega arith)))
     (branch_there n (at + 2) third (omega arith))
 
-pub with_more_branches : (f : Filling) (draft : Draft) (channels : List Channel) (history : ℕ) (points : List Point) (e : BranchEntry) → IsFilling f → IsEntry f.draft.parts.run points e → IsSensible f.draft.parts e → count_asked f.asked + entry_count e ≤ 64
+pub with_more_branches : (f : Filling) (draft : Draft) (channels : List Channel) (history : ℕ) (points : List Point) (e : BranchEntry) → IsFilling f → IsEntry f.draft.parts.run points e → IsSensible f.draft.parts e → count_asked f.asked + entry_count e ≤ MOST_POINTS
     → draft.parts ≡ with_branches points f.draft.parts e → history_values_of draft.parts ≡ history_values_of f.draft.parts + entry_history f.draft.parts e → history ≡ f.history + entry_history f.draft.parts e
     → channels ≡ f.asked.branches ++ entry_channels (length f.draft.parts.branches) e → IsFilling (record f { draft = draft; asked = record f.asked { branches = channels }; history = history })
 with_more_branches f draft channels history points e h is s few d values more c =

@@ -1,4 +1,5 @@
 -- What is made of the cards stays whole where a source or a switch is added.
+use Rattle.emtp_case.specs.declared.limit.TheConstants.{MOST_CHANNELS}
 use Rattle.std.proofs.Common.{◌≡◌, refl, ℕ, zero, suc, ◌+◌, ◌==◌, ◌<◌, ◌≤◌, Bool, true, false, List, [], ◌∷◌, ◌++◌, length, arith, length-append, ◌∙◌}
 use Rattle.std.proofs.lemmas.List.Elements.{All-append, All-cons, All-nil, All-weaker}
 use Rattle.std.specs.Prelude.{All, OnOk, Ok, Err, Result, if◌then◌else◌}
@@ -35,7 +36,7 @@ with_more_sources f draft x h e = record {
 }
 
 -- the asked channels alone change, and the outputs alone
-pub with_more_outputs : (f : Filling) (outputs more : List Channel) → IsFilling f → outputs ≡ f.asked.outputs ++ more → count_asked f.asked + length more ≤ 64 → All (IsChannel (sizes_of f.draft.parts)) more
+pub with_more_outputs : (f : Filling) (outputs more : List Channel) → IsFilling f → outputs ≡ f.asked.outputs ++ more → count_asked f.asked + length more ≤ MOST_CHANNELS → All (IsChannel (sizes_of f.draft.parts)) more
     → IsFilling (record f { asked = record f.asked { outputs = outputs } })
 with_more_outputs f outputs more h e few fit = record {
   nodes = h.nodes;
@@ -112,7 +113,7 @@ pub length_of_switch : (asked at : ℕ) → length (channels_of asked (SwitchCur
 length_of_switch asked at = length_of_asked (asked == 0) (asked == 1) (asked == 2) (SwitchCurrent at) (SwitchVoltage at) (Status at)
 
 -- the switch of a card, and the channels that it asks for
-pub with_more_switches : (f : Filling) (draft : Draft) (switches statuses : List Channel) (card : SwitchCard) → IsFilling f → count_asked f.asked + switch_channel_count card.asked ≤ 64
+pub with_more_switches : (f : Filling) (draft : Draft) (switches statuses : List Channel) (card : SwitchCard) → IsFilling f → count_asked f.asked + switch_channel_count card.asked ≤ MOST_CHANNELS
     → draft.parts ≡ record f.draft.parts { switches = f.draft.parts.switches ++ switch_at f.nodes.keys f.variables.keys card ∷ [] }
     → switches ≡ f.asked.switches ++ channels_of card.asked (SwitchCurrent (length f.draft.parts.switches)) (SwitchVoltage (length f.draft.parts.switches))
     → statuses ≡ f.asked.statuses ++ status_of card.asked (length f.draft.parts.switches)

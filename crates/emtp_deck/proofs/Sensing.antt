@@ -1,4 +1,5 @@
 -- What an entry without a fault of sense gives its records.
+use Rattle.emtp_case.specs.declared.limit.TheConstants.{MOST_BRANCHES, MOST_CHANNELS, MOST_HISTORY_VALUES, MOST_NODES}
 use Rattle.std.proofs.Common.{◌≡◌, ℕ, ◌+◌, ◌<◌, ◌≤◌, List, [], ◌∷◌, length, None, arith}
 use Rattle.std.specs.Prelude.{All, nat_lt}
 use Rattle.emtp_card.proofs.Faults.{least_none}
@@ -27,26 +28,26 @@ use Rattle.emtp_netcards.specs.declared.branch_card.BranchCard.{BranchCard}
 
 -- no limit is exceeded, and the values are there
 record IsFaultless (names : List (List ℕ)) (n : Counts) (card : BranchCard) (values : ValuesFrom) : Type 0 where
-  branches : n.branches ≤ 5000
-  history : n.history ≤ 2000000
-  channels : n.channels ≤ 64
-  from_few : node_number names card.from ≤ 1000
-  to_few : node_number names card.to ≤ 1000
+  branches : n.branches ≤ MOST_BRANCHES
+  history : n.history ≤ MOST_HISTORY_VALUES
+  channels : n.channels ≤ MOST_CHANNELS
+  from_few : node_number names card.from ≤ MOST_NODES
+  to_few : node_number names card.to ≤ MOST_NODES
   taken : missing_fault values ≡ None
 
 faultless : (names : List (List ℕ)) (n : Counts) (card : BranchCard) (values : ValuesFrom) → card_bad names n card values ≡ None → IsFaultless names n card values
 unfolding card_fault
 faultless names n card values e =
-    let none = least_none (too_many (nat_lt 5000 n.branches) 1
-    ∷ too_many (nat_lt 2000000 n.history) 1
+    let none = least_none (too_many (nat_lt MOST_BRANCHES n.branches) 1
+    ∷ too_many (nat_lt MOST_HISTORY_VALUES n.history) 1
     ∷ too_many (nat_lt 64 n.channels) 1
-    ∷ too_many (nat_lt 1000 (node_number names card.from)) 3
-    ∷ too_many (nat_lt 1000 (node_number names card.to)) 9
+    ∷ too_many (nat_lt MOST_NODES (node_number names card.from)) 3
+    ∷ too_many (nat_lt MOST_NODES (node_number names card.to)) 9
     ∷ missing_fault values
     ∷ []) (no_bad card.line _ e) in
     record {
-      branches = within 5000 n.branches 1 none.0;
-      history = within 2000000 n.history 1 none.1.0;
+      branches = within MOST_BRANCHES n.branches 1 none.0;
+      history = within MOST_HISTORY_VALUES n.history 1 none.1.0;
       channels = within 64 n.channels 1 none.1.1.0;
       from_few = within 1000 (node_number names card.from) 3 none.1.1.1.0;
       to_few = within 1000 (node_number names card.to) 9 none.1.1.1.1.0;
@@ -55,10 +56,10 @@ faultless names n card values e =
 
 -- ---- sums
 
-one_below : (n : ℕ) → n + 1 ≤ 5000 → n < 5000
+one_below : (n : ℕ) → n + 1 ≤ MOST_BRANCHES → n < MOST_BRANCHES
 one_below n h = omega arith
 
-three_within : (n : ℕ) → n + 1 + 1 + 1 ≤ 5000 → n + 3 ≤ 5000
+three_within : (n : ℕ) → n + 1 + 1 + 1 ≤ MOST_BRANCHES → n + 3 ≤ MOST_BRANCHES
 three_within n h = omega arith
 
 in_turn : (m h a b : ℕ) → h + a + b ≤ m → h + (a + b) ≤ m
@@ -72,19 +73,19 @@ in_threes m h a b c l = omega arith
 -- what an entry without a fault gives, with the names of its nodes
 pub record IsTakable (m : Made) (new : List (List ℕ)) (e : BranchEntry) : Type 0 where
   pub continues : Continues m.parts.nodes new
-  pub few : length new ≤ 1000
+  pub few : length new ≤ MOST_NODES
   pub names : All IsName new
   pub sensible : IsSensible (record m.parts { nodes = new }) e
-  pub room : count_asked m.asked + entry_count e ≤ 64
+  pub room : count_asked m.asked + entry_count e ≤ MOST_CHANNELS
 
 -- a card brings at most six names
-pub names_more : (nodes : List (List ℕ)) (e : BranchEntry) → length nodes ≤ 1000 → length (with_entry_names nodes e) ≤ 2000
+pub names_more : (nodes : List (List ℕ)) (e : BranchEntry) → length nodes ≤ MOST_NODES → length (with_entry_names nodes e) ≤ 2000
 names_more nodes (Single card first count) l =
     let named = all_named nodes (card.from ∷ card.to ∷ []) in omega (arith, named.more, l)
 names_more nodes (Trio zero' positive third) l =
     let named = all_named nodes (zero'.from ∷ zero'.to ∷ positive.from ∷ positive.to ∷ third.from ∷ third.to ∷ []) in omega (arith, named.more, l)
 
-pub takable : (m : Made) (run : RunData) (points : List Point) (e : BranchEntry) → IsEntry run points e → length m.parts.nodes ≤ 1000 → All IsName m.parts.nodes → entry_fault (with_entry_names m.parts.nodes e) m e ≡ None → IsTakable m (with_entry_names m.parts.nodes e) e
+pub takable : (m : Made) (run : RunData) (points : List Point) (e : BranchEntry) → IsEntry run points e → length m.parts.nodes ≤ MOST_NODES → All IsName m.parts.nodes → entry_fault (with_entry_names m.parts.nodes e) m e ≡ None → IsTakable m (with_entry_names m.parts.nodes e) e
 takable m run points (Single card first count) h few names e =
     let xs = card.from ∷ card.to ∷ [] in
     let nodes = with_names m.parts.nodes xs in
@@ -127,7 +128,7 @@ takable m run points (Trio zero' positive third) h few names e =
         third_ends = ends_of nodes third.from third.to c known.1.1.1.1.0 known.1.1.1.1.1.0;
         zero_taken = f.taken;
         positive_taken = g.taken;
-        history = in_turn 2000000 (history_values_of m.parts) (card_history 1 nodes m.parts zero') (card_history 3 nodes m.parts positive) g.history;
+        history = in_turn MOST_HISTORY_VALUES (history_values_of m.parts) (card_history 1 nodes m.parts zero') (card_history 3 nodes m.parts positive) g.history;
       };
       room = in_threes 64 (count_asked m.asked) (channel_count zero'.asked) (channel_count positive.asked) (channel_count third.asked) t.channels;
     }

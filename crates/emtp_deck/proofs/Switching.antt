@@ -1,4 +1,5 @@
 -- A switch card without a fault of sense, whose names are among those of the nodes.
+use Rattle.emtp_case.specs.declared.limit.TheConstants.{MOST_CHANNELS, MOST_NODES, MOST_SWITCHES}
 use Rattle.std.proofs.Common.{◌≡◌, ◌∙◌, ap, ℕ, ◌+◌, ◌<◌, ◌≤◌, List, [], ◌∷◌, length, None, subst, sym}
 use Rattle.std.specs.Prelude.{All}
 use Rattle.emtp_case.specs.held.Name.{IsName}
@@ -20,10 +21,10 @@ use Rattle.emtp_netcards.specs.declared.switch_card.SwitchCard.{SwitchCard}
 -- what the nodes and the draft need before the switch is added
 pub record IsReady (f : Filling) (keys : List (List ℕ)) (card : SwitchCard) : Type 0 where
   pub continues : Continues f.draft.parts.nodes keys
-  pub few : length keys ≤ 1000
+  pub few : length keys ≤ MOST_NODES
   pub names : All IsName keys
-  pub room : length f.draft.parts.switches < 500
-  pub asked : count_asked f.asked + switch_channel_count card.asked ≤ 64
+  pub room : length f.draft.parts.switches < MOST_SWITCHES
+  pub asked : count_asked f.asked + switch_channel_count card.asked ≤ MOST_CHANNELS
   pub ends : AreEnds (length keys) (node_number keys card.from) (node_number keys card.to)
   pub control : IsKnown f.variables.keys card.control
 

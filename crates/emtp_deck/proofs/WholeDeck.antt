@@ -1,4 +1,5 @@
 -- The case of a deck whose record isn't too large.
+use Rattle.emtp_case.specs.declared.limit.TheConstants.{MOST_STORED_VALUES}
 use Rattle.std.proofs.Common.{◌≡◌, ◌∙◌, ap, ℕ, ◌+◌, ◌*◌, ◌≤◌, false, Some, Ok, Err, arith, Bool, None, Result}
 use Rattle.std.proofs.Math.Nat.{mul-le-mul_right}
 use Rattle.std.proofs.lemmas.Bool.Decides.{nat_tests}
@@ -26,13 +27,13 @@ use Rattle.emtp_netcards.specs.SourceCard.{unless_judged}
 small : (n m : ℕ) → nat_lt n m ≡ false → m ≤ n
 small n m e = grind (arith, nat_tests)
 
-within : (asked all pending samples : ℕ) → asked ≡ all → nat_lt 4000000 ((all + pending) * samples) ≡ false → asked * samples ≤ 4000000
+within : (asked all pending samples : ℕ) → asked ≡ all → nat_lt MOST_STORED_VALUES ((all + pending) * samples) ≡ false → asked * samples ≤ MOST_STORED_VALUES
 within asked all pending samples is e =
-    let most : (all + pending) * samples ≤ 4000000 = small 4000000 ((all + pending) * samples) e in
+    let most : (all + pending) * samples ≤ MOST_STORED_VALUES = small MOST_STORED_VALUES ((all + pending) * samples) e in
     let less : asked * samples ≤ (all + pending) * samples = mul-le-mul_right samples (omega (arith, is)) in
     omega (arith, most, less)
 
-pub stored_within : (deck : Deck) (seen : Bool) (m : Made) → has_too_many (known_nodes deck (After seen)) (variable_names deck (After seen)) deck (After seen) ≡ false → made_of_deck (variable_names deck (After seen)) deck ≡ Ok m → count_asked m.asked * samples_of m.parts.run ≤ 4000000
+pub stored_within : (deck : Deck) (seen : Bool) (m : Made) → has_too_many (known_nodes deck (After seen)) (variable_names deck (After seen)) deck (After seen) ≡ false → made_of_deck (variable_names deck (After seen)) deck ≡ Ok m → count_asked m.asked * samples_of m.parts.run ≤ MOST_STORED_VALUES
 stored_within deck seen m few h =
     let variables = variable_names deck (After seen) in
     let asks = deck_asks variables deck m h in

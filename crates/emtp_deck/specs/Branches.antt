@@ -1,4 +1,5 @@
 -- Branches: what each card gives the case, unless it has a fault of sense. Of a card the least fault counts.
+use Rattle.emtp_case.specs.declared.limit.TheConstants.{MOST_BRANCHES, MOST_HISTORY_VALUES, MOST_NODES}
 use Rattle.std.specs.Prelude.{ℕ, ◌+◌, ◌*◌, nat_lt, ℤ, pos, Bool, true, false, List, [], ◌∷◌, ◌++◌, length, Option, Some, None, option_map, unwrap_or, Result, Ok}
 use Rattle.emtp_card.specs.Fault.{bad_at, least, unless_bad}
 use Rattle.emtp_card.specs.declared.fault.Fault.{Fault}
@@ -56,11 +57,11 @@ card_history phases names p card = line_history phases p.run.dt (line_numbers p.
 -- the faults of a card, given the names of the nodes and the counts, its own among them
 unfoldable pub card_fault : List (List ℕ) → Counts → BranchCard → ValuesFrom → Option Fault
 card_fault names n card values =
-    least (too_many (nat_lt 5000 n.branches) 1
-    ∷ too_many (nat_lt 2000000 n.history) 1
+    least (too_many (nat_lt MOST_BRANCHES n.branches) 1
+    ∷ too_many (nat_lt MOST_HISTORY_VALUES n.history) 1
     ∷ too_many (nat_lt 64 n.channels) 1
-    ∷ too_many (nat_lt 1000 (node_number names card.from)) 3
-    ∷ too_many (nat_lt 1000 (node_number names card.to)) 9
+    ∷ too_many (nat_lt MOST_NODES (node_number names card.from)) 3
+    ∷ too_many (nat_lt MOST_NODES (node_number names card.to)) 9
     ∷ missing_fault values
     ∷ [])
 

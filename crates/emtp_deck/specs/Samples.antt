@@ -1,4 +1,5 @@
 -- The stored values of a record, for all channels that the cards ask for, also those beyond the limit of 64.
+use Rattle.emtp_case.specs.declared.limit.TheConstants.{MOST_STORED_VALUES}
 use Rattle.std.specs.List.{sum_by}
 use Rattle.std.specs.Prelude.{ℕ, ◌+◌, ◌*◌, nat_lt, Bool, List, length, position, is_some, Option, Some, None, if◌then◌else◌}
 use Rattle.std.specs.Str.{bytes_eq}
@@ -57,7 +58,7 @@ deck_count nodes variables deck =
     sum_by (count_of_variables variables) deck.control.outputs + sum_by entry_count deck.branches + sum_by count_of_switch deck.switches + sum_by (count_of_entry nodes) deck.outputs
 
 abbrev pub has_too_many : List (List ℕ) → List (List ℕ) → Deck → Place → Bool
-has_too_many nodes variables deck place = nat_lt 4000000 ((deck_count nodes variables deck + pending_count place) * samples_of deck.run)
+has_too_many nodes variables deck place = nat_lt MOST_STORED_VALUES ((deck_count nodes variables deck + pending_count place) * samples_of deck.run)
 
 -- the second miscellaneous card says how many records are samples
 abbrev pub samples_bad : Deck → Bad

@@ -1,4 +1,5 @@
 -- Sources: what each card gives the case, unless it has a fault of sense. Of a card the least fault counts.
+use Rattle.emtp_case.specs.declared.limit.TheConstants.{MOST_SOURCES}
 use Rattle.std.specs.List.{list_any}
 use Rattle.std.specs.Prelude.{ℕ, nat_le, Bool, not, ◌&&◌, List, [], ◌∷◌, ◌++◌, length, Option, Some, None, Result, Ok, if◌then◌else◌}
 use Rattle.emtp_card.specs.Fault.{least}
@@ -36,7 +37,7 @@ node_fault card sources (Some node) = if is_second card node sources then Some (
 
 -- the faults of sense of a card, given the number of its node, if it is one
 abbrev pub source_fault : Parts → SourceCard → Option ℕ → Option Fault
-source_fault p card node = least (too_many (nat_le 500 (length p.sources)) 1 ∷ node_fault card p.sources node ∷ driver_fault p.vars card ∷ [])
+source_fault p card node = least (too_many (nat_le MOST_SOURCES (length p.sources)) 1 ∷ node_fault card p.sources node ∷ driver_fault p.vars card ∷ [])
 
 abbrev pub driven_shape : List (List ℕ) → List ℕ → Shape → Shape
 driven_shape variables name (Tacs variable) = Tacs (variable_number variables name)

@@ -1,4 +1,5 @@
 -- Switches: what each card gives the case, unless it has a fault of sense. Of a card the least fault counts.
+use Rattle.emtp_case.specs.declared.limit.TheConstants.{MOST_NODES, MOST_SWITCHES}
 use Rattle.std.specs.Prelude.{ℕ, nat_le, nat_lt, List, [], ◌∷◌, ◌++◌, length, Option, Result, Ok, None, Some, option_map}
 use Rattle.emtp_card.specs.Fault.{least}
 use Rattle.emtp_card.specs.declared.fault.Fault.{Fault}
@@ -31,10 +32,10 @@ controlled_kind variables control (Control number) = Control (control_number var
 -- the faults of sense of a card, given the names of the nodes, its own among them
 abbrev pub switch_fault : List (List ℕ) → Made → SwitchCard → Option Fault
 switch_fault names m card =
-    least (too_many (nat_le 500 (length m.parts.switches)) 1
+    least (too_many (nat_le MOST_SWITCHES (length m.parts.switches)) 1
     ∷ too_many (no_room m.asked (switch_channel_count card.asked)) 1
-    ∷ too_many (nat_lt 1000 (node_number names card.from)) 3
-    ∷ too_many (nat_lt 1000 (node_number names card.to)) 9
+    ∷ too_many (nat_lt MOST_NODES (node_number names card.from)) 3
+    ∷ too_many (nat_lt MOST_NODES (node_number names card.to)) 9
     ∷ unknown_name m.parts.vars 65 card.control
     ∷ [])
 

@@ -1,5 +1,6 @@
 //! The channels that cards ask for.
 
+ghost use Rattle.emtp_case.specs.declared.limit.TheConstants.{MOST_CHANNELS};
 ghost use Rattle.std.specs.Prelude.{◌≡◌, ◌≤◌};
 ghost use Rattle.emtp_deck.specs.Made.{count_asked, none_asked};
 
@@ -37,7 +38,7 @@ impl Asked {
 
     /// How many there are.
     pub(crate) fn count(&self) -> usize
-        requires { count_asked self.now ≤ 64 }
+        requires { count_asked self.now ≤ MOST_CHANNELS }
         ensures { result ≡ count_asked self.now }
     {
         self.variables.len()

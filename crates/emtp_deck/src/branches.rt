@@ -1,9 +1,11 @@
 //! The branches of a case, and the faults of sense of their cards.
 
+ghost use Rattle.emtp_case.specs.declared.limit.TheConstants.{MOST_BRANCHES, MOST_CHANNELS, MOST_HISTORY_VALUES};
+ghost use Rattle.emtp_case.specs.held.RunData.{IsTimeStep};
 ghost use Rattle.std.specs.Prelude.{◌≡◌, ◌+◌, ◌*◌, ◌^◌, ◌<◌, ◌≤◌, ◌++◌, All, length, Ok, Some, IfErr, IfOk, OnOk, false, true};
 ghost use Rattle.emtp_case.specs.held.Branch.{HasLineNumbers, IsBranch};
 ghost use Rattle.emtp_case.specs.HistoryValues.{history_values_of};
-ghost use Rattle.emtp_case.specs.held.Range.{AreEnds, IsBetween};
+ghost use Rattle.emtp_case.specs.held.Range.{AreEnds};
 ghost use Rattle.emtp_case.specs.held.Sizes.{sizes_of};
 ghost use Rattle.emtp_walk.specs.held.Answer.{IsWant};
 ghost use Rattle.emtp_deck.specs.Branches.{branch_channels, card_bad, card_fault, card_history, counts_of, entry_channels, entry_count, entry_fault, first_counts, first_fault, line_branch, line_history, moved, numbers_for, pair_fault, pending_fault, phase_for, second_counts, second_fault, take_branches, take_entry, third_fault, with_branches, with_counts, with_entry, with_own, with_phases, with_points, with_single};
@@ -23,7 +25,10 @@ use crate::copies::{
 };
 use crate::filling::{Filling, add_nodes};
 use emtp_card::{Bad, Fault, Refused, least};
-use emtp_case::{Branch, Channel, Draft, Items, Line, Lumped, Name, Phase, Point, Pseudo, Trio};
+use emtp_case::{
+    Branch, Channel, Draft, Items, Line, Lumped, MOST_BRANCHES, MOST_CHANNELS, MOST_HISTORY_VALUES,
+    MOST_NODES, Name, Phase, Point, Pseudo, Trio,
+};
 use emtp_netcards::{BranchCard, BranchValues};
 use emtp_sense::{add_ends, add_entry_names, node_number, too_many};
 use emtp_walk::{BranchEntry, Place};
@@ -71,7 +76,7 @@ fn with_counts(counts: &Counts, card: &BranchCard, history: u64) -> Counts
 /// How many past values a line keeps at both ends of so many phases.
 fn line_history(phases: u64, dt: i64, numbers: &Option<LineNumbers>) -> u64
     requires phases { phases ≤ 3 }
-    requires dt { IsBetween 1000 (10 ^ 12) dt }
+    requires dt { IsTimeStep dt }
     ensures value { result ≡ line_history phases dt numbers.now }
     ensures few { result ≤ 2 * 10 ^ 17 }
 {
@@ -106,11 +111,11 @@ fn card_fault(
     ensures { result ≡ card_fault names.now.keys counts.now card.now values.now }
 {
     least(&[
-        too_many(5000 < counts.branches, 1),
-        too_many(2_000_000 < counts.history, 1),
-        too_many(64 < counts.channels, 1),
-        too_many(1000 < node_number(names, &card.from), 3),
-        too_many(1000 < node_number(names, &card.to), 9),
+        too_many(MOST_BRANCHES < counts.branches, 1),
+        too_many(MOST_HISTORY_VALUES < counts.history, 1),
+        too_many(MOST_CHANNELS < counts.channels, 1),
+        too_many(MOST_NODES < node_number(names, &card.from), 3),
+        too_many(MOST_NODES < node_number(names, &card.to), 9),
         missing_fault(values),
     ])
 }
@@ -267,12 +272,12 @@ fn add_own(
     from: u32,
     to: u32,
 ) -> Result<(), Refused>
-    requires room { length draft.old.parts.branches < 5000 }
+    requires room { length draft.old.parts.branches < MOST_BRANCHES }
     requires ends { AreEnds (length draft.old.parts.nodes) from to }
     requires single { is_phase (Ok (kind_of_values card.now.values)) ≡ false }
     requires values { HasValues draft.old.parts.run.dt card.now.values }
     requires points { is_pseudo card.now.values ≡ true → AreOwnPoints (is_reactor card.now.values) draft.old.parts.run.dt points.now }
-    requires history { history_values_of draft.old.parts + line_history 1 draft.old.parts.run.dt (numbers_of_card card.now.values) ≤ 2000000 }
+    requires history { history_values_of draft.old.parts + line_history 1 draft.old.parts.run.dt (numbers_of_card card.now.values) ≤ MOST_HISTORY_VALUES }
     ensures ok { OnOk result (draft.new.parts ≡ with_own points.now draft.old.parts card.now.line from to card.now.values) }
     ensures history { OnOk result (history_values_of draft.new.parts ≡ history_values_of draft.old.parts + line_history 1 draft.old.parts.run.dt (numbers_of_card card.now.values)) }
     ensures err { IfErr result IsWant }
@@ -306,7 +311,7 @@ fn add_pseudo(
     ends: (u32, u32),
     reactor: bool,
 ) -> Result<(), Refused>
-    requires room { length draft.old.parts.branches < 5000 }
+    requires room { length draft.old.parts.branches < MOST_BRANCHES }
     requires ends { AreEnds (length draft.old.parts.nodes) ends.0 ends.1 }
     requires points { AreOwnPoints reactor draft.old.parts.run.dt points.now }
     ensures ok { OnOk result (draft.new.parts ≡ with_points points.now draft.old.parts line ends.0 ends.1 reactor) }
@@ -470,7 +475,7 @@ fn ask_branch(asked: &mut Items<Channel>, at: u32, card: &BranchCard) -> Result<
 
 /// Asks for the channels of an entry whose first branch is at a place.
 fn ask_entry(asked: &mut Items<Channel>, at: u32, entry: &BranchEntry) -> Result<(), Refused>
-    requires { at ≤ 5000 }
+    requires { at ≤ MOST_BRANCHES }
     ensures ok { OnOk result (asked.new ≡ asked.old ++ entry_channels at entry.now) }
     ensures err { IfErr result IsWant }
 {
@@ -510,7 +515,7 @@ fn add_entry(filling: &mut Filling, points: &[Point], entry: &BranchEntry) -> Re
     requires filling { IsFilling filling.old }
     requires entry { IsEntry filling.old.draft.parts.run points.now entry.now }
     requires sensible { IsSensible filling.old.draft.parts entry.now }
-    requires room { count_asked filling.old.asked + entry_count entry.now ≤ 64 }
+    requires room { count_asked filling.old.asked + entry_count entry.now ≤ MOST_CHANNELS }
     ensures ok { OnOk result (made_of filling.new ≡ with_entry points.now (made_of filling.old) entry.now) }
     ensures err { IfErr result IsWant }
     ensures filling { OnOk result (IsFilling filling.new) }

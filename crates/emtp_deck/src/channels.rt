@@ -1,5 +1,6 @@
 //! The channels that a card asks for in column 80.
 
+ghost use Rattle.emtp_case.specs.declared.limit.TheConstants.{MOST_CHANNELS, MOST_NODES};
 ghost use Rattle.std.specs.Prelude.{◌≡◌, ◌≤◌, ◌++◌, IfErr, OnOk};
 ghost use Rattle.emtp_walk.specs.held.Answer.{IsWant};
 ghost use Rattle.emtp_deck.specs.Made.{count_asked, no_room};
@@ -7,7 +8,7 @@ ghost use Rattle.emtp_deck.specs.Channels.{channel_count, channels_of, status_of
 
 use crate::asked::Asked;
 use emtp_card::Refused;
-use emtp_case::{Channel, Items};
+use emtp_case::{Channel, Items, MOST_CHANNELS};
 
 /// Adds what a branch or a switch asks for, its current before its voltage.
 pub(crate) fn ask(
@@ -68,9 +69,9 @@ pub(crate) fn switch_channel_count(asked: u8) -> usize
 
 /// Whether a record has no room for so many channels more.
 pub(crate) fn no_room(asked: &Asked, more: usize) -> bool
-    requires few { count_asked asked.now ≤ 64 }
-    requires more { more ≤ 1000 }
+    requires few { count_asked asked.now ≤ MOST_CHANNELS }
+    requires more { more ≤ MOST_NODES }
     ensures { result ≡ no_room asked.now more }
 {
-    64 < asked.count() + more
+    MOST_CHANNELS < asked.count() + more
 }

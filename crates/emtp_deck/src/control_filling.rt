@@ -1,5 +1,6 @@
 //! The records of the control, whose cards have no fault of sense.
 
+ghost use Rattle.emtp_case.specs.declared.limit.TheConstants.{MOST_CONTROL_CARDS, MOST_HISTORY_VALUES, MOST_SWITCHES, MOST_VARIABLES};
 ghost use Rattle.std.specs.Prelude.{◌≡◌, ◌+◌, ◌<◌, ◌≤◌, ◌++◌, [], All, fold, length, map, sum_by, IfErr, IfOk, OnOk};
 ghost use Rattle.emtp_case.specs.HistoryValues.{history_values_of};
 ghost use Rattle.emtp_case.specs.held.Name.{IsName};
@@ -34,7 +35,7 @@ fn inputs_of(
     variables: &IndexSet<Name>,
     inputs: &[Option<(bool, Name)>; 5],
 ) -> Result<Items<Input>, Refused>
-    requires { length variables.now.keys ≤ 606 }
+    requires { length variables.now.keys ≤ MOST_VARIABLES }
     ensures ok { IfOk result (λ list. list ≡ inputs_of variables.now.keys inputs.now) }
     ensures few { IfOk result (λ list. length list ≤ 5) }
     ensures err { IfErr result IsWant }
@@ -55,7 +56,7 @@ fn inputs_of(
 
 /// A limit; a named one replaces the fixed one.
 fn bound_of(variables: &IndexSet<Name>, name: &Option<Name>, fixed: Option<i64>) -> Bound
-    requires { length variables.now.keys ≤ 606 }
+    requires { length variables.now.keys ≤ MOST_VARIABLES }
     ensures { result ≡ bound_of variables.now.keys name.now fixed }
 {
     match (name, fixed) {
@@ -66,7 +67,7 @@ fn bound_of(variables: &IndexSet<Name>, name: &Option<Name>, fixed: Option<i64>)
 }
 
 fn block_of(alloc: Global, variables: &IndexSet<Name>, entry: &BlockEntry) -> Result<Block, Refused>
-    requires { length variables.now.keys ≤ 606 }
+    requires { length variables.now.keys ≤ MOST_VARIABLES }
     ensures ok { IfOk result (λ block. block ≡ block_of variables.now.keys entry.now) }
     ensures few { IfOk result (λ block. length block.inputs ≤ 5) }
     ensures err { IfErr result IsWant }
@@ -92,7 +93,7 @@ fn add_blocks(
     entries: &[BlockEntry],
 ) -> Result<(), Refused>
     requires variables { variables.now.keys ≡ draft.old.parts.vars }
-    requires room { length draft.old.parts.blocks + length entries.now ≤ 200 }
+    requires room { length draft.old.parts.blocks + length entries.now ≤ MOST_CONTROL_CARDS }
     requires entries { All (IsBlockEntry draft.old.parts.run.dt) entries.now }
     requires sensible { All (IsSensibleBlock variables.now.keys) entries.now }
     ensures ok { OnOk result (draft.new.parts ≡ record draft.old.parts { blocks = draft.old.parts.blocks ++ map (block_of variables.now.keys) entries.now }) }
@@ -111,7 +112,7 @@ fn device_of(
     variables: &IndexSet<Name>,
     card: &DeviceCard,
 ) -> Result<Device, Refused>
-    requires { length variables.now.keys ≤ 606 }
+    requires { length variables.now.keys ≤ MOST_VARIABLES }
     ensures ok { IfOk result (λ device. device ≡ device_of variables.now.keys card.now) }
     ensures few { IfOk result (λ device. length device.inputs ≤ 5) }
     ensures err { IfErr result IsWant }
@@ -138,7 +139,7 @@ fn numbers_of(
     variables: &IndexSet<Name>,
     names: &[Name],
 ) -> Result<Items<u32>, Refused>
-    requires { length variables.now.keys ≤ 606 }
+    requires { length variables.now.keys ≤ MOST_VARIABLES }
     ensures ok { IfOk result (λ numbers. numbers ≡ map (variable_number variables.now.keys) names.now) }
     ensures err { IfErr result IsWant }
 {
@@ -154,7 +155,7 @@ fn formula_of(
     variables: &IndexSet<Name>,
     card: &FormulaCard,
 ) -> Result<Formula, Refused>
-    requires { length variables.now.keys ≤ 606 }
+    requires { length variables.now.keys ≤ MOST_VARIABLES }
     ensures ok { IfOk result (λ formula. formula ≡ formula_of variables.now.keys card.now) }
     ensures err { IfErr result IsWant }
 {
@@ -178,10 +179,10 @@ fn add_extra(
     entry: &ExtraEntry,
 ) -> Result<(), Refused>
     requires variables { variables.now.keys ≡ draft.old.parts.vars }
-    requires room { length draft.old.parts.extras < 200 }
+    requires room { length draft.old.parts.extras < MOST_CONTROL_CARDS }
     requires entry { IsExtraEntry points.now entry.now }
     requires sensible { IsSensibleExtra variables.now.keys entry.now }
-    requires history { history_values_of draft.old.parts + entry_history_values draft.old.parts.run.dt entry.now ≤ 2000000 }
+    requires history { history_values_of draft.old.parts + entry_history_values draft.old.parts.run.dt entry.now ≤ MOST_HISTORY_VALUES }
     ensures ok { OnOk result (draft.new.parts ≡ with_extra variables.now.keys points.now draft.old.parts entry.now) }
     ensures history { OnOk result (history_values_of draft.new.parts ≡ history_values_of draft.old.parts + entry_history_values draft.old.parts.run.dt entry.now) }
     ensures err { IfErr result IsWant }
@@ -205,10 +206,10 @@ fn add_extras(
     entries: &[ExtraEntry],
 ) -> Result<u64, Refused>
     requires variables { variables.now.keys ≡ draft.old.parts.vars }
-    requires room { length draft.old.parts.extras + length entries.now ≤ 200 }
+    requires room { length draft.old.parts.extras + length entries.now ≤ MOST_CONTROL_CARDS }
     requires entries { All (IsExtraEntry points.now) entries.now }
     requires sensible { All (IsSensibleExtra variables.now.keys) entries.now }
-    requires history { history_values_of draft.old.parts + sum_by (entry_history_values draft.old.parts.run.dt) entries.now ≤ 2000000 }
+    requires history { history_values_of draft.old.parts + sum_by (entry_history_values draft.old.parts.run.dt) entries.now ≤ MOST_HISTORY_VALUES }
     ensures ok { IfOk result (λ total. draft.new.parts ≡ fold (with_extra variables.now.keys points.now) draft.old.parts entries.now) }
     ensures history { IfOk result (λ total. history_values_of draft.new.parts ≡ history_values_of draft.old.parts + total) }
     ensures err { IfErr result IsWant }
@@ -224,7 +225,7 @@ fn add_extras(
 /// Gives a draft the variables that are new.
 fn add_variables(draft: &mut Draft, variables: &IndexSet<Name>) -> Result<(), Refused>
     requires grows { Continues draft.old.parts.vars variables.now.keys }
-    requires few { length variables.now.keys ≤ 606 }
+    requires few { length variables.now.keys ≤ MOST_VARIABLES }
     requires names { All IsName variables.now.keys }
     ensures ok { OnOk result (draft.new.parts ≡ record draft.old.parts { vars = variables.now.keys }) }
     ensures history { OnOk result (history_values_of draft.new.parts ≡ history_values_of draft.old.parts) }
@@ -260,7 +261,7 @@ pub(crate) fn add_control(alloc: Global, filling: &mut Filling, deck: &Deck) -> 
 
 /// The place of the first switch that has a name at an end.
 fn switch_place(switches: &[SwitchCard], name: &Name) -> u32
-    requires { length switches.now ≤ 500 }
+    requires { length switches.now ≤ MOST_SWITCHES }
     ensures { result ≡ switch_place switches.now name.now }
 {
     find_switch(switches, name).unwrap_or(0) as u32
@@ -269,7 +270,7 @@ fn switch_place(switches: &[SwitchCard], name: &Name) -> u32
 /// The shape of a source, which measures the node or the switch of its name.
 fn measuring(nodes: &IndexSet<Name>, switches: &[SwitchCard], name: &Name, shape: Shape) -> Shape
     requires nodes { length nodes.now.keys ≤ 2000 }
-    requires switches { length switches.now ≤ 500 }
+    requires switches { length switches.now ≤ MOST_SWITCHES }
     ensures { result ≡ measuring nodes.now.keys switches.now name.now shape }
 {
     match shape {
@@ -293,8 +294,8 @@ fn tacs_source_of(
     card: &SourceCard,
 ) -> Source
     requires nodes { length nodes.now.keys ≤ 2000 }
-    requires switches { length switches.now ≤ 500 }
-    requires variables { length variables.now.keys ≤ 606 }
+    requires switches { length switches.now ≤ MOST_SWITCHES }
+    requires variables { length variables.now.keys ≤ MOST_VARIABLES }
     ensures { result ≡ tacs_source_of nodes.now.keys switches.now variables.now.keys card.now }
 {
     Source {
@@ -315,7 +316,7 @@ pub(crate) fn add_tacs_sources(
     cards: &[SourceCard],
 ) -> Result<(), Refused>
     requires filling { IsFilling filling.old }
-    requires room { length cards.now ≤ 200 }
+    requires room { length cards.now ≤ MOST_CONTROL_CARDS }
     requires switches { length switches.now ≡ length filling.old.draft.parts.switches }
     requires cards { All IsTacsSourceCard cards.now }
     requires sensible { All (IsSensibleTacsSource filling.old.nodes.keys switches.now filling.old.variables.keys) cards.now }

@@ -1,5 +1,6 @@
 //! The case in the making, while cards are taken.
 
+ghost use Rattle.emtp_case.specs.declared.limit.TheConstants.{MOST_NODES};
 ghost use Rattle.std.specs.Prelude.{◌≡◌, ◌≤◌, All, length, IfErr, IfOk, OnOk, []};
 ghost use Rattle.emtp_case.specs.held.Case.{DefinesEach};
 ghost use Rattle.emtp_case.specs.HistoryValues.{history_values_of};
@@ -77,7 +78,7 @@ impl Filling {
 /// Gives a draft the nodes that are new.
 pub(crate) fn add_nodes(draft: &mut Draft, nodes: &IndexSet<Name>) -> Result<(), Refused>
     requires grows { Continues draft.old.parts.nodes nodes.now.keys }
-    requires few { length nodes.now.keys ≤ 1000 }
+    requires few { length nodes.now.keys ≤ MOST_NODES }
     requires names { All IsName nodes.now.keys }
     ensures ok { OnOk result (draft.new.parts ≡ record draft.old.parts { nodes = nodes.now.keys }) }
     ensures history { OnOk result (history_values_of draft.new.parts ≡ history_values_of draft.old.parts) }

@@ -1,5 +1,6 @@
 //! Filling the outputs: the channels that the cards of the network and those of the control ask for.
 
+ghost use Rattle.emtp_case.specs.declared.limit.TheConstants.{MOST_CHANNELS, MOST_NODES};
 ghost use Rattle.std.specs.Option.{ForSome};
 ghost use Rattle.std.specs.Prelude.{◌≡◌, ◌<◌, ◌≤◌, ◌++◌, ◌∷◌, [], length, IfErr, OnOk};
 ghost use Rattle.emtp_case.specs.held.Channel.{IsChannel};
@@ -47,7 +48,7 @@ fn channel_of(filling: &Filling, named: Named, name: &Name) -> Option<Channel>
 
 /// The fault of a name in a column, given its channel, if it has one.
 fn name_fault(asked: &Asked, column: u32, channel: Option<Channel>) -> Option<Fault>
-    requires { count_asked asked.now ≤ 64 }
+    requires { count_asked asked.now ≤ MOST_CHANNELS }
     ensures { result ≡ name_fault asked.now column channel }
 {
     match channel {
@@ -62,7 +63,7 @@ fn name_fault(asked: &Asked, column: u32, channel: Option<Channel>) -> Option<Fa
 /// Asks for one channel more.
 fn ask_for(filling: &mut Filling, named: Named, channel: Channel) -> Result<(), Refused>
     requires filling { IsFilling filling.old }
-    requires room { count_asked filling.old.asked < 64 }
+    requires room { count_asked filling.old.asked < MOST_CHANNELS }
     requires there { IsChannel (sizes_of filling.old.draft.parts) channel }
     ensures made { OnOk result (made_of filling.new ≡ with_channels named (made_of filling.old) (channel ∷ [])) }
     ensures filling { OnOk result (IsFilling filling.new) }
@@ -125,7 +126,7 @@ fn take_names(
 
 /// Adds the voltages of all nodes up to a number, in order.
 fn ask_nodes(outputs: &mut Items<Channel>, nodes: u32) -> Result<(), Refused>
-    requires { nodes ≤ 1000 }
+    requires { nodes ≤ MOST_NODES }
     ensures ok { OnOk result (outputs.new ≡ outputs.old ++ node_channels nodes) }
     ensures err { IfErr result IsWant }
 {

@@ -1,5 +1,6 @@
 //! The case of a deck.
 
+ghost use Rattle.emtp_case.specs.declared.limit.TheConstants.{MOST_CHANNELS, MOST_STORED_VALUES};
 ghost use Rattle.std.specs.Prelude.{◌≡◌, ◌+◌, ◌*◌, ◌++◌, ◌≤◌, [], All, length, Ok, Err, IfErr, IfOk, OnOk, false};
 ghost use Rattle.emtp_case.specs.held.Case.{DefinesEach};
 ghost use Rattle.emtp_case.specs.held.Channel.{IsChannel};
@@ -47,9 +48,9 @@ fn fill(filling: &mut Filling, deck: &Deck) -> Result<(), Refused>
 
 /// Gives a draft channels.
 fn add_channels(draft: &mut Draft, channels: &[Channel]) -> Result<(), Refused>
-    requires room { length draft.old.parts.channels + length channels.now ≤ 64 }
+    requires room { length draft.old.parts.channels + length channels.now ≤ MOST_CHANNELS }
     requires fits { All (IsChannel (sizes_of draft.old.parts)) channels.now }
-    requires stored { (length draft.old.parts.channels + length channels.now) * samples_of draft.old.parts.run ≤ 4000000 }
+    requires stored { (length draft.old.parts.channels + length channels.now) * samples_of draft.old.parts.run ≤ MOST_STORED_VALUES }
     ensures ok { OnOk result (draft.new.parts ≡ record draft.old.parts { channels = draft.old.parts.channels ++ channels.now }) }
     ensures err { IfErr result IsWant }
 {
@@ -62,9 +63,9 @@ fn add_channels(draft: &mut Draft, channels: &[Channel]) -> Result<(), Refused>
 /// Gives a draft all channels, in the order of the record.
 fn add_asked(draft: &mut Draft, asked: &Asked) -> Result<(), Refused>
     requires empty { draft.old.parts.channels ≡ [] }
-    requires few { count_asked asked.now ≤ 64 }
+    requires few { count_asked asked.now ≤ MOST_CHANNELS }
     requires there { AreThere (sizes_of draft.old.parts) asked.now }
-    requires stored { count_asked asked.now * samples_of draft.old.parts.run ≤ 4000000 }
+    requires stored { count_asked asked.now * samples_of draft.old.parts.run ≤ MOST_STORED_VALUES }
     ensures ok { OnOk result (draft.new.parts ≡ record draft.old.parts { channels = all_asked asked.now }) }
     ensures err { IfErr result IsWant }
 {
@@ -78,7 +79,7 @@ fn add_asked(draft: &mut Draft, asked: &Asked) -> Result<(), Refused>
 /// Adds what is added to a whole network: the sources of the control, and the channels.
 fn finish(filling: &mut Filling, deck: &Deck) -> Result<(), Refused>
     requires filling { IsFilling filling.old }
-    requires stored { count_asked filling.old.asked * samples_of filling.old.draft.parts.run ≤ 4000000 }
+    requires stored { count_asked filling.old.asked * samples_of filling.old.draft.parts.run ≤ MOST_STORED_VALUES }
     requires control { IsSensibleWhole filling.old deck.now }
     ensures ok { OnOk result (filling.new.draft.parts ≡ case_of deck.now (made_of filling.old)) }
     ensures err { IfErr result IsWant }

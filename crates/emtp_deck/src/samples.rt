@@ -8,7 +8,7 @@ ghost use Rattle.emtp_deck.specs.Samples.{count_of_entry, count_of_switch, count
 
 use crate::channels::{channel_count, switch_channel_count};
 use emtp_card::{Bad, Why};
-use emtp_case::Name;
+use emtp_case::{MOST_STORED_VALUES, Name};
 use emtp_netcards::{OutputCard, SwitchCard};
 use emtp_sense::KnownNames;
 use emtp_walk::{BranchEntry, Deck, OutputEntry, Place, TacsOutputEntry};
@@ -16,9 +16,6 @@ use indexmap::IndexSet;
 
 /// More channels than any record has room for; a count is held there.
 const MANY: usize = 4_000_001;
-
-/// The stored values that a record may have.
-const STORED: u64 = 4_000_000;
 
 /// A count with more channels.
 fn plus(count: usize, more: usize) -> usize
@@ -139,7 +136,7 @@ pub(crate) fn has_too_many(names: &KnownNames, deck: &Deck, place: &Place) -> bo
     ensures { result ≡ has_too_many names.now.nodes.keys names.now.variables.keys deck.now place.now }
 {
     let count = all_count(names, deck, place);
-    STORED < count as u64 * u64::from(deck.run.samples())
+    MOST_STORED_VALUES < count as u64 * u64::from(deck.run.samples())
 }
 
 /// What refuses the second miscellaneous card then.

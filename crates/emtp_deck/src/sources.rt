@@ -1,5 +1,6 @@
 //! Filling the sources.
 
+ghost use Rattle.emtp_case.specs.declared.limit.TheConstants.{MOST_SOURCES, MOST_VARIABLES};
 ghost use Rattle.std.specs.Prelude.{◌≡◌, ◌<◌, ◌≤◌, All, Some, false, length, IfErr, OnOk};
 ghost use Rattle.emtp_walk.specs.held.Answer.{IsWant};
 ghost use Rattle.emtp_deck.specs.held.Filling.{Fills, IsFilling, made_of};
@@ -8,7 +9,7 @@ ghost use Rattle.emtp_netcards.specs.held.SourceCard.{HasSourceCardNumbers};
 
 use crate::filling::Filling;
 use emtp_card::{Fault, Refused, Why, least};
-use emtp_case::{Draft, Name, Shape, Source};
+use emtp_case::{Draft, MOST_SOURCES, Name, Shape, Source};
 use emtp_netcards::SourceCard;
 use emtp_sense::{find_node, too_many, unknown_name, variable_number};
 use indexmap::IndexSet;
@@ -48,7 +49,7 @@ fn source_fault(filling: &Filling, card: &SourceCard, node: Option<u32>) -> Opti
 {
     let draft = &filling.draft;
     least(&[
-        too_many(500 <= draft.parts.sources.len(), 1),
+        too_many(MOST_SOURCES <= draft.parts.sources.len(), 1),
         node_fault(draft, card, node),
         driver_fault(&filling.variables, card),
     ])
@@ -74,7 +75,7 @@ fn take_source(filling: &mut Filling, card: &SourceCard) -> Result<(), Refused>
 
 /// The shape of a source, the variable that drives it having its number.
 fn driven_shape(variables: &IndexSet<Name>, name: &Name, shape: Shape) -> Shape
-    requires { length variables.now.keys ≤ 606 }
+    requires { length variables.now.keys ≤ MOST_VARIABLES }
     ensures { result ≡ driven_shape variables.now.keys name.now shape }
 {
     match shape {
@@ -87,7 +88,7 @@ fn driven_shape(variables: &IndexSet<Name>, name: &Name, shape: Shape) -> Shape
 
 /// The source of a card at its node.
 fn source_at(variables: &IndexSet<Name>, card: &SourceCard, node: u32) -> Source
-    requires { length variables.now.keys ≤ 606 }
+    requires { length variables.now.keys ≤ MOST_VARIABLES }
     ensures { result ≡ source_at variables.now.keys card.now node }
 {
     Source {
@@ -104,7 +105,7 @@ fn source_at(variables: &IndexSet<Name>, card: &SourceCard, node: u32) -> Source
 /// Adds the source of a card whose node is there.
 fn add_source(filling: &mut Filling, card: &SourceCard, node: u32) -> Result<(), Refused>
     requires filling { IsFilling filling.old }
-    requires room { length filling.old.draft.parts.sources < 500 }
+    requires room { length filling.old.draft.parts.sources < MOST_SOURCES }
     requires above_ground { 1 ≤ node }
     requires there { node ≤ length filling.old.draft.parts.nodes }
     requires card { HasSourceCardNumbers card.now }

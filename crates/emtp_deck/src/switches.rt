@@ -1,5 +1,6 @@
 //! Filling the switches.
 
+ghost use Rattle.emtp_case.specs.declared.limit.TheConstants.{MOST_CHANNELS, MOST_SWITCHES, MOST_VARIABLES};
 ghost use Rattle.std.specs.Prelude.{◌≡◌, ◌+◌, ◌<◌, ◌≤◌, All, length, IfErr, OnOk};
 ghost use Rattle.emtp_case.specs.held.Range.{AreEnds};
 ghost use Rattle.emtp_walk.specs.held.Answer.{IsWant};
@@ -14,7 +15,7 @@ ghost use Rattle.emtp_netcards.specs.held.SwitchCard.{HasSwitchNumbers};
 use crate::channels::{ask, ask_status, no_room, switch_channel_count};
 use crate::filling::{Filling, add_nodes};
 use emtp_card::{Fault, Refused, least};
-use emtp_case::{Channel, Name, Switch, SwitchKind};
+use emtp_case::{Channel, MOST_NODES, MOST_SWITCHES, Name, Switch, SwitchKind};
 use emtp_netcards::SwitchCard;
 use emtp_sense::{add_ends, node_number, number_of, too_many, unknown_name};
 use indexmap::IndexSet;
@@ -22,16 +23,16 @@ use indexmap::IndexSet;
 /// The faults of sense of a card, its own names among those of the nodes.
 fn switch_fault(filling: &Filling, card: &SwitchCard) -> Option<Fault>
     requires few { length filling.now.nodes.keys ≤ 2000 }
-    requires asked { count_asked filling.now.asked ≤ 64 }
+    requires asked { count_asked filling.now.asked ≤ MOST_CHANNELS }
     requires variables { filling.now.variables.keys ≡ filling.now.draft.parts.vars }
     ensures { result ≡ switch_fault filling.now.nodes.keys (made_of filling.now) card.now }
 {
     let nodes = &filling.nodes;
     least(&[
-        too_many(500 <= filling.draft.parts.switches.len(), 1),
+        too_many(MOST_SWITCHES <= filling.draft.parts.switches.len(), 1),
         too_many(no_room(&filling.asked, switch_channel_count(card.asked)), 1),
-        too_many(1000 < node_number(nodes, &card.from), 3),
-        too_many(1000 < node_number(nodes, &card.to), 9),
+        too_many(MOST_NODES < node_number(nodes, &card.from), 3),
+        too_many(MOST_NODES < node_number(nodes, &card.to), 9),
         unknown_name(&filling.variables, 65, &card.control),
     ])
 }
@@ -42,7 +43,7 @@ fn controlled_kind(
     control: &Option<Name>,
     kind: SwitchKind,
 ) -> SwitchKind
-    requires few { length variables.now.keys ≤ 606 }
+    requires few { length variables.now.keys ≤ MOST_VARIABLES }
     ensures { result ≡ controlled_kind variables.now.keys control.now kind }
 {
     match kind {
@@ -64,7 +65,7 @@ fn controlled_kind(
 
 fn switch_at(nodes: &IndexSet<Name>, variables: &IndexSet<Name>, card: &SwitchCard) -> Switch
     requires few { length nodes.now.keys ≤ 2000 }
-    requires few_variables { length variables.now.keys ≤ 606 }
+    requires few_variables { length variables.now.keys ≤ MOST_VARIABLES }
     ensures { result ≡ switch_at nodes.now.keys variables.now.keys card.now }
 {
     Switch {
@@ -95,8 +96,8 @@ fn take_switch(filling: &mut Filling, card: &SwitchCard) -> Result<(), Refused>
 fn add_switch(filling: &mut Filling, card: &SwitchCard) -> Result<(), Refused>
     requires filling { IsFilling filling.old }
     requires card { HasSwitchNumbers card.now }
-    requires room { length filling.old.draft.parts.switches < 500 }
-    requires asked { count_asked filling.old.asked + switch_channel_count card.now.asked ≤ 64 }
+    requires room { length filling.old.draft.parts.switches < MOST_SWITCHES }
+    requires asked { count_asked filling.old.asked + switch_channel_count card.now.asked ≤ MOST_CHANNELS }
     requires control { IsKnown filling.old.variables.keys card.now.control }
     requires ends { AreEnds (length filling.old.draft.parts.nodes) (node_number filling.old.nodes.keys card.now.from) (node_number filling.old.nodes.keys card.now.to) }
     ensures ok { OnOk result (made_of filling.new ≡ with_switch (made_of filling.old) card.now) }

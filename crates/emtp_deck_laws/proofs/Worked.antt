@@ -1,4 +1,5 @@
 -- Worked rows: which of two refusals comes first, files whose first line decides, and a narrow and a wide card.
+use Rattle.emtp_case.specs.declared.limit.TheConstants.{MOST_HISTORY_VALUES}
 use Rattle.std.proofs.Common.{◌≡◌, refl, ℕ, ℤ, pos, Bool, false, true, List, [], ◌∷◌, Result, Ok, Err}
 use Rattle.std.specs.Prelude.{codes}
 use Rattle.emtp_card.specs.Decimal.{value_in}
@@ -47,10 +48,10 @@ first_line = refl
 values : List ℕ → Bool → List (Result ℤ Fault)
 values line wide = r_field line wide ∷ l_field line wide ∷ c_field line wide ∷ []
 
-narrow_values : values (codes "  SRC   MID                  1.5   2.0") false ≡ Ok (pos 1500000) ∷ Ok (pos 2000000) ∷ Ok (pos 0) ∷ []
+narrow_values : values (codes "  SRC   MID                  1.5   2.0") false ≡ Ok (pos 1500000) ∷ Ok (pos MOST_HISTORY_VALUES) ∷ Ok (pos 0) ∷ []
 unfolding values columns trimmed number_field number_in decimal_of exponent_of value_in
 narrow_values = refl
 
-wide_values : values (codes "  SRC   MID                            1.5             2.0") true ≡ Ok (pos 1500000) ∷ Ok (pos 2000000) ∷ Ok (pos 0) ∷ []
+wide_values : values (codes "  SRC   MID                            1.5             2.0") true ≡ Ok (pos 1500000) ∷ Ok (pos MOST_HISTORY_VALUES) ∷ Ok (pos 0) ∷ []
 unfolding values columns trimmed number_field number_in decimal_of exponent_of value_in
 wide_values = refl

@@ -1,5 +1,6 @@
 -- All faults of sense of one card, where those before it have made this much of the case. Of signed inputs and of the names of
 -- an expression the first unknown one stands for all.
+use Rattle.emtp_case.specs.declared.limit.TheConstants.{MOST_BRANCHES, MOST_CONTROL_CARDS, MOST_HISTORY_VALUES, MOST_NODES, MOST_SOURCES, MOST_SWITCHES}
 use Rattle.std.specs.Prelude.{ℕ, ◌+◌, nat_le, nat_lt, List, [], ◌∷◌, ◌++◌, length, Option, Some, None, option_map, if◌then◌else◌}
 use Rattle.emtp_card.specs.declared.fault.Fault.{Fault}
 use Rattle.emtp_card.specs.declared.reason.Why.TheVariants.{MissingSection, TooManySamples}
@@ -35,7 +36,7 @@ use Rattle.emtp_walk.specs.declared.deck.Place.{Place}
 -- the block after so many
 abbrev pub block_faults : List (List ℕ) → ℕ → BlockCard → List (Option Fault)
 block_faults variables at card =
-    too_many (nat_le 200 at) 1
+    too_many (nat_le MOST_CONTROL_CARDS at) 1
     ∷ second_sense variables (6 + at) card.name
     ∷ inputs_sense variables 12 card.inputs
     ∷ unknown_name variables 69 card.low_name
@@ -45,13 +46,13 @@ block_faults variables at card =
 -- the source of the control after so many, whose variable is the next
 abbrev pub tacs_source_faults : List (List ℕ) → List SwitchCard → List (List ℕ) → ℕ → ℕ → SourceCard → List (Option Fault)
 tacs_source_faults nodes switches variables at next card =
-    too_many (nat_le 200 at) 1 ∷ second_sense variables next card.name ∷ measured_sense nodes switches card ∷ []
+    too_many (nat_le MOST_CONTROL_CARDS at) 1 ∷ second_sense variables next card.name ∷ measured_sense nodes switches card ∷ []
 
 -- the device after so many supplemental cards, which need so many history values with its own
 abbrev pub device_faults : List (List ℕ) → ℕ → ℕ → ℕ → DeviceCard → List (Option Fault)
 device_faults variables at next history card =
-    too_many (nat_le 200 at) 1
-    ∷ too_many (nat_lt 2000000 history) 1
+    too_many (nat_le MOST_CONTROL_CARDS at) 1
+    ∷ too_many (nat_lt MOST_HISTORY_VALUES history) 1
     ∷ second_sense variables next card.name
     ∷ inputs_sense variables 12 card.inputs
     ∷ unknown_name variables 69 card.d
@@ -59,34 +60,34 @@ device_faults variables at next history card =
     ∷ []
 
 abbrev pub formula_faults : List (List ℕ) → ℕ → ℕ → FormulaCard → List (Option Fault)
-formula_faults variables at next card = too_many (nat_le 200 at) 1 ∷ second_sense variables next card.name ∷ names_sense variables card.parsed.names ∷ []
+formula_faults variables at next card = too_many (nat_le MOST_CONTROL_CARDS at) 1 ∷ second_sense variables next card.name ∷ names_sense variables card.parsed.names ∷ []
 
 -- ---- the network
 
 -- given the names of the nodes and the counts, the card's own among them
 abbrev pub branch_faults : List (List ℕ) → Counts → BranchCard → ValuesFrom → List (Option Fault)
 branch_faults names n card values =
-    too_many (nat_lt 5000 n.branches) 1
-    ∷ too_many (nat_lt 2000000 n.history) 1
+    too_many (nat_lt MOST_BRANCHES n.branches) 1
+    ∷ too_many (nat_lt MOST_HISTORY_VALUES n.history) 1
     ∷ too_many (nat_lt 64 n.channels) 1
-    ∷ too_many (nat_lt 1000 (node_number names card.from)) 3
-    ∷ too_many (nat_lt 1000 (node_number names card.to)) 9
+    ∷ too_many (nat_lt MOST_NODES (node_number names card.from)) 3
+    ∷ too_many (nat_lt MOST_NODES (node_number names card.to)) 9
     ∷ missing_fault values
     ∷ []
 
 -- given the names of the nodes, the card's own among them
 abbrev pub switch_faults : List (List ℕ) → Made → SwitchCard → List (Option Fault)
 switch_faults names m card =
-    too_many (nat_le 500 (length m.parts.switches)) 1
+    too_many (nat_le MOST_SWITCHES (length m.parts.switches)) 1
     ∷ too_many (no_room m.asked (switch_channel_count card.asked)) 1
-    ∷ too_many (nat_lt 1000 (node_number names card.from)) 3
-    ∷ too_many (nat_lt 1000 (node_number names card.to)) 9
+    ∷ too_many (nat_lt MOST_NODES (node_number names card.from)) 3
+    ∷ too_many (nat_lt MOST_NODES (node_number names card.to)) 9
     ∷ unknown_name m.parts.vars 65 card.control
     ∷ []
 
 abbrev pub source_faults : Made → SourceCard → List (Option Fault)
 source_faults m card =
-    too_many (nat_le 500 (length m.parts.sources)) 1
+    too_many (nat_le MOST_SOURCES (length m.parts.sources)) 1
     ∷ node_fault card m.parts.sources (find_node m.parts.nodes card.name)
     ∷ driver_fault m.parts.vars card
     ∷ []

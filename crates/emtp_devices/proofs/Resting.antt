@@ -1,4 +1,5 @@
 -- The devices of record 0.
+use Rattle.emtp_case.specs.declared.limit.TheConstants.{MOST_HISTORY_VALUES}
 use Rattle.std.proofs.Common.{◌≡◌, ◌∙◌, ap, sym, subst, refl, ℕ, zero, suc, ◌≤◌, max, List, [], ◌∷◌, length, map, replicate, get_or, ℤ, arith}
 use Rattle.std.proofs.lemmas.List.{get_or-map, length-map}
 use Rattle.std.proofs.lemmas.List.Sums.{get_or-le-sum_by}
@@ -16,9 +17,9 @@ use Rattle.emtp_devices.specs.declared.held.HeldDevice.{HeldDevice}
 use Rattle.emtp_devices.proofs.Rings.{rest-held, rest-squares}
 
 -- no card has more history values than the whole case
-few_values : (case : Parts) → IsCase case → (at : ℕ) (x : Device) → IsDeviceAt case at x → device_history_values case.run.dt x.code x.a ≤ 2000000
+few_values : (case : Parts) → IsCase case → (at : ℕ) (x : Device) → IsDeviceAt case at x → device_history_values case.run.dt x.code x.a ≤ MOST_HISTORY_VALUES
 few_values case h at x is =
-    let here : extra_history_values case.run.dt (get_or case.extras at (OfDevice x)) ≤ 2000000 = omega (arith, get_or-le-sum_by (extra_history_values case.run.dt) case.extras at (OfDevice x) (slice_get_within case.extras at (OfDevice x) is), h.draft.counts.history) in
+    let here : extra_history_values case.run.dt (get_or case.extras at (OfDevice x)) ≤ MOST_HISTORY_VALUES = omega (arith, get_or-le-sum_by (extra_history_values case.run.dt) case.extras at (OfDevice x) (slice_get_within case.extras at (OfDevice x) is), h.draft.counts.history) in
     rw (get_or_from_slice_get case.extras at (OfDevice x) (OfDevice x) is) at here
 
 at_least_one : (n m : ℕ) → n ≤ m → 1 ≤ m → max 1 n ≤ m
@@ -27,9 +28,9 @@ at_least_one n m h some = omega (arith, h, some)
 one_at_least : (n : ℕ) → 1 ≤ max 1 n
 one_at_least n = omega arith
 
-rest_fits : (dt : ℤ) (x : Device) → device_history_values dt x.code x.a ≤ 2000000 → IsHeldOf dt x (held_at_rest (depth_of dt (OfDevice x)))
+rest_fits : (dt : ℤ) (x : Device) → device_history_values dt x.code x.a ≤ MOST_HISTORY_VALUES → IsHeldOf dt x (held_at_rest (depth_of dt (OfDevice x)))
 rest_fits dt x few = record {
-  held = rest-held (depth_of dt (OfDevice x)) (one_at_least (device_history_values dt x.code x.a)) (at_least_one (device_history_values dt x.code x.a) 2000000 few (omega arith));
+  held = rest-held (depth_of dt (OfDevice x)) (one_at_least (device_history_values dt x.code x.a)) (at_least_one (device_history_values dt x.code x.a) MOST_HISTORY_VALUES few (omega arith));
   depth = refl;
   squares = λ effective. sym (rest-squares (depth_of dt (OfDevice x)));
 }

@@ -1,4 +1,5 @@
 -- The ring of a device's last inputs.
+use Rattle.emtp_case.specs.declared.limit.TheConstants.{MOST_HISTORY_VALUES}
 use Rattle.std.proofs.Common.{◌≡◌, ◌∙◌, ap, sym, refl, ℕ, zero, suc, ◌+◌, ◌-◌, ◌*◌, ◌^◌, ◌≤◌, ◌≤ℤ◌, ◌+ℤ◌, ℤ, max, List, [], ◌∷◌, All, pos, unsigned_abs, length, take, arith}
 use Rattle.std.proofs.lemmas.Int.{ints}
 use Rattle.std.proofs.lemmas.List.{length-take}
@@ -50,7 +51,7 @@ pub rest-squares : (k : ℕ) → sum_of_squares (take k (pos 0 ∷ [])) ≡ pos 
 rest-squares zero = refl
 rest-squares (suc k) = ap (λ z. z +ℤ sum_of_squares (take k [])) square-zero ∙ ap (λ z. pos 0 +ℤ z) (no-squares k)
 
-pub rest-held : (k : ℕ) → 1 ≤ k → k ≤ 2000000 → IsHeld (held_at_rest k)
+pub rest-held : (k : ℕ) → 1 ≤ k → k ≤ MOST_HISTORY_VALUES → IsHeld (held_at_rest k)
 rest-held k some few = record {
   some = some;
   few = few;

@@ -1,4 +1,5 @@
 -- Worked rows: 8 from step 1 on, at a time step of 0.1 ms, over three steps. The newest state stands first.
+use Rattle.emtp_case.specs.declared.limit.TheConstants.{MOST_HISTORY_VALUES}
 use Rattle.std.proofs.Common.{◌≡◌, refl, true, false, negsuc, ℕ, ℤ, pos, List, [], ◌∷◌, Option, Some, None, ◌*◌, ◌^◌}
 use Rattle.emtp_case.specs.Case.{empty_parts}
 use Rattle.emtp_case.specs.declared.case.Parts.{Parts}
@@ -45,7 +46,7 @@ unfolding next_state near near_abs the_case card plus both values with_state ste
 delayed = refl
 
 -- an integral: 0, 0.0004, 0.0012, 0.002
-integral : three (card Integral (pos 0) plus) ≡ state (pos 8000000000) (pos 2000000) ∷ state (pos 8000000000) (pos 1200000) ∷ state (pos 8000000000) (pos 400000) ∷ state (pos 0) (pos 0) ∷ []
+integral : three (card Integral (pos 0) plus) ≡ state (pos 8000000000) (pos MOST_HISTORY_VALUES) ∷ state (pos 8000000000) (pos 1200000) ∷ state (pos 8000000000) (pos 400000) ∷ state (pos 0) (pos 0) ∷ []
 unfolding next_state near near_abs the_case card plus both values with_state stepped three state
 integral = refl
 

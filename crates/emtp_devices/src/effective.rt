@@ -1,5 +1,6 @@
 //! 66: the effective value of the inputs of a period.
 
+ghost use Rattle.emtp_case.specs.declared.limit.TheConstants.{MOST_HISTORY_VALUES};
 ghost use Rattle.std.specs.Prelude.{◌≡◌, ◌*◌, ◌^◌, ◌≤◌, ◌≤ℤ◌, ◌∷◌, ◌+ℤ◌, ◌*ℤ◌, List, pos, take, unsigned_abs, ℤ};
 ghost use Rattle.emtp_devices.specs.Device.{effective_value, square, sum_of_squares};
 ghost use Rattle.emtp_devices.specs.held.Held.{IsHeld};
@@ -52,7 +53,7 @@ fn square(s: i64) -> i128
 /// The mean of so many squares in nano, in units of 10^-18: to 10^36.
 fn mean(sum: i128, depth: usize) -> i128
     requires some { 1 ≤ depth }
-    requires few { depth ≤ 2000000 }
+    requires few { depth ≤ MOST_HISTORY_VALUES }
     requires least { pos 0 ≤ℤ sum }
     requires most { unsigned_abs sum ≤ depth * 10 ^ 27 }
     ensures value { result ≡ near sum (pos depth) *ℤ NANO }

@@ -1,7 +1,7 @@
 //! The parts of the equations.
 
-ghost use Rattle.std.specs.Prelude.{◌≡◌, ◌*◌, ◌^◌, ◌+◌, ◌≤◌, ◌==◌, ◌||◌, ◌∷◌, ◌+ℤ◌, List, if◌then◌else◌, pos, unsigned_abs, ℕ, ℤ};
-ghost use Rattle.emtp_case.specs.held.Range.{IsBetween};
+ghost use Rattle.emtp_case.specs.held.RunData.{IsTimeStep};
+ghost use Rattle.std.specs.Prelude.{◌≡◌, ◌*◌, ◌+◌, ◌≤◌, ◌==◌, ◌||◌, ◌∷◌, ◌+ℤ◌, List, if◌then◌else◌, pos, unsigned_abs, ℕ, ℤ};
 ghost use Rattle.emtp_devices.specs.Device.{derivative, extreme_of_two, gated, integral, last_input, one_above_zero, taken_input};
 ghost use Rattle.emtp_devices.specs.held.Held.{IsHeld};
 ghost use Rattle.emtp_fix.specs.declared.limit.TheConstants.{LARGEST_VALUE};
@@ -48,7 +48,7 @@ pub(crate) fn last_input(held: &HeldDevice) -> i64
 
 /// 58: the integral, by the trapezoidal rule, where it is neither reset nor held.
 pub(crate) fn integrated(reset: bool, active: bool, held: &HeldDevice, dt: i64, s: i64) -> i128
-    requires dt { IsBetween 1000 (10 ^ 12) dt }
+    requires dt { IsTimeStep dt }
     requires held { IsHeld held.now }
     requires s { unsigned_abs s ≤ LARGEST_VALUE }
     ensures { (inputs : List ℤ) → Remembers held.now.inputs inputs → result ≡ (if reset then pos 0 else if active then integral dt s (last_input inputs) held.now.output else held.now.output) }
@@ -63,7 +63,7 @@ pub(crate) fn integrated(reset: bool, active: bool, held: &HeldDevice, dt: i64, 
 }
 
 fn integral(dt: i64, s: i64, before: i64, y: i64) -> i128
-    requires dt { IsBetween 1000 (10 ^ 12) dt }
+    requires dt { IsTimeStep dt }
     requires s { unsigned_abs s ≤ LARGEST_VALUE }
     requires before { unsigned_abs before ≤ LARGEST_VALUE }
     requires y { unsigned_abs y ≤ LARGEST_VALUE }
@@ -74,7 +74,7 @@ fn integral(dt: i64, s: i64, before: i64, y: i64) -> i128
 
 /// 59: the change of the input a second.
 pub(crate) fn derivative(dt: i64, s: i64, before: i64) -> i128
-    requires dt { IsBetween 1000 (10 ^ 12) dt }
+    requires dt { IsTimeStep dt }
     requires s { unsigned_abs s ≤ LARGEST_VALUE }
     requires before { unsigned_abs before ≤ LARGEST_VALUE }
     ensures { result ≡ derivative dt s before }

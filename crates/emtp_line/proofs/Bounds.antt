@@ -1,4 +1,5 @@
 -- Bounds on what the law of a line computes.
+use Rattle.emtp_case.specs.held.RunData.{IsTimeStep}
 use Rattle.std.proofs.Common.{◌≡◌, ◌∙◌, ap, ℕ, ◌+◌, ◌*◌, ◌^◌, ◌/◌, ◌%◌, ◌<◌, ◌≤◌, ⊎_elim, ℤ, pos, ◌+ℤ◌, ◌-ℤ◌, ◌*ℤ◌, ◌≤ℤ◌, unsigned_abs, neg_ℤ, [], ◌∷◌, ◌-◌, refl, FitsSigned, arith}
 use mir.Syntax.{w64}
 use Rattle.std.proofs.lemmas.Bool.{cases_lt}
@@ -26,7 +27,7 @@ pub share_small : (part z : ℤ) → unsigned_abs part ≤ unsigned_abs z → un
 share_small part z h = near-within (part *ℤ PICO) z (10 ^ 12) (omega (arith, ints, h, unsigned_abs-mul part (PICO)))
 
 -- the numbers of a line are in range
-pub mode_fits : (dt zc r delay : ℤ) → IsBetween 1000 (10 ^ 12) dt → HasLineNumbers dt zc r delay → IsMode (mode_of dt zc r delay)
+pub mode_fits : (dt zc r delay : ℤ) → IsTimeStep dt → HasLineNumbers dt zc r delay → IsMode (mode_of dt zc r delay)
 mode_fits dt zc r delay step h =
     let quarter = quarter_range r h.r in
     let z : line_impedance zc r ≡ zc +ℤ near r (pos 4) = refl in

@@ -1,5 +1,6 @@
 -- What the lists of held lines and three-phase lines say of a branch.
-use Rattle.std.proofs.Common.{◌≡◌, ◌≢◌, ◌∙◌, ap, sym, subst, refl, zero, suc, ℕ, ◌<◌, ◌^◌, ℤ, pos, List, [], ◌∷◌, All, length, map, get_or, slice_set, inl, inr, arith}
+use Rattle.emtp_case.specs.held.RunData.{IsTimeStep}
+use Rattle.std.proofs.Common.{◌≡◌, ◌≢◌, ◌∙◌, ap, sym, subst, refl, zero, suc, ℕ, ◌<◌, ℤ, pos, List, [], ◌∷◌, All, length, map, get_or, slice_set, inl, inr, arith}
 use Rattle.std.proofs.lemmas.Bool.{cases_eq}
 use Rattle.std.proofs.lemmas.List.{get_or-map, get_or_default, get_or-set_same, get_or-set_other, length-map}
 use Rattle.std.proofs.lemmas.List.Elements.{All-set, All-map, All-weaker}
@@ -7,7 +8,6 @@ use Rattle.std.proofs.lemmas.Option.{slice_get_within, get_or_from_slice_get}
 use Rattle.std.proofs.Math.ListN.{length-set}
 use Rattle.emtp_case.specs.held.Branch.{IsBranch}
 use Rattle.emtp_case.specs.held.Case.{IsCase}
-use Rattle.emtp_case.specs.held.Range.{IsBetween}
 use Rattle.emtp_case.specs.held.Sizes.{Sizes, sizes_of}
 use Rattle.emtp_case.specs.StepRecord.{rest_of, branch_at_rest, line_state_of, no_line}
 use Rattle.emtp_case.specs.declared.branch.Branch.{Branch}
@@ -62,7 +62,7 @@ branch_has_mode run n points (OfLine b) h = h.numbers
 branch_has_mode run n points (OfPseudo b) h = tt
 branch_has_mode run n points (OfPhase b) h = tt
 
-pub mode_at-fits : (dt : ℤ) → IsBetween 1000 (10 ^ 12) dt → (b : Branch) → HasMode dt b → IsMode (mode_at dt b)
+pub mode_at-fits : (dt : ℤ) → IsTimeStep dt → (b : Branch) → HasMode dt b → IsMode (mode_at dt b)
 mode_at-fits dt step (OfLumped b) h = no_mode_fits
 mode_at-fits dt step (OfLine b) h = mode_fits dt b.zc b.r b.delay step h
 mode_at-fits dt step (OfPseudo b) h = no_mode_fits

@@ -1,5 +1,6 @@
 -- What is held of three-phase lines.
-use Rattle.std.proofs.Common.{◌≡◌, ◌≢◌, ◌∙◌, ap, sym, subst, refl, zero, suc, ℕ, ◌+◌, ◌<◌, ◌^◌, ℤ, pos, List, [], ◌∷◌, All, length, map, get_or, slice_set, inl, inr, arith}
+use Rattle.emtp_case.specs.held.RunData.{IsTimeStep}
+use Rattle.std.proofs.Common.{◌≡◌, ◌≢◌, ◌∙◌, ap, sym, subst, refl, zero, suc, ℕ, ◌+◌, ◌<◌, ℤ, pos, List, [], ◌∷◌, All, length, map, get_or, slice_set, inl, inr, arith}
 use Rattle.std.proofs.lemmas.Bool.{cases_eq}
 use Rattle.std.proofs.lemmas.Int.{ints}
 use Rattle.std.proofs.lemmas.List.{get_or-map, get_or_default, get_or-set_same, get_or-set_other, length-map}
@@ -8,7 +9,6 @@ use Rattle.std.proofs.Math.ListN.{length-set}
 use Rattle.emtp_case.specs.Branch.{first_of_trio}
 use Rattle.emtp_case.specs.held.Branch.{IsTrio}
 use Rattle.emtp_case.specs.held.Case.{IsCase}
-use Rattle.emtp_case.specs.held.Range.{IsBetween}
 use Rattle.emtp_case.specs.StepRecord.{rest_of, branch_at_rest, phase_state_of, no_phase}
 use Rattle.emtp_case.specs.declared.branch.Branch.{Branch}
 use Rattle.emtp_case.specs.declared.branch.Branch.TheVariants.{Lumped as OfLumped, Line as OfLine, Pseudo as OfPseudo, Phase as OfPhase}
@@ -51,10 +51,10 @@ phase_stands x past (suc (suc (suc p))) h below = absurd (omega (arith, below))
 
 -- ---- rest
 
-pub trio_mode-fits : (run : RunData) (t : Trio) (m : ℕ) → IsBetween 1000 (10 ^ 12) run.dt → IsTrio run t → m < 2 → IsMode (mode_of_trio run.dt t m)
+pub trio_mode-fits : (run : RunData) (t : Trio) (m : ℕ) → IsTimeStep run.dt → IsTrio run t → m < 2 → IsMode (mode_of_trio run.dt t m)
 trio_mode-fits run t m step h below = mode_fits run.dt _ _ _ step (h m below)
 
-pub rest_trio : (run : RunData) (t : Trio) → IsBetween 1000 (10 ^ 12) run.dt → IsTrio run t → IsHeldTrio (trio_at_rest run.dt t)
+pub rest_trio : (run : RunData) (t : Trio) → IsTimeStep run.dt → IsTrio run t → IsHeldTrio (trio_at_rest run.dt t)
 rest_trio run t step h =
     let zero' = trio_mode-fits run t 0 step h (omega arith) in
     let positive = trio_mode-fits run t 1 step h (omega arith) in

@@ -1,5 +1,6 @@
 //! The numbers that a line, or a mode of a three-phase line, has in all steps.
 
+ghost use Rattle.emtp_case.specs.held.RunData.{IsTimeStep};
 ghost use Rattle.std.specs.Prelude.{◌≡◌, ◌^◌, ◌≤◌, ◌*ℤ◌, unsigned_abs};
 ghost use Rattle.emtp_case.specs.held.Branch.{HasLineNumbers};
 ghost use Rattle.emtp_case.specs.held.Range.{IsBetween};
@@ -34,7 +35,7 @@ impl Mode {
     /// The mode of this surge impedance and total resistance in micro-ohm and this travel time in ps, at a time step in
     /// ps.
     pub(crate) fn of(dt: i64, zc: i64, r: i64, delay: i64) -> Mode
-        requires dt { IsBetween 1000 (10 ^ 12) dt }
+        requires dt { IsTimeStep dt }
         requires line { HasLineNumbers dt zc r delay }
         ensures value { result ≡ mode_of dt zc r delay }
         ensures fits { IsMode result }

@@ -1,4 +1,5 @@
 -- Bounds on what a companion is made of.
+use Rattle.emtp_case.specs.held.RunData.{IsTimeStep}
 use Rattle.std.proofs.Common.{◌≡◌, ◌*◌, ◌^◌, ℤ, pos, ◌+ℤ◌, ◌*ℤ◌, ◌≤ℤ◌, refl, arith}
 use Rattle.std.proofs.lemmas.Int.{ints}
 use Rattle.std.specs.Ordering.{int_eq}
@@ -13,10 +14,10 @@ use Rattle.emtp_fix.proofs.Quotients.{near-nonneg}
 use Rattle.emtp_lumped.specs.Companion.{companion_of}
 use Rattle.emtp_lumped.specs.held.Companion.{IsCompanion}
 
-inductor-nonneg : (dt l : ℤ) → IsBetween 1000 (10 ^ 12) dt → IsBetween 0 (10 ^ 15) l → pos 0 ≤ℤ inductor_impedance dt l
+inductor-nonneg : (dt l : ℤ) → IsTimeStep dt → IsBetween 0 (10 ^ 15) l → pos 0 ≤ℤ inductor_impedance dt l
 inductor-nonneg dt l h h' = near-nonneg (pos (2 * 10 ^ 9) *ℤ l) dt (omega (arith, ints, h'.least)) (omega (arith, ints, h.least))
 
-capacitor-nonneg : (dt c : ℤ) → IsBetween 1000 (10 ^ 12) dt → IsBetween 0 (10 ^ 15) c → pos 0 ≤ℤ capacitor_impedance dt c
+capacitor-nonneg : (dt c : ℤ) → IsTimeStep dt → IsBetween 0 (10 ^ 15) c → pos 0 ≤ℤ capacitor_impedance dt c
 unfolding capacitor_impedance
 capacitor-nonneg dt c h h' = either (int_eq c (pos 0))
   where
@@ -25,7 +26,7 @@ capacitor-nonneg dt c h h' = either (int_eq c (pos 0))
     either false = near-nonneg (dt *ℤ pos (10 ^ 9)) (pos 2 *ℤ c) (omega (arith, ints, h.least)) (omega (arith, ints, h'.least))
 
 -- the numbers of a companion are in range: the parts of an impedance are no larger than the whole
-pub companion-fits : (dt : ℤ) (b : Lumped) → IsBetween 1000 (10 ^ 12) dt → HasSeriesNumbers dt b.r b.l b.c → IsCompanion (companion_of dt b)
+pub companion-fits : (dt : ℤ) (b : Lumped) → IsTimeStep dt → HasSeriesNumbers dt b.r b.l b.c → IsCompanion (companion_of dt b)
 companion-fits dt b step h =
     let whole : series_impedance dt b.r b.l b.c ≡ b.r +ℤ inductor_impedance dt b.l +ℤ capacitor_impedance dt b.c = refl in
     let inductor = inductor-nonneg dt b.l step h.inductance in

@@ -1,4 +1,5 @@
 -- What the list of held branches says of a branch.
+use Rattle.emtp_case.specs.held.RunData.{IsTimeStep}
 use Rattle.std.proofs.Common.{◌≡◌, ◌≢◌, ◌∙◌, ap, sym, subst, refl, ℕ, zero, suc, ◌<◌, ℤ, pos, List, [], ◌∷◌, length, map, slice_set, get_or, ◌^◌, ◌≤◌, unsigned_abs, Option, Some, None, Ok, Err, option_map, inl, inr, arith}
 use Rattle.std.proofs.lemmas.Bool.{cases_eq}
 use Rattle.std.proofs.lemmas.Int.{ints}
@@ -9,7 +10,6 @@ use Rattle.std.proofs.Math.ListN.{length-set}
 use Rattle.emtp_case.specs.held.Branch.{IsBranch}
 use Rattle.emtp_case.specs.held.Sizes.{Sizes, sizes_of}
 use Rattle.emtp_case.specs.held.Case.{IsCase}
-use Rattle.emtp_case.specs.held.Range.{IsBetween}
 use Rattle.emtp_case.specs.StepRecord.{no_lumped, lumped_of, branch_at_rest, rest_of}
 use Rattle.emtp_case.specs.declared.branch.Branch.{Branch}
 use Rattle.emtp_case.specs.declared.branch.Branch.TheVariants.{Lumped as OfLumped, Line as OfLine, Pseudo as OfPseudo, Phase as OfPhase}
@@ -63,7 +63,7 @@ branch_has_numbers run n points (OfLine b) h = tt
 branch_has_numbers run n points (OfPseudo b) h = tt
 branch_has_numbers run n points (OfPhase b) h = tt
 
-rest-fits : (dt : ℤ) → IsBetween 1000 (10 ^ 12) dt → (b : Branch) → HasNumbers dt b → IsHeld (rest_at dt b)
+rest-fits : (dt : ℤ) → IsTimeStep dt → (b : Branch) → HasNumbers dt b → IsHeld (rest_at dt b)
 rest-fits dt step (OfLumped b) h = rest-held (companion_of dt b) (companion-fits dt b step h)
 rest-fits dt step (OfLine b) h = rest-held no_companion no_companion-fits
 rest-fits dt step (OfPseudo b) h = rest-held no_companion no_companion-fits

@@ -1,6 +1,7 @@
 //! The companion of a series branch: what its card makes of it, the same in all steps.
 
-ghost use Rattle.std.specs.Prelude.{◌≡◌, ◌^◌, ◌≤◌, ◌+ℤ◌, unsigned_abs};
+ghost use Rattle.emtp_case.specs.held.RunData.{IsTimeStep};
+ghost use Rattle.std.specs.Prelude.{◌≡◌, ◌≤◌, ◌+ℤ◌, unsigned_abs};
 ghost use Rattle.emtp_case.specs.held.Branch.{HasSeriesNumbers};
 ghost use Rattle.emtp_case.specs.held.Range.{IsBetween};
 ghost use Rattle.emtp_fix.specs.Rounding.{near};
@@ -25,7 +26,7 @@ pub struct Companion {
 impl Companion {
     /// The companion of a branch at a time step in ps.
     pub(crate) fn of(dt: i64, b: &Lumped) -> Companion
-        requires dt { IsBetween 1000 (10 ^ 12) dt }
+        requires dt { IsTimeStep dt }
         requires branch { HasSeriesNumbers dt b.now.r b.now.l b.now.c }
         ensures { result ≡ companion_of dt b.now }
     {

@@ -1,7 +1,8 @@
 -- The fields of a network hold together after a step.
+use Rattle.emtp_case.specs.declared.limit.TheConstants.{MOST_NODES}
 use Rattle.std.proofs.Common.{◌+◌, ◌<◌, ◌≤◌, ℕ, arith}
 use Rattle.emtp_case.specs.declared.case.Parts.{Parts}
 use Rattle.emtp_net.specs.held.Holding.{AreFew}
 
-pub few_next : (case : Parts) (made old new : ℕ) → AreFew case made old → made < case.run.steps → new ≤ old + 1000 → AreFew case (made + 1) new
+pub few_next : (case : Parts) (made old new : ℕ) → AreFew case made old → made < case.run.steps → new ≤ old + MOST_NODES → AreFew case (made + 1) new
 few_next case made old new few below more = record { made_few = omega (arith, below); redone_few = omega (arith, few.redone_few, more) }

@@ -1,5 +1,6 @@
 //! The factor, brought up to date from the first row that changed.
 
+ghost use Rattle.emtp_case.specs.declared.limit.TheConstants.{MOST_NODES};
 ghost use Rattle.std.specs.Prelude.{◌≡◌, ◌+◌, ◌-◌, ◌*◌, ◌^◌, ◌≤◌, ◌<◌, ◌==◌, ℤ, List, length, if◌then◌else◌, Err, OnOk, IfErr};
 ghost use Rattle.emtp_case.specs.RowOrder.{order_of};
 ghost use Rattle.emtp_case.specs.StepRecord.{StepRecord};
@@ -30,9 +31,9 @@ use std::sync::ledger::Ledger;
 /// Counts rows that are redone; the first step counts none.
 fn count(redone: &mut u64, made: u32, rows: usize)
     requires few { redone.old ≤ 10 ^ 12 }
-    requires rows { rows ≤ 1000 }
+    requires rows { rows ≤ MOST_NODES }
     ensures value { redone.new ≡ redone.old + (if made == 0 then 0 else rows) }
-    ensures most { redone.new ≤ redone.old + 1000 }
+    ensures most { redone.new ≤ redone.old + MOST_NODES }
 {
     if made != 0 {
         *redone += rows as u64;
@@ -49,14 +50,14 @@ fn follow<L: Ledger>(
     steps: &mut Steps<L>,
 ) -> Result<(), RowFault>
     requires size { kept.old.size ≡ length rows.old.nodal.case.nodes }
-    requires nodes { length rows.old.nodal.case.nodes ≤ 1000 }
+    requires nodes { length rows.old.nodal.case.nodes ≤ MOST_NODES }
     requires stands { StandsUntouched rows.old kept.old.rows }
     requires few { redone.old ≤ 10 ^ 12 }
     ensures nodal { rows.new.nodal ≡ rows.old.nodal }
     ensures size { kept.new.size ≡ kept.old.size }
     ensures stands { StandsUntouched rows.new kept.new.rows }
     ensures redone { redone.new ≡ redone.old + (if made == 0 then 0 else kept.old.size - first_change kept.old.rows (nodal_matrix rows.old.nodal)) }
-    ensures few { redone.new ≤ redone.old + 1000 }
+    ensures few { redone.new ≤ redone.old + MOST_NODES }
     ensures good { OnOk result (kept.new.rows ≡ nodal_matrix rows.old.nodal) }
     ensures ticks { OnOk result (steps.new + first_change kept.old.rows (nodal_matrix rows.old.nodal) ≡ steps.old + kept.old.size) }
     ensures fault { IfErr result (λ fault. IsRowFault (nodal_matrix rows.old.nodal) fault.row fault.cause) }
@@ -121,8 +122,8 @@ pub(crate) fn factor<L: Ledger>(
     ensures redone { (H : List StepRecord) → IsReady case.now.parts H branches.now rows.old kept.old made → redone.new ≡ redone.old + step_redone case.now.parts H }
     ensures ticks { (H : List StepRecord) → IsReady case.now.parts H branches.now rows.old kept.old made → OnOk result (steps.new ≡ steps.old + step_ticks case.now.parts H) }
     ensures most { (H : List StepRecord) → IsReady case.now.parts H branches.now rows.old kept.old made → steps.new ≤ steps.old + step_ticks case.now.parts H }
-    ensures few { redone.new ≤ redone.old + 1000 }
-    ensures few_ticks { steps.new ≤ steps.old + 1000 }
+    ensures few { redone.new ≤ redone.old + MOST_NODES }
+    ensures few_ticks { steps.new ≤ steps.old + MOST_NODES }
     ensures node { IfErr result (NamesNode case.now.parts) }
 {
     set_conductances(case, branches, rows);

@@ -1,5 +1,6 @@
 //! The network of a case.
 
+ghost use Rattle.emtp_case.specs.declared.limit.TheConstants.{MOST_NODES};
 ghost use Rattle.std.specs.Prelude.{◌≡◌, ◌+◌, ◌*◌, ◌<◌, ◌≤◌, ◌∷◌, [], ℕ, List, length, map, pos, replicate, unsigned_abs, All, Err, IfErr, IfOk, OnOk};
 ghost use Rattle.emtp_case.specs.RowOrder.{order_of};
 ghost use Rattle.emtp_case.specs.StepRecord.{StepRecord, branch_current_at, is_closed, latest, rest_of};
@@ -123,8 +124,8 @@ impl<'a> Network<'a> {
         ensures ticks { (H : List StepRecord) → StandsFor self.old H → tacs.now ≡ (latest H).values → OnOk result (steps.new ≡ steps.old + step_ticks self.old.case H) }
         ensures most { (H : List StepRecord) → StandsFor self.old H → tacs.now ≡ (latest H).values → steps.new ≤ steps.old + step_ticks self.old.case H }
         ensures tied { (H : List StepRecord) (node : ℕ) → StandsFor self.old H → tacs.now ≡ (latest H).values → network_part self.old.case H ≡ Err (NetFault.Tied node) → steps.new ≡ steps.old }
-        ensures few { self.new.redone ≤ self.old.redone + 1000 }
-        ensures few_ticks { steps.new ≤ steps.old + 1000 }
+        ensures few { self.new.redone ≤ self.old.redone + MOST_NODES }
+        ensures few_ticks { steps.new ≤ steps.old + MOST_NODES }
         ensures node { IfErr result (NamesNode self.old.case) }
     {
         let made = self.made;
@@ -207,7 +208,7 @@ impl<'a> Network<'a> {
     /// How many rows of the nodal matrix the steps redid, but for the first step.
     pub fn redone(&self) -> u64
         ensures value { result ≡ self.now.redone }
-        ensures few { result ≤ 1000 * self.now.made }
+        ensures few { result ≤ MOST_NODES * self.now.made }
         ensures made { self.now.made ≤ self.now.case.run.steps }
     {
         self.redone

@@ -1,5 +1,6 @@
 //! The right side of the nodal system.
 
+ghost use Rattle.emtp_case.specs.declared.limit.TheConstants.{MOST_SOURCES};
 ghost use Rattle.std.specs.Prelude.{◌≡◌, ◌+◌, ◌*◌, ◌^◌, ◌<◌, ◌≤◌, ◌+ℤ◌, if◌then◌else◌, ℕ, ℤ, pos, List, length, map, slice_index, unsigned_abs, IfOk};
 ghost use Rattle.std.specs.List.{position, position_or_len};
 ghost use Rattle.emtp_case.specs.Source.{is_voltage_source_at};
@@ -115,7 +116,7 @@ pub(crate) fn places_of(
 }
 
 fn place_of(sources: &[Source], node: u32) -> u32
-    requires { length sources.now ≤ 500 }
+    requires { length sources.now ≤ MOST_SOURCES }
     ensures { result ≡ position_or_len (is_voltage_source_at node) sources.now }
 {
     match find_source(sources, node) {

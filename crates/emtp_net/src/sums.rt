@@ -1,5 +1,6 @@
 //! Sums of currents, by row.
 
+ghost use Rattle.emtp_case.specs.declared.limit.TheConstants.{MOST_NODES};
 ghost use Rattle.std.specs.Prelude.{◌≡◌, ◌+◌, ◌*◌, ◌^◌, ◌<◌, ◌≤◌, ◌==◌, ◌+ℤ◌, if◌then◌else◌, false, ℕ, ℤ, pos, length, slice_get, slice_set, unsigned_abs};
 ghost use Rattle.emtp_case.specs.RowOrder.{order_of};
 ghost use Rattle.emtp_case.specs.declared.row_kind.RowKind.TheVariants.{Kcl, Sum};
@@ -59,7 +60,7 @@ pub(crate) fn add_ends(
 /// Adds what stands in the rows that are tied to the sum of a group to the row of that sum. The other rows stay.
 pub(crate) fn fold(kinds: &[RowKind], sums: &mut [i128])
     requires each { length kinds.now ≡ length sums.old }
-    requires few { length sums.old ≤ 1000 }
+    requires few { length sums.old ≤ MOST_NODES }
     requires small { (j : ℕ) → j < length sums.old → unsigned_abs (item sums.old j) ≤ 2 * 10 ^ 34 }
     ensures sum { (j : ℕ) → j < length sums.old → kind_at kinds.now j ≡ Sum → item sums.new j ≡ group_total kinds.now (item sums.old) j }
     ensures node { (j : ℕ) → j < length sums.old → kind_at kinds.now j ≡ Kcl → item sums.new j ≡ item sums.old j }

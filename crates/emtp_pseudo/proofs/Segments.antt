@@ -1,4 +1,5 @@
 -- The segments of a characteristic are in range, and a step leaves none of them out.
+use Rattle.emtp_case.specs.held.RunData.{IsTimeStep}
 use Rattle.std.proofs.Common.{◌≡◌, ℕ, zero, suc, ◌+◌, ◌*◌, ◌^◌, ◌<◌, ◌≤◌, ℤ, pos, negsuc, ◌+ℤ◌, ◌-ℤ◌, ◌*ℤ◌, ◌≤ℤ◌, ◌<ℤ◌, unsigned_abs, refl, sym, subst, arith, Bool, true, false, if◌then◌else◌, int_lt, nat_lt, List, length, take, drop, Option, Some, None, IfSome}
 use Rattle.std.proofs.lemmas.Bool.{ltb-true}
 use Rattle.std.proofs.lemmas.Int.{ints, unsigned_abs-mul}
@@ -35,7 +36,7 @@ points_fit reactor dt ps (suc k) h within =
     }
 
 -- the conductance of a reactor's segment bounds its slope
-flat_is : (dt di dy : ℤ) → IsBetween 1000 (10 ^ 12) dt → pos 0 <ℤ di → pos 0 <ℤ dy → near (dt *ℤ di *ℤ pos 1000) (pos 2 *ℤ dy) ≤ℤ pos (10 ^ 17) → pos 0 ≤ℤ near (dt *ℤ di *ℤ pos 1000) (pos 2 *ℤ dy) → unsigned_abs di ≤ 3 * 10 ^ 11 * unsigned_abs dy
+flat_is : (dt di dy : ℤ) → IsTimeStep dt → pos 0 <ℤ di → pos 0 <ℤ dy → near (dt *ℤ di *ℤ pos 1000) (pos 2 *ℤ dy) ≤ℤ pos (10 ^ 17) → pos 0 ≤ℤ near (dt *ℤ di *ℤ pos 1000) (pos 2 *ℤ dy) → unsigned_abs di ≤ 3 * 10 ^ 11 * unsigned_abs dy
 flat_is dt di dy step up up' small low =
     let n = unsigned_abs (dt *ℤ di *ℤ pos 1000) in
     let d = unsigned_abs (pos 2 *ℤ dy) in
@@ -84,14 +85,14 @@ conductance_fits false dt a b h =
     record { least = least; most = omega (arith, ints, small, least) }
 conductance_fits true dt a b h = record { least = omega (arith, ints, h.slope.least); most = omega (arith, ints, h.slope.most) }
 
-flat : (reactor : Bool) (dt : ℤ) (a b : Point) → IsBetween 1000 (10 ^ 12) dt → IsSegment reactor dt a b → reactor ≡ true → unsigned_abs (rise_of a b).current ≤ 3 * 10 ^ 11 * unsigned_abs (rise_of a b).other
+flat : (reactor : Bool) (dt : ℤ) (a b : Point) → IsTimeStep dt → IsSegment reactor dt a b → reactor ≡ true → unsigned_abs (rise_of a b).current ≤ 3 * 10 ^ 11 * unsigned_abs (rise_of a b).other
 flat false dt a b step h e = absurd (cc)
 flat true dt a b step h e = flat_is dt (b.current -ℤ a.current) (b.other -ℤ a.other) step (omega (arith, ints, h.current_rises)) (omega (arith, ints, h.other_rises)) h.slope.most (omega (arith, ints, h.slope.least))
 
 pub segment_there : (reactor : Bool) (dt : ℤ) (ps : List Point) (k : ℕ) → IsCharacteristic reactor dt ps → k < length ps → IsSegment reactor dt (point_at ps k) (point_at ps (suc k))
 segment_there reactor dt ps k h within = h k within
 
-pub outward_sound : (reactor : Bool) (dt : ℤ) (ps : List Point) (k : ℕ) → IsBetween 1000 (10 ^ 12) dt → IsCharacteristic reactor dt ps → k < length ps → IsSound reactor (outward reactor dt ps k)
+pub outward_sound : (reactor : Bool) (dt : ℤ) (ps : List Point) (k : ℕ) → IsTimeStep dt → IsCharacteristic reactor dt ps → k < length ps → IsSound reactor (outward reactor dt ps k)
 outward_sound reactor dt ps k step h within =
     let a = points_fit reactor dt ps k h (omega (arith, within)) in
     let b = points_fit reactor dt ps (suc k) h (omega (arith, within)) in
@@ -108,7 +109,7 @@ outward_sound reactor dt ps k step h within =
     }
 
 -- the same of one that is made as it is defined
-pub made_sound : (reactor : Bool) (dt : ℤ) (ps : List Point) (k : ℕ) (s : Segment) → IsBetween 1000 (10 ^ 12) dt → IsCharacteristic reactor dt ps → k < length ps → s ≡ outward reactor dt ps k → IsSound reactor s
+pub made_sound : (reactor : Bool) (dt : ℤ) (ps : List Point) (k : ℕ) (s : Segment) → IsTimeStep dt → IsCharacteristic reactor dt ps → k < length ps → s ≡ outward reactor dt ps k → IsSound reactor s
 made_sound reactor dt ps k s step h within is = subst (IsSound reactor) (sym is) (outward_sound reactor dt ps k step h within)
 
 pub mirrored_sound : (reactor : Bool) (s : Segment) → IsSound reactor s → IsSound reactor (mirrored s)

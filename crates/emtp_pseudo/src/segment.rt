@@ -1,6 +1,7 @@
 //! One straight segment of a characteristic.
 
-ghost use Rattle.std.specs.Prelude.{◌≡◌, ◌+◌, ◌^◌, ◌<◌, ◌≤◌, ◌<ℤ◌, Bool, length, unsigned_abs, IfSome};
+ghost use Rattle.emtp_case.specs.held.RunData.{IsTimeStep};
+ghost use Rattle.std.specs.Prelude.{◌≡◌, ◌+◌, ◌<◌, ◌≤◌, ◌<ℤ◌, Bool, length, unsigned_abs, IfSome};
 ghost use Rattle.emtp_case.specs.held.Branch.{IsCharacteristic, IsSegment};
 ghost use Rattle.emtp_case.specs.held.Range.{IsBetween};
 ghost use Rattle.emtp_fix.specs.Rounding.{near};
@@ -36,7 +37,7 @@ impl Segment {
     /// segment `-k`.
     #[tactic(auto, unfolding(crate::specs::Segment::segment_of))]
     pub(crate) fn of(reactor: bool, dt: i64, points: &[Point], k: i32) -> Segment
-        requires dt { IsBetween 1000 (10 ^ 12) dt }
+        requires dt { IsTimeStep dt }
         requires points { IsCharacteristic reactor dt points.now }
         requires within { unsigned_abs k < length points.now }
         ensures value { result ≡ segment_of reactor dt points.now k }
@@ -48,7 +49,7 @@ impl Segment {
 
     /// A segment from its end towards the origin on.
     fn outward(reactor: bool, dt: i64, points: &[Point], k: usize) -> Segment
-        requires dt { IsBetween 1000 (10 ^ 12) dt }
+        requires dt { IsTimeStep dt }
         requires points { IsCharacteristic reactor dt points.now }
         requires within { k < length points.now }
         ensures { result ≡ outward reactor dt points.now k }
@@ -160,7 +161,7 @@ fn mirrored_point(p: Point) -> Point
 }
 
 fn conductance(reactor: bool, dt: i64, a: Point, b: Point) -> i64
-    requires dt { IsBetween 1000 (10 ^ 12) dt }
+    requires dt { IsTimeStep dt }
     requires segment { IsSegment reactor dt a b }
     requires a { IsPoint a }
     requires b { IsPoint b }

@@ -1,5 +1,6 @@
 //! One step of a pseudo-nonlinear branch. A function an equation.
 
+ghost use Rattle.emtp_case.specs.held.RunData.{IsTimeStep};
 ghost use Rattle.std.specs.Prelude.{◌≡◌, ◌≢◌, ◌^◌, ◌*◌, ◌≤◌, pos, ◌+ℤ◌, ◌*ℤ◌, Bool, true, false, unsigned_abs, IfSome};
 ghost use Rattle.emtp_case.specs.held.Range.{IsBetween};
 ghost use Rattle.emtp_fix.specs.Rounding.{near};
@@ -24,7 +25,7 @@ pub(crate) fn next(
     history: i128,
     v: i128,
 ) -> Option<PseudoState>
-    requires dt { IsBetween 1000 (10 ^ 12) dt }
+    requires dt { IsTimeStep dt }
     requires segment { IsSound reactor segment.now }
     requires old { IsMoment old.now }
     requires history { history ≡ history_current_of reactor segment.now old.now }
@@ -114,7 +115,7 @@ fn current(reactor: bool, s: &Segment, old: &Moment, history: i128, v: i128) -> 
 }
 
 fn flux(reactor: bool, dt: i64, old: &Moment, v: i128) -> i128
-    requires dt { IsBetween 1000 (10 ^ 12) dt }
+    requires dt { IsTimeStep dt }
     requires old { IsMoment old.now }
     requires v { unsigned_abs v ≤ 2 ^ 64 }
     ensures { result ≡ flux_of reactor dt old.now v }
@@ -128,7 +129,7 @@ fn flux(reactor: bool, dt: i64, old: &Moment, v: i128) -> i128
 
 /// The flux of one step between two voltages, by the trapezoidal rule.
 fn trapezoid(dt: i64, old: i128, v: i128) -> i128
-    requires dt { IsBetween 1000 (10 ^ 12) dt }
+    requires dt { IsTimeStep dt }
     requires old { unsigned_abs old ≤ 2 ^ 64 }
     requires v { unsigned_abs v ≤ 2 ^ 64 }
     ensures value { result ≡ near (dt *ℤ (old +ℤ v)) DOUBLE_NANO }

@@ -1,4 +1,5 @@
 -- How large the numbers of a row may be while it is filled, and entries that are added one by one.
+use Rattle.emtp_case.specs.declared.limit.TheConstants.{MOST_NODES}
 use Rattle.std.proofs.Common.{◌≡◌, ◌∙◌, sym, ap, ℕ, ◌+◌, ◌^◌, ◌<◌, ◌≤◌, ◌==◌, ℤ, pos, neg_ℤ, ◌+ℤ◌, ◌-ℤ◌, unsigned_abs, Bool, true, false, if◌then◌else◌, List, [], All, length, length-take-le, take, slice_set, slice_index_or, get_or-set_same, get_or-set_other, inl, inr, arith}
 use Rattle.std.proofs.lemmas.Bool.{cases_eq, cases_lt, cases_Bool}
 use Rattle.std.proofs.lemmas.Int.{ints}
@@ -50,7 +51,7 @@ member_small own coupling kinds rows i j k small small' few = elim (cases_Bool (
   | inr off ↦ rw off (omega (arith, ints))
 ]
 
-pub group_small : (own coupling : List ℤ) (kinds : List RowKind) (rows : List (List Term)) (i j n nodes branches trios : ℕ) → All IsSmall own → All IsSmall coupling → AreRowTerms nodes branches trios rows → n ≤ length rows → length rows ≤ 1000
+pub group_small : (own coupling : List ℤ) (kinds : List RowKind) (rows : List (List Term)) (i j n nodes branches trios : ℕ) → All IsSmall own → All IsSmall coupling → AreRowTerms nodes branches trios rows → n ≤ length rows → length rows ≤ MOST_NODES
     → unsigned_abs (sum_below n (λ k. if is_member kinds i k then total (in_column own coupling j) (slice_index_or rows k []) else pos 0)) ≤ 10 ^ 25
 group_small own coupling kinds rows i j n nodes branches trios small small' terms within few =
     omega (arith, sum_below_small n (λ k. if is_member kinds i k then total (in_column own coupling j) (slice_index_or rows k []) else pos 0) (10 ^ 22) (λ k below. member_small own coupling kinds rows i j k small small' (terms k (omega (arith, below))).0))

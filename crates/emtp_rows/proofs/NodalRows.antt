@@ -1,4 +1,5 @@
 -- The nodal matrix, entry by entry, and as its rows are filled.
+use Rattle.emtp_case.specs.declared.limit.TheConstants.{MOST_BRANCHES, MOST_NODES}
 use Rattle.std.proofs.Common.{◌≡◌, ◌≢◌, ◌∙◌, sym, ap, subst, ℕ, slice_get, ◌^◌, ◌<◌, ◌≤◌, ◌==◌, ℤ, pos, unsigned_abs, Bool, true, false, if◌then◌else◌, nat_lt, List, [], All, length, slice_index_or, refl, inl, inr, arith}
 use Rattle.std.proofs.lemmas.Bool.{cases_lt, cases_Bool}
 use Rattle.std.proofs.lemmas.Bool.Decides.{nat_tests}
@@ -100,12 +101,12 @@ unit_small i j = elim (cases_Bool (i == j)) [
 ]
 
 -- what is held of a case is few and small
-pub row_terms : (case : Parts) (rows : List (List Term)) (own coupling : List ℤ) → length case.branches ≤ 5000 → length rows ≡ length case.nodes → length own ≡ length case.branches → length coupling ≡ length case.trios → HasAllTerms case rows → AreRowTerms (length rows) (length own) (length coupling) rows
+pub row_terms : (case : Parts) (rows : List (List Term)) (own coupling : List ℤ) → length case.branches ≤ MOST_BRANCHES → length rows ≡ length case.nodes → length own ≡ length case.branches → length coupling ≡ length case.trios → HasAllTerms case rows → AreRowTerms (length rows) (length own) (length coupling) rows
 row_terms case rows own coupling few size own_size coupling_size terms k below =
     let here = terms k below in
     (omega (arith, here.few), rw (size, own_size, coupling_size) here.exist)
 
-current_small : (case : Parts) (rows : List (List Term)) (own coupling : List ℤ) (k j : ℕ) → length case.branches ≤ 5000 → IsNetwork case → HasAllTerms case rows → All IsSmall own → All IsSmall coupling → k < length rows → j < length case.nodes
+current_small : (case : Parts) (rows : List (List Term)) (own coupling : List ℤ) (k j : ℕ) → length case.branches ≤ MOST_BRANCHES → IsNetwork case → HasAllTerms case rows → All IsSmall own → All IsSmall coupling → k < length rows → j < length case.nodes
     → unsigned_abs (current_entry case own coupling (node_at case k) (node_at case j)) ≤ 10 ^ 22
 current_small case rows own coupling k j few network terms small small' below within =
     let here = terms k below in
@@ -117,7 +118,7 @@ member_small : (b : Bool) (x : ℤ) (limit : ℕ) → unsigned_abs x ≤ limit �
 member_small true x limit small = small
 member_small false x limit small = omega (arith, ints)
 
-entry_small : (s : Nodal) (rows : List (List Term)) (i j : ℕ) (kind : RowKind) → length s.case.branches ≤ 5000 → length s.case.nodes ≤ 1000 → length rows ≡ length s.case.nodes → IsNetwork s.case → HasAllTerms s.case rows → All IsSmall s.own → All IsSmall s.coupling → i < length s.case.nodes → j < length s.case.nodes
+entry_small : (s : Nodal) (rows : List (List Term)) (i j : ℕ) (kind : RowKind) → length s.case.branches ≤ MOST_BRANCHES → length s.case.nodes ≤ MOST_NODES → length rows ≡ length s.case.nodes → IsNetwork s.case → HasAllTerms s.case rows → All IsSmall s.own → All IsSmall s.coupling → i < length s.case.nodes → j < length s.case.nodes
     → unsigned_abs (entry_by s i j kind) ≤ 10 ^ 26
 entry_small s rows i j Kcl few few_nodes size network terms small small' below within = omega (arith, current_small s.case rows s.own s.coupling i j few network terms small small' (omega arith) within)
 entry_small s rows i j Sum few few_nodes size network terms small small' below within =
@@ -158,7 +159,7 @@ tie_row s i r below there ne is = record {
   rest = λ j a b within. nodal_entry s i j below (omega (arith, within, length-nodal_matrix s)) ∙ ap (entry_by s i j) is ∙ omega (arith, ints, unit_other i j a, unit_other r j b);
 }
 
-pub nodal_lawful : (s : Nodal) (fixed touched : ℕ) (ends : List (ℕ × ℕ)) (rows : List (List Term)) → IsHeld s.case fixed touched ends rows s.own s.coupling s.kinds → IsNetwork s.case → length s.case.nodes ≤ 1000 → length s.case.branches ≤ 5000 → IsLawful (nodal_matrix s) (order_of s.case).fixed
+pub nodal_lawful : (s : Nodal) (fixed touched : ℕ) (ends : List (ℕ × ℕ)) (rows : List (List Term)) → IsHeld s.case fixed touched ends rows s.own s.coupling s.kinds → IsNetwork s.case → length s.case.nodes ≤ MOST_NODES → length s.case.branches ≤ MOST_BRANCHES → IsLawful (nodal_matrix s) (order_of s.case).fixed
 nodal_lawful s fixed touched ends rows held network few_nodes few = record {
   few = omega (arith, length-nodal_matrix s, few_nodes);
   square = λ i below. length-nodal_row s i (omega (arith, below, length-nodal_matrix s)) ∙ sym (length-nodal_matrix s);

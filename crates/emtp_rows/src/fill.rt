@@ -1,5 +1,6 @@
 //! Filling a row.
 
+ghost use Rattle.emtp_case.specs.declared.limit.TheConstants.{MOST_NODES};
 ghost use Rattle.std.specs.Prelude.{◌≡◌, ◌^◌, ◌<◌, ◌≤◌, ◌+ℤ◌, ℕ, All, [], pos, if◌then◌else◌, length, unsigned_abs, slice_index_or, slice_set};
 ghost use Rattle.emtp_elim.specs.Matrix.{item};
 ghost use Rattle.emtp_rows.specs.declared.term.Term.{Term};
@@ -23,7 +24,7 @@ pub(crate) fn fill_row(
     out: &mut [i128],
 )
     requires row { i < length rows.now }
-    requires few { length rows.now ≤ 1000 }
+    requires few { length rows.now ≤ MOST_NODES }
     requires kinds { length kinds.now ≡ length rows.now }
     requires ties { All (TieIsThere (length rows.now)) kinds.now }
     requires out { length out.old ≡ length rows.now }
@@ -53,7 +54,7 @@ fn add_group(
     i: usize,
     out: &mut [i128],
 )
-    requires few { length rows.now ≤ 1000 }
+    requires few { length rows.now ≤ MOST_NODES }
     requires kinds { length kinds.now ≡ length rows.now }
     requires out { length out.old ≡ length rows.now }
     requires zeros { (j : ℕ) → j < length out.old → item out.old j ≡ pos 0 }

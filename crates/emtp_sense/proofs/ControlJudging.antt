@@ -1,4 +1,5 @@
 -- What is known of the cards of the control that have no fault of sense.
+use Rattle.emtp_case.specs.declared.limit.TheConstants.{MOST_CONTROL_CARDS, MOST_HISTORY_VALUES}
 use Rattle.std.proofs.Common.{Bool, List, None, Option, Result, Some, [], arith, false, length, refl, subst, true, ℕ, ℤ, ◌+◌, ◌<◌, ◌∷◌, ◌≡◌, ◌≤◌, Ok, pos, unsigned_abs, ◌*ℤ◌, ◌*◌, ◌^◌, add-one, ap, drop, get_or, suc, sym, ◌∙◌}
 use Rattle.std.proofs.Math.Seq.{drop-cons}
 use Rattle.std.proofs.lemmas.Bool.Decides.{nat_tests}
@@ -58,21 +59,21 @@ pub record IsKnownBlock (variables : List (List ℕ)) (card : BlockCard) : Type 
   pub high : IsKnown variables card.high_name
 
 pub record IsFineBlock (variables : List (List ℕ)) (at : ℕ) (card : BlockCard) : Type 0 where
-  pub room : at < 200
+  pub room : at < MOST_CONTROL_CARDS
   pub above : 6 + at ≤ variable_number variables card.name
   pub names : IsKnownBlock variables card
 
 pub block_fine : (variables : List (List ℕ)) (at : ℕ) (card : BlockCard) → block_bad variables at card ≡ None → IsFineBlock variables at card
 unfolding block_sense
 block_fine variables at card e =
-    let none = least_none (too_many (nat_le 200 at) 1
+    let none = least_none (too_many (nat_le MOST_CONTROL_CARDS at) 1
     ∷ second_sense variables (6 + at) card.name
     ∷ inputs_sense variables 12 card.inputs
     ∷ unknown_name variables 69 card.low_name
     ∷ unknown_name variables 75 card.high_name
     ∷ []) (no_bad card.line _ e) in
     record {
-      room = below 200 at 1 none.0;
+      room = below MOST_CONTROL_CARDS at 1 none.0;
       above = above variables (6 + at) card.name none.1.0;
       names = record {
         inputs = known_inputs variables 12 card.inputs none.1.1.0;
@@ -82,11 +83,11 @@ block_fine variables at card e =
     }
 
 pub record AreFineBlocks (variables : List (List ℕ)) (at : ℕ) (es : List BlockEntry) : Type 0 where
-  pub few : at + length es ≤ 200
+  pub few : at + length es ≤ MOST_CONTROL_CARDS
   pub above : AreAbove (λ (e : BlockEntry). e.card.name) variables (6 + at) es
   pub names : All (λ (e : BlockEntry). IsKnownBlock variables e.card) es
 
-pub blocks_fine : (variables : List (List ℕ)) (at : ℕ) (es : List BlockEntry) → at ≤ 200 → blocks_bad variables at es ≡ None → AreFineBlocks variables at es
+pub blocks_fine : (variables : List (List ℕ)) (at : ℕ) (es : List BlockEntry) → at ≤ MOST_CONTROL_CARDS → blocks_bad variables at es ≡ None → AreFineBlocks variables at es
 blocks_fine variables at [] room e = record { few = omega arith; above = tt; names = All-nil (λ (e : BlockEntry). IsKnownBlock variables e.card) }
 blocks_fine variables at (x ∷ xs) room e =
     let none = nothing_before (block_bad variables at x.card) (blocks_bad variables (at + 1) xs) e in
@@ -102,26 +103,26 @@ blocks_fine variables at (x ∷ xs) room e =
 -- ---- sources
 
 pub record IsFineSource (nodes : List (List ℕ)) (switches : List SwitchCard) (variables : List (List ℕ)) (at next : ℕ) (card : SourceCard) : Type 0 where
-  pub room : at < 200
+  pub room : at < MOST_CONTROL_CARDS
   pub above : next ≤ variable_number variables card.name
   pub measures : is_measurable nodes switches card.name card.shape ≡ true
 
 pub source_fine : (nodes : List (List ℕ)) (switches : List SwitchCard) (variables : List (List ℕ)) (at next : ℕ) (card : SourceCard) → tacs_source_bad nodes switches variables at next card ≡ None → IsFineSource nodes switches variables at next card
 unfolding tacs_source_sense
 source_fine nodes switches variables at next card e =
-    let none = least_none (too_many (nat_le 200 at) 1 ∷ second_sense variables next card.name ∷ measured_sense nodes switches card ∷ []) (no_bad card.line _ e) in
+    let none = least_none (too_many (nat_le MOST_CONTROL_CARDS at) 1 ∷ second_sense variables next card.name ∷ measured_sense nodes switches card ∷ []) (no_bad card.line _ e) in
     record {
-      room = below 200 at 1 none.0;
+      room = below MOST_CONTROL_CARDS at 1 none.0;
       above = above variables next card.name none.1.0;
       measures = known (is_measurable nodes switches card.name card.shape) (record { column = 3; why = UnknownName }) none.1.1.0;
     }
 
 pub record AreFineSources (nodes : List (List ℕ)) (switches : List SwitchCard) (variables : List (List ℕ)) (first at : ℕ) (cards : List SourceCard) : Type 0 where
-  pub few : at + length cards ≤ 200
+  pub few : at + length cards ≤ MOST_CONTROL_CARDS
   pub above : AreAbove (λ (card : SourceCard). card.name) variables (first + at) cards
   pub measures : All (λ (card : SourceCard). is_measurable nodes switches card.name card.shape ≡ true) cards
 
-pub sources_fine : (nodes : List (List ℕ)) (switches : List SwitchCard) (variables : List (List ℕ)) (first at : ℕ) (cards : List SourceCard) → at ≤ 200 → tacs_sources_bad nodes switches variables first at cards ≡ None → AreFineSources nodes switches variables first at cards
+pub sources_fine : (nodes : List (List ℕ)) (switches : List SwitchCard) (variables : List (List ℕ)) (first at : ℕ) (cards : List SourceCard) → at ≤ MOST_CONTROL_CARDS → tacs_sources_bad nodes switches variables first at cards ≡ None → AreFineSources nodes switches variables first at cards
 sources_fine nodes switches variables first at [] room e = record { few = omega arith; above = tt; measures = All-nil (λ (card : SourceCard). is_measurable nodes switches card.name card.shape ≡ true) }
 sources_fine nodes switches variables first at (x ∷ xs) room e =
     let none = nothing_before (tacs_source_bad nodes switches variables at (first + at) x) (tacs_sources_bad nodes switches variables first (at + 1) xs) e in
@@ -146,25 +147,25 @@ IsKnownExtra variables (DeviceEntry card first count) = IsKnownDevice variables 
 IsKnownExtra variables (FormulaEntry card) = All (λ n. variable_number variables n < length variables) card.parsed.names
 
 pub record IsFineDevice (variables : List (List ℕ)) (at next history : ℕ) (card : DeviceCard) : Type 0 where
-  pub room : at < 200
+  pub room : at < MOST_CONTROL_CARDS
   pub above : next ≤ variable_number variables card.name
-  pub total : history ≤ 2000000
+  pub total : history ≤ MOST_HISTORY_VALUES
   pub names : IsKnownDevice variables card
 
 pub device_fine : (variables : List (List ℕ)) (at next history : ℕ) (card : DeviceCard) → device_bad variables at next history card ≡ None → IsFineDevice variables at next history card
 unfolding device_sense
 device_fine variables at next history card e =
-    let none = least_none (too_many (nat_le 200 at) 1
-    ∷ too_many (nat_lt 2000000 history) 1
+    let none = least_none (too_many (nat_le MOST_CONTROL_CARDS at) 1
+    ∷ too_many (nat_lt MOST_HISTORY_VALUES history) 1
     ∷ second_sense variables next card.name
     ∷ inputs_sense variables 12 card.inputs
     ∷ unknown_name variables 69 card.d
     ∷ unknown_name variables 75 card.e
     ∷ []) (no_bad card.line _ e) in
     record {
-      room = below 200 at 1 none.0;
+      room = below MOST_CONTROL_CARDS at 1 none.0;
       above = above variables next card.name none.1.1.0;
-      total = within 2000000 history 1 none.1.0;
+      total = within MOST_HISTORY_VALUES history 1 none.1.0;
       names = record {
         inputs = known_inputs variables 12 card.inputs none.1.1.1.0;
         d = known_name variables 69 card.d none.1.1.1.1.0;
@@ -173,9 +174,9 @@ device_fine variables at next history card e =
     }
 
 pub record IsFineExtra (variables : List (List ℕ)) (dt : ℤ) (at next history : ℕ) (e : ExtraEntry) : Type 0 where
-  pub room : at < 200
+  pub room : at < MOST_CONTROL_CARDS
   pub above : next ≤ variable_number variables (extra_name e)
-  pub total : history ≤ 2000000 → history + entry_history_values dt e ≤ 2000000
+  pub total : history ≤ MOST_HISTORY_VALUES → history + entry_history_values dt e ≤ MOST_HISTORY_VALUES
   pub names : IsKnownExtra variables e
 
 pub extra_fine : (variables : List (List ℕ)) (dt : ℤ) (at next history : ℕ) (e : ExtraEntry) → extra_bad variables at next (history + entry_history_values dt e) e ≡ None → IsFineExtra variables dt at next history e
@@ -184,9 +185,9 @@ extra_fine variables dt at next history (DeviceEntry card first count) e =
     let fine = device_fine variables at next (history + card_history_values dt card) card e in
     record { room = fine.room; above = fine.above; total = λ h. fine.total; names = fine.names }
 extra_fine variables dt at next history (FormulaEntry card) e =
-    let none = least_none (too_many (nat_le 200 at) 1 ∷ second_sense variables next card.name ∷ names_sense variables card.parsed.names ∷ []) (no_bad card.line _ e) in
+    let none = least_none (too_many (nat_le MOST_CONTROL_CARDS at) 1 ∷ second_sense variables next card.name ∷ names_sense variables card.parsed.names ∷ []) (no_bad card.line _ e) in
     record {
-      room = below 200 at 1 none.0;
+      room = below MOST_CONTROL_CARDS at 1 none.0;
       above = above variables next card.name none.1.0;
       total = λ h. omega arith;
       names = known_names variables card.parsed.names (not_second (list_any (is_unknown variables) card.parsed.names) (record { column = 12; why = UnknownName }) none.1.1.0);
@@ -197,13 +198,13 @@ judged (Some bad) rest h e = absurd (cc)
 judged None rest h e = (refl, e)
 
 pub record AreFineExtras (variables : List (List ℕ)) (dt : ℤ) (first at history : ℕ) (es : List ExtraEntry) (all : ℕ) : Type 0 where
-  pub few : at + length es ≤ 200
+  pub few : at + length es ≤ MOST_CONTROL_CARDS
   pub above : AreAbove extra_name variables (first + at) es
   pub names : All (IsKnownExtra variables) es
   pub sum : all ≡ history + sum_by (entry_history_values dt) es
-  pub total : history ≤ 2000000 → all ≤ 2000000
+  pub total : history ≤ MOST_HISTORY_VALUES → all ≤ MOST_HISTORY_VALUES
 
-pub extras_fine : (variables : List (List ℕ)) (dt : ℤ) (first at history : ℕ) (es : List ExtraEntry) (all : ℕ) → at ≤ 200 → judge_extras variables dt first at history es ≡ Ok all → AreFineExtras variables dt first at history es all
+pub extras_fine : (variables : List (List ℕ)) (dt : ℤ) (first at history : ℕ) (es : List ExtraEntry) (all : ℕ) → at ≤ MOST_CONTROL_CARDS → judge_extras variables dt first at history es ≡ Ok all → AreFineExtras variables dt first at history es all
 extras_fine variables dt first at history [] all room e =
     let same : history ≡ all = cc in
     record { few = omega arith; above = tt; names = All-nil (IsKnownExtra variables); sum = omega (arith, same); total = λ h. omega (arith, same, h) }

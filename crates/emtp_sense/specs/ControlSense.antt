@@ -1,5 +1,6 @@
 -- The faults of sense of the cards of the control, given the names of all nodes and variables. Of a card the least fault
 -- counts, and the first card that has one decides.
+use Rattle.emtp_case.specs.declared.limit.TheConstants.{MOST_CONTROL_CARDS, MOST_HISTORY_VALUES}
 use Rattle.std.specs.List.{list_any}
 use Rattle.std.specs.Prelude.{Bool, Err, List, None, Ok, Option, Result, Some, [], false, if◌then◌else◌, is_some, length, nat_le, nat_lt, not, option_map, position, true, ℕ, ℤ, ◌+◌, ◌||◌, ◌∷◌}
 use Rattle.std.specs.Str.{bytes_eq}
@@ -51,7 +52,7 @@ inputs_sense variables column (input ∷ inputs) =
 -- the block after so many
 unfoldable pub block_sense : List (List ℕ) → ℕ → BlockCard → Option Fault
 block_sense variables at card =
-    least (too_many (nat_le 200 at) 1
+    least (too_many (nat_le MOST_CONTROL_CARDS at) 1
     ∷ second_sense variables (6 + at) card.name
     ∷ inputs_sense variables 12 card.inputs
     ∷ unknown_name variables 69 card.low_name
@@ -92,7 +93,7 @@ measured_sense nodes switches card =
 -- the source after so many, the next variable having this number
 unfoldable pub tacs_source_sense : List (List ℕ) → List SwitchCard → List (List ℕ) → ℕ → ℕ → SourceCard → Option Fault
 tacs_source_sense nodes switches variables at next card =
-    least (too_many (nat_le 200 at) 1
+    least (too_many (nat_le MOST_CONTROL_CARDS at) 1
     ∷ second_sense variables next card.name
     ∷ measured_sense nodes switches card
     ∷ [])
@@ -118,8 +119,8 @@ names_sense variables names = if list_any (is_unknown variables) names then Some
 -- the device after so many cards, which needs so many history values with those before it
 unfoldable pub device_sense : List (List ℕ) → ℕ → ℕ → ℕ → DeviceCard → Option Fault
 device_sense variables at next history card =
-    least (too_many (nat_le 200 at) 1
-    ∷ too_many (nat_lt 2000000 history) 1
+    least (too_many (nat_le MOST_CONTROL_CARDS at) 1
+    ∷ too_many (nat_lt MOST_HISTORY_VALUES history) 1
     ∷ second_sense variables next card.name
     ∷ inputs_sense variables 12 card.inputs
     ∷ unknown_name variables 69 card.d
@@ -128,7 +129,7 @@ device_sense variables at next history card =
 
 unfoldable pub formula_sense : List (List ℕ) → ℕ → ℕ → FormulaCard → Option Fault
 formula_sense variables at next card =
-    least (too_many (nat_le 200 at) 1
+    least (too_many (nat_le MOST_CONTROL_CARDS at) 1
     ∷ second_sense variables next card.name
     ∷ names_sense variables card.parsed.names
     ∷ [])

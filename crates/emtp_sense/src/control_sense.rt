@@ -1,8 +1,9 @@
 //! The faults of sense of the cards of the control.
 
+ghost use Rattle.emtp_case.specs.declared.limit.TheConstants.{MOST_CONTROL_CARDS, MOST_HISTORY_VALUES, MOST_NODES};
+ghost use Rattle.emtp_case.specs.held.RunData.{IsTimeStep};
 ghost use Rattle.std.specs.Prelude.{◌≡◌, ◌+◌, ◌*◌, ◌^◌, ◌<◌, ◌≤◌, All, length, IfOk};
 ghost use Rattle.emtp_case.specs.held.Control.{HasRangeOfA};
-ghost use Rattle.emtp_case.specs.held.Range.{IsBetween};
 ghost use Rattle.emtp_case.specs.held.RunData.{IsRun};
 ghost use Rattle.emtp_sense.specs.ControlSense.{block_bad, block_sense, blocks_bad, card_history_values, control_bad, device_bad, device_sense, ends_at, entry_history_values, extra_bad, find_switch, first_extra, first_source, formula_bad, formula_sense, inputs_sense, is_end, is_measurable, is_unknown, judge_extras, measured_sense, names_sense, pending_control_bad, pending_device, second_sense, tacs_source_bad, tacs_source_sense, tacs_sources_bad};
 ghost use Rattle.emtp_walk.specs.held.Sound.{IsDeviceDue, IsExtraEntry, IsSound};
@@ -11,17 +12,11 @@ use crate::limits::too_many;
 use crate::names::find_node;
 use crate::variables::{KnownNames, unknown_name};
 use emtp_card::{Bad, Fault, Why, least};
-use emtp_case::{Name, Point, Shape};
+use emtp_case::{MOST_CONTROL_CARDS, MOST_HISTORY_VALUES, Name, Point, Shape};
 use emtp_netcards::{SourceCard, SwitchCard};
 use emtp_taccards::{BlockCard, DeviceCard, FormulaCard};
 use emtp_walk::{BlockEntry, ControlPlace, Deck, ExtraEntry, Place};
 use indexmap::IndexSet;
-
-/// The blocks, the sources or the supplemental cards that a case may have.
-const MOST_CARDS: usize = 200;
-
-/// The history values that a case may have.
-const MOST_HISTORY: u64 = 2_000_000;
 
 /// The variables of every case.
 const STANDING: usize = 6;
@@ -67,7 +62,7 @@ fn block_sense(variables: &IndexSet<Name>, at: usize, card: &BlockCard) -> Optio
     ensures { result ≡ block_sense variables.now.keys at card.now }
 {
     least(&[
-        too_many(MOST_CARDS <= at, 1),
+        too_many(MOST_CONTROL_CARDS <= at, 1),
         second_sense(variables, STANDING + at, &card.name),
         inputs_sense(variables, &card.inputs),
         unknown_name(variables, 69, &card.low_name),
@@ -169,7 +164,7 @@ fn tacs_source_sense(
     ensures { result ≡ tacs_source_sense names.now.nodes.keys switches.now names.now.variables.keys at next card.now }
 {
     least(&[
-        too_many(MOST_CARDS <= at, 1),
+        too_many(MOST_CONTROL_CARDS <= at, 1),
         second_sense(&names.variables, next, &card.name),
         measured_sense(&names.nodes, switches, card),
     ])
@@ -196,7 +191,7 @@ fn tacs_sources_bad(
     first: usize,
     cards: &[SourceCard],
 ) -> Option<Bad>
-    requires first { first ≤ 1000 }
+    requires first { first ≤ MOST_NODES }
     ensures { result ≡ tacs_sources_bad names.now.nodes.keys switches.now names.now.variables.keys first 0 cards.now }
 {
     let mut at = 0;
@@ -244,8 +239,8 @@ fn device_sense(
     ensures { result ≡ device_sense variables.now.keys at next history card.now }
 {
     least(&[
-        too_many(MOST_CARDS <= at, 1),
-        too_many(MOST_HISTORY < history, 1),
+        too_many(MOST_CONTROL_CARDS <= at, 1),
+        too_many(MOST_HISTORY_VALUES < history, 1),
         second_sense(variables, next, &card.name),
         inputs_sense(variables, &card.inputs),
         unknown_name(variables, 69, &card.d),
@@ -278,7 +273,7 @@ fn formula_sense(
     ensures { result ≡ formula_sense variables.now.keys at next card.now }
 {
     least(&[
-        too_many(MOST_CARDS <= at, 1),
+        too_many(MOST_CONTROL_CARDS <= at, 1),
         second_sense(variables, next, &card.name),
         names_sense(variables, card.parsed.names.as_slice()),
     ])
@@ -315,7 +310,7 @@ fn extra_bad(
 
 /// How many past values the device of a card needs.
 fn card_history_values(dt: i64, card: &DeviceCard) -> u64
-    requires dt { IsBetween 1000 (10 ^ 12) dt }
+    requires dt { IsTimeStep dt }
     requires a { HasRangeOfA card.now.code card.now.a }
     ensures value { result ≡ card_history_values dt card.now }
     ensures few { result ≤ 2 * 10 ^ 18 }
@@ -325,7 +320,7 @@ fn card_history_values(dt: i64, card: &DeviceCard) -> u64
 
 /// How many past values the device of a supplemental card needs; a formula needs none.
 pub fn entry_history_values(dt: i64, points: &[Point], entry: &ExtraEntry) -> u64
-    requires dt { IsBetween 1000 (10 ^ 12) dt }
+    requires dt { IsTimeStep dt }
     requires entry { IsExtraEntry points.now entry.now }
     ensures value { result ≡ entry_history_values dt entry.now }
     ensures few { result ≤ 2 * 10 ^ 18 }
@@ -344,11 +339,11 @@ fn judge_extras(
     points: &[Point],
     entries: &[ExtraEntry],
 ) -> Result<u64, Bad>
-    requires dt { IsBetween 1000 (10 ^ 12) dt }
-    requires first { first ≤ 1000 }
+    requires dt { IsTimeStep dt }
+    requires first { first ≤ MOST_NODES }
     requires entries { All (IsExtraEntry points.now) entries.now }
     ensures value { result ≡ judge_extras variables.now.keys dt first 0 0 entries.now }
-    ensures few { IfOk result (λ history. history ≤ 2000000) }
+    ensures few { IfOk result (λ history. history ≤ MOST_HISTORY_VALUES) }
 {
     let mut at = 0;
     let mut history = 0;
@@ -373,11 +368,11 @@ fn pending_control_bad(
     history: u64,
 ) -> Option<Bad>
     requires sound { IsSound deck.now place.now }
-    requires blocks { length deck.now.control.blocks ≤ 200 }
-    requires extras { length deck.now.control.extras ≤ 200 }
+    requires blocks { length deck.now.control.blocks ≤ MOST_CONTROL_CARDS }
+    requires extras { length deck.now.control.extras ≤ MOST_CONTROL_CARDS }
     requires first { first ≡ first_extra deck.now.control }
-    requires few { first ≤ 1000 }
-    requires history { history ≤ 2000000 }
+    requires few { first ≤ MOST_NODES }
+    requires history { history ≤ MOST_HISTORY_VALUES }
     ensures { result ≡ pending_control_bad variables.now.keys deck.now place.now history }
 {
     let cards = &deck.control;
@@ -404,10 +399,10 @@ fn pending_device(
 ) -> Option<Bad>
     requires run { IsRun deck.now.run }
     requires card { IsDeviceDue card.now }
-    requires extras { length deck.now.control.extras ≤ 200 }
+    requires extras { length deck.now.control.extras ≤ MOST_CONTROL_CARDS }
     requires first { first ≡ first_extra deck.now.control }
-    requires few { first ≤ 1000 }
-    requires history { history ≤ 2000000 }
+    requires few { first ≤ MOST_NODES }
+    requires history { history ≤ MOST_HISTORY_VALUES }
     ensures { result ≡ pending_device variables.now.keys deck.now.run.dt deck.now.control history card.now }
 {
     let at = deck.control.extras.len();

@@ -1,5 +1,6 @@
 //! The names of all nodes and of the control's variables, and the numbers of the variables.
 
+ghost use Rattle.emtp_case.specs.declared.limit.TheConstants.{MOST_VARIABLES};
 ghost use Rattle.std.specs.Prelude.{◌≡◌, ◌≤◌, [], fold, length, option_map, IfErr, IfOk, OnOk};
 ghost use Rattle.emtp_case.specs.Case.{standing_names};
 ghost use Rattle.emtp_walk.specs.held.Answer.{IsWant};
@@ -155,7 +156,7 @@ fn add_defined_variables(names: &mut IndexSet<Name>, cards: &ControlCards) -> Re
 
 /// The number of the variable with a name, from 0.
 pub fn find_variable(variables: &IndexSet<Name>, name: &Name) -> Option<u32>
-    requires { length variables.now.keys ≤ 606 }
+    requires { length variables.now.keys ≤ MOST_VARIABLES }
     ensures { result ≡ find_variable variables.now.keys name.now }
 {
     match variables.get_index_of(name) {
@@ -166,7 +167,7 @@ pub fn find_variable(variables: &IndexSet<Name>, name: &Name) -> Option<u32>
 
 /// The number of the variable with a name, or how many there are where no variable has it.
 pub fn variable_number(variables: &IndexSet<Name>, name: &Name) -> u32
-    requires { length variables.now.keys ≤ 606 }
+    requires { length variables.now.keys ≤ MOST_VARIABLES }
     ensures { result ≡ variable_number variables.now.keys name.now }
 {
     find_variable(variables, name).unwrap_or(variables.len() as u32)
@@ -174,7 +175,7 @@ pub fn variable_number(variables: &IndexSet<Name>, name: &Name) -> u32
 
 /// The number of a variable that may be named.
 pub fn number_of(variables: &IndexSet<Name>, name: &Option<Name>) -> Option<u32>
-    requires { length variables.now.keys ≤ 606 }
+    requires { length variables.now.keys ≤ MOST_VARIABLES }
     ensures { result ≡ option_map (variable_number variables.now.keys) name.now }
 {
     match name {

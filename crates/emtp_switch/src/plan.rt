@@ -1,5 +1,6 @@
 //! What is the same in all steps.
 
+ghost use Rattle.emtp_case.specs.declared.limit.TheConstants.{MOST_NODES};
 ghost use Rattle.std.specs.Prelude.{◌≡◌, ◌≤◌, ◌+◌, length, map, min, IfOk};
 ghost use Rattle.std.specs.List.{range_with_len};
 ghost use Rattle.emtp_case.specs.held.RowOrder.{IsRowOrder};
@@ -69,7 +70,7 @@ fn source_rows(order: &RowOrder, rows: usize) -> usize
 /// Marks ground and the nodes with a voltage source.
 fn know(alloc: Global, order: &RowOrder, rows: usize) -> Result<Vec<bool>, AllocError>
     requires rows { rows ≡ length order.now.nodes }
-    requires few { rows ≤ 1000 }
+    requires few { rows ≤ MOST_NODES }
     ensures size { IfOk result (λ known. length known.items ≡ rows + 1) }
     ensures marks { IfOk result (λ known. MarksKnown (known_nodes order.now) (alone rows) known.items) }
 {
@@ -83,7 +84,7 @@ fn know(alloc: Global, order: &RowOrder, rows: usize) -> Result<Vec<bool>, Alloc
 
 /// What ends at each node, ground first.
 fn find_ends(alloc: Global, parts: &Parts, rows: usize) -> Result<Vec<Ends>, AllocError>
-    requires few { rows ≤ 1000 }
+    requires few { rows ≤ MOST_NODES }
     ensures { IfOk result (λ ends. ends.items ≡ map (ends_of parts.now) (range_with_len 0 (rows + 1))) }
 {
     let mut ends = Vec::new(alloc);

@@ -1,5 +1,6 @@
 //! The blocks as one system over a kept factor.
 
+ghost use Rattle.emtp_case.specs.declared.limit.TheConstants.{MOST_CONTROL_CARDS};
 ghost use Rattle.std.specs.Prelude.{◌≡◌, ◌≤◌, ◌<◌, ◌+◌, ◌-◌, ◌*◌, ◌==◌, ◌∷◌, [], ℤ, if◌then◌else◌, List, length, IfErr, IfOk, OnOk};
 ghost use Rattle.emtp_case.specs.held.Control.{AreKnown};
 ghost use Rattle.emtp_blocks.specs.held.BlockRows.{AreUnknowns, HaveAccepted, StandsFor as BlocksStandFor, rows_of_blocks};
@@ -62,12 +63,12 @@ impl<'a> BlockSystem<'a> {
     /// redone are counted, but for the first step's. The matrix depends on the records alone, so this may come first.
     pub(crate) fn first_changed(&mut self, case: &Case, made: u32) -> usize
         requires holds { HoldsSystem case.now.parts self.old }
-        requires few { self.old.redone ≤ 200 * made }
+        requires few { self.old.redone ≤ MOST_CONTROL_CARDS * made }
         requires made { made < case.now.parts.run.steps }
         ensures holds { HoldsSystem case.now.parts self.new }
         ensures first { result ≡ first_change self.old.kept.rows (rows_of_blocks self.old.blocks) }
         ensures redone { self.new.redone ≡ self.old.redone + (if made == 0 then 0 else length case.now.parts.blocks - result) }
-        ensures few { self.new.redone ≤ self.old.redone + 200 }
+        ensures few { self.new.redone ≤ self.old.redone + MOST_CONTROL_CARDS }
         ensures blocks { self.new.blocks ≡ self.old.blocks }
         ensures kept { self.new.kept ≡ self.old.kept }
     {

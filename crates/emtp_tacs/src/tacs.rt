@@ -1,5 +1,6 @@
 //! The control of a case.
 
+ghost use Rattle.emtp_case.specs.declared.limit.TheConstants.{MOST_CONTROL_CARDS};
 ghost use Rattle.std.specs.Prelude.{◌≡◌, ◌+◌, ◌-◌, ◌*◌, ◌<◌, ◌≤◌, ◌∷◌, [], All, List, length, unsigned_abs, IfErr, IfOk, OnOk};
 ghost use Rattle.emtp_blocks.specs.held.BlockRows.{StandsFor as BlocksStandFor, rows_of_blocks};
 ghost use Rattle.emtp_case.specs.StepRecord.{StepRecord, rest_of};
@@ -85,8 +86,8 @@ impl<'a> Tacs<'a> {
         ensures step { (H : List StepRecord) → StandsFor self.old H → StepsTo result self.new H (control_step self.old.case H (record { voltages = voltages.now; currents = currents.now; closed = closed.now })) }
         ensures ticks { (H : List StepRecord) → StandsFor self.old H → OnOk result (steps.new ≡ steps.old + control_step_ticks self.old.case H) }
         ensures most { (H : List StepRecord) → StandsFor self.old H → steps.new ≤ steps.old + control_step_ticks self.old.case H }
-        ensures few { self.new.redone ≤ self.old.redone + 200 }
-        ensures few_ticks { steps.new ≤ steps.old + 200 }
+        ensures few { self.new.redone ≤ self.old.redone + MOST_CONTROL_CARDS }
+        ensures few_ticks { steps.new ≤ steps.old + MOST_CONTROL_CARDS }
         ensures var { IfErr result (NamesVariable self.old.case) }
     {
         let made = self.made;
@@ -117,7 +118,7 @@ impl<'a> Tacs<'a> {
     /// How many rows of the blocks' matrix the steps redid, but for the first step.
     pub fn redone(&self) -> u64
         ensures value { result ≡ self.now.redone }
-        ensures few { result ≤ 200 * self.now.made }
+        ensures few { result ≤ MOST_CONTROL_CARDS * self.now.made }
         ensures made { self.now.made ≤ self.now.case.run.steps }
     {
         self.system.redone

@@ -1,4 +1,5 @@
 -- The points of a table and the times of a window.
+use Rattle.emtp_case.specs.declared.limit.TheConstants.{MOST_POINTS}
 use Rattle.std.proofs.Common.{◌≡◌, ◌≢◌, ◌∙◌, sym, ap, subst, refl, ℕ, zero, suc, ◌+◌, ◌≤◌, ◌<◌, ℤ, ◌≤ℤ◌, ◌<ℤ◌, true, false, List, [], ◌∷◌, ◌++◌, length, drop, get_or, Option, Some, None, All, inl, inr, add-one, arith, length-append, length-drop}
 use Rattle.std.proofs.lemmas.Bool.{cases_lt}
 use Rattle.std.proofs.lemmas.Int.{ints}
@@ -52,7 +53,7 @@ turn_more scale dt ps p here all k l = elim (cases_lt k (length ps)) [
       (subst (λ (q : Point). Follows scale dt (before_at ps (length ps)) q) (sym (at_end ps p origin)) here))
 ]
 
-pub device_group : (deck : Deck) (group : DeviceGroup) (point : Point) → IsDeviceGroup deck group → group.count < 64 → IsPointOf (device_scale group.card.code) point → Follows (device_scale group.card.code) deck.run.dt group.before point
+pub device_group : (deck : Deck) (group : DeviceGroup) (point : Point) → IsDeviceGroup deck group → group.count < MOST_POINTS → IsPointOf (device_scale group.card.code) point → Follows (device_scale group.card.code) deck.run.dt group.before point
     → IsDeviceGroup (record deck { points = deck.points ++ point ∷ [] }) (record group { count = group.count + 1; before = Some point })
 device_group deck group point of room range follows =
     let scale = device_scale group.card.code in
@@ -85,7 +86,7 @@ turn_at scale dt ps k all l =
     let step = all (k + 1) l in
     subst (λ (b : Option Point). Follows scale dt b (get_or ps (k + 1) origin)) (ap (before_at ps) (add-one k) ∙ slice_get-get_or ps k origin (omega (arith, l))) step
 
-table_of : (dt : ℤ) (ps : List Point) → 2 ≤ length ps → length ps ≤ 64 → All (IsPointOf TableScale) ps → AreInTurn TableScale dt ps → IsTable ps
+table_of : (dt : ℤ) (ps : List Point) → 2 ≤ length ps → length ps ≤ MOST_POINTS → All (IsPointOf TableScale) ps → AreInTurn TableScale dt ps → IsTable ps
 table_of dt ps some few range turn = record {
   some = some;
   few = few;
@@ -97,7 +98,7 @@ table_of dt ps some few range turn = record {
 times_first : (dt : ℤ) (before : Option Point) (p : Point) → Follows TimesScale dt before p → p.current <ℤ p.other
 times_first dt before p h = lt_is p.current p.other h.1
 
-times_of : (dt : ℤ) (ps : List Point) → 1 ≤ length ps → length ps ≤ 64 → All (IsPointOf TimesScale) ps → AreInTurn TimesScale dt ps → AreTimes ps
+times_of : (dt : ℤ) (ps : List Point) → 1 ≤ length ps → length ps ≤ MOST_POINTS → All (IsPointOf TimesScale) ps → AreInTurn TimesScale dt ps → AreTimes ps
 times_of dt ps some few range turn = record {
   some = some;
   few = few;
@@ -128,7 +129,7 @@ no_device PeakHold h t w = absurd (cc)
 no_device Counter h t w = absurd (cc)
 no_device EffectiveValue h t w = absurd (cc)
 
-fit_of : (dt : ℤ) (code : DeviceCode) (ps : List Point) → points_follow code ≡ true → fewest_of (device_scale code) ≤ length ps → length ps ≤ 64 → All (IsPointOf (device_scale code)) ps → AreInTurn (device_scale code) dt ps → HasDevicePoints code ps
+fit_of : (dt : ℤ) (code : DeviceCode) (ps : List Point) → points_follow code ≡ true → fewest_of (device_scale code) ≤ length ps → length ps ≤ MOST_POINTS → All (IsPointOf (device_scale code)) ps → AreInTurn (device_scale code) dt ps → HasDevicePoints code ps
 fit_of dt code ps follow some few range turn = record {
   table = λ is. table_by is;
   times = λ is. times_by is;

@@ -1,4 +1,5 @@
 -- What the deck keeps when a card is added.
+use Rattle.emtp_case.specs.declared.limit.TheConstants.{MOST_POINTS}
 use Rattle.std.proofs.Common.{◌≡◌, ◌∙◌, sym, ap, subst, ℕ, zero, suc, ◌+◌, ◌≤◌, ◌<◌, ℤ, Bool, true, List, [], ◌∷◌, ◌++◌, length, take, drop, get_or, Option, Some, refl, inl, inr, arith, add-one, length-append, length-drop}
 use Rattle.std.specs.Prelude.{All}
 use Rattle.std.proofs.lemmas.Bool.{cases_lt}
@@ -109,7 +110,7 @@ point_whole deck point whole = record {
   sources = whole.sources;
 }
 
-pub point_group : (deck : Deck) (group : Group) (point : Point) → IsGroupOf deck group → group.count < 64 → IsPointOf (scale_of group) point → Follows (scale_of group) deck.run.dt group.before point
+pub point_group : (deck : Deck) (group : Group) (point : Point) → IsGroupOf deck group → group.count < MOST_POINTS → IsPointOf (scale_of group) point → Follows (scale_of group) deck.run.dt group.before point
     → IsGroupOf (record deck { points = deck.points ++ point ∷ [] }) (record group { count = group.count + 1; before = Some point })
 point_group deck group point of room range follows =
     let ps = drop group.first deck.points in

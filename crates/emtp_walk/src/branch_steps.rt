@@ -1,5 +1,6 @@
 //! Lines of the branch section.
 
+ghost use Rattle.emtp_case.specs.declared.limit.TheConstants.{MOST_POINTS};
 ghost use Rattle.std.specs.Prelude.{◌≡◌, ◌<◌, ◌+◌, ◌≤◌, length, Ok, Err, IfOk, IfErr, false};
 ghost use Rattle.emtp_walk.specs.held.Answer.{IsWant, Leaves};
 ghost use Rattle.emtp_walk.specs.held.Sound.{IsGroupOf, IsSound, IsTrioEntry, IsWaiting, IsWhole, has_points};
@@ -244,7 +245,7 @@ fn scale_of(group: &Group) -> PointScale
 fn take_point(deck: &mut Deck, group: &Group, point: Point) -> Result<Place, Refused>
     requires whole { IsWhole deck.old }
     requires group { IsGroupOf deck.old group.now }
-    requires room { group.now.count < 64 }
+    requires room { group.now.count < MOST_POINTS }
     requires range { IsPointOf (scale_of group.now) point }
     requires follows { Follows (scale_of group.now) deck.old.run.dt group.now.before point }
     ensures ok { IfOk result (λ next. take_point deck.old group.now point ≡ (deck.new, next)) }

@@ -1,9 +1,9 @@
 //! The coefficients of a block: the cards of its numerator and its denominator, and what their sum divides.
 
+ghost use Rattle.emtp_case.specs.held.RunData.{IsTimeStep};
 ghost use Rattle.std.specs.Prelude.{◌≡◌, ℕ, ◌≢◌, ◌*◌, ◌^◌, ◌≤◌, length, pos, unsigned_abs, IfOk, IfNone};
 ghost use Rattle.emtp_case.specs.Control.{bilinear, quotient_of};
 ghost use Rattle.emtp_case.specs.Sums.{sum_upto};
-ghost use Rattle.emtp_case.specs.held.Range.{IsBetween};
 ghost use Rattle.emtp_walk.specs.Coefficients.{coefficient_card, coefficients_fault, divided_bad, divided_by, gain_bad, is_large, quotients_bad, range_bad, stays, taken_field};
 ghost use Rattle.emtp_walk.specs.held.Coefficients.{IsBlockDue, IsBlockEntry, IsPolynomial};
 ghost use Rattle.emtp_netcards.specs.held.Fields.{IsSmall};
@@ -26,7 +26,7 @@ const LARGEST_ON_WAY: u128 = 80_000_000_000_000_000_000_000_000;
 pub(crate) fn coefficient_card(line: &Line<'_>, order: u8, dt: i64) -> Result<[i64; 8], Bad>
     requires short { length line.now.bytes.now ≤ MAX_BYTES }
     requires order { order ≤ 7 }
-    requires dt { IsBetween 1000 (10 ^ 12) dt }
+    requires dt { IsTimeStep dt }
     ensures value { result ≡ coefficient_card line.now.number line.now.bytes.now order dt }
     ensures polynomial { IfOk result (IsPolynomial dt order) }
 {
@@ -39,7 +39,7 @@ pub(crate) fn coefficient_card(line: &Line<'_>, order: u8, dt: i64) -> Result<[i
 /// The least fault of the coefficients, also of those that the bilinear rule takes out of range.
 #[tactic(auto, unfolding(crate::specs::Coefficients::coefficients_fault))]
 fn coefficients_fault(line: &[u8], order: u8, dt: i64) -> Option<Fault>
-    requires dt { IsBetween 1000 (10 ^ 12) dt }
+    requires dt { IsTimeStep dt }
     ensures { result ≡ coefficients_fault line.now order dt }
 {
     least(&[
@@ -56,7 +56,7 @@ fn coefficients_fault(line: &[u8], order: u8, dt: i64) -> Option<Fault>
 
 /// The coefficient of a power, which the bilinear rule takes as often as the power says.
 fn taken(line: &[u8], order: u8, dt: i64, power: u8) -> Result<i64, Why>
-    requires dt { IsBetween 1000 (10 ^ 12) dt }
+    requires dt { IsTimeStep dt }
     requires power { power ≤ 7 }
     ensures { result ≡ taken_field line.now order dt power }
 {
@@ -82,7 +82,7 @@ fn coefficient(line: &[u8], order: u8, power: u8) -> Result<i64, Why>
 
 /// Whether a coefficient stays in range while it is taken so many times through the bilinear rule.
 fn stays(dt: i64, x: i64, times: u8) -> bool
-    requires dt { IsBetween 1000 (10 ^ 12) dt }
+    requires dt { IsTimeStep dt }
     requires x { IsSmall x }
     ensures { result ≡ stays dt x times }
 {
@@ -121,7 +121,7 @@ fn is_large(x: i128) -> bool
 
 /// What refuses the first of a card's quotients that is too large.
 fn quotients_bad(line: u32, dt: i64, card: &[i64; 8], order: u8, divisor: i128) -> Option<Bad>
-    requires dt { IsBetween 1000 (10 ^ 12) dt }
+    requires dt { IsTimeStep dt }
     requires order { order ≤ 7 }
     requires card { IsPolynomial dt order card.now }
     requires some { divisor ≢ pos 0 }
@@ -140,7 +140,7 @@ fn quotients_bad(line: u32, dt: i64, card: &[i64; 8], order: u8, divisor: i128) 
 
 /// c: the sum of a numerator's quotients, in 10^-12.
 fn numerator_sum(dt: i64, top: &[i64; 8], order: u8, divisor: i128) -> i64
-    requires dt { IsBetween 1000 (10 ^ 12) dt }
+    requires dt { IsTimeStep dt }
     requires order { order ≤ 7 }
     requires top { IsPolynomial dt order top.now }
     requires some { divisor ≢ pos 0 }
@@ -168,7 +168,7 @@ fn gain_bad(line: u32, gain: i64, sum: i64) -> Option<Bad>
 
 /// What refuses the coefficients of a block whose sum isn't 0.
 fn divided_by(dt: i64, entry: &BlockEntry, top: u32, bottom: u32, divisor: i128) -> Option<Bad>
-    requires dt { IsBetween 1000 (10 ^ 12) dt }
+    requires dt { IsTimeStep dt }
     requires block { IsBlockDue entry.now.card }
     requires numerator { IsPolynomial dt entry.now.card.order entry.now.top }
     requires denominator { IsPolynomial dt entry.now.card.order entry.now.bottom }
@@ -192,7 +192,7 @@ fn divided_by(dt: i64, entry: &BlockEntry, top: u32, bottom: u32, divisor: i128)
 /// gain within a step, in this order; each has the line and the column of its field.
 #[tactic(auto, unfolding(crate::specs::Coefficients::divided_bad))]
 pub(crate) fn divided_bad(dt: i64, entry: &BlockEntry, top: u32, bottom: u32) -> Option<Bad>
-    requires dt { IsBetween 1000 (10 ^ 12) dt }
+    requires dt { IsTimeStep dt }
     requires block { IsBlockDue entry.now.card }
     requires numerator { IsPolynomial dt entry.now.card.order entry.now.top }
     requires denominator { IsPolynomial dt entry.now.card.order entry.now.bottom }

@@ -1,5 +1,6 @@
 //! Lines of the section of supplemental cards, and the points and times that follow them.
 
+ghost use Rattle.emtp_case.specs.declared.limit.TheConstants.{MOST_POINTS};
 ghost use Rattle.std.specs.Prelude.{◌≡◌, ◌<◌, ◌≤◌, length, Ok, Err, IfOk, IfErr};
 ghost use Rattle.emtp_walk.specs.held.Answer.{IsWant, Leaves};
 ghost use Rattle.emtp_walk.specs.ControlSteps.{device_point_step, device_scale, end_device, extra_step, keep_extra, points_follow, take_device, take_device_point, take_extra};
@@ -124,7 +125,7 @@ pub(crate) fn device_point_step(
 fn take_device_point(deck: &mut Deck, group: &DeviceGroup, point: Point) -> Result<Place, Refused>
     requires whole { IsWhole deck.old }
     requires group { IsDeviceGroup deck.old group.now }
-    requires room { group.now.count < 64 }
+    requires room { group.now.count < MOST_POINTS }
     requires range { IsPointOf (device_scale group.now.card.code) point }
     requires follows { Follows (device_scale group.now.card.code) deck.old.run.dt group.now.before point }
     ensures ok { IfOk result (λ next. take_device_point deck.old group.now point ≡ (deck.new, next)) }

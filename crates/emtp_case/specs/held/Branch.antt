@@ -1,4 +1,5 @@
 -- Beside `Branch`: what values hold for their proofs, and what premises say. No clause of the program reaches it.
+use Rattle.emtp_case.specs.declared.limit.TheConstants.{MOST_POINTS}
 use Rattle.emtp_case.specs.held.Range.{AreEnds, IsBetween}
 use Rattle.emtp_case.specs.held.Sizes.{Sizes}
 use Rattle.emtp_case.specs.declared.branch.Branch.{Branch}
@@ -67,7 +68,7 @@ IsCharacteristic reactor dt ps = (k : ℕ) → k < length ps → IsSegment react
 pub record IsPseudo (run : RunData) (n : Sizes) (points : List Point) (b : Pseudo) : Type 0 where
   pub ends : AreEnds n.nodes b.from b.to
   pub some : 1 ≤ b.count
-  pub few : b.count ≤ 64
+  pub few : b.count ≤ MOST_POINTS
   pub there : b.first + b.count ≤ length points
   pub characteristic : IsCharacteristic b.reactor run.dt (points_of points b.first b.count)
 

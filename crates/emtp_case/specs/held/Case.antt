@@ -1,4 +1,5 @@
 -- Beside `Case`: what values hold for their proofs, and what premises say. No clause of the program reaches it.
+use Rattle.emtp_case.specs.declared.limit.TheConstants.{MOST_BRANCHES, MOST_CHANNELS, MOST_CONTROL_CARDS, MOST_HISTORY_VALUES, MOST_NODES, MOST_POINTS, MOST_SOURCES, MOST_STORED_VALUES, MOST_SWITCHES, MOST_VARIABLES}
 use Rattle.emtp_case.specs.held.Branch.{AreInThrees, IsBranch, IsTrio}
 use Rattle.emtp_case.specs.held.Channel.{IsChannel}
 use Rattle.emtp_case.specs.held.Control.{IsBlock, IsExtra, var_of}
@@ -17,19 +18,19 @@ use Rattle.emtp_case.specs.Case.{standing_names}
 
 -- the limits by count
 pub record HasCounts (p : Parts) : Type 0 where
-  pub nodes : length p.nodes ≤ 1000
-  pub branches : length p.branches ≤ 5000
+  pub nodes : length p.nodes ≤ MOST_NODES
+  pub branches : length p.branches ≤ MOST_BRANCHES
   pub trios : 3 * length p.trios ≤ length p.branches
-  pub points : length p.points ≤ 64 * (length p.branches + length p.extras)
-  pub switches : length p.switches ≤ 500
-  pub sources : length p.sources ≤ 500
-  pub vars : length p.vars ≤ 606
-  pub tacs_sources : length p.tacs_sources ≤ 200
-  pub blocks : length p.blocks ≤ 200
-  pub extras : length p.extras ≤ 200
-  pub channels : length p.channels ≤ 64
-  pub stored : length p.channels * samples_of p.run ≤ 4000000
-  pub history : history_values_of p ≤ 2000000
+  pub points : length p.points ≤ MOST_POINTS * (length p.branches + length p.extras)
+  pub switches : length p.switches ≤ MOST_SWITCHES
+  pub sources : length p.sources ≤ MOST_SOURCES
+  pub vars : length p.vars ≤ MOST_VARIABLES
+  pub tacs_sources : length p.tacs_sources ≤ MOST_CONTROL_CARDS
+  pub blocks : length p.blocks ≤ MOST_CONTROL_CARDS
+  pub extras : length p.extras ≤ MOST_CONTROL_CARDS
+  pub channels : length p.channels ≤ MOST_CHANNELS
+  pub stored : length p.channels * samples_of p.run ≤ MOST_STORED_VALUES
+  pub history : history_values_of p ≤ MOST_HISTORY_VALUES
 
 -- the branches, switches and sources
 pub record IsNetwork (p : Parts) : Type 0 where

@@ -1,4 +1,5 @@
 -- Beside `Control`: what values hold for their proofs, and what premises say. No clause of the program reaches it.
+use Rattle.emtp_case.specs.declared.limit.TheConstants.{MOST_POINTS}
 use Rattle.emtp_case.specs.Branch.{origin, points_of}
 use Rattle.emtp_case.specs.held.Expr.{FitsPlaces, IsWhole}
 use Rattle.emtp_case.specs.held.Range.{IsBetween}
@@ -75,7 +76,7 @@ pub record HasRangeOfA (code : DeviceCode) (a : ℤ) : Type 0 where
 -- the points of a table: 2 to 64, with rising inputs
 pub record IsTable (points : List Point) : Type 0 where
   pub some : 2 ≤ length points
-  pub few : length points ≤ 64
+  pub few : length points ≤ MOST_POINTS
   pub inputs : All (λ (p : Point). unsigned_abs p.current ≤ 10 ^ 18) points
   pub outputs : All (λ (p : Point). unsigned_abs p.other ≤ 10 ^ 18) points
   pub rising : (k : ℕ) → k + 1 < length points → (slice_index_or points k origin).current <ℤ (slice_index_or points (k + 1) origin).current
@@ -83,7 +84,7 @@ pub record IsTable (points : List Point) : Type 0 where
 -- 1 to 64 pairs of times: each closes before it opens, and not before the one before it opened
 pub record AreTimes (points : List Point) : Type 0 where
   pub some : 1 ≤ length points
-  pub few : length points ≤ 64
+  pub few : length points ≤ MOST_POINTS
   pub close : All (λ (p : Point). pos 0 ≤ℤ p.current) points
   pub «open» : All (λ (p : Point). p.other ≤ℤ pos (10 ^ 18)) points
   pub closes_first : All (λ (p : Point). p.current <ℤ p.other) points
@@ -91,14 +92,14 @@ pub record AreTimes (points : List Point) : Type 0 where
 
 -- the numbers of one more point of a table, whose input is above the last one
 pub record FollowsInTable (points : List Point) (p : Point) : Type 0 where
-  pub room : length points < 64
+  pub room : length points < MOST_POINTS
   pub input : unsigned_abs p.current ≤ 10 ^ 18
   pub output : unsigned_abs p.other ≤ 10 ^ 18
   pub rises : (slice_index_or points (length points - 1) origin).current <ℤ p.current
 
 -- one more pair of times, which closes no earlier than the last one opened
 pub record FollowsInTime (points : List Point) (p : Point) : Type 0 where
-  pub room : length points < 64
+  pub room : length points < MOST_POINTS
   pub close : pos 0 ≤ℤ p.current
   pub «open» : p.other ≤ℤ pos (10 ^ 18)
   pub closes_first : p.current <ℤ p.other
@@ -127,7 +128,7 @@ pub record HasDevicePoints (code : DeviceCode) (points : List Point) : Type 0 wh
 pub record IsDevice (n : Sizes) (all : List Point) (x : Device) : Type 0 where
   pub card : IsDeviceCard n x
   pub points_there : x.first + x.count ≤ length all
-  pub few_points : x.count ≤ 64
+  pub few_points : x.count ≤ MOST_POINTS
   pub points : HasDevicePoints x.code (points_of all x.first x.count)
 
 -- a formula among so many records; its variable isn't a standing one

@@ -1,12 +1,17 @@
 -- Beside `RunData`: what values hold for their proofs, and what premises say. No clause of the program reaches it.
+use Rattle.emtp_case.specs.declared.limit.TheConstants.{MOST_STEPS}
 use Rattle.emtp_case.specs.held.Range.{IsBetween}
 use Rattle.emtp_case.specs.declared.run_data.RunData.{RunData}
-use Rattle.std.specs.Prelude.{◌^◌, ◌≤◌}
+use Rattle.std.specs.Prelude.{ℤ, ◌^◌, ◌≤◌}
+
+-- a time step in ps, from 1 ns to 1 s
+abbrev pub IsTimeStep : ℤ → Type 0
+IsTimeStep dt = IsBetween 1000 (10 ^ 12) dt
 
 pub record IsRun (run : RunData) : Type 0 where
-  pub dt : IsBetween 1000 (10 ^ 12) run.dt
+  pub dt : IsTimeStep run.dt
   pub some_steps : 1 ≤ run.steps
-  pub few_steps : run.steps ≤ 1000000
+  pub few_steps : run.steps ≤ MOST_STEPS
   pub some_every : 1 ≤ run.every
-  pub few_every : run.every ≤ 1000000
+  pub few_every : run.every ≤ MOST_STEPS
   pub tolerance : IsBetween 0 (10 ^ 12) run.tolerance

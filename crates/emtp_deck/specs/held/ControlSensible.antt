@@ -1,4 +1,5 @@
 -- What the cards of the control without a fault of sense are together.
+use Rattle.emtp_case.specs.declared.limit.TheConstants.{MOST_CONTROL_CARDS, MOST_HISTORY_VALUES, MOST_VARIABLES}
 use Rattle.std.specs.List.{sum_by}
 use Rattle.std.specs.Prelude.{All, List, length, ℕ, ◌≡◌, ◌≤◌}
 use Rattle.emtp_case.specs.Case.{standing_names}
@@ -16,17 +17,17 @@ use Rattle.emtp_sense.specs.held.ControlSensible.{IsSensibleBlock, IsSensibleExt
 -- the blocks and the supplemental cards, whose variables have these names
 pub record IsSensibleControl (variables : List (List ℕ)) (deck : Deck) : Type 0 where
   pub standing : Continues standing_names variables
-  pub few : length variables ≤ 606
+  pub few : length variables ≤ MOST_VARIABLES
   pub names : All IsName standing_names → All IsName variables
-  pub few_blocks : length deck.control.blocks ≤ 200
+  pub few_blocks : length deck.control.blocks ≤ MOST_CONTROL_CARDS
   pub blocks : All (IsSensibleBlock variables) deck.control.blocks
-  pub few_extras : length deck.control.extras ≤ 200
+  pub few_extras : length deck.control.extras ≤ MOST_CONTROL_CARDS
   pub extras : All (IsSensibleExtra variables) deck.control.extras
-  pub history : sum_by (entry_history_values deck.run.dt) deck.control.extras ≤ 2000000
+  pub history : sum_by (entry_history_values deck.run.dt) deck.control.extras ≤ MOST_HISTORY_VALUES
 
 -- the sources of the control, once the network is whole, and that each variable is that of one card
 pub record IsSensibleWhole (f : Filling) (deck : Deck) : Type 0 where
-  pub few : length deck.control.sources ≤ 200
+  pub few : length deck.control.sources ≤ MOST_CONTROL_CARDS
   pub switches : length deck.switches ≡ length f.draft.parts.switches
   pub sources : All IsTacsSourceCard deck.control.sources
   pub sensible : All (IsSensibleTacsSource f.nodes.keys deck.switches f.variables.keys) deck.control.sources

@@ -1,4 +1,5 @@
 -- What a branch card without a fault of sense gives its records, behind these parts of a case, which have its nodes.
+use Rattle.emtp_case.specs.declared.limit.TheConstants.{MOST_BRANCHES, MOST_HISTORY_VALUES, MOST_POINTS}
 use Rattle.std.specs.Prelude.{◌≡◌, ◌+◌, ◌<◌, ◌≤◌, ℤ, Bool, List, length, None}
 use Rattle.emtp_case.specs.held.Branch.{IsCharacteristic}
 use Rattle.emtp_case.specs.HistoryValues.{history_values_of}
@@ -18,7 +19,7 @@ use Rattle.emtp_netcards.specs.declared.branch_card.BranchKind.TheVariants.{Line
 -- the points of one branch
 pub record AreOwnPoints (reactor : Bool) (dt : ℤ) (points : List Point) : Type 0 where
   pub some : 1 ≤ length points
-  pub few : length points ≤ 64
+  pub few : length points ≤ MOST_POINTS
   pub characteristic : IsCharacteristic reactor dt points
 
 -- the card has the numbers of a line
@@ -38,19 +39,19 @@ abbrev pub FindsValues : Parts → BranchCard → Type 0
 FindsValues p card = missing_fault (values_from p.nodes p.branches card) ≡ None
 
 pub record IsSensibleSingle (p : Parts) (card : BranchCard) : Type 0 where
-  pub room : length p.branches < 5000
+  pub room : length p.branches < MOST_BRANCHES
   pub ends : HasEnds p card
   pub taken : FindsValues p card
-  pub history : history_values_of p + card_history 1 p.nodes p card ≤ 2000000
+  pub history : history_values_of p + card_history 1 p.nodes p card ≤ MOST_HISTORY_VALUES
 
 pub record IsSensibleTrio (p : Parts) (zero' positive third : BranchCard) : Type 0 where
-  pub room : length p.branches + 3 ≤ 5000
+  pub room : length p.branches + 3 ≤ MOST_BRANCHES
   pub zero_ends : HasEnds p zero'
   pub positive_ends : HasEnds p positive
   pub third_ends : HasEnds p third
   pub zero_taken : FindsValues p zero'
   pub positive_taken : FindsValues p positive
-  pub history : history_values_of p + pair_history p zero' positive ≤ 2000000
+  pub history : history_values_of p + pair_history p zero' positive ≤ MOST_HISTORY_VALUES
 
 abbrev pub IsSensible : Parts → BranchEntry → Type 0
 IsSensible p (Single card first count) = IsSensibleSingle p card

@@ -1,4 +1,5 @@
 -- What is held of one device between two steps.
+use Rattle.emtp_case.specs.declared.limit.TheConstants.{MOST_HISTORY_VALUES}
 use Rattle.std.specs.Prelude.{◌≡◌, ◌≤◌, ◌∷◌, [], All, List, Option, Some, max, pos, take, unsigned_abs, ℕ, ℤ}
 use Rattle.emtp_case.specs.HistoryValues.{device_history_values, extra_history_values}
 use Rattle.emtp_case.specs.declared.control.Device.{Device}
@@ -26,7 +27,7 @@ held_at_rest depth = record { depth = depth; output = pos 0; squares = pos 0; in
 -- what is held of any card is in range, and the ring is of the depth that stands beside it
 pub record IsHeld (h : HeldDevice) : Type 0 where
   pub some : 1 ≤ h.depth
-  pub few : h.depth ≤ 2000000
+  pub few : h.depth ≤ MOST_HISTORY_VALUES
   pub ring : h.inputs.depth ≡ h.depth
   pub itself : Remembers h.inputs h.inputs.values
   pub output_small : unsigned_abs h.output ≤ LARGEST_VALUE

@@ -1,4 +1,5 @@
 -- How the fields of a network hold together.
+use Rattle.emtp_case.specs.declared.limit.TheConstants.{MOST_NODES}
 use Rattle.std.specs.Prelude.{◌≡◌, ◌+◌, ◌*◌, ◌≤◌, ℕ, ℤ, All, Bool, List, length, unsigned_abs}
 use Rattle.emtp_case.specs.RowOrder.{Rows, order_of}
 use Rattle.emtp_case.specs.declared.case.Parts.{Parts}
@@ -44,7 +45,7 @@ pub record HasShown (case : Parts) (voltages currents switch_currents : List ℤ
 -- the steps are no more than the case has, and each redoes no more rows than there are
 pub record AreFew (case : Parts) (made redone : ℕ) : Type 0 where
   pub made_few : made ≤ case.run.steps
-  pub redone_few : redone ≤ 1000 * made
+  pub redone_few : redone ≤ MOST_NODES * made
 
 pub record HoldsTogether (case : Parts) (order : Rows) (branches : Branches) (switches : Switching) (system : NodalSystem) (rows : NodalRows) (kept : Good) (voltages currents switch_currents : List ℤ) (closed : List Bool) (made redone : ℕ) : Type 0 where
   pub order_is : order ≡ order_of case

@@ -1,4 +1,5 @@
 -- What the control stands for.
+use Rattle.emtp_case.specs.declared.limit.TheConstants.{MOST_CONTROL_CARDS}
 use Rattle.std.specs.Prelude.{◌≡◌, ◌+◌, ◌*◌, ◌≤◌, ◌∷◌, ℕ, ℤ, List, length, Result, Ok, Err}
 use Rattle.emtp_blocks.specs.held.BlockRows.{Blocking, StandsFor as BlocksStandFor}
 use Rattle.emtp_case.specs.StepRecord.{StepRecord, latest}
@@ -48,7 +49,7 @@ StepsTo (Err e) s H (Err fault) = (e ≡ fault) × (s.redone ≡ control_redone 
 -- the steps are no more than the case has, and each redoes no more rows than there are
 pub record AreFew (case : Parts) (made redone : ℕ) : Type 0 where
   pub made_few : made ≤ case.run.steps
-  pub redone_few : redone ≤ 200 * made
+  pub redone_few : redone ≤ MOST_CONTROL_CARDS * made
 
 -- how the fields hold together
 pub record HoldsTogether (case : Parts) (variables : Variables) (system : BlockSystem) (made : ℕ) : Type 0 where

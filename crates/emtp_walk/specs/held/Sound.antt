@@ -1,4 +1,5 @@
 -- What the cards of a deck keep at each place of the walk.
+use Rattle.emtp_case.specs.declared.limit.TheConstants.{MOST_POINTS}
 use Rattle.std.specs.Prelude.{◌≡◌, ℕ, ◌+◌, ◌≤◌, ℤ, All, List, [], ◌∷◌, Bool, true, false, drop, length, slice_index_or, Some, is_none, Ok, ◌&&◌, None, Option, suc, zero, ◌<◌, slice_get}
 use Rattle.emtp_case.specs.Branch.{origin, points_of}
 use Rattle.emtp_case.specs.held.Branch.{IsCharacteristic}
@@ -67,7 +68,7 @@ has_points card = is_pseudo card.values && is_none card.copies
 -- so many points from a place on make a characteristic
 pub record ArePoints (reactor : Bool) (dt : ℤ) (points : List Point) (first count : ℕ) : Type 0 where
   pub some : 1 ≤ count
-  pub few : count ≤ 64
+  pub few : count ≤ MOST_POINTS
   pub there : first + count ≤ length points
   pub characteristic : IsCharacteristic reactor dt (points_of points first count)
 
@@ -110,7 +111,7 @@ IsExtraDue (FormulaOf card) = IsFormulaCard card
 pub record IsDeviceEntry (points : List Point) (card : DeviceCard) (first count : ℕ) : Type 0 where
   pub due : IsDeviceDue card
   pub there : first + count ≤ length points
-  pub few : count ≤ 64
+  pub few : count ≤ MOST_POINTS
   pub fit : HasDevicePoints card.code (points_of points first count)
 
 abbrev pub IsExtraEntry : List Point → ExtraEntry → Type 0
@@ -145,7 +146,7 @@ pub record IsHead (deck : Deck) : Type 0 where
 pub record IsGroupOf (deck : Deck) (group : Group) : Type 0 where
   pub numbers : HasNumbers deck.run.dt group.card
   pub pseudo : is_pseudo group.card.values ≡ true
-  pub few : group.count ≤ 64
+  pub few : group.count ≤ MOST_POINTS
   pub there : group.first + group.count ≡ length deck.points
   pub before : origin_or group.before ≡ slice_index_or (origin ∷ drop group.first deck.points) group.count origin
   pub point : (p : Point) → group.before ≡ Some p → IsPointOf (scale_of group) p
@@ -169,7 +170,7 @@ AreInTurn scale dt points = (k : ℕ) → k < length points → Follows scale dt
 pub record IsDeviceGroup (deck : Deck) (group : DeviceGroup) : Type 0 where
   pub card : IsDeviceDue group.card
   pub follow : points_follow group.card.code ≡ true
-  pub few : group.count ≤ 64
+  pub few : group.count ≤ MOST_POINTS
   pub there : group.first + group.count ≡ length deck.points
   pub before : group.before ≡ before_at (drop group.first deck.points) group.count
   pub points : All (IsPointOf (device_scale group.card.code)) (drop group.first deck.points)

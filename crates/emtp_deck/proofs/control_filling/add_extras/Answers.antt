@@ -1,3 +1,4 @@
+use Rattle.emtp_case.specs.declared.limit.TheConstants.{MOST_HISTORY_VALUES}
 use mir.Syntax.{w64}
 use Rattle.std.proofs.Common.{◌≡◌, ◌∙◌, ◌+◌, ◌≤◌, FitsSigned, ap, arith, length, rules, subst, sym}
 use Rattle.std.proofs.lemmas.Int.{to_z-of_z}
@@ -15,7 +16,7 @@ add_extra-requires-clause-history c =
     let x = c.entry-item.result in
     let front = sum_front (entry_history_values c.args.draft.now.parts.run.dt) c.args.entries.now c.loop-entry.entry-index x c.entry-item.is c.loop-entry-test.true in
     let room = room_for (history_values_of c.loop-entry.draft.parts) (history_values_of c.args.draft.now.parts) c.loop-entry.history _ (entry_history_values c.args.draft.now.parts.run.dt x) _ inv.history inv.sum front c.requires.history in
-    subst (λ (r : RunData). history_values_of c.loop-entry.draft.parts + entry_history_values r.dt x ≤ 2000000) (sym inv.run) room
+    subst (λ (r : RunData). history_values_of c.loop-entry.draft.parts + entry_history_values r.dt x ≤ MOST_HISTORY_VALUES) (sym inv.run) room
 
 pub loop-entry-preserved : goal.loop-entry-preserved
 loop-entry-preserved c =

@@ -1,3 +1,4 @@
+use Rattle.emtp_case.specs.declared.limit.TheConstants.{MOST_STORED_VALUES}
 use Rattle.std.proofs.Common.{◌+◌, ◌*◌, ◌≤◌, ◌++◌, arith, length, length-append, ℕ}
 use Rattle.std.proofs.Math.Nat.{mul-le-mul_right}
 use Rattle.emtp_case.specs.RunData.{samples_of}
@@ -5,7 +6,7 @@ use Rattle.emtp_deck.specs.Made.{count_asked}
 use Rattle.emtp_deck.proofs.reading.add_asked.Goals as goal
 
 -- a part of the values that are stored
-part : (a b n s : ℕ) → a + b ≤ n → n * s ≤ 4000000 → (a + b) * s ≤ 4000000
+part : (a b n s : ℕ) → a + b ≤ n → n * s ≤ MOST_STORED_VALUES → (a + b) * s ≤ MOST_STORED_VALUES
 part a b n s l h = let less : (a + b) * s ≤ n * s = mul-le-mul_right s l in omega (arith, less, h)
 
 pub add_channels-requires-clause-stored : goal.add_channels-requires-clause-stored

@@ -1,3 +1,4 @@
+use Rattle.emtp_case.specs.held.RunData.{IsTimeStep}
 use Rattle.std.proofs.Common.{◌≡◌, ◌≤◌, ◌<◌, ◌^◌, ◌∙◌, ◌-ℤ◌, ◌∷◌, int_lt, All, ap, sym, subst, pos, map, length, slice_index_or, unsigned_abs, FitsSigned, to_z, of_z, arith, rules, ℕ, ℤ, List}
 use lib.Signed.{mag}
 use mir.Syntax.{w64, w128}
@@ -81,7 +82,7 @@ inputs_there n m inputs seen sized same there = subst (λ (xs : List Input). All
 small_64 : (s : ℤ) → FitsSigned w64 s → unsigned_abs s ≤ LARGEST_VALUE → unsigned_abs (to_z w64 (of_z w64 s)) ≤ LARGEST_VALUE
 small_64 s fits small = subst (λ (z : ℤ). unsigned_abs z ≤ LARGEST_VALUE) (sym (to_z-of_z w64 s fits)) small
 
-dt_64 : (dt : ℤ) → FitsSigned w64 dt → IsBetween 1000 (10 ^ 12) dt → IsBetween 1000 (10 ^ 12) (to_z w64 (of_z w64 dt))
+dt_64 : (dt : ℤ) → FitsSigned w64 dt → IsTimeStep dt → IsTimeStep (to_z w64 (of_z w64 dt))
 dt_64 dt fits between = subst (IsBetween 1000 (10 ^ 12)) (sym (to_z-of_z w64 dt fits)) between
 
 pub derivative-requires-clause-s : goal.derivative-requires-clause-s

@@ -1,3 +1,4 @@
+use Rattle.emtp_case.specs.declared.limit.TheConstants.{MOST_NODES}
 use Rattle.std.proofs.Common.{◌≡◌, ◌∙◌, ◌∷◌, ◌<◌, ◌≤◌, ◌+◌, sym, ap, subst, All, length, unsigned_abs, Err, IfErr, refl, arith}
 use Rattle.std.specs.Vec.{with_items}
 use Rattle.std.proofs.lemmas.List.{with_items_is}
@@ -170,7 +171,7 @@ returns-in_err-factor g c =
           absurd (free_isnt_tied c.self.inside.case.now.parts H node decided.free (subst (λ (s : Net). network_part s.case H ≡ Err (Tied node)) (sym c.self.view_is) tied));
       case = ap (λ (s : Net). s.case) c.self.view_is;
       made = ap (λ (s : Net). s.made + 1) c.self.view_is;
-      few = subst (λ (s : Net). c.factor.new.redone ≤ s.redone + 1000) c.self.view_is c.factor.ensures.few;
+      few = subst (λ (s : Net). c.factor.new.redone ≤ s.redone + MOST_NODES) c.self.view_is c.factor.ensures.few;
       few_ticks = c.factor.ensures.few_ticks;
       most = λ H stands tacs.
           let ready = ready_here _ _ H _ _ _ _ _ _ c.in_ok-decide.ensures.decided c.self.view_is stands c.deref.ensures.value c.deref-2.ensures.value tacs in
@@ -195,7 +196,7 @@ returns-in_err-solve g c =
           absurd (free_isnt_tied c.self.inside.case.now.parts H node decided.free (subst (λ (s : Net). network_part s.case H ≡ Err (Tied node)) (sym c.self.view_is) tied));
       case = ap (λ (s : Net). s.case) c.self.view_is;
       made = ap (λ (s : Net). s.made + 1) c.self.view_is;
-      few = subst (λ (s : Net). c.factor.new.redone ≤ s.redone + 1000) c.self.view_is c.factor.ensures.few;
+      few = subst (λ (s : Net). c.factor.new.redone ≤ s.redone + MOST_NODES) c.self.view_is c.factor.ensures.few;
       few_ticks = c.factor.ensures.few_ticks;
       most = λ H stands tacs.
           let ready = ready_here _ _ H _ _ _ _ _ _ c.in_ok-decide.ensures.decided c.self.view_is stands c.deref.ensures.value c.deref-2.ensures.value tacs in
@@ -226,7 +227,7 @@ returns-in_err-accept g c =
           absurd (free_isnt_tied c.self.inside.case.now.parts H node decided.free (subst (λ (s : Net). network_part s.case H ≡ Err (Tied node)) (sym c.self.view_is) tied));
       case = ap (λ (s : Net). s.case) c.self.view_is;
       made = ap (λ (s : Net). s.made + 1) c.self.view_is;
-      few = subst (λ (s : Net). c.factor.new.redone ≤ s.redone + 1000) c.self.view_is c.factor.ensures.few;
+      few = subst (λ (s : Net). c.factor.new.redone ≤ s.redone + MOST_NODES) c.self.view_is c.factor.ensures.few;
       few_ticks = c.factor.ensures.few_ticks;
       most = λ H stands tacs.
           let ready = ready_here _ _ H _ _ _ _ _ _ c.in_ok-decide.ensures.decided c.self.view_is stands c.deref.ensures.value c.deref-2.ensures.value tacs in
@@ -261,7 +262,7 @@ returns-in_err-find_currents g c =
           absurd (free_isnt_tied c.self.inside.case.now.parts H node decided.free (subst (λ (s : Net). network_part s.case H ≡ Err (Tied node)) (sym c.self.view_is) tied));
       case = ap (λ (s : Net). s.case) c.self.view_is;
       made = ap (λ (s : Net). s.made + 1) c.self.view_is;
-      few = subst (λ (s : Net). c.factor.new.redone ≤ s.redone + 1000) c.self.view_is c.factor.ensures.few;
+      few = subst (λ (s : Net). c.factor.new.redone ≤ s.redone + MOST_NODES) c.self.view_is c.factor.ensures.few;
       few_ticks = c.factor.ensures.few_ticks;
       most = λ H stands tacs.
           let ready = ready_here _ _ H _ _ _ _ _ _ c.in_ok-decide.ensures.decided c.self.view_is stands c.deref.ensures.value c.deref-2.ensures.value tacs in
@@ -341,7 +342,7 @@ returns g c =
           absurd (free_isnt_tied c.self.inside.case.now.parts H node decided.free (subst (λ (s : Net). network_part s.case H ≡ Err (Tied node)) (sym c.self.view_is) tied));
       case = ap (λ (s : Net). s.case) c.self.view_is;
       made = ap (λ (s : Net). s.made + 1) c.self.view_is;
-      few = subst (λ (s : Net). c.factor.new.redone ≤ s.redone + 1000) c.self.view_is c.factor.ensures.few;
+      few = subst (λ (s : Net). c.factor.new.redone ≤ s.redone + MOST_NODES) c.self.view_is c.factor.ensures.few;
       few_ticks = c.factor.ensures.few_ticks;
       most = λ H stands tacs.
           let ready = ready_here _ _ H _ _ _ _ _ _ c.in_ok-decide.ensures.decided c.self.view_is stands c.deref.ensures.value c.deref-2.ensures.value tacs in
