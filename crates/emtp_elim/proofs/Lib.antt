@@ -6,6 +6,7 @@ pub mod Products
 pub mod Entries
 pub mod ClearedRows
 pub mod Extents
+pub mod Writing
 pub mod KeptRows
 pub mod PartRows
 pub mod RightSides

@@ -9,3 +9,5 @@ pub mod Row
 pub mod Rows
 pub mod Stored
 pub mod Substitution
+pub mod WorkRow
+pub mod Written

@@ -1,7 +1,8 @@
 // Between which columns a row has its numbers.
-ghost use Rattle.std.specs.Prelude.{◌≡◌, ℕ, ◌<◌, ◌≤◌, pos, length};
+ghost use Rattle.std.specs.Prelude.{◌≡◌, ℕ, ◌<◌, ◌≤◌, ℤ, List, pos, length};
 ghost use Rattle.emtp_elim.specs.Matrix.{item};
 ghost use Rattle.emtp_elim.specs.held.Extent.{IsExtent, IsClearAfter};
+ghost use Rattle.emtp_elim.specs.held.Written.{IsWritten};
 ghost use Rattle.emtp_elim.specs.held.Row.{numbers, IsRow};
 
 use crate::row::FinishedRow;
@@ -72,4 +73,40 @@ pub fn end_with(end: usize, above: FinishedRow<'_>, k: usize, size: usize) -> us
     }
     let last = above.columns[above.last - 1] as usize;
     if last < end { end } else { last + 1 }
+}
+
+/// The extent of a row of `size` numbers with its diagonal in this column, which was written from column `first` on and
+/// before `end` alone.
+pub fn extent_over(first: usize, end: usize, diagonal: usize, size: usize) -> Extent
+    requires place { diagonal < size }
+    requires end { end ≤ size }
+    ensures extent { (row : List ℤ) → length row ≡ size → IsWritten row first end → IsExtent row result }
+    ensures diagonal { result.diagonal ≡ diagonal }
+{
+    let least = first_with(first, diagonal);
+    let most = end_behind(end, diagonal, size);
+    Extent {
+        first: least,
+        diagonal,
+        end: most,
+    }
+}
+
+/// The lesser of two columns.
+pub fn first_with(first: usize, column: usize) -> usize
+    ensures low { result ≤ first }
+    ensures there { result ≤ column }
+{
+    if column < first { column } else { first }
+}
+
+/// An end behind this column too, in a row of `size` numbers.
+pub fn end_behind(end: usize, column: usize, size: usize) -> usize
+    requires place { column < size }
+    requires end { end ≤ size }
+    ensures low { end ≤ result }
+    ensures there { column < result }
+    ensures within { result ≤ size }
+{
+    if column < end { end } else { column + 1 }
 }

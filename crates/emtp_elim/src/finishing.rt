@@ -9,7 +9,7 @@ ghost use Rattle.emtp_elim.specs.held.Extent.{IsExtent};
 ghost use Rattle.emtp_elim.specs.held.Finished.{FinishesRow, FaultsRow};
 
 use crate::clearing::clear_column;
-use crate::extent::{Extent, end_with, extent_of};
+use crate::extent::{Extent, end_with};
 use crate::fault::RowCause;
 use crate::sparse::SparseRows;
 use emtp_fix::LARGEST_ENTRY;
@@ -28,10 +28,13 @@ fn are_in_range(row: &[i128], extent: Extent) -> bool
     true
 }
 
-/// Clears the columns before its diagonal from the row that comes after the finished ones.
-pub fn finish_row(done: &SparseRows, work: &mut [i128]) -> Result<Extent, RowCause>
+/// Clears the columns before its diagonal from the row that comes after the finished ones, at work within its extent and
+/// what the rows above fill in alone.
+pub fn finish_row(done: &SparseRows, work: &mut [i128], given: Extent) -> Result<Extent, RowCause>
     requires size { length work.old ≡ done.now.size }
     requires room { length done.now.rows < done.now.size }
+    requires extent { IsExtent work.old given }
+    requires diagonal { given.diagonal ≡ length done.now.rows }
     ensures numbers { OnOk result (IsFinishedRow done.now.size (length done.now.rows) work.new) }
     ensures finished { OnOk result (FinishesRow done.now.rows work.old work.new) }
     ensures extent { IfOk result (IsExtent work.new) }
@@ -39,7 +42,6 @@ pub fn finish_row(done: &SparseRows, work: &mut [i128]) -> Result<Extent, RowCau
     ensures fault { IfErr result (FaultsRow done.now.rows work.old) }
 {
     let (size, count) = (work.len(), done.rows());
-    let given = extent_of(work, count);
     if !are_in_range(work, given) {
         return Err(RowCause::Range);
     }

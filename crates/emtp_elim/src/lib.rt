@@ -4,7 +4,8 @@
 //! A matrix comes row by row ([`Rows`]). [`eliminate_plain`] solves one system from its first row. [`SparseRows`] keeps
 //! finished rows with their ratios, of each the numbers that aren't 0 side by side; [`eliminate_row`] finishes the next
 //! one by them and counts it, at work between the row's first number and its last one alone, and [`SparseRows::solve`]
-//! solves for one right side after another. It stands on `emtp_fix`.
+//! solves for one right side after another. A [`WorkRow`] is written over zeros and knows between which columns, so that
+//! [`eliminate_work_row`] doesn't look for them. It stands on `emtp_fix`.
 //!
 //! ```text
 //! 1 0 0     100 A                                        100 V
@@ -25,9 +26,11 @@ mod rows;
 mod sparse;
 mod storing;
 mod substitution;
+mod work_row;
 
 pub use fault::{PlainFault, RowCause, RowFault, SolveFault};
 pub use laws::{elimination_is_odd, finished_rows_stay, row_fault_ends_systems};
 pub use plain::eliminate_plain;
 pub use rows::Rows;
 pub use sparse::{SparseRows, eliminate_row};
+pub use work_row::{WorkRow, eliminate_work_row};

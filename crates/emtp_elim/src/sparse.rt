@@ -3,12 +3,14 @@ ghost use Rattle.std.specs.Prelude.{◌≡◌, ℕ, ◌+◌, ◌<◌, ◌≤◌,
 ghost use Rattle.emtp_fix.specs.declared.limit.TheConstants.{LARGEST_VALUE};
 ghost use Rattle.emtp_elim.specs.Matrix.{row_of};
 ghost use Rattle.emtp_elim.specs.held.Matrix.{AreWithin};
+ghost use Rattle.emtp_elim.specs.held.Extent.{IsExtent};
 ghost use Rattle.emtp_elim.specs.held.Finished.{Finished, AddsRow, FaultsRow};
 ghost use Rattle.emtp_elim.specs.held.Stored.{AreStored, rows_kept};
 ghost use Rattle.emtp_elim.specs.held.Row.{numbers, IsRow};
 ghost use Rattle.emtp_elim.specs.held.Substitution.{SolvesAs};
 ghost use Rattle.emtp_elim.specs.declared.fault.PlainFault.{PlainFault};
 
+use crate::extent::{Extent, extent_of};
 use crate::fault::{RowCause, SolveFault};
 use crate::finishing::finish_row;
 use crate::row::FinishedRow;
@@ -113,7 +115,6 @@ impl SparseRows {
     }
 
     /// Finishes the next row of the matrix, and keeps it. After a refusal the rows are as before.
-    #[tactic(auto, using(crate::proofs::KeptRows::count_is))]
     pub(crate) fn add(&mut self, work: &mut [i128]) -> Result<(), RowCause>
         requires size { length work.old ≡ self.old.size }
         requires room { length self.old.rows < self.old.size }
@@ -121,7 +122,30 @@ impl SparseRows {
         ensures kept { OnErr result (self.new ≡ self.old) }
         ensures fault { IfErr result (FaultsRow self.old.rows work.old) }
     {
-        let extent = finish_row(self, work)?;
+        let given = extent_of(work, self.rows());
+        match self.add_within(work, given) {
+            Ok(_) => Ok(()),
+            Err(cause) => Err(cause),
+        }
+    }
+
+    /// The same of a row whose extent is known, and the extent that it has then: `work` holds only zeros outside of it.
+    #[tactic(auto, using(crate::proofs::KeptRows::count_is))]
+    pub(crate) fn add_within(
+        &mut self,
+        work: &mut [i128],
+        given: Extent,
+    ) -> Result<Extent, RowCause>
+        requires size { length work.old ≡ self.old.size }
+        requires room { length self.old.rows < self.old.size }
+        requires extent { IsExtent work.old given }
+        requires diagonal { given.diagonal ≡ length self.old.rows }
+        ensures added { OnOk result (AddsRow self.old self.new work.old) }
+        ensures extent { IfOk result (IsExtent work.new) }
+        ensures kept { OnErr result (self.new ≡ self.old) }
+        ensures fault { IfErr result (FaultsRow self.old.rows work.old) }
+    {
+        let extent = finish_row(self, work, given)?;
         store_next(
             &mut self.starts,
             &mut self.pivots,
@@ -132,7 +156,7 @@ impl SparseRows {
             work,
         );
         self.count += 1;
-        Ok(())
+        Ok(extent)
     }
 }
 

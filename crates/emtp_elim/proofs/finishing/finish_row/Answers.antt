@@ -12,8 +12,8 @@ returns-then-not-are_in_range-clause-fault c =
 
 pub loop-k-init : goal.loop-k-init
 loop-k-init c =
-    let extent = c.extent_of-given.ensures.extent in
-    let low : c.extent_of-given.result.first ≤ length c.args.done.now.rows = omega (arith, extent.low, c.extent_of-given.ensures.diagonal, c.rows-count.ensures.count) in
+    let extent = c.requires.extent in
+    let low : c.args.given.first ≤ length c.args.done.now.rows = omega (arith, extent.low, c.requires.diagonal) in
     (underway_from _ _ _ c.args.work.now c.if-not-are_in_range.ensures.within low c.requires.room c.requires.size c.rows-count.ensures.width extent.before, extent)
 
 pub loop-k-preserved-then-work-k-eq0 : goal.loop-k-preserved-then-work-k-eq0
