@@ -1,4 +1,4 @@
--- What a case keeps.
+-- The empty case, its standing variables, and the three branches that a three-phase line is.
 use Rattle.emtp_case.specs.declared.branch.Branch.{Branch}
 use Rattle.emtp_case.specs.declared.branch.Branch.TheVariants.{Phase as OfPhase}
 use Rattle.emtp_case.specs.declared.branch.Phase.{Phase}

@@ -1,4 +1,4 @@
--- The channels of the record.
+-- Which channels of the record are states.
 use Rattle.emtp_case.specs.declared.channel.Channel.{Channel}
 use Rattle.emtp_case.specs.declared.channel.Channel.TheVariants.{BranchCurrent, BranchVoltage, SwitchCurrent as CurrentChannel, NodeVoltage as NodeChannel, Tacs as OfTacs, Status, SwitchVoltage}
 use Rattle.std.specs.Prelude.{Bool, false, true}

@@ -1,4 +1,4 @@
--- The blocks, devices and formulas of the control.
+-- The coefficients of a block by the bilinear rule, and which devices read D.
 use Rattle.emtp_case.specs.Sums.{sum_upto}
 use Rattle.emtp_case.specs.declared.control.Block.{Block}
 use Rattle.emtp_case.specs.declared.control.DeviceCode.{DeviceCode}

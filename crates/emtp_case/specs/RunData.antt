@@ -1,4 +1,4 @@
--- The numbers of the miscellaneous cards.
+-- How many samples a run has, and the time of a step.
 use Rattle.emtp_case.specs.declared.run_data.RunData.{RunData}
 use Rattle.std.specs.Prelude.{◌+◌, ◌/◌, ◌*ℤ◌, pos, ℕ, ℤ}
 

@@ -1,4 +1,4 @@
--- The sources of the network and of its control.
+-- Which sources hold the voltage of a node.
 use Rattle.emtp_case.specs.declared.source.Source.{Source}
 use Rattle.std.specs.Prelude.{◌==◌, ◌&&◌, Bool, not, ℕ}
 

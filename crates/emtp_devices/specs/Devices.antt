@@ -1,4 +1,4 @@
--- What the devices of a case stand for.
+-- The states of a device in the records, newest first.
 use Rattle.std.specs.Prelude.{List, map, ℕ}
 use Rattle.emtp_case.specs.StepRecord.{StepRecord, device_at}
 use Rattle.emtp_case.specs.declared.control.DeviceState.{DeviceState}

@@ -1,4 +1,4 @@
--- Past values: what a history shows, and the pushes that it stands for.
+-- The value that was pushed so long ago.
 use Rattle.std.specs.Prelude.{ℕ, ℤ, pos, List, slice_index_or}
 
 -- the value pushed k pushes before the last one, and 0 where there is none

@@ -1,4 +1,4 @@
--- All of some bytes written to an output, and all of a file read.
+-- Of a file, a front was taken.
 use Rattle.std.specs.Prelude.{◌≡◌, ℕ, ◌≤◌, length, List, Option}
 use Rattle.emtp_io.specs.Cabinet.{put_back}
 

@@ -1,4 +1,4 @@
--- What the lines of a case stand for.
+-- The states of lines in the records, newest first, and the three-phase line of a branch.
 use Rattle.std.specs.Prelude.{◌+◌, [], ℕ, List, map, slice_index_or}
 use Rattle.emtp_case.specs.Branch.{first_of_trio}
 use Rattle.emtp_case.specs.StepRecord.{StepRecord, line_at, phase_state_at}

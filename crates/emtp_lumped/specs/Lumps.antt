@@ -1,4 +1,4 @@
--- What the series branches of a case stand for.
+-- The states of a series branch in the records, newest first, and the next one.
 use Rattle.std.specs.Prelude.{◌∷◌, [], ℕ, ℤ, List, map, Option}
 use Rattle.emtp_case.specs.StepRecord.{StepRecord, no_lumped, lumped_at}
 use Rattle.emtp_case.specs.declared.branch.Lumped.{Lumped}

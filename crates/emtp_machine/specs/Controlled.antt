@@ -1,4 +1,4 @@
--- What a network with its control stands for.
+-- What an end may name: a node or a variable of the case.
 use Rattle.std.specs.Prelude.{◌⊎◌, ℕ, List, Contains}
 use Rattle.emtp_case.specs.declared.case.Parts.{Parts}
 

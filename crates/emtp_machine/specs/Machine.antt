@@ -1,4 +1,4 @@
--- What a machine stands for.
+-- What an end says: a step of the run, and a name of the case.
 use Rattle.std.specs.Prelude.{◌≤◌}
 use Rattle.emtp_case.specs.declared.case.Parts.{Parts}
 use Rattle.emtp_machine.specs.Controlled.{IsNamed}

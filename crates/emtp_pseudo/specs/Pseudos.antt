@@ -1,4 +1,4 @@
--- What the pseudo-nonlinear branches of a case stand for.
+-- The moments of a pseudo-nonlinear branch in the records, newest first, and its next state.
 use Rattle.std.specs.Prelude.{◌∷◌, [], ◌-ℤ◌, ℕ, ℤ, List, map, Option}
 use Rattle.emtp_case.specs.StepRecord.{StepRecord, pseudo_at, voltage_at}
 use Rattle.emtp_case.specs.declared.branch.Pseudo.{Pseudo}

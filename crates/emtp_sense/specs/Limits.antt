@@ -1,4 +1,4 @@
--- Limits by count.
+-- The fault of a limit by count that is exceeded.
 use Rattle.std.specs.Prelude.{ℕ, Option, Some, None, Bool, if◌then◌else◌}
 use Rattle.emtp_card.specs.declared.fault.Fault.{Fault}
 use Rattle.emtp_card.specs.declared.reason.Why.TheVariants.{TooMany}

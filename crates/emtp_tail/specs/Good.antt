@@ -1,4 +1,4 @@
--- What is kept of a matrix, and how far a new one agrees with it.
+-- The first row in which two matrices differ.
 use Rattle.std.specs.Prelude.{ℕ, suc, [], ◌∷◌, if◌then◌else◌}
 use Rattle.std.specs.Cmp.Lexicographic.{pointwise}
 use Rattle.std.specs.Ordering.{int_eq}

@@ -1,4 +1,4 @@
--- What a call answers that may want memory, beside its definition, which never does.
+-- Of two refusals the first, and what comes next unless a card is refused.
 use Rattle.std.specs.Prelude.{Result, Ok, Err, None, Option, Some}
 use Rattle.emtp_card.specs.declared.reason.Bad.{Bad}
 

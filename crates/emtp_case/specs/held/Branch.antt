@@ -1,4 +1,4 @@
--- Beside `Branch`: what values hold for their proofs, and what premises say. No clause of the program reaches it.
+-- What the branches of a case hold, their numbers and their ends. No clause of the program reaches it.
 use Rattle.emtp_case.specs.declared.limit.TheConstants.{MOST_POINTS}
 use Rattle.emtp_case.specs.held.Range.{AreEnds, IsBetween}
 use Rattle.emtp_case.specs.held.Sizes.{Sizes}

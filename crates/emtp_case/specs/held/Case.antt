@@ -1,4 +1,4 @@
--- Beside `Case`: what values hold for their proofs, and what premises say. No clause of the program reaches it.
+-- What a case keeps: its limits by count, and how its records fit each other. No clause of the program reaches it.
 use Rattle.emtp_case.specs.declared.limit.TheConstants.{MOST_BRANCHES, MOST_CHANNELS, MOST_CONTROL_CARDS, MOST_HISTORY_VALUES, MOST_NODES, MOST_POINTS, MOST_SOURCES, MOST_STORED_VALUES, MOST_SWITCHES, MOST_VARIABLES}
 use Rattle.emtp_case.specs.held.Branch.{AreInThrees, IsBranch, IsTrio}
 use Rattle.emtp_case.specs.held.Channel.{IsChannel}

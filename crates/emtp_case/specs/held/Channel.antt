@@ -1,4 +1,4 @@
--- Beside `Channel`: what values hold for their proofs, and what premises say. No clause of the program reaches it.
+-- What a channel of a case holds: the place that it names exists. No clause of the program reaches it.
 use Rattle.emtp_case.specs.held.Sizes.{Sizes}
 use Rattle.emtp_case.specs.declared.channel.Channel.{Channel}
 use Rattle.emtp_case.specs.declared.channel.Channel.TheVariants.{BranchCurrent, BranchVoltage, SwitchCurrent as CurrentChannel, NodeVoltage as NodeChannel, Tacs as OfTacs, Status, SwitchVoltage}

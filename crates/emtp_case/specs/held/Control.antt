@@ -1,4 +1,4 @@
--- Beside `Control`: what values hold for their proofs, and what premises say. No clause of the program reaches it.
+-- What blocks, devices and formulas of a case hold: ranges, bounds and what they know. No clause of the program reaches it.
 use Rattle.emtp_case.specs.declared.limit.TheConstants.{MOST_POINTS}
 use Rattle.emtp_case.specs.Branch.{origin, points_of}
 use Rattle.emtp_case.specs.held.Expr.{FitsPlaces, IsWhole}

@@ -1,4 +1,4 @@
--- Beside `RunData`: what values hold for their proofs, and what premises say. No clause of the program reaches it.
+-- The range of a time step, and what the numbers of the miscellaneous cards hold. No clause of the program reaches it.
 use Rattle.emtp_case.specs.declared.limit.TheConstants.{MOST_STEPS}
 use Rattle.emtp_case.specs.held.Range.{IsBetween}
 use Rattle.emtp_case.specs.declared.run_data.RunData.{RunData}

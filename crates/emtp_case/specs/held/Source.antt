@@ -1,4 +1,4 @@
--- Beside `Source`: what values hold for their proofs, and what premises say. No clause of the program reaches it.
+-- What a source of a case holds. No clause of the program reaches it.
 use Rattle.emtp_case.specs.held.Range.{IsBetween}
 use Rattle.emtp_case.specs.held.Sizes.{Sizes}
 use Rattle.emtp_case.specs.declared.source.Shape.{Shape}

@@ -1,4 +1,4 @@
--- Beside `Switch`: what values hold for their proofs, and what premises say. No clause of the program reaches it.
+-- What a switch of a case holds. No clause of the program reaches it.
 use Rattle.emtp_case.specs.held.Range.{AreEnds, IsBetween}
 use Rattle.emtp_case.specs.held.Sizes.{Sizes}
 use Rattle.emtp_case.specs.declared.switch.Switch.{Switch}

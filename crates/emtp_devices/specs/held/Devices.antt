@@ -1,4 +1,4 @@
--- Beside `Devices`: what values hold for their proofs, and what premises say. No clause of the program reaches it.
+-- What the devices of a case stand for, and how a step moves them. No clause of the program reaches it.
 use Rattle.std.specs.Prelude.{◌≡◌, ◌≢◌, ◌<◌, ◌∷◌, IfOk, List, None, OnErr, Option, Result, Some, length, slice_get, slice_index_or, ℕ, ℤ}
 use Rattle.emtp_case.specs.StepRecord.{StepRecord}
 use Rattle.emtp_case.specs.declared.case.Parts.{Parts}

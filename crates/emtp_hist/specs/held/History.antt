@@ -1,4 +1,4 @@
--- Beside `History`: what values hold for their proofs, and what premises say. No clause of the program reaches it.
+-- What a history shows, and the pushes that it stands for. No clause of the program reaches it.
 use Rattle.std.specs.Prelude.{◌≡◌, ℕ, ℤ, List, take}
 
 -- how many pushes a history looks back on, and the values that it holds, newest first

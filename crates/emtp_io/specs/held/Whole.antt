@@ -1,4 +1,4 @@
--- Beside `Whole`: what values hold for their proofs, and what premises say. No clause of the program reaches it.
+-- All of some bytes written to an output, and all of a file read: what clauses of calls say. No clause of the program reaches it.
 use Rattle.std.specs.Prelude.{◌≡◌, ℕ, ◌<◌, ◌≤◌, length, take, List, Result, IsTrue, IsSome, IfSome, IsOk, IsErrOf, OnOk, OnErr, IfOk, Vec}
 use Rattle.std.specs.declared.alloc.Global.{Global}
 use Rattle.emtp_io.specs.Cabinet.{CabinetState, Outputs, output, appended, put_back, Rose, HasRoom, IsOutputCall}

@@ -1,4 +1,4 @@
--- Beside `Lines`: what values hold for their proofs, and what premises say. No clause of the program reaches it.
+-- What the lines of a case stand for, and how a step moves them. No clause of the program reaches it.
 use Rattle.std.specs.Prelude.{◌≡◌, ◌≢◌, ◌<◌, ◌∷◌, ℕ, ℤ, List, All, length, pos, slice_get, slice_index_or, Option, Some, None, Result, Ok, Err, IfOk, IfErr, OnErr}
 use Rattle.emtp_case.specs.held.Branch.{HasLineNumbers}
 use Rattle.emtp_case.specs.StepRecord.{StepRecord}

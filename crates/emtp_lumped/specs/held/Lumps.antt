@@ -1,4 +1,4 @@
--- Beside `Lumps`: what values hold for their proofs, and what premises say. No clause of the program reaches it.
+-- What the series branches of a case stand for, and how a step moves them. No clause of the program reaches it.
 use Rattle.std.specs.Prelude.{◌≡◌, ◌≢◌, ◌<◌, ◌∷◌, ℕ, ℤ, List, All, length, pos, slice_get, slice_index_or, Option, Some, Result, IfOk, OnErr, None}
 use Rattle.emtp_case.specs.held.Branch.{HasSeriesNumbers}
 use Rattle.emtp_case.specs.StepRecord.{StepRecord}

@@ -1,4 +1,4 @@
--- Beside `Controlled`: what values hold for their proofs, and what premises say. No clause of the program reaches it.
+-- What a network with its control stands for, and how a step moves it. No clause of the program reaches it.
 use Rattle.std.specs.Prelude.{◌≡◌, ◌+◌, ◌<◌, ◌∷◌, ℕ, List, Result, Ok, Err}
 use Rattle.emtp_case.specs.StepRecord.{StepRecord}
 use Rattle.emtp_case.specs.declared.case.Parts.{Parts}

@@ -1,4 +1,4 @@
--- Beside `Machine`: what values hold for their proofs, and what premises say. No clause of the program reaches it.
+-- What a machine stands for. No clause of the program reaches it.
 use Rattle.std.specs.Prelude.{◌≡◌, ◌⊎◌, ◌≢◌, ℕ, ◌+◌, ◌*◌, ◌<◌, ◌≤◌, ℤ, List, length, Option, Some, None, IfSome, Result, Ok, Err}
 use Rattle.emtp_case.specs.RunData.{samples_of}
 use Rattle.emtp_case.specs.declared.case.Parts.{Parts}

@@ -1,4 +1,4 @@
--- Beside `Pseudos`: what values hold for their proofs, and what premises say. No clause of the program reaches it.
+-- What the pseudo-nonlinear branches of a case stand for, and how a step moves them. No clause of the program reaches it.
 use Rattle.std.specs.Prelude.{◌≡◌, ◌≢◌, ◌<◌, ◌∷◌, ℕ, ℤ, List, length, pos, slice_get, slice_index_or, Option, Some, None, Result, IfOk, OnErr, false}
 use Rattle.emtp_case.specs.Branch.{origin}
 use Rattle.emtp_case.specs.StepRecord.{StepRecord}

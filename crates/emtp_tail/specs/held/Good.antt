@@ -1,4 +1,4 @@
--- Beside `Good`: what values hold for their proofs, and what premises say. No clause of the program reaches it.
+-- What is kept of a matrix, and how far a new one agrees with it. No clause of the program reaches it.
 use Rattle.std.specs.Prelude.{◌≡◌, ◌≢◌, ℕ, ◌<◌, ◌≤◌, length}
 use Rattle.emtp_elim.specs.Matrix.{Matrix, row_of}
 
