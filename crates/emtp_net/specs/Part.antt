@@ -18,7 +18,7 @@ use Rattle.emtp_line.specs.Phases.{Modes, from_histories, modes_of, phase_end, p
 use Rattle.emtp_lumped.specs.Lumps as lumped
 use Rattle.emtp_pseudo.specs.Pseudos as pseudo
 use Rattle.emtp_rows.specs.Nodal.{node_at, phase_node}
-use Rattle.emtp_rows.specs.held.Touched.{row_at}
+use Rattle.emtp_case.specs.NodeRows.{row_at}
 use Rattle.emtp_switch.specs.Currents as switched
 use Rattle.emtp_switch.specs.States.{next_states}
 use Rattle.emtp_net.specs.System.{branch_sum, sources_into, taken, through}
