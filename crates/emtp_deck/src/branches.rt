@@ -114,8 +114,8 @@ fn card_fault(
         too_many(MOST_BRANCHES < counts.branches, 1),
         too_many(MOST_HISTORY_VALUES < counts.history, 1),
         too_many(MOST_CHANNELS < counts.channels, 1),
-        too_many(MOST_NODES < node_number(names, &card.from), 3),
-        too_many(MOST_NODES < node_number(names, &card.to), 9),
+        too_many(MOST_NODES < node_number(names, &card.from) as usize, 3),
+        too_many(MOST_NODES < node_number(names, &card.to) as usize, 9),
         missing_fault(values),
     ])
 }

@@ -31,8 +31,8 @@ fn switch_fault(filling: &Filling, card: &SwitchCard) -> Option<Fault>
     least(&[
         too_many(MOST_SWITCHES <= filling.draft.parts.switches.len(), 1),
         too_many(no_room(&filling.asked, switch_channel_count(card.asked)), 1),
-        too_many(MOST_NODES < node_number(nodes, &card.from), 3),
-        too_many(MOST_NODES < node_number(nodes, &card.to), 9),
+        too_many(MOST_NODES < node_number(nodes, &card.from) as usize, 3),
+        too_many(MOST_NODES < node_number(nodes, &card.to) as usize, 9),
         unknown_name(&filling.variables, 65, &card.control),
     ])
 }
