@@ -1,10 +1,13 @@
 -- Two lines without a faulty byte that agree under the ruler of one of them give the same outputs.
 use Rattle.std.proofs.Common.{◌≡◌, ◌∙◌, sym, ap, refl, ℕ, Bool, true, false, List}
-use Rattle.std.specs.Prelude.{cond, Option, Some, None, Result, Ok, Err}
-use Rattle.emtp_card.specs.Fault.{judge, unless_bad}
+use Rattle.std.specs.Prelude.{Option, Some, None, Result, Ok, Err}
 use Rattle.emtp_card.specs.Lines.{fault_of_line}
+use Rattle.emtp_card.specs.declared.fault.Fault.{Fault}
 use Rattle.emtp_card.specs.declared.reason.Bad.{Bad}
-use Rattle.emtp_netcards.specs.OutputCard.{asks_all, mark_by, mark_field, names, names_fault, output_card, output_fault}
+use Rattle.emtp_card.specs.declared.reason.Why.{Why}
+use Rattle.emtp_netcards.specs.OutputCard as outputs
+use Rattle.emtp_netcards.specs.OutputCard.{mark_by, mark_field, name_list, names, names_fault, output_card, outputs_by}
+use Rattle.emtp_netcards.specs.Reading.{card_by, in_column, judged}
 use Rattle.emtp_netcards.specs.declared.output_card.OutputCard.{OutputCard}
 use Rattle.emtp_netcards.specs.declared.output_card.OutputCard.TheVariants.{All as AllNodes, Names}
 use Rattle.emtp_taccards.specs.TacsOutputCard.{tacs_output_card, tacs_output_fault}
@@ -13,11 +16,17 @@ use Rattle.emtp_warnings.specs.Law.{AgreeUnder, AreFaultless}
 use Rattle.emtp_warnings.specs.Marked.{output_ruler}
 use Rattle.emtp_warnings.specs.declared.rulers.TheConstants.{ALL_NODES, FREE, NAMES}
 
+-- a card with names doesn't ask for all nodes
+not_all : (number : ℕ) (list : Result (List (Option (List ℕ))) Fault) → card_by number None (judged list (λ names. Ok (Names names))) ≡ Ok AllNodes → ⊥
+not_all number (Ok names) e = cc
+not_all number (Err fault) e = cc
+
 -- a card of all nodes has that mark
-marked_all : (all : Bool) (bad : Option Bad) (list : List (Option (List ℕ))) → unless_bad bad (cond all AllNodes (Names list)) ≡ Ok AllNodes → all ≡ true
-marked_all true bad list e = refl
-marked_all false None list e = absurd (cc)
-marked_all false (Some bad) list e = absurd (cc)
+marked_all : (number : ℕ) (found : Option (ℕ × Why)) (line : List ℕ) (mark : Result Bool Why) → card_by number found (judged (in_column 1 mark) (outputs_by line)) ≡ Ok AllNodes → mark ≡ Ok true
+marked_all number (Some fault) line mark e = absurd (cc)
+marked_all number None line (Ok true) e = refl
+marked_all number None line (Ok false) e = absurd (not_all number (name_list line) e)
+marked_all number None line (Err why) e = absurd (cc)
 
 module _ (x y : List ℕ) (sound : AreFaultless x y) where
   same_fault : fault_of_line x ≡ fault_of_line y
@@ -32,34 +41,42 @@ module _ (x y : List ℕ) (sound : AreFaultless x y) where
   names_fault_same h =
       simp (name_under NAMES.now x y h 3 refl, name_under NAMES.now x y h 9 refl, name_under NAMES.now x y h 15 refl, name_under NAMES.now x y h 21 refl, name_under NAMES.now x y h 27 refl, name_under NAMES.now x y h 33 refl, name_under NAMES.now x y h 39 refl, name_under NAMES.now x y h 45 refl, name_under NAMES.now x y h 51 refl, name_under NAMES.now x y h 57 refl, name_under NAMES.now x y h 63 refl, name_under NAMES.now x y h 69 refl, name_under NAMES.now x y h 75 refl)
 
-  free_same : AgreeUnder FREE.now x y → names x ≡ names y
-  free_same h =
-      simp (name_under FREE.now x y h 3 refl, name_under FREE.now x y h 9 refl, name_under FREE.now x y h 15 refl, name_under FREE.now x y h 21 refl, name_under FREE.now x y h 27 refl, name_under FREE.now x y h 33 refl, name_under FREE.now x y h 39 refl, name_under FREE.now x y h 45 refl, name_under FREE.now x y h 51 refl, name_under FREE.now x y h 57 refl, name_under FREE.now x y h 63 refl, name_under FREE.now x y h 69 refl, name_under FREE.now x y h 75 refl)
+  list_same : AgreeUnder NAMES.now x y → name_list x ≡ name_list y
+  unfolding name_list
+  list_same h =
+      simp (name_under NAMES.now x y h 3 refl, name_under NAMES.now x y h 9 refl, name_under NAMES.now x y h 15 refl, name_under NAMES.now x y h 21 refl, name_under NAMES.now x y h 27 refl, name_under NAMES.now x y h 33 refl, name_under NAMES.now x y h 39 refl, name_under NAMES.now x y h 45 refl, name_under NAMES.now x y h 51 refl, name_under NAMES.now x y h 57 refl, name_under NAMES.now x y h 63 refl, name_under NAMES.now x y h 69 refl, name_under NAMES.now x y h 75 refl)
 
-  free_fault_same : AgreeUnder FREE.now x y → names_fault x ≡ names_fault y
-  unfolding names_fault
-  free_fault_same h =
+  free_same : AgreeUnder FREE.now x y → name_list x ≡ name_list y
+  unfolding name_list
+  free_same h =
       simp (name_under FREE.now x y h 3 refl, name_under FREE.now x y h 9 refl, name_under FREE.now x y h 15 refl, name_under FREE.now x y h 21 refl, name_under FREE.now x y h 27 refl, name_under FREE.now x y h 33 refl, name_under FREE.now x y h 39 refl, name_under FREE.now x y h 45 refl, name_under FREE.now x y h 51 refl, name_under FREE.now x y h 57 refl, name_under FREE.now x y h 63 refl, name_under FREE.now x y h 69 refl, name_under FREE.now x y h 75 refl)
 
   pub tacs_output_under : (number : ℕ) → AgreeUnder NAMES.now x y → tacs_output_card number x ≡ tacs_output_card number y
   unfolding tacs_output_card tacs_output_fault
   tacs_output_under number h = simp (same_fault, whole_under NAMES.now x y h 1 2 refl, names_fault_same h, names_same h)
 
-  output_from : (number : ℕ) → mark_field x ≡ mark_field y → names_fault x ≡ names_fault y → names x ≡ names y → output_card number x ≡ output_card number y
-  unfolding output_card output_fault
-  output_from number mark faults list = simp (same_fault, mark, faults, list)
+  output_from : (number : ℕ) → judged (in_column 1 (mark_field x)) (outputs_by x) ≡ judged (in_column 1 (mark_field y)) (outputs_by y) → output_card number x ≡ output_card number y
+  unfolding output_card outputs.fields_of
+  output_from number card = simp (same_fault, card)
 
-  output_all : (number : ℕ) → mark_field x ≡ mark_field y → asks_all (mark_field y) ≡ true → output_card number x ≡ output_card number y
-  unfolding output_card output_fault
-  output_all number mark all = simp (same_fault, mark, all)
+  read_same : (mark : Result Bool Fault) → name_list x ≡ name_list y → judged mark (outputs_by x) ≡ judged mark (outputs_by y)
+  read_same (Ok true) list = refl
+  read_same (Ok false) list = simp list
+  read_same (Err fault) list = refl
+
+  output_listed : (number : ℕ) → mark_field x ≡ mark_field y → name_list x ≡ name_list y → output_card number x ≡ output_card number y
+  output_listed number mark list =
+      output_from number (ap (λ (m : Result Bool Why). judged (in_column 1 m) (outputs_by x)) mark ∙ read_same (in_column 1 (mark_field y)) list)
 
   output_by : (number : ℕ) (card : Result OutputCard Bad) → output_card number x ≡ card → AgreeUnder (output_ruler card) x y → output_card number x ≡ output_card number y
-  unfolding output_card
+  unfolding output_card outputs.fields_of
   output_by number (Ok AllNodes) e h =
-      let mark : mark_field x ≡ mark_field y = ap mark_by (whole_under ALL_NODES.now x y h 1 2 refl) in
-      output_all number mark (ap asks_all (sym mark) ∙ marked_all (asks_all (mark_field x)) (judge number x (output_fault x (mark_field x))) (names x) e)
-  output_by number (Ok (Names list)) e h = output_from number (ap mark_by (whole_under NAMES.now x y h 1 2 refl)) (names_fault_same h) (names_same h)
-  output_by number (Err bad) e h = output_from number (ap mark_by (whole_under FREE.now x y h 1 2 refl)) (free_fault_same h) (free_same h)
+      let all : mark_field x ≡ Ok true = marked_all number (fault_of_line x) x (mark_field x) e in
+      let all' : mark_field y ≡ Ok true = ap mark_by (sym (whole_under ALL_NODES.now x y h 1 2 refl)) ∙ all in
+      output_from number
+      (ap (λ (m : Result Bool Why). judged (in_column 1 m) (outputs_by x)) all ∙ sym (ap (λ (m : Result Bool Why). judged (in_column 1 m) (outputs_by y)) all'))
+  output_by number (Ok (Names list)) e h = output_listed number (ap mark_by (whole_under NAMES.now x y h 1 2 refl)) (list_same h)
+  output_by number (Err bad) e h = output_listed number (ap mark_by (whole_under FREE.now x y h 1 2 refl)) (free_same h)
 
   pub output_under : (number : ℕ) → AgreeUnder (output_ruler (output_card number x)) x y → output_card number x ≡ output_card number y
   output_under number h = output_by number (output_card number x) refl h
