@@ -30,7 +30,7 @@ use Rattle.emtp_walk.specs.declared.deck.Place.TheVariants.{After, Begin, Branch
 use Rattle.emtp_netcards.specs.BranchCard as branches
 use Rattle.emtp_netcards.specs.SourceCard as sources
 use Rattle.emtp_netcards.specs.SwitchCard as switches
-use Rattle.emtp_netcards.proofs.CardLines.{branch_line, switch_line}
+use Rattle.emtp_netcards.proofs.CardLines.{branch_line, source_line, switch_line}
 use Rattle.emtp_netcards.specs.declared.branch_card.BranchCard.{BranchCard}
 use Rattle.emtp_netcards.specs.declared.branch_card.BranchKind.{BranchKind}
 use Rattle.emtp_netcards.specs.declared.branch_card.BranchKind.TheVariants.{Line as LineKind, Reactor as ReactorKind, Resistor as ResistorKind, Second as SecondKind, Series as SeriesKind, Third as ThirdKind}
@@ -42,20 +42,6 @@ use Rattle.emtp_netcards.specs.declared.source_card.SourceCard.{SourceCard}
 use Rattle.emtp_netcards.specs.declared.switch_card.SwitchCard.{SwitchCard}
 use Rattle.emtp_walk.proofs.Rising.{later, front, behind, if_ok, go_ok, unless_ok, front_lines, IsHead, IsAmongBranches, IsAmongSwitches, IsAmongSources, IsAmongBlocks, IsAmongSignals, IsAmongExtras, IsAmongControl, IsAmongOutputs, InOrder, Orders, head_later, branches_later, passed, placed}
 use Rattle.emtp_walk.proofs.ControlOrder.{branches_next, control_order}
-
--- ---- the lines of cards
-
-named_line : (number : ℕ) (line : List ℕ) (name : Result (List ℕ) Why) (card : SourceCard) → sources.source_with number line (sources.type_field line) name ≡ Ok card → card.line ≡ number
-named_line number line (Ok name) card h = let line_of = λ (c : SourceCard). c.line in cc
-named_line number line (Err why) card h = absurd (cc)
-
-judged_line : (number : ℕ) (line : List ℕ) (bad : Option Bad) (name : Result (List ℕ) Why) (card : SourceCard) → sources.unless_judged bad (sources.source_with number line (sources.type_field line) name) ≡ Ok card → card.line ≡ number
-judged_line number line (Some bad) name card h = absurd (cc)
-judged_line number line None name card h = named_line number line name card h
-
-source_line : (number : ℕ) (line : List ℕ) (card : SourceCard) → sources.source_card number line ≡ Ok card → card.line ≡ number
-unfolding sources.source_card
-source_line number line card h = judged_line number line (judge number line (sources.fields_fault line (sources.type_field line))) _ card h
 
 -- ---- entries
 

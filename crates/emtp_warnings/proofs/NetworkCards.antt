@@ -3,7 +3,6 @@ use Rattle.std.proofs.Common.{◌≡◌, ◌∙◌, sym, ap, refl, ℕ, Bool, tr
 use Rattle.std.specs.Ordering.{int_eq}
 use Rattle.std.specs.Prelude.{◌==◌, not, ◌&&◌, ℤ, pos, cond, codes, Option, Some, None, Result, Ok, Err}
 use Rattle.std.specs.Str.{bytes_eq}
-use Rattle.emtp_card.specs.Fault.{judge}
 use Rattle.emtp_card.specs.Field.{field_of}
 use Rattle.emtp_card.specs.Lines.{fault_of_line, is_section_end}
 use Rattle.emtp_card.specs.Name.{name_field, named}
@@ -19,7 +18,7 @@ use Rattle.emtp_netcards.specs.Reading.{both, in_column, judged}
 use Rattle.emtp_netcards.specs.RunCards.{first_card, first_fields, second_card, second_fields, tolerance_card}
 use Rattle.emtp_netcards.specs.SeriesValues.{series_values}
 use Rattle.emtp_netcards.specs.SourceCard as sources
-use Rattle.emtp_netcards.specs.SourceCard.{amplitude_field, cosine_fault, fields_fault, shape_fault, source_card, source_shape, source_with}
+use Rattle.emtp_netcards.specs.SourceCard.{active_times, cosine_of, course_of, ramp_of, source_card}
 use Rattle.emtp_netcards.specs.SwitchCard as switches
 use Rattle.emtp_netcards.specs.SwitchCard.{is_measuring, switch_card, times_of, valve_of}
 use Rattle.emtp_netcards.specs.declared.branch_card.BranchKind.{BranchKind}
@@ -269,54 +268,41 @@ module _ (x y : List ℕ) (sound : AreFaultless x y) where
 
   -- ---- sources
 
-  source_with_same : (number : ℕ) (type : Result SourceType Why) → whole_field x 9 10 ≡ whole_field y 9 10 → amplitude_field x type ≡ amplitude_field y type → source_shape x type ≡ source_shape y type
-      → sources.start_field x ≡ sources.start_field y → sources.stop_field x ≡ sources.stop_field y → (name : Result (List ℕ) Why)
-      → source_with number x type name ≡ source_with number y type name
-  source_with_same number type current amplitude shape start stop (Ok name) = simp (current, amplitude, shape, start, stop)
-  source_with_same number type current amplitude shape start stop (Err why) = refl
+  source_read : (number : ℕ) → name_field x 3 ≡ name_field y 3 → whole_field x 9 10 ≡ whole_field y 9 10
+      → judged (in_column 1 (sources.type_field x)) (course_of x) ≡ judged (in_column 1 (sources.type_field y)) (course_of y)
+      → active_times x ≡ active_times y → source_card number x ≡ source_card number y
+  unfolding source_card sources.fields_of
+  source_read number name sign course times = simp (fault_same, name, sign, course, times)
 
-  source_fault_same : (type : Result SourceType Why) → name_field x 3 ≡ name_field y 3 → whole_field x 9 10 ≡ whole_field y 9 10 → amplitude_field x type ≡ amplitude_field y type
-      → shape_fault x type ≡ shape_fault y type → sources.start_field x ≡ sources.start_field y → sources.stop_field x ≡ sources.stop_field y
-      → fields_fault x type ≡ fields_fault y type
-  unfolding fields_fault
-  source_fault_same type name current amplitude fault start stop = simp (name, current, amplitude, fault, start, stop)
-
-  source_at : (number : ℕ) (type : Result SourceType Why) → fields_fault x type ≡ fields_fault y type → name_field x 3 ≡ name_field y 3
-      → ((name : Result (List ℕ) Why) → source_with number x type name ≡ source_with number y type name)
-      → sources.unless_judged (judge number x (fields_fault x type)) (sources.named number x type) ≡ sources.unless_judged (judge number y (fields_fault y type)) (sources.named number y type)
-  source_at number type fault name same = simp (fault_same, fault, name, same)
+  active_under : (ruler : List ℕ) → AgreeUnder ruler x y → has_field ruler 61 70 ≡ true → has_field ruler 71 80 ≡ true → active_times x ≡ active_times y
+  unfolding active_times
+  active_under ruler h start stop = simp (held_under ruler x y h 61 70 start, held_under ruler x y h 71 80 stop)
 
   -- the fields that a source has whatever its type
   source_from : (ruler : List ℕ) (number : ℕ) (type : Result SourceType Why) → AgreeUnder ruler x y → sources.type_field x ≡ type
       → has_field ruler 1 2 ≡ true → has_field ruler 3 8 ≡ true → has_field ruler 9 10 ≡ true → has_field ruler 61 70 ≡ true → has_field ruler 71 80 ≡ true
-      → amplitude_field x type ≡ amplitude_field y type → shape_fault x type ≡ shape_fault y type → source_shape x type ≡ source_shape y type
-      → source_card number x ≡ source_card number y
-  unfolding source_card
-  source_from ruler number type h t m1 m3 m9 m61 m71 amplitude fault shape =
+      → judged (in_column 1 type) (course_of x) ≡ judged (in_column 1 type) (course_of y) → source_card number x ≡ source_card number y
+  source_from ruler number type h t m1 m3 m9 m61 m71 course =
       let t' : sources.type_field y ≡ type = ap sources.type_by (sym (whole_under ruler x y h 1 2 m1)) ∙ t in
-      let name = name_under ruler x y h 3 m3 in
-      let current = whole_under ruler x y h 9 10 m9 in
-      let start : sources.start_field x ≡ sources.start_field y = simp (held_under ruler x y h 61 70 m61) in
-      let stop : sources.stop_field x ≡ sources.stop_field y = simp (held_under ruler x y h 71 80 m71) in
-      ap (λ (kind : Result SourceType Why). sources.unless_judged (judge number x (fields_fault x kind)) (sources.named number x kind)) t
-      ∙ source_at number type (source_fault_same type name current amplitude fault start stop) name (source_with_same number type current amplitude shape start stop)
-      ∙ sym (ap (λ (kind : Result SourceType Why). sources.unless_judged (judge number y (fields_fault y kind)) (sources.named number y kind)) t')
+      source_read number (name_under ruler x y h 3 m3) (whole_under ruler x y h 9 10 m9)
+      (ap (λ (k : Result SourceType Why). judged (in_column 1 k) (course_of x)) t ∙ course ∙ sym (ap (λ (k : Result SourceType Why). judged (in_column 1 k) (course_of y)) t'))
+      (active_under ruler h m61 m71)
 
-  cosine_under : AgreeUnder COSINE.now x y → cosine_fault x ≡ cosine_fault y
-  unfolding cosine_fault
-  cosine_under h = simp (number_under COSINE.now x y h 21 30 refl, number_under COSINE.now x y h 31 40 refl, number_under COSINE.now x y h 41 50 refl)
+  ramp_under : AgreeUnder RAMP.now x y → ramp_of x ≡ ramp_of y
+  unfolding ramp_of
+  ramp_under h = simp (number_under RAMP.now x y h 11 20 refl, number_under RAMP.now x y h 31 40 refl)
+
+  cosine_under : AgreeUnder COSINE.now x y → cosine_of x ≡ cosine_of y
+  unfolding cosine_of
+  cosine_under h =
+      simp (number_under COSINE.now x y h 11 20 refl, number_under COSINE.now x y h 21 30 refl, number_under COSINE.now x y h 31 40 refl, number_under COSINE.now x y h 41 50 refl)
 
   source_by : (number : ℕ) (type : Result SourceType Why) → sources.type_field x ≡ type → AgreeUnder (source_ruler type) x y → source_card number x ≡ source_card number y
-  source_by number (Ok StepType) t h =
-      source_from STEP.now number (Ok StepType) h t refl refl refl refl refl (simp (number_under STEP.now x y h 11 20 refl)) refl refl
-  source_by number (Ok RampType) t h =
-      source_from RAMP.now number (Ok RampType) h t refl refl refl refl refl (simp (number_under RAMP.now x y h 11 20 refl)) (simp (number_under RAMP.now x y h 31 40 refl)) (simp (number_under RAMP.now x y h 31 40 refl))
-  source_by number (Ok CosineType) t h =
-      source_from COSINE.now number (Ok CosineType) h t refl refl refl refl refl (simp (number_under COSINE.now x y h 11 20 refl)) (cosine_under h)
-      (simp (number_under COSINE.now x y h 21 30 refl, number_under COSINE.now x y h 31 40 refl))
-  source_by number (Ok TacsType) t h = source_from VARIABLE.now number (Ok TacsType) h t refl refl refl refl refl refl refl refl
-  source_by number (Err why) t h =
-      source_from FREE.now number (Err why) h t refl refl refl refl refl (simp (number_under FREE.now x y h 11 20 refl)) refl refl
+  source_by number (Ok StepType) t h = source_from STEP.now number (Ok StepType) h t refl refl refl refl refl (simp (number_under STEP.now x y h 11 20 refl))
+  source_by number (Ok RampType) t h = source_from RAMP.now number (Ok RampType) h t refl refl refl refl refl (ramp_under h)
+  source_by number (Ok CosineType) t h = source_from COSINE.now number (Ok CosineType) h t refl refl refl refl refl (cosine_under h)
+  source_by number (Ok TacsType) t h = source_from VARIABLE.now number (Ok TacsType) h t refl refl refl refl refl refl
+  source_by number (Err why) t h = source_from FREE.now number (Err why) h t refl refl refl refl refl refl
 
   pub source_under : (number : ℕ) → AgreeUnder (source_ruler (sources.type_field x)) x y → source_card number x ≡ source_card number y
   source_under number h = source_by number (sources.type_field x) refl h
