@@ -1,14 +1,14 @@
 -- Two lines without a faulty byte that agree under the ruler of one of them give the same points.
 use Rattle.std.proofs.Common.{◌≡◌, ◌∙◌, sym, ap, refl, ℕ, Bool, true, false, List}
-use Rattle.std.specs.Prelude.{ℤ, cond, Option, Some, None, option_map}
-use Rattle.emtp_card.specs.Fault.{bad_at, judge_by, judge_due, unless_bad}
+use Rattle.std.specs.Prelude.{ℤ, cond, Option, None, option_map, Result, Ok, Err}
+use Rattle.emtp_card.specs.Fault.{bad_at, judge_by, judge_due}
 use Rattle.emtp_card.specs.Lines.{fault_of_line, is_section_end}
 use Rattle.emtp_card.specs.declared.fault.Fault.{Fault}
-use Rattle.emtp_card.specs.declared.reason.Bad.{Bad}
 use Rattle.emtp_card.specs.declared.reason.Why.{Why}
 use Rattle.emtp_case.specs.declared.branch.Point.{Point}
-use Rattle.emtp_netcards.specs.PointCard.{ending_number, fewest_fault, first_field, is_ending, is_number, next_fault, next_point, point_of, second_field}
-use Rattle.emtp_netcards.specs.held.PointCard.{point_card, point_fault}
+use Rattle.emtp_netcards.specs.PointCard.{ending_number, first_field, in_room, is_ending, is_number, next_point, next_read, point_after, points_end, second_field}
+use Rattle.emtp_netcards.specs.held.PointCard.{point_card, point_of, point_read}
+use Rattle.emtp_netcards.specs.Reading.{card_by, card_due}
 use Rattle.emtp_netcards.specs.declared.point_card.PointScale.{PointScale}
 use Rattle.emtp_netcards.specs.declared.point_card.PointScale.TheVariants.{Reactor, Resistor, Table, Times}
 use Rattle.emtp_warnings.proofs.Agreeing.{has_field, number_under}
@@ -27,16 +27,21 @@ due_is number line fault e =
     ap (λ (bytes : Option (ℕ × Why)). cond (is_section_end line) (option_map (bad_at number) fault) (judge_by number bytes fault)) e
     ∙ one_way (is_section_end line) (option_map (bad_at number) fault)
 
+-- the bytes of a card of a group aren't what refuses it
+read_is : {A : Type 0} (number : ℕ) (line : List ℕ) (read : Result A Fault) → fault_of_line line ≡ None → card_due number line read ≡ card_by number None read
+read_is number line read e =
+    ap (λ (bytes : Option (ℕ × Why)). cond (is_section_end line) (card_by number None read) (card_by number bytes read)) e
+    ∙ one_way (is_section_end line) (card_by number None read)
+
 -- the card that ends points is known by its first field
-ends_by : (ending : Bool) (last other : Option Bad) (point : Point) → is_last_card (cond ending (unless_bad last None) (unless_bad other (Some point))) ≡ true → ending ≡ true
-ends_by true last other point e = refl
-ends_by false last None point e = absurd (cc)
-ends_by false last (Some bad) point e = absurd (cc)
+ends_by : (number : ℕ) (ending : Bool) (first second : Result ℤ Fault) → is_last_card (card_by number None (cond ending (Ok None) (point_of first second))) ≡ true → ending ≡ true
+ends_by number true first second e = refl
+ends_by number false (Ok x) (Ok y) e = absurd (cc)
+ends_by number false (Ok x) (Err f) e = absurd (cc)
+ends_by number false (Err f) (Ok y) e = absurd (cc)
+ends_by number false (Err f) (Err g) e = absurd (cc)
 
 module _ (x y : List ℕ) (sound : AreFaultless x y) where
-  due_same : (number : ℕ) (fault : Option Fault) → judge_due number x fault ≡ judge_due number y fault
-  due_same number fault = due_is number x fault sound.one ∙ sym (due_is number y fault sound.other)
-
   first_same : (ruler : List ℕ) → AgreeUnder ruler x y → has_field ruler 1 16 ≡ true → (scale : PointScale) → first_field x scale ≡ first_field y scale
   first_same ruler h marks Resistor = simp (number_under ruler x y h 1 16 marks)
   first_same ruler h marks Reactor = simp (number_under ruler x y h 1 16 marks)
@@ -49,40 +54,34 @@ module _ (x y : List ℕ) (sound : AreFaultless x y) where
   second_same h Table = simp (number_under POINT.now x y h 17 32 refl)
   second_same h Times = simp (number_under POINT.now x y h 17 32 refl)
 
-  next_faults_same : (scale : PointScale) (before : Option Point) (count : ℕ) (dt : ℤ) → first_field x scale ≡ first_field y scale → second_field x scale ≡ second_field y scale
-      → next_fault x scale before count dt ≡ next_fault y scale before count dt
-  unfolding next_fault
-  next_faults_same scale before count dt first second = simp (first, second)
-
-  -- what the next card is, by whether it is the last one
-  next_from : (number : ℕ) (scale : PointScale) (before : Option Point) (count : ℕ) (dt : ℤ) → is_ending x scale ≡ is_ending y scale
-      → next_fault x scale before count dt ≡ next_fault y scale before count dt → point_of x scale ≡ point_of y scale → next_point number x scale before count dt ≡ next_point number y scale before count dt
-  unfolding next_point
-  next_from number scale before count dt ending fault point =
-      ap (λ (b : Bool). cond b (unless_bad (judge_due number x (fewest_fault scale count)) None) (unless_bad (judge_due number x (next_fault x scale before count dt)) (Some (point_of x scale)))) ending
-      ∙ ap (λ (bad : Option Bad). cond (is_ending y scale) (unless_bad bad None) (unless_bad (judge_due number x (next_fault x scale before count dt)) (Some (point_of x scale)))) (due_same number (fewest_fault scale count))
-      ∙ ap (λ (bad : Option Bad). cond (is_ending y scale) (unless_bad (judge_due number y (fewest_fault scale count)) None) (unless_bad bad (Some (point_of x scale)))) (due_same number (next_fault x scale before count dt) ∙ ap (judge_due number y) fault)
-      ∙ ap (λ (p : Point). cond (is_ending y scale) (unless_bad (judge_due number y (fewest_fault scale count)) None) (unless_bad (judge_due number y (next_fault y scale before count dt)) (Some p))) point
-
-  last_from : (number : ℕ) (scale : PointScale) (before : Option Point) (count : ℕ) (dt : ℤ) → is_ending x scale ≡ true → is_ending y scale ≡ true
+  -- what the next card is, from what is read of it
+  next_from : (number : ℕ) (scale : PointScale) (before : Option Point) (count : ℕ) (dt : ℤ) → next_read x scale before count dt ≡ next_read y scale before count dt
       → next_point number x scale before count dt ≡ next_point number y scale before count dt
   unfolding next_point
-  last_from number scale before count dt ends ends' =
-      ap (λ (b : Bool). cond b (unless_bad (judge_due number x (fewest_fault scale count)) None) (unless_bad (judge_due number x (next_fault x scale before count dt)) (Some (point_of x scale)))) ends
-      ∙ ap (λ (bad : Option Bad). unless_bad bad None) (due_same number (fewest_fault scale count))
-      ∙ sym (ap (λ (b : Bool). cond b (unless_bad (judge_due number y (fewest_fault scale count)) None) (unless_bad (judge_due number y (next_fault y scale before count dt)) (Some (point_of y scale)))) ends')
+  next_from number scale before count dt read =
+      read_is number x (next_read x scale before count dt) sound.one ∙ ap (card_by number None) read ∙ sym (read_is number y (next_read y scale before count dt) sound.other)
+
+  next_same : (scale : PointScale) (before : Option Point) (count : ℕ) (dt : ℤ) → first_field x scale ≡ first_field y scale → second_field x scale ≡ second_field y scale
+      → next_read x scale before count dt ≡ next_read y scale before count dt
+  unfolding next_read
+  next_same scale before count dt first second = simp (first, second)
+
+  last_same : (scale : PointScale) (before : Option Point) (count : ℕ) (dt : ℤ) → is_ending x scale ≡ true → is_ending y scale ≡ true
+      → next_read x scale before count dt ≡ next_read y scale before count dt
+  unfolding next_read
+  last_same scale before count dt ends ends' =
+      ap (λ (b : Bool). cond b (points_end scale count) (in_room count (point_after scale before dt (first_field x scale) (second_field x scale)))) ends
+      ∙ sym (ap (λ (b : Bool). cond b (points_end scale count) (in_room count (point_after scale before dt (first_field y scale) (second_field y scale)))) ends')
 
   point_by : (number : ℕ) (scale : PointScale) (before : Option Point) (count : ℕ) (dt : ℤ) (last : Bool) → ends_points number x scale ≡ last → AgreeUnder (point_ruler last) x y
       → next_point number x scale before count dt ≡ next_point number y scale before count dt
-  unfolding point_card
+  unfolding point_card point_read
   point_by number scale before count dt true e h =
-      let ends = ends_by (is_ending x scale) (judge_due number x None) (judge_due number x (point_fault x scale)) (point_of x scale) e in
-      last_from number scale before count dt ends (ap (is_number (ending_number scale)) (sym (first_same ENDING.now h refl scale)) ∙ ends)
+      let last = ap is_last_card (sym (read_is number x (point_read x scale) sound.one)) ∙ e in
+      let ends = ends_by number (is_ending x scale) (first_field x scale) (second_field x scale) last in
+      next_from number scale before count dt (last_same scale before count dt ends (ap (is_number (ending_number scale)) (sym (first_same ENDING.now h refl scale)) ∙ ends))
   point_by number scale before count dt false e h =
-      let first = first_same POINT.now h refl scale in
-      let second = second_same h scale in
-      let point : point_of x scale ≡ point_of y scale = simp (first, second) in
-      next_from number scale before count dt (ap (is_number (ending_number scale)) first) (next_faults_same scale before count dt first second) point
+      next_from number scale before count dt (next_same scale before count dt (first_same POINT.now h refl scale) (second_same h scale))
 
   pub point_under : (number : ℕ) (scale : PointScale) (before : Option Point) (count : ℕ) (dt : ℤ) → AgreeUnder (point_ruler (ends_points number x scale)) x y
       → next_point number x scale before count dt ≡ next_point number y scale before count dt
