@@ -1,7 +1,10 @@
 -- Channels are known by their lines.
-use Rattle.std.proofs.Common.{◌≡◌, ◌++◌, ◌∙◌, sym, ap, subst, refl, arith, ◌^◌, ◌<◌, List, [], ◌∷◌, ℕ, zero, suc, map, get_or, codes, decimal}
+use Rattle.std.proofs.Common.{◌≡◌, ◌++◌, ◌∙◌, sym, ap, subst, refl, arith, ◌-◌, ◌^◌, ◌<◌, ◌≤◌, Bool, false, true, List, [], ◌∷◌, ℕ, zero, suc, map, take, get_or, codes, decimal}
 use Rattle.std.specs.Prelude.{All}
+use Rattle.std.proofs.lemmas.List.{length-take}
+use Rattle.std.proofs.lemmas.List.Sums.{count_by-le-length}
 use Rattle.emtp_case.specs.Branch.{from_of, to_of}
+use Rattle.emtp_case.specs.Channel.{is_status}
 use Rattle.emtp_case.specs.held.Channel.{IsChannel}
 use Rattle.emtp_case.specs.ChannelName.{name_of_branch, name_of_ends, name_of_node, name_of_switch, text_of}
 use Rattle.emtp_case.specs.held.Name.{IsName}
@@ -9,12 +12,12 @@ use Rattle.emtp_case.specs.declared.case.Parts.{Parts}
 use Rattle.emtp_case.specs.declared.channel.Channel.{Channel}
 use Rattle.emtp_case.specs.declared.channel.Channel.TheVariants.{BranchCurrent, BranchVoltage, SwitchCurrent as CurrentChannel, NodeVoltage as NodeChannel, Tacs as OfTacs, Status, SwitchVoltage}
 use Rattle.emtp_case.specs.declared.switch.Switch.{Switch}
-use Rattle.emtp_listing.specs.ChannelLines.{channel_line, measured_entry, measured_word}
+use Rattle.emtp_listing.specs.ChannelLines.{channel_line, measured_entry, measured_word, record_entry, states_upto}
 use Rattle.emtp_listing.specs.Entry.{word_entry}
 use Rattle.emtp_listing.specs.Law.{IsFree, AllFree, AreApart, Around, HasNodeNames, HasVarNames}
 use Rattle.emtp_listing.specs.Lines.{all_separated, head_text}
 use Rattle.emtp_listing.proofs.Cut.{free-both, free-entries, fronts-same}
-use Rattle.emtp_listing.proofs.Entries.{place-marked}
+use Rattle.emtp_listing.proofs.Entries.{count-marked, place-marked}
 use Rattle.emtp_listing.proofs.Marks.{IsMark, IsText, comma, line_end, name_at-text, node-free, node-same, text-both, word-free}
 use Rattle.emtp_listing.proofs.Numbers.{decimal-free, place-same}
 use Rattle.emtp_listing.proofs.Words.{variable-free, variable-same}
@@ -117,27 +120,47 @@ measured-same w v nodes vars (Status m) (Status n) few few2 apart named named2 a
 
 -- ---- lines
 
-abbrev channel_entries : Parts → Channel → List (List ℕ)
-channel_entries p c = measured_word c ∷ measured_entry p.nodes p.vars c ∷ word_entry (codes "name") (text_of p c) ∷ []
+states_upto-few : (channels : List Channel) (number : ℕ) → states_upto channels number ≤ number
+states_upto-few channels number =
+    let most = count_by-le-length is_status (take number channels) in
+    let few = length-take number channels in
+    omega (arith, most, few)
 
-channel-entries-free : (b : ℕ) (w : Around) (p : Parts) (c : Channel) → IsMark b → HasNodeNames w p.nodes → HasVarNames w p.vars → IsChannel w.sizes c → AllFree b (channel_entries p c)
-channel-entries-free b w p c mark few named is =
-    (mark.texts (measured_word c) (word-text c), (measured-free b w p.nodes p.vars c mark few named is, (word-free b (codes "name") (text_of p c) mark refl (text-text p c few.names named.names), tt)))
+record-entry-free : (b : ℕ) (state : Bool) (number states : ℕ) → IsMark b → number < 2 ^ 32 → states ≤ number → IsFree b (record_entry state number states)
+record-entry-free b false number states mark small few = count-marked b (codes "analog channel") (number - states) mark refl (omega (arith, small))
+record-entry-free b true number states mark small few = count-marked b (codes "status channel") states mark refl (omega (arith, small, few))
+
+abbrev channel_entries : Parts → ℕ → Channel → List (List ℕ)
+channel_entries p number c =
+    measured_word c ∷ measured_entry p.nodes p.vars c ∷ word_entry (codes "name") (text_of p c)
+    ∷ record_entry (is_status c) number (states_upto p.channels number) ∷ []
+
+channel-entries-free : (b : ℕ) (w : Around) (p : Parts) (number : ℕ) (c : Channel) → IsMark b → number < 2 ^ 32 → HasNodeNames w p.nodes → HasVarNames w p.vars → IsChannel w.sizes c → AllFree b (channel_entries p number c)
+channel-entries-free b w p number c mark small few named is = (
+  mark.texts (measured_word c) (word-text c),
+  (
+    measured-free b w p.nodes p.vars c mark few named is,
+    (
+      word-free b (codes "name") (text_of p c) mark refl (text-text p c few.names named.names),
+      (record-entry-free b (is_status c) number (states_upto p.channels number) mark small (states_upto-few p.channels number), tt),
+    ),
+  ),
+)
 
 head-free : (b number : ℕ) → IsMark b → number < 2 ^ 32 → IsFree b (head_text (codes "channel") number)
 head-free b number mark small = free-both b (codes "channel ") (decimal number) (mark.texts (codes "channel ") refl) (decimal-free b number (omega (arith, mark.low)) (omega arith))
 
 pub channel-free : (w : Around) (p : Parts) (number : ℕ) (c : Channel) → number < 2 ^ 32 → HasNodeNames w p.nodes → HasVarNames w p.vars → IsChannel w.sizes c → IsFree 10 (channel_line p number c)
 channel-free w p number c small few named is =
-    free-both 10 (head_text (codes "channel") number) (all_separated (channel_entries p c)) (head-free 10 number line_end small) (free-entries 10 (channel_entries p c) (omega arith) (channel-entries-free 10 w p c line_end few named is))
+    free-both 10 (head_text (codes "channel") number) (all_separated (channel_entries p number c)) (head-free 10 number line_end small) (free-entries 10 (channel_entries p number c) (omega arith) (channel-entries-free 10 w p number c line_end small few named is))
 
 -- the nodes and variables of both cases have the same names
 pub channel-same : (w v : Around) (p q : Parts) (number : ℕ) (c d : Channel) → number < 2 ^ 32 → p.nodes ≡ q.nodes → p.vars ≡ q.vars → HasNodeNames w p.nodes → HasNodeNames v q.nodes → AreApart p.nodes → HasVarNames w p.vars → HasVarNames v q.vars → AreApart p.vars
     → IsChannel w.sizes c → IsChannel v.sizes d → channel_line p number c ≡ channel_line q number d → c ≡ d
 channel-same w v p q number c d small nodes vars few few2 apart named named2 apart_vars is js e =
     let head = head-free 44 number comma small in
-    let parts = fronts-same (head_text (codes "channel") number) (head_text (codes "channel") number) (channel_entries p c) (channel_entries q d) head head
-    (channel-entries-free 44 w p c comma few named is) (channel-entries-free 44 v q d comma few2 named2 js) e in
+    let parts = fronts-same (head_text (codes "channel") number) (head_text (codes "channel") number) (channel_entries p number c) (channel_entries q number d) head head
+    (channel-entries-free 44 w p number c comma small few named is) (channel-entries-free 44 v q number d comma small few2 named2 js) e in
     measured-same w v p.nodes p.vars c d few (subst (HasNodeNames v) (sym nodes) few2) apart named (subst (HasVarNames v) (sym vars) named2) apart_vars is js
     (ap (λ (l : List (List ℕ)). get_or l 0 []) parts.1)
     (ap (λ (l : List (List ℕ)). get_or l 1 []) parts.1 ∙ ap (λ (ns : List (List ℕ)). measured_entry ns q.vars d) (sym nodes) ∙ ap (λ (vs : List (List ℕ)). measured_entry p.nodes vs d) (sym vars))

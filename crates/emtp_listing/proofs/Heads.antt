@@ -1,56 +1,78 @@
 -- The lines of the case, of its run and of its names.
-use Rattle.std.proofs.Common.{◌≡◌, ◌∙◌, ap, refl, arith, ◌^◌, ◌<◌, List, [], ◌∷◌, ℕ, ℤ, length, get_or, drop, codes, decimal}
+use Rattle.std.proofs.Common.{◌≡◌, ◌∙◌, ap, refl, arith, ◌*◌, ◌-◌, ◌^◌, ◌<◌, ◌≤◌, List, [], ◌∷◌, ℕ, ℤ, pos, length, get_or, drop, codes, decimal, unsigned_abs}
+use Rattle.std.specs.Prelude.{◌*ℤ◌, count_by}
+use Rattle.std.proofs.Math.Nat.{div-le_self, mul-le-mul}
+use Rattle.std.proofs.lemmas.Int.{unsigned_abs-mul}
+use Rattle.std.proofs.lemmas.List.Sums.{count_by-le-length}
 use Rattle.emtp_case.specs.held.Name.{IsName}
 use Rattle.emtp_case.specs.held.Case.{HasCounts}
+use Rattle.emtp_case.specs.Channel.{is_status}
+use Rattle.emtp_case.specs.HistoryValues.{history_values_of}
+use Rattle.emtp_case.specs.held.Range.{IsBetween}
+use Rattle.emtp_case.specs.RunData.{samples_of, time_of}
 use Rattle.emtp_case.specs.held.RunData.{IsRun}
 use Rattle.emtp_case.specs.declared.case.Parts.{Parts}
 use Rattle.emtp_case.specs.declared.run_data.RunData.{RunData}
-use Rattle.emtp_listing.specs.Entry.{count_entry, number_entry, word_entry}
+use Rattle.emtp_listing.specs.Entry.{count_entry, limited_entry, number_entry, word_entry}
 use Rattle.emtp_listing.specs.Law.{IsFree, AllFree}
 use Rattle.emtp_listing.specs.Lines.{all_separated, head_text}
-use Rattle.emtp_listing.specs.Listing.{case_line, name_line, run_line}
+use Rattle.emtp_listing.specs.Listing.{case_line, name_line, record_line, run_line}
+use Rattle.emtp_case.specs.declared.limit.TheConstants.{MOST_BRANCHES, MOST_CHANNELS, MOST_CONTROL_CARDS, MOST_HISTORY_VALUES, MOST_NODES, MOST_SOURCES, MOST_STEPS, MOST_STORED_VALUES, MOST_SWITCHES}
 use Rattle.emtp_listing.proofs.Cut.{free-both, free-entries, entries-same, fronts-same}
-use Rattle.emtp_listing.proofs.Entries.{number-marked, count-marked}
-use Rattle.emtp_listing.proofs.Marks.{IsMark, IsText, comma, line_end, name-text, word-free, word-same, between-small}
+use Rattle.emtp_listing.proofs.Entries.{number-marked, count-marked, limited-marked, limited-same}
+use Rattle.emtp_listing.proofs.Marks.{IsMark, IsText, comma, line_end, name-text, word-free, word-same, between-most, between-small}
 use Rattle.emtp_listing.proofs.Numbers.{decimal-free, number-same, count-same}
 
--- ---- the case
+-- ---- the case and its run
+
+product-small : (m n : ℕ) → m ≤ 1000000 → n ≤ 10 ^ 12 → m * n < 2 ^ 64
+product-small m n few small = let most : m * n ≤ 1000000 * 10 ^ 12 = mul-le-mul few small in omega (arith, most)
+
+end-small : (run : RunData) → IsRun run → unsigned_abs (time_of run run.steps) < 2 ^ 64
+end-small run is = time-small run.steps run.dt is.few_steps is.dt
+  where
+    time-small : (steps : ℕ) (dt : ℤ) → steps ≤ 1000000 → IsBetween 1000 (10 ^ 12) dt → unsigned_abs (pos steps *ℤ dt) < 2 ^ 64
+    time-small steps dt few is =
+        rw (unsigned_abs-mul (pos steps) dt) (product-small steps (unsigned_abs dt) few (between-most 1000 (10 ^ 12) dt is))
+
+samples-small : (run : RunData) → IsRun run → samples_of run < 2 ^ 64
+samples-small run is = let few = div-le_self run.steps run.every in omega (arith, few, is.few_steps)
 
 abbrev case_entries : Parts → List (List ℕ)
 case_entries p =
-    count_entry (codes "nodes") (length p.nodes)
+    limited_entry (codes "nodes") MOST_NODES (length p.nodes)
     ∷ count_entry (codes "variables") (length p.vars)
-    ∷ count_entry (codes "branches") (length p.branches)
+    ∷ limited_entry (codes "branches") MOST_BRANCHES (length p.branches)
     ∷ count_entry (codes "three-phase lines") (length p.trios)
-    ∷ count_entry (codes "switches") (length p.switches)
-    ∷ count_entry (codes "sources") (length p.sources)
-    ∷ count_entry (codes "control sources") (length p.tacs_sources)
-    ∷ count_entry (codes "blocks") (length p.blocks)
-    ∷ count_entry (codes "supplemental cards") (length p.extras)
-    ∷ count_entry (codes "channels") (length p.channels)
+    ∷ limited_entry (codes "switches") MOST_SWITCHES (length p.switches)
+    ∷ limited_entry (codes "sources") MOST_SOURCES (length p.sources)
+    ∷ limited_entry (codes "control sources") MOST_CONTROL_CARDS (length p.tacs_sources)
+    ∷ limited_entry (codes "blocks") MOST_CONTROL_CARDS (length p.blocks)
+    ∷ limited_entry (codes "supplemental cards") MOST_CONTROL_CARDS (length p.extras)
+    ∷ limited_entry (codes "channels") MOST_CHANNELS (length p.channels)
     ∷ []
 
 case_entries-free : (b : ℕ) (p : Parts) → IsMark b → HasCounts p → AllFree b (case_entries p)
 case_entries-free b p mark counts = (
-  count-marked b (codes "nodes") (length p.nodes) mark refl (omega (arith, counts.nodes)),
+  limited-marked b (codes "nodes") MOST_NODES (length p.nodes) mark refl (omega arith) (omega (arith, counts.nodes)),
   (
     count-marked b (codes "variables") (length p.vars) mark refl (omega (arith, counts.vars)),
     (
-      count-marked b (codes "branches") (length p.branches) mark refl (omega (arith, counts.branches)),
+      limited-marked b (codes "branches") MOST_BRANCHES (length p.branches) mark refl (omega arith) (omega (arith, counts.branches)),
       (
         count-marked b (codes "three-phase lines") (length p.trios) mark refl (omega (arith, counts.trios, counts.branches)),
         (
-          count-marked b (codes "switches") (length p.switches) mark refl (omega (arith, counts.switches)),
+          limited-marked b (codes "switches") MOST_SWITCHES (length p.switches) mark refl (omega arith) (omega (arith, counts.switches)),
           (
-            count-marked b (codes "sources") (length p.sources) mark refl (omega (arith, counts.sources)),
+            limited-marked b (codes "sources") MOST_SOURCES (length p.sources) mark refl (omega arith) (omega (arith, counts.sources)),
             (
-              count-marked b (codes "control sources") (length p.tacs_sources) mark refl (omega (arith, counts.tacs_sources)),
+              limited-marked b (codes "control sources") MOST_CONTROL_CARDS (length p.tacs_sources) mark refl (omega arith) (omega (arith, counts.tacs_sources)),
               (
-                count-marked b (codes "blocks") (length p.blocks) mark refl (omega (arith, counts.blocks)),
+                limited-marked b (codes "blocks") MOST_CONTROL_CARDS (length p.blocks) mark refl (omega arith) (omega (arith, counts.blocks)),
                 (
-                  count-marked b (codes "supplemental cards") (length p.extras) mark refl (omega (arith, counts.extras)),
+                  limited-marked b (codes "supplemental cards") MOST_CONTROL_CARDS (length p.extras) mark refl (omega arith) (omega (arith, counts.extras)),
                   (
-                    count-marked b (codes "channels") (length p.channels) mark refl (omega (arith, counts.channels)),
+                    limited-marked b (codes "channels") MOST_CHANNELS (length p.channels) mark refl (omega arith) (omega (arith, counts.channels)),
                     tt,
                   ),
                 ),
@@ -83,16 +105,16 @@ pub case-same : (p q : Parts) → HasCounts p → HasCounts q → case_line p �
 case-same p q cp cq e =
     let entries = entries-same (case_entries p) (case_entries q) (case_entries-free 44 p comma cp) (case_entries-free 44 q comma cq) (ap (λ (l : List ℕ). drop 4 l) e) in
     record {
-      nodes = count-same (codes "nodes") (length p.nodes) (length q.nodes) (omega (arith, cp.nodes)) (omega (arith, cq.nodes)) (ap (λ (l : List (List ℕ)). get_or l 0 []) entries);
+      nodes = limited-same (codes "nodes") MOST_NODES (length p.nodes) (length q.nodes) (omega (arith, cp.nodes)) (omega (arith, cq.nodes)) (ap (λ (l : List (List ℕ)). get_or l 0 []) entries);
       vars = count-same (codes "variables") (length p.vars) (length q.vars) (omega (arith, cp.vars)) (omega (arith, cq.vars)) (ap (λ (l : List (List ℕ)). get_or l 1 []) entries);
-      branches = count-same (codes "branches") (length p.branches) (length q.branches) (omega (arith, cp.branches)) (omega (arith, cq.branches)) (ap (λ (l : List (List ℕ)). get_or l 2 []) entries);
+      branches = limited-same (codes "branches") MOST_BRANCHES (length p.branches) (length q.branches) (omega (arith, cp.branches)) (omega (arith, cq.branches)) (ap (λ (l : List (List ℕ)). get_or l 2 []) entries);
       trios = count-same (codes "three-phase lines") (length p.trios) (length q.trios) (omega (arith, cp.trios, cp.branches)) (omega (arith, cq.trios, cq.branches)) (ap (λ (l : List (List ℕ)). get_or l 3 []) entries);
-      switches = count-same (codes "switches") (length p.switches) (length q.switches) (omega (arith, cp.switches)) (omega (arith, cq.switches)) (ap (λ (l : List (List ℕ)). get_or l 4 []) entries);
-      sources = count-same (codes "sources") (length p.sources) (length q.sources) (omega (arith, cp.sources)) (omega (arith, cq.sources)) (ap (λ (l : List (List ℕ)). get_or l 5 []) entries);
-      tacs_sources = count-same (codes "control sources") (length p.tacs_sources) (length q.tacs_sources) (omega (arith, cp.tacs_sources)) (omega (arith, cq.tacs_sources)) (ap (λ (l : List (List ℕ)). get_or l 6 []) entries);
-      blocks = count-same (codes "blocks") (length p.blocks) (length q.blocks) (omega (arith, cp.blocks)) (omega (arith, cq.blocks)) (ap (λ (l : List (List ℕ)). get_or l 7 []) entries);
-      extras = count-same (codes "supplemental cards") (length p.extras) (length q.extras) (omega (arith, cp.extras)) (omega (arith, cq.extras)) (ap (λ (l : List (List ℕ)). get_or l 8 []) entries);
-      channels = count-same (codes "channels") (length p.channels) (length q.channels) (omega (arith, cp.channels)) (omega (arith, cq.channels)) (ap (λ (l : List (List ℕ)). get_or l 9 []) entries);
+      switches = limited-same (codes "switches") MOST_SWITCHES (length p.switches) (length q.switches) (omega (arith, cp.switches)) (omega (arith, cq.switches)) (ap (λ (l : List (List ℕ)). get_or l 4 []) entries);
+      sources = limited-same (codes "sources") MOST_SOURCES (length p.sources) (length q.sources) (omega (arith, cp.sources)) (omega (arith, cq.sources)) (ap (λ (l : List (List ℕ)). get_or l 5 []) entries);
+      tacs_sources = limited-same (codes "control sources") MOST_CONTROL_CARDS (length p.tacs_sources) (length q.tacs_sources) (omega (arith, cp.tacs_sources)) (omega (arith, cq.tacs_sources)) (ap (λ (l : List (List ℕ)). get_or l 6 []) entries);
+      blocks = limited-same (codes "blocks") MOST_CONTROL_CARDS (length p.blocks) (length q.blocks) (omega (arith, cp.blocks)) (omega (arith, cq.blocks)) (ap (λ (l : List (List ℕ)). get_or l 7 []) entries);
+      extras = limited-same (codes "supplemental cards") MOST_CONTROL_CARDS (length p.extras) (length q.extras) (omega (arith, cp.extras)) (omega (arith, cq.extras)) (ap (λ (l : List (List ℕ)). get_or l 8 []) entries);
+      channels = limited-same (codes "channels") MOST_CHANNELS (length p.channels) (length q.channels) (omega (arith, cp.channels)) (omega (arith, cq.channels)) (ap (λ (l : List (List ℕ)). get_or l 9 []) entries);
     }
 
 -- ---- the run
@@ -100,7 +122,7 @@ case-same p q cp cq e =
 abbrev run_entries : RunData → List (List ℕ)
 run_entries run =
     number_entry (codes "DELTAT") 12 (codes "s") run.dt
-    ∷ count_entry (codes "steps") run.steps
+    ∷ limited_entry (codes "steps") MOST_STEPS run.steps
     ∷ count_entry (codes "IPLOT") run.every
     ∷ number_entry (codes "tolerance") 9 (codes "A") run.tolerance
     ∷ []
@@ -109,7 +131,7 @@ run_entries-free : (b : ℕ) (run : RunData) → IsMark b → IsRun run → AllF
 run_entries-free b run mark is = (
   number-marked b (codes "DELTAT") 12 (codes "s") run.dt mark refl refl (between-small 1000 (10 ^ 12) run.dt (omega arith) is.dt),
   (
-    count-marked b (codes "steps") run.steps mark refl (omega (arith, is.few_steps)),
+    limited-marked b (codes "steps") MOST_STEPS run.steps mark refl (omega arith) (omega (arith, is.few_steps)),
     (
       count-marked b (codes "IPLOT") run.every mark refl (omega (arith, is.few_every)),
       (number-marked b (codes "tolerance") 9 (codes "A") run.tolerance mark refl refl (between-small 0 (10 ^ 12) run.tolerance (omega arith) is.tolerance), tt),
@@ -124,13 +146,47 @@ pub run-same : (x y : RunData) → IsRun x → IsRun y → run_line x ≡ run_li
 run-same x y is js e =
     let entries = entries-same (run_entries x) (run_entries y) (run_entries-free 44 x comma is) (run_entries-free 44 y comma js) (ap (λ (l : List ℕ). drop 3 l) e) in
     let e1 = number-same (codes "DELTAT") 12 (codes "s") x.dt y.dt (between-small 1000 (10 ^ 12) x.dt (omega arith) is.dt) (between-small 1000 (10 ^ 12) y.dt (omega arith) js.dt) (ap (λ (l : List (List ℕ)). get_or l 0 []) entries) in
-    let e2 = count-same (codes "steps") x.steps y.steps (omega (arith, is.few_steps)) (omega (arith, js.few_steps)) (ap (λ (l : List (List ℕ)). get_or l 1 []) entries) in
+    let e2 = limited-same (codes "steps") MOST_STEPS x.steps y.steps (omega (arith, is.few_steps)) (omega (arith, js.few_steps)) (ap (λ (l : List (List ℕ)). get_or l 1 []) entries) in
     let e3 = count-same (codes "IPLOT") x.every y.every (omega (arith, is.few_every)) (omega (arith, js.few_every)) (ap (λ (l : List (List ℕ)). get_or l 2 []) entries) in
     let e4 = number-same (codes "tolerance") 9 (codes "A") x.tolerance y.tolerance (between-small 0 (10 ^ 12) x.tolerance (omega arith) is.tolerance) (between-small 0 (10 ^ 12) y.tolerance (omega arith) js.tolerance) (ap (λ (l : List (List ℕ)). get_or l 3 []) entries) in
     ap (λ (v : ℤ). made v x.steps x.every x.tolerance) e1 ∙ ap (λ (v : ℕ). made y.dt v x.every x.tolerance) e2 ∙ ap (λ (v : ℕ). made y.dt y.steps v x.tolerance) e3 ∙ ap (λ (v : ℤ). made y.dt y.steps y.every v) e4
   where
     made : ℤ → ℕ → ℕ → ℤ → RunData
     made a b c d = record { dt = a; steps = b; every = c; tolerance = d }
+
+-- ---- the record
+
+abbrev record_entries : Parts → List (List ℕ)
+record_entries p =
+    number_entry (codes "end") 12 (codes "s") (time_of p.run p.run.steps)
+    ∷ count_entry (codes "samples") (samples_of p.run)
+    ∷ count_entry (codes "analog channels") (length p.channels - count_by is_status p.channels)
+    ∷ count_entry (codes "status channels") (count_by is_status p.channels)
+    ∷ limited_entry (codes "values") MOST_STORED_VALUES (length p.channels * samples_of p.run)
+    ∷ limited_entry (codes "history values") MOST_HISTORY_VALUES (history_values_of p)
+    ∷ []
+
+record_entries-free : (b : ℕ) (p : Parts) → IsMark b → HasCounts p → IsRun p.run → AllFree b (record_entries p)
+record_entries-free b p mark counts is = (
+  number-marked b (codes "end") 12 (codes "s") (time_of p.run p.run.steps) mark refl refl (end-small p.run is),
+  (
+    count-marked b (codes "samples") (samples_of p.run) mark refl (samples-small p.run is),
+    (
+      count-marked b (codes "analog channels") (length p.channels - count_by is_status p.channels) mark refl (omega (arith, counts.channels)),
+      (
+        count-marked b (codes "status channels") (count_by is_status p.channels) mark refl (omega (arith, counts.channels, count_by-le-length is_status p.channels)),
+        (
+          limited-marked b (codes "values") MOST_STORED_VALUES (length p.channels * samples_of p.run) mark refl (omega arith) (omega (arith, counts.stored)),
+          (limited-marked b (codes "history values") MOST_HISTORY_VALUES (history_values_of p) mark refl (omega arith) (omega (arith, counts.history)), tt),
+        ),
+      ),
+    ),
+  ),
+)
+
+pub record-free : (p : Parts) → HasCounts p → IsRun p.run → IsFree 10 (record_line p)
+record-free p counts is =
+    free-both 10 (codes "record") (all_separated (record_entries p)) refl (free-entries 10 (record_entries p) (omega arith) (record_entries-free 10 p line_end counts is))
 
 -- ---- names
 

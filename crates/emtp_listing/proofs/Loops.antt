@@ -1,6 +1,10 @@
 -- Lists whose items are put one by one.
-use Rattle.std.proofs.Common.{◌≡◌, ◌++◌, ◌∙◌, ◌+◌, ◌<◌, sym, ap, arith, subst, List, [], ◌∷◌, ℕ, zero, suc, append_assoc, append-nil, take, map, length, get_or}
+use Rattle.std.proofs.Common.{◌≡◌, ◌++◌, ◌∙◌, ◌+◌, ◌<◌, sym, ap, arith, subst, true, false, List, [], ◌∷◌, ℕ, zero, suc, append_assoc, append-nil, take, map, length, get_or}
 use Rattle.std.proofs.lemmas.List.{map_more}
+use Rattle.std.proofs.lemmas.List.Sums.{count_by_more_no, count_by_more_yes}
+use Rattle.emtp_case.specs.Channel.{is_status}
+use Rattle.emtp_case.specs.declared.channel.Channel.{Channel}
+use Rattle.emtp_listing.specs.ChannelLines.{states_upto}
 use Rattle.emtp_listing.specs.Lines.{all_separated, grouped, lines_text, numbered, separated}
 use Rattle.emtp_listing.specs.Puts.{Puts}
 use Rattle.emtp_listing.proofs.Chains.{ended, entries_then, last, lines_then, retext}
@@ -76,3 +80,15 @@ power-more {X} {old} {a} {new} f xs i n number d less counts front entry =
     let entry' : Puts a (separated (f (i + n) (get_or xs i d))) new = subst (λ (k : ℕ). Puts a (separated (f k (get_or xs i d))) new) counts entry in
     retext (sym (ap (λ (k : ℕ). all_separated (numbered f n (take k xs))) (next_place i) ∙ ap all_separated (numbered-more f xs i n d less)))
     (entries_then (numbered f n (take i xs)) (f (i + n) (get_or xs i d) ∷ []) front (last entry'))
+
+-- how many of the first channels are states, with one more channel
+
+pub states-with : (channels items : List Channel) (at old new : ℕ) (d : Channel) → items ≡ channels → at < length items → old ≡ states_upto channels at
+    → is_status (get_or items at d) ≡ true → new ≡ old + 1 → new ≡ states_upto channels (at + 1)
+states-with channels items at old new d same within was is more =
+    more ∙ ap (λ (n : ℕ). n + 1) was ∙ sym (count_by_more_yes is_status channels at d (rw same at within) (rw same at is))
+
+pub states-without : (channels items : List Channel) (at old new : ℕ) (d : Channel) → items ≡ channels → at < length items → old ≡ states_upto channels at
+    → is_status (get_or items at d) ≡ false → new ≡ old → new ≡ states_upto channels (at + 1)
+states-without channels items at old new d same within was is more =
+    more ∙ was ∙ sym (count_by_more_no is_status channels at d (rw same at within) (rw same at is))

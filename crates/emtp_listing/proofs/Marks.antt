@@ -95,6 +95,10 @@ pub node-same : (name : List ℕ) (nodes : List (List ℕ)) (m n : ℕ) → All 
     → node_entry name nodes m ≡ node_entry name nodes n → m ≡ n
 node-same name nodes m n names apart there_m there_n e = node_word-same nodes m n names apart there_m there_n (word-same name (node_word nodes m) (node_word nodes n) e)
 
+pub between-most : (low high : ℕ) (z : ℤ) → IsBetween low high z → unsigned_abs z ≤ high
+between-most low high (pos x) is = omega (arith, ints, is.most)
+between-most low high (negsuc x) is = absurd (omega (arith, ints, is.least))
+
 pub between-small : (low high : ℕ) (z : ℤ) → high < 2 ^ 64 → IsBetween low high z → unsigned_abs z < 2 ^ 64
 between-small low high (pos x) few is = omega (arith, ints, is.most)
 between-small low high (negsuc x) few is = absurd (omega (arith, ints, is.least))

@@ -27,7 +27,7 @@ use Rattle.emtp_listing.proofs.Channels.{channel-free, channel-same}
 use Rattle.emtp_listing.proofs.Characteristics.{branch_group-free, branch_group-same}
 use Rattle.emtp_listing.proofs.Cut.{lines-same}
 use Rattle.emtp_listing.proofs.Devices.{extra-free, extra-same}
-use Rattle.emtp_listing.proofs.Heads.{HasLengths, case-free, case-same, name-line-free, name-same, run-free, run-same}
+use Rattle.emtp_listing.proofs.Heads.{HasLengths, case-free, case-same, name-line-free, name-same, record-free, run-free, run-same}
 use Rattle.emtp_listing.proofs.Lists.{all-free, front-same, grouped-free, grouped-same, map-free, map-length, map-same, numbered-free, numbered-length, numbered-same}
 use Rattle.emtp_listing.proofs.Marks.{IsText, line_end}
 use Rattle.emtp_listing.proofs.Sources.{source-free, source-same, tacs_source-free, tacs_source-same}
@@ -126,7 +126,7 @@ lines-free p is types =
     let counts = is.draft.counts in
     let nodes = names-free (codes "node") 1 p.nodes refl (omega (arith, counts.nodes)) is.draft.network.names in
     let vars = names-free (codes "variable") 0 p.vars refl (omega (arith, counts.vars)) is.draft.control.names in
-    (case-free p counts, (run-free p.run is.draft.run, all-free 10 _ _ nodes (all-free 10 _ _ vars (all-free 10 _ _ (network-free p is types) (control-free p is types)))))
+    (case-free p counts, (run-free p.run is.draft.run, (record-free p counts is.draft.run, all-free 10 _ _ nodes (all-free 10 _ _ vars (all-free 10 _ _ (network-free p is types) (control-free p is types))))))
 
 -- ---- names
 
@@ -270,7 +270,7 @@ case-listed-same p q is js types types2 apart apart_vars e =
     let long = case-same p q is.draft.counts js.draft.counts (ap (λ (l : List (List ℕ)). get_or l 0 []) all) in
     let run = run-same p.run q.run is.draft.run js.draft.run (ap (λ (l : List (List ℕ)). get_or l 1 []) all) in
     let r1 = names-front (codes "node") 1 p.nodes q.nodes (numbered (name_line (codes "variable")) 0 p.vars ++ (network_lines p ++ control_part p)) (numbered (name_line (codes "variable")) 0 q.vars ++ (network_lines q ++ control_part q))
-    refl (omega (arith, is.draft.counts.nodes)) is.draft.network.names js.draft.network.names long.nodes (ap (λ (l : List (List ℕ)). drop 2 l) all) in
+    refl (omega (arith, is.draft.counts.nodes)) is.draft.network.names js.draft.network.names long.nodes (ap (λ (l : List (List ℕ)). drop 3 l) all) in
     let r2 = names-front (codes "variable") 0 p.vars q.vars (network_lines p ++ control_part p) (network_lines q ++ control_part q)
     refl (omega (arith, is.draft.counts.vars)) is.draft.control.names js.draft.control.names long.vars r1.1 in
     let alike : AreNamedAlike p q = record { is = is; other = js; types = types; other_types = types2; nodes = r1.0; vars = r2.0; apart = apart; apart_vars = apart_vars; long = long } in

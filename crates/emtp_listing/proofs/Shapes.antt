@@ -1,5 +1,9 @@
 -- The courses of sources are known by their entries.
-use Rattle.std.proofs.Common.{◌≡◌, ◌∙◌, ap, refl, arith, ◌-◌, ◌^◌, List, [], ℕ, ℤ, get_or, codes}
+use Rattle.std.proofs.Common.{◌≡◌, ◌∙◌, ap, refl, arith, ◌*◌, ◌-◌, ◌^◌, ◌<◌, List, [], ℕ, ℤ, pos, get_or, codes, unsigned_abs}
+use Rattle.std.specs.Prelude.{◌*ℤ◌}
+use Rattle.std.proofs.lemmas.Int.{unsigned_abs-mul}
+use Rattle.emtp_case.specs.held.Range.{IsBetween}
+use Rattle.emtp_fix.proofs.Nearest.{unsigned_abs-near-le}
 use Rattle.emtp_case.specs.held.Sizes.{Sizes}
 use Rattle.emtp_case.specs.held.Source.{HasShapeNumbers, IsControlShape, IsNetworkShape}
 use Rattle.emtp_case.specs.declared.source.Shape.{Shape}
@@ -7,9 +11,9 @@ use Rattle.emtp_case.specs.declared.source.Shape.TheVariants.{Cosine, NodeVoltag
 use Rattle.emtp_case.specs.declared.source.Source.{Source}
 use Rattle.emtp_listing.specs.HeldLines.{IsListedShape}
 use Rattle.emtp_listing.specs.Law.{AllFree, AreApart, Around, HasNodeNames, HasVarNames}
-use Rattle.emtp_listing.specs.NetworkLines.{shape_entries}
+use Rattle.emtp_listing.specs.NetworkLines.{degrees, shape_entries}
 use Rattle.emtp_listing.proofs.Entries.{number-marked, place-marked}
-use Rattle.emtp_listing.proofs.Marks.{IsMark, between-small, node-free, node-same}
+use Rattle.emtp_listing.proofs.Marks.{IsMark, between-most, between-small, node-free, node-same}
 use Rattle.emtp_listing.proofs.Numbers.{number-same, place-same}
 use Rattle.emtp_listing.proofs.Words.{variable-free, variable-same}
 
@@ -35,11 +39,18 @@ control-listed n (NodeVoltage a) is = is.1
 control-listed n (SwitchCurrent a) is = is
 control-listed n (SwitchStatus a) is = is
 
+degrees-small : (z : ℤ) → IsBetween 0 (10 ^ 18 - 1) z → unsigned_abs (degrees z) < 2 ^ 64
+degrees-small z is =
+    let most = between-most 0 (10 ^ 18 - 1) z is in
+    let near = unsigned_abs-near-le (pos 9 *ℤ z) (pos 25000000) in
+    let whole : unsigned_abs (pos 9 *ℤ z) ≡ 9 * unsigned_abs z = unsigned_abs-mul (pos 9) z in
+    omega (arith, most, near, whole)
+
 pub shape-free : (b : ℕ) (w : Around) (nodes vars : List (List ℕ)) (s : Source) (k : Shape) → IsMark b → HasNodeNames w nodes → HasVarNames w vars → HasShapeNumbers s k → IsListedShape w.sizes k
     → AllFree b (shape_entries nodes vars k)
 shape-free b w nodes vars s Step mark few named has is = (mark.texts (codes "step") refl, tt)
 shape-free b w nodes vars s (Ramp a1) mark few named has is = (mark.texts (codes "ramp") refl, (number-marked b (codes "T0") 12 (codes "s") a1 mark refl refl (between-small 1 (10 ^ 18) a1 (omega arith) has), tt))
-shape-free b w nodes vars s (Cosine a1 a2) mark few named has is = (mark.texts (codes "cosine") refl, (number-marked b (codes "frequency") 6 (codes "Hz") a1 mark refl refl (between-small 0 (10 ^ 13) a1 (omega arith) has.0), (number-marked b (codes "phase") 18 (codes "turn") a2 mark refl refl (between-small 0 (10 ^ 18 - 1) a2 (omega arith) has.1), tt)))
+shape-free b w nodes vars s (Cosine a1 a2) mark few named has is = (mark.texts (codes "cosine") refl, (number-marked b (codes "frequency") 6 (codes "Hz") a1 mark refl refl (between-small 0 (10 ^ 13) a1 (omega arith) has.0), (number-marked b (codes "phase") 18 (codes "turn") a2 mark refl refl (between-small 0 (10 ^ 18 - 1) a2 (omega arith) has.1), (number-marked b (codes "angle") 9 (codes "degree") (degrees a2) mark refl refl (degrees-small a2 has.1), tt))))
 shape-free b w nodes vars s (Tacs a1) mark few named has is = (mark.texts (codes "driven") refl, (variable-free b (codes "control") vars a1 mark refl named.names (omega (arith, named.count, is)), tt))
 shape-free b w nodes vars s (Pulse a1 a2) mark few named has is = (mark.texts (codes "pulse") refl, (number-marked b (codes "period") 12 (codes "s") a1 mark refl refl (between-small 1 (10 ^ 18) a1 (omega arith) has.0), (number-marked b (codes "width") 12 (codes "s") a2 mark refl refl (between-small 1 (10 ^ 18) a2 (omega arith) has.1), tt)))
 shape-free b w nodes vars s (Saw a1) mark few named has is = (mark.texts (codes "sawtooth") refl, (number-marked b (codes "period") 12 (codes "s") a1 mark refl refl (between-small 1 (10 ^ 18) a1 (omega arith) has), tt))

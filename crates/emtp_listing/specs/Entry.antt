@@ -19,6 +19,10 @@ time_entry name (Some time) = number_entry name 12 (codes "s") time
 abbrev pub count_entry : List ℕ → ℕ → List ℕ
 count_entry name value = name ++ 61 ∷ decimal value
 
+-- `name=value of limit`: a count, and what it may be at most
+abbrev pub limited_entry : List ℕ → ℕ → ℕ → List ℕ
+limited_entry name limit value = count_entry name value ++ codes " of " ++ decimal limit
+
 -- `name=value`: a place in a list, counted from 1
 abbrev pub place_entry : List ℕ → ℕ → List ℕ
 place_entry name place = count_entry name (place + 1)

@@ -5,6 +5,7 @@ pub mod NetworkLines
 pub mod ControlLines
 pub mod ChannelLines
 pub mod Listing
+pub mod Limits
 -- what two cases of the same listing have in common
 pub mod Law
 -- how a text grows, and what its calls hold

@@ -1,5 +1,5 @@
 -- The lines of the network: for each kind of record one table of entries, with names, places, units and values.
-use Rattle.std.specs.Prelude.{◌++◌, ◌∷◌, [], Bool, true, false, List, codes, ℕ, slice_index_or, pos}
+use Rattle.std.specs.Prelude.{◌++◌, ◌∷◌, [], ◌*ℤ◌, Bool, true, false, List, codes, ℕ, ℤ, slice_index_or, pos}
 use Rattle.emtp_case.specs.Branch.{points_of}
 use Rattle.emtp_case.specs.declared.branch.Branch.{Branch}
 use Rattle.emtp_case.specs.declared.branch.Branch.TheVariants.{Line as OfLine, Lumped as OfLumped, Phase as OfPhase, Pseudo as OfPseudo}
@@ -15,6 +15,7 @@ use Rattle.emtp_case.specs.declared.switch.Switch.{Switch}
 use Rattle.emtp_case.specs.declared.switch.SwitchKind.{SwitchKind}
 use Rattle.emtp_case.specs.declared.switch.SwitchKind.TheVariants.{Control, Measuring, Time, Valve}
 use Rattle.emtp_case.specs.declared.branch.Point.{Point}
+use Rattle.emtp_fix.specs.Rounding.{near}
 use Rattle.emtp_listing.specs.Entry.{choice_entry, count_entry, node_entry, number_entry, place_entry, time_entry, variable_entry}
 use Rattle.emtp_listing.specs.Lines.{all_separated, card_line, head_text, numbered}
 
@@ -136,12 +137,17 @@ abbrev pub source_unit : Bool → List ℕ
 source_unit false = codes "V"
 source_unit true = codes "A"
 
+-- a phase in 10^-18 turn, in 10^-9 degree: 360 / 10^9 of it
+abbrev pub degrees : ℤ → ℤ
+degrees phase = near (pos 9 *ℤ phase) (pos 25000000)
+
 -- the course of a source in time: of the network, and of the control
 abbrev pub shape_entries : List (List ℕ) → List (List ℕ) → Shape → List (List ℕ)
 shape_entries nodes vars Step = codes "step" ∷ []
 shape_entries nodes vars (Ramp rise) = codes "ramp" ∷ number_entry (codes "T0") 12 (codes "s") rise ∷ []
 shape_entries nodes vars (Cosine freq phase) =
-    codes "cosine" ∷ number_entry (codes "frequency") 6 (codes "Hz") freq ∷ number_entry (codes "phase") 18 (codes "turn") phase ∷ []
+    codes "cosine" ∷ number_entry (codes "frequency") 6 (codes "Hz") freq ∷ number_entry (codes "phase") 18 (codes "turn") phase
+    ∷ number_entry (codes "angle") 9 (codes "degree") (degrees phase) ∷ []
 shape_entries nodes vars (Tacs var) = codes "driven" ∷ variable_entry (codes "control") vars var ∷ []
 shape_entries nodes vars (Pulse period width) =
     codes "pulse" ∷ number_entry (codes "period") 12 (codes "s") period ∷ number_entry (codes "width") 12 (codes "s") width ∷ []

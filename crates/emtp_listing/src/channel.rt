@@ -1,16 +1,19 @@
 //! The lines of channels.
 
-ghost use Rattle.std.specs.Prelude.{◌≡◌, ◌+◌, ◌-◌, ◌<◌, ◌≤◌, ◌++◌, ◌∷◌, [], OnOk, codes, length, slice_index_or};
+ghost use Rattle.std.specs.Prelude.{◌≡◌, ◌+◌, ◌-◌, ◌<◌, ◌≤◌, ◌++◌, ◌∷◌, [], OnOk, codes, count_by, length, slice_index_or};
+ghost use Rattle.emtp_case.specs.Channel.{is_status};
 ghost use Rattle.emtp_case.specs.held.Channel.{IsChannel};
 ghost use Rattle.emtp_case.specs.ChannelName.{name_of_channel, text_of};
 ghost use Rattle.emtp_case.specs.held.Sizes.{sizes_of};
 ghost use Rattle.emtp_case.specs.declared.channel.Channel.{Channel};
-ghost use Rattle.emtp_listing.specs.ChannelLines.{channel_line, measured_entry, measured_word};
+ghost use Rattle.emtp_listing.specs.ChannelLines.{channel_line, measured_entry, measured_word, record_entry, states_upto};
 ghost use Rattle.emtp_listing.specs.Entry.{word_entry};
 ghost use Rattle.emtp_listing.specs.Lines.{all_separated, head_text, lines_text, numbered, separated};
 ghost use Rattle.emtp_listing.specs.Puts.{Puts};
 
-use crate::piece::{put_end, put_head, put_named, put_node, put_place, put_variable, put_word};
+use crate::piece::{
+    put_count, put_end, put_head, put_named, put_node, put_place, put_variable, put_word,
+};
 use emtp_case::{Case, Channel, Parts};
 use std::alloc::AllocError;
 
@@ -19,24 +22,45 @@ pub(crate) fn put_channels(out: &mut Vec<u8>, case: &Case) -> Result<(), AllocEr
     ensures { OnOk result (Puts out.old.items (lines_text (numbered (channel_line case.now.parts) 1 case.now.parts.channels)) out.new.items) }
 {
     let mut number = 1;
+    let mut states = 0;
     for channel in case.parts.channels.as_slice() {
-        put_channel(out, case, number, channel)?;
+        if channel.is_status() {
+            states += 1;
+        }
+        put_channel(out, case, number, states, channel)?;
         put_end(out)?;
         number += 1;
     }
     Ok(())
 }
 
-/// Puts the line of a channel, by its number from 1 on, after a text.
+/// How many channels are states of switches.
+pub(crate) fn states_among(channels: &[Channel]) -> usize
+    ensures value { result ≡ count_by is_status channels.now }
+    ensures most { result ≤ length channels.now }
+{
+    let mut count = 0;
+    for channel in channels {
+        if channel.is_status() {
+            count += 1;
+        }
+    }
+    count
+}
+
+/// Puts the line of a channel, by its number from 1 on and how many states there are as far as it, after a text.
 fn put_channel(
     out: &mut Vec<u8>,
     case: &Case,
     number: u32,
+    states: u32,
     channel: &Channel,
 ) -> Result<(), AllocError>
     requires some { 1 ≤ number }
     requires there { number ≤ length case.now.parts.channels }
     requires is { (d : Channel) → slice_index_or case.now.parts.channels (number - 1) d ≡ channel.now }
+    requires states { states ≡ states_upto case.now.parts.channels number }
+    requires few { states ≤ number }
     requires channel { IsChannel (sizes_of case.now.parts) channel.now }
     ensures { OnOk result (Puts out.old.items (channel_line case.now.parts number channel.now) out.new.items) }
 {
@@ -44,7 +68,25 @@ fn put_channel(
     put_word(out, measured_word(channel))?;
     put_measured(out, &case.parts, channel)?;
     put_name(out, case, number as usize - 1)?;
+    put_record_number(out, channel.is_status(), number, states)?;
     Ok(())
+}
+
+/// Puts an entry with the number of a channel among those of its kind after a text.
+fn put_record_number(
+    out: &mut Vec<u8>,
+    state: bool,
+    number: u32,
+    states: u32,
+) -> Result<(), AllocError>
+    requires { states ≤ number }
+    ensures { OnOk result (Puts out.old.items (separated (record_entry state number states)) out.new.items) }
+{
+    if state {
+        put_count(out, b"status channel", states as usize)
+    } else {
+        put_count(out, b"analog channel", number as usize - states as usize)
+    }
 }
 
 /// Puts an entry with the name of a channel in the record, by its place, after a text.

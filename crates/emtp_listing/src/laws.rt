@@ -5,6 +5,7 @@ ghost use Rattle.emtp_case.specs.held.Case.{IsCase};
 ghost use Rattle.emtp_case.specs.declared.case.Parts.{Parts};
 ghost use Rattle.emtp_fix.specs.Decimal.{fixed_text};
 ghost use Rattle.emtp_listing.specs.Law.{AllFree, AreApart, AreSame, FitsTypes};
+ghost use Rattle.emtp_listing.specs.Limits.{AreWithinLimits};
 ghost use Rattle.emtp_listing.specs.Lines.{lines_text};
 ghost use Rattle.emtp_listing.specs.Listing.{listing};
 
@@ -12,6 +13,11 @@ ghost use Rattle.emtp_listing.specs.Listing.{listing};
 /// with the points of each, and their channels. A listing hides nothing.
 pub fn same_listing_is_same_case()
     ensures { (p q : Parts) → IsCase p → IsCase q → FitsTypes p → FitsTypes q → AreApart p.nodes → AreApart p.vars → listing p ≡ listing q → AreSame p q }
+{}
+
+/// No count of a case is above the limit that is listed beside it.
+pub fn counts_are_within_their_limits()
+    ensures { (p : Parts) → IsCase p → AreWithinLimits p }
 {}
 
 /// A decimal is known by its text.

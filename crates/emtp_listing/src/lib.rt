@@ -12,6 +12,7 @@
 //! - `sections`: the whole, section by section
 //! - `branch`, `switch`, `source`, `control`, `extra`, `channel`: the lines of one kind of record
 //! - `piece`: the entries of a line
+//! - `history`: how many history values there are
 //! - `laws`: what is true of listings
 #![tactic(auto)]
 
@@ -19,11 +20,14 @@ mod branch;
 mod channel;
 mod control;
 mod extra;
+mod history;
 mod laws;
 mod piece;
 mod sections;
 mod source;
 mod switch;
 
-pub use laws::{decimals_differ, lines_differ, same_listing_is_same_case};
+pub use laws::{
+    counts_are_within_their_limits, decimals_differ, lines_differ, same_listing_is_same_case,
+};
 pub use sections::listing;

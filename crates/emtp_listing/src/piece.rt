@@ -2,7 +2,7 @@
 
 ghost use Rattle.std.specs.Prelude.{◌≡◌, ◌+◌, ◌<◌, ◌≤◌, ◌++◌, ◌^◌, ◌∷◌, [], OnOk, codes, length};
 ghost use Rattle.std.specs.Option.{ForSome};
-ghost use Rattle.emtp_listing.specs.Entry.{choice_entry, count_entry, figure_entry, node_entry, node_word, number_entry, place_entry, time_entry, variable_entry, word_entry};
+ghost use Rattle.emtp_listing.specs.Entry.{choice_entry, count_entry, figure_entry, limited_entry, node_entry, node_word, number_entry, place_entry, time_entry, variable_entry, word_entry};
 ghost use Rattle.emtp_listing.specs.Lines.{head_text, separated};
 ghost use Rattle.emtp_listing.specs.Puts.{Puts};
 
@@ -95,6 +95,20 @@ pub(crate) fn put_count(out: &mut Vec<u8>, name: &[u8], count: usize) -> Result<
     put(out, name)?;
     put(out, b"=")?;
     put_number(out, count)
+}
+
+/// Puts an entry with a count and its limit after a text.
+pub(crate) fn put_limited(
+    out: &mut Vec<u8>,
+    name: &[u8],
+    limit: usize,
+    count: usize,
+) -> Result<(), AllocError>
+    ensures { OnOk result (Puts out.old.items (separated (limited_entry name.now limit count)) out.new.items) }
+{
+    put_count(out, name, count)?;
+    put(out, b" of ")?;
+    put_number(out, limit)
 }
 
 /// Puts an entry with a place in a list, counted from 1, after a text.

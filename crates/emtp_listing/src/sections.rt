@@ -4,23 +4,27 @@ ghost use Rattle.std.specs.Prelude.{◌≡◌, ◌≤◌, ◌++◌, ◌∷◌, [
 ghost use Rattle.emtp_case.specs.held.Case.{IsCase};
 ghost use Rattle.emtp_listing.specs.ControlLines.{block_lines, extra_lines, tacs_source_line};
 ghost use Rattle.emtp_listing.specs.Lines.{all_separated, grouped, lines_text, numbered};
-ghost use Rattle.emtp_listing.specs.Listing.{case_line, control_part, listing, name_line, network_lines, run_line};
+ghost use Rattle.emtp_listing.specs.Listing.{case_line, control_part, listing, name_line, network_lines, record_line, run_line};
 ghost use Rattle.emtp_listing.specs.NetworkLines.{branch_group, source_line, switch_line, trio_line};
 ghost use Rattle.emtp_listing.specs.Puts.{Puts};
 
 use crate::branch::{put_branch, put_trio};
-use crate::channel::put_channels;
+use crate::channel::{put_channels, states_among};
 use crate::control::put_block;
 use crate::extra::put_extra;
-use crate::piece::{put_count, put_end, put_head, put_named, put_quantity};
+use crate::history::history_values;
+use crate::piece::{put_count, put_end, put_head, put_limited, put_named, put_quantity};
 use crate::source::{put_source, put_tacs_source};
 use crate::switch::put_switch;
-use emtp_case::{Case, Name, Parts, RunData};
+use emtp_case::{
+    Case, MOST_BRANCHES, MOST_CHANNELS, MOST_CONTROL_CARDS, MOST_HISTORY_VALUES, MOST_NODES,
+    MOST_SOURCES, MOST_STEPS, MOST_STORED_VALUES, MOST_SWITCHES, Name, Parts, RunData,
+};
 use emtp_text::put;
 use std::alloc::{AllocError, Global};
 
-/// The listing of a case: a line for the case, one for its run, one for each node and each variable, and one or some for
-/// each record in the order of the cards. This project's own.
+/// The listing of a case: a line for the case, one for its run and one for what a whole run leaves, one for each node and
+/// each variable, and one or some for each record in the order of the cards. This project's own.
 ///
 /// # Errors
 ///
@@ -31,6 +35,7 @@ pub fn listing(alloc: Global, case: &Case) -> Result<Vec<u8>, AllocError>
     let mut out = Vec::new(alloc);
     put_case(&mut out, &case.parts)?;
     put_run(&mut out, &case.parts.run)?;
+    put_record(&mut out, &case.parts)?;
     put_names(&mut out, b"node", 1, case.parts.nodes.as_slice())?;
     put_names(&mut out, b"variable", 0, case.parts.vars.as_slice())?;
     put_network(&mut out, &case.parts)?;
@@ -66,16 +71,26 @@ fn put_case(out: &mut Vec<u8>, parts: &Parts) -> Result<(), AllocError>
     ensures { OnOk result (Puts out.old.items (lines_text (case_line parts.now ∷ [])) out.new.items) }
 {
     put(out, b"case")?;
-    put_count(out, b"nodes", parts.nodes.len())?;
+    put_limited(out, b"nodes", MOST_NODES, parts.nodes.len())?;
     put_count(out, b"variables", parts.vars.len())?;
-    put_count(out, b"branches", parts.branches.len())?;
+    put_limited(out, b"branches", MOST_BRANCHES, parts.branches.len())?;
     put_count(out, b"three-phase lines", parts.trios.len())?;
-    put_count(out, b"switches", parts.switches.len())?;
-    put_count(out, b"sources", parts.sources.len())?;
-    put_count(out, b"control sources", parts.tacs_sources.len())?;
-    put_count(out, b"blocks", parts.blocks.len())?;
-    put_count(out, b"supplemental cards", parts.extras.len())?;
-    put_count(out, b"channels", parts.channels.len())?;
+    put_limited(out, b"switches", MOST_SWITCHES, parts.switches.len())?;
+    put_limited(out, b"sources", MOST_SOURCES, parts.sources.len())?;
+    put_limited(
+        out,
+        b"control sources",
+        MOST_CONTROL_CARDS,
+        parts.tacs_sources.len(),
+    )?;
+    put_limited(out, b"blocks", MOST_CONTROL_CARDS, parts.blocks.len())?;
+    put_limited(
+        out,
+        b"supplemental cards",
+        MOST_CONTROL_CARDS,
+        parts.extras.len(),
+    )?;
+    put_limited(out, b"channels", MOST_CHANNELS, parts.channels.len())?;
     put_end(out)?;
     Ok(())
 }
@@ -86,9 +101,40 @@ fn put_run(out: &mut Vec<u8>, run: &RunData) -> Result<(), AllocError>
 {
     put(out, b"run")?;
     put_quantity(out, b"DELTAT", 12, b"s", &run.dt)?;
-    put_count(out, b"steps", run.steps as usize)?;
+    put_limited(out, b"steps", MOST_STEPS as usize, run.steps as usize)?;
     put_count(out, b"IPLOT", run.every as usize)?;
     put_quantity(out, b"tolerance", 9, b"A", &run.tolerance)?;
+    put_end(out)?;
+    Ok(())
+}
+
+/// Puts the line of what a whole run leaves and needs after a text.
+fn put_record(out: &mut Vec<u8>, parts: &Parts) -> Result<(), AllocError>
+    requires { IsCase parts.now }
+    ensures { OnOk result (Puts out.old.items (lines_text (record_line parts.now ∷ [])) out.new.items) }
+{
+    let end = parts.run.time(parts.run.steps);
+    let samples = parts.run.samples() as usize;
+    let channels = parts.channels.len();
+    let states = states_among(parts.channels.as_slice());
+    put(out, b"record")?;
+    put_quantity(out, b"end", 12, b"s", &end)?;
+    put_count(out, b"samples", samples)?;
+    put_count(out, b"analog channels", channels - states)?;
+    put_count(out, b"status channels", states)?;
+    put_limited(
+        out,
+        b"values",
+        MOST_STORED_VALUES as usize,
+        channels * samples,
+    )?;
+    let history = history_values(parts) as usize;
+    put_limited(
+        out,
+        b"history values",
+        MOST_HISTORY_VALUES as usize,
+        history,
+    )?;
     put_end(out)?;
     Ok(())
 }

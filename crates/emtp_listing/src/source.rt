@@ -7,12 +7,13 @@ ghost use Rattle.emtp_listing.specs.ControlLines.{tacs_source_line};
 ghost use Rattle.emtp_listing.specs.HeldLines.{IsListedShape};
 ghost use Rattle.emtp_listing.specs.Puts.{Puts};
 ghost use Rattle.emtp_listing.specs.Lines.{all_separated, card_line};
-ghost use Rattle.emtp_listing.specs.NetworkLines.{source_word, source_unit, shape_entries, source_line};
+ghost use Rattle.emtp_listing.specs.NetworkLines.{degrees, source_word, source_unit, shape_entries, source_line};
 
 use crate::piece::{
     put_figure, put_head, put_node, put_place, put_quantity, put_time, put_variable, put_word,
 };
 use emtp_case::{Parts, Shape, Source};
+use emtp_fix::scaled;
 use std::alloc::AllocError;
 
 /// Puts the line of a source after a text.
@@ -75,6 +76,13 @@ fn source_unit(current: bool) -> &'static [u8]
     if current { b"A" } else { b"V" }
 }
 
+/// A phase in 10^-18 turn, in 10^-9 degree.
+fn degrees(phase: &i64) -> i64
+    ensures { result ≡ degrees phase.now }
+{
+    scaled(9, i128::from(*phase), 25_000_000) as i64
+}
+
 /// Puts the entries of the course of a source after a text.
 fn put_shape(out: &mut Vec<u8>, parts: &Parts, shape: &Shape) -> Result<(), AllocError>
     requires { IsListedShape (sizes_of parts.now) shape.now }
@@ -91,6 +99,7 @@ fn put_shape(out: &mut Vec<u8>, parts: &Parts, shape: &Shape) -> Result<(), Allo
             put_word(out, b"cosine")?;
             put_quantity(out, b"frequency", 6, b"Hz", freq)?;
             put_quantity(out, b"phase", 18, b"turn", phase)?;
+            put_quantity(out, b"angle", 9, b"degree", &degrees(phase))?;
             Ok(())
         }
         Shape::Tacs { var } => {
