@@ -2,6 +2,7 @@ pub mod BranchLists
 pub mod Blocks
 pub mod Ports
 pub mod Doubling
+pub mod SolvedRows
 pub mod Sourcing
 pub mod Volting
 pub mod Flowing

@@ -2,7 +2,6 @@
 pub mod Ending
 pub mod HeldBranches
 pub mod HeldLines
-pub mod HeldRows
 pub mod HeldSystem
 pub mod Opening
 pub mod Scanning

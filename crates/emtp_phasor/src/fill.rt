@@ -1,7 +1,8 @@
 //! Filling a row of the doubled matrix.
 
-ghost use Rattle.std.specs.Prelude.{◌≡◌, ◌*◌, ◌/◌, ◌+◌, ◌^◌, ◌<◌, ◌≤◌, ◌==◌, ◌+ℤ◌, ℕ, All, false, true, pos, if◌then◌else◌, length, unsigned_abs, slice_get, slice_set};
+ghost use Rattle.std.specs.Prelude.{◌≡◌, ◌*◌, ◌/◌, ◌+◌, ◌^◌, ◌<◌, ◌≤◌, ◌==◌, ◌+ℤ◌, ℕ, All, false, true, pos, if◌then◌else◌, length, unsigned_abs, slice_get};
 ghost use Rattle.emtp_elim.specs.Matrix.{item};
+ghost use Rattle.emtp_elim.specs.held.WorkRow.{IsClearRow};
 ghost use Rattle.emtp_case.specs.RowOrder.{order_of};
 ghost use Rattle.emtp_case.specs.held.RowKinds.{TieIsThere};
 ghost use Rattle.emtp_case.specs.Sums.{sum_below};
@@ -14,9 +15,10 @@ ghost use Rattle.emtp_phasor.specs.Doubled.{Doubled, between_nodes, admittance_e
 
 use emtp_admittance::{Admittance, TwoPort};
 use emtp_case::{Case, Items, RowKind, RowOrder};
+use emtp_elim::WorkRow;
 use emtp_fix::PICO;
 
-/// Fills `out` with a row.
+/// Writes a row over zeros, at the cost of the branches at its node, or of its group's.
 pub(crate) fn fill_row(
     case: &Case,
     order: &RowOrder,
@@ -24,7 +26,7 @@ pub(crate) fn fill_row(
     kinds: &[RowKind],
     lists: &[Items<u32>],
     row: usize,
-    out: &mut [i128],
+    out: &mut WorkRow,
 )
     requires order { order.now ≡ order_of case.now.parts }
     requires ports { length ports.now ≡ length case.now.parts.branches }
@@ -33,10 +35,10 @@ pub(crate) fn fill_row(
     requires ties { All (TieIsThere (length case.now.parts.nodes)) kinds.now }
     requires lists { lists.now ≡ branches_by_row case.now.parts }
     requires row { row < 2 * length case.now.parts.nodes }
-    requires out { length out.old ≡ 2 * length case.now.parts.nodes }
-    ensures { (c : ℕ) → c < length out.old → item out.new c ≡ doubled_entry (record { case = case.now.parts; ports = ports.now; kinds = kinds.now }) row c (kind_at kinds.now (row / 2)) }
+    requires clear { IsClearRow (2 * length case.now.parts.nodes) out.old }
+    ensures same { length out.new ≡ length out.old }
+    ensures value { (c : ℕ) → c < length out.old → item out.new c ≡ doubled_entry (record { case = case.now.parts; ports = ports.now; kinds = kinds.now }) row c (kind_at kinds.now (row / 2)) }
 {
-    out.fill(0);
     let imaginary = row % 2 == 1;
     match kinds[row / 2] {
         RowKind::Kcl => {
@@ -46,10 +48,10 @@ pub(crate) fn fill_row(
         }
         RowKind::Sum => add_group(case, order, ports, kinds, lists, row / 2, imaginary, out),
         RowKind::Tie(other) => {
-            add_to(out, row, PICO);
-            add_to(out, 2 * other as usize + row % 2, -PICO);
+            out.add_to(row, PICO);
+            out.add_to(2 * other as usize + row % 2, -PICO);
         }
-        RowKind::Ground | RowKind::Source => add_to(out, row, PICO),
+        RowKind::Ground | RowKind::Source => out.add_to(row, PICO),
     }
 }
 
@@ -62,7 +64,7 @@ fn add_group(
     lists: &[Items<u32>],
     i: usize,
     imaginary: bool,
-    out: &mut [i128],
+    out: &mut WorkRow,
 )
     requires order { order.now ≡ order_of case.now.parts }
     requires ports { length ports.now ≡ length case.now.parts.branches }
@@ -71,7 +73,8 @@ fn add_group(
     requires lists { lists.now ≡ branches_by_row case.now.parts }
     requires out { length out.old ≡ 2 * length case.now.parts.nodes }
     requires zeros { (c : ℕ) → c < length out.old → item out.old c ≡ pos 0 }
-    ensures { (c : ℕ) → c < length out.old → item out.new c ≡ sum_below (length case.now.parts.nodes) (λ k. if is_member kinds.now i k then admittance_entry case.now.parts ports.now imaginary (is_imaginary c) (node_at case.now.parts k) (node_at case.now.parts (c / 2)) else pos 0) }
+    ensures same { length out.new ≡ length out.old }
+    ensures value { (c : ℕ) → c < length out.old → item out.new c ≡ sum_below (length case.now.parts.nodes) (λ k. if is_member kinds.now i k then admittance_entry case.now.parts ports.now imaginary (is_imaginary c) (node_at case.now.parts k) (node_at case.now.parts (c / 2)) else pos 0) }
 {
     for k in 0..kinds.len() {
         let node = order.node_at(k);
@@ -97,7 +100,7 @@ fn add_member(
     node: u32,
     imaginary: bool,
     is_member: bool,
-    out: &mut [i128],
+    out: &mut WorkRow,
 )
     requires order { order.now ≡ order_of case.now.parts }
     requires ports { length ports.now ≡ length case.now.parts.branches }
@@ -105,7 +108,8 @@ fn add_member(
     requires places { places.now ≡ branches_at case.now.parts node }
     requires out { length out.old ≡ 2 * length case.now.parts.nodes }
     requires bound { (c : ℕ) → c < length out.old → unsigned_abs (item out.old c) ≤ 10 ^ 29 }
-    ensures { (c : ℕ) → c < length out.old → item out.new c ≡ item out.old c +ℤ (if is_member then admittance_entry case.now.parts ports.now imaginary (is_imaginary c) node (node_at case.now.parts (c / 2)) else pos 0) }
+    ensures same { length out.new ≡ length out.old }
+    ensures value { (c : ℕ) → c < length out.old → item out.new c ≡ item out.old c +ℤ (if is_member then admittance_entry case.now.parts ports.now imaginary (is_imaginary c) node (node_at case.now.parts (c / 2)) else pos 0) }
 {
     if is_member {
         add_node(case, order, ports, places, node, imaginary, out);
@@ -136,7 +140,7 @@ fn add_node(
     places: &[u32],
     node: u32,
     imaginary: bool,
-    out: &mut [i128],
+    out: &mut WorkRow,
 )
     requires order { order.now ≡ order_of case.now.parts }
     requires ports { length ports.now ≡ length case.now.parts.branches }
@@ -144,7 +148,8 @@ fn add_node(
     requires places { places.now ≡ branches_at case.now.parts node }
     requires out { length out.old ≡ 2 * length case.now.parts.nodes }
     requires bound { (c : ℕ) → c < length out.old → unsigned_abs (item out.old c) ≤ 10 ^ 29 }
-    ensures { (c : ℕ) → c < length out.old → item out.new c ≡ item out.old c +ℤ admittance_entry case.now.parts ports.now imaginary (is_imaginary c) node (node_at case.now.parts (c / 2)) }
+    ensures same { length out.new ≡ length out.old }
+    ensures value { (c : ℕ) → c < length out.old → item out.new c ≡ item out.old c +ℤ admittance_entry case.now.parts ports.now imaginary (is_imaginary c) node (node_at case.now.parts (c / 2)) }
 {
     for place in places {
         let at = *place as usize;
@@ -160,14 +165,15 @@ fn add_branch(
     port: &TwoPort,
     node: u32,
     imaginary: bool,
-    out: &mut [i128],
+    out: &mut WorkRow,
 )
     requires order { order.now ≡ order_of case.now.parts }
     requires there { at < length case.now.parts.branches }
     requires small { IsSmallPort port.now }
     requires out { length out.old ≡ 2 * length case.now.parts.nodes }
     requires bound { (c : ℕ) → c < length out.old → unsigned_abs (item out.old c) ≤ 10 ^ 30 }
-    ensures { (c : ℕ) → c < length out.old → item out.new c ≡ item out.old c +ℤ between_nodes imaginary (is_imaginary c) port.now node (node_at case.now.parts (c / 2)) (slice_get case.now.parts.branches at) }
+    ensures same { length out.new ≡ length out.old }
+    ensures value { (c : ℕ) → c < length out.old → item out.new c ≡ item out.old c +ℤ between_nodes imaginary (is_imaginary c) port.now node (node_at case.now.parts (c / 2)) (slice_get case.now.parts.branches at) }
 {
     let (from, to) = case.parts.branches.as_slice()[at].ends();
     if from == node {
@@ -186,19 +192,20 @@ fn add_end(
     node: u32,
     y: &Admittance,
     imaginary: bool,
-    out: &mut [i128],
+    out: &mut WorkRow,
 )
     requires order { order.now ≡ order_of case.now.parts }
     requires node { node ≤ length case.now.parts.nodes }
     requires small { IsSmallAdmittance y.now }
     requires out { length out.old ≡ 2 * length case.now.parts.nodes }
     requires bound { (c : ℕ) → c < length out.old → unsigned_abs (item out.old c) ≤ 2 * 10 ^ 30 }
-    ensures { (c : ℕ) → c < length out.old → item out.new c ≡ item out.old c +ℤ (if node == node_at case.now.parts (c / 2) then in_block imaginary (is_imaginary c) y.now else pos 0) }
+    ensures same { length out.new ≡ length out.old }
+    ensures value { (c : ℕ) → c < length out.old → item out.new c ≡ item out.old c +ℤ (if node == node_at case.now.parts (c / 2) then in_block imaginary (is_imaginary c) y.now else pos 0) }
 {
     if node != 0 {
         let row = order.row_of(node);
-        add_to(out, 2 * row, real_column(imaginary, y));
-        add_to(out, 2 * row + 1, imaginary_column(imaginary, y));
+        out.add_to(2 * row, real_column(imaginary, y));
+        out.add_to(2 * row + 1, imaginary_column(imaginary, y));
     }
 }
 
@@ -226,14 +233,4 @@ pub(crate) fn imaginary_column(imaginary: bool, y: &Admittance) -> i128
     } else {
         -(y.susceptance as i128)
     }
-}
-
-/// Adds an amount to an entry of a row.
-fn add_to(out: &mut [i128], at: usize, amount: i128)
-    requires place { at < length out.old }
-    requires entry { unsigned_abs (item out.old at) ≤ 10 ^ 31 }
-    requires amount { unsigned_abs amount ≤ 10 ^ 18 }
-    ensures { out.new ≡ slice_set out.old at (item out.old at +ℤ amount) }
-{
-    out[at] += amount;
 }

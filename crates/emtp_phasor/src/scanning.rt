@@ -33,8 +33,8 @@ pub const MOST_FREQUENCIES: usize = 10_000;
 
 /// The impedance that the one source of a case sees, from the frequency `first` to `last` by steps of `by`, in micro-hertz.
 ///
-/// Each line is that of a system which is built for its frequency alone and eliminated from its first row; one kept factor
-/// serves all of them. The case has one source, a cosine current source without phase ([`judged_probe`]). A frequency at
+/// Each line is that of a system which is built for its frequency alone and eliminated from its first row, in the room
+/// that was taken for all of them. The case has one source, a cosine current source without phase ([`judged_probe`]). A frequency at
 /// which a card is refused, or at which the solution ends, has that in its line. This project's own.
 pub fn scan(
     alloc: Global,
@@ -132,7 +132,7 @@ fn solved_lines<L: Ledger>(
     case: &Case,
     probe: &Probe,
     span: Span,
-    system: &mut System<'_>,
+    system: &mut System,
     steps: &mut Steps<L>,
 ) -> Result<Vec<ScanLine>, AllocError>
     requires probe { IsProbe case.now.parts probe.now }
@@ -176,7 +176,7 @@ fn answer_at<L: Ledger>(
     table: &CosTable,
     case: &Case,
     probe: &Probe,
-    system: &mut System<'_>,
+    system: &mut System,
     freq: i64,
     steps: &mut Steps<L>,
 ) -> ScanAnswer
@@ -197,7 +197,7 @@ fn solved_answer<L: Ledger>(
     table: &CosTable,
     case: &Case,
     probe: &Probe,
-    system: &mut System<'_>,
+    system: &mut System,
     freq: i64,
     steps: &mut Steps<L>,
 ) -> ScanAnswer

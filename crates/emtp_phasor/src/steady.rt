@@ -2,6 +2,8 @@
 
 ghost use Rattle.std.specs.Prelude.{◌≡◌, ◌*◌, ◌+◌, ◌^◌, ◌<◌, ◌∷◌, ℤ, List, All, None, Ok, Err, drop, length, IfOk, IfErr, OnOk};
 ghost use Rattle.emtp_case.specs.StepRecord.{rest_of};
+ghost use Rattle.emtp_elim.specs.held.Finished.{AreAllFinished};
+ghost use Rattle.emtp_elim.specs.Matrix.{Matrix};
 ghost use Rattle.emtp_elim.specs.held.Matrix.{AreWithin};
 ghost use Rattle.emtp_elim.specs.Outcome.{outcome};
 ghost use Rattle.emtp_switch.specs.Groups.{tied_of};
@@ -9,24 +11,20 @@ ghost use Rattle.emtp_admittance.specs.held.Frequency.{IsFrequency};
 ghost use Rattle.emtp_case.specs.held.EndNames.{IsNode};
 ghost use Rattle.emtp_case.specs.RowOrder.{order_of};
 ghost use Rattle.emtp_admittance.specs.held.Admittances.{IsSmallPort};
-ghost use Rattle.emtp_phasor.specs.Doubled.{doubled_matrix};
 ghost use Rattle.emtp_phasor.specs.held.HeldBranches.{branches_by_row};
 ghost use Rattle.emtp_phasor.specs.Steady.{resting_kinds, doubled_system, named_ending, port_or_none, ports_of, steady_right, doubled_solution, steady};
 ghost use Rattle.emtp_phasor.specs.held.Steady.{AreGood, IsSteady, judged_volts};
 ghost use Rattle.emtp_phasor.specs.Volts.{nothing, volt_in, phasors_of};
 ghost use Rattle.emtp_phasor.specs.held.Volts.{IsVolt};
 
-use crate::ending::{Ending, cause_of, ending_at};
+use crate::ending::{Ending, ending_at};
 use crate::flow::{first_out, judge};
 use crate::phasor::{NOTHING, Phasor};
-use crate::phasor_rows::PhasorRows;
 use emtp_admittance::{Admittance, Refusal, TwoPort, branch_port};
 use emtp_case::{Case, Items, RowKind, RowOrder, branch_name};
-use emtp_fix::Steps;
+use emtp_elim::SparseRows;
 use emtp_machine::Cause;
-use emtp_tail::Kept;
 use emtp_wave::CosTable;
-use std::sync::ledger::Ledger;
 
 const NO_ADMITTANCE: Admittance = Admittance {
     conductance: 0,
@@ -87,50 +85,28 @@ fn volt_in(x: &[i64], row: usize) -> Phasor
     }
 }
 
-/// Makes the factor of the rows.
-pub(crate) fn factor<L: Ledger>(
-    case: &Case,
-    order: &RowOrder,
-    rows: &PhasorRows<'_>,
-    kept: &mut Kept,
-    steps: &mut Steps<L>,
-) -> Result<(), Ending>
-    requires order { order.now ≡ order_of case.now.parts }
-    requires same { rows.now.case ≡ case.now.parts }
-    requires size { kept.old.size ≡ 2 * length case.now.parts.nodes }
-    ensures size { kept.new.size ≡ kept.old.size }
-    ensures rows { OnOk result (kept.new.rows ≡ doubled_matrix rows.now) }
-    ensures fault { IfErr result (λ e. (right : List ℤ) → named_ending case.now.parts (outcome (doubled_matrix rows.now) right) ≡ Err e) }
-    ensures node { IfErr result (λ e. IsNode case.now.parts e.node) }
-{
-    match kept.update(rows, steps) {
-        Ok(_) => Ok(()),
-        Err(fault) => Err(ending_at(order.node_at(fault.row / 2), cause_of(fault.cause))),
-    }
-}
-
-/// Solves for the unknowns of a right side by the factor.
+/// Solves for the unknowns of a right side by the finished rows.
 pub(crate) fn solve_right(
     case: &Case,
     order: &RowOrder,
-    kept: &Kept,
+    done: &SparseRows,
     right: &[i128],
     rhs: &mut [i128],
     x: &mut [i64],
 ) -> Result<(), Ending>
     requires order { order.now ≡ order_of case.now.parts }
-    requires size { kept.now.size ≡ 2 * length case.now.parts.nodes }
-    requires all { length kept.now.rows ≡ kept.now.size }
+    requires size { done.now.size ≡ 2 * length case.now.parts.nodes }
+    requires all { length done.now.rows ≡ done.now.size }
     requires right { length right.now ≡ 2 * length case.now.parts.nodes }
     requires rhs { length rhs.old ≡ 2 * length case.now.parts.nodes }
     requires x { length x.old ≡ 2 * length case.now.parts.nodes }
-    ensures solved { OnOk result (outcome kept.now.rows right.now ≡ Ok x.new) }
+    ensures solved { OnOk result ((rows : Matrix) → AreAllFinished rows done.now.rows → outcome rows right.now ≡ Ok x.new) }
     ensures within { OnOk result (AreWithin (10 ^ 18) x.new) }
-    ensures fault { IfErr result (λ e. named_ending case.now.parts (outcome kept.now.rows right.now) ≡ Err e) }
+    ensures fault { IfErr result (λ e. (rows : Matrix) → AreAllFinished rows done.now.rows → named_ending case.now.parts (outcome rows right.now) ≡ Err e) }
     ensures node { IfErr result (λ e. IsNode case.now.parts e.node) }
 {
     rhs.copy_from_slice(right);
-    match kept.solve(rhs, x) {
+    match done.solve(rhs, x) {
         Ok(()) => Ok(()),
         Err(fault) => Err(ending_at(order.node_at(fault.row / 2), Cause::Range)),
     }

@@ -19,17 +19,17 @@ ghost use Rattle.emtp_phasor.specs.held.Steady.{AreGood, IsSteady, judged_volts}
 ghost use Rattle.emtp_phasor.specs.Volts.{nothing};
 ghost use Rattle.emtp_phasor.specs.held.Volts.{IsVolt};
 
+use crate::eliminating::eliminate_rows;
 use crate::ending::{Ending, ending_at};
 use crate::node_branches::branches_by_row;
 use crate::opening::{Closed, right_side, row_kinds};
 use crate::phasor::{NOTHING, Phasor};
-use crate::phasor_rows::PhasorRows;
-use crate::steady::{NO_PORT, factor, fill_ports, fill_volts, judge_volts, solve_right};
+use crate::steady::{NO_PORT, fill_ports, fill_volts, judge_volts, solve_right};
 use emtp_admittance::TwoPort;
-use emtp_case::{Case, RowKind, RowOrder, order, switch_name};
+use emtp_case::{Case, Items, RowKind, RowOrder, order, switch_name};
+use emtp_elim::{SparseRows, WorkRow};
 use emtp_fix::Steps;
 use emtp_machine::Cause;
-use emtp_tail::Kept;
 use emtp_wave::CosTable;
 use std::alloc::{AllocError, Global};
 use std::sync::ledger::Ledger;
@@ -53,18 +53,20 @@ impl From<AllocError> for Stop {
     }
 }
 
-/// The doubled system of a case. The kinds of its rows and its right side are the same at all frequencies; the rest is
-/// room that is filled anew, and the factor, of which rows that stay are kept.
+/// The doubled system of a case. The kinds of its rows, the branches at each of them and its right side are the same at all
+/// frequencies; the rest is room that is filled anew.
 #[derive(Drop)]
-pub(crate) struct System<'a> {
+pub(crate) struct System {
     /// The order of the network's rows.
     pub(crate) order: RowOrder,
     /// The kinds of the network's rows, by the switches at rest.
     pub(crate) kinds: Vec<RowKind>,
-    /// The doubled rows.
-    pub(crate) rows: PhasorRows<'a>,
-    /// The factor of the rows that were given last.
-    pub(crate) kept: Kept,
+    /// For each row of the network the places of the branches at its node.
+    pub(crate) lists: Vec<Items<u32>>,
+    /// The finished rows of the last frequency's matrix.
+    pub(crate) done: SparseRows,
+    /// Room for a row while it is written and eliminated, clear between two.
+    pub(crate) work: WorkRow,
     /// The two-ports of the branches at the last frequency.
     pub(crate) ports: Vec<TwoPort>,
     /// The right side, in nA and nV.
@@ -88,13 +90,6 @@ fn stop_of(case: &Case, closed: Closed) -> Stop
     }
 }
 
-/// A copy of the kinds.
-fn copied(alloc: Global, kinds: &[RowKind]) -> Result<Vec<RowKind>, AllocError>
-    ensures { IfOk result (λ copy. copy.items ≡ kinds.now) }
-{
-    kinds.iter().copied().collect(alloc)
-}
-
 /// Room for the two-ports of a case.
 fn no_ports(alloc: Global, count: usize) -> Result<Vec<TwoPort>, AllocError>
     ensures count { IfOk result (λ ports. length ports.items ≡ count) }
@@ -103,9 +98,9 @@ fn no_ports(alloc: Global, count: usize) -> Result<Vec<TwoPort>, AllocError>
     vec![in alloc; NO_PORT; count]
 }
 
-impl<'a> System<'a> {
+impl System {
     /// The system of a case at rest.
-    pub(crate) fn open(alloc: Global, table: &CosTable, case: &'a Case) -> Result<System<'a>, Stop>
+    pub(crate) fn open(alloc: Global, table: &CosTable, case: &Case) -> Result<System, Stop>
         requires { length case.now.parts.nodes ≤ MOST_PHASOR_NODES }
         ensures ready { IfOk result (IsReady case.now.parts) }
         ensures stop { IfErr result (StopsOpening case.now.parts) }
@@ -124,10 +119,10 @@ impl<'a> System<'a> {
     fn over(
         alloc: Global,
         table: &CosTable,
-        case: &'a Case,
+        case: &Case,
         order: RowOrder,
         kinds: Vec<RowKind>,
-    ) -> Result<System<'a>, AllocError>
+    ) -> Result<System, AllocError>
         requires order { order ≡ order_of case.now.parts }
         requires few { length case.now.parts.nodes ≤ MOST_PHASOR_NODES }
         requires kinds { kinds.items ≡ resting_kinds case.now.parts }
@@ -137,21 +132,19 @@ impl<'a> System<'a> {
     {
         let nodes = case.parts.nodes.len();
         let right = right_side(alloc, table, case, &order, &kinds)?;
-        let copy = order.copy(alloc)?;
-        let held = copied(alloc, &kinds)?;
-        let first = no_ports(alloc, case.parts.branches.len())?;
+        let lists = branches_by_row(alloc, case, &order)?;
+        let done = SparseRows::open(alloc, 2 * nodes)?;
+        let work = WorkRow::open(alloc, 2 * nodes)?;
         let ports = no_ports(alloc, case.parts.branches.len())?;
         let rhs = vec![in alloc; 0i128; 2 * nodes]?;
         let x = vec![in alloc; 0i64; 2 * nodes]?;
         let volts = vec![in alloc; NOTHING; nodes + 1]?;
-        let lists = branches_by_row(alloc, case, &order)?;
-        let rows = PhasorRows::new(case, copy, first, held, lists);
-        let kept = Kept::open(alloc, &rows)?;
         Ok(System {
             order,
             kinds,
-            rows,
-            kept,
+            lists,
+            done,
+            work,
             ports,
             right,
             rhs,
@@ -205,16 +198,26 @@ impl<'a> System<'a> {
         ensures node { IfErr result (λ e. IsNode case.now.parts e.node) }
     {
         fill_ports(table, case, freq, &mut self.ports);
-        self.rows.set_ports(&self.ports);
-        factor(case, &self.order, &self.rows, &mut self.kept, steps)?;
-        solve_right(
+        match eliminate_rows(
             case,
             &self.order,
-            &self.kept,
-            &self.right,
-            &mut self.rhs,
-            &mut self.x,
-        )
+            &self.ports,
+            &self.kinds,
+            &self.lists,
+            &mut self.done,
+            &mut self.work,
+            steps,
+        ) {
+            Ok(()) => solve_right(
+                case,
+                &self.order,
+                &self.done,
+                &self.right,
+                &mut self.rhs,
+                &mut self.x,
+            ),
+            Err(end) => Err(end),
+        }
     }
 
     /// The greatest residual at the voltages, or the first branch or row that ends the solution.
@@ -232,7 +235,7 @@ impl<'a> System<'a> {
             &self.order,
             &self.kinds,
             &self.ports,
-            self.rows.lists(),
+            &self.lists,
             &self.volts,
         )
     }

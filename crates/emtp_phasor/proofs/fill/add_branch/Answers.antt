@@ -1,4 +1,4 @@
-use Rattle.std.proofs.Common.{◌<◌, ◌/◌, ap, ℕ, ◌==◌, length, refl, arith}
+use Rattle.std.proofs.Common.{◌<◌, ◌/◌, ◌∙◌, ap, ℕ, ◌==◌, length, refl, arith}
 use Rattle.std.proofs.lemmas.Int.{ints}
 use Rattle.emtp_fix.specs.declared.limit.TheConstants.{LARGEST_ENTRY}
 use Rattle.emtp_case.specs.NodeRows.{node_at}
@@ -10,41 +10,53 @@ use Rattle.emtp_phasor.proofs.fill.add_branch.Goals as goal
 
 pub add_end-requires-then-from-node-clause-bound : goal.add_end-requires-then-from-node-clause-bound
 add_end-requires-then-from-node-clause-bound c = λ j below.
-    let here : j < length c.args.out.now = omega (arith, below, c.add_end.auto.out) in
+    let here : j < length c.args.out.now = omega (arith, below, c.add_end.ensures.same) in
     let small = part_small (c.ends-from.result.0 == node_at c.args.case.now.parts (j / 2)) (in_block c.args.imaginary (is_imaginary j) c.args.port.now.own) LARGEST_ENTRY (in_block_small c.args.imaginary (is_imaginary j) c.args.port.now.own c.requires.small.own) in
-    omega (arith, ints, c.add_end.ensures j here, c.requires.bound j here, small)
+    omega (arith, ints, c.add_end.ensures.value j here, c.requires.bound j here, small)
 
 pub add_end-requires-then-to-node-2-clause-bound : goal.add_end-requires-then-to-node-2-clause-bound
 add_end-requires-then-to-node-2-clause-bound c = λ j below.
-    let here : j < length c.args.out.now = omega (arith, below, c.add_end-then-to-node.auto.out) in
+    let here : j < length c.args.out.now = omega (arith, below, c.add_end-then-to-node.ensures.same) in
     let small = part_small (c.ends-from.result.1 == node_at c.args.case.now.parts (j / 2)) (in_block c.args.imaginary (is_imaginary j) c.args.port.now.own) LARGEST_ENTRY (in_block_small c.args.imaginary (is_imaginary j) c.args.port.now.own c.requires.small.own) in
-    omega (arith, ints, c.add_end-then-to-node.ensures j here, c.requires.bound j here, small)
+    omega (arith, ints, c.add_end-then-to-node.ensures.value j here, c.requires.bound j here, small)
 
-pub returns-then-from-node : goal.returns-then-from-node
-returns-then-from-node c = λ j below.
+pub returns-then-from-node-clause-value : goal.returns-then-from-node-clause-value
+returns-then-from-node-clause-value c = λ j below.
     let case = c.args.case.now.parts in
     let m = node_at case (j / 2) in
     let is = branch_read case c.as_slice.result.now c.args.at _ _ c.as_slice.ensures c.requires.there refl in
-    let one = c.add_end.ensures j below in
-    let two = c.add_end-then-from-node.ensures j (omega (arith, below, c.add_end.auto.out)) in
+    let one = c.add_end.ensures.value j below in
+    let two = c.add_end-then-from-node.ensures.value j (omega (arith, below, c.add_end.ensures.same)) in
     let sum = between_first c.args.imaginary (is_imaginary j) c.args.port.now c.args.node m c.ends-from.result.0 c.ends-from.result.1 _ _ is (ap (λ (e : ℕ × ℕ). e.0) c.ends-from.ensures) (ap (λ (e : ℕ × ℕ). e.1) c.ends-from.ensures)
     (ends_apart case c.args.at _ c.ends-from.result.0 c.ends-from.result.1 c.args.case.now.fits.draft.network is c.requires.there (ap (λ (e : ℕ × ℕ). e.0) c.ends-from.ensures) (ap (λ (e : ℕ × ℕ). e.1) c.ends-from.ensures)) c.if-from-node.true in
     omega (arith, ints, one, two, sum)
 
-pub returns-then-to-node : goal.returns-then-to-node
-returns-then-to-node c = λ j below.
+pub returns-then-to-node-clause-value : goal.returns-then-to-node-clause-value
+returns-then-to-node-clause-value c = λ j below.
     let case = c.args.case.now.parts in
     let m = node_at case (j / 2) in
     let is = branch_read case c.as_slice.result.now c.args.at _ _ c.as_slice.ensures c.requires.there refl in
-    let one = c.add_end-then-to-node.ensures j below in
-    let two = c.add_end-then-to-node-2.ensures j (omega (arith, below, c.add_end-then-to-node.auto.out)) in
+    let one = c.add_end-then-to-node.ensures.value j below in
+    let two = c.add_end-then-to-node-2.ensures.value j (omega (arith, below, c.add_end-then-to-node.ensures.same)) in
     let sum = between_second c.args.imaginary (is_imaginary j) c.args.port.now c.args.node m c.ends-from.result.0 c.ends-from.result.1 _ _ is (ap (λ (e : ℕ × ℕ). e.0) c.ends-from.ensures) (ap (λ (e : ℕ × ℕ). e.1) c.ends-from.ensures) c.if-from-node.false c.if-to-node.true in
     omega (arith, ints, one, two, sum)
 
-pub returns-else-to-node : goal.returns-else-to-node
-returns-else-to-node c = λ j below.
+pub returns-else-to-node-clause-value : goal.returns-else-to-node-clause-value
+returns-else-to-node-clause-value c = λ j below.
     let case = c.args.case.now.parts in
     let m = node_at case (j / 2) in
     let is = branch_read case c.as_slice.result.now c.args.at _ _ c.as_slice.ensures c.requires.there refl in
     let none = between_none c.args.imaginary (is_imaginary j) c.args.port.now c.args.node m c.ends-from.result.0 c.ends-from.result.1 _ _ is (ap (λ (e : ℕ × ℕ). e.0) c.ends-from.ensures) (ap (λ (e : ℕ × ℕ). e.1) c.ends-from.ensures) c.if-from-node.false c.if-to-node.false in
     omega (arith, ints, none)
+
+pub add_end-requires-then-from-node-clause-out : goal.add_end-requires-then-from-node-clause-out
+add_end-requires-then-from-node-clause-out c = c.add_end.ensures.same ∙ c.requires.out
+
+pub add_end-requires-then-to-node-2-clause-out : goal.add_end-requires-then-to-node-2-clause-out
+add_end-requires-then-to-node-2-clause-out c = c.add_end-then-to-node.ensures.same ∙ c.requires.out
+
+pub returns-then-from-node-clause-same : goal.returns-then-from-node-clause-same
+returns-then-from-node-clause-same c = c.add_end-then-from-node.ensures.same ∙ c.add_end.ensures.same
+
+pub returns-then-to-node-clause-same : goal.returns-then-to-node-clause-same
+returns-then-to-node-clause-same c = c.add_end-then-to-node-2.ensures.same ∙ c.add_end-then-to-node.ensures.same

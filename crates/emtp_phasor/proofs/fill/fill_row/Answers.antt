@@ -1,14 +1,24 @@
-use Rattle.std.proofs.Common.{◌≡◌, ◌∙◌, ◌<◌, ◌+◌, ◌*◌, ◌/◌, ◌%◌, ap, sym, arith, ℕ, length, pos, subst, inl, inr}
-use Rattle.std.proofs.lemmas.Grind.{common_steps}
+use Rattle.std.proofs.Common.{◌≡◌, ◌∙◌, ◌<◌, ◌≤◌, ◌+◌, ◌*◌, ◌/◌, ◌%◌, ◌^◌, ◌==◌, ◌+ℤ◌, ap, sym, arith, ℕ, ℤ, length, length-set, pos, unsigned_abs, subst, inl, inr}
+use Rattle.std.proofs.lemmas.Bool.{cases_Bool}
+use Rattle.std.proofs.lemmas.Int.{ints}
 use Rattle.std.proofs.lemmas.List.{get_or_default}
-use Rattle.emtp_case.specs.declared.row_kind.RowKind.TheVariants.{Ground, Kcl, Tie}
+use Rattle.emtp_case.specs.declared.row_kind.RowKind.TheVariants.{Ground, Kcl, Sum, Tie}
 use Rattle.emtp_case.specs.held.RowKinds.{TieIsThere}
 use Rattle.emtp_elim.specs.Matrix.{item}
-use Rattle.emtp_case.specs.NodeRows.{kind_at, unit}
+use Rattle.emtp_case.specs.NodeRows.{kind_at, node_at, unit}
 use Rattle.emtp_rows.proofs.Filled.{tie_set, unit_set}
 use Rattle.emtp_case.proofs.RowsOfNodes.{order_at, order_size}
 use Rattle.emtp_phasor.proofs.BranchLists.{list_read, lists_count}
 use Rattle.emtp_phasor.proofs.fill.fill_row.Goals as goal
+
+nothing : (x : ℤ) → pos 0 +ℤ x ≡ x
+nothing x = omega (arith, ints)
+
+unit_small : (i j : ℕ) → unsigned_abs (unit i j) ≤ 10 ^ 31
+unit_small i j = elim (cases_Bool (i == j)) [
+  | inl here ↦ rw here (omega (arith, ints))
+  | inr off ↦ rw off (omega (arith, ints))
+]
 
 pub node_at-node-requires : goal.node_at-node-requires
 node_at-node-requires c = omega (arith, order_size c.args.case.now.parts c.args.order.now c.requires.order, c.requires.row)
@@ -23,29 +33,97 @@ add_node-requires-clause-places c =
     list_read case c.args.lists.now (c.args.row / 2) c.node_at-node.result c.index-lists-row.result c.as_slice-places.result.now c.requires.lists half c.index-lists-row.is c.as_slice-places.ensures
     (sym c.node_at-node.ensures.node ∙ order_at case c.args.order.now (c.args.row / 2) c.requires.order)
 
-pub returns-in-Tie : goal.returns-in-Tie
-returns-in-Tie c = λ j below.
+pub add_node-requires-clause-out : goal.add_node-requires-clause-out
+add_node-requires-clause-out c = c.requires.clear.length_is
+
+pub add_node-requires-clause-bound : goal.add_node-requires-clause-bound
+add_node-requires-clause-bound c = λ j below. omega (arith, ints, c.requires.clear.zeros j)
+
+pub add_group-requires-clause-out : goal.add_group-requires-clause-out
+add_group-requires-clause-out c = c.requires.clear.length_is
+
+pub add_group-requires-clause-zeros : goal.add_group-requires-clause-zeros
+add_group-requires-clause-zeros c = λ j below. c.requires.clear.zeros j
+
+pub add_to-requires-clause-place : goal.add_to-requires-clause-place
+add_to-requires-clause-place c = omega (arith, c.requires.clear.length_is, c.requires.row)
+
+pub add_to-requires-clause-number : goal.add_to-requires-clause-number
+add_to-requires-clause-number c = omega (arith, ints, c.requires.clear.zeros c.args.row)
+
+pub add_to-requires-in-Tie-clause-place : goal.add_to-requires-in-Tie-clause-place
+add_to-requires-in-Tie-clause-place c =
+    let half : c.args.row / 2 < length c.args.kinds.now = omega (arith, c.requires.row, c.requires.kinds) in
+    let there : c.in-Tie.other < length c.args.case.now.parts.nodes = subst (TieIsThere (length c.args.case.now.parts.nodes)) c.in-Tie.is (c.requires.ties (c.args.row / 2) Kcl half) in
+    omega (arith, there, ap length c.add_to.ensures, length-set {A = ℤ}, c.requires.clear.length_is)
+
+pub add_to-requires-in-Tie-clause-number : goal.add_to-requires-in-Tie-clause-number
+add_to-requires-in-Tie-clause-number c =
     let r = c.args.row in
-    let size : length c.fill.new.self ≡ length c.args.out.now = c.fill.ensures.len in
-    let zeros : (k : ℕ) → k < length c.fill.new.self → item c.fill.new.self k ≡ pos 0 = grind (arith, common_steps) in
+    let out = c.args.out.now in
+    let size = c.requires.clear.length_is in
+    let zeros : (k : ℕ) → k < length out → item out k ≡ pos 0 = λ k within. c.requires.clear.zeros k in
+    let half : r / 2 < length c.args.kinds.now = omega (arith, c.requires.row, c.requires.kinds) in
+    let there : c.in-Tie.other < length c.args.case.now.parts.nodes = subst (TieIsThere (length c.args.case.now.parts.nodes)) c.in-Tie.is (c.requires.ties (r / 2) Kcl half) in
+    let entry = unit_set out r (2 * c.in-Tie.other + r % 2) (omega (arith, size, c.requires.row)) (omega (arith, size, there)) zeros in
+    rw (c.add_to.ensures, entry) (unit_small r (2 * c.in-Tie.other + r % 2))
+
+pub add_to-requires-in-Ground-clause-place : goal.add_to-requires-in-Ground-clause-place
+add_to-requires-in-Ground-clause-place c = omega (arith, c.requires.clear.length_is, c.requires.row)
+
+pub add_to-requires-in-Ground-clause-number : goal.add_to-requires-in-Ground-clause-number
+add_to-requires-in-Ground-clause-number c = omega (arith, ints, c.requires.clear.zeros c.args.row)
+
+pub returns-in-Kcl-clause-same : goal.returns-in-Kcl-clause-same
+returns-in-Kcl-clause-same c = c.add_node.ensures.same
+
+pub returns-in-Kcl-clause-value : goal.returns-in-Kcl-clause-value
+returns-in-Kcl-clause-value c = λ j below.
+    let case = c.args.case.now.parts in
+    let half : c.args.row / 2 < length c.args.kinds.now = omega (arith, c.requires.row, c.requires.kinds) in
+    let kind : kind_at c.args.kinds.now (c.args.row / 2) ≡ Kcl = get_or_default c.args.kinds.now (c.args.row / 2) Ground Kcl half ∙ c.in-Kcl.is in
+    let there : c.node_at-node.result ≡ node_at case (c.args.row / 2) = sym c.node_at-node.ensures.node ∙ order_at case c.args.order.now (c.args.row / 2) c.requires.order in
+    rw (kind, c.add_node.ensures.value j below, c.requires.clear.zeros j, there) (nothing _)
+
+pub returns-in-Sum-clause-same : goal.returns-in-Sum-clause-same
+returns-in-Sum-clause-same c = c.add_group.ensures.same
+
+pub returns-in-Sum-clause-value : goal.returns-in-Sum-clause-value
+returns-in-Sum-clause-value c = λ j below.
+    let half : c.args.row / 2 < length c.args.kinds.now = omega (arith, c.requires.row, c.requires.kinds) in
+    let kind : kind_at c.args.kinds.now (c.args.row / 2) ≡ Sum = get_or_default c.args.kinds.now (c.args.row / 2) Ground Kcl half ∙ c.in-Sum.is in
+    rw kind (c.add_group.ensures.value j below)
+
+pub returns-in-Tie-clause-same : goal.returns-in-Tie-clause-same
+returns-in-Tie-clause-same c = omega (arith, ap length c.add_to.ensures, ap length c.add_to-in-Tie.ensures, length-set {A = ℤ})
+
+pub returns-in-Tie-clause-value : goal.returns-in-Tie-clause-value
+returns-in-Tie-clause-value c = λ j below.
+    let r = c.args.row in
+    let out = c.args.out.now in
+    let size = c.requires.clear.length_is in
+    let zeros : (k : ℕ) → k < length out → item out k ≡ pos 0 = λ k within. c.requires.clear.zeros k in
     let half : r / 2 < length c.args.kinds.now = omega (arith, c.requires.row, c.requires.kinds) in
     let kind : kind_at c.args.kinds.now (r / 2) ≡ Tie c.in-Tie.other = get_or_default c.args.kinds.now (r / 2) Ground Kcl half ∙ c.in-Tie.is in
-    let inside : r < length c.fill.new.self = omega (arith, size, c.requires.out, c.requires.row) in
+    let inside : r < length out = omega (arith, size, c.requires.row) in
     let there : c.in-Tie.other < length c.args.case.now.parts.nodes = subst (TieIsThere (length c.args.case.now.parts.nodes)) c.in-Tie.is (c.requires.ties (r / 2) Kcl half) in
-    let same : length c.add_to.new.out ≡ length c.fill.new.self = c.add_to.auto.out in
-    let own : (k : ℕ) → k < length c.add_to.new.out → item c.add_to.new.out k ≡ unit r k
-    = λ k within. rw c.add_to.ensures (unit_set c.fill.new.self r k inside (omega (arith, same, within)) zeros) in
-    rw (kind, c.add_to-in-Tie.ensures) (tie_set c.add_to.new.out r (2 * c.in-Tie.other + r % 2) j (omega (arith, there, same, size, c.requires.out)) (omega (arith, below, same, size)) own)
+    let same : length c.add_to.new.self ≡ length out = omega (arith, ap length c.add_to.ensures, length-set {A = ℤ}) in
+    let own : (k : ℕ) → k < length c.add_to.new.self → item c.add_to.new.self k ≡ unit r k
+    = λ k within. rw c.add_to.ensures (unit_set out r k inside (omega (arith, same, within)) zeros) in
+    rw (kind, c.add_to-in-Tie.ensures) (tie_set c.add_to.new.self r (2 * c.in-Tie.other + r % 2) j (omega (arith, there, same, size)) (omega (arith, below, same)) own)
 
-pub returns-in-Ground : goal.returns-in-Ground
-returns-in-Ground c = λ j below.
+pub returns-in-Ground-clause-same : goal.returns-in-Ground-clause-same
+returns-in-Ground-clause-same c = omega (arith, ap length c.add_to-in-Ground.ensures, length-set {A = ℤ})
+
+pub returns-in-Ground-clause-value : goal.returns-in-Ground-clause-value
+returns-in-Ground-clause-value c = λ j below.
     let r = c.args.row in
-    let size : length c.fill.new.self ≡ length c.args.out.now = c.fill.ensures.len in
-    let zeros : (k : ℕ) → k < length c.fill.new.self → item c.fill.new.self k ≡ pos 0 = grind (arith, common_steps) in
-    let inside : j < length c.fill.new.self = omega (arith, below, size) in
+    let out = c.args.out.now in
+    let size = c.requires.clear.length_is in
+    let zeros : (k : ℕ) → k < length out → item out k ≡ pos 0 = λ k within. c.requires.clear.zeros k in
     let half : r / 2 < length c.args.kinds.now = omega (arith, c.requires.row, c.requires.kinds) in
     let at = get_or_default c.args.kinds.now (r / 2) Ground Kcl half in
-    let entry = unit_set c.fill.new.self r j (omega (arith, size, c.requires.out, c.requires.row)) inside zeros in
+    let entry = unit_set out r j (omega (arith, size, c.requires.row)) below zeros in
     elim c.in-Ground.is [
       | inl is ↦ rw (at ∙ is, c.add_to-in-Ground.ensures) entry
       | inr is ↦ rw (at ∙ is, c.add_to-in-Ground.ensures) entry

@@ -1,15 +1,109 @@
-use Rattle.std.proofs.Common.{◌∙◌, ap, length, arith}
-use Rattle.emtp_case.specs.declared.case.Parts.{Parts}
+use Rattle.std.proofs.Common.{◌≡◌, ◌∙◌, drop, sym, ap, subst, length, to_z, of_z, All, List, ℤ, Result, Ok, arith}
+use mir.Syntax.{w64}
+use Rattle.std.proofs.lemmas.Int.{to_z-of_z}
+use Rattle.std.proofs.lemmas.List.{take_at}
+use Rattle.std.proofs.lemmas.Result.{IfErr-weaker, on_ok_weaker}
+use Rattle.emtp_admittance.specs.held.Admittances.{IsSmallPort}
+use Rattle.emtp_case.specs.held.RowKinds.{TieIsThere}
+use Rattle.emtp_elim.specs.declared.fault.PlainFault.{PlainFault}
 use Rattle.emtp_phasor.specs.Doubled.{Doubled}
-use Rattle.emtp_phasor.specs.Steady.{resting_kinds}
+use Rattle.emtp_phasor.specs.Steady.{ports_of, resting_kinds, steady_right}
 use Rattle.emtp_phasor.proofs.Doubling.{length-doubled_matrix, length-right_side}
+use Rattle.emtp_phasor.proofs.SolvedRows.{fault_at, row_fault_at, solved_at}
+use Rattle.emtp_phasor.proofs.Volting.{kinds_size}
 use Rattle.emtp_phasor.proofs.system.System.solve.Goals as goal
+
+pub eliminate_rows-requires-clause-ports : goal.eliminate_rows-requires-clause-ports
+eliminate_rows-requires-clause-ports g c =
+    let whole = take_at c.fill_ports.new.out (drop (length c.fill_ports.new.out) c.args.self.now.ports.items) c.args.self.now.ports.len (omega (arith, c.fill_ports.auto.out, c.deref_mut.ensures.len)) in
+    ap length (c.deref.ensures.value ∙ whole) ∙ c.fill_ports.auto.out ∙ ap length c.deref_mut.ensures.value ∙ c.requires.ready.ports_count
+
+pub eliminate_rows-requires-clause-small : goal.eliminate_rows-requires-clause-small
+eliminate_rows-requires-clause-small g c =
+    let whole = take_at c.fill_ports.new.out (drop (length c.fill_ports.new.out) c.args.self.now.ports.items) c.args.self.now.ports.len (omega (arith, c.fill_ports.auto.out, c.deref_mut.ensures.len)) in
+    subst (All IsSmallPort) (sym (c.deref.ensures.value ∙ whole)) c.fill_ports.ensures.small
+
+pub eliminate_rows-requires-clause-kinds : goal.eliminate_rows-requires-clause-kinds
+eliminate_rows-requires-clause-kinds g c = ap length (c.deref-2.ensures.value ∙ c.requires.ready.kinds_are) ∙ kinds_size c.args.case.now.parts
+
+pub eliminate_rows-requires-clause-ties : goal.eliminate_rows-requires-clause-ties
+eliminate_rows-requires-clause-ties g c = subst (All (TieIsThere (length c.args.case.now.parts.nodes))) (sym c.deref-2.ensures.value) c.requires.ready.ties
+
+pub eliminate_rows-requires-clause-lists : goal.eliminate_rows-requires-clause-lists
+eliminate_rows-requires-clause-lists g c = c.deref-3.ensures.value ∙ c.requires.ready.lists_are
+
+pub solve_right-requires-clause-size : goal.solve_right-requires-clause-size
+solve_right-requires-clause-size g c = c.eliminate_rows.ensures.size ∙ c.requires.ready.done_size
 
 pub solve_right-requires-clause-all : goal.solve_right-requires-clause-all
 solve_right-requires-clause-all g c =
-    let case = ap (λ (s : Doubled). length s.case.nodes) c.set_ports.ensures in
-    let same = ap (λ (p : Parts). length p.nodes) c.requires.ready.rows_case in
-    omega (arith, ap length c.in_ok-factor.ensures.rows, length-doubled_matrix c.set_ports.new.self, case, same, c.factor.ensures.size, c.requires.ready.kept_size)
+    let s : Doubled = record { case = c.args.case.now.parts; ports = c.deref.result.now; kinds = c.deref-2.result.now } in
+    omega (arith, c.in-Ok.ensures.finished.all, length-doubled_matrix s, c.eliminate_rows.ensures.size, c.requires.ready.done_size)
 
 pub solve_right-requires-clause-right : goal.solve_right-requires-clause-right
-solve_right-requires-clause-right g c = ap length (c.deref-2.ensures.value ∙ c.requires.ready.right_is) ∙ length-right_side c.args.case.now.parts (resting_kinds c.args.case.now.parts)
+solve_right-requires-clause-right g c = ap length (c.deref-in-Ok.ensures.value ∙ c.requires.ready.right_is) ∙ length-right_side c.args.case.now.parts (resting_kinds c.args.case.now.parts)
+
+pub returns-in-Ok-clause-ports : goal.returns-in-Ok-clause-ports
+returns-in-Ok-clause-ports g c =
+    let case = c.args.case.now.parts in
+    let old = c.args.self.now in
+    let narrow : to_z w64 (of_z w64 c.args.freq) ≡ c.args.freq = to_z-of_z w64 c.args.freq c.ranges.freq in
+    let whole = take_at c.fill_ports.new.out (drop (length c.fill_ports.new.out) old.ports.items) old.ports.len (omega (arith, c.fill_ports.auto.out, c.deref_mut.ensures.len)) in
+    whole ∙ c.fill_ports.ensures.value ∙ ap (ports_of case) narrow
+
+pub returns-in-Ok-clause-small : goal.returns-in-Ok-clause-small
+returns-in-Ok-clause-small g c =
+    let whole = take_at c.fill_ports.new.out (drop (length c.fill_ports.new.out) c.args.self.now.ports.items) c.args.self.now.ports.len (omega (arith, c.fill_ports.auto.out, c.deref_mut.ensures.len)) in
+    subst (All IsSmallPort) (sym whole) c.fill_ports.ensures.small
+
+pub returns-in-Ok-clause-solved : goal.returns-in-Ok-clause-solved
+returns-in-Ok-clause-solved g c =
+    let case = c.args.case.now.parts in
+    let old = c.args.self.now in
+    let narrow : to_z w64 (of_z w64 c.args.freq) ≡ c.args.freq = to_z-of_z w64 c.args.freq c.ranges.freq in
+    let whole = take_at c.fill_ports.new.out (drop (length c.fill_ports.new.out) old.ports.items) old.ports.len (omega (arith, c.fill_ports.auto.out, c.deref_mut.ensures.len)) in
+    let ports : c.deref.result.now ≡ ports_of case c.args.freq = c.deref.ensures.value ∙ whole ∙ c.fill_ports.ensures.value ∙ ap (ports_of case) narrow in
+    let kinds : c.deref-2.result.now ≡ resting_kinds case = c.deref-2.ensures.value ∙ c.requires.ready.kinds_are in
+    let right : c.deref-in-Ok.result.now ≡ steady_right case = c.deref-in-Ok.ensures.value ∙ c.requires.ready.right_is in
+    let x = take_at c.solve_right.new.x (drop (length c.solve_right.new.x) old.x.items) old.x.len (omega (arith, c.solve_right.auto.x, c.deref_mut-in-Ok-2.ensures.len)) in
+    let Right : List ℤ → Result (List ℤ) PlainFault = λ xs. Ok xs in
+    on_ok_weaker c.solve_right.result
+    (λ solves. solved_at case c.args.freq c.deref.result.now c.deref-2.result.now c.eliminate_rows.new.done.rows c.deref-in-Ok.result.now c.solve_right.new.x ports kinds right c.in-Ok.ensures.finished solves
+    ∙ ap Right (sym x))
+    c.solve_right.ensures.solved
+
+pub returns-in-Ok-clause-fault : goal.returns-in-Ok-clause-fault
+returns-in-Ok-clause-fault g c =
+    let case = c.args.case.now.parts in
+    let old = c.args.self.now in
+    let narrow : to_z w64 (of_z w64 c.args.freq) ≡ c.args.freq = to_z-of_z w64 c.args.freq c.ranges.freq in
+    let whole = take_at c.fill_ports.new.out (drop (length c.fill_ports.new.out) old.ports.items) old.ports.len (omega (arith, c.fill_ports.auto.out, c.deref_mut.ensures.len)) in
+    let ports : c.deref.result.now ≡ ports_of case c.args.freq = c.deref.ensures.value ∙ whole ∙ c.fill_ports.ensures.value ∙ ap (ports_of case) narrow in
+    let kinds : c.deref-2.result.now ≡ resting_kinds case = c.deref-2.ensures.value ∙ c.requires.ready.kinds_are in
+    let right : c.deref-in-Ok.result.now ≡ steady_right case = c.deref-in-Ok.ensures.value ∙ c.requires.ready.right_is in
+    IfErr-weaker c.solve_right.result _ _
+    (λ e faults. fault_at case c.args.freq c.deref.result.now c.deref-2.result.now c.eliminate_rows.new.done.rows c.deref-in-Ok.result.now e ports kinds right c.in-Ok.ensures.finished faults)
+    c.solve_right.ensures.fault
+
+pub returns-in-Err-clause-ports : goal.returns-in-Err-clause-ports
+returns-in-Err-clause-ports g c =
+    let case = c.args.case.now.parts in
+    let old = c.args.self.now in
+    let narrow : to_z w64 (of_z w64 c.args.freq) ≡ c.args.freq = to_z-of_z w64 c.args.freq c.ranges.freq in
+    let whole = take_at c.fill_ports.new.out (drop (length c.fill_ports.new.out) old.ports.items) old.ports.len (omega (arith, c.fill_ports.auto.out, c.deref_mut.ensures.len)) in
+    whole ∙ c.fill_ports.ensures.value ∙ ap (ports_of case) narrow
+
+pub returns-in-Err-clause-small : goal.returns-in-Err-clause-small
+returns-in-Err-clause-small g c =
+    let whole = take_at c.fill_ports.new.out (drop (length c.fill_ports.new.out) c.args.self.now.ports.items) c.args.self.now.ports.len (omega (arith, c.fill_ports.auto.out, c.deref_mut.ensures.len)) in
+    subst (All IsSmallPort) (sym whole) c.fill_ports.ensures.small
+
+pub returns-in-Err-clause-fault : goal.returns-in-Err-clause-fault
+returns-in-Err-clause-fault g c =
+    let case = c.args.case.now.parts in
+    let old = c.args.self.now in
+    let narrow : to_z w64 (of_z w64 c.args.freq) ≡ c.args.freq = to_z-of_z w64 c.args.freq c.ranges.freq in
+    let whole = take_at c.fill_ports.new.out (drop (length c.fill_ports.new.out) old.ports.items) old.ports.len (omega (arith, c.fill_ports.auto.out, c.deref_mut.ensures.len)) in
+    let ports : c.deref.result.now ≡ ports_of case c.args.freq = c.deref.ensures.value ∙ whole ∙ c.fill_ports.ensures.value ∙ ap (ports_of case) narrow in
+    let kinds : c.deref-2.result.now ≡ resting_kinds case = c.deref-2.ensures.value ∙ c.requires.ready.kinds_are in
+    row_fault_at case c.args.freq c.deref.result.now c.deref-2.result.now c.in-Err.end ports kinds c.in-Err.ensures.fault
