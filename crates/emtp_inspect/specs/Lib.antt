@@ -1,5 +1,6 @@
 -- what is told of a file
 pub mod Section
+pub mod RunCards
 pub mod Telling
 -- and what the words ask for, and how a call ends that tells it
 pub mod Asking

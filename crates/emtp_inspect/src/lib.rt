@@ -1,8 +1,8 @@
 //! The command `show CASE`: what was read of a case.
 //!
-//! [`inspect`] reads the file of a case, and leaves the listing of its records (`emtp_listing`) with the warnings below it
-//! (`emtp_warnings`), or how many warnings there are; or it tells which card is refused, as what it was read, and the
-//! records before it. It stands on `emtp_deck` for cases, on `emtp_walk` for the place of a card, on `emtp_io` for the
+//! [`inspect`] reads the file of a case, and leaves the listing of its records (`emtp_listing`) with what its miscellaneous
+//! cards say besides, and the warnings below it (`emtp_warnings`), or how many warnings there are; or it tells which card is
+//! refused, as what it was read, and the records before it. It stands on `emtp_deck` for cases, on `emtp_walk` for the place of a card, on `emtp_io` for the
 //! files, and has statuses and notes of `emtp_run`.
 //!
 //! ```text
@@ -13,11 +13,13 @@
 //! - `words`: what the words ask for
 //! - `showing`: the file that is read, and the output that is made
 //! - `telling`: the text that the bytes of a file give
+//! - `run_cards`: what the miscellaneous cards say that no case keeps
 //! - `section`: as what a card is read
 //! - `note`: the line of a refused card
 #![tactic(auto)]
 
 mod note;
+mod run_cards;
 mod section;
 mod showing;
 mod telling;

@@ -1,5 +1,6 @@
 //! The text that the bytes of a file give.
 ghost use Rattle.std.specs.Prelude.{◌≡◌, ◌++◌, ◌≤◌, IfOk, codes, decimal, length, take};
+ghost use Rattle.emtp_inspect.specs.RunCards.{run_text};
 ghost use Rattle.emtp_inspect.specs.Section.{place_before};
 ghost use Rattle.emtp_inspect.specs.Telling.{answer_text, ends_text, listed_front, listed_of, listed_lines_of, refused_at, refused_text, told_of, told_of_lines};
 ghost use Rattle.emtp_listing.specs.Lines.{lines_text};
@@ -9,6 +10,7 @@ ghost use Rattle.emtp_warnings.specs.WarningText.{warnings_text};
 ghost use Rattle.emtp_warnings.specs.Warnings.{warnings};
 
 use crate::note::put_bad;
+use crate::run_cards::put_run_cards;
 use crate::section::{lines_before, place_behind, put_section, whole_count};
 use crate::words::Wanted;
 use emtp_card::{Bad, Cards, Refused};
@@ -78,16 +80,22 @@ fn answer_text(
 {
     let found = warnings(alloc, cards, case)?;
     match wanted {
-        Wanted::Listing => listing_with(alloc, case, &found),
+        Wanted::Listing => listing_with(alloc, cards, case, &found),
         Wanted::WarningCount => count_line(alloc, found.len()),
     }
 }
 
-/// The listing of a case, and warnings below it.
-fn listing_with(alloc: Global, case: &Case, found: &[Warning]) -> Result<Vec<u8>, AllocError>
-    ensures { IfOk result (λ text. text.items ≡ listing case.now.parts ++ warnings_text found.now) }
+/// The listing of a case, what its miscellaneous cards say besides, and warnings below it.
+fn listing_with(
+    alloc: Global,
+    cards: &Cards<'_>,
+    case: &Case,
+    found: &[Warning],
+) -> Result<Vec<u8>, AllocError>
+    ensures { IfOk result (λ text. text.items ≡ listing case.now.parts ++ run_text cards.now ++ warnings_text found.now) }
 {
     let mut text = listing(alloc, case)?;
+    put_run_cards(&mut text, cards)?;
     let below = warnings_text(alloc, found)?;
     put(&mut text, &below)?;
     Ok(text)

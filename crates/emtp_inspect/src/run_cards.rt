@@ -1,0 +1,103 @@
+//! What the miscellaneous cards say that no case keeps.
+
+ghost use Rattle.std.specs.Prelude.{◌≡◌, ◌++◌, ◌≤◌, OnOk, length};
+ghost use Rattle.emtp_inspect.specs.RunCards.{card_text, end_text, first_text, line_text, print_of, print_text, run_text, second_text};
+
+use emtp_card::{Cards, Line, Why, comment, field_number, field_whole};
+use emtp_text::{put, put_fixed, put_number};
+use emtp_warnings::{Section, next_section};
+use std::alloc::AllocError;
+
+/// The greatest TMAX, in ps.
+const LATEST: i64 = 1_000_000_000_000_000_000;
+
+/// Puts a line for each miscellaneous card after a text: the first one with TMAX, the second with IOUT.
+pub(crate) fn put_run_cards(out: &mut Vec<u8>, cards: &Cards<'_>) -> Result<(), AllocError>
+    ensures { OnOk result (out.new.items ≡ out.old.items ++ run_text cards.now) }
+{
+    let mut section = Section::Begin;
+    for at in 0..cards.len() {
+        let line = cards.line(at);
+        put_line(out, &line, section)?;
+        section = next_section(&line, section);
+    }
+    Ok(())
+}
+
+fn put_line(out: &mut Vec<u8>, line: &Line<'_>, section: Section) -> Result<(), AllocError>
+    ensures { OnOk result (out.new.items ≡ out.old.items ++ line_text line.now.number line.now.bytes.now section) }
+{
+    if comment(line.bytes) {
+        Ok(())
+    } else {
+        put_card(out, line, section)
+    }
+}
+
+fn put_card(out: &mut Vec<u8>, line: &Line<'_>, section: Section) -> Result<(), AllocError>
+    ensures { OnOk result (out.new.items ≡ out.old.items ++ card_text line.now.number line.now.bytes.now section) }
+{
+    match section {
+        // The card of the tolerance may stand before the first one.
+        Section::First if line.bytes.starts_with(b"RESIDUAL TOLERANCE") => Ok(()),
+        Section::First => put_first(out, line.number, line.bytes),
+        Section::Second => put_second(out, line.number, line.bytes),
+        _ => Ok(()),
+    }
+}
+
+#[tactic(auto, unfolding(crate::specs::RunCards::first_text))]
+fn put_first(out: &mut Vec<u8>, number: u32, line: &[u8]) -> Result<(), AllocError>
+    ensures { OnOk result (out.new.items ≡ out.old.items ++ first_text number line.now) }
+{
+    put(out, b"line ")?;
+    put_number(out, number)?;
+    put(out, b", first miscellaneous card")?;
+    put_end(out, field_number(line, 9, 16, 12, 1, LATEST))?;
+    put(out, b"\n")
+}
+
+/// Puts TMAX after a text.
+fn put_end(out: &mut Vec<u8>, end: Result<Option<i64>, Why>) -> Result<(), AllocError>
+    ensures { OnOk result (out.new.items ≡ out.old.items ++ end_text end) }
+{
+    match end {
+        Ok(Some(end)) => {
+            put(out, b", TMAX=")?;
+            put_fixed(out, end, 12)?;
+            put(out, b" s")
+        }
+        Ok(None) => Ok(()),
+        Err(_) => Ok(()),
+    }
+}
+
+#[tactic(auto, unfolding(crate::specs::RunCards::second_text))]
+fn put_second(out: &mut Vec<u8>, number: u32, line: &[u8]) -> Result<(), AllocError>
+    ensures { OnOk result (out.new.items ≡ out.old.items ++ second_text number line.now) }
+{
+    put(out, b"line ")?;
+    put_number(out, number)?;
+    put(out, b", second miscellaneous card, ")?;
+    put_print(out, print_of(field_whole(line, 1, 8)))?;
+    put(out, b"\n")
+}
+
+/// Puts IOUT after a text.
+fn put_print(out: &mut Vec<u8>, number: i64) -> Result<(), AllocError>
+    ensures { OnOk result (out.new.items ≡ out.old.items ++ print_text number) }
+{
+    put(out, b"IOUT=")?;
+    put_fixed(out, number, 0)
+}
+
+/// IOUT, which is 0 where it is blank.
+fn print_of(print: Result<Option<i64>, Why>) -> i64
+    ensures { result ≡ print_of print }
+{
+    match print {
+        Ok(Some(number)) => number,
+        Ok(None) => 0,
+        Err(_) => 0,
+    }
+}
