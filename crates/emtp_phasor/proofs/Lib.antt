@@ -1,6 +1,7 @@
 pub mod BranchLists
 pub mod Blocks
 pub mod Ports
+pub mod GroupLists
 pub mod Doubling
 pub mod SolvedRows
 pub mod Sourcing

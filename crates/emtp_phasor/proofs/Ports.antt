@@ -12,12 +12,10 @@ use Rattle.emtp_case.specs.held.Branch.{IsBranch}
 use Rattle.emtp_case.specs.held.Case.{IsNetwork}
 use Rattle.emtp_case.specs.held.Sizes.{sizes_of}
 use Rattle.emtp_rows.proofs.Phases.{branch_ends}
-use Rattle.emtp_case.specs.Sums.{sum_below, total}
+use Rattle.emtp_case.specs.Sums.{total}
 use Rattle.emtp_case.specs.declared.branch.Branch.{Branch}
 use Rattle.emtp_case.specs.declared.case.Parts.{Parts}
-use Rattle.emtp_case.specs.declared.row_kind.RowKind.{RowKind}
-use Rattle.emtp_case.proofs.Sums.{sum_below-more, sum_below_small, total_small}
-use Rattle.emtp_case.specs.NodeRows.{is_member, node_at}
+use Rattle.emtp_case.proofs.Sums.{sum_below_small, total_small}
 use Rattle.emtp_admittance.specs.Admittances.{in_block, no_port, port_at}
 use Rattle.emtp_admittance.specs.held.Admittances.{IsSmallPort}
 use Rattle.emtp_phasor.specs.Doubled.{between_nodes, admittance_entry}
@@ -132,15 +130,6 @@ pub current_small : (case : Parts) (ports : List TwoPort) (row column : Bool) (n
 current_small case ports row column n m small few =
     omega (arith, few, sum_below_small (length case.branches) (λ b. between_nodes row column (port_at ports b) n m (slice_get case.branches b)) (4 * 10 ^ 17) (λ b below. between_small row column (port_at ports b) n m (slice_get case.branches b) (port_small ports b small)))
 
-member_small : (b : Bool) (x : ℤ) (limit : ℕ) → unsigned_abs x ≤ limit → unsigned_abs (if b then x else pos 0) ≤ limit
-member_small true x limit small = small
-member_small false x limit small = omega (arith, ints)
-
-pub group_small : (case : Parts) (ports : List TwoPort) (kinds : List RowKind) (row column : Bool) (i m count : ℕ) → All IsSmallPort ports → length case.branches ≤ 5000 → count ≤ 1000
-    → unsigned_abs (sum_below count (λ k. if is_member kinds i k then admittance_entry case ports row column (node_at case k) m else pos 0)) ≤ 2 * 10 ^ 24
-group_small case ports kinds row column i m count small few size =
-    omega (arith, sum_below_small count (λ k. if is_member kinds i k then admittance_entry case ports row column (node_at case k) m else pos 0) (2 * 10 ^ 21) (λ k below. member_small (is_member kinds i k) (admittance_entry case ports row column (node_at case k) m) (2 * 10 ^ 21) (current_small case ports row column (node_at case k) m small few)))
-
 -- ---- one more
 
 -- one branch at the node more
@@ -159,16 +148,6 @@ pub node_entry : (case : Parts) (ports : List TwoPort) (row column : Bool) (n m 
 node_entry case ports row column n m i places start x are past is =
     let F : ℕ → ℤ = λ b. between_nodes row column (port_at ports b) n m (slice_get case.branches b) in
     is ∙ ap (λ s. start +ℤ s) (places_total case n i places F (λ b away. between_away row column (port_at ports b) n m (slice_get case.branches b) away) are past)
-
--- one node of a group more
-pub group_more : (case : Parts) (ports : List TwoPort) (kinds : List RowKind) (row column : Bool) (i m k node : ℕ) (before after : ℤ) (member : Bool) → member ≡ is_member kinds i k → node ≡ node_at case k
-    → before ≡ sum_below k (λ k. if is_member kinds i k then admittance_entry case ports row column (node_at case k) m else pos 0)
-    → after ≡ before +ℤ (if member then admittance_entry case ports row column node m else pos 0)
-    → after ≡ sum_below (k + 1) (λ k. if is_member kinds i k then admittance_entry case ports row column (node_at case k) m else pos 0)
-group_more case ports kinds row column i m k node before after member is there so_far added =
-    let F : ℕ → ℤ = λ k. if is_member kinds i k then admittance_entry case ports row column (node_at case k) m else pos 0 in
-    let here : (if member then admittance_entry case ports row column node m else pos 0) ≡ F k = ap (λ b. if b then admittance_entry case ports row column node m else pos 0) is ∙ ap (λ n. if is_member kinds i k then admittance_entry case ports row column n m else pos 0) there in
-    added ∙ ap (λ x. before +ℤ x) here ∙ ap (λ x. x +ℤ F k) so_far ∙ sym (sum_below-more k F)
 
 -- ---- what an index read
 

@@ -1,6 +1,7 @@
 -- What values hold for their proofs, and what premises say. No clause of the program reaches it.
 pub mod Ending
 pub mod HeldBranches
+pub mod HeldGroups
 pub mod HeldLines
 pub mod HeldSystem
 pub mod Opening

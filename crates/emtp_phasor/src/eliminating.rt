@@ -10,6 +10,7 @@ ghost use Rattle.emtp_elim.specs.Outcome.{outcome};
 ghost use Rattle.emtp_elim.specs.held.WorkRow.{IsClearRow};
 ghost use Rattle.emtp_phasor.specs.Doubled.{doubled_matrix};
 ghost use Rattle.emtp_phasor.specs.held.HeldBranches.{branches_by_row};
+ghost use Rattle.emtp_phasor.specs.held.HeldGroups.{members_by_row};
 ghost use Rattle.emtp_phasor.specs.Steady.{named_ending};
 
 use crate::ending::{Ending, cause_of, ending_at};
@@ -29,6 +30,7 @@ pub(crate) fn eliminate_rows<L: Ledger>(
     ports: &[TwoPort],
     kinds: &[RowKind],
     lists: &[Items<u32>],
+    groups: &[Items<u32>],
     done: &mut SparseRows,
     work: &mut WorkRow,
     steps: &mut Steps<L>,
@@ -39,6 +41,7 @@ pub(crate) fn eliminate_rows<L: Ledger>(
     requires kinds { length kinds.now ≡ length case.now.parts.nodes }
     requires ties { All (TieIsThere (length case.now.parts.nodes)) kinds.now }
     requires lists { lists.now ≡ branches_by_row case.now.parts }
+    requires groups { groups.now ≡ members_by_row kinds.now }
     requires size { done.old.size ≡ 2 * length case.now.parts.nodes }
     requires clear { IsClearRow (2 * length case.now.parts.nodes) work.old }
     ensures size { done.new.size ≡ done.old.size }
@@ -50,7 +53,7 @@ pub(crate) fn eliminate_rows<L: Ledger>(
     row_fault_ends_systems();
     done.cut(0);
     for row in 0..work.len() {
-        fill_row(case, order, ports, kinds, lists, row, work);
+        fill_row(case, order, ports, kinds, lists, groups, row, work);
         if let Err(cause) = eliminate_work_row(done, work, steps) {
             return Err(ending_at(order.node_at(row / 2), cause_of(cause)));
         }

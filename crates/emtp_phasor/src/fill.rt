@@ -3,14 +3,16 @@
 ghost use Rattle.std.specs.Prelude.{◌≡◌, ◌*◌, ◌/◌, ◌+◌, ◌^◌, ◌<◌, ◌≤◌, ◌==◌, ◌+ℤ◌, ℕ, All, false, true, pos, if◌then◌else◌, length, unsigned_abs, slice_get};
 ghost use Rattle.emtp_elim.specs.Matrix.{item};
 ghost use Rattle.emtp_elim.specs.held.WorkRow.{IsClearRow};
+ghost use Rattle.emtp_case.specs.declared.limit.TheConstants.{MOST_NODES};
 ghost use Rattle.emtp_case.specs.RowOrder.{order_of};
 ghost use Rattle.emtp_case.specs.held.RowKinds.{TieIsThere};
-ghost use Rattle.emtp_case.specs.Sums.{sum_below};
-ghost use Rattle.emtp_case.specs.NodeRows.{is_member, is_tie_to, kind_at, node_at};
+ghost use Rattle.emtp_case.specs.Sums.{total};
+ghost use Rattle.emtp_case.specs.NodeRows.{kind_at, node_at};
 ghost use Rattle.emtp_fix.specs.declared.limit.TheConstants.{LARGEST_ENTRY};
 ghost use Rattle.emtp_admittance.specs.Admittances.{in_block, is_imaginary};
 ghost use Rattle.emtp_admittance.specs.held.Admittances.{IsSmallAdmittance, IsSmallPort};
 ghost use Rattle.emtp_phasor.specs.held.HeldBranches.{branches_at, branches_by_row};
+ghost use Rattle.emtp_phasor.specs.held.HeldGroups.{members_by_row};
 ghost use Rattle.emtp_phasor.specs.Doubled.{Doubled, between_nodes, admittance_entry, doubled_entry};
 
 use emtp_admittance::{Admittance, TwoPort};
@@ -25,6 +27,7 @@ pub(crate) fn fill_row(
     ports: &[TwoPort],
     kinds: &[RowKind],
     lists: &[Items<u32>],
+    groups: &[Items<u32>],
     row: usize,
     out: &mut WorkRow,
 )
@@ -34,6 +37,7 @@ pub(crate) fn fill_row(
     requires kinds { length kinds.now ≡ length case.now.parts.nodes }
     requires ties { All (TieIsThere (length case.now.parts.nodes)) kinds.now }
     requires lists { lists.now ≡ branches_by_row case.now.parts }
+    requires groups { groups.now ≡ members_by_row kinds.now }
     requires row { row < 2 * length case.now.parts.nodes }
     requires clear { IsClearRow (2 * length case.now.parts.nodes) out.old }
     ensures same { length out.new ≡ length out.old }
@@ -46,7 +50,10 @@ pub(crate) fn fill_row(
             let places = lists[row / 2].as_slice();
             add_node(case, order, ports, places, node, imaginary, out);
         }
-        RowKind::Sum => add_group(case, order, ports, kinds, lists, row / 2, imaginary, out),
+        RowKind::Sum => {
+            let members = groups[row / 2].as_slice();
+            add_group(case, order, ports, lists, members, imaginary, out);
+        }
         RowKind::Tie(other) => {
             out.add_to(row, PICO);
             out.add_to(2 * other as usize + row % 2, -PICO);
@@ -60,75 +67,27 @@ fn add_group(
     case: &Case,
     order: &RowOrder,
     ports: &[TwoPort],
-    kinds: &[RowKind],
     lists: &[Items<u32>],
-    i: usize,
+    members: &[u32],
     imaginary: bool,
     out: &mut WorkRow,
 )
     requires order { order.now ≡ order_of case.now.parts }
     requires ports { length ports.now ≡ length case.now.parts.branches }
     requires small { All IsSmallPort ports.now }
-    requires kinds { length kinds.now ≡ length case.now.parts.nodes }
     requires lists { lists.now ≡ branches_by_row case.now.parts }
+    requires members { All (λ k. k < length case.now.parts.nodes) members.now }
+    requires few { length members.now ≤ MOST_NODES }
     requires out { length out.old ≡ 2 * length case.now.parts.nodes }
-    requires zeros { (c : ℕ) → c < length out.old → item out.old c ≡ pos 0 }
+    requires bound { (c : ℕ) → c < length out.old → unsigned_abs (item out.old c) ≤ 10 ^ 28 }
     ensures same { length out.new ≡ length out.old }
-    ensures value { (c : ℕ) → c < length out.old → item out.new c ≡ sum_below (length case.now.parts.nodes) (λ k. if is_member kinds.now i k then admittance_entry case.now.parts ports.now imaginary (is_imaginary c) (node_at case.now.parts k) (node_at case.now.parts (c / 2)) else pos 0) }
+    ensures value { (c : ℕ) → c < length out.old → item out.new c ≡ item out.old c +ℤ total (λ k. admittance_entry case.now.parts ports.now imaginary (is_imaginary c) (node_at case.now.parts k) (node_at case.now.parts (c / 2))) members.now }
 {
-    for k in 0..kinds.len() {
-        let node = order.node_at(k);
-        add_member(
-            case,
-            order,
-            ports,
-            lists[k].as_slice(),
-            node,
-            imaginary,
-            is_member(kinds, i, k),
-            out,
-        );
-    }
-}
-
-/// Adds the currents of a node, where it is one of the group.
-fn add_member(
-    case: &Case,
-    order: &RowOrder,
-    ports: &[TwoPort],
-    places: &[u32],
-    node: u32,
-    imaginary: bool,
-    is_member: bool,
-    out: &mut WorkRow,
-)
-    requires order { order.now ≡ order_of case.now.parts }
-    requires ports { length ports.now ≡ length case.now.parts.branches }
-    requires small { All IsSmallPort ports.now }
-    requires places { places.now ≡ branches_at case.now.parts node }
-    requires out { length out.old ≡ 2 * length case.now.parts.nodes }
-    requires bound { (c : ℕ) → c < length out.old → unsigned_abs (item out.old c) ≤ 10 ^ 29 }
-    ensures same { length out.new ≡ length out.old }
-    ensures value { (c : ℕ) → c < length out.old → item out.new c ≡ item out.old c +ℤ (if is_member then admittance_entry case.now.parts ports.now imaginary (is_imaginary c) node (node_at case.now.parts (c / 2)) else pos 0) }
-{
-    if is_member {
+    for member in members {
+        let at = *member as usize;
+        let node = order.node_at(at);
+        let places = lists[at].as_slice();
         add_node(case, order, ports, places, node, imaginary, out);
-    }
-}
-
-pub(crate) fn is_member(kinds: &[RowKind], i: usize, k: usize) -> bool
-    requires { k < length kinds.now }
-    ensures { result ≡ is_member kinds.now i k }
-{
-    k == i || is_tie_to(i, kinds[k])
-}
-
-fn is_tie_to(i: usize, kind: RowKind) -> bool
-    ensures { result ≡ is_tie_to i kind }
-{
-    match kind {
-        RowKind::Tie(row) => row as usize == i,
-        RowKind::Kcl | RowKind::Sum | RowKind::Ground | RowKind::Source => false,
     }
 }
 

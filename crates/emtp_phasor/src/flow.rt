@@ -2,18 +2,21 @@
 
 ghost use Rattle.std.specs.Prelude.{◌≡◌, ◌*◌, ◌+◌, ◌^◌, ◌<◌, ◌≤◌, ◌≤ℤ◌, ◌+ℤ◌, ◌*ℤ◌, ℕ, All, Some, true, max, pos, if◌then◌else◌, length, nat_lt, unsigned_abs, IfSome, IsNone};
 ghost use Rattle.emtp_fix.specs.declared.limit.TheConstants.{LARGEST_ENTRY, LARGEST_VALUE};
+ghost use Rattle.emtp_case.specs.declared.limit.TheConstants.{MOST_NODES};
 ghost use Rattle.emtp_case.specs.Branch.{from_of, to_of};
 ghost use Rattle.emtp_case.specs.RowOrder.{order_of};
-ghost use Rattle.emtp_case.specs.NodeRows.{group_sum, kind_at, node_at};
+ghost use Rattle.emtp_case.specs.NodeRows.{node_at};
+ghost use Rattle.emtp_case.specs.Sums.{total};
 ghost use Rattle.emtp_admittance.specs.Admittances.{in_block, port_at};
 ghost use Rattle.emtp_admittance.specs.held.Admittances.{IsSmallPort};
 ghost use Rattle.emtp_phasor.specs.held.HeldBranches.{branches_at, branches_by_row};
+ghost use Rattle.emtp_phasor.specs.held.HeldGroups.{members_by_row};
 ghost use Rattle.emtp_phasor.specs.Steady.{entering, first_current, first_flow_out, flows, is_in_range, resting_kinds, leaving_node, leaving_through, residual_in, row_residual, second_current};
 ghost use Rattle.emtp_phasor.specs.held.Steady.{AllFlow, JudgesResiduals};
 ghost use Rattle.emtp_phasor.specs.Volts.{volt_at};
 ghost use Rattle.emtp_phasor.specs.held.Volts.{IsVolt};
 
-use crate::fill::{imaginary_column, is_member, real_column};
+use crate::fill::{imaginary_column, real_column};
 use crate::phasor::Phasor;
 use crate::sources::sources_into;
 use emtp_admittance::{TwoPort, product};
@@ -176,68 +179,35 @@ fn leaving(
     sum - sources_into(table, case, imaginary, node)
 }
 
-/// A part of the current that leaves a node, where it is one of a group.
-fn leaving_member(
-    table: &CosTable,
-    case: &Case,
-    ports: &[TwoPort],
-    places: &[u32],
-    volts: &[Phasor],
-    imaginary: bool,
-    node: u32,
-    is_member: bool,
-) -> i128
-    requires ports { length ports.now ≡ length case.now.parts.branches }
-    requires small { All IsSmallPort ports.now }
-    requires places { places.now ≡ branches_at case.now.parts node }
-    requires volts { All IsVolt volts.now }
-    requires nodes { length volts.now ≡ length case.now.parts.nodes + 1 }
-    requires flows { AllFlow case.now.parts ports.now volts.now (length case.now.parts.branches) }
-    ensures value { result ≡ (if is_member then leaving_node case.now.parts ports.now volts.now imaginary node else pos 0) }
-    ensures bound { unsigned_abs result ≤ 10 ^ 23 }
-{
-    if is_member {
-        leaving(table, case, ports, places, volts, imaginary, node)
-    } else {
-        0
-    }
-}
-
 /// A part of the current that leaves a group.
 fn leaving_group(
     table: &CosTable,
     case: &Case,
     order: &RowOrder,
-    kinds: &[RowKind],
     ports: &[TwoPort],
     lists: &[Items<u32>],
+    members: &[u32],
     volts: &[Phasor],
     imaginary: bool,
-    i: usize,
 ) -> i128
     requires order { order.now ≡ order_of case.now.parts }
-    requires kinds { kinds.now ≡ resting_kinds case.now.parts }
     requires ports { length ports.now ≡ length case.now.parts.branches }
     requires small { All IsSmallPort ports.now }
     requires lists { lists.now ≡ branches_by_row case.now.parts }
+    requires members { All (λ k. k < length case.now.parts.nodes) members.now }
+    requires few { length members.now ≤ MOST_NODES }
     requires volts { All IsVolt volts.now }
     requires nodes { length volts.now ≡ length case.now.parts.nodes + 1 }
     requires flows { AllFlow case.now.parts ports.now volts.now (length case.now.parts.branches) }
-    ensures value { result ≡ group_sum case.now.parts kinds.now i (leaving_node case.now.parts ports.now volts.now imaginary) }
+    ensures value { result ≡ total (λ k. leaving_node case.now.parts ports.now volts.now imaginary (node_at case.now.parts k)) members.now }
     ensures bound { unsigned_abs result ≤ 10 ^ 27 }
 {
     let mut sum = 0;
-    for k in 0..kinds.len() {
-        sum += leaving_member(
-            table,
-            case,
-            ports,
-            lists[k].as_slice(),
-            volts,
-            imaginary,
-            order.node_at(k),
-            is_member(kinds, i, k),
-        );
+    for member in members {
+        let at = *member as usize;
+        let node = order.node_at(at);
+        let places = lists[at].as_slice();
+        sum += leaving(table, case, ports, places, volts, imaginary, node);
     }
     sum
 }
@@ -261,6 +231,7 @@ fn residual(
     kinds: &[RowKind],
     ports: &[TwoPort],
     lists: &[Items<u32>],
+    groups: &[Items<u32>],
     volts: &[Phasor],
     i: usize,
 ) -> i128
@@ -269,6 +240,7 @@ fn residual(
     requires ports { length ports.now ≡ length case.now.parts.branches }
     requires small { All IsSmallPort ports.now }
     requires lists { lists.now ≡ branches_by_row case.now.parts }
+    requires groups { groups.now ≡ members_by_row kinds.now }
     requires volts { All IsVolt volts.now }
     requires nodes { length volts.now ≡ length case.now.parts.nodes + 1 }
     requires flows { AllFlow case.now.parts ports.now volts.now (length case.now.parts.branches) }
@@ -286,9 +258,10 @@ fn residual(
             )
         }
         RowKind::Sum => {
+            let members = groups[i].as_slice();
             greater(
-                leaving_group(table, case, order, kinds, ports, lists, volts, false, i),
-                leaving_group(table, case, order, kinds, ports, lists, volts, true, i),
+                leaving_group(table, case, order, ports, lists, members, volts, false),
+                leaving_group(table, case, order, ports, lists, members, volts, true),
             )
         }
         RowKind::Tie(_) | RowKind::Ground | RowKind::Source => 0,
@@ -310,6 +283,7 @@ pub(crate) fn judge(
     kinds: &[RowKind],
     ports: &[TwoPort],
     lists: &[Items<u32>],
+    groups: &[Items<u32>],
     volts: &[Phasor],
 ) -> Result<i128, (usize, i128)>
     requires order { order.now ≡ order_of case.now.parts }
@@ -317,6 +291,7 @@ pub(crate) fn judge(
     requires ports { length ports.now ≡ length case.now.parts.branches }
     requires small { All IsSmallPort ports.now }
     requires lists { lists.now ≡ branches_by_row case.now.parts }
+    requires groups { groups.now ≡ members_by_row kinds.now }
     requires volts { All IsVolt volts.now }
     requires nodes { length volts.now ≡ length case.now.parts.nodes + 1 }
     requires flows { AllFlow case.now.parts ports.now volts.now (length case.now.parts.branches) }
@@ -324,7 +299,7 @@ pub(crate) fn judge(
 {
     let mut greatest = 0;
     for i in 0..case.parts.nodes.len() {
-        let residual = residual(table, case, order, kinds, ports, lists, volts, i);
+        let residual = residual(table, case, order, kinds, ports, lists, groups, volts, i);
         if exceeds(residual, case.parts.run.tolerance) {
             return Err((i, residual));
         }

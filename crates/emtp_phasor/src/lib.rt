@@ -16,6 +16,7 @@ mod ending;
 mod fault;
 mod fill;
 mod flow;
+mod groups;
 mod laws;
 mod line;
 mod node_branches;

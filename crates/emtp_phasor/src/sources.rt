@@ -7,7 +7,7 @@ ghost use Rattle.emtp_case.specs.RowOrder.{order_of};
 ghost use Rattle.emtp_case.specs.NodeRows.{group_sum, kind_at};
 ghost use Rattle.emtp_phasor.specs.Volts.{part_phase, cosine_phase, doubled_right_by, doubled_right, source_part, source_phasors_into, source_phasor_at};
 
-use crate::fill::is_member;
+use crate::groups::is_member;
 use emtp_case::{Case, RowKind, RowOrder, Shape, Source};
 use emtp_fix::{PICO, scaled};
 use emtp_wave::CosTable;

@@ -12,6 +12,7 @@ ghost use Rattle.emtp_case.specs.held.EndNames.{IsNode};
 ghost use Rattle.emtp_case.specs.RowOrder.{order_of};
 ghost use Rattle.emtp_admittance.specs.held.Admittances.{IsSmallPort};
 ghost use Rattle.emtp_phasor.specs.held.HeldBranches.{branches_by_row};
+ghost use Rattle.emtp_phasor.specs.held.HeldGroups.{members_by_row};
 ghost use Rattle.emtp_phasor.specs.Steady.{resting_kinds, doubled_system, named_ending, port_or_none, ports_of, steady_right, doubled_solution, steady};
 ghost use Rattle.emtp_phasor.specs.held.Steady.{AreGood, IsSteady, judged_volts};
 ghost use Rattle.emtp_phasor.specs.Volts.{nothing, volt_in, phasors_of};
@@ -120,6 +121,7 @@ pub(crate) fn judge_volts(
     kinds: &[RowKind],
     ports: &[TwoPort],
     lists: &[Items<u32>],
+    groups: &[Items<u32>],
     volts: &[Phasor],
 ) -> Result<i128, Ending>
     requires order { order.now ≡ order_of case.now.parts }
@@ -127,6 +129,7 @@ pub(crate) fn judge_volts(
     requires ports { length ports.now ≡ length case.now.parts.branches }
     requires small { All IsSmallPort ports.now }
     requires lists { lists.now ≡ branches_by_row case.now.parts }
+    requires groups { groups.now ≡ members_by_row kinds.now }
     requires volts { All IsVolt volts.now }
     requires nodes { length volts.now ≡ length case.now.parts.nodes + 1 }
     ensures good { IfOk result (λ greatest. AreGood case.now.parts ports.now volts.now greatest) }
@@ -136,7 +139,7 @@ pub(crate) fn judge_volts(
     if let Some(b) = first_out(case, ports, volts) {
         return Err(ending_at(branch_name(case, b), Cause::Range));
     }
-    match judge(table, case, order, kinds, ports, lists, volts) {
+    match judge(table, case, order, kinds, ports, lists, groups, volts) {
         Ok(greatest) => Ok(greatest),
         Err((row, measured)) => Err(Ending {
             node: order.node_at(row),

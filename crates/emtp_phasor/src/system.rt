@@ -21,6 +21,7 @@ ghost use Rattle.emtp_phasor.specs.held.Volts.{IsVolt};
 
 use crate::eliminating::eliminate_rows;
 use crate::ending::{Ending, ending_at};
+use crate::groups::members_by_row;
 use crate::node_branches::branches_by_row;
 use crate::opening::{Closed, right_side, row_kinds};
 use crate::phasor::{NOTHING, Phasor};
@@ -53,8 +54,8 @@ impl From<AllocError> for Stop {
     }
 }
 
-/// The doubled system of a case. The kinds of its rows, the branches at each of them and its right side are the same at all
-/// frequencies; the rest is room that is filled anew.
+/// The doubled system of a case. The kinds of its rows, the branches at each of them, the rows of each group and its right side
+/// are the same at all frequencies; the rest is room that is filled anew.
 #[derive(Drop)]
 pub(crate) struct System {
     /// The order of the network's rows.
@@ -63,6 +64,8 @@ pub(crate) struct System {
     pub(crate) kinds: Vec<RowKind>,
     /// For each row of the network the places of the branches at its node.
     pub(crate) lists: Vec<Items<u32>>,
+    /// For each row of the network the rows whose nodes are of its group.
+    pub(crate) groups: Vec<Items<u32>>,
     /// The finished rows of the last frequency's matrix.
     pub(crate) done: SparseRows,
     /// Room for a row while it is written and eliminated, clear between two.
@@ -133,6 +136,7 @@ impl System {
         let nodes = case.parts.nodes.len();
         let right = right_side(alloc, table, case, &order, &kinds)?;
         let lists = branches_by_row(alloc, case, &order)?;
+        let groups = members_by_row(alloc, &kinds)?;
         let done = SparseRows::open(alloc, 2 * nodes)?;
         let work = WorkRow::open(alloc, 2 * nodes)?;
         let ports = no_ports(alloc, case.parts.branches.len())?;
@@ -143,6 +147,7 @@ impl System {
             order,
             kinds,
             lists,
+            groups,
             done,
             work,
             ports,
@@ -204,6 +209,7 @@ impl System {
             &self.ports,
             &self.kinds,
             &self.lists,
+            &self.groups,
             &mut self.done,
             &mut self.work,
             steps,
@@ -236,6 +242,7 @@ impl System {
             &self.kinds,
             &self.ports,
             &self.lists,
+            &self.groups,
             &self.volts,
         )
     }

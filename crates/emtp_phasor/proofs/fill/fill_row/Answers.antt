@@ -8,7 +8,10 @@ use Rattle.emtp_elim.specs.Matrix.{item}
 use Rattle.emtp_case.specs.NodeRows.{kind_at, node_at, unit}
 use Rattle.emtp_rows.proofs.Filled.{tie_set, unit_set}
 use Rattle.emtp_case.proofs.RowsOfNodes.{order_at, order_size}
+use Rattle.emtp_admittance.specs.Admittances.{is_imaginary}
+use Rattle.emtp_phasor.specs.Doubled.{admittance_entry}
 use Rattle.emtp_phasor.proofs.BranchLists.{list_read, lists_count}
+use Rattle.emtp_phasor.proofs.GroupLists.{group_read, groups_count, members_few, members_there, members_total}
 use Rattle.emtp_phasor.proofs.fill.fill_row.Goals as goal
 
 nothing : (x : ℤ) → pos 0 +ℤ x ≡ x
@@ -39,11 +42,26 @@ add_node-requires-clause-out c = c.requires.clear.length_is
 pub add_node-requires-clause-bound : goal.add_node-requires-clause-bound
 add_node-requires-clause-bound c = λ j below. omega (arith, ints, c.requires.clear.zeros j)
 
+pub bounds-groups-row : goal.bounds-groups-row
+bounds-groups-row c = omega (arith, c.requires.row, c.requires.kinds, ap length c.requires.groups, groups_count c.args.kinds.now)
+
+pub add_group-requires-clause-members : goal.add_group-requires-clause-members
+add_group-requires-clause-members c =
+    let half : c.args.row / 2 < length c.args.kinds.now = omega (arith, c.requires.row, c.requires.kinds) in
+    let are = group_read c.args.kinds.now c.args.groups.now (c.args.row / 2) c.index-groups-row.result c.as_slice-members.result.now c.requires.groups half c.index-groups-row.is c.as_slice-members.ensures in
+    members_there c.args.kinds.now (c.args.row / 2) (length c.args.case.now.parts.nodes) c.as_slice-members.result.now c.requires.kinds are
+
+pub add_group-requires-clause-few : goal.add_group-requires-clause-few
+add_group-requires-clause-few c =
+    let half : c.args.row / 2 < length c.args.kinds.now = omega (arith, c.requires.row, c.requires.kinds) in
+    let are = group_read c.args.kinds.now c.args.groups.now (c.args.row / 2) c.index-groups-row.result c.as_slice-members.result.now c.requires.groups half c.index-groups-row.is c.as_slice-members.ensures in
+    omega (arith, members_few c.args.kinds.now (c.args.row / 2) c.as_slice-members.result.now are, c.requires.kinds, c.args.case.now.fits.draft.counts.nodes)
+
 pub add_group-requires-clause-out : goal.add_group-requires-clause-out
 add_group-requires-clause-out c = c.requires.clear.length_is
 
-pub add_group-requires-clause-zeros : goal.add_group-requires-clause-zeros
-add_group-requires-clause-zeros c = λ j below. c.requires.clear.zeros j
+pub add_group-requires-clause-bound : goal.add_group-requires-clause-bound
+add_group-requires-clause-bound c = λ j below. omega (arith, ints, c.requires.clear.zeros j)
 
 pub add_to-requires-clause-place : goal.add_to-requires-clause-place
 add_to-requires-clause-place c = omega (arith, c.requires.clear.length_is, c.requires.row)
@@ -90,9 +108,13 @@ returns-in-Sum-clause-same c = c.add_group.ensures.same
 
 pub returns-in-Sum-clause-value : goal.returns-in-Sum-clause-value
 returns-in-Sum-clause-value c = λ j below.
+    let case = c.args.case.now.parts in
     let half : c.args.row / 2 < length c.args.kinds.now = omega (arith, c.requires.row, c.requires.kinds) in
     let kind : kind_at c.args.kinds.now (c.args.row / 2) ≡ Sum = get_or_default c.args.kinds.now (c.args.row / 2) Ground Kcl half ∙ c.in-Sum.is in
-    rw kind (c.add_group.ensures.value j below)
+    let are = group_read c.args.kinds.now c.args.groups.now (c.args.row / 2) c.index-groups-row.result c.as_slice-members.result.now c.requires.groups half c.index-groups-row.is c.as_slice-members.ensures in
+    let F : ℕ → ℤ = λ k. admittance_entry case c.args.ports.now (is_imaginary c.args.row) (is_imaginary j) (node_at case k) (node_at case (j / 2)) in
+    let sum = members_total c.args.kinds.now (c.args.row / 2) (length case.nodes) c.as_slice-members.result.now F (sym c.requires.kinds) are in
+    rw (kind, c.add_group.ensures.value j below, c.requires.clear.zeros j, sum) (nothing _)
 
 pub returns-in-Tie-clause-same : goal.returns-in-Tie-clause-same
 returns-in-Tie-clause-same c = omega (arith, ap length c.add_to.ensures, ap length c.add_to-in-Tie.ensures, length-set {A = ℤ})

@@ -1,10 +1,13 @@
-use Rattle.std.proofs.Common.{◌≡◌, ◌∙◌, ◌<◌, ap, length, to_z, of_z, sym, arith}
+use Rattle.std.proofs.Common.{◌≡◌, ◌∙◌, ◌<◌, false, true, ap, length, to_z, of_z, sym, arith}
 use mir.Syntax.{w128}
 use Rattle.std.proofs.lemmas.Int.{ints}
 use Rattle.std.proofs.lemmas.List.{get_or_default}
 use Rattle.emtp_case.specs.declared.row_kind.RowKind.TheVariants.{Ground, Kcl}
 use Rattle.emtp_case.proofs.RowsOfNodes.{order_at, order_size}
 use Rattle.emtp_phasor.proofs.BranchLists.{list_read, lists_count}
+use Rattle.emtp_case.specs.NodeRows.{node_at}
+use Rattle.emtp_phasor.specs.Steady.{leaving_node}
+use Rattle.emtp_phasor.proofs.GroupLists.{group_read, groups_count, members_few, members_there, members_total}
 use Rattle.emtp_phasor.proofs.Judging.{residual_kcl, residual_sum}
 use Rattle.emtp_phasor.proofs.Volting.{kinds_size}
 use Rattle.emtp_phasor.proofs.flow.residual.Goals as goal
@@ -37,7 +40,42 @@ returns-in-Sum-clause-value c =
     let one : to_z w128 (of_z w128 c.leaving_group.result) ≡ c.leaving_group.result = omega (arith, ints, c.leaving_group.ensures.bound) in
     let two : to_z w128 (of_z w128 c.leaving_group-in-Sum.result) ≡ c.leaving_group-in-Sum.result = omega (arith, ints, c.leaving_group-in-Sum.ensures.bound) in
     let value = rw (one, two) at c.greater-in-Sum.ensures.value in
-    wide ∙ value ∙ residual_sum case c.args.ports.now c.args.volts.now c.args.kinds.now i c.leaving_group.result c.leaving_group-in-Sum.result c.requires.kinds kind c.leaving_group.ensures.value c.leaving_group-in-Sum.ensures.value
+    let sized : length case.nodes ≡ length c.args.kinds.now = sym (ap length c.requires.kinds ∙ kinds_size case) in
+    let are = group_read c.args.kinds.now c.args.groups.now i c.index-groups-i.result c.as_slice-members.result.now c.requires.groups inside c.index-groups-i.is c.as_slice-members.ensures in
+    let real = members_total c.args.kinds.now i (length case.nodes) c.as_slice-members.result.now (λ k. leaving_node case c.args.ports.now c.args.volts.now false (node_at case k)) sized are in
+    let imaginary = members_total c.args.kinds.now i (length case.nodes) c.as_slice-members.result.now (λ k. leaving_node case c.args.ports.now c.args.volts.now true (node_at case k)) sized are in
+    wide ∙ value ∙ residual_sum case c.args.ports.now c.args.volts.now c.args.kinds.now i c.leaving_group.result c.leaving_group-in-Sum.result c.requires.kinds kind (c.leaving_group.ensures.value ∙ real) (c.leaving_group-in-Sum.ensures.value ∙ imaginary)
+
+pub bounds-groups-i : goal.bounds-groups-i
+bounds-groups-i c = omega (arith, c.requires.there, ap length c.requires.kinds, kinds_size c.args.case.now.parts, ap length c.requires.groups, groups_count c.args.kinds.now)
+
+pub leaving_group-requires-clause-members : goal.leaving_group-requires-clause-members
+leaving_group-requires-clause-members c =
+    let case = c.args.case.now.parts in
+    let inside : c.args.i < length c.args.kinds.now = omega (arith, ap length c.requires.kinds, kinds_size case, c.requires.there) in
+    let are = group_read c.args.kinds.now c.args.groups.now c.args.i c.index-groups-i.result c.as_slice-members.result.now c.requires.groups inside c.index-groups-i.is c.as_slice-members.ensures in
+    members_there c.args.kinds.now c.args.i (length case.nodes) c.as_slice-members.result.now (ap length c.requires.kinds ∙ kinds_size case) are
+
+pub leaving_group-requires-in-Sum-clause-members : goal.leaving_group-requires-in-Sum-clause-members
+leaving_group-requires-in-Sum-clause-members c =
+    let case = c.args.case.now.parts in
+    let inside : c.args.i < length c.args.kinds.now = omega (arith, ap length c.requires.kinds, kinds_size case, c.requires.there) in
+    let are = group_read c.args.kinds.now c.args.groups.now c.args.i c.index-groups-i.result c.as_slice-members.result.now c.requires.groups inside c.index-groups-i.is c.as_slice-members.ensures in
+    members_there c.args.kinds.now c.args.i (length case.nodes) c.as_slice-members.result.now (ap length c.requires.kinds ∙ kinds_size case) are
+
+pub leaving_group-requires-clause-few : goal.leaving_group-requires-clause-few
+leaving_group-requires-clause-few c =
+    let case = c.args.case.now.parts in
+    let inside : c.args.i < length c.args.kinds.now = omega (arith, ap length c.requires.kinds, kinds_size case, c.requires.there) in
+    let are = group_read c.args.kinds.now c.args.groups.now c.args.i c.index-groups-i.result c.as_slice-members.result.now c.requires.groups inside c.index-groups-i.is c.as_slice-members.ensures in
+    omega (arith, members_few c.args.kinds.now c.args.i c.as_slice-members.result.now are, ap length c.requires.kinds, kinds_size case, c.args.case.now.fits.draft.counts.nodes)
+
+pub leaving_group-requires-in-Sum-clause-few : goal.leaving_group-requires-in-Sum-clause-few
+leaving_group-requires-in-Sum-clause-few c =
+    let case = c.args.case.now.parts in
+    let inside : c.args.i < length c.args.kinds.now = omega (arith, ap length c.requires.kinds, kinds_size case, c.requires.there) in
+    let are = group_read c.args.kinds.now c.args.groups.now c.args.i c.index-groups-i.result c.as_slice-members.result.now c.requires.groups inside c.index-groups-i.is c.as_slice-members.ensures in
+    omega (arith, members_few c.args.kinds.now c.args.i c.as_slice-members.result.now are, ap length c.requires.kinds, kinds_size case, c.args.case.now.fits.draft.counts.nodes)
 
 pub bounds-lists-i : goal.bounds-lists-i
 bounds-lists-i c = omega (arith, c.requires.there, ap length c.requires.lists, lists_count c.args.case.now.parts)

@@ -7,6 +7,7 @@ use Rattle.emtp_admittance.specs.held.Admittances.{IsSmallPort}
 use Rattle.emtp_case.specs.held.RowKinds.{TieIsThere}
 use Rattle.emtp_elim.specs.declared.fault.PlainFault.{PlainFault}
 use Rattle.emtp_phasor.specs.Doubled.{Doubled}
+use Rattle.emtp_phasor.specs.held.HeldGroups.{members_by_row}
 use Rattle.emtp_phasor.specs.Steady.{ports_of, resting_kinds, steady_right}
 use Rattle.emtp_phasor.proofs.Doubling.{length-doubled_matrix, length-right_side}
 use Rattle.emtp_phasor.proofs.SolvedRows.{fault_at, row_fault_at, solved_at}
@@ -31,6 +32,9 @@ eliminate_rows-requires-clause-ties g c = subst (All (TieIsThere (length c.args.
 
 pub eliminate_rows-requires-clause-lists : goal.eliminate_rows-requires-clause-lists
 eliminate_rows-requires-clause-lists g c = c.deref-3.ensures.value ∙ c.requires.ready.lists_are
+
+pub eliminate_rows-requires-clause-groups : goal.eliminate_rows-requires-clause-groups
+eliminate_rows-requires-clause-groups g c = c.deref-4.ensures.value ∙ c.requires.ready.groups_are ∙ ap members_by_row (sym (c.deref-2.ensures.value ∙ c.requires.ready.kinds_are))
 
 pub solve_right-requires-clause-size : goal.solve_right-requires-clause-size
 solve_right-requires-clause-size g c = c.eliminate_rows.ensures.size ∙ c.requires.ready.done_size
