@@ -18,7 +18,7 @@ use Rattle.emtp_netcards.specs.Reading.{both, in_column, judged}
 use Rattle.emtp_netcards.specs.RunCards.{first_card, first_fields, second_card, second_fields, tolerance_card}
 use Rattle.emtp_netcards.specs.SeriesValues.{series_values}
 use Rattle.emtp_netcards.specs.SourceCard as sources
-use Rattle.emtp_netcards.specs.SourceCard.{active_times, cosine_of, course_of, ramp_of, source_card}
+use Rattle.emtp_netcards.specs.SourceCard.{active_times, cosine_numbers, cosine_of, course_of, ramp_of, source_card}
 use Rattle.emtp_netcards.specs.SwitchCard as switches
 use Rattle.emtp_netcards.specs.SwitchCard.{is_measuring, switch_card, times_of, valve_of}
 use Rattle.emtp_netcards.specs.declared.branch_card.BranchKind.{BranchKind}
@@ -293,7 +293,7 @@ module _ (x y : List ℕ) (sound : AreFaultless x y) where
   ramp_under h = simp (number_under RAMP.now x y h 11 20 refl, number_under RAMP.now x y h 31 40 refl)
 
   cosine_under : AgreeUnder COSINE.now x y → cosine_of x ≡ cosine_of y
-  unfolding cosine_of
+  unfolding cosine_of cosine_numbers
   cosine_under h =
       simp (number_under COSINE.now x y h 11 20 refl, number_under COSINE.now x y h 21 30 refl, number_under COSINE.now x y h 31 40 refl, number_under COSINE.now x y h 41 50 refl)
 
