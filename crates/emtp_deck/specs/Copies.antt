@@ -13,7 +13,6 @@ use Rattle.emtp_sense.specs.Names.{node_number}
 use Rattle.emtp_deck.specs.declared.copies.LineNumbers.{LineNumbers}
 use Rattle.emtp_deck.specs.declared.copies.ValuesFrom.{ValuesFrom}
 use Rattle.emtp_deck.specs.declared.copies.ValuesFrom.TheVariants.{Card as OwnValues, Earlier, Missing}
-use Rattle.emtp_netcards.specs.OutputCard.{names}
 use Rattle.emtp_netcards.specs.declared.branch_card.BranchCard.{BranchCard}
 use Rattle.emtp_netcards.specs.declared.branch_card.BranchValues.{BranchValues}
 use Rattle.emtp_netcards.specs.declared.branch_card.BranchValues.TheVariants.{Line as LineCard, Lumped as LumpedCard, Reactor as ReactorCard, Resistor as ResistorCard, Second as SecondCard, Third as ThirdCard}

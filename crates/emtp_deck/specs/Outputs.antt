@@ -11,7 +11,6 @@ use Rattle.emtp_deck.specs.Made.{Made, no_room, unless_fault}
 use Rattle.emtp_deck.specs.declared.asked.Asked.{Asked}
 use Rattle.emtp_deck.specs.declared.outputs.Named.{Named}
 use Rattle.emtp_deck.specs.declared.outputs.Named.TheVariants.{Node, Variable}
-use Rattle.emtp_netcards.specs.OutputCard.{names}
 use Rattle.emtp_netcards.specs.declared.output_card.OutputCard.{OutputCard}
 use Rattle.emtp_netcards.specs.declared.output_card.OutputCard.TheVariants.{All as AllNodes, Names}
 use Rattle.emtp_sense.specs.Limits.{too_many}

@@ -15,7 +15,6 @@ use Rattle.emtp_deck.specs.Made.{Made, no_room, unless_fault}
 use Rattle.emtp_sense.specs.Limits.{too_many}
 use Rattle.emtp_sense.specs.Names.{node_number, with_switch_names}
 use Rattle.emtp_sense.specs.Variables.{unknown_name, variable_number}
-use Rattle.emtp_netcards.specs.OutputCard.{names}
 use Rattle.emtp_netcards.specs.declared.switch_card.SwitchCard.{SwitchCard}
 
 -- what opens and closes a switch, the variable that its card names having its number

@@ -6,7 +6,6 @@ use Rattle.emtp_walk.specs.declared.deck.BranchEntry.TheVariants.{Single, Trio}
 use Rattle.emtp_walk.specs.declared.deck.Deck.{Deck}
 use Rattle.emtp_walk.specs.declared.deck.Place.{Place}
 use Rattle.emtp_walk.specs.declared.deck.Place.TheVariants.{Points, Third, Waiting}
-use Rattle.emtp_netcards.specs.OutputCard.{names}
 use Rattle.emtp_netcards.specs.declared.switch_card.SwitchCard.{SwitchCard}
 use Rattle.indexmap.specs.IndexSet.{insert_key}
 

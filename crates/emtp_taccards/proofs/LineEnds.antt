@@ -8,14 +8,15 @@ use Rattle.emtp_case.specs.declared.control.Group.{Group}
 use Rattle.emtp_expr.specs.Parsing.{expression_of}
 use Rattle.emtp_expr.specs.declared.parsing.Parsed.{Parsed}
 use Rattle.emtp_expr.proofs.TextEnds.{same-expression}
-use Rattle.emtp_netcards.proofs.LineEnds.{cosine_alike, cosine_shape_alike, names_fault_alike}
+use Rattle.emtp_netcards.proofs.LineEnds.{cosine_alike, cosine_shape_alike, name_list_alike}
 use Rattle.emtp_taccards.specs.BlockCard.{block_card, block_fault, block_with}
 use Rattle.emtp_taccards.specs.DeviceCard.{a_by, a_field, device_card, device_fault, device_with}
 use Rattle.emtp_taccards.specs.ExtraCard.{extra_card}
 use Rattle.emtp_taccards.specs.FormulaCard.{expression_text, formula_card, formula_fault}
 use Rattle.emtp_taccards.specs.Inputs.{input_fault, inputs, inputs_fault}
 use Rattle.emtp_taccards.specs.PolynomialCard.{polynomial_card, polynomial_fault}
-use Rattle.emtp_taccards.specs.TacsOutputCard.{tacs_output_card, tacs_output_fault}
+use Rattle.emtp_taccards.specs.TacsOutputCard as outputs
+use Rattle.emtp_taccards.specs.TacsOutputCard.{tacs_output_card}
 use Rattle.emtp_taccards.specs.TacsSourceCard.{driven_fault, pulse_fault, signal_fault, signal_shape, tacs_source_card, tacs_source_fault, tacs_source_with}
 use Rattle.emtp_taccards.specs.declared.tacs_source_card.Signal.{Signal}
 use Rattle.emtp_taccards.specs.declared.tacs_source_card.Signal.TheVariants.{Cosine as CosineSignal, Level, NodeVoltage as OfNode, Pulse as PulseSignal, Saw as SawSignal, SwitchCurrent as OfSwitch, SwitchStatus as StatusOfSwitch}
@@ -132,5 +133,5 @@ module _ (x y : List ℕ) (h : AreReadAlike x y) where
   -- ---- outputs
 
   pub tacs_output_alike : (number : ℕ) → tacs_output_card number x ≡ tacs_output_card number y
-  unfolding tacs_output_card tacs_output_fault
-  tacs_output_alike number = simp (h.fault, h.whole, h.name, names_fault_alike x y h)
+  unfolding tacs_output_card outputs.fields_of
+  tacs_output_alike number = simp (h.fault, h.whole, name_list_alike x y h)

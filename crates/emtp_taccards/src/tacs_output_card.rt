@@ -1,11 +1,11 @@
 //! Output cards of the control.
 
 ghost use Rattle.std.specs.Prelude.{◌≡◌, ◌≤◌, length};
-ghost use Rattle.emtp_taccards.specs.TacsOutputCard.{no_mark_field, tacs_output_card, tacs_output_fault};
+ghost use Rattle.emtp_taccards.specs.TacsOutputCard.{fields_of, no_mark_field, tacs_output_card};
 
-use emtp_card::{Bad, Fault, Line, MAX_BYTES, Why, fault_at, field_whole, judge, least};
+use emtp_card::{Bad, Fault, Line, MAX_BYTES, Why, field_whole};
 use emtp_case::Name;
-use emtp_netcards::{names, names_fault};
+use emtp_netcards::{both, card_on, in_column, name_list};
 
 /// Reads an output card of the control: 13 names of variables, of which blank ones are skipped. No mark asks for all.
 ///
@@ -15,17 +15,15 @@ pub fn tacs_outputs(line: Line<'_>) -> Result<[Option<Name>; 13], Bad>
     requires { length line.bytes.now ≤ MAX_BYTES }
     ensures { result ≡ tacs_output_card line.entry.number line.entry.bytes.now }
 {
-    match judge(&line, tacs_output_fault(line.bytes)) {
-        Some(bad) => Err(bad),
-        None => Ok(names(line.bytes)),
-    }
+    card_on(&line, fields(line.bytes))
 }
 
-#[tactic(auto, unfolding(crate::specs::TacsOutputCard::tacs_output_fault))]
-fn tacs_output_fault(line: &[u8]) -> Option<Fault>
-    ensures { result ≡ tacs_output_fault line.now }
+#[tactic(auto, unfolding(crate::specs::TacsOutputCard::fields_of))]
+fn fields(line: &[u8]) -> Result<[Option<Name>; 13], Fault>
+    ensures { result ≡ fields_of line.now }
 {
-    least(&[fault_at(1, &no_mark(line)), names_fault(line)])
+    let ((), names) = both(in_column(1, no_mark(line)), name_list(line))?;
+    Ok(names)
 }
 
 fn no_mark(line: &[u8]) -> Result<(), Why>

@@ -19,7 +19,6 @@ use Rattle.emtp_walk.specs.declared.control_cards.ExtraEntry.TheVariants.{Device
 use Rattle.emtp_walk.specs.declared.deck.Deck.{Deck}
 use Rattle.emtp_walk.specs.declared.deck.Place.{Place}
 use Rattle.emtp_walk.specs.declared.deck.Place.TheVariants.{Branches, Control}
-use Rattle.emtp_netcards.specs.OutputCard.{names}
 use Rattle.emtp_netcards.specs.PointCard.{next_point}
 use Rattle.emtp_netcards.specs.declared.point_card.PointScale.{PointScale}
 use Rattle.emtp_netcards.specs.declared.point_card.PointScale.TheVariants.{Table as TableScale, Times as TimesScale}

@@ -6,11 +6,12 @@ use Rattle.emtp_card.specs.declared.fault.Fault.{Fault}
 use Rattle.emtp_card.specs.declared.reason.Bad.{Bad}
 use Rattle.emtp_card.specs.declared.reason.Why.{Why}
 use Rattle.emtp_netcards.specs.OutputCard as outputs
-use Rattle.emtp_netcards.specs.OutputCard.{mark_by, mark_field, name_list, names, names_fault, output_card, outputs_by}
+use Rattle.emtp_netcards.specs.OutputCard.{mark_by, mark_field, name_list, output_card, outputs_by}
 use Rattle.emtp_netcards.specs.Reading.{card_by, in_column, judged}
 use Rattle.emtp_netcards.specs.declared.output_card.OutputCard.{OutputCard}
 use Rattle.emtp_netcards.specs.declared.output_card.OutputCard.TheVariants.{All as AllNodes, Names}
-use Rattle.emtp_taccards.specs.TacsOutputCard.{tacs_output_card, tacs_output_fault}
+use Rattle.emtp_taccards.specs.TacsOutputCard as tacs_outputs
+use Rattle.emtp_taccards.specs.TacsOutputCard.{tacs_output_card}
 use Rattle.emtp_warnings.proofs.Agreeing.{name_under, whole_under}
 use Rattle.emtp_warnings.specs.Law.{AgreeUnder, AreFaultless}
 use Rattle.emtp_warnings.specs.Marked.{output_ruler}
@@ -32,15 +33,6 @@ module _ (x y : List ℕ) (sound : AreFaultless x y) where
   same_fault : fault_of_line x ≡ fault_of_line y
   same_fault = sound.one ∙ sym sound.other
 
-  names_same : AgreeUnder NAMES.now x y → names x ≡ names y
-  names_same h =
-      simp (name_under NAMES.now x y h 3 refl, name_under NAMES.now x y h 9 refl, name_under NAMES.now x y h 15 refl, name_under NAMES.now x y h 21 refl, name_under NAMES.now x y h 27 refl, name_under NAMES.now x y h 33 refl, name_under NAMES.now x y h 39 refl, name_under NAMES.now x y h 45 refl, name_under NAMES.now x y h 51 refl, name_under NAMES.now x y h 57 refl, name_under NAMES.now x y h 63 refl, name_under NAMES.now x y h 69 refl, name_under NAMES.now x y h 75 refl)
-
-  names_fault_same : AgreeUnder NAMES.now x y → names_fault x ≡ names_fault y
-  unfolding names_fault
-  names_fault_same h =
-      simp (name_under NAMES.now x y h 3 refl, name_under NAMES.now x y h 9 refl, name_under NAMES.now x y h 15 refl, name_under NAMES.now x y h 21 refl, name_under NAMES.now x y h 27 refl, name_under NAMES.now x y h 33 refl, name_under NAMES.now x y h 39 refl, name_under NAMES.now x y h 45 refl, name_under NAMES.now x y h 51 refl, name_under NAMES.now x y h 57 refl, name_under NAMES.now x y h 63 refl, name_under NAMES.now x y h 69 refl, name_under NAMES.now x y h 75 refl)
-
   list_same : AgreeUnder NAMES.now x y → name_list x ≡ name_list y
   unfolding name_list
   list_same h =
@@ -52,8 +44,8 @@ module _ (x y : List ℕ) (sound : AreFaultless x y) where
       simp (name_under FREE.now x y h 3 refl, name_under FREE.now x y h 9 refl, name_under FREE.now x y h 15 refl, name_under FREE.now x y h 21 refl, name_under FREE.now x y h 27 refl, name_under FREE.now x y h 33 refl, name_under FREE.now x y h 39 refl, name_under FREE.now x y h 45 refl, name_under FREE.now x y h 51 refl, name_under FREE.now x y h 57 refl, name_under FREE.now x y h 63 refl, name_under FREE.now x y h 69 refl, name_under FREE.now x y h 75 refl)
 
   pub tacs_output_under : (number : ℕ) → AgreeUnder NAMES.now x y → tacs_output_card number x ≡ tacs_output_card number y
-  unfolding tacs_output_card tacs_output_fault
-  tacs_output_under number h = simp (same_fault, whole_under NAMES.now x y h 1 2 refl, names_fault_same h, names_same h)
+  unfolding tacs_output_card tacs_outputs.fields_of
+  tacs_output_under number h = simp (same_fault, whole_under NAMES.now x y h 1 2 refl, list_same h)
 
   output_from : (number : ℕ) → judged (in_column 1 (mark_field x)) (outputs_by x) ≡ judged (in_column 1 (mark_field y)) (outputs_by y) → output_card number x ≡ output_card number y
   unfolding output_card outputs.fields_of
