@@ -1,5 +1,6 @@
 -- Two lines that no reader of fields tells apart give the same cards of the control.
-use Rattle.std.proofs.Common.{◌≡◌, ℕ, List, Result, Ok, Err, refl}
+use Rattle.std.proofs.Common.{◌≡◌, ◌∙◌, ap, ℕ, List, Result, Ok, Err, refl}
+use Rattle.emtp_card.specs.declared.fault.Fault.{Fault}
 use Rattle.emtp_card.specs.declared.reason.Why.{Why}
 use Rattle.emtp_card.proofs.LineEnds.{AreReadAlike}
 use Rattle.emtp_case.specs.declared.control.DeviceCode.{DeviceCode}
@@ -8,7 +9,8 @@ use Rattle.emtp_case.specs.declared.control.Group.{Group}
 use Rattle.emtp_expr.specs.Parsing.{expression_of}
 use Rattle.emtp_expr.specs.declared.parsing.Parsed.{Parsed}
 use Rattle.emtp_expr.proofs.TextEnds.{same-expression}
-use Rattle.emtp_netcards.proofs.LineEnds.{cosine_alike, cosine_shape_alike, name_list_alike}
+use Rattle.emtp_netcards.proofs.LineEnds.{active_times_alike, cosine_numbers_alike, name_list_alike}
+use Rattle.emtp_netcards.specs.Reading.{both, judged}
 use Rattle.emtp_taccards.specs.BlockCard.{block_card, block_fault, block_with}
 use Rattle.emtp_taccards.specs.DeviceCard.{a_by, a_field, device_card, device_fault, device_with}
 use Rattle.emtp_taccards.specs.ExtraCard.{extra_card}
@@ -17,7 +19,8 @@ use Rattle.emtp_taccards.specs.Inputs.{input_fault, inputs, inputs_fault}
 use Rattle.emtp_taccards.specs.PolynomialCard.{polynomial_card, polynomial_fault}
 use Rattle.emtp_taccards.specs.TacsOutputCard as outputs
 use Rattle.emtp_taccards.specs.TacsOutputCard.{tacs_output_card}
-use Rattle.emtp_taccards.specs.TacsSourceCard.{driven_fault, pulse_fault, signal_fault, signal_shape, tacs_source_card, tacs_source_fault, tacs_source_with}
+use Rattle.emtp_taccards.specs.TacsSourceCard as sources
+use Rattle.emtp_taccards.specs.TacsSourceCard.{Course, Times, cosine_of, driven, level_of, pulse_of, saw_of, tacs_source_card, value_of}
 use Rattle.emtp_taccards.specs.declared.tacs_source_card.Signal.{Signal}
 use Rattle.emtp_taccards.specs.declared.tacs_source_card.Signal.TheVariants.{Cosine as CosineSignal, Level, NodeVoltage as OfNode, Pulse as PulseSignal, Saw as SawSignal, SwitchCurrent as OfSwitch, SwitchStatus as StatusOfSwitch}
 
@@ -53,45 +56,41 @@ module _ (x y : List ℕ) (h : AreReadAlike x y) where
 
   -- ---- sources
 
-  pulse_alike : pulse_fault x ≡ pulse_fault y
-  unfolding pulse_fault
+  level_alike : level_of x ≡ level_of y
+  unfolding level_of
+  level_alike = simp h.number
+
+  cosine_alike : cosine_of x ≡ cosine_of y
+  unfolding cosine_of
+  cosine_alike = simp (h.number, cosine_numbers_alike x y h)
+
+  pulse_alike : pulse_of x ≡ pulse_of y
+  unfolding pulse_of
   pulse_alike = simp h.number
 
-  signal_fault_alike : (signal : Result Signal Why) → signal_fault x signal ≡ signal_fault y signal
-  signal_fault_alike (Ok Level) = refl
-  signal_fault_alike (Ok CosineSignal) = cosine_alike x y h
-  signal_fault_alike (Ok PulseSignal) = pulse_alike
-  signal_fault_alike (Ok SawSignal) = simp h.number
-  signal_fault_alike (Ok OfNode) = refl
-  signal_fault_alike (Ok OfSwitch) = refl
-  signal_fault_alike (Ok StatusOfSwitch) = refl
-  signal_fault_alike (Err why) = refl
+  saw_alike : saw_of x ≡ saw_of y
+  unfolding saw_of
+  saw_alike = simp h.number
 
-  driven_alike : (signal : Result Signal Why) → driven_fault x signal ≡ driven_fault y signal
-  unfolding driven_fault
-  driven_alike signal = simp (h.number, h.held, signal_fault_alike)
+  driven_alike : (a b : Result Course Fault) → a ≡ b → driven x a ≡ driven y b
+  driven_alike a b course = ap (λ (c : Result Course Fault). driven x c) course ∙ ap (λ (t : Result Times Fault). both b t) (active_times_alike x y h)
 
-  tacs_source_fault_alike : (signal : Result Signal Why) → tacs_source_fault x signal ≡ tacs_source_fault y signal
-  unfolding tacs_source_fault
-  tacs_source_fault_alike signal = simp (h.name, driven_alike)
+  value_alike : (signal : Signal) → value_of x signal ≡ value_of y signal
+  value_alike Level = driven_alike (level_of x) (level_of y) level_alike
+  value_alike CosineSignal = driven_alike (cosine_of x) (cosine_of y) cosine_alike
+  value_alike PulseSignal = driven_alike (pulse_of x) (pulse_of y) pulse_alike
+  value_alike SawSignal = driven_alike (saw_of x) (saw_of y) saw_alike
+  value_alike OfNode = refl
+  value_alike OfSwitch = refl
+  value_alike StatusOfSwitch = refl
 
-  signal_shape_alike : (signal : Result Signal Why) → signal_shape x signal ≡ signal_shape y signal
-  signal_shape_alike (Ok Level) = refl
-  signal_shape_alike (Ok CosineSignal) = cosine_shape_alike x y h
-  signal_shape_alike (Ok PulseSignal) = simp h.number
-  signal_shape_alike (Ok SawSignal) = simp h.number
-  signal_shape_alike (Ok OfNode) = refl
-  signal_shape_alike (Ok OfSwitch) = refl
-  signal_shape_alike (Ok StatusOfSwitch) = refl
-  signal_shape_alike (Err why) = refl
-
-  tacs_source_with_alike : (number : ℕ) (signal : Result Signal Why) (name : Result (List ℕ) Why) → tacs_source_with number x signal name ≡ tacs_source_with number y signal name
-  tacs_source_with_alike number signal (Ok name) = simp (h.number, h.held, signal_shape_alike)
-  tacs_source_with_alike number signal (Err why) = refl
+  signal_alike : (signal : Result Signal Fault) → judged signal (value_of x) ≡ judged signal (value_of y)
+  signal_alike (Ok signal) = value_alike signal
+  signal_alike (Err fault) = refl
 
   pub tacs_source_alike : (number : ℕ) → tacs_source_card number x ≡ tacs_source_card number y
-  unfolding tacs_source_card
-  tacs_source_alike number = simp (h.fault, h.name, h.whole, tacs_source_fault_alike, tacs_source_with_alike)
+  unfolding tacs_source_card sources.fields_of
+  tacs_source_alike number = simp (h.fault, h.name, h.whole, signal_alike)
 
   -- ---- supplemental cards
 

@@ -1,9 +1,7 @@
--- Source cards of the control: the table of fields, and the record. Fields that they share with the network's sources
--- are those of emtp_netcards.
-use Rattle.std.specs.Prelude.{ℕ, ◌^◌, ℤ, pos, Bool, true, false, List, [], ◌∷◌, Option, Some, None, Result, Ok, Err, if◌then◌else◌}
+-- Source cards of the control: the fields, and the card. Fields that they share with the network's sources are those of
+-- emtp_netcards.
+use Rattle.std.specs.Prelude.{ℕ, ◌^◌, ℤ, pos, false, List, Option, Some, None, Result, Ok, Err, if◌then◌else◌}
 use Rattle.std.specs.Ordering.{int_eq}
-use Rattle.std.specs.Result.{result_unwrap_or}
-use Rattle.emtp_card.specs.Fault.{bad_at, fault_at, judge, least}
 use Rattle.emtp_card.specs.Name.{name_field}
 use Rattle.emtp_card.specs.Number.{number_field}
 use Rattle.emtp_card.specs.Whole.{whole_field}
@@ -12,9 +10,10 @@ use Rattle.emtp_card.specs.declared.reason.Bad.{Bad}
 use Rattle.emtp_card.specs.declared.reason.Why.{Why}
 use Rattle.emtp_card.specs.declared.reason.Why.TheVariants.{BadType}
 use Rattle.emtp_case.specs.declared.source.Shape.{Shape}
-use Rattle.emtp_case.specs.declared.source.Shape.TheVariants.{NodeVoltage, Pulse, Saw, Step, SwitchCurrent, SwitchStatus}
-use Rattle.emtp_netcards.specs.Fields.{needed, required, signed_number}
-use Rattle.emtp_netcards.specs.SourceCard.{cosine_fault, cosine_shape, start_field, stop_field, unless_judged}
+use Rattle.emtp_case.specs.declared.source.Shape.TheVariants.{Cosine, NodeVoltage, Pulse, Saw, Step, SwitchCurrent, SwitchStatus}
+use Rattle.emtp_netcards.specs.Fields.{needed, required}
+use Rattle.emtp_netcards.specs.Reading.{◌>>=◌, both, card_on, in_column}
+use Rattle.emtp_netcards.specs.SourceCard.{active_times, amplitude_field, cosine_numbers}
 use Rattle.emtp_netcards.specs.declared.source_card.SourceCard.{SourceCard}
 use Rattle.emtp_taccards.specs.declared.tacs_source_card.Signal.{Signal}
 use Rattle.emtp_taccards.specs.declared.tacs_source_card.Signal.TheVariants.{Cosine as CosineSignal, Level, NodeVoltage as OfNode, Pulse as PulseSignal, Saw as SawSignal, SwitchCurrent as OfSwitch, SwitchStatus as StatusOfSwitch}
@@ -39,17 +38,6 @@ signal_by (Err why) = Err BadType
 abbrev pub signal_field : List ℕ → Result Signal Why
 signal_field line = signal_by (whole_field line 1 2)
 
--- the value of a node or a switch: the card has no other fields
-abbrev pub is_measured : Result Signal Why → Bool
-is_measured (Ok Level) = false
-is_measured (Ok CosineSignal) = false
-is_measured (Ok PulseSignal) = false
-is_measured (Ok SawSignal) = false
-is_measured (Ok OfNode) = true
-is_measured (Ok OfSwitch) = true
-is_measured (Ok StatusOfSwitch) = true
-is_measured (Err why) = false
-
 -- the period and the width of a pulse in seconds
 abbrev pub period_field : List ℕ → Result ℤ Why
 period_field line = required (number_field line 21 30 (pos 12) (pos 1) (pos (10 ^ 18)))
@@ -57,83 +45,71 @@ period_field line = required (number_field line 21 30 (pos 12) (pos 1) (pos (10 
 abbrev pub width_field : List ℕ → Result ℤ Why
 width_field line = required (number_field line 31 40 (pos 12) (pos 1) (pos (10 ^ 18)))
 
-unfoldable pub pulse_fault : List ℕ → Option Fault
-pulse_fault line = least (fault_at 21 (period_field line) ∷ fault_at 31 (width_field line) ∷ [])
+-- the course in time and the amplitude
+abbrev pub Course : Type 0
+Course = Shape × ℤ
 
-abbrev pub signal_fault : List ℕ → Result Signal Why → Option Fault
-signal_fault line (Ok Level) = None
-signal_fault line (Ok CosineSignal) = cosine_fault line
-signal_fault line (Ok PulseSignal) = pulse_fault line
-signal_fault line (Ok SawSignal) = fault_at 21 (period_field line)
-signal_fault line (Ok OfNode) = None
-signal_fault line (Ok OfSwitch) = None
-signal_fault line (Ok StatusOfSwitch) = None
-signal_fault line (Err why) = None
+-- from when to when a source is active
+abbrev pub Times : Type 0
+Times = ℤ × Option ℤ
 
--- the amplitude
-abbrev pub level_field : List ℕ → Result ℤ Why
-level_field line = signed_number line 11 20 (pos 9)
+unfoldable pub level_of : List ℕ → Result Course Fault
+level_of line = do
+  amplitude ← amplitude_field line
+  Ok (Step, amplitude)
 
--- amplitude, shape, TSTART and TSTOP
-unfoldable pub driven_fault : List ℕ → Result Signal Why → Option Fault
-driven_fault line signal = least (fault_at 11 (level_field line) ∷ signal_fault line signal ∷ fault_at 61 (start_field line) ∷ fault_at 71 (stop_field line) ∷ [])
+unfoldable pub cosine_of : List ℕ → Result Course Fault
+cosine_of line = do
+  (amplitude, (freq, phase)) ← both (amplitude_field line) (cosine_numbers line)
+  Ok (Cosine freq phase, amplitude)
 
--- the card
-unfoldable pub tacs_source_fault : List ℕ → Result Signal Why → Option Fault
-tacs_source_fault line signal =
-    least (fault_at 1 signal
-    ∷ fault_at 3 (needed (name_field line 3))
-    ∷ (if is_measured signal then None else driven_fault line signal)
-    ∷ [])
+unfoldable pub pulse_of : List ℕ → Result Course Fault
+pulse_of line = do
+  (amplitude, (period, width)) ← both (amplitude_field line) (both (in_column 21 (period_field line)) (in_column 31 (width_field line)))
+  Ok (Pulse period width, amplitude)
 
-abbrev pub pulse_shape : List ℕ → Shape
-pulse_shape line = Pulse (result_unwrap_or (period_field line) (pos 1)) (result_unwrap_or (width_field line) (pos 1))
-
-abbrev pub saw_shape : List ℕ → Shape
-saw_shape line = Saw (result_unwrap_or (period_field line) (pos 1))
-
--- 0 stands for a node or a switch whose name isn't resolved
-abbrev pub signal_shape : List ℕ → Result Signal Why → Shape
-signal_shape line (Ok Level) = Step
-signal_shape line (Ok CosineSignal) = cosine_shape line
-signal_shape line (Ok PulseSignal) = pulse_shape line
-signal_shape line (Ok SawSignal) = saw_shape line
-signal_shape line (Ok OfNode) = NodeVoltage 0
-signal_shape line (Ok OfSwitch) = SwitchCurrent 0
-signal_shape line (Ok StatusOfSwitch) = SwitchStatus 0
-signal_shape line (Err why) = Step
+unfoldable pub saw_of : List ℕ → Result Course Fault
+saw_of line = do
+  (amplitude, period) ← both (amplitude_field line) (in_column 21 (period_field line))
+  Ok (Saw period, amplitude)
 
 -- a source whose value the card gives
-abbrev pub driven : ℕ → List ℕ → Result Signal Why → List ℕ → SourceCard
-driven number line signal name = record {
+abbrev pub driven : List ℕ → Result Course Fault → Result (Course × Times) Fault
+driven line course = both course (active_times line)
+
+-- a source whose value a node or a switch gives: the card has no other fields
+abbrev pub measured : Shape → Result (Course × Times) Fault
+measured shape = Ok ((shape, pos 0), (pos 0, None))
+
+-- what a type asks for; 0 stands for a node or a switch whose name isn't resolved
+abbrev pub value_of : List ℕ → Signal → Result (Course × Times) Fault
+value_of line Level = driven line (level_of line)
+value_of line CosineSignal = driven line (cosine_of line)
+value_of line PulseSignal = driven line (pulse_of line)
+value_of line SawSignal = driven line (saw_of line)
+value_of line OfNode = measured (NodeVoltage 0)
+value_of line OfSwitch = measured (SwitchCurrent 0)
+value_of line StatusOfSwitch = measured (SwitchStatus 0)
+
+abbrev pub source_record : ℕ → List ℕ → Course → Times → SourceCard
+source_record number name course times = record {
   line = number;
   name = name;
   current = false;
-  shape = signal_shape line signal;
-  amplitude = result_unwrap_or (level_field line) (pos 0);
-  start = result_unwrap_or (start_field line) (pos 0);
-  stop = result_unwrap_or (stop_field line) None;
+  shape = course.0;
+  amplitude = course.1;
+  start = times.0;
+  stop = times.1;
 }
 
--- a source whose value a node or a switch gives
-abbrev pub measured : ℕ → List ℕ → Result Signal Why → List ℕ → SourceCard
-measured number line signal name = record {
-  line = number;
-  name = name;
-  current = false;
-  shape = signal_shape line signal;
-  amplitude = pos 0;
-  start = pos 0;
-  stop = None;
-}
+abbrev pub source_with : ℕ → Result (List ℕ) Fault → Result (Course × Times) Fault → Result SourceCard Fault
+source_with number name signal = do
+  (name, (course, times)) ← both name signal
+  Ok (source_record number name course times)
 
--- the record of a card whose name was read
-abbrev pub tacs_source_with : ℕ → List ℕ → Result Signal Why → Result (List ℕ) Why → Result SourceCard Bad
-tacs_source_with number line signal (Ok name) = Ok (if is_measured signal then measured number line signal name else driven number line signal name)
-tacs_source_with number line signal (Err why) = Err (bad_at number (record { column = 3; why = why }))
-
-abbrev pub named_source : ℕ → List ℕ → Result Signal Why → Result SourceCard Bad
-named_source number line signal = tacs_source_with number line signal (needed (name_field line 3))
+-- the card
+unfoldable pub fields_of : ℕ → List ℕ → Result SourceCard Fault
+fields_of number line = source_with number (in_column 3 (needed (name_field line 3))) (in_column 1 (signal_field line) >>= value_of line)
 
 unfoldable pub tacs_source_card : ℕ → List ℕ → Result SourceCard Bad
-tacs_source_card number line = unless_judged (judge number line (tacs_source_fault line (signal_field line))) (named_source number line (signal_field line))
+tacs_source_card number line = card_on number line (fields_of number line)

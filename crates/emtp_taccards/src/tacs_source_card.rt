@@ -1,20 +1,24 @@
 //! Source cards of the control.
 
-ghost use Rattle.std.specs.Prelude.{◌≡◌, ◌^◌, ◌≤◌, false, length, true, IfOk};
+ghost use Rattle.std.specs.Prelude.{◌≡◌, ◌^◌, ◌≤◌, length, IfOk};
 ghost use Rattle.emtp_case.specs.held.Range.{IsBetween};
-ghost use Rattle.emtp_case.specs.held.Source.{HasShapeNumbers, IsMeasured};
-ghost use Rattle.emtp_case.specs.declared.source.Source.{Source};
-ghost use Rattle.emtp_netcards.specs.held.Fields.{IsSmall};
-ghost use Rattle.emtp_taccards.specs.TacsSourceCard.{driven, driven_fault, is_measured, level_field, measured, named_source, period_field, pulse_fault, pulse_shape, saw_shape, signal_fault, signal_field, signal_of, signal_shape, tacs_source_card, tacs_source_fault, width_field};
-ghost use Rattle.emtp_taccards.specs.held.TacsSourceCard.{HasTacsSourceNumbers, IsUnresolved};
+ghost use Rattle.emtp_netcards.specs.Reading.{judged};
+ghost use Rattle.emtp_taccards.specs.TacsSourceCard.{cosine_of, driven, fields_of, level_of, period_field, pulse_of, saw_of, signal_field, signal_of, source_record, source_with, tacs_source_card, value_of, width_field};
+ghost use Rattle.emtp_taccards.specs.held.TacsSourceCard.{HasTacsSourceNumbers, IsDriven, IsSignal};
 
 use crate::EXA;
-use emtp_card::{Bad, Fault, Line, MAX_BYTES, Why, fault_at, field_whole, judge, least};
+use emtp_card::{Bad, Fault, Line, MAX_BYTES, Why, field_whole};
 use emtp_case::{Name, Shape};
 use emtp_netcards::{
-    SourceCard, cosine_fault, cosine_shape, held_time_or_zero, needed_name, required,
-    signed_number, stop,
+    SourceCard, active_times, amplitude, both, card_on, cosine_numbers, in_column, needed_name,
+    required,
 };
+
+/// The course of a source in time, and its amplitude.
+type Course = (Shape, i64);
+
+/// From when to when a source is active, in ps.
+type Times = (i64, Option<i64>);
 
 /// The type of a source card of the control.
 #[derive(Clone, Copy, PartialEq, Eq)]
@@ -44,86 +48,46 @@ pub fn tacs_source(line: Line<'_>) -> Result<SourceCard, Bad>
     ensures value { result ≡ tacs_source_card line.entry.number line.entry.bytes.now }
     ensures numbers { IfOk result HasTacsSourceNumbers }
 {
-    let bytes = line.bytes;
-    let signal = signal_type(bytes);
-    match judge(&line, tacs_source_fault(bytes, &signal)) {
-        Some(bad) => Err(bad),
-        None => named(&line, &signal),
-    }
+    card_on(&line, fields(line.number, line.bytes))
 }
 
-/// The record of a card whose name was read.
-fn named(line: &Line<'_>, signal: &Result<Signal, Why>) -> Result<SourceCard, Bad>
-    ensures value { result ≡ named_source line.now.number line.now.bytes.now signal.now }
+#[tactic(auto, unfolding(crate::specs::TacsSourceCard::fields_of))]
+fn fields(number: u32, line: &[u8]) -> Result<SourceCard, Fault>
+    ensures value { result ≡ fields_of number line.now }
     ensures numbers { IfOk result HasTacsSourceNumbers }
 {
-    match needed_name(line.bytes, 3) {
-        Ok(name) => Ok(if is_measured(signal) {
-            measured(line, signal, &name)
-        } else {
-            driven(line, signal, &name)
-        }),
-        Err(why) => Err(Fault { column: 3, why }.on_line(line.number)),
-    }
+    let name = in_column(3, needed_name(line, 3));
+    let signal = signal_value(line, in_column(1, signal_type(line)));
+    source_with(number, name, signal)
 }
 
-/// A source whose value the card gives.
-fn driven(line: &Line<'_>, signal: &Result<Signal, Why>, name: &Name) -> SourceCard
-    requires { is_measured signal.now ≡ false }
-    ensures value { result ≡ driven line.now.number line.now.bytes.now signal.now name.now }
-    ensures numbers { HasTacsSourceNumbers result }
+fn source_with(
+    number: u32,
+    name: Result<Name, Fault>,
+    signal: Result<(Course, Times), Fault>,
+) -> Result<SourceCard, Fault>
+    requires { IfOk signal (λ signal. IsSignal signal.0 signal.1) }
+    ensures value { result ≡ source_with number name signal }
+    ensures numbers { IfOk result HasTacsSourceNumbers }
 {
-    let bytes = line.bytes;
-    SourceCard {
-        line: line.number,
-        name: *name,
-        current: false,
-        shape: signal_shape(bytes, signal),
-        amplitude: level(bytes).unwrap_or(0),
-        start: held_time_or_zero(bytes, 61, 70).unwrap_or(0),
-        stop: stop(bytes).unwrap_or(None),
-    }
+    let (name, (course, times)) = both(name, signal)?;
+    Ok(source_record(number, name, course, times))
 }
 
-/// A source whose value a node or a switch gives.
-fn measured(line: &Line<'_>, signal: &Result<Signal, Why>, name: &Name) -> SourceCard
-    ensures value { result ≡ measured line.now.number line.now.bytes.now signal.now name.now }
+fn source_record(number: u32, name: Name, course: Course, times: Times) -> SourceCard
+    requires { IsSignal course times }
+    ensures value { result ≡ source_record number name course times }
     ensures numbers { HasTacsSourceNumbers result }
 {
     SourceCard {
-        line: line.number,
-        name: *name,
+        line: number,
+        name,
         current: false,
-        shape: signal_shape(line.bytes, signal),
-        amplitude: 0,
-        start: 0,
-        stop: None,
+        shape: course.0,
+        amplitude: course.1,
+        start: times.0,
+        stop: times.1,
     }
-}
-
-/// The least fault of the card's fields.
-#[tactic(auto, unfolding(crate::specs::TacsSourceCard::tacs_source_fault))]
-fn tacs_source_fault(line: &[u8], signal: &Result<Signal, Why>) -> Option<Fault>
-    ensures { result ≡ tacs_source_fault line.now signal.now }
-{
-    let own = if is_measured(signal) {
-        None
-    } else {
-        driven_fault(line, signal)
-    };
-    least(&[fault_at(1, signal), fault_at(3, &needed_name(line, 3)), own])
-}
-
-#[tactic(auto, unfolding(crate::specs::TacsSourceCard::driven_fault))]
-fn driven_fault(line: &[u8], signal: &Result<Signal, Why>) -> Option<Fault>
-    ensures { result ≡ driven_fault line.now signal.now }
-{
-    least(&[
-        fault_at(11, &level(line)),
-        signal_fault(line, signal),
-        fault_at(61, &held_time_or_zero(line, 61, 70)),
-        fault_at(71, &stop(line)),
-    ])
 }
 
 fn signal_type(line: &[u8]) -> Result<Signal, Why>
@@ -150,68 +114,67 @@ fn signal_of(number: i64) -> Result<Signal, Why>
     }
 }
 
-fn is_measured(signal: &Result<Signal, Why>) -> bool
-    ensures { result ≡ is_measured signal.now }
+/// The course in time, the amplitude, and from when to when it is active: what the type asks for. A source whose value a
+/// node or a switch gives has no other fields.
+fn signal_value(line: &[u8], kind: Result<Signal, Fault>) -> Result<(Course, Times), Fault>
+    ensures value { result ≡ judged kind (value_of line.now) }
+    ensures numbers { IfOk result (λ signal. IsSignal signal.0 signal.1) }
 {
-    matches!(
-        signal,
-        Ok(Signal::NodeVoltage | Signal::SwitchCurrent | Signal::SwitchStatus)
-    )
-}
-
-fn signal_fault(line: &[u8], signal: &Result<Signal, Why>) -> Option<Fault>
-    ensures { result ≡ signal_fault line.now signal.now }
-{
-    match signal {
-        Ok(Signal::Cosine) => cosine_fault(line),
-        Ok(Signal::Pulse) => pulse_fault(line),
-        Ok(Signal::Saw) => fault_at(21, &period(line)),
-        _ => None,
+    match kind? {
+        Signal::Level => driven(line, level(line)),
+        Signal::Cosine => driven(line, cosine(line)),
+        Signal::Pulse => driven(line, pulse(line)),
+        Signal::Saw => driven(line, saw(line)),
+        Signal::NodeVoltage => Ok(((Shape::NodeVoltage { node: 0 }, 0), (0, None))),
+        Signal::SwitchCurrent => Ok(((Shape::SwitchCurrent { switch: 0 }, 0), (0, None))),
+        Signal::SwitchStatus => Ok(((Shape::SwitchStatus { switch: 0 }, 0), (0, None))),
     }
 }
 
-#[tactic(auto, unfolding(crate::specs::TacsSourceCard::pulse_fault))]
-fn pulse_fault(line: &[u8]) -> Option<Fault>
-    ensures { result ≡ pulse_fault line.now }
+/// A source whose value the card gives.
+fn driven(line: &[u8], course: Result<Course, Fault>) -> Result<(Course, Times), Fault>
+    requires { IfOk course IsDriven }
+    ensures value { result ≡ driven line.now course }
+    ensures numbers { IfOk result (λ signal. IsSignal signal.0 signal.1) }
 {
-    least(&[fault_at(21, &period(line)), fault_at(31, &width(line))])
+    both(course, active_times(line))
 }
 
-fn signal_shape(line: &[u8], signal: &Result<Signal, Why>) -> Shape
-    ensures value { result ≡ signal_shape line.now signal.now }
-    ensures unresolved { IsUnresolved result }
-    ensures numbers { (s : Source) → (is_measured signal.now ≡ true → IsMeasured s) → HasShapeNumbers s result }
+#[tactic(auto, unfolding(crate::specs::TacsSourceCard::level_of))]
+fn level(line: &[u8]) -> Result<Course, Fault>
+    ensures value { result ≡ level_of line.now }
+    ensures numbers { IfOk result IsDriven }
 {
-    match signal {
-        Ok(Signal::Cosine) => cosine_shape(line),
-        Ok(Signal::Pulse) => pulse_shape(line),
-        Ok(Signal::Saw) => saw_shape(line),
-        Ok(Signal::NodeVoltage) => Shape::NodeVoltage { node: 0 },
-        Ok(Signal::SwitchCurrent) => Shape::SwitchCurrent { switch: 0 },
-        Ok(Signal::SwitchStatus) => Shape::SwitchStatus { switch: 0 },
-        Ok(Signal::Level) | Err(_) => Shape::Step,
-    }
+    Ok((Shape::Step, amplitude(line)?))
 }
 
-fn pulse_shape(line: &[u8]) -> Shape
-    ensures value { result ≡ pulse_shape line.now }
-    ensures unresolved { IsUnresolved result }
-    ensures numbers { (s : Source) → HasShapeNumbers s result }
+#[tactic(auto, unfolding(crate::specs::TacsSourceCard::cosine_of))]
+fn cosine(line: &[u8]) -> Result<Course, Fault>
+    ensures value { result ≡ cosine_of line.now }
+    ensures numbers { IfOk result IsDriven }
 {
-    Shape::Pulse {
-        period: period(line).unwrap_or(1),
-        width: width(line).unwrap_or(1),
-    }
+    let (amplitude, (freq, phase)) = both(amplitude(line), cosine_numbers(line))?;
+    Ok((Shape::Cosine { freq, phase }, amplitude))
 }
 
-fn saw_shape(line: &[u8]) -> Shape
-    ensures value { result ≡ saw_shape line.now }
-    ensures unresolved { IsUnresolved result }
-    ensures numbers { (s : Source) → HasShapeNumbers s result }
+#[tactic(auto, unfolding(crate::specs::TacsSourceCard::pulse_of))]
+fn pulse(line: &[u8]) -> Result<Course, Fault>
+    ensures value { result ≡ pulse_of line.now }
+    ensures numbers { IfOk result IsDriven }
 {
-    Shape::Saw {
-        period: period(line).unwrap_or(1),
-    }
+    let period = in_column(21, period(line));
+    let width = in_column(31, width(line));
+    let (amplitude, (period, width)) = both(amplitude(line), both(period, width))?;
+    Ok((Shape::Pulse { period, width }, amplitude))
+}
+
+#[tactic(auto, unfolding(crate::specs::TacsSourceCard::saw_of))]
+fn saw(line: &[u8]) -> Result<Course, Fault>
+    ensures value { result ≡ saw_of line.now }
+    ensures numbers { IfOk result IsDriven }
+{
+    let (amplitude, period) = both(amplitude(line), in_column(21, period(line)))?;
+    Ok((Shape::Saw { period }, amplitude))
 }
 
 /// The time from one pulse or tooth to the next.
@@ -227,11 +190,4 @@ fn width(line: &[u8]) -> Result<i64, Why>
     ensures range { IfOk result (IsBetween 1 (10 ^ 18)) }
 {
     required(line, 31, 40, 12, 1, EXA)
-}
-
-fn level(line: &[u8]) -> Result<i64, Why>
-    ensures value { result ≡ level_field line.now }
-    ensures small { IfOk result IsSmall }
-{
-    signed_number(line, 11, 20, 9)
 }

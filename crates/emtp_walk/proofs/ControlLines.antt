@@ -2,6 +2,7 @@
 use Rattle.std.proofs.Common.{◌≡◌, ◌∙◌, sym, subst, refl, ℕ, Bool, true, false, List, Result, Ok, Err}
 use Rattle.std.specs.Prelude.{if◌then◌else◌}
 use Rattle.emtp_card.specs.Fault.{judge}
+use Rattle.emtp_card.specs.Lines.{fault_of_line}
 use Rattle.emtp_card.specs.Name.{name_field}
 use Rattle.emtp_card.specs.declared.reason.Bad.{Bad}
 use Rattle.emtp_card.specs.declared.reason.Why.{Why}
@@ -16,12 +17,14 @@ use Rattle.emtp_taccards.specs.DeviceCard.{code_field, device_card, device_fault
 use Rattle.emtp_taccards.specs.ExtraCard.{as_device, as_formula, extra_card, is_formula}
 use Rattle.emtp_taccards.specs.FormulaCard.{expression_text, formula_card, formula_fault, formula_with}
 use Rattle.emtp_taccards.specs.Group.{group_field}
-use Rattle.emtp_taccards.specs.TacsSourceCard.{driven, is_measured, measured, signal_field, tacs_source_card, tacs_source_fault, tacs_source_with}
+use Rattle.emtp_taccards.specs.TacsSourceCard as sources
+use Rattle.emtp_taccards.specs.TacsSourceCard.{tacs_source_card}
 use Rattle.emtp_taccards.specs.declared.block_card.BlockCard.{BlockCard}
 use Rattle.emtp_taccards.specs.declared.device_card.DeviceCard.{DeviceCard}
 use Rattle.emtp_taccards.specs.declared.extra_card.ExtraCard.{ExtraCard}
 use Rattle.emtp_taccards.specs.declared.extra_card.ExtraCard.TheVariants.{Device, Formula}
 use Rattle.emtp_taccards.specs.declared.formula_card.FormulaCard.{FormulaCard}
+use Rattle.emtp_netcards.proofs.Readings.{by, made}
 use Rattle.emtp_walk.proofs.ControlNames.{accepted, ok_is}
 
 -- ---- blocks
@@ -38,22 +41,9 @@ block_line number line card h =
 
 -- ---- sources
 
-same_line : (measured : Bool) (a b : SourceCard) (number : ℕ) → a.line ≡ number → b.line ≡ number → (if measured then a else b).line ≡ number
-same_line true a b number h k = h
-same_line false a b number h k = k
-
-source_stands : (number : ℕ) (line : List ℕ) (name : Result (List ℕ) Why) (card : SourceCard) → tacs_source_with number line (signal_field line) name ≡ Ok card → card.line ≡ number
-source_stands number line (Ok name) card h =
-    let signal = signal_field line in
-    sym (ok_is (λ (c : SourceCard). c.line) (if is_measured signal then measured number line signal name else driven number line signal name) card h)
-    ∙ same_line (is_measured signal) (measured number line signal name) (driven number line signal name) number refl refl
-source_stands number line (Err why) card h = absurd (cc)
-
 pub tacs_source_line : (number : ℕ) (line : List ℕ) (card : SourceCard) → tacs_source_card number line ≡ Ok card → card.line ≡ number
-unfolding tacs_source_card
-tacs_source_line number line card h =
-    let both = accepted (judge number line (tacs_source_fault line (signal_field line))) (tacs_source_with number line (signal_field line) (needed (name_field line 3))) card h in
-    source_stands number line (needed (name_field line 3)) card both.1
+unfolding tacs_source_card sources.fields_of
+tacs_source_line number line card h = made _ _ (λ (c : SourceCard). c.line) number card (λ x. refl) (by number (fault_of_line line) _ card h)
 
 -- ---- devices and formulas
 

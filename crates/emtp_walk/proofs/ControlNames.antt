@@ -19,6 +19,7 @@ use Rattle.emtp_walk.specs.held.Sound.{IsExtraDue}
 use Rattle.emtp_expr.specs.Parsing.{expression_of}
 use Rattle.emtp_expr.specs.declared.parsing.Parsed.{Parsed}
 use Rattle.emtp_netcards.specs.Fields.{needed}
+use Rattle.emtp_netcards.specs.Reading.{both, in_column, judged}
 use Rattle.emtp_netcards.specs.SourceCard.{unless_judged}
 use Rattle.emtp_netcards.specs.declared.source_card.SourceCard.{SourceCard}
 use Rattle.emtp_taccards.specs.BlockCard.{block_card, block_fault, block_with}
@@ -27,12 +28,14 @@ use Rattle.emtp_taccards.specs.ExtraCard.{as_device, as_formula, extra_card, is_
 use Rattle.emtp_taccards.specs.held.ExtraCard.{HasExtraNumbers}
 use Rattle.emtp_taccards.specs.FormulaCard.{expression_text, formula_card, formula_fault, formula_with}
 use Rattle.emtp_taccards.specs.Group.{group_field}
-use Rattle.emtp_taccards.specs.TacsSourceCard.{driven, is_measured, measured, signal_field, tacs_source_card, tacs_source_fault, tacs_source_with}
+use Rattle.emtp_taccards.specs.TacsSourceCard as sources
+use Rattle.emtp_taccards.specs.TacsSourceCard.{Course, Times, signal_field, source_record, tacs_source_card, value_of}
 use Rattle.emtp_taccards.specs.declared.block_card.BlockCard.{BlockCard}
 use Rattle.emtp_taccards.specs.declared.device_card.DeviceCard.{DeviceCard}
 use Rattle.emtp_taccards.specs.declared.extra_card.ExtraCard.{ExtraCard}
 use Rattle.emtp_taccards.specs.declared.extra_card.ExtraCard.TheVariants.{Device, Formula}
 use Rattle.emtp_taccards.specs.declared.formula_card.FormulaCard.{FormulaCard}
+use Rattle.emtp_netcards.proofs.Readings.{by, each_of, field_of_column, made_of, whole_by}
 
 -- ---- the text of six columns has at most six bytes
 
@@ -85,6 +88,10 @@ name_is line first name whole h = by_test (list_any is_comma (columns line first
         let both = text_named (field_of line first (first + 5)) name h in
         subst IsName both.0 (field_is_name line first (field_of line first (first + 5)) refl both.1 (field-short line first) e whole)
 
+-- the name of a card, in its column 3
+column_name : (line name : List ℕ) → fault_of_line line ≡ None → in_column 3 (needed (name_field line 3)) ≡ Ok name → IsName name
+column_name line name whole h = name_is line 3 name whole (field_of_column 3 (needed (name_field line 3)) name h)
+
 no_fault : (number : ℕ) (found : Option (ℕ × Why)) (fields : Option Fault) → judge_by number found fields ≡ None → found ≡ None
 no_fault number (Some f) fields e = absurd (cc)
 no_fault number None fields e = refl
@@ -113,22 +120,14 @@ block_name number line card h =
 
 -- ---- sources
 
-same_name : (measured : Bool) (a b : SourceCard) (name : List ℕ) → a.name ≡ name → b.name ≡ name → (if measured then a else b).name ≡ name
-same_name true a b name h k = h
-same_name false a b name h k = k
-
-source_named : (number : ℕ) (line : List ℕ) (name : Result (List ℕ) Why) (card : SourceCard) → tacs_source_with number line (signal_field line) name ≡ Ok card → name ≡ Ok card.name
-source_named number line (Ok name) card h =
-    ap Ok (sym (same_name (is_measured (signal_field line)) (measured number line (signal_field line) name) (driven number line (signal_field line) name) name refl refl)
-    ∙ ok_is (λ (c : SourceCard). c.name) (if is_measured (signal_field line) then measured number line (signal_field line) name else driven number line (signal_field line) name) card h)
-source_named number line (Err why) card h = absurd (cc)
-
 pub source_name : (number : ℕ) (line : List ℕ) (card : SourceCard) → tacs_source_card number line ≡ Ok card → IsName card.name
-unfolding tacs_source_card
+unfolding tacs_source_card sources.fields_of
 source_name number line card h =
-    let fields = tacs_source_fault line (signal_field line) in
-    let both = accepted (judge number line fields) (tacs_source_with number line (signal_field line) (needed (name_field line 3))) card h in
-    name_is line 3 card.name (line_whole number line fields both.0) (source_named number line (needed (name_field line 3)) card both.1)
+    let name = in_column 3 (needed (name_field line 3)) in
+    let signal = judged (in_column 1 (signal_field line)) (value_of line) in
+    let record_of : List ℕ × (Course × Times) → SourceCard = λ p. source_record number p.0 p.1.0 p.1.1 in
+    made_of (IsName card.name) (both name signal) record_of card (by number (fault_of_line line) _ card h) (λ p read same.
+    subst IsName (ap (λ (c : SourceCard). c.name) same) (column_name line p.0 (whole_by number (fault_of_line line) _ card h) (each_of name signal p read).0))
 
 -- ---- devices and formulas
 

@@ -274,7 +274,7 @@ module _ (x y : List ℕ) (sound : AreFaultless x y) where
   unfolding source_card sources.fields_of
   source_read number name sign course times = simp (fault_same, name, sign, course, times)
 
-  active_under : (ruler : List ℕ) → AgreeUnder ruler x y → has_field ruler 61 70 ≡ true → has_field ruler 71 80 ≡ true → active_times x ≡ active_times y
+  pub active_under : (ruler : List ℕ) → AgreeUnder ruler x y → has_field ruler 61 70 ≡ true → has_field ruler 71 80 ≡ true → active_times x ≡ active_times y
   unfolding active_times
   active_under ruler h start stop = simp (held_under ruler x y h 61 70 start, held_under ruler x y h 71 80 stop)
 

@@ -2,7 +2,6 @@
 use Rattle.std.proofs.Common.{◌≡◌, refl, [], ◌∷◌}
 use Rattle.std.specs.Prelude.{codes, pos, Some, None, Ok, false}
 use Rattle.emtp_card.specs.Decimal.{value_in}
-use Rattle.emtp_card.specs.Fault.{least}
 use Rattle.emtp_card.specs.Field.{columns, trimmed}
 use Rattle.emtp_card.specs.Lines.{fault_of_line, is_comment}
 use Rattle.emtp_card.specs.Name.{name_field}
@@ -14,7 +13,9 @@ use Rattle.emtp_case.specs.declared.case.Parts.{Parts}
 use Rattle.emtp_case.specs.declared.channel.Channel.TheVariants.{NodeVoltage, Tacs as OfVariable}
 use Rattle.emtp_case.specs.declared.source.Shape.TheVariants.{Cosine, Step}
 use Rattle.emtp_case.specs.declared.switch.SwitchKind.TheVariants.{Time}
-use Rattle.emtp_taccards.specs.TacsSourceCard.{driven_fault, tacs_source_card, tacs_source_fault}
+use Rattle.emtp_netcards.specs.SourceCard.{active_times}
+use Rattle.emtp_taccards.specs.TacsSourceCard as sources
+use Rattle.emtp_taccards.specs.TacsSourceCard.{level_of, tacs_source_card}
 use Rattle.emtp_warnings.specs.ChannelWarnings.{channel_warnings}
 use Rattle.emtp_warnings.specs.ColumnWarnings.{column_warnings}
 use Rattle.emtp_warnings.specs.Finding.{of_columns}
@@ -80,9 +81,9 @@ channels = refl
 
 -- a level of 1.5 in the control, and the same card with a number where a level has none
 level : tacs_source_card 5 (codes "11LEV            1.5") ≡ Ok (record { line = 5; name = codes "LEV"; current = false; shape = Step; amplitude = pos 1500000000; start = pos 0; stop = None })
-unfolding tacs_source_card tacs_source_fault driven_fault least fault_of_line whole_field whole_in limited_whole name_field columns trimmed number_field number_in held_field decimal_of exponent_of value_in
+unfolding tacs_source_card sources.fields_of level_of active_times fault_of_line whole_field whole_in limited_whole name_field columns trimmed number_field number_in held_field decimal_of exponent_of value_in
 level = refl
 
 level_and_more : tacs_source_card 5 (codes "11LEV            1.5       7.0") ≡ Ok (record { line = 5; name = codes "LEV"; current = false; shape = Step; amplitude = pos 1500000000; start = pos 0; stop = None })
-unfolding tacs_source_card tacs_source_fault driven_fault least fault_of_line whole_field whole_in limited_whole name_field columns trimmed number_field number_in held_field decimal_of exponent_of value_in
+unfolding tacs_source_card sources.fields_of level_of active_times fault_of_line whole_field whole_in limited_whole name_field columns trimmed number_field number_in held_field decimal_of exponent_of value_in
 level_and_more = refl

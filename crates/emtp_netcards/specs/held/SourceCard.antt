@@ -1,24 +1,11 @@
 -- Beside `SourceCard`: what values hold for their proofs, and what premises say. No clause of the program reaches it.
-use Rattle.std.specs.Prelude.{◌≡◌, ◌-◌, ◌^◌, ℤ}
-use Rattle.emtp_case.specs.held.Range.{IsBetween}
+use Rattle.std.specs.Prelude.{◌≡◌, ℤ}
 use Rattle.emtp_case.specs.held.Source.{HasShapeNumbers, HasSourceNumbers, IsNetworkShape}
 use Rattle.emtp_case.specs.declared.source.Shape.{Shape}
-use Rattle.emtp_case.specs.declared.source.Shape.TheVariants.{Cosine, NodeVoltage, Pulse, Ramp, Saw, Step, SwitchCurrent, SwitchStatus, Tacs}
 use Rattle.emtp_case.specs.declared.source.Source.{Source}
 use Rattle.emtp_netcards.specs.held.Fields.{IsSmall, one_variable}
 use Rattle.emtp_netcards.specs.declared.source_card.SourceCard.{SourceCard}
 use Rattle.emtp_netcards.specs.SourceCard.{source_of}
-
-abbrev pub IsCosine : Shape → Type 0
-IsCosine Step = ⊥
-IsCosine (Ramp rise) = ⊥
-IsCosine (Cosine freq phase) = IsBetween 0 (10 ^ 13) freq × IsBetween 0 (10 ^ 18 - 1) phase
-IsCosine (Tacs var) = ⊥
-IsCosine (Pulse period width) = ⊥
-IsCosine (Saw period) = ⊥
-IsCosine (NodeVoltage node) = ⊥
-IsCosine (SwitchCurrent switch) = ⊥
-IsCosine (SwitchStatus switch) = ⊥
 
 -- what a course in time keeps: a source that has this amplitude with it has the numbers of its shape
 pub record IsCourse (shape : Shape) (amplitude : ℤ) : Type 0 where
