@@ -16,7 +16,7 @@ use Rattle.emtp_taccards.specs.DeviceCard.{a_by, a_field, device_card, device_fa
 use Rattle.emtp_taccards.specs.ExtraCard.{extra_card}
 use Rattle.emtp_taccards.specs.FormulaCard.{expression_text, formula_card, formula_fault}
 use Rattle.emtp_taccards.specs.Inputs.{input_fault, inputs, inputs_fault}
-use Rattle.emtp_taccards.specs.PolynomialCard.{polynomial_card, polynomial_fault}
+use Rattle.emtp_taccards.specs.PolynomialCard.{coefficients, four_of, pair_of, polynomial_card}
 use Rattle.emtp_taccards.specs.TacsOutputCard as outputs
 use Rattle.emtp_taccards.specs.TacsOutputCard.{tacs_output_card}
 use Rattle.emtp_taccards.specs.TacsSourceCard as sources
@@ -50,9 +50,13 @@ module _ (x y : List ℕ) (h : AreReadAlike x y) where
   unfolding block_card
   block_card_alike number = simp (h.fault, h.name, block_fault_alike, block_with_alike)
 
+  coefficients_alike : (order : ℕ) → coefficients x order ≡ coefficients y order
+  unfolding coefficients four_of pair_of
+  coefficients_alike order = simp h.number
+
   pub polynomial_alike : (number order : ℕ) → polynomial_card number x order ≡ polynomial_card number y order
-  unfolding polynomial_card polynomial_fault
-  polynomial_alike number order = simp (h.section_end, h.fault, h.number)
+  unfolding polynomial_card
+  polynomial_alike number order = simp (h.section_end, h.fault, coefficients_alike)
 
   -- ---- sources
 

@@ -2,10 +2,13 @@
 
 ghost use Rattle.std.specs.Prelude.{◌≡◌, ◌≤◌, length, All, IfOk};
 ghost use Rattle.emtp_netcards.specs.held.Fields.{IsSmall};
-ghost use Rattle.emtp_taccards.specs.PolynomialCard.{coefficient_field, coefficients, polynomial_card, polynomial_fault};
+ghost use Rattle.emtp_taccards.specs.PolynomialCard.{coefficient_field, coefficient_in, coefficients, four_of, pair_of, polynomial_card};
 
-use emtp_card::{Bad, Fault, Line, MAX_BYTES, Why, fault_at, judge_due, least};
-use emtp_netcards::signed_number;
+use emtp_card::{Bad, Fault, Line, MAX_BYTES, Why};
+use emtp_netcards::{both, card_due, in_column, signed_number};
+
+/// The coefficients of two powers.
+type Pair = (i64, i64);
 
 /// Reads a numerator or a denominator card of a block of this order: the coefficients by the power of s, in 10^-12.
 /// Those of powers above the order are 0 and not read.
@@ -18,46 +21,56 @@ pub fn polynomial(line: Line<'_>, order: u8) -> Result<[i64; 8], Bad>
     ensures value { result ≡ polynomial_card line.entry.number line.entry.bytes.now order }
     ensures small { IfOk result (All IsSmall) }
 {
-    match judge_due(&line, polynomial_fault(line.bytes, order)) {
-        Some(bad) => Err(bad),
-        None => Ok(coefficients(line.bytes, order)),
-    }
+    card_due(&line, coefficients(line.bytes, order))
 }
 
-#[tactic(auto, unfolding(crate::specs::PolynomialCard::polynomial_fault))]
-fn polynomial_fault(line: &[u8], order: u8) -> Option<Fault>
-    ensures { result ≡ polynomial_fault line.now order }
-{
-    least(&[
-        fault_at(1, &coefficient(line, order, 0)),
-        fault_at(11, &coefficient(line, order, 1)),
-        fault_at(21, &coefficient(line, order, 2)),
-        fault_at(31, &coefficient(line, order, 3)),
-        fault_at(41, &coefficient(line, order, 4)),
-        fault_at(51, &coefficient(line, order, 5)),
-        fault_at(61, &coefficient(line, order, 6)),
-        fault_at(71, &coefficient(line, order, 7)),
-    ])
-}
-
-/// The coefficients; a refused one doesn't matter.
-fn coefficients(line: &[u8], order: u8) -> [i64; 8]
+#[tactic(auto, unfolding(crate::specs::PolynomialCard::coefficients))]
+fn coefficients(line: &[u8], order: u8) -> Result<[i64; 8], Fault>
     ensures value { result ≡ coefficients line.now order }
-    ensures small { All IsSmall result }
+    ensures small { IfOk result (All IsSmall) }
 {
-    [
-        coefficient(line, order, 0).unwrap_or(0),
-        coefficient(line, order, 1).unwrap_or(0),
-        coefficient(line, order, 2).unwrap_or(0),
-        coefficient(line, order, 3).unwrap_or(0),
-        coefficient(line, order, 4).unwrap_or(0),
-        coefficient(line, order, 5).unwrap_or(0),
-        coefficient(line, order, 6).unwrap_or(0),
-        coefficient(line, order, 7).unwrap_or(0),
-    ]
+    let (low, high) = both(four(line, order, 0), four(line, order, 4))?;
+    let ((a, b), (c, d)) = low;
+    let ((e, f), (g, h)) = high;
+    Ok([a, b, c, d, e, f, g, h])
 }
 
-/// The coefficient of a power, which has ten columns.
+/// The coefficients of four powers, from this one.
+#[tactic(auto, unfolding(crate::specs::PolynomialCard::four_of))]
+fn four(line: &[u8], order: u8, power: u8) -> Result<(Pair, Pair), Fault>
+    requires { power ≤ 4 }
+    ensures value { result ≡ four_of line.now order power }
+    ensures first { IfOk result (λ four. IsSmall four.0.0) }
+    ensures second { IfOk result (λ four. IsSmall four.0.1) }
+    ensures third { IfOk result (λ four. IsSmall four.1.0) }
+    ensures fourth { IfOk result (λ four. IsSmall four.1.1) }
+{
+    both(pair(line, order, power), pair(line, order, power + 2))
+}
+
+/// The coefficients of a power and the next one.
+#[tactic(auto, unfolding(crate::specs::PolynomialCard::pair_of))]
+fn pair(line: &[u8], order: u8, power: u8) -> Result<Pair, Fault>
+    requires { power ≤ 6 }
+    ensures value { result ≡ pair_of line.now order power }
+    ensures first { IfOk result (λ pair. IsSmall pair.0) }
+    ensures second { IfOk result (λ pair. IsSmall pair.1) }
+{
+    both(
+        coefficient_in(line, order, power),
+        coefficient_in(line, order, power + 1),
+    )
+}
+
+/// The coefficient of a power, its fault in the first of its ten columns.
+fn coefficient_in(line: &[u8], order: u8, power: u8) -> Result<i64, Fault>
+    requires { power ≤ 7 }
+    ensures value { result ≡ coefficient_in line.now order power }
+    ensures small { IfOk result IsSmall }
+{
+    in_column(10 * power as u32 + 1, coefficient(line, order, power))
+}
+
 fn coefficient(line: &[u8], order: u8, power: u8) -> Result<i64, Why>
     requires { power ≤ 7 }
     ensures value { result ≡ coefficient_field line.now order power }

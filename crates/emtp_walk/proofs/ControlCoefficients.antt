@@ -1,24 +1,25 @@
 -- The coefficients of a block: sums, quotients, and what a block keeps.
-use Rattle.std.proofs.Common.{◌≡◌, ◌∙◌, sym, ap, subst, refl, ℕ, zero, suc, ◌+◌, ◌*◌, ◌^◌, ◌<◌, ◌≤◌, ℤ, pos, ◌*ℤ◌, unsigned_abs, Bool, true, false, List, Option, Some, None, Result, Ok, Err, All, inl, inr, add-one, arith}
+use Rattle.std.proofs.Common.{◌≡◌, ◌∙◌, sym, ap, subst, refl, ℕ, zero, suc, ◌+◌, ◌*◌, ◌^◌, ◌<◌, ◌≤◌, ℤ, pos, ◌*ℤ◌, unsigned_abs, Bool, true, false, List, [], ◌∷◌, Option, Some, None, Result, Ok, Err, All, inl, inr, add-one, arith}
 use Rattle.std.proofs.lemmas.Bool.{cases_lt}
 use Rattle.std.proofs.lemmas.Bool.Decides.{nat_tests}
 use Rattle.std.specs.Prelude.{IfNone, IfOk, if◌then◌else◌, map, nat_le, nat_lt, slice_index_or, ◌&&◌, ◌≢◌}
-use Rattle.std.specs.Result.{result_unwrap_or}
-use Rattle.emtp_card.specs.Fault.{fault_at, judge_due, unless_bad}
+use Rattle.emtp_card.specs.Fault.{fault_at, judge_due}
 use Rattle.emtp_card.specs.declared.reason.Why.{Why}
 use Rattle.emtp_card.specs.declared.reason.Why.TheVariants.{OutOfUnitRange}
 use Rattle.emtp_card.proofs.Faults.{AreNone, judge_due_none, least_none}
-use Rattle.emtp_taccards.specs.PolynomialCard.{coefficient_field, coefficients, polynomial_card, polynomial_fault, powers}
+use Rattle.emtp_taccards.specs.PolynomialCard.{coefficient_field, coefficient_in, coefficients, four_of, pair_of, polynomial_card}
 use Rattle.emtp_card.specs.declared.reason.Bad.{Bad}
 use Rattle.emtp_case.specs.Control.{bilinear, coefficient_sum, power_of, quotient_of}
 use Rattle.emtp_case.specs.held.Control.{HasWay}
 use Rattle.emtp_case.specs.Sums.{sum_upto}
 use Rattle.emtp_fix.specs.Rounding.{near}
 use Rattle.emtp_fix.proofs.Quotients.{near-exact}
+use Rattle.emtp_netcards.proofs.Readings.{by_due, each_of, field_of_column, made_of}
+use Rattle.emtp_netcards.specs.Reading.{both, card_due}
 use Rattle.emtp_netcards.specs.held.Fields.{IsSmall}
 use Rattle.emtp_walk.proofs.NoBad.{nothing_before}
 use Rattle.emtp_walk.specs.Answer.{first_bad}
-use Rattle.emtp_walk.specs.Coefficients.{coefficients_fault, divided_by, gain_bad, is_large, quotients_bad, range_bad, stays, taken_by, taken_field}
+use Rattle.emtp_walk.specs.Coefficients.{coefficients_fault, divided_by, gain_bad, is_large, powers, quotients_bad, range_bad, stays, taken_by, taken_field}
 use Rattle.emtp_walk.specs.held.Coefficients.{IsBlockDue, IsBlockEntry, IsPolynomial, transfer}
 use Rattle.emtp_walk.specs.declared.control_cards.BlockEntry.{BlockEntry}
 
@@ -133,35 +134,65 @@ block_kept dt e top bottom some due above below h =
 
 -- ---- the coefficients of a card
 
-way_of : (dt : ℤ) (power column : ℕ) (r : Result ℤ Why) → IsSmall (result_unwrap_or r (pos 0)) → fault_at column (taken_by dt power r) ≡ None → HasWay dt (result_unwrap_or r (pos 0)) power
-way_of dt power column (Err why) small h = absurd (cc)
-way_of dt power column (Ok x) small h = stays_way dt x power small (by_test (stays dt x power) h)
+way_of : (dt : ℤ) (power column : ℕ) (r : Result ℤ Why) (x : ℤ) → r ≡ Ok x → IsSmall x → fault_at column (taken_by dt power r) ≡ None → HasWay dt x power
+way_of dt power column r x is small h = stays_way dt x power small (by_test (stays dt x power) (subst (λ (q : Result ℤ Why). fault_at column (taken_by dt power q) ≡ None) is h))
   where
     by_test : (t : Bool) → fault_at column (if◌then◌else◌ {A = Result ℤ Why} t (Ok x) (Err OutOfUnitRange)) ≡ None → t ≡ true
     by_test true h = refl
     by_test false h = absurd (cc)
 
-ways : (dt : ℤ) (line : List ℕ) (order : ℕ) → All IsSmall (coefficients line order) → AreNone (map (λ power. fault_at (10 * power + 1) (taken_field line order dt power)) powers) → (power : ℕ) → power ≤ 7 → HasWay dt (slice_index_or (coefficients line order) power (pos 0)) power
-ways dt line order small h zero l = way_of dt 0 1 (coefficient_field line order 0) (small 0 (pos 0) (omega arith)) h.0
-ways dt line order small h (suc zero) l = way_of dt 1 11 (coefficient_field line order 1) (small 1 (pos 0) (omega arith)) h.1.0
-ways dt line order small h (suc (suc zero)) l = way_of dt 2 21 (coefficient_field line order 2) (small 2 (pos 0) (omega arith)) h.1.1.0
-ways dt line order small h (suc (suc (suc zero))) l = way_of dt 3 31 (coefficient_field line order 3) (small 3 (pos 0) (omega arith)) h.1.1.1.0
-ways dt line order small h (suc (suc (suc (suc zero)))) l = way_of dt 4 41 (coefficient_field line order 4) (small 4 (pos 0) (omega arith)) h.1.1.1.1.0
-ways dt line order small h (suc (suc (suc (suc (suc zero))))) l = way_of dt 5 51 (coefficient_field line order 5) (small 5 (pos 0) (omega arith)) h.1.1.1.1.1.0
-ways dt line order small h (suc (suc (suc (suc (suc (suc zero)))))) l = way_of dt 6 61 (coefficient_field line order 6) (small 6 (pos 0) (omega arith)) h.1.1.1.1.1.1.0
-ways dt line order small h (suc (suc (suc (suc (suc (suc (suc zero))))))) l = way_of dt 7 71 (coefficient_field line order 7) (small 7 (pos 0) (omega arith)) h.1.1.1.1.1.1.1.0
-ways dt line order small h (suc (suc (suc (suc (suc (suc (suc (suc n)))))))) l = absurd (omega (arith, l))
+-- four pairs of coefficients, as they are read
+abbrev Pair : Type 0
+Pair = ℤ × ℤ
+
+abbrev Pairs : Type 0
+Pairs = (Pair × Pair) × (Pair × Pair)
+
+abbrev list_of : Pairs → List ℤ
+list_of p = p.0.0.0 ∷ p.0.0.1 ∷ p.0.1.0 ∷ p.0.1.1 ∷ p.1.0.0 ∷ p.1.0.1 ∷ p.1.1.0 ∷ p.1.1.1 ∷ []
+
+pair_read : (line : List ℕ) (order power : ℕ) (pair : Pair) → pair_of line order power ≡ Ok pair → (coefficient_field line order power ≡ Ok pair.0) × (coefficient_field line order (power + 1) ≡ Ok pair.1)
+unfolding pair_of
+pair_read line order power pair e =
+    let each = each_of (coefficient_in line order power) (coefficient_in line order (power + 1)) pair e in
+    (field_of_column (10 * power + 1) (coefficient_field line order power) pair.0 each.0, field_of_column (10 * (power + 1) + 1) (coefficient_field line order (power + 1)) pair.1 each.1)
+
+ways : (dt : ℤ) (line : List ℕ) (order : ℕ) (p : Pairs) → pair_of line order 0 ≡ Ok p.0.0 → pair_of line order 2 ≡ Ok p.0.1 → pair_of line order 4 ≡ Ok p.1.0 → pair_of line order 6 ≡ Ok p.1.1
+    → All IsSmall (list_of p) → AreNone (map (λ power. fault_at (10 * power + 1) (taken_field line order dt power)) powers) → (power : ℕ) → power ≤ 7 → HasWay dt (slice_index_or (list_of p) power (pos 0)) power
+ways dt line order p a b c d small h zero l = way_of dt 0 1 (coefficient_field line order 0) p.0.0.0 (pair_read line order 0 p.0.0 a).0 (small 0 (pos 0) (omega arith)) h.0
+ways dt line order p a b c d small h (suc zero) l = way_of dt 1 11 (coefficient_field line order 1) p.0.0.1 (pair_read line order 0 p.0.0 a).1 (small 1 (pos 0) (omega arith)) h.1.0
+ways dt line order p a b c d small h (suc (suc zero)) l = way_of dt 2 21 (coefficient_field line order 2) p.0.1.0 (pair_read line order 2 p.0.1 b).0 (small 2 (pos 0) (omega arith)) h.1.1.0
+ways dt line order p a b c d small h (suc (suc (suc zero))) l = way_of dt 3 31 (coefficient_field line order 3) p.0.1.1 (pair_read line order 2 p.0.1 b).1 (small 3 (pos 0) (omega arith)) h.1.1.1.0
+ways dt line order p a b c d small h (suc (suc (suc (suc zero)))) l = way_of dt 4 41 (coefficient_field line order 4) p.1.0.0 (pair_read line order 4 p.1.0 c).0 (small 4 (pos 0) (omega arith)) h.1.1.1.1.0
+ways dt line order p a b c d small h (suc (suc (suc (suc (suc zero))))) l = way_of dt 5 51 (coefficient_field line order 5) p.1.0.1 (pair_read line order 4 p.1.0 c).1 (small 5 (pos 0) (omega arith)) h.1.1.1.1.1.0
+ways dt line order p a b c d small h (suc (suc (suc (suc (suc (suc zero)))))) l = way_of dt 6 61 (coefficient_field line order 6) p.1.1.0 (pair_read line order 6 p.1.1 d).0 (small 6 (pos 0) (omega arith)) h.1.1.1.1.1.1.0
+ways dt line order p a b c d small h (suc (suc (suc (suc (suc (suc (suc zero))))))) l = way_of dt 7 71 (coefficient_field line order 7) p.1.1.1 (pair_read line order 6 p.1.1 d).1 (small 7 (pos 0) (omega arith)) h.1.1.1.1.1.1.1.0
+ways dt line order p a b c d small h (suc (suc (suc (suc (suc (suc (suc (suc n)))))))) l = absurd (omega (arith, l))
+
+coefficients_kept : (dt : ℤ) (line : List ℕ) (order : ℕ) (card : List ℤ) → order ≤ 7 → coefficients line order ≡ Ok card → AreNone (map (λ power. fault_at (10 * power + 1) (taken_field line order dt power)) powers) → All IsSmall card → IsPolynomial dt order card
+unfolding coefficients four_of
+coefficients_kept dt line order card few e none small =
+    let low = both (pair_of line order 0) (pair_of line order 2) in
+    let high = both (pair_of line order 4) (pair_of line order 6) in
+    made_of (IsPolynomial dt order card) (both low high) list_of card e (λ p read same.
+    let halves = each_of low high p read in
+    let first = each_of (pair_of line order 0) (pair_of line order 2) p.0 halves.0 in
+    let last = each_of (pair_of line order 4) (pair_of line order 6) p.1 halves.1 in
+    let listed : All IsSmall (list_of p) = subst (λ (xs : List ℤ). All IsSmall xs) (sym same) small in
+    subst (λ (xs : List ℤ). IsPolynomial dt order xs) same
+    (record { small = listed; way = λ power l. ways dt line order p first.0 first.1 last.0 last.1 listed none power (omega (arith, l, few)) }))
+
+-- a card keeps what each list that was read does
+where_read : {A : Type 0} (r : Result A Bad) (P Q : A → Type 0) → IfOk r Q → ((x : A) → r ≡ Ok x → Q x → P x) → IfOk r P
+where_read (Ok x) P Q q so = so x refl q
+where_read (Err bad) P Q q so = tt
 
 pub polynomial_kept : (number : ℕ) (line : List ℕ) (order : ℕ) (dt : ℤ) → order ≤ 7 → judge_due number line (coefficients_fault line order dt) ≡ None → IfOk (polynomial_card number line order) (All IsSmall) → IfOk (polynomial_card number line order) (IsPolynomial dt order)
 unfolding polynomial_card coefficients_fault
-polynomial_kept number line order dt few e small = by_judge (judge_due number line (polynomial_fault line order)) small
-  where
-    none : AreNone (map (λ power. fault_at (10 * power + 1) (taken_field line order dt power)) powers)
-    none = least_none _ (judge_due_none number line _ e)
-
-    by_judge : (bad : Option Bad) → IfOk (unless_bad bad (coefficients line order)) (All IsSmall) → IfOk (unless_bad bad (coefficients line order)) (IsPolynomial dt order)
-    by_judge (Some bad) h = tt
-    by_judge None h = record { small = h; way = λ power l. ways dt line order h none power (omega (arith, l, few)) }
+polynomial_kept number line order dt few e small =
+    let none : AreNone (map (λ power. fault_at (10 * power + 1) (taken_field line order dt power)) powers) = least_none _ (judge_due_none number line _ e) in
+    where_read (card_due number line (coefficients line order)) (IsPolynomial dt order) (All IsSmall) small (λ card is listed.
+    coefficients_kept dt line order card few (by_due number line (coefficients line order) card is) none listed)
 
 pub if_none : (P : Type 0) (r : Option Bad) → (r ≡ None → P) → IfNone r P
 if_none P None h = h refl

@@ -1,6 +1,6 @@
 -- The coefficients of a block: the cards of its numerator and its denominator, and what their sum divides.
 use Rattle.std.specs.Ordering.{int_eq}
-use Rattle.std.specs.Prelude.{Bool, Err, List, None, Ok, Option, Result, Some, if◌then◌else◌, map, nat_le, nat_lt, pos, suc, true, unsigned_abs, zero, ℕ, ℤ, ◌&&◌, ◌*ℤ◌, ◌*◌, ◌+◌, ◌^◌}
+use Rattle.std.specs.Prelude.{Bool, Err, List, None, Ok, Option, Result, Some, [], if◌then◌else◌, map, nat_le, nat_lt, pos, suc, true, unsigned_abs, zero, ℕ, ℤ, ◌&&◌, ◌*ℤ◌, ◌*◌, ◌+◌, ◌^◌, ◌∷◌}
 use Rattle.emtp_card.specs.Fault.{fault_at, judge_due, least}
 use Rattle.emtp_card.specs.declared.fault.Fault.{Fault}
 use Rattle.emtp_card.specs.declared.reason.Bad.{Bad}
@@ -12,7 +12,7 @@ use Rattle.emtp_walk.specs.Answer.{first_bad}
 use Rattle.emtp_walk.specs.declared.control_cards.BlockEntry.{BlockEntry}
 use Rattle.emtp_fix.specs.Rounding.{near}
 use Rattle.emtp_netcards.specs.SourceCard.{unless_judged}
-use Rattle.emtp_taccards.specs.PolynomialCard.{coefficient_field, polynomial_card, powers}
+use Rattle.emtp_taccards.specs.PolynomialCard.{coefficient_field, polynomial_card}
 
 -- ---- cards
 
@@ -28,6 +28,10 @@ taken_by dt power (Err why) = Err why
 -- the coefficient of a power, which is taken as often as the power says
 abbrev pub taken_field : List ℕ → ℕ → ℤ → ℕ → Result ℤ Why
 taken_field line order dt power = taken_by dt power (coefficient_field line order power)
+
+-- the powers of s, each of which has ten columns
+abbrev pub powers : List ℕ
+powers = 0 ∷ 1 ∷ 2 ∷ 3 ∷ 4 ∷ 5 ∷ 6 ∷ 7 ∷ []
 
 unfoldable pub coefficients_fault : List ℕ → ℕ → ℤ → Option Fault
 coefficients_fault line order dt = least (map (λ power. fault_at (10 * power + 1) (taken_field line order dt power)) powers)

@@ -1,7 +1,6 @@
 -- Two lines without a faulty byte that agree under the ruler of one of them give the same points.
 use Rattle.std.proofs.Common.{◌≡◌, ◌∙◌, sym, ap, refl, ℕ, Bool, true, false, List}
-use Rattle.std.specs.Prelude.{ℤ, cond, Option, None, option_map, Result, Ok, Err}
-use Rattle.emtp_card.specs.Fault.{bad_at, judge_by, judge_due}
+use Rattle.std.specs.Prelude.{ℤ, cond, Option, None, Result, Ok, Err}
 use Rattle.emtp_card.specs.Lines.{fault_of_line, is_section_end}
 use Rattle.emtp_card.specs.declared.fault.Fault.{Fault}
 use Rattle.emtp_card.specs.declared.reason.Why.{Why}
@@ -17,18 +16,12 @@ use Rattle.emtp_warnings.specs.Marked.{point_ruler}
 use Rattle.emtp_warnings.specs.Section.{ends_points, is_last_card}
 use Rattle.emtp_warnings.specs.declared.rulers.TheConstants.{ENDING, POINT}
 
--- what a card that is due is refused for: its bytes aren't
 one_way : {A : Type 0} (t : Bool) (a : A) → cond t a a ≡ a
 one_way true a = refl
 one_way false a = refl
 
-pub due_is : (number : ℕ) (line : List ℕ) (fault : Option Fault) → fault_of_line line ≡ None → judge_due number line fault ≡ option_map (bad_at number) fault
-due_is number line fault e =
-    ap (λ (bytes : Option (ℕ × Why)). cond (is_section_end line) (option_map (bad_at number) fault) (judge_by number bytes fault)) e
-    ∙ one_way (is_section_end line) (option_map (bad_at number) fault)
-
--- the bytes of a card of a group aren't what refuses it
-read_is : {A : Type 0} (number : ℕ) (line : List ℕ) (read : Result A Fault) → fault_of_line line ≡ None → card_due number line read ≡ card_by number None read
+-- the bytes of a card that is due aren't what refuses it
+pub read_is : {A : Type 0} (number : ℕ) (line : List ℕ) (read : Result A Fault) → fault_of_line line ≡ None → card_due number line read ≡ card_by number None read
 read_is number line read e =
     ap (λ (bytes : Option (ℕ × Why)). cond (is_section_end line) (card_by number None read) (card_by number bytes read)) e
     ∙ one_way (is_section_end line) (card_by number None read)

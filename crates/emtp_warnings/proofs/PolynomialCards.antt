@@ -1,31 +1,24 @@
 -- Two lines without a faulty byte that agree under the ruler of one of them give the same polynomials.
 use Rattle.std.proofs.Common.{◌≡◌, ◌∙◌, sym, ap, refl, ℕ, zero, suc, ◌≤◌, List, arith}
-use Rattle.std.specs.Prelude.{Option, option_map}
-use Rattle.emtp_card.specs.Fault.{bad_at, judge_due, unless_bad}
-use Rattle.emtp_card.specs.declared.reason.Bad.{Bad}
-use Rattle.emtp_taccards.specs.PolynomialCard.{coefficient_field, coefficients, polynomial_card, polynomial_fault}
+use Rattle.std.specs.Prelude.{None}
+use Rattle.emtp_netcards.specs.Reading.{card_by}
+use Rattle.emtp_taccards.specs.PolynomialCard.{coefficient_field, coefficients, four_of, pair_of, polynomial_card}
 use Rattle.emtp_warnings.proofs.Agreeing.{number_under}
-use Rattle.emtp_warnings.proofs.PointCards.{due_is}
+use Rattle.emtp_warnings.proofs.PointCards.{read_is}
 use Rattle.emtp_warnings.specs.Law.{AgreeUnder, AreFaultless}
 use Rattle.emtp_warnings.specs.Marked.{polynomial_ruler}
 
 module _ (x y : List ℕ) (sound : AreFaultless x y) where
-  faults_from : (order : ℕ) → coefficient_field x order 0 ≡ coefficient_field y order 0 → coefficient_field x order 1 ≡ coefficient_field y order 1 → coefficient_field x order 2 ≡ coefficient_field y order 2 → coefficient_field x order 3 ≡ coefficient_field y order 3 → coefficient_field x order 4 ≡ coefficient_field y order 4 → coefficient_field x order 5 ≡ coefficient_field y order 5 → coefficient_field x order 6 ≡ coefficient_field y order 6 → coefficient_field x order 7 ≡ coefficient_field y order 7
-      → polynomial_fault x order ≡ polynomial_fault y order
-  unfolding polynomial_fault
-  faults_from order a b c d e f g h = simp (a, b, c, d, e, f, g, h)
-
   list_from : (order : ℕ) → coefficient_field x order 0 ≡ coefficient_field y order 0 → coefficient_field x order 1 ≡ coefficient_field y order 1 → coefficient_field x order 2 ≡ coefficient_field y order 2 → coefficient_field x order 3 ≡ coefficient_field y order 3 → coefficient_field x order 4 ≡ coefficient_field y order 4 → coefficient_field x order 5 ≡ coefficient_field y order 5 → coefficient_field x order 6 ≡ coefficient_field y order 6 → coefficient_field x order 7 ≡ coefficient_field y order 7
       → coefficients x order ≡ coefficients y order
+  unfolding coefficients four_of pair_of
   list_from order a b c d e f g h = simp (a, b, c, d, e, f, g, h)
 
   polynomial_from : (number order : ℕ) → coefficient_field x order 0 ≡ coefficient_field y order 0 → coefficient_field x order 1 ≡ coefficient_field y order 1 → coefficient_field x order 2 ≡ coefficient_field y order 2 → coefficient_field x order 3 ≡ coefficient_field y order 3 → coefficient_field x order 4 ≡ coefficient_field y order 4 → coefficient_field x order 5 ≡ coefficient_field y order 5 → coefficient_field x order 6 ≡ coefficient_field y order 6 → coefficient_field x order 7 ≡ coefficient_field y order 7
       → polynomial_card number x order ≡ polynomial_card number y order
   unfolding polynomial_card
   polynomial_from number order a b c d e f g h =
-      let fault = faults_from order a b c d e f g h in
-      ap (λ (bad : Option Bad). unless_bad bad (coefficients x order)) (due_is number x (polynomial_fault x order) sound.one ∙ ap (option_map (bad_at number)) fault ∙ sym (due_is number y (polynomial_fault y order) sound.other))
-      ∙ ap (unless_bad (judge_due number y (polynomial_fault y order))) (list_from order a b c d e f g h)
+      read_is number x (coefficients x order) sound.one ∙ ap (card_by number None) (list_from order a b c d e f g h) ∙ sym (read_is number y (coefficients y order) sound.other)
 
   pub polynomial_under : (order : ℕ) → order ≤ 7 → (number : ℕ) → AgreeUnder (polynomial_ruler order) x y → polynomial_card number x order ≡ polynomial_card number y order
   polynomial_under zero few number h = polynomial_from number 0 (simp (number_under (polynomial_ruler 0) x y h 1 10 refl)) refl refl refl refl refl refl refl
