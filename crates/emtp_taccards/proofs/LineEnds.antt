@@ -14,7 +14,9 @@ use Rattle.emtp_netcards.specs.Reading.{both, judged}
 use Rattle.emtp_taccards.specs.BlockCard.{block_card, block_fault, block_with}
 use Rattle.emtp_taccards.specs.DeviceCard.{a_by, a_field, device_card, device_fault, device_with}
 use Rattle.emtp_taccards.specs.ExtraCard.{extra_card}
-use Rattle.emtp_taccards.specs.FormulaCard.{expression_text, formula_card, formula_fault}
+use Rattle.emtp_taccards.specs.FormulaCard as formulas
+use Rattle.emtp_taccards.specs.FormulaCard.{expression_text, formula_card}
+use Rattle.emtp_taccards.specs.Group.{head_of}
 use Rattle.emtp_taccards.specs.Inputs.{input_fault, inputs, inputs_fault}
 use Rattle.emtp_taccards.specs.PolynomialCard.{coefficients, four_of, pair_of, polynomial_card}
 use Rattle.emtp_taccards.specs.TacsOutputCard as outputs
@@ -101,9 +103,17 @@ module _ (x y : List ℕ) (h : AreReadAlike x y) where
   expression_alike : expression_of (expression_text x) ≡ expression_of (expression_text y)
   expression_alike = same-expression (expression_text x) (expression_text y) (h.part 69 11)
 
+  head_alike : head_of x ≡ head_of y
+  unfolding head_of
+  head_alike = simp (h.whole, h.name)
+
+  formula_fields_alike : formulas.fields_of x ≡ formulas.fields_of y
+  unfolding formulas.fields_of
+  formula_fields_alike = simp (head_alike, h.byte)
+
   formula_alike : (number : ℕ) (parsed : Result Parsed ℕ) → formula_card number x parsed ≡ formula_card number y parsed
-  unfolding formula_card formula_fault
-  formula_alike number parsed = simp (h.fault, h.whole, h.name, h.byte)
+  unfolding formula_card
+  formula_alike number parsed = simp (h.fault, formula_fields_alike)
 
   a_by_alike : (code : DeviceCode) → a_by x code ≡ a_by y code
   a_by_alike Delay = simp h.number

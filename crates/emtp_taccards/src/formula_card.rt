@@ -2,16 +2,14 @@
 
 ghost use Rattle.std.specs.Prelude.{◌≡◌, ◌≤◌, length, Err, Ok, IfErr, IfOk};
 ghost use Rattle.emtp_expr.specs.Parsing.{expression_of};
-ghost use Rattle.emtp_taccards.specs.FormulaCard.{equals_field, expression_fault, expression_text, formula_card, formula_fault, named_formula};
+ghost use Rattle.emtp_taccards.specs.FormulaCard.{equals_field, expression_by, expression_text, fields_of, formula_card};
 ghost use Rattle.emtp_taccards.specs.held.FormulaCard.{IsParsed};
 
-use crate::group::group_field;
-use emtp_card::{
-    Bad, Fault, Line, MAX_BYTES, Refused, Why, byte_at, columns, fault_at, judge, least,
-};
+use crate::group::head;
+use emtp_card::{Bad, Fault, Line, MAX_BYTES, Refused, Why, byte_at, columns};
 use emtp_case::{Group, Name};
 use emtp_expr::{ExprFault, Parsed, parse};
-use emtp_netcards::needed_name;
+use emtp_netcards::{both, card_on, in_column};
 use std::alloc::Global;
 
 /// The card of a formula.
@@ -62,23 +60,17 @@ fn formula_of(line: &Line<'_>, parsed: Result<Parsed, u32>) -> Result<FormulaCar
     ensures value { result ≡ formula_card line.now.number line.now.bytes.now parsed }
     ensures numbers { IfOk result (λ card. IsParsed card.parsed) }
 {
-    match judge(line, formula_fault(line.bytes, &parsed)) {
-        Some(bad) => Err(bad),
-        None => named_formula(line, parsed),
-    }
+    let head = card_on(line, fields(line.bytes))?;
+    with_expression(line.number, head, parsed)
 }
 
-#[tactic(auto, unfolding(crate::specs::FormulaCard::formula_fault))]
-fn formula_fault(line: &[u8], parsed: &Result<Parsed, u32>) -> Option<Fault>
-    requires { IfErr parsed.now (λ column. column ≤ 70) }
-    ensures { result ≡ formula_fault line.now parsed.now }
+/// Group and name, which the sign = follows.
+#[tactic(auto, unfolding(crate::specs::FormulaCard::fields_of))]
+fn fields(line: &[u8]) -> Result<(Group, Name), Fault>
+    ensures { result ≡ fields_of line.now }
 {
-    least(&[
-        fault_at(1, &group_field(line)),
-        fault_at(3, &needed_name(line, 3)),
-        fault_at(11, &equals(line)),
-        expression_fault(parsed),
-    ])
+    let (head, ()) = both(head(line), in_column(11, equals(line)))?;
+    Ok(head)
 }
 
 fn equals(line: &[u8]) -> Result<(), Why>
@@ -91,41 +83,30 @@ fn equals(line: &[u8]) -> Result<(), Why>
     }
 }
 
-fn expression_fault(parsed: &Result<Parsed, u32>) -> Option<Fault>
-    requires { IfErr parsed.now (λ column. column ≤ 70) }
-    ensures { result ≡ expression_fault parsed.now }
-{
-    match parsed {
-        Ok(_) => None,
-        Err(column) => Some(Fault {
-            column: 11 + *column,
-            why: Why::BadExpression,
-        }),
-    }
-}
-
-/// The record of a card whose group, name and expression were read.
-fn named_formula(line: &Line<'_>, parsed: Result<Parsed, u32>) -> Result<FormulaCard, Bad>
+fn with_expression(
+    number: u32,
+    head: (Group, Name),
+    parsed: Result<Parsed, u32>,
+) -> Result<FormulaCard, Bad>
     requires column { IfErr parsed (λ column. column ≤ 70) }
     requires parsed { IfOk parsed IsParsed }
-    ensures value { result ≡ named_formula line.now.number line.now.bytes.now parsed }
+    ensures value { result ≡ expression_by number head parsed }
     ensures numbers { IfOk result (λ card. IsParsed card.parsed) }
 {
-    let fault = match (group_field(line.bytes), needed_name(line.bytes, 3), parsed) {
-        (Ok(group), Ok(name), Ok(parsed)) => {
-            return Ok(FormulaCard {
-                line: line.number,
-                name,
-                group,
-                parsed,
-            });
+    let (group, name) = head;
+    match parsed {
+        Ok(parsed) => Ok(FormulaCard {
+            line: number,
+            name,
+            group,
+            parsed,
+        }),
+        Err(column) => {
+            let fault = Fault {
+                column: 11 + column,
+                why: Why::BadExpression,
+            };
+            Err(fault.on_line(number))
         }
-        (Ok(_), Ok(_), Err(column)) => Fault {
-            column: 11 + column,
-            why: Why::BadExpression,
-        },
-        (Ok(_), Err(why), _) => Fault { column: 3, why },
-        (Err(why), _, _) => Fault { column: 1, why },
-    };
-    Err(fault.on_line(line.number))
+    }
 }

@@ -11,11 +11,13 @@ use Rattle.emtp_case.specs.declared.control.Group.{Group}
 use Rattle.emtp_expr.specs.Parsing.{expression_of}
 use Rattle.emtp_expr.specs.declared.parsing.Parsed.{Parsed}
 use Rattle.emtp_netcards.specs.Fields.{needed}
+use Rattle.emtp_netcards.specs.Reading.{card_on}
 use Rattle.emtp_netcards.specs.declared.source_card.SourceCard.{SourceCard}
 use Rattle.emtp_taccards.specs.BlockCard.{block_card, block_fault, block_with}
 use Rattle.emtp_taccards.specs.DeviceCard.{code_field, device_card, device_fault, device_with}
 use Rattle.emtp_taccards.specs.ExtraCard.{as_device, as_formula, extra_card, is_formula}
-use Rattle.emtp_taccards.specs.FormulaCard.{expression_text, formula_card, formula_fault, formula_with}
+use Rattle.emtp_taccards.specs.FormulaCard as formulas
+use Rattle.emtp_taccards.specs.FormulaCard.{expression_text, formula_by, formula_card}
 use Rattle.emtp_taccards.specs.Group.{group_field}
 use Rattle.emtp_taccards.specs.TacsSourceCard as sources
 use Rattle.emtp_taccards.specs.TacsSourceCard.{tacs_source_card}
@@ -59,17 +61,14 @@ device_line number line card h =
     let both = accepted (judge number line (device_fault line (code_field line))) (device_with number line (group_field line) (needed (name_field line 3)) (code_field line)) card h in
     device_stands number line (group_field line) (needed (name_field line 3)) (code_field line) card both.1
 
-formula_stands : (number : ℕ) (group : Result Group Why) (name : Result (List ℕ) Why) (parsed : Result Parsed ℕ) (card : FormulaCard) → formula_with number group name parsed ≡ Ok card → card.line ≡ number
-formula_stands number (Ok group) (Ok name) (Ok parsed) card h = sym (ok_is (λ (c : FormulaCard). c.line) _ card h)
-formula_stands number (Ok group) (Ok name) (Err column) card h = absurd (cc)
-formula_stands number (Ok group) (Err why) parsed card h = absurd (cc)
-formula_stands number (Err why) name parsed card h = absurd (cc)
+formula_stands : (number : ℕ) (head : Result (Group × List ℕ) Bad) (parsed : Result Parsed ℕ) (card : FormulaCard) → formula_by number head parsed ≡ Ok card → card.line ≡ number
+formula_stands number (Ok head) (Ok parsed) card h = sym (ok_is (λ (c : FormulaCard). c.line) _ card h)
+formula_stands number (Ok head) (Err column) card h = absurd (cc)
+formula_stands number (Err bad) parsed card h = absurd (cc)
 
 formula_line : (number : ℕ) (line : List ℕ) (parsed : Result Parsed ℕ) (card : FormulaCard) → formula_card number line parsed ≡ Ok card → card.line ≡ number
 unfolding formula_card
-formula_line number line parsed card h =
-    let both = accepted (judge number line (formula_fault line parsed)) (formula_with number (group_field line) (needed (name_field line 3)) parsed) card h in
-    formula_stands number (group_field line) (needed (name_field line 3)) parsed card both.1
+formula_line number line parsed card h = formula_stands number (card_on number line (formulas.fields_of line)) parsed card h
 
 abbrev pub line_of_extra : ExtraCard → ℕ
 line_of_extra (Device card) = card.line

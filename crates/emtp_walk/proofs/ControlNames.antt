@@ -19,15 +19,16 @@ use Rattle.emtp_walk.specs.held.Sound.{IsExtraDue}
 use Rattle.emtp_expr.specs.Parsing.{expression_of}
 use Rattle.emtp_expr.specs.declared.parsing.Parsed.{Parsed}
 use Rattle.emtp_netcards.specs.Fields.{needed}
-use Rattle.emtp_netcards.specs.Reading.{both, in_column, judged}
+use Rattle.emtp_netcards.specs.Reading.{both, card_on, in_column, judged}
 use Rattle.emtp_netcards.specs.SourceCard.{unless_judged}
 use Rattle.emtp_netcards.specs.declared.source_card.SourceCard.{SourceCard}
 use Rattle.emtp_taccards.specs.BlockCard.{block_card, block_fault, block_with}
 use Rattle.emtp_taccards.specs.DeviceCard.{code_field, device_card, device_fault, device_with}
 use Rattle.emtp_taccards.specs.ExtraCard.{as_device, as_formula, extra_card, is_formula}
 use Rattle.emtp_taccards.specs.held.ExtraCard.{HasExtraNumbers}
-use Rattle.emtp_taccards.specs.FormulaCard.{expression_text, formula_card, formula_fault, formula_with}
-use Rattle.emtp_taccards.specs.Group.{group_field}
+use Rattle.emtp_taccards.specs.FormulaCard as formulas
+use Rattle.emtp_taccards.specs.FormulaCard.{equals_field, expression_text, formula_by, formula_card}
+use Rattle.emtp_taccards.specs.Group.{group_field, head_of}
 use Rattle.emtp_taccards.specs.TacsSourceCard as sources
 use Rattle.emtp_taccards.specs.TacsSourceCard.{Course, Times, signal_field, source_record, tacs_source_card, value_of}
 use Rattle.emtp_taccards.specs.declared.block_card.BlockCard.{BlockCard}
@@ -144,18 +145,33 @@ device_name number line card h =
     let both = accepted (judge number line fields) (device_with number line (group_field line) (needed (name_field line 3)) (code_field line)) card h in
     name_is line 3 card.name (line_whole number line fields both.0) (device_named number line (group_field line) (needed (name_field line 3)) (code_field line) card both.1)
 
-formula_named : (number : ℕ) (group : Result Group Why) (name : Result (List ℕ) Why) (parsed : Result Parsed ℕ) (card : FormulaCard) → formula_with number group name parsed ≡ Ok card → name ≡ Ok card.name
-formula_named number (Ok group) (Ok name) (Ok parsed) card h = ap Ok (ok_is (λ (c : FormulaCard). c.name) _ card h)
-formula_named number (Ok group) (Ok name) (Err column) card h = absurd (cc)
-formula_named number (Ok group) (Err why) parsed card h = absurd (cc)
-formula_named number (Err why) name parsed card h = absurd (cc)
+-- group and name, which a card of either kind begins with
+abbrev Head : Type 0
+Head = Group × List ℕ
+
+head_name : (line : List ℕ) (head : Head) → fault_of_line line ≡ None → head_of line ≡ Ok head → IsName head.1
+unfolding head_of
+head_name line head whole h = column_name line head.1 whole (each_of (in_column 1 (group_field line)) (in_column 3 (needed (name_field line 3))) head h).1
+
+formula_head : (line : List ℕ) (head : Head) → formulas.fields_of line ≡ Ok head → head_of line ≡ Ok head
+unfolding formulas.fields_of
+formula_head line head h =
+    let equals = in_column 11 (equals_field line) in
+    let head_first : Head × Unit {0} → Head = λ p. p.0 in
+    made_of (head_of line ≡ Ok head) (both (head_of line) equals) head_first head h (λ p read same. (each_of (head_of line) equals p read).0 ∙ ap Ok same)
+
+formula_named : (number : ℕ) (head : Result Head Bad) (parsed : Result Parsed ℕ) (card : FormulaCard) (P : Type 0) → formula_by number head parsed ≡ Ok card → ((h : Head) → head ≡ Ok h → h.1 ≡ card.name → P) → P
+formula_named number (Ok head) (Ok parsed) card P h so = so head refl (ok_is (λ (c : FormulaCard). c.name) _ card h)
+formula_named number (Ok head) (Err column) card P h so = absurd (cc)
+formula_named number (Err bad) parsed card P h so = absurd (cc)
 
 formula_name : (number : ℕ) (line : List ℕ) (parsed : Result Parsed ℕ) (card : FormulaCard) → formula_card number line parsed ≡ Ok card → IsName card.name
 unfolding formula_card
 formula_name number line parsed card h =
-    let fields = formula_fault line parsed in
-    let both = accepted (judge number line fields) (formula_with number (group_field line) (needed (name_field line 3)) parsed) card h in
-    name_is line 3 card.name (line_whole number line fields both.0) (formula_named number (group_field line) (needed (name_field line 3)) parsed card both.1)
+    formula_named number (card_on number line (formulas.fields_of line)) parsed card (IsName card.name) h (λ head read same.
+    let found = fault_of_line line in
+    let fields = formulas.fields_of line in
+    subst IsName same (head_name line head (whole_by number found fields head read) (formula_head line head (by number found fields head read))))
 
 -- the name of either
 abbrev HasName : ExtraCard → Type 0
