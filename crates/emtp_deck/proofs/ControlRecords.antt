@@ -65,7 +65,7 @@ bound_fits n variables None None size h k = tt
 not_less : (a b : ℤ) → int_lt b a ≡ false → a ≤ℤ b
 not_less a b e = grind (arith, ints)
 
-bounds_fit : (variables : List (List ℕ)) (low_name high_name : Option (List ℕ)) (low high : Option ℤ) → (low_name ≡ None → high_name ≡ None → are_crossed low high ≡ false) → AreBounds (bound_of variables low_name low) (bound_of variables high_name high)
+bounds_fit : (variables : List (List ℕ)) (low_name high_name : Option (List ℕ)) (low high : Option ℤ) → are_crossed low high low_name high_name ≡ false → AreBounds (bound_of variables low_name low) (bound_of variables high_name high)
 bounds_fit variables (Some a) high_name low high h x y l r = absurd (cc)
 bounds_fit variables None (Some b) low high h x y l r = absurd (cc)
 bounds_fit variables None None None high h x y l r = absurd (cc)
@@ -73,7 +73,7 @@ bounds_fit variables None None (Some a) None h x y l r = absurd (cc)
 bounds_fit variables None None (Some a) (Some b) h x y l r =
     let first : a ≡ x = cc in
     let second : b ≡ y = cc in
-    subst (λ z. z ≤ℤ y) first (subst (λ z. a ≤ℤ z) second (not_less a b (h refl refl)))
+    subst (λ z. z ≤ℤ y) first (subst (λ z. a ≤ℤ z) second (not_less a b h))
 
 pub block_fits : (run : RunData) (n : Sizes) (variables : List (List ℕ)) (e : BlockEntry) → length variables ≡ n.vars → IsBlockEntry run.dt e → IsSensibleBlock variables e → length (inputs_of variables e.card.inputs) ≤ 5 → IsBlock run n (block_of variables e)
 block_fits run n variables e size h s few = record {

@@ -1,23 +1,23 @@
 -- Two lines that no reader of fields tells apart give the same cards of the control.
 use Rattle.std.proofs.Common.{◌≡◌, ◌∙◌, ap, ℕ, List, Result, Ok, Err, refl}
 use Rattle.emtp_card.specs.declared.fault.Fault.{Fault}
-use Rattle.emtp_card.specs.declared.reason.Why.{Why}
 use Rattle.emtp_card.proofs.LineEnds.{AreReadAlike}
 use Rattle.emtp_case.specs.declared.control.DeviceCode.{DeviceCode}
 use Rattle.emtp_case.specs.declared.control.DeviceCode.TheVariants.{Delay, DelayedPulse, EffectiveValue}
-use Rattle.emtp_case.specs.declared.control.Group.{Group}
 use Rattle.emtp_expr.specs.Parsing.{expression_of}
 use Rattle.emtp_expr.specs.declared.parsing.Parsed.{Parsed}
 use Rattle.emtp_expr.proofs.TextEnds.{same-expression}
 use Rattle.emtp_netcards.proofs.LineEnds.{active_times_alike, cosine_numbers_alike, name_list_alike}
 use Rattle.emtp_netcards.specs.Reading.{both, judged}
-use Rattle.emtp_taccards.specs.BlockCard.{block_card, block_fault, block_with}
-use Rattle.emtp_taccards.specs.DeviceCard.{a_by, a_field, device_card, device_fault, device_with}
+use Rattle.emtp_taccards.specs.BlockCard as blocks
+use Rattle.emtp_taccards.specs.BlockCard.{block_card, limits_of, order_and_name}
+use Rattle.emtp_taccards.specs.DeviceCard as devices
+use Rattle.emtp_taccards.specs.DeviceCard.{a_by, coded_by, device_card, plain_fields, variables_of}
 use Rattle.emtp_taccards.specs.ExtraCard.{extra_card}
 use Rattle.emtp_taccards.specs.FormulaCard as formulas
 use Rattle.emtp_taccards.specs.FormulaCard.{expression_text, formula_card}
 use Rattle.emtp_taccards.specs.Group.{head_of}
-use Rattle.emtp_taccards.specs.Inputs.{input_fault, inputs, inputs_fault}
+use Rattle.emtp_taccards.specs.Inputs.{four_inputs, input, inputs}
 use Rattle.emtp_taccards.specs.PolynomialCard.{coefficients, four_of, pair_of, polynomial_card}
 use Rattle.emtp_taccards.specs.TacsOutputCard as outputs
 use Rattle.emtp_taccards.specs.TacsOutputCard.{tacs_output_card}
@@ -29,28 +29,25 @@ use Rattle.emtp_taccards.specs.declared.tacs_source_card.Signal.TheVariants.{Cos
 module _ (x y : List ℕ) (h : AreReadAlike x y) where
   -- ---- blocks
 
-  input_fault_alike : (column : ℕ) → input_fault x column ≡ input_fault y column
-  unfolding input_fault
-  input_fault_alike column = simp (h.byte, h.name)
-
-  inputs_fault_alike : inputs_fault x ≡ inputs_fault y
-  unfolding inputs_fault
-  inputs_fault_alike = simp input_fault_alike
+  input_alike : (column : ℕ) → input x column ≡ input y column
+  unfolding input
+  input_alike column = simp (h.byte, h.name)
 
   inputs_alike : inputs x ≡ inputs y
-  inputs_alike = simp (h.byte, h.name)
+  unfolding inputs four_inputs
+  inputs_alike = simp input_alike
 
-  block_fault_alike : block_fault x ≡ block_fault y
-  unfolding block_fault
-  block_fault_alike = simp (h.name, h.whole, h.number, inputs_fault_alike)
+  order_and_name_alike : order_and_name x ≡ order_and_name y
+  unfolding order_and_name
+  order_and_name_alike = simp (h.whole, h.name)
 
-  block_with_alike : (number : ℕ) (name : Result (List ℕ) Why) → block_with number x name ≡ block_with number y name
-  block_with_alike number (Ok name) = simp (h.name, h.whole, h.number, h.byte)
-  block_with_alike number (Err why) = refl
+  limits_alike : limits_of x ≡ limits_of y
+  unfolding limits_of
+  limits_alike = simp (h.number, h.name)
 
   pub block_card_alike : (number : ℕ) → block_card number x ≡ block_card number y
-  unfolding block_card
-  block_card_alike number = simp (h.fault, h.name, block_fault_alike, block_with_alike)
+  unfolding block_card blocks.fields_of
+  block_card_alike number = simp (h.fault, h.number, order_and_name_alike, inputs_alike, limits_alike)
 
   coefficients_alike : (order : ℕ) → coefficients x order ≡ coefficients y order
   unfolding coefficients four_of pair_of
@@ -121,23 +118,25 @@ module _ (x y : List ℕ) (h : AreReadAlike x y) where
   a_by_alike EffectiveValue = simp h.number
   a_by_alike other = simp h.number
 
-  a_alike : (code : Result DeviceCode Why) → a_field x code ≡ a_field y code
-  a_alike (Ok code) = a_by_alike code
-  a_alike (Err why) = refl
+  coded_alike : (code : DeviceCode) → coded_by x code ≡ coded_by y code
+  unfolding coded_by
+  coded_alike code = simp (h.name, a_by_alike)
 
-  device_fault_alike : (code : Result DeviceCode Why) → device_fault x code ≡ device_fault y code
-  unfolding device_fault
-  device_fault_alike code = simp (h.whole, h.name, h.number, inputs_fault_alike, a_alike)
+  code_alike : (code : Result DeviceCode Fault) → judged code (coded_by x) ≡ judged code (coded_by y)
+  code_alike (Ok code) = coded_alike code
+  code_alike (Err fault) = refl
 
-  device_with_alike : (number : ℕ) (group : Result Group Why) (name : Result (List ℕ) Why) (code : Result DeviceCode Why) → device_with number x group name code ≡ device_with number y group name code
-  device_with_alike number (Ok group) (Ok name) (Ok code) = simp (h.name, h.number, h.byte, a_by_alike)
-  device_with_alike number (Ok group) (Ok name) (Err why) = refl
-  device_with_alike number (Ok group) (Err why) code = refl
-  device_with_alike number (Err why) name code = refl
+  variables_alike : variables_of x ≡ variables_of y
+  unfolding variables_of
+  variables_alike = simp (h.name, inputs_alike)
+
+  plain_alike : plain_fields x ≡ plain_fields y
+  unfolding plain_fields
+  plain_alike = simp h.number
 
   device_alike : (number : ℕ) → device_card number x ≡ device_card number y
-  unfolding device_card
-  device_alike number = simp (h.fault, h.whole, h.name, device_fault_alike, device_with_alike)
+  unfolding device_card devices.fields_of
+  device_alike number = simp (h.fault, h.whole, head_alike, code_alike, variables_alike, plain_alike)
 
   pub extra_card_alike : (number : ℕ) → extra_card number x ≡ extra_card number y
   unfolding extra_card

@@ -1,8 +1,7 @@
--- The cards of devices: the table of fields and rules, and the record.
-use Rattle.std.specs.Prelude.{ℕ, ◌+◌, ◌^◌, ℤ, pos, List, [], ◌∷◌, Option, Some, None, Result, Ok, Err, if◌then◌else◌}
+-- The cards of devices: the fields and rules, and the card.
+use Rattle.std.specs.Prelude.{ℕ, ◌+◌, ◌^◌, ℤ, pos, Bool, List, Option, Some, None, Result, Ok, Err, if◌then◌else◌}
 use Rattle.std.specs.Ordering.{int_eq}
-use Rattle.std.specs.Result.{result_unwrap_or}
-use Rattle.emtp_card.specs.Fault.{bad_at, fault_at, filled_with, judge, least}
+use Rattle.emtp_card.specs.Fault.{filled_with}
 use Rattle.emtp_card.specs.Name.{name_field}
 use Rattle.emtp_card.specs.Number.{number_field}
 use Rattle.emtp_card.specs.Whole.{whole_field}
@@ -14,10 +13,10 @@ use Rattle.emtp_case.specs.Control.{needs_d}
 use Rattle.emtp_case.specs.declared.control.DeviceCode.{DeviceCode}
 use Rattle.emtp_case.specs.declared.control.DeviceCode.TheVariants.{Counter, Delay, DelayedPulse, Derivative, EffectiveValue, Extreme, Gate, GateAbove, Integral, PeakHold, SampleHold, Selector, Table, Window}
 use Rattle.emtp_case.specs.declared.control.Group.{Group}
-use Rattle.emtp_netcards.specs.Fields.{name_or_ground, needed, required, signed_number}
-use Rattle.emtp_netcards.specs.SourceCard.{unless_judged}
-use Rattle.emtp_taccards.specs.Group.{group_field}
-use Rattle.emtp_taccards.specs.Inputs.{inputs, inputs_fault}
+use Rattle.emtp_netcards.specs.Fields.{required, signed_number}
+use Rattle.emtp_netcards.specs.Reading.{◌>>=◌, both, card_on, in_column}
+use Rattle.emtp_taccards.specs.Group.{head_of}
+use Rattle.emtp_taccards.specs.Inputs.{inputs}
 use Rattle.emtp_taccards.specs.declared.device_card.DeviceCard.{DeviceCard}
 
 -- columns 9 and 10: the code
@@ -70,66 +69,60 @@ a_by line PeakHold = signed_number line 51 56 (pos 9)
 a_by line Counter = signed_number line 51 56 (pos 9)
 a_by line EffectiveValue = hertz_field line
 
--- a card without a code is refused by its code
-abbrev pub a_field : List ℕ → Result DeviceCode Why → Result ℤ Why
-a_field line (Ok code) = a_by line code
-a_field line (Err why) = Ok (pos 0)
-
--- B in columns 57 to 62, C in columns 63 to 68
-abbrev pub plain_field : List ℕ → ℕ → Result ℤ Why
-plain_field line first = signed_number line first (first + 5) (pos 9)
-
 -- a device that looks at a variable D has one
-abbrev pub d_fault : Result DeviceCode Why → Result (Option (List ℕ)) Why → Option Fault
-d_fault (Ok code) (Ok None) = if needs_d code then Some (record { column = 69; why = BadName }) else None
-d_fault (Ok code) (Ok (Some name)) = None
-d_fault (Ok code) (Err why) = None
-d_fault (Err why) name = None
+abbrev pub d_by : DeviceCode → Option (List ℕ) → Result (Option (List ℕ)) Fault
+d_by code None = if needs_d code then Err (record { column = 69; why = BadName }) else Ok None
+d_by code (Some name) = Ok (Some name)
 
-unfoldable pub device_fault : List ℕ → Result DeviceCode Why → Option Fault
-device_fault line code =
-    least (fault_at 1 (group_field line)
-    ∷ fault_at 3 (needed (name_field line 3))
-    ∷ fault_at 9 code
-    ∷ inputs_fault line
-    ∷ fault_at 51 (a_field line code)
-    ∷ fault_at 57 (plain_field line 57)
-    ∷ fault_at 63 (plain_field line 63)
-    ∷ fault_at 69 (name_field line 69)
-    ∷ d_fault code (name_field line 69)
-    ∷ fault_at 75 (name_field line 75)
-    ∷ [])
+-- columns 69 to 74
+abbrev pub d_field : List ℕ → DeviceCode → Result (Option (List ℕ)) Fault
+d_field line code = in_column 69 (name_field line 69) >>= d_by code
 
--- the numbers of a device; a refused one doesn't matter
-abbrev pub a_of : List ℕ → DeviceCode → ℤ
-a_of line code = result_unwrap_or (a_by line code) (pos 1)
+-- the code with what it asks for: the number A and the variable D
+abbrev pub Coded : Type 0
+Coded = DeviceCode × (ℤ × Option (List ℕ))
 
-abbrev pub plain_of : List ℕ → ℕ → ℤ
-plain_of line first = result_unwrap_or (plain_field line first) (pos 0)
+unfoldable pub coded_by : List ℕ → DeviceCode → Result Coded Fault
+coded_by line code = do
+  (a, d) ← both (in_column 51 (a_by line code)) (d_field line code)
+  Ok (code, (a, d))
 
-abbrev pub device_of : ℕ → List ℕ → List ℕ → Group → DeviceCode → DeviceCard
-device_of number line name group code = record {
+-- the numbers B in columns 57 to 62 and C in columns 63 to 68
+abbrev pub plain_field : List ℕ → ℕ → Result ℤ Fault
+plain_field line first = in_column first (signed_number line first (first + 5) (pos 9))
+
+unfoldable pub plain_fields : List ℕ → Result (ℤ × ℤ) Fault
+plain_fields line = both (plain_field line 57) (plain_field line 63)
+
+-- the inputs, and the variable E in columns 75 to 80
+abbrev pub Variables : Type 0
+Variables = List (Option (Bool × List ℕ)) × Option (List ℕ)
+
+unfoldable pub variables_of : List ℕ → Result Variables Fault
+variables_of line = both (inputs line) (in_column 75 (name_field line 75))
+
+abbrev pub device_record : ℕ → Group × List ℕ → Coded → Variables → ℤ × ℤ → DeviceCard
+device_record number head coded variables plain = record {
   line = number;
-  name = name;
-  group = group;
-  code = code;
-  inputs = inputs line;
-  a = a_of line code;
-  b = plain_of line 57;
-  c = plain_of line 63;
-  d = name_or_ground line 69;
-  e = name_or_ground line 75;
+  name = head.1;
+  group = head.0;
+  code = coded.0;
+  inputs = variables.0;
+  a = coded.1.0;
+  b = plain.0;
+  c = plain.1;
+  d = coded.1.1;
+  e = variables.1;
 }
 
--- the record of a card whose group, name and code were read
-abbrev pub device_with : ℕ → List ℕ → Result Group Why → Result (List ℕ) Why → Result DeviceCode Why → Result DeviceCard Bad
-device_with number line (Ok group) (Ok name) (Ok code) = Ok (device_of number line name group code)
-device_with number line (Ok group) (Ok name) (Err why) = Err (bad_at number (record { column = 9; why = why }))
-device_with number line (Ok group) (Err why) code = Err (bad_at number (record { column = 3; why = why }))
-device_with number line (Err why) name code = Err (bad_at number (record { column = 1; why = why }))
+abbrev pub device_with : ℕ → Result (Group × List ℕ) Fault → Result Coded Fault → Result Variables Fault → Result (ℤ × ℤ) Fault → Result DeviceCard Fault
+device_with number head coded variables plain = do
+  ((head, coded), (variables, plain)) ← both (both head coded) (both variables plain)
+  Ok (device_record number head coded variables plain)
 
-abbrev pub named_device : ℕ → List ℕ → Result DeviceCode Why → Result DeviceCard Bad
-named_device number line code = device_with number line (group_field line) (needed (name_field line 3)) code
+-- the card; without a code, A and D aren't read
+unfoldable pub fields_of : ℕ → List ℕ → Result DeviceCard Fault
+fields_of number line = device_with number (head_of line) (in_column 9 (code_field line) >>= coded_by line) (variables_of line) (plain_fields line)
 
 unfoldable pub device_card : ℕ → List ℕ → Result DeviceCard Bad
-device_card number line = unless_judged (judge number line (device_fault line (code_field line))) (named_device number line (code_field line))
+device_card number line = card_on number line (fields_of number line)

@@ -1,15 +1,11 @@
 -- The five signed inputs of a block or a device.
-use Rattle.std.specs.Prelude.{ℕ, ◌+◌, ◌==◌, Bool, true, false, List, [], ◌∷◌, map, Option, Some, None, Result, Ok, Err, if◌then◌else◌}
-use Rattle.emtp_card.specs.Fault.{fault_at, least}
+use Rattle.std.specs.Prelude.{ℕ, ◌+◌, ◌==◌, Bool, true, false, List, [], ◌∷◌, Option, Some, None, Result, Ok, Err, if◌then◌else◌}
 use Rattle.emtp_card.specs.Field.{byte_in}
 use Rattle.emtp_card.specs.Name.{name_field}
 use Rattle.emtp_card.specs.declared.fault.Fault.{Fault}
 use Rattle.emtp_card.specs.declared.reason.Why.{Why}
 use Rattle.emtp_card.specs.declared.reason.Why.TheVariants.{BadType}
-
--- the columns of the signs; the six columns after each are those of its name
-abbrev pub sign_columns : List ℕ
-sign_columns = 11 ∷ 19 ∷ 27 ∷ 35 ∷ 43 ∷ []
+use Rattle.emtp_netcards.specs.Reading.{◌>>=◌, both, in_column}
 
 -- whether a sign is a minus: a blank and + aren't
 abbrev pub is_minus : ℕ → Result Bool Why
@@ -18,22 +14,25 @@ is_minus byte = if byte == 32 then Ok false else if byte == 43 then Ok false els
 abbrev pub minus_field : List ℕ → ℕ → Result Bool Why
 minus_field line column = is_minus (byte_in line column)
 
--- a sign is judged also where its name is blank
-unfoldable pub input_fault : List ℕ → ℕ → Option Fault
-input_fault line column = least (fault_at column (minus_field line column) ∷ fault_at (column + 1) (name_field line (column + 1)) ∷ [])
+-- an input without a name is none
+abbrev pub signed_name : Bool → Option (List ℕ) → Option (Bool × List ℕ)
+signed_name minus (Some name) = Some (minus, name)
+signed_name minus None = None
 
-unfoldable pub inputs_fault : List ℕ → Option Fault
-inputs_fault line = least (map (λ column. input_fault line column) sign_columns)
+-- the input whose sign stands in this column, and its name in the six columns after it; a sign is judged also where the name is blank
+unfoldable pub input : List ℕ → ℕ → Result (Option (Bool × List ℕ)) Fault
+input line column = do
+  (minus, name) ← both (in_column column (minus_field line column)) (in_column (column + 1) (name_field line (column + 1)))
+  Ok (signed_name minus name)
 
--- an input without a name is none; a refused one doesn't matter
-abbrev pub signed_name : Result Bool Why → Result (Option (List ℕ)) Why → Option (Bool × List ℕ)
-signed_name (Ok minus) (Ok (Some name)) = Some (minus, name)
-signed_name (Ok minus) (Ok None) = None
-signed_name (Ok minus) (Err why) = None
-signed_name (Err why) name = None
+-- the first four
+abbrev pub Four : Type 0
+Four = (Option (Bool × List ℕ) × Option (Bool × List ℕ)) × (Option (Bool × List ℕ) × Option (Bool × List ℕ))
 
-abbrev pub input_of : List ℕ → ℕ → Option (Bool × List ℕ)
-input_of line column = signed_name (minus_field line column) (name_field line (column + 1))
+unfoldable pub four_inputs : List ℕ → Result Four Fault
+four_inputs line = both (both (input line 11) (input line 19)) (both (input line 27) (input line 35))
 
-abbrev pub inputs : List ℕ → List (Option (Bool × List ℕ))
-inputs line = map (λ column. input_of line column) sign_columns
+unfoldable pub inputs : List ℕ → Result (List (Option (Bool × List ℕ))) Fault
+inputs line = do
+  (((a, b), (c, d)), e) ← both (four_inputs line) (input line 43)
+  Ok (a ∷ b ∷ c ∷ d ∷ e ∷ [])

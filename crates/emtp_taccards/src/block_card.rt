@@ -1,22 +1,23 @@
 //! Block cards.
 
-ghost use Rattle.std.specs.Prelude.{◌≡◌, ◌≢◌, ◌+◌, ◌≤◌, length, pos, IfOk};
+ghost use Rattle.std.specs.Prelude.{◌≡◌, ◌≢◌, ◌+◌, ◌≤◌, false, length, pos, IfOk};
 ghost use Rattle.std.specs.Option.{ForSome};
 ghost use Rattle.emtp_netcards.specs.held.Fields.{IsSmall};
-ghost use Rattle.emtp_taccards.specs.BlockCard.{are_crossed, block_card, block_fault, gain_field, limit_field, limits_fault, named_block, order_field, order_of};
+ghost use Rattle.emtp_taccards.specs.BlockCard.{are_crossed, block_card, block_record, block_with, fields_of, gain_field, in_order, limit_field, limits_of, order_and_name, order_field, order_of};
 ghost use Rattle.emtp_taccards.specs.held.BlockCard.{HasBlockNumbers, HasLimitsInOrder};
 
 use crate::EXA;
-use crate::inputs::{inputs, inputs_fault};
-use emtp_card::{
-    Bad, Fault, Line, MAX_BYTES, Why, fault_at, field_name, field_number, field_whole, judge, least,
-};
+use crate::inputs::inputs;
+use emtp_card::{Bad, Fault, Line, MAX_BYTES, Why, field_name, field_number, field_whole};
 use emtp_case::Name;
 use emtp_fix::PICO;
-use emtp_netcards::{needed_name, signed_number};
+use emtp_netcards::{both, card_on, in_column, needed_name, signed_number};
 
 /// 1 in the unit of a gain.
 const ONE: i64 = PICO as i64;
+
+/// The fixed limits, low and high, and the names of those that a variable is.
+type BlockLimits = ((Option<i64>, Option<i64>), (Option<Name>, Option<Name>));
 
 /// A block card, its names not resolved. An order above 0 is followed by the cards of numerator and denominator.
 #[derive(Clone, Copy)]
@@ -51,54 +52,82 @@ pub fn block(line: Line<'_>) -> Result<BlockCard, Bad>
     ensures numbers { IfOk result HasBlockNumbers }
     ensures limits { IfOk result HasLimitsInOrder }
 {
-    match judge(&line, block_fault(line.bytes)) {
-        Some(bad) => Err(bad),
-        None => named(&line),
-    }
+    card_on(&line, fields(line.number, line.bytes))
 }
 
-/// The record of a card whose name was read.
-fn named(line: &Line<'_>) -> Result<BlockCard, Bad>
-    ensures value { result ≡ named_block line.now.number line.now.bytes.now }
+#[tactic(auto, unfolding(crate::specs::BlockCard::fields_of))]
+fn fields(number: u32, line: &[u8]) -> Result<BlockCard, Fault>
+    ensures value { result ≡ fields_of number line.now }
     ensures numbers { IfOk result HasBlockNumbers }
+    ensures limits { IfOk result HasLimitsInOrder }
 {
-    let bytes = line.bytes;
-    match needed_name(bytes, 3) {
-        Ok(name) => Ok(BlockCard {
-            line: line.number,
-            name,
-            order: order(bytes).unwrap_or(0),
-            inputs: inputs(bytes),
-            gain: gain(bytes).unwrap_or(ONE),
-            low: limit(bytes, 57).unwrap_or(None),
-            high: limit(bytes, 63).unwrap_or(None),
-            low_name: field_name(bytes, 69).unwrap_or(None),
-            high_name: field_name(bytes, 75).unwrap_or(None),
-        }),
-        Err(why) => Err(Fault { column: 3, why }.on_line(line.number)),
+    let head = order_and_name(line);
+    let gain = in_column(51, gain(line));
+    block_with(number, head, inputs(line), gain, limits(line))
+}
+
+fn block_with(
+    number: u32,
+    head: Result<(u8, Name), Fault>,
+    inputs: Result<[Option<(bool, Name)>; 5], Fault>,
+    gain: Result<i64, Fault>,
+    limits: Result<BlockLimits, Fault>,
+) -> Result<BlockCard, Fault>
+    requires order { IfOk head (λ head. head.0 ≤ 7) }
+    requires some_gain { IfOk gain (λ gain. gain ≢ pos 0) }
+    requires gain { IfOk gain IsSmall }
+    requires low { IfOk limits (λ limits. ForSome limits.0.0 IsSmall) }
+    requires high { IfOk limits (λ limits. ForSome limits.0.1 IsSmall) }
+    requires uncrossed { IfOk limits (λ limits. are_crossed limits.0.0 limits.0.1 limits.1.0 limits.1.1 ≡ false) }
+    ensures value { result ≡ block_with number head inputs gain limits }
+    ensures numbers { IfOk result HasBlockNumbers }
+    ensures limits { IfOk result HasLimitsInOrder }
+{
+    let ((head, inputs), (gain, limits)) = both(both(head, inputs), both(gain, limits))?;
+    Ok(block_record(number, head, inputs, gain, limits))
+}
+
+fn block_record(
+    number: u32,
+    head: (u8, Name),
+    inputs: [Option<(bool, Name)>; 5],
+    gain: i64,
+    limits: BlockLimits,
+) -> BlockCard
+    requires order { head.0 ≤ 7 }
+    requires some_gain { gain ≢ pos 0 }
+    requires gain { IsSmall gain }
+    requires low { ForSome limits.0.0 IsSmall }
+    requires high { ForSome limits.0.1 IsSmall }
+    requires uncrossed { are_crossed limits.0.0 limits.0.1 limits.1.0 limits.1.1 ≡ false }
+    ensures value { result ≡ block_record number head inputs gain limits }
+    ensures numbers { HasBlockNumbers result }
+    ensures limits { HasLimitsInOrder result }
+{
+    let (order, name) = head;
+    let ((low, high), (low_name, high_name)) = limits;
+    BlockCard {
+        line: number,
+        name,
+        order,
+        inputs,
+        gain,
+        low,
+        high,
+        low_name,
+        high_name,
     }
 }
 
-/// The least fault of the card's fields and rules.
-#[tactic(auto, unfolding(crate::specs::BlockCard::block_fault))]
-fn block_fault(line: &[u8]) -> Option<Fault>
-    ensures { result ≡ block_fault line.now }
+#[tactic(auto, unfolding(crate::specs::BlockCard::order_and_name))]
+fn order_and_name(line: &[u8]) -> Result<(u8, Name), Fault>
+    ensures value { result ≡ order_and_name line.now }
+    ensures few { IfOk result (λ head. head.0 ≤ 7) }
 {
-    let low = limit(line, 57);
-    let high = limit(line, 63);
-    let low_name = field_name(line, 69);
-    let high_name = field_name(line, 75);
-    least(&[
-        fault_at(1, &order(line)),
-        fault_at(3, &needed_name(line, 3)),
-        inputs_fault(line),
-        fault_at(51, &gain(line)),
-        fault_at(57, &low),
-        fault_at(63, &high),
-        limits_fault(&low, &high, &low_name, &high_name),
-        fault_at(69, &low_name),
-        fault_at(75, &high_name),
-    ])
+    both(
+        in_column(1, order(line)),
+        in_column(3, needed_name(line, 3)),
+    )
 }
 
 fn order(line: &[u8]) -> Result<u8, Why>
@@ -135,6 +164,22 @@ fn gain(line: &[u8]) -> Result<i64, Why>
     }
 }
 
+/// The limits: two fixed ones don't cross, where neither is replaced by a named one.
+#[tactic(auto, unfolding(crate::specs::BlockCard::limits_of))]
+fn limits(line: &[u8]) -> Result<BlockLimits, Fault>
+    ensures value { result ≡ limits_of line.now }
+    ensures low { IfOk result (λ limits. ForSome limits.0.0 IsSmall) }
+    ensures high { IfOk result (λ limits. ForSome limits.0.1 IsSmall) }
+    ensures uncrossed { IfOk result (λ limits. are_crossed limits.0.0 limits.0.1 limits.1.0 limits.1.1 ≡ false) }
+{
+    let low = in_column(57, limit(line, 57));
+    let high = in_column(63, limit(line, 63));
+    let low_name = in_column(69, field_name(line, 69));
+    let high_name = in_column(75, field_name(line, 75));
+    let ((low, high), (low_name, high_name)) = both(both(low, high), both(low_name, high_name))?;
+    in_order(low, high, low_name, high_name)
+}
+
 /// The fixed limit in the six columns from `first` on.
 fn limit(line: &[u8], first: usize) -> Result<Option<i64>, Why>
     requires low { 1 ≤ first }
@@ -145,28 +190,39 @@ fn limit(line: &[u8], first: usize) -> Result<Option<i64>, Why>
     field_number(line, first, first + 5, 9, -EXA, EXA)
 }
 
-fn limits_fault(
-    low: &Result<Option<i64>, Why>,
-    high: &Result<Option<i64>, Why>,
-    low_name: &Result<Option<Name>, Why>,
-    high_name: &Result<Option<Name>, Why>,
-) -> Option<Fault>
-    ensures { result ≡ limits_fault low.now high.now low_name.now high_name.now }
+fn in_order(
+    low: Option<i64>,
+    high: Option<i64>,
+    low_name: Option<Name>,
+    high_name: Option<Name>,
+) -> Result<BlockLimits, Fault>
+    requires low { ForSome low IsSmall }
+    requires high { ForSome high IsSmall }
+    ensures value { result ≡ in_order low high low_name high_name }
+    ensures low { IfOk result (λ limits. ForSome limits.0.0 IsSmall) }
+    ensures high { IfOk result (λ limits. ForSome limits.0.1 IsSmall) }
+    ensures uncrossed { IfOk result (λ limits. are_crossed limits.0.0 limits.0.1 limits.1.0 limits.1.1 ≡ false) }
 {
-    match (low, high, low_name, high_name) {
-        (Ok(low), Ok(high), Ok(None), Ok(None)) if are_crossed(low, high) => Some(Fault {
+    if are_crossed(&low, &high, &low_name, &high_name) {
+        Err(Fault {
             column: 57,
             why: Why::OutOfUnitRange,
-        }),
-        _ => None,
+        })
+    } else {
+        Ok(((low, high), (low_name, high_name)))
     }
 }
 
-fn are_crossed(low: &Option<i64>, high: &Option<i64>) -> bool
-    ensures { result ≡ are_crossed low.now high.now }
+fn are_crossed(
+    low: &Option<i64>,
+    high: &Option<i64>,
+    low_name: &Option<Name>,
+    high_name: &Option<Name>,
+) -> bool
+    ensures { result ≡ are_crossed low.now high.now low_name.now high_name.now }
 {
-    match (low, high) {
-        (Some(low), Some(high)) => high < low,
+    match (low, high, low_name, high_name) {
+        (Some(low), Some(high), None, None) => high < low,
         _ => false,
     }
 }

@@ -1,21 +1,26 @@
 //! The cards of devices.
 
-ghost use Rattle.std.specs.Prelude.{◌≡◌, ◌+◌, ◌^◌, ◌≤◌, length, IfOk};
+ghost use Rattle.std.specs.Prelude.{◌≡◌, ◌+◌, ◌^◌, ◌≤◌, length, IfOk, IsSome, IsTrue};
 ghost use Rattle.emtp_case.specs.Control.{needs_d};
 ghost use Rattle.emtp_case.specs.held.Control.{HasRangeOfA};
 ghost use Rattle.emtp_case.specs.held.Range.{IsBetween};
 ghost use Rattle.emtp_netcards.specs.held.Fields.{IsSmall};
-ghost use Rattle.emtp_taccards.specs.DeviceCard.{a_by, a_field, a_of, code_field, code_of, d_fault, delay_field, device_card, device_fault, device_of, hertz_field, named_device, plain_field, plain_of};
+ghost use Rattle.emtp_netcards.specs.Reading.{judged};
+ghost use Rattle.emtp_taccards.specs.DeviceCard.{a_by, code_field, code_of, coded_by, d_by, d_field, delay_field, device_card, device_record, device_with, fields_of, hertz_field, plain_field, plain_fields, variables_of};
 ghost use Rattle.emtp_taccards.specs.held.DeviceCard.{HasDeviceNumbers, HasItsD};
 
 use crate::EXA;
-use crate::group::group_field;
-use crate::inputs::{inputs, inputs_fault};
-use emtp_card::{
-    Bad, Fault, Line, MAX_BYTES, Why, fault_at, field_name, field_whole, judge, least, number_or,
-};
+use crate::group::head;
+use crate::inputs::inputs;
+use emtp_card::{Bad, Fault, Line, MAX_BYTES, Why, field_name, field_whole, number_or};
 use emtp_case::{DeviceCode, Group, Name};
-use emtp_netcards::{needed_name, required, signed_number};
+use emtp_netcards::{both, card_on, in_column, required, signed_number};
+
+/// The code of a device, with the number A and the variable D that it asks for.
+type Coded = (DeviceCode, (i64, Option<Name>));
+
+/// The inputs, and the variable E.
+type Variables = ([Option<(bool, Name)>; 5], Option<Name>);
 
 /// The card of a device. Points follow that of a table, and pairs of times that of a window.
 #[derive(Clone, Copy)]
@@ -51,67 +56,70 @@ pub(crate) fn device(line: &Line<'_>) -> Result<DeviceCard, Bad>
     ensures numbers { IfOk result HasDeviceNumbers }
     ensures d { IfOk result HasItsD }
 {
-    let code = code(line.bytes);
-    match judge(line, device_fault(line.bytes, &code)) {
-        Some(bad) => Err(bad),
-        None => named_device(line, &code),
-    }
+    card_on(line, fields(line.number, line.bytes))
 }
 
-/// The record of a card whose group, name and code were read.
-fn named_device(line: &Line<'_>, code: &Result<DeviceCode, Why>) -> Result<DeviceCard, Bad>
-    ensures value { result ≡ named_device line.now.number line.now.bytes.now code.now }
+#[tactic(auto, unfolding(crate::specs::DeviceCard::fields_of))]
+fn fields(number: u32, line: &[u8]) -> Result<DeviceCard, Fault>
+    ensures value { result ≡ fields_of number line.now }
     ensures numbers { IfOk result HasDeviceNumbers }
+    ensures d { IfOk result HasItsD }
 {
-    let fault = match (group_field(line.bytes), needed_name(line.bytes, 3), code) {
-        (Ok(group), Ok(name), Ok(code)) => return Ok(device_of(line, &name, group, *code)),
-        (Ok(_), Ok(_), Err(why)) => Fault {
-            column: 9,
-            why: *why,
-        },
-        (Ok(_), Err(why), _) => Fault { column: 3, why },
-        (Err(why), _, _) => Fault { column: 1, why },
-    };
-    Err(fault.on_line(line.number))
+    let coded = with_code(line, in_column(9, code(line)));
+    let variables = named_variables(line);
+    device_with(number, head(line), coded, variables, plain_numbers(line))
 }
 
-fn device_of(line: &Line<'_>, name: &Name, group: Group, code: DeviceCode) -> DeviceCard
-    ensures value { result ≡ device_of line.now.number line.now.bytes.now name.now group code }
-    ensures numbers { HasDeviceNumbers result }
+fn device_with(
+    number: u32,
+    head: Result<(Group, Name), Fault>,
+    coded: Result<Coded, Fault>,
+    variables: Result<Variables, Fault>,
+    plain: Result<(i64, i64), Fault>,
+) -> Result<DeviceCard, Fault>
+    requires a { IfOk coded (λ coded. HasRangeOfA coded.0 coded.1.0) }
+    requires d { IfOk coded (λ coded. IsTrue (needs_d coded.0) → IsSome coded.1.1) }
+    requires b { IfOk plain (λ plain. IsSmall plain.0) }
+    requires c { IfOk plain (λ plain. IsSmall plain.1) }
+    ensures value { result ≡ device_with number head coded variables plain }
+    ensures numbers { IfOk result HasDeviceNumbers }
+    ensures d { IfOk result HasItsD }
 {
-    let bytes = line.bytes;
+    let ((head, coded), (variables, plain)) = both(both(head, coded), both(variables, plain))?;
+    Ok(device_record(number, head, coded, variables, plain))
+}
+
+fn device_record(
+    number: u32,
+    head: (Group, Name),
+    coded: Coded,
+    variables: Variables,
+    plain: (i64, i64),
+) -> DeviceCard
+    requires a { HasRangeOfA coded.0 coded.1.0 }
+    requires d { IsTrue (needs_d coded.0) → IsSome coded.1.1 }
+    requires b { IsSmall plain.0 }
+    requires c { IsSmall plain.1 }
+    ensures value { result ≡ device_record number head coded variables plain }
+    ensures numbers { HasDeviceNumbers result }
+    ensures d { HasItsD result }
+{
+    let (group, name) = head;
+    let (code, (a, d)) = coded;
+    let (inputs, e) = variables;
+    let (b, c) = plain;
     DeviceCard {
-        line: line.number,
-        name: *name,
+        line: number,
+        name,
         group,
         code,
-        inputs: inputs(bytes),
-        a: a_of(bytes, code),
-        b: plain_of(bytes, 57),
-        c: plain_of(bytes, 63),
-        d: field_name(bytes, 69).unwrap_or(None),
-        e: field_name(bytes, 75).unwrap_or(None),
+        inputs,
+        a,
+        b,
+        c,
+        d,
+        e,
     }
-}
-
-/// The least fault of a device's fields and rules.
-#[tactic(auto, unfolding(crate::specs::DeviceCard::device_fault))]
-fn device_fault(line: &[u8], code: &Result<DeviceCode, Why>) -> Option<Fault>
-    ensures { result ≡ device_fault line.now code.now }
-{
-    let d = field_name(line, 69);
-    least(&[
-        fault_at(1, &group_field(line)),
-        fault_at(3, &needed_name(line, 3)),
-        fault_at(9, code),
-        inputs_fault(line),
-        fault_at(51, &a_field(line, code)),
-        fault_at(57, &plain(line, 57)),
-        fault_at(63, &plain(line, 63)),
-        fault_at(69, &d),
-        d_fault(code, &d),
-        fault_at(75, &field_name(line, 75)),
-    ])
 }
 
 fn code(line: &[u8]) -> Result<DeviceCode, Why>
@@ -145,14 +153,23 @@ fn code_of(number: i64) -> Result<DeviceCode, Why>
     }
 }
 
-/// The number A; where the code is refused, it isn't read.
-fn a_field(line: &[u8], code: &Result<DeviceCode, Why>) -> Result<i64, Why>
-    ensures { result ≡ a_field line.now code.now }
+/// The code with what it asks for; where it is refused, A and D aren't read.
+fn with_code(line: &[u8], code: Result<DeviceCode, Fault>) -> Result<Coded, Fault>
+    ensures value { result ≡ judged code (coded_by line.now) }
+    ensures a { IfOk result (λ coded. HasRangeOfA coded.0 coded.1.0) }
+    ensures d { IfOk result (λ coded. IsTrue (needs_d coded.0) → IsSome coded.1.1) }
 {
-    match code {
-        Ok(code) => a_by(line, *code),
-        Err(_) => Ok(0),
-    }
+    coded_by(line, code?)
+}
+
+#[tactic(auto, unfolding(crate::specs::DeviceCard::coded_by))]
+fn coded_by(line: &[u8], code: DeviceCode) -> Result<Coded, Fault>
+    ensures value { result ≡ coded_by line.now code }
+    ensures a { IfOk result (λ coded. HasRangeOfA coded.0 coded.1.0) }
+    ensures d { IfOk result (λ coded. IsTrue (needs_d coded.0) → IsSome coded.1.1) }
+{
+    let (a, d) = both(in_column(51, a_by(line, code)), named_d(line, code))?;
+    Ok((code, (a, d)))
 }
 
 fn a_by(line: &[u8], code: DeviceCode) -> Result<i64, Why>
@@ -164,14 +181,6 @@ fn a_by(line: &[u8], code: DeviceCode) -> Result<i64, Why>
         DeviceCode::EffectiveValue => hertz(line),
         _ => signed_number(line, 51, 56, 9),
     }
-}
-
-/// The number A; a refused one doesn't matter.
-fn a_of(line: &[u8], code: DeviceCode) -> i64
-    ensures value { result ≡ a_of line.now code }
-    ensures range { HasRangeOfA code result }
-{
-    a_by(line, code).unwrap_or(1)
 }
 
 fn delay(line: &[u8]) -> Result<i64, Why>
@@ -188,36 +197,26 @@ fn hertz(line: &[u8]) -> Result<i64, Why>
     required(line, 51, 56, 6, 1, 10_000_000_000_000)
 }
 
-/// The number B or C, in the six columns from `first` on.
-fn plain(line: &[u8], first: usize) -> Result<i64, Why>
-    requires low { 1 ≤ first }
-    requires high { first ≤ 75 }
-    ensures value { result ≡ plain_field line.now first }
-    ensures small { IfOk result IsSmall }
+/// The variable D.
+fn named_d(line: &[u8], code: DeviceCode) -> Result<Option<Name>, Fault>
+    ensures value { result ≡ d_field line.now code }
+    ensures some { IfOk result (λ d. IsTrue (needs_d code) → IsSome d) }
 {
-    signed_number(line, first, first + 5, 9)
-}
-
-/// The number B or C; a refused one doesn't matter.
-fn plain_of(line: &[u8], first: usize) -> i64
-    requires low { 1 ≤ first }
-    requires high { first ≤ 75 }
-    ensures value { result ≡ plain_of line.now first }
-    ensures small { IsSmall result }
-{
-    plain(line, first).unwrap_or(0)
+    d_by(code, in_column(69, field_name(line, 69))?)
 }
 
 /// A device that looks at a variable D has one.
-fn d_fault(code: &Result<DeviceCode, Why>, d: &Result<Option<Name>, Why>) -> Option<Fault>
-    ensures { result ≡ d_fault code.now d.now }
+fn d_by(code: DeviceCode, d: Option<Name>) -> Result<Option<Name>, Fault>
+    ensures value { result ≡ d_by code d }
+    ensures some { IfOk result (λ name. IsTrue (needs_d code) → IsSome name) }
 {
-    match (code, d) {
-        (Ok(code), Ok(None)) if needs_d(*code) => Some(Fault {
+    match d {
+        Some(name) => Ok(Some(name)),
+        None if needs_d(code) => Err(Fault {
             column: 69,
             why: Why::BadName,
         }),
-        _ => None,
+        None => Ok(None),
     }
 }
 
@@ -228,4 +227,33 @@ fn needs_d(code: DeviceCode) -> bool
         code,
         DeviceCode::Gate | DeviceCode::GateAbove | DeviceCode::Selector
     )
+}
+
+/// The inputs, and the variable E.
+#[tactic(auto, unfolding(crate::specs::DeviceCard::variables_of))]
+fn named_variables(line: &[u8]) -> Result<Variables, Fault>
+    ensures { result ≡ variables_of line.now }
+{
+    both(inputs(line), in_column(75, field_name(line, 75)))
+}
+
+/// The numbers B and C.
+#[tactic(auto, unfolding(crate::specs::DeviceCard::plain_fields))]
+fn plain_numbers(line: &[u8]) -> Result<(i64, i64), Fault>
+    ensures value { result ≡ plain_fields line.now }
+    ensures b { IfOk result (λ plain. IsSmall plain.0) }
+    ensures c { IfOk result (λ plain. IsSmall plain.1) }
+{
+    both(plain(line, 57), plain(line, 63))
+}
+
+/// The number in the six columns from `first` on.
+fn plain(line: &[u8], first: u32) -> Result<i64, Fault>
+    requires low { 1 ≤ first }
+    requires high { first ≤ 75 }
+    ensures value { result ≡ plain_field line.now first }
+    ensures small { IfOk result IsSmall }
+{
+    let last = first as usize + 5;
+    in_column(first, signed_number(line, first as usize, last, 9))
 }

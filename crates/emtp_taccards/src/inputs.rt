@@ -1,66 +1,56 @@
 //! The signed inputs of a block or a device.
 
 ghost use Rattle.std.specs.Prelude.{◌≡◌, ◌≤◌};
-ghost use Rattle.emtp_taccards.specs.Inputs.{input_fault, input_of, inputs, inputs_fault, is_minus, minus_field, signed_name};
+ghost use Rattle.emtp_taccards.specs.Inputs.{four_inputs, input, inputs, is_minus, minus_field, signed_name};
 
-use emtp_card::{Fault, Why, byte_at, fault_at, field_name, least};
+use emtp_card::{Fault, Why, byte_at, field_name};
 use emtp_case::Name;
+use emtp_netcards::{both, in_column};
 
-/// The five inputs, each whether it is a minus, and its name; a refused one doesn't matter.
-pub(crate) fn inputs(line: &[u8]) -> [Option<(bool, Name)>; 5]
+/// An input: whether it is a minus, and its name.
+type Input = Option<(bool, Name)>;
+
+/// The five inputs, each whether it is a minus, and its name.
+#[tactic(auto, unfolding(crate::specs::Inputs::inputs))]
+pub(crate) fn inputs(line: &[u8]) -> Result<[Option<(bool, Name)>; 5], Fault>
     ensures { result ≡ inputs line.now }
 {
-    [
-        input(line, 11),
-        input(line, 19),
-        input(line, 27),
-        input(line, 35),
-        input(line, 43),
-    ]
+    let (((a, b), (c, d)), e) = both(four_inputs(line), input(line, 43))?;
+    Ok([a, b, c, d, e])
 }
 
-/// The least fault of the five inputs.
-#[tactic(auto, unfolding(crate::specs::Inputs::inputs_fault))]
-pub(crate) fn inputs_fault(line: &[u8]) -> Option<Fault>
-    ensures { result ≡ inputs_fault line.now }
+/// The first four inputs.
+#[tactic(auto, unfolding(crate::specs::Inputs::four_inputs))]
+fn four_inputs(line: &[u8]) -> Result<((Input, Input), (Input, Input)), Fault>
+    ensures { result ≡ four_inputs line.now }
 {
-    least(&[
-        input_fault(line, 11),
-        input_fault(line, 19),
-        input_fault(line, 27),
-        input_fault(line, 35),
-        input_fault(line, 43),
-    ])
+    both(
+        both(input(line, 11), input(line, 19)),
+        both(input(line, 27), input(line, 35)),
+    )
 }
 
-/// The input whose sign stands in this column.
-fn input(line: &[u8], column: usize) -> Option<(bool, Name)>
+/// The input whose sign stands in this column; a sign is judged also where its name is blank.
+#[tactic(auto, unfolding(crate::specs::Inputs::input))]
+fn input(line: &[u8], column: u32) -> Result<Input, Fault>
     requires low { 1 ≤ column }
     requires high { column ≤ 43 }
-    ensures { result ≡ input_of line.now column }
+    ensures { result ≡ input line.now column }
 {
-    signed_name(minus(line, column), field_name(line, column + 1))
+    let sign = in_column(column, minus(line, column as usize));
+    let name = in_column(column + 1, field_name(line, column as usize + 1));
+    let (minus, name) = both(sign, name)?;
+    Ok(signed_name(minus, name))
 }
 
-fn signed_name(minus: Result<bool, Why>, name: Result<Option<Name>, Why>) -> Option<(bool, Name)>
+/// An input without a name is none.
+fn signed_name(minus: bool, name: Option<Name>) -> Input
     ensures { result ≡ signed_name minus name }
 {
-    match (minus, name) {
-        (Ok(minus), Ok(Some(name))) => Some((minus, name)),
-        _ => None,
+    match name {
+        Some(name) => Some((minus, name)),
+        None => None,
     }
-}
-
-#[tactic(auto, unfolding(crate::specs::Inputs::input_fault))]
-fn input_fault(line: &[u8], column: usize) -> Option<Fault>
-    requires low { 1 ≤ column }
-    requires high { column ≤ 43 }
-    ensures { result ≡ input_fault line.now column }
-{
-    least(&[
-        fault_at(column as u32, &minus(line, column)),
-        fault_at(column as u32 + 1, &field_name(line, column + 1)),
-    ])
 }
 
 /// Whether the sign in a column is a minus.

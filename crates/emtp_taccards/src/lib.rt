@@ -1,13 +1,13 @@
 //! The cards of the control: each call reads one card, and answers its record or the least fault that the card gives.
 //!
-//! A reader is a table, as in emtp_netcards: an array with one entry a field or rule over fields, alike in the code and
-//! in its definition in `specs/`, which names each field once with its columns, scale, range and blank value. Fields that
-//! the control's sources and outputs share with those of the network are read by that crate's calls. Names aren't
-//! resolved, and what needs another card or the time step is judged by the reader of the deck. The cards are those of
-//! the EMTP's TACS; the columns are this project's own.
+//! Each field of a card is read once, as in emtp_netcards and by its words: what was read is joined side by side, and a
+//! rule over fields is judged where all of them were read, alike in the code and in its definition in `specs/`; so a
+//! card's record and its least fault are one value. Parts that the control's sources and outputs share with those of the
+//! network are read by that crate's calls. Names aren't resolved, and what needs another card or the time step is judged
+//! by the reader of the deck. The cards are those of the EMTP's TACS; the columns are this project's own.
 //!
-//! The crate stands on the fields and faults of `emtp_card`, the shared fields of `emtp_netcards`, the expressions of
-//! `emtp_expr`, the records of `emtp_case` and the units of `emtp_fix`.
+//! The crate stands on the fields and faults of `emtp_card`, the words and the shared parts of `emtp_netcards`, the
+//! expressions of `emtp_expr`, the records of `emtp_case` and the units of `emtp_fix`.
 //!
 //! ```text
 //! let line = Line { number: 7, bytes: b"98DBL     = 2.0*MID + 1.0" };

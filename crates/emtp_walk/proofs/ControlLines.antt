@@ -1,24 +1,20 @@
 -- The line of a card of the control is that on which it stands.
-use Rattle.std.proofs.Common.{◌≡◌, ◌∙◌, sym, subst, refl, ℕ, Bool, true, false, List, Result, Ok, Err}
+use Rattle.std.proofs.Common.{◌≡◌, sym, subst, refl, ℕ, Bool, true, false, List, Result, Ok, Err}
 use Rattle.std.specs.Prelude.{if◌then◌else◌}
-use Rattle.emtp_card.specs.Fault.{judge}
 use Rattle.emtp_card.specs.Lines.{fault_of_line}
-use Rattle.emtp_card.specs.Name.{name_field}
 use Rattle.emtp_card.specs.declared.reason.Bad.{Bad}
-use Rattle.emtp_card.specs.declared.reason.Why.{Why}
-use Rattle.emtp_case.specs.declared.control.DeviceCode.{DeviceCode}
 use Rattle.emtp_case.specs.declared.control.Group.{Group}
 use Rattle.emtp_expr.specs.Parsing.{expression_of}
 use Rattle.emtp_expr.specs.declared.parsing.Parsed.{Parsed}
-use Rattle.emtp_netcards.specs.Fields.{needed}
 use Rattle.emtp_netcards.specs.Reading.{card_on}
 use Rattle.emtp_netcards.specs.declared.source_card.SourceCard.{SourceCard}
-use Rattle.emtp_taccards.specs.BlockCard.{block_card, block_fault, block_with}
-use Rattle.emtp_taccards.specs.DeviceCard.{code_field, device_card, device_fault, device_with}
+use Rattle.emtp_taccards.specs.BlockCard as blocks
+use Rattle.emtp_taccards.specs.BlockCard.{block_card}
+use Rattle.emtp_taccards.specs.DeviceCard as devices
+use Rattle.emtp_taccards.specs.DeviceCard.{device_card}
 use Rattle.emtp_taccards.specs.ExtraCard.{as_device, as_formula, extra_card, is_formula}
 use Rattle.emtp_taccards.specs.FormulaCard as formulas
 use Rattle.emtp_taccards.specs.FormulaCard.{expression_text, formula_by, formula_card}
-use Rattle.emtp_taccards.specs.Group.{group_field}
 use Rattle.emtp_taccards.specs.TacsSourceCard as sources
 use Rattle.emtp_taccards.specs.TacsSourceCard.{tacs_source_card}
 use Rattle.emtp_taccards.specs.declared.block_card.BlockCard.{BlockCard}
@@ -27,19 +23,13 @@ use Rattle.emtp_taccards.specs.declared.extra_card.ExtraCard.{ExtraCard}
 use Rattle.emtp_taccards.specs.declared.extra_card.ExtraCard.TheVariants.{Device, Formula}
 use Rattle.emtp_taccards.specs.declared.formula_card.FormulaCard.{FormulaCard}
 use Rattle.emtp_netcards.proofs.Readings.{by, made}
-use Rattle.emtp_walk.proofs.ControlNames.{accepted, ok_is}
+use Rattle.emtp_walk.proofs.ControlNames.{ok_is}
 
 -- ---- blocks
 
-block_stands : (number : ℕ) (line : List ℕ) (name : Result (List ℕ) Why) (card : BlockCard) → block_with number line name ≡ Ok card → card.line ≡ number
-block_stands number line (Ok name) card h = sym (ok_is (λ (c : BlockCard). c.line) _ card h)
-block_stands number line (Err why) card h = absurd (cc)
-
 pub block_line : (number : ℕ) (line : List ℕ) (card : BlockCard) → block_card number line ≡ Ok card → card.line ≡ number
-unfolding block_card
-block_line number line card h =
-    let both = accepted (judge number line (block_fault line)) (block_with number line (needed (name_field line 3))) card h in
-    block_stands number line (needed (name_field line 3)) card both.1
+unfolding block_card blocks.fields_of
+block_line number line card h = made _ _ (λ (c : BlockCard). c.line) number card (λ x. refl) (by number (fault_of_line line) _ card h)
 
 -- ---- sources
 
@@ -49,17 +39,9 @@ tacs_source_line number line card h = made _ _ (λ (c : SourceCard). c.line) num
 
 -- ---- devices and formulas
 
-device_stands : (number : ℕ) (line : List ℕ) (group : Result Group Why) (name : Result (List ℕ) Why) (code : Result DeviceCode Why) (card : DeviceCard) → device_with number line group name code ≡ Ok card → card.line ≡ number
-device_stands number line (Ok group) (Ok name) (Ok code) card h = sym (ok_is (λ (c : DeviceCard). c.line) _ card h)
-device_stands number line (Ok group) (Ok name) (Err why) card h = absurd (cc)
-device_stands number line (Ok group) (Err why) code card h = absurd (cc)
-device_stands number line (Err why) name code card h = absurd (cc)
-
 device_line : (number : ℕ) (line : List ℕ) (card : DeviceCard) → device_card number line ≡ Ok card → card.line ≡ number
-unfolding device_card
-device_line number line card h =
-    let both = accepted (judge number line (device_fault line (code_field line))) (device_with number line (group_field line) (needed (name_field line 3)) (code_field line)) card h in
-    device_stands number line (group_field line) (needed (name_field line 3)) (code_field line) card both.1
+unfolding device_card devices.fields_of
+device_line number line card h = made _ _ (λ (c : DeviceCard). c.line) number card (λ x. refl) (by number (fault_of_line line) _ card h)
 
 formula_stands : (number : ℕ) (head : Result (Group × List ℕ) Bad) (parsed : Result Parsed ℕ) (card : FormulaCard) → formula_by number head parsed ≡ Ok card → card.line ≡ number
 formula_stands number (Ok head) (Ok parsed) card h = sym (ok_is (λ (c : FormulaCard). c.line) _ card h)

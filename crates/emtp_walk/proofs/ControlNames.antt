@@ -1,34 +1,33 @@
 -- The name that a card of the control gives is a name of a case.
-use Rattle.std.proofs.Common.{◌≡◌, ◌≢◌, ◌∙◌, sym, ap, subst, refl, ℕ, suc, ◌+◌, ◌-◌, ◌≤◌, min, Bool, true, false, List, [], ◌∷◌, length, drop, Option, Some, None, Result, Ok, Err, arith}
+use Rattle.std.proofs.Common.{◌≡◌, ◌≢◌, ◌∙◌, ap, subst, refl, ℕ, suc, ◌+◌, ◌-◌, ◌≤◌, min, ℤ, Bool, true, false, List, [], ◌∷◌, length, drop, Option, None, Result, Ok, Err, arith}
 use Rattle.std.proofs.lemmas.List.{length-take}
 use Rattle.std.specs.List.{list_all, list_any}
 use Rattle.std.specs.Prelude.{if◌then◌else◌, cond}
-use Rattle.emtp_card.specs.Fault.{judge, judge_by}
 use Rattle.emtp_card.specs.Field.{columns, field_of, filled, trimmed, without_leading, without_trailing}
 use Rattle.emtp_card.specs.Lines.{fault_of_line, is_blank}
 use Rattle.emtp_card.specs.Name.{is_comma, name_field, named}
-use Rattle.emtp_card.specs.declared.fault.Fault.{Fault}
 use Rattle.emtp_card.specs.declared.reason.Bad.{Bad}
 use Rattle.emtp_card.specs.declared.reason.Why.{Why}
 use Rattle.emtp_card.specs.declared.reason.Why.TheVariants.{BadName}
 use Rattle.emtp_card.proofs.Names.{field_is_name}
 use Rattle.emtp_case.specs.held.Name.{IsName}
-use Rattle.emtp_case.specs.declared.control.DeviceCode.{DeviceCode}
 use Rattle.emtp_case.specs.declared.control.Group.{Group}
 use Rattle.emtp_walk.specs.held.Sound.{IsExtraDue}
 use Rattle.emtp_expr.specs.Parsing.{expression_of}
 use Rattle.emtp_expr.specs.declared.parsing.Parsed.{Parsed}
 use Rattle.emtp_netcards.specs.Fields.{needed}
 use Rattle.emtp_netcards.specs.Reading.{both, card_on, in_column, judged}
-use Rattle.emtp_netcards.specs.SourceCard.{unless_judged}
 use Rattle.emtp_netcards.specs.declared.source_card.SourceCard.{SourceCard}
-use Rattle.emtp_taccards.specs.BlockCard.{block_card, block_fault, block_with}
-use Rattle.emtp_taccards.specs.DeviceCard.{code_field, device_card, device_fault, device_with}
+use Rattle.emtp_taccards.specs.BlockCard as blocks
+use Rattle.emtp_taccards.specs.BlockCard.{Limits, block_card, block_record, gain_field, limits_of, order_and_name, order_field}
+use Rattle.emtp_taccards.specs.DeviceCard as devices
+use Rattle.emtp_taccards.specs.DeviceCard.{Coded, Variables, code_field, coded_by, device_card, device_record, plain_fields, variables_of}
 use Rattle.emtp_taccards.specs.ExtraCard.{as_device, as_formula, extra_card, is_formula}
 use Rattle.emtp_taccards.specs.held.ExtraCard.{HasExtraNumbers}
 use Rattle.emtp_taccards.specs.FormulaCard as formulas
 use Rattle.emtp_taccards.specs.FormulaCard.{equals_field, expression_text, formula_by, formula_card}
 use Rattle.emtp_taccards.specs.Group.{group_field, head_of}
+use Rattle.emtp_taccards.specs.Inputs.{inputs}
 use Rattle.emtp_taccards.specs.TacsSourceCard as sources
 use Rattle.emtp_taccards.specs.TacsSourceCard.{Course, Times, signal_field, source_record, tacs_source_card, value_of}
 use Rattle.emtp_taccards.specs.declared.block_card.BlockCard.{BlockCard}
@@ -93,31 +92,28 @@ name_is line first name whole h = by_test (list_any is_comma (columns line first
 column_name : (line name : List ℕ) → fault_of_line line ≡ None → in_column 3 (needed (name_field line 3)) ≡ Ok name → IsName name
 column_name line name whole h = name_is line 3 name whole (field_of_column 3 (needed (name_field line 3)) name h)
 
-no_fault : (number : ℕ) (found : Option (ℕ × Why)) (fields : Option Fault) → judge_by number found fields ≡ None → found ≡ None
-no_fault number (Some f) fields e = absurd (cc)
-no_fault number None fields e = refl
-
-line_whole : (number : ℕ) (line : List ℕ) (fields : Option Fault) → judge number line fields ≡ None → fault_of_line line ≡ None
-line_whole number line fields e = no_fault number (fault_of_line line) fields e
-
-pub accepted : {A : Type 0} (bad : Option Bad) (r : Result A Bad) (x : A) → unless_judged bad r ≡ Ok x → (bad ≡ None) × (r ≡ Ok x)
-accepted (Some bad) r x h = absurd (cc)
-accepted None r x h = (refl, h)
-
 pub ok_is : {A B : Type 0} (f : A → B) (x y : A) → ◌≡◌ {A = Result A Bad} (Ok x) (Ok y) → f x ≡ f y
 ok_is f x y h = let same : x ≡ y = cc in ap f same
 
 -- ---- blocks
 
-block_named : (number : ℕ) (line : List ℕ) (name : Result (List ℕ) Why) (card : BlockCard) → block_with number line name ≡ Ok card → name ≡ Ok card.name
-block_named number line (Ok name) card h = ap Ok (ok_is (λ (c : BlockCard). c.name) _ card h)
-block_named number line (Err why) card h = absurd (cc)
+abbrev Signed : Type 0
+Signed = List (Option (Bool × List ℕ))
+
+abbrev BlockParts : Type 0
+BlockParts = ((ℕ × List ℕ) × Signed) × (ℤ × Limits)
 
 pub block_name : (number : ℕ) (line : List ℕ) (card : BlockCard) → block_card number line ≡ Ok card → IsName card.name
-unfolding block_card
+unfolding block_card blocks.fields_of order_and_name
 block_name number line card h =
-    let both = accepted (judge number line (block_fault line)) (block_with number line (needed (name_field line 3))) card h in
-    name_is line 3 card.name (line_whole number line (block_fault line) both.0) (block_named number line (needed (name_field line 3)) card both.1)
+    let order = in_column 1 (order_field line) in
+    let name = in_column 3 (needed (name_field line 3)) in
+    let head = both order name in
+    let gain = in_column 51 (gain_field line) in
+    let record_of : BlockParts → BlockCard = λ p. block_record number p.0.0 p.0.1 p.1.0 p.1.1 in
+    made_of (IsName card.name) (both (both head (inputs line)) (both gain (limits_of line))) record_of card (by number (fault_of_line line) _ card h) (λ p read same.
+    let front = each_of head (inputs line) p.0 (each_of (both head (inputs line)) (both gain (limits_of line)) p read).0 in
+    subst IsName (ap (λ (c : BlockCard). c.name) same) (column_name line p.0.0.1 (whole_by number (fault_of_line line) _ card h) (each_of order name p.0.0 front.0).1))
 
 -- ---- sources
 
@@ -132,19 +128,6 @@ source_name number line card h =
 
 -- ---- devices and formulas
 
-device_named : (number : ℕ) (line : List ℕ) (group : Result Group Why) (name : Result (List ℕ) Why) (code : Result DeviceCode Why) (card : DeviceCard) → device_with number line group name code ≡ Ok card → name ≡ Ok card.name
-device_named number line (Ok group) (Ok name) (Ok code) card h = ap Ok (ok_is (λ (c : DeviceCard). c.name) _ card h)
-device_named number line (Ok group) (Ok name) (Err why) card h = absurd (cc)
-device_named number line (Ok group) (Err why) code card h = absurd (cc)
-device_named number line (Err why) name code card h = absurd (cc)
-
-device_name : (number : ℕ) (line : List ℕ) (card : DeviceCard) → device_card number line ≡ Ok card → IsName card.name
-unfolding device_card
-device_name number line card h =
-    let fields = device_fault line (code_field line) in
-    let both = accepted (judge number line fields) (device_with number line (group_field line) (needed (name_field line 3)) (code_field line)) card h in
-    name_is line 3 card.name (line_whole number line fields both.0) (device_named number line (group_field line) (needed (name_field line 3)) (code_field line) card both.1)
-
 -- group and name, which a card of either kind begins with
 abbrev Head : Type 0
 Head = Group × List ℕ
@@ -152,6 +135,20 @@ Head = Group × List ℕ
 head_name : (line : List ℕ) (head : Head) → fault_of_line line ≡ None → head_of line ≡ Ok head → IsName head.1
 unfolding head_of
 head_name line head whole h = column_name line head.1 whole (each_of (in_column 1 (group_field line)) (in_column 3 (needed (name_field line 3))) head h).1
+
+abbrev DeviceParts : Type 0
+DeviceParts = (Head × Coded) × (Variables × (ℤ × ℤ))
+
+device_name : (number : ℕ) (line : List ℕ) (card : DeviceCard) → device_card number line ≡ Ok card → IsName card.name
+unfolding device_card devices.fields_of
+device_name number line card h =
+    let coded = judged (in_column 9 (code_field line)) (coded_by line) in
+    let front = both (head_of line) coded in
+    let back = both (variables_of line) (plain_fields line) in
+    let record_of : DeviceParts → DeviceCard = λ p. device_record number p.0.0 p.0.1 p.1.0 p.1.1 in
+    made_of (IsName card.name) (both front back) record_of card (by number (fault_of_line line) _ card h) (λ p read same.
+    subst IsName (ap (λ (c : DeviceCard). c.name) same)
+    (head_name line p.0.0 (whole_by number (fault_of_line line) _ card h) (each_of (head_of line) coded p.0 (each_of front back p read).0).0))
 
 formula_head : (line : List ℕ) (head : Head) → formulas.fields_of line ≡ Ok head → head_of line ≡ Ok head
 unfolding formulas.fields_of

@@ -1,5 +1,5 @@
 -- Beside `BlockCard`: what values hold for their proofs, and what premises say. No clause of the program reaches it.
-use Rattle.std.specs.Prelude.{◌≡◌, ◌≢◌, ◌≤◌, pos, false, None}
+use Rattle.std.specs.Prelude.{◌≡◌, ◌≢◌, ◌≤◌, pos, false}
 use Rattle.std.specs.Option.{ForSome}
 use Rattle.emtp_netcards.specs.held.Fields.{IsSmall}
 use Rattle.emtp_taccards.specs.declared.block_card.BlockCard.{BlockCard}
@@ -15,4 +15,4 @@ pub record HasBlockNumbers (card : BlockCard) : Type 0 where
 
 -- its fixed limits don't cross, where neither is replaced by a named one
 abbrev pub HasLimitsInOrder : BlockCard → Type 0
-HasLimitsInOrder card = card.low_name ≡ None → card.high_name ≡ None → are_crossed card.low card.high ≡ false
+HasLimitsInOrder card = are_crossed card.low card.high card.low_name card.high_name ≡ false
