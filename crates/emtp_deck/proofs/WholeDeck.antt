@@ -1,6 +1,6 @@
 -- The case of a deck whose record isn't too large.
 use Rattle.emtp_case.specs.declared.limit.TheConstants.{MOST_STORED_VALUES}
-use Rattle.std.proofs.Common.{◌≡◌, ◌∙◌, ap, ℕ, ◌+◌, ◌*◌, ◌≤◌, false, Some, Ok, Err, arith, Bool, None, Result}
+use Rattle.std.proofs.Common.{◌≡◌, ◌∙◌, ap, ℕ, ◌+◌, ◌*◌, ◌≤◌, false, Option, Some, Ok, Err, arith, Bool, None, Result}
 use Rattle.std.proofs.Math.Nat.{mul-le-mul_right}
 use Rattle.std.proofs.lemmas.Bool.Decides.{nat_tests}
 use Rattle.std.specs.Prelude.{nat_lt}
@@ -22,7 +22,6 @@ use Rattle.emtp_sense.specs.Variables.{variable_names}
 use Rattle.emtp_walk.specs.declared.deck.Deck.{Deck}
 use Rattle.emtp_walk.specs.declared.deck.Place.{Place}
 use Rattle.emtp_walk.specs.declared.deck.Place.TheVariants.{After}
-use Rattle.emtp_netcards.specs.SourceCard.{unless_judged}
 
 small : (n m : ℕ) → nat_lt n m ≡ false → m ≤ n
 small n m e = grind (arith, nat_tests)
@@ -45,14 +44,14 @@ stored_within deck seen m few h =
 pub of_control : (line : ℕ) (deck : Deck) (place : Place) (bad : Bad) → has_too_many (known_nodes deck place) (variable_names deck place) deck place ≡ false → control_bad (known_nodes deck place) (variable_names deck place) deck place ≡ Some bad → filled line deck place ≡ Err bad
 unfolding filled
 of_control line deck place bad few e =
-    rw few (ap (λ b. go_on (λ (m : Made). unless_bad (unfinished line m place) (case_of deck m)) (unless_judged b (made_of_deck (variable_names deck place) deck))) e)
+    rw few (ap (λ (b : Option Bad). go_on (λ (sensible : Unit {0}). go_on (λ (m : Made). unless_bad (unfinished line m place) (case_of deck m)) (made_of_deck (variable_names deck place) deck)) (unless_bad b tt)) e)
 
 -- the faults of the network behind it
 pub of_network : (line : ℕ) (deck : Deck) (place : Place) (made : Result Made Bad) → has_too_many (known_nodes deck place) (variable_names deck place) deck place ≡ false → control_bad (known_nodes deck place) (variable_names deck place) deck place ≡ None
     → made_of_deck (variable_names deck place) deck ≡ made → filled line deck place ≡ go_on (λ (m : Made). unless_bad (unfinished line m place) (case_of deck m)) made
 unfolding filled
 of_network line deck place made few none h =
-    rw few (ap (λ b. go_on (λ (m : Made). unless_bad (unfinished line m place) (case_of deck m)) (unless_judged b (made_of_deck (variable_names deck place) deck))) none
+    rw few (ap (λ (b : Option Bad). go_on (λ (sensible : Unit {0}). go_on (λ (m : Made). unless_bad (unfinished line m place) (case_of deck m)) (made_of_deck (variable_names deck place) deck)) (unless_bad b tt)) none
     ∙ ap (go_on (λ (m : Made). unless_bad (unfinished line m place) (case_of deck m))) h)
 
 pub stopped : (line : ℕ) (deck : Deck) (place : Place) (refused : Refused) (left : Made) → has_too_many (known_nodes deck place) (variable_names deck place) deck place ≡ false → control_bad (known_nodes deck place) (variable_names deck place) deck place ≡ None

@@ -1,12 +1,12 @@
 -- The deck: the case of the lines, or the one fault that decides. A fault of form decides first; then the faults of sense go
 -- in the order of their lines, as the sections do.
-use Rattle.std.specs.Prelude.{ℕ, ◌+◌, Bool, true, false, List, length, Option, Some, None, Result, Err, if◌then◌else◌, map}
+use Rattle.std.specs.Prelude.{ℕ, ◌+◌, Bool, true, false, List, length, Option, Some, None, Result, Ok, Err, if◌then◌else◌, map}
 use Rattle.std.specs.Str.Lines.{lines}
 use Rattle.emtp_card.specs.Fault.{unless_bad}
 use Rattle.emtp_card.specs.declared.reason.Bad.{Bad}
 use Rattle.emtp_card.specs.declared.reason.Why.TheVariants.{MissingSection}
 use Rattle.emtp_case.specs.declared.case.Parts.{Parts}
-use Rattle.emtp_walk.specs.Answer.{first_bad, go_on}
+use Rattle.emtp_walk.specs.Answer.{◌>>=◌, first_bad}
 use Rattle.emtp_deck.specs.Branches.{pending_fault, take_branches}
 use Rattle.emtp_deck.specs.ControlFilling.{control_parts, tacs_source_of}
 use Rattle.emtp_sense.specs.ControlSense.{control_bad}
@@ -21,7 +21,6 @@ use Rattle.emtp_walk.specs.Walk.{empty_deck, walk}
 use Rattle.emtp_walk.specs.declared.deck.Deck.{Deck}
 use Rattle.emtp_walk.specs.declared.deck.Place.{Place}
 use Rattle.emtp_walk.specs.declared.deck.Place.TheVariants.{After, Begin, Branches, First, Outputs, Points, Second, Sources, Start, Switches, Third, Waiting, Control}
-use Rattle.emtp_netcards.specs.SourceCard.{unless_judged}
 
 -- what the control makes before the network, given the names of its variables
 abbrev pub control_made : List (List ℕ) → Deck → Made
@@ -30,11 +29,11 @@ control_made variables deck = record { parts = control_parts variables deck; ask
 -- the cards of all sections
 abbrev pub made_of_deck : List (List ℕ) → Deck → Result Made Bad
 made_of_deck variables deck =
-    go_on (λ (m : Made). take_outputs m deck.outputs)
-    (go_on (λ (m : Made). take_sources m deck.sources)
-    (go_on (λ (m : Made). take_switches m deck.switches)
-    (go_on (λ (m : Made). take_branches deck.points m deck.branches)
-    (take_tacs_outputs (control_made variables deck) deck.control.outputs))))
+    take_tacs_outputs (control_made variables deck) deck.control.outputs
+    >>= (λ (m : Made). take_branches deck.points m deck.branches)
+    >>= (λ (m : Made). take_switches m deck.switches)
+    >>= (λ (m : Made). take_sources m deck.sources)
+    >>= (λ (m : Made). take_outputs m deck.outputs)
 
 abbrev pub is_ended : Place → Bool
 is_ended Begin = false
@@ -65,13 +64,22 @@ case_of deck m = record m.parts {
   channels = all_asked m.asked;
 }
 
+abbrev pub few_samples : List (List ℕ) → List (List ℕ) → Deck → Place → Result (Unit {0}) Bad
+few_samples nodes variables deck place = if has_too_many nodes variables deck place then Err (samples_bad deck) else Ok tt
+
+abbrev pub sensible_control : List (List ℕ) → List (List ℕ) → Deck → Place → Result (Unit {0}) Bad
+sensible_control nodes variables deck place = unless_bad (control_bad nodes variables deck place) tt
+
+-- given the names of nodes and variables: the size of the record, the control, the network, and what is missing at the end
+abbrev pub filled_by : List (List ℕ) → List (List ℕ) → ℕ → Deck → Place → Result Parts Bad
+filled_by nodes variables line deck place = do
+  few ← few_samples nodes variables deck place
+  sensible ← sensible_control nodes variables deck place
+  m ← made_of_deck variables deck
+  unless_bad (unfinished line m place) (case_of deck m)
+
 unfoldable pub filled : ℕ → Deck → Place → Result Parts Bad
-filled line deck place =
-    let nodes = known_nodes deck place in
-    let variables = variable_names deck place in
-    if has_too_many nodes variables deck place then Err (samples_bad deck)
-    else go_on (λ (m : Made). unless_bad (unfinished line m place) (case_of deck m))
-    (unless_judged (control_bad nodes variables deck place) (made_of_deck variables deck))
+filled line deck place = filled_by (known_nodes deck place) (variable_names deck place) line deck place
 
 unfoldable pub deck_of : List (List ℕ) → Result Parts Bad
-deck_of lines = go_on (λ (read : Deck × Place). filled (length lines + 1) read.0 read.1) (walk 1 empty_deck Begin lines)
+deck_of lines = walk 1 empty_deck Begin lines >>= (λ (read : Deck × Place). filled (length lines + 1) read.0 read.1)

@@ -90,11 +90,16 @@ unfinished_refused line m place =
 -- ---- the whole deck
 
 stored : (many : Bool) (deck : Deck) (rest : List Judged) (r : Result Parts Bad) (case : Parts) → r ≡ unless_bad (first_refusal rest) case
-    → (if many then Err (samples_bad deck) else r)
+    → go_on (λ (few : Unit {0}). r) (if◌then◌else◌ {A = Result (Unit {0}) Bad} many (Err (samples_bad deck)) (Ok tt))
     ≡ unless_bad (first_refusal (record { line = deck.second; faults = (if◌then◌else◌ {A = Option Fault} many (Some (record { column = 9; why = TooManySamples })) None) ∷ [] } ∷ rest)) case
 unfolding least
 stored true deck rest r case e = refl
 stored false deck rest r case e = e
+
+-- what is judged before the cards stands before all that is made of them
+judged_before : {A B : Type 0} (b : Option Bad) (f : A → Result B Bad) (r : Result A Bad) → go_on (λ (sensible : Unit {0}). go_on f r) (unless_bad b tt) ≡ go_on f (unless_judged b r)
+judged_before (Some bad) f r = refl
+judged_before None f r = refl
 
 pub deck_refused : (lines : ℕ) (deck : Deck) (place : Place) → filled (lines + 1) deck place ≡ unless_bad (first_refusal (judged_cards lines deck place)) (case_of deck (made_of_all (variable_names deck place) deck))
 unfolding filled
@@ -106,7 +111,8 @@ deck_refused lines deck place =
     let m = made_of_all variables deck in
     let end : List Judged = judged_cut_branches m place ++ record { line = lines + 1; faults = end_faults place } ∷ [] in
     stored (has_too_many nodes variables deck place) deck (control ++ sections ++ end) _ (case_of deck m)
-    (more_cards (λ (made : Made). unless_bad (unfinished (lines + 1) made place) (case_of deck made)) (control ++ sections) end _ m (case_of deck m)
+    (judged_before (control_bad nodes variables deck place) (λ (made : Made). unless_bad (unfinished (lines + 1) made place) (case_of deck made)) (made_of_deck variables deck)
+    ∙ more_cards (λ (made : Made). unless_bad (unfinished (lines + 1) made place) (case_of deck made)) (control ++ sections) end _ m (case_of deck m)
     (ap (unless_judged (control_bad nodes variables deck place)) (sections_made variables deck)
     ∙ judged_first (control_bad nodes variables deck place) (first_refusal sections) m
     ∙ ap (λ a. unless_bad (first_bad a (first_refusal sections)) m) (control_refused nodes variables deck place)

@@ -11,3 +11,8 @@ first_bad None other = other
 abbrev pub go_on : {A B : Type 0} → (A → Result B Bad) → Result A Bad → Result B Bad
 go_on f (Ok x) = f x
 go_on f (Err bad) = Err bad
+
+-- 'do' says the same
+infixl 10 ◌>>=◌
+abbrev pub ◌>>=◌ : {A B : Type 0} → Result A Bad → (A → Result B Bad) → Result B Bad
+read >>= next = go_on next read
