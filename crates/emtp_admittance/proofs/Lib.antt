@@ -1,5 +1,6 @@
 pub mod Reactances
 pub mod LeastLines
+pub mod PortPlaces
 pub mod Frequencies
 pub mod Probing
 pub mod ResistanceAlone

@@ -1,13 +1,15 @@
 -- The admittances of branches at a frequency, which is in micro-hertz.
 use Rattle.std.specs.Ordering.{int_eq}
-use Rattle.std.specs.Prelude.{◌||◌, ◌^◌, ◌*◌, ℤ, pos, neg_ℤ, ◌+ℤ◌, ◌-ℤ◌, ◌*ℤ◌, unsigned_abs, nat_lt, Bool, if◌then◌else◌, Option, Some, None, Result, Ok, Err}
+use Rattle.std.specs.Prelude.{◌||◌, ◌^◌, ◌*◌, ℤ, pos, neg_ℤ, ◌+ℤ◌, ◌-ℤ◌, ◌*ℤ◌, unsigned_abs, nat_lt, Bool, if◌then◌else◌, List, map, Option, Some, None, Result, Ok, Err}
 use Rattle.emtp_fix.specs.Rounding.{near}
 use Rattle.emtp_fix.specs.declared.limit.TheConstants.{ATTO, LARGEST_ENTRY, LARGEST_IMPEDANCE, PICO}
 use Rattle.emtp_case.specs.declared.branch.Branch.{Branch}
 use Rattle.emtp_case.specs.declared.branch.Branch.TheVariants.{Lumped as OfLumped, Line as OfLine, Pseudo as OfPseudo, Phase as OfPhase}
 use Rattle.emtp_case.specs.declared.branch.Line.{Line}
 use Rattle.emtp_case.specs.declared.branch.Lumped.{Lumped}
+use Rattle.emtp_case.specs.declared.case.Parts.{Parts}
 use Rattle.emtp_wave.specs.Cosine.{cosine}
+use Rattle.emtp_admittance.specs.Admittances.{no_port}
 use Rattle.emtp_admittance.specs.declared.admittance.Admittance.{Admittance}
 use Rattle.emtp_admittance.specs.declared.admittance.TwoPort.{TwoPort}
 use Rattle.emtp_admittance.specs.declared.refusal.Refusal.{Refusal}
@@ -86,3 +88,11 @@ port_of freq (OfLumped b) = or_refused Impedance (series_port (angular_frequency
 port_of freq (OfLine b) = if int_eq b.r (pos 0) then or_refused Impedance (line_port freq b) else Err Loss
 port_of freq (OfPseudo b) = Err Nonlinear
 port_of freq (OfPhase b) = Err Phases
+
+abbrev pub port_or_none : Result TwoPort Refusal → TwoPort
+port_or_none (Ok y) = y
+port_or_none (Err reason) = no_port
+
+-- the two-ports of all branches
+abbrev pub ports_of : Parts → ℤ → List TwoPort
+ports_of case freq = map (λ b. port_or_none (port_of freq b)) case.branches

@@ -2,4 +2,5 @@
 pub mod Admittances
 pub mod Frequency
 pub mod Numbers
+pub mod Ports
 pub mod Probes

@@ -76,7 +76,7 @@ fn source_refused(asked: Option<i64>, s: &Source) -> Option<Refused>
 }
 
 /// The first refused source.
-fn least_source(case: &Case, asked: Option<i64>) -> Option<Refused>
+pub(crate) fn least_source(case: &Case, asked: Option<i64>) -> Option<Refused>
     ensures { result ≡ least_refusal (source_refused asked) case.now.parts.sources }
 {
     let cards = case.parts.sources.as_slice();

@@ -1,0 +1,113 @@
+//! The two-ports of all branches at a frequency, and which card is refused at it.
+
+ghost use Rattle.std.specs.Prelude.{◌≡◌, None, Some, All, length, IfOk, OnOk};
+ghost use Rattle.emtp_admittance.specs.held.Admittances.{IsSmallPort};
+ghost use Rattle.emtp_admittance.specs.held.Frequency.{IsFrequency};
+ghost use Rattle.emtp_admittance.specs.held.Numbers.{HasPortNumbers};
+ghost use Rattle.emtp_admittance.specs.Impedance.{port_of, port_or_none, ports_of};
+ghost use Rattle.emtp_admittance.specs.Refusals.{branch_refused, judged_frequency, least_refusal, least_refused};
+
+use crate::admittance::{Admittance, TwoPort};
+use crate::impedance::branch_port;
+use crate::limit::MOST_PHASOR_NODES;
+use crate::refusal::{Refusal, Refused, sooner};
+use crate::refusals::{control_cards, least_source, least_switch};
+use emtp_case::{Branch, Case};
+use emtp_wave::CosTable;
+
+const NO_ADMITTANCE: Admittance = Admittance {
+    conductance: 0,
+    susceptance: 0,
+};
+
+/// The two-port of a branch that has none.
+const NO_PORT: TwoPort = TwoPort {
+    own: NO_ADMITTANCE,
+    other: NO_ADMITTANCE,
+};
+
+/// The two-port of a branch, and why it has none.
+fn judged_port(table: &CosTable, freq: i64, b: &Branch) -> (TwoPort, Option<Refused>)
+    requires freq { IsFrequency freq }
+    requires numbers { HasPortNumbers b.now }
+    ensures port { result.0 ≡ port_or_none (port_of freq b.now) }
+    ensures small { IsSmallPort result.0 }
+    ensures refused { result.1 ≡ branch_refused freq b.now }
+{
+    match branch_port(table, freq, b) {
+        Ok(port) => (port, None),
+        Err(reason) => (
+            NO_PORT,
+            Some(Refused {
+                line: b.line(),
+                reason,
+            }),
+        ),
+    }
+}
+
+/// Puts the two-port of each branch in its place, and answers the first refused branch.
+fn put_ports(table: &CosTable, case: &Case, freq: i64, out: &mut [TwoPort]) -> Option<Refused>
+    requires freq { IsFrequency freq }
+    requires out { length out.old ≡ length case.now.parts.branches }
+    ensures refused { result ≡ least_refusal (branch_refused freq) case.now.parts.branches }
+    ensures ports { out.new ≡ ports_of case.now.parts freq }
+    ensures small { All IsSmallPort out.new }
+{
+    let cards = case.parts.branches.as_slice();
+    let mut best = None;
+    for step in 0..cards.len() {
+        let at = cards.len() - 1 - step;
+        let (port, refused) = judged_port(table, freq, &cards[at]);
+        out[at] = port;
+        best = sooner(refused, best);
+    }
+    best
+}
+
+/// The same of all cards, whatever frequency the sources have.
+fn put_ports_of_cards(
+    table: &CosTable,
+    case: &Case,
+    freq: i64,
+    out: &mut [TwoPort],
+) -> Option<Refused>
+    requires freq { IsFrequency freq }
+    requires out { length out.old ≡ length case.now.parts.branches }
+    ensures refused { result ≡ least_refused case.now.parts freq None }
+    ensures ports { out.new ≡ ports_of case.now.parts freq }
+    ensures small { All IsSmallPort out.new }
+{
+    let branch = put_ports(table, case, freq, out);
+    sooner(
+        control_cards(case),
+        sooner(least_switch(case), sooner(branch, least_source(case, None))),
+    )
+}
+
+/// The given frequency and the two-ports of all branches at it, or the refusal that decides.
+#[tactic(auto, unfolding(crate::specs::Refusals::judged_frequency))]
+pub fn judged_ports(
+    table: &CosTable,
+    case: &Case,
+    freq: i64,
+    out: &mut [TwoPort],
+) -> Result<i64, Refused>
+    requires freq { IsFrequency freq }
+    requires out { length out.old ≡ length case.now.parts.branches }
+    ensures value { result ≡ judged_frequency case.now.parts (Some freq) }
+    ensures range { IfOk result IsFrequency }
+    ensures ports { IfOk result (λ found. out.new ≡ ports_of case.now.parts found) }
+    ensures small { OnOk result (All IsSmallPort out.new) }
+{
+    if case.parts.nodes.len() > MOST_PHASOR_NODES {
+        return Err(Refused {
+            line: 1,
+            reason: Refusal::Size,
+        });
+    }
+    match put_ports_of_cards(table, case, freq, out) {
+        Some(refused) => Err(refused),
+        None => Ok(freq),
+    }
+}
