@@ -1,12 +1,14 @@
 -- The branches at a node, and sums over them.
-use Rattle.std.proofs.Common.{◌≡◌, ◌∙◌, sym, ap, ℕ, zero, suc, ◌+◌, ◌<◌, ◌≤◌, ℤ, pos, ◌+ℤ◌, Bool, true, false, All, List, [], ◌∷◌, ◌++◌, length, map, take, get_or, slice_get, add-one, length-append, refl, arith}
+use Rattle.std.proofs.Common.{◌≡◌, ◌∙◌, sym, ap, ℕ, zero, suc, ◌+◌, ◌<◌, ◌≤◌, ℤ, pos, ◌+ℤ◌, Bool, true, false, All, List, [], ◌∷◌, ◌++◌, length, map, take, get_or, slice_get, slice_index, add-one, length-append, refl, arith}
 use Rattle.std.specs.List.{range_with_len}
 use Rattle.std.proofs.lemmas.Int.{ints}
 use Rattle.std.proofs.lemmas.List.{append-nil, take_all}
 use Rattle.std.proofs.lemmas.List.Elements.{All-get_or, All-nil, All-push}
 use Rattle.std.proofs.lemmas.List.FromFn.{get_or-map-range_with_len, length-map-range_with_len, map-range_with_len_more}
+use Rattle.emtp_case.proofs.RowsOfNodes.{order_at}
 use Rattle.emtp_case.proofs.Sums.{total-append, total-more}
 use Rattle.emtp_case.specs.NodeRows.{node_at}
+use Rattle.emtp_case.specs.RowOrder.{Rows, order_of}
 use Rattle.emtp_case.specs.Sums.{sum_below, total}
 use Rattle.emtp_case.specs.declared.case.Parts.{Parts}
 use Rattle.emtp_phasor.specs.held.HeldBranches.{branches_at, branches_below, branches_by_row, has_end_at, place_if}
@@ -107,3 +109,7 @@ pub list_read : (case : Parts) (lists : List (List ℕ)) (row node : ℕ) (x pla
 unfolding branches_by_row
 list_read case lists row node x places are inside read is there =
     is ∙ read ∙ ap (λ ls. get_or ls row x) are ∙ get_or-map-range_with_len (λ i. branches_at case (node_at case i)) 0 (length case.nodes) row row x inside (omega arith) ∙ ap (branches_at case) (sym there)
+
+-- that of the node of a row
+pub node_list : (case : Parts) (order : Rows) (lists : List (List ℕ)) (row node : ℕ) (x places : List ℕ) → order ≡ order_of case → lists ≡ branches_by_row case → row < length case.nodes → slice_index order.nodes row ≡ node → x ≡ get_or lists row x → places ≡ x → places ≡ branches_at case node
+node_list case order lists row node x places order_is are inside there read is = list_read case lists row node x places are inside read is (sym there ∙ order_at case order row order_is)

@@ -94,7 +94,8 @@ unfolding members_by_row
 groups_count kinds = length-map-range_with_len (λ i. members_of kinds i) 0 (length kinds)
 
 -- the list that an index read
-pub group_read : (kinds : List RowKind) (groups : List (List ℕ)) (row : ℕ) (x members : List ℕ) → groups ≡ members_by_row kinds → row < length kinds → x ≡ get_or groups row x → members ≡ x → members ≡ members_of kinds row
+pub group_read : (kinds : List RowKind) (groups : List (List ℕ)) (row size : ℕ) (x members : List ℕ) → groups ≡ members_by_row kinds → length kinds ≡ size → row < size → x ≡ get_or groups row x → members ≡ x → members ≡ members_of kinds row
 unfolding members_by_row
-group_read kinds groups row x members are inside read is =
+group_read kinds groups row size x members are sized below read is =
+    let inside : row < length kinds = omega (arith, sized, below) in
     is ∙ read ∙ ap (λ ls. get_or ls row x) are ∙ get_or-map-range_with_len (λ i. members_of kinds i) 0 (length kinds) row row x inside (omega arith)

@@ -12,6 +12,7 @@ pub mod Judging
 pub mod AtRest
 pub mod Spans
 pub mod Lines
+pub mod Networks
 pub mod ComplexMatrix
 pub mod PhasorLaws
 pub mod OhmsLaw

@@ -165,6 +165,10 @@ ends_apart case at x from to network is there first second =
 pub port_read : (ports : List TwoPort) (at : ℕ) (d x : TwoPort) → at < length ports → get_or ports at d ≡ x → x ≡ port_at ports at
 port_read ports at d x there is = sym is ∙ get_or_default ports at d no_port there
 
+-- what a branch puts between nodes by the port that was read
+pub branch_between : (case : Parts) (ports : List TwoPort) (row column : Bool) (y : TwoPort) (n m at : ℕ) → y ≡ port_at ports at → between_nodes row column y n m (slice_get case.branches at) ≡ between_nodes row column (port_at ports at) n m (slice_get case.branches at)
+branch_between case ports row column y n m at is = ap (λ z. between_nodes row column z n m (slice_get case.branches at)) is
+
 pub ends_within : (case : Parts) (at : ℕ) (x : Branch) (from to : ℕ) → IsNetwork case → slice_get case.branches at ≡ Some x → at < length case.branches → from ≡ from_of x → to ≡ to_of x → (from ≤ length case.nodes) × (to ≤ length case.nodes)
 ends_within case at x from to network is there first second =
     let fits : IsBranch case.run (sizes_of case) case.points x = subst (IsBranch case.run (sizes_of case) case.points) (get_or_from_slice_get case.branches at x x is) (network.branches at x there) in

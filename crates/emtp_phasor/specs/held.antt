@@ -8,4 +8,5 @@ pub mod Opening
 pub mod Scanning
 pub mod Solving
 pub mod Steady
+pub mod SteadyNetwork
 pub mod Volts

@@ -2,16 +2,11 @@
 
 ghost use Rattle.std.specs.Prelude.{◌≡◌, ◌*◌, ◌+◌, ◌^◌, ◌<◌, ◌≤◌, ◌≤ℤ◌, ◌+ℤ◌, ◌*ℤ◌, ℕ, All, Some, true, max, pos, if◌then◌else◌, length, nat_lt, unsigned_abs, IfSome, IsNone};
 ghost use Rattle.emtp_fix.specs.declared.limit.TheConstants.{LARGEST_ENTRY, LARGEST_VALUE};
-ghost use Rattle.emtp_case.specs.declared.limit.TheConstants.{MOST_NODES};
 ghost use Rattle.emtp_case.specs.Branch.{from_of, to_of};
-ghost use Rattle.emtp_case.specs.RowOrder.{order_of};
-ghost use Rattle.emtp_case.specs.NodeRows.{node_at};
-ghost use Rattle.emtp_case.specs.Sums.{total};
 ghost use Rattle.emtp_admittance.specs.Admittances.{in_block, port_at};
 ghost use Rattle.emtp_admittance.specs.held.Admittances.{IsSmallPort};
-ghost use Rattle.emtp_phasor.specs.held.HeldBranches.{branches_at, branches_by_row};
-ghost use Rattle.emtp_phasor.specs.held.HeldGroups.{members_by_row};
-ghost use Rattle.emtp_phasor.specs.Steady.{entering, first_current, first_flow_out, flows, is_in_range, resting_kinds, leaving_node, leaving_through, residual_in, row_residual, second_current};
+ghost use Rattle.emtp_phasor.specs.held.SteadyNetwork.{IsSteadyNetwork, group_leaves, node_leaves};
+ghost use Rattle.emtp_phasor.specs.Steady.{entering, first_current, first_flow_out, flows, is_in_range, resting_kinds, leaving_through, row_residual, second_current};
 ghost use Rattle.emtp_phasor.specs.held.Steady.{AllFlow, JudgesResiduals};
 ghost use Rattle.emtp_phasor.specs.Volts.{volt_at};
 ghost use Rattle.emtp_phasor.specs.held.Volts.{IsVolt};
@@ -19,8 +14,9 @@ ghost use Rattle.emtp_phasor.specs.held.Volts.{IsVolt};
 use crate::fill::{imaginary_column, real_column};
 use crate::phasor::Phasor;
 use crate::sources::sources_into;
+use crate::steady_network::SteadyNetwork;
 use emtp_admittance::{TwoPort, product};
-use emtp_case::{Branch, Case, Items, RowKind, RowOrder};
+use emtp_case::{Branch, Case, RowKind};
 use emtp_fix::{LARGEST_VALUE, PICO, near};
 use emtp_wave::CosTable;
 
@@ -151,63 +147,57 @@ fn leaving_by(imaginary: bool, y: &TwoPort, volts: &[Phasor], node: u32, b: &Bra
     }
 }
 
-/// A part of the current that leaves a node through branches, less what its current sources bring.
+/// A part of the current that leaves the node of a row through branches, less what its current sources bring.
 fn leaving(
     table: &CosTable,
-    case: &Case,
-    ports: &[TwoPort],
-    places: &[u32],
+    network: SteadyNetwork<'_>,
     volts: &[Phasor],
     imaginary: bool,
-    node: u32,
+    row: usize,
 ) -> i128
-    requires ports { length ports.now ≡ length case.now.parts.branches }
-    requires small { All IsSmallPort ports.now }
-    requires places { places.now ≡ branches_at case.now.parts node }
+    requires network { IsSteadyNetwork network }
     requires volts { All IsVolt volts.now }
-    requires nodes { length volts.now ≡ length case.now.parts.nodes + 1 }
-    requires flows { AllFlow case.now.parts ports.now volts.now (length case.now.parts.branches) }
-    ensures value { result ≡ leaving_node case.now.parts ports.now volts.now imaginary node }
+    requires nodes { length volts.now ≡ length network.case.now.parts.nodes + 1 }
+    requires flows { AllFlow network.case.now.parts network.ports.now volts.now (length network.case.now.parts.branches) }
+    requires row { row < length network.case.now.parts.nodes }
+    ensures value { result ≡ node_leaves network.entry volts.now imaginary row }
     ensures bound { unsigned_abs result ≤ 10 ^ 23 }
 {
-    let branches = case.parts.branches.as_slice();
+    let node = network.order.node_at(row);
+    let branches = network.case.parts.branches.as_slice();
+    let ports = network.ports;
+    let lists = network.lists;
+    let places = lists[row].as_slice();
     let mut sum = 0;
     for place in places {
         let at = *place as usize;
         sum += leaving_by(imaginary, &ports[at], volts, node, &branches[at]);
     }
-    sum - sources_into(table, case, imaginary, node)
+    sum - sources_into(table, network.case, imaginary, node)
 }
 
-/// A part of the current that leaves a group.
+/// A part of the current that leaves the group of a row.
 fn leaving_group(
     table: &CosTable,
-    case: &Case,
-    order: &RowOrder,
-    ports: &[TwoPort],
-    lists: &[Items<u32>],
-    members: &[u32],
+    network: SteadyNetwork<'_>,
     volts: &[Phasor],
     imaginary: bool,
+    row: usize,
 ) -> i128
-    requires order { order.now ≡ order_of case.now.parts }
-    requires ports { length ports.now ≡ length case.now.parts.branches }
-    requires small { All IsSmallPort ports.now }
-    requires lists { lists.now ≡ branches_by_row case.now.parts }
-    requires members { All (λ k. k < length case.now.parts.nodes) members.now }
-    requires few { length members.now ≤ MOST_NODES }
+    requires network { IsSteadyNetwork network }
     requires volts { All IsVolt volts.now }
-    requires nodes { length volts.now ≡ length case.now.parts.nodes + 1 }
-    requires flows { AllFlow case.now.parts ports.now volts.now (length case.now.parts.branches) }
-    ensures value { result ≡ total (λ k. leaving_node case.now.parts ports.now volts.now imaginary (node_at case.now.parts k)) members.now }
+    requires nodes { length volts.now ≡ length network.case.now.parts.nodes + 1 }
+    requires flows { AllFlow network.case.now.parts network.ports.now volts.now (length network.case.now.parts.branches) }
+    requires row { row < length network.case.now.parts.nodes }
+    ensures value { result ≡ group_leaves network.entry volts.now imaginary row }
     ensures bound { unsigned_abs result ≤ 10 ^ 27 }
 {
+    let groups = network.groups;
+    let members = groups[row].as_slice();
     let mut sum = 0;
     for member in members {
         let at = *member as usize;
-        let node = order.node_at(at);
-        let places = lists[at].as_slice();
-        sum += leaving(table, case, ports, places, volts, imaginary, node);
+        sum += leaving(table, network, volts, imaginary, at);
     }
     sum
 }
@@ -224,46 +214,26 @@ fn greater(a: i128, b: i128) -> i128
 }
 
 /// The residual of a row.
-fn residual(
-    table: &CosTable,
-    case: &Case,
-    order: &RowOrder,
-    kinds: &[RowKind],
-    ports: &[TwoPort],
-    lists: &[Items<u32>],
-    groups: &[Items<u32>],
-    volts: &[Phasor],
-    i: usize,
-) -> i128
-    requires order { order.now ≡ order_of case.now.parts }
-    requires kinds { kinds.now ≡ resting_kinds case.now.parts }
-    requires ports { length ports.now ≡ length case.now.parts.branches }
-    requires small { All IsSmallPort ports.now }
-    requires lists { lists.now ≡ branches_by_row case.now.parts }
-    requires groups { groups.now ≡ members_by_row kinds.now }
+fn residual(table: &CosTable, network: SteadyNetwork<'_>, volts: &[Phasor], row: usize) -> i128
+    requires network { IsSteadyNetwork network }
+    requires kinds { network.kinds.now ≡ resting_kinds network.case.now.parts }
     requires volts { All IsVolt volts.now }
-    requires nodes { length volts.now ≡ length case.now.parts.nodes + 1 }
-    requires flows { AllFlow case.now.parts ports.now volts.now (length case.now.parts.branches) }
-    requires there { i < length case.now.parts.nodes }
-    ensures value { result ≡ pos (row_residual case.now.parts ports.now volts.now i) }
+    requires nodes { length volts.now ≡ length network.case.now.parts.nodes + 1 }
+    requires flows { AllFlow network.case.now.parts network.ports.now volts.now (length network.case.now.parts.branches) }
+    requires row { row < length network.case.now.parts.nodes }
+    ensures value { result ≡ pos (row_residual network.entry.case.now.parts network.entry.ports.now volts.now row) }
     ensures bound { unsigned_abs result ≤ 10 ^ 30 }
 {
-    match kinds[i] {
-        RowKind::Kcl => {
-            let node = order.node_at(i);
-            let places = lists[i].as_slice();
-            greater(
-                leaving(table, case, ports, places, volts, false, node),
-                leaving(table, case, ports, places, volts, true, node),
-            )
-        }
-        RowKind::Sum => {
-            let members = groups[i].as_slice();
-            greater(
-                leaving_group(table, case, order, ports, lists, members, volts, false),
-                leaving_group(table, case, order, ports, lists, members, volts, true),
-            )
-        }
+    let kinds = network.kinds;
+    match kinds[row] {
+        RowKind::Kcl => greater(
+            leaving(table, network, volts, false, row),
+            leaving(table, network, volts, true, row),
+        ),
+        RowKind::Sum => greater(
+            leaving_group(table, network, volts, false, row),
+            leaving_group(table, network, volts, true, row),
+        ),
         RowKind::Tie(_) | RowKind::Ground | RowKind::Source => 0,
     }
 }
@@ -278,28 +248,20 @@ fn exceeds(residual: i128, tolerance: i64) -> bool
 /// The greatest residual, or the first row above the tolerance with its residual, in nA.
 pub(crate) fn judge(
     table: &CosTable,
-    case: &Case,
-    order: &RowOrder,
-    kinds: &[RowKind],
-    ports: &[TwoPort],
-    lists: &[Items<u32>],
-    groups: &[Items<u32>],
+    network: SteadyNetwork<'_>,
     volts: &[Phasor],
 ) -> Result<i128, (usize, i128)>
-    requires order { order.now ≡ order_of case.now.parts }
-    requires kinds { kinds.now ≡ resting_kinds case.now.parts }
-    requires ports { length ports.now ≡ length case.now.parts.branches }
-    requires small { All IsSmallPort ports.now }
-    requires lists { lists.now ≡ branches_by_row case.now.parts }
-    requires groups { groups.now ≡ members_by_row kinds.now }
+    requires network { IsSteadyNetwork network }
+    requires kinds { network.kinds.now ≡ resting_kinds network.case.now.parts }
     requires volts { All IsVolt volts.now }
-    requires nodes { length volts.now ≡ length case.now.parts.nodes + 1 }
-    requires flows { AllFlow case.now.parts ports.now volts.now (length case.now.parts.branches) }
-    ensures { JudgesResiduals case.now.parts ports.now volts.now result }
+    requires nodes { length volts.now ≡ length network.case.now.parts.nodes + 1 }
+    requires flows { AllFlow network.case.now.parts network.ports.now volts.now (length network.case.now.parts.branches) }
+    ensures { JudgesResiduals network.entry.case.now.parts network.entry.ports.now volts.now result }
 {
+    let case = network.case;
     let mut greatest = 0;
     for i in 0..case.parts.nodes.len() {
-        let residual = residual(table, case, order, kinds, ports, lists, groups, volts, i);
+        let residual = residual(table, network, volts, i);
         if exceeds(residual, case.parts.run.tolerance) {
             return Err((i, residual));
         }

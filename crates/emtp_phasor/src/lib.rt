@@ -26,6 +26,7 @@ mod scanning;
 mod solving;
 mod sources;
 mod steady;
+mod steady_network;
 mod system;
 
 pub use fault::PhasorFault;

@@ -11,8 +11,7 @@ ghost use Rattle.emtp_admittance.specs.held.Frequency.{IsFrequency};
 ghost use Rattle.emtp_case.specs.held.EndNames.{IsNode};
 ghost use Rattle.emtp_case.specs.RowOrder.{order_of};
 ghost use Rattle.emtp_admittance.specs.held.Admittances.{IsSmallPort};
-ghost use Rattle.emtp_phasor.specs.held.HeldBranches.{branches_by_row};
-ghost use Rattle.emtp_phasor.specs.held.HeldGroups.{members_by_row};
+ghost use Rattle.emtp_phasor.specs.held.SteadyNetwork.{IsSteadyNetwork};
 ghost use Rattle.emtp_phasor.specs.Steady.{resting_kinds, doubled_system, named_ending, port_or_none, ports_of, steady_right, doubled_solution, steady};
 ghost use Rattle.emtp_phasor.specs.held.Steady.{AreGood, IsSteady, judged_volts};
 ghost use Rattle.emtp_phasor.specs.Volts.{nothing, volt_in, phasors_of};
@@ -21,8 +20,9 @@ ghost use Rattle.emtp_phasor.specs.held.Volts.{IsVolt};
 use crate::ending::{Ending, ending_at};
 use crate::flow::{first_out, judge};
 use crate::phasor::{NOTHING, Phasor};
+use crate::steady_network::SteadyNetwork;
 use emtp_admittance::{Admittance, Refusal, TwoPort, branch_port};
-use emtp_case::{Case, Items, RowKind, RowOrder, branch_name};
+use emtp_case::{Case, RowOrder, branch_name};
 use emtp_elim::SparseRows;
 use emtp_machine::Cause;
 use emtp_wave::CosTable;
@@ -88,61 +88,55 @@ fn volt_in(x: &[i64], row: usize) -> Phasor
 
 /// Solves for the unknowns of a right side by the finished rows.
 pub(crate) fn solve_right(
-    case: &Case,
-    order: &RowOrder,
+    network: SteadyNetwork<'_>,
     done: &SparseRows,
     right: &[i128],
     rhs: &mut [i128],
     x: &mut [i64],
 ) -> Result<(), Ending>
-    requires order { order.now ≡ order_of case.now.parts }
-    requires size { done.now.size ≡ 2 * length case.now.parts.nodes }
+    requires network { IsSteadyNetwork network }
+    requires size { done.now.size ≡ 2 * length network.case.now.parts.nodes }
     requires all { length done.now.rows ≡ done.now.size }
-    requires right { length right.now ≡ 2 * length case.now.parts.nodes }
-    requires rhs { length rhs.old ≡ 2 * length case.now.parts.nodes }
-    requires x { length x.old ≡ 2 * length case.now.parts.nodes }
+    requires right { length right.now ≡ 2 * length network.case.now.parts.nodes }
+    requires rhs { length rhs.old ≡ 2 * length network.case.now.parts.nodes }
+    requires x { length x.old ≡ 2 * length network.case.now.parts.nodes }
     ensures solved { OnOk result ((rows : Matrix) → AreAllFinished rows done.now.rows → outcome rows right.now ≡ Ok x.new) }
     ensures within { OnOk result (AreWithin (10 ^ 18) x.new) }
-    ensures fault { IfErr result (λ e. (rows : Matrix) → AreAllFinished rows done.now.rows → named_ending case.now.parts (outcome rows right.now) ≡ Err e) }
-    ensures node { IfErr result (λ e. IsNode case.now.parts e.node) }
+    ensures fault { IfErr result (λ e. (rows : Matrix) → AreAllFinished rows done.now.rows → named_ending network.entry.case.now.parts (outcome rows right.now) ≡ Err e) }
+    ensures node { IfErr result (λ e. IsNode network.entry.case.now.parts e.node) }
 {
     rhs.copy_from_slice(right);
     match done.solve(rhs, x) {
         Ok(()) => Ok(()),
-        Err(fault) => Err(ending_at(order.node_at(fault.row / 2), Cause::Range)),
+        Err(fault) => Err(ending_at(
+            network.order.node_at(fault.row / 2),
+            Cause::Range,
+        )),
     }
 }
 
 /// The greatest residual at these voltages, or the first branch or row that ends the solution.
 pub(crate) fn judge_volts(
     table: &CosTable,
-    case: &Case,
-    order: &RowOrder,
-    kinds: &[RowKind],
-    ports: &[TwoPort],
-    lists: &[Items<u32>],
-    groups: &[Items<u32>],
+    network: SteadyNetwork<'_>,
     volts: &[Phasor],
 ) -> Result<i128, Ending>
-    requires order { order.now ≡ order_of case.now.parts }
-    requires kinds { kinds.now ≡ resting_kinds case.now.parts }
-    requires ports { length ports.now ≡ length case.now.parts.branches }
-    requires small { All IsSmallPort ports.now }
-    requires lists { lists.now ≡ branches_by_row case.now.parts }
-    requires groups { groups.now ≡ members_by_row kinds.now }
+    requires network { IsSteadyNetwork network }
+    requires kinds { network.kinds.now ≡ resting_kinds network.case.now.parts }
     requires volts { All IsVolt volts.now }
-    requires nodes { length volts.now ≡ length case.now.parts.nodes + 1 }
-    ensures good { IfOk result (λ greatest. AreGood case.now.parts ports.now volts.now greatest) }
-    ensures fault { IfErr result (λ e. judged_volts case.now.parts ports.now volts.now ≡ Err e) }
-    ensures node { IfErr result (λ e. IsNode case.now.parts e.node) }
+    requires nodes { length volts.now ≡ length network.case.now.parts.nodes + 1 }
+    ensures good { IfOk result (λ greatest. AreGood network.entry.case.now.parts network.entry.ports.now volts.now greatest) }
+    ensures fault { IfErr result (λ e. judged_volts network.entry.case.now.parts network.entry.ports.now volts.now ≡ Err e) }
+    ensures node { IfErr result (λ e. IsNode network.entry.case.now.parts e.node) }
 {
-    if let Some(b) = first_out(case, ports, volts) {
+    let case = network.case;
+    if let Some(b) = first_out(case, network.ports, volts) {
         return Err(ending_at(branch_name(case, b), Cause::Range));
     }
-    match judge(table, case, order, kinds, ports, lists, groups, volts) {
+    match judge(table, network, volts) {
         Ok(greatest) => Ok(greatest),
         Err((row, measured)) => Err(Ending {
-            node: order.node_at(row),
+            node: network.order.node_at(row),
             cause: Cause::Residual,
             measured,
         }),

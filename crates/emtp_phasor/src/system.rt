@@ -26,6 +26,7 @@ use crate::node_branches::branches_by_row;
 use crate::opening::{Closed, right_side, row_kinds};
 use crate::phasor::{NOTHING, Phasor};
 use crate::steady::{NO_PORT, fill_ports, fill_volts, judge_volts, solve_right};
+use crate::steady_network::SteadyNetwork;
 use emtp_admittance::TwoPort;
 use emtp_case::{Case, Items, RowKind, RowOrder, order, switch_name};
 use emtp_elim::{SparseRows, WorkRow};
@@ -203,20 +204,17 @@ impl System {
         ensures node { IfErr result (λ e. IsNode case.now.parts e.node) }
     {
         fill_ports(table, case, freq, &mut self.ports);
-        match eliminate_rows(
+        let network = SteadyNetwork {
             case,
-            &self.order,
-            &self.ports,
-            &self.kinds,
-            &self.lists,
-            &self.groups,
-            &mut self.done,
-            &mut self.work,
-            steps,
-        ) {
+            order: &self.order,
+            ports: &self.ports,
+            kinds: &self.kinds,
+            lists: &self.lists,
+            groups: &self.groups,
+        };
+        match eliminate_rows(network, &mut self.done, &mut self.work, steps) {
             Ok(()) => solve_right(
-                case,
-                &self.order,
+                network,
                 &self.done,
                 &self.right,
                 &mut self.rhs,
@@ -235,15 +233,14 @@ impl System {
         ensures fault { IfErr result (λ e. judged_volts case.now.parts self.now.ports.items self.now.volts.items ≡ Err e) }
         ensures node { IfErr result (λ e. IsNode case.now.parts e.node) }
     {
-        judge_volts(
-            table,
+        let network = SteadyNetwork {
             case,
-            &self.order,
-            &self.kinds,
-            &self.ports,
-            &self.lists,
-            &self.groups,
-            &self.volts,
-        )
+            order: &self.order,
+            ports: &self.ports,
+            kinds: &self.kinds,
+            lists: &self.lists,
+            groups: &self.groups,
+        };
+        judge_volts(table, network, &self.volts)
     }
 }

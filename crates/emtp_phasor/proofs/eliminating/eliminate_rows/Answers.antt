@@ -17,7 +17,7 @@ use Rattle.emtp_phasor.proofs.eliminating.eliminate_rows.Goals as goal
 
 pub loop-row-init : goal.loop-row-init
 loop-row-init g c =
-    let s : Doubled = record { case = c.args.case.now.parts; ports = c.args.ports.now; kinds = c.args.kinds.now } in
+    let s : Doubled = record { case = c.args.network.case.now.parts; ports = c.args.network.ports.now; kinds = c.args.network.kinds.now } in
     let none : length c.cut.new.self.rows ≡ 0 = omega (arith, ap (λ (d : Finished). length d.rows) c.cut.ensures, length-take-le 0 c.args.done.now.rows (omega arith)) in
     record {
       size = ap (λ (d : Finished). d.size) c.cut.ensures ∙ c.requires.size;
@@ -42,7 +42,7 @@ eliminate_work_row-requires-clause-room g c =
 
 pub loop-row-preserved : goal.loop-row-preserved
 loop-row-preserved g c =
-    let s : Doubled = record { case = c.args.case.now.parts; ports = c.args.ports.now; kinds = c.args.kinds.now } in
+    let s : Doubled = record { case = c.args.network.case.now.parts; ports = c.args.network.ports.now; kinds = c.args.network.kinds.now } in
     let row = c.loop-row.row in
     let out = c.fill_row.new.out in
     let was = c.loop-row.invariant in
@@ -62,17 +62,17 @@ returns-in-Err-clause-size g c = ap (λ (d : Finished). d.size) c.in-Err.ensures
 
 pub returns-in-Err-clause-clear : goal.returns-in-Err-clause-clear
 returns-in-Err-clause-clear g c =
-    let long : length c.fill_row.new.out ≡ 2 * length c.args.case.now.parts.nodes = c.fill_row.ensures.same ∙ c.loop-row.invariant.clear.length_is in
+    let long : length c.fill_row.new.out ≡ 2 * length c.args.network.case.now.parts.nodes = c.fill_row.ensures.same ∙ c.loop-row.invariant.clear.length_is in
     subst (λ n. IsClearRow n c.eliminate_work_row.new.work) long c.eliminate_work_row.ensures.clear
 
 pub node_at-requires : goal.node_at-requires
 node_at-requires g c =
-    omega (arith, c.loop-row-test.true, c.len-row-end.ensures, c.requires.clear.length_is, order_size c.args.case.now.parts c.args.order.now c.requires.order)
+    omega (arith, c.loop-row-test.true, c.len-row-end.ensures, c.requires.clear.length_is, order_size c.args.network.case.now.parts c.args.network.order.now c.requires.network.order_is)
 
 pub returns-in-Err-clause-fault : goal.returns-in-Err-clause-fault
 returns-in-Err-clause-fault g c = λ right.
-    let case = c.args.case.now.parts in
-    let s : Doubled = record { case = case; ports = c.args.ports.now; kinds = c.args.kinds.now } in
+    let case = c.args.network.case.now.parts in
+    let s : Doubled = record { case = c.args.network.case.now.parts; ports = c.args.network.ports.now; kinds = c.args.network.kinds.now } in
     let row = c.loop-row.row in
     let out = c.fill_row.new.out in
     let was = c.loop-row.invariant in
@@ -83,7 +83,7 @@ returns-in-Err-clause-fault g c = λ right.
     let is = rw was.count at (c.in-Err.ensures.fault.row_fault (doubled_matrix s) next) in
     let fault : RowFault = record { row = row; cause = c.in-Err.cause } in
     let ends = c.row_fault_ends_systems.ensures (doubled_matrix s) right fault is in
-    let there : c.node_at.result ≡ node_at case (row / 2) = sym c.node_at.ensures.node ∙ order_at case c.args.order.now (row / 2) c.requires.order in
+    let there : c.node_at.result ≡ node_at case (row / 2) = sym c.node_at.ensures.node ∙ order_at case c.args.network.order.now (row / 2) c.requires.network.order_is in
     let named : c.ending_at.result ≡ ending_at (node_at case (row / 2)) (cause_of c.in-Err.cause) =
     c.ending_at.ensures ∙ ap (λ (k : Cause). ending_at c.node_at.result k) c.cause_of.ensures ∙ ap (λ n. ending_at n (cause_of c.in-Err.cause)) there in
     let Wrong : Ending → Result (List ℤ) Ending = λ e. Err e in
@@ -91,8 +91,8 @@ returns-in-Err-clause-fault g c = λ right.
 
 pub returns-in-Err-clause-node : goal.returns-in-Err-clause-node
 returns-in-Err-clause-node g c =
-    let P : Ending → Type 0 = λ e. IsNode c.args.case.now.parts e.node in
-    subst P (sym c.ending_at.ensures) (row_node c.args.case.now.parts c.args.order.now c.node_at.result c.requires.order c.node_at.ensures.low c.node_at.ensures.high)
+    let P : Ending → Type 0 = λ e. IsNode c.args.network.case.now.parts e.node in
+    subst P (sym c.ending_at.ensures) (row_node c.args.network.case.now.parts c.args.network.order.now c.node_at.result c.requires.network.order_is c.node_at.ensures.low c.node_at.ensures.high)
 
 pub returns-clause-size : goal.returns-clause-size
 returns-clause-size g c = c.loop-row.invariant.size ∙ sym c.requires.size
@@ -102,9 +102,7 @@ returns-clause-clear g c = c.loop-row.invariant.clear
 
 pub returns-clause-finished : goal.returns-clause-finished
 returns-clause-finished g c =
-    let s : Doubled = record { case = c.args.case.now.parts; ports = c.args.ports.now; kinds = c.args.kinds.now } in
+    let s : Doubled = record { case = c.args.network.case.now.parts; ports = c.args.network.ports.now; kinds = c.args.network.kinds.now } in
     let was = c.loop-row.invariant in
-    record {
-      all = omega (arith, was.count, c.loop-row-test.false, c.loop-row.auto.row-end, c.len-row-end.ensures, c.requires.clear.length_is, length-doubled_matrix s);
-      finished = was.finished;
-    }
+    let all : length c.loop-row.done.rows ≡ length (doubled_matrix s) = omega (arith, was.count, c.loop-row-test.false, c.loop-row.auto.row-end, c.len-row-end.ensures, c.requires.clear.length_is, length-doubled_matrix s) in
+    record { all = all; finished = was.finished }

@@ -10,5 +10,5 @@ abbrev pub invariant-loop-member : goal.invariant-loop-member
 invariant-loop-member l = record {
   same : length l.out ≡ length l.fn.out;
   value : (c : ℕ) → c < length l.out
-      → item l.out c ≡ item l.fn.out c +ℤ total (λ k. admittance_entry l.case.parts l.ports l.imaginary (is_imaginary c) (node_at l.case.parts k) (node_at l.case.parts (c / 2))) (take l.member-index l.members);
+      → item l.out c ≡ item l.fn.out c +ℤ total (λ k. admittance_entry l.network.case.now.parts l.network.ports.now l.imaginary (is_imaginary c) (node_at l.network.case.now.parts k) (node_at l.network.case.now.parts (c / 2))) (take l.member-index l.members);
 }

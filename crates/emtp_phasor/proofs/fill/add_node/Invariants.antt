@@ -10,5 +10,5 @@ abbrev pub invariant-loop-place : goal.invariant-loop-place
 invariant-loop-place l = record {
   same : length l.out ≡ length l.fn.out;
   value : (c : ℕ) → c < length l.out
-      → item l.out c ≡ item l.fn.out c +ℤ total (λ b. between_nodes l.imaginary (is_imaginary c) (port_at l.ports b) l.node (node_at l.case.parts (c / 2)) (slice_get l.case.parts.branches b)) (take l.place-index l.places);
+      → item l.out c ≡ item l.fn.out c +ℤ total (λ b. between_nodes l.imaginary (is_imaginary c) (port_at l.network.ports.now b) l.node (node_at l.network.case.now.parts (c / 2)) (slice_get l.network.case.now.parts.branches b)) (take l.place-index l.places);
 }

@@ -1,17 +1,12 @@
-use Rattle.std.proofs.Common.{◌≡◌, ◌∙◌, ◌<◌, ◌≤◌, ◌+◌, ◌*◌, ◌/◌, ◌%◌, ◌^◌, ◌==◌, ◌+ℤ◌, ap, sym, arith, ℕ, ℤ, length, length-set, pos, unsigned_abs, subst, inl, inr}
+use Rattle.std.proofs.Common.{◌≡◌, ◌∙◌, ◌<◌, ◌≤◌, ◌+◌, ◌*◌, ◌/◌, ◌%◌, ◌^◌, ◌==◌, ◌+ℤ◌, ap, arith, ℕ, ℤ, length, length-set, pos, unsigned_abs, subst, inl, inr}
 use Rattle.std.proofs.lemmas.Bool.{cases_Bool}
 use Rattle.std.proofs.lemmas.Int.{ints}
 use Rattle.std.proofs.lemmas.List.{get_or_default}
 use Rattle.emtp_case.specs.declared.row_kind.RowKind.TheVariants.{Ground, Kcl, Sum, Tie}
 use Rattle.emtp_case.specs.held.RowKinds.{TieIsThere}
 use Rattle.emtp_elim.specs.Matrix.{item}
-use Rattle.emtp_case.specs.NodeRows.{kind_at, node_at, unit}
+use Rattle.emtp_case.specs.NodeRows.{kind_at, unit}
 use Rattle.emtp_rows.proofs.Filled.{tie_set, unit_set}
-use Rattle.emtp_case.proofs.RowsOfNodes.{order_at, order_size}
-use Rattle.emtp_admittance.specs.Admittances.{is_imaginary}
-use Rattle.emtp_phasor.specs.Doubled.{admittance_entry}
-use Rattle.emtp_phasor.proofs.BranchLists.{list_read, lists_count}
-use Rattle.emtp_phasor.proofs.GroupLists.{group_read, groups_count, members_few, members_there, members_total}
 use Rattle.emtp_phasor.proofs.fill.fill_row.Goals as goal
 
 nothing : (x : ℤ) → pos 0 +ℤ x ≡ x
@@ -23,18 +18,11 @@ unit_small i j = elim (cases_Bool (i == j)) [
   | inr off ↦ rw off (omega (arith, ints))
 ]
 
-pub node_at-node-requires : goal.node_at-node-requires
-node_at-node-requires c = omega (arith, order_size c.args.case.now.parts c.args.order.now c.requires.order, c.requires.row)
+pub bounds : goal.bounds
+bounds c = omega (arith, c.requires.row, c.requires.network.kinds_count)
 
-pub bounds-lists-row : goal.bounds-lists-row
-bounds-lists-row c = omega (arith, c.requires.row, ap length c.requires.lists, lists_count c.args.case.now.parts)
-
-pub add_node-requires-clause-places : goal.add_node-requires-clause-places
-add_node-requires-clause-places c =
-    let case = c.args.case.now.parts in
-    let half : c.args.row / 2 < length case.nodes = omega (arith, c.requires.row) in
-    list_read case c.args.lists.now (c.args.row / 2) c.node_at-node.result c.index-lists-row.result c.as_slice-places.result.now c.requires.lists half c.index-lists-row.is c.as_slice-places.ensures
-    (sym c.node_at-node.ensures.node ∙ order_at case c.args.order.now (c.args.row / 2) c.requires.order)
+pub add_node-requires-clause-row : goal.add_node-requires-clause-row
+add_node-requires-clause-row c = omega (arith, c.requires.row)
 
 pub add_node-requires-clause-out : goal.add_node-requires-clause-out
 add_node-requires-clause-out c = c.requires.clear.length_is
@@ -42,20 +30,8 @@ add_node-requires-clause-out c = c.requires.clear.length_is
 pub add_node-requires-clause-bound : goal.add_node-requires-clause-bound
 add_node-requires-clause-bound c = λ j below. omega (arith, ints, c.requires.clear.zeros j)
 
-pub bounds-groups-row : goal.bounds-groups-row
-bounds-groups-row c = omega (arith, c.requires.row, c.requires.kinds, ap length c.requires.groups, groups_count c.args.kinds.now)
-
-pub add_group-requires-clause-members : goal.add_group-requires-clause-members
-add_group-requires-clause-members c =
-    let half : c.args.row / 2 < length c.args.kinds.now = omega (arith, c.requires.row, c.requires.kinds) in
-    let are = group_read c.args.kinds.now c.args.groups.now (c.args.row / 2) c.index-groups-row.result c.as_slice-members.result.now c.requires.groups half c.index-groups-row.is c.as_slice-members.ensures in
-    members_there c.args.kinds.now (c.args.row / 2) (length c.args.case.now.parts.nodes) c.as_slice-members.result.now c.requires.kinds are
-
-pub add_group-requires-clause-few : goal.add_group-requires-clause-few
-add_group-requires-clause-few c =
-    let half : c.args.row / 2 < length c.args.kinds.now = omega (arith, c.requires.row, c.requires.kinds) in
-    let are = group_read c.args.kinds.now c.args.groups.now (c.args.row / 2) c.index-groups-row.result c.as_slice-members.result.now c.requires.groups half c.index-groups-row.is c.as_slice-members.ensures in
-    omega (arith, members_few c.args.kinds.now (c.args.row / 2) c.as_slice-members.result.now are, c.requires.kinds, c.args.case.now.fits.draft.counts.nodes)
+pub add_group-requires-clause-row : goal.add_group-requires-clause-row
+add_group-requires-clause-row c = omega (arith, c.requires.row)
 
 pub add_group-requires-clause-out : goal.add_group-requires-clause-out
 add_group-requires-clause-out c = c.requires.clear.length_is
@@ -71,8 +47,8 @@ add_to-requires-clause-number c = omega (arith, ints, c.requires.clear.zeros c.a
 
 pub add_to-requires-in-Tie-clause-place : goal.add_to-requires-in-Tie-clause-place
 add_to-requires-in-Tie-clause-place c =
-    let half : c.args.row / 2 < length c.args.kinds.now = omega (arith, c.requires.row, c.requires.kinds) in
-    let there : c.in-Tie.other < length c.args.case.now.parts.nodes = subst (TieIsThere (length c.args.case.now.parts.nodes)) c.in-Tie.is (c.requires.ties (c.args.row / 2) Kcl half) in
+    let half : c.args.row / 2 < length c.args.network.kinds.now = omega (arith, c.requires.row, c.requires.network.kinds_count) in
+    let there : c.in-Tie.other < length c.args.network.case.now.parts.nodes = subst (TieIsThere (length c.args.network.case.now.parts.nodes)) c.in-Tie.is (c.requires.network.ties (c.args.row / 2) Kcl half) in
     omega (arith, there, ap length c.add_to.ensures, length-set {A = ℤ}, c.requires.clear.length_is)
 
 pub add_to-requires-in-Tie-clause-number : goal.add_to-requires-in-Tie-clause-number
@@ -81,8 +57,8 @@ add_to-requires-in-Tie-clause-number c =
     let out = c.args.out.now in
     let size = c.requires.clear.length_is in
     let zeros : (k : ℕ) → k < length out → item out k ≡ pos 0 = λ k within. c.requires.clear.zeros k in
-    let half : r / 2 < length c.args.kinds.now = omega (arith, c.requires.row, c.requires.kinds) in
-    let there : c.in-Tie.other < length c.args.case.now.parts.nodes = subst (TieIsThere (length c.args.case.now.parts.nodes)) c.in-Tie.is (c.requires.ties (r / 2) Kcl half) in
+    let half : r / 2 < length c.args.network.kinds.now = omega (arith, c.requires.row, c.requires.network.kinds_count) in
+    let there : c.in-Tie.other < length c.args.network.case.now.parts.nodes = subst (TieIsThere (length c.args.network.case.now.parts.nodes)) c.in-Tie.is (c.requires.network.ties (r / 2) Kcl half) in
     let entry = unit_set out r (2 * c.in-Tie.other + r % 2) (omega (arith, size, c.requires.row)) (omega (arith, size, there)) zeros in
     rw (c.add_to.ensures, entry) (unit_small r (2 * c.in-Tie.other + r % 2))
 
@@ -97,24 +73,18 @@ returns-in-Kcl-clause-same c = c.add_node.ensures.same
 
 pub returns-in-Kcl-clause-value : goal.returns-in-Kcl-clause-value
 returns-in-Kcl-clause-value c = λ j below.
-    let case = c.args.case.now.parts in
-    let half : c.args.row / 2 < length c.args.kinds.now = omega (arith, c.requires.row, c.requires.kinds) in
-    let kind : kind_at c.args.kinds.now (c.args.row / 2) ≡ Kcl = get_or_default c.args.kinds.now (c.args.row / 2) Ground Kcl half ∙ c.in-Kcl.is in
-    let there : c.node_at-node.result ≡ node_at case (c.args.row / 2) = sym c.node_at-node.ensures.node ∙ order_at case c.args.order.now (c.args.row / 2) c.requires.order in
-    rw (kind, c.add_node.ensures.value j below, c.requires.clear.zeros j, there) (nothing _)
+    let half : c.args.row / 2 < length c.args.network.kinds.now = omega (arith, c.requires.row, c.requires.network.kinds_count) in
+    let kind : kind_at c.args.network.kinds.now (c.args.row / 2) ≡ Kcl = get_or_default c.args.network.kinds.now (c.args.row / 2) Ground Kcl half ∙ c.in-Kcl.is in
+    rw (kind, c.add_node.ensures.value j below, c.requires.clear.zeros j) (nothing _)
 
 pub returns-in-Sum-clause-same : goal.returns-in-Sum-clause-same
 returns-in-Sum-clause-same c = c.add_group.ensures.same
 
 pub returns-in-Sum-clause-value : goal.returns-in-Sum-clause-value
 returns-in-Sum-clause-value c = λ j below.
-    let case = c.args.case.now.parts in
-    let half : c.args.row / 2 < length c.args.kinds.now = omega (arith, c.requires.row, c.requires.kinds) in
-    let kind : kind_at c.args.kinds.now (c.args.row / 2) ≡ Sum = get_or_default c.args.kinds.now (c.args.row / 2) Ground Kcl half ∙ c.in-Sum.is in
-    let are = group_read c.args.kinds.now c.args.groups.now (c.args.row / 2) c.index-groups-row.result c.as_slice-members.result.now c.requires.groups half c.index-groups-row.is c.as_slice-members.ensures in
-    let F : ℕ → ℤ = λ k. admittance_entry case c.args.ports.now (is_imaginary c.args.row) (is_imaginary j) (node_at case k) (node_at case (j / 2)) in
-    let sum = members_total c.args.kinds.now (c.args.row / 2) (length case.nodes) c.as_slice-members.result.now F (sym c.requires.kinds) are in
-    rw (kind, c.add_group.ensures.value j below, c.requires.clear.zeros j, sum) (nothing _)
+    let half : c.args.row / 2 < length c.args.network.kinds.now = omega (arith, c.requires.row, c.requires.network.kinds_count) in
+    let kind : kind_at c.args.network.kinds.now (c.args.row / 2) ≡ Sum = get_or_default c.args.network.kinds.now (c.args.row / 2) Ground Kcl half ∙ c.in-Sum.is in
+    rw (kind, c.add_group.ensures.value j below, c.requires.clear.zeros j) (nothing _)
 
 pub returns-in-Tie-clause-same : goal.returns-in-Tie-clause-same
 returns-in-Tie-clause-same c = omega (arith, ap length c.add_to.ensures, ap length c.add_to-in-Tie.ensures, length-set {A = ℤ})
@@ -125,10 +95,10 @@ returns-in-Tie-clause-value c = λ j below.
     let out = c.args.out.now in
     let size = c.requires.clear.length_is in
     let zeros : (k : ℕ) → k < length out → item out k ≡ pos 0 = λ k within. c.requires.clear.zeros k in
-    let half : r / 2 < length c.args.kinds.now = omega (arith, c.requires.row, c.requires.kinds) in
-    let kind : kind_at c.args.kinds.now (r / 2) ≡ Tie c.in-Tie.other = get_or_default c.args.kinds.now (r / 2) Ground Kcl half ∙ c.in-Tie.is in
+    let half : r / 2 < length c.args.network.kinds.now = omega (arith, c.requires.row, c.requires.network.kinds_count) in
+    let kind : kind_at c.args.network.kinds.now (r / 2) ≡ Tie c.in-Tie.other = get_or_default c.args.network.kinds.now (r / 2) Ground Kcl half ∙ c.in-Tie.is in
     let inside : r < length out = omega (arith, size, c.requires.row) in
-    let there : c.in-Tie.other < length c.args.case.now.parts.nodes = subst (TieIsThere (length c.args.case.now.parts.nodes)) c.in-Tie.is (c.requires.ties (r / 2) Kcl half) in
+    let there : c.in-Tie.other < length c.args.network.case.now.parts.nodes = subst (TieIsThere (length c.args.network.case.now.parts.nodes)) c.in-Tie.is (c.requires.network.ties (r / 2) Kcl half) in
     let same : length c.add_to.new.self ≡ length out = omega (arith, ap length c.add_to.ensures, length-set {A = ℤ}) in
     let own : (k : ℕ) → k < length c.add_to.new.self → item c.add_to.new.self k ≡ unit r k
     = λ k within. rw c.add_to.ensures (unit_set out r k inside (omega (arith, same, within)) zeros) in
@@ -143,8 +113,8 @@ returns-in-Ground-clause-value c = λ j below.
     let out = c.args.out.now in
     let size = c.requires.clear.length_is in
     let zeros : (k : ℕ) → k < length out → item out k ≡ pos 0 = λ k within. c.requires.clear.zeros k in
-    let half : r / 2 < length c.args.kinds.now = omega (arith, c.requires.row, c.requires.kinds) in
-    let at = get_or_default c.args.kinds.now (r / 2) Ground Kcl half in
+    let half : r / 2 < length c.args.network.kinds.now = omega (arith, c.requires.row, c.requires.network.kinds_count) in
+    let at = get_or_default c.args.network.kinds.now (r / 2) Ground Kcl half in
     let entry = unit_set out r j (omega (arith, size, c.requires.row)) below zeros in
     elim c.in-Ground.is [
       | inl is ↦ rw (at ∙ is, c.add_to-in-Ground.ensures) entry

@@ -6,6 +6,6 @@ use Rattle.emtp_phasor.proofs.flow.leaving.Given as goal
 
 abbrev pub invariant-loop-place : goal.invariant-loop-place
 invariant-loop-place l = record {
-  sum_is : l.sum ≡ total (λ b. leaving_through l.imaginary (port_at l.ports b) l.volts l.node (slice_get l.case.parts.branches b)) (take l.place-index l.places);
+  sum_is : l.sum ≡ total (λ b. leaving_through l.imaginary (port_at l.network.ports.now b) l.volts l.node (slice_get l.network.case.now.parts.branches b)) (take l.place-index l.places);
   small : unsigned_abs l.sum ≤ l.place-index * (2 * 10 ^ 18);
 }

@@ -1,40 +1,30 @@
-use Rattle.std.proofs.Common.{◌≡◌, ◌∙◌, drop, sym, ap, subst, length, to_z, of_z, All, List, ℤ, Result, Ok, arith}
+use Rattle.std.proofs.Common.{◌≡◌, ◌∙◌, drop, sym, ap, subst, length, to_z, of_z, All, List, ℤ, Result, Ok, refl, arith}
 use mir.Syntax.{w64}
 use Rattle.std.proofs.lemmas.Int.{to_z-of_z}
 use Rattle.std.proofs.lemmas.List.{take_at}
 use Rattle.std.proofs.lemmas.Result.{IfErr-weaker, on_ok_weaker}
 use Rattle.emtp_admittance.specs.held.Admittances.{IsSmallPort}
-use Rattle.emtp_case.specs.held.RowKinds.{TieIsThere}
 use Rattle.emtp_elim.specs.declared.fault.PlainFault.{PlainFault}
-use Rattle.emtp_phasor.specs.Doubled.{Doubled}
-use Rattle.emtp_phasor.specs.held.HeldGroups.{members_by_row}
+use Rattle.emtp_phasor.specs.Doubled.{Doubled, doubled_matrix}
 use Rattle.emtp_phasor.specs.Steady.{ports_of, resting_kinds, steady_right}
 use Rattle.emtp_phasor.proofs.Doubling.{length-doubled_matrix, length-right_side}
+use Rattle.emtp_phasor.proofs.Networks.{ready_network}
 use Rattle.emtp_phasor.proofs.SolvedRows.{fault_at, row_fault_at, solved_at}
-use Rattle.emtp_phasor.proofs.Volting.{kinds_size}
 use Rattle.emtp_phasor.proofs.system.System.solve.Goals as goal
 
-pub eliminate_rows-requires-clause-ports : goal.eliminate_rows-requires-clause-ports
-eliminate_rows-requires-clause-ports g c =
+pub eliminate_rows-requires-clause-network : goal.eliminate_rows-requires-clause-network
+eliminate_rows-requires-clause-network g c =
     let whole = take_at c.fill_ports.new.out (drop (length c.fill_ports.new.out) c.args.self.now.ports.items) c.args.self.now.ports.len (omega (arith, c.fill_ports.auto.out, c.deref_mut.ensures.len)) in
-    ap length (c.deref.ensures.value ∙ whole) ∙ c.fill_ports.auto.out ∙ ap length c.deref_mut.ensures.value ∙ c.requires.ready.ports_count
+    let count = ap length (c.deref.ensures.value ∙ whole) ∙ c.fill_ports.auto.out ∙ ap length c.deref_mut.ensures.value ∙ c.requires.ready.ports_count in
+    let small = subst (All IsSmallPort) (sym (c.deref.ensures.value ∙ whole)) c.fill_ports.ensures.small in
+    ready_network c.args.self.now _ c.requires.ready refl count small c.deref-2.ensures.value c.deref-3.ensures.value c.deref-4.ensures.value
 
-pub eliminate_rows-requires-clause-small : goal.eliminate_rows-requires-clause-small
-eliminate_rows-requires-clause-small g c =
+pub solve_right-requires-clause-network : goal.solve_right-requires-clause-network
+solve_right-requires-clause-network g c =
     let whole = take_at c.fill_ports.new.out (drop (length c.fill_ports.new.out) c.args.self.now.ports.items) c.args.self.now.ports.len (omega (arith, c.fill_ports.auto.out, c.deref_mut.ensures.len)) in
-    subst (All IsSmallPort) (sym (c.deref.ensures.value ∙ whole)) c.fill_ports.ensures.small
-
-pub eliminate_rows-requires-clause-kinds : goal.eliminate_rows-requires-clause-kinds
-eliminate_rows-requires-clause-kinds g c = ap length (c.deref-2.ensures.value ∙ c.requires.ready.kinds_are) ∙ kinds_size c.args.case.now.parts
-
-pub eliminate_rows-requires-clause-ties : goal.eliminate_rows-requires-clause-ties
-eliminate_rows-requires-clause-ties g c = subst (All (TieIsThere (length c.args.case.now.parts.nodes))) (sym c.deref-2.ensures.value) c.requires.ready.ties
-
-pub eliminate_rows-requires-clause-lists : goal.eliminate_rows-requires-clause-lists
-eliminate_rows-requires-clause-lists g c = c.deref-3.ensures.value ∙ c.requires.ready.lists_are
-
-pub eliminate_rows-requires-clause-groups : goal.eliminate_rows-requires-clause-groups
-eliminate_rows-requires-clause-groups g c = c.deref-4.ensures.value ∙ c.requires.ready.groups_are ∙ ap members_by_row (sym (c.deref-2.ensures.value ∙ c.requires.ready.kinds_are))
+    let count = ap length (c.deref.ensures.value ∙ whole) ∙ c.fill_ports.auto.out ∙ ap length c.deref_mut.ensures.value ∙ c.requires.ready.ports_count in
+    let small = subst (All IsSmallPort) (sym (c.deref.ensures.value ∙ whole)) c.fill_ports.ensures.small in
+    ready_network c.args.self.now _ c.requires.ready refl count small c.deref-2.ensures.value c.deref-3.ensures.value c.deref-4.ensures.value
 
 pub solve_right-requires-clause-size : goal.solve_right-requires-clause-size
 solve_right-requires-clause-size g c = c.eliminate_rows.ensures.size ∙ c.requires.ready.done_size
@@ -42,7 +32,8 @@ solve_right-requires-clause-size g c = c.eliminate_rows.ensures.size ∙ c.requi
 pub solve_right-requires-clause-all : goal.solve_right-requires-clause-all
 solve_right-requires-clause-all g c =
     let s : Doubled = record { case = c.args.case.now.parts; ports = c.deref.result.now; kinds = c.deref-2.result.now } in
-    omega (arith, c.in-Ok.ensures.finished.all, length-doubled_matrix s, c.eliminate_rows.ensures.size, c.requires.ready.done_size)
+    let all : length c.eliminate_rows.new.done.rows ≡ length (doubled_matrix s) = c.in-Ok.ensures.finished.all in
+    omega (arith, all, length-doubled_matrix s, c.eliminate_rows.ensures.size, c.requires.ready.done_size)
 
 pub solve_right-requires-clause-right : goal.solve_right-requires-clause-right
 solve_right-requires-clause-right g c = ap length (c.deref-in-Ok.ensures.value ∙ c.requires.ready.right_is) ∙ length-right_side c.args.case.now.parts (resting_kinds c.args.case.now.parts)
