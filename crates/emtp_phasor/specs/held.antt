@@ -3,6 +3,7 @@ pub mod Ending
 pub mod HeldBranches
 pub mod HeldGroups
 pub mod HeldLines
+pub mod HeldSources
 pub mod HeldSystem
 pub mod Opening
 pub mod Scanning

@@ -1,24 +1,20 @@
 //! The currents of branches in the steady state, and how far they are from Kirchhoff's current law.
 
-ghost use Rattle.std.specs.Prelude.{◌≡◌, ◌*◌, ◌+◌, ◌^◌, ◌<◌, ◌≤◌, ◌≤ℤ◌, ◌+ℤ◌, ◌*ℤ◌, ℕ, All, Some, true, max, pos, if◌then◌else◌, length, nat_lt, unsigned_abs, IfSome, IsNone};
+ghost use Rattle.std.specs.Prelude.{◌≡◌, ◌*◌, ◌+◌, ◌^◌, ◌<◌, ◌≤◌, ◌+ℤ◌, ◌*ℤ◌, All, Some, true, max, pos, length, nat_lt, unsigned_abs, IfSome, IsNone};
 ghost use Rattle.emtp_fix.specs.declared.limit.TheConstants.{LARGEST_ENTRY, LARGEST_VALUE};
 ghost use Rattle.emtp_case.specs.Branch.{from_of, to_of};
-ghost use Rattle.emtp_admittance.specs.Admittances.{in_block, port_at};
 ghost use Rattle.emtp_admittance.specs.held.Admittances.{IsSmallPort};
-ghost use Rattle.emtp_phasor.specs.held.SteadyNetwork.{IsSteadyNetwork, group_leaves, node_leaves};
+ghost use Rattle.emtp_phasor.specs.held.SteadyNetwork.{IsSteadyNetwork, group_leaves, node_brought, node_leaves};
 ghost use Rattle.emtp_phasor.specs.Steady.{entering, first_current, first_flow_out, flows, is_in_range, resting_kinds, leaving_through, row_residual, second_current};
 ghost use Rattle.emtp_phasor.specs.held.Steady.{AllFlow, JudgesResiduals};
-ghost use Rattle.emtp_phasor.specs.Volts.{volt_at};
 ghost use Rattle.emtp_phasor.specs.held.Volts.{IsVolt};
 
 use crate::fill::{imaginary_column, real_column};
 use crate::phasor::Phasor;
-use crate::sources::sources_into;
 use crate::steady_network::SteadyNetwork;
 use emtp_admittance::{TwoPort, product};
 use emtp_case::{Branch, Case, RowKind};
 use emtp_fix::{LARGEST_VALUE, PICO, near};
-use emtp_wave::CosTable;
 
 /// A voltage times the two numbers of a row.
 fn weighted(g: i128, b: i128, v: Phasor) -> i128
@@ -147,14 +143,23 @@ fn leaving_by(imaginary: bool, y: &TwoPort, volts: &[Phasor], node: u32, b: &Bra
     }
 }
 
+/// A part of what the current sources bring to the node of a row.
+fn brought_at(network: SteadyNetwork<'_>, imaginary: bool, row: usize) -> i128
+    requires network { IsSteadyNetwork network }
+    requires row { row < length network.case.now.parts.nodes }
+    ensures value { result ≡ node_brought network.entry imaginary row }
+    ensures small { unsigned_abs result ≤ 10 ^ 21 }
+{
+    let brought = network.brought;
+    if imaginary {
+        brought[2 * row + 1]
+    } else {
+        brought[2 * row]
+    }
+}
+
 /// A part of the current that leaves the node of a row through branches, less what its current sources bring.
-fn leaving(
-    table: &CosTable,
-    network: SteadyNetwork<'_>,
-    volts: &[Phasor],
-    imaginary: bool,
-    row: usize,
-) -> i128
+fn leaving(network: SteadyNetwork<'_>, volts: &[Phasor], imaginary: bool, row: usize) -> i128
     requires network { IsSteadyNetwork network }
     requires volts { All IsVolt volts.now }
     requires nodes { length volts.now ≡ length network.case.now.parts.nodes + 1 }
@@ -173,17 +178,11 @@ fn leaving(
         let at = *place as usize;
         sum += leaving_by(imaginary, &ports[at], volts, node, &branches[at]);
     }
-    sum - sources_into(table, network.case, imaginary, node)
+    sum - brought_at(network, imaginary, row)
 }
 
 /// A part of the current that leaves the group of a row.
-fn leaving_group(
-    table: &CosTable,
-    network: SteadyNetwork<'_>,
-    volts: &[Phasor],
-    imaginary: bool,
-    row: usize,
-) -> i128
+fn leaving_group(network: SteadyNetwork<'_>, volts: &[Phasor], imaginary: bool, row: usize) -> i128
     requires network { IsSteadyNetwork network }
     requires volts { All IsVolt volts.now }
     requires nodes { length volts.now ≡ length network.case.now.parts.nodes + 1 }
@@ -197,7 +196,7 @@ fn leaving_group(
     let mut sum = 0;
     for member in members {
         let at = *member as usize;
-        sum += leaving(table, network, volts, imaginary, at);
+        sum += leaving(network, volts, imaginary, at);
     }
     sum
 }
@@ -214,7 +213,7 @@ fn greater(a: i128, b: i128) -> i128
 }
 
 /// The residual of a row.
-fn residual(table: &CosTable, network: SteadyNetwork<'_>, volts: &[Phasor], row: usize) -> i128
+fn residual(network: SteadyNetwork<'_>, volts: &[Phasor], row: usize) -> i128
     requires network { IsSteadyNetwork network }
     requires kinds { network.kinds.now ≡ resting_kinds network.case.now.parts }
     requires volts { All IsVolt volts.now }
@@ -227,12 +226,12 @@ fn residual(table: &CosTable, network: SteadyNetwork<'_>, volts: &[Phasor], row:
     let kinds = network.kinds;
     match kinds[row] {
         RowKind::Kcl => greater(
-            leaving(table, network, volts, false, row),
-            leaving(table, network, volts, true, row),
+            leaving(network, volts, false, row),
+            leaving(network, volts, true, row),
         ),
         RowKind::Sum => greater(
-            leaving_group(table, network, volts, false, row),
-            leaving_group(table, network, volts, true, row),
+            leaving_group(network, volts, false, row),
+            leaving_group(network, volts, true, row),
         ),
         RowKind::Tie(_) | RowKind::Ground | RowKind::Source => 0,
     }
@@ -246,11 +245,7 @@ fn exceeds(residual: i128, tolerance: i64) -> bool
 }
 
 /// The greatest residual, or the first row above the tolerance with its residual, in nA.
-pub(crate) fn judge(
-    table: &CosTable,
-    network: SteadyNetwork<'_>,
-    volts: &[Phasor],
-) -> Result<i128, (usize, i128)>
+pub(crate) fn judge(network: SteadyNetwork<'_>, volts: &[Phasor]) -> Result<i128, (usize, i128)>
     requires network { IsSteadyNetwork network }
     requires kinds { network.kinds.now ≡ resting_kinds network.case.now.parts }
     requires volts { All IsVolt volts.now }
@@ -261,7 +256,7 @@ pub(crate) fn judge(
     let case = network.case;
     let mut greatest = 0;
     for i in 0..case.parts.nodes.len() {
-        let residual = residual(table, network, volts, i);
+        let residual = residual(network, volts, i);
         if exceeds(residual, case.parts.run.tolerance) {
             return Err((i, residual));
         }

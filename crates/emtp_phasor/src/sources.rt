@@ -1,16 +1,18 @@
 //! The right side of the doubled system, which is the same at all frequencies.
 
-ghost use Rattle.std.specs.Prelude.{◌≡◌, ◌*◌, ◌/◌, ◌^◌, ◌<◌, ◌≤◌, ◌*ℤ◌, ◌==◌, ◌&&◌, if◌then◌else◌, pos, length, unsigned_abs};
+ghost use Rattle.std.specs.Prelude.{◌≡◌, ◌*◌, ◌/◌, ◌^◌, ◌<◌, ◌≤◌, ◌*ℤ◌, ◌==◌, ◌&&◌, if◌then◌else◌, pos, length, unsigned_abs, IfOk};
 ghost use Rattle.emtp_fix.specs.Rounding.{near};
 ghost use Rattle.emtp_fix.specs.declared.limit.TheConstants.{PICO};
 ghost use Rattle.emtp_case.specs.RowOrder.{order_of};
 ghost use Rattle.emtp_case.specs.NodeRows.{group_sum, kind_at};
+ghost use Rattle.emtp_phasor.specs.held.HeldSources.{IsSmallBrought, brought_by_row};
 ghost use Rattle.emtp_phasor.specs.Volts.{part_phase, cosine_phase, doubled_right_by, doubled_right, source_part, source_phasors_into, source_phasor_at};
 
 use crate::groups::is_member;
 use emtp_case::{Case, RowKind, RowOrder, Shape, Source};
 use emtp_fix::{PICO, scaled};
 use emtp_wave::CosTable;
+use std::alloc::{AllocError, Global};
 
 /// A quarter turn.
 const QUARTER: i128 = 250_000_000_000_000_000;
@@ -72,7 +74,7 @@ fn brought(table: &CosTable, imaginary: bool, node: u32, s: &Source) -> i128
 }
 
 /// A part of what the current sources bring to a node.
-pub(crate) fn sources_into(table: &CosTable, case: &Case, imaginary: bool, node: u32) -> i128
+fn sources_into(table: &CosTable, case: &Case, imaginary: bool, node: u32) -> i128
     ensures value { result ≡ source_phasors_into case.now.parts imaginary node }
     ensures small { unsigned_abs result ≤ 10 ^ 21 }
 {
@@ -82,6 +84,34 @@ pub(crate) fn sources_into(table: &CosTable, case: &Case, imaginary: bool, node:
         sum += brought(table, imaginary, node, &sources[at]);
     }
     sum
+}
+
+/// What the current sources bring to the node of each row, part by part, in nA: the same at all frequencies.
+pub(crate) fn brought_by_row(
+    alloc: Global,
+    table: &CosTable,
+    case: &Case,
+    order: &RowOrder,
+) -> Result<Vec<i128>, AllocError>
+    requires { order.now ≡ order_of case.now.parts }
+    ensures value { IfOk result (λ brought. brought.items ≡ brought_by_row case.now.parts) }
+    ensures small { IfOk result (λ brought. IsSmallBrought case.now.parts brought.items) }
+{
+    let mut brought = vec![in alloc; 0i128; 2 * case.parts.nodes.len()]?;
+    fill_brought(table, case, order, &mut brought);
+    Ok(brought)
+}
+
+fn fill_brought(table: &CosTable, case: &Case, order: &RowOrder, out: &mut [i128])
+    requires order { order.now ≡ order_of case.now.parts }
+    requires out { length out.old ≡ 2 * length case.now.parts.nodes }
+    ensures value { out.new ≡ brought_by_row case.now.parts }
+    ensures small { IsSmallBrought case.now.parts out.new }
+{
+    for row in 0..out.len() {
+        let node = order.node_at(row / 2);
+        out[row] = sources_into(table, case, row % 2 == 1, node);
+    }
 }
 
 /// A part of the voltage that a source keeps at a node.

@@ -1,20 +1,18 @@
 //! The steady state at a frequency.
 
-ghost use Rattle.std.specs.Prelude.{◌≡◌, ◌*◌, ◌+◌, ◌^◌, ◌<◌, ◌∷◌, ℤ, List, All, None, Ok, Err, drop, length, IfOk, IfErr, OnOk};
-ghost use Rattle.emtp_case.specs.StepRecord.{rest_of};
+ghost use Rattle.std.specs.Prelude.{◌≡◌, ◌*◌, ◌+◌, ◌^◌, ◌<◌, All, Ok, Err, length, IfOk, IfErr, OnOk};
 ghost use Rattle.emtp_elim.specs.held.Finished.{AreAllFinished};
 ghost use Rattle.emtp_elim.specs.Matrix.{Matrix};
 ghost use Rattle.emtp_elim.specs.held.Matrix.{AreWithin};
 ghost use Rattle.emtp_elim.specs.Outcome.{outcome};
-ghost use Rattle.emtp_switch.specs.Groups.{tied_of};
 ghost use Rattle.emtp_admittance.specs.held.Frequency.{IsFrequency};
 ghost use Rattle.emtp_case.specs.held.EndNames.{IsNode};
 ghost use Rattle.emtp_case.specs.RowOrder.{order_of};
 ghost use Rattle.emtp_admittance.specs.held.Admittances.{IsSmallPort};
 ghost use Rattle.emtp_phasor.specs.held.SteadyNetwork.{IsSteadyNetwork};
-ghost use Rattle.emtp_phasor.specs.Steady.{resting_kinds, doubled_system, named_ending, port_or_none, ports_of, steady_right, doubled_solution, steady};
-ghost use Rattle.emtp_phasor.specs.held.Steady.{AreGood, IsSteady, judged_volts};
-ghost use Rattle.emtp_phasor.specs.Volts.{nothing, volt_in, phasors_of};
+ghost use Rattle.emtp_phasor.specs.Steady.{resting_kinds, named_ending, port_or_none, ports_of};
+ghost use Rattle.emtp_phasor.specs.held.Steady.{AreGood, judged_volts};
+ghost use Rattle.emtp_phasor.specs.Volts.{volt_in, phasors_of};
 ghost use Rattle.emtp_phasor.specs.held.Volts.{IsVolt};
 
 use crate::ending::{Ending, ending_at};
@@ -116,11 +114,7 @@ pub(crate) fn solve_right(
 }
 
 /// The greatest residual at these voltages, or the first branch or row that ends the solution.
-pub(crate) fn judge_volts(
-    table: &CosTable,
-    network: SteadyNetwork<'_>,
-    volts: &[Phasor],
-) -> Result<i128, Ending>
+pub(crate) fn judge_volts(network: SteadyNetwork<'_>, volts: &[Phasor]) -> Result<i128, Ending>
     requires network { IsSteadyNetwork network }
     requires kinds { network.kinds.now ≡ resting_kinds network.case.now.parts }
     requires volts { All IsVolt volts.now }
@@ -133,7 +127,7 @@ pub(crate) fn judge_volts(
     if let Some(b) = first_out(case, network.ports, volts) {
         return Err(ending_at(branch_name(case, b), Cause::Range));
     }
-    match judge(table, network, volts) {
+    match judge(network, volts) {
         Ok(greatest) => Ok(greatest),
         Err((row, measured)) => Err(Ending {
             node: network.order.node_at(row),

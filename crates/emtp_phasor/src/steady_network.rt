@@ -18,4 +18,6 @@ pub(crate) struct SteadyNetwork<'a> {
     pub(crate) lists: &'a [Items<u32>],
     /// For each row the rows whose nodes are of its group.
     pub(crate) groups: &'a [Items<u32>],
+    /// What the current sources bring to the node of each row, part by part, in nA.
+    pub(crate) brought: &'a [i128],
 }

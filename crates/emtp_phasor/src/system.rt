@@ -25,6 +25,7 @@ use crate::groups::members_by_row;
 use crate::node_branches::branches_by_row;
 use crate::opening::{Closed, right_side, row_kinds};
 use crate::phasor::{NOTHING, Phasor};
+use crate::sources::brought_by_row;
 use crate::steady::{NO_PORT, fill_ports, fill_volts, judge_volts, solve_right};
 use crate::steady_network::SteadyNetwork;
 use emtp_admittance::TwoPort;
@@ -55,8 +56,8 @@ impl From<AllocError> for Stop {
     }
 }
 
-/// The doubled system of a case. The kinds of its rows, the branches at each of them, the rows of each group and its right side
-/// are the same at all frequencies; the rest is room that is filled anew.
+/// The doubled system of a case. The kinds of its rows, the branches at each of them, the rows of each group, what current
+/// sources bring and its right side are the same at all frequencies; the rest is room that is filled anew.
 #[derive(Drop)]
 pub(crate) struct System {
     /// The order of the network's rows.
@@ -67,6 +68,8 @@ pub(crate) struct System {
     pub(crate) lists: Vec<Items<u32>>,
     /// For each row of the network the rows whose nodes are of its group.
     pub(crate) groups: Vec<Items<u32>>,
+    /// What the current sources bring to the node of each row, part by part, in nA.
+    pub(crate) brought: Vec<i128>,
     /// The finished rows of the last frequency's matrix.
     pub(crate) done: SparseRows,
     /// Room for a row while it is written and eliminated, clear between two.
@@ -138,6 +141,7 @@ impl System {
         let right = right_side(alloc, table, case, &order, &kinds)?;
         let lists = branches_by_row(alloc, case, &order)?;
         let groups = members_by_row(alloc, &kinds)?;
+        let brought = brought_by_row(alloc, table, case, &order)?;
         let done = SparseRows::open(alloc, 2 * nodes)?;
         let work = WorkRow::open(alloc, 2 * nodes)?;
         let ports = no_ports(alloc, case.parts.branches.len())?;
@@ -149,6 +153,7 @@ impl System {
             kinds,
             lists,
             groups,
+            brought,
             done,
             work,
             ports,
@@ -179,7 +184,7 @@ impl System {
         match self.solve(table, case, freq, steps) {
             Ok(()) => {
                 fill_volts(case, &self.order, &self.x, &mut self.volts);
-                self.judge(table, case)
+                self.judge(case)
             }
             Err(end) => Err(end),
         }
@@ -211,6 +216,7 @@ impl System {
             kinds: &self.kinds,
             lists: &self.lists,
             groups: &self.groups,
+            brought: &self.brought,
         };
         match eliminate_rows(network, &mut self.done, &mut self.work, steps) {
             Ok(()) => solve_right(
@@ -225,7 +231,7 @@ impl System {
     }
 
     /// The greatest residual at the voltages, or the first branch or row that ends the solution.
-    fn judge(&self, table: &CosTable, case: &Case) -> Result<i128, Ending>
+    fn judge(&self, case: &Case) -> Result<i128, Ending>
         requires ready { IsReady case.now.parts self.now }
         requires small { All IsSmallPort self.now.ports.items }
         requires volts { All IsVolt self.now.volts.items }
@@ -240,7 +246,8 @@ impl System {
             kinds: &self.kinds,
             lists: &self.lists,
             groups: &self.groups,
+            brought: &self.brought,
         };
-        judge_volts(table, network, &self.volts)
+        judge_volts(network, &self.volts)
     }
 }

@@ -8,6 +8,7 @@ use Rattle.emtp_elim.specs.held.WorkRow.{IsClearRow}
 use Rattle.emtp_switch.specs.Groups.{tied_of}
 use Rattle.emtp_phasor.specs.held.HeldBranches.{branches_by_row}
 use Rattle.emtp_phasor.specs.held.HeldGroups.{members_by_row}
+use Rattle.emtp_phasor.specs.held.HeldSources.{IsSmallBrought, brought_by_row}
 use Rattle.emtp_phasor.specs.Steady.{resting_kinds, steady_right}
 use Rattle.emtp_phasor.specs.declared.system.System.{System}
 
@@ -19,6 +20,8 @@ pub record IsReady (case : Parts) (s : System) : Type 0 where
   pub ties : All (TieIsThere (length case.nodes)) s.kinds.items
   pub lists_are : s.lists.items ≡ branches_by_row case
   pub groups_are : s.groups.items ≡ members_by_row (resting_kinds case)
+  pub brought_are : s.brought.items ≡ brought_by_row case
+  pub brought_small : IsSmallBrought case s.brought.items
   pub done_size : s.done.size ≡ 2 * length case.nodes
   pub work_clear : IsClearRow (2 * length case.nodes) s.work
   pub right_is : s.right.items ≡ steady_right case

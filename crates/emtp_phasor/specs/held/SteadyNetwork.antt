@@ -11,13 +11,15 @@ use Rattle.emtp_elim.specs.Outcome.{outcome}
 use Rattle.emtp_phasor.specs.Doubled.{Doubled, admittance_entry, between_nodes, doubled_entry, doubled_matrix}
 use Rattle.emtp_phasor.specs.held.HeldBranches.{branches_by_row}
 use Rattle.emtp_phasor.specs.held.HeldGroups.{members_by_row}
+use Rattle.emtp_phasor.specs.held.HeldSources.{IsSmallBrought, brought_by_row}
 use Rattle.emtp_phasor.specs.Steady.{leaving_node, named_ending}
+use Rattle.emtp_phasor.specs.Volts.{source_phasors_into}
 use Rattle.emtp_phasor.specs.declared.ending.Ending.{Ending}
 use Rattle.emtp_phasor.specs.declared.phasor.Phasor.{Phasor}
 use Rattle.emtp_phasor.specs.declared.steady_network.SteadyNetwork.{SteadyNetwork}
 
--- its order is that of the case, each branch has a two-port in range, each tie names a row, and the branches and the groups
--- are those of each row
+-- its order is that of the case, each branch has a two-port in range, each tie names a row, and the branches, the groups and
+-- what current sources bring are those of each row
 pub record IsSteadyNetwork (n : SteadyNetwork) : Type 0 where
   pub order_is : n.order.now ≡ order_of n.case.now.parts
   pub ports_count : length n.ports.now ≡ length n.case.now.parts.branches
@@ -26,6 +28,8 @@ pub record IsSteadyNetwork (n : SteadyNetwork) : Type 0 where
   pub ties : All (TieIsThere (length n.case.now.parts.nodes)) n.kinds.now
   pub lists_are : n.lists.now ≡ branches_by_row n.case.now.parts
   pub groups_are : n.groups.now ≡ members_by_row n.kinds.now
+  pub brought_are : n.brought.now ≡ brought_by_row n.case.now.parts
+  pub brought_small : IsSmallBrought n.case.now.parts n.brought.now
 
 -- what its doubled matrix depends on
 abbrev pub doubled_of : SteadyNetwork → Doubled
@@ -64,6 +68,10 @@ abbrev pub row_part : SteadyNetwork → ℕ → ℕ → ℤ
 row_part n row c = doubled_entry (doubled_of n) row c (kind_at n.kinds.now (row / 2))
 
 -- ---- what leaves, less what current sources bring
+
+-- what they bring to the node of a row
+abbrev pub node_brought : SteadyNetwork → Bool → ℕ → ℤ
+node_brought n imaginary row = source_phasors_into n.case.now.parts imaginary (node_at n.case.now.parts row)
 
 -- the node of a row
 abbrev pub node_leaves : SteadyNetwork → List Phasor → Bool → ℕ → ℤ

@@ -4,6 +4,7 @@ use Rattle.emtp_case.specs.NodeRows.{node_at}
 use Rattle.emtp_case.proofs.RowsOfNodes.{order_at, order_size}
 use Rattle.emtp_admittance.specs.Admittances.{port_at}
 use Rattle.emtp_phasor.specs.Steady.{leaving_node, leaving_through}
+use Rattle.emtp_phasor.specs.Volts.{source_phasors_into}
 use Rattle.emtp_phasor.proofs.BranchLists.{lists_count, node_list, place_total_more, place_there, places_few}
 use Rattle.emtp_phasor.proofs.Flowing.{flow_read, from_there, leaving_is, leaving_read, to_there}
 use Rattle.emtp_phasor.proofs.flow.leaving.Goals as goal
@@ -85,7 +86,7 @@ returns-clause-value c =
     let at_row : node ≡ node_at case c.args.row = sym c.node_at-node.ensures.node ∙ order_at case c.args.network.order.now c.args.row c.requires.network.order_is in
     let are = node_list case c.args.network.order.now c.args.network.lists.now c.args.row node c.index-lists-row.result places c.requires.network.order_is c.requires.network.lists_are c.requires.row c.node_at-node.ensures.node c.index-lists-row.is c.as_slice-places.ensures in
     let few : c.loop-place.place-index ≤ 5000 = omega (arith, c.loop-place.auto.place-index-end, ap length are, places_few case node, c.args.network.case.now.fits.draft.counts.branches) in
-    leaving_is case c.args.network.ports.now c.args.volts.now c.args.imaginary node c.loop-place.place-index places _ c.sources_into.result _ are (omega (arith, c.loop-place-test.false)) c.loop-place.invariant.sum_is c.sources_into.ensures.value (omega (arith, ints, c.loop-place.invariant.small, c.sources_into.ensures.small, few))
+    leaving_is case c.args.network.ports.now c.args.volts.now c.args.imaginary node c.loop-place.place-index places _ c.brought_at.result _ are (omega (arith, c.loop-place-test.false)) c.loop-place.invariant.sum_is (c.brought_at.ensures.value ∙ ap (source_phasors_into case c.args.imaginary) (sym at_row)) (omega (arith, ints, c.loop-place.invariant.small, c.brought_at.ensures.small, few))
     ∙ ap (leaving_node case c.args.network.ports.now c.args.volts.now c.args.imaginary) at_row
 
 pub returns-clause-bound : goal.returns-clause-bound
@@ -95,4 +96,4 @@ returns-clause-bound c =
     let places = c.as_slice-places.result.now in
     let are = node_list case c.args.network.order.now c.args.network.lists.now c.args.row node c.index-lists-row.result places c.requires.network.order_is c.requires.network.lists_are c.requires.row c.node_at-node.ensures.node c.index-lists-row.is c.as_slice-places.ensures in
     let few : c.loop-place.place-index ≤ 5000 = omega (arith, c.loop-place.auto.place-index-end, ap length are, places_few case node, c.args.network.case.now.fits.draft.counts.branches) in
-    omega (arith, ints, c.loop-place.invariant.small, c.sources_into.ensures.small, few)
+    omega (arith, ints, c.loop-place.invariant.small, c.brought_at.ensures.small, few)

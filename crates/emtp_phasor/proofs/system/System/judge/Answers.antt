@@ -7,4 +7,4 @@ pub judge_volts-requires-clause-network : goal.judge_volts-requires-clause-netwo
 judge_volts-requires-clause-network c =
     let count = ap length c.deref.ensures.value ∙ c.requires.ready.ports_count in
     let small = subst (All IsSmallPort) (sym c.deref.ensures.value) c.requires.small in
-    ready_network c.args.self.now _ c.requires.ready refl count small c.deref-2.ensures.value c.deref-3.ensures.value c.deref-4.ensures.value
+    ready_network c.args.self.now _ c.requires.ready refl count small c.deref-2.ensures.value c.deref-3.ensures.value c.deref-4.ensures.value c.deref-5.ensures.value

@@ -17,14 +17,14 @@ eliminate_rows-requires-clause-network g c =
     let whole = take_at c.fill_ports.new.out (drop (length c.fill_ports.new.out) c.args.self.now.ports.items) c.args.self.now.ports.len (omega (arith, c.fill_ports.auto.out, c.deref_mut.ensures.len)) in
     let count = ap length (c.deref.ensures.value ∙ whole) ∙ c.fill_ports.auto.out ∙ ap length c.deref_mut.ensures.value ∙ c.requires.ready.ports_count in
     let small = subst (All IsSmallPort) (sym (c.deref.ensures.value ∙ whole)) c.fill_ports.ensures.small in
-    ready_network c.args.self.now _ c.requires.ready refl count small c.deref-2.ensures.value c.deref-3.ensures.value c.deref-4.ensures.value
+    ready_network c.args.self.now _ c.requires.ready refl count small c.deref-2.ensures.value c.deref-3.ensures.value c.deref-4.ensures.value c.deref-5.ensures.value
 
 pub solve_right-requires-clause-network : goal.solve_right-requires-clause-network
 solve_right-requires-clause-network g c =
     let whole = take_at c.fill_ports.new.out (drop (length c.fill_ports.new.out) c.args.self.now.ports.items) c.args.self.now.ports.len (omega (arith, c.fill_ports.auto.out, c.deref_mut.ensures.len)) in
     let count = ap length (c.deref.ensures.value ∙ whole) ∙ c.fill_ports.auto.out ∙ ap length c.deref_mut.ensures.value ∙ c.requires.ready.ports_count in
     let small = subst (All IsSmallPort) (sym (c.deref.ensures.value ∙ whole)) c.fill_ports.ensures.small in
-    ready_network c.args.self.now _ c.requires.ready refl count small c.deref-2.ensures.value c.deref-3.ensures.value c.deref-4.ensures.value
+    ready_network c.args.self.now _ c.requires.ready refl count small c.deref-2.ensures.value c.deref-3.ensures.value c.deref-4.ensures.value c.deref-5.ensures.value
 
 pub solve_right-requires-clause-size : goal.solve_right-requires-clause-size
 solve_right-requires-clause-size g c = c.eliminate_rows.ensures.size ∙ c.requires.ready.done_size
