@@ -4,13 +4,14 @@ ghost use Rattle.std.specs.Prelude.{◌≡◌, ◌*◌, ◌+◌, ◌^◌, ◌<�
 ghost use Rattle.emtp_fix.specs.declared.limit.TheConstants.{LARGEST_ENTRY, LARGEST_VALUE};
 ghost use Rattle.emtp_case.specs.Branch.{from_of, to_of};
 ghost use Rattle.emtp_admittance.specs.held.Admittances.{IsSmallPort};
-ghost use Rattle.emtp_phasor.specs.held.SteadyNetwork.{IsSteadyNetwork, group_leaves, node_brought, node_leaves};
+ghost use Rattle.emtp_phasor.specs.held.SteadyNetwork.{IsSteadyNetwork, group_leaves, node_leaves};
 ghost use Rattle.emtp_phasor.specs.Steady.{entering, first_current, first_flow_out, flows, is_in_range, resting_kinds, leaving_through, row_residual, second_current};
 ghost use Rattle.emtp_phasor.specs.held.Steady.{AllFlow, JudgesResiduals};
 ghost use Rattle.emtp_phasor.specs.held.Volts.{IsVolt};
 
 use crate::fill::{imaginary_column, real_column};
 use crate::phasor::Phasor;
+use crate::sources::brought_at;
 use crate::steady_network::SteadyNetwork;
 use emtp_admittance::{TwoPort, product};
 use emtp_case::{Branch, Case, RowKind};
@@ -140,21 +141,6 @@ fn leaving_by(imaginary: bool, y: &TwoPort, volts: &[Phasor], node: u32, b: &Bra
         second_current(imaginary, y, volts, b)
     } else {
         0
-    }
-}
-
-/// A part of what the current sources bring to the node of a row.
-fn brought_at(network: SteadyNetwork<'_>, imaginary: bool, row: usize) -> i128
-    requires network { IsSteadyNetwork network }
-    requires row { row < length network.case.now.parts.nodes }
-    ensures value { result ≡ node_brought network.entry imaginary row }
-    ensures small { unsigned_abs result ≤ 10 ^ 21 }
-{
-    let brought = network.brought;
-    if imaginary {
-        brought[2 * row + 1]
-    } else {
-        brought[2 * row]
     }
 }
 

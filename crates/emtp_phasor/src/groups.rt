@@ -54,7 +54,7 @@ fn add_member(
     Ok(())
 }
 
-pub(crate) fn is_member(kinds: &[RowKind], i: usize, k: usize) -> bool
+fn is_member(kinds: &[RowKind], i: usize, k: usize) -> bool
     requires { k < length kinds.now }
     ensures { result ≡ is_member kinds.now i k }
 {

@@ -8,9 +8,11 @@ ghost use Rattle.emtp_case.specs.StepRecord.{rest_of};
 ghost use Rattle.emtp_switch.specs.Groups.{tied_of};
 ghost use Rattle.emtp_phasor.specs.declared.opening.Closed.{Closed};
 ghost use Rattle.emtp_phasor.specs.held.Opening.{IsClosed};
+ghost use Rattle.emtp_phasor.specs.held.SteadyNetwork.{IsSteadyNetwork};
 ghost use Rattle.emtp_phasor.specs.Steady.{resting_kinds, steady_right};
 
 use crate::sources::fill_right;
+use crate::steady_network::SteadyNetwork;
 use emtp_case::{Case, RowKind, RowOrder};
 use emtp_switch::{Switches, Tied};
 use emtp_wave::CosTable;
@@ -64,15 +66,13 @@ pub(crate) fn row_kinds(
 pub(crate) fn right_side(
     alloc: Global,
     table: &CosTable,
-    case: &Case,
-    order: &RowOrder,
-    kinds: &[RowKind],
+    network: SteadyNetwork<'_>,
 ) -> Result<Vec<i128>, AllocError>
-    requires order { order.now ≡ order_of case.now.parts }
-    requires kinds { kinds.now ≡ resting_kinds case.now.parts }
-    ensures { IfOk result (λ right. right.items ≡ steady_right case.now.parts) }
+    requires network { IsSteadyNetwork network }
+    requires kinds { network.kinds.now ≡ resting_kinds network.case.now.parts }
+    ensures { IfOk result (λ right. right.items ≡ steady_right network.entry.case.now.parts) }
 {
-    let mut right = vec![in alloc; 0i128; 2 * case.parts.nodes.len()]?;
-    fill_right(table, case, order, kinds, &mut right);
+    let mut right = vec![in alloc; 0i128; 2 * network.case.parts.nodes.len()]?;
+    fill_right(table, network, &mut right);
     Ok(right)
 }

@@ -4,11 +4,11 @@ ghost use Rattle.std.specs.Prelude.{◌≡◌, ◌*◌, ◌/◌, ◌^◌, ◌<�
 ghost use Rattle.emtp_fix.specs.Rounding.{near};
 ghost use Rattle.emtp_fix.specs.declared.limit.TheConstants.{PICO};
 ghost use Rattle.emtp_case.specs.RowOrder.{order_of};
-ghost use Rattle.emtp_case.specs.NodeRows.{group_sum, kind_at};
 ghost use Rattle.emtp_phasor.specs.held.HeldSources.{IsSmallBrought, brought_by_row};
-ghost use Rattle.emtp_phasor.specs.Volts.{part_phase, cosine_phase, doubled_right_by, doubled_right, source_part, source_phasors_into, source_phasor_at};
+ghost use Rattle.emtp_phasor.specs.held.SteadyNetwork.{IsSteadyNetwork, group_brought, node_brought, right_part};
+ghost use Rattle.emtp_phasor.specs.Volts.{part_phase, cosine_phase, doubled_right, source_part, source_phasors_into, source_phasor_at};
 
-use crate::groups::is_member;
+use crate::steady_network::SteadyNetwork;
 use emtp_case::{Case, RowKind, RowOrder, Shape, Source};
 use emtp_fix::{PICO, scaled};
 use emtp_wave::CosTable;
@@ -130,81 +130,64 @@ fn voltage_of(table: &CosTable, case: &Case, imaginary: bool, node: u32) -> i128
     }
 }
 
-/// A part of what the current sources bring to a node, where it is one of a group.
-fn member_sources(
-    table: &CosTable,
-    case: &Case,
-    imaginary: bool,
-    node: u32,
-    is_member: bool,
-) -> i128
-    ensures value { result ≡ (if is_member then source_phasors_into case.now.parts imaginary node else pos 0) }
+/// A part of what the current sources bring to the node of a row.
+pub(crate) fn brought_at(network: SteadyNetwork<'_>, imaginary: bool, row: usize) -> i128
+    requires network { IsSteadyNetwork network }
+    requires row { row < length network.case.now.parts.nodes }
+    ensures value { result ≡ node_brought network.entry imaginary row }
     ensures small { unsigned_abs result ≤ 10 ^ 21 }
 {
-    if is_member {
-        sources_into(table, case, imaginary, node)
+    let brought = network.brought;
+    if imaginary {
+        brought[2 * row + 1]
     } else {
-        0
+        brought[2 * row]
     }
 }
 
-/// A part of what the current sources bring to a group.
-fn sources_of_group(
-    table: &CosTable,
-    case: &Case,
-    order: &RowOrder,
-    kinds: &[RowKind],
-    imaginary: bool,
-    i: usize,
-) -> i128
-    requires order { order.now ≡ order_of case.now.parts }
-    requires kinds { length kinds.now ≡ length case.now.parts.nodes }
-    ensures { result ≡ group_sum case.now.parts kinds.now i (source_phasors_into case.now.parts imaginary) }
+/// A part of what the current sources bring to the group of a row.
+fn brought_to_group(network: SteadyNetwork<'_>, imaginary: bool, row: usize) -> i128
+    requires network { IsSteadyNetwork network }
+    requires row { row < length network.case.now.parts.nodes }
+    ensures value { result ≡ group_brought network.entry imaginary row }
+    ensures small { unsigned_abs result ≤ 10 ^ 25 }
 {
+    let groups = network.groups;
+    let members = groups[row].as_slice();
     let mut sum = 0;
-    for k in 0..kinds.len() {
-        sum += member_sources(
-            table,
-            case,
-            imaginary,
-            order.node_at(k),
-            is_member(kinds, i, k),
-        );
+    for member in members {
+        let at = *member as usize;
+        sum += brought_at(network, imaginary, at);
     }
     sum
 }
 
 /// The right side of a row.
-fn right_of(table: &CosTable, case: &Case, order: &RowOrder, kinds: &[RowKind], row: usize) -> i128
-    requires order { order.now ≡ order_of case.now.parts }
-    requires kinds { length kinds.now ≡ length case.now.parts.nodes }
-    requires row { row < 2 * length case.now.parts.nodes }
-    ensures { result ≡ doubled_right_by case.now.parts kinds.now row (kind_at kinds.now (row / 2)) }
+fn right_of(table: &CosTable, network: SteadyNetwork<'_>, row: usize) -> i128
+    requires network { IsSteadyNetwork network }
+    requires row { row < 2 * length network.case.now.parts.nodes }
+    ensures { result ≡ right_part network.entry row }
 {
     let imaginary = row % 2 == 1;
-    let node = order.node_at(row / 2);
+    let kinds = network.kinds;
     match kinds[row / 2] {
-        RowKind::Kcl => sources_into(table, case, imaginary, node),
-        RowKind::Sum => sources_of_group(table, case, order, kinds, imaginary, row / 2),
+        RowKind::Kcl => brought_at(network, imaginary, row / 2),
+        RowKind::Sum => brought_to_group(network, imaginary, row / 2),
         RowKind::Tie(_) | RowKind::Ground => 0,
-        RowKind::Source => voltage_of(table, case, imaginary, node),
+        RowKind::Source => {
+            let node = network.order.node_at(row / 2);
+            voltage_of(table, network.case, imaginary, node)
+        }
     }
 }
 
 /// Fills the right side.
-pub(crate) fn fill_right(
-    table: &CosTable,
-    case: &Case,
-    order: &RowOrder,
-    kinds: &[RowKind],
-    out: &mut [i128],
-)
-    requires order { order.now ≡ order_of case.now.parts }
-    requires kinds { length kinds.now ≡ length case.now.parts.nodes }
-    requires out { length out.old ≡ 2 * length case.now.parts.nodes }
-    ensures { out.new ≡ doubled_right case.now.parts kinds.now }
+pub(crate) fn fill_right(table: &CosTable, network: SteadyNetwork<'_>, out: &mut [i128])
+    requires network { IsSteadyNetwork network }
+    requires out { length out.old ≡ 2 * length network.case.now.parts.nodes }
+    ensures { out.new ≡ doubled_right network.entry.case.now.parts network.entry.kinds.now }
 {
     for row in 0..out.len() {
-        out[row] = right_of(table, case, order, kinds, row);
+        out[row] = right_of(table, network, row);
     }
 }

@@ -138,13 +138,22 @@ impl System {
         ensures { IfOk result (IsReady case.now.parts) }
     {
         let nodes = case.parts.nodes.len();
-        let right = right_side(alloc, table, case, &order, &kinds)?;
         let lists = branches_by_row(alloc, case, &order)?;
         let groups = members_by_row(alloc, &kinds)?;
         let brought = brought_by_row(alloc, table, case, &order)?;
         let done = SparseRows::open(alloc, 2 * nodes)?;
         let work = WorkRow::open(alloc, 2 * nodes)?;
         let ports = no_ports(alloc, case.parts.branches.len())?;
+        let network = SteadyNetwork {
+            case,
+            order: &order,
+            ports: &ports,
+            kinds: &kinds,
+            lists: &lists,
+            groups: &groups,
+            brought: &brought,
+        };
+        let right = right_side(alloc, table, network)?;
         let rhs = vec![in alloc; 0i128; 2 * nodes]?;
         let x = vec![in alloc; 0i64; 2 * nodes]?;
         let volts = vec![in alloc; NOTHING; nodes + 1]?;

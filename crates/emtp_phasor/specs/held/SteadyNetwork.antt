@@ -13,7 +13,7 @@ use Rattle.emtp_phasor.specs.held.HeldBranches.{branches_by_row}
 use Rattle.emtp_phasor.specs.held.HeldGroups.{members_by_row}
 use Rattle.emtp_phasor.specs.held.HeldSources.{IsSmallBrought, brought_by_row}
 use Rattle.emtp_phasor.specs.Steady.{leaving_node, named_ending}
-use Rattle.emtp_phasor.specs.Volts.{source_phasors_into}
+use Rattle.emtp_phasor.specs.Volts.{doubled_right_by, source_phasors_into}
 use Rattle.emtp_phasor.specs.declared.ending.Ending.{Ending}
 use Rattle.emtp_phasor.specs.declared.phasor.Phasor.{Phasor}
 use Rattle.emtp_phasor.specs.declared.steady_network.SteadyNetwork.{SteadyNetwork}
@@ -67,11 +67,20 @@ group_part n imaginary row c =
 abbrev pub row_part : SteadyNetwork → ℕ → ℕ → ℤ
 row_part n row c = doubled_entry (doubled_of n) row c (kind_at n.kinds.now (row / 2))
 
+-- ---- what stands in a row of the right side
+
+abbrev pub right_part : SteadyNetwork → ℕ → ℤ
+right_part n row = doubled_right_by n.case.now.parts n.kinds.now row (kind_at n.kinds.now (row / 2))
+
 -- ---- what leaves, less what current sources bring
 
 -- what they bring to the node of a row
 abbrev pub node_brought : SteadyNetwork → Bool → ℕ → ℤ
 node_brought n imaginary row = source_phasors_into n.case.now.parts imaginary (node_at n.case.now.parts row)
+
+-- what they bring to the group of a row
+abbrev pub group_brought : SteadyNetwork → Bool → ℕ → ℤ
+group_brought n imaginary row = group_sum n.case.now.parts n.kinds.now row (source_phasors_into n.case.now.parts imaginary)
 
 -- the node of a row
 abbrev pub node_leaves : SteadyNetwork → List Phasor → Bool → ℕ → ℤ

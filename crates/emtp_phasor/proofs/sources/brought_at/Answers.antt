@@ -3,7 +3,7 @@ use Rattle.std.proofs.lemmas.Int.{ints}
 use Rattle.emtp_case.specs.NodeRows.{node_at}
 use Rattle.emtp_phasor.specs.Volts.{source_phasors_into}
 use Rattle.emtp_phasor.proofs.Sourcing.{brought_imaginary, brought_real}
-use Rattle.emtp_phasor.proofs.flow.brought_at.Goals as goal
+use Rattle.emtp_phasor.proofs.sources.brought_at.Goals as goal
 
 pub returns-then-imaginary-clause-value : goal.returns-then-imaginary-clause-value
 returns-then-imaginary-clause-value c =
