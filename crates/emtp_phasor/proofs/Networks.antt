@@ -1,10 +1,14 @@
--- The network that the fields of a system make up.
-use Rattle.std.proofs.Common.{◌≡◌, ◌∙◌, sym, ap, subst, All, length}
+-- The network that the fields of a system make up, and its two-ports.
+use Rattle.std.proofs.Common.{◌≡◌, ◌∙◌, ℤ, List, Result, Ok, Err, IfOk, OnOk, sym, ap, subst, All, length}
+use Rattle.emtp_admittance.specs.Impedance.{ports_of}
 use Rattle.emtp_admittance.specs.held.Admittances.{IsSmallPort}
+use Rattle.emtp_admittance.specs.declared.admittance.TwoPort.{TwoPort}
+use Rattle.emtp_admittance.specs.declared.refusal.Refused.{Refused}
+use Rattle.emtp_case.specs.declared.case.Parts.{Parts}
 use Rattle.emtp_case.specs.held.RowKinds.{TieIsThere}
 use Rattle.emtp_phasor.specs.held.HeldGroups.{members_by_row}
 use Rattle.emtp_phasor.specs.held.HeldSources.{IsSmallBrought}
-use Rattle.emtp_phasor.specs.held.HeldSystem.{IsReady}
+use Rattle.emtp_phasor.specs.held.HeldSystem.{HasPorts, IsReady}
 use Rattle.emtp_phasor.specs.held.SteadyNetwork.{IsSteadyNetwork}
 use Rattle.emtp_phasor.specs.declared.steady_network.SteadyNetwork.{SteadyNetwork}
 use Rattle.emtp_phasor.specs.declared.system.System.{System}
@@ -23,3 +27,8 @@ ready_network s n ready order ports small kinds lists groups brought = record {
   brought_small = subst (IsSmallBrought n.case.now.parts) (sym brought) ready.brought_small;
   groups_are = groups ∙ ready.groups_are ∙ ap members_by_row (sym (kinds ∙ ready.kinds_are));
 }
+
+-- its two-ports, where the frequency is good
+pub has_ports : (case : Parts) (s : System) (out : List TwoPort) (r : Result ℤ Refused) → s.ports.items ≡ out → IfOk r (λ found. out ≡ ports_of case found) → OnOk r (All IsSmallPort out) → IfOk r (λ found. HasPorts case found s)
+has_ports case s out (Ok found) whole are small = record { are = whole ∙ are; small = subst (All IsSmallPort) (sym whole) small }
+has_ports case s out (Err refused) whole are small = tt

@@ -32,7 +32,7 @@ use Rattle.emtp_wave.proofs.Worked.{last}
 use Rattle.emtp_wave.specs.Cosine.{cosine, direction, in_quarter}
 use Rattle.emtp_admittance.proofs.InverseRests.{series_inverse}
 use Rattle.emtp_admittance.specs.Admittances.{port_at}
-use Rattle.emtp_admittance.specs.Impedance.{across_ends, angular_frequency, or_refused, series_port}
+use Rattle.emtp_admittance.specs.Impedance.{across_ends, angular_frequency, or_refused, ports_of, series_port}
 use Rattle.emtp_admittance.specs.Inverses.{IsInverseAcross}
 use Rattle.emtp_admittance.specs.Probes.{card_barred, is_plain_cosine, is_probe, judged_probe, probe_in, scanned_by, unless_barred}
 use Rattle.emtp_admittance.specs.Refusals.{branch_refused, control_cards, judged_at, judged_frequency, least_refusal, least_refused, refused_as, sooner, source_refused, switch_refused, unless_refused}
@@ -47,7 +47,7 @@ use Rattle.emtp_phasor.proofs.PhasorLaws.{imaginary_current, real_current}
 use Rattle.emtp_phasor.proofs.Volting.{kinds_size}
 use Rattle.emtp_phasor.specs.Scanning.{answer_by, answer_of_state, impedance_or_range, impedance_seen, line_at, over_amplitude}
 use Rattle.emtp_phasor.specs.SingleBranch.{IsBranchToGround, IsSeen, reactance_at}
-use Rattle.emtp_phasor.specs.Steady.{State, balanced_residuals, doubled_solution, entering, first_flow_out, first_residual_above, leaving_node, leaving_through, ports_of, resting_kinds, row_residual, steady, untied_at_rest, within}
+use Rattle.emtp_phasor.specs.Steady.{State, balanced_residuals, doubled_solution, entering, first_flow_out, first_residual_above, leaving_node, leaving_through, resting_kinds, row_residual, steady, untied_at_rest, within}
 use Rattle.emtp_phasor.specs.Volts.{nothing, part_phase, cosine_phase, phasors_of, source_part, source_phasors_into, volt_at}
 use Rattle.emtp_phasor.specs.declared.ending.Ending.{Ending}
 use Rattle.emtp_phasor.specs.declared.line.ScanAnswer.TheVariants.{Impedance}

@@ -7,7 +7,8 @@ use Rattle.emtp_case.specs.declared.case.Parts.{Parts}
 use Rattle.emtp_case.specs.declared.row_kind.RowKind.{RowKind}
 use Rattle.emtp_admittance.specs.declared.admittance.TwoPort.{TwoPort}
 use Rattle.emtp_phasor.specs.Doubled.{doubled_matrix}
-use Rattle.emtp_phasor.specs.Steady.{doubled_solution, doubled_system, named_ending, ports_of, resting_kinds, steady_right}
+use Rattle.emtp_admittance.specs.Impedance.{ports_of}
+use Rattle.emtp_phasor.specs.Steady.{doubled_solution, doubled_system, named_ending, resting_kinds, steady_right}
 use Rattle.emtp_phasor.specs.declared.ending.Ending.{Ending}
 
 -- no row is finished yet

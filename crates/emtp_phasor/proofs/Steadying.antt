@@ -7,7 +7,8 @@ use Rattle.emtp_case.specs.RowOrder.{order_of}
 use Rattle.emtp_case.specs.StepRecord.{rest_of}
 use Rattle.emtp_case.specs.declared.case.Parts.{Parts}
 use Rattle.emtp_switch.specs.Groups.{tied_of}
-use Rattle.emtp_phasor.specs.Steady.{State, ending_at, doubled_system, ports_of, steady_right, doubled_solution, steady}
+use Rattle.emtp_admittance.specs.Impedance.{ports_of}
+use Rattle.emtp_phasor.specs.Steady.{State, ending_at, doubled_system, steady_right, doubled_solution, steady}
 use Rattle.emtp_phasor.specs.held.Steady.{AreGood, IsSteady, judged_volts}
 use Rattle.emtp_phasor.specs.held.Ending.{EndsSteady}
 use Rattle.emtp_phasor.specs.Volts.{phasors_of}

@@ -1,14 +1,13 @@
 -- Voltages by node, and two-ports by branch.
-use Rattle.std.proofs.Common.{◌≡◌, ◌≢◌, ◌∙◌, sym, ap, ℕ, zero, suc, ◌+◌, ◌*◌, ◌<◌, ◌≤◌, ℤ, All, get_or, List, ◌∷◌, drop, length, map, slice_set, get_or-set_same, get_or-set_other, refl, inl, inr, arith}
+use Rattle.std.proofs.Common.{◌≡◌, ◌≢◌, ◌∙◌, sym, ℕ, zero, suc, ◌+◌, ◌*◌, ◌<◌, ◌≤◌, ℤ, All, get_or, List, ◌∷◌, drop, length, map, slice_set, get_or-set_same, get_or-set_other, refl, inl, inr, arith}
 use Rattle.std.specs.List.{range_with_len}
 use Rattle.std.proofs.lemmas.Bool.{cases_eq}
-use Rattle.std.proofs.lemmas.List.{ext_get_or, get_or-map, get_or_default, length-map}
+use Rattle.std.proofs.lemmas.List.{ext_get_or, get_or_default, length-map}
 use Rattle.std.proofs.lemmas.List.FromFn.{length-map-range_with_len, get_or-map-range_with_len}
 use Rattle.std.proofs.lemmas.Int.{ints}
 use Rattle.std.proofs.lemmas.List.Elements.{All-cons, All-map}
 use Rattle.emtp_elim.specs.held.Matrix.{AreWithin}
 use Rattle.emtp_fix.specs.declared.limit.TheConstants.{LARGEST_VALUE}
-use Rattle.emtp_case.specs.declared.branch.Branch.{Branch}
 use Rattle.emtp_case.specs.declared.case.Parts.{Parts}
 use Rattle.emtp_case.specs.RowOrder.{order_of}
 use Rattle.emtp_case.proofs.NodeOrder.{length-order_of}
@@ -17,8 +16,9 @@ use Rattle.emtp_case.specs.NodeRows.{row_at}
 use Rattle.emtp_case.proofs.RowsOfNodes.{row_at_is}
 use Rattle.emtp_admittance.specs.Admittances.{no_port, port_at}
 use Rattle.emtp_admittance.specs.held.Admittances.{IsSmallPort}
-use Rattle.emtp_admittance.specs.Impedance.{port_of}
-use Rattle.emtp_phasor.specs.Steady.{resting_kinds, port_or_none, ports_of}
+use Rattle.emtp_admittance.proofs.PortPlaces.{length-ports_of}
+use Rattle.emtp_admittance.specs.Impedance.{ports_of}
+use Rattle.emtp_phasor.specs.Steady.{resting_kinds}
 use Rattle.emtp_phasor.specs.held.Steady.{ArePorts}
 use Rattle.emtp_phasor.specs.Volts.{nothing, volt_at, volt_in, phasors_of}
 use Rattle.emtp_phasor.specs.held.Volts.{IsVolt}
@@ -70,14 +70,6 @@ unfolding phasors_of
 voltages_behind_ground case x = refl
 
 -- ---- two-ports
-
-pub length-ports_of : (case : Parts) (freq : ℤ) → length (ports_of case freq) ≡ length case.branches
-length-ports_of case freq = length-map case.branches (λ b. port_or_none (port_of freq b))
-
-pub port_here : (case : Parts) (freq : ℤ) (others : List Branch) (at : ℕ) (d x : Branch) → others ≡ case.branches → at < length case.branches → get_or others at d ≡ x → port_or_none (port_of freq x) ≡ port_at (ports_of case freq) at
-port_here case freq others at d x same there is =
-    let f : Branch → TwoPort = λ b. port_or_none (port_of freq b) in
-    ap f (sym is ∙ ap (λ bs. get_or bs at d) same) ∙ sym (get_or-map f case.branches at d no_port there)
 
 pub ports_more : (case : Parts) (freq : ℤ) (out : List TwoPort) (at : ℕ) (y : TwoPort) → at < length out → y ≡ port_at (ports_of case freq) at → IsSmallPort y → ArePorts case freq out at → ArePorts case freq (slice_set out at y) (at + 1)
 ports_more case freq out at y inside is small before = record {

@@ -1,7 +1,7 @@
 -- The steady state at a frequency, or why there is none, in this order. Two known voltages are tied; the elimination of the
 -- doubled system ends in a fault; a current of a branch leaves its range; a residual exceeds the tolerance.
 use Rattle.std.specs.List.{position, range_with_len}
-use Rattle.std.specs.Prelude.{ℕ, zero, suc, ◌/◌, ◌==◌, ◌&&◌, max, ℤ, pos, ◌+ℤ◌, ◌-ℤ◌, ◌*ℤ◌, unsigned_abs, nat_lt, not, Bool, true, false, if◌then◌else◌, List, length, map, slice_get, Option, Some, None, Result, Ok, Err}
+use Rattle.std.specs.Prelude.{ℕ, zero, suc, ◌/◌, ◌==◌, ◌&&◌, max, ℤ, pos, ◌+ℤ◌, ◌-ℤ◌, ◌*ℤ◌, unsigned_abs, nat_lt, not, Bool, true, false, if◌then◌else◌, List, length, slice_get, Option, Some, None, Result, Ok, Err}
 use Rattle.emtp_fix.specs.Chain.{◌>>=◌, unless}
 use Rattle.emtp_fix.specs.Limit.{is_within}
 use Rattle.emtp_fix.specs.Rounding.{near}
@@ -24,30 +24,21 @@ use Rattle.emtp_case.specs.declared.row_kind.RowKind.TheVariants.{Kcl, Sum, Tie,
 use Rattle.emtp_case.specs.NodeRows.{group_sum, kind_at, node_at}
 use Rattle.emtp_switch.specs.Groups.{tied_of}
 use Rattle.emtp_switch.specs.Kinds as switched
-use Rattle.emtp_admittance.specs.Admittances.{in_block, no_port, port_at}
+use Rattle.emtp_admittance.specs.Admittances.{in_block, port_at}
 use Rattle.emtp_phasor.specs.Doubled.{doubled_matrix}
-use Rattle.emtp_admittance.specs.Impedance.{port_of}
+use Rattle.emtp_admittance.specs.Impedance.{ports_of}
 use Rattle.emtp_phasor.specs.Volts.{doubled_right, source_phasors_into, volt_at, phasors_of}
 use Rattle.emtp_admittance.specs.declared.admittance.TwoPort.{TwoPort}
 use Rattle.emtp_machine.specs.declared.end.Cause.{Cause}
 use Rattle.emtp_machine.specs.declared.end.Cause.TheVariants.{Range, Residual, Tied, ZeroPivot}
 use Rattle.emtp_phasor.specs.declared.ending.Ending.{Ending}
 use Rattle.emtp_phasor.specs.declared.phasor.Phasor.{Phasor}
-use Rattle.emtp_admittance.specs.declared.refusal.Refusal.{Refusal}
 
 -- ---- the system
 
 -- the switches are as they are at rest
 abbrev pub resting_kinds : Parts → List RowKind
 resting_kinds case = switched.kinds_of case (order_of case) (rest_of case).switch_states
-
-abbrev pub port_or_none : Result TwoPort Refusal → TwoPort
-port_or_none (Ok y) = y
-port_or_none (Err reason) = no_port
-
--- the two-ports of all branches
-abbrev pub ports_of : Parts → ℤ → List TwoPort
-ports_of case freq = map (λ b. port_or_none (port_of freq b)) case.branches
 
 abbrev pub doubled_system : Parts → ℤ → Matrix
 doubled_system case freq = doubled_matrix (record { case = case; ports = ports_of case freq; kinds = resting_kinds case })

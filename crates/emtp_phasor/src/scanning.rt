@@ -8,7 +8,7 @@ ghost use Rattle.emtp_admittance.specs.declared.limit.TheConstants.{MOST_PHASOR_
 ghost use Rattle.emtp_case.specs.held.EndNames.{IsNode};
 ghost use Rattle.emtp_fix.specs.declared.limit.TheConstants.{LARGEST_VALUE};
 ghost use Rattle.emtp_phasor.specs.held.Ending.{EndsAlways};
-ghost use Rattle.emtp_phasor.specs.held.HeldSystem.{IsReady};
+ghost use Rattle.emtp_phasor.specs.held.HeldSystem.{HasPorts, IsReady};
 ghost use Rattle.emtp_phasor.specs.Scanning.{answer_by, answer_of_state, frequency_at, frequency_count, impedance_or_range, impedance_seen, over_amplitude, scan_lines, told_end};
 ghost use Rattle.emtp_phasor.specs.held.Scanning.{FaultsScan, IsScan, IsScanned};
 ghost use Rattle.emtp_phasor.specs.Steady.{steady};
@@ -186,15 +186,14 @@ fn answer_at<L: Ledger>(
     ensures ready { IsReady case.now.parts system.new }
     ensures value { result ≡ answer_by case.now.parts probe.now (judged_frequency case.now.parts (Some freq)) }
 {
-    match judged_frequency(table, case, Some(freq)) {
-        Ok(freq) => solved_answer(table, case, probe, system, freq, steps),
+    match system.judged_at(table, case, freq) {
+        Ok(freq) => solved_answer(case, probe, system, freq, steps),
         Err(refused) => ScanAnswer::Refused { line: refused.line },
     }
 }
 
-/// The answer at a frequency that is good.
+/// The answer at a frequency that is good, once the system has its two-ports.
 fn solved_answer<L: Ledger>(
-    table: &CosTable,
     case: &Case,
     probe: &Probe,
     system: &mut System,
@@ -203,11 +202,11 @@ fn solved_answer<L: Ledger>(
 ) -> ScanAnswer
     requires probe { IsProbe case.now.parts probe.now }
     requires ready { IsReady case.now.parts system.old }
-    requires freq { IsFrequency freq }
+    requires ports { HasPorts case.now.parts freq system.old }
     ensures ready { IsReady case.now.parts system.new }
     ensures value { result ≡ answer_of_state case.now.parts probe.now (steady case.now.parts freq) }
 {
-    match system.at(table, case, freq, steps) {
+    match system.at(case, freq, steps) {
         Ok(_) => impedance_seen(case, probe, system.volts[probe.node as usize]),
         Err(end) => told_end(case, end),
     }

@@ -74,7 +74,8 @@ fn solve_at<L: Ledger>(
     match System::open(alloc, table, case) {
         Ok(mut system) => {
             let mut steps = Steps::<L>::new(blank);
-            match system.at(table, case, freq, &mut steps) {
+            system.set_frequency(table, case, freq);
+            match system.at(case, freq, &mut steps) {
                 Ok(residual) => match behind_ground(alloc, &system.volts) {
                     Ok(volts) => Ok(Phasors {
                         freq,

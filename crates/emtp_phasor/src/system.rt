@@ -1,6 +1,6 @@
 //! The doubled system of a case, which is solved for one frequency after the other.
 
-ghost use Rattle.std.specs.Prelude.{◌≡◌, ◌≤◌, ◌<◌, ◌∷◌, ◌*◌, ◌^◌, All, None, Ok, Err, length, drop, IfOk, IfErr, OnOk};
+ghost use Rattle.std.specs.Prelude.{◌≡◌, ◌≤◌, ◌<◌, ◌∷◌, ◌*◌, ◌^◌, All, None, Some, Ok, Err, length, drop, IfOk, IfErr, OnOk};
 ghost use Rattle.emtp_admittance.specs.held.Admittances.{IsSmallPort};
 ghost use Rattle.emtp_admittance.specs.held.Frequency.{IsFrequency};
 ghost use Rattle.emtp_admittance.specs.declared.limit.TheConstants.{MOST_PHASOR_NODES};
@@ -12,9 +12,10 @@ ghost use Rattle.emtp_elim.specs.held.Matrix.{AreWithin};
 ghost use Rattle.emtp_elim.specs.Outcome.{outcome};
 ghost use Rattle.emtp_switch.specs.Groups.{tied_of};
 ghost use Rattle.emtp_phasor.specs.held.Ending.{EndsSteady, StopsOpening};
-ghost use Rattle.emtp_phasor.specs.held.HeldSystem.{IsReady};
+ghost use Rattle.emtp_phasor.specs.held.HeldSystem.{HasPorts, IsReady};
 ghost use Rattle.emtp_phasor.specs.held.Opening.{IsClosed};
-ghost use Rattle.emtp_phasor.specs.Steady.{doubled_solution, doubled_system, ports_of, resting_kinds, steady_right};
+ghost use Rattle.emtp_admittance.specs.Refusals.{judged_frequency};
+ghost use Rattle.emtp_phasor.specs.Steady.{doubled_solution, doubled_system, resting_kinds, steady_right};
 ghost use Rattle.emtp_phasor.specs.held.Steady.{AreGood, IsSteady, judged_volts};
 ghost use Rattle.emtp_phasor.specs.Volts.{nothing};
 ghost use Rattle.emtp_phasor.specs.held.Volts.{IsVolt};
@@ -28,7 +29,7 @@ use crate::phasor::{NOTHING, Phasor};
 use crate::sources::brought_by_row;
 use crate::steady::{NO_PORT, fill_ports, fill_volts, judge_volts, solve_right};
 use crate::steady_network::SteadyNetwork;
-use emtp_admittance::TwoPort;
+use emtp_admittance::{Refused, TwoPort, judged_ports};
 use emtp_case::{Case, Items, RowKind, RowOrder, order, switch_name};
 use emtp_elim::{SparseRows, WorkRow};
 use emtp_fix::Steps;
@@ -173,24 +174,51 @@ impl System {
         })
     }
 
-    /// Solves the system at a frequency: the greatest residual in nA, or how the solution ends. The voltages stand in
-    /// `volts`. The answer is that of rows which are eliminated from the first one, whatever frequency was before.
-    pub(crate) fn at<L: Ledger>(
+    /// Makes the two-ports of a frequency, or answers the refusal that decides.
+    pub(crate) fn judged_at(
         &mut self,
         table: &CosTable,
+        case: &Case,
+        freq: i64,
+    ) -> Result<i64, Refused>
+        requires ready { IsReady case.now.parts self.old }
+        requires freq { IsFrequency freq }
+        ensures ready { IsReady case.now.parts self.new }
+        ensures value { result ≡ judged_frequency case.now.parts (Some freq) }
+        ensures range { IfOk result IsFrequency }
+        ensures ports { IfOk result (λ found. HasPorts case.now.parts found self.new) }
+    {
+        judged_ports(table, case, freq, &mut self.ports)
+    }
+
+    /// Makes the two-ports of a frequency that is good.
+    pub(crate) fn set_frequency(&mut self, table: &CosTable, case: &Case, freq: i64)
+        requires ready { IsReady case.now.parts self.old }
+        requires freq { IsFrequency freq }
+        ensures ready { IsReady case.now.parts self.new }
+        ensures ports { HasPorts case.now.parts freq self.new }
+    {
+        fill_ports(table, case, freq, &mut self.ports);
+    }
+
+    /// Solves the system at the frequency of its two-ports: the greatest residual in nA, or how the solution ends. The
+    /// voltages stand in `volts`. The answer is that of rows which are eliminated from the first one, whatever frequency was
+    /// before.
+    pub(crate) fn at<L: Ledger>(
+        &mut self,
         case: &Case,
         freq: i64,
         steps: &mut Steps<L>,
     ) -> Result<i128, Ending>
         requires ready { IsReady case.now.parts self.old }
-        requires freq { IsFrequency freq }
+        requires ports { HasPorts case.now.parts freq self.old }
         ensures ready { IsReady case.now.parts self.new }
         ensures good { IfOk result (λ greatest. IsSteady case.now.parts freq self.new.volts.items greatest) }
         ensures volts { OnOk result (All IsVolt self.new.volts.items) }
         ensures ground { OnOk result (self.new.volts.items ≡ nothing ∷ drop 1 self.new.volts.items) }
         ensures fault { IfErr result (EndsSteady case.now.parts freq) }
     {
-        match self.solve(table, case, freq, steps) {
+        match self.solve(case, freq, steps) {
             Ok(()) => {
                 fill_volts(case, &self.order, &self.x, &mut self.volts);
                 self.judge(case)
@@ -199,25 +227,22 @@ impl System {
         }
     }
 
-    /// Finds the unknowns at a frequency, and the two-ports of the branches.
+    /// Finds the unknowns at the frequency of the two-ports.
     fn solve<L: Ledger>(
         &mut self,
-        table: &CosTable,
         case: &Case,
         freq: i64,
         steps: &mut Steps<L>,
     ) -> Result<(), Ending>
         requires ready { IsReady case.now.parts self.old }
-        requires freq { IsFrequency freq }
+        requires ports { HasPorts case.now.parts freq self.old }
         ensures ready { IsReady case.now.parts self.new }
-        ensures ports { self.new.ports.items ≡ ports_of case.now.parts freq }
-        ensures small { All IsSmallPort self.new.ports.items }
+        ensures ports { HasPorts case.now.parts freq self.new }
         ensures solved { OnOk result (outcome (doubled_system case.now.parts freq) (steady_right case.now.parts) ≡ Ok self.new.x.items) }
         ensures within { OnOk result (AreWithin (10 ^ 18) self.new.x.items) }
         ensures fault { IfErr result (λ e. doubled_solution case.now.parts freq ≡ Err e) }
         ensures node { IfErr result (λ e. IsNode case.now.parts e.node) }
     {
-        fill_ports(table, case, freq, &mut self.ports);
         let network = SteadyNetwork {
             case,
             order: &self.order,

@@ -1,5 +1,7 @@
 -- How the fields of a system hold together.
-use Rattle.std.specs.Prelude.{◌≡◌, ◌+◌, ◌*◌, None, All, length}
+use Rattle.std.specs.Prelude.{◌≡◌, ◌+◌, ◌*◌, ℤ, None, All, length}
+use Rattle.emtp_admittance.specs.Impedance.{ports_of}
+use Rattle.emtp_admittance.specs.held.Admittances.{IsSmallPort}
 use Rattle.emtp_case.specs.held.RowKinds.{TieIsThere}
 use Rattle.emtp_case.specs.RowOrder.{order_of}
 use Rattle.emtp_case.specs.StepRecord.{rest_of}
@@ -29,3 +31,8 @@ pub record IsReady (case : Parts) (s : System) : Type 0 where
   pub rhs_count : length s.rhs.items ≡ 2 * length case.nodes
   pub x_count : length s.x.items ≡ 2 * length case.nodes
   pub volts_count : length s.volts.items ≡ length case.nodes + 1
+
+-- its two-ports are those of a frequency
+pub record HasPorts (case : Parts) (freq : ℤ) (s : System) : Type 0 where
+  pub are : s.ports.items ≡ ports_of case freq
+  pub small : All IsSmallPort s.ports.items

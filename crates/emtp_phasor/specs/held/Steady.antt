@@ -7,7 +7,8 @@ use Rattle.emtp_admittance.specs.held.Admittances.{IsSmallPort}
 use Rattle.emtp_admittance.specs.declared.admittance.TwoPort.{TwoPort}
 use Rattle.emtp_phasor.specs.declared.ending.Ending.{Ending}
 use Rattle.emtp_phasor.specs.declared.phasor.Phasor.{Phasor}
-use Rattle.emtp_phasor.specs.Steady.{ports_of, flows, row_residual, first_residual_above, greatest_below, State, within, balanced_residuals, steady}
+use Rattle.emtp_admittance.specs.Impedance.{ports_of}
+use Rattle.emtp_phasor.specs.Steady.{flows, row_residual, first_residual_above, greatest_below, State, within, balanced_residuals, steady}
 
 -- the same from the voltages on
 abbrev pub judged_volts : Parts → List TwoPort → List Phasor → Result State Ending

@@ -1,8 +1,9 @@
 use Rattle.std.proofs.Common.{◌≡◌, ◌∙◌, ◌<◌, ap, length, refl, to_z, of_z, arith}
 use mir.Syntax.{w64}
 use Rattle.std.proofs.lemmas.Int.{to_z-of_z}
-use Rattle.emtp_phasor.specs.Steady.{port_or_none}
-use Rattle.emtp_phasor.proofs.Volting.{ports_more, ports_all, ports_small, port_here}
+use Rattle.emtp_admittance.specs.Impedance.{port_or_none}
+use Rattle.emtp_admittance.proofs.PortPlaces.{port_here}
+use Rattle.emtp_phasor.proofs.Volting.{ports_more, ports_all, ports_small}
 use Rattle.emtp_phasor.proofs.steady.fill_ports.Goals as goal
 
 pub loop-at-preserved : goal.loop-at-preserved
