@@ -6,6 +6,7 @@ pub mod HeldLines
 pub mod HeldSources
 pub mod HeldSystem
 pub mod Opening
+pub mod Probed
 pub mod Scanning
 pub mod Solving
 pub mod Steady

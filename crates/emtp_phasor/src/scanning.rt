@@ -9,7 +9,8 @@ ghost use Rattle.emtp_case.specs.held.EndNames.{IsNode};
 ghost use Rattle.emtp_fix.specs.declared.limit.TheConstants.{LARGEST_VALUE};
 ghost use Rattle.emtp_phasor.specs.held.Ending.{EndsAlways};
 ghost use Rattle.emtp_phasor.specs.held.HeldSystem.{HasPorts, IsReady};
-ghost use Rattle.emtp_phasor.specs.Scanning.{answer_by, answer_of_state, frequency_at, frequency_count, impedance_or_range, impedance_seen, over_amplitude, scan_lines, told_end};
+ghost use Rattle.emtp_phasor.specs.held.Probed.{IsProbed, probed_answer, probed_lines};
+ghost use Rattle.emtp_phasor.specs.Scanning.{answer_by, answer_of_state, frequency_at, frequency_count, impedance_or_range, impedance_seen, over_amplitude, told_end};
 ghost use Rattle.emtp_phasor.specs.held.Scanning.{FaultsScan, IsScan, IsScanned};
 ghost use Rattle.emtp_phasor.specs.Steady.{steady};
 ghost use Rattle.emtp_phasor.specs.held.Volts.{IsVolt};
@@ -50,8 +51,13 @@ pub fn scan(
     match CosTable::open(alloc) {
         Ok(table) => match judged_probe(case) {
             Ok(probe) => {
-                let span = Span { first, last, by };
-                scan_from::<Brand>(alloc, &table, case, &probe, span, Blank::new(1))
+                let probed = Probed {
+                    table: &table,
+                    case,
+                    probe: &probe,
+                    span: Span { first, last, by },
+                };
+                scan_from::<Brand>(alloc, probed, Blank::new(1))
             }
             Err(refused) => Err(PhasorFault::Refused {
                 line: refused.line,
@@ -66,11 +72,24 @@ pub fn scan(
 #[derive(Clone, Copy)]
 pub(crate) struct Span {
     /// The first one.
-    first: i64,
+    pub(crate) first: i64,
     /// What the last one is at most.
-    last: i64,
+    pub(crate) last: i64,
     /// From one to the next.
-    by: i64,
+    pub(crate) by: i64,
+}
+
+/// What is scanned: a case, by its source, over frequencies.
+#[derive(Clone, Copy)]
+pub(crate) struct Probed<'a> {
+    /// The cosine table.
+    pub(crate) table: &'a CosTable,
+    /// The case.
+    pub(crate) case: &'a Case,
+    /// Its source.
+    pub(crate) probe: &'a Probe,
+    /// The frequencies.
+    pub(crate) span: Span,
 }
 
 /// How many frequencies there are.
@@ -94,30 +113,26 @@ fn frequency_at(span: Span, k: usize) -> i64
 /// The lines of all frequencies, for the source of a scan.
 fn scan_from<L: Ledger>(
     alloc: Global,
-    table: &CosTable,
-    case: &Case,
-    probe: &Probe,
-    span: Span,
+    probed: Probed<'_>,
     blank: Blank,
 ) -> Result<Vec<ScanLine>, PhasorFault>
-    requires few { length case.now.parts.nodes ≤ MOST_PHASOR_NODES }
-    requires probe { IsProbe case.now.parts probe.now }
-    requires scan { IsScan span.first span.last span.by }
+    requires few { length probed.case.now.parts.nodes ≤ MOST_PHASOR_NODES }
+    requires probed { IsProbed probed }
     requires name { blank.name ≡ L.name }
     requires parts { blank.parts ≡ L.parts }
     requires some { 0 < blank.parts }
-    ensures lines { IfOk result (λ lines. lines.items ≡ scan_lines case.now.parts probe.now span.first span.last span.by) }
+    ensures lines { IfOk result (λ lines. lines.items ≡ probed_lines probed.entry) }
     ensures fault { IfErr result (λ e. e ≡ PhasorFault.NoMemory) }
 {
-    match System::open(alloc, table, case) {
+    match System::open(alloc, probed.table, probed.case) {
         Ok(mut system) => {
             let mut steps = Steps::<L>::new(blank);
-            match solved_lines(alloc, table, case, probe, span, &mut system, &mut steps) {
+            match solved_lines(alloc, probed, &mut system, &mut steps) {
                 Ok(lines) => Ok(lines),
                 Err(_) => Err(PhasorFault::NoMemory),
             }
         }
-        Err(Stop::Ended(end)) => match tied_lines(alloc, table, case, probe, span, end) {
+        Err(Stop::Ended(end)) => match tied_lines(alloc, probed, end) {
             Ok(lines) => Ok(lines),
             Err(_) => Err(PhasorFault::NoMemory),
         },
@@ -128,44 +143,33 @@ fn scan_from<L: Ledger>(
 /// The lines of a system.
 fn solved_lines<L: Ledger>(
     alloc: Global,
-    table: &CosTable,
-    case: &Case,
-    probe: &Probe,
-    span: Span,
+    probed: Probed<'_>,
     system: &mut System,
     steps: &mut Steps<L>,
 ) -> Result<Vec<ScanLine>, AllocError>
-    requires probe { IsProbe case.now.parts probe.now }
-    requires scan { IsScan span.first span.last span.by }
-    requires ready { IsReady case.now.parts system.old }
-    ensures { IfOk result (λ lines. lines.items ≡ scan_lines case.now.parts probe.now span.first span.last span.by) }
+    requires probed { IsProbed probed }
+    requires ready { IsReady probed.case.now.parts system.old }
+    ensures { IfOk result (λ lines. lines.items ≡ probed_lines probed.entry) }
 {
     let mut lines = Vec::new(alloc);
-    for k in 0..frequency_count(span) {
-        let freq = frequency_at(span, k);
-        let answer = answer_at(table, case, probe, system, freq, steps);
+    for k in 0..frequency_count(probed.span) {
+        let freq = frequency_at(probed.span, k);
+        let answer = answer_at(probed, system, freq, steps);
         lines.push(ScanLine { freq, answer })?;
     }
     Ok(lines)
 }
 
 /// The lines of a case whose switches tie two known voltages.
-fn tied_lines(
-    alloc: Global,
-    table: &CosTable,
-    case: &Case,
-    probe: &Probe,
-    span: Span,
-    end: Ending,
-) -> Result<Vec<ScanLine>, AllocError>
-    requires scan { IsScan span.first span.last span.by }
-    requires end { EndsAlways case.now.parts end }
-    ensures { IfOk result (λ lines. lines.items ≡ scan_lines case.now.parts probe.now span.first span.last span.by) }
+fn tied_lines(alloc: Global, probed: Probed<'_>, end: Ending) -> Result<Vec<ScanLine>, AllocError>
+    requires probed { IsProbed probed }
+    requires end { EndsAlways probed.case.now.parts end }
+    ensures { IfOk result (λ lines. lines.items ≡ probed_lines probed.entry) }
 {
     let mut lines = Vec::new(alloc);
-    for k in 0..frequency_count(span) {
-        let freq = frequency_at(span, k);
-        let answer = tied_answer(table, case, probe, freq, end);
+    for k in 0..frequency_count(probed.span) {
+        let freq = frequency_at(probed.span, k);
+        let answer = tied_answer(probed.table, probed.case, probed.probe, freq, end);
         lines.push(ScanLine { freq, answer })?;
     }
     Ok(lines)
@@ -173,21 +177,20 @@ fn tied_lines(
 
 /// The answer at a frequency.
 fn answer_at<L: Ledger>(
-    table: &CosTable,
-    case: &Case,
-    probe: &Probe,
+    probed: Probed<'_>,
     system: &mut System,
     freq: i64,
     steps: &mut Steps<L>,
 ) -> ScanAnswer
-    requires probe { IsProbe case.now.parts probe.now }
-    requires ready { IsReady case.now.parts system.old }
+    requires probed { IsProbed probed }
+    requires ready { IsReady probed.case.now.parts system.old }
     requires freq { IsFrequency freq }
-    ensures ready { IsReady case.now.parts system.new }
-    ensures value { result ≡ answer_by case.now.parts probe.now (judged_frequency case.now.parts (Some freq)) }
+    ensures ready { IsReady probed.entry.case.now.parts system.new }
+    ensures value { result ≡ probed_answer probed.entry freq }
 {
-    match system.judged_at(table, case, freq) {
-        Ok(freq) => solved_answer(case, probe, system, freq, steps),
+    let case = probed.case;
+    match system.judged_at(probed.table, case, freq) {
+        Ok(freq) => solved_answer(case, probed.probe, system, freq, steps),
         Err(refused) => ScanAnswer::Refused { line: refused.line },
     }
 }

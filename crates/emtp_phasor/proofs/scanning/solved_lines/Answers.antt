@@ -10,9 +10,9 @@ loop-k-preserved g c =
     let narrow : to_z w64 (of_z w64 c.frequency_at-freq.result) ≡ c.frequency_at-freq.result = omega (arith, ints, range.least, range.most) in
     record {
       ready = c.answer_at-answer.ensures.ready;
-      lines_are = lines_more c.args.case.now.parts c.args.probe.now c.args.span.first c.args.span.by c.loop-k.k (to_z w64 (of_z w64 c.frequency_at-freq.result)) c.answer_at-answer.result c.loop-k.lines.items c.push.new.self.items (narrow ∙ c.frequency_at-freq.ensures.value) c.answer_at-answer.ensures.value c.in_ok-push.ensures.items c.loop-k.invariant.lines_are;
+      lines_are = lines_more c.args.probed.case.now.parts c.args.probed.probe.now c.args.probed.span.first c.args.probed.span.by c.loop-k.k (to_z w64 (of_z w64 c.frequency_at-freq.result)) c.answer_at-answer.result c.loop-k.lines.items c.push.new.self.items (narrow ∙ c.frequency_at-freq.ensures.value) c.answer_at-answer.ensures.value c.in_ok-push.ensures.items c.loop-k.invariant.lines_are;
     }
 
 pub returns : goal.returns
 returns g c =
-    lines_all c.args.case.now.parts c.args.probe.now c.args.span.first c.args.span.last c.args.span.by c.loop-k.k c.frequency_count-k-end.result c.loop-k.lines.items c.frequency_count-k-end.ensures c.loop-k.auto.k-end (omega (arith, c.loop-k-test.false)) c.loop-k.invariant.lines_are
+    lines_all c.args.probed.case.now.parts c.args.probed.probe.now c.args.probed.span.first c.args.probed.span.last c.args.probed.span.by c.loop-k.k c.frequency_count-k-end.result c.loop-k.lines.items c.frequency_count-k-end.ensures c.loop-k.auto.k-end (omega (arith, c.loop-k-test.false)) c.loop-k.invariant.lines_are
