@@ -55,14 +55,15 @@ pub(crate) fn guess(x: u128, b: u64, word: u64) -> u64 {
 }
 
 // The quotients by what the upper bits give. They branch on no sign and on no size but the outermost: those change from
-// step to step, and a branch that is foretold wrongly costs more than the quotient.
+// step to step, and a branch that is foretold wrongly costs more than the quotient. The upper bits are put together from
+// both words, so that they are known to fill one, and one product of words gives the guess.
 
 /// `x / 10^3`, where `x` is below 2^72: what its upper bits give, or one more.
 fn kilo_near(x: u128) -> u64
     requires { x < 2 ^ 72 }
     ensures { result ≡ x / 10 ^ 3 }
 {
-    let top = (x / (1 << 8)) as u64;
+    let top = (x / (1 << 64)) as u64 * (1 << 56) + (x % (1 << 64)) as u64 / (1 << 8);
     let guess = (u128::from(top) * u128::from(PER_KILO) / (1 << 65)) as u64;
     one_more(x, KILO, guess)
 }
@@ -72,7 +73,7 @@ fn micro_near(x: u128) -> u64
     requires { x < 2 ^ 82 }
     ensures { result ≡ x / 10 ^ 6 }
 {
-    let top = (x / (1 << 18)) as u64;
+    let top = (x / (1 << 64)) as u64 * (1 << 46) + (x % (1 << 64)) as u64 / (1 << 18);
     let guess = (u128::from(top) * u128::from(PER_MICRO) / (1 << 65)) as u64;
     one_more(x, MICRO, guess)
 }
@@ -82,7 +83,7 @@ fn nano_near(x: u128) -> u64
     requires { x < 2 ^ 92 }
     ensures { result ≡ x / 10 ^ 9 }
 {
-    let top = (x / (1 << 28)) as u64;
+    let top = (x / (1 << 64)) as u64 * (1 << 36) + (x % (1 << 64)) as u64 / (1 << 28);
     let guess = (u128::from(top) * u128::from(PER_NANO) / (1 << 65)) as u64;
     one_more(x, NANO, guess)
 }
@@ -92,7 +93,7 @@ fn pico_near(x: u128) -> u64
     requires { x < 2 ^ 100 }
     ensures { result ≡ x / 10 ^ 12 }
 {
-    let top = (x / (1 << 36)) as u64;
+    let top = (x / (1 << 64)) as u64 * (1 << 28) + (x % (1 << 64)) as u64 / (1 << 36);
     let guess = (u128::from(top) * u128::from(PER_PICO) / (1 << 67)) as u64;
     one_more(x, PICO, guess)
 }
