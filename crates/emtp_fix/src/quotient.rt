@@ -9,8 +9,10 @@ const NANO: u64 = crate::limit::NANO as u64;
 
 const PICO: u64 = crate::limit::PICO as u64;
 
-/// What a number less its lower bits is multiplied by for a guess: 2^73 / 10^3, 2^83 / 10^6, 2^93 / 10^9 and
-/// 2^103 / 10^12.
+const ATTO: u64 = crate::limit::ATTO as u64;
+
+/// What a number less its lower bits is multiplied by for a guess: 2^73 / 10^3, 2^83 / 10^6, 2^93 / 10^9, 2^103 / 10^12
+/// and 2^123 / 10^18.
 const PER_KILO: u64 = 9_444_732_965_739_290_427;
 
 const PER_MICRO: u64 = 9_671_406_556_917_033_397;
@@ -18,6 +20,8 @@ const PER_MICRO: u64 = 9_671_406_556_917_033_397;
 const PER_NANO: u64 = 9_903_520_314_283_042_199;
 
 const PER_PICO: u64 = 10_141_204_801_825_835_211;
+
+const PER_ATTO: u64 = 10_633_823_966_279_326_983;
 
 /// Whether `guess` is `x / b`.
 pub(crate) fn is_quotient(x: u128, b: u128, guess: u128) -> bool
@@ -96,6 +100,16 @@ fn pico_near(x: u128) -> u64
     let top = (x / (1 << 64)) as u64 * (1 << 28) + (x % (1 << 64)) as u64 / (1 << 36);
     let guess = (u128::from(top) * u128::from(PER_PICO) / (1 << 67)) as u64;
     one_more(x, PICO, guess)
+}
+
+/// `x / 10^18`, where `x` is below 2^118.
+fn atto_near(x: u128) -> u64
+    requires { x < 2 ^ 118 }
+    ensures { result ≡ x / 10 ^ 18 }
+{
+    let top = (x / (1 << 64)) as u64 * (1 << 10) + (x % (1 << 64)) as u64 / (1 << 54);
+    let guess = (u128::from(top) * u128::from(PER_ATTO) / (1 << 69)) as u64;
+    one_more(x, ATTO, guess)
 }
 
 /// A quotient that is `guess` or one more.
@@ -228,4 +242,26 @@ fn pico_far(x: u128) -> u128
     let middle = top % FIVES * DIGIT as u64 + (high % DIGIT) as u64;
     let low = middle % FIVES * DIGIT as u64 + (scaled % DIGIT) as u64;
     (u128::from(top / FIVES) * DIGIT + u128::from(middle / FIVES)) * DIGIT + u128::from(low / FIVES)
+}
+
+/// `x / 10^18`.
+pub(crate) fn atto_quotient(x: u128) -> u128
+    requires { x < 2 ^ 128 - 1 }
+    ensures { result ≡ x / 10 ^ 18 }
+{
+    if x < 1 << 118 {
+        u128::from(atto_near(x))
+    } else {
+        atto_far(x)
+    }
+}
+
+/// The same by two quotients.
+#[cold]
+#[inline(never)]
+fn atto_far(x: u128) -> u128
+    requires { x < 2 ^ 128 - 1 }
+    ensures { result ≡ x / 10 ^ 18 }
+{
+    micro_quotient(pico_quotient(x))
 }

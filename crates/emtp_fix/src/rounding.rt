@@ -6,7 +6,7 @@ ghost use Rattle.emtp_fix.specs.declared.limit.TheConstants.{LARGEST_WIDE, KILO,
 
 use crate::limit::{ATTO, KILO, MICRO, NANO, PICO};
 use crate::quotient::{
-    guess, is_quotient, kilo_quotient, micro_quotient, nano_quotient, pico_quotient,
+    atto_quotient, guess, is_quotient, kilo_quotient, micro_quotient, nano_quotient, pico_quotient,
 };
 
 /// `a / b`, rounded to the nearest whole number, a half away from zero.
@@ -138,10 +138,7 @@ fn near_atto(a: i128) -> i128
     requires { unsigned_abs a ≤ LARGEST_WIDE }
     ensures { result ≡ near a ATTO }
 {
-    with_sign_of(
-        a,
-        micro_quotient(pico_quotient(a.unsigned_abs() + ATTO as u128 / 2)),
-    )
+    with_sign_of(a, atto_quotient(a.unsigned_abs() + ATTO as u128 / 2))
 }
 
 /// The word by which [`near_by`] divides by `b`: a 64-bit reciprocal of it, or 0 where `b` has more than 64 bits.
