@@ -5,7 +5,7 @@ ghost use Rattle.emtp_fix.specs.Rounding.{near};
 ghost use Rattle.emtp_fix.specs.declared.limit.TheConstants.{LARGEST_VALUE, LARGEST_WIDE, MICRO, PICO};
 
 use crate::limit::{LARGEST_VALUE, MICRO, PICO};
-use crate::quotient::{micro_quotient, pico_quotient};
+use crate::quotient::{narrow_micro_quotient, narrow_pico_quotient};
 use crate::rounding::{narrow_with_sign_of, near};
 
 /// `a * b / unit`, rounded as by [`near`]: a product that is brought back to its unit, or a share of `a`.
@@ -23,9 +23,6 @@ pub fn scaled(a: i128, b: i128, unit: i128) -> i128
 {
     near(a * b, unit)
 }
-
-/// The greatest magnitude of what [`narrow_product`] answers.
-const LARGEST_NARROW: u128 = 4_000_000_000_000_000_000;
 
 /// `a * b / 10^12`, rounded as by [`near`], where its magnitude is at most 4e18; else None. It costs less than
 /// [`scaled`], since what comes after is in 64 bits.
@@ -45,11 +42,9 @@ fn narrow_pico(a: i128) -> Option<i64>
     ensures small { IfSome result (λ z. unsigned_abs z ≤ 4 * 10 ^ 18) }
     ensures large { IfNone result (4 * 10 ^ 18 < unsigned_abs (near a PICO)) }
 {
-    let magnitude = pico_quotient(a.unsigned_abs() + PICO as u128 / 2);
-    if magnitude > LARGEST_NARROW {
-        None
-    } else {
-        Some(narrow_with_sign_of(a, magnitude))
+    match narrow_pico_quotient(a.unsigned_abs() + PICO as u128 / 2) {
+        None => None,
+        Some(magnitude) => Some(narrow_with_sign_of(a, magnitude)),
     }
 }
 
@@ -87,11 +82,9 @@ fn narrow_micro(a: i128) -> Option<i64>
     ensures small { IfSome result (λ z. unsigned_abs z ≤ 4 * 10 ^ 18) }
     ensures large { IfNone result (4 * 10 ^ 18 < unsigned_abs (near a MICRO)) }
 {
-    let magnitude = micro_quotient(a.unsigned_abs() + MICRO as u128 / 2);
-    if magnitude > LARGEST_NARROW {
-        None
-    } else {
-        Some(narrow_with_sign_of(a, magnitude))
+    match narrow_micro_quotient(a.unsigned_abs() + MICRO as u128 / 2) {
+        None => None,
+        Some(magnitude) => Some(narrow_with_sign_of(a, magnitude)),
     }
 }
 

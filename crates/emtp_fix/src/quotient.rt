@@ -1,5 +1,5 @@
 // Whole quotients: guessed by a reciprocal word and checked, else by long division.
-ghost use Rattle.std.specs.Prelude.{true, ◌≡◌, ◌*◌, ◌+◌, ◌-◌, ◌/◌, ◌^◌, ◌<◌, ◌≤◌};
+ghost use Rattle.std.specs.Prelude.{true, ◌≡◌, ◌*◌, ◌+◌, ◌-◌, ◌/◌, ◌^◌, ◌<◌, ◌≤◌, IfNone, IfSome};
 
 const KILO: u64 = crate::limit::KILO as u64;
 
@@ -92,13 +92,13 @@ fn nano_near(x: u128) -> u64
     one_more(x, NANO, guess)
 }
 
-/// `x / 10^12`, where `x` is below 2^100.
+/// `x / 10^12`, where `x` is below 2^102.
 fn pico_near(x: u128) -> u64
-    requires { x < 2 ^ 100 }
+    requires { x < 2 ^ 102 }
     ensures { result ≡ x / 10 ^ 12 }
 {
-    let top = (x / (1 << 64)) as u64 * (1 << 28) + (x % (1 << 64)) as u64 / (1 << 36);
-    let guess = (u128::from(top) * u128::from(PER_PICO) / (1 << 67)) as u64;
+    let top = (x / (1 << 64)) as u64 * (1 << 26) + (x % (1 << 64)) as u64 / (1 << 38);
+    let guess = (u128::from(top) * u128::from(PER_PICO) / (1 << 65)) as u64;
     one_more(x, PICO, guess)
 }
 
@@ -124,6 +124,39 @@ fn one_more(x: u128, b: u64, guess: u64) -> u64
 {
     let left = ((x % (1 << 64)) as u64).wrapping_sub(guess.wrapping_mul(b));
     if left >= b { guess + 1 } else { guess }
+}
+
+// Quotients of at most 4e18, so that what comes after them is in 64 bits.
+
+/// The first numbers whose quotients by 10^6 and by 10^12 exceed 4e18.
+const BEYOND_MICRO: u128 = 4_000_000_000_000_000_001_000_000;
+
+const BEYOND_PICO: u128 = 4_000_000_000_000_000_001_000_000_000_000;
+
+/// `x / 10^6`, where it is at most 4e18; else None.
+pub(crate) fn narrow_micro_quotient(x: u128) -> Option<u64>
+    ensures value { IfSome result (λ q. q ≡ x / 10 ^ 6) }
+    ensures small { IfSome result (λ q. q ≤ 4 * 10 ^ 18) }
+    ensures large { IfNone result (4 * 10 ^ 18 < x / 10 ^ 6) }
+{
+    if x < BEYOND_MICRO {
+        Some(micro_near(x))
+    } else {
+        None
+    }
+}
+
+/// `x / 10^12`, where it is at most 4e18; else None.
+pub(crate) fn narrow_pico_quotient(x: u128) -> Option<u64>
+    ensures value { IfSome result (λ q. q ≡ x / 10 ^ 12) }
+    ensures small { IfSome result (λ q. q ≤ 4 * 10 ^ 18) }
+    ensures large { IfNone result (4 * 10 ^ 18 < x / 10 ^ 12) }
+{
+    if x < BEYOND_PICO {
+        Some(pico_near(x))
+    } else {
+        None
+    }
 }
 
 // The quotients by long division. What is left after the powers of two are shifted out is written in
@@ -220,7 +253,7 @@ pub(crate) fn pico_quotient(x: u128) -> u128
     requires { x < 2 ^ 128 - 1 }
     ensures { result ≡ x / 10 ^ 12 }
 {
-    if x < 1 << 100 {
+    if x < 1 << 102 {
         u128::from(pico_near(x))
     } else {
         pico_far(x)

@@ -94,7 +94,7 @@ fn with_sign_of(a: i128, magnitude: u128) -> i128
 }
 
 /// The same in 64 bits.
-pub(crate) fn narrow_with_sign_of(a: i128, magnitude: u128) -> i64
+pub(crate) fn narrow_with_sign_of(a: i128, magnitude: u64) -> i64
     requires { magnitude ≤ 4 * 10 ^ 18 }
     ensures value { (d : ℕ) → magnitude ≡ near_abs (unsigned_abs a) d → result ≡ near a (pos d) }
     ensures bound { unsigned_abs result ≤ magnitude }
