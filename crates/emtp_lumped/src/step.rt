@@ -88,7 +88,7 @@ fn history_voltage(companion: &Companion, i: i64, v_l: i64, v_c: i64) -> Option<
     micro_sum(companion.inductor - companion.capacitor, i, v_l - v_c)
 }
 
-/// `a * b / unit`, rounded. An absent part is skipped: a resistor has two of them, and each would cost a division.
+/// `a * b / unit`, rounded.
 fn product(a: i64, b: i128, unit: i128) -> i128
     requires a { unsigned_abs a ≤ LARGEST_ENTRY }
     requires b { unsigned_abs b ≤ 2 ^ 64 }
@@ -97,9 +97,5 @@ fn product(a: i64, b: i128, unit: i128) -> i128
     ensures value { result ≡ near (a *ℤ b) unit }
     ensures bound { unsigned_abs result ≤ 2 * 10 ^ 30 }
 {
-    if a == 0 {
-        0
-    } else {
-        scaled(a as i128, b, unit)
-    }
+    scaled(a as i128, b, unit)
 }

@@ -1,17 +1,11 @@
-use Rattle.std.proofs.Common.{◌≡◌, ◌∙◌, ap, sym, ◌*◌, ◌^◌, ◌*ℤ◌, pos, ℤ, unsigned_abs, FitsSigned, arith, rules}
+use Rattle.std.proofs.Common.{◌*◌, ◌^◌, ap, unsigned_abs, FitsSigned, arith, rules}
 use mir.Syntax.{w64, w128}
 use Rattle.std.proofs.lemmas.Int.{ints, to_z-of_z}
-use Rattle.emtp_fix.specs.Rounding.{near}
-use Rattle.emtp_fix.proofs.Quotients.{near-zero_times, near-product}
+use Rattle.emtp_fix.proofs.Quotients.{near-product}
 use Rattle.emtp_lumped.proofs.step.product.Goals as goal
 
-pub returns-then-a-eq0-clause-value : goal.returns-then-a-eq0-clause-value
-returns-then-a-eq0-clause-value c =
-    let zero : c.args.a ≡ pos 0 = omega (arith, ints, c.if-a-eq0.true) in
-    sym (ap (λ (z : ℤ). near (z *ℤ c.args.b) c.args.unit) zero ∙ near-zero_times c.args.b c.args.unit)
-
-pub returns-else-a-eq0-clause-bound : goal.returns-else-a-eq0-clause-bound
-returns-else-a-eq0-clause-bound c =
+pub returns-clause-bound : goal.returns-clause-bound
+returns-clause-bound c =
     let a : FitsSigned w64 c.args.a = c.ranges.a in
     let a' : FitsSigned w128 c.args.a = search rules in
     let b : FitsSigned w128 c.args.b = c.ranges.b in
