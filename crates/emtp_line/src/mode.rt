@@ -54,7 +54,8 @@ impl Mode {
     }
 }
 
-const WHOLE: i64 = PICO as i64;
+/// A share of 1.
+pub(crate) const WHOLE: i64 = PICO as i64;
 
 fn narrow(z: i128) -> i64
     requires { unsigned_abs z ≤ LARGEST_ENTRY }

@@ -7,7 +7,7 @@ ghost use Rattle.emtp_hist.specs.held.History.{Remembers};
 ghost use Rattle.emtp_line.specs.held.Mode.{IsMode};
 ghost use Rattle.emtp_line.specs.Wave.{between, past_wave, history_of, wave_of, end_of};
 
-use crate::mode::Mode;
+use crate::mode::{Mode, WHOLE};
 use emtp_fix::{PICO, in_range, near, near_by};
 use emtp_hist::History;
 
@@ -68,7 +68,7 @@ fn history(mode: &Mode, other: i64, own: i64) -> i128
     ensures value { result ≡ neg_ℤ (near (mode.now.far_share *ℤ other) PICO) -ℤ near (mode.now.near_share *ℤ own) PICO }
     ensures bound { unsigned_abs result ≤ 10 ^ 20 }
 {
-    -part(mode.far_share, other as i128) - part(mode.near_share, own as i128)
+    -attenuated(mode.far_share, other as i128) - returned(mode.near_share, own as i128)
 }
 
 /// The current and the wave of an end at a history current and a voltage, where both are in range.
@@ -80,7 +80,7 @@ pub(crate) fn end(mode: &Mode, history: i128, v: i64) -> Option<(i64, i64)>
 {
     let driven = driven(mode.conductance, v as i128);
     let current = in_range(sum(driven, history))?;
-    let wave = in_range(sum(driven, part(mode.attenuation, current as i128)))?;
+    let wave = in_range(sum(driven, attenuated(mode.attenuation, current as i128)))?;
     Some((current, wave))
 }
 
@@ -92,7 +92,7 @@ pub(crate) fn wave(mode: &Mode, v: i128, i: i128) -> i128
     ensures value { result ≡ wave_of mode.now v i }
     ensures bound { unsigned_abs result ≤ 10 ^ 27 }
 {
-    sum(driven(mode.conductance, v), part(mode.attenuation, i))
+    sum(driven(mode.conductance, v), attenuated(mode.attenuation, i))
 }
 
 fn sum(x: i128, y: i128) -> i128
@@ -114,16 +114,33 @@ fn driven(g: i64, v: i128) -> i128
     near(g as i128 * v, PICO)
 }
 
-/// A part, in 1e-12, of a wave or a current. On a line without loss one of both parts is 0, and its quotient is spared.
+/// The part, in 1e-12, of a wave or a current that goes on. On a line without loss it is the whole, and its quotient is
+/// spared.
+fn attenuated(share: i64, x: i128) -> i128
+    requires share { unsigned_abs share ≤ 10 ^ 12 }
+    requires x { unsigned_abs x ≤ 10 ^ 26 }
+    ensures value { result ≡ near (share *ℤ x) PICO }
+    ensures bound { unsigned_abs result ≤ unsigned_abs x }
+{
+    if share == WHOLE { x } else { part(share, x) }
+}
+
+/// The part, in 1e-12, of an end's own wave that comes back. On a line without loss it is 0, and its quotient is spared.
+fn returned(share: i64, x: i128) -> i128
+    requires share { unsigned_abs share ≤ 10 ^ 12 }
+    requires x { unsigned_abs x ≤ 10 ^ 26 }
+    ensures value { result ≡ near (share *ℤ x) PICO }
+    ensures bound { unsigned_abs result ≤ unsigned_abs x }
+{
+    if share == 0 { 0 } else { part(share, x) }
+}
+
+/// A part, in 1e-12.
 fn part(share: i64, x: i128) -> i128
     requires share { unsigned_abs share ≤ 10 ^ 12 }
     requires x { unsigned_abs x ≤ 10 ^ 26 }
     ensures value { result ≡ near (share *ℤ x) PICO }
     ensures bound { unsigned_abs result ≤ unsigned_abs x }
 {
-    if share == 0 {
-        0
-    } else {
-        near(share as i128 * x, PICO)
-    }
+    near(share as i128 * x, PICO)
 }

@@ -24,11 +24,11 @@ returns-clause-value c =
     let s : FitsSigned w128 c.sum.result = search rules in
     let i' : FitsSigned w64 i = search rules in
     let i'' : FitsSigned w128 i = search rules in
-    let p : FitsSigned w128 c.part.result = search rules in
+    let p : FitsSigned w128 c.attenuated.result = search rules in
     let s' : FitsSigned w128 c.sum-2.result = search rules in
     let w' : FitsSigned w64 w = search rules in
     let driven = simp to_z-of_z at c.driven-driven.ensures.value in
-    let part = simp to_z-of_z at c.part.ensures.value in
+    let part = simp to_z-of_z at c.attenuated.ensures.value in
     let current = simp to_z-of_z at c.sum.ensures.value in
     let wave = simp to_z-of_z at c.sum-2.ensures.value in
     let in_current = simp to_z-of_z at c.in_ok-current.ensures.value in
@@ -47,17 +47,17 @@ sum-requires-clause-x c = omega (arith, ints, c.driven-driven.ensures.bound)
 pub sum-requires-clause-y : goal.sum-requires-clause-y
 sum-requires-clause-y c = omega (arith, ints, c.requires.history)
 
-pub part-requires-clause-share : goal.part-requires-clause-share
-part-requires-clause-share c = omega (arith, ints, c.requires.mode.attenuation)
+pub attenuated-requires-clause-share : goal.attenuated-requires-clause-share
+attenuated-requires-clause-share c = omega (arith, ints, c.requires.mode.attenuation)
 
-pub part-requires-clause-x : goal.part-requires-clause-x
-part-requires-clause-x c = omega (arith, ints, c.in_ok-current.ensures.bound)
+pub attenuated-requires-clause-x : goal.attenuated-requires-clause-x
+attenuated-requires-clause-x c = omega (arith, ints, c.in_ok-current.ensures.bound)
 
 pub sum-requires-2-clause-x : goal.sum-requires-2-clause-x
 sum-requires-2-clause-x c = omega (arith, ints, c.driven-driven.ensures.bound)
 
 pub sum-requires-2-clause-y : goal.sum-requires-2-clause-y
-sum-requires-2-clause-y c = omega (arith, ints, c.part.ensures.bound, c.in_ok-current.ensures.bound)
+sum-requires-2-clause-y c = omega (arith, ints, c.attenuated.ensures.bound, c.in_ok-current.ensures.bound)
 
 pub returns-in_err-current-clause-value : goal.returns-in_err-current-clause-value
 unfolding end_of

@@ -1,15 +1,10 @@
-use Rattle.std.proofs.Common.{◌≡◌, ◌∙◌, ap, sym, unsigned_abs, ◌≤◌, ◌*ℤ◌, pos, ℤ, arith}
+use Rattle.std.proofs.Common.{◌≡◌, ◌∙◌, ap, unsigned_abs, ◌≤◌, ◌*ℤ◌, arith}
 use Rattle.std.proofs.lemmas.Int.{ints}
 use Rattle.emtp_fix.specs.Rounding.{near}
 use Rattle.emtp_fix.specs.declared.limit.TheConstants.{PICO}
-use Rattle.emtp_fix.proofs.Quotients.{near-share, near-zero_times}
+use Rattle.emtp_fix.proofs.Quotients.{near-share}
 use Rattle.emtp_line.proofs.Products.{product}
 use Rattle.emtp_line.proofs.wave.part.Goals as goal
-
-pub returns-then-share-eq0-clause-value : goal.returns-then-share-eq0-clause-value
-returns-then-share-eq0-clause-value c =
-    let zero' : c.args.share ≡ pos 0 = omega (arith, ints, c.if-share-eq0.true) in
-    sym (ap (λ (z : ℤ). near (z *ℤ c.args.x) PICO) zero' ∙ near-zero_times c.args.x PICO)
 
 pub overflow_mul-share : goal.overflow_mul-share
 overflow_mul-share c = (product c.ranges.share c.ranges.x c.requires.share c.requires.x (omega arith)).fits
@@ -26,8 +21,8 @@ small c =
     let part : unsigned_abs (near (c.args.x *ℤ c.args.share) PICO) ≤ unsigned_abs c.args.x = near-share c.args.x c.args.share PICO (unsigned_abs c.args.x) (omega arith) (omega (arith, ints, c.requires.share)) in
     omega (arith, ap unsigned_abs (is_part c ∙ ap (λ z. near z PICO) turned), part)
 
-pub returns-else-share-eq0-clause-value : goal.returns-else-share-eq0-clause-value
-returns-else-share-eq0-clause-value c = let s = small c in let e = is_part c in omega (arith, ints, s, c.requires.x) ∙ e
+pub returns-clause-value : goal.returns-clause-value
+returns-clause-value c = let s = small c in let e = is_part c in omega (arith, ints, s, c.requires.x) ∙ e
 
-pub returns-else-share-eq0-clause-bound : goal.returns-else-share-eq0-clause-bound
-returns-else-share-eq0-clause-bound c = let s = small c in omega (arith, ints, s, c.requires.x)
+pub returns-clause-bound : goal.returns-clause-bound
+returns-clause-bound c = let s = small c in omega (arith, ints, s, c.requires.x)
