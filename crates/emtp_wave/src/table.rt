@@ -1,12 +1,12 @@
 //! The table of the cosine.
 
-ghost use Rattle.std.specs.Prelude.{◌≡◌, ◌^◌, ◌*◌, ◌≤◌, ◌<◌, ◌*ℤ◌, pos, unsigned_abs, ℤ, List, IfOk};
+ghost use Rattle.std.specs.Prelude.{◌≡◌, ◌^◌, ◌*◌, ◌≤◌, ◌<◌, ◌-ℤ◌, ◌*ℤ◌, pos, unsigned_abs, ℤ, List, IfOk};
 ghost use Rattle.emtp_fix.specs.Rounding.{near};
 ghost use Rattle.emtp_wave.specs.Cosine.{entry, near_entry, between, in_quarter, in_turn, reduced, cosine};
 ghost use Rattle.emtp_wave.specs.held.Cosine.{table};
 
 use crate::direction::{EAST, rounded, turned};
-use emtp_fix::{ATTO, scaled};
+use emtp_fix::{ATTO, near, scaled};
 use std::alloc::{AllocError, Global};
 use std::marker::Model;
 
@@ -134,10 +134,25 @@ fn part(rise: i64, way: u64) -> i64
     scaled(i128::from(way), rise as i128, ATTO) as i64
 }
 
+/// A phase within its turn, without a division of 128 bits.
 fn reduced(phase: i128) -> u64
     requires { unsigned_abs phase ≤ 10 ^ 35 }
     ensures value { result ≡ reduced phase }
     ensures bound { result < 10 ^ 18 }
 {
-    phase.rem_euclid(ATTO) as u64
+    let left = phase - whole_turns(phase);
+    if left < 0 {
+        (left + ATTO) as u64
+    } else {
+        left as u64
+    }
+}
+
+/// The whole turns that are nearest to a phase, in 10^-18 turn.
+fn whole_turns(phase: i128) -> i128
+    requires { unsigned_abs phase ≤ 10 ^ 35 }
+    ensures value { result ≡ near phase (pos (10 ^ 18)) *ℤ pos (10 ^ 18) }
+    ensures nearest { unsigned_abs (phase -ℤ result) ≤ 5 * 10 ^ 17 }
+{
+    near(phase, ATTO) * ATTO
 }
