@@ -14,9 +14,8 @@ use Rattle.emtp_case.specs.declared.control.Limiter.TheVariants.{Free}
 use Rattle.emtp_case.specs.declared.control.Bound.TheVariants.{None as NoBound}
 use Rattle.emtp_elim.specs.Matrix.{item}
 use Rattle.emtp_blocks.specs.held.Block.{HasState}
-use Rattle.emtp_blocks.specs.held.BlockRows.{AreAccepted, Gives, Blocking, StandsAt, StandsFor, limiters_kept, no_kept}
+use Rattle.emtp_blocks.specs.held.BlockRows.{AreAccepted, BlockAfter, Gives, Blocking, StandsAt, StandsFor, limiters_kept, no_kept}
 use Rattle.emtp_blocks.specs.System.{first_out, next_at, output_at, outputs, states_after, limiters_of, state_at}
-use Rattle.emtp_blocks.specs.declared.accepting.Accepted.{Accepted}
 
 pub first_out_is : (case : Parts) (H : List StepRecord) (known xs : List ℤ) (i : ℕ) → i < length case.blocks → next_at case H known xs i ≡ None → ((k : ℕ) → k < i → IsSome (next_at case H known xs k)) → first_out case H known xs ≡ Some i
 first_out_is case H known xs i below none before = first_at (λ k. is_none (next_at case H known xs k)) (length case.blocks) i below (λ k h. is_none-some _ (before k h)) (ap is_none none)
@@ -25,7 +24,7 @@ pub none_out_is : (case : Parts) (H : List StepRecord) (known xs : List ℤ) →
 none_out_is case H known xs before = first_none (λ k. is_none (next_at case H known xs k)) (length case.blocks) (λ k h. is_none-some _ (before k h))
 
 -- one block more
-pub accepted_more : (case : Parts) (states : List BlockState) (out : List ℤ) (H : List StepRecord) (known xs : List ℤ) (at : ℕ) (a : Accepted) → at < length states → at < length out → Gives (Some a) case H known xs at
+pub accepted_more : (case : Parts) (states : List BlockState) (out : List ℤ) (H : List StepRecord) (known xs : List ℤ) (at : ℕ) (a : BlockAfter) → at < length states → at < length out → Gives a case H known xs at
     → AreAccepted case states out H known xs at → AreAccepted case (slice_set states at a.state) (slice_set out at a.output) H known xs (at + 1)
 accepted_more case states out H known xs at a there there' gives before = record {
   in_range = λ i below. elim (cases_eq i at) [

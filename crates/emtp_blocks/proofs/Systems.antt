@@ -15,9 +15,8 @@ use Rattle.emtp_elim.specs.Matrix.{item}
 use Rattle.emtp_case.specs.Sums.{total}
 use Rattle.emtp_blocks.specs.Block.{held, limits_of, next_state, output_of, past_output}
 use Rattle.emtp_blocks.specs.held.Block.{HasState, Keeps}
-use Rattle.emtp_blocks.specs.held.BlockRows.{Gives, place_in, places_of}
+use Rattle.emtp_blocks.specs.held.BlockRows.{BlockAfter, Gives, place_in, places_of}
 use Rattle.emtp_blocks.specs.System.{block_of, inside_by, outside_by, outside_sum, free_right, right_by, right, row_entry, unit, coupling_by, input_sum, next_at, next_by, output_by, state_at}
-use Rattle.emtp_blocks.specs.declared.accepting.Accepted.{Accepted}
 use Rattle.emtp_blocks.proofs.Chains.{carried_same}
 
 pub length-places_of : (case : Parts) → length (places_of case) ≡ length case.vars
@@ -56,8 +55,8 @@ outside_sum_is case known inputs all =
     (λ i below. ap (outside_by known i) (place_is case i.var below))
 
 -- what one block gives
-pub gives_some : (case : Parts) (H : List StepRecord) (known xs : List ℤ) (at : ℕ) (b : Block) (a : Accepted) → slice_get case.blocks at ≡ Some b → a.output ≡ output_of (limits_of known b) (state_at H at).limiter (item xs at)
-    → Keeps b.order (Some a.state) (next_state case.run.dt b (limits_of known b) (state_at H at) (item xs at) (input_sum (block_of case) known xs at a.output b.inputs)) → Gives (Some a) case H known xs at
+pub gives_some : (case : Parts) (H : List StepRecord) (known xs : List ℤ) (at : ℕ) (b : Block) (a : BlockAfter) → slice_get case.blocks at ≡ Some b → a.output ≡ output_of (limits_of known b) (state_at H at).limiter (item xs at)
+    → Keeps b.order (Some a.state) (next_state case.run.dt b (limits_of known b) (state_at H at) (item xs at) (input_sum (block_of case) known xs at a.output b.inputs)) → Gives a case H known xs at
 gives_some case H known xs at b a here output keeps =
     let out : a.output ≡ output_by H known xs at (Some b) = output in
     let K : ℤ → Type 0 = λ x. Keeps b.order (Some a.state) (next_state case.run.dt b (limits_of known b) (state_at H at) (item xs at) (input_sum (block_of case) known xs at x b.inputs)) in

@@ -1,13 +1,10 @@
 //! Taking the solved outputs into the blocks.
 
-ghost use Rattle.std.specs.Prelude.{◌≡◌, ◌≤◌, ◌<◌, ℕ, List, length, slice_get, slice_set, slice_index_or, unsigned_abs, All, Some, None, OnOk, IfErr, IfSome, true, false};
+ghost use Rattle.std.specs.Prelude.{◌≡◌, ◌<◌, ℕ, List, length, slice_set, slice_index_or, All, OnOk, IfErr, IfNone, IfSome, true, false};
 ghost use Rattle.emtp_case.specs.StepRecord.{StepRecord};
-ghost use Rattle.emtp_case.specs.declared.control.Block.{Block};
-ghost use Rattle.emtp_blocks.specs.held.Block.{HasState, IsKept, IsLaw};
+ghost use Rattle.emtp_blocks.specs.held.Block.{IsKept, IsLaw};
 ghost use Rattle.emtp_case.specs.held.Control.{AreKnown};
-ghost use Rattle.emtp_blocks.specs.held.BlockRows.{AreUnknowns, AreLaws, Gives, AcceptsAll, StandsAt, places_of, no_kept};
-ghost use Rattle.emtp_blocks.specs.System.{state_at};
-ghost use Rattle.emtp_fix.specs.declared.limit.TheConstants.{LARGEST_VALUE};
+ghost use Rattle.emtp_blocks.specs.held.BlockRows.{AreUnknowns, AreLaws, AcceptsAll, HasTaken, IsOut, StandsAt, places_of, no_kept};
 
 use crate::block_rows::BlockRange;
 use crate::inputs::input_sum;
@@ -16,21 +13,22 @@ use crate::limits::{limits_in_step, output};
 use crate::next::next;
 use emtp_case::{BlockState, Case, Limiter};
 
-/// A block after a step.
+/// A block after a step, but for its state, which is large and moves in place.
 #[derive(Clone, Copy)]
 pub(crate) struct Accepted {
     /// Its recorded output, in nano.
     pub(crate) output: i64,
-    /// What is kept of it.
-    pub(crate) state: BlockState,
+    /// Whether its limiter stands where it stood.
+    pub(crate) same: bool,
 }
 
-/// Takes the solved outputs into one block; none where it is out of range.
-pub(crate) fn accept_one(
+/// Takes the solved outputs into the block at a place, whose state moves; none where it is out of range, and then no state
+/// has moved.
+fn accept_one(
     case: &Case,
     places: &[Option<usize>],
     laws: &[BlockLaw],
-    state: &BlockState,
+    states: &mut [BlockState],
     known: &[i64],
     xs: &[i64],
     at: usize,
@@ -40,41 +38,36 @@ pub(crate) fn accept_one(
     requires law_each { length laws.now ≡ length case.now.parts.blocks }
     requires laws { AreLaws case.now.parts laws.now (length case.now.parts.blocks) }
     requires laws_fit { All IsLaw laws.now }
-    requires state { IsKept state.now }
+    requires state_each { length states.old ≡ length case.now.parts.blocks }
+    requires state { IsKept (slice_index_or states.old at no_kept) }
     requires known { AreKnown case.now.parts known.now }
     requires xs { AreUnknowns case.now.parts xs.now }
-    ensures value { (H : List StepRecord) → ((b : Block) → slice_get case.now.parts.blocks at ≡ Some b → HasState b.order state.now (state_at H at)) → Gives result case.now.parts H known.now xs.now at }
-    ensures small { IfSome result (λ a. unsigned_abs a.output ≤ LARGEST_VALUE) }
-    ensures kept { IfSome result (λ a. IsKept a.state) }
+    ensures taken { IfSome result (HasTaken case.now.parts states.old states.new known.now xs.now at) }
+    ensures out { IfNone result (IsOut case.now.parts states.old known.now xs.now at) }
+    ensures stays { IfNone result (states.new ≡ states.old) }
 {
     let block = &case.parts.blocks.as_slice()[at];
     let limits = limits_in_step(known, block);
-    let x = output(&limits, state.limiter, xs[at]);
+    let x = output(&limits, states[at].limiter, xs[at]);
     let s = input_sum(places, known, xs, at, x, block.inputs.as_slice());
-    match next(block, &laws[at], &limits, state, xs[at], x, s) {
-        Some(state) => Some(Accepted { output: x, state }),
+    match next(block, &laws[at], &limits, &states[at], xs[at], x, s) {
+        Some(state) => {
+            let same = is_same(states[at].limiter, state.limiter);
+            states[at] = state;
+            Some(Accepted { output: x, same })
+        }
         None => None,
     }
 }
 
-/// What accepting leaves of one block.
-fn put(
-    states: &mut [BlockState],
-    out: &mut [i64],
-    moved: bool,
-    at: usize,
-    accepted: Accepted,
-) -> bool
-    requires there { at < length states.old }
+/// Writes the output of one block, and answers whether a limiter has moved up to it.
+fn put(out: &mut [i64], moved: bool, at: usize, accepted: Accepted) -> bool
     requires out { at < length out.old }
-    ensures states { states.new ≡ slice_set states.old at accepted.state }
     ensures out { out.new ≡ slice_set out.old at accepted.output }
-    ensures moved { result ≡ false → (moved ≡ false) × ((slice_index_or states.old at no_kept).limiter ≡ accepted.state.limiter) }
+    ensures moved { result ≡ false → (moved ≡ false) × (accepted.same ≡ true) }
 {
-    let same = is_same(states[at].limiter, accepted.state.limiter);
-    states[at] = accepted.state;
     out[at] = accepted.output;
-    moved || !same
+    moved || !accepted.same
 }
 
 fn is_same(a: Limiter, b: Limiter) -> bool
@@ -111,8 +104,8 @@ pub(crate) fn accept_all(
 {
     *moved = false;
     for at in 0..case.parts.blocks.len() {
-        match accept_one(case, places, laws, &states[at], known, xs, at) {
-            Some(accepted) => *moved = put(states, out, *moved, at, accepted),
+        match accept_one(case, places, laws, states, known, xs, at) {
+            Some(accepted) => *moved = put(out, *moved, at, accepted),
             None => return Err(BlockRange { block: at }),
         }
     }

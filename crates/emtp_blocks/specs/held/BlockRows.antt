@@ -1,5 +1,5 @@
 -- What the block rows of a case stand for.
-use Rattle.std.specs.Prelude.{◌≡◌, ℕ, ◌<◌, ◌≤◌, ◌∷◌, ℤ, pos, unsigned_abs, Bool, List, [], All, length, map, replicate, slice_get, slice_index_or, IsSome, Option, Some, None, Result, Ok, Err}
+use Rattle.std.specs.Prelude.{◌≡◌, ℕ, ◌<◌, ◌≤◌, ◌∷◌, ℤ, pos, unsigned_abs, Bool, true, List, [], All, length, map, replicate, slice_get, slice_index_or, slice_set, IsSome, Option, Some, None, Result, Ok, Err}
 use Rattle.std.specs.List.{range_with_len}
 use Rattle.emtp_elim.specs.Matrix.{Matrix, item}
 use Rattle.emtp_case.specs.StepRecord.{StepRecord}
@@ -80,10 +80,28 @@ pub record IsHeld (case : Parts) (places : List (Option ℕ)) (laws : List Block
 
 -- ---- one block of the system
 
--- what accepting one block gives: its output and what is kept of it; none where it is out of range
-abbrev pub Gives : Option Accepted → Parts → List StepRecord → List ℤ → List ℤ → ℕ → Type 0
-Gives None case H known xs i = next_at case H known xs i ≡ None
-Gives (Some a) case H known xs i = (IsSome (next_at case H known xs i)) × (a.output ≡ output_at case H known xs i) × ((s : BlockState) (b : Block) → next_at case H known xs i ≡ Some s → slice_get case.blocks i ≡ Some b → HasState b.order a.state s)
+-- a block after a step: its output and what is kept of it
+pub record BlockAfter : Type 0 where
+  pub output : ℤ
+  pub state : BlockState
+
+-- it is in range, and both are what the definition says
+abbrev pub Gives : BlockAfter → Parts → List StepRecord → List ℤ → List ℤ → ℕ → Type 0
+Gives a case H known xs i = (IsSome (next_at case H known xs i)) × (a.output ≡ output_at case H known xs i) × ((s : BlockState) (b : Block) → next_at case H known xs i ≡ Some s → slice_get case.blocks i ≡ Some b → HasState b.order a.state s)
+
+-- One block took the solved outputs: no other state moved, and for every list of records that it was kept for it is kept
+-- as the definition says.
+pub record HasTaken (case : Parts) (old new : List BlockState) (known xs : List ℤ) (at : ℕ) (a : Accepted) : Type 0 where
+  pub state : BlockState
+  pub states : new ≡ slice_set old at state
+  pub same : a.same ≡ true → (slice_index_or old at no_kept).limiter ≡ state.limiter
+  pub kept : IsKept state
+  pub small : unsigned_abs a.output ≤ LARGEST_VALUE
+  pub gives : (H : List StepRecord) → StandsAt case old H at → Gives (record { output = a.output; state = state }) case H known xs at
+
+-- for no list of records that it was kept for it is in range
+abbrev pub IsOut : Parts → List BlockState → List ℤ → List ℤ → ℕ → Type 0
+IsOut case old known xs at = (H : List StepRecord) → StandsAt case old H at → next_at case H known xs at ≡ None
 
 -- one number a block, each in range
 pub record AreUnknowns (case : Parts) (xs : List ℤ) : Type 0 where

@@ -1,4 +1,4 @@
-use Rattle.std.proofs.Common.{◌≡◌, ◌∙◌, ◌<◌, ◌≤◌, sym, ap, subst, ℕ, ℤ, List, All, pos, Some, None, length, get_or, slice_get, to_z, of_z, unsigned_abs, arith}
+use Rattle.std.proofs.Common.{◌≡◌, ◌∙◌, ◌<◌, ◌≤◌, sym, ap, subst, refl, ℕ, ℤ, List, All, pos, Some, None, length, get_or, slice_get, to_z, of_z, unsigned_abs, arith}
 use mir.Syntax.{w64}
 use Rattle.std.proofs.lemmas.Int.{ints}
 use Rattle.std.proofs.lemmas.Option.{slice_get-get_or}
@@ -10,7 +10,7 @@ use Rattle.emtp_case.specs.declared.control.Input.{Input}
 use Rattle.emtp_elim.specs.Matrix.{item}
 use Rattle.emtp_fix.proofs.Wide.{through_64}
 use Rattle.emtp_fix.specs.declared.limit.TheConstants.{LARGEST_VALUE}
-use Rattle.emtp_blocks.specs.held.BlockRows.{no_law}
+use Rattle.emtp_blocks.specs.held.BlockRows.{no_kept, no_law}
 use Rattle.emtp_blocks.specs.Block.{limits_of, next_state, output_of}
 use Rattle.emtp_blocks.specs.held.Block.{Keeps}
 use Rattle.emtp_blocks.specs.System.{block_of, input_sum, state_at}
@@ -43,37 +43,47 @@ input_sum-s-requires-clause-blocks c = λ k d below x is.
     let there = place_there c.args.case.now.parts k d x (rw e at below) (rw e at is) in
     omega (arith, there, c.requires.xs.one_each)
 
-pub returns-in-Some-clause-value : goal.returns-in-Some-clause-value
-returns-in-Some-clause-value c = λ H stands.
-    let case = c.args.case.now.parts in
-    let at = c.args.at in
-    let known = c.args.known.now in
-    let xs = c.args.xs.now in
-    let b = c.index-as_slice-at.result in
-    let size = ap length c.as_slice.ensures in
-    let read : b ≡ get_or case.blocks at b = rw c.as_slice.ensures at c.index-as_slice-at.is in
-    let here : slice_get case.blocks at ≡ Some b = slice_get-get_or case.blocks at b c.requires.there ∙ ap Some (sym read) in
-    let fits = let P = λ (y : Block). IsBlock case.run (sizes_of case) y in subst P (sym read) (c.args.case.now.fits.draft.control.blocks at b c.requires.there) in
-    let law = c.requires.laws at b c.requires.there here in
-    let has = stands b here in
-    let small = c.requires.xs.small at (pos 0) (omega (arith, c.requires.there, c.requires.xs.one_each)) in
-    let solved : to_z w64 (of_z w64 (item xs at)) ≡ item xs at = through_64 (item xs at) small in
-    let x : to_z w64 (of_z w64 c.output-x.result) ≡ c.output-x.result = through_64 _ c.output-x.ensures.small in
-    let s : to_z w64 (of_z w64 c.input_sum-s.result) ≡ c.input_sum-s.result = omega (arith, ints, c.input_sum-s.ensures.small) in
-    let lim = c.limits_in_step-limits.ensures.value in
-    let out : c.output-x.result ≡ output_of (limits_of known b) (state_at H at).limiter (item xs at) =
-    rw solved at c.output-x.ensures.value ∙ ap (λ (l : Limits). output_of l c.args.state.now.limiter (item xs at)) lim ∙ ap (λ l. output_of (limits_of known b) l (item xs at)) has.limiter_is in
-    let sum : c.input_sum-s.result ≡ input_sum (block_of case) known xs at c.output-x.result b.inputs =
-    rw (x, c.as_slice-2.ensures, c.requires.places) at c.input_sum-s.ensures.value ∙ input_sum_is case known xs at c.output-x.result b.inputs fits.inputs in
-    let keeps = c.in-Some.ensures.value case.run.dt (state_at H at) law has in
-    let K : Limits → ℤ → ℤ → Type 0 = λ l v n. Keeps b.order (Some c.in-Some.state) (next_state case.run.dt b l (state_at H at) v n) in
-    let K1 : Limits → Type 0 = λ l. K l (item xs at) c.input_sum-s.result in
-    let K2 : ℤ → Type 0 = λ n. K (limits_of known b) (item xs at) n in
-    let keeps' = subst K2 sum (subst K1 lim (rw (solved, s) at keeps)) in
-    gives_some case H known xs at b (record { output = to_z w64 (of_z w64 c.output-x.result); state = c.in-Some.state }) here (x ∙ out) (rw x keeps')
+small_64 : (z : ℤ) → unsigned_abs z ≤ LARGEST_VALUE → unsigned_abs (to_z w64 (of_z w64 z)) ≤ LARGEST_VALUE
+small_64 z small = subst (λ (y : ℤ). unsigned_abs y ≤ LARGEST_VALUE) (sym (through_64 z small)) small
 
-pub returns-in-None-clause-value : goal.returns-in-None-clause-value
-returns-in-None-clause-value c = λ H stands.
+pub returns-in-Some-clause-taken : goal.returns-in-Some-clause-taken
+returns-in-Some-clause-taken c = record {
+  state = c.in-Some.state;
+  states = refl;
+  same = λ told. c.is_same-same.ensures told;
+  kept = c.in-Some.ensures.kept;
+  small = small_64 c.output-x.result c.output-x.ensures.small;
+  gives = λ H stands.
+      let case = c.args.case.now.parts in
+      let at = c.args.at in
+      let known = c.args.known.now in
+      let xs = c.args.xs.now in
+      let b = c.index-as_slice-at.result in
+      let size = ap length c.as_slice.ensures in
+      let read : b ≡ get_or case.blocks at b = rw c.as_slice.ensures at c.index-as_slice-at.is in
+      let here : slice_get case.blocks at ≡ Some b = slice_get-get_or case.blocks at b c.requires.there ∙ ap Some (sym read) in
+      let fits = let P = λ (y : Block). IsBlock case.run (sizes_of case) y in subst P (sym read) (c.args.case.now.fits.draft.control.blocks at b c.requires.there) in
+      let law = c.requires.laws at b c.requires.there here in
+      let has = stands b here in
+      let small = c.requires.xs.small at (pos 0) (omega (arith, c.requires.there, c.requires.xs.one_each)) in
+      let solved : to_z w64 (of_z w64 (item xs at)) ≡ item xs at = through_64 (item xs at) small in
+      let x : to_z w64 (of_z w64 c.output-x.result) ≡ c.output-x.result = through_64 _ c.output-x.ensures.small in
+      let s : to_z w64 (of_z w64 c.input_sum-s.result) ≡ c.input_sum-s.result = omega (arith, ints, c.input_sum-s.ensures.small) in
+      let lim = c.limits_in_step-limits.ensures.value in
+      let out : c.output-x.result ≡ output_of (limits_of known b) (state_at H at).limiter (item xs at) =
+      rw solved at c.output-x.ensures.value ∙ ap (λ (l : Limits). output_of l (get_or c.args.states.now at no_kept).limiter (item xs at)) lim ∙ ap (λ l. output_of (limits_of known b) l (item xs at)) has.limiter_is in
+      let sum : c.input_sum-s.result ≡ input_sum (block_of case) known xs at c.output-x.result b.inputs =
+      rw (x, c.as_slice-2.ensures, c.requires.places) at c.input_sum-s.ensures.value ∙ input_sum_is case known xs at c.output-x.result b.inputs fits.inputs in
+      let keeps = c.in-Some.ensures.value case.run.dt (state_at H at) law has in
+      let K : Limits → ℤ → ℤ → Type 0 = λ l v n. Keeps b.order (Some c.in-Some.state) (next_state case.run.dt b l (state_at H at) v n) in
+      let K1 : Limits → Type 0 = λ l. K l (item xs at) c.input_sum-s.result in
+      let K2 : ℤ → Type 0 = λ n. K (limits_of known b) (item xs at) n in
+      let keeps' = subst K2 sum (subst K1 lim (rw (solved, s) at keeps)) in
+      gives_some case H known xs at b (record { output = to_z w64 (of_z w64 c.output-x.result); state = c.in-Some.state }) here (x ∙ out) (rw x keeps');
+}
+
+pub returns-in-None-clause-out : goal.returns-in-None-clause-out
+returns-in-None-clause-out c = λ H stands.
     let case = c.args.case.now.parts in
     let at = c.args.at in
     let known = c.args.known.now in
@@ -91,7 +101,7 @@ returns-in-None-clause-value c = λ H stands.
     let s : to_z w64 (of_z w64 c.input_sum-s.result) ≡ c.input_sum-s.result = omega (arith, ints, c.input_sum-s.ensures.small) in
     let lim = c.limits_in_step-limits.ensures.value in
     let out : c.output-x.result ≡ output_of (limits_of known b) (state_at H at).limiter (item xs at) =
-    rw solved at c.output-x.ensures.value ∙ ap (λ (l : Limits). output_of l c.args.state.now.limiter (item xs at)) lim ∙ ap (λ l. output_of (limits_of known b) l (item xs at)) has.limiter_is in
+    rw solved at c.output-x.ensures.value ∙ ap (λ (l : Limits). output_of l (get_or c.args.states.now at no_kept).limiter (item xs at)) lim ∙ ap (λ l. output_of (limits_of known b) l (item xs at)) has.limiter_is in
     let sum : c.input_sum-s.result ≡ input_sum (block_of case) known xs at c.output-x.result b.inputs =
     rw (x, c.as_slice-2.ensures, c.requires.places) at c.input_sum-s.ensures.value ∙ input_sum_is case known xs at c.output-x.result b.inputs fits.inputs in
     let keeps = c.in-None.ensures.value case.run.dt (state_at H at) law has in
@@ -105,15 +115,6 @@ returns-in-None-clause-value c = λ H stands.
 
 block_is : (case : Parts) (seen : List Block) (at : ℕ) (b : Block) → All (IsBlock case.run (sizes_of case)) case.blocks → at < length case.blocks → seen ≡ case.blocks → b ≡ get_or seen at b → IsBlock case.run (sizes_of case) b
 block_is case seen at b fit there same read = subst (IsBlock case.run (sizes_of case)) (sym (read ∙ ap (λ (xs : List Block). get_or xs at b) same)) (fit at b there)
-
-small_64 : (z : ℤ) → unsigned_abs z ≤ LARGEST_VALUE → unsigned_abs (to_z w64 (of_z w64 z)) ≤ LARGEST_VALUE
-small_64 z small = subst (λ (y : ℤ). unsigned_abs y ≤ LARGEST_VALUE) (sym (through_64 z small)) small
-
-pub returns-in-Some-clause-small : goal.returns-in-Some-clause-small
-returns-in-Some-clause-small c = small_64 c.output-x.result c.output-x.ensures.small
-
-pub returns-in-Some-clause-kept : goal.returns-in-Some-clause-kept
-returns-in-Some-clause-kept c = c.in-Some.ensures.kept
 
 pub limits_in_step-limits-requires-clause-known : goal.limits_in_step-limits-requires-clause-known
 limits_in_step-limits-requires-clause-known c = c.requires.known.small
