@@ -1,5 +1,5 @@
 -- The factor of the next step, and what it costs.
-use Rattle.std.proofs.Common.{◌≡◌, ◌≢◌, ◌∙◌, sym, ap, ℕ, ◌+◌, ◌-◌, ◌≤◌, ◌==◌, if◌then◌else◌, List, [], ◌∷◌, length, take, refl, false, arith}
+use Rattle.std.proofs.Common.{◌≡◌, ◌≢◌, ◌∙◌, sym, ap, subst, ℕ, ◌+◌, ◌-◌, ◌≤◌, ◌==◌, if◌then◌else◌, List, [], ◌∷◌, length, take, refl, false, arith}
 use Rattle.std.proofs.lemmas.List.{take-take}
 use Rattle.emtp_case.specs.StepRecord.{StepRecord}
 use Rattle.emtp_case.specs.declared.case.Parts.{Parts}
@@ -12,7 +12,7 @@ use Rattle.emtp_rows.specs.held.Touched.{NodalRows, StandsUntouched, Touches}
 use Rattle.emtp_tail.proofs.RedoneRows.{rows_counted, rows_ticked, rows_ticked_most}
 use Rattle.emtp_tail.specs.Good.{first_change}
 use Rattle.emtp_tail.specs.held.Good.{Good}
-use Rattle.emtp_net.specs.held.Holding.{HoldsRows}
+use Rattle.emtp_net.specs.held.Holding.{HasFixed, HoldsRows}
 use Rattle.emtp_net.specs.Redone.{step_redone}
 use Rattle.emtp_net.specs.held.Redone.{last_matrix, step_ticks}
 use Rattle.emtp_net.specs.held.Stages.{step_adds}
@@ -34,10 +34,11 @@ stands_touched old new rows touches stands = λ n early few.
     sym (take-take n new.touched (nodal_matrix new.nodal) early) ∙ ap (take n) touches.before ∙ take-take n new.touched (nodal_matrix old.nodal) early ∙ stands n (omega (arith, early, touches.earlier)) few
 
 -- the rows and the factor after both moved on
-pub holds_next : (case : Parts) (old mid new : NodalRows) (kept left : Good) → HoldsRows case old kept → mid.nodal ≡ record old.nodal { own = mid.nodal.own } → length mid.nodal.own ≡ length case.branches → new.nodal ≡ mid.nodal → left.size ≡ kept.size → StandsUntouched new left.rows → HoldsRows case new left
-holds_next case old mid new kept left holds rest room nodal_is size stands = record {
+pub holds_next : (case : Parts) (old mid new : NodalRows) (kept left : Good) → HoldsRows case old kept → mid.nodal ≡ record old.nodal { own = mid.nodal.own } → length mid.nodal.own ≡ length case.branches → HasFixed case mid.nodal.own → new.nodal ≡ mid.nodal → left.size ≡ kept.size → StandsUntouched new left.rows → HoldsRows case new left
+holds_next case old mid new kept left holds rest room fixed nodal_is size stands = record {
   case_is = ap (λ (n : Nodal). n.case) nodal_is ∙ ap (λ (n : Nodal). n.case) rest ∙ holds.case_is;
   own_room = ap (λ (n : Nodal). length n.own) nodal_is ∙ room;
+  fixed = subst (HasFixed case) (sym (ap (λ (n : Nodal). n.own) nodal_is)) fixed;
   coupling_is = ap (λ (n : Nodal). n.coupling) nodal_is ∙ ap (λ (n : Nodal). n.coupling) rest ∙ holds.coupling_is;
   kept_size = size ∙ holds.kept_size;
   kept_stands = stands;
@@ -76,6 +77,7 @@ pub holds_kinds : (case : Parts) (old new : NodalRows) (kept : Good) → HoldsRo
 holds_kinds case old new kept holds rest touches = record {
   case_is = ap (λ (n : Nodal). n.case) rest ∙ holds.case_is;
   own_room = ap (λ (n : Nodal). length n.own) rest ∙ holds.own_room;
+  fixed = subst (HasFixed case) (sym (ap (λ (n : Nodal). n.own) rest)) holds.fixed;
   coupling_is = ap (λ (n : Nodal). n.coupling) rest ∙ holds.coupling_is;
   kept_size = holds.kept_size;
   kept_stands = stands_touched old new kept.rows touches holds.kept_stands;

@@ -1,8 +1,9 @@
 -- A network at rest.
-use Rattle.std.proofs.Common.{◌≡◌, ◌∙◌, sym, ap, subst, ℕ, zero, suc, ◌+◌, ◌≤◌, ◌<◌, ℤ, pos, Bool, List, [], ◌∷◌, All, Result, Ok, Err, IfOk, IsErrAnd, length, map, replicate, slice_index_or, unsigned_abs, refl, arith}
+use Rattle.std.proofs.Common.{◌≡◌, ◌∙◌, sym, ap, subst, ℕ, zero, suc, ◌+◌, ◌≤◌, ◌<◌, ℤ, pos, Bool, List, [], ◌∷◌, All, Result, Ok, Err, IfOk, IsErrAnd, length, map, replicate, slice_get, slice_index_or, unsigned_abs, refl, arith}
 use Rattle.std.proofs.lemmas.Int.{ints}
 use Rattle.std.proofs.lemmas.List.{length-replicate}
-use Rattle.emtp_case.specs.StepRecord.{is_closed, rest_of}
+use Rattle.std.proofs.lemmas.List.FromFn.{length-map-range_with_len}
+use Rattle.emtp_case.specs.StepRecord.{StepRecord, is_closed, rest_of}
 use Rattle.emtp_case.specs.declared.case.Parts.{Parts}
 use Rattle.emtp_elim.specs.Matrix.{item}
 use Rattle.emtp_fix.specs.declared.limit.TheConstants.{LARGEST_VALUE}
@@ -13,10 +14,11 @@ use Rattle.emtp_rows.specs.held.Touched.{NodalRows}
 use Rattle.emtp_switch.specs.held.Switching as switching
 use Rattle.emtp_tail.specs.held.Good.{Good}
 use Rattle.emtp_net.specs.held.Branches.{StandsFor as BranchesStandFor}
-use Rattle.emtp_net.specs.held.Holding.{HasShown, HoldsRows}
+use Rattle.emtp_net.specs.held.Holding.{HasFixed, HasShown, HoldsRows}
 use Rattle.emtp_net.specs.held.Moving.{AreCurrents, AreLineCurrents}
 use Rattle.emtp_net.specs.held.Network.{Net, StandsFor}
-use Rattle.emtp_net.specs.System.{couplings}
+use Rattle.emtp_net.specs.System.{conductance_by, conductances, couplings}
+use Rattle.emtp_net.proofs.Conductances.{fixed_all}
 use Rattle.emtp_net.proofs.LineCurrents.{currents_rest, line_currents_rest}
 
 -- a way out by an error promises nothing of what it would have made
@@ -24,10 +26,11 @@ pub nothing_made : {A E : Type 0} (P : A → Type 0) (Q : E → Type 0) (result 
 nothing_made P Q (Ok x) is = absurd is
 nothing_made P Q (Err e) is = tt
 
-pub rows_rest : (case : Parts) (rows : NodalRows) (kept : Good) → rows.nodal ≡ record (nodal_at_rest case) { coupling = couplings case } → kept ≡ record { size = length (nodal_matrix rows.nodal); rows = []; done = [] } → HoldsRows case rows kept
-rows_rest case rows kept are is = record {
+pub rows_rest : (case : Parts) (H : List StepRecord) (rows : NodalRows) (kept : Good) → rows.nodal ≡ record (nodal_at_rest case) { own = conductances case H; coupling = couplings case } → kept ≡ record { size = length (nodal_matrix rows.nodal); rows = []; done = [] } → HoldsRows case rows kept
+rows_rest case H rows kept are is = record {
   case_is = ap (λ (n : Nodal). n.case) are;
-  own_room = ap (λ (n : Nodal). length n.own) are ∙ length-replicate (length case.branches) (pos 0);
+  own_room = ap (λ (n : Nodal). length n.own) are ∙ length-map-range_with_len (λ b. conductance_by case H b (slice_get case.branches b)) 0 (length case.branches);
+  fixed = subst (HasFixed case) (sym (ap (λ (n : Nodal). n.own) are)) (fixed_all case H);
   coupling_is = ap (λ (n : Nodal). n.coupling) are;
   kept_size = ap (λ (k : Good). k.size) is ∙ length-nodal_matrix rows.nodal ∙ ap (λ (n : Nodal). length n.case.nodes) are;
   kept_stands = λ n early few.

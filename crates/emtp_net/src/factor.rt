@@ -1,15 +1,16 @@
 //! The factor, brought up to date from the first row that changed.
 
 ghost use Rattle.emtp_case.specs.declared.limit.TheConstants.{MOST_NODES};
-ghost use Rattle.std.specs.Prelude.{◌≡◌, ◌+◌, ◌-◌, ◌*◌, ◌^◌, ◌≤◌, ◌<◌, ◌==◌, ℤ, List, length, if◌then◌else◌, Err, OnOk, IfErr};
-ghost use Rattle.emtp_case.specs.RowOrder.{order_of};
+ghost use Rattle.std.specs.Prelude.{◌≡◌, ◌≢◌, ◌+◌, ◌-◌, ◌*◌, ◌^◌, ◌≤◌, ◌<◌, ◌==◌, ℕ, ℤ, List, length, if◌then◌else◌, Err, OnOk, IfErr};
+ghost use Rattle.emtp_case.specs.RowOrder.{is_pseudo, order_of};
 ghost use Rattle.emtp_case.specs.StepRecord.{StepRecord};
+ghost use Rattle.emtp_elim.specs.Matrix.{item};
 ghost use Rattle.emtp_elim.specs.held.Fault.{IsRowFault};
 ghost use Rattle.emtp_elim.specs.Outcome.{outcome};
 ghost use Rattle.emtp_elim.specs.declared.fault.PlainFault.{PlainFault};
 ghost use Rattle.emtp_net.specs.held.Branches.{HasCase, StandsFor as BranchesStandFor};
 ghost use Rattle.emtp_net.specs.held.Fault.{NamesNode};
-ghost use Rattle.emtp_net.specs.held.Holding.{HoldsRows};
+ghost use Rattle.emtp_net.specs.held.Holding.{HasConductance, HasFixed, HoldsRows};
 ghost use Rattle.emtp_net.specs.Redone.{step_redone};
 ghost use Rattle.emtp_net.specs.held.Redone.{step_ticks};
 ghost use Rattle.emtp_net.specs.held.Stages.{Ends, IsReady};
@@ -21,7 +22,7 @@ ghost use Rattle.emtp_tail.specs.Good.{first_change};
 use crate::branches::Branches;
 use crate::fault::NetFault;
 use crate::names::row_fault;
-use emtp_case::{Case, RowOrder};
+use emtp_case::{Branch, Case, RowOrder};
 use emtp_elim::RowFault;
 use emtp_fix::Steps;
 use emtp_rows::NetRows;
@@ -73,8 +74,8 @@ fn follow<L: Ledger>(
     }
 }
 
-/// Gives the rows the conductances of the next step.
-fn set_conductances(case: &Case, branches: &Branches<'_>, rows: &mut NetRows<'_>)
+/// Gives the rows the conductances of all branches in the next step.
+pub(crate) fn set_all_conductances(case: &Case, branches: &Branches<'_>, rows: &mut NetRows<'_>)
     requires same { HasCase branches.now case.now.parts }
     requires rows { rows.old.nodal.case ≡ case.now.parts }
     requires own { length rows.old.nodal.own ≡ length case.now.parts.branches }
@@ -85,6 +86,49 @@ fn set_conductances(case: &Case, branches: &Branches<'_>, rows: &mut NetRows<'_>
 {
     for at in 0..case.parts.branches.len() {
         rows.set_conductance(at, branches.conductance(case, at));
+    }
+}
+
+fn is_pseudo(branch: &Branch) -> bool
+    ensures { result ≡ is_pseudo branch.now }
+{
+    matches!(branch, Branch::Pseudo(_))
+}
+
+/// Gives the rows the conductance of a pseudo-nonlinear branch in the next step. That of another branch has stayed.
+fn set_pseudo(case: &Case, branches: &Branches<'_>, at: usize, rows: &mut NetRows<'_>)
+    requires same { HasCase branches.now case.now.parts }
+    requires rows { rows.old.nodal.case ≡ case.now.parts }
+    requires there { at < length case.now.parts.branches }
+    requires own { length rows.old.nodal.own ≡ length case.now.parts.branches }
+    requires fixed { HasFixed case.now.parts rows.old.nodal.own }
+    ensures value { HasConductance branches.now case.now.parts rows.new.nodal.own at }
+    ensures others { (b : ℕ) → b ≢ at → item rows.new.nodal.own b ≡ item rows.old.nodal.own b }
+    ensures fixed { HasFixed case.now.parts rows.new.nodal.own }
+    ensures touched { Touches rows.old rows.new }
+    ensures rest { rows.new.nodal ≡ record rows.old.nodal { own = rows.new.nodal.own } }
+    ensures room { length rows.new.nodal.own ≡ length case.now.parts.branches }
+{
+    let branch = &case.parts.branches.as_slice()[at];
+    if is_pseudo(branch) {
+        rows.set_conductance(at, branches.conductance(case, at));
+    }
+}
+
+/// Gives the rows the conductances of the next step, where those that stay have theirs.
+fn set_conductances(case: &Case, branches: &Branches<'_>, rows: &mut NetRows<'_>)
+    requires same { HasCase branches.now case.now.parts }
+    requires rows { rows.old.nodal.case ≡ case.now.parts }
+    requires own { length rows.old.nodal.own ≡ length case.now.parts.branches }
+    requires fixed { HasFixed case.now.parts rows.old.nodal.own }
+    ensures set { (H : List StepRecord) → BranchesStandFor branches.now H → rows.new.nodal ≡ record rows.old.nodal { own = conductances case.now.parts H } }
+    ensures fixed { HasFixed case.now.parts rows.new.nodal.own }
+    ensures touched { Touches rows.old rows.new }
+    ensures rest { rows.new.nodal ≡ record rows.old.nodal { own = rows.new.nodal.own } }
+    ensures room { length rows.new.nodal.own ≡ length case.now.parts.branches }
+{
+    for at in 0..case.parts.branches.len() {
+        set_pseudo(case, branches, at, rows);
     }
 }
 

@@ -5,7 +5,7 @@ ghost use Rattle.std.specs.Prelude.{◌≡◌, ◌+◌, ◌*◌, ◌<◌, ◌≤
 ghost use Rattle.emtp_case.specs.RowOrder.{order_of};
 ghost use Rattle.emtp_case.specs.StepRecord.{StepRecord, branch_current_at, is_closed, latest, rest_of};
 ghost use Rattle.emtp_fix.specs.declared.limit.TheConstants.{LARGEST_VALUE};
-ghost use Rattle.emtp_net.specs.held.Branches.{HasCase};
+ghost use Rattle.emtp_net.specs.held.Branches.{HasCase, StandsFor as BranchesStandFor};
 ghost use Rattle.emtp_net.specs.held.Fault.{NamesNode};
 ghost use Rattle.emtp_net.specs.held.Holding.{HoldsRows};
 ghost use Rattle.emtp_net.specs.held.Network.{StandsFor, StepsTo};
@@ -13,7 +13,7 @@ ghost use Rattle.emtp_net.specs.held.Redone.{step_ticks};
 ghost use Rattle.emtp_net.specs.Step.{network_part};
 
 use crate::branches::Branches;
-use crate::factor::{factor, set_couplings};
+use crate::factor::{factor, set_all_conductances, set_couplings};
 use crate::fault::NetFault;
 use crate::nodal_system::{NodalSystem, zeros};
 use emtp_case::{Case, RowOrder, order};
@@ -254,7 +254,7 @@ fn shown_at_rest(alloc: Global, case: &Case, switches: &Switches<'_>) -> Result<
     })
 }
 
-/// The rows of a case before any step, and a factor of which no row is good.
+/// The rows of a case before any step, with the conductances of the first one, and a factor of which no row is good.
 fn rows_at_rest<'a>(
     alloc: Global,
     case: &'a Case,
@@ -263,11 +263,13 @@ fn rows_at_rest<'a>(
 ) -> Result<(NetRows<'a>, Kept), AllocError>
     requires order { order.now ≡ order_of case.now.parts }
     requires same { HasCase branches.now case.now.parts }
+    requires rest { BranchesStandFor branches.now (rest_of case.now.parts ∷ []) }
     ensures rows { IfOk result (λ made. HoldsRows case.now.parts made.0 made.1) }
     ensures none { IfOk result (λ made. made.1.rows ≡ []) }
 {
     let mut rows = NetRows::open(alloc, case, order)?;
     set_couplings(case, branches, &mut rows);
+    set_all_conductances(case, branches, &mut rows);
     let kept = Kept::open(alloc, &rows)?;
     Ok((rows, kept))
 }

@@ -1,15 +1,18 @@
 -- How the fields of a network hold together.
 use Rattle.emtp_case.specs.declared.limit.TheConstants.{MOST_NODES}
-use Rattle.std.specs.Prelude.{◌≡◌, ◌+◌, ◌*◌, ◌≤◌, ℕ, ℤ, All, Bool, List, length, unsigned_abs}
-use Rattle.emtp_case.specs.RowOrder.{Rows, order_of}
+use Rattle.std.specs.Prelude.{◌≡◌, ◌+◌, ◌*◌, ◌≤◌, ℕ, ℤ, All, Bool, false, List, [], length, slice_get, Some, unsigned_abs}
+use Rattle.emtp_case.specs.RowOrder.{Rows, is_pseudo, order_of}
+use Rattle.emtp_case.specs.StepRecord.{StepRecord}
+use Rattle.emtp_case.specs.declared.branch.Branch.{Branch}
 use Rattle.emtp_case.specs.declared.case.Parts.{Parts}
+use Rattle.emtp_elim.specs.Matrix.{item}
 use Rattle.emtp_fix.specs.declared.limit.TheConstants.{LARGEST_VALUE}
 use Rattle.emtp_rows.specs.held.Touched.{NodalRows, StandsUntouched}
 use Rattle.emtp_switch.specs.held.Switching.{Switching}
 use Rattle.emtp_tail.specs.held.Good.{Good}
-use Rattle.emtp_net.specs.held.Branches.{HasCase}
+use Rattle.emtp_net.specs.held.Branches.{HasCase, StandsFor}
 use Rattle.emtp_net.specs.held.Rights.{places_of}
-use Rattle.emtp_net.specs.System.{couplings}
+use Rattle.emtp_net.specs.System.{conductance_by, couplings}
 use Rattle.emtp_net.specs.declared.branches.Branches.{Branches}
 use Rattle.emtp_net.specs.declared.nodal_system.NodalSystem.{NodalSystem}
 
@@ -26,10 +29,19 @@ pub record HoldsSwitches (case : Parts) (switches : Switching) : Type 0 where
   pub case_is : switches.case ≡ case
   pub rows_are : switches.rows ≡ order_of case
 
+-- a branch has its conductance of the next step, for every list of records that the branches stand for
+abbrev pub HasConductance : Branches → Parts → List ℤ → ℕ → Type 0
+HasConductance branches case own b = (H : List StepRecord) → StandsFor branches H → item own b ≡ conductance_by case H b (slice_get case.branches b)
+
+-- branches that aren't pseudo-nonlinear have their conductances, which are the same in all steps
+abbrev pub HasFixed : Parts → List ℤ → Type 0
+HasFixed case own = (b : ℕ) (x : Branch) → slice_get case.branches b ≡ Some x → is_pseudo x ≡ false → item own b ≡ conductance_by case [] b (Some x)
+
 -- the rows are those of the case, and the factor may be kept before the first touched row
 pub record HoldsRows (case : Parts) (rows : NodalRows) (kept : Good) : Type 0 where
   pub case_is : rows.nodal.case ≡ case
   pub own_room : length rows.nodal.own ≡ length case.branches
+  pub fixed : HasFixed case rows.nodal.own
   pub coupling_is : rows.nodal.coupling ≡ couplings case
   pub kept_size : kept.size ≡ length case.nodes
   pub kept_stands : StandsUntouched rows kept.rows

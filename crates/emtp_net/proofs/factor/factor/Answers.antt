@@ -6,8 +6,23 @@ use Rattle.emtp_rows.proofs.NodalRows.{length-nodal_matrix}
 use Rattle.emtp_rows.specs.Nodal.{Nodal, nodal_matrix}
 use Rattle.emtp_net.proofs.Ending.{row_ends}
 use Rattle.emtp_net.specs.System.{right}
-use Rattle.emtp_net.proofs.Factoring.{nodal_is, redone_is, row_adds, stands_touched, ticks_are, ticks_most}
+use Rattle.emtp_net.proofs.Factoring.{holds_next, nodal_is, redone_is, row_adds, stands_touched, ticks_are, ticks_most}
 use Rattle.emtp_net.proofs.factor.factor.Goals as goal
+
+pub set_conductances-requires-clause-fixed : goal.set_conductances-requires-clause-fixed
+set_conductances-requires-clause-fixed g c = c.requires.rows.fixed
+
+pub returns-in-Ok-clause-rows : goal.returns-in-Ok-clause-rows
+returns-in-Ok-clause-rows g c =
+    let set = c.set_conductances.ensures in
+    let done = c.follow.ensures in
+    holds_next c.args.case.now.parts c.args.rows.now c.set_conductances.new.rows c.follow.new.rows c.args.kept.now c.follow.new.kept c.requires.rows set.rest set.room set.fixed done.nodal done.size done.stands
+
+pub returns-in-Err-clause-rows : goal.returns-in-Err-clause-rows
+returns-in-Err-clause-rows g c =
+    let set = c.set_conductances.ensures in
+    let done = c.follow.ensures in
+    holds_next c.args.case.now.parts c.args.rows.now c.set_conductances.new.rows c.follow.new.rows c.args.kept.now c.follow.new.kept c.requires.rows set.rest set.room set.fixed done.nodal done.size done.stands
 
 pub follow-requires-clause-stands : goal.follow-requires-clause-stands
 follow-requires-clause-stands g c =

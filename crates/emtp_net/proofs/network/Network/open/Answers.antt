@@ -2,6 +2,9 @@ use Rattle.std.proofs.Common.{◌∙◌, refl, arith}
 use Rattle.emtp_net.proofs.Resting.{shown_rest, stands_rest}
 use Rattle.emtp_net.proofs.network.Network.open.Goals as goal
 
+pub rows_at_rest-requires-clause-rest : goal.rows_at_rest-requires-clause-rest
+rows_at_rest-requires-clause-rest c = c.in-Ok-open-2.ensures.rest
+
 pub returns-clause-rest : goal.returns-clause-rest
 returns-clause-rest c =
     stands_rest c.args.case.now.parts _ refl c.in-Ok-open-2.ensures.rest c.in-Ok-open.ensures.stands c.in-Ok-rows_at_rest.ensures.rows c.in-Ok-rows_at_rest.ensures.none
