@@ -70,3 +70,9 @@ none_beyond currents small = first_none (λ s. not (is_within LARGEST_VALUE (ite
 
 pub beyond_at : (currents : List ℤ) (s : ℕ) → IsFirstBeyond currents s → first_beyond currents ≡ Some s
 beyond_at currents s first = first_at (λ s. not (is_within LARGEST_VALUE (item currents s))) (length currents) s first.within (λ k less. within LARGEST_VALUE (item currents k) (first.earlier k less)) (beyond LARGEST_VALUE (item currents s) first.is)
+
+-- lists of nothing
+pub both_empty : (xs ys : List ℤ) → length xs ≡ 0 → length ys ≡ 0 → xs ≡ ys
+both_empty [] [] none none' = refl
+both_empty [] (y ∷ ys) none none' = absurd (omega (arith, none'))
+both_empty (x ∷ xs) ys none none' = absurd (omega (arith, none))

@@ -162,7 +162,7 @@ impl NodalSystem {
         }
     }
 
-    /// Finds the switch currents of the next step, in nA, once the branches moved.
+    /// Finds the switch currents of the next step, in nA, once the branches moved. Without switches there is no sweep.
     pub(crate) fn find_currents(
         &mut self,
         case: &Case,
@@ -195,6 +195,9 @@ impl NodalSystem {
             &self.values,
             &mut self.right,
         );
+        if out.is_empty() {
+            return Ok(());
+        }
         match switches.currents(&self.right, out) {
             Ok(()) => Ok(()),
             Err(fault) => Err(NetFault::Range(switch_name(case, fault.switch))),

@@ -1,4 +1,5 @@
-use Rattle.std.proofs.Common.{◌≡◌, ◌∙◌, ◌<◌, ◌≤◌, ◌^◌, ℕ, ℤ, List, sym, ap, subst, length, pos, unsigned_abs, refl, arith}
+use Rattle.std.proofs.Common.{◌≡◌, ◌∙◌, ◌<◌, ◌≤◌, ◌^◌, ◌==◌, true, ℕ, ℤ, List, sym, ap, subst, length, pos, unsigned_abs, refl, arith}
+use Rattle.std.proofs.lemmas.Bool.Decides.{nat_tests}
 use Rattle.std.specs.Vec.{with_items}
 use Rattle.std.proofs.lemmas.List.{get_or_default, with_items_is}
 use Rattle.emtp_case.specs.declared.case.Parts.{Parts}
@@ -10,7 +11,7 @@ use Rattle.emtp_net.specs.Step.{first_beyond}
 use Rattle.emtp_net.specs.declared.nodal_system.NodalSystem.{NodalSystem}
 use Rattle.emtp_net.proofs.Ending.{switch_ends}
 use Rattle.emtp_net.proofs.Moves.{is_next, next_record}
-use Rattle.emtp_net.proofs.Switching.{beyond_at, currents_next, length-currents, none_beyond}
+use Rattle.emtp_net.proofs.Switching.{beyond_at, both_empty, currents_next, length-currents, none_beyond}
 use Rattle.emtp_net.proofs.nodal_system.NodalSystem.find_currents.Goals as goal
 
 room : (case : Parts) (s : NodalSystem) (l : List ℤ) → HasRoom case s → length l ≡ length s.right.items → (with_items s.right l).items ≡ l → HasRoom case (record s { right = with_items s.right l })
@@ -31,6 +32,32 @@ currents-requires c =
 
 pub switch_name-requires : goal.switch_name-requires
 switch_name-requires c = omega (arith, c.in-Err.ensures.first.within, length-currents c.args.switches.now c.deref-2.result.now, ap (λ (p : Parts). length p.switches) c.requires.switches.case_is)
+
+none_there : (n : ℕ) → (n == 0) ≡ true → n ≡ 0
+none_there n h = grind (arith, nat_tests)
+
+pub returns-then-is_empty : goal.returns-then-is_empty
+returns-then-is_empty c =
+    let none : length c.args.out.now ≡ 0 = none_there (length c.args.out.now) (sym c.is_empty.ensures ∙ c.if-is_empty.true) in
+    record {
+      leaving = λ H vs moved values.
+          let case = c.args.case.now.parts in
+          let next = is_next case H vs in
+          with_items_is c.args.self.now.right c.fill_leaving.new.out (c.fill_leaving.auto.out ∙ c.deref_mut.ensures.len) ∙ c.fill_leaving.ensures.value H vs (next_record H case vs) next moved (c.deref.ensures.value ∙ values) ∙ ap (leaving_rows case H) next.branches;
+      found = λ H vs voltages moved values states.
+          let case = c.args.case.now.parts in
+          let s = c.args.switches.now in
+          let leaving = leaving_rows case H (states_at case H vs) in
+          let count = ap length (sym (currents_next case H s (states_at case H vs) leaving c.requires.switches states refl)) ∙ length-currents s leaving ∙ ap (λ (p : Parts). length p.switches) c.requires.switches.case_is in
+          let are : c.args.out.now ≡ switch_currents_at case H (states_at case H vs) = both_empty c.args.out.now (switch_currents_at case H (states_at case H vs)) none (count ∙ sym c.requires.out ∙ none) in
+          record { are = are; within = ap first_beyond (sym are) ∙ none_beyond c.args.out.now (λ k d below. absurd (omega (arith, below, none))) };
+      room = room c.args.case.now.parts c.args.self.now c.fill_leaving.new.out c.requires.room (c.fill_leaving.auto.out ∙ ap length c.deref_mut.ensures.value) (with_items_is c.args.self.now.right c.fill_leaving.new.out (c.fill_leaving.auto.out ∙ c.deref_mut.ensures.len));
+      small = small _ _ _ c.fill_leaving.new.out c.fill_leaving.ensures.small (ap length c.deref_mut.ensures.value ∙ c.requires.room.right) (with_items_is c.args.self.now.right c.fill_leaving.new.out (c.fill_leaving.auto.out ∙ c.deref_mut.ensures.len));
+      ends = λ H vs voltages moved values states. tt;
+      kinds = refl;
+      same = refl;
+      node = tt;
+    }
 
 pub returns-in-Ok : goal.returns-in-Ok
 returns-in-Ok c =
