@@ -24,19 +24,21 @@ use crate::residual::{fill_leaving, judge};
 use crate::right::{fill_right, fill_values, places_of};
 use crate::voltages::fill_voltages;
 use emtp_case::{Case, RowKind, RowOrder, switch_name};
-use emtp_rows::NetRows;
+use emtp_rows::{NetRows, ends_of_branches};
 use emtp_switch::Switches;
 use emtp_tail::Kept;
 use emtp_wave::CosTable;
 use std::alloc::{AllocError, Global};
 
-/// The nodal system of a step. All of it is room that is filled anew in each step but for `places`.
+/// The nodal system of a step. All of it is room that is filled anew in each step but for `places` and `ends`.
 #[derive(Drop)]
 pub(crate) struct NodalSystem {
     /// The kinds of the rows.
     pub(crate) kinds: Vec<RowKind>,
     /// For each row the place of its node's voltage source among the sources, or their number.
     pub(crate) places: Vec<u32>,
+    /// The rows of the two nodes of each branch; ground has the number of rows.
+    pub(crate) ends: Vec<(u32, u32)>,
     /// The values of the sources, in nV and nA.
     pub(crate) values: Vec<i64>,
     /// The right side, in nA and nV; once the branches moved, what leaves the node of each row, in nA.
@@ -57,6 +59,7 @@ impl NodalSystem {
     {
         let nodes = case.parts.nodes.len();
         let places = places_of(alloc, case, order)?;
+        let ends = ends_of_branches(alloc, case, order)?;
         let kinds = no_kinds(alloc, nodes)?;
         let values = zeros(alloc, case.parts.sources.len())?;
         let right = wide_zeros(alloc, nodes)?;
@@ -64,6 +67,7 @@ impl NodalSystem {
         Ok(NodalSystem {
             kinds,
             places,
+            ends,
             values,
             right,
             x,
@@ -151,6 +155,7 @@ impl NodalSystem {
             &self.kinds,
             &self.places,
             &self.values,
+            &self.ends,
             &mut self.right,
         );
         match kept.solve(&mut self.right, &mut self.x) {
@@ -193,6 +198,7 @@ impl NodalSystem {
             branches,
             currents,
             &self.values,
+            &self.ends,
             &mut self.right,
         );
         if out.is_empty() {

@@ -1,6 +1,6 @@
 //! The residuals of a step.
 
-ghost use Rattle.std.specs.Prelude.{◌≡◌, ◌^◌, ◌<◌, ◌≤◌, ◌≤ℤ◌, ℕ, ℤ, List, pos, neg_ℤ, length, slice_get, unsigned_abs, IfSome};
+ghost use Rattle.std.specs.Prelude.{◌≡◌, ◌^◌, ◌<◌, ◌≤◌, ◌≤ℤ◌, ℕ, ℤ, List, pos, neg_ℤ, length, map, slice_get, unsigned_abs, IfSome};
 ghost use Rattle.emtp_elim.specs.Matrix.{item};
 ghost use Rattle.emtp_case.specs.RowOrder.{order_of};
 ghost use Rattle.emtp_case.specs.StepRecord.{BranchState, StepRecord};
@@ -11,6 +11,7 @@ ghost use Rattle.emtp_net.specs.Part.{brought_by, leaving_rows};
 ghost use Rattle.emtp_net.specs.System.{branch_sum, kinds_of};
 ghost use Rattle.emtp_net.specs.held.System.{source_values};
 ghost use Rattle.emtp_rows.specs.Nodal.{node_at};
+ghost use Rattle.emtp_rows.specs.held.Terms.{end_rows};
 
 use crate::branches::Branches;
 use crate::right::add_sources;
@@ -66,12 +67,12 @@ pub(crate) fn first_above(kinds: &[RowKind], sums: &[i128], tolerance: i64) -> O
 /// Adds what all branches bring by their currents of the last record.
 fn add_currents(
     case: &Case,
-    order: &RowOrder,
+    rows: &[(u32, u32)],
     branches: &Branches<'_>,
     currents: &[i64],
     out: &mut [i128],
 )
-    requires order { order.now ≡ order_of case.now.parts }
+    requires rows { rows.now ≡ map (end_rows case.now.parts) case.now.parts.branches }
     requires same { HasCase branches.now case.now.parts }
     requires currents { length currents.now ≡ length case.now.parts.branches }
     requires out { length out.old ≡ length case.now.parts.nodes }
@@ -80,20 +81,23 @@ fn add_currents(
     ensures bound { (j : ℕ) → j < length out.old → unsigned_abs (item out.new j) ≤ 10 ^ 23 }
 {
     for at in 0..case.parts.branches.len() {
-        add_ends(case, order, at, branches.brought(case, currents, at), out);
+        add_ends(case, rows, at, branches.brought(case, currents, at), out);
     }
 }
 
 /// What leaves the node of each row through branches in the last record, less what its current sources bring, in nA.
+/// `rows` has the rows of the two nodes of each branch.
 pub(crate) fn fill_leaving(
     case: &Case,
     order: &RowOrder,
     branches: &Branches<'_>,
     currents: &[i64],
     values: &[i64],
+    rows: &[(u32, u32)],
     out: &mut [i128],
 )
     requires order { order.now ≡ order_of case.now.parts }
+    requires rows { rows.now ≡ map (end_rows case.now.parts) case.now.parts.branches }
     requires same { HasCase branches.now case.now.parts }
     requires currents { length currents.now ≡ length case.now.parts.branches }
     requires values { length values.now ≡ length case.now.parts.sources }
@@ -102,7 +106,7 @@ pub(crate) fn fill_leaving(
     ensures small { (j : ℕ) → j < length out.old → unsigned_abs (item out.new j) ≤ 10 ^ 24 }
 {
     out.fill(0);
-    add_currents(case, order, branches, currents, out);
+    add_currents(case, rows, branches, currents, out);
     add_sources(case, order, values, out);
     turn(out);
 }

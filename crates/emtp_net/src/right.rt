@@ -13,6 +13,7 @@ ghost use Rattle.emtp_net.specs.System.{branch_sum, history_at, kinds_of, right}
 ghost use Rattle.emtp_net.specs.held.System.{source_values};
 ghost use Rattle.emtp_net.specs.held.Rights.{brought, places_of, row_value};
 ghost use Rattle.emtp_rows.specs.Nodal.{kind_at, node_at};
+ghost use Rattle.emtp_rows.specs.held.Terms.{end_rows};
 ghost use Rattle.emtp_wave.specs.Wave.{value_of};
 
 use crate::branches::Branches;
@@ -132,8 +133,8 @@ fn find_source(sources: &[Source], node: u32) -> Option<usize>
 }
 
 /// Adds the history currents of all branches.
-fn add_histories(case: &Case, order: &RowOrder, branches: &Branches<'_>, out: &mut [i128])
-    requires order { order.now ≡ order_of case.now.parts }
+fn add_histories(case: &Case, rows: &[(u32, u32)], branches: &Branches<'_>, out: &mut [i128])
+    requires rows { rows.now ≡ map (end_rows case.now.parts) case.now.parts.branches }
     requires same { HasCase branches.now case.now.parts }
     requires out { length out.old ≡ length case.now.parts.nodes }
     requires zeros { (j : ℕ) → j < length out.old → item out.old j ≡ pos 0 }
@@ -141,11 +142,11 @@ fn add_histories(case: &Case, order: &RowOrder, branches: &Branches<'_>, out: &m
     ensures bound { (j : ℕ) → j < length out.old → unsigned_abs (item out.new j) ≤ 10 ^ 34 }
 {
     for at in 0..case.parts.branches.len() {
-        add_ends(case, order, at, branches.history(case, at), out);
+        add_ends(case, rows, at, branches.history(case, at), out);
     }
 }
 
-/// The right side of the next step, by row, in nA and nV.
+/// The right side of the next step, by row, in nA and nV. `rows` has the rows of the two nodes of each branch.
 pub(crate) fn fill_right(
     case: &Case,
     order: &RowOrder,
@@ -153,9 +154,11 @@ pub(crate) fn fill_right(
     kinds: &[RowKind],
     places: &[u32],
     values: &[i64],
+    rows: &[(u32, u32)],
     out: &mut [i128],
 )
     requires order { order.now ≡ order_of case.now.parts }
+    requires rows { rows.now ≡ map (end_rows case.now.parts) case.now.parts.branches }
     requires same { HasCase branches.now case.now.parts }
     requires kinds { length kinds.now ≡ length case.now.parts.nodes }
     requires places { places.now ≡ places_of case.now.parts }
@@ -164,7 +167,7 @@ pub(crate) fn fill_right(
     ensures { (H : List StepRecord) → StandsFor branches.now H → kinds.now ≡ kinds_of case.now.parts H → values.now ≡ source_values case.now.parts H → out.new ≡ right case.now.parts H }
 {
     out.fill(0);
-    add_histories(case, order, branches, out);
+    add_histories(case, rows, branches, out);
     add_sources(case, order, values, out);
     fold(kinds, out);
     set_rows(kinds, places, values, out);

@@ -1,13 +1,14 @@
 //! Sums of currents, by row.
 
 ghost use Rattle.emtp_case.specs.declared.limit.TheConstants.{MOST_NODES};
-ghost use Rattle.std.specs.Prelude.{◌≡◌, ◌+◌, ◌*◌, ◌^◌, ◌<◌, ◌≤◌, ◌==◌, ◌+ℤ◌, if◌then◌else◌, false, ℕ, ℤ, pos, length, slice_get, slice_set, unsigned_abs};
+ghost use Rattle.std.specs.Prelude.{◌≡◌, ◌+◌, ◌*◌, ◌^◌, ◌<◌, ◌≤◌, ◌==◌, ◌+ℤ◌, if◌then◌else◌, false, ℕ, ℤ, pos, length, map, slice_get, slice_set, unsigned_abs};
 ghost use Rattle.emtp_case.specs.RowOrder.{order_of};
 ghost use Rattle.emtp_case.specs.declared.row_kind.RowKind.TheVariants.{Kcl, Sum};
 ghost use Rattle.emtp_elim.specs.Matrix.{item};
-ghost use Rattle.emtp_net.specs.held.Sums.{group_total, tied_to};
+ghost use Rattle.emtp_net.specs.held.Sums.{group_total, in_row, tied_to};
 ghost use Rattle.emtp_net.specs.System.{at_node};
 ghost use Rattle.emtp_rows.specs.Nodal.{kind_at, node_at};
+ghost use Rattle.emtp_rows.specs.held.Terms.{end_rows};
 ghost use Rattle.emtp_rows.specs.held.Touched.{is_sum, tied_row};
 
 use emtp_case::{Case, RowKind, RowOrder};
@@ -36,15 +37,36 @@ fn add_to(out: &mut [i128], at: usize, amount: i128)
     out[at] += amount;
 }
 
-/// Adds what a branch brings to its two nodes to their rows.
+/// Adds an amount to a row; ground has none, and stands behind the last one.
+fn add_in_row(row: usize, amount: i128, out: &mut [i128])
+    requires small { unsigned_abs amount ≤ 10 ^ 30 }
+    requires bound { (j : ℕ) → j < length out.old → unsigned_abs (item out.old j) ≤ 10 ^ 36 }
+    ensures { (j : ℕ) → j < length out.old → item out.new j ≡ item out.old j +ℤ in_row row amount j }
+{
+    if row < out.len() {
+        add_to(out, row, amount);
+    }
+}
+
+fn add_in_rows(rows: (u32, u32), ends: (i128, i128), out: &mut [i128])
+    requires first { unsigned_abs ends.0 ≤ 10 ^ 30 }
+    requires second { unsigned_abs ends.1 ≤ 10 ^ 30 }
+    requires bound { (j : ℕ) → j < length out.old → unsigned_abs (item out.old j) ≤ 10 ^ 35 }
+    ensures { (j : ℕ) → j < length out.old → item out.new j ≡ item out.old j +ℤ (in_row rows.0 ends.0 j +ℤ in_row rows.1 ends.1 j) }
+{
+    add_in_row(rows.0 as usize, ends.0, out);
+    add_in_row(rows.1 as usize, ends.1, out);
+}
+
+/// Adds what a branch brings to its two nodes to their rows, which `rows` has for each branch.
 pub(crate) fn add_ends(
     case: &Case,
-    order: &RowOrder,
+    rows: &[(u32, u32)],
     at: usize,
     ends: (i128, i128),
     out: &mut [i128],
 )
-    requires order { order.now ≡ order_of case.now.parts }
+    requires rows { rows.now ≡ map (end_rows case.now.parts) case.now.parts.branches }
     requires there { at < length case.now.parts.branches }
     requires out { length out.old ≡ length case.now.parts.nodes }
     requires first { unsigned_abs ends.0 ≤ 10 ^ 30 }
@@ -52,9 +74,7 @@ pub(crate) fn add_ends(
     requires bound { (j : ℕ) → j < length out.old → unsigned_abs (item out.old j) ≤ 10 ^ 35 }
     ensures { (j : ℕ) → j < length out.old → item out.new j ≡ item out.old j +ℤ at_node (node_at case.now.parts j) (slice_get case.now.parts.branches at) ends }
 {
-    let (from, to) = case.parts.branches.as_slice()[at].ends();
-    add_at(case, order, from, ends.0, out);
-    add_at(case, order, to, ends.1, out);
+    add_in_rows(rows[at], ends, out);
 }
 
 /// Adds what stands in the rows that are tied to the sum of a group to the row of that sum. The other rows stay.

@@ -23,4 +23,4 @@ mod touched;
 
 pub use net_rows::NetRows;
 pub use term::{Amount, Term};
-pub use terms::phase_node;
+pub use terms::{ends_of_branches, phase_node};

@@ -183,7 +183,7 @@ fn add_term(
 }
 
 /// The rows of the two nodes of each branch; ground has the number of rows.
-pub(crate) fn ends_of_branches(
+pub fn ends_of_branches(
     alloc: Global,
     case: &Case,
     order: &RowOrder,

@@ -1,12 +1,13 @@
 -- How the fields of a network hold together.
 use Rattle.emtp_case.specs.declared.limit.TheConstants.{MOST_NODES}
-use Rattle.std.specs.Prelude.{◌≡◌, ◌+◌, ◌*◌, ◌≤◌, ℕ, ℤ, All, Bool, false, List, [], length, slice_get, Some, unsigned_abs}
+use Rattle.std.specs.Prelude.{◌≡◌, ◌+◌, ◌*◌, ◌≤◌, ℕ, ℤ, All, Bool, false, List, [], length, map, slice_get, Some, unsigned_abs}
 use Rattle.emtp_case.specs.RowOrder.{Rows, is_pseudo, order_of}
 use Rattle.emtp_case.specs.StepRecord.{StepRecord}
 use Rattle.emtp_case.specs.declared.branch.Branch.{Branch}
 use Rattle.emtp_case.specs.declared.case.Parts.{Parts}
 use Rattle.emtp_elim.specs.Matrix.{item}
 use Rattle.emtp_fix.specs.declared.limit.TheConstants.{LARGEST_VALUE}
+use Rattle.emtp_rows.specs.held.Terms.{end_rows}
 use Rattle.emtp_rows.specs.held.Touched.{NodalRows, StandsUntouched}
 use Rattle.emtp_switch.specs.held.Switching.{Switching}
 use Rattle.emtp_tail.specs.held.Good.{Good}
@@ -16,10 +17,11 @@ use Rattle.emtp_net.specs.System.{conductance_by, couplings}
 use Rattle.emtp_net.specs.declared.branches.Branches.{Branches}
 use Rattle.emtp_net.specs.declared.nodal_system.NodalSystem.{NodalSystem}
 
--- the lists of the nodal system have their lengths
+-- the lists of the nodal system have their lengths, and those that stay are made
 pub record HasRoom (case : Parts) (system : NodalSystem) : Type 0 where
   pub kinds : length system.kinds.items ≡ length case.nodes
   pub places : system.places.items ≡ places_of case
+  pub ends : system.ends.items ≡ map (end_rows case) case.branches
   pub values : length system.values.items ≡ length case.sources
   pub right : length system.right.items ≡ length case.nodes
   pub x : length system.x.items ≡ length case.nodes

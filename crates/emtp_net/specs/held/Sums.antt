@@ -14,6 +14,10 @@ group_total kinds f j = sum_below (length kinds) (λ k. if is_member kinds j k t
 abbrev pub tied_to : List RowKind → ℕ → ℕ → Bool
 tied_to kinds j k = tied_row kinds (kind_at kinds k) == j
 
+-- what an amount in a row is to row j
+abbrev pub in_row : ℕ → ℤ → ℕ → ℤ
+in_row row amount j = if row == j then amount else pos 0
+
 -- the rows below n that are tied to a sum have been added to it, and no other row is changed
 pub record IsFolded (kinds : List RowKind) (n : ℕ) (old new : List ℤ) : Type 0 where
   pub sums : (j : ℕ) → j < length old → item new j ≡ item old j +ℤ sum_below n (λ k. if tied_to kinds j k then item old k else pos 0)

@@ -15,7 +15,7 @@ use Rattle.emtp_net.proofs.Switching.{beyond_at, both_empty, currents_next, leng
 use Rattle.emtp_net.proofs.nodal_system.NodalSystem.find_currents.Goals as goal
 
 room : (case : Parts) (s : NodalSystem) (l : List ℤ) → HasRoom case s → length l ≡ length s.right.items → (with_items s.right l).items ≡ l → HasRoom case (record s { right = with_items s.right l })
-room case s l has long is = record { kinds = has.kinds; places = has.places; values = has.values; right = ap length is ∙ long ∙ has.right; x = has.x }
+room case s l has long is = record { kinds = has.kinds; places = has.places; ends = has.ends; values = has.values; right = ap length is ∙ long ∙ has.right; x = has.x }
 
 small : (n m : ℕ) (l out : List ℤ) → ((j : ℕ) → j < m → unsigned_abs (item out j) ≤ 10 ^ 24) → m ≡ n → l ≡ out → (j : ℕ) → j < n → unsigned_abs (item l j) ≤ 10 ^ 24
 small n m l out each same is j below = subst (λ xs. unsigned_abs (item xs j) ≤ 10 ^ 24) (sym is) (each j (omega (arith, below, same)))
@@ -23,7 +23,7 @@ small n m l out each same is j below = subst (λ xs. unsigned_abs (item xs j) �
 pub currents-requires : goal.currents-requires
 currents-requires c =
     let out = c.fill_leaving.new.out in
-    let whole = c.deref-2.ensures.value ∙ with_items_is c.args.self.now.right out (c.fill_leaving.auto.out ∙ c.deref_mut.ensures.len) in
+    let whole = c.deref-3.ensures.value ∙ with_items_is c.args.self.now.right out (c.fill_leaving.auto.out ∙ c.deref_mut.ensures.len) in
     record {
       leaving = ap length whole ∙ c.fill_leaving.auto.out ∙ ap length c.deref_mut.ensures.value ∙ c.requires.room.right ∙ sym (ap (λ (p : Parts). length p.nodes) c.requires.switches.case_is);
       small = rw whole (λ k d below. rw (get_or_default out k d (pos 0) below) (c.fill_leaving.ensures.small k (omega (arith, below, c.fill_leaving.auto.out))));
@@ -31,7 +31,7 @@ currents-requires c =
     }
 
 pub switch_name-requires : goal.switch_name-requires
-switch_name-requires c = omega (arith, c.in-Err.ensures.first.within, length-currents c.args.switches.now c.deref-2.result.now, ap (λ (p : Parts). length p.switches) c.requires.switches.case_is)
+switch_name-requires c = omega (arith, c.in-Err.ensures.first.within, length-currents c.args.switches.now c.deref-3.result.now, ap (λ (p : Parts). length p.switches) c.requires.switches.case_is)
 
 none_there : (n : ℕ) → (n == 0) ≡ true → n ≡ 0
 none_there n h = grind (arith, nat_tests)
@@ -69,9 +69,9 @@ returns-in-Ok c =
       found = λ H vs voltages moved values states.
           let case = c.args.case.now.parts in
           let next = is_next case H vs in
-          let leave : c.deref-2.result.now ≡ leaving_rows case H (states_at case H vs) = c.deref-2.ensures.value ∙ with_items_is c.args.self.now.right c.fill_leaving.new.out (c.fill_leaving.auto.out ∙ c.deref_mut.ensures.len)
+          let leave : c.deref-3.result.now ≡ leaving_rows case H (states_at case H vs) = c.deref-3.ensures.value ∙ with_items_is c.args.self.now.right c.fill_leaving.new.out (c.fill_leaving.auto.out ∙ c.deref_mut.ensures.len)
           ∙ c.fill_leaving.ensures.value H vs (next_record H case vs) next moved (c.deref.ensures.value ∙ values) ∙ ap (leaving_rows case H) next.branches in
-          let are : c.currents.new.out ≡ switch_currents_at case H (states_at case H vs) = c.in-Ok.ensures.value ∙ currents_next case H c.args.switches.now (states_at case H vs) c.deref-2.result.now c.requires.switches states leave in
+          let are : c.currents.new.out ≡ switch_currents_at case H (states_at case H vs) = c.in-Ok.ensures.value ∙ currents_next case H c.args.switches.now (states_at case H vs) c.deref-3.result.now c.requires.switches states leave in
           record { are = are; within = ap first_beyond (sym are) ∙ none_beyond c.currents.new.out c.in-Ok.ensures.small };
       room = room c.args.case.now.parts c.args.self.now c.fill_leaving.new.out c.requires.room (c.fill_leaving.auto.out ∙ ap length c.deref_mut.ensures.value) (with_items_is c.args.self.now.right c.fill_leaving.new.out (c.fill_leaving.auto.out ∙ c.deref_mut.ensures.len));
       small = small _ _ _ c.fill_leaving.new.out c.fill_leaving.ensures.small (ap length c.deref_mut.ensures.value ∙ c.requires.room.right) (with_items_is c.args.self.now.right c.fill_leaving.new.out (c.fill_leaving.auto.out ∙ c.deref_mut.ensures.len));
@@ -91,9 +91,9 @@ returns-in-Err c =
       ends = λ H vs voltages moved values states.
           let case = c.args.case.now.parts in
           let next = is_next case H vs in
-          let leave : c.deref-2.result.now ≡ leaving_rows case H (states_at case H vs) = c.deref-2.ensures.value ∙ with_items_is c.args.self.now.right c.fill_leaving.new.out (c.fill_leaving.auto.out ∙ c.deref_mut.ensures.len)
+          let leave : c.deref-3.result.now ≡ leaving_rows case H (states_at case H vs) = c.deref-3.ensures.value ∙ with_items_is c.args.self.now.right c.fill_leaving.new.out (c.fill_leaving.auto.out ∙ c.deref_mut.ensures.len)
           ∙ c.fill_leaving.ensures.value H vs (next_record H case vs) next moved (c.deref.ensures.value ∙ values) ∙ ap (leaving_rows case H) next.branches in
-          let first = subst (λ l. IsFirstBeyond l c.in-Err.fault.switch) (currents_next case H c.args.switches.now (states_at case H vs) c.deref-2.result.now c.requires.switches states leave) c.in-Err.ensures.first in
+          let first = subst (λ l. IsFirstBeyond l c.in-Err.fault.switch) (currents_next case H c.args.switches.now (states_at case H vs) c.deref-3.result.now c.requires.switches states leave) c.in-Err.ensures.first in
           record { is = switch_ends case H vs c.in-Err.fault.switch c.switch_name.result voltages moved.in_range (beyond_at (switch_currents_at case H (states_at case H vs)) c.in-Err.fault.switch first) c.switch_name.ensures.value; adds = refl };
       room = room c.args.case.now.parts c.args.self.now c.fill_leaving.new.out c.requires.room (c.fill_leaving.auto.out ∙ ap length c.deref_mut.ensures.value) (with_items_is c.args.self.now.right c.fill_leaving.new.out (c.fill_leaving.auto.out ∙ c.deref_mut.ensures.len));
       small = small _ _ _ c.fill_leaving.new.out c.fill_leaving.ensures.small (ap length c.deref_mut.ensures.value ∙ c.requires.room.right) (with_items_is c.args.self.now.right c.fill_leaving.new.out (c.fill_leaving.auto.out ∙ c.deref_mut.ensures.len));
@@ -107,6 +107,7 @@ pub fill_leaving-requires : goal.fill_leaving-requires
 fill_leaving-requires c =
     record {
       order = c.requires.order;
+      rows = c.deref-2.ensures.value ∙ c.requires.room.ends;
       same = c.requires.same;
       currents = c.requires.currents;
       values = ap length c.deref.ensures.value ∙ c.requires.room.values;

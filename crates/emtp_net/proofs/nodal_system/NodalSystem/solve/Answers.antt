@@ -32,6 +32,9 @@ returns-in-Ok-clause-small c =
 pub fill_right-requires-clause-order : goal.fill_right-requires-clause-order
 fill_right-requires-clause-order c = c.requires.order
 
+pub fill_right-requires-clause-rows : goal.fill_right-requires-clause-rows
+fill_right-requires-clause-rows c = c.deref-4.ensures.value ∙ c.requires.room.ends
+
 pub fill_right-requires-clause-same : goal.fill_right-requires-clause-same
 fill_right-requires-clause-same c = c.requires.same
 
