@@ -18,7 +18,9 @@ use Rattle.emtp_switch.specs.Groups.{bridges_of, tied_of}
 use Rattle.emtp_switch.specs.Kinds as switched
 use Rattle.emtp_switch.specs.States.{next_states}
 use Rattle.emtp_switch.specs.held.Switching as switching
-use Rattle.emtp_net.specs.held.Holding.{HoldsSwitches}
+use Rattle.emtp_rows.specs.held.Touched.{NodalRows}
+use Rattle.emtp_net.specs.held.Holding.{HoldsSwitches, KeepsKinds}
+use Rattle.emtp_net.specs.declared.nodal_system.NodalSystem.{NodalSystem}
 use Rattle.emtp_net.specs.Part.{leaving_rows, switch_currents_at}
 use Rattle.emtp_net.specs.Step.{first_beyond}
 use Rattle.emtp_net.specs.System.{kinds_of}
@@ -38,6 +40,24 @@ kinds_next case H s kinds holds states is =
 pub tied_next : (case : Parts) (H : List StepRecord) (s : switching.Switching) (o : Option ℕ) → HoldsSwitches case s → s.states ≡ next_states case H → tied_of s.case.switches s.rows s.states ≡ o → tied_of case.switches (order_of case) (next_states case H) ≡ o
 tied_next case H s o holds states is =
     sym (ap (λ (p : Parts). tied_of p.switches s.rows s.states) holds.case_is ∙ ap (λ (r : Rows). tied_of case.switches r s.states) holds.rows_are ∙ ap (λ (l : List SwitchState). tied_of case.switches (order_of case) l) states) ∙ is
+
+-- the same of the states that the switches have
+pub kinds_held : (case : Parts) (s : switching.Switching) (kinds : List RowKind) → HoldsSwitches case s → kinds ≡ switched.kinds_of s.case s.rows s.states → kinds ≡ switched.kinds_of case (order_of case) s.states
+kinds_held case s kinds holds is = is ∙ ap (λ (p : Parts). switched.kinds_of p s.rows s.states) holds.case_is ∙ ap (λ (r : Rows). switched.kinds_of case r s.states) holds.rows_are
+
+pub tied_held : (case : Parts) (s : switching.Switching) (o : Option ℕ) → HoldsSwitches case s → tied_of s.case.switches s.rows s.states ≡ o → tied_of case.switches (order_of case) s.states ≡ o
+tied_held case s o holds is = sym (ap (λ (p : Parts). tied_of p.switches s.rows s.states) holds.case_is ∙ ap (λ (r : Rows). tied_of case.switches r s.states) holds.rows_are) ∙ is
+
+-- and they are kept where neither the kinds nor the states change
+pub keeps_on : (case : Parts) (old new : NodalSystem) (rows rows' : NodalRows) (s s' : switching.Switching) → KeepsKinds case old rows s → new.decided ≡ old.decided → new.kinds ≡ old.kinds → rows'.nodal.kinds ≡ rows.nodal.kinds → s' ≡ s → KeepsKinds case new rows' s'
+keeps_on case old new rows rows' s s' keeps decided here there same = λ is.
+    let has = keeps (sym decided ∙ is) in
+    let kinds = ap (λ (w : switching.Switching). switched.kinds_of case (order_of case) w.states) (sym same) in
+    record {
+      untied = ap (λ (w : switching.Switching). tied_of case.switches (order_of case) w.states) same ∙ has.untied;
+      here_are = ap (λ v. v.items) here ∙ has.here_are ∙ kinds;
+      there_are = there ∙ has.there_are ∙ kinds;
+    }
 
 -- the kinds fit the rows of the case
 pub are_kinds : (case held : Parts) (s : switching.Switching) (kinds : List RowKind) → HoldsSwitches case s → held ≡ case → (s.rows.fixed ≤ length s.case.nodes → AreKinds (length s.case.nodes) s.rows.fixed kinds) → AreKinds (length held.nodes) (order_of held).fixed kinds

@@ -160,6 +160,7 @@ pub(crate) fn factor<L: Ledger>(
     requires rows { HoldsRows case.now.parts rows.old kept.old }
     requires few { redone.old ≤ 10 ^ 12 }
     ensures rows { HoldsRows case.now.parts rows.new kept.new }
+    ensures kinds { rows.new.nodal.kinds ≡ rows.old.nodal.kinds }
     ensures all { OnOk result (length kept.new.rows ≡ length case.now.parts.nodes) }
     ensures made { (H : List StepRecord) → IsReady case.now.parts H branches.now rows.old kept.old made → OnOk result (kept.new.rows ≡ matrix case.now.parts H) }
     ensures ends { (H : List StepRecord) → IsReady case.now.parts H branches.now rows.old kept.old made → IfErr result (Ends case.now.parts H (step_redone case.now.parts H)) }

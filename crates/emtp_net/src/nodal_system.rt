@@ -1,13 +1,13 @@
 //! The nodal system of a step, and what is made of its solution.
 
-ghost use Rattle.std.specs.Prelude.{◌≡◌, ◌+◌, ◌^◌, ◌<◌, ◌≤◌, ◌∷◌, ℕ, ℤ, pos, All, List, length, replicate, unsigned_abs, IfErr, IfOk, OnOk};
+ghost use Rattle.std.specs.Prelude.{◌≡◌, ◌+◌, ◌^◌, ◌<◌, ◌≤◌, ◌∷◌, ℕ, ℤ, pos, true, false, All, List, length, replicate, unsigned_abs, IfErr, IfOk, OnOk};
 ghost use Rattle.emtp_case.specs.RowOrder.{order_of};
 ghost use Rattle.emtp_case.specs.StepRecord.{StepRecord, latest};
 ghost use Rattle.emtp_elim.specs.Matrix.{item};
 ghost use Rattle.emtp_fix.specs.declared.limit.TheConstants.{LARGEST_VALUE};
 ghost use Rattle.emtp_net.specs.held.Branches.{HasCase};
 ghost use Rattle.emtp_net.specs.held.Fault.{NamesNode};
-ghost use Rattle.emtp_net.specs.held.Holding.{HasRoom, HoldsSwitches};
+ghost use Rattle.emtp_net.specs.held.Holding.{HasRoom, HoldsSwitches, KeepsKinds};
 ghost use Rattle.emtp_net.specs.held.Moving.{HaveMoved};
 ghost use Rattle.emtp_net.specs.Part.{leaving_rows, states_at};
 ghost use Rattle.emtp_net.specs.Redone.{step_redone};
@@ -30,11 +30,14 @@ use emtp_tail::Kept;
 use emtp_wave::CosTable;
 use std::alloc::{AllocError, Global};
 
-/// The nodal system of a step. All of it is room that is filled anew in each step but for `places` and `ends`.
+/// The nodal system of a step. All of it is room that is filled anew in each step but for `places` and `ends`, and for
+/// `kinds` where no switch changed.
 #[derive(Drop)]
 pub(crate) struct NodalSystem {
     /// The kinds of the rows.
     pub(crate) kinds: Vec<RowKind>,
+    /// Whether the kinds, here and of the matrix, are those of the states that the switches have.
+    pub(crate) decided: bool,
     /// For each row the place of its node's voltage source among the sources, or their number.
     pub(crate) places: Vec<u32>,
     /// The rows of the two nodes of each branch; ground has the number of rows.
@@ -55,7 +58,8 @@ impl NodalSystem {
         order: &RowOrder,
     ) -> Result<NodalSystem, AllocError>
         requires { order.now ≡ order_of case.now.parts }
-        ensures { IfOk result (HasRoom case.now.parts) }
+        ensures room { IfOk result (HasRoom case.now.parts) }
+        ensures undecided { IfOk result (λ system. system.decided ≡ false) }
     {
         let nodes = case.parts.nodes.len();
         let places = places_of(alloc, case, order)?;
@@ -66,6 +70,7 @@ impl NodalSystem {
         let x = zeros(alloc, nodes)?;
         Ok(NodalSystem {
             kinds,
+            decided: false,
             places,
             ends,
             values,
@@ -74,7 +79,15 @@ impl NodalSystem {
         })
     }
 
-    /// Moves the switches to their states of the next step, and gives the rows the kinds that follow.
+    /// Whether the switches have the states that the kinds are of, now that they were moved.
+    fn has_kinds(&self, switches: &Switches<'_>) -> bool
+        ensures { result ≡ true → (self.now.decided ≡ true) × (switches.now.changed ≡ false) }
+    {
+        self.decided && !switches.changed()
+    }
+
+    /// Moves the switches to their states of the next step, and gives the rows the kinds that follow. Where no switch
+    /// changed, kinds are neither copied nor compared.
     pub(crate) fn decide(
         &mut self,
         case: &Case,
@@ -88,6 +101,7 @@ impl NodalSystem {
         requires room { HasRoom case.now.parts self.old }
         requires switches { HoldsSwitches case.now.parts switches.old }
         requires rows { rows.old.nodal.case ≡ case.now.parts }
+        requires keeps { KeepsKinds case.now.parts self.old rows.old switches.old }
         requires step { step ≤ case.now.parts.run.steps }
         requires voltages { length voltages.now ≡ length case.now.parts.nodes + 1 }
         requires small { All (λ v. unsigned_abs v ≤ LARGEST_VALUE) voltages.now }
@@ -97,15 +111,21 @@ impl NodalSystem {
         ensures switches { HoldsSwitches case.now.parts switches.new }
         ensures touched { Touches rows.old rows.new }
         ensures rest { rows.new.nodal ≡ record rows.old.nodal { kinds = rows.new.nodal.kinds } }
+        ensures keeps { KeepsKinds case.now.parts self.new rows.new switches.new }
         ensures stands { (H : List StepRecord) (r : StepRecord) → SwitchesStandFor switches.old H → AreLatest step voltages.now currents.now tacs.now H → r.switch_states ≡ next_states case.now.parts H → SwitchesStandFor switches.new (r ∷ H) }
         ensures decided { (H : List StepRecord) → SwitchesStandFor switches.old H → AreLatest step voltages.now currents.now tacs.now H → OnOk result (IsDecided case.now.parts H self.new.kinds.items rows.new switches.new) }
         ensures ends { (H : List StepRecord) → SwitchesStandFor switches.old H → AreLatest step voltages.now currents.now tacs.now H → IfErr result (Ends case.now.parts H 0) }
         ensures node { IfErr result (NamesNode case.now.parts) }
     {
         switches.decide(step, voltages, currents, tacs);
+        if self.has_kinds(switches) {
+            return Ok(());
+        }
+        self.decided = false;
         match switches.kinds(&mut self.kinds) {
             Ok(()) => {
                 rows.set_kinds(&self.kinds);
+                self.decided = true;
                 Ok(())
             }
             Err(tied) => Err(NetFault::Tied(switch_name(case, tied.switch))),
@@ -119,6 +139,7 @@ impl NodalSystem {
         requires tacs { length tacs.now ≡ length case.now.parts.vars }
         ensures room { HasRoom case.now.parts self.new }
         ensures kinds { self.new.kinds ≡ self.old.kinds }
+        ensures decided { self.new.decided ≡ self.old.decided }
         ensures values { (H : List StepRecord) → step ≡ length H → tacs.now ≡ (latest H).values → self.new.values.items ≡ source_values case.now.parts H }
     {
         fill_values(table, case, step, tacs, &mut self.values);
@@ -142,6 +163,7 @@ impl NodalSystem {
         requires small { All (λ v. unsigned_abs v ≤ LARGEST_VALUE) voltages.old }
         ensures room { HasRoom case.now.parts self.new }
         ensures kinds { self.new.kinds ≡ self.old.kinds }
+        ensures decided { self.new.decided ≡ self.old.decided }
         ensures values { self.new.values ≡ self.old.values }
         ensures small { All (λ v. unsigned_abs v ≤ LARGEST_VALUE) voltages.new }
         ensures solved { (H : List StepRecord) → IsPosed case.now.parts H branches.now self.old kept.now → OnOk result (AreVoltages case.now.parts H voltages.new) }
@@ -185,6 +207,7 @@ impl NodalSystem {
         requires out { length out.old ≡ length case.now.parts.switches }
         ensures room { HasRoom case.now.parts self.new }
         ensures kinds { self.new.kinds ≡ self.old.kinds }
+        ensures decided { self.new.decided ≡ self.old.decided }
         ensures same { switches.new ≡ switches.old }
         ensures leaving { (H : List StepRecord) (vs : List ℤ) → HaveMoved branches.now currents.now case.now.parts H vs → self.old.values.items ≡ source_values case.now.parts H → self.new.right.items ≡ leaving_rows case.now.parts H (states_at case.now.parts H vs) }
         ensures small { (j : ℕ) → j < length case.now.parts.nodes → unsigned_abs (item self.new.right.items j) ≤ 10 ^ 24 }
@@ -216,6 +239,8 @@ impl NodalSystem {
         requires order { order.now ≡ order_of case.now.parts }
         requires small { (j : ℕ) → j < length case.now.parts.nodes → unsigned_abs (item self.old.right.items j) ≤ 10 ^ 24 }
         ensures room { HasRoom case.now.parts self.new }
+        ensures kinds { self.new.kinds ≡ self.old.kinds }
+        ensures decided { self.new.decided ≡ self.old.decided }
         ensures judged { (H : List StepRecord) (vs currents : List ℤ) → AreVoltages case.now.parts H vs → AllInRange case.now.parts H vs → HasCurrents case.now.parts H vs currents → self.old.kinds.items ≡ kinds_of case.now.parts H → self.old.right.items ≡ leaving_rows case.now.parts H (states_at case.now.parts H vs) → OnOk result (IsBalanced case.now.parts H vs) }
         ensures ends { (H : List StepRecord) (vs currents : List ℤ) → AreVoltages case.now.parts H vs → AllInRange case.now.parts H vs → HasCurrents case.now.parts H vs currents → self.old.kinds.items ≡ kinds_of case.now.parts H → self.old.right.items ≡ leaving_rows case.now.parts H (states_at case.now.parts H vs) → IfErr result (Ends case.now.parts H (step_redone case.now.parts H)) }
         ensures node { IfErr result (NamesNode case.now.parts) }

@@ -1,14 +1,18 @@
 -- How the fields of a network hold together.
 use Rattle.emtp_case.specs.declared.limit.TheConstants.{MOST_NODES}
-use Rattle.std.specs.Prelude.{◌≡◌, ◌+◌, ◌*◌, ◌≤◌, ℕ, ℤ, All, Bool, false, List, [], length, map, slice_get, Some, unsigned_abs}
+use Rattle.std.specs.Prelude.{◌≡◌, ◌+◌, ◌*◌, ◌≤◌, ℕ, ℤ, All, Bool, true, false, List, [], length, map, slice_get, Some, None, unsigned_abs}
 use Rattle.emtp_case.specs.RowOrder.{Rows, is_pseudo, order_of}
 use Rattle.emtp_case.specs.StepRecord.{StepRecord}
 use Rattle.emtp_case.specs.declared.branch.Branch.{Branch}
 use Rattle.emtp_case.specs.declared.case.Parts.{Parts}
+use Rattle.emtp_case.specs.declared.row_kind.RowKind.{RowKind}
+use Rattle.emtp_case.specs.declared.switch.SwitchState.{SwitchState}
 use Rattle.emtp_elim.specs.Matrix.{item}
 use Rattle.emtp_fix.specs.declared.limit.TheConstants.{LARGEST_VALUE}
 use Rattle.emtp_rows.specs.held.Terms.{end_rows}
 use Rattle.emtp_rows.specs.held.Touched.{NodalRows, StandsUntouched}
+use Rattle.emtp_switch.specs.Groups.{tied_of}
+use Rattle.emtp_switch.specs.Kinds as switched
 use Rattle.emtp_switch.specs.held.Switching.{Switching}
 use Rattle.emtp_tail.specs.held.Good.{Good}
 use Rattle.emtp_net.specs.held.Branches.{HasCase, StandsFor}
@@ -30,6 +34,16 @@ pub record HasRoom (case : Parts) (system : NodalSystem) : Type 0 where
 pub record HoldsSwitches (case : Parts) (switches : Switching) : Type 0 where
   pub case_is : switches.case ≡ case
   pub rows_are : switches.rows ≡ order_of case
+
+-- the kinds of the rows, here and of the matrix, are those that follow from these states of the switches, which tie no two
+-- known voltages
+pub record HasKinds (case : Parts) (here there : List RowKind) (states : List SwitchState) : Type 0 where
+  pub untied : tied_of case.switches (order_of case) states ≡ None
+  pub here_are : here ≡ switched.kinds_of case (order_of case) states
+  pub there_are : there ≡ switched.kinds_of case (order_of case) states
+
+abbrev pub KeepsKinds : Parts → NodalSystem → NodalRows → Switching → Type 0
+KeepsKinds case system rows switches = system.decided ≡ true → HasKinds case system.kinds.items rows.nodal.kinds switches.states
 
 -- a branch has its conductance of the next step, for every list of records that the branches stand for
 abbrev pub HasConductance : Branches → Parts → List ℤ → ℕ → Type 0
@@ -67,5 +81,6 @@ pub record HoldsTogether (case : Parts) (order : Rows) (branches : Branches) (sw
   pub switches_hold : HoldsSwitches case switches
   pub room : HasRoom case system
   pub rows_hold : HoldsRows case rows kept
+  pub decided : KeepsKinds case system rows switches
   pub shown : HasShown case voltages currents switch_currents closed
   pub few : AreFew case made redone

@@ -24,6 +24,12 @@ returns-in-Err-clause-rows g c =
     let done = c.follow.ensures in
     holds_next c.args.case.now.parts c.args.rows.now c.set_conductances.new.rows c.follow.new.rows c.args.kept.now c.follow.new.kept c.requires.rows set.rest set.room set.fixed done.nodal done.size done.stands
 
+pub returns-in-Ok-clause-kinds : goal.returns-in-Ok-clause-kinds
+returns-in-Ok-clause-kinds g c = ap (λ (n : Nodal). n.kinds) (c.follow.ensures.nodal ∙ c.set_conductances.ensures.rest)
+
+pub returns-in-Err-clause-kinds : goal.returns-in-Err-clause-kinds
+returns-in-Err-clause-kinds g c = ap (λ (n : Nodal). n.kinds) (c.follow.ensures.nodal ∙ c.set_conductances.ensures.rest)
+
 pub follow-requires-clause-stands : goal.follow-requires-clause-stands
 follow-requires-clause-stands g c =
     stands_touched c.args.rows.now c.set_conductances.new.rows c.args.kept.now.rows c.set_conductances.ensures.touched c.requires.rows.kept_stands

@@ -17,6 +17,7 @@ use Rattle.emtp_net.proofs.Holding.{few_next}
 use Rattle.emtp_net.specs.Step.{network_part}
 use Rattle.emtp_net.specs.declared.fault.NetFault.TheVariants.{Tied}
 use Rattle.emtp_net.proofs.Tying.{free_isnt_tied}
+use Rattle.emtp_net.proofs.Switching.{keeps_on}
 use Rattle.emtp_net.proofs.Stepping.{HasStepped, decided_here, err_steps, err_claims, err_names, judge_steps, latest_is, ok_claims, posed_is, ready_here, ready_is}
 use Rattle.emtp_net.proofs.network.Network.step.Goals as goal
 
@@ -28,6 +29,7 @@ invariant_of-self g c =
       switches_hold = c.decide.ensures.switches;
       room = c.decide.ensures.room;
       rows_hold = holds_kinds c.self.inside.case.now.parts c.self.inside.rows c.decide.new.rows c.self.inside.kept c.self.invariant.rows_hold c.decide.ensures.rest c.decide.ensures.touched;
+      decided = c.decide.ensures.keeps;
       shown = c.self.invariant.shown;
       few = few_next c.self.inside.case.now.parts c.self.inside.made c.self.inside.redone c.self.inside.redone c.self.invariant.few (subst (λ (s : Net). s.made < s.case.run.steps) (sym c.self.view_is) c.requires.made) (omega arith);
     }
@@ -40,6 +42,7 @@ invariant_of-self-in_err-factor g c =
       switches_hold = c.decide.ensures.switches;
       room = c.decide.ensures.room;
       rows_hold = c.factor.ensures.rows;
+      decided = keeps_on c.self.inside.case.now.parts c.decide.new.self c.decide.new.self c.decide.new.rows c.factor.new.rows c.decide.new.switches c.decide.new.switches c.decide.ensures.keeps refl refl c.factor.ensures.kinds refl;
       shown = c.self.invariant.shown;
       few = few_next c.self.inside.case.now.parts c.self.inside.made c.self.inside.redone c.factor.new.redone c.self.invariant.few (subst (λ (s : Net). s.made < s.case.run.steps) (sym c.self.view_is) c.requires.made) c.factor.ensures.few;
     }
@@ -64,6 +67,7 @@ invariant_of-self-in_err-solve g c =
       switches_hold = c.decide.ensures.switches;
       room = c.solve.ensures.room;
       rows_hold = c.factor.ensures.rows;
+      decided = keeps_on c.self.inside.case.now.parts c.decide.new.self c.solve.new.self c.decide.new.rows c.factor.new.rows c.decide.new.switches c.decide.new.switches c.decide.ensures.keeps (c.solve.ensures.decided ∙ c.set_sources.ensures.decided) (c.solve.ensures.kinds ∙ c.set_sources.ensures.kinds) c.factor.ensures.kinds refl;
       shown = record {
         voltages_count = ap length whole ∙ c.solve.auto.voltages ∙ ap length c.deref_mut.ensures.value ∙ kept_shown.voltages_count;
         voltages_small = subst (All (λ v. unsigned_abs v ≤ LARGEST_VALUE)) (sym whole) c.solve.ensures.small;
@@ -85,6 +89,7 @@ invariant_of-self-in_err-accept g c =
       switches_hold = c.decide.ensures.switches;
       room = c.solve.ensures.room;
       rows_hold = c.factor.ensures.rows;
+      decided = keeps_on c.self.inside.case.now.parts c.decide.new.self c.solve.new.self c.decide.new.rows c.factor.new.rows c.decide.new.switches c.decide.new.switches c.decide.ensures.keeps (c.solve.ensures.decided ∙ c.set_sources.ensures.decided) (c.solve.ensures.kinds ∙ c.set_sources.ensures.kinds) c.factor.ensures.kinds refl;
       shown = record {
         voltages_count = ap length whole ∙ c.solve.auto.voltages ∙ ap length c.deref_mut.ensures.value ∙ kept_shown.voltages_count;
         voltages_small = subst (All (λ v. unsigned_abs v ≤ LARGEST_VALUE)) (sym whole) c.solve.ensures.small;
@@ -107,6 +112,7 @@ invariant_of-self-in_err-find_currents g c =
       switches_hold = subst (HoldsSwitches c.self.inside.case.now.parts) (sym c.find_currents.ensures.same) c.decide.ensures.switches;
       room = c.find_currents.ensures.room;
       rows_hold = c.factor.ensures.rows;
+      decided = keeps_on c.self.inside.case.now.parts c.decide.new.self c.find_currents.new.self c.decide.new.rows c.factor.new.rows c.decide.new.switches c.find_currents.new.switches c.decide.ensures.keeps (c.find_currents.ensures.decided ∙ c.solve.ensures.decided ∙ c.set_sources.ensures.decided) (c.find_currents.ensures.kinds ∙ c.solve.ensures.kinds ∙ c.set_sources.ensures.kinds) c.factor.ensures.kinds c.find_currents.ensures.same;
       shown = record {
         voltages_count = ap length whole ∙ c.solve.auto.voltages ∙ ap length c.deref_mut.ensures.value ∙ kept_shown.voltages_count;
         voltages_small = subst (All (λ v. unsigned_abs v ≤ LARGEST_VALUE)) (sym whole) c.solve.ensures.small;
@@ -130,6 +136,7 @@ invariant_of-self-2 g c =
       switches_hold = subst (HoldsSwitches c.self.inside.case.now.parts) (sym c.find_currents.ensures.same) c.decide.ensures.switches;
       room = c.judge.ensures.room;
       rows_hold = c.factor.ensures.rows;
+      decided = keeps_on c.self.inside.case.now.parts c.decide.new.self c.judge.new.self c.decide.new.rows c.factor.new.rows c.decide.new.switches c.find_currents.new.switches c.decide.ensures.keeps (c.judge.ensures.decided ∙ c.find_currents.ensures.decided ∙ c.solve.ensures.decided ∙ c.set_sources.ensures.decided) (c.judge.ensures.kinds ∙ c.find_currents.ensures.kinds ∙ c.solve.ensures.kinds ∙ c.set_sources.ensures.kinds) c.factor.ensures.kinds c.find_currents.ensures.same;
       shown = record {
         voltages_count = ap length whole ∙ c.solve.auto.voltages ∙ ap length c.deref_mut.ensures.value ∙ kept_shown.voltages_count;
         voltages_small = subst (All (λ v. unsigned_abs v ≤ LARGEST_VALUE)) (sym whole) c.solve.ensures.small;
@@ -360,6 +367,7 @@ decide-requires g c =
       room = c.self.invariant.room;
       switches = c.self.invariant.switches_hold;
       rows = c.self.invariant.rows_hold.case_is;
+      keeps = c.self.invariant.decided;
       step = subst (λ (s : Net). s.made + 1 ≤ s.case.run.steps) (sym c.self.view_is) (omega (arith, c.requires.made));
       voltages = ap length c.deref.ensures.value ∙ c.self.invariant.shown.voltages_count;
       small = subst (All (λ v. unsigned_abs v ≤ LARGEST_VALUE)) (sym c.deref.ensures.value) c.self.invariant.shown.voltages_small;

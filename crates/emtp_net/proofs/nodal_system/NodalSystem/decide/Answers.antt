@@ -1,11 +1,14 @@
-use Rattle.std.proofs.Common.{◌≡◌, ◌∙◌, sym, ap, refl, rules}
+use Rattle.std.proofs.Common.{◌≡◌, ◌∙◌, sym, ap, subst, refl, true, false, rules, arith}
 use Rattle.std.proofs.lemmas.List.{with_items_is}
 use Rattle.emtp_case.specs.declared.case.Parts.{Parts}
 use Rattle.emtp_rows.specs.Nodal.{Nodal}
+use Rattle.emtp_switch.specs.Groups.{tied_of}
+use Rattle.emtp_switch.specs.Kinds as switched
 use Rattle.emtp_switch.specs.States.{next_states}
-use Rattle.emtp_net.specs.held.Holding.{HoldsSwitches}
+use Rattle.emtp_case.specs.RowOrder.{order_of}
+use Rattle.emtp_net.specs.held.Holding.{HasKinds, HoldsSwitches}
 use Rattle.emtp_net.proofs.Ending.{tied_ends}
-use Rattle.emtp_net.proofs.Switching.{are_kinds, kinds_next, states_next, tied_next}
+use Rattle.emtp_net.proofs.Switching.{are_kinds, kinds_held, kinds_next, states_next, tied_held, tied_next}
 use Rattle.emtp_net.proofs.nodal_system.NodalSystem.decide.Goals as goal
 
 pub set_kinds-requires : goal.set_kinds-requires
@@ -13,6 +16,47 @@ set_kinds-requires c =
     let holds : HoldsSwitches c.args.case.now.parts c.decide.new.self = record { case_is = c.decide.ensures.case ∙ c.requires.switches.case_is; rows_are = c.decide.ensures.rows ∙ c.requires.switches.rows_are } in
     let read : c.deref.result.now ≡ c.kinds.new.out = c.deref.ensures.value ∙ with_items_is c.args.self.now.kinds c.kinds.new.out (c.kinds.auto.out ∙ c.deref_mut.ensures.len) in
     rw read (are_kinds c.args.case.now.parts c.args.rows.now.nodal.case c.decide.new.self c.kinds.new.out holds c.requires.rows c.in-Ok.ensures.are)
+
+pub returns-then-has_kinds : goal.returns-then-has_kinds
+returns-then-has_kinds c =
+    let case = c.args.case.now.parts in
+    let both = c.has_kinds.ensures c.if-has_kinds.true in
+    let stay : c.decide.new.self.states ≡ c.args.switches.now.states = c.decide.ensures.same both.1 in
+    let has = c.requires.keeps both.0 in
+    record {
+      room = c.requires.room;
+      switches = record { case_is = c.decide.ensures.case ∙ c.requires.switches.case_is; rows_are = c.decide.ensures.rows ∙ c.requires.switches.rows_are };
+      touched = record { earlier = omega arith; before = refl };
+      rest = refl;
+      keeps = λ _. subst (HasKinds case c.args.self.now.kinds.items c.args.rows.now.nodal.kinds) (sym stay) has;
+      stands = λ H r stands latest is. c.decide.ensures.stands H r stands latest (is ∙ ap (λ (p : Parts). next_states p H) (sym c.requires.switches.case_is));
+      decided = λ H stands latest.
+          let states = states_next case H c.decide.new.self (λ r is. c.decide.ensures.stands H r stands latest (is ∙ ap (λ (p : Parts). next_states p H) (sym c.requires.switches.case_is))) in
+          let kinds = ap (switched.kinds_of case (order_of case)) (sym stay ∙ states) in
+          record {
+            free = ap (tied_of case.switches (order_of case)) (sym states ∙ stay) ∙ has.untied;
+            states_are = states;
+            kinds_are = has.here_are ∙ kinds;
+            rows_are = has.there_are ∙ kinds;
+          };
+      ends = λ H stands latest. tt;
+      node = tt;
+    }
+
+pub returns-in-Ok-clause-keeps : goal.returns-in-Ok-clause-keeps
+returns-in-Ok-clause-keeps c = λ _.
+    let case = c.args.case.now.parts in
+    let holds : HoldsSwitches case c.decide.new.self = record { case_is = c.decide.ensures.case ∙ c.requires.switches.case_is; rows_are = c.decide.ensures.rows ∙ c.requires.switches.rows_are } in
+    let whole = with_items_is c.args.self.now.kinds c.kinds.new.out (c.kinds.auto.out ∙ c.deref_mut.ensures.len) in
+    let kinds = kinds_held case c.decide.new.self c.kinds.new.out holds c.in-Ok.ensures.kinds in
+    record {
+      untied = tied_held case c.decide.new.self _ holds c.in-Ok.ensures.untied;
+      here_are = whole ∙ kinds;
+      there_are = ap (λ (n : Nodal). n.kinds) c.set_kinds.ensures.nodal ∙ c.deref.ensures.value ∙ whole ∙ kinds;
+    }
+
+pub returns-in-Err-clause-keeps : goal.returns-in-Err-clause-keeps
+returns-in-Err-clause-keeps c = λ is. absurd (cc)
 
 pub returns-in-Ok-clause-touched : goal.returns-in-Ok-clause-touched
 returns-in-Ok-clause-touched c = search rules

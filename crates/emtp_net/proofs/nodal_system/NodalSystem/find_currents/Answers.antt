@@ -55,6 +55,7 @@ returns-then-is_empty c =
       small = small _ _ _ c.fill_leaving.new.out c.fill_leaving.ensures.small (ap length c.deref_mut.ensures.value ∙ c.requires.room.right) (with_items_is c.args.self.now.right c.fill_leaving.new.out (c.fill_leaving.auto.out ∙ c.deref_mut.ensures.len));
       ends = λ H vs voltages moved values states. tt;
       kinds = refl;
+      decided = refl;
       same = refl;
       node = tt;
     }
@@ -77,6 +78,7 @@ returns-in-Ok c =
       small = small _ _ _ c.fill_leaving.new.out c.fill_leaving.ensures.small (ap length c.deref_mut.ensures.value ∙ c.requires.room.right) (with_items_is c.args.self.now.right c.fill_leaving.new.out (c.fill_leaving.auto.out ∙ c.deref_mut.ensures.len));
       ends = λ H vs voltages moved values states. tt;
       kinds = refl;
+      decided = refl;
       same = c.currents.ensures.same;
       node = tt;
     }
@@ -100,6 +102,7 @@ returns-in-Err c =
       node = c.switch_name.ensures.node;
       found = λ H vs voltages moved values states. tt;
       kinds = refl;
+      decided = refl;
       same = c.currents.ensures.same;
     }
 
