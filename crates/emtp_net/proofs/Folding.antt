@@ -5,7 +5,7 @@ use Rattle.std.proofs.lemmas.Int.{ints}
 use Rattle.emtp_case.specs.declared.row_kind.RowKind.{RowKind}
 use Rattle.emtp_case.specs.declared.row_kind.RowKind.TheVariants.{Kcl, Sum, Tie, Ground, Source}
 use Rattle.emtp_elim.specs.Matrix.{item}
-use Rattle.emtp_net.specs.held.Sums.{IsFolded, group_total, tied_to}
+use Rattle.emtp_net.specs.held.Sums.{AreUntied, IsFolded, group_total, tied_to}
 use Rattle.emtp_case.proofs.RowsOfNodes.{is_number, isnt_number}
 use Rattle.emtp_case.proofs.Sums.{sum_below-more, sum_below_same, sum_below_small}
 use Rattle.emtp_rows.specs.Nodal.{is_tie_to, kind_at}
@@ -106,6 +106,19 @@ group_is kinds f j below sum =
       | inl same ↦ rw (is_number k j same, same) own
       | inr ne ↦ rw (isnt_number k j ne) refl
     ]
+
+-- and where no row is tied, that of its row alone
+pub untied_total : (kinds : List RowKind) (f : ℕ → ℤ) (j : ℕ) → AreUntied kinds → j < length kinds → kind_at kinds j ≡ Sum → group_total kinds f j ≡ f j
+untied_total kinds f j untied below sum =
+    let F : ℕ → ℤ = λ k. if tied_to kinds j k then f k else pos 0 in
+    let none : sum_below (length kinds) F ≡ pos 0 = sum_none (length kinds) F off in
+    let whole = group_is kinds f j below sum in
+    omega (arith, ints, whole, none)
+  where
+    off : (k : ℕ) → k < length kinds → (if tied_to kinds j k then f k else pos 0) ≡ pos 0
+    off k inside =
+        let apart : tied_to kinds j k ≡ false = isnt_number (tied_row kinds (kind_at kinds k)) j (λ e. omega (arith, e, below, untied k inside)) in
+        rw apart refl
 
 -- ---- one row after the other
 

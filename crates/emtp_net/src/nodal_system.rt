@@ -22,6 +22,7 @@ use crate::branches::Branches;
 use crate::fault::NetFault;
 use crate::residual::{fill_leaving, judge};
 use crate::right::{fill_right, fill_values, places_of};
+use crate::sums::has_ties;
 use crate::voltages::fill_voltages;
 use emtp_case::{Case, RowKind, RowOrder, switch_name};
 use emtp_rows::{NetRows, ends_of_branches};
@@ -38,6 +39,8 @@ pub(crate) struct NodalSystem {
     pub(crate) kinds: Vec<RowKind>,
     /// Whether the kinds, here and of the matrix, are those of the states that the switches have.
     pub(crate) decided: bool,
+    /// Whether a row is tied to the sum of a group, for all that is known of `kinds`.
+    pub(crate) ties: bool,
     /// For each row the place of its node's voltage source among the sources, or their number.
     pub(crate) places: Vec<u32>,
     /// The rows of the two nodes of each branch; ground has the number of rows.
@@ -71,6 +74,7 @@ impl NodalSystem {
         Ok(NodalSystem {
             kinds,
             decided: false,
+            ties: true,
             places,
             ends,
             values,
@@ -122,9 +126,11 @@ impl NodalSystem {
             return Ok(());
         }
         self.decided = false;
+        self.ties = true;
         match switches.kinds(&mut self.kinds) {
             Ok(()) => {
                 rows.set_kinds(&self.kinds);
+                self.ties = has_ties(&self.kinds);
                 self.decided = true;
                 Ok(())
             }
@@ -174,6 +180,7 @@ impl NodalSystem {
             case,
             order,
             branches,
+            self.ties,
             &self.kinds,
             &self.places,
             &self.values,
@@ -245,7 +252,7 @@ impl NodalSystem {
         ensures ends { (H : List StepRecord) (vs currents : List ℤ) → AreVoltages case.now.parts H vs → AllInRange case.now.parts H vs → HasCurrents case.now.parts H vs currents → self.old.kinds.items ≡ kinds_of case.now.parts H → self.old.right.items ≡ leaving_rows case.now.parts H (states_at case.now.parts H vs) → IfErr result (Ends case.now.parts H (step_redone case.now.parts H)) }
         ensures node { IfErr result (NamesNode case.now.parts) }
     {
-        match judge(case, &self.kinds, &mut self.right) {
+        match judge(case, self.ties, &self.kinds, &mut self.right) {
             None => Ok(()),
             Some((row, residual)) => Err(NetFault::Residual(order.node_at(row), residual)),
         }

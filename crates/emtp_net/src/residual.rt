@@ -1,12 +1,13 @@
 //! The residuals of a step.
 
-ghost use Rattle.std.specs.Prelude.{◌≡◌, ◌^◌, ◌<◌, ◌≤◌, ◌≤ℤ◌, ℕ, ℤ, List, pos, neg_ℤ, length, map, slice_get, unsigned_abs, IfSome};
+ghost use Rattle.std.specs.Prelude.{◌≡◌, ◌^◌, ◌<◌, ◌≤◌, ◌≤ℤ◌, false, ℕ, ℤ, List, pos, neg_ℤ, length, map, slice_get, unsigned_abs, IfSome};
 ghost use Rattle.emtp_elim.specs.Matrix.{item};
 ghost use Rattle.emtp_case.specs.RowOrder.{order_of};
 ghost use Rattle.emtp_case.specs.StepRecord.{BranchState, StepRecord};
 ghost use Rattle.emtp_net.specs.held.Branches.{HasCase};
 ghost use Rattle.emtp_net.specs.held.Judging.{IsUnbalanced, Judges, magnitude_in};
 ghost use Rattle.emtp_net.specs.held.Moving.{HaveMoved, IsNext};
+ghost use Rattle.emtp_net.specs.held.Sums.{AreUntied};
 ghost use Rattle.emtp_net.specs.Part.{brought_by, leaving_rows};
 ghost use Rattle.emtp_net.specs.System.{branch_sum, kinds_of};
 ghost use Rattle.emtp_net.specs.held.System.{source_values};
@@ -112,7 +113,13 @@ pub(crate) fn fill_leaving(
 }
 
 /// The first row whose residual exceeds the tolerance, with the residual in nA, by what leaves the node of each row.
-pub(crate) fn judge(case: &Case, kinds: &[RowKind], leaving: &mut [i128]) -> Option<(usize, i128)>
+pub(crate) fn judge(
+    case: &Case,
+    ties: bool,
+    kinds: &[RowKind],
+    leaving: &mut [i128],
+) -> Option<(usize, i128)>
+    requires ties { ties ≡ false → AreUntied kinds.now }
     requires kinds { length kinds.now ≡ length case.now.parts.nodes }
     requires leaving { length leaving.old ≡ length case.now.parts.nodes }
     requires small { (j : ℕ) → j < length leaving.old → unsigned_abs (item leaving.old j) ≤ 10 ^ 24 }
@@ -120,6 +127,6 @@ pub(crate) fn judge(case: &Case, kinds: &[RowKind], leaving: &mut [i128]) -> Opt
     ensures there { IfSome result (λ p. p.0 < length case.now.parts.nodes) }
     ensures magnitude { IfSome result (λ p. pos 0 ≤ℤ p.1) }
 {
-    fold(kinds, leaving);
+    fold(ties, kinds, leaving);
     first_above(kinds, leaving, case.parts.run.tolerance)
 }

@@ -1,7 +1,7 @@
 //! The right side of the nodal system.
 
 ghost use Rattle.emtp_case.specs.declared.limit.TheConstants.{MOST_SOURCES};
-ghost use Rattle.std.specs.Prelude.{◌≡◌, ◌+◌, ◌*◌, ◌^◌, ◌<◌, ◌≤◌, ◌+ℤ◌, if◌then◌else◌, ℕ, ℤ, pos, List, length, map, slice_index, unsigned_abs, IfOk};
+ghost use Rattle.std.specs.Prelude.{◌≡◌, ◌+◌, ◌*◌, ◌^◌, ◌<◌, ◌≤◌, ◌+ℤ◌, if◌then◌else◌, false, ℕ, ℤ, pos, List, length, map, slice_index, unsigned_abs, IfOk};
 ghost use Rattle.std.specs.List.{position, position_or_len};
 ghost use Rattle.emtp_case.specs.Source.{is_voltage_source_at};
 ghost use Rattle.emtp_case.specs.RowOrder.{order_of};
@@ -12,6 +12,7 @@ ghost use Rattle.emtp_net.specs.held.Branches.{HasCase, StandsFor};
 ghost use Rattle.emtp_net.specs.System.{branch_sum, history_at, kinds_of, right};
 ghost use Rattle.emtp_net.specs.held.System.{source_values};
 ghost use Rattle.emtp_net.specs.held.Rights.{brought, places_of, row_value};
+ghost use Rattle.emtp_net.specs.held.Sums.{AreUntied};
 ghost use Rattle.emtp_rows.specs.Nodal.{kind_at, node_at};
 ghost use Rattle.emtp_rows.specs.held.Terms.{end_rows};
 ghost use Rattle.emtp_wave.specs.Wave.{value_of};
@@ -146,11 +147,13 @@ fn add_histories(case: &Case, rows: &[(u32, u32)], branches: &Branches<'_>, out:
     }
 }
 
-/// The right side of the next step, by row, in nA and nV. `rows` has the rows of the two nodes of each branch.
+/// The right side of the next step, by row, in nA and nV. `rows` has the rows of the two nodes of each branch,
+/// `ties` says whether a row is tied.
 pub(crate) fn fill_right(
     case: &Case,
     order: &RowOrder,
     branches: &Branches<'_>,
+    ties: bool,
     kinds: &[RowKind],
     places: &[u32],
     values: &[i64],
@@ -160,6 +163,7 @@ pub(crate) fn fill_right(
     requires order { order.now ≡ order_of case.now.parts }
     requires rows { rows.now ≡ map (end_rows case.now.parts) case.now.parts.branches }
     requires same { HasCase branches.now case.now.parts }
+    requires ties { ties ≡ false → AreUntied kinds.now }
     requires kinds { length kinds.now ≡ length case.now.parts.nodes }
     requires places { places.now ≡ places_of case.now.parts }
     requires values { length values.now ≡ length case.now.parts.sources }
@@ -169,6 +173,6 @@ pub(crate) fn fill_right(
     out.fill(0);
     add_histories(case, rows, branches, out);
     add_sources(case, order, values, out);
-    fold(kinds, out);
+    fold(ties, kinds, out);
     set_rows(kinds, places, values, out);
 }

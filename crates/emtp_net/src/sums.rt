@@ -5,7 +5,7 @@ ghost use Rattle.std.specs.Prelude.{◌≡◌, ◌+◌, ◌*◌, ◌^◌, ◌<�
 ghost use Rattle.emtp_case.specs.RowOrder.{order_of};
 ghost use Rattle.emtp_case.specs.declared.row_kind.RowKind.TheVariants.{Kcl, Sum};
 ghost use Rattle.emtp_elim.specs.Matrix.{item};
-ghost use Rattle.emtp_net.specs.held.Sums.{group_total, in_row, tied_to};
+ghost use Rattle.emtp_net.specs.held.Sums.{AreUntied, group_total, in_row, tied_to};
 ghost use Rattle.emtp_net.specs.System.{at_node};
 ghost use Rattle.emtp_rows.specs.Nodal.{kind_at, node_at};
 ghost use Rattle.emtp_rows.specs.held.Terms.{end_rows};
@@ -77,8 +77,37 @@ pub(crate) fn add_ends(
     add_in_rows(rows[at], ends, out);
 }
 
-/// Adds what stands in the rows that are tied to the sum of a group to the row of that sum. The other rows stay.
-pub(crate) fn fold(kinds: &[RowKind], sums: &mut [i128])
+/// Whether a row is tied to the sum of a group.
+pub(crate) fn has_ties(kinds: &[RowKind]) -> bool
+    ensures { result ≡ false → AreUntied kinds.now }
+{
+    for k in 0..kinds.len() {
+        let to = tied_row(kinds, kinds[k]);
+        if to < kinds.len() {
+            return true;
+        }
+    }
+    false
+}
+
+/// Adds what stands in the rows that are tied to the sum of a group to the row of that sum. The other rows stay. `ties`
+/// is [`has_ties`]: where no row is tied, none is looked at.
+pub(crate) fn fold(ties: bool, kinds: &[RowKind], sums: &mut [i128])
+    requires ties { ties ≡ false → AreUntied kinds.now }
+    requires each { length kinds.now ≡ length sums.old }
+    requires few { length sums.old ≤ MOST_NODES }
+    requires small { (j : ℕ) → j < length sums.old → unsigned_abs (item sums.old j) ≤ 2 * 10 ^ 34 }
+    ensures sum { (j : ℕ) → j < length sums.old → kind_at kinds.now j ≡ Sum → item sums.new j ≡ group_total kinds.now (item sums.old) j }
+    ensures node { (j : ℕ) → j < length sums.old → kind_at kinds.now j ≡ Kcl → item sums.new j ≡ item sums.old j }
+    ensures bound { (j : ℕ) → j < length sums.old → unsigned_abs (item sums.new j) ≤ 10 ^ 38 }
+{
+    if ties {
+        fold_rows(kinds, sums);
+    }
+}
+
+/// The same, row by row.
+fn fold_rows(kinds: &[RowKind], sums: &mut [i128])
     requires each { length kinds.now ≡ length sums.old }
     requires few { length sums.old ≤ MOST_NODES }
     requires small { (j : ℕ) → j < length sums.old → unsigned_abs (item sums.old j) ≤ 2 * 10 ^ 34 }

@@ -17,13 +17,15 @@ use Rattle.emtp_switch.specs.held.Switching.{Switching}
 use Rattle.emtp_tail.specs.held.Good.{Good}
 use Rattle.emtp_net.specs.held.Branches.{HasCase, StandsFor}
 use Rattle.emtp_net.specs.held.Rights.{places_of}
+use Rattle.emtp_net.specs.held.Sums.{AreUntied}
 use Rattle.emtp_net.specs.System.{conductance_by, couplings}
 use Rattle.emtp_net.specs.declared.branches.Branches.{Branches}
 use Rattle.emtp_net.specs.declared.nodal_system.NodalSystem.{NodalSystem}
 
--- the lists of the nodal system have their lengths, and those that stay are made
+-- the lists of the nodal system have their lengths, those that stay are made, and ties of rows are known
 pub record HasRoom (case : Parts) (system : NodalSystem) : Type 0 where
   pub kinds : length system.kinds.items ≡ length case.nodes
+  pub ties : system.ties ≡ false → AreUntied system.kinds.items
   pub places : system.places.items ≡ places_of case
   pub ends : system.ends.items ≡ map (end_rows case) case.branches
   pub values : length system.values.items ≡ length case.sources

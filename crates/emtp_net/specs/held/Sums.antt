@@ -1,5 +1,5 @@
 -- Sums over groups of rows.
-use Rattle.std.specs.Prelude.{◌≡◌, ◌==◌, ◌<◌, ◌+ℤ◌, if◌then◌else◌, ℕ, ℤ, pos, Bool, List, length}
+use Rattle.std.specs.Prelude.{◌≡◌, ◌==◌, ◌<◌, ◌≤◌, ◌+ℤ◌, if◌then◌else◌, ℕ, ℤ, pos, Bool, List, length}
 use Rattle.emtp_case.specs.declared.row_kind.RowKind.{RowKind}
 use Rattle.emtp_elim.specs.Matrix.{item}
 use Rattle.emtp_rows.specs.Nodal.{is_member, kind_at}
@@ -13,6 +13,10 @@ group_total kinds f j = sum_below (length kinds) (λ k. if is_member kinds j k t
 -- row k is tied to row j, which is the sum of a group
 abbrev pub tied_to : List RowKind → ℕ → ℕ → Bool
 tied_to kinds j k = tied_row kinds (kind_at kinds k) == j
+
+-- no row is tied to the sum of a group
+abbrev pub AreUntied : List RowKind → Type 0
+AreUntied kinds = (k : ℕ) → k < length kinds → length kinds ≤ tied_row kinds (kind_at kinds k)
 
 -- what an amount in a row is to row j
 abbrev pub in_row : ℕ → ℤ → ℕ → ℤ

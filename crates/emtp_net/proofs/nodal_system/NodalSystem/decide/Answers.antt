@@ -1,4 +1,4 @@
-use Rattle.std.proofs.Common.{◌≡◌, ◌∙◌, sym, ap, subst, refl, true, false, rules, arith}
+use Rattle.std.proofs.Common.{◌≡◌, ◌∙◌, sym, ap, subst, refl, length, rules, arith}
 use Rattle.std.proofs.lemmas.List.{with_items_is}
 use Rattle.emtp_case.specs.declared.case.Parts.{Parts}
 use Rattle.emtp_rows.specs.Nodal.{Nodal}
@@ -7,6 +7,7 @@ use Rattle.emtp_switch.specs.Kinds as switched
 use Rattle.emtp_switch.specs.States.{next_states}
 use Rattle.emtp_case.specs.RowOrder.{order_of}
 use Rattle.emtp_net.specs.held.Holding.{HasKinds, HoldsSwitches}
+use Rattle.emtp_net.specs.held.Sums.{AreUntied}
 use Rattle.emtp_net.proofs.Ending.{tied_ends}
 use Rattle.emtp_net.proofs.Switching.{are_kinds, kinds_held, kinds_next, states_next, tied_held, tied_next}
 use Rattle.emtp_net.proofs.nodal_system.NodalSystem.decide.Goals as goal
@@ -41,6 +42,34 @@ returns-then-has_kinds c =
           };
       ends = λ H stands latest. tt;
       node = tt;
+    }
+
+pub returns-in-Ok-clause-room : goal.returns-in-Ok-clause-room
+returns-in-Ok-clause-room c =
+    let has = c.requires.room in
+    let whole = with_items_is c.args.self.now.kinds c.kinds.new.out (c.kinds.auto.out ∙ c.deref_mut.ensures.len) in
+    record {
+      kinds = ap length whole ∙ c.kinds.auto.out ∙ ap length c.deref_mut.ensures.value ∙ has.kinds;
+      ties = λ off. subst AreUntied c.deref-2.ensures.value (c.has_ties.ensures off);
+      places = has.places;
+      ends = has.ends;
+      values = has.values;
+      right = has.right;
+      x = has.x;
+    }
+
+pub returns-in-Err-clause-room : goal.returns-in-Err-clause-room
+returns-in-Err-clause-room c =
+    let has = c.requires.room in
+    let whole = with_items_is c.args.self.now.kinds c.kinds.new.out (c.kinds.auto.out ∙ c.deref_mut.ensures.len) in
+    record {
+      kinds = ap length whole ∙ c.kinds.auto.out ∙ ap length c.deref_mut.ensures.value ∙ has.kinds;
+      ties = λ off. absurd (cc);
+      places = has.places;
+      ends = has.ends;
+      values = has.values;
+      right = has.right;
+      x = has.x;
     }
 
 pub returns-in-Ok-clause-keeps : goal.returns-in-Ok-clause-keeps

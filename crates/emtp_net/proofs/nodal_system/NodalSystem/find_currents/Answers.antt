@@ -15,7 +15,7 @@ use Rattle.emtp_net.proofs.Switching.{beyond_at, both_empty, currents_next, leng
 use Rattle.emtp_net.proofs.nodal_system.NodalSystem.find_currents.Goals as goal
 
 room : (case : Parts) (s : NodalSystem) (l : List ℤ) → HasRoom case s → length l ≡ length s.right.items → (with_items s.right l).items ≡ l → HasRoom case (record s { right = with_items s.right l })
-room case s l has long is = record { kinds = has.kinds; places = has.places; ends = has.ends; values = has.values; right = ap length is ∙ long ∙ has.right; x = has.x }
+room case s l has long is = record { kinds = has.kinds; ties = has.ties; places = has.places; ends = has.ends; values = has.values; right = ap length is ∙ long ∙ has.right; x = has.x }
 
 small : (n m : ℕ) (l out : List ℤ) → ((j : ℕ) → j < m → unsigned_abs (item out j) ≤ 10 ^ 24) → m ≡ n → l ≡ out → (j : ℕ) → j < n → unsigned_abs (item l j) ≤ 10 ^ 24
 small n m l out each same is j below = subst (λ xs. unsigned_abs (item xs j) ≤ 10 ^ 24) (sym is) (each j (omega (arith, below, same)))

@@ -1,10 +1,14 @@
-use Rattle.std.proofs.Common.{◌≡◌, ◌∙◌, sym, FitsSigned, to_z, of_z, refl, rules, arith}
+use Rattle.std.proofs.Common.{◌≡◌, ◌∙◌, sym, subst, FitsSigned, to_z, of_z, refl, rules, arith}
 use mir.Syntax.{w128}
 use Rattle.std.proofs.lemmas.Int.{to_z-of_z}
 use Rattle.emtp_net.specs.Part.{states_at}
+use Rattle.emtp_net.specs.held.Sums.{AreUntied}
 use Rattle.emtp_net.proofs.Ending.{residual_ends}
 use Rattle.emtp_case.proofs.RowsOfNodes.{order_at, order_size, row_node}
 use Rattle.emtp_net.proofs.nodal_system.NodalSystem.judge.Goals as goal
+
+pub judge-requires-clause-ties : goal.judge-requires-clause-ties
+judge-requires-clause-ties c = λ off. subst AreUntied (sym c.deref.ensures.value) (c.requires.room.ties off)
 
 pub node_at-requires : goal.node_at-requires
 node_at-requires c = omega (arith, c.in-Some.ensures.there, order_size c.args.case.now.parts c.args.order.now c.requires.order)

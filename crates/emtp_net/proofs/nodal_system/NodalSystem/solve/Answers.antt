@@ -2,6 +2,7 @@ use Rattle.std.proofs.Common.{◌≡◌, ◌∙◌, sym, ap, subst, length, All,
 use Rattle.std.proofs.lemmas.List.{with_items_is}
 use Rattle.emtp_elim.specs.Outcome.{outcome}
 use Rattle.emtp_net.specs.Part.{voltages_of}
+use Rattle.emtp_net.specs.held.Sums.{AreUntied}
 use Rattle.emtp_net.specs.System.{matrix, right}
 use Rattle.emtp_fix.specs.declared.limit.TheConstants.{LARGEST_VALUE}
 use Rattle.emtp_net.proofs.Ending.{solve_ends}
@@ -34,6 +35,9 @@ fill_right-requires-clause-order c = c.requires.order
 
 pub fill_right-requires-clause-rows : goal.fill_right-requires-clause-rows
 fill_right-requires-clause-rows c = c.deref-4.ensures.value ∙ c.requires.room.ends
+
+pub fill_right-requires-clause-ties : goal.fill_right-requires-clause-ties
+fill_right-requires-clause-ties c = λ off. subst AreUntied (sym c.deref.ensures.value) (c.requires.room.ties off)
 
 pub fill_right-requires-clause-same : goal.fill_right-requires-clause-same
 fill_right-requires-clause-same c = c.requires.same
