@@ -6,7 +6,7 @@ ghost use Rattle.emtp_fix.specs.Rounding.{near};
 ghost use Rattle.emtp_tacs.specs.Part.{standing_values};
 
 use emtp_case::Case;
-use emtp_fix::{NANO, near};
+use emtp_fix::NANO;
 
 /// Gives the variables that every case has their values of a step, in nano.
 pub(crate) fn set_standing(case: &Case, step: u32, values: &mut [i64])
@@ -24,11 +24,12 @@ pub(crate) fn set_standing(case: &Case, step: u32, values: &mut [i64])
     values[5] = -(NANO as i64);
 }
 
-/// A time in ps, in nanoseconds: to 10^15.
+/// A time in ps, in nanoseconds: to 10^15. It needs no more than 64 bits.
 fn nanoseconds(time: i64) -> i64
     requires { unsigned_abs time ≤ 10 ^ 18 }
     ensures value { result ≡ near time (pos 1000) }
     ensures small { unsigned_abs result ≤ 10 ^ 18 }
 {
-    near(i128::from(time), 1000) as i64
+    let magnitude = ((time.unsigned_abs() + 500) / 1000) as i64;
+    if time < 0 { -magnitude } else { magnitude }
 }
