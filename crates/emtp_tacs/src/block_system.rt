@@ -102,6 +102,10 @@ impl<'a> BlockSystem<'a> {
         ensures var { IfErr result (NamesVariable case.now.parts) }
     {
         self.factor(case, first, steps)?;
+        let count = case.parts.blocks.len();
+        if count == 0 {
+            return Ok(());
+        }
         self.find_outputs(case, values)?;
         self.accept(case, values)?;
         put_outputs(case, &self.x, values);

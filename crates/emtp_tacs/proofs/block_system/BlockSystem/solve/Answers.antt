@@ -1,12 +1,38 @@
-use Rattle.std.proofs.Common.{◌∙◌, sym, ap, subst, length, Err, Result}
+use Rattle.std.proofs.Common.{◌≡◌, ◌∙◌, sym, ap, subst, length, Err, Result, arith}
 use Rattle.std.proofs.lemmas.Result.{err_from_is_err_and}
 use Rattle.emtp_blocks.specs.held.BlockRows.{Blocking, rows_of_blocks, StandsFor as BlocksStandFor}
 use Rattle.emtp_tail.specs.held.Good.{Good}
 use Rattle.emtp_tacs.specs.held.Stages.{Solves}
 use Rattle.emtp_tacs.specs.Step.{blocks, with_outputs}
 use Rattle.emtp_tacs.specs.declared.fault.TacsFault.{TacsFault}
+use Rattle.emtp_tacs.proofs.NoCards.{none_solved}
 use Rattle.emtp_tacs.proofs.Systems.{err_claims, err_names, rows_are, system_refuses, system_solves}
 use Rattle.emtp_tacs.proofs.block_system.BlockSystem.solve.Goals as goal
+
+pub returns-then-count-eq0-clause-solves : goal.returns-then-count-eq0-clause-solves
+returns-then-count-eq0-clause-solves g c = λ H stands.
+    let case = c.args.case.now.parts in
+    let none : length case.blocks ≡ 0 = omega (arith, c.len-count.ensures) in
+    let factored = subst (λ (b : Blocking). BlocksStandFor b H) (sym c.factor.ensures.blocks) stands in
+    none_solved case c.factor.new.self.blocks H c.args.values.now none c.factor.ensures.holds.case_is factored
+
+pub returns-then-count-eq0-clause-kept : goal.returns-then-count-eq0-clause-kept
+returns-then-count-eq0-clause-kept g c = λ H stands. c.in_ok-factor.ensures.rows ∙ rows_are c.args.case.now.parts c.args.self.now.blocks H c.requires.holds.case_is stands
+
+pub returns-then-count-eq0-clause-holds : goal.returns-then-count-eq0-clause-holds
+returns-then-count-eq0-clause-holds g c = c.factor.ensures.holds
+
+pub returns-then-count-eq0-clause-values : goal.returns-then-count-eq0-clause-values
+returns-then-count-eq0-clause-values g c = c.requires.values
+
+pub returns-then-count-eq0-clause-redone : goal.returns-then-count-eq0-clause-redone
+returns-then-count-eq0-clause-redone g c = c.factor.ensures.redone
+
+pub returns-then-count-eq0-clause-ticks : goal.returns-then-count-eq0-clause-ticks
+returns-then-count-eq0-clause-ticks g c = c.in_ok-factor.ensures.ticks
+
+pub returns-then-count-eq0-clause-most : goal.returns-then-count-eq0-clause-most
+returns-then-count-eq0-clause-most g c = c.factor.ensures.most
 
 pub returns-clause-solves : goal.returns-clause-solves
 returns-clause-solves g c = λ H stands.
