@@ -19,6 +19,7 @@ mod extras;
 mod fault;
 mod formula;
 mod laws;
+mod measured;
 mod sources;
 mod standing;
 mod tacs;

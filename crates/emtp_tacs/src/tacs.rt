@@ -6,13 +6,14 @@ ghost use Rattle.emtp_blocks.specs.held.BlockRows.{StandsFor as BlocksStandFor, 
 ghost use Rattle.emtp_case.specs.StepRecord.{StepRecord, rest_of};
 ghost use Rattle.emtp_fix.specs.declared.limit.TheConstants.{LARGEST_VALUE};
 ghost use Rattle.emtp_tacs.specs.held.Redone.{control_step_ticks};
-ghost use Rattle.emtp_tacs.specs.held.Stages.{Advances, HoldsSystem, HoldsVariables, IsMeasured, NamesVariable, VariablesStandFor};
+ghost use Rattle.emtp_tacs.specs.held.Stages.{Advances, HoldsSystem, HoldsVariables, IsMeasured, NamesVariable, VariablesStandFor, measured_from, measured_by};
 ghost use Rattle.emtp_tacs.specs.Step.{control_step};
 ghost use Rattle.emtp_tacs.specs.held.Tacs.{StandsFor, StepsTo};
 ghost use Rattle.emtp_tail.specs.Good.{first_change};
 
 use crate::block_system::BlockSystem;
 use crate::fault::TacsFault;
+use crate::measured::Measurements;
 use crate::variables::Variables;
 use emtp_case::Case;
 use emtp_fix::Steps;
@@ -80,16 +81,21 @@ impl<'a> Tacs<'a> {
         steps: &mut Steps<L>,
     ) -> Result<(), TacsFault>
         requires made { self.old.made < self.old.case.run.steps }
-        requires measured { IsMeasured self.old.case (record { voltages = voltages.now; currents = currents.now; closed = closed.now }) }
+        requires measured { IsMeasured self.old.case (measured_from voltages.now currents.now closed.now) }
         ensures case { self.new.case ≡ self.old.case }
         ensures made { self.new.made ≡ self.old.made + 1 }
-        ensures step { (H : List StepRecord) → StandsFor self.old H → StepsTo result self.new H (control_step self.old.case H (record { voltages = voltages.now; currents = currents.now; closed = closed.now })) }
+        ensures step { (H : List StepRecord) → StandsFor self.old H → StepsTo result self.new H (control_step self.old.case H (measured_from voltages.now currents.now closed.now)) }
         ensures ticks { (H : List StepRecord) → StandsFor self.old H → OnOk result (steps.new ≡ steps.old + control_step_ticks self.old.case H) }
         ensures most { (H : List StepRecord) → StandsFor self.old H → steps.new ≤ steps.old + control_step_ticks self.old.case H }
         ensures few { self.new.redone ≤ self.old.redone + MOST_CONTROL_CARDS }
         ensures few_ticks { steps.new ≤ steps.old + MOST_CONTROL_CARDS }
         ensures var { IfErr result (NamesVariable self.old.case) }
     {
+        let measured = Measurements {
+            voltages,
+            currents,
+            closed,
+        };
         let made = self.made;
         self.made += 1;
         let first = self.system.first_changed(self.case, made);
@@ -99,9 +105,7 @@ impl<'a> Tacs<'a> {
             &mut self.system,
             first,
             self.made,
-            voltages,
-            currents,
-            closed,
+            measured,
             steps,
         )
     }
@@ -141,25 +145,23 @@ fn advance<L: Ledger>(
     system: &mut BlockSystem<'_>,
     first: usize,
     step: u32,
-    voltages: &[i64],
-    currents: &[i64],
-    closed: &[bool],
+    measured: Measurements<'_>,
     steps: &mut Steps<L>,
 ) -> Result<(), TacsFault>
     requires variables { HoldsVariables case.now.parts variables.old }
     requires system { HoldsSystem case.now.parts system.old }
     requires first { first ≡ first_change system.old.kept.rows (rows_of_blocks system.old.blocks) }
     requires step { step ≤ case.now.parts.run.steps }
-    requires measured { IsMeasured case.now.parts (record { voltages = voltages.now; currents = currents.now; closed = closed.now }) }
+    requires measured { IsMeasured case.now.parts (measured_by measured) }
     ensures variables { HoldsVariables case.now.parts variables.new }
     ensures system { HoldsSystem case.now.parts system.new }
     ensures redone { system.new.redone ≡ system.old.redone }
-    ensures advances { (H : List StepRecord) → step ≡ length H → VariablesStandFor case.now.parts variables.old H → BlocksStandFor system.old.blocks H → Advances result case.now.parts H variables.new system.new (control_step case.now.parts H (record { voltages = voltages.now; currents = currents.now; closed = closed.now })) }
+    ensures advances { (H : List StepRecord) → step ≡ length H → VariablesStandFor case.now.parts variables.old H → BlocksStandFor system.old.blocks H → Advances result case.now.parts H variables.new system.new (control_step case.now.parts H (measured_by measured.entry)) }
     ensures ticks { OnOk result (steps.new + first ≡ steps.old + length case.now.parts.blocks) }
     ensures most { steps.new ≤ steps.old + (length case.now.parts.blocks - first) }
     ensures var { IfErr result (NamesVariable case.now.parts) }
 {
-    variables.compute_known(case, step, voltages, currents, closed)?;
+    variables.compute_known(case, step, measured)?;
     system.solve(case, first, &mut variables.values, steps)?;
     variables.compute_extras(case, false, step)
 }

@@ -1,14 +1,14 @@
 //! The variables of the control, and what computes them but for the blocks.
 
-ghost use Rattle.std.specs.Prelude.{◌≡◌, ◌≤◌, ◌∷◌, [], true, List, ℤ, length, IfErr, IfOk};
+ghost use Rattle.std.specs.Prelude.{◌≡◌, ◌≤◌, ◌∷◌, [], List, ℤ, length, IfErr, IfOk};
 ghost use Rattle.emtp_case.specs.declared.control.Extra.{Extra};
 ghost use Rattle.emtp_case.specs.declared.control.Formula.{Formula};
-ghost use Rattle.emtp_case.specs.StepRecord.{StepRecord, rest_of};
-ghost use Rattle.emtp_tacs.specs.held.Stages.{HasNameRoom, HoldsVariables, IsMeasured, IsSoFar, NamesVariable, Reaches, VariablesStandFor};
-ghost use Rattle.emtp_tacs.specs.Step.{SoFar, extras, known_before};
+ghost use Rattle.emtp_case.specs.StepRecord.{rest_of};
+ghost use Rattle.emtp_tacs.specs.held.Stages.{ComputesKnown, ComputesPass, HasNameRoom, HoldsVariables, IsMeasured, NamesVariable, VariablesStandFor, measured_by};
 
 use crate::extras::compute_extras;
 use crate::fault::TacsFault;
+use crate::measured::Measurements;
 use crate::sources::put_sources;
 use crate::standing::set_standing;
 use emtp_case::{Case, Extra};
@@ -51,27 +51,17 @@ impl<'a> Variables<'a> {
         &mut self,
         case: &Case,
         step: u32,
-        voltages: &[i64],
-        currents: &[i64],
-        closed: &[bool],
+        measured: Measurements<'_>,
     ) -> Result<(), TacsFault>
         requires holds { HoldsVariables case.now.parts self.old }
         requires step { step ≤ case.now.parts.run.steps }
-        requires measured { IsMeasured case.now.parts (record { voltages = voltages.now; currents = currents.now; closed = closed.now }) }
+        requires measured { IsMeasured case.now.parts (measured_by measured) }
         ensures holds { HoldsVariables case.now.parts self.new }
-        ensures reaches { (H : List StepRecord) → step ≡ length H → VariablesStandFor case.now.parts self.old H → Reaches result case.now.parts H true (length case.now.parts.extras) self.new.values.items self.new.devices (known_before case.now.parts H (record { voltages = voltages.now; currents = currents.now; closed = closed.now })) }
+        ensures known { ComputesKnown result case.now.parts step (measured_by measured.entry) self.old self.new }
         ensures var { IfErr result (NamesVariable case.now.parts) }
     {
         set_standing(case, step, &mut self.values);
-        put_sources(
-            case,
-            &self.table,
-            step,
-            voltages,
-            currents,
-            closed,
-            &mut self.values,
-        )?;
+        put_sources(case, &self.table, step, measured, &mut self.values)?;
         self.compute_extras(case, true, step)
     }
 
@@ -84,7 +74,7 @@ impl<'a> Variables<'a> {
     ) -> Result<(), TacsFault>
         requires holds { HoldsVariables case.now.parts self.old }
         ensures holds { HoldsVariables case.now.parts self.new }
-        ensures reaches { (H : List StepRecord) (s : SoFar) → step ≡ length H → IsSoFar case.now.parts H early 0 self.old.values.items self.old.devices s → Reaches result case.now.parts H early (length case.now.parts.extras) self.new.values.items self.new.devices (extras case.now.parts H early s) }
+        ensures pass { ComputesPass result case.now.parts early step self.old self.new }
         ensures var { IfErr result (NamesVariable case.now.parts) }
     {
         compute_extras(

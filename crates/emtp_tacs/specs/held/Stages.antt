@@ -14,14 +14,22 @@ use Rattle.emtp_devices.specs.Devices.{states_of}
 use Rattle.emtp_devices.specs.held.Devices.{HeldDevices, IsDeviceAt, StandsAt, StandsFor as DevicesStandFor}
 use Rattle.emtp_tacs.specs.Part.{ControlPart}
 use Rattle.emtp_tacs.specs.held.Part.{control_of}
-use Rattle.emtp_tacs.specs.Step.{Measured, SoFar, Solved, group_of, is_in_pass}
+use Rattle.emtp_tacs.specs.Step.{Measured, SoFar, Solved, extras, group_of, is_in_pass, known_before, sources}
 use Rattle.emtp_tacs.specs.declared.block_system.BlockSystem.{BlockSystem}
 use Rattle.emtp_tacs.specs.declared.fault.TacsFault.{TacsFault}
+use Rattle.emtp_tacs.specs.declared.measured.Measurements.{Measurements}
 use Rattle.emtp_tacs.specs.declared.variables.Variables.{Variables}
 
 -- a fault names a variable of the case
 abbrev pub NamesVariable : Parts → TacsFault → Type 0
 NamesVariable case fault = fault.var < length case.vars
+
+-- the numbers of the network, as the definitions see them
+abbrev pub measured_from : List ℤ → List ℤ → List Bool → Measured
+measured_from voltages currents closed = record { voltages = voltages; currents = currents; closed = closed }
+
+abbrev pub measured_by : Measurements → Measured
+measured_by m = measured_from m.voltages.now m.currents.now m.closed.now
 
 -- the lists of the network have their lengths
 pub record IsMeasured (case : Parts) (m : Measured) : Type 0 where
@@ -54,6 +62,11 @@ abbrev pub so_far_of : Result (Unit {0}) TacsFault → List ℤ → List DeviceS
 so_far_of (Ok u) values devices = Ok (record { values = values; devices = devices })
 so_far_of (Err fault) values devices = Err fault
 
+-- the sources of a step are written, or the first one out of range is answered, whatever the devices keep
+abbrev pub WritesSources : Result (Unit {0}) TacsFault → Parts → ℕ → Measured → List ℤ → List ℤ → Type 0
+WritesSources result case step m old new =
+    (devices : List DeviceState) → sources case step m (record { values = old; devices = devices }) ≡ so_far_of result new devices
+
 -- a card was computed in this step, once its pass has come to place n: of the later pass all cards of the earlier one were
 abbrev pub is_done_by : Bool → ℕ → ℕ → Option Extra → Bool
 is_done_by early n at None = false
@@ -79,6 +92,21 @@ Reaches (Ok u) case H early n values held (Ok s) = IsSoFar case H early n values
 Reaches (Ok u) case H early n values held (Err fault) = ⊥
 Reaches (Err e) case H early n values held (Ok s) = ⊥
 Reaches (Err e) case H early n values held (Err fault) = e ≡ fault
+
+-- the same of a whole pass over the supplemental cards
+abbrev pub CompletesPass : Result (Unit {0}) TacsFault → Parts → List StepRecord → Bool → Variables → Result SoFar TacsFault → Type 0
+CompletesPass result case H early v defined = Reaches result case H early (length case.extras) v.values.items v.devices defined
+
+-- what is known before the blocks of a step is computed, from all records for which the variables stood
+abbrev pub ComputesKnown : Result (Unit {0}) TacsFault → Parts → ℕ → Measured → Variables → Variables → Type 0
+ComputesKnown result case step m old new =
+    (H : List StepRecord) → step ≡ length H → VariablesStandFor case old H → CompletesPass result case H true new (known_before case H m)
+
+-- a pass of a step is computed, from whatever the step has so far
+abbrev pub ComputesPass : Result (Unit {0}) TacsFault → Parts → Bool → ℕ → Variables → Variables → Type 0
+ComputesPass result case early step old new =
+    (H : List StepRecord) (s : SoFar) → step ≡ length H → IsSoFar case H early 0 old.values.items old.devices s
+    → CompletesPass result case H early new (extras case H early s)
 
 -- ---- the blocks
 

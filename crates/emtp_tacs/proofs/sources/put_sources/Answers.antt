@@ -6,6 +6,7 @@ use Rattle.emtp_case.specs.declared.source.Shape.TheVariants.{Step}
 use Rattle.emtp_case.specs.declared.source.Source.{Source}
 use Rattle.emtp_fix.specs.Limit.{in_range}
 use Rattle.emtp_fix.proofs.Wide.{through_64}
+use Rattle.emtp_tacs.specs.held.Stages.{measured_by}
 use Rattle.emtp_tacs.specs.Step.{Measured, source_value}
 use Rattle.emtp_tacs.proofs.Folds.{known-set, source_out, source_written, wide_is}
 use Rattle.emtp_tacs.proofs.sources.put_sources.Goals as goal
@@ -14,7 +15,7 @@ pub returns-in-None-clause-sources : goal.returns-in-None-clause-sources
 returns-in-None-clause-sources c = λ devices.
     let case = c.args.case.now.parts in
     let at = c.loop-at.at in
-    let m : Measured = record { voltages = c.args.voltages.now; currents = c.args.currents.now; closed = c.args.closed.now } in
+    let m : Measured = measured_by c.args.measured in
     let blank : Source = record { line = 0; node = 0; current = false; shape = Step; amplitude = pos 0; start = pos 0; stop = None } in
     let x = get_or case.tacs_sources at blank in
     let within : at < length case.tacs_sources = omega (arith, c.loop-at-test.true, c.len-at-end.ensures) in
@@ -30,7 +31,7 @@ pub loop-at-preserved : goal.loop-at-preserved
 loop-at-preserved c =
     let case = c.args.case.now.parts in
     let at = c.loop-at.at in
-    let m : Measured = record { voltages = c.args.voltages.now; currents = c.args.currents.now; closed = c.args.closed.now } in
+    let m : Measured = measured_by c.args.measured in
     let blank : Source = record { line = 0; node = 0; current = false; shape = Step; amplitude = pos 0; start = pos 0; stop = None } in
     let x = get_or case.tacs_sources at blank in
     let within : at < length case.tacs_sources = omega (arith, c.loop-at-test.true, c.len-at-end.ensures) in

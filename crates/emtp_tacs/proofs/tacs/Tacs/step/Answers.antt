@@ -3,6 +3,7 @@ use Rattle.emtp_blocks.specs.held.BlockRows.{Blocking, StandsFor as BlocksStandF
 use Rattle.emtp_blocks.specs.System.{matrix}
 use Rattle.emtp_tail.proofs.RedoneRows.{rows_ticked_most}
 use Rattle.emtp_tacs.specs.Step.{Measured, control_step}
+use Rattle.emtp_tacs.specs.held.Stages.{IsMeasured, measured_from}
 use Rattle.emtp_tacs.specs.held.Redone.{control_step_ticks}
 use Rattle.emtp_tacs.specs.held.Tacs.{HeldControl, StandsFor, StepsTo}
 use Rattle.emtp_tacs.proofs.Stepping.{first_is, held_of, steps_to, ticks_ok, variables_stand}
@@ -14,7 +15,7 @@ returns-clause-step g c = λ H stands.
     let v = c.self.inside.variables in
     let s = c.self.inside.system in
     let made = c.self.inside.made in
-    let m : Measured = record { voltages = c.args.voltages.now; currents = c.args.currents.now; closed = c.args.closed.now } in
+    let m : Measured = measured_from c.args.voltages.now c.args.currents.now c.args.closed.now in
     let stood : StandsFor (held_of case v s made) H = subst (λ (t : HeldControl). StandsFor t H) (sym c.self.view_is) stands in
     let blocks = subst (λ (b : Blocking). BlocksStandFor b H) (sym c.first_changed-first.ensures.blocks) stood.blocks in
     let advanced = c.advance.ensures.advances H stood.steps (variables_stand case v s made H stood) blocks in
@@ -38,3 +39,7 @@ returns-clause-most g c = λ H stands.
 
 pub first_changed-first-requires-clause-made : goal.first_changed-first-requires-clause-made
 first_changed-first-requires-clause-made g c = subst (λ (t : HeldControl). t.made < t.case.run.steps) (sym c.self.view_is) c.requires.made
+
+pub advance-requires-clause-measured : goal.advance-requires-clause-measured
+advance-requires-clause-measured g c =
+    subst (λ (t : HeldControl). IsMeasured t.case (measured_from c.args.voltages.now c.args.currents.now c.args.closed.now)) (sym c.self.view_is) c.requires.measured

@@ -4,17 +4,17 @@ use Rattle.std.proofs.lemmas.Result.{err_from_is_err_and}
 use Rattle.emtp_case.specs.held.Control.{AreKnown}
 use Rattle.emtp_case.specs.StepRecord.{latest}
 use Rattle.emtp_tacs.specs.Part.{standing_values}
-use Rattle.emtp_tacs.specs.held.Stages.{IsSoFar, Reaches}
+use Rattle.emtp_tacs.specs.held.Stages.{IsSoFar, Reaches, measured_by}
 use Rattle.emtp_tacs.specs.Step.{Measured, SoFar, sources}
 use Rattle.emtp_tacs.specs.declared.fault.TacsFault.{TacsFault}
 use Rattle.emtp_tacs.proofs.Starting.{known_fails, known_is, so_far_first}
 use Rattle.emtp_tacs.proofs.variables.Variables.compute_known.Goals as goal
 
-pub returns-clause-reaches : goal.returns-clause-reaches
-returns-clause-reaches c = λ H long stands.
+pub returns-clause-known : goal.returns-clause-known
+returns-clause-known c = λ H long stands.
     let case = c.args.case.now.parts in
     let step = c.args.step in
-    let m : Measured = record { voltages = c.args.voltages.now; currents = c.args.currents.now; closed = c.args.closed.now } in
+    let m : Measured = measured_by c.args.measured in
     let n = c.args.self.now.values.len in
     let old = c.args.self.now.values.items in
     let held = c.args.self.now.devices in
@@ -32,7 +32,7 @@ returns-clause-reaches c = λ H long stands.
     let is = known_is case H m step old set s long stands.values set_is given in
     let so_far = so_far_first case H put held c.requires.holds.devices stands.devices stands.devices_count in
     subst (λ (d : Result SoFar TacsFault). Reaches c.compute_extras.result case H true (length case.extras) c.compute_extras.new.self.values.items c.compute_extras.new.self.devices d) (sym is)
-    (c.compute_extras.ensures.reaches H s long (subst (λ (vs : List ℤ). IsSoFar case H true 0 vs held s) (sym put_is) so_far))
+    (c.compute_extras.ensures.pass H s long (subst (λ (vs : List ℤ). IsSoFar case H true 0 vs held s) (sym put_is) so_far))
 
 pub returns-clause-var : goal.returns-clause-var
 returns-clause-var c = c.compute_extras.ensures.var
@@ -67,11 +67,11 @@ returns-in_err-put_sources-clause-holds c = record { devices = c.requires.holds.
 pub compute_extras-requires : goal.compute_extras-requires
 compute_extras-requires c = record { holds = record { devices = c.requires.holds.devices; values = subst (AreKnown c.args.case.now.parts) (sym (whole c.args.self.now.values.len c.args.self.now.values.items c.set_standing.new.values c.put_sources.new.values c.deref_mut.result.now c.deref_mut-2.result.now (omega (arith, c.args.self.now.values.ok.0)) c.deref_mut.ensures.value c.set_standing.auto.values c.deref_mut-2.ensures.value c.put_sources.auto.values)) c.put_sources.ensures.values; names = c.requires.holds.names } }
 
-pub returns-in_err-put_sources-clause-reaches : goal.returns-in_err-put_sources-clause-reaches
-returns-in_err-put_sources-clause-reaches c = λ H long stands.
+pub returns-in_err-put_sources-clause-known : goal.returns-in_err-put_sources-clause-known
+returns-in_err-put_sources-clause-known c = λ H long stands.
     let case = c.args.case.now.parts in
     let step = c.args.step in
-    let m : Measured = record { voltages = c.args.voltages.now; currents = c.args.currents.now; closed = c.args.closed.now } in
+    let m : Measured = measured_by c.args.measured in
     let n = c.args.self.now.values.len in
     let old = c.args.self.now.values.items in
     let held = c.args.self.now.devices in
