@@ -1,16 +1,10 @@
 //! The supplemental cards: a pass before the blocks and a pass after them, each in card order.
 
-ghost use Rattle.std.specs.Prelude.{◌≡◌, ◌≤◌, ◌<◌, ◌+◌, Bool, true, List, length, unsigned_abs, IfErr, IfOk, Some, slice_get};
+ghost use Rattle.std.specs.Prelude.{◌≡◌, ◌≤◌, ◌<◌, length, unsigned_abs, IfErr, IfOk};
 ghost use Rattle.emtp_case.specs.held.Control.{AreKnown, var_of};
-ghost use Rattle.emtp_case.specs.StepRecord.{StepRecord};
-ghost use Rattle.emtp_case.specs.declared.control.Device.{Device};
-ghost use Rattle.emtp_case.specs.declared.control.Extra.{Extra};
-ghost use Rattle.emtp_case.specs.declared.control.Formula.{Formula};
-ghost use Rattle.emtp_devices.specs.held.Devices.{IsDeviceAt, Moves};
-ghost use Rattle.emtp_expr.specs.held.Value.{Evaluates};
 ghost use Rattle.emtp_fix.specs.declared.limit.TheConstants.{LARGEST_VALUE};
-ghost use Rattle.emtp_tacs.specs.held.Stages.{HasNameRoom, IsSoFar, NamesVariable, Reaches};
-ghost use Rattle.emtp_tacs.specs.Step.{SoFar, extra_of, extras, formula_value, group_of, is_in_pass};
+ghost use Rattle.emtp_tacs.specs.held.Stages.{ComputesCard, ComputesCards, ComputesValue, HasNameRoom, NamesVariable};
+ghost use Rattle.emtp_tacs.specs.Step.{group_of, is_in_pass};
 
 use crate::fault::{TacsFault, range_fault};
 use crate::formula::formula_value;
@@ -33,7 +27,7 @@ pub(crate) fn compute_extras(
     requires names { HasNameRoom case.now.parts names.old }
     ensures same { devices.new.case ≡ case.now.parts }
     ensures values { AreKnown case.now.parts values.new }
-    ensures reaches { (H : List StepRecord) (s : SoFar) → step ≡ length H → IsSoFar case.now.parts H early 0 values.old devices.old s → Reaches result case.now.parts H early (length case.now.parts.extras) values.new devices.new (extras case.now.parts H early s) }
+    ensures cards { ComputesCards result case.now.parts early step values.old values.new devices.old devices.new }
     ensures var { IfErr result (NamesVariable case.now.parts) }
 {
     for at in 0..case.parts.extras.len() {
@@ -62,7 +56,7 @@ fn compute_extra(
     requires names { HasNameRoom case.now.parts names.old }
     ensures same { devices.new.case ≡ case.now.parts }
     ensures values { AreKnown case.now.parts values.new }
-    ensures reaches { (H : List StepRecord) (early : Bool) (e : Extra) (s : SoFar) → step ≡ length H → slice_get case.now.parts.extras at ≡ Some e → is_in_pass early (group_of e) ≡ true → IsSoFar case.now.parts H early at values.old devices.old s → Reaches result case.now.parts H early (at + 1) values.new devices.new (extra_of case.now.parts H at s e) }
+    ensures card { ComputesCard result case.now.parts at step values.old values.new devices.old devices.new }
     ensures var { IfErr result (NamesVariable case.now.parts) }
 {
     let extra = &case.parts.extras.as_slice()[at];
@@ -89,9 +83,7 @@ fn value_of(
     requires same { devices.old.case ≡ case.now.parts }
     requires values { AreKnown case.now.parts values.now }
     requires names { HasNameRoom case.now.parts names.old }
-    ensures device { (x : Device) → IsDeviceAt case.now.parts at x → Moves devices.old devices.new at step values.now result }
-    ensures formula { (x : Formula) → slice_get case.now.parts.extras at ≡ Some (Extra.Formula x) → Evaluates result (formula_value values.now x) }
-    ensures formula_same { (x : Formula) → slice_get case.now.parts.extras at ≡ Some (Extra.Formula x) → devices.new ≡ devices.old }
+    ensures value { ComputesValue result case.now.parts at step values.now devices.old devices.new }
     ensures same { devices.new.case ≡ case.now.parts }
     ensures small { IfOk result (λ y. unsigned_abs y ≤ LARGEST_VALUE) }
 {

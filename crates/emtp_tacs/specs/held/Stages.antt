@@ -11,10 +11,12 @@ use Rattle.emtp_case.specs.declared.control.Extra.{Extra}
 use Rattle.emtp_case.specs.declared.control.Extra.TheVariants.{Formula as OfFormula}
 use Rattle.emtp_case.specs.declared.control.Formula.{Formula}
 use Rattle.emtp_devices.specs.Devices.{states_of}
-use Rattle.emtp_devices.specs.held.Devices.{HeldDevices, IsDeviceAt, StandsAt, StandsFor as DevicesStandFor}
+use Rattle.emtp_devices.specs.held.Devices.{HeldDevices, IsDeviceAt, Moves, StandsAt, StandsFor as DevicesStandFor}
+use Rattle.emtp_expr.specs.held.Value.{Evaluates}
+use Rattle.emtp_fix.specs.declared.limit.OutOfRange.{OutOfRange}
 use Rattle.emtp_tacs.specs.Part.{ControlPart}
 use Rattle.emtp_tacs.specs.held.Part.{control_of}
-use Rattle.emtp_tacs.specs.Step.{Measured, SoFar, Solved, extras, group_of, is_in_pass, known_before, sources}
+use Rattle.emtp_tacs.specs.Step.{Measured, SoFar, Solved, extra_of, extras, formula_value, group_of, is_in_pass, known_before, sources}
 use Rattle.emtp_tacs.specs.declared.block_system.BlockSystem.{BlockSystem}
 use Rattle.emtp_tacs.specs.declared.fault.TacsFault.{TacsFault}
 use Rattle.emtp_tacs.specs.declared.measured.Measurements.{Measurements}
@@ -39,9 +41,13 @@ pub record IsMeasured (case : Parts) (m : Measured) : Type 0 where
 
 -- ---- variables
 
+-- the supplemental card at a place is this formula
+abbrev pub IsFormulaAt : Parts → ℕ → Formula → Type 0
+IsFormulaAt case at x = slice_get case.extras at ≡ Some (OfFormula x)
+
 -- there is room for the values of any formula's names
 abbrev pub HasNameRoom : Parts → List ℤ → Type 0
-HasNameRoom case names = (at : ℕ) (x : Formula) → slice_get case.extras at ≡ Some (OfFormula x) → length x.vars ≤ length names
+HasNameRoom case names = (at : ℕ) (x : Formula) → IsFormulaAt case at x → length x.vars ≤ length names
 
 -- the variables are those of the case
 pub record HoldsVariables (case : Parts) (v : Variables) : Type 0 where
@@ -102,11 +108,28 @@ abbrev pub ComputesKnown : Result (Unit {0}) TacsFault → Parts → ℕ → Mea
 ComputesKnown result case step m old new =
     (H : List StepRecord) → step ≡ length H → VariablesStandFor case old H → CompletesPass result case H true new (known_before case H m)
 
--- a pass of a step is computed, from whatever the step has so far
+-- the card at a place has this value in a step: a device moves, and a formula lets all devices stay
+pub record ComputesValue (result : Result ℤ OutOfRange) (case : Parts) (at step : ℕ) (values : List ℤ) (held moved : HeldDevices) : Type 0 where
+  pub device : (x : Device) → IsDeviceAt case at x → Moves held moved at step values result
+  pub formula : (x : Formula) → IsFormulaAt case at x → Evaluates result (formula_value values x)
+  pub formula_same : (x : Formula) → IsFormulaAt case at x → moved ≡ held
+
+-- the card at a place is computed in a step, if it belongs to the pass, from whatever the step has so far
+abbrev pub ComputesCard : Result (Unit {0}) TacsFault → Parts → ℕ → ℕ → List ℤ → List ℤ → HeldDevices → HeldDevices → Type 0
+ComputesCard result case at step old new held moved =
+    (H : List StepRecord) (early : Bool) (e : Extra) (s : SoFar) → step ≡ length H → slice_get case.extras at ≡ Some e
+    → is_in_pass early (group_of e) ≡ true → IsSoFar case H early at old held s
+    → Reaches result case H early (at + 1) new moved (extra_of case H at s e)
+
+-- the cards of a pass are computed in a step, from whatever the step has so far
+abbrev pub ComputesCards : Result (Unit {0}) TacsFault → Parts → Bool → ℕ → List ℤ → List ℤ → HeldDevices → HeldDevices → Type 0
+ComputesCards result case early step old new held moved =
+    (H : List StepRecord) (s : SoFar) → step ≡ length H → IsSoFar case H early 0 old held s
+    → Reaches result case H early (length case.extras) new moved (extras case H early s)
+
 abbrev pub ComputesPass : Result (Unit {0}) TacsFault → Parts → Bool → ℕ → Variables → Variables → Type 0
 ComputesPass result case early step old new =
-    (H : List StepRecord) (s : SoFar) → step ≡ length H → IsSoFar case H early 0 old.values.items old.devices s
-    → CompletesPass result case H early new (extras case H early s)
+    ComputesCards result case early step old.values.items new.values.items old.devices new.devices
 
 -- ---- the blocks
 

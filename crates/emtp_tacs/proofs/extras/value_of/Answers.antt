@@ -53,14 +53,8 @@ step-requires-clause-values c = subst (λ (p : Parts). AreKnown p c.args.values.
 pub returns-in-Device-clause-same : goal.returns-in-Device-clause-same
 returns-in-Device-clause-same c = c.step.ensures.moves.case ∙ c.requires.same
 
-pub returns-in-Device-clause-device : goal.returns-in-Device-clause-device
-returns-in-Device-clause-device c = λ x is. c.step.ensures.moves
-
 pub returns-in-Formula-clause-same : goal.returns-in-Formula-clause-same
 returns-in-Formula-clause-same c = c.requires.same
-
-pub returns-in-Formula-clause-formula_same : goal.returns-in-Formula-clause-formula_same
-returns-in-Formula-clause-formula_same c = λ x is. refl
 
 pub formula_value-requires-clause-formula : goal.formula_value-requires-clause-formula
 formula_value-requires-clause-formula c =
@@ -72,19 +66,25 @@ formula_value-requires-clause-formula c =
 pub returns-in-Device-clause-small : goal.returns-in-Device-clause-small
 returns-in-Device-clause-small c = c.step.ensures.small
 
-pub returns-in-Device-clause-formula : goal.returns-in-Device-clause-formula
-returns-in-Device-clause-formula c = λ x is. absurd (one_kind (slice_get c.args.case.now.parts.extras c.args.at) c.in-Device.field-0 x (here c.args.case.now.parts.extras c.as_slice.result.now c.args.at c.index-as_slice-at.result c.requires.at c.as_slice.ensures c.index-as_slice-at.is ∙ ap Some c.in-Device.is) is)
-
-pub returns-in-Device-clause-formula_same : goal.returns-in-Device-clause-formula_same
-returns-in-Device-clause-formula_same c = λ x is. absurd (one_kind (slice_get c.args.case.now.parts.extras c.args.at) c.in-Device.field-0 x (here c.args.case.now.parts.extras c.as_slice.result.now c.args.at c.index-as_slice-at.result c.requires.at c.as_slice.ensures c.index-as_slice-at.is ∙ ap Some c.in-Device.is) is)
-
-pub returns-in-Formula-clause-device : goal.returns-in-Formula-clause-device
-returns-in-Formula-clause-device c = λ x is. absurd (one_kind (slice_get c.args.case.now.parts.extras c.args.at) x c.in-Formula.formula is (here c.args.case.now.parts.extras c.as_slice.result.now c.args.at c.index-as_slice-at.result c.requires.at c.as_slice.ensures c.index-as_slice-at.is ∙ ap Some c.in-Formula.is))
+pub returns-in-Device-clause-value : goal.returns-in-Device-clause-value
+returns-in-Device-clause-value c =
+    let there = here c.args.case.now.parts.extras c.as_slice.result.now c.args.at c.index-as_slice-at.result c.requires.at c.as_slice.ensures c.index-as_slice-at.is ∙ ap Some c.in-Device.is in
+    record {
+      device = λ x is. c.step.ensures.moves;
+      formula = λ x is. absurd (one_kind (slice_get c.args.case.now.parts.extras c.args.at) c.in-Device.field-0 x there is);
+      formula_same = λ x is. absurd (one_kind (slice_get c.args.case.now.parts.extras c.args.at) c.in-Device.field-0 x there is);
+    }
 
 pub returns-in-Formula-clause-small : goal.returns-in-Formula-clause-small
 returns-in-Formula-clause-small c = small c.formula_value.result (formula_value c.args.values.now c.in-Formula.formula) c.formula_value.ensures
 
-pub returns-in-Formula-clause-formula : goal.returns-in-Formula-clause-formula
-returns-in-Formula-clause-formula c = λ x is.
-    let same : c.in-Formula.formula ≡ x = ap (formula_or x) (sym (here c.args.case.now.parts.extras c.as_slice.result.now c.args.at c.index-as_slice-at.result c.requires.at c.as_slice.ensures c.index-as_slice-at.is ∙ ap Some c.in-Formula.is) ∙ is) in
-    subst (λ (f : Formula). Evaluates c.formula_value.result (formula_value c.args.values.now f)) same c.formula_value.ensures
+pub returns-in-Formula-clause-value : goal.returns-in-Formula-clause-value
+returns-in-Formula-clause-value c =
+    let there = here c.args.case.now.parts.extras c.as_slice.result.now c.args.at c.index-as_slice-at.result c.requires.at c.as_slice.ensures c.index-as_slice-at.is ∙ ap Some c.in-Formula.is in
+    record {
+      device = λ x is. absurd (one_kind (slice_get c.args.case.now.parts.extras c.args.at) x c.in-Formula.formula is there);
+      formula = λ x is.
+          let same : c.in-Formula.formula ≡ x = ap (formula_or x) (sym there ∙ is) in
+          subst (λ (f : Formula). Evaluates c.formula_value.result (formula_value c.args.values.now f)) same c.formula_value.ensures;
+      formula_same = λ x is. refl;
+    }
