@@ -1,15 +1,13 @@
 //! The blocks as one system over a kept factor.
 
 ghost use Rattle.emtp_case.specs.declared.limit.TheConstants.{MOST_CONTROL_CARDS};
-ghost use Rattle.std.specs.Prelude.{◌≡◌, ◌≤◌, ◌<◌, ◌+◌, ◌-◌, ◌*◌, ◌==◌, ◌∷◌, [], ℤ, if◌then◌else◌, List, length, IfErr, IfOk, OnOk};
+ghost use Rattle.std.specs.Prelude.{◌≡◌, ◌≤◌, ◌<◌, ◌+◌, ◌-◌, ◌*◌, ◌==◌, ◌∷◌, [], if◌then◌else◌, length, IfErr, IfOk, OnOk};
 ghost use Rattle.emtp_case.specs.held.Control.{AreKnown};
-ghost use Rattle.emtp_blocks.specs.held.BlockRows.{AreUnknowns, HaveAccepted, StandsFor as BlocksStandFor, rows_of_blocks};
-ghost use Rattle.emtp_blocks.specs.System.{matrix, right};
-ghost use Rattle.emtp_case.specs.StepRecord.{StepRecord, rest_of};
-ghost use Rattle.emtp_elim.specs.Outcome.{outcome};
+ghost use Rattle.emtp_blocks.specs.held.BlockRows.{AreUnknowns, StandsFor as BlocksStandFor, rows_of_blocks};
+ghost use Rattle.emtp_case.specs.StepRecord.{rest_of};
 ghost use Rattle.emtp_elim.specs.declared.fault.PlainFault.{PlainFault};
-ghost use Rattle.emtp_tacs.specs.held.Stages.{HoldsSystem, NamesVariable, Solves};
-ghost use Rattle.emtp_tacs.specs.Step.{block_var, blocks, system_fault, with_outputs};
+ghost use Rattle.emtp_tacs.specs.held.Stages.{AcceptsOutputs, FindsOutputs, HoldsSystem, NamesVariable, RefusesFactor, SolvesBlocks};
+ghost use Rattle.emtp_tacs.specs.Step.{block_var, system_fault, with_outputs};
 ghost use Rattle.emtp_tail.specs.Good.{first_change};
 
 use crate::fault::{TacsFault, range_fault};
@@ -95,8 +93,7 @@ impl<'a> BlockSystem<'a> {
         ensures holds { HoldsSystem case.now.parts self.new }
         ensures values { AreKnown case.now.parts values.new }
         ensures redone { self.new.redone ≡ self.old.redone }
-        ensures solves { (H : List StepRecord) → BlocksStandFor self.old.blocks H → Solves result self.new.blocks values.new H (blocks case.now.parts H values.old) }
-        ensures kept { (H : List StepRecord) → BlocksStandFor self.old.blocks H → OnOk result (self.new.kept.rows ≡ matrix case.now.parts H) }
+        ensures solves { SolvesBlocks result case.now.parts values.old values.new self.old self.new }
         ensures ticks { OnOk result (steps.new + first ≡ steps.old + length case.now.parts.blocks) }
         ensures most { steps.new + first ≤ steps.old + length case.now.parts.blocks }
         ensures var { IfErr result (NamesVariable case.now.parts) }
@@ -127,7 +124,7 @@ impl<'a> BlockSystem<'a> {
         ensures rows { OnOk result (self.new.kept.rows ≡ rows_of_blocks self.old.blocks) }
         ensures ticks { OnOk result (steps.new + first ≡ steps.old + length case.now.parts.blocks) }
         ensures most { steps.new + first ≤ steps.old + length case.now.parts.blocks }
-        ensures fault { (H : List StepRecord) (known : List ℤ) → BlocksStandFor self.old.blocks H → IfErr result (λ e. blocks case.now.parts H known ≡ Err e) }
+        ensures fault { RefusesFactor result case.now.parts self.old }
         ensures var { IfErr result (NamesVariable case.now.parts) }
     {
         self.current = false;
@@ -150,8 +147,7 @@ impl<'a> BlockSystem<'a> {
         ensures kept { self.new.kept ≡ self.old.kept }
         ensures redone { self.new.redone ≡ self.old.redone }
         ensures small { OnOk result (AreUnknowns case.now.parts self.new.x.items) }
-        ensures solved { (H : List StepRecord) → BlocksStandFor self.old.blocks H → OnOk result (outcome (matrix case.now.parts H) (right case.now.parts H values.now) ≡ Ok self.new.x.items) }
-        ensures fault { (H : List StepRecord) → BlocksStandFor self.old.blocks H → IfErr result (λ e. blocks case.now.parts H values.now ≡ Err e) }
+        ensures finds { FindsOutputs result case.now.parts values.now self.old self.new }
         ensures var { IfErr result (NamesVariable case.now.parts) }
     {
         self.blocks.history(values, &mut self.right);
@@ -171,8 +167,7 @@ impl<'a> BlockSystem<'a> {
         ensures holds { HoldsSystem case.now.parts self.new }
         ensures kept { self.new.kept ≡ self.old.kept }
         ensures redone { self.new.redone ≡ self.old.redone }
-        ensures accepts { (H : List StepRecord) → BlocksStandFor self.old.blocks H → OnOk result (HaveAccepted self.new.blocks self.new.x.items H values.now self.old.x.items) }
-        ensures fault { (H : List StepRecord) → BlocksStandFor self.old.blocks H → outcome (matrix case.now.parts H) (right case.now.parts H values.now) ≡ Ok self.old.x.items → IfErr result (λ e. blocks case.now.parts H values.now ≡ Err e) }
+        ensures accepts { AcceptsOutputs result case.now.parts values.now self.old self.new }
         ensures small { OnOk result (AreUnknowns case.now.parts self.new.x.items) }
         ensures var { IfErr result (NamesVariable case.now.parts) }
     {

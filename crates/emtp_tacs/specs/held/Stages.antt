@@ -1,8 +1,8 @@
 -- What the stages of a step leave, one after the other.
-use Rattle.std.specs.Prelude.{◌≡◌, ◌≤◌, ◌<◌, ◌+◌, ℕ, ℤ, nat_lt, ◌&&◌, ◌||◌, if◌then◌else◌, Bool, false, true, List, ◌∷◌, length, slice_get, slice_index_or, Option, Some, None, Result, Ok, Err}
+use Rattle.std.specs.Prelude.{◌≡◌, ◌≤◌, ◌<◌, ◌+◌, ℕ, ℤ, nat_lt, ◌&&◌, ◌||◌, if◌then◌else◌, Bool, false, true, List, ◌∷◌, length, slice_get, slice_index_or, Option, Some, None, Result, Ok, Err, IfErr, MatchResult, OnOk}
 use Rattle.emtp_case.specs.held.Control.{AreKnown}
-use Rattle.emtp_blocks.specs.held.BlockRows.{Blocking, rows_of_blocks, StandsFor as BlocksStandFor}
-use Rattle.emtp_blocks.specs.System.{matrix}
+use Rattle.emtp_blocks.specs.held.BlockRows.{Blocking, HaveAccepted, rows_of_blocks, StandsFor as BlocksStandFor}
+use Rattle.emtp_blocks.specs.System.{matrix, right}
 use Rattle.emtp_case.specs.StepRecord.{StepRecord, latest, no_device}
 use Rattle.emtp_case.specs.declared.case.Parts.{Parts}
 use Rattle.emtp_case.specs.declared.control.Device.{Device}
@@ -12,11 +12,12 @@ use Rattle.emtp_case.specs.declared.control.Extra.TheVariants.{Formula as OfForm
 use Rattle.emtp_case.specs.declared.control.Formula.{Formula}
 use Rattle.emtp_devices.specs.Devices.{states_of}
 use Rattle.emtp_devices.specs.held.Devices.{HeldDevices, IsDeviceAt, Moves, StandsAt, StandsFor as DevicesStandFor}
+use Rattle.emtp_elim.specs.Outcome.{outcome}
 use Rattle.emtp_expr.specs.held.Value.{Evaluates}
 use Rattle.emtp_fix.specs.declared.limit.OutOfRange.{OutOfRange}
 use Rattle.emtp_tacs.specs.Part.{ControlPart}
 use Rattle.emtp_tacs.specs.held.Part.{control_of}
-use Rattle.emtp_tacs.specs.Step.{Measured, SoFar, Solved, extra_of, extras, formula_value, group_of, is_in_pass, known_before, sources}
+use Rattle.emtp_tacs.specs.Step.{Measured, SoFar, Solved, blocks, extra_of, extras, formula_value, group_of, is_in_pass, known_before, sources}
 use Rattle.emtp_tacs.specs.declared.block_system.BlockSystem.{BlockSystem}
 use Rattle.emtp_tacs.specs.declared.fault.TacsFault.{TacsFault}
 use Rattle.emtp_tacs.specs.declared.measured.Measurements.{Measurements}
@@ -151,6 +152,40 @@ Solves (Ok u) blocks values H (Ok s) = HaveMoved blocks values H s
 Solves (Ok u) blocks values H (Err fault) = ⊥
 Solves (Err e) blocks values H (Ok s) = ⊥
 Solves (Err e) blocks values H (Err fault) = e ≡ fault
+
+-- the blocks end with this fault, by what is known before them
+abbrev pub EndsBlocks : Parts → List StepRecord → List ℤ → TacsFault → Type 0
+EndsBlocks case H known e = blocks case H known ≡ Err e
+
+-- these are the outputs of the blocks before limiters and chains, by what is known before them
+abbrev pub IsSolution : Parts → List StepRecord → List ℤ → List ℤ → Type 0
+IsSolution case H known xs = outcome (matrix case H) (right case H known) ≡ Ok xs
+
+-- no factor of the blocks is made, whatever is known before them
+abbrev pub RefusesFactor : Result (Unit {0}) TacsFault → Parts → BlockSystem → Type 0
+RefusesFactor result case old =
+    (H : List StepRecord) (known : List ℤ) → BlocksStandFor old.blocks H → IfErr result (EndsBlocks case H known)
+
+-- the outputs are found, from all records for which the blocks stood
+abbrev pub FindsOutputs : Result (Unit {0}) TacsFault → Parts → List ℤ → BlockSystem → BlockSystem → Type 0
+FindsOutputs result case known old new =
+    (H : List StepRecord) → BlocksStandFor old.blocks H
+    → MatchResult result (λ u. IsSolution case H known new.x.items) (EndsBlocks case H known)
+
+-- the blocks take their outputs, from all records for which they stood
+abbrev pub AcceptsOutputs : Result (Unit {0}) TacsFault → Parts → List ℤ → BlockSystem → BlockSystem → Type 0
+AcceptsOutputs result case known old new =
+    (H : List StepRecord) → BlocksStandFor old.blocks H
+    → MatchResult result (λ u. HaveAccepted new.blocks new.x.items H known old.x.items) (λ e. IsSolution case H known old.x.items → EndsBlocks case H known e)
+
+-- the blocks of the step after the records are solved, and the factor is that of their matrix
+pub record AreSolved (result : Result (Unit {0}) TacsFault) (case : Parts) (H : List StepRecord) (known values : List ℤ) (s : BlockSystem) : Type 0 where
+  pub solves : Solves result s.blocks values H (blocks case H known)
+  pub kept : OnOk result (s.kept.rows ≡ matrix case H)
+
+abbrev pub SolvesBlocks : Result (Unit {0}) TacsFault → Parts → List ℤ → List ℤ → BlockSystem → BlockSystem → Type 0
+SolvesBlocks result case known values old new =
+    (H : List StepRecord) → BlocksStandFor old.blocks H → AreSolved result case H known values new
 
 -- ---- the whole step
 

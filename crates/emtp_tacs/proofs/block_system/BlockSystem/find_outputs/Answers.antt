@@ -19,8 +19,8 @@ returns-in-Ok-clause-small c =
     let sized : length c.solve.new.x ≡ length c.args.case.now.parts.blocks = c.solve.auto.x ∙ ap length c.deref_mut-3.ensures.value ∙ c.requires.holds.x in
     subst (AreUnknowns c.args.case.now.parts) (sym whole) (record { one_each = sized; small = all_small LARGEST_VALUE c.solve.new.x (λ i below. c.in-Ok.ensures.within i) })
 
-pub returns-in-Ok-clause-solved : goal.returns-in-Ok-clause-solved
-returns-in-Ok-clause-solved c = λ H stands.
+pub returns-in-Ok-clause-finds : goal.returns-in-Ok-clause-finds
+returns-in-Ok-clause-finds c = λ H stands.
     let case = c.args.case.now.parts in
     let known = c.args.values.now in
     let whole = with_items_is c.args.self.now.x c.solve.new.x (c.solve.auto.x ∙ c.deref_mut-3.ensures.len) in
@@ -29,8 +29,8 @@ returns-in-Ok-clause-solved c = λ H stands.
     let rows = c.requires.rows ∙ rows_are case c.args.self.now.blocks H c.requires.holds.case_is stands in
     sym (ap (λ m. outcome m c.deref_mut-2.result.now) rows ∙ ap (outcome (matrix case H)) read) ∙ c.in-Ok.ensures.solved ∙ ap Ok (sym whole)
 
-pub returns-in-Err-clause-fault : goal.returns-in-Err-clause-fault
-returns-in-Err-clause-fault c = λ H stands.
+pub returns-in-Err-clause-finds : goal.returns-in-Err-clause-finds
+returns-in-Err-clause-finds c = λ H stands.
     let case = c.args.case.now.parts in
     let known = c.args.values.now in
     let given = c.history.ensures.value H stands ∙ ap (λ (p : Parts). right p H known) c.requires.holds.case_is in

@@ -14,10 +14,10 @@ returns-then-count-eq0-clause-solves g c = λ H stands.
     let case = c.args.case.now.parts in
     let none : length case.blocks ≡ 0 = omega (arith, c.len-count.ensures) in
     let factored = subst (λ (b : Blocking). BlocksStandFor b H) (sym c.factor.ensures.blocks) stands in
-    none_solved case c.factor.new.self.blocks H c.args.values.now none c.factor.ensures.holds.case_is factored
-
-pub returns-then-count-eq0-clause-kept : goal.returns-then-count-eq0-clause-kept
-returns-then-count-eq0-clause-kept g c = λ H stands. c.in_ok-factor.ensures.rows ∙ rows_are c.args.case.now.parts c.args.self.now.blocks H c.requires.holds.case_is stands
+    record {
+      solves = none_solved case c.factor.new.self.blocks H c.args.values.now none c.factor.ensures.holds.case_is factored;
+      kept = c.in_ok-factor.ensures.rows ∙ rows_are case c.args.self.now.blocks H c.requires.holds.case_is stands;
+    }
 
 pub returns-then-count-eq0-clause-holds : goal.returns-then-count-eq0-clause-holds
 returns-then-count-eq0-clause-holds g c = c.factor.ensures.holds
@@ -40,13 +40,12 @@ returns-clause-solves g c = λ H stands.
     let known = c.args.values.now in
     let factored = subst (λ (b : Blocking). BlocksStandFor b H) (sym c.factor.ensures.blocks) stands in
     let solved = subst (λ (b : Blocking). BlocksStandFor b H) (sym c.find_outputs.ensures.blocks) factored in
-    let found = c.in_ok-find_outputs.ensures.solved H factored in
+    let found = c.in_ok-find_outputs.ensures.finds H factored in
     let took = c.in_ok-accept.ensures.accepts H solved in
-    system_solves case c.accept.new.self.blocks H known c.find_outputs.new.self.x.items c.accept.new.self.x.items c.put_outputs.new.values c.accept.ensures.holds.case_is found took (c.put_outputs.ensures.value ∙ ap (λ ys. with_outputs case ys (length case.blocks) known) c.deref.ensures.value)
-
-pub returns-clause-kept : goal.returns-clause-kept
-returns-clause-kept g c = λ H stands.
-    ap (λ (k : Good). k.rows) (c.accept.ensures.kept ∙ c.find_outputs.ensures.kept) ∙ c.in_ok-factor.ensures.rows ∙ rows_are c.args.case.now.parts c.args.self.now.blocks H c.requires.holds.case_is stands
+    record {
+      solves = system_solves case c.accept.new.self.blocks H known c.find_outputs.new.self.x.items c.accept.new.self.x.items c.put_outputs.new.values c.accept.ensures.holds.case_is found took (c.put_outputs.ensures.value ∙ ap (λ ys. with_outputs case ys (length case.blocks) known) c.deref.ensures.value);
+      kept = ap (λ (k : Good). k.rows) (c.accept.ensures.kept ∙ c.find_outputs.ensures.kept) ∙ c.in_ok-factor.ensures.rows ∙ rows_are c.args.case.now.parts c.args.self.now.blocks H c.requires.holds.case_is stands;
+    }
 
 pub returns-in_err-accept-clause-solves : goal.returns-in_err-accept-clause-solves
 returns-in_err-accept-clause-solves g c = λ H stands.
@@ -54,16 +53,22 @@ returns-in_err-accept-clause-solves g c = λ H stands.
     let known = c.args.values.now in
     let factored = subst (λ (b : Blocking). BlocksStandFor b H) (sym c.factor.ensures.blocks) stands in
     let solved = subst (λ (b : Blocking). BlocksStandFor b H) (sym c.find_outputs.ensures.blocks) factored in
-    let refused = c.in_err-accept.ensures.fault H solved (c.in_ok-find_outputs.ensures.solved H factored) in
+    let refused = c.in_err-accept.ensures.accepts H solved (c.in_ok-find_outputs.ensures.finds H factored) in
     let returned = err_from_is_err_and c.from_residual-in_err-accept.result c.from_residual-in_err-accept.ensures.1 in
-    subst (λ (r : Result (Unit {0}) TacsFault). Solves r c.accept.new.self.blocks known H (blocks case H known)) (sym (returned.1 ∙ ap Err returned.2)) (system_refuses case c.accept.new.self.blocks H known known _ refused)
+    record {
+      solves = subst (λ (r : Result (Unit {0}) TacsFault). Solves r c.accept.new.self.blocks known H (blocks case H known)) (sym (returned.1 ∙ ap Err returned.2)) (system_refuses case c.accept.new.self.blocks H known known _ refused);
+      kept = err_claims _ c.from_residual-in_err-accept.result _ c.from_residual-in_err-accept.ensures.1;
+    }
 
 pub returns-in_err-factor-clause-solves : goal.returns-in_err-factor-clause-solves
 returns-in_err-factor-clause-solves g c = λ H stands.
     let case = c.args.case.now.parts in
     let known = c.args.values.now in
     let returned = err_from_is_err_and c.from_residual.result c.from_residual.ensures.1 in
-    subst (λ (r : Result (Unit {0}) TacsFault). Solves r c.factor.new.self.blocks known H (blocks case H known)) (sym (returned.1 ∙ ap Err returned.2)) (system_refuses case c.factor.new.self.blocks H known known _ (c.in_err-factor.ensures.fault H known stands))
+    record {
+      solves = subst (λ (r : Result (Unit {0}) TacsFault). Solves r c.factor.new.self.blocks known H (blocks case H known)) (sym (returned.1 ∙ ap Err returned.2)) (system_refuses case c.factor.new.self.blocks H known known _ (c.in_err-factor.ensures.fault H known stands));
+      kept = err_claims _ c.from_residual.result _ c.from_residual.ensures.1;
+    }
 
 pub returns-in_err-find_outputs-clause-solves : goal.returns-in_err-find_outputs-clause-solves
 returns-in_err-find_outputs-clause-solves g c = λ H stands.
@@ -71,16 +76,16 @@ returns-in_err-find_outputs-clause-solves g c = λ H stands.
     let known = c.args.values.now in
     let factored = subst (λ (b : Blocking). BlocksStandFor b H) (sym c.factor.ensures.blocks) stands in
     let returned = err_from_is_err_and c.from_residual-in_err-find_outputs.result c.from_residual-in_err-find_outputs.ensures.1 in
-    subst (λ (r : Result (Unit {0}) TacsFault). Solves r c.find_outputs.new.self.blocks known H (blocks case H known)) (sym (returned.1 ∙ ap Err returned.2)) (system_refuses case c.find_outputs.new.self.blocks H known known _ (c.in_err-find_outputs.ensures.fault H factored))
+    record {
+      solves = subst (λ (r : Result (Unit {0}) TacsFault). Solves r c.find_outputs.new.self.blocks known H (blocks case H known)) (sym (returned.1 ∙ ap Err returned.2)) (system_refuses case c.find_outputs.new.self.blocks H known known _ (c.in_err-find_outputs.ensures.finds H factored));
+      kept = err_claims _ c.from_residual-in_err-find_outputs.result _ c.from_residual-in_err-find_outputs.ensures.1;
+    }
 
 pub returns-in_err-factor-clause-holds : goal.returns-in_err-factor-clause-holds
 returns-in_err-factor-clause-holds g c = c.factor.ensures.holds
 
 pub returns-in_err-factor-clause-redone : goal.returns-in_err-factor-clause-redone
 returns-in_err-factor-clause-redone g c = c.factor.ensures.redone
-
-pub returns-in_err-factor-clause-kept : goal.returns-in_err-factor-clause-kept
-returns-in_err-factor-clause-kept g c = λ H stands. err_claims _ c.from_residual.result _ c.from_residual.ensures.1
 
 pub returns-in_err-factor-clause-ticks : goal.returns-in_err-factor-clause-ticks
 returns-in_err-factor-clause-ticks g c = err_claims _ c.from_residual.result _ c.from_residual.ensures.1
@@ -100,9 +105,6 @@ returns-in_err-find_outputs-clause-holds g c = c.find_outputs.ensures.holds
 pub returns-in_err-find_outputs-clause-redone : goal.returns-in_err-find_outputs-clause-redone
 returns-in_err-find_outputs-clause-redone g c = c.find_outputs.ensures.redone ∙ c.factor.ensures.redone
 
-pub returns-in_err-find_outputs-clause-kept : goal.returns-in_err-find_outputs-clause-kept
-returns-in_err-find_outputs-clause-kept g c = λ H stands. err_claims _ c.from_residual-in_err-find_outputs.result _ c.from_residual-in_err-find_outputs.ensures.1
-
 pub returns-in_err-find_outputs-clause-ticks : goal.returns-in_err-find_outputs-clause-ticks
 returns-in_err-find_outputs-clause-ticks g c = err_claims _ c.from_residual-in_err-find_outputs.result _ c.from_residual-in_err-find_outputs.ensures.1
 
@@ -120,9 +122,6 @@ returns-in_err-accept-clause-holds g c = c.accept.ensures.holds
 
 pub returns-in_err-accept-clause-redone : goal.returns-in_err-accept-clause-redone
 returns-in_err-accept-clause-redone g c = c.accept.ensures.redone ∙ c.find_outputs.ensures.redone ∙ c.factor.ensures.redone
-
-pub returns-in_err-accept-clause-kept : goal.returns-in_err-accept-clause-kept
-returns-in_err-accept-clause-kept g c = λ H stands. err_claims _ c.from_residual-in_err-accept.result _ c.from_residual-in_err-accept.ensures.1
 
 pub returns-in_err-accept-clause-ticks : goal.returns-in_err-accept-clause-ticks
 returns-in_err-accept-clause-ticks g c = err_claims _ c.from_residual-in_err-accept.result _ c.from_residual-in_err-accept.ensures.1
