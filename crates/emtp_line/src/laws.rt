@@ -32,14 +32,21 @@ pub fn without_loss(dt: i64, zc: i64, delay: i64)
 pub fn arrives_whole(mode: &Mode)
     requires lossless { IsLossless mode.now }
     requires whole { mode.now.rest ≡ pos 0 }
-    ensures to { (past : List LineState) (v : ℤ) → (steps_before mode.now.steps past).from_wave ≡ wave_of mode.now v (steps_before mode.now.steps past).from_current → (line_histories mode.now past).1 ≡ neg_ℤ (near (mode.now.conductance *ℤ v) PICO +ℤ (steps_before mode.now.steps past).from_current) }
-    ensures from { (past : List LineState) (v : ℤ) → (steps_before mode.now.steps past).to_wave ≡ wave_of mode.now v (steps_before mode.now.steps past).to_current → (line_histories mode.now past).0 ≡ neg_ℤ (near (mode.now.conductance *ℤ v) PICO +ℤ (steps_before mode.now.steps past).to_current) }
+    ensures to { (past : List LineState) (v : ℤ)
+        → (steps_before mode.now.steps past).from_wave ≡ wave_of mode.now v (steps_before mode.now.steps past).from_current
+        → (line_histories mode.now past).1
+        ≡ neg_ℤ (near (mode.now.conductance *ℤ v) PICO +ℤ (steps_before mode.now.steps past).from_current) }
+    ensures from { (past : List LineState) (v : ℤ)
+        → (steps_before mode.now.steps past).to_wave ≡ wave_of mode.now v (steps_before mode.now.steps past).to_current
+        → (line_histories mode.now past).0
+        ≡ neg_ℤ (near (mode.now.conductance *ℤ v) PICO +ℤ (steps_before mode.now.steps past).to_current) }
 {}
 
 /// And not before: the history currents of a step depend on the records one travel time before it alone, whatever
 /// happened since.
 pub fn not_before(mode: &Mode)
-    ensures { (past other : List LineState) → MeetAtTravelTime mode.now past other → line_histories mode.now past ≡ line_histories mode.now other }
+    ensures { (past other : List LineState) → MeetAtTravelTime mode.now past other
+        → line_histories mode.now past ≡ line_histories mode.now other }
 {}
 
 /// Where both modes are one, a phase has the conductance of a single line and none to the others, and its current at a
@@ -47,13 +54,16 @@ pub fn not_before(mode: &Mode)
 pub fn equal_modes_part(mode: &Mode)
     ensures own { own_conductance (alike mode.now) ≡ mode.now.conductance }
     ensures coupling { mutual_conductance (alike mode.now) ≡ pos 0 }
-    ensures current { (histories v : List ℤ) (p : ℕ) → phase_current (alike mode.now) histories v p ≡ current_of mode.now (of_phase histories p) (of_phase v p) }
+    ensures current { (histories v : List ℤ) (p : ℕ)
+        → phase_current (alike mode.now) histories v p ≡ current_of mode.now (of_phase histories p) (of_phase v p) }
 {}
 
 /// Where both modes are one, the two waves of a phase add up to the wave of a single line, but for one unit of
 /// rounding in each of the two products.
 pub fn equal_modes_add_up(mode: &Mode)
-    ensures { (v i : List ℤ) (p : ℕ) → unsigned_abs ((zero_wave (alike mode.now) v i +ℤ phase_wave (alike mode.now) v i p) -ℤ wave_of mode.now (of_phase v p) (of_phase i p)) ≤ 2 }
+    ensures { (v i : List ℤ) (p : ℕ)
+        → unsigned_abs ((zero_wave (alike mode.now) v i +ℤ phase_wave (alike mode.now) v i p)
+        -ℤ wave_of mode.now (of_phase v p) (of_phase i p)) ≤ 2 }
 {}
 
 /// Where the voltages of an end cancel, and its history currents do, no wave of the zero sequence leaves it, to the last

@@ -20,7 +20,10 @@ use emtp_case::{Case, RowOrder, SwitchState};
 /// more, since a slack switch carries no current and opens by that.
 pub fn kinds_in_any_order(case: &Case, order: &RowOrder, states: &[SwitchState])
     requires order { IsRowOrder case.now.parts order.now }
-    ensures { (taken : List ℕ) → IsPermutation (closed_switches states.now) taken → kinds_of case.now.parts order.now states.now ≡ map (kind_of case.now.parts order.now (groups case.now.parts.switches (alone (length order.now.nodes)) taken)) order.now.nodes }
+    ensures { (taken : List ℕ) → IsPermutation (closed_switches states.now) taken
+        → kinds_of case.now.parts order.now states.now
+        ≡ map (kind_of case.now.parts order.now (groups case.now.parts.switches (alone (length order.now.nodes)) taken))
+        order.now.nodes }
 {}
 
 /// A breaker goes one way, from waiting over closed to opened, by at most one change a step: it never closes again.
@@ -33,7 +36,8 @@ pub fn breaker_goes_one_way(case: &Case, switch: usize)
 /// matter.
 pub fn tied_where_known_voltages_meet(case: &Case, order: &RowOrder, states: &[SwitchState])
     requires order { IsRowOrder case.now.parts order.now }
-    ensures { IsSome (tied_of case.now.parts.switches order.now states.now) ↔ KnownMeet order.now (labels_of case.now.parts.switches order.now states.now) }
+    ensures { IsSome (tied_of case.now.parts.switches order.now states.now)
+        ↔ KnownMeet order.now (labels_of case.now.parts.switches order.now states.now) }
 {}
 
 /// Kirchhoff's law at the nodes that closed switches join, whatever currents leave them through branches: at each node but the
@@ -42,6 +46,10 @@ pub fn tied_where_known_voltages_meet(case: &Case, order: &RowOrder, states: &[S
 pub fn switch_currents_balance(case: &Case, order: &RowOrder, states: &[SwitchState])
     requires order { IsRowOrder case.now.parts order.now }
     requires states { length states.now ≡ length case.now.parts.switches }
-    ensures nodes { (leaving : List ℤ) → length leaving ≡ length order.now.nodes → Balances case.now.parts.switches order.now states.now leaving (currents_of case.now.parts.switches order.now states.now leaving) }
-    ensures roots { (leaving : List ℤ) → length leaving ≡ length order.now.nodes → RootsBalance case.now.parts.switches order.now states.now leaving (currents_of case.now.parts.switches order.now states.now leaving) }
+    ensures nodes { (leaving : List ℤ) → length leaving ≡ length order.now.nodes
+        → Balances case.now.parts.switches order.now states.now leaving
+        (currents_of case.now.parts.switches order.now states.now leaving) }
+    ensures roots { (leaving : List ℤ) → length leaving ≡ length order.now.nodes
+        → RootsBalance case.now.parts.switches order.now states.now leaving
+        (currents_of case.now.parts.switches order.now states.now leaving) }
 {}
