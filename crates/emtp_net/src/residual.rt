@@ -1,17 +1,11 @@
 //! The residuals of a step.
 
-ghost use Rattle.std.specs.Prelude.{◌≡◌, ◌^◌, ◌<◌, ◌≤◌, ◌≤ℤ◌, false, ℕ, ℤ, List, pos, neg_ℤ, length, map, slice_get, unsigned_abs, IfSome};
+ghost use Rattle.std.specs.Prelude.{◌≡◌, ◌^◌, ◌<◌, ◌≤◌, ◌≤ℤ◌, false, ℕ, pos, neg_ℤ, length, map, unsigned_abs, IfSome};
 ghost use Rattle.emtp_elim.specs.Matrix.{item};
 ghost use Rattle.emtp_case.specs.RowOrder.{order_of};
-ghost use Rattle.emtp_case.specs.StepRecord.{BranchState, StepRecord};
 ghost use Rattle.emtp_net.specs.held.Branches.{HasCase};
-ghost use Rattle.emtp_net.specs.held.Judging.{IsUnbalanced, Judges, magnitude_in};
-ghost use Rattle.emtp_net.specs.held.Moving.{HaveMoved, IsNext};
+ghost use Rattle.emtp_net.specs.held.Judging.{IsUnbalanced, magnitude_in, FillsCurrents, FillsLeaving, JudgesRows};
 ghost use Rattle.emtp_net.specs.held.Sums.{AreUntied};
-ghost use Rattle.emtp_net.specs.Part.{brought_by, leaving_rows};
-ghost use Rattle.emtp_net.specs.System.{branch_sum, kinds_of};
-ghost use Rattle.emtp_net.specs.held.System.{source_values};
-ghost use Rattle.emtp_rows.specs.Nodal.{node_at};
 ghost use Rattle.emtp_rows.specs.held.Terms.{end_rows};
 
 use crate::branches::Branches;
@@ -78,7 +72,7 @@ fn add_currents(
     requires currents { length currents.now ≡ length case.now.parts.branches }
     requires out { length out.old ≡ length case.now.parts.nodes }
     requires zeros { (j : ℕ) → j < length out.old → item out.old j ≡ pos 0 }
-    ensures value { (H : List StepRecord) (vs : List ℤ) (r : StepRecord) → IsNext case.now.parts H vs r → HaveMoved branches.now currents.now case.now.parts H vs → (j : ℕ) → j < length out.old → item out.new j ≡ branch_sum case.now.parts (λ b. brought_by (slice_get r.branches b)) (node_at case.now.parts j) }
+    ensures value { FillsCurrents case.now.parts branches.now currents.now out.old out.new }
     ensures bound { (j : ℕ) → j < length out.old → unsigned_abs (item out.new j) ≤ 10 ^ 23 }
 {
     for at in 0..case.parts.branches.len() {
@@ -103,7 +97,7 @@ pub(crate) fn fill_leaving(
     requires currents { length currents.now ≡ length case.now.parts.branches }
     requires values { length values.now ≡ length case.now.parts.sources }
     requires out { length out.old ≡ length case.now.parts.nodes }
-    ensures value { (H : List StepRecord) (vs : List ℤ) (r : StepRecord) → IsNext case.now.parts H vs r → HaveMoved branches.now currents.now case.now.parts H vs → values.now ≡ source_values case.now.parts H → out.new ≡ leaving_rows case.now.parts H r.branches }
+    ensures value { FillsLeaving case.now.parts branches.now currents.now values.now out.new }
     ensures small { (j : ℕ) → j < length out.old → unsigned_abs (item out.new j) ≤ 10 ^ 24 }
 {
     out.fill(0);
@@ -123,7 +117,7 @@ pub(crate) fn judge(
     requires kinds { length kinds.now ≡ length case.now.parts.nodes }
     requires leaving { length leaving.old ≡ length case.now.parts.nodes }
     requires small { (j : ℕ) → j < length leaving.old → unsigned_abs (item leaving.old j) ≤ 10 ^ 24 }
-    ensures judges { (H : List StepRecord) (branches : List BranchState) → kinds.now ≡ kinds_of case.now.parts H → leaving.old ≡ leaving_rows case.now.parts H branches → Judges result case.now.parts H branches }
+    ensures judges { JudgesRows result case.now.parts kinds.now leaving.old }
     ensures there { IfSome result (λ p. p.0 < length case.now.parts.nodes) }
     ensures magnitude { IfSome result (λ p. pos 0 ≤ℤ p.1) }
 {

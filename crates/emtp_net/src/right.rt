@@ -1,19 +1,15 @@
 //! The right side of the nodal system.
 
 ghost use Rattle.emtp_case.specs.declared.limit.TheConstants.{MOST_SOURCES};
-ghost use Rattle.std.specs.Prelude.{◌≡◌, ◌+◌, ◌*◌, ◌^◌, ◌<◌, ◌≤◌, ◌+ℤ◌, if◌then◌else◌, false, ℕ, ℤ, pos, List, length, map, slice_index, unsigned_abs, IfOk};
+ghost use Rattle.std.specs.Prelude.{◌≡◌, ◌+◌, ◌*◌, ◌^◌, ◌<◌, ◌≤◌, if◌then◌else◌, false, ℕ, pos, length, map, slice_index, unsigned_abs, IfOk};
 ghost use Rattle.std.specs.List.{position, position_or_len};
 ghost use Rattle.emtp_case.specs.Source.{is_voltage_source_at};
 ghost use Rattle.emtp_case.specs.RowOrder.{order_of};
 ghost use Rattle.emtp_case.specs.declared.source.Source.{Source};
 ghost use Rattle.emtp_elim.specs.Matrix.{item};
-ghost use Rattle.emtp_case.specs.StepRecord.{StepRecord};
-ghost use Rattle.emtp_net.specs.held.Branches.{HasCase, StandsFor};
-ghost use Rattle.emtp_net.specs.System.{branch_sum, history_at, kinds_of, right};
-ghost use Rattle.emtp_net.specs.held.System.{source_values};
-ghost use Rattle.emtp_net.specs.held.Rights.{brought, places_of, row_value};
+ghost use Rattle.emtp_net.specs.held.Branches.{HasCase};
+ghost use Rattle.emtp_net.specs.held.Rights.{places_of, row_value, AddsSources, FillsHistories, FillsRight, SetsRows};
 ghost use Rattle.emtp_net.specs.held.Sums.{AreUntied};
-ghost use Rattle.emtp_rows.specs.Nodal.{kind_at, node_at};
 ghost use Rattle.emtp_rows.specs.held.Terms.{end_rows};
 ghost use Rattle.emtp_wave.specs.Wave.{value_of};
 
@@ -42,7 +38,7 @@ pub(crate) fn add_sources(case: &Case, order: &RowOrder, values: &[i64], out: &m
     requires values { length values.now ≡ length case.now.parts.sources }
     requires out { length out.old ≡ length case.now.parts.nodes }
     requires bound { (j : ℕ) → j < length out.old → unsigned_abs (item out.old j) ≤ 10 ^ 34 }
-    ensures value { (f : Source → ℤ) → values.now ≡ map f case.now.parts.sources → (j : ℕ) → j < length out.old → item out.new j ≡ item out.old j +ℤ brought f (node_at case.now.parts j) case.now.parts.sources }
+    ensures value { AddsSources case.now.parts values.now out.old out.new }
     ensures bound { (j : ℕ) → j < length out.old → unsigned_abs (item out.new j) ≤ unsigned_abs (item out.old j) + 500 * 10 ^ 19 }
 {
     let sources = case.parts.sources.as_slice();
@@ -70,7 +66,7 @@ fn current_of(source: &Source, value: i64) -> i128
 pub(crate) fn set_rows(kinds: &[RowKind], places: &[u32], values: &[i64], out: &mut [i128])
     requires kinds { length kinds.now ≡ length out.old }
     requires places { length places.now ≡ length out.old }
-    ensures { (j : ℕ) → j < length out.old → item out.new j ≡ row_value (item out.old j) (item values.now (slice_index places.now j)) (kind_at kinds.now j) }
+    ensures { SetsRows kinds.now places.now values.now out.old out.new }
 {
     for i in 0..kinds.len() {
         out[i] = row_value(kinds[i], out[i], voltage(places, values, i));
@@ -139,7 +135,7 @@ fn add_histories(case: &Case, rows: &[(u32, u32)], branches: &Branches<'_>, out:
     requires same { HasCase branches.now case.now.parts }
     requires out { length out.old ≡ length case.now.parts.nodes }
     requires zeros { (j : ℕ) → j < length out.old → item out.old j ≡ pos 0 }
-    ensures value { (H : List StepRecord) → StandsFor branches.now H → (j : ℕ) → j < length out.old → item out.new j ≡ branch_sum case.now.parts (history_at case.now.parts H) (node_at case.now.parts j) }
+    ensures value { FillsHistories case.now.parts branches.now out.old out.new }
     ensures bound { (j : ℕ) → j < length out.old → unsigned_abs (item out.new j) ≤ 10 ^ 34 }
 {
     for at in 0..case.parts.branches.len() {
@@ -168,7 +164,7 @@ pub(crate) fn fill_right(
     requires places { places.now ≡ places_of case.now.parts }
     requires values { length values.now ≡ length case.now.parts.sources }
     requires out { length out.old ≡ length case.now.parts.nodes }
-    ensures { (H : List StepRecord) → StandsFor branches.now H → kinds.now ≡ kinds_of case.now.parts H → values.now ≡ source_values case.now.parts H → out.new ≡ right case.now.parts H }
+    ensures { FillsRight case.now.parts branches.now kinds.now values.now out.new }
 {
     out.fill(0);
     add_histories(case, rows, branches, out);

@@ -1,13 +1,11 @@
 //! Sums of currents, by row.
 
 ghost use Rattle.emtp_case.specs.declared.limit.TheConstants.{MOST_NODES};
-ghost use Rattle.std.specs.Prelude.{◌≡◌, ◌+◌, ◌*◌, ◌^◌, ◌<◌, ◌≤◌, ◌==◌, ◌+ℤ◌, if◌then◌else◌, false, ℕ, ℤ, pos, length, map, slice_get, slice_set, unsigned_abs};
+ghost use Rattle.std.specs.Prelude.{◌≡◌, ◌*◌, ◌^◌, ◌<◌, ◌≤◌, ◌+ℤ◌, false, ℕ, length, map, slice_set, unsigned_abs};
 ghost use Rattle.emtp_case.specs.RowOrder.{order_of};
-ghost use Rattle.emtp_case.specs.declared.row_kind.RowKind.TheVariants.{Kcl, Sum};
 ghost use Rattle.emtp_elim.specs.Matrix.{item};
-ghost use Rattle.emtp_net.specs.held.Sums.{AreUntied, group_total, in_row, tied_to};
-ghost use Rattle.emtp_net.specs.System.{at_node};
-ghost use Rattle.emtp_rows.specs.Nodal.{kind_at, node_at};
+ghost use Rattle.emtp_net.specs.held.Sums.{AreUntied, in_row, AddsAt, AddsEnds, AddsTied, FoldsGroups};
+ghost use Rattle.emtp_rows.specs.Nodal.{kind_at};
 ghost use Rattle.emtp_rows.specs.held.Terms.{end_rows};
 ghost use Rattle.emtp_rows.specs.held.Touched.{is_sum, tied_row};
 
@@ -20,7 +18,7 @@ pub(crate) fn add_at(case: &Case, order: &RowOrder, node: u32, amount: i128, out
     requires out { length out.old ≡ length case.now.parts.nodes }
     requires small { unsigned_abs amount ≤ 10 ^ 30 }
     requires bound { (j : ℕ) → j < length out.old → unsigned_abs (item out.old j) ≤ 10 ^ 36 }
-    ensures { (j : ℕ) → j < length out.old → item out.new j ≡ item out.old j +ℤ (if node == node_at case.now.parts j then amount else pos 0) }
+    ensures { AddsAt case.now.parts node amount out.old out.new }
 {
     if node != 0 {
         let row = order.row_of(node);
@@ -72,7 +70,7 @@ pub(crate) fn add_ends(
     requires first { unsigned_abs ends.0 ≤ 10 ^ 30 }
     requires second { unsigned_abs ends.1 ≤ 10 ^ 30 }
     requires bound { (j : ℕ) → j < length out.old → unsigned_abs (item out.old j) ≤ 10 ^ 35 }
-    ensures { (j : ℕ) → j < length out.old → item out.new j ≡ item out.old j +ℤ at_node (node_at case.now.parts j) (slice_get case.now.parts.branches at) ends }
+    ensures { AddsEnds case.now.parts at ends out.old out.new }
 {
     add_in_rows(rows[at], ends, out);
 }
@@ -97,8 +95,7 @@ pub(crate) fn fold(ties: bool, kinds: &[RowKind], sums: &mut [i128])
     requires each { length kinds.now ≡ length sums.old }
     requires few { length sums.old ≤ MOST_NODES }
     requires small { (j : ℕ) → j < length sums.old → unsigned_abs (item sums.old j) ≤ 2 * 10 ^ 34 }
-    ensures sum { (j : ℕ) → j < length sums.old → kind_at kinds.now j ≡ Sum → item sums.new j ≡ group_total kinds.now (item sums.old) j }
-    ensures node { (j : ℕ) → j < length sums.old → kind_at kinds.now j ≡ Kcl → item sums.new j ≡ item sums.old j }
+    ensures groups { FoldsGroups kinds.now sums.old sums.new }
     ensures bound { (j : ℕ) → j < length sums.old → unsigned_abs (item sums.new j) ≤ 10 ^ 38 }
 {
     if ties {
@@ -111,8 +108,7 @@ fn fold_rows(kinds: &[RowKind], sums: &mut [i128])
     requires each { length kinds.now ≡ length sums.old }
     requires few { length sums.old ≤ MOST_NODES }
     requires small { (j : ℕ) → j < length sums.old → unsigned_abs (item sums.old j) ≤ 2 * 10 ^ 34 }
-    ensures sum { (j : ℕ) → j < length sums.old → kind_at kinds.now j ≡ Sum → item sums.new j ≡ group_total kinds.now (item sums.old) j }
-    ensures node { (j : ℕ) → j < length sums.old → kind_at kinds.now j ≡ Kcl → item sums.new j ≡ item sums.old j }
+    ensures groups { FoldsGroups kinds.now sums.old sums.new }
     ensures bound { (j : ℕ) → j < length sums.old → unsigned_abs (item sums.new j) ≤ 10 ^ 38 }
 {
     for k in 0..kinds.len() {
@@ -126,7 +122,7 @@ fn fold_row(kinds: &[RowKind], k: usize, sums: &mut [i128])
     requires there { k < length kinds.now }
     requires amount { is_sum (kind_at kinds.now k) ≡ false → unsigned_abs (item sums.old k) ≤ 2 * 10 ^ 34 }
     requires bound { (j : ℕ) → j < length sums.old → unsigned_abs (item sums.old j) ≤ 4 * 10 ^ 37 }
-    ensures { (j : ℕ) → j < length sums.old → item sums.new j ≡ item sums.old j +ℤ (if tied_to kinds.now j k then item sums.old k else pos 0) }
+    ensures { AddsTied kinds.now k sums.old sums.new }
 {
     let to = tied_row(kinds, kinds[k]);
     let amount = sums[k];

@@ -17,8 +17,8 @@ returns-clause-judges c = λ H branches kinds leave.
     let above = rw (wide c) at c.first_above.ensures in
     let long : length c.fold.new.sums ≡ n = omega (arith, c.fold.auto.sums, c.requires.leaving) in
     judged case H branches c.args.kinds.now c.args.leaving.now c.fold.new.sums c.first_above.result kinds c.requires.kinds long leave
-    (λ j below sum. c.fold.ensures.sum j (omega (arith, below, c.requires.leaving)) sum)
-    (λ j below kcl. c.fold.ensures.node j (omega (arith, below, c.requires.leaving)) kcl)
+    (λ j below sum. c.fold.ensures.groups.sum j (omega (arith, below, c.requires.leaving)) sum)
+    (λ j below kcl. c.fold.ensures.groups.node j (omega (arith, below, c.requires.leaving)) kcl)
     above
 
 pub returns-clause-there : goal.returns-clause-there

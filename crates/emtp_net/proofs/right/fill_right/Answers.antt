@@ -18,8 +18,8 @@ returns c = λ H stands kinds values.
     (λ k below.
     c.add_sources.ensures.value (source_value case H) values k (omega (arith, below, s1))
     ∙ ap (λ x. x +ℤ sources_into case H (node_at case k)) (c.add_histories.ensures.value H stands k (omega (arith, below, s1, c.add_histories.auto.out))))
-    (λ j below sum. c.fold.ensures.sum j (omega (arith, below, s2)) sum)
-    (λ j below kcl. c.fold.ensures.node j (omega (arith, below, s2)) kcl)
+    (λ j below sum. c.fold.ensures.groups.sum j (omega (arith, below, s2)) sum)
+    (λ j below kcl. c.fold.ensures.groups.node j (omega (arith, below, s2)) kcl)
     (λ j below. c.set_rows.ensures j (omega (arith, below, s3)))
 
 pub set_rows-requires-clause-places : goal.set_rows-requires-clause-places

@@ -18,15 +18,14 @@ fold_row-requires-clause-bound c = λ j below.
 pub loop-k-preserved : goal.loop-k-preserved
 loop-k-preserved c = folded_more c.args.kinds.now c.loop-k.k c.args.sums.now c.loop-k.sums c.fold_row.new.sums c.requires.each (omega (arith, c.loop-k-test.true, c.requires.each)) c.fold_row.auto.sums c.loop-k.invariant c.fold_row.ensures
 
-pub returns-clause-sum : goal.returns-clause-sum
-returns-clause-sum c = λ j below sum.
-    let end : c.loop-k.k ≡ length c.args.kinds.now = omega arith in
-    let all = rw end at (c.loop-k.invariant.sums j below) in
-    all ∙ sym (group_is c.args.kinds.now (item c.args.sums.now) j (omega (arith, below, c.requires.each)) sum)
-
-pub returns-clause-node : goal.returns-clause-node
-returns-clause-node c = λ j below kcl.
-    folded_plain c.args.kinds.now c.loop-k.k c.args.sums.now c.loop-k.sums j c.requires.each c.loop-k.invariant below (rw kcl refl)
+pub returns-clause-groups : goal.returns-clause-groups
+returns-clause-groups c = record {
+  sum = λ j below sum.
+      let end : c.loop-k.k ≡ length c.args.kinds.now = omega arith in
+      let all = rw end at (c.loop-k.invariant.sums j below) in
+      all ∙ sym (group_is c.args.kinds.now (item c.args.sums.now) j (omega (arith, below, c.requires.each)) sum);
+  node = λ j below kcl. folded_plain c.args.kinds.now c.loop-k.k c.args.sums.now c.loop-k.sums j c.requires.each c.loop-k.invariant below (rw kcl refl);
+}
 
 pub returns-clause-bound : goal.returns-clause-bound
 returns-clause-bound c = λ j below.
