@@ -1,15 +1,15 @@
 //! All branches of a case, by their laws.
 
-ghost use Rattle.std.specs.Prelude.{◌≡◌, ◌+◌, ◌^◌, ◌<◌, ◌≤◌, ◌∷◌, [], false, true, ℤ, List, length, slice_get, unsigned_abs, IfErr, IfOk, OnOk};
-ghost use Rattle.emtp_case.specs.StepRecord.{StepRecord, branch_current_at, rest_of};
+ghost use Rattle.std.specs.Prelude.{◌≡◌, ◌+◌, ◌^◌, ◌<◌, ◌≤◌, ◌∷◌, [], List, length, unsigned_abs, IfErr, IfOk};
+ghost use Rattle.emtp_case.specs.StepRecord.{StepRecord, rest_of};
 ghost use Rattle.emtp_fix.specs.declared.limit.TheConstants.{LARGEST_ENTRY};
 ghost use Rattle.emtp_net.specs.held.Branches.{HasCase, StandsFor};
 ghost use Rattle.emtp_net.specs.held.Fault.{NamesNode};
-ghost use Rattle.emtp_net.specs.Redone.{step_redone};
-ghost use Rattle.emtp_net.specs.held.Stages.{AreVoltages, Ends};
-ghost use Rattle.emtp_net.specs.held.Moving.{AreCurrents, AreLineCurrents, HasMoved, HasStopped, HaveMoved, IsFirstOut, IsNext, StandsBefore};
-ghost use Rattle.emtp_net.specs.Part.{brought_by, phase_voltages};
-ghost use Rattle.emtp_net.specs.System.{conductance_by, history_at, taken, through};
+ghost use Rattle.emtp_net.specs.held.Stages.{TakesVoltages};
+ghost use Rattle.emtp_net.specs.held.Moving.{IsBroughtAt, IsCurrentAt, MovesAll, MovesAt};
+ghost use Rattle.emtp_net.specs.held.System.{conductance_at};
+ghost use Rattle.emtp_net.specs.Part.{phase_voltages};
+ghost use Rattle.emtp_net.specs.System.{history_at, taken, through};
 
 use crate::fault::NetFault;
 use emtp_case::{Branch, Case, branch_name};
@@ -51,7 +51,7 @@ impl<'a> Branches<'a> {
         requires same { HasCase self.now case.now.parts }
         requires there { at < length case.now.parts.branches }
         ensures small { unsigned_abs result ≤ LARGEST_ENTRY }
-        ensures value { (H : List StepRecord) → StandsFor self.now H → result ≡ conductance_by case.now.parts H at (slice_get case.now.parts.branches at) }
+        ensures value { (H : List StepRecord) → StandsFor self.now H → result ≡ conductance_at case.now.parts H at }
     {
         match case.parts.branches.as_slice()[at] {
             Branch::Lumped(_) => self.lumps.conductance(at),
@@ -85,8 +85,7 @@ impl<'a> Branches<'a> {
         requires there { at < length case.now.parts.branches }
         ensures same { HasCase self.new case.now.parts }
         ensures there { IfErr result (λ out. out < length case.now.parts.branches) }
-        ensures moved { (H : List StepRecord) → StandsBefore self.old case.now.parts H voltages.now at → IfOk result (HasMoved self.old self.new case.now.parts H voltages.now at) }
-        ensures stopped { (H : List StepRecord) → StandsBefore self.old case.now.parts H voltages.now at → IfErr result (HasStopped case.now.parts H voltages.now at) }
+        ensures moves { MovesAt result case.now.parts voltages.now at self.old self.new }
     {
         let branch = case.parts.branches.as_slice()[at];
         let (from, to) = branch.ends();
@@ -131,8 +130,7 @@ impl<'a> Branches<'a> {
         requires currents { length currents.old ≡ length case.now.parts.branches }
         ensures same { HasCase self.new case.now.parts }
         ensures there { IfErr result (λ out. out < length case.now.parts.branches) }
-        ensures moved { (H : List StepRecord) → StandsFor self.old H → OnOk result (HaveMoved self.new currents.new case.now.parts H voltages.now) }
-        ensures stopped { (H : List StepRecord) → StandsFor self.old H → IfErr result (IsFirstOut case.now.parts H voltages.now) }
+        ensures moves { MovesAll result case.now.parts voltages.now currents.new self.old self.new }
     {
         for at in 0..case.parts.branches.len() {
             match self.accept_one(case, voltages, at) {
@@ -154,8 +152,7 @@ impl<'a> Branches<'a> {
         requires each { length voltages.now ≡ length case.now.parts.nodes + 1 }
         requires currents { length currents.old ≡ length case.now.parts.branches }
         ensures same { HasCase self.new case.now.parts }
-        ensures moved { (H : List StepRecord) → StandsFor self.old H → OnOk result (HaveMoved self.new currents.new case.now.parts H voltages.now) }
-        ensures ends { (H : List StepRecord) → StandsFor self.old H → AreVoltages case.now.parts H voltages.now → IfErr result (Ends case.now.parts H (step_redone case.now.parts H)) }
+        ensures moves { TakesVoltages result case.now.parts voltages.now currents.new self.old self.new }
         ensures node { IfErr result (NamesNode case.now.parts) }
     {
         match self.accept_all(case, voltages, currents) {
@@ -170,7 +167,7 @@ impl<'a> Branches<'a> {
         requires same { HasCase self.now case.now.parts }
         requires currents { length currents.now ≡ length case.now.parts.branches }
         requires there { at < length case.now.parts.branches }
-        ensures { (r : StepRecord) (past : List StepRecord) → StandsFor self.now (r ∷ past) → AreCurrents case.now.parts currents.now r (length case.now.parts.branches) → AreLineCurrents case.now.parts r → result ≡ branch_current_at at r }
+        ensures { IsCurrentAt result self.now case.now.parts currents.now at }
     {
         match case.parts.branches.as_slice()[at] {
             Branch::Lumped(_) => currents[at],
@@ -188,7 +185,7 @@ impl<'a> Branches<'a> {
         requires there { at < length case.now.parts.branches }
         ensures first { unsigned_abs result.0 ≤ 10 ^ 19 }
         ensures second { unsigned_abs result.1 ≤ 10 ^ 19 }
-        ensures value { (H : List StepRecord) (vs : List ℤ) (r : StepRecord) → IsNext case.now.parts H vs r → HaveMoved self.now currents.now case.now.parts H vs → result ≡ brought_by (slice_get r.branches at) }
+        ensures value { IsBroughtAt result self.now case.now.parts currents.now at }
     {
         match case.parts.branches.as_slice()[at] {
             Branch::Lumped(_) => through_narrow(currents[at]),

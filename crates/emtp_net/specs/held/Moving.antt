@@ -1,5 +1,5 @@
 -- Taking the voltages into one branch after the other.
-use Rattle.std.specs.Prelude.{◌≡◌, ◌+◌, ◌<◌, ◌≤◌, ◌∷◌, ℕ, ℤ, if◌then◌else◌, nat_lt, List, length, slice_get, IsSome, Option, Some, None}
+use Rattle.std.specs.Prelude.{◌≡◌, ◌+◌, ◌<◌, ◌≤◌, ◌∷◌, ℕ, ℤ, if◌then◌else◌, nat_lt, List, length, slice_get, IsSome, MatchResult, Option, Some, None, Result}
 use Rattle.emtp_case.specs.Branch.{first_of_trio}
 use Rattle.emtp_case.specs.StepRecord.{StepRecord, branch_current_at, line_at, phase_state_at}
 use Rattle.emtp_case.specs.declared.branch.Branch.{Branch}
@@ -17,7 +17,7 @@ use Rattle.emtp_lumped.specs.held.Lumps as held_lumped
 use Rattle.emtp_pseudo.specs.Pseudos as pseudo
 use Rattle.emtp_pseudo.specs.held.Pseudos as held_pseudo
 use Rattle.emtp_net.specs.held.Branches.{StandsFor}
-use Rattle.emtp_net.specs.Part.{state_at, states_at}
+use Rattle.emtp_net.specs.Part.{brought_by, state_at, states_at}
 use Rattle.emtp_net.specs.declared.branches.Branches.{Branches}
 
 -- a record that may follow: its voltages are these, and its branches what the laws make of them
@@ -90,3 +90,27 @@ pub record HaveMoved (s : Branches) (currents : List ℤ) (case : Parts) (H : Li
 pub record AreLineCurrents (case : Parts) (r : StepRecord) : Type 0 where
   pub lines : (b : ℕ) (x : Line) → held_lined.IsLineAt case b x → branch_current_at b r ≡ (line_at b r).from_current
   pub phases : (b : ℕ) (x : Phase) → held_lined.IsPhaseAt case b x → branch_current_at b r ≡ (phase_state_at b r).from_current
+
+-- ---- what each call answers and leaves, for all records for which the branches stood
+
+-- the branch at a place takes the voltages
+abbrev pub MovesAt : Result ℤ ℕ → Parts → List ℤ → ℕ → Branches → Branches → Type 0
+MovesAt result case vs at s t =
+    (H : List StepRecord) → StandsBefore s case H vs at → MatchResult result (HasMoved s t case H vs at) (HasStopped case H vs at)
+
+-- all branches take them; an error is the first one out of range
+abbrev pub MovesAll : Result (Unit {0}) ℕ → Parts → List ℤ → List ℤ → Branches → Branches → Type 0
+MovesAll result case vs currents s t =
+    (H : List StepRecord) → StandsFor s H → MatchResult result (λ u. HaveMoved t currents case H vs) (IsFirstOut case H vs)
+
+-- the current of the branch at a place in the last record
+abbrev pub IsCurrentAt : ℤ → Branches → Parts → List ℤ → ℕ → Type 0
+IsCurrentAt i s case currents at =
+    (r : StepRecord) (past : List StepRecord) → StandsFor s (r ∷ past) → AreCurrents case currents r (length case.branches) → AreLineCurrents case r
+    → i ≡ branch_current_at at r
+
+-- what the branch at a place brings to its two nodes, once all branches moved to a record
+abbrev pub IsBroughtAt : ℤ × ℤ → Branches → Parts → List ℤ → ℕ → Type 0
+IsBroughtAt ends s case currents at =
+    (H : List StepRecord) (vs : List ℤ) (r : StepRecord) → IsNext case H vs r → HaveMoved s currents case H vs
+    → ends ≡ brought_by (slice_get r.branches at)

@@ -1,5 +1,5 @@
 -- What the stages of a step find, one after the other, each with the records alone.
-use Rattle.std.specs.Prelude.{◌≡◌, ◌+◌, ◌<◌, ℕ, ℤ, IsSome, List, length, None, Ok, Err}
+use Rattle.std.specs.Prelude.{◌≡◌, ◌+◌, ◌<◌, ℕ, ℤ, IsSome, List, length, MatchResult, None, Result, Ok, Err}
 use Rattle.emtp_case.specs.RowOrder.{order_of}
 use Rattle.emtp_case.specs.StepRecord.{StepRecord}
 use Rattle.emtp_case.specs.declared.case.Parts.{Parts}
@@ -11,6 +11,7 @@ use Rattle.emtp_switch.specs.States.{next_states}
 use Rattle.emtp_switch.specs.held.Switching.{Switching}
 use Rattle.emtp_tail.specs.held.Good.{Good}
 use Rattle.emtp_net.specs.held.Branches.{StandsFor as BranchesStandFor}
+use Rattle.emtp_net.specs.held.Moving.{HaveMoved}
 use Rattle.emtp_net.specs.Part.{state_at, states_at, switch_currents_at, voltages_of}
 use Rattle.emtp_net.specs.Redone.{step_redone}
 use Rattle.emtp_net.specs.held.Redone.{last_matrix}
@@ -77,6 +78,13 @@ pub record AreVoltages (case : Parts) (H : List StepRecord) (vs : List ℤ) : Ty
   pub are : vs ≡ voltages_of case x
 
 -- ---- currents
+
+-- The branches take the voltages: they have moved, for all records for which they stood. An error ends the step, where the
+-- voltages are those of its records.
+abbrev pub TakesVoltages : Result (Unit {0}) NetFault → Parts → List ℤ → List ℤ → Branches → Branches → Type 0
+TakesVoltages result case vs currents s t =
+    (H : List StepRecord) → BranchesStandFor s H
+    → MatchResult result (λ u. HaveMoved t currents case H vs) (λ e. AreVoltages case H vs → Ends case H (step_redone case H) e)
 
 -- each branch is in range at these voltages
 abbrev pub AllInRange : Parts → List StepRecord → List ℤ → Type 0

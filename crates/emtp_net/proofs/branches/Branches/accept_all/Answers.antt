@@ -23,19 +23,19 @@ loop-at-preserved c =
     let inside : at < length c.loop-at.currents = omega (arith, c.loop-at-test.true, c.len-at-end.ensures, c.loop-at.auto.currents, c.requires.currents) in
     record {
       same = c.in-Ok.ensures.same;
-      stands = λ H stands r next. let moved = c.in-Ok.ensures.moved H (c.loop-at.invariant.stands H stands) in moved.stands r next (c.loop-at.invariant.stands H stands r next);
-      in_range = λ H stands. let moved = c.in-Ok.ensures.moved H (c.loop-at.invariant.stands H stands) in range_more case H vs at (c.loop-at.invariant.in_range H stands) moved.in_range;
+      stands = λ H stands r next. let moved = c.in-Ok.ensures.moves H (c.loop-at.invariant.stands H stands) in moved.stands r next (c.loop-at.invariant.stands H stands r next);
+      in_range = λ H stands. let moved = c.in-Ok.ensures.moves H (c.loop-at.invariant.stands H stands) in range_more case H vs at (c.loop-at.invariant.in_range H stands) moved.in_range;
       currents = λ H r stands next.
-          let moved = c.in-Ok.ensures.moved H (c.loop-at.invariant.stands H stands) in
+          let moved = c.in-Ok.ensures.moves H (c.loop-at.invariant.stands H stands) in
           rw wide (currents_more case c.loop-at.currents at i r inside (c.loop-at.invariant.currents H r stands next) (λ x. moved.lumped x r next) (λ x. moved.pseudo x r next));
     }
 
-pub returns-in-Err-clause-stopped : goal.returns-in-Err-clause-stopped
-returns-in-Err-clause-stopped c = λ H stands.
-    first_out c.args.case.now.parts H c.args.voltages.now c.loop-at.at c.in-Err.out c.args.case.now.fits.draft.network (c.loop-at.invariant.in_range H stands) (c.in-Err.ensures.stopped H (c.loop-at.invariant.stands H stands))
+pub returns-in-Err-clause-moves : goal.returns-in-Err-clause-moves
+returns-in-Err-clause-moves c = λ H stands.
+    first_out c.args.case.now.parts H c.args.voltages.now c.loop-at.at c.in-Err.out c.args.case.now.fits.draft.network (c.loop-at.invariant.in_range H stands) (c.in-Err.ensures.moves H (c.loop-at.invariant.stands H stands))
 
-pub returns-clause-moved : goal.returns-clause-moved
-returns-clause-moved c = λ H stands.
+pub returns-clause-moves : goal.returns-clause-moves
+returns-clause-moves c = λ H stands.
     let case = c.args.case.now.parts in
     let vs = c.args.voltages.now in
     let n = c.loop-at.at in

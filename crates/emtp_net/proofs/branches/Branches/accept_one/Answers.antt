@@ -13,8 +13,8 @@ use Rattle.emtp_net.proofs.PhaseMoves.{phase_waits, trio_moves, trio_stops}
 use Rattle.emtp_rows.proofs.Phases.{phase_there}
 use Rattle.emtp_net.proofs.branches.Branches.accept_one.Goals as goal
 
-pub returns-in-Ok-clause-moved : goal.returns-in-Ok-clause-moved
-returns-in-Ok-clause-moved c = λ H before.
+pub returns-in-Ok-clause-moves : goal.returns-in-Ok-clause-moves
+returns-in-Ok-clause-moves c = λ H before.
     let case = c.args.case.now.parts in
     let vs = c.args.voltages.now in
     let x = c.in-Lumped.field-0 in
@@ -29,8 +29,8 @@ returns-in-Ok-clause-moved c = λ H before.
     let wide : to_z w64 (of_z w64 c.in-Ok.current) ≡ c.in-Ok.current = to_z-of_z w64 _ fits in
     rw wide (lumped_moves case H vs c.args.at x c.args.self.now _ c.in-Ok.current c.args.case.now.fits.draft.network c.requires.same c.requires.there is refl refl moves before)
 
-pub returns-in-Err-clause-stopped : goal.returns-in-Err-clause-stopped
-returns-in-Err-clause-stopped c = λ H before.
+pub returns-in-Err-clause-moves : goal.returns-in-Err-clause-moves
+returns-in-Err-clause-moves c = λ H before.
     let case = c.args.case.now.parts in
     let vs = c.args.voltages.now in
     let x = c.in-Lumped.field-0 in
@@ -43,8 +43,8 @@ returns-in-Err-clause-stopped c = λ H before.
     let moves = rw (ap (λ (e : ℕ × ℕ). e.0) ends, ap (λ (e : ℕ × ℕ). e.1) ends, one, two) at c.in-Err.ensures in
     lumped_stops case H vs c.args.at x c.args.self.now (record c.args.self.now { lumps = c.accept.new.self }) c.in-Err.field-0 c.requires.same c.requires.there is moves before
 
-pub returns-in-Ok-accept-clause-moved : goal.returns-in-Ok-accept-clause-moved
-returns-in-Ok-accept-clause-moved c = λ H before.
+pub returns-in-Ok-accept-clause-moves : goal.returns-in-Ok-accept-clause-moves
+returns-in-Ok-accept-clause-moves c = λ H before.
     let case = c.args.case.now.parts in
     let vs = c.args.voltages.now in
     let x = c.in-Line.field-0 in
@@ -59,8 +59,8 @@ returns-in-Ok-accept-clause-moved c = λ H before.
     let wide : to_z w64 (of_z w64 c.in-Ok-accept.current) ≡ c.in-Ok-accept.current = to_z-of_z w64 _ fits in
     rw wide (line_moves case H vs c.args.at x c.args.self.now _ c.in-Ok-accept.current c.args.case.now.fits.draft.network c.requires.same c.requires.there is refl refl moves before)
 
-pub returns-in-Err-accept-clause-stopped : goal.returns-in-Err-accept-clause-stopped
-returns-in-Err-accept-clause-stopped c = λ H before.
+pub returns-in-Err-accept-clause-moves : goal.returns-in-Err-accept-clause-moves
+returns-in-Err-accept-clause-moves c = λ H before.
     let case = c.args.case.now.parts in
     let vs = c.args.voltages.now in
     let x = c.in-Line.field-0 in
@@ -73,8 +73,8 @@ returns-in-Err-accept-clause-stopped c = λ H before.
     let moves = rw (ap (λ (e : ℕ × ℕ). e.0) ends, ap (λ (e : ℕ × ℕ). e.1) ends, one, two) at c.in-Err-accept.ensures in
     line_stops case H vs c.args.at x c.args.self.now (record c.args.self.now { lines = c.accept-in-Line.new.self }) c.in-Err-accept.field-0 c.requires.same c.requires.there is moves before
 
-pub returns-in-Ok-accept-2-clause-moved : goal.returns-in-Ok-accept-2-clause-moved
-returns-in-Ok-accept-2-clause-moved c = λ H before.
+pub returns-in-Ok-accept-2-clause-moves : goal.returns-in-Ok-accept-2-clause-moves
+returns-in-Ok-accept-2-clause-moves c = λ H before.
     let case = c.args.case.now.parts in
     let vs = c.args.voltages.now in
     let x = c.in-Pseudo.field-0 in
@@ -89,8 +89,8 @@ returns-in-Ok-accept-2-clause-moved c = λ H before.
     let wide : to_z w64 (of_z w64 c.in-Ok-accept-2.current) ≡ c.in-Ok-accept-2.current = to_z-of_z w64 _ fits in
     rw wide (pseudo_moves case H vs c.args.at x c.args.self.now _ c.in-Ok-accept-2.current c.args.case.now.fits.draft.network c.requires.same c.requires.there is refl refl moves before)
 
-pub returns-in-Err-accept-2-clause-stopped : goal.returns-in-Err-accept-2-clause-stopped
-returns-in-Err-accept-2-clause-stopped c = λ H before.
+pub returns-in-Err-accept-2-clause-moves : goal.returns-in-Err-accept-2-clause-moves
+returns-in-Err-accept-2-clause-moves c = λ H before.
     let case = c.args.case.now.parts in
     let vs = c.args.voltages.now in
     let x = c.in-Pseudo.field-0 in
@@ -103,8 +103,8 @@ returns-in-Err-accept-2-clause-stopped c = λ H before.
     let moves = rw (ap (λ (e : ℕ × ℕ). e.0) ends, ap (λ (e : ℕ × ℕ). e.1) ends, one, two) at c.in-Err-accept-2.ensures in
     pseudo_stops case H vs c.args.at x c.args.self.now (record c.args.self.now { pseudos = c.accept-in-Pseudo.new.self }) c.in-Err-accept-2.field-0 c.requires.same c.requires.there is moves before
 
-pub returns-then-b-ne0-clause-moved : goal.returns-then-b-ne0-clause-moved
-returns-then-b-ne0-clause-moved c = λ H before.
+pub returns-then-b-ne0-clause-moves : goal.returns-then-b-ne0-clause-moves
+returns-then-b-ne0-clause-moves c = λ H before.
     let case = c.args.case.now.parts in
     let x = c.in-Phase.b in
     let is : slice_get case.branches c.args.at ≡ Some (OfPhase x) = branch_read case _ c.args.at _ (OfPhase x) c.as_slice.ensures c.requires.there c.in-Phase.is in
@@ -113,16 +113,16 @@ returns-then-b-ne0-clause-moved c = λ H before.
 pub overflow_add-result : goal.overflow_add-result
 overflow_add-result c = omega (arith, c.requires.there, c.args.case.now.fits.draft.counts.branches, c.in-Err-accept_three.ensures.phase)
 
-pub returns-in-Ok-accept_three-clause-moved : goal.returns-in-Ok-accept_three-clause-moved
-returns-in-Ok-accept_three-clause-moved c = λ H before.
+pub returns-in-Ok-accept_three-clause-moves : goal.returns-in-Ok-accept_three-clause-moves
+returns-in-Ok-accept_three-clause-moves c = λ H before.
     let case = c.args.case.now.parts in
     let x = c.in-Phase.b in
     let is : slice_get case.branches c.args.at ≡ Some (OfPhase x) = branch_read case _ c.args.at _ (OfPhase x) c.as_slice.ensures c.requires.there c.in-Phase.is in
     let moves = rw (c.phase_voltages-v.ensures, c.phase_voltages-w.ensures) at c.in-Ok-accept_three.ensures in
     trio_moves case H c.args.voltages.now c.args.at x c.args.self.now _ c.in-Ok-accept_three.field-0 _ c.args.case.now.fits.draft.network c.requires.same c.requires.there is c.if-b-ne0.false refl refl moves before
 
-pub returns-in-Err-accept_three-clause-stopped : goal.returns-in-Err-accept_three-clause-stopped
-returns-in-Err-accept_three-clause-stopped c = λ H before.
+pub returns-in-Err-accept_three-clause-moves : goal.returns-in-Err-accept_three-clause-moves
+returns-in-Err-accept_three-clause-moves c = λ H before.
     let case = c.args.case.now.parts in
     let x = c.in-Phase.b in
     let is : slice_get case.branches c.args.at ≡ Some (OfPhase x) = branch_read case _ c.args.at _ (OfPhase x) c.as_slice.ensures c.requires.there c.in-Phase.is in

@@ -228,7 +228,7 @@ returns-in_err-accept g c =
           let read = c.deref-3.ensures.value ∙ with_items_is c.self.inside.voltages c.solve.new.voltages (c.solve.auto.voltages ∙ c.deref_mut.ensures.len) in
           let voltages : AreVoltages case H vs = subst (AreVoltages case H) (sym read) (c.in_ok-solve.ensures.solved H posed) in
           let returned = err_from_is_err_and c.from_residual-in_err-accept.result c.from_residual-in_err-accept.ensures.1 in
-          err_steps _ _ _ H c.from_residual-in_err-accept.result _ _ c.self.view_is stood refl redone (returned.1 ∙ ap Err returned.2) (c.in_err-accept.ensures.ends H stood.branches voltages);
+          err_steps _ _ _ H c.from_residual-in_err-accept.result _ _ c.self.view_is stood refl redone (returned.1 ∙ ap Err returned.2) (c.in_err-accept.ensures.moves H stood.branches voltages);
       tied = λ H node stands tacs tied.
           let decided = decided_here _ _ H _ _ _ _ _ _ c.in_ok-decide.ensures.decided c.self.view_is stands c.deref.ensures.value c.deref-2.ensures.value tacs in
           absurd (free_isnt_tied c.self.inside.case.now.parts H node decided.free (subst (λ (s : Net). network_part s.case H ≡ Err (Tied node)) (sym c.self.view_is) tied));
@@ -258,7 +258,7 @@ returns-in_err-find_currents g c =
           let vs = c.deref-3.result.now in
           let read = c.deref-3.ensures.value ∙ with_items_is c.self.inside.voltages c.solve.new.voltages (c.solve.auto.voltages ∙ c.deref_mut.ensures.len) in
           let voltages : AreVoltages case H vs = subst (AreVoltages case H) (sym read) (c.in_ok-solve.ensures.solved H posed) in
-          let moved = c.in_ok-accept.ensures.moved H stood.branches in
+          let moved = c.in_ok-accept.ensures.moves H stood.branches in
           let flows = c.deref-4.ensures.value ∙ with_items_is c.self.inside.currents c.accept.new.currents (c.accept.auto.currents ∙ c.deref_mut-2.ensures.len) in
           let moved_so = subst (λ cs. HaveMoved c.accept.new.self cs case H vs) (sym flows) moved in
           let valued = ap (λ v. v.items) c.solve.ensures.values ∙ values in
@@ -306,7 +306,7 @@ returns g c =
           let vs = c.deref-3.result.now in
           let read = c.deref-3.ensures.value ∙ with_items_is c.self.inside.voltages c.solve.new.voltages (c.solve.auto.voltages ∙ c.deref_mut.ensures.len) in
           let voltages : AreVoltages case H vs = subst (AreVoltages case H) (sym read) (c.in_ok-solve.ensures.solved H posed) in
-          let moved = c.in_ok-accept.ensures.moved H stood.branches in
+          let moved = c.in_ok-accept.ensures.moves H stood.branches in
           let flows = c.deref-4.ensures.value ∙ with_items_is c.self.inside.currents c.accept.new.currents (c.accept.auto.currents ∙ c.deref_mut-2.ensures.len) in
           let moved_so = subst (λ cs. HaveMoved c.accept.new.self cs case H vs) (sym flows) moved in
           let valued = ap (λ v. v.items) c.solve.ensures.values ∙ values in
