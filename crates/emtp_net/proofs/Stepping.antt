@@ -1,5 +1,5 @@
 -- A step, from what its stages answer.
-use Rattle.std.proofs.Common.{◌≡◌, ◌∙◌, sym, ap, subst, ℕ, ◌+◌, ℤ, List, [], ◌∷◌, length, map, Result, Ok, Err, OnOk, IfErr, IsErrAnd, refl, arith}
+use Rattle.std.proofs.Common.{◌≡◌, ◌∙◌, sym, ap, subst, ℕ, ◌+◌, ℤ, List, [], ◌∷◌, length, map, Result, Ok, Err, MatchResult, OnOk, IfErr, IsErrAnd, refl, arith}
 use Rattle.emtp_case.specs.StepRecord.{StepRecord, is_closed, latest}
 use Rattle.emtp_case.specs.declared.case.Parts.{Parts}
 use Rattle.emtp_case.specs.declared.row_kind.RowKind.{RowKind}
@@ -107,9 +107,9 @@ stands_next s left H vs r stands stepped is =
 
 -- the last stage judges
 pub judge_steps : (s now left : Net) (H : List StepRecord) (vs currents : List ℤ) (result : Result (Unit {0}) NetFault) → s ≡ now → StandsFor s H → HasStepped s left H vs → AreVoltages s.case H vs → HasCurrents s.case H vs currents
-    → OnOk result (IsBalanced s.case H vs) → IfErr result (Ends s.case H (step_redone s.case H)) → StepsTo result left H (network_part now.case H)
-judge_steps s now left H vs currents (Ok u) same stands stepped voltages has balanced ends =
+    → MatchResult result (λ u. IsBalanced s.case H vs) (Ends s.case H (step_redone s.case H)) → StepsTo result left H (network_part now.case H)
+judge_steps s now left H vs currents (Ok u) same stands stepped voltages has balanced =
     let reached : network_part now.case H ≡ Ok (part_at s.case H vs) = ap (λ (n : Net). network_part n.case H) (sym same) ∙ part_made s.case H vs voltages stepped.branches.in_range has.within balanced in
     subst (StepsTo (Ok u) left H) (sym reached) (λ r is. stands_next s left H vs r stands stepped is)
-judge_steps s now left H vs currents (Err e) same stands stepped voltages has balanced ends =
+judge_steps s now left H vs currents (Err e) same stands stepped voltages has ends =
     err_steps s now left H (Err e) e (step_redone s.case H) same stands stepped.case_is stepped.redone refl ends

@@ -160,14 +160,10 @@ impl<'a> Network<'a> {
         )?;
         self.branches
             .accept(self.case, &self.voltages, &mut self.currents)?;
-        self.system.find_currents(
-            self.case,
-            &self.order,
-            &self.branches,
-            &self.currents,
-            &mut self.switches,
-            &mut self.switch_currents,
-        )?;
+        self.system
+            .find_leaving(self.case, &self.order, &self.branches, &self.currents);
+        self.system
+            .find_currents(self.case, &mut self.switches, &mut self.switch_currents)?;
         self.switches.write_closed(&mut self.closed);
         self.system.judge(self.case, &self.order)
     }

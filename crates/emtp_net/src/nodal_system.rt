@@ -1,19 +1,14 @@
 //! The nodal system of a step, and what is made of its solution.
 
-ghost use Rattle.std.specs.Prelude.{◌≡◌, ◌+◌, ◌^◌, ◌<◌, ◌≤◌, ◌∷◌, ℕ, ℤ, pos, true, false, All, List, length, replicate, unsigned_abs, IfErr, IfOk, OnOk};
+ghost use Rattle.std.specs.Prelude.{◌≡◌, ◌+◌, ◌^◌, ◌<◌, ◌≤◌, ◌∷◌, ℕ, pos, true, false, All, List, length, replicate, unsigned_abs, IfErr, IfOk, OnOk};
 ghost use Rattle.emtp_case.specs.RowOrder.{order_of};
-ghost use Rattle.emtp_case.specs.StepRecord.{StepRecord, latest};
+ghost use Rattle.emtp_case.specs.StepRecord.{StepRecord};
 ghost use Rattle.emtp_elim.specs.Matrix.{item};
 ghost use Rattle.emtp_fix.specs.declared.limit.TheConstants.{LARGEST_VALUE};
 ghost use Rattle.emtp_net.specs.held.Branches.{HasCase};
 ghost use Rattle.emtp_net.specs.held.Fault.{NamesNode};
 ghost use Rattle.emtp_net.specs.held.Holding.{HasRoom, HoldsSwitches, KeepsKinds};
-ghost use Rattle.emtp_net.specs.held.Moving.{HaveMoved};
-ghost use Rattle.emtp_net.specs.Part.{leaving_rows, states_at};
-ghost use Rattle.emtp_net.specs.Redone.{step_redone};
-ghost use Rattle.emtp_net.specs.held.Stages.{AllInRange, AreVoltages, Ends, HasCurrents, IsBalanced, IsDecided, IsPosed};
-ghost use Rattle.emtp_net.specs.System.{kinds_of};
-ghost use Rattle.emtp_net.specs.held.System.{source_values};
+ghost use Rattle.emtp_net.specs.held.Stages.{Ends, IsDecided, FindsCurrents, FindsLeaving, FindsVoltages, JudgesStep, SetsSources};
 ghost use Rattle.emtp_rows.specs.held.Touched.{Touches};
 ghost use Rattle.emtp_switch.specs.States.{next_states};
 ghost use Rattle.emtp_switch.specs.held.Switching.{AreLatest, StandsFor as SwitchesStandFor};
@@ -146,7 +141,7 @@ impl NodalSystem {
         ensures room { HasRoom case.now.parts self.new }
         ensures kinds { self.new.kinds ≡ self.old.kinds }
         ensures decided { self.new.decided ≡ self.old.decided }
-        ensures values { (H : List StepRecord) → step ≡ length H → tacs.now ≡ (latest H).values → self.new.values.items ≡ source_values case.now.parts H }
+        ensures values { SetsSources case.now.parts step tacs.now self.new }
     {
         fill_values(table, case, step, tacs, &mut self.values);
     }
@@ -172,8 +167,7 @@ impl NodalSystem {
         ensures decided { self.new.decided ≡ self.old.decided }
         ensures values { self.new.values ≡ self.old.values }
         ensures small { All (λ v. unsigned_abs v ≤ LARGEST_VALUE) voltages.new }
-        ensures solved { (H : List StepRecord) → IsPosed case.now.parts H branches.now self.old kept.now → OnOk result (AreVoltages case.now.parts H voltages.new) }
-        ensures ends { (H : List StepRecord) → IsPosed case.now.parts H branches.now self.old kept.now → IfErr result (Ends case.now.parts H (step_redone case.now.parts H)) }
+        ensures finds { FindsVoltages result case.now.parts branches.now self.old kept.now voltages.new }
         ensures node { IfErr result (NamesNode case.now.parts) }
     {
         fill_right(
@@ -196,31 +190,23 @@ impl NodalSystem {
         }
     }
 
-    /// Finds the switch currents of the next step, in nA, once the branches moved. Without switches there is no sweep.
-    pub(crate) fn find_currents(
+    /// Finds what leaves the node of each row in the next step, in nA, once the branches moved.
+    pub(crate) fn find_leaving(
         &mut self,
         case: &Case,
         order: &RowOrder,
         branches: &Branches<'_>,
         currents: &[i64],
-        switches: &mut Switches<'_>,
-        out: &mut [i64],
-    ) -> Result<(), NetFault>
+    )
         requires room { HasRoom case.now.parts self.old }
         requires order { order.now ≡ order_of case.now.parts }
         requires same { HasCase branches.now case.now.parts }
         requires currents { length currents.now ≡ length case.now.parts.branches }
-        requires switches { HoldsSwitches case.now.parts switches.old }
-        requires out { length out.old ≡ length case.now.parts.switches }
         ensures room { HasRoom case.now.parts self.new }
         ensures kinds { self.new.kinds ≡ self.old.kinds }
         ensures decided { self.new.decided ≡ self.old.decided }
-        ensures same { switches.new ≡ switches.old }
-        ensures leaving { (H : List StepRecord) (vs : List ℤ) → HaveMoved branches.now currents.now case.now.parts H vs → self.old.values.items ≡ source_values case.now.parts H → self.new.right.items ≡ leaving_rows case.now.parts H (states_at case.now.parts H vs) }
+        ensures leaving { FindsLeaving case.now.parts branches.now currents.now self.old self.new }
         ensures small { (j : ℕ) → j < length case.now.parts.nodes → unsigned_abs (item self.new.right.items j) ≤ 10 ^ 24 }
-        ensures found { (H : List StepRecord) (vs : List ℤ) → AreVoltages case.now.parts H vs → HaveMoved branches.now currents.now case.now.parts H vs → self.old.values.items ≡ source_values case.now.parts H → switches.old.states ≡ next_states case.now.parts H → OnOk result (HasCurrents case.now.parts H vs out.new) }
-        ensures ends { (H : List StepRecord) (vs : List ℤ) → AreVoltages case.now.parts H vs → HaveMoved branches.now currents.now case.now.parts H vs → self.old.values.items ≡ source_values case.now.parts H → switches.old.states ≡ next_states case.now.parts H → IfErr result (Ends case.now.parts H (step_redone case.now.parts H)) }
-        ensures node { IfErr result (NamesNode case.now.parts) }
     {
         fill_leaving(
             case,
@@ -231,6 +217,24 @@ impl NodalSystem {
             &self.ends,
             &mut self.right,
         );
+    }
+
+    /// Finds the switch currents of the next step, in nA, by what leaves the node of each row. Without switches there
+    /// is no sweep.
+    pub(crate) fn find_currents(
+        &self,
+        case: &Case,
+        switches: &mut Switches<'_>,
+        out: &mut [i64],
+    ) -> Result<(), NetFault>
+        requires room { HasRoom case.now.parts self.now }
+        requires switches { HoldsSwitches case.now.parts switches.old }
+        requires small { (j : ℕ) → j < length case.now.parts.nodes → unsigned_abs (item self.now.right.items j) ≤ 10 ^ 24 }
+        requires out { length out.old ≡ length case.now.parts.switches }
+        ensures same { switches.new ≡ switches.old }
+        ensures currents { FindsCurrents result case.now.parts self.now switches.old out.new }
+        ensures node { IfErr result (NamesNode case.now.parts) }
+    {
         if out.is_empty() {
             return Ok(());
         }
@@ -248,8 +252,7 @@ impl NodalSystem {
         ensures room { HasRoom case.now.parts self.new }
         ensures kinds { self.new.kinds ≡ self.old.kinds }
         ensures decided { self.new.decided ≡ self.old.decided }
-        ensures judged { (H : List StepRecord) (vs currents : List ℤ) → AreVoltages case.now.parts H vs → AllInRange case.now.parts H vs → HasCurrents case.now.parts H vs currents → self.old.kinds.items ≡ kinds_of case.now.parts H → self.old.right.items ≡ leaving_rows case.now.parts H (states_at case.now.parts H vs) → OnOk result (IsBalanced case.now.parts H vs) }
-        ensures ends { (H : List StepRecord) (vs currents : List ℤ) → AreVoltages case.now.parts H vs → AllInRange case.now.parts H vs → HasCurrents case.now.parts H vs currents → self.old.kinds.items ≡ kinds_of case.now.parts H → self.old.right.items ≡ leaving_rows case.now.parts H (states_at case.now.parts H vs) → IfErr result (Ends case.now.parts H (step_redone case.now.parts H)) }
+        ensures judges { JudgesStep result case.now.parts self.old }
         ensures node { IfErr result (NamesNode case.now.parts) }
     {
         match judge(case, self.ties, &self.kinds, &mut self.right) {

@@ -1,7 +1,7 @@
 -- What the stages of a step find, one after the other, each with the records alone.
 use Rattle.std.specs.Prelude.{◌≡◌, ◌+◌, ◌<◌, ℕ, ℤ, IsSome, List, length, MatchResult, None, Result, Ok, Err}
 use Rattle.emtp_case.specs.RowOrder.{order_of}
-use Rattle.emtp_case.specs.StepRecord.{StepRecord}
+use Rattle.emtp_case.specs.StepRecord.{StepRecord, latest}
 use Rattle.emtp_case.specs.declared.case.Parts.{Parts}
 use Rattle.emtp_case.specs.declared.row_kind.RowKind.{RowKind}
 use Rattle.emtp_elim.specs.Outcome.{outcome}
@@ -12,7 +12,7 @@ use Rattle.emtp_switch.specs.held.Switching.{Switching}
 use Rattle.emtp_tail.specs.held.Good.{Good}
 use Rattle.emtp_net.specs.held.Branches.{StandsFor as BranchesStandFor}
 use Rattle.emtp_net.specs.held.Moving.{HaveMoved}
-use Rattle.emtp_net.specs.Part.{state_at, states_at, switch_currents_at, voltages_of}
+use Rattle.emtp_net.specs.Part.{leaving_rows, state_at, states_at, switch_currents_at, voltages_of}
 use Rattle.emtp_net.specs.Redone.{step_redone}
 use Rattle.emtp_net.specs.held.Redone.{last_matrix}
 use Rattle.emtp_net.specs.Step.{first_beyond, first_unbalanced, network_part}
@@ -62,6 +62,11 @@ pub record IsReady (case : Parts) (H : List StepRecord) (branches : Branches) (r
 
 -- ---- voltages
 
+-- the sources have their values of the next step, for all records of which the control's values are the last
+abbrev pub SetsSources : Parts → ℕ → List ℤ → NodalSystem → Type 0
+SetsSources case step tacs system =
+    (H : List StepRecord) → step ≡ length H → tacs ≡ (latest H).values → system.values.items ≡ source_values case H
+
 -- the factor is that of the next step's matrix, and the kinds and the sources are those of the next step
 pub record IsPosed (case : Parts) (H : List StepRecord) (branches : Branches) (system : NodalSystem) (kept : Good) : Type 0 where
   pub stands : BranchesStandFor branches H
@@ -79,6 +84,12 @@ pub record AreVoltages (case : Parts) (H : List StepRecord) (vs : List ℤ) : Ty
 
 -- ---- currents
 
+-- the voltages are found wherever the system is posed, or the step ends
+abbrev pub FindsVoltages : Result (Unit {0}) NetFault → Parts → Branches → NodalSystem → Good → List ℤ → Type 0
+FindsVoltages result case branches system kept vs =
+    (H : List StepRecord) → IsPosed case H branches system kept
+    → MatchResult result (λ u. AreVoltages case H vs) (Ends case H (step_redone case H))
+
 -- The branches take the voltages: they have moved, for all records for which they stood. An error ends the step, where the
 -- voltages are those of its records.
 abbrev pub TakesVoltages : Result (Unit {0}) NetFault → Parts → List ℤ → List ℤ → Branches → Branches → Type 0
@@ -95,6 +106,30 @@ pub record HasCurrents (case : Parts) (H : List StepRecord) (vs currents : List 
   pub are : currents ≡ switch_currents_at case H (states_at case H vs)
   pub within : first_beyond (switch_currents_at case H (states_at case H vs)) ≡ None
 
+-- what leaves the node of each row is found, once the branches moved
+abbrev pub FindsLeaving : Parts → Branches → List ℤ → NodalSystem → NodalSystem → Type 0
+FindsLeaving case branches currents old new =
+    (H : List StepRecord) (vs : List ℤ) → HaveMoved branches currents case H vs → old.values.items ≡ source_values case H
+    → new.right.items ≡ leaving_rows case H (states_at case H vs)
+
+-- the voltages are those of the next step, with each branch in range, and the rows have what leaves their nodes then
+pub record HasLeaving (case : Parts) (H : List StepRecord) (vs : List ℤ) (system : NodalSystem) : Type 0 where
+  pub voltages : AreVoltages case H vs
+  pub in_range : AllInRange case H vs
+  pub leaving : system.right.items ≡ leaving_rows case H (states_at case H vs)
+
+-- the switch currents are found by what leaves the nodes, or the step ends
+abbrev pub FindsCurrents : Result (Unit {0}) NetFault → Parts → NodalSystem → Switching → List ℤ → Type 0
+FindsCurrents result case system switches currents =
+    (H : List StepRecord) (vs : List ℤ) → HasLeaving case H vs system → switches.states ≡ next_states case H
+    → MatchResult result (λ u. HasCurrents case H vs currents) (Ends case H (step_redone case H))
+
 -- no residual exceeds the tolerance
 abbrev pub IsBalanced : Parts → List StepRecord → List ℤ → Type 0
 IsBalanced case H vs = first_unbalanced case H (states_at case H vs) ≡ None
+
+-- the residuals are judged by what leaves the nodes: none exceeds the tolerance, or the step ends
+abbrev pub JudgesStep : Result (Unit {0}) NetFault → Parts → NodalSystem → Type 0
+JudgesStep result case system =
+    (H : List StepRecord) (vs currents : List ℤ) → HasLeaving case H vs system → HasCurrents case H vs currents → system.kinds.items ≡ kinds_of case H
+    → MatchResult result (λ u. IsBalanced case H vs) (Ends case H (step_redone case H))

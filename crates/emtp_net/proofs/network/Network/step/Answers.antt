@@ -11,7 +11,7 @@ use Rattle.emtp_net.specs.held.Fault.{NamesNode}
 use Rattle.emtp_net.specs.held.Moving.{HaveMoved}
 use Rattle.emtp_net.specs.held.Network.{Net, StandsFor}
 use Rattle.emtp_net.specs.held.Redone.{step_ticks}
-use Rattle.emtp_net.specs.held.Stages.{AreVoltages}
+use Rattle.emtp_net.specs.held.Stages.{AreVoltages, HasLeaving}
 use Rattle.emtp_net.proofs.Factoring.{holds_kinds}
 use Rattle.emtp_net.proofs.Holding.{few_next}
 use Rattle.emtp_net.specs.Step.{network_part}
@@ -110,9 +110,9 @@ invariant_of-self-in_err-find_currents g c =
       order_is = c.self.invariant.order_is;
       branches_case = c.accept.ensures.same;
       switches_hold = subst (HoldsSwitches c.self.inside.case.now.parts) (sym c.find_currents.ensures.same) c.decide.ensures.switches;
-      room = c.find_currents.ensures.room;
+      room = c.find_leaving.ensures.room;
       rows_hold = c.factor.ensures.rows;
-      decided = keeps_on c.self.inside.case.now.parts c.decide.new.self c.find_currents.new.self c.decide.new.rows c.factor.new.rows c.decide.new.switches c.find_currents.new.switches c.decide.ensures.keeps (c.find_currents.ensures.decided ∙ c.solve.ensures.decided ∙ c.set_sources.ensures.decided) (c.find_currents.ensures.kinds ∙ c.solve.ensures.kinds ∙ c.set_sources.ensures.kinds) c.factor.ensures.kinds c.find_currents.ensures.same;
+      decided = keeps_on c.self.inside.case.now.parts c.decide.new.self c.find_leaving.new.self c.decide.new.rows c.factor.new.rows c.decide.new.switches c.find_currents.new.switches c.decide.ensures.keeps (c.find_leaving.ensures.decided ∙ c.solve.ensures.decided ∙ c.set_sources.ensures.decided) (c.find_leaving.ensures.kinds ∙ c.solve.ensures.kinds ∙ c.set_sources.ensures.kinds) c.factor.ensures.kinds c.find_currents.ensures.same;
       shown = record {
         voltages_count = ap length whole ∙ c.solve.auto.voltages ∙ ap length c.deref_mut.ensures.value ∙ kept_shown.voltages_count;
         voltages_small = subst (All (λ v. unsigned_abs v ≤ LARGEST_VALUE)) (sym whole) c.solve.ensures.small;
@@ -136,7 +136,7 @@ invariant_of-self-2 g c =
       switches_hold = subst (HoldsSwitches c.self.inside.case.now.parts) (sym c.find_currents.ensures.same) c.decide.ensures.switches;
       room = c.judge.ensures.room;
       rows_hold = c.factor.ensures.rows;
-      decided = keeps_on c.self.inside.case.now.parts c.decide.new.self c.judge.new.self c.decide.new.rows c.factor.new.rows c.decide.new.switches c.find_currents.new.switches c.decide.ensures.keeps (c.judge.ensures.decided ∙ c.find_currents.ensures.decided ∙ c.solve.ensures.decided ∙ c.set_sources.ensures.decided) (c.judge.ensures.kinds ∙ c.find_currents.ensures.kinds ∙ c.solve.ensures.kinds ∙ c.set_sources.ensures.kinds) c.factor.ensures.kinds c.find_currents.ensures.same;
+      decided = keeps_on c.self.inside.case.now.parts c.decide.new.self c.judge.new.self c.decide.new.rows c.factor.new.rows c.decide.new.switches c.find_currents.new.switches c.decide.ensures.keeps (c.judge.ensures.decided ∙ c.find_leaving.ensures.decided ∙ c.solve.ensures.decided ∙ c.set_sources.ensures.decided) (c.judge.ensures.kinds ∙ c.find_leaving.ensures.kinds ∙ c.solve.ensures.kinds ∙ c.set_sources.ensures.kinds) c.factor.ensures.kinds c.find_currents.ensures.same;
       shown = record {
         voltages_count = ap length whole ∙ c.solve.auto.voltages ∙ ap length c.deref_mut.ensures.value ∙ kept_shown.voltages_count;
         voltages_small = subst (All (λ v. unsigned_abs v ≤ LARGEST_VALUE)) (sym whole) c.solve.ensures.small;
@@ -197,7 +197,7 @@ returns-in_err-solve g c =
           let values = c.set_sources.ensures.values H stood.steps tacs in
           let posed = posed_is _ H _ _ c.decide.new.self c.set_sources.new.self c.factor.new.kept stood decided c.set_sources.ensures.kinds values (c.in_ok-factor.ensures.made H ready) in
           let returned = err_from_is_err_and c.from_residual-in_err-solve.result c.from_residual-in_err-solve.ensures.1 in
-          err_steps _ _ _ H c.from_residual-in_err-solve.result _ _ c.self.view_is stood refl (c.factor.ensures.redone H ready) (returned.1 ∙ ap Err returned.2) (c.in_err-solve.ensures.ends H posed);
+          err_steps _ _ _ H c.from_residual-in_err-solve.result _ _ c.self.view_is stood refl (c.factor.ensures.redone H ready) (returned.1 ∙ ap Err returned.2) (c.in_err-solve.ensures.finds H posed);
       tied = λ H node stands tacs tied.
           let decided = decided_here _ _ H _ _ _ _ _ _ c.in_ok-decide.ensures.decided c.self.view_is stands c.deref.ensures.value c.deref-2.ensures.value tacs in
           absurd (free_isnt_tied c.self.inside.case.now.parts H node decided.free (subst (λ (s : Net). network_part s.case H ≡ Err (Tied node)) (sym c.self.view_is) tied));
@@ -226,7 +226,7 @@ returns-in_err-accept g c =
           let redone = c.factor.ensures.redone H ready in
           let vs = c.deref-3.result.now in
           let read = c.deref-3.ensures.value ∙ with_items_is c.self.inside.voltages c.solve.new.voltages (c.solve.auto.voltages ∙ c.deref_mut.ensures.len) in
-          let voltages : AreVoltages case H vs = subst (AreVoltages case H) (sym read) (c.in_ok-solve.ensures.solved H posed) in
+          let voltages : AreVoltages case H vs = subst (AreVoltages case H) (sym read) (c.in_ok-solve.ensures.finds H posed) in
           let returned = err_from_is_err_and c.from_residual-in_err-accept.result c.from_residual-in_err-accept.ensures.1 in
           err_steps _ _ _ H c.from_residual-in_err-accept.result _ _ c.self.view_is stood refl redone (returned.1 ∙ ap Err returned.2) (c.in_err-accept.ensures.moves H stood.branches voltages);
       tied = λ H node stands tacs tied.
@@ -257,13 +257,14 @@ returns-in_err-find_currents g c =
           let redone = c.factor.ensures.redone H ready in
           let vs = c.deref-3.result.now in
           let read = c.deref-3.ensures.value ∙ with_items_is c.self.inside.voltages c.solve.new.voltages (c.solve.auto.voltages ∙ c.deref_mut.ensures.len) in
-          let voltages : AreVoltages case H vs = subst (AreVoltages case H) (sym read) (c.in_ok-solve.ensures.solved H posed) in
+          let voltages : AreVoltages case H vs = subst (AreVoltages case H) (sym read) (c.in_ok-solve.ensures.finds H posed) in
           let moved = c.in_ok-accept.ensures.moves H stood.branches in
           let flows = c.deref-4.ensures.value ∙ with_items_is c.self.inside.currents c.accept.new.currents (c.accept.auto.currents ∙ c.deref_mut-2.ensures.len) in
           let moved_so = subst (λ cs. HaveMoved c.accept.new.self cs case H vs) (sym flows) moved in
           let valued = ap (λ v. v.items) c.solve.ensures.values ∙ values in
+          let left_so : HasLeaving case H vs c.find_leaving.new.self = record { voltages = voltages; in_range = moved.in_range; leaving = c.find_leaving.ensures.leaving H vs moved_so valued } in
           let returned = err_from_is_err_and c.from_residual-in_err-find_currents.result c.from_residual-in_err-find_currents.ensures.1 in
-          err_steps _ _ _ H c.from_residual-in_err-find_currents.result _ _ c.self.view_is stood refl redone (returned.1 ∙ ap Err returned.2) (c.in_err-find_currents.ensures.ends H vs voltages moved_so valued decided.states_are);
+          err_steps _ _ _ H c.from_residual-in_err-find_currents.result _ _ c.self.view_is stood refl redone (returned.1 ∙ ap Err returned.2) (c.in_err-find_currents.ensures.currents H vs left_so decided.states_are);
       tied = λ H node stands tacs tied.
           let decided = decided_here _ _ H _ _ _ _ _ _ c.in_ok-decide.ensures.decided c.self.view_is stands c.deref.ensures.value c.deref-2.ensures.value tacs in
           absurd (free_isnt_tied c.self.inside.case.now.parts H node decided.free (subst (λ (s : Net). network_part s.case H ≡ Err (Tied node)) (sym c.self.view_is) tied));
@@ -305,14 +306,14 @@ returns g c =
           let redone = c.factor.ensures.redone H ready in
           let vs = c.deref-3.result.now in
           let read = c.deref-3.ensures.value ∙ with_items_is c.self.inside.voltages c.solve.new.voltages (c.solve.auto.voltages ∙ c.deref_mut.ensures.len) in
-          let voltages : AreVoltages case H vs = subst (AreVoltages case H) (sym read) (c.in_ok-solve.ensures.solved H posed) in
+          let voltages : AreVoltages case H vs = subst (AreVoltages case H) (sym read) (c.in_ok-solve.ensures.finds H posed) in
           let moved = c.in_ok-accept.ensures.moves H stood.branches in
           let flows = c.deref-4.ensures.value ∙ with_items_is c.self.inside.currents c.accept.new.currents (c.accept.auto.currents ∙ c.deref_mut-2.ensures.len) in
           let moved_so = subst (λ cs. HaveMoved c.accept.new.self cs case H vs) (sym flows) moved in
           let valued = ap (λ v. v.items) c.solve.ensures.values ∙ values in
-          let has = c.in_ok-find_currents.ensures.found H vs voltages moved_so valued decided.states_are in
-          let leaving = c.find_currents.ensures.leaving H vs moved_so valued in
-          let kinds = ap (λ v. v.items) (c.find_currents.ensures.kinds ∙ c.solve.ensures.kinds) ∙ posed.kinds in
+          let left_so : HasLeaving case H vs c.find_leaving.new.self = record { voltages = voltages; in_range = moved.in_range; leaving = c.find_leaving.ensures.leaving H vs moved_so valued } in
+          let has = c.in_ok-find_currents.ensures.currents H vs left_so decided.states_are in
+          let kinds = ap (λ v. v.items) (c.find_leaving.ensures.kinds ∙ c.solve.ensures.kinds) ∙ posed.kinds in
           let shown_flows = with_items_is c.self.inside.currents c.accept.new.currents (c.accept.auto.currents ∙ c.deref_mut-2.ensures.len) in
           let crossed = with_items_is c.self.inside.switch_currents c.find_currents.new.out (c.find_currents.auto.out ∙ c.deref_mut-3.ensures.len) in
           let marked = with_items_is c.self.inside.closed c.write_closed.new.out (c.write_closed.auto.out ∙ c.deref_mut-4.ensures.len) in
@@ -343,7 +344,7 @@ returns g c =
             redone = redone;
           } in
           judge_steps seen c.args.self.now left H vs c.find_currents.new.out c.judge.result c.self.view_is stood stepped voltages has
-          (c.judge.ensures.judged H vs c.find_currents.new.out voltages moved.in_range has kinds leaving) (c.judge.ensures.ends H vs c.find_currents.new.out voltages moved.in_range has kinds leaving);
+          (c.judge.ensures.judges H vs c.find_currents.new.out left_so has kinds);
       tied = λ H node stands tacs tied.
           let decided = decided_here _ _ H _ _ _ _ _ _ c.in_ok-decide.ensures.decided c.self.view_is stands c.deref.ensures.value c.deref-2.ensures.value tacs in
           absurd (free_isnt_tied c.self.inside.case.now.parts H node decided.free (subst (λ (s : Net). network_part s.case H ≡ Err (Tied node)) (sym c.self.view_is) tied));
@@ -403,23 +404,30 @@ accept-requires g c =
       currents = ap length c.deref_mut-2.ensures.value ∙ c.self.invariant.shown.currents_count;
     }
 
-pub find_currents-requires : goal.find_currents-requires
-find_currents-requires g c =
+pub find_leaving-requires : goal.find_leaving-requires
+find_leaving-requires g c =
     record {
       room = c.solve.ensures.room;
       order = c.self.invariant.order_is;
       same = c.accept.ensures.same;
-      switches = c.decide.ensures.switches;
       currents = ap length (c.deref-4.ensures.value ∙ with_items_is c.self.inside.currents c.accept.new.currents (c.accept.auto.currents ∙ c.deref_mut-2.ensures.len)) ∙ c.accept.auto.currents ∙ ap length c.deref_mut-2.ensures.value ∙ c.self.invariant.shown.currents_count;
+    }
+
+pub find_currents-requires : goal.find_currents-requires
+find_currents-requires g c =
+    record {
+      room = c.find_leaving.ensures.room;
+      switches = c.decide.ensures.switches;
+      small = c.find_leaving.ensures.small;
       out = ap length c.deref_mut-3.ensures.value ∙ c.self.invariant.shown.switch_count;
     }
 
 pub judge-requires : goal.judge-requires
 judge-requires g c =
     record {
-      room = c.find_currents.ensures.room;
+      room = c.find_leaving.ensures.room;
       order = c.self.invariant.order_is;
-      small = c.find_currents.ensures.small;
+      small = c.find_leaving.ensures.small;
     }
 
 pub write_closed-requires : goal.write_closed-requires

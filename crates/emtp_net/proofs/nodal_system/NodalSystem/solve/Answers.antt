@@ -16,8 +16,8 @@ node_at-requires c = omega (arith, c.in-Err.ensures.row, c.requires.size, order_
 pub returns-in-Err-clause-node : goal.returns-in-Err-clause-node
 returns-in-Err-clause-node c = row_node c.args.case.now.parts c.args.order.now c.node_at.result c.requires.order c.node_at.ensures.low c.node_at.ensures.high
 
-pub returns-in-Err-clause-ends : goal.returns-in-Err-clause-ends
-returns-in-Err-clause-ends c = λ H posed.
+pub returns-in-Err-clause-finds : goal.returns-in-Err-clause-finds
+returns-in-Err-clause-finds c = λ H posed.
     let case = c.args.case.now.parts in
     let given : c.fill_right.new.out ≡ right case H = c.fill_right.ensures H posed.stands (c.deref.ensures.value ∙ posed.kinds) (c.deref-3.ensures.value ∙ posed.values) in
     let read = c.deref_mut-2.ensures.value ∙ with_items_is c.args.self.now.right c.fill_right.new.out (c.fill_right.auto.out ∙ c.deref_mut.ensures.len) ∙ given in
@@ -93,14 +93,8 @@ returns-in-Err-clause-values c = refl
 pub returns-in-Ok-clause-node : goal.returns-in-Ok-clause-node
 returns-in-Ok-clause-node c = tt
 
-pub returns-in-Ok-clause-ends : goal.returns-in-Ok-clause-ends
-returns-in-Ok-clause-ends c = λ H posed. tt
-
-pub returns-in-Err-clause-solved : goal.returns-in-Err-clause-solved
-returns-in-Err-clause-solved c = λ H posed. tt
-
-pub returns-in-Ok-clause-solved : goal.returns-in-Ok-clause-solved
-returns-in-Ok-clause-solved c = λ H posed.
+pub returns-in-Ok-clause-finds : goal.returns-in-Ok-clause-finds
+returns-in-Ok-clause-finds c = λ H posed.
     let case = c.args.case.now.parts in
     let given : c.fill_right.new.out ≡ right case H = c.fill_right.ensures H posed.stands (c.deref.ensures.value ∙ posed.kinds) (c.deref-3.ensures.value ∙ posed.values) in
     let read = c.deref_mut-2.ensures.value ∙ with_items_is c.args.self.now.right c.fill_right.new.out (c.fill_right.auto.out ∙ c.deref_mut.ensures.len) ∙ given in
