@@ -13,7 +13,7 @@ ghost use Rattle.emtp_net.specs.held.Redone.{step_ticks};
 ghost use Rattle.emtp_net.specs.Step.{network_part};
 
 use crate::branches::Branches;
-use crate::factor::{factor, set_all_conductances, set_couplings};
+use crate::factor::{NodalMatrix, set_all_conductances, set_couplings};
 use crate::fault::NetFault;
 use crate::nodal_system::{NodalSystem, zeros};
 use emtp_case::{Case, RowOrder, order};
@@ -37,14 +37,12 @@ pub struct Network<'a> {
     branches: Branches<'a>,
     switches: Switches<'a>,
     system: NodalSystem,
-    rows: NetRows<'a>,
-    kept: Kept,
+    matrix: NodalMatrix<'a>,
     voltages: Vec<i64>,
     currents: Vec<i64>,
     switch_currents: Vec<i64>,
     closed: Vec<bool>,
     made: u32,
-    redone: u64,
 }
 
 impl<'a> Model for Network<'a> {
@@ -57,9 +55,22 @@ impl<'a> Model for Network<'a> {
 
     ghost coded = { Prim.hlevel codes };
 
-    ghost view = { λ s. record { case = s.case.now.parts; branches = s.branches; switches = s.switches; rows = s.rows; kept = s.kept; voltages = s.voltages.items; currents = s.currents.items; switch_currents = s.switch_currents.items; closed = s.closed.items; made = s.made; redone = s.redone } };
+    ghost view = { λ s. record {
+      case = s.case.now.parts;
+      branches = s.branches;
+      switches = s.switches;
+      rows = s.matrix.rows;
+      kept = s.matrix.kept;
+      voltages = s.voltages.items;
+      currents = s.currents.items;
+      switch_currents = s.switch_currents.items;
+      closed = s.closed.items;
+      made = s.made;
+      redone = s.matrix.redone;
+    } };
 
-    ghost invariant = { λ s. HoldsTogether s.case.now.parts s.order s.branches s.switches s.system s.rows s.kept s.voltages.items s.currents.items s.switch_currents.items s.closed.items s.made s.redone };
+    ghost invariant = { λ s. HoldsTogether s.case.now.parts s.order s.branches s.switches s.system s.matrix
+      s.voltages.items s.currents.items s.switch_currents.items s.closed.items s.made };
 }
 
 impl<'a> Network<'a> {
@@ -88,7 +99,7 @@ impl<'a> Network<'a> {
             drop((table, order, system, switches, shown));
             return Err(AllocError);
         };
-        let Ok((rows, kept)) = rows_at_rest(alloc, case, &order, &branches) else {
+        let Ok(matrix) = matrix_at_rest(alloc, case, &order, &branches) else {
             drop((table, order, system, switches, shown, branches));
             return Err(AllocError);
         };
@@ -99,14 +110,12 @@ impl<'a> Network<'a> {
             branches,
             switches,
             system,
-            rows,
-            kept,
+            matrix,
             voltages: shown.voltages,
             currents: shown.currents,
             switch_currents: shown.switch_currents,
             closed: shown.closed,
             made: 0,
-            redone: 0,
         })
     }
 
@@ -133,29 +142,21 @@ impl<'a> Network<'a> {
         self.system.decide(
             self.case,
             &mut self.switches,
-            &mut self.rows,
+            &mut self.matrix.rows,
             self.made,
             &self.voltages,
             &self.switch_currents,
             tacs,
         )?;
-        factor(
-            self.case,
-            &self.order,
-            &self.branches,
-            &mut self.rows,
-            &mut self.kept,
-            made,
-            &mut self.redone,
-            steps,
-        )?;
+        self.matrix
+            .factor(self.case, &self.order, &self.branches, made, steps)?;
         self.system
             .set_sources(self.case, &self.table, self.made, tacs);
         self.system.solve(
             self.case,
             &self.order,
             &self.branches,
-            &self.kept,
+            &self.matrix.kept,
             &mut self.voltages,
         )?;
         self.branches
@@ -207,7 +208,7 @@ impl<'a> Network<'a> {
         ensures few { result ≤ MOST_NODES * self.now.made }
         ensures made { self.now.made ≤ self.now.case.run.steps }
     {
-        self.redone
+        self.matrix.redone
     }
 
     /// The factor that the steps use. After the opening no row is good; after a step without a fault all are, and they
@@ -215,7 +216,7 @@ impl<'a> Network<'a> {
     pub fn kept(&self) -> &Kept
         ensures { result.now ≡ self.now.kept }
     {
-        &self.kept
+        &self.matrix.kept
     }
 }
 
@@ -250,22 +251,28 @@ fn shown_at_rest(alloc: Global, case: &Case, switches: &Switches<'_>) -> Result<
     })
 }
 
-/// The rows of a case before any step, with the conductances of the first one, and a factor of which no row is good.
-fn rows_at_rest<'a>(
+/// The nodal matrix of a case before any step, with the conductances of the first one, and a factor of which no row
+/// is good.
+fn matrix_at_rest<'a>(
     alloc: Global,
     case: &'a Case,
     order: &RowOrder,
     branches: &Branches<'_>,
-) -> Result<(NetRows<'a>, Kept), AllocError>
+) -> Result<NodalMatrix<'a>, AllocError>
     requires order { order.now ≡ order_of case.now.parts }
     requires same { HasCase branches.now case.now.parts }
     requires rest { BranchesStandFor branches.now (rest_of case.now.parts ∷ []) }
-    ensures rows { IfOk result (λ made. HoldsRows case.now.parts made.0 made.1) }
-    ensures none { IfOk result (λ made. made.1.rows ≡ []) }
+    ensures rows { IfOk result (λ matrix. HoldsRows case.now.parts matrix.rows matrix.kept) }
+    ensures none { IfOk result (λ matrix. matrix.kept.rows ≡ []) }
+    ensures redone { IfOk result (λ matrix. matrix.redone ≡ 0) }
 {
     let mut rows = NetRows::open(alloc, case, order)?;
     set_couplings(case, branches, &mut rows);
     set_all_conductances(case, branches, &mut rows);
     let kept = Kept::open(alloc, &rows)?;
-    Ok((rows, kept))
+    Ok(NodalMatrix {
+        rows,
+        kept,
+        redone: 0,
+    })
 }

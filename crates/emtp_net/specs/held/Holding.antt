@@ -1,6 +1,6 @@
 -- How the fields of a network hold together.
 use Rattle.emtp_case.specs.declared.limit.TheConstants.{MOST_NODES}
-use Rattle.std.specs.Prelude.{◌≡◌, ◌+◌, ◌*◌, ◌≤◌, ℕ, ℤ, All, Bool, true, false, List, [], length, map, slice_get, Some, None, unsigned_abs}
+use Rattle.std.specs.Prelude.{◌≡◌, ◌+◌, ◌*◌, ◌≤◌, ℕ, ℤ, All, Bool, true, false, List, [], length, map, slice_get, Some, None, unsigned_abs, ◌-◌, ◌==◌, if◌then◌else◌, IfErr, OnOk, Result, Err}
 use Rattle.emtp_case.specs.RowOrder.{Rows, is_pseudo, order_of}
 use Rattle.emtp_case.specs.StepRecord.{StepRecord}
 use Rattle.emtp_case.specs.declared.branch.Branch.{Branch}
@@ -10,16 +10,23 @@ use Rattle.emtp_case.specs.declared.switch.SwitchState.{SwitchState}
 use Rattle.emtp_elim.specs.Matrix.{item}
 use Rattle.emtp_fix.specs.declared.limit.TheConstants.{LARGEST_VALUE}
 use Rattle.emtp_rows.specs.held.Terms.{end_rows}
+use Rattle.emtp_elim.specs.held.Fault.{IsRowFault}
+use Rattle.emtp_elim.specs.Outcome.{outcome}
+use Rattle.emtp_elim.specs.declared.fault.PlainFault.TheVariants.{Row}
+use Rattle.emtp_elim.specs.declared.fault.RowFault.{RowFault}
+use Rattle.emtp_rows.specs.Nodal.{nodal_matrix}
 use Rattle.emtp_rows.specs.held.Touched.{NodalRows, StandsUntouched}
 use Rattle.emtp_switch.specs.Groups.{tied_of}
 use Rattle.emtp_switch.specs.Kinds as switched
 use Rattle.emtp_switch.specs.held.Switching.{Switching}
+use Rattle.emtp_tail.specs.Good.{first_change}
 use Rattle.emtp_tail.specs.held.Good.{Good}
 use Rattle.emtp_net.specs.held.Branches.{HasCase, StandsFor}
 use Rattle.emtp_net.specs.held.Rights.{places_of}
 use Rattle.emtp_net.specs.held.Sums.{AreUntied}
 use Rattle.emtp_net.specs.System.{conductance_by, couplings}
 use Rattle.emtp_net.specs.declared.branches.Branches.{Branches}
+use Rattle.emtp_net.specs.declared.factor.NodalMatrix.{NodalMatrix}
 use Rattle.emtp_net.specs.declared.nodal_system.NodalSystem.{NodalSystem}
 
 -- the lists of the nodal system have their lengths, those that stay are made, and ties of rows are known
@@ -36,6 +43,10 @@ pub record HasRoom (case : Parts) (system : NodalSystem) : Type 0 where
 pub record HoldsSwitches (case : Parts) (switches : Switching) : Type 0 where
   pub case_is : switches.case ≡ case
   pub rows_are : switches.rows ≡ order_of case
+
+-- the first row of the matrix that differs from the rows of the factor
+abbrev pub first_moved : NodalMatrix → ℕ
+first_moved m = first_change m.kept.rows (nodal_matrix m.rows.nodal)
 
 -- the kinds of the rows, here and of the matrix, are those that follow from these states of the switches, which tie no two
 -- known voltages
@@ -64,6 +75,16 @@ pub record HoldsRows (case : Parts) (rows : NodalRows) (kept : Good) : Type 0 wh
   pub kept_size : kept.size ≡ length case.nodes
   pub kept_stands : StandsUntouched rows kept.rows
 
+-- The factor follows the rows as they are. So many rows are counted as redone, and so many eliminated; an error is the
+-- fault of their matrix, whatever the right side.
+pub record FollowsRows (result : Result (Unit {0}) RowFault) (made : ℕ) (old new : NodalMatrix) (before after : ℕ) : Type 0 where
+  pub redone : new.redone ≡ old.redone + (if made == 0 then 0 else old.kept.size - first_moved old)
+  pub good : OnOk result (new.kept.rows ≡ nodal_matrix old.rows.nodal)
+  pub ticks : OnOk result (after + first_moved old ≡ before + old.kept.size)
+  pub fault : IfErr result (λ fault. IsRowFault (nodal_matrix old.rows.nodal) fault.row fault.cause)
+  pub ends : IfErr result (λ fault. (right : List ℤ) → outcome (nodal_matrix old.rows.nodal) right ≡ Err (Row fault))
+  pub fault_ticks : IfErr result (λ fault. after + first_moved old ≤ before + old.kept.size)
+
 -- what the network shows has its lengths
 pub record HasShown (case : Parts) (voltages currents switch_currents : List ℤ) (closed : List Bool) : Type 0 where
   pub voltages_count : length voltages ≡ length case.nodes + 1
@@ -77,12 +98,12 @@ pub record AreFew (case : Parts) (made redone : ℕ) : Type 0 where
   pub made_few : made ≤ case.run.steps
   pub redone_few : redone ≤ MOST_NODES * made
 
-pub record HoldsTogether (case : Parts) (order : Rows) (branches : Branches) (switches : Switching) (system : NodalSystem) (rows : NodalRows) (kept : Good) (voltages currents switch_currents : List ℤ) (closed : List Bool) (made redone : ℕ) : Type 0 where
+pub record HoldsTogether (case : Parts) (order : Rows) (branches : Branches) (switches : Switching) (system : NodalSystem) (matrix : NodalMatrix) (voltages currents switch_currents : List ℤ) (closed : List Bool) (made : ℕ) : Type 0 where
   pub order_is : order ≡ order_of case
   pub branches_case : HasCase branches case
   pub switches_hold : HoldsSwitches case switches
   pub room : HasRoom case system
-  pub rows_hold : HoldsRows case rows kept
-  pub decided : KeepsKinds case system rows switches
+  pub rows_hold : HoldsRows case matrix.rows matrix.kept
+  pub decided : KeepsKinds case system matrix.rows switches
   pub shown : HasShown case voltages currents switch_currents closed
-  pub few : AreFew case made redone
+  pub few : AreFew case made matrix.redone

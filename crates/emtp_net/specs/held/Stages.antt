@@ -1,10 +1,11 @@
 -- What the stages of a step find, one after the other, each with the records alone.
-use Rattle.std.specs.Prelude.{◌≡◌, ◌+◌, ◌<◌, ℕ, ℤ, IsSome, List, length, MatchResult, None, Result, Ok, Err}
+use Rattle.std.specs.Prelude.{◌≡◌, ◌+◌, ◌<◌, ℕ, ℤ, IsSome, List, length, IfErr, MatchResult, None, OnOk, Result, Ok, Err}
 use Rattle.emtp_case.specs.RowOrder.{order_of}
 use Rattle.emtp_case.specs.StepRecord.{StepRecord, latest}
 use Rattle.emtp_case.specs.declared.case.Parts.{Parts}
 use Rattle.emtp_case.specs.declared.row_kind.RowKind.{RowKind}
 use Rattle.emtp_elim.specs.Outcome.{outcome}
+use Rattle.emtp_rows.specs.Nodal.{Nodal}
 use Rattle.emtp_rows.specs.held.Touched.{NodalRows}
 use Rattle.emtp_switch.specs.Groups.{tied_of}
 use Rattle.emtp_switch.specs.States.{next_states}
@@ -14,11 +15,12 @@ use Rattle.emtp_net.specs.held.Branches.{StandsFor as BranchesStandFor}
 use Rattle.emtp_net.specs.held.Moving.{HaveMoved}
 use Rattle.emtp_net.specs.Part.{leaving_rows, state_at, states_at, switch_currents_at, voltages_of}
 use Rattle.emtp_net.specs.Redone.{step_redone}
-use Rattle.emtp_net.specs.held.Redone.{last_matrix}
+use Rattle.emtp_net.specs.held.Redone.{last_matrix, step_ticks}
 use Rattle.emtp_net.specs.Step.{first_beyond, first_unbalanced, network_part}
-use Rattle.emtp_net.specs.System.{kinds_of, matrix, right}
+use Rattle.emtp_net.specs.System.{conductances, kinds_of, matrix, right}
 use Rattle.emtp_net.specs.held.System.{source_values}
 use Rattle.emtp_net.specs.declared.branches.Branches.{Branches}
+use Rattle.emtp_net.specs.declared.factor.NodalMatrix.{NodalMatrix}
 use Rattle.emtp_net.specs.declared.fault.NetFault.{NetFault}
 use Rattle.emtp_net.specs.declared.fault.NetFault.TheVariants.{Range, Residual, Tied, ZeroPivot}
 use Rattle.emtp_net.specs.declared.nodal_system.NodalSystem.{NodalSystem}
@@ -59,6 +61,23 @@ pub record IsReady (case : Parts) (H : List StepRecord) (branches : Branches) (r
   pub kinds : rows.nodal.kinds ≡ kinds_of case H
   pub kept_is : kept.rows ≡ last_matrix case H
   pub steps : made + 1 ≡ length H
+
+-- the factor is made wherever the rows are ready, or the step ends; so many rows are redone, and so many eliminated
+pub record IsFactored (result : Result (Unit {0}) NetFault) (case : Parts) (H : List StepRecord) (old new : NodalMatrix) (before after : ℕ) : Type 0 where
+  pub made : OnOk result (new.kept.rows ≡ matrix case H)
+  pub ends : IfErr result (Ends case H (step_redone case H))
+  pub redone : new.redone ≡ old.redone + step_redone case H
+  pub ticks : OnOk result (after ≡ before + step_ticks case H)
+  pub most : after ≤ before + step_ticks case H
+
+abbrev pub Factors : Result (Unit {0}) NetFault → Parts → Branches → ℕ → NodalMatrix → NodalMatrix → ℕ → ℕ → Type 0
+Factors result case branches made old new before after =
+    (H : List StepRecord) → IsReady case H branches old.rows old.kept made → IsFactored result case H old new before after
+
+-- the rows have the conductances of the next step, for all records for which the branches stand
+abbrev pub SetsConductances : Parts → Branches → Nodal → Nodal → Type 0
+SetsConductances case branches old new =
+    (H : List StepRecord) → BranchesStandFor branches H → new ≡ record old { own = conductances case H }
 
 -- ---- voltages
 

@@ -14,14 +14,14 @@ returns c = λ H stands.
       case = s.case.now.parts;
       branches = s.branches;
       switches = s.switches;
-      rows = s.rows;
-      kept = s.kept;
+      rows = s.matrix.rows;
+      kept = s.matrix.kept;
       voltages = s.voltages.items;
       currents = s.currents.items;
       switch_currents = s.switch_currents.items;
       closed = s.closed.items;
       made = s.made;
-      redone = s.redone;
+      redone = s.matrix.redone;
     } in
     let stood : StandsFor seen H = subst (λ (n : Net). StandsFor n H) (sym c.self.view_is) stands in
     let fits : FitsSigned w64 c.current.result = search rules in

@@ -28,10 +28,10 @@ invariant_of-self g c =
       branches_case = c.self.invariant.branches_case;
       switches_hold = c.decide.ensures.switches;
       room = c.decide.ensures.room;
-      rows_hold = holds_kinds c.self.inside.case.now.parts c.self.inside.rows c.decide.new.rows c.self.inside.kept c.self.invariant.rows_hold c.decide.ensures.rest c.decide.ensures.touched;
+      rows_hold = holds_kinds c.self.inside.case.now.parts c.self.inside.matrix.rows c.decide.new.rows c.self.inside.matrix.kept c.self.invariant.rows_hold c.decide.ensures.rest c.decide.ensures.touched;
       decided = c.decide.ensures.keeps;
       shown = c.self.invariant.shown;
-      few = few_next c.self.inside.case.now.parts c.self.inside.made c.self.inside.redone c.self.inside.redone c.self.invariant.few (subst (λ (s : Net). s.made < s.case.run.steps) (sym c.self.view_is) c.requires.made) (omega arith);
+      few = few_next c.self.inside.case.now.parts c.self.inside.made c.self.inside.matrix.redone c.self.inside.matrix.redone c.self.invariant.few (subst (λ (s : Net). s.made < s.case.run.steps) (sym c.self.view_is) c.requires.made) (omega arith);
     }
 
 pub invariant_of-self-in_err-factor : goal.invariant_of-self-in_err-factor
@@ -42,14 +42,14 @@ invariant_of-self-in_err-factor g c =
       switches_hold = c.decide.ensures.switches;
       room = c.decide.ensures.room;
       rows_hold = c.factor.ensures.rows;
-      decided = keeps_on c.self.inside.case.now.parts c.decide.new.self c.decide.new.self c.decide.new.rows c.factor.new.rows c.decide.new.switches c.decide.new.switches c.decide.ensures.keeps refl refl c.factor.ensures.kinds refl;
+      decided = keeps_on c.self.inside.case.now.parts c.decide.new.self c.decide.new.self c.decide.new.rows c.factor.new.self.rows c.decide.new.switches c.decide.new.switches c.decide.ensures.keeps refl refl c.factor.ensures.kinds refl;
       shown = c.self.invariant.shown;
-      few = few_next c.self.inside.case.now.parts c.self.inside.made c.self.inside.redone c.factor.new.redone c.self.invariant.few (subst (λ (s : Net). s.made < s.case.run.steps) (sym c.self.view_is) c.requires.made) c.factor.ensures.few;
+      few = few_next c.self.inside.case.now.parts c.self.inside.made c.self.inside.matrix.redone c.factor.new.self.redone c.self.invariant.few (subst (λ (s : Net). s.made < s.case.run.steps) (sym c.self.view_is) c.requires.made) c.factor.ensures.few;
     }
 
 pub factor-requires-clause-rows : goal.factor-requires-clause-rows
 factor-requires-clause-rows g c =
-    holds_kinds c.self.inside.case.now.parts c.self.inside.rows c.decide.new.rows c.self.inside.kept c.self.invariant.rows_hold c.decide.ensures.rest c.decide.ensures.touched
+    holds_kinds c.self.inside.case.now.parts c.self.inside.matrix.rows c.decide.new.rows c.self.inside.matrix.kept c.self.invariant.rows_hold c.decide.ensures.rest c.decide.ensures.touched
 
 pub factor-requires-clause-order : goal.factor-requires-clause-order
 factor-requires-clause-order g c = c.self.invariant.order_is
@@ -67,7 +67,7 @@ invariant_of-self-in_err-solve g c =
       switches_hold = c.decide.ensures.switches;
       room = c.solve.ensures.room;
       rows_hold = c.factor.ensures.rows;
-      decided = keeps_on c.self.inside.case.now.parts c.decide.new.self c.solve.new.self c.decide.new.rows c.factor.new.rows c.decide.new.switches c.decide.new.switches c.decide.ensures.keeps (c.solve.ensures.decided ∙ c.set_sources.ensures.decided) (c.solve.ensures.kinds ∙ c.set_sources.ensures.kinds) c.factor.ensures.kinds refl;
+      decided = keeps_on c.self.inside.case.now.parts c.decide.new.self c.solve.new.self c.decide.new.rows c.factor.new.self.rows c.decide.new.switches c.decide.new.switches c.decide.ensures.keeps (c.solve.ensures.decided ∙ c.set_sources.ensures.decided) (c.solve.ensures.kinds ∙ c.set_sources.ensures.kinds) c.factor.ensures.kinds refl;
       shown = record {
         voltages_count = ap length whole ∙ c.solve.auto.voltages ∙ ap length c.deref_mut.ensures.value ∙ kept_shown.voltages_count;
         voltages_small = subst (All (λ v. unsigned_abs v ≤ LARGEST_VALUE)) (sym whole) c.solve.ensures.small;
@@ -75,7 +75,7 @@ invariant_of-self-in_err-solve g c =
         switch_count = kept_shown.switch_count;
         closed_count = kept_shown.closed_count;
       };
-      few = few_next c.self.inside.case.now.parts c.self.inside.made c.self.inside.redone c.factor.new.redone c.self.invariant.few (subst (λ (s : Net). s.made < s.case.run.steps) (sym c.self.view_is) c.requires.made) c.factor.ensures.few;
+      few = few_next c.self.inside.case.now.parts c.self.inside.made c.self.inside.matrix.redone c.factor.new.self.redone c.self.invariant.few (subst (λ (s : Net). s.made < s.case.run.steps) (sym c.self.view_is) c.requires.made) c.factor.ensures.few;
     }
 
 pub invariant_of-self-in_err-accept : goal.invariant_of-self-in_err-accept
@@ -89,7 +89,7 @@ invariant_of-self-in_err-accept g c =
       switches_hold = c.decide.ensures.switches;
       room = c.solve.ensures.room;
       rows_hold = c.factor.ensures.rows;
-      decided = keeps_on c.self.inside.case.now.parts c.decide.new.self c.solve.new.self c.decide.new.rows c.factor.new.rows c.decide.new.switches c.decide.new.switches c.decide.ensures.keeps (c.solve.ensures.decided ∙ c.set_sources.ensures.decided) (c.solve.ensures.kinds ∙ c.set_sources.ensures.kinds) c.factor.ensures.kinds refl;
+      decided = keeps_on c.self.inside.case.now.parts c.decide.new.self c.solve.new.self c.decide.new.rows c.factor.new.self.rows c.decide.new.switches c.decide.new.switches c.decide.ensures.keeps (c.solve.ensures.decided ∙ c.set_sources.ensures.decided) (c.solve.ensures.kinds ∙ c.set_sources.ensures.kinds) c.factor.ensures.kinds refl;
       shown = record {
         voltages_count = ap length whole ∙ c.solve.auto.voltages ∙ ap length c.deref_mut.ensures.value ∙ kept_shown.voltages_count;
         voltages_small = subst (All (λ v. unsigned_abs v ≤ LARGEST_VALUE)) (sym whole) c.solve.ensures.small;
@@ -97,7 +97,7 @@ invariant_of-self-in_err-accept g c =
         switch_count = kept_shown.switch_count;
         closed_count = kept_shown.closed_count;
       };
-      few = few_next c.self.inside.case.now.parts c.self.inside.made c.self.inside.redone c.factor.new.redone c.self.invariant.few (subst (λ (s : Net). s.made < s.case.run.steps) (sym c.self.view_is) c.requires.made) c.factor.ensures.few;
+      few = few_next c.self.inside.case.now.parts c.self.inside.made c.self.inside.matrix.redone c.factor.new.self.redone c.self.invariant.few (subst (λ (s : Net). s.made < s.case.run.steps) (sym c.self.view_is) c.requires.made) c.factor.ensures.few;
     }
 
 pub invariant_of-self-in_err-find_currents : goal.invariant_of-self-in_err-find_currents
@@ -112,7 +112,7 @@ invariant_of-self-in_err-find_currents g c =
       switches_hold = subst (HoldsSwitches c.self.inside.case.now.parts) (sym c.find_currents.ensures.same) c.decide.ensures.switches;
       room = c.find_leaving.ensures.room;
       rows_hold = c.factor.ensures.rows;
-      decided = keeps_on c.self.inside.case.now.parts c.decide.new.self c.find_leaving.new.self c.decide.new.rows c.factor.new.rows c.decide.new.switches c.find_currents.new.switches c.decide.ensures.keeps (c.find_leaving.ensures.decided ∙ c.solve.ensures.decided ∙ c.set_sources.ensures.decided) (c.find_leaving.ensures.kinds ∙ c.solve.ensures.kinds ∙ c.set_sources.ensures.kinds) c.factor.ensures.kinds c.find_currents.ensures.same;
+      decided = keeps_on c.self.inside.case.now.parts c.decide.new.self c.find_leaving.new.self c.decide.new.rows c.factor.new.self.rows c.decide.new.switches c.find_currents.new.switches c.decide.ensures.keeps (c.find_leaving.ensures.decided ∙ c.solve.ensures.decided ∙ c.set_sources.ensures.decided) (c.find_leaving.ensures.kinds ∙ c.solve.ensures.kinds ∙ c.set_sources.ensures.kinds) c.factor.ensures.kinds c.find_currents.ensures.same;
       shown = record {
         voltages_count = ap length whole ∙ c.solve.auto.voltages ∙ ap length c.deref_mut.ensures.value ∙ kept_shown.voltages_count;
         voltages_small = subst (All (λ v. unsigned_abs v ≤ LARGEST_VALUE)) (sym whole) c.solve.ensures.small;
@@ -120,7 +120,7 @@ invariant_of-self-in_err-find_currents g c =
         switch_count = ap length crossed ∙ c.find_currents.auto.out ∙ ap length c.deref_mut-3.ensures.value ∙ kept_shown.switch_count;
         closed_count = kept_shown.closed_count;
       };
-      few = few_next c.self.inside.case.now.parts c.self.inside.made c.self.inside.redone c.factor.new.redone c.self.invariant.few (subst (λ (s : Net). s.made < s.case.run.steps) (sym c.self.view_is) c.requires.made) c.factor.ensures.few;
+      few = few_next c.self.inside.case.now.parts c.self.inside.made c.self.inside.matrix.redone c.factor.new.self.redone c.self.invariant.few (subst (λ (s : Net). s.made < s.case.run.steps) (sym c.self.view_is) c.requires.made) c.factor.ensures.few;
     }
 
 pub invariant_of-self-2 : goal.invariant_of-self-2
@@ -136,7 +136,7 @@ invariant_of-self-2 g c =
       switches_hold = subst (HoldsSwitches c.self.inside.case.now.parts) (sym c.find_currents.ensures.same) c.decide.ensures.switches;
       room = c.judge.ensures.room;
       rows_hold = c.factor.ensures.rows;
-      decided = keeps_on c.self.inside.case.now.parts c.decide.new.self c.judge.new.self c.decide.new.rows c.factor.new.rows c.decide.new.switches c.find_currents.new.switches c.decide.ensures.keeps (c.judge.ensures.decided ∙ c.find_leaving.ensures.decided ∙ c.solve.ensures.decided ∙ c.set_sources.ensures.decided) (c.judge.ensures.kinds ∙ c.find_leaving.ensures.kinds ∙ c.solve.ensures.kinds ∙ c.set_sources.ensures.kinds) c.factor.ensures.kinds c.find_currents.ensures.same;
+      decided = keeps_on c.self.inside.case.now.parts c.decide.new.self c.judge.new.self c.decide.new.rows c.factor.new.self.rows c.decide.new.switches c.find_currents.new.switches c.decide.ensures.keeps (c.judge.ensures.decided ∙ c.find_leaving.ensures.decided ∙ c.solve.ensures.decided ∙ c.set_sources.ensures.decided) (c.judge.ensures.kinds ∙ c.find_leaving.ensures.kinds ∙ c.solve.ensures.kinds ∙ c.set_sources.ensures.kinds) c.factor.ensures.kinds c.find_currents.ensures.same;
       shown = record {
         voltages_count = ap length whole ∙ c.solve.auto.voltages ∙ ap length c.deref_mut.ensures.value ∙ kept_shown.voltages_count;
         voltages_small = subst (All (λ v. unsigned_abs v ≤ LARGEST_VALUE)) (sym whole) c.solve.ensures.small;
@@ -144,7 +144,7 @@ invariant_of-self-2 g c =
         switch_count = ap length crossed ∙ c.find_currents.auto.out ∙ ap length c.deref_mut-3.ensures.value ∙ kept_shown.switch_count;
         closed_count = ap length marked ∙ c.write_closed.auto.out ∙ ap length c.deref_mut-4.ensures.value ∙ kept_shown.closed_count;
       };
-      few = few_next c.self.inside.case.now.parts c.self.inside.made c.self.inside.redone c.factor.new.redone c.self.invariant.few (subst (λ (s : Net). s.made < s.case.run.steps) (sym c.self.view_is) c.requires.made) c.factor.ensures.few;
+      few = few_next c.self.inside.case.now.parts c.self.inside.made c.self.inside.matrix.redone c.factor.new.self.redone c.self.invariant.few (subst (λ (s : Net). s.made < s.case.run.steps) (sym c.self.view_is) c.requires.made) c.factor.ensures.few;
     }
 
 pub returns-in_err-decide : goal.returns-in_err-decide
@@ -172,17 +172,17 @@ returns-in_err-factor g c =
           let stood = subst (λ (s : Net). StandsFor s H) (sym c.self.view_is) stands in
           let ready = ready_here _ _ H _ _ _ _ _ _ c.in_ok-decide.ensures.decided c.self.view_is stands c.deref.ensures.value c.deref-2.ensures.value tacs in
           let returned = err_from_is_err_and c.from_residual-in_err-factor.result c.from_residual-in_err-factor.ensures.1 in
-          err_steps _ _ _ H c.from_residual-in_err-factor.result _ _ c.self.view_is stood refl (c.factor.ensures.redone H ready) (returned.1 ∙ ap Err returned.2) (c.in_err-factor.ensures.ends H ready);
+          err_steps _ _ _ H c.from_residual-in_err-factor.result _ _ c.self.view_is stood refl (c.factor.ensures.factors H ready).redone (returned.1 ∙ ap Err returned.2) (c.in_err-factor.ensures.factors H ready).ends;
       tied = λ H node stands tacs tied.
           let decided = decided_here _ _ H _ _ _ _ _ _ c.in_ok-decide.ensures.decided c.self.view_is stands c.deref.ensures.value c.deref-2.ensures.value tacs in
           absurd (free_isnt_tied c.self.inside.case.now.parts H node decided.free (subst (λ (s : Net). network_part s.case H ≡ Err (Tied node)) (sym c.self.view_is) tied));
       case = ap (λ (s : Net). s.case) c.self.view_is;
       made = ap (λ (s : Net). s.made + 1) c.self.view_is;
-      few = subst (λ (s : Net). c.factor.new.redone ≤ s.redone + MOST_NODES) c.self.view_is c.factor.ensures.few;
+      few = subst (λ (s : Net). c.factor.new.self.redone ≤ s.redone + MOST_NODES) c.self.view_is c.factor.ensures.few;
       few_ticks = c.factor.ensures.few_ticks;
       most = λ H stands tacs.
           let ready = ready_here _ _ H _ _ _ _ _ _ c.in_ok-decide.ensures.decided c.self.view_is stands c.deref.ensures.value c.deref-2.ensures.value tacs in
-          subst (λ (s : Net). c.factor.new.steps ≤ c.args.steps.now + step_ticks s.case H) c.self.view_is (c.factor.ensures.most H ready);
+          subst (λ (s : Net). c.factor.new.steps ≤ c.args.steps.now + step_ticks s.case H) c.self.view_is (c.factor.ensures.factors H ready).most;
       node = err_names _ _ c.from_residual-in_err-factor.result _ c.self.view_is c.from_residual-in_err-factor.ensures.1 c.in_err-factor.ensures.node;
       ticks = λ H stands tacs. err_claims _ c.from_residual-in_err-factor.result _ c.from_residual-in_err-factor.ensures.1;
     }
@@ -195,19 +195,19 @@ returns-in_err-solve g c =
           let decided = decided_here _ _ H _ _ _ _ _ _ c.in_ok-decide.ensures.decided c.self.view_is stands c.deref.ensures.value c.deref-2.ensures.value tacs in
           let ready = ready_is _ H _ _ _ stood decided in
           let values = c.set_sources.ensures.values H stood.steps tacs in
-          let posed = posed_is _ H _ _ c.decide.new.self c.set_sources.new.self c.factor.new.kept stood decided c.set_sources.ensures.kinds values (c.in_ok-factor.ensures.made H ready) in
+          let posed = posed_is _ H _ _ c.decide.new.self c.set_sources.new.self c.factor.new.self.kept stood decided c.set_sources.ensures.kinds values (c.in_ok-factor.ensures.factors H ready).made in
           let returned = err_from_is_err_and c.from_residual-in_err-solve.result c.from_residual-in_err-solve.ensures.1 in
-          err_steps _ _ _ H c.from_residual-in_err-solve.result _ _ c.self.view_is stood refl (c.factor.ensures.redone H ready) (returned.1 ∙ ap Err returned.2) (c.in_err-solve.ensures.finds H posed);
+          err_steps _ _ _ H c.from_residual-in_err-solve.result _ _ c.self.view_is stood refl (c.factor.ensures.factors H ready).redone (returned.1 ∙ ap Err returned.2) (c.in_err-solve.ensures.finds H posed);
       tied = λ H node stands tacs tied.
           let decided = decided_here _ _ H _ _ _ _ _ _ c.in_ok-decide.ensures.decided c.self.view_is stands c.deref.ensures.value c.deref-2.ensures.value tacs in
           absurd (free_isnt_tied c.self.inside.case.now.parts H node decided.free (subst (λ (s : Net). network_part s.case H ≡ Err (Tied node)) (sym c.self.view_is) tied));
       case = ap (λ (s : Net). s.case) c.self.view_is;
       made = ap (λ (s : Net). s.made + 1) c.self.view_is;
-      few = subst (λ (s : Net). c.factor.new.redone ≤ s.redone + MOST_NODES) c.self.view_is c.factor.ensures.few;
+      few = subst (λ (s : Net). c.factor.new.self.redone ≤ s.redone + MOST_NODES) c.self.view_is c.factor.ensures.few;
       few_ticks = c.factor.ensures.few_ticks;
       most = λ H stands tacs.
           let ready = ready_here _ _ H _ _ _ _ _ _ c.in_ok-decide.ensures.decided c.self.view_is stands c.deref.ensures.value c.deref-2.ensures.value tacs in
-          subst (λ (s : Net). c.factor.new.steps ≤ c.args.steps.now + step_ticks s.case H) c.self.view_is (c.factor.ensures.most H ready);
+          subst (λ (s : Net). c.factor.new.steps ≤ c.args.steps.now + step_ticks s.case H) c.self.view_is (c.factor.ensures.factors H ready).most;
       node = err_names _ _ c.from_residual-in_err-solve.result _ c.self.view_is c.from_residual-in_err-solve.ensures.1 c.in_err-solve.ensures.node;
       ticks = λ H stands tacs. err_claims _ c.from_residual-in_err-solve.result _ c.from_residual-in_err-solve.ensures.1;
     }
@@ -222,8 +222,8 @@ returns-in_err-accept g c =
           let decided = c.in_ok-decide.ensures.decided H stood.switches last in
           let ready = ready_is _ H c.decide.new.self.kinds.items c.decide.new.rows c.decide.new.switches stood decided in
           let values = c.set_sources.ensures.values H stood.steps tacs in
-          let posed = posed_is _ H c.decide.new.rows c.decide.new.switches c.decide.new.self c.set_sources.new.self c.factor.new.kept stood decided c.set_sources.ensures.kinds values (c.in_ok-factor.ensures.made H ready) in
-          let redone = c.factor.ensures.redone H ready in
+          let posed = posed_is _ H c.decide.new.rows c.decide.new.switches c.decide.new.self c.set_sources.new.self c.factor.new.self.kept stood decided c.set_sources.ensures.kinds values (c.in_ok-factor.ensures.factors H ready).made in
+          let redone = (c.factor.ensures.factors H ready).redone in
           let vs = c.deref-3.result.now in
           let read = c.deref-3.ensures.value ∙ with_items_is c.self.inside.voltages c.solve.new.voltages (c.solve.auto.voltages ∙ c.deref_mut.ensures.len) in
           let voltages : AreVoltages case H vs = subst (AreVoltages case H) (sym read) (c.in_ok-solve.ensures.finds H posed) in
@@ -234,11 +234,11 @@ returns-in_err-accept g c =
           absurd (free_isnt_tied c.self.inside.case.now.parts H node decided.free (subst (λ (s : Net). network_part s.case H ≡ Err (Tied node)) (sym c.self.view_is) tied));
       case = ap (λ (s : Net). s.case) c.self.view_is;
       made = ap (λ (s : Net). s.made + 1) c.self.view_is;
-      few = subst (λ (s : Net). c.factor.new.redone ≤ s.redone + MOST_NODES) c.self.view_is c.factor.ensures.few;
+      few = subst (λ (s : Net). c.factor.new.self.redone ≤ s.redone + MOST_NODES) c.self.view_is c.factor.ensures.few;
       few_ticks = c.factor.ensures.few_ticks;
       most = λ H stands tacs.
           let ready = ready_here _ _ H _ _ _ _ _ _ c.in_ok-decide.ensures.decided c.self.view_is stands c.deref.ensures.value c.deref-2.ensures.value tacs in
-          subst (λ (s : Net). c.factor.new.steps ≤ c.args.steps.now + step_ticks s.case H) c.self.view_is (c.factor.ensures.most H ready);
+          subst (λ (s : Net). c.factor.new.steps ≤ c.args.steps.now + step_ticks s.case H) c.self.view_is (c.factor.ensures.factors H ready).most;
       node = err_names _ _ c.from_residual-in_err-accept.result _ c.self.view_is c.from_residual-in_err-accept.ensures.1 c.in_err-accept.ensures.node;
       ticks = λ H stands tacs. err_claims _ c.from_residual-in_err-accept.result _ c.from_residual-in_err-accept.ensures.1;
     }
@@ -253,8 +253,8 @@ returns-in_err-find_currents g c =
           let decided = c.in_ok-decide.ensures.decided H stood.switches last in
           let ready = ready_is _ H c.decide.new.self.kinds.items c.decide.new.rows c.decide.new.switches stood decided in
           let values = c.set_sources.ensures.values H stood.steps tacs in
-          let posed = posed_is _ H c.decide.new.rows c.decide.new.switches c.decide.new.self c.set_sources.new.self c.factor.new.kept stood decided c.set_sources.ensures.kinds values (c.in_ok-factor.ensures.made H ready) in
-          let redone = c.factor.ensures.redone H ready in
+          let posed = posed_is _ H c.decide.new.rows c.decide.new.switches c.decide.new.self c.set_sources.new.self c.factor.new.self.kept stood decided c.set_sources.ensures.kinds values (c.in_ok-factor.ensures.factors H ready).made in
+          let redone = (c.factor.ensures.factors H ready).redone in
           let vs = c.deref-3.result.now in
           let read = c.deref-3.ensures.value ∙ with_items_is c.self.inside.voltages c.solve.new.voltages (c.solve.auto.voltages ∙ c.deref_mut.ensures.len) in
           let voltages : AreVoltages case H vs = subst (AreVoltages case H) (sym read) (c.in_ok-solve.ensures.finds H posed) in
@@ -270,11 +270,11 @@ returns-in_err-find_currents g c =
           absurd (free_isnt_tied c.self.inside.case.now.parts H node decided.free (subst (λ (s : Net). network_part s.case H ≡ Err (Tied node)) (sym c.self.view_is) tied));
       case = ap (λ (s : Net). s.case) c.self.view_is;
       made = ap (λ (s : Net). s.made + 1) c.self.view_is;
-      few = subst (λ (s : Net). c.factor.new.redone ≤ s.redone + MOST_NODES) c.self.view_is c.factor.ensures.few;
+      few = subst (λ (s : Net). c.factor.new.self.redone ≤ s.redone + MOST_NODES) c.self.view_is c.factor.ensures.few;
       few_ticks = c.factor.ensures.few_ticks;
       most = λ H stands tacs.
           let ready = ready_here _ _ H _ _ _ _ _ _ c.in_ok-decide.ensures.decided c.self.view_is stands c.deref.ensures.value c.deref-2.ensures.value tacs in
-          subst (λ (s : Net). c.factor.new.steps ≤ c.args.steps.now + step_ticks s.case H) c.self.view_is (c.factor.ensures.most H ready);
+          subst (λ (s : Net). c.factor.new.steps ≤ c.args.steps.now + step_ticks s.case H) c.self.view_is (c.factor.ensures.factors H ready).most;
       node = err_names _ _ c.from_residual-in_err-find_currents.result _ c.self.view_is c.from_residual-in_err-find_currents.ensures.1 c.in_err-find_currents.ensures.node;
       ticks = λ H stands tacs. err_claims _ c.from_residual-in_err-find_currents.result _ c.from_residual-in_err-find_currents.ensures.1;
     }
@@ -287,14 +287,14 @@ returns g c =
             case = c.self.inside.case.now.parts;
             branches = c.self.inside.branches;
             switches = c.self.inside.switches;
-            rows = c.self.inside.rows;
-            kept = c.self.inside.kept;
+            rows = c.self.inside.matrix.rows;
+            kept = c.self.inside.matrix.kept;
             voltages = c.self.inside.voltages.items;
             currents = c.self.inside.currents.items;
             switch_currents = c.self.inside.switch_currents.items;
             closed = c.self.inside.closed.items;
             made = c.self.inside.made;
-            redone = c.self.inside.redone;
+            redone = c.self.inside.matrix.redone;
           } in
           let case = seen.case in
           let stood : StandsFor seen H = subst (λ (s : Net). StandsFor s H) (sym c.self.view_is) stands in
@@ -302,8 +302,8 @@ returns g c =
           let decided = c.in_ok-decide.ensures.decided H stood.switches last in
           let ready = ready_is seen H c.decide.new.self.kinds.items c.decide.new.rows c.decide.new.switches stood decided in
           let values = c.set_sources.ensures.values H stood.steps tacs in
-          let posed = posed_is seen H c.decide.new.rows c.decide.new.switches c.decide.new.self c.set_sources.new.self c.factor.new.kept stood decided c.set_sources.ensures.kinds values (c.in_ok-factor.ensures.made H ready) in
-          let redone = c.factor.ensures.redone H ready in
+          let posed = posed_is seen H c.decide.new.rows c.decide.new.switches c.decide.new.self c.set_sources.new.self c.factor.new.self.kept stood decided c.set_sources.ensures.kinds values (c.in_ok-factor.ensures.factors H ready).made in
+          let redone = (c.factor.ensures.factors H ready).redone in
           let vs = c.deref-3.result.now in
           let read = c.deref-3.ensures.value ∙ with_items_is c.self.inside.voltages c.solve.new.voltages (c.solve.auto.voltages ∙ c.deref_mut.ensures.len) in
           let voltages : AreVoltages case H vs = subst (AreVoltages case H) (sym read) (c.in_ok-solve.ensures.finds H posed) in
@@ -321,14 +321,14 @@ returns g c =
             case = case;
             branches = c.accept.new.self;
             switches = c.find_currents.new.switches;
-            rows = c.factor.new.rows;
-            kept = c.factor.new.kept;
+            rows = c.factor.new.self.rows;
+            kept = c.factor.new.self.kept;
             voltages = (with_items c.self.inside.voltages c.solve.new.voltages).items;
             currents = (with_items c.self.inside.currents c.accept.new.currents).items;
             switch_currents = (with_items c.self.inside.switch_currents c.find_currents.new.out).items;
             closed = (with_items c.self.inside.closed c.write_closed.new.out).items;
             made = c.self.inside.made + 1;
-            redone = c.factor.new.redone;
+            redone = c.factor.new.self.redone;
           }) in
           let stepped : HasStepped seen left H vs = record {
             case_is = refl;
@@ -338,7 +338,7 @@ returns g c =
             voltages = sym c.deref-3.ensures.value;
             switch_currents = crossed ∙ has.are;
             closed = marked ∙ c.write_closed.ensures;
-            kept = c.in_ok-factor.ensures.made H ready;
+            kept = (c.in_ok-factor.ensures.factors H ready).made;
             kept_size = c.factor.ensures.rows.kept_size;
             made = refl;
             redone = redone;
@@ -350,15 +350,15 @@ returns g c =
           absurd (free_isnt_tied c.self.inside.case.now.parts H node decided.free (subst (λ (s : Net). network_part s.case H ≡ Err (Tied node)) (sym c.self.view_is) tied));
       case = ap (λ (s : Net). s.case) c.self.view_is;
       made = ap (λ (s : Net). s.made + 1) c.self.view_is;
-      few = subst (λ (s : Net). c.factor.new.redone ≤ s.redone + MOST_NODES) c.self.view_is c.factor.ensures.few;
+      few = subst (λ (s : Net). c.factor.new.self.redone ≤ s.redone + MOST_NODES) c.self.view_is c.factor.ensures.few;
       few_ticks = c.factor.ensures.few_ticks;
       most = λ H stands tacs.
           let ready = ready_here _ _ H _ _ _ _ _ _ c.in_ok-decide.ensures.decided c.self.view_is stands c.deref.ensures.value c.deref-2.ensures.value tacs in
-          subst (λ (s : Net). c.factor.new.steps ≤ c.args.steps.now + step_ticks s.case H) c.self.view_is (c.factor.ensures.most H ready);
+          subst (λ (s : Net). c.factor.new.steps ≤ c.args.steps.now + step_ticks s.case H) c.self.view_is (c.factor.ensures.factors H ready).most;
       node = subst (λ (s : Net). IfErr c.judge.result (NamesNode s.case)) c.self.view_is c.judge.ensures.node;
       ticks = λ H stands tacs.
           let ready = ready_here _ _ H _ _ _ _ _ _ c.in_ok-decide.ensures.decided c.self.view_is stands c.deref.ensures.value c.deref-2.ensures.value tacs in
-          let same : c.factor.new.steps ≡ c.args.steps.now + step_ticks c.args.self.now.case H = subst (λ (s : Net). c.factor.new.steps ≡ c.args.steps.now + step_ticks s.case H) c.self.view_is (c.in_ok-factor.ensures.ticks H ready) in
+          let same : c.factor.new.steps ≡ c.args.steps.now + step_ticks c.args.self.now.case H = subst (λ (s : Net). c.factor.new.steps ≡ c.args.steps.now + step_ticks s.case H) c.self.view_is (c.in_ok-factor.ensures.factors H ready).ticks in
           ok_claims _ c.judge.result same;
     }
 

@@ -5,7 +5,7 @@ use Rattle.emtp_rows.specs.Nodal.{Nodal}
 use Rattle.emtp_rows.specs.held.Terms.{nodal_at_rest}
 use Rattle.emtp_net.specs.System.{conductances, couplings}
 use Rattle.emtp_net.proofs.Resting.{rows_rest}
-use Rattle.emtp_net.proofs.network.rows_at_rest.Goals as goal
+use Rattle.emtp_net.proofs.network.matrix_at_rest.Goals as goal
 
 coupled : (c : goal.After-set_couplings) → c.set_couplings.new.rows.nodal ≡ record (nodal_at_rest c.args.case.now.parts) { coupling = couplings c.args.case.now.parts }
 coupled c = c.set_couplings.ensures ∙ ap (λ (n : Nodal). record n { coupling = couplings c.args.case.now.parts }) c.in_ok-rows.ensures.nodal
