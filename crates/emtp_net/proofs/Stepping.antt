@@ -1,6 +1,7 @@
 -- A step, from what its stages answer.
-use Rattle.std.proofs.Common.{◌≡◌, ◌∙◌, sym, ap, subst, ℕ, ◌+◌, ℤ, List, [], ◌∷◌, length, map, Result, Ok, Err, MatchResult, OnOk, IfErr, IsErrAnd, refl, arith}
-use Rattle.emtp_case.specs.StepRecord.{StepRecord, is_closed, latest}
+use Rattle.emtp_case.specs.declared.limit.TheConstants.{MOST_NODES}
+use Rattle.std.proofs.Common.{◌≡◌, ◌∙◌, sym, ap, subst, ℕ, ◌+◌, ◌≤◌, ℤ, List, ◌∷◌, length, map, Result, Ok, Err, MatchResult, OnOk, IfErr, IsErrAnd, refl, arith}
+use Rattle.emtp_case.specs.StepRecord.{StepRecord, is_closed}
 use Rattle.emtp_case.specs.declared.case.Parts.{Parts}
 use Rattle.emtp_case.specs.declared.row_kind.RowKind.{RowKind}
 use Rattle.emtp_rows.specs.held.Touched.{NodalRows}
@@ -10,12 +11,12 @@ use Rattle.emtp_tail.proofs.RedoneRows.{matrix_before_is}
 use Rattle.emtp_tail.specs.held.Good.{Good}
 use Rattle.emtp_net.specs.held.Fault.{NamesNode}
 use Rattle.emtp_net.specs.held.Moving.{AreCurrents, AreLineCurrents, HaveMoved, IsNext}
-use Rattle.emtp_net.specs.held.Network.{Net, StandsFor, StepsTo}
+use Rattle.emtp_net.specs.held.Network.{HasCounted, HasEliminated, Net, StandsFor, StandsWith, StepsTo}
 use Rattle.emtp_net.specs.Part.{NetworkPart, part_at, states_at, switch_currents_at}
 use Rattle.emtp_net.specs.held.Part.{network_of}
 use Rattle.emtp_net.specs.Redone.{net_redone, step_redone}
-use Rattle.emtp_net.specs.held.Redone.{last_matrix}
-use Rattle.emtp_net.specs.held.Stages.{AreVoltages, Ends, HasCurrents, IsBalanced, IsDecided, IsPosed, IsReady, step_adds}
+use Rattle.emtp_net.specs.held.Redone.{last_matrix, step_ticks}
+use Rattle.emtp_net.specs.held.Stages.{AreVoltages, Ends, HasCurrents, IsBalanced, IsDecided, IsPosed, IsReady, IsUntied, step_adds}
 use Rattle.emtp_net.specs.Step.{network_part}
 use Rattle.emtp_net.specs.System.{matrix}
 use Rattle.emtp_net.specs.held.System.{source_values}
@@ -23,29 +24,32 @@ use Rattle.emtp_net.specs.declared.fault.NetFault.{NetFault}
 use Rattle.emtp_net.specs.declared.nodal_system.NodalSystem.{NodalSystem}
 use Rattle.emtp_net.proofs.Ending.{part_branches, part_currents, part_made, part_states, part_voltages}
 use Rattle.emtp_net.proofs.LineCurrents.{line_currents_next}
+use Rattle.emtp_net.proofs.Switching.{states_next}
+use Rattle.emtp_net.proofs.Tying.{free_isnt_tied}
 
 -- ---- what a stage gives to the next one
 
-pub latest_is : (s : Net) (H : List StepRecord) (voltages currents tacs : List ℤ) → StandsFor s H → voltages ≡ s.voltages → currents ≡ s.switch_currents → tacs ≡ (latest H).values → switching.AreLatest (s.made + 1) voltages currents tacs H
-latest_is s H voltages currents tacs stands first second third = record { step_is = stands.steps; voltages_are = first ∙ stands.voltages; currents_are = second ∙ stands.switch_currents; values_are = third }
+pub latest_is : (s : Net) (H : List StepRecord) (voltages currents tacs : List ℤ) → StandsWith s tacs H → voltages ≡ s.voltages → currents ≡ s.switch_currents → switching.AreLatest (s.made + 1) voltages currents tacs H
+latest_is s H voltages currents tacs stands first second = record { step_is = stands.network.steps; voltages_are = first ∙ stands.network.voltages; currents_are = second ∙ stands.network.switch_currents; values_are = stands.control }
 
 pub ready_is : (s : Net) (H : List StepRecord) (kinds : List RowKind) (rows : NodalRows) (switches : switching.Switching) → StandsFor s H → IsDecided s.case H kinds rows switches → IsReady s.case H s.branches rows s.kept s.made
 ready_is s H kinds rows switches stands decided = record { stands = stands.branches; free = decided.free; kinds = decided.rows_are; kept_is = stands.kept; steps = stands.steps }
 
--- what a step decides, of its record as it stands
-abbrev pub Decides : (s : Net) (voltages currents tacs : List ℤ) (kinds : List RowKind) (rows : NodalRows) (switches : switching.Switching) → Type 0
-Decides s voltages currents tacs kinds rows switches = (H : List StepRecord) → switching.StandsFor s.switches H → switching.AreLatest (s.made + 1) voltages currents tacs H → IsDecided s.case H kinds rows switches
+-- the switches moved, for whatever record has their next states
+abbrev pub SwitchesMove : (s : Net) (voltages currents tacs : List ℤ) (switches : switching.Switching) → Type 0
+SwitchesMove s voltages currents tacs switches =
+    (H : List StepRecord) (r : StepRecord) → switching.StandsFor s.switches H → switching.AreLatest (s.made + 1) voltages currents tacs H → r.switch_states ≡ next_states s.switches.case H → switching.StandsFor switches (r ∷ H)
 
-pub decided_here : (s now : Net) (H : List StepRecord) (voltages currents tacs : List ℤ) (kinds : List RowKind) (rows : NodalRows) (switches : switching.Switching) → Decides s voltages currents tacs kinds rows switches
-    → s ≡ now → StandsFor now H → voltages ≡ s.voltages → currents ≡ s.switch_currents → tacs ≡ (latest H).values → IsDecided s.case H kinds rows switches
-decided_here s now H voltages currents tacs kinds rows switches decides same stands first second third =
-    let stood = subst (λ (n : Net). StandsFor n H) (sym same) stands in
-    decides H stood.switches (latest_is s H voltages currents tacs stood first second third)
+-- they stand for such a record
+pub switches_next : (s now : Net) (H : List StepRecord) (voltages currents tacs : List ℤ) (switches : switching.Switching) → SwitchesMove s voltages currents tacs switches → s.switches.case ≡ s.case
+    → s ≡ now → StandsWith now tacs H → voltages ≡ s.voltages → currents ≡ s.switch_currents → (r : StepRecord) → r.switch_states ≡ next_states s.case H → switching.StandsFor switches (r ∷ H)
+switches_next s now H voltages currents tacs switches moves case_is same stands first second r is =
+    let stood = subst (λ (n : Net). StandsWith n tacs H) (sym same) stands in
+    moves H r stood.network.switches (latest_is s H voltages currents tacs stood first second) (is ∙ ap (λ (p : Parts). next_states p H) (sym case_is))
 
-pub ready_here : (s now : Net) (H : List StepRecord) (voltages currents tacs : List ℤ) (kinds : List RowKind) (rows : NodalRows) (switches : switching.Switching) → Decides s voltages currents tacs kinds rows switches
-    → s ≡ now → StandsFor now H → voltages ≡ s.voltages → currents ≡ s.switch_currents → tacs ≡ (latest H).values → IsReady s.case H s.branches rows s.kept s.made
-ready_here s now H voltages currents tacs kinds rows switches decides same stands first second third =
-    ready_is s H kinds rows switches (subst (λ (n : Net). StandsFor n H) (sym same) stands) (decided_here s now H voltages currents tacs kinds rows switches decides same stands first second third)
+pub states_here : (s now : Net) (H : List StepRecord) (voltages currents tacs : List ℤ) (switches : switching.Switching) → SwitchesMove s voltages currents tacs switches → s.switches.case ≡ s.case
+    → s ≡ now → StandsWith now tacs H → voltages ≡ s.voltages → currents ≡ s.switch_currents → switches.states ≡ next_states s.case H
+states_here s now H voltages currents tacs switches moves case_is same stands first second = states_next s.case H switches (switches_next s now H voltages currents tacs switches moves case_is same stands first second)
 
 pub posed_is : (s : Net) (H : List StepRecord) (rows : NodalRows) (switches : switching.Switching) (old system : NodalSystem) (kept : Good) → StandsFor s H → IsDecided s.case H old.kinds.items rows switches → system.kinds ≡ old.kinds → system.values.items ≡ source_values s.case H → kept.rows ≡ matrix s.case H
     → IsPosed s.case H s.branches system kept
@@ -71,6 +75,23 @@ err_steps s now left H result e redone same stands kept count is ends =
     let reached : network_part now.case H ≡ Err e = ap (λ (n : Net). network_part n.case H) (sym same) ∙ ends.is in
     let counted : left.redone ≡ net_redone left.case H + step_adds e left.case H = omega (arith, count, stands.redone, ends.adds, ap (λ (p : Parts). net_redone p H) kept, ap (λ (p : Parts). step_adds e p H) kept) in
     subst (λ r. StepsTo r left H (network_part now.case H)) (sym is) (subst (StepsTo (Err e) left H) (sym reached) (refl, counted))
+
+-- a step is counted, whatever follows once its factor was made or refused
+pub counted : (s now left : Net) (before after : ℕ) → s ≡ now → left.case ≡ s.case → left.made ≡ s.made + 1 → left.redone ≤ s.redone + MOST_NODES → after ≤ before + MOST_NODES → HasCounted now left before after
+counted s now left before after same case made few few_ticks =
+    subst (λ (n : Net). HasCounted n left before after) same (record { case = case; made = made; few = few; few_ticks = few_ticks })
+
+pub counted_still : (s now left : Net) (ticks : ℕ) → s ≡ now → left.case ≡ s.case → left.made ≡ s.made + 1 → left.redone ≡ s.redone → HasCounted now left ticks ticks
+counted_still s now left ticks same case made redone = counted s now left ticks ticks same case made (omega (arith, redone)) (omega arith)
+
+-- what a step eliminated, once its factor was made or refused: then no two known voltages are tied
+pub ticked : (s now : Net) (H : List StepRecord) (result : Result (Unit {0}) NetFault) (before after : ℕ) → s ≡ now → IsUntied s.case H → after ≤ before + step_ticks s.case H → OnOk result (after ≡ before + step_ticks s.case H) → HasEliminated result now.case H before after
+ticked s now H result before after same free most made =
+    subst (λ (n : Net). HasEliminated result n.case H before after) same (record {
+      made = made;
+      most = most;
+      tied = λ node is. absurd (free_isnt_tied s.case H node free is);
+    })
 
 -- all stages of a step after which the network is `left`
 pub record HasStepped (s left : Net) (H : List StepRecord) (vs : List ℤ) : Type 0 where

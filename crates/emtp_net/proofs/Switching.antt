@@ -19,7 +19,7 @@ use Rattle.emtp_switch.specs.Kinds as switched
 use Rattle.emtp_switch.specs.States.{next_states}
 use Rattle.emtp_switch.specs.held.Switching as switching
 use Rattle.emtp_rows.specs.held.Touched.{NodalRows}
-use Rattle.emtp_net.specs.held.Holding.{HoldsSwitches, KeepsKinds}
+use Rattle.emtp_net.specs.held.Holding.{HasKinds, HoldsSwitches, KeepsKinds}
 use Rattle.emtp_net.specs.declared.nodal_system.NodalSystem.{NodalSystem}
 use Rattle.emtp_net.specs.Part.{leaving_rows, switch_currents_at}
 use Rattle.emtp_net.specs.Step.{first_beyond}
@@ -58,6 +58,10 @@ keeps_on case old new rows rows' s s' keeps decided here there same = λ is.
       here_are = ap (λ v. v.items) here ∙ has.here_are ∙ kinds;
       there_are = there ∙ has.there_are ∙ kinds;
     }
+
+-- as they are where the switches moved to the states that they had
+pub keeps_still : (case : Parts) (system : NodalSystem) (rows : NodalRows) (s s' : switching.Switching) → KeepsKinds case system rows s → s'.states ≡ s.states → KeepsKinds case system rows s'
+keeps_still case system rows s s' keeps same = λ is. subst (HasKinds case system.kinds.items rows.nodal.kinds) (sym same) (keeps is)
 
 -- the kinds fit the rows of the case
 pub are_kinds : (case held : Parts) (s : switching.Switching) (kinds : List RowKind) → HoldsSwitches case s → held ≡ case → (s.rows.fixed ≤ length s.case.nodes → AreKinds (length s.case.nodes) s.rows.fixed kinds) → AreKinds (length held.nodes) (order_of held).fixed kinds

@@ -1,16 +1,14 @@
 //! The network of a case.
 
 ghost use Rattle.emtp_case.specs.declared.limit.TheConstants.{MOST_NODES};
-ghost use Rattle.std.specs.Prelude.{◌≡◌, ◌+◌, ◌*◌, ◌<◌, ◌≤◌, ◌∷◌, [], ℕ, List, length, map, pos, replicate, unsigned_abs, All, Err, IfErr, IfOk, OnOk};
+ghost use Rattle.std.specs.Prelude.{◌≡◌, ◌+◌, ◌*◌, ◌<◌, ◌≤◌, ◌∷◌, [], List, length, map, pos, replicate, unsigned_abs, All, IfErr, IfOk};
 ghost use Rattle.emtp_case.specs.RowOrder.{order_of};
 ghost use Rattle.emtp_case.specs.StepRecord.{StepRecord, branch_current_at, is_closed, latest, rest_of};
 ghost use Rattle.emtp_fix.specs.declared.limit.TheConstants.{LARGEST_VALUE};
 ghost use Rattle.emtp_net.specs.held.Branches.{HasCase, StandsFor as BranchesStandFor};
 ghost use Rattle.emtp_net.specs.held.Fault.{NamesNode};
 ghost use Rattle.emtp_net.specs.held.Holding.{HoldsRows};
-ghost use Rattle.emtp_net.specs.held.Network.{StandsFor, StepsTo};
-ghost use Rattle.emtp_net.specs.held.Redone.{step_ticks};
-ghost use Rattle.emtp_net.specs.Step.{network_part};
+ghost use Rattle.emtp_net.specs.held.Network.{HasCounted, MakesStep, StandsFor, TicksStep};
 
 use crate::branches::Branches;
 use crate::factor::{NodalMatrix, set_all_conductances, set_couplings};
@@ -127,27 +125,17 @@ impl<'a> Network<'a> {
     pub fn step<L: Ledger>(&mut self, tacs: &[i64], steps: &mut Steps<L>) -> Result<(), NetFault>
         requires made { self.old.made < self.old.case.run.steps }
         requires tacs { length tacs.now ≡ length self.old.case.vars }
-        ensures case { self.new.case ≡ self.old.case }
-        ensures made { self.new.made ≡ self.old.made + 1 }
-        ensures step { (H : List StepRecord) → StandsFor self.old H → tacs.now ≡ (latest H).values → StepsTo result self.new H (network_part self.old.case H) }
-        ensures ticks { (H : List StepRecord) → StandsFor self.old H → tacs.now ≡ (latest H).values → OnOk result (steps.new ≡ steps.old + step_ticks self.old.case H) }
-        ensures most { (H : List StepRecord) → StandsFor self.old H → tacs.now ≡ (latest H).values → steps.new ≤ steps.old + step_ticks self.old.case H }
-        ensures tied { (H : List StepRecord) (node : ℕ) → StandsFor self.old H → tacs.now ≡ (latest H).values → network_part self.old.case H ≡ Err (NetFault.Tied node) → steps.new ≡ steps.old }
-        ensures few { self.new.redone ≤ self.old.redone + MOST_NODES }
-        ensures few_ticks { steps.new ≤ steps.old + MOST_NODES }
+        ensures counts { HasCounted self.old self.new steps.old steps.new }
+        ensures step { MakesStep result self.old self.new tacs.now }
+        ensures ticks { TicksStep result self.old tacs.now steps.old steps.new }
         ensures node { IfErr result (NamesNode self.old.case) }
     {
         let made = self.made;
         self.made += 1;
-        self.system.decide(
-            self.case,
-            &mut self.switches,
-            &mut self.matrix.rows,
-            self.made,
-            &self.voltages,
-            &self.switch_currents,
-            tacs,
-        )?;
+        self.switches
+            .decide(self.made, &self.voltages, &self.switch_currents, tacs);
+        self.system
+            .set_kinds(self.case, &self.switches, &mut self.matrix.rows)?;
         self.matrix
             .factor(self.case, &self.order, &self.branches, made, steps)?;
         self.system
@@ -234,7 +222,8 @@ fn shown_at_rest(alloc: Global, case: &Case, switches: &Switches<'_>) -> Result<
     requires { switches.now.case ≡ case.now.parts }
     ensures voltages { IfOk result (λ shown. shown.voltages.items ≡ replicate (length case.now.parts.nodes + 1) (pos 0)) }
     ensures currents { IfOk result (λ shown. shown.currents.items ≡ replicate (length case.now.parts.branches) (pos 0)) }
-    ensures switch_currents { IfOk result (λ shown. shown.switch_currents.items ≡ replicate (length case.now.parts.switches) (pos 0)) }
+    ensures switch_currents { IfOk result (λ shown.
+        shown.switch_currents.items ≡ replicate (length case.now.parts.switches) (pos 0)) }
     ensures closed { IfOk result (λ shown. shown.closed.items ≡ map is_closed switches.now.states) }
     ensures count { IfOk result (λ shown. length shown.closed.items ≡ length case.now.parts.switches) }
 {

@@ -1,17 +1,14 @@
 //! The nodal system of a step, and what is made of its solution.
 
-ghost use Rattle.std.specs.Prelude.{◌≡◌, ◌+◌, ◌^◌, ◌<◌, ◌≤◌, ◌∷◌, ℕ, pos, true, false, All, List, length, replicate, unsigned_abs, IfErr, IfOk, OnOk};
+ghost use Rattle.std.specs.Prelude.{◌≡◌, ◌+◌, ◌^◌, ◌<◌, ◌≤◌, ℕ, pos, true, false, All, length, replicate, unsigned_abs, IfErr, IfOk};
 ghost use Rattle.emtp_case.specs.RowOrder.{order_of};
-ghost use Rattle.emtp_case.specs.StepRecord.{StepRecord};
 ghost use Rattle.emtp_elim.specs.Matrix.{item};
 ghost use Rattle.emtp_fix.specs.declared.limit.TheConstants.{LARGEST_VALUE};
 ghost use Rattle.emtp_net.specs.held.Branches.{HasCase};
 ghost use Rattle.emtp_net.specs.held.Fault.{NamesNode};
 ghost use Rattle.emtp_net.specs.held.Holding.{HasRoom, HoldsSwitches, KeepsKinds};
-ghost use Rattle.emtp_net.specs.held.Stages.{Ends, IsDecided, FindsCurrents, FindsLeaving, FindsVoltages, JudgesStep, SetsSources};
+ghost use Rattle.emtp_net.specs.held.Stages.{FindsCurrents, FindsLeaving, FindsVoltages, JudgesStep, SetsSources, SetsKinds};
 ghost use Rattle.emtp_rows.specs.held.Touched.{Touches};
-ghost use Rattle.emtp_switch.specs.States.{next_states};
-ghost use Rattle.emtp_switch.specs.held.Switching.{AreLatest, StandsFor as SwitchesStandFor};
 
 use crate::branches::Branches;
 use crate::fault::NetFault;
@@ -85,38 +82,25 @@ impl NodalSystem {
         self.decided && !switches.changed()
     }
 
-    /// Moves the switches to their states of the next step, and gives the rows the kinds that follow. Where no switch
+    /// Gives the rows the kinds that follow from the switches, which have their states of the next step. Where no switch
     /// changed, kinds are neither copied nor compared.
-    pub(crate) fn decide(
+    pub(crate) fn set_kinds(
         &mut self,
         case: &Case,
-        switches: &mut Switches<'_>,
+        switches: &Switches<'_>,
         rows: &mut NetRows<'_>,
-        step: u32,
-        voltages: &[i64],
-        currents: &[i64],
-        tacs: &[i64],
     ) -> Result<(), NetFault>
         requires room { HasRoom case.now.parts self.old }
-        requires switches { HoldsSwitches case.now.parts switches.old }
+        requires switches { HoldsSwitches case.now.parts switches.now }
         requires rows { rows.old.nodal.case ≡ case.now.parts }
-        requires keeps { KeepsKinds case.now.parts self.old rows.old switches.old }
-        requires step { step ≤ case.now.parts.run.steps }
-        requires voltages { length voltages.now ≡ length case.now.parts.nodes + 1 }
-        requires small { All (λ v. unsigned_abs v ≤ LARGEST_VALUE) voltages.now }
-        requires currents { length currents.now ≡ length case.now.parts.switches }
-        requires tacs { length tacs.now ≡ length case.now.parts.vars }
+        requires keeps { switches.now.changed ≡ false → KeepsKinds case.now.parts self.old rows.old switches.now }
         ensures room { HasRoom case.now.parts self.new }
-        ensures switches { HoldsSwitches case.now.parts switches.new }
         ensures touched { Touches rows.old rows.new }
         ensures rest { rows.new.nodal ≡ record rows.old.nodal { kinds = rows.new.nodal.kinds } }
-        ensures keeps { KeepsKinds case.now.parts self.new rows.new switches.new }
-        ensures stands { (H : List StepRecord) (r : StepRecord) → SwitchesStandFor switches.old H → AreLatest step voltages.now currents.now tacs.now H → r.switch_states ≡ next_states case.now.parts H → SwitchesStandFor switches.new (r ∷ H) }
-        ensures decided { (H : List StepRecord) → SwitchesStandFor switches.old H → AreLatest step voltages.now currents.now tacs.now H → OnOk result (IsDecided case.now.parts H self.new.kinds.items rows.new switches.new) }
-        ensures ends { (H : List StepRecord) → SwitchesStandFor switches.old H → AreLatest step voltages.now currents.now tacs.now H → IfErr result (Ends case.now.parts H 0) }
+        ensures keeps { KeepsKinds case.now.parts self.new rows.new switches.now }
+        ensures kinds { SetsKinds result case.now.parts switches.now self.new rows.new }
         ensures node { IfErr result (NamesNode case.now.parts) }
     {
-        switches.decide(step, voltages, currents, tacs);
         if self.has_kinds(switches) {
             return Ok(());
         }

@@ -52,6 +52,12 @@ pub record IsDecided (case : Parts) (H : List StepRecord) (kinds : List RowKind)
   pub kinds_are : kinds ≡ kinds_of case H
   pub rows_are : rows.nodal.kinds ≡ kinds_of case H
 
+-- the rows get the kinds that follow from switches in their next states, or the step ends where these tie two known voltages
+abbrev pub SetsKinds : Result (Unit {0}) NetFault → Parts → Switching → NodalSystem → NodalRows → Type 0
+SetsKinds result case switches system rows =
+    (H : List StepRecord) → switches.states ≡ next_states case H
+    → MatchResult result (λ u. IsDecided case H system.kinds.items rows switches) (Ends case H 0)
+
 -- ---- the factor
 
 -- the factor is that of the last step's matrix, and rows have their next kinds
