@@ -127,16 +127,15 @@ ends_in : (case : Parts) (H : List StepRecord) (v : Variables) (system : BlockSy
 ends_in case H v system m result e answered is = subst (λ r. Advances r case H v system (control_step case H m)) (sym answered) (subst (Advances (Err e) case H v system) (sym is) refl)
 
 -- a fault of a card before the blocks
-pub known_refused : (case : Parts) (H : List StepRecord) (m : Measured) (n : ℕ) (values : List ℤ) (held : HeldDevices) (v : Variables) (system : BlockSystem) (result : Result (Unit {0}) TacsFault) (e : TacsFault)
-    → result ≡ Err e → Reaches (Err e) case H true n values held (known_before case H m) → Advances result case H v system (control_step case H m)
-known_refused case H m n values held v system result e answered is = ends_in case H v system m result e answered (known_ends case H m e (refused case H true n values held (known_before case H m) e is))
+pub known_refused : (case : Parts) (H : List StepRecord) (m : Measured) (n : ℕ) (values : List ℤ) (held : HeldDevices) (e : TacsFault) → Reaches (Err e) case H true n values held (known_before case H m) → control_step case H m ≡ Err e
+known_refused case H m n values held e is = known_ends case H m e (refused case H true n values held (known_before case H m) e is)
 
 -- a fault of the blocks
-pub blocks_refused : (case : Parts) (H : List StepRecord) (m : Measured) (values seen outputs : List ℤ) (held : HeldDevices) (b : Blocking) (v : Variables) (system : BlockSystem) (result : Result (Unit {0}) TacsFault) (e : TacsFault)
-    → result ≡ Err e → seen ≡ values → Reaches (Ok tt) case H true (length case.extras) values held (known_before case H m) → Solves (Err e) b outputs H (blocks case H seen) → Advances result case H v system (control_step case H m)
-blocks_refused case H m values seen outputs held b v system result e answered read known is =
+pub blocks_refused : (case : Parts) (H : List StepRecord) (m : Measured) (values seen outputs : List ℤ) (held : HeldDevices) (b : Blocking) (e : TacsFault)
+    → seen ≡ values → Reaches (Ok tt) case H true (length case.extras) values held (known_before case H m) → Solves (Err e) b outputs H (blocks case H seen) → control_step case H m ≡ Err e
+blocks_refused case H m values seen outputs held b e read known is =
     let r = reached case H true (length case.extras) values held (known_before case H m) known in
-    ends_in case H v system m result e answered (blocks_end case H m r.s e r.is (sym (ap (blocks case H) (read ∙ r.so_far.values_are)) ∙ unsolved b outputs H (blocks case H seen) e is))
+    blocks_end case H m r.s e r.is (sym (ap (blocks case H) (read ∙ r.so_far.values_are)) ∙ unsolved b outputs H (blocks case H seen) e is)
 
 -- what the step has so far when the later pass begins, and how it goes on
 pub record BlocksDone (case : Parts) (H : List StepRecord) (m : Measured) (b : Blocking) (outputs : List ℤ) (held : HeldDevices) : Type 0 where

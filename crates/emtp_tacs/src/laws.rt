@@ -42,7 +42,8 @@ pub fn later_cards_read_what_was_written()
 /// Once a step is made, the rows that were eliminated are those of one matrix and the rows redone.
 pub fn ticks_are_blocks_and_redone(case: &Case)
     ensures { (r s : StepRecord) (past : List StepRecord)
-        → control_ticks case.now.parts (r ∷ s ∷ past) ≡ length case.now.parts.blocks + control_redone case.now.parts (r ∷ s ∷ past) }
+        → control_ticks case.now.parts (r ∷ s ∷ past)
+        ≡ length case.now.parts.blocks + control_redone case.now.parts (r ∷ s ∷ past) }
 {}
 
 /// A step after one in which no limiter moved redoes no row.

@@ -1,15 +1,11 @@
 //! The control of a case.
 
 ghost use Rattle.emtp_case.specs.declared.limit.TheConstants.{MOST_CONTROL_CARDS};
-ghost use Rattle.std.specs.Prelude.{◌≡◌, ◌+◌, ◌-◌, ◌*◌, ◌<◌, ◌≤◌, ◌∷◌, [], All, List, length, unsigned_abs, IfErr, IfOk, OnOk};
-ghost use Rattle.emtp_blocks.specs.held.BlockRows.{StandsFor as BlocksStandFor, rows_of_blocks};
-ghost use Rattle.emtp_case.specs.StepRecord.{StepRecord, rest_of};
+ghost use Rattle.std.specs.Prelude.{◌≡◌, ◌*◌, ◌<◌, ◌≤◌, ◌∷◌, [], All, length, unsigned_abs, IfErr, IfOk};
+ghost use Rattle.emtp_case.specs.StepRecord.{rest_of};
 ghost use Rattle.emtp_fix.specs.declared.limit.TheConstants.{LARGEST_VALUE};
-ghost use Rattle.emtp_tacs.specs.held.Redone.{control_step_ticks};
-ghost use Rattle.emtp_tacs.specs.held.Stages.{Advances, HoldsSystem, HoldsVariables, IsMeasured, NamesVariable, VariablesStandFor, measured_from, measured_by};
-ghost use Rattle.emtp_tacs.specs.Step.{control_step};
-ghost use Rattle.emtp_tacs.specs.held.Tacs.{StandsFor, StepsTo};
-ghost use Rattle.emtp_tail.specs.Good.{first_change};
+ghost use Rattle.emtp_tacs.specs.held.Stages.{IsMeasured, NamesVariable, measured_from};
+ghost use Rattle.emtp_tacs.specs.held.Tacs.{HasCounted, MakesStep, StandsFor, TicksStep};
 
 use crate::block_system::BlockSystem;
 use crate::fault::TacsFault;
@@ -40,7 +36,15 @@ impl<'a> Model for Tacs<'a> {
 
     ghost coded = { Prim.hlevel codes };
 
-    ghost view = { λ s. record { case = s.case.now.parts; blocks = s.system.blocks; devices = s.variables.devices; kept = s.system.kept; values = s.variables.values.items; made = s.made; redone = s.system.redone } };
+    ghost view = { λ s. record {
+      case = s.case.now.parts;
+      blocks = s.system.blocks;
+      devices = s.variables.devices;
+      kept = s.system.kept;
+      values = s.variables.values.items;
+      made = s.made;
+      redone = s.system.redone;
+    } };
 
     ghost invariant = { λ s. HoldsTogether s.case.now.parts s.variables s.system s.made };
 }
@@ -82,13 +86,9 @@ impl<'a> Tacs<'a> {
     ) -> Result<(), TacsFault>
         requires made { self.old.made < self.old.case.run.steps }
         requires measured { IsMeasured self.old.case (measured_from voltages.now currents.now closed.now) }
-        ensures case { self.new.case ≡ self.old.case }
-        ensures made { self.new.made ≡ self.old.made + 1 }
-        ensures step { (H : List StepRecord) → StandsFor self.old H → StepsTo result self.new H (control_step self.old.case H (measured_from voltages.now currents.now closed.now)) }
-        ensures ticks { (H : List StepRecord) → StandsFor self.old H → OnOk result (steps.new ≡ steps.old + control_step_ticks self.old.case H) }
-        ensures most { (H : List StepRecord) → StandsFor self.old H → steps.new ≤ steps.old + control_step_ticks self.old.case H }
-        ensures few { self.new.redone ≤ self.old.redone + MOST_CONTROL_CARDS }
-        ensures few_ticks { steps.new ≤ steps.old + MOST_CONTROL_CARDS }
+        ensures counts { HasCounted self.old self.new steps.old steps.new }
+        ensures step { MakesStep result self.old self.new (measured_from voltages.now currents.now closed.now) }
+        ensures ticks { TicksStep result self.old steps.old steps.new }
         ensures var { IfErr result (NamesVariable self.old.case) }
     {
         let measured = Measurements {
@@ -99,15 +99,11 @@ impl<'a> Tacs<'a> {
         let made = self.made;
         self.made += 1;
         let first = self.system.first_changed(self.case, made);
-        advance(
-            self.case,
-            &mut self.variables,
-            &mut self.system,
-            first,
-            self.made,
-            measured,
-            steps,
-        )
+        self.variables
+            .compute_known(self.case, self.made, measured)?;
+        self.system
+            .solve(self.case, first, &mut self.variables.values, steps)?;
+        self.variables.compute_extras(self.case, false, self.made)
     }
 
     /// The values of the last record by variable, in nano.
@@ -135,33 +131,4 @@ impl<'a> Tacs<'a> {
     {
         &self.system.kept
     }
-}
-
-/// Computes all variables of a step in their order, or answers the first fault. `first` is the first changed row of the
-/// blocks' matrix.
-fn advance<L: Ledger>(
-    case: &Case,
-    variables: &mut Variables<'_>,
-    system: &mut BlockSystem<'_>,
-    first: usize,
-    step: u32,
-    measured: Measurements<'_>,
-    steps: &mut Steps<L>,
-) -> Result<(), TacsFault>
-    requires variables { HoldsVariables case.now.parts variables.old }
-    requires system { HoldsSystem case.now.parts system.old }
-    requires first { first ≡ first_change system.old.kept.rows (rows_of_blocks system.old.blocks) }
-    requires step { step ≤ case.now.parts.run.steps }
-    requires measured { IsMeasured case.now.parts (measured_by measured) }
-    ensures variables { HoldsVariables case.now.parts variables.new }
-    ensures system { HoldsSystem case.now.parts system.new }
-    ensures redone { system.new.redone ≡ system.old.redone }
-    ensures advances { (H : List StepRecord) → step ≡ length H → VariablesStandFor case.now.parts variables.old H → BlocksStandFor system.old.blocks H → Advances result case.now.parts H variables.new system.new (control_step case.now.parts H (measured_by measured.entry)) }
-    ensures ticks { OnOk result (steps.new + first ≡ steps.old + length case.now.parts.blocks) }
-    ensures most { steps.new ≤ steps.old + (length case.now.parts.blocks - first) }
-    ensures var { IfErr result (NamesVariable case.now.parts) }
-{
-    variables.compute_known(case, step, measured)?;
-    system.solve(case, first, &mut variables.values, steps)?;
-    variables.compute_extras(case, false, step)
 }

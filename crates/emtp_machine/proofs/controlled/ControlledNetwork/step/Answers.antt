@@ -46,27 +46,27 @@ returns-in-Err-step-clause-step g c = λ H stands.
     let lists = shown_by c.step.new.self c.voltages.result.now c.currents.result.now c.closed.result.now c.voltages.ensures.value c.currents.ensures.value c.closed.ensures.value in
     let stops = subst (λ (m : Measured). ControlStepsTo (Err c.in-Err-step.fault) c.step-2.new.self H (control_step control.case H m)) lists (c.in-Err-step.ensures.step H stands.control) in
     steps_ended case (record { network = c.step.new.self; control = c.step-2.new.self }) control c.args.step H c.in-Err-step.fault c.control_end.result (network_part case H) refl answer c.requires.case.control stops
-    (record { network = c.step.ensures.counts.case ∙ c.requires.case.network; control = c.step-2.ensures.case ∙ c.requires.case.control }) c.control_end.ensures.value
+    (record { network = c.step.ensures.counts.case ∙ c.requires.case.network; control = c.step-2.ensures.counts.case ∙ c.requires.case.control }) c.control_end.ensures.value
 
 pub returns-in-Ok-clause-ticks : goal.returns-in-Ok-clause-ticks
 returns-in-Ok-clause-ticks g c = λ H stands.
     let both : NetworkStandsWith c.args.self.now.network c.values.result.now H = record { network = stands.network; control = c.values.ensures.value ∙ stands.control.values } in
     let first = subst (λ (p : Parts). c.step.new.steps ≡ c.args.steps.now + step_ticks p H) c.requires.case.network (c.in_default.ensures.ticks H both).made in
-    let second = subst (λ (p : Parts). c.step-2.new.steps ≡ c.step.new.steps + control_step_ticks p H) c.requires.case.control (c.in-Ok.ensures.ticks H stands.control) in
+    let second = subst (λ (p : Parts). c.step-2.new.steps ≡ c.step.new.steps + control_step_ticks p H) c.requires.case.control (c.in-Ok.ensures.ticks H stands.control).made in
     omega (arith, first, second)
 
 pub returns-in-Err-step-clause-most : goal.returns-in-Err-step-clause-most
 returns-in-Err-step-clause-most g c = λ H stands.
     let both : NetworkStandsWith c.args.self.now.network c.values.result.now H = record { network = stands.network; control = c.values.ensures.value ∙ stands.control.values } in
     let first = subst (λ (p : Parts). c.step.new.steps ≡ c.args.steps.now + step_ticks p H) c.requires.case.network (c.in_default.ensures.ticks H both).made in
-    let second = subst (λ (p : Parts). c.step-2.new.steps ≤ c.step.new.steps + control_step_ticks p H) c.requires.case.control (c.step-2.ensures.most H stands.control) in
+    let second = subst (λ (p : Parts). c.step-2.new.steps ≤ c.step.new.steps + control_step_ticks p H) c.requires.case.control (c.step-2.ensures.ticks H stands.control).most in
     ended_ticks c.args.case.now.parts H c.in-Err-step.fault c.control_end.result c.args.step c.args.steps.now c.step.new.steps c.step-2.new.steps first second c.control_end.ensures.value
 
 pub returns-in-Ok-clause-case : goal.returns-in-Ok-clause-case
-returns-in-Ok-clause-case g c = record { network = c.step.ensures.counts.case ∙ c.requires.case.network; control = c.step-2.ensures.case ∙ c.requires.case.control }
+returns-in-Ok-clause-case g c = record { network = c.step.ensures.counts.case ∙ c.requires.case.network; control = c.step-2.ensures.counts.case ∙ c.requires.case.control }
 
 pub returns-in-Err-step-clause-case : goal.returns-in-Err-step-clause-case
-returns-in-Err-step-clause-case g c = record { network = c.step.ensures.counts.case ∙ c.requires.case.network; control = c.step-2.ensures.case ∙ c.requires.case.control }
+returns-in-Err-step-clause-case g c = record { network = c.step.ensures.counts.case ∙ c.requires.case.network; control = c.step-2.ensures.counts.case ∙ c.requires.case.control }
 
 pub returns-in-Err-clause-case : goal.returns-in-Err-clause-case
 returns-in-Err-clause-case g c = record { network = c.step.ensures.counts.case ∙ c.requires.case.network; control = c.requires.case.control }

@@ -1,45 +1,139 @@
-use Rattle.std.proofs.Common.{◌∙◌, ◌+◌, ◌<◌, length, sym, ap, subst, arith}
-use Rattle.emtp_blocks.specs.held.BlockRows.{Blocking, StandsFor as BlocksStandFor}
-use Rattle.emtp_blocks.specs.System.{matrix}
-use Rattle.emtp_tail.proofs.RedoneRows.{rows_ticked_most}
-use Rattle.emtp_tacs.specs.Step.{Measured, control_step}
-use Rattle.emtp_tacs.specs.held.Stages.{IsMeasured, measured_from}
-use Rattle.emtp_tacs.specs.held.Redone.{control_step_ticks}
+use Rattle.std.proofs.Common.{◌∙◌, ◌+◌, ◌<◌, ◌≤◌, length, sym, ap, subst, List, ℤ, Ok, Err, IfErr, false, refl, arith}
+use Rattle.std.proofs.lemmas.List.{with_items_is}
+use Rattle.std.proofs.lemmas.Result.{err_from_is_err_and}
+use Rattle.emtp_blocks.specs.held.BlockRows.{Blocking, StandsFor as BlocksStandFor, rows_of_blocks}
+use Rattle.emtp_case.specs.held.Control.{AreKnown}
+use Rattle.emtp_tail.specs.Good.{first_change}
+use Rattle.emtp_tail.specs.held.Good.{Good}
+use Rattle.emtp_tacs.specs.Step.{Measured, blocks, control_step}
+use Rattle.emtp_tacs.specs.held.Stages.{IsMeasured, IsSoFar, NamesVariable, Solves, measured_from}
 use Rattle.emtp_tacs.specs.held.Tacs.{HeldControl, StandsFor, StepsTo}
-use Rattle.emtp_tacs.proofs.Stepping.{first_is, held_of, steps_to, ticks_ok, variables_stand}
+use Rattle.emtp_tacs.proofs.Advancing.{advances, blocks_done, blocks_refused, known_refused}
+use Rattle.emtp_tacs.proofs.Stepping.{counted, err_steps, few_next, first_is, held_of, ok_claims, redone_is, steps_to, ticked, variables_stand}
+use Rattle.emtp_tacs.proofs.Systems.{err_claims, err_names}
 use Rattle.emtp_tacs.proofs.tacs.Tacs.step.Goals as goal
 
-pub returns-clause-step : goal.returns-clause-step
-returns-clause-step g c = λ H stands.
+pub invariant_of-self : goal.invariant_of-self
+invariant_of-self g c = record {
+  variables_hold = c.compute_known.ensures.holds;
+  system_holds = c.first_changed-first.ensures.holds;
+  few = few_next c.self.inside.case.now.parts c.self.inside.made c.self.inside.system.redone c.first_changed-first.new.self.redone c.self.invariant.few (subst (λ (t : HeldControl). t.made < t.case.run.steps) (sym c.self.view_is) c.requires.made) c.first_changed-first.ensures.few;
+}
+
+pub invariant_of-self-in_err-solve : goal.invariant_of-self-in_err-solve
+invariant_of-self-in_err-solve g c = record {
+  variables_hold = record { devices = c.compute_known.ensures.holds.devices; values = subst (AreKnown c.self.inside.case.now.parts) (sym (with_items_is c.compute_known.new.self.values c.solve.new.values (c.solve.auto.values ∙ c.deref_mut.ensures.len))) c.solve.ensures.values; names = c.compute_known.ensures.holds.names };
+  system_holds = c.solve.ensures.holds;
+  few = few_next c.self.inside.case.now.parts c.self.inside.made c.self.inside.system.redone c.solve.new.self.redone c.self.invariant.few (subst (λ (t : HeldControl). t.made < t.case.run.steps) (sym c.self.view_is) c.requires.made) (omega (arith, c.solve.ensures.redone, c.first_changed-first.ensures.few));
+}
+
+pub invariant_of-self-2 : goal.invariant_of-self-2
+invariant_of-self-2 g c = record {
+  variables_hold = c.compute_extras.ensures.holds;
+  system_holds = c.solve.ensures.holds;
+  few = few_next c.self.inside.case.now.parts c.self.inside.made c.self.inside.system.redone c.solve.new.self.redone c.self.invariant.few (subst (λ (t : HeldControl). t.made < t.case.run.steps) (sym c.self.view_is) c.requires.made) (omega (arith, c.solve.ensures.redone, c.first_changed-first.ensures.few));
+}
+
+pub returns-in_err-compute_known : goal.returns-in_err-compute_known
+returns-in_err-compute_known g c =
     let case = c.self.inside.case.now.parts in
     let v = c.self.inside.variables in
     let s = c.self.inside.system in
     let made = c.self.inside.made in
+    let first = c.first_changed-first.result in
     let m : Measured = measured_from c.args.voltages.now c.args.currents.now c.args.closed.now in
-    let stood : StandsFor (held_of case v s made) H = subst (λ (t : HeldControl). StandsFor t H) (sym c.self.view_is) stands in
-    let blocks = subst (λ (b : Blocking). BlocksStandFor b H) (sym c.first_changed-first.ensures.blocks) stood.blocks in
-    let advanced = c.advance.ensures.advances H stood.steps (variables_stand case v s made H stood) blocks in
-    let stepped = steps_to case v c.advance.new.variables s c.advance.new.system made c.first_changed-first.result H c.advance.result (control_step case H m) stood c.self.invariant.system_holds c.advance.ensures.system c.first_changed-first.ensures.first (c.advance.ensures.redone ∙ c.first_changed-first.ensures.redone) advanced in
-    subst (λ (t : HeldControl). StepsTo c.advance.result (held_of case c.advance.new.variables c.advance.new.system (made + 1)) H (control_step t.case H m)) c.self.view_is stepped
+    record {
+      counts = counted _ _ _ _ _ c.self.view_is refl refl c.first_changed-first.ensures.few (omega arith);
+      step = λ H stands.
+          let stood : StandsFor (held_of case v s made) H = subst (λ (t : HeldControl). StandsFor t H) (sym c.self.view_is) stands in
+          let vars = variables_stand case v s made H stood in
+          let redone = redone_is case v s c.first_changed-first.new.self made first H stood c.self.invariant.system_holds.case_is c.first_changed-first.ensures.first c.first_changed-first.ensures.redone in
+          let returned = err_from_is_err_and c.from_residual.result c.from_residual.ensures.1 in
+          err_steps (held_of case v s made) _ _ H m c.from_residual.result _ c.self.view_is stood refl redone (returned.1 ∙ ap Err returned.2)
+          (known_refused case H m (length case.extras) c.compute_known.new.self.values.items c.compute_known.new.self.devices _ (c.in_err-compute_known.ensures.known H stood.steps vars));
+      ticks = λ H stands. record { made = err_claims _ c.from_residual.result _ c.from_residual.ensures.1; most = omega arith };
+      var = subst (λ (t : HeldControl). IfErr c.from_residual.result (NamesVariable t.case)) c.self.view_is (err_names case c.from_residual.result _ c.from_residual.ensures.1 c.in_err-compute_known.ensures.var);
+    }
 
-pub returns-clause-ticks : goal.returns-clause-ticks
-returns-clause-ticks g c = λ H stands.
+pub returns-in_err-solve : goal.returns-in_err-solve
+returns-in_err-solve g c =
     let case = c.self.inside.case.now.parts in
-    let stood : StandsFor (held_of case c.self.inside.variables c.self.inside.system c.self.inside.made) H = subst (λ (t : HeldControl). StandsFor t H) (sym c.self.view_is) stands in
-    let first = first_is case c.self.inside.variables c.self.inside.system c.self.inside.made c.first_changed-first.result H stood c.self.invariant.system_holds.case_is c.first_changed-first.ensures.first in
-    ticks_ok case c.self.inside.variables c.self.inside.system c.self.inside.made c.args.self.now H c.first_changed-first.result c.args.steps.now c.advance.new.steps c.advance.result c.self.view_is first c.advance.ensures.ticks
+    let v = c.self.inside.variables in
+    let s = c.self.inside.system in
+    let made = c.self.inside.made in
+    let first = c.first_changed-first.result in
+    let m : Measured = measured_from c.args.voltages.now c.args.currents.now c.args.closed.now in
+    record {
+      counts = counted _ _ _ _ _ c.self.view_is refl refl (omega (arith, c.solve.ensures.redone, c.first_changed-first.ensures.few)) (omega (arith, c.solve.ensures.most, c.self.inside.case.now.fits.draft.counts.blocks));
+      step = λ H stands.
+          let stood : StandsFor (held_of case v s made) H = subst (λ (t : HeldControl). StandsFor t H) (sym c.self.view_is) stands in
+          let vars = variables_stand case v s made H stood in
+          let blocks_stand = subst (λ (b : Blocking). BlocksStandFor b H) (sym c.first_changed-first.ensures.blocks) stood.blocks in
+          let redone = redone_is case v s c.solve.new.self made first H stood c.self.invariant.system_holds.case_is c.first_changed-first.ensures.first (c.solve.ensures.redone ∙ c.first_changed-first.ensures.redone) in
+          let known = c.compute_known.new.self.values.items in
+          let returned = err_from_is_err_and c.from_residual-in_err-solve.result c.from_residual-in_err-solve.ensures.1 in
+          err_steps (held_of case v s made) _ _ H m c.from_residual-in_err-solve.result _ c.self.view_is stood refl redone (returned.1 ∙ ap Err returned.2)
+          (blocks_refused case H m known c.deref_mut.result.now c.solve.new.values c.compute_known.new.self.devices c.solve.new.self.blocks _ c.deref_mut.ensures.value (c.in_ok-compute_known.ensures.known H stood.steps vars) (c.in_err-solve.ensures.solves H blocks_stand).solves);
+      ticks = λ H stands.
+          let stood : StandsFor (held_of case v s made) H = subst (λ (t : HeldControl). StandsFor t H) (sym c.self.view_is) stands in
+          let found = first_is case v s made first H stood c.self.invariant.system_holds.case_is c.first_changed-first.ensures.first in
+          ticked (held_of case v s made) _ H first _ _ c.from_residual-in_err-solve.result c.self.view_is found c.solve.ensures.most (err_claims _ c.from_residual-in_err-solve.result _ c.from_residual-in_err-solve.ensures.1);
+      var = subst (λ (t : HeldControl). IfErr c.from_residual-in_err-solve.result (NamesVariable t.case)) c.self.view_is (err_names case c.from_residual-in_err-solve.result _ c.from_residual-in_err-solve.ensures.1 c.in_err-solve.ensures.var);
+    }
 
-pub returns-clause-most : goal.returns-clause-most
-returns-clause-most g c = λ H stands.
+pub returns : goal.returns
+returns g c =
     let case = c.self.inside.case.now.parts in
-    let stood : StandsFor (held_of case c.self.inside.variables c.self.inside.system c.self.inside.made) H = subst (λ (t : HeldControl). StandsFor t H) (sym c.self.view_is) stands in
-    let first = first_is case c.self.inside.variables c.self.inside.system c.self.inside.made c.first_changed-first.result H stood c.self.invariant.system_holds.case_is c.first_changed-first.ensures.first in
-    let same = ap (λ (t : HeldControl). control_step_ticks t.case H) c.self.view_is in
-    omega (arith, same, rows_ticked_most (length case.blocks) (matrix case) H c.first_changed-first.result c.args.steps.now c.advance.new.steps first c.advance.ensures.most)
+    let v = c.self.inside.variables in
+    let s = c.self.inside.system in
+    let made = c.self.inside.made in
+    let first = c.first_changed-first.result in
+    let m : Measured = measured_from c.args.voltages.now c.args.currents.now c.args.closed.now in
+    record {
+      counts = counted _ _ _ _ _ c.self.view_is refl refl (omega (arith, c.solve.ensures.redone, c.first_changed-first.ensures.few)) (omega (arith, c.solve.ensures.most, c.self.inside.case.now.fits.draft.counts.blocks));
+      step = λ H stands.
+          let stood : StandsFor (held_of case v s made) H = subst (λ (t : HeldControl). StandsFor t H) (sym c.self.view_is) stands in
+          let vars = variables_stand case v s made H stood in
+          let blocks_stand = subst (λ (b : Blocking). BlocksStandFor b H) (sym c.first_changed-first.ensures.blocks) stood.blocks in
+          let known = c.compute_known.new.self.values.items in
+          let held = c.compute_known.new.self.devices in
+          let whole = with_items_is c.compute_known.new.self.values c.solve.new.values (c.solve.auto.values ∙ c.deref_mut.ensures.len) in
+          let solved = c.in_ok-solve.ensures.solves H blocks_stand in
+          let took = subst (λ (xs : List ℤ). Solves (Ok tt) c.solve.new.self.blocks c.solve.new.values H (blocks case H xs)) c.deref_mut.ensures.value solved.solves in
+          let done = blocks_done case H m known c.solve.new.values held c.solve.new.self.blocks (c.in_ok-compute_known.ensures.known H stood.steps vars) took in
+          let so_far = subst (λ (ys : List ℤ). IsSoFar case H false 0 ys held (record done.s { values = done.t.values })) (sym whole) done.so_far in
+          let advanced = advances case H m c.compute_extras.result c.solve.new.self.blocks c.solve.new.values held c.compute_extras.new.self c.solve.new.self c.compute_extras.ensures.holds refl solved.kept done
+          (c.compute_extras.ensures.pass H (record done.s { values = done.t.values }) stood.steps so_far) in
+          let stepped = steps_to case v c.compute_extras.new.self s c.solve.new.self made first H c.compute_extras.result (control_step case H m) stood c.self.invariant.system_holds c.solve.ensures.holds c.first_changed-first.ensures.first (c.solve.ensures.redone ∙ c.first_changed-first.ensures.redone) advanced in
+          subst (λ (t : HeldControl). StepsTo c.compute_extras.result (held_of case c.compute_extras.new.self c.solve.new.self (made + 1)) H (control_step t.case H m)) c.self.view_is stepped;
+      ticks = λ H stands.
+          let stood : StandsFor (held_of case v s made) H = subst (λ (t : HeldControl). StandsFor t H) (sym c.self.view_is) stands in
+          let found = first_is case v s made first H stood c.self.invariant.system_holds.case_is c.first_changed-first.ensures.first in
+          ticked (held_of case v s made) _ H first _ _ c.compute_extras.result c.self.view_is found c.solve.ensures.most (ok_claims _ c.compute_extras.result c.in_ok-solve.ensures.ticks);
+      var = subst (λ (t : HeldControl). IfErr c.compute_extras.result (NamesVariable t.case)) c.self.view_is c.compute_extras.ensures.var;
+    }
 
 pub first_changed-first-requires-clause-made : goal.first_changed-first-requires-clause-made
 first_changed-first-requires-clause-made g c = subst (λ (t : HeldControl). t.made < t.case.run.steps) (sym c.self.view_is) c.requires.made
 
-pub advance-requires-clause-measured : goal.advance-requires-clause-measured
-advance-requires-clause-measured g c =
-    subst (λ (t : HeldControl). IsMeasured t.case (measured_from c.args.voltages.now c.args.currents.now c.args.closed.now)) (sym c.self.view_is) c.requires.measured
+pub compute_known-requires : goal.compute_known-requires
+compute_known-requires g c = record {
+  holds = c.self.invariant.variables_hold;
+  step = subst (λ (t : HeldControl). t.made + 1 ≤ t.case.run.steps) (sym c.self.view_is) (omega (arith, c.requires.made));
+  measured = subst (λ (t : HeldControl). IsMeasured t.case (measured_from c.args.voltages.now c.args.currents.now c.args.closed.now)) (sym c.self.view_is) c.requires.measured;
+}
+
+pub solve-requires : goal.solve-requires
+solve-requires g c =
+    let s = c.self.inside.system in
+    let next = c.first_changed-first.new.self in
+    let kept = ap (λ (k : Good). first_change k.rows (rows_of_blocks next.blocks)) c.first_changed-first.ensures.kept in
+    let rows = ap (λ (b : Blocking). first_change s.kept.rows (rows_of_blocks b)) c.first_changed-first.ensures.blocks in
+    record {
+      holds = c.first_changed-first.ensures.holds;
+      first = c.first_changed-first.ensures.first ∙ sym (kept ∙ rows);
+      values = subst (AreKnown c.self.inside.case.now.parts) (sym c.deref_mut.ensures.value) c.compute_known.ensures.holds.values;
+    }
+
+pub compute_extras-requires : goal.compute_extras-requires
+compute_extras-requires g c = record { holds = record { devices = c.compute_known.ensures.holds.devices; values = subst (AreKnown c.self.inside.case.now.parts) (sym (with_items_is c.compute_known.new.self.values c.solve.new.values (c.solve.auto.values ∙ c.deref_mut.ensures.len))) c.solve.ensures.values; names = c.compute_known.ensures.holds.names } }
