@@ -45,8 +45,10 @@ impl HeldLine {
         requires { IsHeld self.old }
         ensures fits { IsHeld self.new }
         ensures mode { self.new.waves.mode ≡ self.old.waves.mode }
-        ensures moved { (past : List LineState) → LineStands self.old past → IfOk result (LineMoved self.new past (next_state self.old.waves.mode past v w)) }
-        ensures out { (past : List LineState) → LineStands self.old past → OnErr result (next_state self.old.waves.mode past v w ≡ None) }
+        ensures moved { (past : List LineState) → LineStands self.old past
+            → IfOk result (LineMoved self.new past (next_state self.old.waves.mode past v w)) }
+        ensures out { (past : List LineState) → LineStands self.old past
+            → OnErr result (next_state self.old.waves.mode past v w ≡ None) }
         ensures same { OnErr result (self.new ≡ self.old) }
     {
         match next(&self.waves, v, w) {
@@ -87,7 +89,8 @@ impl HeldLine {
         ensures mode { self.new.waves.mode ≡ self.old.waves.mode }
         ensures from { self.new.from_current ≡ state.now.from_current }
         ensures to { self.new.to_current ≡ state.now.to_current }
-        ensures waves { (from' to' : List ℤ) → WavesStand self.old.waves from' to' → WavesStand self.new.waves (state.now.from_wave ∷ from') (state.now.to_wave ∷ to') }
+        ensures waves { (from' to' : List ℤ) → WavesStand self.old.waves from' to'
+            → WavesStand self.new.waves (state.now.from_wave ∷ from') (state.now.to_wave ∷ to') }
     {
         self.waves.push(state.from_wave, state.to_wave, word);
         self.from_current = state.from_current;

@@ -79,7 +79,9 @@ impl HeldTrio {
     pub(crate) fn history_currents(&self, phase: usize) -> (i128, i128)
         requires held { IsHeldTrio self.now }
         requires phase { phase < 3 }
-        ensures value { result ≡ (self.now.zero_sequence.from_history +ℤ (phase_held self.now phase).waves.from_history, self.now.zero_sequence.to_history +ℤ (phase_held self.now phase).waves.to_history) }
+        ensures value { result
+            ≡ (self.now.zero_sequence.from_history +ℤ (phase_held self.now phase).waves.from_history,
+            self.now.zero_sequence.to_history +ℤ (phase_held self.now phase).waves.to_history) }
         ensures from_bound { unsigned_abs result.0 ≤ 10 ^ 21 }
         ensures to_bound { unsigned_abs result.1 ≤ 10 ^ 21 }
     {
@@ -112,8 +114,10 @@ impl HeldTrio {
         requires { IsHeldTrio self.old }
         ensures fits { IsHeldTrio self.new }
         ensures modes { held_modes self.new ≡ held_modes self.old }
-        ensures moved { (past : ℕ → List PhaseState) → TrioStands self.old past → IfOk result (TrioMoved self.new past (next_phases (held_modes self.old) past v.now w.now)) }
-        ensures out { (past : ℕ → List PhaseState) → TrioStands self.old past → IfErr result (λ fault. next_phases (held_modes self.old) past v.now w.now ≡ Err fault) }
+        ensures moved { (past : ℕ → List PhaseState) → TrioStands self.old past
+            → IfOk result (TrioMoved self.new past (next_phases (held_modes self.old) past v.now w.now)) }
+        ensures out { (past : ℕ → List PhaseState) → TrioStands self.old past
+            → IfErr result (λ fault. next_phases (held_modes self.old) past v.now w.now ≡ Err fault) }
         ensures same { OnErr result (self.new ≡ self.old) }
         ensures phase { IfErr result (λ fault. fault.phase < 3) }
     {
@@ -133,7 +137,10 @@ impl HeldTrio {
     /// What the next record keeps of the phases.
     fn next(&self, v: &[i64; 3], w: &[i64; 3]) -> Result<[PhaseState; 3], PhaseRange>
         requires { IsHeldTrio self.now }
-        ensures value { result ≡ three_states (phase_end (held_modes self.now) (held_from_histories self.now) v.now) (phase_end (held_modes self.now) (held_to_histories self.now) w.now) }
+        ensures value { result
+            ≡ three_states
+            (phase_end (held_modes self.now) (held_from_histories self.now) v.now)
+            (phase_end (held_modes self.now) (held_to_histories self.now) w.now) }
         ensures small { IfOk result AreSmall }
         ensures phase { IfErr result (λ fault. fault.phase < 3) }
     {
@@ -148,7 +155,8 @@ impl HeldTrio {
         requires small { AreSmall states.now }
         ensures fits { IsHeldTrio self.new }
         ensures modes { held_modes self.new ≡ held_modes self.old }
-        ensures stands { (past : ℕ → List PhaseState) → TrioStands self.old past → TrioStands self.new (with_states states.now past) }
+        ensures stands { (past : ℕ → List PhaseState) → TrioStands self.old past
+            → TrioStands self.new (with_states states.now past) }
     {
         self.zero_sequence
             .push(states[0].from_zero_wave, states[0].to_zero_wave, word);
@@ -172,7 +180,12 @@ fn phases_at_rest(alloc: Global, mode: Mode) -> Result<(HeldLine, HeldLine, Held
 
 /// The currents of a phase, and its waves of the positive sequence.
 fn positive_part(state: &PhaseState) -> LineState
-    ensures { result ≡ record { from_current = state.now.from_current; to_current = state.now.to_current; from_wave = state.now.from_wave; to_wave = state.now.to_wave } }
+    ensures { result ≡ record {
+        from_current = state.now.from_current;
+        to_current = state.now.to_current;
+        from_wave = state.now.from_wave;
+        to_wave = state.now.to_wave;
+    } }
 {
     LineState {
         from_current: state.from_current,

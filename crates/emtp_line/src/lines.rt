@@ -1,20 +1,17 @@
 //! All lines of a case.
 
-ghost use Rattle.std.specs.Prelude.{◌≡◌, ◌^◌, ◌≤◌, ◌<◌, ◌∷◌, [], ℕ, unsigned_abs, List, length, slice_get, IfOk};
+ghost use Rattle.std.specs.Prelude.{◌≡◌, ◌^◌, ◌≤◌, ◌<◌, ◌∷◌, [], unsigned_abs, length, slice_get, IfOk};
 ghost use Rattle.emtp_case.specs.held.Branch.{phase_of};
 ghost use Rattle.emtp_case.specs.held.Range.{IsBetween};
 ghost use Rattle.emtp_case.specs.StepRecord.{rest_of};
 ghost use Rattle.emtp_case.specs.declared.branch.Line.{Line};
-ghost use Rattle.emtp_case.specs.declared.branch.LineState.{LineState};
 ghost use Rattle.emtp_case.specs.declared.branch.Phase.{Phase};
-ghost use Rattle.emtp_case.specs.declared.branch.PhaseState.{PhaseState};
 ghost use Rattle.emtp_fix.specs.declared.limit.TheConstants.{LARGEST_ENTRY, LARGEST_VALUE};
-ghost use Rattle.emtp_line.specs.held.Held.{newest, newest_phase};
-ghost use Rattle.emtp_line.specs.Line.{line_histories};
 ghost use Rattle.emtp_line.specs.Lines.{trio_of};
-ghost use Rattle.emtp_line.specs.held.Lines.{HasWaves, IsLineAt, IsPhaseAt, Moves, StandsAt, StandsFor, TrioMoves, TrioStandsAt};
+ghost use Rattle.emtp_line.specs.held.Lines.{AreLineEnds, ArePhaseEnds, HasWaves, IsLineAt, IsPhaseAt, Moves, StandsFor, TrioMoves};
+ghost use Rattle.emtp_line.specs.held.Lines.{line_end_currents, line_history_currents, phase_end_currents, phase_history_currents};
 ghost use Rattle.emtp_line.specs.Mode.{mode_of_line};
-ghost use Rattle.emtp_line.specs.Phases.{modes_of, mutual_conductance, own_conductance, phase_from_history, phase_to_history};
+ghost use Rattle.emtp_line.specs.Phases.{modes_of, mutual_conductance, own_conductance};
 
 use crate::held::HeldLine;
 use crate::held_trio::HeldTrio;
@@ -72,7 +69,8 @@ impl<'a> Lines<'a> {
         requires { HasWaves (slice_get self.now.case.branches branch) }
         ensures bound { IsBetween 0 LARGEST_ENTRY result }
         ensures line { (x : Line) → IsLineAt self.now.case branch x → result ≡ (mode_of_line self.now.case.run.dt x).conductance }
-        ensures phase { (x : Phase) → IsPhaseAt self.now.case branch x → result ≡ own_conductance (modes_of self.now.case.run.dt (trio_of self.now.case x.trio)) }
+        ensures phase { (x : Phase) → IsPhaseAt self.now.case branch x
+            → result ≡ own_conductance (modes_of self.now.case.run.dt (trio_of self.now.case x.trio)) }
     {
         match phase_of(&self.case.parts.branches.as_slice()[branch]) {
             Some((trio, _)) => self.trios[trio].own,
@@ -95,8 +93,8 @@ impl<'a> Lines<'a> {
         requires { HasWaves (slice_get self.now.case.branches branch) }
         ensures from_bound { unsigned_abs result.0 ≤ 10 ^ 21 }
         ensures to_bound { unsigned_abs result.1 ≤ 10 ^ 21 }
-        ensures line { (x : Line) (past : List LineState) → IsLineAt self.now.case branch x → StandsAt self.now branch past → result ≡ line_histories (mode_of_line self.now.case.run.dt x) past }
-        ensures phase { (x : Phase) (past : ℕ → List PhaseState) → IsPhaseAt self.now.case branch x → TrioStandsAt self.now x.trio past → result ≡ (phase_from_history (modes_of self.now.case.run.dt (trio_of self.now.case x.trio)) (past 0) (past x.phase), phase_to_history (modes_of self.now.case.run.dt (trio_of self.now.case x.trio)) (past 0) (past x.phase)) }
+        ensures line { AreLineEnds self.now branch (line_history_currents self.now.case) result }
+        ensures phase { ArePhaseEnds self.now branch (phase_history_currents self.now.case) result }
     {
         match phase_of(&self.case.parts.branches.as_slice()[branch]) {
             Some((trio, phase)) => self.trios[trio].history_currents(phase),
@@ -133,8 +131,8 @@ impl<'a> Lines<'a> {
         requires { HasWaves (slice_get self.now.case.branches branch) }
         ensures from_bound { unsigned_abs result.0 ≤ LARGEST_VALUE }
         ensures to_bound { unsigned_abs result.1 ≤ LARGEST_VALUE }
-        ensures line { (x : Line) (past : List LineState) → IsLineAt self.now.case branch x → StandsAt self.now branch past → result ≡ ((newest past).from_current, (newest past).to_current) }
-        ensures phase { (x : Phase) (past : ℕ → List PhaseState) → IsPhaseAt self.now.case branch x → TrioStandsAt self.now x.trio past → result ≡ ((newest_phase (past x.phase)).from_current, (newest_phase (past x.phase)).to_current) }
+        ensures line { AreLineEnds self.now branch line_end_currents result }
+        ensures phase { ArePhaseEnds self.now branch phase_end_currents result }
     {
         match phase_of(&self.case.parts.branches.as_slice()[branch]) {
             Some((trio, phase)) => self.trios[trio].end_currents(phase),

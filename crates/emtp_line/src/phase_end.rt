@@ -45,7 +45,8 @@ fn currents(own: i64, coupling: i64, histories: &[i128; 3], v: &[i64; 3]) -> [i1
     requires own { unsigned_abs own ≤ LARGEST_ENTRY }
     requires coupling { unsigned_abs coupling ≤ LARGEST_ENTRY }
     requires histories { AreWithin (10 ^ 21) histories.now }
-    ensures value { (m : Modes) → own ≡ own_conductance m → coupling ≡ mutual_conductance m → result ≡ phase_currents m histories.now v.now }
+    ensures value { (m : Modes) → own ≡ own_conductance m → coupling ≡ mutual_conductance m
+        → result ≡ phase_currents m histories.now v.now }
     ensures within { AreWithin (10 ^ 25) result }
 {
     let first = current(own, coupling, histories[0], v[0], v[1], v[2]);
@@ -101,7 +102,8 @@ fn quotient(a: i128, b: i128, c: i128, by: i128) -> i128
     requires least { pos 3 ≤ℤ by }
     requires most { by ≤ℤ PICO }
     ensures value { result ≡ near (a +ℤ b +ℤ c) by }
-    ensures within { (n m : ℕ) → unsigned_abs a ≤ n → unsigned_abs b ≤ n → unsigned_abs c ≤ n → 3 * n ≤ m * unsigned_abs by → unsigned_abs result ≤ m }
+    ensures within { (n m : ℕ) → unsigned_abs a ≤ n → unsigned_abs b ≤ n → unsigned_abs c ≤ n
+        → 3 * n ≤ m * unsigned_abs by → unsigned_abs result ≤ m }
 {
     near(a + b + c, by)
 }

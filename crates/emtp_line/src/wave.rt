@@ -17,7 +17,8 @@ pub(crate) fn histories(mode: &Mode, from: &History, to: &History, word: u64) ->
     requires mode { IsMode mode.now }
     requires from { from.now.depth ≡ mode.now.steps + 1 }
     requires to { to.now.depth ≡ mode.now.steps + 1 }
-    ensures value { (from' to' : List ℤ) → Remembers from.now from' → Remembers to.now to' → result ≡ (history_of mode.now to' from', history_of mode.now from' to') }
+    ensures value { (from' to' : List ℤ) → Remembers from.now from' → Remembers to.now to'
+        → result ≡ (history_of mode.now to' from', history_of mode.now from' to') }
     ensures from_small { unsigned_abs result.0 ≤ 10 ^ 20 }
     ensures to_small { unsigned_abs result.1 ≤ 10 ^ 20 }
 {

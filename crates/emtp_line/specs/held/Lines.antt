@@ -10,10 +10,10 @@ use Rattle.emtp_case.specs.declared.branch.Phase.{Phase}
 use Rattle.emtp_case.specs.declared.branch.PhaseState.{PhaseState}
 use Rattle.emtp_case.specs.declared.case.Parts.{Parts}
 use Rattle.emtp_fix.specs.declared.limit.OutOfRange.{OutOfRange}
-use Rattle.emtp_line.specs.held.Held.{IsHeld, LineStands, IsHeldTrio, TrioStands, held_at_rest, held_modes, trio_at_rest, currents_of, with_states}
-use Rattle.emtp_line.specs.Line.{next_state}
+use Rattle.emtp_line.specs.held.Held.{IsHeld, LineStands, IsHeldTrio, TrioStands, held_at_rest, held_modes, newest, newest_phase, trio_at_rest, currents_of, with_states}
+use Rattle.emtp_line.specs.Line.{line_histories, next_state}
 use Rattle.emtp_line.specs.Mode.{mode_of_line}
-use Rattle.emtp_line.specs.Phases.{modes_of}
+use Rattle.emtp_line.specs.Phases.{modes_of, phase_from_history, phase_to_history}
 use Rattle.emtp_line.specs.held.Phases.{next_phases}
 use Rattle.emtp_line.specs.declared.held.HeldLine.{HeldLine}
 use Rattle.emtp_line.specs.declared.held_trio.HeldTrio.{HeldTrio}
@@ -66,6 +66,29 @@ pub record TrioStandsAt (s : Lining) (t : ℕ) (past : ℕ → List PhaseState) 
 pub record StandsFor (s : Lining) (H : List StepRecord) : Type 0 where
   pub lines : (b : ℕ) (x : Line) → IsLineAt s.case b x → StandsAt s b (states_of b H)
   pub trios : (t : ℕ) → t < length s.case.trios → TrioStandsAt s t (phase_states_of s.case t H)
+
+-- two currents are those of the ends of the line at a place, by what it stands for
+abbrev pub AreLineEnds : Lining → ℕ → (Line → List LineState → ℤ × ℤ) → ℤ × ℤ → Type 0
+AreLineEnds s b of_line ends = (x : Line) (past : List LineState) → IsLineAt s.case b x → StandsAt s b past → ends ≡ of_line x past
+
+-- or of the phase at it
+abbrev pub ArePhaseEnds : Lining → ℕ → (Phase → (ℕ → List PhaseState) → ℤ × ℤ) → ℤ × ℤ → Type 0
+ArePhaseEnds s b of_phase ends = (x : Phase) (past : ℕ → List PhaseState) → IsPhaseAt s.case b x → TrioStandsAt s x.trio past → ends ≡ of_phase x past
+
+-- the history currents of the next step
+abbrev pub line_history_currents : Parts → Line → List LineState → ℤ × ℤ
+line_history_currents case x past = line_histories (mode_of_line case.run.dt x) past
+
+abbrev pub phase_history_currents : Parts → Phase → (ℕ → List PhaseState) → ℤ × ℤ
+phase_history_currents case x past =
+    (phase_from_history (modes_of case.run.dt (trio_of case x.trio)) (past 0) (past x.phase), phase_to_history (modes_of case.run.dt (trio_of case x.trio)) (past 0) (past x.phase))
+
+-- the currents of the last record
+abbrev pub line_end_currents : Line → List LineState → ℤ × ℤ
+line_end_currents x past = ((newest past).from_current, (newest past).to_current)
+
+abbrev pub phase_end_currents : Phase → (ℕ → List PhaseState) → ℤ × ℤ
+phase_end_currents x past = ((newest_phase (past x.phase)).from_current, (newest_phase (past x.phase)).to_current)
 
 -- a line moved by one step: its next state's current is the answer, and this state is the newest
 pub record HasMoved (new : Lining) (branch : ℕ) (past : List LineState) (next : Option LineState) (i : ℤ) : Type 0 where
