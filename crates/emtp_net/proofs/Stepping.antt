@@ -35,19 +35,14 @@ latest_is s H voltages currents tacs stands first second = record { step_is = st
 pub ready_is : (s : Net) (H : List StepRecord) (kinds : List RowKind) (rows : NodalRows) (switches : switching.Switching) → StandsFor s H → IsDecided s.case H kinds rows switches → IsReady s.case H s.branches rows s.kept s.made
 ready_is s H kinds rows switches stands decided = record { stands = stands.branches; free = decided.free; kinds = decided.rows_are; kept_is = stands.kept; steps = stands.steps }
 
--- the switches moved, for whatever record has their next states
-abbrev pub SwitchesMove : (s : Net) (voltages currents tacs : List ℤ) (switches : switching.Switching) → Type 0
-SwitchesMove s voltages currents tacs switches =
-    (H : List StepRecord) (r : StepRecord) → switching.StandsFor s.switches H → switching.AreLatest (s.made + 1) voltages currents tacs H → r.switch_states ≡ next_states s.switches.case H → switching.StandsFor switches (r ∷ H)
-
--- they stand for such a record
-pub switches_next : (s now : Net) (H : List StepRecord) (voltages currents tacs : List ℤ) (switches : switching.Switching) → SwitchesMove s voltages currents tacs switches → s.switches.case ≡ s.case
+-- the switches that moved stand for whatever record has their next states
+pub switches_next : (s now : Net) (H : List StepRecord) (voltages currents tacs : List ℤ) (switches : switching.Switching) → switching.MovesSwitches s.switches switches (s.made + 1) voltages currents tacs → s.switches.case ≡ s.case
     → s ≡ now → StandsWith now tacs H → voltages ≡ s.voltages → currents ≡ s.switch_currents → (r : StepRecord) → r.switch_states ≡ next_states s.case H → switching.StandsFor switches (r ∷ H)
 switches_next s now H voltages currents tacs switches moves case_is same stands first second r is =
     let stood = subst (λ (n : Net). StandsWith n tacs H) (sym same) stands in
     moves H r stood.network.switches (latest_is s H voltages currents tacs stood first second) (is ∙ ap (λ (p : Parts). next_states p H) (sym case_is))
 
-pub states_here : (s now : Net) (H : List StepRecord) (voltages currents tacs : List ℤ) (switches : switching.Switching) → SwitchesMove s voltages currents tacs switches → s.switches.case ≡ s.case
+pub states_here : (s now : Net) (H : List StepRecord) (voltages currents tacs : List ℤ) (switches : switching.Switching) → switching.MovesSwitches s.switches switches (s.made + 1) voltages currents tacs → s.switches.case ≡ s.case
     → s ≡ now → StandsWith now tacs H → voltages ≡ s.voltages → currents ≡ s.switch_currents → switches.states ≡ next_states s.case H
 states_here s now H voltages currents tacs switches moves case_is same stands first second = states_next s.case H switches (switches_next s now H voltages currents tacs switches moves case_is same stands first second)
 

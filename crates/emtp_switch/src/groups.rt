@@ -3,11 +3,11 @@
 ghost use Rattle.std.specs.Prelude.{◌≡◌, ◌≤◌, ◌<◌, ◌+◌, ℕ, length, map, slice_index, take, IfOk};
 ghost use Rattle.std.specs.List.{All};
 ghost use Rattle.emtp_case.specs.RowOrder.{Rows};
-ghost use Rattle.emtp_switch.specs.Groups.{alone, bridges, closed_switches, groups, root_of, tied_of};
+ghost use Rattle.emtp_switch.specs.Groups.{alone, bridges, closed_switches, groups, tied_of};
 ghost use Rattle.emtp_switch.specs.held.Grouping.{AreGroups, HasPlaces};
 ghost use Rattle.emtp_switch.specs.Kinds.{kind_of};
 ghost use Rattle.emtp_switch.specs.held.Plan.{IsPlan};
-ghost use Rattle.emtp_switch.specs.held.Tree.{AreLinks, IsTree};
+ghost use Rattle.emtp_switch.specs.held.Tree.{AreLinks, AreRoots, IsTree};
 
 use crate::bridges::find_bridges;
 use crate::grow::grow;
@@ -88,10 +88,13 @@ impl Groups {
         requires states { length states.now ≡ length case.now.parts.switches }
         ensures room { HasPlaces case.now.parts self.new }
         ensures within { result ≤ length self.new.bridges.items }
-        ensures labels { self.new.labels.items ≡ groups case.now.parts.switches (alone (length case.now.parts.nodes)) (closed_switches states.now) }
-        ensures bridges { take result self.new.bridges.items ≡ bridges case.now.parts.switches (alone (length case.now.parts.nodes)) (closed_switches states.now) }
+        ensures labels { self.new.labels.items
+            ≡ groups case.now.parts.switches (alone (length case.now.parts.nodes)) (closed_switches states.now) }
+        ensures bridges { take result self.new.bridges.items
+            ≡ bridges case.now.parts.switches (alone (length case.now.parts.nodes)) (closed_switches states.now) }
         ensures numbers { All (λ s. s < length case.now.parts.switches) (take result self.new.bridges.items) }
-        ensures tied { (rows : Rows) → IsPlan case.now.parts rows plan.now → self.new.tied ≡ tied_of case.now.parts.switches rows states.now }
+        ensures tied { (rows : Rows) → IsPlan case.now.parts rows plan.now
+            → self.new.tied ≡ tied_of case.now.parts.switches rows states.now }
     {
         reset(&mut self.labels);
         self.knowing.copy_from_slice(&plan.known);
@@ -113,14 +116,17 @@ impl Groups {
         requires room { HasPlaces case.now.parts self.old }
         requires within { bridges ≤ length self.old.bridges.items }
         requires numbers { All (λ s. s < length case.now.parts.switches) (take bridges self.old.bridges.items) }
-        requires labels { self.old.labels.items ≡ groups case.now.parts.switches (alone (length order.now.nodes)) (take bridges self.old.bridges.items) }
+        requires labels { self.old.labels.items
+            ≡ groups case.now.parts.switches (alone (length order.now.nodes)) (take bridges self.old.bridges.items) }
         ensures room { HasPlaces case.now.parts self.new }
         ensures labels { self.new.labels ≡ self.old.labels }
         ensures tied { self.new.tied ≡ self.old.tied }
-        ensures roots { (x : ℕ) → x ≤ length order.now.nodes → slice_index self.new.roots.items (slice_index self.old.labels.items x) ≡ root_of order.now self.old.labels.items x }
+        ensures roots { AreRoots order.now self.old.labels.items self.new.roots.items }
         ensures within { self.new.link_count ≤ length self.new.links.items }
-        ensures links { AreLinks (take self.new.link_count self.new.links.items) (length order.now.nodes + 1) (length case.now.parts.switches) }
-        ensures tree { IsTree case.now.parts.switches order.now (take bridges self.old.bridges.items) self.old.labels.items (take self.new.link_count self.new.links.items) }
+        ensures links { AreLinks (take self.new.link_count self.new.links.items)
+            (length order.now.nodes + 1) (length case.now.parts.switches) }
+        ensures tree { IsTree case.now.parts.switches order.now (take bridges self.old.bridges.items)
+            self.old.labels.items (take self.new.link_count self.new.links.items) }
     {
         find_roots(&plan.ranked, &self.labels, &mut self.roots);
         mark(&self.roots, &self.labels, &mut self.reached);
@@ -134,7 +140,7 @@ impl Groups {
         requires plan { IsPlan case.now.parts order.now plan.now }
         requires room { HasPlaces case.now.parts self.old }
         requires labels { (x : ℕ) → x ≤ length order.now.nodes → slice_index self.old.labels.items x ≤ length order.now.nodes }
-        requires roots { (x : ℕ) → x ≤ length order.now.nodes → slice_index self.old.roots.items (slice_index self.old.labels.items x) ≡ root_of order.now self.old.labels.items x }
+        requires roots { AreRoots order.now self.old.labels.items self.old.roots.items }
         ensures room { HasPlaces case.now.parts self.new }
         ensures tied { self.new.tied ≡ self.old.tied }
         ensures links { self.new.links ≡ self.old.links }

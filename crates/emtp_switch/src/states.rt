@@ -1,14 +1,14 @@
 //! The states of the switches in a step.
 
-ghost use Rattle.std.specs.Prelude.{◌≡◌, ◌≢◌, ◌≤◌, ◌<◌, ◌+◌, ◌-ℤ◌, List, false, true, length, slice_set, unsigned_abs};
+ghost use Rattle.std.specs.Prelude.{◌≡◌, ◌≢◌, ◌≤◌, ◌<◌, ◌+◌, ◌-ℤ◌, false, true, length, slice_set, unsigned_abs};
 ghost use Rattle.std.specs.Option.{ForSome};
 ghost use Rattle.std.specs.List.{All};
 ghost use Rattle.emtp_case.specs.StepRecord.{StepRecord, starting_state};
 ghost use Rattle.emtp_fix.specs.declared.limit.TheConstants.{LARGEST_VALUE};
 ghost use Rattle.emtp_switch.specs.Groups.{state_at};
 ghost use Rattle.emtp_fix.specs.Items.{item};
-ghost use Rattle.emtp_switch.specs.States.{oppose, interrupts, is_due, breaker_state, valve_state, state_after, control_of, is_on, next_states};
-ghost use Rattle.emtp_switch.specs.held.Switching.{AreKept, AreLatest};
+ghost use Rattle.emtp_switch.specs.States.{oppose, interrupts, is_due, breaker_state, valve_state, state_after, control_of, is_on};
+ghost use Rattle.emtp_switch.specs.held.Switching.{MovesStates};
 
 use emtp_case::{Case, Switch, SwitchKind, SwitchState};
 
@@ -224,7 +224,7 @@ pub(crate) fn move_states(
     requires before { length before.now ≡ length case.now.parts.switches }
     requires values { length values.now ≡ length case.now.parts.vars }
     requires states { length states.old ≡ length case.now.parts.switches }
-    ensures moved { (H : List StepRecord) → AreKept states.old before.now H → AreLatest step voltages.now currents.now values.now H → states.new ≡ next_states case.now.parts H }
+    ensures moved { MovesStates case.now.parts states.old before.now step voltages.now currents.now values.now states.new }
     ensures same { result ≡ false → states.new ≡ states.old }
     ensures other { result ≡ true → states.new ≢ states.old }
 {

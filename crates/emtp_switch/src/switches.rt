@@ -1,18 +1,17 @@
 //! The switches of a case.
 
-ghost use Rattle.std.specs.Prelude.{◌≡◌, ◌≢◌, ◌≤◌, ◌<◌, ◌+◌, ◌∷◌, [], ◌^◌, false, true, List, None, Some, length, map, pos, replicate, unsigned_abs, IfErr, IfOk};
+ghost use Rattle.std.specs.Prelude.{◌≡◌, ◌≢◌, ◌≤◌, ◌<◌, ◌+◌, ◌∷◌, [], ◌^◌, false, true, None, Some, length, map, pos, replicate, unsigned_abs, IfErr, IfOk};
 ghost use Rattle.std.specs.List.{All};
 ghost use Rattle.emtp_case.specs.held.RowKinds.{AreKinds};
 ghost use Rattle.emtp_case.specs.held.RowOrder.{IsRowOrder};
-ghost use Rattle.emtp_case.specs.StepRecord.{StepRecord, is_closed, rest_of, starting_state};
+ghost use Rattle.emtp_case.specs.StepRecord.{is_closed, rest_of, starting_state};
 ghost use Rattle.emtp_case.specs.declared.switch.Switch.{Switch as SwitchCard};
 ghost use Rattle.emtp_fix.specs.declared.limit.TheConstants.{LARGEST_VALUE};
 ghost use Rattle.emtp_switch.specs.Currents.{currents_of};
 ghost use Rattle.emtp_switch.specs.held.Currents.{Balances, IsFirstBeyond};
 ghost use Rattle.emtp_switch.specs.Groups.{is_closed_at, tied_of};
 ghost use Rattle.emtp_switch.specs.Kinds.{kinds_of};
-ghost use Rattle.emtp_switch.specs.States.{next_states};
-ghost use Rattle.emtp_switch.specs.held.Switching.{AreLatest, StandsFor};
+ghost use Rattle.emtp_switch.specs.held.Switching.{MovesSwitches, StandsFor};
 
 use crate::bridges::is_closed;
 use crate::currents::{SwitchRange, clear, load, narrow};
@@ -99,7 +98,7 @@ impl<'a> Switches<'a> {
         requires tacs { length tacs.now ≡ length self.old.case.vars }
         ensures case { self.new.case ≡ self.old.case }
         ensures rows { self.new.rows ≡ self.old.rows }
-        ensures stands { (H : List StepRecord) (r : StepRecord) → StandsFor self.old H → AreLatest step voltages.now currents.now tacs.now H → r.switch_states ≡ next_states self.old.case H → StandsFor self.new (r ∷ H) }
+        ensures stands { MovesSwitches self.old self.new step voltages.now currents.now tacs.now }
         ensures same { self.new.changed ≡ false → self.new.states ≡ self.old.states }
         ensures other { self.new.changed ≡ true → self.new.states ≢ self.old.states }
     {
@@ -146,7 +145,8 @@ impl<'a> Switches<'a> {
     pub fn kinds(&self, out: &mut [RowKind]) -> Result<(), Tied>
         requires { length out.old ≡ length self.now.case.nodes }
         ensures kinds { IfOk result (λ done. out.new ≡ kinds_of self.now.case self.now.rows self.now.states) }
-        ensures are { self.now.rows.fixed ≤ length self.now.case.nodes → IfOk result (λ done. AreKinds (length self.now.case.nodes) self.now.rows.fixed out.new) }
+        ensures are { self.now.rows.fixed ≤ length self.now.case.nodes
+            → IfOk result (λ done. AreKinds (length self.now.case.nodes) self.now.rows.fixed out.new) }
         ensures untied { IfOk result (λ done. tied_of self.now.case.switches self.now.rows self.now.states ≡ None) }
         ensures tied { IfErr result (λ e. tied_of self.now.case.switches self.now.rows self.now.states ≡ Some e.switch) }
         ensures there { IfErr result (λ e. e.switch < length self.now.case.switches) }
@@ -168,10 +168,13 @@ impl<'a> Switches<'a> {
         requires leaving { length leaving.now ≡ length self.old.case.nodes }
         requires small { All (λ x. unsigned_abs x ≤ 10 ^ 24) leaving.now }
         requires out { length out.old ≡ length self.old.case.switches }
-        ensures value { IfOk result (λ done. out.new ≡ currents_of self.old.case.switches self.old.rows self.old.states leaving.now) }
+        ensures value { IfOk result (λ done.
+            out.new ≡ currents_of self.old.case.switches self.old.rows self.old.states leaving.now) }
         ensures small { IfOk result (λ done. All (λ i. unsigned_abs i ≤ LARGEST_VALUE) out.new) }
-        ensures first { IfErr result (λ e. IsFirstBeyond (currents_of self.old.case.switches self.old.rows self.old.states leaving.now) e.switch) }
-        ensures kirchhoff { IfOk result (λ done. Balances self.old.case.switches self.old.rows self.old.states leaving.now out.new) }
+        ensures first { IfErr result (λ e.
+            IsFirstBeyond (currents_of self.old.case.switches self.old.rows self.old.states leaving.now) e.switch) }
+        ensures kirchhoff { IfOk result (λ done.
+            Balances self.old.case.switches self.old.rows self.old.states leaving.now out.new) }
         ensures same { self.new ≡ self.old }
     {
         load(leaving, &mut self.rest);

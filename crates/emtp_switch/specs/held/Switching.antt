@@ -6,9 +6,10 @@ use Rattle.emtp_case.specs.declared.switch.SwitchState.{SwitchState}
 use Rattle.emtp_fix.specs.Items.{item}
 use Rattle.emtp_switch.specs.held.Grouping.{AreGroups}
 use Rattle.emtp_switch.specs.held.Plan.{IsPlan}
+use Rattle.emtp_switch.specs.States.{next_states}
 use Rattle.emtp_switch.specs.declared.groups.Groups.{Groups}
 use Rattle.emtp_switch.specs.declared.plan.Plan.{Plan}
-use Rattle.std.specs.Prelude.{◌≡◌, ◌+◌, ◌<◌, Bool, List, length, ℕ, ℤ}
+use Rattle.std.specs.Prelude.{◌≡◌, ◌+◌, ◌<◌, ◌∷◌, Bool, List, length, ℕ, ℤ}
 
 -- what a contract sees: the case and the order of its rows, the states of the last step and whether one of them was
 -- another in the step before, and the currents of the step before
@@ -34,6 +35,16 @@ pub record AreLatest (step : ℕ) (voltages currents values : List ℤ) (H : Lis
   pub voltages_are : voltages ≡ (latest H).voltages
   pub currents_are : currents ≡ (latest H).switch_currents
   pub values_are : values ≡ (latest H).values
+
+-- the switches of a case moved: they stand for any further record that has their next states
+abbrev pub MovesSwitches : Switching → Switching → ℕ → List ℤ → List ℤ → List ℤ → Type 0
+MovesSwitches old new step voltages currents values =
+    (H : List StepRecord) (r : StepRecord) → StandsFor old H → AreLatest step voltages currents values H → r.switch_states ≡ next_states old.case H → StandsFor new (r ∷ H)
+
+-- the states of the switches are their next ones
+abbrev pub MovesStates : Parts → List SwitchState → List ℤ → ℕ → List ℤ → List ℤ → List ℤ → List SwitchState → Type 0
+MovesStates case old before step voltages currents values new =
+    (H : List StepRecord) → AreKept old before H → AreLatest step voltages currents values H → new ≡ next_states case H
 
 -- what the value keeps
 pub record IsSwitching (p : Parts) (rows : Rows) (plan : Plan) (groups : Groups) (states : List SwitchState) (before rest flows : List ℤ) : Type 0 where
