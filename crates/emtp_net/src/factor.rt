@@ -6,7 +6,7 @@ ghost use Rattle.emtp_case.specs.RowOrder.{is_pseudo, order_of};
 ghost use Rattle.emtp_elim.specs.Matrix.{item};
 ghost use Rattle.emtp_net.specs.held.Branches.{HasCase};
 ghost use Rattle.emtp_net.specs.held.Fault.{NamesNode};
-ghost use Rattle.emtp_net.specs.held.Holding.{HasConductance, HasFixed, HoldsRows, FollowsRows};
+ghost use Rattle.emtp_net.specs.held.Holding.{FollowsRows, HasConductance, HasFixed, HoldsRows};
 ghost use Rattle.emtp_net.specs.held.Stages.{Factors, SetsConductances};
 ghost use Rattle.emtp_net.specs.System.{couplings};
 ghost use Rattle.emtp_rows.specs.held.Touched.{StandsUntouched, Touches};

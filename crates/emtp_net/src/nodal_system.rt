@@ -7,13 +7,13 @@ ghost use Rattle.emtp_fix.specs.declared.limit.TheConstants.{LARGEST_VALUE};
 ghost use Rattle.emtp_net.specs.held.Branches.{HasCase};
 ghost use Rattle.emtp_net.specs.held.Fault.{NamesNode};
 ghost use Rattle.emtp_net.specs.held.Holding.{HasRoom, HoldsSwitches, KeepsKinds};
-ghost use Rattle.emtp_net.specs.held.Stages.{FindsCurrents, FindsLeaving, FindsVoltages, JudgesStep, SetsSources, SetsKinds};
+ghost use Rattle.emtp_net.specs.held.Stages.{FindsCurrents, FindsLeaving, FindsVoltages, JudgesStep, SetsKinds, SetsSources};
 ghost use Rattle.emtp_rows.specs.held.Touched.{Touches};
 
 use crate::branches::Branches;
 use crate::fault::NetFault;
 use crate::residual::{fill_leaving, judge};
-use crate::right::{fill_right, fill_values, places_of};
+use crate::right::{StepRows, fill_right, fill_values, places_of};
 use crate::sums::has_ties;
 use crate::voltages::fill_voltages;
 use emtp_case::{Case, RowKind, RowOrder, switch_name};
@@ -154,17 +154,14 @@ impl NodalSystem {
         ensures finds { FindsVoltages result case.now.parts branches.now self.old kept.now voltages.new }
         ensures node { IfErr result (NamesNode case.now.parts) }
     {
-        fill_right(
-            case,
-            order,
-            branches,
-            self.ties,
-            &self.kinds,
-            &self.places,
-            &self.values,
-            &self.ends,
-            &mut self.right,
-        );
+        let rows = StepRows {
+            ties: self.ties,
+            kinds: &self.kinds,
+            places: &self.places,
+            values: &self.values,
+            ends: &self.ends,
+        };
+        fill_right(case, order, branches, rows, &mut self.right);
         match kept.solve(&mut self.right, &mut self.x) {
             Ok(()) => {
                 fill_voltages(case, order, &self.x, voltages);

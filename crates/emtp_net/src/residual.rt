@@ -4,7 +4,7 @@ ghost use Rattle.std.specs.Prelude.{◌≡◌, ◌^◌, ◌<◌, ◌≤◌, ◌�
 ghost use Rattle.emtp_elim.specs.Matrix.{item};
 ghost use Rattle.emtp_case.specs.RowOrder.{order_of};
 ghost use Rattle.emtp_net.specs.held.Branches.{HasCase};
-ghost use Rattle.emtp_net.specs.held.Judging.{IsUnbalanced, magnitude_in, FillsCurrents, FillsLeaving, JudgesRows};
+ghost use Rattle.emtp_net.specs.held.Judging.{FillsCurrents, FillsLeaving, IsUnbalanced, JudgesRows, magnitude_in};
 ghost use Rattle.emtp_net.specs.held.Sums.{AreUntied};
 ghost use Rattle.emtp_rows.specs.held.Terms.{end_rows};
 

@@ -8,7 +8,7 @@ ghost use Rattle.emtp_case.specs.RowOrder.{order_of};
 ghost use Rattle.emtp_case.specs.declared.source.Source.{Source};
 ghost use Rattle.emtp_elim.specs.Matrix.{item};
 ghost use Rattle.emtp_net.specs.held.Branches.{HasCase};
-ghost use Rattle.emtp_net.specs.held.Rights.{places_of, row_value, AddsSources, FillsHistories, FillsRight, SetsRows};
+ghost use Rattle.emtp_net.specs.held.Rights.{AddsSources, FillsHistories, FillsRight, SetsRows, places_of, row_value};
 ghost use Rattle.emtp_net.specs.held.Sums.{AreUntied};
 ghost use Rattle.emtp_rows.specs.held.Terms.{end_rows};
 ghost use Rattle.emtp_wave.specs.Wave.{value_of};
@@ -143,32 +143,42 @@ fn add_histories(case: &Case, rows: &[(u32, u32)], branches: &Branches<'_>, out:
     }
 }
 
-/// The right side of the next step, by row, in nA and nV. `rows` has the rows of the two nodes of each branch,
-/// `ties` says whether a row is tied.
+/// What the rows of a step say, but for the history currents, and where these go.
+#[derive(Clone, Copy)]
+pub(crate) struct StepRows<'s> {
+    /// Whether a row is tied to the sum of a group.
+    pub(crate) ties: bool,
+    /// The kinds of the rows.
+    pub(crate) kinds: &'s [RowKind],
+    /// For each row the place of its node's voltage source among the sources, or their number.
+    pub(crate) places: &'s [u32],
+    /// The values of the sources, in nV and nA.
+    pub(crate) values: &'s [i64],
+    /// For each branch the rows of its two nodes.
+    pub(crate) ends: &'s [(u32, u32)],
+}
+
+/// The right side of the next step, by row, in nA and nV.
 pub(crate) fn fill_right(
     case: &Case,
     order: &RowOrder,
     branches: &Branches<'_>,
-    ties: bool,
-    kinds: &[RowKind],
-    places: &[u32],
-    values: &[i64],
-    rows: &[(u32, u32)],
+    rows: StepRows<'_>,
     out: &mut [i128],
 )
     requires order { order.now ≡ order_of case.now.parts }
-    requires rows { rows.now ≡ map (end_rows case.now.parts) case.now.parts.branches }
+    requires ends { rows.ends.now ≡ map (end_rows case.now.parts) case.now.parts.branches }
     requires same { HasCase branches.now case.now.parts }
-    requires ties { ties ≡ false → AreUntied kinds.now }
-    requires kinds { length kinds.now ≡ length case.now.parts.nodes }
-    requires places { places.now ≡ places_of case.now.parts }
-    requires values { length values.now ≡ length case.now.parts.sources }
+    requires ties { rows.ties ≡ false → AreUntied rows.kinds.now }
+    requires kinds { length rows.kinds.now ≡ length case.now.parts.nodes }
+    requires places { rows.places.now ≡ places_of case.now.parts }
+    requires values { length rows.values.now ≡ length case.now.parts.sources }
     requires out { length out.old ≡ length case.now.parts.nodes }
-    ensures { FillsRight case.now.parts branches.now kinds.now values.now out.new }
+    ensures { FillsRight case.now.parts branches.now rows.entry.kinds.now rows.entry.values.now out.new }
 {
     out.fill(0);
-    add_histories(case, rows, branches, out);
-    add_sources(case, order, values, out);
-    fold(ties, kinds, out);
-    set_rows(kinds, places, values, out);
+    add_histories(case, rows.ends, branches, out);
+    add_sources(case, order, rows.values, out);
+    fold(rows.ties, rows.kinds, out);
+    set_rows(rows.kinds, rows.places, rows.values, out);
 }

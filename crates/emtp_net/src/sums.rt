@@ -4,7 +4,7 @@ ghost use Rattle.emtp_case.specs.declared.limit.TheConstants.{MOST_NODES};
 ghost use Rattle.std.specs.Prelude.{◌≡◌, ◌*◌, ◌^◌, ◌<◌, ◌≤◌, ◌+ℤ◌, false, ℕ, length, map, slice_set, unsigned_abs};
 ghost use Rattle.emtp_case.specs.RowOrder.{order_of};
 ghost use Rattle.emtp_elim.specs.Matrix.{item};
-ghost use Rattle.emtp_net.specs.held.Sums.{AreUntied, in_row, AddsAt, AddsEnds, AddsTied, FoldsGroups};
+ghost use Rattle.emtp_net.specs.held.Sums.{AddsAt, AddsEnds, AddsTied, AreUntied, FoldsGroups, in_row};
 ghost use Rattle.emtp_rows.specs.Nodal.{kind_at};
 ghost use Rattle.emtp_rows.specs.held.Terms.{end_rows};
 ghost use Rattle.emtp_rows.specs.held.Touched.{is_sum, tied_row};
@@ -50,7 +50,8 @@ fn add_in_rows(rows: (u32, u32), ends: (i128, i128), out: &mut [i128])
     requires first { unsigned_abs ends.0 ≤ 10 ^ 30 }
     requires second { unsigned_abs ends.1 ≤ 10 ^ 30 }
     requires bound { (j : ℕ) → j < length out.old → unsigned_abs (item out.old j) ≤ 10 ^ 35 }
-    ensures { (j : ℕ) → j < length out.old → item out.new j ≡ item out.old j +ℤ (in_row rows.0 ends.0 j +ℤ in_row rows.1 ends.1 j) }
+    ensures { (j : ℕ) → j < length out.old
+        → item out.new j ≡ item out.old j +ℤ (in_row rows.0 ends.0 j +ℤ in_row rows.1 ends.1 j) }
 {
     add_in_row(rows.0 as usize, ends.0, out);
     add_in_row(rows.1 as usize, ends.1, out);

@@ -1,6 +1,6 @@
 -- How the fields of a network hold together.
 use Rattle.emtp_case.specs.declared.limit.TheConstants.{MOST_NODES}
-use Rattle.std.specs.Prelude.{◌≡◌, ◌+◌, ◌*◌, ◌≤◌, ℕ, ℤ, All, Bool, true, false, List, [], length, map, slice_get, Some, None, unsigned_abs, ◌-◌, ◌==◌, if◌then◌else◌, IfErr, OnOk, Result, Err}
+use Rattle.std.specs.Prelude.{◌≡◌, ◌+◌, ◌-◌, ◌*◌, ◌==◌, ◌≤◌, if◌then◌else◌, ℕ, ℤ, All, Bool, true, false, List, [], length, map, slice_get, Some, None, unsigned_abs, IfErr, OnOk, Result, Err}
 use Rattle.emtp_case.specs.RowOrder.{Rows, is_pseudo, order_of}
 use Rattle.emtp_case.specs.StepRecord.{StepRecord}
 use Rattle.emtp_case.specs.declared.branch.Branch.{Branch}
@@ -8,13 +8,13 @@ use Rattle.emtp_case.specs.declared.case.Parts.{Parts}
 use Rattle.emtp_case.specs.declared.row_kind.RowKind.{RowKind}
 use Rattle.emtp_case.specs.declared.switch.SwitchState.{SwitchState}
 use Rattle.emtp_elim.specs.Matrix.{item}
-use Rattle.emtp_fix.specs.declared.limit.TheConstants.{LARGEST_VALUE}
-use Rattle.emtp_rows.specs.held.Terms.{end_rows}
 use Rattle.emtp_elim.specs.held.Fault.{IsRowFault}
 use Rattle.emtp_elim.specs.Outcome.{outcome}
 use Rattle.emtp_elim.specs.declared.fault.PlainFault.TheVariants.{Row}
 use Rattle.emtp_elim.specs.declared.fault.RowFault.{RowFault}
+use Rattle.emtp_fix.specs.declared.limit.TheConstants.{LARGEST_VALUE}
 use Rattle.emtp_rows.specs.Nodal.{nodal_matrix}
+use Rattle.emtp_rows.specs.held.Terms.{end_rows}
 use Rattle.emtp_rows.specs.held.Touched.{NodalRows, StandsUntouched}
 use Rattle.emtp_switch.specs.Groups.{tied_of}
 use Rattle.emtp_switch.specs.Kinds as switched
@@ -44,10 +44,6 @@ pub record HoldsSwitches (case : Parts) (switches : Switching) : Type 0 where
   pub case_is : switches.case ≡ case
   pub rows_are : switches.rows ≡ order_of case
 
--- the first row of the matrix that differs from the rows of the factor
-abbrev pub first_moved : NodalMatrix → ℕ
-first_moved m = first_change m.kept.rows (nodal_matrix m.rows.nodal)
-
 -- the kinds of the rows, here and of the matrix, are those that follow from these states of the switches, which tie no two
 -- known voltages
 pub record HasKinds (case : Parts) (here there : List RowKind) (states : List SwitchState) : Type 0 where
@@ -74,6 +70,10 @@ pub record HoldsRows (case : Parts) (rows : NodalRows) (kept : Good) : Type 0 wh
   pub coupling_is : rows.nodal.coupling ≡ couplings case
   pub kept_size : kept.size ≡ length case.nodes
   pub kept_stands : StandsUntouched rows kept.rows
+
+-- the first row of the matrix that differs from the rows of the factor
+abbrev pub first_moved : NodalMatrix → ℕ
+first_moved m = first_change m.kept.rows (nodal_matrix m.rows.nodal)
 
 -- The factor follows the rows as they are. So many rows are counted as redone, and so many eliminated; an error is the
 -- fault of their matrix, whatever the right side.

@@ -14,7 +14,7 @@ returns c = λ H stands kinds values.
     let s2 : length c.add_sources.new.out ≡ n = omega (arith, c.add_sources.auto.out, s1) in
     let s3 : length c.fold.new.sums ≡ n = omega (arith, c.fold.auto.sums, s2) in
     let s4 : length c.set_rows.new.out ≡ n = omega (arith, c.set_rows.auto.out, s3) in
-    right_is case H c.args.kinds.now c.add_sources.new.out c.fold.new.sums c.set_rows.new.out c.args.values.now c.args.places.now kinds c.requires.kinds values c.requires.places s4
+    right_is case H c.args.rows.kinds.now c.add_sources.new.out c.fold.new.sums c.set_rows.new.out c.args.rows.values.now c.args.rows.places.now kinds c.requires.kinds values c.requires.places s4
     (λ k below.
     c.add_sources.ensures.value (source_value case H) values k (omega (arith, below, s1))
     ∙ ap (λ x. x +ℤ sources_into case H (node_at case k)) (c.add_histories.ensures.value H stands k (omega (arith, below, s1, c.add_histories.auto.out))))

@@ -33,8 +33,8 @@ returns-in-Ok-clause-small c =
 pub fill_right-requires-clause-order : goal.fill_right-requires-clause-order
 fill_right-requires-clause-order c = c.requires.order
 
-pub fill_right-requires-clause-rows : goal.fill_right-requires-clause-rows
-fill_right-requires-clause-rows c = c.deref-4.ensures.value ∙ c.requires.room.ends
+pub fill_right-requires-clause-ends : goal.fill_right-requires-clause-ends
+fill_right-requires-clause-ends c = c.deref-4.ensures.value ∙ c.requires.room.ends
 
 pub fill_right-requires-clause-ties : goal.fill_right-requires-clause-ties
 fill_right-requires-clause-ties c = λ off. subst AreUntied (sym c.deref.ensures.value) (c.requires.room.ties off)
