@@ -165,31 +165,42 @@ fn state_after(kind: SwitchKind, view: View, state: SwitchState) -> SwitchState
     }
 }
 
+/// The numbers of the last record that the switches of the next step see.
+#[derive(Clone, Copy)]
+pub(crate) struct LastNumbers<'r> {
+    /// The node voltages, ground first, in nV.
+    pub(crate) voltages: &'r [i64],
+    /// The currents of the switches, in nA.
+    pub(crate) currents: &'r [i64],
+    /// The values of the control's variables.
+    pub(crate) values: &'r [i64],
+}
+
 /// What a switch sees, at a time.
 fn view_of(
     switch: &Switch,
     time: i64,
     current: i64,
     before: i64,
-    voltages: &[i64],
-    values: &[i64],
+    last: LastNumbers<'_>,
 ) -> View
-    requires from { switch.now.from < length voltages.now }
-    requires to { switch.now.to < length voltages.now }
-    requires control { ForSome (control_of switch.now.kind) (λ v. v < length values.now) }
-    requires small { All (λ v. unsigned_abs v ≤ LARGEST_VALUE) voltages.now }
+    requires from { switch.now.from < length last.voltages.now }
+    requires to { switch.now.to < length last.voltages.now }
+    requires control { ForSome (control_of switch.now.kind) (λ v. v < length last.values.now) }
+    requires small { All (λ v. unsigned_abs v ≤ LARGEST_VALUE) last.voltages.now }
     ensures time { result.time ≡ time }
     ensures current { result.current ≡ current }
     ensures before { result.before ≡ before }
-    ensures voltage { result.voltage ≡ item voltages.now switch.now.from -ℤ item voltages.now switch.now.to }
-    ensures on { (r : StepRecord) → values.now ≡ r.values → result.on ≡ is_on (control_of switch.now.kind) r }
+    ensures voltage { result.voltage
+        ≡ item last.entry.voltages.now switch.now.from -ℤ item last.entry.voltages.now switch.now.to }
+    ensures on { (r : StepRecord) → last.entry.values.now ≡ r.values → result.on ≡ is_on (control_of switch.now.kind) r }
 {
     View {
         time,
         current,
         before,
-        voltage: voltages[switch.from as usize] - voltages[switch.to as usize],
-        on: is_on(control_of(switch.kind), values),
+        voltage: last.voltages[switch.from as usize] - last.voltages[switch.to as usize],
+        on: is_on(control_of(switch.kind), last.values),
     }
 }
 
@@ -211,20 +222,18 @@ fn replace(states: &mut [SwitchState], s: usize, state: SwitchState) -> bool
 pub(crate) fn move_states(
     case: &Case,
     step: u32,
-    voltages: &[i64],
-    currents: &[i64],
+    last: LastNumbers<'_>,
     before: &[i64],
-    values: &[i64],
     states: &mut [SwitchState],
 ) -> bool
     requires step { step ≤ case.now.parts.run.steps }
-    requires voltages { length voltages.now ≡ length case.now.parts.nodes + 1 }
-    requires small { All (λ v. unsigned_abs v ≤ LARGEST_VALUE) voltages.now }
-    requires currents { length currents.now ≡ length case.now.parts.switches }
+    requires voltages { length last.voltages.now ≡ length case.now.parts.nodes + 1 }
+    requires small { All (λ v. unsigned_abs v ≤ LARGEST_VALUE) last.voltages.now }
+    requires currents { length last.currents.now ≡ length case.now.parts.switches }
     requires before { length before.now ≡ length case.now.parts.switches }
-    requires values { length values.now ≡ length case.now.parts.vars }
+    requires values { length last.values.now ≡ length case.now.parts.vars }
     requires states { length states.old ≡ length case.now.parts.switches }
-    ensures moved { MovesStates case.now.parts states.old before.now step voltages.now currents.now values.now states.new }
+    ensures moved { MovesStates case.now.parts states.old before.now step last.entry states.new }
     ensures same { result ≡ false → states.new ≡ states.old }
     ensures other { result ≡ true → states.new ≢ states.old }
 {
@@ -232,7 +241,7 @@ pub(crate) fn move_states(
     let switches = case.parts.switches.as_slice();
     let mut changed = false;
     for s in 0..switches.len() {
-        let view = view_of(&switches[s], time, currents[s], before[s], voltages, values);
+        let view = view_of(&switches[s], time, last.currents[s], before[s], last);
         let state = state_after(switches[s].kind, view, states[s]);
         if replace(states, s, state) {
             changed = true;

@@ -17,7 +17,7 @@ use crate::bridges::is_closed;
 use crate::currents::{SwitchRange, clear, load, narrow};
 use crate::groups::Groups;
 use crate::plan::Plan;
-use crate::states::{move_states, starting_state};
+use crate::states::{LastNumbers, move_states, starting_state};
 use crate::sweep::sweep;
 use emtp_case::{Case, RowKind, RowOrder, SwitchState};
 use std::alloc::{AllocError, Global};
@@ -102,15 +102,12 @@ impl<'a> Switches<'a> {
         ensures same { self.new.changed ≡ false → self.new.states ≡ self.old.states }
         ensures other { self.new.changed ≡ true → self.new.states ≢ self.old.states }
     {
-        self.changed = move_states(
-            self.case,
-            step,
+        let last = LastNumbers {
             voltages,
             currents,
-            &self.before,
-            tacs,
-            &mut self.states,
-        );
+            values: tacs,
+        };
+        self.changed = move_states(self.case, step, last, &self.before, &mut self.states);
         self.before.copy_from_slice(currents);
         if self.changed {
             self.groups

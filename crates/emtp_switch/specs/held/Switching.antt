@@ -9,6 +9,7 @@ use Rattle.emtp_switch.specs.held.Plan.{IsPlan}
 use Rattle.emtp_switch.specs.States.{next_states}
 use Rattle.emtp_switch.specs.declared.groups.Groups.{Groups}
 use Rattle.emtp_switch.specs.declared.plan.Plan.{Plan}
+use Rattle.emtp_switch.specs.declared.states.LastNumbers.{LastNumbers}
 use Rattle.std.specs.Prelude.{◌≡◌, ◌+◌, ◌<◌, ◌∷◌, Bool, List, length, ℕ, ℤ}
 
 -- what a contract sees: the case and the order of its rows, the states of the last step and whether one of them was
@@ -42,9 +43,9 @@ MovesSwitches old new step voltages currents values =
     (H : List StepRecord) (r : StepRecord) → StandsFor old H → AreLatest step voltages currents values H → r.switch_states ≡ next_states old.case H → StandsFor new (r ∷ H)
 
 -- the states of the switches are their next ones
-abbrev pub MovesStates : Parts → List SwitchState → List ℤ → ℕ → List ℤ → List ℤ → List ℤ → List SwitchState → Type 0
-MovesStates case old before step voltages currents values new =
-    (H : List StepRecord) → AreKept old before H → AreLatest step voltages currents values H → new ≡ next_states case H
+abbrev pub MovesStates : Parts → List SwitchState → List ℤ → ℕ → LastNumbers → List SwitchState → Type 0
+MovesStates case old before step last new =
+    (H : List StepRecord) → AreKept old before H → AreLatest step last.voltages.now last.currents.now last.values.now H → new ≡ next_states case H
 
 -- what the value keeps
 pub record IsSwitching (p : Parts) (rows : Rows) (plan : Plan) (groups : Groups) (states : List SwitchState) (before rest flows : List ℤ) : Type 0 where

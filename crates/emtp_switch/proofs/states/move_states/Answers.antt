@@ -29,14 +29,14 @@ loop-s-preserved c =
     let start = c.args.states.now in
     let states = c.loop-s.states in
     let v = c.view_of-view.result in
-    let now = item c.args.currents.now s in
+    let now = item c.args.last.currents.now s in
     let then = item c.args.before.now s in
     let fits_now : FitsSigned w64 now = search rules in
     let fits_then : FitsSigned w64 then = search rules in
-    moved_more p (λ H. AreKept start c.args.before.now H × AreLatest c.args.step c.args.voltages.now c.args.currents.now c.args.values.now H) start states c.replace.new.states s c.state_after-state.result c.loop-s.changed c.replace.result c.if-replace.changed
+    moved_more p (λ H. AreKept start c.args.before.now H × AreLatest c.args.step c.args.last.voltages.now c.args.last.currents.now c.args.last.values.now H) start states c.replace.new.states s c.state_after-state.result c.loop-s.changed c.replace.result c.if-replace.changed
     c.loop-s.invariant (omega (arith, count))
     (λ H fits same.
-    let seen : v ≡ view_of p H x s = view_is p H x s c.args.step start c.args.voltages.now c.args.currents.now c.args.before.now c.args.values.now v fits.0 fits.1 (omega (arith, count))
+    let seen : v ≡ view_of p H x s = view_is p H x s c.args.step start c.args.last.voltages.now c.args.last.currents.now c.args.before.now c.args.last.values.now v fits.0 fits.1 (omega (arith, count))
     (c.view_of-view.ensures.time ∙ time_through c.time-time.result c.time-time.ensures.bound ∙ c.time-time.ensures.value)
     (c.view_of-view.ensures.current ∙ to_z-of_z w64 now fits_now)
     (c.view_of-view.ensures.before ∙ to_z-of_z w64 then fits_then) c.view_of-view.ensures.voltage (c.view_of-view.ensures.on (latest H) fits.1.values_are) in
@@ -53,5 +53,5 @@ loop-s-preserved c =
     ])
 
 pub returns-clause-moved : goal.returns-clause-moved
-returns-clause-moved c = λ H kept is. all_moved c.args.case.now.parts (λ H. AreKept c.args.states.now c.args.before.now H × AreLatest c.args.step c.args.voltages.now c.args.currents.now c.args.values.now H) c.args.states.now c.loop-s.states c.loop-s.s c.loop-s.changed
+returns-clause-moved c = λ H kept is. all_moved c.args.case.now.parts (λ H. AreKept c.args.states.now c.args.before.now H × AreLatest c.args.step c.args.last.voltages.now c.args.last.currents.now c.args.last.values.now H) c.args.states.now c.loop-s.states c.loop-s.s c.loop-s.changed
     c.loop-s.invariant (omega arith) (omega (arith, ap length c.as_slice-switches.ensures)) H (kept, is)
