@@ -4,7 +4,7 @@ ghost use Rattle.std.specs.Prelude.{◌≡◌, ◌≢◌, ◌*◌, ◌^◌, ◌�
 ghost use Rattle.emtp_case.specs.held.Range.{IsBetween};
 ghost use Rattle.emtp_admittance.specs.held.Frequency.{IsFrequency};
 ghost use Rattle.emtp_fix.specs.Rounding.{near};
-ghost use Rattle.emtp_fix.specs.declared.limit.TheConstants.{ATTO, LARGEST_ENTRY, LARGEST_IMPEDANCE, LARGEST_WIDE};
+ghost use Rattle.emtp_fix.specs.declared.limit.TheConstants.{ATTO, LARGEST_CAPACITANCE, LARGEST_ENTRY, LARGEST_IMPEDANCE, LARGEST_INDUCTANCE, LARGEST_TIME, LARGEST_WIDE, LEAST_IMPEDANCE};
 ghost use Rattle.emtp_admittance.specs.held.Admittances.{IsSmallAdmittance, IsSmallPort};
 ghost use Rattle.emtp_admittance.specs.Impedance.{across_ends, across_impedance, angular_frequency, capacitive_reactance, inductive_reactance, inverse, is_too_large, line_port, lossless_port, or_refused, port_of, reactance_port, series_port, squared, susceptance, turn_port, opposite_admittance};
 ghost use Rattle.emtp_admittance.specs.held.Numbers.{HasPortNumbers};
@@ -48,7 +48,7 @@ pub fn product(a: i128, b: i128) -> i128
 
 fn inductive_reactance(w: i128, l: i64) -> i128
     requires w { IsBetween 1 (10 ^ 17) w }
-    requires l { IsBetween 0 (10 ^ 15) l }
+    requires l { IsBetween 0 LARGEST_INDUCTANCE l }
     ensures { result ≡ inductive_reactance w l }
 {
     scaled(w, l as i128, PICO)
@@ -57,7 +57,7 @@ fn inductive_reactance(w: i128, l: i64) -> i128
 #[tactic(auto, unfolding(crate::specs::Impedance::capacitive_reactance))]
 fn capacitive_reactance(w: i128, c: i64) -> i128
     requires w { IsBetween 1 (10 ^ 17) w }
-    requires c { IsBetween 0 (10 ^ 15) c }
+    requires c { IsBetween 0 LARGEST_CAPACITANCE c }
     ensures { result ≡ capacitive_reactance w c }
 {
     if c == 0 {
@@ -68,8 +68,8 @@ fn capacitive_reactance(w: i128, c: i64) -> i128
 }
 
 fn squared(r: i128, x: i128) -> i128
-    requires r { unsigned_abs r ≤ 10 ^ 15 }
-    requires x { unsigned_abs x ≤ 2 * 10 ^ 15 }
+    requires r { unsigned_abs r ≤ LARGEST_IMPEDANCE }
+    requires x { unsigned_abs x ≤ 2 * LARGEST_IMPEDANCE }
     ensures value { result ≡ squared r x }
     ensures bound { unsigned_abs result ≤ 10 ^ 31 }
 {
@@ -78,7 +78,7 @@ fn squared(r: i128, x: i128) -> i128
 
 /// A quotient in units of 1e-12 of two numbers in 1e-6.
 fn quotient(part: i128, whole: i128) -> i64
-    requires part { unsigned_abs part ≤ 2 * 10 ^ 15 }
+    requires part { unsigned_abs part ≤ 2 * LARGEST_IMPEDANCE }
     requires nonzero { whole ≢ pos 0 }
     requires bound { unsigned_abs whole ≤ 10 ^ 36 }
     requires small { unsigned_abs (near (part *ℤ ATTO) whole) ≤ LARGEST_ENTRY }
@@ -111,8 +111,8 @@ fn across(y: &Admittance) -> TwoPort
 }
 
 fn across_impedance(r: i128, x: i128) -> Option<TwoPort>
-    requires r { unsigned_abs r ≤ 10 ^ 15 }
-    requires x { unsigned_abs x ≤ 2 * 10 ^ 15 }
+    requires r { unsigned_abs r ≤ LARGEST_IMPEDANCE }
+    requires x { unsigned_abs x ≤ 2 * LARGEST_IMPEDANCE }
     ensures value { result ≡ across_impedance r x }
     ensures small { IfSome result IsSmallPort }
 {
@@ -126,8 +126,8 @@ fn across_impedance(r: i128, x: i128) -> Option<TwoPort>
 
 /// The inverse of an impedance, by the square of its magnitude.
 fn inverse(r: i128, x: i128, square: i128) -> Admittance
-    requires r { unsigned_abs r ≤ 10 ^ 15 }
-    requires x { unsigned_abs x ≤ 2 * 10 ^ 15 }
+    requires r { unsigned_abs r ≤ LARGEST_IMPEDANCE }
+    requires x { unsigned_abs x ≤ 2 * LARGEST_IMPEDANCE }
     requires square { square ≡ squared r x }
     requires least { 100 ≤ unsigned_abs square }
     requires most { unsigned_abs square ≤ 10 ^ 31 }
@@ -144,9 +144,9 @@ fn inverse(r: i128, x: i128, square: i128) -> Admittance
 #[tactic(auto, unfolding(crate::specs::Impedance::series_port))]
 fn series_port(w: i128, b: &Lumped) -> Option<TwoPort>
     requires w { IsBetween 1 (10 ^ 17) w }
-    requires r { IsBetween 0 (10 ^ 15) b.now.r }
-    requires l { IsBetween 0 (10 ^ 15) b.now.l }
-    requires c { IsBetween 0 (10 ^ 15) b.now.c }
+    requires r { IsBetween 0 LARGEST_IMPEDANCE b.now.r }
+    requires l { IsBetween 0 LARGEST_INDUCTANCE b.now.l }
+    requires c { IsBetween 0 LARGEST_CAPACITANCE b.now.c }
     ensures value { result ≡ series_port w b.now }
     ensures small { IfSome result IsSmallPort }
 {
@@ -159,7 +159,7 @@ fn series_port(w: i128, b: &Lumped) -> Option<TwoPort>
 
 /// The two-port of a resistance and two reactances in series.
 fn reactance_port(r: i128, inductive: i128, capacitive: i128) -> Option<TwoPort>
-    requires { unsigned_abs r ≤ 10 ^ 15 }
+    requires { unsigned_abs r ≤ LARGEST_IMPEDANCE }
     ensures value { result ≡ reactance_port r inductive capacitive }
     ensures small { IfSome result IsSmallPort }
 {
@@ -176,7 +176,7 @@ fn difference(a: i128, b: i128) -> i128
     requires a { unsigned_abs a ≤ LARGEST_IMPEDANCE }
     requires b { unsigned_abs b ≤ LARGEST_IMPEDANCE }
     ensures value { result ≡ a -ℤ b }
-    ensures bound { unsigned_abs result ≤ 2 * 10 ^ 15 }
+    ensures bound { unsigned_abs result ≤ 2 * LARGEST_IMPEDANCE }
 {
     a - b
 }
@@ -203,7 +203,7 @@ fn lossless_port(cs: i64, sn: i64, zc: i64) -> Option<TwoPort>
     requires cs { unsigned_abs cs ≤ 10 ^ 12 }
     requires sn { unsigned_abs sn ≤ 10 ^ 12 }
     requires nonzero { sn ≢ pos 0 }
-    requires zc { IsBetween 10 (10 ^ 15) zc }
+    requires zc { IsBetween LEAST_IMPEDANCE LARGEST_IMPEDANCE zc }
     ensures value { result ≡ lossless_port cs sn zc }
     ensures small { IfSome result IsSmallPort }
 {
@@ -222,7 +222,7 @@ fn lossless_port(cs: i64, sn: i64, zc: i64) -> Option<TwoPort>
 /// How far a wave turns on its way.
 fn travel(freq: i64, delay: i64) -> i128
     requires freq { IsFrequency freq }
-    requires delay { unsigned_abs delay ≤ 10 ^ 18 }
+    requires delay { unsigned_abs delay ≤ LARGEST_TIME }
     ensures value { result ≡ freq *ℤ delay }
     ensures bound { unsigned_abs result ≤ 10 ^ 31 }
 {
@@ -242,7 +242,7 @@ fn before_quarter(phase: i128) -> i128
 fn turn_port(cs: i64, sn: i64, zc: i64) -> Option<TwoPort>
     requires cs { unsigned_abs cs ≤ 10 ^ 12 }
     requires sn { unsigned_abs sn ≤ 10 ^ 12 }
-    requires zc { IsBetween 10 (10 ^ 15) zc }
+    requires zc { IsBetween LEAST_IMPEDANCE LARGEST_IMPEDANCE zc }
     ensures value { result ≡ turn_port cs sn zc }
     ensures small { IfSome result IsSmallPort }
 {
@@ -257,8 +257,8 @@ fn turn_port(cs: i64, sn: i64, zc: i64) -> Option<TwoPort>
 #[tactic(auto, unfolding(crate::specs::Impedance::line_port))]
 fn line_port(table: &CosTable, freq: i64, b: &Line) -> Option<TwoPort>
     requires freq { IsFrequency freq }
-    requires zc { IsBetween 10 (10 ^ 15) b.now.zc }
-    requires delay { unsigned_abs b.now.delay ≤ 10 ^ 18 }
+    requires zc { IsBetween LEAST_IMPEDANCE LARGEST_IMPEDANCE b.now.zc }
+    requires delay { unsigned_abs b.now.delay ≤ LARGEST_TIME }
     ensures value { result ≡ line_port freq b.now }
     ensures small { IfSome result IsSmallPort }
 {

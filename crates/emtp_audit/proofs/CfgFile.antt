@@ -1,4 +1,5 @@
 -- The configuration that the program writes has no difference, and says what it was made of.
+use Rattle.emtp_case.specs.declared.limit.TheConstants.{MOST_CHANNELS}
 use Rattle.std.proofs.Common.{◌≡◌, ◌++◌, ◌∙◌, sym, ap, ℕ, suc, ◌+◌, ◌/◌, ◌%◌, ◌^◌, ◌<◌, ◌≤◌, ℤ, pos, Bool, true, false, cond, not, List, [], ◌∷◌, length, get_or, None, refl, arith, rules, decimal, codes, subst, append_assoc, append-nil}
 use Rattle.std.proofs.lemmas.Fmt.{decimal_nonempty}
 use Rattle.std.proofs.lemmas.List.{get_or-append-add}
@@ -47,7 +48,7 @@ head-ended p = regroup (ended (codes "EMTP,CASE,1999")) (decimal (length p.chann
     regroup : (h n c a l c' s m e : List ℕ) → ((((((h ++ n) ++ c) ++ a) ++ (l ++ c')) ++ s) ++ m) ++ e ≡ h ++ ((n ++ (c ++ ((a ++ l) ++ (c' ++ (s ++ m))))) ++ e)
     regroup h n c a l c' s m e = simp append_assoc refl
 
-pub makes-head : (p : Parts) → length p.channels ≤ 64 → Makes (cfg_head p) (head_rules p) (head_lines p)
+pub makes-head : (p : Parts) → length p.channels ≤ MOST_CHANNELS → Makes (cfg_head p) (head_rules p) (head_lines p)
 makes-head p few =
     let analog = count_below-le (is_analog_at p) (length p.channels) in
     let status = count_below-le (is_status_at p) (length p.channels) in

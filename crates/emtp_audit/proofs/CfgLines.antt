@@ -1,4 +1,5 @@
 -- The lines of the configuration that the program writes meet their rules.
+use Rattle.emtp_case.specs.declared.limit.TheConstants.{MOST_CHANNELS}
 use Rattle.std.proofs.Common.{◌≡◌, ◌++◌, ap, ℕ, zero, suc, ◌+◌, ◌^◌, ◌<◌, ◌≤◌, pos, List, [], ◌∷◌, map, length, get_or, None, refl, arith, decimal, codes, append_assoc}
 use Rattle.std.specs.Fmt.{digits}
 use Rattle.std.proofs.lemmas.Fmt.{decimal_nonempty}
@@ -65,7 +66,7 @@ no_shift : is_read (scale_number (trimmed (codes "0"))) ≡ None
 unfolding fixed_text digits
 no_shift = ap is_read (scale_number-fixed 0 (omega arith))
 
-pub pieces-analog : (p : Parts) (multiplier place : ℕ) → IsCase p → place < length p.channels → multiplier ≤ 10 ^ 15 → analog_before p place < 64
+pub pieces-analog : (p : Parts) (multiplier place : ℕ) → IsCase p → place < length p.channels → multiplier ≤ 10 ^ 15 → analog_before p place < MOST_CHANNELS
     → ArePieces (decimal (analog_before p place + 1) ∷ analog_pieces p multiplier place)
 pieces-analog p multiplier place is there small few = (
   piece-plain (decimal (analog_before p place + 1)) (plain-decimal (analog_before p place + 1) (omega arith)),
@@ -105,7 +106,7 @@ pieces-analog p multiplier place is there small few = (
   ),
 )
 
-pub meets-analog : (p : Parts) (multiplier place : ℕ) → IsCase p → place < length p.channels → multiplier ≤ 10 ^ 15 → analog_before p place < 64
+pub meets-analog : (p : Parts) (multiplier place : ℕ) → IsCase p → place < length p.channels → multiplier ≤ 10 ^ 15 → analog_before p place < MOST_CHANNELS
     → MeetsLine (analog_body p multiplier place) (analog_rule p place)
 meets-analog p multiplier place is there small few =
     meets-pieces (decimal (analog_before p place + 1)) (analog_pieces p multiplier place) _ (pieces-analog p multiplier place is there small few) (
@@ -145,7 +146,7 @@ status_line-ended p place =
     regroup : (a c b l : List ℕ) → ((a ++ c) ++ b) ++ l ≡ a ++ (c ++ (b ++ l))
     regroup a c b l = simp append_assoc refl
 
-pub meets-status : (p : Parts) (place : ℕ) → IsCase p → place < length p.channels → status_before p place < 64 → MeetsLine (status_body p place) (status_rule p place)
+pub meets-status : (p : Parts) (place : ℕ) → IsCase p → place < length p.channels → status_before p place < MOST_CHANNELS → MeetsLine (status_body p place) (status_rule p place)
 meets-status p place is there few =
     meets-pieces (decimal (status_before p place + 1)) (status_pieces p place) _ (
       piece-plain (decimal (status_before p place + 1)) (plain-decimal (status_before p place + 1) (omega arith)),

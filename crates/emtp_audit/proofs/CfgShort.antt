@@ -1,4 +1,5 @@
 -- The configuration that the program writes is short.
+use Rattle.emtp_case.specs.declared.limit.TheConstants.{MOST_CHANNELS}
 use Rattle.std.proofs.Common.{◌≡◌, ◌++◌, ◌∙◌, ap, ℕ, zero, suc, ◌+◌, ◌^◌, ◌<◌, ◌≤◌, ℤ, pos, true, false, cond, List, [], ◌∷◌, map, length, get_or, refl, arith, decimal, codes, length-append}
 use Rattle.std.proofs.lemmas.Fmt.{length-decimal-le}
 use Rattle.emtp_fix.specs.Decimal.{fixed_text}
@@ -71,7 +72,7 @@ status-short p place is there =
     parts : (d n : List ℕ) → length (ended (with_commas d (n ∷ [] ∷ [] ∷ codes "0" ∷ []))) ≡ length d + length n + 7
     parts d n = omega (arith, length-append (d ++ 44 ∷ (n ++ codes ",,,0")) (13 ∷ 10 ∷ []), length-append d (44 ∷ (n ++ codes ",,,0")), length-append n (codes ",,,0"))
 
-head-short : (p : Parts) → length p.channels ≤ 64 → length (cfg_head p) ≤ 100
+head-short : (p : Parts) → length p.channels ≤ MOST_CHANNELS → length (cfg_head p) ≤ 100
 head-short p few =
     let analog = count_below-le (is_analog_at p) (length p.channels) in
     let status = count_below-le (is_status_at p) (length p.channels) in

@@ -1,7 +1,8 @@
 //! A row of the table: a closing and an opening time for each time switch.
 
 ghost use Rattle.emtp_case.specs.declared.limit.TheConstants.{MOST_SWITCHES};
-ghost use Rattle.std.specs.Prelude.{◌≡◌, ◌+◌, ◌≤◌, ◌<◌, ◌^◌, ◌++◌, ◌∷◌, [], length, count_by, drop, map, All, Some, Ok, Err, IfOk, IfErr, unsigned_abs};
+ghost use Rattle.emtp_fix.specs.declared.limit.TheConstants.{LARGEST_TIME};
+ghost use Rattle.std.specs.Prelude.{◌≡◌, ◌+◌, ◌≤◌, ◌<◌, ◌++◌, ◌∷◌, [], length, count_by, drop, map, All, Some, Ok, Err, IfOk, IfErr, unsigned_abs};
 ghost use Rattle.std.specs.Option.{ForSome};
 ghost use Rattle.emtp_card.specs.held.Number.{IsWithin};
 ghost use Rattle.emtp_case.specs.Switch.{card_times, is_time_switch};
@@ -38,16 +39,16 @@ pub(crate) fn card_times(alloc: Global, case: &Case) -> Result<Vec<Times>, Alloc
 /// A number of seconds, in ps, held to 10^18 in magnitude.
 fn time_of(item: &[u8]) -> Option<i64>
     ensures value { result ≡ time_of item.now }
-    ensures in_range { ForSome result (λ t. unsigned_abs t ≤ 10 ^ 18) }
+    ensures in_range { ForSome result (λ t. unsigned_abs t ≤ LARGEST_TIME) }
 {
     read_held(item, 12, -LATEST_TIME, LATEST_TIME).ok()
 }
 
 /// The closing time that an item gives.
 fn closing_time(card: i64, item: &[u8]) -> Option<i64>
-    requires { unsigned_abs card ≤ 10 ^ 18 }
+    requires { unsigned_abs card ≤ LARGEST_TIME }
     ensures value { result ≡ closing_time card item.now }
-    ensures in_range { ForSome result (λ t. unsigned_abs t ≤ 10 ^ 18) }
+    ensures in_range { ForSome result (λ t. unsigned_abs t ≤ LARGEST_TIME) }
 {
     if item == b"*".as_slice() {
         Some(card)
@@ -58,9 +59,9 @@ fn closing_time(card: i64, item: &[u8]) -> Option<i64>
 
 /// The opening time that an item gives.
 fn opening_time(card: Option<i64>, item: &[u8]) -> Option<Option<i64>>
-    requires { ForSome card (λ t. unsigned_abs t ≤ 10 ^ 18) }
+    requires { ForSome card (λ t. unsigned_abs t ≤ LARGEST_TIME) }
     ensures value { result ≡ opening_time card item.now }
-    ensures in_range { ForSome result (λ o. ForSome o (λ t. unsigned_abs t ≤ 10 ^ 18)) }
+    ensures in_range { ForSome result (λ o. ForSome o (λ t. unsigned_abs t ≤ LARGEST_TIME)) }
 {
     if item == b"*".as_slice() {
         return Some(card);

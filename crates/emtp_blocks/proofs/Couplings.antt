@@ -1,4 +1,5 @@
 -- The row of a block, input by input.
+use Rattle.emtp_fix.specs.declared.limit.TheConstants.{LARGEST_COEFFICIENT}
 use Rattle.std.proofs.Common.{◌≡◌, ◌≢◌, sym, ap, ℕ, ◌*◌, ◌^◌, ◌<◌, ◌≤◌, ◌==◌, ℤ, pos, neg_ℤ, ◌+ℤ◌, unsigned_abs, Bool, true, false, if◌then◌else◌, List, Option, Some, None, length, take, length-take-le, slice_set, get_or-set_same, get_or-set_other, inl, inr, arith}
 use Rattle.std.proofs.lemmas.Bool.{cases_eq, cases_lt}
 use Rattle.std.proofs.lemmas.Bool.Decides.{nat_tests}
@@ -38,15 +39,15 @@ choose_small : (b : Bool) (z : ℤ) (limit : ℕ) → unsigned_abs z ≤ limit �
 choose_small true z limit small = small
 choose_small false z limit small = omega (arith, ints)
 
-pub coupling_small : (k : ℤ) (j : ℕ) (i : Input) (p : Option ℕ) → unsigned_abs k ≤ 10 ^ 18 → unsigned_abs (coupling_by k j i p) ≤ 10 ^ 18
+pub coupling_small : (k : ℤ) (j : ℕ) (i : Input) (p : Option ℕ) → unsigned_abs k ≤ LARGEST_COEFFICIENT → unsigned_abs (coupling_by k j i p) ≤ LARGEST_COEFFICIENT
 coupling_small k j i None small = omega (arith, ints)
 coupling_small k j i (Some m) small = choose_small (m == j) _ (10 ^ 18) (signed_small i.minus (neg_ℤ k) (10 ^ 18) (omega (arith, ints, small)))
 
-pub couplings_small : (k : ℤ) (j : ℕ) (place : ℕ → Option ℕ) (inputs : List Input) → unsigned_abs k ≤ 10 ^ 18 → length inputs ≤ 5 → unsigned_abs (total (λ n. coupling_by k j n (place n.var)) inputs) ≤ 5 * 10 ^ 18
+pub couplings_small : (k : ℤ) (j : ℕ) (place : ℕ → Option ℕ) (inputs : List Input) → unsigned_abs k ≤ LARGEST_COEFFICIENT → length inputs ≤ 5 → unsigned_abs (total (λ n. coupling_by k j n (place n.var)) inputs) ≤ 5 * 10 ^ 18
 couplings_small k j place inputs small few = omega (arith, few, total_small (λ (n : Input). coupling_by k j n (place n.var)) (10 ^ 18) (λ n. coupling_small k j n (place n.var) small) inputs)
 
 -- a row while it is filled
-pub part_small : (k : ℤ) (place : ℕ → Option ℕ) (inputs : List Input) (at : ℕ) (start out : List ℤ) → unsigned_abs k ≤ 10 ^ 18 → length inputs ≤ 5 → at ≤ length inputs → ((j : ℕ) → unsigned_abs (item start j) ≤ 10 ^ 12)
+pub part_small : (k : ℤ) (place : ℕ → Option ℕ) (inputs : List Input) (at : ℕ) (start out : List ℤ) → unsigned_abs k ≤ LARGEST_COEFFICIENT → length inputs ≤ 5 → at ≤ length inputs → ((j : ℕ) → unsigned_abs (item start j) ≤ 10 ^ 12)
     → ((j : ℕ) → j < length out → item out j ≡ item start j +ℤ total (λ n. coupling_by k j n (place n.var)) (take at inputs)) → (j : ℕ) → unsigned_abs (item out j) ≤ 10 ^ 26
 part_small k place inputs at start out small few within first is j = elim (cases_lt j (length out)) [
   | inl below ↦ let sum = couplings_small k j place (take at inputs) small (omega (arith, few, length-take-le at inputs within, within)) in omega (arith, ints, is j below, first j, sum)

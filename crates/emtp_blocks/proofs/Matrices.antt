@@ -1,4 +1,5 @@
 -- The matrix of the blocks, entry by entry.
+use Rattle.emtp_fix.specs.declared.limit.TheConstants.{LARGEST_COEFFICIENT}
 use Rattle.std.proofs.Common.{◌≡◌, ◌∙◌, sym, ap, ℕ, ◌^◌, ◌<◌, ◌≤◌, ◌==◌, ℤ, pos, unsigned_abs, List, [], length, slice_index_or, slice_get, Option, Some, inl, inr, arith}
 use Rattle.std.proofs.lemmas.Bool.{cases_lt, cases_Bool}
 use Rattle.std.proofs.lemmas.Int.{ints}
@@ -46,7 +47,7 @@ unit_small i j = elim (cases_Bool (i == j)) [
   | inr off ↦ rw off (omega (arith, ints))
 ]
 
-row_small : (place : ℕ → Option ℕ) (k : ℤ) (inputs : List Input) (l : Limiter) (i j : ℕ) → unsigned_abs k ≤ 10 ^ 18 → length inputs ≤ 5 → unsigned_abs (row_entry place k inputs l i j) ≤ 10 ^ 26
+row_small : (place : ℕ → Option ℕ) (k : ℤ) (inputs : List Input) (l : Limiter) (i j : ℕ) → unsigned_abs k ≤ LARGEST_COEFFICIENT → length inputs ≤ 5 → unsigned_abs (row_entry place k inputs l i j) ≤ 10 ^ 26
 row_small place k inputs Free i j small few = omega (arith, ints, unit_small i j, couplings_small k j place inputs small few)
 row_small place k inputs AtHigh i j small few = omega (arith, unit_small i j)
 row_small place k inputs AtLow i j small few = omega (arith, unit_small i j)

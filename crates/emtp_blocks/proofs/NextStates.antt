@@ -1,4 +1,5 @@
 -- The state of a block after a step, from what the code computes.
+use Rattle.emtp_fix.specs.declared.limit.TheConstants.{LARGEST_VALUE}
 use Rattle.std.proofs.Common.{◌≡◌, ◌∙◌, sym, ap, subst, Bool, true, false, not, ◌&&◌, ◌==◌, if◌then◌else◌, nat_lt, ℕ, suc, ◌+◌, ◌*◌, ◌^◌, ◌<◌, ◌≤◌, ℤ, pos, neg_ℤ, ◌-ℤ◌, ◌*ℤ◌, List, Some, None, unsigned_abs, add-one, refl, inl, inr, arith}
 use Rattle.std.proofs.lemmas.Bool.{cases_lt}
 use Rattle.std.proofs.lemmas.Bool.Decides.{nat_tests}
@@ -64,7 +65,7 @@ choose order false t w kept new is same has = absurd (grind (arith, is))
 
 pub next_is : (dt : ℤ) (b : Block) (limits : Limits) (r : BlockState) (solved s u x z : ℤ) (kept : BlockState) (in_range : Bool)
     → u ≡ input_of b s → x ≡ output_of limits r.limiter solved → z ≡ unlimited (coefficient_sum dt b b.order) r.limiter (past_output b.order r.errors r.chain) solved u
-    → is_within (10 ^ 18) u ≡ true → in_range ≡ each_within (10 ^ 36) kept.chain b.order → HasState b.order kept (kept_of dt b limits r u x z)
+    → is_within LARGEST_VALUE u ≡ true → in_range ≡ each_within (10 ^ 36) kept.chain b.order → HasState b.order kept (kept_of dt b limits r u x z)
     → Keeps b.order (if in_range then Some kept else None) (next_state dt b limits r solved s)
 unfolding next_state
 next_is dt b limits r solved s u x z kept in_range u_is x_is z_is small in_range_is has =
@@ -76,22 +77,22 @@ next_is dt b limits r solved s u x z kept in_range u_is x_is z_is small in_range
     let R : ℤ → Type 0 = λ v. HasState b.order kept (kept_of dt b limits r (input_of b s) (output_of limits r.limiter solved) v) in
     let has3 = subst R z' has2 in
     let new : BlockState = kept_of dt b limits r (input_of b s) (output_of limits r.limiter solved) (unlimited (coefficient_sum dt b b.order) r.limiter (past_output b.order r.errors r.chain) solved (input_of b s)) in
-    choose b.order _ in_range _ kept new (ap (is_within (10 ^ 18)) (sym u_is) ∙ small) (in_range_is ∙ each_same (10 ^ 36) kept.chain new.chain b.order has3.chain_is) has3
+    choose b.order _ in_range _ kept new (ap (is_within LARGEST_VALUE) (sym u_is) ∙ small) (in_range_is ∙ each_same (10 ^ 36) kept.chain new.chain b.order has3.chain_is) has3
 
-pub next_none : (dt : ℤ) (b : Block) (limits : Limits) (r : BlockState) (solved s : ℤ) → is_within (10 ^ 18) (input_of b s) ≡ false → next_state dt b limits r solved s ≡ None
+pub next_none : (dt : ℤ) (b : Block) (limits : Limits) (r : BlockState) (solved s : ℤ) → is_within LARGEST_VALUE (input_of b s) ≡ false → next_state dt b limits r solved s ≡ None
 unfolding next_state
 next_none dt b limits r solved s out = rw out refl
 
 -- what the input's range says
-pub input_none : (u : ℤ) → None ≡ (if is_within (10 ^ 18) u then Some u else None) → is_within (10 ^ 18) u ≡ false
-input_none u e = none (is_within (10 ^ 18) u) u e
+pub input_none : (u : ℤ) → None ≡ (if is_within LARGEST_VALUE u then Some u else None) → is_within LARGEST_VALUE u ≡ false
+input_none u e = none (is_within LARGEST_VALUE u) u e
   where
     none : (b : Bool) (u : ℤ) → None ≡ (if b then Some u else None) → b ≡ false
     none true u e = absurd (grind (arith, e))
     none false u e = refl
 
-pub input_some : (u v : ℤ) → Some u ≡ (if is_within (10 ^ 18) v then Some v else None) → (is_within (10 ^ 18) v ≡ true) × (u ≡ v)
-input_some u v e = some (is_within (10 ^ 18) v) u v e
+pub input_some : (u v : ℤ) → Some u ≡ (if is_within LARGEST_VALUE v then Some v else None) → (is_within LARGEST_VALUE v ≡ true) × (u ≡ v)
+input_some u v e = some (is_within LARGEST_VALUE v) u v e
   where
     some : (b : Bool) (u v : ℤ) → Some u ≡ (if b then Some v else None) → (b ≡ true) × (u ≡ v)
     some true u v e = (refl, grind (arith, e))

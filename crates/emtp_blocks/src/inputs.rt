@@ -48,7 +48,7 @@ pub(crate) fn outside_sum(places: &[Option<usize>], known: &[i64], inputs: &[Inp
     requires there { All (λ (i : Input). i.var < length known.now) inputs.now }
     requires known { All (λ v. unsigned_abs v ≤ LARGEST_VALUE) known.now }
     ensures value { result ≡ outside_sum (place_in places.now) known.now inputs.now }
-    ensures small { unsigned_abs result ≤ 5 * 10 ^ 18 }
+    ensures small { unsigned_abs result ≤ 5 * LARGEST_VALUE }
 {
     let mut sum = 0;
     for input in inputs {
@@ -90,7 +90,7 @@ pub(crate) fn input_sum(
     requires xs { All (λ v. unsigned_abs v ≤ LARGEST_VALUE) xs.now }
     requires x { unsigned_abs x ≤ LARGEST_VALUE }
     ensures value { result ≡ input_sum (place_in places.now) known.now xs.now at x inputs.now }
-    ensures small { unsigned_abs result ≤ 5 * 10 ^ 18 }
+    ensures small { unsigned_abs result ≤ 5 * LARGEST_VALUE }
 {
     let mut sum = 0;
     for input in inputs {

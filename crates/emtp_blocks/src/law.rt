@@ -8,7 +8,7 @@ ghost use Rattle.emtp_case.specs.Sums.{sum_upto};
 ghost use Rattle.emtp_elim.specs.Matrix.{item};
 ghost use Rattle.emtp_fix.specs.Rounding.{near};
 ghost use Rattle.emtp_blocks.specs.held.Block.{IsLawOf, IsLaw};
-ghost use Rattle.emtp_fix.specs.declared.limit.TheConstants.{LARGEST_VALUE, PICO};
+ghost use Rattle.emtp_fix.specs.declared.limit.TheConstants.{LARGEST_COEFFICIENT, LARGEST_VALUE, PICO};
 
 use crate::scaling::product;
 use emtp_case::{Block, coefficient_divisor, coefficient_quotient};
@@ -64,7 +64,7 @@ fn sum(quotients: &[i64], order: usize) -> i64
     requires there { 8 ≤ length quotients.now }
     requires small { (j : ℕ) → unsigned_abs (item quotients.now j) ≤ LARGEST_VALUE }
     ensures value { result ≡ sum_upto order (item quotients.now) }
-    ensures small { unsigned_abs result ≤ 8 * 10 ^ 18 }
+    ensures small { unsigned_abs result ≤ 8 * LARGEST_COEFFICIENT }
 {
     let mut sum = 0;
     for j in 0..order + 1 {
@@ -76,7 +76,7 @@ fn sum(quotients: &[i64], order: usize) -> i64
 /// The gain of a block within one step.
 fn step_gain(gain: i64, sum: i64) -> i64
     requires gain { unsigned_abs gain ≤ LARGEST_VALUE }
-    requires sum { unsigned_abs sum ≤ 8 * 10 ^ 18 }
+    requires sum { unsigned_abs sum ≤ 8 * LARGEST_COEFFICIENT }
     requires small { unsigned_abs (near (gain *ℤ sum) PICO) ≤ LARGEST_VALUE }
     ensures { result ≡ near (gain *ℤ sum) PICO }
 {

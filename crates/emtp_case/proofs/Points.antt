@@ -5,13 +5,14 @@ use Rattle.emtp_case.specs.held.Control.{AreTimes, FollowsInTable, FollowsInTime
 use Rattle.emtp_case.specs.declared.branch.Point.{Point}
 use Rattle.emtp_case.specs.declared.branch.Trio.{Trio}
 use Rattle.emtp_case.specs.declared.run_data.RunData.{RunData}
+use Rattle.emtp_fix.specs.declared.limit.TheConstants.{LARGEST_TIME, LARGEST_VALUE}
 use Rattle.std.proofs.Common.{arith, inl, inr}
 use Rattle.std.proofs.Math.ListN.{get_or-append}
 use Rattle.std.proofs.Math.Seq.{get_or-append_seam}
 use Rattle.std.proofs.lemmas.Bool.{cases_lt}
 use Rattle.std.proofs.lemmas.List.{length-append}
 use Rattle.std.proofs.lemmas.List.Elements.{All-push}
-use Rattle.std.specs.Prelude.{◌≡◌, ◌+◌, ◌-◌, ◌<◌, ◌≤◌, ◌<ℤ◌, ◌≤ℤ◌, ◌^◌, ◌∷◌, ◌++◌, [], Bool, List, length, pos, slice_index_or, suc, unsigned_abs, zero, ℕ, ℤ}
+use Rattle.std.specs.Prelude.{◌≡◌, ◌+◌, ◌-◌, ◌<◌, ◌≤◌, ◌<ℤ◌, ◌≤ℤ◌, ◌∷◌, ◌++◌, [], Bool, List, length, pos, slice_index_or, suc, unsigned_abs, zero, ℕ, ℤ}
 
 -- the point that a segment to one more point begins at: the last one, or the origin
 abbrev pub last_point : List Point → Point
@@ -57,8 +58,8 @@ pub one_more_in_table : (points : List Point) (p : Point) → IsTable points →
 one_more_in_table points p h next = record {
   some = omega (arith, h.some, length-append points (p ∷ []));
   few = omega (arith, next.room, length-append points (p ∷ []));
-  inputs = All-push (λ (q : Point). unsigned_abs q.current ≤ 10 ^ 18) points p h.inputs next.input;
-  outputs = All-push (λ (q : Point). unsigned_abs q.other ≤ 10 ^ 18) points p h.outputs next.output;
+  inputs = All-push (λ (q : Point). unsigned_abs q.current ≤ LARGEST_VALUE) points p h.inputs next.input;
+  outputs = All-push (λ (q : Point). unsigned_abs q.other ≤ LARGEST_VALUE) points p h.outputs next.output;
   rising = neighbours (λ a b. a.current <ℤ b.current) points p h.rising (λ some. next.rises);
 }
 
@@ -67,7 +68,7 @@ one_more_pair points p h next = record {
   some = omega (arith, h.some, length-append points (p ∷ []));
   few = omega (arith, next.room, length-append points (p ∷ []));
   close = All-push (λ (q : Point). pos 0 ≤ℤ q.current) points p h.close next.close;
-  «open» = All-push (λ (q : Point). q.other ≤ℤ pos (10 ^ 18)) points p h.«open» next.«open»;
+  «open» = All-push (λ (q : Point). q.other ≤ℤ pos LARGEST_TIME) points p h.«open» next.«open»;
   closes_first = All-push (λ (q : Point). q.current <ℤ q.other) points p h.closes_first next.closes_first;
   in_turn = neighbours (λ a b. a.other ≤ℤ b.current) points p h.in_turn (λ some. next.in_turn);
 }

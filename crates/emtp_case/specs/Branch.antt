@@ -4,6 +4,7 @@ use Rattle.emtp_case.specs.declared.branch.Branch.TheVariants.{Line as OfLine, L
 use Rattle.emtp_case.specs.declared.branch.Point.{Point}
 use Rattle.emtp_case.specs.declared.branch.Trio.{Trio}
 use Rattle.emtp_fix.specs.Rounding.{near}
+use Rattle.emtp_fix.specs.declared.limit.TheConstants.{LARGEST_ENTRY, LARGEST_IMPEDANCE, LEAST_IMPEDANCE}
 use Rattle.std.specs.Ordering.{int_eq}
 use Rattle.std.specs.Prelude.{◌+◌, ◌*◌, ◌^◌, ◌+ℤ◌, ◌-ℤ◌, ◌*ℤ◌, if◌then◌else◌, Bool, List, drop, false, map, pos, slice_index_or, take, true, ℕ, ℤ}
 
@@ -42,12 +43,12 @@ slope_of false dt a b = near ((b.other -ℤ a.other) *ℤ pos (10 ^ 6)) (b.curre
 slope_of true dt a b = near (dt *ℤ (b.current -ℤ a.current) *ℤ pos 1000) (pos 2 *ℤ (b.other -ℤ a.other))
 
 abbrev pub least_slope : Bool → ℕ
-least_slope false = 10
+least_slope false = LEAST_IMPEDANCE
 least_slope true = 1
 
 abbrev pub greatest_slope : Bool → ℕ
-greatest_slope false = 10 ^ 15
-greatest_slope true = 10 ^ 17
+greatest_slope false = LARGEST_IMPEDANCE
+greatest_slope true = LARGEST_ENTRY
 
 -- All branches
 

@@ -2,6 +2,7 @@
 //! line's end, the slope of a segment. A reader judges by them, and the laws step with them.
 
 ghost use Rattle.emtp_case.specs.held.RunData.{IsTimeStep};
+ghost use Rattle.emtp_fix.specs.declared.limit.TheConstants.{LARGEST_CAPACITANCE, LARGEST_IMPEDANCE, LARGEST_INDUCTANCE, LARGEST_VALUE};
 ghost use Rattle.std.specs.Prelude.{◌≡◌, ◌*◌, ◌^◌, ◌≤◌, pos, ◌*ℤ◌, unsigned_abs};
 ghost use Rattle.emtp_case.specs.Branch.{capacitor_impedance, inductor_impedance, line_impedance, series_impedance, slope_of};
 ghost use Rattle.emtp_case.specs.held.Branch.{IsRise};
@@ -14,7 +15,7 @@ use emtp_fix::near;
 /// The impedance in micro-ohm of an inductance in nH, at a time step in ps, by the trapezoidal rule (Dommel 1969).
 pub fn inductor_impedance(dt: i64, l: i64) -> i128
     requires dt { IsTimeStep dt }
-    requires l { IsBetween 0 (10 ^ 15) l }
+    requires l { IsBetween 0 LARGEST_INDUCTANCE l }
     ensures value { result ≡ inductor_impedance dt l }
     ensures bound { unsigned_abs result ≤ 2 * 10 ^ 24 }
 {
@@ -25,7 +26,7 @@ pub fn inductor_impedance(dt: i64, l: i64) -> i128
 /// A capacitance of 0 is absent, and has none.
 pub fn capacitor_impedance(dt: i64, c: i64) -> i128
     requires dt { IsTimeStep dt }
-    requires c { IsBetween 0 (10 ^ 15) c }
+    requires c { IsBetween 0 LARGEST_CAPACITANCE c }
     ensures value { result ≡ capacitor_impedance dt c }
     ensures bound { unsigned_abs result ≤ 10 ^ 21 }
 {
@@ -35,7 +36,7 @@ pub fn capacitor_impedance(dt: i64, c: i64) -> i128
 /// The whole number nearest to `dt * 10^9 / (2 * c)`.
 fn half_step(dt: i64, c: i64) -> i128
     requires dt { IsTimeStep dt }
-    requires c { IsBetween 1 (10 ^ 15) c }
+    requires c { IsBetween 1 LARGEST_CAPACITANCE c }
     ensures value { result ≡ near (dt *ℤ pos (10 ^ 9)) (pos 2 *ℤ c) }
     ensures bound { unsigned_abs result ≤ 10 ^ 21 }
 {
@@ -45,9 +46,9 @@ fn half_step(dt: i64, c: i64) -> i128
 /// The impedance in micro-ohm of a resistance, an inductance and a capacitance in series, over one step in ps.
 pub fn series_impedance(dt: i64, r: i64, l: i64, c: i64) -> i128
     requires dt { IsTimeStep dt }
-    requires r { IsBetween 0 (10 ^ 15) r }
-    requires l { IsBetween 0 (10 ^ 15) l }
-    requires c { IsBetween 0 (10 ^ 15) c }
+    requires r { IsBetween 0 LARGEST_IMPEDANCE r }
+    requires l { IsBetween 0 LARGEST_INDUCTANCE l }
+    requires c { IsBetween 0 LARGEST_CAPACITANCE c }
     ensures { result ≡ series_impedance dt r l c }
 {
     r as i128 + inductor_impedance(dt, l) + capacitor_impedance(dt, c)
@@ -56,8 +57,8 @@ pub fn series_impedance(dt: i64, r: i64, l: i64, c: i64) -> i128
 /// The impedance in micro-ohm of the end of a line of this surge impedance and total resistance, both in micro-ohm: a
 /// quarter of the resistance stands at each end of each half (EMTP Theory Book).
 pub fn line_impedance(zc: i64, r: i64) -> i128
-    requires zc { IsBetween 0 (10 ^ 15) zc }
-    requires r { IsBetween 0 (10 ^ 15) r }
+    requires zc { IsBetween 0 LARGEST_IMPEDANCE zc }
+    requires r { IsBetween 0 LARGEST_IMPEDANCE r }
     ensures { result ≡ line_impedance zc r }
 {
     zc as i128 + near(r as i128, 4)
@@ -79,8 +80,8 @@ pub fn slope(reactor: bool, dt: i64, a: Point, b: Point) -> i128
 }
 
 fn resistor_slope(current: i64, voltage: i64) -> i128
-    requires current { IsBetween 1 (10 ^ 18) current }
-    requires voltage { IsBetween 1 (10 ^ 18) voltage }
+    requires current { IsBetween 1 LARGEST_VALUE current }
+    requires voltage { IsBetween 1 LARGEST_VALUE voltage }
     ensures { result ≡ near (voltage *ℤ pos (10 ^ 6)) current }
 {
     near(voltage as i128 * 1_000_000, current as i128)
@@ -88,7 +89,7 @@ fn resistor_slope(current: i64, voltage: i64) -> i128
 
 fn reactor_slope(dt: i64, current: i64, flux: i64) -> i128
     requires dt { IsTimeStep dt }
-    requires current { IsBetween 1 (10 ^ 18) current }
+    requires current { IsBetween 1 LARGEST_VALUE current }
     requires flux { IsBetween 1 (10 ^ 18) flux }
     ensures { result ≡ near (dt *ℤ current *ℤ pos 1000) (pos 2 *ℤ flux) }
 {

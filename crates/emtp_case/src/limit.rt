@@ -1,4 +1,4 @@
-//! Limits of a case by count. What is beyond them is refused by the readers of cards.
+//! Limits of a case by count, and of its time step. What is beyond them is refused by the readers of cards.
 
 /// The most nodes, ground not counted.
 pub const MOST_NODES: usize = 1_000;
@@ -32,3 +32,9 @@ pub const MOST_STORED_VALUES: u64 = 4_000_000;
 
 /// The most steps, and the most steps from one sample to the next.
 pub const MOST_STEPS: u32 = 1_000_000;
+
+/// The least time step, in ps: 1 ns.
+pub const LEAST_TIME_STEP: u64 = 1_000;
+
+/// The greatest time step, in ps: 1 s.
+pub const LARGEST_TIME_STEP: u64 = 1_000_000_000_000;

@@ -1,7 +1,8 @@
 //! The numbers of the miscellaneous cards.
 
 ghost use Rattle.emtp_case.specs.declared.limit.TheConstants.{MOST_STEPS};
-ghost use Rattle.std.specs.Prelude.{◌≡◌, ◌≤◌, ◌^◌};
+ghost use Rattle.emtp_fix.specs.declared.limit.TheConstants.{LARGEST_TIME};
+ghost use Rattle.std.specs.Prelude.{◌≡◌, ◌≤◌};
 ghost use Rattle.emtp_case.specs.held.Range.{IsBetween};
 
 /// The numbers of the miscellaneous cards, and the tolerance of the residual.
@@ -26,7 +27,7 @@ impl RunData {
         requires run { IsRun self.now }
         requires step { step ≤ self.now.steps }
         ensures value { result ≡ time_of self.now step }
-        ensures bound { IsBetween 0 (10 ^ 18) result }
+        ensures bound { IsBetween 0 LARGEST_TIME result }
     {
         i64::from(step) * self.dt
     }

@@ -40,7 +40,7 @@ unfolding card_fault
 faultless names n card values e =
     let none = least_none (too_many (nat_lt MOST_BRANCHES n.branches) 1
     ∷ too_many (nat_lt MOST_HISTORY_VALUES n.history) 1
-    ∷ too_many (nat_lt 64 n.channels) 1
+    ∷ too_many (nat_lt MOST_CHANNELS n.channels) 1
     ∷ too_many (nat_lt MOST_NODES (node_number names card.from)) 3
     ∷ too_many (nat_lt MOST_NODES (node_number names card.to)) 9
     ∷ missing_fault values
@@ -79,7 +79,7 @@ pub record IsTakable (m : Made) (new : List (List ℕ)) (e : BranchEntry) : Type
   pub room : count_asked m.asked + entry_count e ≤ MOST_CHANNELS
 
 -- a card brings at most six names
-pub names_more : (nodes : List (List ℕ)) (e : BranchEntry) → length nodes ≤ MOST_NODES → length (with_entry_names nodes e) ≤ 2000
+pub names_more : (nodes : List (List ℕ)) (e : BranchEntry) → length nodes ≤ MOST_NODES → length (with_entry_names nodes e) ≤ 2 * MOST_NODES
 names_more nodes (Single card first count) l =
     let named = all_named nodes (card.from ∷ card.to ∷ []) in omega (arith, named.more, l)
 names_more nodes (Trio zero' positive third) l =

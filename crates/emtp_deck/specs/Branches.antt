@@ -1,5 +1,5 @@
 -- Branches: what each card gives the case, unless it has a fault of sense. Of a card the least fault counts.
-use Rattle.emtp_case.specs.declared.limit.TheConstants.{MOST_BRANCHES, MOST_HISTORY_VALUES, MOST_NODES}
+use Rattle.emtp_case.specs.declared.limit.TheConstants.{MOST_BRANCHES, MOST_CHANNELS, MOST_HISTORY_VALUES, MOST_NODES}
 use Rattle.std.specs.Prelude.{ℕ, ◌+◌, ◌*◌, nat_lt, ℤ, pos, Bool, true, false, List, [], ◌∷◌, ◌++◌, length, Option, Some, None, option_map, unwrap_or, Result, Ok}
 use Rattle.emtp_card.specs.Fault.{bad_at, least, unless_bad}
 use Rattle.emtp_card.specs.declared.fault.Fault.{Fault}
@@ -58,7 +58,7 @@ unfoldable pub card_fault : List (List ℕ) → Counts → BranchCard → Values
 card_fault names n card values =
     least (too_many (nat_lt MOST_BRANCHES n.branches) 1
     ∷ too_many (nat_lt MOST_HISTORY_VALUES n.history) 1
-    ∷ too_many (nat_lt 64 n.channels) 1
+    ∷ too_many (nat_lt MOST_CHANNELS n.channels) 1
     ∷ too_many (nat_lt MOST_NODES (node_number names card.from)) 3
     ∷ too_many (nat_lt MOST_NODES (node_number names card.to)) 9
     ∷ missing_fault values

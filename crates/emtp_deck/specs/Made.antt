@@ -1,4 +1,5 @@
 -- What is made of the cards so far: the records of the case, and the channels that were asked for.
+use Rattle.emtp_case.specs.declared.limit.TheConstants.{MOST_CHANNELS}
 use Rattle.std.specs.Prelude.{ℕ, ◌+◌, ◌++◌, [], List, length, nat_lt, Option, Some, None, Result, Ok, Err, Bool}
 use Rattle.emtp_card.specs.Fault.{bad_at}
 use Rattle.emtp_card.specs.declared.fault.Fault.{Fault}
@@ -23,7 +24,7 @@ none_asked = record { variables = []; outputs = []; branches = []; switches = []
 
 -- so many channels more than a record may have
 abbrev pub no_room : Asked → ℕ → Bool
-no_room a more = nat_lt 64 (count_asked a + more)
+no_room a more = nat_lt MOST_CHANNELS (count_asked a + more)
 
 -- what a card makes, unless it has a fault of sense
 abbrev pub unless_fault : {A : Type 0} → ℕ → Option Fault → A → Result A Bad

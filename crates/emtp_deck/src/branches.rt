@@ -1,6 +1,6 @@
 //! The branches of a case, and the faults of sense of their cards.
 
-ghost use Rattle.emtp_case.specs.declared.limit.TheConstants.{MOST_BRANCHES, MOST_CHANNELS, MOST_HISTORY_VALUES};
+ghost use Rattle.emtp_case.specs.declared.limit.TheConstants.{MOST_BRANCHES, MOST_CHANNELS, MOST_HISTORY_VALUES, MOST_NODES};
 ghost use Rattle.emtp_case.specs.held.RunData.{IsTimeStep};
 ghost use Rattle.std.specs.Prelude.{◌≡◌, ◌+◌, ◌*◌, ◌^◌, ◌<◌, ◌≤◌, ◌++◌, All, length, Ok, Some, IfErr, IfOk, OnOk, false, true};
 ghost use Rattle.emtp_case.specs.held.Branch.{HasLineNumbers, IsBranch};
@@ -88,7 +88,7 @@ fn line_history(phases: u64, dt: i64, numbers: &Option<LineNumbers>) -> u64
 
 fn card_history(phases: u64, names: &IndexSet<Name>, draft: &Draft, card: &BranchCard) -> u64
     requires phases { phases ≤ 3 }
-    requires names { length names.now.keys ≤ 2000 }
+    requires names { length names.now.keys ≤ 2 * MOST_NODES }
     ensures value { result ≡ card_history phases names.now.keys draft.now.parts card.now }
     ensures few { result ≤ 2 * 10 ^ 17 }
 {
@@ -107,7 +107,7 @@ fn card_fault(
     card: &BranchCard,
     values: &ValuesFrom,
 ) -> Option<Fault>
-    requires { length names.now.keys ≤ 2000 }
+    requires { length names.now.keys ≤ 2 * MOST_NODES }
     ensures { result ≡ card_fault names.now.keys counts.now card.now values.now }
 {
     least(&[
@@ -126,7 +126,7 @@ fn card_bad(
     card: &BranchCard,
     values: &ValuesFrom,
 ) -> Option<Bad>
-    requires { length names.now.keys ≤ 2000 }
+    requires { length names.now.keys ≤ 2 * MOST_NODES }
     ensures { result ≡ card_bad names.now.keys counts.now card.now values.now }
 {
     match card_fault(names, counts, card, values) {

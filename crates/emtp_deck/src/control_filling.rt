@@ -1,6 +1,6 @@
 //! The records of the control, whose cards have no fault of sense.
 
-ghost use Rattle.emtp_case.specs.declared.limit.TheConstants.{MOST_CONTROL_CARDS, MOST_HISTORY_VALUES, MOST_SWITCHES, MOST_VARIABLES};
+ghost use Rattle.emtp_case.specs.declared.limit.TheConstants.{MOST_CONTROL_CARDS, MOST_HISTORY_VALUES, MOST_NODES, MOST_SWITCHES, MOST_VARIABLES};
 ghost use Rattle.std.specs.Prelude.{◌≡◌, ◌+◌, ◌<◌, ◌≤◌, ◌++◌, [], All, fold, length, map, sum_by, IfErr, IfOk, OnOk};
 ghost use Rattle.emtp_case.specs.HistoryValues.{history_values_of};
 ghost use Rattle.emtp_case.specs.held.Name.{IsName};
@@ -269,7 +269,7 @@ fn switch_place(switches: &[SwitchCard], name: &Name) -> u32
 
 /// The shape of a source, which measures the node or the switch of its name.
 fn measuring(nodes: &IndexSet<Name>, switches: &[SwitchCard], name: &Name, shape: Shape) -> Shape
-    requires nodes { length nodes.now.keys ≤ 2000 }
+    requires nodes { length nodes.now.keys ≤ 2 * MOST_NODES }
     requires switches { length switches.now ≤ MOST_SWITCHES }
     ensures { result ≡ measuring nodes.now.keys switches.now name.now shape }
 {
@@ -293,7 +293,7 @@ fn tacs_source_of(
     variables: &IndexSet<Name>,
     card: &SourceCard,
 ) -> Source
-    requires nodes { length nodes.now.keys ≤ 2000 }
+    requires nodes { length nodes.now.keys ≤ 2 * MOST_NODES }
     requires switches { length switches.now ≤ MOST_SWITCHES }
     requires variables { length variables.now.keys ≤ MOST_VARIABLES }
     ensures { result ≡ tacs_source_of nodes.now.keys switches.now variables.now.keys card.now }

@@ -1,6 +1,6 @@
 //! Filling the switches.
 
-ghost use Rattle.emtp_case.specs.declared.limit.TheConstants.{MOST_CHANNELS, MOST_SWITCHES, MOST_VARIABLES};
+ghost use Rattle.emtp_case.specs.declared.limit.TheConstants.{MOST_CHANNELS, MOST_NODES, MOST_SWITCHES, MOST_VARIABLES};
 ghost use Rattle.std.specs.Prelude.{◌≡◌, ◌+◌, ◌<◌, ◌≤◌, All, length, IfErr, OnOk};
 ghost use Rattle.emtp_case.specs.held.Range.{AreEnds};
 ghost use Rattle.emtp_walk.specs.held.Answer.{IsWant};
@@ -22,7 +22,7 @@ use indexmap::IndexSet;
 
 /// The faults of sense of a card, its own names among those of the nodes.
 fn switch_fault(filling: &Filling, card: &SwitchCard) -> Option<Fault>
-    requires few { length filling.now.nodes.keys ≤ 2000 }
+    requires few { length filling.now.nodes.keys ≤ 2 * MOST_NODES }
     requires asked { count_asked filling.now.asked ≤ MOST_CHANNELS }
     requires variables { filling.now.variables.keys ≡ filling.now.draft.parts.vars }
     ensures { result ≡ switch_fault filling.now.nodes.keys (made_of filling.now) card.now }
@@ -64,7 +64,7 @@ fn controlled_kind(
 }
 
 fn switch_at(nodes: &IndexSet<Name>, variables: &IndexSet<Name>, card: &SwitchCard) -> Switch
-    requires few { length nodes.now.keys ≤ 2000 }
+    requires few { length nodes.now.keys ≤ 2 * MOST_NODES }
     requires few_variables { length variables.now.keys ≤ MOST_VARIABLES }
     ensures { result ≡ switch_at nodes.now.keys variables.now.keys card.now }
 {

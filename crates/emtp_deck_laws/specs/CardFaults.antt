@@ -1,6 +1,6 @@
 -- All faults of sense of one card, where those before it have made this much of the case. Of signed inputs and of the names of
 -- an expression the first unknown one stands for all.
-use Rattle.emtp_case.specs.declared.limit.TheConstants.{MOST_BRANCHES, MOST_CONTROL_CARDS, MOST_HISTORY_VALUES, MOST_NODES, MOST_SOURCES, MOST_SWITCHES}
+use Rattle.emtp_case.specs.declared.limit.TheConstants.{MOST_BRANCHES, MOST_CHANNELS, MOST_CONTROL_CARDS, MOST_HISTORY_VALUES, MOST_NODES, MOST_SOURCES, MOST_SWITCHES}
 use Rattle.std.specs.Prelude.{ℕ, ◌+◌, nat_le, nat_lt, List, [], ◌∷◌, ◌++◌, length, Option, Some, None, option_map, if◌then◌else◌}
 use Rattle.emtp_card.specs.declared.fault.Fault.{Fault}
 use Rattle.emtp_card.specs.declared.reason.Why.TheVariants.{MissingSection, TooManySamples}
@@ -69,7 +69,7 @@ abbrev pub branch_faults : List (List ℕ) → Counts → BranchCard → ValuesF
 branch_faults names n card values =
     too_many (nat_lt MOST_BRANCHES n.branches) 1
     ∷ too_many (nat_lt MOST_HISTORY_VALUES n.history) 1
-    ∷ too_many (nat_lt 64 n.channels) 1
+    ∷ too_many (nat_lt MOST_CHANNELS n.channels) 1
     ∷ too_many (nat_lt MOST_NODES (node_number names card.from)) 3
     ∷ too_many (nat_lt MOST_NODES (node_number names card.to)) 9
     ∷ missing_fault values

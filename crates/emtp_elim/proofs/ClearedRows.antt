@@ -1,5 +1,6 @@
 -- A row from which one column is cleared: it is lessened by a multiple of the row above, entry by entry.
-use Rattle.std.proofs.Common.{◌≡◌, ◌≢◌, ℕ, ◌+◌, ◌^◌, ◌<◌, ◌≤◌, ℤ, pos, unsigned_abs, List, length, slice_set, slice_index, to_z, of_z, refl, sym, ◌∙◌, inl, inr, arith}
+use Rattle.emtp_fix.specs.declared.limit.TheConstants.{LARGEST_ENTRY, LARGEST_RATIO}
+use Rattle.std.proofs.Common.{◌≡◌, ◌≢◌, ℕ, ◌+◌, ◌<◌, ◌≤◌, ℤ, pos, unsigned_abs, List, length, slice_set, slice_index, to_z, of_z, refl, sym, ◌∙◌, inl, inr, arith}
 use mir.Syntax.{w128}
 use Rattle.std.proofs.lemmas.List.{get_or-set_same, get_or-set_other}
 use Rattle.std.proofs.lemmas.Bool.{cases_eq}
@@ -14,7 +15,7 @@ use Rattle.emtp_elim.proofs.Products.{less_product-zero_left, less_product-zero_
 -- the columns of the entries before place e are done, the others are as they were
 pub record IsLessenedUpTo (m : ℤ) (columns : List ℕ) (first e : ℕ) (old above new : List ℤ) : Type 0 where
   pub done : (d : ℕ) → first ≤ d → d < e → item new (slice_index columns d) ≡ less_product (item old (slice_index columns d)) m (item above (slice_index columns d))
-  pub within : (d : ℕ) → first ≤ d → d < e → unsigned_abs (item new (slice_index columns d)) ≤ 10 ^ 17
+  pub within : (d : ℕ) → first ≤ d → d < e → unsigned_abs (item new (slice_index columns d)) ≤ LARGEST_ENTRY
   pub rest : (j : ℕ) → LacksColumn columns first e j → item new j ≡ item old j
 
 -- the column of the next entry is as it was
@@ -26,14 +27,14 @@ lessened_here {columns = columns} {e = e} entries was inside =
 
 pub lessened_small : {m : ℤ} {size : ℕ} {columns : List ℕ} {values : List ℤ} {first e last : ℕ} {old above new : List ℤ} (k : ℕ)
     → AreEntries above (k + 1) size columns values first last → IsLessenedUpTo m columns first e old above new → first ≤ e → e < last
-    → ((j : ℕ) → k ≤ j → unsigned_abs (item old j) ≤ 10 ^ 17) → unsigned_abs (item new (slice_index columns e)) ≤ 10 ^ 17
+    → ((j : ℕ) → k ≤ j → unsigned_abs (item old j) ≤ LARGEST_ENTRY) → unsigned_abs (item new (slice_index columns e)) ≤ LARGEST_ENTRY
 lessened_small {columns = columns} {e = e} k entries was low_e inside small =
     rw (lessened_here entries was inside) (small (slice_index columns e) (omega (arith, entries.low e low_e inside)))
 
 -- the next entry, as the code computes it
 pub lessened_next : {m : ℤ} {size : ℕ} {columns : List ℕ} {values : List ℤ} {first e last : ℕ} {old above new : List ℤ} (k : ℕ) (p v : ℤ)
     → AreEntries above (k + 1) size columns values first last → IsLessenedUpTo m columns first e old above new → first ≤ e → e < last
-    → ((j : ℕ) → k ≤ j → unsigned_abs (item old j) ≤ 10 ^ 17) → ((j : ℕ) → k ≤ j → unsigned_abs (item above j) ≤ 10 ^ 17) → unsigned_abs m ≤ 10 ^ 18
+    → ((j : ℕ) → k ≤ j → unsigned_abs (item old j) ≤ LARGEST_ENTRY) → ((j : ℕ) → k ≤ j → unsigned_abs (item above j) ≤ LARGEST_ENTRY) → unsigned_abs m ≤ LARGEST_RATIO
     → p ≡ item values e → v ≡ less_product (to_z w128 (of_z w128 (item new (slice_index columns e)))) (to_z w128 (of_z w128 m)) (to_z w128 (of_z w128 p))
     → v ≡ less_product (item old (slice_index columns e)) m (item above (slice_index columns e))
 lessened_next {m = m} {columns = columns} {e = e} {old = old} {above = above} {new = new} k p v entries was low_e inside small small_above small_m p_is v_is =
@@ -48,7 +49,7 @@ lessened_next {m = m} {columns = columns} {e = e} {old = old} {above = above} {n
 -- one entry more
 pub lessened_more : {m : ℤ} {from size : ℕ} {columns : List ℕ} {values : List ℤ} {first e last : ℕ} {old above new : List ℤ} (v : ℤ)
     → AreEntries above from size columns values first last → IsLessenedUpTo m columns first e old above new → first ≤ e → e < last → size ≤ length new
-    → v ≡ less_product (item old (slice_index columns e)) m (item above (slice_index columns e)) → unsigned_abs v ≤ 10 ^ 17
+    → v ≡ less_product (item old (slice_index columns e)) m (item above (slice_index columns e)) → unsigned_abs v ≤ LARGEST_ENTRY
     → IsLessenedUpTo m columns first (e + 1) old above (slice_set new (slice_index columns e) v)
 lessened_more {columns = columns} {e = e} {new = new} v entries was low_e inside long v_is fine =
     let in_row : slice_index columns e < length new = omega (arith, entries.high e low_e inside) in
@@ -73,7 +74,7 @@ lessened_more {columns = columns} {e = e} {new = new} v entries was low_e inside
 -- all entries are done, and the ratio is put in its place
 pub cleared_lessened : {m : ℤ} {columns : List ℕ} {values : List ℤ} {first last : ℕ} {old above new : List ℤ} (k : ℕ)
     → AreEntries above (k + 1) (length old) columns values first last → IsLessenedUpTo m columns first last old above new
-    → ((j : ℕ) → k ≤ j → unsigned_abs (item old j) ≤ 10 ^ 17) → m ≡ quotient (item old k) (item above k) → unsigned_abs m ≤ 10 ^ 18 → k < length new
+    → ((j : ℕ) → k ≤ j → unsigned_abs (item old j) ≤ LARGEST_ENTRY) → m ≡ quotient (item old k) (item above k) → unsigned_abs m ≤ LARGEST_RATIO → k < length new
     → IsClearedRow k old above (slice_set new k m)
 cleared_lessened {m = m} {columns = columns} {first = first} {last = last} {old = old} {new = new} k entries was small ratio_is small_m inside =
     let other : (j : ℕ) → j ≢ k → item (slice_set new k m) j ≡ item new j = λ j away. rw get_or-set_other refl in
@@ -93,7 +94,7 @@ cleared_lessened {m = m} {columns = columns} {first = first} {last = last} {old 
     }
 
 -- where the column is clear already, nothing is to be done
-pub cleared_nothing : (k : ℕ) (old above : List ℤ) → item old k ≡ pos 0 → ((j : ℕ) → k ≤ j → unsigned_abs (item old j) ≤ 10 ^ 17)
+pub cleared_nothing : (k : ℕ) (old above : List ℤ) → item old k ≡ pos 0 → ((j : ℕ) → k ≤ j → unsigned_abs (item old j) ≤ LARGEST_ENTRY)
     → IsClearedRow k old above old
 cleared_nothing k old above clear small = record {
   before = λ j h. refl;
@@ -105,7 +106,7 @@ cleared_nothing k old above clear small = record {
 
 -- the ratio as the code computes it
 pub ratio_read : {size k : ℕ} {columns : List ℕ} {values : List ℤ} {first pivot last : ℕ} (work : List ℤ) (p r : ℤ) → IsStoredRow size k columns values first pivot last
-    → unsigned_abs (item work k) ≤ 10 ^ 17 → p ≡ item values pivot → r ≡ quotient (to_z w128 (of_z w128 (item work k))) (to_z w128 (of_z w128 p))
+    → unsigned_abs (item work k) ≤ LARGEST_ENTRY → p ≡ item values pivot → r ≡ quotient (to_z w128 (of_z w128 (item work k))) (to_z w128 (of_z w128 p))
     → r ≡ quotient (item work k) (item (dense_row size columns values first last) k)
 ratio_read {size = size} {k = k} {columns = columns} {values = values} {first = first} {last = last} work p r row small read e =
     let above = dense_row size columns values first last in

@@ -1,5 +1,6 @@
 -- Finished rows as they are kept, by their entries.
-use Rattle.std.proofs.Common.{◌≡◌, ◌≢◌, ℕ, pos, ◌+◌, ◌*◌, ◌^◌, ◌<◌, ◌≤◌, ℤ, unsigned_abs, List, [], ◌∷◌, ◌++◌, length, take, slice_index, slice_set, length-set, refl, ap, sym, ◌∙◌, inl, inr, arith}
+use Rattle.emtp_fix.specs.declared.limit.TheConstants.{LARGEST_ENTRY}
+use Rattle.std.proofs.Common.{◌≡◌, ◌≢◌, ℕ, pos, ◌+◌, ◌*◌, ◌<◌, ◌≤◌, ℤ, unsigned_abs, List, [], ◌∷◌, ◌++◌, length, take, slice_index, slice_set, length-set, refl, ap, sym, ◌∙◌, inl, inr, arith}
 use Rattle.std.proofs.lemmas.List.{get_or-set_same, get_or-set_other}
 use Rattle.std.proofs.lemmas.List.FromFn.{length-map-range_with_len, get_or-map-range_with_len, map-range_with_len_more, take-map-range_with_len, fill_by_all}
 use Rattle.std.proofs.lemmas.Nat.{row_fits}
@@ -50,7 +51,7 @@ stored_first size count n starts pivots columns values words was h = record {
 
 -- the pivot and the later entries of a kept row are in range
 pub entry_small : {size k : ℕ} {columns : List ℕ} {values : List ℤ} {first pivot last : ℕ} (e : ℕ) → IsStoredRow size k columns values first pivot last → pivot ≤ e → e < last
-    → unsigned_abs (item values e) ≤ 10 ^ 17
+    → unsigned_abs (item values e) ≤ LARGEST_ENTRY
 entry_small {k = k} {columns = columns} {pivot = pivot} e row low inside = elim (cases_eq e pivot) [
   | inl here ↦ rw (here, row.pivot_is) (row.finished.entries k (omega arith))
   | inr later ↦ rw (row.later.value_is e (omega arith) inside) (row.finished.entries (slice_index columns e) (omega (arith, row.later.low e (omega arith) inside)))

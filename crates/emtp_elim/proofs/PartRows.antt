@@ -1,5 +1,6 @@
 -- A row on its way to be finished.
-use Rattle.std.proofs.Common.{◌≡◌, ◌≢◌, ℕ, zero, suc, ◌+◌, ◌^◌, ◌<◌, ◌≤◌, ℤ, pos, unsigned_abs, List, length, Some, refl, ap, sym, ◌∙◌, inl, inr, add-one, arith}
+use Rattle.emtp_fix.specs.declared.limit.TheConstants.{LARGEST_ENTRY, LARGEST_RATIO}
+use Rattle.std.proofs.Common.{◌≡◌, ◌≢◌, ℕ, zero, suc, ◌+◌, ◌<◌, ◌≤◌, ℤ, pos, unsigned_abs, List, length, Some, refl, ap, sym, ◌∙◌, inl, inr, add-one, arith}
 use Rattle.std.specs.List.{All}
 use Rattle.std.proofs.lemmas.List.{get_or_past, get_or_default}
 use Rattle.std.proofs.lemmas.Bool.{cases_eq, cases_lt}
@@ -17,13 +18,13 @@ use Rattle.emtp_elim.proofs.Stages.{entry_start, entry_later}
 
 -- row i stayed in range until the columns before k were cleared
 pub record IsInRangeUpTo (rows : Matrix) (i k : ℕ) : Type 0 where
-  pub entries : (h j : ℕ) → h ≤ k → h ≤ j → j < length (row_of rows i) → unsigned_abs (entry (stage rows h) i j) ≤ 10 ^ 17
-  pub ratios : (h : ℕ) → h < k → unsigned_abs (ratio (stage rows h) h i) ≤ 10 ^ 18
+  pub entries : (h j : ℕ) → h ≤ k → h ≤ j → j < length (row_of rows i) → unsigned_abs (entry (stage rows h) i j) ≤ LARGEST_ENTRY
+  pub ratios : (h : ℕ) → h < k → unsigned_abs (ratio (stage rows h) h i) ≤ LARGEST_RATIO
 
 -- the columns before k have been cleared from the row that comes after the finished ones
 pub record IsUnderWay (done : Matrix) (k : ℕ) (given work : List ℤ) : Type 0 where
-  pub ratios : (j : ℕ) → j < k → unsigned_abs (item work j) ≤ 10 ^ 18
-  pub entries : (j : ℕ) → k ≤ j → unsigned_abs (item work j) ≤ 10 ^ 17
+  pub ratios : (j : ℕ) → j < k → unsigned_abs (item work j) ≤ LARGEST_RATIO
+  pub entries : (j : ℕ) → k ≤ j → unsigned_abs (item work j) ≤ LARGEST_ENTRY
   pub part : (rows : Matrix) → IsNext rows done given → IsPartRow rows (length done) k work
   pub in_range : (rows : Matrix) → IsNext rows done given → IsInRangeUpTo rows (length done) k
 
@@ -67,7 +68,7 @@ within_from_all limit xs all i = elim (cases_lt i (length xs)) [
   | inr outside ↦ rw (get_or_past xs i (pos 0) outside) (omega arith)
 ]
 
-pub underway_start : (done : Matrix) (given : List ℤ) → AreWithin (10 ^ 17) given → IsUnderWay done 0 given given
+pub underway_start : (done : Matrix) (given : List ℤ) → AreWithin LARGEST_ENTRY given → IsUnderWay done 0 given given
 underway_start done given small = record {
   ratios = λ j h. absurd (omega arith);
   entries = λ j h. small j;
@@ -109,7 +110,7 @@ underway_clear size k done given work was later few same_work wide clear =
     underway_more size k done given work work was later few same_work same_work wide (cleared_nothing k work (row_of done k) clear was.entries)
 
 -- all columns before the first number
-pub underway_from : (size first : ℕ) (done : Matrix) (given : List ℤ) → AreWithin (10 ^ 17) given → first ≤ length done → length done < size → length given ≡ size
+pub underway_from : (size first : ℕ) (done : Matrix) (given : List ℤ) → AreWithin LARGEST_ENTRY given → first ≤ length done → length done < size → length given ≡ size
     → ((i : ℕ) → i < length done → length (row_of done i) ≡ size) → ((j : ℕ) → j < first → item given j ≡ pos 0) → IsUnderWay done first given given
 underway_from size zero done given small low few same wide clear = underway_start done given small
 underway_from size (suc k) done given small low few same wide clear =
@@ -127,7 +128,7 @@ faults_for done row cause is = record {
   };
 }
 
-pub faults_start : (done : Matrix) (given : List ℤ) → (All (λ x. unsigned_abs x ≤ 10 ^ 17) given → ⊥) → FaultsRow done given Range
+pub faults_start : (done : Matrix) (given : List ℤ) → (All (λ x. unsigned_abs x ≤ LARGEST_ENTRY) given → ⊥) → FaultsRow done given Range
 faults_start done given out = faults_for done given Range (λ rows next. row_fault-range rows (length done) (λ in_range. out (λ j d inside.
     let same : length (row_of rows (length done)) ≡ length given = ap length next.row_is in
     let fine = in_range.entries 0 j (omega arith) (omega arith) (omega arith) in

@@ -1,5 +1,6 @@
 -- The right sides, one row after another.
-use Rattle.std.proofs.Common.{◌≡◌, ◌≢◌, ℕ, zero, suc, ◌+◌, ◌^◌, ◌<◌, ◌≤◌, ℤ, unsigned_abs, List, length, slice_set, ap, sym, ◌∙◌, inl, inr, arith}
+use Rattle.emtp_fix.specs.declared.limit.TheConstants.{LARGEST_VALUE}
+use Rattle.std.proofs.Common.{◌≡◌, ◌≢◌, ℕ, zero, suc, ◌+◌, ◌<◌, ◌≤◌, ℤ, unsigned_abs, List, length, slice_set, ap, sym, ◌∙◌, inl, inr, arith}
 use Rattle.std.proofs.lemmas.List.{get_or-set_same, get_or-set_other}
 use Rattle.std.proofs.lemmas.Bool.{cases_eq}
 use Rattle.emtp_elim.specs.Matrix.{Matrix, item, row_of}
@@ -12,7 +13,7 @@ use Rattle.emtp_elim.proofs.Stages.{right_start, right_later}
 
 -- the first n right sides are reduced, the others are as given
 pub record AreReducedUpTo (done : Matrix) (given : List ℤ) (n : ℕ) (right : List ℤ) : Type 0 where
-  pub small : (h : ℕ) → h < n → unsigned_abs (item right h) ≤ 10 ^ 18
+  pub small : (h : ℕ) → h < n → unsigned_abs (item right h) ≤ LARGEST_VALUE
   pub rest : (h : ℕ) → n ≤ h → item right h ≡ item given h
   pub reduced : (rows : Matrix) → AreAllFinished rows done → AreReduced rows given n right
 
@@ -30,13 +31,13 @@ partial_is rows done given right i all inside same was (suc k) low =
 
 pub reduced_more : (done : Matrix) (given right : List ℤ) (i : ℕ) (v : ℤ) → AreReducedUpTo done given i right → i < length done → length given ≡ length done
     → length right ≡ length given → v ≡ partial_right (item right i) (row_of done i) right i
-    → ((k : ℕ) → k ≤ i → unsigned_abs (partial_right (item right i) (row_of done i) right k) ≤ 10 ^ 18)
+    → ((k : ℕ) → k ≤ i → unsigned_abs (partial_right (item right i) (row_of done i) right k) ≤ LARGEST_VALUE)
     → AreReducedUpTo done given (i + 1) (slice_set right i v)
 reduced_more done given right i v was inside same same_right e within =
     let start = was.rest i (omega arith) in
     let in_right : i < length right = omega arith in
     let v_is : v ≡ partial_right (item given i) (row_of done i) right i = rw start at e in
-    let small : (k : ℕ) → k ≤ i → unsigned_abs (partial_right (item given i) (row_of done i) right k) ≤ 10 ^ 18 = λ k low. rw start at (within k low) in
+    let small : (k : ℕ) → k ≤ i → unsigned_abs (partial_right (item given i) (row_of done i) right k) ≤ LARGEST_VALUE = λ k low. rw start at (within k low) in
     record {
       small = λ h low. elim (cases_eq h i) [
         | inl here ↦ rw (here, get_or-set_same, v_is) (small i (omega arith))
@@ -59,7 +60,7 @@ reduced_more done given right i v was inside same same_right e within =
     }
 
 pub right_fault : (done : Matrix) (given right : List ℤ) (i k : ℕ) → AreReducedUpTo done given i right → i < length done → length given ≡ length done
-    → k ≤ i → 10 ^ 18 < unsigned_abs (partial_right (item right i) (row_of done i) right k)
+    → k ≤ i → LARGEST_VALUE < unsigned_abs (partial_right (item right i) (row_of done i) right k)
     → (rows : Matrix) → AreAllFinished rows done → IsRightFault rows given i
 right_fault done given right i k was inside same low out rows all =
     let old = was.reduced rows all in

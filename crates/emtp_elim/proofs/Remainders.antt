@@ -4,7 +4,7 @@ use mir.Syntax.{w128}
 use Rattle.std.proofs.lemmas.List.{get_or-drop}
 use Rattle.std.proofs.lemmas.Int.{ints}
 use Rattle.emtp_fix.proofs.Wide.{abs-mul-le, fits, through}
-use Rattle.emtp_fix.specs.declared.limit.TheConstants.{LARGEST_WIDE}
+use Rattle.emtp_fix.specs.declared.limit.TheConstants.{LARGEST_ENTRY, LARGEST_VALUE, LARGEST_WIDE}
 use Rattle.emtp_elim.specs.Matrix.{item, products}
 use Rattle.emtp_elim.specs.held.Stored.{dense_row, AreEntries, IsStoredRow}
 use Rattle.emtp_elim.proofs.KeptRows.{entry_small}
@@ -37,7 +37,7 @@ pub record IsRemainder (right : ℤ) (k size : ℕ) (row x : List ℤ) (columns 
   pub bound : unsigned_abs left ≤ 10 ^ 30 + (e - first) * 10 ^ 35
 
 pub remainder_start : (right : ℤ) (k size : ℕ) (row x : List ℤ) (columns : List ℕ) (values : List ℤ) (first last : ℕ)
-    → AreEntries row (k + 1) size columns values first last → unsigned_abs right ≤ 10 ^ 18 → IsRemainder right k size row x columns first first last (right *ℤ pos (10 ^ 12))
+    → AreEntries row (k + 1) size columns values first last → unsigned_abs right ≤ LARGEST_VALUE → IsRemainder right k size row x columns first first last (right *ℤ pos (10 ^ 12))
 remainder_start right k size row x columns values first last entries small = record {
   value_is = λ h low inside at.
       let none : k + 1 - (k + 1) ≡ 0 = omega arith in
@@ -48,7 +48,7 @@ remainder_start right k size row x columns values first last entries small = rec
 
 remainder_more : (right : ℤ) (k size : ℕ) (row x : List ℤ) (columns : List ℕ) (values : List ℤ) (first e last : ℕ) (left : ℤ)
     → AreEntries row (k + 1) size columns values first last → IsRemainder right k size row x columns first e last left → first ≤ e → e < last
-    → unsigned_abs (item values e *ℤ item x (slice_index columns e)) ≤ 10 ^ 17 * 10 ^ 18
+    → unsigned_abs (item values e *ℤ item x (slice_index columns e)) ≤ LARGEST_ENTRY * LARGEST_VALUE
     → IsRemainder right k size row x columns first (e + 1) last (left -ℤ item values e *ℤ item x (slice_index columns e))
 remainder_more right k size row x columns values first e last left entries was low_e inside small =
     let j = slice_index columns e in
@@ -65,7 +65,7 @@ remainder_more right k size row x columns values first e last left entries was l
 -- the same as the code computes it: a row has at most 1,000 entries, so what is left stays far from the limits of 128 bits
 pub remainder_read : {right : ℤ} {k size : ℕ} {x : List ℤ} {columns : List ℕ} {values : List ℤ} {first pivot e last : ℕ} {left : ℤ} (p q : ℤ)
     → IsStoredRow size k columns values first pivot last → IsRemainder right k size (dense_row size columns values first last) x columns (pivot + 1) e last left → size ≤ 1000
-    → pivot + 1 ≤ e → e < last → unsigned_abs (item x (slice_index columns e)) ≤ 10 ^ 18 → p ≡ item values e → q ≡ item x (slice_index columns e)
+    → pivot + 1 ≤ e → e < last → unsigned_abs (item x (slice_index columns e)) ≤ LARGEST_VALUE → p ≡ item values e → q ≡ item x (slice_index columns e)
     → FitsSigned w128 (left -ℤ to_z w128 (of_z w128 (p *ℤ q)))
     × IsRemainder right k size (dense_row size columns values first last) x columns (pivot + 1) (e + 1) last (to_z w128 (of_z w128 (left -ℤ to_z w128 (of_z w128 (p *ℤ q)))))
 remainder_read {k = k} {x = x} {columns = columns} {values = values} {pivot = pivot} {e = e} {left = left} p q row was few low_e inside small_x p_is q_is =

@@ -1,5 +1,6 @@
 -- The work on right sides, ratio by ratio.
-use Rattle.std.proofs.Common.{◌≡◌, ℕ, suc, ◌+◌, ◌^◌, ◌<◌, ◌≤◌, ℤ, unsigned_abs, List, slice_index, sym, ◌∙◌, inl, inr, arith}
+use Rattle.emtp_fix.specs.declared.limit.TheConstants.{LARGEST_VALUE}
+use Rattle.std.proofs.Common.{◌≡◌, ℕ, suc, ◌+◌, ◌<◌, ◌≤◌, ℤ, unsigned_abs, List, slice_index, sym, ◌∙◌, inl, inr, arith}
 use Rattle.std.proofs.lemmas.Bool.{cases_lt}
 use Rattle.emtp_elim.specs.Matrix.{item}
 use Rattle.emtp_elim.specs.Elimination.{less_product}
@@ -18,11 +19,11 @@ partial_still start ratios above i columns values first e last a b entries at_a 
 -- the products of the ratios before place e are taken away, so that h columns are done for each h up to the next ratio
 pub record IsPartial (start : ℤ) (ratios above : List ℤ) (i : ℕ) (columns : List ℕ) (first e last : ℕ) (value : ℤ) : Type 0 where
   pub value_is : (h : ℕ) → h ≤ i → IsAt columns first e last h → value ≡ partial_right start ratios above h
-  pub small : unsigned_abs value ≤ 10 ^ 18
-  pub within : (h g : ℕ) → h ≤ g → g ≤ i → IsAt columns first e last g → unsigned_abs (partial_right start ratios above h) ≤ 10 ^ 18
+  pub small : unsigned_abs value ≤ LARGEST_VALUE
+  pub within : (h g : ℕ) → h ≤ g → g ≤ i → IsAt columns first e last g → unsigned_abs (partial_right start ratios above h) ≤ LARGEST_VALUE
 
 pub partial_start : (start : ℤ) (ratios above : List ℤ) (i : ℕ) (columns : List ℕ) (values : List ℤ) (first last : ℕ) → AreEntries ratios 0 i columns values first last
-    → unsigned_abs start ≤ 10 ^ 18 → IsPartial start ratios above i columns first first last start
+    → unsigned_abs start ≤ LARGEST_VALUE → IsPartial start ratios above i columns first first last start
 partial_start start ratios above i columns values first last entries small =
     let still : (h g : ℕ) → h ≤ g → g ≤ i → IsAt columns first first last g → partial_right start ratios above h ≡ start = λ h g low inside at.
     partial_still start ratios above i columns values first first last 0 h entries (at_start ratios 0 i columns values first last 0 entries (λ d from_on below. omega arith))
@@ -46,7 +47,7 @@ partial_next start ratios above i columns values first e last value m p v entrie
 
 pub partial_more : (start : ℤ) (ratios above : List ℤ) (i : ℕ) (columns : List ℕ) (values : List ℤ) (first e last : ℕ) (value v : ℤ)
     → AreEntries ratios 0 i columns values first last → IsPartial start ratios above i columns first e last value → first ≤ e → e < last
-    → v ≡ partial_right start ratios above (suc (slice_index columns e)) → unsigned_abs v ≤ 10 ^ 18 → IsPartial start ratios above i columns first (e + 1) last v
+    → v ≡ partial_right start ratios above (suc (slice_index columns e)) → unsigned_abs v ≤ LARGEST_VALUE → IsPartial start ratios above i columns first (e + 1) last v
 partial_more start ratios above i columns values first e last value v entries was low_e inside next small =
     let k = slice_index columns e in
     let still : (h g : ℕ) → k < h → h ≤ g → g ≤ i → IsAt columns first (e + 1) last g → partial_right start ratios above h ≡ v = λ h g past low in_row at.

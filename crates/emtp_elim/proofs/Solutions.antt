@@ -1,5 +1,6 @@
 -- Right sides and unknowns by finished rows are those of full elimination.
-use Rattle.std.proofs.Common.{◌≡◌, ℕ, zero, suc, ◌+◌, ◌-◌, ◌^◌, ◌<◌, ◌≤◌, ℤ, pos, List, length, drop, refl, ap, sym, ◌∙◌, Ok, Err, arith}
+use Rattle.emtp_fix.specs.declared.limit.TheConstants.{LARGEST_VALUE}
+use Rattle.std.proofs.Common.{◌≡◌, ℕ, zero, suc, ◌+◌, ◌-◌, ◌<◌, ◌≤◌, ℤ, pos, List, length, drop, refl, ap, sym, ◌∙◌, Ok, Err, arith}
 use Rattle.std.proofs.lemmas.List.{get_or-drop}
 use Rattle.emtp_elim.specs.Matrix.{Matrix, item, row_of, entry, products}
 use Rattle.emtp_elim.specs.held.Matrix.{AreWithin, IsSquare}
@@ -75,7 +76,7 @@ solves_unknown_fault done given right i square same reduced fault = record {
 }
 
 pub solves_ok : (done : Matrix) (given right x : List ℤ) → IsSquare done → length given ≡ length done
-    → ((rows : Matrix) → AreAllFinished rows done → AreReduced rows given (length given) right) → x ≡ last_unknowns done right (length done) → AreWithin (10 ^ 18) x
+    → ((rows : Matrix) → AreAllFinished rows done → AreReduced rows given (length given) right) → x ≡ last_unknowns done right (length done) → AreWithin LARGEST_VALUE x
     → SolvesAs done given (Ok x)
 solves_ok done given right x square same reduced x_is small = record {
   outcome_is = λ rows all.

@@ -1,4 +1,5 @@
 -- The unknowns of a triangular system, from the last row back.
+use Rattle.emtp_fix.specs.declared.limit.TheConstants.{LARGEST_VALUE}
 use Rattle.std.proofs.Common.{◌≡◌, ℕ, zero, suc, ◌+◌, ◌-◌, ◌*◌, ◌^◌, ◌<◌, ◌≤◌, ℤ, pos, ◌-ℤ◌, ◌*ℤ◌, unsigned_abs, List, [], ◌∷◌, length, drop, slice_set, length-set, to_z, of_z, refl, ap, sym, ◌∙◌, inl, inr, arith}
 use mir.Syntax.{w128}
 use Rattle.std.proofs.lemmas.List.{get_or-drop, get_or-set_same, get_or-set_other, get_or_past, drop_more, drop-set-lt, drop_all}
@@ -35,7 +36,7 @@ drop-last_unknowns rows right n (suc e) =
 pub record AreFound (rows : Matrix) (right : List ℤ) (k : ℕ) (x : List ℤ) : Type 0 where
   pub within : k ≤ length rows
   pub found : drop k x ≡ last_unknowns rows right (length rows - k)
-  pub small : (h : ℕ) → k ≤ h → unsigned_abs (item x h) ≤ 10 ^ 18
+  pub small : (h : ℕ) → k ≤ h → unsigned_abs (item x h) ≤ LARGEST_VALUE
 
 pub found_none : (rows : Matrix) (right x : List ℤ) (n : ℕ) → n ≡ length rows → length x ≡ length rows → AreFound rows right n x
 found_none rows right x n n_is same = record {
@@ -57,7 +58,7 @@ next_read {k = k} {rows = rows} {right = right} {x = x} {n = n} left p v row row
     rw (same_left, p_is, row.pivot_is, row_is) at v_is ∙ rw (count, after, ← later_is) (ap (λ z. near z (entry rows k k)) (rw (long, row_is, ← long) at left_is))
 
 pub found_more : (rows : Matrix) (right x : List ℤ) (n k : ℕ) (v : ℤ) → AreFound rows right n x → n ≡ k + 1 → k < length rows → length x ≡ length rows
-    → v ≡ unknown rows right k (last_unknowns rows right (length rows - n)) → unsigned_abs v ≤ 10 ^ 18 → AreFound rows right k (slice_set x k v)
+    → v ≡ unknown rows right k (last_unknowns rows right (length rows - n)) → unsigned_abs v ≤ LARGEST_VALUE → AreFound rows right k (slice_set x k v)
 found_more rows right x n k v was n_is inside same v_next small =
     let in_x : k < length x = omega arith in
     let one_more : length rows - k ≡ suc (length rows - n) = omega arith in
@@ -74,7 +75,7 @@ found_more rows right x n k v was n_is inside same v_next small =
     }
 
 pub found_fault : (rows : Matrix) (right x : List ℤ) (n k : ℕ) (v : ℤ) → AreFound rows right n x → n ≡ k + 1 → k < length rows → length x ≡ length rows
-    → v ≡ unknown rows right k (last_unknowns rows right (length rows - n)) → 10 ^ 18 < unsigned_abs v → IsLastFault rows right k
+    → v ≡ unknown rows right k (last_unknowns rows right (length rows - n)) → LARGEST_VALUE < unsigned_abs v → IsLastFault rows right k
 found_fault rows right x n k v was n_is inside same v_next large =
     let all = last_unknowns rows right (length rows) in
     let split_n : length rows - n + n ≡ length rows = omega arith in

@@ -1,5 +1,5 @@
 -- The places in a tree are those of its words.
-use Rattle.std.proofs.Common.{◌≡◌, ℕ, zero, suc, ◌+◌, ◌-◌, ◌==◌, nat_eq, nat_lt, not, pos, take, length, All, Option, Some, None, Result, Ok, Err, ◌^◌, ◌<◌, ◌≤◌, ℤ, Bool, true, false, List, [], ◌∷◌, ◌++◌, replicate, unsigned_abs, arith, refl}
+use Rattle.std.proofs.Common.{◌≡◌, ℕ, zero, suc, ◌+◌, ◌-◌, ◌==◌, nat_eq, nat_lt, not, pos, take, length, All, Option, Some, None, Result, Ok, Err, ◌<◌, ◌≤◌, ℤ, Bool, true, false, List, [], ◌∷◌, ◌++◌, replicate, unsigned_abs, arith, refl}
 use Rattle.std.specs.Prelude.{if◌then◌else◌, int_lt, ◌≤ℤ◌}
 use Rattle.std.proofs.lemmas.Int.{ints}
 use Rattle.emtp_case.specs.held.Range.{IsBetween}
@@ -25,7 +25,7 @@ use Rattle.emtp_expr.specs.Grammar.{Atom, Constant, Place, atom_node, AFactor, A
 
 -- a symbol's place is below a number, and a number is in range
 abbrev pub FitsSymbol : ℕ → Symbol → Type 0
-FitsSymbol n (Value (Constant x)) = IsBetween 0 (10 ^ 18) x
+FitsSymbol n (Value (Constant x)) = IsBetween 0 LARGEST_VALUE x
 FitsSymbol n (Value (Place p)) = p < n
 FitsSymbol n (Function f) = Unit {0}
 FitsSymbol n (Operator op) = Unit {0}
@@ -93,7 +93,7 @@ place_step true rest len h = omega arith
 place_step false rest len h = omega (arith, h refl)
 
 abbrev pub SmallWord : Word → Type 0
-SmallWord (Number x) = IsBetween 0 (10 ^ 18) x
+SmallWord (Number x) = IsBetween 0 LARGEST_VALUE x
 SmallWord (Name n) = Unit {0}
 SmallWord (FunctionWord f) = Unit {0}
 SmallWord (OperatorWord op) = Unit {0}
@@ -151,7 +151,7 @@ unfolding mark
 mark_small [] = tt
 mark_small (byte ∷ bytes) = marked_small marks byte (tt, (tt, (tt, (tt, (tt, (tt, tt))))))
 
-signed_small : (x : ℤ) (b : Bool) → int_lt x (pos 0) ≡ b → unsigned_abs x ≤ 10 ^ 18 → SmallWord (if b then NothingWord else Number x)
+signed_small : (x : ℤ) (b : Bool) → int_lt x (pos 0) ≡ b → unsigned_abs x ≤ LARGEST_VALUE → SmallWord (if b then NothingWord else Number x)
 signed_small x true is small = tt
 signed_small x false is small = let low : pos 0 ≤ℤ x = omega (arith, ints) in record { least = low; most = omega (arith, ints, small) }
 

@@ -8,6 +8,15 @@ ghost use Rattle.emtp_fix.specs.declared.limit.TheConstants.{LARGEST_VALUE};
 /// Twice it is below 2^63, so sums and differences of two of them need no wider number.
 pub const LARGEST_VALUE: u128 = 1_000_000_000_000_000_000;
 
+/// The greatest magnitude of a time of a case, in ps: of a start, a stop, a delay, a period.
+pub const LARGEST_TIME: u64 = 1_000_000_000_000_000_000;
+
+/// The greatest magnitude of a gain or a coefficient of a block, in 10^-12.
+pub const LARGEST_COEFFICIENT: u64 = 1_000_000_000_000_000_000;
+
+/// The greatest residual that a case may tolerate, in nA.
+pub const LARGEST_TOLERANCE: u64 = 1_000_000_000_000;
+
 /// The greatest magnitude of an entry of a nodal matrix or a conductance, in pS: that of 10 micro-ohm.
 pub const LARGEST_ENTRY: u128 = 100_000_000_000_000_000;
 
@@ -19,6 +28,12 @@ pub const LEAST_IMPEDANCE: u128 = 10;
 
 /// The greatest impedance of a branch, in micro-ohm.
 pub const LARGEST_IMPEDANCE: u128 = 1_000_000_000_000_000;
+
+/// The greatest inductance of a branch, in nH.
+pub const LARGEST_INDUCTANCE: u64 = 1_000_000_000_000_000;
+
+/// The greatest capacitance of a branch, in fF.
+pub const LARGEST_CAPACITANCE: u64 = 1_000_000_000_000_000;
 
 /// The greatest magnitude of a product or a sum on the way, as [`near`](crate::near) takes it: 1.6e38.
 pub const LARGEST_WIDE: u128 = 160_000_000_000_000_000_000_000_000_000_000_000_000;

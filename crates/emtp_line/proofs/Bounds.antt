@@ -10,7 +10,7 @@ use Rattle.emtp_case.specs.Branch.{line_impedance}
 use Rattle.emtp_case.specs.held.Branch.{HasLineNumbers}
 use Rattle.emtp_case.specs.held.Range.{IsBetween}
 use Rattle.emtp_fix.specs.Rounding.{near}
-use Rattle.emtp_fix.specs.declared.limit.TheConstants.{ATTO, LARGEST_ENTRY, PICO}
+use Rattle.emtp_fix.specs.declared.limit.TheConstants.{ATTO, LARGEST_ENTRY, LARGEST_IMPEDANCE, PICO}
 use Rattle.emtp_fix.proofs.Nearest.{unsigned_abs-near-le, near-zero}
 use Rattle.emtp_fix.proofs.Quotients.{near-within, near-nonneg, near-part, between-low, between-high}
 use Rattle.emtp_fix.proofs.Wide.{fits_between}
@@ -20,7 +20,7 @@ use Rattle.emtp_line.specs.Wave.{wave_of, between}
 use Rattle.emtp_line.specs.held.Lines.{no_mode}
 use Rattle.emtp_line.specs.declared.mode.Mode.{Mode}
 
-pub quarter_range : (r : ℤ) → IsBetween 0 (10 ^ 15) r → IsBetween 0 (10 ^ 15) (near r (pos 4))
+pub quarter_range : (r : ℤ) → IsBetween 0 LARGEST_IMPEDANCE r → IsBetween 0 LARGEST_IMPEDANCE (near r (pos 4))
 quarter_range r h = record { least = near-nonneg r (pos 4) h.least (omega (arith, ints)); most = omega (arith, ints, h.most, h.least, unsigned_abs-near-le r (pos 4)) }
 
 pub share_small : (part z : ℤ) → unsigned_abs part ≤ unsigned_abs z → unsigned_abs (near (part *ℤ PICO) z) ≤ 10 ^ 12

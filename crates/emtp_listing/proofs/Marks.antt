@@ -1,4 +1,5 @@
 -- The two marks, the comma and LF, stand in no entry.
+use Rattle.emtp_fix.specs.declared.limit.TheConstants.{LARGEST_TIME}
 use Rattle.std.proofs.Common.{◌≡◌, ◌≢◌, ◌++◌, ◌∙◌, sym, ap, refl, arith, ◌^◌, ◌<◌, ◌≤◌, ◌==◌, Bool, true, not, List, [], ◌∷◌, ℕ, zero, suc, ℤ, pos, negsuc, unsigned_abs, nat_le, length, get_or, drop, codes}
 use Rattle.std.specs.Prelude.{◌&&◌, All, ◌≤ℤ◌}
 use Rattle.std.specs.List.{list_all}
@@ -107,7 +108,7 @@ between-small low high (negsuc x) few is = absurd (omega (arith, ints, is.least)
 pub travel-least : (run : RunData) (z : ℤ) → pos 0 ≤ℤ run.dt → run.dt ≤ℤ z → pos 0 ≤ℤ z
 travel-least run z timed long = omega (arith, ints, timed, long)
 
-pub delay-small : (z : ℤ) → pos 0 ≤ℤ z → z ≤ℤ pos (10 ^ 18) → unsigned_abs z < 2 ^ 64
+pub delay-small : (z : ℤ) → pos 0 ≤ℤ z → z ≤ℤ pos LARGEST_TIME → unsigned_abs z < 2 ^ 64
 delay-small z least most = between-small 0 (10 ^ 18) z (omega arith) (record { least = least; most = most })
 
 -- a number to 10^18 in magnitude

@@ -1,4 +1,5 @@
 -- Sources of the network and of the control are known by their lines.
+use Rattle.emtp_fix.specs.declared.limit.TheConstants.{LARGEST_TIME}
 use Rattle.std.proofs.Common.{◌≡◌, ◌∙◌, sym, ap, refl, arith, ◌^◌, ◌<◌, ◌≤◌, Bool, true, false, List, [], ◌∷◌, ℕ, ℤ, pos, negsuc, unsigned_abs, get_or, drop, codes, Option}
 use Rattle.std.specs.Option.{ForSome}
 use Rattle.std.proofs.lemmas.Int.{ints}
@@ -31,10 +32,10 @@ current-same false true e = let l : 118 ≡ 99 = ap (λ (l : List ℕ). get_or l
 current-same true false e = let l : 99 ≡ 118 = ap (λ (l : List ℕ). get_or l 0 0) e in absurd (omega (arith, l))
 current-same true true e = refl
 
-pub stop-small : (stop : Option ℤ) → ForSome stop (IsBetween 1 (10 ^ 18)) → IsSmallTime stop
+pub stop-small : (stop : Option ℤ) → ForSome stop (IsBetween 1 LARGEST_TIME) → IsSmallTime stop
 stop-small stop is t e = let small = between-limit t (is t e) in omega (arith, small)
   where
-    between-limit : (z : ℤ) → IsBetween 1 (10 ^ 18) z → unsigned_abs z ≤ 10 ^ 18
+    between-limit : (z : ℤ) → IsBetween 1 LARGEST_TIME z → unsigned_abs z ≤ LARGEST_TIME
     between-limit (pos x) is = omega (arith, ints, is.most)
     between-limit (negsuc x) is = absurd (omega (arith, ints, is.least))
 

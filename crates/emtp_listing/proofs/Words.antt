@@ -1,4 +1,5 @@
 -- Times, variables and controls are free of marks, and known by their text.
+use Rattle.emtp_fix.specs.declared.limit.TheConstants.{LARGEST_TIME}
 use Rattle.std.proofs.Common.{◌≡◌, ◌++◌, ◌∙◌, sym, ap, refl, arith, ◌^◌, ◌<◌, ◌≤◌, List, [], ◌∷◌, ℕ, ℤ, unsigned_abs, length, get_or, drop, subst, codes, Option, Some, None, append_assoc}
 use Rattle.std.specs.Prelude.{All}
 use Rattle.std.specs.Option.{ForSome}
@@ -14,11 +15,11 @@ use Rattle.emtp_listing.proofs.Marks.{IsMark, IsText, name-text, within, word-fr
 use Rattle.emtp_listing.proofs.Numbers.{fixed-free, number-same}
 
 abbrev pub IsSmallTime : Option ℤ → Type 0
-IsSmallTime time = ForSome time (λ t. unsigned_abs t ≤ 10 ^ 18)
+IsSmallTime time = ForSome time (λ t. unsigned_abs t ≤ LARGEST_TIME)
 
 pub time-free : (b : ℕ) (name : List ℕ) (time : Option ℤ) → IsMark b → IsText name → IsSmallTime time → IsFree b (time_entry name time)
 time-free b name None mark named small = word-free b name (codes "never") mark named refl
-time-free b name (Some t) mark named small = number-marked b name 12 (codes "s") t mark named refl (let less : unsigned_abs t ≤ 10 ^ 18 = small t refl in omega arith)
+time-free b name (Some t) mark named small = number-marked b name 12 (codes "s") t mark named refl (let less : unsigned_abs t ≤ LARGEST_TIME = small t refl in omega arith)
 
 not_never : (name : List ℕ) (t : ℤ) → unsigned_abs t < 2 ^ 64 → word_entry name (codes "never") ≡ number_entry name 12 (codes "s") t → ⊥
 not_never name t small e =

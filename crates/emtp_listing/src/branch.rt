@@ -1,5 +1,6 @@
 //! The lines of branches.
 
+ghost use Rattle.emtp_case.specs.declared.limit.TheConstants.{MOST_POINTS};
 ghost use Rattle.std.specs.Prelude.{◌≡◌, ◌+◌, ◌≤◌, ◌++◌, ◌∷◌, [], OnOk, codes, length};
 ghost use Rattle.emtp_case.specs.Branch.{from_of, points_of, to_of};
 ghost use Rattle.emtp_case.specs.held.Branch.{IsBranch};
@@ -138,7 +139,7 @@ pub(crate) fn points_from(points: &[Point], first: u32, count: u32) -> &[Point]
 
 /// Puts the lines of the points of a characteristic after a text.
 fn put_segments(out: &mut Vec<u8>, reactor: bool, points: &[Point]) -> Result<(), AllocError>
-    requires { length points.now ≤ 64 }
+    requires { length points.now ≤ MOST_POINTS }
     ensures { OnOk result (Puts out.old.items (lines_text (numbered (segment_line reactor) 1 points.now)) out.new.items) }
 {
     let mut number = 1;

@@ -1,5 +1,6 @@
 //! The lines of supplemental cards: devices and formulas.
 
+ghost use Rattle.emtp_case.specs.declared.limit.TheConstants.{MOST_POINTS};
 ghost use Rattle.std.specs.Prelude.{◌≡◌, ◌+◌, ◌<◌, ◌≤◌, ◌++◌, ◌∷◌, [], All, OnOk, codes, length, map};
 ghost use Rattle.emtp_case.specs.held.Control.{IsDevice, IsExtra, IsFormula};
 ghost use Rattle.emtp_case.specs.held.Sizes.{sizes_of};
@@ -134,7 +135,7 @@ fn a_tail(code: DeviceCode) -> &'static [u8]
 
 /// Puts the lines of the points of a table or of the times of a window after a text.
 fn put_table(out: &mut Vec<u8>, code: DeviceCode, points: &[Point]) -> Result<(), AllocError>
-    requires { length points.now ≤ 64 }
+    requires { length points.now ≤ MOST_POINTS }
     ensures { OnOk result (Puts out.old.items (lines_text (numbered (table_line code) 1 points.now)) out.new.items) }
 {
     let mut number = 1;

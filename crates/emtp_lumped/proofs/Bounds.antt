@@ -1,5 +1,6 @@
 -- Bounds on what a companion is made of.
 use Rattle.emtp_case.specs.held.RunData.{IsTimeStep}
+use Rattle.emtp_fix.specs.declared.limit.TheConstants.{LARGEST_CAPACITANCE, LARGEST_INDUCTANCE}
 use Rattle.std.proofs.Common.{◌≡◌, ◌*◌, ◌^◌, ℤ, pos, ◌+ℤ◌, ◌*ℤ◌, ◌≤ℤ◌, refl, arith}
 use Rattle.std.proofs.lemmas.Int.{ints}
 use Rattle.std.specs.Ordering.{int_eq}
@@ -14,10 +15,10 @@ use Rattle.emtp_fix.proofs.Quotients.{near-nonneg}
 use Rattle.emtp_lumped.specs.Companion.{companion_of}
 use Rattle.emtp_lumped.specs.held.Companion.{IsCompanion}
 
-inductor-nonneg : (dt l : ℤ) → IsTimeStep dt → IsBetween 0 (10 ^ 15) l → pos 0 ≤ℤ inductor_impedance dt l
+inductor-nonneg : (dt l : ℤ) → IsTimeStep dt → IsBetween 0 LARGEST_INDUCTANCE l → pos 0 ≤ℤ inductor_impedance dt l
 inductor-nonneg dt l h h' = near-nonneg (pos (2 * 10 ^ 9) *ℤ l) dt (omega (arith, ints, h'.least)) (omega (arith, ints, h.least))
 
-capacitor-nonneg : (dt c : ℤ) → IsTimeStep dt → IsBetween 0 (10 ^ 15) c → pos 0 ≤ℤ capacitor_impedance dt c
+capacitor-nonneg : (dt c : ℤ) → IsTimeStep dt → IsBetween 0 LARGEST_CAPACITANCE c → pos 0 ≤ℤ capacitor_impedance dt c
 unfolding capacitor_impedance
 capacitor-nonneg dt c h h' = either (int_eq c (pos 0))
   where

@@ -1,4 +1,5 @@
 -- The rows that are tied to a sum, added to it one after the other.
+use Rattle.emtp_case.specs.declared.limit.TheConstants.{MOST_NODES}
 use Rattle.std.proofs.Common.{◌≡◌, ◌∙◌, sym, ap, ℕ, zero, suc, ◌+◌, ◌*◌, ◌^◌, ◌<◌, ◌≤◌, ◌==◌, ◌||◌, ◌&&◌, ℤ, pos, ◌+ℤ◌, unsigned_abs, Bool, true, false, if◌then◌else◌, List, length, slice_set, get_or-set_same, get_or-set_other, refl, inl, inr, arith}
 use Rattle.std.proofs.lemmas.Bool.{cases_Bool, cases_eq, cases_lt}
 use Rattle.std.proofs.lemmas.Int.{ints}
@@ -154,7 +155,7 @@ folded_more kinds k old mid new each inside long folded added = record {
     ]
 
 -- how large the sums may be
-pub folded_small : (kinds : List RowKind) (n j : ℕ) (old new : List ℤ) → IsFolded kinds n old new → j < length old → n ≤ length old → length old ≤ 1000 → ((j : ℕ) → j < length old → unsigned_abs (item old j) ≤ 2 * 10 ^ 34) → unsigned_abs (item new j) ≤ 4 * 10 ^ 37
+pub folded_small : (kinds : List RowKind) (n j : ℕ) (old new : List ℤ) → IsFolded kinds n old new → j < length old → n ≤ length old → length old ≤ MOST_NODES → ((j : ℕ) → j < length old → unsigned_abs (item old j) ≤ 2 * 10 ^ 34) → unsigned_abs (item new j) ≤ 4 * 10 ^ 37
 folded_small kinds n j old new folded below within few small =
     let most = sum_below_small n (λ k. if tied_to kinds j k then item old k else pos 0) (2 * 10 ^ 34) (λ k under. part (tied_to kinds j k) (item old k) (small k (omega (arith, under, within)))) in
     omega (arith, ints, folded.sums j below, most, small j below)

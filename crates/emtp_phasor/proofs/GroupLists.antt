@@ -9,7 +9,7 @@ use Rattle.emtp_case.proofs.Sums.{total-append, total_small}
 use Rattle.emtp_case.specs.NodeRows.{is_member, node_at}
 use Rattle.emtp_case.specs.Sums.{sum_below, total}
 use Rattle.emtp_case.specs.declared.case.Parts.{Parts}
-use Rattle.emtp_case.specs.declared.limit.TheConstants.{MOST_NODES}
+use Rattle.emtp_case.specs.declared.limit.TheConstants.{MOST_BRANCHES, MOST_NODES}
 use Rattle.emtp_case.specs.declared.row_kind.RowKind.{RowKind}
 use Rattle.emtp_admittance.specs.held.Admittances.{IsSmallPort}
 use Rattle.emtp_admittance.specs.declared.admittance.TwoPort.{TwoPort}
@@ -64,11 +64,11 @@ unfolding members_of
 members_few kinds i members are = rw are (below_few kinds i (length kinds))
 
 -- what the nodes of members put into a row stays far from the limits
-pub members_small : (case : Parts) (ports : List TwoPort) (row column : Bool) (m i : ℕ) (members : List ℕ) → All IsSmallPort ports → i ≤ length members → length members ≤ MOST_NODES → length case.branches ≤ 5000
+pub members_small : (case : Parts) (ports : List TwoPort) (row column : Bool) (m i : ℕ) (members : List ℕ) → All IsSmallPort ports → i ≤ length members → length members ≤ MOST_NODES → length case.branches ≤ MOST_BRANCHES
     → unsigned_abs (total (λ k. admittance_entry case ports row column (node_at case k) m) (take i members)) ≤ 2 * 10 ^ 24
 members_small case ports row column m i members small within few branches =
     let F : ℕ → ℤ = λ k. admittance_entry case ports row column (node_at case k) m in
-    let short : length (take i members) ≤ 1000 = omega (arith, length-take-le i members within, within, few) in
+    let short : length (take i members) ≤ MOST_NODES = omega (arith, length-take-le i members within, within, few) in
     omega (arith, short, total_small F (2 * 10 ^ 21) (λ k. current_small case ports row column (node_at case k) m small branches) (take i members))
 
 -- ---- the lists

@@ -1,4 +1,5 @@
 -- What the branches put into a row, one after another.
+use Rattle.emtp_case.specs.declared.limit.TheConstants.{MOST_BRANCHES}
 use Rattle.std.proofs.Common.{◌≡◌, ◌≢◌, ◌∙◌, sym, ap, ℕ, ◌+◌, ◌*◌, ◌^◌, ◌<◌, ◌≤◌, ◌==◌, ◌||◌, ℤ, pos, ◌+ℤ◌, ◌*ℤ◌, unsigned_abs, Bool, true, false, if◌then◌else◌, List, All, length, length-take-le, take, slice_get, get_or, Option, Some, None, refl, subst, inl, inr, arith}
 use Rattle.std.proofs.lemmas.Bool.{cases_lt}
 use Rattle.std.proofs.lemmas.Bool.Decides.{nat_tests}
@@ -95,7 +96,7 @@ product_small true c g small = rw (sym (one c g)) (if_small c g small)
     if_small false g small = omega (arith, ints)
 product_small false c g small = rw (sym (none c g)) (omega (arith, ints))
 
-pub between_small : (row column : Bool) (y : TwoPort) (n m : ℕ) (o : Option Branch) → IsSmallPort y → unsigned_abs (between_nodes row column y n m o) ≤ 4 * 10 ^ 17
+pub between_small : (row column : Bool) (y : TwoPort) (n m : ℕ) (o : Option Branch) → IsSmallPort y → unsigned_abs (between_nodes row column y n m o) ≤ 4 * LARGEST_ENTRY
 between_small row column y n m None small = omega (arith, ints)
 between_small row column y n m (Some x) small =
     let own = in_block_small row column y.own small.own in
@@ -119,14 +120,14 @@ port_small ports b small = elim (cases_lt b (length ports)) [
 ]
 
 -- what branches put into a row stays far from the limits
-pub places_small : (case : Parts) (ports : List TwoPort) (row column : Bool) (n m i : ℕ) (places : List ℕ) → All IsSmallPort ports → places ≡ branches_at case n → i ≤ length places → length case.branches ≤ 5000
+pub places_small : (case : Parts) (ports : List TwoPort) (row column : Bool) (n m i : ℕ) (places : List ℕ) → All IsSmallPort ports → places ≡ branches_at case n → i ≤ length places → length case.branches ≤ MOST_BRANCHES
     → unsigned_abs (total (λ b. between_nodes row column (port_at ports b) n m (slice_get case.branches b)) (take i places)) ≤ 2 * 10 ^ 21
 places_small case ports row column n m i places small are within few =
     let F : ℕ → ℤ = λ b. between_nodes row column (port_at ports b) n m (slice_get case.branches b) in
-    let short : length (take i places) ≤ 5000 = omega (arith, length-take-le i places within, within, ap length are, places_few case n, few) in
+    let short : length (take i places) ≤ MOST_BRANCHES = omega (arith, length-take-le i places within, within, ap length are, places_few case n, few) in
     omega (arith, short, total_small F (4 * 10 ^ 17) (λ b. between_small row column (port_at ports b) n m (slice_get case.branches b) (port_small ports b small)) (take i places))
 
-pub current_small : (case : Parts) (ports : List TwoPort) (row column : Bool) (n m : ℕ) → All IsSmallPort ports → length case.branches ≤ 5000 → unsigned_abs (admittance_entry case ports row column n m) ≤ 2 * 10 ^ 21
+pub current_small : (case : Parts) (ports : List TwoPort) (row column : Bool) (n m : ℕ) → All IsSmallPort ports → length case.branches ≤ MOST_BRANCHES → unsigned_abs (admittance_entry case ports row column n m) ≤ 2 * 10 ^ 21
 current_small case ports row column n m small few =
     omega (arith, few, sum_below_small (length case.branches) (λ b. between_nodes row column (port_at ports b) n m (slice_get case.branches b)) (4 * 10 ^ 17) (λ b below. between_small row column (port_at ports b) n m (slice_get case.branches b) (port_small ports b small)))
 

@@ -128,7 +128,7 @@ fn leaving_by(imaginary: bool, y: &TwoPort, volts: &[Phasor], node: u32, b: &Bra
     requires to { to_of b.now < length volts.now }
     requires flows { flows y.now volts.now (Some b.now) ≡ true }
     ensures value { result ≡ leaving_through imaginary y.now volts.now node (Some b.now) }
-    ensures small { unsigned_abs result ≤ 2 * 10 ^ 18 }
+    ensures small { unsigned_abs result ≤ 2 * LARGEST_VALUE }
 {
     let (from, to) = b.ends();
     if from == node {

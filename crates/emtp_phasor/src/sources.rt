@@ -2,7 +2,7 @@
 
 ghost use Rattle.std.specs.Prelude.{◌≡◌, ◌*◌, ◌/◌, ◌^◌, ◌<◌, ◌≤◌, ◌*ℤ◌, ◌==◌, ◌&&◌, if◌then◌else◌, pos, length, unsigned_abs, IfOk};
 ghost use Rattle.emtp_fix.specs.Rounding.{near};
-ghost use Rattle.emtp_fix.specs.declared.limit.TheConstants.{PICO};
+ghost use Rattle.emtp_fix.specs.declared.limit.TheConstants.{LARGEST_VALUE, PICO};
 ghost use Rattle.emtp_case.specs.RowOrder.{order_of};
 ghost use Rattle.emtp_phasor.specs.held.HeldSources.{IsSmallBrought, brought_by_row};
 ghost use Rattle.emtp_phasor.specs.held.SteadyNetwork.{IsSteadyNetwork, group_brought, node_brought, right_part};
@@ -28,10 +28,10 @@ fn phase_of(shape: Shape) -> i64
 
 /// A part of an amplitude.
 fn share(amplitude: i64, cosine: i64) -> i64
-    requires amplitude { unsigned_abs amplitude ≤ 10 ^ 18 }
+    requires amplitude { unsigned_abs amplitude ≤ LARGEST_VALUE }
     requires cosine { unsigned_abs cosine ≤ 10 ^ 12 }
     ensures value { result ≡ near (amplitude *ℤ cosine) PICO }
-    ensures small { unsigned_abs result ≤ 10 ^ 18 }
+    ensures small { unsigned_abs result ≤ LARGEST_VALUE }
 {
     scaled(amplitude as i128, cosine as i128, PICO) as i64
 }
@@ -50,9 +50,9 @@ fn part_phase(imaginary: bool, phase: i64) -> i128
 
 /// A part of the phasor of a source, in nV or nA.
 fn source_part(table: &CosTable, imaginary: bool, s: &Source) -> i64
-    requires { unsigned_abs s.now.amplitude ≤ 10 ^ 18 }
+    requires { unsigned_abs s.now.amplitude ≤ LARGEST_VALUE }
     ensures value { result ≡ source_part imaginary s.now }
-    ensures small { unsigned_abs result ≤ 10 ^ 18 }
+    ensures small { unsigned_abs result ≤ LARGEST_VALUE }
 {
     share(
         s.amplitude,
@@ -62,9 +62,9 @@ fn source_part(table: &CosTable, imaginary: bool, s: &Source) -> i64
 
 /// A part of what a source brings to a node.
 fn brought(table: &CosTable, imaginary: bool, node: u32, s: &Source) -> i128
-    requires { unsigned_abs s.now.amplitude ≤ 10 ^ 18 }
+    requires { unsigned_abs s.now.amplitude ≤ LARGEST_VALUE }
     ensures value { result ≡ (if s.now.current && (s.now.node == node) then source_part imaginary s.now else pos 0) }
-    ensures small { unsigned_abs result ≤ 10 ^ 18 }
+    ensures small { unsigned_abs result ≤ LARGEST_VALUE }
 {
     if s.current && s.node == node {
         source_part(table, imaginary, s) as i128

@@ -1,6 +1,7 @@
 //! The steady state at a frequency.
 
-ghost use Rattle.std.specs.Prelude.{◌≡◌, ◌*◌, ◌+◌, ◌^◌, ◌<◌, All, Ok, Err, length, IfOk, IfErr, OnOk};
+ghost use Rattle.emtp_fix.specs.declared.limit.TheConstants.{LARGEST_VALUE};
+ghost use Rattle.std.specs.Prelude.{◌≡◌, ◌*◌, ◌+◌, ◌<◌, All, Ok, Err, length, IfOk, IfErr, OnOk};
 ghost use Rattle.emtp_elim.specs.held.Finished.{AreAllFinished};
 ghost use Rattle.emtp_elim.specs.Matrix.{Matrix};
 ghost use Rattle.emtp_elim.specs.held.Matrix.{AreWithin};
@@ -100,7 +101,7 @@ pub(crate) fn solve_right(
     requires rhs { length rhs.old ≡ 2 * length network.case.now.parts.nodes }
     requires x { length x.old ≡ 2 * length network.case.now.parts.nodes }
     ensures solved { OnOk result ((rows : Matrix) → AreAllFinished rows done.now.rows → outcome rows right.now ≡ Ok x.new) }
-    ensures within { OnOk result (AreWithin (10 ^ 18) x.new) }
+    ensures within { OnOk result (AreWithin LARGEST_VALUE x.new) }
     ensures fault { IfErr result (λ e. (rows : Matrix) → AreAllFinished rows done.now.rows → named_ending network.entry.case.now.parts (outcome rows right.now) ≡ Err e) }
     ensures node { IfErr result (λ e. IsNode network.entry.case.now.parts e.node) }
 {

@@ -1,6 +1,7 @@
 //! The doubled system of a case, which is solved for one frequency after the other.
 
-ghost use Rattle.std.specs.Prelude.{◌≡◌, ◌≤◌, ◌<◌, ◌∷◌, ◌*◌, ◌^◌, All, None, Some, Ok, Err, length, drop, IfOk, IfErr, OnOk};
+ghost use Rattle.emtp_fix.specs.declared.limit.TheConstants.{LARGEST_VALUE};
+ghost use Rattle.std.specs.Prelude.{◌≡◌, ◌≤◌, ◌<◌, ◌∷◌, ◌*◌, All, None, Some, Ok, Err, length, drop, IfOk, IfErr, OnOk};
 ghost use Rattle.emtp_admittance.specs.held.Admittances.{IsSmallPort};
 ghost use Rattle.emtp_admittance.specs.held.Frequency.{IsFrequency};
 ghost use Rattle.emtp_admittance.specs.declared.limit.TheConstants.{MOST_PHASOR_NODES};
@@ -239,7 +240,7 @@ impl System {
         ensures ready { IsReady case.now.parts self.new }
         ensures ports { HasPorts case.now.parts freq self.new }
         ensures solved { OnOk result (outcome (doubled_system case.now.parts freq) (steady_right case.now.parts) ≡ Ok self.new.x.items) }
-        ensures within { OnOk result (AreWithin (10 ^ 18) self.new.x.items) }
+        ensures within { OnOk result (AreWithin LARGEST_VALUE self.new.x.items) }
         ensures fault { IfErr result (λ e. doubled_solution case.now.parts freq ≡ Err e) }
         ensures node { IfErr result (λ e. IsNode case.now.parts e.node) }
     {

@@ -1,5 +1,6 @@
 //! The names of the nodes, and their numbers.
 
+ghost use Rattle.emtp_case.specs.declared.limit.TheConstants.{MOST_NODES};
 ghost use Rattle.std.specs.Prelude.{◌≡◌, ◌≤◌, [], fold, length, IfErr, OnOk};
 ghost use Rattle.emtp_walk.specs.held.Answer.{IsWant};
 ghost use Rattle.emtp_sense.specs.Names.{find_node, node_names, node_number, with_ends, with_entry_names, with_name, with_switch_names};
@@ -85,7 +86,7 @@ fn add_switch_names(nodes: &mut IndexSet<Name>, cards: &[SwitchCard]) -> Result<
 
 /// The number of a node, from 1, or one more than there are where no node has the name; 0 for ground.
 pub fn node_number(names: &IndexSet<Name>, name: &Option<Name>) -> u32
-    requires { length names.now.keys ≤ 2000 }
+    requires { length names.now.keys ≤ 2 * MOST_NODES }
     ensures { result ≡ node_number names.now.keys name.now }
 {
     match name {
@@ -96,7 +97,7 @@ pub fn node_number(names: &IndexSet<Name>, name: &Option<Name>) -> u32
 
 /// The number of the node with a name, from 1.
 pub fn find_node(names: &IndexSet<Name>, name: &Name) -> Option<u32>
-    requires { length names.now.keys ≤ 2000 }
+    requires { length names.now.keys ≤ 2 * MOST_NODES }
     ensures { result ≡ find_node names.now.keys name.now }
 {
     match names.get_index_of(name) {

@@ -1,7 +1,8 @@
 -- Sources of the control whose value the card gives.
 use Rattle.std.proofs.Common.{◌≡◌, sym, subst, refl, ℕ, ℤ, List, Result, Ok, Err}
 use Rattle.std.specs.Option.{ForSome}
-use Rattle.std.specs.Prelude.{◌^◌, IfOk}
+use Rattle.std.specs.Prelude.{IfOk}
+use Rattle.emtp_fix.specs.declared.limit.TheConstants.{LARGEST_TIME}
 use Rattle.emtp_card.specs.declared.fault.Fault.{Fault}
 use Rattle.emtp_card.specs.declared.reason.Why.{Why}
 use Rattle.emtp_case.specs.held.Range.{IsBetween}
@@ -17,7 +18,7 @@ use Rattle.emtp_taccards.specs.declared.tacs_source_card.Signal.{Signal}
 use Rattle.emtp_taccards.specs.declared.tacs_source_card.Signal.TheVariants.{Cosine as CosineSignal, Level, NodeVoltage as OfNode, Pulse as PulseSignal, Saw as SawSignal, SwitchCurrent as OfSwitch, SwitchStatus as StatusOfSwitch}
 
 -- a course that the card gives, with the times of its card
-pub driven_signal : (course : Result Course Fault) (times : Result Times Fault) → IfOk course IsDriven → IfOk times (λ t. IsSmall t.0) → IfOk times (λ t. ForSome t.1 (IsBetween 1 (10 ^ 18)))
+pub driven_signal : (course : Result Course Fault) (times : Result Times Fault) → IfOk course IsDriven → IfOk times (λ t. IsSmall t.0) → IfOk times (λ t. ForSome t.1 (IsBetween 1 LARGEST_TIME))
     → IfOk (both course times) (λ signal. IsSignal signal.0 signal.1)
 driven_signal (Ok course) (Ok times) given start stop = record { small = given.small; start = start; stop = stop; shape = given.shape; numbers = λ s a b c. given.numbers s }
 driven_signal (Ok course) (Err f) given start stop = tt

@@ -1,5 +1,5 @@
 -- Block cards: the fields and rules, and the card.
-use Rattle.std.specs.Prelude.{ℕ, ◌+◌, ◌^◌, ℤ, pos, neg_ℤ, int_lt, unsigned_abs, Bool, false, ◌||◌, List, Option, Some, None, Result, Ok, Err, if◌then◌else◌}
+use Rattle.std.specs.Prelude.{ℕ, ◌+◌, ℤ, pos, neg_ℤ, int_lt, unsigned_abs, Bool, false, ◌||◌, List, Option, Some, None, Result, Ok, Err, if◌then◌else◌}
 use Rattle.std.specs.Ordering.{int_eq}
 use Rattle.emtp_card.specs.Name.{name_field}
 use Rattle.emtp_card.specs.Number.{number_field}
@@ -8,7 +8,7 @@ use Rattle.emtp_card.specs.declared.fault.Fault.{Fault}
 use Rattle.emtp_card.specs.declared.reason.Bad.{Bad}
 use Rattle.emtp_card.specs.declared.reason.Why.{Why}
 use Rattle.emtp_card.specs.declared.reason.Why.TheVariants.{OutOfUnitRange}
-use Rattle.emtp_fix.specs.declared.limit.TheConstants.{PICO}
+use Rattle.emtp_fix.specs.declared.limit.TheConstants.{LARGEST_VALUE, PICO}
 use Rattle.emtp_netcards.specs.Fields.{needed, signed_number}
 use Rattle.emtp_netcards.specs.Reading.{◌>>=◌, both, card_on, in_column}
 use Rattle.emtp_taccards.specs.Inputs.{inputs}
@@ -39,7 +39,7 @@ gain_field line = gain_by (signed_number line 51 56 (pos 12))
 
 -- a fixed limit in six columns; a blank means none
 abbrev pub limit_field : List ℕ → ℕ → Result (Option ℤ) Why
-limit_field line first = number_field line first (first + 5) (pos 9) (neg_ℤ (pos (10 ^ 18))) (pos (10 ^ 18))
+limit_field line first = number_field line first (first + 5) (pos 9) (neg_ℤ (pos LARGEST_VALUE)) (pos LARGEST_VALUE)
 
 -- the fixed limits, low and high, and those that a variable is
 abbrev pub Limits : Type 0

@@ -1,4 +1,5 @@
 -- The cards of devices: the fields and rules, and the card.
+use Rattle.emtp_fix.specs.declared.limit.TheConstants.{LARGEST_TIME}
 use Rattle.std.specs.Prelude.{ℕ, ◌+◌, ◌^◌, ℤ, pos, Bool, List, Option, Some, None, Result, Ok, Err, if◌then◌else◌}
 use Rattle.std.specs.Ordering.{int_eq}
 use Rattle.emtp_card.specs.Fault.{filled_with}
@@ -48,7 +49,7 @@ code_field line = code_by (whole_field line 9 10)
 
 -- columns 51 to 56: A, a time in seconds for both delays, a frequency in hertz for the effective value
 abbrev pub delay_field : List ℕ → Result ℤ Why
-delay_field line = filled_with (pos 0) (number_field line 51 56 (pos 12) (pos 0) (pos (10 ^ 18)))
+delay_field line = filled_with (pos 0) (number_field line 51 56 (pos 12) (pos 0) (pos LARGEST_TIME))
 
 abbrev pub hertz_field : List ℕ → Result ℤ Why
 hertz_field line = required (number_field line 51 56 (pos 6) (pos 1) (pos (10 ^ 13)))

@@ -1,6 +1,7 @@
 -- Source cards of the control: the fields, and the card. Fields that they share with the network's sources are those of
 -- emtp_netcards.
-use Rattle.std.specs.Prelude.{ℕ, ◌^◌, ℤ, pos, false, List, Option, Some, None, Result, Ok, Err, if◌then◌else◌}
+use Rattle.emtp_fix.specs.declared.limit.TheConstants.{LARGEST_TIME}
+use Rattle.std.specs.Prelude.{ℕ, ℤ, pos, false, List, Option, Some, None, Result, Ok, Err, if◌then◌else◌}
 use Rattle.std.specs.Ordering.{int_eq}
 use Rattle.emtp_card.specs.Name.{name_field}
 use Rattle.emtp_card.specs.Number.{number_field}
@@ -40,10 +41,10 @@ signal_field line = signal_by (whole_field line 1 2)
 
 -- the period and the width of a pulse in seconds
 abbrev pub period_field : List ℕ → Result ℤ Why
-period_field line = required (number_field line 21 30 (pos 12) (pos 1) (pos (10 ^ 18)))
+period_field line = required (number_field line 21 30 (pos 12) (pos 1) (pos LARGEST_TIME))
 
 abbrev pub width_field : List ℕ → Result ℤ Why
-width_field line = required (number_field line 31 40 (pos 12) (pos 1) (pos (10 ^ 18)))
+width_field line = required (number_field line 31 40 (pos 12) (pos 1) (pos LARGEST_TIME))
 
 -- the course in time and the amplitude
 abbrev pub Course : Type 0

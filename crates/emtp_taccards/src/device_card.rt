@@ -1,5 +1,6 @@
 //! The cards of devices.
 
+ghost use Rattle.emtp_fix.specs.declared.limit.TheConstants.{LARGEST_TIME};
 ghost use Rattle.std.specs.Prelude.{◌≡◌, ◌+◌, ◌^◌, ◌≤◌, length, IfOk, IsSome, IsTrue};
 ghost use Rattle.emtp_case.specs.Control.{needs_d};
 ghost use Rattle.emtp_case.specs.held.Control.{HasRangeOfA};
@@ -185,7 +186,7 @@ fn a_by(line: &[u8], code: DeviceCode) -> Result<i64, Why>
 
 fn delay(line: &[u8]) -> Result<i64, Why>
     ensures value { result ≡ delay_field line.now }
-    ensures range { IfOk result (IsBetween 0 (10 ^ 18)) }
+    ensures range { IfOk result (IsBetween 0 LARGEST_TIME) }
 {
     number_or(0, line, 51, 56, 12, 0, EXA)
 }

@@ -1,6 +1,7 @@
 //! Source cards of the control.
 
-ghost use Rattle.std.specs.Prelude.{◌≡◌, ◌^◌, ◌≤◌, length, IfOk};
+ghost use Rattle.emtp_fix.specs.declared.limit.TheConstants.{LARGEST_TIME};
+ghost use Rattle.std.specs.Prelude.{◌≡◌, ◌≤◌, length, IfOk};
 ghost use Rattle.emtp_case.specs.held.Range.{IsBetween};
 ghost use Rattle.emtp_netcards.specs.Reading.{judged};
 ghost use Rattle.emtp_taccards.specs.TacsSourceCard.{cosine_of, driven, fields_of, level_of, period_field, pulse_of, saw_of, signal_field, signal_of, source_record, source_with, tacs_source_card, value_of, width_field};
@@ -180,14 +181,14 @@ fn saw(line: &[u8]) -> Result<Course, Fault>
 /// The time from one pulse or tooth to the next.
 fn period(line: &[u8]) -> Result<i64, Why>
     ensures value { result ≡ period_field line.now }
-    ensures range { IfOk result (IsBetween 1 (10 ^ 18)) }
+    ensures range { IfOk result (IsBetween 1 LARGEST_TIME) }
 {
     required(line, 21, 30, 12, 1, EXA)
 }
 
 fn width(line: &[u8]) -> Result<i64, Why>
     ensures value { result ≡ width_field line.now }
-    ensures range { IfOk result (IsBetween 1 (10 ^ 18)) }
+    ensures range { IfOk result (IsBetween 1 LARGEST_TIME) }
 {
     required(line, 31, 40, 12, 1, EXA)
 }

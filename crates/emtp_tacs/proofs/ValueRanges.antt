@@ -35,7 +35,7 @@ use Rattle.emtp_fix.proofs.Wide.{abs-mul-le}
 use Rattle.emtp_fix.specs.Chain.{◌>>=◌}
 use Rattle.emtp_fix.specs.Limit.{in_range}
 use Rattle.emtp_fix.specs.Rounding.{near}
-use Rattle.emtp_fix.specs.declared.limit.TheConstants.{LARGEST_VALUE, NANO}
+use Rattle.emtp_fix.specs.declared.limit.TheConstants.{LARGEST_TIME, LARGEST_VALUE, NANO}
 use Rattle.emtp_tacs.proofs.SixVariables.{read_all}
 use Rattle.emtp_tacs.specs.Part.{ControlPart, standing_values}
 use Rattle.emtp_tacs.specs.Step.{Measured, SoFar, Solved, accepted, block_var, blocks, completed, control_step, device_by, extra_at, extra_by, extra_of, extras, formula_value, group_of, in_turn, is_in_pass, known_before, solved_by, source_at, source_by, source_value, sources, starting, with_outputs, written}
@@ -109,12 +109,12 @@ blocks_small case H known t control small is = by (outcome (matrix case H) (righ
 
 -- ---- the step
 
-time_small : (step : ℕ) (dt : ℤ) → step ≤ 10 ^ 6 → unsigned_abs dt ≤ 10 ^ 12 → unsigned_abs (pos step *ℤ dt) ≤ 10 ^ 18
+time_small : (step : ℕ) (dt : ℤ) → step ≤ 10 ^ 6 → unsigned_abs dt ≤ 10 ^ 12 → unsigned_abs (pos step *ℤ dt) ≤ LARGEST_TIME
 time_small step dt few small = abs-mul-le (pos step) dt (10 ^ 6) (10 ^ 12) few small
 
 standing_small : (run : RunData) (step : ℕ) → IsRun run → step ≤ run.steps → All IsSmall (standing_values run step)
 standing_small run step is few =
-    let time : unsigned_abs (time_of run step) ≤ 10 ^ 18 = time_small step run.dt (omega (arith, few, is.few_steps)) (omega (arith, ints, is.dt.least, is.dt.most)) in
+    let time : unsigned_abs (time_of run step) ≤ LARGEST_TIME = time_small step run.dt (omega (arith, few, is.few_steps)) (omega (arith, ints, is.dt.least, is.dt.most)) in
     let counted : IsSmall (pos step *ℤ NANO) = omega (arith, ints, few, is.few_steps) in
     let dt : unsigned_abs run.dt ≤ 10 ^ 12 = omega (arith, ints, is.dt.least, is.dt.most) in
     let last : All IsSmall (pos 0 ∷ NANO ∷ neg_ℤ NANO ∷ []) = All-cons IsSmall (pos 0) (NANO ∷ neg_ℤ NANO ∷ []) (omega arith) (All-cons IsSmall NANO (neg_ℤ NANO ∷ []) (omega arith) (All-cons IsSmall (neg_ℤ NANO) [] (omega arith) (All-nil IsSmall))) in

@@ -1,6 +1,7 @@
 //! The variables that every case has.
 
-ghost use Rattle.std.specs.Prelude.{◌≡◌, ◌≤◌, ◌^◌, ◌++◌, drop, pos, unsigned_abs};
+ghost use Rattle.emtp_fix.specs.declared.limit.TheConstants.{LARGEST_TIME, LARGEST_VALUE};
+ghost use Rattle.std.specs.Prelude.{◌≡◌, ◌≤◌, ◌++◌, drop, pos, unsigned_abs};
 ghost use Rattle.emtp_case.specs.held.Control.{AreKnown};
 ghost use Rattle.emtp_fix.specs.Rounding.{near};
 ghost use Rattle.emtp_tacs.specs.Part.{standing_values};
@@ -26,9 +27,9 @@ pub(crate) fn set_standing(case: &Case, step: u32, values: &mut [i64])
 
 /// A time in ps, in nanoseconds: to 10^15. It needs no more than 64 bits.
 fn nanoseconds(time: i64) -> i64
-    requires { unsigned_abs time ≤ 10 ^ 18 }
+    requires { unsigned_abs time ≤ LARGEST_TIME }
     ensures value { result ≡ near time (pos 1000) }
-    ensures small { unsigned_abs result ≤ 10 ^ 18 }
+    ensures small { unsigned_abs result ≤ LARGEST_VALUE }
 {
     let magnitude = ((time.unsigned_abs() + 500) / 1000) as i64;
     if time < 0 { -magnitude } else { magnitude }

@@ -1,5 +1,6 @@
 // The kept factor.
-ghost use Rattle.std.specs.Prelude.{◌≡◌, ◌+◌, ◌*◌, ◌^◌, ◌<◌, ◌≤◌, ℤ, List, length, take, [], IfOk, OnOk, IfErr, Ok, Err};
+ghost use Rattle.emtp_fix.specs.declared.limit.TheConstants.{LARGEST_VALUE};
+ghost use Rattle.std.specs.Prelude.{◌≡◌, ◌+◌, ◌*◌, ◌<◌, ◌≤◌, ℤ, List, length, take, [], IfOk, OnOk, IfErr, Ok, Err};
 ghost use Rattle.emtp_elim.specs.held.Matrix.{AreWithin};
 ghost use Rattle.emtp_elim.specs.held.Fault.{IsRowFault, IsGoodMatrix};
 ghost use Rattle.emtp_elim.specs.held.Finished.{AreFinished};
@@ -222,7 +223,7 @@ impl Kept {
         requires rhs { length rhs.old ≡ self.now.size }
         requires x { length x.old ≡ self.now.size }
         ensures solved { OnOk result (outcome self.now.rows rhs.old ≡ Ok x.new) }
-        ensures within { OnOk result (AreWithin (10 ^ 18) x.new) }
+        ensures within { OnOk result (AreWithin LARGEST_VALUE x.new) }
         ensures fault { IfErr result (λ fault. outcome self.now.rows rhs.old ≡ Err (PlainFault.Solve fault)) }
         ensures row { IfErr result (λ fault. fault.row < self.now.size) }
     {

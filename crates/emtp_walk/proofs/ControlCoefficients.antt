@@ -1,4 +1,5 @@
 -- The coefficients of a block: sums, quotients, and what a block keeps.
+use Rattle.emtp_fix.specs.declared.limit.TheConstants.{LARGEST_COEFFICIENT}
 use Rattle.std.proofs.Common.{◌≡◌, ◌∙◌, sym, ap, subst, refl, ℕ, zero, suc, ◌+◌, ◌*◌, ◌^◌, ◌<◌, ◌≤◌, ℤ, pos, ◌*ℤ◌, unsigned_abs, Bool, true, false, List, [], ◌∷◌, Option, Some, None, Result, Ok, Err, All, inl, inr, add-one, arith}
 use Rattle.std.proofs.lemmas.Bool.{cases_lt}
 use Rattle.std.proofs.lemmas.Bool.Decides.{nat_tests}
@@ -25,7 +26,7 @@ use Rattle.emtp_walk.specs.declared.control_cards.BlockEntry.{BlockEntry}
 
 -- ---- tests
 
-pub not_large : (x : ℤ) → is_large x ≡ false → unsigned_abs x ≤ 10 ^ 18
+pub not_large : (x : ℤ) → is_large x ≡ false → unsigned_abs x ≤ LARGEST_COEFFICIENT
 not_large x h = less (10 ^ 18) (unsigned_abs x) h
   where
     less : (m n : ℕ) → nat_lt m n ≡ false → n ≤ m
@@ -65,13 +66,13 @@ bad_stays line f k (suc n) bad l h = elim (cases_lt n k) [
   | inr within ↦ ap (λ b. first_bad b (bad_of line f n)) (bad_stays line f k n bad within h)
 ]
 
-pub quotients_small : (line : ℕ) (f : ℕ → ℤ) (n k : ℕ) → quotients_bad line f n ≡ None → k ≤ n → unsigned_abs (f k) ≤ 10 ^ 18
-quotients_small line f zero k h l = let same : k ≡ 0 = omega arith in subst (λ j. unsigned_abs (f j) ≤ 10 ^ 18) (sym same) (not_large (f 0) (range_none line 1 (is_large (f 0)) h))
+pub quotients_small : (line : ℕ) (f : ℕ → ℤ) (n k : ℕ) → quotients_bad line f n ≡ None → k ≤ n → unsigned_abs (f k) ≤ LARGEST_COEFFICIENT
+quotients_small line f zero k h l = let same : k ≡ 0 = omega arith in subst (λ j. unsigned_abs (f j) ≤ LARGEST_COEFFICIENT) (sym same) (not_large (f 0) (range_none line 1 (is_large (f 0)) h))
 quotients_small line f (suc n) k h l =
     let both = nothing_before (quotients_bad line f n) (range_bad line (10 * (n + 1) + 1) (is_large (f (suc n)))) h in
     elim (cases_lt k (suc n)) [
       | inl less ↦ quotients_small line f n k both.0 (omega (arith, less))
-      | inr past ↦ let same : k ≡ suc n = omega arith in subst (λ j. unsigned_abs (f j) ≤ 10 ^ 18) (sym same) (not_large (f (suc n)) (range_none line (10 * (n + 1) + 1) (is_large (f (suc n))) both.1))
+      | inr past ↦ let same : k ≡ suc n = omega arith in subst (λ j. unsigned_abs (f j) ≤ LARGEST_COEFFICIENT) (sym same) (not_large (f (suc n)) (range_none line (10 * (n + 1) + 1) (is_large (f (suc n))) both.1))
     ]
 
 -- ---- the way through the bilinear rule
@@ -103,7 +104,7 @@ left_way dt x k (suc n) l h = elim (cases_lt n k) [
 -- ---- what a block keeps
 
 within : (dt : ℤ) (e : BlockEntry) (n : ℕ) → IsSmall e.card.gain → gain_bad e.card.line e.card.gain (sum_upto n (quotient_of dt e.top (sum_upto e.card.order (power_of dt e.bottom)))) ≡ None
-    → unsigned_abs (near (e.card.gain *ℤ coefficient_sum dt (transfer e) n) (pos (10 ^ 12))) ≤ 10 ^ 18
+    → unsigned_abs (near (e.card.gain *ℤ coefficient_sum dt (transfer e) n) (pos (10 ^ 12))) ≤ LARGEST_COEFFICIENT
 within dt e zero small h = rw (near-exact e.card.gain (10 ^ 12) (omega arith)) small
 within dt e (suc n) small h =
     let k = near (e.card.gain *ℤ sum_upto (suc n) (quotient_of dt e.top (sum_upto e.card.order (power_of dt e.bottom)))) (pos (10 ^ 12)) in
@@ -218,5 +219,5 @@ plain_block dt e due none top bottom = record {
   top = top;
   bottom = bottom;
   coefficients = λ some. absurd (omega (arith, some, none));
-  within_step = subst (λ n. unsigned_abs (near (e.card.gain *ℤ coefficient_sum dt (transfer e) n) (pos (10 ^ 12))) ≤ 10 ^ 18) (sym none) (rw (near-exact e.card.gain (10 ^ 12) (omega arith)) due.numbers.gain);
+  within_step = subst (λ n. unsigned_abs (near (e.card.gain *ℤ coefficient_sum dt (transfer e) n) (pos (10 ^ 12))) ≤ LARGEST_COEFFICIENT) (sym none) (rw (near-exact e.card.gain (10 ^ 12) (omega arith)) due.numbers.gain);
 }

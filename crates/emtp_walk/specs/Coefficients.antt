@@ -1,4 +1,5 @@
 -- The coefficients of a block: the cards of its numerator and its denominator, and what their sum divides.
+use Rattle.emtp_fix.specs.declared.limit.TheConstants.{LARGEST_COEFFICIENT}
 use Rattle.std.specs.Ordering.{int_eq}
 use Rattle.std.specs.Prelude.{Bool, Err, List, None, Ok, Option, Result, Some, [], if◌then◌else◌, map, nat_le, nat_lt, pos, suc, true, unsigned_abs, zero, ℕ, ℤ, ◌&&◌, ◌*ℤ◌, ◌*◌, ◌+◌, ◌^◌, ◌∷◌}
 use Rattle.emtp_card.specs.Fault.{fault_at, judge_due, least}
@@ -46,7 +47,7 @@ abbrev pub range_bad : ℕ → ℕ → Bool → Option Bad
 range_bad line column is = if is then Some (record { line = line; column = column; why = OutOfUnitRange }) else None
 
 abbrev pub is_large : ℤ → Bool
-is_large x = nat_lt (10 ^ 18) (unsigned_abs x)
+is_large x = nat_lt LARGEST_COEFFICIENT (unsigned_abs x)
 
 -- the first quotient up to a power that is too large, in the column of its field
 abbrev pub quotients_bad : ℕ → (ℕ → ℤ) → ℕ → Option Bad

@@ -1,6 +1,7 @@
 //! The coefficients of a block: the cards of its numerator and its denominator, and what their sum divides.
 
 ghost use Rattle.emtp_case.specs.held.RunData.{IsTimeStep};
+ghost use Rattle.emtp_fix.specs.declared.limit.TheConstants.{LARGEST_COEFFICIENT};
 ghost use Rattle.std.specs.Prelude.{◌≡◌, ℕ, ◌≢◌, ◌*◌, ◌^◌, ◌≤◌, length, pos, unsigned_abs, IfOk, IfNone};
 ghost use Rattle.emtp_case.specs.Control.{bilinear, quotient_of};
 ghost use Rattle.emtp_case.specs.Sums.{sum_upto};
@@ -127,7 +128,7 @@ fn quotients_bad(line: u32, dt: i64, card: &[i64; 8], order: u8, divisor: i128) 
     requires some { divisor ≢ pos 0 }
     requires divisor { unsigned_abs divisor ≤ 64 * 10 ^ 25 }
     ensures value { result ≡ quotients_bad line (quotient_of dt card.now divisor) order }
-    ensures small { IfNone result ((k : ℕ) → k ≤ order → unsigned_abs (quotient_of dt card.now divisor k) ≤ 10 ^ 18) }
+    ensures small { IfNone result ((k : ℕ) → k ≤ order → unsigned_abs (quotient_of dt card.now divisor k) ≤ LARGEST_COEFFICIENT) }
 {
     for power in 0..order as usize + 1 {
         let quotient = coefficient_quotient(dt, card, power, divisor);
@@ -145,9 +146,9 @@ fn numerator_sum(dt: i64, top: &[i64; 8], order: u8, divisor: i128) -> i64
     requires top { IsPolynomial dt order top.now }
     requires some { divisor ≢ pos 0 }
     requires divisor { unsigned_abs divisor ≤ 64 * 10 ^ 25 }
-    requires small { (k : ℕ) → k ≤ order → unsigned_abs (quotient_of dt top.now divisor k) ≤ 10 ^ 18 }
+    requires small { (k : ℕ) → k ≤ order → unsigned_abs (quotient_of dt top.now divisor k) ≤ LARGEST_COEFFICIENT }
     ensures value { result ≡ sum_upto order (quotient_of dt top.now divisor) }
-    ensures small { unsigned_abs result ≤ 8 * 10 ^ 18 }
+    ensures small { unsigned_abs result ≤ 8 * LARGEST_COEFFICIENT }
 {
     let mut sum = 0;
     for power in 0..order as usize + 1 {
@@ -158,8 +159,8 @@ fn numerator_sum(dt: i64, top: &[i64; 8], order: u8, divisor: i128) -> i64
 
 /// What refuses the gain within a step, k, if it is too large.
 fn gain_bad(line: u32, gain: i64, sum: i64) -> Option<Bad>
-    requires gain { unsigned_abs gain ≤ 10 ^ 18 }
-    requires sum { unsigned_abs sum ≤ 8 * 10 ^ 18 }
+    requires gain { unsigned_abs gain ≤ LARGEST_COEFFICIENT }
+    requires sum { unsigned_abs sum ≤ 8 * LARGEST_COEFFICIENT }
     ensures { result ≡ gain_bad line gain sum }
 {
     let k = scaled(gain as i128, sum as i128, PICO);

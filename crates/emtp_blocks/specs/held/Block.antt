@@ -5,7 +5,7 @@ use Rattle.emtp_case.specs.Control.{numerator_of, denominator_of, coefficient_su
 use Rattle.emtp_case.specs.declared.control.BlockState.{BlockState}
 use Rattle.emtp_case.specs.declared.control.Block.{Block}
 use Rattle.emtp_blocks.specs.declared.law.BlockLaw.{BlockLaw}
-use Rattle.emtp_fix.specs.declared.limit.TheConstants.{LARGEST_VALUE}
+use Rattle.emtp_fix.specs.declared.limit.TheConstants.{LARGEST_COEFFICIENT, LARGEST_VALUE}
 use Rattle.emtp_blocks.specs.declared.next.TheConstants.{LARGEST_CHAIN}
 
 -- the coefficients of a block
@@ -19,7 +19,7 @@ pub record IsLawOf (dt : ℤ) (b : Block) (law : BlockLaw) : Type 0 where
 pub record IsLaw (law : BlockLaw) : Type 0 where
   pub numerators_small : (j : ℕ) → unsigned_abs (item law.numerators j) ≤ LARGEST_VALUE
   pub denominators_small : (j : ℕ) → unsigned_abs (item law.denominators j) ≤ LARGEST_VALUE
-  pub sum_small : unsigned_abs law.sum ≤ 8 * 10 ^ 18
+  pub sum_small : unsigned_abs law.sum ≤ 8 * LARGEST_COEFFICIENT
   pub gain_small : unsigned_abs law.gain ≤ LARGEST_VALUE
 
 -- a block of this order is kept as a record has it

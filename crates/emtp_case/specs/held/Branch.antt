@@ -11,15 +11,16 @@ use Rattle.emtp_case.specs.declared.branch.Point.{Point}
 use Rattle.emtp_case.specs.declared.branch.Pseudo.{Pseudo}
 use Rattle.emtp_case.specs.declared.branch.Trio.{Trio}
 use Rattle.emtp_case.specs.declared.run_data.RunData.{RunData}
+use Rattle.emtp_fix.specs.declared.limit.TheConstants.{LARGEST_CAPACITANCE, LARGEST_IMPEDANCE, LARGEST_INDUCTANCE, LARGEST_TIME, LARGEST_VALUE, LEAST_IMPEDANCE}
 use Rattle.std.specs.Prelude.{◌≡◌, ◌+◌, ◌^◌, ◌<◌, ◌≤◌, ◌∷◌, ◌≤ℤ◌, ◌<ℤ◌, Bool, List, None, Option, Some, length, map, pos, slice_index_or, ℕ, ℤ}
 use Rattle.emtp_case.specs.Branch.{series_impedance, line_impedance, origin, points_of, slope_of, least_slope, greatest_slope, first_of_trio}
 
 -- the numbers of a series branch
 pub record HasSeriesNumbers (dt r l c : ℤ) : Type 0 where
-  pub resistance : IsBetween 0 (10 ^ 15) r
-  pub inductance : IsBetween 0 (10 ^ 15) l
-  pub capacitance : IsBetween 0 (10 ^ 15) c
-  pub impedance : IsBetween 10 (10 ^ 15) (series_impedance dt r l c)
+  pub resistance : IsBetween 0 LARGEST_IMPEDANCE r
+  pub inductance : IsBetween 0 LARGEST_INDUCTANCE l
+  pub capacitance : IsBetween 0 LARGEST_CAPACITANCE c
+  pub impedance : IsBetween LEAST_IMPEDANCE LARGEST_IMPEDANCE (series_impedance dt r l c)
 
 pub record IsLumped (run : RunData) (n : Sizes) (b : Lumped) : Type 0 where
   pub ends : AreEnds n.nodes b.from b.to
@@ -27,11 +28,11 @@ pub record IsLumped (run : RunData) (n : Sizes) (b : Lumped) : Type 0 where
 
 -- the numbers of a line, or of one mode of it
 pub record HasLineNumbers (dt zc resistance travel : ℤ) : Type 0 where
-  pub surge : IsBetween 10 (10 ^ 15) zc
-  pub r : IsBetween 0 (10 ^ 15) resistance
-  pub impedance : IsBetween 10 (10 ^ 15) (line_impedance zc resistance)
+  pub surge : IsBetween LEAST_IMPEDANCE LARGEST_IMPEDANCE zc
+  pub r : IsBetween 0 LARGEST_IMPEDANCE resistance
+  pub impedance : IsBetween LEAST_IMPEDANCE LARGEST_IMPEDANCE (line_impedance zc resistance)
   pub long : dt ≤ℤ travel
-  pub delay : travel ≤ℤ pos (10 ^ 18)
+  pub delay : travel ≤ℤ pos LARGEST_TIME
 
 pub record IsLine (run : RunData) (n : Sizes) (b : Line) : Type 0 where
   pub ends : AreEnds n.nodes b.from b.to
@@ -57,7 +58,7 @@ pub record IsRise (low high : ℤ) : Type 0 where
 pub record IsSegment (reactor : Bool) (dt : ℤ) (a b : Point) : Type 0 where
   pub current_rises : a.current <ℤ b.current
   pub other_rises : a.other <ℤ b.other
-  pub current_small : b.current ≤ℤ pos (10 ^ 18)
+  pub current_small : b.current ≤ℤ pos LARGEST_VALUE
   pub other_small : b.other ≤ℤ pos (10 ^ 18)
   pub slope : IsBetween (least_slope reactor) (greatest_slope reactor) (slope_of reactor dt a b)
 

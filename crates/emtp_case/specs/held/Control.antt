@@ -17,7 +17,7 @@ use Rattle.emtp_case.specs.declared.control.Extra.TheVariants.{Device as OfDevic
 use Rattle.emtp_case.specs.declared.control.Formula.{Formula}
 use Rattle.emtp_case.specs.declared.control.Input.{Input}
 use Rattle.emtp_case.specs.declared.run_data.RunData.{RunData}
-use Rattle.emtp_fix.specs.declared.limit.TheConstants.{LARGEST_VALUE}
+use Rattle.emtp_fix.specs.declared.limit.TheConstants.{LARGEST_COEFFICIENT, LARGEST_TIME, LARGEST_VALUE}
 use Rattle.std.specs.Option.{ForSome}
 use Rattle.std.specs.Prelude.{◌≡◌, ◌≢◌, ◌+◌, ◌-◌, ◌*◌, ◌^◌, ◌<◌, ◌≤◌, ◌≤ℤ◌, ◌<ℤ◌, [], All, IsSome, IsTrue, List, length, pos, slice_index_or, unsigned_abs, ℕ, ℤ}
 use Rattle.emtp_case.specs.Control.{bilinear, divisor_of, denominator_of, numerator_of, step_gain, needs_d}
@@ -36,13 +36,13 @@ pub record HasCoefficients (dt : ℤ) (b : Block) : Type 0 where
   pub bottom_way : (j : ℕ) → j ≤ b.order → HasWay dt (slice_index_or b.bottom j (pos 0)) j
   pub top_way : (j : ℕ) → j ≤ b.order → HasWay dt (slice_index_or b.top j (pos 0)) j
   pub divisor : divisor_of dt b ≢ pos 0
-  pub denominators : (j : ℕ) → j ≤ b.order → unsigned_abs (denominator_of dt b j) ≤ 10 ^ 18
-  pub numerators : (j : ℕ) → j ≤ b.order → unsigned_abs (numerator_of dt b j) ≤ 10 ^ 18
+  pub denominators : (j : ℕ) → j ≤ b.order → unsigned_abs (denominator_of dt b j) ≤ LARGEST_COEFFICIENT
+  pub numerators : (j : ℕ) → j ≤ b.order → unsigned_abs (numerator_of dt b j) ≤ LARGEST_COEFFICIENT
 
 -- a limit among so many records
 abbrev pub IsBound : Sizes → Bound → Type 0
 IsBound n NoBound = Unit {0}
-IsBound n (Fixed x) = unsigned_abs x ≤ 10 ^ 18
+IsBound n (Fixed x) = unsigned_abs x ≤ LARGEST_VALUE
 IsBound n (Named v) = v < n.vars
 
 -- two fixed limits don't cross
@@ -57,11 +57,11 @@ pub record IsBlock (run : RunData) (n : Sizes) (b : Block) : Type 0 where
   pub few_inputs : length b.inputs ≤ 5
   pub inputs : All (λ (i : Input). i.var < n.vars) b.inputs
   pub some_gain : b.gain ≢ pos 0
-  pub gain : unsigned_abs b.gain ≤ 10 ^ 18
-  pub top : All (λ x. unsigned_abs x ≤ 10 ^ 18) b.top
-  pub bottom : All (λ x. unsigned_abs x ≤ 10 ^ 18) b.bottom
+  pub gain : unsigned_abs b.gain ≤ LARGEST_COEFFICIENT
+  pub top : All (λ x. unsigned_abs x ≤ LARGEST_COEFFICIENT) b.top
+  pub bottom : All (λ x. unsigned_abs x ≤ LARGEST_COEFFICIENT) b.bottom
   pub coefficients : 1 ≤ b.order → HasCoefficients run.dt b
-  pub within_step : unsigned_abs (step_gain run.dt b) ≤ 10 ^ 18
+  pub within_step : unsigned_abs (step_gain run.dt b) ≤ LARGEST_COEFFICIENT
   pub low : IsBound n b.low
   pub high : IsBound n b.high
   pub bounds : AreBounds b.low b.high
@@ -77,8 +77,8 @@ pub record HasRangeOfA (code : DeviceCode) (a : ℤ) : Type 0 where
 pub record IsTable (points : List Point) : Type 0 where
   pub some : 2 ≤ length points
   pub few : length points ≤ MOST_POINTS
-  pub inputs : All (λ (p : Point). unsigned_abs p.current ≤ 10 ^ 18) points
-  pub outputs : All (λ (p : Point). unsigned_abs p.other ≤ 10 ^ 18) points
+  pub inputs : All (λ (p : Point). unsigned_abs p.current ≤ LARGEST_VALUE) points
+  pub outputs : All (λ (p : Point). unsigned_abs p.other ≤ LARGEST_VALUE) points
   pub rising : (k : ℕ) → k + 1 < length points → (slice_index_or points k origin).current <ℤ (slice_index_or points (k + 1) origin).current
 
 -- 1 to 64 pairs of times: each closes before it opens, and not before the one before it opened
@@ -86,22 +86,22 @@ pub record AreTimes (points : List Point) : Type 0 where
   pub some : 1 ≤ length points
   pub few : length points ≤ MOST_POINTS
   pub close : All (λ (p : Point). pos 0 ≤ℤ p.current) points
-  pub «open» : All (λ (p : Point). p.other ≤ℤ pos (10 ^ 18)) points
+  pub «open» : All (λ (p : Point). p.other ≤ℤ pos LARGEST_TIME) points
   pub closes_first : All (λ (p : Point). p.current <ℤ p.other) points
   pub in_turn : (k : ℕ) → k + 1 < length points → (slice_index_or points k origin).other ≤ℤ (slice_index_or points (k + 1) origin).current
 
 -- the numbers of one more point of a table, whose input is above the last one
 pub record FollowsInTable (points : List Point) (p : Point) : Type 0 where
   pub room : length points < MOST_POINTS
-  pub input : unsigned_abs p.current ≤ 10 ^ 18
-  pub output : unsigned_abs p.other ≤ 10 ^ 18
+  pub input : unsigned_abs p.current ≤ LARGEST_VALUE
+  pub output : unsigned_abs p.other ≤ LARGEST_VALUE
   pub rises : (slice_index_or points (length points - 1) origin).current <ℤ p.current
 
 -- one more pair of times, which closes no earlier than the last one opened
 pub record FollowsInTime (points : List Point) (p : Point) : Type 0 where
   pub room : length points < MOST_POINTS
   pub close : pos 0 ≤ℤ p.current
-  pub «open» : p.other ≤ℤ pos (10 ^ 18)
+  pub «open» : p.other ≤ℤ pos LARGEST_TIME
   pub closes_first : p.current <ℤ p.other
   pub in_turn : (slice_index_or points (length points - 1) origin).other ≤ℤ p.current
 
@@ -112,8 +112,8 @@ pub record IsDeviceCard (n : Sizes) (x : Device) : Type 0 where
   pub few_inputs : length x.inputs ≤ 5
   pub inputs : All (λ (i : Input). i.var < n.vars) x.inputs
   pub a : HasRangeOfA x.code x.a
-  pub b : unsigned_abs x.b ≤ 10 ^ 18
-  pub c : unsigned_abs x.c ≤ 10 ^ 18
+  pub b : unsigned_abs x.b ≤ LARGEST_VALUE
+  pub c : unsigned_abs x.c ≤ LARGEST_VALUE
   pub d : ForSome x.d (λ v. v < n.vars)
   pub e : ForSome x.e (λ v. v < n.vars)
   pub required : IsTrue (needs_d x.code) → IsSome x.d

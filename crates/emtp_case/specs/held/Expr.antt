@@ -2,11 +2,12 @@
 use Rattle.emtp_case.specs.held.Range.{IsBetween}
 use Rattle.emtp_case.specs.declared.expr.Node.{Node}
 use Rattle.emtp_case.specs.declared.expr.Node.TheVariants.{Binary, Number, Unary, Var}
-use Rattle.std.specs.Prelude.{◌≡◌, ◌+◌, ◌^◌, ◌<◌, [], ◌∷◌, List, Option, Some, None, nat_lt, suc, zero, ℕ, if◌then◌else◌}
+use Rattle.emtp_fix.specs.declared.limit.TheConstants.{LARGEST_VALUE}
+use Rattle.std.specs.Prelude.{◌≡◌, ◌+◌, ◌<◌, [], ◌∷◌, List, Option, Some, None, nat_lt, suc, zero, ℕ, if◌then◌else◌}
 
 -- a place is below the number of places, and a number is in range; a sign is a node of its own
 abbrev pub FitsPlaces : ℕ → Node → Type 0
-FitsPlaces places (Number x) = IsBetween 0 (10 ^ 18) x
+FitsPlaces places (Number x) = IsBetween 0 LARGEST_VALUE x
 FitsPlaces places (Var at) = at < places
 FitsPlaces places (Unary op) = Unit {0}
 FitsPlaces places (Binary op) = Unit {0}

@@ -4,6 +4,7 @@ use Rattle.emtp_case.specs.held.Sizes.{Sizes}
 use Rattle.emtp_case.specs.declared.source.Shape.{Shape}
 use Rattle.emtp_case.specs.declared.source.Shape.TheVariants.{Cosine, NodeVoltage, Pulse, Ramp, Saw, Step, SwitchCurrent, SwitchStatus, Tacs}
 use Rattle.emtp_case.specs.declared.source.Source.{Source}
+use Rattle.emtp_fix.specs.declared.limit.TheConstants.{LARGEST_TIME, LARGEST_VALUE}
 use Rattle.std.specs.Option.{ForSome}
 use Rattle.std.specs.Prelude.{◌≡◌, ◌-◌, ◌^◌, ◌<◌, ◌≤◌, List, None, count_by, false, pos, unsigned_abs, ℕ}
 use Rattle.emtp_case.specs.Source.{is_voltage_source_at}
@@ -17,20 +18,20 @@ pub record IsMeasured (s : Source) : Type 0 where
 -- the numbers of a source of this shape, whatever it refers to; what its card doesn't read is 0
 abbrev pub HasShapeNumbers : Source → Shape → Type 0
 HasShapeNumbers s Step = Unit {0}
-HasShapeNumbers s (Ramp rise) = IsBetween 1 (10 ^ 18) rise
+HasShapeNumbers s (Ramp rise) = IsBetween 1 LARGEST_TIME rise
 HasShapeNumbers s (Cosine freq phase) = IsBetween 0 (10 ^ 13) freq × IsBetween 0 (10 ^ 18 - 1) phase
 HasShapeNumbers s (Tacs var) = s.amplitude ≡ pos 0
-HasShapeNumbers s (Pulse period width) = IsBetween 1 (10 ^ 18) period × IsBetween 1 (10 ^ 18) width
-HasShapeNumbers s (Saw period) = IsBetween 1 (10 ^ 18) period
+HasShapeNumbers s (Pulse period width) = IsBetween 1 LARGEST_TIME period × IsBetween 1 LARGEST_TIME width
+HasShapeNumbers s (Saw period) = IsBetween 1 LARGEST_TIME period
 HasShapeNumbers s (NodeVoltage node) = IsMeasured s
 HasShapeNumbers s (SwitchCurrent switch) = IsMeasured s
 HasShapeNumbers s (SwitchStatus switch) = IsMeasured s
 
 -- the numbers of a source, whatever it refers to
 pub record HasSourceNumbers (s : Source) : Type 0 where
-  pub amplitude : unsigned_abs s.amplitude ≤ 10 ^ 18
-  pub start : unsigned_abs s.start ≤ 10 ^ 18
-  pub stop : ForSome s.stop (IsBetween 1 (10 ^ 18))
+  pub amplitude : unsigned_abs s.amplitude ≤ LARGEST_VALUE
+  pub start : unsigned_abs s.start ≤ LARGEST_TIME
+  pub stop : ForSome s.stop (IsBetween 1 LARGEST_TIME)
   pub shape : HasShapeNumbers s s.shape
 
 -- a shape of the network's sources, among so many records

@@ -1,5 +1,5 @@
 -- What is made of the cards, as the program holds it.
-use Rattle.emtp_case.specs.declared.limit.TheConstants.{MOST_CHANNELS}
+use Rattle.emtp_case.specs.declared.limit.TheConstants.{MOST_CHANNELS, MOST_NODES}
 use Rattle.std.specs.Prelude.{◌≡◌, ◌≤◌, All, [], length, Result, Ok, Err}
 use Rattle.emtp_card.specs.declared.reason.Bad.{Bad}
 use Rattle.emtp_card.specs.declared.reason.Refused.{Refused}
@@ -34,7 +34,7 @@ pub record IsFilling (f : Filling) : Type 0 where
 
 -- while the names of a card come in
 pub record IsNaming (f : Filling) : Type 0 where
-  pub names : length f.nodes.keys ≤ 2000
+  pub names : length f.nodes.keys ≤ 2 * MOST_NODES
   pub history : f.history ≡ history_values_of f.draft.parts
   pub few : count_asked f.asked ≤ MOST_CHANNELS
 

@@ -1,4 +1,5 @@
 -- Beside `PointCard`: what values hold for their proofs, and what premises say. No clause of the program reaches it.
+use Rattle.emtp_fix.specs.declared.limit.TheConstants.{LARGEST_TIME, LARGEST_VALUE}
 use Rattle.std.specs.Prelude.{◌≡◌, ℕ, ◌^◌, ℤ, pos, neg_ℤ, int_lt, true, false, List, Option, Some, None, Result, Ok, if◌then◌else◌}
 use Rattle.emtp_card.specs.held.Number.{IsWithin}
 use Rattle.emtp_card.specs.declared.fault.Fault.{Fault}
@@ -25,8 +26,8 @@ point_card number line scale = card_due number line (point_read line scale)
 abbrev pub IsValueOf : PointScale → ℤ → Type 0
 IsValueOf Resistor x = IsWithin (pos 1) (pos (10 ^ 18)) x
 IsValueOf Reactor x = IsWithin (pos 1) (pos (10 ^ 18)) x
-IsValueOf Table x = IsWithin (neg_ℤ (pos (10 ^ 18))) (pos (10 ^ 18)) x
-IsValueOf Times x = IsWithin (pos 0) (pos (10 ^ 18)) x
+IsValueOf Table x = IsWithin (neg_ℤ (pos LARGEST_VALUE)) (pos LARGEST_VALUE) x
+IsValueOf Times x = IsWithin (pos 0) (pos LARGEST_TIME) x
 
 pub record IsPointOf (scale : PointScale) (p : Point) : Type 0 where
   pub current : IsValueOf scale p.current

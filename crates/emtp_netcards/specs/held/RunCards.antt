@@ -1,4 +1,5 @@
 -- Beside `RunCards`: what values hold for their proofs, and what premises say. No clause of the program reaches it.
+use Rattle.emtp_case.specs.declared.limit.TheConstants.{LARGEST_TIME_STEP, LEAST_TIME_STEP}
 use Rattle.std.specs.Prelude.{ℕ, ◌≤◌, ◌^◌, pos, List, Result, Ok, Err}
 use Rattle.emtp_card.specs.held.Number.{IsWithin}
 use Rattle.emtp_card.specs.declared.reason.Bad.{Bad}
@@ -24,5 +25,5 @@ pub record IsMillion (n : ℕ) : Type 0 where
   pub few : n ≤ 1000000
 
 pub record IsFirstCard (card : FirstCard) : Type 0 where
-  pub dt : IsWithin (pos 1000) (pos (10 ^ 12)) card.dt
+  pub dt : IsWithin (pos LEAST_TIME_STEP) (pos LARGEST_TIME_STEP) card.dt
   pub steps : IsMillion card.steps

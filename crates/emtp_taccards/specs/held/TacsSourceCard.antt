@@ -1,5 +1,6 @@
 -- Beside `TacsSourceCard`: what values hold for their proofs, and what premises say. No clause of the program reaches it.
-use Rattle.std.specs.Prelude.{◌≡◌, ◌^◌, false}
+use Rattle.emtp_fix.specs.declared.limit.TheConstants.{LARGEST_TIME}
+use Rattle.std.specs.Prelude.{◌≡◌, false}
 use Rattle.std.specs.Option.{ForSome}
 use Rattle.emtp_case.specs.held.Range.{IsBetween}
 use Rattle.emtp_case.specs.held.Source.{HasShapeNumbers, HasSourceNumbers}
@@ -33,7 +34,7 @@ pub record IsDriven (course : Course) : Type 0 where
 pub record IsSignal (course : Course) (times : Times) : Type 0 where
   pub small : IsSmall course.1
   pub start : IsSmall times.0
-  pub stop : ForSome times.1 (IsBetween 1 (10 ^ 18))
+  pub stop : ForSome times.1 (IsBetween 1 LARGEST_TIME)
   pub shape : IsUnresolved course.0
   pub numbers : (s : Source) → s.amplitude ≡ course.1 → s.start ≡ times.0 → s.stop ≡ times.1 → HasShapeNumbers s course.0
 

@@ -1,5 +1,6 @@
 -- Beside `Coefficients`: what values hold for their proofs, and what premises say. No clause of the program reaches it.
-use Rattle.std.specs.Prelude.{All, List, [], pos, slice_index_or, unsigned_abs, ℕ, ℤ, ◌^◌, ◌≤◌}
+use Rattle.emtp_fix.specs.declared.limit.TheConstants.{LARGEST_COEFFICIENT}
+use Rattle.std.specs.Prelude.{All, List, [], pos, slice_index_or, unsigned_abs, ℕ, ℤ, ◌≤◌}
 use Rattle.emtp_case.specs.Control.{step_gain}
 use Rattle.emtp_case.specs.held.Control.{HasCoefficients, HasWay}
 use Rattle.emtp_case.specs.held.Name.{IsName}
@@ -40,4 +41,4 @@ pub record IsBlockEntry (dt : ℤ) (e : BlockEntry) : Type 0 where
   pub top : All IsSmall e.top
   pub bottom : All IsSmall e.bottom
   pub coefficients : 1 ≤ e.card.order → HasCoefficients dt (transfer e)
-  pub within_step : unsigned_abs (step_gain dt (transfer e)) ≤ 10 ^ 18
+  pub within_step : unsigned_abs (step_gain dt (transfer e)) ≤ LARGEST_COEFFICIENT

@@ -1,3 +1,4 @@
+use Rattle.emtp_fix.specs.declared.limit.TheConstants.{LARGEST_TIME}
 use Rattle.std.proofs.Common.{FitsSigned, ◌≡◌, ◌≤◌, ◌^◌, ◌*ℤ◌, of_z, to_z, unsigned_abs, arith, rules, lit<}
 use mir.Syntax.{w64, w128}
 use Rattle.std.proofs.lemmas.Int.{ints, to_z-of_z, fits_signed_mul}
@@ -7,7 +8,7 @@ use Rattle.emtp_admittance.proofs.impedance.travel.Goals as goal
 few : (c : goal.Start) → unsigned_abs c.args.freq ≤ 10 ^ 13
 few c = omega (arith, ints, c.requires.freq.least, c.requires.freq.most)
 
-short : (c : goal.Start) → unsigned_abs c.args.delay ≤ 10 ^ 18
+short : (c : goal.Start) → unsigned_abs c.args.delay ≤ LARGEST_TIME
 short c = c.requires.delay
 
 fits : (c : goal.Start) → FitsSigned w128 (c.args.freq *ℤ c.args.delay)

@@ -1,3 +1,4 @@
+use Rattle.emtp_case.specs.declared.limit.TheConstants.{MOST_CHANNELS}
 use Rattle.std.proofs.Common.{◌≤◌, ◌∷◌, [], length, arith, sym, subst}
 use Rattle.std.specs.Prelude.{All}
 use Rattle.std.proofs.lemmas.List.Elements.{All-append, All-cons, All-nil}
@@ -8,7 +9,7 @@ use Rattle.emtp_audit.proofs.cfg.push_scale.Goals as goal
 
 pub overflow_cast-len : goal.overflow_cast-len
 overflow_cast-len c =
-    let few : length c.args.case.now.parts.channels ≤ 64 = c.args.case.now.fits.draft.counts.channels in
+    let few : length c.args.case.now.parts.channels ≤ MOST_CHANNELS = c.args.case.now.fits.draft.counts.channels in
     omega (arith, few, count_below-le (is_analog_at c.args.case.now.parts) c.args.place, c.requires.analog)
 
 pub returns-in-Ok-push-clause-are : goal.returns-in-Ok-push-clause-are

@@ -1,3 +1,4 @@
+use Rattle.emtp_case.specs.declared.limit.TheConstants.{MOST_CHANNELS}
 use Rattle.std.proofs.Common.{◌≤◌, length, arith}
 use Rattle.emtp_comtrade.specs.Record.{is_analog_at}
 use Rattle.emtp_comtrade.proofs.Places.{count_below-le}
@@ -6,7 +7,7 @@ use Rattle.emtp_audit.proofs.sample.walk_raw_at.Goals as goal
 
 pub offset_bounds-as_slice-analog : goal.offset_bounds-as_slice-analog
 offset_bounds-as_slice-analog c =
-    let few : length c.args.case.now.parts.channels ≤ 64 = c.args.case.now.fits.draft.counts.channels in
+    let few : length c.args.case.now.parts.channels ≤ MOST_CHANNELS = c.args.case.now.fits.draft.counts.channels in
     omega (arith, few, count_below-le (is_analog_at c.args.case.now.parts) c.args.place)
 
 pub bounds-as_slice-analog : goal.bounds-as_slice-analog
@@ -14,5 +15,5 @@ bounds-as_slice-analog c = omega (arith, analog-less c.args.case.now.parts c.arg
 
 pub overflow_add-result : goal.overflow_add-result
 overflow_add-result c =
-    let few : length c.args.case.now.parts.channels ≤ 64 = c.args.case.now.fits.draft.counts.channels in
+    let few : length c.args.case.now.parts.channels ≤ MOST_CHANNELS = c.args.case.now.fits.draft.counts.channels in
     omega (arith, few, count_below-le (is_analog_at c.args.case.now.parts) c.args.place)

@@ -1,4 +1,5 @@
-use Rattle.std.proofs.Common.{◌≡◌, ◌∙◌, sym, ap, subst, ◌≤◌, ◌^◌, Some, length, get_or, slice_get, unsigned_abs, to_z, of_z, arith}
+use Rattle.emtp_fix.specs.declared.limit.TheConstants.{LARGEST_COEFFICIENT}
+use Rattle.std.proofs.Common.{◌≡◌, ◌∙◌, sym, ap, subst, ◌≤◌, Some, length, get_or, slice_get, unsigned_abs, to_z, of_z, arith}
 use mir.Syntax.{w64}
 use Rattle.std.proofs.lemmas.List.{get_or-map}
 use Rattle.std.proofs.lemmas.Option.{slice_get-get_or}
@@ -39,7 +40,7 @@ returns c =
     let here : slice_get case.blocks i ≡ Some b = slice_get-get_or case.blocks i b c.requires.there ∙ ap Some (sym read) in
     let fits = let P = λ (y : Block). IsBlock case.run (sizes_of case) y in subst P (sym read) (c.args.case.now.fits.draft.control.blocks i b c.requires.there) in
     let law = c.requires.laws i b c.requires.there here in
-    let small : unsigned_abs (get_or c.args.laws.now i no_law).gain ≤ 10 ^ 18 = (c.requires.laws_fit i no_law (omega (arith, c.requires.there, c.requires.law_each))).gain_small in
+    let small : unsigned_abs (get_or c.args.laws.now i no_law).gain ≤ LARGEST_COEFFICIENT = (c.requires.laws_fit i no_law (omega (arith, c.requires.there, c.requires.law_each))).gain_small in
     let k : to_z w64 (of_z w64 (get_or c.args.laws.now i no_law).gain) ≡ (get_or c.args.laws.now i no_law).gain = through_64 _ small in
     let filled = rw (k, c.as_slice-2.ensures, c.requires.places) at c.fill_row.ensures in
     let limiter : get_or (limiters_kept c.args.states.now) i Free ≡ (get_or c.args.states.now i no_kept).limiter = get_or-map (λ (s : BlockState). s.limiter) c.args.states.now i no_kept Free (omega (arith, c.requires.there, c.requires.state_each)) in

@@ -1,4 +1,5 @@
-use Rattle.std.proofs.Common.{◌≡◌, ◌≤◌, ◌*◌, ◌^◌, take, unsigned_abs}
+use Rattle.emtp_fix.specs.declared.limit.TheConstants.{LARGEST_VALUE}
+use Rattle.std.proofs.Common.{◌≡◌, ◌≤◌, ◌*◌, take, unsigned_abs}
 use Rattle.emtp_blocks.specs.held.BlockRows.{place_in}
 use Rattle.emtp_blocks.specs.System.{input_sum}
 use Rattle.emtp_blocks.proofs.inputs.input_sum.Given as goal
@@ -6,5 +7,5 @@ use Rattle.emtp_blocks.proofs.inputs.input_sum.Given as goal
 abbrev pub invariant-loop-input : goal.invariant-loop-input
 invariant-loop-input l = record {
   value : l.sum ≡ input_sum (place_in l.places) l.known l.xs l.at l.x (take l.input-index l.inputs);
-  small : unsigned_abs l.sum ≤ l.input-index * 10 ^ 18;
+  small : unsigned_abs l.sum ≤ l.input-index * LARGEST_VALUE;
 }

@@ -1,3 +1,4 @@
+use Rattle.emtp_fix.specs.declared.limit.TheConstants.{LARGEST_COEFFICIENT}
 use Rattle.std.proofs.Common.{◌≡◌, ◌^◌, ◌≤◌, ◌<◌, unsigned_abs, to_z, of_z, ℕ, length, arith}
 use mir.Syntax.{w64, w128}
 use Rattle.std.proofs.lemmas.Int.{ints, to_z-of_z}
@@ -15,7 +16,7 @@ loop-j-preserved c =
     let f = quotient_of c.args.dt c.args.card.now c.args.divisor in
     let is : c.coefficient.result ≡ f j = rw (dt, d) at c.coefficient.ensures in
     let least = c.requires.small j (omega arith) in
-    let small : unsigned_abs c.coefficient.result ≤ 10 ^ 18 = rw is least in
+    let small : unsigned_abs c.coefficient.result ≤ LARGEST_COEFFICIENT = rw is least in
     let through : to_z w64 (of_z w64 c.coefficient.result) ≡ c.coefficient.result = omega (arith, ints, small) in
     let done : (i : ℕ) → i < j → item c.loop-j.quotients i ≡ f i = rw (dt, d) at c.loop-j.invariant.done in
     let inside : j < length c.loop-j.quotients = omega (arith, c.loop-j.invariant.long, c.requires.order) in

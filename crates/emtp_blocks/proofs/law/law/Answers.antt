@@ -1,3 +1,4 @@
+use Rattle.emtp_fix.specs.declared.limit.TheConstants.{LARGEST_COEFFICIENT}
 use Rattle.std.proofs.Common.{◌≡◌, ◌∙◌, ap, ◌^◌, ◌*◌, ◌≤◌, ◌*ℤ◌, ℤ, pos, FitsSigned, unsigned_abs, to_z, of_z, arith}
 use mir.Syntax.{w64, w128}
 use Rattle.std.proofs.lemmas.Int.{ints, to_z-of_z}
@@ -64,7 +65,7 @@ returns-clause-value c =
     let each' = rw (dt, d) at c.coefficients-denominators.ensures.value in
     let is = c.sum-sum.ensures.value ∙ sum_is c.args.dt b c.coefficients-numerators.result c.coefficient_divisor-divisor.result (omega arith) divisor each in
     let product : c.step_gain-2.result ≡ step_gain c.args.dt b = rw (gain, sum) at c.step_gain-2.ensures ∙ ap (λ z. near (b.gain *ℤ z) (pos (10 ^ 12))) is in
-    let small : unsigned_abs c.step_gain-2.result ≤ 10 ^ 18 = rw product c.requires.within_step in
+    let small : unsigned_abs c.step_gain-2.result ≤ LARGEST_COEFFICIENT = rw product c.requires.within_step in
     let same : to_z w64 (of_z w64 c.step_gain-2.result) ≡ c.step_gain-2.result = through_64 c.step_gain-2.result small in
     record {
       numerators = λ j some below. each j below ∙ ap (near (power_of c.args.dt b.top j *ℤ pos (10 ^ 12))) divisor;
@@ -84,7 +85,7 @@ returns-clause-small c =
     let each = rw (dt, d) at c.coefficients-numerators.ensures.value in
     let is = c.sum-sum.ensures.value ∙ sum_is c.args.dt b c.coefficients-numerators.result c.coefficient_divisor-divisor.result (omega arith) divisor each in
     let product : c.step_gain-2.result ≡ step_gain c.args.dt b = rw (gain, sum) at c.step_gain-2.ensures ∙ ap (λ z. near (b.gain *ℤ z) (pos (10 ^ 12))) is in
-    let small : unsigned_abs c.step_gain-2.result ≤ 10 ^ 18 = rw product c.requires.within_step in
+    let small : unsigned_abs c.step_gain-2.result ≤ LARGEST_COEFFICIENT = rw product c.requires.within_step in
     record {
       numerators_small = c.coefficients-numerators.ensures.small;
       denominators_small = c.coefficients-denominators.ensures.small;

@@ -1,4 +1,5 @@
-use Rattle.std.proofs.Common.{◌≡◌, ◌∙◌, sym, ap, ℕ, suc, not, ◌==◌, ◌<◌, ◌^◌, true, false, to_z, of_z, refl, arith}
+use Rattle.emtp_fix.specs.declared.limit.TheConstants.{LARGEST_VALUE}
+use Rattle.std.proofs.Common.{◌≡◌, ◌∙◌, sym, ap, ℕ, suc, not, ◌==◌, ◌<◌, true, false, to_z, of_z, refl, arith}
 use mir.Syntax.{w64, w128}
 use Rattle.std.proofs.lemmas.Int.{to_z-of_z}
 use Rattle.emtp_fix.proofs.Wide.{through, through_64}
@@ -35,7 +36,7 @@ returns-then-not-is_in_range-clause-value c = λ dt r law has.
     let last : to_z w128 (of_z w128 c.last_error-last.result) ≡ c.last_error-last.result = through c.last_error-last.result (omega (arith, c.last_error-last.ensures.small)) in
     let value = rw (gain, s) at c.in_ok-u.ensures.value in
     let input = input_some c.in_ok-u.u (input_of b c.args.s) value in
-    let small : is_within (10 ^ 18) c.in_ok-u.u ≡ true = ap (is_within (10 ^ 18)) input.1 ∙ input.0 in
+    let small : is_within LARGEST_VALUE c.in_ok-u.u ≡ true = ap (is_within LARGEST_VALUE) input.1 ∙ input.0 in
     let z_is = z_found dt b l r old c.args.solved c.in_ok-u.u h c.unlimited-z.result law has ((rw (past, solved, u) at c.unlimited-z.ensures.value) ∙ c.past_at_limit.ensures.value l.sum c.args.solved c.in_ok-u.u) refl in
     let x_is : c.args.x ≡ output_of limits r.limiter c.args.solved = c.requires.output ∙ ap (λ m. output_of limits m c.args.solved) has.limiter_is in
     let d = rw (x, z) at c.differs-clamped.ensures in
@@ -64,7 +65,7 @@ returns-clause-value c = λ dt r law has.
     let last : to_z w128 (of_z w128 c.last_error-last.result) ≡ c.last_error-last.result = through c.last_error-last.result (omega (arith, c.last_error-last.ensures.small)) in
     let value = rw (gain, s) at c.in_ok-u.ensures.value in
     let input = input_some c.in_ok-u.u (input_of b c.args.s) value in
-    let small : is_within (10 ^ 18) c.in_ok-u.u ≡ true = ap (is_within (10 ^ 18)) input.1 ∙ input.0 in
+    let small : is_within LARGEST_VALUE c.in_ok-u.u ≡ true = ap (is_within LARGEST_VALUE) input.1 ∙ input.0 in
     let z_is = z_found dt b l r old c.args.solved c.in_ok-u.u h c.unlimited-z.result law has ((rw (past, solved, u) at c.unlimited-z.ensures.value) ∙ c.past_at_limit.ensures.value l.sum c.args.solved c.in_ok-u.u) refl in
     let x_is : c.args.x ≡ output_of limits r.limiter c.args.solved = c.requires.output ∙ ap (λ m. output_of limits m c.args.solved) has.limiter_is in
     let d = rw (x, z) at c.differs-clamped.ensures in

@@ -1,3 +1,4 @@
+use Rattle.emtp_fix.specs.declared.limit.TheConstants.{LARGEST_TIME}
 use Rattle.std.proofs.Common.{◌≡◌, ◌≤◌, ◌^◌, ◌*ℤ◌, of_z, pos, to_z, unsigned_abs, arith}
 use mir.Syntax.{w64}
 use Rattle.std.proofs.lemmas.Int.{ints}
@@ -10,7 +11,7 @@ few c = omega (arith, c.args.case.now.fits.draft.run.few_every)
 short : (c : goal.After-result-1) → unsigned_abs c.args.case.now.parts.run.dt ≤ 10 ^ 12
 short c = let dt = c.args.case.now.fits.draft.run.dt in omega (arith, ints, dt.least, dt.most)
 
-bound : (c : goal.After-result-1) → unsigned_abs (pos c.args.case.now.parts.run.every *ℤ c.args.case.now.parts.run.dt) ≤ 10 ^ 18
+bound : (c : goal.After-result-1) → unsigned_abs (pos c.args.case.now.parts.run.every *ℤ c.args.case.now.parts.run.dt) ≤ LARGEST_TIME
 bound c = let run = c.args.case.now.parts.run in omega (arith, abs-mul-le (pos run.every) run.dt (10 ^ 6) (10 ^ 12) (few c) (short c))
 
 pub overflow_mul-result : goal.overflow_mul-result

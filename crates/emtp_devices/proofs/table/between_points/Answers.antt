@@ -1,4 +1,4 @@
-use Rattle.std.proofs.Common.{◌≡◌, ◌≤◌, ◌*◌, ◌^◌, ◌∙◌, ap, ◌+ℤ◌, ◌-ℤ◌, ℤ, FitsSigned, of_z, refl, subst, sym, to_z, unsigned_abs, arith}
+use Rattle.std.proofs.Common.{◌≡◌, ◌≤◌, ◌*◌, ◌∙◌, ap, ◌+ℤ◌, ◌-ℤ◌, ℤ, FitsSigned, of_z, refl, subst, sym, to_z, unsigned_abs, arith}
 use mir.Syntax.{w64, w128}
 use Rattle.std.proofs.lemmas.Int.{fits_signed_from_abs, ints, to_z-of_z}
 use Rattle.emtp_fix.proofs.Wide.{abs-add-le, abs-sub-le, fits, through, wide_fits, wide_is}
@@ -9,7 +9,7 @@ use Rattle.emtp_devices.proofs.table.between_points.Goals as goal
 difference : (a b : ℤ) → unsigned_abs a ≤ LARGEST_VALUE → unsigned_abs b ≤ LARGEST_VALUE → to_z w128 (of_z w128 (to_z w64 (of_z w64 a))) -ℤ to_z w128 (of_z w128 (to_z w64 (of_z w64 b))) ≡ a -ℤ b
 difference a b m n = rw (wide_is a m, wide_is b n) refl
 
-small_difference : (a b : ℤ) → unsigned_abs a ≤ LARGEST_VALUE → unsigned_abs b ≤ LARGEST_VALUE → unsigned_abs (a -ℤ b) ≤ 2 * 10 ^ 18
+small_difference : (a b : ℤ) → unsigned_abs a ≤ LARGEST_VALUE → unsigned_abs b ≤ LARGEST_VALUE → unsigned_abs (a -ℤ b) ≤ 2 * LARGEST_VALUE
 small_difference a b m n = omega (arith, abs-sub-le a b, m, n)
 
 fits_difference : (a b : ℤ) → unsigned_abs a ≤ LARGEST_VALUE → unsigned_abs b ≤ LARGEST_VALUE → FitsSigned w128 (to_z w128 (of_z w128 (to_z w64 (of_z w64 a))) -ℤ to_z w128 (of_z w128 (to_z w64 (of_z w64 b))))

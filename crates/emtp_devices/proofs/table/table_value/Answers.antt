@@ -1,4 +1,5 @@
-use Rattle.std.proofs.Common.{◌≡◌, ◌≤◌, ◌-◌, ◌^◌, ◌∙◌, ◌+◌, ◌<ℤ◌, ◌∷◌, [], ap, arith, drop, false, FitsSigned, get_or, length, ℕ, ℤ, List, of_z, refl, rules, slice_index_or, subst, suc, sym, to_z, true, unsigned_abs}
+use Rattle.emtp_fix.specs.declared.limit.TheConstants.{LARGEST_VALUE}
+use Rattle.std.proofs.Common.{◌≡◌, ◌≤◌, ◌-◌, ◌∙◌, ◌+◌, ◌<ℤ◌, ◌∷◌, [], ap, arith, drop, false, FitsSigned, get_or, length, ℕ, ℤ, List, of_z, refl, rules, slice_index_or, subst, suc, sym, to_z, true, unsigned_abs}
 use mir.Syntax.{w64, w128}
 use Rattle.std.proofs.lemmas.Int.{to_z-of_z}
 use Rattle.std.proofs.lemmas.List.{drop_all}
@@ -26,7 +27,7 @@ returns c =
     let points = c.args.points.now in
     let last = slice_index_or points (length points - 1) origin in
     let s : FitsSigned w64 c.args.s = c.ranges.s in
-    let small : unsigned_abs last.other ≤ 10 ^ 18 = All-get_or (λ (p : Point). unsigned_abs p.other ≤ 10 ^ 18) points (length points - 1) origin (omega (arith, c.requires.table.some)) c.requires.table.outputs in
+    let small : unsigned_abs last.other ≤ LARGEST_VALUE = All-get_or (λ (p : Point). unsigned_abs p.other ≤ LARGEST_VALUE) points (length points - 1) origin (omega (arith, c.requires.table.some)) c.requires.table.outputs in
     let over : c.loop-at.at ≡ length points = omega (arith, c.requires.table.some, c.loop-at.auto.at-end, c.loop-at-test.false) in
     let none : drop c.loop-at.at points ≡ [] = drop_all c.loop-at.at points c.loop-at-test.false in
     let before : table_value c.args.s points ≡ along c.args.s (slice_index_or points (c.loop-at.at - 1) origin) (drop c.loop-at.at points) = simp to_z-of_z at c.loop-at.invariant.value in

@@ -1,4 +1,5 @@
-use Rattle.std.proofs.Common.{◌≡◌, ◌≤◌, ◌<◌, ◌^◌, ◌∙◌, slice_index, unsigned_abs, inr, arith}
+use Rattle.emtp_fix.specs.declared.limit.TheConstants.{LARGEST_ENTRY}
+use Rattle.std.proofs.Common.{◌≡◌, ◌≤◌, ◌<◌, ◌∙◌, slice_index, unsigned_abs, inr, arith}
 use mir.Syntax.{w128}
 use Rattle.std.proofs.lemmas.Int.{ints, to_z-of_z}
 use Rattle.emtp_fix.proofs.Wide.{through, through_64}
@@ -10,7 +11,7 @@ use Rattle.emtp_elim.proofs.clearing.clear_column.Goals as goal
 pub less-entry-requires-clause-a : goal.less-entry-requires-clause-a
 less-entry-requires-clause-a c =
     let j = slice_index c.args.above.columns.now c.loop-e.e in
-    let small : unsigned_abs (item c.loop-e.work j) ≤ 10 ^ 17 = lessened_small c.args.k c.requires.above.later c.loop-e.invariant c.loop-e.auto.e c.loop-e-test.true c.requires.entries in
+    let small : unsigned_abs (item c.loop-e.work j) ≤ LARGEST_ENTRY = lessened_small c.args.k c.requires.above.later c.loop-e.invariant c.loop-e.auto.e c.loop-e-test.true c.requires.entries in
     rw (through (item c.loop-e.work j) (omega arith)) (omega arith)
 
 pub returns-then-unsigned_abs-gt-LARGEST_ENTRY-clause-out : goal.returns-then-unsigned_abs-gt-LARGEST_ENTRY-clause-out
@@ -23,7 +24,7 @@ returns-then-unsigned_abs-gt-LARGEST_ENTRY-clause-out c =
     let wide = to_z-of_z w128 c.ratio-m.result (omega (arith, c.ratio-m.type_inv)) in
     let value = lessened_next c.args.k c.from-in-loop-e.result c.less-entry.result row.later (rw wide at c.loop-e.invariant) c.loop-e.auto.e c.loop-e-test.true c.requires.entries row.finished.entries
     (omega (arith, rw wide at c.unsigned_abs.ensures.value)) (c.from-in-loop-e.ensures ∙ through_64 _ (omega (arith, small_value))) c.less-entry.ensures in
-    let large : 10 ^ 17 < unsigned_abs c.less-entry.result = omega (arith, rw (to_z-of_z w128 c.less-entry.result (omega (arith, c.less-entry.type_inv))) at c.unsigned_abs-in-loop-e.ensures.value) in
+    let large : LARGEST_ENTRY < unsigned_abs c.less-entry.result = omega (arith, rw (to_z-of_z w128 c.less-entry.result (omega (arith, c.less-entry.type_inv))) at c.unsigned_abs-in-loop-e.ensures.value) in
     inr (slice_index c.args.above.columns.now e, omega (arith, row.later.low e c.loop-e.auto.e c.loop-e-test.true), row.later.high e c.loop-e.auto.e c.loop-e-test.true, rw (value, m_is) at large)
 
 pub bounds-work-column : goal.bounds-work-column

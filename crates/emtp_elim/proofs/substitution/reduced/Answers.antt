@@ -1,4 +1,5 @@
-use Rattle.std.proofs.Common.{rules, ◌≡◌, ◌≤◌, ◌^◌, suc, refl, slice_index, unsigned_abs, FitsSigned, to_z, of_z, arith}
+use Rattle.emtp_fix.specs.declared.limit.TheConstants.{LARGEST_VALUE}
+use Rattle.std.proofs.Common.{rules, ◌≡◌, ◌≤◌, suc, refl, slice_index, unsigned_abs, FitsSigned, to_z, of_z, arith}
 use mir.Syntax.{w128}
 use Rattle.std.proofs.lemmas.Int.{ints, to_z-of_z}
 use Rattle.emtp_fix.proofs.Wide.{narrow_is, through_64}
@@ -12,8 +13,8 @@ loop-e-init c =
     let start = item c.args.right.now c.args.i in
     let fits : FitsSigned w128 start = search rules in
     let same = to_z-of_z w128 start fits in
-    let small_wide : unsigned_abs (to_z w128 (of_z w128 start)) ≤ 10 ^ 18 = omega (arith, ints) in
-    let small : unsigned_abs start ≤ 10 ^ 18 = rw same at small_wide in
+    let small_wide : unsigned_abs (to_z w128 (of_z w128 start)) ≤ LARGEST_VALUE = omega (arith, ints) in
+    let small : unsigned_abs start ≤ LARGEST_VALUE = rw same at small_wide in
     rw (narrow_is start start refl (omega (arith, small))) (partial_start start _ c.args.right.now c.args.i _ _ _ _ c.requires.row.ratios small)
 
 pub returns-in-None-clause-out : goal.returns-in-None-clause-out

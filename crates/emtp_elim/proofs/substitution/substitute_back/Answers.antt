@@ -1,4 +1,5 @@
-use Rattle.std.proofs.Common.{◌≡◌, ◌≤◌, ◌-◌, ◌^◌, ◌∙◌, length, unsigned_abs, sym, arith}
+use Rattle.emtp_fix.specs.declared.limit.TheConstants.{LARGEST_VALUE}
+use Rattle.std.proofs.Common.{◌≡◌, ◌≤◌, ◌-◌, ◌∙◌, length, unsigned_abs, sym, arith}
 use mir.Syntax.{w128}
 use Rattle.std.proofs.lemmas.Int.{ints, to_z-of_z}
 use Rattle.emtp_fix.proofs.Wide.{through_64}
@@ -31,7 +32,7 @@ loop-k-preserved c =
     let next = next_read c.remainder-left.result _ c.near_by-unknown.result row c.row-row.ensures.numbers c.loop-k.invariant (omega arith) (sym c.requires.full) (omega arith)
     c.remainder-left.ensures.value c.remainder-left.ensures.bound (to_z-of_z w128 c.from.result (omega (arith, c.from.type_inv)) ∙ c.from.ensures ∙ through_64 _ (omega (arith, small_pivot))) c.near_by-unknown.ensures.value in
     let wide = to_z-of_z w128 c.near_by-unknown.result (omega (arith, c.near_by-unknown.type_inv)) in
-    let small : unsigned_abs c.near_by-unknown.result ≤ 10 ^ 18 = omega (arith, rw wide at c.unsigned_abs.ensures.value) in
+    let small : unsigned_abs c.near_by-unknown.result ≤ LARGEST_VALUE = omega (arith, rw wide at c.unsigned_abs.ensures.value) in
     rw (wide, through_64 c.near_by-unknown.result small)
     (found_more c.args.done.now.rows c.args.right.now c.loop-k.x c.loop-k.k k c.near_by-unknown.result c.loop-k.invariant (omega arith) (omega arith) (omega arith) next small)
 

@@ -1,3 +1,4 @@
+use Rattle.emtp_case.specs.declared.limit.TheConstants.{MOST_BRANCHES}
 use Rattle.std.proofs.Common.{◌≡◌, ◌∙◌, ◌<◌, ◌≤◌, sym, ap, get_or, length, refl, slice_get, arith}
 use Rattle.std.proofs.lemmas.Int.{ints}
 use Rattle.emtp_case.specs.NodeRows.{node_at}
@@ -71,7 +72,7 @@ loop-place-preserved c =
     let i = c.loop-place.place-index in
     let at = get_or places i 0 in
     let there : at < length case.branches = place_there case node i 0 places are c.loop-place-test.true in
-    let few : i < 5000 = omega (arith, c.loop-place-test.true, ap length are, places_few case node, c.args.network.case.now.fits.draft.counts.branches) in
+    let few : i < MOST_BRANCHES = omega (arith, c.loop-place-test.true, ap length are, places_few case node, c.args.network.case.now.fits.draft.counts.branches) in
     let here = leaving_read case c.args.network.ports.now c.args.volts.now c.args.imaginary node c.as_slice-branches.result.now at _ _ _ _ c.leaving_by-sum.result c.as_slice-branches.ensures there (omega (arith, there, c.requires.network.ports_count)) refl refl c.leaving_by-sum.ensures.value in
     record {
       sum_is = place_total_more (λ b. leaving_through c.args.imaginary (port_at c.args.network.ports.now b) c.args.volts.now node (slice_get case.branches b)) places i _ c.leaving_by-sum.result _ c.loop-place-test.true here c.loop-place.invariant.sum_is (omega (arith, ints, c.leaving_by-sum.ensures.small, c.loop-place.invariant.small, few));
@@ -85,7 +86,7 @@ returns-clause-value c =
     let places = c.as_slice-places.result.now in
     let at_row : node ≡ node_at case c.args.row = sym c.node_at-node.ensures.node ∙ order_at case c.args.network.order.now c.args.row c.requires.network.order_is in
     let are = node_list case c.args.network.order.now c.args.network.lists.now c.args.row node c.index-lists-row.result places c.requires.network.order_is c.requires.network.lists_are c.requires.row c.node_at-node.ensures.node c.index-lists-row.is c.as_slice-places.ensures in
-    let few : c.loop-place.place-index ≤ 5000 = omega (arith, c.loop-place.auto.place-index-end, ap length are, places_few case node, c.args.network.case.now.fits.draft.counts.branches) in
+    let few : c.loop-place.place-index ≤ MOST_BRANCHES = omega (arith, c.loop-place.auto.place-index-end, ap length are, places_few case node, c.args.network.case.now.fits.draft.counts.branches) in
     leaving_is case c.args.network.ports.now c.args.volts.now c.args.imaginary node c.loop-place.place-index places _ c.brought_at.result _ are (omega (arith, c.loop-place-test.false)) c.loop-place.invariant.sum_is (c.brought_at.ensures.value ∙ ap (source_phasors_into case c.args.imaginary) (sym at_row)) (omega (arith, ints, c.loop-place.invariant.small, c.brought_at.ensures.small, few))
     ∙ ap (leaving_node case c.args.network.ports.now c.args.volts.now c.args.imaginary) at_row
 
@@ -95,5 +96,5 @@ returns-clause-bound c =
     let node = c.node_at-node.result in
     let places = c.as_slice-places.result.now in
     let are = node_list case c.args.network.order.now c.args.network.lists.now c.args.row node c.index-lists-row.result places c.requires.network.order_is c.requires.network.lists_are c.requires.row c.node_at-node.ensures.node c.index-lists-row.is c.as_slice-places.ensures in
-    let few : c.loop-place.place-index ≤ 5000 = omega (arith, c.loop-place.auto.place-index-end, ap length are, places_few case node, c.args.network.case.now.fits.draft.counts.branches) in
+    let few : c.loop-place.place-index ≤ MOST_BRANCHES = omega (arith, c.loop-place.auto.place-index-end, ap length are, places_few case node, c.args.network.case.now.fits.draft.counts.branches) in
     omega (arith, ints, c.loop-place.invariant.small, c.brought_at.ensures.small, few)

@@ -1,3 +1,4 @@
+use Rattle.emtp_case.specs.declared.limit.TheConstants.{MOST_NODES}
 use Rattle.std.proofs.Common.{◌∙◌, ◌<◌, ◌≤◌, sym, ap, ℕ, ℤ, length, arith}
 use Rattle.std.proofs.lemmas.Int.{ints}
 use Rattle.std.proofs.lemmas.List.{take_all}
@@ -26,7 +27,7 @@ overflow_add-sum c =
     let kinds = c.args.network.kinds.now in
     let members = c.as_slice-members.result.now in
     let are = group_read kinds c.args.network.groups.now c.args.row _ c.index-groups-row.result members c.requires.network.groups_are c.requires.network.kinds_count c.requires.row c.index-groups-row.is c.as_slice-members.ensures in
-    let few : c.loop-member.member-index < 1000 = omega (arith, c.loop-member-test.true, members_few kinds c.args.row members are, c.requires.network.kinds_count, c.args.network.case.now.fits.draft.counts.nodes) in
+    let few : c.loop-member.member-index < MOST_NODES = omega (arith, c.loop-member-test.true, members_few kinds c.args.row members are, c.requires.network.kinds_count, c.args.network.case.now.fits.draft.counts.nodes) in
     fits _ (omega (arith, ints, c.leaving-sum.ensures.bound, c.loop-member.invariant.small, few))
 
 pub loop-member-preserved : goal.loop-member-preserved
@@ -35,7 +36,7 @@ loop-member-preserved c =
     let kinds = c.args.network.kinds.now in
     let members = c.as_slice-members.result.now in
     let are = group_read kinds c.args.network.groups.now c.args.row _ c.index-groups-row.result members c.requires.network.groups_are c.requires.network.kinds_count c.requires.row c.index-groups-row.is c.as_slice-members.ensures in
-    let few : c.loop-member.member-index < 1000 = omega (arith, c.loop-member-test.true, members_few kinds c.args.row members are, c.requires.network.kinds_count, c.args.network.case.now.fits.draft.counts.nodes) in
+    let few : c.loop-member.member-index < MOST_NODES = omega (arith, c.loop-member-test.true, members_few kinds c.args.row members are, c.requires.network.kinds_count, c.args.network.case.now.fits.draft.counts.nodes) in
     let F : ℕ → ℤ = λ k. leaving_node case c.args.network.ports.now c.args.volts.now c.args.imaginary (node_at case k) in
     record {
       sum_is = place_total_more F members c.loop-member.member-index _ c.leaving-sum.result _ c.loop-member-test.true c.leaving-sum.ensures.value
@@ -57,5 +58,5 @@ returns-clause-bound c =
     let kinds = c.args.network.kinds.now in
     let members = c.as_slice-members.result.now in
     let are = group_read kinds c.args.network.groups.now c.args.row _ c.index-groups-row.result members c.requires.network.groups_are c.requires.network.kinds_count c.requires.row c.index-groups-row.is c.as_slice-members.ensures in
-    let few : c.loop-member.member-index ≤ 1000 = omega (arith, c.loop-member.auto.member-index-end, members_few kinds c.args.row members are, c.requires.network.kinds_count, c.args.network.case.now.fits.draft.counts.nodes) in
+    let few : c.loop-member.member-index ≤ MOST_NODES = omega (arith, c.loop-member.auto.member-index-end, members_few kinds c.args.row members are, c.requires.network.kinds_count, c.args.network.case.now.fits.draft.counts.nodes) in
     omega (arith, ints, c.loop-member.invariant.small, few)

@@ -1,8 +1,8 @@
-use Rattle.std.proofs.Common.{FitsSigned, ◌≡◌, ◌≤◌, ◌^◌, ◌*ℤ◌, unsigned_abs, arith, rules}
+use Rattle.std.proofs.Common.{FitsSigned, ◌≡◌, ◌≤◌, ◌*ℤ◌, unsigned_abs, arith, rules}
 use mir.Syntax.{w64, w128}
 use Rattle.std.proofs.lemmas.Int.{to_z-of_z}
 use Rattle.emtp_fix.specs.Rounding.{near}
-use Rattle.emtp_fix.specs.declared.limit.TheConstants.{PICO}
+use Rattle.emtp_fix.specs.declared.limit.TheConstants.{LARGEST_VALUE, PICO}
 use Rattle.emtp_fix.proofs.Wide.{narrow_fits, narrow_is}
 use Rattle.emtp_admittance.proofs.Reactances.{share_in_pico}
 use Rattle.emtp_phasor.proofs.sources.share.Goals as goal
@@ -15,7 +15,7 @@ is_share c =
     let b' : FitsSigned w128 c.args.cosine = search rules in
     simp to_z-of_z at c.scaled.ensures.value
 
-small : (c : goal.After-scaled) → unsigned_abs (near (c.args.amplitude *ℤ c.args.cosine) PICO) ≤ 10 ^ 18
+small : (c : goal.After-scaled) → unsigned_abs (near (c.args.amplitude *ℤ c.args.cosine) PICO) ≤ LARGEST_VALUE
 small c = share_in_pico c.args.amplitude c.args.cosine c.requires.amplitude c.requires.cosine
 
 pub overflow_cast-result : goal.overflow_cast-result

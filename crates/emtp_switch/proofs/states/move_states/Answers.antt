@@ -1,4 +1,5 @@
-use Rattle.std.proofs.Common.{◌≡◌, ◌^◌, ℤ, length, to_z, of_z, ap, sym, ◌∙◌, FitsSigned, arith, rules}
+use Rattle.emtp_fix.specs.declared.limit.TheConstants.{LARGEST_TIME}
+use Rattle.std.proofs.Common.{◌≡◌, ℤ, length, to_z, of_z, ap, sym, ◌∙◌, FitsSigned, arith, rules}
 use mir.Syntax.{w64}
 use Rattle.std.proofs.lemmas.Bool.{true≢false}
 use Rattle.std.proofs.lemmas.Int.{ints, to_z-of_z}
@@ -15,7 +16,7 @@ use Rattle.emtp_switch.proofs.Moving.{all_moved, moved_more, view_is}
 use Rattle.emtp_switch.proofs.states.move_states.Goals as goal
 use Rattle.emtp_switch.proofs.states.move_states.Goals.{then-replace, else-replace}
 
-time_through : (time : ℤ) → IsBetween 0 (10 ^ 18) time → to_z w64 (of_z w64 time) ≡ time
+time_through : (time : ℤ) → IsBetween 0 LARGEST_TIME time → to_z w64 (of_z w64 time) ≡ time
 time_through time within = through_64 time (omega (arith, ints, within.least, within.most))
 
 pub loop-s-preserved : goal.loop-s-preserved

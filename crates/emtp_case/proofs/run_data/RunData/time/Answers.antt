@@ -1,3 +1,4 @@
+use Rattle.emtp_fix.specs.declared.limit.TheConstants.{LARGEST_TIME}
 use Rattle.std.proofs.Common.{◌≡◌, ◌≤◌, ◌≤ℤ◌, ◌^◌, ◌*ℤ◌, ℕ, ℤ, negsuc, of_z, pos, to_z, unsigned_abs, arith}
 use mir.Syntax.{w64}
 use Rattle.std.proofs.lemmas.Int.{ints}
@@ -10,7 +11,7 @@ few c = omega (arith, c.requires.step, c.requires.run.few_steps)
 short : (c : goal.After-result-1) → unsigned_abs c.args.self.now.dt ≤ 10 ^ 12
 short c = omega (arith, ints, c.requires.run.dt.least, c.requires.run.dt.most)
 
-bound : (c : goal.After-result-1) → unsigned_abs (pos c.args.step *ℤ c.args.self.now.dt) ≤ 10 ^ 18
+bound : (c : goal.After-result-1) → unsigned_abs (pos c.args.step *ℤ c.args.self.now.dt) ≤ LARGEST_TIME
 bound c = omega (arith, abs-mul-le (pos c.args.step) c.args.self.now.dt (10 ^ 6) (10 ^ 12) (few c) (short c))
 
 not_before : (n : ℕ) (dt : ℤ) → pos 1000 ≤ℤ dt → pos 0 ≤ℤ (pos n *ℤ dt)
