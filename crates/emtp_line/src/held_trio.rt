@@ -80,8 +80,10 @@ impl HeldTrio {
         requires held { IsHeldTrio self.now }
         requires phase { phase < 3 }
         ensures value { result
-            ≡ (self.now.zero_sequence.from_history +ℤ (phase_held self.now phase).waves.from_history,
-            self.now.zero_sequence.to_history +ℤ (phase_held self.now phase).waves.to_history) }
+            ≡ (
+              self.now.zero_sequence.from_history +ℤ (phase_held self.now phase).waves.from_history,
+              self.now.zero_sequence.to_history +ℤ (phase_held self.now phase).waves.to_history,
+            ) }
         ensures from_bound { unsigned_abs result.0 ≤ 10 ^ 21 }
         ensures to_bound { unsigned_abs result.1 ≤ 10 ^ 21 }
     {
@@ -181,10 +183,10 @@ fn phases_at_rest(alloc: Global, mode: Mode) -> Result<(HeldLine, HeldLine, Held
 /// The currents of a phase, and its waves of the positive sequence.
 fn positive_part(state: &PhaseState) -> LineState
     ensures { result ≡ record {
-        from_current = state.now.from_current;
-        to_current = state.now.to_current;
-        from_wave = state.now.from_wave;
-        to_wave = state.now.to_wave;
+      from_current = state.now.from_current;
+      to_current = state.now.to_current;
+      from_wave = state.now.from_wave;
+      to_wave = state.now.to_wave;
     } }
 {
     LineState {

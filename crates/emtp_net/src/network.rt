@@ -68,7 +68,7 @@ impl<'a> Model for Network<'a> {
     } };
 
     ghost invariant = { λ s. HoldsTogether s.case.now.parts s.order s.branches s.switches s.system s.matrix
-      s.voltages.items s.currents.items s.switch_currents.items s.closed.items s.made };
+        s.voltages.items s.currents.items s.switch_currents.items s.closed.items s.made };
 }
 
 impl<'a> Network<'a> {

@@ -71,13 +71,7 @@ fn add_node(network: SteadyNetwork<'_>, row: usize, imaginary: bool, out: &mut W
 }
 
 /// Adds a part of the current that leaves a node through the branch at a place.
-fn add_branch(
-    network: SteadyNetwork<'_>,
-    at: usize,
-    node: u32,
-    imaginary: bool,
-    out: &mut WorkRow,
-)
+fn add_branch(network: SteadyNetwork<'_>, at: usize, node: u32, imaginary: bool, out: &mut WorkRow)
     requires network { IsSteadyNetwork network }
     requires there { at < length network.case.now.parts.branches }
     requires out { length out.old ≡ 2 * length network.case.now.parts.nodes }

@@ -108,10 +108,7 @@ pub(crate) fn solve_right(
     rhs.copy_from_slice(right);
     match done.solve(rhs, x) {
         Ok(()) => Ok(()),
-        Err(fault) => Err(ending_at(
-            network.order.node_at(fault.row / 2),
-            Cause::Range,
-        )),
+        Err(fault) => Err(ending_at(network.order.node_at(fault.row / 2), Cause::Range)),
     }
 }
 

@@ -254,13 +254,7 @@ impl System {
             brought: &self.brought,
         };
         match eliminate_rows(network, &mut self.done, &mut self.work, steps) {
-            Ok(()) => solve_right(
-                network,
-                &self.done,
-                &self.right,
-                &mut self.rhs,
-                &mut self.x,
-            ),
+            Ok(()) => solve_right(network, &self.done, &self.right, &mut self.rhs, &mut self.x),
             Err(end) => Err(end),
         }
     }

@@ -177,13 +177,7 @@ pub(crate) struct LastNumbers<'r> {
 }
 
 /// What a switch sees, at a time.
-fn view_of(
-    switch: &Switch,
-    time: i64,
-    current: i64,
-    before: i64,
-    last: LastNumbers<'_>,
-) -> View
+fn view_of(switch: &Switch, time: i64, current: i64, before: i64, last: LastNumbers<'_>) -> View
     requires from { switch.now.from < length last.voltages.now }
     requires to { switch.now.to < length last.voltages.now }
     requires control { ForSome (control_of switch.now.kind) (λ v. v < length last.values.now) }

@@ -25,9 +25,9 @@ pub fn no_cards_change_nothing(case: &Case)
     ensures { (H : List StepRecord) (m : Measured)
         → control_step case.now.parts H m
         ≡ Ok (record {
-            values = standing_values case.now.parts.run (length H) ++ drop 6 (latest H).values;
-            blocks = [];
-            devices = (latest H).devices;
+          values = standing_values case.now.parts.run (length H) ++ drop 6 (latest H).values;
+          blocks = [];
+          devices = (latest H).devices;
         }) }
 {}
 
