@@ -1,5 +1,5 @@
 -- The output that a device keeps of a step is in range.
-use Rattle.std.proofs.Common.{ℕ, ℤ, List, Option, Some, None, IfSome}
+use Rattle.std.proofs.Common.{ℕ, ℤ, List, Some, IfSome}
 use Rattle.emtp_case.specs.declared.case.Parts.{Parts}
 use Rattle.emtp_case.specs.declared.control.Device.{Device}
 use Rattle.emtp_case.specs.declared.control.DeviceState.{DeviceState}

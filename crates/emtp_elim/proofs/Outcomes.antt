@@ -1,19 +1,17 @@
 -- How an elimination ends, from the faults of its rows, right sides and unknowns.
-use Rattle.std.proofs.Common.{◌≡◌, ℕ, zero, suc, ◌+◌, ◌<◌, ◌≤◌, ℤ, unsigned_abs, List, length, Option, Some, None, Result, Ok, Err, refl, ap, subst, sym, ◌∙◌, pos, inl, inr, arith}
+use Rattle.std.proofs.Common.{◌≡◌, ℕ, zero, suc, ◌+◌, ◌<◌, ◌≤◌, ℤ, List, length, Option, Some, None, Ok, Err, refl, ap, subst, sym, ◌∙◌, pos, inl, inr, arith}
 use Rattle.std.proofs.lemmas.Bool.{cases_eq, cases_lt}
 use Rattle.std.proofs.lemmas.List.{get_or_past}
 use Rattle.emtp_fix.specs.declared.limit.TheConstants.{LARGEST_VALUE}
 use Rattle.emtp_fix.proofs.Chaining.{unless_ok}
-use Rattle.emtp_elim.specs.Matrix.{Matrix, item}
+use Rattle.emtp_elim.specs.Matrix.{Matrix}
 use Rattle.emtp_elim.specs.held.Matrix.{AreWithin}
 use Rattle.emtp_elim.specs.Elimination.{solution, stage, stage_right}
 use Rattle.emtp_elim.specs.Fault.{right_fault, row_fault, unknown_fault}
 use Rattle.emtp_elim.specs.held.Fault.{IsGoodMatrix, IsGoodRight, IsRightFault, IsRowFault}
 use Rattle.emtp_elim.specs.Outcome.{first_below, last_below, or_else, outcome}
-use Rattle.emtp_elim.specs.declared.fault.PlainFault.{PlainFault}
 use Rattle.emtp_elim.specs.declared.fault.PlainFault.TheVariants.{Row, Solve}
 use Rattle.emtp_elim.specs.declared.fault.RowCause.{RowCause}
-use Rattle.emtp_elim.specs.declared.fault.SolveFault.{SolveFault}
 use Rattle.emtp_elim.proofs.InRange.{unknown_fault-small}
 use Rattle.emtp_elim.proofs.Unknowns.{length-last_unknowns}
 

@@ -1,5 +1,5 @@
 -- Laws of numbers that are kept in range, and of their chain.
-use Rattle.std.proofs.Common.{◌≡◌, ◌∙◌, ap, refl, ℕ, zero, suc, ◌<◌, ◌≤◌, nat_le, ℤ, pos, neg_ℤ, unsigned_abs, All, List, [], ◌∷◌, Option, Some, None, IfSome, option_map, Bool, true, false, if◌then◌else◌, arith}
+use Rattle.std.proofs.Common.{◌≡◌, ◌∙◌, ap, refl, ℕ, zero, suc, ◌<◌, ◌≤◌, nat_le, ℤ, neg_ℤ, unsigned_abs, All, List, [], ◌∷◌, Option, Some, None, IfSome, option_map, Bool, true, false, if◌then◌else◌, arith}
 use Rattle.std.proofs.lemmas.Bool.Decides.{nat_tests}
 use Rattle.std.proofs.lemmas.Int.{ints}
 use Rattle.std.proofs.lemmas.List.Elements.{All-head, All-tail}

@@ -1,5 +1,5 @@
 -- The current that a series branch keeps of a step is in range.
-use Rattle.std.proofs.Common.{ℤ, Option, Some, IfSome}
+use Rattle.std.proofs.Common.{ℤ, Some, IfSome}
 use Rattle.emtp_case.specs.declared.branch.LumpedState.{LumpedState}
 use Rattle.emtp_fix.proofs.Ranges.{IsSmall, chain-all, chain-any, in_range-within}
 use Rattle.emtp_fix.specs.Limit.{in_range, ◌>>=◌}

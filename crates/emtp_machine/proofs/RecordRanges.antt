@@ -1,5 +1,5 @@
 -- The numbers of all records of a run, and of its samples, are in range.
-use Rattle.std.proofs.Common.{◌≡◌, ◌≢◌, ◌∙◌, sym, ap, subst, inl, inr, ℕ, zero, suc, ◌+◌, ◌*◌, ◌/◌, ◌%◌, ◌<◌, ◌≤◌, ℤ, pos, neg_ℤ, ◌-ℤ◌, Bool, true, false, if◌then◌else◌, All, List, [], ◌∷◌, ◌++◌, length, get_or, map, slice_index, replicate, unsigned_abs, Option, Some, None, Result, Ok, Err, refl, arith}
+use Rattle.std.proofs.Common.{◌≡◌, ◌≢◌, ◌∙◌, ap, subst, inl, inr, ℕ, zero, suc, ◌+◌, ◌*◌, ◌/◌, ◌%◌, ◌<◌, ◌≤◌, ℤ, pos, ◌-ℤ◌, Bool, true, false, if◌then◌else◌, All, List, [], ◌∷◌, ◌++◌, length, get_or, map, slice_index, replicate, Option, Some, None, Result, Ok, Err, refl, arith}
 use Rattle.std.proofs.Math.Nat.{le-div_iff_mul-le, suc-mul}
 use Rattle.std.proofs.lemmas.Bool.{cases_eq}
 use Rattle.std.proofs.lemmas.Int.{ints, clamps}
@@ -8,7 +8,7 @@ use Rattle.emtp_case.specs.Branch.{from_of, to_of}
 use Rattle.emtp_case.specs.held.Case.{IsCase}
 use Rattle.emtp_case.specs.RunData.{samples_of}
 use Rattle.emtp_case.specs.held.RunData.{IsRun}
-use Rattle.emtp_case.specs.StepRecord.{BranchState, StepRecord, before_start, branch_at_rest, current_of, is_closed, latest, rest_of, switch_state_at, voltage_at}
+use Rattle.emtp_case.specs.StepRecord.{StepRecord, before_start, branch_at_rest, current_of, is_closed, latest, rest_of, switch_state_at, voltage_at}
 use Rattle.emtp_case.specs.declared.branch.Branch.{Branch}
 use Rattle.emtp_case.specs.declared.branch.Branch.TheVariants.{Line as OfLine, Lumped as OfLumped, Phase as OfPhase, Pseudo as OfPseudo}
 use Rattle.emtp_case.specs.declared.case.Parts.{Parts}
@@ -25,7 +25,7 @@ use Rattle.emtp_tacs.specs.Part.{ControlPart}
 use Rattle.emtp_tacs.specs.Step.{control_step}
 use Rattle.emtp_tacs.specs.declared.fault.TacsFault.{TacsFault}
 use Rattle.emtp_machine.proofs.Histories.{count, some_records}
-use Rattle.emtp_machine.proofs.SampleRecords.{AreOf, IsUpTo, last, running}
+use Rattle.emtp_machine.proofs.SampleRecords.{AreOf, last, running}
 use Rattle.emtp_machine.proofs.Sampling.{none_yet, passed, taken}
 use Rattle.emtp_machine.specs.Channels.{channel_value, sample_of, samples_in, within_range}
 use Rattle.emtp_machine.specs.History.{History, advanced, after_step, history, history_upto, samples}

@@ -14,9 +14,9 @@ use Rattle.emtp_machine.specs.declared.end.Cause.{Cause}
 use Rattle.emtp_machine.specs.declared.end.Cause.TheVariants.{Range, Residual, TacsPivot, TacsRange, Tied, ZeroPivot}
 use Rattle.emtp_machine.specs.declared.end.End.{End}
 use Rattle.emtp_net.proofs.Runs.{most_ticks, ticks_of_run}
-use Rattle.emtp_net.specs.held.Redone.{step_ticks, step_ticks_after}
+use Rattle.emtp_net.specs.held.Redone.{step_ticks_after}
 use Rattle.emtp_tacs.proofs.Runs.{most_ticks as most_control_ticks, ticks_of_run as control_ticks_of_run}
-use Rattle.emtp_tacs.specs.held.Redone.{control_step_ticks, control_step_ticks_after}
+use Rattle.emtp_tacs.specs.held.Redone.{control_step_ticks_after}
 
 -- ---- one step
 

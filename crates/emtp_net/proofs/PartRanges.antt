@@ -1,5 +1,5 @@
 -- The voltages and currents of a step that is made are in range.
-use Rattle.std.proofs.Common.{◌≡◌, ◌∙◌, sym, ap, subst, ℕ, ◌<◌, ◌≤◌, ℤ, pos, Bool, true, false, not, All, List, ◌∷◌, length, get_or, map, unsigned_abs, Option, Some, None, IfSome, unwrap_or, Result, Ok, Err, refl, arith}
+use Rattle.std.proofs.Common.{◌≡◌, ◌∙◌, sym, ap, subst, ℕ, ◌<◌, ◌≤◌, ℤ, pos, Bool, true, false, not, All, List, ◌∷◌, length, get_or, map, Option, Some, None, IfSome, unwrap_or, Result, Ok, Err, refl, arith}
 use Rattle.std.specs.List.{range_with_len}
 use Rattle.std.specs.Prelude.{slice_get}
 use Rattle.std.proofs.lemmas.Bool.{leb-true}
@@ -26,7 +26,6 @@ use Rattle.emtp_net.specs.Part.{NetworkPart, first_out, node_of_branch, part_at,
 use Rattle.emtp_net.specs.Residual.{residual_of}
 use Rattle.emtp_net.specs.Step.{balanced, first_beyond, first_unbalanced, moved, node_of_switch, named, network_part, solution, switched, untied}
 use Rattle.emtp_net.specs.System.{matrix, right}
-use Rattle.emtp_net.specs.declared.fault.NetFault.{NetFault}
 use Rattle.emtp_net.specs.declared.fault.NetFault.TheVariants.{Range, Residual}
 
 -- no voltage and no current of the part exceeds its range

@@ -1,7 +1,7 @@
 -- One step of the network: its part of the next record, or the first fault in this order. Two known voltages are tied;
 -- the elimination ends in a fault; a branch, then a switch, leaves its range; a residual exceeds the tolerance.
 use Rattle.std.specs.List.{position, range_with_len}
-use Rattle.std.specs.Prelude.{ℕ, ℤ, pos, unsigned_abs, nat_lt, not, List, length, Option, Some, None, Result, Ok, Err}
+use Rattle.std.specs.Prelude.{ℕ, ℤ, pos, unsigned_abs, nat_lt, not, List, length, Option, Result, Ok, Err}
 pub use Rattle.emtp_case.specs.EndNames.{node_of_switch}
 use Rattle.emtp_case.specs.RowOrder.{order_of}
 use Rattle.emtp_case.specs.StepRecord.{BranchState, StepRecord}

@@ -1,5 +1,5 @@
 -- The current that a pseudo-nonlinear branch keeps of a step is in range.
-use Rattle.std.proofs.Common.{ℤ, Bool, Option, Some, IfSome}
+use Rattle.std.proofs.Common.{ℤ, Bool, Some, IfSome}
 use Rattle.emtp_case.specs.declared.branch.PseudoState.{PseudoState}
 use Rattle.emtp_fix.proofs.Ranges.{IsSmall, chain-all, chain-any, in_range-within}
 use Rattle.emtp_fix.specs.Limit.{in_range, ◌>>=◌}
