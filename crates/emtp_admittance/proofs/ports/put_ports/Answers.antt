@@ -25,12 +25,12 @@ loop-step-preserved c =
     let place : at ≡ length case.branches - 1 - step = ap (λ xs. length xs - 1 - step) c.as_slice-cards.ensures in
     let there : at < length case.branches = omega (arith, below, place) in
     let long : length c.loop-step.out ≡ length case.branches = omega (arith, c.loop-step.auto.out, c.requires.out) in
-    let refused = rw narrow at c.judged_port-port.ensures.refused in
-    let port = rw narrow at c.judged_port-port.ensures.port in
-    let is : c.judged_port-port.result.0 ≡ port_at (ports_of case c.args.freq) at = port ∙ port_here case c.args.freq cards at _ _ c.as_slice-cards.ensures there refl in
+    let refused = rw narrow at c.judged_port-refused.ensures.refused in
+    let port = rw narrow at c.judged_port-refused.ensures.port in
+    let is : c.judged_port-refused.result.0 ≡ port_at (ports_of case c.args.freq) at = port ∙ port_here case c.args.freq cards at _ _ c.as_slice-cards.ensures there refl in
     rw narrow (record {
-      refused = least_more (branch_refused c.args.freq) case.branches cards step at _ _ c.judged_port-port.result.1 c.loop-step.best c.sooner-best.result c.as_slice-cards.ensures below place refl refused was.refused c.sooner-best.ensures;
-      ports = ports_back case c.args.freq c.loop-step.out step at c.judged_port-port.result.0 long below place is c.judged_port-port.ensures.small was.ports;
+      refused = least_more (branch_refused c.args.freq) case.branches cards step at _ _ c.judged_port-refused.result.1 c.loop-step.best c.sooner-best.result c.as_slice-cards.ensures below place refl refused was.refused c.sooner-best.ensures;
+      ports = ports_back case c.args.freq c.loop-step.out step at c.judged_port-refused.result.0 long below place is c.judged_port-refused.ensures.small was.ports;
     })
 
 pub returns-clause-refused : goal.returns-clause-refused
