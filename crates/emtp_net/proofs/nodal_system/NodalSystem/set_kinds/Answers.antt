@@ -49,7 +49,7 @@ returns-in-Ok-clause-room c =
     let whole = with_items_is c.args.self.now.kinds c.kinds.new.out (c.kinds.auto.out ∙ c.deref_mut.ensures.len) in
     record {
       kinds = ap length whole ∙ c.kinds.auto.out ∙ ap length c.deref_mut.ensures.value ∙ has.kinds;
-      ties = λ off. subst AreUntied c.deref-2.ensures.value (c.has_ties.ensures off);
+      ties = λ off. subst AreUntied c.deref-in-Ok.ensures.value (c.has_ties-self.ensures off);
       places = has.places;
       ends = has.ends;
       values = has.values;
