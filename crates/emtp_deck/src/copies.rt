@@ -2,7 +2,7 @@
 //! names.
 
 ghost use Rattle.emtp_case.specs.declared.limit.TheConstants.{MOST_NODES};
-ghost use Rattle.std.specs.Prelude.{◌≡◌, ◌≤◌, ◌<◌, find, length};
+ghost use Rattle.std.specs.Prelude.{◌*◌, ◌≡◌, ◌≤◌, ◌<◌, find, length};
 ghost use Rattle.emtp_case.specs.held.Branch.{IsBranch};
 ghost use Rattle.emtp_case.specs.held.Sizes.{sizes_of};
 ghost use Rattle.emtp_deck.specs.Copies.{is_like, line_numbers, missing_fault, mode_numbers, numbers_of_branch, numbers_of_card, phase_numbers, type_of_branch, type_of_values, values_from};

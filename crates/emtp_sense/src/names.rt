@@ -1,7 +1,7 @@
 //! The names of the nodes, and their numbers.
 
 ghost use Rattle.emtp_case.specs.declared.limit.TheConstants.{MOST_NODES};
-ghost use Rattle.std.specs.Prelude.{◌≡◌, ◌≤◌, [], fold, length, IfErr, OnOk};
+ghost use Rattle.std.specs.Prelude.{◌*◌, ◌≡◌, ◌≤◌, [], fold, length, IfErr, OnOk};
 ghost use Rattle.emtp_walk.specs.held.Answer.{IsWant};
 ghost use Rattle.emtp_sense.specs.Names.{find_node, node_names, node_number, with_ends, with_entry_names, with_name, with_switch_names};
 
