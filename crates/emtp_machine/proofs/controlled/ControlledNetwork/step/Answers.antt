@@ -71,8 +71,8 @@ returns-in-Err-step-clause-case g c = record { network = c.step.ensures.counts.c
 pub returns-in-Err-clause-case : goal.returns-in-Err-clause-case
 returns-in-Err-clause-case g c = record { network = c.step.ensures.counts.case ∙ c.requires.case.network; control = c.requires.case.control }
 
-pub step-2-requires-clause-measured : goal.step-2-requires-clause-measured
-step-2-requires-clause-measured g c =
+pub step-requires-2-clause-measured : goal.step-requires-2-clause-measured
+step-requires-2-clause-measured g c =
     let same : c.step.new.self.case ≡ c.args.self.now.control.case = c.step.ensures.counts.case ∙ c.requires.case.network ∙ sym c.requires.case.control in
     record {
       voltages = c.voltages.ensures.each ∙ ap (λ (p : Parts). length p.nodes + 1) same;
