@@ -1,9 +1,15 @@
-use Rattle.std.proofs.Common.{◌∙◌, ◌+◌, ◌*◌, sym, ap, arith}
+use Rattle.std.proofs.Common.{◌∙◌, ◌+◌, ◌*◌, sym, ap, length, arith}
 use Rattle.std.proofs.lemmas.Int.{ints}
 use Rattle.emtp_case.specs.NodeRows.{node_at}
 use Rattle.emtp_phasor.specs.Volts.{source_phasors_into}
-use Rattle.emtp_phasor.proofs.Sourcing.{brought_imaginary, brought_real}
+use Rattle.emtp_phasor.proofs.Sourcing.{brought_imaginary, brought_real, length-brought}
 use Rattle.emtp_phasor.proofs.sources.brought_at.Goals as goal
+
+pub bounds-brought-row : goal.bounds-brought-row
+bounds-brought-row c = omega (arith, c.requires.row, ap length c.requires.network.brought_are, length-brought c.args.network.case.now.parts)
+
+pub bounds-brought-row-else-imaginary : goal.bounds-brought-row-else-imaginary
+bounds-brought-row-else-imaginary c = omega (arith, c.requires.row, ap length c.requires.network.brought_are, length-brought c.args.network.case.now.parts)
 
 pub returns-then-imaginary-clause-value : goal.returns-then-imaginary-clause-value
 returns-then-imaginary-clause-value c =

@@ -48,7 +48,7 @@ returns-in-Ok-clause-solved g c =
     let ports : c.deref.result.now ≡ ports_of case c.args.freq = c.deref.ensures.value ∙ c.requires.ports.are in
     let kinds : c.deref-2.result.now ≡ resting_kinds case = c.deref-2.ensures.value ∙ c.requires.ready.kinds_are in
     let right : c.deref-in-Ok.result.now ≡ steady_right case = c.deref-in-Ok.ensures.value ∙ c.requires.ready.right_is in
-    let x = take_at c.solve_right.new.x (drop (length c.solve_right.new.x) old.x.items) old.x.len (omega (arith, c.solve_right.auto.x, c.deref_mut-in-Ok-2.ensures.len)) in
+    let x = take_at c.solve_right.new.x (drop (length c.solve_right.new.x) old.x.items) old.x.len (omega (arith, c.solve_right.auto.x, c.deref_mut-in-Ok.ensures.len)) in
     let Right : List ℤ → Result (List ℤ) PlainFault = λ xs. Ok xs in
     on_ok_weaker c.solve_right.result
     (λ solves. solved_at case c.args.freq c.deref.result.now c.deref-2.result.now c.eliminate_rows.new.done.rows c.deref-in-Ok.result.now c.solve_right.new.x ports kinds right c.in-Ok.ensures.finished solves
