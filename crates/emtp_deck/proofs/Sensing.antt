@@ -1,6 +1,6 @@
 -- What an entry without a fault of sense gives its records.
 use Rattle.emtp_case.specs.declared.limit.TheConstants.{MOST_BRANCHES, MOST_CHANNELS, MOST_HISTORY_VALUES, MOST_NODES}
-use Rattle.std.proofs.Common.{◌≡◌, ℕ, ◌+◌, ◌<◌, ◌≤◌, List, [], ◌∷◌, length, None, arith}
+use Rattle.std.proofs.Common.{◌*◌, ◌≡◌, ℕ, ◌+◌, ◌<◌, ◌≤◌, List, [], ◌∷◌, length, None, arith}
 use Rattle.std.specs.Prelude.{All, nat_lt}
 use Rattle.emtp_card.proofs.Faults.{least_none}
 use Rattle.emtp_case.specs.HistoryValues.{history_values_of}

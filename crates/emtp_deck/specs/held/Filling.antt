@@ -1,6 +1,6 @@
 -- What is made of the cards, as the program holds it.
 use Rattle.emtp_case.specs.declared.limit.TheConstants.{MOST_CHANNELS, MOST_NODES}
-use Rattle.std.specs.Prelude.{◌≡◌, ◌≤◌, All, [], length, Result, Ok, Err}
+use Rattle.std.specs.Prelude.{◌*◌, ◌≡◌, ◌≤◌, All, [], length, Result, Ok, Err}
 use Rattle.emtp_card.specs.declared.reason.Bad.{Bad}
 use Rattle.emtp_card.specs.declared.reason.Refused.{Refused}
 use Rattle.emtp_card.specs.declared.reason.Refused.TheVariants.{Bad as OfBad, NoMemory}
