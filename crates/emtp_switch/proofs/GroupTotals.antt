@@ -21,13 +21,14 @@ use Rattle.emtp_switch.specs.held.Tree.{HasEnds, link_at, side_total}
 use Rattle.emtp_switch.specs.declared.sweep.Link.{Link}
 use Rattle.emtp_switch.proofs.Cuts.{each_among}
 use Rattle.emtp_switch.proofs.Finding.{groups-bridges}
-use Rattle.emtp_switch.proofs.Flows.{sum_below-none, sum_below-one}
+use Rattle.emtp_switch.proofs.Flows.{sum_below-none, sum_below-one, by_nothing}
 use Rattle.emtp_switch.proofs.FoundCurrents.{contains_is, is_contained}
 use Rattle.emtp_switch.proofs.GrownTree.{one_row}
 use Rattle.emtp_switch.proofs.Kirchhoff.{ends_at, held_one, one_place}
 use Rattle.emtp_switch.proofs.Labels.{OneLabel, groups-joins}
 use Rattle.emtp_switch.proofs.Plans.{once_each}
 use Rattle.emtp_switch.proofs.Sides.{among_from, root_of_ground, root_same}
+use Rattle.emtp_switch.proofs.Growth.{over_if}
 
 -- the places of a group
 abbrev in_group : Rows → List ℕ → ℕ → ℕ → Bool
@@ -36,12 +37,6 @@ in_group rows labels l place = slice_index labels (slice_index rows.nodes place)
 both_in : (b : Bool) (i : ℤ) → leaving_by b b i ≡ pos 0
 both_in true i = omega (arith, ints)
 both_in false i = refl
-
-none_in : (a b : Bool) (i : ℤ) → i ≡ pos 0 → leaving_by a b i ≡ pos 0
-none_in true true i e = omega (arith, ints, e)
-none_in true false i e = omega (arith, ints, e)
-none_in false true i e = omega (arith, ints, e)
-none_in false false i e = refl
 
 -- no switch carries a current out of a group
 within_group : (switches : List Switch) (rows : Rows) (states : List SwitchState) (links : List Link) (flows : List ℤ) (l s : ℕ) → EndWithin switches (length (alone (length rows.nodes))) → AreTree switches rows states links
@@ -59,20 +54,16 @@ within_group switches rows states links flows l s within tree still =
           ap (λ ls. slice_index ls (from_at switches s)) (sym same) ∙ one ∙ ap (λ ls. slice_index ls (to_at switches s)) same in
           ap (λ (k : ℕ). leaving_by (k == l) (slice_index labels (to_at switches s) == l) (item flows s)) here ∙ both_in (slice_index labels (to_at switches s) == l) (item flows s)
       | inr off ↦
-          none_in (slice_index labels (from_at switches s) == l) (slice_index labels (to_at switches s) == l) (item flows s)
+          by_nothing (slice_index labels (from_at switches s) == l) (slice_index labels (to_at switches s) == l) (item flows s)
           (still s (λ j below e. both_ways (contains es s) off (ap (contains es) (sym e) ∙ is_contained es (link_at links j).switch (tree.tree.bridge j below))))
     ]
 
 group_ends : (switches : List Switch) (rows : Rows) (states : List SwitchState) (links : List Link) (labels : List ℕ) (l : ℕ) → AreTree switches rows states links
     → HasEnds links (in_group rows labels l) (λ s. slice_index labels (from_at switches s) == l) (λ s. slice_index labels (to_at switches s) == l)
 group_ends switches rows states links labels l tree = record {
-  leaf_in = λ j below. let k = link_at links j in ap (λ (x : ℕ). slice_index labels x == l) (tree.tree.leaf_end j below) ∙ over_if k.leaves (from_at switches k.switch) (to_at switches k.switch);
-  near_in = λ j below. let k = link_at links j in ap (λ (x : ℕ). slice_index labels x == l) (tree.tree.near_end j below) ∙ over_if k.leaves (to_at switches k.switch) (from_at switches k.switch);
+  leaf_in = λ j below. let k = link_at links j in ap (λ (x : ℕ). slice_index labels x == l) (tree.tree.leaf_end j below) ∙ over_if (λ x. slice_index labels x == l) k.leaves (from_at switches k.switch) (to_at switches k.switch);
+  near_in = λ j below. let k = link_at links j in ap (λ (x : ℕ). slice_index labels x == l) (tree.tree.near_end j below) ∙ over_if (λ x. slice_index labels x == l) k.leaves (to_at switches k.switch) (from_at switches k.switch);
 }
-  where
-    over_if : (leaves : Bool) (a b : ℕ) → (slice_index labels (if leaves then a else b) == l) ≡ (if leaves then slice_index labels a == l else slice_index labels b == l)
-    over_if true a b = refl
-    over_if false a b = refl
 
 -- ground isn't in the group of a root that is a node
 ground_out : (p : Parts) (rows : Rows) (labels : List ℕ) (row : ℕ) → IsRowOrder p rows → row < length rows.nodes → slice_index rows.nodes row ≡ root_of rows labels (slice_index rows.nodes row)

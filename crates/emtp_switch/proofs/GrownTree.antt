@@ -22,6 +22,7 @@ use Rattle.emtp_switch.proofs.Growth.{IsGrown, far_new, fewer_left, grown_links,
 use Rattle.emtp_switch.proofs.Labels.{length-groups}
 use Rattle.emtp_switch.proofs.Plans.{once_each}
 use Rattle.emtp_switch.proofs.Regrouping.{labels_small, rank_is, rows_within}
+use Rattle.emtp_switch.proofs.Cuts.{cases_same}
 
 -- ---- places
 
@@ -48,12 +49,6 @@ one_row nodes once i j in_i in_j same = elim (cases_lt i j) [
 
 -- ---- a bridge that is half reached
 
-same_or_not : (a b : Bool) → (a ≡ b) ⊎ (a ≢ b)
-same_or_not true true = inl refl
-same_or_not true false = inr (λ e. absurd (cc))
-same_or_not false true = inr (λ e. absurd (cc))
-same_or_not false false = inl refl
-
 record IsHalfReached (switches : List Switch) (reached : List Bool) (es : List ℕ) : Type 0 where
   switch : ℕ
   there : Contains es switch
@@ -65,7 +60,7 @@ Agrees switches reached s = is_reached reached (from_at switches s) ≡ is_reach
 
 half_or_all : (switches : List Switch) (reached : List Bool) (es : List ℕ) → IsHalfReached switches reached es ⊎ All (Agrees switches reached) es
 half_or_all switches reached [] = inr (All-nil (Agrees switches reached))
-half_or_all switches reached (s ∷ es) = elim (same_or_not (is_reached reached (from_at switches s)) (is_reached reached (to_at switches s))) [
+half_or_all switches reached (s ∷ es) = elim (cases_same (is_reached reached (from_at switches s)) (is_reached reached (to_at switches s))) [
   | inr ne ↦ inl (record { switch = s; there = (0, omega arith, refl); half = ne })
   | inl same ↦ elim (half_or_all switches reached es) [
     | inl h ↦ let (k, below, at) = h.there in inl (record { switch = h.switch; there = (suc k, omega (arith, below), at); half = h.half })

@@ -1,5 +1,5 @@
 -- Kirchhoff's law at the nodes that closed switches join.
-use Rattle.std.proofs.Common.{◌≡◌, ◌≢◌, ℕ, ◌<◌, ◌≤◌, ◌==◌, ◌++◌, ◌∷◌, [], ℤ, pos, ◌+ℤ◌, Bool, true, false, if◌then◌else◌, List, length, slice_index, refl, ap, sym, ◌∙◌, inl, inr, arith}
+use Rattle.std.proofs.Common.{◌≡◌, ◌≢◌, ℕ, ◌<◌, ◌≤◌, ◌==◌, ◌++◌, ◌∷◌, [], ℤ, pos, ◌+ℤ◌, Bool, if◌then◌else◌, List, length, slice_index, refl, ap, sym, ◌∙◌, inl, inr, arith}
 use Rattle.std.proofs.lemmas.Bool.{cases_eq, cases_lt, eq-eqb, ne_eqb, cond-true, cond-false}
 use Rattle.std.proofs.lemmas.Int.{ints}
 use Rattle.std.proofs.lemmas.List.{get_or_append_left, get_or_past, length_push}
@@ -20,6 +20,7 @@ use Rattle.emtp_switch.specs.declared.sweep.Link.{Link}
 use Rattle.emtp_switch.proofs.Finding.{groups-bridges}
 use Rattle.emtp_switch.proofs.Flows.{sum_below-none, sum_below-one}
 use Rattle.emtp_switch.proofs.Plans.{once_each}
+use Rattle.emtp_switch.proofs.Growth.{over_if}
 
 -- a side of one place
 abbrev pub one_place : ℕ → ℕ → Bool
@@ -61,15 +62,11 @@ ends_at p rows states links is tree row in_row =
     record {
       leaf_in = λ j below.
           let l = link_at links j in
-          same_place p rows is l.leaf row (omega (arith, tree.links_are.leaf_there j below)) in_row ∙ ap (λ x. x == node) (tree.tree.leaf_end j below) ∙ over_if l.leaves (from_at p.switches l.switch) (to_at p.switches l.switch) node;
+          same_place p rows is l.leaf row (omega (arith, tree.links_are.leaf_there j below)) in_row ∙ ap (λ x. x == node) (tree.tree.leaf_end j below) ∙ over_if (λ x. x == node) l.leaves (from_at p.switches l.switch) (to_at p.switches l.switch);
       near_in = λ j below.
           let l = link_at links j in
-          same_place p rows is l.near row (omega (arith, tree.links_are.near_there j below)) in_row ∙ ap (λ x. x == node) (tree.tree.near_end j below) ∙ over_if l.leaves (to_at p.switches l.switch) (from_at p.switches l.switch) node;
+          same_place p rows is l.near row (omega (arith, tree.links_are.near_there j below)) in_row ∙ ap (λ x. x == node) (tree.tree.near_end j below) ∙ over_if (λ x. x == node) l.leaves (to_at p.switches l.switch) (from_at p.switches l.switch);
     }
-  where
-    over_if : (leaves : Bool) (a b node : ℕ) → ((if leaves then a else b) == node) ≡ (if leaves then a == node else b == node)
-    over_if true a b node = refl
-    over_if false a b node = refl
 
 pub balances : (p : Parts) (rows : Rows) (states : List SwitchState) (links : List Link) (leaving first rest flows : List ℤ) (n : ℕ) → IsRowOrder p rows → AreTree p.switches rows states links
     → length rows.nodes ≡ length leaving → length p.switches ≡ n → first ≡ leaving ++ pos 0 ∷ [] → length rest ≡ length first

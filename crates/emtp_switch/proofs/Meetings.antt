@@ -3,12 +3,14 @@ use Rattle.std.proofs.Common.{◌≡◌, ◌≢◌, ◌⊎◌, ◌↔◌, ◌<�
 use Rattle.std.specs.List.{All, Contains}
 use Rattle.std.proofs.lemmas.Bool.{cases_Bool, cases_eq, cond-false, cond-true, eq-eqb, eqb-true, ne_eqb, true≢false}
 use Rattle.std.proofs.lemmas.List.Folds.{Any-from_list_any, list_any-from_Any}
-use Rattle.std.proofs.lemmas.List.FromFn.{get_or-range_with_len, length-range_with_len}
+use Rattle.std.proofs.lemmas.List.FromFn.{length-range_with_len}
 use Rattle.emtp_case.specs.RowOrder.{Rows}
 use Rattle.emtp_case.specs.declared.switch.Switch.{Switch}
 use Rattle.emtp_switch.specs.Groups.{alone, divides, first_tied, from_at, groups, join, known_nodes, knows, ties, to_at}
 use Rattle.emtp_switch.specs.held.Groups.{EndWithin, KnownMeet}
 use Rattle.emtp_switch.proofs.Labels.{groups-keeps, join-at, join-keeps, length-join, moved, moved_at, moved_from, moved_off, within_more}
+use Rattle.std.proofs.lemmas.List.Elements.{All-contains}
+use Rattle.emtp_switch.proofs.Plans.{own_label}
 
 -- two of some nodes, of different groups at first, that come into one
 record Meet (known labels final : List ℕ) : Type 0 where
@@ -26,9 +28,6 @@ known_one : (known labels : List ℕ) (l : ℕ) → knows known labels l ≡ tru
 known_one known labels l on =
     let (i, k, below, is, at) = Any-from_list_any (λ x. slice_index labels x == l) known on in
     (k, (i, below, is), eqb-true (slice_index labels k) l at)
-
-within : (known : List ℕ) (n k : ℕ) → All (λ x. x < n) known → Contains known k → k < n
-within known n k all (i, below, is) = subst (λ x. x < n) is (all i k below)
 
 -- labels that a join makes one were those of its ends
 unjoined : (f t a b : ℕ) → moved f t a ≡ moved f t b → a ≢ b → ((a ≡ f) × (b ≡ t)) ⊎ ((a ≡ t) × (b ≡ f))
@@ -67,7 +66,7 @@ none_meet switches known labels (s ∷ es) w all none a b in_a in_b e = elim (ca
       let joined = none_meet switches known (join switches labels s) es (within_more switches labels s w) (subst (λ n. All (λ k. k < n) known) (sym long) all) rest a b in_a in_b e in
       let f = slice_index labels (from_at switches s) in
       let t = slice_index labels (to_at switches s) in
-      let one = sym (join-at switches labels s a (within known (length labels) a all in_a)) ∙ joined ∙ join-at switches labels s b (within known (length labels) b all in_b) in
+      let one = sym (join-at switches labels s a (All-contains (λ k. k < length labels) known a all in_a)) ∙ joined ∙ join-at switches labels s b (All-contains (λ k. k < length labels) known b all in_b) in
       elim (cases_eq (slice_index labels a) (slice_index labels b)) [
         | inl same ↦ same
         | inr ne ↦ absurd (true≢false (elim (unjoined f t (slice_index labels a) (slice_index labels b) one ne) [
@@ -89,8 +88,8 @@ some_meet switches known labels (x ∷ es) s w all some = elim (cases_Bool (ties
       let (divided, at_f, at_t) = each_of (divides switches labels x) (knows known labels f) (knows known labels t) on in
       let (a, in_a, is_a) = known_one known labels f at_f in
       let (b, in_b, is_b) = known_one known labels t at_t in
-      let below_a = within known (length labels) a all in_a in
-      let below_b = within known (length labels) b all in_b in
+      let below_a = All-contains (λ k. k < length labels) known a all in_a in
+      let below_b = All-contains (λ k. k < length labels) known b all in_b in
       let one = join-at switches labels x a below_a ∙ ap (moved f t) is_a ∙ moved_from f t ∙ sym (join-at switches labels x b below_b ∙ ap (moved f t) is_b ∙ moved_at f t t refl) in
       record {
         one = a;
@@ -108,7 +107,7 @@ some_meet switches known labels (x ∷ es) s w all some = elim (cases_Bool (ties
         other = m.other;
         one_known = m.one_known;
         other_known = m.other_known;
-        apart = λ e. m.apart (join-keeps switches labels x m.one m.other (within known (length labels) m.one all m.one_known) (within known (length labels) m.other all m.other_known) e);
+        apart = λ e. m.apart (join-keeps switches labels x m.one m.other (All-contains (λ k. k < length labels) known m.one all m.one_known) (All-contains (λ k. k < length labels) known m.other all m.other_known) e);
         together = m.together;
       }
 ]
@@ -139,9 +138,6 @@ tied_where_they_meet switches rows es ends below = (there, back)
     all : All (λ k. k < length (alone n)) (known_nodes rows)
     all = subst (λ m. All (λ k. k < m) (known_nodes rows)) (sym long) below
 
-    own : (x : ℕ) → x < n + 1 → slice_index (alone n) x ≡ x
-    own x inside = omega (arith, get_or-range_with_len 0 (n + 1) x 0 inside)
-
     there : IsSome (first_tied switches (known_nodes rows) (alone n) es) → KnownMeet rows (groups switches (alone n) es)
     there some = by_cases (first_tied switches (known_nodes rows) (alone n) es) refl some
       where
@@ -157,5 +153,5 @@ tied_where_they_meet switches rows es ends below = (there, back)
         by_cases : (o : Option ℕ) → first_tied switches (known_nodes rows) (alone n) es ≡ o → IsSome o
         by_cases None e =
             let same = none_meet switches (known_nodes rows) (alone n) es w all e m.one m.other m.one_known m.other_known m.together in
-            absurd (m.apart (sym (own m.one (within (known_nodes rows) (n + 1) m.one below m.one_known)) ∙ same ∙ own m.other (within (known_nodes rows) (n + 1) m.other below m.other_known)))
+            absurd (m.apart (sym (own_label n m.one (All-contains (λ k. k < n + 1) (known_nodes rows) m.one below m.one_known)) ∙ same ∙ own_label n m.other (All-contains (λ k. k < n + 1) (known_nodes rows) m.other below m.other_known)))
         by_cases (Some s) e = refl

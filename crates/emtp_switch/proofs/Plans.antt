@@ -3,7 +3,7 @@ use Rattle.std.proofs.Common.{◌≡◌, ℕ, ◌+◌, ◌<◌, ◌≤◌, ◌==
 use Rattle.std.specs.List.{list_any, range_with_len}
 use Rattle.std.proofs.lemmas.Bool.{cases_eq, cases_lt, eq-eqb, ne_eqb, or_left, or_right}
 use Rattle.std.proofs.Math.Bool.{or-false}
-use Rattle.std.proofs.lemmas.List.{drop_all, get_or_past, get_or-set_other, get_or-set_same, take_all, take_more}
+use Rattle.std.proofs.lemmas.List.{get_or_past, get_or-set_other, get_or-set_same, take_more, drop_min, take_min}
 use Rattle.std.proofs.lemmas.List.Folds.{list_any-append}
 use Rattle.std.proofs.lemmas.List.FromFn.{get_or-range_with_len, length-range_with_len, map-range_with_len_more}
 use Rattle.std.proofs.lemmas.List.Sorted.{length_permutation}
@@ -29,16 +29,14 @@ ends_more p n old new e are is pushed =
 
 -- the number of rows of sources, where it is not above that of all rows
 pub take_least : (nodes : List ℕ) (fixed least : ℕ) → least ≡ min fixed (length nodes) → take least nodes ≡ take fixed nodes
-take_least nodes fixed least is = ⊎_elim
-    (λ (few : fixed < length nodes). let same : least ≡ fixed = omega (arith, is) in ap (λ k. take k nodes) same)
-    (λ (many : length nodes ≤ fixed). take_all least nodes (omega (arith, is)) ∙ sym (take_all fixed nodes many))
-    (cases_lt fixed (length nodes))
+take_least nodes fixed least is = ap (λ k. take k nodes) is ∙ take_min fixed nodes
 
 pub drop_least : (nodes : List ℕ) (fixed least : ℕ) → least ≡ min fixed (length nodes) → drop least nodes ≡ drop fixed nodes
-drop_least nodes fixed least is = ⊎_elim
-    (λ (few : fixed < length nodes). let same : least ≡ fixed = omega (arith, is) in ap (λ k. drop k nodes) same)
-    (λ (many : length nodes ≤ fixed). drop_all least nodes (omega (arith, is)) ∙ sym (drop_all fixed nodes many))
-    (cases_lt fixed (length nodes))
+drop_least nodes fixed least is = ap (λ k. drop k nodes) is ∙ drop_min fixed nodes
+
+-- where each node is alone, its label is its own number
+pub own_label : (n x : ℕ) → x < n + 1 → slice_index (alone n) x ≡ x
+own_label n x inside = omega (arith, get_or-range_with_len 0 (n + 1) x 0 inside)
 
 -- one node more is known
 pub known_more : (nodes : List ℕ) (n row node : ℕ) (known : List Bool) → length known ≡ n + 1 → row < length nodes → slice_index nodes row ≡ node → node ≤ n
@@ -46,10 +44,9 @@ pub known_more : (nodes : List ℕ) (n row node : ℕ) (known : List Bool) → l
     → (x : ℕ) → x ≤ n → is_reached (slice_set known node true) x ≡ knows (0 ∷ take (row + 1) nodes) (alone n) x
 known_more nodes n row node known size inside is there are x within =
     let f : ℕ → Bool = λ k. slice_index (alone n) k == x in
-    let own : slice_index (alone n) node ≡ node = omega (arith, get_or-range_with_len 0 (n + 1) node 0 (omega arith)) in
     let grown : knows (0 ∷ take (row + 1) nodes) (alone n) x ≡ (knows (0 ∷ take row nodes) (alone n) x || (node == x || false))
     = ap (λ l. list_any f (0 ∷ l)) (take_more nodes row 0 inside) ∙ list_any-append f (0 ∷ take row nodes) (slice_index nodes row ∷ []) ∙ ap (λ k. knows (0 ∷ take row nodes) (alone n) x || (slice_index (alone n) k == x || false)) is
-    ∙ ap (λ k. knows (0 ∷ take row nodes) (alone n) x || (k == x || false)) own in
+    ∙ ap (λ k. knows (0 ∷ take row nodes) (alone n) x || (k == x || false)) (own_label n node (omega arith)) in
     elim (cases_eq x node) [
       | inl here ↦
           ap (is_reached (slice_set known node true)) here ∙ get_or-set_same known node true false (omega (arith, size))
@@ -63,7 +60,7 @@ pub known_are : (rows : Rows) (n least : ℕ) (known : List Bool) → n ≡ leng
     → MarksKnown (known_nodes rows) (alone n) known
 known_are rows n least known size least_is are = λ x below.
     let long : length (alone n) ≡ n + 1 = length-range_with_len 0 (n + 1) in
-    let own : slice_index (alone n) x ≡ x = omega (arith, get_or-range_with_len 0 (n + 1) x 0 (omega (arith, long))) in
+    let own : slice_index (alone n) x ≡ x = own_label n x (omega (arith, long)) in
     ap (is_reached known) own ∙ are x (omega (arith, long)) ∙ ap (λ l. knows (0 ∷ l) (alone n) x) (take_least rows.nodes rows.fixed least (least_is ∙ ap (min rows.fixed) size)) ∙ ap (knows (known_nodes rows) (alone n)) (sym own)
 
 -- the ends of all switches of a case

@@ -1,10 +1,10 @@
 -- The kinds fit the order of the rows: sources come first, and ties name rows.
-use Rattle.std.proofs.Common.{◌≡◌, ◌≢◌, ◌∙◌, ℕ, zero, suc, ◌+◌, ◌<◌, ◌≤◌, ◌==◌, ◌++◌, ◌∷◌, [], Bool, true, false, if◌then◌else◌, List, length, map, drop, reverse, slice_index, slice_index_or, nat_lt, Some, None, refl, ap, sym, subst, inl, inr, arith}
-use Rattle.std.specs.List.{All, Contains, find, position_or_len, range_with_len}
+use Rattle.std.proofs.Common.{◌≡◌, ◌≢◌, ◌∙◌, ℕ, suc, ◌+◌, ◌<◌, ◌≤◌, ◌==◌, ◌∷◌, [], Bool, true, false, if◌then◌else◌, List, length, map, drop, reverse, slice_index, slice_index_or, nat_lt, Some, None, refl, ap, sym, subst, inl, inr, arith}
+use Rattle.std.specs.List.{All, Contains, position_or_len, range_with_len}
 use Rattle.std.specs.Option.{unwrap_or}
 use Rattle.std.proofs.lemmas.Bool.{cases_Bool, cases_eq, cases_lt, cond-false, cond-true, eq-eqb, eqb-true, lt-ltb, ne_eqb, true≢false}
 use Rattle.std.proofs.lemmas.List.{get_or_default, get_or-map, get_or-take, length-map, length-take}
-use Rattle.std.proofs.lemmas.List.Elements.{All-filter, All-map}
+use Rattle.std.proofs.lemmas.List.Elements.{All-filter, All-map, All-contains}
 use Rattle.std.proofs.lemmas.List.FromFn.{get_or-range_with_len, length-range_with_len}
 use Rattle.std.proofs.lemmas.List.Sums.{fails_before_first}
 use Rattle.emtp_case.proofs.RowTables.{node_there, nodes_within}
@@ -21,29 +21,10 @@ use Rattle.emtp_switch.specs.held.Groups.{EndWithin}
 use Rattle.emtp_switch.specs.Kinds.{count_members, is_empty, kind_by, kind_of, kinds_of, row_of}
 use Rattle.emtp_switch.specs.held.Plan.{IsPlan}
 use Rattle.emtp_switch.specs.declared.plan.Plan.{Plan}
-use Rattle.emtp_switch.proofs.GroupRoots.{root_within}
+use Rattle.emtp_switch.proofs.GroupRoots.{root_within, first_in}
 use Rattle.emtp_switch.proofs.Meetings.{none_meet}
-use Rattle.emtp_switch.proofs.Plans.{once_each}
+use Rattle.emtp_switch.proofs.Plans.{once_each, own_label}
 use Rattle.emtp_switch.proofs.Regrouping.{known_within, rank_is, rows_within}
-
--- the first of a list that passes, whatever stands behind the list
-record IsFirst (p : ℕ → Bool) (xs : List ℕ) (y : ℕ) : Type 0 where
-  found : (more : List ℕ) → find p (xs ++ more) ≡ Some y
-  passes : p y ≡ true
-  there : Contains xs y
-
-first_in : (p : ℕ → Bool) (xs : List ℕ) (x : ℕ) → Contains xs x → p x ≡ true → (y : ℕ) × IsFirst p xs y
-first_in p [] x (i, below, is) passes = absurd (omega (arith, below))
-first_in p (k ∷ xs) x (zero, below, is) passes =
-    let on : p k ≡ true = ap p is ∙ passes in
-    (k, record { found = λ more. cond-true (p k) (Some k) (find p (xs ++ more)) on; passes = on; there = (0, omega arith, refl) })
-first_in p (k ∷ xs) x (suc i, below, is) passes = elim (cases_Bool (p k)) [
-  | inl on ↦ (k, record { found = λ more. cond-true (p k) (Some k) (find p (xs ++ more)) on; passes = on; there = (0, omega arith, refl) })
-  | inr off ↦
-      let (y, first) = first_in p xs x (i, omega (arith, below), is) passes in
-      let (j, inside, at) = first.there in
-      (y, record { found = λ more. cond-false (p k) (Some k) (find p (xs ++ more)) off ∙ first.found more; passes = first.passes; there = (suc j, omega (arith, inside), at) })
-]
 
 -- a node stands no later than at a place where it is
 first_no_later : (nodes : List ℕ) (node i : ℕ) → slice_index nodes i ≡ node → i < length nodes → position_or_len (λ k. k == node) nodes ≤ i
@@ -67,14 +48,8 @@ root_is_source p rows states i order within none early inside =
     let known = known_within rows (rows_within p rows order) in
     let all : All (λ k. k < length (alone n)) (known_nodes rows) = subst (λ m. All (λ k. k < m) (known_nodes rows)) (sym long) known in
     let meets = none_meet p.switches (known_nodes rows) (alone n) (closed_switches states) ends all none root node first.there there (eqb-true (slice_index labels root) (slice_index labels node) first.passes) in
-    let low : root < n + 1 = at_most (known_nodes rows) (n + 1) root known first.there in
-    ap (λ o. unwrap_or o 0) (first.found (reverse (drop rows.fixed rows.nodes))) ∙ sym (own n root low) ∙ meets ∙ own n node (omega (arith, rows_within p rows order i inside))
-  where
-    own : (n x : ℕ) → x < n + 1 → slice_index (alone n) x ≡ x
-    own n x inside = omega (arith, get_or-range_with_len 0 (n + 1) x 0 inside)
-
-    at_most : (known : List ℕ) (n k : ℕ) → All (λ x. x < n) known → Contains known k → k < n
-    at_most known n k all (i, below, is) = subst (λ x. x < n) is (all i k below)
+    let low : root < n + 1 = All-contains (λ k. k < n + 1) (known_nodes rows) root known first.there in
+    ap (λ o. unwrap_or o 0) (first.found (reverse (drop rows.fixed rows.nodes))) ∙ sym (own_label n root low) ∙ meets ∙ own_label n node (omega (arith, rows_within p rows order i inside))
 
 -- the row of the root of its own group, with a known voltage
 pub by_source : (rows : Rows) (node : ℕ) (empty single : Bool) → node ≢ 0 → row_of rows node < rows.fixed → kind_by rows node node empty single ≡ OfSource
