@@ -1,3 +1,3 @@
+mod GivenLines
 mod Notes
-mod RunLines
 mod Texts

@@ -1,14 +1,13 @@
 -- What the miscellaneous cards say that no case keeps: TMAX as it was written, and IOUT.
 use Rattle.std.specs.List.{starts_with}
-use Rattle.std.specs.Prelude.{◌+◌, ◌++◌, ◌∷◌, ◌^◌, [], List, Option, Some, None, Result, Ok, Err, codes, decimal, if◌then◌else◌, nat_eq, pos, ℕ, ℤ}
-use Rattle.emtp_card.specs.Lines.{is_comment}
+use Rattle.std.specs.Prelude.{◌++◌, ◌^◌, [], List, Option, Some, None, Result, Ok, Err, codes, decimal, if◌then◌else◌, nat_eq, pos, ℕ, ℤ}
 use Rattle.emtp_card.specs.Number.{number_field}
 use Rattle.emtp_card.specs.Whole.{whole_field}
 use Rattle.emtp_card.specs.declared.reason.Why.{Why}
+use Rattle.emtp_inspect.specs.EachCard.{each_card}
 use Rattle.emtp_listing.specs.Entry.{figure_entry, number_entry}
-use Rattle.emtp_warnings.specs.Section.{next_section}
 use Rattle.emtp_warnings.specs.declared.section.Section.{Section}
-use Rattle.emtp_warnings.specs.declared.section.Section.TheVariants.{Begin, First, Second}
+use Rattle.emtp_warnings.specs.declared.section.Section.TheVariants.{First, Second}
 
 -- TMAX, which no card of a case lacks
 abbrev pub end_text : Result (Option ℤ) Why → List ℕ
@@ -39,14 +38,6 @@ card_text number line First = if starts_with nat_eq line (codes "RESIDUAL TOLERA
 card_text number line Second = second_text number line
 card_text number line section = []
 
-abbrev pub line_text : ℕ → List ℕ → Section → List ℕ
-line_text number line section = if is_comment line then [] else card_text number line section
-
--- those of the lines from a number on
-abbrev pub run_cards : ℕ → Section → List (List ℕ) → List ℕ
-run_cards number section [] = []
-run_cards number section (line ∷ lines) = line_text number line section ++ run_cards (number + 1) (next_section number line section) lines
-
--- those of the lines of a case
+-- a line for each of them
 abbrev pub run_text : List (List ℕ) → List ℕ
-run_text lines = run_cards 1 Begin lines
+run_text lines = each_card card_text lines

@@ -5,6 +5,8 @@ use Rattle.emtp_card.specs.Lines.{lines_of}
 use Rattle.emtp_card.specs.declared.reason.Bad.{Bad}
 use Rattle.emtp_case.specs.declared.case.Parts.{Parts}
 use Rattle.emtp_deck.specs.Deck.{deck_of}
+use Rattle.emtp_inspect.specs.ChannelCards.{channels_text}
+use Rattle.emtp_inspect.specs.CopyCards.{copies_text}
 use Rattle.emtp_inspect.specs.RunCards.{run_text}
 use Rattle.emtp_inspect.specs.Section.{place_before, section_text, whole_count}
 use Rattle.emtp_inspect.specs.declared.telling.Told.{Told}
@@ -55,9 +57,13 @@ refused_text lines bad = refused_at lines bad (place_before lines (bad.line - 1)
 
 -- ---- a case that is accepted
 
--- its listing, what the miscellaneous cards say besides, and below it its warnings; or how many these are
+-- what the cards say that no case keeps: the miscellaneous ones, those that copy, and those that ask for channels
+abbrev pub cards_text : List (List ℕ) → Parts → List ℕ
+cards_text lines case = run_text lines ++ copies_text lines case ++ channels_text lines case
+
+-- its listing, what the cards say besides, and below it its warnings; or how many these are
 abbrev pub answer_text : Wanted → List (List ℕ) → Parts → List ℕ
-answer_text Listing lines case = listing case ++ run_text lines ++ warnings_text (warnings lines case)
+answer_text Listing lines case = listing case ++ cards_text lines case ++ warnings_text (warnings lines case)
 answer_text WarningCount lines case = decimal (length (warnings lines case)) ++ codes "\n"
 
 -- ---- the whole

@@ -1,9 +1,9 @@
 //! The command `show CASE`: what was read of a case.
 //!
-//! [`inspect`] reads the file of a case, and leaves the listing of its records (`emtp_listing`) with what its miscellaneous
-//! cards say besides, and the warnings below it (`emtp_warnings`), or how many warnings there are; or it tells which card is
-//! refused, as what it was read, and the records before it. It stands on `emtp_deck` for cases, on `emtp_walk` for the place of a card, on `emtp_io` for the
-//! files, and has statuses and notes of `emtp_run`.
+//! [`inspect`] reads the file of a case, and leaves the listing of its records (`emtp_listing`) with what its cards say
+//! besides, and the warnings below it (`emtp_warnings`), or how many warnings there are; or it tells which card is refused, as
+//! what it was read, and the records before it. It stands on `emtp_deck` for cases, on `emtp_walk` for the place of a card, on
+//! `emtp_netcards` and `emtp_taccards` for cards, on `emtp_io` for the files, and has statuses and notes of `emtp_run`.
 //!
 //! ```text
 //! let words = [breaker.case];
@@ -13,11 +13,14 @@
 //! - `words`: what the words ask for
 //! - `showing`: the file that is read, and the output that is made
 //! - `telling`: the text that the bytes of a file give
-//! - `run_cards`: what the miscellaneous cards say that no case keeps
+//! - `each_card`, `run_cards`, `copy_cards`, `channel_cards`: what the cards say that no case keeps
 //! - `section`: as what a card is read
 //! - `note`: the line of a refused card
 #![tactic(auto)]
 
+mod channel_cards;
+mod copy_cards;
+mod each_card;
 mod note;
 mod run_cards;
 mod section;

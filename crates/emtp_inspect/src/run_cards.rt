@@ -1,7 +1,8 @@
 //! What the miscellaneous cards say that no case keeps.
 
 ghost use Rattle.std.specs.Prelude.{◌≡◌, ◌++◌, ◌≤◌, OnOk, length};
-ghost use Rattle.emtp_inspect.specs.RunCards.{card_text, end_text, first_text, line_text, print_of, print_text, run_text, second_text};
+ghost use Rattle.emtp_inspect.specs.EachCard.{given_by};
+ghost use Rattle.emtp_inspect.specs.RunCards.{card_text, end_text, first_text, print_of, print_text, run_text, second_text};
 
 use emtp_card::{Cards, Line, Why, comment, field_number, field_whole};
 use emtp_text::{put, put_fixed, put_number};
@@ -25,7 +26,7 @@ pub(crate) fn put_run_cards(out: &mut Vec<u8>, cards: &Cards<'_>) -> Result<(), 
 }
 
 fn put_line(out: &mut Vec<u8>, line: &Line<'_>, section: Section) -> Result<(), AllocError>
-    ensures { OnOk result (out.new.items ≡ out.old.items ++ line_text line.now.number line.now.bytes.now section) }
+    ensures { OnOk result (out.new.items ≡ out.old.items ++ given_by card_text line.now.number line.now.bytes.now section) }
 {
     if comment(line.bytes) {
         Ok(())

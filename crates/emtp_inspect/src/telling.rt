@@ -1,14 +1,15 @@
 //! The text that the bytes of a file give.
-ghost use Rattle.std.specs.Prelude.{◌≡◌, ◌++◌, ◌≤◌, IfOk, codes, decimal, length, take};
-ghost use Rattle.emtp_inspect.specs.RunCards.{run_text};
+ghost use Rattle.std.specs.Prelude.{◌≡◌, ◌++◌, ◌≤◌, IfOk, OnOk, codes, decimal, length, take};
 ghost use Rattle.emtp_inspect.specs.Section.{place_before};
-ghost use Rattle.emtp_inspect.specs.Telling.{answer_text, ends_text, listed_front, listed_of, listed_lines_of, refused_at, refused_text, told_of, told_of_lines};
+ghost use Rattle.emtp_inspect.specs.Telling.{answer_text, cards_text, ends_text, listed_front, listed_of, listed_lines_of, refused_at, refused_text, told_of, told_of_lines};
 ghost use Rattle.emtp_listing.specs.Lines.{lines_text};
 ghost use Rattle.emtp_listing.specs.Listing.{listing};
 ghost use Rattle.emtp_run.specs.Note.{card_note};
 ghost use Rattle.emtp_warnings.specs.WarningText.{warnings_text};
 ghost use Rattle.emtp_warnings.specs.Warnings.{warnings};
 
+use crate::channel_cards::put_channels;
+use crate::copy_cards::put_copies;
 use crate::note::put_bad;
 use crate::run_cards::put_run_cards;
 use crate::section::{lines_before, place_behind, put_section, whole_count};
@@ -85,20 +86,35 @@ fn answer_text(
     }
 }
 
-/// The listing of a case, what its miscellaneous cards say besides, and warnings below it.
+/// The listing of a case, what its cards say besides, and warnings below it.
 fn listing_with(
     alloc: Global,
     cards: &Cards<'_>,
     case: &Case,
     found: &[Warning],
 ) -> Result<Vec<u8>, AllocError>
-    ensures { IfOk result (λ text. text.items ≡ listing case.now.parts ++ run_text cards.now ++ warnings_text found.now) }
+    ensures { IfOk result (λ text. text.items ≡ listing case.now.parts
+        ++ cards_text cards.now case.now.parts ++ warnings_text found.now) }
 {
     let mut text = listing(alloc, case)?;
-    put_run_cards(&mut text, cards)?;
+    put_cards(alloc, &mut text, cards, case)?;
     let below = warnings_text(alloc, found)?;
     put(&mut text, &below)?;
     Ok(text)
+}
+
+/// Puts after a text what the cards of a case say that no case keeps.
+fn put_cards(
+    alloc: Global,
+    out: &mut Vec<u8>,
+    cards: &Cards<'_>,
+    case: &Case,
+) -> Result<(), AllocError>
+    ensures { OnOk result (out.new.items ≡ out.old.items ++ cards_text cards.now case.now.parts) }
+{
+    put_run_cards(out, cards)?;
+    put_copies(out, cards, case)?;
+    put_channels(alloc, out, cards, case)
 }
 
 /// A line with a count.

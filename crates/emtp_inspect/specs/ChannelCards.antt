@@ -1,0 +1,84 @@
+-- Which card asks for each channel of the record.
+use Rattle.std.specs.Prelude.{[], ◌+◌, ◌++◌, ◌==◌, ◌∷◌, List, Option, None, Some, Result, Ok, Err, codes, count_by, decimal, if◌then◌else◌, is_some, length, replicate, ℕ}
+use Rattle.emtp_card.specs.declared.reason.Bad.{Bad}
+use Rattle.emtp_case.specs.declared.case.Parts.{Parts}
+use Rattle.emtp_deck.specs.Channels.{channel_count}
+use Rattle.emtp_inspect.specs.EachCard.{branch_in, each_card}
+use Rattle.emtp_inspect.specs.declared.channel_cards.ChannelGroup.{ChannelGroup}
+use Rattle.emtp_inspect.specs.declared.channel_cards.ChannelGroup.TheVariants.{BranchValues, ControlVariables, NodeVoltages, SwitchStates, SwitchValues}
+use Rattle.emtp_netcards.specs.OutputCard.{output_card}
+use Rattle.emtp_netcards.specs.SwitchCard.{switch_card}
+use Rattle.emtp_netcards.specs.declared.branch_card.BranchCard.{BranchCard}
+use Rattle.emtp_netcards.specs.declared.output_card.OutputCard.{OutputCard}
+use Rattle.emtp_netcards.specs.declared.output_card.OutputCard.TheVariants.{All as AllNodes, Names}
+use Rattle.emtp_netcards.specs.declared.switch_card.SwitchCard.{SwitchCard}
+use Rattle.emtp_taccards.specs.TacsOutputCard.{tacs_output_card}
+use Rattle.emtp_warnings.specs.declared.section.Section.{Section}
+use Rattle.emtp_warnings.specs.declared.section.Section.TheVariants.{Outputs, Switches, TacsOutputs}
+
+-- ---- how many channels of a group a card asks for
+
+-- a channel for each name, or for each node
+abbrev pub nodes_asked : ℕ → Result OutputCard Bad → ℕ
+nodes_asked nodes (Ok AllNodes) = nodes
+nodes_asked nodes (Ok (Names names)) = count_by is_some names
+nodes_asked nodes (Err bad) = 0
+
+abbrev pub variables_asked : Result (List (Option (List ℕ))) Bad → ℕ
+variables_asked (Ok names) = count_by is_some names
+variables_asked (Err bad) = 0
+
+-- the current, the voltage, or both, by column 80
+abbrev pub branch_asked : Option BranchCard → ℕ
+branch_asked (Some card) = channel_count card.asked
+branch_asked None = 0
+
+abbrev pub switch_asked : Result SwitchCard Bad → ℕ
+switch_asked (Ok card) = channel_count card.asked
+switch_asked (Err bad) = 0
+
+-- and the state of a switch of which anything is asked
+abbrev pub states_asked : Result SwitchCard Bad → ℕ
+states_asked (Ok card) = if card.asked == 0 then 0 else 1
+states_asked (Err bad) = 0
+
+abbrev pub asked_in : Parts → ChannelGroup → ℕ → List ℕ → Section → ℕ
+asked_in p NodeVoltages number line Outputs = nodes_asked (length p.nodes) (output_card number line)
+asked_in p NodeVoltages number line section = 0
+asked_in p BranchValues number line section = branch_asked (branch_in p.run.dt number line section)
+asked_in p SwitchValues number line Switches = switch_asked (switch_card number line)
+asked_in p SwitchValues number line section = 0
+asked_in p ControlVariables number line TacsOutputs = variables_asked (tacs_output_card number line)
+asked_in p ControlVariables number line section = 0
+asked_in p SwitchStates number line Switches = states_asked (switch_card number line)
+asked_in p SwitchStates number line section = 0
+
+-- ---- the line of each channel
+
+-- the number of a line as often as it asks for a channel of a group
+abbrev pub asking_in : Parts → ChannelGroup → ℕ → List ℕ → Section → List ℕ
+asking_in p group number line section = replicate (asked_in p group number line section) number
+
+abbrev pub asking_lines : List (List ℕ) → Parts → ChannelGroup → List ℕ
+asking_lines lines p group = each_card (asking_in p group) lines
+
+-- The line that asks for each channel, in the order of the record (`all_asked` of emtp_deck): group by group, and in each of them
+-- card by card.
+abbrev pub lines_of_channels : List (List ℕ) → Parts → List ℕ
+lines_of_channels lines p =
+    asking_lines lines p NodeVoltages ++ asking_lines lines p BranchValues ++ asking_lines lines p SwitchValues
+    ++ asking_lines lines p ControlVariables ++ asking_lines lines p SwitchStates
+
+-- ---- the text
+
+unfoldable pub channel_text : ℕ → ℕ → List ℕ
+channel_text channel line = codes "line " ++ decimal line ++ codes ", asks for channel=" ++ decimal channel ++ codes "\n"
+
+-- the channels from a number on
+abbrev pub channel_texts : ℕ → List ℕ → List ℕ
+channel_texts channel [] = []
+channel_texts channel (line ∷ lines) = channel_text channel line ++ channel_texts (channel + 1) lines
+
+-- a line for each channel of a case, by its number from 1
+abbrev pub channels_text : List (List ℕ) → Parts → List ℕ
+channels_text lines p = channel_texts 1 (lines_of_channels lines p)
