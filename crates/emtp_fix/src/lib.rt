@@ -24,7 +24,7 @@ pub use laws::decimals_read_back;
 pub use limit::{
     ATTO, KILO, LARGEST_CAPACITANCE, LARGEST_COEFFICIENT, LARGEST_ENTRY, LARGEST_IMPEDANCE,
     LARGEST_INDUCTANCE, LARGEST_RATIO, LARGEST_TIME, LARGEST_TOLERANCE, LARGEST_VALUE,
-    LARGEST_WIDE, LEAST_IMPEDANCE, MICRO, NANO, OutOfRange, PICO, fit, in_range,
+    LARGEST_WIDE, LEAST_IMPEDANCE, MICRO, NANO, OutOfRange, PICO, TURN, fit, in_range,
 };
 pub use product::{micro_sum, narrow_product, scaled};
 pub use root::isqrt;

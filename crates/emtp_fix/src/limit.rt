@@ -53,6 +53,9 @@ pub const PICO: i128 = 1_000_000_000_000;
 /// 1 in units of 10^-18; by it a conductance in pS is the reciprocal of an impedance in micro-ohm.
 pub const ATTO: i128 = 1_000_000_000_000_000_000;
 
+/// A whole turn in units of 10^-18 turn, as of phases.
+pub const TURN: u64 = 1_000_000_000_000_000_000;
+
 /// A number that is kept left its range. Crates above return it as their refusal.
 #[derive(Clone, Copy, Debug, PartialEq, Eq)]
 pub struct OutOfRange;

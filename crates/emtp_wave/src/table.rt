@@ -2,6 +2,7 @@
 
 ghost use Rattle.std.specs.Prelude.{◌≡◌, ◌^◌, ◌*◌, ◌≤◌, ◌<◌, ◌-ℤ◌, ◌*ℤ◌, pos, unsigned_abs, ℤ, List, IfOk};
 ghost use Rattle.emtp_fix.specs.Rounding.{near};
+ghost use Rattle.emtp_fix.specs.declared.limit.TheConstants.{TURN};
 ghost use Rattle.emtp_wave.specs.Cosine.{entry, near_entry, between, in_quarter, in_turn, reduced, cosine};
 ghost use Rattle.emtp_wave.specs.held.Cosine.{table};
 
@@ -53,7 +54,7 @@ impl CosTable {
     }
 
     fn in_turn(&self, p: u64) -> i64
-        requires { p < 10 ^ 18 }
+        requires { p < TURN }
         ensures value { result ≡ in_turn p }
         ensures bound { unsigned_abs result ≤ 10 ^ 12 }
     {
@@ -138,7 +139,7 @@ fn part(rise: i64, way: u64) -> i64
 fn reduced(phase: i128) -> u64
     requires { unsigned_abs phase ≤ 10 ^ 35 }
     ensures value { result ≡ reduced phase }
-    ensures bound { result < 10 ^ 18 }
+    ensures bound { result < TURN }
 {
     let left = phase - whole_turns(phase);
     if left < 0 {
@@ -151,7 +152,7 @@ fn reduced(phase: i128) -> u64
 /// The whole turns that are nearest to a phase, in 10^-18 turn.
 fn whole_turns(phase: i128) -> i128
     requires { unsigned_abs phase ≤ 10 ^ 35 }
-    ensures value { result ≡ near phase (pos (10 ^ 18)) *ℤ pos (10 ^ 18) }
+    ensures value { result ≡ near phase (pos TURN) *ℤ pos TURN }
     ensures nearest { unsigned_abs (phase -ℤ result) ≤ 5 * 10 ^ 17 }
 {
     near(phase, ATTO) * ATTO

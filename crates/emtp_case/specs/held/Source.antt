@@ -4,7 +4,7 @@ use Rattle.emtp_case.specs.held.Sizes.{Sizes}
 use Rattle.emtp_case.specs.declared.source.Shape.{Shape}
 use Rattle.emtp_case.specs.declared.source.Shape.TheVariants.{Cosine, NodeVoltage, Pulse, Ramp, Saw, Step, SwitchCurrent, SwitchStatus, Tacs}
 use Rattle.emtp_case.specs.declared.source.Source.{Source}
-use Rattle.emtp_fix.specs.declared.limit.TheConstants.{LARGEST_TIME, LARGEST_VALUE}
+use Rattle.emtp_fix.specs.declared.limit.TheConstants.{LARGEST_TIME, LARGEST_VALUE, TURN}
 use Rattle.std.specs.Option.{ForSome}
 use Rattle.std.specs.Prelude.{◌≡◌, ◌-◌, ◌^◌, ◌<◌, ◌≤◌, List, None, count_by, false, pos, unsigned_abs, ℕ}
 use Rattle.emtp_case.specs.Source.{is_voltage_source_at}
@@ -19,7 +19,7 @@ pub record IsMeasured (s : Source) : Type 0 where
 abbrev pub HasShapeNumbers : Source → Shape → Type 0
 HasShapeNumbers s Step = Unit {0}
 HasShapeNumbers s (Ramp rise) = IsBetween 1 LARGEST_TIME rise
-HasShapeNumbers s (Cosine freq phase) = IsBetween 0 (10 ^ 13) freq × IsBetween 0 (10 ^ 18 - 1) phase
+HasShapeNumbers s (Cosine freq phase) = IsBetween 0 (10 ^ 13) freq × IsBetween 0 (TURN - 1) phase
 HasShapeNumbers s (Tacs var) = s.amplitude ≡ pos 0
 HasShapeNumbers s (Pulse period width) = IsBetween 1 LARGEST_TIME period × IsBetween 1 LARGEST_TIME width
 HasShapeNumbers s (Saw period) = IsBetween 1 LARGEST_TIME period
