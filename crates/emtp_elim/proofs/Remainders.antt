@@ -7,6 +7,7 @@ use Rattle.emtp_fix.proofs.Wide.{abs-mul-le, fits, through}
 use Rattle.emtp_fix.specs.declared.limit.TheConstants.{LARGEST_ENTRY, LARGEST_VALUE, LARGEST_WIDE}
 use Rattle.emtp_elim.specs.Matrix.{item, products}
 use Rattle.emtp_elim.specs.held.Stored.{dense_row, AreEntries, IsStoredRow}
+use Rattle.emtp_elim.specs.declared.limit.TheConstants.{MOST_ROWS}
 use Rattle.emtp_elim.proofs.KeptRows.{entry_small}
 use Rattle.emtp_elim.proofs.Entries.{IsAt, at_start, at_entry, at_next, stands_still}
 
@@ -62,9 +63,9 @@ remainder_more right k size row x columns values first e last left entries was l
       bound = omega (arith, ints, was.bound, small);
     }
 
--- the same as the code computes it: a row has at most 1,000 entries, so what is left stays far from the limits of 128 bits
+-- the same as the code computes it: a row has at most `MOST_ROWS` entries, so what is left stays far from the limits of 128 bits
 pub remainder_read : {right : ℤ} {k size : ℕ} {x : List ℤ} {columns : List ℕ} {values : List ℤ} {first pivot e last : ℕ} {left : ℤ} (p q : ℤ)
-    → IsStoredRow size k columns values first pivot last → IsRemainder right k size (dense_row size columns values first last) x columns (pivot + 1) e last left → size ≤ 1000
+    → IsStoredRow size k columns values first pivot last → IsRemainder right k size (dense_row size columns values first last) x columns (pivot + 1) e last left → size ≤ MOST_ROWS
     → pivot + 1 ≤ e → e < last → unsigned_abs (item x (slice_index columns e)) ≤ LARGEST_VALUE → p ≡ item values e → q ≡ item x (slice_index columns e)
     → FitsSigned w128 (left -ℤ to_z w128 (of_z w128 (p *ℤ q)))
     × IsRemainder right k size (dense_row size columns values first last) x columns (pivot + 1) (e + 1) last (to_z w128 (of_z w128 (left -ℤ to_z w128 (of_z w128 (p *ℤ q)))))

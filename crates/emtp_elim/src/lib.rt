@@ -20,6 +20,7 @@ mod extent;
 mod fault;
 mod finishing;
 mod laws;
+mod limit;
 mod plain;
 mod row;
 mod rows;
@@ -30,6 +31,7 @@ mod work_row;
 
 pub use fault::{PlainFault, RowCause, RowFault, SolveFault};
 pub use laws::{elimination_is_odd, finished_rows_stay, row_fault_ends_systems};
+pub use limit::{LARGEST_WORK, MOST_ROWS};
 pub use plain::eliminate_plain;
 pub use rows::Rows;
 pub use sparse::{SparseRows, eliminate_row};

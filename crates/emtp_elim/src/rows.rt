@@ -3,7 +3,7 @@ ghost use Rattle.std.specs.Prelude.{◌≡◌, ℕ, ◌<◌, length};
 ghost use Rattle.emtp_elim.specs.Matrix.{Matrix, row_of};
 ghost use Rattle.emtp_elim.specs.held.Rows.{IsLawful};
 
-/// A square matrix of at most 1,000 rows, given row by row, in units of 1e-12.
+/// A square matrix of at most `MOST_ROWS` rows, given row by row, in units of 1e-12.
 ///
 /// An unchanged value always gives the same rows. No entry exceeds 1e26 in magnitude.
 pub trait Rows {

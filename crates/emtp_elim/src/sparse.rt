@@ -9,6 +9,7 @@ ghost use Rattle.emtp_elim.specs.held.Stored.{AreStored, rows_kept};
 ghost use Rattle.emtp_elim.specs.held.Row.{numbers, IsRow};
 ghost use Rattle.emtp_elim.specs.held.Substitution.{SolvesAs};
 ghost use Rattle.emtp_elim.specs.declared.fault.PlainFault.{PlainFault};
+ghost use Rattle.emtp_elim.specs.declared.limit.TheConstants.{MOST_ROWS};
 
 use crate::extent::{Extent, extent_of};
 use crate::fault::{RowCause, SolveFault};
@@ -47,9 +48,9 @@ impl Model for SparseRows {
 }
 
 impl SparseRows {
-    /// Room for `size` finished rows, at most 1,000.
+    /// Room for `size` finished rows, at most `MOST_ROWS`.
     pub fn open(alloc: Global, size: usize) -> Result<SparseRows, AllocError>
-        requires { size ≤ 1000 }
+        requires { size ≤ MOST_ROWS }
         ensures { IfOk result (λ rows. rows ≡ record { size = size; rows = [] }) }
     {
         Ok(SparseRows {
@@ -77,7 +78,7 @@ impl SparseRows {
         requires { i < length self.now.rows }
         ensures row { IsRow self.now.size i result }
         ensures numbers { numbers self.now.size result ≡ row_of self.now.rows i }
-        ensures few { self.now.size ≤ 1000 }
+        ensures few { self.now.size ≤ MOST_ROWS }
     {
         FinishedRow {
             columns: &self.columns,

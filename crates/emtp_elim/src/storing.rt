@@ -5,6 +5,7 @@ ghost use Rattle.emtp_elim.specs.Matrix.{item};
 ghost use Rattle.emtp_elim.specs.held.Clearing.{IsFinishedRow};
 ghost use Rattle.emtp_elim.specs.held.Extent.{IsExtent};
 ghost use Rattle.emtp_elim.specs.held.Stored.{Packs, AreStored, rows_kept};
+ghost use Rattle.emtp_elim.specs.declared.limit.TheConstants.{MOST_ROWS};
 
 use crate::extent::Extent;
 use emtp_fix::word_of;
@@ -21,7 +22,7 @@ fn pack(
 ) -> usize
     requires part { from ≤ upto }
     requires row { upto ≤ length work.now }
-    requires few { length work.now ≤ 1000 }
+    requires few { length work.now ≤ MOST_ROWS }
     requires room { first + upto ≤ length columns.old + from }
     requires same_room { length values.old ≡ length columns.old }
     requires numbers { (j : ℕ) → unsigned_abs (item work.now j) ≤ LARGEST_RATIO }

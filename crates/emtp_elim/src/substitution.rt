@@ -8,6 +8,7 @@ ghost use Rattle.emtp_elim.specs.held.Fault.{IsRightFault};
 ghost use Rattle.emtp_elim.specs.held.Finished.{AreAllFinished};
 ghost use Rattle.emtp_elim.specs.held.Row.{numbers, IsRow};
 ghost use Rattle.emtp_elim.specs.held.Substitution.{partial_right, AreReduced, IsLastFault};
+ghost use Rattle.emtp_elim.specs.declared.limit.TheConstants.{MOST_ROWS};
 
 use crate::arithmetic::less_in_range;
 use crate::fault::SolveFault;
@@ -64,7 +65,7 @@ pub fn reduce_right(done: &SparseRows, right: &mut [i128]) -> Result<(), SolveFa
 fn remainder(right: &[i128], k: usize, row: FinishedRow<'_>, x: &[i64]) -> i128
     requires index { k < length right.now }
     requires lengths { length x.now ≡ length right.now }
-    requires few { length x.now ≤ 1000 }
+    requires few { length x.now ≤ MOST_ROWS }
     requires row { IsRow (length x.now) k row }
     requires right { AreWithin LARGEST_VALUE right.now }
     requires found { (j : ℕ) → k < j → unsigned_abs (item x.now j) ≤ LARGEST_VALUE }

@@ -1,9 +1,10 @@
 // The next row of a matrix, written over zeros.
-ghost use Rattle.std.specs.Prelude.{◌≡◌, ◌+◌, ◌^◌, ◌<◌, ◌≤◌, ◌+ℤ◌, pos, replicate, unsigned_abs, length, slice_set, IfOk, OnOk, OnErr, IfErr};
+ghost use Rattle.std.specs.Prelude.{◌≡◌, ◌+◌, ◌<◌, ◌≤◌, ◌+ℤ◌, pos, replicate, unsigned_abs, length, slice_set, IfOk, OnOk, OnErr, IfErr};
 ghost use Rattle.emtp_elim.specs.Matrix.{item};
 ghost use Rattle.emtp_elim.specs.held.Extent.{IsExtent};
 ghost use Rattle.emtp_elim.specs.held.Finished.{AddsRow, FaultsRow};
 ghost use Rattle.emtp_elim.specs.held.WorkRow.{IsClearRow};
+ghost use Rattle.emtp_elim.specs.declared.limit.TheConstants.{LARGEST_WORK};
 
 use crate::extent::{Extent, end_behind, extent_over, first_with};
 use crate::fault::RowCause;
@@ -45,8 +46,8 @@ fn zeros(alloc: Global, size: usize) -> Result<Vec<i128>, AllocError>
 /// Adds an amount to a number of a row.
 fn add_amount(row: &mut [i128], column: usize, amount: i128)
     requires place { column < length row.old }
-    requires number { unsigned_abs (item row.old column) ≤ 10 ^ 31 }
-    requires amount { unsigned_abs amount ≤ 10 ^ 31 }
+    requires number { unsigned_abs (item row.old column) ≤ LARGEST_WORK }
+    requires amount { unsigned_abs amount ≤ LARGEST_WORK }
     ensures { row.new ≡ slice_set row.old column (item row.old column +ℤ amount) }
 {
     row[column] += amount;
@@ -108,8 +109,8 @@ impl WorkRow {
     /// Adds an amount to the number in a column.
     pub fn add_to(&mut self, column: usize, amount: i128)
         requires place { column < length self.old }
-        requires number { unsigned_abs (item self.old column) ≤ 10 ^ 31 }
-        requires amount { unsigned_abs amount ≤ 10 ^ 31 }
+        requires number { unsigned_abs (item self.old column) ≤ LARGEST_WORK }
+        requires amount { unsigned_abs amount ≤ LARGEST_WORK }
         ensures { self.new ≡ slice_set self.old column (item self.old column +ℤ amount) }
     {
         let size = self.numbers.len();

@@ -9,6 +9,7 @@ use Rattle.std.proofs.lemmas.Nat.{row_fits}
 use borrow.Rule.Slice.PartMut.{put_mid}
 use Rattle.emtp_elim.specs.Matrix.{Matrix, row_of}
 use Rattle.emtp_elim.specs.held.Finished.{Finished, FinishedRowsStay, AddsRow}
+use Rattle.emtp_elim.specs.declared.limit.TheConstants.{MOST_ROWS}
 use Rattle.emtp_tail.specs.held.Given.{rows_in}
 use Rattle.emtp_tail.proofs.GivenRows.{length-rows_in, rows_in-same, take-rows_in, length-put_row, row_kept, put_rows}
 use Rattle.emtp_tail.specs.Good.{first_change}
@@ -140,7 +141,7 @@ rows_equal xs ys r e same =
 -- the first i rows of the new matrix are finished, and each from `first` on has ticked
 pub record IsRedoing (rows : Matrix) (first i : ℕ) (given work : List ℤ) (old : Matrix) (done : Finished) (before ticks : ℕ) : Type 0 where
   pub from_first : first ≤ i
-  pub few : length rows ≤ 1000
+  pub few : length rows ≤ MOST_ROWS
   pub room : length given ≡ length rows * length rows
   pub room_work : length work ≡ length rows
   pub redone : IsRedone rows i given done
@@ -217,7 +218,7 @@ redoing_more rows first i given work row copied after old done new before ticks 
     })
 
 -- what was redone is kept
-pub kept_redone : (rows : Matrix) (n : ℕ) (given work : List ℤ) (done : Finished) → FinishedRowsStay → length rows ≤ 1000 → n ≤ length rows → length given ≡ length rows * length rows
+pub kept_redone : (rows : Matrix) (n : ℕ) (given work : List ℤ) (done : Finished) → FinishedRowsStay → length rows ≤ MOST_ROWS → n ≤ length rows → length given ≡ length rows * length rows
     → length work ≡ length rows → IsRedone rows n given done → IsKept (length rows) given work done
 kept_redone rows n given work done stay few inside room room_work redone = record {
   few = few;

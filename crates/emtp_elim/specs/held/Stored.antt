@@ -2,6 +2,7 @@
 use Rattle.std.specs.Prelude.{◌≡◌, ℕ, zero, suc, ◌*◌, ◌+◌, ◌-◌, ◌<◌, ◌≤◌, ◌≢◌, nat_eq, ℤ, pos, List, length, slice_index, if◌then◌else◌}
 use Rattle.emtp_elim.specs.Matrix.{Matrix, item, list_of, rows_of}
 use Rattle.emtp_elim.specs.held.Clearing.{IsFinishedRow}
+use Rattle.emtp_elim.specs.declared.limit.TheConstants.{MOST_ROWS}
 
 -- the number that the n entries from place `first` on have in column j, or 0 where they have none
 abbrev pub number_in : List ℕ → List ℤ → ℕ → ℕ → ℕ → ℤ
@@ -47,7 +48,7 @@ pub record IsStoredRow (size i : ℕ) (columns : List ℕ) (values : List ℤ) (
 
 -- there is room for `size` rows, and the first ones are kept as finished
 pub record AreStored (size count : ℕ) (starts pivots columns : List ℕ) (values : List ℤ) (words : List ℕ) : Type 0 where
-  pub few : size ≤ 1000
+  pub few : size ≤ MOST_ROWS
   pub within : count ≤ size
   pub room_starts : length starts ≡ size + 1
   pub room_pivots : length pivots ≡ size

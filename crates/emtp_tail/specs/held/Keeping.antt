@@ -2,11 +2,12 @@
 use Rattle.std.specs.Prelude.{◌≡◌, ℕ, ◌*◌, ◌≤◌, ℤ, List, length, take}
 use Rattle.emtp_elim.specs.Matrix.{Matrix}
 use Rattle.emtp_elim.specs.held.Finished.{Finished, AreFinished}
+use Rattle.emtp_elim.specs.declared.limit.TheConstants.{MOST_ROWS}
 use Rattle.emtp_tail.specs.held.Given.{rows_in}
 
 -- the finished rows are those of elimination of the first rows given
 pub record IsKept (size : ℕ) (given work : List ℤ) (done : Finished) : Type 0 where
-  pub few : size ≤ 1000
+  pub few : size ≤ MOST_ROWS
   pub room : length given ≡ size * size
   pub room_work : length work ≡ size
   pub same_size : done.size ≡ size
