@@ -5,8 +5,8 @@ use Rattle.std.proofs.lemmas.Bool.Decides.{nat_tests}
 use Rattle.emtp_card.specs.Lines.{fault_of_line, is_section_end}
 use Rattle.emtp_card.specs.Reason.{reason_number}
 use Rattle.emtp_card.specs.declared.reason.Why.{Why}
-use Rattle.emtp_card.specs.Fault.{bad_at, comes_before, judge, judge_by, judge_due, lesser, least}
-use Rattle.emtp_card.specs.held.Fault.{IsIn, IsLeastOf, IsNotAfter}
+use Rattle.emtp_card.specs.Fault.{bad_at, comes_before, judge, judge_by, lesser, least}
+use Rattle.emtp_card.specs.held.Fault.{IsIn, IsLeastOf, IsNotAfter, judge_due}
 use Rattle.emtp_card.specs.declared.fault.Fault.{Fault}
 
 before : ℕ → ℕ → ℕ → ℕ → Bool

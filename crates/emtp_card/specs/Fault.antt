@@ -1,6 +1,6 @@
 -- The faults of one card, and the least of them.
 use Rattle.std.specs.Prelude.{ℕ, ◌==◌, nat_lt, Bool, ◌||◌, ◌&&◌, List, fold, Option, Some, None, option_map, Result, Ok, Err, if◌then◌else◌}
-use Rattle.emtp_card.specs.Lines.{fault_of_line, is_section_end}
+use Rattle.emtp_card.specs.Lines.{fault_of_line}
 use Rattle.emtp_card.specs.Reason.{reason_number}
 use Rattle.emtp_card.specs.declared.fault.Fault.{Fault}
 use Rattle.emtp_card.specs.declared.reason.Bad.{Bad}
@@ -20,11 +20,6 @@ lesser (Some a) (Some b) = if comes_before b a then Some b else Some a
 unfoldable pub least : List (Option Fault) → Option Fault
 least faults = fold lesser None faults
 
--- the fault of a field that was read, in its first column
-abbrev pub fault_at : {A : Type 0} → ℕ → Result A Why → Option Fault
-fault_at column (Ok x) = None
-fault_at column (Err why) = Some (record { column = column; why = why })
-
 -- a field where blank means this value
 abbrev pub filled_with : {A : Type 0} → A → Result (Option A) Why → Result A Why
 filled_with blank (Ok None) = Ok blank
@@ -43,10 +38,6 @@ judge_by number None fields = option_map (bad_at number) fields
 -- what refuses the card on a line, given the least fault of its fields and rules
 abbrev pub judge : ℕ → List ℕ → Option Fault → Option Bad
 judge number line fields = judge_by number (fault_of_line line) fields
-
--- the bytes of a line that would end a section aren't judged where a card is due whatever the line
-abbrev pub judge_due : ℕ → List ℕ → Option Fault → Option Bad
-judge_due number line fields = if is_section_end line then option_map (bad_at number) fields else judge number line fields
 
 -- the record of a card, unless it is refused
 abbrev pub unless_bad : {A : Type 0} → Option Bad → A → Result A Bad

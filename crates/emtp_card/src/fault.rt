@@ -4,8 +4,8 @@
 //! [`least`] of it. So no reader keeps an order of columns, and a rule is silent where one of its fields is refused.
 
 ghost use Rattle.std.specs.Prelude.{◌≡◌, ◌≤◌, ◌≤ℤ◌, length, option_map, pos, IfOk, IfSome};
-ghost use Rattle.emtp_card.specs.Fault.{bad_at, comes_before, fault_at, filled_with, judge, judge_due, least, lesser};
-ghost use Rattle.emtp_card.specs.held.Fault.{IsLeastOf};
+ghost use Rattle.emtp_card.specs.Fault.{bad_at, comes_before, filled_with, judge, least, lesser};
+ghost use Rattle.emtp_card.specs.held.Fault.{IsLeastOf, fault_at, judge_due};
 ghost use Rattle.emtp_card.specs.Number.{number_field};
 ghost use Rattle.emtp_card.specs.held.Number.{IsWithin};
 

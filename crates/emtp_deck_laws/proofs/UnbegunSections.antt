@@ -25,6 +25,7 @@ use Rattle.emtp_netcards.specs.declared.source_card.SourceCard.{SourceCard}
 use Rattle.emtp_netcards.specs.declared.switch_card.SwitchCard.{SwitchCard}
 use Rattle.emtp_taccards.specs.BlockCard.{block_card}
 use Rattle.emtp_taccards.specs.ExtraCard.{extra_card}
+use Rattle.emtp_taccards.specs.PolynomialCard.{polynomial_card}
 use Rattle.emtp_taccards.specs.TacsOutputCard.{tacs_output_card}
 use Rattle.emtp_taccards.specs.TacsSourceCard.{tacs_source_card}
 use Rattle.emtp_taccards.specs.declared.block_card.BlockCard.{BlockCard}
@@ -32,7 +33,7 @@ use Rattle.emtp_taccards.specs.declared.extra_card.ExtraCard.{ExtraCard}
 use Rattle.emtp_taccards.specs.declared.extra_card.ExtraCard.TheVariants.{Device as DeviceOf, Formula as FormulaOf}
 use Rattle.emtp_walk.proofs.Rising.{go_ok, if_ok, unless_ok}
 use Rattle.emtp_walk.specs.Answer.{go_on}
-use Rattle.emtp_walk.specs.Coefficients.{coefficient_card, divided_bad}
+use Rattle.emtp_walk.specs.Coefficients.{divided_bad}
 use Rattle.emtp_walk.specs.ControlSteps.{block_step, control_step, denominator_step, device_point_or_end, device_point_step, device_scale, extra_step, initial_place, keep_block, keep_extra, numerator_step, points_follow, tacs_output_step, tacs_source_step, take_block, take_extra, with_denominator, with_tacs_output, with_tacs_source}
 use Rattle.emtp_walk.specs.LineRead.{Read, order_fault, place_of}
 use Rattle.emtp_walk.specs.Walk.{advance, after_place, begin_fault, begin_place, branch_step, card_step, empty_deck, first_step, is_phase, is_second, output_step, point_or_end, point_step, scale_of, second_step, source_step, start_step, step, switch_step, take_branch, take_pseudo, take_third, take_values, third_by, third_step, times_step, tolerance_step, vintage_or, waiting_step, walk, with_card}
@@ -130,7 +131,7 @@ denominator_leads : (deck : Deck) (number : ℕ) (line : List ℕ) (card : Block
 unfolding denominator_step
 denominator_leads deck number line card top top_line h =
     let f : List ℤ → Read = λ bottom. with_denominator deck number (record { card = card; top = top; bottom = bottom }) top_line in
-    go_ok Leads f (coefficient_card number line card.order deck.run.dt) (λ bottom is.
+    go_ok Leads f (polynomial_card number line card.order deck.run.dt) (λ bottom is.
     let e : BlockEntry = record { card = card; top = top; bottom = bottom } in
     unless_ok Leads (divided_bad deck.run.dt e top_line number) (keep_block deck e) h)
 
@@ -176,7 +177,7 @@ initial_leads deck number line h =
 control_leads : (deck : Deck) (at : ControlPlace) (number : ℕ) (line : List ℕ) → IsControlUnbegun deck at → IfOk (control_step deck number line at) Leads
 unfolding numerator_step
 control_leads deck Blocks number line h = block_leads deck number line h
-control_leads deck (Numerator card) number line h = go_ok Leads _ (coefficient_card number line card.order deck.run.dt) (λ top is. h)
+control_leads deck (Numerator card) number line h = go_ok Leads _ (polynomial_card number line card.order deck.run.dt) (λ top is. h)
 control_leads deck (Denominator card top top_line) number line h = denominator_leads deck number line card top top_line h
 control_leads deck TacsSources number line h = source_leads deck number line h
 control_leads deck Extras number line h = extra_leads deck number line h

@@ -1,22 +1,13 @@
 -- What was read of a card, or of a part of it, that isn't refused.
-use Rattle.std.proofs.Common.{◌≡◌, ◌∙◌, sym, ap, refl, ℕ, Bool, true, false, List, Option, Some, None, Result, Ok, Err}
-use Rattle.std.specs.Prelude.{cond}
-use Rattle.emtp_card.specs.Lines.{fault_of_line, is_section_end}
+use Rattle.std.proofs.Common.{◌≡◌, ◌∙◌, sym, ap, refl, ℕ, Option, Some, None, Result, Ok, Err}
 use Rattle.emtp_card.specs.declared.fault.Fault.{Fault}
 use Rattle.emtp_card.specs.declared.reason.Why.{Why}
-use Rattle.emtp_netcards.specs.Reading.{both, card_by, card_due, card_on, in_column, judged}
+use Rattle.emtp_netcards.specs.Reading.{both, card_by, in_column, judged}
 
 pub by : {A : Type 0} (number : ℕ) (found : Option (ℕ × Why)) (read : Result A Fault) (card : A) → card_by number found read ≡ Ok card → read ≡ Ok card
 by number (Some fault) read card e = absurd (cc)
 by number None (Ok x) card e = cc
 by number None (Err fault) card e = absurd (cc)
-
-due_by : {A : Type 0} (number : ℕ) (line : List ℕ) (ends : Bool) (read : Result A Fault) (card : A) → cond ends (card_by number None read) (card_on number line read) ≡ Ok card → read ≡ Ok card
-due_by number line true read card e = by number None read card e
-due_by number line false read card e = by number (fault_of_line line) read card e
-
-pub by_due : {A : Type 0} (number : ℕ) (line : List ℕ) (read : Result A Fault) (card : A) → card_due number line read ≡ Ok card → read ≡ Ok card
-by_due number line read card e = due_by number line (is_section_end line) read card e
 
 -- the bytes of its line have no fault
 pub whole_by : {A : Type 0} (number : ℕ) (found : Option (ℕ × Why)) (read : Result A Fault) (card : A) → card_by number found read ≡ Ok card → found ≡ None

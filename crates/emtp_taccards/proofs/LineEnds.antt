@@ -1,5 +1,5 @@
 -- Two lines that no reader of fields tells apart give the same cards of the control.
-use Rattle.std.proofs.Common.{◌≡◌, ◌∙◌, ap, ℕ, List, Result, Ok, Err, refl}
+use Rattle.std.proofs.Common.{◌≡◌, ◌∙◌, ap, ℕ, ℤ, List, Result, Ok, Err, refl}
 use Rattle.emtp_card.specs.declared.fault.Fault.{Fault}
 use Rattle.emtp_card.proofs.LineEnds.{AreReadAlike}
 use Rattle.emtp_case.specs.declared.control.DeviceCode.{DeviceCode}
@@ -49,13 +49,13 @@ module _ (x y : List ℕ) (h : AreReadAlike x y) where
   unfolding block_card blocks.fields_of
   block_card_alike number = simp (h.fault, h.number, order_and_name_alike, inputs_alike, limits_alike)
 
-  coefficients_alike : (order : ℕ) → coefficients x order ≡ coefficients y order
+  coefficients_alike : (order : ℕ) (dt : ℤ) → coefficients x order dt ≡ coefficients y order dt
   unfolding coefficients four_of pair_of
-  coefficients_alike order = simp h.number
+  coefficients_alike order dt = simp h.number
 
-  pub polynomial_alike : (number order : ℕ) → polynomial_card number x order ≡ polynomial_card number y order
+  pub polynomial_alike : (number order : ℕ) (dt : ℤ) → polynomial_card number x order dt ≡ polynomial_card number y order dt
   unfolding polynomial_card
-  polynomial_alike number order = simp (h.section_end, h.fault, coefficients_alike)
+  polynomial_alike number order dt = simp (h.section_end, h.fault, coefficients_alike)
 
   -- ---- sources
 

@@ -3,4 +3,5 @@ pub mod BlockCard
 pub mod DeviceCard
 pub mod ExtraCard
 pub mod FormulaCard
+pub mod PolynomialCard
 pub mod TacsSourceCard

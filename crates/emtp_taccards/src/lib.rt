@@ -3,8 +3,8 @@
 //! Each field of a card is read once, as in emtp_netcards and by its words: what was read is joined side by side, and a
 //! rule over fields is judged where all of them were read, alike in the code and in its definition in `specs/`; so a
 //! card's record and its least fault are one value. Parts that the control's sources and outputs share with those of the
-//! network are read by that crate's calls. Names aren't resolved, and what needs another card or the time step is judged
-//! by the reader of the deck. The cards are those of the EMTP's TACS; the columns are this project's own.
+//! network are read by that crate's calls. Names aren't resolved, and what needs another card is judged by the reader of
+//! the deck. The cards are those of the EMTP's TACS; the columns are this project's own.
 //!
 //! The crate stands on the fields and faults of `emtp_card`, the words and the shared parts of `emtp_netcards`, the
 //! expressions of `emtp_expr`, the records of `emtp_case` and the units of `emtp_fix`.

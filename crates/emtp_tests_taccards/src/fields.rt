@@ -13,6 +13,9 @@ use emtp_taccards::*;
 use std::alloc::Global;
 use std::process::Abort;
 
+/// A time step of 1 s, at which no coefficient of the grid leaves its range on its way.
+pub const SECOND: i64 = 1_000_000_000_000;
+
 /// Each cell of each card is read as its row says.
 fn read_cards(rt: &impl Abort, alloc: Global, cards: &[Card], cells: &[Cells]) {
     for (reader, card) in cards {
@@ -81,7 +84,7 @@ fn block_refusal(bytes: &[u8; 90]) -> (u32, Option<Why>) {
 }
 
 fn polynomial_refusal(bytes: &[u8; 90], order: u8) -> (u32, Option<Why>) {
-    match polynomial(Line { number: 7, bytes }, order) {
+    match polynomial(Line { number: 7, bytes }, order, SECOND) {
         Ok(_) => (0, None),
         Err(bad) => place(&bad),
     }

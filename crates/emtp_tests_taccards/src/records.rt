@@ -3,6 +3,7 @@
 ghost use Rattle.std.specs.Prelude.{◌≤◌, Ok, length, IfSome};
 ghost use Rattle.emtp_case.specs.held.Expr.{IsWhole};
 
+use crate::fields::SECOND;
 use emtp_card::{Line, MAX_BYTES};
 use emtp_case::{BinaryOp, DeviceCode, Group, Items, Name, Node, Shape};
 use emtp_taccards::*;
@@ -56,7 +57,7 @@ fn a_numerator(rt: HostRuntime) {
         number: 8,
         bytes: b"       1.0      2.E3              x",
     };
-    let read = polynomial(line, 2);
+    let read = polynomial(line, 2, SECOND);
     assert!(rt; read == Ok([1_000_000_000_000, 2_000_000_000_000_000, 0, 0, 0, 0, 0, 0]));
 }
 

@@ -1,27 +1,20 @@
 -- The coefficients of a block: sums, quotients, and what a block keeps.
 use Rattle.emtp_fix.specs.declared.limit.TheConstants.{LARGEST_COEFFICIENT}
-use Rattle.std.proofs.Common.{◌≡◌, ◌∙◌, sym, ap, subst, refl, ℕ, zero, suc, ◌+◌, ◌*◌, ◌^◌, ◌<◌, ◌≤◌, ℤ, pos, ◌*ℤ◌, unsigned_abs, Bool, true, false, List, [], ◌∷◌, Option, Some, None, Result, Ok, Err, All, inl, inr, add-one, arith}
+use Rattle.std.proofs.Common.{◌≡◌, ◌∙◌, sym, ap, subst, refl, ℕ, zero, suc, ◌+◌, ◌*◌, ◌^◌, ◌≤◌, ℤ, pos, ◌*ℤ◌, unsigned_abs, Bool, true, false, Option, Some, None, All, inl, inr, add-one, arith}
 use Rattle.std.proofs.lemmas.Bool.{cases_lt}
 use Rattle.std.proofs.lemmas.Bool.Decides.{nat_tests}
-use Rattle.std.specs.Prelude.{IfNone, IfOk, if◌then◌else◌, map, nat_le, nat_lt, slice_index_or, ◌&&◌, ◌≢◌}
-use Rattle.emtp_card.specs.Fault.{fault_at, judge_due}
-use Rattle.emtp_card.specs.declared.reason.Why.{Why}
-use Rattle.emtp_card.specs.declared.reason.Why.TheVariants.{OutOfUnitRange}
-use Rattle.emtp_card.proofs.Faults.{AreNone, judge_due_none, least_none}
-use Rattle.emtp_taccards.specs.PolynomialCard.{coefficient_field, coefficient_in, coefficients, four_of, pair_of, polynomial_card}
+use Rattle.std.specs.Prelude.{IfNone, nat_lt, ◌≢◌}
 use Rattle.emtp_card.specs.declared.reason.Bad.{Bad}
-use Rattle.emtp_case.specs.Control.{bilinear, coefficient_sum, power_of, quotient_of}
-use Rattle.emtp_case.specs.held.Control.{HasWay}
+use Rattle.emtp_case.specs.Control.{coefficient_sum, power_of, quotient_of}
 use Rattle.emtp_case.specs.Sums.{sum_upto}
 use Rattle.emtp_fix.specs.Rounding.{near}
 use Rattle.emtp_fix.proofs.Quotients.{near-exact}
-use Rattle.emtp_netcards.proofs.Readings.{by_due, each_of, field_of_column, made_of}
-use Rattle.emtp_netcards.specs.Reading.{both, card_due}
 use Rattle.emtp_netcards.specs.held.Fields.{IsSmall}
 use Rattle.emtp_walk.proofs.NoBad.{nothing_before}
 use Rattle.emtp_walk.specs.Answer.{first_bad}
-use Rattle.emtp_walk.specs.Coefficients.{coefficients_fault, divided_by, gain_bad, is_large, powers, quotients_bad, range_bad, stays, taken_by, taken_field}
-use Rattle.emtp_walk.specs.held.Coefficients.{IsBlockDue, IsBlockEntry, IsPolynomial, transfer}
+use Rattle.emtp_walk.specs.Coefficients.{divided_by, gain_bad, is_large, quotients_bad, range_bad}
+use Rattle.emtp_walk.specs.held.Coefficients.{IsBlockDue, IsBlockEntry, transfer}
+use Rattle.emtp_taccards.specs.held.PolynomialCard.{IsPolynomial}
 use Rattle.emtp_walk.specs.declared.control_cards.BlockEntry.{BlockEntry}
 
 -- ---- tests
@@ -75,32 +68,6 @@ quotients_small line f (suc n) k h l =
       | inr past ↦ let same : k ≡ suc n = omega arith in subst (λ j. unsigned_abs (f j) ≤ LARGEST_COEFFICIENT) (sym same) (not_large (f (suc n)) (range_none line (10 * (n + 1) + 1) (is_large (f (suc n))) both.1))
     ]
 
--- ---- the way through the bilinear rule
-
-both_true : (a b : Bool) → (a && b) ≡ true → (a ≡ true) × (b ≡ true)
-both_true true b h = (refl, h)
-both_true false b h = absurd (cc)
-
-le_true : (m n : ℕ) → nat_le m n ≡ true → m ≤ n
-le_true m n h = grind (arith, nat_tests)
-
-pub stays_way : (dt x : ℤ) (n : ℕ) → IsSmall x → stays dt x n ≡ true → HasWay dt x n
-stays_way dt x zero small h i l = let same : i ≡ 0 = omega arith in subst (λ j. unsigned_abs (bilinear dt x j) ≤ 8 * 10 ^ 25) (sym same) (omega (arith, small))
-stays_way dt x (suc n) small h i l =
-    let both = both_true (stays dt x n) (nat_le (unsigned_abs (bilinear dt x (suc n))) (8 * 10 ^ 25)) h in
-    elim (cases_lt i (suc n)) [
-      | inl less ↦ stays_way dt x n small both.0 i (omega (arith, less))
-      | inr past ↦ let same : i ≡ suc n = omega arith in subst (λ j. unsigned_abs (bilinear dt x j) ≤ 8 * 10 ^ 25) (sym same) (le_true (unsigned_abs (bilinear dt x (suc n))) (8 * 10 ^ 25) both.1)
-    ]
-
--- once it doesn't stay, it never does
-pub left_way : (dt x : ℤ) (k n : ℕ) → k ≤ n → stays dt x k ≡ false → stays dt x n ≡ false
-left_way dt x k zero l h = let same : k ≡ 0 = omega arith in subst (λ j. stays dt x j ≡ false) same h
-left_way dt x k (suc n) l h = elim (cases_lt n k) [
-  | inl past ↦ let same : k ≡ suc n = omega arith in subst (λ j. stays dt x j ≡ false) same h
-  | inr within ↦ ap (λ b. b && nat_le (unsigned_abs (bilinear dt x (suc n))) (8 * 10 ^ 25)) (left_way dt x k n within h)
-]
-
 -- ---- what a block keeps
 
 within : (dt : ℤ) (e : BlockEntry) (n : ℕ) → IsSmall e.card.gain → gain_bad e.card.line e.card.gain (sum_upto n (quotient_of dt e.top (sum_upto e.card.order (power_of dt e.bottom)))) ≡ None
@@ -133,68 +100,6 @@ block_kept dt e top bottom some due above below h =
       within_step = within dt e order due.numbers.gain second.1;
     }
 
--- ---- the coefficients of a card
-
-way_of : (dt : ℤ) (power column : ℕ) (r : Result ℤ Why) (x : ℤ) → r ≡ Ok x → IsSmall x → fault_at column (taken_by dt power r) ≡ None → HasWay dt x power
-way_of dt power column r x is small h = stays_way dt x power small (by_test (stays dt x power) (subst (λ (q : Result ℤ Why). fault_at column (taken_by dt power q) ≡ None) is h))
-  where
-    by_test : (t : Bool) → fault_at column (if◌then◌else◌ {A = Result ℤ Why} t (Ok x) (Err OutOfUnitRange)) ≡ None → t ≡ true
-    by_test true h = refl
-    by_test false h = absurd (cc)
-
--- four pairs of coefficients, as they are read
-abbrev Pair : Type 0
-Pair = ℤ × ℤ
-
-abbrev Pairs : Type 0
-Pairs = (Pair × Pair) × (Pair × Pair)
-
-abbrev list_of : Pairs → List ℤ
-list_of p = p.0.0.0 ∷ p.0.0.1 ∷ p.0.1.0 ∷ p.0.1.1 ∷ p.1.0.0 ∷ p.1.0.1 ∷ p.1.1.0 ∷ p.1.1.1 ∷ []
-
-pair_read : (line : List ℕ) (order power : ℕ) (pair : Pair) → pair_of line order power ≡ Ok pair → (coefficient_field line order power ≡ Ok pair.0) × (coefficient_field line order (power + 1) ≡ Ok pair.1)
-unfolding pair_of
-pair_read line order power pair e =
-    let each = each_of (coefficient_in line order power) (coefficient_in line order (power + 1)) pair e in
-    (field_of_column (10 * power + 1) (coefficient_field line order power) pair.0 each.0, field_of_column (10 * (power + 1) + 1) (coefficient_field line order (power + 1)) pair.1 each.1)
-
-ways : (dt : ℤ) (line : List ℕ) (order : ℕ) (p : Pairs) → pair_of line order 0 ≡ Ok p.0.0 → pair_of line order 2 ≡ Ok p.0.1 → pair_of line order 4 ≡ Ok p.1.0 → pair_of line order 6 ≡ Ok p.1.1
-    → All IsSmall (list_of p) → AreNone (map (λ power. fault_at (10 * power + 1) (taken_field line order dt power)) powers) → (power : ℕ) → power ≤ 7 → HasWay dt (slice_index_or (list_of p) power (pos 0)) power
-ways dt line order p a b c d small h zero l = way_of dt 0 1 (coefficient_field line order 0) p.0.0.0 (pair_read line order 0 p.0.0 a).0 (small 0 (pos 0) (omega arith)) h.0
-ways dt line order p a b c d small h (suc zero) l = way_of dt 1 11 (coefficient_field line order 1) p.0.0.1 (pair_read line order 0 p.0.0 a).1 (small 1 (pos 0) (omega arith)) h.1.0
-ways dt line order p a b c d small h (suc (suc zero)) l = way_of dt 2 21 (coefficient_field line order 2) p.0.1.0 (pair_read line order 2 p.0.1 b).0 (small 2 (pos 0) (omega arith)) h.1.1.0
-ways dt line order p a b c d small h (suc (suc (suc zero))) l = way_of dt 3 31 (coefficient_field line order 3) p.0.1.1 (pair_read line order 2 p.0.1 b).1 (small 3 (pos 0) (omega arith)) h.1.1.1.0
-ways dt line order p a b c d small h (suc (suc (suc (suc zero)))) l = way_of dt 4 41 (coefficient_field line order 4) p.1.0.0 (pair_read line order 4 p.1.0 c).0 (small 4 (pos 0) (omega arith)) h.1.1.1.1.0
-ways dt line order p a b c d small h (suc (suc (suc (suc (suc zero))))) l = way_of dt 5 51 (coefficient_field line order 5) p.1.0.1 (pair_read line order 4 p.1.0 c).1 (small 5 (pos 0) (omega arith)) h.1.1.1.1.1.0
-ways dt line order p a b c d small h (suc (suc (suc (suc (suc (suc zero)))))) l = way_of dt 6 61 (coefficient_field line order 6) p.1.1.0 (pair_read line order 6 p.1.1 d).0 (small 6 (pos 0) (omega arith)) h.1.1.1.1.1.1.0
-ways dt line order p a b c d small h (suc (suc (suc (suc (suc (suc (suc zero))))))) l = way_of dt 7 71 (coefficient_field line order 7) p.1.1.1 (pair_read line order 6 p.1.1 d).1 (small 7 (pos 0) (omega arith)) h.1.1.1.1.1.1.1.0
-ways dt line order p a b c d small h (suc (suc (suc (suc (suc (suc (suc (suc n)))))))) l = absurd (omega (arith, l))
-
-coefficients_kept : (dt : ℤ) (line : List ℕ) (order : ℕ) (card : List ℤ) → order ≤ 7 → coefficients line order ≡ Ok card → AreNone (map (λ power. fault_at (10 * power + 1) (taken_field line order dt power)) powers) → All IsSmall card → IsPolynomial dt order card
-unfolding coefficients four_of
-coefficients_kept dt line order card few e none small =
-    let low = both (pair_of line order 0) (pair_of line order 2) in
-    let high = both (pair_of line order 4) (pair_of line order 6) in
-    made_of (IsPolynomial dt order card) (both low high) list_of card e (λ p read same.
-    let halves = each_of low high p read in
-    let first = each_of (pair_of line order 0) (pair_of line order 2) p.0 halves.0 in
-    let last = each_of (pair_of line order 4) (pair_of line order 6) p.1 halves.1 in
-    let listed : All IsSmall (list_of p) = subst (λ (xs : List ℤ). All IsSmall xs) (sym same) small in
-    subst (λ (xs : List ℤ). IsPolynomial dt order xs) same
-    (record { small = listed; way = λ power l. ways dt line order p first.0 first.1 last.0 last.1 listed none power (omega (arith, l, few)) }))
-
--- a card keeps what each list that was read does
-where_read : {A : Type 0} (r : Result A Bad) (P Q : A → Type 0) → IfOk r Q → ((x : A) → r ≡ Ok x → Q x → P x) → IfOk r P
-where_read (Ok x) P Q q so = so x refl q
-where_read (Err bad) P Q q so = tt
-
-pub polynomial_kept : (number : ℕ) (line : List ℕ) (order : ℕ) (dt : ℤ) → order ≤ 7 → judge_due number line (coefficients_fault line order dt) ≡ None → IfOk (polynomial_card number line order) (All IsSmall) → IfOk (polynomial_card number line order) (IsPolynomial dt order)
-unfolding polynomial_card coefficients_fault
-polynomial_kept number line order dt few e small =
-    let none : AreNone (map (λ power. fault_at (10 * power + 1) (taken_field line order dt power)) powers) = least_none _ (judge_due_none number line _ e) in
-    where_read (card_due number line (coefficients line order)) (IsPolynomial dt order) (All IsSmall) small (λ card is listed.
-    coefficients_kept dt line order card few (by_due number line (coefficients line order) card is) none listed)
-
 pub if_none : (P : Type 0) (r : Option Bad) → (r ≡ None → P) → IfNone r P
 if_none P None h = h refl
 if_none P (Some bad) h = tt
@@ -203,14 +108,6 @@ if_none P (Some bad) h = tt
 pub block_divided : (dt : ℤ) (e : BlockEntry) (top bottom : ℕ) (divisor : ℤ) → divisor ≡ sum_upto e.card.order (power_of dt e.bottom) → divisor ≢ pos 0 → IsBlockDue e.card → IsPolynomial dt e.card.order e.top → IsPolynomial dt e.card.order e.bottom → divided_by dt e top bottom divisor ≡ None → IsBlockEntry dt e
 block_divided dt e top bottom divisor is some due above below h =
     block_kept dt e top bottom (λ z. some (is ∙ z)) due above below (subst (λ d. divided_by dt e top bottom d ≡ None) is h)
-
--- where it leaves the range, the coefficient doesn't stay
-pub leaves : (dt x : ℤ) (i times : ℕ) (y : ℤ) → y ≡ bilinear dt x (suc i) → 8 * 10 ^ 25 < unsigned_abs y → i < times → stays dt x times ≡ false
-leaves dt x i times y is large l = left_way dt x (suc i) times (omega (arith, l)) (here (stays dt x i) (unsigned_abs (bilinear dt x (suc i))) (rw (sym is) large))
-  where
-    here : (b : Bool) (n : ℕ) → 8 * 10 ^ 25 < n → (b && nat_le n (8 * 10 ^ 25)) ≡ false
-    here true n h = grind (arith, nat_tests)
-    here false n h = refl
 
 -- a block of order 0 has no coefficients
 pub plain_block : (dt : ℤ) (e : BlockEntry) → IsBlockDue e.card → e.card.order ≡ 0 → All IsSmall e.top → All IsSmall e.bottom → IsBlockEntry dt e

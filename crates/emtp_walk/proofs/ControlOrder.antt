@@ -6,7 +6,7 @@ use Rattle.emtp_card.specs.Fault.{unless_bad}
 use Rattle.emtp_card.specs.Lines.{is_section_end}
 use Rattle.emtp_case.specs.declared.branch.Point.{Point}
 use Rattle.emtp_walk.specs.Answer.{go_on}
-use Rattle.emtp_walk.specs.Coefficients.{coefficient_card, divided_bad}
+use Rattle.emtp_walk.specs.Coefficients.{divided_bad}
 use Rattle.emtp_walk.specs.ControlSteps.{block_step, control_step, denominator_step, device_point_or_end, device_point_step, device_scale, extra_step, initial_place, keep_block, keep_extra, numerator_step, points_follow, tacs_output_step, tacs_source_step, take_block, take_device, take_extra, with_denominator, with_tacs_output, with_tacs_source}
 use Rattle.emtp_walk.specs.Laws.{Rises, control_lines, extra_line}
 use Rattle.emtp_walk.specs.LineRead.{Read, order_fault}
@@ -19,6 +19,7 @@ use Rattle.emtp_walk.specs.declared.control_cards.ExtraEntry.TheVariants.{Device
 use Rattle.emtp_walk.specs.declared.control_cards.TacsOutputEntry.{TacsOutputEntry}
 use Rattle.emtp_taccards.specs.BlockCard.{block_card}
 use Rattle.emtp_taccards.specs.ExtraCard.{extra_card}
+use Rattle.emtp_taccards.specs.PolynomialCard.{polynomial_card}
 use Rattle.emtp_taccards.specs.TacsOutputCard.{tacs_output_card}
 use Rattle.emtp_taccards.specs.TacsSourceCard.{tacs_source_card}
 use Rattle.emtp_taccards.specs.declared.block_card.BlockCard.{BlockCard}
@@ -74,13 +75,13 @@ block_order deck number line h =
 
 numerator_order : (deck : Deck) (number : ℕ) (line : List ℕ) (card : BlockCard) → IsAmongBlocks deck (card.line ∷ []) number → IfOk (numerator_step deck number line card) (Orders (number + 1))
 unfolding numerator_step
-numerator_order deck number line card h = go_ok (Orders (number + 1)) _ (coefficient_card number line card.order deck.run.dt) (λ top is. blocks_later deck (card.line ∷ []) number h)
+numerator_order deck number line card h = go_ok (Orders (number + 1)) _ (polynomial_card number line card.order deck.run.dt) (λ top is. blocks_later deck (card.line ∷ []) number h)
 
 denominator_order : (deck : Deck) (number : ℕ) (line : List ℕ) (card : BlockCard) (top : List ℤ) (top_line : ℕ) → IsAmongBlocks deck (card.line ∷ []) number → IfOk (denominator_step deck number line card top top_line) (Orders (number + 1))
 unfolding denominator_step
 denominator_order deck number line card top top_line h =
     let f : List ℤ → Read = λ bottom. with_denominator deck number (record { card = card; top = top; bottom = bottom }) top_line in
-    go_ok (Orders (number + 1)) f (coefficient_card number line card.order deck.run.dt) (λ bottom is.
+    go_ok (Orders (number + 1)) f (polynomial_card number line card.order deck.run.dt) (λ bottom is.
     let e : BlockEntry = record { card = card; top = top; bottom = bottom } in
     unless_ok (Orders (number + 1)) (divided_bad deck.run.dt e top_line number) (keep_block deck e) (put_block deck e (number + 1) (blocks_later deck (card.line ∷ []) number h)))
 

@@ -4,7 +4,6 @@ use Rattle.std.specs.Prelude.{ℤ, codes, map}
 use Rattle.emtp_card.specs.Field.{without_trailing}
 use Rattle.emtp_card.specs.declared.reason.Why.{Why}
 use Rattle.emtp_card.proofs.LineEnds.{AreReadAlike, trailing-alike}
-use Rattle.emtp_walk.specs.Coefficients.{coefficient_card, coefficients_fault}
 use Rattle.emtp_walk.specs.ControlSteps.{block_step, control_step, denominator_step, device_point_step, extra_step, initial_place, numerator_step, tacs_output_step, tacs_source_step}
 use Rattle.emtp_walk.specs.Walk.{advance, after_place, begin_place, branch_step, card_step, empty_deck, first_step, output_step, point_step, second_step, source_step, start_step, step, switch_step, third_by, third_step, times_step, tolerance_step, waiting_step, walk}
 use Rattle.emtp_walk.specs.declared.control_cards.ControlPlace.{ControlPlace}
@@ -104,21 +103,13 @@ module _ (x y : List ℕ) (h : AreReadAlike x y) where
   unfolding block_step
   block_step_alike deck number = simp (h.section_end, block_card_alike x y h)
 
-  coefficients_fault_alike : (order : ℕ) (dt : ℤ) → coefficients_fault x order dt ≡ coefficients_fault y order dt
-  unfolding coefficients_fault
-  coefficients_fault_alike order dt = simp h.number
-
-  coefficient_card_alike : (number order : ℕ) (dt : ℤ) → coefficient_card number x order dt ≡ coefficient_card number y order dt
-  unfolding coefficient_card
-  coefficient_card_alike number order dt = simp (h.section_end, h.fault, coefficients_fault_alike, polynomial_alike x y h)
-
   numerator_alike : (deck : Deck) (number : ℕ) (card : BlockCard) → numerator_step deck number x card ≡ numerator_step deck number y card
   unfolding numerator_step
-  numerator_alike deck number card = simp coefficient_card_alike
+  numerator_alike deck number card = simp (polynomial_alike x y h)
 
   denominator_alike : (deck : Deck) (number : ℕ) (card : BlockCard) (top : List ℤ) (line : ℕ) → denominator_step deck number x card top line ≡ denominator_step deck number y card top line
   unfolding denominator_step
-  denominator_alike deck number card top line = simp coefficient_card_alike
+  denominator_alike deck number card top line = simp (polynomial_alike x y h)
 
   tacs_source_step_alike : (deck : Deck) (number : ℕ) → tacs_source_step deck number x ≡ tacs_source_step deck number y
   unfolding tacs_source_step

@@ -1,47 +1,14 @@
--- The coefficients of a block: the cards of its numerator and its denominator, and what their sum divides.
+-- The coefficients of a block: what the sum of its denominator's coefficients divides.
 use Rattle.emtp_fix.specs.declared.limit.TheConstants.{LARGEST_COEFFICIENT}
 use Rattle.std.specs.Ordering.{int_eq}
-use Rattle.std.specs.Prelude.{Bool, Err, List, None, Ok, Option, Result, Some, [], if◌then◌else◌, map, nat_le, nat_lt, pos, suc, true, unsigned_abs, zero, ℕ, ℤ, ◌&&◌, ◌*ℤ◌, ◌*◌, ◌+◌, ◌^◌, ◌∷◌}
-use Rattle.emtp_card.specs.Fault.{fault_at, judge_due, least}
-use Rattle.emtp_card.specs.declared.fault.Fault.{Fault}
+use Rattle.std.specs.Prelude.{Bool, None, Option, Some, if◌then◌else◌, nat_lt, pos, suc, true, unsigned_abs, zero, ℕ, ℤ, ◌*ℤ◌, ◌*◌, ◌+◌, ◌^◌}
 use Rattle.emtp_card.specs.declared.reason.Bad.{Bad}
-use Rattle.emtp_card.specs.declared.reason.Why.{Why}
 use Rattle.emtp_card.specs.declared.reason.Why.TheVariants.{OutOfUnitRange}
-use Rattle.emtp_case.specs.Control.{bilinear, power_of, quotient_of}
+use Rattle.emtp_case.specs.Control.{power_of, quotient_of}
 use Rattle.emtp_case.specs.Sums.{sum_upto}
 use Rattle.emtp_walk.specs.Answer.{first_bad}
 use Rattle.emtp_walk.specs.declared.control_cards.BlockEntry.{BlockEntry}
 use Rattle.emtp_fix.specs.Rounding.{near}
-use Rattle.emtp_netcards.specs.SourceCard.{unless_judged}
-use Rattle.emtp_taccards.specs.PolynomialCard.{coefficient_field, polynomial_card}
-
--- ---- cards
-
--- a coefficient stays in range while the bilinear rule takes it so many times
-abbrev pub stays : ℤ → ℤ → ℕ → Bool
-stays dt x zero = true
-stays dt x (suc j) = stays dt x j && nat_le (unsigned_abs (bilinear dt x (suc j))) (8 * 10 ^ 25)
-
-abbrev pub taken_by : ℤ → ℕ → Result ℤ Why → Result ℤ Why
-taken_by dt power (Ok x) = if stays dt x power then Ok x else Err OutOfUnitRange
-taken_by dt power (Err why) = Err why
-
--- the coefficient of a power, which is taken as often as the power says
-abbrev pub taken_field : List ℕ → ℕ → ℤ → ℕ → Result ℤ Why
-taken_field line order dt power = taken_by dt power (coefficient_field line order power)
-
--- the powers of s, each of which has ten columns
-abbrev pub powers : List ℕ
-powers = 0 ∷ 1 ∷ 2 ∷ 3 ∷ 4 ∷ 5 ∷ 6 ∷ 7 ∷ []
-
-unfoldable pub coefficients_fault : List ℕ → ℕ → ℤ → Option Fault
-coefficients_fault line order dt = least (map (λ power. fault_at (10 * power + 1) (taken_field line order dt power)) powers)
-
--- the coefficients of a numerator or a denominator card
-unfoldable pub coefficient_card : ℕ → List ℕ → ℕ → ℤ → Result (List ℤ) Bad
-coefficient_card number line order dt = unless_judged (judge_due number line (coefficients_fault line order dt)) (polynomial_card number line order)
-
--- ---- quotients
 
 abbrev pub range_bad : ℕ → ℕ → Bool → Option Bad
 range_bad line column is = if is then Some (record { line = line; column = column; why = OutOfUnitRange }) else None

@@ -7,7 +7,7 @@ use Rattle.emtp_case.specs.declared.branch.Point.{Point}
 use Rattle.emtp_case.specs.declared.control.DeviceCode.{DeviceCode}
 use Rattle.emtp_case.specs.declared.control.DeviceCode.TheVariants.{Table, Window}
 use Rattle.emtp_walk.specs.Answer.{go_on}
-use Rattle.emtp_walk.specs.Coefficients.{coefficient_card, divided_bad}
+use Rattle.emtp_walk.specs.Coefficients.{divided_bad}
 use Rattle.emtp_walk.specs.LineRead.{Read, order_fault, place_of}
 use Rattle.emtp_walk.specs.declared.control_cards.BlockEntry.{BlockEntry}
 use Rattle.emtp_walk.specs.declared.control_cards.ControlCards.{ControlCards}
@@ -25,6 +25,7 @@ use Rattle.emtp_netcards.specs.declared.point_card.PointScale.TheVariants.{Table
 use Rattle.emtp_netcards.specs.declared.source_card.SourceCard.{SourceCard}
 use Rattle.emtp_taccards.specs.BlockCard.{block_card}
 use Rattle.emtp_taccards.specs.ExtraCard.{extra_card}
+use Rattle.emtp_taccards.specs.PolynomialCard.{polynomial_card}
 use Rattle.emtp_taccards.specs.TacsOutputCard.{tacs_output_card}
 use Rattle.emtp_taccards.specs.TacsSourceCard.{tacs_source_card}
 use Rattle.emtp_taccards.specs.declared.block_card.BlockCard.{BlockCard}
@@ -52,7 +53,7 @@ block_step deck number line =
 
 unfoldable pub numerator_step : Deck → ℕ → List ℕ → BlockCard → Read
 numerator_step deck number line card =
-    go_on (λ (top : List ℤ). Ok (deck, Control (Denominator card top number))) (coefficient_card number line card.order deck.run.dt)
+    go_on (λ (top : List ℤ). Ok (deck, Control (Denominator card top number))) (polynomial_card number line card.order deck.run.dt)
 
 abbrev pub with_denominator : Deck → ℕ → BlockEntry → ℕ → Read
 with_denominator deck number entry top_line = unless_bad (divided_bad deck.run.dt entry top_line number) (keep_block deck entry)
@@ -60,7 +61,7 @@ with_denominator deck number entry top_line = unless_bad (divided_bad deck.run.d
 -- the faults that need both cards come after those of the denominator
 unfoldable pub denominator_step : Deck → ℕ → List ℕ → BlockCard → List ℤ → ℕ → Read
 denominator_step deck number line card top top_line =
-    go_on (λ (bottom : List ℤ). with_denominator deck number (record { card = card; top = top; bottom = bottom }) top_line) (coefficient_card number line card.order deck.run.dt)
+    go_on (λ (bottom : List ℤ). with_denominator deck number (record { card = card; top = top; bottom = bottom }) top_line) (polynomial_card number line card.order deck.run.dt)
 
 -- ---- sources
 

@@ -1,103 +1,18 @@
-//! The coefficients of a block: the cards of its numerator and its denominator, and what their sum divides.
+//! The coefficients of a block: what the sum of its denominator's coefficients divides.
 
 ghost use Rattle.emtp_case.specs.held.RunData.{IsTimeStep};
 ghost use Rattle.emtp_fix.specs.declared.limit.TheConstants.{LARGEST_COEFFICIENT};
-ghost use Rattle.std.specs.Prelude.{◌≡◌, ℕ, ◌≢◌, ◌*◌, ◌^◌, ◌≤◌, length, pos, unsigned_abs, IfOk, IfNone};
-ghost use Rattle.emtp_case.specs.Control.{bilinear, quotient_of};
+ghost use Rattle.std.specs.Prelude.{◌≡◌, ℕ, ◌≢◌, ◌*◌, ◌^◌, ◌≤◌, pos, unsigned_abs, IfNone};
+ghost use Rattle.emtp_case.specs.Control.{quotient_of};
 ghost use Rattle.emtp_case.specs.Sums.{sum_upto};
-ghost use Rattle.emtp_walk.specs.Coefficients.{coefficient_card, coefficients_fault, divided_bad, divided_by, gain_bad, is_large, quotients_bad, range_bad, stays, taken_field};
-ghost use Rattle.emtp_walk.specs.held.Coefficients.{IsBlockDue, IsBlockEntry, IsPolynomial};
-ghost use Rattle.emtp_netcards.specs.held.Fields.{IsSmall};
-ghost use Rattle.emtp_taccards.specs.PolynomialCard.{coefficient_field};
+ghost use Rattle.emtp_walk.specs.Coefficients.{divided_bad, divided_by, gain_bad, is_large, quotients_bad, range_bad};
+ghost use Rattle.emtp_walk.specs.held.Coefficients.{IsBlockDue, IsBlockEntry};
+ghost use Rattle.emtp_taccards.specs.held.PolynomialCard.{IsPolynomial};
 
 use crate::control_cards::BlockEntry;
-use emtp_card::{Bad, Fault, Line, MAX_BYTES, Why, fault_at, judge_due, least};
-use emtp_case::{bilinear_step, coefficient_divisor, coefficient_quotient};
+use emtp_card::{Bad, Why};
+use emtp_case::{coefficient_divisor, coefficient_quotient};
 use emtp_fix::{LARGEST_VALUE, PICO, scaled};
-use emtp_netcards::signed_number;
-use emtp_taccards::polynomial;
-
-/// The greatest magnitude of a coefficient on its way through the bilinear rule.
-const LARGEST_ON_WAY: u128 = 80_000_000_000_000_000_000_000_000;
-
-// ---- cards
-
-/// Reads a numerator or a denominator card of a block of this order: the coefficients by the power of s, in 10^-12.
-#[tactic(auto, unfolding(crate::specs::Coefficients::coefficient_card))]
-pub(crate) fn coefficient_card(line: &Line<'_>, order: u8, dt: i64) -> Result<[i64; 8], Bad>
-    requires short { length line.now.bytes.now ≤ MAX_BYTES }
-    requires order { order ≤ 7 }
-    requires dt { IsTimeStep dt }
-    ensures value { result ≡ coefficient_card line.now.number line.now.bytes.now order dt }
-    ensures polynomial { IfOk result (IsPolynomial dt order) }
-{
-    match judge_due(line, coefficients_fault(line.bytes, order, dt)) {
-        Some(bad) => Err(bad),
-        None => polynomial(*line, order),
-    }
-}
-
-/// The least fault of the coefficients, also of those that the bilinear rule takes out of range.
-#[tactic(auto, unfolding(crate::specs::Coefficients::coefficients_fault))]
-fn coefficients_fault(line: &[u8], order: u8, dt: i64) -> Option<Fault>
-    requires dt { IsTimeStep dt }
-    ensures { result ≡ coefficients_fault line.now order dt }
-{
-    least(&[
-        fault_at(1, &taken(line, order, dt, 0)),
-        fault_at(11, &taken(line, order, dt, 1)),
-        fault_at(21, &taken(line, order, dt, 2)),
-        fault_at(31, &taken(line, order, dt, 3)),
-        fault_at(41, &taken(line, order, dt, 4)),
-        fault_at(51, &taken(line, order, dt, 5)),
-        fault_at(61, &taken(line, order, dt, 6)),
-        fault_at(71, &taken(line, order, dt, 7)),
-    ])
-}
-
-/// The coefficient of a power, which the bilinear rule takes as often as the power says.
-fn taken(line: &[u8], order: u8, dt: i64, power: u8) -> Result<i64, Why>
-    requires dt { IsTimeStep dt }
-    requires power { power ≤ 7 }
-    ensures { result ≡ taken_field line.now order dt power }
-{
-    match coefficient(line, order, power) {
-        Ok(x) if stays(dt, x, power) => Ok(x),
-        Ok(_) => Err(Why::OutOfUnitRange),
-        Err(why) => Err(why),
-    }
-}
-
-/// The coefficient of a power, which has ten columns; those of powers above the order are 0 and not read.
-fn coefficient(line: &[u8], order: u8, power: u8) -> Result<i64, Why>
-    requires power { power ≤ 7 }
-    ensures value { result ≡ coefficient_field line.now order power }
-    ensures small { IfOk result IsSmall }
-{
-    if power > order {
-        return Ok(0);
-    }
-    let first = 10 * power as usize + 1;
-    signed_number(line, first, first + 9, 12)
-}
-
-/// Whether a coefficient stays in range while it is taken so many times through the bilinear rule.
-fn stays(dt: i64, x: i64, times: u8) -> bool
-    requires dt { IsTimeStep dt }
-    requires x { IsSmall x }
-    ensures { result ≡ stays dt x times }
-{
-    let mut p = x as i128;
-    for i in 0..times {
-        p = bilinear_step(dt, p);
-        if LARGEST_ON_WAY < p.unsigned_abs() {
-            return false;
-        }
-    }
-    true
-}
-
-// ---- quotients
 
 /// What refuses a number at a column of a line, if it is too large.
 fn range_bad(line: u32, column: u32, is: bool) -> Option<Bad>

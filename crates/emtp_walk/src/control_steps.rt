@@ -3,16 +3,17 @@
 ghost use Rattle.std.specs.Prelude.{◌≡◌, ◌≤◌, length, Ok, Err, IfOk, IfErr, false};
 ghost use Rattle.emtp_walk.specs.held.Answer.{Answers, IsWant, Leaves};
 ghost use Rattle.emtp_walk.specs.ControlSteps.{block_step, control_step, denominator_step, initial_place, keep_block, numerator_step, tacs_output_step, tacs_source_step, take_block};
-ghost use Rattle.emtp_walk.specs.held.Coefficients.{IsBlockDue, IsBlockEntry, IsPolynomial};
+ghost use Rattle.emtp_taccards.specs.held.PolynomialCard.{IsPolynomial};
+ghost use Rattle.emtp_walk.specs.held.Coefficients.{IsBlockDue, IsBlockEntry};
 ghost use Rattle.emtp_walk.specs.held.Sound.{IsControlSound, IsSound, IsWhole};
 
-use crate::coefficients::{coefficient_card, divided_bad};
+use crate::coefficients::divided_bad;
 use crate::control_cards::{BlockEntry, ControlPlace, TacsOutputEntry};
 use crate::deck::{Deck, Place};
 use crate::device_steps::{device_point_step, extra_step};
 use crate::steps::order_fault;
 use emtp_card::{Line, MAX_BYTES, Refused, ends_section};
-use emtp_taccards::{BlockCard, block, tacs_outputs, tacs_source};
+use emtp_taccards::{BlockCard, block, polynomial, tacs_outputs, tacs_source};
 use std::alloc::Global;
 
 /// Takes a line of the control.
@@ -103,7 +104,7 @@ fn numerator_step(deck: &mut Deck, line: &Line<'_>, card: &BlockCard) -> Result<
     ensures value { Leaves result (numerator_step deck.old line.now.number line.now.bytes.now card.now) deck.new }
     ensures sound { IfOk result (IsSound deck.new) }
 {
-    match coefficient_card(line, card.order, deck.run.dt) {
+    match polynomial(*line, card.order, deck.run.dt) {
         Ok(top) => Ok(Place::Control(ControlPlace::Denominator {
             card: *card,
             top,
@@ -129,7 +130,7 @@ fn denominator_step(
     ensures value { Leaves result (denominator_step deck.old line.now.number line.now.bytes.now card.now top.now top_line) deck.new }
     ensures sound { IfOk result (IsSound deck.new) }
 {
-    let bottom = match coefficient_card(line, card.order, deck.run.dt) {
+    let bottom = match polynomial(*line, card.order, deck.run.dt) {
         Ok(bottom) => bottom,
         Err(bad) => return Err(Refused::Bad(bad)),
     };

@@ -64,6 +64,7 @@ ArePointsReadUnder =
     (scale : PointScale) (before : Option Point) (count : ℕ) (dt : ℤ)
     → IsReadUnder (λ number line. point_ruler (ends_points number line scale)) (λ number line. next_point number line scale before count dt)
 
--- the coefficients of a block of each order
+-- the coefficients of a block of each order, at each time step
 abbrev pub ArePolynomialsReadUnder : Type 0
-ArePolynomialsReadUnder = (order : ℕ) → order ≤ 7 → IsReadUnder (λ number line. polynomial_ruler order) (λ number line. polynomial_card number line order)
+ArePolynomialsReadUnder =
+    (order : ℕ) → order ≤ 7 → (dt : ℤ) → IsReadUnder (λ number line. polynomial_ruler order) (λ number line. polynomial_card number line order dt)

@@ -1,8 +1,8 @@
 -- Beside `Coefficients`: what values hold for their proofs, and what premises say. No clause of the program reaches it.
 use Rattle.emtp_fix.specs.declared.limit.TheConstants.{LARGEST_COEFFICIENT}
-use Rattle.std.specs.Prelude.{All, List, [], pos, slice_index_or, unsigned_abs, ℕ, ℤ, ◌≤◌}
+use Rattle.std.specs.Prelude.{All, [], unsigned_abs, ℤ, ◌≤◌}
 use Rattle.emtp_case.specs.Control.{step_gain}
-use Rattle.emtp_case.specs.held.Control.{HasCoefficients, HasWay}
+use Rattle.emtp_case.specs.held.Control.{HasCoefficients}
 use Rattle.emtp_case.specs.held.Name.{IsName}
 use Rattle.emtp_case.specs.declared.control.Block.{Block}
 use Rattle.emtp_case.specs.declared.control.Bound.TheVariants.{None as NoBound}
@@ -10,11 +10,6 @@ use Rattle.emtp_walk.specs.declared.control_cards.BlockEntry.{BlockEntry}
 use Rattle.emtp_netcards.specs.held.Fields.{IsSmall}
 use Rattle.emtp_taccards.specs.held.BlockCard.{HasBlockNumbers, HasLimitsInOrder}
 use Rattle.emtp_taccards.specs.declared.block_card.BlockCard.{BlockCard}
-
--- the coefficients of a card
-pub record IsPolynomial (dt : ℤ) (order : ℕ) (card : List ℤ) : Type 0 where
-  pub small : All IsSmall card
-  pub way : (power : ℕ) → power ≤ order → HasWay dt (slice_index_or card power (pos 0)) power
 
 -- a block whose coefficients are due
 pub record IsBlockDue (card : BlockCard) : Type 0 where

@@ -8,7 +8,7 @@ use Rattle.emtp_case.specs.held.Name.{IsName}
 use Rattle.emtp_case.specs.held.RunData.{IsRun}
 use Rattle.emtp_case.specs.declared.branch.Point.{Point}
 use Rattle.emtp_case.specs.declared.run_data.RunData.{RunData}
-use Rattle.emtp_walk.specs.held.Coefficients.{IsBlockDue, IsBlockEntry, IsPolynomial}
+use Rattle.emtp_walk.specs.held.Coefficients.{IsBlockDue, IsBlockEntry}
 use Rattle.emtp_walk.specs.ControlSteps.{device_scale, no_control, points_follow}
 use Rattle.emtp_walk.specs.Walk.{is_phase, scale_of}
 use Rattle.emtp_walk.specs.declared.control_cards.ControlCards.{ControlCards}
@@ -36,6 +36,7 @@ use Rattle.emtp_netcards.specs.declared.point_card.PointScale.{PointScale}
 use Rattle.emtp_netcards.specs.declared.source_card.SourceCard.{SourceCard}
 use Rattle.emtp_taccards.specs.held.DeviceCard.{HasDeviceNumbers, HasItsD}
 use Rattle.emtp_taccards.specs.held.FormulaCard.{IsParsed}
+use Rattle.emtp_taccards.specs.held.PolynomialCard.{IsPolynomial}
 use Rattle.emtp_taccards.specs.held.TacsSourceCard.{HasTacsSourceNumbers}
 use Rattle.emtp_taccards.specs.declared.block_card.BlockCard.{BlockCard}
 use Rattle.emtp_taccards.specs.declared.device_card.DeviceCard.{DeviceCard}

@@ -8,7 +8,7 @@ use Rattle.emtp_warnings.proofs.laws.unmarked_columns_of_the_control_dont_matter
 pub returns : goal.returns
 returns c = record {
   block = block_under;
-  polynomial = λ order few x y sound number h. polynomial_under x y sound order few number h;
+  polynomial = λ order few dt x y sound number h. polynomial_under x y sound order few dt number h;
   source = tacs_source_under;
   extra = extra_under;
   output = tacs_output_under;

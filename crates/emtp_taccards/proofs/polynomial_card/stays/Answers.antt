@@ -3,8 +3,8 @@ use mir.Syntax.{w64}
 use Rattle.std.proofs.lemmas.Int.{ints, to_z-of_z}
 use Rattle.emtp_case.specs.Control.{bilinear}
 use Rattle.emtp_fix.specs.Rounding.{near}
-use Rattle.emtp_walk.proofs.ControlCoefficients.{leaves}
-use Rattle.emtp_walk.proofs.coefficients.stays.Goals as goal
+use Rattle.emtp_taccards.proofs.Coefficients.{leaves}
+use Rattle.emtp_taccards.proofs.polynomial_card.stays.Goals as goal
 
 pub returns-then-unsigned_abs-gt-LARGEST_ON_WAY : goal.returns-then-unsigned_abs-gt-LARGEST_ON_WAY
 returns-then-unsigned_abs-gt-LARGEST_ON_WAY c =

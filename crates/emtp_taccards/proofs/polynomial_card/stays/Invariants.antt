@@ -1,7 +1,7 @@
 use Rattle.std.proofs.Common.{◌≡◌, true}
 use Rattle.emtp_case.specs.Control.{bilinear}
-use Rattle.emtp_walk.specs.Coefficients.{stays}
-use Rattle.emtp_walk.proofs.coefficients.stays.Given as goal
+use Rattle.emtp_taccards.specs.PolynomialCard.{stays}
+use Rattle.emtp_taccards.proofs.polynomial_card.stays.Given as goal
 
 abbrev pub invariant-loop-i : goal.invariant-loop-i
 invariant-loop-i l = record {
