@@ -11,7 +11,8 @@ use Rattle.emtp_card.specs.declared.reason.Why.{Why}
 use Rattle.emtp_card.specs.declared.reason.Why.TheVariants.{BadName}
 use Rattle.emtp_netcards.specs.BranchCard.{copies_of, fields_of, kind_by, kind_field, own_values, read_values, values_of}
 use Rattle.emtp_netcards.specs.Fields.{asked_field, asked_in, ends_field}
-use Rattle.emtp_netcards.specs.Reading.{both, in_column, judged}
+use Rattle.emtp_netcards.specs.Reading.{both, in_column}
+use Rattle.emtp_netcards.specs.held.Reading.{judged}
 use Rattle.emtp_netcards.specs.SeriesValues.{c_field, l_field, part_field, r_field, series_values}
 use Rattle.emtp_netcards.specs.declared.branch_card.BranchKind.{BranchKind}
 use Rattle.emtp_netcards.specs.declared.branch_card.BranchKind.TheVariants.{Series as SeriesKind}

@@ -2,7 +2,8 @@
 use Rattle.std.proofs.Common.{◌≡◌, ◌∙◌, sym, ap, refl, ℕ, Option, Some, None, Result, Ok, Err}
 use Rattle.emtp_card.specs.declared.fault.Fault.{Fault}
 use Rattle.emtp_card.specs.declared.reason.Why.{Why}
-use Rattle.emtp_netcards.specs.Reading.{both, card_by, in_column, judged}
+use Rattle.emtp_netcards.specs.Reading.{both, card_by, in_column}
+use Rattle.emtp_netcards.specs.held.Reading.{judged}
 
 pub by : {A : Type 0} (number : ℕ) (found : Option (ℕ × Why)) (read : Result A Fault) (card : A) → card_by number found read ≡ Ok card → read ≡ Ok card
 by number (Some fault) read card e = absurd (cc)

@@ -3,6 +3,7 @@ pub mod BranchCard
 pub mod Fields
 pub mod LineValues
 pub mod PointCard
+pub mod Reading
 pub mod RunCards
 pub mod SeriesValues
 pub mod SourceCard

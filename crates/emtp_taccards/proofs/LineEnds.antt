@@ -8,7 +8,8 @@ use Rattle.emtp_expr.specs.Parsing.{expression_of}
 use Rattle.emtp_expr.specs.declared.parsing.Parsed.{Parsed}
 use Rattle.emtp_expr.proofs.TextEnds.{same-expression}
 use Rattle.emtp_netcards.proofs.LineEnds.{active_times_alike, cosine_numbers_alike, name_list_alike}
-use Rattle.emtp_netcards.specs.Reading.{both, judged}
+use Rattle.emtp_netcards.specs.Reading.{both}
+use Rattle.emtp_netcards.specs.held.Reading.{judged}
 use Rattle.emtp_taccards.specs.BlockCard as blocks
 use Rattle.emtp_taccards.specs.BlockCard.{block_card, limits_of, order_and_name}
 use Rattle.emtp_taccards.specs.DeviceCard as devices

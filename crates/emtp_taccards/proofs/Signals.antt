@@ -9,7 +9,8 @@ use Rattle.emtp_case.specs.held.Range.{IsBetween}
 use Rattle.emtp_case.specs.declared.source.Shape.{Shape}
 use Rattle.emtp_case.specs.declared.source.Shape.TheVariants.{Cosine, Pulse, Saw, Step}
 use Rattle.emtp_netcards.proofs.Readings.{each_of, made_of}
-use Rattle.emtp_netcards.specs.Reading.{both, in_column, judged}
+use Rattle.emtp_netcards.specs.Reading.{both, in_column}
+use Rattle.emtp_netcards.specs.held.Reading.{judged}
 use Rattle.emtp_netcards.specs.SourceCard.{active_times}
 use Rattle.emtp_netcards.specs.held.Fields.{IsSmall}
 use Rattle.emtp_taccards.specs.TacsSourceCard.{Course, Times, cosine_of, driven, level_of, pulse_of, saw_of, value_of}

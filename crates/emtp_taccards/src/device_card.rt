@@ -6,7 +6,7 @@ ghost use Rattle.emtp_case.specs.Control.{needs_d};
 ghost use Rattle.emtp_case.specs.held.Control.{HasRangeOfA};
 ghost use Rattle.emtp_case.specs.held.Range.{IsBetween};
 ghost use Rattle.emtp_netcards.specs.held.Fields.{IsSmall};
-ghost use Rattle.emtp_netcards.specs.Reading.{judged};
+ghost use Rattle.emtp_netcards.specs.held.Reading.{judged};
 ghost use Rattle.emtp_taccards.specs.DeviceCard.{a_by, code_field, code_of, coded_by, d_by, d_field, delay_field, device_card, device_record, device_with, fields_of, hertz_field, plain_field, plain_fields, variables_of};
 ghost use Rattle.emtp_taccards.specs.held.DeviceCard.{HasDeviceNumbers, HasItsD};
 

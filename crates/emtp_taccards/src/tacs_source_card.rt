@@ -3,7 +3,7 @@
 ghost use Rattle.emtp_fix.specs.declared.limit.TheConstants.{LARGEST_TIME};
 ghost use Rattle.std.specs.Prelude.{◌≡◌, ◌≤◌, length, IfOk};
 ghost use Rattle.emtp_case.specs.held.Range.{IsBetween};
-ghost use Rattle.emtp_netcards.specs.Reading.{judged};
+ghost use Rattle.emtp_netcards.specs.held.Reading.{judged};
 ghost use Rattle.emtp_taccards.specs.TacsSourceCard.{cosine_of, driven, fields_of, level_of, period_field, pulse_of, saw_of, signal_field, signal_of, source_record, source_with, tacs_source_card, value_of, width_field};
 ghost use Rattle.emtp_taccards.specs.held.TacsSourceCard.{HasTacsSourceNumbers, IsDriven, IsSignal};
 

@@ -16,7 +16,8 @@ use Rattle.emtp_walk.specs.held.Sound.{IsExtraDue}
 use Rattle.emtp_expr.specs.Parsing.{expression_of}
 use Rattle.emtp_expr.specs.declared.parsing.Parsed.{Parsed}
 use Rattle.emtp_netcards.specs.Fields.{needed}
-use Rattle.emtp_netcards.specs.Reading.{both, card_on, in_column, judged}
+use Rattle.emtp_netcards.specs.Reading.{both, card_on, in_column}
+use Rattle.emtp_netcards.specs.held.Reading.{judged}
 use Rattle.emtp_netcards.specs.declared.source_card.SourceCard.{SourceCard}
 use Rattle.emtp_taccards.specs.BlockCard as blocks
 use Rattle.emtp_taccards.specs.BlockCard.{Limits, block_card, block_record, gain_field, limits_of, order_and_name, order_field}

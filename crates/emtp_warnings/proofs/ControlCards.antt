@@ -7,7 +7,7 @@ use Rattle.emtp_card.specs.Name.{name_field}
 use Rattle.emtp_card.specs.declared.fault.Fault.{Fault}
 use Rattle.emtp_case.specs.declared.control.DeviceCode.{DeviceCode}
 use Rattle.emtp_case.specs.declared.control.DeviceCode.TheVariants.{Delay, DelayedPulse, EffectiveValue}
-use Rattle.emtp_netcards.specs.Reading.{judged}
+use Rattle.emtp_netcards.specs.held.Reading.{judged}
 use Rattle.emtp_taccards.specs.BlockCard as blocks
 use Rattle.emtp_taccards.specs.BlockCard.{block_card, limits_of, order_and_name}
 use Rattle.emtp_taccards.specs.DeviceCard as devices

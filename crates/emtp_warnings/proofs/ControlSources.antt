@@ -12,7 +12,8 @@ use Rattle.emtp_case.specs.declared.source.Shape.{Shape}
 use Rattle.emtp_case.specs.declared.source.Shape.TheVariants.{Cosine, NodeVoltage, Pulse, Ramp, Saw, Step, SwitchCurrent, SwitchStatus, Tacs}
 use Rattle.emtp_netcards.proofs.Readings.{by, each_of, made_of}
 use Rattle.emtp_netcards.specs.Fields.{needed}
-use Rattle.emtp_netcards.specs.Reading.{both, in_column, judged}
+use Rattle.emtp_netcards.specs.Reading.{both, in_column}
+use Rattle.emtp_netcards.specs.held.Reading.{judged}
 use Rattle.emtp_netcards.specs.SourceCard.{cosine_numbers}
 use Rattle.emtp_netcards.specs.declared.source_card.SourceCard.{SourceCard}
 use Rattle.emtp_taccards.proofs.LineEnds.{tacs_source_alike}

@@ -14,7 +14,8 @@ use Rattle.emtp_netcards.specs.BranchCard as branches
 use Rattle.emtp_netcards.specs.BranchCard.{branch_card, copies_of, copy_field, copy_of, kind_by, kind_field, own_values, read_values, resistor_values, values_of}
 use Rattle.emtp_netcards.specs.Fields.{ends_field}
 use Rattle.emtp_netcards.specs.LineValues.{a_field, b_field, form_by, line_values}
-use Rattle.emtp_netcards.specs.Reading.{both, in_column, judged}
+use Rattle.emtp_netcards.specs.Reading.{both, in_column}
+use Rattle.emtp_netcards.specs.held.Reading.{judged}
 use Rattle.emtp_netcards.specs.RunCards.{first_card, first_fields, second_card, second_fields, tolerance_card}
 use Rattle.emtp_netcards.specs.SeriesValues.{series_values}
 use Rattle.emtp_netcards.specs.SourceCard as sources

@@ -7,7 +7,8 @@ use Rattle.emtp_card.specs.declared.reason.Bad.{Bad}
 use Rattle.emtp_card.specs.declared.reason.Why.{Why}
 use Rattle.emtp_netcards.specs.OutputCard as outputs
 use Rattle.emtp_netcards.specs.OutputCard.{mark_by, mark_field, name_list, output_card, outputs_by}
-use Rattle.emtp_netcards.specs.Reading.{card_by, in_column, judged}
+use Rattle.emtp_netcards.specs.Reading.{card_by, in_column}
+use Rattle.emtp_netcards.specs.held.Reading.{judged}
 use Rattle.emtp_netcards.specs.declared.output_card.OutputCard.{OutputCard}
 use Rattle.emtp_netcards.specs.declared.output_card.OutputCard.TheVariants.{All as AllNodes, Names}
 use Rattle.emtp_taccards.specs.TacsOutputCard as tacs_outputs
