@@ -4,7 +4,7 @@ use Rattle.emtp_card.specs.Lines.{is_comment}
 use Rattle.emtp_walk.specs.declared.control_cards.BlockEntry.{BlockEntry}
 use Rattle.emtp_walk.specs.declared.control_cards.ControlCards.{ControlCards}
 use Rattle.emtp_walk.specs.declared.control_cards.ControlPlace.{ControlPlace}
-use Rattle.emtp_walk.specs.declared.control_cards.ControlPlace.TheVariants.{Blocks, Denominator, DevicePoints, Extras, Initial, Numerator, TacsOutputs, TacsSources}
+use Rattle.emtp_walk.specs.declared.control_cards.ControlPlace.TheVariants.{Denominator, DevicePoints, Numerator}
 use Rattle.emtp_walk.specs.declared.control_cards.ExtraEntry.{ExtraEntry}
 use Rattle.emtp_walk.specs.declared.control_cards.ExtraEntry.TheVariants.{Device as DeviceEntry, Formula as FormulaEntry}
 use Rattle.emtp_walk.specs.declared.control_cards.TacsOutputEntry.{TacsOutputEntry}
@@ -13,7 +13,7 @@ use Rattle.emtp_walk.specs.declared.deck.BranchEntry.TheVariants.{Single, Trio}
 use Rattle.emtp_walk.specs.declared.deck.Deck.{Deck}
 use Rattle.emtp_walk.specs.declared.deck.OutputEntry.{OutputEntry}
 use Rattle.emtp_walk.specs.declared.deck.Place.{Place}
-use Rattle.emtp_walk.specs.declared.deck.Place.TheVariants.{After, Begin, Branches, First, Outputs, Points, Second, Sources, Start, Switches, Third, Waiting, Control}
+use Rattle.emtp_walk.specs.declared.deck.Place.TheVariants.{Points, Third, Waiting, Control}
 use Rattle.emtp_netcards.specs.declared.source_card.SourceCard.{SourceCard}
 use Rattle.emtp_netcards.specs.declared.switch_card.SwitchCard.{SwitchCard}
 
@@ -57,30 +57,18 @@ control_lines cards =
     ++ map (λ (e : TacsOutputEntry). e.line) cards.outputs
 
 abbrev pub pending_control_lines : ControlPlace → List ℕ
-pending_control_lines Blocks = []
 pending_control_lines (Numerator card) = card.line ∷ []
 pending_control_lines (Denominator card top line) = card.line ∷ []
-pending_control_lines TacsSources = []
-pending_control_lines Extras = []
 pending_control_lines (DevicePoints group) = group.card.line ∷ []
-pending_control_lines TacsOutputs = []
-pending_control_lines Initial = []
+pending_control_lines other = []
 
 -- the cards of a group that isn't ended
 abbrev pub pending_lines : Place → List ℕ
-pending_lines Begin = []
-pending_lines (First seen) = []
-pending_lines Second = []
-pending_lines Start = []
 pending_lines (Control at) = pending_control_lines at
-pending_lines (Branches wide) = []
 pending_lines (Points group) = group.card.line ∷ []
 pending_lines (Waiting card wide) = card.line ∷ []
 pending_lines (Third zero' positive wide) = zero'.line ∷ positive.line ∷ []
-pending_lines Switches = []
-pending_lines Sources = []
-pending_lines Outputs = []
-pending_lines (After seen) = []
+pending_lines other = []
 
 abbrev pub switch_lines : List SwitchCard → List ℕ
 switch_lines cards = map (λ (card : SwitchCard). card.line) cards

@@ -27,9 +27,9 @@ use Rattle.emtp_netcards.specs.SwitchCard.{switch_card}
 use Rattle.emtp_netcards.specs.VintageCard.{is_vintage, vintage_card}
 use Rattle.emtp_netcards.specs.declared.branch_card.BranchCard.{BranchCard}
 use Rattle.emtp_netcards.specs.declared.branch_card.BranchKind.{BranchKind}
-use Rattle.emtp_netcards.specs.declared.branch_card.BranchKind.TheVariants.{Line as LineKind, Reactor as ReactorKind, Resistor as ResistorKind, Second as SecondKind, Series as SeriesKind, Third as ThirdKind}
+use Rattle.emtp_netcards.specs.declared.branch_card.BranchKind.TheVariants.{Second as SecondKind, Third as ThirdKind}
 use Rattle.emtp_netcards.specs.declared.branch_card.BranchValues.{BranchValues}
-use Rattle.emtp_netcards.specs.declared.branch_card.BranchValues.TheVariants.{Line as LineCard, Lumped as LumpedCard, Reactor as ReactorCard, Resistor as ResistorCard, Second as SecondCard, Third as ThirdCard}
+use Rattle.emtp_netcards.specs.declared.branch_card.BranchValues.TheVariants.{Line as LineCard, Reactor as ReactorCard, Resistor as ResistorCard}
 use Rattle.emtp_netcards.specs.declared.output_card.OutputCard.{OutputCard}
 use Rattle.emtp_netcards.specs.declared.point_card.PointScale.{PointScale}
 use Rattle.emtp_netcards.specs.declared.point_card.PointScale.TheVariants.{Reactor as OfReactor, Resistor as OfResistor}
@@ -98,34 +98,23 @@ take_pseudo deck card wide false = (with_card deck card, Branches wide)
 
 -- a line waits for the card after it, which may be its second phase
 abbrev pub take_values : Deck → BranchCard → Bool → BranchValues → Deck × Place
-take_values deck card wide (LumpedCard r l c) = (with_card deck card, Branches wide)
 take_values deck card wide (LineCard zc r delay) = (deck, Waiting card wide)
 take_values deck card wide ReactorCard = take_pseudo deck card wide (is_none card.copies)
 take_values deck card wide ResistorCard = take_pseudo deck card wide (is_none card.copies)
-take_values deck card wide (SecondCard zc r delay) = (with_card deck card, Branches wide)
-take_values deck card wide ThirdCard = (with_card deck card, Branches wide)
+take_values deck card wide other = (with_card deck card, Branches wide)
 
 abbrev pub take_branch : Deck → BranchCard → Bool → Deck × Place
 take_branch deck card wide = take_values deck card wide card.values
 
 -- the second and the third phase of a line stand after its first alone
 abbrev pub is_phase : Result BranchKind Why → Bool
-is_phase (Ok SeriesKind) = false
-is_phase (Ok LineKind) = false
 is_phase (Ok SecondKind) = true
 is_phase (Ok ThirdKind) = true
-is_phase (Ok ReactorKind) = false
-is_phase (Ok ResistorKind) = false
-is_phase (Err why) = false
+is_phase other = false
 
 abbrev pub is_second : Result BranchKind Why → Bool
-is_second (Ok SeriesKind) = false
-is_second (Ok LineKind) = false
 is_second (Ok SecondKind) = true
-is_second (Ok ThirdKind) = false
-is_second (Ok ReactorKind) = false
-is_second (Ok ResistorKind) = false
-is_second (Err why) = false
+is_second other = false
 
 unfoldable pub card_step : Deck → ℕ → List ℕ → Bool → Read
 card_step deck number line wide =
@@ -156,12 +145,8 @@ take_third deck number line zero' positive wide =
 
 -- the card after a card -2: its third phase alone; a type that isn't known is refused as such, but a vintage card has none
 abbrev pub third_by : Deck → ℕ → List ℕ → BranchCard → BranchCard → Bool → Result BranchKind Why → Read
-third_by deck number line zero' positive wide (Ok SeriesKind) = unless_bad (order_fault number line) (deck, Branches wide)
-third_by deck number line zero' positive wide (Ok LineKind) = unless_bad (order_fault number line) (deck, Branches wide)
-third_by deck number line zero' positive wide (Ok SecondKind) = unless_bad (order_fault number line) (deck, Branches wide)
 third_by deck number line zero' positive wide (Ok ThirdKind) = take_third deck number line zero' positive wide
-third_by deck number line zero' positive wide (Ok ReactorKind) = unless_bad (order_fault number line) (deck, Branches wide)
-third_by deck number line zero' positive wide (Ok ResistorKind) = unless_bad (order_fault number line) (deck, Branches wide)
+third_by deck number line zero' positive wide (Ok other) = unless_bad (order_fault number line) (deck, Branches wide)
 third_by deck number line zero' positive wide (Err why) =
     if is_vintage line then unless_bad (order_fault number line) (deck, Branches wide) else take_third deck number line zero' positive wide
 
@@ -173,12 +158,8 @@ third_step deck number line zero' positive wide =
 -- ---- points
 
 abbrev pub scale_by : BranchValues → PointScale
-scale_by (LumpedCard r l c) = OfResistor
-scale_by (LineCard zc r delay) = OfResistor
 scale_by ReactorCard = OfReactor
-scale_by ResistorCard = OfResistor
-scale_by (SecondCard zc r delay) = OfResistor
-scale_by ThirdCard = OfResistor
+scale_by other = OfResistor
 
 abbrev pub scale_of : Group → PointScale
 scale_of group = scale_by group.card.values

@@ -13,7 +13,7 @@ use Rattle.emtp_walk.specs.ControlSteps.{device_scale, no_control, points_follow
 use Rattle.emtp_walk.specs.Walk.{is_phase, scale_of}
 use Rattle.emtp_walk.specs.declared.control_cards.ControlCards.{ControlCards}
 use Rattle.emtp_walk.specs.declared.control_cards.ControlPlace.{ControlPlace}
-use Rattle.emtp_walk.specs.declared.control_cards.ControlPlace.TheVariants.{Blocks, Denominator, DevicePoints, Extras, Initial, Numerator, TacsOutputs, TacsSources}
+use Rattle.emtp_walk.specs.declared.control_cards.ControlPlace.TheVariants.{Denominator, DevicePoints, Numerator}
 use Rattle.emtp_walk.specs.declared.control_cards.DeviceGroup.{DeviceGroup}
 use Rattle.emtp_walk.specs.declared.control_cards.ExtraEntry.{ExtraEntry}
 use Rattle.emtp_walk.specs.declared.control_cards.ExtraEntry.TheVariants.{Device as DeviceEntry, Formula as FormulaEntry}
@@ -22,7 +22,7 @@ use Rattle.emtp_walk.specs.declared.deck.BranchEntry.TheVariants.{Single, Trio}
 use Rattle.emtp_walk.specs.declared.deck.Deck.{Deck}
 use Rattle.emtp_walk.specs.declared.deck.Group.{Group}
 use Rattle.emtp_walk.specs.declared.deck.Place.{Place}
-use Rattle.emtp_walk.specs.declared.deck.Place.TheVariants.{After, Begin, Branches, First, Outputs, Points, Second, Sources, Start, Switches, Third, Waiting, Control}
+use Rattle.emtp_walk.specs.declared.deck.Place.TheVariants.{Begin, First, Points, Second, Third, Waiting, Control}
 use Rattle.emtp_netcards.specs.held.BranchCard.{HasNumbers, kind_of_values}
 use Rattle.emtp_netcards.specs.PointCard.{origin_or}
 use Rattle.emtp_netcards.specs.held.PointCard.{IsPointOf, Follows}
@@ -31,7 +31,7 @@ use Rattle.emtp_netcards.specs.held.SwitchCard.{HasSwitchNumbers}
 use Rattle.emtp_netcards.specs.declared.branch_card.BranchCard.{BranchCard}
 use Rattle.emtp_netcards.specs.declared.branch_card.BranchKind.TheVariants.{Line as LineKind, Second as SecondKind}
 use Rattle.emtp_netcards.specs.declared.branch_card.BranchValues.{BranchValues}
-use Rattle.emtp_netcards.specs.declared.branch_card.BranchValues.TheVariants.{Line as LineCard, Lumped as LumpedCard, Reactor as ReactorCard, Resistor as ResistorCard, Second as SecondCard, Third as ThirdCard}
+use Rattle.emtp_netcards.specs.declared.branch_card.BranchValues.TheVariants.{Reactor as ReactorCard, Resistor as ResistorCard}
 use Rattle.emtp_netcards.specs.declared.point_card.PointScale.{PointScale}
 use Rattle.emtp_netcards.specs.declared.source_card.SourceCard.{SourceCard}
 use Rattle.emtp_taccards.specs.held.DeviceCard.{HasDeviceNumbers, HasItsD}
@@ -47,20 +47,13 @@ use Rattle.emtp_taccards.specs.declared.formula_card.FormulaCard.{FormulaCard}
 -- ---- entries
 
 abbrev pub is_pseudo : BranchValues → Bool
-is_pseudo (LumpedCard r l c) = false
-is_pseudo (LineCard zc r delay) = false
-is_pseudo (SecondCard zc r delay) = false
-is_pseudo ThirdCard = false
 is_pseudo ReactorCard = true
 is_pseudo ResistorCard = true
+is_pseudo other = false
 
 abbrev pub is_reactor : BranchValues → Bool
-is_reactor (LumpedCard r l c) = false
-is_reactor (LineCard zc r delay) = false
-is_reactor (SecondCard zc r delay) = false
-is_reactor ThirdCard = false
 is_reactor ReactorCard = true
-is_reactor ResistorCard = false
+is_reactor other = false
 
 -- points follow a pseudo-nonlinear branch that takes none of another
 abbrev pub has_points : BranchCard → Bool
@@ -183,26 +176,17 @@ pub record IsNumerator (deck : Deck) (card : BlockCard) (top : List ℤ) : Type 
   pub polynomial : IsPolynomial deck.run.dt card.order top
 
 abbrev pub IsControlSound : Deck → ControlPlace → Type 0
-IsControlSound deck Blocks = IsWhole deck
 IsControlSound deck (Numerator card) = IsWhole deck × IsBlockDue card
 IsControlSound deck (Denominator card top line) = IsWhole deck × IsNumerator deck card top
-IsControlSound deck TacsSources = IsWhole deck
-IsControlSound deck Extras = IsWhole deck
 IsControlSound deck (DevicePoints group) = IsWhole deck × IsDeviceGroup deck group
-IsControlSound deck TacsOutputs = IsWhole deck
-IsControlSound deck Initial = IsWhole deck
+IsControlSound deck other = IsWhole deck
 
 abbrev pub IsSound : Deck → Place → Type 0
 IsSound deck Begin = IsHead deck
 IsSound deck (First seen) = IsHead deck
 IsSound deck Second = IsHead deck
-IsSound deck Start = IsWhole deck
 IsSound deck (Control at) = IsControlSound deck at
-IsSound deck (Branches wide) = IsWhole deck
 IsSound deck (Points group) = IsWhole deck × IsGroupOf deck group
 IsSound deck (Waiting card wide) = IsWhole deck × IsWaiting deck card
 IsSound deck (Third zero' positive wide) = IsWhole deck × IsTrioEntry deck.run zero' positive
-IsSound deck Switches = IsWhole deck
-IsSound deck Sources = IsWhole deck
-IsSound deck Outputs = IsWhole deck
-IsSound deck (After seen) = IsWhole deck
+IsSound deck other = IsWhole deck
