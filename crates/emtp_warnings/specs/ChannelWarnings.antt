@@ -2,7 +2,7 @@
 use Rattle.std.specs.List.{list_any}
 use Rattle.std.specs.Prelude.{ℕ, zero, suc, ◌+◌, ◌==◌, length, slice_get, take, Bool, false, List, [], ◌++◌, Option, Some, None}
 use Rattle.emtp_case.specs.declared.channel.Channel.{Channel}
-use Rattle.emtp_case.specs.declared.channel.Channel.TheVariants.{BranchCurrent, BranchVoltage, NodeVoltage, Status, SwitchCurrent, SwitchVoltage, Tacs}
+use Rattle.emtp_case.specs.declared.channel.Channel.TheVariants.{NodeVoltage, Tacs}
 use Rattle.emtp_warnings.specs.Finding.{when}
 use Rattle.emtp_warnings.specs.declared.finding.Finding.TheVariants.{AskedTwice}
 use Rattle.emtp_warnings.specs.declared.finding.Spot.TheVariants.{Channel as OfChannel}
@@ -10,31 +10,17 @@ use Rattle.emtp_warnings.specs.declared.finding.Warning.{Warning}
 
 -- nodes and variables alone can be named by several output cards
 abbrev pub is_node_channel : ℕ → Channel → Bool
-is_node_channel node (NodeVoltage other) = other == node
-is_node_channel node (BranchCurrent branch) = false
-is_node_channel node (BranchVoltage branch) = false
-is_node_channel node (SwitchCurrent switch) = false
-is_node_channel node (SwitchVoltage switch) = false
-is_node_channel node (Tacs var) = false
-is_node_channel node (Status switch) = false
+is_node_channel node (NodeVoltage asked) = asked == node
+is_node_channel node other = false
 
 abbrev pub is_variable_channel : ℕ → Channel → Bool
-is_variable_channel var (NodeVoltage node) = false
-is_variable_channel var (BranchCurrent branch) = false
-is_variable_channel var (BranchVoltage branch) = false
-is_variable_channel var (SwitchCurrent switch) = false
-is_variable_channel var (SwitchVoltage switch) = false
-is_variable_channel var (Tacs other) = other == var
-is_variable_channel var (Status switch) = false
+is_variable_channel var (Tacs asked) = asked == var
+is_variable_channel var other = false
 
 abbrev pub is_among : List Channel → Channel → Bool
 is_among channels (NodeVoltage node) = list_any (is_node_channel node) channels
-is_among channels (BranchCurrent branch) = false
-is_among channels (BranchVoltage branch) = false
-is_among channels (SwitchCurrent switch) = false
-is_among channels (SwitchVoltage switch) = false
 is_among channels (Tacs var) = list_any (is_variable_channel var) channels
-is_among channels (Status switch) = false
+is_among channels other = false
 
 abbrev pub was_asked : List Channel → Option Channel → Bool
 was_asked before None = false

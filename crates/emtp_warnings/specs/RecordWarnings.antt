@@ -9,11 +9,11 @@ use Rattle.emtp_case.specs.declared.branch.Branch.TheVariants.{Line as OfLine, L
 use Rattle.emtp_case.specs.declared.branch.Trio.{Trio}
 use Rattle.emtp_case.specs.declared.case.Parts.{Parts}
 use Rattle.emtp_case.specs.declared.source.Shape.{Shape}
-use Rattle.emtp_case.specs.declared.source.Shape.TheVariants.{Cosine, NodeVoltage, Pulse, Ramp, Saw, Step, SwitchCurrent, SwitchStatus, Tacs}
+use Rattle.emtp_case.specs.declared.source.Shape.TheVariants.{Cosine}
 use Rattle.emtp_case.specs.declared.source.Source.{Source}
 use Rattle.emtp_case.specs.declared.switch.Switch.{Switch}
 use Rattle.emtp_case.specs.declared.switch.SwitchKind.{SwitchKind}
-use Rattle.emtp_case.specs.declared.switch.SwitchKind.TheVariants.{Control, Measuring, Time, Valve}
+use Rattle.emtp_case.specs.declared.switch.SwitchKind.TheVariants.{Time}
 use Rattle.emtp_warnings.specs.Finding.{of_columns, when}
 use Rattle.emtp_warnings.specs.declared.finding.Finding.TheVariants.{AfterEnd, LoneNode, NoFrequency, NodeZero, ShortTravel}
 use Rattle.emtp_warnings.specs.declared.finding.Spot.TheVariants.{Line as OfTheLine}
@@ -87,9 +87,7 @@ is_after_end last (Some time) = int_lt last time
 abbrev pub times_warnings : ℤ → ℕ → SwitchKind → List Warning
 times_warnings last line (Time close open_at margin) =
     when (int_lt last close) (of_columns line 15 24 AfterEnd) ++ when (is_after_end last open_at) (of_columns line 25 34 AfterEnd)
-times_warnings last line Measuring = []
-times_warnings last line (Valve ignition holding control) = []
-times_warnings last line (Control control) = []
+times_warnings last line other = []
 
 -- the time of the last step
 abbrev pub end_of_run : Parts → ℤ
@@ -101,15 +99,8 @@ switch_warnings p s = ends_warnings p s.line s.from s.to ++ times_warnings (end_
 -- ---- sources
 
 abbrev pub is_constant : Shape → Bool
-is_constant Step = false
-is_constant (Ramp rise) = false
 is_constant (Cosine freq phase) = int_eq freq (pos 0)
-is_constant (Tacs var) = false
-is_constant (Pulse period width) = false
-is_constant (Saw period) = false
-is_constant (NodeVoltage node) = false
-is_constant (SwitchCurrent switch) = false
-is_constant (SwitchStatus switch) = false
+is_constant other = false
 
 -- of the network, or of the control
 abbrev pub source_warnings : ℤ → Source → List Warning

@@ -12,7 +12,7 @@ use Rattle.emtp_netcards.specs.BranchCard.{kind_field}
 use Rattle.emtp_netcards.specs.held.PointCard.{point_card}
 use Rattle.emtp_netcards.specs.VintageCard.{vintage_card}
 use Rattle.emtp_netcards.specs.declared.branch_card.BranchKind.{BranchKind}
-use Rattle.emtp_netcards.specs.declared.branch_card.BranchKind.TheVariants.{Line as LineKind, Reactor as ReactorKind, Resistor as ResistorKind, Second as SecondKind, Series as SeriesKind, Third as ThirdKind}
+use Rattle.emtp_netcards.specs.declared.branch_card.BranchKind.TheVariants.{Line as LineKind, Reactor as ReactorKind, Resistor as ResistorKind, Second as SecondKind}
 use Rattle.emtp_netcards.specs.declared.point_card.PointScale.{PointScale}
 use Rattle.emtp_netcards.specs.declared.point_card.PointScale.TheVariants.{Reactor as ReactorScale, Resistor as ResistorScale, Table as TableScale, Times as TimesScale}
 use Rattle.emtp_taccards.specs.BlockCard.{block_card}
@@ -33,13 +33,10 @@ points_or wide false scale = Points scale wide
 
 -- a line waits for the card after it, which may be its second phase
 abbrev pub after_kind : Bool → Bool → Result BranchKind Why → Section
-after_kind wide copies (Ok SeriesKind) = Branches wide
 after_kind wide copies (Ok LineKind) = Waiting wide
-after_kind wide copies (Ok SecondKind) = Branches wide
-after_kind wide copies (Ok ThirdKind) = Branches wide
 after_kind wide copies (Ok ReactorKind) = points_or wide copies ReactorScale
 after_kind wide copies (Ok ResistorKind) = points_or wide copies ResistorScale
-after_kind wide copies (Err why) = Branches wide
+after_kind wide copies other = Branches wide
 
 -- a vintage card says how wide the fields of the series branches after it are
 abbrev pub after_vintage : Bool → Option (Result Bool Bad) → Section → Section
@@ -53,13 +50,8 @@ after_branch number line wide =
     else after_vintage wide (vintage_card number line) (after_kind wide (names_another line) (kind_field line))
 
 abbrev pub is_second_kind : Result BranchKind Why → Bool
-is_second_kind (Ok SeriesKind) = false
-is_second_kind (Ok LineKind) = false
 is_second_kind (Ok SecondKind) = true
-is_second_kind (Ok ThirdKind) = false
-is_second_kind (Ok ReactorKind) = false
-is_second_kind (Ok ResistorKind) = false
-is_second_kind (Err why) = false
+is_second_kind other = false
 
 -- the card after a card -1: its second phase, or what comes after a line
 abbrev pub after_waiting : ℕ → List ℕ → Bool → Section
@@ -70,8 +62,7 @@ after_waiting number line wide = if is_second_kind (kind_field line) then Third 
 -- the card that ends points
 abbrev pub is_last_card : Result (Option Point) Bad → Bool
 is_last_card (Ok None) = true
-is_last_card (Ok (Some point)) = false
-is_last_card (Err bad) = false
+is_last_card other = false
 
 abbrev pub ends_points : ℕ → List ℕ → PointScale → Bool
 ends_points number line scale = is_last_card (point_card number line scale)
