@@ -33,29 +33,16 @@ place_before lines count = place_behind (lines_text (take count lines))
 -- ---- which lines before a place make whole records: those before the card of a group that isn't at its end
 
 abbrev pub whole_control : ControlPlace → ℕ → ℕ
-whole_control Blocks before = before
 whole_control (Numerator card) before = card.line - 1
 whole_control (Denominator card top line) before = card.line - 1
-whole_control TacsSources before = before
-whole_control Extras before = before
 whole_control (DevicePoints group) before = group.card.line - 1
-whole_control TacsOutputs before = before
-whole_control Initial before = before
+whole_control other before = before
 
 abbrev pub whole_before : Place → ℕ → ℕ
-whole_before Begin before = before
-whole_before (First seen) before = before
-whole_before Second before = before
-whole_before Start before = before
 whole_before (Control at) before = whole_control at before
-whole_before (Branches wide) before = before
 whole_before (Points group) before = group.card.line - 1
-whole_before (Waiting card wide) before = before
 whole_before (Third zero' positive wide) before = zero'.line - 1
-whole_before Switches before = before
-whole_before Sources before = before
-whole_before Outputs before = before
-whole_before (After seen) before = before
+whole_before other before = before
 
 abbrev pub whole_count : Option Place → ℕ → ℕ
 whole_count None before = 0
