@@ -41,7 +41,7 @@ use Rattle.emtp_walk.specs.declared.deck.Deck.{Deck}
 use Rattle.emtp_walk.specs.declared.deck.OutputEntry.{OutputEntry}
 use Rattle.emtp_netcards.specs.declared.branch_card.BranchCard.{BranchCard}
 use Rattle.emtp_netcards.specs.declared.branch_card.BranchValues.{BranchValues}
-use Rattle.emtp_netcards.specs.declared.branch_card.BranchValues.TheVariants.{Line as LineCard, Lumped as LumpedCard, Reactor as ReactorCard, Resistor as ResistorCard, Second as SecondCard, Third as ThirdCard}
+use Rattle.emtp_netcards.specs.declared.branch_card.BranchValues.TheVariants.{Copied as CopiedCard, Line as LineCard, Lumped as LumpedCard, Reactor as ReactorCard, Resistor as ResistorCard, Second as SecondCard, Third as ThirdCard}
 use Rattle.emtp_netcards.specs.declared.output_card.OutputCard.{OutputCard}
 use Rattle.emtp_netcards.specs.declared.output_card.OutputCard.TheVariants.{All as AllNodes, Names}
 use Rattle.emtp_netcards.specs.declared.source_card.SourceCard.{SourceCard}
@@ -100,6 +100,7 @@ own_kept points p line a b (SecondCard zc r delay) = kept p p.points p.branches 
 own_kept points p line a b ThirdCard = kept p p.points p.branches p.trios
 own_kept points p line a b ReactorCard = kept p (p.points ++ points) _ p.trios
 own_kept points p line a b ResistorCard = kept p (p.points ++ points) _ p.trios
+own_kept points p line a b (CopiedCard kind x y) = kept p p.points p.branches p.trios
 
 values_kept : (points : List Point) (p : Parts) (card : BranchCard) (a b : ℕ) (values : ValuesFrom) → Keeps p (with_values points p card a b values)
 values_kept points p card a b OwnValues = own_kept points p card.line a b card.values

@@ -1,9 +1,9 @@
 -- What is made of the cards stays whole where the branches of an entry are added.
 use Rattle.emtp_case.specs.declared.limit.TheConstants.{MOST_POINTS}
 use Rattle.emtp_case.specs.declared.branch.Trio as modes
-use Rattle.std.proofs.Common.{◌≡◌, ◌∙◌, sym, ap, refl, ℕ, ◌+◌, ◌<◌, ◌≤◌, Bool, true, false, List, [], ◌∷◌, ◌++◌, length, None, Ok, arith, length-append, length-take, length-drop}
+use Rattle.std.proofs.Common.{◌≡◌, ◌∙◌, sym, ap, refl, ℕ, ◌+◌, ◌<◌, ◌≤◌, Bool, true, false, List, [], ◌∷◌, ◌++◌, length, Option, Some, None, Ok, arith, length-append, length-take, length-drop}
 use Rattle.std.proofs.lemmas.List.Elements.{All-append}
-use Rattle.std.specs.Prelude.{All, drop, take, ◌==◌, if◌then◌else◌}
+use Rattle.std.specs.Prelude.{All, drop, find, take, ◌==◌, if◌then◌else◌}
 use Rattle.emtp_case.specs.Branch.{points_of}
 use Rattle.emtp_case.specs.held.Channel.{IsChannel}
 use Rattle.emtp_case.specs.HistoryValues.{history_values_of}
@@ -16,24 +16,23 @@ use Rattle.emtp_case.specs.declared.channel.Channel.TheVariants.{BranchCurrent, 
 use Rattle.emtp_case.specs.declared.draft.Draft.{Draft}
 use Rattle.emtp_case.specs.declared.run_data.RunData.{RunData}
 use Rattle.emtp_deck.proofs.Keeping.{channels_of_there, there_grows}
-use Rattle.emtp_deck.specs.Branches.{branch_channels, entry_channels, entry_count, with_branches, with_own, with_values}
+use Rattle.emtp_deck.specs.Branches.{branch_channels, entry_channels, entry_count, with_branches, with_values}
 use Rattle.emtp_deck.specs.held.Branches.{entry_history}
 use Rattle.emtp_deck.specs.Channels.{channel_count, channels_of}
-use Rattle.emtp_deck.specs.Copies.{missing_fault, values_from}
+use Rattle.emtp_deck.specs.Copies.{earlier_or_missing, is_like, missing_fault, type_of_kind, values_by}
 use Rattle.emtp_deck.specs.held.Filling.{IsFilling}
 use Rattle.emtp_deck.specs.Made.{count_asked}
 use Rattle.emtp_deck.specs.held.Sensible.{AreOwnPoints, IsSensible}
+use Rattle.emtp_sense.specs.Names.{node_number}
 use Rattle.emtp_walk.specs.held.Sound.{IsEntry, IsSingleEntry, has_points, is_reactor}
 use Rattle.emtp_walk.specs.Walk.{is_phase}
-use Rattle.emtp_deck.specs.declared.copies.ValuesFrom.{ValuesFrom}
-use Rattle.emtp_deck.specs.declared.copies.ValuesFrom.TheVariants.{Card as OwnValues, Earlier, Missing}
 use Rattle.emtp_walk.specs.declared.deck.BranchEntry.{BranchEntry}
 use Rattle.emtp_walk.specs.declared.deck.BranchEntry.TheVariants.{Single, Trio}
 use Rattle.emtp_deck.specs.declared.filling.Filling.{Filling}
 use Rattle.emtp_netcards.specs.held.BranchCard.{kind_of_values}
 use Rattle.emtp_netcards.specs.declared.branch_card.BranchCard.{BranchCard}
 use Rattle.emtp_netcards.specs.declared.branch_card.BranchValues.{BranchValues}
-use Rattle.emtp_netcards.specs.declared.branch_card.BranchValues.TheVariants.{Line as LineCard, Lumped as LumpedCard, Reactor as ReactorCard, Resistor as ResistorCard, Second as SecondCard, Third as ThirdCard}
+use Rattle.emtp_netcards.specs.declared.branch_card.BranchValues.TheVariants.{Copied as CopiedCard, Line as LineCard, Lumped as LumpedCard, Reactor as ReactorCard, Resistor as ResistorCard, Second as SecondCard, Third as ThirdCard}
 
 -- ---- counts
 
@@ -95,18 +94,19 @@ three_more p bs ts e = record {
   trios = omega (arith, length-append p.trios ts);
 }
 
-own_grown : (points : List Point) (p : Parts) (line a b : ℕ) (values : BranchValues) → is_phase (Ok (kind_of_values values)) ≡ false → IsGrown p (with_own points p line a b values) 1
-own_grown points p line a b (LumpedCard r l c) e = one_more p p.points _
-own_grown points p line a b (LineCard zc r delay) e = one_more p p.points _
-own_grown points p line a b (SecondCard zc r delay) e = absurd (cc)
-own_grown points p line a b ThirdCard e = absurd (cc)
-own_grown points p line a b ReactorCard e = one_more p (p.points ++ points) _
-own_grown points p line a b ResistorCard e = one_more p (p.points ++ points) _
-
-values_grown : (points : List Point) (p : Parts) (card : BranchCard) (a b : ℕ) (values : ValuesFrom) → is_phase (Ok (kind_of_values card.values)) ≡ false → missing_fault values ≡ None → IsGrown p (with_values points p card a b values) 1
-values_grown points p card a b OwnValues e t = own_grown points p card.line a b card.values e
-values_grown points p card a b (Earlier branch) e t = one_more p p.points _
-values_grown points p card a b Missing e t = absurd (cc)
+values_grown : (points : List Point) (p : Parts) (card : BranchCard) (a b : ℕ) (values : BranchValues) → is_phase (Ok (kind_of_values values)) ≡ false
+    → missing_fault (values_by p.nodes p.branches values) ≡ None → IsGrown p (with_values points p (record card { values = values }) a b (values_by p.nodes p.branches values)) 1
+values_grown points p card a b (LumpedCard r l c) e t = one_more p p.points _
+values_grown points p card a b (LineCard zc r delay) e t = one_more p p.points _
+values_grown points p card a b (SecondCard zc r delay) e t = absurd (cc)
+values_grown points p card a b ThirdCard e t = absurd (cc)
+values_grown points p card a b ReactorCard e t = one_more p (p.points ++ points) _
+values_grown points p card a b ResistorCard e t = one_more p (p.points ++ points) _
+values_grown points p card a b (CopiedCard kind x y) e t = found_grown (find (is_like (type_of_kind kind) (node_number p.nodes x) (node_number p.nodes y)) p.branches) t
+  where
+    found_grown : (found : Option Branch) → missing_fault (earlier_or_missing found) ≡ None → IsGrown p (with_values points p (record card { values = CopiedCard kind x y }) a b (earlier_or_missing found)) 1
+    found_grown (Some branch) t = one_more p p.points _
+    found_grown None t = absurd (cc)
 
 -- how many branches an entry has
 branches_of : BranchEntry → ℕ
@@ -115,7 +115,7 @@ branches_of (Trio zero' positive third) = 3
 
 entry_grown : (run : RunData) (all points : List Point) (p : Parts) (e : BranchEntry) → IsEntry run all e → IsSensible p e → IsGrown p (with_branches points p e) (branches_of e)
 unfolding branches_of
-entry_grown run all points p (Single card first count) h s = values_grown (points_of points first count) p card _ _ (values_from p.nodes p.branches card) h.kind s.taken
+entry_grown run all points p (Single card first count) h s = values_grown (points_of points first count) p card (node_number p.nodes card.from) (node_number p.nodes card.to) card.values h.kind s.taken
 entry_grown run all points p (Trio zero' positive third) h s = three_more p _ _ refl
 
 branch_there : (n : Sizes) (at : ℕ) (card : BranchCard) → at < n.branches → All (IsChannel n) (branch_channels at card)

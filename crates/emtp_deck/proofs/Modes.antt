@@ -13,15 +13,17 @@ use Rattle.emtp_case.specs.declared.branch.Branch.{Branch}
 use Rattle.emtp_case.specs.declared.branch.Branch.TheVariants.{Line as OfLine, Lumped as OfLumped, Phase as OfPhase, Pseudo as OfPseudo}
 use Rattle.emtp_case.specs.declared.case.Parts.{Parts}
 use Rattle.emtp_deck.specs.Branches.{line_history, modes_of, moved, no_numbers}
-use Rattle.emtp_deck.specs.Copies.{earlier_or_missing, is_like, line_numbers, missing_fault, mode_of_phase, no_trio, numbers_of_branch, numbers_of_card, type_of_pseudo, type_of_values, values_by}
+use Rattle.emtp_deck.specs.Copies.{earlier_or_missing, is_like, line_numbers, missing_fault, mode_of_phase, no_trio, numbers_of_branch, type_of_kind, type_of_pseudo, values_by}
 use Rattle.emtp_deck.specs.held.Copies.{IsEarlier}
 use Rattle.emtp_sense.specs.Names.{node_number}
 use Rattle.emtp_deck.specs.held.Sensible.{IsLineKind}
 use Rattle.emtp_deck.specs.declared.copies.LineNumbers.{LineNumbers}
 use Rattle.emtp_deck.proofs.Copying.{earlier}
 use Rattle.emtp_netcards.specs.held.BranchCard.{HasValues, kind_of_values}
+use Rattle.emtp_netcards.specs.declared.branch_card.BranchKind.{BranchKind}
+use Rattle.emtp_netcards.specs.declared.branch_card.BranchKind.TheVariants.{Line as LineKind, Reactor as ReactorKind, Resistor as ResistorKind, Second as SecondKind, Series as SeriesKind, Third as ThirdKind}
 use Rattle.emtp_netcards.specs.declared.branch_card.BranchValues.{BranchValues}
-use Rattle.emtp_netcards.specs.declared.branch_card.BranchValues.TheVariants.{Line as LineCard, Lumped as LumpedCard, Reactor as ReactorCard, Resistor as ResistorCard, Second as SecondCard, Third as ThirdCard}
+use Rattle.emtp_netcards.specs.declared.branch_card.BranchValues.TheVariants.{Copied as CopiedCard, Line as LineCard, Lumped as LumpedCard, Reactor as ReactorCard, Resistor as ResistorCard, Second as SecondCard, Third as ThirdCard}
 
 -- ---- history values
 
@@ -54,41 +56,33 @@ pub record IsNumbered (dt : ℤ) (o : Option LineNumbers) : Type 0 where
   pub is : o ≡ Some (unwrap_or o no_numbers)
   pub range : HasRange dt (unwrap_or o no_numbers)
 
-own_numbered : (dt : ℤ) (values : BranchValues) → IsLineKind (kind_of_values values) → HasValues dt values → IsNumbered dt (numbers_of_card values)
-own_numbered dt (LumpedCard r l c) k h = absurd k
-own_numbered dt (LineCard zc r delay) k h = record { is = refl; range = h }
-own_numbered dt (SecondCard zc r delay) k h = record { is = refl; range = h }
-own_numbered dt ThirdCard k h = absurd k
-own_numbered dt ReactorCard k h = absurd k
-own_numbered dt ResistorCard k h = absurd k
-
 mode_below : (is : Bool) → if◌then◌else◌ {A = ℕ} is 0 1 < 2
 mode_below true = omega arith
 mode_below false = omega arith
 
-no_pseudo : (reactor : Bool) (values : BranchValues) → IsLineKind (kind_of_values values) → type_of_pseudo reactor ≡ type_of_values values → ⊥
-no_pseudo reactor (LumpedCard r l c) k e = k
-no_pseudo true (LineCard zc r delay) k e = cc
-no_pseudo false (LineCard zc r delay) k e = cc
-no_pseudo true (SecondCard zc r delay) k e = cc
-no_pseudo false (SecondCard zc r delay) k e = cc
-no_pseudo reactor ThirdCard k e = k
-no_pseudo reactor ReactorCard k e = k
-no_pseudo reactor ResistorCard k e = k
+no_pseudo : (reactor : Bool) (kind : BranchKind) → IsLineKind kind → type_of_pseudo reactor ≡ type_of_kind kind → ⊥
+no_pseudo reactor SeriesKind k e = k
+no_pseudo true LineKind k e = cc
+no_pseudo false LineKind k e = cc
+no_pseudo true SecondKind k e = cc
+no_pseudo false SecondKind k e = cc
+no_pseudo reactor ThirdKind k e = k
+no_pseudo reactor ReactorKind k e = k
+no_pseudo reactor ResistorKind k e = k
 
-no_lumped : (values : BranchValues) → IsLineKind (kind_of_values values) → pos 0 ≡ type_of_values values → ⊥
-no_lumped (LumpedCard r l c) k e = k
-no_lumped (LineCard zc r delay) k e = cc
-no_lumped (SecondCard zc r delay) k e = cc
-no_lumped ThirdCard k e = k
-no_lumped ReactorCard k e = k
-no_lumped ResistorCard k e = k
+no_lumped : (kind : BranchKind) → IsLineKind kind → pos 0 ≡ type_of_kind kind → ⊥
+no_lumped SeriesKind k e = k
+no_lumped LineKind k e = cc
+no_lumped SecondKind k e = cc
+no_lumped ThirdKind k e = k
+no_lumped ReactorKind k e = k
+no_lumped ResistorKind k e = k
 
-branch_numbered : (p : Parts) (values : BranchValues) (b : Branch) → IsLineKind (kind_of_values values) → All (IsTrio p.run) p.trios → IsEarlier p (type_of_values values) b → IsNumbered p.run.dt (numbers_of_branch p.trios b)
-branch_numbered p values (OfLumped x) k trios h = absurd (no_lumped values k h.same)
-branch_numbered p values (OfLine x) k trios h = record { is = refl; range = h.there.numbers }
-branch_numbered p values (OfPseudo x) k trios h = absurd (no_pseudo x.reactor values k h.same)
-branch_numbered p values (OfPhase x) k trios h = record { is = refl; range = trios x.trio no_trio h.there.trio (mode_of_phase x.phase) (mode_below (x.phase == 0)) }
+branch_numbered : (p : Parts) (kind : BranchKind) (b : Branch) → IsLineKind kind → All (IsTrio p.run) p.trios → IsEarlier p (type_of_kind kind) b → IsNumbered p.run.dt (numbers_of_branch p.trios b)
+branch_numbered p kind (OfLumped x) k trios h = absurd (no_lumped kind k h.same)
+branch_numbered p kind (OfLine x) k trios h = record { is = refl; range = h.there.numbers }
+branch_numbered p kind (OfPseudo x) k trios h = absurd (no_pseudo x.reactor kind k h.same)
+branch_numbered p kind (OfPhase x) k trios h = record { is = refl; range = trios x.trio no_trio h.there.trio (mode_of_phase x.phase) (mode_below (x.phase == 0)) }
 
 -- a branch with the values of an earlier one, between other nodes
 pub moved_fits : (p : Parts) (line a b : ℕ) (x : Branch) → All (IsTrio p.run) p.trios → AreEnds (length p.nodes) a b → IsBranch p.run (sizes_of p) p.points x → IsBranch p.run (sizes_of p) p.points (moved p.trios line a b x)
@@ -97,12 +91,18 @@ moved_fits p line a b (OfLine x) trios ends h = record { ends = ends; numbers = 
 moved_fits p line a b (OfPseudo x) trios ends h = record { ends = ends; some = h.some; few = h.few; there = h.there; characteristic = h.characteristic }
 moved_fits p line a b (OfPhase x) trios ends h = record { ends = ends; numbers = trios x.trio no_trio h.trio (mode_of_phase x.phase) (mode_below (x.phase == 0)) }
 
-found_numbered : (p : Parts) (values : BranchValues) (a b : ℕ) (o : Option Branch) → IsLineKind (kind_of_values values) → All (IsTrio p.run) p.trios → All (IsBranch p.run (sizes_of p) p.points) p.branches → find (is_like (type_of_values values) a b) p.branches ≡ o → missing_fault (earlier_or_missing o) ≡ None
+found_numbered : (p : Parts) (values : BranchValues) (kind : BranchKind) (a b : ℕ) (o : Option Branch) → IsLineKind kind → All (IsTrio p.run) p.trios
+    → All (IsBranch p.run (sizes_of p) p.points) p.branches → find (is_like (type_of_kind kind) a b) p.branches ≡ o → missing_fault (earlier_or_missing o) ≡ None
     → IsNumbered p.run.dt (line_numbers p.trios values (earlier_or_missing o))
-found_numbered p values a b None k trios all e t = absurd (cc)
-found_numbered p values a b (Some x) k trios all e t = branch_numbered p values x k trios (earlier p (type_of_values values) a b x all e)
+found_numbered p values kind a b None k trios all e t = absurd (cc)
+found_numbered p values kind a b (Some x) k trios all e t = branch_numbered p kind x k trios (earlier p (type_of_kind kind) a b x all e)
 
-pub numbered : (p : Parts) (names : List (List ℕ)) (values : BranchValues) (copies : Option (Option (List ℕ) × Option (List ℕ))) → IsLineKind (kind_of_values values) → (copies ≡ None → HasValues p.run.dt values) → All (IsTrio p.run) p.trios
-    → All (IsBranch p.run (sizes_of p) p.points) p.branches → missing_fault (values_by names p.branches (type_of_values values) copies) ≡ None → IsNumbered p.run.dt (line_numbers p.trios values (values_by names p.branches (type_of_values values) copies))
-numbered p names values None k own trios all t = own_numbered p.run.dt values k (own refl)
-numbered p names values (Some c) k own trios all t = found_numbered p values (node_number names c.0) (node_number names c.1) _ k trios all refl t
+pub numbered : (p : Parts) (names : List (List ℕ)) (values : BranchValues) → IsLineKind (kind_of_values values) → HasValues p.run.dt values → All (IsTrio p.run) p.trios
+    → All (IsBranch p.run (sizes_of p) p.points) p.branches → missing_fault (values_by names p.branches values) ≡ None → IsNumbered p.run.dt (line_numbers p.trios values (values_by names p.branches values))
+numbered p names (LumpedCard r l c) k own trios all t = absurd k
+numbered p names (LineCard zc r delay) k own trios all t = record { is = refl; range = own }
+numbered p names (SecondCard zc r delay) k own trios all t = record { is = refl; range = own }
+numbered p names ThirdCard k own trios all t = absurd k
+numbered p names ReactorCard k own trios all t = absurd k
+numbered p names ResistorCard k own trios all t = absurd k
+numbered p names (CopiedCard kind a b) k own trios all t = found_numbered p (CopiedCard kind a b) kind (node_number names a) (node_number names b) _ k trios all refl t

@@ -31,7 +31,7 @@ use Rattle.emtp_walk.specs.declared.deck.Place.{Place}
 use Rattle.emtp_walk.specs.declared.deck.Place.TheVariants.{After, Begin, Branches, First, Outputs, Points, Second, Sources, Start, Switches, Third, Waiting, Control}
 use Rattle.emtp_netcards.specs.declared.branch_card.BranchCard.{BranchCard}
 use Rattle.emtp_netcards.specs.declared.branch_card.BranchValues.{BranchValues}
-use Rattle.emtp_netcards.specs.declared.branch_card.BranchValues.TheVariants.{Line as LineCard, Lumped as LumpedCard, Reactor as ReactorCard, Resistor as ResistorCard, Second as SecondCard, Third as ThirdCard}
+use Rattle.emtp_netcards.specs.declared.branch_card.BranchValues.TheVariants.{Line as LineCard, Lumped as LumpedCard, Reactor as ReactorCard, Resistor as ResistorCard}
 
 -- ---- what is counted
 
@@ -132,14 +132,13 @@ with_points points p line a b reactor = record p {
   branches = p.branches ++ OfPseudo (record { line = line; «from» = a; to = b; reactor = reactor; first = length p.points; count = length points }) ∷ [];
 }
 
--- a card's own values; no second or third phase stands alone
+-- a card's own values; no second or third phase stands alone, and a card that copies has none
 abbrev pub with_own : List Point → Parts → ℕ → ℕ → ℕ → BranchValues → Parts
 with_own points p line a b (LumpedCard r l c) = with_branch p (OfLumped (record { line = line; «from» = a; to = b; r = r; l = l; c = c }))
 with_own points p line a b (LineCard zc r delay) = with_branch p (line_branch line a b (record { zc = zc; r = r; delay = delay }))
 with_own points p line a b ReactorCard = with_points points p line a b true
 with_own points p line a b ResistorCard = with_points points p line a b false
-with_own points p line a b (SecondCard zc r delay) = p
-with_own points p line a b ThirdCard = p
+with_own points p line a b other = p
 
 abbrev pub with_values : List Point → Parts → BranchCard → ℕ → ℕ → ValuesFrom → Parts
 with_values points p card a b OwnValues = with_own points p card.line a b card.values

@@ -14,8 +14,10 @@ use Rattle.emtp_deck.specs.declared.copies.LineNumbers.{LineNumbers}
 use Rattle.emtp_deck.specs.declared.copies.ValuesFrom.{ValuesFrom}
 use Rattle.emtp_deck.specs.declared.copies.ValuesFrom.TheVariants.{Card as OwnValues, Earlier, Missing}
 use Rattle.emtp_netcards.specs.declared.branch_card.BranchCard.{BranchCard}
+use Rattle.emtp_netcards.specs.declared.branch_card.BranchKind.{BranchKind}
+use Rattle.emtp_netcards.specs.declared.branch_card.BranchKind.TheVariants.{Line as LineKind, Reactor as ReactorKind, Resistor as ResistorKind, Second as SecondKind, Series as SeriesKind, Third as ThirdKind}
 use Rattle.emtp_netcards.specs.declared.branch_card.BranchValues.{BranchValues}
-use Rattle.emtp_netcards.specs.declared.branch_card.BranchValues.TheVariants.{Line as LineCard, Lumped as LumpedCard, Reactor as ReactorCard, Resistor as ResistorCard, Second as SecondCard, Third as ThirdCard}
+use Rattle.emtp_netcards.specs.declared.branch_card.BranchValues.TheVariants.{Copied as CopiedCard, Line as LineCard, Second as SecondCard}
 
 -- the number in the type columns of the card that made a branch
 abbrev pub type_of_phase : ℕ → ℤ
@@ -32,13 +34,13 @@ type_of_branch (OfPseudo x) = type_of_pseudo x.reactor
 type_of_branch (OfPhase x) = type_of_phase x.phase
 
 -- and of a card itself
-abbrev pub type_of_values : BranchValues → ℤ
-type_of_values (LumpedCard r l c) = pos 0
-type_of_values (LineCard zc r delay) = negsuc 0
-type_of_values (SecondCard zc r delay) = negsuc 1
-type_of_values ThirdCard = negsuc 2
-type_of_values ReactorCard = pos 98
-type_of_values ResistorCard = pos 99
+abbrev pub type_of_kind : BranchKind → ℤ
+type_of_kind SeriesKind = pos 0
+type_of_kind LineKind = negsuc 0
+type_of_kind SecondKind = negsuc 1
+type_of_kind ThirdKind = negsuc 2
+type_of_kind ReactorKind = pos 98
+type_of_kind ResistorKind = pos 99
 
 -- a branch of a type between two nodes in this order
 abbrev pub is_like : ℤ → ℕ → ℕ → Branch → Bool
@@ -48,13 +50,17 @@ abbrev pub earlier_or_missing : Option Branch → ValuesFrom
 earlier_or_missing (Some b) = Earlier b
 earlier_or_missing None = Missing
 
-abbrev pub values_by : List (List ℕ) → List Branch → ℤ → Option (Option (List ℕ) × Option (List ℕ)) → ValuesFrom
-values_by names branches type None = OwnValues
-values_by names branches type (Some c) = earlier_or_missing (find (is_like type (node_number names c.0) (node_number names c.1)) branches)
+-- the first branch of a type between the nodes of two names
+abbrev pub earlier_of : List (List ℕ) → List Branch → ℤ → Option (List ℕ) → Option (List ℕ) → ValuesFrom
+earlier_of names branches type a b = earlier_or_missing (find (is_like type (node_number names a) (node_number names b)) branches)
+
+abbrev pub values_by : List (List ℕ) → List Branch → BranchValues → ValuesFrom
+values_by names branches (CopiedCard kind a b) = earlier_of names branches (type_of_kind kind) a b
+values_by names branches other = OwnValues
 
 -- where a card's values come from, behind these branches
 abbrev pub values_from : List (List ℕ) → List Branch → BranchCard → ValuesFrom
-values_from names branches card = values_by names branches (type_of_values card.values) card.copies
+values_from names branches card = values_by names branches card.values
 
 abbrev pub missing_fault : ValuesFrom → Option Fault
 missing_fault OwnValues = None
@@ -85,12 +91,9 @@ numbers_of_branch trios (OfPseudo x) = None
 numbers_of_branch trios (OfPhase x) = Some (phase_numbers trios x)
 
 abbrev pub numbers_of_card : BranchValues → Option LineNumbers
-numbers_of_card (LumpedCard r l c) = None
 numbers_of_card (LineCard zc r delay) = Some (record { zc = zc; r = r; delay = delay })
 numbers_of_card (SecondCard zc r delay) = Some (record { zc = zc; r = r; delay = delay })
-numbers_of_card ThirdCard = None
-numbers_of_card ReactorCard = None
-numbers_of_card ResistorCard = None
+numbers_of_card other = None
 
 -- the numbers that a line's card gives its branch
 abbrev pub line_numbers : List Trio → BranchValues → ValuesFrom → Option LineNumbers

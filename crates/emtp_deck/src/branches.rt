@@ -299,6 +299,7 @@ fn add_own(
         BranchValues::Reactor => add_pseudo(draft, points, line, (from, to), true)?,
         BranchValues::Resistor => add_pseudo(draft, points, line, (from, to), false)?,
         BranchValues::Second { .. } | BranchValues::Third => {}
+        BranchValues::Copied { .. } => {}
     }
     Ok(())
 }

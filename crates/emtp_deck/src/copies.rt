@@ -5,12 +5,13 @@ ghost use Rattle.emtp_case.specs.declared.limit.TheConstants.{MOST_NODES};
 ghost use Rattle.std.specs.Prelude.{◌*◌, ◌≡◌, ◌≤◌, ◌<◌, find, length};
 ghost use Rattle.emtp_case.specs.held.Branch.{IsBranch};
 ghost use Rattle.emtp_case.specs.held.Sizes.{sizes_of};
-ghost use Rattle.emtp_deck.specs.Copies.{is_like, line_numbers, missing_fault, mode_numbers, numbers_of_branch, numbers_of_card, phase_numbers, type_of_branch, type_of_values, values_from};
+ghost use Rattle.emtp_deck.specs.Copies.{is_like, line_numbers, missing_fault, mode_numbers, numbers_of_branch, numbers_of_card, phase_numbers, type_of_branch, type_of_kind, values_from};
 ghost use Rattle.emtp_deck.specs.held.Copies.{IsTaken};
+ghost use Rattle.emtp_netcards.specs.held.BranchCard.{kind_of_values};
 
 use emtp_card::{Fault, Why};
 use emtp_case::{Branch, Draft, Name, Phase, Trio};
-use emtp_netcards::{BranchCard, BranchValues};
+use emtp_netcards::{BranchCard, BranchKind, BranchValues};
 use emtp_sense::node_number;
 use indexmap::IndexSet;
 
@@ -53,16 +54,16 @@ fn type_of_branch(branch: &Branch) -> i64
 }
 
 /// The number in the type columns of a card.
-fn type_of_values(values: &BranchValues) -> i64
-    ensures { result ≡ type_of_values values.now }
+fn type_of_kind(kind: BranchKind) -> i64
+    ensures { result ≡ type_of_kind kind }
 {
-    match values {
-        BranchValues::Lumped { .. } => 0,
-        BranchValues::Line { .. } => -1,
-        BranchValues::Second { .. } => -2,
-        BranchValues::Third => -3,
-        BranchValues::Reactor => 98,
-        BranchValues::Resistor => 99,
+    match kind {
+        BranchKind::Series => 0,
+        BranchKind::Line => -1,
+        BranchKind::Second => -2,
+        BranchKind::Third => -3,
+        BranchKind::Reactor => 98,
+        BranchKind::Resistor => 99,
     }
 }
 
@@ -85,14 +86,13 @@ fn first_like(branches: &[Branch], number: i64, from: u32, to: u32) -> Option<Br
 pub(crate) fn values_from(names: &IndexSet<Name>, draft: &Draft, card: &BranchCard) -> ValuesFrom
     requires { length names.now.keys ≤ 2 * MOST_NODES }
     ensures value { result ≡ values_from names.now.keys draft.now.parts.branches card.now }
-    ensures taken { IsTaken draft.now.parts (type_of_values card.now.values) result }
+    ensures taken { IsTaken draft.now.parts (type_of_kind (kind_of_values card.now.values)) result }
 {
-    match &card.copies {
-        None => ValuesFrom::Card,
-        Some((from, to)) => {
+    match &card.values {
+        BranchValues::Copied { kind, from, to } => {
             let found = first_like(
                 draft.parts.branches.as_slice(),
-                type_of_values(&card.values),
+                type_of_kind(*kind),
                 node_number(names, from),
                 node_number(names, to),
             );
@@ -101,6 +101,7 @@ pub(crate) fn values_from(names: &IndexSet<Name>, draft: &Draft, card: &BranchCa
                 None => ValuesFrom::Missing,
             }
         }
+        _ => ValuesFrom::Card,
     }
 }
 

@@ -1,7 +1,7 @@
 -- While the walk is in one section, those behind it have no card yet.
 use Rattle.std.proofs.Common.{◌≡◌, subst, refl, ℕ, ◌+◌, ℤ, Bool, true, false, List, [], ◌∷◌, ◌++◌, length, Option, Some, None, Result, Ok, Err}
 use Rattle.std.specs.List.{starts_with}
-use Rattle.std.specs.Prelude.{IfOk, if◌then◌else◌, is_none, nat_eq, codes, replicate, pos, ◌==◌}
+use Rattle.std.specs.Prelude.{IfOk, if◌then◌else◌, nat_eq, codes, replicate, pos, ◌==◌}
 use Rattle.emtp_card.specs.Fault.{judge, unless_bad}
 use Rattle.emtp_card.specs.Lines.{is_comment, is_section_end}
 use Rattle.emtp_card.specs.declared.reason.Bad.{Bad}
@@ -18,7 +18,7 @@ use Rattle.emtp_netcards.specs.declared.branch_card.BranchCard.{BranchCard}
 use Rattle.emtp_netcards.specs.declared.branch_card.BranchKind.{BranchKind}
 use Rattle.emtp_netcards.specs.declared.branch_card.BranchKind.TheVariants.{Line as LineKind, Reactor as ReactorKind, Resistor as ResistorKind, Second as SecondKind, Series as SeriesKind, Third as ThirdKind}
 use Rattle.emtp_netcards.specs.declared.branch_card.BranchValues.{BranchValues}
-use Rattle.emtp_netcards.specs.declared.branch_card.BranchValues.TheVariants.{Line as LineCard, Lumped as LumpedCard, Reactor as ReactorCard, Resistor as ResistorCard, Second as SecondCard, Third as ThirdCard}
+use Rattle.emtp_netcards.specs.declared.branch_card.BranchValues.TheVariants.{Copied as CopiedCard, Line as LineCard, Lumped as LumpedCard, Reactor as ReactorCard, Resistor as ResistorCard, Second as SecondCard, Third as ThirdCard}
 use Rattle.emtp_netcards.specs.declared.output_card.OutputCard.{OutputCard}
 use Rattle.emtp_netcards.specs.declared.run_cards.FirstCard.{FirstCard}
 use Rattle.emtp_netcards.specs.declared.source_card.SourceCard.{SourceCard}
@@ -36,7 +36,7 @@ use Rattle.emtp_walk.specs.Answer.{go_on}
 use Rattle.emtp_walk.specs.Coefficients.{divided_bad}
 use Rattle.emtp_walk.specs.ControlSteps.{block_step, control_step, denominator_step, device_point_or_end, device_point_step, device_scale, extra_step, initial_place, keep_block, keep_extra, numerator_step, points_follow, tacs_output_step, tacs_source_step, take_block, take_extra, with_denominator, with_tacs_output, with_tacs_source}
 use Rattle.emtp_walk.specs.LineRead.{Read, order_fault, place_of}
-use Rattle.emtp_walk.specs.Walk.{advance, after_place, begin_fault, begin_place, branch_step, card_step, empty_deck, first_step, is_phase, is_second, output_step, point_or_end, point_step, scale_of, second_step, source_step, start_step, step, switch_step, take_branch, take_pseudo, take_third, take_values, third_by, third_step, times_step, tolerance_step, vintage_or, waiting_step, walk, with_card}
+use Rattle.emtp_walk.specs.Walk.{advance, after_place, begin_fault, begin_place, branch_step, card_step, empty_deck, first_step, is_phase, is_second, output_step, point_or_end, point_step, scale_of, second_step, source_step, start_step, step, switch_step, take_branch, take_copied, take_third, take_values, third_by, third_step, times_step, tolerance_step, vintage_or, waiting_step, walk, with_card}
 use Rattle.emtp_walk.specs.declared.control_cards.BlockEntry.{BlockEntry}
 use Rattle.emtp_walk.specs.declared.control_cards.ControlPlace.{ControlPlace}
 use Rattle.emtp_walk.specs.declared.control_cards.ControlPlace.TheVariants.{Blocks, Denominator, DevicePoints, Extras, Initial, Numerator, TacsOutputs, TacsSources}
@@ -187,21 +187,22 @@ control_leads deck Initial number line h = placed deck (initial_place number lin
 
 -- ---- branches
 
+copied_leads : (deck : Deck) (card : BranchCard) (wide : Bool) (kind : BranchKind) → HasNoSwitches deck → Leads (take_copied deck card wide kind)
+copied_leads deck card wide LineKind h = h
+copied_leads deck card wide SeriesKind h = h
+copied_leads deck card wide SecondKind h = h
+copied_leads deck card wide ThirdKind h = h
+copied_leads deck card wide ReactorKind h = h
+copied_leads deck card wide ResistorKind h = h
+
 values_lead : (deck : Deck) (card : BranchCard) (wide : Bool) (values : BranchValues) → HasNoSwitches deck → Leads (take_values deck card wide values)
 values_lead deck card wide (LumpedCard r l c) h = h
 values_lead deck card wide (LineCard zc r delay) h = h
 values_lead deck card wide (SecondCard zc r delay) h = h
 values_lead deck card wide ThirdCard h = h
-values_lead deck card wide ReactorCard h = pseudo (is_none card.copies)
-  where
-    pseudo : (own : Bool) → Leads (take_pseudo deck card wide own)
-    pseudo true = h
-    pseudo false = h
-values_lead deck card wide ResistorCard h = pseudo (is_none card.copies)
-  where
-    pseudo : (own : Bool) → Leads (take_pseudo deck card wide own)
-    pseudo true = h
-    pseudo false = h
+values_lead deck card wide ReactorCard h = h
+values_lead deck card wide ResistorCard h = h
+values_lead deck card wide (CopiedCard kind a b) h = copied_leads deck card wide kind h
 
 card_leads : (deck : Deck) (number : ℕ) (line : List ℕ) (wide : Bool) → HasNoSwitches deck → IfOk (card_step deck number line wide) Leads
 unfolding card_step

@@ -83,14 +83,14 @@ read_goes : (a b : List ℕ) (wide_a wide_b : Bool) (dt : ℤ) → Alike a wide_
 read_goes a b wide_a wide_b dt alike = judged_goes (series_values a dt wide_a) (series_values b dt wide_b) _ (series_goes a b wide_a wide_b dt alike)
 
 own_goes : (a b : List ℕ) (wide_a wide_b : Bool) (dt : ℤ) (copies : Option (Option (List ℕ) × Option (List ℕ))) → Alike a wide_a b wide_b → Goes (own_values a dt wide_a SeriesKind copies) (own_values b dt wide_b SeriesKind copies)
-own_goes a b wide_a wide_b dt None alike = judged_goes (read_values a dt wide_a SeriesKind) (read_values b dt wide_b SeriesKind) _ (read_goes a b wide_a wide_b dt alike)
+own_goes a b wide_a wide_b dt None alike = read_goes a b wide_a wide_b dt alike
 own_goes a b wide_a wide_b dt (Some names) alike = λ x is. is
 
 copies_same : (a b : List ℕ) (kind : Result BranchKind Fault) → name_field a 15 ≡ name_field b 15 → name_field a 21 ≡ name_field b 21 → copies_of a kind ≡ copies_of b kind
 unfolding copies_of
 copies_same a b kind one other = rw (one, other) refl
 
-copied_goes : {X : Type 0} (one other : Result X Fault) (rule rule' : BranchKind × X → Result (X × BranchValues) Fault) → one ≡ other → ((x : X) → Goes (rule (SeriesKind, x)) (rule' (SeriesKind, x)))
+copied_goes : {X : Type 0} (one other : Result X Fault) (rule rule' : BranchKind × X → Result BranchValues Fault) → one ≡ other → ((x : X) → Goes (rule (SeriesKind, x)) (rule' (SeriesKind, x)))
     → Goes (judged (both (Ok SeriesKind) one) rule) (judged (both (Ok SeriesKind) other) rule')
 copied_goes (Ok x) other rule rule' same go v is = rw (sym same) (go x v is)
 copied_goes (Err f) other rule rule' same go v is = absurd (cc)

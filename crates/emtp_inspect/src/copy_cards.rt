@@ -1,9 +1,9 @@
 //! Which card each card copies that takes the values of another.
 
 ghost use Rattle.emtp_case.specs.declared.limit.TheConstants.{MOST_NODES};
-ghost use Rattle.std.specs.Prelude.{◌≡◌, ◌++◌, ◌≤◌, ◌<◌, IfSome, OnOk, Some, find, length, position};
+ghost use Rattle.std.specs.Prelude.{◌≡◌, ◌++◌, ◌≤◌, ◌<◌, IfSome, OnOk, find, length, position};
 ghost use Rattle.std.specs.Str.{bytes_eq};
-ghost use Rattle.emtp_deck.specs.Copies.{is_like, type_of_branch, type_of_values, values_by, values_from};
+ghost use Rattle.emtp_deck.specs.Copies.{earlier_of, is_like, type_of_branch, type_of_kind, values_from};
 ghost use Rattle.emtp_inspect.specs.CopyCards.{copied_line, copies_text, copy_in, copy_line, copy_text, line_of_values};
 ghost use Rattle.emtp_inspect.specs.EachCard.{branch_in, given_by};
 ghost use Rattle.emtp_sense.specs.Names.{node_number};
@@ -11,7 +11,7 @@ ghost use Rattle.emtp_sense.specs.Names.{node_number};
 use crate::each_card::branch_in;
 use emtp_card::{Cards, Line, MAX_BYTES, comment};
 use emtp_case::{Branch, Case, MOST_NODES, Name};
-use emtp_netcards::{BranchCard, BranchValues};
+use emtp_netcards::{BranchCard, BranchKind, BranchValues};
 use emtp_text::{put, put_number};
 use emtp_warnings::{Section, next_section};
 use std::alloc::AllocError;
@@ -84,19 +84,19 @@ fn copied_line(case: &Case, line: &Line<'_>, section: Section) -> Option<u32>
 fn line_of_values(case: &Case, card: &BranchCard) -> Option<u32>
     ensures { result ≡ line_of_values (values_from case.now.parts.nodes case.now.parts.branches card.now) }
 {
-    match &card.copies {
-        Some(ends) => first_line(case, type_of_values(&card.values), ends),
-        None => None,
+    match &card.values {
+        BranchValues::Copied { kind, from, to } => first_line(case, type_of_kind(*kind), from, to),
+        _ => None,
     }
 }
 
 /// The line of the first branch of a type between two nodes.
-fn first_line(case: &Case, number: i64, ends: &(Option<Name>, Option<Name>)) -> Option<u32>
-    ensures { result ≡ line_of_values (values_by case.now.parts.nodes case.now.parts.branches number (Some ends.now)) }
+fn first_line(case: &Case, number: i64, from: &Option<Name>, to: &Option<Name>) -> Option<u32>
+    ensures { result ≡ line_of_values (earlier_of case.now.parts.nodes case.now.parts.branches number from.now to.now) }
 {
     let names = case.parts.nodes.as_slice();
-    let from = node_number(names, &ends.0);
-    let to = node_number(names, &ends.1);
+    let from = node_number(names, from);
+    let to = node_number(names, to);
     match first_like(case.parts.branches.as_slice(), number, from, to) {
         Some(branch) => Some(branch.line()),
         None => None,
@@ -135,16 +135,16 @@ fn type_of_branch(branch: &Branch) -> i64
 }
 
 /// The number in the type columns of a card.
-fn type_of_values(values: &BranchValues) -> i64
-    ensures { result ≡ type_of_values values.now }
+fn type_of_kind(kind: BranchKind) -> i64
+    ensures { result ≡ type_of_kind kind }
 {
-    match values {
-        BranchValues::Lumped { .. } => 0,
-        BranchValues::Line { .. } => -1,
-        BranchValues::Second { .. } => -2,
-        BranchValues::Third => -3,
-        BranchValues::Reactor => 98,
-        BranchValues::Resistor => 99,
+    match kind {
+        BranchKind::Series => 0,
+        BranchKind::Line => -1,
+        BranchKind::Second => -2,
+        BranchKind::Third => -3,
+        BranchKind::Reactor => 98,
+        BranchKind::Resistor => 99,
     }
 }
 

@@ -14,126 +14,140 @@ const RUN: RunData = RunData {
     tolerance: 10_000_000,
 };
 
-/// Branch cards, whether their fields are wide, their values, and what they ask for.
-const BRANCHES: &[(&str, bool, BranchValues, u8)] = &[
+/// Branch cards, whether their fields are wide, their type, their numbers, and what they ask for.
+const BRANCHES: &[(&str, bool, BranchKind, [i64; 3], u8)] = &[
     (
         "  SRC   MID                  1.0   2.5   0.5",
         false,
-        BranchValues::Lumped {
-            r: 1_000_000,
-            l: 2_500_000,
-            c: 500_000_000,
-        },
+        BranchKind::Series,
+        [1_000_000, 2_500_000, 500_000_000],
         0,
     ),
     (
         "  SRC   MID                            1.0                            0.5",
         true,
-        BranchValues::Lumped {
-            r: 1_000_000,
-            l: 0,
-            c: 500_000_000,
-        },
+        BranchKind::Series,
+        [1_000_000, 0, 500_000_000],
         0,
     ),
     (
         "-1SRC   MID                  .1   1.0   .01   90.",
         false,
-        BranchValues::Line {
-            zc: 316_227_766,
-            r: 9_000_000,
-            delay: 284_604_989,
-        },
+        BranchKind::Line,
+        [316_227_766, 9_000_000, 284_604_989],
         0,
     ),
     (
         "-2SRC   MID                       400.2.9E+5  100. 1",
         false,
-        BranchValues::Second {
-            zc: 400_000_000,
-            r: 0,
-            delay: 344_827_586,
-        },
+        BranchKind::Second,
+        [400_000_000, 0, 344_827_586],
         0,
     ),
     (
         "-3SRC   MID   rest isn't read",
         false,
-        BranchValues::Third,
+        BranchKind::Third,
+        [0; 3],
         0,
     ),
-    ("98SRC   MID", false, BranchValues::Reactor, 0),
-    (
-        "99SRC   MID   A     B      x",
-        false,
-        BranchValues::Resistor,
-        0,
-    ),
-    (
-        "-1SRC   MID   A     B      x",
-        false,
-        BranchValues::Line {
-            zc: 0,
-            r: 0,
-            delay: 0,
-        },
-        0,
-    ),
-    (
-        "  SRC   MID   A     B      x",
-        false,
-        BranchValues::Lumped { r: 0, l: 0, c: 0 },
-        0,
-    ),
-    (
-        "-2SRC   MID   A     B      x",
-        false,
-        BranchValues::Second {
-            zc: 0,
-            r: 0,
-            delay: 0,
-        },
-        0,
-    ),
-    (
-        "98SRC   MID   A     B                                                          1",
-        false,
-        BranchValues::Reactor,
-        1,
-    ),
+    ("98SRC   MID", false, BranchKind::Reactor, [0; 3], 0),
     (
         "99SRC   MID                                                                    2",
         false,
-        BranchValues::Resistor,
+        BranchKind::Resistor,
+        [0; 3],
         2,
     ),
     (
         "-1SRC   MID                       400. 2.E-4    1. 2                           3",
         false,
-        BranchValues::Line {
-            zc: 400_000_000,
-            r: 0,
-            delay: 200_000_000,
-        },
+        BranchKind::Line,
+        [400_000_000, 0, 200_000_000],
         3,
     ),
 ];
 
-/// Whether line 4 is a branch card with these values that asks for this.
-fn is_branch(bytes: &[u8], wide: bool, values: &BranchValues, asked: u8) -> bool {
+/// Whether they are values of its own of a card of this type, with these numbers.
+fn are_own(values: &BranchValues, kind: BranchKind, numbers: [i64; 3]) -> bool {
+    match *values {
+        BranchValues::Lumped { r, l, c } => kind == BranchKind::Series && numbers == [r, l, c],
+        BranchValues::Line { zc, r, delay } => {
+            kind == BranchKind::Line && numbers == [zc, r, delay]
+        }
+        BranchValues::Second { zc, r, delay } => {
+            kind == BranchKind::Second && numbers == [zc, r, delay]
+        }
+        BranchValues::Third => kind == BranchKind::Third,
+        BranchValues::Reactor => kind == BranchKind::Reactor,
+        BranchValues::Resistor => kind == BranchKind::Resistor,
+        BranchValues::Copied { .. } => false,
+    }
+}
+
+/// Whether line 4 is a branch card of this type with these numbers of its own that asks for this.
+fn is_branch(bytes: &[u8], wide: bool, kind: BranchKind, numbers: [i64; 3], asked: u8) -> bool {
     if bytes.len() >= 100 {
         return false;
     }
     match branch(Line { number: 4, bytes }, &RUN, wide) {
-        Ok(card) => card.values == *values && card.line == 4 && card.asked == asked,
+        Ok(card) => are_own(&card.values, kind, numbers) && card.line == 4 && card.asked == asked,
+        Err(_) => false,
+    }
+}
+
+/// Cards that take the values of a branch from A to B, with their type and what they ask for.
+const COPIED: &[(&str, BranchKind, u8)] = &[
+    ("99SRC   MID   A     B      x", BranchKind::Resistor, 0),
+    ("-1SRC   MID   A     B      x", BranchKind::Line, 0),
+    ("  SRC   MID   A     B      x", BranchKind::Series, 0),
+    ("-2SRC   MID   A     B      x", BranchKind::Second, 0),
+    (
+        "98SRC   MID   A     B                                                          1",
+        BranchKind::Reactor,
+        1,
+    ),
+];
+
+/// Whether they are those of a branch of this type from A to B.
+fn are_copied(values: &BranchValues, kind: BranchKind) -> bool {
+    match values {
+        BranchValues::Copied {
+            kind: found,
+            from: Some(from),
+            to: Some(to),
+        } => {
+            *found == kind
+                && from.as_slice() == b"A".as_slice()
+                && to.as_slice() == b"B".as_slice()
+        }
+        _ => false,
+    }
+}
+
+/// Whether line 4 is a branch card of this type that takes the values of a branch from A to B, and asks for this.
+fn is_copy(bytes: &[u8], kind: BranchKind, asked: u8) -> bool {
+    if bytes.len() >= 100 {
+        return false;
+    }
+    match branch(Line { number: 4, bytes }, &RUN, false) {
+        Ok(card) => are_copied(&card.values, kind) && card.line == 4 && card.asked == asked,
         Err(_) => false,
     }
 }
 
 #[test]
 fn branches(rt: HostRuntime) {
-    for (text, wide, values, asked) in BRANCHES {
-        let is = is_branch(text.as_bytes(), *wide, values, *asked);
+    for (text, wide, kind, numbers, asked) in BRANCHES {
+        let is = is_branch(text.as_bytes(), *wide, *kind, *numbers, *asked);
+        assert!(rt; is, "at {text}");
+    }
+}
+
+#[test]
+fn branches_that_copy(rt: HostRuntime) {
+    for (text, kind, asked) in COPIED {
+        let is = is_copy(text.as_bytes(), *kind, *asked);
         assert!(rt; is, "at {text}");
     }
 }

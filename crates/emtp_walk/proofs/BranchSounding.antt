@@ -11,7 +11,7 @@ use Rattle.emtp_walk.specs.declared.deck.Group.{Group}
 use Rattle.emtp_netcards.specs.held.BranchCard.{HasNumbers, kind_of_values}
 use Rattle.emtp_netcards.specs.declared.branch_card.BranchCard.{BranchCard}
 use Rattle.emtp_netcards.specs.declared.branch_card.BranchValues.{BranchValues}
-use Rattle.emtp_netcards.specs.declared.branch_card.BranchValues.TheVariants.{Line as LineCard, Lumped as LumpedCard, Reactor as ReactorCard, Resistor as ResistorCard, Second as SecondCard, Third as ThirdCard}
+use Rattle.emtp_netcards.specs.declared.branch_card.BranchValues.TheVariants.{Copied as CopiedCard, Line as LineCard, Lumped as LumpedCard, Reactor as ReactorCard, Resistor as ResistorCard, Second as SecondCard, Third as ThirdCard}
 use Rattle.emtp_walk.proofs.Sounding.{pushed}
 
 pub one_more_branch : (deck : Deck) (entry : BranchEntry) → IsWhole deck → IsEntry deck.run deck.points entry → IsWhole (record deck { branches = deck.branches ++ entry ∷ [] })
@@ -34,6 +34,7 @@ no_phase (SecondCard zc r delay) h = absurd (cc)
 no_phase ThirdCard h = absurd (cc)
 no_phase ReactorCard h = refl
 no_phase ResistorCard h = refl
+no_phase (CopiedCard kind a b) h = absurd (cc)
 
 pub group_ended : (deck : Deck) (group : Group) → IsWhole deck → IsGroupOf deck group → 1 ≤ group.count → IsWhole (end_group deck group).0
 group_ended deck group whole of some =

@@ -1,7 +1,7 @@
 -- The cards of a deck stand in the order of their lines.
 use Rattle.std.proofs.Common.{◌≡◌, ◌∙◌, sym, ap, subst, refl, ℕ, suc, ◌+◌, ℤ, Bool, true, false, List, [], ◌∷◌, ◌++◌, length, Option, Some, None, Result, Ok, Err, arith, append_assoc}
 use Rattle.std.specs.List.{starts_with}
-use Rattle.std.specs.Prelude.{IfOk, if◌then◌else◌, is_none, nat_eq, codes}
+use Rattle.std.specs.Prelude.{IfOk, if◌then◌else◌, nat_eq, codes}
 use Rattle.std.proofs.lemmas.List.{append-nil, map-append}
 use Rattle.emtp_card.specs.Fault.{judge, unless_bad}
 use Rattle.emtp_card.specs.Lines.{is_comment, is_section_end}
@@ -19,7 +19,7 @@ use Rattle.emtp_netcards.specs.OutputCard.{output_card}
 use Rattle.emtp_netcards.specs.PointCard.{next_point}
 use Rattle.emtp_netcards.specs.RunCards.{first_card, second_card, tolerance_card}
 use Rattle.emtp_netcards.specs.VintageCard.{is_vintage, vintage_card}
-use Rattle.emtp_walk.specs.Walk.{scale_of, advance, after_place, begin_fault, begin_place, branch_step, card_step, empty_deck, first_step, is_phase, is_second, output_step, point_step, second_step, source_step, start_step, step, switch_step, point_or_end, take_branch, take_pseudo, take_third, take_values, third_by, third_step, times_step, tolerance_step, vintage_or, waiting_step, walk, with_card}
+use Rattle.emtp_walk.specs.Walk.{scale_of, advance, after_place, begin_fault, begin_place, branch_step, card_step, empty_deck, first_step, is_phase, is_second, output_step, point_step, second_step, source_step, start_step, step, switch_step, point_or_end, take_branch, take_copied, take_third, take_values, third_by, third_step, times_step, tolerance_step, vintage_or, waiting_step, walk, with_card}
 use Rattle.emtp_walk.specs.declared.deck.BranchEntry.{BranchEntry}
 use Rattle.emtp_walk.specs.declared.deck.BranchEntry.TheVariants.{Single, Trio}
 use Rattle.emtp_walk.specs.declared.deck.Deck.{Deck}
@@ -35,7 +35,7 @@ use Rattle.emtp_netcards.specs.declared.branch_card.BranchCard.{BranchCard}
 use Rattle.emtp_netcards.specs.declared.branch_card.BranchKind.{BranchKind}
 use Rattle.emtp_netcards.specs.declared.branch_card.BranchKind.TheVariants.{Line as LineKind, Reactor as ReactorKind, Resistor as ResistorKind, Second as SecondKind, Series as SeriesKind, Third as ThirdKind}
 use Rattle.emtp_netcards.specs.declared.branch_card.BranchValues.{BranchValues}
-use Rattle.emtp_netcards.specs.declared.branch_card.BranchValues.TheVariants.{Line as LineCard, Lumped as LumpedCard, Reactor as ReactorCard, Resistor as ResistorCard, Second as SecondCard, Third as ThirdCard}
+use Rattle.emtp_netcards.specs.declared.branch_card.BranchValues.TheVariants.{Copied as CopiedCard, Line as LineCard, Lumped as LumpedCard, Reactor as ReactorCard, Resistor as ResistorCard, Second as SecondCard, Third as ThirdCard}
 use Rattle.emtp_netcards.specs.declared.output_card.OutputCard.{OutputCard}
 use Rattle.emtp_netcards.specs.declared.run_cards.FirstCard.{FirstCard}
 use Rattle.emtp_netcards.specs.declared.source_card.SourceCard.{SourceCard}
@@ -124,21 +124,22 @@ dropped deck pending number h = record {
       (later (deck.second + 1) (front_lines deck) number (number + 1) (omega arith) (front (deck.second + 1) (front_lines deck) pending number h.rises));
 }
 
+copied_order : (deck : Deck) (card : BranchCard) (wide : Bool) (number : ℕ) (kind : BranchKind) → IsAmongBranches deck (card.line ∷ []) number → Orders number (take_copied deck card wide kind)
+copied_order deck card wide number LineKind h = h
+copied_order deck card wide number SeriesKind h = put deck (Single card 0 0) number h
+copied_order deck card wide number SecondKind h = put deck (Single card 0 0) number h
+copied_order deck card wide number ThirdKind h = put deck (Single card 0 0) number h
+copied_order deck card wide number ReactorKind h = put deck (Single card 0 0) number h
+copied_order deck card wide number ResistorKind h = put deck (Single card 0 0) number h
+
 values_order : (deck : Deck) (card : BranchCard) (wide : Bool) (number : ℕ) (values : BranchValues) → IsAmongBranches deck (card.line ∷ []) number → Orders number (take_values deck card wide values)
 values_order deck card wide number (LumpedCard r l c) h = put deck (Single card 0 0) number h
 values_order deck card wide number (LineCard zc r delay) h = h
 values_order deck card wide number (SecondCard zc r delay) h = put deck (Single card 0 0) number h
 values_order deck card wide number ThirdCard h = put deck (Single card 0 0) number h
-values_order deck card wide number ReactorCard h = pseudo_order (is_none card.copies)
-  where
-    pseudo_order : (own : Bool) → Orders number (take_pseudo deck card wide own)
-    pseudo_order true = h
-    pseudo_order false = put deck (Single card 0 0) number h
-values_order deck card wide number ResistorCard h = pseudo_order (is_none card.copies)
-  where
-    pseudo_order : (own : Bool) → Orders number (take_pseudo deck card wide own)
-    pseudo_order true = h
-    pseudo_order false = put deck (Single card 0 0) number h
+values_order deck card wide number ReactorCard h = h
+values_order deck card wide number ResistorCard h = h
+values_order deck card wide number (CopiedCard kind a b) h = copied_order deck card wide number kind h
 
 card_order : (deck : Deck) (number : ℕ) (line : List ℕ) (wide : Bool) → IsAmongBranches deck [] number → IfOk (card_step deck number line wide) (Orders (number + 1))
 unfolding card_step

@@ -25,7 +25,7 @@ use Rattle.emtp_netcards.specs.held.PointCard.{Follows, IsPointOf}
 use Rattle.emtp_netcards.specs.held.SourceCard.{HasSourceCardNumbers}
 use Rattle.emtp_netcards.specs.held.SwitchCard.{HasSwitchNumbers}
 use Rattle.emtp_netcards.specs.declared.branch_card.BranchValues.{BranchValues}
-use Rattle.emtp_netcards.specs.declared.branch_card.BranchValues.TheVariants.{Line as LineCard, Lumped as LumpedCard, Reactor as ReactorCard, Resistor as ResistorCard, Second as SecondCard, Third as ThirdCard}
+use Rattle.emtp_netcards.specs.declared.branch_card.BranchValues.TheVariants.{Copied as CopiedCard, Line as LineCard, Lumped as LumpedCard, Reactor as ReactorCard, Resistor as ResistorCard, Second as SecondCard, Third as ThirdCard}
 
 -- ---- lists
 
@@ -87,6 +87,7 @@ segment_of (SecondCard zc r delay) dt before p is h = absurd (cc)
 segment_of ThirdCard dt before p is h = absurd (cc)
 segment_of ReactorCard dt before p is h = h
 segment_of ResistorCard dt before p is h = h
+segment_of (CopiedCard kind a b) dt before p is h = absurd (cc)
 
 extra_stays : (points : List Point) (p : Point) (e : ExtraEntry) → IsExtraEntry points e → IsExtraEntry (points ++ p ∷ []) e
 extra_stays points p (DeviceEntry card first count) h = record {

@@ -1,7 +1,7 @@
 -- The walk over the lines of a case: each line has its place, and gives its card and the place of the next line, or the
 -- least fault of the line. The first line that has a fault decides.
 use Rattle.std.specs.List.{starts_with}
-use Rattle.std.specs.Prelude.{ℕ, ◌+◌, ◌^◌, ℤ, pos, nat_eq, Bool, true, false, List, [], ◌∷◌, ◌++◌, length, codes, Option, Some, None, is_none, Result, Ok, Err, if◌then◌else◌}
+use Rattle.std.specs.Prelude.{ℕ, ◌+◌, ◌^◌, ℤ, pos, nat_eq, Bool, true, false, List, [], ◌∷◌, ◌++◌, length, codes, Option, Some, None, Result, Ok, Err, if◌then◌else◌}
 use Rattle.std.specs.Str.Lines.{lines}
 use Rattle.emtp_card.specs.Fault.{judge, unless_bad}
 use Rattle.emtp_card.specs.Lines.{is_comment, is_section_end}
@@ -27,9 +27,9 @@ use Rattle.emtp_netcards.specs.SwitchCard.{switch_card}
 use Rattle.emtp_netcards.specs.VintageCard.{is_vintage, vintage_card}
 use Rattle.emtp_netcards.specs.declared.branch_card.BranchCard.{BranchCard}
 use Rattle.emtp_netcards.specs.declared.branch_card.BranchKind.{BranchKind}
-use Rattle.emtp_netcards.specs.declared.branch_card.BranchKind.TheVariants.{Second as SecondKind, Third as ThirdKind}
+use Rattle.emtp_netcards.specs.declared.branch_card.BranchKind.TheVariants.{Line as LineKind, Second as SecondKind, Third as ThirdKind}
 use Rattle.emtp_netcards.specs.declared.branch_card.BranchValues.{BranchValues}
-use Rattle.emtp_netcards.specs.declared.branch_card.BranchValues.TheVariants.{Line as LineCard, Reactor as ReactorCard, Resistor as ResistorCard}
+use Rattle.emtp_netcards.specs.declared.branch_card.BranchValues.TheVariants.{Copied as CopiedCard, Line as LineCard, Reactor as ReactorCard, Resistor as ResistorCard}
 use Rattle.emtp_netcards.specs.declared.output_card.OutputCard.{OutputCard}
 use Rattle.emtp_netcards.specs.declared.point_card.PointScale.{PointScale}
 use Rattle.emtp_netcards.specs.declared.point_card.PointScale.TheVariants.{Reactor as OfReactor, Resistor as OfResistor}
@@ -91,16 +91,17 @@ with_card deck card = record deck { branches = deck.branches ++ Single card 0 0 
 abbrev pub points_follow : Deck → BranchCard → Bool → Deck × Place
 points_follow deck card wide = (deck, Points (record { card = card; first = length deck.points; count = 0; before = None; wide = wide }))
 
--- points follow a pseudo-nonlinear branch that takes none of another
-abbrev pub take_pseudo : Deck → BranchCard → Bool → Bool → Deck × Place
-take_pseudo deck card wide true = points_follow deck card wide
-take_pseudo deck card wide false = (with_card deck card, Branches wide)
+-- no points follow a card that takes the values of another
+abbrev pub take_copied : Deck → BranchCard → Bool → BranchKind → Deck × Place
+take_copied deck card wide LineKind = (deck, Waiting card wide)
+take_copied deck card wide other = (with_card deck card, Branches wide)
 
--- a line waits for the card after it, which may be its second phase
+-- points follow a pseudo-nonlinear branch; a line waits for the card after it, which may be its second phase
 abbrev pub take_values : Deck → BranchCard → Bool → BranchValues → Deck × Place
 take_values deck card wide (LineCard zc r delay) = (deck, Waiting card wide)
-take_values deck card wide ReactorCard = take_pseudo deck card wide (is_none card.copies)
-take_values deck card wide ResistorCard = take_pseudo deck card wide (is_none card.copies)
+take_values deck card wide ReactorCard = points_follow deck card wide
+take_values deck card wide ResistorCard = points_follow deck card wide
+take_values deck card wide (CopiedCard kind a b) = take_copied deck card wide kind
 take_values deck card wide other = (with_card deck card, Branches wide)
 
 abbrev pub take_branch : Deck → BranchCard → Bool → Deck × Place

@@ -4,7 +4,7 @@ ghost use Rattle.emtp_case.specs.declared.limit.TheConstants.{MOST_POINTS};
 ghost use Rattle.std.specs.Prelude.{◌≡◌, ◌<◌, ◌+◌, ◌≤◌, length, Ok, Err, IfOk, IfErr, false};
 ghost use Rattle.emtp_walk.specs.held.Answer.{IsWant, Leaves};
 ghost use Rattle.emtp_walk.specs.held.Sound.{IsGroupOf, IsSound, IsTrioEntry, IsWaiting, IsWhole, has_points};
-ghost use Rattle.emtp_walk.specs.Walk.{branch_step, card_step, end_group, is_phase, is_second, point_step, scale_of, start_step, take_branch, take_point, take_third, third_step, waiting_step, with_card};
+ghost use Rattle.emtp_walk.specs.Walk.{branch_step, card_step, end_group, is_phase, is_second, point_step, scale_of, start_step, take_branch, take_copied, take_point, take_third, third_step, waiting_step, with_card};
 ghost use Rattle.emtp_netcards.specs.held.BranchCard.{HasNumbers, kind_of_values};
 ghost use Rattle.emtp_netcards.specs.held.PointCard.{Follows, IsPointOf};
 
@@ -96,15 +96,39 @@ fn take_branch(deck: &mut Deck, card: BranchCard, wide: bool) -> Result<Place, R
 {
     match card.values {
         BranchValues::Line { .. } => Ok(Place::Waiting { card, wide }),
-        BranchValues::Reactor | BranchValues::Resistor if card.copies.is_none() => {
-            Ok(Place::Points(Group {
-                card,
-                first: deck.points.len(),
-                count: 0,
-                before: None,
-                wide,
-            }))
+        BranchValues::Reactor | BranchValues::Resistor => Ok(Place::Points(Group {
+            card,
+            first: deck.points.len(),
+            count: 0,
+            before: None,
+            wide,
+        })),
+        BranchValues::Copied { kind, .. } => take_copied(deck, card, kind, wide),
+        _ => {
+            keep(deck, card)?;
+            Ok(Place::Branches(wide))
         }
+    }
+}
+
+/// Keeps a card that takes the values of another, or waits for the second phase of a line.
+fn take_copied(
+    deck: &mut Deck,
+    card: BranchCard,
+    kind: BranchKind,
+    wide: bool,
+) -> Result<Place, Refused>
+    requires whole { IsWhole deck.old }
+    requires numbers { HasNumbers deck.old.run.dt card }
+    requires single { is_phase (Ok (kind_of_values card.values)) ≡ false }
+    requires kind { kind_of_values card.values ≡ kind }
+    requires no_points { has_points card ≡ false }
+    ensures ok { IfOk result (λ next. take_copied deck.old card wide kind ≡ (deck.new, next)) }
+    ensures bad { IfErr result IsWant }
+    ensures sound { IfOk result (IsSound deck.new) }
+{
+    match kind {
+        BranchKind::Line => Ok(Place::Waiting { card, wide }),
         _ => {
             keep(deck, card)?;
             Ok(Place::Branches(wide))

@@ -135,7 +135,7 @@ module _ (x y : List ℕ) (sound : AreFaultless x y) where
   own_same : (dt : ℤ) (wide : Bool) (kind : BranchKind) (copies : Result (Option (Option (List ℕ) × Option (List ℕ))) Fault)
       → (copies ≡ Ok None → read_values x dt wide kind ≡ read_values y dt wide kind)
       → judged (both (Ok kind) copies) (λ p. own_values x dt wide p.0 p.1) ≡ judged (both (Ok kind) copies) (λ p. own_values y dt wide p.0 p.1)
-  own_same dt wide kind (Ok None) read = simp (read refl)
+  own_same dt wide kind (Ok None) read = read refl
   own_same dt wide kind (Ok (Some names)) read = refl
   own_same dt wide kind (Err fault) read = refl
 

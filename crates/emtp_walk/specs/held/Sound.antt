@@ -1,6 +1,6 @@
 -- What the cards of a deck keep at each place of the walk.
 use Rattle.emtp_case.specs.declared.limit.TheConstants.{MOST_POINTS}
-use Rattle.std.specs.Prelude.{◌≡◌, ℕ, ◌+◌, ◌≤◌, ℤ, All, List, [], ◌∷◌, Bool, true, false, drop, length, slice_index_or, Some, is_none, Ok, ◌&&◌, None, Option, suc, zero, ◌<◌, slice_get}
+use Rattle.std.specs.Prelude.{◌≡◌, ℕ, ◌+◌, ◌≤◌, ℤ, All, List, [], ◌∷◌, Bool, true, false, drop, length, slice_index_or, Some, Ok, None, Option, suc, zero, ◌<◌, slice_get}
 use Rattle.emtp_case.specs.Branch.{origin, points_of}
 use Rattle.emtp_case.specs.held.Branch.{IsCharacteristic}
 use Rattle.emtp_case.specs.held.Control.{HasDevicePoints}
@@ -55,9 +55,9 @@ abbrev pub is_reactor : BranchValues → Bool
 is_reactor ReactorCard = true
 is_reactor other = false
 
--- points follow a pseudo-nonlinear branch that takes none of another
+-- points follow a pseudo-nonlinear branch; a card that takes the values of another has none
 abbrev pub has_points : BranchCard → Bool
-has_points card = is_pseudo card.values && is_none card.copies
+has_points card = is_pseudo card.values
 
 -- so many points from a place on make a characteristic
 pub record ArePoints (reactor : Bool) (dt : ℤ) (points : List Point) (first count : ℕ) : Type 0 where
