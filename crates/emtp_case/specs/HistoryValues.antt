@@ -14,10 +14,13 @@ use Rattle.std.specs.Prelude.{◌+◌, ◌*◌, ◌/◌, ◌^◌, ◌*ℤ◌, ma
 abbrev pub travel_steps : ℤ → ℤ → ℕ
 travel_steps dt delay = unsigned_abs delay / unsigned_abs dt
 
--- both ends of a single line
+-- both ends of a single line with this travel time
+abbrev pub line_history_values : ℤ → ℤ → ℕ
+line_history_values dt delay = 2 * (travel_steps dt delay + 1)
+
 abbrev pub branch_history_values : ℤ → Branch → ℕ
 branch_history_values dt (OfLumped b) = 0
-branch_history_values dt (OfLine b) = 2 * (travel_steps dt b.delay + 1)
+branch_history_values dt (OfLine b) = line_history_values dt b.delay
 branch_history_values dt (OfPseudo b) = 0
 branch_history_values dt (OfPhase b) = 0
 

@@ -3,7 +3,7 @@
 ghost use Rattle.emtp_case.specs.held.RunData.{IsTimeStep};
 ghost use Rattle.std.specs.Prelude.{◌≡◌, ◌+◌, ◌*◌, ◌^◌, ◌≤◌};
 ghost use Rattle.emtp_case.specs.held.Control.{HasRangeOfA};
-ghost use Rattle.emtp_case.specs.HistoryValues.{branch_history_values, delay_steps, device_history_values, period_steps, travel_steps, trio_history_values};
+ghost use Rattle.emtp_case.specs.HistoryValues.{branch_history_values, delay_steps, device_history_values, line_history_values, period_steps, travel_steps, trio_history_values};
 ghost use Rattle.emtp_case.specs.held.Range.{IsBetween};
 
 use crate::branch::{Branch, Trio};
@@ -19,7 +19,7 @@ impl Branch {
         ensures { result ≡ branch_history_values dt self.now }
     {
         match self {
-            Branch::Line(b) => 2 * (travel_steps(dt, b.delay) + 1),
+            Branch::Line(b) => line_history_values(dt, b.delay),
             Branch::Lumped(_) | Branch::Pseudo(_) | Branch::Phase(_) => 0,
         }
     }
@@ -61,6 +61,15 @@ impl DeviceCode {
             _ => 0,
         }
     }
+}
+
+/// How many past values a single line with a travel time in ps needs at a time step in ps: those of both its ends.
+pub fn line_history_values(dt: i64, delay: i64) -> u64
+    requires { IsTimeStep dt }
+    ensures value { result ≡ line_history_values dt delay }
+    ensures few { result ≤ 5 * 10 ^ 16 }
+{
+    2 * (travel_steps(dt, delay) + 1)
 }
 
 /// A travel time in whole steps.

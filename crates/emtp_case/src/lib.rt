@@ -47,6 +47,7 @@ pub use control::{
 pub use draft::Draft;
 pub use end_names::{branch_name, switch_name};
 pub use expr::{BinaryOp, MOST_VALUES, Node, UnaryOp};
+pub use history_values::line_history_values;
 pub use impedance::{
     capacitor_impedance, inductor_impedance, line_impedance, series_impedance, slope,
 };

@@ -1,9 +1,6 @@
 -- The numbers that a line's card gives, and how many history values they need.
-use Rattle.std.proofs.Common.{◌≡◌, refl, ℕ, ◌+◌, ◌*◌, ◌^◌, ◌<◌, ◌≤◌, ◌==◌, ◌≤ℤ◌, ℤ, pos, Bool, true, false, List, Option, Some, None, unwrap_or, length, arith, FitsSigned}
-use mir.Syntax.{w64}
-use Rattle.std.specs.Prelude.{if◌then◌else◌, All, find, unsigned_abs}
-use Rattle.std.proofs.Math.Nat.{div-le_of_le-mul}
-use Rattle.std.proofs.lemmas.Int.{ints}
+use Rattle.std.proofs.Common.{◌≡◌, refl, ℕ, ◌+◌, ◌*◌, ◌^◌, ◌<◌, ◌≤◌, ◌==◌, ℤ, pos, Bool, true, false, List, Option, Some, None, unwrap_or, length, arith}
+use Rattle.std.specs.Prelude.{if◌then◌else◌, All, find}
 use Rattle.std.proofs.lemmas.Nat.{mul-le}
 use Rattle.emtp_case.specs.held.Branch.{HasLineNumbers, IsBranch, IsTrio}
 use Rattle.emtp_case.specs.HistoryValues.{travel_steps, trio_history_values}
@@ -27,17 +24,8 @@ use Rattle.emtp_netcards.specs.declared.branch_card.BranchValues.TheVariants.{Co
 
 -- ---- history values
 
-values_few : (phases steps : ℕ) → phases ≤ 3 → steps ≤ 2 * 10 ^ 16 → phases * (2 * (steps + 1)) ≤ 2 * 10 ^ 17
-values_few phases steps l m = let product = mul-le phases (2 * (steps + 1)) 3 (2 * (2 * 10 ^ 16 + 1)) l (omega arith) in omega (arith, product)
-
-steps_few : (dt delay : ℤ) → pos 1000 ≤ℤ dt → FitsSigned w64 delay → travel_steps dt delay ≤ 2 * 10 ^ 16
-steps_few dt delay least fits =
-    let step : 1000 ≤ unsigned_abs dt = omega (arith, ints) in
-    let far : unsigned_abs delay ≤ unsigned_abs dt * (2 * 10 ^ 16) = omega (arith, ints, step, fits) in
-    div-le_of_le-mul (unsigned_abs dt) far
-
-pub few_values : (phases : ℕ) (dt delay : ℤ) → phases ≤ 3 → pos 1000 ≤ℤ dt → FitsSigned w64 delay → phases * (2 * (travel_steps dt delay + 1)) ≤ 2 * 10 ^ 17
-few_values phases dt delay l least fits = values_few phases (travel_steps dt delay) l (steps_few dt delay least fits)
+pub few_values : (phases values : ℕ) → phases ≤ 3 → values ≤ 5 * 10 ^ 16 → phases * values ≤ 2 * 10 ^ 17
+few_values phases values l few = let product = mul-le phases values 3 (5 * 10 ^ 16) l few in omega (arith, product)
 
 -- both sequences together
 both_modes : (a b : ℕ) → 1 * (2 * (a + 1)) + 3 * (2 * (b + 1)) ≡ 2 * (a + 1) + 6 * (b + 1)

@@ -6,7 +6,7 @@ use Rattle.emtp_card.specs.declared.fault.Fault.{Fault}
 use Rattle.emtp_card.specs.declared.reason.Bad.{Bad}
 use Rattle.emtp_case.specs.Branch.{points_of}
 use Rattle.emtp_case.specs.Case.{phase_branches}
-use Rattle.emtp_case.specs.HistoryValues.{history_values_of, travel_steps}
+use Rattle.emtp_case.specs.HistoryValues.{history_values_of, line_history_values}
 use Rattle.emtp_case.specs.declared.branch.Branch.{Branch}
 use Rattle.emtp_case.specs.declared.branch.Branch.TheVariants.{Line as OfLine, Lumped as OfLumped, Phase as OfPhase, Pseudo as OfPseudo}
 use Rattle.emtp_case.specs.declared.branch.Phase.{Phase}
@@ -45,7 +45,7 @@ with_counts n card history = record { branches = n.branches + 1; history = n.his
 -- a line keeps the past values of a travel time at both ends of so many phases
 abbrev pub line_history : ℕ → ℤ → Option LineNumbers → ℕ
 line_history phases dt None = 0
-line_history phases dt (Some x) = phases * (2 * (travel_steps dt x.delay + 1))
+line_history phases dt (Some x) = phases * line_history_values dt x.delay
 
 -- the history values of a card: those of the values that it takes, and none where they are missing
 abbrev pub card_history : ℕ → List (List ℕ) → Parts → BranchCard → ℕ

@@ -27,7 +27,7 @@ use crate::filling::{Filling, add_nodes};
 use emtp_card::{Bad, Fault, Refused, least};
 use emtp_case::{
     Branch, Channel, Draft, Items, Line, Lumped, MOST_BRANCHES, MOST_CHANNELS, MOST_HISTORY_VALUES,
-    MOST_NODES, Name, Phase, Point, Pseudo, Trio,
+    MOST_NODES, Name, Phase, Point, Pseudo, Trio, line_history_values,
 };
 use emtp_netcards::{BranchCard, BranchValues};
 use emtp_sense::{add_ends, add_entry_names, node_number, too_many};
@@ -82,7 +82,7 @@ fn line_history(phases: u64, dt: i64, numbers: &Option<LineNumbers>) -> u64
 {
     match numbers {
         None => 0,
-        Some(numbers) => phases * line_branch(0, 0, 0, numbers).history_values(dt),
+        Some(numbers) => phases * line_history_values(dt, numbers.delay),
     }
 }
 
