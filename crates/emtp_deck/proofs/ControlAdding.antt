@@ -61,12 +61,12 @@ next_sum t s e r n is value next = omega (arith, is, value, next)
 pub summed : (new old total : ℕ) → new ≡ old + total → old ≡ 0 → total ≡ new
 summed new old total is none = omega (arith, is, none)
 
-pub control_filled : (f : Filling) (variables : List (List ℕ)) (deck : Deck) → made_of f ≡ control_made variables deck → f.nodes.keys ≡ [] → f.variables.keys ≡ variables → f.history ≡ history_values_of f.draft.parts → IsFilling f
-control_filled f variables deck made nodes names history =
-    let is = control_is variables deck in
+pub control_filled : (f : Filling) (nodes variables : List (List ℕ)) (deck : Deck) → made_of f ≡ control_made nodes variables deck → f.nodes.keys ≡ nodes → f.variables.keys ≡ variables → f.history ≡ history_values_of f.draft.parts → IsFilling f
+control_filled f nodes variables deck made keys names history =
+    let is = control_is nodes variables deck in
     let asked : f.asked ≡ none_asked = ap (λ (m : Made). m.asked) made in
     record {
-      nodes = nodes ∙ sym (ap (λ (m : Made). m.parts.nodes) made ∙ is.nodes);
+      nodes = keys ∙ sym (ap (λ (m : Made). m.parts.nodes) made ∙ is.nodes_are);
       variables = names ∙ sym (ap (λ (m : Made). m.parts.vars) made ∙ is.vars);
       history = history;
       no_sources = ap (λ (m : Made). m.parts.tacs_sources) made ∙ is.sources;

@@ -14,6 +14,7 @@ use Rattle.emtp_case.specs.declared.case.Parts.{Parts}
 use Rattle.emtp_case.specs.declared.control.Block.{Block}
 use Rattle.emtp_case.specs.declared.source.Source.{Source}
 use Rattle.emtp_deck.proofs.Asking.{control_is, deck_asks}
+use Rattle.emtp_deck.proofs.FewNodes.{whole_nodes}
 use Rattle.emtp_sense.proofs.ControlJudging.{AreFineBlocks, AreFineExtras, AreFineSources, IsKnownBlock, IsKnownExtra, block_fine, blocks_fine, device_fine, extras_fine, sources_fine}
 use Rattle.emtp_walk.proofs.NoBad.{nothing_before}
 use Rattle.emtp_sense.proofs.Naming.{AreNamed, Each, all_named, with_names}
@@ -25,7 +26,7 @@ use Rattle.emtp_sense.specs.held.ControlSensible.{IsDefined, IsSensibleBlock, Is
 use Rattle.emtp_deck.specs.held.ControlSensible.{IsSensibleControl, IsSensibleWhole}
 use Rattle.emtp_deck.specs.Deck.{case_of, made_of_deck}
 use Rattle.emtp_deck.specs.held.Filling.{IsFilling, made_of}
-use Rattle.emtp_sense.specs.Names.{node_number, known_nodes}
+use Rattle.emtp_sense.specs.Names.{case_nodes, node_number, known_nodes}
 use Rattle.emtp_walk.specs.held.Sound.{IsExtraEntry, IsSound, IsWhole}
 use Rattle.emtp_sense.specs.Variables.{defined_variables, extra_name, variable_names, variable_number, with_control_pending, with_pending_variable}
 use Rattle.emtp_walk.specs.declared.control_cards.BlockEntry.{BlockEntry}
@@ -296,14 +297,14 @@ numbered nodes deck seen f =
 
 -- ---- the whole case
 
-pub control_whole_is : (f : Filling) (deck : Deck) (seen : Bool) → IsFilling f → IsWhole deck → control_bad (known_nodes deck (After seen)) (variable_names deck (After seen)) deck (After seen) ≡ None → made_of_deck (variable_names deck (After seen)) deck ≡ Ok (made_of f) → IsSensibleWhole f deck
+pub control_whole_is : (f : Filling) (deck : Deck) (seen : Bool) → IsFilling f → IsWhole deck → control_bad (known_nodes deck (After seen)) (variable_names deck (After seen)) deck (After seen) ≡ None → made_of_deck (case_nodes (known_nodes deck (After seen))) (variable_names deck (After seen)) deck ≡ Ok (made_of f) → IsSensibleWhole f deck
 control_whole_is f deck seen filling whole e h =
     let cards = deck.control in
     let variables = variable_names deck (After seen) in
     let nodes = known_nodes deck (After seen) in
     let p = f.draft.parts in
-    let asks = deck_asks variables deck (made_of f) h in
-    let is = control_is variables deck in
+    let asks = deck_asks (case_nodes nodes) variables deck (made_of f) h in
+    let is = control_is (case_nodes nodes) variables deck in
     let good = fine nodes variables deck (After seen) e in
     let n = numbered nodes deck seen good in
     let known = known_options deck (After seen) in
@@ -314,7 +315,7 @@ control_whole_is f deck seen filling whole e h =
     let sources = each_front P ss (xs ++ []) (each_rest P bs (ss ++ (xs ++ [])) known.known) in
     let vars : p.vars ≡ variables = asks.control.vars ∙ is.vars in
     let keys : f.variables.keys ≡ variables = filling.variables ∙ vars in
-    let named : f.nodes.keys ≡ nodes = filling.nodes ∙ asks.nodes in
+    let named : f.nodes.keys ≡ nodes = filling.nodes ∙ asks.nodes ∙ is.nodes_are ∙ whole_nodes deck seen variables (made_of f) h in
     let sensible = sensible_sources nodes deck.switches variables (first_source cards + 0) cards.sources (omega arith) good.sources.above sources good.sources.measures in
     let c = case_of deck (made_of f) in
     record {

@@ -1,6 +1,6 @@
 -- What is known of a source or a switch without a fault of sense.
 use Rattle.emtp_case.specs.declared.limit.TheConstants.{MOST_CHANNELS, MOST_NODES, MOST_SOURCES, MOST_SWITCHES}
-use Rattle.std.proofs.Common.{◌≡◌, subst, refl, ℕ, ◌+◌, ◌<◌, ◌≤◌, Bool, true, false, List, [], ◌∷◌, length, Option, Some, None}
+use Rattle.std.proofs.Common.{◌≡◌, subst, refl, ℕ, ◌+◌, ◌<◌, ◌≤◌, Bool, true, false, [], ◌∷◌, length, Option, Some, None}
 use Rattle.std.specs.Prelude.{if◌then◌else◌, nat_le, nat_lt}
 use Rattle.emtp_card.proofs.Faults.{least_none}
 use Rattle.emtp_card.specs.declared.fault.Fault.{Fault}
@@ -41,25 +41,25 @@ sensible_source p card node (Some m) h e =
 
 -- ---- switches
 
-pub record IsSensibleSwitch (names : List (List ℕ)) (m : Made) (card : SwitchCard) : Type 0 where
+pub record IsSensibleSwitch (m : Made) (card : SwitchCard) : Type 0 where
   pub room : length m.parts.switches < MOST_SWITCHES
   pub asked : count_asked m.asked + switch_channel_count card.asked ≤ MOST_CHANNELS
-  pub from_few : node_number names card.from ≤ MOST_NODES
-  pub to_few : node_number names card.to ≤ MOST_NODES
+  pub from_few : node_number m.parts.nodes card.from ≤ MOST_NODES
+  pub to_few : node_number m.parts.nodes card.to ≤ MOST_NODES
   pub control : unknown_name m.parts.vars 65 card.control ≡ None
 
-pub sensible_switch : (names : List (List ℕ)) (m : Made) (card : SwitchCard) → switch_fault names m card ≡ None → IsSensibleSwitch names m card
-sensible_switch names m card e =
+pub sensible_switch : (m : Made) (card : SwitchCard) → switch_fault m card ≡ None → IsSensibleSwitch m card
+sensible_switch m card e =
     let none = least_none (too_many (nat_le MOST_SWITCHES (length m.parts.switches)) 1
     ∷ too_many (no_room m.asked (switch_channel_count card.asked)) 1
-    ∷ too_many (nat_lt MOST_NODES (node_number names card.from)) 3
-    ∷ too_many (nat_lt MOST_NODES (node_number names card.to)) 9
+    ∷ too_many (nat_lt MOST_NODES (node_number m.parts.nodes card.from)) 3
+    ∷ too_many (nat_lt MOST_NODES (node_number m.parts.nodes card.to)) 9
     ∷ unknown_name m.parts.vars 65 card.control
     ∷ []) e in
     record {
       room = below MOST_SWITCHES (length m.parts.switches) 1 none.0;
       asked = within 64 (count_asked m.asked + switch_channel_count card.asked) 1 none.1.0;
-      from_few = within 1000 (node_number names card.from) 3 none.1.1.0;
-      to_few = within 1000 (node_number names card.to) 9 none.1.1.1.0;
+      from_few = within 1000 (node_number m.parts.nodes card.from) 3 none.1.1.0;
+      to_few = within 1000 (node_number m.parts.nodes card.to) 9 none.1.1.1.0;
       control = none.1.1.1.1.0;
     }

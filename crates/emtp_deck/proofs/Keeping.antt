@@ -1,6 +1,6 @@
 -- What is made of the cards stays whole where a source or a switch is added.
 use Rattle.emtp_case.specs.declared.limit.TheConstants.{MOST_CHANNELS}
-use Rattle.std.proofs.Common.{◌≡◌, refl, ℕ, zero, suc, ◌+◌, ◌==◌, ◌<◌, ◌≤◌, Bool, true, false, List, [], ◌∷◌, ◌++◌, length, arith, length-append, ◌∙◌}
+use Rattle.std.proofs.Common.{◌≡◌, refl, ℕ, zero, suc, ◌+◌, ◌==◌, ◌<◌, ◌≤◌, Bool, true, false, List, [], ◌∷◌, ◌++◌, length, arith, length-append}
 use Rattle.std.proofs.lemmas.List.Elements.{All-append, All-cons, All-nil, All-weaker}
 use Rattle.std.specs.Prelude.{All, OnOk, Ok, Err, Result, if◌then◌else◌}
 use Rattle.emtp_case.proofs.Growth.{IsChannel-grows}
@@ -72,19 +72,6 @@ there_grows s n a g h = record {
   branches = All-weaker (IsChannel s) (IsChannel n) (IsChannel-grows s n g) a.branches h.branches;
   switches = All-weaker (IsChannel s) (IsChannel n) (IsChannel-grows s n g) a.switches h.switches;
   statuses = All-weaker (IsChannel s) (IsChannel n) (IsChannel-grows s n g) a.statuses h.statuses;
-}
-
--- the nodes of a card are there
-pub with_more_nodes : (f new : Filling) → IsFilling f → new.draft.parts ≡ record f.draft.parts { nodes = new.nodes.keys } → new.variables.keys ≡ f.variables.keys → new.asked ≡ f.asked → new.history ≡ f.history → length f.draft.parts.nodes ≤ length new.nodes.keys → IsFilling new
-with_more_nodes f new h e variables asked history longer = record {
-  nodes = rw e refl;
-  history = rw history (rw e h.history);
-  variables = rw e (variables ∙ h.variables);
-  no_sources = rw e h.no_sources;
-  no_channels = rw e h.no_channels;
-  few = rw asked h.few;
-  there = rw asked (rw e (there_grows (sizes_of f.draft.parts) (sizes_of (record f.draft.parts { nodes = new.nodes.keys })) f.asked
-      (record { nodes = longer; branches = omega arith; trios = omega arith; switches = omega arith; vars = omega arith }) h.there));
 }
 
 -- ---- switches

@@ -5,6 +5,7 @@ pub mod Growing
 pub mod Modes
 pub mod Asking
 pub mod Judging
+pub mod FewNodes
 pub mod Switching
 pub mod Driving
 pub mod ControlRecords

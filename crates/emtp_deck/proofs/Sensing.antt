@@ -1,22 +1,22 @@
 -- What an entry without a fault of sense gives its records.
 use Rattle.emtp_case.specs.declared.limit.TheConstants.{MOST_BRANCHES, MOST_CHANNELS, MOST_HISTORY_VALUES, MOST_NODES}
-use Rattle.std.proofs.Common.{◌*◌, ◌≡◌, ℕ, ◌+◌, ◌<◌, ◌≤◌, List, [], ◌∷◌, length, None, arith}
-use Rattle.std.specs.Prelude.{All, nat_lt}
+use Rattle.std.proofs.Common.{◌≡◌, ℕ, ◌+◌, ◌<◌, ◌≤◌, List, [], ◌∷◌, length, None, arith}
+use Rattle.std.specs.Prelude.{nat_lt}
 use Rattle.emtp_card.proofs.Faults.{least_none}
 use Rattle.emtp_case.specs.HistoryValues.{history_values_of}
-use Rattle.emtp_case.specs.held.Name.{IsName}
 use Rattle.emtp_case.specs.declared.branch.Point.{Point}
 use Rattle.emtp_case.specs.declared.run_data.RunData.{RunData}
 use Rattle.emtp_sense.proofs.WithinLimits.{within}
-use Rattle.emtp_sense.proofs.Naming.{all_named, ends_of, with_names}
+use Rattle.emtp_sense.proofs.CardNames.{entry_names}
+use Rattle.emtp_sense.proofs.Naming.{Each, ends_of}
 use Rattle.emtp_walk.proofs.NoBad.{no_bad, nothing_before}
 use Rattle.emtp_deck.specs.Branches.{card_bad, card_fault, card_history, entry_count, entry_fault, first_counts, first_fault, pair_fault, second_counts, second_fault, third_fault, with_counts}
 use Rattle.emtp_deck.specs.Channels.{channel_count}
 use Rattle.emtp_deck.specs.Copies.{missing_fault, values_from}
 use Rattle.emtp_deck.specs.Made.{Made, count_asked}
 use Rattle.emtp_sense.specs.Limits.{too_many}
-use Rattle.emtp_sense.specs.Names.{node_number, with_entry_names}
-use Rattle.emtp_sense.specs.held.Naming.{Continues}
+use Rattle.emtp_sense.specs.Names.{node_number}
+use Rattle.emtp_sense.specs.held.Naming.{HasEntryNodes}
 use Rattle.emtp_deck.specs.held.Sensible.{IsSensible}
 use Rattle.emtp_walk.specs.held.Sound.{IsEntry}
 use Rattle.emtp_deck.specs.declared.branches.Counts.{Counts}
@@ -70,65 +70,65 @@ in_threes m h a b c l = omega arith
 
 -- ---- an entry
 
--- what an entry without a fault gives, with the names of its nodes
-pub record IsTakable (m : Made) (new : List (List ℕ)) (e : BranchEntry) : Type 0 where
-  pub continues : Continues m.parts.nodes new
-  pub few : length new ≤ MOST_NODES
-  pub names : All IsName new
-  pub sensible : IsSensible (record m.parts { nodes = new }) e
+-- the three cards of a line
+record AreFaultless (m : Made) (zero' positive third : BranchCard) : Type 0 where
+  first : IsFaultless m.parts.nodes (first_counts m zero') zero' (values_from m.parts.nodes m.parts.branches zero')
+  second : IsFaultless m.parts.nodes (second_counts m zero' positive) positive (values_from m.parts.nodes m.parts.branches positive)
+  last : IsFaultless m.parts.nodes (with_counts (second_counts m zero' positive) third 0) third OwnValues
+
+faultless_trio : (m : Made) (zero' positive third : BranchCard) → entry_fault m (Trio zero' positive third) ≡ None → AreFaultless m zero' positive third
+faultless_trio m zero' positive third e =
+    let nodes = m.parts.nodes in
+    let none = nothing_before (pair_fault m zero' positive) (third_fault m zero' positive third) e in
+    let pair = nothing_before (first_fault m zero') (second_fault m zero' positive) none.0 in
+    record {
+      first = faultless nodes (first_counts m zero') zero' (values_from nodes m.parts.branches zero') pair.0;
+      second = faultless nodes (second_counts m zero' positive) positive (values_from nodes m.parts.branches positive) pair.1;
+      last = faultless nodes (with_counts (second_counts m zero' positive) third 0) third OwnValues none.1;
+    }
+
+-- what an entry without a fault gives
+pub record IsTakable (m : Made) (e : BranchEntry) : Type 0 where
+  pub sensible : IsSensible m.parts e
   pub room : count_asked m.asked + entry_count e ≤ MOST_CHANNELS
 
--- a card brings at most six names
-pub names_more : (nodes : List (List ℕ)) (e : BranchEntry) → length nodes ≤ MOST_NODES → length (with_entry_names nodes e) ≤ 2 * MOST_NODES
-names_more nodes (Single card first count) l =
-    let named = all_named nodes (card.from ∷ card.to ∷ []) in omega (arith, named.more, l)
-names_more nodes (Trio zero' positive third) l =
-    let named = all_named nodes (zero'.from ∷ zero'.to ∷ positive.from ∷ positive.to ∷ third.from ∷ third.to ∷ []) in omega (arith, named.more, l)
-
-pub takable : (m : Made) (run : RunData) (points : List Point) (e : BranchEntry) → IsEntry run points e → length m.parts.nodes ≤ MOST_NODES → All IsName m.parts.nodes → entry_fault (with_entry_names m.parts.nodes e) m e ≡ None → IsTakable m (with_entry_names m.parts.nodes e) e
-takable m run points (Single card first count) h few names e =
-    let xs = card.from ∷ card.to ∷ [] in
-    let nodes = with_names m.parts.nodes xs in
-    let named = all_named m.parts.nodes xs in
-    let ends = h.numbers.ends in
-    let f = faultless nodes (first_counts nodes m card) card (values_from nodes m.parts.branches card) e in
+pub takable : (m : Made) (run : RunData) (points : List Point) (e : BranchEntry) → IsEntry run points e → HasEntryNodes m.parts.nodes e → entry_fault m e ≡ None → IsTakable m e
+takable m run points (Single card first count) h there e =
+    let nodes = m.parts.nodes in
+    let f = faultless nodes (first_counts m card) card (values_from nodes m.parts.branches card) e in
     record {
-      continues = named.continues;
-      few = named.few 1000 few (f.from_few, (f.to_few, tt));
-      names = named.names names (ends.from_name, (ends.to_name, tt));
       sensible = record {
         room = one_below (length m.parts.branches) f.branches;
-        ends = ends_of nodes card.from card.to ends named.known.0 named.known.1.0;
+        ends = ends_of nodes card.from card.to h.numbers.ends (there.from_node f.from_few) (there.to_node f.to_few);
         taken = f.taken;
         history = f.history;
       };
       room = f.channels;
     }
-takable m run points (Trio zero' positive third) h few names e =
-    let xs = zero'.from ∷ zero'.to ∷ positive.from ∷ positive.to ∷ third.from ∷ third.to ∷ [] in
-    let nodes = with_names m.parts.nodes xs in
-    let named = all_named m.parts.nodes xs in
-    let known = named.known in
-    let a = h.0.zero_numbers.ends in
-    let b = h.0.positive_numbers.ends in
-    let c = h.1.ends in
-    let none = nothing_before (pair_fault nodes m zero' positive) (third_fault nodes m zero' positive third) e in
-    let pair = nothing_before (first_fault nodes m zero') (second_fault nodes m zero' positive) none.0 in
-    let f = faultless nodes (first_counts nodes m zero') zero' (values_from nodes m.parts.branches zero') pair.0 in
-    let g = faultless nodes (second_counts nodes m zero' positive) positive (values_from nodes m.parts.branches positive) pair.1 in
-    let t = faultless nodes (with_counts (second_counts nodes m zero' positive) third 0) third OwnValues none.1 in
+takable m run points (Trio zero' positive third) h there e =
+    let nodes = m.parts.nodes in
+    let f = faultless_trio m zero' positive third e in
+    let a = there.zero_nodes in
+    let b = there.positive_nodes in
+    let c = there.third_nodes in
     record {
-      continues = named.continues;
-      few = named.few 1000 few (f.from_few, (f.to_few, (g.from_few, (g.to_few, (t.from_few, (t.to_few, tt))))));
-      names = named.names names (a.from_name, (a.to_name, (b.from_name, (b.to_name, (c.from_name, (c.to_name, tt))))));
       sensible = record {
-        room = three_within (length m.parts.branches) t.branches;
-        zero_ends = ends_of nodes zero'.from zero'.to a known.0 known.1.0;
-        positive_ends = ends_of nodes positive.from positive.to b known.1.1.0 known.1.1.1.0;
-        third_ends = ends_of nodes third.from third.to c known.1.1.1.1.0 known.1.1.1.1.1.0;
-        zero_taken = f.taken;
-        positive_taken = g.taken;
-        history = in_turn MOST_HISTORY_VALUES (history_values_of m.parts) (card_history 1 nodes m.parts zero') (card_history 3 nodes m.parts positive) g.history;
+        room = three_within (length m.parts.branches) f.last.branches;
+        zero_ends = ends_of nodes zero'.from zero'.to h.0.zero_numbers.ends (a.from_node f.first.from_few) (a.to_node f.first.to_few);
+        positive_ends = ends_of nodes positive.from positive.to h.0.positive_numbers.ends (b.from_node f.second.from_few) (b.to_node f.second.to_few);
+        third_ends = ends_of nodes third.from third.to h.1.ends (c.from_node f.last.from_few) (c.to_node f.last.to_few);
+        zero_taken = f.first.taken;
+        positive_taken = f.second.taken;
+        history = in_turn MOST_HISTORY_VALUES (history_values_of m.parts) (card_history 1 m.parts zero') (card_history 3 m.parts positive) f.second.history;
       };
-      room = in_threes 64 (count_asked m.asked) (channel_count zero'.asked) (channel_count positive.asked) (channel_count third.asked) t.channels;
+      room = in_threes 64 (count_asked m.asked) (channel_count zero'.asked) (channel_count positive.asked) (channel_count third.asked) f.last.channels;
     }
+
+-- and its ends, whose numbers are within the limit
+pub few_ends : (m : Made) (e : BranchEntry) → entry_fault m e ≡ None → Each (λ x. node_number m.parts.nodes x ≤ MOST_NODES) (entry_names e)
+few_ends m (Single card first count) e =
+    let f = faultless m.parts.nodes (first_counts m card) card (values_from m.parts.nodes m.parts.branches card) e in
+    (f.from_few, (f.to_few, tt))
+few_ends m (Trio zero' positive third) e =
+    let f = faultless_trio m zero' positive third e in
+    (f.first.from_few, (f.first.to_few, (f.second.from_few, (f.second.to_few, (f.last.from_few, (f.last.to_few, tt))))))

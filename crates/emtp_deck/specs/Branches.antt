@@ -20,7 +20,7 @@ use Rattle.emtp_deck.specs.Channels.{channel_count, channels_of}
 use Rattle.emtp_deck.specs.Copies.{line_numbers, missing_fault, phase_numbers, values_from}
 use Rattle.emtp_deck.specs.Made.{Made, count_asked}
 use Rattle.emtp_sense.specs.Limits.{too_many}
-use Rattle.emtp_sense.specs.Names.{node_number, with_ends, with_entry_names}
+use Rattle.emtp_sense.specs.Names.{node_number}
 use Rattle.emtp_deck.specs.declared.branches.Counts.{Counts}
 use Rattle.emtp_deck.specs.declared.copies.LineNumbers.{LineNumbers}
 use Rattle.emtp_deck.specs.declared.copies.ValuesFrom.{ValuesFrom}
@@ -48,51 +48,51 @@ line_history phases dt None = 0
 line_history phases dt (Some x) = phases * line_history_values dt x.delay
 
 -- the history values of a card: those of the values that it takes, and none where they are missing
-abbrev pub card_history : ℕ → List (List ℕ) → Parts → BranchCard → ℕ
-card_history phases names p card = line_history phases p.run.dt (line_numbers p.trios card.values (values_from names p.branches card))
+abbrev pub card_history : ℕ → Parts → BranchCard → ℕ
+card_history phases p card = line_history phases p.run.dt (line_numbers p.trios card.values (values_from p.nodes p.branches card))
 
 -- ---- faults of sense
 
--- the faults of a card, given the names of the nodes and the counts, its own among them
+-- the faults of a card, given the nodes, and the counts with its own
 unfoldable pub card_fault : List (List ℕ) → Counts → BranchCard → ValuesFrom → Option Fault
-card_fault names n card values =
+card_fault nodes n card values =
     least (too_many (nat_lt MOST_BRANCHES n.branches) 1
     ∷ too_many (nat_lt MOST_HISTORY_VALUES n.history) 1
     ∷ too_many (nat_lt MOST_CHANNELS n.channels) 1
-    ∷ too_many (nat_lt MOST_NODES (node_number names card.from)) 3
-    ∷ too_many (nat_lt MOST_NODES (node_number names card.to)) 9
+    ∷ too_many (nat_lt MOST_NODES (node_number nodes card.from)) 3
+    ∷ too_many (nat_lt MOST_NODES (node_number nodes card.to)) 9
     ∷ missing_fault values
     ∷ [])
 
 abbrev pub card_bad : List (List ℕ) → Counts → BranchCard → ValuesFrom → Option Bad
-card_bad names n card values = option_map (bad_at card.line) (card_fault names n card values)
+card_bad nodes n card values = option_map (bad_at card.line) (card_fault nodes n card values)
 
 -- the counts with a card of one branch, or with the card -1 of three phases, which has the zero sequence
-abbrev pub first_counts : List (List ℕ) → Made → BranchCard → Counts
-first_counts names m card = with_counts (counts_of m) card (card_history 1 names m.parts card)
+abbrev pub first_counts : Made → BranchCard → Counts
+first_counts m card = with_counts (counts_of m) card (card_history 1 m.parts card)
 
 -- and with the card -2, which has the positive sequence of each of the three phases
-abbrev pub second_counts : List (List ℕ) → Made → BranchCard → BranchCard → Counts
-second_counts names m zero' positive = with_counts (first_counts names m zero') positive (card_history 3 names m.parts positive)
+abbrev pub second_counts : Made → BranchCard → BranchCard → Counts
+second_counts m zero' positive = with_counts (first_counts m zero') positive (card_history 3 m.parts positive)
 
-abbrev pub first_fault : List (List ℕ) → Made → BranchCard → Option Bad
-first_fault names m card = card_bad names (first_counts names m card) card (values_from names m.parts.branches card)
+abbrev pub first_fault : Made → BranchCard → Option Bad
+first_fault m card = card_bad m.parts.nodes (first_counts m card) card (values_from m.parts.nodes m.parts.branches card)
 
-abbrev pub second_fault : List (List ℕ) → Made → BranchCard → BranchCard → Option Bad
-second_fault names m zero' positive = card_bad names (second_counts names m zero' positive) positive (values_from names m.parts.branches positive)
+abbrev pub second_fault : Made → BranchCard → BranchCard → Option Bad
+second_fault m zero' positive = card_bad m.parts.nodes (second_counts m zero' positive) positive (values_from m.parts.nodes m.parts.branches positive)
 
 -- the first two phases of a line
-abbrev pub pair_fault : List (List ℕ) → Made → BranchCard → BranchCard → Option Bad
-pair_fault names m zero' positive = first_bad (first_fault names m zero') (second_fault names m zero' positive)
+abbrev pub pair_fault : Made → BranchCard → BranchCard → Option Bad
+pair_fault m zero' positive = first_bad (first_fault m zero') (second_fault m zero' positive)
 
 -- a third phase has no values
-abbrev pub third_fault : List (List ℕ) → Made → BranchCard → BranchCard → BranchCard → Option Bad
-third_fault names m zero' positive third = card_bad names (with_counts (second_counts names m zero' positive) third 0) third OwnValues
+abbrev pub third_fault : Made → BranchCard → BranchCard → BranchCard → Option Bad
+third_fault m zero' positive third = card_bad m.parts.nodes (with_counts (second_counts m zero' positive) third 0) third OwnValues
 
--- the first card of an entry that has a fault decides; the names are those with the entry's own
-abbrev pub entry_fault : List (List ℕ) → Made → BranchEntry → Option Bad
-entry_fault names m (Single card first count) = first_fault names m card
-entry_fault names m (TrioEntry zero' positive third) = first_bad (pair_fault names m zero' positive) (third_fault names m zero' positive third)
+-- the first card of an entry that has a fault decides
+abbrev pub entry_fault : Made → BranchEntry → Option Bad
+entry_fault m (Single card first count) = first_fault m card
+entry_fault m (TrioEntry zero' positive third) = first_bad (pair_fault m zero' positive) (third_fault m zero' positive third)
 
 -- the cards of a group that the file cuts off
 abbrev pub pending_fault : Made → Place → Option Bad
@@ -102,10 +102,9 @@ pending_fault m Second = None
 pending_fault m Start = None
 pending_fault m (Control at) = None
 pending_fault m (Branches wide) = None
-pending_fault m (Points group) = first_fault (with_ends m.parts.nodes group.card.from group.card.to) m group.card
-pending_fault m (Waiting card wide) = first_fault (with_ends m.parts.nodes card.from card.to) m card
-pending_fault m (Third zero' positive wide) =
-    pair_fault (with_ends (with_ends m.parts.nodes zero'.from zero'.to) positive.from positive.to) m zero' positive
+pending_fault m (Points group) = first_fault m group.card
+pending_fault m (Waiting card wide) = first_fault m card
+pending_fault m (Third zero' positive wide) = pair_fault m zero' positive
 pending_fault m Switches = None
 pending_fault m Sources = None
 pending_fault m Outputs = None
@@ -145,7 +144,7 @@ with_values points p card a b OwnValues = with_own points p card.line a b card.v
 with_values points p card a b (Earlier branch) = with_branch p (moved p.trios card.line a b branch)
 with_values points p card a b Missing = p
 
--- the branch of a card, whose nodes are there
+-- the branch of a card
 abbrev pub with_single : List Point → Parts → BranchCard → Parts
 with_single points p card = with_values points p card (node_number p.nodes card.from) (node_number p.nodes card.to) (values_from p.nodes p.branches card)
 
@@ -184,23 +183,16 @@ abbrev pub with_branches : List Point → Parts → BranchEntry → Parts
 with_branches points p (Single card first count) = with_single (points_of points first count) p card
 with_branches points p (TrioEntry zero' positive third) = with_phases p zero' positive third
 
--- an entry whose nodes are there
 abbrev pub with_entry : List Point → Made → BranchEntry → Made
 with_entry points m e = record {
   parts = with_branches points m.parts e;
   asked = record m.asked { branches = m.asked.branches ++ entry_channels (length m.parts.branches) e };
 }
 
-abbrev pub with_nodes : Made → List (List ℕ) → Made
-with_nodes m names = record m { parts = record m.parts { nodes = names } }
-
 -- ---- all entries
 
--- a new name is the next node
 unfoldable pub take_entry : List Point → Made → BranchEntry → Result Made Bad
-take_entry points m e =
-    let names = with_entry_names m.parts.nodes e in
-    unless_bad (entry_fault names m e) (with_entry points (with_nodes m names) e)
+take_entry points m e = unless_bad (entry_fault m e) (with_entry points m e)
 
 -- the first entry that has a fault decides
 abbrev pub take_branches : List Point → Made → List BranchEntry → Result Made Bad

@@ -97,11 +97,11 @@ abbrev pub with_extra : List (List ℕ) → List Point → Parts → ExtraEntry 
 with_extra variables points p (DeviceEntry card first count) = with_device (points_of points first count) p (device_of variables card)
 with_extra variables points p (FormulaEntry card) = record p { extras = p.extras ++ FormulaExtra (formula_of variables card) ∷ [] }
 
--- the variables, the blocks and the supplemental cards, before the network
-abbrev pub control_parts : List (List ℕ) → Deck → Parts
-control_parts variables deck =
+-- the nodes and the variables, the blocks and the supplemental cards, before the network
+abbrev pub control_parts : List (List ℕ) → List (List ℕ) → Deck → Parts
+control_parts nodes variables deck =
     fold (with_extra variables deck.points)
-    (record (empty_parts deck.run) { vars = variables; blocks = map (block_of variables) deck.control.blocks })
+    (record (empty_parts deck.run) { nodes = nodes; vars = variables; blocks = map (block_of variables) deck.control.blocks })
     deck.control.extras
 
 -- ---- sources, which measure in the network

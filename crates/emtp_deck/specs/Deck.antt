@@ -11,7 +11,7 @@ use Rattle.emtp_deck.specs.Branches.{pending_fault, take_branches}
 use Rattle.emtp_deck.specs.ControlFilling.{control_parts, tacs_source_of}
 use Rattle.emtp_sense.specs.ControlSense.{control_bad}
 use Rattle.emtp_deck.specs.Made.{Made, all_asked, none_asked}
-use Rattle.emtp_sense.specs.Names.{known_nodes}
+use Rattle.emtp_sense.specs.Names.{case_nodes, known_nodes}
 use Rattle.emtp_deck.specs.Outputs.{take_outputs, take_tacs_outputs}
 use Rattle.emtp_deck.specs.Samples.{has_too_many, samples_bad}
 use Rattle.emtp_deck.specs.Sources.{take_sources}
@@ -22,14 +22,14 @@ use Rattle.emtp_walk.specs.declared.deck.Deck.{Deck}
 use Rattle.emtp_walk.specs.declared.deck.Place.{Place}
 use Rattle.emtp_walk.specs.declared.deck.Place.TheVariants.{After, Begin, Branches, First, Outputs, Points, Second, Sources, Start, Switches, Third, Waiting, Control}
 
--- what the control makes before the network, given the names of its variables
-abbrev pub control_made : List (List ℕ) → Deck → Made
-control_made variables deck = record { parts = control_parts variables deck; asked = none_asked }
+-- what the control makes before the network, given the nodes of the case and the names of its variables
+abbrev pub control_made : List (List ℕ) → List (List ℕ) → Deck → Made
+control_made nodes variables deck = record { parts = control_parts nodes variables deck; asked = none_asked }
 
 -- the cards of all sections
-abbrev pub made_of_deck : List (List ℕ) → Deck → Result Made Bad
-made_of_deck variables deck =
-    take_tacs_outputs (control_made variables deck) deck.control.outputs
+abbrev pub made_of_deck : List (List ℕ) → List (List ℕ) → Deck → Result Made Bad
+made_of_deck nodes variables deck =
+    take_tacs_outputs (control_made nodes variables deck) deck.control.outputs
     >>= (λ (m : Made). take_branches deck.points m deck.branches)
     >>= (λ (m : Made). take_switches m deck.switches)
     >>= (λ (m : Made). take_sources m deck.sources)
@@ -70,12 +70,13 @@ few_samples nodes variables deck place = if has_too_many nodes variables deck pl
 abbrev pub sensible_control : List (List ℕ) → List (List ℕ) → Deck → Place → Result (Unit {0}) Bad
 sensible_control nodes variables deck place = unless_bad (control_bad nodes variables deck place) tt
 
--- given the names of nodes and variables: the size of the record, the control, the network, and what is missing at the end
+-- given the names of all nodes and variables: the size of the record, the control, the network with the nodes that a case may
+-- have, and what is missing at the end
 abbrev pub filled_by : List (List ℕ) → List (List ℕ) → ℕ → Deck → Place → Result Parts Bad
 filled_by nodes variables line deck place = do
   few ← few_samples nodes variables deck place
   sensible ← sensible_control nodes variables deck place
-  m ← made_of_deck variables deck
+  m ← made_of_deck (case_nodes nodes) variables deck
   unless_bad (unfinished line m place) (case_of deck m)
 
 unfoldable pub filled : ℕ → Deck → Place → Result Parts Bad

@@ -9,11 +9,10 @@ use Rattle.emtp_case.specs.declared.switch.Switch.{Switch}
 use Rattle.emtp_case.specs.declared.switch.SwitchKind.{SwitchKind}
 use Rattle.emtp_case.specs.declared.switch.SwitchKind.TheVariants.{Control, Measuring, Time, Valve}
 use Rattle.emtp_walk.specs.Answer.{go_on}
-use Rattle.emtp_deck.specs.Branches.{with_nodes}
 use Rattle.emtp_deck.specs.Channels.{channels_of, status_of, switch_channel_count}
 use Rattle.emtp_deck.specs.Made.{Made, no_room, unless_fault}
 use Rattle.emtp_sense.specs.Limits.{too_many}
-use Rattle.emtp_sense.specs.Names.{node_number, with_switch_names}
+use Rattle.emtp_sense.specs.Names.{node_number}
 use Rattle.emtp_sense.specs.Variables.{unknown_name, variable_number}
 use Rattle.emtp_netcards.specs.declared.switch_card.SwitchCard.{SwitchCard}
 
@@ -28,13 +27,13 @@ controlled_kind variables control Measuring = Measuring
 controlled_kind variables control (Valve ignition holding number) = Valve ignition holding (option_map (variable_number variables) control)
 controlled_kind variables control (Control number) = Control (control_number variables control)
 
--- the faults of sense of a card, given the names of the nodes, its own among them
-abbrev pub switch_fault : List (List ℕ) → Made → SwitchCard → Option Fault
-switch_fault names m card =
+-- the faults of sense of a card
+abbrev pub switch_fault : Made → SwitchCard → Option Fault
+switch_fault m card =
     least (too_many (nat_le MOST_SWITCHES (length m.parts.switches)) 1
     ∷ too_many (no_room m.asked (switch_channel_count card.asked)) 1
-    ∷ too_many (nat_lt MOST_NODES (node_number names card.from)) 3
-    ∷ too_many (nat_lt MOST_NODES (node_number names card.to)) 9
+    ∷ too_many (nat_lt MOST_NODES (node_number m.parts.nodes card.from)) 3
+    ∷ too_many (nat_lt MOST_NODES (node_number m.parts.nodes card.to)) 9
     ∷ unknown_name m.parts.vars 65 card.control
     ∷ [])
 
@@ -46,7 +45,7 @@ switch_at names variables card = record {
   kind = controlled_kind variables card.control card.kind;
 }
 
--- the switch of a card whose nodes are there, and the channels that it asks for
+-- the switch of a card, and the channels that it asks for
 abbrev pub with_switch : Made → SwitchCard → Made
 with_switch m card =
     let at = length m.parts.switches in
@@ -58,11 +57,8 @@ with_switch m card =
       };
     }
 
--- a new name is the next node
 unfoldable pub take_switch : Made → SwitchCard → Result Made Bad
-take_switch m card =
-    let names = with_switch_names m.parts.nodes card in
-    unless_fault card.line (switch_fault names m card) (with_switch (with_nodes m names) card)
+take_switch m card = unless_fault card.line (switch_fault m card) (with_switch m card)
 
 -- the first card that has a fault decides
 abbrev pub take_switches : Made → List SwitchCard → Result Made Bad

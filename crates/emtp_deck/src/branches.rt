@@ -2,7 +2,7 @@
 
 ghost use Rattle.emtp_case.specs.declared.limit.TheConstants.{MOST_BRANCHES, MOST_CHANNELS, MOST_HISTORY_VALUES, MOST_NODES};
 ghost use Rattle.emtp_case.specs.held.RunData.{IsTimeStep};
-ghost use Rattle.std.specs.Prelude.{◌≡◌, ◌+◌, ◌*◌, ◌^◌, ◌<◌, ◌≤◌, ◌++◌, All, length, Ok, Some, IfErr, IfOk, OnOk, false, true};
+ghost use Rattle.std.specs.Prelude.{◌≡◌, ◌+◌, ◌*◌, ◌^◌, ◌<◌, ◌≤◌, ◌++◌, All, length, Ok, Some, IfErr, OnOk, false, true};
 ghost use Rattle.emtp_case.specs.held.Branch.{HasLineNumbers, IsBranch};
 ghost use Rattle.emtp_case.specs.HistoryValues.{history_values_of};
 ghost use Rattle.emtp_case.specs.held.Range.{AreEnds};
@@ -11,9 +11,9 @@ ghost use Rattle.emtp_walk.specs.held.Answer.{IsWant};
 ghost use Rattle.emtp_deck.specs.Branches.{branch_channels, card_bad, card_fault, card_history, counts_of, entry_channels, entry_count, entry_fault, first_counts, first_fault, line_branch, line_history, moved, numbers_for, pair_fault, pending_fault, phase_for, second_counts, second_fault, take_branches, take_entry, third_fault, with_branches, with_counts, with_entry, with_own, with_phases, with_points, with_single};
 ghost use Rattle.emtp_deck.specs.held.Branches.{entry_history, pair_history};
 ghost use Rattle.emtp_deck.specs.Copies.{line_numbers, numbers_of_card, values_from};
-ghost use Rattle.emtp_deck.specs.held.Filling.{Fills, IsFilling, IsNaming, made_of};
+ghost use Rattle.emtp_deck.specs.held.Filling.{Fills, IsFilling, made_of};
 ghost use Rattle.emtp_deck.specs.Made.{count_asked};
-ghost use Rattle.emtp_sense.specs.Names.{with_ends};
+ghost use Rattle.emtp_sense.specs.held.Naming.{HasEntryNodes};
 ghost use Rattle.emtp_deck.specs.held.Sensible.{AreOwnPoints, FindsValues, IsLineKind, IsSensible, IsSensibleSingle, IsSensibleTrio};
 ghost use Rattle.emtp_walk.specs.held.Sound.{IsEntry, IsTrioEntry, has_points, is_pseudo, is_reactor};
 ghost use Rattle.emtp_walk.specs.Walk.{is_phase};
@@ -23,14 +23,14 @@ use crate::channels::{ask, channel_count};
 use crate::copies::{
     LineNumbers, ValuesFrom, line_numbers, missing_fault, phase_numbers, values_from,
 };
-use crate::filling::{Filling, add_nodes};
+use crate::filling::Filling;
 use emtp_card::{Bad, Fault, Refused, least};
 use emtp_case::{
     Branch, Channel, Draft, Items, Line, Lumped, MOST_BRANCHES, MOST_CHANNELS, MOST_HISTORY_VALUES,
     MOST_NODES, Name, Phase, Point, Pseudo, Trio, line_history_values,
 };
 use emtp_netcards::{BranchCard, BranchValues};
-use emtp_sense::{add_ends, add_entry_names, node_number, too_many};
+use emtp_sense::{node_number, too_many};
 use emtp_walk::{BranchEntry, Place};
 use indexmap::IndexSet;
 
@@ -48,7 +48,7 @@ pub struct Counts {
 // ---- faults of sense
 
 fn counts_of(filling: &Filling) -> Counts
-    requires { IsNaming filling.now }
+    requires { IsFilling filling.now }
     ensures { result ≡ counts_of (made_of filling.now) }
 {
     Counts {
@@ -88,8 +88,8 @@ fn line_history(phases: u64, dt: i64, numbers: &Option<LineNumbers>) -> u64
 
 fn card_history(phases: u64, names: &IndexSet<Name>, draft: &Draft, card: &BranchCard) -> u64
     requires phases { phases ≤ 3 }
-    requires names { length names.now.keys ≤ 2 * MOST_NODES }
-    ensures value { result ≡ card_history phases names.now.keys draft.now.parts card.now }
+    requires names { names.now.keys ≡ draft.now.parts.nodes }
+    ensures value { result ≡ card_history phases draft.now.parts card.now }
     ensures few { result ≤ 2 * 10 ^ 17 }
 {
     line_history(
@@ -99,7 +99,7 @@ fn card_history(phases: u64, names: &IndexSet<Name>, draft: &Draft, card: &Branc
     )
 }
 
-/// The faults of a card, given the names of the nodes and the counts, its own among them.
+/// The faults of a card, given the nodes, and the counts with its own.
 #[tactic(auto, unfolding(crate::specs::Branches::card_fault))]
 fn card_fault(
     names: &IndexSet<Name>,
@@ -107,7 +107,7 @@ fn card_fault(
     card: &BranchCard,
     values: &ValuesFrom,
 ) -> Option<Fault>
-    requires { length names.now.keys ≤ 2 * MOST_NODES }
+    requires { length names.now.keys ≤ MOST_NODES }
     ensures { result ≡ card_fault names.now.keys counts.now card.now values.now }
 {
     least(&[
@@ -126,7 +126,7 @@ fn card_bad(
     card: &BranchCard,
     values: &ValuesFrom,
 ) -> Option<Bad>
-    requires { length names.now.keys ≤ 2 * MOST_NODES }
+    requires { length names.now.keys ≤ MOST_NODES }
     ensures { result ≡ card_bad names.now.keys counts.now card.now values.now }
 {
     match card_fault(names, counts, card, values) {
@@ -137,8 +137,8 @@ fn card_bad(
 
 /// The counts with a card of one branch, or with the card -1 of three phases.
 fn first_counts(filling: &Filling, card: &BranchCard) -> Counts
-    requires { IsNaming filling.now }
-    ensures value { result ≡ first_counts filling.now.nodes.keys (made_of filling.now) card.now }
+    requires { IsFilling filling.now }
+    ensures value { result ≡ first_counts (made_of filling.now) card.now }
     ensures few { result.history ≤ 3 * 10 ^ 17 }
 {
     let history = card_history(1, &filling.nodes, &filling.draft, card);
@@ -147,8 +147,8 @@ fn first_counts(filling: &Filling, card: &BranchCard) -> Counts
 
 /// The counts with the card -2 too.
 fn second_counts(filling: &Filling, zero: &BranchCard, positive: &BranchCard) -> Counts
-    requires { IsNaming filling.now }
-    ensures value { result ≡ second_counts filling.now.nodes.keys (made_of filling.now) zero.now positive.now }
+    requires { IsFilling filling.now }
+    ensures value { result ≡ second_counts (made_of filling.now) zero.now positive.now }
     ensures few { result.history ≤ 5 * 10 ^ 17 }
 {
     let history = card_history(3, &filling.nodes, &filling.draft, positive);
@@ -156,16 +156,16 @@ fn second_counts(filling: &Filling, zero: &BranchCard, positive: &BranchCard) ->
 }
 
 fn first_fault(filling: &Filling, card: &BranchCard) -> Option<Bad>
-    requires { IsNaming filling.now }
-    ensures { result ≡ first_fault filling.now.nodes.keys (made_of filling.now) card.now }
+    requires { IsFilling filling.now }
+    ensures { result ≡ first_fault (made_of filling.now) card.now }
 {
     let values = values_from(&filling.nodes, &filling.draft, card);
     card_bad(&filling.nodes, &first_counts(filling, card), card, &values)
 }
 
 fn second_fault(filling: &Filling, zero: &BranchCard, positive: &BranchCard) -> Option<Bad>
-    requires { IsNaming filling.now }
-    ensures { result ≡ second_fault filling.now.nodes.keys (made_of filling.now) zero.now positive.now }
+    requires { IsFilling filling.now }
+    ensures { result ≡ second_fault (made_of filling.now) zero.now positive.now }
 {
     let values = values_from(&filling.nodes, &filling.draft, positive);
     card_bad(
@@ -178,8 +178,8 @@ fn second_fault(filling: &Filling, zero: &BranchCard, positive: &BranchCard) -> 
 
 /// What refuses one of the first two phases of a line.
 fn pair_fault(filling: &Filling, zero: &BranchCard, positive: &BranchCard) -> Option<Bad>
-    requires { IsNaming filling.now }
-    ensures { result ≡ pair_fault filling.now.nodes.keys (made_of filling.now) zero.now positive.now }
+    requires { IsFilling filling.now }
+    ensures { result ≡ pair_fault (made_of filling.now) zero.now positive.now }
 {
     match first_fault(filling, zero) {
         Some(bad) => Some(bad),
@@ -193,8 +193,8 @@ fn third_fault(
     positive: &BranchCard,
     third: &BranchCard,
 ) -> Option<Bad>
-    requires { IsNaming filling.now }
-    ensures { result ≡ third_fault filling.now.nodes.keys (made_of filling.now) zero.now positive.now third.now }
+    requires { IsFilling filling.now }
+    ensures { result ≡ third_fault (made_of filling.now) zero.now positive.now third.now }
 {
     let counts = with_counts(&second_counts(filling, zero, positive), third, 0);
     card_bad(&filling.nodes, &counts, third, &ValuesFrom::Card)
@@ -202,8 +202,8 @@ fn third_fault(
 
 /// What refuses an entry: the first of its cards that has a fault decides.
 fn entry_fault(filling: &Filling, entry: &BranchEntry) -> Option<Bad>
-    requires { IsNaming filling.now }
-    ensures { result ≡ entry_fault filling.now.nodes.keys (made_of filling.now) entry.now }
+    requires { IsFilling filling.now }
+    ensures { result ≡ entry_fault (made_of filling.now) entry.now }
 {
     match entry {
         BranchEntry::Single { card, .. } => first_fault(filling, card),
@@ -331,7 +331,7 @@ fn add_pseudo(
     Ok(())
 }
 
-/// Adds the branch of a card whose nodes are there.
+/// Adds the branch of a card.
 fn add_single(
     draft: &mut Draft,
     nodes: &IndexSet<Name>,
@@ -344,7 +344,7 @@ fn add_single(
     requires numbers { HasNumbers draft.old.parts.run.dt card.now }
     requires points { has_points card.now ≡ true → AreOwnPoints (is_reactor card.now.values) draft.old.parts.run.dt points.now }
     ensures ok { OnOk result (draft.new.parts ≡ with_single points.now draft.old.parts card.now) }
-    ensures history { OnOk result (history_values_of draft.new.parts ≡ history_values_of draft.old.parts + card_history 1 draft.old.parts.nodes draft.old.parts card.now) }
+    ensures history { OnOk result (history_values_of draft.new.parts ≡ history_values_of draft.old.parts + card_history 1 draft.old.parts card.now) }
     ensures err { IfErr result IsWant }
 {
     let from = node_number(nodes, &card.from);
@@ -390,7 +390,7 @@ fn phase_for(draft: &Draft, nodes: &IndexSet<Name>, card: &BranchCard) -> Phase
     }
 }
 
-/// Adds the three phases of a line, whose nodes are there.
+/// Adds the three phases of a line.
 fn add_phases(
     draft: &mut Draft,
     nodes: &IndexSet<Name>,
@@ -420,7 +420,7 @@ fn add_phases(
     Ok(())
 }
 
-/// Adds the branches of an entry whose nodes are there.
+/// Adds the branches of an entry.
 fn add_branches(
     draft: &mut Draft,
     nodes: &IndexSet<Name>,
@@ -499,19 +499,19 @@ fn ask_entry(asked: &mut Items<Channel>, at: u32, entry: &BranchEntry) -> Result
 fn take_entry(filling: &mut Filling, points: &[Point], entry: &BranchEntry) -> Result<(), Refused>
     requires filling { IsFilling filling.old }
     requires entry { IsEntry filling.old.draft.parts.run points.now entry.now }
+    requires nodes { HasEntryNodes filling.old.nodes.keys entry.now }
     ensures value { Fills result (take_entry points.now (made_of filling.old) entry.now) (made_of filling.new) }
     ensures filling { OnOk result (IsFilling filling.new) }
     ensures run { OnOk result (filling.new.draft.parts.run ≡ filling.old.draft.parts.run) }
+    ensures nodes { filling.new.nodes.keys ≡ filling.old.nodes.keys }
 {
-    add_entry_names(&mut filling.nodes, entry)?;
     if let Some(bad) = entry_fault(filling, entry) {
         return Err(Refused::Bad(bad));
     }
-    add_nodes(&mut filling.draft, &filling.nodes)?;
     add_entry(filling, points, entry)
 }
 
-/// Adds the branches and the channels of an entry whose nodes are there.
+/// Adds the branches and the channels of an entry.
 fn add_entry(filling: &mut Filling, points: &[Point], entry: &BranchEntry) -> Result<(), Refused>
     requires filling { IsFilling filling.old }
     requires entry { IsEntry filling.old.draft.parts.run points.now entry.now }
@@ -520,6 +520,7 @@ fn add_entry(filling: &mut Filling, points: &[Point], entry: &BranchEntry) -> Re
     ensures ok { OnOk result (made_of filling.new ≡ with_entry points.now (made_of filling.old) entry.now) }
     ensures err { IfErr result IsWant }
     ensures filling { OnOk result (IsFilling filling.new) }
+    ensures nodes { filling.new.nodes.keys ≡ filling.old.nodes.keys }
 {
     let at = filling.draft.parts.branches.len() as u32;
     let history = entry_history(filling, entry);
@@ -536,6 +537,7 @@ pub(crate) fn take_branches(
 ) -> Result<(), Refused>
     requires filling { IsFilling filling.old }
     requires entries { All (IsEntry filling.old.draft.parts.run points.now) entries.now }
+    requires nodes { All (HasEntryNodes filling.old.nodes.keys) entries.now }
     ensures value { Fills result (take_branches points.now (made_of filling.old) entries.now) (made_of filling.new) }
     ensures filling { OnOk result (IsFilling filling.new) }
     ensures run { OnOk result (filling.new.draft.parts.run ≡ filling.old.draft.parts.run) }
@@ -550,28 +552,14 @@ pub(crate) fn take_branches(
 }
 
 /// What refuses a card of a group that the file cuts off at this place.
-pub(crate) fn pending_fault(filling: &mut Filling, place: &Place) -> Result<Option<Bad>, Refused>
-    requires { IsFilling filling.old }
-    ensures value { IfOk result (λ bad. bad ≡ pending_fault (made_of filling.old) place.now) }
-    ensures err { IfErr result IsWant }
+pub(crate) fn pending_fault(filling: &Filling, place: &Place) -> Option<Bad>
+    requires { IsFilling filling.now }
+    ensures { result ≡ pending_fault (made_of filling.now) place.now }
 {
     match place {
-        Place::Points(group) => pending_card(filling, &group.card),
-        Place::Waiting { card, .. } => pending_card(filling, card),
-        Place::Third { zero, positive, .. } => {
-            add_ends(&mut filling.nodes, &zero.from, &zero.to)?;
-            add_ends(&mut filling.nodes, &positive.from, &positive.to)?;
-            Ok(pair_fault(filling, zero, positive))
-        }
-        _ => Ok(None),
+        Place::Points(group) => first_fault(filling, &group.card),
+        Place::Waiting { card, .. } => first_fault(filling, card),
+        Place::Third { zero, positive, .. } => pair_fault(filling, zero, positive),
+        _ => None,
     }
-}
-
-fn pending_card(filling: &mut Filling, card: &BranchCard) -> Result<Option<Bad>, Refused>
-    requires { IsFilling filling.old }
-    ensures value { IfOk result (λ bad. bad ≡ first_fault (with_ends filling.old.draft.parts.nodes card.now.from card.now.to) (made_of filling.old) card.now) }
-    ensures err { IfErr result IsWant }
-{
-    add_ends(&mut filling.nodes, &card.from, &card.to)?;
-    Ok(first_fault(filling, card))
 }

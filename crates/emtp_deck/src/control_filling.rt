@@ -1,7 +1,7 @@
 //! The records of the control, whose cards have no fault of sense.
 
 ghost use Rattle.emtp_case.specs.declared.limit.TheConstants.{MOST_CONTROL_CARDS, MOST_HISTORY_VALUES, MOST_NODES, MOST_SWITCHES, MOST_VARIABLES};
-ghost use Rattle.std.specs.Prelude.{◌*◌, ◌≡◌, ◌+◌, ◌<◌, ◌≤◌, ◌++◌, [], All, fold, length, map, sum_by, IfErr, IfOk, OnOk};
+ghost use Rattle.std.specs.Prelude.{◌≡◌, ◌+◌, ◌<◌, ◌≤◌, ◌++◌, All, fold, length, map, sum_by, IfErr, IfOk, OnOk};
 ghost use Rattle.emtp_case.specs.HistoryValues.{history_values_of};
 ghost use Rattle.emtp_case.specs.held.Name.{IsName};
 ghost use Rattle.emtp_walk.specs.held.Answer.{IsWant};
@@ -12,7 +12,7 @@ ghost use Rattle.emtp_deck.specs.held.ControlSensible.{IsSensibleControl};
 ghost use Rattle.emtp_walk.specs.held.Coefficients.{IsBlockEntry};
 ghost use Rattle.emtp_deck.specs.Deck.{control_made};
 ghost use Rattle.emtp_deck.specs.held.Filling.{IsFilling, made_of};
-ghost use Rattle.emtp_deck.specs.held.Made.{empty_made};
+ghost use Rattle.emtp_deck.specs.held.Made.{named_made};
 ghost use Rattle.emtp_sense.specs.held.Naming.{Continues};
 ghost use Rattle.emtp_walk.specs.held.Sound.{IsExtraEntry, IsTacsSourceCard, IsWhole};
 ghost use Rattle.emtp_sense.specs.Variables.{variable_number};
@@ -239,11 +239,11 @@ fn add_variables(draft: &mut Draft, variables: &IndexSet<Name>) -> Result<(), Re
 
 /// Adds what the control makes before the network: its variables, blocks and supplemental cards.
 pub(crate) fn add_control(alloc: Global, filling: &mut Filling, deck: &Deck) -> Result<(), Refused>
-    requires empty { made_of filling.old ≡ empty_made deck.now.run }
-    requires nodes { filling.old.nodes.keys ≡ [] }
+    requires empty { made_of filling.old ≡ named_made filling.old.nodes.keys deck.now.run }
     requires whole { IsWhole deck.now }
     requires sensible { IsSensibleControl filling.old.variables.keys deck.now }
-    ensures ok { OnOk result (made_of filling.new ≡ control_made filling.old.variables.keys deck.now) }
+    ensures ok { OnOk result (made_of filling.new ≡ control_made filling.old.nodes.keys filling.old.variables.keys deck.now) }
+    ensures nodes { OnOk result (filling.new.nodes.keys ≡ filling.old.nodes.keys) }
     ensures variables { OnOk result (filling.new.variables.keys ≡ filling.old.variables.keys) }
     ensures err { IfErr result IsWant }
     ensures filling { OnOk result (IsFilling filling.new) }
@@ -269,7 +269,7 @@ fn switch_place(switches: &[SwitchCard], name: &Name) -> u32
 
 /// The shape of a source, which measures the node or the switch of its name.
 fn measuring(nodes: &IndexSet<Name>, switches: &[SwitchCard], name: &Name, shape: Shape) -> Shape
-    requires nodes { length nodes.now.keys ≤ 2 * MOST_NODES }
+    requires nodes { length nodes.now.keys ≤ MOST_NODES }
     requires switches { length switches.now ≤ MOST_SWITCHES }
     ensures { result ≡ measuring nodes.now.keys switches.now name.now shape }
 {
@@ -293,7 +293,7 @@ fn tacs_source_of(
     variables: &IndexSet<Name>,
     card: &SourceCard,
 ) -> Source
-    requires nodes { length nodes.now.keys ≤ 2 * MOST_NODES }
+    requires nodes { length nodes.now.keys ≤ MOST_NODES }
     requires switches { length switches.now ≤ MOST_SWITCHES }
     requires variables { length variables.now.keys ≤ MOST_VARIABLES }
     ensures { result ≡ tacs_source_of nodes.now.keys switches.now variables.now.keys card.now }

@@ -2,7 +2,7 @@
 //! names.
 
 ghost use Rattle.emtp_case.specs.declared.limit.TheConstants.{MOST_NODES};
-ghost use Rattle.std.specs.Prelude.{◌*◌, ◌≡◌, ◌≤◌, ◌<◌, find, length};
+ghost use Rattle.std.specs.Prelude.{◌≡◌, ◌≤◌, ◌<◌, find, length};
 ghost use Rattle.emtp_case.specs.held.Branch.{IsBranch};
 ghost use Rattle.emtp_case.specs.held.Sizes.{sizes_of};
 ghost use Rattle.emtp_deck.specs.Copies.{is_like, line_numbers, missing_fault, mode_numbers, numbers_of_branch, numbers_of_card, phase_numbers, type_of_branch, type_of_kind, values_from};
@@ -84,7 +84,7 @@ fn first_like(branches: &[Branch], number: i64, from: u32, to: u32) -> Option<Br
 
 /// Where a card's values come from, behind the branches of a draft.
 pub(crate) fn values_from(names: &IndexSet<Name>, draft: &Draft, card: &BranchCard) -> ValuesFrom
-    requires { length names.now.keys ≤ 2 * MOST_NODES }
+    requires { length names.now.keys ≤ MOST_NODES }
     ensures value { result ≡ values_from names.now.keys draft.now.parts.branches card.now }
     ensures taken { IsTaken draft.now.parts (type_of_kind (kind_of_values card.now.values)) result }
 {
@@ -169,7 +169,7 @@ pub(crate) fn line_numbers(
     draft: &Draft,
     card: &BranchCard,
 ) -> Option<LineNumbers>
-    requires { length names.now.keys ≤ 2 * MOST_NODES }
+    requires { length names.now.keys ≤ MOST_NODES }
     ensures { result ≡ line_numbers draft.now.parts.trios card.now.values (values_from names.now.keys draft.now.parts.branches card.now) }
 {
     match values_from(names, draft, card) {

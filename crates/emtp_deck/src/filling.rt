@@ -1,19 +1,19 @@
 //! The case in the making, while cards are taken.
 
 ghost use Rattle.emtp_case.specs.declared.limit.TheConstants.{MOST_NODES};
-ghost use Rattle.std.specs.Prelude.{◌≡◌, ◌≤◌, All, length, IfErr, IfOk, OnOk, []};
+ghost use Rattle.std.specs.Prelude.{◌≡◌, ◌≤◌, All, length, IfErr, IfOk, OnOk};
 ghost use Rattle.emtp_case.specs.held.Case.{DefinesEach};
-ghost use Rattle.emtp_case.specs.HistoryValues.{history_values_of};
 ghost use Rattle.emtp_case.specs.held.Name.{IsName};
 ghost use Rattle.emtp_case.specs.held.RunData.{IsRun};
 ghost use Rattle.emtp_walk.specs.held.Answer.{IsWant};
 ghost use Rattle.emtp_deck.specs.held.Filling.{made_of};
-ghost use Rattle.emtp_deck.specs.held.Made.{empty_made};
+ghost use Rattle.emtp_deck.specs.held.Made.{named_made};
 ghost use Rattle.emtp_sense.specs.held.Naming.{Continues};
 
 use crate::asked::Asked;
 use emtp_card::Refused;
 use emtp_case::{Case, Draft, Name, RunData};
+use emtp_sense::KnownNames;
 use indexmap::IndexSet;
 use std::alloc::Global;
 
@@ -33,22 +33,23 @@ pub(crate) struct Filling {
 }
 
 impl Filling {
-    /// What is made of the miscellaneous cards alone, with the names of the variables.
-    pub(crate) fn new(
-        alloc: Global,
-        run: RunData,
-        variables: IndexSet<Name>,
-    ) -> Result<Filling, Refused>
-        requires { IsRun run }
-        ensures ok { IfOk result (λ filling. made_of filling ≡ empty_made run) }
+    /// What is made of the miscellaneous cards alone, with the nodes of the case and the names of its variables.
+    pub(crate) fn new(alloc: Global, run: RunData, names: KnownNames) -> Result<Filling, Refused>
+        requires run { IsRun run }
+        requires few { length names.nodes.keys ≤ MOST_NODES }
+        requires names { All IsName names.nodes.keys }
+        ensures ok { IfOk result (λ filling. made_of filling ≡ named_made names.nodes.keys run) }
         ensures err { IfErr result IsWant }
-        ensures variables { IfOk result (λ filling. filling.variables.keys ≡ variables.keys) }
+        ensures nodes { IfOk result (λ filling. filling.nodes.keys ≡ names.nodes.keys) }
+        ensures variables { IfOk result (λ filling. filling.variables.keys ≡ names.variables.keys) }
         ensures history { IfOk result (λ filling. filling.history ≡ 0) }
-        ensures nodes { IfOk result (λ filling. filling.nodes.keys ≡ []) }
     {
+        let mut draft = Draft::new(alloc, run)?;
+        add_nodes(&mut draft, &names.nodes)?;
+        let KnownNames { nodes, variables } = names;
         Ok(Filling {
-            draft: Draft::new(alloc, run)?,
-            nodes: IndexSet::new(alloc),
+            draft,
+            nodes,
             variables,
             asked: Asked::new(alloc),
             history: 0,
@@ -76,12 +77,11 @@ impl Filling {
 }
 
 /// Gives a draft the nodes that are new.
-pub(crate) fn add_nodes(draft: &mut Draft, nodes: &IndexSet<Name>) -> Result<(), Refused>
+fn add_nodes(draft: &mut Draft, nodes: &IndexSet<Name>) -> Result<(), Refused>
     requires grows { Continues draft.old.parts.nodes nodes.now.keys }
     requires few { length nodes.now.keys ≤ MOST_NODES }
     requires names { All IsName nodes.now.keys }
     ensures ok { OnOk result (draft.new.parts ≡ record draft.old.parts { nodes = nodes.now.keys }) }
-    ensures history { OnOk result (history_values_of draft.new.parts ≡ history_values_of draft.old.parts) }
     ensures err { IfErr result IsWant }
 {
     for at in draft.parts.nodes.len()..nodes.len() {

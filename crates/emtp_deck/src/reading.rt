@@ -12,9 +12,11 @@ ghost use Rattle.emtp_deck.specs.held.ControlSensible.{IsSensibleWhole};
 ghost use Rattle.emtp_deck.specs.Deck.{case_of, control_made, deck_of, filled, is_ended, made_of_deck, unfinished};
 ghost use Rattle.emtp_deck.specs.held.Filling.{AreThere, Fills, IsFilling, made_of};
 ghost use Rattle.emtp_deck.specs.Made.{all_asked, count_asked};
-ghost use Rattle.emtp_deck.specs.held.Made.{empty_made};
+ghost use Rattle.emtp_deck.specs.held.Made.{named_made};
 ghost use Rattle.emtp_walk.specs.held.Sound.{IsSound, IsWhole};
+ghost use Rattle.emtp_sense.specs.Names.{case_nodes, known_nodes};
 ghost use Rattle.emtp_sense.specs.Variables.{variable_names};
+ghost use Rattle.emtp_sense.specs.held.Naming.{HasNodes};
 
 use crate::asked::Asked;
 use crate::branches::{pending_fault, take_branches};
@@ -25,18 +27,18 @@ use crate::samples::{has_too_many, samples_bad};
 use crate::sources::take_sources;
 use crate::switches::take_switches;
 use emtp_card::{Bad, Cards, Refused, Why};
-use emtp_case::{Case, Channel, Draft, Name};
+use emtp_case::{Case, Channel, Draft};
 use emtp_sense::{KnownNames, control_bad};
 use emtp_walk::{Deck, Place, walk};
-use indexmap::IndexSet;
 use std::alloc::Global;
 
 /// Takes the cards of all sections, in the order of their lines.
 fn fill(filling: &mut Filling, deck: &Deck) -> Result<(), Refused>
-    requires control { made_of filling.old ≡ control_made filling.old.variables.keys deck.now }
+    requires control { made_of filling.old ≡ control_made filling.old.nodes.keys filling.old.variables.keys deck.now }
     requires filling { IsFilling filling.old }
     requires whole { IsWhole deck.now }
-    ensures value { Fills result (made_of_deck filling.old.variables.keys deck.now) (made_of filling.new) }
+    requires nodes { HasNodes filling.old.nodes.keys deck.now }
+    ensures value { Fills result (made_of_deck filling.old.nodes.keys filling.old.variables.keys deck.now) (made_of filling.new) }
     ensures filling { OnOk result (IsFilling filling.new) }
 {
     take_tacs_outputs(filling, deck.control.outputs.as_slice())?;
@@ -90,23 +92,22 @@ fn finish(filling: &mut Filling, deck: &Deck) -> Result<(), Refused>
 }
 
 /// Why a deck isn't whole after its last line: a card of a group that it cuts off, or the section that is missing.
-fn unfinished(filling: &mut Filling, place: &Place, line: u32) -> Refused
-    requires filling { IsFilling filling.old }
+fn unfinished(filling: &Filling, place: &Place, line: u32) -> Bad
+    requires filling { IsFilling filling.now }
     requires place { is_ended place.now ≡ false }
-    ensures { IfBad result (λ bad. unfinished line (made_of filling.old) place.now ≡ Some bad) }
+    ensures { unfinished line (made_of filling.now) place.now ≡ Some result }
 {
     match pending_fault(filling, place) {
-        Ok(Some(bad)) => Refused::Bad(bad),
-        Ok(None) => Refused::Bad(Bad {
+        Some(bad) => bad,
+        None => Bad {
             line,
             column: 1,
             why: Why::MissingSection,
-        }),
-        Err(refused) => refused,
+        },
     }
 }
 
-/// Makes the case of cards whose control has no fault of sense, from an empty one.
+/// Makes the case of cards whose control has no fault of sense, from one that has its nodes alone.
 fn complete(
     alloc: Global,
     filling: &mut Filling,
@@ -114,10 +115,10 @@ fn complete(
     place: &Place,
     line: u32,
 ) -> Result<(), Refused>
-    requires empty { made_of filling.old ≡ empty_made deck.now.run }
-    requires nodes { filling.old.nodes.keys ≡ [] }
+    requires empty { made_of filling.old ≡ named_made filling.old.nodes.keys deck.now.run }
     requires sound { IsSound deck.now place.now }
     requires whole { IsWhole deck.now }
+    requires nodes { filling.old.nodes.keys ≡ case_nodes (known_nodes deck.now place.now) }
     requires variables { filling.old.variables.keys ≡ variable_names deck.now place.now }
     requires accepted { IsAccepted deck.now place.now }
     ensures ok { OnOk result (filled line deck.now place.now ≡ Ok filling.new.draft.parts) }
@@ -128,7 +129,7 @@ fn complete(
     match fill(filling, deck) {
         Ok(()) => match place {
             Place::After(_) => finish(filling, deck),
-            _ => Err(unfinished(filling, place, line)),
+            _ => Err(Refused::Bad(unfinished(filling, place, line))),
         },
         Err(refused) => Err(refused),
     }
@@ -140,16 +141,17 @@ fn complete_case(
     deck: &Deck,
     place: &Place,
     line: u32,
-    variables: IndexSet<Name>,
+    names: KnownNames,
 ) -> Result<Case, Refused>
     requires sound { IsSound deck.now place.now }
     requires whole { IsWhole deck.now }
-    requires variables { variables.keys ≡ variable_names deck.now place.now }
+    requires nodes { names.nodes.keys ≡ case_nodes (known_nodes deck.now place.now) }
+    requires variables { names.variables.keys ≡ variable_names deck.now place.now }
     requires accepted { IsAccepted deck.now place.now }
     ensures ok { IfOk result (λ case. filled line deck.now place.now ≡ Ok case.parts) }
     ensures bad { IfErr result (λ refused. IfBad refused (λ bad. filled line deck.now place.now ≡ Err bad)) }
 {
-    let mut filling = Filling::new(alloc, deck.run, variables)?;
+    let mut filling = Filling::new(alloc, deck.run, names)?;
     match complete(alloc, &mut filling, deck, place, line) {
         Ok(()) => Ok(filling.into_case()),
         Err(refused) => {
@@ -167,7 +169,7 @@ fn filled(alloc: Global, deck: &Deck, place: &Place, line: u32) -> Result<Case, 
     ensures ok { IfOk result (λ case. filled line deck.now place.now ≡ Ok case.parts) }
     ensures bad { IfErr result (λ refused. IfBad refused (λ bad. filled line deck.now place.now ≡ Err bad)) }
 {
-    let names = KnownNames::new(alloc, deck, place)?;
+    let mut names = KnownNames::new(alloc, deck, place)?;
     if has_too_many(&names, deck, place) {
         drop(names);
         return Err(Refused::Bad(samples_bad(deck)));
@@ -176,8 +178,8 @@ fn filled(alloc: Global, deck: &Deck, place: &Place, line: u32) -> Result<Case, 
         drop(names);
         return Err(Refused::Bad(bad));
     }
-    let KnownNames { variables, .. } = names;
-    complete_case(alloc, deck, place, line, variables)
+    names.keep_case_nodes();
+    complete_case(alloc, deck, place, line, names)
 }
 
 /// The case that the lines give, or the one fault that decides.

@@ -1,7 +1,7 @@
 //! Filling the switches.
 
 ghost use Rattle.emtp_case.specs.declared.limit.TheConstants.{MOST_CHANNELS, MOST_NODES, MOST_SWITCHES, MOST_VARIABLES};
-ghost use Rattle.std.specs.Prelude.{◌*◌, ◌≡◌, ◌+◌, ◌<◌, ◌≤◌, All, length, IfErr, OnOk};
+ghost use Rattle.std.specs.Prelude.{◌≡◌, ◌+◌, ◌<◌, ◌≤◌, All, length, IfErr, OnOk};
 ghost use Rattle.emtp_case.specs.held.Range.{AreEnds};
 ghost use Rattle.emtp_walk.specs.held.Answer.{IsWant};
 ghost use Rattle.emtp_deck.specs.held.Filling.{Fills, IsFilling, made_of};
@@ -9,23 +9,22 @@ ghost use Rattle.emtp_deck.specs.Made.{count_asked};
 ghost use Rattle.emtp_sense.specs.Names.{node_number};
 ghost use Rattle.emtp_deck.specs.Channels.{switch_channel_count};
 ghost use Rattle.emtp_sense.specs.held.ControlSensible.{IsKnown};
+ghost use Rattle.emtp_sense.specs.held.Naming.{HasSwitchNodes};
 ghost use Rattle.emtp_deck.specs.Switches.{controlled_kind, switch_at, switch_fault, take_switch, take_switches, with_switch};
 ghost use Rattle.emtp_netcards.specs.held.SwitchCard.{HasSwitchNumbers};
 
 use crate::channels::{ask, ask_status, no_room, switch_channel_count};
-use crate::filling::{Filling, add_nodes};
+use crate::filling::Filling;
 use emtp_card::{Fault, Refused, least};
 use emtp_case::{Channel, MOST_NODES, MOST_SWITCHES, Name, Switch, SwitchKind};
 use emtp_netcards::SwitchCard;
-use emtp_sense::{add_ends, node_number, number_of, too_many, unknown_name};
+use emtp_sense::{node_number, number_of, too_many, unknown_name};
 use indexmap::IndexSet;
 
-/// The faults of sense of a card, its own names among those of the nodes.
+/// The faults of sense of a card.
 fn switch_fault(filling: &Filling, card: &SwitchCard) -> Option<Fault>
-    requires few { length filling.now.nodes.keys ≤ 2 * MOST_NODES }
-    requires asked { count_asked filling.now.asked ≤ MOST_CHANNELS }
-    requires variables { filling.now.variables.keys ≡ filling.now.draft.parts.vars }
-    ensures { result ≡ switch_fault filling.now.nodes.keys (made_of filling.now) card.now }
+    requires { IsFilling filling.now }
+    ensures { result ≡ switch_fault (made_of filling.now) card.now }
 {
     let nodes = &filling.nodes;
     least(&[
@@ -64,7 +63,7 @@ fn controlled_kind(
 }
 
 fn switch_at(nodes: &IndexSet<Name>, variables: &IndexSet<Name>, card: &SwitchCard) -> Switch
-    requires few { length nodes.now.keys ≤ 2 * MOST_NODES }
+    requires few { length nodes.now.keys ≤ MOST_NODES }
     requires few_variables { length variables.now.keys ≤ MOST_VARIABLES }
     ensures { result ≡ switch_at nodes.now.keys variables.now.keys card.now }
 {
@@ -81,18 +80,18 @@ fn switch_at(nodes: &IndexSet<Name>, variables: &IndexSet<Name>, card: &SwitchCa
 fn take_switch(filling: &mut Filling, card: &SwitchCard) -> Result<(), Refused>
     requires filling { IsFilling filling.old }
     requires card { HasSwitchNumbers card.now }
+    requires nodes { HasSwitchNodes filling.old.nodes.keys card.now }
     ensures value { Fills result (take_switch (made_of filling.old) card.now) (made_of filling.new) }
     ensures filling { OnOk result (IsFilling filling.new) }
+    ensures nodes { filling.new.nodes.keys ≡ filling.old.nodes.keys }
 {
-    add_ends(&mut filling.nodes, &card.from, &card.to)?;
     if let Some(fault) = switch_fault(filling, card) {
         return Err(Refused::Bad(fault.on_line(card.line)));
     }
-    add_nodes(&mut filling.draft, &filling.nodes)?;
     add_switch(filling, card)
 }
 
-/// Adds the switch of a card whose nodes are there, and the channels that it asks for.
+/// Adds the switch of a card, and the channels that it asks for.
 fn add_switch(filling: &mut Filling, card: &SwitchCard) -> Result<(), Refused>
     requires filling { IsFilling filling.old }
     requires card { HasSwitchNumbers card.now }
@@ -103,6 +102,7 @@ fn add_switch(filling: &mut Filling, card: &SwitchCard) -> Result<(), Refused>
     ensures ok { OnOk result (made_of filling.new ≡ with_switch (made_of filling.old) card.now) }
     ensures err { IfErr result IsWant }
     ensures filling { OnOk result (IsFilling filling.new) }
+    ensures nodes { filling.new.nodes.keys ≡ filling.old.nodes.keys }
 {
     let at = filling.draft.parts.switches.len() as u32;
     let switch = switch_at(&filling.nodes, &filling.variables, card);
@@ -120,6 +120,7 @@ fn add_switch(filling: &mut Filling, card: &SwitchCard) -> Result<(), Refused>
 pub(crate) fn take_switches(filling: &mut Filling, cards: &[SwitchCard]) -> Result<(), Refused>
     requires filling { IsFilling filling.old }
     requires cards { All HasSwitchNumbers cards.now }
+    requires nodes { All (HasSwitchNodes filling.old.nodes.keys) cards.now }
     ensures value { Fills result (take_switches (made_of filling.old) cards.now) (made_of filling.new) }
     ensures filling { OnOk result (IsFilling filling.new) }
 {

@@ -9,6 +9,7 @@ use Rattle.emtp_deck_laws.proofs.FirstRefusal.{first_refusal}
 use Rattle.emtp_deck_laws.proofs.JudgedDeck.{accepted, lines_refused, refused}
 use Rattle.emtp_deck_laws.proofs.JudgedLines.{judged_rise}
 use Rattle.emtp_deck_laws.proofs.LeastRefusal.{least_of_all, none_of_all}
+use Rattle.emtp_sense.specs.Names.{case_nodes, known_nodes}
 use Rattle.emtp_sense.specs.Variables.{variable_names}
 use Rattle.emtp_walk.specs.Walk.{empty_deck, walk}
 use Rattle.emtp_walk.specs.declared.deck.Deck.{Deck}
@@ -19,9 +20,9 @@ pub refused_for_the_least : (lines : List (List ℕ)) (deck : Deck) (place : Pla
 refused_for_the_least lines deck place bad e h =
     let cards = judged_cards (length lines) deck place in
     least_of_all cards deck.second (length lines + 2) bad (judged_rise lines deck place e)
-    (refused (first_refusal cards) (case_of deck (made_of_all (variable_names deck place) deck)) bad (sym (lines_refused lines deck place e) ∙ h))
+    (refused (first_refusal cards) (case_of deck (made_of_all (case_nodes (known_nodes deck place)) (variable_names deck place) deck)) bad (sym (lines_refused lines deck place e) ∙ h))
 
 pub accepted_without : (lines : List (List ℕ)) (deck : Deck) (place : Place) (case : Parts) (bad : Bad) → walk 1 empty_deck Begin lines ≡ Ok (deck, place) → deck_of lines ≡ Ok case → IsFaultAmong (judged_cards (length lines) deck place) bad → ⊥
 accepted_without lines deck place case bad e h =
     let cards = judged_cards (length lines) deck place in
-    none_of_all cards bad (accepted (first_refusal cards) (case_of deck (made_of_all (variable_names deck place) deck)) case (sym (lines_refused lines deck place e) ∙ h))
+    none_of_all cards bad (accepted (first_refusal cards) (case_of deck (made_of_all (case_nodes (known_nodes deck place)) (variable_names deck place) deck)) case (sym (lines_refused lines deck place e) ∙ h))

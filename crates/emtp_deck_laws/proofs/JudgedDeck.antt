@@ -20,7 +20,7 @@ use Rattle.emtp_deck_laws.proofs.JudgedControl.{control_refused}
 use Rattle.emtp_deck_laws.proofs.JudgedNetwork.{branches_made, outputs_made, sources_made, switches_made, tacs_outputs_made}
 use Rattle.emtp_netcards.specs.SourceCard.{unless_judged}
 use Rattle.emtp_sense.specs.ControlSense.{control_bad}
-use Rattle.emtp_sense.specs.Names.{known_nodes, with_ends}
+use Rattle.emtp_sense.specs.Names.{case_nodes, known_nodes}
 use Rattle.emtp_sense.specs.Variables.{variable_names}
 use Rattle.emtp_walk.specs.Answer.{first_bad, go_on}
 use Rattle.emtp_walk.specs.Walk.{empty_deck, walk}
@@ -30,22 +30,22 @@ use Rattle.emtp_walk.specs.declared.deck.Place.TheVariants.{After, Begin, Branch
 
 -- ---- the sections
 
-sections_made : (variables : List (List ℕ)) (deck : Deck) → made_of_deck variables deck ≡ unless_bad (first_refusal (judged_sections variables deck)) (made_of_all variables deck)
-sections_made variables deck =
-    let signals = judged_tacs_outputs (control_made variables deck) deck.control.outputs in
-    let m1 = made_before_branches variables deck in
+sections_made : (nodes variables : List (List ℕ)) (deck : Deck) → made_of_deck nodes variables deck ≡ unless_bad (first_refusal (judged_sections nodes variables deck)) (made_of_all nodes variables deck)
+sections_made nodes variables deck =
+    let signals = judged_tacs_outputs (control_made nodes variables deck) deck.control.outputs in
+    let m1 = made_before_branches nodes variables deck in
     let branches = judged_branches deck.points m1 deck.branches in
-    let m2 = made_before_switches variables deck in
+    let m2 = made_before_switches nodes variables deck in
     let switches = judged_switches m2 deck.switches in
-    let m3 = made_before_sources variables deck in
+    let m3 = made_before_sources nodes variables deck in
     let sources = judged_sources m3 deck.sources in
-    let m4 = made_before_outputs variables deck in
+    let m4 = made_before_outputs nodes variables deck in
     let outputs = judged_outputs m4 deck.outputs in
-    more_cards (λ (m : Made). take_outputs m deck.outputs) (signals ++ branches ++ switches ++ sources) outputs _ m4 (made_of_all variables deck)
+    more_cards (λ (m : Made). take_outputs m deck.outputs) (signals ++ branches ++ switches ++ sources) outputs _ m4 (made_of_all nodes variables deck)
     (more_cards (λ (m : Made). take_sources m deck.sources) (signals ++ branches ++ switches) sources _ m3 m4
     (more_cards (λ (m : Made). take_switches m deck.switches) (signals ++ branches) switches _ m2 m3
     (more_cards (λ (m : Made). take_branches deck.points m deck.branches) signals branches _ m1 m2
-    (tacs_outputs_made (control_made variables deck) deck.control.outputs) (branches_made deck.points m1 deck.branches))
+    (tacs_outputs_made (control_made nodes variables deck) deck.control.outputs) (branches_made deck.points m1 deck.branches))
     (switches_made m2 deck.switches))
     (sources_made m3 deck.sources))
     (outputs_made m4 deck.outputs)
@@ -63,8 +63,7 @@ cut_refused m (Branches wide) = refl
 cut_refused m (Points group) = bad_alone _
 cut_refused m (Waiting card wide) = bad_alone _
 cut_refused m (Third zero' positive wide) =
-    let names = with_ends (with_ends m.parts.nodes zero'.from zero'.to) positive.from positive.to in
-    ap (first_bad (first_fault names m zero')) (bad_alone (second_fault names m zero' positive))
+    ap (first_bad (first_fault m zero')) (bad_alone (second_fault m zero' positive))
 cut_refused m Switches = refl
 cut_refused m Sources = refl
 cut_refused m Outputs = refl
@@ -101,19 +100,19 @@ judged_before : {A B : Type 0} (b : Option Bad) (f : A → Result B Bad) (r : Re
 judged_before (Some bad) f r = refl
 judged_before None f r = refl
 
-pub deck_refused : (lines : ℕ) (deck : Deck) (place : Place) → filled (lines + 1) deck place ≡ unless_bad (first_refusal (judged_cards lines deck place)) (case_of deck (made_of_all (variable_names deck place) deck))
+pub deck_refused : (lines : ℕ) (deck : Deck) (place : Place) → filled (lines + 1) deck place ≡ unless_bad (first_refusal (judged_cards lines deck place)) (case_of deck (made_of_all (case_nodes (known_nodes deck place)) (variable_names deck place) deck))
 unfolding filled
 deck_refused lines deck place =
     let nodes = known_nodes deck place in
     let variables = variable_names deck place in
     let control = judged_control nodes variables deck place in
-    let sections = judged_sections variables deck in
-    let m = made_of_all variables deck in
+    let sections = judged_sections (case_nodes nodes) variables deck in
+    let m = made_of_all (case_nodes nodes) variables deck in
     let end : List Judged = judged_cut_branches m place ++ record { line = lines + 1; faults = end_faults place } ∷ [] in
     stored (has_too_many nodes variables deck place) deck (control ++ sections ++ end) _ (case_of deck m)
-    (judged_before (control_bad nodes variables deck place) (λ (made : Made). unless_bad (unfinished (lines + 1) made place) (case_of deck made)) (made_of_deck variables deck)
+    (judged_before (control_bad nodes variables deck place) (λ (made : Made). unless_bad (unfinished (lines + 1) made place) (case_of deck made)) (made_of_deck (case_nodes nodes) variables deck)
     ∙ more_cards (λ (made : Made). unless_bad (unfinished (lines + 1) made place) (case_of deck made)) (control ++ sections) end _ m (case_of deck m)
-    (ap (unless_judged (control_bad nodes variables deck place)) (sections_made variables deck)
+    (ap (unless_judged (control_bad nodes variables deck place)) (sections_made (case_nodes nodes) variables deck)
     ∙ judged_first (control_bad nodes variables deck place) (first_refusal sections) m
     ∙ ap (λ a. unless_bad (first_bad a (first_refusal sections)) m) (control_refused nodes variables deck place)
     ∙ ap (λ a. unless_bad a m) (sym (refusals_in_turn control sections)))
@@ -122,7 +121,7 @@ deck_refused lines deck place =
 -- ---- the deck of lines
 
 pub lines_refused : (lines : List (List ℕ)) (deck : Deck) (place : Place) → walk 1 empty_deck Begin lines ≡ Ok (deck, place)
-    → deck_of lines ≡ unless_bad (first_refusal (judged_cards (length lines) deck place)) (case_of deck (made_of_all (variable_names deck place) deck))
+    → deck_of lines ≡ unless_bad (first_refusal (judged_cards (length lines) deck place)) (case_of deck (made_of_all (case_nodes (known_nodes deck place)) (variable_names deck place) deck))
 unfolding deck_of
 lines_refused lines deck place e =
     ap (go_on (λ (read : Deck × Place). filled (length lines + 1) read.0 read.1)) e ∙ deck_refused (length lines) deck place

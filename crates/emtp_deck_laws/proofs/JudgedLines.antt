@@ -3,16 +3,16 @@ use Rattle.std.proofs.Common.{◌≡◌, ◌∙◌, sym, ap, subst, refl, ℕ, �
 use Rattle.std.specs.Prelude.{map}
 use Rattle.std.proofs.lemmas.List.{append-nil, map-append}
 use Rattle.emtp_case.specs.declared.branch.Point.{Point}
-use Rattle.emtp_deck.specs.Branches.{with_nodes}
+use Rattle.emtp_deck.specs.Branches.{with_entry}
 use Rattle.emtp_deck.specs.Deck.{control_made}
 use Rattle.emtp_deck.specs.Made.{Made}
 use Rattle.emtp_deck.specs.Sources.{with_source}
 use Rattle.emtp_deck.specs.Switches.{with_switch}
 use Rattle.emtp_deck_laws.specs.CardFaults.{asking_variable, channel_of_variable, end_faults}
-use Rattle.emtp_deck_laws.specs.JudgedCards.{Judged, extras_history, judged_blocks, judged_branches, judged_cards, judged_control, judged_cut_branches, judged_cut_place, judged_entry, judged_extras, judged_outputs, judged_sections, judged_sources, judged_switches, judged_tacs_outputs, judged_tacs_sources, made_before_branches, made_before_outputs, made_before_sources, made_before_switches, made_entry, made_names, made_of_all, made_output}
+use Rattle.emtp_deck_laws.specs.JudgedCards.{Judged, extras_history, judged_blocks, judged_branches, judged_cards, judged_control, judged_cut_branches, judged_cut_place, judged_entry, judged_extras, judged_outputs, judged_sections, judged_sources, judged_switches, judged_tacs_outputs, judged_tacs_sources, made_before_branches, made_before_outputs, made_before_sources, made_before_switches, made_names, made_of_all, made_output}
 use Rattle.emtp_deck_laws.proofs.UnbegunSections.{HasNoOutputs, HasNoSwitches, IsUnbegun, unbegun}
 use Rattle.emtp_sense.specs.ControlSense.{first_extra, first_source}
-use Rattle.emtp_sense.specs.Names.{find_node, known_nodes, with_entry_names, with_switch_names}
+use Rattle.emtp_sense.specs.Names.{case_nodes, find_node, known_nodes}
 use Rattle.emtp_sense.specs.Variables.{variable_names}
 use Rattle.emtp_walk.proofs.Order.{cards_rise}
 use Rattle.emtp_walk.proofs.Rising.{behind, block_lines, extra_lines, later, signal_lines}
@@ -58,20 +58,19 @@ tacs_output_line : (m : Made) (es : List TacsOutputEntry) → lines_of (judged_t
 tacs_output_line m [] = refl
 tacs_output_line m (e ∷ es) = ap (λ ls. e.line ∷ ls) (tacs_output_line (made_names channel_of_variable asking_variable m e.names) es)
 
-entry_line : (names : List (List ℕ)) (m : Made) (e : BranchEntry) → lines_of (judged_entry names m e) ≡ entry_lines e
-entry_line names m (Single card first count) = refl
-entry_line names m (Trio zero' positive third) = refl
+entry_line : (m : Made) (e : BranchEntry) → lines_of (judged_entry m e) ≡ entry_lines e
+entry_line m (Single card first count) = refl
+entry_line m (Trio zero' positive third) = refl
 
 branch_line : (points : List Point) (m : Made) (es : List BranchEntry) → lines_of (judged_branches points m es) ≡ branch_lines es
 branch_line points m [] = refl
 branch_line points m (e ∷ es) =
-    let next = made_entry points m e in
-    both_lines (judged_entry (with_entry_names m.parts.nodes e) m e) (judged_branches points next es) (entry_lines e) (branch_lines es)
-    (entry_line (with_entry_names m.parts.nodes e) m e) (branch_line points next es)
+    let next = with_entry points m e in
+    both_lines (judged_entry m e) (judged_branches points next es) (entry_lines e) (branch_lines es) (entry_line m e) (branch_line points next es)
 
 switch_line : (m : Made) (cards : List SwitchCard) → lines_of (judged_switches m cards) ≡ switch_lines cards
 switch_line m [] = refl
-switch_line m (card ∷ cards) = ap (λ ls. card.line ∷ ls) (switch_line (with_switch (with_nodes m (with_switch_names m.parts.nodes card)) card) cards)
+switch_line m (card ∷ cards) = ap (λ ls. card.line ∷ ls) (switch_line (with_switch m card) cards)
 
 source_line : (m : Made) (cards : List SourceCard) → lines_of (judged_sources m cards) ≡ source_lines cards
 source_line m [] = refl
@@ -97,13 +96,13 @@ abbrev line_order : Deck → List ℕ → List ℕ
 line_order deck pending =
     control_lines deck.control ++ branch_lines deck.branches ++ pending ++ switch_lines deck.switches ++ source_lines deck.sources ++ output_lines deck.outputs
 
-sections_lines : (variables : List (List ℕ)) (deck : Deck) → lines_of (judged_sections variables deck) ≡ tacs_output_lines deck ++ branch_lines deck.branches ++ switch_lines deck.switches ++ source_lines deck.sources ++ output_lines deck.outputs
-sections_lines variables deck =
-    let m0 = control_made variables deck in
-    let m1 = made_before_branches variables deck in
-    let m2 = made_before_switches variables deck in
-    let m3 = made_before_sources variables deck in
-    let m4 = made_before_outputs variables deck in
+sections_lines : (nodes variables : List (List ℕ)) (deck : Deck) → lines_of (judged_sections nodes variables deck) ≡ tacs_output_lines deck ++ branch_lines deck.branches ++ switch_lines deck.switches ++ source_lines deck.sources ++ output_lines deck.outputs
+sections_lines nodes variables deck =
+    let m0 = control_made nodes variables deck in
+    let m1 = made_before_branches nodes variables deck in
+    let m2 = made_before_switches nodes variables deck in
+    let m3 = made_before_sources nodes variables deck in
+    let m4 = made_before_outputs nodes variables deck in
     let signals = judged_tacs_outputs m0 deck.control.outputs in
     let branches = judged_branches deck.points m1 deck.branches in
     let switches = judged_switches m2 deck.switches in
@@ -189,11 +188,11 @@ pub judged_rise : (lines : List (List ℕ)) (deck : Deck) (place : Place) → wa
 judged_rise lines deck place e =
     let nodes = known_nodes deck place in
     let variables = variable_names deck place in
-    let m = made_of_all variables deck in
+    let m = made_of_all (case_nodes nodes) variables deck in
     let history = extras_history deck.run.dt 0 deck.control.extras in
     let last = length lines + 1 in
     let control = judged_control nodes variables deck place in
-    let sections = judged_sections variables deck in
+    let sections = judged_sections (case_nodes nodes) variables deck in
     let cut = judged_cut_branches m place in
     let end : List Judged = record { line = last; faults = end_faults place } ∷ [] in
     let before = (block_lines deck ++ (signal_lines deck ++ (extra_lines deck ++ lines_of (judged_cut_place variables deck history place)))) in
@@ -201,6 +200,6 @@ judged_rise lines deck place e =
     let rises = each_place variables deck m history place last (unbegun lines deck place e) (cards_rise lines deck place e) in
     let all = behind (deck.second + 1) (before ++ inner) (lines_of cut) last last refl rises in
     let same = both_lines (control ++ sections) (cut ++ end) (before ++ inner) (lines_of cut ++ last ∷ [])
-    (both_lines control sections before inner (control_cards nodes variables deck place) (sections_lines variables deck))
+    (both_lines control sections before inner (control_cards nodes variables deck place) (sections_lines (case_nodes nodes) variables deck))
     (both_lines cut end (lines_of cut) (last ∷ []) refl refl) in
     (omega arith, later (deck.second + 1) _ (last + 1) (length lines + 2) (omega arith) (subst (λ ls. Rises (deck.second + 1) ls (last + 1)) (sym same) all))

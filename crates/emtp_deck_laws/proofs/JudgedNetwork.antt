@@ -9,21 +9,21 @@ use Rattle.emtp_card.specs.declared.reason.Bad.{Bad}
 use Rattle.emtp_case.specs.declared.branch.Point.{Point}
 use Rattle.emtp_case.specs.declared.case.Parts.{Parts}
 use Rattle.emtp_case.specs.declared.channel.Channel.{Channel}
-use Rattle.emtp_deck.specs.Branches.{card_fault, entry_fault, first_fault, second_fault, take_branches, take_entry, third_fault, with_nodes}
+use Rattle.emtp_deck.specs.Branches.{card_fault, entry_fault, first_fault, second_fault, take_branches, take_entry, third_fault, with_entry}
 use Rattle.emtp_deck.specs.Made.{Made, no_room, unless_fault}
 use Rattle.emtp_deck.specs.Outputs.{channel_of, name_fault, take_all_nodes, take_known_name, take_names, take_output, take_outputs, take_tacs_outputs, with_channel}
 use Rattle.emtp_deck.specs.Sources.{take_source, take_sources, with_source}
 use Rattle.emtp_deck.specs.Switches.{take_switch, take_switches, with_switch}
 use Rattle.emtp_deck.specs.declared.asked.Asked.{Asked}
 use Rattle.emtp_deck_laws.specs.CardFaults.{asking_variable, channel_of_variable, names_faults, output_faults, source_faults, switch_faults}
-use Rattle.emtp_deck_laws.specs.JudgedCards.{judged_branches, judged_entry, judged_outputs, judged_sources, judged_switches, judged_tacs_outputs, made_branches, made_entry, made_names, made_output, made_outputs, made_sources, made_switches, made_tacs_outputs}
+use Rattle.emtp_deck_laws.specs.JudgedCards.{judged_branches, judged_entry, judged_outputs, judged_sources, judged_switches, judged_tacs_outputs, made_branches, made_names, made_output, made_outputs, made_sources, made_switches, made_tacs_outputs}
 use Rattle.emtp_deck_laws.proofs.FirstRefusal.{bad_alone, bads_in_turn, first_refusal, more_cards, one_card, single_fault}
 use Rattle.emtp_netcards.specs.declared.output_card.OutputCard.{OutputCard}
 use Rattle.emtp_netcards.specs.declared.output_card.OutputCard.TheVariants.{All as AllNodes, Names}
 use Rattle.emtp_netcards.specs.declared.source_card.SourceCard.{SourceCard}
 use Rattle.emtp_netcards.specs.declared.switch_card.SwitchCard.{SwitchCard}
 use Rattle.emtp_sense.specs.Limits.{too_many}
-use Rattle.emtp_sense.specs.Names.{find_node, with_entry_names, with_switch_names}
+use Rattle.emtp_sense.specs.Names.{find_node}
 use Rattle.emtp_walk.specs.Answer.{first_bad, go_on}
 use Rattle.emtp_walk.specs.declared.control_cards.TacsOutputEntry.{TacsOutputEntry}
 use Rattle.emtp_walk.specs.declared.deck.BranchEntry.{BranchEntry}
@@ -32,21 +32,20 @@ use Rattle.emtp_walk.specs.declared.deck.OutputEntry.{OutputEntry}
 
 -- ---- branches
 
-entry_refused : (names : List (List ℕ)) (m : Made) (e : BranchEntry) → entry_fault names m e ≡ first_refusal (judged_entry names m e)
+entry_refused : (m : Made) (e : BranchEntry) → entry_fault m e ≡ first_refusal (judged_entry m e)
 unfolding card_fault
-entry_refused names m (Single card first count) = bad_alone (first_fault names m card)
-entry_refused names m (Trio zero' positive third) =
-    bads_in_turn (first_fault names m zero') (second_fault names m zero' positive) (third_fault names m zero' positive third)
-    ∙ ap (λ a. first_bad (first_fault names m zero') (first_bad (second_fault names m zero' positive) a)) (bad_alone (third_fault names m zero' positive third))
+entry_refused m (Single card first count) = bad_alone (first_fault m card)
+entry_refused m (Trio zero' positive third) =
+    bads_in_turn (first_fault m zero') (second_fault m zero' positive) (third_fault m zero' positive third)
+    ∙ ap (λ a. first_bad (first_fault m zero') (first_bad (second_fault m zero' positive) a)) (bad_alone (third_fault m zero' positive third))
 
 pub branches_made : (points : List Point) (m : Made) (es : List BranchEntry) → take_branches points m es ≡ unless_bad (first_refusal (judged_branches points m es)) (made_branches points m es)
 unfolding take_entry
 branches_made points m [] = refl
 branches_made points m (e ∷ es) =
-    let names = with_entry_names m.parts.nodes e in
-    let next = made_entry points m e in
-    more_cards (λ (made : Made). take_branches points made es) (judged_entry names m e) (judged_branches points next es) (take_entry points m e) next (made_branches points next es)
-    (ap (λ bad. unless_bad bad next) (entry_refused names m e)) (branches_made points next es)
+    let next = with_entry points m e in
+    more_cards (λ (made : Made). take_branches points made es) (judged_entry m e) (judged_branches points next es) (take_entry points m e) next (made_branches points next es)
+    (ap (λ bad. unless_bad bad next) (entry_refused m e)) (branches_made points next es)
 
 -- ---- switches and sources
 
@@ -54,10 +53,9 @@ pub switches_made : (m : Made) (cards : List SwitchCard) → take_switches m car
 unfolding take_switch
 switches_made m [] = refl
 switches_made m (card ∷ cards) =
-    let names = with_switch_names m.parts.nodes card in
-    let next = with_switch (with_nodes m names) card in
-    more_cards (λ (made : Made). take_switches made cards) (record { line = card.line; faults = switch_faults names m card } ∷ []) (judged_switches next cards) (take_switch m card) next (made_switches next cards)
-    (one_card card.line (switch_faults names m card) next) (switches_made next cards)
+    let next = with_switch m card in
+    more_cards (λ (made : Made). take_switches made cards) (record { line = card.line; faults = switch_faults m card } ∷ []) (judged_switches next cards) (take_switch m card) next (made_switches next cards)
+    (one_card card.line (switch_faults m card) next) (switches_made next cards)
 
 pub sources_made : (m : Made) (cards : List SourceCard) → take_sources m cards ≡ unless_bad (first_refusal (judged_sources m cards)) (made_sources m cards)
 unfolding take_source

@@ -64,24 +64,23 @@ formula_faults variables at next card = too_many (nat_le MOST_CONTROL_CARDS at) 
 
 -- ---- the network
 
--- given the names of the nodes and the counts, the card's own among them
+-- given the nodes, and the counts with the card's own
 abbrev pub branch_faults : List (List ℕ) → Counts → BranchCard → ValuesFrom → List (Option Fault)
-branch_faults names n card values =
+branch_faults nodes n card values =
     too_many (nat_lt MOST_BRANCHES n.branches) 1
     ∷ too_many (nat_lt MOST_HISTORY_VALUES n.history) 1
     ∷ too_many (nat_lt MOST_CHANNELS n.channels) 1
-    ∷ too_many (nat_lt MOST_NODES (node_number names card.from)) 3
-    ∷ too_many (nat_lt MOST_NODES (node_number names card.to)) 9
+    ∷ too_many (nat_lt MOST_NODES (node_number nodes card.from)) 3
+    ∷ too_many (nat_lt MOST_NODES (node_number nodes card.to)) 9
     ∷ missing_fault values
     ∷ []
 
--- given the names of the nodes, the card's own among them
-abbrev pub switch_faults : List (List ℕ) → Made → SwitchCard → List (Option Fault)
-switch_faults names m card =
+abbrev pub switch_faults : Made → SwitchCard → List (Option Fault)
+switch_faults m card =
     too_many (nat_le MOST_SWITCHES (length m.parts.switches)) 1
     ∷ too_many (no_room m.asked (switch_channel_count card.asked)) 1
-    ∷ too_many (nat_lt MOST_NODES (node_number names card.from)) 3
-    ∷ too_many (nat_lt MOST_NODES (node_number names card.to)) 9
+    ∷ too_many (nat_lt MOST_NODES (node_number m.parts.nodes card.from)) 3
+    ∷ too_many (nat_lt MOST_NODES (node_number m.parts.nodes card.to)) 9
     ∷ unknown_name m.parts.vars 65 card.control
     ∷ []
 

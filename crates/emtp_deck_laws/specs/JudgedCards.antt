@@ -5,7 +5,7 @@ use Rattle.emtp_card.specs.declared.fault.Fault.{Fault}
 use Rattle.emtp_case.specs.declared.branch.Point.{Point}
 use Rattle.emtp_case.specs.declared.case.Parts.{Parts}
 use Rattle.emtp_case.specs.declared.channel.Channel.{Channel}
-use Rattle.emtp_deck.specs.Branches.{first_counts, second_counts, with_counts, with_entry, with_nodes}
+use Rattle.emtp_deck.specs.Branches.{first_counts, second_counts, with_counts, with_entry}
 use Rattle.emtp_deck.specs.Copies.{values_from}
 use Rattle.emtp_deck.specs.Deck.{control_made}
 use Rattle.emtp_deck.specs.Made.{Made}
@@ -20,7 +20,7 @@ use Rattle.emtp_netcards.specs.declared.output_card.OutputCard.TheVariants.{All 
 use Rattle.emtp_netcards.specs.declared.source_card.SourceCard.{SourceCard}
 use Rattle.emtp_netcards.specs.declared.switch_card.SwitchCard.{SwitchCard}
 use Rattle.emtp_sense.specs.ControlSense.{card_history_values, entry_history_values, first_extra, first_source}
-use Rattle.emtp_sense.specs.Names.{find_node, known_nodes, with_ends, with_entry_names, with_switch_names}
+use Rattle.emtp_sense.specs.Names.{case_nodes, find_node, known_nodes}
 use Rattle.emtp_sense.specs.Variables.{variable_names}
 use Rattle.emtp_taccards.specs.declared.block_card.BlockCard.{BlockCard}
 use Rattle.emtp_taccards.specs.declared.device_card.DeviceCard.{DeviceCard}
@@ -136,54 +136,48 @@ made_tacs_outputs m (e ∷ es) = made_tacs_outputs (made_names channel_of_variab
 
 -- ---- branches
 
-abbrev pub judged_first : List (List ℕ) → Made → BranchCard → Judged
-judged_first names m card =
-    record { line = card.line; faults = branch_faults names (first_counts names m card) card (values_from names m.parts.branches card) }
+abbrev pub judged_first : Made → BranchCard → Judged
+judged_first m card =
+    record { line = card.line; faults = branch_faults m.parts.nodes (first_counts m card) card (values_from m.parts.nodes m.parts.branches card) }
 
-abbrev pub judged_second : List (List ℕ) → Made → BranchCard → BranchCard → Judged
-judged_second names m zero' positive =
-    record { line = positive.line; faults = branch_faults names (second_counts names m zero' positive) positive (values_from names m.parts.branches positive) }
+abbrev pub judged_second : Made → BranchCard → BranchCard → Judged
+judged_second m zero' positive = record {
+  line = positive.line;
+  faults = branch_faults m.parts.nodes (second_counts m zero' positive) positive (values_from m.parts.nodes m.parts.branches positive);
+}
 
-abbrev pub judged_third : List (List ℕ) → Made → BranchCard → BranchCard → BranchCard → Judged
-judged_third names m zero' positive third =
-    record { line = third.line; faults = branch_faults names (with_counts (second_counts names m zero' positive) third 0) third OwnValues }
+abbrev pub judged_third : Made → BranchCard → BranchCard → BranchCard → Judged
+judged_third m zero' positive third =
+    record { line = third.line; faults = branch_faults m.parts.nodes (with_counts (second_counts m zero' positive) third 0) third OwnValues }
 
--- the names are those with the entry's own
-abbrev pub judged_entry : List (List ℕ) → Made → BranchEntry → List Judged
-judged_entry names m (Single card first count) = judged_first names m card ∷ []
-judged_entry names m (Trio zero' positive third) = judged_first names m zero' ∷ judged_second names m zero' positive ∷ judged_third names m zero' positive third ∷ []
-
-abbrev pub made_entry : List Point → Made → BranchEntry → Made
-made_entry points m e = with_entry points (with_nodes m (with_entry_names m.parts.nodes e)) e
+abbrev pub judged_entry : Made → BranchEntry → List Judged
+judged_entry m (Single card first count) = judged_first m card ∷ []
+judged_entry m (Trio zero' positive third) = judged_first m zero' ∷ judged_second m zero' positive ∷ judged_third m zero' positive third ∷ []
 
 abbrev pub judged_branches : List Point → Made → List BranchEntry → List Judged
 judged_branches points m [] = []
-judged_branches points m (e ∷ es) = judged_entry (with_entry_names m.parts.nodes e) m e ++ judged_branches points (made_entry points m e) es
+judged_branches points m (e ∷ es) = judged_entry m e ++ judged_branches points (with_entry points m e) es
 
 abbrev pub made_branches : List Point → Made → List BranchEntry → Made
 made_branches points m [] = m
-made_branches points m (e ∷ es) = made_branches points (made_entry points m e) es
+made_branches points m (e ∷ es) = made_branches points (with_entry points m e) es
 
 -- the cards of a group that the file cuts off
 abbrev pub judged_cut_branches : Made → Place → List Judged
-judged_cut_branches m (Points group) = judged_first (with_ends m.parts.nodes group.card.from group.card.to) m group.card ∷ []
-judged_cut_branches m (Waiting card wide) = judged_first (with_ends m.parts.nodes card.from card.to) m card ∷ []
-judged_cut_branches m (Third zero' positive wide) =
-    let names = with_ends (with_ends m.parts.nodes zero'.from zero'.to) positive.from positive.to in
-    judged_first names m zero' ∷ judged_second names m zero' positive ∷ []
+judged_cut_branches m (Points group) = judged_first m group.card ∷ []
+judged_cut_branches m (Waiting card wide) = judged_first m card ∷ []
+judged_cut_branches m (Third zero' positive wide) = judged_first m zero' ∷ judged_second m zero' positive ∷ []
 judged_cut_branches m other = []
 
 -- ---- switches and sources
 
 abbrev pub judged_switches : Made → List SwitchCard → List Judged
 judged_switches m [] = []
-judged_switches m (card ∷ cards) =
-    let names = with_switch_names m.parts.nodes card in
-    record { line = card.line; faults = switch_faults names m card } ∷ judged_switches (with_switch (with_nodes m names) card) cards
+judged_switches m (card ∷ cards) = record { line = card.line; faults = switch_faults m card } ∷ judged_switches (with_switch m card) cards
 
 abbrev pub made_switches : Made → List SwitchCard → Made
 made_switches m [] = m
-made_switches m (card ∷ cards) = made_switches (with_switch (with_nodes m (with_switch_names m.parts.nodes card)) card) cards
+made_switches m (card ∷ cards) = made_switches (with_switch m card) cards
 
 abbrev pub judged_sources : Made → List SourceCard → List Judged
 judged_sources m [] = []
@@ -197,29 +191,29 @@ made_sources m (card ∷ cards) = made_sources (with_source m card (find_node m.
 -- ---- all cards
 
 -- what is made before each section
-abbrev pub made_before_branches : List (List ℕ) → Deck → Made
-made_before_branches variables deck = made_tacs_outputs (control_made variables deck) deck.control.outputs
+abbrev pub made_before_branches : List (List ℕ) → List (List ℕ) → Deck → Made
+made_before_branches nodes variables deck = made_tacs_outputs (control_made nodes variables deck) deck.control.outputs
 
-abbrev pub made_before_switches : List (List ℕ) → Deck → Made
-made_before_switches variables deck = made_branches deck.points (made_before_branches variables deck) deck.branches
+abbrev pub made_before_switches : List (List ℕ) → List (List ℕ) → Deck → Made
+made_before_switches nodes variables deck = made_branches deck.points (made_before_branches nodes variables deck) deck.branches
 
-abbrev pub made_before_sources : List (List ℕ) → Deck → Made
-made_before_sources variables deck = made_switches (made_before_switches variables deck) deck.switches
+abbrev pub made_before_sources : List (List ℕ) → List (List ℕ) → Deck → Made
+made_before_sources nodes variables deck = made_switches (made_before_switches nodes variables deck) deck.switches
 
-abbrev pub made_before_outputs : List (List ℕ) → Deck → Made
-made_before_outputs variables deck = made_sources (made_before_sources variables deck) deck.sources
+abbrev pub made_before_outputs : List (List ℕ) → List (List ℕ) → Deck → Made
+made_before_outputs nodes variables deck = made_sources (made_before_sources nodes variables deck) deck.sources
 
-abbrev pub made_of_all : List (List ℕ) → Deck → Made
-made_of_all variables deck = made_outputs (made_before_outputs variables deck) deck.outputs
+abbrev pub made_of_all : List (List ℕ) → List (List ℕ) → Deck → Made
+made_of_all nodes variables deck = made_outputs (made_before_outputs nodes variables deck) deck.outputs
 
 -- the sections of the network, and the outputs of the control before them
-abbrev pub judged_sections : List (List ℕ) → Deck → List Judged
-judged_sections variables deck =
-    judged_tacs_outputs (control_made variables deck) deck.control.outputs
-    ++ judged_branches deck.points (made_before_branches variables deck) deck.branches
-    ++ judged_switches (made_before_switches variables deck) deck.switches
-    ++ judged_sources (made_before_sources variables deck) deck.sources
-    ++ judged_outputs (made_before_outputs variables deck) deck.outputs
+abbrev pub judged_sections : List (List ℕ) → List (List ℕ) → Deck → List Judged
+judged_sections nodes variables deck =
+    judged_tacs_outputs (control_made nodes variables deck) deck.control.outputs
+    ++ judged_branches deck.points (made_before_branches nodes variables deck) deck.branches
+    ++ judged_switches (made_before_switches nodes variables deck) deck.switches
+    ++ judged_sources (made_before_sources nodes variables deck) deck.sources
+    ++ judged_outputs (made_before_outputs nodes variables deck) deck.outputs
 
 -- a file of so many lines: the second miscellaneous card, which says how many samples are stored, all cards of the sections, and
 -- behind its last line its end
@@ -229,5 +223,5 @@ judged_cards lines deck place =
     let variables = variable_names deck place in
     record { line = deck.second; faults = samples_faults deck place }
     ∷ (judged_control nodes variables deck place
-    ++ judged_sections variables deck
-    ++ (judged_cut_branches (made_of_all variables deck) place ++ record { line = lines + 1; faults = end_faults place } ∷ []))
+    ++ judged_sections (case_nodes nodes) variables deck
+    ++ (judged_cut_branches (made_of_all (case_nodes nodes) variables deck) place ++ record { line = lines + 1; faults = end_faults place } ∷ []))

@@ -98,6 +98,28 @@ keeps_number nodes x None k = refl
 keeps_number nodes x (Some y) k =
     number_is (nodes ++ x ∷ []) y ∙ ap (λ n. n + 1) (push_keeps nodes x y (omega (arith, number_is nodes y))) ∙ sym (number_is nodes y)
 
+-- ---- the first names
+
+front_place : (p : List ℕ → Bool) (n : ℕ) (xs : List (List ℕ)) → position_or_len p (take n xs) < length (take n xs) → position_or_len p xs ≡ position_or_len p (take n xs)
+front_place p zero xs below = absurd (omega arith)
+front_place p (suc n) [] below = absurd (omega arith)
+front_place p (suc n) (x ∷ xs) below = go (p x) refl below (λ h. front_place p n xs h)
+  where
+    go : (b : Bool) → p x ≡ b → cond (not b) (1 + position_or_len p (take n xs)) 0 < suc (length (take n xs)) → (position_or_len p (take n xs) < length (take n xs) → position_or_len p xs ≡ position_or_len p (take n xs))
+        → cond (not b) (1 + position_or_len p xs) 0 ≡ cond (not b) (1 + position_or_len p (take n xs)) 0
+    go true h below behind = refl
+    go false h below behind = ap (λ k. 1 + k) (behind (omega arith))
+
+front_keeps : (names : List (List ℕ)) (n : ℕ) (name : List ℕ) → place_of (take n names) name < length (take n names) → place_of names name ≡ place_of (take n names) name
+unfolding place_of
+front_keeps names n name among = front_place (bytes_eq name) n names among
+
+-- a number that is there among the first names is that among all
+pub same_number : (names : List (List ℕ)) (n : ℕ) (x : Option (List ℕ)) → node_number (take n names) x ≤ length (take n names) → node_number names x ≡ node_number (take n names) x
+same_number names n None k = refl
+same_number names n (Some x) k =
+    number_is names x ∙ ap (λ m. m + 1) (front_keeps names n x (omega (arith, number_is (take n names) x))) ∙ sym (number_is (take n names) x)
+
 -- ---- one name more
 
 -- the list after a name, by whether it was there

@@ -1,5 +1,6 @@
 -- The names of the nodes, and their numbers.
-use Rattle.std.specs.Prelude.{ℕ, ◌+◌, List, [], fold, length, position, unwrap_or, Option, Some, None, option_map}
+use Rattle.emtp_case.specs.declared.limit.TheConstants.{MOST_NODES}
+use Rattle.std.specs.Prelude.{ℕ, ◌+◌, List, [], fold, length, position, take, unwrap_or, Option, Some, None, option_map}
 use Rattle.std.specs.Str.{bytes_eq}
 use Rattle.emtp_walk.specs.declared.deck.BranchEntry.{BranchEntry}
 use Rattle.emtp_walk.specs.declared.deck.BranchEntry.TheVariants.{Single, Trio}
@@ -38,6 +39,10 @@ with_pending_nodes names other = names
 
 abbrev pub known_nodes : Deck → Place → List (List ℕ)
 known_nodes deck place = with_pending_nodes (node_names deck) place
+
+-- the nodes of a case, which has no more than so many
+abbrev pub case_nodes : List (List ℕ) → List (List ℕ)
+case_nodes names = take MOST_NODES names
 
 -- the number of a node, from 1
 abbrev pub find_node : List (List ℕ) → List ℕ → Option ℕ

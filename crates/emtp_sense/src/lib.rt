@@ -19,5 +19,5 @@ mod variables;
 
 pub use control_sense::{control_bad, entry_history_values, find_switch};
 pub use limits::too_many;
-pub use names::{add_ends, add_entry_names, find_node, node_number};
+pub use names::{find_node, node_number};
 pub use variables::{KnownNames, find_variable, number_of, unknown_name, variable_number};

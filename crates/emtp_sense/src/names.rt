@@ -23,7 +23,7 @@ fn add_name(names: &mut IndexSet<Name>, name: &Option<Name>) -> Result<(), Refus
 }
 
 /// Adds the names of a card's two ends.
-pub fn add_ends(
+pub(crate) fn add_ends(
     names: &mut IndexSet<Name>,
     from: &Option<Name>,
     to: &Option<Name>,
@@ -36,7 +36,7 @@ pub fn add_ends(
 }
 
 /// Adds the names of an entry's nodes.
-pub fn add_entry_names(names: &mut IndexSet<Name>, entry: &BranchEntry) -> Result<(), Refused>
+fn add_entry_names(names: &mut IndexSet<Name>, entry: &BranchEntry) -> Result<(), Refused>
     ensures ok { OnOk result (names.new.keys ≡ with_entry_names names.old.keys entry.now) }
     ensures err { IfErr result IsWant }
 {

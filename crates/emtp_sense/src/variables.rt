@@ -4,12 +4,12 @@ ghost use Rattle.emtp_case.specs.declared.limit.TheConstants.{MOST_VARIABLES};
 ghost use Rattle.std.specs.Prelude.{◌≡◌, ◌≤◌, [], fold, length, option_map, IfErr, IfOk, OnOk};
 ghost use Rattle.emtp_case.specs.Case.{standing_names};
 ghost use Rattle.emtp_walk.specs.held.Answer.{IsWant};
-ghost use Rattle.emtp_sense.specs.Names.{known_nodes, with_pending_nodes};
+ghost use Rattle.emtp_sense.specs.Names.{case_nodes, known_nodes, with_pending_nodes};
 ghost use Rattle.emtp_sense.specs.Variables.{defined_variables, extra_name, find_variable, unknown_name, variable_names, variable_number, with_block_name, with_extra_name, with_pending_variable, with_source_name, with_variable};
 
 use crate::names::{add_ends, add_node_names};
 use emtp_card::{Fault, Refused, Why};
-use emtp_case::Name;
+use emtp_case::{MOST_NODES, Name};
 use emtp_netcards::SourceCard;
 use emtp_walk::{BlockEntry, ControlCards, ControlPlace, Deck, ExtraEntry, Place};
 use indexmap::IndexSet;
@@ -37,6 +37,15 @@ impl KnownNames {
         };
         names.add_all(deck, place)?;
         Ok(names)
+    }
+
+    /// Keeps the nodes that a case may have. A name beyond them has the number that none of them has, and its card is
+    /// refused.
+    pub fn keep_case_nodes(&mut self)
+        ensures nodes { self.new.nodes.keys ≡ case_nodes self.old.nodes.keys }
+        ensures variables { self.new.variables.keys ≡ self.old.variables.keys }
+    {
+        self.nodes.truncate(MOST_NODES);
     }
 
     fn add_all(&mut self, deck: &Deck, place: &Place) -> Result<(), Refused>

@@ -6,10 +6,10 @@ use Rattle.emtp_walk.specs.declared.deck.BranchEntry.TheVariants.{Single, Trio a
 use Rattle.emtp_netcards.specs.declared.branch_card.BranchCard.{BranchCard}
 use Rattle.emtp_deck.specs.Branches.{card_history}
 
--- how many past values an entry needs, whose nodes are there
+-- how many past values an entry needs
 abbrev pub pair_history : Parts → BranchCard → BranchCard → ℕ
-pair_history p zero' positive = card_history 1 p.nodes p zero' + card_history 3 p.nodes p positive
+pair_history p zero' positive = card_history 1 p zero' + card_history 3 p positive
 
 abbrev pub entry_history : Parts → BranchEntry → ℕ
-entry_history p (Single card first count) = card_history 1 p.nodes p card
+entry_history p (Single card first count) = card_history 1 p card
 entry_history p (TrioEntry zero' positive third) = pair_history p zero' positive

@@ -1,6 +1,6 @@
 -- What is made of the cards, as the program holds it.
-use Rattle.emtp_case.specs.declared.limit.TheConstants.{MOST_CHANNELS, MOST_NODES}
-use Rattle.std.specs.Prelude.{◌*◌, ◌≡◌, ◌≤◌, All, [], length, Result, Ok, Err}
+use Rattle.emtp_case.specs.declared.limit.TheConstants.{MOST_CHANNELS}
+use Rattle.std.specs.Prelude.{◌≡◌, ◌≤◌, All, [], Result, Ok, Err}
 use Rattle.emtp_card.specs.declared.reason.Bad.{Bad}
 use Rattle.emtp_card.specs.declared.reason.Refused.{Refused}
 use Rattle.emtp_card.specs.declared.reason.Refused.TheVariants.{Bad as OfBad, NoMemory}
@@ -31,12 +31,6 @@ pub record IsFilling (f : Filling) : Type 0 where
   pub no_channels : f.draft.parts.channels ≡ []
   pub few : count_asked f.asked ≤ MOST_CHANNELS
   pub there : AreThere (sizes_of f.draft.parts) f.asked
-
--- while the names of a card come in
-pub record IsNaming (f : Filling) : Type 0 where
-  pub names : length f.nodes.keys ≤ 2 * MOST_NODES
-  pub history : f.history ≡ history_values_of f.draft.parts
-  pub few : count_asked f.asked ≤ MOST_CHANNELS
 
 -- a call that takes a card answers as its definition does, and makes what that gives
 abbrev pub Fills : Result (Unit {0}) Refused → Result Made Bad → Made → Type 0

@@ -42,7 +42,7 @@ pub record IsSensibleSingle (p : Parts) (card : BranchCard) : Type 0 where
   pub room : length p.branches < MOST_BRANCHES
   pub ends : HasEnds p card
   pub taken : FindsValues p card
-  pub history : history_values_of p + card_history 1 p.nodes p card ≤ MOST_HISTORY_VALUES
+  pub history : history_values_of p + card_history 1 p card ≤ MOST_HISTORY_VALUES
 
 pub record IsSensibleTrio (p : Parts) (zero' positive third : BranchCard) : Type 0 where
   pub room : length p.branches + 3 ≤ MOST_BRANCHES

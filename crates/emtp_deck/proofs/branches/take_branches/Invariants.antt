@@ -8,4 +8,5 @@ invariant-loop-entry l = record {
   same : take_branches l.points (made_of l.initial.filling) l.entries ≡ take_branches l.points (made_of l.filling) (drop l.entry-index l.entries);
   filling : IsFilling l.filling;
   run : l.filling.draft.parts.run ≡ l.initial.filling.draft.parts.run;
+  nodes : l.filling.nodes.keys ≡ l.initial.filling.nodes.keys;
 }

@@ -8,7 +8,7 @@ use Rattle.emtp_deck.specs.ControlFilling.{block_of, with_extra}
 use Rattle.emtp_deck.specs.Deck.{control_made}
 use Rattle.emtp_deck.specs.held.Filling.{made_of}
 use Rattle.emtp_deck.specs.Made.{Made}
-use Rattle.emtp_deck.specs.held.Made.{empty_made}
+use Rattle.emtp_deck.specs.held.Made.{named_made}
 use Rattle.emtp_walk.specs.declared.deck.Deck.{Deck}
 use Rattle.emtp_deck.specs.declared.filling.Filling.{Filling}
 use Rattle.emtp_deck.proofs.ControlAdding.{control_filled, summed}
@@ -17,8 +17,8 @@ use Rattle.emtp_case.proofs.Growth.{no_ok}
 use Rattle.emtp_deck.proofs.control_filling.add_control.Goals as goal
 
 -- the variables, then the blocks, then the supplemental cards
-added : (f : Filling) (v b p : Parts) (deck : Deck) → made_of f ≡ empty_made deck.run → v ≡ record f.draft.parts { vars = f.variables.keys } → b ≡ record v { blocks = v.blocks ++ map (block_of f.variables.keys) deck.control.blocks }
-    → p ≡ fold (with_extra f.variables.keys deck.points) b deck.control.extras → ◌≡◌ {A = Made} (record { parts = p; asked = f.asked }) (control_made f.variables.keys deck)
+added : (f : Filling) (v b p : Parts) (deck : Deck) → made_of f ≡ named_made f.nodes.keys deck.run → v ≡ record f.draft.parts { vars = f.variables.keys } → b ≡ record v { blocks = v.blocks ++ map (block_of f.variables.keys) deck.control.blocks }
+    → p ≡ fold (with_extra f.variables.keys deck.points) b deck.control.extras → ◌≡◌ {A = Made} (record { parts = p; asked = f.asked }) (control_made f.nodes.keys f.variables.keys deck)
 added f v b p deck empty to_v to_b to_p = rw (to_p, to_b, to_v, ap (λ (m : Made). m.parts) empty, ap (λ (m : Made). m.asked) empty) refl
 
 pub add_variables-requires : goal.add_variables-requires
@@ -60,13 +60,13 @@ returns-clause-filling c =
     let start : history_values_of c.args.filling.now.draft.parts ≡ 0 = ap (λ (m : Made). history_values_of m.parts) c.requires.empty in
     let zero : history_values_of c.add_blocks.new.draft.parts ≡ 0 = ap history_values_of c.in_ok-add_blocks.ensures.ok ∙ c.in_ok-add_variables.ensures.history ∙ start in
     let total = summed _ (history_values_of c.add_blocks.new.draft.parts) c.in_ok-filling.field-0 c.in_ok-filling.ensures.history zero in
-    control_filled _ c.args.filling.now.variables.keys c.args.deck.now made c.requires.nodes refl total
+    control_filled _ c.args.filling.now.nodes.keys c.args.filling.now.variables.keys c.args.deck.now made refl refl total
 
 pub returns-in_err-add_variables : goal.returns-in_err-add_variables
-returns-in_err-add_variables c = let r = c.from_residual in record { ok = no_ok _ r.result r.ensures.0; variables = no_ok _ r.result r.ensures.0; err = want_left r.result _ r.ensures.1 c.in_err-add_variables.ensures.err; filling = no_ok _ r.result r.ensures.0 }
+returns-in_err-add_variables c = let r = c.from_residual in record { ok = no_ok _ r.result r.ensures.0; nodes = no_ok _ r.result r.ensures.0; variables = no_ok _ r.result r.ensures.0; err = want_left r.result _ r.ensures.1 c.in_err-add_variables.ensures.err; filling = no_ok _ r.result r.ensures.0 }
 
 pub returns-in_err-add_blocks : goal.returns-in_err-add_blocks
-returns-in_err-add_blocks c = let r = c.from_residual-in_err-add_blocks in record { ok = no_ok _ r.result r.ensures.0; variables = no_ok _ r.result r.ensures.0; err = want_left r.result _ r.ensures.1 c.in_err-add_blocks.ensures.err; filling = no_ok _ r.result r.ensures.0 }
+returns-in_err-add_blocks c = let r = c.from_residual-in_err-add_blocks in record { ok = no_ok _ r.result r.ensures.0; nodes = no_ok _ r.result r.ensures.0; variables = no_ok _ r.result r.ensures.0; err = want_left r.result _ r.ensures.1 c.in_err-add_blocks.ensures.err; filling = no_ok _ r.result r.ensures.0 }
 
 pub returns-in_err-filling : goal.returns-in_err-filling
-returns-in_err-filling c = let r = c.from_residual-in_err-filling in record { ok = no_ok _ r.result r.ensures.0; variables = no_ok _ r.result r.ensures.0; err = want_left r.result _ r.ensures.1 c.in_err-filling.ensures.err; filling = no_ok _ r.result r.ensures.0 }
+returns-in_err-filling c = let r = c.from_residual-in_err-filling in record { ok = no_ok _ r.result r.ensures.0; nodes = no_ok _ r.result r.ensures.0; variables = no_ok _ r.result r.ensures.0; err = want_left r.result _ r.ensures.1 c.in_err-filling.ensures.err; filling = no_ok _ r.result r.ensures.0 }

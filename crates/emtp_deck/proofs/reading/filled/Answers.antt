@@ -1,4 +1,5 @@
-use Rattle.std.proofs.Common.{◌∙◌, sym}
+use Rattle.std.proofs.Common.{◌∙◌, ap, sym}
+use Rattle.emtp_sense.specs.Names.{case_nodes}
 use Rattle.emtp_deck.proofs.reading.filled.Goals as goal
 
 pub complete_case-requires-clause-accepted : goal.complete_case-requires-clause-accepted
@@ -8,3 +9,9 @@ complete_case-requires-clause-accepted c =
       few = rw (names.nodes, names.variables) at (sym c.has_too_many.ensures ∙ c.if-has_too_many.false);
       control = rw (names.nodes, names.variables) at (sym c.control_bad.ensures ∙ c.in_default.is);
     }
+
+pub complete_case-requires-clause-nodes : goal.complete_case-requires-clause-nodes
+complete_case-requires-clause-nodes c = c.keep_case_nodes.ensures.nodes ∙ ap case_nodes c.in_ok-names.ensures.nodes
+
+pub complete_case-requires-clause-variables : goal.complete_case-requires-clause-variables
+complete_case-requires-clause-variables c = c.keep_case_nodes.ensures.variables ∙ c.in_ok-names.ensures.variables

@@ -7,4 +7,5 @@ abbrev pub invariant-loop-card : goal.invariant-loop-card
 invariant-loop-card l = record {
   same : take_switches (made_of l.initial.filling) l.cards ≡ take_switches (made_of l.filling) (drop l.card-index l.cards);
   filling : IsFilling l.filling;
+  nodes : l.filling.nodes.keys ≡ l.initial.filling.nodes.keys;
 }
