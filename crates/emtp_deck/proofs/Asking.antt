@@ -9,6 +9,7 @@ use Rattle.emtp_card.specs.Fault.{unless_bad}
 use Rattle.emtp_card.specs.declared.fault.Fault.{Fault}
 use Rattle.emtp_card.specs.declared.reason.Bad.{Bad}
 use Rattle.emtp_case.specs.declared.branch.Branch.{Branch}
+use Rattle.emtp_case.specs.declared.branch.Phase.{Phase}
 use Rattle.emtp_case.specs.declared.branch.Point.{Point}
 use Rattle.emtp_case.specs.declared.case.Parts.{Parts}
 use Rattle.emtp_case.specs.declared.channel.Channel.{Channel}
@@ -16,8 +17,9 @@ use Rattle.emtp_case.specs.declared.channel.Channel.TheVariants.{NodeVoltage as 
 use Rattle.emtp_deck.proofs.Growing.{length_entry}
 use Rattle.emtp_deck.proofs.Keeping.{length_of_nodes, length_of_switch}
 use Rattle.emtp_walk.specs.Answer.{go_on}
-use Rattle.emtp_deck.specs.Branches.{entry_channels, entry_count, entry_fault, take_branches, take_entry, with_branches, with_entry, with_own, with_values}
+use Rattle.emtp_deck.specs.Branches.{entry_channels, entry_count, entry_fault, phase_for, take_branches, take_entry, with_branches, with_entry, with_modes, with_own, with_values}
 use Rattle.emtp_deck.specs.Channels.{channels_of, status_of}
+use Rattle.emtp_deck.specs.Copies.{modes_for, numbers_behind}
 use Rattle.emtp_deck.specs.ControlFilling.{block_of, control_parts, with_extra}
 use Rattle.emtp_deck.specs.Deck.{made_of_deck, control_made}
 use Rattle.emtp_deck.specs.Made.{Made, count_asked, no_room, unless_fault}
@@ -107,9 +109,13 @@ values_kept points p card a b OwnValues = own_kept points p card.line a b card.v
 values_kept points p card a b (Earlier branch) = kept p p.points _ p.trios
 values_kept points p card a b Missing = kept p p.points p.branches p.trios
 
+modes_kept : (p : Parts) (a b c : Phase) (trio : Option modes.Trio) → Keeps p (with_modes p a b c trio)
+modes_kept p a b c (Some trio) = kept p p.points _ _
+modes_kept p a b c None = kept p p.points p.branches p.trios
+
 branches_kept : (points : List Point) (p : Parts) (e : BranchEntry) → Keeps p (with_branches points p e)
 branches_kept points p (Single card first count) = values_kept _ p card _ _ _
-branches_kept points p (Trio zero' positive third) = kept p p.points _ _
+branches_kept points p (Trio zero' positive third) = modes_kept p (phase_for p zero') (phase_for p positive) (phase_for p third) (modes_for (numbers_behind p zero') (numbers_behind p positive))
 
 more_branches : (v o b s t c n : ℕ) → c ≡ b + n → v + o + c + s + t ≡ v + o + b + s + t + n
 more_branches v o b s t c n e = omega (arith, e)

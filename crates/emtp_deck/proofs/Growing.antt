@@ -1,14 +1,14 @@
 -- What is made of the cards stays whole where the branches of an entry are added.
-use Rattle.emtp_case.specs.declared.limit.TheConstants.{MOST_POINTS}
+use Rattle.emtp_case.specs.declared.limit.TheConstants.{MOST_CHANNELS}
 use Rattle.emtp_case.specs.declared.branch.Trio as modes
 use Rattle.std.proofs.Common.{◌≡◌, ◌∙◌, sym, ap, refl, ℕ, ◌+◌, ◌<◌, ◌≤◌, Bool, true, false, List, [], ◌∷◌, ◌++◌, length, Option, Some, None, Ok, arith, length-append, length-take, length-drop}
 use Rattle.std.proofs.lemmas.List.Elements.{All-append}
 use Rattle.std.specs.Prelude.{All, drop, find, take, ◌==◌, if◌then◌else◌}
-use Rattle.emtp_case.specs.Branch.{points_of}
 use Rattle.emtp_case.specs.held.Channel.{IsChannel}
 use Rattle.emtp_case.specs.HistoryValues.{history_values_of}
 use Rattle.emtp_case.specs.held.Sizes.{Sizes, sizes_of}
 use Rattle.emtp_case.specs.declared.branch.Branch.{Branch}
+use Rattle.emtp_case.specs.declared.branch.Phase.{Phase}
 use Rattle.emtp_case.specs.declared.branch.Point.{Point}
 use Rattle.emtp_case.specs.declared.case.Parts.{Parts}
 use Rattle.emtp_case.specs.declared.channel.Channel.{Channel}
@@ -16,16 +16,18 @@ use Rattle.emtp_case.specs.declared.channel.Channel.TheVariants.{BranchCurrent, 
 use Rattle.emtp_case.specs.declared.draft.Draft.{Draft}
 use Rattle.emtp_case.specs.declared.run_data.RunData.{RunData}
 use Rattle.emtp_deck.proofs.Keeping.{channels_of_there, there_grows}
-use Rattle.emtp_deck.specs.Branches.{branch_channels, entry_channels, entry_count, with_branches, with_values}
-use Rattle.emtp_deck.specs.held.Branches.{entry_history}
+use Rattle.emtp_deck.specs.Branches.{branch_channels, card_history, entry_channels, entry_count, phase_for, take_entry, with_modes, with_phases, with_single, with_values}
+use Rattle.emtp_deck.specs.held.Branches.{line_channels, line_count, pair_history, take_line, take_one, with_asked, with_taken}
 use Rattle.emtp_deck.specs.Channels.{channel_count, channels_of}
-use Rattle.emtp_deck.specs.Copies.{earlier_or_missing, is_like, missing_fault, type_of_kind, values_by}
+use Rattle.emtp_deck.specs.Copies.{earlier_or_missing, is_like, missing_fault, modes_for, numbers_behind, type_of_kind, values_by}
+use Rattle.emtp_deck.specs.held.Copies.{AreTakenBy}
 use Rattle.emtp_deck.specs.held.Filling.{IsFilling}
-use Rattle.emtp_deck.specs.Made.{count_asked}
-use Rattle.emtp_deck.specs.held.Sensible.{AreOwnPoints, IsSensible}
+use Rattle.emtp_deck.specs.Made.{Made, count_asked}
+use Rattle.emtp_deck.specs.held.Sensible.{AreOwnPoints, FindsValues, IsSensibleSingle}
 use Rattle.emtp_sense.specs.Names.{node_number}
-use Rattle.emtp_walk.specs.held.Sound.{IsEntry, IsSingleEntry, has_points, is_reactor}
+use Rattle.emtp_walk.specs.held.Sound.{IsSingleEntry, has_points, is_reactor}
 use Rattle.emtp_walk.specs.Walk.{is_phase}
+use Rattle.emtp_deck.specs.declared.copies.TakenPair.{TakenPair}
 use Rattle.emtp_walk.specs.declared.deck.BranchEntry.{BranchEntry}
 use Rattle.emtp_walk.specs.declared.deck.BranchEntry.TheVariants.{Single, Trio}
 use Rattle.emtp_deck.specs.declared.filling.Filling.{Filling}
@@ -58,6 +60,7 @@ length_entry at (Trio zero' positive third) =
 
 -- so many branches more, and nothing else that a filling speaks of
 record IsGrown (p q : Parts) (more : ℕ) : Type 0 where
+  run : q.run ≡ p.run
   nodes : q.nodes ≡ p.nodes
   vars : q.vars ≡ p.vars
   tacs_sources : q.tacs_sources ≡ p.tacs_sources
@@ -70,6 +73,7 @@ record IsGrown (p q : Parts) (more : ℕ) : Type 0 where
 
 one_more : (p : Parts) (points : List Point) (b : Branch) → IsGrown p (record p { points = points; branches = p.branches ++ b ∷ [] }) 1
 one_more p points b = record {
+  run = refl;
   nodes = refl;
   vars = refl;
   tacs_sources = refl;
@@ -83,6 +87,7 @@ one_more p points b = record {
 
 three_more : (p : Parts) (bs : List Branch) (ts : List modes.Trio) → length bs ≡ 3 → IsGrown p (record p { branches = p.branches ++ bs; trios = p.trios ++ ts }) 3
 three_more p bs ts e = record {
+  run = refl;
   nodes = refl;
   vars = refl;
   tacs_sources = refl;
@@ -108,23 +113,18 @@ values_grown points p card a b (CopiedCard kind x y) e t = found_grown (find (is
     found_grown (Some branch) t = one_more p p.points _
     found_grown None t = absurd (cc)
 
--- how many branches an entry has
-branches_of : BranchEntry → ℕ
-branches_of (Single card first count) = 1
-branches_of (Trio zero' positive third) = 3
+single_grown : (points : List Point) (p : Parts) (card : BranchCard) → is_phase (Ok (kind_of_values card.values)) ≡ false → FindsValues p card → IsGrown p (with_single points p card) 1
+single_grown points p card kind taken = values_grown points p card (node_number p.nodes card.from) (node_number p.nodes card.to) card.values kind taken
 
-entry_grown : (run : RunData) (all points : List Point) (p : Parts) (e : BranchEntry) → IsEntry run all e → IsSensible p e → IsGrown p (with_branches points p e) (branches_of e)
-unfolding branches_of
-entry_grown run all points p (Single card first count) h s = values_grown (points_of points first count) p card (node_number p.nodes card.from) (node_number p.nodes card.to) card.values h.kind s.taken
-entry_grown run all points p (Trio zero' positive third) h s = three_more p _ _ refl
+modes_grown : (p : Parts) (a b c : Phase) (o : Option modes.Trio) (trio : modes.Trio) → o ≡ Some trio → IsGrown p (with_modes p a b c o) 3
+modes_grown p a b c (Some x) trio e = three_more p _ _ refl
+modes_grown p a b c None trio e = absurd (cc)
 
 branch_there : (n : Sizes) (at : ℕ) (card : BranchCard) → at < n.branches → All (IsChannel n) (branch_channels at card)
 branch_there n at card l = channels_of_there (IsChannel n) card.asked (BranchCurrent at) (BranchVoltage at) l l
 
-entry_there : (n : Sizes) (at : ℕ) (e : BranchEntry) → at + branches_of e ≤ n.branches → All (IsChannel n) (entry_channels at e)
-unfolding branches_of
-entry_there n at (Single card first count) l = branch_there n at card (omega arith)
-entry_there n at (Trio zero' positive third) l =
+line_there : (n : Sizes) (at : ℕ) (zero' positive third : BranchCard) → at + 3 ≤ n.branches → All (IsChannel n) (line_channels at zero' positive third)
+line_there n at zero' positive third l =
     let zs = branch_channels at zero' in
     let ps = branch_channels (at + 1) positive in
     let ts = branch_channels (at + 2) third in
@@ -132,32 +132,84 @@ entry_there n at (Trio zero' positive third) l =
     (All-append (IsChannel n) zs ps (branch_there n at zero' (omega arith)) (branch_there n (at + 1) positive (omega arith)))
     (branch_there n (at + 2) third (omega arith))
 
-pub with_more_branches : (f : Filling) (draft : Draft) (channels : List Channel) (history : ℕ) (points : List Point) (e : BranchEntry) → IsFilling f → IsEntry f.draft.parts.run points e → IsSensible f.draft.parts e → count_asked f.asked + entry_count e ≤ MOST_POINTS
-    → draft.parts ≡ with_branches points f.draft.parts e → history_values_of draft.parts ≡ history_values_of f.draft.parts + entry_history f.draft.parts e → history ≡ f.history + entry_history f.draft.parts e
-    → channels ≡ f.asked.branches ++ entry_channels (length f.draft.parts.branches) e → IsFilling (record f { draft = draft; asked = record f.asked { branches = channels }; history = history })
-with_more_branches f draft channels history points e h is s few d values more c =
-    let p = f.draft.parts in
-    let q = with_branches points p e in
-    let g = entry_grown p.run points points p e is s in
-    let at = length p.branches in
+-- so many branches more, and these channels
+grown_filling : (f : Filling) (draft : Draft) (channels added : List Channel) (history values more : ℕ) (q : Parts) → IsFilling f → IsGrown f.draft.parts q more → count_asked f.asked + length added ≤ MOST_CHANNELS → All (IsChannel (sizes_of q)) added
+    → draft.parts ≡ q → history_values_of draft.parts ≡ history_values_of f.draft.parts + values → history ≡ f.history + values → channels ≡ f.asked.branches ++ added
+    → IsFilling (record f { draft = draft; asked = record f.asked { branches = channels }; history = history })
+grown_filling f draft channels added history values more q h g few there d counted sum c =
     let n = sizes_of q in
-    let grown = there_grows (sizes_of p) n f.asked
+    let grown = there_grows (sizes_of f.draft.parts) n f.asked
     (record { nodes = omega (arith, ap length g.nodes); branches = omega (arith, g.branches); trios = g.trios; switches = omega (arith, ap length g.switches); vars = omega (arith, ap length g.vars) }) h.there in
     record {
       nodes = rw d (h.nodes ∙ sym g.nodes);
-      history = more ∙ ap (λ k. k + entry_history p e) h.history ∙ sym values;
+      history = sum ∙ ap (λ k. k + values) h.history ∙ sym counted;
       variables = rw d (h.variables ∙ sym g.vars);
       no_sources = rw d (g.tacs_sources ∙ h.no_sources);
       no_channels = rw d (g.channels ∙ h.no_channels);
-      few = rw c (omega (arith, few, length_entry at e, length-append f.asked.branches (entry_channels at e)));
+      few = rw c (omega (arith, few, length-append f.asked.branches added));
       there = rw d (record {
         variables = grown.variables;
         outputs = grown.outputs;
-        branches = rw c (All-append (IsChannel n) f.asked.branches (entry_channels at e) grown.branches (entry_there n at e (omega (arith, g.branches))));
+        branches = rw c (All-append (IsChannel n) f.asked.branches added grown.branches there);
         switches = grown.switches;
         statuses = grown.statuses;
       });
     }
+
+-- these parts, and these channels more
+pub made_by : (m : Made) (p q : Parts) (channels added : List Channel) → p ≡ q → channels ≡ m.asked.branches ++ added → ◌≡◌ {A = Made} (record { parts = p; asked = record m.asked { branches = channels } }) (with_asked m q added)
+made_by m p q channels added e d = rw (e, d) refl
+
+-- ---- a card of one branch
+
+-- what is made with one card or line more
+pub record IsNext (f : Filling) (draft : Draft) (channels : List Channel) (history : ℕ) : Type 0 where
+  pub run : draft.parts.run ≡ f.draft.parts.run
+  pub filling : IsFilling (record f { draft = draft; asked = record f.asked { branches = channels }; history = history })
+
+pub one_more_filling : (f : Filling) (draft : Draft) (channels : List Channel) (history : ℕ) (points : List Point) (card : BranchCard) → IsFilling f → is_phase (Ok (kind_of_values card.values)) ≡ false → IsSensibleSingle f.draft.parts card → count_asked f.asked + channel_count card.asked ≤ MOST_CHANNELS
+    → draft.parts ≡ with_single points f.draft.parts card → history_values_of draft.parts ≡ history_values_of f.draft.parts + card_history 1 f.draft.parts card → history ≡ f.history + card_history 1 f.draft.parts card
+    → channels ≡ f.asked.branches ++ branch_channels (length f.draft.parts.branches) card → IsNext f draft channels history
+one_more_filling f draft channels history points card h kind s few d counted sum c =
+    let p = f.draft.parts in
+    let at = length p.branches in
+    let q = with_single points p card in
+    let g = single_grown points p card kind s.taken in
+    let size = length_of_channels card.asked (BranchCurrent at) (BranchVoltage at) in
+    record {
+      run = rw d g.run;
+      filling = grown_filling f draft channels (branch_channels at card) history (card_history 1 p card) 1 q h g (omega (arith, few, size)) (branch_there (sizes_of q) at card (omega (arith, g.branches))) d counted sum c;
+    }
+
+-- ---- a line of three phases
+
+-- the phases that the code makes are those of the definition
+pub line_parts : (p : Parts) (zero' positive third : BranchCard) (taken : TakenPair) (a b c : Phase) → AreTakenBy p zero' positive taken → a ≡ phase_for p zero' → b ≡ phase_for p positive → c ≡ phase_for p third
+    → with_taken p a b c taken ≡ with_phases p zero' positive third
+line_parts p zero' positive third taken a b c t to_a to_b to_c = rw (to_a, to_b, to_c, t.zero_taken.numbers_are, t.positive_taken.numbers_are) refl
+
+pub line_more_filling : (f : Filling) (draft : Draft) (channels : List Channel) (history : ℕ) (zero' positive third : BranchCard) (trio : modes.Trio) → IsFilling f → modes_for (numbers_behind f.draft.parts zero') (numbers_behind f.draft.parts positive) ≡ Some trio
+    → count_asked f.asked + line_count zero' positive third ≤ MOST_CHANNELS → draft.parts ≡ with_phases f.draft.parts zero' positive third → history_values_of draft.parts ≡ history_values_of f.draft.parts + pair_history f.draft.parts zero' positive
+    → history ≡ f.history + pair_history f.draft.parts zero' positive → channels ≡ f.asked.branches ++ line_channels (length f.draft.parts.branches) zero' positive third → IsNext f draft channels history
+line_more_filling f draft channels history zero' positive third trio h are few d counted sum c =
+    let p = f.draft.parts in
+    let at = length p.branches in
+    let q = with_phases p zero' positive third in
+    let g = modes_grown p (phase_for p zero') (phase_for p positive) (phase_for p third) (modes_for (numbers_behind p zero') (numbers_behind p positive)) trio are in
+    record {
+      run = rw d g.run;
+      filling = grown_filling f draft channels (line_channels at zero' positive third) history (pair_history p zero' positive) 3 q h g (omega (arith, few, length_entry at (Trio zero' positive third))) (line_there (sizes_of q) at zero' positive third (omega (arith, g.branches))) d counted sum c;
+    }
+
+-- ---- what an entry gives is what its cards give
+
+pub one_taken : (points : List Point) (m : Made) (card : BranchCard) (first count n : ℕ) (e : BranchEntry) → e ≡ Single card first count → n ≡ count → take_entry points m e ≡ take_one (take n (drop first points)) m card
+unfolding take_entry
+one_taken points m card first count n e is same = rw (is, same) refl
+
+pub line_taken : (points : List Point) (m : Made) (zero' positive third : BranchCard) (e : BranchEntry) → e ≡ Trio zero' positive third → take_entry points m e ≡ take_line m zero' positive third
+unfolding take_entry
+line_taken points m zero' positive third e is = rw is refl
 
 -- ---- points
 

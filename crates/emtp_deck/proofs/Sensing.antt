@@ -4,21 +4,20 @@ use Rattle.std.proofs.Common.{◌≡◌, ℕ, ◌+◌, ◌<◌, ◌≤◌, List,
 use Rattle.std.specs.Prelude.{nat_lt}
 use Rattle.emtp_card.proofs.Faults.{least_none}
 use Rattle.emtp_case.specs.HistoryValues.{history_values_of}
-use Rattle.emtp_case.specs.declared.branch.Point.{Point}
-use Rattle.emtp_case.specs.declared.run_data.RunData.{RunData}
 use Rattle.emtp_sense.proofs.WithinLimits.{within}
 use Rattle.emtp_sense.proofs.CardNames.{entry_names}
 use Rattle.emtp_sense.proofs.Naming.{Each, ends_of}
 use Rattle.emtp_walk.proofs.NoBad.{no_bad, nothing_before}
-use Rattle.emtp_deck.specs.Branches.{card_bad, card_fault, card_history, entry_count, entry_fault, first_counts, first_fault, pair_fault, second_counts, second_fault, third_fault, with_counts}
+use Rattle.emtp_deck.specs.Branches.{card_bad, card_fault, card_history, entry_fault, first_counts, first_fault, pair_fault, second_counts, second_fault, third_fault, with_counts}
+use Rattle.emtp_deck.specs.held.Branches.{line_count, line_fault}
 use Rattle.emtp_deck.specs.Channels.{channel_count}
-use Rattle.emtp_deck.specs.Copies.{missing_fault, values_from}
+use Rattle.emtp_deck.specs.Copies.{missing_fault, values_behind}
 use Rattle.emtp_deck.specs.Made.{Made, count_asked}
 use Rattle.emtp_sense.specs.Limits.{too_many}
 use Rattle.emtp_sense.specs.Names.{node_number}
-use Rattle.emtp_sense.specs.held.Naming.{HasEntryNodes}
-use Rattle.emtp_deck.specs.held.Sensible.{IsSensible}
-use Rattle.emtp_walk.specs.held.Sound.{IsEntry}
+use Rattle.emtp_sense.specs.held.Naming.{HasEndNodes, HasTrioNodes}
+use Rattle.emtp_deck.specs.held.Sensible.{IsSensibleSingle, IsSensibleTrio}
+use Rattle.emtp_netcards.specs.held.Fields.{AreEndNames}
 use Rattle.emtp_deck.specs.declared.branches.Counts.{Counts}
 use Rattle.emtp_deck.specs.declared.copies.ValuesFrom.{ValuesFrom}
 use Rattle.emtp_deck.specs.declared.copies.ValuesFrom.TheVariants.{Card as OwnValues}
@@ -68,55 +67,60 @@ in_turn m h a b l = omega arith
 in_threes : (m h a b c : ℕ) → h + a + b + c ≤ m → h + (a + b + c) ≤ m
 in_threes m h a b c l = omega arith
 
--- ---- an entry
+-- ---- a card of one branch
 
--- the three cards of a line
-record AreFaultless (m : Made) (zero' positive third : BranchCard) : Type 0 where
-  first : IsFaultless m.parts.nodes (first_counts m zero') zero' (values_from m.parts.nodes m.parts.branches zero')
-  second : IsFaultless m.parts.nodes (second_counts m zero' positive) positive (values_from m.parts.nodes m.parts.branches positive)
-  last : IsFaultless m.parts.nodes (with_counts (second_counts m zero' positive) third 0) third OwnValues
+-- what a card without a fault gives
+pub record IsTakable (m : Made) (card : BranchCard) : Type 0 where
+  pub sensible : IsSensibleSingle m.parts card
+  pub room : count_asked m.asked + channel_count card.asked ≤ MOST_CHANNELS
 
-faultless_trio : (m : Made) (zero' positive third : BranchCard) → entry_fault m (Trio zero' positive third) ≡ None → AreFaultless m zero' positive third
-faultless_trio m zero' positive third e =
+pub takable : (m : Made) (card : BranchCard) → AreEndNames card.from card.to → HasEndNodes m.parts.nodes card.from card.to → first_fault m card ≡ None → IsTakable m card
+takable m card names there e =
     let nodes = m.parts.nodes in
-    let none = nothing_before (pair_fault m zero' positive) (third_fault m zero' positive third) e in
-    let pair = nothing_before (first_fault m zero') (second_fault m zero' positive) none.0 in
-    record {
-      first = faultless nodes (first_counts m zero') zero' (values_from nodes m.parts.branches zero') pair.0;
-      second = faultless nodes (second_counts m zero' positive) positive (values_from nodes m.parts.branches positive) pair.1;
-      last = faultless nodes (with_counts (second_counts m zero' positive) third 0) third OwnValues none.1;
-    }
-
--- what an entry without a fault gives
-pub record IsTakable (m : Made) (e : BranchEntry) : Type 0 where
-  pub sensible : IsSensible m.parts e
-  pub room : count_asked m.asked + entry_count e ≤ MOST_CHANNELS
-
-pub takable : (m : Made) (run : RunData) (points : List Point) (e : BranchEntry) → IsEntry run points e → HasEntryNodes m.parts.nodes e → entry_fault m e ≡ None → IsTakable m e
-takable m run points (Single card first count) h there e =
-    let nodes = m.parts.nodes in
-    let f = faultless nodes (first_counts m card) card (values_from nodes m.parts.branches card) e in
+    let f = faultless nodes (first_counts m card) card (values_behind m.parts card) e in
     record {
       sensible = record {
         room = one_below (length m.parts.branches) f.branches;
-        ends = ends_of nodes card.from card.to h.numbers.ends (there.from_node f.from_few) (there.to_node f.to_few);
+        ends = ends_of nodes card.from card.to names (there.from_node f.from_few) (there.to_node f.to_few);
         taken = f.taken;
         history = f.history;
       };
       room = f.channels;
     }
-takable m run points (Trio zero' positive third) h there e =
+
+-- ---- the three cards of a line
+
+record AreFaultless (m : Made) (zero' positive third : BranchCard) : Type 0 where
+  first : IsFaultless m.parts.nodes (first_counts m zero') zero' (values_behind m.parts zero')
+  second : IsFaultless m.parts.nodes (second_counts m zero' positive) positive (values_behind m.parts positive)
+  last : IsFaultless m.parts.nodes (with_counts (second_counts m zero' positive) third 0) third OwnValues
+
+faultless_line : (m : Made) (zero' positive third : BranchCard) → line_fault m zero' positive third ≡ None → AreFaultless m zero' positive third
+faultless_line m zero' positive third e =
     let nodes = m.parts.nodes in
-    let f = faultless_trio m zero' positive third e in
-    let a = there.zero_nodes in
-    let b = there.positive_nodes in
-    let c = there.third_nodes in
+    let none = nothing_before (pair_fault m zero' positive) (third_fault m zero' positive third) e in
+    let pair = nothing_before (first_fault m zero') (second_fault m zero' positive) none.0 in
+    record {
+      first = faultless nodes (first_counts m zero') zero' (values_behind m.parts zero') pair.0;
+      second = faultless nodes (second_counts m zero' positive) positive (values_behind m.parts positive) pair.1;
+      last = faultless nodes (with_counts (second_counts m zero' positive) third 0) third OwnValues none.1;
+    }
+
+pub record AreTakable (m : Made) (zero' positive third : BranchCard) : Type 0 where
+  pub sensible : IsSensibleTrio m.parts zero' positive third
+  pub room : count_asked m.asked + line_count zero' positive third ≤ MOST_CHANNELS
+
+pub line_takable : (m : Made) (zero' positive third : BranchCard) → AreEndNames zero'.from zero'.to → AreEndNames positive.from positive.to → AreEndNames third.from third.to → HasTrioNodes m.parts.nodes zero' positive third → line_fault m zero' positive third ≡ None
+    → AreTakable m zero' positive third
+line_takable m zero' positive third a b c there e =
+    let nodes = m.parts.nodes in
+    let f = faultless_line m zero' positive third e in
     record {
       sensible = record {
         room = three_within (length m.parts.branches) f.last.branches;
-        zero_ends = ends_of nodes zero'.from zero'.to h.0.zero_numbers.ends (a.from_node f.first.from_few) (a.to_node f.first.to_few);
-        positive_ends = ends_of nodes positive.from positive.to h.0.positive_numbers.ends (b.from_node f.second.from_few) (b.to_node f.second.to_few);
-        third_ends = ends_of nodes third.from third.to h.1.ends (c.from_node f.last.from_few) (c.to_node f.last.to_few);
+        zero_ends = ends_of nodes zero'.from zero'.to a (there.zero_nodes.from_node f.first.from_few) (there.zero_nodes.to_node f.first.to_few);
+        positive_ends = ends_of nodes positive.from positive.to b (there.positive_nodes.from_node f.second.from_few) (there.positive_nodes.to_node f.second.to_few);
+        third_ends = ends_of nodes third.from third.to c (there.third_nodes.from_node f.last.from_few) (there.third_nodes.to_node f.last.to_few);
         zero_taken = f.first.taken;
         positive_taken = f.second.taken;
         history = in_turn MOST_HISTORY_VALUES (history_values_of m.parts) (card_history 1 m.parts zero') (card_history 3 m.parts positive) f.second.history;
@@ -124,11 +128,12 @@ takable m run points (Trio zero' positive third) h there e =
       room = in_threes 64 (count_asked m.asked) (channel_count zero'.asked) (channel_count positive.asked) (channel_count third.asked) f.last.channels;
     }
 
--- and its ends, whose numbers are within the limit
+-- ---- the ends of an entry, whose numbers are within the limit
+
 pub few_ends : (m : Made) (e : BranchEntry) → entry_fault m e ≡ None → Each (λ x. node_number m.parts.nodes x ≤ MOST_NODES) (entry_names e)
 few_ends m (Single card first count) e =
-    let f = faultless m.parts.nodes (first_counts m card) card (values_from m.parts.nodes m.parts.branches card) e in
+    let f = faultless m.parts.nodes (first_counts m card) card (values_behind m.parts card) e in
     (f.from_few, (f.to_few, tt))
 few_ends m (Trio zero' positive third) e =
-    let f = faultless_trio m zero' positive third e in
+    let f = faultless_line m zero' positive third e in
     (f.first.from_few, (f.first.to_few, (f.second.from_few, (f.second.to_few, (f.last.from_few, (f.last.to_few, tt))))))

@@ -1,6 +1,6 @@
 -- Branches: what each card gives the case, unless it has a fault of sense. Of a card the least fault counts.
 use Rattle.emtp_case.specs.declared.limit.TheConstants.{MOST_BRANCHES, MOST_CHANNELS, MOST_HISTORY_VALUES, MOST_NODES}
-use Rattle.std.specs.Prelude.{ℕ, ◌+◌, ◌*◌, nat_lt, ℤ, pos, Bool, true, false, List, [], ◌∷◌, ◌++◌, length, Option, Some, None, option_map, unwrap_or, Result, Ok}
+use Rattle.std.specs.Prelude.{ℕ, ◌+◌, ◌*◌, nat_lt, ℤ, Bool, true, false, List, [], ◌∷◌, ◌++◌, length, Option, Some, None, option_map, Result, Ok}
 use Rattle.emtp_card.specs.Fault.{bad_at, least, unless_bad}
 use Rattle.emtp_card.specs.declared.fault.Fault.{Fault}
 use Rattle.emtp_card.specs.declared.reason.Bad.{Bad}
@@ -17,7 +17,7 @@ use Rattle.emtp_case.specs.declared.channel.Channel.{Channel}
 use Rattle.emtp_case.specs.declared.channel.Channel.TheVariants.{BranchCurrent, BranchVoltage}
 use Rattle.emtp_walk.specs.Answer.{go_on, first_bad}
 use Rattle.emtp_deck.specs.Channels.{channel_count, channels_of}
-use Rattle.emtp_deck.specs.Copies.{line_numbers, missing_fault, phase_numbers, values_from}
+use Rattle.emtp_deck.specs.Copies.{missing_fault, modes_for, numbers_behind, phase_numbers, values_behind}
 use Rattle.emtp_deck.specs.Made.{Made, count_asked}
 use Rattle.emtp_sense.specs.Limits.{too_many}
 use Rattle.emtp_sense.specs.Names.{node_number}
@@ -49,7 +49,7 @@ line_history phases dt (Some x) = phases * line_history_values dt x.delay
 
 -- the history values of a card: those of the values that it takes, and none where they are missing
 abbrev pub card_history : ℕ → Parts → BranchCard → ℕ
-card_history phases p card = line_history phases p.run.dt (line_numbers p.trios card.values (values_from p.nodes p.branches card))
+card_history phases p card = line_history phases p.run.dt (numbers_behind p card)
 
 -- ---- faults of sense
 
@@ -76,10 +76,10 @@ abbrev pub second_counts : Made → BranchCard → BranchCard → Counts
 second_counts m zero' positive = with_counts (first_counts m zero') positive (card_history 3 m.parts positive)
 
 abbrev pub first_fault : Made → BranchCard → Option Bad
-first_fault m card = card_bad m.parts.nodes (first_counts m card) card (values_from m.parts.nodes m.parts.branches card)
+first_fault m card = card_bad m.parts.nodes (first_counts m card) card (values_behind m.parts card)
 
 abbrev pub second_fault : Made → BranchCard → BranchCard → Option Bad
-second_fault m zero' positive = card_bad m.parts.nodes (second_counts m zero' positive) positive (values_from m.parts.nodes m.parts.branches positive)
+second_fault m zero' positive = card_bad m.parts.nodes (second_counts m zero' positive) positive (values_behind m.parts positive)
 
 -- the first two phases of a line
 abbrev pub pair_fault : Made → BranchCard → BranchCard → Option Bad
@@ -146,26 +146,22 @@ with_values points p card a b Missing = p
 
 -- the branch of a card
 abbrev pub with_single : List Point → Parts → BranchCard → Parts
-with_single points p card = with_values points p card (node_number p.nodes card.from) (node_number p.nodes card.to) (values_from p.nodes p.branches card)
-
-abbrev pub no_numbers : LineNumbers
-no_numbers = record { zc = pos 0; r = pos 0; delay = pos 0 }
-
-abbrev pub numbers_for : Parts → BranchCard → LineNumbers
-numbers_for p card = unwrap_or (line_numbers p.trios card.values (values_from p.nodes p.branches card)) no_numbers
-
--- the zero and the positive sequence
-abbrev pub modes_of : LineNumbers → LineNumbers → ℕ → Trio
-modes_of z q first = record { first = first; zc = z.zc ∷ q.zc ∷ []; r = z.r ∷ q.r ∷ []; delay = z.delay ∷ q.delay ∷ [] }
+with_single points p card = with_values points p card (node_number p.nodes card.from) (node_number p.nodes card.to) (values_behind p card)
 
 abbrev pub phase_for : Parts → BranchCard → Phase
 phase_for p card = record { line = card.line; «from» = node_number p.nodes card.from; to = node_number p.nodes card.to; trio = 0; phase = 0 }
 
-abbrev pub with_phases : Parts → BranchCard → BranchCard → BranchCard → Parts
-with_phases p zero' positive third = record p {
-  branches = p.branches ++ phase_branches (length p.trios) (phase_for p zero') (phase_for p positive) (phase_for p third);
-  trios = p.trios ++ modes_of (numbers_for p zero') (numbers_for p positive) (length p.branches) ∷ [];
+-- the phases of a line, if its modes are there
+abbrev pub with_modes : Parts → Phase → Phase → Phase → Option Trio → Parts
+with_modes p a b c (Some modes) = record p {
+  branches = p.branches ++ phase_branches (length p.trios) a b c;
+  trios = p.trios ++ record modes { first = length p.branches } ∷ [];
 }
+with_modes p a b c None = p
+
+abbrev pub with_phases : Parts → BranchCard → BranchCard → BranchCard → Parts
+with_phases p zero' positive third =
+    with_modes p (phase_for p zero') (phase_for p positive) (phase_for p third) (modes_for (numbers_behind p zero') (numbers_behind p positive))
 
 -- the channels of the branch at a place
 abbrev pub branch_channels : ℕ → BranchCard → List Channel

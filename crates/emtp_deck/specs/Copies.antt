@@ -1,7 +1,7 @@
 -- Where a branch card's values come from: itself, or the first earlier branch of its type between the two nodes that it
 -- names.
 use Rattle.std.specs.Ordering.{int_eq}
-use Rattle.std.specs.Prelude.{ℕ, ◌==◌, ◌&&◌, ℤ, pos, negsuc, Bool, true, false, List, [], find, slice_index_or, Option, Some, None, if◌then◌else◌}
+use Rattle.std.specs.Prelude.{ℕ, ◌==◌, ◌&&◌, ℤ, pos, negsuc, Bool, true, false, List, [], ◌∷◌, find, slice_index_or, Option, Some, None, if◌then◌else◌}
 use Rattle.emtp_card.specs.declared.fault.Fault.{Fault}
 use Rattle.emtp_card.specs.declared.reason.Why.TheVariants.{UnknownName}
 use Rattle.emtp_case.specs.Branch.{from_of, to_of}
@@ -9,6 +9,7 @@ use Rattle.emtp_case.specs.declared.branch.Branch.{Branch}
 use Rattle.emtp_case.specs.declared.branch.Branch.TheVariants.{Line as OfLine, Lumped as OfLumped, Phase as OfPhase, Pseudo as OfPseudo}
 use Rattle.emtp_case.specs.declared.branch.Phase.{Phase}
 use Rattle.emtp_case.specs.declared.branch.Trio.{Trio}
+use Rattle.emtp_case.specs.declared.case.Parts.{Parts}
 use Rattle.emtp_sense.specs.Names.{node_number}
 use Rattle.emtp_deck.specs.declared.copies.LineNumbers.{LineNumbers}
 use Rattle.emtp_deck.specs.declared.copies.ValuesFrom.{ValuesFrom}
@@ -100,3 +101,21 @@ abbrev pub line_numbers : List Trio → BranchValues → ValuesFrom → Option L
 line_numbers trios values OwnValues = numbers_of_card values
 line_numbers trios values (Earlier b) = numbers_of_branch trios b
 line_numbers trios values Missing = None
+
+-- the zero and the positive sequence, whose first branch isn't placed yet
+abbrev pub modes_of : LineNumbers → LineNumbers → Trio
+modes_of z q = record { first = 0; zc = z.zc ∷ q.zc ∷ []; r = z.r ∷ q.r ∷ []; delay = z.delay ∷ q.delay ∷ [] }
+
+-- those of a line whose cards have numbers
+abbrev pub modes_for : Option LineNumbers → Option LineNumbers → Option Trio
+modes_for (Some z) (Some q) = Some (modes_of z q)
+modes_for (Some z) None = None
+modes_for None q = None
+
+-- ---- behind what is made of the cards so far
+
+abbrev pub values_behind : Parts → BranchCard → ValuesFrom
+values_behind p card = values_from p.nodes p.branches card
+
+abbrev pub numbers_behind : Parts → BranchCard → Option LineNumbers
+numbers_behind p card = line_numbers p.trios card.values (values_behind p card)

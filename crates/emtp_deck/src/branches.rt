@@ -2,32 +2,35 @@
 
 ghost use Rattle.emtp_case.specs.declared.limit.TheConstants.{MOST_BRANCHES, MOST_CHANNELS, MOST_HISTORY_VALUES, MOST_NODES};
 ghost use Rattle.emtp_case.specs.held.RunData.{IsTimeStep};
-ghost use Rattle.std.specs.Prelude.{◌≡◌, ◌+◌, ◌*◌, ◌^◌, ◌<◌, ◌≤◌, ◌++◌, All, length, Ok, Some, IfErr, OnOk, false, true};
-ghost use Rattle.emtp_case.specs.held.Branch.{HasLineNumbers, IsBranch};
+ghost use Rattle.std.specs.Prelude.{◌≡◌, ◌+◌, ◌*◌, ◌^◌, ◌<◌, ◌≤◌, All, length, Ok, IfErr, OnOk, false, true};
+ghost use Rattle.emtp_case.specs.held.Branch.{IsBranch};
 ghost use Rattle.emtp_case.specs.HistoryValues.{history_values_of};
 ghost use Rattle.emtp_case.specs.held.Range.{AreEnds};
 ghost use Rattle.emtp_case.specs.held.Sizes.{sizes_of};
 ghost use Rattle.emtp_walk.specs.held.Answer.{IsWant};
-ghost use Rattle.emtp_deck.specs.Branches.{branch_channels, card_bad, card_fault, card_history, counts_of, entry_channels, entry_count, entry_fault, first_counts, first_fault, line_branch, line_history, moved, numbers_for, pair_fault, pending_fault, phase_for, second_counts, second_fault, take_branches, take_entry, third_fault, with_branches, with_counts, with_entry, with_own, with_phases, with_points, with_single};
-ghost use Rattle.emtp_deck.specs.held.Branches.{entry_history, pair_history};
-ghost use Rattle.emtp_deck.specs.Copies.{line_numbers, numbers_of_card, values_from};
+ghost use Rattle.emtp_deck.specs.Branches.{card_bad, card_fault, card_history, counts_of, first_counts, first_fault, line_branch, line_history, moved, pair_fault, pending_fault, phase_for, second_counts, second_fault, take_branches, take_entry, third_fault, with_counts, with_own, with_points, with_single};
+ghost use Rattle.emtp_deck.specs.held.Branches.{NeedsMore, line_count, line_fault, take_line, take_one, taken_history, with_line, with_one, with_taken};
+ghost use Rattle.emtp_deck.specs.Channels.{channel_count};
+ghost use Rattle.emtp_deck.specs.Copies.{numbers_of_card, type_of_kind, values_behind};
+ghost use Rattle.emtp_deck.specs.held.Copies.{AreTakenBy, HasModes, IsTaken, IsTakenBy};
 ghost use Rattle.emtp_deck.specs.held.Filling.{Fills, IsFilling, made_of};
 ghost use Rattle.emtp_deck.specs.Made.{count_asked};
-ghost use Rattle.emtp_sense.specs.held.Naming.{HasEntryNodes};
-ghost use Rattle.emtp_deck.specs.held.Sensible.{AreOwnPoints, FindsValues, IsLineKind, IsSensible, IsSensibleSingle, IsSensibleTrio};
-ghost use Rattle.emtp_walk.specs.held.Sound.{IsEntry, IsTrioEntry, has_points, is_pseudo, is_reactor};
+ghost use Rattle.emtp_sense.specs.held.Naming.{HasEndNodes, HasEntryNodes, HasTrioNodes};
+ghost use Rattle.emtp_deck.specs.held.Sensible.{AreOwnPoints, HasOwnPoints, IsSensibleSingle, IsSensibleTrio};
+ghost use Rattle.emtp_walk.specs.held.Sound.{IsEntry, IsTrioEntry, is_pseudo, is_reactor};
 ghost use Rattle.emtp_walk.specs.Walk.{is_phase};
 ghost use Rattle.emtp_netcards.specs.held.BranchCard.{HasNumbers, HasValues, kind_of_values};
 
-use crate::channels::{ask, channel_count};
+use crate::channels::{ask_branch, ask_line, channel_count};
 use crate::copies::{
-    LineNumbers, ValuesFrom, line_numbers, missing_fault, phase_numbers, values_from,
+    LineNumbers, Taken, TakenPair, ValuesFrom, missing_fault, modes_for, phase_numbers, taken_by,
+    taken_by_pair,
 };
 use crate::filling::Filling;
 use emtp_card::{Bad, Fault, Refused, least};
 use emtp_case::{
-    Branch, Channel, Draft, Items, Line, Lumped, MOST_BRANCHES, MOST_CHANNELS, MOST_HISTORY_VALUES,
-    MOST_NODES, Name, Phase, Point, Pseudo, Trio, line_history_values,
+    Branch, Draft, Line, Lumped, MOST_BRANCHES, MOST_CHANNELS, MOST_HISTORY_VALUES, MOST_NODES,
+    Name, Phase, Point, Pseudo, line_history_values,
 };
 use emtp_netcards::{BranchCard, BranchValues};
 use emtp_sense::{node_number, too_many};
@@ -86,17 +89,13 @@ fn line_history(phases: u64, dt: i64, numbers: &Option<LineNumbers>) -> u64
     }
 }
 
-fn card_history(phases: u64, names: &IndexSet<Name>, draft: &Draft, card: &BranchCard) -> u64
-    requires phases { phases ≤ 3 }
-    requires names { names.now.keys ≡ draft.now.parts.nodes }
-    ensures value { result ≡ card_history phases draft.now.parts card.now }
+/// How many past values a card needs, which takes these numbers for so many phases.
+fn card_history(phases: u64, draft: &Draft, taken: &Taken) -> u64
+    requires { phases ≤ 3 }
+    ensures value { result ≡ line_history phases draft.now.parts.run.dt taken.now.numbers }
     ensures few { result ≤ 2 * 10 ^ 17 }
 {
-    line_history(
-        phases,
-        draft.parts.run.dt,
-        &line_numbers(names, draft, card),
-    )
+    line_history(phases, draft.parts.run.dt, &taken.numbers)
 }
 
 /// The faults of a card, given the nodes, and the counts with its own.
@@ -136,54 +135,69 @@ fn card_bad(
 }
 
 /// The counts with a card of one branch, or with the card -1 of three phases.
-fn first_counts(filling: &Filling, card: &BranchCard) -> Counts
-    requires { IsFilling filling.now }
+fn first_counts(filling: &Filling, card: &BranchCard, taken: &Taken) -> Counts
+    requires filling { IsFilling filling.now }
+    requires taken { IsTakenBy filling.now.draft.parts card.now taken.now }
     ensures value { result ≡ first_counts (made_of filling.now) card.now }
     ensures few { result.history ≤ 3 * 10 ^ 17 }
 {
-    let history = card_history(1, &filling.nodes, &filling.draft, card);
+    let history = card_history(1, &filling.draft, taken);
     with_counts(&counts_of(filling), card, history)
 }
 
 /// The counts with the card -2 too.
-fn second_counts(filling: &Filling, zero: &BranchCard, positive: &BranchCard) -> Counts
-    requires { IsFilling filling.now }
+fn second_counts(
+    filling: &Filling,
+    zero: &BranchCard,
+    positive: &BranchCard,
+    taken: &TakenPair,
+) -> Counts
+    requires filling { IsFilling filling.now }
+    requires taken { AreTakenBy filling.now.draft.parts zero.now positive.now taken.now }
     ensures value { result ≡ second_counts (made_of filling.now) zero.now positive.now }
     ensures few { result.history ≤ 5 * 10 ^ 17 }
 {
-    let history = card_history(3, &filling.nodes, &filling.draft, positive);
-    with_counts(&first_counts(filling, zero), positive, history)
+    let history = card_history(3, &filling.draft, &taken.positive_sequence);
+    with_counts(&first_counts(filling, zero, &taken.zero_sequence), positive, history)
 }
 
-fn first_fault(filling: &Filling, card: &BranchCard) -> Option<Bad>
-    requires { IsFilling filling.now }
+fn first_fault(filling: &Filling, card: &BranchCard, taken: &Taken) -> Option<Bad>
+    requires filling { IsFilling filling.now }
+    requires taken { IsTakenBy filling.now.draft.parts card.now taken.now }
     ensures { result ≡ first_fault (made_of filling.now) card.now }
 {
-    let values = values_from(&filling.nodes, &filling.draft, card);
-    card_bad(&filling.nodes, &first_counts(filling, card), card, &values)
+    let counts = first_counts(filling, card, taken);
+    card_bad(&filling.nodes, &counts, card, &taken.values)
 }
 
-fn second_fault(filling: &Filling, zero: &BranchCard, positive: &BranchCard) -> Option<Bad>
-    requires { IsFilling filling.now }
+fn second_fault(
+    filling: &Filling,
+    zero: &BranchCard,
+    positive: &BranchCard,
+    taken: &TakenPair,
+) -> Option<Bad>
+    requires filling { IsFilling filling.now }
+    requires taken { AreTakenBy filling.now.draft.parts zero.now positive.now taken.now }
     ensures { result ≡ second_fault (made_of filling.now) zero.now positive.now }
 {
-    let values = values_from(&filling.nodes, &filling.draft, positive);
-    card_bad(
-        &filling.nodes,
-        &second_counts(filling, zero, positive),
-        positive,
-        &values,
-    )
+    let counts = second_counts(filling, zero, positive, taken);
+    card_bad(&filling.nodes, &counts, positive, &taken.positive_sequence.values)
 }
 
 /// What refuses one of the first two phases of a line.
-fn pair_fault(filling: &Filling, zero: &BranchCard, positive: &BranchCard) -> Option<Bad>
-    requires { IsFilling filling.now }
+fn pair_fault(
+    filling: &Filling,
+    zero: &BranchCard,
+    positive: &BranchCard,
+    taken: &TakenPair,
+) -> Option<Bad>
+    requires filling { IsFilling filling.now }
+    requires taken { AreTakenBy filling.now.draft.parts zero.now positive.now taken.now }
     ensures { result ≡ pair_fault (made_of filling.now) zero.now positive.now }
 {
-    match first_fault(filling, zero) {
+    match first_fault(filling, zero, &taken.zero_sequence) {
         Some(bad) => Some(bad),
-        None => second_fault(filling, zero, positive),
+        None => second_fault(filling, zero, positive, taken),
     }
 }
 
@@ -192,29 +206,31 @@ fn third_fault(
     zero: &BranchCard,
     positive: &BranchCard,
     third: &BranchCard,
+    taken: &TakenPair,
 ) -> Option<Bad>
-    requires { IsFilling filling.now }
+    requires filling { IsFilling filling.now }
+    requires taken { AreTakenBy filling.now.draft.parts zero.now positive.now taken.now }
     ensures { result ≡ third_fault (made_of filling.now) zero.now positive.now third.now }
 {
-    let counts = with_counts(&second_counts(filling, zero, positive), third, 0);
+    let counts = with_counts(&second_counts(filling, zero, positive, taken), third, 0);
     card_bad(&filling.nodes, &counts, third, &ValuesFrom::Card)
 }
 
-/// What refuses an entry: the first of its cards that has a fault decides.
-fn entry_fault(filling: &Filling, entry: &BranchEntry) -> Option<Bad>
-    requires { IsFilling filling.now }
-    ensures { result ≡ entry_fault (made_of filling.now) entry.now }
+/// What refuses a line: the first of its cards that has a fault decides.
+fn line_fault(
+    filling: &Filling,
+    zero: &BranchCard,
+    positive: &BranchCard,
+    third: &BranchCard,
+    taken: &TakenPair,
+) -> Option<Bad>
+    requires filling { IsFilling filling.now }
+    requires taken { AreTakenBy filling.now.draft.parts zero.now positive.now taken.now }
+    ensures { result ≡ line_fault (made_of filling.now) zero.now positive.now third.now }
 {
-    match entry {
-        BranchEntry::Single { card, .. } => first_fault(filling, card),
-        BranchEntry::Trio {
-            zero,
-            positive,
-            third,
-        } => match pair_fault(filling, zero, positive) {
-            Some(bad) => Some(bad),
-            None => third_fault(filling, zero, positive, third),
-        },
+    match pair_fault(filling, zero, positive, taken) {
+        Some(bad) => Some(bad),
+        None => third_fault(filling, zero, positive, third, taken),
     }
 }
 
@@ -331,25 +347,28 @@ fn add_pseudo(
     Ok(())
 }
 
-/// Adds the branch of a card.
+/// Adds the branch of a card, which takes these values.
 fn add_single(
     draft: &mut Draft,
     nodes: &IndexSet<Name>,
     points: &[Point],
     card: &BranchCard,
+    values: ValuesFrom,
 ) -> Result<(), Refused>
     requires nodes { nodes.now.keys ≡ draft.old.parts.nodes }
     requires sensible { IsSensibleSingle draft.old.parts card.now }
     requires single { is_phase (Ok (kind_of_values card.now.values)) ≡ false }
     requires numbers { HasNumbers draft.old.parts.run.dt card.now }
-    requires points { has_points card.now ≡ true → AreOwnPoints (is_reactor card.now.values) draft.old.parts.run.dt points.now }
+    requires points { HasOwnPoints draft.old.parts.run.dt points.now card.now }
+    requires values { values ≡ values_behind draft.old.parts card.now }
+    requires kind { IsTaken draft.old.parts (type_of_kind (kind_of_values card.now.values)) values }
     ensures ok { OnOk result (draft.new.parts ≡ with_single points.now draft.old.parts card.now) }
-    ensures history { OnOk result (history_values_of draft.new.parts ≡ history_values_of draft.old.parts + card_history 1 draft.old.parts card.now) }
+    ensures history { OnOk result (NeedsMore draft.old.parts draft.new.parts (card_history 1 draft.old.parts card.now)) }
     ensures err { IfErr result IsWant }
 {
     let from = node_number(nodes, &card.from);
     let to = node_number(nodes, &card.to);
-    match values_from(nodes, draft, card) {
+    match values {
         ValuesFrom::Card => add_own(draft, points, card, from, to)?,
         ValuesFrom::Earlier(branch) => {
             let branch = moved(draft, card.line, from, to, branch);
@@ -358,23 +377,6 @@ fn add_single(
         ValuesFrom::Missing => {}
     }
     Ok(())
-}
-
-/// The numbers of one mode of a three-phase line.
-fn numbers_for(draft: &Draft, nodes: &IndexSet<Name>, card: &BranchCard) -> LineNumbers
-    requires nodes { nodes.now.keys ≡ draft.now.parts.nodes }
-    requires line { IsLineKind (kind_of_values card.now.values) }
-    requires numbers { HasNumbers draft.now.parts.run.dt card.now }
-    requires taken { FindsValues draft.now.parts card.now }
-    ensures value { result ≡ numbers_for draft.now.parts card.now }
-    ensures there { line_numbers draft.now.parts.trios card.now.values (values_from draft.now.parts.nodes draft.now.parts.branches card.now) ≡ Some result }
-    ensures range { HasLineNumbers draft.now.parts.run.dt result.zc result.r result.delay }
-{
-    line_numbers(nodes, draft, card).unwrap_or(LineNumbers {
-        zc: 0,
-        r: 0,
-        delay: 0,
-    })
 }
 
 fn phase_for(draft: &Draft, nodes: &IndexSet<Name>, card: &BranchCard) -> Phase
@@ -390,109 +392,149 @@ fn phase_for(draft: &Draft, nodes: &IndexSet<Name>, card: &BranchCard) -> Phase
     }
 }
 
-/// Adds the three phases of a line.
+/// Adds the three phases of a line, whose cards take these values.
 fn add_phases(
     draft: &mut Draft,
-    nodes: &IndexSet<Name>,
+    taken: &TakenPair,
+    a: Phase,
+    b: Phase,
+    c: Phase,
+) -> Result<(), Refused>
+    requires room { length draft.old.parts.branches + 3 ≤ MOST_BRANCHES }
+    requires a { AreEnds (length draft.old.parts.nodes) a.from a.to }
+    requires b { AreEnds (length draft.old.parts.nodes) b.from b.to }
+    requires c { AreEnds (length draft.old.parts.nodes) c.from c.to }
+    requires numbers { HasModes draft.old.parts taken.now.zero_sequence.numbers taken.now.positive_sequence.numbers }
+    ensures ok { OnOk result (draft.new.parts ≡ with_taken draft.old.parts a b c taken.now) }
+    ensures history { OnOk result (NeedsMore draft.old.parts draft.new.parts (taken_history draft.old.parts taken.now)) }
+    ensures err { IfErr result IsWant }
+{
+    match modes_for(taken) {
+        Some(modes) => {
+            draft.add_trio(modes, a, b, c)?;
+            Ok(())
+        }
+        None => Ok(()),
+    }
+}
+
+/// How many past values the cards of a line need.
+fn taken_history(draft: &Draft, taken: &TakenPair) -> u64
+    ensures value { result ≡ taken_history draft.now.parts taken.now }
+    ensures few { result ≤ 10 ^ 18 }
+{
+    card_history(1, draft, &taken.zero_sequence) + card_history(3, draft, &taken.positive_sequence)
+}
+
+// ---- a card of one branch
+
+/// Takes a card of one branch, with its own points.
+fn take_one(filling: &mut Filling, points: &[Point], card: &BranchCard) -> Result<(), Refused>
+    requires filling { IsFilling filling.old }
+    requires nodes { HasEndNodes filling.old.nodes.keys card.now.from card.now.to }
+    requires single { is_phase (Ok (kind_of_values card.now.values)) ≡ false }
+    requires numbers { HasNumbers filling.old.draft.parts.run.dt card.now }
+    requires points { HasOwnPoints filling.old.draft.parts.run.dt points.now card.now }
+    ensures value { Fills result (take_one points.now (made_of filling.old) card.now) (made_of filling.new) }
+    ensures filling { OnOk result (IsFilling filling.new) }
+    ensures run { OnOk result (filling.new.draft.parts.run ≡ filling.old.draft.parts.run) }
+    ensures nodes { filling.new.nodes.keys ≡ filling.old.nodes.keys }
+{
+    let taken = taken_by(&filling.nodes, &filling.draft, card);
+    match first_fault(filling, card, &taken) {
+        Some(bad) => Err(Refused::Bad(bad)),
+        None => add_one(filling, points, card, &taken),
+    }
+}
+
+/// Adds the branch and the channels of a card without a fault.
+fn add_one(
+    filling: &mut Filling,
+    points: &[Point],
+    card: &BranchCard,
+    taken: &Taken,
+) -> Result<(), Refused>
+    requires filling { IsFilling filling.old }
+    requires taken { IsTakenBy filling.old.draft.parts card.now taken.now }
+    requires sensible { IsSensibleSingle filling.old.draft.parts card.now }
+    requires room { count_asked filling.old.asked + channel_count card.now.asked ≤ MOST_CHANNELS }
+    requires single { is_phase (Ok (kind_of_values card.now.values)) ≡ false }
+    requires numbers { HasNumbers filling.old.draft.parts.run.dt card.now }
+    requires points { HasOwnPoints filling.old.draft.parts.run.dt points.now card.now }
+    ensures ok { OnOk result (made_of filling.new ≡ with_one points.now (made_of filling.old) card.now) }
+    ensures err { IfErr result IsWant }
+    ensures filling { OnOk result (IsFilling filling.new) }
+    ensures run { OnOk result (filling.new.draft.parts.run ≡ filling.old.draft.parts.run) }
+    ensures nodes { filling.new.nodes.keys ≡ filling.old.nodes.keys }
+{
+    let at = filling.draft.parts.branches.len() as u32;
+    let history = card_history(1, &filling.draft, taken);
+    add_single(
+        &mut filling.draft,
+        &filling.nodes,
+        points,
+        card,
+        taken.values,
+    )?;
+    filling.history += history;
+    ask_branch(&mut filling.asked.branches, at, card)
+}
+
+// ---- a line of three phases
+
+/// Takes the cards of a line.
+fn take_line(
+    filling: &mut Filling,
     zero: &BranchCard,
     positive: &BranchCard,
     third: &BranchCard,
 ) -> Result<(), Refused>
-    requires nodes { nodes.now.keys ≡ draft.old.parts.nodes }
-    requires sensible { IsSensibleTrio draft.old.parts zero.now positive.now third.now }
-    requires trio { IsTrioEntry draft.old.parts.run zero.now positive.now }
-    ensures ok { OnOk result (draft.new.parts ≡ with_phases draft.old.parts zero.now positive.now third.now) }
-    ensures history { OnOk result (history_values_of draft.new.parts ≡ history_values_of draft.old.parts + pair_history draft.old.parts zero.now positive.now) }
-    ensures err { IfErr result IsWant }
+    requires filling { IsFilling filling.old }
+    requires nodes { HasTrioNodes filling.old.nodes.keys zero.now positive.now third.now }
+    requires trio { IsTrioEntry filling.old.draft.parts.run zero.now positive.now }
+    requires third { HasNumbers filling.old.draft.parts.run.dt third.now }
+    ensures value { Fills result (take_line (made_of filling.old) zero.now positive.now third.now) (made_of filling.new) }
+    ensures filling { OnOk result (IsFilling filling.new) }
+    ensures run { OnOk result (filling.new.draft.parts.run ≡ filling.old.draft.parts.run) }
+    ensures nodes { filling.new.nodes.keys ≡ filling.old.nodes.keys }
 {
-    let z = numbers_for(draft, nodes, zero);
-    let q = numbers_for(draft, nodes, positive);
-    let modes = Trio {
-        first: 0,
-        zc: [z.zc, q.zc],
-        r: [z.r, q.r],
-        delay: [z.delay, q.delay],
-    };
-    let a = phase_for(draft, nodes, zero);
-    let b = phase_for(draft, nodes, positive);
-    let c = phase_for(draft, nodes, third);
-    draft.add_trio(modes, a, b, c)?;
-    Ok(())
+    let taken = taken_by_pair(&filling.nodes, &filling.draft, zero, positive);
+    match line_fault(filling, zero, positive, third, &taken) {
+        Some(bad) => Err(Refused::Bad(bad)),
+        None => add_line(filling, zero, positive, third, &taken),
+    }
 }
 
-/// Adds the branches of an entry.
-fn add_branches(
-    draft: &mut Draft,
-    nodes: &IndexSet<Name>,
-    points: &[Point],
-    entry: &BranchEntry,
+/// Adds the phases and the channels of a line without a fault.
+fn add_line(
+    filling: &mut Filling,
+    zero: &BranchCard,
+    positive: &BranchCard,
+    third: &BranchCard,
+    taken: &TakenPair,
 ) -> Result<(), Refused>
-    requires nodes { nodes.now.keys ≡ draft.old.parts.nodes }
-    requires entry { IsEntry draft.old.parts.run points.now entry.now }
-    requires sensible { IsSensible draft.old.parts entry.now }
-    ensures ok { OnOk result (draft.new.parts ≡ with_branches points.now draft.old.parts entry.now) }
-    ensures history { OnOk result (history_values_of draft.new.parts ≡ history_values_of draft.old.parts + entry_history draft.old.parts entry.now) }
+    requires filling { IsFilling filling.old }
+    requires taken { AreTakenBy filling.old.draft.parts zero.now positive.now taken.now }
+    requires sensible { IsSensibleTrio filling.old.draft.parts zero.now positive.now third.now }
+    requires room { count_asked filling.old.asked + line_count zero.now positive.now third.now ≤ MOST_CHANNELS }
+    requires trio { IsTrioEntry filling.old.draft.parts.run zero.now positive.now }
+    ensures ok { OnOk result (made_of filling.new ≡ with_line (made_of filling.old) zero.now positive.now third.now) }
     ensures err { IfErr result IsWant }
+    ensures filling { OnOk result (IsFilling filling.new) }
+    ensures run { OnOk result (filling.new.draft.parts.run ≡ filling.old.draft.parts.run) }
+    ensures nodes { filling.new.nodes.keys ≡ filling.old.nodes.keys }
 {
-    match entry {
-        BranchEntry::Single { card, first, count } => {
-            add_single(draft, nodes, &points[*first..*first + *count], card)
-        }
-        BranchEntry::Trio {
-            zero,
-            positive,
-            third,
-        } => add_phases(draft, nodes, zero, positive, third),
-    }
+    let at = filling.draft.parts.branches.len() as u32;
+    let history = taken_history(&filling.draft, taken);
+    let a = phase_for(&filling.draft, &filling.nodes, zero);
+    let b = phase_for(&filling.draft, &filling.nodes, positive);
+    let c = phase_for(&filling.draft, &filling.nodes, third);
+    add_phases(&mut filling.draft, taken, a, b, c)?;
+    filling.history += history;
+    ask_line(&mut filling.asked.branches, at, zero, positive, third)
 }
 
-/// How many past values an entry needs.
-fn entry_history(filling: &Filling, entry: &BranchEntry) -> u64
-    requires { IsFilling filling.now }
-    ensures value { result ≡ entry_history filling.now.draft.parts entry.now }
-    ensures few { result ≤ 10 ^ 18 }
-{
-    let (draft, nodes) = (&filling.draft, &filling.nodes);
-    match entry {
-        BranchEntry::Single { card, .. } => card_history(1, nodes, draft, card),
-        BranchEntry::Trio { zero, positive, .. } => {
-            card_history(1, nodes, draft, zero) + card_history(3, nodes, draft, positive)
-        }
-    }
-}
-
-/// Asks for the channels of the branch at a place.
-fn ask_branch(asked: &mut Items<Channel>, at: u32, card: &BranchCard) -> Result<(), Refused>
-    ensures ok { OnOk result (asked.new ≡ asked.old ++ branch_channels at card.now) }
-    ensures err { IfErr result IsWant }
-{
-    ask(
-        asked,
-        card.asked,
-        Channel::BranchCurrent(at),
-        Channel::BranchVoltage(at),
-    )
-}
-
-/// Asks for the channels of an entry whose first branch is at a place.
-fn ask_entry(asked: &mut Items<Channel>, at: u32, entry: &BranchEntry) -> Result<(), Refused>
-    requires { at ≤ MOST_BRANCHES }
-    ensures ok { OnOk result (asked.new ≡ asked.old ++ entry_channels at entry.now) }
-    ensures err { IfErr result IsWant }
-{
-    match entry {
-        BranchEntry::Single { card, .. } => ask_branch(asked, at, card),
-        BranchEntry::Trio {
-            zero,
-            positive,
-            third,
-        } => {
-            ask_branch(asked, at, zero)?;
-            ask_branch(asked, at + 1, positive)?;
-            ask_branch(asked, at + 2, third)
-        }
-    }
-}
+// ---- all entries
 
 /// Takes an entry.
 #[tactic(auto, unfolding(crate::specs::Branches::take_entry))]
@@ -505,28 +547,16 @@ fn take_entry(filling: &mut Filling, points: &[Point], entry: &BranchEntry) -> R
     ensures run { OnOk result (filling.new.draft.parts.run ≡ filling.old.draft.parts.run) }
     ensures nodes { filling.new.nodes.keys ≡ filling.old.nodes.keys }
 {
-    if let Some(bad) = entry_fault(filling, entry) {
-        return Err(Refused::Bad(bad));
+    match entry {
+        BranchEntry::Single { card, first, count } => {
+            take_one(filling, &points[*first..*first + *count], card)
+        }
+        BranchEntry::Trio {
+            zero,
+            positive,
+            third,
+        } => take_line(filling, zero, positive, third),
     }
-    add_entry(filling, points, entry)
-}
-
-/// Adds the branches and the channels of an entry.
-fn add_entry(filling: &mut Filling, points: &[Point], entry: &BranchEntry) -> Result<(), Refused>
-    requires filling { IsFilling filling.old }
-    requires entry { IsEntry filling.old.draft.parts.run points.now entry.now }
-    requires sensible { IsSensible filling.old.draft.parts entry.now }
-    requires room { count_asked filling.old.asked + entry_count entry.now ≤ MOST_CHANNELS }
-    ensures ok { OnOk result (made_of filling.new ≡ with_entry points.now (made_of filling.old) entry.now) }
-    ensures err { IfErr result IsWant }
-    ensures filling { OnOk result (IsFilling filling.new) }
-    ensures nodes { filling.new.nodes.keys ≡ filling.old.nodes.keys }
-{
-    let at = filling.draft.parts.branches.len() as u32;
-    let history = entry_history(filling, entry);
-    add_branches(&mut filling.draft, &filling.nodes, points, entry)?;
-    filling.history += history;
-    ask_entry(&mut filling.asked.branches, at, entry)
 }
 
 /// Takes all entries, up to the first that has a fault.
@@ -557,9 +587,25 @@ pub(crate) fn pending_fault(filling: &Filling, place: &Place) -> Option<Bad>
     ensures { result ≡ pending_fault (made_of filling.now) place.now }
 {
     match place {
-        Place::Points(group) => first_fault(filling, &group.card),
-        Place::Waiting { card, .. } => first_fault(filling, card),
-        Place::Third { zero, positive, .. } => pair_fault(filling, zero, positive),
+        Place::Points(group) => pending_card(filling, &group.card),
+        Place::Waiting { card, .. } => pending_card(filling, card),
+        Place::Third { zero, positive, .. } => pending_pair(filling, zero, positive),
         _ => None,
     }
+}
+
+fn pending_card(filling: &Filling, card: &BranchCard) -> Option<Bad>
+    requires { IsFilling filling.now }
+    ensures { result ≡ first_fault (made_of filling.now) card.now }
+{
+    let taken = taken_by(&filling.nodes, &filling.draft, card);
+    first_fault(filling, card, &taken)
+}
+
+fn pending_pair(filling: &Filling, zero: &BranchCard, positive: &BranchCard) -> Option<Bad>
+    requires { IsFilling filling.now }
+    ensures { result ≡ pair_fault (made_of filling.now) zero.now positive.now }
+{
+    let taken = taken_by_pair(&filling.nodes, &filling.draft, zero, positive);
+    pair_fault(filling, zero, positive, &taken)
 }

@@ -1,14 +1,17 @@
 //! The channels that a card asks for in column 80.
 
-ghost use Rattle.emtp_case.specs.declared.limit.TheConstants.{MOST_CHANNELS, MOST_NODES};
+ghost use Rattle.emtp_case.specs.declared.limit.TheConstants.{MOST_BRANCHES, MOST_CHANNELS, MOST_NODES};
 ghost use Rattle.std.specs.Prelude.{◌≡◌, ◌≤◌, ◌++◌, IfErr, OnOk};
 ghost use Rattle.emtp_walk.specs.held.Answer.{IsWant};
 ghost use Rattle.emtp_deck.specs.Made.{count_asked, no_room};
+ghost use Rattle.emtp_deck.specs.Branches.{branch_channels};
+ghost use Rattle.emtp_deck.specs.held.Branches.{line_channels};
 ghost use Rattle.emtp_deck.specs.Channels.{channel_count, channels_of, status_of, switch_channel_count};
 
 use crate::asked::Asked;
 use emtp_card::Refused;
 use emtp_case::{Channel, Items, MOST_CHANNELS};
+use emtp_netcards::BranchCard;
 
 /// Adds what a branch or a switch asks for, its current before its voltage.
 pub(crate) fn ask(
@@ -30,6 +33,40 @@ pub(crate) fn ask(
         }
     }
     Ok(())
+}
+
+/// Asks for the channels of the branch at a place.
+pub(crate) fn ask_branch(
+    asked: &mut Items<Channel>,
+    at: u32,
+    card: &BranchCard,
+) -> Result<(), Refused>
+    ensures ok { OnOk result (asked.new ≡ asked.old ++ branch_channels at card.now) }
+    ensures err { IfErr result IsWant }
+{
+    ask(
+        asked,
+        card.asked,
+        Channel::BranchCurrent(at),
+        Channel::BranchVoltage(at),
+    )
+}
+
+/// Asks for the channels of a line whose first phase is at a place.
+pub(crate) fn ask_line(
+    asked: &mut Items<Channel>,
+    at: u32,
+    zero: &BranchCard,
+    positive: &BranchCard,
+    third: &BranchCard,
+) -> Result<(), Refused>
+    requires { at ≤ MOST_BRANCHES }
+    ensures ok { OnOk result (asked.new ≡ asked.old ++ line_channels at zero.now positive.now third.now) }
+    ensures err { IfErr result IsWant }
+{
+    ask_branch(asked, at, zero)?;
+    ask_branch(asked, at + 1, positive)?;
+    ask_branch(asked, at + 2, third)
 }
 
 /// How many channels a branch asks for.

@@ -5,8 +5,8 @@ ghost use Rattle.emtp_case.specs.declared.limit.TheConstants.{MOST_NODES};
 ghost use Rattle.std.specs.Prelude.{◌≡◌, ◌≤◌, ◌<◌, find, length};
 ghost use Rattle.emtp_case.specs.held.Branch.{IsBranch};
 ghost use Rattle.emtp_case.specs.held.Sizes.{sizes_of};
-ghost use Rattle.emtp_deck.specs.Copies.{is_like, line_numbers, missing_fault, mode_numbers, numbers_of_branch, numbers_of_card, phase_numbers, type_of_branch, type_of_kind, values_from};
-ghost use Rattle.emtp_deck.specs.held.Copies.{IsTaken};
+ghost use Rattle.emtp_deck.specs.Copies.{is_like, line_numbers, missing_fault, mode_numbers, modes_for, numbers_of_branch, numbers_of_card, phase_numbers, type_of_branch, type_of_kind, values_from};
+ghost use Rattle.emtp_deck.specs.held.Copies.{AreTakenBy, IsTaken, IsTakenBy};
 ghost use Rattle.emtp_netcards.specs.held.BranchCard.{kind_of_values};
 
 use emtp_card::{Fault, Why};
@@ -35,6 +35,24 @@ pub struct LineNumbers {
     pub r: i64,
     /// The travel time, in ps: from the time step to 10^18.
     pub delay: i64,
+}
+
+/// What a branch card takes, found once.
+#[derive(Clone, Copy)]
+pub(crate) struct Taken {
+    /// Where its values come from.
+    pub(crate) values: ValuesFrom,
+    /// The numbers of a line; none of another branch, nor where the values are missing.
+    pub(crate) numbers: Option<LineNumbers>,
+}
+
+/// What the cards -1 and -2 of a line take: the zero and the positive sequence.
+#[derive(Clone, Copy)]
+pub(crate) struct TakenPair {
+    /// What the card -1 takes.
+    pub(crate) zero_sequence: Taken,
+    /// What the card -2 takes.
+    pub(crate) positive_sequence: Taken,
 }
 
 /// The number in the type columns of the card that made a branch.
@@ -83,7 +101,7 @@ fn first_like(branches: &[Branch], number: i64, from: u32, to: u32) -> Option<Br
 }
 
 /// Where a card's values come from, behind the branches of a draft.
-pub(crate) fn values_from(names: &IndexSet<Name>, draft: &Draft, card: &BranchCard) -> ValuesFrom
+fn values_from(names: &IndexSet<Name>, draft: &Draft, card: &BranchCard) -> ValuesFrom
     requires { length names.now.keys ≤ MOST_NODES }
     ensures value { result ≡ values_from names.now.keys draft.now.parts.branches card.now }
     ensures taken { IsTaken draft.now.parts (type_of_kind (kind_of_values card.now.values)) result }
@@ -163,18 +181,57 @@ fn numbers_of_card(values: &BranchValues) -> Option<LineNumbers>
     }
 }
 
-/// The numbers that a line's card gives its branch.
-pub(crate) fn line_numbers(
-    names: &IndexSet<Name>,
-    draft: &Draft,
-    card: &BranchCard,
-) -> Option<LineNumbers>
-    requires { length names.now.keys ≤ MOST_NODES }
-    ensures { result ≡ line_numbers draft.now.parts.trios card.now.values (values_from names.now.keys draft.now.parts.branches card.now) }
+/// The numbers that a line's card gives its branch, given where its values come from.
+fn line_numbers(draft: &Draft, card: &BranchCard, values: &ValuesFrom) -> Option<LineNumbers>
+    requires { IsTaken draft.now.parts (type_of_kind (kind_of_values card.now.values)) values.now }
+    ensures { result ≡ line_numbers draft.now.parts.trios card.now.values values.now }
 {
-    match values_from(names, draft, card) {
+    match values {
         ValuesFrom::Card => numbers_of_card(&card.values),
-        ValuesFrom::Earlier(branch) => numbers_of_branch(draft, &branch),
+        ValuesFrom::Earlier(branch) => numbers_of_branch(draft, branch),
         ValuesFrom::Missing => None,
+    }
+}
+
+/// What a card takes, behind the branches of a draft.
+pub(crate) fn taken_by(nodes: &IndexSet<Name>, draft: &Draft, card: &BranchCard) -> Taken
+    requires { nodes.now.keys ≡ draft.now.parts.nodes }
+    ensures { IsTakenBy draft.now.parts card.now result }
+{
+    let values = values_from(nodes, draft, card);
+    let numbers = line_numbers(draft, card, &values);
+    Taken { values, numbers }
+}
+
+/// What the cards -1 and -2 of a line take.
+pub(crate) fn taken_by_pair(
+    nodes: &IndexSet<Name>,
+    draft: &Draft,
+    zero: &BranchCard,
+    positive: &BranchCard,
+) -> TakenPair
+    requires { nodes.now.keys ≡ draft.now.parts.nodes }
+    ensures { AreTakenBy draft.now.parts zero.now positive.now result }
+{
+    let z = taken_by(nodes, draft, zero);
+    let q = taken_by(nodes, draft, positive);
+    TakenPair {
+        zero_sequence: z,
+        positive_sequence: q,
+    }
+}
+
+/// The modes of a line whose cards have numbers. Their first branch isn't placed yet.
+pub(crate) fn modes_for(taken: &TakenPair) -> Option<Trio>
+    ensures { result ≡ modes_for taken.now.zero_sequence.numbers taken.now.positive_sequence.numbers }
+{
+    match (taken.zero_sequence.numbers, taken.positive_sequence.numbers) {
+        (Some(z), Some(q)) => Some(Trio {
+            first: 0,
+            zc: [z.zc, q.zc],
+            r: [z.r, q.r],
+            delay: [z.delay, q.delay],
+        }),
+        _ => None,
     }
 }

@@ -6,7 +6,7 @@ use Rattle.emtp_case.specs.declared.branch.Point.{Point}
 use Rattle.emtp_case.specs.declared.case.Parts.{Parts}
 use Rattle.emtp_case.specs.declared.channel.Channel.{Channel}
 use Rattle.emtp_deck.specs.Branches.{first_counts, second_counts, with_counts, with_entry}
-use Rattle.emtp_deck.specs.Copies.{values_from}
+use Rattle.emtp_deck.specs.Copies.{values_behind}
 use Rattle.emtp_deck.specs.Deck.{control_made}
 use Rattle.emtp_deck.specs.Made.{Made}
 use Rattle.emtp_deck.specs.Outputs.{node_channels}
@@ -138,13 +138,11 @@ made_tacs_outputs m (e ∷ es) = made_tacs_outputs (made_names channel_of_variab
 
 abbrev pub judged_first : Made → BranchCard → Judged
 judged_first m card =
-    record { line = card.line; faults = branch_faults m.parts.nodes (first_counts m card) card (values_from m.parts.nodes m.parts.branches card) }
+    record { line = card.line; faults = branch_faults m.parts.nodes (first_counts m card) card (values_behind m.parts card) }
 
 abbrev pub judged_second : Made → BranchCard → BranchCard → Judged
-judged_second m zero' positive = record {
-  line = positive.line;
-  faults = branch_faults m.parts.nodes (second_counts m zero' positive) positive (values_from m.parts.nodes m.parts.branches positive);
-}
+judged_second m zero' positive =
+    record { line = positive.line; faults = branch_faults m.parts.nodes (second_counts m zero' positive) positive (values_behind m.parts positive) }
 
 abbrev pub judged_third : Made → BranchCard → BranchCard → BranchCard → Judged
 judged_third m zero' positive third =
