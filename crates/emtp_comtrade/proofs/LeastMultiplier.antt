@@ -4,6 +4,7 @@ use Rattle.std.proofs.Math.Nat.{pow-le-pow_right, one-le-pow, pow-suc}
 use Rattle.std.proofs.lemmas.Bool.{cases_order}
 use Rattle.emtp_comtrade.specs.Multiplier.{multiplier_in, multiplier_from, multiplier_of}
 use Rattle.emtp_comtrade.specs.held.Multiplier.{IsOneTwoFive, IsMultiplier}
+use Rattle.emtp_comtrade.specs.declared.limit.TheConstants.{LARGEST_MULTIPLIER, LARGEST_POWER}
 
 -- ---- the search
 
@@ -31,13 +32,13 @@ pub multiplier_of-start : (greatest : ℕ) → multiplier_of greatest ≡ multip
 unfolding multiplier_of
 multiplier_of-start greatest = refl
 
-pub multiplier_from-end : (power greatest : ℕ) → 15 ≤ power → power ≤ 15 → multiplier_from (15 - power) power greatest ≡ 10 ^ 15
+pub multiplier_from-end : (power greatest : ℕ) → 15 ≤ power → power ≤ 15 → multiplier_from (15 - power) power greatest ≡ LARGEST_MULTIPLIER
 unfolding multiplier_from
 multiplier_from-end power greatest least most =
     let is : power ≡ 15 = omega arith in
     ap (λ (n : ℕ). multiplier_from (15 - n) n greatest) is
 
-pub power-bound : (power : ℕ) → power ≤ 14 → 10 ^ power ≤ 10 ^ 14
+pub power-bound : (power : ℕ) → power ≤ 14 → 10 ^ power ≤ LARGEST_POWER
 power-bound power few = pow-le-pow_right {n = 10} (omega arith) few
 
 pub ruleset searching = (multiplier_of-start, multiplier_from-here, multiplier_from-next, multiplier_from-end)

@@ -13,6 +13,7 @@
 
 mod configuration;
 mod data;
+mod limit;
 mod multiplier;
 mod multipliers;
 mod stream;
@@ -20,4 +21,5 @@ mod text;
 
 pub use configuration::{analog_count, status_count, unit_at, write_cfg};
 pub use data::{raw_value, write_dat};
+pub use limit::LARGEST_MULTIPLIER;
 pub use multipliers::{is_status_at, scales};

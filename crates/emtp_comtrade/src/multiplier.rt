@@ -1,7 +1,10 @@
 //! The multiplier of an analog channel.
 ghost use Rattle.std.specs.Prelude.{◌≡◌, ◌≤◌, ◌^◌, IfSome};
+ghost use Rattle.emtp_comtrade.specs.declared.limit.TheConstants.{LARGEST_MULTIPLIER, LARGEST_POWER};
 ghost use Rattle.emtp_comtrade.specs.Multiplier.{multiplier_in, multiplier_of};
 ghost use Rattle.emtp_comtrade.specs.held.Multiplier.{IsMultiplier};
+
+use crate::limit::LARGEST_MULTIPLIER;
 
 /// The least of 1, 2 and 5 times a power of ten by which a magnitude is held in 16 bits.
 #[tactic(auto, using(crate::proofs::LeastMultiplier::searching))]
@@ -9,22 +12,21 @@ pub fn least_multiplier(greatest: u64) -> u64
     requires { greatest ≤ 2 ^ 63 }
     ensures value { result ≡ multiplier_of greatest }
     ensures least { IsMultiplier greatest result }
-    ensures bound { result ≤ 10 ^ 15 }
+    ensures bound { result ≤ LARGEST_MULTIPLIER }
 {
     for power in 0..15 {
         if let Some(multiplier) = multiplier_in(greatest, power_of_ten(power)) {
             return multiplier;
         }
     }
-    // 32,767 times this exceeds 2^63, so that nothing greater is needed.
-    1_000_000_000_000_000
+    LARGEST_MULTIPLIER
 }
 
 /// The first of 1, 2 and 5 units that holds the magnitude.
 fn multiplier_in(greatest: u64, unit: u64) -> Option<u64>
-    requires { unit ≤ 10 ^ 14 }
+    requires { unit ≤ LARGEST_POWER }
     ensures value { result ≡ multiplier_in unit greatest }
-    ensures bound { IfSome result (λ multiplier. multiplier ≤ 10 ^ 15) }
+    ensures bound { IfSome result (λ multiplier. multiplier ≤ LARGEST_MULTIPLIER) }
 {
     if greatest <= 32767 * unit {
         Some(unit)
@@ -41,7 +43,7 @@ fn multiplier_in(greatest: u64, unit: u64) -> Option<u64>
 fn power_of_ten(power: u32) -> u64
     requires { power ≤ 14 }
     ensures value { result ≡ 10 ^ power }
-    ensures bound { result ≤ 10 ^ 14 }
+    ensures bound { result ≤ LARGEST_POWER }
 {
     10u64.pow(power)
 }

@@ -3,6 +3,7 @@ use Rattle.emtp_comtrade.specs.Multiplier.{multiplier_in, multiplier_of}
 use Rattle.emtp_comtrade.specs.held.Multiplier.{IsMultiplier}
 use Rattle.emtp_comtrade.proofs.LeastMultiplier.{multiplier_from-here, multiplier_from-end, IsMultiplier-multiplier_of}
 use Rattle.emtp_comtrade.proofs.multiplier.least_multiplier.Goals as goal
+use Rattle.emtp_comtrade.specs.declared.limit.TheConstants.{LARGEST_MULTIPLIER}
 
 pub returns-in-Some-clause-value : goal.returns-in-Some-clause-value
 returns-in-Some-clause-value c =
@@ -19,6 +20,6 @@ returns-in-Some-clause-least c =
 
 pub returns-clause-least : goal.returns-clause-least
 returns-clause-least c =
-    let is : multiplier_of c.args.greatest ≡ 10 ^ 15 =
+    let is : multiplier_of c.args.greatest ≡ LARGEST_MULTIPLIER =
     c.loop-power.invariant ∙ multiplier_from-end c.loop-power.power c.args.greatest c.loop-power-test.false c.loop-power.auto.power-end in
     subst (IsMultiplier c.args.greatest) is (IsMultiplier-multiplier_of c.args.greatest c.requires)
