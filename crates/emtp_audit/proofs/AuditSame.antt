@@ -27,6 +27,7 @@ use Rattle.emtp_audit.proofs.DatFile.{dat-same, short_enough}
 use Rattle.emtp_audit.proofs.CfgFile.{AreSmall, cfg_lines, makes-cfg, audited-cfg}
 use Rattle.emtp_audit.proofs.CfgSame.{rates-none, scaled-cfg}
 use Rattle.emtp_audit.proofs.CfgShort.{cfg_text-short}
+use Rattle.emtp_audit.specs.declared.limit.TheConstants.{LARGEST_UNIT}
 
 -- ---- values in range
 
@@ -61,12 +62,12 @@ are-held p rows samples sample place there place_there analog =
 
 -- ---- the time of a sample step
 
--- a number of ps from 1 to 10^18
+-- a number of ps from 1 to the greatest unit
 record IsUnit (p : Parts) : Type 0 where
   unit : ℕ
   is : step_of p ≡ pos unit
   some : 1 ≤ unit
-  most : unit ≤ 10 ^ 18
+  most : unit ≤ LARGEST_UNIT
 
 unit_of : (p : Parts) → IsCase p → IsUnit p
 unit_of p is =
@@ -85,7 +86,7 @@ unit_of p is =
     at_least : (a b : ℕ) → 1 ≤ a → 1 ≤ b → 1 ≤ a * b
     at_least a b h k = let times : 1 * b ≤ a * b = mul-le-mul_right b h in omega (arith, times)
 
-    at_most : (a b : ℕ) → a ≤ 1000000 → b ≤ 10 ^ 12 → a * b ≤ 10 ^ 18
+    at_most : (a b : ℕ) → a ≤ 1000000 → b ≤ 10 ^ 12 → a * b ≤ LARGEST_UNIT
     at_most a b h k = let times : a * b ≤ 1000000 * b = mul-le-mul_right b h in omega (arith, times)
 
 -- ---- the files

@@ -21,6 +21,7 @@ use Rattle.emtp_audit.proofs.Plain.{ArePlain, trimmed-plain, plain-digits, plain
 use Rattle.emtp_audit.proofs.Whole.{decimal-digits, whole-decimal}
 use Rattle.emtp_audit.proofs.Decimals.{fixed-read, fixed_text-plus}
 use Rattle.emtp_audit.proofs.Tests.{same_int, not_less}
+use Rattle.emtp_audit.specs.declared.limit.TheConstants.{LARGEST_SCALE, LARGEST_UNIT}
 
 -- ---- texts
 
@@ -98,16 +99,16 @@ decimal_in-fixed x places scale limit small few fine within =
     ∙ ap (λ t. found (cond t (Err OutOfUnitRange) (Ok (pos (x * 10 ^ (scale - places)))))) (not_less limit (x * 10 ^ (scale - places)) within)
 
 pub scale_number-fixed : (multiplier : ℕ) → multiplier ≤ 10 ^ 15 → scale_number (trimmed (fixed_text (pos multiplier) 9)) ≡ Some (pos (multiplier * 10 ^ 9))
-scale_number-fixed multiplier small = decimal_in-fixed multiplier 9 18 (10 ^ 28) (omega arith) (omega arith) (omega arith) (omega arith)
+scale_number-fixed multiplier small = decimal_in-fixed multiplier 9 18 LARGEST_SCALE (omega arith) (omega arith) (omega arith) (omega arith)
 
-pub unit_number-fixed : (unit : ℕ) → 1 ≤ unit → unit ≤ 10 ^ 18 → unit_number (trimmed (fixed_text (pos unit) 6)) ≡ Some (pos unit)
+pub unit_number-fixed : (unit : ℕ) → 1 ≤ unit → unit ≤ LARGEST_UNIT → unit_number (trimmed (fixed_text (pos unit) 6)) ≡ Some (pos unit)
 unit_number-fixed unit some few =
-    ap (from_to (pos 1) (pos (10 ^ 18))) (decimal_in-fixed unit 6 6 (10 ^ 18) (omega arith) (omega arith) (omega arith) (omega arith))
-    ∙ ap (λ (n : ℕ). from_to (pos 1) (pos (10 ^ 18)) (Some (pos n))) (once unit)
+    ap (from_to (pos 1) (pos LARGEST_UNIT)) (decimal_in-fixed unit 6 6 LARGEST_UNIT (omega arith) (omega arith) (omega arith) (omega arith))
+    ∙ ap (λ (n : ℕ). from_to (pos 1) (pos LARGEST_UNIT) (Some (pos n))) (once unit)
     ∙ ap (λ t. cond t None (Some (pos unit))) (in_it unit some few)
   where
     once : (n : ℕ) → n * 10 ^ (6 - 6) ≡ n
     once n = omega arith
 
-    in_it : (n : ℕ) → 1 ≤ n → n ≤ 10 ^ 18 → (int_lt (pos n) (pos 1) || int_lt (pos (10 ^ 18)) (pos n)) ≡ false
+    in_it : (n : ℕ) → 1 ≤ n → n ≤ LARGEST_UNIT → (int_lt (pos n) (pos 1) || int_lt (pos LARGEST_UNIT) (pos n)) ≡ false
     in_it n h k = grind (arith, ints)

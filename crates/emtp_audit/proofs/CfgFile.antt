@@ -31,6 +31,7 @@ use Rattle.emtp_audit.proofs.Matches.{MeetsLine, meets-pieces, Makes, makes-none
 use Rattle.emtp_comtrade.proofs.Places.{count_below-le}
 use Rattle.emtp_audit.proofs.CfgPlaces.{length-analog, length-status, each-is-one}
 use Rattle.emtp_audit.proofs.DatLines.{number_is-decimal, padding-digits}
+use Rattle.emtp_audit.specs.declared.limit.TheConstants.{LARGEST_UNIT}
 
 -- ---- the head
 
@@ -145,12 +146,12 @@ ascii : letters_are (codes "ASCII") (trimmed (codes "ASCII")) ≡ None
 unfolding trimmed
 ascii = refl
 
-solid-fixed : (unit : ℕ) → unit ≤ 10 ^ 18 → is_padding (fixed_text (pos unit) 6) ≡ false
+solid-fixed : (unit : ℕ) → unit ≤ LARGEST_UNIT → is_padding (fixed_text (pos unit) 6) ≡ false
 solid-fixed unit few =
     let q_small : unit / 10 ^ 6 < 2 ^ 64 = omega (arith, div-le_self unit (10 ^ 6)) in
     ap is_padding (fixed_text-plus unit 6) ∙ padding-digits (decimal (unit / 10 ^ 6)) (point_fraction 6 (unit % 10 ^ 6)) (decimal-digits (unit / 10 ^ 6) q_small) (decimal_nonempty (unit / 10 ^ 6) q_small)
 
-makes-tail : (p : Parts) (count unit : ℕ) → step_of p ≡ pos unit → count ≤ 1000001 → 1 ≤ unit → unit ≤ 10 ^ 18
+makes-tail : (p : Parts) (count unit : ℕ) → step_of p ≡ pos unit → count ≤ 1000001 → 1 ≤ unit → unit ≤ LARGEST_UNIT
     → Makes (cfg_tail p count) (middle_rules count 0 ++ end_rules) (tail_lines count unit)
 makes-tail p count unit is few some small =
     subst (λ (text : List ℕ). Makes text (middle_rules count 0 ++ end_rules) (tail_lines count unit)) (sym (tail-ended p count unit is))
@@ -173,7 +174,7 @@ abbrev pub cfg_lines : Parts → List (List ℤ) → ℕ → List (List ℕ)
 cfg_lines p rows unit =
     head_lines p ++ (joined (length p.channels) (analog_lines_at p rows) ++ (joined (length p.channels) (status_lines_at p) ++ tail_lines (length rows) unit))
 
-pub makes-cfg : (p : Parts) (rows : List (List ℤ)) (unit : ℕ) → IsCase p → AreSmall p rows → step_of p ≡ pos unit → length rows ≤ 1000001 → 1 ≤ unit → unit ≤ 10 ^ 18
+pub makes-cfg : (p : Parts) (rows : List (List ℤ)) (unit : ℕ) → IsCase p → AreSmall p rows → step_of p ≡ pos unit → length rows ≤ 1000001 → 1 ≤ unit → unit ≤ LARGEST_UNIT
     → Makes (cfg_text p rows) (cfg_rules p (length rows) 0) (cfg_lines p rows unit)
 unfolding cfg_text
 makes-cfg p rows unit is small step few some most =

@@ -12,6 +12,7 @@ use Rattle.emtp_audit.specs.declared.scale.Scale.{Scale}
 use Rattle.emtp_audit.proofs.DatFile.{short_enough}
 use Rattle.emtp_audit.proofs.Joined.{length-joined, joined-same}
 use Rattle.emtp_audit.proofs.LineWalks.{behind-both}
+use Rattle.emtp_audit.specs.declared.limit.TheConstants.{MOST_BYTES}
 
 -- ---- channels
 
@@ -105,7 +106,7 @@ behind-rates rates count all mid rest first second =
 
 -- ---- the file
 
-pub cfg-start : (p : Parts) (count : ℕ) (bytes : List ℕ) (start : LinesLeft) (found : Option Differs) → length bytes ≤ 64000000
+pub cfg-start : (p : Parts) (count : ℕ) (bytes : List ℕ) (start : LinesLeft) (found : Option Differs) → length bytes ≤ MOST_BYTES
     → start ≡ record { taken = 0; lines = audited_lines bytes } → finds_lines start (cfg_rules p count (rates_in p (audited_lines bytes))) ≡ found → cfg_differs p count bytes ≡ found
 unfolding cfg_differs
 cfg-start p count bytes start found short is finds =

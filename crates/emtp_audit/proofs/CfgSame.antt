@@ -23,6 +23,7 @@ use Rattle.emtp_audit.proofs.CfgLines.{piece-plain, analog_pieces, analog_body, 
 use Rattle.emtp_audit.proofs.CfgFile.{analog_lines_at, status_lines_at, tail_lines, cfg_lines, AreSmall, makes-cfg, audited-cfg, tail-at}
 use Rattle.emtp_audit.proofs.CfgPlaces.{length-analog}
 use Rattle.emtp_audit.proofs.DatLines.{scale_by, IsScaledBy}
+use Rattle.emtp_audit.specs.declared.limit.TheConstants.{LARGEST_UNIT}
 
 -- ---- the sampling rates, and the unit of time stamps
 
@@ -38,7 +39,7 @@ rates-none p rows unit =
     place : (n : ℕ) → n + 3 ≡ n + 2 + 1
     place n = omega arith
 
-pub unit-read : (p : Parts) (rows : List (List ℤ)) (unit : ℕ) → 1 ≤ unit → unit ≤ 10 ^ 18 → unit_in p (cfg_lines p rows unit) ≡ pos unit
+pub unit-read : (p : Parts) (rows : List (List ℤ)) (unit : ℕ) → 1 ≤ unit → unit ≤ LARGEST_UNIT → unit_in p (cfg_lines p rows unit) ≡ pos unit
 unfolding unit_on
 unit-read p rows unit some few =
     ap (λ (r : ℕ). unit_on (get_or (cfg_lines p rows unit) (length p.channels + 7 + max r 1) [])) (rates-none p rows unit)
@@ -108,7 +109,7 @@ scale-read p rows unit place is small there analog =
     two : (k : ℕ) → 2 + k ≡ suc (suc k)
     two k = omega arith
 
-pub scaled-cfg : (p : Parts) (rows : List (List ℤ)) (unit : ℕ) → IsCase p → AreSmall p rows → step_of p ≡ pos unit → length rows ≤ 1000001 → 1 ≤ unit → unit ≤ 10 ^ 18
+pub scaled-cfg : (p : Parts) (rows : List (List ℤ)) (unit : ℕ) → IsCase p → AreSmall p rows → step_of p ≡ pos unit → length rows ≤ 1000001 → 1 ≤ unit → unit ≤ LARGEST_UNIT
     → IsScaledBy p rows (scales_in p (cfg_text p rows))
 unfolding scales_in
 scaled-cfg p rows unit is small step few some most =

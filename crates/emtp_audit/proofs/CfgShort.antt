@@ -18,6 +18,7 @@ use Rattle.emtp_audit.proofs.CfgLines.{analog_line-ended, status_line-ended}
 use Rattle.emtp_audit.proofs.CfgFile.{numbers_body, head-ended, date, tail-ended, AreSmall}
 use Rattle.emtp_comtrade.proofs.Places.{count_below-le}
 use Rattle.emtp_audit.proofs.DatFile.{length-joined-le}
+use Rattle.emtp_audit.specs.declared.limit.TheConstants.{LARGEST_UNIT, MOST_BYTES}
 
 unit-short : (cs : List Channel) (place : ℕ) → length (get_or (map unit_of cs) place []) ≤ 2
 unit-short [] place = omega arith
@@ -92,15 +93,15 @@ head-short p few =
     parts : (n a s : List ℕ) → length (with_commas n ((a ++ codes "A") ∷ (s ++ codes "D") ∷ [])) ≡ length n + length a + length s + 4
     parts n a s = omega (arith, length-append n (44 ∷ ((a ++ codes "A") ++ 44 ∷ (s ++ codes "D"))), length-append (a ++ codes "A") (44 ∷ (s ++ codes "D")), length-append a (codes "A"), length-append s (codes "D"))
 
-tail-short : (p : Parts) (count unit : ℕ) → step_of p ≡ pos unit → count ≤ 1000001 → unit ≤ 10 ^ 18 → length (cfg_tail p count) ≤ 200
+tail-short : (p : Parts) (count unit : ℕ) → step_of p ≡ pos unit → count ≤ 1000001 → unit ≤ LARGEST_UNIT → length (cfg_tail p count) ≤ 200
 tail-short p count unit step few small =
     omega (arith, ap length (tail-ended p count unit step), parts (decimal count) (fixed_text (pos unit) 6), length-decimal-le 7 count (omega arith) (omega arith) (omega arith), length-fixed unit 6 (omega arith))
   where
     parts : (c f : List ℕ) → length (ended (codes "60") ++ (ended (codes "0") ++ (ended (codes "0," ++ c) ++ (ended date ++ (ended date ++ (ended (codes "ASCII") ++ ended f)))))) ≡ length c + length f + 76
     parts c f = omega (arith, length-append (c ++ 13 ∷ 10 ∷ []) (ended date ++ (ended date ++ (ended (codes "ASCII") ++ ended f))), length-append c (13 ∷ 10 ∷ []), length-append f (13 ∷ 10 ∷ []))
 
-pub cfg_text-short : (p : Parts) (rows : List (List ℤ)) (unit : ℕ) → IsCase p → AreSmall p rows → step_of p ≡ pos unit → length rows ≤ 1000001 → unit ≤ 10 ^ 18
-    → length (cfg_text p rows) ≤ 64000000
+pub cfg_text-short : (p : Parts) (rows : List (List ℤ)) (unit : ℕ) → IsCase p → AreSmall p rows → step_of p ≡ pos unit → length rows ≤ 1000001 → unit ≤ LARGEST_UNIT
+    → length (cfg_text p rows) ≤ MOST_BYTES
 unfolding cfg_text
 cfg_text-short p rows unit is small step few most =
     let n = length p.channels in

@@ -23,6 +23,7 @@ use Rattle.emtp_audit.proofs.Whole.{decimal-digits, stamp-decimal}
 use Rattle.emtp_audit.proofs.Matches.{Makes, makes-line, makes-joined, makes-none_differ}
 use Rattle.emtp_audit.proofs.Tests.{not_less}
 use Rattle.emtp_audit.proofs.DatLines.{dat_tail, dat_body, dat_line-ended, meets-dat, IsScaledBy, AreHeld, adds-values}
+use Rattle.emtp_audit.specs.declared.limit.TheConstants.{MOST_BYTES}
 
 -- ---- the lines
 
@@ -122,7 +123,7 @@ dat_line-short p rows sample held few there =
     parts a b c d = omega (arith, length-append (a ++ (44 ∷ b ++ (c ++ d))) (13 ∷ 10 ∷ []), length-append a (44 ∷ b ++ (c ++ d)), length-append b (c ++ d), length-append c d)
 
 pub dat_text-short : (p : Parts) (rows : List (List ℤ)) → AreHeld p rows → length rows ≤ 1000001 → length p.channels * length rows ≤ 4000000
-    → length (dat_text p rows) ≤ 64000000
+    → length (dat_text p rows) ≤ MOST_BYTES
 unfolding dat_text
 dat_text-short p rows held few stored =
     let lines = length-joined-le (length rows) (17 + 9 * length p.channels) (dat_line p rows) (λ sample there. dat_line-short p rows sample held few there) in
@@ -134,8 +135,8 @@ dat_text-short p rows held few stored =
 
 -- ---- the file
 
-pub short_enough : (dat : Bool) (rules : List LineRule) (bytes : List ℕ) → length bytes ≤ 64000000 → file_differs dat rules bytes ≡ lines_differ dat 1 rules (audited_lines bytes)
-short_enough dat rules bytes short = ap (λ t. cond t (differs_at dat 0 0 Long) (lines_differ dat 1 rules (audited_lines bytes))) (not_less 64000000 (length bytes) short)
+pub short_enough : (dat : Bool) (rules : List LineRule) (bytes : List ℕ) → length bytes ≤ MOST_BYTES → file_differs dat rules bytes ≡ lines_differ dat 1 rules (audited_lines bytes)
+short_enough dat rules bytes short = ap (λ t. cond t (differs_at dat 0 0 Long) (lines_differ dat 1 rules (audited_lines bytes))) (not_less MOST_BYTES (length bytes) short)
 
 mark : list_all is_padding (lines_of (26 ∷ [])) ≡ true
 unfolding lines_of

@@ -1,5 +1,5 @@
 -- What the lines of the configuration have to be.
-use Rattle.std.specs.Prelude.{ℕ, ◌+◌, ◌-◌, ◌^◌, ◌==◌, max, ℤ, pos, int_lt, unsigned_abs, true, false, ◌&&◌, ◌||◌, List, [], ◌∷◌, ◌++◌, length, map, take, replicate, slice_index_or, codes, Option, Some, None, unwrap_or, if◌then◌else◌}
+use Rattle.std.specs.Prelude.{ℕ, ◌+◌, ◌-◌, ◌==◌, max, ℤ, pos, int_lt, unsigned_abs, true, false, ◌&&◌, ◌||◌, List, [], ◌∷◌, ◌++◌, length, map, take, replicate, slice_index_or, codes, Option, Some, None, unwrap_or, if◌then◌else◌}
 use Rattle.std.specs.Char.{to_ascii_lowercase, to_ascii_uppercase}
 use Rattle.std.specs.Ordering.{int_eq}
 use Rattle.std.specs.Str.{bytes_eq}
@@ -13,6 +13,7 @@ use Rattle.emtp_audit.specs.Dat.{Scales, scales_of}
 use Rattle.emtp_audit.specs.declared.differs.DifferCause.{DifferCause}
 use Rattle.emtp_audit.specs.declared.differs.Differs.{Differs}
 use Rattle.emtp_audit.specs.declared.scale.Scale.{Scale}
+use Rattle.emtp_audit.specs.declared.limit.TheConstants.{LARGEST_SCALE, LARGEST_UNIT}
 
 -- ---- fields
 
@@ -36,7 +37,7 @@ from_to low high (Some number) = if int_lt number low || int_lt high number then
 
 -- a or b of a scale, in 1e-18
 abbrev pub scale_number : List ℕ → Option ℤ
-scale_number field = decimal_in (pos 18) (pos (10 ^ 28)) field
+scale_number field = decimal_in (pos 18) (pos LARGEST_SCALE) field
 
 -- how many sampling rates
 abbrev pub rates_number : List ℕ → Option ℤ
@@ -44,7 +45,7 @@ rates_number field = from_to (pos 0) (pos 10) (whole_of field)
 
 -- the unit of time stamps, in ps; the file gives it in microseconds
 abbrev pub unit_number : List ℕ → Option ℤ
-unit_number field = from_to (pos 1) (pos (10 ^ 18)) (decimal_in (pos 6) (pos (10 ^ 18)) field)
+unit_number field = from_to (pos 1) (pos LARGEST_UNIT) (decimal_in (pos 6) (pos LARGEST_UNIT) field)
 
 -- ---- lines
 

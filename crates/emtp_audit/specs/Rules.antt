@@ -10,6 +10,7 @@ use Rattle.emtp_card.specs.Name.{is_comma}
 use Rattle.emtp_audit.specs.declared.differs.DifferCause.{DifferCause}
 use Rattle.emtp_audit.specs.declared.differs.DifferCause.TheVariants.{Missing, Extra, NotNumber, Wrong, Long}
 use Rattle.emtp_audit.specs.declared.differs.Differs.{Differs}
+use Rattle.emtp_audit.specs.declared.limit.TheConstants.{MOST_BYTES}
 
 -- ---- lines and fields
 
@@ -100,4 +101,4 @@ lines_differ dat number (rule ∷ rules) (line ∷ lines) =
 -- a file against its rules
 abbrev pub file_differs : Bool → List LineRule → List ℕ → Option Differs
 file_differs dat rules bytes =
-    if nat_lt 64000000 (length bytes) then differs_at dat 0 0 Long else lines_differ dat 1 rules (audited_lines bytes)
+    if nat_lt MOST_BYTES (length bytes) then differs_at dat 0 0 Long else lines_differ dat 1 rules (audited_lines bytes)

@@ -1,15 +1,17 @@
 //! The comparison of the configuration, and what it says of the data.
-ghost use Rattle.std.specs.Prelude.{◌≡◌, ◌+◌, ◌-◌, ◌<◌, ◌^◌, ◌≤ℤ◌, ◌++◌, [], ◌∷◌, None, Some, All, length, max, pos, IfOk, IfErr, OnOk};
+ghost use Rattle.std.specs.Prelude.{◌≡◌, ◌+◌, ◌-◌, ◌<◌, ◌≤ℤ◌, ◌++◌, [], ◌∷◌, None, Some, All, length, max, pos, IfOk, IfErr, OnOk};
 ghost use Rattle.emtp_comtrade.specs.Record.{joined, analog_before, status_before};
 ghost use Rattle.emtp_audit.specs.Cfg.{head_rules, numbers_rule, analog_rule_at, status_rule_at, middle_rules, rate_rule, rate_rules, date_rules, end_rules, file_line, rates_on, unit_on, scales_in, cfg_differs};
 ghost use Rattle.emtp_audit.specs.held.Cfg.{analog_scales_on, scales_at};
 ghost use Rattle.emtp_audit.specs.held.Dat.{told_by, IsScale};
 ghost use Rattle.emtp_audit.specs.held.Walk.{finds_lines, difference_in, Passes, StopsAt, OnDiffers};
+ghost use Rattle.emtp_audit.specs.declared.limit.TheConstants.{LARGEST_UNIT};
 
 use crate::cfg_lines::{read_rates, read_scale, read_unit};
 use crate::check::Check;
 use crate::differs::{AuditFault, DifferCause, Differs};
-use crate::lines::{Lines, MOST_BYTES, walk_any, walk_line};
+use crate::limit::MOST_BYTES;
+use crate::lines::{Lines, walk_any, walk_line};
 use crate::scale::{Cfg, Scale};
 use emtp_case::Case;
 use emtp_comtrade::{analog_count, is_status_at, status_count};
@@ -26,7 +28,7 @@ pub fn read_cfg(alloc: Global, bytes: &[u8], case: &Case, count: u32) -> Result<
         ≡ analog_before case.now.parts (length case.now.parts.channels)) }
     ensures scales { IfOk result (λ cfg. All IsScale cfg.scales.items) }
     ensures least { IfOk result (λ cfg. pos 1 ≤ℤ cfg.multiplier) }
-    ensures most { IfOk result (λ cfg. cfg.multiplier ≤ℤ pos (10 ^ 18)) }
+    ensures most { IfOk result (λ cfg. cfg.multiplier ≤ℤ pos LARGEST_UNIT) }
 {
     if bytes.len() > MOST_BYTES {
         return Err(AuditFault::Differs(Differs {
@@ -195,7 +197,7 @@ fn read_end(mut lines: Lines<'_>, count: u32) -> Result<i64, Differs>
     ensures value { let rates = rates_on (file_line lines.entry.lines 1) in
         IfOk result (λ unit. unit ≡ unit_on (file_line lines.entry.lines (5 + max rates 1))) }
     ensures least { IfOk result (λ unit. pos 1 ≤ℤ unit) }
-    ensures most { IfOk result (λ unit. unit ≤ℤ pos (10 ^ 18)) }
+    ensures most { IfOk result (λ unit. unit ≤ℤ pos LARGEST_UNIT) }
 {
     match walk_any(&mut lines) {
         Ok(()) => {}
@@ -212,7 +214,7 @@ fn read_times(mut lines: Lines<'_>, count: u32, rates: u32) -> Result<i64, Diffe
     ensures same { finds_lines lines.entry (rate_rules rates count ++ end_rules) ≡ difference_in result }
     ensures value { IfOk result (λ unit. unit ≡ unit_on (file_line lines.entry.lines (3 + max rates 1))) }
     ensures least { IfOk result (λ unit. pos 1 ≤ℤ unit) }
-    ensures most { IfOk result (λ unit. unit ≤ℤ pos (10 ^ 18)) }
+    ensures most { IfOk result (λ unit. unit ≤ℤ pos LARGEST_UNIT) }
 {
     match walk_rates(&mut lines, count, rates) {
         Ok(()) => {}

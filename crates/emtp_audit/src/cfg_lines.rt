@@ -1,10 +1,11 @@
 //! The lines of the configuration that say something of the data.
-ghost use Rattle.std.specs.Prelude.{◌≡◌, false, ◌+◌, ◌<◌, ◌≤◌, ◌^◌, ◌≤ℤ◌, [], ◌∷◌, length, pos, slice_index_or, unsigned_abs, unwrap_or, IfOk, IfErr, OnOk};
+ghost use Rattle.std.specs.Prelude.{◌≡◌, false, ◌+◌, ◌<◌, ◌≤◌, ◌≤ℤ◌, [], ◌∷◌, length, pos, slice_index_or, unsigned_abs, unwrap_or, IfOk, IfErr, OnOk};
 ghost use Rattle.emtp_comtrade.specs.Record.{analog_before};
 ghost use Rattle.emtp_audit.specs.Cfg.{analog_rule, named_rule, identity_rules, scale_rule, rates_rule, unit_rule, file_line, scale_number, scale_on, rates_number, rates_on, unit_number, unit_on};
 ghost use Rattle.emtp_audit.specs.held.Dat.{IsScale};
 ghost use Rattle.emtp_audit.specs.Rules.{any_field, line_differs};
 ghost use Rattle.emtp_audit.specs.held.Walk.{Walks, Behind, difference_in, Passes, StopsAt};
+ghost use Rattle.emtp_audit.specs.declared.limit.TheConstants.{LARGEST_SCALE, LARGEST_UNIT, MOST_FIELDS};
 
 use crate::check::{Check, walk_checks};
 use crate::differs::{DifferCause, Differs};
@@ -130,13 +131,13 @@ fn read_scale_numbers(fields: &mut Fields<'_>) -> Result<Scale, Differs>
 }
 
 fn read_scale_number(fields: &mut Fields<'_>) -> Result<i128, Differs>
-    requires { fields.old.number ≤ 1000 }
+    requires { fields.old.number ≤ MOST_FIELDS }
     ensures walks { Walks result fields.old fields.new (scale_rule ∷ []) }
     ensures next { OnOk result (fields.new.number ≡ fields.old.number + 1) }
     ensures behind { OnOk result (Behind fields.old.fields 1 fields.new.fields) }
     ensures value { IfOk result (λ number. number
         ≡ unwrap_or (scale_number (slice_index_or fields.old.fields 0 [])) (pos 0)) }
-    ensures limit { IfOk result (λ number. unsigned_abs number ≤ 10 ^ 28) }
+    ensures limit { IfOk result (λ number. unsigned_abs number ≤ LARGEST_SCALE) }
 {
     let field = match fields.take() {
         Ok(field) => field,
@@ -189,7 +190,7 @@ pub(crate) fn read_unit(lines: &mut Lines<'_>) -> Result<i64, Differs>
     ensures err { IfErr result (StopsAt lines.old (unit_rule ∷ [])) }
     ensures value { IfOk result (λ unit. unit ≡ unit_on (file_line lines.old.lines 0)) }
     ensures least { IfOk result (λ unit. pos 1 ≤ℤ unit) }
-    ensures most { IfOk result (λ unit. unit ≤ℤ pos (10 ^ 18)) }
+    ensures most { IfOk result (λ unit. unit ≤ℤ pos LARGEST_UNIT) }
 {
     match lines.take() {
         Ok(text) => unit_line(lines.number(), text),
@@ -201,7 +202,7 @@ fn unit_line(line: u32, text: &[u8]) -> Result<i64, Differs>
     ensures same { line_differs false line unit_rule text.now ≡ difference_in result }
     ensures value { IfOk result (λ unit. unit ≡ unit_on text.now) }
     ensures least { IfOk result (λ unit. pos 1 ≤ℤ unit) }
-    ensures most { IfOk result (λ unit. unit ≤ℤ pos (10 ^ 18)) }
+    ensures most { IfOk result (λ unit. unit ≤ℤ pos LARGEST_UNIT) }
 {
     let mut fields = Fields::of(false, line, text);
     let field = match fields.take() {

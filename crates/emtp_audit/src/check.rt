@@ -1,11 +1,12 @@
 //! The table of what the fields of a line have to be.
-ghost use Rattle.std.specs.Prelude.{◌≡◌, false, ◌+◌, ◌-◌, ◌≤◌, [], ◌∷◌, length, map, pos, slice_index_or, OnOk};
+ghost use Rattle.std.specs.Prelude.{◌≡◌, false, ◌+◌, ◌-◌, ◌≤◌, ◌<◌, [], ◌∷◌, length, map, pos, slice_index_or, OnOk};
 ghost use Rattle.std.specs.Char.{to_ascii_uppercase};
 ghost use Rattle.emtp_audit.specs.Cfg.{letters_are, counts, is_read};
 ghost use Rattle.emtp_audit.specs.held.Check.{rule_of};
 ghost use Rattle.emtp_audit.specs.Numbers.{whole_of};
 ghost use Rattle.emtp_audit.specs.Rules.{LineRule, Fields, line_differs, text_is};
 ghost use Rattle.emtp_audit.specs.held.Walk.{Walks, Behind, difference_in};
+ghost use Rattle.emtp_audit.specs.declared.limit.TheConstants.{MOST_FIELDS};
 
 use crate::differs::{DifferCause, Differs};
 use crate::fields::{Fields, number_cause, unless_wrong};
@@ -30,7 +31,7 @@ pub(crate) enum Check<'a> {
 
 /// Compares a line of the configuration with a table.
 pub(crate) fn judge_line(line: u32, text: &[u8], checks: &[Check<'_>]) -> Result<(), Differs>
-    requires { length checks.now ≤ 900 }
+    requires { length checks.now < MOST_FIELDS }
     ensures { line_differs false line (LineRule.Fields (map rule_of checks.now)) text.now ≡ difference_in result }
 {
     let mut fields = Fields::of(false, line, text);
@@ -42,7 +43,7 @@ pub(crate) fn judge_line(line: u32, text: &[u8], checks: &[Check<'_>]) -> Result
 
 /// Fields of a table have to come next.
 pub(crate) fn walk_checks(fields: &mut Fields<'_>, checks: &[Check<'_>]) -> Result<(), Differs>
-    requires { fields.old.number + length checks.now ≤ 1000 }
+    requires { fields.old.number + length checks.now ≤ MOST_FIELDS }
     ensures walks { Walks result fields.old fields.new (map rule_of checks.now) }
     ensures next { OnOk result (fields.new.number ≡ fields.old.number + length checks.now) }
     ensures behind { OnOk result (Behind fields.old.fields (length checks.now) fields.new.fields) }
@@ -57,7 +58,7 @@ pub(crate) fn walk_checks(fields: &mut Fields<'_>, checks: &[Check<'_>]) -> Resu
 }
 
 fn walk_check(fields: &mut Fields<'_>, check: &Check<'_>) -> Result<(), Differs>
-    requires { fields.old.number ≤ 1000 }
+    requires { fields.old.number ≤ MOST_FIELDS }
     ensures walks { Walks result fields.old fields.new (rule_of check.now ∷ []) }
     ensures next { OnOk result (fields.new.number ≡ fields.old.number + 1) }
     ensures behind { OnOk result (Behind fields.old.fields 1 fields.new.fields) }

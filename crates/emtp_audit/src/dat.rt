@@ -7,10 +7,12 @@ ghost use Rattle.emtp_audit.specs.Rules.{is_padding, audited_lines};
 ghost use Rattle.emtp_audit.specs.Dat.{dat_rule, first_stamp, dat_differs};
 ghost use Rattle.emtp_audit.specs.held.Dat.{told_by, IsScale};
 ghost use Rattle.emtp_audit.specs.held.Walk.{LineWalks, difference_in, stamp_in};
+ghost use Rattle.emtp_audit.specs.declared.limit.TheConstants.{LARGEST_UNIT};
 
 use crate::differs::{DifferCause, Differs};
 use crate::fields::Fields;
-use crate::lines::{MOST_BYTES, next_audited};
+use crate::limit::MOST_BYTES;
+use crate::lines::next_audited;
 use crate::numbers::stamp;
 use crate::sample::read_line;
 use crate::scale::Cfg;
@@ -23,7 +25,7 @@ pub fn read_dat(bytes: &[u8], case: &Case, samples: &Samples, cfg: &Cfg) -> Resu
     requires channels { samples.now.channels ≡ length case.now.parts.channels }
     requires count { length cfg.now.scales.items ≡ analog_before case.now.parts (length case.now.parts.channels) }
     requires scales { All IsScale cfg.now.scales.items }
-    requires multiplier { unsigned_abs cfg.now.multiplier ≤ 10 ^ 18 }
+    requires multiplier { unsigned_abs cfg.now.multiplier ≤ LARGEST_UNIT }
     ensures { dat_differs case.now.parts samples.now.rows (told_by cfg.now) bytes.now ≡ difference_in result }
 {
     if bytes.len() > MOST_BYTES {
@@ -67,7 +69,7 @@ fn read_sample<'a>(
     requires room { sample + 1 < 2 ^ 32 }
     requires count { length cfg.now.scales.items ≡ analog_before case.now.parts (length case.now.parts.channels) }
     requires scales { All IsScale cfg.now.scales.items }
-    requires multiplier { unsigned_abs cfg.now.multiplier ≤ 10 ^ 18 }
+    requires multiplier { unsigned_abs cfg.now.multiplier ≤ LARGEST_UNIT }
     requires first_low { pos 0 ≤ℤ first }
     requires first_high { unsigned_abs first < 10 ^ 10 }
     ensures ok { IfOk result (λ tail. LineWalks (Ok tail.now) (sample + 1)

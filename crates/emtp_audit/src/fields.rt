@@ -1,9 +1,10 @@
 //! The fields of a line, one after the other.
-ghost use Rattle.std.specs.Prelude.{◌≡◌, ◌+◌, ◌<◌, ◌≤◌, [], ◌∷◌, List, ℕ, pos, unsigned_abs, ◌^◌, Ok, Err, Result, MatchOption, IfOk, IfErr, OnOk, position, length, Some, None};
+ghost use Rattle.std.specs.Prelude.{◌≡◌, ◌+◌, ◌<◌, ◌≤◌, [], ◌∷◌, List, ℕ, pos, unsigned_abs, Ok, Err, Result, MatchOption, IfOk, IfErr, OnOk, position, length, Some, None};
 ghost use Rattle.emtp_card.specs.Name.{is_comma};
 ghost use Rattle.emtp_card.specs.Field.{trimmed};
 ghost use Rattle.emtp_audit.specs.Rules.{comma_fields, differs_at, number_is, unless_wrong};
 ghost use Rattle.emtp_audit.specs.held.Walk.{Walked, Walks, TakesField, JudgesField, finds, difference_in};
+ghost use Rattle.emtp_audit.specs.declared.limit.TheConstants.{MOST_FIELDS};
 
 use crate::differs::{DifferCause, Differs};
 use crate::numbers::whole;
@@ -51,7 +52,7 @@ impl<'a> Fields<'a> {
 
     /// TakesField the next field, without its outer blanks.
     pub fn take(&mut self) -> Result<&'a [u8], Differs>
-        requires { self.old.number ≤ 1000 }
+        requires { self.old.number ≤ MOST_FIELDS }
         ensures ok { IfOk result (λ field. TakesField (Ok field.now) self.old self.new) }
         ensures err { IfErr result (λ differs. TakesField (Err differs) self.old self.new) }
     {
@@ -74,7 +75,7 @@ impl<'a> Fields<'a> {
 
     /// Whether no field is left.
     pub fn finish(mut self) -> Result<(), Differs>
-        requires { self.number ≤ 1000 }
+        requires { self.number ≤ MOST_FIELDS }
         ensures { finds self.entry [] ≡ difference_in result }
     {
         match self.take() {
@@ -109,7 +110,7 @@ impl<'a> Fields<'a> {
 
 /// A number with this value, however it is spelled, has to come next.
 pub(crate) fn walk_number(fields: &mut Fields<'_>, number: u32) -> Result<(), Differs>
-    requires { fields.old.number ≤ 1000 }
+    requires { fields.old.number ≤ MOST_FIELDS }
     ensures walks { Walks result fields.old fields.new (number_is (pos number) ∷ []) }
     ensures next { OnOk result (fields.new.number ≡ fields.old.number + 1) }
 {

@@ -6,14 +6,12 @@ ghost use Rattle.emtp_audit.specs.held.Check.{rule_of};
 ghost use Rattle.emtp_audit.specs.Rules.{LineRule, Fields, Anything, is_padding, audited_lines, differs_at};
 ghost use Rattle.emtp_audit.specs.held.Walk.{LinesLeft, finds_lines, difference_in, Passes, StopsAt};
 ghost use Rattle.emtp_audit.specs.declared.differs.DifferCause.TheVariants.{Missing};
+ghost use Rattle.emtp_audit.specs.declared.limit.TheConstants.{MOST_BYTES, MOST_FIELDS};
 
 use crate::check::{Check, judge_line};
 use crate::differs::{DifferCause, Differs};
 use emtp_card::next_line;
 use std::marker::Model;
-
-/// The most bytes of a file of a record.
-pub(crate) const MOST_BYTES: usize = 64_000_000;
 
 /// A walk over the lines of a configuration.
 #[derive(Drop)]
@@ -26,12 +24,13 @@ impl<'a> Model for Lines<'a> {
     ghost use Rattle.std.specs.Prelude.{◌+◌, ◌≤◌, length};
     ghost use Rattle.emtp_audit.specs.Rules.{audited_lines};
     ghost use Rattle.emtp_audit.specs.held.Walk.{LinesLeft};
+    ghost use Rattle.emtp_audit.specs.declared.limit.TheConstants.{MOST_BYTES};
 
     ghost Value = { LinesLeft };
 
     ghost view = { λ l. record { taken = l.taken; lines = audited_lines l.rest.now } };
 
-    ghost invariant = { λ l. l.taken + length l.rest.now ≤ 64000000 };
+    ghost invariant = { λ l. l.taken + length l.rest.now ≤ MOST_BYTES };
 }
 
 impl<'a> Lines<'a> {
@@ -104,7 +103,7 @@ pub(crate) fn walk_any(lines: &mut Lines<'_>) -> Result<(), Differs>
 
 /// A line that meets a table has to come next.
 pub(crate) fn walk_line(lines: &mut Lines<'_>, checks: &[Check<'_>]) -> Result<(), Differs>
-    requires { length checks.now ≤ 900 }
+    requires { length checks.now < MOST_FIELDS }
     ensures ok { OnOk result (Passes lines.old lines.new (LineRule.Fields (map rule_of checks.now) ∷ [])) }
     ensures err { IfErr result (StopsAt lines.old (LineRule.Fields (map rule_of checks.now) ∷ [])) }
 {

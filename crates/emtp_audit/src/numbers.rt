@@ -2,17 +2,13 @@
 ghost use Rattle.std.specs.Prelude.{◌≡◌, ◌^◌, ◌<◌, ◌≤◌, unsigned_abs, pos, ◌≤ℤ◌, IfSome};
 ghost use Rattle.emtp_audit.specs.Numbers.{whole_of, stamp_of, decimal_in};
 ghost use Rattle.emtp_audit.specs.Cfg.{scale_number, rates_number, unit_number};
+ghost use Rattle.emtp_audit.specs.declared.limit.TheConstants.{LARGEST_SCALE, LARGEST_UNIT};
 
+use crate::limit::{LARGEST_SCALE, LARGEST_UNIT};
 use emtp_card::{read_digits, read_number, read_whole};
 
 /// The most bytes of a decimal.
 const DECIMAL_BYTES: usize = 40;
-
-/// The greatest magnitude of a number of a scale, in 1e-18.
-const MOST_SCALE: i128 = 10_000_000_000_000_000_000_000_000_000;
-
-/// The greatest unit of time stamps, in ps.
-const MOST_UNIT: i128 = 1_000_000_000_000_000_000;
 
 /// The most sampling rates.
 const MOST_RATES: i64 = 10;
@@ -67,9 +63,9 @@ fn decimal(text: &[u8], scale: i32, limit: i128) -> Option<i128>
 /// A number of a scale, in 1e-18.
 pub(crate) fn scale_number(text: &[u8]) -> Option<i128>
     ensures value { result ≡ scale_number text.now }
-    ensures limit { IfSome result (λ number. unsigned_abs number ≤ 10 ^ 28) }
+    ensures limit { IfSome result (λ number. unsigned_abs number ≤ LARGEST_SCALE) }
 {
-    decimal(text, 18, MOST_SCALE)
+    decimal(text, 18, LARGEST_SCALE as i128)
 }
 
 /// The number of sampling rates.
@@ -88,10 +84,10 @@ pub(crate) fn rates_number(text: &[u8]) -> Option<i64>
 pub(crate) fn unit_number(text: &[u8]) -> Option<i128>
     ensures value { result ≡ unit_number text.now }
     ensures least { IfSome result (λ unit. pos 1 ≤ℤ unit) }
-    ensures most { IfSome result (λ unit. unit ≤ℤ pos (10 ^ 18)) }
+    ensures most { IfSome result (λ unit. unit ≤ℤ pos LARGEST_UNIT) }
 {
-    match decimal(text, 6, MOST_UNIT) {
-        Some(unit) if 1 <= unit && unit <= MOST_UNIT => Some(unit),
+    match decimal(text, 6, LARGEST_UNIT as i128) {
+        Some(unit) if 1 <= unit && unit <= LARGEST_UNIT as i128 => Some(unit),
         _ => None,
     }
 }

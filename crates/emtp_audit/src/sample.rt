@@ -6,6 +6,7 @@ ghost use Rattle.emtp_audit.specs.Rules.{line_differs, Fields};
 ghost use Rattle.emtp_audit.specs.Dat.{step_of, raw_rule_at, state_rule_at, dat_rule};
 ghost use Rattle.emtp_audit.specs.held.Dat.{told_by, IsScale};
 ghost use Rattle.emtp_audit.specs.held.Walk.{Walked, Walks, finds, difference_in};
+ghost use Rattle.emtp_audit.specs.declared.limit.TheConstants.{LARGEST_UNIT, MOST_FIELDS};
 
 use crate::differs::{DifferCause, Differs};
 use crate::fields::{Fields, walk_number};
@@ -30,7 +31,7 @@ pub(crate) fn read_line(
     requires room { sample + 1 < 2 ^ 32 }
     requires count { length cfg.now.scales.items ≡ analog_before case.now.parts (length case.now.parts.channels) }
     requires scales { All IsScale cfg.now.scales.items }
-    requires multiplier { unsigned_abs cfg.now.multiplier ≤ 10 ^ 18 }
+    requires multiplier { unsigned_abs cfg.now.multiplier ≤ LARGEST_UNIT }
     requires first_low { pos 0 ≤ℤ first }
     requires first_high { unsigned_abs first < 10 ^ 10 }
     ensures { line_differs true line
@@ -59,7 +60,7 @@ pub(crate) fn read_line(
 /// The time of a sample step, in ps.
 fn step(case: &Case) -> i64
     ensures value { result ≡ step_of case.now.parts }
-    ensures bound { unsigned_abs result ≤ 10 ^ 18 }
+    ensures bound { unsigned_abs result ≤ LARGEST_UNIT }
 {
     i64::from(case.parts.run.every) * case.parts.run.dt
 }
@@ -100,7 +101,7 @@ fn walk_raw_at(
     place: usize,
     analog: usize,
 ) -> Result<usize, Differs>
-    requires number { fields.old.number ≤ 1000 }
+    requires number { fields.old.number ≤ MOST_FIELDS }
     requires channels { samples.now.channels ≡ length case.now.parts.channels }
     requires sample { sample < length samples.now.rows }
     requires count { length cfg.now.scales.items ≡ analog_before case.now.parts (length case.now.parts.channels) }
@@ -153,7 +154,7 @@ fn walk_state_at(
     sample: u32,
     place: usize,
 ) -> Result<(), Differs>
-    requires number { fields.old.number ≤ 1000 }
+    requires number { fields.old.number ≤ MOST_FIELDS }
     requires channels { samples.now.channels ≡ length case.now.parts.channels }
     requires sample { sample < length samples.now.rows }
     requires place { place < length case.now.parts.channels }

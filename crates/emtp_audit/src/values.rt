@@ -4,17 +4,17 @@ ghost use Rattle.emtp_fix.specs.declared.limit.TheConstants.{LARGEST_WIDE};
 ghost use Rattle.emtp_audit.specs.Dat.{is_time, stamp_is, stands_for, raw_is, state_text, state_is};
 ghost use Rattle.emtp_audit.specs.held.Dat.{IsScale};
 ghost use Rattle.emtp_audit.specs.held.Walk.{Walked, Walks};
+ghost use Rattle.emtp_audit.specs.declared.limit.TheConstants.{LARGEST_SCALE, LARGEST_UNIT, MOST_FIELDS};
 
 use crate::differs::{DifferCause, Differs};
 use crate::fields::{Fields, unless_wrong};
 use crate::numbers::{stamp, whole};
 use crate::scale::Scale;
-
-const NANO: i128 = 1_000_000_000;
+use emtp_fix::NANO;
 
 /// A product of two numbers with limits.
 fn product(a: i128, b: i128) -> i128
-    requires a { unsigned_abs a ≤ 10 ^ 28 }
+    requires a { unsigned_abs a ≤ LARGEST_SCALE }
     requires b { unsigned_abs b ≤ 10 ^ 10 }
     ensures value { result ≡ a *ℤ b }
     ensures turned { result ≡ b *ℤ a }
@@ -25,10 +25,10 @@ fn product(a: i128, b: i128) -> i128
 
 /// So many of a unit.
 fn times(unit: i64, count: i64) -> i128
-    requires unit { unsigned_abs unit ≤ 10 ^ 18 }
+    requires unit { unsigned_abs unit ≤ LARGEST_UNIT }
     requires count { unsigned_abs count ≤ 10 ^ 10 }
     ensures value { result ≡ count *ℤ unit }
-    ensures bound { unsigned_abs result ≤ 10 ^ 28 }
+    ensures bound { unsigned_abs result ≤ LARGEST_SCALE }
 {
     product(i128::from(unit), i128::from(count))
 }
@@ -51,9 +51,9 @@ pub(crate) fn walk_stamp(
     first: i64,
     steps: u32,
 ) -> Result<(), Differs>
-    requires number { fields.old.number ≤ 1000 }
-    requires step { unsigned_abs step ≤ 10 ^ 18 }
-    requires unit { unsigned_abs unit ≤ 10 ^ 18 }
+    requires number { fields.old.number ≤ MOST_FIELDS }
+    requires step { unsigned_abs step ≤ LARGEST_UNIT }
+    requires unit { unsigned_abs unit ≤ LARGEST_UNIT }
     requires first_low { pos 0 ≤ℤ first }
     requires first_high { unsigned_abs first < 10 ^ 10 }
     ensures walks { Walks result fields.old fields.new (stamp_is step unit first steps ∷ []) }
@@ -64,8 +64,8 @@ pub(crate) fn walk_stamp(
 }
 
 fn stamp_cause(field: &[u8], step: i64, unit: i64, first: i64, steps: u32) -> Option<DifferCause>
-    requires step { unsigned_abs step ≤ 10 ^ 18 }
-    requires unit { unsigned_abs unit ≤ 10 ^ 18 }
+    requires step { unsigned_abs step ≤ LARGEST_UNIT }
+    requires unit { unsigned_abs unit ≤ LARGEST_UNIT }
     requires first_low { pos 0 ≤ℤ first }
     requires first_high { unsigned_abs first < 10 ^ 10 }
     ensures { result ≡ stamp_is step unit first steps field.now }
@@ -77,8 +77,8 @@ fn stamp_cause(field: &[u8], step: i64, unit: i64, first: i64, steps: u32) -> Op
 }
 
 fn is_time(step: i64, unit: i64, first: i64, steps: u32, stamp: i64) -> bool
-    requires step { unsigned_abs step ≤ 10 ^ 18 }
-    requires unit { unsigned_abs unit ≤ 10 ^ 18 }
+    requires step { unsigned_abs step ≤ LARGEST_UNIT }
+    requires unit { unsigned_abs unit ≤ LARGEST_UNIT }
     requires first_low { pos 0 ≤ℤ first }
     requires first_high { unsigned_abs first < 10 ^ 10 }
     requires stamp_low { pos 0 ≤ℤ stamp }
@@ -94,7 +94,7 @@ fn is_time(step: i64, unit: i64, first: i64, steps: u32, stamp: i64) -> bool
 
 /// A raw value that stands for a value has to come next.
 pub(crate) fn walk_raw(fields: &mut Fields<'_>, scale: Scale, value: i64) -> Result<(), Differs>
-    requires number { fields.old.number ≤ 1000 }
+    requires number { fields.old.number ≤ MOST_FIELDS }
     requires scale { IsScale scale }
     ensures walks { Walks result fields.old fields.new (raw_is scale value ∷ []) }
     ensures next { OnOk result (fields.new.number ≡ fields.old.number + 1) }
@@ -127,7 +127,7 @@ fn stands_for(scale: Scale, value: i64, raw: i64) -> bool
 
 /// The state of a status has to come next.
 pub(crate) fn walk_state(fields: &mut Fields<'_>, value: i64) -> Result<(), Differs>
-    requires number { fields.old.number ≤ 1000 }
+    requires number { fields.old.number ≤ MOST_FIELDS }
     ensures walks { Walks result fields.old fields.new (state_is value ∷ []) }
     ensures next { OnOk result (fields.new.number ≡ fields.old.number + 1) }
 {

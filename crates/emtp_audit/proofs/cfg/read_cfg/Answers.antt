@@ -1,4 +1,4 @@
-use Rattle.std.proofs.Common.{◌≡◌, ◌≤◌, ◌^◌, ◌∙◌, sym, ap, ℕ, ◌+◌, List, [], ◌++◌, length, get_or, Some, None, unsigned_abs, to_z, of_z, arith}
+use Rattle.std.proofs.Common.{◌≡◌, ◌≤◌, ◌∙◌, sym, ap, ℕ, ◌+◌, List, [], ◌++◌, length, get_or, Some, None, unsigned_abs, to_z, of_z, arith}
 use mir.Syntax.{w64}
 use Rattle.std.specs.Prelude.{max}
 use Rattle.std.proofs.lemmas.Int.{ints}
@@ -13,6 +13,7 @@ use Rattle.emtp_audit.proofs.Answering.{on_differs}
 use Rattle.emtp_audit.proofs.CfgPlaces.{scales-behind, behind-channels, cfg-start}
 use Rattle.emtp_audit.proofs.Joined.{length-joined}
 use Rattle.emtp_audit.proofs.cfg.read_cfg.Goals as goal
+use Rattle.emtp_audit.specs.declared.limit.TheConstants.{LARGEST_UNIT}
 
 pub returns-in-Err-clause-differs : goal.returns-in-Err-clause-differs
 returns-in-Err-clause-differs c =
@@ -92,7 +93,7 @@ returns-in-Ok-read_end-clause-says c =
     let behind = behind-channels p c.of-lines.result.lines c.walk_head.new.lines.lines c.read_scales.new.lines.lines c.walk_statuses.new.lines.lines c.in-Ok.ensures.ok.behind c.in-Ok-read_scales.ensures.ok.behind c.in-Ok-walk_statuses.ensures.ok.behind in
     let told : rates_in p c.of-lines.result.lines ≡ rates_on (file_line c.walk_statuses.new.lines.lines 1) =
     ap (λ (k : ℕ). rates_on (get_or c.of-lines.result.lines k [])) (three n) ∙ ap rates_on (behind 1) in
-    let small : unsigned_abs c.in-Ok-read_end.multiplier ≤ 10 ^ 18 = omega (arith, ints, c.in-Ok-read_end.ensures.least, c.in-Ok-read_end.ensures.most) in
+    let small : unsigned_abs c.in-Ok-read_end.multiplier ≤ LARGEST_UNIT = omega (arith, ints, c.in-Ok-read_end.ensures.least, c.in-Ok-read_end.ensures.most) in
     let unit = through_64 c.in-Ok-read_end.multiplier (omega (arith, small)) ∙ c.in-Ok-read_end.ensures.value
     ∙ ap (λ (r : ℕ). unit_on (file_line c.walk_statuses.new.lines.lines (5 + max r 1))) (sym told)
     ∙ ap unit_on (sym (behind (5 + max (rates_in p c.of-lines.result.lines) 1)))
