@@ -1,7 +1,6 @@
 -- All branches moved, one after the other.
-use Rattle.std.proofs.Common.{◌≡◌, ◌∙◌, sym, ap, subst, ℕ, ◌+◌, ◌<◌, ◌≤◌, ℤ, pos, nat_lt, false, true, if◌then◌else◌, List, ◌∷◌, length, get_or, slice_get, slice_set, get_or-set_same, get_or-set_other, IsSome, Some, inl, inr, arith}
+use Rattle.std.proofs.Common.{◌≡◌, ◌∙◌, sym, ap, subst, ℕ, ◌+◌, ◌<◌, ◌≤◌, ℤ, pos, if◌then◌else◌, List, ◌∷◌, length, get_or, slice_get, slice_set, get_or-set_same, get_or-set_other, IsSome, Some, inl, inr, arith}
 use Rattle.std.proofs.lemmas.Bool.{cases_eq, cases_lt}
-use Rattle.std.proofs.lemmas.Bool.Decides.{nat_tests}
 use Rattle.std.proofs.lemmas.Option.{slice_get-get_or, slice_get_within}
 use Rattle.emtp_case.specs.Branch.{first_of_trio}
 use Rattle.emtp_case.specs.held.Case.{IsNetwork}
@@ -16,7 +15,7 @@ use Rattle.emtp_line.specs.Lines as lined
 use Rattle.emtp_line.specs.held.Lines as held_lined
 use Rattle.emtp_lumped.specs.Lumps as lumped
 use Rattle.emtp_lumped.specs.held.Lumps as held_lumped
-use Rattle.emtp_net.proofs.Moves.{phase_read}
+use Rattle.emtp_net.proofs.Moves.{phase_read, is_less, isnt_less}
 use Rattle.emtp_net.proofs.Nodes.{branch_in}
 use Rattle.emtp_net.specs.held.Branches.{HasCase, StandsFor}
 use Rattle.emtp_net.specs.held.Moving.{AreCurrents, AreInRange, HasStopped, IsFirstOut, IsNext, StandsBefore, head_at, head_by, upto}
@@ -29,16 +28,10 @@ use Rattle.emtp_rows.proofs.Phases.{phase_there}
 -- ---- before the first branch, and after the last one
 
 upto_none : (b : ℕ) (r : StepRecord) (H : List StepRecord) → upto 0 b r H ≡ H
-upto_none b r H = ap (λ x. if x then r ∷ H else H) (none b)
-  where
-    none : (b : ℕ) → nat_lt b 0 ≡ false
-    none b = grind (arith, nat_tests)
+upto_none b r H = ap (λ x. if x then r ∷ H else H) (isnt_less b 0 (omega arith))
 
 upto_all : (n b : ℕ) (r : StepRecord) (H : List StepRecord) → b < n → upto n b r H ≡ r ∷ H
-upto_all n b r H below = ap (λ x. if x then r ∷ H else H) (is n b below)
-  where
-    is : (n b : ℕ) → b < n → nat_lt b n ≡ true
-    is n b below = grind (arith, nat_tests)
+upto_all n b r H below = ap (λ x. if x then r ∷ H else H) (is_less b n below)
 
 pub none_moved : (case : Parts) (H : List StepRecord) (vs : List ℤ) (s : Branches) → HasCase s case → StandsFor s H → StandsBefore s case H vs 0
 none_moved case H vs s same stands = λ r next. record {

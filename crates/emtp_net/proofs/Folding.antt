@@ -1,7 +1,7 @@
 -- The rows that are tied to a sum, added to it one after the other.
 use Rattle.emtp_case.specs.declared.limit.TheConstants.{MOST_NODES}
 use Rattle.std.proofs.Common.{◌≡◌, ◌∙◌, sym, ap, ℕ, zero, suc, ◌+◌, ◌*◌, ◌^◌, ◌<◌, ◌≤◌, ◌==◌, ◌||◌, ◌&&◌, ℤ, pos, ◌+ℤ◌, unsigned_abs, Bool, true, false, if◌then◌else◌, List, length, slice_set, get_or-set_same, get_or-set_other, refl, inl, inr, arith}
-use Rattle.std.proofs.lemmas.Bool.{cases_Bool, cases_eq, cases_lt}
+use Rattle.std.proofs.lemmas.Bool.{cases_Bool, cases_eq, cases_lt, true≢false}
 use Rattle.std.proofs.lemmas.Int.{ints}
 use Rattle.emtp_case.specs.declared.row_kind.RowKind.{RowKind}
 use Rattle.emtp_case.specs.declared.row_kind.RowKind.TheVariants.{Kcl, Sum, Tie, Ground, Source}
@@ -12,6 +12,8 @@ use Rattle.emtp_case.proofs.Sums.{sum_below-more, sum_below_same, sum_below_smal
 use Rattle.emtp_rows.specs.Nodal.{is_tie_to, kind_at}
 use Rattle.emtp_case.specs.Sums.{sum_below}
 use Rattle.emtp_rows.specs.held.Touched.{is_sum, tied_row}
+use Rattle.emtp_net.proofs.Nodes.{nothing}
+use Rattle.emtp_switch.proofs.Flows.{sum_below-none}
 
 -- ---- which rows are tied to a sum
 
@@ -20,12 +22,9 @@ not_into : (kinds : List RowKind) (j : ℕ) (kind : RowKind) → j < length kind
 not_into kinds j Kcl below plain = isnt_number (length kinds) j (λ e. omega (arith, below, e))
 not_into kinds j Sum below plain = isnt_number (length kinds) j (λ e. omega (arith, below, e))
 not_into kinds j (Tie to) below plain = elim (cases_Bool (is_sum (kind_at kinds to))) [
-  | inl summed ↦ rw summed (isnt_number to j (λ e. true_false (sym summed ∙ ap (λ n. is_sum (kind_at kinds n)) e ∙ plain)))
+  | inl summed ↦ rw summed (isnt_number to j (λ e. true≢false (sym summed ∙ ap (λ n. is_sum (kind_at kinds n)) e ∙ plain)))
   | inr off ↦ rw off (isnt_number (length kinds) j (λ e. omega (arith, below, e)))
 ]
-  where
-    true_false : true ≡ false → ⊥
-    true_false e = cc
 not_into kinds j Ground below plain = isnt_number (length kinds) j (λ e. omega (arith, below, e))
 not_into kinds j Source below plain = isnt_number (length kinds) j (λ e. omega (arith, below, e))
 
@@ -53,19 +52,12 @@ tie_is_plain kinds Source tied = refl
 
 -- ---- sums
 
-sum_none : (n : ℕ) (f : ℕ → ℤ) → ((k : ℕ) → k < n → f k ≡ pos 0) → sum_below n f ≡ pos 0
-sum_none zero f none = refl
-sum_none (suc n) f none =
-    let here : f n ≡ pos 0 = none n (omega arith) in
-    let before : sum_below n f ≡ pos 0 = sum_none n f (λ k below. none k (omega (arith, below))) in
-    omega (arith, ints, here, before)
-
 -- what one place gives
 sum_one : (n j : ℕ) (f : ℕ → ℤ) → j < n → sum_below n (λ k. if k == j then f k else pos 0) ≡ f j
 sum_one zero j f below = absurd (omega (arith, below))
 sum_one (suc n) j f below = elim (cases_eq n j) [
   | inl same ↦
-      let before = sum_none n (λ k. if k == j then f k else pos 0) (λ k under. rw (isnt_number k j (λ e. omega (arith, under, same, e))) refl) in
+      let before = sum_below-none n (λ k. if k == j then f k else pos 0) (λ k under. rw (isnt_number k j (λ e. omega (arith, under, same, e))) refl) in
       let here : (if n == j then f n else pos 0) ≡ f j = rw (is_number n j same) (ap f same) in
       omega (arith, ints, before, here)
   | inr ne ↦
@@ -112,7 +104,7 @@ group_is kinds f j below sum =
 pub untied_total : (kinds : List RowKind) (f : ℕ → ℤ) (j : ℕ) → AreUntied kinds → j < length kinds → kind_at kinds j ≡ Sum → group_total kinds f j ≡ f j
 untied_total kinds f j untied below sum =
     let F : ℕ → ℤ = λ k. if tied_to kinds j k then f k else pos 0 in
-    let none : sum_below (length kinds) F ≡ pos 0 = sum_none (length kinds) F off in
+    let none : sum_below (length kinds) F ≡ pos 0 = sum_below-none (length kinds) F off in
     let whole = group_is kinds f j below sum in
     omega (arith, ints, whole, none)
   where
@@ -129,7 +121,7 @@ folded_none kinds sums = record { sums = λ j below. omega (arith, ints); size =
 -- a row that is no sum is as before
 pub folded_plain : (kinds : List RowKind) (n : ℕ) (old new : List ℤ) (j : ℕ) → length kinds ≡ length old → IsFolded kinds n old new → j < length old → is_sum (kind_at kinds j) ≡ false → item new j ≡ item old j
 folded_plain kinds n old new j each folded below plain =
-    let none = sum_none n (λ k. if tied_to kinds j k then item old k else pos 0) (λ k under. rw (not_into kinds j (kind_at kinds k) (omega (arith, below, each)) plain) refl) in
+    let none = sum_below-none n (λ k. if tied_to kinds j k then item old k else pos 0) (λ k under. rw (not_into kinds j (kind_at kinds k) (omega (arith, below, each)) plain) refl) in
     omega (arith, ints, folded.sums j below, none)
 
 pub folded_more : (kinds : List RowKind) (k : ℕ) (old mid new : List ℤ) → length kinds ≡ length old → k < length old → length new ≡ length mid → IsFolded kinds k old mid
@@ -182,6 +174,3 @@ pub row_alone : (kinds : List RowKind) (k to j : ℕ) (sums : List ℤ) → to �
 row_alone kinds k to j sums is past below =
     let off : tied_to kinds j k ≡ false = isnt_number (tied_row kinds (kind_at kinds k)) j (λ e. omega (arith, e, is, past, below)) in
     rw off (nothing (item sums j))
-  where
-    nothing : (x : ℤ) → x ≡ x +ℤ pos 0
-    nothing x = omega (arith, ints)

@@ -58,10 +58,10 @@ next_state_read f d case H vs r b state next below is =
 
 -- ---- what has moved
 
-is_less : (a b : ℕ) → a < b → nat_lt a b ≡ true
+pub is_less : (a b : ℕ) → a < b → nat_lt a b ≡ true
 is_less a b less = grind (arith, nat_tests)
 
-isnt_less : (a b : ℕ) → b ≤ a → nat_lt a b ≡ false
+pub isnt_less : (a b : ℕ) → b ≤ a → nat_lt a b ≡ false
 isnt_less a b more = grind (arith, nat_tests)
 
 pub upto_before : (at : ℕ) (r : StepRecord) (H : List StepRecord) → upto at at r H ≡ H
@@ -113,10 +113,10 @@ alone_in_range case H vs at x network there is single here b below head =
 
 -- ---- series branches
 
-some_is : {X : Type 0} (o : Option X) (x : X) → o ≡ Some x → IsSome o
+pub some_is : {X : Type 0} (o : Option X) (x : X) → o ≡ Some x → IsSome o
 some_is o x is = rw is refl
 
-other_kind : (case : Parts) (at b : ℕ) (x y : Branch) → slice_get case.branches at ≡ Some x → slice_get case.branches b ≡ Some y → b ≡ at → y ≡ x
+pub other_kind : (case : Parts) (at b : ℕ) (x y : Branch) → slice_get case.branches at ≡ Some x → slice_get case.branches b ≡ Some y → b ≡ at → y ≡ x
 other_kind case at b x y is here same = some_same y x (sym here ∙ ap (slice_get case.branches) same ∙ is)
 
 lumped_state : (case held : Parts) (H : List StepRecord) (vs : List ℤ) (at : ℕ) (x : Lumped) → held ≡ case → slice_get case.branches at ≡ Some (OfLumped x) → state_at case H vs at ≡ option_map LumpedBranch (lumped.next_of held x (lumped.states_of at H) (item vs x.from -ℤ item vs x.to))

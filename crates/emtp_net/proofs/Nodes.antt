@@ -1,5 +1,5 @@
 -- The rows of nodes.
-use Rattle.std.proofs.Common.{◌≡◌, ◌≢◌, ◌∙◌, sym, ap, ℕ, ◌<◌, ◌≤◌, ◌==◌, ℤ, pos, ◌+ℤ◌, true, false, if◌then◌else◌, List, length, slice_set, get_or-set_same, get_or-set_other, slice_get, Some, All, subst, refl, inl, inr, arith}
+use Rattle.std.proofs.Common.{◌≡◌, ◌≢◌, ◌∙◌, sym, ap, ℕ, ◌<◌, ◌≤◌, ◌==◌, ℤ, pos, ◌+ℤ◌, true, false, if◌then◌else◌, List, length, slice_set, get_or-set_same, get_or-set_other, slice_get, get_or, Some, All, subst, refl, inl, inr, arith}
 use Rattle.std.proofs.lemmas.Bool.{cases_eq}
 use Rattle.std.proofs.lemmas.Bool.Decides.{nat_tests}
 use Rattle.std.proofs.lemmas.Int.{ints}
@@ -14,7 +14,10 @@ use Rattle.emtp_rows.specs.Nodal.{node_at}
 use Rattle.emtp_case.specs.NodeRows.{row_at}
 use Rattle.emtp_case.specs.RowOrder.{order_of}
 use Rattle.emtp_case.proofs.NodeOrder.{length-order_of}
-use Rattle.emtp_case.proofs.RowsOfNodes.{is_number, isnt_number, node_low, row_at_is, IsRowOf}
+use Rattle.emtp_case.proofs.RowsOfNodes.{is_number, isnt_number, node_low, row_at_is, IsRowOf, branch_read}
+
+pub nothing : (x : ℤ) → x ≡ x +ℤ pos 0
+nothing x = omega (arith, ints)
 
 -- an amount in the row of a node
 pub node_set : (case : Parts) (out : List ℤ) (n row j : ℕ) (a : ℤ) → length out ≡ length case.nodes → IsRowOf case n row → j < length out → item (slice_set out row (item out row +ℤ a)) j ≡ item out j +ℤ (if n == node_at case j then a else pos 0)
@@ -28,18 +31,12 @@ node_set case out n row j a long is below = elim (cases_eq j row) [
       let off : (n == node_at case j) ≡ false = isnt_number n (node_at case j) apart in
       rw (off, get_or-set_other) (nothing (item out j))
 ]
-  where
-    nothing : (x : ℤ) → x ≡ x +ℤ pos 0
-    nothing x = omega (arith, ints)
 
 -- ground has no row
 pub ground_none : (case : Parts) (out : List ℤ) (j : ℕ) (a : ℤ) → length out ≡ length case.nodes → j < length out → item out j ≡ item out j +ℤ (if 0 == node_at case j then a else pos 0)
 ground_none case out j a long below =
     let off : (0 == node_at case j) ≡ false = isnt_number 0 (node_at case j) (λ e. omega (arith, e, node_low case j (omega (arith, below, long)))) in
     rw off (nothing (item out j))
-  where
-    nothing : (x : ℤ) → x ≡ x +ℤ pos 0
-    nothing x = omega (arith, ints)
 
 -- an amount in a row, or in none
 pub row_set : (out : List ℤ) (row j : ℕ) (a : ℤ) → row < length out → item (slice_set out row (item out row +ℤ a)) j ≡ item out j +ℤ (if row == j then a else pos 0)
@@ -51,17 +48,11 @@ row_set out row j a inside = elim (cases_eq j row) [
       let off : (row == j) ≡ false = isnt_number row j (λ e. ne (sym e)) in
       rw (off, get_or-set_other) (nothing (item out j))
 ]
-  where
-    nothing : (x : ℤ) → x ≡ x +ℤ pos 0
-    nothing x = omega (arith, ints)
 
 pub row_none : (out : List ℤ) (row j : ℕ) (a : ℤ) → length out ≤ row → j < length out → item out j ≡ item out j +ℤ (if row == j then a else pos 0)
 row_none out row j a past below =
     let off : (row == j) ≡ false = isnt_number row j (λ e. omega (arith, e, past, below)) in
     rw off (nothing (item out j))
-  where
-    nothing : (x : ℤ) → x ≡ x +ℤ pos 0
-    nothing x = omega (arith, ints)
 
 -- a row is that of a node where its node is this one
 pub row_test : (case : Parts) (n j : ℕ) → j < length case.nodes → (row_at case n == j) ≡ (n == node_at case j)
@@ -81,6 +72,10 @@ row_test case n j below = elim (cases_eq n (node_at case j)) [
 -- the same of another value of the case
 pub branch_in : (held case : Parts) (at : ℕ) (x : Branch) → held ≡ case → slice_get case.branches at ≡ Some x → slice_get held.branches at ≡ Some x
 branch_in held case at x same is = ap (λ (p : Parts). slice_get p.branches at) same ∙ is
+
+-- the branch that is read of the one value, of the other value
+pub branch_held : (held case : Parts) (bs : List Branch) (at : ℕ) (d x : Branch) → held ≡ case → bs ≡ case.branches → at < length case.branches → get_or bs at d ≡ x → slice_get held.branches at ≡ Some x
+branch_held held case bs at d x same read there is = branch_in held case at x same (branch_read case bs at d x read there is)
 
 -- the branch at a place fits the case
 pub branch_fits : (case : Parts) (at : ℕ) (x : Branch) → All (IsBranch case.run (sizes_of case) case.points) case.branches → at < length case.branches → slice_get case.branches at ≡ Some x → IsBranch case.run (sizes_of case) case.points x

@@ -1,9 +1,9 @@
 -- The voltages and currents of a step that is made are in range.
-use Rattle.std.proofs.Common.{◌≡◌, ◌∙◌, sym, ap, subst, ℕ, ◌<◌, ◌≤◌, ℤ, pos, Bool, true, false, not, All, List, ◌∷◌, length, get_or, map, Option, Some, None, IfSome, unwrap_or, Result, Ok, Err, refl, arith}
+use Rattle.std.proofs.Common.{◌≡◌, ◌∙◌, sym, ap, subst, ℕ, ℤ, pos, Bool, true, false, not, All, List, length, get_or, map, Option, Some, None, IfSome, unwrap_or, Result, Ok, Err, refl, arith}
 use Rattle.std.specs.List.{range_with_len}
 use Rattle.std.specs.Prelude.{slice_get}
 use Rattle.std.proofs.lemmas.Bool.{leb-true}
-use Rattle.std.proofs.lemmas.List.Elements.{All-cons, All-from_get_or, All-map}
+use Rattle.std.proofs.lemmas.List.Elements.{All-from_get_or, All-map}
 use Rattle.std.proofs.lemmas.List.FromFn.{get_or-range_with_len, length-range_with_len}
 use Rattle.emtp_case.proofs.Places.{position-None}
 use Rattle.emtp_case.specs.NodeRows.{node_at}
@@ -19,7 +19,6 @@ use Rattle.emtp_fix.proofs.Ranges.{IsSmall}
 use Rattle.emtp_fix.specs.Chain.{◌>>=◌}
 use Rattle.emtp_fix.specs.Limit.{is_within}
 use Rattle.emtp_fix.specs.declared.limit.TheConstants.{LARGEST_VALUE}
-use Rattle.emtp_rows.specs.held.Touched.{row_at}
 use Rattle.emtp_net.proofs.BranchRanges.{state_small}
 use Rattle.emtp_net.proofs.Ending.{part_branches, part_voltages}
 use Rattle.emtp_net.specs.Part.{NetworkPart, first_out, node_of_branch, part_at, state_at, states_at, voltages_of}
@@ -27,18 +26,13 @@ use Rattle.emtp_net.specs.Residual.{residual_of}
 use Rattle.emtp_net.specs.Step.{balanced, first_beyond, first_unbalanced, moved, node_of_switch, named, network_part, solution, switched, untied}
 use Rattle.emtp_net.specs.System.{matrix, right}
 use Rattle.emtp_net.specs.declared.fault.NetFault.TheVariants.{Range, Residual}
+use Rattle.emtp_net.proofs.NodeVoltages.{voltages_small}
 
 -- no voltage and no current of the part exceeds its range
 pub record IsPartInRange (part : NetworkPart) : Type 0 where
   pub voltages : All IsSmall part.voltages
   pub branch_currents : All IsSmall (map current_of part.branches)
   pub switch_currents : All IsSmall part.switch_currents
-
-voltages_small : (case : Parts) (x : List ℤ) → AreWithin LARGEST_VALUE x → All IsSmall (voltages_of case x)
-unfolding voltages_of
-voltages_small case x small =
-    All-cons IsSmall (pos 0) (map (λ n. item x (row_at case n)) (range_with_len 1 (length case.nodes))) (omega arith)
-    (All-map IsSmall (λ n. item x (row_at case n)) (range_with_len 1 (length case.nodes)) (λ k d below. small (row_at case (get_or (range_with_len 1 (length case.nodes)) k d))))
 
 -- what a branch keeps where it is in range, and none of another
 kept_small : (o : Option BranchState) → IfSome o (λ s. IsSmall (current_of s)) → IsSmall (current_of (unwrap_or o (LumpedBranch no_lumped)))

@@ -24,7 +24,7 @@ use Rattle.emtp_line.specs.held.Waves.{WavesStand}
 use Rattle.emtp_line.specs.declared.phase_states.PhaseRange.{PhaseRange}
 use Rattle.emtp_lumped.specs.Lumps as lumped
 use Rattle.emtp_lumped.specs.held.Lumps as held_lumped
-use Rattle.emtp_net.proofs.Moves.{is_next, next_record, next_state_read, phase_read, upto_before, upto_here, upto_other}
+use Rattle.emtp_net.proofs.Moves.{is_next, next_record, next_state_read, phase_read, upto_before, upto_here, upto_other, some_is, other_kind}
 use Rattle.emtp_net.proofs.Nodes.{branch_fits}
 use Rattle.emtp_net.specs.held.Branches.{HasCase}
 use Rattle.emtp_net.specs.held.Moving.{HasMoved, HasStopped, StandsBefore, head_by, upto}
@@ -33,9 +33,6 @@ use Rattle.emtp_net.specs.declared.branches.Branches.{Branches}
 use Rattle.emtp_pseudo.specs.Pseudos as pseudo
 use Rattle.emtp_pseudo.specs.held.Pseudos as held_pseudo
 use Rattle.emtp_rows.proofs.Phases.{phase_there}
-
-some_is : {X : Type 0} (o : Option X) (x : X) → o ≡ Some x → IsSome o
-some_is o x is = rw is refl
 
 -- ---- three states
 
@@ -49,6 +46,9 @@ three_first (Some x) (Some y) (Some z) states is =
 
 -- ---- the phase at a place
 
+some_pair : (a b : ℕ × ℕ) → Some a ≡ Some b → a ≡ b
+some_pair a b e = cc
+
 -- the branch that is phase p of a three-phase line
 pub phase_branch : (case : Parts) (t p : ℕ) → AreInThrees case.branches case.trios → t < length case.trios → p < 3 → (x : Phase) × (slice_get case.branches (first_of_trio case.trios t + p) ≡ Some (OfPhase x)) × (x.trio ≡ t) × (x.phase ≡ p)
 phase_branch case t p threes below few =
@@ -60,9 +60,6 @@ phase_branch case t p threes below few =
     let is : phase_of y ≡ Some (t, p) = sym (phase_read case at y there read) ∙ threes.phases t p below few in
     of_kind y read is
   where
-    some_pair : (a b : ℕ × ℕ) → Some a ≡ Some b → a ≡ b
-    some_pair a b e = cc
-
     of_kind : (y : Branch) → slice_get case.branches (first_of_trio case.trios t + p) ≡ Some y → phase_of y ≡ Some (t, p) → (x : Phase) × (slice_get case.branches (first_of_trio case.trios t + p) ≡ Some (OfPhase x)) × (x.trio ≡ t) × (x.phase ≡ p)
     of_kind (OfLumped y) read is = absurd (cc)
     of_kind (OfLine y) read is = absurd (cc)
@@ -91,12 +88,6 @@ begins_one case at t x threes below there is e =
     let same : first_of_trio case.trios t + 0 ≡ at = omega (arith, e) in
     let pair : (x.trio, x.phase) ≡ (t, 0) = some_pair (x.trio, x.phase) (t, 0) (sym (phase_read case at (OfPhase x) there is) ∙ ap (phase_at case.branches) (sym same) ∙ first) in
     (ap (λ (e : ℕ × ℕ). e.0) pair, ap (λ (e : ℕ × ℕ). e.1) pair)
-  where
-    some_pair : (a b : ℕ × ℕ) → Some a ≡ Some b → a ≡ b
-    some_pair a b e = cc
-
-some_same : (x y : Branch) → Some x ≡ Some y → x ≡ y
-some_same x y e = cc
 
 not_lumped : (x : Phase) (y : Lumped) → OfLumped y ≡ OfPhase x → ⊥
 not_lumped x y e = cc
@@ -107,15 +98,12 @@ not_line x y e = cc
 not_pseudo : (x : Phase) (y : Pseudo) → OfPseudo y ≡ OfPhase x → ⊥
 not_pseudo x y e = cc
 
-other_kind : (case : Parts) (at b : ℕ) (x : Phase) (y : Branch) → slice_get case.branches at ≡ Some (OfPhase x) → slice_get case.branches b ≡ Some y → b ≡ at → y ≡ OfPhase x
-other_kind case at b x y is here same = some_same y (OfPhase x) (sym here ∙ ap (slice_get case.branches) same ∙ is)
-
 -- what moves at its place is a phase of its line, if anything does
 pub moves_with : (case : Parts) (at b : ℕ) (x : Phase) (y : Branch) → AreInThrees case.branches case.trios → All (IsBranch case.run (sizes_of case) case.points) case.branches → at < length case.branches → slice_get case.branches at ≡ Some (OfPhase x) → b < length case.branches → slice_get case.branches b ≡ Some y → head_by case b (Some y) ≡ at
     → (x.phase ≡ 0) × (p : ℕ) × (p < 3) × (b ≡ first_of_trio case.trios x.trio + p)
-moves_with case at b x (OfLumped y) threes all there is below here head = absurd (not_lumped x y (other_kind case at b x (OfLumped y) is here head))
-moves_with case at b x (OfLine y) threes all there is below here head = absurd (not_line x y (other_kind case at b x (OfLine y) is here head))
-moves_with case at b x (OfPseudo y) threes all there is below here head = absurd (not_pseudo x y (other_kind case at b x (OfPseudo y) is here head))
+moves_with case at b x (OfLumped y) threes all there is below here head = absurd (not_lumped x y (other_kind case at b (OfPhase x) (OfLumped y) is here head))
+moves_with case at b x (OfLine y) threes all there is below here head = absurd (not_line x y (other_kind case at b (OfPhase x) (OfLine y) is here head))
+moves_with case at b x (OfPseudo y) threes all there is below here head = absurd (not_pseudo x y (other_kind case at b (OfPhase x) (OfPseudo y) is here head))
 moves_with case at b x (OfPhase y) threes all there is below here head =
     let fits = branch_fits case b (OfPhase y) all below here in
     let line = begins_one case at y.trio x threes fits.trio there is head in
@@ -128,24 +116,24 @@ pub phase_waits : (case : Parts) (H : List StepRecord) (vs : List ℤ) (at : ℕ
 phase_waits case H vs at x s i network there is later before = record {
   stands = λ r next upto_at. record {
     lumps = λ b y here.
-        let ne : b ≢ at = λ e. not_lumped x y (other_kind case at b x (OfLumped y) is here e) in
+        let ne : b ≢ at = λ e. not_lumped x y (other_kind case at b (OfPhase x) (OfLumped y) is here e) in
         subst (λ h. held_lumped.StandsAt s.lumps b (lumped.states_of b h)) (sym (upto_other at b r H ne)) (upto_at.lumps b y here);
     lines = λ b y here.
-        let ne : b ≢ at = λ e. not_line x y (other_kind case at b x (OfLine y) is here e) in
+        let ne : b ≢ at = λ e. not_line x y (other_kind case at b (OfPhase x) (OfLine y) is here e) in
         subst (λ h. held_lined.StandsAt s.lines b (lined.states_of b h)) (sym (upto_other at b r H ne)) (upto_at.lines b y here);
     trios = λ u below.
         let ne : first_of_trio case.trios u ≢ at = λ e. later (begins_one case at u x network.in_threes below there is e).1 in
         subst (λ h. held_lined.TrioStandsAt s.lines u (lined.phase_states_of case u h)) (sym (upto_other at (first_of_trio case.trios u) r H ne)) (upto_at.trios u below);
     pseudos = λ b y here.
-        let ne : b ≢ at = λ e. not_pseudo x y (other_kind case at b x (OfPseudo y) is here e) in
+        let ne : b ≢ at = λ e. not_pseudo x y (other_kind case at b (OfPhase x) (OfPseudo y) is here e) in
         subst (λ h. held_pseudo.StandsAt s.pseudos b (pseudo.moments_of y b h)) (sym (upto_other at b r H ne)) (upto_at.pseudos b y here);
   };
   in_range = λ b below head.
       let y = get_or case.branches b (OfPhase x) in
       let read : slice_get case.branches b ≡ Some y = slice_get-get_or case.branches b (OfPhase x) below in
       absurd (later (moves_with case at b x y network.in_threes network.branches there is below read (sym (ap (head_by case b) read) ∙ head)).0);
-  lumped = λ y r next here. absurd (not_lumped x y (other_kind case at at x (OfLumped y) is here refl));
-  pseudo = λ y r next here. absurd (not_pseudo x y (other_kind case at at x (OfPseudo y) is here refl));
+  lumped = λ y r next here. absurd (not_lumped x y (other_kind case at at (OfPhase x) (OfLumped y) is here refl));
+  pseudo = λ y r next here. absurd (not_pseudo x y (other_kind case at at (OfPhase x) (OfPseudo y) is here refl));
 }
 
 -- ---- phase 0
@@ -186,10 +174,10 @@ trio_moves case H vs at x s t is_i i network same there is first lumps pseudos m
     record {
       stands = λ r next upto_at. record {
         lumps = λ b y here.
-            let ne : b ≢ at = λ e. not_lumped x y (other_kind case at b x (OfLumped y) is here e) in
+            let ne : b ≢ at = λ e. not_lumped x y (other_kind case at b (OfPhase x) (OfLumped y) is here e) in
             subst (λ h. held_lumped.StandsAt t.lumps b (lumped.states_of b h)) (sym (upto_other at b r H ne)) (subst (λ z. held_lumped.StandsAt z b (lumped.states_of b (upto at b r H))) (sym lumps) (upto_at.lumps b y here));
         lines = λ b y here.
-            let ne : b ≢ at = λ e. not_line x y (other_kind case at b x (OfLine y) is here e) in
+            let ne : b ≢ at = λ e. not_line x y (other_kind case at b (OfPhase x) (OfLine y) is here e) in
             subst (λ h. held_lined.StandsAt t.lines b (lined.states_of b h)) (sym (upto_other at b r H ne)) (moves.lines b (lined.states_of b (upto at b r H)) (upto_at.lines b y here));
         trios = λ u below. elim (cases_eq u x.trio) [
           | inl e ↦
@@ -205,7 +193,7 @@ trio_moves case H vs at x s t is_i i network same there is first lumps pseudos m
               subst (λ h. held_lined.TrioStandsAt t.lines u (lined.phase_states_of case u h)) (sym (upto_other at (first_of_trio case.trios u) r H off)) (moves.others u (lined.phase_states_of case u (upto at (first_of_trio case.trios u) r H)) ne (upto_at.trios u below))
         ];
         pseudos = λ b y here.
-            let ne : b ≢ at = λ e. not_pseudo x y (other_kind case at b x (OfPseudo y) is here e) in
+            let ne : b ≢ at = λ e. not_pseudo x y (other_kind case at b (OfPhase x) (OfPseudo y) is here e) in
             subst (λ h. held_pseudo.StandsAt t.pseudos b (pseudo.moments_of y b h)) (sym (upto_other at b r H ne)) (subst (λ z. held_pseudo.StandsAt z b (pseudo.moments_of y b (upto at b r H))) (sym pseudos) (upto_at.pseudos b y here));
       };
       in_range = λ b below head.
@@ -213,8 +201,8 @@ trio_moves case H vs at x s t is_i i network same there is first lumps pseudos m
           let read : slice_get case.branches b ≡ Some y = slice_get-get_or case.branches b (OfPhase x) below in
           let found = moves_with case at b x y threes network.branches there is below read (sym (ap (head_by case b) read) ∙ head) in
           subst (λ k. IsSome (state_at case H vs k)) (sym found.3) (some_is (state_at case H vs (first_of_trio case.trios x.trio + found.1)) (PhaseBranch (phase_in states found.1)) (state found.1 found.2));
-      lumped = λ y r next here. absurd (not_lumped x y (other_kind case at at x (OfLumped y) is here refl));
-      pseudo = λ y r next here. absurd (not_pseudo x y (other_kind case at at x (OfPseudo y) is here refl));
+      lumped = λ y r next here. absurd (not_lumped x y (other_kind case at at (OfPhase x) (OfLumped y) is here refl));
+      pseudo = λ y r next here. absurd (not_pseudo x y (other_kind case at at (OfPhase x) (OfPseudo y) is here refl));
     }
   where
     trio_told : (lines : held_lined.Lining) (u : ℕ) (old new : ℕ → List PhaseState) → held_lined.TrioStandsAt lines u old → ((p : ℕ) → p < 3 → old p ≡ new p) → held_lined.TrioStandsAt lines u new

@@ -46,6 +46,21 @@ pub states_here : (s now : Net) (H : List StepRecord) (voltages currents tacs : 
     → s ≡ now → StandsWith now tacs H → voltages ≡ s.voltages → currents ≡ s.switch_currents → switches.states ≡ next_states s.case H
 states_here s now H voltages currents tacs switches moves case_is same stands first second = states_next s.case H switches (switches_next s now H voltages currents tacs switches moves case_is same stands first second)
 
+-- a step whose kinds are decided, from what its first stages answer
+pub record HasBegun (s : Net) (H : List StepRecord) (kinds : List RowKind) (rows : NodalRows) (switches : switching.Switching) : Type 0 where
+  pub stood : StandsFor s H
+  pub states : switches.states ≡ next_states s.case H
+  pub decided : IsDecided s.case H kinds rows switches
+  pub ready : IsReady s.case H s.branches rows s.kept s.made
+
+pub begun : (s now : Net) (H : List StepRecord) (voltages currents tacs : List ℤ) (kinds : List RowKind) (rows : NodalRows) (switches : switching.Switching) → switching.MovesSwitches s.switches switches (s.made + 1) voltages currents tacs → s.switches.case ≡ s.case
+    → s ≡ now → StandsWith now tacs H → voltages ≡ s.voltages → currents ≡ s.switch_currents → ((H : List StepRecord) → switches.states ≡ next_states s.case H → IsDecided s.case H kinds rows switches) → HasBegun s H kinds rows switches
+begun s now H voltages currents tacs kinds rows switches moves case_is same stands first second decides =
+    let stood = subst (λ (n : Net). StandsFor n H) (sym same) stands.network in
+    let states = states_here s now H voltages currents tacs switches moves case_is same stands first second in
+    let decided = decides H states in
+    record { stood = stood; states = states; decided = decided; ready = ready_is s H kinds rows switches stood decided }
+
 pub posed_is : (s : Net) (H : List StepRecord) (rows : NodalRows) (switches : switching.Switching) (old system : NodalSystem) (kept : Good) → StandsFor s H → IsDecided s.case H old.kinds.items rows switches → system.kinds ≡ old.kinds → system.values.items ≡ source_values s.case H → kept.rows ≡ matrix s.case H
     → IsPosed s.case H s.branches system kept
 posed_is s H rows switches old system kept stands decided kinds values made = record { stands = stands.branches; free = decided.free; kinds = ap (λ k. k.items) kinds ∙ decided.kinds_are; values = values; kept_is = made }

@@ -1,4 +1,4 @@
-use Rattle.std.proofs.Common.{◌≡◌, ◌<◌, sym, length, FitsSigned, to_z, of_z, rules, arith}
+use Rattle.std.proofs.Common.{◌≡◌, ◌<◌, sym, length, to_z, of_z, rules, arith}
 use mir.Syntax.{w64}
 use Rattle.std.proofs.lemmas.Int.{to_z-of_z}
 use Rattle.emtp_net.proofs.AllMoved.{all_in_range, all_moved, currents_more, first_out, none_moved, range_more}
@@ -18,8 +18,7 @@ loop-at-preserved c =
     let vs = c.args.voltages.now in
     let at = c.loop-at.at in
     let i = c.in-Ok.current in
-    let fits : FitsSigned w64 i = search rules in
-    let wide : to_z w64 (of_z w64 i) ≡ i = to_z-of_z w64 i fits in
+    let wide = to_z-of_z w64 i (search rules) in
     let inside : at < length c.loop-at.currents = omega (arith, c.loop-at-test.true, c.len-at-end.ensures, c.loop-at.auto.currents, c.requires.currents) in
     record {
       same = c.in-Ok.ensures.same;

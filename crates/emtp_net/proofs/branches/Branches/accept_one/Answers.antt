@@ -1,4 +1,4 @@
-use Rattle.std.proofs.Common.{◌≡◌, ◌∙◌, ℕ, ap, slice_get, Some, FitsSigned, refl, to_z, of_z, rules, length, arith}
+use Rattle.std.proofs.Common.{◌≡◌, ◌∙◌, ℕ, ap, slice_get, Some, refl, to_z, of_z, rules, length, arith}
 use mir.Syntax.{w64}
 use Rattle.std.proofs.lemmas.Int.{to_z-of_z}
 use Rattle.emtp_case.specs.Branch.{from_of, to_of}
@@ -8,7 +8,7 @@ use Rattle.emtp_case.specs.declared.case.Parts.{Parts}
 use Rattle.emtp_elim.specs.Matrix.{item}
 use Rattle.emtp_net.proofs.Moves.{line_moves, line_stops, lumped_moves, lumped_stops, phase_read, pseudo_moves, pseudo_stops}
 use Rattle.emtp_case.proofs.RowsOfNodes.{branch_read}
-use Rattle.emtp_net.proofs.Nodes.{branch_fits, branch_in}
+use Rattle.emtp_net.proofs.Nodes.{branch_fits, branch_held}
 use Rattle.emtp_net.proofs.PhaseMoves.{phase_waits, trio_moves, trio_stops}
 use Rattle.emtp_rows.proofs.Phases.{phase_there}
 use Rattle.emtp_net.proofs.branches.Branches.accept_one.Goals as goal
@@ -20,13 +20,10 @@ returns-in-Ok-clause-moves c = λ H before.
     let x = c.in-Lumped.field-0 in
     let ends : c.ends-from.result ≡ (x.from, x.to) = c.ends-from.ensures ∙ ap (λ (b : Branch). (from_of b, to_of b)) c.in-Lumped.is in
     let is : slice_get case.branches c.args.at ≡ Some (OfLumped x) = branch_read case _ c.args.at _ (OfLumped x) c.as_slice.ensures c.requires.there c.in-Lumped.is in
-    let first : FitsSigned w64 (item vs x.from) = search rules in
-    let second : FitsSigned w64 (item vs x.to) = search rules in
-    let one : to_z w64 (of_z w64 (item vs x.from)) ≡ item vs x.from = to_z-of_z w64 _ first in
-    let two : to_z w64 (of_z w64 (item vs x.to)) ≡ item vs x.to = to_z-of_z w64 _ second in
+    let one = to_z-of_z w64 (item vs x.from) (search rules) in
+    let two = to_z-of_z w64 (item vs x.to) (search rules) in
     let moves = rw (ap (λ (e : ℕ × ℕ). e.0) ends, ap (λ (e : ℕ × ℕ). e.1) ends, one, two) at c.in-Ok.ensures in
-    let fits : FitsSigned w64 c.in-Ok.current = search rules in
-    let wide : to_z w64 (of_z w64 c.in-Ok.current) ≡ c.in-Ok.current = to_z-of_z w64 _ fits in
+    let wide = to_z-of_z w64 c.in-Ok.current (search rules) in
     rw wide (lumped_moves case H vs c.args.at x c.args.self.now _ c.in-Ok.current c.args.case.now.fits.draft.network c.requires.same c.requires.there is refl refl moves before)
 
 pub returns-in-Err-clause-moves : goal.returns-in-Err-clause-moves
@@ -36,10 +33,8 @@ returns-in-Err-clause-moves c = λ H before.
     let x = c.in-Lumped.field-0 in
     let ends : c.ends-from.result ≡ (x.from, x.to) = c.ends-from.ensures ∙ ap (λ (b : Branch). (from_of b, to_of b)) c.in-Lumped.is in
     let is : slice_get case.branches c.args.at ≡ Some (OfLumped x) = branch_read case _ c.args.at _ (OfLumped x) c.as_slice.ensures c.requires.there c.in-Lumped.is in
-    let first : FitsSigned w64 (item vs x.from) = search rules in
-    let second : FitsSigned w64 (item vs x.to) = search rules in
-    let one : to_z w64 (of_z w64 (item vs x.from)) ≡ item vs x.from = to_z-of_z w64 _ first in
-    let two : to_z w64 (of_z w64 (item vs x.to)) ≡ item vs x.to = to_z-of_z w64 _ second in
+    let one = to_z-of_z w64 (item vs x.from) (search rules) in
+    let two = to_z-of_z w64 (item vs x.to) (search rules) in
     let moves = rw (ap (λ (e : ℕ × ℕ). e.0) ends, ap (λ (e : ℕ × ℕ). e.1) ends, one, two) at c.in-Err.ensures in
     lumped_stops case H vs c.args.at x c.args.self.now (record c.args.self.now { lumps = c.accept.new.self }) c.in-Err.field-0 c.requires.same c.requires.there is moves before
 
@@ -50,13 +45,10 @@ returns-in-Ok-accept-clause-moves c = λ H before.
     let x = c.in-Line.field-0 in
     let ends : c.ends-from.result ≡ (x.from, x.to) = c.ends-from.ensures ∙ ap (λ (b : Branch). (from_of b, to_of b)) c.in-Line.is in
     let is : slice_get case.branches c.args.at ≡ Some (OfLine x) = branch_read case _ c.args.at _ (OfLine x) c.as_slice.ensures c.requires.there c.in-Line.is in
-    let first : FitsSigned w64 (item vs x.from) = search rules in
-    let second : FitsSigned w64 (item vs x.to) = search rules in
-    let one : to_z w64 (of_z w64 (item vs x.from)) ≡ item vs x.from = to_z-of_z w64 _ first in
-    let two : to_z w64 (of_z w64 (item vs x.to)) ≡ item vs x.to = to_z-of_z w64 _ second in
+    let one = to_z-of_z w64 (item vs x.from) (search rules) in
+    let two = to_z-of_z w64 (item vs x.to) (search rules) in
     let moves = rw (ap (λ (e : ℕ × ℕ). e.0) ends, ap (λ (e : ℕ × ℕ). e.1) ends, one, two) at c.in-Ok-accept.ensures in
-    let fits : FitsSigned w64 c.in-Ok-accept.current = search rules in
-    let wide : to_z w64 (of_z w64 c.in-Ok-accept.current) ≡ c.in-Ok-accept.current = to_z-of_z w64 _ fits in
+    let wide = to_z-of_z w64 c.in-Ok-accept.current (search rules) in
     rw wide (line_moves case H vs c.args.at x c.args.self.now _ c.in-Ok-accept.current c.args.case.now.fits.draft.network c.requires.same c.requires.there is refl refl moves before)
 
 pub returns-in-Err-accept-clause-moves : goal.returns-in-Err-accept-clause-moves
@@ -66,10 +58,8 @@ returns-in-Err-accept-clause-moves c = λ H before.
     let x = c.in-Line.field-0 in
     let ends : c.ends-from.result ≡ (x.from, x.to) = c.ends-from.ensures ∙ ap (λ (b : Branch). (from_of b, to_of b)) c.in-Line.is in
     let is : slice_get case.branches c.args.at ≡ Some (OfLine x) = branch_read case _ c.args.at _ (OfLine x) c.as_slice.ensures c.requires.there c.in-Line.is in
-    let first : FitsSigned w64 (item vs x.from) = search rules in
-    let second : FitsSigned w64 (item vs x.to) = search rules in
-    let one : to_z w64 (of_z w64 (item vs x.from)) ≡ item vs x.from = to_z-of_z w64 _ first in
-    let two : to_z w64 (of_z w64 (item vs x.to)) ≡ item vs x.to = to_z-of_z w64 _ second in
+    let one = to_z-of_z w64 (item vs x.from) (search rules) in
+    let two = to_z-of_z w64 (item vs x.to) (search rules) in
     let moves = rw (ap (λ (e : ℕ × ℕ). e.0) ends, ap (λ (e : ℕ × ℕ). e.1) ends, one, two) at c.in-Err-accept.ensures in
     line_stops case H vs c.args.at x c.args.self.now (record c.args.self.now { lines = c.accept-in-Line.new.self }) c.in-Err-accept.field-0 c.requires.same c.requires.there is moves before
 
@@ -80,13 +70,10 @@ returns-in-Ok-accept-2-clause-moves c = λ H before.
     let x = c.in-Pseudo.field-0 in
     let ends : c.ends-from.result ≡ (x.from, x.to) = c.ends-from.ensures ∙ ap (λ (b : Branch). (from_of b, to_of b)) c.in-Pseudo.is in
     let is : slice_get case.branches c.args.at ≡ Some (OfPseudo x) = branch_read case _ c.args.at _ (OfPseudo x) c.as_slice.ensures c.requires.there c.in-Pseudo.is in
-    let first : FitsSigned w64 (item vs x.from) = search rules in
-    let second : FitsSigned w64 (item vs x.to) = search rules in
-    let one : to_z w64 (of_z w64 (item vs x.from)) ≡ item vs x.from = to_z-of_z w64 _ first in
-    let two : to_z w64 (of_z w64 (item vs x.to)) ≡ item vs x.to = to_z-of_z w64 _ second in
+    let one = to_z-of_z w64 (item vs x.from) (search rules) in
+    let two = to_z-of_z w64 (item vs x.to) (search rules) in
     let moves = rw (ap (λ (e : ℕ × ℕ). e.0) ends, ap (λ (e : ℕ × ℕ). e.1) ends, one, two) at c.in-Ok-accept-2.ensures in
-    let fits : FitsSigned w64 c.in-Ok-accept-2.current = search rules in
-    let wide : to_z w64 (of_z w64 c.in-Ok-accept-2.current) ≡ c.in-Ok-accept-2.current = to_z-of_z w64 _ fits in
+    let wide = to_z-of_z w64 c.in-Ok-accept-2.current (search rules) in
     rw wide (pseudo_moves case H vs c.args.at x c.args.self.now _ c.in-Ok-accept-2.current c.args.case.now.fits.draft.network c.requires.same c.requires.there is refl refl moves before)
 
 pub returns-in-Err-accept-2-clause-moves : goal.returns-in-Err-accept-2-clause-moves
@@ -96,10 +83,8 @@ returns-in-Err-accept-2-clause-moves c = λ H before.
     let x = c.in-Pseudo.field-0 in
     let ends : c.ends-from.result ≡ (x.from, x.to) = c.ends-from.ensures ∙ ap (λ (b : Branch). (from_of b, to_of b)) c.in-Pseudo.is in
     let is : slice_get case.branches c.args.at ≡ Some (OfPseudo x) = branch_read case _ c.args.at _ (OfPseudo x) c.as_slice.ensures c.requires.there c.in-Pseudo.is in
-    let first : FitsSigned w64 (item vs x.from) = search rules in
-    let second : FitsSigned w64 (item vs x.to) = search rules in
-    let one : to_z w64 (of_z w64 (item vs x.from)) ≡ item vs x.from = to_z-of_z w64 _ first in
-    let two : to_z w64 (of_z w64 (item vs x.to)) ≡ item vs x.to = to_z-of_z w64 _ second in
+    let one = to_z-of_z w64 (item vs x.from) (search rules) in
+    let two = to_z-of_z w64 (item vs x.to) (search rules) in
     let moves = rw (ap (λ (e : ℕ × ℕ). e.0) ends, ap (λ (e : ℕ × ℕ). e.1) ends, one, two) at c.in-Err-accept-2.ensures in
     pseudo_stops case H vs c.args.at x c.args.self.now (record c.args.self.now { pseudos = c.accept-in-Pseudo.new.self }) c.in-Err-accept-2.field-0 c.requires.same c.requires.there is moves before
 
@@ -144,24 +129,18 @@ returns-in-Err-accept_three-clause-there c =
 
 pub accept-requires : goal.accept-requires
 accept-requires c =
-    let case = c.args.case.now.parts in
     let x = c.in-Lumped.field-0 in
-    let is : slice_get case.branches c.args.at ≡ Some (OfLumped x) = branch_read case _ c.args.at _ (OfLumped x) c.as_slice.ensures c.requires.there c.in-Lumped.is in
-    (x, branch_in c.args.self.now.lumps.case case c.args.at (OfLumped x) c.requires.same.lumps is)
+    (x, branch_held _ c.args.case.now.parts _ c.args.at _ (OfLumped x) c.requires.same.lumps c.as_slice.ensures c.requires.there c.in-Lumped.is)
 
 pub accept-requires-in-Line : goal.accept-requires-in-Line
 accept-requires-in-Line c =
-    let case = c.args.case.now.parts in
     let x = c.in-Line.field-0 in
-    let is : slice_get case.branches c.args.at ≡ Some (OfLine x) = branch_read case _ c.args.at _ (OfLine x) c.as_slice.ensures c.requires.there c.in-Line.is in
-    (x, branch_in c.args.self.now.lines.case case c.args.at (OfLine x) c.requires.same.lines is)
+    (x, branch_held _ c.args.case.now.parts _ c.args.at _ (OfLine x) c.requires.same.lines c.as_slice.ensures c.requires.there c.in-Line.is)
 
 pub accept-requires-in-Pseudo : goal.accept-requires-in-Pseudo
 accept-requires-in-Pseudo c =
-    let case = c.args.case.now.parts in
     let x = c.in-Pseudo.field-0 in
-    let is : slice_get case.branches c.args.at ≡ Some (OfPseudo x) = branch_read case _ c.args.at _ (OfPseudo x) c.as_slice.ensures c.requires.there c.in-Pseudo.is in
-    (x, branch_in c.args.self.now.pseudos.case case c.args.at (OfPseudo x) c.requires.same.pseudos is)
+    (x, branch_held _ c.args.case.now.parts _ c.args.at _ (OfPseudo x) c.requires.same.pseudos c.as_slice.ensures c.requires.there c.in-Pseudo.is)
 
 pub returns-in-Ok-clause-same : goal.returns-in-Ok-clause-same
 returns-in-Ok-clause-same c = record { lumps = c.accept.ensures.case ∙ c.requires.same.lumps; lines = c.requires.same.lines; pseudos = c.requires.same.pseudos }
@@ -169,17 +148,11 @@ returns-in-Ok-clause-same c = record { lumps = c.accept.ensures.case ∙ c.requi
 pub returns-in-Err-clause-same : goal.returns-in-Err-clause-same
 returns-in-Err-clause-same c = record { lumps = c.accept.ensures.case ∙ c.requires.same.lumps; lines = c.requires.same.lines; pseudos = c.requires.same.pseudos }
 
-pub returns-in-Err-clause-there : goal.returns-in-Err-clause-there
-returns-in-Err-clause-there c = c.requires.there
-
 pub returns-in-Ok-accept-clause-same : goal.returns-in-Ok-accept-clause-same
 returns-in-Ok-accept-clause-same c = record { lumps = c.requires.same.lumps; lines = c.accept-in-Line.ensures.case ∙ c.requires.same.lines; pseudos = c.requires.same.pseudos }
 
 pub returns-in-Err-accept-clause-same : goal.returns-in-Err-accept-clause-same
 returns-in-Err-accept-clause-same c = record { lumps = c.requires.same.lumps; lines = c.accept-in-Line.ensures.case ∙ c.requires.same.lines; pseudos = c.requires.same.pseudos }
-
-pub returns-in-Err-accept-clause-there : goal.returns-in-Err-accept-clause-there
-returns-in-Err-accept-clause-there c = c.requires.there
 
 pub returns-in-Ok-accept-2-clause-same : goal.returns-in-Ok-accept-2-clause-same
 returns-in-Ok-accept-2-clause-same c = record { lumps = c.requires.same.lumps; lines = c.requires.same.lines; pseudos = c.accept-in-Pseudo.ensures.case ∙ c.requires.same.pseudos }
@@ -187,17 +160,11 @@ returns-in-Ok-accept-2-clause-same c = record { lumps = c.requires.same.lumps; l
 pub returns-in-Err-accept-2-clause-same : goal.returns-in-Err-accept-2-clause-same
 returns-in-Err-accept-2-clause-same c = record { lumps = c.requires.same.lumps; lines = c.requires.same.lines; pseudos = c.accept-in-Pseudo.ensures.case ∙ c.requires.same.pseudos }
 
-pub returns-in-Err-accept-2-clause-there : goal.returns-in-Err-accept-2-clause-there
-returns-in-Err-accept-2-clause-there c = c.requires.there
-
 pub returns-in-Ok-accept_three-clause-same : goal.returns-in-Ok-accept_three-clause-same
 returns-in-Ok-accept_three-clause-same c = record { lumps = c.requires.same.lumps; lines = c.accept_three.ensures.case ∙ c.requires.same.lines; pseudos = c.requires.same.pseudos }
 
 pub returns-in-Err-accept_three-clause-same : goal.returns-in-Err-accept_three-clause-same
 returns-in-Err-accept_three-clause-same c = record { lumps = c.requires.same.lumps; lines = c.accept_three.ensures.case ∙ c.requires.same.lines; pseudos = c.requires.same.pseudos }
-
-pub returns-then-b-ne0-clause-same : goal.returns-then-b-ne0-clause-same
-returns-then-b-ne0-clause-same c = c.requires.same
 
 pub phase_voltages-v-requires-clause-trio : goal.phase_voltages-v-requires-clause-trio
 phase_voltages-v-requires-clause-trio c =
@@ -206,18 +173,12 @@ phase_voltages-v-requires-clause-trio c =
     let is : slice_get case.branches c.args.at ≡ Some (OfPhase x) = branch_read case _ c.args.at _ (OfPhase x) c.as_slice.ensures c.requires.there c.in-Phase.is in
     (branch_fits case c.args.at (OfPhase x) c.args.case.now.fits.draft.network.branches c.requires.there is).trio
 
-pub phase_voltages-v-requires-clause-each : goal.phase_voltages-v-requires-clause-each
-phase_voltages-v-requires-clause-each c = c.requires.each
-
 pub phase_voltages-w-requires-clause-trio : goal.phase_voltages-w-requires-clause-trio
 phase_voltages-w-requires-clause-trio c =
     let case = c.args.case.now.parts in
     let x = c.in-Phase.b in
     let is : slice_get case.branches c.args.at ≡ Some (OfPhase x) = branch_read case _ c.args.at _ (OfPhase x) c.as_slice.ensures c.requires.there c.in-Phase.is in
     (branch_fits case c.args.at (OfPhase x) c.args.case.now.fits.draft.network.branches c.requires.there is).trio
-
-pub phase_voltages-w-requires-clause-each : goal.phase_voltages-w-requires-clause-each
-phase_voltages-w-requires-clause-each c = c.requires.each
 
 pub accept_three-requires : goal.accept_three-requires
 accept_three-requires c =

@@ -1,4 +1,4 @@
-use Rattle.std.proofs.Common.{◌≡◌, ◌∙◌, ◌<◌, ◌+◌, ◌∷◌, sym, ap, length, slice_get, Some, FitsSigned, to_z, of_z, rules, arith}
+use Rattle.std.proofs.Common.{◌≡◌, ◌∙◌, ◌<◌, ◌+◌, ◌∷◌, sym, ap, length, slice_get, Some, to_z, of_z, rules, arith}
 use mir.Syntax.{w64}
 use Rattle.std.proofs.lemmas.Int.{to_z-of_z}
 use Rattle.emtp_case.specs.Branch.{first_of_trio}
@@ -13,7 +13,7 @@ use Rattle.emtp_line.specs.Mode.{mode_of_line}
 use Rattle.emtp_net.proofs.Bringing.{line_brings, lumped_brings, phase_brings, pseudo_brings}
 use Rattle.emtp_net.proofs.Moves.{phase_read}
 use Rattle.emtp_case.proofs.RowsOfNodes.{branch_read}
-use Rattle.emtp_net.proofs.Nodes.{branch_fits, branch_in}
+use Rattle.emtp_net.proofs.Nodes.{branch_fits, branch_in, branch_held}
 use Rattle.emtp_net.proofs.PhaseMoves.{phase_next}
 use Rattle.emtp_net.specs.System.{taken, through}
 use Rattle.emtp_net.specs.Part.{state_by}
@@ -25,8 +25,7 @@ returns-in-Lumped-clause-value c = λ H vs r next moved.
     let at = c.args.at in
     let x = c.in-Lumped.field-0 in
     let is : slice_get case.branches at ≡ Some (OfLumped x) = branch_read case _ at _ (OfLumped x) c.as_slice.ensures c.requires.there c.in-Lumped.is in
-    let fits : FitsSigned w64 (item c.args.currents.now at) = search rules in
-    let same : to_z w64 (of_z w64 (item c.args.currents.now at)) ≡ item c.args.currents.now at = to_z-of_z w64 _ fits in
+    let same = to_z-of_z w64 (item c.args.currents.now at) (search rules) in
     c.through_narrow.ensures.value ∙ ap through same ∙ lumped_brings case H vs c.args.currents.now r c.args.self.now at x c.requires.there is next moved
 
 pub returns-in-Pseudo-clause-value : goal.returns-in-Pseudo-clause-value
@@ -35,8 +34,7 @@ returns-in-Pseudo-clause-value c = λ H vs r next moved.
     let at = c.args.at in
     let x = c.in-Pseudo.field-0 in
     let is : slice_get case.branches at ≡ Some (OfPseudo x) = branch_read case _ at _ (OfPseudo x) c.as_slice.ensures c.requires.there c.in-Pseudo.is in
-    let fits : FitsSigned w64 (item c.args.currents.now at) = search rules in
-    let same : to_z w64 (of_z w64 (item c.args.currents.now at)) ≡ item c.args.currents.now at = to_z-of_z w64 _ fits in
+    let same = to_z-of_z w64 (item c.args.currents.now at) (search rules) in
     c.through_narrow-in-Pseudo.ensures.value ∙ ap through same ∙ pseudo_brings case H vs c.args.currents.now r c.args.self.now at x c.requires.there is next moved
 
 pub returns-in-Line-clause-value : goal.returns-in-Line-clause-value
@@ -68,15 +66,7 @@ returns-in-Phase-clause-value c = λ H vs r next moved.
     ∙ phase_brings case H vs c.args.currents.now r c.args.self.now at (phase_next case H vs x.trio x.phase) c.requires.there (ap (state_by case H vs at) is) next moved
 
 pub end_currents-requires : goal.end_currents-requires
-end_currents-requires c =
-    let case = c.args.case.now.parts in
-    let x = c.in-Line.field-0 in
-    let is : slice_get case.branches c.args.at ≡ Some (OfLine x) = branch_read case _ c.args.at _ (OfLine x) c.as_slice.ensures c.requires.there c.in-Line.is in
-    rw (branch_in c.args.self.now.lines.case case c.args.at (OfLine x) c.requires.same.lines is) tt
+end_currents-requires c = rw (branch_held c.args.self.now.lines.case c.args.case.now.parts _ c.args.at _ (OfLine c.in-Line.field-0) c.requires.same.lines c.as_slice.ensures c.requires.there c.in-Line.is) tt
 
 pub end_currents-requires-in-Phase : goal.end_currents-requires-in-Phase
-end_currents-requires-in-Phase c =
-    let case = c.args.case.now.parts in
-    let x = c.in-Phase.field-0 in
-    let is : slice_get case.branches c.args.at ≡ Some (OfPhase x) = branch_read case _ c.args.at _ (OfPhase x) c.as_slice.ensures c.requires.there c.in-Phase.is in
-    rw (branch_in c.args.self.now.lines.case case c.args.at (OfPhase x) c.requires.same.lines is) tt
+end_currents-requires-in-Phase c = rw (branch_held c.args.self.now.lines.case c.args.case.now.parts _ c.args.at _ (OfPhase c.in-Phase.field-0) c.requires.same.lines c.as_slice.ensures c.requires.there c.in-Phase.is) tt

@@ -10,7 +10,7 @@ use Rattle.emtp_lumped.specs.Companion.{companion_of}
 use Rattle.emtp_pseudo.specs.Pseudos as pseudo
 use Rattle.emtp_net.specs.System.{conductance_by}
 use Rattle.emtp_case.proofs.RowsOfNodes.{branch_read}
-use Rattle.emtp_net.proofs.Nodes.{branch_in}
+use Rattle.emtp_net.proofs.Nodes.{branch_in, branch_held}
 use Rattle.emtp_net.proofs.branches.Branches.conductance.Goals as goal
 
 pub returns-in-Lumped-clause-value : goal.returns-in-Lumped-clause-value
@@ -67,28 +67,16 @@ returns-in-Phase-clause-small c = omega (arith, ints, c.conductance-in-Phase.ens
 
 pub conductance-requires : goal.conductance-requires
 conductance-requires c =
-    let case = c.args.case.now.parts in
     let x = c.in-Lumped.field-0 in
-    let is : slice_get case.branches c.args.at ≡ Some (OfLumped x) = branch_read case _ c.args.at _ (OfLumped x) c.as_slice.ensures c.requires.there c.in-Lumped.is in
-    (x, branch_in c.args.self.now.lumps.case case c.args.at (OfLumped x) c.requires.same.lumps is)
+    (x, branch_held _ c.args.case.now.parts _ c.args.at _ (OfLumped x) c.requires.same.lumps c.as_slice.ensures c.requires.there c.in-Lumped.is)
 
 pub conductance-requires-in-Line : goal.conductance-requires-in-Line
-conductance-requires-in-Line c =
-    let case = c.args.case.now.parts in
-    let x = c.in-Line.field-0 in
-    let is : slice_get case.branches c.args.at ≡ Some (OfLine x) = branch_read case _ c.args.at _ (OfLine x) c.as_slice.ensures c.requires.there c.in-Line.is in
-    rw (branch_in c.args.self.now.lines.case case c.args.at (OfLine x) c.requires.same.lines is) tt
+conductance-requires-in-Line c = rw (branch_held c.args.self.now.lines.case c.args.case.now.parts _ c.args.at _ (OfLine c.in-Line.field-0) c.requires.same.lines c.as_slice.ensures c.requires.there c.in-Line.is) tt
 
 pub conductance-requires-in-Pseudo : goal.conductance-requires-in-Pseudo
 conductance-requires-in-Pseudo c =
-    let case = c.args.case.now.parts in
     let x = c.in-Pseudo.field-0 in
-    let is : slice_get case.branches c.args.at ≡ Some (OfPseudo x) = branch_read case _ c.args.at _ (OfPseudo x) c.as_slice.ensures c.requires.there c.in-Pseudo.is in
-    (x, branch_in c.args.self.now.pseudos.case case c.args.at (OfPseudo x) c.requires.same.pseudos is)
+    (x, branch_held _ c.args.case.now.parts _ c.args.at _ (OfPseudo x) c.requires.same.pseudos c.as_slice.ensures c.requires.there c.in-Pseudo.is)
 
 pub conductance-requires-in-Phase : goal.conductance-requires-in-Phase
-conductance-requires-in-Phase c =
-    let case = c.args.case.now.parts in
-    let x = c.in-Phase.field-0 in
-    let is : slice_get case.branches c.args.at ≡ Some (OfPhase x) = branch_read case _ c.args.at _ (OfPhase x) c.as_slice.ensures c.requires.there c.in-Phase.is in
-    rw (branch_in c.args.self.now.lines.case case c.args.at (OfPhase x) c.requires.same.lines is) tt
+conductance-requires-in-Phase c = rw (branch_held c.args.self.now.lines.case c.args.case.now.parts _ c.args.at _ (OfPhase c.in-Phase.field-0) c.requires.same.lines c.as_slice.ensures c.requires.there c.in-Phase.is) tt

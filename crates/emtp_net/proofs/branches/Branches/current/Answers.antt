@@ -1,4 +1,4 @@
-use Rattle.std.proofs.Common.{◌≡◌, ◌∙◌, ◌<◌, ◌+◌, ◌∷◌, sym, ap, length, slice_get, Some, ℤ, FitsSigned, to_z, of_z, rules, arith}
+use Rattle.std.proofs.Common.{◌≡◌, ◌∙◌, ◌<◌, ◌+◌, ◌∷◌, sym, ap, length, slice_get, Some, ℤ, to_z, of_z, rules, arith}
 use mir.Syntax.{w64}
 use Rattle.std.proofs.lemmas.Int.{ints, to_z-of_z}
 use Rattle.emtp_case.specs.Branch.{first_of_trio}
@@ -10,7 +10,7 @@ use Rattle.emtp_elim.specs.Matrix.{item}
 use Rattle.emtp_line.specs.Lines as lined
 use Rattle.emtp_net.proofs.Moves.{phase_read}
 use Rattle.emtp_case.proofs.RowsOfNodes.{branch_read}
-use Rattle.emtp_net.proofs.Nodes.{branch_fits, branch_in}
+use Rattle.emtp_net.proofs.Nodes.{branch_fits, branch_in, branch_held}
 use Rattle.emtp_net.proofs.branches.Branches.current.Goals as goal
 
 pub returns-in-Lumped : goal.returns-in-Lumped
@@ -18,16 +18,14 @@ returns-in-Lumped c = λ r past stands currents lines.
     let at = c.args.at in
     let x = c.in-Lumped.field-0 in
     let is = branch_read c.args.case.now.parts _ at _ (OfLumped x) c.as_slice.ensures c.requires.there c.in-Lumped.is in
-    let fits : FitsSigned w64 (item c.args.currents.now at) = search rules in
-    to_z-of_z w64 (item c.args.currents.now at) fits ∙ currents.lumps at x c.requires.there is
+    to_z-of_z w64 (item c.args.currents.now at) (search rules) ∙ currents.lumps at x c.requires.there is
 
 pub returns-in-Pseudo : goal.returns-in-Pseudo
 returns-in-Pseudo c = λ r past stands currents lines.
     let at = c.args.at in
     let x = c.in-Pseudo.field-0 in
     let is = branch_read c.args.case.now.parts _ at _ (OfPseudo x) c.as_slice.ensures c.requires.there c.in-Pseudo.is in
-    let fits : FitsSigned w64 (item c.args.currents.now at) = search rules in
-    to_z-of_z w64 (item c.args.currents.now at) fits ∙ currents.pseudos at x c.requires.there is
+    to_z-of_z w64 (item c.args.currents.now at) (search rules) ∙ currents.pseudos at x c.requires.there is
 
 pub returns-in-Line : goal.returns-in-Line
 returns-in-Line c = λ r past stands currents lines.
@@ -56,15 +54,7 @@ returns-in-Phase c = λ r past stands currents lines.
     wide ∙ ap (λ (p : ℤ × ℤ). p.0) value ∙ ap (λ (z : PhaseState). z.from_current) newest ∙ sym (lines.phases at x is)
 
 pub end_currents-requires : goal.end_currents-requires
-end_currents-requires c =
-    let case = c.args.case.now.parts in
-    let x = c.in-Line.field-0 in
-    let is : slice_get case.branches c.args.at ≡ Some (OfLine x) = branch_read case _ c.args.at _ (OfLine x) c.as_slice.ensures c.requires.there c.in-Line.is in
-    rw (branch_in c.args.self.now.lines.case case c.args.at (OfLine x) c.requires.same.lines is) tt
+end_currents-requires c = rw (branch_held c.args.self.now.lines.case c.args.case.now.parts _ c.args.at _ (OfLine c.in-Line.field-0) c.requires.same.lines c.as_slice.ensures c.requires.there c.in-Line.is) tt
 
 pub end_currents-requires-in-Phase : goal.end_currents-requires-in-Phase
-end_currents-requires-in-Phase c =
-    let case = c.args.case.now.parts in
-    let x = c.in-Phase.field-0 in
-    let is : slice_get case.branches c.args.at ≡ Some (OfPhase x) = branch_read case _ c.args.at _ (OfPhase x) c.as_slice.ensures c.requires.there c.in-Phase.is in
-    rw (branch_in c.args.self.now.lines.case case c.args.at (OfPhase x) c.requires.same.lines is) tt
+end_currents-requires-in-Phase c = rw (branch_held c.args.self.now.lines.case c.args.case.now.parts _ c.args.at _ (OfPhase c.in-Phase.field-0) c.requires.same.lines c.as_slice.ensures c.requires.there c.in-Phase.is) tt

@@ -12,7 +12,7 @@ use Rattle.emtp_net.specs.held.Network.{Net, StandsFor}
 use Rattle.emtp_net.specs.held.Stages.{AreVoltages, HasLeaving}
 use Rattle.emtp_net.proofs.Factoring.{holds_kinds}
 use Rattle.emtp_net.proofs.Holding.{few_next, switches_stay}
-use Rattle.emtp_net.proofs.Stepping.{HasStepped, counted, counted_still, err_claims, err_names, err_steps, judge_steps, ok_claims, posed_is, ready_is, states_here, switches_next, ticked}
+use Rattle.emtp_net.proofs.Stepping.{HasStepped, counted, counted_still, err_claims, err_names, err_steps, judge_steps, ok_claims, posed_is, states_here, switches_next, ticked, begun}
 use Rattle.emtp_net.proofs.Switching.{keeps_on, keeps_still}
 use Rattle.emtp_net.proofs.network.Network.step.Goals as goal
 
@@ -159,19 +159,13 @@ returns-in_err-factor g c =
     record {
       counts = counted _ _ _ _ _ c.self.view_is refl refl c.factor.ensures.few c.factor.ensures.few_ticks;
       step = λ H stands.
-          let stood = subst (λ (s : Net). StandsFor s H) (sym c.self.view_is) stands.network in
-          let states = states_here _ _ H c.deref.result.now c.deref-2.result.now c.args.tacs.now c.decide.new.self c.decide.ensures.stands c.self.invariant.switches_hold.case_is c.self.view_is stands c.deref.ensures.value c.deref-2.ensures.value in
-          let decided = c.in_ok-set_kinds.ensures.kinds H states in
-          let ready = ready_is _ H c.set_kinds.new.self.kinds.items c.set_kinds.new.rows c.decide.new.self stood decided in
-          let redone = (c.factor.ensures.factors H ready).redone in
+          let is = begun _ _ H c.deref.result.now c.deref-2.result.now c.args.tacs.now c.set_kinds.new.self.kinds.items c.set_kinds.new.rows c.decide.new.self c.decide.ensures.stands c.self.invariant.switches_hold.case_is c.self.view_is stands c.deref.ensures.value c.deref-2.ensures.value c.in_ok-set_kinds.ensures.kinds in
+          let redone = (c.factor.ensures.factors H is.ready).redone in
           let returned = err_from_is_err_and c.from_residual-in_err-factor.result c.from_residual-in_err-factor.ensures.1 in
-          err_steps _ _ _ H c.from_residual-in_err-factor.result _ _ c.self.view_is stood refl redone (returned.1 ∙ ap Err returned.2) (c.in_err-factor.ensures.factors H ready).ends;
+          err_steps _ _ _ H c.from_residual-in_err-factor.result _ _ c.self.view_is is.stood refl redone (returned.1 ∙ ap Err returned.2) (c.in_err-factor.ensures.factors H is.ready).ends;
       ticks = λ H stands.
-          let stood = subst (λ (s : Net). StandsFor s H) (sym c.self.view_is) stands.network in
-          let states = states_here _ _ H c.deref.result.now c.deref-2.result.now c.args.tacs.now c.decide.new.self c.decide.ensures.stands c.self.invariant.switches_hold.case_is c.self.view_is stands c.deref.ensures.value c.deref-2.ensures.value in
-          let decided = c.in_ok-set_kinds.ensures.kinds H states in
-          let ready = ready_is _ H c.set_kinds.new.self.kinds.items c.set_kinds.new.rows c.decide.new.self stood decided in
-          ticked _ _ H c.from_residual-in_err-factor.result _ _ c.self.view_is ready.free (c.factor.ensures.factors H ready).most (err_claims _ c.from_residual-in_err-factor.result _ c.from_residual-in_err-factor.ensures.1);
+          let is = begun _ _ H c.deref.result.now c.deref-2.result.now c.args.tacs.now c.set_kinds.new.self.kinds.items c.set_kinds.new.rows c.decide.new.self c.decide.ensures.stands c.self.invariant.switches_hold.case_is c.self.view_is stands c.deref.ensures.value c.deref-2.ensures.value c.in_ok-set_kinds.ensures.kinds in
+          ticked _ _ H c.from_residual-in_err-factor.result _ _ c.self.view_is is.ready.free (c.factor.ensures.factors H is.ready).most (err_claims _ c.from_residual-in_err-factor.result _ c.from_residual-in_err-factor.ensures.1);
       node = err_names _ _ c.from_residual-in_err-factor.result _ c.self.view_is c.from_residual-in_err-factor.ensures.1 c.in_err-factor.ensures.node;
     }
 
@@ -180,21 +174,15 @@ returns-in_err-solve g c =
     record {
       counts = counted _ _ _ _ _ c.self.view_is refl refl c.factor.ensures.few c.factor.ensures.few_ticks;
       step = λ H stands.
-          let stood = subst (λ (s : Net). StandsFor s H) (sym c.self.view_is) stands.network in
-          let states = states_here _ _ H c.deref.result.now c.deref-2.result.now c.args.tacs.now c.decide.new.self c.decide.ensures.stands c.self.invariant.switches_hold.case_is c.self.view_is stands c.deref.ensures.value c.deref-2.ensures.value in
-          let decided = c.in_ok-set_kinds.ensures.kinds H states in
-          let ready = ready_is _ H c.set_kinds.new.self.kinds.items c.set_kinds.new.rows c.decide.new.self stood decided in
-          let values = c.set_sources.ensures.values H stood.steps stands.control in
-          let posed = posed_is _ H c.set_kinds.new.rows c.decide.new.self c.set_kinds.new.self c.set_sources.new.self c.factor.new.self.kept stood decided c.set_sources.ensures.kinds values (c.in_ok-factor.ensures.factors H ready).made in
-          let redone = (c.factor.ensures.factors H ready).redone in
+          let is = begun _ _ H c.deref.result.now c.deref-2.result.now c.args.tacs.now c.set_kinds.new.self.kinds.items c.set_kinds.new.rows c.decide.new.self c.decide.ensures.stands c.self.invariant.switches_hold.case_is c.self.view_is stands c.deref.ensures.value c.deref-2.ensures.value c.in_ok-set_kinds.ensures.kinds in
+          let values = c.set_sources.ensures.values H is.stood.steps stands.control in
+          let posed = posed_is _ H c.set_kinds.new.rows c.decide.new.self c.set_kinds.new.self c.set_sources.new.self c.factor.new.self.kept is.stood is.decided c.set_sources.ensures.kinds values (c.in_ok-factor.ensures.factors H is.ready).made in
+          let redone = (c.factor.ensures.factors H is.ready).redone in
           let returned = err_from_is_err_and c.from_residual-in_err-solve.result c.from_residual-in_err-solve.ensures.1 in
-          err_steps _ _ _ H c.from_residual-in_err-solve.result _ _ c.self.view_is stood refl redone (returned.1 ∙ ap Err returned.2) (c.in_err-solve.ensures.finds H posed);
+          err_steps _ _ _ H c.from_residual-in_err-solve.result _ _ c.self.view_is is.stood refl redone (returned.1 ∙ ap Err returned.2) (c.in_err-solve.ensures.finds H posed);
       ticks = λ H stands.
-          let stood = subst (λ (s : Net). StandsFor s H) (sym c.self.view_is) stands.network in
-          let states = states_here _ _ H c.deref.result.now c.deref-2.result.now c.args.tacs.now c.decide.new.self c.decide.ensures.stands c.self.invariant.switches_hold.case_is c.self.view_is stands c.deref.ensures.value c.deref-2.ensures.value in
-          let decided = c.in_ok-set_kinds.ensures.kinds H states in
-          let ready = ready_is _ H c.set_kinds.new.self.kinds.items c.set_kinds.new.rows c.decide.new.self stood decided in
-          ticked _ _ H c.from_residual-in_err-solve.result _ _ c.self.view_is ready.free (c.factor.ensures.factors H ready).most (err_claims _ c.from_residual-in_err-solve.result _ c.from_residual-in_err-solve.ensures.1);
+          let is = begun _ _ H c.deref.result.now c.deref-2.result.now c.args.tacs.now c.set_kinds.new.self.kinds.items c.set_kinds.new.rows c.decide.new.self c.decide.ensures.stands c.self.invariant.switches_hold.case_is c.self.view_is stands c.deref.ensures.value c.deref-2.ensures.value c.in_ok-set_kinds.ensures.kinds in
+          ticked _ _ H c.from_residual-in_err-solve.result _ _ c.self.view_is is.ready.free (c.factor.ensures.factors H is.ready).most (err_claims _ c.from_residual-in_err-solve.result _ c.from_residual-in_err-solve.ensures.1);
       node = err_names _ _ c.from_residual-in_err-solve.result _ c.self.view_is c.from_residual-in_err-solve.ensures.1 c.in_err-solve.ensures.node;
     }
 
@@ -204,24 +192,18 @@ returns-in_err-accept g c =
       counts = counted _ _ _ _ _ c.self.view_is refl refl c.factor.ensures.few c.factor.ensures.few_ticks;
       step = λ H stands.
           let case = c.self.inside.case.now.parts in
-          let stood = subst (λ (s : Net). StandsFor s H) (sym c.self.view_is) stands.network in
-          let states = states_here _ _ H c.deref.result.now c.deref-2.result.now c.args.tacs.now c.decide.new.self c.decide.ensures.stands c.self.invariant.switches_hold.case_is c.self.view_is stands c.deref.ensures.value c.deref-2.ensures.value in
-          let decided = c.in_ok-set_kinds.ensures.kinds H states in
-          let ready = ready_is _ H c.set_kinds.new.self.kinds.items c.set_kinds.new.rows c.decide.new.self stood decided in
-          let values = c.set_sources.ensures.values H stood.steps stands.control in
-          let posed = posed_is _ H c.set_kinds.new.rows c.decide.new.self c.set_kinds.new.self c.set_sources.new.self c.factor.new.self.kept stood decided c.set_sources.ensures.kinds values (c.in_ok-factor.ensures.factors H ready).made in
-          let redone = (c.factor.ensures.factors H ready).redone in
+          let is = begun _ _ H c.deref.result.now c.deref-2.result.now c.args.tacs.now c.set_kinds.new.self.kinds.items c.set_kinds.new.rows c.decide.new.self c.decide.ensures.stands c.self.invariant.switches_hold.case_is c.self.view_is stands c.deref.ensures.value c.deref-2.ensures.value c.in_ok-set_kinds.ensures.kinds in
+          let values = c.set_sources.ensures.values H is.stood.steps stands.control in
+          let posed = posed_is _ H c.set_kinds.new.rows c.decide.new.self c.set_kinds.new.self c.set_sources.new.self c.factor.new.self.kept is.stood is.decided c.set_sources.ensures.kinds values (c.in_ok-factor.ensures.factors H is.ready).made in
+          let redone = (c.factor.ensures.factors H is.ready).redone in
           let vs = c.deref-3.result.now in
           let read = c.deref-3.ensures.value ∙ with_items_is c.self.inside.voltages c.solve.new.voltages (c.solve.auto.voltages ∙ c.deref_mut.ensures.len) in
           let voltages : AreVoltages case H vs = subst (AreVoltages case H) (sym read) (c.in_ok-solve.ensures.finds H posed) in
           let returned = err_from_is_err_and c.from_residual-in_err-accept.result c.from_residual-in_err-accept.ensures.1 in
-          err_steps _ _ _ H c.from_residual-in_err-accept.result _ _ c.self.view_is stood refl redone (returned.1 ∙ ap Err returned.2) (c.in_err-accept.ensures.moves H stood.branches voltages);
+          err_steps _ _ _ H c.from_residual-in_err-accept.result _ _ c.self.view_is is.stood refl redone (returned.1 ∙ ap Err returned.2) (c.in_err-accept.ensures.moves H is.stood.branches voltages);
       ticks = λ H stands.
-          let stood = subst (λ (s : Net). StandsFor s H) (sym c.self.view_is) stands.network in
-          let states = states_here _ _ H c.deref.result.now c.deref-2.result.now c.args.tacs.now c.decide.new.self c.decide.ensures.stands c.self.invariant.switches_hold.case_is c.self.view_is stands c.deref.ensures.value c.deref-2.ensures.value in
-          let decided = c.in_ok-set_kinds.ensures.kinds H states in
-          let ready = ready_is _ H c.set_kinds.new.self.kinds.items c.set_kinds.new.rows c.decide.new.self stood decided in
-          ticked _ _ H c.from_residual-in_err-accept.result _ _ c.self.view_is ready.free (c.factor.ensures.factors H ready).most (err_claims _ c.from_residual-in_err-accept.result _ c.from_residual-in_err-accept.ensures.1);
+          let is = begun _ _ H c.deref.result.now c.deref-2.result.now c.args.tacs.now c.set_kinds.new.self.kinds.items c.set_kinds.new.rows c.decide.new.self c.decide.ensures.stands c.self.invariant.switches_hold.case_is c.self.view_is stands c.deref.ensures.value c.deref-2.ensures.value c.in_ok-set_kinds.ensures.kinds in
+          ticked _ _ H c.from_residual-in_err-accept.result _ _ c.self.view_is is.ready.free (c.factor.ensures.factors H is.ready).most (err_claims _ c.from_residual-in_err-accept.result _ c.from_residual-in_err-accept.ensures.1);
       node = err_names _ _ c.from_residual-in_err-accept.result _ c.self.view_is c.from_residual-in_err-accept.ensures.1 c.in_err-accept.ensures.node;
     }
 
@@ -231,29 +213,23 @@ returns-in_err-find_currents g c =
       counts = counted _ _ _ _ _ c.self.view_is refl refl c.factor.ensures.few c.factor.ensures.few_ticks;
       step = λ H stands.
           let case = c.self.inside.case.now.parts in
-          let stood = subst (λ (s : Net). StandsFor s H) (sym c.self.view_is) stands.network in
-          let states = states_here _ _ H c.deref.result.now c.deref-2.result.now c.args.tacs.now c.decide.new.self c.decide.ensures.stands c.self.invariant.switches_hold.case_is c.self.view_is stands c.deref.ensures.value c.deref-2.ensures.value in
-          let decided = c.in_ok-set_kinds.ensures.kinds H states in
-          let ready = ready_is _ H c.set_kinds.new.self.kinds.items c.set_kinds.new.rows c.decide.new.self stood decided in
-          let values = c.set_sources.ensures.values H stood.steps stands.control in
-          let posed = posed_is _ H c.set_kinds.new.rows c.decide.new.self c.set_kinds.new.self c.set_sources.new.self c.factor.new.self.kept stood decided c.set_sources.ensures.kinds values (c.in_ok-factor.ensures.factors H ready).made in
-          let redone = (c.factor.ensures.factors H ready).redone in
+          let is = begun _ _ H c.deref.result.now c.deref-2.result.now c.args.tacs.now c.set_kinds.new.self.kinds.items c.set_kinds.new.rows c.decide.new.self c.decide.ensures.stands c.self.invariant.switches_hold.case_is c.self.view_is stands c.deref.ensures.value c.deref-2.ensures.value c.in_ok-set_kinds.ensures.kinds in
+          let values = c.set_sources.ensures.values H is.stood.steps stands.control in
+          let posed = posed_is _ H c.set_kinds.new.rows c.decide.new.self c.set_kinds.new.self c.set_sources.new.self c.factor.new.self.kept is.stood is.decided c.set_sources.ensures.kinds values (c.in_ok-factor.ensures.factors H is.ready).made in
+          let redone = (c.factor.ensures.factors H is.ready).redone in
           let vs = c.deref-3.result.now in
           let read = c.deref-3.ensures.value ∙ with_items_is c.self.inside.voltages c.solve.new.voltages (c.solve.auto.voltages ∙ c.deref_mut.ensures.len) in
           let voltages : AreVoltages case H vs = subst (AreVoltages case H) (sym read) (c.in_ok-solve.ensures.finds H posed) in
-          let moved = c.in_ok-accept.ensures.moves H stood.branches in
+          let moved = c.in_ok-accept.ensures.moves H is.stood.branches in
           let flows = c.deref-4.ensures.value ∙ with_items_is c.self.inside.currents c.accept.new.currents (c.accept.auto.currents ∙ c.deref_mut-2.ensures.len) in
           let moved_so = subst (λ cs. HaveMoved c.accept.new.self cs case H vs) (sym flows) moved in
           let valued = ap (λ v. v.items) c.solve.ensures.values ∙ values in
           let left_so : HasLeaving case H vs c.find_leaving.new.self = record { voltages = voltages; in_range = moved.in_range; leaving = c.find_leaving.ensures.leaving H vs moved_so valued } in
           let returned = err_from_is_err_and c.from_residual-in_err-find_currents.result c.from_residual-in_err-find_currents.ensures.1 in
-          err_steps _ _ _ H c.from_residual-in_err-find_currents.result _ _ c.self.view_is stood refl redone (returned.1 ∙ ap Err returned.2) (c.in_err-find_currents.ensures.currents H vs left_so states);
+          err_steps _ _ _ H c.from_residual-in_err-find_currents.result _ _ c.self.view_is is.stood refl redone (returned.1 ∙ ap Err returned.2) (c.in_err-find_currents.ensures.currents H vs left_so is.states);
       ticks = λ H stands.
-          let stood = subst (λ (s : Net). StandsFor s H) (sym c.self.view_is) stands.network in
-          let states = states_here _ _ H c.deref.result.now c.deref-2.result.now c.args.tacs.now c.decide.new.self c.decide.ensures.stands c.self.invariant.switches_hold.case_is c.self.view_is stands c.deref.ensures.value c.deref-2.ensures.value in
-          let decided = c.in_ok-set_kinds.ensures.kinds H states in
-          let ready = ready_is _ H c.set_kinds.new.self.kinds.items c.set_kinds.new.rows c.decide.new.self stood decided in
-          ticked _ _ H c.from_residual-in_err-find_currents.result _ _ c.self.view_is ready.free (c.factor.ensures.factors H ready).most (err_claims _ c.from_residual-in_err-find_currents.result _ c.from_residual-in_err-find_currents.ensures.1);
+          let is = begun _ _ H c.deref.result.now c.deref-2.result.now c.args.tacs.now c.set_kinds.new.self.kinds.items c.set_kinds.new.rows c.decide.new.self c.decide.ensures.stands c.self.invariant.switches_hold.case_is c.self.view_is stands c.deref.ensures.value c.deref-2.ensures.value c.in_ok-set_kinds.ensures.kinds in
+          ticked _ _ H c.from_residual-in_err-find_currents.result _ _ c.self.view_is is.ready.free (c.factor.ensures.factors H is.ready).most (err_claims _ c.from_residual-in_err-find_currents.result _ c.from_residual-in_err-find_currents.ensures.1);
       node = err_names _ _ c.from_residual-in_err-find_currents.result _ c.self.view_is c.from_residual-in_err-find_currents.ensures.1 c.in_err-find_currents.ensures.node;
     }
 
@@ -276,22 +252,19 @@ returns g c =
             redone = c.self.inside.matrix.redone;
           } in
           let case = seen.case in
-          let stood : StandsFor seen H = subst (λ (s : Net). StandsFor s H) (sym c.self.view_is) stands.network in
-          let states = states_here seen c.args.self.now H c.deref.result.now c.deref-2.result.now c.args.tacs.now c.decide.new.self c.decide.ensures.stands c.self.invariant.switches_hold.case_is c.self.view_is stands c.deref.ensures.value c.deref-2.ensures.value in
-          let decided = c.in_ok-set_kinds.ensures.kinds H states in
-          let ready = ready_is seen H c.set_kinds.new.self.kinds.items c.set_kinds.new.rows c.decide.new.self stood decided in
-          let values = c.set_sources.ensures.values H stood.steps stands.control in
-          let posed = posed_is seen H c.set_kinds.new.rows c.decide.new.self c.set_kinds.new.self c.set_sources.new.self c.factor.new.self.kept stood decided c.set_sources.ensures.kinds values (c.in_ok-factor.ensures.factors H ready).made in
-          let redone = (c.factor.ensures.factors H ready).redone in
+          let is = begun seen c.args.self.now H c.deref.result.now c.deref-2.result.now c.args.tacs.now c.set_kinds.new.self.kinds.items c.set_kinds.new.rows c.decide.new.self c.decide.ensures.stands c.self.invariant.switches_hold.case_is c.self.view_is stands c.deref.ensures.value c.deref-2.ensures.value c.in_ok-set_kinds.ensures.kinds in
+          let values = c.set_sources.ensures.values H is.stood.steps stands.control in
+          let posed = posed_is seen H c.set_kinds.new.rows c.decide.new.self c.set_kinds.new.self c.set_sources.new.self c.factor.new.self.kept is.stood is.decided c.set_sources.ensures.kinds values (c.in_ok-factor.ensures.factors H is.ready).made in
+          let redone = (c.factor.ensures.factors H is.ready).redone in
           let vs = c.deref-3.result.now in
           let read = c.deref-3.ensures.value ∙ with_items_is c.self.inside.voltages c.solve.new.voltages (c.solve.auto.voltages ∙ c.deref_mut.ensures.len) in
           let voltages : AreVoltages case H vs = subst (AreVoltages case H) (sym read) (c.in_ok-solve.ensures.finds H posed) in
-          let moved = c.in_ok-accept.ensures.moves H stood.branches in
+          let moved = c.in_ok-accept.ensures.moves H is.stood.branches in
           let flows = c.deref-4.ensures.value ∙ with_items_is c.self.inside.currents c.accept.new.currents (c.accept.auto.currents ∙ c.deref_mut-2.ensures.len) in
           let moved_so = subst (λ cs. HaveMoved c.accept.new.self cs case H vs) (sym flows) moved in
           let valued = ap (λ v. v.items) c.solve.ensures.values ∙ values in
           let left_so : HasLeaving case H vs c.find_leaving.new.self = record { voltages = voltages; in_range = moved.in_range; leaving = c.find_leaving.ensures.leaving H vs moved_so valued } in
-          let has = c.in_ok-find_currents.ensures.currents H vs left_so states in
+          let has = c.in_ok-find_currents.ensures.currents H vs left_so is.states in
           let kinds = ap (λ v. v.items) (c.find_leaving.ensures.kinds ∙ c.solve.ensures.kinds) ∙ posed.kinds in
           let shown_flows = with_items_is c.self.inside.currents c.accept.new.currents (c.accept.auto.currents ∙ c.deref_mut-2.ensures.len) in
           let crossed = with_items_is c.self.inside.switch_currents c.find_currents.new.out (c.find_currents.auto.out ∙ c.deref_mut-3.ensures.len) in
@@ -313,24 +286,21 @@ returns g c =
             case_is = refl;
             branches = subst (λ cs. HaveMoved c.accept.new.self cs case H vs) (sym shown_flows) moved;
             switches = λ r is. subst (λ (s : switching.Switching). switching.StandsFor s (r ∷ H)) (sym c.find_currents.ensures.same) (switches_next seen c.args.self.now H c.deref.result.now c.deref-2.result.now c.args.tacs.now c.decide.new.self c.decide.ensures.stands c.self.invariant.switches_hold.case_is c.self.view_is stands c.deref.ensures.value c.deref-2.ensures.value r is);
-            states = ap (λ (s : switching.Switching). s.states) c.find_currents.ensures.same ∙ states;
+            states = ap (λ (s : switching.Switching). s.states) c.find_currents.ensures.same ∙ is.states;
             voltages = sym c.deref-3.ensures.value;
             switch_currents = crossed ∙ has.are;
             closed = marked ∙ c.write_closed.ensures;
-            kept = (c.in_ok-factor.ensures.factors H ready).made;
+            kept = (c.in_ok-factor.ensures.factors H is.ready).made;
             kept_size = c.factor.ensures.rows.kept_size;
             made = refl;
             redone = redone;
           } in
-          judge_steps seen c.args.self.now left H vs c.find_currents.new.out c.judge.result c.self.view_is stood stepped voltages has
+          judge_steps seen c.args.self.now left H vs c.find_currents.new.out c.judge.result c.self.view_is is.stood stepped voltages has
           (c.judge.ensures.judges H vs c.find_currents.new.out left_so has kinds);
       node = subst (λ (s : Net). IfErr c.judge.result (NamesNode s.case)) c.self.view_is c.judge.ensures.node;
       ticks = λ H stands.
-          let stood = subst (λ (s : Net). StandsFor s H) (sym c.self.view_is) stands.network in
-          let states = states_here _ _ H c.deref.result.now c.deref-2.result.now c.args.tacs.now c.decide.new.self c.decide.ensures.stands c.self.invariant.switches_hold.case_is c.self.view_is stands c.deref.ensures.value c.deref-2.ensures.value in
-          let decided = c.in_ok-set_kinds.ensures.kinds H states in
-          let ready = ready_is _ H c.set_kinds.new.self.kinds.items c.set_kinds.new.rows c.decide.new.self stood decided in
-          ticked _ _ H c.judge.result _ _ c.self.view_is ready.free (c.factor.ensures.factors H ready).most (ok_claims _ c.judge.result (c.in_ok-factor.ensures.factors H ready).ticks);
+          let is = begun _ _ H c.deref.result.now c.deref-2.result.now c.args.tacs.now c.set_kinds.new.self.kinds.items c.set_kinds.new.rows c.decide.new.self c.decide.ensures.stands c.self.invariant.switches_hold.case_is c.self.view_is stands c.deref.ensures.value c.deref-2.ensures.value c.in_ok-set_kinds.ensures.kinds in
+          ticked _ _ H c.judge.result _ _ c.self.view_is is.ready.free (c.factor.ensures.factors H is.ready).most (ok_claims _ c.judge.result (c.in_ok-factor.ensures.factors H is.ready).ticks);
     }
 
 pub decide-requires : goal.decide-requires

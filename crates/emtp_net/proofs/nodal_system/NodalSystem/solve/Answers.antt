@@ -30,17 +30,11 @@ returns-in-Ok-clause-small c =
     let whole = with_items_is c.args.self.now.x c.solve.new.x (c.solve.auto.x ∙ c.deref_mut-3.ensures.len) in
     subst (All (λ v. unsigned_abs v ≤ LARGEST_VALUE)) (sym (c.fill_voltages.ensures ∙ ap (voltages_of case) (c.deref-in-Ok.ensures.value ∙ whole))) (voltages_small case c.solve.new.x c.in-Ok.ensures.within)
 
-pub fill_right-requires-clause-order : goal.fill_right-requires-clause-order
-fill_right-requires-clause-order c = c.requires.order
-
 pub fill_right-requires-clause-ends : goal.fill_right-requires-clause-ends
 fill_right-requires-clause-ends c = c.deref-4.ensures.value ∙ c.requires.room.ends
 
 pub fill_right-requires-clause-ties : goal.fill_right-requires-clause-ties
 fill_right-requires-clause-ties c = λ off. subst AreUntied (sym c.deref.ensures.value) (c.requires.room.ties off)
-
-pub fill_right-requires-clause-same : goal.fill_right-requires-clause-same
-fill_right-requires-clause-same c = c.requires.same
 
 pub fill_right-requires-clause-kinds : goal.fill_right-requires-clause-kinds
 fill_right-requires-clause-kinds c = ap length c.deref.ensures.value ∙ c.requires.room.kinds
@@ -62,36 +56,6 @@ solve-requires-clause-rhs c = ap length (c.deref_mut-2.ensures.value ∙ with_it
 
 pub solve-requires-clause-x : goal.solve-requires-clause-x
 solve-requires-clause-x c = ap length c.deref_mut-3.ensures.value ∙ c.requires.room.x ∙ sym c.requires.size
-
-pub fill_voltages-requires-clause-order : goal.fill_voltages-requires-clause-order
-fill_voltages-requires-clause-order c = c.requires.order
-
-pub fill_voltages-requires-clause-out : goal.fill_voltages-requires-clause-out
-fill_voltages-requires-clause-out c = c.requires.voltages
-
-pub returns-in-Err-clause-small : goal.returns-in-Err-clause-small
-returns-in-Err-clause-small c = c.requires.small
-
-pub returns-in-Ok-clause-kinds : goal.returns-in-Ok-clause-kinds
-returns-in-Ok-clause-kinds c = refl
-
-pub returns-in-Err-clause-kinds : goal.returns-in-Err-clause-kinds
-returns-in-Err-clause-kinds c = refl
-
-pub returns-in-Ok-clause-decided : goal.returns-in-Ok-clause-decided
-returns-in-Ok-clause-decided c = refl
-
-pub returns-in-Err-clause-decided : goal.returns-in-Err-clause-decided
-returns-in-Err-clause-decided c = refl
-
-pub returns-in-Ok-clause-values : goal.returns-in-Ok-clause-values
-returns-in-Ok-clause-values c = refl
-
-pub returns-in-Err-clause-values : goal.returns-in-Err-clause-values
-returns-in-Err-clause-values c = refl
-
-pub returns-in-Ok-clause-node : goal.returns-in-Ok-clause-node
-returns-in-Ok-clause-node c = tt
 
 pub returns-in-Ok-clause-finds : goal.returns-in-Ok-clause-finds
 returns-in-Ok-clause-finds c = λ H posed.
