@@ -45,10 +45,13 @@ unfolding take_switch
 switches_few nodes m m' [] is h = tt
 switches_few nodes m m' (card ∷ cards) is h =
     let s = go_on_ok (λ (made : Made). take_switches made cards) (take_switch m card) m' h in
-    let sensible = sensible_switch m card (no_fault_left card.line (switch_fault m card) (with_switch m card) s.0 s.1) in
-    (subst (λ ns. node_number ns card.from ≤ MOST_NODES) is sensible.from_few,
-    (subst (λ ns. node_number ns card.to ≤ MOST_NODES) is sensible.to_few,
-    switches_few nodes s.0 m' cards ((switch_asks m s.0 card s.1).nodes ∙ is) s.2))
+    let sensible = sensible_switch m card (no_fault_left card.line (switch_fault m card) (with_switch m card) s.0 s.1) in (
+      subst (λ ns. node_number ns card.from ≤ MOST_NODES) is sensible.from_few,
+      (
+        subst (λ ns. node_number ns card.to ≤ MOST_NODES) is sensible.to_few,
+        switches_few nodes s.0 m' cards ((switch_asks m s.0 card s.1).nodes ∙ is) s.2,
+      ),
+    )
 
 pub whole_nodes : (deck : Deck) (seen : Bool) (variables : List (List ℕ)) (m : Made) → made_of_deck (case_nodes (known_nodes deck (After seen))) variables deck ≡ Ok m → case_nodes (known_nodes deck (After seen)) ≡ known_nodes deck (After seen)
 whole_nodes deck seen variables m h =

@@ -158,7 +158,11 @@ fn second_counts(
     ensures few { result.history ≤ 5 * 10 ^ 17 }
 {
     let history = card_history(3, &filling.draft, &taken.positive_sequence);
-    with_counts(&first_counts(filling, zero, &taken.zero_sequence), positive, history)
+    with_counts(
+        &first_counts(filling, zero, &taken.zero_sequence),
+        positive,
+        history,
+    )
 }
 
 fn first_fault(filling: &Filling, card: &BranchCard, taken: &Taken) -> Option<Bad>
@@ -181,7 +185,12 @@ fn second_fault(
     ensures { result ≡ second_fault (made_of filling.now) zero.now positive.now }
 {
     let counts = second_counts(filling, zero, positive, taken);
-    card_bad(&filling.nodes, &counts, positive, &taken.positive_sequence.values)
+    card_bad(
+        &filling.nodes,
+        &counts,
+        positive,
+        &taken.positive_sequence.values,
+    )
 }
 
 /// What refuses one of the first two phases of a line.

@@ -100,6 +100,13 @@ fn first_like(branches: &[Branch], number: i64, from: u32, to: u32) -> Option<Br
         .find(|branch| is_like(branch, number, from, to))
 }
 
+/// The first branch of a kind from one node, by its number, to another; none if there isn't one.
+pub fn first_of_kind(branches: &[Branch], kind: BranchKind, from: u32, to: u32) -> Option<Branch>
+    ensures { result ≡ find (is_like (type_of_kind kind) from to) branches.now }
+{
+    first_like(branches, type_of_kind(kind), from, to)
+}
+
 /// Where a card's values come from, behind the branches of a draft.
 fn values_from(names: &IndexSet<Name>, draft: &Draft, card: &BranchCard) -> ValuesFrom
     requires { length names.now.keys ≤ MOST_NODES }
@@ -108,9 +115,9 @@ fn values_from(names: &IndexSet<Name>, draft: &Draft, card: &BranchCard) -> Valu
 {
     match &card.values {
         BranchValues::Copied { kind, from, to } => {
-            let found = first_like(
+            let found = first_of_kind(
                 draft.parts.branches.as_slice(),
-                type_of_kind(*kind),
+                *kind,
                 node_number(names, from),
                 node_number(names, to),
             );

@@ -26,6 +26,6 @@ mod switches;
 
 pub use asked::Asked;
 pub use branches::Counts;
-pub use copies::{LineNumbers, ValuesFrom};
+pub use copies::{LineNumbers, ValuesFrom, first_of_kind};
 pub use laws::{blanks_at_ends_do_not_matter, comments_do_not_matter, returns_do_not_matter};
 pub use reading::read;

@@ -1,16 +1,17 @@
 //! Which card each card copies that takes the values of another.
 
 ghost use Rattle.emtp_case.specs.declared.limit.TheConstants.{MOST_NODES};
-ghost use Rattle.std.specs.Prelude.{◌≡◌, ◌++◌, ◌≤◌, ◌<◌, IfSome, OnOk, find, length, position};
+ghost use Rattle.std.specs.Prelude.{◌≡◌, ◌++◌, ◌≤◌, ◌<◌, IfSome, OnOk, length, position};
 ghost use Rattle.std.specs.Str.{bytes_eq};
-ghost use Rattle.emtp_deck.specs.Copies.{earlier_of, is_like, type_of_branch, type_of_kind, values_from};
+ghost use Rattle.emtp_deck.specs.Copies.{earlier_of, type_of_kind, values_from};
 ghost use Rattle.emtp_inspect.specs.CopyCards.{copied_line, copies_text, copy_in, copy_line, copy_text, line_of_values};
 ghost use Rattle.emtp_inspect.specs.EachCard.{branch_in, given_by};
 ghost use Rattle.emtp_sense.specs.Names.{node_number};
 
 use crate::each_card::branch_in;
 use emtp_card::{Cards, Line, MAX_BYTES, comment};
-use emtp_case::{Branch, Case, MOST_NODES, Name};
+use emtp_case::{Case, MOST_NODES, Name};
+use emtp_deck::first_of_kind;
 use emtp_netcards::{BranchCard, BranchKind, BranchValues};
 use emtp_text::{put, put_number};
 use emtp_warnings::{Section, next_section};
@@ -85,66 +86,22 @@ fn line_of_values(case: &Case, card: &BranchCard) -> Option<u32>
     ensures { result ≡ line_of_values (values_from case.now.parts.nodes case.now.parts.branches card.now) }
 {
     match &card.values {
-        BranchValues::Copied { kind, from, to } => first_line(case, type_of_kind(*kind), from, to),
+        BranchValues::Copied { kind, from, to } => first_line(case, *kind, from, to),
         _ => None,
     }
 }
 
-/// The line of the first branch of a type between two nodes.
-fn first_line(case: &Case, number: i64, from: &Option<Name>, to: &Option<Name>) -> Option<u32>
-    ensures { result ≡ line_of_values (earlier_of case.now.parts.nodes case.now.parts.branches number from.now to.now) }
+/// The line of the first branch of a kind between two nodes.
+fn first_line(case: &Case, kind: BranchKind, from: &Option<Name>, to: &Option<Name>) -> Option<u32>
+    ensures { result ≡ line_of_values
+        (earlier_of case.now.parts.nodes case.now.parts.branches (type_of_kind kind) from.now to.now) }
 {
     let names = case.parts.nodes.as_slice();
     let from = node_number(names, from);
     let to = node_number(names, to);
-    match first_like(case.parts.branches.as_slice(), number, from, to) {
+    match first_of_kind(case.parts.branches.as_slice(), kind, from, to) {
         Some(branch) => Some(branch.line()),
         None => None,
-    }
-}
-
-fn first_like(branches: &[Branch], number: i64, from: u32, to: u32) -> Option<Branch>
-    ensures { result ≡ find (is_like number from to) branches.now }
-{
-    branches
-        .iter()
-        .copied()
-        .find(|branch| is_like(branch, number, from, to))
-}
-
-fn is_like(branch: &Branch, number: i64, from: u32, to: u32) -> bool
-    ensures { result ≡ is_like number from to branch.now }
-{
-    branch.ends() == (from, to) && type_of_branch(branch) == number
-}
-
-/// The number in the type columns of the card that made a branch.
-fn type_of_branch(branch: &Branch) -> i64
-    ensures { result ≡ type_of_branch branch.now }
-{
-    match branch {
-        Branch::Lumped(_) => 0,
-        Branch::Line(_) => -1,
-        Branch::Pseudo(b) => { if b.reactor { 98 } else { 99 } }
-        Branch::Phase(b) => match b.phase {
-            0 => -1,
-            1 => -2,
-            _ => -3,
-        },
-    }
-}
-
-/// The number in the type columns of a card.
-fn type_of_kind(kind: BranchKind) -> i64
-    ensures { result ≡ type_of_kind kind }
-{
-    match kind {
-        BranchKind::Series => 0,
-        BranchKind::Line => -1,
-        BranchKind::Second => -2,
-        BranchKind::Third => -3,
-        BranchKind::Reactor => 98,
-        BranchKind::Resistor => 99,
     }
 }
 

@@ -117,9 +117,7 @@ fn are_copied(values: &BranchValues, kind: BranchKind) -> bool {
             from: Some(from),
             to: Some(to),
         } => {
-            *found == kind
-                && from.as_slice() == b"A".as_slice()
-                && to.as_slice() == b"B".as_slice()
+            *found == kind && from.as_slice() == b"A".as_slice() && to.as_slice() == b"B".as_slice()
         }
         _ => false,
     }
