@@ -39,7 +39,8 @@ pub(crate) fn add_sources(case: &Case, order: &RowOrder, values: &[i64], out: &m
     requires out { length out.old ≡ length case.now.parts.nodes }
     requires bound { (j : ℕ) → j < length out.old → unsigned_abs (item out.old j) ≤ 10 ^ 34 }
     ensures value { AddsSources case.now.parts values.now out.old out.new }
-    ensures bound { (j : ℕ) → j < length out.old → unsigned_abs (item out.new j) ≤ unsigned_abs (item out.old j) + 500 * 10 ^ 19 }
+    ensures bound { (j : ℕ) → j < length out.old
+        → unsigned_abs (item out.new j) ≤ unsigned_abs (item out.old j) + MOST_SOURCES * 10 ^ 19 }
 {
     let sources = case.parts.sources.as_slice();
     for at in 0..sources.len() {

@@ -2,6 +2,7 @@
 
 ghost use Rattle.std.specs.Prelude.{◌≡◌, ◌^◌, ◌*◌, ◌≤◌, ◌+ℤ◌, ◌-ℤ◌, ◌*ℤ◌, pos, unsigned_abs};
 ghost use Rattle.emtp_fix.specs.Rounding.{near};
+ghost use Rattle.emtp_fix.specs.declared.limit.TheConstants.{ATTO};
 ghost use Rattle.emtp_wave.specs.Cosine.{turned, rounded};
 ghost use Rattle.emtp_wave.specs.held.Cosine.{IsSmall};
 
@@ -57,7 +58,7 @@ fn wide_sine(cosine: i64, sine: i64) -> i128
 
 fn in_unit(x: i128) -> i64
     requires { unsigned_abs x ≤ 3 * 10 ^ 36 }
-    ensures { result ≡ near x (pos (10 ^ 18)) }
+    ensures { result ≡ near x ATTO }
 {
     near(x, ATTO) as i64
 }

@@ -2,7 +2,7 @@
 
 ghost use Rattle.std.specs.Prelude.{◌≡◌, ◌^◌, ◌*◌, ◌≤◌, ◌<◌, ◌-ℤ◌, ◌*ℤ◌, pos, unsigned_abs, ℤ, List, IfOk};
 ghost use Rattle.emtp_fix.specs.Rounding.{near};
-ghost use Rattle.emtp_fix.specs.declared.limit.TheConstants.{TURN};
+ghost use Rattle.emtp_fix.specs.declared.limit.TheConstants.{ATTO, TURN};
 ghost use Rattle.emtp_wave.specs.Cosine.{entry, near_entry, between, in_quarter, in_turn, reduced, cosine};
 ghost use Rattle.emtp_wave.specs.held.Cosine.{table};
 
@@ -130,7 +130,7 @@ fn between(a: i64, b: i64, way: u64) -> i64
 fn part(rise: i64, way: u64) -> i64
     requires rise { unsigned_abs rise ≤ 2 * 10 ^ 12 }
     requires way { way < 10 ^ 18 }
-    ensures { result ≡ near (pos way *ℤ rise) (pos (10 ^ 18)) }
+    ensures { result ≡ near (pos way *ℤ rise) ATTO }
 {
     scaled(i128::from(way), rise as i128, ATTO) as i64
 }
