@@ -11,7 +11,7 @@ use emtp_machine::Samples;
 use std::alloc::Global;
 
 /// Compares the configuration and the data of a record with a case and its samples. `Ok` is the answer that no field
-/// differs; else the first difference comes, the configuration judged_number before the data. Memory is taken for the scales of
+/// differs; else the first difference comes, the configuration judged before the data. Memory is taken for the scales of
 /// the analog channels alone. This project's own, on IEEE C37.111-1999.
 #[tactic(auto, unfolding(crate::specs::Audit::audit_differs))]
 pub fn audit(
