@@ -49,26 +49,25 @@ fn currents(own: i64, coupling: i64, histories: &[i128; 3], v: &[i64; 3]) -> [i1
         → result ≡ phase_currents m histories.now v.now }
     ensures within { AreWithin (10 ^ 25) result }
 {
-    let first = current(own, coupling, histories[0], v[0], v[1], v[2]);
-    let second = current(own, coupling, histories[1], v[1], v[2], v[0]);
-    let third = current(own, coupling, histories[2], v[2], v[0], v[1]);
+    let first = driven(own, coupling, v[0], v[1], v[2]) + histories[0];
+    let second = driven(own, coupling, v[1], v[2], v[0]) + histories[1];
+    let third = driven(own, coupling, v[2], v[0], v[1]) + histories[2];
     [first, second, third]
 }
 
-/// The current into a phase; `next` and `last` are the voltages of the other two.
-fn current(own: i64, coupling: i64, history: i128, v: i64, next: i64, last: i64) -> i128
+/// What a phase's conductances take of its voltage and of those of the other two, `next` and `last`.
+fn driven(own: i64, coupling: i64, v: i64, next: i64, last: i64) -> i128
     requires own { unsigned_abs own ≤ LARGEST_ENTRY }
     requires coupling { unsigned_abs coupling ≤ LARGEST_ENTRY }
-    requires history { unsigned_abs history ≤ 10 ^ 21 }
-    ensures value { result ≡ near (own *ℤ v +ℤ coupling *ℤ next +ℤ coupling *ℤ last) PICO +ℤ history }
-    ensures bound { unsigned_abs result ≤ 10 ^ 25 }
+    ensures value { result ≡ near (own *ℤ v +ℤ coupling *ℤ next +ℤ coupling *ℤ last) PICO }
+    ensures bound { unsigned_abs result ≤ 4 * 10 ^ 24 }
 {
     quotient(
         product(own, v),
         product(coupling, next),
         product(coupling, last),
         PICO,
-    ) + history
+    )
 }
 
 fn product(g: i64, v: i64) -> i128
