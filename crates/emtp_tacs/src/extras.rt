@@ -12,27 +12,35 @@ use emtp_case::{Case, Extra, Group};
 use emtp_devices::Devices;
 use emtp_fix::OutOfRange;
 
-/// Computes the supplemental cards of one pass: those before the blocks where `early`, else those after them. It
-/// answers the first one out of range.
+/// A pass over the supplemental cards in a step.
+#[derive(Clone, Copy)]
+pub(crate) struct Pass<'a> {
+    /// The case.
+    pub(crate) case: &'a Case,
+    /// Whether it is the pass before the blocks, else the one after them.
+    pub(crate) early: bool,
+    /// The step.
+    pub(crate) step: u32,
+}
+
+/// Computes the supplemental cards of one pass. It answers the first one out of range.
 pub(crate) fn compute_extras(
-    case: &Case,
+    pass: Pass<'_>,
     devices: &mut Devices<'_>,
-    early: bool,
-    step: u32,
     values: &mut [i64],
     names: &mut [i64],
 ) -> Result<(), TacsFault>
-    requires same { devices.old.case ≡ case.now.parts }
-    requires values { AreKnown case.now.parts values.old }
-    requires names { HasNameRoom case.now.parts names.old }
-    ensures same { devices.new.case ≡ case.now.parts }
-    ensures values { AreKnown case.now.parts values.new }
-    ensures cards { ComputesCards result case.now.parts early step values.old values.new devices.old devices.new }
-    ensures var { IfErr result (NamesVariable case.now.parts) }
+    requires same { devices.old.case ≡ pass.case.now.parts }
+    requires values { AreKnown pass.case.now.parts values.old }
+    requires names { HasNameRoom pass.case.now.parts names.old }
+    ensures same { devices.new.case ≡ pass.entry.case.now.parts }
+    ensures values { AreKnown pass.entry.case.now.parts values.new }
+    ensures cards { ComputesCards result pass.entry values.old values.new devices.old devices.new }
+    ensures var { IfErr result (NamesVariable pass.entry.case.now.parts) }
 {
-    for at in 0..case.parts.extras.len() {
-        if is_in_pass(early, group_of(&case.parts.extras.as_slice()[at])) {
-            match compute_extra(case, devices, at, step, values, names) {
+    for at in 0..pass.case.parts.extras.len() {
+        if is_in_pass(pass.early, group_of(&pass.case.parts.extras.as_slice()[at])) {
+            match compute_extra(pass, devices, at, values, names) {
                 Ok(()) => {}
                 Err(fault) => return Err(fault),
             }
@@ -43,25 +51,24 @@ pub(crate) fn compute_extras(
 
 /// Computes the supplemental card at a place, and writes its value.
 fn compute_extra(
-    case: &Case,
+    pass: Pass<'_>,
     devices: &mut Devices<'_>,
     at: usize,
-    step: u32,
     values: &mut [i64],
     names: &mut [i64],
 ) -> Result<(), TacsFault>
-    requires at { at < length case.now.parts.extras }
-    requires same { devices.old.case ≡ case.now.parts }
-    requires values { AreKnown case.now.parts values.old }
-    requires names { HasNameRoom case.now.parts names.old }
-    ensures same { devices.new.case ≡ case.now.parts }
-    ensures values { AreKnown case.now.parts values.new }
-    ensures card { ComputesCard result case.now.parts at step values.old values.new devices.old devices.new }
-    ensures var { IfErr result (NamesVariable case.now.parts) }
+    requires at { at < length pass.case.now.parts.extras }
+    requires same { devices.old.case ≡ pass.case.now.parts }
+    requires values { AreKnown pass.case.now.parts values.old }
+    requires names { HasNameRoom pass.case.now.parts names.old }
+    ensures same { devices.new.case ≡ pass.entry.case.now.parts }
+    ensures values { AreKnown pass.entry.case.now.parts values.new }
+    ensures card { ComputesCard result pass.entry at values.old values.new devices.old devices.new }
+    ensures var { IfErr result (NamesVariable pass.entry.case.now.parts) }
 {
-    let extra = &case.parts.extras.as_slice()[at];
+    let extra = &pass.case.parts.extras.as_slice()[at];
     let var = variable_of(extra);
-    match value_of(case, devices, at, step, values, names) {
+    match value_of(pass, devices, at, values, names) {
         Ok(value) => {
             values[var as usize] = value;
             Ok(())
@@ -72,24 +79,23 @@ fn compute_extra(
 
 /// The value of the supplemental card at a place, in nano; a device moves by one step.
 fn value_of(
-    case: &Case,
+    pass: Pass<'_>,
     devices: &mut Devices<'_>,
     at: usize,
-    step: u32,
     values: &[i64],
     names: &mut [i64],
 ) -> Result<i64, OutOfRange>
-    requires at { at < length case.now.parts.extras }
-    requires same { devices.old.case ≡ case.now.parts }
-    requires values { AreKnown case.now.parts values.now }
-    requires names { HasNameRoom case.now.parts names.old }
-    ensures value { ComputesValue result case.now.parts at step values.now devices.old devices.new }
-    ensures same { devices.new.case ≡ case.now.parts }
+    requires at { at < length pass.case.now.parts.extras }
+    requires same { devices.old.case ≡ pass.case.now.parts }
+    requires values { AreKnown pass.case.now.parts values.now }
+    requires names { HasNameRoom pass.case.now.parts names.old }
+    ensures value { ComputesValue result pass.entry at values.now devices.old devices.new }
+    ensures same { devices.new.case ≡ pass.entry.case.now.parts }
     ensures small { IfOk result (λ y. unsigned_abs y ≤ LARGEST_VALUE) }
 {
-    match &case.parts.extras.as_slice()[at] {
-        Extra::Device(_) => devices.step(at, step, values),
-        Extra::Formula(formula) => formula_value(case, formula, values, names),
+    match &pass.case.parts.extras.as_slice()[at] {
+        Extra::Device(_) => devices.step(at, pass.step, values),
+        Extra::Formula(formula) => formula_value(pass.case, formula, values, names),
     }
 }
 

@@ -8,6 +8,7 @@ ghost use Rattle.emtp_tacs.specs.held.Stages.{IsMeasured, NamesVariable, measure
 ghost use Rattle.emtp_tacs.specs.held.Tacs.{HasCounted, MakesStep, StandsFor, TicksStep};
 
 use crate::block_system::BlockSystem;
+use crate::extras::Pass;
 use crate::fault::TacsFault;
 use crate::measured::Measurements;
 use crate::variables::Variables;
@@ -103,7 +104,12 @@ impl<'a> Tacs<'a> {
             .compute_known(self.case, self.made, measured)?;
         self.system
             .solve(self.case, first, &mut self.variables.values, steps)?;
-        self.variables.compute_extras(self.case, false, self.made)
+        let pass = Pass {
+            case: self.case,
+            early: false,
+            step: self.made,
+        };
+        self.variables.compute_extras(pass)
     }
 
     /// The values of the last record by variable, in nano.

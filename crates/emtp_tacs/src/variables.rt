@@ -6,7 +6,7 @@ ghost use Rattle.emtp_case.specs.declared.control.Formula.{Formula};
 ghost use Rattle.emtp_case.specs.StepRecord.{rest_of};
 ghost use Rattle.emtp_tacs.specs.held.Stages.{ComputesKnown, ComputesPass, HasNameRoom, HoldsVariables, IsMeasured, NamesVariable, VariablesStandFor, measured_by};
 
-use crate::extras::compute_extras;
+use crate::extras::{Pass, compute_extras};
 use crate::fault::TacsFault;
 use crate::measured::Measurements;
 use crate::sources::put_sources;
@@ -62,29 +62,22 @@ impl<'a> Variables<'a> {
     {
         set_standing(case, step, &mut self.values);
         put_sources(case, &self.table, step, measured, &mut self.values)?;
-        self.compute_extras(case, true, step)
+        let pass = Pass {
+            case,
+            early: true,
+            step,
+        };
+        self.compute_extras(pass)
     }
 
     /// Computes the supplemental cards of one pass.
-    pub(crate) fn compute_extras(
-        &mut self,
-        case: &Case,
-        early: bool,
-        step: u32,
-    ) -> Result<(), TacsFault>
-        requires holds { HoldsVariables case.now.parts self.old }
-        ensures holds { HoldsVariables case.now.parts self.new }
-        ensures pass { ComputesPass result case.now.parts early step self.old self.new }
-        ensures var { IfErr result (NamesVariable case.now.parts) }
+    pub(crate) fn compute_extras(&mut self, pass: Pass<'_>) -> Result<(), TacsFault>
+        requires holds { HoldsVariables pass.case.now.parts self.old }
+        ensures holds { HoldsVariables pass.entry.case.now.parts self.new }
+        ensures pass { ComputesPass result pass.entry self.old self.new }
+        ensures var { IfErr result (NamesVariable pass.entry.case.now.parts) }
     {
-        compute_extras(
-            case,
-            &mut self.devices,
-            early,
-            step,
-            &mut self.values,
-            &mut self.names,
-        )
+        compute_extras(pass, &mut self.devices, &mut self.values, &mut self.names)
     }
 }
 

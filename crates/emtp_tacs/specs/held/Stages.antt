@@ -19,6 +19,7 @@ use Rattle.emtp_tacs.specs.Part.{ControlPart}
 use Rattle.emtp_tacs.specs.held.Part.{control_of}
 use Rattle.emtp_tacs.specs.Step.{Measured, SoFar, Solved, blocks, extra_of, extras, formula_value, group_of, is_in_pass, known_before, sources}
 use Rattle.emtp_tacs.specs.declared.block_system.BlockSystem.{BlockSystem}
+use Rattle.emtp_tacs.specs.declared.extras.Pass.{Pass}
 use Rattle.emtp_tacs.specs.declared.fault.TacsFault.{TacsFault}
 use Rattle.emtp_tacs.specs.declared.measured.Measurements.{Measurements}
 use Rattle.emtp_tacs.specs.declared.variables.Variables.{Variables}
@@ -110,27 +111,26 @@ ComputesKnown result case step m old new =
     (H : List StepRecord) → step ≡ length H → VariablesStandFor case old H → CompletesPass result case H true new (known_before case H m)
 
 -- the card at a place has this value in a step: a device moves, and a formula lets all devices stay
-pub record ComputesValue (result : Result ℤ OutOfRange) (case : Parts) (at step : ℕ) (values : List ℤ) (held moved : HeldDevices) : Type 0 where
-  pub device : (x : Device) → IsDeviceAt case at x → Moves held moved at step values result
-  pub formula : (x : Formula) → IsFormulaAt case at x → Evaluates result (formula_value values x)
-  pub formula_same : (x : Formula) → IsFormulaAt case at x → moved ≡ held
+pub record ComputesValue (result : Result ℤ OutOfRange) (pass : Pass) (at : ℕ) (values : List ℤ) (held moved : HeldDevices) : Type 0 where
+  pub device : (x : Device) → IsDeviceAt pass.case.now.parts at x → Moves held moved at pass.step values result
+  pub formula : (x : Formula) → IsFormulaAt pass.case.now.parts at x → Evaluates result (formula_value values x)
+  pub formula_same : (x : Formula) → IsFormulaAt pass.case.now.parts at x → moved ≡ held
 
 -- the card at a place is computed in a step, if it belongs to the pass, from whatever the step has so far
-abbrev pub ComputesCard : Result (Unit {0}) TacsFault → Parts → ℕ → ℕ → List ℤ → List ℤ → HeldDevices → HeldDevices → Type 0
-ComputesCard result case at step old new held moved =
-    (H : List StepRecord) (early : Bool) (e : Extra) (s : SoFar) → step ≡ length H → slice_get case.extras at ≡ Some e
+abbrev pub ComputesCard : Result (Unit {0}) TacsFault → Pass → ℕ → List ℤ → List ℤ → HeldDevices → HeldDevices → Type 0
+ComputesCard result pass at old new held moved = let case = pass.case.now.parts in
+    (H : List StepRecord) (early : Bool) (e : Extra) (s : SoFar) → pass.step ≡ length H → slice_get case.extras at ≡ Some e
     → is_in_pass early (group_of e) ≡ true → IsSoFar case H early at old held s
     → Reaches result case H early (at + 1) new moved (extra_of case H at s e)
 
 -- the cards of a pass are computed in a step, from whatever the step has so far
-abbrev pub ComputesCards : Result (Unit {0}) TacsFault → Parts → Bool → ℕ → List ℤ → List ℤ → HeldDevices → HeldDevices → Type 0
-ComputesCards result case early step old new held moved =
-    (H : List StepRecord) (s : SoFar) → step ≡ length H → IsSoFar case H early 0 old held s
-    → Reaches result case H early (length case.extras) new moved (extras case H early s)
+abbrev pub ComputesCards : Result (Unit {0}) TacsFault → Pass → List ℤ → List ℤ → HeldDevices → HeldDevices → Type 0
+ComputesCards result pass old new held moved = let case = pass.case.now.parts in
+    (H : List StepRecord) (s : SoFar) → pass.step ≡ length H → IsSoFar case H pass.early 0 old held s
+    → Reaches result case H pass.early (length case.extras) new moved (extras case H pass.early s)
 
-abbrev pub ComputesPass : Result (Unit {0}) TacsFault → Parts → Bool → ℕ → Variables → Variables → Type 0
-ComputesPass result case early step old new =
-    ComputesCards result case early step old.values.items new.values.items old.devices new.devices
+abbrev pub ComputesPass : Result (Unit {0}) TacsFault → Pass → Variables → Variables → Type 0
+ComputesPass result pass old new = ComputesCards result pass old.values.items new.values.items old.devices new.devices
 
 -- ---- the blocks
 

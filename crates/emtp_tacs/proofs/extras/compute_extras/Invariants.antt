@@ -7,7 +7,8 @@ use Rattle.emtp_tacs.proofs.extras.compute_extras.Given as goal
 
 abbrev pub invariant-loop-at : goal.invariant-loop-at
 invariant-loop-at l = record {
-  same : l.devices.case ≡ l.case.parts;
-  known : AreKnown l.case.parts l.values;
-  reaches : (H : List StepRecord) (s : SoFar) → l.step ≡ length H → IsSoFar l.case.parts H l.early 0 l.fn.values l.fn.devices s → Reaches (Ok tt) l.case.parts H l.early l.at l.values l.devices (in_turn (extra_at l.case.parts H l.early) l.at s);
+  same : l.devices.case ≡ l.pass.case.now.parts;
+  known : AreKnown l.pass.case.now.parts l.values;
+  reaches : (H : List StepRecord) (s : SoFar) → let case = l.pass.case.now.parts in let early = l.pass.early in
+      l.pass.step ≡ length H → IsSoFar case H early 0 l.fn.values l.fn.devices s → Reaches (Ok tt) case H early l.at l.values l.devices (in_turn (extra_at case H early) l.at s);
 }

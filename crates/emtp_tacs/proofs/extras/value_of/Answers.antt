@@ -38,14 +38,14 @@ small (Err e) defined is = tt
 
 pub formula_value-requires-clause-names : goal.formula_value-requires-clause-names
 formula_value-requires-clause-names c =
-    c.requires.names c.args.at c.in-Formula.formula (here c.args.case.now.parts.extras c.as_slice.result.now c.args.at c.index-as_slice-at.result c.requires.at c.as_slice.ensures c.index-as_slice-at.is ∙ ap Some c.in-Formula.is)
+    c.requires.names c.args.at c.in-Formula.formula (here c.args.pass.case.now.parts.extras c.as_slice.result.now c.args.at c.index-as_slice-at.result c.requires.at c.as_slice.ensures c.index-as_slice-at.is ∙ ap Some c.in-Formula.is)
 
 pub formula_value-requires-clause-values : goal.formula_value-requires-clause-values
 formula_value-requires-clause-values c = c.requires.values
 
 pub step-requires-clause-device : goal.step-requires-clause-device
 step-requires-clause-device c =
-    (c.in-Device.field-0, ap (λ (p : Parts). slice_get p.extras c.args.at) c.requires.same ∙ here c.args.case.now.parts.extras c.as_slice.result.now c.args.at c.index-as_slice-at.result c.requires.at c.as_slice.ensures c.index-as_slice-at.is ∙ ap Some c.in-Device.is)
+    (c.in-Device.field-0, ap (λ (p : Parts). slice_get p.extras c.args.at) c.requires.same ∙ here c.args.pass.case.now.parts.extras c.as_slice.result.now c.args.at c.index-as_slice-at.result c.requires.at c.as_slice.ensures c.index-as_slice-at.is ∙ ap Some c.in-Device.is)
 
 pub step-requires-clause-values : goal.step-requires-clause-values
 step-requires-clause-values c = subst (λ (p : Parts). AreKnown p c.args.values.now) (sym c.requires.same) c.requires.values
@@ -58,21 +58,21 @@ returns-in-Formula-clause-same c = c.requires.same
 
 pub formula_value-requires-clause-formula : goal.formula_value-requires-clause-formula
 formula_value-requires-clause-formula c =
-    let case = c.args.case.now.parts in
+    let case = c.args.pass.case.now.parts in
     let r = c.index-as_slice-at.result in
     let read : get_or case.extras c.args.at r ≡ r = sym (rw c.as_slice.ensures at c.index-as_slice-at.is) in
-    subst (IsExtra (sizes_of case) case.points) (read ∙ c.in-Formula.is) (c.args.case.now.fits.draft.control.extras c.args.at r c.requires.at)
+    subst (IsExtra (sizes_of case) case.points) (read ∙ c.in-Formula.is) (c.args.pass.case.now.fits.draft.control.extras c.args.at r c.requires.at)
 
 pub returns-in-Device-clause-small : goal.returns-in-Device-clause-small
 returns-in-Device-clause-small c = c.step.ensures.small
 
 pub returns-in-Device-clause-value : goal.returns-in-Device-clause-value
 returns-in-Device-clause-value c =
-    let there = here c.args.case.now.parts.extras c.as_slice.result.now c.args.at c.index-as_slice-at.result c.requires.at c.as_slice.ensures c.index-as_slice-at.is ∙ ap Some c.in-Device.is in
+    let there = here c.args.pass.case.now.parts.extras c.as_slice.result.now c.args.at c.index-as_slice-at.result c.requires.at c.as_slice.ensures c.index-as_slice-at.is ∙ ap Some c.in-Device.is in
     record {
       device = λ x is. c.step.ensures.moves;
-      formula = λ x is. absurd (one_kind (slice_get c.args.case.now.parts.extras c.args.at) c.in-Device.field-0 x there is);
-      formula_same = λ x is. absurd (one_kind (slice_get c.args.case.now.parts.extras c.args.at) c.in-Device.field-0 x there is);
+      formula = λ x is. absurd (one_kind (slice_get c.args.pass.case.now.parts.extras c.args.at) c.in-Device.field-0 x there is);
+      formula_same = λ x is. absurd (one_kind (slice_get c.args.pass.case.now.parts.extras c.args.at) c.in-Device.field-0 x there is);
     }
 
 pub returns-in-Formula-clause-small : goal.returns-in-Formula-clause-small
@@ -80,9 +80,9 @@ returns-in-Formula-clause-small c = small c.formula_value.result (formula_value 
 
 pub returns-in-Formula-clause-value : goal.returns-in-Formula-clause-value
 returns-in-Formula-clause-value c =
-    let there = here c.args.case.now.parts.extras c.as_slice.result.now c.args.at c.index-as_slice-at.result c.requires.at c.as_slice.ensures c.index-as_slice-at.is ∙ ap Some c.in-Formula.is in
+    let there = here c.args.pass.case.now.parts.extras c.as_slice.result.now c.args.at c.index-as_slice-at.result c.requires.at c.as_slice.ensures c.index-as_slice-at.is ∙ ap Some c.in-Formula.is in
     record {
-      device = λ x is. absurd (one_kind (slice_get c.args.case.now.parts.extras c.args.at) x c.in-Formula.formula is there);
+      device = λ x is. absurd (one_kind (slice_get c.args.pass.case.now.parts.extras c.args.at) x c.in-Formula.formula is there);
       formula = λ x is.
           let same : c.in-Formula.formula ≡ x = ap (formula_or x) (sym there ∙ is) in
           subst (λ (f : Formula). Evaluates c.formula_value.result (formula_value c.args.values.now f)) same c.formula_value.ensures;
