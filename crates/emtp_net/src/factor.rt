@@ -14,7 +14,8 @@ ghost use Rattle.emtp_rows.specs.held.Touched.{StandsUntouched, Touches};
 use crate::branches::Branches;
 use crate::fault::NetFault;
 use crate::names::row_fault;
-use emtp_case::{Branch, Case, RowOrder};
+use crate::step_network::StepNetwork;
+use emtp_case::{Branch, Case};
 use emtp_elim::RowFault;
 use emtp_fix::Steps;
 use emtp_rows::NetRows;
@@ -36,28 +37,27 @@ impl<'a> NodalMatrix<'a> {
     /// Makes the factor that of the next step's matrix, once the rows have their kinds.
     pub(crate) fn factor<L: Ledger>(
         &mut self,
-        case: &Case,
-        order: &RowOrder,
-        branches: &Branches<'_>,
+        network: StepNetwork<'_>,
         made: u32,
         steps: &mut Steps<L>,
     ) -> Result<(), NetFault>
-        requires order { order.now ≡ order_of case.now.parts }
-        requires same { HasCase branches.now case.now.parts }
-        requires rows { HoldsRows case.now.parts self.old.rows self.old.kept }
+        requires order { network.order.now ≡ order_of network.case.now.parts }
+        requires same { HasCase network.branches.now network.case.now.parts }
+        requires rows { HoldsRows network.case.now.parts self.old.rows self.old.kept }
         requires few { self.old.redone ≤ 10 ^ 12 }
-        ensures rows { HoldsRows case.now.parts self.new.rows self.new.kept }
+        ensures rows { HoldsRows network.entry.case.now.parts self.new.rows self.new.kept }
         ensures kinds { self.new.rows.nodal.kinds ≡ self.old.rows.nodal.kinds }
-        ensures all { OnOk result (length self.new.kept.rows ≡ length case.now.parts.nodes) }
-        ensures factors { Factors result case.now.parts branches.now made self.old self.new steps.old steps.new }
+        ensures all { OnOk result (length self.new.kept.rows ≡ length network.entry.case.now.parts.nodes) }
+        ensures factors { Factors result network.entry.case.now.parts network.entry.branches.now made
+            self.old self.new steps.old steps.new }
         ensures few { self.new.redone ≤ self.old.redone + MOST_NODES }
         ensures few_ticks { steps.new ≤ steps.old + MOST_NODES }
-        ensures node { IfErr result (NamesNode case.now.parts) }
+        ensures node { IfErr result (NamesNode network.entry.case.now.parts) }
     {
-        set_conductances(case, branches, &mut self.rows);
+        set_conductances(network.case, network.branches, &mut self.rows);
         match self.follow(made, steps) {
             Ok(()) => Ok(()),
-            Err(fault) => Err(row_fault(case, order, fault)),
+            Err(fault) => Err(row_fault(network.case, network.order, fault)),
         }
     }
 

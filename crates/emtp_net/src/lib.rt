@@ -21,6 +21,7 @@ mod network;
 mod nodal_system;
 mod residual;
 mod right;
+mod step_network;
 mod sums;
 mod voltages;
 

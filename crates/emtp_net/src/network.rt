@@ -14,6 +14,7 @@ use crate::branches::Branches;
 use crate::factor::{NodalMatrix, set_all_conductances, set_couplings};
 use crate::fault::NetFault;
 use crate::nodal_system::{NodalSystem, zeros};
+use crate::step_network::StepNetwork;
 use emtp_case::{Case, RowOrder, order};
 use emtp_fix::Steps;
 use emtp_rows::NetRows;
@@ -136,21 +137,24 @@ impl<'a> Network<'a> {
             .decide(self.made, &self.voltages, &self.switch_currents, tacs);
         self.system
             .set_kinds(self.case, &self.switches, &mut self.matrix.rows)?;
-        self.matrix
-            .factor(self.case, &self.order, &self.branches, made, steps)?;
+        let network = StepNetwork {
+            case: self.case,
+            order: &self.order,
+            branches: &self.branches,
+        };
+        self.matrix.factor(network, made, steps)?;
         self.system
             .set_sources(self.case, &self.table, self.made, tacs);
-        self.system.solve(
-            self.case,
-            &self.order,
-            &self.branches,
-            &self.matrix.kept,
-            &mut self.voltages,
-        )?;
+        self.system
+            .solve(network, &self.matrix.kept, &mut self.voltages)?;
         self.branches
             .accept(self.case, &self.voltages, &mut self.currents)?;
-        self.system
-            .find_leaving(self.case, &self.order, &self.branches, &self.currents);
+        let network = StepNetwork {
+            case: self.case,
+            order: &self.order,
+            branches: &self.branches,
+        };
+        self.system.find_leaving(network, &self.currents);
         self.system
             .find_currents(self.case, &mut self.switches, &mut self.switch_currents)?;
         self.switches.write_closed(&mut self.closed);

@@ -10,10 +10,10 @@ ghost use Rattle.emtp_net.specs.held.Holding.{HasRoom, HoldsSwitches, KeepsKinds
 ghost use Rattle.emtp_net.specs.held.Stages.{FindsCurrents, FindsLeaving, FindsVoltages, JudgesStep, SetsKinds, SetsSources};
 ghost use Rattle.emtp_rows.specs.held.Touched.{Touches};
 
-use crate::branches::Branches;
 use crate::fault::NetFault;
 use crate::residual::{fill_leaving, judge};
 use crate::right::{StepRows, fill_right, fill_values, places_of};
+use crate::step_network::StepNetwork;
 use crate::sums::has_ties;
 use crate::voltages::fill_voltages;
 use emtp_case::{Case, RowKind, RowOrder, switch_name};
@@ -133,26 +133,25 @@ impl NodalSystem {
     /// Finds the voltages of the next step by the factor.
     pub(crate) fn solve(
         &mut self,
-        case: &Case,
-        order: &RowOrder,
-        branches: &Branches<'_>,
+        network: StepNetwork<'_>,
         kept: &Kept,
         voltages: &mut [i64],
     ) -> Result<(), NetFault>
-        requires room { HasRoom case.now.parts self.old }
-        requires order { order.now ≡ order_of case.now.parts }
-        requires same { HasCase branches.now case.now.parts }
-        requires size { kept.now.size ≡ length case.now.parts.nodes }
-        requires all { length kept.now.rows ≡ length case.now.parts.nodes }
-        requires voltages { length voltages.old ≡ length case.now.parts.nodes + 1 }
+        requires room { HasRoom network.case.now.parts self.old }
+        requires order { network.order.now ≡ order_of network.case.now.parts }
+        requires same { HasCase network.branches.now network.case.now.parts }
+        requires size { kept.now.size ≡ length network.case.now.parts.nodes }
+        requires all { length kept.now.rows ≡ length network.case.now.parts.nodes }
+        requires voltages { length voltages.old ≡ length network.case.now.parts.nodes + 1 }
         requires small { All (λ v. unsigned_abs v ≤ LARGEST_VALUE) voltages.old }
-        ensures room { HasRoom case.now.parts self.new }
+        ensures room { HasRoom network.entry.case.now.parts self.new }
         ensures kinds { self.new.kinds ≡ self.old.kinds }
         ensures decided { self.new.decided ≡ self.old.decided }
         ensures values { self.new.values ≡ self.old.values }
         ensures small { All (λ v. unsigned_abs v ≤ LARGEST_VALUE) voltages.new }
-        ensures finds { FindsVoltages result case.now.parts branches.now self.old kept.now voltages.new }
-        ensures node { IfErr result (NamesNode case.now.parts) }
+        ensures finds { FindsVoltages result network.entry.case.now.parts network.entry.branches.now
+            self.old kept.now voltages.new }
+        ensures node { IfErr result (NamesNode network.entry.case.now.parts) }
     {
         let rows = StepRows {
             ties: self.ties,
@@ -161,43 +160,30 @@ impl NodalSystem {
             values: &self.values,
             ends: &self.ends,
         };
-        fill_right(case, order, branches, rows, &mut self.right);
+        fill_right(network, rows, &mut self.right);
         match kept.solve(&mut self.right, &mut self.x) {
             Ok(()) => {
-                fill_voltages(case, order, &self.x, voltages);
+                fill_voltages(network.case, network.order, &self.x, voltages);
                 Ok(())
             }
-            Err(fault) => Err(NetFault::Range(order.node_at(fault.row))),
+            Err(fault) => Err(NetFault::Range(network.order.node_at(fault.row))),
         }
     }
 
     /// Finds what leaves the node of each row in the next step, in nA, once the branches moved.
-    pub(crate) fn find_leaving(
-        &mut self,
-        case: &Case,
-        order: &RowOrder,
-        branches: &Branches<'_>,
-        currents: &[i64],
-    )
-        requires room { HasRoom case.now.parts self.old }
-        requires order { order.now ≡ order_of case.now.parts }
-        requires same { HasCase branches.now case.now.parts }
-        requires currents { length currents.now ≡ length case.now.parts.branches }
-        ensures room { HasRoom case.now.parts self.new }
+    pub(crate) fn find_leaving(&mut self, network: StepNetwork<'_>, currents: &[i64])
+        requires room { HasRoom network.case.now.parts self.old }
+        requires order { network.order.now ≡ order_of network.case.now.parts }
+        requires same { HasCase network.branches.now network.case.now.parts }
+        requires currents { length currents.now ≡ length network.case.now.parts.branches }
+        ensures room { HasRoom network.entry.case.now.parts self.new }
         ensures kinds { self.new.kinds ≡ self.old.kinds }
         ensures decided { self.new.decided ≡ self.old.decided }
-        ensures leaving { FindsLeaving case.now.parts branches.now currents.now self.old self.new }
-        ensures small { (j : ℕ) → j < length case.now.parts.nodes → unsigned_abs (item self.new.right.items j) ≤ 10 ^ 24 }
+        ensures leaving { FindsLeaving network.entry.case.now.parts network.entry.branches.now currents.now self.old self.new }
+        ensures small { (j : ℕ) → j < length network.entry.case.now.parts.nodes
+            → unsigned_abs (item self.new.right.items j) ≤ 10 ^ 24 }
     {
-        fill_leaving(
-            case,
-            order,
-            branches,
-            currents,
-            &self.values,
-            &self.ends,
-            &mut self.right,
-        );
+        fill_leaving(network, currents, &self.values, &self.ends, &mut self.right);
     }
 
     /// Finds the switch currents of the next step, in nA, by what leaves the node of each row. Without switches there

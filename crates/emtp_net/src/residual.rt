@@ -10,8 +10,9 @@ ghost use Rattle.emtp_rows.specs.held.Terms.{end_rows};
 
 use crate::branches::Branches;
 use crate::right::add_sources;
+use crate::step_network::StepNetwork;
 use crate::sums::{add_ends, fold};
-use emtp_case::{Case, RowKind, RowOrder};
+use emtp_case::{Case, RowKind};
 
 /// Turns the sign of each number.
 pub(crate) fn turn(sums: &mut [i128])
@@ -83,26 +84,24 @@ fn add_currents(
 /// What leaves the node of each row through branches in the last record, less what its current sources bring, in nA.
 /// `rows` has the rows of the two nodes of each branch.
 pub(crate) fn fill_leaving(
-    case: &Case,
-    order: &RowOrder,
-    branches: &Branches<'_>,
+    network: StepNetwork<'_>,
     currents: &[i64],
     values: &[i64],
     rows: &[(u32, u32)],
     out: &mut [i128],
 )
-    requires order { order.now ≡ order_of case.now.parts }
-    requires rows { rows.now ≡ map (end_rows case.now.parts) case.now.parts.branches }
-    requires same { HasCase branches.now case.now.parts }
-    requires currents { length currents.now ≡ length case.now.parts.branches }
-    requires values { length values.now ≡ length case.now.parts.sources }
-    requires out { length out.old ≡ length case.now.parts.nodes }
-    ensures value { FillsLeaving case.now.parts branches.now currents.now values.now out.new }
+    requires order { network.order.now ≡ order_of network.case.now.parts }
+    requires rows { rows.now ≡ map (end_rows network.case.now.parts) network.case.now.parts.branches }
+    requires same { HasCase network.branches.now network.case.now.parts }
+    requires currents { length currents.now ≡ length network.case.now.parts.branches }
+    requires values { length values.now ≡ length network.case.now.parts.sources }
+    requires out { length out.old ≡ length network.case.now.parts.nodes }
+    ensures value { FillsLeaving network.entry.case.now.parts network.entry.branches.now currents.now values.now out.new }
     ensures small { (j : ℕ) → j < length out.old → unsigned_abs (item out.new j) ≤ 10 ^ 24 }
 {
     out.fill(0);
-    add_currents(case, rows, branches, currents, out);
-    add_sources(case, order, values, out);
+    add_currents(network.case, rows, network.branches, currents, out);
+    add_sources(network.case, network.order, values, out);
     turn(out);
 }
 

@@ -14,6 +14,7 @@ ghost use Rattle.emtp_rows.specs.held.Terms.{end_rows};
 ghost use Rattle.emtp_wave.specs.Wave.{value_of};
 
 use crate::branches::Branches;
+use crate::step_network::StepNetwork;
 use crate::sums::{add_at, add_ends, fold};
 use emtp_case::{Case, RowKind, RowOrder, Source};
 use emtp_wave::CosTable;
@@ -160,26 +161,21 @@ pub(crate) struct StepRows<'s> {
 }
 
 /// The right side of the next step, by row, in nA and nV.
-pub(crate) fn fill_right(
-    case: &Case,
-    order: &RowOrder,
-    branches: &Branches<'_>,
-    rows: StepRows<'_>,
-    out: &mut [i128],
-)
-    requires order { order.now ≡ order_of case.now.parts }
-    requires ends { rows.ends.now ≡ map (end_rows case.now.parts) case.now.parts.branches }
-    requires same { HasCase branches.now case.now.parts }
+pub(crate) fn fill_right(network: StepNetwork<'_>, rows: StepRows<'_>, out: &mut [i128])
+    requires order { network.order.now ≡ order_of network.case.now.parts }
+    requires ends { rows.ends.now ≡ map (end_rows network.case.now.parts) network.case.now.parts.branches }
+    requires same { HasCase network.branches.now network.case.now.parts }
     requires ties { rows.ties ≡ false → AreUntied rows.kinds.now }
-    requires kinds { length rows.kinds.now ≡ length case.now.parts.nodes }
-    requires places { rows.places.now ≡ places_of case.now.parts }
-    requires values { length rows.values.now ≡ length case.now.parts.sources }
-    requires out { length out.old ≡ length case.now.parts.nodes }
-    ensures { FillsRight case.now.parts branches.now rows.entry.kinds.now rows.entry.values.now out.new }
+    requires kinds { length rows.kinds.now ≡ length network.case.now.parts.nodes }
+    requires places { rows.places.now ≡ places_of network.case.now.parts }
+    requires values { length rows.values.now ≡ length network.case.now.parts.sources }
+    requires out { length out.old ≡ length network.case.now.parts.nodes }
+    ensures { FillsRight network.entry.case.now.parts network.entry.branches.now rows.entry.kinds.now rows.entry.values.now
+        out.new }
 {
     out.fill(0);
-    add_histories(case, rows.ends, branches, out);
-    add_sources(case, order, rows.values, out);
+    add_histories(network.case, rows.ends, network.branches, out);
+    add_sources(network.case, network.order, rows.values, out);
     fold(rows.ties, rows.kinds, out);
     set_rows(rows.kinds, rows.places, rows.values, out);
 }

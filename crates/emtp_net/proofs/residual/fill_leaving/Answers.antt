@@ -7,7 +7,7 @@ use Rattle.emtp_net.proofs.residual.fill_leaving.Goals as goal
 
 pub returns-clause-value : goal.returns-clause-value
 returns-clause-value c = λ H vs r next moved values.
-    let case = c.args.case.now.parts in
+    let case = c.args.network.case.now.parts in
     let n = length case.nodes in
     let s1 : length c.add_currents.new.out ≡ n = omega (arith, c.add_currents.auto.out, c.fill.ensures.len, c.requires.out) in
     let s2 : length c.add_sources.new.out ≡ n = omega (arith, c.add_sources.auto.out, s1) in

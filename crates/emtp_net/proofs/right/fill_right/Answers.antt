@@ -8,7 +8,7 @@ use Rattle.emtp_net.proofs.right.fill_right.Goals as goal
 
 pub returns : goal.returns
 returns c = λ H stands kinds values.
-    let case = c.args.case.now.parts in
+    let case = c.args.network.case.now.parts in
     let n = length case.nodes in
     let s1 : length c.add_histories.new.out ≡ n = omega (arith, c.add_histories.auto.out, c.fill.ensures.len, c.requires.out) in
     let s2 : length c.add_sources.new.out ≡ n = omega (arith, c.add_sources.auto.out, s1) in
@@ -24,5 +24,5 @@ returns c = λ H stands kinds values.
 
 pub set_rows-requires-clause-places : goal.set_rows-requires-clause-places
 set_rows-requires-clause-places c =
-    let case = c.args.case.now.parts in
+    let case = c.args.network.case.now.parts in
     omega (arith, ap length c.requires.places, length-map-range_with_len (place_at case) 0 (length case.nodes), c.fold.auto.sums, c.add_sources.auto.out, c.add_histories.auto.out, c.fill.ensures.len, c.requires.out)

@@ -14,7 +14,7 @@ set_conductances-requires-clause-fixed g c = c.requires.rows.fixed
 
 pub follow-requires-clause-size : goal.follow-requires-clause-size
 follow-requires-clause-size g c =
-    let sized : length c.set_conductances.new.rows.nodal.case.nodes ≡ length c.args.case.now.parts.nodes = ap (λ (n : Nodal). length n.case.nodes) c.set_conductances.ensures.rest ∙ ap (λ (p : Parts). length p.nodes) c.requires.rows.case_is in
+    let sized : length c.set_conductances.new.rows.nodal.case.nodes ≡ length c.args.network.case.now.parts.nodes = ap (λ (n : Nodal). length n.case.nodes) c.set_conductances.ensures.rest ∙ ap (λ (p : Parts). length p.nodes) c.requires.rows.case_is in
     c.requires.rows.kept_size ∙ sym sized
 
 pub follow-requires-clause-stands : goal.follow-requires-clause-stands
@@ -23,16 +23,16 @@ follow-requires-clause-stands g c =
 
 pub row_fault-requires-clause-row : goal.row_fault-requires-clause-row
 row_fault-requires-clause-row g c =
-    let sized : length c.set_conductances.new.rows.nodal.case.nodes ≡ length c.args.case.now.parts.nodes = ap (λ (n : Nodal). length n.case.nodes) c.set_conductances.ensures.rest ∙ ap (λ (p : Parts). length p.nodes) c.requires.rows.case_is in
+    let sized : length c.set_conductances.new.rows.nodal.case.nodes ≡ length c.args.network.case.now.parts.nodes = ap (λ (n : Nodal). length n.case.nodes) c.set_conductances.ensures.rest ∙ ap (λ (p : Parts). length p.nodes) c.requires.rows.case_is in
     omega (arith, c.in-Err.ensures.follows.fault.within, length-nodal_matrix c.set_conductances.new.rows.nodal, sized)
 
 pub returns-in-Ok-clause-rows : goal.returns-in-Ok-clause-rows
 returns-in-Ok-clause-rows g c =
-    holds_next c.args.case.now.parts c.args.self.now.rows c.set_conductances.new.rows c.follow.new.self.rows c.args.self.now.kept c.follow.new.self.kept c.requires.rows c.set_conductances.ensures.rest c.set_conductances.ensures.room c.set_conductances.ensures.fixed c.follow.ensures.nodal c.follow.ensures.size c.follow.ensures.stands
+    holds_next c.args.network.case.now.parts c.args.self.now.rows c.set_conductances.new.rows c.follow.new.self.rows c.args.self.now.kept c.follow.new.self.kept c.requires.rows c.set_conductances.ensures.rest c.set_conductances.ensures.room c.set_conductances.ensures.fixed c.follow.ensures.nodal c.follow.ensures.size c.follow.ensures.stands
 
 pub returns-in-Err-clause-rows : goal.returns-in-Err-clause-rows
 returns-in-Err-clause-rows g c =
-    holds_next c.args.case.now.parts c.args.self.now.rows c.set_conductances.new.rows c.follow.new.self.rows c.args.self.now.kept c.follow.new.self.kept c.requires.rows c.set_conductances.ensures.rest c.set_conductances.ensures.room c.set_conductances.ensures.fixed c.follow.ensures.nodal c.follow.ensures.size c.follow.ensures.stands
+    holds_next c.args.network.case.now.parts c.args.self.now.rows c.set_conductances.new.rows c.follow.new.self.rows c.args.self.now.kept c.follow.new.self.kept c.requires.rows c.set_conductances.ensures.rest c.set_conductances.ensures.room c.set_conductances.ensures.fixed c.follow.ensures.nodal c.follow.ensures.size c.follow.ensures.stands
 
 pub returns-in-Ok-clause-kinds : goal.returns-in-Ok-clause-kinds
 returns-in-Ok-clause-kinds g c = ap (λ (n : Nodal). n.kinds) (c.follow.ensures.nodal ∙ c.set_conductances.ensures.rest)
@@ -42,18 +42,18 @@ returns-in-Err-clause-kinds g c = ap (λ (n : Nodal). n.kinds) (c.follow.ensures
 
 pub returns-in-Ok-clause-all : goal.returns-in-Ok-clause-all
 returns-in-Ok-clause-all g c =
-    let sized : length c.set_conductances.new.rows.nodal.case.nodes ≡ length c.args.case.now.parts.nodes = ap (λ (n : Nodal). length n.case.nodes) c.set_conductances.ensures.rest ∙ ap (λ (p : Parts). length p.nodes) c.requires.rows.case_is in
+    let sized : length c.set_conductances.new.rows.nodal.case.nodes ≡ length c.args.network.case.now.parts.nodes = ap (λ (n : Nodal). length n.case.nodes) c.set_conductances.ensures.rest ∙ ap (λ (p : Parts). length p.nodes) c.requires.rows.case_is in
     ap length c.in-Ok.ensures.follows.good ∙ length-nodal_matrix c.set_conductances.new.rows.nodal ∙ sized
 
 pub returns-in-Ok-clause-few_ticks : goal.returns-in-Ok-clause-few_ticks
-returns-in-Ok-clause-few_ticks g c = omega (arith, c.in-Ok.ensures.follows.ticks, c.requires.rows.kept_size, c.args.case.now.fits.draft.counts.nodes)
+returns-in-Ok-clause-few_ticks g c = omega (arith, c.in-Ok.ensures.follows.ticks, c.requires.rows.kept_size, c.args.network.case.now.fits.draft.counts.nodes)
 
 pub returns-in-Err-clause-few_ticks : goal.returns-in-Err-clause-few_ticks
-returns-in-Err-clause-few_ticks g c = omega (arith, c.in-Err.ensures.follows.fault_ticks, c.requires.rows.kept_size, c.args.case.now.fits.draft.counts.nodes)
+returns-in-Err-clause-few_ticks g c = omega (arith, c.in-Err.ensures.follows.fault_ticks, c.requires.rows.kept_size, c.args.network.case.now.fits.draft.counts.nodes)
 
 pub returns-in-Ok-clause-factors : goal.returns-in-Ok-clause-factors
 returns-in-Ok-clause-factors g c = λ H ready.
-    let case = c.args.case.now.parts in
+    let case = c.args.network.case.now.parts in
     let mid = c.set_conductances.new.rows.nodal in
     let kept = c.args.self.now.kept in
     let are = nodal_is case H c.args.self.now.rows.nodal mid c.requires.rows.case_is c.requires.rows.coupling_is ready.kinds (c.set_conductances.ensures.set H ready.stands) in
@@ -68,7 +68,7 @@ returns-in-Ok-clause-factors g c = λ H ready.
 
 pub returns-in-Err-clause-factors : goal.returns-in-Err-clause-factors
 returns-in-Err-clause-factors g c = λ H ready.
-    let case = c.args.case.now.parts in
+    let case = c.args.network.case.now.parts in
     let mid = c.set_conductances.new.rows.nodal in
     let kept = c.args.self.now.kept in
     let are = nodal_is case H c.args.self.now.rows.nodal mid c.requires.rows.case_is c.requires.rows.coupling_is ready.kinds (c.set_conductances.ensures.set H ready.stands) in

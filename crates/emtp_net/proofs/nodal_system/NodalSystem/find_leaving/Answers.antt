@@ -29,11 +29,11 @@ fill_leaving-requires c =
 pub returns : goal.returns
 returns c =
     record {
-      room = room c.args.case.now.parts c.args.self.now c.fill_leaving.new.out c.requires.room (c.fill_leaving.auto.out ∙ ap length c.deref_mut.ensures.value) (with_items_is c.args.self.now.right c.fill_leaving.new.out (c.fill_leaving.auto.out ∙ c.deref_mut.ensures.len));
+      room = room c.args.network.case.now.parts c.args.self.now c.fill_leaving.new.out c.requires.room (c.fill_leaving.auto.out ∙ ap length c.deref_mut.ensures.value) (with_items_is c.args.self.now.right c.fill_leaving.new.out (c.fill_leaving.auto.out ∙ c.deref_mut.ensures.len));
       kinds = refl;
       decided = refl;
       leaving = λ H vs moved values.
-          let case = c.args.case.now.parts in
+          let case = c.args.network.case.now.parts in
           let next = is_next case H vs in
           with_items_is c.args.self.now.right c.fill_leaving.new.out (c.fill_leaving.auto.out ∙ c.deref_mut.ensures.len) ∙ c.fill_leaving.ensures.value H vs (next_record H case vs) next moved (c.deref.ensures.value ∙ values) ∙ ap (leaving_rows case H) next.branches;
       small = small _ _ _ c.fill_leaving.new.out c.fill_leaving.ensures.small (ap length c.deref_mut.ensures.value ∙ c.requires.room.right) (with_items_is c.args.self.now.right c.fill_leaving.new.out (c.fill_leaving.auto.out ∙ c.deref_mut.ensures.len));
