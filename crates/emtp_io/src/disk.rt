@@ -16,12 +16,16 @@ use std::{fs, io};
 /// This is the trusted edge: no clause can say what a file or a terminal holds, so it is not calm and
 /// tells nothing of content. What clauses see of it is whether a file is open, which outputs were
 /// created, and both counts.
+///
+/// An output is a file that is open until the next output is created, so only the last one can be written.
 #[derive(Drop)]
 pub struct DiskCabinet<R: Files + Print + Drop> {
     rt: R,
     input: Option<R::File>,
     cfg: Option<R::File>,
     dat: Option<R::File>,
+    cfg_created: bool,
+    dat_created: bool,
     note_created: bool,
     summary_created: bool,
     faults_in: u64,
@@ -33,8 +37,8 @@ impl<R: Files + Print + Drop> Model for DiskCabinet<R> {
 
     ghost view = { λ d. record {
       is_open = is_some d.input;
-      cfg = is_some d.cfg;
-      dat = is_some d.dat;
+      cfg = d.cfg_created;
+      dat = d.dat_created;
       note = d.note_created;
       summary = d.summary_created;
       faults_in = d.faults_in;
@@ -60,6 +64,8 @@ impl<R: Files + Print + Drop> DiskCabinet<R> {
             input: None,
             cfg: None,
             dat: None,
+            cfg_created: false,
+            dat_created: false,
             note_created: false,
             summary_created: false,
             faults_in: 0,
@@ -119,24 +125,28 @@ fn read_from<F: Read>(file: &mut Option<F>, buf: &mut [u8]) -> Option<usize>
     read_some(file.as_mut()?, buf)
 }
 
-/// Writes to a file that was created.
-fn write_to<F: Write>(file: &mut Option<F>, piece: &[u8]) -> Option<usize>
-    ensures created { OnSome result (IsSome file.old) }
-    ensures same { is_some file.new ≡ is_some file.old }
+/// Writes to the file of an output that was created, where it is still open.
+fn write_to<F: Write>(file: &mut Option<F>, created: bool, piece: &[u8]) -> Option<usize>
+    ensures created { OnSome result (IsTrue created) }
     ensures bound { IfSome result (λ n. n ≤ length piece.now) }
     ensures some { IfSome result (λ n. 0 < length piece.now → 0 < n) }
 {
+    if !created {
+        return None;
+    }
     write_some(file.as_mut()?, piece)
 }
 
-/// Makes a file empty, and puts it in place of the one before. Where that fails, the one before stays.
-fn create_file<R: Files>(rt: &R, name: &str, file: &mut Option<R::File>) -> bool
-    ensures created { OnTrue result (IsSome file.new) }
-    ensures kept { OnFalse result (file.new ≡ file.old) }
+/// Makes a file empty, and opens it as that of an output.
+fn create_file<R: Files>(rt: &R, name: &str, file: &mut Option<R::File>, created: &mut bool) -> bool
+    ensures created { OnTrue result (IsTrue created.new) }
+    ensures open { OnTrue result (IsSome file.new) }
+    ensures kept { OnFalse result (created.new ≡ created.old) }
 {
     match fs::create(rt, name) {
-        Ok(created) => {
-            *file = Some(created);
+        Ok(made) => {
+            *file = Some(made);
+            *created = true;
             true
         }
         Err(_) => false,
@@ -190,9 +200,13 @@ impl<R: Files + Print + Drop> Cabinet for DiskCabinet<R> {
         ensures err { OnErr result
             (self.new ≡ record self.old { faults_out = one_more self.old.faults_out }) }
     {
+        // A file that is open may have the number of a standard output that was closed before the start: the note would
+        // go to it.
+        self.cfg = None;
+        self.dat = None;
         let created = match out {
-            Output::Cfg => create_file(&self.rt, name, &mut self.cfg),
-            Output::Dat => create_file(&self.rt, name, &mut self.dat),
+            Output::Cfg => create_file(&self.rt, name, &mut self.cfg, &mut self.cfg_created),
+            Output::Dat => create_file(&self.rt, name, &mut self.dat, &mut self.dat_created),
             Output::Note => {
                 self.note_created = true;
                 true
@@ -221,8 +235,8 @@ impl<R: Files + Print + Drop> Cabinet for DiskCabinet<R> {
             (self.new ≡ record self.old { faults_out = one_more self.old.faults_out }) }
     {
         let count = match out {
-            Output::Cfg => write_to(&mut self.cfg, piece),
-            Output::Dat => write_to(&mut self.dat, piece),
+            Output::Cfg => write_to(&mut self.cfg, self.cfg_created, piece),
+            Output::Dat => write_to(&mut self.dat, self.dat_created, piece),
             Output::Note => print_some(&self.rt, self.note_created, piece),
             Output::Summary => print_some(&self.rt, self.summary_created, piece),
         };
