@@ -1,6 +1,6 @@
 -- A step, from what its stages answer.
 use Rattle.emtp_case.specs.declared.limit.TheConstants.{MOST_CONTROL_CARDS}
-use Rattle.std.proofs.Common.{◌≡◌, ◌∙◌, sym, ap, subst, refl, ℕ, ◌+◌, ◌-◌, ◌==◌, ◌<◌, ◌≤◌, if◌then◌else◌, List, ◌∷◌, length, Result, Ok, Err, OnOk, arith}
+use Rattle.std.proofs.Common.{◌≡◌, ◌∙◌, sym, ap, subst, refl, ℕ, ◌+◌, ◌-◌, ◌==◌, ◌<◌, ◌≤◌, if◌then◌else◌, List, length, Result, Ok, Err, OnOk, arith}
 use Rattle.emtp_blocks.proofs.Matrices.{length-control_matrix}
 use Rattle.emtp_blocks.specs.System.{limiters_of, matrix}
 use Rattle.emtp_case.specs.StepRecord.{StepRecord}

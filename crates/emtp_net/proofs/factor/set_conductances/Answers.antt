@@ -1,4 +1,4 @@
-use Rattle.std.proofs.Common.{◌≡◌, ◌∙◌, ap, refl, arith}
+use Rattle.std.proofs.Common.{◌∙◌, ap, refl, arith}
 use Rattle.emtp_net.proofs.Conductances.{conductances_are, set_next, touches_then}
 use Rattle.emtp_rows.specs.Nodal.{Nodal}
 use Rattle.emtp_net.proofs.factor.set_conductances.Goals as goal
