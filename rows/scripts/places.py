@@ -1,4 +1,4 @@
-"""Where the program and the folders of its runs stand: examples/NAME, and rows/GROUP/NAME."""
+"""Where the programs and the folders of their runs stand: examples/NAME, and rows/GROUP/NAME."""
 import glob
 import os
 import sys
@@ -6,6 +6,16 @@ import sys
 SCRIPTS = os.path.dirname(os.path.realpath(__file__))
 TOP = os.path.dirname(os.path.dirname(SCRIPTS))
 PROGRAM = os.path.join(TOP, "crates", "emtp", "out", "emtp")
+SHOWER = os.path.join(TOP, "crates", "emtp_show", "out", "emtp_show")
+
+
+def command_line(program, words):
+    """What is run for the words of a row, where `program` is emtp: the program itself with them, or behind the word `show`
+    emtp_show with the others. That is the built one of the built program, and of another program the one beside it."""
+    if words[:1] != ["show"]:
+        return [program] + words
+    shower = SHOWER if program == PROGRAM else os.path.join(os.path.dirname(program), "emtp_show")
+    return [shower] + words[1:]
 
 
 def folders():
