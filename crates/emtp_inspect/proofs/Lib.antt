@@ -1,3 +1,2 @@
 mod GivenLines
-mod Notes
 mod Texts

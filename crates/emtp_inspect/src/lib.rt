@@ -15,13 +15,11 @@
 //! - `telling`: the text that the bytes of a file give
 //! - `each_card`, `run_cards`, `copy_cards`, `channel_cards`: what the cards say that no case keeps
 //! - `section`: as what a card is read
-//! - `note`: the line of a refused card
 #![tactic(auto)]
 
 mod channel_cards;
 mod copy_cards;
 mod each_card;
-mod note;
 mod run_cards;
 mod section;
 mod showing;

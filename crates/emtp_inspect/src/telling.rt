@@ -10,7 +10,6 @@ ghost use Rattle.emtp_warnings.specs.Warnings.{warnings};
 
 use crate::channel_cards::put_channels;
 use crate::copy_cards::put_copies;
-use crate::note::put_bad;
 use crate::run_cards::put_run_cards;
 use crate::section::{lines_before, place_behind, put_section, whole_count};
 use crate::words::Wanted;
@@ -18,6 +17,7 @@ use emtp_card::{Bad, Cards, Refused};
 use emtp_case::{Case, Items};
 use emtp_deck::read;
 use emtp_listing::listing;
+use emtp_run::bad_card;
 use emtp_text::{put, put_number};
 use emtp_walk::Place;
 use emtp_warnings::{Warning, warnings, warnings_text};
@@ -132,7 +132,7 @@ fn tell_size(alloc: Global, bad: &Bad) -> Result<Told, AllocError>
     ensures { IfOk result (λ told. told ≡ Told.Refusal (card_note bad.now)) }
 {
     let mut text = Vec::new(alloc);
-    put_bad(&mut text, bad)?;
+    put(&mut text, bad_card(bad).as_slice())?;
     Ok(Told::Refusal(Items::from_vec(text)))
 }
 
@@ -157,7 +157,7 @@ fn tell_at(
 {
     let count = whole_count(place, lines_before(bad.line));
     let mut text = listed_front(alloc, cards, count)?;
-    put_bad(&mut text, bad)?;
+    put(&mut text, bad_card(bad).as_slice())?;
     put_section(&mut text, cards, bad.line, place)?;
     Ok(Told::Refusal(Items::from_vec(text)))
 }

@@ -1,7 +1,9 @@
 //! What the words of a command line ask for.
 ghost use Rattle.std.specs.Prelude.{◌≡◌, ◌∷◌, [], None, option_map};
 ghost use Rattle.emtp_inspect.specs.Asking.{asked, counted, named};
-ghost use Rattle.emtp_run.specs.Words.{is_name, texts};
+ghost use Rattle.emtp_run.specs.Words.{texts};
+
+use emtp_run::is_name;
 
 /// What is wanted of a case that is read.
 #[derive(Clone, Copy)]
@@ -40,15 +42,5 @@ fn named<'a>(wanted: Wanted, word: &'a str) -> Option<(Wanted, &'a str)>
         Some((wanted, word))
     } else {
         None
-    }
-}
-
-/// Whether a word names a file: it isn't empty and doesn't begin with a dash.
-fn is_name(word: &str) -> bool
-    ensures { result ≡ is_name word.now }
-{
-    match word.as_bytes() {
-        [] => false,
-        [first, ..] => *first != b'-',
     }
 }

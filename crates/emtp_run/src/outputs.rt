@@ -1,10 +1,10 @@
 //! The outputs of a call, each made after the one before it is whole.
-ghost use Rattle.std.specs.Prelude.{◌≡◌, ◌+◌, [], ◌∷◌, Some, length};
+ghost use Rattle.std.specs.Prelude.{◌≡◌, [], ◌∷◌, Some, length};
 ghost use Rattle.emtp_comtrade.specs.held.Record.{AreMultipliers};
 ghost use Rattle.emtp_io.specs.held.Writes.{Makes};
-ghost use Rattle.emtp_machine.specs.History.{history, redone as redone_by, samples as samples_of};
+ghost use Rattle.emtp_machine.specs.History.{history};
 ghost use Rattle.emtp_run.specs.Outcome.{cfg, dat, ended_alone, note, record_writes, refusal, summarised, summary};
-ghost use Rattle.emtp_run.specs.held.Outcome.{writes_of, Ends, EndsAfterReading, LeavesNote};
+ghost use Rattle.emtp_run.specs.held.Outcome.{writes_of, AreResultsOf, Ends, EndsAfterReading, LeavesNote};
 ghost use Rattle.emtp_run.specs.held.Words.{files_of};
 
 use crate::note;
@@ -23,6 +23,19 @@ pub enum Product<'a> {
     Record(RunWords<'a>),
     /// The summary of the trial of a number.
     Trial(u32),
+}
+
+/// What the run of a case came to.
+#[derive(Clone, Copy)]
+pub struct Results<'a> {
+    /// The samples of the steps that were made.
+    pub samples: &'a Samples,
+    /// How many steps were made.
+    pub steps: u32,
+    /// How many rows of both matrices were redone.
+    pub redone: u64,
+    /// The end of the step after the last one, if it came.
+    pub end: &'a Option<End>,
 }
 
 /// Makes the configuration of the record.
@@ -75,26 +88,20 @@ fn make_summary<C: Cabinet>(cabinet: &mut C, text: &[u8]) -> Result<(), Failed>
     write_all(cabinet, Output::Summary, text)
 }
 
-/// Makes the record and the note of a run of so many steps and redone rows, each output after the one before it is whole.
+/// Makes the record and the note of a run, each output after the one before it is whole.
 fn make_record<C: Cabinet>(
     cabinet: &mut C,
     words: RunWords<'_>,
     case: &Case,
-    samples: &Samples,
-    steps: u32,
-    redone: u64,
-    end: &Option<End>,
+    results: Results<'_>,
 ) -> Result<(), Failed>
-    requires channels { samples.now.channels ≡ length case.now.parts.channels }
-    requires samples { samples.now.rows ≡ samples_of case.now.parts (history case.now.parts) }
-    requires steps { steps + 1 ≡ length (history case.now.parts).records }
-    requires redone { redone ≡ redone_by case.now.parts (history case.now.parts) }
-    requires end { end.now ≡ (history case.now.parts).end }
+    requires { AreResultsOf case.now.parts results }
     ensures { Makes (C.state cabinet.old) (C.state cabinet.new)
         (record_writes (files_of words.entry) case.now.parts (history case.now.parts)) result }
 {
+    let samples = results.samples;
     let multipliers = scales(case, samples);
-    let text = note::of_run(end, steps, samples.count(), redone);
+    let text = note::of_run(results.end, results.steps, samples.count(), results.redone);
     make_cfg(cabinet, words.cfg, case, samples, &multipliers)?;
     make_dat(cabinet, words.dat, case, samples, &multipliers)?;
     make_note(cabinet, text.as_slice())
@@ -105,23 +112,16 @@ pub fn make_all<C: Cabinet>(
     cabinet: &mut C,
     product: Product<'_>,
     case: &Case,
-    samples: &Samples,
-    steps: u32,
-    redone: u64,
-    end: &Option<End>,
+    results: Results<'_>,
 ) -> Result<(), Failed>
-    requires channels { samples.now.channels ≡ length case.now.parts.channels }
-    requires samples { samples.now.rows ≡ samples_of case.now.parts (history case.now.parts) }
-    requires steps { steps + 1 ≡ length (history case.now.parts).records }
-    requires redone { redone ≡ redone_by case.now.parts (history case.now.parts) }
-    requires end { end.now ≡ (history case.now.parts).end }
+    requires { AreResultsOf case.now.parts results }
     ensures { Makes (C.state cabinet.old) (C.state cabinet.new)
         (writes_of product.entry case.now.parts (history case.now.parts)) result }
 {
     match product {
-        Product::Record(words) => make_record(cabinet, words, case, samples, steps, redone, end),
+        Product::Record(words) => make_record(cabinet, words, case, results),
         Product::Trial(number) => {
-            let text = of_trial(number, end, steps, redone, samples);
+            let text = of_trial(number, results);
             make_summary(cabinet, text.as_slice())
         }
     }

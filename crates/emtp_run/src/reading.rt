@@ -59,7 +59,7 @@ pub fn read_texts<C: Cabinet>(
 }
 
 /// A file of cards, or of a table of times. A byte past the limit is enough to refuse it.
-fn text_file<'a>(name: &'a str) -> InputFile<'a>
+pub fn text_file<'a>(name: &'a str) -> InputFile<'a>
     ensures { result ≡ record { name = name.entry; bound = MAX_BYTES + 1 } }
 {
     InputFile {
@@ -112,7 +112,7 @@ fn read_inputs<C: Cabinet>(
 }
 
 /// What is read of a file.
-fn read_input<C: Cabinet>(
+pub fn read_input<C: Cabinet>(
     alloc: Global,
     input: InputFile<'_>,
     cabinet: &mut C,

@@ -16,7 +16,7 @@ ghost use Rattle.emtp_run.specs.held.Words.{task_of, IsTask};
 use crate::audit::run_audit;
 use crate::batch::run_table;
 use crate::note;
-use crate::outputs::{Product, make_all, refuse};
+use crate::outputs::{Product, Results, make_all, refuse};
 use crate::reading::read_texts;
 use crate::report::{tell_scan, tell_state};
 use crate::status::Status;
@@ -183,8 +183,13 @@ impl<'c> Ran<'c> {
             (C.state cabinet.old) (C.state cabinet.new) }
     {
         let machine = &self.machine;
-        let (samples, steps, redone) = (machine.samples(), machine.done(), machine.redone());
-        match make_all(cabinet, product, case, samples, steps, redone, &self.end) {
+        let results = Results {
+            samples: machine.samples(),
+            steps: machine.done(),
+            redone: machine.redone(),
+            end: &self.end,
+        };
+        match make_all(cabinet, product, case, results) {
             Ok(()) => status_of(&self.end),
             Err(_) => Status::WriteFault,
         }

@@ -4,23 +4,26 @@ ghost use Rattle.emtp_audit.specs.Note.{same_text};
 ghost use Rattle.emtp_run.specs.Summary.{peak_of, sums_text, trial_head, trial_summary};
 
 use crate::note::{push_done, push_ended};
+use crate::outputs::Results;
 use crate::text::{Text, push, push_number};
-use emtp_machine::{End, Samples};
+use emtp_machine::Samples;
 
-/// The summary of the trial of a number, with the end of the step after the last one, if it came.
+/// The summary of the trial of a number.
 #[tactic(auto, unfolding(crate::specs::Summary::trial_summary))]
-pub fn of_trial(number: u32, end: &Option<End>, steps: u32, redone: u64, samples: &Samples) -> Text
-    ensures { result.items ≡ trial_summary number end.now steps redone samples.now.rows samples.now.channels }
+pub fn of_trial(number: u32, results: Results<'_>) -> Text
+    ensures { result.items ≡ trial_summary number results.entry.end.now results.entry.steps results.entry.redone
+        results.entry.samples.now.rows results.entry.samples.now.channels }
 {
+    let samples = results.samples;
     let mut text = Text::new();
     push_head(&mut text, number);
-    match end {
+    match results.end {
         Some(end) => {
             push(&mut text, b" ");
-            push_ended(&mut text, end, samples.count(), redone);
+            push_ended(&mut text, end, samples.count(), results.redone);
         }
         None => {
-            push_done(&mut text, steps, samples.count(), redone);
+            push_done(&mut text, results.steps, samples.count(), results.redone);
             push_sums(&mut text, samples);
         }
     }

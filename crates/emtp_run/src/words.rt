@@ -248,7 +248,8 @@ fn trial_number(word: &[u8]) -> Option<u32>
     }
 }
 
-fn is_name(word: &str) -> bool
+/// Whether a word names a file: it isn't empty and doesn't begin with a dash.
+pub fn is_name(word: &str) -> bool
     ensures { result ≡ is_name word.now }
 {
     match word.as_bytes() {

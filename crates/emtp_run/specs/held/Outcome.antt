@@ -1,12 +1,13 @@
 -- Beside `Outcome`: what values hold for their proofs, and what premises say. No clause of the program reaches it.
-use Rattle.std.specs.Prelude.{◌≡◌, ◌≢◌, List, IsTrue, Option, Some}
+use Rattle.std.specs.Prelude.{◌≡◌, ◌≢◌, ◌+◌, List, length, IsTrue, Option, Some}
 use Rattle.emtp_case.specs.declared.case.Parts.{Parts}
 use Rattle.emtp_io.specs.Cabinet.{CabinetState}
 use Rattle.emtp_io.specs.Writes.{Written}
-use Rattle.emtp_machine.specs.History.{History}
+use Rattle.emtp_machine.specs.History.{History, history, redone as redone_by, samples as samples_of}
 use Rattle.emtp_run.specs.held.Words.{files_of}
 use Rattle.emtp_run.specs.declared.outputs.Product.{Product}
 use Rattle.emtp_run.specs.declared.outputs.Product.TheVariants.{Record as OfRecord, Trial as OfTrial}
+use Rattle.emtp_run.specs.declared.outputs.Results.{Results}
 use Rattle.emtp_run.specs.declared.status.Status.{Status}
 use Rattle.emtp_run.specs.declared.status.Status.TheVariants.{Done, Usage, BadCard, Ended, ReadFault, WriteFault, NoMemory, Refused, Differs, BadRow}
 use Rattle.emtp_run.specs.Outcome.{Outcome, usage, record_writes, trial_writes, Settles, HasStatusCause, Leaves, IsCalmRun, HasRoomFor}
@@ -14,6 +15,14 @@ use Rattle.emtp_run.specs.Outcome.{Outcome, usage, record_writes, trial_writes, 
 abbrev pub writes_of : Product → Parts → History → List Written
 writes_of (OfRecord words) case h = record_writes (files_of words) case h
 writes_of (OfTrial number) case h = trial_writes number case h
+
+-- what a run came to is that of the case's history; rest is no step
+pub record AreResultsOf (case : Parts) (results : Results) : Type 0 where
+  pub channels : results.samples.now.channels ≡ length case.channels
+  pub samples : results.samples.now.rows ≡ samples_of case (history case)
+  pub steps : results.steps + 1 ≡ length (history case).records
+  pub redone : results.redone ≡ redone_by case (history case)
+  pub end : results.end.now ≡ (history case).end
 
 -- a status whose note is all that is made
 abbrev pub LeavesNote : Status → Type 0
