@@ -5,7 +5,8 @@ use Rattle.emtp_card.specs.Cards.{size_fault}
 use Rattle.emtp_card.specs.Lines.{lines_of}
 use Rattle.emtp_card.specs.declared.reason.Bad.{Bad}
 use Rattle.emtp_listing.specs.Lines.{lines_text}
-use Rattle.emtp_walk.specs.Walk.{empty_deck, walk}
+use Rattle.emtp_netcards.specs.BranchCard.{kind_field}
+use Rattle.emtp_walk.specs.Walk.{empty_deck, is_second, walk}
 use Rattle.emtp_walk.specs.declared.control_cards.ControlPlace.{ControlPlace}
 use Rattle.emtp_walk.specs.declared.control_cards.ControlPlace.TheVariants.{Blocks, Denominator, DevicePoints, Extras, Initial, Numerator, TacsOutputs, TacsSources}
 use Rattle.emtp_walk.specs.declared.deck.Deck.{Deck}
@@ -30,7 +31,7 @@ place_behind text = place_sized (size_fault text) (lines_of text)
 abbrev pub place_before : List (List ℕ) → ℕ → Option Place
 place_before lines count = place_behind (lines_text (take count lines))
 
--- ---- which lines before a place make whole records: those before the card of a group that isn't at its end
+-- ---- which lines before a refused one make whole records: those before the card of a group that isn't at its end
 
 abbrev pub whole_control : ControlPlace → ℕ → ℕ
 whole_control (Numerator card) before = card.line - 1
@@ -38,15 +39,24 @@ whole_control (Denominator card top line) before = card.line - 1
 whole_control (DevicePoints group) before = group.card.line - 1
 whole_control other before = before
 
-abbrev pub whole_before : Place → ℕ → ℕ
-whole_before (Control at) before = whole_control at before
-whole_before (Points group) before = group.card.line - 1
-whole_before (Third zero' positive wide) before = zero'.line - 1
-whole_before other before = before
+-- a card -1 before a card -2 is the first of three phases
+abbrev pub whole_single : ℕ → List ℕ → ℕ → ℕ
+whole_single first line before = if is_second (kind_field line) then first - 1 else before
 
-abbrev pub whole_count : Option Place → ℕ → ℕ
-whole_count None before = 0
-whole_count (Some place) before = whole_before place before
+abbrev pub whole_waiting : ℕ → Option (List ℕ) → ℕ → ℕ
+whole_waiting first None before = before
+whole_waiting first (Some line) before = whole_single first line before
+
+abbrev pub whole_before : Place → Option (List ℕ) → ℕ → ℕ
+whole_before (Control at) line before = whole_control at before
+whole_before (Points group) line before = group.card.line - 1
+whole_before (Waiting card wide) line before = whole_waiting card.line line before
+whole_before (Third zero' positive wide) line before = zero'.line - 1
+whole_before other line before = before
+
+abbrev pub whole_count : Option Place → Option (List ℕ) → ℕ → ℕ
+whole_count None line before = 0
+whole_count (Some place) line before = whole_before place line before
 
 -- ---- as what a line is read at a place
 

@@ -50,7 +50,7 @@ listed_front lines count = listed_of (lines_text (take count lines) ++ ends_text
 -- the whole records before it, its note, and as what it was read
 abbrev pub refused_at : List (List ℕ) → Bad → Option Place → List ℕ
 refused_at lines bad place =
-    (listed_front lines (whole_count place (bad.line - 1)) ++ card_note bad) ++ section_text bad.line (slice_get lines (bad.line - 1)) place
+    (listed_front lines (whole_count place (slice_get lines (bad.line - 1)) (bad.line - 1)) ++ card_note bad) ++ section_text bad.line (slice_get lines (bad.line - 1)) place
 
 abbrev pub refused_text : List (List ℕ) → Bad → List ℕ
 refused_text lines bad = refused_at lines bad (place_before lines (bad.line - 1))

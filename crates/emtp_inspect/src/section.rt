@@ -1,9 +1,11 @@
 //! As what a card is read.
 ghost use Rattle.std.specs.Prelude.{◌≡◌, ◌-◌, ◌++◌, [], IfOk, OnOk, slice_get};
-ghost use Rattle.emtp_inspect.specs.Section.{branch_kind, card_kind, control_kind, first_kind, place_behind, place_of_walk, place_text, read_text, due_text, section_text, start_kind, whole_before, whole_count, whole_control};
-ghost use Rattle.emtp_walk.specs.Walk.{empty_deck, walk};
+ghost use Rattle.emtp_inspect.specs.Section.{branch_kind, card_kind, control_kind, first_kind, place_behind, place_of_walk, place_text, read_text, due_text, section_text, start_kind, whole_before, whole_count, whole_control, whole_single, whole_waiting};
+ghost use Rattle.emtp_netcards.specs.BranchCard.{kind_field};
+ghost use Rattle.emtp_walk.specs.Walk.{empty_deck, is_second, walk};
 
 use emtp_card::{Cards, Refused};
+use emtp_netcards::{BranchKind, branch_kind as kind_of_branch};
 use emtp_text::{put, put_number};
 use emtp_walk::{ControlPlace, Place, walk};
 use std::alloc::{AllocError, Global};
@@ -33,21 +35,23 @@ fn place_of_walk(alloc: Global, cards: &Cards<'_>) -> Result<Option<Place>, Allo
     }
 }
 
-/// How many of the lines before a place make whole records: those before the card of a group that isn't at its end.
-pub(crate) fn whole_count(place: &Option<Place>, before: usize) -> usize
-    ensures { result ≡ whole_count place.now before }
+/// How many of the lines before the refused one of a number, at its place, make whole records: those before the card of a
+/// group that isn't at its end.
+pub(crate) fn whole_count(place: &Option<Place>, cards: &Cards<'_>, number: u32) -> usize
+    ensures { result ≡ whole_count place.now (slice_get cards.now (number - 1)) (number - 1) }
 {
     match place {
-        Some(place) => whole_before(place, before),
+        Some(place) => whole_before(place, cards, lines_before(number)),
         None => 0,
     }
 }
 
-fn whole_before(place: &Place, before: usize) -> usize
-    ensures { result ≡ whole_before place.now before }
+fn whole_before(place: &Place, cards: &Cards<'_>, before: usize) -> usize
+    ensures { result ≡ whole_before place.now (slice_get cards.now before) before }
 {
     match place {
         Place::Points(group) => lines_before(group.card.line),
+        Place::Waiting { card, .. } => whole_waiting(card.line, cards, before),
         Place::Third { zero, .. } => lines_before(zero.line),
         Place::Control(at) => whole_control(at, before),
         Place::Begin
@@ -55,12 +59,39 @@ fn whole_before(place: &Place, before: usize) -> usize
         | Place::Second
         | Place::Start
         | Place::Branches(_)
-        | Place::Waiting { .. }
         | Place::Switches
         | Place::Sources
         | Place::Outputs
         | Place::After(_) => before,
     }
+}
+
+/// The same behind a card -1, by the line of it: before a card -2 it is the first of three phases.
+fn whole_waiting(first: u32, cards: &Cards<'_>, before: usize) -> usize
+    ensures { result ≡ whole_waiting first (slice_get cards.now before) before }
+{
+    if before < cards.len() {
+        whole_single(first, cards.line(before).bytes, before)
+    } else {
+        before
+    }
+}
+
+fn whole_single(first: u32, line: &[u8], before: usize) -> usize
+    ensures { result ≡ whole_single first line.now before }
+{
+    if is_second(line) {
+        lines_before(first)
+    } else {
+        before
+    }
+}
+
+/// Whether a branch card is the second of three phases.
+fn is_second(line: &[u8]) -> bool
+    ensures { result ≡ is_second (kind_field line.now) }
+{
+    matches!(kind_of_branch(line), Ok(BranchKind::Second))
 }
 
 fn whole_control(at: &ControlPlace, before: usize) -> usize

@@ -155,7 +155,7 @@ fn tell_at(
 ) -> Result<Told, AllocError>
     ensures { IfOk result (λ told. told ≡ Told.Refusal (refused_at cards.now bad.now place.now)) }
 {
-    let count = whole_count(place, lines_before(bad.line));
+    let count = whole_count(place, cards, bad.line);
     let mut text = listed_front(alloc, cards, count)?;
     put(&mut text, bad_card(bad).as_slice())?;
     put_section(&mut text, cards, bad.line, place)?;
