@@ -9,7 +9,7 @@ use Rattle.emtp_warnings.specs.declared.finding.Warning.{Warning}
 abbrev pub finding_text : Finding → List ℕ
 finding_text NotRead = codes "not read"
 finding_text NumbersTouch = codes "two numbers touch"
-finding_text LoneNode = codes "no other card names the node"
+finding_text LoneNode = codes "no other branch, switch or source has the node"
 finding_text NodeZero = codes "node 0 is not ground"
 finding_text NoFrequency = codes "cosine of frequency 0"
 finding_text ShortTravel = codes "travel time below two steps"

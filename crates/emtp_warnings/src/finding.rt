@@ -28,7 +28,7 @@ pub enum Finding {
     NotRead,
     /// The last byte of a number's field and the first byte of the next one's: the number may be one.
     NumbersTouch,
-    /// A node that no other card names.
+    /// A node that no other branch, switch or source has.
     LoneNode,
     /// A node whose name is `0`, which is not ground.
     NodeZero,

@@ -71,7 +71,7 @@ fn finding_text(finding: Finding) -> &'static [u8]
     match finding {
         Finding::NotRead => b"not read",
         Finding::NumbersTouch => b"two numbers touch",
-        Finding::LoneNode => b"no other card names the node",
+        Finding::LoneNode => b"no other branch, switch or source has the node",
         Finding::NodeZero => b"node 0 is not ground",
         Finding::NoFrequency => b"cosine of frequency 0",
         Finding::ShortTravel => b"travel time below two steps",
