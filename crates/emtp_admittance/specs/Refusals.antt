@@ -78,7 +78,7 @@ control_line (OfFormula x) = x.line
 
 -- ---- the case
 
--- the cards that no frequency makes good
+-- the first card of the control, which no frequency makes good
 abbrev pub control_cards : Parts → Option Refused
 control_cards case =
     sooner (least_refusal (λ (s : Source). control_refused s.line) case.tacs_sources)

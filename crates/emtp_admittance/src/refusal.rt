@@ -3,29 +3,29 @@
 ghost use Rattle.std.specs.Prelude.{◌≡◌, Option};
 ghost use Rattle.emtp_admittance.specs.Refusals.{sooner};
 
-/// Why a card is refused.
+/// Why a card is refused. The number that is printed of a reason is `refusal_number` of `emtp_phasor_text`.
 #[derive(Clone, Copy, Debug, PartialEq, Eq)]
 pub enum Refusal {
     /// The case has more than 500 nodes.
-    Size = 31,
+    Size,
     /// No frequency is given, and no source has one.
-    NoSource = 32,
+    NoSource,
     /// A source, block, formula or device of the control.
-    Control = 33,
+    Control,
     /// A valve or a switch that the control closes.
-    Switch = 34,
+    Switch,
     /// A pseudo-nonlinear branch.
-    Nonlinear = 35,
+    Nonlinear,
     /// A line with losses.
-    Loss = 36,
+    Loss,
     /// A phase of a three-phase line.
-    Phases = 37,
+    Phases,
     /// An impedance that is too small or too large.
-    Impedance = 38,
+    Impedance,
     /// A source that is no cosine, or has another frequency.
-    Source = 39,
+    Source,
     /// The case hasn't the one source that a scan wants.
-    Probe = 40,
+    Probe,
 }
 
 /// A card that is refused.

@@ -174,7 +174,7 @@ fn least_extra(case: &Case) -> Option<Refused>
     best
 }
 
-/// The first refused card of those that no frequency makes good.
+/// The first card of the control, which no frequency makes good.
 pub(crate) fn control_cards(case: &Case) -> Option<Refused>
     ensures { result ≡ control_cards case.now.parts }
 {

@@ -21,7 +21,7 @@ reactance_at freq b = inductive_reactance (angular_frequency freq) b.l -ℤ capa
 
 -- how far each part of the impedance re + j im that is seen may be from that of R + jX, in 10^-9 ohm, times 2 * 10^18 A, with A
 -- the amplitude. Over that it is half a nano-ohm, and |R| + |X| times the tolerance and half a nA over A, and |R| + |X| times
--- half a pS times the magnitudes that are seen
+-- half a pS times the magnitudes that are seen and 1 nano-ohm
 abbrev pub sight_bound : ℤ → ℤ → ℤ → ℤ → ℤ → ℤ → ℕ
 sight_bound r x tolerance amplitude re im =
     10 ^ 18 * unsigned_abs amplitude

@@ -51,8 +51,9 @@ pub fn scan_line_is_the_phasor()
     ensures { (case : Parts) (probe : Probe) (freq : ℤ) (p : Phasors) → IsSolved case (Some freq) p → (line_at case probe freq).answer ≡ impedance_seen case probe (volt_at (nothing ∷ p.volts.items) probe.node) }
 {}
 
-/// The source of a scan that feeds a single series branch to ground sees R + jX, each part within half a nano-ohm, |R| + |X|
-/// times the tolerance and half a nA over the amplitude, and |R| + |X| times half a pS times the magnitudes that it sees.
+/// The source of a scan that feeds a single series branch to ground, at a node that no closed switch joins with another one, sees
+/// R + jX, each part within half a nano-ohm, |R| + |X| times the tolerance and half a nA over the amplitude, and |R| + |X| times
+/// half a pS times the magnitudes that it sees and 1 nano-ohm.
 pub fn single_branch_is_seen_as_r_and_x()
     ensures { (case : Parts) (probe : Probe) (b : Lumped) (freq re im : ℤ) → judged_probe case ≡ Ok probe → IsBranchToGround case b probe.node → (line_at case probe freq).answer ≡ Impedance re im → IsSeen b.r (reactance_at freq b) case.run.tolerance probe.amplitude re im }
 {}

@@ -3,7 +3,8 @@
 //! [`solve`] answers the complex voltages of all nodes at one frequency, [`scan`] the impedance that the one source of a case
 //! sees at many. The complex nodal system is solved as a real one with twice the rows, over the rows, groups and kinds that
 //! the network's step has: what a frequency costs is the elimination of its own system. The crate stands on
-//! `emtp_admittance`, `emtp_elim`, `emtp_switch`, `emtp_wave`, `emtp_case` and, for the causes of ends, on `emtp_machine`.
+//! `emtp_admittance`, `emtp_elim`, `emtp_rows`, `emtp_switch`, `emtp_wave`, `emtp_case`, `emtp_fix` and, for the causes of ends,
+//! on `emtp_machine`.
 //!
 //! ```text
 //! let state = solve(alloc, &case, None)?;                        // volts of each node, in nV
