@@ -22,7 +22,7 @@ pub fn the_fault_is_the_least()
 {}
 
 /// Lines behind a card that can't be read don't matter: where the lines of a file as far as one of them are refused, so is
-/// the file, whatever comes behind.
+/// the file, whatever comes behind within the limits of a file's lines and bytes.
 pub fn lines_behind_a_fault_do_not_matter()
     ensures { (front behind : List (List ℕ)) (bad : Bad) → walk 1 empty_deck Begin front ≡ Err bad → deck_of (front ++ behind) ≡ Err bad }
 {}

@@ -42,8 +42,8 @@ abbrev pub excess_voltage : Lumped → ℤ → LumpedState → ℤ
 excess_voltage x v s = pos (10 ^ 6) *ℤ v -ℤ (x.r *ℤ s.current +ℤ pos (10 ^ 6) *ℤ (s.v_l +ℤ s.v_c))
 
 -- The voltage of a branch is the sum of its drops within 1.5 nV, 1 nA times its impedance Z in a step, and the part Z / 2e12 of the
--- magnitudes of the voltage and of the last record's history voltage: what its quotients round. Twice 1e12 times the excess,
--- so that nothing is divided.
+-- magnitudes of the voltage and of the last record's history voltage, Z in ohm: what its quotients round. Here Z is in
+-- micro-ohm, and the whole stands times 2e12, so that nothing is divided.
 abbrev pub AddsUpDrops : ℤ → Lumped → LumpedState → ℤ → LumpedState → Type 0
 AddsUpDrops dt x old v new =
     let z = unsigned_abs (series_impedance dt x.r x.l x.c) in

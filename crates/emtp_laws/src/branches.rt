@@ -78,7 +78,7 @@ pub fn reversed_series_branch_answers_opposite(case: &Case)
 
 /// Along a series branch the voltage is the sum of its drops R i + vL + vC, within the rounding of a step: 1.5 nV, 1 nA times the
 /// impedance Z of the branch, and the part Z / 2e12 of the magnitudes of the voltage and of the last history voltage, Z in
-/// micro-ohm. Each record keeps the history voltage that the next one's sum asks for, the first one too.
+/// ohm. Each record keeps the history voltage that the next one's sum asks for, the first one too.
 pub fn series_voltage_is_the_sum_of_its_drops(case: &Case)
     ensures rest { (x : Lumped) → HasItsHistoryVoltage (companion_of case.now.parts.run.dt x) no_lumped }
     ensures step { (b : ℕ) (x : Lumped) (past : List LumpedState) (v : ℤ) (new : LumpedState) → slice_get case.now.parts.branches b ≡ Some (OfLumped x) → HasItsHistoryVoltage (companion_of case.now.parts.run.dt x) (newest past) → next_of case.now.parts x past v ≡ Some new → AddsUpDrops case.now.parts.run.dt x (newest past) v new × HasItsHistoryVoltage (companion_of case.now.parts.run.dt x) new }

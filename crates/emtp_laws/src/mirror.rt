@@ -13,7 +13,8 @@ ghost use Rattle.emtp_laws.specs.Mirror as mirror;
 
 use emtp_case::Case;
 
-/// A network whose sources are all 0 stays at rest: in no record of a run is there a voltage, a current, a wave or a flux.
+/// A network without control, valves and controlled switches whose sources are all 0 stays at rest: in no record of a run is
+/// there a voltage, a current, a wave or a flux.
 pub fn quiet_network_stays_at_rest(case: &Case)
     requires plain { HasNoSign case.now.parts }
     requires control { HasNoControl case.now.parts }
@@ -21,8 +22,9 @@ pub fn quiet_network_stays_at_rest(case: &Case)
     ensures { (n k : ℕ) → IsQuiet (record_back (records_upto case.now.parts n) k) }
 {}
 
-/// Where all sources have the opposite amplitudes, a run has the opposite voltages, currents, waves, fluxes and segments in
-/// each record and in each sample, to the last digit, the same states of the switches, and the same end.
+/// Where all sources have the opposite amplitudes, and there is neither a control nor a valve, a run has the opposite voltages,
+/// currents, waves, fluxes and segments in each record and in each sample, to the last digit, the same states of the switches,
+/// and the same end.
 pub fn mirrored_run(case: &Case)
     requires plain { HasNoSign case.now.parts }
     requires control { HasNoControl case.now.parts }
@@ -36,13 +38,14 @@ pub fn mirrored_step(case: &Case)
     ensures { (H : List StepRecord) → network_part (mirror_image case.now.parts) (mirrored_records H) ≡ mirror.mirrored_step (network_part case.now.parts H) }
 {}
 
-/// With a control, whatever it computes, the network's records are mirrored as long as neither run has ended.
+/// With a control that the network doesn't go by, and without a valve, the network's records are mirrored as long as neither
+/// run has ended, whatever the control computes.
 pub fn mirrored_run_with_control(case: &Case)
     requires plain { HasNoSign case.now.parts }
     ensures { (n : ℕ) → (history_upto case.now.parts n).end ≡ None → (history_upto (mirror_image case.now.parts) n).end ≡ None → without_control (records_upto (mirror_image case.now.parts) n) ≡ bare_records (records_upto case.now.parts n) }
 {}
 
-/// A network that doesn't go by the control takes the same step whatever the control keeps.
+/// A network that doesn't go by the control, and has no valve, takes the same step whatever the control keeps.
 pub fn network_is_blind_to_the_control(case: &Case)
     requires plain { HasNoSign case.now.parts }
     ensures { (H : List StepRecord) → network_part case.now.parts (without_control H) ≡ network_part case.now.parts H }

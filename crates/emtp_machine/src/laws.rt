@@ -13,7 +13,7 @@ pub fn records_are_a_chain(case: &Case)
     ensures { (n : ℕ) → IsChain case.now.parts (records_upto case.now.parts n) }
 {}
 
-/// A run ends early exactly at the first step that has no record.
+/// A run that ends early ends at the first step that has no record.
 pub fn end_is_the_first_refusal(case: &Case)
     ensures { IfSome (history case.now.parts).end (IsRefusal case.now.parts (history case.now.parts).records) }
 {}
