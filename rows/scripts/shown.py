@@ -34,7 +34,7 @@ CHOICES = {
              "a source card", "a node output card", "a card after the last section", "a block card", "a card of coefficients",
              "a TACS source", "a supplemental card", "a TACS output", "an initial condition",
              "a point or the card that ends them"],
-    "columns": ["not read", "two numbers touch", "no other card names the node", "node 0 is not ground",
+    "columns": ["not read", "two numbers touch", "no other branch, switch or source has the node", "node 0 is not ground",
                 "after the end of the run", "cosine of frequency 0"],
 }
 
