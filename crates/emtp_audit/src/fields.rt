@@ -50,7 +50,7 @@ impl<'a> Fields<'a> {
         }
     }
 
-    /// TakesField the next field, without its outer blanks.
+    /// Takes the next field, without its outer blanks.
     pub fn take(&mut self) -> Result<&'a [u8], Differs>
         requires { self.old.number ≤ MOST_FIELDS }
         ensures ok { IfOk result (λ field. TakesField (Ok field.now) self.old self.new) }

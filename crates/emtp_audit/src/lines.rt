@@ -45,7 +45,7 @@ impl<'a> Lines<'a> {
         }
     }
 
-    /// TakesField the next line.
+    /// Takes the next line.
     pub fn take(&mut self) -> Result<&'a [u8], Differs>
         ensures ok { IfOk result (λ line. self.old.lines ≡ line.now ∷ self.new.lines) }
         ensures taken { OnOk result (self.new.taken ≡ self.old.taken + 1) }

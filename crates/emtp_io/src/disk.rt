@@ -17,15 +17,13 @@ use std::{fs, io};
 /// tells nothing of content. What clauses see of it is whether a file is open, which outputs were
 /// created, and both counts.
 ///
-/// An output is a file that is open until the next output is created, so only the last one can be written.
+/// A file that is made is open until the next output is created: of `Cfg` and `Dat` only the one created last can be written.
 #[derive(Drop)]
 pub struct DiskCabinet<R: Files + Print + Drop> {
     rt: R,
     input: Option<R::File>,
-    cfg: Option<R::File>,
-    dat: Option<R::File>,
-    cfg_created: bool,
-    dat_created: bool,
+    cfg: FileOutput<R::File>,
+    dat: FileOutput<R::File>,
     note_created: bool,
     summary_created: bool,
     faults_in: u64,
@@ -37,8 +35,8 @@ impl<R: Files + Print + Drop> Model for DiskCabinet<R> {
 
     ghost view = { λ d. record {
       is_open = is_some d.input;
-      cfg = d.cfg_created;
-      dat = d.dat_created;
+      cfg = d.cfg.created;
+      dat = d.dat.created;
       note = d.note_created;
       summary = d.summary_created;
       faults_in = d.faults_in;
@@ -62,16 +60,43 @@ impl<R: Files + Print + Drop> DiskCabinet<R> {
         DiskCabinet {
             rt,
             input: None,
-            cfg: None,
-            dat: None,
-            cfg_created: false,
-            dat_created: false,
+            cfg: absent(),
+            dat: absent(),
             note_created: false,
             summary_created: false,
             faults_in: 0,
             faults_out: 0,
         }
     }
+}
+
+/// An output that is a file.
+#[derive(Drop)]
+struct FileOutput<F: Drop> {
+    /// The file, from its creation on until it is closed.
+    file: Option<F>,
+    /// Whether it was created.
+    created: bool,
+}
+
+/// An output that wasn't created.
+fn absent<F: Drop>() -> FileOutput<F>
+    ensures { result.created ≡ false }
+{
+    FileOutput {
+        file: None,
+        created: false,
+    }
+}
+
+/// Closes the file of an output.
+///
+/// An open one may have the descriptor of a standard output that was closed before the start: then a note would go to it. The
+/// file that is read can't take one.
+fn close<F: Drop>(output: &mut FileOutput<F>)
+    ensures { output.new.created ≡ output.old.created }
+{
+    output.file = None;
 }
 
 /// Writes to the standard output, for an output that was created.
@@ -125,28 +150,31 @@ fn read_from<F: Read>(file: &mut Option<F>, buf: &mut [u8]) -> Option<usize>
     read_some(file.as_mut()?, buf)
 }
 
-/// Writes to the file of an output that was created, where it is still open.
-fn write_to<F: Write>(file: &mut Option<F>, created: bool, piece: &[u8]) -> Option<usize>
-    ensures created { OnSome result (IsTrue created) }
+/// Writes to the file of an output, where it was created and isn't closed.
+fn write_to<F: Write + Drop>(output: &mut FileOutput<F>, piece: &[u8]) -> Option<usize>
+    ensures created { OnSome result (IsTrue output.old.created) }
+    ensures same { output.new.created ≡ output.old.created }
     ensures bound { IfSome result (λ n. n ≤ length piece.now) }
     ensures some { IfSome result (λ n. 0 < length piece.now → 0 < n) }
 {
-    if !created {
+    if !output.created {
         return None;
     }
-    write_some(file.as_mut()?, piece)
+    write_some(output.file.as_mut()?, piece)
 }
 
 /// Makes a file empty, and opens it as that of an output.
-fn create_file<R: Files>(rt: &R, name: &str, file: &mut Option<R::File>, created: &mut bool) -> bool
-    ensures created { OnTrue result (IsTrue created.new) }
-    ensures open { OnTrue result (IsSome file.new) }
-    ensures kept { OnFalse result (created.new ≡ created.old) }
+fn create_file<R: Files>(rt: &R, name: &str, output: &mut FileOutput<R::File>) -> bool
+    ensures created { OnTrue result (IsTrue output.new.created) }
+    ensures open { OnTrue result (IsSome output.new.file) }
+    ensures kept { OnFalse result (output.new ≡ output.old) }
 {
     match fs::create(rt, name) {
-        Ok(made) => {
-            *file = Some(made);
-            *created = true;
+        Ok(file) => {
+            *output = FileOutput {
+                file: Some(file),
+                created: true,
+            };
             true
         }
         Err(_) => false,
@@ -200,13 +228,11 @@ impl<R: Files + Print + Drop> Cabinet for DiskCabinet<R> {
         ensures err { OnErr result
             (self.new ≡ record self.old { faults_out = one_more self.old.faults_out }) }
     {
-        // A file that is open may have the number of a standard output that was closed before the start: the note would
-        // go to it.
-        self.cfg = None;
-        self.dat = None;
+        close(&mut self.cfg);
+        close(&mut self.dat);
         let created = match out {
-            Output::Cfg => create_file(&self.rt, name, &mut self.cfg, &mut self.cfg_created),
-            Output::Dat => create_file(&self.rt, name, &mut self.dat, &mut self.dat_created),
+            Output::Cfg => create_file(&self.rt, name, &mut self.cfg),
+            Output::Dat => create_file(&self.rt, name, &mut self.dat),
             Output::Note => {
                 self.note_created = true;
                 true
@@ -235,8 +261,8 @@ impl<R: Files + Print + Drop> Cabinet for DiskCabinet<R> {
             (self.new ≡ record self.old { faults_out = one_more self.old.faults_out }) }
     {
         let count = match out {
-            Output::Cfg => write_to(&mut self.cfg, self.cfg_created, piece),
-            Output::Dat => write_to(&mut self.dat, self.dat_created, piece),
+            Output::Cfg => write_to(&mut self.cfg, piece),
+            Output::Dat => write_to(&mut self.dat, piece),
             Output::Note => print_some(&self.rt, self.note_created, piece),
             Output::Summary => print_some(&self.rt, self.summary_created, piece),
         };

@@ -32,7 +32,8 @@ use std::alloc::Global;
 /// Dommel's method (1969), and makes the record (IEEE C37.111-1999) and a note; `trial N` runs the trial case with N
 /// sections and makes its summary; `batch CASE TIMES` runs a case under each row of a table of switch times and makes the
 /// summary of all rows; `audit CASE CFG DAT` runs a case and says whether the two files are its record;
-/// `phasor CASE` and `scan CASE F0 F1 DF` tell its steady state, and its impedance over frequencies. All files that a command reads are read before any of them is judged.
+/// `phasor CASE` and `scan CASE F0 F1 DF` tell its steady state, and its impedance over frequencies. All files that a command
+/// reads are read before any of them is judged.
 ///
 /// Each status says how the outputs stand. The status of a refusal stays where its note can't be written.
 pub fn emtp<C: Cabinet>(alloc: Global, words: &[String], cabinet: &mut C) -> Status
