@@ -27,38 +27,57 @@ MOST = 20000  # points of a curve on a page; of more, the least and the greatest
 # ---- what is read
 
 
+def real(word):
+    """A finite number."""
+    value = float(word)
+    if not math.isfinite(value):
+        raise ValueError(word)
+    return value
+
+
 def read_cfg(path):
-    """The analog channels (name, unit, multiplier), the status channels, and us per time stamp."""
+    """The analog channels (name, unit, multiplier, offset), the status channels, the samples, and us per time stamp."""
     with open(path, encoding="latin-1") as file:
-        lines = [line.rstrip("\r\n") for line in file]
-    counts = re.match(r"\d+,(\d+)A,(\d+)D$", lines[1]) if len(lines) > 1 else None
+        lines = [[field.strip() for field in line.split(",")] for line in file]
+    counts = re.match(r"\d+,(\d+)A,(\d+)D$", ",".join(lines[1]), re.IGNORECASE) if len(lines) > 1 else None
     if not counts:
         sys.exit(f"plot: {path} is neither the configuration of a record nor lines of a scan or a batch")
     analogs, states = int(counts[1]), int(counts[2])
-    rows = [line.split(",") for line in lines[2 : 2 + analogs + states]]
-    analog = [(row[1], row[4], float(row[5])) for row in rows[:analogs]]
-    return analog, [row[1] for row in rows[analogs:]], float(lines[-1])
+    try:
+        rows, rest = lines[2 : 2 + analogs + states], lines[2 + analogs + states :]
+        analog = [(row[1], row[4], real(row[5]), real(row[6])) for row in rows[:analogs]]
+        rates = max(1, int(rest[1][0]))  # where there is none, a line stands for all samples
+        samples, form, scale = int(rest[1 + rates][1]), rest[4 + rates][0].upper(), real(rest[5 + rates][0])
+        names = [row[1] for row in rows[analogs:]]
+    except (ValueError, IndexError):
+        sys.exit(f"plot: {path} is cut, or no configuration of a record (COMTRADE of 1999)")
+    if form != "ASCII":
+        sys.exit(f"plot: {path} is of a record in another form than ASCII")
+    return analog, names, samples, scale
 
 
 def read_dat(path):
     """One list a sample: number, time stamp and raw values."""
     with open(path, encoding="latin-1") as file:
         try:
-            return [[int(field) for field in line.split(",")] for line in file.read().rstrip("\x1a").split()]
+            lines = file.read().rstrip("\x1a \n").split("\n")
+            return [[int(field) for field in line.split(",")] for line in lines if line.strip()]
         except ValueError:
-            sys.exit(f"plot: {path} is no data file of a record")
+            sys.exit(f"plot: {path} is no data file of a record (COMTRADE, ASCII)")
 
 
 def read_record(cfg, dat):
     """The times in ms, the analog channels (name, unit, values in the unit drawn), and the status channels (name, values)."""
-    analog, states, scale = read_cfg(cfg)
+    analog, states, count, scale = read_cfg(cfg)
     samples = read_dat(dat)
+    if len(samples) != count:
+        sys.exit(f"plot: {dat} has {len(samples)} samples, and {cfg} names {count}: one is cut, or of another record")
     if any(len(sample) != 2 + len(analog) + len(states) for sample in samples):
         sys.exit(f"plot: {dat} has other channels than {cfg} names")
     times = [sample[1] * scale * 1e-3 for sample in samples]
     curves = [
-        (name, unit, [sample[2 + place] * multiplier for sample in samples])
-        for place, (name, unit, multiplier) in enumerate(analog)
+        (name, unit, [sample[2 + place] * multiplier + offset for sample in samples])
+        for place, (name, unit, multiplier, offset) in enumerate(analog)
     ]
     curves = [
         (name, *in_unit(unit, values, [it for _, own, it in curves if own == unit])) for name, unit, values in curves
@@ -82,11 +101,11 @@ def read_scan(lines):
     for line in lines:
         words = line.split()
         if words[:1] == ["F"] and words[2:3] == ["RE"]:
-            points.append((float(words[1]), complex(float(words[3]), float(words[5]))))
+            points.append((real(words[1]), complex(real(words[3]), real(words[5]))))
         elif words[:1] == ["F"]:
-            points.append((float(words[1]), " ".join(words[2:])))
+            points.append((real(words[1]), " ".join(words[2:])))
         elif words[:1] == ["RESONANCE"]:
-            resonances.append(float(words[1]))
+            resonances.append(real(words[1]))
     return points, resonances
 
 
@@ -96,7 +115,7 @@ def read_batch(lines):
     for line in lines:
         match = re.match(r"ROW (\d+) (DONE|ENDED .*?) ?PEAKS ?(.*)$", line)
         if match:
-            peaks.append([float(word) for word in match[3].split()])
+            peaks.append([real(word) for word in match[3].split()])
             if match[2] != "DONE":
                 ended.append((int(match[1]), match[2]))
     return peaks, ended
@@ -446,27 +465,34 @@ def page_batch(names, peaks, title, path):
 
 def one_summary(words):
     """plot SUMMARY [--cfg CFG] [OUT]"""
-    cfg = None
+    path, cfg = words[0], None
     if "--cfg" in words[:-1]:
         at = words.index("--cfg")
         cfg = words[at + 1]
         words = words[:at] + words[at + 2 :]
-    with open(words[0], encoding="latin-1") as file:
+    if len(words) > 2 or words[-1].startswith("-"):
+        sys.exit(__doc__.strip())
+    with open(path, encoding="latin-1") as file:
         lines = file.read().split("\n")
-    out = words[1] if len(words) > 1 else os.path.splitext(words[0])[0] + ".png"
-    page, title = out.endswith(".html"), os.path.basename(words[0])
-    points, resonances = read_scan(lines)
+    out = words[1] if len(words) > 1 else os.path.splitext(path)[0] + ".png"
+    page, title = out.endswith(".html"), os.path.basename(path)
+    try:
+        points, resonances = read_scan(lines)
+        peaks, ended = read_batch(lines)
+    except (ValueError, IndexError):
+        sys.exit(f"plot: {path} has a line that is cut, or that no scan and no batch prints")
     if points:
         print_scan(points, resonances)
         return page_scan(points, resonances, title, out) if page else draw_scan(points, resonances, out)
-    peaks, ended = read_batch(lines)
     if not peaks or not peaks[0]:
-        sys.exit(f"plot: {words[0]} has no lines of a scan or a batch with channels")
+        sys.exit(f"plot: {path} has no lines of a scan or a batch with channels")
     names = [f"channel {place + 1}" for place in range(len(peaks[0]))]
     if cfg:
-        names = [f"{name} in {unit}" for name, unit, _ in read_cfg(cfg)[0]]
+        names = [f"{name} in {unit}" for name, unit, *_ in read_cfg(cfg)[0]]
     if len(names) != len(peaks[0]):
-        sys.exit(f"plot: {words[0]} has {len(peaks[0])} channels, and {cfg} {len(names)}")
+        sys.exit(f"plot: {path} has {len(peaks[0])} channels, and {cfg} {len(names)}")
+    if any(len(row) != len(names) for row in peaks):
+        sys.exit(f"plot: {path} has rows of other channels than its first one")
     print_batch(names, peaks, ended)
     return page_batch(names, peaks, title, out) if page else draw_batch(names, peaks, out)
 
@@ -500,8 +526,11 @@ def main():
             one_summary(words)
         elif len(words) in (2, 3):
             one_record(words)
+        elif len(words) == 1:
+            sys.exit(f"plot: {words[0]} has no lines of a scan or a batch, and a record has two files: plot CFG DAT")
         else:
             sys.exit(__doc__.strip())
+        sys.stdout.flush()
     except OSError as fault:
         sys.exit(f"plot: {fault.filename}: {fault.strerror}" if fault.filename else f"plot: {fault}")
 
