@@ -256,7 +256,7 @@ def axes(made, heights, width=9):
 def save(figure, path):
     figure.tight_layout()
     try:
-        figure.savefig(path, dpi=80)
+        figure.savefig(path, dpi=80, format=os.path.splitext(path)[1][1:] or "png")
     except ValueError as fault:
         sys.exit(f"plot: {path}: {fault}")
     print(f"drawn: {path}")
