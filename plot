@@ -13,6 +13,7 @@ It is no part of the program. Pictures need matplotlib (Debian: python3-matplotl
 Debian's packages are those of /usr/bin/python3; where `python3` is another one, start it as `/usr/bin/python3 plot ..`.
 """
 import cmath
+import html
 import math
 import os
 import re
@@ -241,6 +242,11 @@ def pyplot():
     return made
 
 
+def plain(text):
+    """A name as it is: a dollar begins no formula."""
+    return text.replace("$", r"\$")
+
+
 def axes(made, heights, width=9):
     figure, panes = made.subplots(
         len(heights),
@@ -268,8 +274,8 @@ def draw_record(times, curves, bars, path):
     figure, drawn = axes(made, [3] * len(panes) + ([0.4 + 0.3 * len(bars)] if bars else []) or [1])
     for pane, (unit, group) in zip(drawn, panes):
         for name, values, style in group:
-            pane.plot(times, values, STYLES[style], label=name, linewidth=0.9 if not style else 1.3)
-        pane.set_ylabel(unit)
+            pane.plot(times, values, STYLES[style], label=plain(name), linewidth=0.9 if not style else 1.3)
+        pane.set_ylabel(plain(unit))
         pane.legend(loc="upper right", fontsize="small")
         pane.grid(alpha=0.3)
     if bars:
@@ -280,7 +286,7 @@ def draw_record(times, curves, bars, path):
                 (row + 0.1, 0.8),
                 color=f"C{row % 10}",
             )
-        pane.set_yticks([row + 0.5 for row in range(len(bars))], [name for name, _ in bars])
+        pane.set_yticks([row + 0.5 for row in range(len(bars))], [plain(name) for name, _ in bars])
         pane.set_ylim(0, len(bars))
     drawn[-1].set_xlabel("ms")
     save(figure, path)
@@ -322,7 +328,7 @@ def draw_batch(names, peaks, path):
             label=f"2 % at most exceed {number(two_percent(column))}",
         )
         pane.set_ylabel("% of rows")
-        pane.set_xlabel(f"peak of {name}")
+        pane.set_xlabel(f"peak of {plain(name)}")
         pane.legend(loc="lower right", fontsize="small")
         pane.grid(alpha=0.3)
     save(figure, path)
@@ -340,7 +346,7 @@ def plotly():
 
 
 def write_page(figure, title, height, path):
-    figure.update_layout(title=title, height=height, template="plotly_white", margin={"t": 60, "r": 20})
+    figure.update_layout(title=html.escape(title), height=height, template="plotly_white", margin={"t": 60, "r": 20})
     figure.write_html(path, include_plotlyjs=True, full_html=True, config={"displaylogo": False, "responsive": True})
     print(f"drawn: {path}")
 
@@ -363,24 +369,24 @@ def page_record(times, curves, bars, title, path):
                 objects.Scatter(
                     x=rounded(at),
                     y=rounded(shown),
-                    name=name,
+                    name=html.escape(name),
                     mode="lines",
                     line={"width": 1.3, "dash": DASHES[style]},
-                    hovertemplate="%{y:.6g} " + unit,
+                    hovertemplate="%{y:.6g} " + html.escape(unit),
                 ),
                 row=row,
                 col=1,
             )
-        figure.update_yaxes(title_text=unit, row=row, col=1)
+        figure.update_yaxes(title_text=html.escape(unit), row=row, col=1)
     for name, values in bars:
         spans = closed_times(times, values)
         figure.add_trace(
             objects.Bar(
-                y=[name] * len(spans),
+                y=[html.escape(name)] * len(spans),
                 x=[stop - start for start, stop in spans],
                 base=[start for start, _ in spans],
                 orientation="h",
-                name=name,
+                name=html.escape(name),
                 width=0.7,
                 text=[f"closed from {number(start)} to {number(stop)} ms" for start, stop in spans],
                 textposition="none",
@@ -438,7 +444,7 @@ def page_batch(names, peaks, title, path):
             objects.Scatter(
                 x=column,
                 y=share,
-                name=name,
+                name=html.escape(name),
                 mode="lines",
                 line={"shape": "hv"},
                 hovertemplate="%{y:.4g} % at or below %{x:.6g}",
@@ -455,7 +461,7 @@ def page_batch(names, peaks, title, path):
             annotation_text=f"2 % at most exceed {number(two_percent(column))}",
             annotation_position="bottom left",
         )
-        figure.update_xaxes(title_text=f"peak of {name}", row=place + 1, col=1)
+        figure.update_xaxes(title_text=f"peak of {html.escape(name)}", row=place + 1, col=1)
         figure.update_yaxes(title_text="% of rows", row=place + 1, col=1)
     write_page(figure, title, 120 + 260 * len(names), path)
 
