@@ -522,13 +522,14 @@ def is_summary(path):
 
 def main():
     words = sys.argv[1:]
-    if words == ["--help"]:
-        print(__doc__.strip())
-        return
-    if not words or words[0].startswith("-") or len(words) > 4:
+    if sys.stdout:
+        sys.stdout.reconfigure(errors="backslashreplace")
+    if words != ["--help"] and (not words or words[0].startswith("-") or len(words) > 4):
         sys.exit(__doc__.strip())
     try:
-        if is_summary(words[0]):
+        if words == ["--help"]:
+            print(__doc__.strip())
+        elif is_summary(words[0]):
             one_summary(words)
         elif len(words) in (2, 3):
             one_record(words)
@@ -536,9 +537,11 @@ def main():
             sys.exit(f"plot: {words[0]} has no lines of a scan or a batch, and a record has two files: plot CFG DAT")
         else:
             sys.exit(__doc__.strip())
-        sys.stdout.flush()
+        print(end="", flush=True)
     except OSError as fault:
         sys.exit(f"plot: {fault.filename}: {fault.strerror}" if fault.filename else f"plot: {fault}")
+    except KeyboardInterrupt:
+        sys.exit(130)
 
 
 if __name__ == "__main__":
