@@ -18,6 +18,7 @@ import math
 import os
 import re
 import sys
+import warnings
 
 UNITS = {"V": "V", "A": "A", "PU": "1"}
 STYLES = ["-", "--", "-.", ":"]
@@ -237,6 +238,7 @@ def pyplot():
     except ImportError:
         lacks("a picture", "matplotlib")
     matplotlib.use("Agg")
+    warnings.simplefilter("ignore", UserWarning)  # of the look alone, as of a legend that is higher than its pane
     from matplotlib import pyplot as made
 
     return made
