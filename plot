@@ -500,7 +500,7 @@ def one_summary(words):
     if len(names) != len(peaks[0]):
         sys.exit(f"plot: {path} has {len(peaks[0])} channels, and {cfg} {len(names)}")
     if any(len(row) != len(names) for row in peaks):
-        sys.exit(f"plot: {path} has rows of other channels than its first one")
+        sys.exit(f"plot: {path} is cut, or has rows of other channels than its first one")
     print_batch(names, peaks, ended)
     return page_batch(names, peaks, title, out) if page else draw_batch(names, peaks, out)
 
