@@ -35,7 +35,8 @@ CHOICES = {
              "a TACS source", "a supplemental card", "a TACS output", "an initial condition",
              "a point or the card that ends them"],
     "columns": ["not read", "two numbers touch", "no other branch, switch or source has the node", "node 0 is not ground",
-                "after the end of the run", "cosine of frequency 0"],
+                "after the end of the run", "cosine of frequency 0", "every case starts at rest", "the source never acts",
+                "opens before it closes"],
 }
 
 CASE = ("case, nodes=<count> of 1000, variables=<count>, branches=<count> of 5000, three-phase lines=<count>, "

@@ -1,6 +1,6 @@
 -- Worked rows: cards, and what is warned of on them.
 use Rattle.std.proofs.Common.{◌≡◌, refl, [], ◌∷◌}
-use Rattle.std.specs.Prelude.{codes, pos, Some, None, Ok, false}
+use Rattle.std.specs.Prelude.{codes, pos, negsuc, Some, None, Ok, false, true}
 use Rattle.emtp_card.specs.Decimal.{value_in}
 use Rattle.emtp_card.specs.Field.{columns, trimmed}
 use Rattle.emtp_card.specs.Lines.{fault_of_line, is_comment}
@@ -21,7 +21,7 @@ use Rattle.emtp_warnings.specs.ColumnWarnings.{column_warnings}
 use Rattle.emtp_warnings.specs.Finding.{of_columns}
 use Rattle.emtp_warnings.specs.RecordWarnings.{record_warnings}
 use Rattle.emtp_warnings.specs.Warnings.{line_warnings}
-use Rattle.emtp_warnings.specs.declared.finding.Finding.TheVariants.{AfterEnd, AskedTwice, LoneNode, NoFrequency, NodeZero, NotRead, NumbersTouch, ShortTravel}
+use Rattle.emtp_warnings.specs.declared.finding.Finding.TheVariants.{AfterEnd, AskedTwice, EarlyCosine, LoneNode, NeverActs, NoFrequency, NodeZero, NotRead, NumbersTouch, OpensFirst, ShortTravel}
 use Rattle.emtp_warnings.specs.declared.finding.Spot.TheVariants.{Channel, Line}
 use Rattle.emtp_warnings.specs.declared.rulers.TheConstants.{COPY, FIRST_RUN, SERIES, TIME_SWITCH}
 use Rattle.emtp_warnings.specs.declared.section.Section.TheVariants.{Branches}
@@ -51,7 +51,8 @@ comment : line_warnings 3 (Branches false) (codes "C 280. and 2.95E5 stand here 
 unfolding is_comment
 comment = refl
 
--- a branch, a line of one and a half steps, a switch to a node of the name 0, and a source that begins after the end
+-- a branch, a line of one and a half steps, a switch to a node of the name 0 and one that opens before it closes, a source that
+-- begins after the end, one that begins before the run, and one that stops with its start
 abbrev parts : Parts
 parts = record {
   run = record { dt = pos 1000000; steps = 100; every = 1; tolerance = pos 10000000 };
@@ -60,8 +61,11 @@ parts = record {
       ∷ OfLine (record { line = 6; «from» = 1; to = 2; zc = pos 1000000; r = pos 0; delay = pos 1500000 }) ∷ [];
   trios = [];
   points = [];
-  switches = record { line = 8; «from» = 2; to = 3; kind = Time (pos 100000000) (Some (pos 100000001)) (pos 0) } ∷ [];
-  sources = record { line = 10; node = 1; current = false; shape = Cosine (pos 0) (pos 0); amplitude = pos 1; start = pos 200000000; stop = None } ∷ [];
+  switches = record { line = 8; «from» = 2; to = 3; kind = Time (pos 100000000) (Some (pos 100000001)) (pos 0) }
+      ∷ record { line = 9; «from» = 1; to = 2; kind = Time (pos 5000000) (Some (pos 4999999)) (pos 0) } ∷ [];
+  sources = record { line = 10; node = 1; current = false; shape = Cosine (pos 0) (pos 0); amplitude = pos 1; start = pos 200000000; stop = None }
+      ∷ record { line = 11; node = 1; current = true; shape = Cosine (pos 1) (pos 0); amplitude = pos 1; start = negsuc 0; stop = None }
+      ∷ record { line = 12; node = 1; current = true; shape = Step; amplitude = pos 1; start = pos 7; stop = Some (pos 7) } ∷ [];
   vars = [];
   tacs_sources = [];
   blocks = [];
@@ -71,8 +75,8 @@ parts = record {
 
 records : record_warnings parts
     ≡ record { spot = Line 6; finding = ShortTravel }
-    ∷ of_columns 8 9 14 LoneNode ∷ of_columns 8 9 14 NodeZero ∷ of_columns 8 25 34 AfterEnd
-    ∷ of_columns 10 21 30 NoFrequency ∷ of_columns 10 61 70 AfterEnd ∷ []
+    ∷ of_columns 8 9 14 LoneNode ∷ of_columns 8 9 14 NodeZero ∷ of_columns 8 25 34 AfterEnd ∷ of_columns 9 25 34 OpensFirst
+    ∷ of_columns 10 21 30 NoFrequency ∷ of_columns 10 61 70 AfterEnd ∷ of_columns 11 61 70 EarlyCosine ∷ of_columns 12 71 80 NeverActs ∷ []
 records = refl
 
 -- a node that two output cards name

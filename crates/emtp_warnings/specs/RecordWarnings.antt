@@ -1,5 +1,5 @@
 -- The warnings of the records of a case.
-use Rattle.std.specs.Prelude.{ℕ, ◌+◌, ◌-◌, ◌==◌, ℤ, pos, int_lt, ◌*ℤ◌, count_by, flat_map, slice_get, Bool, false, not, ◌&&◌, ◌||◌, List, [], ◌++◌, Option, Some, None, codes}
+use Rattle.std.specs.Prelude.{ℕ, ◌+◌, ◌-◌, ◌==◌, ℤ, pos, int_lt, ◌*ℤ◌, count_by, flat_map, slice_get, Bool, true, false, not, ◌&&◌, ◌||◌, List, [], ◌++◌, Option, Some, None, codes}
 use Rattle.std.specs.Ordering.{int_eq}
 use Rattle.std.specs.Str.{bytes_eq}
 use Rattle.emtp_case.specs.Branch.{from_of, line_of, to_of}
@@ -15,7 +15,7 @@ use Rattle.emtp_case.specs.declared.switch.Switch.{Switch}
 use Rattle.emtp_case.specs.declared.switch.SwitchKind.{SwitchKind}
 use Rattle.emtp_case.specs.declared.switch.SwitchKind.TheVariants.{Time}
 use Rattle.emtp_warnings.specs.Finding.{of_columns, when}
-use Rattle.emtp_warnings.specs.declared.finding.Finding.TheVariants.{AfterEnd, LoneNode, NoFrequency, NodeZero, ShortTravel}
+use Rattle.emtp_warnings.specs.declared.finding.Finding.TheVariants.{AfterEnd, EarlyCosine, LoneNode, NeverActs, NoFrequency, NodeZero, OpensFirst, ShortTravel}
 use Rattle.emtp_warnings.specs.declared.finding.Spot.TheVariants.{Line as OfTheLine}
 use Rattle.emtp_warnings.specs.declared.finding.Warning.{Warning}
 
@@ -84,9 +84,15 @@ is_after_end last None = false
 is_after_end last (Some time) = int_lt last time
 
 -- the times of a time switch; a switch that never opens has no T-OPEN
+-- before a time, where there is one
+abbrev pub is_before : ℤ → Option ℤ → Bool
+is_before time None = false
+is_before time (Some open_at) = int_lt open_at time
+
 abbrev pub times_warnings : ℤ → ℕ → SwitchKind → List Warning
 times_warnings last line (Time close open_at margin) =
     when (int_lt last close) (of_columns line 15 24 AfterEnd) ++ when (is_after_end last open_at) (of_columns line 25 34 AfterEnd)
+    ++ when (is_before close open_at) (of_columns line 25 34 OpensFirst)
 times_warnings last line other = []
 
 -- the time of the last step
@@ -102,10 +108,25 @@ abbrev pub is_constant : Shape → Bool
 is_constant (Cosine freq phase) = int_eq freq (pos 0)
 is_constant other = false
 
+abbrev pub is_cosine : Shape → Bool
+is_cosine (Cosine freq phase) = true
+is_cosine other = false
+
+-- a source that stops before it starts, or with it
+abbrev pub is_idle : ℤ → Option ℤ → Bool
+is_idle start None = false
+is_idle start (Some stop) = not (int_lt start stop)
+
+-- of when a source acts
+abbrev pub acting_warnings : Source → List Warning
+acting_warnings s =
+    when (is_cosine s.shape && int_lt s.start (pos 0)) (of_columns s.line 61 70 EarlyCosine) ++ when (is_idle s.start s.stop) (of_columns s.line 71 80 NeverActs)
+
 -- of the network, or of the control
 abbrev pub source_warnings : ℤ → Source → List Warning
 source_warnings last s =
     when (is_constant s.shape) (of_columns s.line 21 30 NoFrequency) ++ when (int_lt last s.start) (of_columns s.line 61 70 AfterEnd)
+    ++ acting_warnings s
 
 -- ---- all records, in the order of their lines
 

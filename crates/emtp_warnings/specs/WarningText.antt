@@ -1,7 +1,7 @@
 -- The text of warnings, a line each.
 use Rattle.std.specs.Prelude.{ℕ, ◌++◌, ◌∷◌, [], List, codes, decimal}
 use Rattle.emtp_warnings.specs.declared.finding.Finding.{Finding}
-use Rattle.emtp_warnings.specs.declared.finding.Finding.TheVariants.{AfterEnd, AskedTwice, LoneNode, NoFrequency, NodeZero, NotRead, NumbersTouch, ShortTravel}
+use Rattle.emtp_warnings.specs.declared.finding.Finding.TheVariants.{AfterEnd, AskedTwice, EarlyCosine, LoneNode, NeverActs, NoFrequency, NodeZero, NotRead, NumbersTouch, OpensFirst, ShortTravel}
 use Rattle.emtp_warnings.specs.declared.finding.Spot.{Spot}
 use Rattle.emtp_warnings.specs.declared.finding.Spot.TheVariants.{Channel, Columns, Line}
 use Rattle.emtp_warnings.specs.declared.finding.Warning.{Warning}
@@ -14,6 +14,9 @@ finding_text NodeZero = codes "node 0 is not ground"
 finding_text NoFrequency = codes "cosine of frequency 0"
 finding_text ShortTravel = codes "travel time below two steps"
 finding_text AfterEnd = codes "after the end of the run"
+finding_text EarlyCosine = codes "every case starts at rest"
+finding_text NeverActs = codes "the source never acts"
+finding_text OpensFirst = codes "opens before it closes"
 finding_text AskedTwice = codes "asked for twice"
 
 unfoldable pub columns_text : ℕ → ℕ → ℕ → List ℕ

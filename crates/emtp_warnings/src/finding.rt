@@ -38,6 +38,12 @@ pub enum Finding {
     ShortTravel,
     /// A time after the end of the run.
     AfterEnd,
+    /// A cosine that begins before the run, which begins at rest.
+    EarlyCosine,
+    /// A source that stops before it starts, or with it.
+    NeverActs,
+    /// A switch that opens before it closes.
+    OpensFirst,
     /// A channel that was asked for before.
     AskedTwice,
 }

@@ -2,7 +2,7 @@
 
 ghost use Rattle.std.specs.Prelude.{◌≡◌, ◌+◌, ◌<◌, ◌++◌, OnOk, count_by, flat_map, length, slice_get};
 ghost use Rattle.emtp_warnings.specs.AddsTo.{AddsTo};
-ghost use Rattle.emtp_warnings.specs.RecordWarnings.{branch_ends_at, branch_warnings, travel_time_of, end_of_run, end_warnings, ends_warnings, is_after_end, is_constant, is_lone, is_node_zero, is_short, is_zero_name, mode_delay, record_warnings, records_at, source_stands_at, source_warnings, switch_ends_at, switch_warnings, times_warnings};
+ghost use Rattle.emtp_warnings.specs.RecordWarnings.{acting_warnings, branch_ends_at, branch_warnings, travel_time_of, end_of_run, end_warnings, ends_warnings, is_after_end, is_before, is_constant, is_cosine, is_idle, is_lone, is_node_zero, is_short, is_zero_name, mode_delay, record_warnings, records_at, source_stands_at, source_warnings, switch_ends_at, switch_warnings, times_warnings};
 ghost use Rattle.emtp_warnings.specs.Finding.{of_line, when};
 
 use crate::columns::add_columns;
@@ -102,6 +102,8 @@ fn add_times(out: &mut Vec<Warning>, last: i64, switch: &Switch) -> Result<(), A
             add_columns(out, last < close, switch.line, (15, 24), Finding::AfterEnd)?;
             let late = is_after_end(last, open_at);
             add_columns(out, late, switch.line, (25, 34), Finding::AfterEnd)?;
+            let early = is_before(close, open_at);
+            add_columns(out, early, switch.line, (25, 34), Finding::OpensFirst)?;
             Ok(())
         }
         _ => Ok(()),
@@ -118,6 +120,16 @@ fn is_after_end(last: i64, time: Option<i64>) -> bool
     }
 }
 
+/// Whether an opening, where there is one, comes before this time.
+fn is_before(time: i64, open_at: Option<i64>) -> bool
+    ensures { result ≡ is_before time open_at }
+{
+    match open_at {
+        None => false,
+        Some(open_at) => open_at < time,
+    }
+}
+
 fn add_source(out: &mut Vec<Warning>, last: i64, source: &Source) -> Result<(), AllocError>
     ensures { OnOk result (AddsTo out.old.items (source_warnings last source.now) out.new.items) }
 {
@@ -130,7 +142,35 @@ fn add_source(out: &mut Vec<Warning>, last: i64, source: &Source) -> Result<(), 
         (61, 70),
         Finding::AfterEnd,
     )?;
+    add_acting(out, source)?;
     Ok(())
+}
+
+/// Adds the warnings of when a source acts.
+fn add_acting(out: &mut Vec<Warning>, source: &Source) -> Result<(), AllocError>
+    ensures { OnOk result (AddsTo out.old.items (acting_warnings source.now) out.new.items) }
+{
+    let early = is_cosine(&source.shape) && source.start < 0;
+    add_columns(out, early, source.line, (61, 70), Finding::EarlyCosine)?;
+    let idle = is_idle(source.start, source.stop);
+    add_columns(out, idle, source.line, (71, 80), Finding::NeverActs)?;
+    Ok(())
+}
+
+fn is_cosine(shape: &Shape) -> bool
+    ensures { result ≡ is_cosine shape.now }
+{
+    matches!(shape, Shape::Cosine { .. })
+}
+
+/// Whether a source stops, where it does, before it starts or with it.
+fn is_idle(start: i64, stop: Option<i64>) -> bool
+    ensures { result ≡ is_idle start stop }
+{
+    match stop {
+        None => false,
+        Some(stop) => stop <= start,
+    }
 }
 
 /// Whether it is a cosine of frequency 0.

@@ -76,6 +76,9 @@ fn finding_text(finding: Finding) -> &'static [u8]
         Finding::NoFrequency => b"cosine of frequency 0",
         Finding::ShortTravel => b"travel time below two steps",
         Finding::AfterEnd => b"after the end of the run",
+        Finding::EarlyCosine => b"every case starts at rest",
+        Finding::NeverActs => b"the source never acts",
+        Finding::OpensFirst => b"opens before it closes",
         Finding::AskedTwice => b"asked for twice",
     }
 }
