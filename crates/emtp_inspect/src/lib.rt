@@ -3,7 +3,8 @@
 //! [`inspect`] reads the file of a case, and leaves the listing of its records (`emtp_listing`) with what its cards say
 //! besides, and the warnings below it (`emtp_warnings`), or how many warnings there are; or it tells which card is refused, as
 //! what it was read, and the records before it. It stands on `emtp_deck` for cases, on `emtp_walk` for the place of a card, on
-//! `emtp_netcards` and `emtp_taccards` for cards, on `emtp_io` for the files, and has statuses and notes of `emtp_run`.
+//! `emtp_netcards` and `emtp_taccards` for cards, on `emtp_io` for the files, and on `emtp_run` for the reading of a file, for
+//! the outputs and for their statuses and notes.
 //!
 //! ```text
 //! let words = [breaker.case];

@@ -1,5 +1,5 @@
 //! The file that is read, and the output that is made.
-ghost use Rattle.std.specs.Prelude.{◌≡◌, None};
+ghost use Rattle.std.specs.Prelude.{None};
 ghost use Rattle.emtp_inspect.specs.Asking.{asked};
 ghost use Rattle.emtp_inspect.specs.Showing.{Inspects, Shows, told_outcome};
 ghost use Rattle.emtp_inspect.specs.Telling.{told_of};
