@@ -249,6 +249,11 @@ def plain(text):
     return text.replace("$", r"\$")
 
 
+def untagged(text):
+    """A name as it is: a pointed bracket begins no tag. A page shows &quot; as it stands."""
+    return html.escape(text, quote=False)
+
+
 def axes(made, heights, width=9):
     figure, panes = made.subplots(
         len(heights),
@@ -348,7 +353,7 @@ def plotly():
 
 
 def write_page(figure, title, height, path):
-    figure.update_layout(title=html.escape(title), height=height, template="plotly_white", margin={"t": 60, "r": 20})
+    figure.update_layout(title=untagged(title), height=height, template="plotly_white", margin={"t": 60, "r": 20})
     figure.write_html(path, include_plotlyjs=True, full_html=True, config={"displaylogo": False, "responsive": True})
     print(f"drawn: {path}")
 
@@ -371,24 +376,24 @@ def page_record(times, curves, bars, title, path):
                 objects.Scatter(
                     x=rounded(at),
                     y=rounded(shown),
-                    name=html.escape(name),
+                    name=untagged(name),
                     mode="lines",
                     line={"width": 1.3, "dash": DASHES[style]},
-                    hovertemplate="%{y:.6g} " + html.escape(unit),
+                    hovertemplate="%{y:.6g} " + untagged(unit),
                 ),
                 row=row,
                 col=1,
             )
-        figure.update_yaxes(title_text=html.escape(unit), row=row, col=1)
+        figure.update_yaxes(title_text=untagged(unit), row=row, col=1)
     for name, values in bars:
         spans = closed_times(times, values)
         figure.add_trace(
             objects.Bar(
-                y=[html.escape(name)] * len(spans),
+                y=[untagged(name)] * len(spans),
                 x=[stop - start for start, stop in spans],
                 base=[start for start, _ in spans],
                 orientation="h",
-                name=html.escape(name),
+                name=untagged(name),
                 width=0.7,
                 text=[f"closed from {number(start)} to {number(stop)} ms" for start, stop in spans],
                 textposition="none",
@@ -446,7 +451,7 @@ def page_batch(names, peaks, title, path):
             objects.Scatter(
                 x=column,
                 y=share,
-                name=html.escape(name),
+                name=untagged(name),
                 mode="lines",
                 line={"shape": "hv"},
                 hovertemplate="%{y:.4g} % at or below %{x:.6g}",
@@ -463,7 +468,7 @@ def page_batch(names, peaks, title, path):
             annotation_text=f"2 % at most exceed {number(two_percent(column))}",
             annotation_position="bottom left",
         )
-        figure.update_xaxes(title_text=f"peak of {html.escape(name)}", row=place + 1, col=1)
+        figure.update_xaxes(title_text=f"peak of {untagged(name)}", row=place + 1, col=1)
         figure.update_yaxes(title_text="% of rows", row=place + 1, col=1)
     write_page(figure, title, 120 + 260 * len(names), path)
 
@@ -482,6 +487,8 @@ def one_summary(words):
         sys.exit(__doc__.strip())
     with open(path, encoding="latin-1") as file:
         lines = file.read().split("\n")
+    if lines[-1]:
+        sys.exit(f"plot: {path} is cut: its last line has no end")
     out = words[1] if len(words) > 1 else os.path.splitext(path)[0] + ".png"
     page, title = out.endswith(".html"), os.path.basename(path)
     try:
@@ -499,7 +506,8 @@ def one_summary(words):
         names = [f"{name} in {unit}" for name, unit, *_ in read_cfg(cfg)[0]]
     if len(names) != len(peaks[0]):
         sys.exit(f"plot: {path} has {len(peaks[0])} channels, and {cfg} {len(names)}")
-    if any(len(row) != len(names) for row in peaks):
+    greatest = sum(line.startswith("MAX ") for line in lines)
+    if greatest != len(names) or any(len(row) != len(names) for row in peaks):
         sys.exit(f"plot: {path} is cut, or has rows of other channels than its first one")
     print_batch(names, peaks, ended)
     return page_batch(names, peaks, title, out) if page else draw_batch(names, peaks, out)
