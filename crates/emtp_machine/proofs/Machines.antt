@@ -1,5 +1,5 @@
 -- A machine, one step further.
-use Rattle.std.proofs.Common.{◌≡◌, ◌≢◌, ◌∙◌, sym, ap, subst, ℕ, suc, ◌+◌, ◌-◌, ◌%◌, ◌<◌, ◌≤◌, ℤ, List, [], ◌∷◌, ◌++◌, drop, take, length, Option, Some, None, Result, Ok, Err, refl, arith}
+use Rattle.std.proofs.Common.{◌≡◌, ◌≢◌, ◌∙◌, sym, ap, subst, ℕ, suc, ◌+◌, ◌-◌, ◌%◌, ◌*◌, ◌<◌, ◌≤◌, ℤ, List, [], ◌∷◌, ◌++◌, drop, take, length, Option, Some, None, Result, Ok, Err, refl, arith}
 use Rattle.std.proofs.Math.ListN.{drop_of_length-le}
 use Rattle.std.proofs.Math.Seq.{take-length}
 use Rattle.std.proofs.lemmas.List.{append-nil, length_push}
@@ -227,7 +227,7 @@ pub rest_history : (case : Parts) → history_upto case 0 ≡ record { records =
 unfolding history_upto
 rest_history case = refl
 
-at_rest : (case : Parts) (network : ControlledNetwork) (row : List ℤ) (s : Sampled) → IsOf case network → StandsFor network (rest_of case ∷ []) → length row ≡ length case.channels → s ≡ record { rows = sample_of case (rest_of case) ∷ []; channels = length case.channels; room = samples_of case.run }
+at_rest : (case : Parts) (network : ControlledNetwork) (row : List ℤ) (s : Sampled) → IsOf case network → StandsFor network (rest_of case ∷ []) → length row ≡ length case.channels → s ≡ record { rows = sample_of case (rest_of case) ∷ []; channels = length case.channels; room = samples_of case.run; capacity = samples_of case.run * length case.channels }
     → 1 ≤ case.run.steps → IsMachine case network row s 0 None (record { records = rest_of case ∷ []; end = None })
 at_rest case network row s same stands width is some = record {
   case_is = same;
@@ -246,7 +246,7 @@ at_rest case network row s same stands width is some = record {
   names = tt;
 }
 
-pub starts : (case : Parts) (network : ControlledNetwork) (row : List ℤ) (s t : Sampled) → IsOf case network → StandsFor network (rest_of case ∷ []) → length row ≡ length case.channels → s ≡ record { rows = []; channels = length case.channels; room = samples_of case.run }
+pub starts : (case : Parts) (network : ControlledNetwork) (row : List ℤ) (s t : Sampled) → IsOf case network → StandsFor network (rest_of case ∷ []) → length row ≡ length case.channels → s ≡ record { rows = []; channels = length case.channels; room = samples_of case.run; capacity = samples_of case.run * length case.channels }
     → t ≡ record s { rows = s.rows ++ sample_of case (rest_of case) ∷ [] } → 1 ≤ case.run.steps → IsMachine case network row t 0 None (history_upto case 0)
 starts case network row s t same stands width is is_t some = rw rest_history (at_rest case network row t same stands width (rw is at is_t) some)
 

@@ -1,5 +1,6 @@
 // The samples of a record.
 ghost use Rattle.std.specs.Prelude.{◌≡◌, ◌+◌, ◌*◌, ◌^◌, ◌<◌, ◌≤◌, ◌++◌, [], ◌∷◌, length, pos, slice_index_or, unsigned_abs, IfOk, vec_capacity};
+ghost use Rattle.std.specs.Vec.{SameBlock};
 ghost use Rattle.emtp_machine.specs.Samples.{greatest, sum_of, total_of, value_at};
 ghost use Rattle.emtp_machine.specs.held.Samples.{Sampled, IsReserved, rows_of};
 
@@ -23,6 +24,7 @@ impl Model for Samples {
       rows = rows_of s.channels s.count s.values.items;
       channels = s.channels;
       room = s.room;
+      capacity = vec_capacity s.values;
     } };
 
     ghost invariant = { λ s. IsReserved s.channels s.room s.count (length s.values.items) (vec_capacity s.values) };
@@ -32,7 +34,7 @@ impl Samples {
     /// No samples yet, and room for `room` of them, each with a value for each of `channels`.
     pub fn open(alloc: Global, channels: usize, room: u32) -> Result<Samples, AllocError>
         requires { room * channels < 2 ^ 64 }
-        ensures { IfOk result (λ s. s ≡ record { rows = []; channels = channels; room = room }) }
+        ensures { IfOk result (λ s. s ≡ record { rows = []; channels = channels; room = room; capacity = room * channels }) }
     {
         Ok(Samples {
             channels,
@@ -108,7 +110,7 @@ impl Samples {
         sum
     }
 
-    /// Takes the values of one more sample, for which there is room. It takes no memory.
+    /// Takes the values of one more sample, for which there is room. It takes no memory: the block of its values stays.
     pub fn push(&mut self, values: &[i64])
         requires width { length values.now ≡ self.old.channels }
         requires room { length self.old.rows < self.old.room }
@@ -126,11 +128,13 @@ fn value_in(values: &[i64], at: usize) -> i64
     values[at]
 }
 
-// Puts values at the end, where they have room.
+// Puts values at the end, where they have room: in the same block, of the same capacity.
 fn put_behind(all: &mut Vec<i64>, values: &[i64])
     requires { length all.old.items + length values.now ≤ vec_capacity all.old }
     ensures items { all.new.items ≡ all.old.items ++ values.now }
-    ensures capacity { vec_capacity all.old ≤ vec_capacity all.new }
+    ensures block { SameBlock all.old all.new }
 {
-    let _ = all.extend_from_slice(values);
+    for value in values {
+        let _ = all.insert(all.len(), *value);
+    }
 }

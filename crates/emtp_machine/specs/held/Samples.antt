@@ -7,12 +7,14 @@ pub record Sampled : Type 0 where
   pub channels : ℕ
   -- how many samples have room
   pub room : ℕ
+  -- how many values have room in the block of memory that is held
+  pub capacity : ℕ
 
 -- each sample that was taken has a value a channel, and all that have room find it
 pub record IsReserved (channels room count len capacity : ℕ) : Type 0 where
   pub taken : len ≡ count * channels
   pub within : count ≤ room
-  pub reserved : room * channels ≤ capacity
+  pub reserved : room * channels ≡ capacity
   pub few : room < 2 ^ 32
   pub small : room * channels < 2 ^ 64
 

@@ -1,4 +1,4 @@
-use Rattle.std.proofs.Common.{◌∙◌, ap, sym, [], ◌∷◌, length, ℕ}
+use Rattle.std.proofs.Common.{◌∙◌, ◌*◌, ap, sym, [], ◌∷◌, length, ℕ}
 use Rattle.emtp_case.specs.StepRecord.{rest_of}
 use Rattle.emtp_machine.proofs.Machines.{starts, written}
 use Rattle.emtp_machine.proofs.machine.Machine.open.Goals as goal
@@ -10,8 +10,8 @@ invariant_of-result c =
     let width = c.take_sample.ensures.width ∙ ap length c.deref_mut.ensures.value in
     let room =
     c.in_ok-samples.ensures
-    ∙ ap (λ (n : ℕ). record { rows = []; channels = n; room = c.samples.result }) c.len-channels.ensures
-    ∙ ap (λ (n : ℕ). record { rows = []; channels = length case.channels; room = n }) c.samples.ensures.value in
+    ∙ ap (λ (n : ℕ). record { rows = []; channels = n; room = c.samples.result; capacity = c.samples.result * n }) c.len-channels.ensures
+    ∙ ap (λ (n : ℕ). record { rows = []; channels = length case.channels; room = n; capacity = n * length case.channels }) c.samples.ensures.value in
     let wide = width ∙ sym row.ok.0 ∙ c.in_ok-row.ensures.len ∙ c.len-channels.ensures in
     let whole = written c.take_sample.new.row row.items row.len (sym row.ok.0) width in
     let took = c.take_sample.ensures.samples (rest_of case ∷ []) c.in_ok-network.ensures.rest in

@@ -1,4 +1,4 @@
-use Rattle.std.proofs.Common.{◌≡◌, ◌+◌, ◌*◌, ◌<◌, ◌++◌, ◌∷◌, [], List, ℤ, ap, arith, length, length-append}
+use Rattle.std.proofs.Common.{◌≡◌, ◌+◌, ◌*◌, ◌<◌, ◌++◌, ◌∷◌, [], List, ℕ, ℤ, ap, arith, length, length-append, sym, ◌∙◌}
 use Rattle.emtp_machine.specs.held.Samples.{Sampled, rows_of}
 use Rattle.emtp_machine.proofs.SampleRows.{length-rows_of, rows_of-pushed, room-more}
 use Rattle.emtp_machine.proofs.samples.Samples.push.Goals as goal
@@ -36,7 +36,7 @@ invariant_of-self c =
     record {
       taken = omega (arith, items, length-append c.self.inside.values.items c.args.values.now);
       within = omega arith;
-      reserved = omega arith;
+      reserved = c.self.invariant.reserved ∙ sym c.put_behind.ensures.block.1.0;
       few = c.self.invariant.few;
       small = c.self.invariant.small;
     }
@@ -50,5 +50,8 @@ returns c =
     let rows : rows_of c.self.inside.channels c.self.inside.count c.self.inside.values.items ≡ c.args.self.now.rows = ap (λ (s : Sampled). s.rows) c.self.view_is in
     let pushed : rows_of c.self.inside.channels (c.self.inside.count + 1) c.put_behind.new.all.items ≡ rows_of c.self.inside.channels c.self.inside.count c.self.inside.values.items ++ c.args.values.now ∷ [] =
     rows_of-pushed c.self.inside.channels c.self.inside.count c.self.inside.values.items c.args.values.now c.put_behind.new.all.items taken row c.put_behind.ensures.items in
-    let r : Sampled → List (List ℤ) → Sampled = λ s rows. record s { rows = rows ++ c.args.values.now ∷ [] } in
-    cc
+    let capacity : c.put_behind.new.all.cap ≡ c.args.self.now.capacity = c.put_behind.ensures.block.1.0 ∙ ap (λ (s : Sampled). s.capacity) c.self.view_is in
+    same _ _ _ _ _ _ _ _ (pushed ∙ ap (λ rs. rs ++ c.args.values.now ∷ []) rows) channels room capacity
+  where
+    same : (r s : List (List ℤ)) (a b d e f g : ℕ) → r ≡ s → a ≡ b → d ≡ e → f ≡ g → (let x : Sampled = record { rows = r; channels = a; room = d; capacity = f } in x) ≡ record { rows = s; channels = b; room = e; capacity = g }
+    same r s a b d e f g p q t u = cc
