@@ -1,12 +1,27 @@
 """Where the programs and the folders of their runs stand: examples/NAME, and rows/GROUP/NAME."""
 import glob
 import os
+import subprocess
 import sys
 
 SCRIPTS = os.path.dirname(os.path.realpath(__file__))
 TOP = os.path.dirname(os.path.dirname(SCRIPTS))
-PROGRAM = os.path.join(TOP, "crates", "emtp", "out", "emtp")
-SHOWER = os.path.join(TOP, "crates", "emtp_show", "out", "emtp_show")
+
+
+def found():
+    """The programs emtp and emtp_show: those that EMTP and EMTP_SHOW name, else those that ./program finds."""
+    named = [os.environ.get("EMTP", ""), os.environ.get("EMTP_SHOW", "")]
+    if not all(named):
+        told = subprocess.run(
+            [os.path.join(TOP, "program"), "emtp", "emtp_show"], stdout=subprocess.PIPE, check=False, encoding="utf-8"
+        )
+        if told.returncode:
+            sys.exit(told.returncode)
+        named = [one or other for one, other in zip(named, told.stdout.splitlines())]
+    return [os.path.abspath(it) for it in named]
+
+
+PROGRAM, SHOWER = found()
 
 
 def command_line(program, words):
