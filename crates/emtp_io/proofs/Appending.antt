@@ -16,6 +16,9 @@ call-call {new = new} {result = result} first second = record {
   faults_in = second.faults_in ∙ first.faults_in;
   cause = subst (λ (count : ℕ). HasCause count new.faults_out result) first.cause.ok second.cause;
   others = λ other ne. second.others other ne ∙ first.others other ne;
+  turns = λ other ne. second.turns other ne ∙ first.turns other ne;
+  stays = λ other some. second.stays other (first.stays other some);
+  opens = second.opens ∙ first.opens;
 }
 
 -- a call that was refused, and a refusal that its caller answers then
@@ -28,6 +31,9 @@ call-refused (Err fault') err call = record {
   faults_in = call.faults_in;
   cause = record { later = call.cause.later; ok = call.cause.ok; failed = call.cause.failed };
   others = call.others;
+  turns = call.turns;
+  stays = call.stays;
+  opens = call.opens;
 }
 
 pub tells-later : {old new : Nature} → new ≡ old → IsTrue old.tells → IsTrue new.tells
@@ -42,6 +48,8 @@ pub appends-append : {T E T' E' : Type 0} {old middle new : CabinetState} {out :
     → Appends old new out (xs ++ ys) result
 appends-append {old = old} {middle = middle} {new = new} {out = out} {xs = xs} {ys = ys} {result = result} first second = record {
   call = call-call first.call second.call;
+  creates = second.creates ∙ first.creates;
+  turns = second.turns ∙ first.turns;
   ok = λ tells. on_ok_weaker result (λ grew. grew
       ∙ ap (λ (outputs : Outputs). appended outputs out ys) (first.ok tells)
       ∙ appended-append old.outputs out xs ys)
@@ -63,6 +71,8 @@ pub appends-front : {T E T' E' : Type 0} {old new : CabinetState} {out : Output}
 appends-front ys (Ok value) err first = cc
 appends-front {old = old} {new = new} {out = out} {xs = xs} ys (Err fault') err first = record {
   call = call-refused (Err fault') err first.call;
+  creates = first.creates;
+  turns = first.turns;
   ok = first.ok;
   err = λ tells. grew-first old.outputs new.outputs out xs ys (first.err tells);
   calm = λ tells calm fits.
@@ -80,7 +90,12 @@ appends-nothing {state = state} {out = out} = record {
     faults_in = refl;
     cause = record { later = omega arith; ok = refl; failed = tt };
     others = λ other ne. refl;
+    turns = λ other ne. refl;
+    stays = λ other some. some;
+    opens = refl;
   };
+  creates = refl;
+  turns = refl;
   ok = λ tells. sym (appended-nil state.outputs out);
   err = λ tells. tt;
   calm = λ tells calm fits. refl;

@@ -1,7 +1,8 @@
 -- What a cabinet holds, and what its calls do to it.
-use Rattle.std.specs.Prelude.{◌≡◌, ◌≢◌, ℕ, ◌+◌, ◌-◌, ◌^◌, ◌≤◌, min, Bool, List, [], ◌++◌, length, Option, Some, None, Result, OnOk, OnErr}
+use Rattle.std.specs.Prelude.{◌≡◌, ◌≢◌, ℕ, ◌+◌, ◌-◌, ◌^◌, ◌≤◌, min, Bool, List, [], ◌++◌, length, IsSome, Option, Some, None, Result, OnOk, OnErr}
 use Rattle.emtp_io.specs.declared.cabinet.Output.{Output}
 use Rattle.emtp_io.specs.declared.cabinet.Output.TheVariants.{Cfg, Dat, Note, Summary}
+use Rattle.emtp_io.specs.declared.turns.Turns.{Turns}
 
 -- what no call changes
 pub record Nature : Type 0 where
@@ -36,12 +37,30 @@ pub record CabinetState : Type 0 where
   pub faults_in : ℕ
   -- how often `create` and `write` have failed
   pub faults_out : ℕ
+  -- how often `open` was called, and how often `create`
+  pub opens : ℕ
+  pub creates : ℕ
+  -- which of the calls of `create` made each output
+  pub turns : Turns
 
 abbrev pub output : Outputs → Output → Option CreatedOutput
 output outputs Cfg = outputs.cfg
 output outputs Dat = outputs.dat
 output outputs Note = outputs.note
 output outputs Summary = outputs.summary
+
+-- which of the calls of `create` made an output last; 0 where none did
+abbrev pub turn : Turns → Output → ℕ
+turn turns Cfg = turns.cfg
+turn turns Dat = turns.dat
+turn turns Note = turns.note
+turn turns Summary = turns.summary
+
+abbrev pub with_turn : Turns → Output → ℕ → Turns
+with_turn turns Cfg call = record turns { cfg = call }
+with_turn turns Dat call = record turns { dat = call }
+with_turn turns Note call = record turns { note = call }
+with_turn turns Summary call = record turns { summary = call }
 
 -- the outputs with this one in its place
 abbrev pub with_output : Outputs → Output → Option CreatedOutput → Outputs
@@ -88,6 +107,8 @@ pub record IsInputCall {T E : Type 0} (old new : CabinetState) (result : Result 
   pub outputs : new.outputs ≡ old.outputs
   pub faults_out : new.faults_out ≡ old.faults_out
   pub cause : HasCause old.faults_in new.faults_in result
+  pub creates : new.creates ≡ old.creates
+  pub turns : new.turns ≡ old.turns
 
 -- a call on an output changes this one, or is refused with a cause; all else stays
 pub record IsOutputCall {T E : Type 0} (old new : CabinetState) (out : Output) (result : Result T E) : Type 0 where
@@ -96,6 +117,15 @@ pub record IsOutputCall {T E : Type 0} (old new : CabinetState) (out : Output) (
   pub faults_in : new.faults_in ≡ old.faults_in
   pub cause : HasCause old.faults_out new.faults_out result
   pub others : (other : Output) → other ≢ out → output new.outputs other ≡ output old.outputs other
+  -- an output that was created is so afterwards too, this one included
+  pub stays : (other : Output) → IsSome (output old.outputs other) → IsSome (output new.outputs other)
+  pub turns : (other : Output) → other ≢ out → turn new.turns other ≡ turn old.turns other
+  pub opens : new.opens ≡ old.opens
+
+-- the output was created, last by this call of `create`, counted from 1
+pub record IsCreatedBy (call : ℕ) (out : Output) (new : CabinetState) : Type 0 where
+  pub created : IsSome (output new.outputs out)
+  pub turn : turn new.turns out ≡ call
 
 -- the output was created, and so many more bytes have room in it
 abbrev pub HasRoom : Option CreatedOutput → ℕ → ℕ → Type 0

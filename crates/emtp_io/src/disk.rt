@@ -2,9 +2,10 @@
 ghost use Rattle.std.specs.Prelude.{◌≡◌, ◌<◌, ◌≤◌, true, false, length, is_some, None, IfSome, IsTrue, IsSome, OnSome, OnOk, OnErr, IfOk};
 ghost use Rattle.std.specs.Bool.{OnTrue, OnFalse};
 ghost use Rattle.emtp_io.specs.Cabinet.{one_more, HasCause};
-ghost use Rattle.emtp_io.specs.held.Disk.{Disk, disk_state, is_created, with_created};
+ghost use Rattle.emtp_io.specs.held.Disk.{Disk, counted, disk_state, is_created, with_created};
 
 use crate::count::raise;
+use crate::turns::Turns;
 use crate::{Cabinet, Failed, Output};
 use std::io::{ErrorKind, Read, Write};
 use std::marker::Model;
@@ -15,7 +16,7 @@ use std::{fs, io};
 ///
 /// This is the trusted edge: no clause can say what a file or a terminal holds, so it is not calm and
 /// tells nothing of content. What clauses see of it is whether a file is open, which outputs were
-/// created, and both counts.
+/// created and at which turn, and the counts.
 ///
 /// A file that is made is open until the next output is created: of `Cfg` and `Dat` only the one created last can be written.
 #[derive(Drop)]
@@ -28,6 +29,9 @@ pub struct DiskCabinet<R: Files + Print + Drop> {
     summary_created: bool,
     faults_in: u64,
     faults_out: u64,
+    opens: u64,
+    creates: u64,
+    turns: Turns,
 }
 
 impl<R: Files + Print + Drop> Model for DiskCabinet<R> {
@@ -41,6 +45,9 @@ impl<R: Files + Print + Drop> Model for DiskCabinet<R> {
       summary = d.summary_created;
       faults_in = d.faults_in;
       faults_out = d.faults_out;
+      opens = d.opens;
+      creates = d.creates;
+      turns = d.turns;
     } };
 }
 
@@ -55,6 +62,9 @@ impl<R: Files + Print + Drop> DiskCabinet<R> {
           summary = false;
           faults_in = 0;
           faults_out = 0;
+          opens = 0;
+          creates = 0;
+          turns = record { cfg = 0; dat = 0; note = 0; summary = 0 };
         } }
     {
         DiskCabinet {
@@ -66,6 +76,9 @@ impl<R: Files + Print + Drop> DiskCabinet<R> {
             summary_created: false,
             faults_in: 0,
             faults_out: 0,
+            opens: 0,
+            creates: 0,
+            turns: Turns::none(),
         }
     }
 }
@@ -187,10 +200,11 @@ impl<R: Files + Print + Drop> Cabinet for DiskCabinet<R> {
     fn open(&mut self, name: &str) -> Result<(), Failed>
         ensures cause { HasCause self.old.faults_in self.new.faults_in result }
         ensures other { self.new.faults_out ≡ self.old.faults_out }
-        ensures ok { OnOk result (self.new ≡ record self.old { is_open = true }) }
+        ensures ok { OnOk result (self.new ≡ record self.old { is_open = true; opens = one_more self.old.opens }) }
         ensures err { OnErr result
-            (self.new ≡ record self.old { faults_in = one_more self.old.faults_in }) }
+            (self.new ≡ record self.old { faults_in = one_more self.old.faults_in; opens = one_more self.old.opens }) }
     {
+        raise(&mut self.opens);
         match fs::open(&self.rt, name) {
             Ok(file) => {
                 self.input = Some(file);
@@ -224,10 +238,11 @@ impl<R: Files + Print + Drop> Cabinet for DiskCabinet<R> {
     fn create(&mut self, out: Output, name: &str) -> Result<(), Failed>
         ensures cause { HasCause self.old.faults_out self.new.faults_out result }
         ensures other { self.new.faults_in ≡ self.old.faults_in }
-        ensures ok { OnOk result (self.new ≡ with_created self.old out) }
+        ensures ok { OnOk result (self.new ≡ with_created (counted self.old) out) }
         ensures err { OnErr result
-            (self.new ≡ record self.old { faults_out = one_more self.old.faults_out }) }
+            (self.new ≡ record (counted self.old) { faults_out = one_more self.old.faults_out }) }
     {
+        raise(&mut self.creates);
         close(&mut self.cfg);
         close(&mut self.dat);
         let created = match out {
@@ -243,6 +258,7 @@ impl<R: Files + Print + Drop> Cabinet for DiskCabinet<R> {
             }
         };
         if created {
+            self.turns.put(out, self.creates);
             Ok(())
         } else {
             raise(&mut self.faults_out);

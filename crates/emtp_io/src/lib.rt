@@ -1,7 +1,7 @@
 //! The files of the outside, behind one trait.
 //!
 //! [`Cabinet`] opens and reads named files and makes four outputs. Its clauses say what each call reads
-//! and writes, and that each refusal has its cause in a count. [`read_all`] and [`write_all`] go over a
+//! and writes, which call made which output, and that each refusal has its cause in a count. [`read_all`] and [`write_all`] go over a
 //! whole file and over whole texts. [`DiskCabinet`] works on real files; [`MemoryCabinet`] keeps all in
 //! memory, and fails where it is told to. It stands on std alone.
 //!
@@ -20,6 +20,7 @@ mod count;
 mod disk;
 mod files;
 mod memory;
+mod turns;
 mod whole;
 
 pub use cabinet::{Cabinet, Failed, Output};

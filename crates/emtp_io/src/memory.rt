@@ -2,7 +2,7 @@
 ghost use Rattle.std.specs.Prelude.{◌≡◌, ◌≢◌, ◌+◌, ◌<◌, ◌≤◌, ◌||◌, [], Some, None, length, take, is_err, is_none, OnOk, OnErr, IfOk, IfSome, AllPairs, string_bytes, option_map};
 ghost use Rattle.std.specs.Option.{option_copied};
 ghost use Rattle.emtp_io.specs.held.Buffer.{created_of};
-ghost use Rattle.emtp_io.specs.Cabinet.{output, with_output, appended, put_back, one_more, IsAtEnd, HasCause, HasRoom};
+ghost use Rattle.emtp_io.specs.Cabinet.{output, with_output, with_turn, appended, put_back, one_more, IsAtEnd, HasCause, HasRoom};
 ghost use Rattle.emtp_io.specs.held.Cabinet.{no_outputs};
 ghost use Rattle.emtp_io.specs.held.Calls.{counted};
 ghost use Rattle.emtp_io.specs.held.Files.{file_named, unread_of};
@@ -12,6 +12,7 @@ use crate::buffer::OutputBuffer;
 use crate::calls::{Calls, Failing, Op};
 use crate::count::raise;
 use crate::files::{copy_front, find, rest_of};
+use crate::turns::Turns;
 use crate::{Cabinet, Failed, Output};
 use std::alloc::{AllocError, Global};
 use std::marker::Model;
@@ -35,6 +36,7 @@ pub struct MemoryCabinet {
     note: OutputBuffer,
     summary: OutputBuffer,
     calls: Calls,
+    turns: Turns,
     faults_in: u64,
     faults_out: u64,
 }
@@ -55,6 +57,7 @@ impl Model for MemoryCabinet {
         summary = created_of m.summary;
       };
       calls = m.calls;
+      turns = m.turns;
       faults_in = m.faults_in;
       faults_out = m.faults_out;
     } };
@@ -84,6 +87,7 @@ impl MemoryCabinet {
           unread = None;
           outputs = no_outputs;
           calls = record { opens = 0; reads = 0; creates = 0; writes = 0 };
+          turns = record { cfg = 0; dat = 0; note = 0; summary = 0 };
           faults_in = 0;
           faults_out = 0;
         }) }
@@ -105,6 +109,7 @@ impl MemoryCabinet {
                 creates: 0,
                 writes: 0,
             },
+            turns: Turns::none(),
             faults_in: 0,
             faults_out: 0,
         })
@@ -256,6 +261,7 @@ impl Cabinet for MemoryCabinet {
         ensures ok { OnOk result (self.new ≡ record self.old {
           outputs = with_output self.old.outputs out (Some (record { name = name.now; bytes = [] }));
           calls = counted self.old.calls Op.Create;
+          turns = with_turn self.old.turns out (one_more self.old.calls.creates);
         }) }
         ensures err { OnErr result (self.new ≡ record self.old {
           calls = counted self.old.calls Op.Create;
@@ -268,6 +274,7 @@ impl Cabinet for MemoryCabinet {
             return Err(Failed);
         }
         self.make_empty(out, name);
+        self.turns.put(out, self.calls.creates);
         Ok(())
     }
 

@@ -1,11 +1,12 @@
 -- What a cabinet of real files has opened and created.
 use Rattle.std.specs.Prelude.{ℕ, Bool, true, false, List, [], Option, Some, None}
-use Rattle.emtp_io.specs.Cabinet.{CabinetState, CreatedOutput}
+use Rattle.emtp_io.specs.Cabinet.{CabinetState, CreatedOutput, one_more}
 use Rattle.emtp_io.specs.held.Cabinet.{untold}
 use Rattle.emtp_io.specs.declared.cabinet.Output.{Output}
 use Rattle.emtp_io.specs.declared.cabinet.Output.TheVariants.{Cfg, Dat, Note, Summary}
+use Rattle.emtp_io.specs.declared.turns.Turns.{Turns}
 
--- whether a file is open, which outputs were created, and how often a call has failed
+-- whether a file is open, which outputs were created and by which calls, and how often a call has failed or was made
 pub record Disk : Type 0 where
   pub is_open : Bool
   pub cfg : Bool
@@ -14,6 +15,9 @@ pub record Disk : Type 0 where
   pub summary : Bool
   pub faults_in : ℕ
   pub faults_out : ℕ
+  pub opens : ℕ
+  pub creates : ℕ
+  pub turns : Turns
 
 abbrev pub is_created : Disk → Output → Bool
 is_created d Cfg = d.cfg
@@ -21,11 +25,16 @@ is_created d Dat = d.dat
 is_created d Note = d.note
 is_created d Summary = d.summary
 
+-- `create` was called once more
+abbrev pub counted : Disk → Disk
+counted d = record d { creates = one_more d.creates }
+
+-- the last call of `create` made this output
 abbrev pub with_created : Disk → Output → Disk
-with_created d Cfg = record d { cfg = true }
-with_created d Dat = record d { dat = true }
-with_created d Note = record d { note = true }
-with_created d Summary = record d { summary = true }
+with_created d Cfg = record d { cfg = true; turns = record d.turns { cfg = d.creates } }
+with_created d Dat = record d { dat = true; turns = record d.turns { dat = d.creates } }
+with_created d Note = record d { note = true; turns = record d.turns { note = d.creates } }
+with_created d Summary = record d { summary = true; turns = record d.turns { summary = d.creates } }
 
 -- what is told of an output: that it was created, and nothing of its name and bytes
 abbrev pub created_where : Bool → Option CreatedOutput
@@ -49,4 +58,7 @@ disk_state d = record {
   };
   faults_in = d.faults_in;
   faults_out = d.faults_out;
+  opens = d.opens;
+  creates = d.creates;
+  turns = d.turns;
 }

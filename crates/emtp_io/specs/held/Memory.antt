@@ -9,6 +9,7 @@ use Rattle.emtp_io.specs.declared.calls.Calls.{Calls}
 use Rattle.emtp_io.specs.declared.calls.Failing.{Failing}
 use Rattle.emtp_io.specs.declared.calls.Op.{Op}
 use Rattle.emtp_io.specs.declared.calls.Op.TheVariants.{Open, Read, Create, Write}
+use Rattle.emtp_io.specs.declared.turns.Turns.{Turns}
 
 pub record Memory : Type 0 where
   -- the files, each with its name
@@ -25,6 +26,8 @@ pub record Memory : Type 0 where
   pub outputs : Outputs
   -- how often each kind of call was made
   pub calls : Calls
+  -- which of the calls of `create` made each output
+  pub turns : Turns
   -- how often `open` and `read` have failed
   pub faults_in : ℕ
   -- how often `create` and `write` have failed
@@ -42,6 +45,9 @@ memory_state m = record {
   outputs = m.outputs;
   faults_in = m.faults_in;
   faults_out = m.faults_out;
+  opens = m.calls.opens;
+  creates = m.calls.creates;
+  turns = m.turns;
 }
 
 -- whether the next call of this kind is told to fail

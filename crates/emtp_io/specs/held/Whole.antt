@@ -17,6 +17,8 @@ pub record GrewByPrefix (old new : Outputs) (out : Output) (bytes : List ℕ) : 
 pub record Appends {T E : Type 0} (old new : CabinetState) (out : Output) (bytes : List ℕ) (result : Result T E)
     : Type 0 where
   pub call : IsOutputCall old new out result
+  pub creates : new.creates ≡ old.creates
+  pub turns : new.turns ≡ old.turns
   pub ok : IsTrue old.nature.tells → OnOk result (new.outputs ≡ appended old.outputs out bytes)
   pub err : IsTrue old.nature.tells → OnErr result (GrewByPrefix old.outputs new.outputs out bytes)
   pub calm : IsTrue old.nature.tells → IsTrue old.nature.calm
@@ -27,6 +29,9 @@ pub record ReadsAll (old new : CabinetState) (most : ℕ) (result : Result (Vec 
   pub nature : new.nature ≡ old.nature
   pub outputs : new.outputs ≡ old.outputs
   pub faults_out : new.faults_out ≡ old.faults_out
+  pub opens : new.opens ≡ old.opens
+  pub creates : new.creates ≡ old.creates
+  pub turns : new.turns ≡ old.turns
   pub later : old.faults_in ≤ new.faults_in
   pub count : OnOk result (new.faults_in ≡ old.faults_in)
   pub failed : IsErrOf result Failed → Rose old.faults_in new.faults_in

@@ -11,6 +11,9 @@ invariant-chunks g l =
       nature : now.nature ≡ old.nature;
       faults_in : now.faults_in ≡ old.faults_in;
       faults_out : now.faults_out ≡ old.faults_out;
+      opens : now.opens ≡ old.opens;
+      creates : now.creates ≡ old.creates;
+      turns : now.turns ≡ old.turns;
       outputs : now.outputs ≡ old.outputs;
       taken : old.nature.tells ≡ true → old.unread ≡ put_back l.bytes.items now.unread;
       opened : old.nature.tells ≡ true → 0 < length l.bytes.items → IsSome old.unread;
