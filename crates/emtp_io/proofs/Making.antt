@@ -7,8 +7,8 @@ use Rattle.emtp_io.specs.declared.cabinet.Output.TheVariants.{Cfg, Dat, Note, Su
 use Rattle.emtp_io.specs.Cabinet.{CabinetState, Nature, Outputs, output, turn, with_output, appended, one_more, HasRoom, HasCause, IsCreatedBy, IsOutputCall}
 use Rattle.emtp_io.specs.declared.turns.Turns.{Turns}
 use Rattle.emtp_io.specs.held.Whole.{Appends}
-use Rattle.emtp_io.specs.Writes.{Written, outs, with_written, with_all, AllFit, AreCreated, IsCutShort, StopsCreating}
-use Rattle.emtp_io.specs.held.Writes.{AreApart, IsOther, Makes}
+use Rattle.emtp_io.specs.Writes.{Written, with_written, with_all, AllFit, AreCreated, IsCutShort, StopsCreating}
+use Rattle.emtp_io.specs.held.Writes.{outs, AreApart, IsOther, Makes}
 use Rattle.emtp_io.proofs.Appending.{call-call, tells-later, calm-later}
 
 -- an output under a name, with no byte

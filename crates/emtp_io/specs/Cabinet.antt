@@ -56,12 +56,6 @@ turn turns Dat = turns.dat
 turn turns Note = turns.note
 turn turns Summary = turns.summary
 
-abbrev pub with_turn : Turns → Output → ℕ → Turns
-with_turn turns Cfg call = record turns { cfg = call }
-with_turn turns Dat call = record turns { dat = call }
-with_turn turns Note call = record turns { note = call }
-with_turn turns Summary call = record turns { summary = call }
-
 -- the outputs with this one in its place
 abbrev pub with_output : Outputs → Output → Option CreatedOutput → Outputs
 with_output outputs Cfg e = record outputs { cfg = e }

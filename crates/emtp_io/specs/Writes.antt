@@ -1,5 +1,5 @@
 -- Outputs that are made one after the other.
-use Rattle.std.specs.Prelude.{◌≡◌, ◌⊎◌, ℕ, ◌≤◌, List, [], ◌∷◌, length, map, take, Some}
+use Rattle.std.specs.Prelude.{◌≡◌, ◌⊎◌, ℕ, ◌≤◌, List, [], ◌∷◌, length, take, Some}
 use Rattle.emtp_io.specs.Cabinet.{CabinetState, Outputs, one_more, with_output, IsCreatedBy}
 use Rattle.emtp_io.specs.declared.cabinet.Output.{Output}
 
@@ -25,10 +25,6 @@ IsCutShort outputs [] new = ⊥
 IsCutShort outputs (w ∷ writes) new = (new ≡ outputs)
     ⊎ ((k : ℕ) × (k ≤ length w.bytes) × (new ≡ with_written outputs w (take k w.bytes)))
     ⊎ IsCutShort (with_written outputs w w.bytes) writes new
-
--- the outputs alone, in the order in which they are made
-abbrev pub outs : List Written → List Output
-outs writes = map (λ (w : Written). w.out) writes
 
 -- The next call of `create` after so many made the first of these outputs, the one after it the second, and so on, and no more
 -- calls were made. It says nothing of names and bytes, and holds over any cabinet.

@@ -2,8 +2,8 @@
 ghost use Rattle.std.specs.Prelude.{◌≡◌, ◌≢◌, ◌+◌, ◌<◌, ◌≤◌, ◌||◌, [], Some, None, length, take, is_err, is_none, OnOk, OnErr, IfOk, IfSome, AllPairs, string_bytes, option_map};
 ghost use Rattle.std.specs.Option.{option_copied};
 ghost use Rattle.emtp_io.specs.held.Buffer.{created_of};
-ghost use Rattle.emtp_io.specs.Cabinet.{output, with_output, with_turn, appended, put_back, one_more, IsAtEnd, HasCause, HasRoom};
-ghost use Rattle.emtp_io.specs.held.Cabinet.{no_outputs};
+ghost use Rattle.emtp_io.specs.Cabinet.{output, with_output, appended, put_back, one_more, IsAtEnd, HasCause, HasRoom};
+ghost use Rattle.emtp_io.specs.held.Cabinet.{no_outputs, with_turn};
 ghost use Rattle.emtp_io.specs.held.Calls.{counted};
 ghost use Rattle.emtp_io.specs.held.Files.{file_named, unread_of};
 ghost use Rattle.emtp_io.specs.held.Memory.{Memory, memory_state, open_fails, read_fails, read_count, create_fails, spare_in, is_full_for, write_fails, write_count};

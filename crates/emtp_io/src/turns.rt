@@ -1,6 +1,6 @@
 //! Which call made each output.
 ghost use Rattle.std.specs.Prelude.{◌≡◌};
-ghost use Rattle.emtp_io.specs.Cabinet.{with_turn};
+ghost use Rattle.emtp_io.specs.held.Cabinet.{with_turn};
 
 use crate::Output;
 

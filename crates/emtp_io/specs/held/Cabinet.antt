@@ -1,6 +1,9 @@
 -- Beside `Cabinet`: what values hold for their proofs, and what premises say. No clause of the program reaches it.
-use Rattle.std.specs.Prelude.{false, None}
+use Rattle.std.specs.Prelude.{ℕ, false, None}
 use Rattle.emtp_io.specs.Cabinet.{Nature, Outputs}
+use Rattle.emtp_io.specs.declared.cabinet.Output.{Output}
+use Rattle.emtp_io.specs.declared.cabinet.Output.TheVariants.{Cfg, Dat, Note, Summary}
+use Rattle.emtp_io.specs.declared.turns.Turns.{Turns}
 
 -- a cabinet that tells nothing
 abbrev pub untold : Nature
@@ -8,3 +11,10 @@ untold = record { tells = false; calm = false; room = 0; files = λ _. None }
 
 abbrev pub no_outputs : Outputs
 no_outputs = record { cfg = None; dat = None; note = None; summary = None }
+
+-- the turns with this one for an output
+abbrev pub with_turn : Turns → Output → ℕ → Turns
+with_turn turns Cfg call = record turns { cfg = call }
+with_turn turns Dat call = record turns { dat = call }
+with_turn turns Note call = record turns { note = call }
+with_turn turns Summary call = record turns { summary = call }

@@ -1,8 +1,12 @@
 -- Beside `Writes`: what values hold for their proofs, and what premises say. No clause of the program reaches it.
-use Rattle.std.specs.Prelude.{◌≡◌, ◌≢◌, List, [], ◌∷◌, Result, IsSome, IsTrue, IsOk, OnOk, OnErr}
+use Rattle.std.specs.Prelude.{◌≡◌, ◌≢◌, List, [], ◌∷◌, map, Result, IsSome, IsTrue, IsOk, OnOk, OnErr}
 use Rattle.emtp_io.specs.Cabinet.{CabinetState, output, turn, HasCause}
 use Rattle.emtp_io.specs.declared.cabinet.Output.{Output}
-use Rattle.emtp_io.specs.Writes.{Written, outs, with_all, AllFit, AreCreated, IsCutShort, StopsCreating}
+use Rattle.emtp_io.specs.Writes.{Written, with_all, AllFit, AreCreated, IsCutShort, StopsCreating}
+
+-- the outputs alone, in the order in which they are made
+abbrev pub outs : List Written → List Output
+outs writes = map (λ (w : Written). w.out) writes
 
 -- an output that is none of these
 abbrev pub IsOther : Output → List Output → Type 0
