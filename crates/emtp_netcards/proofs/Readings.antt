@@ -2,7 +2,7 @@
 use Rattle.std.proofs.Common.{◌≡◌, ◌∙◌, sym, ap, refl, ℕ, Option, Some, None, Result, Ok, Err}
 use Rattle.emtp_card.specs.declared.fault.Fault.{Fault}
 use Rattle.emtp_card.specs.declared.reason.Why.{Why}
-use Rattle.emtp_netcards.specs.Reading.{both, card_by, in_column}
+use Rattle.emtp_netcards.specs.Reading.{◌>>=◌, both, card_by, in_column}
 use Rattle.emtp_netcards.specs.held.Reading.{judged}
 
 pub by : {A : Type 0} (number : ℕ) (found : Option (ℕ × Why)) (read : Result A Fault) (card : A) → card_by number found read ≡ Ok card → read ≡ Ok card
@@ -14,6 +14,11 @@ by number None (Err fault) card e = absurd (cc)
 pub whole_by : {A : Type 0} (number : ℕ) (found : Option (ℕ × Why)) (read : Result A Fault) (card : A) → card_by number found read ≡ Ok card → found ≡ None
 whole_by number (Some fault) read card e = absurd (cc)
 whole_by number None read card e = refl
+
+-- what goes on with what was read
+pub then_read : {A B E : Type 0} (read : Result A E) (f : A → Result B E) (y : B) → (read >>= f) ≡ Ok y → (x : A) × (read ≡ Ok x) × (f x ≡ Ok y)
+then_read (Ok x) f y e = (x, refl, e)
+then_read (Err g) f y e = absurd (cc)
 
 -- both parts were read
 pub each_of : {A B : Type 0} (a : Result A Fault) (b : Result B Fault) (pair : A × B) → both a b ≡ Ok pair → (a ≡ Ok pair.0) × (b ≡ Ok pair.1)
