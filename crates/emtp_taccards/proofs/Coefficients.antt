@@ -11,6 +11,7 @@ use Rattle.emtp_case.specs.Control.{bilinear}
 use Rattle.emtp_case.specs.held.Control.{HasWay}
 use Rattle.emtp_fix.specs.Rounding.{near}
 use Rattle.emtp_fix.proofs.Quotients.{near-zero_times}
+use Rattle.emtp_netcards.proofs.BranchRanges.{both_true}
 use Rattle.emtp_netcards.proofs.Readings.{each_of, field_of_column, made_of}
 use Rattle.emtp_netcards.specs.Reading.{both}
 use Rattle.emtp_netcards.specs.held.Fields.{IsSmall}
@@ -18,10 +19,6 @@ use Rattle.emtp_taccards.specs.PolynomialCard.{coefficient_field, coefficient_in
 use Rattle.emtp_taccards.specs.held.PolynomialCard.{IsPolynomial}
 
 -- ---- the way through the bilinear rule
-
-both_true : (a b : Bool) → (a && b) ≡ true → (a ≡ true) × (b ≡ true)
-both_true true b h = (refl, h)
-both_true false b h = absurd (cc)
 
 le_true : (m n : ℕ) → nat_le m n ≡ true → m ≤ n
 le_true m n h = grind (arith, nat_tests)

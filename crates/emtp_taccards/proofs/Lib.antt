@@ -1,3 +1,4 @@
 pub mod Signals
 pub mod LineEnds
 pub mod Coefficients
+pub mod CardRanges
