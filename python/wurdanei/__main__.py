@@ -1,0 +1,62 @@
+"""The commands of the package: `python3 -m wurdanei WORD ..`, which `./emtp WORD ..` calls."""
+
+from __future__ import annotations
+
+import importlib
+import os
+import sys
+
+COMMANDS = {  # the word, its module, what it does
+    "convert": ("convert", "makes another COMTRADE record of a record, or a table (csv)"),
+    "plot": ("plot", "draws a record, a scan or a batch as a picture or a page"),
+}
+
+
+def usage() -> str:
+    """What the words may be."""
+    rows = [f"  {word:<10}{what}" for word, (_, what) in sorted(COMMANDS.items())]
+    return "\n".join(["usage: emtp WORD .., with WORD one of", *rows, "`emtp WORD --help` says more of one."])
+
+
+def main(words: list[str]) -> int:
+    """Runs a command; exit status 0 done, 1 as the command says, 2 can't (its words are on standard error)."""
+    if words in (["--help"], ["-h"]):
+        print(usage())
+        return 0
+    if not words or words[0] not in COMMANDS:
+        print(usage(), file=sys.stderr)
+        return 2
+    for stream in (sys.stdout, sys.stderr):
+        if stream:
+            stream.reconfigure(errors="backslashreplace")
+    module = importlib.import_module("." + COMMANDS[words[0]][0], __package__)
+    from .configuration import RecordError
+
+    try:
+        status = module.main(words[1:])
+        if sys.stdout:
+            sys.stdout.flush()
+        return status
+    except RecordError as fault:
+        print(f"emtp {words[0]}: {fault}", file=sys.stderr)
+    except BrokenPipeError:  # nobody reads what is printed
+        os.dup2(os.open(os.devnull, os.O_WRONLY), 1)
+    except OSError as fault:
+        print(
+            f"emtp {words[0]}: {fault.filename}: {fault.strerror}" if fault.filename else f"emtp {words[0]}: {fault}",
+            file=sys.stderr,
+        )
+    except MemoryError:
+        print(f"emtp {words[0]}: there isn't enough memory", file=sys.stderr)
+    except KeyboardInterrupt:
+        return 130
+    return 2
+
+
+def entry() -> None:
+    """The script that an installed package has."""
+    sys.exit(main(sys.argv[1:]))
+
+
+if __name__ == "__main__":
+    entry()

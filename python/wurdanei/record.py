@@ -1,0 +1,358 @@
+"""Reads COMTRADE records: editions 1991, 1999 and 2013; ASCII, BINARY, BINARY32 and FLOAT32; cfg with dat, or one cff.
+
+    record = read("x.cfg")             # x.dat beside it; or read("x.cfg", "y.dat"), or read("x.cff")
+    record.channel("I BUS-SEND")       # primary values in the channel's unit, nan where missing
+    record.times                       # s from the first sample
+
+What a file lacks or contradicts is a `RecordError` that names file, line or byte and cause. What is unusual but lawful is in
+`told`, each once. Source: IEEE C37.111 of 1991, 1999 and 2013.
+"""
+
+from __future__ import annotations
+
+import math
+import os
+import re
+import stat
+from dataclasses import dataclass, field
+from datetime import datetime
+from typing import TYPE_CHECKING, BinaryIO, Iterable
+
+import numpy as np
+
+from .configuration import LONGEST_LINE, Configuration, RecordError, read_configuration, tell
+from .samples import Samples, read_samples
+
+if TYPE_CHECKING:
+    import pandas
+
+__all__ = ["Record", "RecordError", "read"]
+
+BLOCK = 1 << 16  # samples whose times are made or compared at once, so that little memory is taken
+SECTION = re.compile(
+    rb"-{3}\s*file\s+type\s*:\s*(\w+)(?:\s+(\w+))?\s*(?::\s*(\d{1,15})\s*)?-{3}\s*", re.IGNORECASE | re.ASCII
+)
+
+
+@dataclass
+class Record:
+    """A record. Its channels are read on demand from what the file holds."""
+
+    path: str
+    station: str
+    device: str
+    revision: int  # 1991, 1999 or 2013
+    form: str  # "ASCII", "BINARY", "BINARY32" or "FLOAT32"
+    times: np.ndarray = field(
+        repr=False
+    )  # shape (samples,), float64, s from the first sample's instant; skew not applied
+    names: list[str]  # analog channels; a name that stands twice gets .2, .3
+    units: list[str]  # as the file has them
+    phases: list[str]
+    circuits: list[str]  # the circuit component that is monitored
+    state_names: list[str]  # status channels
+    frequency: float  # line frequency in Hz, nan where blank
+    trigger: float  # s, on the scale of `times`; nan where an instant is blank
+    start: datetime | None  # instant of the first sample, to the us
+    rates: list[tuple[float, int]]  # Hz, number of the last sample; empty where times come from time stamps
+    told: list[str]  # what is unusual but lawful, each once
+    _configuration: Configuration = field(repr=False)
+    _samples: Samples = field(repr=False)
+
+    def channel(self, name: str) -> np.ndarray:
+        """Primary values of an analog channel in its unit: shape (samples,), float64, nan where missing."""
+        place = self._place(name)
+        own = self._configuration.analogs[place]
+        values = self._samples.raw(place)
+        missing = np.isnan(values)
+        with np.errstate(over="ignore", invalid="ignore"):
+            values *= own.multiplier
+            values += own.offset
+            if own.scaling == "S":
+                values *= own.primary / own.secondary
+        if not (np.isfinite(values) | missing).all():
+            raise RecordError(
+                f"{self._configuration.path}: line {own.line}: a value of {name} leaves the range of numbers"
+            )
+        return values
+
+    def skew(self, name: str) -> float:
+        """How much later than `times` an analog channel is sampled, in s."""
+        return self._configuration.analogs[self._place(name)].skew
+
+    def times_of(self, name: str) -> np.ndarray:
+        """The times of a channel's values, its skew applied: shape (samples,), float64, s."""
+        return self.times + self.skew(name) if name in self.names else self.times
+
+    def states(self, name: str) -> np.ndarray:
+        """States of a status channel: shape (samples,), uint8, 0 or 1."""
+        if name not in self.state_names:
+            raise RecordError(f"{self.path}: no status channel {name!r}; it has {listed(self.state_names)}")
+        return self._samples.state(self.state_names.index(name))
+
+    def missing(self, name: str) -> int:
+        """How many values of an analog channel are missing."""
+        return int(np.isnan(self._samples.raw(self._place(name))).sum())
+
+    def step(self, name: str) -> float:
+        """The least step between two values of a channel, primary, in its unit; nan in the form FLOAT32."""
+        own = self._configuration.analogs[self._place(name)]
+        ratio = own.primary / own.secondary if own.scaling == "S" else 1.0
+        return math.nan if self.form == "FLOAT32" else abs(own.multiplier) * ratio
+
+    def ratio(self, name: str) -> tuple[float, float]:
+        """Primary and secondary side of a channel's instrument transformer; (1, 1) where none is named."""
+        own = self._configuration.analogs[self._place(name)]
+        return own.primary, own.secondary
+
+    def secondary(self) -> list[str]:
+        """The channels that are recorded as secondary values (`channel` answers primary ones)."""
+        return [name for name, own in zip(self.names, self._configuration.analogs) if own.scaling == "S"]
+
+    def frame(self) -> pandas.DataFrame:
+        """All channels over the times in s; it needs pandas."""
+        try:
+            import pandas
+        except ImportError:
+            raise RecordError("a frame needs pandas (Debian: python3-pandas)") from None
+        columns = {name: self.channel(name) for name in self.names} | {
+            name: self.states(name) for name in self.state_names
+        }
+        return pandas.DataFrame(columns, index=pandas.Index(self.times, name="s"))
+
+    def _place(self, name: str) -> int:
+        """The place of an analog channel, from 0."""
+        if name not in self.names:
+            raise RecordError(f"{self.path}: no analog channel {name!r}; it has {listed(self.names)}")
+        return self.names.index(name)
+
+
+def read(path: str | os.PathLike, dat: str | os.PathLike | None = None) -> Record:
+    """The record of a cfg (with the dat beside it, or the one that is named) or of a cff."""
+    path = os.fspath(path)
+    try:
+        with opened(path) as file:
+            if file.read(3) in (b"---", b"\xef\xbb\xbf") and SECTION.match(line_at(file, 0)):
+                if dat is not None:
+                    raise RecordError(f"{path}: it has its data in itself (cff), and {os.fspath(dat)} is named as well")
+                configuration, start, size = read_sections(path, file)
+                return made(path, configuration, read_samples(configuration, path, file, start, size))
+            file.seek(0)
+            configuration = read_configuration(path, file.read())
+        data = os.fspath(dat) if dat is not None else data_beside(path)
+        with opened(data) as file:
+            samples = read_samples(configuration, data, file, 0, os.fstat(file.fileno()).st_size)
+        return made(path, configuration, samples)
+    except OSError as fault:
+        raise RecordError(f"{fault.filename or path}: {fault.strerror or fault}") from None
+    except MemoryError:
+        raise RecordError(f"{path}: there isn't enough memory for it") from None
+
+
+def opened(path: str) -> BinaryIO:
+    """A file for reading; a folder, a pipe or a device is none."""
+    try:
+        if not stat.S_ISREG(os.stat(path).st_mode):
+            raise RecordError(f"{path}: it is no plain file")
+        return open(path, "rb")
+    except ValueError as fault:  # a zero byte in the name
+        raise RecordError(f"{path!r}: {fault}") from None
+
+
+def data_beside(path: str) -> str:
+    """The dat of a cfg: of the same name but for its ending, in any case of letters."""
+    stem, ending = os.path.splitext(path)
+    if ending.lower() == ".dat":
+        raise RecordError(f"{path}: this is the data; name the configuration ({stem}.cfg)")
+    folder, base = os.path.split(stem)
+    exact = [base + (".DAT" if ending.isupper() else ".dat"), base + ".dat", base + ".DAT"]
+    there = sorted(name for name in os.listdir(folder or ".") if name.lower() == base.lower() + ".dat")
+    for name in [*exact, *there]:
+        if name in there:
+            return os.path.join(folder, name)
+    raise RecordError(f"{path}: the data isn't beside it: {stem}.dat is missing")
+
+
+def line_at(file: BinaryIO, place: int) -> bytes:
+    """The line at a byte of a file, a front of it where it is long; the file is behind it then."""
+    file.seek(place)
+    return file.readline(LONGEST_LINE).removeprefix(b"\xef\xbb\xbf")
+
+
+def read_sections(path: str, file: BinaryIO) -> tuple[Configuration, int, int]:
+    """The configuration of a cff, and the first byte and the size of its data."""
+    whole = os.fstat(file.fileno()).st_size
+    line, at, fresh = 0, 0, True  # fresh: a line begins here, not the middle of a long one
+    section, text, before, base, ended = b"", [], 0, 0, False
+    while at < whole:
+        read = line_at(file, at)
+        match = SECTION.fullmatch(read.rstrip(b"\r\n")) if fresh else None
+        fresh = read.endswith(b"\n")
+        line, at = line + fresh, file.tell()
+        if match is None:
+            if section == b"CFG":
+                text.append(read)
+            continue
+        section = match[1].upper()
+        if section == b"CFG":
+            if text:
+                raise RecordError(f"{path}: line {line}: a second section CFG")
+            before, base = line, at
+        elif section == b"DAT":
+            ended = True
+            break
+        elif section not in (b"INF", b"HDR"):
+            raise RecordError(f"{path}: line {line}: the section {section.decode()} is none of CFG, INF, HDR and DAT")
+    if not text:
+        raise RecordError(
+            f"{path}: it has no section CFG" + (f" before line {line}, where the data begins" if ended else "")
+        )
+    if not ended:
+        raise RecordError(f"{path}: it has no section DAT")
+    configuration = read_configuration(path, b"".join(text), before, base)
+    form = (match[2] or b"").decode().upper()
+    if form != configuration.form:
+        raise RecordError(
+            f"{path}: line {line}: the section has the form {form or 'of no name'}, the CFG {configuration.form}"
+        )
+    size = whole - at if match[3] is None else int(match[3])
+    if size > whole - at:
+        raise RecordError(
+            f"{path}: line {line}: {size} bytes of data are announced, and {whole - at} are there: it is cut"
+        )
+    if size < whole - at:
+        file.seek(at + size)
+        if file.read(1000).strip(b" \t\r\n\x1a\0"):
+            tell(configuration.told, f"what stands behind the data of {path}, from byte {at + size + 1} on, isn't read")
+    if match[3] is None and form != "ASCII":
+        tell(
+            configuration.told, "the section of the data names no number of bytes: all to the end of the file is taken"
+        )
+    return configuration, at, size
+
+
+def made(path: str, own: Configuration, samples: Samples) -> Record:
+    """The record of a configuration and its samples."""
+    told = own.told
+    times = sample_times(path, own, samples)
+    names = distinct([channel.name or f"analog {at}" for at, channel in enumerate(own.analogs, 1)], set(), told)
+    bars = distinct([bar.name or f"status {at}" for at, bar in enumerate(own.states, 1)], set(names), told)
+    trigger = math.nan
+    if own.first and own.trigger:
+        trigger = (own.trigger.nanoseconds - own.first.nanoseconds) * 1e-9
+        if trigger < 0:
+            tell(told, f"the trigger stands {-trigger:g} s before the first sample")
+        elif trigger > times[-1] + 1e-6:
+            tell(told, f"the trigger stands {trigger - times[-1]:g} s after the last sample")
+    record = Record(
+        path=path,
+        station=own.station,
+        device=own.device,
+        revision=own.revision,
+        form=own.form,
+        times=times,
+        names=names,
+        units=[channel.unit for channel in own.analogs],
+        phases=[channel.phase for channel in own.analogs],
+        circuits=[channel.circuit for channel in own.analogs],
+        state_names=bars,
+        frequency=own.frequency,
+        trigger=trigger,
+        start=own.first.clock() if own.first else None,
+        rates=own.rates if own.rates[0][0] > 0 else [],
+        told=told,
+        _configuration=own,
+        _samples=samples,
+    )
+    if record.secondary():
+        tell(told, f"recorded as secondary values, answered as primary: {listed(record.secondary())}")
+    return record
+
+
+def distinct(names: list[str], taken: set[str], told: list[str]) -> list[str]:
+    """The names, each once: a later one of the same text gets .2, .3."""
+    given, made_names = taken | set(names), []
+    seen = set(taken)
+    for name in names:
+        own, count = name, 1
+        while own in seen or own != name and own in given:
+            count += 1
+            own = f"{name}.{count}"
+        if own != name:
+            tell(told, f"the name {name} stands more than once: the later ones have .2, .3 behind it")
+        seen.add(own)
+        made_names.append(own)
+    return made_names
+
+
+def listed(names: Iterable[str]) -> str:
+    """Some names in a sentence, the first twenty."""
+    names = list(names)
+    return (", ".join(names[:20]) or "none") + (f" and {len(names) - 20} more" if len(names) > 20 else "")
+
+
+def sample_times(path: str, own: Configuration, samples: Samples) -> np.ndarray:
+    """The times of the samples in s from the first one: by the sampling rates, else by the time stamps."""
+    stamps = samples.stamps
+    if own.rates[0][0] == 0:
+        if own.why:
+            raise RecordError(f"{own.path}: {own.why}, and no sampling rate gives the times")
+        return times_by_stamps(path, own, samples, stamps)
+    times = times_by_rates(own.rates)
+    if not own.why:
+        off = stamps_off(times, stamps, own.unit)
+        if off > 1.0 / min(hertz for hertz, _ in own.rates) + own.unit:
+            tell(own.told, f"the time stamps are up to {off:g} s off those of the sampling rate: the rate counts")
+    if not math.isfinite(times[-1]) or len(times) > 1 and not times[-1] > times[-2]:
+        raise RecordError(f"{own.path}: line {own.rates_line}: the sampling rate is out of range")
+    return times
+
+
+def times_by_rates(rates: list[tuple[float, int]]) -> np.ndarray:
+    """Times by sampling rates, shape (samples,), s: a sample stands one period of its own rate behind the one before it."""
+    times = np.empty(rates[-1][1])
+    first, begin, ahead = 0, 0.0, 0  # ahead: the first sample stands at 0
+    for hertz, last in rates:
+        for at in range(first, last, BLOCK):
+            end = min(at + BLOCK, last)
+            with np.errstate(over="ignore"):
+                times[at:end] = begin + np.arange(at - first + ahead, end - first + ahead) / hertz
+        first, begin, ahead = last, times[last - 1], 1
+    return times
+
+
+def times_by_stamps(path: str, own: Configuration, samples: Samples, stamps: np.ndarray) -> np.ndarray:
+    """Times by time stamps, which wrap at 32 bits or ten digits: shape (samples,), s."""
+    first, before, added = stamps[0], stamps[0], 0.0
+    for at in range(0, len(stamps), BLOCK):
+        block = stamps[at : at + BLOCK]  # a view: it is changed in place
+        blank = np.flatnonzero(np.isnan(block))
+        if len(blank):
+            where = samples.where(at + blank[0])
+            raise RecordError(f"{path}: {where}: the time stamp is blank, and no sampling rate gives the time")
+        last = np.concatenate([[before], block[:-1]])
+        falls, span = block < last, np.where(last < 2.0**32, 2.0**32, 1e10)
+        odd = np.flatnonzero(falls & (last - block < span / 2))
+        if len(odd):
+            raise RecordError(f"{path}: {samples.where(at + odd[0])}: the time stamp is below the one before it")
+        if falls.any():
+            tell(own.told, f"the time stamps wrap at {span[falls][0]:.0f}")
+        if (block == last)[at == 0 :].any():
+            tell(own.told, "some samples have the time stamp of the one before")
+        before = block[-1]
+        wraps = added + np.cumsum(np.where(falls, span, 0.0))
+        added = wraps[-1]
+        block += wraps - first
+        block *= own.unit
+    return stamps
+
+
+def stamps_off(times: np.ndarray, stamps: np.ndarray, unit: float) -> float:
+    """How far time stamps (those that aren't blank) lie from the times, in s; whole wraps of 32 bits don't count."""
+    most = 0.0
+    for at in range(0, len(times), BLOCK):
+        off = (stamps[at : at + BLOCK] - stamps[0]) * unit - times[at : at + BLOCK]
+        off -= np.round(off / (2.0**32 * unit)) * (2.0**32 * unit)
+        off = np.abs(off[~np.isnan(off)])
+        most = max(most, off.max(initial=0.0))
+    return most

@@ -1,0 +1,282 @@
+"""The data (dat) of a COMTRADE record: its samples in each form, as they stand in the file.
+
+Nothing is believed before its bytes are there, and what is kept takes at most four times the bytes of the file.
+Source: IEEE C37.111 of 1991, 1999 and 2013.
+"""
+
+from __future__ import annotations
+
+import warnings
+from typing import BinaryIO, Iterator
+
+import numpy as np
+
+from .configuration import NUMBER, Configuration, RecordError, tell
+
+KINDS = {"BINARY": "<i2", "BINARY32": "<i4", "FLOAT32": "<f4"}
+MISSING = {"BINARY": -(2**15), "BINARY32": -(2**31)}  # raw values that say that there is none
+BLANK_STAMP = 0xFFFF_FFFF
+BLANK = -(2**31)  # a missing value among kept whole numbers
+PIECE = 1 << 20  # bytes of text that are read at a time
+PLAIN = b"0123456789,-+.eE \r\n"
+SHORT = 40  # bytes of a field that an error shows
+
+
+class Samples:
+    """What the data of a record holds.
+
+    `stamps`: shape (samples,), float64, in the record's unit of time stamps, nan where blank."""
+
+    stamps: np.ndarray
+
+    def raw(self, place: int) -> np.ndarray:
+        """Raw values of an analog channel, shape (samples,), float64, nan where missing."""
+        raise NotImplementedError
+
+    def state(self, place: int) -> np.ndarray:
+        """States of a status channel, shape (samples,), uint8, 0 or 1."""
+        raise NotImplementedError
+
+    def where(self, sample: int) -> str:
+        """The line or byte of the file at which a sample, counted from 0, stands."""
+        raise NotImplementedError
+
+
+def read_samples(configuration: Configuration, path: str, file: BinaryIO, start: int, size: int) -> Samples:
+    """The samples in the `size` bytes of an open file that begin at the byte `start`."""
+    file.seek(start)
+    made = (Text if configuration.form == "ASCII" else Binary)(configuration, path, file, start, size)
+    count, named = len(made.stamps), configuration.samples
+    if count != named:
+        raise RecordError(
+            f"{path}: {count} samples, and line {configuration.rates_line} of {configuration.path} names {named}: "
+            "one of them is cut, or of another record"
+        )
+    return made
+
+
+class Binary(Samples):
+    """Samples of the forms BINARY, BINARY32 and FLOAT32, kept as they stand in the file."""
+
+    def __init__(self, configuration: Configuration, path: str, file: BinaryIO, start: int, size: int):
+        analogs, states = configuration.analogs, configuration.states
+        kind = np.dtype(
+            [
+                ("number", "<u4"),
+                ("stamp", "<u4"),
+                ("analog", KINDS[configuration.form], (len(analogs),)),
+                ("status", "<u2", (-(-len(states) // 16),)),
+            ]
+        )
+        self.start, self.width, self.missing = start, kind.itemsize, MISSING.get(configuration.form)
+        if size % self.width:
+            raise RecordError(
+                f"{path}: byte {start + size - size % self.width + 1}: {size % self.width} bytes stand behind the last whole "
+                f"sample of {self.width} bytes: the file is cut, or has other channels than {configuration.path} names"
+            )
+        self.data = np.fromfile(file, kind, size // self.width)
+        if len(self.data) * self.width != size:
+            raise RecordError(f"{path}: the file became shorter while it was read")
+        numbers = self.data["number"]
+        if len(numbers) > 1 and not (np.diff(numbers) == 1).all():  # of 32 bits, as they wrap
+            tell(configuration.told, "the numbers of the samples don't rise by 1 throughout")
+        for place, channel in enumerate(analogs if configuration.form != "FLOAT32" else []):
+            if channel.low >= 0 and channel.high > -MISSING[configuration.form] - 1:
+                self.signed(place, f"{configuration.path}: line {channel.line}: {channel.name}", channel.high)
+
+    def signed(self, place: int, what: str, high: float) -> None:
+        """Refuses a channel whose range is that of numbers without sign, where some are below 0 by their sign."""
+        below = np.flatnonzero(self.data["analog"][:, place] < 0)
+        if len(below):
+            raise RecordError(
+                f"{what} ranges from 0 to {high:g}, and its raw value at {self.where(below[0])} of the data is below 0: "
+                "it may be without sign, which the standard doesn't have"
+            )
+
+    @property
+    def stamps(self) -> np.ndarray:
+        made = self.data["stamp"].astype(np.float64)
+        made[self.data["stamp"] == BLANK_STAMP] = np.nan
+        return made
+
+    def raw(self, place: int) -> np.ndarray:
+        column = self.data["analog"][:, place]
+        made = column.astype(np.float64)
+        made[~np.isfinite(column) if self.missing is None else column == self.missing] = np.nan
+        return made
+
+    def state(self, place: int) -> np.ndarray:
+        return (self.data["status"][:, place // 16] >> (place % 16) & 1).astype(np.uint8)
+
+    def where(self, sample: int) -> str:
+        return f"byte {self.start + int(sample) * self.width + 1}"
+
+
+class Text(Samples):
+    """Samples of the form ASCII: whole numbers of 32 bits, and floating ones where some aren't whole."""
+
+    def __init__(self, configuration: Configuration, path: str, file: BinaryIO, start: int, size: int):
+        self.path, self.told = path, configuration.told
+        self.analogs, self.fields = len(configuration.analogs), 2 + len(configuration.analogs) + len(
+            configuration.states
+        )
+        self.marks = np.array([missing_mark(configuration.revision, channel.high) for channel in configuration.analogs])
+        self.cfg = configuration.path
+        self.tables: list[np.ndarray] = []  # each (samples of a piece, analog channels)
+        self.bars: list[np.ndarray] = []  # each (samples of a piece, status channels), uint8
+        stamps: list[np.ndarray] = []
+        self.line = line_of(file, start)  # of the next line, from 1
+        self.last: float | None = None  # number of the last sample
+        for piece in self.pieces(file, size):
+            table = self.parsed(piece)
+            self.count(table[:, 0])
+            stamps.append(table[:, 1].copy())
+            values = table[:, 2 : 2 + self.analogs]
+            values[values == self.marks] = np.nan
+            self.tables.append(kept(values))
+            self.bars.append(table[:, 2 + self.analogs :].astype(np.uint8))
+        self.stamps = np.concatenate(stamps or [np.empty(0)])
+
+    def fault(self, line: int, cause: str) -> RecordError:
+        """An error at a line of the data."""
+        return RecordError(f"{self.path}: line {line}: {cause}")
+
+    def pieces(self, file: BinaryIO, size: int) -> Iterator[bytes]:
+        """The whole lines of the text, some at a time."""
+        left, rest, most = size, b"", PIECE + 40 * self.fields
+        while left:
+            read = file.read(min(PIECE, left))
+            if not read:
+                raise RecordError(f"{self.path}: the file became shorter while it was read")
+            left -= len(read)
+            text, mark, behind = (rest + read).partition(b"\x1a")
+            if mark and (left or behind.strip(b"\x1a \t\r\n\0")):
+                tell(self.told, f"what stands behind the end mark (0x1A) of {self.path} isn't read")
+            end = len(text) if mark else text.rfind(b"\n") + 1
+            if end:
+                yield text[:end]
+            rest = text[end:]
+            if mark:
+                return
+            if len(rest) > most:
+                raise self.fault(
+                    self.line, f"longer than {self.fields} fields can be, so this is no data of {self.cfg}"
+                )
+        if rest.strip(b" \t\r"):
+            raise self.fault(self.line, "it has no end, and no end mark (0x1A) stands behind it: the file is cut")
+
+    def parsed(self, piece: bytes) -> np.ndarray:
+        """The numbers of whole lines, shape (lines, fields), float64, nan where a field is blank."""
+        table = self.quickly(piece)
+        if table is None:
+            return self.carefully(piece)
+        self.line += len(table)
+        return table
+
+    def quickly(self, piece: bytes) -> np.ndarray | None:
+        """The numbers of lines of the usual form; None where there is any other line."""
+        if piece.translate(None, PLAIN) or not piece.endswith(b"\n"):
+            return None
+        codes = np.frombuffer(piece, np.uint8)
+        ends = np.flatnonzero((codes == ord(",")) | (codes == ord("\n")))
+        lines = piece.count(b"\n")
+        if len(ends) != lines * self.fields or not (codes[ends[self.fields - 1 :: self.fields]] == ord("\n")).all():
+            return None
+        plain = piece.replace(b"\r\n", b",").replace(b"\n", b",")
+        if b",," in plain:  # twice, as the comma behind a blank may stand before another one
+            plain = plain.replace(b",,", b",nan,").replace(b",,", b",nan,")
+        numbers = numbers_of(plain[:-1])
+        if numbers is None or len(numbers) != len(ends) or np.isinf(numbers).any():
+            return None
+        table = numbers.reshape(lines, self.fields)
+        bars = table[:, 2 + self.analogs :]
+        return table if ((bars == 0) | (bars == 1)).all() else None
+
+    def carefully(self, piece: bytes) -> np.ndarray:
+        """The numbers of any lines, each judged: the first that is none of this record is an error."""
+        rows = []
+        for line in piece.splitlines():
+            if line.strip():
+                rows.append(self.row(line))
+            else:
+                tell(self.told, f"{self.path} has blank lines")
+            self.line += 1
+        return np.array(rows, np.float64).reshape(len(rows), self.fields)
+
+    def row(self, line: bytes) -> list[float]:
+        """The numbers of one line, nan where a field is blank."""
+        words = line.decode("latin-1").split(",")
+        if len(words) != self.fields:
+            raise self.fault(self.line, f"{len(words)} fields, and {self.cfg} asks for {self.fields}")
+        numbers = []
+        for place, word in enumerate(words, 1):
+            word = word.strip()
+            value = float(word) if NUMBER.fullmatch(word) else np.nan
+            if word and (np.isinf(value) or np.isnan(value) and word.lower() != "nan"):
+                raise self.fault(self.line, f"field {place} is no number: {word[:SHORT]!r}")
+            if place > 2 + self.analogs and value not in (0, 1):
+                raise self.fault(self.line, f"field {place} is no state, 0 or 1: {word[:SHORT]!r}")
+            numbers.append(value)
+        return numbers
+
+    def count(self, numbers: np.ndarray) -> None:
+        """Tells where the numbers of samples don't rise by 1; after the greatest of 32 bits or ten digits 0 or 1 follows."""
+        if not len(numbers):
+            return
+        before = np.concatenate([[numbers[0] - 1 if self.last is None else self.last], numbers[:-1]])
+        wraps = (numbers <= 1) & ((before == 2.0**32 - 1) | (before == 1e10 - 1))
+        if not ((numbers == before + 1) | wraps).all():
+            tell(self.told, "the numbers of the samples don't rise by 1 throughout")
+        self.last = numbers[-1]
+
+    def raw(self, place: int) -> np.ndarray:
+        columns = [table[:, place] for table in self.tables]
+        made = np.concatenate(columns).astype(np.float64)
+        whole = np.repeat([column.dtype == np.int32 for column in columns], [len(column) for column in columns])
+        made[whole & (made == BLANK)] = np.nan
+        return made
+
+    def state(self, place: int) -> np.ndarray:
+        return np.concatenate([bar[:, place] for bar in self.bars])
+
+    def where(self, sample: int) -> str:
+        return f"sample {int(sample) + 1}"
+
+
+def missing_mark(revision: int, high: float) -> float:
+    """The raw value that says in an ASCII file that there is none; nan where a channel of 2013 ranges beyond it."""
+    if revision == 1991:
+        return 999_999.0
+    return np.nan if revision == 2013 and high > 99_999 else 99_999.0
+
+
+def kept(values: np.ndarray) -> np.ndarray:
+    """The values as whole numbers of 32 bits (`BLANK` where missing), or as they are where one isn't."""
+    missing = np.isnan(values)
+    filled = np.where(missing, BLANK, values)
+    with np.errstate(invalid="ignore"):
+        whole = filled.astype(np.int32)
+    fits = (whole == filled) & (missing | (whole != BLANK))
+    return whole if fits.all() else values.copy()
+
+
+def numbers_of(text: bytes) -> np.ndarray | None:
+    """The numbers between commas; None where something else stands there."""
+    with warnings.catch_warnings():
+        warnings.simplefilter("error", DeprecationWarning)  # of a text that is no list of numbers
+        try:
+            return np.fromstring(text, np.float64, sep=" , ")
+        except (DeprecationWarning, ValueError):
+            return None
+
+
+def line_of(file: BinaryIO, place: int) -> int:
+    """The line of a file, from 1, on which a byte stands; the file is at this byte then."""
+    file.seek(0)
+    line, left = 1, place
+    while left:
+        read = file.read(min(PIECE, left))
+        line, left = line + read.count(b"\n"), left - len(read)
+        if not read:
+            break
+    return line
