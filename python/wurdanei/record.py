@@ -293,14 +293,13 @@ def listed(names: Iterable[str]) -> str:
 
 def sample_times(path: str, own: Configuration, samples: Samples) -> np.ndarray:
     """The times of the samples in s from the first one: by the sampling rates, else by the time stamps."""
-    stamps = samples.stamps
     if own.rates[0][0] == 0:
         if own.why:
             raise RecordError(f"{own.path}: {own.why}, and no sampling rate gives the times")
-        return times_by_stamps(path, own, samples, stamps)
+        return times_by_stamps(path, own, samples)
     times = times_by_rates(own.rates)
     if not own.why:
-        off = stamps_off(times, stamps, own.unit)
+        off = stamps_off(times, samples, own.unit)
         if off > 1.0 / min(hertz for hertz, _ in own.rates) + own.unit:
             tell(own.told, f"the time stamps are up to {off:g} s off those of the sampling rate: the rate counts")
     if not math.isfinite(times[-1]) or len(times) > 1 and not times[-1] > times[-2]:
@@ -321,15 +320,17 @@ def times_by_rates(rates: list[tuple[float, int]]) -> np.ndarray:
     return times
 
 
-def times_by_stamps(path: str, own: Configuration, samples: Samples, stamps: np.ndarray) -> np.ndarray:
+def times_by_stamps(path: str, own: Configuration, samples: Samples) -> np.ndarray:
     """Times by time stamps, which wrap at 32 bits or ten digits: shape (samples,), s."""
-    first, before, added = stamps[0], stamps[0], 0.0
-    for at in range(0, len(stamps), BLOCK):
-        block = stamps[at : at + BLOCK]  # a view: it is changed in place
+    times = np.empty(samples.count)
+    at, first, before, added = 0, math.nan, math.nan, 0.0
+    for block in samples.stamps():
         blank = np.flatnonzero(np.isnan(block))
         if len(blank):
             where = samples.where(at + blank[0])
             raise RecordError(f"{path}: {where}: the time stamp is blank, and no sampling rate gives the time")
+        if at == 0:
+            first = before = block[0]
         last = np.concatenate([[before], block[:-1]])
         falls, span = block < last, np.where(last < 2.0**32, 2.0**32, 1e10)
         odd = np.flatnonzero(falls & (last - block < span / 2))
@@ -339,20 +340,21 @@ def times_by_stamps(path: str, own: Configuration, samples: Samples, stamps: np.
             tell(own.told, f"the time stamps wrap at {span[falls][0]:.0f}")
         if (block == last)[at == 0 :].any():
             tell(own.told, "some samples have the time stamp of the one before")
-        before = block[-1]
         wraps = added + np.cumsum(np.where(falls, span, 0.0))
-        added = wraps[-1]
-        block += wraps - first
-        block *= own.unit
-    return stamps
+        times[at : at + len(block)] = (block + wraps - first) * own.unit
+        at, before, added = at + len(block), block[-1], wraps[-1]
+    if not math.isfinite(times[-1]):
+        raise RecordError(f"{path}: the time stamps leave the range of numbers")
+    return times
 
 
-def stamps_off(times: np.ndarray, stamps: np.ndarray, unit: float) -> float:
+def stamps_off(times: np.ndarray, samples: Samples, unit: float) -> float:
     """How far time stamps (those that aren't blank) lie from the times, in s; whole wraps of 32 bits don't count."""
-    most = 0.0
-    for at in range(0, len(times), BLOCK):
-        off = (stamps[at : at + BLOCK] - stamps[0]) * unit - times[at : at + BLOCK]
+    most, at, first = 0.0, 0, math.nan
+    for block in samples.stamps():
+        first = block[0] if at == 0 else first
+        off = (block - first) * unit - times[at : at + len(block)]
         off -= np.round(off / (2.0**32 * unit)) * (2.0**32 * unit)
-        off = np.abs(off[~np.isnan(off)])
-        most = max(most, off.max(initial=0.0))
+        most = max(most, np.abs(off[~np.isnan(off)]).max(initial=0.0))
+        at += len(block)
     return most

@@ -18,16 +18,19 @@ MISSING = {"BINARY": -(2**15), "BINARY32": -(2**31)}  # raw values that say that
 BLANK_STAMP = 0xFFFF_FFFF
 BLANK = -(2**31)  # a missing value among kept whole numbers
 PIECE = 1 << 20  # bytes of text that are read at a time
+BLOCK = 1 << 16  # time stamps at a time, of the binary forms
 PLAIN = b"0123456789,-+.eE \r\n"
 SHORT = 40  # bytes of a field that an error shows
 
 
 class Samples:
-    """What the data of a record holds.
+    """What the data of a record holds: `count` samples."""
 
-    `stamps`: shape (samples,), float64, in the record's unit of time stamps, nan where blank."""
+    count: int
 
-    stamps: np.ndarray
+    def stamps(self) -> Iterator[np.ndarray]:
+        """The time stamps, some at a time and once: shape (some samples,), float64, in the record's unit, nan where blank."""
+        raise NotImplementedError
 
     def raw(self, place: int) -> np.ndarray:
         """Raw values of an analog channel, shape (samples,), float64, nan where missing."""
@@ -46,10 +49,10 @@ def read_samples(configuration: Configuration, path: str, file: BinaryIO, start:
     """The samples in the `size` bytes of an open file that begin at the byte `start`."""
     file.seek(start)
     made = (Text if configuration.form == "ASCII" else Binary)(configuration, path, file, start, size)
-    count, named = len(made.stamps), configuration.samples
-    if count != named:
+    named = configuration.samples
+    if made.count != named:
         raise RecordError(
-            f"{path}: {count} samples, and line {configuration.rates_line} of {configuration.path} names {named}: "
+            f"{path}: {made.count} samples, and line {configuration.rates_line} of {configuration.path} names {named}: "
             "one of them is cut, or of another record"
         )
     return made
@@ -75,7 +78,8 @@ class Binary(Samples):
                 f"sample of {self.width} bytes: the file is cut, or has other channels than {configuration.path} names"
             )
         self.data = np.fromfile(file, kind, size // self.width)
-        if len(self.data) * self.width != size:
+        self.count = len(self.data)
+        if self.count * self.width != size:
             raise RecordError(f"{path}: the file became shorter while it was read")
         numbers = self.data["number"]
         if len(numbers) > 1 and not (np.diff(numbers) == 1).all():  # of 32 bits, as they wrap
@@ -93,11 +97,12 @@ class Binary(Samples):
                 "it may be without sign, which the standard doesn't have"
             )
 
-    @property
-    def stamps(self) -> np.ndarray:
-        made = self.data["stamp"].astype(np.float64)
-        made[self.data["stamp"] == BLANK_STAMP] = np.nan
-        return made
+    def stamps(self) -> Iterator[np.ndarray]:
+        for at in range(0, self.count, BLOCK):
+            block = self.data["stamp"][at : at + BLOCK]
+            made = block.astype(np.float64)
+            made[block == BLANK_STAMP] = np.nan
+            yield made
 
     def raw(self, place: int) -> np.ndarray:
         column = self.data["analog"][:, place]
@@ -124,18 +129,18 @@ class Text(Samples):
         self.cfg = configuration.path
         self.tables: list[np.ndarray] = []  # each (samples of a piece, analog channels)
         self.bars: list[np.ndarray] = []  # each (samples of a piece, status channels), uint8
-        stamps: list[np.ndarray] = []
+        self.stamp_pieces: list[np.ndarray] = []
         self.line = line_of(file, start)  # of the next line, from 1
         self.last: float | None = None  # number of the last sample
         for piece in self.pieces(file, size):
             table = self.parsed(piece)
             self.count(table[:, 0])
-            stamps.append(table[:, 1].copy())
+            self.stamp_pieces.append(kept(table[:, 1]))
             values = table[:, 2 : 2 + self.analogs]
             values[values == self.marks] = np.nan
             self.tables.append(kept(values))
             self.bars.append(table[:, 2 + self.analogs :].astype(np.uint8))
-        self.stamps = np.concatenate(stamps or [np.empty(0)])
+        self.count = sum(len(piece) for piece in self.stamp_pieces)
 
     def fault(self, line: int, cause: str) -> RecordError:
         """An error at a line of the data."""
@@ -183,6 +188,8 @@ class Text(Samples):
         if len(ends) != lines * self.fields or not (codes[ends[self.fields - 1 :: self.fields]] == ord("\n")).all():
             return None
         plain = piece.replace(b"\r\n", b",").replace(b"\n", b",")
+        if b"\r" in plain:
+            return None
         if b",," in plain:  # twice, as the comma behind a blank may stand before another one
             plain = plain.replace(b",,", b",nan,").replace(b",,", b",nan,")
         numbers = numbers_of(plain[:-1])
@@ -190,7 +197,8 @@ class Text(Samples):
             return None
         table = numbers.reshape(lines, self.fields)
         bars = table[:, 2 + self.analogs :]
-        return table if ((bars == 0) | (bars == 1)).all() else None
+        usual = ((bars == 0) | (bars == 1)).all() and not np.isnan(table[:, 0]).any()
+        return table if usual else None
 
     def carefully(self, piece: bytes) -> np.ndarray:
         """The numbers of any lines, each judged: the first that is none of this record is an error."""
@@ -212,6 +220,8 @@ class Text(Samples):
         for place, word in enumerate(words, 1):
             word = word.strip()
             value = float(word) if NUMBER.fullmatch(word) else np.nan
+            if place == 1 and not word:
+                raise self.fault(self.line, "the number of the sample is blank")
             if word and (np.isinf(value) or np.isnan(value) and word.lower() != "nan"):
                 raise self.fault(self.line, f"field {place} is no number: {word[:SHORT]!r}")
             if place > 2 + self.analogs and value not in (0, 1):
@@ -229,11 +239,15 @@ class Text(Samples):
             tell(self.told, "the numbers of the samples don't rise by 1 throughout")
         self.last = numbers[-1]
 
+    def stamps(self) -> Iterator[np.ndarray]:
+        while self.stamp_pieces:
+            yield as_kept(self.stamp_pieces.pop(0))
+
     def raw(self, place: int) -> np.ndarray:
-        columns = [table[:, place] for table in self.tables]
-        made = np.concatenate(columns).astype(np.float64)
-        whole = np.repeat([column.dtype == np.int32 for column in columns], [len(column) for column in columns])
-        made[whole & (made == BLANK)] = np.nan
+        made, at = np.empty(self.count), 0
+        for table in self.tables:
+            made[at : at + len(table)] = as_kept(table[:, place])
+            at += len(table)
         return made
 
     def state(self, place: int) -> np.ndarray:
@@ -258,6 +272,14 @@ def kept(values: np.ndarray) -> np.ndarray:
         whole = filled.astype(np.int32)
     fits = (whole == filled) & (missing | (whole != BLANK))
     return whole if fits.all() else values.copy()
+
+
+def as_kept(values: np.ndarray) -> np.ndarray:
+    """What `kept` kept, float64, nan where missing."""
+    made = values.astype(np.float64)
+    if values.dtype == np.int32:
+        made[values == BLANK] = np.nan
+    return made
 
 
 def numbers_of(text: bytes) -> np.ndarray | None:
