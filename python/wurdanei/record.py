@@ -137,6 +137,8 @@ def read(path: str | os.PathLike, dat: str | os.PathLike | None = None) -> Recor
                     raise RecordError(f"{path}: it has its data in itself (cff), and {os.fspath(dat)} is named as well")
                 configuration, start, size = read_sections(path, file)
                 return made(path, configuration, read_samples(configuration, path, file, start, size))
+            if path.lower().endswith(".dat"):
+                raise RecordError(f"{path}: this is the data; name the configuration ({os.path.splitext(path)[0]}.cfg)")
             file.seek(0)
             configuration = read_configuration(path, file.read())
         data = os.fspath(dat) if dat is not None else data_beside(path)
@@ -162,8 +164,6 @@ def opened(path: str) -> BinaryIO:
 def data_beside(path: str) -> str:
     """The dat of a cfg: of the same name but for its ending, in any case of letters."""
     stem, ending = os.path.splitext(path)
-    if ending.lower() == ".dat":
-        raise RecordError(f"{path}: this is the data; name the configuration ({stem}.cfg)")
     folder, base = os.path.split(stem)
     exact = [base + (".DAT" if ending.isupper() else ".dat"), base + ".dat", base + ".DAT"]
     there = sorted(name for name in os.listdir(folder or ".") if name.lower() == base.lower() + ".dat")
@@ -234,7 +234,7 @@ def read_sections(path: str, file: BinaryIO) -> tuple[Configuration, int, int]:
 def made(path: str, own: Configuration, samples: Samples) -> Record:
     """The record of a configuration and its samples."""
     told = own.told
-    times = sample_times(path, own, samples)
+    times = sample_times(own, samples)
     names = distinct([channel.name or f"analog {at}" for at, channel in enumerate(own.analogs, 1)], set(), told)
     bars = distinct([bar.name or f"status {at}" for at, bar in enumerate(own.states, 1)], set(names), told)
     trigger = math.nan
@@ -291,12 +291,12 @@ def listed(names: Iterable[str]) -> str:
     return (", ".join(names[:20]) or "none") + (f" and {len(names) - 20} more" if len(names) > 20 else "")
 
 
-def sample_times(path: str, own: Configuration, samples: Samples) -> np.ndarray:
+def sample_times(own: Configuration, samples: Samples) -> np.ndarray:
     """The times of the samples in s from the first one: by the sampling rates, else by the time stamps."""
     if own.rates[0][0] == 0:
         if own.why:
             raise RecordError(f"{own.path}: {own.why}, and no sampling rate gives the times")
-        return times_by_stamps(path, own, samples)
+        return times_by_stamps(own, samples)
     times = times_by_rates(own.rates)
     if not own.why:
         off = stamps_off(times, samples, own.unit)
@@ -320,7 +320,7 @@ def times_by_rates(rates: list[tuple[float, int]]) -> np.ndarray:
     return times
 
 
-def times_by_stamps(path: str, own: Configuration, samples: Samples) -> np.ndarray:
+def times_by_stamps(own: Configuration, samples: Samples) -> np.ndarray:
     """Times by time stamps, which wrap at 32 bits or ten digits: shape (samples,), s."""
     times = np.empty(samples.count)
     at, first, before, added = 0, math.nan, math.nan, 0.0
@@ -328,23 +328,24 @@ def times_by_stamps(path: str, own: Configuration, samples: Samples) -> np.ndarr
         blank = np.flatnonzero(np.isnan(block))
         if len(blank):
             where = samples.where(at + blank[0])
-            raise RecordError(f"{path}: {where}: the time stamp is blank, and no sampling rate gives the time")
+            raise RecordError(f"{where}: the time stamp is blank, and no sampling rate gives the time")
         if at == 0:
             first = before = block[0]
         last = np.concatenate([[before], block[:-1]])
         falls, span = block < last, np.where(last < 2.0**32, 2.0**32, 1e10)
         odd = np.flatnonzero(falls & (last - block < span / 2))
         if len(odd):
-            raise RecordError(f"{path}: {samples.where(at + odd[0])}: the time stamp is below the one before it")
+            raise RecordError(f"{samples.where(at + odd[0])}: the time stamp is below the one before it")
         if falls.any():
             tell(own.told, f"the time stamps wrap at {span[falls][0]:.0f}")
         if (block == last)[at == 0 :].any():
             tell(own.told, "some samples have the time stamp of the one before")
         wraps = added + np.cumsum(np.where(falls, span, 0.0))
-        times[at : at + len(block)] = (block + wraps - first) * own.unit
+        with np.errstate(over="ignore", invalid="ignore"):
+            times[at : at + len(block)] = (block + wraps - first) * own.unit
         at, before, added = at + len(block), block[-1], wraps[-1]
     if not math.isfinite(times[-1]):
-        raise RecordError(f"{path}: the time stamps leave the range of numbers")
+        raise RecordError(f"{samples.where(len(times) - 1)}: the time stamps leave the range of numbers")
     return times
 
 
@@ -353,8 +354,9 @@ def stamps_off(times: np.ndarray, samples: Samples, unit: float) -> float:
     most, at, first = 0.0, 0, math.nan
     for block in samples.stamps():
         first = block[0] if at == 0 else first
-        off = (block - first) * unit - times[at : at + len(block)]
-        off -= np.round(off / (2.0**32 * unit)) * (2.0**32 * unit)
+        with np.errstate(over="ignore", invalid="ignore"):
+            off = (block - first) * unit - times[at : at + len(block)]
+            off -= np.round(off / (2.0**32 * unit)) * (2.0**32 * unit)
         most = max(most, np.abs(off[~np.isnan(off)]).max(initial=0.0))
         at += len(block)
     return most

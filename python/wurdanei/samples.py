@@ -41,7 +41,7 @@ class Samples:
         raise NotImplementedError
 
     def where(self, sample: int) -> str:
-        """The line or byte of the file at which a sample, counted from 0, stands."""
+        """The file, and its line or byte at which a sample, counted from 0, stands."""
         raise NotImplementedError
 
 
@@ -71,7 +71,7 @@ class Binary(Samples):
                 ("status", "<u2", (-(-len(states) // 16),)),
             ]
         )
-        self.start, self.width, self.missing = start, kind.itemsize, MISSING.get(configuration.form)
+        self.path, self.start, self.width, self.missing = path, start, kind.itemsize, MISSING.get(configuration.form)
         if size % self.width:
             raise RecordError(
                 f"{path}: byte {start + size - size % self.width + 1}: {size % self.width} bytes stand behind the last whole "
@@ -93,7 +93,7 @@ class Binary(Samples):
         below = np.flatnonzero(self.data["analog"][:, place] < 0)
         if len(below):
             raise RecordError(
-                f"{what} ranges from 0 to {high:g}, and its raw value at {self.where(below[0])} of the data is below 0: "
+                f"{what} ranges from 0 to {high:g}, and its raw value in the sample at {self.where(below[0])} is below 0: "
                 "it may be without sign, which the standard doesn't have"
             )
 
@@ -106,7 +106,8 @@ class Binary(Samples):
 
     def raw(self, place: int) -> np.ndarray:
         column = self.data["analog"][:, place]
-        made = column.astype(np.float64)
+        with np.errstate(invalid="ignore"):  # of a nan that signals
+            made = column.astype(np.float64)
         made[~np.isfinite(column) if self.missing is None else column == self.missing] = np.nan
         return made
 
@@ -114,7 +115,7 @@ class Binary(Samples):
         return (self.data["status"][:, place // 16] >> (place % 16) & 1).astype(np.uint8)
 
     def where(self, sample: int) -> str:
-        return f"byte {self.start + int(sample) * self.width + 1}"
+        return f"{self.path}: byte {self.start + int(sample) * self.width + 1}"
 
 
 class Text(Samples):
@@ -130,7 +131,8 @@ class Text(Samples):
         self.tables: list[np.ndarray] = []  # each (samples of a piece, analog channels)
         self.bars: list[np.ndarray] = []  # each (samples of a piece, status channels), uint8
         self.stamp_pieces: list[np.ndarray] = []
-        self.line = line_of(file, start)  # of the next line, from 1
+        self.line = self.first_line = line_of(file, start)  # number of the next line, from 1
+        self.blank_lines = False
         self.last: float | None = None  # number of the last sample
         for piece in self.pieces(file, size):
             table = self.parsed(piece)
@@ -207,6 +209,7 @@ class Text(Samples):
             if line.strip():
                 rows.append(self.row(line))
             else:
+                self.blank_lines = True
                 tell(self.told, f"{self.path} has blank lines")
             self.line += 1
         return np.array(rows, np.float64).reshape(len(rows), self.fields)
@@ -254,7 +257,9 @@ class Text(Samples):
         return np.concatenate([bar[:, place] for bar in self.bars])
 
     def where(self, sample: int) -> str:
-        return f"sample {int(sample) + 1}"
+        if self.blank_lines:
+            return f"{self.path}: sample {int(sample) + 1}"
+        return f"{self.path}: line {self.first_line + int(sample)}"
 
 
 def missing_mark(revision: int, high: float) -> float:
