@@ -190,9 +190,7 @@ class Kinds(Folder):
             )
         )
         np.testing.assert_allclose(record.times, [0.0, 1e-6, 3e-6], atol=1e-15)
-        self.assertEqual(
-            [words for words in record.told if "secondary" not in words], ["the time stamps wrap at 10000000000"]
-        )
+        self.assertIn("the time stamps wrap at 10000000000", record.told)
 
     def test_many_states(self):
         bars = [(f"B{bit}", lambda time, bit=bit: (int(time * 4800) >> bit) & 1) for bit in range(19)]

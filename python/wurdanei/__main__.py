@@ -26,9 +26,6 @@ def main(words: list[str]) -> int:
     if not words or words[0] not in COMMANDS:
         print(usage(), file=sys.stderr)
         return 2
-    for stream in (sys.stdout, sys.stderr):
-        if stream:
-            stream.reconfigure(errors="backslashreplace")
     module = importlib.import_module("." + COMMANDS[words[0]][0], __package__)
     from .configuration import RecordError
 
@@ -54,7 +51,10 @@ def main(words: list[str]) -> int:
 
 
 def entry() -> None:
-    """The script that an installed package has."""
+    """The package as a program; names of another alphabet than the terminal's are printed all the same."""
+    for stream in (sys.stdout, sys.stderr):
+        if stream:
+            stream.reconfigure(errors="backslashreplace")
     sys.exit(main(sys.argv[1:]))
 
 
