@@ -13,3 +13,5 @@ pub mod ControlNames
 pub mod DevicePoints
 pub mod ControlSounding
 pub mod ControlLines
+pub mod ReadingSteps
+pub mod ReadingsTell

@@ -4,6 +4,7 @@ pub mod LineRead
 pub mod Coefficients
 pub mod ControlSteps
 pub mod Walk
+pub mod Readings
 -- what laws say
 pub mod Laws
 -- what values hold for their proofs

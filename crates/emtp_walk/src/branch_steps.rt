@@ -79,7 +79,7 @@ fn is_phase(kind: &Result<BranchKind, Why>) -> bool
     matches!(kind, Ok(BranchKind::Second | BranchKind::Third))
 }
 
-fn is_second(kind: &Result<BranchKind, Why>) -> bool
+pub(crate) fn is_second(kind: &Result<BranchKind, Why>) -> bool
     ensures { result ≡ is_second kind.now }
 {
     matches!(kind, Ok(BranchKind::Second))
@@ -257,7 +257,7 @@ pub(crate) fn point_step(deck: &mut Deck, line: &Line<'_>, group: &Group) -> Res
     }
 }
 
-fn scale_of(group: &Group) -> PointScale
+pub(crate) fn scale_of(group: &Group) -> PointScale
     ensures { result ≡ scale_of group.now }
 {
     match group.card.values {

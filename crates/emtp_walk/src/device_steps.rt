@@ -93,7 +93,7 @@ fn keep_extra(deck: &mut Deck, entry: ExtraEntry) -> Result<Place, Refused>
 }
 
 /// What the cards after a device hold.
-fn device_scale(code: DeviceCode) -> PointScale
+pub(crate) fn device_scale(code: DeviceCode) -> PointScale
     ensures { result ≡ device_scale code }
 {
     match code {

@@ -2,7 +2,7 @@
 
 ghost use Rattle.std.specs.Prelude.{◌≡◌, ◌+◌, ℕ, List, length, map, Ok};
 ghost use Rattle.emtp_card.specs.Field.{without_trailing};
-ghost use Rattle.emtp_walk.specs.Laws.{AreAlike, Rises, card_lines};
+ghost use Rattle.emtp_walk.specs.Laws.{AreAlike, AreRead, Rises, card_lines};
 ghost use Rattle.emtp_walk.specs.Walk.{empty_deck, walk};
 ghost use Rattle.emtp_walk.specs.declared.deck.Deck.{Deck};
 ghost use Rattle.emtp_walk.specs.declared.deck.Place.{Place as Places};
@@ -26,4 +26,11 @@ pub fn walk_skips_blanks_at_ends()
 /// deck judges their sense in this order, so the first card that has a fault is the one with the least line.
 pub fn cards_stand_in_order()
     ensures { (lines : List (List ℕ)) (deck : Deck) (place : Places) → walk 1 empty_deck Begin lines ≡ Ok (deck, place) → Rises (deck.second + 1) (card_lines deck place) (length lines + 1) }
+{}
+
+/// Where no line has a fault of form, the cards of the deck are those of the lines that are read so, in their order: its
+/// blocks, sources, supplemental cards and outputs of the control, its branches, switches, sources and outputs, those that
+/// wait for the cards behind them too. There is one reading more than lines, for what is due behind the last.
+pub fn readings_tell_the_cards()
+    ensures { (lines : List (List ℕ)) (deck : Deck) (place : Places) → walk 1 empty_deck Begin lines ≡ Ok (deck, place) → AreRead lines deck place }
 {}

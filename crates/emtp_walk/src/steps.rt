@@ -52,7 +52,12 @@ fn take_lines(alloc: Global, deck: &mut Deck, cards: &Cards<'_>) -> Result<Place
 }
 
 /// Takes the next line; comments are skipped.
-fn advance(alloc: Global, deck: &mut Deck, place: Place, line: &Line<'_>) -> Result<Place, Refused>
+pub(crate) fn advance(
+    alloc: Global,
+    deck: &mut Deck,
+    place: Place,
+    line: &Line<'_>,
+) -> Result<Place, Refused>
     requires short { length line.now.bytes.now ≤ MAX_BYTES }
     requires sound { IsSound deck.old place }
     ensures value { Leaves result (advance deck.old place line.now.number line.now.bytes.now) deck.new }
