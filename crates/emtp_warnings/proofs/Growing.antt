@@ -1,6 +1,7 @@
 -- One column, one record, one line more.
-use Rattle.std.proofs.Common.{◌≡◌, ◌++◌, ◌∙◌, ◌+◌, sym, ap, refl, List, ◌∷◌, ℕ, suc, append_assoc, take, drop, add-one, drop-cons}
+use Rattle.std.proofs.Common.{◌≡◌, ◌++◌, ◌∙◌, ◌+◌, ◌≤◌, ◌⊎◌, inl, inr, min, length, arith, sym, ap, refl, List, [], ◌∷◌, ℕ, zero, suc, append_assoc, take, drop, add-one, drop-cons}
 use Rattle.std.specs.Prelude.{Bool, Option, Some, slice_get}
+use Rattle.std.proofs.lemmas.List.{drop_all}
 use Rattle.std.proofs.lemmas.Option.{slice_get_within, get_or_from_slice_get}
 use Rattle.emtp_case.specs.Branch.{from_of, line_of, to_of}
 use Rattle.emtp_case.specs.declared.branch.Branch.{Branch}
@@ -10,12 +11,11 @@ use Rattle.emtp_warnings.specs.AddsTo.{AddsTo}
 use Rattle.emtp_warnings.specs.ColumnWarnings.{at_column, run_to, run_with, up_to_column}
 use Rattle.emtp_warnings.specs.Finding.{when}
 use Rattle.emtp_warnings.specs.RecordWarnings.{branch_warnings, travel_time_of, ends_warnings, is_short}
-use Rattle.emtp_warnings.specs.Section.{next_section}
 use Rattle.emtp_warnings.specs.Warnings.{count_on, line_warnings, warnings_from}
 use Rattle.emtp_warnings.specs.declared.finding.Finding.TheVariants.{ShortTravel}
 use Rattle.emtp_warnings.specs.declared.finding.Spot.TheVariants.{Line as OfTheLine}
 use Rattle.emtp_warnings.specs.declared.finding.Warning.{Warning}
-use Rattle.emtp_warnings.specs.declared.section.Section.{Section}
+use Rattle.emtp_walk.specs.declared.kind.LineReading.{LineReading}
 
 -- ---- columns
 
@@ -55,30 +55,63 @@ drop_next xs at x h =
     rw (add-one) (drop-cons xs at x (slice_get_within xs at x h) ∙ ap (λ y. y ∷ drop (suc at) xs) (get_or_from_slice_get xs at x x h))
 
 -- what is left from a line on: what is on this line, and what is left behind it
-turn : (cards : List (List ℕ)) (at : ℕ) (line : List ℕ) (section : Section) (rest out whole : List Warning) → slice_get cards at ≡ Some line
-    → out ++ warnings_from (at + 1) section (drop at cards) rest ≡ whole
-    → ((out ++ line_warnings (at + 1) section line) ++ take (count_on (at + 1) rest) rest)
-    ++ warnings_from (at + 1 + 1) (next_section (at + 1) line section) (drop (at + 1) cards) (drop (count_on (at + 1) rest) rest) ≡ whole
-turn cards at line section rest out whole found h =
-    let here = line_warnings (at + 1) section line in
+turn : (readings : List LineReading) (cards : List (List ℕ)) (at : ℕ) (kind : LineReading) (line : List ℕ) (rest out whole : List Warning) → slice_get readings at ≡ Some kind → slice_get cards at ≡ Some line
+    → out ++ warnings_from (at + 1) (drop at readings) (drop at cards) rest ≡ whole
+    → ((out ++ line_warnings (at + 1) kind.kind line) ++ take (count_on (at + 1) rest) rest)
+    ++ warnings_from (at + 1 + 1) (drop (at + 1) readings) (drop (at + 1) cards) (drop (count_on (at + 1) rest) rest) ≡ whole
+turn readings cards at kind line rest out whole read found h =
+    let here = line_warnings (at + 1) kind.kind line in
     let records = take (count_on (at + 1) rest) rest in
-    let behind = warnings_from (at + 1 + 1) (next_section (at + 1) line section) (drop (at + 1) cards) (drop (count_on (at + 1) rest) rest) in
+    let behind = warnings_from (at + 1 + 1) (drop (at + 1) readings) (drop (at + 1) cards) (drop (count_on (at + 1) rest) rest) in
     append_assoc (out ++ here) records behind
     ∙ append_assoc out here (records ++ behind)
-    ∙ sym (ap (λ (lines : List (List ℕ)). out ++ warnings_from (at + 1) section lines rest) (drop_next cards at line found))
+    ∙ sym (ap (λ (lines : List (List ℕ)). out ++ warnings_from (at + 1) (kind ∷ drop (at + 1) readings) lines rest) (drop_next cards at line found))
+    ∙ sym (ap (λ (ks : List LineReading). out ++ warnings_from (at + 1) ks (drop at cards) rest) (drop_next readings at kind read))
     ∙ h
 
-pub line-more : (cards : List (List ℕ)) (at count : ℕ) (line : List ℕ) (section next : Section) (rest front back out mid new whole : List Warning)
-    → slice_get cards at ≡ Some line → count ≡ count_on (at + 1) rest → front ≡ take count rest → back ≡ drop count rest → next ≡ next_section (at + 1) line section
-    → out ++ warnings_from (at + 1) section (drop at cards) rest ≡ whole
-    → AddsTo out (line_warnings (at + 1) section line) mid → new ≡ mid ++ front
-    → new ++ warnings_from (at + 1 + 1) next (drop (at + 1) cards) back ≡ whole
-line-more cards at count line section next rest front back out mid new whole found counted is_front is_back is_next h added is_new =
-    let here = line_warnings (at + 1) section line in
+pub line-more : (readings : List LineReading) (cards : List (List ℕ)) (at count : ℕ) (kind : LineReading) (line : List ℕ) (rest front back out mid new whole : List Warning)
+    → slice_get readings at ≡ Some kind → slice_get cards at ≡ Some line → count ≡ count_on (at + 1) rest → front ≡ take count rest → back ≡ drop count rest
+    → out ++ warnings_from (at + 1) (drop at readings) (drop at cards) rest ≡ whole
+    → AddsTo out (line_warnings (at + 1) kind.kind line) mid → new ≡ mid ++ front
+    → new ++ warnings_from (at + 1 + 1) (drop (at + 1) readings) (drop (at + 1) cards) back ≡ whole
+line-more readings cards at count kind line rest front back out mid new whole read found counted is_front is_back h added is_new =
+    let here = line_warnings (at + 1) kind.kind line in
     let front' : front ≡ take (count_on (at + 1) rest) rest = is_front ∙ ap (λ (n : ℕ). take n rest) counted in
     let back' : back ≡ drop (count_on (at + 1) rest) rest = is_back ∙ ap (λ (n : ℕ). drop n rest) counted in
     let new' : new ≡ (out ++ here) ++ take (count_on (at + 1) rest) rest = is_new ∙ ap (λ (t : List Warning). t ++ front) added.is ∙ ap (λ (t : List Warning). (out ++ here) ++ t) front' in
-    ap (λ (t : List Warning). t ++ warnings_from (at + 1 + 1) next (drop (at + 1) cards) back) new'
-    ∙ ap (λ (s : Section). ((out ++ here) ++ take (count_on (at + 1) rest) rest) ++ warnings_from (at + 1 + 1) s (drop (at + 1) cards) back) is_next
-    ∙ ap (λ (r : List Warning). ((out ++ here) ++ take (count_on (at + 1) rest) rest) ++ warnings_from (at + 1 + 1) (next_section (at + 1) line section) (drop (at + 1) cards) r) back'
-    ∙ turn cards at line section rest out whole found h
+    ap (λ (t : List Warning). t ++ warnings_from (at + 1 + 1) (drop (at + 1) readings) (drop (at + 1) cards) back) new'
+    ∙ ap (λ (r : List Warning). ((out ++ here) ++ take (count_on (at + 1) rest) rest) ++ warnings_from (at + 1 + 1) (drop (at + 1) readings) (drop (at + 1) cards) r) back'
+    ∙ turn readings cards at kind line rest out whole read found h
+
+-- no line is left, or of no line it is known as what it is read
+pub none-left : (readings : List LineReading) (cards : List (List ℕ)) (at number : ℕ) (rest : List Warning) → (length cards ≤ at) ⊎ (length readings ≤ at)
+    → warnings_from number (drop at readings) (drop at cards) rest ≡ rest
+none-left readings cards at number rest (inl end) = ap (λ (ls : List (List ℕ)). warnings_from number (drop at readings) ls rest) (drop_all at cards end) ∙ no_lines (drop at readings) number rest
+  where
+    no_lines : (readings : List LineReading) (number : ℕ) (rest : List Warning) → warnings_from number readings [] rest ≡ rest
+    no_lines [] number rest = refl
+    no_lines (kind ∷ readings) number rest = refl
+none-left readings cards at number rest (inr end) = ap (λ (ks : List LineReading). warnings_from number ks (drop at cards) rest) (drop_all at readings end) ∙ no_readings (drop at cards) number rest
+  where
+    no_readings : (lines : List (List ℕ)) (number : ℕ) (rest : List Warning) → warnings_from number [] lines rest ≡ rest
+    no_readings [] number rest = refl
+    no_readings (line ∷ lines) number rest = refl
+
+-- one of two numbers is the lesser one
+pub lesser : (a b : ℕ) → (a ≤ min a b) ⊎ (b ≤ min a b)
+lesser zero b = inl (omega arith)
+lesser (suc a) zero = inr (omega arith)
+lesser (suc a) (suc b) = further (lesser a b)
+  where
+    further : (a ≤ min a b) ⊎ (b ≤ min a b) → (suc a ≤ min (suc a) (suc b)) ⊎ (suc b ≤ min (suc a) (suc b))
+    further (inl h) = inl (omega (arith, h))
+    further (inr h) = inr (omega (arith, h))
+
+pub all-read : (readings : List LineReading) (cards : List (List ℕ)) (at : ℕ) (rest out new whole : List Warning) → min (length cards) (length readings) ≤ at
+    → out ++ warnings_from (at + 1) (drop at readings) (drop at cards) rest ≡ whole → new ≡ out ++ rest → new ≡ whole
+all-read readings cards at rest out new whole end h is_new =
+    is_new ∙ sym (ap (λ (t : List Warning). out ++ t) (none-left readings cards at (at + 1) rest (past (lesser (length cards) (length readings))))) ∙ h
+  where
+    past : (length cards ≤ min (length cards) (length readings)) ⊎ (length readings ≤ min (length cards) (length readings)) → (length cards ≤ at) ⊎ (length readings ≤ at)
+    past (inl k) = inl (omega (arith, k, end))
+    past (inr k) = inr (omega (arith, k, end))

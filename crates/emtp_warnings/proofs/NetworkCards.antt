@@ -31,7 +31,7 @@ use Rattle.emtp_netcards.specs.declared.switch_card.SwitchType.TheVariants.{Cont
 use Rattle.emtp_warnings.proofs.Agreeing.{has_field, held_under, name_under, number_under, text_under, whole_under}
 use Rattle.emtp_warnings.specs.Law.{AgreeUnder, AreFaultless}
 use Rattle.emtp_warnings.specs.Marked.{ruler_of_kind, source_ruler, switch_ruler}
-use Rattle.emtp_warnings.specs.Section.{names_another}
+use Rattle.emtp_warnings.specs.Marked.{names_another}
 use Rattle.emtp_warnings.specs.declared.rulers.TheConstants.{CONTROLLED, COPY, COSINE, FIRST_RUN, FREE, LINE, MEASURING, RAMP, RESISTOR, SECOND_RUN, SERIES, STEP, THIRD_PHASE, TIME_SWITCH, TOLERANCE, VALVE, VARIABLE, WIDE_SERIES}
 
 -- by a test

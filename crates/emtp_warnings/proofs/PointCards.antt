@@ -13,7 +13,7 @@ use Rattle.emtp_netcards.specs.declared.point_card.PointScale.TheVariants.{React
 use Rattle.emtp_warnings.proofs.Agreeing.{has_field, number_under}
 use Rattle.emtp_warnings.specs.Law.{AgreeUnder, AreFaultless}
 use Rattle.emtp_warnings.specs.Marked.{point_ruler}
-use Rattle.emtp_warnings.specs.Section.{ends_points, is_last_card}
+use Rattle.emtp_warnings.specs.Marked.{ends_points, is_last_card}
 use Rattle.emtp_warnings.specs.declared.rulers.TheConstants.{ENDING, POINT}
 
 one_way : {A : Type 0} (t : Bool) (a : A) → cond t a a ≡ a

@@ -3,7 +3,7 @@ use Rattle.std.proofs.Common.{◌≡◌, refl, [], ◌∷◌}
 use Rattle.std.specs.Prelude.{codes, pos, negsuc, Some, None, Ok, false, true}
 use Rattle.emtp_card.specs.Decimal.{value_in}
 use Rattle.emtp_card.specs.Field.{columns, trimmed}
-use Rattle.emtp_card.specs.Lines.{fault_of_line, is_comment}
+use Rattle.emtp_card.specs.Lines.{fault_of_line}
 use Rattle.emtp_card.specs.Name.{name_field}
 use Rattle.emtp_card.specs.Number.{held_field, number_field, number_in}
 use Rattle.emtp_card.specs.Numeral.{decimal_of, exponent_of, limited_whole}
@@ -24,7 +24,7 @@ use Rattle.emtp_warnings.specs.Warnings.{line_warnings}
 use Rattle.emtp_warnings.specs.declared.finding.Finding.TheVariants.{AfterEnd, AskedTwice, EarlyCosine, LoneNode, NeverActs, NoFrequency, NodeZero, NotRead, NumbersTouch, OpensFirst, ShortTravel}
 use Rattle.emtp_warnings.specs.declared.finding.Spot.TheVariants.{Channel, Line}
 use Rattle.emtp_warnings.specs.declared.rulers.TheConstants.{COPY, FIRST_RUN, SERIES, TIME_SWITCH}
-use Rattle.emtp_warnings.specs.declared.section.Section.TheVariants.{Branches}
+use Rattle.emtp_walk.specs.declared.kind.Kind.TheVariants.{Comment}
 
 -- a flashover voltage, which ATP has in columns 45 to 54 of a switch
 flashover : column_warnings TIME_SWITCH.now 39 (codes "  BUS   SEND        .005       1.0            5.E3") ≡ of_columns 39 47 50 NotRead ∷ []
@@ -47,8 +47,7 @@ behind : column_warnings FIRST_RUN.now 2 (codes "   1.E-4   3.E-4               
 behind = refl
 
 -- a comment that goes past column 80
-comment : line_warnings 3 (Branches false) (codes "C 280. and 2.95E5 stand here one column too far to the left, as they may where somebody counts columns.") ≡ []
-unfolding is_comment
+comment : line_warnings 3 Comment (codes "C 280. and 2.95E5 stand here one column too far to the left, as they may where somebody counts columns.") ≡ []
 comment = refl
 
 -- a branch, a line of one and a half steps, a switch to a node of the name 0 and one that opens before it closes, a source that

@@ -12,7 +12,7 @@ use Rattle.emtp_netcards.specs.declared.point_card.PointScale.{PointScale}
 use Rattle.emtp_taccards.specs.PolynomialCard.{polynomial_card}
 use Rattle.emtp_taccards.specs.TacsSourceCard.{tacs_source_card}
 use Rattle.emtp_warnings.specs.Marked.{output_ruler, point_ruler, polynomial_ruler, ruler_of_kind, source_ruler, switch_ruler, tacs_source_ruler}
-use Rattle.emtp_warnings.specs.Section.{ends_points, names_another}
+use Rattle.emtp_warnings.specs.Marked.{ends_points, names_another}
 
 -- two lines agree in all columns that a ruler marks; columns past a line's end are blank
 pub record AgreeUnder (ruler x y : List ℕ) : Type 0 where

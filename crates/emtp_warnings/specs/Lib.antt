@@ -1,6 +1,5 @@
 -- what is warned of
 pub mod Finding
-pub mod Section
 pub mod Marked
 pub mod ColumnWarnings
 pub mod RecordWarnings

@@ -1,8 +1,7 @@
 -- Which columns of a line are read: the ruler of its card.
-use Rattle.std.specs.List.{starts_with}
-use Rattle.std.specs.Prelude.{ℕ, ◌+◌, ◌*◌, ◌==◌, min, nat_eq, length, take, Bool, false, ◌||◌, List, codes, Result, Ok, Err, if◌then◌else◌}
+use Rattle.std.specs.Prelude.{ℕ, ◌+◌, ◌*◌, ◌==◌, min, length, take, Bool, true, false, not, ◌&&◌, List, Option, None, Result, Ok, Err, if◌then◌else◌}
 use Rattle.emtp_card.specs.Field.{field_of}
-use Rattle.emtp_card.specs.Lines.{is_comment, is_section_end}
+use Rattle.emtp_card.specs.Lines.{is_section_end}
 use Rattle.emtp_card.specs.declared.reason.Bad.{Bad}
 use Rattle.emtp_card.specs.declared.reason.Why.{Why}
 use Rattle.emtp_case.specs.declared.source.Shape.{Shape}
@@ -11,7 +10,11 @@ use Rattle.emtp_netcards.specs.BranchCard.{kind_field}
 use Rattle.emtp_netcards.specs.OutputCard.{output_card}
 use Rattle.emtp_netcards.specs.SourceCard as sources
 use Rattle.emtp_netcards.specs.SwitchCard as switches
-use Rattle.emtp_netcards.specs.VintageCard.{is_vintage}
+use Rattle.emtp_netcards.specs.held.PointCard.{point_card}
+use Rattle.emtp_netcards.specs.declared.point_card.PointScale.{PointScale}
+use Rattle.emtp_case.specs.declared.branch.Point.{Point}
+use Rattle.emtp_walk.specs.declared.kind.Kind.{Kind}
+use Rattle.emtp_walk.specs.declared.kind.Kind.TheVariants as read
 use Rattle.emtp_netcards.specs.declared.branch_card.BranchKind.{BranchKind}
 use Rattle.emtp_netcards.specs.declared.branch_card.BranchKind.TheVariants.{Line as LineKind, Reactor as ReactorKind, Resistor as ResistorKind, Second as SecondKind, Series as SeriesKind, Third as ThirdKind}
 use Rattle.emtp_netcards.specs.declared.output_card.OutputCard.{OutputCard}
@@ -22,12 +25,13 @@ use Rattle.emtp_netcards.specs.declared.source_card.SourceType.TheVariants.{Cosi
 use Rattle.emtp_netcards.specs.declared.switch_card.SwitchType.{SwitchType}
 use Rattle.emtp_netcards.specs.declared.switch_card.SwitchType.TheVariants.{Control as ControlType, Time as TimeType, Valve as ValveType}
 use Rattle.emtp_taccards.specs.TacsSourceCard.{tacs_source_card}
-use Rattle.emtp_warnings.specs.Section.{ends_points, names_another}
 use Rattle.emtp_warnings.specs.declared.rulers.TheConstants.{ALL_NODES, BLOCK, CONTROLLED, COPY, COSINE, DEVICE, ENDING, FIRST_RUN, FORMULA, FREE, LEVEL, LINE, MEASURED, MEASURING, NAMES, POINT, POLYNOMIAL, PULSE, RAMP, RESISTOR, SAW, SECOND_RUN, SERIES, STEP, TACS_COSINE, THIRD_PHASE, TIME_SWITCH, TOLERANCE, VALVE, VARIABLE, WIDE_SERIES}
-use Rattle.emtp_warnings.specs.declared.section.Section.{Section}
-use Rattle.emtp_warnings.specs.declared.section.Section.TheVariants.{After, Begin, Blocks, Branches, Denominator, DevicePoints, Extras, First, Initial, Numerator, Outputs, Points, Second, Sources, Start, Switches, TacsOutputs, TacsSources, Third, Waiting}
 
 -- ---- branches
+
+-- columns 15 to 26 name another card
+abbrev pub names_another : List ℕ → Bool
+names_another line = not ((length (field_of line 15 20) == 0) && (length (field_of line 21 26) == 0))
 
 -- the values of a card that takes those of another aren't read
 abbrev pub copy_or : Bool → List ℕ → List ℕ
@@ -44,9 +48,6 @@ ruler_of_kind wide copies (Ok ThirdKind) = THIRD_PHASE.now
 ruler_of_kind wide copies (Ok ReactorKind) = COPY.now
 ruler_of_kind wide copies (Ok ResistorKind) = copy_or copies RESISTOR.now
 ruler_of_kind wide copies (Err why) = FREE.now
-
-abbrev pub branch_ruler : List ℕ → Bool → List ℕ
-branch_ruler line wide = if is_section_end line || is_vintage line then FREE.now else ruler_of_kind wide (names_another line) (kind_field line)
 
 -- ---- switches, sources, outputs
 
@@ -69,6 +70,14 @@ output_ruler (Ok (Names names)) = NAMES.now
 output_ruler (Err bad) = FREE.now
 
 -- ---- points
+
+-- the card that ends points
+abbrev pub is_last_card : Result (Option Point) Bad → Bool
+is_last_card (Ok None) = true
+is_last_card other = false
+
+abbrev pub ends_points : ℕ → List ℕ → PointScale → Bool
+ends_points number line scale = is_last_card (point_card number line scale)
 
 abbrev pub point_ruler : Bool → List ℕ
 point_ruler last = if last then ENDING.now else POINT.now
@@ -98,33 +107,24 @@ tacs_source_ruler (Err bad) = FREE.now
 abbrev pub extra_ruler : List ℕ → List ℕ
 extra_ruler line = if length (field_of line 9 10) == 0 then FORMULA.now else DEVICE.now
 
--- ---- all sections
+-- ---- all kinds of lines
 
 abbrev pub unless_end : List ℕ → List ℕ → List ℕ
 unless_end line ruler = if is_section_end line then FREE.now else ruler
 
-abbrev pub ruler_in : ℕ → List ℕ → Section → List ℕ
-ruler_in number line Begin = FREE.now
-ruler_in number line First = if starts_with nat_eq line (codes "RESIDUAL TOLERANCE") then TOLERANCE.now else FIRST_RUN.now
-ruler_in number line Second = unless_end line SECOND_RUN.now
-ruler_in number line Start = if starts_with nat_eq line (codes "TACS HYBRID") then FREE.now else branch_ruler line false
-ruler_in number line Blocks = unless_end line BLOCK.now
-ruler_in number line (Numerator order) = polynomial_ruler order
-ruler_in number line (Denominator order) = polynomial_ruler order
-ruler_in number line TacsSources = unless_end line (tacs_source_ruler (tacs_source_card number line))
-ruler_in number line Extras = unless_end line (extra_ruler line)
-ruler_in number line (DevicePoints scale) = point_ruler (ends_points number line scale)
-ruler_in number line TacsOutputs = unless_end line NAMES.now
-ruler_in number line Initial = FREE.now
-ruler_in number line (Branches wide) = branch_ruler line wide
-ruler_in number line (Points scale wide) = point_ruler (ends_points number line scale)
-ruler_in number line (Waiting wide) = branch_ruler line wide
-ruler_in number line (Third wide) = branch_ruler line wide
-ruler_in number line Switches = unless_end line (switch_ruler (switches.is_measuring line) (switches.type_field line))
-ruler_in number line Sources = unless_end line (source_ruler (sources.type_field line))
-ruler_in number line Outputs = unless_end line (output_ruler (output_card number line))
-ruler_in number line After = FREE.now
-
--- a comment is free
-abbrev pub ruler_at : ℕ → List ℕ → Section → List ℕ
-ruler_at number line section = if is_comment line then FREE.now else ruler_in number line section
+-- the ruler of a line by its number, its bytes and as what it is read
+abbrev pub ruler_of : ℕ → List ℕ → Kind → List ℕ
+ruler_of number line read.Tolerance = TOLERANCE.now
+ruler_of number line read.FirstRun = FIRST_RUN.now
+ruler_of number line read.SecondRun = unless_end line SECOND_RUN.now
+ruler_of number line read.Block = BLOCK.now
+ruler_of number line (read.Coefficients order) = polynomial_ruler order
+ruler_of number line read.TacsSource = tacs_source_ruler (tacs_source_card number line)
+ruler_of number line read.Extra = extra_ruler line
+ruler_of number line read.TacsOutput = NAMES.now
+ruler_of number line (read.Branch wide) = ruler_of_kind wide (names_another line) (kind_field line)
+ruler_of number line (read.Point scale) = point_ruler (ends_points number line scale)
+ruler_of number line read.Switch = switch_ruler (switches.is_measuring line) (switches.type_field line)
+ruler_of number line read.Source = source_ruler (sources.type_field line)
+ruler_of number line read.Output = output_ruler (output_card number line)
+ruler_of number line other = FREE.now

@@ -3,15 +3,16 @@
 //! A case of fixed columns is read wherever it can be: a number that stands one column off is another number, and a
 //! name that is misspelt another node. [`warnings`] lists what is seldom meant so, each warning with its line and its
 //! columns where it has some, and [`warnings_text`] writes the list. A warning refuses nothing. The crate stands on the
-//! lines of `emtp_card`, the card readers of `emtp_netcards` and `emtp_taccards`, and the records of `emtp_case`.
+//! lines of `emtp_card`, the card readers of `emtp_netcards` and `emtp_taccards`, as what `emtp_walk` reads a line, and the
+//! records of `emtp_case`.
 //!
 //! ```text
-//! let found = warnings(alloc, &cards, &case)?;
+//! let readings = line_readings(alloc, &cards)?;
+//! let found = warnings(alloc, &cards, &readings, &case)?;
 //! warnings_text(alloc, &found)?            "warning, line 39, columns 45-54, not read" is one of its lines
 //! ```
 //!
 //! - `finding`: what a warning is
-//! - `section`: what a line is read as, from line to line
 //! - `rulers`, `marked`: which columns of a line are read
 //! - `columns`: the warnings of a line's columns
 //! - `records`, `channels`: the warnings of a case
@@ -28,7 +29,6 @@ mod listed;
 mod marked;
 mod records;
 mod rulers;
-mod section;
 mod text;
 
 pub use finding::{Finding, Spot, Warning};
@@ -36,5 +36,4 @@ pub use laws::{
     unmarked_columns_of_the_control_dont_matter, unmarked_columns_of_the_network_dont_matter,
 };
 pub use listed::warnings;
-pub use section::{Section, next_section};
 pub use text::warnings_text;

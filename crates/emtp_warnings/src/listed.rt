@@ -8,26 +8,31 @@ ghost use Rattle.emtp_warnings.specs.Warnings.{count_on, line_warnings, warnings
 use crate::channels::add_channels;
 use crate::columns::add_column_warnings;
 use crate::finding::Warning;
-use crate::marked::ruler_at;
+use crate::marked::ruler_of;
 use crate::records::add_records;
-use crate::section::{Section, next_section};
-use emtp_card::{Cards, Line, MAX_BYTES, comment};
+use emtp_card::{Cards, Line, MAX_BYTES};
 use emtp_case::Case;
+use emtp_walk::{Kind, LineReading, read_at};
 use std::alloc::{AllocError, Global};
 
-/// The warnings of a case and of the cards that it was read from, line by line: first those of the line's columns, then
-/// those of its record; channels come last. This project's own.
+/// The warnings of a case and of the cards that it was read from, by as what each line was read, line by line: first those of
+/// the line's columns, then those of its record; channels come last. This project's own.
 ///
 /// # Errors
 ///
 /// [`AllocError`] where memory is wanting.
-pub fn warnings(alloc: Global, cards: &Cards<'_>, case: &Case) -> Result<Vec<Warning>, AllocError>
-    ensures { IfOk result (λ found. found.items ≡ warnings cards.now case.now.parts) }
+pub fn warnings(
+    alloc: Global,
+    cards: &Cards<'_>,
+    readings: &[LineReading],
+    case: &Case,
+) -> Result<Vec<Warning>, AllocError>
+    ensures { IfOk result (λ found. found.items ≡ warnings readings.now cards.now case.now.parts) }
 {
     let mut records = Vec::new(alloc);
     add_records(&mut records, case)?;
     let mut out = Vec::new(alloc);
-    add_lines(&mut out, cards, &records)?;
+    add_lines(&mut out, cards, readings, &records)?;
     add_channels(&mut out, case.parts.channels.as_slice())?;
     Ok(out)
 }
@@ -36,33 +41,33 @@ pub fn warnings(alloc: Global, cards: &Cards<'_>, case: &Case) -> Result<Vec<War
 fn add_lines(
     out: &mut Vec<Warning>,
     cards: &Cards<'_>,
+    readings: &[LineReading],
     records: &[Warning],
 ) -> Result<(), AllocError>
-    ensures { OnOk result (AddsTo out.old.items (warnings_from 1 Section.Begin cards.now records.now) out.new.items) }
+    ensures { OnOk result (AddsTo out.old.items (warnings_from 1 readings.now cards.now records.now) out.new.items) }
 {
-    let mut section = Section::Begin;
     let mut rest = records;
-    for at in 0..cards.len() {
+    for at in 0..cards.len().min(readings.len()) {
         let line = cards.line(at);
-        add_line(out, &line, section)?;
+        let read = read_at(readings, at);
+        add_line(out, &line, read.kind)?;
         let (here, after) = rest.split_at(count_on(line.number, rest));
         out.extend_from_slice(here)?;
         rest = after;
-        section = next_section(&line, section);
     }
     out.extend_from_slice(rest)?;
     Ok(())
 }
 
 /// Adds the warnings of the columns of a line. A comment has none: it may be longer than a ruler.
-fn add_line(out: &mut Vec<Warning>, line: &Line<'_>, section: Section) -> Result<(), AllocError>
+fn add_line(out: &mut Vec<Warning>, line: &Line<'_>, kind: Kind) -> Result<(), AllocError>
     requires { length line.now.bytes.now ≤ MAX_BYTES }
-    ensures { OnOk result (AddsTo out.old.items (line_warnings line.now.number section line.now.bytes.now) out.new.items) }
+    ensures { OnOk result (AddsTo out.old.items (line_warnings line.now.number kind line.now.bytes.now) out.new.items) }
 {
-    if comment(line.bytes) {
-        return Ok(());
+    match kind {
+        Kind::Comment => Ok(()),
+        _ => add_column_warnings(out, ruler_of(line, kind), line),
     }
-    add_column_warnings(out, ruler_at(line, section), line)
 }
 
 /// How many of the first warnings are on a line.

@@ -5,56 +5,50 @@ ghost use Rattle.emtp_netcards.specs.OutputCard.{output_card};
 ghost use Rattle.emtp_netcards.specs.SourceCard as sources;
 ghost use Rattle.emtp_netcards.specs.SwitchCard as switches;
 ghost use Rattle.emtp_taccards.specs.TacsSourceCard.{tacs_source_card};
-ghost use Rattle.emtp_warnings.specs.Marked.{branch_ruler, copy_or, extra_ruler, output_ruler, point_ruler, polynomial_ruler, ruler_at, ruler_in, ruler_of_kind, ruler_of_shape, series_ruler, source_ruler, switch_ruler, tacs_source_ruler, unless_end};
-ghost use Rattle.emtp_warnings.specs.Section.{ends_points};
+ghost use Rattle.emtp_warnings.specs.Marked.{copy_or, ends_points, extra_ruler, names_another, output_ruler, point_ruler, polynomial_ruler, ruler_of, ruler_of_kind, ruler_of_shape, series_ruler, source_ruler, switch_ruler, tacs_source_ruler, unless_end};
 
 use crate::rulers::{
     ALL_NODES, BLOCK, CONTROLLED, COPY, COSINE, DEVICE, ENDING, FIRST_RUN, FORMULA, FREE, LEVEL,
     LINE, MEASURED, MEASURING, NAMES, POINT, POLYNOMIAL, PULSE, RAMP, RESISTOR, SAW, SECOND_RUN,
     SERIES, STEP, TACS_COSINE, THIRD_PHASE, TIME_SWITCH, TOLERANCE, VALVE, VARIABLE, WIDE_SERIES,
 };
-use crate::section::{Section, ends_points, names_another};
-use emtp_card::{Line, MAX_BYTES, Why, comment, ends_section, field_text};
+use emtp_card::{Line, MAX_BYTES, Why, ends_section, field_text};
 use emtp_case::Shape;
 use emtp_netcards::{
-    BranchKind, OutputCard, PointScale, SourceType, SwitchType, branch_kind, outputs, source_type,
-    switch_type,
+    BranchKind, OutputCard, PointScale, SourceType, SwitchType, branch_kind, outputs, point,
+    source_type, switch_type,
 };
 use emtp_taccards::tacs_source;
+use emtp_walk::Kind;
 
-/// The ruler of a line; a comment is free.
-pub(crate) fn ruler_at(line: &Line<'_>, section: Section) -> &'static [u8]
+/// The ruler of a line by as what it is read.
+pub(crate) fn ruler_of(line: &Line<'_>, kind: Kind) -> &'static [u8]
     requires { length line.now.bytes.now ≤ MAX_BYTES }
-    ensures { result.now ≡ ruler_at line.now.number line.now.bytes.now section }
+    ensures { result.now ≡ ruler_of line.now.number line.now.bytes.now kind }
 {
-    if comment(line.bytes) {
-        FREE
-    } else {
-        ruler_in(line, section)
-    }
-}
-
-fn ruler_in(line: &Line<'_>, section: Section) -> &'static [u8]
-    requires { length line.now.bytes.now ≤ MAX_BYTES }
-    ensures { result.now ≡ ruler_in line.now.number line.now.bytes.now section }
-{
-    match section {
-        Section::Begin | Section::Initial | Section::After => FREE,
-        Section::First => first_ruler(line.bytes),
-        Section::Second => unless_end(line.bytes, SECOND_RUN),
-        Section::Start => start_ruler(line.bytes),
-        Section::Blocks => unless_end(line.bytes, BLOCK),
-        Section::Numerator(order) | Section::Denominator(order) => polynomial_ruler(order),
-        Section::TacsSources => unless_end(line.bytes, tacs_source_ruler(line)),
-        Section::Extras => unless_end(line.bytes, extra_ruler(line.bytes)),
-        Section::TacsOutputs => unless_end(line.bytes, NAMES),
-        Section::Branches(wide) | Section::Waiting(wide) | Section::Third(wide) => {
-            branch_ruler(line.bytes, wide)
+    match kind {
+        Kind::Tolerance => TOLERANCE,
+        Kind::FirstRun => FIRST_RUN,
+        Kind::SecondRun => unless_end(line.bytes, SECOND_RUN),
+        Kind::Block => BLOCK,
+        Kind::Coefficients(order) => polynomial_ruler(order),
+        Kind::TacsSource => tacs_source_ruler(line),
+        Kind::Extra => extra_ruler(line.bytes),
+        Kind::TacsOutput => NAMES,
+        Kind::Branch(wide) => {
+            ruler_of_kind(wide, names_another(line.bytes), &branch_kind(line.bytes))
         }
-        Section::DevicePoints(scale) | Section::Points(scale, _) => point_ruler(line, scale),
-        Section::Switches => unless_end(line.bytes, switch_ruler(line.bytes)),
-        Section::Sources => unless_end(line.bytes, source_ruler(line.bytes)),
-        Section::Outputs => unless_end(line.bytes, output_ruler(line)),
+        Kind::Point(scale) => point_ruler(line, scale),
+        Kind::Switch => switch_ruler(line.bytes),
+        Kind::Source => source_ruler(line.bytes),
+        Kind::Output => output_ruler(line),
+        Kind::Comment
+        | Kind::SectionEnd
+        | Kind::Begin
+        | Kind::Hybrid
+        | Kind::Initial
+        | Kind::Vintage
+        | Kind::After => FREE,
     }
 }
 
@@ -65,34 +59,11 @@ fn unless_end(line: &[u8], ruler: &'static [u8]) -> &'static [u8]
     if ends_section(line) { FREE } else { ruler }
 }
 
-fn first_ruler(line: &[u8]) -> &'static [u8]
-    ensures { result.now ≡ ruler_in 0 line.now Section.First }
+/// Whether columns 15 to 26 name another card.
+fn names_another(line: &[u8]) -> bool
+    ensures { result ≡ names_another line.now }
 {
-    if line.starts_with(b"RESIDUAL TOLERANCE") {
-        TOLERANCE
-    } else {
-        FIRST_RUN
-    }
-}
-
-fn start_ruler(line: &[u8]) -> &'static [u8]
-    ensures { result.now ≡ ruler_in 0 line.now Section.Start }
-{
-    if line.starts_with(b"TACS HYBRID") {
-        FREE
-    } else {
-        branch_ruler(line, false)
-    }
-}
-
-fn branch_ruler(line: &[u8], wide: bool) -> &'static [u8]
-    ensures { result.now ≡ branch_ruler line.now wide }
-{
-    if ends_section(line) || line.starts_with(b"$VINTAGE") {
-        FREE
-    } else {
-        ruler_of_kind(wide, names_another(line), &branch_kind(line))
-    }
+    !(field_text(line, 15, 20).is_empty() && field_text(line, 21, 26).is_empty())
 }
 
 fn ruler_of_kind(wide: bool, copies: bool, kind: &Result<BranchKind, Why>) -> &'static [u8]
@@ -154,6 +125,14 @@ fn output_ruler(line: &Line<'_>) -> &'static [u8]
         Ok(OutputCard::Names(_)) => NAMES,
         Err(_) => FREE,
     }
+}
+
+/// Whether it is the card that ends points.
+fn ends_points(line: &Line<'_>, scale: PointScale) -> bool
+    requires { length line.now.bytes.now ≤ MAX_BYTES }
+    ensures { result ≡ ends_points line.now.number line.now.bytes.now scale }
+{
+    matches!(point(*line, scale), Ok(None))
 }
 
 fn point_ruler(line: &Line<'_>, scale: PointScale) -> &'static [u8]
