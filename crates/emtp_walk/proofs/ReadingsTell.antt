@@ -23,7 +23,6 @@ use Rattle.emtp_netcards.specs.declared.branch_card.BranchKind.TheVariants.{Line
 use Rattle.emtp_netcards.specs.declared.branch_card.BranchValues.{BranchValues}
 use Rattle.emtp_netcards.specs.declared.branch_card.BranchValues.TheVariants.{Copied as CopiedCard, Line as LineCard, Lumped as LumpedCard, Reactor as ReactorCard, Resistor as ResistorCard, Second as SecondCard, Third as ThirdCard}
 use Rattle.emtp_netcards.specs.declared.output_card.OutputCard.{OutputCard}
-use Rattle.emtp_netcards.specs.declared.run_cards.FirstCard.{FirstCard}
 use Rattle.emtp_netcards.specs.declared.source_card.SourceCard.{SourceCard}
 use Rattle.emtp_netcards.specs.declared.switch_card.SwitchCard.{SwitchCard}
 use Rattle.emtp_netcards.proofs.CardLines.{branch_line, source_line, switch_line}
@@ -417,9 +416,9 @@ line_adds deck place number line = by_test (lines_by_list deck place) number (is
 -- ---- all lines
 
 -- the cards at the end are those before and those that are read, and so many lines are read
-pub record ReadsOn (lines : CardLines) (number count : ℕ) (readings : List LineReading) (end : Deck × Place) : Type 0 where
-  pub count : length readings ≡ suc count
-  pub cards : lines_by_list end.0 end.1 ≡ cards_read lines number (take count readings)
+pub record ReadsOn (before : CardLines) (number lines : ℕ) (readings : List LineReading) (end : Deck × Place) : Type 0 where
+  pub count : length readings ≡ suc lines
+  pub cards : lines_by_list end.0 end.1 ≡ cards_read before number (take lines readings)
 
 abbrev pub WalksOn : ℕ → Deck → Place → List (List ℕ) → Type 0
 WalksOn number deck place lines = IfOk (walk number deck place lines) (ReadsOn (lines_by_list deck place) number (length lines) (readings_from number deck place lines))
