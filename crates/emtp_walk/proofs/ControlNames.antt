@@ -1,15 +1,9 @@
 -- The name that a card of the control gives is a name of a case.
-use Rattle.std.proofs.Common.{◌≡◌, ◌≢◌, ◌∙◌, ap, subst, refl, ℕ, suc, ◌+◌, ◌-◌, ◌≤◌, min, ℤ, Bool, true, false, List, [], ◌∷◌, length, drop, Option, None, Result, Ok, Err, arith}
-use Rattle.std.proofs.lemmas.List.{length-take}
-use Rattle.std.specs.List.{list_all, list_any}
-use Rattle.std.specs.Prelude.{if◌then◌else◌, cond}
-use Rattle.emtp_card.specs.Field.{columns, field_of, filled, trimmed, without_leading, without_trailing}
-use Rattle.emtp_card.specs.Lines.{fault_of_line, is_blank}
-use Rattle.emtp_card.specs.Name.{is_comma, name_field, named}
+use Rattle.std.proofs.Common.{◌≡◌, ◌∙◌, ap, subst, refl, ℕ, ℤ, Bool, true, false, List, Option, None, Result, Ok, Err}
+use Rattle.std.specs.Prelude.{if◌then◌else◌}
+use Rattle.emtp_card.specs.Lines.{fault_of_line}
+use Rattle.emtp_card.specs.Name.{name_field}
 use Rattle.emtp_card.specs.declared.reason.Bad.{Bad}
-use Rattle.emtp_card.specs.declared.reason.Why.{Why}
-use Rattle.emtp_card.specs.declared.reason.Why.TheVariants.{BadName}
-use Rattle.emtp_card.proofs.Names.{field_is_name}
 use Rattle.emtp_case.specs.held.Name.{IsName}
 use Rattle.emtp_case.specs.declared.control.Group.{Group}
 use Rattle.emtp_walk.specs.held.Sound.{IsExtraDue}
@@ -36,62 +30,12 @@ use Rattle.emtp_taccards.specs.declared.device_card.DeviceCard.{DeviceCard}
 use Rattle.emtp_taccards.specs.declared.extra_card.ExtraCard.{ExtraCard}
 use Rattle.emtp_taccards.specs.declared.extra_card.ExtraCard.TheVariants.{Device, Formula}
 use Rattle.emtp_taccards.specs.declared.formula_card.FormulaCard.{FormulaCard}
+use Rattle.emtp_netcards.proofs.FieldRanges.{needed_name}
 use Rattle.emtp_netcards.proofs.Readings.{by, each_of, field_of_column, made_of, whole_by}
-
--- ---- the text of six columns has at most six bytes
-
-leading-short : (bytes : List ℕ) → length (without_leading bytes) ≤ length bytes
-leading-short [] = omega arith
-leading-short (byte ∷ bytes) = by_test (is_blank byte) (leading-short bytes)
-  where
-    by_test : (t : Bool) → length (without_leading bytes) ≤ length bytes → length (cond t (without_leading bytes) (byte ∷ bytes)) ≤ suc (length bytes)
-    by_test true h = omega (arith, h)
-    by_test false h = omega arith
-
-trailing-short : (bytes : List ℕ) → length (without_trailing bytes) ≤ length bytes
-trailing-short [] = omega arith
-trailing-short (byte ∷ bytes) = by_test (list_all is_blank (byte ∷ bytes)) (trailing-short bytes)
-  where
-    by_test : (t : Bool) → length (without_trailing bytes) ≤ length bytes → length (cond t [] (byte ∷ without_trailing bytes)) ≤ suc (length bytes)
-    by_test true h = omega arith
-    by_test false h = omega (arith, h)
-
-trimmed-short : (bytes : List ℕ) → length (trimmed bytes) ≤ length bytes
-unfolding trimmed
-trimmed-short bytes = let a = leading-short (without_trailing bytes) in let b = trailing-short bytes in omega (arith, a, b)
-
-min-first : (m n : ℕ) → min m n ≤ m
-min-first m n = omega arith
-
-columns-short : (line : List ℕ) (first : ℕ) → length (columns line first (first + 5)) ≤ 6
-unfolding columns
-columns-short line first =
-    let cut = length-take (first + 5 + 1 - first) (drop (first - 1) (filled line)) in
-    let least = min-first (first + 5 + 1 - first) (length (drop (first - 1) (filled line))) in
-    omega (arith, cut, least)
-
-field-short : (line : List ℕ) (first : ℕ) → length (field_of line first (first + 5)) ≤ 6
-field-short line first = let a = trimmed-short (columns line first (first + 5)) in let b = columns-short line first in omega (arith, a, b)
-
--- ---- a field that was read
-
-text_named : (text name : List ℕ) → needed (Ok (named text)) ≡ Ok name → (text ≡ name) × (text ≢ [])
-text_named [] name h = absurd (cc)
-text_named (byte ∷ bytes) name h = (cc, λ e. absurd (cc))
-
-name_is : (line : List ℕ) (first : ℕ) (name : List ℕ) → fault_of_line line ≡ None → needed (name_field line first) ≡ Ok name → IsName name
-unfolding name_field
-name_is line first name whole h = by_test (list_any is_comma (columns line first (first + 5))) refl h
-  where
-    by_test : (t : Bool) → list_any is_comma (columns line first (first + 5)) ≡ t → needed (if◌then◌else◌ {A = Result (Option (List ℕ)) Why} t (Err BadName) (Ok (named (field_of line first (first + 5))))) ≡ Ok name → IsName name
-    by_test true e h = absurd (cc)
-    by_test false e h =
-        let both = text_named (field_of line first (first + 5)) name h in
-        subst IsName both.0 (field_is_name line first (field_of line first (first + 5)) refl both.1 (field-short line first) e whole)
 
 -- the name of a card, in its column 3
 column_name : (line name : List ℕ) → fault_of_line line ≡ None → in_column 3 (needed (name_field line 3)) ≡ Ok name → IsName name
-column_name line name whole h = name_is line 3 name whole (field_of_column 3 (needed (name_field line 3)) name h)
+column_name line name whole h = needed_name line 3 name whole (field_of_column 3 (needed (name_field line 3)) name h)
 
 pub ok_is : {A B : Type 0} (f : A → B) (x y : A) → ◌≡◌ {A = Result A Bad} (Ok x) (Ok y) → f x ≡ f y
 ok_is f x y h = let same : x ≡ y = cc in ap f same

@@ -1,5 +1,6 @@
 pub mod NoBad
 pub mod Walking
+pub mod SoundWalks
 pub mod Sounding
 pub mod BranchSounding
 pub mod SameSteps
