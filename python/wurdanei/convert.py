@@ -89,7 +89,7 @@ def moment(word: str) -> datetime:
 
 def main(words: list[str]) -> int:
     """Runs the command: 0 where OUT is made."""
-    its = parser().parse_args(words)
+    its = parser().parse_intermixed_args(words)
     if its.rate is not None and its.rate <= 0:
         raise RecordError("--rate has to be above 0")
     if its.frequency is not None and its.frequency < 0:

@@ -151,6 +151,21 @@ def read(path: str | os.PathLike, dat: str | os.PathLike | None = None) -> Recor
         raise RecordError(f"{path}: there isn't enough memory for it") from None
 
 
+def channel_names(path: str) -> list[tuple[str, str]]:
+    """Names and units of the analog channels that a cfg names; its data needn't be there."""
+    try:
+        with opened(path) as file:
+            own = read_configuration(path, file.read())
+    except OSError as fault:
+        raise RecordError(f"{fault.filename or path}: {fault.strerror or fault}") from None
+    return list(zip(distinct(analog_names(own), set(), []), (channel.unit for channel in own.analogs)))
+
+
+def analog_names(own: Configuration) -> list[str]:
+    """The names of the analog channels, a blank one by its number."""
+    return [channel.name or f"analog {at}" for at, channel in enumerate(own.analogs, 1)]
+
+
 def opened(path: str) -> BinaryIO:
     """A file for reading; a folder, a pipe or a device is none."""
     try:
@@ -235,7 +250,7 @@ def made(path: str, own: Configuration, samples: Samples) -> Record:
     """The record of a configuration and its samples."""
     told = own.told
     times = sample_times(own, samples)
-    names = distinct([channel.name or f"analog {at}" for at, channel in enumerate(own.analogs, 1)], set(), told)
+    names = distinct(analog_names(own), set(), told)
     bars = distinct([bar.name or f"status {at}" for at, bar in enumerate(own.states, 1)], set(names), told)
     trigger = math.nan
     if own.first and own.trigger:

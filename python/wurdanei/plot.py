@@ -1,0 +1,272 @@
+"""Draws a record, or what `emtp scan` or `emtp batch` printed, and prints the extremes of what it drew.
+
+    plot RECORD [DAT] [OUT]              a COMTRADE record, .cfg (DAT is its .dat, where it has another name) or .cff
+    plot RECORD --with OTHER --offset S  two records over each other, OTHER moved by S seconds
+    plot SUMMARY [OUT] [--cfg CFG]       what a scan or a batch printed, in a file; a record's CFG names the channels of a batch
+
+OUT is a picture, NAME.png, or one page that stands alone, NAME.html, with zoom, values under the cursor and a legend that hides and
+shows; without OUT it is a picture beside the first file. Times are in seconds from the first sample. Channels of one unit
+stand in one pane, those that would lie flat in one of their own; states, and variables that are 0 or 1 throughout, are bars
+below. Where values are secondary, missing or moved, that is said. A scan is drawn as magnitude and angle over the frequency,
+its resonances marked; a batch as the share of its rows that stay at or below a peak, with the value that 2 % of them exceed.
+
+Pictures need matplotlib (Debian: python3-matplotlib), pages plotly (Debian: python3-plotly).
+"""
+
+from __future__ import annotations
+
+import argparse
+import os
+from dataclasses import dataclass, replace
+
+import numpy as np
+
+from . import page, picture
+from .choice import chosen, matching
+from .configuration import RecordError
+from .convert import number as real
+from .drawing import Bar, Curve, Drawing, Mark, Pane, base_unit, is_two_valued, number, panes_of, shown_unit, spans_of
+from .record import Record, channel_names, listed, read
+from .spectrum import peaks_of, spectrum_of
+from .summary import batch_drawing, is_summary, print_summary, read_summary, scan_drawing
+
+ENDINGS = (".png", ".html", ".htm", ".svg", ".pdf", ".jpg", ".jpeg")
+LONG = 10.0  # s, from which on times are drawn in s and not in ms
+TOLD_PEAKS = 5
+
+
+@dataclass
+class Signal:
+    """A channel as it may be drawn: `times` in s and `values`, shape (samples,) both, in V, A or the channel's own unit."""
+
+    name: str
+    times: np.ndarray
+    values: np.ndarray
+    unit: str
+    state: bool  # a status channel
+    skew: float  # s, which the times have in them
+
+
+def parser() -> argparse.ArgumentParser:
+    """The words of the command."""
+    made = argparse.ArgumentParser(
+        prog="emtp plot", description=__doc__, formatter_class=argparse.RawDescriptionHelpFormatter
+    )
+    made.add_argument("files", metavar="FILE", nargs="+", help="RECORD [DAT] [OUT], or SUMMARY [OUT]")
+    made.add_argument("--with", metavar="OTHER", dest="other", help="a second record over the first one")
+    made.add_argument("--offset", metavar="S", type=real, default=0.0, help="s that are added to the times of OTHER")
+    made.add_argument("--from", metavar="S", dest="begin", type=real, help="the first time that is drawn, in s")
+    made.add_argument("--to", metavar="S", dest="end", type=real, help="the last time that is drawn, in s")
+    made.add_argument(
+        "--only", metavar="NAMES", action="append", help="these channels alone, between commas, with * for any text"
+    )
+    made.add_argument(
+        "--fft", metavar="NAME", help="the spectrum of a channel between --from and --to (window of von Hann)"
+    )
+    made.add_argument("--xy", metavar="NAME", nargs=2, help="the second channel over the first one")
+    made.add_argument("--all", action="store_true", help="a page has all samples, however many")
+    made.add_argument("--cfg", metavar="CFG", help="the record that names the channels of a batch")
+    return made
+
+
+def main(words: list[str]) -> int:
+    """Runs the command: 0 where it drew."""
+    its = parser().parse_intermixed_args(words)
+    first, dat, out = files_of(its.files)
+    summary = is_summary(first)
+    if summary and (dat or its.other or its.only or its.fft or its.xy or its.begin is not None or its.end is not None):
+        raise RecordError(f"{first} is a summary, of which all is drawn: only OUT and --cfg may stand beside it")
+    if its.cfg and not summary:
+        raise RecordError("--cfg names the channels of a batch, and a record was given")
+    if its.fft and its.xy:
+        raise RecordError("--fft and --xy are two drawings: ask for one")
+    if summary:
+        drawing = summary_drawing(first, its.cfg)
+    else:
+        drawing = record_drawing(first, dat, its)
+    if out.lower().endswith((".html", ".htm")):
+        page.write(drawing, out, its.all)
+    else:
+        picture.draw(drawing, out)
+    print(f"drawn: {out}")
+    return 0
+
+
+def files_of(files: list[str]) -> tuple[str, str | None, str]:
+    """The first file, its data where they are named, and what is drawn."""
+    if len(files) > 3:
+        raise RecordError(f"{len(files)} files: a record has two at most, and OUT is one")
+    first, *rest = files
+    out = (
+        rest.pop()
+        if rest and (len(rest) == 2 or rest[-1].lower().endswith(ENDINGS))
+        else os.path.splitext(first)[0] + ".png"
+    )
+    if len(rest) > 1:
+        raise RecordError(f"{rest[0]} and {rest[1]}: a record has one file of data")
+    if os.path.realpath(out) in {os.path.realpath(name) for name in (first, *rest)}:
+        raise RecordError(f"{out}: this would be written over what is read")
+    return first, rest[0] if rest else None, out
+
+
+def summary_drawing(path: str, cfg: str | None) -> Drawing:
+    """The drawing of what a scan or a batch printed; its extremes are printed."""
+    names = None if cfg is None else [f"{name} in {unit}" for name, unit in channel_names(cfg)]
+    summary = read_summary(path, names, cfg or "")
+    print_summary(summary)
+    title = os.path.basename(path)
+    return scan_drawing(summary, title) if summary.points else batch_drawing(summary, title)
+
+
+def record_drawing(path: str, dat: str | None, its: argparse.Namespace) -> Drawing:
+    """The drawing of one record or two; what was drawn is printed."""
+    record = read(path, dat)
+    signals, notes = signals_of(record, 0.0, "", its), told_of(record, 0.0)
+    title = os.path.basename(path)
+    if its.other:
+        other = read(its.other)
+        mark = stem(its.other) if stem(its.other) != stem(path) else its.other
+        signals += signals_of(other, its.offset, f" ({mark})", its)
+        notes += told_of(other, its.offset)
+        title += f" and {os.path.basename(its.other)}"
+    if its.only and not signals:
+        raise RecordError(f"{path} has no channel {its.only[0]!r}; it has {listed(record.names + record.state_names)}")
+    signals = [within(signal, its) for signal in signals]
+    if (record.names or record.state_names) and not any(len(signal.times) for signal in signals):
+        raise RecordError(
+            f"{path} has no sample in the time that is asked for; it lasts from 0 to {number(record.times[-1])} s"
+        )
+    if its.fft:
+        signals = [one_of(its.fft, signals, path)]
+        drawing = spectrum_drawing(signals[0])
+    elif its.xy:
+        signals = [one_of(name, signals, path) for name in its.xy]
+        drawing = pair_drawing(*signals)
+    else:
+        drawing = times_drawing(signals)
+    drawing.title, drawing.notes = title, notes + said_of(signals) + drawing.notes
+    for note in drawing.notes:
+        print(note)
+    return drawing
+
+
+def stem(path: str) -> str:
+    """The name of a file without folder and ending."""
+    return os.path.splitext(os.path.basename(path))[0]
+
+
+def signals_of(record: Record, shift: float, suffix: str, its: argparse.Namespace) -> list[Signal]:
+    """The channels of a record that are asked for, their times moved."""
+    names = record.names + record.state_names
+    if its.only:
+        wanted = [part.strip() for text in its.only for part in text.split(",")]
+        if not its.other:
+            chosen(its.only, names, record.path)  # each word has to mean one
+        names = [name for name in names if any(name in matching(word, names) for word in wanted)]
+    signals = []
+    for name in names:
+        state = name not in record.names
+        factor, unit = (1.0, "") if state else base_unit(record.units[record.names.index(name)])
+        values = record.states(name) if state else record.channel(name) * factor
+        skew = 0.0 if state else record.skew(name)
+        signals.append(Signal(name + suffix, record.times + (skew + shift), values, unit, state, skew))
+    return signals
+
+
+def told_of(record: Record, shift: float) -> list[str]:
+    """What is unusual of a record that is drawn, and by how much it was moved."""
+    base = os.path.basename(record.path)
+    return [f"{base}: {told}" for told in record.told] + ([f"{base}: moved by {number(shift)} s"] if shift else [])
+
+
+def said_of(signals: list[Signal]) -> list[str]:
+    """What was done to the channels that are drawn."""
+    gone = [(signal.name, int(np.isnan(signal.values).sum())) for signal in signals if not signal.state]
+    missing = [f"{name} ({count})" for name, count in gone if count]
+    skewed = [signal.name for signal in signals if signal.skew]
+    said = [f"values are missing, and left out: {listed(missing)}"] if missing else []
+    return said + ([f"drawn at the times of their skew: {listed(skewed)}"] if skewed else [])
+
+
+def within(signal: Signal, its: argparse.Namespace) -> Signal:
+    """The part of a signal between --from and --to."""
+    slack = 1e-9 * max(1e-3, *(abs(it) for it in (its.begin or 0.0, its.end or 0.0)))
+    kept = np.ones(len(signal.times), bool)
+    if its.begin is not None:
+        kept &= signal.times >= its.begin - slack
+    if its.end is not None:
+        kept &= signal.times <= its.end + slack
+    return replace(signal, times=signal.times[kept], values=signal.values[kept])
+
+
+def one_of(name: str, signals: list[Signal], path: str) -> Signal:
+    """The one signal that a word names."""
+    found = chosen([name], [signal.name for signal in signals if not signal.state], path)
+    if len(found) > 1:
+        raise RecordError(f"{name!r} means several channels: {listed(found)}")
+    return next(signal for signal in signals if signal.name == found[0] and not signal.state)
+
+
+def times_drawing(signals: list[Signal]) -> Drawing:
+    """Curves and bars over the time; the extremes of each channel are printed."""
+    begin = min((signal.times[0] for signal in signals if len(signal.times)), default=0.0)
+    end = max((signal.times[-1] for signal in signals if len(signal.times)), default=0.0)
+    scale, unit = (1.0, "s") if end - begin >= LONG else (1e3, "ms")
+    curves, bars = [], []
+    for signal in signals:
+        times = signal.times * scale
+        if signal.state or is_two_valued(signal.values, signal.unit):
+            bars.append(Bar(signal.name, spans_of(times, signal.values) if len(times) else []))
+        else:
+            curves.append(Curve(signal.name, times, signal.values, signal.unit))
+    panes = panes_of(curves)
+    print_extremes(signals, curves, scale, unit)
+    return Drawing("", panes, bars, unit)
+
+
+def print_extremes(signals: list[Signal], curves: list[Curve], scale: float, unit: str) -> None:
+    """Least and greatest value of each analog channel, with their times, in the order of the channels."""
+    drawn = {
+        id(signal): Curve(signal.name, signal.times * scale, signal.values, signal.unit)
+        for signal in signals
+        if not signal.state
+    }
+    shown = {curve.name: curve for curve in curves}
+    for curve in drawn.values():
+        curve = shown.get(curve.name, curve)
+        if not np.isfinite(curve.y).any():
+            print(f"{curve.name}: no values")
+            continue
+        low, high = int(np.nanargmin(curve.y)), int(np.nanargmax(curve.y))
+        own = f" {curve.unit}" if curve.unit else ""
+        print(
+            f"{curve.name}: least {number(curve.y[low])}{own} at {number(curve.x[low])} {unit}, "
+            f"greatest {number(curve.y[high])}{own} at {number(curve.x[high])} {unit}"
+        )
+
+
+def spectrum_drawing(signal: Signal) -> Drawing:
+    """The spectrum of a signal; its greatest peaks are printed and marked."""
+    made = spectrum_of(signal.times, signal.values, signal.name)
+    divisor, unit = shown_unit(signal.unit, float(made.crests.max()))
+    marks = []
+    for hertz, crest in peaks_of(made)[:TOLD_PEAKS]:
+        print(f"{signal.name}: {number(hertz)} Hz: crest {number(crest / divisor)} {unit}".rstrip())
+        marks.append(Mark(hertz, crest / divisor, f"{number(hertz)} Hz"))
+    told = [
+        f"spectrum of {number(made.length)} s by the window of von Hann: crest values, a line each {number(made.spacing)} Hz"
+    ]
+    told += [made.told] if made.told else []
+    curve = Curve(signal.name, made.hertz, made.crests / divisor, unit)
+    return Drawing("", [Pane(unit, [curve], "Hz", 4.0, marks)], notes=told)
+
+
+def pair_drawing(x: Signal, y: Signal) -> Drawing:
+    """One signal over the other, at the times of the first; what one of them hasn't is left out."""
+    same = len(x.times) == len(y.times) and np.array_equal(x.times, y.times)
+    beside = y.values if same else np.interp(x.times, y.times, y.values, np.nan, np.nan)
+    over, x_unit = shown_unit(x.unit, float(np.nanmax(np.abs(x.values), initial=0.0)))
+    up, y_unit = shown_unit(y.unit, float(np.nanmax(np.abs(beside), initial=0.0)))
+    curve = Curve("", x.values / over, beside / up, y_unit)
+    told = [] if same else [f"{y.name} is taken between its samples at the times of {x.name}"]
+    return Drawing("", [Pane(f"{y.name}, {y_unit}", [curve], f"{x.name}, {x_unit}", 6.0)], notes=told)
