@@ -1,0 +1,117 @@
+"""The sections of a case as the proved program reads them, and cards that are put into them.
+
+As what each line is read is asked of `emtp show --kinds`; no rule of the cards stands here a second time.
+"""
+
+import os
+import re
+from decimal import Decimal
+
+from . import program
+
+CONTROL = ("blocks", "TACS sources", "supplemental cards", "TACS outputs", "initial conditions")
+NETWORK = ("branches", "switches", "sources", "node outputs")
+END = "the end of a section"
+NUMBER = re.compile(r"([+-]?(?:\d+\.?\d*|\.\d+))(?:[ED]([+-]?\d{1,3})|([+-]\d{1,3}))?")
+
+
+class DeckError(Exception):
+    """Why a case can't be taken, in words."""
+
+
+def kinds(path: str) -> dict[int, str]:
+    """As what kind of card each line of a case is read, by its number; without comments, and up to a card that is refused."""
+    folder, name = os.path.split(os.path.abspath(path))
+    try:
+        with open(path, "rb"):
+            pass
+        told = program.run(["show", "--kinds", f"./{name}"], folder)
+    except OSError as fault:
+        raise DeckError(f"{path}: {fault.strerror}") from None
+    except program.ProgramError as fault:
+        raise DeckError(str(fault)) from None
+    if told.status:
+        raise DeckError(f"{path}: {told.note.strip() or told.told.strip() or f'status {told.status}'}")
+    rows = [line.split("\t", 1) for line in told.note.splitlines()]
+    return {int(row[0]): row[1] for row in rows if len(row) == 2 and not row[1].startswith("due: ")}
+
+
+def number(field: str) -> Decimal:
+    """The number of a field of a card; a blank one is 0. ValueError where it is none."""
+    text = field.strip().upper()
+    match = NUMBER.fullmatch(text)
+    if not match and text:
+        raise ValueError(field)
+    return Decimal(match[1]).scaleb(int(match[2] or match[3] or 0)) if match else Decimal(0)
+
+
+class Deck:
+    """The lines of a case, with what they are."""
+
+    def __init__(self, path: str) -> None:
+        """Reads a case. DeckError where it can't be read, or isn't whole."""
+        self.path = path
+        self.kinds = kinds(path)
+        with open(path, encoding="latin-1", newline="") as file:
+            self.lines = [line.removesuffix("\r") for line in file.read().split("\n")]
+        if self.lines[-1] == "":
+            self.lines.pop()
+        self.has_control = "the card TACS HYBRID" in self.kinds.values()
+        self._sections = (CONTROL if self.has_control else ()) + NETWORK
+        ends = [line for line, kind in self.kinds.items() if kind == END]
+        if len(ends) < len(self._sections):
+            raise DeckError(f"{path} isn't read to its end; `emtp show {path}` says why")
+        self._ends = dict(zip(self._sections, ends))
+        self._put: dict[str, list[str]] = {}
+
+    def cards(self, *wanted: str) -> list[tuple[int, str]]:
+        """The cards of these kinds: number of the line, text."""
+        return [(line, self.lines[line - 1]) for line, kind in self.kinds.items() if kind in wanted]
+
+    def variables(self) -> set[str]:
+        """The names that the control's cards define, and those that every case has."""
+        cards = self.cards("a block card", "a TACS source", "a supplemental card")
+        return {card[2:8].strip() for _, card in cards} | {"TIMEX", "ISTEP", "DELTAT", "ZERO", "PLUS1", "MINUS1"}
+
+    def step(self) -> Decimal:
+        """The time step in seconds."""
+        return number(self.cards("the first miscellaneous card")[0][1][:8])
+
+    def end(self) -> Decimal:
+        """The end of the run in seconds."""
+        return number(self.cards("the first miscellaneous card")[0][1][8:16])
+
+    def put(self, section: str, cards: list[str]) -> None:
+        """Puts cards at the end of a section; of the control too where the case has none yet."""
+        self._put.setdefault(section, []).extend(cards)
+
+    def text(self) -> str:
+        """The case with what was put into it."""
+        lines = []
+        last = self.cards("the second miscellaneous card")[0][0]
+        before = {line: section for section, line in self._ends.items()}
+        for place, line in enumerate(self.lines, 1):
+            lines += self._put.get(before.get(place, ""), [])
+            lines.append(line)
+            if place == last and not self.has_control and any(self._put.get(section) for section in CONTROL):
+                lines.append("TACS HYBRID")
+                for section in CONTROL:
+                    lines += [*self._put.get(section, []), "BLANK"]
+        return "".join(line + "\n" for line in lines)
+
+
+def switch_cards(path: str) -> list[tuple[int, str]]:
+    """The switch cards of a case: number of the line, text."""
+    read = kinds(path)
+    with open(path, encoding="latin-1", newline="") as file:
+        lines = file.read().split("\n")
+    return [(line, lines[line - 1].removesuffix("\r")) for line, kind in read.items() if kind == "a switch card"]
+
+
+def time_switches(path: str) -> list[tuple[int, str]]:
+    """The cards of the time switches of a case, in the order in which a table of switch times has them."""
+    return [
+        (line, card)
+        for line, card in switch_cards(path)
+        if card[:2].strip() in ("", "0", "00", "+0", "-0") and card[54:64].strip() != "MEASURING"
+    ]

@@ -1,0 +1,109 @@
+"""Numbers that say how far two curves lie apart.
+
+Each takes the case's values and the measured ones at the same instants, shape (samples,), and is told in % of the
+measured curve. docs/compare.md has their definitions in formulas, with their sources.
+"""
+
+from dataclasses import dataclass
+
+import numpy as np
+
+NOTHING = 1e-9  # of the greatest magnitude: a part of a curve below it is what transforms round to
+
+
+def percent(part: float, whole: float) -> float:
+    """`part` in % of `whole`; of nothing, 0 is 0 % and anything else infinitely much."""
+    if whole:
+        return 100 * part / whole
+    return 0.0 if not part else float(np.copysign(np.inf, part))
+
+
+def rms(values: np.ndarray) -> float:
+    """The root of the mean of the squares."""
+    return float(np.sqrt(np.mean(values * values)))
+
+
+def rms_difference(case: np.ndarray, measured: np.ndarray) -> float:
+    """The effective value of the difference, in % of the measured effective value."""
+    return percent(rms(case - measured), rms(measured))
+
+
+def peak_difference(case: np.ndarray, measured: np.ndarray) -> float:
+    """The case's greatest magnitude less the measured one, in % of the measured one."""
+    peak = float(np.max(abs(measured)))
+    return percent(float(np.max(abs(case))) - peak, peak)
+
+
+def band(
+    case_times: np.ndarray, case_values: np.ndarray, at: np.ndarray, width: float
+) -> tuple[np.ndarray, np.ndarray]:
+    """The least and the greatest value that the case has within `width` seconds of each instant of `at`, on either side.
+
+    `case_times`, in s, rise; the case is straight between its samples. Both answers have the shape of `at`.
+    """
+    begin, end = at - width, at + width
+    ends = np.stack([np.interp(it, case_times, case_values) for it in (begin, end)])
+    low, high = ends.min(0), ends.max(0)
+    first, last = np.searchsorted(case_times, begin), np.searchsorted(case_times, end)
+    count = last - first
+    least = greatest = case_values
+    for level in range(int(count.max()).bit_length()):
+        # least[k] and greatest[k] are over 2**level samples from k on: two such spans cover each count of that length
+        those = (count >= 1 << level) & (count < 2 << level)
+        for place in (first[those], last[those] - (1 << level)):
+            low[those] = np.minimum(low[those], least[place])
+            high[those] = np.maximum(high[those], greatest[place])
+        if len(least) <= 1 << level:
+            break
+        least = np.minimum(least[: -(1 << level)], least[1 << level :])
+        greatest = np.maximum(greatest[: -(1 << level)], greatest[1 << level :])
+    return low, high
+
+
+def beyond(measured: np.ndarray, low: np.ndarray, high: np.ndarray) -> np.ndarray:
+    """How far each measured value lies outside of its band, 0 within it."""
+    return np.maximum(0, np.maximum(measured - high, low - measured))
+
+
+@dataclass(frozen=True)
+class Features:
+    """Means of the amplitude, the feature and the global difference measure of IEEE 1597.1 (FSV); 0 where both agree."""
+
+    amplitude: float
+    feature: float
+    whole: float
+
+
+def features(case: np.ndarray, measured: np.ndarray) -> Features:
+    """The difference measures of two curves on one even grid, shape (samples,), by Feature Selective Validation.
+
+    IEEE 1597.1-2008; A. P. Duffy et al., IEEE Transactions on Electromagnetic Compatibility 48 (2006), 449 to 459.
+    """
+    samples, least = len(case), NOTHING * float(max(np.max(abs(case)), np.max(abs(measured))))
+    spectra = [np.fft.rfft(it) for it in (case, measured)]
+    place = np.arange(len(spectra[0]))
+    turn = min(_turn(it) for it in spectra)
+    rest, slow = place >= 4, np.clip((turn + 3 - place) / 6, 0, 1)
+    shares = (1 - rest, rest * slow, rest * (1 - slow))
+    parts = [[np.fft.irfft(it * share, samples) for it in spectra] for share in shares]
+    offsets, lows, highs = ([it if np.max(abs(it)) > least else 0 * it for it in its] for its in parts)
+    low_slopes, high_slopes = ([np.gradient(it) for it in its] for its in (lows, highs))
+    high_bends = [np.gradient(it) for it in high_slopes]
+    shift = abs(_apart(*offsets, 1))
+    amplitude = abs(_apart(*lows, 1)) + shift * np.exp(shift)
+    feature = 2 * abs(_apart(*low_slopes, 2) + _apart(*high_slopes, 6) + _apart(*high_bends, 7.2))
+    whole = np.sqrt(amplitude**2 + feature**2)
+    return Features(*(float(it.mean()) for it in (amplitude, feature, whole)))
+
+
+def _turn(spectrum: np.ndarray) -> int:
+    """Where slow parts end and fast ones begin: five places behind that by which 40 % of the magnitudes are summed up,
+    those of the first four places left out."""
+    sums = np.cumsum(abs(spectrum[4:]))
+    return 4 + int(np.searchsorted(sums, 0.4 * sums[-1])) + 5 if len(sums) and sums[-1] > 0 else len(spectrum)
+
+
+def _apart(case: np.ndarray, measured: np.ndarray, weight: float) -> np.ndarray:
+    """The difference of two magnitudes over so many times the mean of their sum; 0 where both are nothing."""
+    mean = float(np.mean(abs(case) + abs(measured)))
+    return (abs(case) - abs(measured)) / (weight * mean) if mean else np.zeros(len(case))
