@@ -7,8 +7,11 @@ import os
 import sys
 
 COMMANDS = {  # the word, its module, what it does
+    "compare": ("compare", "lays the record of a case beside a measured one"),
     "convert": ("convert", "makes another COMTRADE record of a record, or a table (csv)"),
+    "play": ("play", "makes measured voltages or currents the sources of a case"),
     "plot": ("plot", "draws a record, a scan or a batch as a picture or a page"),
+    "study": ("study", "runs a case under many switch times or values, or many cases, on all processors"),
 }
 
 

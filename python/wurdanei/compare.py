@@ -267,11 +267,16 @@ def compare(
 # ---- words
 
 
+def _round(value: float, digits: int) -> float:
+    """The value to so many digits behind the point, 0 without a sign."""
+    return round(value, digits) + 0.0
+
+
 def listing(found: Comparison) -> str:
     """What was found, as lines."""
     shift, first = found.shift, found.pairs[0]
-    sign = "-" if shift.seconds < 0 else "+"
-    lines = [f"time of the measured record = time of the case {sign} {abs(1e3 * shift.seconds):.4f} ms"]
+    text = f"{_round(1e3 * shift.seconds, 4):+.4f}"
+    lines = [f"time of the measured record = time of the case {text[0]} {text[1:]} ms"]
     if math.isfinite(shift.deviation):
         lines[0] += f", standard deviation {1e6 * shift.deviation:.1f} us"
     if shift.others:
@@ -290,7 +295,7 @@ def listing(found: Comparison) -> str:
     )
     for it in found.pairs:
         lines.append(
-            f"{it.name:{width}}  {it.factor:9.5g}  {it.rms:7.2f}  {it.peak:+7.2f}  {it.beyond:8.2f}  {it.share:7.2f}  {1e6 * it.shift:+8.1f}  "
+            f"{it.name:{width}}  {it.factor:9.5g}  {it.rms:7.2f}  {_round(it.peak, 2):+7.2f}  {it.beyond:8.2f}  {it.share:7.2f}  {_round(1e6 * it.shift, 1):+8.1f}  "
             f"{it.features.amplitude:6.3f}  {it.features.feature:6.3f}  {it.features.whole:6.3f}  "
             f"{'WITHIN' if it.within else 'BEYOND'} {it.wanted.tolerance:g} %"
         )
