@@ -63,6 +63,7 @@ class Deck:
             raise DeckError(f"{path} isn't read to its end; `emtp show {path}` says why")
         self._ends = dict(zip(self._sections, ends))
         self._put: dict[str, list[str]] = {}
+        self._dropped: set[int] = set()
 
     def cards(self, *wanted: str) -> list[tuple[int, str]]:
         """The cards of these kinds: number of the line, text."""
@@ -85,19 +86,24 @@ class Deck:
         """Puts cards at the end of a section; of the control too where the case has none yet."""
         self._put.setdefault(section, []).extend(cards)
 
-    def text(self) -> str:
-        """The case with what was put into it."""
-        lines = []
+    def drop(self, lines: list[int]) -> None:
+        """Leaves lines out, by their numbers."""
+        self._dropped |= set(lines)
+
+    def text(self, lines: list[str] | None = None) -> str:
+        """The case with what was put into it; `lines` stand in place of its own, as many."""
+        made = []
         last = self.cards("the second miscellaneous card")[0][0]
         before = {line: section for section, line in self._ends.items()}
-        for place, line in enumerate(self.lines, 1):
-            lines += self._put.get(before.get(place, ""), [])
-            lines.append(line)
+        for place, line in enumerate(self.lines if lines is None else lines, 1):
+            made += self._put.get(before.get(place, ""), [])
+            if place not in self._dropped:
+                made.append(line)
             if place == last and not self.has_control and any(self._put.get(section) for section in CONTROL):
-                lines.append("TACS HYBRID")
+                made.append("TACS HYBRID")
                 for section in CONTROL:
-                    lines += [*self._put.get(section, []), "BLANK"]
-        return "".join(line + "\n" for line in lines)
+                    made += [*self._put.get(section, []), "BLANK"]
+        return "".join(line + "\n" for line in made)
 
 
 def switch_cards(path: str) -> list[tuple[int, str]]:
