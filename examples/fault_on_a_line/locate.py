@@ -29,8 +29,16 @@ def run(folder: pathlib.Path, name: str, km: float, ohm: float, *others: tuple[s
     """The record of the case with the fault at this place and resistance; `others` are texts of cards that are replaced."""
     text = "\n".join(LINES) + "\n"
     near, far = ".0127  120.", ".0127  180."
-    changes = [("  .008  120.", f"  .008{km:6.1f}"), (near, f".0127{km:6.1f}"), ("  .008  180.", f"  .008{300 - km:6.1f}")]
-    changes += [(far, f".0127{300 - km:6.1f}"), ("  GND                         5.", f"  GND                     {ohm:6.3f}"), *others]
+    changes = [
+        ("  .008  120.", f"  .008{km:6.1f}"),
+        (near, f".0127{km:6.1f}"),
+        ("  .008  180.", f"  .008{300 - km:6.1f}"),
+    ]
+    changes += [
+        (far, f".0127{300 - km:6.1f}"),
+        ("  GND                         5.", f"  GND                     {ohm:6.3f}"),
+        *others,
+    ]
     for old, new in changes:
         assert old in text, old
         text = text.replace(old, new)
@@ -44,22 +52,25 @@ def main(folder: pathlib.Path, quick: bool) -> None:
     folder.mkdir(exist_ok=True)
     finer = [("   4.E-5", "   1.E-5"), ("       1       2", "       1       4"), ("   2.8  .008", " 2.814 .0081")]
     settings = recorder.Settings(begin=0.085, noise=0.002, missing=0.001, seed=7)
-    recorder.write(run(folder, "finer", 120, 5, *finer[:2]), INPUTS, settings, str(folder / "measured"))
+    recorder.write(run(folder, "finer", 120, 5, *finer[:2]), INPUTS, settings, str(folder / "measured.cfg"))
     (folder / "pairs").write_text("".join(f"{mine},{name},{factor:g},3\n" for mine, name, factor in PAIRS))
     measured = record.read(folder / "measured.cfg")
     wanted = compare.wanted_pairs(str(folder / "pairs"), 3)
 
     def misfit(place: tuple[float, float]) -> float:
-        """The mean over all pairs of the RMS difference in %, squared."""
+        """The mean over all pairs of the squared RMS difference, its root in %."""
         found = compare.compare(run(folder, "tried", *place), measured, wanted, None, (0.1, 0.18), 1500)
-        return sum(it.rms**2 for it in found.pairs) / len(found.pairs)
+        return (sum(it.rms**2 for it in found.pairs) / len(found.pairs)) ** 0.5
 
     run(folder, "right", 120, 5), run(folder, "wrong", 150, 5)
-    kms, ohms = ((60, 120, 180), (2, 8)) if quick else ((60, 90, 120, 150, 180, 210, 240), (2, 8, 20))
-    best = min(itertools.product(kms, ohms), key=misfit)
-    for km, ohm in [(10, 1)] if quick else [(15, 3), (5, 1), (1, 0.3)]:
-        best = min(itertools.product(*([it - by, it, it + by] for it, by in zip(best, (km, ohm)))), key=misfit)
-        print(f"{best[0]:.1f} km, {best[1]:.2f} ohm: RMS {misfit(best) ** 0.5:.2f} %", flush=True)
+    kms, ohms = ((70, 130), (2, 8)) if quick else ((70, 100, 130, 160, 190, 220), (2, 8, 20))
+    best = min((misfit(it), *it) for it in itertools.product(kms, ohms))
+    for km, ohm in [(10, 3)] if quick else [(15, 2.5), (5, 1), (2, 0.5)]:
+        near = itertools.product(
+            (best[1] - km, best[1], best[1] + km), (max(0.1, best[2] - ohm), best[2], best[2] + ohm)
+        )
+        best = min((misfit(it), *it) for it in near)
+        print(f"RMS {best[0]:.2f} % at {best[1]:g} km, {best[2]:g} ohm", flush=True)
 
 
 if __name__ == "__main__":

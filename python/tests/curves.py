@@ -72,5 +72,5 @@ INPUTS = [
 
 def measured_record(stem: str, fine: Record, **settings: float) -> Record:
     """What the recorder sees of the formulas."""
-    write(fine, INPUTS, Settings(**settings), stem)
+    write(fine, INPUTS, Settings(**settings), stem + ".cfg")
     return read(stem + ".cfg")

@@ -1,26 +1,27 @@
-"""Draws a comparison: of each pair both curves with the case's band, and below them the difference with what may be."""
+"""Draws a comparison: of each pair both curves with the case's band, and below them the difference with what it may be."""
 
-import html
+from __future__ import annotations
+
 import os
+import sys
 
 import numpy as np
 
-from .compare import Compared, CompareError, Comparison
+from .compare import Compared, Comparison
+from .drawing import Curve, needs, thinned
+from .page import rounded, untagged
+from .picture import plain
 
-MOST_POINTS = 20_000  # of a curve on a page; of more, the least and the greatest of each piece are drawn
-COLOURS = {"measured": "#d55e00", "case": "#0072b2", "band": "#0072b2", "difference": "#222222", "may be": "#009e73"}
+MOST = 20_000  # points of a curve
+MEASURED, CASE, DIFFERENCE, MAY_BE = "#d55e00", "#0072b2", "#222222", "#009e73"
 
 
 def draw(found: Comparison, path: str) -> None:
     """Writes the picture (.png) or the page (.html) of a comparison, and says so."""
-    try:
-        if path.endswith(".html"):
-            _page(found, path)
-        else:
-            _picture(found, path)
-    except ImportError as fault:
-        needed = "plotly" if path.endswith(".html") else "matplotlib"
-        raise CompareError(f"{path} needs {needed} ({fault}); on Debian: apt install python3-{needed}") from None
+    if path.endswith(".html"):
+        _page(found, path)
+    else:
+        _picture(found, path)
     print(f"drawn: {path}")
 
 
@@ -36,28 +37,32 @@ def _verdict(it: Compared) -> str:
 
 
 def _picture(found: Comparison, path: str) -> None:
-    import matplotlib
-
+    try:
+        import matplotlib
+    except ImportError:
+        raise needs("a picture", "matplotlib", sys.executable) from None
     matplotlib.use("Agg")
     from matplotlib import pyplot
 
     count = len(found.pairs)
-    heights = {"height_ratios": [3, 1.4] * count}
     figure, panes = pyplot.subplots(
-        2 * count, 1, sharex=True, squeeze=False, figsize=(10, 3.6 * count + 0.6), gridspec_kw=heights
+        2 * count,
+        1,
+        sharex=True,
+        squeeze=False,
+        figsize=(9, 3.3 * count + 0.6),
+        gridspec_kw={"height_ratios": [3, 1.4] * count},
     )
     for it, (upper,), (lower,) in zip(found.pairs, panes[::2], panes[1::2]):
         at = 1e3 * it.times
-        upper.fill_between(at, it.low, it.high, color=COLOURS["band"], alpha=0.2, linewidth=0, label="band of the case")
-        upper.plot(
-            at, it.measured, color=COLOURS["measured"], linewidth=1.3, label=_plain(f"measured {it.wanted.measured}")
-        )
-        upper.plot(at, it.case, color=COLOURS["case"], linewidth=0.8, label=_plain(f"case {it.wanted.case}"))
-        upper.set_title(_plain(_verdict(it)), fontsize="medium", loc="left")
+        upper.fill_between(at, it.low, it.high, color=CASE, alpha=0.2, linewidth=0, label="band of the case")
+        upper.plot(at, it.measured, color=MEASURED, linewidth=1.3, label=plain(f"measured {it.wanted.measured}"))
+        upper.plot(at, it.case, color=CASE, linewidth=0.8, label=plain(f"case {it.wanted.case}"))
+        upper.set_title(plain(_verdict(it)), fontsize="medium", loc="left")
         upper.legend(loc="upper right", fontsize="small")
-        upper.set_ylabel(_plain(it.unit))
-        lower.fill_between(at, *_may_be(it), color=COLOURS["may be"], alpha=0.25, linewidth=0)
-        lower.plot(at, it.measured - it.case, color=COLOURS["difference"], linewidth=0.8)
+        upper.set_ylabel(plain(it.unit))
+        lower.fill_between(at, *_may_be(it), color=MAY_BE, alpha=0.25, linewidth=0)
+        lower.plot(at, it.measured - it.case, color=DIFFERENCE, linewidth=0.8)
         lower.set_ylabel("measured\nless case", fontsize="small")
         for pane in (upper, lower):
             pane.grid(alpha=0.3)
@@ -68,77 +73,73 @@ def _picture(found: Comparison, path: str) -> None:
     pyplot.close(figure)
 
 
-def _plain(text: str) -> str:
-    """A name as it is: a dollar begins no formula."""
-    return text.replace("$", r"\$")
-
-
-def _thinned(times: np.ndarray, *curves: np.ndarray) -> tuple[np.ndarray, ...]:
-    """The curves at the places of the least and the greatest value of each piece of the first one, where they are long."""
-    size = -(-2 * len(times) // MOST_POINTS)
-    if size <= 2:
-        return (times, *curves)
-    pieces = [np.arange(first, min(first + size, len(times))) for first in range(0, len(times), size)]
-    ends = [piece[getattr(np, most)(curves[0][piece])] for piece in pieces for most in ("argmin", "argmax")]
-    kept = np.unique(ends)
-    return tuple(it[kept] for it in (times, *curves))
-
-
 def _page(found: Comparison, path: str) -> None:
-    from plotly import graph_objects, subplots
-
+    try:
+        from plotly import subplots
+    except ImportError:
+        raise needs("a page", "plotly", sys.executable) from None
     count = len(found.pairs)
-    titles = [title for it in found.pairs for title in (html.escape(_verdict(it), quote=False), "")]
     figure = subplots.make_subplots(
         rows=2 * count,
         cols=1,
         shared_xaxes=True,
-        vertical_spacing=0.07 / count,
+        vertical_spacing=0.35 / (2 * count),
         row_heights=[3, 1.4] * count,
-        subplot_titles=titles,
+        subplot_titles=[title for it in found.pairs for title in (untagged(_verdict(it)), "")],
     )
-    for row, it in enumerate(found.pairs):
-        below, above = _may_be(it)
-        times, difference, below, above = _thinned(1e3 * it.times, it.measured - it.case, below, above)
-        at, measured, case, low, high = _thinned(1e3 * it.times, it.measured, it.case, it.low, it.high)
-        unit = html.escape(it.unit, quote=False)
-        drawn = [
-            (at, low, "band", None, None, 2 * row),
-            (at, high, "band", "tonexty", "rgba(0,114,178,.2)", 2 * row),
-            (at, measured, f"measured {it.wanted.measured}", None, None, 2 * row),
-            (at, case, f"case {it.wanted.case}", None, None, 2 * row),
-            (times, below, "may be", None, None, 2 * row + 1),
-            (times, above, "may be", "tonexty", "rgba(0,158,115,.25)", 2 * row + 1),
-            (times, difference, "difference", None, None, 2 * row + 1),
-        ]
-        for x, y, name, fill, colour, pane in drawn:
-            edge = name in ("band", "may be")
-            figure.add_trace(
-                graph_objects.Scatter(
-                    x=_short(x),
-                    y=_short(y),
-                    name=html.escape(name, quote=False),
-                    mode="lines",
-                    line={"width": 0 if edge else 1.3, "color": COLOURS[name.split()[0] if not edge else name]},
-                    fill=fill,
-                    fillcolor=colour,
-                    showlegend=not edge,
-                    hoverinfo="skip" if edge else None,
-                    hovertemplate=None if edge else "%{y:.6g} " + unit,
-                ),
-                row=pane + 1,
-                col=1,
-            )
-        figure.update_yaxes(title_text=unit, row=2 * row + 1, col=1)
-        figure.update_yaxes(title_text="difference", row=2 * row + 2, col=1)
+    for place, it in enumerate(found.pairs):
+        upper, lower = 2 * place + 1, 2 * place + 2
+        _band(figure, upper, it.times, it.low, it.high, "rgba(0,114,178,.2)")
+        _curve(figure, upper, it.times, it.measured, f"measured {it.wanted.measured}", MEASURED, it.unit)
+        _curve(figure, upper, it.times, it.case, f"case {it.wanted.case}", CASE, it.unit)
+        _band(figure, lower, it.times, *_may_be(it), "rgba(0,158,115,.25)")
+        _curve(figure, lower, it.times, it.measured - it.case, "measured less case", DIFFERENCE, it.unit, False)
+        figure.update_yaxes(title_text=untagged(it.unit), row=upper, col=1)
+        figure.update_yaxes(title_text="difference", row=lower, col=1)
     figure.update_xaxes(title_text="ms of the case", row=2 * count, col=1)
-    title = html.escape(os.path.basename(path), quote=False)
     figure.update_layout(
-        title=title, height=140 + 330 * count, template="plotly_white", hovermode="x unified", margin={"t": 80, "r": 20}
+        title=untagged(os.path.basename(path)),
+        height=160 + 330 * count,
+        template="plotly_white",
+        hovermode="x unified",
+        margin={"t": 100, "r": 20},
     )
+    figure.update_annotations(x=0, xanchor="left", font_size=13)
     figure.write_html(path, include_plotlyjs=True, full_html=True, config={"displaylogo": False, "responsive": True})
 
 
-def _short(values: np.ndarray) -> list[float]:
-    """The values to seven digits, so that the page stays small."""
-    return [float(f"{value:.7g}") for value in values]
+def _points(times: np.ndarray, values: np.ndarray) -> dict[str, list[float | None]]:
+    x, y, _ = thinned(Curve("", 1e3 * times, values), MOST)
+    return {"x": rounded(x, 10), "y": rounded(y, 7)}
+
+
+def _curve(
+    figure, row: int, times: np.ndarray, values: np.ndarray, name: str, colour: str, unit: str, named: bool = True
+):
+    """Puts a curve into a pane of a page."""
+    figure.add_scatter(
+        **_points(times, values),
+        name=untagged(name),
+        mode="lines",
+        line={"width": 1.3, "color": colour},
+        hovertemplate="%{y:.6g} " + untagged(unit),
+        showlegend=named,
+        row=row,
+        col=1,
+    )
+
+
+def _band(figure, row: int, times: np.ndarray, low: np.ndarray, high: np.ndarray, colour: str) -> None:
+    """Fills what lies between two curves."""
+    for values, fill in ((low, None), (high, "tonexty")):
+        figure.add_scatter(
+            **_points(times, values),
+            mode="lines",
+            line={"width": 0},
+            fill=fill,
+            fillcolor=colour,
+            hoverinfo="skip",
+            showlegend=False,
+            row=row,
+            col=1,
+        )

@@ -6,17 +6,16 @@ docs/compare.md has the definitions and a worked study.
 
 import argparse
 import math
-import re
 import sys
 from dataclasses import dataclass
 
 import numpy as np
 
 from . import align, measures
+from .drawing import base_unit
 from .lowpass import lowpass
 from .record import Record, RecordError, read
 
-PREFIXES = {"G": 1e9, "M": 1e6, "K": 1e3, "k": 1e3, "": 1.0, "m": 1e-3, "u": 1e-6, "\u00b5": 1e-6}
 FEWEST = 10  # samples in common
 
 
@@ -145,12 +144,6 @@ def _listed(names: list[str]) -> str:
 # ---- the curves
 
 
-def base_unit(unit: str) -> tuple[float, str]:
-    """What a value in this unit is multiplied by to be in V or A, and which of them; another unit stays as it is."""
-    match = re.fullmatch(r"([GMKkmu\u00b5]?)([VA])", unit.strip())
-    return (PREFIXES[match[1]], match[2]) if match else (1.0, unit.strip())
-
-
 def _curve(record: Record, name: str, whose: str) -> tuple[np.ndarray, np.ndarray, str]:
     """Times in s and values in V, A or the channel's unit, without missing ones, and the unit."""
     if name not in record.names:
@@ -162,7 +155,7 @@ def _curve(record: Record, name: str, whose: str) -> tuple[np.ndarray, np.ndarra
     times, values = times[good], values[good]
     if not (np.diff(times) > 0).all():
         raise CompareError(f"{name} of {whose}: its times don't rise")
-    scale, unit = base_unit(record.units[record.names.index(name)])
+    scale, unit = base_unit(record.units[record.names.index(name)].strip())
     return times, values * scale, unit
 
 

@@ -6,9 +6,10 @@ from collections.abc import Sequence
 from dataclasses import dataclass
 from decimal import Decimal
 
-from .parts import StudyError
+import numpy as np
 
-EXCEEDED = 2  # % of the rows that exceed the value that a study is made for
+from .parts import StudyError
+from .summary import two_percent
 
 
 @dataclass(frozen=True)
@@ -110,8 +111,8 @@ def write_rows(
 
 @dataclass(frozen=True)
 class Statistics:
-    """Of one channel over all rows: the peak that half of them exceed at most, that 2 % exceed at most, and the greatest
-    with its row, from 1."""
+    """Of one channel over all rows: the least peak that half of them exceed at most, the least one that 2 % exceed at most,
+    and the greatest with its row, from 1."""
 
     half: float
     seldom: float
@@ -120,14 +121,12 @@ class Statistics:
 
 
 def statistics(column: Sequence[Decimal | str]) -> Statistics:
-    """The statistics of a column of peaks. A value that p % of the rows exceed at most is the least peak of which that holds."""
-    values = sorted(float(peak) for peak in column)
-
-    def exceeded(percent: int) -> float:
-        return values[max(0, len(values) - len(values) * percent // 100 - 1)]
-
-    peak = max(column, key=lambda it: float(it))
-    return Statistics(exceeded(50), exceeded(EXCEEDED), float(peak), list(map(float, column)).index(float(peak)) + 1)
+    """The statistics of a column of peaks."""
+    values = np.array(column, float)
+    ranked = np.sort(values)
+    return Statistics(
+        float(ranked[(len(ranked) - 1) // 2]), two_percent(ranked), float(ranked[-1]), int(values.argmax()) + 1
+    )
 
 
 def columns_of(rows: list[Row], channels: Channels, base: float | None) -> list[list[Decimal | str]]:

@@ -15,8 +15,8 @@ from decimal import Decimal
 import numpy as np
 
 from . import program
-from .compare import base_unit
 from .deck import Deck, DeckError
+from .drawing import base_unit
 from .record import Record, RecordError, read
 
 POINTS = 64  # of a device
@@ -57,9 +57,9 @@ def curve(record: Record, it: Played) -> tuple[np.ndarray, np.ndarray, bool]:
     """The times (s of the record) and values (V or A) of a channel without missing ones, and whether it is a current."""
     if it.channel not in record.names:
         raise PlayError(f"the record has no channel {it.channel!r}; it has {', '.join(record.names)}")
-    scale, unit = base_unit(record.units[record.names.index(it.channel)])
+    scale, unit = base_unit(record.units[record.names.index(it.channel)].strip())
     if unit not in ("V", "A"):
-        raise PlayError(f"{it.channel} is in {unit or 'no unit'}, and a source takes V or A")
+        raise PlayError(f"{it.channel} has the unit {unit or '(none)'}, and a source takes V or A")
     times, values = record.times_of(it.channel), record.channel(it.channel)
     good = np.isfinite(values)
     if 2 * good.sum() < len(values) or good.sum() < 2:
@@ -262,12 +262,12 @@ def main(words: list[str]) -> int:
         plan, told = planned(deck, record, given)
         told += play(deck, record, wanted, plan)
         with program.room() as room:
-            with open(os.path.join(room, "case"), "w", encoding="latin-1", newline="") as file:
+            with open(os.path.join(room, "case"), "w", encoding="latin-1", errors="replace", newline="") as file:
                 file.write(deck.text())
             shown = program.run(["show", "--count", "case"], room)
         if shown.status:
             raise PlayError(f"the case with these sources isn't accepted: {shown.note.strip()}")
-        with open(given.out, "x", encoding="latin-1", newline="") as file:
+        with open(given.out, "x", encoding="latin-1", errors="replace", newline="") as file:
             file.write(deck.text())
         print(f"{plan.begin:g} s of the record is {plan.lead:g} s of the case")
         print(*told, f"written: {given.out}", sep="\n", flush=True)

@@ -9,15 +9,17 @@ from dataclasses import dataclass
 
 import numpy as np
 
-from .compare import base_unit
+from .configuration import RecordError
+from .drawing import base_unit
 from .lowpass import lowpass
 from .record import Record
+from .write import Channel, Content
+from .write import write as write_record
 
 GREATEST = 32767  # raw value of full scale
-MISSING = -32768  # C37.111-1999: the raw value of a missing one
 
 
-class RecorderError(Exception):
+class RecorderError(RecordError):
     """Why the recorder can't be set up so, in words."""
 
 
@@ -54,58 +56,60 @@ class Settings:
     device: str = "RECORDER"
 
 
-def raw_values(record: Record, inputs: list[Input], settings: Settings) -> np.ndarray:
-    """What the converter gives, shape (samples, channels): whole numbers from -32767 to 32767, and -32768 where missing."""
-    end = record.times[-1] if settings.end is None else settings.end
-    latest = max(it.skew for it in inputs)
+def write(record: Record, inputs: list[Input], settings: Settings, path: str) -> None:
+    """Writes what the recorder sees of a record as `path`, a cfg, with its dat: COMTRADE of 1999, BINARY, secondary values."""
+    times, seen = sampled(record, inputs, settings)
+    channels = []
+    for it, values in zip(inputs, seen):
+        unit, _ = base_unit(it.unit)
+        channels.append(
+            Channel(
+                it.name,
+                it.unit,
+                values / unit,
+                it.phase,
+                skew=it.skew,
+                primary=it.primary,
+                secondary=it.secondary,
+                scaling="S",
+                step=it.full / GREATEST / unit,
+            )
+        )
+    content = Content(
+        times - times[0],
+        channels,
+        station=settings.station,
+        device=settings.device,
+        frequency=settings.frequency,
+        rates=[(settings.rate, len(times))],
+    )
+    write_record(path, content)
+
+
+def sampled(record: Record, inputs: list[Input], settings: Settings) -> tuple[np.ndarray, list[np.ndarray]]:
+    """The sampling times in s of the record that is looked at, shape (samples,), and what the converter makes of each input:
+    primary values in V or A, whole multiples of its step, nan where missing."""
+    end = float(record.times[-1]) if settings.end is None else settings.end
     if not record.times[0] <= settings.begin < end <= record.times[-1]:
         raise RecorderError(f"from {settings.begin:g} to {end:g} s isn't within the record that the recorder looks at")
-    count = int((end - latest - settings.begin) * settings.rate * (1 + 1e-12)) + 1
+    span = end - max(it.skew for it in inputs) - settings.begin
+    count = int(span * settings.rate * (1 + 1e-12)) + 1 if span >= 0 and settings.rate > 0 else 0
+    if not count:
+        raise RecorderError(
+            f"there is no sample from {settings.begin:g} to {end:g} s at {settings.rate:g} samples a second"
+        )
     times = settings.begin + np.arange(count) / settings.rate
     step = float(np.median(np.diff(record.times)))
     chance = np.random.default_rng(settings.seed)
-    raw = np.empty((count, len(inputs)), np.int64)
-    for place, it in enumerate(inputs):
-        if it.source not in record.names:
-            raise RecorderError(f"the record has no channel {it.source!r}; it has {', '.join(record.names)}")
-        scale, _ = base_unit(record.units[record.names.index(it.source)])
-        seen = lowpass(record.channel(it.source) * scale * it.factor, step, settings.corner)
-        values = np.interp(times + it.skew, record.times, seen)
+    seen = []
+    for it in inputs:
+        primary = record.channel(it.source) * base_unit(record.units[record.names.index(it.source)])[0] * it.factor
+        try:
+            values = np.interp(times + it.skew, record.times, lowpass(primary, step, settings.corner))
+        except ValueError as fault:
+            raise RecorderError(str(fault)) from None
         values = values + chance.normal(0, settings.noise * float(np.max(abs(values))), count)
-        raw[:, place] = np.clip(np.round(values / it.full * GREATEST), -GREATEST, GREATEST)
-        raw[chance.random(count) < settings.missing, place] = MISSING
-    return raw
-
-
-def write(record: Record, inputs: list[Input], settings: Settings, stem: str) -> None:
-    """Writes what the recorder sees of a record as stem.cfg and stem.dat: COMTRADE of 1999, BINARY, secondary values."""
-    try:
-        raw = raw_values(record, inputs, settings)
-    except ValueError as fault:
-        raise RecorderError(str(fault)) from None
-    count, channels = raw.shape
-    lines = [f"{settings.station},{settings.device},1999", f"{channels},{channels}A,0D"]
-    for number, it in enumerate(inputs, 1):
-        unit, _ = base_unit(it.unit)
-        multiplier = it.full * it.secondary / it.primary / unit / GREATEST
-        lines.append(
-            f"{number},{it.name},{it.phase},,{it.unit},{multiplier:.9g},0,{1e6 * it.skew:.9g},{-GREATEST},{GREATEST},"
-            f"{it.primary:g},{it.secondary:g},S"
-        )
-    lines += [
-        f"{settings.frequency:g}",
-        "1",
-        f"{settings.rate:g},{count}",
-        *["01/01/2000,00:00:00.000000"] * 2,
-        "BINARY",
-        "1",
-    ]
-    kind = np.dtype([("number", "<u4"), ("stamp", "<u4"), ("values", "<i2", (channels,))])
-    data = np.zeros(count, kind)
-    data["number"] = np.arange(1, count + 1)
-    data["stamp"] = np.round(np.arange(count) / settings.rate * 1e6)
-    data["values"] = raw
-    with open(stem + ".cfg", "w", encoding="ascii", newline="") as file:
-        file.write("".join(line + "\r\n" for line in lines))
-    with open(stem + ".dat", "wb") as file:
-        file.write(data.tobytes())
+        values = np.clip(np.round(values / it.full * GREATEST), -GREATEST, GREATEST) * it.full / GREATEST
+        values[chance.random(count) < settings.missing] = np.nan
+        seen.append(values)
+    return times, seen

@@ -16,10 +16,11 @@ from decimal import Decimal
 
 import numpy as np
 
-from . import parts, peaks, program, times, varied
+from . import parts, peaks, picture, program, times, varied
 from .deck import Deck, DeckError, time_switches
 from .parts import Means, StudyError, status_of
 from .record import Record, RecordError, read
+from .summary import Summary, batch_drawing
 
 MOST = 1000  # rows of a batch
 
@@ -43,6 +44,7 @@ class Cases:
     headings: list[str]
     values: list[tuple[str, ...]]
     instead: dict[str, str]
+    since: str = ""  # what is said behind these
 
 
 # ---- the cases
@@ -57,7 +59,8 @@ def cases_of(words: argparse.Namespace) -> Cases:
     lists = [varied.varied_of(deck, asked) for asked in words.vary]
     instead = {} if words.peaks_from is None else varied.windowed(deck, words.peaks_from)
     values = varied.combinations(lists)
-    return Cases([varied.text_with(deck, lists, it) for it in values], [it.label for it in lists], values, instead)
+    texts = [varied.text_with(deck, lists, it) for it in values]
+    return Cases(texts, [it.label for it in lists], values, instead, f" from {words.peaks_from} s on")
 
 
 def write_text(path: str, text: str) -> None:
@@ -68,10 +71,17 @@ def write_text(path: str, text: str) -> None:
 
 def channels_of(record: Record, cases: Cases, asked: list[str]) -> peaks.Channels:
     """The channels of a record, with the names of those in whose place they stand."""
-    names = tuple(f"{cases.instead[name]} from T on" if name in cases.instead else name for name in record.names)
+    names = tuple(cases.instead[name] + cases.since if name in cases.instead else name for name in record.names)
     units = tuple("V" if name in cases.instead else unit for name, unit in zip(record.names, record.units))
     plain = [cases.instead.get(name, name) for name in record.names]
     return peaks.Channels(names, units, peaks.sets_of(asked, plain, units))
+
+
+def tell_whole(headings: list[str], cases: Cases) -> None:
+    """Says on standard error which peaks aren't taken from a time on."""
+    whole = [it for it in headings if cases.since not in it and not it.startswith("ANY ")]
+    if cases.since and whole:
+        print(f"study: the peaks of {', '.join(whole)} are of the whole run", file=sys.stderr)
 
 
 # ---- a table of times
@@ -157,6 +167,7 @@ def answer(
 ) -> None:
     """Writes summaries, tables and the picture, and prints the statistics."""
     headings = channels.headings(words.base)
+    tell_whole(headings, cases)
     written = []
     for place, its in enumerate(found, 1):
         name = f"summary.{place}" if cases.headings else "summary"
@@ -201,9 +212,13 @@ def write_values(path: str, cases: Cases, headings: list[str], columns: list[lis
 
 def draw(headings: list[str], columns: list[list[Decimal | str]], path: str) -> None:
     """The distribution of each channel's peaks, where matplotlib is there."""
-    from . import picture
-
-    picture.draw_batch(headings, [[float(it) for it in row] for row in zip(*columns)], path)
+    rows = [[float(it) for it in row] for row in zip(*columns)]
+    try:
+        picture.draw(batch_drawing(Summary(peaks=rows, names=headings), os.path.basename(path)), path)
+    except RecordError as fault:
+        print(f"study: {fault}", file=sys.stderr)
+    else:
+        print(f"drawn: {path}")
 
 
 # ---- many cases
@@ -225,6 +240,7 @@ def run_cases(words: argparse.Namespace, names: list[str], cases: Cases, stem: s
     table = os.path.join(means.room, "cases.csv")
     found = [peaks_of(words, means, part, cases) for part in made]
     headings = list(dict.fromkeys(heading for it in found for heading in it))
+    tell_whole(headings, cases)
     with open(table, "w", encoding="utf-8", errors="surrogateescape", newline="") as file:
         out = csv.writer(file)
         out.writerow(["case", *cases.headings, "record", "printed", *headings])

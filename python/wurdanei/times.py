@@ -47,7 +47,7 @@ def tied_of(text: str) -> tuple[Tied, ...]:
         words = item.split(":")
         try:
             pole, first = int(words[0]), int(words[1])
-            delay, sigma = (float(word) for word in (*words[2:], *["0"] * (4 - len(words))))
+            delay, sigma = (float(word) for word in (words[2], *words[3:], "0")[: max(2, len(words) - 2)])
         except (ValueError, IndexError):
             raise TimesError(f"--after {item}: it is POLE:FIRST:DELAY or POLE:FIRST:DELAY:SIGMA, as 4:1:.01") from None
         if not (math.isfinite(delay) and 0 <= sigma < math.inf):
