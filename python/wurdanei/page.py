@@ -77,9 +77,9 @@ def trace_of(objects, curve: Curve, most: int):
     """The curve as plotly has it, and of how many samples each two are drawn; the x of an even grid is two numbers."""
     x, y, size = thinned(curve, most)
     step = even_step(x) if size == 1 else None
-    own = {"x": rounded(x, 10)} if step is None else {"x0": float(x[0]), "dx": step}
+    own = {"x": rounded(x, 10)} if step is None else {"x0": rounded(x[:1], 10)[0], "dx": step}
     line = {"width": 1.3, "dash": DASHES[curve.style], "shape": "hv" if curve.stepped else "linear"}
-    template = "%{y:.6g} " + untagged(curve.unit)
+    template = "%{y:.6~g} " + untagged(curve.unit)
     trace = objects.Scatter(
         y=rounded(y, 7), name=untagged(curve.name), mode="lines", line=line, hovertemplate=template, **own
     )
@@ -99,7 +99,7 @@ def add_marks(objects, figure, pane: Pane, row: int) -> None:
                 textposition="top center",
                 marker={"color": "crimson"},
                 showlegend=False,
-                hovertemplate="%{text}: %{y:.6g}<extra></extra>",
+                hovertemplate="%{text}: %{y:.6~g}<extra></extra>",
             ),
             row=row,
             col=1,
@@ -120,15 +120,16 @@ def add_marks(objects, figure, pane: Pane, row: int) -> None:
 def add_bars(objects, figure, drawing: Drawing) -> None:
     """The bars below the panes."""
     for bar in drawing.bars:
+        begins, ends = (rounded(np.array([span[side] for span in bar.spans]), 10) for side in (0, 1))
         figure.add_trace(
             objects.Bar(
                 y=[untagged(bar.name)] * max(1, len(bar.spans)),
-                x=[stop - start for start, stop in bar.spans] or [None],
-                base=[start for start, _ in bar.spans] or [0],
+                x=[end - begin for begin, end in zip(begins, ends)] or [None],
+                base=begins or [0],
                 orientation="h",
                 name=untagged(bar.name),
                 width=0.7,
-                text=[f"1 from {number(start)} to {number(stop)} {drawing.x_label}" for start, stop in bar.spans]
+                text=[f"1 from {number(begin)} to {number(end)} {drawing.x_label}" for begin, end in zip(begins, ends)]
                 or [""],
                 textposition="none",
                 hovertemplate="%{text}",

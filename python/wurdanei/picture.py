@@ -12,6 +12,7 @@ from .drawing import Drawing, Pane, needs, thinned
 LINES = ["-", "--", "-.", ":"]
 POINTS = 12_000  # of a curve: several for each column of a picture's dots
 DOTS = 80  # an inch
+ROWS = 12  # of a legend, then a column more
 
 
 def draw(drawing: Drawing, path: str) -> None:
@@ -81,7 +82,8 @@ def draw_pane(axis, pane: Pane) -> None:
     if pane.x_label:
         axis.set_xlabel(plain(pane.x_label))
     if pane.limits or any(curve.name for curve in pane.curves):
-        axis.legend(loc="lower right" if pane.limits else "upper right", fontsize="small")
+        columns = -(-len(pane.curves) // ROWS)
+        axis.legend(loc="lower right" if pane.limits else "upper right", fontsize="small", ncol=columns)
     axis.grid(alpha=0.3)
 
 
