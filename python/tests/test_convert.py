@@ -59,7 +59,7 @@ class Convert(Folder):
                 np.testing.assert_allclose(record.times, recorder.times, atol=1e-12)
                 for wave in recorder.waves:
                     wanted = [wave.at(time) for time in recorder.times]
-                    half = 0.5001 * wave.multiplier("ASCII")  # the step is kept, so that no second rounding comes
+                    half = 0.5001 * wave.multiplier("ASCII")  # the multiplier is kept, so that no second rounding comes
                     self.assertLess(np.abs(record.channel(wave.name) - wanted).max(), half + 2.0**-24 * wave.peak)
                 for bar, at in recorder.bars:
                     self.assertEqual(list(record.states(bar)), [int(at(time)) for time in recorder.times])
@@ -101,8 +101,8 @@ class Convert(Folder):
         wave = lambda time: 100.0 * math.cos(2 * math.pi * 50 * time) + 30.0 * math.cos(2 * math.pi * 6000 * time)
         waves = [Wave("X", "V", wave, 130.0), Wave("Y", "V", wave, 130.0, skew=37.0)]
         times = grid(50_000.0, 5001)
-        step = [("B", lambda time: time >= 0.05)]
-        source = Recorder(times, waves, step, rates=[(50_000, 5001)]).write(self.folder)
+        bars = [("B", lambda time: time >= 0.05)]
+        source = Recorder(times, waves, bars, rates=[(50_000, 5001)]).write(self.folder)
         said = self.run_words(source, self.out("o.cfg"), "--rate", "4000", "--form", "binary32")
         self.assertIn("401 samples, 4000 Hz", said)
         record = read(self.out("o.cfg"))
@@ -146,11 +146,11 @@ class Convert(Folder):
         record = read(self.out("o.cfg"))
         values = record.channel("VA")
         self.assertEqual(list(np.flatnonzero(np.isnan(values))), [19, 20, 21, 22, 23])
-        step = bay().waves[0].multiplier("ASCII")
+        multiplier = bay().waves[0].multiplier("ASCII")
         for at in (*range(0, 16, 2), *range(26, 900, 2)):
-            self.assertLess(abs(values[at] - voltage(at / 9600.0)), 0.51 * step)
+            self.assertLess(abs(values[at] - voltage(at / 9600.0)), 0.51 * multiplier)
             middle = 0.5 * (voltage(at / 9600.0) + voltage((at + 2) / 9600.0))
-            self.assertLess(abs(values[at + 1] - middle), 0.51 * step)
+            self.assertLess(abs(values[at + 1] - middle), 0.51 * multiplier)
 
     def test_table(self):
         source = self.files(OWN_CFG.replace(b"V,0.002", b"V,0.5"), OWN_DAT.replace(b",-7,", b",99999,"))
@@ -168,6 +168,17 @@ class Convert(Folder):
         source = bay(times=times, rates=[(4800, 240), (1200, 480)]).write(self.folder)
         self.run_words(source, self.out("o.cfg"))
         self.assertEqual(read(self.out("o.cfg")).rates, [(4800.0, 240), (1200.0, 480)])
+
+    def test_uneven_samples(self):
+        """They are brought onto an even grid before the low-pass; a grid that would be too fine is refused."""
+        times = [place / 20_000.0 + (place % 2) * 1e-5 for place in range(2001)]
+        wave = Wave("X", "V", lambda time: math.cos(2 * math.pi * 50 * time), 1.0)
+        source = Recorder(times, [wave]).write(self.folder)
+        self.run_words(source, self.out("o.cfg"), "--rate", "4000", "--form", "binary32")
+        record = read(self.out("o.cfg"))
+        self.assertLess(np.abs(record.channel("X") - np.cos(2 * np.pi * 50 * record.times))[10:-10].max(), 2e-3)
+        source = Recorder([place * 1e-6 for place in range(99)] + [3000.0], [wave]).write(self.folder)
+        self.assertIn("too unevenly", self.run_words(source, self.out("o.cfg"), "--rate", "4000", status=2))
 
     def test_refusals(self):
         source = self.files(OWN_CFG, OWN_DAT)

@@ -53,7 +53,7 @@ class Kinds(Folder):
     """Each lawful kind of record, beside the formula of what was recorded."""
 
     def judge(self, recorder, times=None, missing=(), told=(), cff=False, trigger=0.0):
-        """Reads what a recorder writes; values within half a step, times exact to a unit of the stamps or better."""
+        """Reads what a recorder writes; values within half a multiplier, times exact to a unit of the stamps or better."""
         record = read(recorder.write(self.folder, cff=cff))
         wanted = recorder.times if times is None else times
         self.assertEqual((record.revision, record.form), (recorder.year, recorder.form))
@@ -132,7 +132,7 @@ class Kinds(Folder):
         record = self.judge(bay(waves=waves), told=["recorded as secondary values, answered as primary: VA"])
         self.assertEqual(record.secondary(), ["VA"])
         self.assertEqual((record.ratio("VA"), record.ratio("IA")), ((1000.0, 1.0), (2000.0, 5.0)))
-        self.assertAlmostEqual(record.step("VA"), 1000.0 * waves[0].multiplier("ASCII"))
+        self.assertAlmostEqual(record.multiplier("VA"), 1000.0 * waves[0].multiplier("ASCII"))
 
     def test_skew(self):
         waves = [Wave("VA", "V", voltage, 110e3), Wave("IA", "A", current, 4500.0, skew=50.0)]

@@ -1,4 +1,4 @@
-"""The writer: bytes by hand, and records that the reader reads back to the stated half step."""
+"""The writer: bytes by hand, and records that the reader reads back to the stated half multiplier."""
 
 import math
 import os
@@ -20,7 +20,9 @@ CFG = (
 
 def small(**changed):
     """Three samples of a secondary voltage (4,000 to 1) with a missing value, and a state."""
-    channel = Channel("VA", "V", np.array([4e3, math.nan, -10e3]), "A", "LINE", 12.5e-6, 400.0, 0.1, "S", step=2000.0)
+    channel = Channel(
+        "VA", "V", np.array([4e3, math.nan, -10e3]), "A", "LINE", 12.5e-6, 400.0, 0.1, "S", multiplier=2000.0
+    )
     made = dict(times=np.array([0.0, 0.001, 0.002]), channels=[channel], bars=[Bar("TRIP", np.array([0, 1, 1]))])
     made.update(station="SUB", device="REC", frequency=50.0, rates=[(1000.0, 3)], trigger=0.0015)
     return Content(**{**made, "start": datetime(2026, 11, 28, 13, 7, 20), **changed})
@@ -43,7 +45,7 @@ class Write(unittest.TestCase):
         written = write(self.path("r.cfg"), small(), "ASCII")
         self.assertEqual(self.bytes_of("r.cfg").decode(), CFG)
         self.assertEqual(self.bytes_of("r.dat"), b"1,0,2,0\r\n2,1000,99999,1\r\n3,2000,-5,1\r\n\x1a")
-        self.assertEqual((written.steps, written.stamp), ([2000.0], 1e-6))
+        self.assertEqual((written.multipliers, written.stamp), ([2000.0], 1e-6))
         self.assertEqual(sorted(os.listdir(self.folder)), ["r.cfg", "r.dat"])
 
     def test_binary_by_hand(self):
@@ -70,7 +72,7 @@ class Write(unittest.TestCase):
         write(self.path("f.cfg"), small(), "FLOAT32", 2013)
         self.assertEqual(self.bytes_of("f.dat")[:14], struct.pack("<IIfH", 1, 0, 1.0, 0))  # 4,000 V by 4,000
 
-    def test_step_is_chosen(self):
+    def test_multiplier_is_chosen(self):
         write(self.path("r.cfg"), small(channels=[Channel("VA", "V", np.array([0.0, 32767.0, -5.0]))]), "ASCII")
         self.assertIn("1,VA,,,V,1,0,0,", self.bytes_of("r.cfg").decode())
         self.assertIn(b"2,1000,32767,1", self.bytes_of("r.dat"))
@@ -103,10 +105,12 @@ class Write(unittest.TestCase):
                     record = read(self.path(name))
                     self.assertEqual((record.form, record.revision), (form, year))
                     np.testing.assert_allclose(record.times, content.times, rtol=0, atol=1e-12)
-                    for channel, step in zip(content.channels, written.steps):
+                    for channel, multiplier in zip(content.channels, written.multipliers):
                         got = record.channel(channel.name)
                         np.testing.assert_array_equal(np.isnan(got), np.isnan(channel.values))
-                        half = 2.0**-24 * np.abs(channel.values) * 1.0001 if form == "FLOAT32" else 0.5001 * step
+                        half = (
+                            2.0**-24 * np.abs(channel.values) * 1.0001 if form == "FLOAT32" else 0.5001 * multiplier
+                        )
                         self.assertTrue((np.isnan(got) | (np.abs(got - channel.values) <= half)).all())
                     for bar in content.bars:
                         np.testing.assert_array_equal(record.states(bar.name), bar.values)

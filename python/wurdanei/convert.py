@@ -21,7 +21,7 @@ import numpy as np
 from .choice import assigned, chosen
 from .configuration import RecordError
 from .record import Record, read
-from .resample import at_rate, even_step
+from .resample import at_rate, even_spacing
 from .write import Bar, Channel, Content, put, write
 
 MOST_SAMPLES = 50_000_000  # of a record at another rate
@@ -118,9 +118,9 @@ def main(words: list[str]) -> int:
     )
     written = write(its.out, content, form, year)
     print(f"written: {', '.join(written.files)}: {summary(content)}, COMTRADE {year}, {form}")
-    for channel, step in zip(content.channels, written.steps):
+    for channel, multiplier in zip(content.channels, written.multipliers):
         side = f", secondary by {channel.primary:g}/{channel.secondary:g}" if channel.scaling == "S" else ""
-        off = "to 24 bits" if math.isnan(step) else f"to half of {step:g} {channel.unit}"
+        off = "to 24 bits" if math.isnan(multiplier) else f"to half of {multiplier:g} {channel.unit}"
         print(f"{channel.name}: {off}{side}")
     return 0
 
@@ -159,7 +159,7 @@ def converted(record: Record, its: argparse.Namespace) -> Content:
         channel = Channel(
             renamed.get(name, name), record.units[place], values_at(record, name, kept, times, its.rate), phase, circuit,
             0.0 if its.rate else record.skew(name), primary, secondary, "S" if name in ratios else "P",
-            math.nan if its.rate else record.step(name),
+            math.nan if its.rate else record.multiplier(name),
         )  # fmt: skip
         channels.append(channel)
     begin = times[0]
@@ -224,11 +224,11 @@ def rates_of(record: Record, times: np.ndarray, rate: float | None, whole: bool)
         return [(rate, len(times))]
     if record.rates and whole:
         return record.rates
-    step = even_step(times)
-    if step is None:
+    spacing = even_spacing(times)
+    if spacing is None:
         return []
-    hertz = 1.0 / step
-    near = float(f"{hertz:.9g}")  # 1 / step is off by the rounding of the times
+    hertz = 1.0 / spacing
+    near = float(f"{hertz:.9g}")  # 1 / spacing is off by the rounding of the times
     return [(near if abs(near - hertz) * times[-1] < 1e-3 else hertz, len(times))]
 
 

@@ -9,7 +9,7 @@ import sys
 import numpy as np
 
 from .drawing import Curve, Drawing, Pane, needs, number, thinned
-from .resample import even_step
+from .resample import even_spacing
 
 DASHES = ["solid", "dash", "dashdot", "dot"]
 POINTS = 600_000  # of all curves of a page, where not all are asked for
@@ -76,8 +76,8 @@ def share_of(sizes: list[int]) -> int:
 def trace_of(objects, curve: Curve, most: int):
     """The curve as plotly has it, and of how many samples each two are drawn; the x of an even grid is two numbers."""
     x, y, size = thinned(curve, most)
-    step = even_step(x) if size == 1 else None
-    own = {"x": rounded(x, 10)} if step is None else {"x0": rounded(x[:1], 10)[0], "dx": step}
+    spacing = even_spacing(x) if size == 1 else None
+    own = {"x": rounded(x, 10)} if spacing is None else {"x0": rounded(x[:1], 10)[0], "dx": spacing}
     line = {"width": 1.3, "dash": DASHES[curve.style], "shape": "hv" if curve.stepped else "linear"}
     template = "%{y:.6~g} " + untagged(curve.unit)
     trace = objects.Scatter(

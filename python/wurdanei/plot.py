@@ -254,7 +254,7 @@ def spectrum_drawing(signal: Signal) -> Drawing:
         print(f"{signal.name}: {number(hertz)} Hz: crest {number(crest / divisor)} {unit}".rstrip())
         marks.append(Mark(hertz, crest / divisor, f"{number(hertz)} Hz"))
     told = [
-        f"spectrum of {number(made.length)} s by the window of von Hann: crest values, a line each {number(made.spacing)} Hz"
+        f"spectrum of {number(made.length)} s by the window of von Hann: crest values, a line each {number(made.resolution)} Hz"
     ]
     told += [made.told] if made.told else []
     curve = Curve(signal.name, made.hertz, made.crests / divisor, unit)

@@ -94,8 +94,8 @@ class Record:
         """How many values of an analog channel are missing."""
         return int(np.isnan(self._samples.raw(self._place(name))).sum())
 
-    def step(self, name: str) -> float:
-        """The least step between two values of a channel, primary, in its unit; nan in the form FLOAT32."""
+    def multiplier(self, name: str) -> float:
+        """What a raw value of 1 is in primary values, in the unit of the channel; nan in the form FLOAT32."""
         own = self._configuration.analogs[self._place(name)]
         ratio = own.primary / own.secondary if own.scaling == "S" else 1.0
         return math.nan if self.form == "FLOAT32" else abs(own.multiplier) * ratio

@@ -72,7 +72,7 @@ def write(record: Record, inputs: list[Input], settings: Settings, path: str) ->
                 primary=it.primary,
                 secondary=it.secondary,
                 scaling="S",
-                step=it.full / GREATEST / unit,
+                multiplier=it.full / GREATEST / unit,
             )
         )
     content = Content(

@@ -10,21 +10,24 @@ from __future__ import annotations
 
 import numpy as np
 
+from .configuration import RecordError
+
 CUT = 0.4  # of the new rate
 REACH = 8.0  # periods of the new rate to either side
 BLOCK = 1 << 20  # weights that are made at once
-EVEN = 1e-6  # of a step: steps that differ by no more are even
+MOST = 50_000_000  # points of the even grid before the low-pass
+EVEN = 1e-6  # of a spacing: spacings that differ by no more are even
 
 
-def even_step(times: np.ndarray) -> float | None:
-    """The step of evenly spaced times, shape (samples,), in s; None where they aren't even or are fewer than two."""
+def even_spacing(times: np.ndarray) -> float | None:
+    """The spacing of evenly spaced times, shape (samples,), in s; None where they aren't even or are fewer than two."""
     if len(times) < 2:
         return None
-    step = (times[-1] - times[0]) / (len(times) - 1)
-    if step <= 0:
+    spacing = (times[-1] - times[0]) / (len(times) - 1)
+    if spacing <= 0:
         return None
-    off = np.abs(times - times[0] - step * np.arange(len(times))).max()
-    return float(step) if off <= EVEN * step + 1e-12 * abs(times[-1]) else None
+    off = np.abs(times - times[0] - spacing * np.arange(len(times))).max()
+    return float(spacing) if off <= EVEN * spacing + 1e-12 * abs(times[-1]) else None
 
 
 def at_rate(times: np.ndarray, values: np.ndarray, wanted: np.ndarray, rate: float) -> np.ndarray:
@@ -36,11 +39,15 @@ def at_rate(times: np.ndarray, values: np.ndarray, wanted: np.ndarray, rate: flo
     if missing.all():
         return np.full(len(wanted), np.nan)
     known, its = times[~missing], values[~missing]
-    step = even_step(times) or float(np.median(np.diff(times)))
-    if rate * step < 1.0 - 1e-9:
-        count = int(np.floor((times[-1] - times[0]) / step * (1 + 1e-12))) + 1
-        grid = times[0] + step * np.arange(count)
-        made = low_pass(np.interp(grid, known, its), times[0], step, wanted, rate)
+    spacing = even_spacing(times) or float(np.median(np.diff(times)))
+    if rate * spacing < 1.0 - 1e-9:
+        count = np.floor((times[-1] - times[0]) / spacing * (1 + 1e-12)) + 1 if spacing > 0 else np.inf
+        if count > MOST:
+            raise RecordError(
+                f"half of the samples stand {spacing:g} s apart or less, in {times[-1] - times[0]:g} s: too unevenly"
+            )
+        grid = times[0] + spacing * np.arange(int(count))
+        made = low_pass(np.interp(grid, known, its), times[0], spacing, wanted, rate)
     else:
         made = np.interp(wanted, known, its)
     if missing.any():
@@ -59,17 +66,17 @@ def hidden(wanted: np.ndarray, before: np.ndarray, behind: np.ndarray, gone: np.
     return inside | exact
 
 
-def low_pass(values: np.ndarray, first: float, step: float, wanted: np.ndarray, rate: float) -> np.ndarray:
+def low_pass(values: np.ndarray, first: float, spacing: float, wanted: np.ndarray, rate: float) -> np.ndarray:
     """Values on an even grid from `first` on, seen through the low-pass at the wanted times: shape (wanted,)."""
-    reach = int(np.ceil(REACH / (rate * step)))
+    reach = int(np.ceil(REACH / (rate * spacing)))
     padded = np.concatenate([np.full(reach, values[0]), values, np.full(reach + 1, values[-1])])
     offsets = np.arange(-reach, reach + 1)
     made = np.empty(len(wanted))
     size = max(1, BLOCK // len(offsets))
     for at in range(0, len(wanted), size):
-        place = (wanted[at : at + size] - first) / step
+        place = (wanted[at : at + size] - first) / spacing
         nearest = np.clip(np.rint(place), 0, len(values) - 1).astype(np.int64)
-        away = (nearest[:, None] + offsets - place[:, None]) * (step * rate)  # in periods of the new rate
+        away = (nearest[:, None] + offsets - place[:, None]) * (spacing * rate)  # in periods of the new rate
         weights = np.sinc(2 * CUT * away) * np.cos(0.5 * np.pi * np.clip(away / REACH, -1, 1)) ** 2
         made[at : at + size] = (weights * padded[nearest[:, None] + offsets + reach]).sum(1) / weights.sum(1)
     return made

@@ -12,7 +12,7 @@ from dataclasses import dataclass
 import numpy as np
 
 from .configuration import RecordError
-from .resample import even_step
+from .resample import even_spacing
 
 LEAST = 8  # samples
 SMALL = 1e-3  # of the greatest peak: smaller ones aren't told
@@ -24,7 +24,7 @@ class Spectrum:
 
     hertz: np.ndarray
     crests: np.ndarray
-    spacing: float  # Hz between two lines
+    resolution: float  # Hz between two lines
     length: float  # s
     told: str  # what had to be done to the samples, else empty
 
@@ -35,22 +35,22 @@ def spectrum_of(times: np.ndarray, values: np.ndarray, name: str) -> Spectrum:
     count = len(times)
     if known.sum() < LEAST:
         raise RecordError(f"{name} has {known.sum()} values in the time that is asked for: a spectrum wants {LEAST}")
-    step, told = even_step(times), []
-    if step is None:
+    spacing, told = even_spacing(times), []
+    if spacing is None:
         told.append("samples aren't evenly spaced")
-        step = (times[-1] - times[0]) / (count - 1)
+        spacing = (times[-1] - times[0]) / (count - 1)
     if not known.all():
         told.append(f"{count - known.sum()} values are missing")
-    if step <= 0:
+    if spacing <= 0:
         raise RecordError(f"the times of {name} don't rise: it has no spectrum")
     if told:
-        values = np.interp(times[0] + step * np.arange(count), times[known], values[known])
+        values = np.interp(times[0] + spacing * np.arange(count), times[known], values[known])
     window = 0.5 - 0.5 * np.cos(2 * np.pi * np.arange(count) / count)
     crests = np.abs(np.fft.rfft(values * window)) * (2.0 / window.sum())
     crests[0] *= 0.5  # of a constant
-    spacing = 1.0 / (step * count)
+    resolution = 1.0 / (spacing * count)
     words = " and ".join(told) + ": they are bridged by straight lines" if told else ""
-    return Spectrum(spacing * np.arange(len(crests)), crests, spacing, step * count, words)
+    return Spectrum(resolution * np.arange(len(crests)), crests, resolution, spacing * count, words)
 
 
 def peaks_of(spectrum: Spectrum) -> list[tuple[float, float]]:
@@ -64,5 +64,5 @@ def peaks_of(spectrum: Spectrum) -> list[tuple[float, float]]:
         ratio = lines[line + side] / lines[line]
         away = (2 * ratio - 1) / (1 + ratio)
         crest = lines[line] * (1 - away**2) / np.sinc(away)
-        found.append(((line + side * away) * spectrum.spacing, float(crest)))
+        found.append(((line + side * away) * spectrum.resolution, float(crest)))
     return sorted(found, key=lambda peak: -peak[1])

@@ -2,7 +2,7 @@
 
     write("x.cfg", Content(times, [Channel("V BUS", "V", values)]), form="BINARY", revision=1999)
 
-A value that is written is off by at most half the channel's step, which `write` answers, and in the form FLOAT32 by half a
+A value that is written is off by at most half the channel's multiplier, which `write` answers, and in the form FLOAT32 by half a
 unit of the last of its 24 bits. Source: IEEE C37.111 of 1999 and 2013.
 """
 
@@ -41,7 +41,7 @@ class Channel:
     primary: float = 1.0  # of the instrument transformer's ratio
     secondary: float = 1.0
     scaling: str = "P"  # "P": primary values are written, "S": secondary ones
-    step: float = math.nan  # of primary values, to be kept where the form can; nan where it is to be chosen
+    multiplier: float = math.nan  # of primary values, to be kept where the form can; nan where it is to be chosen
 
     @property
     def share(self) -> float:
@@ -76,10 +76,10 @@ class Content:
 
 @dataclass
 class Written:
-    """What was written: the files; the step of each channel, in primary units (nan in FLOAT32); the unit of a time stamp in s."""
+    """What was written: the files; the multiplier of each channel, in primary units (nan in FLOAT32); the unit of a time stamp in s."""
 
     files: list[str]
-    steps: list[float]
+    multipliers: list[float]
     stamp: float
 
 
@@ -87,11 +87,11 @@ def write(path: str, content: Content, form: str = "BINARY", revision: int = 199
     """Writes a record; a name that ends with .cff is one file with all. The files are there whole or not at all."""
     whole = path.lower().endswith(".cff")
     check(path, content, form, revision, whole)
-    steps = [step_of(channel, form) for channel in content.channels]
+    multipliers = [multiplier_of(channel, form) for channel in content.channels]
     unit, stamps = time_stamps(content)
-    lines = configuration(content, form, revision, steps, unit)
+    lines = configuration(content, form, revision, multipliers, unit)
     text = "".join(line + "\r\n" for line in lines).encode("utf-8")
-    pieces = data(content, form, [float(step) for step in steps], stamps)
+    pieces = data(content, form, [float(multiplier) for multiplier in multipliers], stamps)
     if whole:
         size = data_size(content, form)
         head = b"--- file type: CFG ---\r\n" + text + b"--- file type: INF ---\r\n\r\n--- file type: HDR ---\r\n\r\n"
@@ -101,7 +101,7 @@ def write(path: str, content: Content, form: str = "BINARY", revision: int = 199
         stem, ending = os.path.splitext(path)
         files = {path: [text], stem + (".DAT" if ending.isupper() else ".dat"): pieces}
     put(files)
-    own = [float(step) / channel.share for step, channel in zip(steps, content.channels)]
+    own = [float(multiplier) / channel.share for multiplier, channel in zip(multipliers, content.channels)]
     return Written(list(files), [math.nan] * len(own) if form == "FLOAT32" else own, unit * 1e-6)
 
 
@@ -145,20 +145,20 @@ def check(path: str, content: Content, form: str, revision: int, whole: bool) ->
         refuse(f"the rates name {content.rates[-1][1]} samples, and there are {len(content.times)}")
 
 
-def step_of(channel: Channel, form: str) -> Decimal:
-    """The step of raw values as it is written: the channel's own one where it suffices, else the least of seven digits."""
+def multiplier_of(channel: Channel, form: str) -> Decimal:
+    """The multiplier of raw values as it is written: the channel's own one where it suffices, else the least of seven digits."""
     if form == "FLOAT32":
         return Decimal(1)
     most = float(np.nanmax(np.abs(channel.values), initial=0.0)) * channel.share if len(channel.values) else 0.0
-    own = channel.step * channel.share
+    own = channel.multiplier * channel.share
     if own > 0 and most <= LIMITS[form] * own * (1 + 1e-9):
         return Decimal(repr(float(f"{own:.15g}")))
     if most == 0:
         return Decimal("0.000000001")
-    step = Decimal(f"{most / LIMITS[form]:.6e}")
-    while float(step) * LIMITS[form] < most:
-        step += Decimal(1).scaleb(step.adjusted() - 6)
-    return step
+    multiplier = Decimal(f"{most / LIMITS[form]:.6e}")
+    while float(multiplier) * LIMITS[form] < most:
+        multiplier += Decimal(1).scaleb(multiplier.adjusted() - 6)
+    return multiplier
 
 
 def plain(value: Decimal | float) -> str:
@@ -192,16 +192,25 @@ def time_stamps(content: Content) -> tuple[float, np.ndarray]:
     return float(f"1e{power}"), np.round(times / 10.0**power).astype(np.int64)
 
 
-def configuration(content: Content, form: str, revision: int, steps: list[Decimal], unit: float) -> list[str]:
+def configuration(content: Content, form: str, revision: int, multipliers: list[Decimal], unit: float) -> list[str]:
     """The lines of the cfg."""
     channels, bars = content.channels, content.bars
     lines = [
         f"{content.station},{content.device},{revision}",
         f"{len(channels) + len(bars)},{len(channels)}A,{len(bars)}D",
     ]
-    for number, (it, step) in enumerate(zip(channels, steps), 1):
+    for number, (it, multiplier) in enumerate(zip(channels, multipliers), 1):
         low, high = ("-3.4E38", "3.4E38") if form == "FLOAT32" else (str(-LIMITS[form]), str(LIMITS[form]))
-        fields = [str(number), it.name, it.phase, it.circuit, it.unit, plain(step), "0", plain(round(it.skew * 1e6, 6))]
+        fields = [
+            str(number),
+            it.name,
+            it.phase,
+            it.circuit,
+            it.unit,
+            plain(multiplier),
+            "0",
+            plain(round(it.skew * 1e6, 6)),
+        ]
         lines.append(",".join([*fields, low, high, plain(it.primary), plain(it.secondary), it.scaling]))
     lines += [f"{number},{it.name},{it.phase},{it.circuit},0" for number, it in enumerate(bars, 1)]
     lines.append("" if math.isnan(content.frequency) else plain(content.frequency))
@@ -221,22 +230,24 @@ def instant(moment: datetime) -> str:
     return f"{moment.day:02d}/{moment.month:02d}/{moment.year:04d},{moment:%H:%M:%S.%f}"
 
 
-def raw_values(channel: Channel, form: str, step: float, at: slice) -> np.ndarray:
+def raw_values(channel: Channel, form: str, multiplier: float, at: slice) -> np.ndarray:
     """Raw values of some samples, shape (some samples,), in the type that the form keeps."""
     values = channel.values[at] * channel.share
     if form == "FLOAT32":
         with np.errstate(over="ignore"):
             return values.astype(np.float32)
     missing = MARK if form == "ASCII" else MISSING[form]
-    return np.where(np.isnan(values), missing, np.rint(np.nan_to_num(values) / step)).astype(np.int64)
+    return np.where(np.isnan(values), missing, np.rint(np.nan_to_num(values) / multiplier)).astype(np.int64)
 
 
-def data(content: Content, form: str, steps: list[float], stamps: np.ndarray) -> Iterator[bytes]:
+def data(content: Content, form: str, multipliers: list[float], stamps: np.ndarray) -> Iterator[bytes]:
     """The bytes of the dat, some samples at a time."""
     for first in range(0, len(stamps), BLOCK):
         at = slice(first, min(first + BLOCK, len(stamps)))
         numbers = np.arange(at.start + 1, at.stop + 1)
-        columns = [raw_values(channel, form, step, at) for channel, step in zip(content.channels, steps)]
+        columns = [
+            raw_values(channel, form, multiplier, at) for channel, multiplier in zip(content.channels, multipliers)
+        ]
         states = [np.asarray(bar.values[at], np.int64) for bar in content.bars]
         if form == "ASCII":
             rows = np.stack([numbers, stamps[at], *columns, *states], axis=1).tolist()
