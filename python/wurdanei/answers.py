@@ -1,0 +1,163 @@
+"""What the program answers, as arrays: steady states, scans, batches; and its refusals and early ends in words."""
+
+import re
+import typing
+from dataclasses import dataclass, field
+
+import numpy as np
+
+from .draft import Call, CaseError
+
+BAD_CARD = re.compile(r"^BAD CARD LINE (\d+) COLUMN (\d+) REASON (\d+) (\w+)$", re.MULTILINE)
+REFUSED = re.compile(r"^REFUSED LINE (\d+) REASON (\d+) (\w+)$", re.MULTILINE)
+ENDED = re.compile(r"^ENDED STEP (\d+) (\w+) (.*?) ?SAMPLES (\d+) REDONE (\d+)$", re.MULTILINE)
+REASONS = {
+    "ByteOutside": "a byte outside of 0x20 to 0x7E",
+    "PastColumn80": "a byte past column 80",
+    "NotANumber": "this field is no number",
+    "NotWhole": "this field is no whole number",
+    "OutOfUnitRange": "out of the field's range, or blank where it must not be",
+    "TooManyLines": "more than 100,000 lines or 9,000,000 bytes",
+    "BadType": "no type, mark or word that is known here",
+    "BadName": "no name that is allowed here",
+    "BadImpedance": "the impedance is out of range",
+    "ShortLine": "the travel time is below the time step",
+    "BadPoints": "a point out of order, out of range or out of place",
+    "BadOrder": "this card can't stand here",
+    "UnknownName": "nothing has this name",
+    "TwoSources": "a second voltage source of this node, or a second card of this variable",
+    "TooMany": "a limit by count is exceeded",
+    "MissingSection": "the case ends before its last section does",
+    "BadExpression": "no expression goes on so",
+    "TooManySamples": "the record would have more than 4,000,000 values",
+    "Size": "the case has more than 500 nodes",
+    "NoSource": "the case has no cosine source with a frequency above 0",
+    "Probe": "a scan wants one source alone: a cosine current source with phase 0 and an amplitude above 0",
+    "Control": "a steady state has no control",
+    "Switch": "a steady state has no valves and no controlled switches",
+    "Nonlinear": "a steady state has no arresters and no nonlinear reactors",
+    "Loss": "a steady state has no single lines with resistance",
+    "Phases": "a steady state has no three-phase lines",
+    "Impedance": "the impedance of this branch at the frequency is out of range",
+    "Source": "all sources have to be cosines of one frequency",
+}
+CAUSES = {
+    "TIED": "closed switches join two nodes with voltage sources, or one with ground",
+    "ZEROPIVOT": "nothing ties the node, or its part of the network, to ground or to a source",
+    "RANGE": "a number left its range: 1e9 V, 1e9 A, 1e5 S, or 2 L i / dt of an inductance 1e9 V",
+    "RESIDUAL": "the currents there don't cancel within the tolerance",
+    "TACSPIVOT": "the blocks around it form a loop whose gains multiply to 1",
+    "TACSRANGE": "the variable left its range: above 1e9, divided by 0, or the root of a number below 0",
+}
+
+
+class Refused(CaseError):
+    """A card that the program refuses: its line, column and reason, its text, and the call that wrote it."""
+
+    def __init__(self, line: int, column: int, reason: str, card: str, call: Call | None) -> None:
+        self.line, self.column, self.reason, self.card = line, column, reason, card
+        where = f"line {line}" + (f", column {column}" if column else "")
+        super().__init__(f"the program refuses {where}: {REASONS.get(reason, reason)} ({reason}): {card}", call)
+
+
+@dataclass(frozen=True)
+class End:
+    """The early end of a run: its step and time in s, its cause, and the node or variable that is named."""
+
+    step: int
+    time: float
+    cause: str
+    name: str
+
+    def __str__(self) -> str:
+        why = CAUSES.get(self.cause, self.cause)
+        return f"the run ended in step {self.step} ({self.time:g} s), {self.cause} at {self.name}: {why}"
+
+
+@dataclass(frozen=True)
+class Steady:
+    """A steady state: its frequency, the greatest residual of Kirchhoff's current law, and the voltages of the nodes.
+
+    `volts` has shape (nodes,), complex: the real part goes by the cosine, the imaginary part by the sine, of crest values.
+    """
+
+    hz: float
+    residual_a: float
+    nodes: list[str]
+    volts: np.ndarray = field(repr=False)
+
+    def __getitem__(self, node: str) -> complex:
+        return complex(self.volts[self.nodes.index(node)])
+
+
+@dataclass(frozen=True)
+class Scan:
+    """Impedances over frequencies: `hz` and `ohm` of shape (frequencies,), the latter complex, nan where there is no answer.
+
+    `resonances` are the frequencies in Hz at which the magnitude is greater than at both neighbours; `told` has why an answer
+    isn't there.
+    """
+
+    hz: np.ndarray = field(repr=False)
+    ohm: np.ndarray = field(repr=False)
+    resonances: list[float]
+    told: list[str]
+
+
+@dataclass(frozen=True)
+class Batch:
+    """The peaks of many runs: shape (rows, channels), the greatest magnitude of each analog channel in its unit.
+
+    `ends` has for each row nothing, or the words of its early end; the peaks are then those of the samples before it.
+    """
+
+    names: list[str]
+    peaks: np.ndarray = field(repr=False)
+    ends: list[str | None] = field(repr=False)
+
+    def channel(self, name: str) -> np.ndarray:
+        """The peaks of a channel: shape (rows,)."""
+        return self.peaks[:, self.names.index(name)]
+
+
+def end_of(note: str, dt: float) -> End | None:
+    """The early end that a note tells, where it tells one."""
+    match = ENDED.search(note)
+    return End(int(match[1]), int(match[1]) * dt, match[2], match[3]) if match else None
+
+
+def steady_of(note: str) -> Steady:
+    """The steady state that was printed."""
+    head = re.search(r"^PHASOR F (\S+) RESIDUAL (\S+)$", note, re.MULTILINE)
+    lines = re.findall(r"^NODE (.*) RE (\S+) IM (\S+)$", note, re.MULTILINE)
+    if head is None:
+        raise CaseError(f"the program's answer isn't a steady state: {note.strip()[:200]}")
+    volts = np.array([complex(float(real), float(imaginary)) for _, real, imaginary in lines])
+    return Steady(float(head[1]), float(head[2]) * 1e-9, [name for name, _, _ in lines], volts)
+
+
+def scan_of(note: str, tells: typing.Callable[[int], str]) -> Scan:
+    """The scan that was printed; `tells` names the card of a line."""
+    hz, ohm, told, resonances = [], [], [], []
+    for line in note.splitlines():
+        words = line.split()
+        if words[:1] == ["RESONANCE"]:
+            resonances.append(float(words[1]))
+        elif words[:1] == ["F"]:
+            hz.append(float(words[1]))
+            answer = words[2] == "RE"
+            ohm.append(complex(float(words[3]), float(words[5])) if answer else complex(np.nan, np.nan))
+            if not answer:
+                why = f"no answer for {tells(int(words[4]))}" if words[2] == "REFUSED" else " ".join(words[2:])
+                told.append(f"{words[1]} Hz: {why}")
+    return Scan(np.array(hz), np.array(ohm), resonances, told)
+
+
+def batch_of(notes: list[str], names: list[str]) -> Batch:
+    """The summaries of the parts of a batch, one after another."""
+    peaks, ends = [], []
+    for note in notes:
+        for match in re.finditer(r"^ROW \d+ (DONE|ENDED .*?) PEAKS ?(.*)$", note, re.MULTILINE):
+            peaks.append([float(word) for word in match[2].split()])
+            ends.append(None if match[1] == "DONE" else match[1])
+    return Batch(names, np.array(peaks).reshape(len(ends), len(names)), ends)

@@ -1,0 +1,353 @@
+"""Writes a case of emtp card by card, and runs it.
+
+    case = Case(dt=1e-5, end=0.04)
+    case.series("SRC", "BUS", r_ohm=1, l_mh=40)
+    case.line("SEND", "FAR", length=120, r_ohm=.08, zc_ohm=380, velocity=2.97e5)
+    case.series("FAR", r_ohm=1e6)
+    case.switch("BUS", "SEND", close_s=.005, ask="i")
+    case.cosine("SRC", amplitude_v=118.4e3, hz=50, phase_deg=-90)
+    case.output("BUS", "SEND", "FAR")
+    record = case.run()
+    record.times, record.channel("V FAR")
+
+docs/python.md is the page for its users, docs/cards.md and docs/control.md say what the cards mean. What can't be is a
+`CaseError` that names the call; what the program refuses all the same is a `Refused` with line, column and card besides.
+"""
+
+import difflib
+import os
+import pathlib
+import typing
+
+import numpy as np
+
+from . import columns, fields, listing, program, record
+from .answers import BAD_CARD, REFUSED, Batch, End, Refused, Scan, Steady, batch_of, end_of, scan_of, steady_of
+from .control import Control
+from .draft import STANDING, Call, CaseError, Switch, Written, joined
+from .fields import FieldError
+from .helps import Helps, after
+
+__all__ = ["Case", "CaseError", "Refused", "End", "Steady", "Scan", "Batch", "Switch"]
+
+MOST_STEPS, MOST_VALUES, MOST_CHANNELS, MOST_HISTORY, MOST_ROWS = 1_000_000, 4_000_000, 64, 2_000_000, 1000
+
+
+class Case(Helps):
+    """A case: its time step and its end in s, and its cards, each written by a method.
+
+    `every` so many steps the record has a sample. `tolerance_a` is the greatest residual of Kirchhoff's current law, 0.01 A
+    without it. `remark` stands above the cards as comments. `control` has the methods of the control's cards.
+    """
+
+    def __init__(
+        self,
+        dt: float,
+        end: float,
+        every: int = 1,
+        *,
+        tolerance_a: float | None = None,
+        remark: str = "",
+        iout: int = 1,
+    ) -> None:
+        super().__init__()
+        self.control = Control(self)
+        self.every = _whole(every, "every", 1, 10**6)
+        self._remark = [line.rstrip() for line in remark.splitlines()]
+        iout = _whole(iout, "iout", -(10**9) + 1, 10**9)
+        try:
+            step = self._number(columns.FIRST, "DELTAT", dt, "case")
+            until = self._number(columns.FIRST, "TMAX", end, "case")
+            head = [Written(columns.FIRST, fields.card(columns.FIRST, {"DELTAT": step.text, "TMAX": until.text}), None)]
+            if tolerance_a is not None:
+                text = self._number(columns.TOLERANCE, "tolerance", tolerance_a, "case").text
+                head.insert(0, self._written(columns.TOLERANCE, {"tolerance": text}))
+        except FieldError as fault:
+            raise CaseError(f"Case: {fault}") from None
+        head.append(self._written(columns.SECOND, {"IOUT": str(iout), "IPLOT": str(self.every)}))
+        self._head = head
+        self._dt = step.kept
+        self.dt = step.kept / 1e12
+        self.steps = (2 * until.kept + step.kept) // (2 * step.kept)
+        self.end = self.steps * self.dt
+        if not 1 <= self.steps <= MOST_STEPS:
+            raise CaseError(f"Case: end / dt is {self.steps:,} steps, and has to be from 1 to {MOST_STEPS:,}")
+
+    # ---- what the record has
+
+    @property
+    def names(self) -> list[str]:
+        """The names of the record's analog channels, in its order."""
+        drafted = self._drafted
+        found = [f"V {name}" for asked in drafted.outputs for name in asked.names or drafted.nodes]
+        for items in (drafted.branches, drafted.switches):
+            for it in items:
+                found += [f"{letter} {joined(it.ends)}" for bit, letter in ((1, "I"), (2, "U")) if it.asked & bit]
+        return found + [f"T {name}" for asked in drafted.control_outputs for name in asked.names]
+
+    @property
+    def state_names(self) -> list[str]:
+        """The names of the record's status channels, in its order."""
+        return [f"S {it.name}" for it in self._drafted.switches if it.asked]
+
+    # ---- judging
+
+    def check(self) -> None:
+        """Judges what needs all cards: names that a card reads, and limits by count. Raises CaseError."""
+        self._check_names()
+        self._check_counts()
+
+    def _check_names(self) -> None:
+        drafted = self._drafted
+        nodes = dict.fromkeys(name for it in [*drafted.branches, *drafted.switches] for name in it.ends if name)
+        switched = {name for it in drafted.switches for name in it.ends if name}
+        variables = drafted.variables.keys() | set(STANDING)
+        for source in drafted.sources:
+            _known(source.name, nodes, "no branch and no switch has the node", source.card.call)
+            if source.kind == 60:
+                _known(source.name, variables, "the control has no variable", source.card.call)
+        for switch in drafted.switches:
+            if switch.control:
+                _known(switch.control, variables, "the control has no variable", switch.card.call)
+        for source in drafted.control_sources:
+            if source.kind == 90:
+                _known(source.name, nodes, "no branch and no switch has the node", source.card.call)
+            elif source.kind in (91, 93):
+                _known(source.name, switched, "no switch has the node", source.card.call)
+        for variable in [*drafted.blocks, *drafted.extras]:
+            for name in variable.reads:
+                _known(name, variables, "the control has no variable", variable.cards[0].call)
+        for asked in drafted.outputs:
+            for name in asked.names:
+                _known(name, nodes, "no branch and no switch has the node", asked.card.call)
+        for asked in drafted.control_outputs:
+            for name in asked.names:
+                _known(name, variables, "the control has no variable", asked.card.call)
+
+    def _check_counts(self) -> None:
+        drafted = self._drafted
+        channels = len(self.names) + len(self.state_names)
+        samples = self.steps // self.every + 1
+        if channels > MOST_CHANNELS:
+            raise CaseError(f"{channels} channels are asked for, and a record has at most {MOST_CHANNELS}")
+        if channels * samples > MOST_VALUES:
+            raise CaseError(
+                f"the record would have {channels * samples:,} values, {channels} channels of {samples:,} samples, and has at "
+                f"most {MOST_VALUES:,}: raise every, or ask for less"
+            )
+        history = sum(it.history for it in [*drafted.branches, *drafted.extras])
+        if history > MOST_HISTORY:
+            raise CaseError(
+                f"lines and devices would keep {history:,} values of the past, and a case keeps at most {MOST_HISTORY:,}: take "
+                "a larger time step, shorter lines or delays"
+            )
+
+    # ---- text
+
+    def text(self, rulers: bool = False) -> str:
+        """The cards of the case, a line each; with `rulers` the names of the fields stand above each kind of card."""
+        return "".join(f"{line.text if isinstance(line, Written) else line}\n" for line in self._lines(rulers))
+
+    def write(self, path: str | os.PathLike[str], rulers: bool = True) -> None:
+        """Writes the case into a file."""
+        pathlib.Path(path).write_bytes(self.text(rulers).encode("utf-8"))
+
+    def _lines(self, rulers: bool = False) -> list[Written | str]:
+        """The lines of the case: cards with their calls, and what stands between."""
+        self.check()
+        drafted = self._drafted
+        found: list[Written | str] = [f"C {line}".rstrip() for line in self._remark]
+        found.append("BEGIN NEW DATA CASE")
+        found += self._head
+        sections = [
+            [*self._branch_cards()],
+            *([it.card for it in part] for part in (drafted.switches, drafted.sources, drafted.outputs)),
+        ]
+        if drafted.control:
+            control = [
+                [card for it in drafted.blocks for card in it.cards],
+                [it.card for it in drafted.control_sources],
+                [card for it in drafted.extras for card in it.cards],
+                [it.card for it in drafted.control_outputs],
+                [],
+            ]
+            found.append("TACS HYBRID")
+            sections = control + sections
+        for section in sections:
+            found += [*section, columns.END_OF_SECTION]
+        return _ruled(found) if rulers else found
+
+    def _branch_cards(self) -> typing.Iterator[Written | str]:
+        """The cards of the branches, with those that make the fields of series branches wide or narrow."""
+        wide = False
+        for branch in self._drafted.branches:
+            for card in branch.cards:
+                if card.kind in (columns.SERIES, columns.WIDE) and (card.kind is columns.WIDE) != wide:
+                    wide = not wide
+                    yield f"$VINTAGE, {int(wide)}"
+                yield card
+
+    # ---- answers of the program
+
+    def run(self, save: str | os.PathLike[str] | None = None) -> record.Record:
+        """Runs the case; answers its record.
+
+        A run that ends early gives the samples before its end, which `record.told` says; `end_of_run` has it as a value.
+        With `save` a folder and a stem, as "out/line", the case and its record stay as out/line.case, .cfg and .dat.
+        """
+        with program.room() as room:
+            place, stem = (pathlib.Path(room), "case") if save is None else _place(save)
+            note = self._answer(["run", f"{stem}.case", f"{stem}.cfg", f"{stem}.dat"], place, (0, 3))
+            found = record.read(place / f"{stem}.cfg", place / f"{stem}.dat")
+        self.end_of_run = end_of(note, self.dt)
+        if self.end_of_run:
+            found.told.insert(0, str(self.end_of_run) + self._cure(self.end_of_run))
+        return found
+
+    end_of_run: End | None = None  # of the last run
+
+    def _cure(self, end: End) -> str:
+        """What may help where a run left the range beside an inductance."""
+        beside = [it for it in self._drafted.branches if end.name in it.ends and it.l_mh > 0]
+        if end.cause != "RANGE" or not beside:
+            return ""
+        limits = ", ".join(f"{it.name} at {1e9 * self.dt / (2e-3 * it.l_mh):.3g} A" for it in beside)
+        return f"; an inductance leaves it by its current ({limits}): peak_a cuts it into pieces in series"
+
+    def steady(self) -> Steady:
+        """The voltages of the nodes in the steady state of the frequency of its sources (docs/phasor.md)."""
+        return steady_of(self._answered(["phasor", "case.case"]))
+
+    def scan(self, first: int, last: int, step: int) -> Scan:
+        """The impedance that the one source sees, from a first to a last frequency in whole Hz (docs/phasor.md)."""
+        words = [str(_whole(it, "a frequency", 1, 10**7)) for it in (first, last, step)]
+        if first > last or (last - first) // step + 1 > 10_000:
+            raise CaseError(
+                "the first frequency has to be at most the last one, and 10,000 of them are scanned at most"
+            )
+        lines = self._lines()
+        return scan_of(self._answered(["scan", "case.case", *words]), lambda line: _card_at(lines, line)[0])
+
+    def batch(
+        self, closings: typing.Sequence | np.ndarray, openings: typing.Sequence | np.ndarray | None = None
+    ) -> Batch:
+        """Runs the case for each row of switch times; answers the peaks of its channels (docs/batch.md).
+
+        `closings` and `openings` have shape (rows, switches), or (rows,) for one, in s: the times of the time switches that
+        aren't tied, in the order of their calls. nan keeps the switch's own time; an opening of inf is never. Rows are as many as
+        wanted.
+        """
+        free = [it for it in self._drafted.switches if it.kind == "time" and it.leader is None]
+        closing = _rows(closings, "closings", len(free))
+        opening = np.full(closing.shape, np.nan) if openings is None else _rows(openings, "openings", len(free))
+        if closing.shape != opening.shape:
+            raise CaseError(f"closings and openings differ in shape: {closing.shape} and {opening.shape}")
+        rows = [self._row(free, *row) for row in zip(closing.tolist(), opening.tolist())]
+        notes = []
+        for first in range(0, len(rows), MOST_ROWS):
+            table = "".join(f"{row}\n" for row in rows[first : first + MOST_ROWS])
+            notes.append(self._answered(["batch", "case.case", "times"], {"times": table}))
+        return batch_of(notes, self.names)
+
+    def _row(self, free: list[Switch], closing: list[float], opening: list[float]) -> str:
+        """A row of a table of times: a closing and an opening time for each time switch, those that are tied among them."""
+        times: dict[int, tuple[float, float | None]] = {}
+        items = []
+        for switch in self._drafted.switches:
+            if switch.kind != "time":
+                continue
+            if switch.leader is None:
+                own = free.index(switch)
+                close_s = switch.close_s if np.isnan(closing[own]) else closing[own]
+                open_s = switch.open_s if np.isnan(opening[own]) else None if opening[own] == np.inf else opening[own]
+                times[id(switch)] = (close_s, open_s)
+            else:
+                times[id(switch)] = after(times[id(switch.leader)], switch.later_s)
+            close_s, open_s = times[id(switch)]
+            items += [_time(close_s), "-" if open_s is None else _time(open_s)]
+        return " ".join(items)
+
+    def show(self) -> listing.Listing:
+        """What the program reads of the case: each record with its line, values and units, and the warnings (docs/show.md)."""
+        return listing.read(self._answered(["show", "case.case"]))
+
+    def _answered(self, words: list[str], others: dict[str, str] | None = None) -> str:
+        """What a command prints of the case."""
+        with program.room() as room:
+            for name, text in (others or {}).items():
+                (pathlib.Path(room) / name).write_text(text, encoding="ascii")
+            return self._answer(words, pathlib.Path(room), (0,))
+
+    def _answer(self, words: list[str], place: pathlib.Path, good: tuple[int, ...]) -> str:
+        """What a command prints of the case, which is written at the place; what isn't good is raised."""
+        lines = self._lines()
+        self.write(place / words[1], rulers=False)
+        ended = program.run(words, place)
+        if ended.status in good:
+            return ended.note
+        refused = BAD_CARD.search(ended.note)
+        barred = REFUSED.search(ended.note)
+        if refused or barred:
+            line = int((refused or barred)[1])
+            column, reason = (int(refused[2]), refused[4]) if refused else (0, barred[3])
+            raise Refused(line, column, reason, *_card_at(lines, line))
+        told = (ended.note.strip() + " " + ended.told.strip()).strip()
+        raise CaseError(f"emtp {words[0]} ended with status {ended.status}: {told[:1000] or 'nothing was said'}")
+
+
+def _known(name: str, names: typing.Iterable[str], what: str, call: Call | None) -> None:
+    """The name is one of these."""
+    names = list(names)
+    if name in names:
+        return
+    other = [it for it in names if it.upper() == name.upper()] or difflib.get_close_matches(name, names, 1)
+    raise CaseError(f"{what} {name}" + (f"; there is {other[0]}" if other else ""), call)
+
+
+def _whole(value: int, what: str, low: int, high: int) -> int:
+    if isinstance(value, bool) or not isinstance(value, (int, np.integer)) or not low <= value <= high:
+        raise CaseError(f"{what} is a whole number from {low:,} to {high:,}, and here {value!r}")
+    return int(value)
+
+
+def _place(save: str | os.PathLike[str]) -> tuple[pathlib.Path, str]:
+    """Folder and stem of the files that stay."""
+    path = pathlib.Path(save)
+    path.parent.mkdir(parents=True, exist_ok=True)
+    return path.parent, path.name
+
+
+def _rows(times: typing.Sequence | np.ndarray, what: str, switches: int) -> np.ndarray:
+    found = np.asarray(times, dtype=float)
+    if found.ndim == 1 and switches == 1:
+        found = found[:, np.newaxis]
+    if found.ndim != 2 or found.shape[1] != switches or not len(found):
+        raise CaseError(
+            f"{what} has a row or more, with a time for each of the {switches} time switches that aren't tied"
+        )
+    return found
+
+
+def _time(seconds: float) -> str:
+    """An item of a table of times, to the ps."""
+    kept = fields.nearest(fields.EXACT.scaleb(fields.exact(seconds, "a time"), 12))
+    return f"{fields.EXACT.scaleb(fields.exact(kept, 'a time'), -12):f}"
+
+
+def _card_at(lines: list[Written | str], number: int) -> tuple[str, Call | None]:
+    """The text of a line, and the call that wrote it."""
+    line = lines[number - 1] if 0 < number <= len(lines) else ""
+    return (line.text, line.call) if isinstance(line, Written) else (line, None)
+
+
+def _ruled(lines: list[Written | str]) -> list[Written | str]:
+    """The lines with the names of the fields above each run of cards of one kind, as comments."""
+    found: list[Written | str] = []
+    before = None
+    for line in lines:
+        kind = line.kind if isinstance(line, Written) else None
+        if kind is not None and kind.name != before and not line.text.endswith("9999"):
+            found.append("C " + kind.legend()[2:])
+        before = kind.name if kind else before if isinstance(line, str) and line.startswith("$") else None
+        found.append(line)
+    return found

@@ -1,0 +1,212 @@
+"""Calls that write several cards: a smooth start, a wave by points, poles that are tied, a transformer by the control."""
+
+import typing
+
+import numpy as np
+
+from . import columns, fields
+from .control import Control
+from .draft import CaseError, Switch, joined, writes
+from .formula import FUNCTIONS
+from .network import Network, Three, _three
+
+SUMMANDS = 10  # variables of six characters that one formula adds up at most
+
+
+class Helps(Network):
+    """Writes several cards a call, through the methods of the network and the control."""
+
+    control: Control
+
+    # ---- sources that the control drives
+
+    @writes
+    def smooth_cosine(
+        self,
+        node: str,
+        *,
+        hz: float,
+        amplitude_v: float | None = None,
+        amplitude_a: float | None = None,
+        phase_deg: float = 0.0,
+        cycles: float = 5.0,
+    ) -> None:
+        """A cosine that rises smoothly from rest: its crest goes by 3 x^2 - 2 x^3 over so many cycles.
+
+        A network that starts so is settled soon behind them, where a cosine that is there at once rings, and leaves an offset
+        in inductances. The control makes it; its phase is that of `cosine`, one time step late, which is made up for.
+        """
+        if (amplitude_v is None) == (amplitude_a is None):
+            raise CaseError("a source has amplitude_v, as a voltage source, or amplitude_a, as a current source")
+        amplitude = amplitude_a if amplitude_v is None else amplitude_v
+        fields.exact(hz, "hz"), fields.exact(cycles, "cycles"), fields.exact(phase_deg, "phase_deg")
+        if not (hz > 0 and cycles > 0):
+            raise CaseError("hz and cycles have to be above 0")
+        wave = self._unused("CO")
+        self.control.cosine(wave, amplitude, hz=hz, phase_deg=_within_turn(phase_deg + 360.0 * hz * self.dt))
+        ramp = self._ramp(cycles / hz)
+        self.control.formula(node, f"{wave}*{ramp}")
+        self.driven(node, current=amplitude_v is None)
+
+    def _ramp(self, rise_s: float) -> str:
+        """The variable that rises smoothly from 0 to 1 within a time; one serves all sources of that time."""
+        ramps = self._drafted.ramps
+        if rise_s not in ramps:
+            part, ramp = self._unused("RA"), self._unused("RB")
+            time = fields.fitted(rise_s, columns.WINDOW_TIMES.field("open")).text
+            self.control.formula(part, f"TIMEX/{time}*(TIMEX.LT.{time})+(TIMEX.GE.{time})")
+            self.control.formula(ramp, f"{part}*{part}*(3.-2.*{part})")
+            ramps[rise_s] = ramp
+        return ramps[rise_s]
+
+    @writes
+    def wave(
+        self, node: str, *, times_s: typing.Sequence[float], values: typing.Sequence[float], current: bool = False
+    ) -> None:
+        """A source that goes straight from point to point: V, or A with `current`, at times in s that rise strictly.
+
+        Before the first point it has the first value, behind the last one the last. In the case's first step it is 0, since
+        the control begins at rest. Arrays of shape (points,), from 2 to 4,500 points: tables of the control of 64 points each.
+        """
+        t, v = np.asarray(times_s, dtype=float), np.asarray(values, dtype=float)
+        if t.ndim != 1 or t.shape != v.shape or not 2 <= len(t) <= 4500:
+            raise CaseError(f"a wave has 2 to 4,500 times and as many values, and here {t.shape} and {v.shape}")
+        if not (np.isfinite(t).all() and np.isfinite(v).all() and (np.diff(t) > 0).all()):
+            raise CaseError("the times of a wave rise strictly, and all numbers are finite")
+        pieces = []
+        for first in range(0, len(t) - 1, 63):
+            piece = slice(first, first + 64)
+            base = 0.0 if first == 0 else v[first]
+            pieces.append(self._unused("W"))
+            # the source reads the step before
+            points = [(_rounded(a - self.dt, 12), _rounded(b - base, 9)) for a, b in zip(t[piece], v[piece])]
+            self.control.table(pieces[-1], "TIMEX", points=points)
+        while len(pieces) > SUMMANDS:
+            parts = [pieces[k : k + SUMMANDS] for k in range(0, len(pieces), SUMMANDS)]
+            pieces = []
+            for part in parts:
+                pieces.append(self._unused("W"))
+                self.control.formula(pieces[-1], "+".join(part))
+        self.control.formula(node, "+".join(pieces))
+        self.driven(node, current=current)
+
+    # ---- poles
+
+    @writes
+    def tied(
+        self,
+        leader: Switch,
+        a: str,
+        b: str = "",
+        *,
+        later_s: float = 0.0,
+        opens_later_s: float | None = None,
+        margin_a: float = 0.0,
+        ask: str = "",
+    ) -> Switch:
+        """A time switch that closes `later_s` after another one, and opens `opens_later_s` (`later_s` without it) after it.
+
+        In a batch its times follow those of its leader in each row.
+        """
+        if leader.kind != "time" or not any(leader is it for it in self._drafted.switches):
+            raise CaseError("a switch is tied to a time switch of the same case, as the method switch answers it")
+        later = (float(later_s), float(later_s if opens_later_s is None else opens_later_s))
+        close_s, open_s = after((leader.close_s, leader.open_s), later)
+        tied = self._time_switch(self._ends(a, b), close_s, open_s, margin_a, ask)
+        tied.leader, tied.later_s = leader, later
+        return tied
+
+    @writes
+    def poles(
+        self,
+        a: Three,
+        b: Three,
+        *,
+        close_s: float | None = None,
+        open_s: float | None = None,
+        later_s: typing.Sequence[float] = (0.0, 0.0, 0.0),
+        margin_a: float = 0.0,
+        ask: str = "",
+    ) -> list[Switch]:
+        """The three poles of a breaker, the second and third tied to the first one.
+
+        `later_s` are the times by which each pole closes and opens after close_s and open_s; the first one is 0.
+        """
+        a, b = _three(a, "a"), _three(b, "b")
+        if len(later_s) != 3 or later_s[0] != 0:
+            raise CaseError("later_s has three times, of which the first is 0")
+        first = self.switch(a[0], b[0], close_s=close_s, open_s=open_s, margin_a=margin_a, ask=ask)
+        others = [self.tied(first, a[k], b[k], later_s=later_s[k], margin_a=margin_a, ask=ask) for k in (1, 2)]
+        return [first, *others]
+
+    # ---- transformer
+
+    @writes
+    def transformer(
+        self,
+        primary: str,
+        secondary: str,
+        *,
+        ratio: float,
+        l_mh: float,
+        r_ohm: float = 0.0,
+        behind_mh: float,
+        ask: str = "",
+    ) -> None:
+        """An ideal ratio (secondary over primary voltage) behind a leakage l_mh and r_ohm, which is on the secondary side.
+
+        The control measures the voltage of `primary` and the secondary current, and puts the other two quantities there one
+        step later. That is stable where the inductance behind the primary node, as the node sees it, is small beside the
+        leakage: behind_mh * ratio^2 below l_mh (each step takes the part behind_mh * ratio^2 / l_mh of an error back and
+        forth). Capacitances at `primary` make it worse; a resistance across it, better. `ask` is as of the leakage's branch.
+        """
+        for what, value in (("ratio", ratio), ("l_mh", l_mh), ("behind_mh", behind_mh)):
+            fields.exact(value, what)
+        if not (ratio > 0 and l_mh > 0 and behind_mh >= 0):
+            raise CaseError("ratio and l_mh have to be above 0, behind_mh not below")
+        part = behind_mh * ratio**2 / l_mh
+        if part >= 1:
+            raise CaseError(
+                f"the ratio by the control is stable where behind_mh * ratio^2, {behind_mh * ratio**2:g} mH, is below l_mh, "
+                f"{l_mh:g} mH: put more of the leakage on the secondary side, or less in front of the primary node"
+            )
+        induced, inner, drawn = self._unused("E"), self._unused("X"), self._unused("P")
+        self.measuring(primary, drawn, ask="")
+        self.measuring(induced, inner, ask="")
+        self.series(inner, secondary, r_ohm=r_ohm, l_mh=l_mh, ask=ask)
+        factor = fields.fitted(ratio, columns.TABLE_POINT.field("input")).text
+        self.control.current(inner)
+        self.control.formula(induced, f"{factor}*{self._measured(primary)}")
+        self.control.formula(drawn, f"-{factor}*{inner}")
+        self.driven(induced)
+        self.driven(drawn, current=True)
+        self._tell(
+            f"{joined((primary, secondary))}: a ratio of {ratio:g} by the control, one step late each way, which takes "
+            f"{part:.2g} of an error back and forth"
+        )
+
+    def _measured(self, node: str) -> str:
+        """A variable that has the voltage of a node, by a name that a formula can have."""
+        if not any(it.kind == 90 and it.name == node for it in self._drafted.control_sources):
+            self.control.voltage(node)
+        if node.isalnum() and node.isascii() and node[0].isalpha() and node not in FUNCTIONS:
+            return node
+        name = self._unused("V")
+        self.control.delay(name, [("+", node)], time_s=0.0)
+        return name
+
+
+def after(times: tuple[float, float | None], later: tuple[float, float]) -> tuple[float, float | None]:
+    """The closing and the opening time of a switch that is tied to one with these times; before 0 is from the start."""
+    close_s, open_s = times
+    return (close_s if close_s < 0 else close_s + later[0]), (None if open_s is None else open_s + later[1])
+
+
+def _within_turn(degrees: float) -> float:
+    """The same angle, above -180 and up to 180 degrees."""
+    return _rounded(180.0 - (180.0 - degrees) % 360.0, 9)
+
+
+def _rounded(value: float, places: int) -> float:
+    """A number with the digits that its field keeps, so that no more are told as lost."""
+    return round(float(value), places)
