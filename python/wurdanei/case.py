@@ -76,10 +76,16 @@ class Case(Helps):
     # ---- what the record has
 
     @property
+    def nodes(self) -> list[str]:
+        """The names of the nodes, in the order in which they first appear on the cards of branches and then of switches."""
+        drafted = self._drafted
+        return list(dict.fromkeys(name for it in [*drafted.branches, *drafted.switches] for name in it.ends if name))
+
+    @property
     def names(self) -> list[str]:
         """The names of the record's analog channels, in its order."""
         drafted = self._drafted
-        found = [f"V {name}" for asked in drafted.outputs for name in asked.names or drafted.nodes]
+        found = [f"V {name}" for asked in drafted.outputs for name in asked.names or self.nodes]
         for items in (drafted.branches, drafted.switches):
             for it in items:
                 found += [f"{letter} {joined(it.ends)}" for bit, letter in ((1, "I"), (2, "U")) if it.asked & bit]
@@ -99,7 +105,7 @@ class Case(Helps):
 
     def _check_names(self) -> None:
         drafted = self._drafted
-        nodes = dict.fromkeys(name for it in [*drafted.branches, *drafted.switches] for name in it.ends if name)
+        nodes = dict.fromkeys(self.nodes)
         switched = {name for it in drafted.switches for name in it.ends if name}
         variables = drafted.variables.keys() | set(STANDING)
         for source in drafted.sources:
@@ -295,11 +301,11 @@ class Case(Helps):
         raise CaseError(f"emtp {words[0]} ended with status {ended.status}: {told[:1000] or 'nothing was said'}")
 
 
-def _known(name: str, names: typing.Iterable[str], what: str, call: Call | None) -> None:
+def _known(name: str, names: typing.Collection[str], what: str, call: Call | None) -> None:
     """The name is one of these."""
-    names = list(names)
     if name in names:
         return
+    names = list(names)
     other = [it for it in names if it.upper() == name.upper()] or difflib.get_close_matches(name, names, 1)
     raise CaseError(f"{what} {name}" + (f"; there is {other[0]}" if other else ""), call)
 

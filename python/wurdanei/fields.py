@@ -141,12 +141,14 @@ def within(number: Decimal, field: Field) -> int:
 
 
 def roomy(value: numbers.Real | Decimal | float, field: Field) -> Fitted:
-    """The value with a column left for a blank, where that loses no more than KEEPS of it; else in all columns."""
+    """The value with a column left for a blank, where that loses no more than KEEPS of it and a point is there; else in all columns."""
+    whole = fitted(value, field)
     try:
         found = fitted(value, field, field.width - 1)
     except FieldError:
-        return fitted(value, field)
-    return found if found.loss <= KEEPS else fitted(value, field)
+        return whole
+    pointed = "." in found.text or "." not in whole.text
+    return found if found.loss <= max(KEEPS, whole.loss) and pointed else whole
 
 
 def named(text: str, field: Field) -> str:

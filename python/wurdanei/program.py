@@ -72,7 +72,7 @@ def _of_checkout(top: pathlib.Path, name: str) -> pathlib.Path:
     asked = subprocess.run([top / "emtp", "--program", name], capture_output=True, text=True, check=False)
     program = pathlib.Path(asked.stdout.strip() or ".")
     if asked.returncode or not program.is_file():
-        cause = asked.stderr.strip() or f"{program} isn't there"
+        cause = (asked.stderr.strip() or f"{program} isn't there").splitlines()[0]
         raise ProgramError(f"{top} has no {name} ({cause}); the environment variable {VARIABLES[name]} may name one")
     return program.resolve()
 
