@@ -140,7 +140,7 @@ class Maker:
 
     def head(self) -> Case:
         pick = self.pick
-        dt = pick.choice([1e-6, 2e-6, 5e-6, 1e-5, 2e-5, self.number(1e-7, 1e-3, 4)])
+        dt = pick.choice([1e-6, 1e-5, 2e-5, self.number(1e-7, 1e-3, 4), self.number(1e-2, 0.5, 3)])
         steps = pick.randint(1, 5000)
         self.dt, self.end, self.every = dt, float(f"{dt * steps:.5g}"), pick.randint(1, 50)
         self.tolerance = pick.choice([None, self.number(1e-6, 100.0)])
@@ -390,7 +390,10 @@ class Maker:
     def node(self) -> str:
         """A node that is there and has no voltage source yet; a branch is made where there is none."""
         while not (found := [name for name in self.case.nodes if name not in self.driven_nodes]):
-            self.series()
+            try:
+                self.series()
+            except CaseError:
+                continue  # out of the range of an impedance
         return self.pick.choice(found)
 
     def source_of(self, method: str, kind: int, **own: Number) -> None:
@@ -521,7 +524,7 @@ class Maker:
         pick, name, (given, listed) = self.pick, self.new(), self.inputs()
         order = pick.choice([0, 1, 2, pick.randint(1, 7)])
         gain = pick.choice([1.0, self.signed(1e-3, 1e4, 4)])
-        tau = self.dt * self.number(1, 100, 3)
+        tau = self.dt * self.number(0.5, 20, 3)
         bottom = [float(f"{math.comb(order, k) * tau**k:.5g}") for k in range(order + 1)] if order else [1.0]
         bottom = [it if it >= 1e-9 else 0.0 for it in bottom]
         top = (

@@ -11,6 +11,7 @@ COMMANDS = {  # the word, its module, what it does
     "convert": ("convert", "makes another COMTRADE record of a record, or a table (csv)"),
     "play": ("play", "makes measured voltages or currents the sources of a case"),
     "plot": ("plot", "draws a record, a scan or a batch as a picture or a page"),
+    "ruler": ("ruler", "prints the columns of a card and the names of its fields"),
     "study": ("study", "runs a case under many switch times or values, or many cases, on all processors"),
 }
 

@@ -7,6 +7,7 @@ one. Columns count from 1, and the last one belongs to the field.
 from dataclasses import dataclass, replace
 
 LARGE = 10**18
+CODES = (51, 52, 53, 54, 56, 57, 58, 59, 60, 62, 63, 64, 65, 66)  # of the devices
 
 # what one of the whole number that is kept of a field is called, by the unit in which it is written and its scale
 UNITS = {
@@ -45,6 +46,7 @@ class Field:
     high: int = 0
     held: bool = False
     blank: str = "0"
+    choices: tuple[int | str, ...] = ()  # what may stand there alone, where it isn't a range
 
     @property
     def width(self) -> int:
@@ -115,8 +117,8 @@ def _zero(name: str, label: str, first: int, last: int) -> Field:
     return _number(name, label, first, last, "", 0, 0, 0)
 
 
-def _type(label: str = "TY", low: int = 0, high: int = 0, blank: str = "refused") -> Field:
-    return _whole("type", label, 1, 2, low, high, blank)
+def _type(*choices: int, label: str = "TY", blank: str = "refused") -> Field:
+    return Field("type", label, 1, 2, "whole", low=min(choices), high=max(choices), blank=blank, choices=choices)
 
 
 BUSES = (_name("BUS1", "BUS1", 3, blank="ground"), _name("BUS2", "BUS2", 9, blank="ground"))
@@ -146,7 +148,7 @@ SERIES = Card(
     "Series branch: resistance, inductance, capacitance",
     ("branch", "series"),
     (
-        _type(blank="0"),
+        _type(0, blank="0"),
         *BUSES,
         *COPIED,
         _number("R", "R", 27, 32, "ohm", 6, 0, 10**15),
@@ -158,7 +160,7 @@ SERIES = Card(
 WIDE = replace(
     SERIES,
     name="wide series branch",
-    words=("wide",),
+    words=("branch", "wide"),
     fields=SERIES.fields[:5]
     + tuple(
         replace(SERIES.field(name), first=first, last=first + 15) for name, first in (("R", 27), ("L", 43), ("C", 59))
@@ -214,13 +216,13 @@ LINE_VALUES = {
 
 def _line(iline: int) -> tuple[Field, ...]:
     return (
-        _type(low=-3, high=-1),
+        _type(-1, -2, -3),
         *BUSES,
         *COPIED,
         _number("R", "R", 27, 32, "ohm", 6, 0, 10**12),
         *LINE_VALUES[iline],
         _number("length", "LENGTH", 45, 50, "", 6, 1, 10**12, blank="refused"),
-        _whole("ILINE", "IL", 51, 52, 0, 2),
+        Field("ILINE", "IL", 51, 52, "whole", low=0, high=2, choices=(0, 1, 2)),
         ASKED,
     )
 
@@ -233,7 +235,7 @@ NONLINEAR = Card(
     "Pseudo-nonlinear resistor and reactor",
     ("arrester", "reactor", "nonlinear"),
     (
-        _type(low=98, high=99),
+        _type(98, 99),
         *BUSES,
         *COPIED,
         _zero("flashover", "FLASH", 27, 32),
@@ -259,12 +261,12 @@ SWITCH = Card(
     "Switch",
     ("switch",),
     (
-        _type(high=0, blank="0"),
+        _type(0, blank="0"),
         *BUSES,
         _held("T-CLOSE", "T-CLOSE", 15, 24),
         _held("T-OPEN", "T-OPEN", 25, 34, blank="never"),
         _number("margin", "MARGIN", 35, 44, "A", 9, 0, LARGE),
-        _name("word", "WORD", 55, 64),
+        Field("word", "WORD", 55, 64, "name", blank="a time switch", choices=("MEASURING",)),
         ASKED,
     ),
 )
@@ -274,7 +276,7 @@ VALVE = Card(
     "Switch",
     ("valve", "controlled"),
     (
-        _type(low=11, high=13),
+        _type(11, 13),
         *BUSES,
         _number("ignition", "IGNITION", 15, 24, "V", 9, 0, LARGE),
         _number("holding", "HOLDING", 25, 34, "A", 9, 0, LARGE),
@@ -288,7 +290,7 @@ SOURCE = Card(
     "Source",
     ("source",),
     (
-        _type(low=11, high=60),
+        _type(11, 12, 14, 60),
         NAME,
         _whole("kind", "KI", 9, 10, -(10**9), 10**9),
         _number("amplitude", "AMPLITUDE", 11, 20, "V", 9, -LARGE, LARGE),
@@ -301,7 +303,7 @@ SOURCE = Card(
 CURRENT_SOURCE = with_fields(SOURCE, replace(SOURCE.field("amplitude"), unit="A"))
 # of a ramp T0 stands where a cosine has its phase
 RISE = _number("T0", "T0/PHASE", 31, 40, "s", 12, 1, LARGE, blank="refused")
-OUTPUT = Card("output", "cards", "Node outputs", ("output",), (_type("MK", 0, 1, "0"), *_names()))
+OUTPUT = Card("output", "cards", "Node outputs", ("output",), (_type(0, 1, label="MK", blank="0"), *_names()))
 BLOCK = Card(
     "block",
     "control",
@@ -333,7 +335,7 @@ TACS_SOURCE = Card(
     "TACS source",
     ("tacs-source", "control-source"),
     (
-        _type(low=11, high=93),
+        _type(11, 14, 23, 24, 90, 91, 93),
         NAME,
         _number("amplitude", "AMPLITUDE", 11, 20, "", 9, -LARGE, LARGE),
         _number("frequency", "FREQ/PER", 21, 30, "Hz", 6, 0, 10**13),
@@ -351,7 +353,7 @@ FORMULA = Card(
     "Supplemental card: a formula",
     ("formula",),
     (
-        _type("GR", 88, 99),
+        _type(99, 88, 98, label="GR"),
         NAME,
         Field("expression", "EXPRESSION", 12, 80, "text", blank="refused"),
     ),
@@ -363,9 +365,9 @@ DEVICE = Card(
     "Supplemental card: a device",
     ("device",),
     (
-        _type("GR", 88, 99),
+        _type(99, 88, 98, label="GR"),
         NAME,
-        _whole("code", "CO", 9, 10, 51, 66, blank="a formula"),
+        Field("code", "CO", 9, 10, "whole", low=51, high=66, blank="a formula", choices=CODES),
         *_inputs(),
         _number("A", "A", 51, 56, "", 9, -LARGE, LARGE),
         _number("B", "B", 57, 62, "", 9, -LARGE, LARGE),

@@ -14,7 +14,6 @@ MOST_CARDS = 200  # blocks, sources, supplemental cards, of each
 GROUPS = (99, 88, 98)
 # the devices: what they want besides their inputs
 NEEDS_D = (51, 52, 60)
-CODES = (51, 52, 53, 54, 56, 57, 58, 59, 60, 62, 63, 64, 65, 66)
 Inputs = str | typing.Sequence[str | tuple[str, str]]
 Limit = float | str | None
 
@@ -288,8 +287,8 @@ class Control:
         group: int = 98,
     ) -> None:
         """A device by its code and its fields A to E; the methods above name what these are for each code."""
-        if code not in CODES:
-            raise CaseError(f"a device is of code {', '.join(map(str, CODES))}, and here {code}")
+        if code not in columns.CODES:
+            raise CaseError(f"a device is of code {', '.join(map(str, columns.CODES))}, and here {code}")
         self._device(code, name, inputs, a=a, b=b, c=c, d=d, e=e, points=points, group=group)
 
     def _device(

@@ -62,7 +62,11 @@ def kept_of(text: str, scale: int) -> int:
 def shown(kept: int, scale: int, unit: str = "") -> str:
     """A kept number with its unit, as a reader writes it."""
     number = EXACT.scaleb(Decimal(kept), -scale).normalize(EXACT)
-    text = f"{number:f}" if -6 < number.adjusted() < 9 else f"{number:g}"
+    text = (
+        f"{number:f}"
+        if -6 < number.adjusted() < 7
+        else f"{number:e}".replace("E+", "e").replace("E", "e").replace("e+", "e")
+    )
     return f"{text} {unit}".rstrip()
 
 
