@@ -80,7 +80,8 @@ def spellings(digits: str, power: int) -> typing.Iterator[str]:
         plain = digits[:power] + "." + digits[power:]
     else:
         plain = "." + "0" * (-power - count) + digits
-    yield from sorted([plain, scientific], key=lambda it: len(it) - (1 if it is plain and lead >= 0 else 0))
+    shorter = len(plain) <= len(scientific) + 1 if lead >= 0 else len(plain) < len(scientific)
+    yield from (plain, scientific) if shorter else (scientific, plain)
     yield f"{digits[0]}.{digits[1:]}{lead:+d}"
     yield f".{digits}E{lead + 1}"
     yield f"{digits}E{power}"
@@ -120,11 +121,12 @@ def fitted(value: numbers.Real | Decimal | float, field: Field, width: int | Non
             break
         count = len(digits) - 1
     if best.loss > LOSES:
-        raise FieldError(
-            f"{field.name} = {value} {field.unit}".rstrip()
-            + f" becomes {shown(best.kept, field.scale, field.unit)} in columns {field.first}-{field.last}, "
-            + f"{best.loss:.2g} of it lost"
+        becomes = (
+            f"{field.name} = {value} {field.unit}".rstrip() + f" becomes {shown(best.kept, field.scale, field.unit)}"
         )
+        whole = lost(number, kept, field.scale) > LOSES  # no column would help
+        cause = f"as it is kept in whole {field.kept_unit}" if whole else f"in columns {field.first}-{field.last}"
+        raise FieldError(f"{becomes} {cause}, {best.loss:.2g} of it lost")
     return best
 
 
@@ -168,12 +170,12 @@ def named(text: str, field: Field) -> str:
 
 
 def card(kind: Card, texts: typing.Mapping[str, str]) -> str:
-    """The card of these fields: names begin in their first column, all else ends in its last one.
+    """The card of these fields: names begin in their first column, numbers end in their last one.
 
-    Of two neighbours that would touch, the left one moves by a column where it has room.
+    Of two numbers that would touch, the left one moves by a column where it has room.
     """
     line = list(kind.text.ljust(80))
-    taken = 81  # the first column of the field behind that is full
+    taken = 0  # the first column of the number behind
     for field in sorted(kind.fields, key=lambda it: -it.first):
         text = texts.get(field.name, "")
         if not text:
@@ -181,5 +183,5 @@ def card(kind: Card, texts: typing.Mapping[str, str]) -> str:
         last = field.last - 1 if taken == field.last + 1 and len(text) < field.width else field.last
         first = field.first if field.kind in ("name", "text", "sign") else last - len(text) + 1
         line[first - 1 : first - 1 + len(text)] = text
-        taken = first
+        taken = first if field.kind == "number" else 0
     return "".join(line).rstrip()

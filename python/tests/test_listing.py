@@ -1,0 +1,60 @@
+"""Tests of wurdanei.listing: the listings of rows/shown, and what is no listing."""
+
+import pathlib
+import unittest
+from decimal import Decimal
+
+from wurdanei import listing
+
+ROWS = pathlib.Path(__file__).parents[2] / "rows" / "shown"
+
+
+def shown(name: str) -> listing.Listing:
+    return listing.read((ROWS / name / "expected.note").read_text())
+
+
+class Listing(unittest.TestCase):
+    def test_records_have_values_units_and_what_stands_below(self) -> None:
+        found = shown("shown_lines_and_arresters")
+        self.assertEqual(found.nodes, ["SA", "RA", "SB", "RB", "SC", "RC", "FAR", "GA", "GB"])
+        (line,) = found.of("line")
+        self.assertEqual((line.line, line.name("BUS1"), line["travel time"]), (8, "RA", Decimal("0.0005")))
+        (arrester,) = found.of("nonlinear resistor")
+        self.assertEqual([point["voltage"] for point in arrester.below], [200000, 350000])
+        self.assertEqual([arrester.name("BUS2"), arrester["BUS2"]], ["", ""])
+        self.assertEqual(found.of("time switch")[0].text("T-CLOSE"), "-1 s")
+        self.assertIsNone(found.of("voltage source")[0]["TSTOP"])
+        self.assertEqual(found.warnings, ["line 7, columns 3-8, no other branch, switch or source has the node"])
+        self.assertEqual([line.line for line in found.of("copies line")], [17])
+
+    def test_units_stand_behind_numbers(self) -> None:
+        entry = listing.Entry("R", "10.2 ohm")
+        self.assertEqual((entry.value, entry.unit), (Decimal("10.2"), "ohm"))
+        self.assertEqual(listing.Entry("nodes", "3 of 1000").value, 3)
+        self.assertEqual(listing.Entry("step", None).value, None)
+
+    def test_the_control(self) -> None:
+        found = shown("shown_control")
+        (block,) = found.of("block")
+        self.assertEqual(block.all("input"), ["+SENSE", "-BIAS"])
+        self.assertEqual([it.kind for it in block.below], ["numerator", "denominator"])
+        self.assertEqual(block.below[1]["s^1"], Decimal("0.01"))
+        self.assertEqual(len(found.of("device")[0].below), 2)
+        tree = (".OR.", (".GT.", "FILTER", "0.25"), (".NOT.", "GATE"))
+        self.assertEqual(listing.tree_of(found.of("formula")[0]), tree)
+
+    def test_warnings_may_stand_above(self) -> None:
+        lines = shown("shown_warnings_of_each_kind").text.splitlines()
+        at = next(place for place, line in enumerate(lines) if line.startswith("warning"))
+        turned = listing.read("\n".join([*lines[at:], *lines[:at], ""]))
+        self.assertEqual(len(turned.warnings), 11)
+        self.assertEqual(turned.lines, shown("shown_warnings_of_each_kind").lines)
+
+    def test_what_is_no_listing(self) -> None:
+        for text in ("", "USAGE\n", "BAD CARD LINE 2 COLUMN 1 REASON 3 NotANumber\n"):
+            with self.assertRaises(listing.ListingError):
+                listing.read(text)
+
+
+if __name__ == "__main__":
+    unittest.main()
