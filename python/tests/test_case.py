@@ -370,7 +370,7 @@ class Helps(unittest.TestCase):
         with self.assertRaisesRegex(CaseError, r"L.1 is a name that test_case.py line \d+, series\("):
             case.series("L.1", r_ohm=1)
 
-    def test_poles_are_tied(self) -> None:
+    def test_poles_follow_the_first_one(self) -> None:
         case = Case(1e-5, 1e-1)
         case.poles(list("ABC"), list("DEF"), close_s=0.01, open_s=0.05, later_s=(0, 0.001, 0.003), ask="i")
         times = [(line[14:24].strip(), line[24:34].strip()) for line in cards(case)]
@@ -446,7 +446,7 @@ class Helps(unittest.TestCase):
         t = np.sort(np.random.default_rng(1).uniform(0, 0.19, 900).round(6))
         t = np.unique(t)
         v = np.random.default_rng(2).uniform(-50, 50, len(t)).round(3)
-        case.wave("A", times_s=t, values=v)
+        case.waveform("A", times_s=t, values=v)
         case.output("A")
         found = case.run()
         self.assertLess(abs(found.channel("V A") - np.interp(found.times, t, v))[2:].max(), 0.0011)

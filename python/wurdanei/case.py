@@ -240,8 +240,8 @@ class Case(Helps):
         """Runs the case for each row of switch times; answers the peaks of its channels (docs/batch.md).
 
         `closings` and `openings` have shape (rows, switches), or (rows,) for one, in s: the times of the time switches that
-        aren't tied, in the order of their calls. nan keeps the switch's own time; an opening of inf is never. Rows are as many as
-        wanted.
+        follow no other one, in the order of their calls. nan keeps the switch's own time; an opening of inf is never. There
+        may be any number of rows.
         """
         free = [it for it in self._drafted.switches if it.kind == "time" and it.leader is None]
         closing = _rows(closings, "closings", len(free))
@@ -256,7 +256,7 @@ class Case(Helps):
         return batch_of(notes, self.names)
 
     def _row(self, free: list[Switch], closing: list[float], opening: list[float]) -> str:
-        """A row of a table of times: a closing and an opening time for each time switch, those that are tied among them."""
+        """A row of a table of times: a closing and an opening time for each time switch, those that follow another one among them."""
         times: dict[int, tuple[float, float | None]] = {}
         items = []
         for switch in self._drafted.switches:
@@ -329,7 +329,7 @@ def _rows(times: typing.Sequence | np.ndarray, what: str, switches: int) -> np.n
         found = found[:, np.newaxis]
     if found.ndim != 2 or found.shape[1] != switches or not len(found):
         raise CaseError(
-            f"{what} has a row or more, with a time for each of the {switches} time switches that aren't tied"
+            f"{what} has a row or more, with a time for each of the {switches} time switches that follow no other one"
         )
     return found
 

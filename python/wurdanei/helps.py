@@ -1,4 +1,4 @@
-"""Calls that write several cards: a smooth start, a wave by points, poles that are tied, a transformer by the control."""
+"""Calls that write several cards: a smooth start, a waveform by points, poles that close together, a transformer by the control."""
 
 import typing
 
@@ -60,7 +60,7 @@ class Helps(Network):
         return ramps[rise_s]
 
     @writes
-    def wave(
+    def waveform(
         self, node: str, *, times_s: typing.Sequence[float], values: typing.Sequence[float], current: bool = False
     ) -> None:
         """A source that goes straight from point to point: V, or A with `current`, at times in s that rise strictly.
@@ -70,9 +70,9 @@ class Helps(Network):
         """
         t, v = np.asarray(times_s, dtype=float), np.asarray(values, dtype=float)
         if t.ndim != 1 or t.shape != v.shape or not 2 <= len(t) <= 4500:
-            raise CaseError(f"a wave has 2 to 4,500 times and as many values, and here {t.shape} and {v.shape}")
+            raise CaseError(f"a waveform has 2 to 4,500 times and as many values, and here {t.shape} and {v.shape}")
         if not (np.isfinite(t).all() and np.isfinite(v).all() and (np.diff(t) > 0).all()):
-            raise CaseError("the times of a wave rise strictly, and all numbers are finite")
+            raise CaseError("the times of a waveform rise strictly, and all numbers are finite")
         pieces = []
         for first in range(0, len(t) - 1, 63):
             piece = slice(first, first + 64)
@@ -93,7 +93,7 @@ class Helps(Network):
     # ---- poles
 
     @writes
-    def tied(
+    def follower(
         self,
         leader: Switch,
         a: str,
@@ -109,12 +109,12 @@ class Helps(Network):
         In a batch its times follow those of its leader in each row.
         """
         if leader.kind != "time" or not any(leader is it for it in self._drafted.switches):
-            raise CaseError("a switch is tied to a time switch of the same case, as the method switch answers it")
+            raise CaseError("a switch follows a time switch of the same case, as the method switch answers it")
         later = (float(later_s), float(later_s if opens_later_s is None else opens_later_s))
         close_s, open_s = after((leader.close_s, leader.open_s), later)
-        tied = self._time_switch(self._ends(a, b), close_s, open_s, margin_a, ask)
-        tied.leader, tied.later_s = leader, later
-        return tied
+        found = self._time_switch(self._ends(a, b), close_s, open_s, margin_a, ask)
+        found.leader, found.later_s = leader, later
+        return found
 
     @writes
     def poles(
@@ -128,7 +128,7 @@ class Helps(Network):
         margin_a: float = 0.0,
         ask: str = "",
     ) -> list[Switch]:
-        """The three poles of a breaker, the second and third tied to the first one.
+        """The three poles of a breaker, of which the second and third follow the first one.
 
         `later_s` are the times by which each pole closes and opens after close_s and open_s; the first one is 0.
         """
@@ -136,7 +136,7 @@ class Helps(Network):
         if len(later_s) != 3 or later_s[0] != 0:
             raise CaseError("later_s has three times, of which the first is 0")
         first = self.switch(a[0], b[0], close_s=close_s, open_s=open_s, margin_a=margin_a, ask=ask)
-        others = [self.tied(first, a[k], b[k], later_s=later_s[k], margin_a=margin_a, ask=ask) for k in (1, 2)]
+        others = [self.follower(first, a[k], b[k], later_s=later_s[k], margin_a=margin_a, ask=ask) for k in (1, 2)]
         return [first, *others]
 
     # ---- transformer
@@ -197,7 +197,7 @@ class Helps(Network):
 
 
 def after(times: tuple[float, float | None], later: tuple[float, float]) -> tuple[float, float | None]:
-    """The closing and the opening time of a switch that is tied to one with these times; before 0 is from the start."""
+    """The closing and the opening time of a switch that follows one with these times; before 0 is from the start."""
     close_s, open_s = times
     return (close_s if close_s < 0 else close_s + later[0]), (None if open_s is None else open_s + later[1])
 

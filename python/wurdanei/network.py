@@ -314,7 +314,7 @@ class Network(Draft):
         """A time switch: it closes at `close_s`, and is closed from the start without it.
 
         From `open_s` on, never without it, it opens at the next zero of its current, or where the current is at most
-        `margin_a`. Answers the switch, which `tied` takes.
+        `margin_a`. Answers the switch, which `follower` takes.
         """
         return self._time_switch(self._ends(a, b), close_s, open_s, margin_a, ask)
 
