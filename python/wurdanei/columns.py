@@ -55,7 +55,7 @@ class Field:
     @property
     def kept_unit(self) -> str:
         """What one of the kept whole number is called."""
-        return UNITS[self.unit, self.scale] if self.kind == "number" else "whole"
+        return UNITS.get((self.unit, self.scale), "no unit") if self.kind == "number" else "whole"
 
 
 @dataclass(frozen=True)
