@@ -234,6 +234,10 @@ class Refusals(unittest.TestCase):
                 "the travel time, 5 us, is below the time step, 10 us",
                 lambda it: it.line("A", "C", zc_ohm=300, tau_us=5),
             ),
+            (
+                "the surge impedance, 1e+09 ohm, has to lie",
+                lambda it: it.line("A", "C", l_mh=1e6, c_uf=1e-9, r_ohm=1e6, length=100),
+            ),
             ("a has three names", lambda it: it.line3("ABC", "DEF")),
             (
                 "zero sequence: a line has no km",
@@ -343,6 +347,15 @@ class Refusals(unittest.TestCase):
         case = Case(1e-6, 0.1)
         case.line("A", "B", zc_ohm=300, tau_us=1.1e6)
         with self.assertRaisesRegex(CaseError, r"would keep 2,200,002 values of the past"):
+            case.text()
+        case = Case(1e-6, 0.1)
+        values = {"zc_ohm": 300, "tau_us": 1.2e5}
+        for name in "ADG":  # 8 * 120,001 values each: those of the second and third are copied
+            like = None if name == "A" else (list("AAA"), list("XYZ"))
+            a, b = [name] * 3, [f"{name}{k}" for k in range(3)] if like else list("XYZ")
+            sequences = {"like": like} if like else {"zero": values, "positive": values}
+            case.line3(a, b, **sequences)
+        with self.assertRaisesRegex(CaseError, r"would keep 2,880,024 values of the past"):
             case.text()
         case = Case(1e-3, 1.0)
         for number in range(1000):

@@ -3,6 +3,7 @@
 import copy
 import functools
 import os
+import reprlib
 import sys
 import typing
 from dataclasses import dataclass, field
@@ -57,9 +58,17 @@ class Branch:
     ends: tuple[str, str]
     asked: int
     cards: list[Written]
-    name: str
-    history: int = 0  # values of the past
+    steps: int = 0  # of a line: whole time steps of its travel time
     l_mh: float = 0.0
+
+    @property
+    def name(self) -> str:
+        return joined(self.ends)
+
+    @property
+    def history(self) -> int:
+        """How many values of the past are kept of both ends: of the zero sequence or a single line, and of the positive one."""
+        return {"line": 2, "second": 6}.get(self.kind, 0) * (self.steps + 1)
 
 
 @dataclass
@@ -170,7 +179,7 @@ def called(name: str, words: tuple, named: dict) -> Call:
     frame = sys._getframe(2)
     while frame.f_back and os.path.dirname(os.path.abspath(frame.f_code.co_filename)) == PACKAGE:
         frame = frame.f_back
-    texts = [repr(word) for word in words] + [f"{key}={value!r}" for key, value in named.items()]
+    texts = [reprlib.repr(word) for word in words] + [f"{key}={reprlib.repr(value)}" for key, value in named.items()]
     text = ", ".join(texts)
     return Call(name, text if len(text) <= 60 else text[:57] + "...", frame.f_code.co_filename, frame.f_lineno)
 

@@ -63,10 +63,11 @@ def words_of(text: str) -> list[Word]:
 class _Reader:
     """Goes through the words once, one method a level of the grammar."""
 
-    def __init__(self, text: str) -> None:
+    def __init__(self, text: str, deepest: int) -> None:
         self.words = words_of(text)
         self.at = 0
         self.depth = 0
+        self.deepest = deepest
 
     @property
     def word(self) -> Word:
@@ -135,8 +136,8 @@ class _Reader:
         return word.text
 
     def parenthesis(self, text: str) -> str | tuple:
-        if self.depth == DEEPEST:
-            raise FormulaError(f"parentheses stand more than {DEEPEST} deep", self.word.at)
+        if self.depth == self.deepest:
+            raise FormulaError(f"parentheses stand more than {self.deepest} deep", self.word.at)
         self.at += 1
         if text != "(" and not self.takes("("):
             raise self.fault(f"the parenthesis of {text}")
@@ -148,9 +149,9 @@ class _Reader:
         return tree if text == "(" else (text, tree)
 
 
-def read(text: str) -> Formula:
-    """The formula of a text. Raises FormulaError where it is none."""
-    reader = _Reader(text)
+def read(text: str, deepest: int = DEEPEST) -> Formula:
+    """The formula of a text, with parentheses so deep at most. Raises FormulaError where it is none."""
+    reader = _Reader(text, deepest)
     tree = reader.either()
     if reader.word.text:
         raise reader.fault("an operator")

@@ -5,11 +5,12 @@ import typing
 from dataclasses import dataclass, field
 from decimal import Decimal, InvalidOperation
 
+from . import formula
+
 NOTHING = ("never", "(always)", "(no variable)")  # of a value that isn't there
 GROUND = "(ground)"
 # lines that go on with what the line before them began
 CONTINUED = ("point", "numerator", "denominator")
-OPERATORS = {"+", "-", "*", "/", ".GT.", ".GE.", ".LT.", ".LE.", ".EQ.", ".NE.", ".AND.", ".OR."}
 
 
 class ListingError(ValueError):
@@ -136,11 +137,14 @@ def _line(printed: str, number: int) -> Line:
     return Line(entries[0].name if entries else "line", count, entries)
 
 
-def tree_of(formula: Line) -> str | tuple:
-    """The tree of a formula's line, as wurdanei.formula has it: numbers and names as texts, (operator, tree, ..)."""
-    names = formula.all("names")
+def tree_of(line: Line) -> str | tuple:
+    """The tree of a formula's line, as wurdanei.formula has it: numbers and names as texts, (operator, tree, ..).
+
+    The line has the formula's nodes behind what they work on, or its text with all parentheses.
+    """
+    names = line.all("names")
     stack: list[typing.Any] = []
-    for entry in formula.entries:
+    for entry in line.entries:
         if entry.name == "number":
             stack.append(entry.text)
         elif entry.name == "variable":
@@ -150,6 +154,13 @@ def tree_of(formula: Line) -> str | tuple:
         elif entry.name == "operator":
             right = stack.pop()
             stack.append((entry.text, stack.pop(), right))
+    if not stack:
+        texts = [
+            entry.text
+            for entry in line.entries
+            if entry.text and entry.name not in ("NAME", "card", "variables", "names")
+        ]
+        stack = [formula.read(text, deepest=100).tree for text in texts]
     if len(stack) != 1:
         raise ListingError("the nodes of a formula make no tree")
     return stack[0]

@@ -51,11 +51,12 @@ class Network(Draft):
             self._without(r_ohm=r_ohm, l_mh=l_mh, c_uf=c_uf, peak_a=peak_a or 0.0)
             self._series_copy(a, b, like, ask)
             return
+        values = (r_ohm, l_mh, c_uf)
         pieces = 1 if peak_a is None else self._pieces(l_mh, peak_a)
-        if pieces > 1:
-            self._cut(a, b, (r_ohm, l_mh, c_uf), pieces, peak_a, ask)
+        if peak_a is None or pieces == 1:
+            self._series(a, b, values, ask)
         else:
-            self._series(a, b, (r_ohm, l_mh, c_uf), ask)
+            self._cut(a, b, values, pieces, peak_a, ask)
 
     def _series(self, a: str, b: str, values: tuple[float, float, float], ask: str) -> None:
         """One series branch of these R, L and C."""
@@ -92,9 +93,7 @@ class Network(Draft):
         fields.exact(l_mh, "l_mh"), fields.exact(peak_a, "peak_a")
         return max(1, math.ceil(2e-3 * l_mh * abs(peak_a) / self.dt / 0.9e9))
 
-    def _cut(
-        self, a: str, b: str, values: tuple[float, float, float], pieces: int, peak_a: float | None, ask: str
-    ) -> None:
+    def _cut(self, a: str, b: str, values: tuple[float, float, float], pieces: int, peak_a: float, ask: str) -> None:
         if "u" in ask:
             raise CaseError(
                 "an inductance that is cut has no voltage as one channel: ask for the voltages of its nodes"
@@ -108,7 +107,7 @@ class Network(Draft):
             self._series(one, other, (r_ohm if first else 0.0, piece, c_uf if first else 0.0), ask if first else "")
         self._tell(
             f"{joined((a, b))}: {l_mh:g} mH are cut into {pieces} pieces in series, since 2 L i / dt would be "
-            f"{2e-3 * l_mh * abs(peak_a or 0) / self.dt:.3g} V at {peak_a:g} A; their nodes are {', '.join(inner)}"
+            f"{2e-3 * l_mh * abs(peak_a) / self.dt:.3g} V at {peak_a:g} A; their nodes are {', '.join(inner)}"
         )
 
     @writes
@@ -137,7 +136,7 @@ class Network(Draft):
         mode = dict(length=length, r_ohm=r_ohm, l_mh=l_mh, c_uf=c_uf, zc_ohm=zc_ohm, velocity=velocity, tau_us=tau_us)
         given = {key: value for key, value in mode.items() if value is not None}
         card, steps = self._mode("-1", ends, given if like is None else self._like(given, like), ask)
-        self._branch("line", ends, ask, [card], history=2 * (steps + 1))
+        self._branch("line", ends, ask, [card], steps=steps)
 
     @writes
     def line3(
@@ -166,25 +165,25 @@ class Network(Draft):
         if zero is None or positive is None:
             raise CaseError("a three-phase line has the values of two sequences: give zero and positive")
         ends = [self._ends(one, other) for one, other in zip(a, b)]
-        cards, histories = [], []
+        cards, steps = [], []
         for phase, (name, values) in enumerate((("zero", zero), ("positive", positive))):
             values = dict(values)
             where = values.pop("like", None)
             given = {"length": length} | values if where is None else self._like(values, where)
-            card, steps = self._mode(("-1", "-2")[phase], ends[phase], given, asks[phase], f"{name} sequence: ")
+            card, own = self._mode(("-1", "-2")[phase], ends[phase], given, asks[phase], f"{name} sequence: ")
             cards.append(card)
-            histories.append((2, 6)[phase] * (steps + 1))
+            steps.append(own)
         texts = {"type": "-3"} | self._bus(ends[2]) | _asking(asks[2])
         cards.append(self._written(columns.LINE, texts))
-        for kind, own, asked, card, history in zip(("line", "second", "third"), ends, asks, cards, [*histories, 0]):
-            self._branch(kind, own, asked, [card], history=history)
+        for kind, own, asked, card, count in zip(("line", "second", "third"), ends, asks, cards, [*steps, 0]):
+            self._branch(kind, own, asked, [card], steps=count)
 
     def _mode(self, kind: str, ends: Ends, given: dict, ask: str, what: str = "") -> tuple[Written, int]:
         """The card -1 or -2 of these values, and the whole steps of its travel time."""
         texts = {"type": kind} | self._bus(ends) | _asking(ask)
         if "like" in given:
             copied = self._copied("line" if kind == "-1" else "second", given["like"])
-            return self._written(columns.LINE, texts | _copying(given["like"])), copied.history // 2 - 1
+            return self._written(columns.LINE, texts | _copying(given["like"])), copied.steps
         unknown = given.keys() - {"length", "r_ohm", "l_mh", "c_uf", "zc_ohm", "velocity", "tau_us"}
         if unknown:
             raise CaseError(f"{what}a line has no {', '.join(sorted(unknown))}")
@@ -221,7 +220,7 @@ class Network(Draft):
         """The whole steps of the travel time of a line of these kept values; what is out of its range is refused."""
         total = r * length / 1e6  # micro-ohm
         if iline == 0:
-            zc = math.sqrt(first / second * 1e9) * 1e6
+            zc = math.sqrt(first / second * 1e6) * 1e6  # nH over fF
             tau = length * math.sqrt(first * 1e-9 * second * 1e-15) * 1e6  # ps
         else:
             zc, tau = first, length / second * 1e12 if iline == 1 else second
@@ -511,12 +510,9 @@ class Network(Draft):
     def _bus(self, ends: Ends) -> dict[str, str]:
         return {"BUS1": ends[0], "BUS2": ends[1]}
 
-    def _branch(
-        self, kind: str, ends: Ends, ask: str, cards: list[Written], history: int = 0, l_mh: float = 0.0
-    ) -> None:
+    def _branch(self, kind: str, ends: Ends, ask: str, cards: list[Written], steps: int = 0, l_mh: float = 0.0) -> None:
         self._bounded(self._drafted.branches, MOST_BRANCHES, "branches")
-        branch = Branch(kind, ends, ASKED[ask], cards, joined(ends), history, float(l_mh))
-        self._drafted.branches.append(branch)
+        self._drafted.branches.append(Branch(kind, ends, ASKED[ask], cards, steps, float(l_mh)))
         self._seen(ends)
 
     def _seen(self, ends: Ends) -> None:
@@ -558,7 +554,7 @@ def _three(names: Three, what: str) -> list[str]:
 
 
 def _asking(ask: str) -> dict[str, str]:
-    if ask not in ASKED:
+    if not isinstance(ask, str) or ask not in ASKED:
         raise CaseError(f"ask is '', 'i' for the current, 'u' for the voltage or 'iu' for both, and here {ask!r}")
     return {"asked": str(ASKED[ask]) if ask else ""}
 
