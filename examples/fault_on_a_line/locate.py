@@ -16,7 +16,7 @@ sys.path.insert(0, str(HERE.parents[1] / "python"))
 from wurdanei import compare, program, record, recorder  # noqa: E402
 
 CASE = (HERE / "fault_on_a_line.case").read_text()
-OTHER = (("   4.E-5", "   1.E-5"), ("       1       2", "       1       4"), ("   2.8  .008", " 2.814 .0081"))
+OTHER = (("   2.E-5", "   5.E-6"), ("       1       4", "       1       8"), ("   2.8  .008", " 2.814 .0081"))
 VOLTAGES = [(f"V VS{it}", f"U_{it}", "kV", 1e6, 4e5, 100, 1) for it in "ABC"]
 CURRENTS = [(f"I VS{it}-LS{it}", f"I_{it}", "A", 1.13e5, 2000, 1, -1) for it in "ABC"]
 INPUTS = [recorder.Input(*it, 5e-6 * place) for place, it in enumerate(VOLTAGES + CURRENTS)]
@@ -42,9 +42,9 @@ def main(folder: pathlib.Path, quick: bool) -> None:
     for old, new in OTHER:
         other = other.replace(old, new)
     recorder.write(run(folder, "other", 120, 5, other), INPUTS, SETTINGS, str(folder / "measured.cfg"))
-    (folder / "pairs").write_text("".join(f"{it.source}, {it.name}, {it.factor}, 3\n" for it in INPUTS))
+    (folder / "pairs").write_text("".join(f"{it.source}, {it.name}, {it.factor}, 5\n" for it in INPUTS))
     run(folder, "right", 120, 5), run(folder, "wrong", 150, 5)
-    measured, pairs = record.read(folder / "measured.cfg"), compare.wanted_pairs(str(folder / "pairs"), 3)
+    measured, pairs = record.read(folder / "measured.cfg"), compare.wanted_pairs(str(folder / "pairs"), 5)
 
     def misfit(place: tuple[float, float]) -> float:
         """The root of the mean square of the pairs' RMS differences, in %."""

@@ -2,12 +2,11 @@
 
 from __future__ import annotations
 
-import os
 import sys
 
 import numpy as np
 
-from .compare import Compared, Comparison
+from .compare import Compared, Comparison, shift_line
 from .drawing import Curve, needs, thinned
 from .page import rounded, untagged
 from .picture import plain
@@ -98,7 +97,7 @@ def _page(found: Comparison, path: str) -> None:
         figure.update_yaxes(title_text="difference", row=lower, col=1)
     figure.update_xaxes(title_text="ms of the case", row=2 * count, col=1)
     figure.update_layout(
-        title=untagged(os.path.basename(path)),
+        title=untagged(shift_line(found)),
         height=160 + 330 * count,
         template="plotly_white",
         hovermode="x unified",

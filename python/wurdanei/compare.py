@@ -265,13 +265,19 @@ def _round(value: float, digits: int) -> float:
     return round(value, digits) + 0.0
 
 
+def shift_line(found: Comparison) -> str:
+    """The shift in words."""
+    text = f"{_round(1e3 * found.shift.seconds, 4):+.4f}"
+    line = f"time of the measured record = time of the case {text[0]} {text[1:]} ms"
+    if math.isfinite(found.shift.deviation):
+        line += f", standard deviation {1e6 * found.shift.deviation:.1f} us"
+    return line
+
+
 def listing(found: Comparison) -> str:
     """What was found, as lines."""
     shift, first = found.shift, found.pairs[0]
-    text = f"{_round(1e3 * shift.seconds, 4):+.4f}"
-    lines = [f"time of the measured record = time of the case {text[0]} {text[1:]} ms"]
-    if math.isfinite(shift.deviation):
-        lines[0] += f", standard deviation {1e6 * shift.deviation:.1f} us"
+    lines = [shift_line(found)]
     if shift.others:
         near = ", ".join(
             f"{1e3 * (it - shift.seconds):+.3f}"

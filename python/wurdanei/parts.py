@@ -48,6 +48,12 @@ class Means:
     resume: bool = False
 
 
+def write_text(path: str, text: str) -> None:
+    """Writes a text of bytes from 0 to 255 as they are."""
+    with open(path, "w", encoding="latin-1", newline="") as file:
+        file.write(text)
+
+
 def sum_of(path: str | os.PathLike[str]) -> str:
     """The sum that says whether a file is the same."""
     with open(path, "rb") as file:

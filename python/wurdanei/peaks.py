@@ -2,6 +2,7 @@
 
 import csv
 import re
+import sys
 from collections.abc import Sequence
 from dataclasses import dataclass
 from decimal import Decimal
@@ -9,7 +10,9 @@ from decimal import Decimal
 import numpy as np
 
 from .parts import StudyError
+from .record import Record
 from .summary import two_percent
+from .varied import Cases
 
 
 @dataclass(frozen=True)
@@ -142,3 +145,18 @@ def listing(headings: list[str], columns: list[list[Decimal | str]]) -> list[str
         it = statistics(column)
         lines.append(f"{heading:{width}}  {it.half:12.6g}  {it.seldom:12.6g}  {it.greatest:12.6g}  {it.row}")
     return lines
+
+
+def channels_of(record: Record, cases: Cases, asked: list[str]) -> Channels:
+    """The channels of a record, with the names of those in whose place they stand."""
+    names = tuple(cases.instead[name] + cases.since if name in cases.instead else name for name in record.names)
+    units = tuple("V" if name in cases.instead else unit for name, unit in zip(record.names, record.units))
+    plain = [cases.instead.get(name, name) for name in record.names]
+    return Channels(names, units, sets_of(asked, plain, units))
+
+
+def tell_whole(headings: list[str], cases: Cases) -> None:
+    """Says on standard error which peaks aren't taken from a time on."""
+    whole = [it for it in headings if cases.since not in it and not it.startswith("ANY ")]
+    if cases.since and whole:
+        print(f"study: the peaks of {', '.join(whole)} are of the whole run", file=sys.stderr)

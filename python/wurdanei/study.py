@@ -4,277 +4,15 @@ docs/batch.md has the forms of the tables and of what is written.
 """
 
 import argparse
-import csv
 import math
 import os
-import re
-import shutil
 import signal
 import sys
-from dataclasses import dataclass
-from decimal import Decimal
 
-import numpy as np
-
-from . import parts, peaks, picture, program, times, varied
-from .deck import Deck, DeckError, time_switches
-from .parts import Means, StudyError, status_of
-from .record import Record, RecordError, read
-from .summary import Summary, batch_drawing
-
-MOST = 1000  # rows of a batch
-
-
-@dataclass(frozen=True)
-class Part:
-    """A part of a study over a table: its name, which of the cases it runs, and its rows from one (from 0) up to another."""
-
-    name: str
-    case: int
-    first: int
-    last: int
-
-
-@dataclass(frozen=True)
-class Cases:
-    """The cases of a study: their texts, bytes from 0 to 255; the headings of the fields that are varied, and each case's
-    texts of them; and the channels that stand in place of others, by their names."""
-
-    texts: list[str]
-    headings: list[str]
-    values: list[tuple[str, ...]]
-    instead: dict[str, str]
-    since: str = ""  # what is said behind these
-
-
-# ---- the cases
-
-
-def cases_of(words: argparse.Namespace) -> Cases:
-    """The case as it is, or under each combination of values, or with a window over its peaks."""
-    if not words.vary and words.peaks_from is None:
-        with open(words.case, encoding="latin-1", newline="") as file:
-            return Cases([file.read()], [], [()], {})
-    deck = Deck(words.case)
-    lists = [varied.varied_of(deck, asked) for asked in words.vary]
-    instead = {} if words.peaks_from is None else varied.windowed(deck, words.peaks_from)
-    values = varied.combinations(lists)
-    texts = [varied.text_with(deck, lists, it) for it in values]
-    return Cases(texts, [it.label for it in lists], values, instead, f" from {words.peaks_from} s on")
-
-
-def write_text(path: str, text: str) -> None:
-    """Writes a text of bytes from 0 to 255 as they are."""
-    with open(path, "w", encoding="latin-1", newline="") as file:
-        file.write(text)
-
-
-def channels_of(record: Record, cases: Cases, asked: list[str]) -> peaks.Channels:
-    """The channels of a record, with the names of those in whose place they stand."""
-    names = tuple(cases.instead[name] + cases.since if name in cases.instead else name for name in record.names)
-    units = tuple("V" if name in cases.instead else unit for name, unit in zip(record.names, record.units))
-    plain = [cases.instead.get(name, name) for name in record.names]
-    return peaks.Channels(names, units, peaks.sets_of(asked, plain, units))
-
-
-def tell_whole(headings: list[str], cases: Cases) -> None:
-    """Says on standard error which peaks aren't taken from a time on."""
-    whole = [it for it in headings if cases.since not in it and not it.startswith("ANY ")]
-    if cases.since and whole:
-        print(f"study: the peaks of {', '.join(whole)} are of the whole run", file=sys.stderr)
-
-
-# ---- a table of times
-
-
-def make_parts(words: argparse.Namespace, means: Means, cases: Cases, rows: list[tuple[int, str]]) -> list[Part]:
-    """The parts of a table as files, or those of the study that was broken off."""
-    plan = {"cases": [parts.sum_of_text(text) for text in cases.texts], "times": parts.sum_of(words.table)}
-    was = parts.noted_plan(means, plan)
-    each = max(1, 4 * means.jobs // len(cases.texts))
-    size = was["size"] if was else max(1, min(MOST, -(-len(rows) // each)))
-    spans = [(case, first) for case in range(len(cases.texts)) for first in range(0, len(rows), size)]
-    names = parts.part_names(len(spans))
-    made = [Part(name, case, first, min(first + size, len(rows))) for name, (case, first) in zip(names, spans)]
-    if not was:
-        write_text(os.path.join(means.room, "case"), cases.texts[0])
-        for it in made:
-            if cases.headings:
-                write_text(os.path.join(means.room, it.name + ".case"), cases.texts[it.case])
-            lines = "".join(line + "\n" for _, line in rows[it.first : it.last])
-            write_text(os.path.join(means.room, it.name + ".times"), lines)
-        parts.note_plan(means, {**plan, "size": size})
-    return made
-
-
-def first_record(words: argparse.Namespace, means: Means) -> Record:
-    """The record of the case itself, or of the first one, which has to be accepted; kept as case.cfg and case.dat."""
-    cfg = os.path.join(means.room, "case.cfg")
-    if not os.path.exists(cfg):
-        ran = program.run(["run", "case", "made.cfg", "case.dat"], means.room)
-        if ran.status not in (0, 3):
-            shutil.rmtree(means.room)
-            note = ran.note.strip() or f"status {ran.status}"
-            raise StudyError(f"{words.case}: {note}; `emtp show {words.case}` says more")
-        os.replace(os.path.join(means.room, "made.cfg"), cfg)
-    return read(cfg)
-
-
-def check_parts(words: argparse.Namespace, means: Means, made: list[Part], rows: list[tuple[int, str]]) -> None:
-    """StudyError where a part isn't done, or was refused: then with the line of the whole table."""
-    for it in made:
-        status = status_of(means.room, it.name)
-        if status is None:
-            log = os.path.join(means.room, "job.log")
-            raise StudyError(f"{it.name} and perhaps others aren't done; see {log}, and go on with --resume")
-        note = parts.output_of(means.room, it.name)[0]
-        if match := re.match(r"BAD ROW LINE (\d+) ITEM (\d+)$", note):
-            line, text = rows[it.first + int(match[1]) - 1]
-            shutil.rmtree(means.room)
-            raise StudyError(f"{words.table}: line {line}, item {match[2]}: {text}")
-        if status:
-            raise StudyError(f"{it.name}, {it.name}.case: status {status}, {note}")
-
-
-def run_table(words: argparse.Namespace) -> None:
-    """A study over a table of switch times, of one case or of each combination of values."""
-    parts.need([words.case, words.table])
-    rows = times.rows_of(words.table)
-    if not rows:
-        raise StudyError(f"{words.table} has no rows")
-    means = means_of(words, words.case)
-    cases = cases_of(words)
-    made = make_parts(words, means, cases, rows)
-    channels = channels_of(first_record(words, means), cases, words.any)
-    parts.run_parts(means, [it.name for it in made], parts.VARIED if cases.headings else parts.BATCH)
-    check_parts(words, means, made, rows)
-    found: list[list[peaks.Row]] = [[] for _ in cases.texts]
-    for it in made:
-        its = peaks.rows_in(parts.output_of(means.room, it.name))
-        if len(its) != it.last - it.first:
-            raise StudyError(f"{it.name} has {it.last - it.first} rows, and {len(its)} are answered; see {means.room}")
-        found[it.case] += its
-    answer(words, means, cases, rows, found, channels)
-
-
-def answer(
-    words: argparse.Namespace,
-    means: Means,
-    cases: Cases,
-    rows: list[tuple[int, str]],
-    found: list[list[peaks.Row]],
-    channels: peaks.Channels,
-) -> None:
-    """Writes summaries, tables and the picture, and prints the statistics."""
-    headings = channels.headings(words.base)
-    tell_whole(headings, cases)
-    written = []
-    for place, its in enumerate(found, 1):
-        name = f"summary.{place}" if cases.headings else "summary"
-        write_text(os.path.join(means.room, name), peaks.summary(its, channels))
-        written.append(name)
-    table = os.path.join(means.room, "rows.csv")
-    peaks.write_rows(
-        table,
-        cases.headings,
-        [(*it, found[k]) for k, it in enumerate((v, rows) for v in cases.values)],
-        channels,
-        words.base,
-    )
-    first, last = (os.path.join(means.room, written[place]) for place in (0, -1))
-    print(f"{sum(map(len, found))} rows: {first if first == last else f'{first} to {written[-1]}'}, {table}")
-    if not headings:
-        return
-    columns = [peaks.columns_of(its, channels, words.base) for its in found]
-    if cases.headings:
-        write_values(os.path.join(means.room, "values.csv"), cases, headings, columns)
-    for texts, its in zip(cases.values, columns):
-        for heading, text in zip(cases.headings, texts):
-            print(f"{heading} = {text}")
-        print("\n".join(peaks.listing(headings, its)))
-    if not cases.headings:
-        draw(headings, columns[0], os.path.join(means.room, "peaks.png"))
-
-
-def write_values(path: str, cases: Cases, headings: list[str], columns: list[list[list[Decimal | str]]]) -> None:
-    """Writes the statistics of each combination of values, a line each."""
-    with open(path, "w", encoding="utf-8", newline="") as file:
-        out = csv.writer(file)
-        told = [
-            f"{heading}: {word}" for heading in headings for word in ("half exceed", "2 % exceed", "greatest", "row")
-        ]
-        out.writerow([*cases.headings, *told])
-        for texts, its in zip(cases.values, columns):
-            numbers = [peaks.statistics(column) for column in its]
-            out.writerow([*texts, *(word for it in numbers for word in (it.half, it.seldom, it.greatest, it.row))])
-    print(f"values: {path}")
-
-
-def draw(headings: list[str], columns: list[list[Decimal | str]], path: str) -> None:
-    """The distribution of each channel's peaks, where matplotlib is there."""
-    rows = [[float(it) for it in row] for row in zip(*columns)]
-    try:
-        picture.draw(batch_drawing(Summary(peaks=rows, names=headings), os.path.basename(path)), path)
-    except RecordError as fault:
-        print(f"study: {fault}", file=sys.stderr)
-    else:
-        print(f"drawn: {path}")
-
-
-# ---- many cases
-
-
-def run_cases(words: argparse.Namespace, names: list[str], cases: Cases, stem: str) -> None:
-    """A study over cases: the record of each, and a table of their peaks."""
-    means = means_of(words, stem)
-    plan = {"cases": [parts.sum_of_text(text) for text in cases.texts]}
-    made = parts.part_names(len(cases.texts))
-    if not parts.noted_plan(means, plan):
-        for part, text in zip(made, cases.texts):
-            write_text(os.path.join(means.room, part + ".case"), text)
-        parts.note_plan(means, {**plan, "size": 1})
-    parts.run_parts(means, made, parts.RUN)
-    if any(status_of(means.room, part) is None for part in made):
-        log = os.path.join(means.room, "job.log")
-        raise StudyError(f"not all cases are done; see {log}, and go on with --resume")
-    table = os.path.join(means.room, "cases.csv")
-    found = [peaks_of(words, means, part, cases) for part in made]
-    headings = list(dict.fromkeys(heading for it in found for heading in it))
-    tell_whole(headings, cases)
-    with open(table, "w", encoding="utf-8", errors="surrogateescape", newline="") as file:
-        out = csv.writer(file)
-        out.writerow(["case", *cases.headings, "record", "printed", *headings])
-        for name, texts, part, its in zip(names, cases.values, made, found):
-            note = parts.output_of(means.room, part)[0]
-            out.writerow([name, *texts, part, note, *(its.get(it, "") for it in headings)])
-    print(f"{len(made)} cases: {table}")
-
-
-def peaks_of(words: argparse.Namespace, means: Means, part: str, cases: Cases) -> dict[str, Decimal | str]:
-    """The greatest magnitude of each analog channel of a part's record, and of each set of channels; nothing without one."""
-    if status_of(means.room, part) not in (0, 3):
-        return {}
-    record = read(os.path.join(means.room, part + ".cfg"))
-    channels = channels_of(record, cases, words.any)
-    values = [f"{Decimal(f'{np.nanmax(abs(record.channel(name))):.9g}'):f}" for name in record.names]
-    return dict(zip(channels.headings(words.base), channels.values(values, words.base)))
-
-
-def list_of(path: str) -> tuple[list[str], list[str]]:
-    """The names of a list of cases, and their texts."""
-    with open(path, encoding="utf-8", errors="surrogateescape") as file:
-        names = [line.strip() for line in file if line.strip()]
-    if not names:
-        raise StudyError(f"{path} names no case")
-    parts.need(names)
-    texts = []
-    for name in names:
-        with open(name, encoding="latin-1", newline="") as file:
-            texts.append(file.read())
-    return names, texts
-
-
-# ---- words
+from . import listed_cases, parts, program, tabled, times, varied
+from .deck import DeckError, time_switches
+from .parts import Means, StudyError
+from .record import RecordError
 
 
 def means_of(words: argparse.Namespace, stem: str) -> Means:
@@ -386,17 +124,18 @@ def _checked(words: argparse.ArgumentParser, given: argparse.Namespace) -> None:
 def _run(words: argparse.ArgumentParser, given: argparse.Namespace) -> None:
     if given.cases and not given.case:
         parts.need([given.cases])
-        names, texts = list_of(given.cases)
-        run_cases(given, names, Cases(texts, [], [()] * len(texts), {}), given.cases)
+        names, texts = listed_cases.list_of(given.cases)
+        cases = varied.Cases(texts, [], [()] * len(texts), {})
+        listed_cases.run_cases(given, means_of(given, given.cases), names, cases)
     elif given.case and given.times and given.spread and not given.table:
         parts.need([given.case])
         write_times(given)
     elif given.case and given.table and not given.times and not given.cases:
-        run_table(given)
+        tabled.run_table(given, means_of(given, given.case))
     elif given.case and given.vary and not given.times and not given.cases:
         parts.need([given.case])
-        cases = cases_of(given)
-        run_cases(given, [given.case] * len(cases.texts), cases, given.case)
+        cases = varied.cases_of(given.case, given.vary, given.peaks_from)
+        listed_cases.run_cases(given, means_of(given, given.case), [given.case] * len(cases.texts), cases)
     else:
         words.error("either CASE TIMES, or CASE --vary, or --cases LIST, or CASE --times N --spread CYCLE SIGMA")
 

@@ -118,6 +118,35 @@ def text_with(deck: Deck, lists: list[Varied], texts: tuple[str, ...]) -> str:
     return deck.text(lines)
 
 
+# ---- the cases of a study
+
+
+@dataclass(frozen=True)
+class Cases:
+    """The cases of a study: their texts, bytes from 0 to 255; the headings of the fields that are varied, and each case's
+    texts of them; and the channels that stand in place of others, by their names."""
+
+    texts: list[str]
+    headings: list[str]
+    values: list[tuple[str, ...]]
+    instead: dict[str, str]
+    since: str = ""  # what is said behind these
+
+
+def cases_of(path: str, vary: list[str], begin: float | None) -> Cases:
+    """The case as it is, or under each combination of the values that `vary` names, or with its peaks taken from `begin`
+    seconds on."""
+    if not vary and begin is None:
+        with open(path, encoding="latin-1", newline="") as file:
+            return Cases([file.read()], [], [()], {})
+    deck = Deck(path)
+    lists = [varied_of(deck, asked) for asked in vary]
+    instead = {} if begin is None else windowed(deck, begin)
+    values = combinations(lists)
+    texts = [text_with(deck, lists, it) for it in values]
+    return Cases(texts, [it.label for it in lists], values, instead, f" from {begin} s on")
+
+
 # ---- peaks from a time on
 
 
