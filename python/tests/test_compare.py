@@ -4,6 +4,7 @@ import contextlib
 import io
 import os
 import pathlib
+import subprocess
 import sys
 import tempfile
 import unittest
@@ -12,7 +13,7 @@ sys.path.insert(0, str(pathlib.Path(__file__).resolve().parent))
 
 import curves  # noqa: E402
 import numpy as np  # noqa: E402
-from wurdanei import compare, measures  # noqa: E402
+from wurdanei import compare, measures, program  # noqa: E402
 from wurdanei.lowpass import lowpass  # noqa: E402
 
 TURN = 2 * np.pi * np.arange(4000) / 4000
@@ -198,7 +199,7 @@ class Command(unittest.TestCase):
             "five": ("V BUS,U_L1,1,5,6\n", "line 1: a pair is"),
             "factor": ("\nV BUS,U_L1,x\n", "line 2: x is no number"),
             "nan": ("V BUS,U_L1,nan\n", "line 1: nan is no number"),
-            "zero": ("V BUS,U_L1,0\n", "a factor isn't 0"),
+            "zero": ("V BUS,U_L1,0\n", "a factor's magnitude is from 1e-12 to 1e+12"),
             "tolerance": ("V BUS,U_L1,1,-3\n", "a tolerance isn't below 0"),
             "name": ("V BUS,U_L9\n", "no channel 'U_L9'; it has U_L1, I_L1, U_L2"),
             "case": ("V BUSS,U_L1\n", "the case has no channel 'V BUSS'"),
@@ -221,6 +222,7 @@ class Command(unittest.TestCase):
             (("--from", "7"), "fewer than two samples"),
             (("--lowpass", "0"), "--lowpass is a number of hertz above 0"),
             (("--lowpass", "9000"), "a filter of 9000 Hz needs a sample each 22.22 us or less"),
+            (("--lowpass", "1e-9"), "a filter of 1e-09 Hz is too slow"),
             (("--tolerance", "-1"), "--tolerance is"),
             (("--out", "x.pdf"), "--out is a picture, .png, or a page"),
             (("--from", "x"), "invalid float value"),
@@ -234,6 +236,26 @@ class Command(unittest.TestCase):
         self.assertTrue(told.startswith("compare: "), told)
         os.truncate(self.place / "fine.dat", 1000)
         self.assertEqual(self.run_words("case.cfg", "fine.cfg")[0], 2)
+
+
+EXAMPLE = pathlib.Path(__file__).resolve().parents[2] / "examples" / "fault_on_a_line" / "locate.py"
+
+
+@unittest.skipUnless(program.is_there(), "the program isn't built")
+class Example(unittest.TestCase):
+    """The worked study of docs/compare.md, by a smaller grid: the fault was made at 120 km, through 5 ohm."""
+
+    def test_place_is_found(self):
+        with tempfile.TemporaryDirectory() as room:
+            words = [sys.executable, str(EXAMPLE), room, "quick"]
+            ran = subprocess.run(words, capture_output=True, text=True, check=False, timeout=600)
+            self.assertEqual(ran.returncode, 0, ran.stderr)
+            self.assertTrue(ran.stdout.endswith(" % at 120 km and 5 ohm\n"), ran.stdout)
+            for name, status in (("right", 0), ("wrong", 1)):
+                out = io.StringIO()
+                words = [f"{name}.cfg", "measured.cfg", "pairs", "--lowpass", "1500", "--from", ".1"]
+                with contextlib.chdir(room), contextlib.redirect_stdout(out), contextlib.redirect_stderr(io.StringIO()):
+                    self.assertEqual(compare.main(words), status, out.getvalue())
 
 
 if __name__ == "__main__":

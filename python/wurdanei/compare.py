@@ -17,6 +17,7 @@ from .lowpass import lowpass
 from .record import Record, RecordError, read
 
 FEWEST = 10  # samples in common
+LEAST = 1e-12  # magnitude of a factor
 
 
 class CompareError(Exception):
@@ -108,8 +109,10 @@ def wanted_pairs(path: str, tolerance: float) -> list[Wanted]:
             most = _finite(limit) if limit else tolerance
         except ValueError as fault:
             raise CompareError(f"{path}, line {number}: {fault} is no number") from None
-        if value == 0 or most < 0:
-            raise CompareError(f"{path}, line {number}: a factor isn't 0, and a tolerance isn't below 0 %")
+        if not (value is None or LEAST <= abs(value) <= 1 / LEAST) or not 0 <= most <= 1 / LEAST:
+            raise CompareError(
+                f"{path}, line {number}: a factor's magnitude is from {LEAST:g} to {1 / LEAST:g}, and a tolerance isn't below 0 %"
+            )
         found.append(Wanted(fields[0], fields[1], value, most))
     if not found:
         raise CompareError(f"{path} names no pair")

@@ -7,7 +7,7 @@ G. F. Franklin, J. D. Powell and M. L. Workman, Digital Control of Dynamic Syste
 
 import numpy as np
 
-LEAST_SAMPLES = 5  # a period of the corner frequency
+LEAST_SAMPLES, MOST_SAMPLES = 5, 1_000_000  # a period of the corner frequency
 
 
 def lowpass(values: np.ndarray, step: float, corner: float) -> np.ndarray:
