@@ -1,0 +1,14 @@
+pub mod Products
+pub mod SeriesSteps
+pub mod Trapezoids
+pub mod LosslessLines
+pub mod LineSteps
+pub mod LineRuns
+pub mod AlikeRows
+pub mod AlikeSteps
+pub mod Memoryless
+pub mod CommonTimes
+pub mod Reactors
+pub mod Directions
+pub mod TableSums
+pub mod Periods

@@ -1,0 +1,5 @@
+pub mod Series
+pub mod Travel
+pub mod Time
+pub mod Reactor
+pub mod CosineTable
