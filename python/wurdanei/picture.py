@@ -81,7 +81,8 @@ def draw_pane(axis, pane: Pane) -> None:
     axis.set_ylabel(plain(pane.y_label))
     if pane.x_label:
         axis.set_xlabel(plain(pane.x_label))
-    if pane.limits or any(curve.name for curve in pane.curves):
+    named = [curve.name for curve in pane.curves if curve.name and not pane.y_label.startswith(curve.name)]
+    if pane.limits or named:
         columns = -(-len(pane.curves) // ROWS)
         axis.legend(loc="lower right" if pane.limits else "upper right", fontsize="small", ncol=columns)
     axis.grid(alpha=0.3)
