@@ -529,6 +529,9 @@ class Spoilt(Folder):
             "a line without an end": (HAND_CFG, b"," * 20 * lines),
             "binary": (none.replace(b"ASCII", b"BINARY"), bytes(8) * lines),
         }
+        one_file = b"--- file type: CFG ---\r\n" + b"\r\n" * lines + b"--- file type: DAT ASCII ---\r\n"
+        hostile["lines of a cff"] = (one_file, None)
+        hostile["sections of a cff"] = (one_file[:24] + b"--- file type: INF ---\r\n" * lines, None)
         for what, (cfg, dat) in hostile.items():
             with self.subTest(what):
                 path = self.files(cfg, dat)
@@ -540,7 +543,7 @@ class Spoilt(Folder):
                 finally:
                     peak = tracemalloc.get_traced_memory()[1]
                     tracemalloc.stop()
-                self.assertLess(peak, 5 * (len(cfg) + len(dat)) + 40e6)
+                self.assertLess(peak, 5 * (len(cfg) + len(dat or b"")) + 40e6)
 
 
 if __name__ == "__main__":

@@ -76,6 +76,10 @@ def main(words: list[str]) -> int:
     summary = is_summary(first)
     if summary and (dat or its.other or its.only or its.fft or its.xy or its.begin is not None or its.end is not None):
         raise RecordError(f"{first} is a summary, of which all is drawn: only OUT and --cfg may stand beside it")
+    if its.offset and not its.other:
+        raise RecordError("--offset moves the record behind --with, and there is none")
+    if dat and dat.lower().endswith((".cfg", ".cff")):
+        raise RecordError(f"{dat}: a second record stands behind --with")
     if its.cfg and not summary:
         raise RecordError("--cfg names the channels of a batch, and a record was given")
     if its.fft and its.xy:

@@ -11,23 +11,25 @@ What a file lacks or contradicts is a `RecordError` that names file, line or byt
 from __future__ import annotations
 
 import math
+import mmap
 import os
 import re
 import stat
 from dataclasses import dataclass, field
 from datetime import datetime
-from typing import TYPE_CHECKING, BinaryIO, Iterable
+from typing import TYPE_CHECKING, BinaryIO, Iterable, Iterator
 
 import numpy as np
 
-from .configuration import LONGEST_LINE, Configuration, RecordError, read_configuration, tell
-from .samples import Samples, read_samples
+from .configuration import Configuration, RecordError, read_configuration, tell
+from .samples import Samples, line_of, read_samples
 
 if TYPE_CHECKING:
     import pandas
 
 __all__ = ["Record", "RecordError", "read"]
 
+LONGEST_HEAD = 200  # bytes of the line that begins a section of a cff
 BLOCK = 1 << 16  # samples whose times are made or compared at once, so that little memory is taken
 SECTION = re.compile(
     rb"-{3}\s*file\s+type\s*:\s*(\w+)(?:\s+(\w+))?\s*(?::\s*(\d{1,15})\s*)?-{3}\s*", re.IGNORECASE | re.ASCII
@@ -82,7 +84,7 @@ class Record:
 
     def times_of(self, name: str) -> np.ndarray:
         """The times of a channel's values, its skew applied: shape (samples,), float64, s."""
-        return self.times + self.skew(name) if name in self.names else self.times
+        return self.times if name in self.state_names else self.times + self.skew(name)
 
     def states(self, name: str) -> np.ndarray:
         """States of a status channel: shape (samples,), uint8, 0 or 1."""
@@ -132,14 +134,13 @@ def read(path: str | os.PathLike, dat: str | os.PathLike | None = None) -> Recor
     path = os.fspath(path)
     try:
         with opened(path) as file:
-            if file.read(3) in (b"---", b"\xef\xbb\xbf") and SECTION.match(line_at(file, 0)):
+            if is_one_file(file):
                 if dat is not None:
                     raise RecordError(f"{path}: it has its data in itself (cff), and {os.fspath(dat)} is named as well")
                 configuration, start, size = read_sections(path, file)
                 return made(path, configuration, read_samples(configuration, path, file, start, size))
             if path.lower().endswith(".dat"):
                 raise RecordError(f"{path}: this is the data; name the configuration ({os.path.splitext(path)[0]}.cfg)")
-            file.seek(0)
             configuration = read_configuration(path, file.read())
         data = os.fspath(dat) if dat is not None else data_beside(path)
         with opened(data) as file:
@@ -188,43 +189,49 @@ def data_beside(path: str) -> str:
     raise RecordError(f"{path}: the data isn't beside it: {stem}.dat is missing")
 
 
-def line_at(file: BinaryIO, place: int) -> bytes:
-    """The line at a byte of a file, a front of it where it is long; the file is behind it then."""
-    file.seek(place)
-    return file.readline(LONGEST_LINE).removeprefix(b"\xef\xbb\xbf")
+def is_one_file(file: BinaryIO) -> bool:
+    """The file begins with the line of a section, as a cff does; the file is at its begin then."""
+    front = file.read(LONGEST_HEAD).removeprefix(b"\xef\xbb\xbf")
+    file.seek(0)
+    return bool(SECTION.match(front))
+
+
+def sections(file: BinaryIO) -> Iterator[tuple[int, int, re.Match]]:
+    """The lines of a cff that begin a section: the byte at which each stands, that behind it, and the line itself."""
+    with mmap.mmap(file.fileno(), 0, access=mmap.ACCESS_READ) as data:
+        at = data.find(b"---")
+        while at >= 0:
+            line = data[at : at + LONGEST_HEAD].split(b"\n", 1)[0]
+            match = SECTION.fullmatch(line.rstrip(b"\r"))
+            if match:
+                yield at, min(at + len(line) + 1, len(data)), match
+            at = data.find(b"\n---", at) + 1 or -1
 
 
 def read_sections(path: str, file: BinaryIO) -> tuple[Configuration, int, int]:
     """The configuration of a cff, and the first byte and the size of its data."""
-    whole = os.fstat(file.fileno()).st_size
-    line, at, fresh = 0, 0, True  # fresh: a line begins here, not the middle of a long one
-    section, text, before, base, ended = b"", [], 0, 0, False
-    while at < whole:
-        read = line_at(file, at)
-        match = SECTION.fullmatch(read.rstrip(b"\r\n")) if fresh else None
-        fresh = read.endswith(b"\n")
-        line, at = line + fresh, file.tell()
-        if match is None:
-            if section == b"CFG":
-                text.append(read)
-            continue
-        section = match[1].upper()
-        if section == b"CFG":
-            if text:
-                raise RecordError(f"{path}: line {line}: a second section CFG")
-            before, base = line, at
-        elif section == b"DAT":
-            ended = True
+    begin = end = None  # of the configuration
+    for at, behind, match in sections(file):
+        kind = match[1].upper()
+        if begin is not None and end is None:
+            end = at
+        if kind == b"DAT":
             break
-        elif section not in (b"INF", b"HDR"):
-            raise RecordError(f"{path}: line {line}: the section {section.decode()} is none of CFG, INF, HDR and DAT")
-    if not text:
-        raise RecordError(
-            f"{path}: it has no section CFG" + (f" before line {line}, where the data begins" if ended else "")
-        )
-    if not ended:
+        if kind == b"CFG" and begin is not None:
+            raise RecordError(f"{path}: line {line_of(file, at)}: a second section CFG")
+        if kind == b"CFG":
+            begin = behind
+        elif kind not in (b"INF", b"HDR"):
+            raise RecordError(
+                f"{path}: line {line_of(file, at)}: the section {kind.decode()} is none of CFG, INF, HDR and DAT"
+            )
+    else:
         raise RecordError(f"{path}: it has no section DAT")
-    configuration = read_configuration(path, b"".join(text), before, base)
+    if begin is None or end is None:
+        raise RecordError(f"{path}: it has no section CFG before line {line_of(file, at)}, where the data begins")
+    before = line_of(file, begin) - 1
+    text, line, at, whole = file.read(end - begin), line_of(file, at), behind, os.fstat(file.fileno()).st_size
+    configuration = read_configuration(path, text, before, begin)
     form = (match[2] or b"").decode().upper()
     if form != configuration.form:
         raise RecordError(
