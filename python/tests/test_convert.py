@@ -169,6 +169,12 @@ class Convert(Folder):
         self.run_words(source, self.out("o.cfg"))
         self.assertEqual(read(self.out("o.cfg")).rates, [(4800.0, 240), (1200.0, 480)])
 
+    def test_one_sample(self):
+        source = bay(times=[0.0], rates=[(4800, 1)]).write(self.folder)
+        for words in ([], ["--rate", "1000"]):
+            self.run_words(source, self.out("o.cfg"), *words)
+            self.assertAlmostEqual(read(self.out("o.cfg")).channel("VA")[0], 89e3, delta=2.0)
+
     def test_uneven_samples(self):
         """They are brought onto an even grid before the low-pass; a grid that would be too fine is refused."""
         times = [place / 20_000.0 + (place % 2) * 1e-5 for place in range(2001)]

@@ -189,7 +189,8 @@ def kept_times(record: Record, its: argparse.Namespace) -> tuple[slice, np.ndarr
     begin = record.times[0] if its.begin is None else its.begin
     end = record.times[-1] if its.end is None else its.end
     slack = 1e-9 * max(abs(begin), abs(end))
-    first, last = np.searchsorted(record.times, [begin - slack, end + slack], "left")
+    first = int(np.searchsorted(record.times, begin - slack, "left"))
+    last = int(np.searchsorted(record.times, end + slack, "right"))
     if last <= first:
         raise RecordError(
             f"{record.path}: it has no sample from {begin:g} to {end:g} s; it lasts from 0 to {record.times[-1]:g} s"

@@ -36,8 +36,8 @@ def at_rate(times: np.ndarray, values: np.ndarray, wanted: np.ndarray, rate: flo
     times: shape (samples,), s, rising. values: shape (samples,), nan where missing. Outside of the times the end values go on.
     """
     missing = np.isnan(values)
-    if missing.all():
-        return np.full(len(wanted), np.nan)
+    if missing.all() or len(times) == 1:
+        return np.full(len(wanted), values[0])
     known, its = times[~missing], values[~missing]
     spacing = even_spacing(times) or float(np.median(np.diff(times)))
     if rate * spacing < 1.0 - 1e-9:
