@@ -75,7 +75,7 @@ class Plot(Folder):
                 "I A-B: least -0.005 A at 0.1 ms, greatest 0.012 A at 0.2 ms",
                 "T TRIP: least 0 1 at 0 ms, greatest 1 1 at 0.1 ms",
                 "I A-B.2: least -18 A at 0.1 ms, greatest 16 A at 0.2 ms",
-                "r.cfg: the name I A-B stands more than once: the later ones have .2, .3 behind it",
+                "r.cfg: names that stand more than once have .2, .3 behind the later ones: I A-B",
                 f"drawn: {source[:-4]}.png",
                 "",
             ],
@@ -103,7 +103,7 @@ class Plot(Folder):
         self.assertEqual((shown["T TRIP"]["base"], shown["T TRIP"]["x"]), ([0.1], [shown["T TRIP"]["x"][0]]))
         self.assertAlmostEqual(shown["T TRIP"]["x"][0], 0.2)
         self.assertEqual(shown["S A-B"]["base"], [0.0, 0.3])
-        self.assertIn("the name I A-B stands more than once", layout["title"]["text"])
+        self.assertIn("have .2, .3 behind the later ones: I A-B", layout["title"]["text"])
         with open(self.out("o.html"), encoding="utf-8") as file:
             self.assertNotRegex(file.read(), r'<(?:script|link|img)[^>]+(?:src|href)="http')
 

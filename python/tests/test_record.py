@@ -248,7 +248,7 @@ class ByHand(Folder):
             (b"28/11/2026,13:07:20.502000", b",", "the time of the trigger is blank"),
             (b"20.502000", b"20.498000", "the trigger stands 0.002 s before the first sample"),
             (b"20.502000", b"21.502000", "the trigger stands 1 s after the last sample"),
-            (b"2,IA", b"2,VA", "the name VA stands more than once"),
+            (b"2,IA", b"2,VA", "names that stand more than once have .2, .3 behind the later ones: VA"),
         ]
         for old, new, words in unusual:
             with self.subTest(words):
@@ -277,6 +277,17 @@ class ByHand(Folder):
             )
         )
         self.assertEqual((taken.names, taken.state_names), (["X.2", "X"], ["X.3"]))
+
+    def test_many_names_alike(self):
+        names = ["X"] * 9_000 + ["X.2", "Y"]
+        waves = [Wave(name, "V", lambda time: 1.0, 1.0) for name in names]
+        record = read(Recorder([0.0], waves, rates=[(1000, 1)]).write(self.folder))
+        self.assertEqual((record.names[:3], record.names[8_999:]), (["X", "X.3", "X.4"], ["X.9001", "X.2", "Y"]))
+        self.assertEqual(len(record.told), 1)
+
+    def test_blank_lines_before_all(self):
+        record = read(self.files(HAND_CFG, b"\r\n" * 800_000 + HAND_DAT))
+        self.assertEqual(list(record.channel("IA")), [-2400.0, 3200.0, 4000.0])
 
     def test_data_beside_in_other_letters(self):
         path = self.files(HAND_CFG, HAND_DAT)
@@ -340,6 +351,8 @@ class Refusals(Folder):
                 self.assertIn(old, HAND_CFG)
                 self.refused(HAND_CFG.replace(old, new, 1), HAND_DAT, "r.cfg: " + words)
         self.refused(b"x" * 70_000, HAND_DAT, "r.cfg: line 1: longer than 65,536 bytes")
+        old = HAND_CFG.replace(b"\r\n", b"\r")
+        self.refused(old, HAND_DAT, "r.cfg: line 1: byte 20 of the file is a carriage return alone")
         self.refused(b"", HAND_DAT, "r.cfg: line 1 is missing: station, device and edition")
         of_1991 = HAND_CFG.replace(b",1999", b"")
         self.refused(of_1991, HAND_DAT, "line 3: an analog channel has 13 fields, as from 1999 on")

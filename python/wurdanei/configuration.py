@@ -16,8 +16,8 @@ MOST_RATES = 10_000
 LONGEST_LINE = 65_536  # bytes
 
 FORMS = ("ASCII", "BINARY", "BINARY32", "FLOAT32")
-NUMBER = re.compile(r"[+-]?(\d+\.?\d*|\.\d+)([eE][+-]?\d+)?")
-MOMENT = re.compile(r"(\d{1,2})/(\d{1,2})/(\d{4}|\d{2}),(\d{1,2}):(\d{1,2}):(\d{1,2})(?:\.(\d{0,9}))?")
+NUMBER = re.compile(r"[+-]?(\d+\.?\d*|\.\d+)([eE][+-]?\d+)?", re.ASCII)
+MOMENT = re.compile(r"(\d{1,2})/(\d{1,2})/(\d{4}|\d{2}),(\d{1,2}):(\d{1,2}):(\d{1,2})(?:\.(\d{0,9}))?", re.ASCII)
 
 
 class RecordError(Exception):
@@ -120,6 +120,8 @@ class Lines:
         strange = re.search(rb"[\x00-\x08\x0b-\x1f\x7f]", line.rstrip(b"\r\x1a"))
         if strange:
             place = self.base + start + strange.start() + 1
+            if strange[0] == b"\r":
+                raise self.fault(f"byte {place} of the file is a carriage return alone, which ends no line")
             raise self.fault(
                 f"byte {place} of the file is 0x{strange[0][0]:02X}, so this is no configuration of a record"
             )

@@ -292,19 +292,22 @@ def made(path: str, own: Configuration, samples: Samples) -> Record:
 
 
 def distinct(names: list[str], taken: set[str], told: list[str]) -> list[str]:
-    """The names, each once: a later one of the same text gets .2, .3."""
-    given, made_names = taken | set(names), []
-    seen = set(taken)
+    """The names, each once: a later one of the same text, or of one that is taken, gets .2, .3."""
+    given, seen, counts, own_names = taken | set(names), set(taken), dict.fromkeys(taken, 1), []
     for name in names:
-        own, count = name, 1
+        own, count = name, counts.get(name, 0) + 1
         while own in seen or own != name and own in given:
-            count += 1
-            own = f"{name}.{count}"
-        if own != name:
-            tell(told, f"the name {name} stands more than once: the later ones have .2, .3 behind it")
+            count = max(count, 2)
+            own, count = f"{name}.{count}", count + 1
+        counts[name] = count if own == name else count - 1
         seen.add(own)
-        made_names.append(own)
-    return made_names
+        own_names.append(own)
+    doubled = [name for name, own in zip(names, own_names) if name != own]
+    if doubled:
+        tell(
+            told, f"names that stand more than once have .2, .3 behind the later ones: {listed(dict.fromkeys(doubled))}"
+        )
+    return own_names
 
 
 def listed(names: Iterable[str]) -> str:
@@ -360,7 +363,7 @@ def times_by_stamps(own: Configuration, samples: Samples) -> np.ndarray:
             raise RecordError(f"{samples.where(at + odd[0])}: the time stamp is below the one before it")
         if falls.any():
             tell(own.told, f"the time stamps wrap at {span[falls][0]:.0f}")
-        if (block == last)[at == 0 :].any():
+        if (block == last)[1 if at == 0 else 0 :].any():
             tell(own.told, "some samples have the time stamp of the one before")
         wraps = added + np.cumsum(np.where(falls, span, 0.0))
         with np.errstate(over="ignore", invalid="ignore"):

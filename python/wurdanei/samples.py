@@ -123,9 +123,8 @@ class Text(Samples):
 
     def __init__(self, configuration: Configuration, path: str, file: BinaryIO, start: int, size: int):
         self.path, self.told = path, configuration.told
-        self.analogs, self.fields = len(configuration.analogs), 2 + len(configuration.analogs) + len(
-            configuration.states
-        )
+        self.analogs = len(configuration.analogs)
+        self.fields = 2 + self.analogs + len(configuration.states)
         self.marks = np.array([missing_mark(configuration.revision, channel.high) for channel in configuration.analogs])
         self.cfg = configuration.path
         self.tables: list[np.ndarray] = []  # each (samples of a piece, analog channels)
@@ -136,7 +135,9 @@ class Text(Samples):
         self.last: float | None = None  # number of the last sample
         for piece in self.pieces(file, size):
             table = self.parsed(piece)
-            self.count(table[:, 0])
+            if not len(table):  # blank lines alone
+                continue
+            self.judge_numbers(table[:, 0])
             self.stamp_pieces.append(kept(table[:, 1]))
             values = table[:, 2 : 2 + self.analogs]
             values[values == self.marks] = np.nan
@@ -232,10 +233,8 @@ class Text(Samples):
             numbers.append(value)
         return numbers
 
-    def count(self, numbers: np.ndarray) -> None:
-        """Tells where the numbers of samples don't rise by 1; after the greatest of 32 bits or ten digits 0 or 1 follows."""
-        if not len(numbers):
-            return
+    def judge_numbers(self, numbers: np.ndarray) -> None:
+        """Tells where the numbers of samples, shape (lines of a piece,), don't rise by 1; after the greatest of 32 bits or ten digits 0 or 1 follows."""
         before = np.concatenate([[numbers[0] - 1 if self.last is None else self.last], numbers[:-1]])
         wraps = (numbers <= 1) & ((before == 2.0**32 - 1) | (before == 1e10 - 1))
         if not ((numbers == before + 1) | wraps).all():
