@@ -848,8 +848,9 @@ def channel_faults(maker: Maker, found: listing.Listing) -> list[str]:
         ends, ask = f"{own.named['BUS1'] or '0'}-{own.named['BUS2'] or '0'}", own.named["asked"] or ""
         asked += [f"{letter} {ends}" for key, letter in (("i", "I"), ("u", "U")) if key in ask]
         states += [f"S {ends}"] if ask else []
-    faults = [] if names == case.names + case.state_names else [f"channels {names}, and the case names {case.names}"]
-    if [name for name in case.names if name[0] in "IU"] != asked or case.state_names != states:
+    own, own_states = case._analog_names(), case._status_names()
+    faults = [] if names == own + own_states else [f"channels {names}, and the case names {own}"]
+    if [name for name in own if name[0] in "IU"] != asked or own_states != states:
         faults.append("the case names other currents and voltages of branches than were asked for")
     return faults
 

@@ -204,6 +204,10 @@ class Text(unittest.TestCase):
         case.series("A", "", r_ohm=1, ask="iu")
         self.assertEqual(case.names, ["V BUS", "V SEND", "V FAR", "I A-0", "U A-0", "I BUS-SEND"])
         self.assertEqual(case.state_names, ["S BUS-SEND"])
+        case.switch("BUS", "SEND", ask="i")
+        case.output("FAR")
+        self.assertEqual(case.names[3:], ["V FAR.2", "I A-0", "U A-0", "I BUS-SEND", "I BUS-SEND.2"])
+        self.assertEqual(case.state_names, ["S BUS-SEND", "S BUS-SEND.2"])
 
 
 class Refusals(unittest.TestCase):

@@ -54,7 +54,7 @@ class Case(Helps):
         self.control = Control(self)
         self.every = _whole(every, "every", 1, 10**6)
         self._remark = [line.rstrip() for line in remark.splitlines()]
-        iout = _whole(iout, "iout", -(10**9) + 1, 10**9)
+        iout = _whole(iout, "iout", -(10**7) + 1, 10**8 - 1)  # as many digits as its columns hold
         try:
             step = self._number(columns.FIRST, "DELTAT", dt, "case")
             until = self._number(columns.FIRST, "TMAX", end, "case")
@@ -83,7 +83,16 @@ class Case(Helps):
 
     @property
     def names(self) -> list[str]:
-        """The names of the record's analog channels, in its order."""
+        """The names of the record's analog channels, in its order; a later one of the same name has .2, .3 behind it."""
+        return record.distinct(self._analog_names(), set(), [])
+
+    @property
+    def state_names(self) -> list[str]:
+        """The names of the record's status channels, in its order."""
+        return record.distinct(self._status_names(), set(self.names), [])
+
+    def _analog_names(self) -> list[str]:
+        """The names as the record has them."""
         drafted = self._drafted
         found = [f"V {name}" for asked in drafted.outputs for name in asked.names or self.nodes]
         for items in (drafted.branches, drafted.switches):
@@ -91,9 +100,7 @@ class Case(Helps):
                 found += [f"{letter} {joined(it.ends)}" for bit, letter in ((1, "I"), (2, "U")) if it.asked & bit]
         return found + [f"T {name}" for asked in drafted.control_outputs for name in asked.names]
 
-    @property
-    def state_names(self) -> list[str]:
-        """The names of the record's status channels, in its order."""
+    def _status_names(self) -> list[str]:
         return [f"S {it.name}" for it in self._drafted.switches if it.asked]
 
     # ---- judging
@@ -132,7 +139,7 @@ class Case(Helps):
 
     def _check_counts(self) -> None:
         drafted = self._drafted
-        channels = len(self.names) + len(self.state_names)
+        channels = len(self._analog_names()) + len(self._status_names())
         samples = self.steps // self.every + 1
         if channels > MOST_CHANNELS:
             raise CaseError(f"{channels} channels are asked for, and a record has at most {MOST_CHANNELS}")

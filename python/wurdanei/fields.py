@@ -180,6 +180,8 @@ def card(kind: Card, texts: typing.Mapping[str, str]) -> str:
         text = texts.get(field.name, "")
         if not text:
             continue
+        if len(text) > field.width:
+            raise FieldError(f"{field.name}: {text} has more than the {field.width} columns of its field")
         last = field.last - 1 if taken == field.last + 1 and len(text) < field.width else field.last
         first = field.first if field.kind in ("name", "text", "sign") else last - len(text) + 1
         line[first - 1 : first - 1 + len(text)] = text
