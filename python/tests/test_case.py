@@ -368,7 +368,7 @@ class Refusals(unittest.TestCase):
             case.series("MORE", r_ohm=1)
 
 
-class Helps(unittest.TestCase):
+class CompoundCalls(unittest.TestCase):
     def test_an_inductance_is_cut_where_it_would_leave_the_range(self) -> None:
         # 2 * 50.9 mH * 60 kA / 1 us = 6.1e9 V; seven pieces of 0.87e9 V
         case = Case(1e-6, 1e-3)
@@ -392,10 +392,9 @@ class Helps(unittest.TestCase):
         case.poles(list("ABC"), list("DEF"), close_s=0.01, open_s=0.05, later_s=(0, 0.001, 0.003), ask="i")
         times = [(line[14:24].strip(), line[24:34].strip()) for line in cards(case)]
         self.assertEqual(times, [(".01", ".05"), (".011", ".051"), (".013", ".053")])
-        free = [it for it in case._drafted.switches if it.leader is None]
-        self.assertEqual(case._row(free, [0.02], [math.inf]), "0.020000000000 - 0.021000000000 - 0.023000000000 -")
+        self.assertEqual(case._row([0.02], [math.inf]), "0.020000000000 - 0.021000000000 - 0.023000000000 -")
         self.assertEqual(
-            case._row(free, [math.nan], [0.06]),
+            case._row([math.nan], [0.06]),
             "0.010000000000 0.060000000000 0.011000000000 0.061000000000 0.013000000000 0.063000000000",
         )
 
@@ -489,6 +488,22 @@ class Answers(unittest.TestCase):
         self.assertEqual(case.end_of_run.cause, "RANGE")
         self.assertEqual(len(found.times), case.end_of_run.step)
         self.assertRegex(found.told[0], r"^the run ended in step \d+ .*RANGE at [AB]: .*A-B at 500 A\): peak_a cuts it")
+
+    def test_a_case_that_asks_for_nothing(self) -> None:
+        case = Case(1e-3, 1e-2)
+        case.series("A", r_ohm=1)
+        self.assertEqual((case.run().names, len(case.run().times)), ([], 11))
+
+    def test_equal_switches_have_times_of_their_own(self) -> None:
+        case = Case(1e-5, 0.01)
+        case.series("SRC", "A", r_ohm=1)
+        case.series("B", r_ohm=1)
+        for _ in range(2):
+            case.switch("A", "B", close_s=1.0)
+        case.step("SRC", amplitude_v=2)
+        case.output("B")
+        found = case.batch([[1.0, 1.0], [1.0, 0.001], [0.001, 1.0]])
+        self.assertEqual(found.channel("V B").round(3).tolist(), [0.0, 1.0, 1.0])
 
     def test_files_that_stay(self) -> None:
         with tempfile.TemporaryDirectory() as room:

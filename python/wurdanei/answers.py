@@ -41,6 +41,7 @@ REASONS = {
     "Impedance": "the impedance of this branch at the frequency is out of range",
     "Source": "all sources have to be cosines of one frequency",
 }
+OF_THE_CASE = ("Size", "NoSource", "Probe")  # refused as a whole; the line is 1
 CAUSES = {
     "TIED": "closed switches join two nodes with voltage sources, or one with ground",
     "ZEROPIVOT": "nothing ties the node, or its part of the network, to ground or to a source",
@@ -56,8 +57,12 @@ class Refused(CaseError):
 
     def __init__(self, line: int, column: int, reason: str, card: str, call: Call | None) -> None:
         self.line, self.column, self.reason, self.card = line, column, reason, card
+        why = f"{REASONS.get(reason, reason)} ({reason})"
         where = f"line {line}" + (f", column {column}" if column else "")
-        super().__init__(f"the program refuses {where}: {REASONS.get(reason, reason)} ({reason}): {card}", call)
+        whole = reason in OF_THE_CASE
+        super().__init__(
+            f"the program refuses the case: {why}" if whole else f"the program refuses {where}: {why}: {card}", call
+        )
 
 
 @dataclass(frozen=True)

@@ -26,19 +26,21 @@ from .answers import BAD_CARD, REFUSED, Batch, End, Refused, Scan, Steady, batch
 from .control import Control
 from .draft import STANDING, Call, CaseError, Switch, Written, joined
 from .fields import FieldError
-from .helps import Helps, after
+from .compound import Compound, after
 
 __all__ = ["Case", "CaseError", "Refused", "End", "Steady", "Scan", "Batch", "Switch"]
 
 MOST_STEPS, MOST_VALUES, MOST_CHANNELS, MOST_HISTORY, MOST_ROWS = 1_000_000, 4_000_000, 64, 2_000_000, 1000
 
 
-class Case(Helps):
+class Case(Compound):
     """A case: its time step and its end in s, and its cards, each written by a method.
 
     `every` so many steps the record has a sample. `tolerance_a` is the greatest residual of Kirchhoff's current law, 0.01 A
     without it. `remark` stands above the cards as comments. `control` has the methods of the control's cards.
     """
+
+    end_of_run: End | None = None  # the early end of the last run
 
     def __init__(
         self,
@@ -210,14 +212,12 @@ class Case(Helps):
         """
         with program.room() as room:
             place, stem = (pathlib.Path(room), "case") if save is None else _place(save)
-            note = self._answer(["run", f"{stem}.case", f"{stem}.cfg", f"{stem}.dat"], place, (0, 3))
+            note = self._answer(["run", *(f"./{stem}.{ending}" for ending in ("case", "cfg", "dat"))], place, (0, 3))
             found = record.read(place / f"{stem}.cfg", place / f"{stem}.dat")
         self.end_of_run = end_of(note, self.dt)
         if self.end_of_run:
             found.told.insert(0, str(self.end_of_run) + self._cure(self.end_of_run))
         return found
-
-    end_of_run: End | None = None  # of the last run
 
     def _cure(self, end: End) -> str:
         """What may help where a run left the range beside an inductance."""
@@ -255,25 +255,23 @@ class Case(Helps):
         opening = np.full(closing.shape, np.nan) if openings is None else _rows(openings, "openings", len(free))
         if closing.shape != opening.shape:
             raise CaseError(f"closings and openings differ in shape: {closing.shape} and {opening.shape}")
-        rows = [self._row(free, *row) for row in zip(closing.tolist(), opening.tolist())]
+        rows = [self._row(*row) for row in zip(closing.tolist(), opening.tolist())]
         notes = []
         for first in range(0, len(rows), MOST_ROWS):
             table = "".join(f"{row}\n" for row in rows[first : first + MOST_ROWS])
             notes.append(self._answered(["batch", "case.case", "times"], {"times": table}))
         return batch_of(notes, self.names)
 
-    def _row(self, free: list[Switch], closing: list[float], opening: list[float]) -> str:
-        """A row of a table of times: a closing and an opening time for each time switch, those that follow another one among them."""
-        times: dict[int, tuple[float, float | None]] = {}
+    def _row(self, closing: list[float], opening: list[float]) -> str:
+        """A row of a table of times: a closing and an opening time for each time switch, also for those that follow another."""
+        given = zip(closing, opening)
+        times: dict[int, tuple[float, float | None]] = {}  # by the identity of the switch
         items = []
         for switch in self._drafted.switches:
             if switch.kind != "time":
                 continue
             if switch.leader is None:
-                own = free.index(switch)
-                close_s = switch.close_s if np.isnan(closing[own]) else closing[own]
-                open_s = switch.open_s if np.isnan(opening[own]) else None if opening[own] == np.inf else opening[own]
-                times[id(switch)] = (close_s, open_s)
+                times[id(switch)] = _own_times(switch, *next(given))
             else:
                 times[id(switch)] = after(times[id(switch.leader)], switch.later_s)
             close_s, open_s = times[id(switch)]
@@ -328,6 +326,14 @@ def _place(save: str | os.PathLike[str]) -> tuple[pathlib.Path, str]:
     path = pathlib.Path(save)
     path.parent.mkdir(parents=True, exist_ok=True)
     return path.parent, path.name
+
+
+def _own_times(switch: Switch, closing: float, opening: float) -> tuple[float, float | None]:
+    """The times of a switch in a row of a batch: nan keeps its own one, an opening of inf is never."""
+    close_s = switch.close_s if np.isnan(closing) else closing
+    if np.isnan(opening):
+        return close_s, switch.open_s
+    return close_s, None if opening == np.inf else opening
 
 
 def _rows(times: typing.Sequence | np.ndarray, what: str, switches: int) -> np.ndarray:

@@ -132,7 +132,7 @@ class Drafted:
     control_outputs: list[Asked] = field(default_factory=list)
     nodes: dict[str, None] = field(default_factory=dict)  # in the order of their first calls
     variables: dict[str, None] = field(default_factory=dict)
-    reserved: dict[str, Call | None] = field(default_factory=dict)  # names that a help has made, and the call that did
+    reserved: dict[str, Call | None] = field(default_factory=dict)  # names that a compound call has made, and that call
     ramps: dict[float, str] = field(default_factory=dict)  # the variables of smooth starts, by their time in s
     control: bool = False
     told: list[str] = field(default_factory=list)
@@ -156,7 +156,7 @@ def writes(method: Method) -> Method:
     @functools.wraps(method)
     def written(self, *words, **named):
         draft: Draft = self if isinstance(self, Draft) else self._case
-        if draft._call is not None:  # a help that calls others
+        if draft._call is not None:  # within a compound call
             return method(self, *words, **named)
         draft._call = called(method.__name__, words, named)
         before = draft._drafted.kept()
@@ -218,7 +218,7 @@ class Draft:
             raise CaseError(f"a case has at most {most:,} {what}")
 
     def _unused(self, stem: str) -> str:
-        """A name of a node or a variable that a help needs, and that nobody else may have."""
+        """A name of a node or a variable that a compound call needs, and that no other one may have."""
         number = 1
         drafted = self._drafted
         taken = drafted.reserved.keys() | drafted.nodes.keys() | drafted.variables.keys()
@@ -231,7 +231,7 @@ class Draft:
         return name
 
     def _free(self, name: str) -> str:
-        """The name isn't one that a help has made in another call."""
+        """The name isn't one that another compound call has made."""
         maker = self._drafted.reserved.get(name, self._call)
         if maker is not self._call:
             raise CaseError(f"{name} is a name that {maker} has made; take another one")

@@ -1,4 +1,5 @@
-"""Calls that write several cards: a smooth start, a waveform by points, poles that close together, a transformer by the control."""
+"""Compound calls, which write several cards: a smooth start, a waveform by points, poles that close together, a transformer
+by the control."""
 
 import typing
 
@@ -13,7 +14,7 @@ from .network import Network, Three, _three
 SUMMANDS = 10  # variables of six characters that one formula adds up at most
 
 
-class Helps(Network):
+class Compound(Network):
     """Writes several cards a call, through the methods of the network and the control."""
 
     control: Control
