@@ -1,12 +1,13 @@
 """Random cases by wurdanei.case, read back by what `emtp show` lists of them.
 
-    cd python && python3 -m tests.roundtrip COUNT [FIRST]
+    cd python && python3 -m tests.roundtrip COUNT [FIRST] [--methods]
 
 writes COUNT cases from the seeds FIRST (1), FIRST + 1 .. on, with every method of a card among them, and looks for each value
 that was given in the listing: a number within half of the last digit that stands in its columns. These columns are written
 here once more, by hand from docs/cards.md and docs/control.md. Exit status 0 where all are found, else 1.
 """
 
+import argparse
 import collections
 import math
 import random
@@ -864,23 +865,27 @@ def tried(seed: int) -> tuple[Maker, list[str]]:
     except Refused as fault:
         return maker, [str(fault)]
     except CaseError as fault:  # too many channels, or no node
-        maker.done[f"refused case: {fault.words[:30]}"] += 1
+        maker.done[f"refused case: {fault.words.lstrip('0123456789 ')[:24]}"] += 1
         return maker, []
 
 
 def main(words: list[str]) -> int:
-    count, first = int(words[0]), int(words[1]) if len(words) > 1 else 1
+    parser = argparse.ArgumentParser(prog="python3 -m tests.roundtrip", description=(__doc__ or "").splitlines()[0])
+    parser.add_argument("count", type=int, help="how many cases")
+    parser.add_argument("first", type=int, nargs="?", default=1, help="the seed of the first one")
+    parser.add_argument("--methods", action="store_true", help="say how often each method wrote a card or refused to")
+    given = parser.parse_args(words)
     done: collections.Counter[str] = collections.Counter()
     bad = 0
-    for seed in range(first, first + count):
+    for seed in range(given.first, given.first + given.count):
         maker, faults = tried(seed)
         done += maker.done
         bad += bool(faults)
         for fault in faults[:3]:
             print(f"seed {seed}: {fault}")
-    for name, number in sorted(done.items()):
+    for name, number in sorted(done.items()) if given.methods else []:
         print(f"{number:7} {name}")
-    print(f"{count} cases, {bad} of them not listed as they were given")
+    print(f"tests.roundtrip: {given.count} cases, {bad} of them not listed as they were given")
     return 1 if bad else 0
 
 
