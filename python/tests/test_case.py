@@ -3,6 +3,8 @@
 Where the program isn't built, the tests that need an answer of it are left out.
 """
 
+import contextlib
+import io
 import math
 import os
 import pathlib
@@ -199,6 +201,21 @@ class Text(unittest.TestCase):
             lines[at - 1], "C BUS1--BUS2--T-CLOSE---T-OPEN----MARGIN----          WORD------               A"
         )
 
+    def test_what_is_seldom_meant_so_is_told(self) -> None:
+        case = line_and_breaker()
+        case.series("FAR", "0", r_ohm=1)
+        case.step("FAR", amplitude_v=1, start_s=0.02, stop_s=0.01)
+        case.line("BUS", "X", zc_ohm=300.123456, velocity=299792.458, length=50)
+        self.assertEqual(
+            case.told,
+            [
+                "the node 0 is not ground, which is the empty name",
+                "FAR: the source never acts, since it stops at 0.01 s and starts at 0.02 s",
+                "BUS-X: surge impedance = 300.123456 becomes 300.12 ohm, 1e-05 of it lost in 6 columns",
+                "BUS-X: velocity = 299792.458 becomes 299792, 2e-06 of it lost in 6 columns",
+            ],
+        )
+
     def test_names_of_the_channels(self) -> None:
         case = line_and_breaker()
         case.series("A", "", r_ohm=1, ask="iu")
@@ -258,7 +275,7 @@ class Refusals(unittest.TestCase):
     def test_of_sources_and_switches(self) -> None:
         rows = [
             ("a source has amplitude_v, as a voltage source, or", lambda it: it.step("A")),
-            ("stop_s, 0 s, has to be after start_s", lambda it: it.step("A", amplitude_v=1, stop_s=0)),
+            ("stop_s, 0 s, has to be after 0; without it", lambda it: it.step("A", amplitude_v=1, stop_s=0)),
             ("a controlled switch has a control", lambda it: it.controlled("A", control="")),
             ("T-CLOSE = inf is no finite number", lambda it: it.switch("A", close_s=math.inf)),
         ]
@@ -466,6 +483,22 @@ class CompoundCalls(unittest.TestCase):
         case.output("A")
         found = case.run()
         self.assertLess(abs(found.channel("V A") - np.interp(found.times, t, v))[2:].max(), 0.0011)
+
+
+@needs_program
+class Page(unittest.TestCase):
+    def test_the_first_case_of_the_page_runs_as_it_says(self) -> None:
+        """docs/python.md, its code but for the picture."""
+        page = (ROWS.parents[1] / "docs" / "python.md").read_text(encoding="utf-8")
+        code = page.partition("```python\n")[2].partition("```")[0]
+        lines = [line for line in code.splitlines() if "plt" not in line]
+        printed = io.StringIO()
+        with contextlib.redirect_stdout(printed):
+            exec(compile("\n".join(lines), "python.md", "exec"), {})
+        (names,) = [line.partition("# ")[2] for line in lines if "record.names" in line]
+        self.assertEqual(printed.getvalue().splitlines()[0], names)
+        # at most twice the crest, less what the arrester takes; 190 kV is its level at 1 A
+        self.assertRegex(printed.getvalue().splitlines()[1], r"^19\d{4}\.0 \[\]$")
 
 
 @needs_program

@@ -468,10 +468,10 @@ class Network(Draft):
         if stop_s is None:
             return {"TSTART": start.text if start.kept else ""}
         stop = self._number(columns.SOURCE, "TSTOP", stop_s, name)
-        if stop.kept <= max(0, start.kept):
-            raise CaseError(
-                f"stop_s, {stop_s} s, has to be after start_s and after 0; without it the source never stops"
-            )
+        if stop.kept <= 0:
+            raise CaseError(f"stop_s, {stop_s} s, has to be after 0; without it the source never stops")
+        if stop.kept <= start.kept:
+            self._tell(f"{name}: the source never acts, since it stops at {stop_s} s and starts at {start_s} s")
         return {"TSTART": start.text if start.kept else "", "TSTOP": stop.text}
 
     # ---- outputs
@@ -518,6 +518,8 @@ class Network(Draft):
     def _seen(self, ends: Ends) -> None:
         """The nodes of a card; there is room for them."""
         for name in ends:
+            if name == "0":
+                self._tell("the node 0 is not ground, which is the empty name")
             if name and name not in self._drafted.nodes:
                 self._bounded(self._drafted.nodes, MOST_NODES, "nodes")
                 self._drafted.nodes[name] = None
