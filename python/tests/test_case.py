@@ -404,7 +404,7 @@ class CompoundCalls(unittest.TestCase):
         with self.assertRaisesRegex(CaseError, r"L.1 is a name that test_case.py line \d+, series\("):
             case.series("L.1", r_ohm=1)
 
-    def test_poles_follow_the_first_one(self) -> None:
+    def test_poles_are_tied_to_the_first_one(self) -> None:
         case = Case(1e-5, 1e-1)
         case.poles(list("ABC"), list("DEF"), close_s=0.01, open_s=0.05, later_s=(0, 0.001, 0.003), ask="i")
         times = [(line[14:24].strip(), line[24:34].strip()) for line in cards(case)]

@@ -247,7 +247,7 @@ class Case(Compound):
         """Runs the case for each row of switch times; answers the peaks of its channels (docs/batch.md).
 
         `closings` and `openings` have shape (rows, switches), or (rows,) for one, in s: the times of the time switches that
-        follow no other one, in the order of their calls. nan keeps the switch's own time; an opening of inf is never. There
+        are tied to no other one, in the order of their calls. nan keeps the switch's own time; an opening of inf is never. There
         may be any number of rows.
         """
         free = [it for it in self._drafted.switches if it.kind == "time" and it.leader is None]
@@ -263,7 +263,7 @@ class Case(Compound):
         return batch_of(notes, self.names)
 
     def _row(self, closing: list[float], opening: list[float]) -> str:
-        """A row of a table of times: a closing and an opening time for each time switch, also for those that follow another."""
+        """A row of a table of times: a closing and an opening time for each time switch, tied ones among them."""
         given = zip(closing, opening)
         times: dict[int, tuple[float, float | None]] = {}  # by the identity of the switch
         items = []
@@ -342,7 +342,7 @@ def _rows(times: typing.Sequence | np.ndarray, what: str, switches: int) -> np.n
         found = found[:, np.newaxis]
     if found.ndim != 2 or found.shape[1] != switches or not len(found):
         raise CaseError(
-            f"{what} has a row or more, with a time for each of the {switches} time switches that follow no other one"
+            f"{what} has a row or more, with a time for each of the {switches} time switches that are tied to no other one"
         )
     return found
 

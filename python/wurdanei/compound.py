@@ -94,7 +94,7 @@ class Compound(Network):
     # ---- poles
 
     @writes
-    def follower(
+    def tied(
         self,
         leader: Switch,
         a: str,
@@ -110,7 +110,7 @@ class Compound(Network):
         In a batch its times follow those of its leader in each row.
         """
         if leader.kind != "time" or not any(leader is it for it in self._drafted.switches):
-            raise CaseError("a switch follows a time switch of the same case, as the method switch answers it")
+            raise CaseError("a pole is tied to a time switch of the same case, as the method switch answers it")
         later = (float(later_s), float(later_s if opens_later_s is None else opens_later_s))
         close_s, open_s = after((leader.close_s, leader.open_s), later)
         found = self._time_switch(self._ends(a, b), close_s, open_s, margin_a, ask)
@@ -129,7 +129,7 @@ class Compound(Network):
         margin_a: float = 0.0,
         ask: str = "",
     ) -> list[Switch]:
-        """The three poles of a breaker, of which the second and third follow the first one.
+        """The three poles of a breaker, of which the second and third are tied to the first one.
 
         `later_s` are the times by which each pole closes and opens after close_s and open_s; the first one is 0.
         """
@@ -137,7 +137,7 @@ class Compound(Network):
         if len(later_s) != 3 or later_s[0] != 0:
             raise CaseError("later_s has three times, of which the first is 0")
         first = self.switch(a[0], b[0], close_s=close_s, open_s=open_s, margin_a=margin_a, ask=ask)
-        others = [self.follower(first, a[k], b[k], later_s=later_s[k], margin_a=margin_a, ask=ask) for k in (1, 2)]
+        others = [self.tied(first, a[k], b[k], later_s=later_s[k], margin_a=margin_a, ask=ask) for k in (1, 2)]
         return [first, *others]
 
     # ---- transformer
@@ -198,7 +198,7 @@ class Compound(Network):
 
 
 def after(times: tuple[float, float | None], later: tuple[float, float]) -> tuple[float, float | None]:
-    """The closing and the opening time of a switch that follows one with these times; before 0 is from the start."""
+    """The closing and the opening time of a switch that is tied to one with these times; before 0 is from the start."""
     close_s, open_s = times
     return (close_s if close_s < 0 else close_s + later[0]), (None if open_s is None else open_s + later[1])
 

@@ -73,7 +73,7 @@ class Branch:
 
 @dataclass
 class Switch:
-    """A switch of a case. Of a time switch that follows a leader, `later_s` is how much later it closes and opens."""
+    """A switch of a case. Of one that is tied to a leader, `later_s` is how much later it closes and opens."""
 
     kind: str  # time, measuring, valve, controlled
     ends: tuple[str, str]

@@ -313,7 +313,7 @@ class Network(Draft):
         """A time switch: it closes at `close_s`, and is closed from the start without it.
 
         From `open_s` on, never without it, it opens at the next zero of its current, or where the current is at most
-        `margin_a`. Answers the switch, which `follower` takes.
+        `margin_a`. Answers the switch, to which `tied` ties others.
         """
         return self._time_switch(self._ends(a, b), close_s, open_s, margin_a, ask)
 
