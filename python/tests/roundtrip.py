@@ -523,9 +523,11 @@ class Maker:
 
     def block(self) -> None:
         pick, name, (given, listed) = self.pick, self.new(), self.inputs()
-        order = pick.choice([0, 1, 2, pick.randint(1, 7)])
+        # only of a large step high powers have coefficients that their columns hold and the range of a block allows
+        large = self.dt > 5e-3
+        order = pick.choice([2, 5, 6, 7] if large else [0, 1, 2, pick.randint(1, 7)])
         gain = pick.choice([1.0, self.signed(1e-3, 1e4, 4)])
-        tau = self.dt * self.number(0.5, 20, 3)
+        tau = self.dt * self.number(5 if large else 0.5, 20, 3)
         bottom = [float(f"{math.comb(order, k) * tau**k:.5g}") for k in range(order + 1)] if order else [1.0]
         bottom = [it if it >= 1e-9 else 0.0 for it in bottom]
         top = (
