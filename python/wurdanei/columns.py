@@ -62,7 +62,7 @@ class Field:
 class Card:
     """A kind of card: its fields in the order of their columns, and the heading under which docs has its ruler.
 
-    `words` are what `emtp ruler` calls it. `text` stands in its columns 1 on in each such card.
+    `words` are what `emtp ruler` calls it. `text` stands in each such card, from the column `text_at` on.
     """
 
     name: str
@@ -71,20 +71,24 @@ class Card:
     words: tuple[str, ...]
     fields: tuple[Field, ...]
     text: str = ""
+    text_at: int = 1
+
+    def blank(self) -> list[str]:
+        """The characters of a card without its fields."""
+        line = " " * (self.text_at - 1) + self.text
+        return list(line.ljust(80))
 
     def field(self, name: str) -> Field:
         return next(field for field in self.fields if field.name == name)
 
     def legend(self) -> str:
         """The labels of the fields over their columns, as docs has them."""
-        line = list(self.text.ljust(80))
+        line = self.blank()
         for field in self.fields:
             line[field.first - 1 : field.last] = field.label.ljust(field.width, "-")
         names = [field for field in self.fields if field.name.startswith("input ")]
         for field in names:  # a point parts an input from the next one
             line[field.last] = "."
-        if self.name == "formula":
-            line[10] = "="
         return "".join(line).rstrip()
 
 
@@ -357,8 +361,9 @@ FORMULA = Card(
         NAME,
         Field("expression", "EXPRESSION", 12, 80, "text", blank="refused"),
     ),
+    "=",
+    11,
 )
-FORMULA_SIGN = 11  # the column of its `=`
 DEVICE = Card(
     "device",
     "control",

@@ -1,6 +1,5 @@
 """The cards of the control (TACS). docs/control.md has what each of them means, and in which order they are computed."""
 
-import dataclasses
 import typing
 
 from . import columns, fields, formula
@@ -188,10 +187,7 @@ class Control:
                 f"the formula has {len(laid)} characters, and a card {place.width}: compute a part before it"
             )
         texts = {"type": self._group(group), "name": self._new(name), "expression": laid}
-        written = self._case._written(columns.FORMULA, texts)
-        line = written.text.ljust(columns.FORMULA_SIGN)
-        line = line[: columns.FORMULA_SIGN - 1] + "=" + line[columns.FORMULA_SIGN :]
-        self._extra(Variable(name, [dataclasses.replace(written, text=line)], found.names))
+        self._extra(Variable(name, [self._case._written(columns.FORMULA, texts)], found.names))
 
     @writes
     def gate(

@@ -174,7 +174,7 @@ def card(kind: Card, texts: typing.Mapping[str, str]) -> str:
 
     Of two numbers that would touch, the left one moves by a column where it has room.
     """
-    line = list(kind.text.ljust(80))
+    line = kind.blank()
     taken = 0  # the first column of the number behind
     for field in sorted(kind.fields, key=lambda it: -it.first):
         text = texts.get(field.name, "")
