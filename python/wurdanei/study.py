@@ -1,6 +1,6 @@
 """Runs one case under many switch times or values, or many cases, on all processors or several machines, and joins the answers.
 
-docs/batch.md has the forms of the tables and of what is written.
+docs/batch.md has the form of a table, docs/study.md what is asked and written.
 """
 
 import argparse
