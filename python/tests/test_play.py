@@ -155,7 +155,7 @@ class Command(unittest.TestCase):
         inside = (found.times >= 0.0201) & (found.times <= 0.0799)
         for name, channel, factor in (("V BUS", "V BUS", 1), ("V CUR", "I BUS-LINE", -1)):
             hand = factor * np.interp(found.times[inside] - 0.02, self.record.times, self.record.channel(channel))
-            half = 0.501 * found.step(name)
+            half = 0.501 * found.multiplier(name)
             self.assertLess(np.max(abs(found.channel(name)[inside] - hand)), half)
 
     def test_what_is_left_out_is_told(self):

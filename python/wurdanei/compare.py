@@ -169,7 +169,7 @@ def _filtered(times: np.ndarray, values: np.ndarray, corner: float) -> tuple[np.
     try:
         return even, lowpass(np.interp(even, times, values), step, corner)
     except ValueError as fault:
-        raise CompareError(f"--lowpass: {fault}; a smaller IPLOT of the case gives more samples") from None
+        raise CompareError(f"--lowpass: {fault}") from None
 
 
 def laid_pair(

@@ -14,18 +14,19 @@ def lowpass(values: np.ndarray, step: float, corner: float) -> np.ndarray:
     """`values`, shape (samples,), one each `step` seconds, behind the filter with its corner at `corner` hertz.
 
     The filter stands at rest at the first value. At the corner it leaves 1 / sqrt(2) of a sine and delays it by a
-    quarter of its period. ValueError where a period of the corner has less than five samples.
+    quarter of its period. ValueError where a period of the corner has less than five samples or more than a million.
     """
     if not corner > 0 or not step > 0:
         raise ValueError(f"a corner is above 0 Hz, and {corner:g} Hz isn't, or the samples don't follow each other")
     if corner * step * LEAST_SAMPLES > 1:
         raise ValueError(
             f"a filter of {corner:g} Hz needs a sample each {1e6 / LEAST_SAMPLES / corner:.4g} us or less, "
-            f"and there is one each {1e6 * step:.4g} us"
+            f"and there is one each {1e6 * step:.4g} us: a smaller IPLOT of the case gives more"
         )
-    tail = int(
-        np.ceil(9 / (corner * step))
-    )  # by then the filter's answer to an impulse is below 1e-17 of its first part
+    periods = 1 / (corner * step)
+    if periods > MOST_SAMPLES:
+        raise ValueError(f"a filter of {corner:g} Hz is too slow for samples that are {1e6 * step:.4g} us apart")
+    tail = int(np.ceil(9 * periods))  # by then its answer to an impulse is below 1e-17 of the first part
     size = 1 << int(np.ceil(np.log2(len(values) + tail)))
     ahead = np.exp(2j * np.pi * np.arange(size // 2 + 1) / size)  # z, one sample
     answer = _mode(ahead, step, corner, 1) + _mode(ahead, step, corner, -1)
