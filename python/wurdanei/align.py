@@ -11,7 +11,7 @@ from dataclasses import dataclass
 import numpy as np
 
 OVERLAP = 0.8  # share of the shorter of record and window that has to have a partner
-NEARLY = 0.01  # of the measured power: by so much more a shift still fits nearly as well
+NEARLY = 0.005  # of the power of both curves: by so much more a shift still fits nearly as well
 PIECES = 10  # of the jackknife
 MOST_POINTS = 1 << 17  # of the grid
 
@@ -55,25 +55,41 @@ class Shift:
     others: list[float]
 
 
-def factor_of(case: np.ndarray, measured: np.ndarray) -> float:
-    """By what the measured values have to be multiplied to be nearest to the case's by least squares."""
-    power = float(measured @ measured)
-    return float(case @ measured) / power if power else 1.0
+def power_of(values: np.ndarray) -> float:
+    """The sum of the squares."""
+    return float(values @ values)
 
 
-def misfit(pairs: list[Pair], kept: list[np.ndarray], shift: float) -> float:
-    """The sum over all pairs of the squared differences over the squared measured values, of the samples that are kept."""
+def factor_of(wanted: np.ndarray, given: np.ndarray) -> float:
+    """By what the given values have to be multiplied to be nearest to the wanted ones by least squares."""
+    power = power_of(given)
+    return float(wanted @ given) / power if power else 1.0
+
+
+def misfit(pairs: list[Pair], kept: list[np.ndarray], powers: list[float], shift: float) -> float:
+    """The sum over all pairs of the squared differences over a pair's power, of the samples that are kept.
+
+    Where the factor is free, it is the part of the measured curve's power that no multiple of the case's explains.
+    """
     total = 0.0
-    for pair, those in zip(pairs, kept):
+    for pair, those, power in zip(pairs, kept, powers):
         case, measured = pair.case_at(pair.times[those] - shift), pair.values[those]
         if pair.free:
-            measured = measured * factor_of(case, measured)
-            power = float(case @ case)
+            measured = measured - case * factor_of(measured, case)
         else:
-            power = float(measured @ measured)
-        difference = case - measured
-        total += float(difference @ difference) / (power or 1.0)
+            measured = measured - case
+        total += power_of(measured) / power
     return total
+
+
+def powers_of(pairs: list[Pair], kept: list[np.ndarray], shift: float) -> list[float]:
+    """The power of each pair, by which it counts: that of both curves, or twice that of the measured one where the factor is
+    free."""
+    found = []
+    for pair, those in zip(pairs, kept):
+        own = power_of(pair.values[those])
+        found.append(own + (own if pair.free else power_of(pair.case_at(pair.times[those] - shift))) or 1.0)
+    return found
 
 
 def misfits_on_grid(pairs: list[Pair], grid: float) -> tuple[np.ndarray, np.ndarray]:
@@ -105,11 +121,12 @@ def misfits_on_grid(pairs: list[Pair], grid: float) -> tuple[np.ndarray, np.ndar
         case_power = np.maximum(slid(there_is_v, spectrum(u * u)), 0)
         power = np.maximum(slid(spectrum(v * v), there_is_u), 0)
         cross = slid(spectrum(v), spectrum(u))
-        least = 1e-12 * max(float(u @ u), float(v @ v), 1e-300)  # what the transforms round to
+        both = np.maximum(case_power + power, 1e-12 * (power_of(u) + power_of(v)) + 1e-300)
         if pair.free:
-            misfit_here = 1 - cross**2 / np.maximum(case_power * power, least * least)
+            least = 1e-12 * power_of(u) * power_of(v) + 1e-300  # what the transforms round to
+            misfit_here = (1 - cross**2 / np.maximum(case_power * power, least)) / 2
         else:
-            misfit_here = (case_power - 2 * cross + power) / np.maximum(power, least)
+            misfit_here = (both - 2 * cross) / both
         enough = shared >= OVERLAP * min(on_u.sum(), on_v.sum()) - 0.5
         total += np.where(enough, misfit_here, np.inf)
     lags = np.arange(size)
@@ -132,9 +149,10 @@ def refined(pairs: list[Pair], shift: float, reach: float, window: tuple[float, 
     kept = [pair.inside(shift, window, reach) for pair in pairs]
     if not all(those.any() for those in kept):
         kept = [pair.inside(shift, window) for pair in pairs]
+    powers = powers_of(pairs, kept, shift)
     for _ in range(7):
         tries = shift + np.linspace(-reach, reach, 21)
-        shift = float(tries[int(np.argmin([misfit(pairs, kept, it) for it in tries]))])
+        shift = float(tries[int(np.argmin([misfit(pairs, kept, powers, it) for it in tries]))])
         reach /= 8
     return shift
 
@@ -142,21 +160,20 @@ def refined(pairs: list[Pair], shift: float, reach: float, window: tuple[float, 
 def deviation_of(pairs: list[Pair], shift: float, grid: float, window: tuple[float, float]) -> float:
     """The standard deviation of a shift of the least misfit, in s, by the jackknife over pieces of equal time."""
     slopes, pulls = np.zeros(PIECES), np.zeros(PIECES)
-    for pair in pairs:
-        those = pair.inside(shift, window, grid)
+    kept = [pair.inside(shift, window, grid) for pair in pairs]
+    for pair, those, power in zip(pairs, kept, powers_of(pairs, kept, shift)):
         at, measured = pair.times[those] - shift, pair.values[those]
         if len(at) < PIECES:
             continue
         case = pair.case_at(at)
         slope = (pair.case_at(at - grid / 2) - pair.case_at(at + grid / 2)) / grid
-        power = float(measured @ measured)
-        if pair.free:
-            power = float(case @ case)
-            measured = measured * factor_of(case, measured)
-            slope = slope - measured * (float(slope @ measured) / (float(measured @ measured) or 1.0))
+        if pair.free:  # what another factor would do isn't the shift's
+            factor = factor_of(measured, case)
+            slope = factor * (slope - case * factor_of(slope, case))
+            case = factor * case
         piece = np.minimum(((at - at[0]) / (at[-1] - at[0]) * PIECES).astype(int), PIECES - 1)
-        np.add.at(slopes, piece, slope * slope / (power or 1.0))
-        np.add.at(pulls, piece, slope * (case - measured) / (power or 1.0))
+        np.add.at(slopes, piece, slope * slope / power)
+        np.add.at(pulls, piece, slope * (case - measured) / power)
     left = slopes.sum() - slopes
     if not (left > 0).all():
         raise AlignError("what changes in these channels does so at one moment or never: give the shift in seconds")
@@ -175,7 +192,8 @@ def fitted(pairs: list[Pair], window: tuple[float, float] = (-np.inf, np.inf)) -
         if kept.sum() < 2 or len(pair.times) < 2:
             raise AlignError("fewer than two samples of a channel are left to lay beside each other")
         cut.append(Pair(pair.case_times[kept], pair.case_values[kept], pair.times, pair.values, pair.free))
-    if not any(np.ptp(pair.case_values) and np.ptp(pair.values) for pair in cut):
+    cut = [pair for pair in cut if np.ptp(pair.case_values) and np.ptp(pair.values)]
+    if not cut:
         raise AlignError("nothing in these channels changes, so no shift can be found: give it in seconds")
     steps = [np.median(np.diff(times)) for pair in cut for times in (pair.case_times, pair.times)]
     spans = [times[-1] - times[0] for pair in cut for times in (pair.case_times, pair.times)]
