@@ -104,6 +104,13 @@ class Waves(unittest.TestCase):
         those = pair.inside(shift.seconds, (-np.inf, np.inf))
         self.assertAlmostEqual(align.factor_of(pair.case_at(pair.times[those] + 0.08), pair.values[those]), -0.25, 6)
 
+    def test_dead_channel_changes_nothing(self):
+        """A measured channel that is 0 throughout doesn't rule the shift of the others."""
+        wave = lambda at: np.sin(curves.OMEGA * at) * np.exp(-at / 0.05)  # noqa: E731
+        live = align.Pair(self.times, wave(self.times), self.seen, wave(self.seen + 0.05))
+        dead = align.Pair(self.times, 1e6 * np.cos(curves.OMEGA * self.times), self.seen, 0 * self.seen)
+        self.assertEqual(align.fitted([live, dead]).seconds, align.fitted([live]).seconds)
+
     def test_deviation_of_white_noise(self):
         """Least squares of N samples of a sine of amplitude 1 with white noise s: s / (omega sqrt(N / 2)), by hand."""
         noise, found, told = 0.05, [], []
