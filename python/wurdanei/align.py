@@ -35,7 +35,7 @@ class Pair:
     free: bool = False
 
     def inside(self, shift: float, window: tuple[float, float], margin: float = 0.0) -> np.ndarray:
-        """Which measured samples lie on the case's record and in the window, (begin, end) in s of the case; a bool each."""
+        """Which measured samples lie on the case's record and in the window, (begin, end) in s of the case."""
         at = self.times - shift
         begin = max(window[0], self.case_times[0])
         end = min(window[1], self.case_times[-1])
@@ -83,8 +83,7 @@ def misfit(pairs: list[Pair], kept: list[np.ndarray], powers: list[float], shift
 
 
 def powers_of(pairs: list[Pair], kept: list[np.ndarray], shift: float) -> list[float]:
-    """The power of each pair, by which it counts: that of both curves, or twice that of the measured one where the factor is
-    free."""
+    """The power by which each pair counts: that of both curves, or twice the measured one's where the factor is free."""
     found = []
     for pair, those in zip(pairs, kept):
         own = power_of(pair.values[those])

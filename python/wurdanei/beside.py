@@ -1,4 +1,4 @@
-"""Draws a comparison: of each pair both curves with the case's band, and below them the difference with what it may be."""
+"""Draws a comparison: both curves of each pair over the case's band, and the difference within what it may be."""
 
 from __future__ import annotations
 
@@ -25,7 +25,7 @@ def draw(found: Comparison, path: str) -> None:
 
 
 def _may_be(it: Compared) -> tuple[np.ndarray, np.ndarray]:
-    """Between what the difference, measured less case, has to lie: the band about the case, and the tolerance on either side."""
+    """Between what measured less case has to lie: the band about the case, and the tolerance on either side."""
     most = it.wanted.tolerance / 100 * float(np.max(abs(it.measured)))
     return it.low - it.case - most, it.high - it.case + most
 

@@ -64,7 +64,7 @@ class Compared:
 
     @property
     def within(self) -> bool:
-        """The pair agrees: neither the effective difference nor the greatest one beyond the band is above the tolerance."""
+        """Neither the effective difference nor the greatest one beyond the band is above the tolerance."""
         return max(self.rms, self.beyond) <= self.wanted.tolerance
 
 
@@ -86,8 +86,10 @@ class Comparison:
 
 
 def wanted_pairs(path: str, tolerance: float) -> list[Wanted]:
-    """The table of pairs: a line has the case's channel, the measured one, and then, where they aren't blank or lacking, a
-    factor or `fit`, and a tolerance in %; parted by commas. Blank lines and lines that begin with # are skipped."""
+    """The table of pairs: a line has the case's channel, the measured one, a factor or `fit` and a tolerance in %.
+
+    Commas part them; the last two may be blank or lack. Blank lines and lines that begin with # are skipped.
+    """
     try:
         with open(path, encoding="utf-8") as file:
             lines = file.read().splitlines()
@@ -111,7 +113,8 @@ def wanted_pairs(path: str, tolerance: float) -> list[Wanted]:
             raise CompareError(f"{path}, line {number}: {fault} is no number") from None
         if not (value is None or LEAST <= abs(value) <= 1 / LEAST) or not 0 <= most <= 1 / LEAST:
             raise CompareError(
-                f"{path}, line {number}: a factor's magnitude is from {LEAST:g} to {1 / LEAST:g}, and a tolerance isn't below 0 %"
+                f"{path}, line {number}: a factor's magnitude is from {LEAST:g} to {1 / LEAST:g}, "
+                "and a tolerance isn't below 0 %"
             )
         found.append(Wanted(fields[0], fields[1], value, most))
     if not found:
@@ -216,20 +219,20 @@ def _compared(pair: align.Pair, wanted: Wanted, unit: str, shift: float, window:
     even = times[0] + step * np.arange(int((times[-1] - times[0]) / step * (1 + 1e-12)) + 1)
     reach = 2 * min(step, float(np.median(np.diff(pair.case_times))))
     return Compared(
-        wanted,
-        unit,
-        found if wanted.factor is None else wanted.factor,
-        times,
-        case,
-        measured,
-        low,
-        high,
-        measures.rms_difference(case, measured),
-        measures.peak_difference(case, measured),
-        measures.percent(float(np.max(off)), peak),
-        100 * float(np.mean(off > wanted.tolerance / 100 * peak)),
-        align.refined([pair], shift, reach, window) - shift,
-        measures.features(pair.case_at(even), np.interp(even, times, measured)),
+        wanted=wanted,
+        unit=unit,
+        factor=found if wanted.factor is None else wanted.factor,
+        times=times,
+        case=case,
+        measured=measured,
+        low=low,
+        high=high,
+        rms=measures.rms_difference(case, measured),
+        peak=measures.peak_difference(case, measured),
+        beyond=measures.percent(float(np.max(off)), peak),
+        share=100 * float(np.mean(off > wanted.tolerance / 100 * peak)),
+        shift=align.refined([pair], shift, reach, window) - shift,
+        features=measures.features(pair.case_at(even), np.interp(even, times, measured)),
     )
 
 
@@ -263,14 +266,29 @@ def compare(
 # ---- words
 
 
-def _round(value: float, digits: int) -> float:
-    """The value to so many digits behind the point, 0 without a sign."""
-    return round(value, digits) + 0.0
+# what is told of a pair: heading, width, form
+COLUMNS = (
+    ("factor", 9, ".5g"),
+    ("RMS %", 7, ".2f"),
+    ("peak %", 7, "+.2f"),
+    ("beyond %", 8, ".2f"),
+    ("share %", 7, ".2f"),
+    ("shift us", 8, "+.1f"),
+    ("ADM", 6, ".3f"),
+    ("FDM", 6, ".3f"),
+    ("GDM", 6, ".3f"),
+)
+
+
+def _shown(value: float, form: str) -> str:
+    """The number in this form; what is rounded to 0 has no minus."""
+    text = format(value, form)
+    return format(0.0, form) if text.startswith("-") and not float(text) else text
 
 
 def shift_line(found: Comparison) -> str:
     """The shift in words."""
-    text = f"{_round(1e3 * found.shift.seconds, 4):+.4f}"
+    text = _shown(1e3 * found.shift.seconds, "+.4f")
     line = f"time of the measured record = time of the case {text[0]} {text[1:]} ms"
     if math.isfinite(found.shift.deviation):
         line += f", standard deviation {1e6 * found.shift.deviation:.1f} us"
@@ -291,16 +309,11 @@ def listing(found: Comparison) -> str:
         f"{len(first.times)} measured samples from {first.times[0]:.6f} to {first.times[-1]:.6f} s of the case"
     )
     width = max([len("pair"), *(len(it.name) for it in found.pairs)])
-    lines.append(
-        f"{'pair':{width}}  {'factor':>9}  {'RMS %':>7}  {'peak %':>7}  {'beyond %':>8}  {'share %':>7}  {'shift us':>8}  "
-        f"{'ADM':>6}  {'FDM':>6}  {'GDM':>6}"
-    )
+    lines.append(f"{'pair':{width}}" + "".join(f"  {name:>{size}}" for name, size, _ in COLUMNS))
     for it in found.pairs:
-        lines.append(
-            f"{it.name:{width}}  {it.factor:9.5g}  {it.rms:7.2f}  {_round(it.peak, 2):+7.2f}  {it.beyond:8.2f}  {it.share:7.2f}  {_round(1e6 * it.shift, 1):+8.1f}  "
-            f"{it.features.amplitude:6.3f}  {it.features.feature:6.3f}  {it.features.whole:6.3f}  "
-            f"{'WITHIN' if it.within else 'BEYOND'} {it.wanted.tolerance:g} %"
-        )
+        numbers = (it.factor, it.rms, it.peak, it.beyond, it.share, 1e6 * it.shift, *it.features)
+        fields = "".join(f"  {_shown(value, form):>{size}}" for value, (_, size, form) in zip(numbers, COLUMNS))
+        lines.append(f"{it.name:{width}}{fields}  {'WITHIN' if it.within else 'BEYOND'} {it.wanted.tolerance:g} %")
     beyond = sum(not it.within for it in found.pairs)
     lines.append("WITHIN" if not beyond else f"BEYOND: {beyond} of {len(found.pairs)} pairs")
     return "\n".join(lines)
@@ -312,7 +325,7 @@ def _words() -> argparse.ArgumentParser:
         formatter_class=argparse.RawDescriptionHelpFormatter,
         description=__doc__.split("\n\n", maxsplit=1)[0],
         epilog="""PAIRS is a table, a line a pair, parted by commas:
-    V BUS, U_L1, 1, 5          channel of the case, channel of the measured record, factor of the measured one, tolerance in %
+    V BUS, U_L1, 1, 5          channel of the case, measured channel, factor of the measured one, tolerance in %
     I BUS-LINE, I_L1, fit      a factor that is found by least squares
 Without PAIRS, channels of equal names are pairs. Times of windows are times of the case.
 Exit status: 0 where all pairs are WITHIN their tolerance, 1 where one is BEYOND, 2 where the records can't be compared.""",

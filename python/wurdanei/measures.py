@@ -4,7 +4,7 @@ Each takes the case's values and the measured ones at the same instants, shape (
 measured curve. docs/compare.md has their definitions in formulas, with their sources.
 """
 
-from dataclasses import dataclass
+from typing import NamedTuple
 
 import numpy as np
 
@@ -65,8 +65,7 @@ def beyond(measured: np.ndarray, low: np.ndarray, high: np.ndarray) -> np.ndarra
     return np.maximum(0, np.maximum(measured - high, low - measured))
 
 
-@dataclass(frozen=True)
-class Features:
+class Features(NamedTuple):
     """Means of the amplitude, the feature and the global difference measure of IEEE 1597.1 (FSV); 0 where both agree."""
 
     amplitude: float

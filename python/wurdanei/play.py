@@ -184,8 +184,8 @@ def _words() -> argparse.ArgumentParser:
         prog="emtp play",
         formatter_class=argparse.RawDescriptionHelpFormatter,
         description="Makes measured voltages or currents the sources of a case.",
-        epilog="""Each WHAT is NODE=CHANNEL or NODE=CHANNEL,FACTOR: a channel in V or A becomes a voltage or a current source of the node.
-The case has to have the node, and no voltage source of it. Without --every a point stands at the multiple of the case's
+        epilog="""Each WHAT is NODE=CHANNEL or NODE=CHANNEL,FACTOR: a channel in V or A becomes a voltage or a current source of the
+node. The case has to have the node, and no voltage source of it. Without --every a point stands at the multiple of the case's
 step that is nearest to the record's sampling.
 Exit status: 0, or 2 where the record can't be played.""",
     )
@@ -245,7 +245,8 @@ def planned(deck: Deck, record: Record, given: argparse.Namespace) -> tuple[Plan
     if every * float(step) > 1.5 * sampling:
         left = 1 - sampling / (every * float(step))
         told.append(
-            f"a point each {every * float(step):g} s: {100 * left:.0f} % of the samples, each {sampling:g} s, stand between points"
+            f"a point each {every * float(step):g} s: {100 * left:.0f} % of the samples, each {sampling:g} s, "
+            "stand between points"
         )
     lead = given.lead / frequency if given.lead else 0.0
     return Plan(begin, end, lead, frequency, every * step), told

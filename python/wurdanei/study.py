@@ -1,4 +1,4 @@
-"""Runs one case under many switch times or values, or many cases, on all processors or several machines, and joins the answers.
+"""Runs one case under many switch times or values, or many cases, on all processors, and joins the answers.
 
 docs/batch.md has the form of a table, docs/study.md what is asked and written.
 """
@@ -45,11 +45,12 @@ def _words() -> argparse.ArgumentParser:
        emtp study CASE --times N --spread CYCLE SIGMA [..] >TIMES""",
         formatter_class=argparse.RawDescriptionHelpFormatter,
         description=__doc__.split("\n\n", maxsplit=1)[0],
-        epilog="""The first form splits TIMES, a table of any length (docs/batch.md), into parts that `emtp batch` runs, and leaves in DIR
-summary, rows.csv and peaks.png. With --vary it runs the table for each combination of values: summary.1 and so on, rows.csv,
-and values.csv with the statistics of each. The second form runs the case once for each combination, the third one each case
-of a list (a name a line): their records part000001.cfg and .dat and so on, and cases.csv. The fourth form writes a table: a row
-closes its switches at T, plus an offset that is uniform over CYCLE seconds, plus one of each pole of the deviation SIGMA.
+        epilog="""The first form splits TIMES, a table of any length (docs/batch.md), into parts that `emtp batch` runs, and leaves
+in DIR summary, rows.csv and peaks.png. With --vary it runs the table for each combination of values: summary.1 and so on,
+rows.csv, and values.csv with the statistics of each. The second form runs the case once for each combination, the third
+one each case of a list (a name a line): their records part000001.cfg and .dat and so on, and cases.csv. The fourth form
+writes a table: a row closes its switches at T, plus an offset that is uniform over CYCLE seconds, plus one of each pole
+of the deviation SIGMA. With --sshloginfile the parts run on several machines.
 It needs GNU parallel (Debian: parallel), for other machines rsync and ssh, for the picture matplotlib.
 Exit status: 0, or 2 where a study can't be made.""",
     )
@@ -61,7 +62,8 @@ Exit status: 0, or 2 where a study can't be made.""",
         metavar="WHAT",
         action="append",
         default=[],
-        help="LINE[,LINE..]:FIELD=VALUE[,VALUE..]: a field of lines of the case, by its name (docs/cards.md) or its columns as 27-32, and its values, one after the other",
+        help="LINE[,LINE..]:FIELD=VALUE[,VALUE..]: a field of lines of the case, by its name (docs/cards.md) or its "
+        "columns as 27-32, and its values, one after the other",
     )
     words.add_argument("--peaks-from", metavar="T", type=float, help="peaks of node voltages from T seconds on")
     words.add_argument(
