@@ -75,11 +75,11 @@ pub go_on_ok : {A B : Type 0} (f : A → Result B Bad) (r : Result A Bad) (y : B
 go_on_ok f (Ok x) y e = (x, refl, e)
 go_on_ok f (Err bad) y e = absurd (cc)
 
-unless_bad_ok : {A : Type 0} (bad : Option Bad) (x y : A) → unless_bad bad x ≡ Ok y → x ≡ y
+pub unless_bad_ok : {A : Type 0} (bad : Option Bad) (x y : A) → unless_bad bad x ≡ Ok y → x ≡ y
 unless_bad_ok (Some bad) x y e = absurd (cc)
 unless_bad_ok None x y e = cc
 
-unless_fault_ok : {A : Type 0} (line : ℕ) (fault : Option Fault) (x y : A) → unless_fault line fault x ≡ Ok y → x ≡ y
+pub unless_fault_ok : {A : Type 0} (line : ℕ) (fault : Option Fault) (x y : A) → unless_fault line fault x ≡ Ok y → x ≡ y
 unless_fault_ok line (Some fault) x y e = absurd (cc)
 unless_fault_ok line None x y e = cc
 

@@ -7,6 +7,7 @@ use Rattle.std.specs.List.{range_with_len}
 use Rattle.std.specs.Prelude.{All, IfSome, map}
 use Rattle.emtp_card.specs.declared.reason.Bad.{Bad}
 use Rattle.emtp_case.specs.Case.{standing_names}
+use Rattle.emtp_case.specs.held.Case.{DefinesEach}
 use Rattle.emtp_case.specs.held.Control.{var_of}
 use Rattle.emtp_case.specs.held.Name.{IsName}
 use Rattle.emtp_case.specs.declared.branch.Point.{Point}
@@ -20,6 +21,7 @@ use Rattle.emtp_walk.proofs.NoBad.{nothing_before}
 use Rattle.emtp_sense.proofs.Naming.{AreNamed, Each, all_named, with_names}
 use Rattle.emtp_sense.proofs.Numbering.{AreAbove, each_front, each_of, each_rest, each_two, folded, in_two, options_length, options_of, defined_once, in_row, row_is}
 use Rattle.emtp_walk.specs.Answer.{first_bad}
+use Rattle.emtp_deck.specs.Made.{Made}
 use Rattle.emtp_deck.specs.ControlFilling.{block_of, tacs_source_of, with_extra}
 use Rattle.emtp_sense.specs.ControlSense.{blocks_bad, control_bad, extras_or_pending, first_extra, first_source, is_measurable, judge_extras, pending_control_bad, tacs_sources_bad}
 use Rattle.emtp_sense.specs.held.ControlSensible.{IsDefined, IsSensibleBlock, IsSensibleExtra, IsSensibleTacsSource}
@@ -297,13 +299,20 @@ numbered nodes deck seen f =
 
 -- ---- the whole case
 
-pub control_whole_is : (f : Filling) (deck : Deck) (seen : Bool) → IsFilling f → IsWhole deck → control_bad (known_nodes deck (After seen)) (variable_names deck (After seen)) deck (After seen) ≡ None → made_of_deck (case_nodes (known_nodes deck (After seen))) (variable_names deck (After seen)) deck ≡ Ok (made_of f) → IsSensibleWhole f deck
-control_whole_is f deck seen filling whole e h =
+-- the control of a whole deck, of what is made of its cards
+pub record IsWholeControl (m : Made) (deck : Deck) : Type 0 where
+  pub few : length deck.control.sources ≤ MOST_CONTROL_CARDS
+  pub switches : length deck.switches ≡ length m.parts.switches
+  pub sensible : All (IsSensibleTacsSource m.parts.nodes deck.switches m.parts.vars) deck.control.sources
+  pub each : DefinesEach (case_of deck m)
+
+pub whole_control : (m : Made) (deck : Deck) (seen : Bool) → IsWhole deck → control_bad (known_nodes deck (After seen)) (variable_names deck (After seen)) deck (After seen) ≡ None → made_of_deck (case_nodes (known_nodes deck (After seen))) (variable_names deck (After seen)) deck ≡ Ok m → IsWholeControl m deck
+whole_control m deck seen whole e h =
     let cards = deck.control in
     let variables = variable_names deck (After seen) in
     let nodes = known_nodes deck (After seen) in
-    let p = f.draft.parts in
-    let asks = deck_asks (case_nodes nodes) variables deck (made_of f) h in
+    let p = m.parts in
+    let asks = deck_asks (case_nodes nodes) variables deck m h in
     let is = control_is (case_nodes nodes) variables deck in
     let good = fine nodes variables deck (After seen) e in
     let n = numbered nodes deck seen good in
@@ -314,18 +323,27 @@ control_whole_is f deck seen filling whole e h =
     let xs = options_of extra_name cards.extras in
     let sources = each_front P ss (xs ++ []) (each_rest P bs (ss ++ (xs ++ [])) known.known) in
     let vars : p.vars ≡ variables = asks.control.vars ∙ is.vars in
-    let keys : f.variables.keys ≡ variables = filling.variables ∙ vars in
-    let named : f.nodes.keys ≡ nodes = filling.nodes ∙ asks.nodes ∙ is.nodes_are ∙ whole_nodes deck seen variables (made_of f) h in
+    let named : p.nodes ≡ nodes = asks.nodes ∙ is.nodes_are ∙ whole_nodes deck seen variables m h in
     let sensible = sensible_sources nodes deck.switches variables (first_source cards + 0) cards.sources (omega arith) good.sources.above sources good.sources.measures in
-    let c = case_of deck (made_of f) in
+    let c = case_of deck m in
     record {
       few = omega (arith, good.sources.few);
       switches = omega (arith, asks.switched, ap length is.switches);
-      sources = whole.control.sources;
-      sensible = subst (λ vs. All (IsSensibleTacsSource f.nodes.keys deck.switches vs) cards.sources) (sym keys) (subst (λ ns. All (IsSensibleTacsSource ns deck.switches variables) cards.sources) (sym named) sensible);
+      sensible = subst (λ vs. All (IsSensibleTacsSource p.nodes deck.switches vs) cards.sources) (sym vars) (subst (λ ns. All (IsSensibleTacsSource ns deck.switches variables) cards.sources) (sym named) sensible);
       each = defined_once c (length cards.blocks) (length cards.sources) (length cards.extras)
           (ap (map (λ (b : Block). b.var)) (asks.control.blocks ∙ is.blocks) ∙ two_maps (block_of variables) (λ (b : Block). b.var) cards.blocks ∙ n.blocks)
           (two_maps (tacs_source_of p.nodes deck.switches p.vars) (λ (s : Source). s.node) cards.sources ∙ ap (λ vs. map (λ (card : SourceCard). variable_number vs card.name) cards.sources) vars ∙ n.sources)
           (ap (map var_of) asks.control.extras ∙ extra_vars variables deck.points _ cards.extras ∙ n.extras)
           (n.size ∙ sym (ap length vars));
+    }
+
+pub control_whole_is : (f : Filling) (deck : Deck) (seen : Bool) → IsFilling f → IsWhole deck → control_bad (known_nodes deck (After seen)) (variable_names deck (After seen)) deck (After seen) ≡ None → made_of_deck (case_nodes (known_nodes deck (After seen))) (variable_names deck (After seen)) deck ≡ Ok (made_of f) → IsSensibleWhole f deck
+control_whole_is f deck seen filling whole e h =
+    let is = whole_control (made_of f) deck seen whole e h in
+    record {
+      few = is.few;
+      switches = is.switches;
+      sources = whole.control.sources;
+      sensible = subst (λ vs. All (IsSensibleTacsSource f.nodes.keys deck.switches vs) deck.control.sources) (sym filling.variables) (subst (λ ns. All (IsSensibleTacsSource ns deck.switches f.draft.parts.vars) deck.control.sources) (sym filling.nodes) is.sensible);
+      each = is.each;
     }

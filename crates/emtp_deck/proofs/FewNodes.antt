@@ -21,11 +21,11 @@ use Rattle.emtp_walk.specs.declared.deck.Deck.{Deck}
 use Rattle.emtp_walk.specs.declared.deck.Place.TheVariants.{After}
 use Rattle.emtp_netcards.specs.declared.switch_card.SwitchCard.{SwitchCard}
 
-no_bad_left : {A : Type 0} (bad : Option Bad) (x y : A) → unless_bad bad x ≡ Ok y → bad ≡ None
+pub no_bad_left : {A : Type 0} (bad : Option Bad) (x y : A) → unless_bad bad x ≡ Ok y → bad ≡ None
 no_bad_left (Some bad) x y e = absurd (cc)
 no_bad_left None x y e = refl
 
-no_fault_left : {A : Type 0} (line : ℕ) (fault : Option Fault) (x y : A) → unless_fault line fault x ≡ Ok y → fault ≡ None
+pub no_fault_left : {A : Type 0} (line : ℕ) (fault : Option Fault) (x y : A) → unless_fault line fault x ≡ Ok y → fault ≡ None
 no_fault_left line (Some fault) x y e = absurd (cc)
 no_fault_left line None x y e = refl
 

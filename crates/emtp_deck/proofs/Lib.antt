@@ -14,3 +14,7 @@ pub mod ControlWhole
 pub mod WholeDeck
 pub mod SameDeck
 pub mod Wanting
+pub mod CaseDrafts
+pub mod GoodMade
+pub mod GoodBranches
+pub mod DeckCases
