@@ -1,15 +1,15 @@
 -- What a deck of cards in their ranges gives is a case.
-use Rattle.emtp_case.specs.declared.limit.TheConstants.{MOST_CHANNELS, MOST_CONTROL_CARDS, MOST_HISTORY_VALUES, MOST_STORED_VALUES, MOST_VARIABLES}
-use Rattle.std.proofs.Common.{◌≡◌, ◌∙◌, ap, sym, subst, refl, ℕ, suc, ◌+◌, ◌*◌, ◌<◌, ◌≤◌, ◌++◌, Bool, true, false, List, [], ◌∷◌, length, map, take, drop, fold, Option, Some, None, Result, Ok, Err, if◌then◌else◌, arith, length-append, length-take, length-drop, take-append-drop}
+use Rattle.emtp_case.specs.declared.limit.TheConstants.{MOST_CHANNELS, MOST_STORED_VALUES, MOST_VARIABLES}
+use Rattle.std.proofs.Common.{◌≡◌, ◌∙◌, ap, sym, subst, refl, ℕ, ◌+◌, ◌*◌, ◌≤◌, ◌++◌, Bool, true, false, List, [], ◌∷◌, length, map, drop, Option, Some, None, Ok, Err, if◌then◌else◌, arith, length-append, take-append-drop}
 use Rattle.std.specs.Prelude.{All}
 use Rattle.std.proofs.lemmas.List.{length-map}
-use Rattle.std.proofs.lemmas.List.Elements.{All-append, All-head, All-map, All-nil, All-tail}
+use Rattle.std.proofs.lemmas.List.Elements.{All-append, All-map, All-nil, All-tail}
 use Rattle.emtp_card.specs.Fault.{unless_bad}
 use Rattle.emtp_card.specs.declared.reason.Bad.{Bad}
 use Rattle.emtp_case.proofs.DraftSteps.{nothing_yet}
 use Rattle.emtp_case.specs.Case.{empty_parts, standing_names}
 use Rattle.emtp_case.specs.RunData.{samples_of}
-use Rattle.emtp_case.specs.held.Case.{DefinesEach, IsCase, IsDraft}
+use Rattle.emtp_case.specs.held.Case.{IsCase, IsDraft}
 use Rattle.emtp_case.specs.held.Channel.{IsChannel}
 use Rattle.emtp_case.specs.held.Control.{IsBlock}
 use Rattle.emtp_case.specs.held.Name.{IsName}
@@ -17,8 +17,7 @@ use Rattle.emtp_case.specs.held.Sizes.{sizes_of}
 use Rattle.emtp_case.specs.held.Source.{IsTacsSource}
 use Rattle.emtp_case.specs.declared.case.Parts.{Parts}
 use Rattle.emtp_case.specs.declared.channel.Channel.{Channel}
-use Rattle.emtp_case.specs.declared.source.Source.{Source}
-use Rattle.emtp_deck.proofs.Asking.{branches_ask, control_is, deck_asks, sections, tacs_outputs_ask}
+use Rattle.emtp_deck.proofs.Asking.{branches_ask, control_is, sections, tacs_outputs_ask}
 use Rattle.emtp_deck.proofs.CaseDrafts.{HasFewInputs, blocks_added, extras_added, nodes_added, tacs_sources_added, variables_added}
 use Rattle.emtp_deck.proofs.ControlRecords.{block_fits, source_fits}
 use Rattle.emtp_deck.proofs.ControlWhole.{control_sensible, whole_control}
@@ -26,7 +25,7 @@ use Rattle.emtp_deck.proofs.GoodBranches.{branches_taken}
 use Rattle.emtp_deck.proofs.GoodMade.{IsGood, no_bad, outputs_taken, sources_taken, switches_taken, tacs_outputs_taken}
 use Rattle.emtp_deck.proofs.WholeDeck.{stored_within}
 use Rattle.emtp_deck.specs.ControlFilling.{block_of, control_parts, inputs_of, tacs_source_of}
-use Rattle.emtp_deck.specs.Deck.{case_of, control_made, few_samples, filled, filled_by, is_ended, made_of_deck, missing_bad, sensible_control, unfinished}
+use Rattle.emtp_deck.specs.Deck.{case_of, control_made, few_samples, filled, filled_by, made_of_deck, missing_bad, sensible_control, unfinished}
 use Rattle.emtp_deck.specs.Branches.{pending_fault}
 use Rattle.emtp_deck.specs.Made.{Made, all_asked, count_asked}
 use Rattle.emtp_deck.specs.Samples.{has_too_many, samples_bad}
@@ -44,7 +43,6 @@ use Rattle.emtp_walk.specs.declared.deck.Deck.{Deck}
 use Rattle.emtp_walk.specs.declared.deck.Place.{Place}
 use Rattle.emtp_walk.specs.declared.deck.Place.TheVariants.{After, Begin, Branches, First, Outputs, Points, Second, Sources, Start, Switches, Third, Waiting, Control}
 use Rattle.emtp_netcards.proofs.Readings.{then_read}
-use Rattle.emtp_netcards.specs.declared.source_card.SourceCard.{SourceCard}
 
 -- no card of the control has more than five inputs
 pub record HasFewInputsEach (variables : List (List ℕ)) (deck : Deck) : Type 0 where

@@ -1,13 +1,12 @@
 -- What is made of cards stays good where the branches of an entry are added.
 use Rattle.emtp_case.specs.declared.limit.TheConstants.{MOST_BRANCHES, MOST_CHANNELS, MOST_HISTORY_VALUES}
 use Rattle.emtp_case.specs.declared.branch.Trio as modes
-use Rattle.std.proofs.Common.{◌≡◌, ◌∙◌, sym, ap, subst, refl, ℕ, ℤ, ◌+◌, ◌*◌, ◌<◌, ◌≤◌, Bool, true, false, List, [], ◌∷◌, ◌++◌, length, Option, Some, None, Result, Ok, Err, arith, length-append}
+use Rattle.std.proofs.Common.{◌≡◌, ◌∙◌, sym, ap, subst, refl, ℕ, ◌+◌, ◌<◌, ◌≤◌, true, false, List, [], ◌∷◌, ◌++◌, length, Option, Some, None, Result, Ok, arith, length-append}
 use Rattle.std.proofs.lemmas.List.Elements.{All-append, All-head, All-tail}
-use Rattle.std.specs.Prelude.{All, drop, find, take, ◌==◌, if◌then◌else◌}
-use Rattle.emtp_card.specs.Fault.{unless_bad}
+use Rattle.std.specs.Prelude.{All, drop, find, take}
 use Rattle.emtp_card.specs.declared.reason.Bad.{Bad}
 use Rattle.emtp_case.proofs.DraftSteps as steps
-use Rattle.emtp_case.specs.HistoryValues.{branch_history_values, history_values_of}
+use Rattle.emtp_case.specs.HistoryValues.{history_values_of}
 use Rattle.emtp_case.specs.held.Branch.{IsSingle}
 use Rattle.emtp_case.specs.held.Case.{IsDraft}
 use Rattle.emtp_case.specs.held.Channel.{IsChannel}
@@ -27,17 +26,15 @@ use Rattle.emtp_deck.proofs.Growing.{length_entry, length_of_channels, line_take
 use Rattle.emtp_deck.proofs.Keeping.{channels_of_there, there_grows}
 use Rattle.emtp_deck.proofs.Modes.{has_modes, moved_fits, moved_values}
 use Rattle.emtp_deck.proofs.Sensing.{line_takable, takable}
-use Rattle.emtp_deck.specs.Branches.{branch_channels, card_history, first_fault, line_branch, line_history, moved, phase_for, take_branches, take_entry, with_modes, with_phases, with_single, with_values}
-use Rattle.emtp_deck.specs.held.Branches.{line_channels, line_count, line_fault, take_line, take_one, with_line, with_one}
-use Rattle.emtp_deck.specs.Channels.{channel_count, channels_of}
+use Rattle.emtp_deck.specs.Branches.{branch_channels, first_fault, line_branch, line_history, moved, phase_for, take_branches, take_entry, with_modes, with_phases, with_single, with_values}
+use Rattle.emtp_deck.specs.held.Branches.{line_channels, line_fault, with_line, with_one}
 use Rattle.emtp_deck.specs.Copies.{earlier_or_missing, is_like, line_numbers, missing_fault, modes_for, numbers_behind, type_of_kind, values_behind, values_by}
-use Rattle.emtp_deck.specs.held.Copies.{AreTakenBy, IsTaken, IsTakenBy}
+use Rattle.emtp_deck.specs.held.Copies.{AreTakenBy, IsTaken}
 use Rattle.emtp_deck.specs.Made.{Made, count_asked}
 use Rattle.emtp_deck.specs.held.Sensible.{AreOwnPoints, FindsValues, HasOwnPoints, IsSensibleSingle, IsSensibleTrio}
 use Rattle.emtp_sense.specs.Names.{node_number}
 use Rattle.emtp_sense.specs.held.Naming.{HasEndNodes, HasEntryNodes, HasTrioNodes}
-use Rattle.emtp_walk.specs.Answer.{go_on}
-use Rattle.emtp_walk.specs.held.Sound.{IsEntry, IsSingleEntry, IsTrioEntry, has_points, is_pseudo, is_reactor}
+use Rattle.emtp_walk.specs.held.Sound.{IsEntry, IsTrioEntry, is_pseudo, is_reactor}
 use Rattle.emtp_walk.specs.Walk.{is_phase}
 use Rattle.emtp_deck.specs.declared.copies.TakenPair.{TakenPair}
 use Rattle.emtp_walk.specs.declared.deck.BranchEntry.{BranchEntry}

@@ -1,20 +1,19 @@
 -- What is made of cards so far is a draft, and the channels that were asked for are there.
 use Rattle.emtp_case.specs.declared.limit.TheConstants.{MOST_CHANNELS}
-use Rattle.std.proofs.Common.{◌≡◌, ◌∙◌, ap, sym, subst, refl, ℕ, zero, suc, ◌+◌, ◌==◌, ◌<◌, ◌≤◌, Bool, true, false, not, ◌&&◌, List, [], ◌∷◌, ◌++◌, length, Option, Some, None, option_map, Result, Ok, Err, arith, length-append, length-take}
+use Rattle.std.proofs.Common.{◌≡◌, ap, sym, subst, refl, ℕ, ◌+◌, ◌==◌, ◌<◌, ◌≤◌, Bool, true, false, not, ◌&&◌, List, [], ◌∷◌, ◌++◌, length, Option, Some, None, option_map, Result, Ok, arith, length-append, length-take}
 use Rattle.std.specs.Prelude.{All, if◌then◌else◌, position}
 use Rattle.std.specs.List.{list_any}
 use Rattle.std.specs.Str.{bytes_eq}
 use Rattle.std.specs.Option.{ForSome}
 use Rattle.std.proofs.lemmas.List.Quantifiers.{position-Some}
 use Rattle.std.proofs.lemmas.List.Elements.{All-append, All-cons, All-head, All-nil, All-tail}
-use Rattle.emtp_card.specs.Fault.{bad_at, unless_bad}
+use Rattle.emtp_card.specs.Fault.{unless_bad}
 use Rattle.emtp_card.specs.declared.fault.Fault.{Fault}
 use Rattle.emtp_card.specs.declared.reason.Bad.{Bad}
 use Rattle.emtp_case.proofs.DraftSteps as steps
 use Rattle.emtp_case.specs.Source.{is_voltage_source_at}
 use Rattle.emtp_case.specs.held.Case.{IsDraft}
 use Rattle.emtp_case.specs.held.Channel.{IsChannel}
-use Rattle.emtp_case.specs.held.Range.{AreEnds}
 use Rattle.emtp_case.specs.held.Sizes.{Sizes, sizes_of}
 use Rattle.emtp_case.specs.held.Switch.{IsSwitch, IsSwitchKind}
 use Rattle.emtp_case.specs.declared.case.Parts.{Parts}
@@ -27,10 +26,10 @@ use Rattle.emtp_deck.proofs.Driving.{driven_source}
 use Rattle.emtp_deck.proofs.FewNodes.{no_bad_left, no_fault_left}
 use Rattle.emtp_deck.proofs.Judging.{sensible_source, sensible_switch}
 use Rattle.emtp_deck.proofs.Keeping.{channels_of_there, length_of_nodes, length_of_switch, nodes_there, there_grows}
-use Rattle.emtp_deck.specs.Channels.{channels_of, status_of, switch_channel_count}
+use Rattle.emtp_deck.specs.Channels.{channels_of, status_of}
 use Rattle.emtp_deck.specs.Made.{Made, count_asked, no_room, unless_fault}
-use Rattle.emtp_deck.specs.Outputs.{channel_of, name_fault, node_channels, take_all_nodes, take_known_name, take_name, take_names, take_output, take_outputs, take_tacs_outputs, with_channel, with_channels}
-use Rattle.emtp_deck.specs.Sources.{is_second, source_at, source_fault, take_source, take_sources, with_source}
+use Rattle.emtp_deck.specs.Outputs.{channel_of, name_fault, node_channels, take_all_nodes, take_known_name, take_names, take_output, take_outputs, take_tacs_outputs, with_channel, with_channels}
+use Rattle.emtp_deck.specs.Sources.{source_at, source_fault, take_source, take_sources, with_source}
 use Rattle.emtp_deck.specs.Switches.{controlled_kind, switch_at, switch_fault, take_switch, take_switches, with_switch}
 use Rattle.emtp_deck.specs.held.Filling.{AreThere}
 use Rattle.emtp_deck.specs.declared.outputs.Named.{Named}
@@ -46,11 +45,10 @@ use Rattle.emtp_sense.proofs.Knowing.{known_name, known_number}
 use Rattle.emtp_sense.proofs.Naming.{ends_of}
 use Rattle.emtp_sense.proofs.WithinLimits.{within}
 use Rattle.emtp_sense.specs.Limits.{too_many}
-use Rattle.emtp_sense.specs.Names.{find_node, node_number}
+use Rattle.emtp_sense.specs.Names.{find_node}
 use Rattle.emtp_sense.specs.Variables.{find_variable, variable_number}
 use Rattle.emtp_sense.specs.held.ControlSensible.{IsKnown}
 use Rattle.emtp_sense.specs.held.Naming.{HasSwitchNodes}
-use Rattle.emtp_walk.specs.Answer.{go_on}
 use Rattle.emtp_walk.specs.declared.control_cards.TacsOutputEntry.{TacsOutputEntry}
 use Rattle.emtp_walk.specs.declared.deck.OutputEntry.{OutputEntry}
 

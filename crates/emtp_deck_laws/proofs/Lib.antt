@@ -9,3 +9,5 @@ pub mod WalkedFront
 pub mod DeckFaults
 pub mod WideSeries
 pub mod Worked
+pub mod AcceptedDecks
+pub mod ApartNames

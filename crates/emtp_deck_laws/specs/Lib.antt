@@ -2,3 +2,4 @@ pub mod CardFaults
 pub mod JudgedCards
 pub mod LeastFault
 pub mod WideCards
+pub mod NamesApart

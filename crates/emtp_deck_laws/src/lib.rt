@@ -1,4 +1,5 @@
-//! What holds of every deck as a whole: which fault is answered, what doesn't matter for it, and which cards are the same.
+//! What holds of every deck as a whole: which fault is answered, what doesn't matter for it, which cards are the same, and
+//! that an accepted deck gives a case.
 //!
 //! Each law is a function that does nothing: its clauses are proved, and say what holds of every file. No program calls
 //! them. They are stated over the lines of a file, as `emtp_deck` reads them, and over the cards that `emtp_walk` finds in
@@ -11,7 +12,9 @@
 #![tactic(auto)]
 
 mod cards;
+mod cases;
 mod faults;
 
 pub use cards::wide_series_card_has_the_narrow_values;
+pub use cases::{accepted_decks_are_cases, decks_of_one_listing_are_one_case};
 pub use faults::{lines_behind_a_fault_do_not_matter, the_fault_is_the_least};

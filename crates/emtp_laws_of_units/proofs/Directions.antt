@@ -1,6 +1,5 @@
 -- The directions of the cosine's table: turned one after the other they add up, and the table's other end has their sines.
-use Rattle.std.proofs.Common.{◌≡◌, ◌∙◌, ◌+◌, ◌-◌, ◌*◌, ◌^◌, ◌≤◌, ◌<◌, ap, sym, subst, refl, ℕ, zero, suc, ℤ, pos, neg_ℤ, ◌+ℤ◌, ◌-ℤ◌, ◌*ℤ◌, unsigned_abs, arith}
-use Rattle.std.proofs.Math.IntN.{*ℤ_comm}
+use Rattle.std.proofs.Common.{◌≡◌, ◌∙◌, ◌+◌, ◌-◌, ◌*◌, ◌^◌, ◌≤◌, ap, sym, subst, refl, ℕ, zero, suc, ℤ, pos, neg_ℤ, ◌+ℤ◌, ◌-ℤ◌, ◌*ℤ◌, unsigned_abs, arith}
 use Rattle.std.proofs.lemmas.Int.{ints, unsigned_abs-mul}
 use Rattle.std.proofs.lemmas.Nat.{mul-le}
 use Rattle.emtp_fix.proofs.Nearest.{near-rest}
@@ -8,7 +7,7 @@ use Rattle.emtp_fix.proofs.Wide.{abs-add-le, abs-sub-le, mul_add}
 use Rattle.emtp_fix.specs.Rounding.{near, near_abs}
 use Rattle.emtp_fix.specs.declared.limit.TheConstants.{ATTO}
 use Rattle.emtp_wave.proofs.Circle.{direction_small}
-use Rattle.emtp_wave.specs.Cosine.{direction, entry, rounded, turned}
+use Rattle.emtp_wave.specs.Cosine.{direction, turned}
 use Rattle.emtp_wave.specs.held.Cosine.{IsSmall}
 use Rattle.emtp_wave.specs.declared.direction.Direction.{Direction}
 use Rattle.emtp_laws_of_units.proofs.Products.{mul_sub, swapped}

@@ -1,5 +1,5 @@
 -- A step of a pseudo-nonlinear reactor: its flux by the trapezoidal rule, and its current on its segment, within the rounding.
-use Rattle.std.proofs.Common.{◌≡◌, ◌≢◌, ◌∙◌, ◌+◌, ◌*◌, ◌^◌, ◌≤◌, ◌<◌, ap, sym, subst, refl, ℕ, suc, ℤ, pos, negsuc, ◌<ℤ◌, ◌+ℤ◌, ◌-ℤ◌, ◌*ℤ◌, unsigned_abs, Bool, true, List, length, Some, arith}
+use Rattle.std.proofs.Common.{◌≡◌, ◌≢◌, ◌∙◌, ◌+◌, ◌*◌, ◌^◌, ◌≤◌, ◌<◌, ap, sym, subst, refl, ℕ, suc, ℤ, pos, negsuc, ◌<ℤ◌, ◌+ℤ◌, ◌-ℤ◌, ◌*ℤ◌, unsigned_abs, true, List, length, Some, arith}
 use Rattle.std.proofs.Math.IntN.{*ℤ_comm}
 use Rattle.std.proofs.lemmas.Int.{ints, unsigned_abs-mul}
 use Rattle.std.proofs.lemmas.Nat.{mul-le}
@@ -13,7 +13,7 @@ use Rattle.emtp_case.specs.declared.case.Parts.{Parts}
 use Rattle.emtp_fix.proofs.Nearest.{near-rest}
 use Rattle.emtp_fix.proofs.Ranges.{in_range-is}
 use Rattle.emtp_fix.proofs.Wide.{mul_add}
-use Rattle.emtp_fix.specs.Limit.{in_range, ◌>>=◌}
+use Rattle.emtp_fix.specs.Limit.{in_range}
 use Rattle.emtp_fix.specs.Rounding.{near}
 use Rattle.emtp_fix.specs.declared.limit.TheConstants.{PICO}
 use Rattle.emtp_pseudo.proofs.Holding.{pseudo_fits}

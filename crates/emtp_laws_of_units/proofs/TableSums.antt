@@ -1,14 +1,11 @@
 -- The table of the cosine adds up as the cosine does.
-use Rattle.std.proofs.Common.{◌≡◌, ◌∙◌, ◌+◌, ◌-◌, ◌*◌, ◌^◌, ◌≤◌, ap, sym, subst, refl, ℕ, ℤ, pos, neg_ℤ, ◌+ℤ◌, ◌-ℤ◌, ◌*ℤ◌, unsigned_abs, arith}
-use Rattle.std.proofs.Math.IntN.{*ℤ_comm}
+use Rattle.std.proofs.Common.{◌≡◌, ◌∙◌, ◌+◌, ◌-◌, ◌*◌, ◌^◌, ◌≤◌, ap, sym, subst, refl, ℕ, ℤ, pos, ◌+ℤ◌, ◌-ℤ◌, ◌*ℤ◌, unsigned_abs, arith}
 use Rattle.std.proofs.lemmas.Int.{ints, unsigned_abs-mul}
 use Rattle.std.proofs.lemmas.Nat.{mul-le}
 use Rattle.emtp_fix.proofs.Nearest.{near-rest}
 use Rattle.emtp_fix.proofs.Wide.{abs-add-le}
-use Rattle.emtp_fix.specs.Rounding.{near}
 use Rattle.emtp_wave.proofs.Circle.{direction_small}
-use Rattle.emtp_wave.specs.Cosine.{direction, entry, rounded}
-use Rattle.emtp_wave.specs.declared.direction.Direction.{Direction}
+use Rattle.emtp_wave.specs.Cosine.{direction, entry}
 use Rattle.emtp_laws_of_units.proofs.Directions.{drift_small, multiplied, sized, spread_small, swapped_off}
 use Rattle.emtp_laws_of_units.proofs.Products.{mul_assoc, mul_sub, sub_mul, swapped}
 use Rattle.emtp_laws_of_units.specs.CosineTable.{excess_of_squares, excess_of_sum, sine_entry}

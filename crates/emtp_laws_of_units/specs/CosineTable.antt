@@ -1,5 +1,5 @@
 -- The table of the cosine, as what it is the table of.
-use Rattle.std.specs.Prelude.{◌-◌, ◌≤◌, ◌*◌, ◌^◌, ◌+ℤ◌, ◌-ℤ◌, ◌*ℤ◌, ℕ, ℤ, pos, unsigned_abs}
+use Rattle.std.specs.Prelude.{◌-◌, ◌^◌, ◌+ℤ◌, ◌-ℤ◌, ◌*ℤ◌, ℕ, ℤ, pos}
 use Rattle.emtp_wave.specs.Cosine.{entry}
 
 -- the sine of so many hundredths of a degree, in 10^-12: the cosine of what is missing to a right angle
