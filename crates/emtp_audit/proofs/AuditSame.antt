@@ -50,26 +50,26 @@ greatest-small rows place (suc n) most small = omega (arith, greatest-small rows
 multiplier-is : (p : Parts) (rows : List (List ℤ)) (place : ℕ) → AreSamplesInRange p rows → IsMultiplier (greatest rows place (length rows)) (multiplier_at rows place)
 multiplier-is p rows place samples = IsMultiplier-multiplier_of (greatest rows place (length rows)) (greatest-small rows place (length rows) (2 ^ 63) (λ sample. small-value rows samples.small sample place))
 
-are-small : (p : Parts) (rows : List (List ℤ)) → AreSamplesInRange p rows → AreSmall p rows
+pub are-small : (p : Parts) (rows : List (List ℤ)) → AreSamplesInRange p rows → AreSmall p rows
 are-small p rows samples place there analog =
     (multiplier-is p rows place samples).least (10 ^ 15)
     (record { power = 15; factor = 1; one_two_five = inl refl; value = refl })
     (omega (arith, greatest-small rows place (length rows) (2 ^ 63) (λ sample. small-value rows samples.small sample place)))
 
-are-held : (p : Parts) (rows : List (List ℤ)) → AreSamplesInRange p rows → AreHeld p rows
+pub are-held : (p : Parts) (rows : List (List ℤ)) → AreSamplesInRange p rows → AreHeld p rows
 are-held p rows samples sample place there place_there analog =
     value-held (greatest rows place (length rows)) (multiplier_at rows place) (value_at rows sample place) (multiplier-is p rows place samples) (value-greatest rows place sample (length rows) there)
 
 -- ---- the time of a sample step
 
 -- a number of ps from 1 to the greatest unit
-record IsUnit (p : Parts) : Type 0 where
-  unit : ℕ
-  is : step_of p ≡ pos unit
-  some : 1 ≤ unit
-  most : unit ≤ LARGEST_UNIT
+pub record IsUnit (p : Parts) : Type 0 where
+  pub unit : ℕ
+  pub is : step_of p ≡ pos unit
+  pub some : 1 ≤ unit
+  pub most : unit ≤ LARGEST_UNIT
 
-unit_of : (p : Parts) → IsCase p → IsUnit p
+pub unit_of : (p : Parts) → IsCase p → IsUnit p
 unit_of p is =
     let run = is.draft.run in
     let d = unsigned_abs p.run.dt in
@@ -91,10 +91,10 @@ unit_of p is =
 
 -- ---- the files
 
-few-rows : (p : Parts) (rows : List (List ℤ)) → IsCase p → AreSamplesInRange p rows → length rows ≤ 1000001
+pub few-rows : (p : Parts) (rows : List (List ℤ)) → IsCase p → AreSamplesInRange p rows → length rows ≤ 1000001
 few-rows p rows is samples = omega (arith, samples.few, div-le_self p.run.steps p.run.every, is.draft.run.few_steps)
 
-few-values : (p : Parts) (rows : List (List ℤ)) → IsCase p → AreSamplesInRange p rows → length p.channels * length rows ≤ 4000000
+pub few-values : (p : Parts) (rows : List (List ℤ)) → IsCase p → AreSamplesInRange p rows → length p.channels * length rows ≤ 4000000
 few-values p rows is samples =
     let times : length p.channels * length rows ≤ length p.channels * samples_of p.run = mul-le-mul_left (length p.channels) samples.few in
     omega (arith, times, is.draft.counts.stored)
