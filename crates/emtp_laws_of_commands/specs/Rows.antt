@@ -1,0 +1,22 @@
+-- A row of a batch, and the run of its case.
+use Rattle.std.specs.Prelude.{◌≡◌, ◌++◌, ℕ, List, [], ◌∷◌, codes}
+use Rattle.emtp_batch.specs.Report.{peaks_of}
+use Rattle.emtp_batch.specs.Summary.{row_line}
+use Rattle.emtp_batch.specs.declared.report.RowReport.{RowReport}
+use Rattle.emtp_case.specs.declared.case.Parts.{Parts}
+use Rattle.emtp_machine.specs.History.{history, samples}
+use Rattle.emtp_run.specs.Outcome.{Outcome, summarised}
+use Rattle.emtp_run.specs.Words.{BatchFiles}
+
+abbrev pub batch_words : BatchFiles → List (List ℕ)
+batch_words f = codes "batch" ∷ f.case ∷ f.times ∷ []
+
+-- what the run of a case says in a row: its end, if it has one, and the peaks of its samples
+abbrev pub report_of_run : Parts → RowReport
+report_of_run case = record { end = (history case).end; peaks = peaks_of case (samples case (history case)) }
+
+-- the summary has this line for the row with this number, from 1
+pub record HasRow (number : ℕ) (report : RowReport) (o : Outcome) : Type 0 where
+  pub front : List ℕ
+  pub behind : List ℕ
+  pub is : o ≡ summarised (front ++ row_line number report ++ behind)
