@@ -16,11 +16,11 @@ sys.path.insert(0, str(HERE.parents[1] / "python"))
 from wurdanei import compare, program, record, recorder  # noqa: E402
 
 CASE = (HERE / "fault_on_a_line.case").read_text()
-OTHER = (("   2.E-5", "   5.E-6"), ("       1       4", "       1       8"), ("   2.8  .008", " 2.814 .0081"))
+OTHER = (("   2.E-5", "   5.E-6"), ("       1       4", "       1       8"), ("   2.8  .008", " 2.814  .008"))
 VOLTAGES = [(f"V VS{it}", f"U_{it}", "kV", 1e6, 4e5, 100, 1) for it in "ABC"]
 CURRENTS = [(f"I VS{it}-LS{it}", f"I_{it}", "A", 1.13e5, 2000, 1, -1) for it in "ABC"]
 INPUTS = [recorder.Input(*it, 5e-6 * place) for place, it in enumerate(VOLTAGES + CURRENTS)]
-SETTINGS = recorder.Settings(begin=0.085, corner=1500, noise=0.002, missing=0.001, seed=7)
+SETTINGS = recorder.Settings(begin=0.1003, corner=1500, noise=0.002, missing=0.001, seed=7)
 
 
 def run(folder: pathlib.Path, name: str, km: float, ohm: float, text: str = CASE) -> record.Record:

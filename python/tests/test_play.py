@@ -107,13 +107,23 @@ class Curve(unittest.TestCase):
         """Two cycles of 50 Hz before the record: its first period, by 3 x^2 - 2 x^3 over the first of them."""
         times = np.arange(0, 0.1, 1e-4)
         values = 100 * np.cos(curves.OMEGA * times)
-        plan = play.Plan(0.0, 0.06, 0.04, 50.0, Decimal("0.0005"))
-        places, seen = play.points(times, values, plan)
-        self.assertEqual((places[0], places[-1], seen[0]), (0, 200, 0.0))
-        self.assertAlmostEqual(seen[20], -100 * (3 / 4 - 2 / 8), 9)  # 10 ms: half of the rise, half a period
-        self.assertAlmostEqual(seen[40], 100, 9)
-        self.assertAlmostEqual(seen[60], -100, 9)
-        self.assertAlmostEqual(seen[200], 100, 9)
+        plan = play.Plan(0.0, 0.06, 0.04, 50.0)
+        at, seen = play.points(times, values, plan)
+        np.testing.assert_allclose(at, np.arange(1001) * 1e-4, atol=1e-12)
+        self.assertEqual(seen[0], 0.0)
+        self.assertAlmostEqual(seen[100], -100 * (3 / 4 - 2 / 8), 9)  # 10 ms: half of the rise, half a period
+        for place, value in ((200, 100), (300, -100), (400, 100), (1000, 100)):
+            self.assertAlmostEqual(seen[place], value, 9)
+
+    def test_points_are_the_samples(self):
+        """Skewed and missing samples too; a spacing has straight lines between them; the ends are straight between theirs."""
+        times, values = np.array([0.0, 0.1, 0.3, 0.4]) + 0.05, np.array([1.0, 2.0, 6.0, 5.0])
+        at, seen = play.points(times, values, play.Plan(0.1, 0.4, 0.0, 50.0))
+        np.testing.assert_allclose(at, [0, 0.05, 0.25, 0.3])
+        np.testing.assert_allclose(seen, [1.5, 2, 6, 5.5])
+        at, seen = play.points(times, values, play.Plan(0.1, 0.4, 0.0, 50.0, Decimal("0.1")))
+        np.testing.assert_allclose(at, [0, 0.1, 0.2, 0.3])
+        np.testing.assert_allclose(seen, [1.5, 3, 5, 5.5])
 
 
 @unittest.skipUnless(program.is_there(), "the programs aren't built")
@@ -146,9 +156,7 @@ class Command(unittest.TestCase):
         )
         self.assertEqual(status, 0, told)
         self.assertIn("0 s of the record is 0.02 s of the case", out)
-        self.assertIn(
-            "CUR is a current source of I BUS-LINE times -1: 401 points each 0.0002 s, 8 supplemental cards", out
-        )
+        self.assertIn("CUR is a current source of I BUS-LINE times -1: 401 points, 8 supplemental cards", out)
         ended = program.run(["run", "b.case", "b.cfg", "b.dat"], self.place)
         self.assertEqual(ended.note[:4], "DONE", ended)
         found = read(self.place / "b.cfg")

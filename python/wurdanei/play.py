@@ -40,14 +40,17 @@ class Played:
 
 @dataclass(frozen=True)
 class Plan:
-    """When a record is played: `begin` and `end` of its own time, `lead` seconds after the start of the case, with points
-    each `spacing` seconds. In the lead-in its first period is repeated, from nothing on by a smooth ramp."""
+    """When a record is played: `begin` and `end` of its own time, `lead` seconds after the start of the case.
+
+    In the lead-in its first period is repeated, from nothing on by a smooth ramp. Points stand at the record's own samples, or
+    each `spacing` seconds of the case.
+    """
 
     begin: float
     end: float
     lead: float
     frequency: float  # Hz
-    spacing: Decimal
+    spacing: Decimal | None = None
 
 
 # ---- the curve
@@ -68,17 +71,25 @@ def curve(record: Record, it: Played) -> tuple[np.ndarray, np.ndarray, bool]:
 
 
 def points(times: np.ndarray, values: np.ndarray, plan: Plan) -> tuple[np.ndarray, np.ndarray]:
-    """The points of a curve, shape (points,): their numbers in spacings from the start of the case, and their values."""
-    spacing = float(plan.spacing)
-    count = int((plan.end - plan.begin + plan.lead) / spacing * (1 + 1e-12)) + 1
-    places = np.arange(count)
-    at = places * spacing - plan.lead  # s from the begin of what is played
-    period = 1 / plan.frequency if plan.lead else 1.0
-    seen = np.interp(plan.begin + np.where(at < 0, np.mod(at, period), at), times, values)
+    """The points of a curve, shape (points,): their times in s of the case, which rise by 1 ns at least, and their values."""
+    inside = (times > plan.begin) & (times < plan.end)
+    at = np.concatenate([[plan.begin], times[inside], [plan.end]]) - plan.begin
+    seen = np.interp(at + plan.begin, times, values)
     if plan.lead:
-        rise = np.clip((at + plan.lead) / max(plan.lead - period, period / 2), 0, 1)
+        period = 1 / plan.frequency
+        first = at < period * (1 - 1e-9)
+        count = int(np.ceil(plan.lead / period * (1 - 1e-9)))
+        before = np.concatenate([at[first] - back * period for back in range(count, 0, -1)])
+        at = np.concatenate([before, at]) + plan.lead
+        seen = np.concatenate([np.tile(seen[first], count), seen])
+        rise = np.clip(at / max(plan.lead - period, period / 2), 0, 1)
         seen = seen * rise * rise * (3 - 2 * rise)
-    return places, seen
+        at, seen = np.append(0.0, at[at > 0]), np.append(0.0, seen[at > 0])
+    if plan.spacing:
+        places = float(plan.spacing) * np.arange(int(at[-1] / float(plan.spacing) * (1 + 1e-12)) + 1)
+        return places, np.interp(places, at, seen)
+    kept = np.append(True, np.diff(np.round(at, 9)) > 5e-10)
+    return at[kept], seen[kept]
 
 
 # ---- the cards
@@ -148,28 +159,28 @@ def play(deck: Deck, record: Record, wanted: list[Played], plan: Plan) -> list[s
     first = -deck.step()  # one step early
     for it in wanted:
         times, values, current = curve(record, it)
-        places, seen = points(times, values, plan)
-        if len(places) > most:
-            left = plan.begin + (most - 1) * float(plan.spacing) - plan.lead
+        at, seen = points(times, values, plan)
+        if len(at) > most:
+            left = plan.begin + at[most - 1] - plan.lead
             told.append(
-                f"{it.channel}: left out from {left:.6f} s of the record on, since {most} of {len(places)} points fit"
+                f"{it.channel}: left out from {left:.6f} s of the record on, since {most} of {len(at)} points fit"
             )
-            places, seen = places[:most], seen[:most]
+            at, seen = at[:most], seen[:most]
         if missing := record.missing(it.channel):
             told.append(f"{it.channel}: {missing} missing values are straight between their neighbours")
-        size = len(places)
+        size = len(at)
         names = new_names(taken, cards_of(-(-(size - 1) // (POINTS - 1))) - 1)
         taken |= set(names)
-        moments = [Decimal(int(place)) * plan.spacing for place in places]
+        moments = [Decimal(f"{moment:.9f}") for moment in at]
         shown = [Decimal(f"{value:.6f}") for value in seen]
         nano = Decimal("1e-9")
-        cards = table_cards(it.node, names, [(at + first).quantize(nano) for at in moments], shown)
+        cards = table_cards(it.node, names, [(moment + first).quantize(nano) for moment in moments], shown)
         deck.put("supplemental cards", [f"C {it.node} plays {it.channel}", *cards])
         stop = moments[-1] if moments[-1] < deck.end() else None
         deck.put("sources", [source_card(it.node, current, stop)])
         told.append(
             f"{it.node} is a {'current' if current else 'voltage'} source of {it.channel} times {it.factor:g}: "
-            f"{size} points each {float(plan.spacing):g} s, {len(names) + 1} supplemental cards"
+            f"{size} points, {len(names) + 1} supplemental cards"
         )
         if stop is not None:
             told.append(f"{it.node}: the run ends at {deck.end()} s; from {float(stop):g} s on the source is 0")
@@ -185,8 +196,8 @@ def _words() -> argparse.ArgumentParser:
         formatter_class=argparse.RawDescriptionHelpFormatter,
         description="Makes measured voltages or currents the sources of a case.",
         epilog="""Each WHAT is NODE=CHANNEL or NODE=CHANNEL,FACTOR: a channel in V or A becomes a voltage or a current source of the
-node. The case has to have the node, and no voltage source of it. Without --every a point stands at the multiple of the case's
-step that is nearest to the record's sampling.
+node. The case has to have the node, and no voltage source of it. Points stand at the record's samples, or, where these are
+closer than the case's step, at each step.
 Exit status: 0, or 2 where the record can't be played.""",
     )
     words.add_argument("case", metavar="CASE")
@@ -238,18 +249,17 @@ def planned(deck: Deck, record: Record, given: argparse.Namespace) -> tuple[Plan
         raise PlayError("the lead-in repeats the first period, and less than one is played: give --lead 0")
     step = deck.step()
     sampling = float(np.median(np.diff(record.times)))
-    every = max(1, round(sampling / float(step))) if given.every is None else given.every
-    if every < 1:
+    every = given.every if given.every is not None else 1 if sampling < 0.999 * float(step) else 0
+    if given.every is not None and every < 1:
         raise PlayError("--every is a whole number of steps from 1 on")
     told = []
-    if every * float(step) > 1.5 * sampling:
+    if every * float(step) > 1.001 * sampling:
         left = 1 - sampling / (every * float(step))
         told.append(
-            f"a point each {every * float(step):g} s: {100 * left:.0f} % of the samples, each {sampling:g} s, "
-            "stand between points"
+            f"a point each {every * float(step):g} s: {100 * left:.0f} % of the samples, each {sampling:g} s, stand between points"
         )
     lead = given.lead / frequency if given.lead else 0.0
-    return Plan(begin, end, lead, frequency, every * step), told
+    return Plan(begin, end, lead, frequency, every * step if every else None), told
 
 
 def main(words: list[str]) -> int:
