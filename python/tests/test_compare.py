@@ -253,7 +253,7 @@ class Example(unittest.TestCase):
             self.assertTrue(ran.stdout.endswith(" % at 120 km and 5 ohm\n"), ran.stdout)
             for name, status in (("right", 0), ("wrong", 1)):
                 out = io.StringIO()
-                words = [f"{name}.cfg", "measured.cfg", "pairs", "--lowpass", "1500", "--from", ".1"]
+                words = [f"{name}.cfg", "measured.cfg", "pairs", "--lowpass", "1500"]
                 with contextlib.chdir(room), contextlib.redirect_stdout(out), contextlib.redirect_stderr(io.StringIO()):
                     self.assertEqual(compare.main(words), status, out.getvalue())
 

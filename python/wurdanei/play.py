@@ -167,7 +167,7 @@ def play(deck: Deck, record: Record, wanted: list[Played], plan: Plan) -> list[s
             )
             at, seen = at[:most], seen[:most]
         if missing := record.missing(it.channel):
-            told.append(f"{it.channel}: {missing} missing values are straight between their neighbours")
+            told.append(f"{it.channel}: {missing} missing values have no points")
         size = len(at)
         names = new_names(taken, cards_of(-(-(size - 1) // (POINTS - 1))) - 1)
         taken |= set(names)
