@@ -16,7 +16,7 @@ from wurdanei import play, program  # noqa: E402
 from wurdanei.record import read  # noqa: E402
 
 CASE = """BEGIN NEW DATA CASE
-   5.E-5     .10
+   5.E-5     .20
        1       1
   BUS                        10.
   BUS   FAR                  5.0  20.
@@ -172,7 +172,7 @@ class Command(unittest.TestCase):
         )
         self.assertEqual(status, 0, told)
         self.assertIn("a point each 0.0008 s: 75 % of the samples, each 0.0002 s, stand between points", out)
-        self.assertIn("BUS: the run ends at 0.10 s; from 0.0", out)
+        self.assertIn("BUS: the run ends at 0.20 s; from 0.06 s on the source is 0", out)
         status, out, told = self.run_words(
             "a.case",
             "m.cfg",
@@ -184,10 +184,10 @@ class Command(unittest.TestCase):
             "--every",
             "1",
             "--lead",
-            "10",
+            "9",
         )
         self.assertEqual(status, 0, told)
-        self.assertIn("V SOUND: left out from -0.0", out)
+        self.assertIn("V SOUND: left out from 0.015300 s of the record on, since 3907 of 4801 points fit", out)
 
     def test_refusals(self):
         (self.place / "there.case").write_text("")
@@ -203,6 +203,10 @@ class Command(unittest.TestCase):
             (("BUS=V BUS", "--frequency", "0"), "the record has no line frequency"),
             (("BUS=V BUS", "--frequency", "10"), "less than one is played"),
             (("BUS=V BUS", "--every", "0"), "--every is a whole number"),
+            (("BUS=V BUS,1e300",), "V BUS times 1e+300 is above 4e+08 V"),
+            (("BUS=V BUS", "--lead", "11"), "the lead-in, 0.22 s, is longer than the run"),
+            (("BUS=V BUS", "--lead", "1e300"), "the lead-in, "),
+            (("BUS=V BUS", "--from", "nan"), "is no part of it"),
         ):
             with self.subTest(words=words):
                 status, out, told = self.run_words("a.case", "m.cfg", *words, "--out", "e.case")

@@ -22,6 +22,8 @@ from .record import Record, RecordError, read
 POINTS = 64  # of a device
 CARDS = 200  # supplemental cards of a case
 TERMS = 23  # names of two characters, each with its sign, in the 69 columns of a formula
+GREATEST = 4e8  # V or A: differences of two such values have their place in a point, and are in its range
+LONGEST = 200_000  # points of a lead-in, far more than a case can hold
 LETTERS = "ABCDEFGHIJKLMNOPQRSTUVWXYZ"
 
 
@@ -67,7 +69,10 @@ def curve(record: Record, it: Played) -> tuple[np.ndarray, np.ndarray, bool]:
     good = np.isfinite(values)
     if 2 * good.sum() < len(values) or good.sum() < 2:
         raise PlayError(f"{len(values) - good.sum()} of the {len(values)} values of {it.channel} are missing")
-    return times[good], values[good] * scale * it.factor, unit == "A"
+    values = values[good] * scale * it.factor
+    if not np.max(abs(values)) <= GREATEST:
+        raise PlayError(f"{it.channel} times {it.factor:g} is above {GREATEST:g} {unit}")
+    return times[good], values, unit == "A"
 
 
 def points(times: np.ndarray, values: np.ndarray, plan: Plan) -> tuple[np.ndarray, np.ndarray]:
@@ -172,7 +177,8 @@ def play(deck: Deck, record: Record, wanted: list[Played], plan: Plan) -> list[s
         names = new_names(taken, cards_of(-(-(size - 1) // (POINTS - 1))) - 1)
         taken |= set(names)
         moments = [Decimal(f"{moment:.9f}") for moment in at]
-        shown = [Decimal(f"{value:.6f}") for value in seen]
+        digits = 6 if np.max(abs(seen)) < 4e7 else 4  # of 16 columns
+        shown = [Decimal(f"{value:.{digits}f}") for value in seen]
         nano = Decimal("1e-9")
         cards = table_cards(it.node, names, [(moment + first).quantize(nano) for moment in moments], shown)
         deck.put("supplemental cards", [f"C {it.node} plays {it.channel}", *cards])
@@ -247,8 +253,11 @@ def planned(deck: Deck, record: Record, given: argparse.Namespace) -> tuple[Plan
         raise PlayError("the record has no line frequency: give --frequency, or --lead 0")
     if given.lead and end - begin < 1 / frequency:
         raise PlayError("the lead-in repeats the first period, and less than one is played: give --lead 0")
-    step = deck.step()
+    lead = given.lead / frequency if given.lead else 0.0
     sampling = float(np.median(np.diff(record.times)))
+    if lead >= deck.end() or lead / sampling > LONGEST:
+        raise PlayError(f"the lead-in, {lead:g} s, is longer than the run, or than a case can hold")
+    step = deck.step()
     every = given.every if given.every is not None else 1 if sampling < 0.999 * float(step) else 0
     if given.every is not None and every < 1:
         raise PlayError("--every is a whole number of steps from 1 on")
@@ -258,7 +267,6 @@ def planned(deck: Deck, record: Record, given: argparse.Namespace) -> tuple[Plan
         told.append(
             f"a point each {every * float(step):g} s: {100 * left:.0f} % of the samples, each {sampling:g} s, stand between points"
         )
-    lead = given.lead / frequency if given.lead else 0.0
     return Plan(begin, end, lead, frequency, every * step if every else None), told
 
 
