@@ -2,73 +2,93 @@
 use Rattle.std.proofs.Common.{◌≡◌, ◌≢◌, ◌∙◌, ap, sym, subst, refl, ℕ, ◌+◌, ◌<◌, arith, length, List, [], ◌∷◌, ◌++◌, Option, Some, None, Ok, Err, IsTrue}
 use Rattle.std.specs.Prelude.{option_map}
 use Rattle.emtp_io.specs.Cabinet.{CabinetState, Outputs, Nature}
+use Rattle.emtp_io.specs.declared.turns.Turns.{Turns}
 use Rattle.emtp_io.specs.declared.whole.ReadEnd.TheVariants.{Failed, NoMemory as Wanting}
 use Rattle.emtp_run.proofs.Endings.{ends-complete}
-use Rattle.emtp_run.proofs.Contents.{contents-there, one_of}
-use Rattle.emtp_run.specs.Command.{TookSoFar, cases_in, outcome_for, outcome_of, own_texts, reads, runs_of, texts_for}
+use Rattle.emtp_run.proofs.Contents.{contents-there, one_of, opened_all}
+use Rattle.emtp_run.proofs.Creating.{creates-by}
+use Rattle.emtp_run.specs.Command.{OpenedSoFar, TookSoFar, cases_in, outcome_for, outcome_of, own_texts, reads, runs_of, texts_for}
 use Rattle.emtp_run.specs.held.Command.{IsAnswered, HoldsOfRuns}
-use Rattle.emtp_run.specs.Inputs.{Input, TookOfLast, UnlessAny, contents}
+use Rattle.emtp_run.specs.Inputs.{Input, TookOfLast, UnlessAny, contents, opens_after}
 use Rattle.emtp_run.specs.held.Inputs.{FilesAreThere, IsUntouched, ReadsInputs}
 use Rattle.emtp_run.specs.Outcome.{HasRoomFor, HasRun, HasStatusCause, Leaves, Outcome, Settles}
-use Rattle.emtp_run.specs.held.Outcome.{Ends, EndsAfterReading}
+use Rattle.emtp_run.specs.held.Outcome.{CreatesOf, Ends, EndsAfterReading}
 use Rattle.emtp_run.specs.Words.{Task, Audit, Batch, Phasor, Run, Scan, Trial}
 use Rattle.emtp_run.specs.declared.status.Status.{Status}
 use Rattle.emtp_run.specs.declared.status.Status.TheVariants.{Done, Usage, BadCard, Ended, ReadFault, WriteFault, NoMemory, Refused, Differs, BadRow}
 
--- ---- the tables of statuses over a cabinet that differs in what is unread alone
+-- ---- the tables of statuses over a cabinet that differs in what is unread and in the calls of `open` alone
 
-abbrev read_on : CabinetState → Option (List ℕ) → CabinetState
-read_on old unread = record old { unread = unread }
+abbrev read_on : CabinetState → Option (List ℕ) → ℕ → CabinetState
+read_on old unread opens = record old { unread = unread; opens = opens }
 
-read_on-is : {A : Type 0} (inputs : List Input) (old mid : CabinetState) (x : A) → ReadsInputs {A = A} inputs old mid (Ok x) → mid ≡ read_on old mid.unread
+read_on-is : {A : Type 0} (inputs : List Input) (old mid : CabinetState) (x : A) → ReadsInputs {A = A} inputs old mid (Ok x) → mid ≡ read_on old mid.unread mid.opens
 read_on-is inputs old mid x read =
     ap (λ (n : Nature). let made : CabinetState = record mid { nature = n } in made) read.nature
     ∙ ap (λ (o : Outputs). let made : CabinetState = record mid { nature = old.nature; outputs = o } in made) read.outputs
     ∙ ap (λ (n : ℕ). let made : CabinetState = record mid { nature = old.nature; outputs = old.outputs; faults_in = n } in made) read.count
     ∙ ap (λ (n : ℕ). let made : CabinetState = record mid { nature = old.nature; outputs = old.outputs; faults_in = old.faults_in; faults_out = n } in made) read.faults_out
+    ∙ ap (λ (n : ℕ). let made : CabinetState = record mid { nature = old.nature; outputs = old.outputs; faults_in = old.faults_in; faults_out = old.faults_out; creates = n } in made) read.creates
+    ∙ ap (λ (t : Turns). let made : CabinetState = record mid { nature = old.nature; outputs = old.outputs; faults_in = old.faults_in; faults_out = old.faults_out; creates = old.creates; turns = t } in made) read.turns
 
-cause_from : (s : Status) (old new : CabinetState) (u : Option (List ℕ)) → HasStatusCause s (read_on old u) new → HasStatusCause s old new
-cause_from Done old new u h = h
-cause_from Usage old new u h = h
-cause_from BadCard old new u h = h
-cause_from Ended old new u h = h
-cause_from ReadFault old new u h = h
-cause_from WriteFault old new u h = h
-cause_from NoMemory old new u h = h
-cause_from Refused old new u h = h
-cause_from Differs old new u h = h
-cause_from BadRow old new u h = h
+cause_from : (s : Status) (old new : CabinetState) (u : Option (List ℕ)) (n : ℕ) → HasStatusCause s (read_on old u n) new → HasStatusCause s old new
+cause_from Done old new u n h = h
+cause_from Usage old new u n h = h
+cause_from BadCard old new u n h = h
+cause_from Ended old new u n h = h
+cause_from ReadFault old new u n h = h
+cause_from WriteFault old new u n h = h
+cause_from NoMemory old new u n h = h
+cause_from Refused old new u n h = h
+cause_from Differs old new u n h = h
+cause_from BadRow old new u n h = h
 
-leaves_from : (s : Status) (old new : CabinetState) (u : Option (List ℕ)) → Leaves s (read_on old u) new → Leaves s old new
-leaves_from Done old new u h = h
-leaves_from Usage old new u h = h
-leaves_from BadCard old new u h = h
-leaves_from Ended old new u h = h
-leaves_from ReadFault old new u h = h
-leaves_from WriteFault old new u h = h
-leaves_from NoMemory old new u h = h
-leaves_from Refused old new u h = h
-leaves_from Differs old new u h = h
-leaves_from BadRow old new u h = h
+leaves_from : (s : Status) (old new : CabinetState) (u : Option (List ℕ)) (n : ℕ) → Leaves s (read_on old u n) new → Leaves s old new
+leaves_from Done old new u n h = h
+leaves_from Usage old new u n h = h
+leaves_from BadCard old new u n h = h
+leaves_from Ended old new u n h = h
+leaves_from ReadFault old new u n h = h
+leaves_from WriteFault old new u n h = h
+leaves_from NoMemory old new u n h = h
+leaves_from Refused old new u n h = h
+leaves_from Differs old new u n h = h
+leaves_from BadRow old new u n h = h
 
-settles_from : (s : Status) (o : Option Outcome) (old new : CabinetState) (u : Option (List ℕ)) → Settles s o (read_on old u) new → Settles s o old new
-settles_from Done o old new u h = h
-settles_from Usage o old new u h = h
-settles_from BadCard o old new u h = h
-settles_from Ended o old new u h = h
-settles_from ReadFault o old new u h = h
-settles_from WriteFault o old new u h = h
-settles_from NoMemory o old new u h = h
-settles_from Refused o old new u h = h
-settles_from Differs o old new u h = h
-settles_from BadRow o old new u h = h
+settles_from : (s : Status) (o : Option Outcome) (old new : CabinetState) (u : Option (List ℕ)) (n : ℕ) → Settles s o (read_on old u n) new → Settles s o old new
+settles_from Done o old new u n h = h
+settles_from Usage o old new u n h = h
+settles_from BadCard o old new u n h = h
+settles_from Ended o old new u n h = h
+settles_from ReadFault o old new u n h = h
+settles_from WriteFault o old new u n h = h
+settles_from NoMemory o old new u n h = h
+settles_from Refused o old new u n h = h
+settles_from Differs o old new u n h = h
+settles_from BadRow o old new u n h = h
 
-ends_from : (s : Status) (o asked : Option Outcome) (old new : CabinetState) (u : Option (List ℕ)) → (IsTrue old.nature.tells → asked ≡ o) → Ends s o (read_on old u) new → Ends s asked old new
-ends_from s o asked old new u same ends = record {
+creates_from : (s : Status) (o : Outcome) (old new : CabinetState) (u : Option (List ℕ)) (n : ℕ) → CreatesOf s o (read_on old u n) new → CreatesOf s o old new
+creates_from Done o old new u n h = h
+creates_from Usage o old new u n h = h
+creates_from BadCard o old new u n h = h
+creates_from Ended o old new u n h = h
+creates_from ReadFault o old new u n h = h
+creates_from WriteFault o old new u n h = h
+creates_from NoMemory o old new u n h = h
+creates_from Refused o old new u n h = h
+creates_from Differs o old new u n h = h
+creates_from BadRow o old new u n h = h
+
+creates_after : {A : Type 0} (inputs : List Input) (s : Status) (o : Outcome) (old mid new : CabinetState) (x : A) → ReadsInputs {A = A} inputs old mid (Ok x) → CreatesOf s o mid new → CreatesOf s o old new
+creates_after inputs s o old mid new x read creates =
+    creates_from s o old new mid.unread mid.opens (subst (λ (c : CabinetState). CreatesOf s o c new) (read_on-is inputs old mid x read) creates)
+
+ends_from : (s : Status) (o asked : Option Outcome) (old new : CabinetState) (u : Option (List ℕ)) (n : ℕ) → (IsTrue old.nature.tells → asked ≡ o) → Ends s o (read_on old u n) new → Ends s asked old new
+ends_from s o asked old new u n same ends = record {
   nature = ends.nature;
-  cause = cause_from s old new u ends.cause;
-  no_record = leaves_from s old new u ends.no_record;
-  outcome = λ tells. rw (same tells) (settles_from s o old new u (ends.outcome tells));
+  cause = cause_from s old new u n ends.cause;
+  no_record = leaves_from s old new u n ends.no_record;
+  outcome = λ tells. rw (same tells) (settles_from s o old new u n (ends.outcome tells));
   calm = λ tells calm fit.
       let run = ends.calm tells calm (rw (same tells) at fit) in
       record { inputs = run.inputs; outputs = run.outputs; read = run.read; write = run.write };
@@ -76,7 +96,7 @@ ends_from s o asked old new u same ends = record {
 
 ends_after : {A : Type 0} (inputs : List Input) (s : Status) (o asked : Option Outcome) (old mid new : CabinetState) (x : A) → ReadsInputs {A = A} inputs old mid (Ok x) → (IsTrue old.nature.tells → asked ≡ o) → Ends s o mid new → Ends s asked old new
 ends_after inputs s o asked old mid new x read same ends =
-    ends_from s o asked old new mid.unread same (subst (λ (c : CabinetState). Ends s o c new) (read_on-is inputs old mid x read) ends)
+    ends_from s o asked old new mid.unread mid.opens same (subst (λ (c : CabinetState). Ends s o c new) (read_on-is inputs old mid x read) ends)
 
 -- a command has cards: of its own, or of the first file that it reads
 pub some_text : (task : Task) → 0 < length (own_texts task) + length (reads task)
@@ -118,6 +138,19 @@ so_far Refused files inputs old new took = took
 so_far Differs files inputs old new took = took
 so_far BadRow files inputs old new took = took
 
+-- each file was opened by one call, whatever is answered then
+opened_so_far : (s : Status) (inputs : List Input) (before now : ℕ) → now ≡ opens_after inputs before → OpenedSoFar s inputs before now
+opened_so_far Done inputs before now is = is
+opened_so_far Usage inputs before now is = is
+opened_so_far BadCard inputs before now is = is
+opened_so_far Ended inputs before now is = is
+opened_so_far ReadFault inputs before now is = opened_all inputs before now is
+opened_so_far WriteFault inputs before now is = is
+opened_so_far NoMemory inputs before now is = opened_all inputs before now is
+opened_so_far Refused inputs before now is = is
+opened_so_far Differs inputs before now is = is
+opened_so_far BadRow inputs before now is = is
+
 -- ---- the three ways in which a reading ends
 
 -- all files were read, and then it ended so
@@ -132,6 +165,8 @@ answered {A = A} task s texts old mid new x read untouched told hold after = rec
     inputs = inputs_from s mid new after.read after.ends.cause ∙ none.inputs;
     read = after.read;
   }) untouched;
+  opened = opened_so_far s (reads task) old.opens new.opens (after.opens ∙ read.opens);
+  created = creates-by task s texts old new (creates_after (reads task) s (outcome_of task texts) old mid new x read after.created);
   taken = λ tells. so_far s old.nature.files (reads task) old.unread new.unread
       (subst (λ (o : Option (List ℕ)). TookOfLast old.nature.files (reads task) old.unread o) (sym after.unread) (read.last tells));
   runs = λ tells ran. subst (λ (o : Option (List (List ℕ))). HoldsOfRuns (cases_in task o)) (sym (told tells)) (hold ran);
@@ -157,6 +192,8 @@ pub failed : {A : Type 0} (task : Task) (old new : CabinetState)
     → IsAnswered (Some task) ReadFault old new
 failed {A = A} task old new read untouched = record {
   unopened = unless-map (reads task) (λ (none : IsUntouched {A = A} old new (Err Failed)). absurd (none.read refl)) untouched;
+  opened = read.opened;
+  created = read.creates;
   taken = read.taken;
   runs = λ tells ran. elim ran [ ];
   ends = ends;
@@ -178,6 +215,8 @@ pub wanting : {A : Type 0} (task : Task) (old new : CabinetState)
     → IsAnswered (Some task) NoMemory old new
 wanting {A = A} task old new read untouched = record {
   unopened = unless-map (reads task) (λ (none : IsUntouched {A = A} old new (Err Wanting)). record { unread = none.unread; inputs = none.inputs; read = λ same. cc }) untouched;
+  opened = read.opened;
+  created = read.creates;
   taken = read.taken;
   runs = λ tells ran. elim ran [ ];
   ends = ends;

@@ -1,4 +1,4 @@
--- One file more: what was read so far, and how much was taken.
+-- One file more: what was read so far, how much was taken, and how often a file was opened.
 use Rattle.std.proofs.Common.{◌≡◌, ◌∙◌, ap, sym, inl, inr, ℕ, ◌+◌, ◌<◌, List, [], ◌∷◌, ◌++◌, length, take, drop, Option, Some, None, IsSome, add-one, arith, subst, refl, append-nil}
 use Rattle.std.proofs.Math.Seq.{take-suc}
 use Rattle.std.proofs.lemmas.List.{get_or-map, length-map, map-append, take-append-drop}
@@ -6,8 +6,9 @@ use Rattle.std.proofs.lemmas.List.Elements.{All-cons, All-nil}
 use Rattle.std.specs.Prelude.{slice_index_or}
 use Rattle.std.specs.declared.alloc.Global.{Global}
 use Rattle.std.specs.declared.vec.Vec.{Vec}
+use Rattle.emtp_io.specs.Cabinet.{one_more as one_more_call}
 use Rattle.emtp_io.specs.Whole.{TookFront}
-use Rattle.emtp_run.specs.Inputs.{Input, TookOfLast, TookOfOne, and_content, content, contents, text_at}
+use Rattle.emtp_run.specs.Inputs.{Input, OpenedSome, TookOfLast, TookOfOne, and_content, content, contents, opens_after, text_at}
 use Rattle.emtp_run.specs.held.Inputs.{FilesAreThere, named_input, named_inputs, texts_of}
 use Rattle.emtp_run.specs.declared.reading.InputFile.{InputFile}
 
@@ -115,6 +116,37 @@ took_stopped files inputs at d old mid new within before (inl took) =
     took_upto files inputs (at + 1) old new (took_more files inputs at d old new within took)
 took_stopped files inputs at d old mid new within before (inr same) =
     took_upto files inputs at old new (subst (λ (o : Option (List ℕ)). TookOfLast files (named_inputs (take at inputs)) old o) (sym same) before)
+
+-- ---- how often `open` was called
+
+opens-last : (inputs : List Input) (input : Input) (count : ℕ) → opens_after (inputs ++ input ∷ []) count ≡ one_more_call (opens_after inputs count)
+opens-last [] input count = refl
+opens-last (first ∷ inputs) input count = opens-last inputs input (one_more_call count)
+
+-- it was called for the first files, and for no other
+opened_front : (inputs more : List Input) (before now : ℕ) → now ≡ opens_after inputs before → OpenedSome (inputs ++ more) before now
+opened_front [] [] before now is = is
+opened_front [] (input ∷ more) before now is = inl is
+opened_front (input ∷ inputs) more before now is = inr (opened_front inputs more (one_more_call before) now is)
+
+pub opened_all : (inputs : List Input) (before now : ℕ) → now ≡ opens_after inputs before → OpenedSome inputs before now
+opened_all inputs before now is = subst (λ (xs : List Input). OpenedSome xs before now) (append-nil inputs) (opened_front inputs [] before now is)
+
+-- for a file more
+pub opens_more : (inputs : List InputFile) (at : ℕ) (d : InputFile) (before mid now : ℕ) → at < length inputs
+    → mid ≡ opens_after (named_inputs (take at inputs)) before → now ≡ one_more_call mid → now ≡ opens_after (named_inputs (take (at + 1) inputs)) before
+opens_more inputs at d before mid now within first more =
+    rw (front_is inputs at d within) (more ∙ ap one_more_call first ∙ sym (opens-last (named_inputs (take at inputs)) (named_input (slice_index_or inputs at d)) before))
+
+-- it stopped behind so many files
+pub opened_upto : (inputs : List InputFile) (at before now : ℕ) → now ≡ opens_after (named_inputs (take at inputs)) before → OpenedSome (named_inputs inputs) before now
+opened_upto inputs at before now is = rw (all_is inputs at) (opened_front (named_inputs (take at inputs)) (named_inputs (drop at inputs)) before now is)
+
+-- it stopped in a file, or where that was to be opened
+pub opened_stopped : (inputs : List InputFile) (at : ℕ) (d : InputFile) (before mid now : ℕ) → at < length inputs
+    → mid ≡ opens_after (named_inputs (take at inputs)) before → OpenedSome (named_input (slice_index_or inputs at d) ∷ []) mid now → OpenedSome (named_inputs inputs) before now
+opened_stopped inputs at d before mid now within first (inl same) = opened_upto inputs at before now (same ∙ first)
+opened_stopped inputs at d before mid now within first (inr more) = opened_upto inputs (at + 1) before now (opens_more inputs at d before mid now within first more)
 
 -- ---- the texts that were read
 

@@ -1,11 +1,11 @@
--- How a call ends that makes a note and nothing else, and that nothing else can happen.
+-- How a call ends that makes a note and nothing else, or stops at an output, and that nothing else can happen.
 use Rattle.std.proofs.Common.{◌≡◌, ◌≢◌, ℕ, ◌≤◌, List, [], ◌∷◌, inl, inr, sym, refl, Some, None, Option, Result, Ok, Err, IsTrue, IsOk, IfSome}
 use Rattle.emtp_io.specs.Cabinet.{CabinetState}
 use Rattle.emtp_io.specs.Writes.{Written}
 use Rattle.emtp_io.specs.held.Writes.{Makes}
 use Rattle.emtp_io.specs.declared.cabinet.Output.TheVariants.{Cfg, Dat}
-use Rattle.emtp_run.specs.Outcome.{Outcome, note, refusal, HasStatusCause, IsComplete, IsNoted, IsWholeOrCut, KeepsRecord, Leaves, Settles}
-use Rattle.emtp_run.specs.held.Outcome.{Ends, LeavesNote}
+use Rattle.emtp_run.specs.Outcome.{Outcome, note, refusal, status_of, HasStatusCause, IsComplete, IsFinished, IsNoted, IsWholeOrCut, KeepsRecord, Leaves, Settles, TriesNote}
+use Rattle.emtp_run.specs.held.Outcome.{Ends, EndsAfterReading, LeavesNote}
 use Rattle.emtp_run.specs.declared.status.Status.{Status}
 use Rattle.emtp_run.specs.declared.status.Status.TheVariants.{Done, Usage, BadCard, Ended, ReadFault, WriteFault, NoMemory, Refused, Differs, BadRow}
 
@@ -22,6 +22,35 @@ no_fault : {T E : Type 0} {old new : CabinetState} {writes : List Written} (resu
     → Makes old new writes result → IsOk result → new.faults_out ≡ old.faults_out
 no_fault (Ok value) makes ok = makes.cause.ok
 no_fault (Err fault) makes ok = cc
+
+-- one call of `create` was made, for the note
+pub note-tried : {T E : Type 0} {old new : CabinetState} {text : List ℕ} (result : Result T E)
+    → Makes old new (note text ∷ []) result → TriesNote old new
+note-tried (Ok value) makes = inl makes.created
+note-tried (Err fault) makes = inr (makes.cause.failed, makes.stopped)
+
+-- ---- a run whose outputs couldn't all be made
+
+run_finished : {X : Type 0} (end : Option X) → IsFinished (status_of end)
+run_finished None = tt
+run_finished (Some end) = tt
+
+pub run-stopped : {T E X : Type 0} {old new : CabinetState} {writes : List Written} {fault : E} (end : Option X)
+    → Makes {T = T} {E = E} old new writes (Err fault) → EndsAfterReading WriteFault (record { status = status_of end; writes = writes }) old new
+run-stopped end makes = record {
+  usage = λ same. cc;
+  read = λ same. cc;
+  unread = makes.unread;
+  opens = makes.opens;
+  created = (run_finished end, makes.stopped);
+  ends = record {
+    nature = makes.nature;
+    cause = (makes.faults_in, makes.cause.failed);
+    no_record = tt;
+    outcome = λ tells. (run_finished end, makes.err tells);
+    calm = λ tells calm fit. let ok = makes.calm tells calm fit in absurd (cc);
+  };
+}
 
 -- ---- what the tables of statuses say of a refusal
 

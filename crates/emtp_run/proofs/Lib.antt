@@ -1,5 +1,7 @@
 mod AfterReading
 mod Contents
+mod Creating
 mod Decks
 mod Endings
 mod Readings
+mod Recording

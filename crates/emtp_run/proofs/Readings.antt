@@ -2,24 +2,28 @@
 use Rattle.std.proofs.Common.{◌≡◌, ◌∙◌, inr, ℕ, ◌+◌, ◌<◌, ◌≤◌, List, [], ◌∷◌, length, take, IsSome, IsOk, Result, Ok, Err, IsTrue, arith, subst}
 use Rattle.std.specs.Prelude.{IsErrAnd, IsErrOf, slice_index_or}
 use Rattle.std.proofs.lemmas.List.{take_all}
-use Rattle.emtp_io.specs.Cabinet.{CabinetState, IsInputCall}
+use Rattle.emtp_io.specs.Cabinet.{CabinetState, IsInputCall, one_more}
 use Rattle.emtp_io.specs.declared.whole.ReadEnd.{ReadEnd}
 use Rattle.emtp_io.specs.declared.whole.ReadEnd.TheVariants.{Failed, NoMemory}
-use Rattle.emtp_run.proofs.Contents.{one_of, there_at, took_more, took_stopped, took_upto}
+use Rattle.emtp_run.proofs.Contents.{one_of, opened_all, opened_stopped, opened_upto, opens_more, there_at, took_more, took_stopped, took_upto}
 use Rattle.emtp_run.specs.Inputs.{Input}
 use Rattle.emtp_run.specs.held.Inputs.{ReadsInputs, named_input, named_inputs}
 use Rattle.emtp_run.specs.declared.reading.InputFile.{InputFile}
 
 -- the file couldn't be opened
 pub reads-refused : {A T E : Type 0} (input : Input) (old new : CabinetState) (fault : E) (result : Result A ReadEnd) → IsErrAnd result (λ e. e ≡ Failed)
-    → IsInputCall {T = T} {E = E} old new (Err fault) → new.unread ≡ old.unread
+    → IsInputCall {T = T} {E = E} old new (Err fault) → new.opens ≡ one_more old.opens → new.unread ≡ old.unread
     → (IsTrue old.nature.calm → IsSome (old.nature.files input.name) → IsOk {T = T} {E = E} (Err fault))
     → ReadsInputs (input ∷ []) old new result
-reads-refused input old new fault (Ok x) is call same never = elim is [ ]
-reads-refused input old new fault (Err e) is call same never = record {
+reads-refused input old new fault (Ok x) is call counted same never = elim is [ ]
+reads-refused input old new fault (Err e) is call counted same never = record {
   nature = call.nature;
   outputs = call.outputs;
   faults_out = call.faults_out;
+  creates = call.creates;
+  turns = call.turns;
+  opens = tt;
+  opened = inr counted;
   failed = λ failed. call.cause.failed;
   memory = λ wanting. absurd (cc);
   count = tt;
@@ -35,10 +39,15 @@ pub reads-more : {A : Type 0} (inputs : List InputFile) (at : ℕ) (d : InputFil
 reads-more inputs at d old mid new x within first second =
     let took = rw first.nature at second.last in
     let last = λ (tells : IsTrue old.nature.tells). took_more old.nature.files inputs at d old.unread new.unread within (took tells) in
+    let opens = opens_more inputs at d old.opens mid.opens new.opens within first.opens second.opens in
     record {
       nature = second.nature ∙ first.nature;
       outputs = second.outputs ∙ first.outputs;
       faults_out = second.faults_out ∙ first.faults_out;
+      creates = second.creates ∙ first.creates;
+      turns = second.turns ∙ first.turns;
+      opens = opens;
+      opened = opened_all (named_inputs (take (at + 1) inputs)) old.opens new.opens opens;
       failed = λ failed. absurd (cc);
       memory = λ wanting. absurd (cc);
       count = second.count ∙ first.count;
@@ -62,6 +71,10 @@ reads-stopped {A = A} {B = B} inputs at d old mid new e (Err f) within is first 
       nature = second.nature ∙ first.nature;
       outputs = second.outputs ∙ first.outputs;
       faults_out = second.faults_out ∙ first.faults_out;
+      creates = second.creates ∙ first.creates;
+      turns = second.turns ∙ first.turns;
+      opens = tt;
+      opened = opened_stopped inputs at d old.opens mid.opens new.opens within first.opens second.opened;
       failed = λ failed. let same = same_fault {A = A} {B = B} e f Failed is failed in rw first.count at (second.failed same);
       memory = λ wanting. let same = same_fault {A = A} {B = B} e f NoMemory is wanting in second.memory same ∙ first.count;
       count = tt;
@@ -78,6 +91,10 @@ reads-wanting inputs at old new e (Err f) none is first = record {
   nature = first.nature;
   outputs = first.outputs;
   faults_out = first.faults_out;
+  creates = first.creates;
+  turns = first.turns;
+  opens = tt;
+  opened = opened_upto inputs at old.opens new.opens first.opens;
   failed = λ failed. absurd (cc);
   memory = λ wanting. first.count;
   count = tt;
@@ -96,6 +113,10 @@ reads-all inputs at old new x past first =
       nature = read.nature;
       outputs = read.outputs;
       faults_out = read.faults_out;
+      creates = read.creates;
+      turns = read.turns;
+      opens = read.opens;
+      opened = read.opened;
       failed = λ failed. absurd (cc);
       memory = λ wanting. absurd (cc);
       count = read.count;

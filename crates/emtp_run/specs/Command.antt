@@ -1,5 +1,5 @@
 -- The table of commands: which files each reads, and what it comes to by what they hold.
-use Rattle.std.specs.Prelude.{◌≡◌, ℕ, ◌+◌, length, List, [], ◌∷◌, ◌++◌, Option, Some, None, option_map, Result, Ok, Err}
+use Rattle.std.specs.Prelude.{◌≡◌, ◌⊎◌, ℕ, ◌+◌, length, List, [], ◌∷◌, ◌++◌, Option, Some, None, IsSomeAnd, option_map, Result, Ok, Err}
 use Rattle.emtp_audit.specs.Audit.{audit_differs}
 use Rattle.emtp_audit.specs.Note.{differs_note, same_text}
 use Rattle.emtp_audit.specs.declared.differs.Differs.{Differs as Difference}
@@ -12,12 +12,15 @@ use Rattle.emtp_card.specs.declared.cards.TheConstants.{MAX_BYTES}
 use Rattle.emtp_card.specs.declared.reason.Bad.{Bad}
 use Rattle.emtp_case.specs.declared.case.Parts.{Parts}
 use Rattle.emtp_io.specs.Cabinet.{CabinetState}
+use Rattle.emtp_io.specs.Writes.{AreCreated, StopsCreating}
+use Rattle.emtp_io.specs.declared.cabinet.Output.{Output}
+use Rattle.emtp_io.specs.declared.cabinet.Output.TheVariants.{Cfg, Dat, Note, Summary as TheSummary}
 use Rattle.emtp_machine.specs.History.{history, samples}
 use Rattle.emtp_phasor_text.specs.Reports.{scan_report, steady_report}
 use Rattle.emtp_phasor_text.specs.declared.report.Report.{Report}
 use Rattle.emtp_phasor_text.specs.declared.report.Report.TheVariants.{Ended as TellsEnd, Refused as TellsRefusal, Summary as TellsSummary}
-use Rattle.emtp_run.specs.Inputs.{Input, contents, text_at, TookOfOne, TookOfLast, UnlessAny}
-use Rattle.emtp_run.specs.Outcome.{Outcome, bad_card, bad_row, ended_alone, refusal, summarised, usage, ran, record_writes, trial_writes, IsUnopened}
+use Rattle.emtp_run.specs.Inputs.{Input, contents, opens_after, text_at, OpenedSome, TookOfOne, TookOfLast, UnlessAny}
+use Rattle.emtp_run.specs.Outcome.{Outcome, bad_card, bad_row, ended_alone, refusal, summarised, usage, ran, record_writes, trial_writes, IsUnopened, TriesNote}
 use Rattle.emtp_run.specs.Reading.{deck}
 use Rattle.emtp_run.specs.TrialDeck.{trial_cards}
 use Rattle.emtp_run.specs.Words.{Task, Audit, Batch, Phasor, Run, Scan, Trial, fits}
@@ -161,3 +164,61 @@ TookSoFar BadRow files inputs old new = TookOfLast files inputs old new
 abbrev pub TakesWithin : Option Task → Status → CabinetState → CabinetState → Type 0
 TakesWithin None status old new = new.unread ≡ old.unread
 TakesWithin (Some task) status old new = TookSoFar status old.nature.files (reads task) old.unread new.unread
+
+-- How often `open` was called, over any cabinet: after a call that came past its reading once for each of these files, in their
+-- order, and else once for each as far as it came.
+abbrev pub OpenedSoFar : Status → List Input → ℕ → ℕ → Type 0
+OpenedSoFar Done inputs before now = now ≡ opens_after inputs before
+OpenedSoFar Usage inputs before now = now ≡ opens_after inputs before
+OpenedSoFar BadCard inputs before now = now ≡ opens_after inputs before
+OpenedSoFar Ended inputs before now = now ≡ opens_after inputs before
+OpenedSoFar ReadFault inputs before now = OpenedSome inputs before now
+OpenedSoFar WriteFault inputs before now = now ≡ opens_after inputs before
+OpenedSoFar NoMemory inputs before now = OpenedSome inputs before now
+OpenedSoFar Refused inputs before now = now ≡ opens_after inputs before
+OpenedSoFar Differs inputs before now = now ≡ opens_after inputs before
+OpenedSoFar BadRow inputs before now = now ≡ opens_after inputs before
+
+abbrev pub OpensOnce : Option Task → Status → CabinetState → CabinetState → Type 0
+OpensOnce None status old new = new.opens ≡ old.opens
+OpensOnce (Some task) status old new = OpenedSoFar status (reads task) old.opens new.opens
+
+-- ---- which outputs are created
+
+-- those of a command that comes to its end, in the order in which they are made
+abbrev pub outputs_of : Task → List Output
+outputs_of (Run files) = Cfg ∷ Dat ∷ Note ∷ []
+outputs_of (Trial number) = TheSummary ∷ []
+outputs_of (Batch files) = TheSummary ∷ []
+outputs_of (Audit files) = TheSummary ∷ []
+outputs_of (Phasor case) = TheSummary ∷ []
+outputs_of (Scan s) = TheSummary ∷ []
+
+-- those of a command that ends early; some never do
+abbrev pub early_outputs_of : Task → Option (List Output)
+early_outputs_of (Run files) = Some (Cfg ∷ Dat ∷ Note ∷ [])
+early_outputs_of (Trial number) = Some (TheSummary ∷ [])
+early_outputs_of (Batch files) = None
+early_outputs_of (Audit files) = None
+early_outputs_of (Phasor case) = Some (Note ∷ [])
+early_outputs_of (Scan s) = None
+
+-- what a status says of the calls of `create`, over any cabinet, whether it tells what its outputs hold or not
+abbrev pub CreatesBy : Task → Status → CabinetState → CabinetState → Type 0
+CreatesBy task Done old new = AreCreated (outputs_of task) old.creates new
+CreatesBy task Usage old new = TriesNote old new
+CreatesBy task BadCard old new = TriesNote old new
+CreatesBy task Ended old new = IsSomeAnd (early_outputs_of task) (λ outputs. AreCreated outputs old.creates new)
+CreatesBy task ReadFault old new = new.creates ≡ old.creates
+CreatesBy task WriteFault old new =
+    StopsCreating (outputs_of task) old.creates new
+    ⊎ IsSomeAnd (early_outputs_of task) (λ outputs. StopsCreating outputs old.creates new)
+CreatesBy task NoMemory old new = new.creates ≡ old.creates
+CreatesBy task Refused old new = TriesNote old new
+CreatesBy task Differs old new = TriesNote old new
+CreatesBy task BadRow old new = TriesNote old new
+
+-- words that don't fit leave their note
+abbrev pub CreatesInTurn : Option Task → Status → CabinetState → CabinetState → Type 0
+CreatesInTurn None status old new = TriesNote old new
+CreatesInTurn (Some task) status old new = CreatesBy task status old new

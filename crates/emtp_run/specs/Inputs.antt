@@ -1,5 +1,6 @@
 -- The files that a command reads, what they hold, and how much of them is taken.
 use Rattle.std.specs.Prelude.{◌≡◌, ◌⊎◌, ℕ, List, [], ◌∷◌, take, Option, Some, None, option_map, slice_index_or}
+use Rattle.emtp_io.specs.Cabinet.{one_more}
 use Rattle.emtp_io.specs.Whole.{TookFront}
 
 -- a file by its name, and the most bytes of it that are read
@@ -32,6 +33,16 @@ abbrev pub TookOfLast : (List ℕ → Option (List ℕ)) → List Input → Opti
 TookOfLast files [] old new = new ≡ old
 TookOfLast files (input ∷ []) old new = TookFront input.bound (files input.name) new
 TookOfLast files (input ∷ next ∷ more) old new = TookOfLast files (next ∷ more) old new
+
+-- a count of calls of `open` after one call for each of these files
+abbrev pub opens_after : List Input → ℕ → ℕ
+opens_after [] count = count
+opens_after (input ∷ more) count = opens_after more (one_more count)
+
+-- `open` was called for some of these files from the first on, once for each
+abbrev pub OpenedSome : List Input → ℕ → ℕ → Type 0
+OpenedSome [] before now = now ≡ before
+OpenedSome (input ∷ more) before now = (now ≡ before) ⊎ OpenedSome more (one_more before) now
 
 -- a fact that is asked where no file is read
 abbrev pub UnlessAny : List Input → Type 0 → Type 0

@@ -5,6 +5,7 @@ pub mod TrialDeck
 pub mod Summary
 pub mod Reading
 pub mod Texts
+pub mod Status
 pub mod Outcome
 pub mod Inputs
 pub mod Command

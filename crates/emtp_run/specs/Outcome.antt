@@ -4,7 +4,7 @@ use Rattle.emtp_card.specs.declared.reason.Bad.{Bad}
 use Rattle.emtp_case.specs.declared.case.Parts.{Parts}
 use Rattle.emtp_comtrade.specs.Record.{cfg_text, dat_text}
 use Rattle.emtp_io.specs.Cabinet.{CabinetState, Rose}
-use Rattle.emtp_io.specs.Writes.{Written, with_all, IsCutShort, AllFit}
+use Rattle.emtp_io.specs.Writes.{Written, with_all, AllFit, AreCreated, IsCutShort, StopsCreating}
 use Rattle.emtp_io.specs.declared.cabinet.Output.TheVariants.{Cfg, Dat, Note, Summary}
 use Rattle.emtp_machine.specs.History.{History, history, samples}
 use Rattle.emtp_run.specs.Note.{usage_note, card_note, row_note}
@@ -160,6 +160,12 @@ Leaves NoMemory old new = new.outputs ≡ old.outputs
 Leaves Refused old new = KeepsRecord old new
 Leaves Differs old new = KeepsRecord old new
 Leaves BadRow old new = KeepsRecord old new
+
+-- One call of `create` was made, for the note: it was created and written, or one of the calls on it failed. So over any cabinet.
+abbrev pub TriesNote : CabinetState → CabinetState → Type 0
+TriesNote old new =
+    AreCreated (Note ∷ []) old.creates new
+    ⊎ (Rose old.faults_out new.faults_out × StopsCreating (Note ∷ []) old.creates new)
 
 -- neither count rose, and no failure is answered
 pub record IsCalmRun (status : Status) (old new : CabinetState) : Type 0 where

@@ -3,7 +3,7 @@ ghost use Rattle.std.specs.Prelude.{◌≡◌, [], ◌∷◌, Some, length};
 ghost use Rattle.emtp_comtrade.specs.held.Record.{AreMultipliers};
 ghost use Rattle.emtp_io.specs.held.Writes.{Makes};
 ghost use Rattle.emtp_machine.specs.History.{history};
-ghost use Rattle.emtp_run.specs.Outcome.{cfg, dat, ended_alone, note, record_writes, refusal, summarised, summary};
+ghost use Rattle.emtp_run.specs.Outcome.{cfg, dat, ended_alone, note, record_writes, refusal, summarised, summary, TriesNote};
 ghost use Rattle.emtp_run.specs.held.Outcome.{writes_of, AreResultsOf, Ends, EndsAfterReading, LeavesNote};
 ghost use Rattle.emtp_run.specs.held.Words.{files_of};
 
@@ -152,6 +152,8 @@ pub fn refuse<C: Cabinet>(cabinet: &mut C, status: Status, text: &[u8]) -> Statu
     requires { LeavesNote status }
     ensures status { result ≡ status }
     ensures unread { (C.state cabinet.new).unread ≡ (C.state cabinet.old).unread }
+    ensures opens { (C.state cabinet.new).opens ≡ (C.state cabinet.old).opens }
+    ensures created { TriesNote (C.state cabinet.old) (C.state cabinet.new) }
     ensures ends { Ends status (Some (refusal status text.now)) (C.state cabinet.old) (C.state cabinet.new) }
 {
     let _ = make_note(cabinet, text);

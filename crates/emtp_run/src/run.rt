@@ -4,7 +4,7 @@ ghost use Rattle.emtp_walk.specs.held.Answer.{IfBad};
 ghost use Rattle.emtp_machine.specs.History.{history};
 ghost use Rattle.emtp_machine.specs.Laws.{EndsWithin, SamplesBalance};
 ghost use Rattle.emtp_machine.specs.held.Machine.{history_of};
-ghost use Rattle.emtp_run.specs.Command.{answer, cases_of, outcome, outcome_of, own_texts, reads, runs, runs_of, OpensNothing, TakesWithin};
+ghost use Rattle.emtp_run.specs.Command.{answer, cases_of, outcome, outcome_of, own_texts, reads, runs, runs_of, CreatesInTurn, OpensNothing, OpensOnce, TakesWithin};
 ghost use Rattle.emtp_run.specs.held.Command.{HoldsOfRuns, IsAnswered};
 ghost use Rattle.emtp_run.specs.held.Inputs.{texts_of};
 ghost use Rattle.emtp_run.specs.Outcome.{ran, status_of, HasRoomFor, HasRun, HasStatusCause, IsCalmRun, IsComplete, Leaves, Settles};
@@ -42,7 +42,10 @@ pub fn emtp<C: Cabinet>(alloc: Global, words: &[String], cabinet: &mut C) -> Sta
     ensures nature { (C.state cabinet.new).nature ≡ (C.state cabinet.old).nature }
     ensures cause { HasStatusCause result (C.state cabinet.old) (C.state cabinet.new) }
 
-    // Over every cabinet, real files included: nothing is made, or no file of a record.
+    // Over every cabinet, real files included: each file is opened by one call, each output created by one, in their order.
+    ensures opened { OpensOnce (fits (texts words.now)) result (C.state cabinet.old) (C.state cabinet.new) }
+    ensures created { CreatesInTurn (fits (texts words.now)) result (C.state cabinet.old) (C.state cabinet.new) }
+    // A refusal makes nothing, or no file of a record.
     ensures no_record { Leaves result (C.state cabinet.old) (C.state cabinet.new) }
 
     // Over a cabinet that tells what it holds.
@@ -52,7 +55,7 @@ pub fn emtp<C: Cabinet>(alloc: Global, words: &[String], cabinet: &mut C) -> Sta
     // Of a file at most its bound is taken, also where a call fails.
     ensures taken { IsTrue (C.state cabinet.old).nature.tells →
         TakesWithin (fits (texts words.now)) result (C.state cabinet.old) (C.state cabinet.new) }
-    // Each sample of a run is that of a record in which the currents at each node or group balance.
+    // Each sample of a run but the first, which is rest, is that of a record in which the currents at each node or group balance.
     ensures residual { IsTrue (C.state cabinet.old).nature.tells → HasRun result →
         All SamplesBalance (cases_of (texts words.now) (C.state cabinet.old).nature.files) }
     ensures early_end { IsTrue (C.state cabinet.old).nature.tells → HasRun result →

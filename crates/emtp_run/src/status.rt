@@ -1,4 +1,6 @@
 //! How a call of the program ends.
+ghost use Rattle.std.specs.Prelude.{◌≡◌};
+ghost use Rattle.emtp_run.specs.Status.{exit_code};
 
 /// How a call of the program ends, with the number that it exits with.
 #[derive(Clone, Copy, Debug, PartialEq, Eq)]
@@ -24,4 +26,13 @@ pub enum Status {
     Differs = 8,
     /// A row of a table of switch times is refused, and the note names its line and item.
     BadRow = 9,
+}
+
+impl Status {
+    /// The number that the program exits with.
+    pub fn code(self) -> u8
+        ensures { result ≡ exit_code self }
+    {
+        self as u8
+    }
 }

@@ -2,7 +2,8 @@
 use Rattle.std.specs.Prelude.{◌≡◌, ◌≢◌, ◌+◌, List, length, IsTrue, Option, Some}
 use Rattle.emtp_case.specs.declared.case.Parts.{Parts}
 use Rattle.emtp_io.specs.Cabinet.{CabinetState}
-use Rattle.emtp_io.specs.Writes.{Written}
+use Rattle.emtp_io.specs.Writes.{Written, AreCreated, StopsCreating}
+use Rattle.emtp_io.specs.held.Writes.{outs}
 use Rattle.emtp_machine.specs.History.{History, history, redone as redone_by, samples as samples_of}
 use Rattle.emtp_run.specs.held.Words.{files_of}
 use Rattle.emtp_run.specs.declared.outputs.Product.{Product}
@@ -10,7 +11,7 @@ use Rattle.emtp_run.specs.declared.outputs.Product.TheVariants.{Record as OfReco
 use Rattle.emtp_run.specs.declared.outputs.Results.{Results}
 use Rattle.emtp_run.specs.declared.status.Status.{Status}
 use Rattle.emtp_run.specs.declared.status.Status.TheVariants.{Done, Usage, BadCard, Ended, ReadFault, WriteFault, NoMemory, Refused, Differs, BadRow}
-use Rattle.emtp_run.specs.Outcome.{Outcome, usage, record_writes, trial_writes, Settles, HasStatusCause, Leaves, IsCalmRun, HasRoomFor}
+use Rattle.emtp_run.specs.Outcome.{Outcome, record_writes, trial_writes, Settles, HasStatusCause, Leaves, IsCalmRun, IsFinished, HasRoomFor, TriesNote}
 
 abbrev pub writes_of : Product → Parts → History → List Written
 writes_of (OfRecord words) case h = record_writes (files_of words) case h
@@ -45,9 +46,24 @@ pub record Ends (status : Status) (o : Option Outcome) (old new : CabinetState) 
   pub outcome : IsTrue old.nature.tells → Settles status o old new
   pub calm : IsTrue old.nature.tells → IsTrue old.nature.calm → HasRoomFor o old.nature.room → IsCalmRun status old new
 
+-- what a status says, over any cabinet, of the calls of `create` that are to make this outcome
+abbrev pub CreatesOf : Status → Outcome → CabinetState → CabinetState → Type 0
+CreatesOf Done o old new = (o.status ≡ Done) × AreCreated (outs o.writes) old.creates new
+CreatesOf Usage o old new = TriesNote old new
+CreatesOf BadCard o old new = TriesNote old new
+CreatesOf Ended o old new = (o.status ≡ Ended) × AreCreated (outs o.writes) old.creates new
+CreatesOf ReadFault o old new = new.creates ≡ old.creates
+CreatesOf WriteFault o old new = IsFinished o.status × StopsCreating (outs o.writes) old.creates new
+CreatesOf NoMemory o old new = new.creates ≡ old.creates
+CreatesOf Refused o old new = TriesNote old new
+CreatesOf Differs o old new = TriesNote old new
+CreatesOf BadRow o old new = TriesNote old new
+
 -- a call that ends so once the words fit and all files were read: it reads no more
 pub record EndsAfterReading (status : Status) (o : Outcome) (old new : CabinetState) : Type 0 where
   pub usage : status ≢ Usage
   pub read : status ≢ ReadFault
   pub unread : new.unread ≡ old.unread
+  pub opens : new.opens ≡ old.opens
+  pub created : CreatesOf status o old new
   pub ends : Ends status (Some o) old new
