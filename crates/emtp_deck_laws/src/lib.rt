@@ -3,7 +3,7 @@
 //!
 //! Each law is a function that does nothing: its clauses are proved, and say what holds of every file. No program calls
 //! them. They are stated over the lines of a file, as `emtp_deck` reads them, and over the cards that `emtp_walk` finds in
-//! them, so this crate stands above both, and nothing stands on it. To use a law in a proof, call it:
+//! them, so this crate stands above both. To use a law in a proof, call it:
 //!
 //! ```text
 //! the_fault_is_the_least();

@@ -12,3 +12,4 @@ pub mod Reactors
 pub mod Directions
 pub mod TableSums
 pub mod Periods
+pub mod Refused
