@@ -1,11 +1,11 @@
 mod Counting
 mod Worked
 mod WorkedRuns
-mod SolvedSteps
+pub mod SolvedSteps
 mod GroupVoltages
 mod ClosedSwitches
 mod ExactSources
-mod NodeCurrents
+pub mod NodeCurrents
 mod NamedNodes
 mod OpenSwitches
 mod Breakers

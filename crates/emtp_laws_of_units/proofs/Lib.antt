@@ -13,3 +13,4 @@ pub mod Directions
 pub mod TableSums
 pub mod Periods
 pub mod Refused
+pub mod ResistorNodes

@@ -3,3 +3,4 @@ pub mod Travel
 pub mod Time
 pub mod Reactor
 pub mod CosineTable
+pub mod Resistor

@@ -14,12 +14,14 @@
 
 mod cosine;
 mod reactor;
+mod resistor;
 mod series;
 mod time;
 mod travel;
 
 pub use cosine::{cosine_repeats_after_its_period, cosine_table_adds_up};
 pub use reactor::{reactor_current_lies_on_its_segment, reactor_flux_follows_the_trapezoidal_rule};
+pub use resistor::resistor_has_the_voltage_of_its_current;
 pub use series::{
     capacitance_follows_the_trapezoidal_rule, inductance_follows_the_trapezoidal_rule,
 };
