@@ -2,8 +2,8 @@
 //!
 //! Each law is a function that does nothing: its clauses are proved, and say what holds of the case that it is given. No
 //! program calls them. They are stated over the history of a case (`emtp_machine`) or over a step of it (`emtp_net`), of
-//! which they need every layer, so this crate stands above them all, and nothing stands on it. To use a law in a proof,
-//! call it:
+//! which they need every layer, so this crate stands above them all, and only other laws stand on it. To use a law
+//! in a proof, call it:
 //!
 //! ```text
 //! closed_switch_has_no_voltage(&case);

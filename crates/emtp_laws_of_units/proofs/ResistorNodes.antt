@@ -1,8 +1,8 @@
 -- The voltage of a node that one resistance leads to ground.
-use Rattle.std.proofs.Common.{◌≡◌, ◌≢◌, ◌∙◌, ◌+◌, ◌*◌, ◌^◌, ◌<◌, ◌≤◌, ◌==◌, ◌||◌, ap, sym, subst, refl, ℕ, zero, suc, ℤ, pos, neg_ℤ, ◌+ℤ◌, ◌-ℤ◌, ◌*ℤ◌, unsigned_abs, if◌then◌else◌, Bool, true, false, List, [], ◌∷◌, length, map, slice_get, slice_index, slice_index_or, ◌≤ℤ◌, Option, Some, None, IsSome, Ok, option_map, inl, inr, arith}
+use Rattle.std.proofs.Common.{◌≡◌, ◌≢◌, ◌∙◌, ◌+◌, ◌*◌, ◌^◌, ◌≤◌, ◌==◌, ◌||◌, ap, sym, subst, refl, ℕ, zero, suc, ℤ, pos, neg_ℤ, ◌+ℤ◌, ◌-ℤ◌, ◌*ℤ◌, unsigned_abs, if◌then◌else◌, Bool, true, false, List, [], ◌∷◌, length, map, slice_get, slice_index, slice_index_or, ◌≤ℤ◌, Option, Some, None, IsSome, Ok, option_map, inl, inr, arith}
 use Rattle.std.specs.List.{range_with_len}
 use Rattle.std.proofs.Math.IntN.{*ℤ_comm}
-use Rattle.std.proofs.lemmas.Bool.{cases_eq, eq-eqb, ne_eqb}
+use Rattle.std.proofs.lemmas.Bool.{eq-eqb, ne_eqb}
 use Rattle.std.proofs.lemmas.Int.{ints, unsigned_abs-mul}
 use Rattle.std.proofs.lemmas.List.FromFn.{get_or-range_with_len}
 use Rattle.std.proofs.lemmas.Nat.{mul-le}
@@ -10,7 +10,7 @@ use Rattle.std.proofs.lemmas.Option.{slice_get_cases, slice_get_within}
 use Rattle.emtp_case.proofs.NodeOrder.{length-order_of}
 use Rattle.emtp_case.specs.Branch.{capacitor_impedance, from_of, inductor_impedance, series_impedance, to_of}
 use Rattle.emtp_case.specs.RowOrder.{has_source, order_of}
-use Rattle.emtp_case.specs.StepRecord.{BranchState, LumpedBranch, StepRecord, lumped_at, lumped_of, no_lumped, voltage_at}
+use Rattle.emtp_case.specs.StepRecord.{BranchState, LumpedBranch, StepRecord, no_lumped, voltage_at}
 use Rattle.emtp_case.specs.Sums.{sum_below}
 use Rattle.emtp_case.specs.held.Case.{IsCase}
 use Rattle.emtp_case.specs.declared.branch.Branch.{Branch}
@@ -28,19 +28,18 @@ use Rattle.emtp_fix.specs.Limit.{in_range, ◌>>=◌}
 use Rattle.emtp_fix.specs.Rounding.{near}
 use Rattle.emtp_fix.specs.declared.limit.TheConstants.{ATTO, LEAST_IMPEDANCE, PICO}
 use Rattle.emtp_laws.proofs.NodeCurrents.{run_law}
-use Rattle.emtp_laws.proofs.SolvedSteps.{step_solved}
-use Rattle.emtp_laws.specs.Nodes.{HasUnknownVoltage, HoldsCurrentLaw, KeepsCurrentLaw, labels_next, leaving_node}
+use Rattle.emtp_laws.proofs.SolvedSteps.{next_made, step_solved}
+use Rattle.emtp_laws.specs.Nodes.{HasUnknownVoltage, KeepsCurrentLaw, labels_next}
 use Rattle.emtp_lumped.specs.Lumps as lumped
-use Rattle.emtp_lumped.specs.held.Step.{HasNoHistory, current_alone}
+use Rattle.emtp_lumped.specs.held.Step.{current_alone}
 use Rattle.emtp_machine.proofs.Chains.{chain}
 use Rattle.emtp_machine.specs.Laws.{records_upto}
 use Rattle.emtp_machine.specs.Next.{next}
 use Rattle.emtp_machine.specs.held.Laws.{IsChain}
 use Rattle.emtp_net.proofs.Bringing.{record_reads, there_is}
 use Rattle.emtp_net.proofs.Nodes.{branch_fits}
-use Rattle.emtp_net.specs.Part.{brought_by, leaving, state_at, state_by, voltages_of}
+use Rattle.emtp_net.specs.Part.{NetworkPart, brought_by, state_at, state_by, voltages_of}
 use Rattle.emtp_net.specs.System.{at_node, branch_sum, sources_into}
-use Rattle.emtp_net.specs.held.Moving.{IsNext}
 use Rattle.emtp_net.specs.held.Part.{network_of}
 use Rattle.emtp_switch.proofs.Flows.{sum_below-none, sum_below-one}
 use Rattle.emtp_switch.specs.Groups.{alone, labels_of}
@@ -48,12 +47,10 @@ use Rattle.emtp_switch.specs.Kinds.{is_branch_at}
 use Rattle.emtp_switch.specs.States.{next_state}
 use Rattle.emtp_switch.specs.held.Currents.{through_switches}
 use Rattle.emtp_laws_of_units.specs.Resistor.{HasOhmsVoltage, LeadsAlone, ObeysOhm}
-use Rattle.emtp_laws_of_units.specs.Time.{IsResistance}
 use Rattle.emtp_laws_of_units.proofs.CommonTimes.{chain_history}
-use Rattle.emtp_laws_of_units.proofs.LineRuns.{next_made}
 use Rattle.emtp_laws_of_units.proofs.LineSteps.{is_next, part_moved}
 use Rattle.emtp_laws_of_units.proofs.Memoryless.{plain_forgets, plain_of}
-use Rattle.emtp_laws_of_units.proofs.Products.{mul_assoc, mul_sub, sub_mul, swapped}
+use Rattle.emtp_laws_of_units.proofs.Products.{mul_assoc, mul_sub, sub_mul}
 
 -- ---- V by R and I
 
@@ -114,7 +111,7 @@ kept case H r b x is past there no_l no_c =
     let made = next_made case H r is in
     let from = part_moved case H made.part made.made in
     let vs = made.part.voltages in
-    let next = is_next case H made.part r from made.voltages made.branches in
+    let next = is_next case H made.part r from made.is in
     let inside = slice_get_within case.branches b (OfLumped x) there in
     let v = item vs x.from -ℤ item vs x.to in
     let old = chain_history case H b x (no_l, no_c) past there in
@@ -124,7 +121,7 @@ kept case H r b x is past there no_l no_c =
     record {
       state = found.0;
       read = record_reads case H vs r b (LumpedBranch found.0) next inside (of ∙ ap (option_map LumpedBranch) found.1);
-      current = subst (λ us. found.0.current ≡ near (near ATTO x.r *ℤ (item us x.from -ℤ item us x.to)) PICO) (sym made.voltages) (c ∙ ap (λ g. near (g *ℤ v) PICO) (plain_is x no_l no_c));
+      current = subst (λ us. found.0.current ≡ near (near ATTO x.r *ℤ (item us x.from -ℤ item us x.to)) PICO) (sym next.voltages) (c ∙ ap (λ g. near (g *ℤ v) PICO) (plain_is x no_l no_c));
     }
   where
     twice : (r : ℤ) → r +ℤ pos 0 +ℤ pos 0 ≡ r
@@ -199,7 +196,7 @@ grounded : (case : Parts) (H : List StepRecord) (r : StepRecord) → next case H
 unfolding voltages_of
 grounded case H r is =
     let made = next_made case H r is in
-    ap (λ vs. slice_index_or vs 0 (pos 0)) (made.voltages ∙ (step_solved case H made.part made.made).voltages)
+    ap (λ vs. slice_index_or vs 0 (pos 0)) (ap (λ (p : NetworkPart). p.voltages) made.is ∙ (step_solved case H made.part made.made).voltages)
 
 at_ends : (case : Parts) (H : List StepRecord) (r : StepRecord) (b n : ℕ) (x : Lumped) → LeadsAlone case b n x → next case H ≡ Ok r → voltage_at x.from r -ℤ voltage_at x.to r ≡ voltage_at n r
 at_ends case H r b n x only is =

@@ -1,10 +1,10 @@
-//! What a case's numbers mean in physical units: inductance, capacitance, travel time and time step, over all cases.
+//! What a case's numbers mean in physical units: ohm, henry, farad, weber and seconds, over all cases.
 //!
-//! The companions of `emtp_lumped`, `emtp_line` and the others are formulas of a time step. These laws say in henry, farad and
-//! seconds what comes of them, with what is rounded in each of their bounds, so that a formula with another factor or a step too
-//! many meets none of them. Each law is a function that does nothing: its clauses are proved, and say what holds of the case that
-//! it is given. No program calls them. They are stated over a step of a branch, or over the history of a case (`emtp_machine`),
-//! so this crate stands above them all, and nothing stands on it. To use a law in a proof, call it:
+//! The companions of `emtp_lumped`, `emtp_line` and the others are formulas of a time step. These laws say in these units what
+//! comes of them, with what is rounded in each of their bounds, so that a formula with another factor or a step too many meets
+//! none of them. Each law is a function that does nothing: its clauses are proved, and say what holds of the case that it is
+//! given. No program calls them. They are stated over a step of a branch, or over the history of a case (`emtp_machine`), so
+//! this crate stands above them all, and nothing stands on it. To use a law in a proof, call it:
 //!
 //! ```text
 //! inductance_follows_the_trapezoidal_rule(&case);
