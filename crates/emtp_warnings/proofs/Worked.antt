@@ -31,8 +31,12 @@ flashover : column_warnings TIME_SWITCH.now 39 (codes "  BUS   SEND        .005 
 flashover = refl
 
 -- 1.5 and 0.25, each one column off
-touching : column_warnings SERIES.now 12 (codes "  SRC   MID                1.5000.25") ≡ of_columns 12 32 33 NumbersTouch ∷ []
+touching : column_warnings SERIES.now 12 (codes "  SRC   MID                1.5000.25") ≡ of_columns 12 32 33 (NumbersTouch 27 38) ∷ []
 touching = refl
+
+-- each number ends with its field, and the first one with its point
+typed_so : column_warnings SERIES.now 12 (codes "  SRC   MID                 600.2.05E5") ≡ []
+typed_so = refl
 
 -- a card as it should be
 right_card : column_warnings SERIES.now 12 (codes "  SRC   MID                  1.0  10.0                                         1") ≡ []

@@ -1,5 +1,5 @@
 -- The warnings of a line's columns, under the ruler of its card.
-use Rattle.std.specs.Prelude.{ℕ, zero, suc, ◌+◌, ◌==◌, length, Bool, not, ◌&&◌, List, [], ◌++◌, Option, Some, None, unwrap_or, if◌then◌else◌}
+use Rattle.std.specs.Prelude.{ℕ, zero, suc, ◌+◌, ◌-◌, ◌==◌, count_by, length, max, min, nat_le, position, take, drop, Bool, not, ◌&&◌, List, [], ◌++◌, Option, Some, None, unwrap_or, if◌then◌else◌}
 use Rattle.std.specs.Char.{is_ascii_digit}
 use Rattle.emtp_card.specs.Field.{byte_in}
 use Rattle.emtp_card.specs.Lines.{is_blank}
@@ -33,17 +33,47 @@ abbrev pub touches : List ℕ → List ℕ → ℕ → Bool
 touches ruler line column =
     is_border (byte_in ruler column) (byte_in ruler (column + 1)) && (not (is_blank (byte_in line column)) && not (is_blank (byte_in line (column + 1))))
 
--- what a column warns of, where the row that it ends begins
-abbrev pub at_column : List ℕ → ℕ → List ℕ → ℕ → Option ℕ → List Warning
-at_column ruler number line column run =
-    when (touches ruler line column) (of_columns number column (column + 1) NumbersTouch)
-    ++ run_warnings number run column (is_unread ruler line (column + 1))
+-- where the field of the next column begins
+abbrev pub first_with : List ℕ → ℕ → ℕ → ℕ
+first_with ruler column first = if byte_in ruler (column + 1) == byte_in ruler column then first else column + 1
+
+-- where the field of a column begins
+abbrev pub first_to : List ℕ → ℕ → ℕ
+first_to ruler zero = 1
+first_to ruler (suc before) = first_with ruler (suc before) (first_to ruler before)
+
+-- how many columns behind a column another mark stands, if one does
+abbrev pub other_behind : List ℕ → ℕ → ℕ → Option ℕ
+other_behind ruler column mark = position (λ next. not (next == mark)) (drop (min column (length ruler)) ruler)
+
+abbrev pub last_by : List ℕ → ℕ → Option ℕ → ℕ
+last_by ruler column (Some more) = column + more
+last_by ruler column None = max (length ruler) column
+
+-- the last column of the field that begins with a column
+abbrev pub last_of : List ℕ → ℕ → ℕ
+last_of ruler column = last_by ruler column (other_behind ruler column (byte_in ruler column))
+
+-- the first number ends with its point, and the second one fills its field: so a line is typed where each number ends with its field
+abbrev pub is_typed_so : List ℕ → ℕ → ℕ → Bool
+is_typed_so line column last =
+    byte_in line column == 46 && nat_le last (length line) && count_by (λ byte. byte == 32) (take (last + 1 - (column + 1)) (drop (column + 1 - 1) line)) == 0
+
+-- the numbers of two fields that touch, where the first one begins
+abbrev pub touch_warnings : List ℕ → ℕ → List ℕ → ℕ → ℕ → List Warning
+touch_warnings ruler number line column first =
+    when (touches ruler line column && not (is_typed_so line column (last_of ruler (column + 1)))) (of_columns number column (column + 1) (NumbersTouch first (last_of ruler (column + 1))))
+
+-- what a column warns of, where the row that it ends begins, and where its field does
+abbrev pub at_column : List ℕ → ℕ → List ℕ → ℕ → Option ℕ → ℕ → List Warning
+at_column ruler number line column run first =
+    touch_warnings ruler number line column first ++ run_warnings number run column (is_unread ruler line (column + 1))
 
 -- what the first columns warn of
 abbrev pub up_to_column : List ℕ → ℕ → List ℕ → ℕ → List Warning
 up_to_column ruler number line zero = []
 up_to_column ruler number line (suc before) =
-    up_to_column ruler number line before ++ at_column ruler number line (suc before) (run_to ruler line (suc before))
+    up_to_column ruler number line before ++ at_column ruler number line (suc before) (run_to ruler line (suc before)) (first_to ruler before)
 
 abbrev pub column_warnings : List ℕ → ℕ → List ℕ → List Warning
 column_warnings ruler number line = up_to_column ruler number line (length line)

@@ -1,7 +1,7 @@
 -- The warnings of the records of a case.
-use Rattle.std.specs.Prelude.{ℕ, ◌+◌, ◌-◌, ◌==◌, ℤ, pos, int_lt, ◌*ℤ◌, count_by, flat_map, slice_get, Bool, true, false, not, ◌&&◌, ◌||◌, List, [], ◌++◌, Option, Some, None, codes}
+use Rattle.std.specs.Prelude.{ℕ, ◌+◌, ◌-◌, ◌==◌, ℤ, pos, int_lt, nat_lt, ◌*ℤ◌, count_by, flat_map, length, min, slice_get, take, Bool, true, false, not, ◌&&◌, ◌||◌, List, [], ◌++◌, Option, Some, None, codes}
 use Rattle.std.specs.Ordering.{int_eq}
-use Rattle.std.specs.Str.{bytes_eq}
+use Rattle.std.specs.Str.{bytes_eq, str_eq_ignore_ascii_case}
 use Rattle.emtp_case.specs.Branch.{from_of, line_of, to_of}
 use Rattle.emtp_case.specs.RunData.{time_of}
 use Rattle.emtp_case.specs.declared.branch.Branch.{Branch}
@@ -13,11 +13,20 @@ use Rattle.emtp_case.specs.declared.source.Shape.TheVariants.{Cosine}
 use Rattle.emtp_case.specs.declared.source.Source.{Source}
 use Rattle.emtp_case.specs.declared.switch.Switch.{Switch}
 use Rattle.emtp_case.specs.declared.switch.SwitchKind.{SwitchKind}
-use Rattle.emtp_case.specs.declared.switch.SwitchKind.TheVariants.{Time}
-use Rattle.emtp_warnings.specs.Finding.{of_columns, when}
-use Rattle.emtp_warnings.specs.declared.finding.Finding.TheVariants.{AfterEnd, EarlyCosine, LoneNode, NeverActs, NoFrequency, NodeZero, OpensFirst, ShortTravel}
-use Rattle.emtp_warnings.specs.declared.finding.Spot.TheVariants.{Line as OfTheLine}
+use Rattle.emtp_case.specs.declared.switch.SwitchKind.TheVariants.{Measuring, Time}
+use Rattle.emtp_warnings.specs.Finding.{of_columns, of_line, when}
+use Rattle.emtp_warnings.specs.declared.finding.Finding.TheVariants.{AfterEnd, CaseAlone, EarlyCosine, LateTravel, LoneNode, NeverActs, NoFrequency, NodeZero, OpensFirst, ShortTravel, SideBySide, SmallCapacitance}
 use Rattle.emtp_warnings.specs.declared.finding.Warning.{Warning}
+
+-- ---- the end of the run
+
+-- the time of the last step
+abbrev pub end_of_run : Parts → ℤ
+end_of_run p = time_of p.run p.run.steps
+
+abbrev pub is_after_end : ℤ → Option ℤ → Bool
+is_after_end last None = false
+is_after_end last (Some time) = int_lt last time
 
 -- ---- nodes
 
@@ -45,10 +54,23 @@ is_zero_name (Some name) = bytes_eq name (codes "0")
 abbrev pub is_node_zero : Parts → ℕ → Bool
 is_node_zero p node = not (node == 0) && is_zero_name (slice_get p.nodes (node - 1))
 
+-- a name that differs in case alone
+abbrev pub is_twin : List ℕ → List ℕ → Bool
+is_twin name other = not (bytes_eq name other) && str_eq_ignore_ascii_case name other
+
+abbrev pub has_twin : List (List ℕ) → Option (List ℕ) → Bool
+has_twin names None = false
+has_twin names (Some name) = not (count_by (is_twin name) names == 0)
+
+-- from that of a node before it
+abbrev pub is_case_alone : Parts → ℕ → Bool
+is_case_alone p node = not (node == 0) && has_twin (take (min (node - 1) (length p.nodes)) p.nodes) (slice_get p.nodes (node - 1))
+
 -- what the end of a branch or a switch warns of, by the columns of its name
 abbrev pub end_warnings : Parts → ℕ → ℕ → ℕ × ℕ → List Warning
 end_warnings p line node columns =
     when (is_lone p node) (of_columns line columns.0 columns.1 LoneNode) ++ when (is_node_zero p node) (of_columns line columns.0 columns.1 NodeZero)
+    ++ when (is_case_alone p node) (of_columns line columns.0 columns.1 CaseAlone)
 
 -- BUS1 and BUS2
 abbrev pub ends_warnings : Parts → ℕ → ℕ → ℕ → List Warning
@@ -73,15 +95,22 @@ abbrev pub is_short : ℤ → Option ℤ → Bool
 is_short dt None = false
 is_short dt (Some delay) = int_lt delay (pos 2 *ℤ dt)
 
+-- of a capacitance that is there
+abbrev pub is_small : Branch → Bool
+is_small (OfLumped b) = int_lt (pos 0) b.c && int_lt b.c (pos 1000)
+is_small other = false
+
+-- what the values of a branch warn of
+abbrev pub value_warnings : Parts → Branch → List Warning
+value_warnings p b =
+    when (is_short p.run.dt (travel_time_of p b)) (of_line (line_of b) ShortTravel)
+    ++ when (is_after_end (end_of_run p) (travel_time_of p b)) (of_line (line_of b) LateTravel)
+    ++ when (is_small b) (of_line (line_of b) SmallCapacitance)
+
 abbrev pub branch_warnings : Parts → Branch → List Warning
-branch_warnings p b =
-    ends_warnings p (line_of b) (from_of b) (to_of b) ++ when (is_short p.run.dt (travel_time_of p b)) (record { spot = OfTheLine (line_of b); finding = ShortTravel })
+branch_warnings p b = ends_warnings p (line_of b) (from_of b) (to_of b) ++ value_warnings p b
 
 -- ---- switches
-
-abbrev pub is_after_end : ℤ → Option ℤ → Bool
-is_after_end last None = false
-is_after_end last (Some time) = int_lt last time
 
 -- the times of a time switch; a switch that never opens has no T-OPEN
 -- before a time, where there is one
@@ -95,12 +124,36 @@ times_warnings last line (Time close open_at margin) =
     ++ when (is_before close open_at) (of_columns line 25 34 OpensFirst)
 times_warnings last line other = []
 
--- the time of the last step
-abbrev pub end_of_run : Parts → ℤ
-end_of_run p = time_of p.run p.run.steps
+-- between the same nodes
+abbrev pub joins_same : Switch → Switch → Bool
+joins_same s other = (s.from == other.from && s.to == other.to) || (s.from == other.to && s.to == other.from)
+
+-- a time before the opening, where there is one
+abbrev pub opens_after : ℤ → Option ℤ → Bool
+opens_after time None = true
+opens_after time (Some open_at) = int_lt time open_at
+
+-- a time switch that closes in the run, and opens after that and after another closing time
+abbrev pub is_closed_after : ℤ → ℤ → ℤ → Option ℤ → Bool
+is_closed_after last time close open_at = not (int_lt last close) && opens_after close open_at && opens_after time open_at
+
+-- both are closed at one time, by their times; a measuring switch is always closed
+abbrev pub are_closed : ℤ → SwitchKind → SwitchKind → Bool
+are_closed last (Time close open_at margin) (Time close' open' margin') = is_closed_after last close' close open_at && is_closed_after last close close' open'
+are_closed last (Time close open_at margin) Measuring = is_closed_after last close close open_at
+are_closed last Measuring (Time close open_at margin) = is_closed_after last close close open_at
+are_closed last Measuring Measuring = true
+are_closed last kind other = false
+
+-- of the switches before it in the case
+abbrev pub is_beside : ℤ → Switch → Switch → Bool
+is_beside last s other = nat_lt other.line s.line && joins_same s other && are_closed last s.kind other.kind
+
+abbrev pub beside_warnings : Parts → Switch → List Warning
+beside_warnings p s = when (not (count_by (is_beside (end_of_run p) s) p.switches == 0)) (of_line s.line SideBySide)
 
 abbrev pub switch_warnings : Parts → Switch → List Warning
-switch_warnings p s = ends_warnings p s.line s.from s.to ++ times_warnings (end_of_run p) s.line s.kind
+switch_warnings p s = ends_warnings p s.line s.from s.to ++ times_warnings (end_of_run p) s.line s.kind ++ beside_warnings p s
 
 -- ---- sources
 

@@ -1,18 +1,23 @@
 -- The text of warnings, a line each.
-use Rattle.std.specs.Prelude.{ℕ, ◌++◌, ◌∷◌, [], List, codes, decimal}
+use Rattle.std.specs.Prelude.{ℕ, ◌+◌, ◌-◌, ◌++◌, ◌∷◌, [], List, Option, Some, None, codes, decimal, drop, max, slice_get, take}
+use Rattle.emtp_card.specs.Field.{trimmed}
 use Rattle.emtp_warnings.specs.declared.finding.Finding.{Finding}
-use Rattle.emtp_warnings.specs.declared.finding.Finding.TheVariants.{AfterEnd, AskedTwice, EarlyCosine, LoneNode, NeverActs, NoFrequency, NodeZero, NotRead, NumbersTouch, OpensFirst, ShortTravel}
+use Rattle.emtp_warnings.specs.declared.finding.Finding.TheVariants.{AfterEnd, AskedTwice, CaseAlone, EarlyCosine, LateTravel, LoneNode, NeverActs, NoFrequency, NodeZero, NotRead, NumbersTouch, OpensFirst, ShortTravel, SideBySide, SmallCapacitance}
 use Rattle.emtp_warnings.specs.declared.finding.Spot.{Spot}
 use Rattle.emtp_warnings.specs.declared.finding.Spot.TheVariants.{Channel, Columns, Line}
 use Rattle.emtp_warnings.specs.declared.finding.Warning.{Warning}
 
 abbrev pub finding_text : Finding → List ℕ
 finding_text NotRead = codes "not read"
-finding_text NumbersTouch = codes "two numbers touch"
+finding_text (NumbersTouch first last) = codes "two numbers touch"
 finding_text LoneNode = codes "no other branch, switch or source has the node"
 finding_text NodeZero = codes "node 0 is not ground"
+finding_text CaseAlone = codes "another node's name differs in case alone"
 finding_text NoFrequency = codes "cosine of frequency 0"
 finding_text ShortTravel = codes "travel time below two steps"
+finding_text LateTravel = codes "travel time after the end of the run"
+finding_text SmallCapacitance = codes "a capacitance below 1 pF; C is in uF"
+finding_text SideBySide = codes "closed beside a switch between the same nodes: one of the two carries nothing"
 finding_text AfterEnd = codes "after the end of the run"
 finding_text EarlyCosine = codes "every case starts at rest"
 finding_text NeverActs = codes "the source never acts"
@@ -27,9 +32,28 @@ spot_text (Columns line first last) = columns_text line first last
 spot_text (Line line) = codes "line " ++ decimal line
 spot_text (Channel place) = codes "channel " ++ decimal place
 
-unfoldable pub warning_line : Warning → List ℕ
-warning_line w = codes "warning, " ++ spot_text w.spot ++ codes ", " ++ finding_text w.finding ++ codes "\n"
+-- what stands in columns, without the outer blanks
+abbrev pub piece : List ℕ → ℕ → ℕ → List ℕ
+piece line first last = trimmed (take (max last (max first 1) + 1 - max first 1) (drop (max first 1 - 1) line))
 
-abbrev pub warnings_text : List Warning → List ℕ
-warnings_text [] = []
-warnings_text (w ∷ ws) = warning_line w ++ warnings_text ws
+unfoldable pub pair_text : List ℕ → List ℕ → List ℕ
+pair_text one other = codes ": " ++ one ++ codes " and " ++ other
+
+abbrev pub pair_of : Option (List ℕ) → ℕ → ℕ → ℕ → ℕ → List ℕ
+pair_of (Some line) at next first last = pair_text (piece line first at) (piece line next last)
+pair_of None at next first last = []
+
+-- two numbers that touch, as they are read
+abbrev pub numbers_by : List (List ℕ) → Spot → Finding → List ℕ
+numbers_by lines (Columns line at next) (NumbersTouch first last) = pair_of (slice_get lines (line - 1)) at next first last
+numbers_by lines spot finding = []
+
+abbrev pub numbers_text : List (List ℕ) → Warning → List ℕ
+numbers_text lines w = numbers_by lines w.spot w.finding
+
+unfoldable pub warning_line : List (List ℕ) → Warning → List ℕ
+warning_line lines w = codes "warning, " ++ spot_text w.spot ++ codes ", " ++ finding_text w.finding ++ numbers_text lines w ++ codes "\n"
+
+abbrev pub warnings_text : List (List ℕ) → List Warning → List ℕ
+warnings_text lines [] = []
+warnings_text lines (w ∷ ws) = warning_line lines w ++ warnings_text lines ws

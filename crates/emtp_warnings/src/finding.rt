@@ -27,15 +27,28 @@ pub enum Finding {
     /// Columns that are not blank, and that no field has.
     NotRead,
     /// The last byte of a number's field and the first byte of the next one's: the number may be one.
-    NumbersTouch,
+    NumbersTouch {
+        /// The first column of the first field.
+        first: usize,
+        /// The last column of the second one.
+        last: usize,
+    },
     /// A node that no other branch, switch or source has.
     LoneNode,
     /// A node whose name is `0`, which is not ground.
     NodeZero,
+    /// A node whose name differs from another one's in case alone.
+    CaseAlone,
     /// A cosine of frequency 0.
     NoFrequency,
     /// A travel time below two steps.
     ShortTravel,
+    /// A travel time after the end of the run.
+    LateTravel,
+    /// A capacitance below 1 pF.
+    SmallCapacitance,
+    /// A switch that is closed while another one between the same nodes is.
+    SideBySide,
     /// A time after the end of the run.
     AfterEnd,
     /// A cosine that begins before the run, which begins at rest.

@@ -1,9 +1,10 @@
 //! The text of warnings, a line each.
 
 ghost use Rattle.std.specs.Prelude.{◌≡◌, ◌++◌, IfOk, OnOk};
-ghost use Rattle.emtp_warnings.specs.WarningText.{columns_text, finding_text, spot_text, warning_line, warnings_text};
+ghost use Rattle.emtp_warnings.specs.WarningText.{columns_text, finding_text, numbers_text, pair_text, piece, spot_text, warning_line, warnings_text};
 
 use crate::finding::{Finding, Spot, Warning};
+use emtp_card::{Cards, columns, trim};
 use emtp_text::{put, put_number};
 use std::alloc::{AllocError, Global};
 
@@ -12,26 +13,71 @@ use std::alloc::{AllocError, Global};
 /// # Errors
 ///
 /// [`AllocError`] where memory is wanting.
-pub fn warnings_text(alloc: Global, found: &[Warning]) -> Result<Vec<u8>, AllocError>
-    ensures { IfOk result (λ text. text.items ≡ warnings_text found.now) }
+pub fn warnings_text(
+    alloc: Global,
+    cards: &Cards<'_>,
+    found: &[Warning],
+) -> Result<Vec<u8>, AllocError>
+    ensures { IfOk result (λ text. text.items ≡ warnings_text cards.now found.now) }
 {
     let mut text = Vec::new(alloc);
     for warning in found {
-        put_warning(&mut text, warning)?;
+        put_warning(&mut text, cards, warning)?;
     }
     Ok(text)
 }
 
 /// Puts the line of a warning after a text.
 #[tactic(auto, unfolding(crate::specs::WarningText::warning_line))]
-fn put_warning(text: &mut Vec<u8>, warning: &Warning) -> Result<(), AllocError>
-    ensures { OnOk result (text.new.items ≡ text.old.items ++ warning_line warning.now) }
+fn put_warning(text: &mut Vec<u8>, cards: &Cards<'_>, warning: &Warning) -> Result<(), AllocError>
+    ensures { OnOk result (text.new.items ≡ text.old.items ++ warning_line cards.now warning.now) }
 {
     put(text, b"warning, ")?;
     put_spot(text, &warning.spot)?;
     put(text, b", ")?;
     put(text, finding_text(warning.finding))?;
+    put_numbers(text, cards, warning)?;
     put(text, b"\n")
+}
+
+/// Puts two numbers that touch after a text, as they are read.
+fn put_numbers(text: &mut Vec<u8>, cards: &Cards<'_>, warning: &Warning) -> Result<(), AllocError>
+    ensures { OnOk result (text.new.items ≡ text.old.items ++ numbers_text cards.now warning.now) }
+{
+    match (warning.spot, warning.finding) {
+        (
+            Spot::Columns {
+                line,
+                first: at,
+                last: next,
+            },
+            Finding::NumbersTouch { first, last },
+        ) => {
+            match cards.lines().get(line.saturating_sub(1) as usize) {
+                Some(bytes) => put_pair(text, piece(bytes, first, at), piece(bytes, next, last)),
+                None => Ok(()),
+            }
+        }
+        _ => Ok(()),
+    }
+}
+
+#[tactic(auto, unfolding(crate::specs::WarningText::pair_text))]
+fn put_pair(text: &mut Vec<u8>, one: &[u8], other: &[u8]) -> Result<(), AllocError>
+    ensures { OnOk result (text.new.items ≡ text.old.items ++ pair_text one.now other.now) }
+{
+    put(text, b": ")?;
+    put(text, one)?;
+    put(text, b" and ")?;
+    put(text, other)
+}
+
+/// What stands in columns, without the outer blanks.
+fn piece(line: &[u8], first: usize, last: usize) -> &[u8]
+    ensures { result.now ≡ piece line.now first last }
+{
+    let first = first.max(1);
+    trim(columns(line, first, last.max(first)))
 }
 
 /// Puts after a text where a warning points.
@@ -70,11 +116,16 @@ fn finding_text(finding: Finding) -> &'static [u8]
 {
     match finding {
         Finding::NotRead => b"not read",
-        Finding::NumbersTouch => b"two numbers touch",
+        Finding::NumbersTouch { .. } => b"two numbers touch",
         Finding::LoneNode => b"no other branch, switch or source has the node",
         Finding::NodeZero => b"node 0 is not ground",
+        Finding::CaseAlone => b"another node's name differs in case alone",
         Finding::NoFrequency => b"cosine of frequency 0",
         Finding::ShortTravel => b"travel time below two steps",
+        Finding::LateTravel => b"travel time after the end of the run",
+        Finding::SmallCapacitance => b"a capacitance below 1 pF; C is in uF",
+        Finding::SideBySide =>
+            b"closed beside a switch between the same nodes: one of the two carries nothing",
         Finding::AfterEnd => b"after the end of the run",
         Finding::EarlyCosine => b"every case starts at rest",
         Finding::NeverActs => b"the source never acts",

@@ -4,6 +4,6 @@ use Rattle.emtp_warnings.proofs.records.add_branch.Goals as goal
 
 pub returns : goal.returns
 returns c =
-    branch-added c.args.parts.now c.args.branch.now c.line.result c.line-2.result c.ends-from.result.0 c.ends-from.result.1 c.is_short.result
-    c.line.ensures c.line-2.ensures (ap (λ (ends : ℕ × ℕ). ends.0) c.ends-from.ensures) (ap (λ (ends : ℕ × ℕ). ends.1) c.ends-from.ensures) c.is_short.ensures
-    c.in_ok-add_ends.ensures c.in_ok-add_short.ensures
+    branch-added c.args.parts.now c.args.branch.now c.line.result c.ends-from.result.0 c.ends-from.result.1
+    c.line.ensures (ap (λ (ends : ℕ × ℕ). ends.0) c.ends-from.ensures) (ap (λ (ends : ℕ × ℕ). ends.1) c.ends-from.ensures)
+    c.in_ok-add_ends.ensures c.in_ok-add_values.ensures
