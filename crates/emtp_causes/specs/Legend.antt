@@ -1,0 +1,79 @@
+-- The names of a card's fields over their columns.
+use Rattle.std.specs.Prelude.{[], ◌==◌, Bool, List, Result, Ok, Err, codes, if◌then◌else◌, length, ℕ}
+use Rattle.emtp_card.specs.Field.{field_of}
+use Rattle.emtp_card.specs.declared.reason.Why.{Why}
+use Rattle.emtp_netcards.specs.BranchCard.{kind_field}
+use Rattle.emtp_netcards.specs.SwitchCard.{type_field}
+use Rattle.emtp_netcards.specs.declared.branch_card.BranchKind.{BranchKind}
+use Rattle.emtp_netcards.specs.declared.branch_card.BranchKind.TheVariants.{Line as LineKind, Reactor as ReactorKind, Resistor as ResistorKind, Second as SecondKind, Series as SeriesKind, Third as ThirdKind}
+use Rattle.emtp_netcards.specs.declared.point_card.PointScale.{PointScale}
+use Rattle.emtp_netcards.specs.declared.point_card.PointScale.TheVariants.{Reactor as OfReactor, Resistor as OfResistor, Table, Times}
+use Rattle.emtp_netcards.specs.declared.switch_card.SwitchType.{SwitchType}
+use Rattle.emtp_netcards.specs.declared.switch_card.SwitchType.TheVariants.{Control as ControlType, Time as TimeType, Valve as ValveType}
+use Rattle.emtp_walk.specs.declared.kind.Kind.{Kind}
+use Rattle.emtp_walk.specs.declared.kind.Kind.TheVariants as read
+
+abbrev pub series_legend : Bool → List ℕ
+series_legend wide =
+    if wide then codes "TYBUS1--BUS2--BUS3--BUS4--R---------------L---------------C---------------     A"
+    else codes "TYBUS1--BUS2--BUS3--BUS4--R-----L-----C-----                                   A"
+
+abbrev pub line_legend : List ℕ
+line_legend = codes "TYBUS1--BUS2--BUS3--BUS4--R-----A-----B-----LENGTHIL                           A"
+
+abbrev pub pseudo_legend : List ℕ
+pseudo_legend = codes "TYBUS1--BUS2--BUS3--BUS4--FLASH-DELAY-JUMP--                                   A"
+
+-- a card of no known type is shown as a series branch
+abbrev pub branch_legend : Bool → Result BranchKind Why → List ℕ
+branch_legend wide (Ok SeriesKind) = series_legend wide
+branch_legend wide (Ok LineKind) = line_legend
+branch_legend wide (Ok SecondKind) = line_legend
+branch_legend wide (Ok ThirdKind) = line_legend
+branch_legend wide (Ok ReactorKind) = pseudo_legend
+branch_legend wide (Ok ResistorKind) = pseudo_legend
+branch_legend wide (Err why) = series_legend wide
+
+-- a formula is known by its blank columns 9 and 10
+abbrev pub extra_legend : List ℕ → List ℕ
+extra_legend line =
+    if length (field_of line 9 10) == 0 then codes "GRNAME--  =EXPRESSION-----------------------------------------------------------"
+    else codes "GRNAME--COSINPUT-.SINPUT-.SINPUT-.SINPUT-.SINPUT-.A-----B-----C-----D-----E-----"
+
+abbrev pub point_legend : PointScale → List ℕ
+point_legend OfResistor = codes "CURRENT---------VOLTAGE/FLUX----"
+point_legend OfReactor = codes "CURRENT---------VOLTAGE/FLUX----"
+point_legend Table = codes "INPUT/CLOSE-----OUTPUT/OPEN-----"
+point_legend Times = codes "INPUT/CLOSE-----OUTPUT/OPEN-----"
+
+abbrev pub time_legend : List ℕ
+time_legend = codes "TYBUS1--BUS2--T-CLOSE---T-OPEN----MARGIN----          WORD------               A"
+
+abbrev pub control_legend : List ℕ
+control_legend = codes "TYBUS1--BUS2--IGNITION--HOLDING---                              CONTRO         A"
+
+abbrev pub switch_legend : Result SwitchType Why → List ℕ
+switch_legend (Ok TimeType) = time_legend
+switch_legend (Ok ValveType) = control_legend
+switch_legend (Ok ControlType) = control_legend
+switch_legend (Err why) = time_legend
+
+abbrev pub names_legend : List ℕ
+names_legend = codes "MKNAME--NAME--NAME--NAME--NAME--NAME--NAME--NAME--NAME--NAME--NAME--NAME--NAME--"
+
+-- nothing where the line has no fields
+abbrev pub legend : List ℕ → Kind → List ℕ
+legend line read.Tolerance = codes "RESIDUAL TOLERANCE      TOLER---"
+legend line read.FirstRun = codes "DELTAT--TMAX----XOPT----COPT----"
+legend line read.SecondRun = codes "IOUT----IPLOT---"
+legend line read.Block = codes "ORNAME--  SINPUT-.SINPUT-.SINPUT-.SINPUT-.SINPUT-.GAIN--LOW---HIGH--LOW---HIGH--"
+legend line (read.Coefficients order) = codes "POWER-----POWER-----POWER-----POWER-----POWER-----POWER-----POWER-----POWER-----"
+legend line read.TacsSource = codes "TYNAME--  AMPLITUDE-FREQ/PER--PHASE/WID-A1--------          TSTART----TSTOP-----"
+legend line read.Extra = extra_legend line
+legend line read.TacsOutput = names_legend
+legend line read.Output = names_legend
+legend line (read.Branch wide) = branch_legend wide (kind_field line)
+legend line (read.Point scale) = point_legend scale
+legend line read.Switch = switch_legend (type_field line)
+legend line read.Source = codes "TYNAME--KIAMPLITUDE-FREQUENCY-T0/PHASE--A1--------          TSTART----TSTOP-----"
+legend line other = []

@@ -1,0 +1,9 @@
+pub mod Kinds
+pub mod Legend
+pub mod Slip
+pub mod Cause
+pub mod Marked
+pub mod Sections
+pub mod Refusal
+pub mod Ends
+pub mod Parts

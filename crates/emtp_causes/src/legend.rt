@@ -1,0 +1,91 @@
+//! The names of a card's fields over their columns.
+
+ghost use Rattle.std.specs.Prelude.{◌≡◌};
+ghost use Rattle.emtp_causes.specs.Legend.{branch_legend, extra_legend, legend, point_legend, switch_legend};
+ghost use Rattle.emtp_netcards.specs.SwitchCard.{type_field};
+
+use emtp_card::{Why, field_text};
+use emtp_netcards::{BranchKind, PointScale, SwitchType, branch_kind, switch_type};
+use emtp_walk::Kind;
+
+/// The names of the fields of the card that a line is read as; nothing where it has no fields.
+pub(crate) fn legend(line: &[u8], kind: Kind) -> &'static [u8]
+    ensures { result.now ≡ legend line.now kind }
+{
+    match kind {
+        Kind::Tolerance => b"RESIDUAL TOLERANCE      TOLER---",
+        Kind::FirstRun => b"DELTAT--TMAX----XOPT----COPT----",
+        Kind::SecondRun => b"IOUT----IPLOT---",
+        Kind::Block =>
+            b"ORNAME--  SINPUT-.SINPUT-.SINPUT-.SINPUT-.SINPUT-.GAIN--LOW---HIGH--LOW---HIGH--",
+        Kind::Coefficients(_) =>
+            b"POWER-----POWER-----POWER-----POWER-----POWER-----POWER-----POWER-----POWER-----",
+        Kind::TacsSource =>
+            b"TYNAME--  AMPLITUDE-FREQ/PER--PHASE/WID-A1--------          TSTART----TSTOP-----",
+        Kind::Extra => extra_legend(line),
+        Kind::TacsOutput | Kind::Output =>
+            b"MKNAME--NAME--NAME--NAME--NAME--NAME--NAME--NAME--NAME--NAME--NAME--NAME--NAME--",
+        Kind::Branch(wide) => branch_legend(wide, &branch_kind(line)),
+        Kind::Point(scale) => point_legend(scale),
+        Kind::Switch => switch_legend(&switch_type(line)),
+        Kind::Source =>
+            b"TYNAME--KIAMPLITUDE-FREQUENCY-T0/PHASE--A1--------          TSTART----TSTOP-----",
+        Kind::Comment
+        | Kind::SectionEnd
+        | Kind::Begin
+        | Kind::Hybrid
+        | Kind::Initial
+        | Kind::Vintage
+        | Kind::After => b"",
+    }
+}
+
+/// A card of no known type is shown as a series branch.
+fn branch_legend(wide: bool, kind: &Result<BranchKind, Why>) -> &'static [u8]
+    ensures { result.now ≡ branch_legend wide kind.now }
+{
+    match kind {
+        Ok(BranchKind::Line) | Ok(BranchKind::Second) | Ok(BranchKind::Third) =>
+            b"TYBUS1--BUS2--BUS3--BUS4--R-----A-----B-----LENGTHIL                           A",
+        Ok(BranchKind::Reactor) | Ok(BranchKind::Resistor) =>
+            b"TYBUS1--BUS2--BUS3--BUS4--FLASH-DELAY-JUMP--                                   A",
+        Ok(BranchKind::Series) | Err(_) => {
+            if wide {
+                b"TYBUS1--BUS2--BUS3--BUS4--R---------------L---------------C---------------     A"
+            } else {
+                b"TYBUS1--BUS2--BUS3--BUS4--R-----L-----C-----                                   A"
+            }
+        }
+    }
+}
+
+/// A formula is known by its blank columns 9 and 10.
+fn extra_legend(line: &[u8]) -> &'static [u8]
+    ensures { result.now ≡ extra_legend line.now }
+{
+    if field_text(line, 9, 10).is_empty() {
+        b"GRNAME--  =EXPRESSION-----------------------------------------------------------"
+    } else {
+        b"GRNAME--COSINPUT-.SINPUT-.SINPUT-.SINPUT-.SINPUT-.A-----B-----C-----D-----E-----"
+    }
+}
+
+fn point_legend(scale: PointScale) -> &'static [u8]
+    ensures { result.now ≡ point_legend scale }
+{
+    match scale {
+        PointScale::Resistor | PointScale::Reactor => b"CURRENT---------VOLTAGE/FLUX----",
+        PointScale::Table | PointScale::Times => b"INPUT/CLOSE-----OUTPUT/OPEN-----",
+    }
+}
+
+fn switch_legend(kind: &Result<SwitchType, Why>) -> &'static [u8]
+    ensures { result.now ≡ switch_legend kind.now }
+{
+    match kind {
+        Ok(SwitchType::Valve) | Ok(SwitchType::Control) =>
+            b"TYBUS1--BUS2--IGNITION--HOLDING---                              CONTRO         A",
+        Ok(SwitchType::Time) | Err(_) =>
+            b"TYBUS1--BUS2--T-CLOSE---T-OPEN----MARGIN----          WORD------               A",
+    }
+}

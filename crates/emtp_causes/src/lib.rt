@@ -1,0 +1,43 @@
+//! What a refusal means, in words: for the person who wrote the cards.
+//!
+//! A note names the line, the column and the reason of the first card that is refused. [`put_refusal`] writes what helps to
+//! mend it: the card below the names of its fields, a mark under the column with the cause in words, as what kind of card the
+//! line was read, and where the sections before it ended. A line that was meant otherwise (a card of ATP that isn't read here,
+//! `blank` in small letters, a comment without its blank) is told as such. [`kind_name`] names what a line is read as.
+//!
+//! The crate stands on the lines of `emtp_card`, on the types of cards of `emtp_netcards`, on what `emtp_walk` says that each
+//! line is read as, and on `emtp_text`.
+//!
+//! ```text
+//! put_refusal(&mut text, &cards, &readings, &bad)?;
+//!     TYBUS1--BUS2--BUS3--BUS4--R-----L-----C-----                                   A
+//!       SRC   BUS                  1,0  40.0
+//!                               ^ a comma; a number has a point
+//!     Line 8 is read as a branch card.
+//! ```
+//!
+//! - `kinds`: the names of kinds of lines
+//! - `legend`: the names of a card's fields over their columns
+//! - `slip`: what a line was meant as that isn't read here
+//! - `cause`: the cause of a refusal
+//! - `marked`: a line, and a mark below it
+//! - `parts`: a mark below an item of a row or a field of a line
+//! - `sections`: where sections end
+//! - `refusal`: the whole text of a refusal
+//! - `ends`: what an early end means, and why a case has no steady state
+#![tactic(auto)]
+
+mod cause;
+mod ends;
+mod kinds;
+mod legend;
+mod marked;
+mod parts;
+mod refusal;
+mod sections;
+mod slip;
+
+pub use ends::{put_end, unsolved};
+pub use kinds::kind_name;
+pub use parts::{put_field, put_item};
+pub use refusal::{put_refusal, put_size};
