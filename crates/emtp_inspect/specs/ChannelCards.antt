@@ -13,8 +13,9 @@ use Rattle.emtp_netcards.specs.declared.output_card.OutputCard.{OutputCard}
 use Rattle.emtp_netcards.specs.declared.output_card.OutputCard.TheVariants.{All as AllNodes, Names}
 use Rattle.emtp_netcards.specs.declared.switch_card.SwitchCard.{SwitchCard}
 use Rattle.emtp_taccards.specs.TacsOutputCard.{tacs_output_card}
-use Rattle.emtp_warnings.specs.declared.section.Section.{Section}
-use Rattle.emtp_warnings.specs.declared.section.Section.TheVariants.{Outputs, Switches, TacsOutputs}
+use Rattle.emtp_walk.specs.declared.kind.Kind.{Kind}
+use Rattle.emtp_walk.specs.declared.kind.Kind.TheVariants.{Output, Switch, TacsOutput}
+use Rattle.emtp_walk.specs.declared.kind.LineReading.{LineReading}
 
 -- ---- how many channels of a group a card asks for
 
@@ -42,32 +43,32 @@ abbrev pub states_asked : Result SwitchCard Bad → ℕ
 states_asked (Ok card) = if card.asked == 0 then 0 else 1
 states_asked (Err bad) = 0
 
-abbrev pub asked_in : Parts → ChannelGroup → ℕ → List ℕ → Section → ℕ
-asked_in p NodeVoltages number line Outputs = nodes_asked (length p.nodes) (output_card number line)
-asked_in p NodeVoltages number line section = 0
-asked_in p BranchValues number line section = branch_asked (branch_in p.run.dt number line section)
-asked_in p SwitchValues number line Switches = switch_asked (switch_card number line)
-asked_in p SwitchValues number line section = 0
-asked_in p ControlVariables number line TacsOutputs = variables_asked (tacs_output_card number line)
-asked_in p ControlVariables number line section = 0
-asked_in p SwitchStates number line Switches = states_asked (switch_card number line)
-asked_in p SwitchStates number line section = 0
+abbrev pub asked_in : Parts → ChannelGroup → ℕ → List ℕ → Kind → ℕ
+asked_in p NodeVoltages number line Output = nodes_asked (length p.nodes) (output_card number line)
+asked_in p NodeVoltages number line kind = 0
+asked_in p BranchValues number line kind = branch_asked (branch_in p.run.dt number line kind)
+asked_in p SwitchValues number line Switch = switch_asked (switch_card number line)
+asked_in p SwitchValues number line kind = 0
+asked_in p ControlVariables number line TacsOutput = variables_asked (tacs_output_card number line)
+asked_in p ControlVariables number line kind = 0
+asked_in p SwitchStates number line Switch = states_asked (switch_card number line)
+asked_in p SwitchStates number line kind = 0
 
 -- ---- the line of each channel
 
 -- the number of a line as often as it asks for a channel of a group
-abbrev pub asking_in : Parts → ChannelGroup → ℕ → List ℕ → Section → List ℕ
-asking_in p group number line section = replicate (asked_in p group number line section) number
+abbrev pub asking_in : Parts → ChannelGroup → ℕ → List ℕ → Kind → List ℕ
+asking_in p group number line kind = replicate (asked_in p group number line kind) number
 
-abbrev pub asking_lines : List (List ℕ) → Parts → ChannelGroup → List ℕ
-asking_lines lines p group = each_card (asking_in p group) lines
+abbrev pub asking_lines : List LineReading → List (List ℕ) → Parts → ChannelGroup → List ℕ
+asking_lines readings lines p group = each_card (asking_in p group) readings lines
 
 -- The line that asks for each channel, in the order of the record (`all_asked` of emtp_deck): group by group, and in each of them
 -- card by card.
-abbrev pub lines_of_channels : List (List ℕ) → Parts → List ℕ
-lines_of_channels lines p =
-    asking_lines lines p NodeVoltages ++ asking_lines lines p BranchValues ++ asking_lines lines p SwitchValues
-    ++ asking_lines lines p ControlVariables ++ asking_lines lines p SwitchStates
+abbrev pub lines_of_channels : List LineReading → List (List ℕ) → Parts → List ℕ
+lines_of_channels readings lines p =
+    asking_lines readings lines p NodeVoltages ++ asking_lines readings lines p BranchValues ++ asking_lines readings lines p SwitchValues
+    ++ asking_lines readings lines p ControlVariables ++ asking_lines readings lines p SwitchStates
 
 -- ---- the text
 
@@ -80,5 +81,5 @@ channel_texts channel [] = []
 channel_texts channel (line ∷ lines) = channel_text channel line ++ channel_texts (channel + 1) lines
 
 -- a line for each channel of a case, by its number from 1
-abbrev pub channels_text : List (List ℕ) → Parts → List ℕ
-channels_text lines p = channel_texts 1 (lines_of_channels lines p)
+abbrev pub channels_text : List LineReading → List (List ℕ) → Parts → List ℕ
+channels_text readings lines p = channel_texts 1 (lines_of_channels readings lines p)

@@ -7,7 +7,8 @@ use Rattle.emtp_deck.specs.declared.copies.ValuesFrom.{ValuesFrom}
 use Rattle.emtp_deck.specs.declared.copies.ValuesFrom.TheVariants.{Card as OwnValues, Earlier, Missing}
 use Rattle.emtp_inspect.specs.EachCard.{branch_in, each_card}
 use Rattle.emtp_netcards.specs.declared.branch_card.BranchCard.{BranchCard}
-use Rattle.emtp_warnings.specs.declared.section.Section.{Section}
+use Rattle.emtp_walk.specs.declared.kind.Kind.{Kind}
+use Rattle.emtp_walk.specs.declared.kind.LineReading.{LineReading}
 
 -- the line of the branch that values come from, where they aren't the card's own; no card of a case lacks them
 abbrev pub line_of_values : ValuesFrom → Option ℕ
@@ -28,9 +29,9 @@ abbrev pub copy_text : ℕ → Option ℕ → List ℕ
 copy_text number None = []
 copy_text number (Some copied) = copy_line number copied
 
-abbrev pub copy_in : Parts → ℕ → List ℕ → Section → List ℕ
-copy_in p number line section = copy_text number (copied_line p (branch_in p.run.dt number line section))
+abbrev pub copy_in : Parts → ℕ → List ℕ → Kind → List ℕ
+copy_in p number line kind = copy_text number (copied_line p (branch_in p.run.dt number line kind))
 
 -- a line for each card of a case that copies
-abbrev pub copies_text : List (List ℕ) → Parts → List ℕ
-copies_text lines p = each_card (copy_in p) lines
+abbrev pub copies_text : List LineReading → List (List ℕ) → Parts → List ℕ
+copies_text readings lines p = each_card (copy_in p) readings lines

@@ -1,10 +1,11 @@
 -- what is told of a file
-pub mod Section
+pub mod KindText
 pub mod EachCard
 pub mod RunCards
 pub mod CopyCards
 pub mod ChannelCards
 pub mod Telling
 -- and what the words ask for, and how a call ends that tells it
+pub mod Misfit
 pub mod Asking
 pub mod Showing

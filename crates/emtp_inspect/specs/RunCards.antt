@@ -1,13 +1,13 @@
 -- What the miscellaneous cards say that no case keeps: TMAX as it was written, and IOUT.
-use Rattle.std.specs.List.{starts_with}
-use Rattle.std.specs.Prelude.{◌++◌, ◌^◌, [], List, Option, Some, None, Result, Ok, Err, codes, decimal, if◌then◌else◌, nat_eq, pos, ℕ, ℤ}
+use Rattle.std.specs.Prelude.{◌++◌, ◌^◌, [], List, Option, Some, None, Result, Ok, Err, codes, decimal, pos, ℕ, ℤ}
 use Rattle.emtp_card.specs.Number.{number_field}
 use Rattle.emtp_card.specs.Whole.{whole_field}
 use Rattle.emtp_card.specs.declared.reason.Why.{Why}
 use Rattle.emtp_inspect.specs.EachCard.{each_card}
 use Rattle.emtp_listing.specs.Entry.{figure_entry, number_entry}
-use Rattle.emtp_warnings.specs.declared.section.Section.{Section}
-use Rattle.emtp_warnings.specs.declared.section.Section.TheVariants.{First, Second}
+use Rattle.emtp_walk.specs.declared.kind.Kind.{Kind}
+use Rattle.emtp_walk.specs.declared.kind.Kind.TheVariants.{FirstRun, SecondRun}
+use Rattle.emtp_walk.specs.declared.kind.LineReading.{LineReading}
 
 -- TMAX, which no card of a case lacks
 abbrev pub end_text : Result (Option ℤ) Why → List ℕ
@@ -32,12 +32,11 @@ unfoldable pub second_text : ℕ → List ℕ → List ℕ
 second_text number line =
     codes "line " ++ decimal number ++ codes ", second miscellaneous card, " ++ print_text (print_of (whole_field line 1 8)) ++ codes "\n"
 
--- the card of the tolerance may stand before the first one
-abbrev pub card_text : ℕ → List ℕ → Section → List ℕ
-card_text number line First = if starts_with nat_eq line (codes "RESIDUAL TOLERANCE") then [] else first_text number line
-card_text number line Second = second_text number line
-card_text number line section = []
+abbrev pub card_text : ℕ → List ℕ → Kind → List ℕ
+card_text number line FirstRun = first_text number line
+card_text number line SecondRun = second_text number line
+card_text number line other = []
 
 -- a line for each of them
-abbrev pub run_text : List (List ℕ) → List ℕ
-run_text lines = each_card card_text lines
+abbrev pub run_text : List LineReading → List (List ℕ) → List ℕ
+run_text readings lines = each_card card_text readings lines

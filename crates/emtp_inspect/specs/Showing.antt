@@ -44,6 +44,11 @@ pub record RefusesWords (status : Status) (old new : CabinetState) : Type 0 wher
   pub unread : new.unread ≡ old.unread
   pub ends : Ends status (Some usage) old new
 
-abbrev pub Inspects : Option (Wanted × List ℕ) → Status → CabinetState → CabinetState → Type 0
-Inspects None status old new = RefusesWords status old new
-Inspects (Some a) status old new = Shows a.0 a.1 status old new
+-- words of a note leave what they mean
+abbrev pub Explains : Option (List ℕ) → Status → CabinetState → CabinetState → Type 0
+Explains None status old new = RefusesWords status old new
+Explains (Some text) status old new = EndsAfterReading status (summarised text) old new
+
+abbrev pub Inspects : Option (Wanted × List ℕ) → Option (List ℕ) → Status → CabinetState → CabinetState → Type 0
+Inspects None meaning status old new = Explains meaning status old new
+Inspects (Some a) meaning status old new = Shows a.0 a.1 status old new

@@ -1,22 +1,25 @@
 -- What is told of the bytes of a file.
-use Rattle.std.specs.Prelude.{◌-◌, ◌++◌, List, [], Option, Some, None, Result, Ok, Err, codes, decimal, length, slice_get, take, ℕ}
+use Rattle.std.specs.Prelude.{◌-◌, ◌++◌, List, [], Option, Some, None, Result, Ok, Err, codes, decimal, length, nat_le, slice_get, take, ℕ}
 use Rattle.emtp_card.specs.Cards.{size_fault}
 use Rattle.emtp_card.specs.Lines.{lines_of}
 use Rattle.emtp_card.specs.declared.reason.Bad.{Bad}
 use Rattle.emtp_case.specs.declared.case.Parts.{Parts}
+use Rattle.emtp_causes.specs.Kinds.{kind_name}
+use Rattle.emtp_causes.specs.Refusal.{refusal_text, size_text}
 use Rattle.emtp_deck.specs.Deck.{deck_of}
 use Rattle.emtp_inspect.specs.ChannelCards.{channels_text}
 use Rattle.emtp_inspect.specs.CopyCards.{copies_text}
 use Rattle.emtp_inspect.specs.RunCards.{run_text}
-use Rattle.emtp_inspect.specs.Section.{place_before, section_text, whole_count}
+use Rattle.emtp_inspect.specs.KindText.{kinds_text, section_text}
 use Rattle.emtp_inspect.specs.declared.telling.Told.{Told}
 use Rattle.emtp_inspect.specs.declared.telling.Told.TheVariants.{Answer, Refusal}
 use Rattle.emtp_inspect.specs.declared.words.Wanted.{Wanted}
-use Rattle.emtp_inspect.specs.declared.words.Wanted.TheVariants.{Listing, WarningCount}
+use Rattle.emtp_inspect.specs.declared.words.Wanted.TheVariants.{Cause, Kinds, Listing, WarningCount}
 use Rattle.emtp_listing.specs.Lines.{lines_text}
 use Rattle.emtp_listing.specs.Listing.{listing}
 use Rattle.emtp_run.specs.Note.{card_note}
-use Rattle.emtp_walk.specs.declared.deck.Place.{Place}
+use Rattle.emtp_walk.specs.Readings.{line_readings}
+use Rattle.emtp_walk.specs.declared.kind.LineReading.{LineReading}
 use Rattle.emtp_warnings.specs.WarningText.{warnings_text}
 use Rattle.emtp_warnings.specs.Warnings.{warnings}
 
@@ -48,36 +51,52 @@ listed_front lines count = listed_of (lines_text (take count lines) ++ ends_text
 -- ---- a card that is refused
 
 -- the whole records before it, its note, and as what it was read
-abbrev pub refused_at : List (List ℕ) → Bad → Option Place → List ℕ
-refused_at lines bad place =
-    (listed_front lines (whole_count place (slice_get lines (bad.line - 1)) (bad.line - 1)) ++ card_note bad) ++ section_text bad.line (slice_get lines (bad.line - 1)) place
+abbrev pub refused_by : List (List ℕ) → Bad → Option LineReading → List ℕ
+refused_by lines bad None = card_note bad
+refused_by lines bad (Some read) =
+    (listed_front lines (read.first - 1) ++ card_note bad) ++ section_text bad.line (nat_le bad.line (length lines)) (kind_name read.kind)
 
-abbrev pub refused_text : List (List ℕ) → Bad → List ℕ
-refused_text lines bad = refused_at lines bad (place_before lines (bad.line - 1))
+abbrev pub refused_text : List LineReading → List (List ℕ) → Bad → List ℕ
+refused_text readings lines bad = refused_by lines bad (slice_get readings (bad.line - 1))
 
 -- ---- a case that is accepted
 
 -- what the cards say that no case keeps: the miscellaneous ones, those that copy, and those that ask for channels
-abbrev pub cards_text : List (List ℕ) → Parts → List ℕ
-cards_text lines case = run_text lines ++ copies_text lines case ++ channels_text lines case
+abbrev pub cards_text : List LineReading → List (List ℕ) → Parts → List ℕ
+cards_text readings lines case = run_text readings lines ++ copies_text readings lines case ++ channels_text readings lines case
 
--- its listing, what the cards say besides, and below it its warnings; or how many these are
-abbrev pub answer_text : Wanted → List (List ℕ) → Parts → List ℕ
-answer_text Listing lines case = listing case ++ cards_text lines case ++ warnings_text (warnings lines case)
-answer_text WarningCount lines case = decimal (length (warnings lines case)) ++ codes "\n"
+-- its warnings, and behind them its listing and what the cards say besides
+abbrev pub listing_text : List LineReading → List (List ℕ) → Parts → List ℕ
+listing_text readings lines case = warnings_text lines (warnings readings lines case) ++ listing case ++ cards_text readings lines case
+
+-- or how many these are
+abbrev pub count_text : List LineReading → List (List ℕ) → Parts → List ℕ
+count_text readings lines case = decimal (length (warnings readings lines case)) ++ codes "\n"
 
 -- ---- the whole
 
-abbrev pub told_case : Wanted → List (List ℕ) → Result Parts Bad → Told
-told_case wanted lines (Ok case) = Answer (answer_text wanted lines case)
-told_case wanted lines (Err bad) = Refusal (refused_text lines bad)
+abbrev pub told_case : (List LineReading → List (List ℕ) → Parts → List ℕ) → List LineReading → List (List ℕ) → Result Parts Bad → Told
+told_case text readings lines (Ok case) = Answer (text readings lines case)
+told_case text readings lines (Err bad) = Refusal (refused_text readings lines bad)
+
+-- what helps to mend a card that is refused; nothing of a case
+abbrev pub cause_of : List LineReading → List (List ℕ) → Result Parts Bad → List ℕ
+cause_of readings lines (Ok case) = []
+cause_of readings lines (Err bad) = refusal_text readings lines bad
 
 abbrev pub told_of_lines : Wanted → List (List ℕ) → Told
-told_of_lines wanted lines = told_case wanted lines (deck_of lines)
+told_of_lines Listing lines = told_case listing_text (line_readings lines) lines (deck_of lines)
+told_of_lines WarningCount lines = told_case count_text (line_readings lines) lines (deck_of lines)
+told_of_lines Kinds lines = Answer (kinds_text (length lines) 1 (line_readings lines))
+told_of_lines Cause lines = Answer (cause_of (line_readings lines) lines (deck_of lines))
 
 -- of too many lines or bytes none are read
+abbrev pub told_unread : Wanted → Bad → Told
+told_unread Cause bad = Answer size_text
+told_unread wanted bad = Refusal (card_note bad)
+
 abbrev pub told_sized : Wanted → Option Bad → List (List ℕ) → Told
-told_sized wanted (Some bad) lines = Refusal (card_note bad)
+told_sized wanted (Some bad) lines = told_unread wanted bad
 told_sized wanted None lines = told_of_lines wanted lines
 
 abbrev pub told_of : Wanted → List ℕ → Told

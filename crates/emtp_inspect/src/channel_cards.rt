@@ -2,19 +2,19 @@
 
 ghost use Rattle.std.specs.Prelude.{◌≡◌, ◌++◌, ◌≤◌, IfOk, OnOk, count_by, is_some, length, replicate};
 ghost use Rattle.emtp_deck.specs.Channels.{channel_count};
-ghost use Rattle.emtp_inspect.specs.ChannelCards.{asked_in, asking_in, asking_lines, branch_asked, channel_text, channel_texts, channels_text, lines_of_channels, nodes_asked, states_asked, switch_asked, variables_asked};
-ghost use Rattle.emtp_inspect.specs.EachCard.{branch_in, given_by};
+ghost use Rattle.emtp_inspect.specs.ChannelCards.{asked_in, asking_lines, branch_asked, channel_text, channel_texts, channels_text, lines_of_channels, nodes_asked, states_asked, switch_asked, variables_asked};
+ghost use Rattle.emtp_inspect.specs.EachCard.{branch_in};
 ghost use Rattle.emtp_netcards.specs.OutputCard.{output_card};
 ghost use Rattle.emtp_netcards.specs.SwitchCard.{switch_card};
 ghost use Rattle.emtp_taccards.specs.TacsOutputCard.{tacs_output_card};
 
 use crate::each_card::branch_in;
-use emtp_card::{Cards, Line, MAX_BYTES, comment};
+use emtp_card::{Cards, Line, MAX_BYTES};
 use emtp_case::{Case, Name};
 use emtp_netcards::{OutputCard, outputs, switch};
 use emtp_taccards::tacs_outputs;
 use emtp_text::{put, put_number};
-use emtp_warnings::{Section, next_section};
+use emtp_walk::{Kind, LineReading, read_at};
 use std::alloc::{AllocError, Global};
 
 /// What channels are of. A record has the channels of one group behind those of the group before it.
@@ -37,24 +37,60 @@ pub(crate) fn put_channels(
     alloc: Global,
     out: &mut Vec<u8>,
     cards: &Cards<'_>,
+    readings: &[LineReading],
     case: &Case,
 ) -> Result<(), AllocError>
-    ensures { OnOk result (out.new.items ≡ out.old.items ++ channels_text cards.now case.now.parts) }
+    ensures { OnOk result (out.new.items ≡ out.old.items ++ channels_text readings.now cards.now case.now.parts) }
 {
-    let lines = lines_of_channels(alloc, cards, case)?;
+    let lines = lines_of_channels(alloc, cards, readings, case)?;
     put_lines(out, &lines)
 }
 
 /// The line of the card that asks for each channel, in the order of the record.
-fn lines_of_channels(alloc: Global, cards: &Cards<'_>, case: &Case) -> Result<Vec<u32>, AllocError>
-    ensures { IfOk result (λ lines. lines.items ≡ lines_of_channels cards.now case.now.parts) }
+fn lines_of_channels(
+    alloc: Global,
+    cards: &Cards<'_>,
+    readings: &[LineReading],
+    case: &Case,
+) -> Result<Vec<u32>, AllocError>
+    ensures { IfOk result (λ lines. lines.items ≡ lines_of_channels readings.now cards.now case.now.parts) }
 {
     let mut lines = Vec::new(alloc);
-    add_group(&mut lines, ChannelGroup::NodeVoltages, cards, case)?;
-    add_group(&mut lines, ChannelGroup::BranchValues, cards, case)?;
-    add_group(&mut lines, ChannelGroup::SwitchValues, cards, case)?;
-    add_group(&mut lines, ChannelGroup::ControlVariables, cards, case)?;
-    add_group(&mut lines, ChannelGroup::SwitchStates, cards, case)?;
+    add_group(
+        &mut lines,
+        ChannelGroup::NodeVoltages,
+        cards,
+        readings,
+        case,
+    )?;
+    add_group(
+        &mut lines,
+        ChannelGroup::BranchValues,
+        cards,
+        readings,
+        case,
+    )?;
+    add_group(
+        &mut lines,
+        ChannelGroup::SwitchValues,
+        cards,
+        readings,
+        case,
+    )?;
+    add_group(
+        &mut lines,
+        ChannelGroup::ControlVariables,
+        cards,
+        readings,
+        case,
+    )?;
+    add_group(
+        &mut lines,
+        ChannelGroup::SwitchStates,
+        cards,
+        readings,
+        case,
+    )?;
     Ok(lines)
 }
 
@@ -63,36 +99,17 @@ fn add_group(
     lines: &mut Vec<u32>,
     group: ChannelGroup,
     cards: &Cards<'_>,
+    readings: &[LineReading],
     case: &Case,
 ) -> Result<(), AllocError>
-    ensures { OnOk result (lines.new.items ≡ lines.old.items ++ asking_lines cards.now case.now.parts group) }
+    ensures { OnOk result (lines.new.items ≡ lines.old.items ++ asking_lines readings.now cards.now case.now.parts group) }
 {
-    let mut section = Section::Begin;
-    for at in 0..cards.len() {
+    for at in 0..cards.len().min(readings.len()) {
         let line = cards.line(at);
-        add_line(lines, group, &line, section, case)?;
-        section = next_section(&line, section);
+        let read = read_at(readings, at);
+        add_times(lines, asked_in(case, group, &line, read.kind), line.number)?;
     }
     Ok(())
-}
-
-/// Adds the number of a line as often as it asks for a channel of a group.
-fn add_line(
-    lines: &mut Vec<u32>,
-    group: ChannelGroup,
-    line: &Line<'_>,
-    section: Section,
-    case: &Case,
-) -> Result<(), AllocError>
-    requires { length line.now.bytes.now ≤ MAX_BYTES }
-    ensures { OnOk result (lines.new.items ≡ lines.old.items
-        ++ given_by (asking_in case.now.parts group) line.now.number line.now.bytes.now section) }
-{
-    if comment(line.bytes) {
-        Ok(())
-    } else {
-        add_times(lines, asked_in(case, group, line, section), line.number)
-    }
 }
 
 /// Adds a number so many times.
@@ -106,16 +123,16 @@ fn add_times(lines: &mut Vec<u32>, count: usize, number: u32) -> Result<(), Allo
 }
 
 /// How many channels of a group a card asks for.
-fn asked_in(case: &Case, group: ChannelGroup, line: &Line<'_>, section: Section) -> usize
+fn asked_in(case: &Case, group: ChannelGroup, line: &Line<'_>, kind: Kind) -> usize
     requires { length line.now.bytes.now ≤ MAX_BYTES }
-    ensures { result ≡ asked_in case.now.parts group line.now.number line.now.bytes.now section }
+    ensures { result ≡ asked_in case.now.parts group line.now.number line.now.bytes.now kind }
 {
-    match (group, section) {
-        (ChannelGroup::NodeVoltages, Section::Outputs) => nodes_asked(case, line),
-        (ChannelGroup::BranchValues, _) => branch_asked(case, line, section),
-        (ChannelGroup::SwitchValues, Section::Switches) => switch_asked(line),
-        (ChannelGroup::ControlVariables, Section::TacsOutputs) => variables_asked(line),
-        (ChannelGroup::SwitchStates, Section::Switches) => states_asked(line),
+    match (group, kind) {
+        (ChannelGroup::NodeVoltages, Kind::Output) => nodes_asked(case, line),
+        (ChannelGroup::BranchValues, _) => branch_asked(case, line, kind),
+        (ChannelGroup::SwitchValues, Kind::Switch) => switch_asked(line),
+        (ChannelGroup::ControlVariables, Kind::TacsOutput) => variables_asked(line),
+        (ChannelGroup::SwitchStates, Kind::Switch) => states_asked(line),
         _ => 0,
     }
 }
@@ -149,11 +166,11 @@ fn name_count(names: &[Option<Name>]) -> usize
     names.iter().filter(|name| name.is_some()).count()
 }
 
-fn branch_asked(case: &Case, line: &Line<'_>, section: Section) -> usize
+fn branch_asked(case: &Case, line: &Line<'_>, kind: Kind) -> usize
     requires { length line.now.bytes.now ≤ MAX_BYTES }
-    ensures { result ≡ branch_asked (branch_in case.now.parts.run.dt line.now.number line.now.bytes.now section) }
+    ensures { result ≡ branch_asked (branch_in case.now.parts.run.dt line.now.number line.now.bytes.now kind) }
 {
-    match branch_in(case, line, section) {
+    match branch_in(case, line, kind) {
         Some(card) => channel_count(card.asked),
         None => 0,
     }

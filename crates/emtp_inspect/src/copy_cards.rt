@@ -5,50 +5,33 @@ ghost use Rattle.std.specs.Prelude.{◌≡◌, ◌++◌, ◌≤◌, ◌<◌, IfS
 ghost use Rattle.std.specs.Str.{bytes_eq};
 ghost use Rattle.emtp_deck.specs.Copies.{earlier_of, type_of_kind, values_from};
 ghost use Rattle.emtp_inspect.specs.CopyCards.{copied_line, copies_text, copy_in, copy_line, copy_text, line_of_values};
-ghost use Rattle.emtp_inspect.specs.EachCard.{branch_in, given_by};
+ghost use Rattle.emtp_inspect.specs.EachCard.{branch_in};
 ghost use Rattle.emtp_sense.specs.Names.{node_number};
 
 use crate::each_card::branch_in;
-use emtp_card::{Cards, Line, MAX_BYTES, comment};
+use emtp_card::{Cards, Line, MAX_BYTES};
 use emtp_case::{Case, MOST_NODES, Name};
 use emtp_deck::first_of_kind;
 use emtp_netcards::{BranchCard, BranchKind, BranchValues};
 use emtp_text::{put, put_number};
-use emtp_warnings::{Section, next_section};
+use emtp_walk::{Kind, LineReading, read_at};
 use std::alloc::AllocError;
 
 /// Puts a line after a text for each card of a case that copies.
 pub(crate) fn put_copies(
     out: &mut Vec<u8>,
     cards: &Cards<'_>,
+    readings: &[LineReading],
     case: &Case,
 ) -> Result<(), AllocError>
-    ensures { OnOk result (out.new.items ≡ out.old.items ++ copies_text cards.now case.now.parts) }
+    ensures { OnOk result (out.new.items ≡ out.old.items ++ copies_text readings.now cards.now case.now.parts) }
 {
-    let mut section = Section::Begin;
-    for at in 0..cards.len() {
+    for at in 0..cards.len().min(readings.len()) {
         let line = cards.line(at);
-        put_line(out, &line, section, case)?;
-        section = next_section(&line, section);
+        let read = read_at(readings, at);
+        put_copy(out, line.number, copied_line(case, &line, read.kind))?;
     }
     Ok(())
-}
-
-fn put_line(
-    out: &mut Vec<u8>,
-    line: &Line<'_>,
-    section: Section,
-    case: &Case,
-) -> Result<(), AllocError>
-    requires { length line.now.bytes.now ≤ MAX_BYTES }
-    ensures { OnOk result (out.new.items ≡ out.old.items
-        ++ given_by (copy_in case.now.parts) line.now.number line.now.bytes.now section) }
-{
-    if comment(line.bytes) {
-        Ok(())
-    } else {
-        put_copy(out, line.number, copied_line(case, line, section))
-    }
 }
 
 fn put_copy(out: &mut Vec<u8>, number: u32, copied: Option<u32>) -> Result<(), AllocError>
@@ -72,11 +55,11 @@ fn put_copied(out: &mut Vec<u8>, number: u32, copied: u32) -> Result<(), AllocEr
 }
 
 /// The line of the card that the card of a line copies, if it copies one.
-fn copied_line(case: &Case, line: &Line<'_>, section: Section) -> Option<u32>
+fn copied_line(case: &Case, line: &Line<'_>, kind: Kind) -> Option<u32>
     requires { length line.now.bytes.now ≤ MAX_BYTES }
-    ensures { result ≡ copied_line case.now.parts (branch_in case.now.parts.run.dt line.now.number line.now.bytes.now section) }
+    ensures { result ≡ copied_line case.now.parts (branch_in case.now.parts.run.dt line.now.number line.now.bytes.now kind) }
 {
-    match branch_in(case, line, section) {
+    match branch_in(case, line, kind) {
         Some(card) => line_of_values(case, &card),
         None => None,
     }

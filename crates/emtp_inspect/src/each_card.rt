@@ -7,18 +7,15 @@ ghost use Rattle.emtp_netcards.specs.BranchCard.{branch_card};
 use emtp_card::{Line, MAX_BYTES};
 use emtp_case::Case;
 use emtp_netcards::{BranchCard, branch};
-use emtp_warnings::Section;
+use emtp_walk::Kind;
 
 /// The branch card of a line, if it is one.
-pub(crate) fn branch_in(case: &Case, line: &Line<'_>, section: Section) -> Option<BranchCard>
+pub(crate) fn branch_in(case: &Case, line: &Line<'_>, kind: Kind) -> Option<BranchCard>
     requires { length line.now.bytes.now ≤ MAX_BYTES }
-    ensures { result ≡ branch_in case.now.parts.run.dt line.now.number line.now.bytes.now section }
+    ensures { result ≡ branch_in case.now.parts.run.dt line.now.number line.now.bytes.now kind }
 {
-    match section {
-        Section::Start => read_branch(case, line, false),
-        Section::Branches(wide) | Section::Waiting(wide) | Section::Third(wide) => {
-            read_branch(case, line, wide)
-        }
+    match kind {
+        Kind::Branch(wide) => read_branch(case, line, wide),
         _ => None,
     }
 }

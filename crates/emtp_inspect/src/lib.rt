@@ -1,7 +1,7 @@
 //! The command `show CASE`: what was read of a case.
 //!
 //! [`inspect`] reads the file of a case, and leaves the listing of its records (`emtp_listing`) with what its cards say
-//! besides, and the warnings below it (`emtp_warnings`), or how many warnings there are; or it tells which card is refused, as
+//! besides, and the warnings in front of it (`emtp_warnings`), or how many warnings there are; or it tells which card is refused, as
 //! what it was read, and the records before it. It stands on `emtp_deck` for cases, on `emtp_walk` for the place of a card, on
 //! `emtp_netcards` and `emtp_taccards` for cards, on `emtp_io` for the files, and on `emtp_run` for the reading of a file, for
 //! the outputs and for their statuses and notes.
@@ -15,14 +15,18 @@
 //! - `showing`: the file that is read, and the output that is made
 //! - `telling`: the text that the bytes of a file give
 //! - `each_card`, `run_cards`, `copy_cards`, `channel_cards`: what the cards say that no case keeps
-//! - `section`: as what a card is read
+//! - `kind_text`: as what a line is read
+//! - `explaining`: what words of a note mean
+//! - `misfit`: why words are no command
 #![tactic(auto)]
 
 mod channel_cards;
 mod copy_cards;
 mod each_card;
+mod explaining;
+mod kind_text;
+mod misfit;
 mod run_cards;
-mod section;
 mod showing;
 mod telling;
 mod words;

@@ -1,48 +1,37 @@
 //! What the miscellaneous cards say that no case keeps.
 
 ghost use Rattle.std.specs.Prelude.{◌≡◌, ◌++◌, ◌≤◌, OnOk, length};
-ghost use Rattle.emtp_inspect.specs.EachCard.{given_by};
 ghost use Rattle.emtp_inspect.specs.RunCards.{card_text, end_text, first_text, print_of, print_text, run_text, second_text};
 
-use emtp_card::{Cards, Line, Why, comment, field_number, field_whole};
+use emtp_card::{Cards, Line, Why, field_number, field_whole};
 use emtp_text::{put, put_fixed, put_number};
-use emtp_warnings::{Section, next_section};
+use emtp_walk::{Kind, LineReading, read_at};
 use std::alloc::AllocError;
 
 /// The greatest TMAX, in ps.
 const LATEST: i64 = 1_000_000_000_000_000_000;
 
 /// Puts a line for each miscellaneous card after a text: the first one with TMAX, the second with IOUT.
-pub(crate) fn put_run_cards(out: &mut Vec<u8>, cards: &Cards<'_>) -> Result<(), AllocError>
-    ensures { OnOk result (out.new.items ≡ out.old.items ++ run_text cards.now) }
+pub(crate) fn put_run_cards(
+    out: &mut Vec<u8>,
+    cards: &Cards<'_>,
+    readings: &[LineReading],
+) -> Result<(), AllocError>
+    ensures { OnOk result (out.new.items ≡ out.old.items ++ run_text readings.now cards.now) }
 {
-    let mut section = Section::Begin;
-    for at in 0..cards.len() {
-        let line = cards.line(at);
-        put_line(out, &line, section)?;
-        section = next_section(&line, section);
+    for at in 0..cards.len().min(readings.len()) {
+        let read = read_at(readings, at);
+        put_card(out, &cards.line(at), read.kind)?;
     }
     Ok(())
 }
 
-fn put_line(out: &mut Vec<u8>, line: &Line<'_>, section: Section) -> Result<(), AllocError>
-    ensures { OnOk result (out.new.items ≡ out.old.items ++ given_by card_text line.now.number line.now.bytes.now section) }
+fn put_card(out: &mut Vec<u8>, line: &Line<'_>, kind: Kind) -> Result<(), AllocError>
+    ensures { OnOk result (out.new.items ≡ out.old.items ++ card_text line.now.number line.now.bytes.now kind) }
 {
-    if comment(line.bytes) {
-        Ok(())
-    } else {
-        put_card(out, line, section)
-    }
-}
-
-fn put_card(out: &mut Vec<u8>, line: &Line<'_>, section: Section) -> Result<(), AllocError>
-    ensures { OnOk result (out.new.items ≡ out.old.items ++ card_text line.now.number line.now.bytes.now section) }
-{
-    match section {
-        // The card of the tolerance may stand before the first one.
-        Section::First if line.bytes.starts_with(b"RESIDUAL TOLERANCE") => Ok(()),
-        Section::First => put_first(out, line.number, line.bytes),
-        Section::Second => put_second(out, line.number, line.bytes),
+    match kind {
+        Kind::FirstRun => put_first(out, line.number, line.bytes),
+        Kind::SecondRun => put_second(out, line.number, line.bytes),
         _ => Ok(()),
     }
 }

@@ -1,11 +1,12 @@
 //! The file that is read, and the output that is made.
 ghost use Rattle.std.specs.Prelude.{None};
-ghost use Rattle.emtp_inspect.specs.Asking.{asked};
-ghost use Rattle.emtp_inspect.specs.Showing.{Inspects, Shows, told_outcome};
+ghost use Rattle.emtp_inspect.specs.Asking.{asked, explained};
+ghost use Rattle.emtp_inspect.specs.Showing.{Explains, Inspects, Shows, told_outcome};
 ghost use Rattle.emtp_inspect.specs.Telling.{told_of};
 ghost use Rattle.emtp_run.specs.held.Outcome.{EndsAfterReading};
 ghost use Rattle.emtp_run.specs.Words.{texts};
 
+use crate::explaining::explained;
 use crate::telling::{Told, tell};
 use crate::words::{Wanted, read_words};
 use emtp_io::{Cabinet, ReadEnd};
@@ -16,17 +17,28 @@ use std::alloc::Global;
 /// was read is told with its warnings, or, behind the word `--count`, how many warnings there are. The status is Done where
 /// it is a case, BadCard where a card is refused, and Usage where the words don't fit.
 pub fn inspect<C: Cabinet>(alloc: Global, words: &[String], cabinet: &mut C) -> Status
-    ensures { Inspects (asked (texts words.now)) result (C.state cabinet.old) (C.state cabinet.new) }
+    ensures { Inspects (asked (texts words.now)) (explained (texts words.now)) result (C.state cabinet.old) (C.state cabinet.new) }
 {
     match read_words(words) {
         Some((wanted, name)) => show(alloc, wanted, name, cabinet),
-        None => refuse_words(cabinet),
+        None => explain(alloc, words, cabinet),
+    }
+}
+
+/// Leaves what words of a note mean (`explained`), or makes the note of words that don't fit.
+fn explain<C: Cabinet>(alloc: Global, words: &[String], cabinet: &mut C) -> Status
+    ensures { Explains (explained (texts words.now)) result (C.state cabinet.old) (C.state cabinet.new) }
+{
+    match explained(alloc, words) {
+        Ok(Some(text)) => leave_summary(cabinet, &text),
+        Ok(None) => refuse_words(cabinet),
+        Err(_) => Status::NoMemory,
     }
 }
 
 /// Makes the note of words that don't fit.
 fn refuse_words<C: Cabinet>(cabinet: &mut C) -> Status
-    ensures { Inspects None result (C.state cabinet.old) (C.state cabinet.new) }
+    ensures { Explains None result (C.state cabinet.old) (C.state cabinet.new) }
 {
     refuse(cabinet, Status::Usage, usage().as_slice())
 }

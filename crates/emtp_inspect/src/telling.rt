@@ -1,26 +1,25 @@
 //! The text that the bytes of a file give.
-ghost use Rattle.std.specs.Prelude.{◌≡◌, ◌++◌, ◌≤◌, IfOk, OnOk, codes, decimal, length, take};
-ghost use Rattle.emtp_inspect.specs.Section.{place_before};
-ghost use Rattle.emtp_inspect.specs.Telling.{answer_text, cards_text, ends_text, listed_front, listed_of, listed_lines_of, refused_at, refused_text, told_of, told_of_lines};
+ghost use Rattle.std.specs.Prelude.{◌≡◌, ◌++◌, IfOk, OnOk, Some, codes, decimal, take};
+ghost use Rattle.emtp_deck.specs.Deck.{deck_of};
+ghost use Rattle.emtp_inspect.specs.KindText.{kinds_text};
+ghost use Rattle.emtp_inspect.specs.Telling.{cards_text, cause_of, count_text, ends_text, listed_front, listed_of, listed_lines_of, listing_text, refused_by, refused_text, told_case, told_of, told_of_lines, told_unread};
 ghost use Rattle.emtp_listing.specs.Lines.{lines_text};
-ghost use Rattle.emtp_listing.specs.Listing.{listing};
 ghost use Rattle.emtp_run.specs.Note.{card_note};
-ghost use Rattle.emtp_warnings.specs.WarningText.{warnings_text};
-ghost use Rattle.emtp_warnings.specs.Warnings.{warnings};
 
 use crate::channel_cards::put_channels;
 use crate::copy_cards::put_copies;
+use crate::kind_text::{put_kinds, put_section};
 use crate::run_cards::put_run_cards;
-use crate::section::{lines_before, place_behind, put_section, whole_count};
 use crate::words::Wanted;
 use emtp_card::{Bad, Cards, Refused};
 use emtp_case::{Case, Items};
+use emtp_causes::{kind_name, put_refusal, put_size};
 use emtp_deck::read;
 use emtp_listing::listing;
 use emtp_run::bad_card;
 use emtp_text::{put, put_number};
-use emtp_walk::Place;
-use emtp_warnings::{Warning, warnings, warnings_text};
+use emtp_walk::{LineReading, line_readings};
+use emtp_warnings::{warnings, warnings_text};
 use std::alloc::{AllocError, Global};
 
 /// What is told of a file, each text with its line ends.
@@ -32,8 +31,8 @@ pub enum Told {
     Refusal(Items<u8>),
 }
 
-/// What is told of these bytes: the listing of their case and its warnings, or how many warnings there are; or, of a card
-/// that is refused, the records before it, its note, and as what it was read.
+/// What is told of these bytes: the listing of their case and its warnings, how many warnings there are, or as what each line
+/// is read; of a card that is refused, the records before it, its note and as what it was read, or what helps to mend it.
 ///
 /// # Errors
 ///
@@ -43,63 +42,112 @@ pub fn tell(alloc: Global, wanted: Wanted, bytes: &[u8]) -> Result<Told, AllocEr
 {
     match Cards::split(alloc, bytes) {
         Ok(cards) => tell_cards(alloc, wanted, &cards),
-        Err(Refused::Bad(bad)) => tell_size(alloc, &bad),
+        Err(Refused::Bad(bad)) => tell_unread(alloc, wanted, &bad),
         Err(Refused::NoMemory) => Err(AllocError),
+    }
+}
+
+/// Of a file that is too long no line is read.
+fn tell_unread(alloc: Global, wanted: Wanted, bad: &Bad) -> Result<Told, AllocError>
+    ensures { IfOk result (λ told. told ≡ told_unread wanted bad.now) }
+{
+    match wanted {
+        Wanted::Cause => {
+            let mut text = Vec::new(alloc);
+            put_size(&mut text)?;
+            Ok(Told::Answer(Items::from_vec(text)))
+        }
+        _ => tell_size(alloc, bad),
     }
 }
 
 fn tell_cards(alloc: Global, wanted: Wanted, cards: &Cards<'_>) -> Result<Told, AllocError>
     ensures { IfOk result (λ told. told ≡ told_of_lines wanted cards.now) }
 {
+    let readings = line_readings(alloc, cards)?;
+    match wanted {
+        Wanted::Listing => tell_listing(alloc, cards, &readings),
+        Wanted::WarningCount => tell_count(alloc, cards, &readings),
+        Wanted::Kinds => tell_kinds(alloc, cards.len(), &readings),
+        Wanted::Cause => tell_cause(alloc, cards, &readings),
+    }
+}
+
+fn tell_kinds(alloc: Global, count: usize, readings: &[LineReading]) -> Result<Told, AllocError>
+    ensures { IfOk result (λ told. told ≡ Told.Answer (kinds_text count 1 readings.now)) }
+{
+    let mut text = Vec::new(alloc);
+    put_kinds(&mut text, count, readings)?;
+    Ok(Told::Answer(Items::from_vec(text)))
+}
+
+fn tell_cause(
+    alloc: Global,
+    cards: &Cards<'_>,
+    readings: &[LineReading],
+) -> Result<Told, AllocError>
+    ensures { IfOk result (λ told. told ≡ Told.Answer (cause_of readings.now cards.now (deck_of cards.now))) }
+{
+    let mut text = Vec::new(alloc);
     match read(alloc, cards) {
-        Ok(case) => tell_case(alloc, wanted, cards, &case),
-        Err(Refused::Bad(bad)) => tell_bad(alloc, cards, &bad),
+        Ok(_) => Ok(Told::Answer(Items::from_vec(text))),
+        Err(Refused::Bad(bad)) => {
+            put_refusal(&mut text, cards, readings, &bad)?;
+            Ok(Told::Answer(Items::from_vec(text)))
+        }
         Err(Refused::NoMemory) => Err(AllocError),
     }
 }
 
-fn tell_case(
+fn tell_listing(
     alloc: Global,
-    wanted: Wanted,
     cards: &Cards<'_>,
-    case: &Case,
+    readings: &[LineReading],
 ) -> Result<Told, AllocError>
-    ensures { IfOk result (λ told. told ≡ Told.Answer (answer_text wanted cards.now case.now.parts)) }
+    ensures { IfOk result (λ told. told ≡ told_case listing_text readings.now cards.now (deck_of cards.now)) }
 {
-    let text = answer_text(alloc, wanted, cards, case)?;
-    Ok(Told::Answer(Items::from_vec(text)))
-}
-
-/// What is wanted of a case that is accepted.
-fn answer_text(
-    alloc: Global,
-    wanted: Wanted,
-    cards: &Cards<'_>,
-    case: &Case,
-) -> Result<Vec<u8>, AllocError>
-    ensures { IfOk result (λ text. text.items ≡ answer_text wanted cards.now case.now.parts) }
-{
-    let found = warnings(alloc, cards, case)?;
-    match wanted {
-        Wanted::Listing => listing_with(alloc, cards, case, &found),
-        Wanted::WarningCount => count_line(alloc, found.len()),
+    match read(alloc, cards) {
+        Ok(case) => {
+            let text = listing_with(alloc, cards, readings, &case)?;
+            Ok(Told::Answer(Items::from_vec(text)))
+        }
+        Err(Refused::Bad(bad)) => tell_bad(alloc, cards, readings, &bad),
+        Err(Refused::NoMemory) => Err(AllocError),
     }
 }
 
-/// The listing of a case, what its cards say besides, and warnings below it.
+fn tell_count(
+    alloc: Global,
+    cards: &Cards<'_>,
+    readings: &[LineReading],
+) -> Result<Told, AllocError>
+    ensures { IfOk result (λ told. told ≡ told_case count_text readings.now cards.now (deck_of cards.now)) }
+{
+    match read(alloc, cards) {
+        Ok(case) => {
+            let found = warnings(alloc, cards, readings, &case)?;
+            let text = count_line(alloc, found.len())?;
+            Ok(Told::Answer(Items::from_vec(text)))
+        }
+        Err(Refused::Bad(bad)) => tell_bad(alloc, cards, readings, &bad),
+        Err(Refused::NoMemory) => Err(AllocError),
+    }
+}
+
+/// The warnings of a case, and behind them its listing and what its cards say besides.
 fn listing_with(
     alloc: Global,
     cards: &Cards<'_>,
+    readings: &[LineReading],
     case: &Case,
-    found: &[Warning],
 ) -> Result<Vec<u8>, AllocError>
-    ensures { IfOk result (λ text. text.items ≡ listing case.now.parts
-        ++ cards_text cards.now case.now.parts ++ warnings_text found.now) }
+    ensures { IfOk result (λ text. text.items ≡ listing_text readings.now cards.now case.now.parts) }
 {
-    let mut text = listing(alloc, case)?;
-    put_cards(alloc, &mut text, cards, case)?;
-    let below = warnings_text(alloc, found)?;
-    put(&mut text, &below)?;
+    let found = warnings(alloc, cards, readings, case)?;
+    let mut text = warnings_text(alloc, cards, &found)?;
+    let listed = listing(alloc, case)?;
+    put(&mut text, &listed)?;
+    put_cards(alloc, &mut text, cards, readings, case)?;
     Ok(text)
 }
 
@@ -108,13 +156,14 @@ fn put_cards(
     alloc: Global,
     out: &mut Vec<u8>,
     cards: &Cards<'_>,
+    readings: &[LineReading],
     case: &Case,
 ) -> Result<(), AllocError>
-    ensures { OnOk result (out.new.items ≡ out.old.items ++ cards_text cards.now case.now.parts) }
+    ensures { OnOk result (out.new.items ≡ out.old.items ++ cards_text readings.now cards.now case.now.parts) }
 {
-    put_run_cards(out, cards)?;
-    put_copies(out, cards, case)?;
-    put_channels(alloc, out, cards, case)
+    put_run_cards(out, cards, readings)?;
+    put_copies(out, cards, readings, case)?;
+    put_channels(alloc, out, cards, readings, case)
 }
 
 /// A line with a count.
@@ -127,7 +176,7 @@ fn count_line(alloc: Global, count: usize) -> Result<Vec<u8>, AllocError>
     Ok(text)
 }
 
-/// Of a file that is too long the lines aren't read.
+/// The note of a refusal alone.
 fn tell_size(alloc: Global, bad: &Bad) -> Result<Told, AllocError>
     ensures { IfOk result (λ told. told ≡ Told.Refusal (card_note bad.now)) }
 {
@@ -136,38 +185,34 @@ fn tell_size(alloc: Global, bad: &Bad) -> Result<Told, AllocError>
     Ok(Told::Refusal(Items::from_vec(text)))
 }
 
-fn tell_bad(alloc: Global, cards: &Cards<'_>, bad: &Bad) -> Result<Told, AllocError>
-    ensures { IfOk result (λ told. told ≡ Told.Refusal (refused_text cards.now bad.now)) }
+fn tell_bad(
+    alloc: Global,
+    cards: &Cards<'_>,
+    readings: &[LineReading],
+    bad: &Bad,
+) -> Result<Told, AllocError>
+    ensures { IfOk result (λ told. told ≡ Told.Refusal (refused_text readings.now cards.now bad.now)) }
 {
-    // A match, since `?` has no proof where a value holds names.
-    match place_before(alloc, cards, lines_before(bad.line)) {
-        Ok(place) => tell_at(alloc, cards, bad, &place),
-        Err(error) => Err(error),
+    match readings.get(bad.line.saturating_sub(1) as usize) {
+        Some(read) => tell_read(alloc, cards, bad, read),
+        None => tell_size(alloc, bad),
     }
 }
 
-/// Of a refused card whose place is this one, where it is known.
-fn tell_at(
+/// Of a refused card: the whole records before it, its note, and as what it was read.
+fn tell_read(
     alloc: Global,
     cards: &Cards<'_>,
     bad: &Bad,
-    place: &Option<Place>,
+    read: &LineReading,
 ) -> Result<Told, AllocError>
-    ensures { IfOk result (λ told. told ≡ Told.Refusal (refused_at cards.now bad.now place.now)) }
+    ensures { IfOk result (λ told. told ≡ Told.Refusal (refused_by cards.now bad.now (Some read.now))) }
 {
-    let count = whole_count(place, cards, bad.line);
-    let mut text = listed_front(alloc, cards, count)?;
+    let mut text = listed_front(alloc, cards, read.first.saturating_sub(1) as usize)?;
     put(&mut text, bad_card(bad).as_slice())?;
-    put_section(&mut text, cards, bad.line, place)?;
+    let there = bad.line as usize <= cards.len();
+    put_section(&mut text, bad.line, there, kind_name(read.kind))?;
     Ok(Told::Refusal(Items::from_vec(text)))
-}
-
-/// The place of the line behind so many.
-fn place_before(alloc: Global, cards: &Cards<'_>, count: usize) -> Result<Option<Place>, AllocError>
-    ensures { IfOk result (λ place. place ≡ place_before cards.now count) }
-{
-    let text = front_text(alloc, cards, count)?;
-    place_behind(alloc, &text)
 }
 
 /// The first lines, each ended by LF.

@@ -8,13 +8,17 @@ use emtp_run::is_name;
 /// What is wanted of a case that is read.
 #[derive(Clone, Copy)]
 pub enum Wanted {
-    /// Its listing, and the warnings below it.
+    /// Its warnings and its listing.
     Listing,
     /// How many warnings there are.
     WarningCount,
+    /// As what each line is read.
+    Kinds,
+    /// What helps to mend a card that is refused.
+    Cause,
 }
 
-/// What is wanted, and the name of the case's file, where the words fit: `CASE` or `--count CASE`.
+/// What is wanted, and the name of the case's file, where the words fit: `CASE`, or `--count`, `--kinds` or `--why` and `CASE`.
 pub(crate) fn read_words(words: &[String]) -> Option<(Wanted, &str)>
     ensures { option_map (λ a. (a.0, a.1.now)) result ≡ asked (texts words.now) }
 {
@@ -30,6 +34,10 @@ fn counted<'a>(first: &str, word: &'a str) -> Option<(Wanted, &'a str)>
 {
     if first == "--count" {
         named(Wanted::WarningCount, word)
+    } else if first == "--kinds" {
+        named(Wanted::Kinds, word)
+    } else if first == "--why" {
+        named(Wanted::Cause, word)
     } else {
         None
     }

@@ -5,7 +5,7 @@
 //! emtp_show --count divider.case
 //! ```
 //!
-//! It reads the cards of a case, and writes the listing of its records with the warnings below it, or how many warnings there
+//! It reads the cards of a case, and writes the warnings and the listing of its records, or how many warnings there
 //! are, or which card is refused, to standard output. The exit status is the number of the [`Status`], as that of `emtp`. It
 //! stands on `emtp_inspect` for all that, and on `emtp_io` for the files.
 #![tactic(auto)]

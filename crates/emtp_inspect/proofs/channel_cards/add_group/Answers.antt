@@ -1,8 +1,14 @@
+use Rattle.std.proofs.Common.{arith}
 use Rattle.emtp_inspect.specs.ChannelCards.{asking_in}
-use Rattle.emtp_inspect.proofs.GivenLines.{line-more}
+use Rattle.emtp_inspect.proofs.GivenLines.{all-read, line-more}
 use Rattle.emtp_inspect.proofs.channel_cards.add_group.Goals as goal
 
 pub loop-at-preserved : goal.loop-at-preserved
 loop-at-preserved c =
-    line-more (asking_in c.args.case.now.parts c.args.group) c.args.cards.now c.loop-at.at c.line-line.result.bytes.now c.loop-at.section c.next_section-section.result c.loop-at.lines.items c.add_line.new.lines.items _
-    c.line-line.ensures.bytes (rw c.line-line.ensures.number at c.next_section-section.ensures) c.loop-at.invariant (rw c.line-line.ensures.number at c.in_ok-add_line.ensures)
+    line-more (asking_in c.args.case.now.parts c.args.group) c.args.readings.now c.args.cards.now c.loop-at.at c.read_at-read.result c.line-line.result.bytes.now c.loop-at.lines.items c.add_times.new.lines.items _
+    c.read_at-read.ensures c.line-line.ensures.bytes c.loop-at.invariant (rw (c.asked_in.ensures, c.line-line.ensures.number) at c.in_ok-add_times.ensures)
+
+pub returns : goal.returns
+returns c =
+    all-read (asking_in c.args.case.now.parts c.args.group) c.args.readings.now c.args.cards.now c.loop-at.at c.loop-at.lines.items _
+    (omega (arith, c.loop-at.auto.at-end, c.loop-at-test.false, c.min-at-end.ensures, c.len.ensures.length)) c.loop-at.invariant

@@ -1,0 +1,41 @@
+-- As what a line is read, in words.
+use Rattle.std.specs.Prelude.{[], ◌+◌, ◌++◌, ◌∷◌, Bool, true, false, nat_le, List, codes, decimal, ℕ}
+use Rattle.emtp_causes.specs.Kinds.{kind_name}
+use Rattle.emtp_walk.specs.declared.kind.Kind.{Kind}
+use Rattle.emtp_walk.specs.declared.kind.Kind.TheVariants as read
+use Rattle.emtp_walk.specs.declared.kind.LineReading.{LineReading}
+
+-- ---- of one card
+
+unfoldable pub read_text : ℕ → List ℕ → List ℕ
+read_text number kind = codes "line " ++ decimal number ++ codes ": read as " ++ kind ++ codes "\n"
+
+unfoldable pub due_text : ℕ → List ℕ → List ℕ
+due_text number kind = codes "line " ++ decimal number ++ codes ": the file ends where " ++ kind ++ codes " is due\n"
+
+-- of the line of a number, which is there or not
+abbrev pub section_text : ℕ → Bool → List ℕ → List ℕ
+section_text number true kind = read_text number kind
+section_text number false kind = due_text number kind
+
+-- ---- of all lines
+
+unfoldable pub kind_line : ℕ → List ℕ → List ℕ
+kind_line number kind = decimal number ++ codes "\t" ++ kind ++ codes "\n"
+
+unfoldable pub due_line : ℕ → List ℕ → List ℕ
+due_line number kind = decimal number ++ codes "\tdue: " ++ kind ++ codes "\n"
+
+abbrev pub line_or_due : ℕ → Bool → List ℕ → List ℕ
+line_or_due number true kind = kind_line number kind
+line_or_due number false kind = due_line number kind
+
+-- a comment is passed over
+abbrev pub kind_text : ℕ → Bool → Kind → List ℕ
+kind_text number there read.Comment = []
+kind_text number there kind = line_or_due number there (kind_name kind)
+
+-- from the line of a number on, of so many
+abbrev pub kinds_text : ℕ → ℕ → List LineReading → List ℕ
+kinds_text count number [] = []
+kinds_text count number (kind ∷ readings) = kind_text number (nat_le number count) kind.kind ++ kinds_text count (number + 1) readings

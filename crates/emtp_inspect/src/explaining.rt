@@ -1,0 +1,102 @@
+//! What words of a note mean.
+
+ghost use Rattle.std.specs.Prelude.{◌≡◌, IfOk, Some, None, option_map};
+ghost use Rattle.emtp_causes.specs.Ends.{end_text, unsolved_text};
+ghost use Rattle.emtp_causes.specs.Parts.{field_line, item_line, number_or_one};
+ghost use Rattle.emtp_inspect.specs.Asking.{explained, explained_four, explained_note, explained_three, explained_two};
+ghost use Rattle.emtp_run.specs.Words.{texts};
+
+use crate::misfit::put_misfit;
+use emtp_causes::{put_end, put_field, put_item, unsolved};
+use emtp_text::put;
+use std::alloc::{AllocError, Global};
+
+/// What words mean that name no case: behind `--misfit` why words are no command of `emtp`, else what words of a note mean.
+pub(crate) fn explained(alloc: Global, words: &[String]) -> Result<Option<Vec<u8>>, AllocError>
+    ensures { IfOk result (λ found. option_map (λ text. text.items) found ≡ explained (texts words.now)) }
+{
+    match words {
+        [] => Ok(None),
+        [first, rest @ ..] => {
+            if first.as_str() == "--misfit" {
+                let mut text = Vec::new(alloc);
+                put_misfit(&mut text, rest)?;
+                Ok(Some(text))
+            } else {
+                explained_note(alloc, words)
+            }
+        }
+    }
+}
+
+/// What words of a note mean: `--unsolved REASON`, why a case has no steady state; `--item ROW NUMBER`, why an item of a table
+/// is refused; `--field LINE NUMBER CAUSE`, how a line of a record differs; `--ended CAUSE STEP NAME`, what an early end means,
+/// of a steady state with an empty STEP. Nothing where the words are none of these.
+fn explained_note(alloc: Global, words: &[String]) -> Result<Option<Vec<u8>>, AllocError>
+    ensures { IfOk result (λ found. option_map (λ text. text.items) found ≡ explained_note (texts words.now)) }
+{
+    match words {
+        [first, one] => explained_two(alloc, first.as_str(), one.as_str()),
+        [first, one, two] => explained_three(alloc, first.as_str(), one.as_str(), two.as_str()),
+        [first, one, two, three] => {
+            explained_four(
+                alloc,
+                first.as_str(),
+                one.as_str(),
+                two.as_str(),
+                three.as_str(),
+            )
+        }
+        _ => Ok(None),
+    }
+}
+
+fn explained_two(alloc: Global, first: &str, reason: &str) -> Result<Option<Vec<u8>>, AllocError>
+    ensures { IfOk result (λ found. option_map (λ text. text.items) found ≡ explained_two first.now reason.now) }
+{
+    if first == "--unsolved" {
+        let mut text = Vec::new(alloc);
+        put(&mut text, unsolved(reason.as_bytes()))?;
+        Ok(Some(text))
+    } else {
+        Ok(None)
+    }
+}
+
+fn explained_three(
+    alloc: Global,
+    first: &str,
+    row: &str,
+    number: &str,
+) -> Result<Option<Vec<u8>>, AllocError>
+    ensures { IfOk result (λ found. option_map (λ text. text.items) found ≡ explained_three first.now row.now number.now) }
+{
+    if first == "--item" {
+        let mut text = Vec::new(alloc);
+        put_item(&mut text, row.as_bytes(), number.as_bytes())?;
+        Ok(Some(text))
+    } else {
+        Ok(None)
+    }
+}
+
+fn explained_four(
+    alloc: Global,
+    first: &str,
+    one: &str,
+    two: &str,
+    three: &str,
+) -> Result<Option<Vec<u8>>, AllocError>
+    ensures { IfOk result (λ found. option_map (λ text. text.items) found ≡ explained_four first.now one.now two.now three.now) }
+{
+    let mut text = Vec::new(alloc);
+    if first == "--ended" {
+        put_end(&mut text, one.as_bytes(), two.as_bytes(), three.as_bytes())?;
+        Ok(Some(text))
+    } else if first == "--field" {
+        put_field(&mut text, one.as_bytes(), two.as_bytes(), three.as_bytes())?;
+        Ok(Some(text))
+    } else {
+        Ok(None)
+    }
+}

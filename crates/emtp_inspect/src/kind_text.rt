@@ -1,0 +1,105 @@
+//! As what a line is read, in words.
+ghost use Rattle.std.specs.Prelude.{◌≡◌, ◌++◌, OnOk};
+ghost use Rattle.emtp_inspect.specs.KindText.{due_line, due_text, kind_line, kind_text, kinds_text, line_or_due, read_text, section_text};
+
+use emtp_causes::kind_name;
+use emtp_text::{put, put_number};
+use emtp_walk::{Kind, LineReading};
+use std::alloc::AllocError;
+
+/// Puts a line after a text that says as what the line of a number was read, or what is due where the file ends.
+pub(crate) fn put_section(
+    out: &mut Vec<u8>,
+    number: u32,
+    there: bool,
+    kind: &[u8],
+) -> Result<(), AllocError>
+    ensures { OnOk result (out.new.items ≡ out.old.items ++ section_text number there kind.now) }
+{
+    if there {
+        put_read(out, number, kind)
+    } else {
+        put_due(out, number, kind)
+    }
+}
+
+#[tactic(auto, unfolding(crate::specs::KindText::read_text))]
+fn put_read(out: &mut Vec<u8>, number: u32, kind: &[u8]) -> Result<(), AllocError>
+    ensures { OnOk result (out.new.items ≡ out.old.items ++ read_text number kind.now) }
+{
+    put(out, b"line ")?;
+    put_number(out, number)?;
+    put(out, b": read as ")?;
+    put(out, kind)?;
+    put(out, b"\n")
+}
+
+#[tactic(auto, unfolding(crate::specs::KindText::due_text))]
+fn put_due(out: &mut Vec<u8>, number: u32, kind: &[u8]) -> Result<(), AllocError>
+    ensures { OnOk result (out.new.items ≡ out.old.items ++ due_text number kind.now) }
+{
+    put(out, b"line ")?;
+    put_number(out, number)?;
+    put(out, b": the file ends where ")?;
+    put(out, kind)?;
+    put(out, b" is due\n")
+}
+
+/// Puts a line after a text for each line of so many that is no comment: its number, and as what it is read; and what is due
+/// behind them.
+pub(crate) fn put_kinds(
+    out: &mut Vec<u8>,
+    count: usize,
+    readings: &[LineReading],
+) -> Result<(), AllocError>
+    ensures { OnOk result (out.new.items ≡ out.old.items ++ kinds_text count 1 readings.now) }
+{
+    for at in 0..readings.len() {
+        put_kind(out, at + 1, at + 1 <= count, readings[at].kind)?;
+    }
+    Ok(())
+}
+
+fn put_kind(out: &mut Vec<u8>, number: usize, there: bool, kind: Kind) -> Result<(), AllocError>
+    ensures { OnOk result (out.new.items ≡ out.old.items ++ kind_text number there kind) }
+{
+    match kind {
+        Kind::Comment => Ok(()),
+        _ => put_line_or_due(out, number, there, kind_name(kind)),
+    }
+}
+
+fn put_line_or_due(
+    out: &mut Vec<u8>,
+    number: usize,
+    there: bool,
+    kind: &[u8],
+) -> Result<(), AllocError>
+    ensures { OnOk result (out.new.items ≡ out.old.items ++ line_or_due number there kind.now) }
+{
+    if there {
+        put_kind_line(out, number, kind)
+    } else {
+        put_due_line(out, number, kind)
+    }
+}
+
+#[tactic(auto, unfolding(crate::specs::KindText::due_line))]
+fn put_due_line(out: &mut Vec<u8>, number: usize, kind: &[u8]) -> Result<(), AllocError>
+    ensures { OnOk result (out.new.items ≡ out.old.items ++ due_line number kind.now) }
+{
+    put_number(out, number)?;
+    put(out, b"\tdue: ")?;
+    put(out, kind)?;
+    put(out, b"\n")
+}
+
+#[tactic(auto, unfolding(crate::specs::KindText::kind_line))]
+fn put_kind_line(out: &mut Vec<u8>, number: usize, kind: &[u8]) -> Result<(), AllocError>
+    ensures { OnOk result (out.new.items ≡ out.old.items ++ kind_line number kind.now) }
+{
+    put_number(out, number)?;
+    put(out, b"\t")?;
+    put(out, kind)?;
+    put(out, b"\n")
+}

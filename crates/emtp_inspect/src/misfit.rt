@@ -1,0 +1,317 @@
+//! Why words are no command of `emtp`.
+
+ghost use Rattle.std.specs.Prelude.{◌≡◌, ◌++◌, OnOk};
+ghost use Rattle.emtp_inspect.specs.Misfit.{at_most, by_text, count_line, dash_line, files_text, first_text, form_of, frequencies_text, hertz_line, is_odd_name, last_text, misfit_text, name_text, names_text, number_of, one_text, other_count, range_text, scan_text, three_text, trial_line, trial_text, twice_line, two_text, unknown_line};
+ghost use Rattle.emtp_run.specs.Words.{texts};
+
+use emtp_card::read_digits;
+use emtp_text::put;
+use std::alloc::AllocError;
+
+/// The most digits of a number.
+const MOST_DIGITS: usize = 8;
+
+/// The greatest frequency, in hertz.
+const MOST_HERTZ: u64 = 10_000_000;
+
+/// The most frequencies of a scan.
+const MOST_FREQUENCIES: u64 = 10_000;
+
+/// Puts after a text why these words are no command; nothing where they may be one.
+pub(crate) fn put_misfit(out: &mut Vec<u8>, words: &[String]) -> Result<(), AllocError>
+    ensures { OnOk result (out.new.items ≡ out.old.items ++ misfit_text (texts words.now)) }
+{
+    match words {
+        [] => put(out, b"No command is given.\n"),
+        [command] => put_other_count(out, command.as_str(), b"nothing"),
+        [command, a] => put_one(out, command.as_str(), a.as_str()),
+        [command, a, b] => put_two(out, command.as_str(), a.as_str(), b.as_str()),
+        [command, a, b, c] => put_three(out, command.as_str(), a.as_str(), b.as_str(), c.as_str()),
+        [command, a, b, c, d] => put_four(
+            out,
+            command.as_str(),
+            a.as_str(),
+            b.as_str(),
+            c.as_str(),
+            d.as_str(),
+        ),
+        _ => put(
+            out,
+            b"These are more words than any command has.
+",
+        ),
+    }
+}
+
+/// The words that stand behind a command; nothing of a word that is none.
+fn form_of(command: &str) -> &'static [u8]
+    ensures { result.now ≡ form_of command.now }
+{
+    if command == "run" || command == "audit" {
+        b"CASE CFG DAT"
+    } else if command == "show" || command == "phasor" {
+        b"CASE"
+    } else if command == "batch" {
+        b"CASE TIMES"
+    } else if command == "scan" {
+        b"CASE F0 F1 DF"
+    } else if command == "trial" {
+        b"N"
+    } else {
+        b""
+    }
+}
+
+/// Puts that another number of words is wanted, or that no command has this name.
+fn put_other_count(out: &mut Vec<u8>, command: &str, given: &[u8]) -> Result<(), AllocError>
+    ensures { OnOk result (out.new.items ≡ out.old.items ++ other_count command.now given.now) }
+{
+    let form = form_of(command);
+    if form.is_empty() {
+        put_unknown(out, command)
+    } else {
+        put_count(out, command.as_bytes(), form, given)
+    }
+}
+
+#[tactic(auto, unfolding(crate::specs::Misfit::unknown_line))]
+fn put_unknown(out: &mut Vec<u8>, command: &str) -> Result<(), AllocError>
+    ensures { OnOk result (out.new.items ≡ out.old.items ++ unknown_line command.now) }
+{
+    put(out, b"No command is named ")?;
+    put(out, command.as_bytes())?;
+    put(out, b".\n")
+}
+
+fn put_count(out: &mut Vec<u8>, command: &[u8], form: &[u8], given: &[u8]) -> Result<(), AllocError>
+    ensures { OnOk result (out.new.items ≡ out.old.items ++ count_line command.now form.now given.now) }
+{
+    put(out, b"Behind ")?;
+    put(out, command)?;
+    put(out, b" stands ")?;
+    put(out, form)?;
+    put(out, b", and here ")?;
+    put(out, given)?;
+    put(out, b".\n")?;
+    Ok(())
+}
+
+fn put_one(out: &mut Vec<u8>, command: &str, word: &str) -> Result<(), AllocError>
+    ensures { OnOk result (out.new.items ≡ out.old.items ++ one_text command.now word.now) }
+{
+    if command == "trial" {
+        put_trial(out, word)
+    } else if command == "show" || command == "phasor" {
+        put_name(out, word)
+    } else {
+        put_other_count(out, command, b"1")
+    }
+}
+
+fn put_two(out: &mut Vec<u8>, command: &str, a: &str, b: &str) -> Result<(), AllocError>
+    ensures { OnOk result (out.new.items ≡ out.old.items ++ two_text command.now a.now b.now) }
+{
+    if command == "batch" {
+        put_names(out, a, b)
+    } else {
+        put_other_count(out, command, b"2")
+    }
+}
+
+fn put_three(out: &mut Vec<u8>, command: &str, a: &str, b: &str, c: &str) -> Result<(), AllocError>
+    ensures { OnOk result (out.new.items ≡ out.old.items ++ three_text command.now a.now b.now c.now) }
+{
+    if command == "run" || command == "audit" {
+        put_files(out, a, b, c)
+    } else {
+        put_other_count(out, command, b"3")
+    }
+}
+
+fn put_four(
+    out: &mut Vec<u8>,
+    command: &str,
+    case: &str,
+    first: &str,
+    last: &str,
+    by: &str,
+) -> Result<(), AllocError>
+    ensures { OnOk result (out.new.items ≡ out.old.items ++ scan_text command.now case.now first.now last.now by.now) }
+{
+    if command == "scan" {
+        put_scan(out, case, first, last, by)
+    } else {
+        put_other_count(out, command, b"4")
+    }
+}
+
+// ---- names
+
+/// Whether a word names no file.
+fn is_odd_name(name: &str) -> bool
+    ensures { result ≡ is_odd_name name.now }
+{
+    name.is_empty() || name.as_bytes().starts_with(b"-")
+}
+
+/// Puts why a word names no file, where it names none.
+fn put_name(out: &mut Vec<u8>, name: &str) -> Result<(), AllocError>
+    ensures { OnOk result (out.new.items ≡ out.old.items ++ name_text name.now) }
+{
+    if name.is_empty() {
+        put(out, b"A name of a file is empty.\n")
+    } else if is_odd_name(name) {
+        put_dash(out, name.as_bytes())
+    } else {
+        Ok(())
+    }
+}
+
+fn put_dash(out: &mut Vec<u8>, name: &[u8]) -> Result<(), AllocError>
+    ensures { OnOk result (out.new.items ≡ out.old.items ++ dash_line name.now) }
+{
+    put(out, name)?;
+    put(out, b" begins with a dash, so it names no file; ./")?;
+    put(out, name)?;
+    put(out, b" does.\n")?;
+    Ok(())
+}
+
+#[tactic(auto, unfolding(crate::specs::Misfit::twice_line))]
+fn put_twice(out: &mut Vec<u8>, name: &str) -> Result<(), AllocError>
+    ensures { OnOk result (out.new.items ≡ out.old.items ++ twice_line name.now) }
+{
+    put(out, name.as_bytes())?;
+    put(out, b" stands twice; the files have to differ.\n")
+}
+
+fn put_names(out: &mut Vec<u8>, a: &str, b: &str) -> Result<(), AllocError>
+    ensures { OnOk result (out.new.items ≡ out.old.items ++ names_text a.now b.now) }
+{
+    if is_odd_name(a) {
+        put_name(out, a)
+    } else if a == b {
+        put_twice(out, a)
+    } else {
+        put_name(out, b)
+    }
+}
+
+fn put_files(out: &mut Vec<u8>, a: &str, b: &str, c: &str) -> Result<(), AllocError>
+    ensures { OnOk result (out.new.items ≡ out.old.items ++ files_text a.now b.now c.now) }
+{
+    if is_odd_name(a) {
+        put_name(out, a)
+    } else if a == b || a == c {
+        put_twice(out, a)
+    } else {
+        put_names(out, b, c)
+    }
+}
+
+// ---- numbers
+
+fn put_trial(out: &mut Vec<u8>, word: &str) -> Result<(), AllocError>
+    ensures { OnOk result (out.new.items ≡ out.old.items ++ trial_text word.now) }
+{
+    match number_of(word, 900) {
+        Some(_) => Ok(()),
+        None => put_no_trial(out, word.as_bytes()),
+    }
+}
+
+fn put_no_trial(out: &mut Vec<u8>, word: &[u8]) -> Result<(), AllocError>
+    ensures { OnOk result (out.new.items ≡ out.old.items ++ trial_line word.now) }
+{
+    put(out, b"N is a whole number from 1 to 900, and ")?;
+    put(out, word)?;
+    put(out, b" isn't.\n")?;
+    Ok(())
+}
+
+/// A whole number from 1 on, without a leading 0.
+fn number_of(word: &str, most: u64) -> Option<u64>
+    ensures { result ≡ number_of word.now most }
+{
+    if word.as_bytes().starts_with(b"0") {
+        None
+    } else {
+        at_most(read_digits(word.as_bytes(), MOST_DIGITS), most)
+    }
+}
+
+fn at_most(number: Option<u64>, most: u64) -> Option<u64>
+    ensures { result ≡ at_most number most }
+{
+    match number {
+        None => None,
+        Some(number) => { if number <= most { Some(number) } else { None } }
+    }
+}
+
+fn put_scan(
+    out: &mut Vec<u8>,
+    case: &str,
+    first: &str,
+    last: &str,
+    by: &str,
+) -> Result<(), AllocError>
+    ensures { OnOk result (out.new.items ≡ out.old.items ++ frequencies_text case.now first.now last.now by.now) }
+{
+    if is_odd_name(case) {
+        put_name(out, case)
+    } else {
+        put_frequencies(out, first, last, by)
+    }
+}
+
+fn put_frequencies(out: &mut Vec<u8>, first: &str, last: &str, by: &str) -> Result<(), AllocError>
+    ensures { OnOk result (out.new.items ≡ out.old.items ++ first_text first.now last.now by.now) }
+{
+    match number_of(first, MOST_HERTZ) {
+        None => put_no_hertz(out, first),
+        Some(low) => put_last(out, low, last, by),
+    }
+}
+
+fn put_last(out: &mut Vec<u8>, low: u64, last: &str, by: &str) -> Result<(), AllocError>
+    ensures { OnOk result (out.new.items ≡ out.old.items ++ last_text low last.now by.now) }
+{
+    match number_of(last, MOST_HERTZ) {
+        None => put_no_hertz(out, last),
+        Some(high) => put_step(out, low, high, by),
+    }
+}
+
+fn put_step(out: &mut Vec<u8>, low: u64, high: u64, by: &str) -> Result<(), AllocError>
+    ensures { OnOk result (out.new.items ≡ out.old.items ++ by_text low high by.now) }
+{
+    match number_of(by, MOST_HERTZ) {
+        None => put_no_hertz(out, by),
+        Some(step) => put(out, range_text(low, high, step)),
+    }
+}
+
+/// What is wrong with the numbers of a scan; nothing of good ones.
+fn range_text(low: u64, high: u64, step: u64) -> &'static [u8]
+    ensures { result.now ≡ range_text low high step }
+{
+    if high < low {
+        b"F0 is above F1.\n"
+    } else if (high - low) / step.max(1) >= MOST_FREQUENCIES {
+        b"These are more than 10,000 frequencies.\n"
+    } else {
+        b""
+    }
+}
+
+#[tactic(auto, unfolding(crate::specs::Misfit::hertz_line))]
+fn put_no_hertz(out: &mut Vec<u8>, word: &str) -> Result<(), AllocError>
+    ensures { OnOk result (out.new.items ≡ out.old.items ++ hertz_line word.now) }
+{
+    put(out, word.as_bytes())?;
+    put(
+        out,
+        b" is no frequency: a whole number of hertz from 1 to 10000000.\n",
+    )
+}
