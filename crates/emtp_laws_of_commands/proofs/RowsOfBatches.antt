@@ -14,7 +14,7 @@ use Rattle.emtp_run.specs.Inputs.{and_content, contents}
 use Rattle.emtp_run.specs.Outcome.{summarised}
 use Rattle.emtp_run.specs.Reading.{deck}
 use Rattle.emtp_run.specs.Words.{Batch, BatchFiles, fits}
-use Rattle.emtp_laws_of_commands.specs.Rows.{HasRow, batch_words, report_of_run}
+use Rattle.emtp_laws_of_commands.specs.Rows.{HasRowLine, batch_words, report_of_run}
 
 own_report : (case : Parts) → report_of case ≡ report_of_run case
 unfolding report_of
@@ -64,7 +64,7 @@ batch_made f files text times p e there times_there is =
 
 pub row_is_run : (f : BatchFiles) (files : List ℕ → Option (List ℕ)) (text times other : List ℕ) (p own : Parts) (before after : List Row) (row : Row) → fits (batch_words f) ≡ Some (Batch f) → files f.case ≡ Some text → files f.times ≡ Some times
     → deck (take (MAX_BYTES + 1) text) ≡ Ok p → times_table (take (MAX_BYTES + 1) times) p ≡ Ok (before ++ row ∷ after) → deck other ≡ Ok own → own ≡ altered p row
-    → IsSomeAnd (outcome (batch_words f) files) (HasRow (length before + 1) (report_of_run own))
+    → IsSomeAnd (outcome (batch_words f) files) (HasRowLine (length before + 1) (report_of_run own))
 row_is_run f files text times other p own before after row e there times_there is rows own_deck same =
     let g : Row → RowReport = λ r. report_of (altered p r) in
     let found = row_in (map g before) (map g after) (g row) (length before + 1) (ap (λ n. n + 1) (mapped_count g before)) in
@@ -73,4 +73,4 @@ row_is_run f files text times other p own before after row e there times_there i
     let line : batch_text (reports_of p (before ++ row ∷ after)) ≡ found.0 ++ row_line (length before + 1) (report_of_run own) ++ found.1 =
     ap batch_text apart ∙ found.2 ∙ ap (λ r. found.0 ++ row_line (length before + 1) r ++ found.1) here in
     let came : outcome (batch_words f) files ≡ Some (summarised (batch_text (reports_of p (before ++ row ∷ after)))) = batch_made f files text times p e there times_there is ∙ ap (λ r. Some (batch_outcome p r)) rows in
-    subst (λ o. IsSomeAnd o (HasRow (length before + 1) (report_of_run own))) (sym came) (record { front = found.0; behind = found.1; is = ap summarised line })
+    subst (λ o. IsSomeAnd o (HasRowLine (length before + 1) (report_of_run own))) (sym came) (record { front = found.0; behind = found.1; is = ap summarised line })

@@ -16,7 +16,7 @@ abbrev pub report_of_run : Parts → RowReport
 report_of_run case = record { end = (history case).end; peaks = peaks_of case (samples case (history case)) }
 
 -- the summary has this line for the row with this number, from 1
-pub record HasRow (number : ℕ) (report : RowReport) (o : Outcome) : Type 0 where
+pub record HasRowLine (number : ℕ) (report : RowReport) (o : Outcome) : Type 0 where
   pub front : List ℕ
   pub behind : List ℕ
   pub is : o ≡ summarised (front ++ row_line number report ++ behind)
