@@ -158,6 +158,8 @@ class Plot(Folder):
         self.assertAlmostEqual(shown["VA (b)"]["y"][30], voltage(30 / 4800 + 25e-6) / 1e3, delta=0.005)
         self.assertAlmostEqual(shown["VA"]["y"][30], voltage(30 / 4800) / 1e3, delta=0.005)
         self.assertIn("moved by -0.04 s", layout["title"]["text"])
+        said = self.run_words(first, "--with", second, "--only", "V*,NONE", self.out("n.html"), status=2)
+        self.assertIn("b.cff has no channel 'NONE'; it has VA, IA, TRIP, 52A, VA", said)
 
     @unittest.skipUnless(PAGES, "plotly isn't there")
     def test_one_over_another(self):

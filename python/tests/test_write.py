@@ -81,6 +81,16 @@ class Write(unittest.TestCase):
         write(self.path("r.cfg"), small(channels=[Channel("VA", "V", np.full(3, math.nan))]), "ASCII")
         self.assertTrue(np.isnan(read(self.path("r.cfg")).channel("VA")).all())
 
+    def test_multiplier_is_kept(self):
+        """Also where the greatest raw value is the form's greatest one, which may not turn its sign."""
+        for form, most in (("BINARY", 32_767), ("BINARY32", 2**31 - 1)):
+            for multiplier in (0.002, 0.3, 7e-9, 123.456):
+                values = np.array([most * multiplier, -most * multiplier, multiplier])
+                channel = Channel("V", "V", values, multiplier=multiplier)
+                written = write(self.path("r.cfg"), small(channels=[channel]), form, 2013)
+                self.assertAlmostEqual(written.multipliers[0] / multiplier, 1.0, delta=1e-9)
+                np.testing.assert_allclose(read(self.path("r.cfg")).channel("V"), values, rtol=1e-9)
+
     def test_read_back(self):
         chance = np.random.default_rng(58)
         for form, year in (

@@ -126,17 +126,18 @@ def record_drawing(path: str, dat: str | None, its: argparse.Namespace) -> Drawi
     """The drawing of one record or two; what was drawn is printed."""
     record = read(path, dat)
     signals, notes = signals_of(record, 0.0, "", its), told_of(record, 0.0)
-    title = os.path.basename(path)
+    names, title = record.names + record.state_names, os.path.basename(path)
     if its.other:
         other = read(its.other)
         mark = stem(its.other) if stem(its.other) != stem(path) else its.other
         signals += signals_of(other, its.offset, f" ({mark})", its)
         notes += told_of(other, its.offset)
+        names += other.names + other.state_names
         title += f" and {os.path.basename(its.other)}"
-    if its.only and not signals:
-        raise RecordError(f"{path} has no channel {its.only[0]!r}; it has {listed(record.names + record.state_names)}")
+    if its.only:
+        chosen(its.only, names, f"{path} and {its.other}" if its.other else path)  # each word has to mean one
     signals = [within(signal, its) for signal in signals]
-    if (record.names or record.state_names) and not any(len(signal.times) for signal in signals):
+    if names and not any(len(signal.times) for signal in signals):
         raise RecordError(
             f"{path} has no sample in the time that is asked for; it lasts from 0 to {number(record.times[-1])} s"
         )
@@ -164,8 +165,6 @@ def signals_of(record: Record, shift: float, suffix: str, its: argparse.Namespac
     names = record.names + record.state_names
     if its.only:
         wanted = [part.strip() for text in its.only for part in text.split(",")]
-        if not its.other:
-            chosen(its.only, names, record.path)  # each word has to mean one
         names = [name for name in names if any(name in matching(word, names) for word in wanted)]
     signals = []
     for name in names:
@@ -216,37 +215,30 @@ def times_drawing(signals: list[Signal]) -> Drawing:
     begin = min((signal.times[0] for signal in signals if len(signal.times)), default=0.0)
     end = max((signal.times[-1] for signal in signals if len(signal.times)), default=0.0)
     scale, unit = (1.0, "s") if end - begin >= LONG else (1e3, "ms")
-    curves, bars = [], []
+    told, curves, bars = [], [], []
     for signal in signals:
-        times = signal.times * scale
+        curve = Curve(signal.name, signal.times * scale, signal.values, signal.unit)
         if signal.state or is_two_valued(signal.values, signal.unit):
-            bars.append(Bar(signal.name, spans_of(times, signal.values) if len(times) else []))
+            bars.append(Bar(signal.name, spans_of(curve.x, signal.values) if len(curve.x) else []))
         else:
-            curves.append(Curve(signal.name, times, signal.values, signal.unit))
-    panes = panes_of(curves)
-    print_extremes(signals, curves, scale, unit)
+            curves.append(curve)
+        if not signal.state:
+            told.append(curve)
+    panes = panes_of(curves)  # in the units that are drawn and told
+    for curve in told:
+        print(extremes(curve, unit))
     return Drawing("", panes, bars, unit)
 
 
-def print_extremes(signals: list[Signal], curves: list[Curve], scale: float, unit: str) -> None:
-    """Least and greatest value of each analog channel, with their times, in the order of the channels."""
-    drawn = {
-        id(signal): Curve(signal.name, signal.times * scale, signal.values, signal.unit)
-        for signal in signals
-        if not signal.state
-    }
-    shown = {curve.name: curve for curve in curves}
-    for curve in drawn.values():
-        curve = shown.get(curve.name, curve)
-        if not np.isfinite(curve.y).any():
-            print(f"{curve.name}: no values")
-            continue
-        low, high = int(np.nanargmin(curve.y)), int(np.nanargmax(curve.y))
-        own = f" {curve.unit}" if curve.unit else ""
-        print(
-            f"{curve.name}: least {number(curve.y[low])}{own} at {number(curve.x[low])} {unit}, "
-            f"greatest {number(curve.y[high])}{own} at {number(curve.x[high])} {unit}"
-        )
+def extremes(curve: Curve, unit: str) -> str:
+    """Least and greatest value of a curve over the time, with their times."""
+    if not np.isfinite(curve.y).any():
+        return f"{curve.name}: no values"
+    low, high = int(np.nanargmin(curve.y)), int(np.nanargmax(curve.y))
+    least, most = (
+        f"{number(curve.y[at])} {curve.unit}".rstrip() + f" at {number(curve.x[at])} {unit}" for at in (low, high)
+    )
+    return f"{curve.name}: least {least}, greatest {most}"
 
 
 def spectrum_drawing(signal: Signal) -> Drawing:

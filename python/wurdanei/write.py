@@ -151,7 +151,7 @@ def multiplier_of(channel: Channel, form: str) -> Decimal:
         return Decimal(1)
     most = float(np.nanmax(np.abs(channel.values), initial=0.0)) * channel.share if len(channel.values) else 0.0
     own = channel.multiplier * channel.share
-    if own > 0 and most <= LIMITS[form] * own * (1 + 1e-9):
+    if own > 0 and most <= LIMITS[form] * own * (1 + 1e-12):
         return Decimal(repr(float(f"{own:.15g}")))
     if most == 0:
         return Decimal("0.000000001")
