@@ -3,6 +3,7 @@
 from __future__ import annotations
 
 import re
+import textwrap
 from dataclasses import dataclass, field
 
 import numpy as np
@@ -189,6 +190,11 @@ def extremes(values: np.ndarray, size: int) -> np.ndarray:
     most = first + np.where(np.isnan(pieces), -np.inf, pieces).argmax(1)
     gone = (first + missing.argmax(1))[missing.any(1)]
     return np.unique(np.concatenate([least, most, gone]))
+
+
+def folded(notes: list[str], width: int) -> list[str]:
+    """The notes in lines of at most so many characters."""
+    return [line for note in notes for line in textwrap.wrap(note, width)]
 
 
 def number(value: float) -> str:

@@ -8,10 +8,11 @@ import sys
 
 import numpy as np
 
-from .drawing import Curve, Drawing, Pane, needs, number, thinned
+from .drawing import Curve, Drawing, Pane, folded, needs, number, thinned
 from .resample import even_spacing
 
 DASHES = ["solid", "dash", "dashdot", "dot"]
+WIDTH = 160  # characters of a line above the panes
 POINTS = 600_000  # of all curves of a page, where not all are asked for
 
 
@@ -52,6 +53,7 @@ def write(drawing: Drawing, path: str, whole: bool) -> None:
         figure.update_xaxes(title_text=untagged(drawing.x_label), row=len(heights) or 1, col=1)
         figure.update_xaxes(range=list(drawing.span))
         figure.update_layout(hovermode="x unified")
+    notes = folded(notes, WIDTH)
     head = "<br>".join([untagged(drawing.title), *(f"<sub>{untagged(note)}</sub>" for note in notes)])
     space = 22 * len(notes)
     figure.update_layout(

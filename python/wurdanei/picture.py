@@ -7,12 +7,13 @@ import sys
 import warnings
 
 from .configuration import RecordError
-from .drawing import Drawing, Pane, needs, thinned
+from .drawing import Drawing, Pane, folded, needs, thinned
 
 LINES = ["-", "--", "-.", ":"]
 POINTS = 12_000  # of a curve: several for each column of a picture's dots
 DOTS = 80  # an inch
 ROWS = 12  # of a legend, then a column more
+WIDTH = 110  # characters of a line above the panes
 
 
 def draw(drawing: Drawing, path: str) -> None:
@@ -25,13 +26,13 @@ def draw(drawing: Drawing, path: str) -> None:
     warnings.simplefilter("ignore", UserWarning)  # of the look alone, as of a legend that is higher than its pane
     from matplotlib import pyplot
 
-    heights = drawing.heights or [1.0]
+    heights, notes = drawing.heights or [1.0], folded(drawing.notes, WIDTH)
     figure, axes = pyplot.subplots(
         len(heights),
         1,
         sharex=drawing.joint,
         squeeze=False,
-        figsize=(9, sum(heights) + 0.6 + 0.18 * len(drawing.notes)),
+        figsize=(9, sum(heights) + 0.6 + 0.18 * len(notes)),
         gridspec_kw={"height_ratios": heights},
     )
     places = [row[0] for row in axes]
@@ -41,8 +42,8 @@ def draw(drawing: Drawing, path: str) -> None:
         draw_bars(places[-1], drawing)
     if drawing.joint:
         places[-1].set_xlabel(plain(drawing.x_label))
-    if drawing.notes:
-        places[0].set_title("\n".join(plain(note) for note in drawing.notes), loc="left", fontsize="small", wrap=True)
+    if notes:
+        places[0].set_title("\n".join(plain(note) for note in notes), loc="left", fontsize="small")
     figure.tight_layout()
     try:
         figure.savefig(path, dpi=DOTS, format=os.path.splitext(path)[1][1:] or "png")
