@@ -1,6 +1,8 @@
-"""A recorder for tests: it writes records sample by sample by `struct`, and shares nothing with the package's own writer.
+"""A recorder for tests: it writes records sample by sample by `struct`, and shares nothing with the package's own
+writer.
 
-What it writes follows IEEE C37.111; the waves are given as functions of the time, so that a test knows each value by a formula.
+What it writes follows IEEE C37.111; the waves are given as functions of the time, so that a test knows each value by
+a formula.
 """
 
 import math
@@ -71,7 +73,8 @@ class Recorder:
         lines.append(f"{len(self.waves) + len(self.bars)},{len(self.waves)}A,{len(self.bars)}D")
         for number, wave in enumerate(self.waves, 1):
             low, high = ("-3.4E38", "3.4E38") if self.form == "FLOAT32" else (-STEPS[self.form], STEPS[self.form])
-            line = f"{number},{wave.name},{wave.phase},{wave.circuit},{wave.unit},{wave.multiplier(self.form)!r},0,{wave.skew},{low},{high}"
+            line = f"{number},{wave.name},{wave.phase},{wave.circuit},{wave.unit},{wave.multiplier(self.form)!r},0,"
+            line += f"{wave.skew},{low},{high}"
             lines.append(line if self.year == 1991 else f"{line},{wave.ratio[0]},{wave.ratio[1]},{wave.scaling}")
         for number, (name, _) in enumerate(self.bars, 1):
             lines.append(f"{number},{name},0" if self.year == 1991 else f"{number},{name},,,0")

@@ -53,7 +53,8 @@ class Kinds(Folder):
     """Each lawful kind of record, beside the formula of what was recorded."""
 
     def judge(self, recorder, times=None, missing=(), told=(), cff=False, trigger=0.0):
-        """Reads what a recorder writes; values within half a multiplier, times exact to a unit of the stamps or better."""
+        """Reads what a recorder writes; values within half a multiplier, times exact to a unit of the stamps or
+        better."""
         record = read(recorder.write(self.folder, cff=cff))
         wanted = recorder.times if times is None else times
         self.assertEqual((record.revision, record.form), (recorder.year, recorder.form))

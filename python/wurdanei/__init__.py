@@ -1,4 +1,5 @@
-"""Records of power networks beside a simulated one: reading, writing, drawing and comparing COMTRADE, and studies with `emtp`."""
+"""Records of power networks beside a simulated one: reading, writing, drawing and comparing COMTRADE, and studies
+with `emtp`."""
 
 from .record import Record, RecordError, read
 

@@ -1,4 +1,5 @@
-"""The channels that the words of a command name: names as the record has them, or patterns with `*` for any characters."""
+"""The channels that the words of a command name: names as the record has them, or patterns with `*` for any
+characters."""
 
 from __future__ import annotations
 

@@ -1,7 +1,7 @@
 """The configuration (cfg) of a COMTRADE record of 1991, 1999 or 2013: its lines, read and judged.
 
-A line that lacks what it needs, or contradicts another one, is a `RecordError` with its number; what is unusual but lawful is
-told. Sources: IEEE C37.111 of 1991, 1999 and 2013 (the last is IEC 60255-24:2013).
+A line that lacks what it needs, or contradicts another one, is a `RecordError` with its number; what is unusual but
+lawful is told. Sources: IEEE C37.111 of 1991, 1999 and 2013 (the last is IEC 60255-24:2013).
 """
 
 from __future__ import annotations
@@ -169,7 +169,8 @@ def sized(lines: Lines, fields: list[str], count: int, what: str) -> list[str]:
 
 
 def read_configuration(path: str, data: bytes, before: int = 0, base: int = 0) -> Configuration:
-    """The configuration that `data`, the bytes of a cfg, holds; so many lines and bytes of the file stand before them."""
+    """The configuration that `data`, the bytes of a cfg, holds; so many lines and bytes of the file stand before
+    them."""
     lines, told = Lines(path, data, before, base), []
     station, device, revision = head(lines, told)
     analogs, states = channel_counts(lines)
@@ -190,7 +191,8 @@ def read_configuration(path: str, data: bytes, before: int = 0, base: int = 0) -
     if lines.rest():
         told.append(f"what stands behind line {lines.number} of {path} isn't read")
     return Configuration(
-        path, station, device, revision, channels, bars, frequency, rates, rates_line, first, trigger, form, unit, why, told
+        path, station, device, revision, channels, bars, frequency, rates, rates_line, first, trigger, form, unit, why,
+        told,
     )  # fmt: skip
 
 
@@ -257,8 +259,7 @@ def analog(lines: Lines, revision: int, told: list[str]) -> Analog:
         one = "of edition 1991 nothing says" if revision == 1991 else "of some channels nothing says"
         tell(told, f"{one} whether values are primary or secondary: they are taken as they stand")
     return Analog(
-        fields[1], fields[2], fields[3], fields[4], multiplier, offset, skew * 1e-6, low, high, primary, secondary, scaling,
-        lines.number,
+        *fields[1:5], multiplier, offset, skew * 1e-6, low, high, primary, secondary, scaling, lines.number
     )  # fmt: skip
 
 

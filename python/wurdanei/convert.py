@@ -1,9 +1,9 @@
 """Makes another COMTRADE record of a record, as a test set or a viewer takes it, or a table.
 
-OUT is a record of two files, NAME.cfg with NAME.dat, a record of one file, NAME.cff (edition 2013), or a table, NAME.csv, with
-a column of times in s and one a channel. Without --rate the samples stay those of IN, and get a sampling rate where they are
-evenly spaced. With a lower rate a low-pass goes before it (cut-off at 0.4 of the rate, see docs/record.md). A channel is named as
-IN has it, or by a pattern with *; several stand between commas.
+OUT is a record of two files, NAME.cfg with NAME.dat, a record of one file, NAME.cff (edition 2013), or a table,
+NAME.csv, with a column of times in s and one a channel. Without --rate the samples stay those of IN, and get a
+sampling rate where they are evenly spaced. With a lower rate a low-pass goes before it (cut-off at 0.4 of the rate,
+see docs/record.md). A channel is named as IN has it, or by a pattern with *; several stand between commas.
 """
 
 from __future__ import annotations
@@ -157,8 +157,8 @@ def converted(record: Record, its: argparse.Namespace) -> Content:
         phase, _, circuit = phases.get(name, f"{record.phases[place]}:{record.circuits[place]}").partition(":")
         primary, secondary = ratios.get(name, record.ratio(name))
         channel = Channel(
-            renamed.get(name, name), record.units[place], values_at(record, name, kept, times, its.rate), phase, circuit,
-            0.0 if its.rate else record.skew(name), primary, secondary, "S" if name in ratios else "P",
+            renamed.get(name, name), record.units[place], values_at(record, name, kept, times, its.rate), phase,
+            circuit, 0.0 if its.rate else record.skew(name), primary, secondary, "S" if name in ratios else "P",
             math.nan if its.rate else record.multiplier(name),
         )  # fmt: skip
         channels.append(channel)
@@ -211,7 +211,8 @@ def values_at(record: Record, name: str, kept: slice, times: np.ndarray, rate: f
 
 
 def states_at(record: Record, name: str, kept: slice, times: np.ndarray, rate: float | None) -> np.ndarray:
-    """The states that are written, shape (written samples,): at another rate those of the last sample before or at a time."""
+    """The states that are written, shape (written samples,): at another rate those of the last sample before or at a
+    time."""
     states = record.states(name)[kept]
     if rate is None:
         return states
@@ -234,7 +235,8 @@ def rates_of(record: Record, times: np.ndarray, rate: float | None, whole: bool)
 
 
 def table(content: Content) -> Iterator[bytes]:
-    """The csv, some lines at a time: a head with names and units, a line a sample, an empty field where a value is missing."""
+    """The csv, some lines at a time: a head with names and units, a line a sample, an empty field where a value is
+    missing."""
     heads = [
         it.name + f" ({it.unit}{', secondary' if it.scaling == 'S' else ''})" * bool(it.unit) for it in content.channels
     ]

@@ -96,7 +96,8 @@ def base_unit(unit: str) -> tuple[float, str]:
 
 
 def shown_unit(unit: str, most: float) -> tuple[float, str]:
-    """By what values in V or A are divided where their greatest magnitude is `most`, and the unit that they have then."""
+    """By what values in V or A are divided where their greatest magnitude is `most`, and the unit that they have
+    then."""
     if unit in ("V", "A") and most >= (1e3 if unit == "V" else 1e4):
         return 1e3, "k" + unit
     return 1.0, unit
@@ -108,7 +109,7 @@ def greatest(curves: list[Curve]) -> float:
 
 
 def panes_of(curves: list[Curve]) -> list[Pane]:
-    """Panes of curves in V, A and other base units: one a unit, and of a unit one more for those that would lie flat."""
+    """Panes of curves in V, A and other base units: one a unit, and one more for those that would lie flat in it."""
     made = []
     for unit in dict.fromkeys(curve.unit for curve in curves):
         for group in by_magnitude([curve for curve in curves if curve.unit == unit]):
@@ -133,7 +134,8 @@ def by_magnitude(curves: list[Curve]) -> list[list[Curve]]:
 
 
 def covering(curve: Curve, others: list[Curve]) -> int:
-    """How many of the other curves lie over this one for much of its time, so that it has to be drawn apart from them."""
+    """How many of the other curves lie over this one for much of its time, so that it has to be drawn apart from
+    them."""
     if not len(curve.x):
         return 0
     spreads = [np.nanmax(it.y) - np.nanmin(it.y) for it in [curve, *others] if np.isfinite(it.y).any()]
@@ -154,7 +156,8 @@ def is_two_valued(values: np.ndarray, unit: str) -> bool:
 
 
 def spans_of(times: np.ndarray, states: np.ndarray) -> list[tuple[float, float]]:
-    """The times from and to which a state is 1, shape (samples,) both; more than `MOST_SPANS` grow together where gaps are short."""
+    """The times from and to which a state is 1, shape (samples,) both; more than `MOST_SPANS` grow together where
+    gaps are short."""
     closed = np.asarray(states) > 0.5
     edges = np.flatnonzero(np.diff(closed.astype(np.int8), prepend=0))
     begins, ends = times[edges[::2]], edges[1::2]
@@ -166,9 +169,11 @@ def spans_of(times: np.ndarray, states: np.ndarray) -> list[tuple[float, float]]
 
 
 def thinned(curve: Curve, most: int) -> tuple[np.ndarray, np.ndarray, int]:
-    """x and y of at most about `most` points of a curve, and of how many samples each the least and the greatest are kept.
+    """x and y of at most about `most` points of a curve, and of how many samples each the least and the greatest are
+    kept.
 
-    Of a piece with missing values one of them is kept, so that the gap shows. The piece is 1 where all points are kept.
+    Of a piece with missing values one of them is kept, so that the gap shows. The piece is 1 where all points are
+    kept.
     """
     size = -(-3 * len(curve.y) // max(most, 3))
     if len(curve.y) <= most or size <= 3:
@@ -205,5 +210,6 @@ def number(value: float) -> str:
 def needs(what: str, package: str, python: str) -> RecordError:
     """The error where a package isn't there."""
     return RecordError(
-        f"{what} needs {package}, which {python} doesn't have; Debian's is of /usr/bin/python3: apt install python3-{package}"
+        f"{what} needs {package}, which {python} doesn't have; Debian's is of /usr/bin/python3: "
+        f"apt install python3-{package}"
     )

@@ -1,4 +1,5 @@
-"""Writes a drawing as one page that stands alone, by plotly: zoom, values under the cursor, a legend that hides and shows."""
+"""Writes a drawing as one page that stands alone, by plotly: zoom, values under the cursor, a legend that hides and
+shows."""
 
 from __future__ import annotations
 
@@ -45,8 +46,8 @@ def write(drawing: Drawing, path: str, whole: bool) -> None:
             figure.update_xaxes(title_text=untagged(pane.x_label), row=row, col=1)
     if thinnest > 1:
         notes.append(
-            f"thinned: of each {thinnest} samples the least and the greatest are drawn; --all puts all of them into the page, "
-            "--from and --to take a piece"
+            f"thinned: of each {thinnest} samples the least and the greatest are drawn; --all puts all of them into "
+            "the page, --from and --to take a piece"
         )
     add_bars(graph_objects, figure, drawing)
     if drawing.joint:
@@ -68,7 +69,7 @@ def write(drawing: Drawing, path: str, whole: bool) -> None:
 
 
 def share_of(sizes: list[int]) -> int:
-    """How many points a curve may have so that all of them have `POINTS`; short curves leave theirs to the long ones."""
+    """How many points a curve may have so that all have `POINTS`; short curves leave theirs to the long ones."""
     left, rest = POINTS, sorted(sizes)
     while rest and rest[0] <= left // len(rest):
         left -= rest.pop(0)

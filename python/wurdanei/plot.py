@@ -2,13 +2,14 @@
 
     plot RECORD [DAT] [OUT]              a COMTRADE record, .cfg (DAT is its .dat, where it has another name) or .cff
     plot RECORD --with OTHER --offset S  two records over each other, OTHER moved by S seconds
-    plot SUMMARY [OUT] [--cfg CFG]       what a scan or a batch printed, in a file; a record's CFG names the channels of a batch
+    plot SUMMARY [OUT] [--cfg CFG]       what a scan or a batch printed, in a file; CFG names the channels of a batch
 
-OUT is a picture, NAME.png, or one page that stands alone, NAME.html, with zoom, values under the cursor and a legend that hides and
-shows; without OUT it is a picture beside the first file. Times are in seconds from the first sample. Channels of one unit
-stand in one pane, those that would lie flat in one of their own; states, and variables that are 0 or 1 throughout, are bars
-below. Where values are secondary, missing or moved, that is said. A scan is drawn as magnitude and angle over the frequency,
-its resonances marked; a batch as the share of its rows that stay at or below a peak, with the value that 2 % of them exceed.
+OUT is a picture, NAME.png, or one page that stands alone, NAME.html, with zoom, values under the cursor and a legend
+that hides and shows; without OUT it is a picture beside the first file. Times are in seconds from the first sample.
+Channels of one unit stand in one pane, those that would lie flat in one of their own; states, and variables that are
+0 or 1 throughout, are bars below. Where values are secondary, missing or moved, that is said. A scan is drawn as
+magnitude and angle over the frequency, its resonances marked; a batch as the share of its rows that stay at or below
+a peak, with the value that 2 % of them exceed.
 
 Pictures need matplotlib (Debian: python3-matplotlib), pages plotly (Debian: python3-plotly).
 """
@@ -37,7 +38,8 @@ TOLD_PEAKS = 5
 
 @dataclass
 class Signal:
-    """A channel as it may be drawn: `times` in s and `values`, shape (samples,) both, in V, A or the channel's own unit."""
+    """A channel as it may be drawn: `times` in s and `values`, shape (samples,) both, in V, A or the channel's own
+    unit."""
 
     name: str
     times: np.ndarray
@@ -250,7 +252,8 @@ def spectrum_drawing(signal: Signal) -> Drawing:
         print(f"{signal.name}: {number(hertz)} Hz: crest {number(crest / divisor)} {unit}".rstrip())
         marks.append(Mark(hertz, crest / divisor, f"{number(hertz)} Hz"))
     told = [
-        f"spectrum of {number(made.length)} s by the window of von Hann: crest values, a line each {number(made.resolution)} Hz"
+        f"spectrum of {number(made.length)} s by the window of von Hann: crest values, "
+        f"a line each {number(made.resolution)} Hz"
     ]
     told += [made.told] if made.told else []
     curve = Curve(signal.name, made.hertz, made.crests / divisor, unit)

@@ -1,11 +1,12 @@
-"""Reads COMTRADE records: editions 1991, 1999 and 2013; ASCII, BINARY, BINARY32 and FLOAT32; cfg with dat, or one cff.
+"""Reads COMTRADE records: editions 1991, 1999 and 2013; ASCII, BINARY, BINARY32 and FLOAT32; cfg with dat, or one
+cff.
 
     record = read("x.cfg")             # x.dat beside it; or read("x.cfg", "y.dat"), or read("x.cff")
     record.channel("I BUS-SEND")       # primary values in the channel's unit, nan where missing
     record.times                       # s from the first sample
 
-What a file lacks or contradicts is a `RecordError` that names file, line or byte and cause. What is unusual but lawful is in
-`told`, each once. Source: IEEE C37.111 of 1991, 1999 and 2013.
+What a file lacks or contradicts is a `RecordError` that names file, line or byte and cause. What is unusual but
+lawful is in `told`, each once. Source: IEEE C37.111 of 1991, 1999 and 2013.
 """
 
 from __future__ import annotations
@@ -333,7 +334,8 @@ def sample_times(own: Configuration, samples: Samples) -> np.ndarray:
 
 
 def times_by_rates(rates: list[tuple[float, int]]) -> np.ndarray:
-    """Times by sampling rates, shape (samples,), s: a sample stands one period of its own rate behind the one before it."""
+    """Times by sampling rates, shape (samples,), s: a sample stands one period of its own rate behind the one before
+    it."""
     times = np.empty(rates[-1][1])
     first, begin, ahead = 0, 0.0, 0  # ahead: the first sample stands at 0
     for hertz, last in rates:

@@ -1,9 +1,9 @@
 """Values at another rate: a low-pass against aliases where the new rate is lower, straight lines where it is higher.
 
-The low-pass is a sine over its argument with the cut-off at 0.4 of the new rate, within a raised cosine (von Hann) of 8 periods of the
-new rate to either side, and without a shift in time. It passes what lies below 0.3 of the new rate to 1 %, and leaves less
-than 1 % of what lies above half of it. Source: Oppenheim and Schafer, Discrete-Time Signal Processing, on the design of
-filters by windows.
+The low-pass is a sine over its argument with the cut-off at 0.4 of the new rate, within a raised cosine (von Hann) of
+8 periods of the new rate to either side, and without a shift in time. It passes what lies below 0.3 of the new rate
+to 1 %, and leaves less than 1 % of what lies above half of it. Source: Oppenheim and Schafer, Discrete-Time Signal
+Processing, on the design of filters by windows.
 """
 
 from __future__ import annotations
@@ -31,9 +31,11 @@ def even_spacing(times: np.ndarray) -> float | None:
 
 
 def at_rate(times: np.ndarray, values: np.ndarray, wanted: np.ndarray, rate: float) -> np.ndarray:
-    """The values at the wanted times, which have this rate in Hz: shape (wanted,), float64, nan beside missing values.
+    """The values at the wanted times, which have this rate in Hz: shape (wanted,), float64, nan beside missing
+    values.
 
-    times: shape (samples,), s, rising. values: shape (samples,), nan where missing. Outside of the times the end values go on.
+    times: shape (samples,), s, rising. values: shape (samples,), nan where missing. Outside of the times the end
+    values go on.
     """
     missing = np.isnan(values)
     if missing.all() or len(times) == 1:

@@ -29,7 +29,8 @@ class Samples:
     count: int
 
     def stamps(self) -> Iterator[np.ndarray]:
-        """The time stamps, some at a time and once: shape (some samples,), float64, in the record's unit, nan where blank."""
+        """The time stamps, some at a time and once: shape (some samples,), float64, in the record's unit, nan where
+        blank."""
         raise NotImplementedError
 
     def raw(self, place: int) -> np.ndarray:
@@ -74,8 +75,9 @@ class Binary(Samples):
         self.path, self.start, self.width, self.missing = path, start, kind.itemsize, MISSING.get(configuration.form)
         if size % self.width:
             raise RecordError(
-                f"{path}: byte {start + size - size % self.width + 1}: {size % self.width} bytes stand behind the last whole "
-                f"sample of {self.width} bytes: the file is cut, or has other channels than {configuration.path} names"
+                f"{path}: byte {start + size - size % self.width + 1}: {size % self.width} bytes stand behind the last "
+                f"whole sample of {self.width} bytes: the file is cut, or has other channels than {configuration.path} "
+                "names"
             )
         self.data = np.fromfile(file, kind, size // self.width)
         self.count = len(self.data)
@@ -93,8 +95,8 @@ class Binary(Samples):
         below = np.flatnonzero(self.data["analog"][:, place] < 0)
         if len(below):
             raise RecordError(
-                f"{what} ranges from 0 to {high:g}, and its raw value in the sample at {self.where(below[0])} is below 0: "
-                "it may be without sign, which the standard doesn't have"
+                f"{what} ranges from 0 to {high:g}, and its raw value in the sample at {self.where(below[0])} is below "
+                "0: it may be without sign, which the standard doesn't have"
             )
 
     def stamps(self) -> Iterator[np.ndarray]:
@@ -234,7 +236,8 @@ class Text(Samples):
         return numbers
 
     def judge_numbers(self, numbers: np.ndarray) -> None:
-        """Tells where the numbers of samples, shape (lines of a piece,), don't rise by 1; after the greatest of 32 bits or ten digits 0 or 1 follows."""
+        """Tells where the numbers of samples, shape (lines of a piece,), don't rise by 1; after the greatest of 32
+        bits or ten digits 0 or 1 follows."""
         before = np.concatenate([[numbers[0] - 1 if self.last is None else self.last], numbers[:-1]])
         wraps = (numbers <= 1) & ((before == 2.0**32 - 1) | (before == 1e10 - 1))
         if not ((numbers == before + 1) | wraps).all():

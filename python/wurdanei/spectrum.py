@@ -1,8 +1,8 @@
 """The spectrum of a channel by the window of von Hann, and its peaks.
 
-A sine of crest c shows a peak of c. Between two lines of the spectrum frequency and crest are found from both: with the ratio r
-of the greater neighbour to the greatest line the peak stands (2 r - 1) / (1 + r) lines towards it. Source: Rife and Vincent,
-Bell System Technical Journal 1970; Harris, Proceedings of the IEEE 1978.
+A sine of crest c shows a peak of c. Between two lines of the spectrum frequency and crest are found from both: with
+the ratio r of the greater neighbour to the greatest line the peak stands (2 r - 1) / (1 + r) lines towards it.
+Source: Rife and Vincent, Bell System Technical Journal 1970; Harris, Proceedings of the IEEE 1978.
 """
 
 from __future__ import annotations
@@ -30,7 +30,8 @@ class Spectrum:
 
 
 def spectrum_of(times: np.ndarray, values: np.ndarray, name: str) -> Spectrum:
-    """The spectrum of values at rising times in s, shape (samples,) both; gaps and uneven times are bridged by straight lines."""
+    """The spectrum of values at rising times in s, shape (samples,) both; gaps and uneven times are bridged by
+    straight lines."""
     known = np.isfinite(values)
     count = len(times)
     if known.sum() < LEAST:

@@ -2,8 +2,8 @@
 
     write("x.cfg", Content(times, [Channel("V BUS", "V", values)]), form="BINARY", revision=1999)
 
-A value that is written is off by at most half the channel's multiplier, which `write` answers, and in the form FLOAT32 by half a
-unit of the last of its 24 bits. Source: IEEE C37.111 of 1999 and 2013.
+A value that is written is off by at most half the channel's multiplier, which `write` answers, and in the form
+FLOAT32 by half a unit of the last of its 24 bits. Source: IEEE C37.111 of 1999 and 2013.
 """
 
 from __future__ import annotations
@@ -76,7 +76,8 @@ class Content:
 
 @dataclass
 class Written:
-    """What was written: the files; the multiplier of each channel, in primary units (nan in FLOAT32); the unit of a time stamp in s."""
+    """What was written: the files; the multiplier of each channel, in primary units (nan in FLOAT32); the unit of a
+    time stamp in s."""
 
     files: list[str]
     multipliers: list[float]
@@ -146,7 +147,8 @@ def check(path: str, content: Content, form: str, revision: int, whole: bool) ->
 
 
 def multiplier_of(channel: Channel, form: str) -> Decimal:
-    """The multiplier of raw values as it is written: the channel's own one where it suffices, else the least of seven digits."""
+    """The multiplier of raw values as it is written: the channel's own one where it suffices, else the least of seven
+    digits."""
     if form == "FLOAT32":
         return Decimal(1)
     most = float(np.nanmax(np.abs(channel.values), initial=0.0)) * channel.share if len(channel.values) else 0.0
@@ -172,8 +174,9 @@ def plain(value: Decimal | float) -> str:
 def time_stamps(content: Content) -> tuple[float, np.ndarray]:
     """The unit of a time stamp in us, a power of ten, and the stamps, whole numbers of it below 2^32 - 1.
 
-    Beside a rate the unit is 1 us where samples stand that far apart; else it is the greatest that gives the times exactly, or
-    the least that holds the last one."""
+    Beside a rate the unit is 1 us where samples stand that far apart; else it is the greatest that gives the times
+    exactly, or the least that holds the last one.
+    """
     times = (content.times - content.times[0]) * 1e6
     power = 0
     while times[-1] / 10.0**power > BLANK_STAMP - 1:
@@ -277,7 +280,8 @@ def data_size(content: Content, form: str) -> int | None:
 
 
 def put(files: dict[str, Iterable[bytes]]) -> None:
-    """Writes files, each in pieces: all beside their places, then moves them there, so that a fault leaves what was there before."""
+    """Writes files, each in pieces: all beside their places, then moves them there, so that a fault leaves what was
+    there before."""
     beside = {path: f"{path}.{os.getpid()}.part" for path in files}
     try:
         for path, parts in files.items():
