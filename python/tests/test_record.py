@@ -249,6 +249,7 @@ class ByHand(Folder):
             (b"28/11/2026,13:07:20.502000", b",", "the time of the trigger is blank"),
             (b"20.502000", b"20.498000", "the trigger stands 0.002 s before the first sample"),
             (b"20.502000", b"21.502000", "the trigger stands 1 s after the last sample"),
+            (b"2,IA", b"2,\xb5A \x96", "letters that are no UTF-8: they are read as Windows-1252"),
             (b"2,IA", b"2,VA", "names that stand more than once have .2, .3 behind the later ones: VA"),
         ]
         for old, new, words in unusual:
@@ -345,6 +346,7 @@ class Refusals(Folder):
             (b"ASCII\r\n1\r\n", b"ASCII\r\n0\r\n", "line 12: the multiplier of the time stamps is 0"),
             (b"ASCII\r\n1\r\n", b"ASCII\r\n", "line 12 is missing: the multiplier"),
             (b"STATION", b"STA\x00ION", "line 1: byte 4 of the file is 0x00"),
+            (b"1,VA", b"1,V\xc2\x9bA", "line 3: it has the control character U+009B"),
             (b"kV,0.5,-1", b"kV,1e308,-1", "line 3: a value of VA leaves the range of numbers"),
         ]
         for old, new, words in cases:

@@ -99,6 +99,7 @@ class Lines:
         self.at = 3 if data.startswith(b"\xef\xbb\xbf") else 0  # a mark of UTF-8
         self.number = before  # of the line that was read last
         self.open = False  # whether that line lacks its end
+        self.foreign = False  # whether a line is no UTF-8
 
     def fault(self, cause: str) -> RecordError:
         """An error at the line that was read last."""
@@ -125,19 +126,22 @@ class Lines:
             raise self.fault(
                 f"byte {place} of the file is 0x{strange[0][0]:02X}, so this is no configuration of a record"
             )
-        return [field.strip() for field in decoded(line.rstrip(b"\r\x1a")).split(",")]
+        return [field.strip() for field in self.decoded(line.rstrip(b"\r\x1a")).split(",")]
+
+    def decoded(self, line: bytes) -> str:
+        """A line's text: UTF-8 (2013), else Windows-1252, as recorders write it."""
+        try:
+            text = line.decode("utf-8")
+        except UnicodeDecodeError:
+            self.foreign, text = True, line.decode("cp1252", "replace")
+        control = re.search("[\x80-\x9f]", text)
+        if control:
+            raise self.fault(f"it has the control character U+{ord(control[0]):04X}")
+        return text
 
     def rest(self) -> bytes:
         """What stands behind the lines that were read, without blanks."""
         return self.data[self.at : self.at + 1000].strip(b" \t\r\n\x1a")
-
-
-def decoded(line: bytes) -> str:
-    """A line's text: UTF-8 (2013), else ISO 8859-1."""
-    try:
-        return line.decode("utf-8")
-    except UnicodeDecodeError:
-        return line.decode("latin-1")
 
 
 def real(lines: Lines, word: str, what: str, blank: float | None = None) -> float:
@@ -188,6 +192,8 @@ def read_configuration(path: str, data: bytes, before: int = 0, base: int = 0) -
     if form in FORMS[2:] and revision != 2013:
         told.append(f"the form {form} is of edition 2013, and the record is of {revision}")
     unit, why = stamp_unit(lines, revision, first, trigger, told)
+    if lines.foreign:
+        told.append(f"{path} has letters that are no UTF-8: they are read as Windows-1252")
     if lines.rest():
         told.append(f"what stands behind line {lines.number} of {path} isn't read")
     return Configuration(
