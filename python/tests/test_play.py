@@ -212,6 +212,7 @@ class Command(unittest.TestCase):
                 status, out, told = self.run_words("a.case", "m.cfg", *words, "--out", "e.case")
                 self.assertEqual((status, out), (2, ""), told)
                 self.assertIn(cause, told)
+                self.assertEqual(told.count("\n"), 1)
                 self.assertFalse((self.place / "e.case").exists())
         status, _, told = self.run_words("a.case", "m.cfg", "BUS=V BUS", "--out", "there.case")
         self.assertEqual((status, told), (2, "play: there.case is there already\n"))

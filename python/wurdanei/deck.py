@@ -19,6 +19,13 @@ class DeckError(Exception):
     """Why a case can't be taken, in words."""
 
 
+def refusal(ended: program.Ended) -> str:
+    """Why a case was refused: of all that is printed of it the line with the card, or what was said last."""
+    lines = [line for line in (*ended.told.splitlines(), *ended.note.splitlines()) if line.strip()]
+    cards = [line for line in lines if line.startswith("BAD CARD")]
+    return (cards or lines or [f"status {ended.status}"])[-1]
+
+
 def kinds(path: str) -> dict[int, str]:
     """As what kind of card each line of a case is read, by its number; without comments, and up to a card that is refused."""
     folder, name = os.path.split(os.path.abspath(path))
@@ -31,7 +38,7 @@ def kinds(path: str) -> dict[int, str]:
     except program.ProgramError as fault:
         raise DeckError(str(fault)) from None
     if told.status:
-        raise DeckError(f"{path}: {told.note.strip() or told.told.strip() or f'status {told.status}'}")
+        raise DeckError(f"{path}: {refusal(told)}")
     rows = [line.split("\t", 1) for line in told.note.splitlines()]
     return {int(row[0]): row[1] for row in rows if len(row) == 2 and not row[1].startswith("due: ")}
 

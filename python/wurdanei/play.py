@@ -15,7 +15,7 @@ from decimal import Decimal
 import numpy as np
 
 from . import program
-from .deck import Deck, DeckError
+from .deck import Deck, DeckError, refusal
 from .drawing import base_unit
 from .record import Record, RecordError, read
 
@@ -285,7 +285,7 @@ def main(words: list[str]) -> int:
                 file.write(deck.text())
             shown = program.run(["show", "--count", "case"], room)
         if shown.status:
-            raise PlayError(f"the case with these sources isn't accepted: {shown.note.strip()}")
+            raise PlayError(f"the case with these sources isn't accepted: {refusal(shown)}")
         with open(given.out, "x", encoding="latin-1", errors="replace", newline="") as file:
             file.write(deck.text())
         print(f"{plan.begin:g} s of the record is {plan.lead:g} s of the case")
