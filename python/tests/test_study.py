@@ -423,13 +423,20 @@ class Whole(unittest.TestCase):
             hand = samples((0.0105, 0.0205, 0.0305), load=float(row["7:R"]))
             self.assertAlmostEqual(float(row["V LOAD (pu)"]), np.max(abs(hand[1])) / 100, delta=2e-4)
 
+    def test_refused_values(self):
+        (self.place / "a.times").write_text("* * * * * *\n")
+        for values, words in (("x,1.", "a.case with 6:R = x: "), ("1.,x", "a.case with 6:R = x: status 2, ")):
+            with contextlib.chdir(self.place), contextlib.redirect_stderr(io.StringIO()) as told:
+                self.assertEqual(study.main(["a.case", "a.times", "--vary", f"6:R={values}", "--out", values]), 2)
+            self.assertIn(words + "BAD CARD LINE 6 COLUMN 27 REASON 3 NotANumber", told.getvalue())
+
     def test_refused_case(self):
         (self.place / "b.case").write_text(CASE.replace("14SRC", "15SRC"))
         (self.place / "a.times").write_text("* * * * * *\n")
         with contextlib.chdir(self.place), contextlib.redirect_stderr(io.StringIO()) as told:
             self.assertEqual(study.main(["b.case", "a.times"]), 2)
         self.assertIn(
-            "b.case: BAD CARD LINE 14 COLUMN 1 REASON 7 BadType; `emtp show b.case` says more", told.getvalue()
+            "b.case: BAD CARD LINE 14 COLUMN 1 REASON 7 BadType; `emtp show` says more of a case", told.getvalue()
         )
         self.assertFalse((self.place / "b.study").exists())
 

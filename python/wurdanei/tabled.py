@@ -48,7 +48,7 @@ def make_parts(words: argparse.Namespace, means: Means, cases: Cases, rows: list
     return made
 
 
-def first_record(words: argparse.Namespace, means: Means) -> Record:
+def first_record(words: argparse.Namespace, means: Means, cases: Cases) -> Record:
     """The record of the case itself, or of the first one, which has to be accepted; kept as case.cfg and case.dat."""
     cfg = os.path.join(means.room, "case.cfg")
     if not os.path.exists(cfg):
@@ -56,12 +56,15 @@ def first_record(words: argparse.Namespace, means: Means) -> Record:
         if ran.status not in (0, 3):
             shutil.rmtree(means.room)
             note = ran.note.strip() or f"status {ran.status}"
-            raise StudyError(f"{words.case}: {note}; `emtp show {words.case}` says more")
+            told = f" with {cases.told(0)}" if cases.headings else ""
+            raise StudyError(f"{words.case}{told}: {note}; `emtp show` says more of a case")
         os.replace(os.path.join(means.room, "made.cfg"), cfg)
     return read(cfg)
 
 
-def check_parts(words: argparse.Namespace, means: Means, made: list[Part], rows: list[tuple[int, str]]) -> None:
+def check_parts(
+    words: argparse.Namespace, means: Means, cases: Cases, made: list[Part], rows: list[tuple[int, str]]
+) -> None:
     """StudyError where a part isn't done, or was refused: then with the line of the whole table."""
     for it in made:
         status = status_of(means.room, it.name)
@@ -74,7 +77,8 @@ def check_parts(words: argparse.Namespace, means: Means, made: list[Part], rows:
             shutil.rmtree(means.room)
             raise StudyError(f"{words.table}: line {line}, item {match[2]}: {text}")
         if status:
-            raise StudyError(f"{it.name}, {it.name}.case: status {status}, {note}")
+            told = f" with {cases.told(it.case)}" if cases.headings else ""
+            raise StudyError(f"{it.name}, {words.case}{told}: status {status}, {note}")
 
 
 def run_table(words: argparse.Namespace, means: Means) -> None:
@@ -85,9 +89,9 @@ def run_table(words: argparse.Namespace, means: Means) -> None:
         raise StudyError(f"{words.table} has no rows")
     cases = varied.cases_of(words.case, words.vary, words.peaks_from)
     made = make_parts(words, means, cases, rows)
-    channels = peaks.channels_of(first_record(words, means), cases, words.any)
+    channels = peaks.channels_of(first_record(words, means, cases), cases, words.any)
     parts.run_parts(means, [it.name for it in made], parts.VARIED if cases.headings else parts.BATCH)
-    check_parts(words, means, made, rows)
+    check_parts(words, means, cases, made, rows)
     found: list[list[peaks.Row]] = [[] for _ in cases.texts]
     for it in made:
         its = peaks.rows_in(parts.output_of(means.room, it.name))
@@ -114,13 +118,8 @@ def answer(
         write_text(os.path.join(means.room, name), peaks.summary(its, channels))
         written.append(name)
     table = os.path.join(means.room, "rows.csv")
-    peaks.write_rows(
-        table,
-        cases.headings,
-        [(*it, found[k]) for k, it in enumerate((v, rows) for v in cases.values)],
-        channels,
-        words.base,
-    )
+    tables = [(texts, rows, its) for texts, its in zip(cases.values, found)]
+    peaks.write_rows(table, cases.headings, tables, channels, words.base)
     first, last = (os.path.join(means.room, written[place]) for place in (0, -1))
     print(f"{sum(map(len, found))} rows: {first if first == last else f'{first} to {written[-1]}'}, {table}")
     if not headings:
@@ -128,9 +127,9 @@ def answer(
     columns = [peaks.columns_of(its, channels, words.base) for its in found]
     if cases.headings:
         write_values(os.path.join(means.room, "values.csv"), cases, headings, columns)
-    for texts, its in zip(cases.values, columns):
-        for heading, text in zip(cases.headings, texts):
-            print(f"{heading} = {text}")
+    for place, its in enumerate(columns):
+        if cases.headings:
+            print(cases.told(place))
         print("\n".join(peaks.listing(headings, its)))
     if not cases.headings:
         draw(headings, columns[0], os.path.join(means.room, "peaks.png"))

@@ -132,6 +132,10 @@ class Cases:
     instead: dict[str, str]
     since: str = ""  # what is said behind these
 
+    def told(self, place: int) -> str:
+        """The varied fields of a case with their texts, where there are some."""
+        return ", ".join(f"{heading} = {text}" for heading, text in zip(self.headings, self.values[place]))
+
 
 def cases_of(path: str, vary: list[str], begin: float | None) -> Cases:
     """The case as it is, or under each combination of the values that `vary` names, or with its peaks taken from `begin`
@@ -144,7 +148,7 @@ def cases_of(path: str, vary: list[str], begin: float | None) -> Cases:
     instead = {} if begin is None else windowed(deck, begin)
     values = combinations(lists)
     texts = [text_with(deck, lists, it) for it in values]
-    return Cases(texts, [it.label for it in lists], values, instead, f" from {begin} s on")
+    return Cases(texts, [it.label for it in lists], values, instead, "" if begin is None else f" from {begin} s on")
 
 
 # ---- peaks from a time on
