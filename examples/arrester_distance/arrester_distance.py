@@ -1,4 +1,4 @@
-"""The energy that an arrester takes, and the voltage behind it, over its distance; with a name of a file their picture."""
+"""The energy that an arrester takes, and the voltage behind it, over its distance; with a file's name their picture."""
 
 import sys
 

@@ -2,9 +2,10 @@
 
     cd python && python3 -m tests.roundtrip COUNT [FIRST] [--methods]
 
-writes COUNT cases from the seeds FIRST (1), FIRST + 1 .. on, with every method of a card among them, and looks for each value
-that was given in the listing: a number within half of the last digit that stands in its columns. These columns are written
-here once more, by hand from docs/cards.md and docs/control.md. Exit status 0 where all are found, else 1.
+writes COUNT cases from the seeds FIRST (1), FIRST + 1 .. on, with every method of a card among them, and looks for
+each value that was given in the listing: a number within half of the last digit that stands in its columns. These
+columns are written here once more, by hand from docs/cards.md and docs/control.md. Exit status 0 where all are found,
+else 1.
 """
 
 import argparse
@@ -167,7 +168,7 @@ class Maker:
 
     def series_expected(self, ends: tuple[str, str], values: typing.Sequence[float | Decimal]) -> Expected:
         """Narrow or wide columns, as the card has them."""
-        card = self.case._drafted.branches[-1].cards[0]
+        card = self.case._draft.contents.branches[-1].cards[0]
         wide = card.kind.name.startswith("wide")
         places = ((27, 42), (43, 58), (59, 74)) if wide else ((27, 32), (33, 38), (39, 44))
         numbers = {n: Number(v, *at, k) for n, v, at, k in zip("RLC", values, places, (6, 6, 9))}
@@ -178,13 +179,13 @@ class Maker:
         pieces = self.pick.randint(2, 5)
         r_ohm, l_mh, c_uf = self.maybe(1e-3, 1e3), self.number(1, 1e3), self.maybe(1e-3, 10)
         peak_a = 0.9e9 * self.case.dt / (2e-3 * l_mh) * (pieces - 0.5)
-        before = len(self.case._drafted.branches)
+        before = len(self.case._draft.contents.branches)
         self.case.series(*ends, r_ohm=r_ohm, l_mh=l_mh, c_uf=c_uf, peak_a=peak_a, ask=ask)
-        inner = [it.ends for it in self.case._drafted.branches[before:]]
+        inner = [it.ends for it in self.case._draft.contents.branches[before:]]
         assert len(inner) == pieces and [a for a, _ in inner[1:]] == [b for _, b in inner[:-1]], inner
         assert (inner[0][0], inner[-1][1]) == ends
         for number, own in enumerate(inner):
-            branch = self.case._drafted.branches[before + number]
+            branch = self.case._draft.contents.branches[before + number]
             wide = branch.cards[0].kind.name.startswith("wide")
             places = ((27, 42), (43, 58), (59, 74)) if wide else ((27, 32), (33, 38), (39, 44))
             values = (r_ohm if number == 0 else 0.0, l_mh / pieces, c_uf if number == 0 else 0.0)
@@ -439,7 +440,7 @@ class Maker:
 
     def driven(self) -> None:
         node, current = self.node(), self.pick.random() < 0.5
-        if node in self.case._drafted.variables:
+        if node in self.case._draft.contents.variables:
             return
         self.case.control.step(node, 1.0)
         self.control_sources.append(self.control_expected(node, 11, None, {"amplitude": Number(1.0, 11, 20, 9)}))
@@ -469,7 +470,7 @@ class Maker:
     def new(self) -> str:
         """A name that no card defines yet; those that others may read come first."""
         name = self.fresh.pop(0) if self.fresh else ""
-        return name or self.case._unused("Q")
+        return name or self.case._draft.unused("Q")
 
     def inputs(self, least: int = 0) -> tuple[list[str | tuple[str, str]], list[str]]:
         """Inputs as they are given, and as they are listed."""
@@ -509,7 +510,7 @@ class Maker:
     def measured(self) -> None:
         """The voltage of a node, the current or the state of a switch."""
         node = self.node()
-        if node in self.case._drafted.variables:
+        if node in self.case._draft.contents.variables:
             return
         kind = self.pick.choice(["voltage", "current", "state"])
         at = [place for place, it in enumerate(self.switches, 1) if node in (it.named["BUS1"], it.named["BUS2"])]
@@ -678,19 +679,21 @@ class Maker:
         """Some cards of each kind in a random order; those that are refused are left out."""
         for _ in range(self.pick.choice([3, 10, 25, 40])):
             method = self.pick.choice(self.METHODS)
-            before = vars(self.case._drafted).copy() | {"kept": self.case._drafted.kept()}
+            before = vars(self.case._draft.contents).copy() | {"kept": self.case._draft.contents.copied()}
             try:
                 getattr(self, method)()
                 self.done[method] += 1
             except CaseError as fault:
-                assert vars(self.case._drafted) == vars(before["kept"]), f"{method} left something behind: {fault}"
+                assert vars(self.case._draft.contents) == vars(
+                    before["kept"]
+                ), f"{method} left something behind: {fault}"
                 self.done[f"refused {method}"] += 1
         self.close()
 
     def close(self) -> None:
         """Variables that are read and not there yet are made, and too many channels are asked for less."""
         for name in self.variables:
-            if name not in self.case._drafted.variables:
+            if name not in self.case._draft.contents.variables:
                 self.case.control.step(name, 2.5)
                 self.control_sources.append(
                     self.control_expected(name, 11, None, {"amplitude": Number(2.5, 11, 20, 9)})

@@ -1,4 +1,5 @@
-"""Tests of wurdanei.case: the cards that its methods write, by hand; what it refuses, and in which words; and its answers.
+"""Tests of wurdanei.case: the cards that its methods write, by hand; what it refuses, and in which words; and its
+answers.
 
 Where the program isn't built, the tests that need an answer of it are left out.
 """

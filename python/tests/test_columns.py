@@ -1,4 +1,5 @@
-"""Tests of wurdanei.columns and wurdanei.fields: the table of columns, and numbers in fields, by hand from docs/cards.md."""
+"""Tests of wurdanei.columns and wurdanei.fields: the table of columns, and numbers in fields, by hand from
+docs/cards.md."""
 
 import random
 import unittest

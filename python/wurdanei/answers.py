@@ -83,7 +83,8 @@ class End:
 class Steady:
     """A steady state: its frequency, the greatest residual of Kirchhoff's current law, and the voltages of the nodes.
 
-    `volts` has shape (nodes,), complex: the real part goes by the cosine, the imaginary part by the sine, of crest values.
+    `volts` has shape (nodes,), complex: the real part goes by the cosine, the imaginary part by the sine, of crest
+    values.
     """
 
     hz: float
@@ -97,10 +98,11 @@ class Steady:
 
 @dataclass(frozen=True)
 class Scan:
-    """Impedances over frequencies: `hz` and `ohm` of shape (frequencies,), the latter complex, nan where there is no answer.
+    """Impedances over frequencies: `hz` and `ohm` of shape (frequencies,), the latter complex, nan where there is no
+    answer.
 
-    `resonances` are the frequencies in Hz at which the magnitude is greater than at both neighbours; `told` has why an answer
-    isn't there.
+    `resonances` are the frequencies in Hz at which the magnitude is greater than at both neighbours; `told` has why
+    an answer isn't there.
     """
 
     hz: np.ndarray = field(repr=False)

@@ -10,8 +10,9 @@
     record = case.run()
     record.times, record.channel("V FAR")
 
-docs/python.md is the page for its users, docs/cards.md and docs/control.md say what the cards mean. What can't be is a
-`CaseError` that names the call; what the program refuses all the same is a `Refused` with line, column and card besides.
+docs/python.md is the page for its users, docs/cards.md and docs/control.md say what the cards mean. What can't be is
+a `CaseError` that names the call; what the program refuses all the same is a `Refused` with line, column and card
+besides.
 """
 
 import difflib
@@ -23,10 +24,10 @@ import numpy as np
 
 from . import columns, fields, listing, program, record
 from .answers import BAD_CARD, REFUSED, Batch, End, Refused, Scan, Steady, batch_of, end_of, scan_of, steady_of
-from .control import Control
-from .draft import STANDING, Call, CaseError, Switch, Written, joined
-from .fields import FieldError
 from .compound import Compound, after
+from .control import Control
+from .draft import STANDING, Call, CaseError, Draft, Switch, Written, joined
+from .fields import FieldError
 
 __all__ = ["Case", "CaseError", "Refused", "End", "Steady", "Scan", "Batch", "Switch"]
 
@@ -36,8 +37,8 @@ MOST_STEPS, MOST_VALUES, MOST_CHANNELS, MOST_HISTORY, MOST_ROWS = 1_000_000, 4_0
 class Case(Compound):
     """A case: its time step and its end in s, and its cards, each written by a method.
 
-    `every` so many steps the record has a sample. `tolerance_a` is the greatest residual of Kirchhoff's current law, 0.01 A
-    without it. `remark` stands above the cards as comments. `control` has the methods of the control's cards.
+    `every` so many steps the record has a sample. `tolerance_a` is the greatest residual of Kirchhoff's current law,
+    0.01 A without it. `remark` stands above the cards as comments. `control` has the methods of the control's cards.
     """
 
     end_of_run: End | None = None  # the early end of the last run
@@ -52,40 +53,45 @@ class Case(Compound):
         remark: str = "",
         iout: int = 1,
     ) -> None:
-        super().__init__()
-        self.control = Control(self)
+        self._draft = draft = Draft()
+        self.control = Control(draft)
         self.every = _whole(every, "every", 1, 10**6)
-        self._remark = [line.rstrip() for line in remark.splitlines()]
         iout = _whole(iout, "iout", -(10**7) + 1, 10**8 - 1)  # as many digits as its columns hold
         try:
-            step = self._number(columns.FIRST, "DELTAT", dt, "case")
-            until = self._number(columns.FIRST, "TMAX", end, "case")
-            head = [Written(columns.FIRST, fields.card(columns.FIRST, {"DELTAT": step.text, "TMAX": until.text}), None)]
+            step = draft.number(columns.FIRST, "DELTAT", dt, "case")
+            until = draft.number(columns.FIRST, "TMAX", end, "case")
+            head = [draft.written(columns.FIRST, {"DELTAT": step.text, "TMAX": until.text})]
             if tolerance_a is not None:
-                text = self._number(columns.TOLERANCE, "tolerance", tolerance_a, "case").text
-                head.insert(0, self._written(columns.TOLERANCE, {"tolerance": text}))
+                text = draft.number(columns.TOLERANCE, "tolerance", tolerance_a, "case").text
+                head.insert(0, draft.written(columns.TOLERANCE, {"tolerance": text}))
         except FieldError as fault:
             raise CaseError(f"Case: {fault}") from None
-        head.append(self._written(columns.SECOND, {"IOUT": str(iout), "IPLOT": str(self.every)}))
-        self._head = head
-        self._dt = step.kept
-        self.dt = step.kept / 1e12
+        self._head = [*head, draft.written(columns.SECOND, {"IOUT": str(iout), "IPLOT": str(self.every)})]
+        self._remark = [line.rstrip() for line in remark.splitlines()]
+        draft.dt_ps = step.kept
+        self.dt = draft.dt
         self.steps = (2 * until.kept + step.kept) // (2 * step.kept)
         self.end = self.steps * self.dt
         if not 1 <= self.steps <= MOST_STEPS:
             raise CaseError(f"Case: end / dt is {self.steps:,} steps, and has to be from 1 to {MOST_STEPS:,}")
 
+    @property
+    def told(self) -> list[str]:
+        """What was done beyond the letter of the calls, each once: digits that a field lost, pieces that were cut."""
+        return list(self._draft.contents.told)
+
     # ---- what the record has
 
     @property
     def nodes(self) -> list[str]:
-        """The names of the nodes, in the order in which they first appear on the cards of branches and then of switches."""
-        drafted = self._drafted
-        return list(dict.fromkeys(name for it in [*drafted.branches, *drafted.switches] for name in it.ends if name))
+        """The names of the nodes, in the order in which they first appear on the cards of branches and then of
+        switches."""
+        contents = self._draft.contents
+        return list(dict.fromkeys(name for it in [*contents.branches, *contents.switches] for name in it.ends if name))
 
     @property
     def names(self) -> list[str]:
-        """The names of the record's analog channels, in its order; a later one of the same name has .2, .3 behind it."""
+        """The names of the record's analog channels, in its order; a later one of the same name has .2, .3 behind."""
         return record.distinct(self._analog_names(), set(), [])
 
     @property
@@ -95,15 +101,15 @@ class Case(Compound):
 
     def _analog_names(self) -> list[str]:
         """The names as the record has them."""
-        drafted = self._drafted
-        found = [f"V {name}" for asked in drafted.outputs for name in asked.names or self.nodes]
-        for items in (drafted.branches, drafted.switches):
+        contents = self._draft.contents
+        found = [f"V {name}" for asked in contents.outputs for name in asked.names or self.nodes]
+        for items in (contents.branches, contents.switches):
             for it in items:
                 found += [f"{letter} {joined(it.ends)}" for bit, letter in ((1, "I"), (2, "U")) if it.asked & bit]
-        return found + [f"T {name}" for asked in drafted.control_outputs for name in asked.names]
+        return found + [f"T {name}" for asked in contents.control_outputs for name in asked.names]
 
     def _status_names(self) -> list[str]:
-        return [f"S {it.name}" for it in self._drafted.switches if it.asked]
+        return [f"S {it.name}" for it in self._draft.contents.switches if it.asked]
 
     # ---- judging
 
@@ -113,48 +119,48 @@ class Case(Compound):
         self._check_counts()
 
     def _check_names(self) -> None:
-        drafted = self._drafted
+        contents = self._draft.contents
         nodes = dict.fromkeys(self.nodes)
-        switched = {name for it in drafted.switches for name in it.ends if name}
-        variables = drafted.variables.keys() | set(STANDING)
-        for source in drafted.sources:
+        switched = {name for it in contents.switches for name in it.ends if name}
+        variables = contents.variables.keys() | set(STANDING)
+        for source in contents.sources:
             _known(source.name, nodes, "no branch and no switch has the node", source.card.call)
             if source.kind == 60:
                 _known(source.name, variables, "the control has no variable", source.card.call)
-        for switch in drafted.switches:
+        for switch in contents.switches:
             if switch.control:
                 _known(switch.control, variables, "the control has no variable", switch.card.call)
-        for source in drafted.control_sources:
+        for source in contents.control_sources:
             if source.kind == 90:
                 _known(source.name, nodes, "no branch and no switch has the node", source.card.call)
             elif source.kind in (91, 93):
                 _known(source.name, switched, "no switch has the node", source.card.call)
-        for variable in [*drafted.blocks, *drafted.extras]:
+        for variable in [*contents.blocks, *contents.extras]:
             for name in variable.reads:
                 _known(name, variables, "the control has no variable", variable.cards[0].call)
-        for asked in drafted.outputs:
+        for asked in contents.outputs:
             for name in asked.names:
                 _known(name, nodes, "no branch and no switch has the node", asked.card.call)
-        for asked in drafted.control_outputs:
+        for asked in contents.control_outputs:
             for name in asked.names:
                 _known(name, variables, "the control has no variable", asked.card.call)
 
     def _check_counts(self) -> None:
-        drafted = self._drafted
+        contents = self._draft.contents
         channels = len(self._analog_names()) + len(self._status_names())
         samples = self.steps // self.every + 1
         if channels > MOST_CHANNELS:
             raise CaseError(f"{channels} channels are asked for, and a record has at most {MOST_CHANNELS}")
         if channels * samples > MOST_VALUES:
             raise CaseError(
-                f"the record would have {channels * samples:,} values, {channels} channels of {samples:,} samples, and has at "
-                f"most {MOST_VALUES:,}: raise every, or ask for less"
+                f"the record would have {channels * samples:,} values, {channels} channels of {samples:,} samples, "
+                f"and has at most {MOST_VALUES:,}: raise every, or ask for less"
             )
-        history = sum(it.history for it in [*drafted.branches, *drafted.extras])
+        history = sum(it.history for it in [*contents.branches, *contents.extras])
         if history > MOST_HISTORY:
             raise CaseError(
-                f"lines and devices would keep {history:,} values of the past, and a case keeps at most {MOST_HISTORY:,}: take "
-                "a larger time step, shorter lines or delays"
+                f"lines and devices would keep {history:,} values of the past, and a case keeps at most "
+                f"{MOST_HISTORY:,}: take a larger time step, shorter lines or delays"
             )
 
     # ---- text
@@ -170,20 +176,20 @@ class Case(Compound):
     def _lines(self, rulers: bool = False) -> list[Written | str]:
         """The lines of the case: cards with their calls, and what stands between."""
         self.check()
-        drafted = self._drafted
+        contents = self._draft.contents
         found: list[Written | str] = [f"C {line}".rstrip() for line in self._remark]
         found.append("BEGIN NEW DATA CASE")
         found += self._head
         sections = [
             [*self._branch_cards()],
-            *([it.card for it in part] for part in (drafted.switches, drafted.sources, drafted.outputs)),
+            *([it.card for it in part] for part in (contents.switches, contents.sources, contents.outputs)),
         ]
-        if drafted.control:
+        if contents.control:
             control = [
-                [card for it in drafted.blocks for card in it.cards],
-                [it.card for it in drafted.control_sources],
-                [card for it in drafted.extras for card in it.cards],
-                [it.card for it in drafted.control_outputs],
+                [card for it in contents.blocks for card in it.cards],
+                [it.card for it in contents.control_sources],
+                [card for it in contents.extras for card in it.cards],
+                [it.card for it in contents.control_outputs],
                 [],
             ]
             found.append("TACS HYBRID")
@@ -195,7 +201,7 @@ class Case(Compound):
     def _branch_cards(self) -> typing.Iterator[Written | str]:
         """The cards of the branches, with those that make the fields of series branches wide or narrow."""
         wide = False
-        for branch in self._drafted.branches:
+        for branch in self._draft.contents.branches:
             for card in branch.cards:
                 if card.kind in (columns.SERIES, columns.WIDE) and (card.kind is columns.WIDE) != wide:
                     wide = not wide
@@ -207,8 +213,9 @@ class Case(Compound):
     def run(self, save: str | os.PathLike[str] | None = None) -> record.Record:
         """Runs the case; answers its record.
 
-        A run that ends early gives the samples before its end, which `record.told` says; `end_of_run` has it as a value.
-        With `save` a folder and a stem, as "out/line", the case and its record stay as out/line.case, .cfg and .dat.
+        A run that ends early gives the samples before its end, which `record.told` says; `end_of_run` has it as a
+        value. With `save` a folder and a stem, as "out/line", the case and its record stay as out/line.case, .cfg and
+        .dat.
         """
         with program.room() as room:
             place, stem = (pathlib.Path(room), "case") if save is None else _place(save)
@@ -221,7 +228,7 @@ class Case(Compound):
 
     def _cure(self, end: End) -> str:
         """What may help where a run left the range beside an inductance."""
-        beside = [it for it in self._drafted.branches if end.name in it.ends and it.l_mh > 0]
+        beside = [it for it in self._draft.contents.branches if end.name in it.ends and it.l_mh > 0]
         if end.cause != "RANGE" or not beside:
             return ""
         limits = ", ".join(f"{it.name} at {1e9 * self.dt / (2e-3 * it.l_mh):.3g} A" for it in beside)
@@ -246,11 +253,11 @@ class Case(Compound):
     ) -> Batch:
         """Runs the case for each row of switch times; answers the peaks of its channels (docs/batch.md).
 
-        `closings` and `openings` have shape (rows, switches), or (rows,) for one, in s: the times of the time switches that
-        are tied to no other one, in the order of their calls. nan keeps the switch's own time; an opening of inf is never. There
-        may be any number of rows.
+        `closings` and `openings` have shape (rows, switches), or (rows,) for one, in s: the times of the time
+        switches that are tied to no other one, in the order of their calls. nan keeps the switch's own time; an
+        opening of inf is never. There may be any number of rows.
         """
-        free = [it for it in self._drafted.switches if it.kind == "time" and it.leader is None]
+        free = [it for it in self._draft.contents.switches if it.kind == "time" and it.leader is None]
         closing = _rows(closings, "closings", len(free))
         opening = np.full(closing.shape, np.nan) if openings is None else _rows(openings, "openings", len(free))
         if closing.shape != opening.shape:
@@ -267,7 +274,7 @@ class Case(Compound):
         given = zip(closing, opening)
         times: dict[int, tuple[float, float | None]] = {}  # by the identity of the switch
         items = []
-        for switch in self._drafted.switches:
+        for switch in self._draft.contents.switches:
             if switch.kind != "time":
                 continue
             if switch.leader is None:
@@ -279,7 +286,8 @@ class Case(Compound):
         return " ".join(items)
 
     def show(self) -> listing.Listing:
-        """What the program reads of the case: each record with its line, values and units, and the warnings (docs/show.md)."""
+        """What the program reads of the case: each record with its line, values and units, and the warnings
+        (docs/show.md)."""
         return listing.read(self._answered(["show", "case.case"]))
 
     def _answered(self, words: list[str], others: dict[str, str] | None = None) -> str:
@@ -342,7 +350,7 @@ def _rows(times: typing.Sequence | np.ndarray, what: str, switches: int) -> np.n
         found = found[:, np.newaxis]
     if found.ndim != 2 or found.shape[1] != switches or not len(found):
         raise CaseError(
-            f"{what} has a row or more, with a time for each of the {switches} time switches that are tied to no other one"
+            f"{what} has a row or more, with a time for each of the {switches} time switches that are tied to no other"
         )
     return found
 

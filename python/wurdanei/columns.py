@@ -1,7 +1,7 @@
 """The one table of the cards' fields: where each stands, its unit and its range.
 
-docs/cards.md and docs/control.md say what the fields mean; rows/scripts/rulers compares their rulers and tables with this
-one. Columns count from 1, and the last one belongs to the field.
+docs/cards.md and docs/control.md say what the fields mean; rows/scripts/rulers compares their rulers and tables with
+this one. Columns count from 1, and the last one belongs to the field.
 """
 
 from dataclasses import dataclass, replace
@@ -31,8 +31,9 @@ UNITS = {
 class Field:
     """A field of a card.
 
-    A number is written in `unit` and kept as a whole number of 10^-scale of it, which lies from `low` to `high`; of a `held`
-    one the nearer end is taken beyond. `blank` says what a blank field means: a number, or the word for what it is.
+    A number is written in `unit` and kept as a whole number of 10^-scale of it, which lies from `low` to `high`; of a
+    `held` one the nearer end is taken beyond. `blank` says what a blank field means: a number, or the word for what
+    it is.
     """
 
     name: str

@@ -1,5 +1,5 @@
-"""Compound calls, which write several cards: a smooth start, a waveform by points, poles that close together, a transformer
-by the control."""
+"""Compound calls, which write several cards: a smooth start, a waveform by points, poles that close together, a
+transformer by the control."""
 
 import typing
 
@@ -9,7 +9,7 @@ from . import columns, fields
 from .control import Control
 from .draft import CaseError, Switch, joined, writes
 from .formula import FUNCTIONS
-from .network import Network, Three, _three
+from .network import Network, Three, three_names
 
 SUMMANDS = 10  # variables of six characters that one formula adds up at most
 
@@ -34,8 +34,9 @@ class Compound(Network):
     ) -> None:
         """A cosine that rises smoothly from rest: its crest goes by 3 x^2 - 2 x^3 over so many cycles.
 
-        A network that starts so is settled soon behind them, where a cosine that is there at once rings, and leaves an offset
-        in inductances. The control makes it; its phase is that of `cosine`, one time step late, which is made up for.
+        A network that starts so is settled soon behind them, where a cosine that is there at once rings, and leaves
+        an offset in inductances. The control makes it; its phase is that of `cosine`, one time step late, which is
+        made up for.
         """
         if (amplitude_v is None) == (amplitude_a is None):
             raise CaseError("a source has amplitude_v, as a voltage source, or amplitude_a, as a current source")
@@ -43,17 +44,17 @@ class Compound(Network):
         fields.exact(hz, "hz"), fields.exact(cycles, "cycles"), fields.exact(phase_deg, "phase_deg")
         if not (hz > 0 and cycles > 0):
             raise CaseError("hz and cycles have to be above 0")
-        wave = self._unused("CO")
-        self.control.cosine(wave, amplitude, hz=hz, phase_deg=_within_turn(phase_deg + 360.0 * hz * self.dt))
+        wave = self._draft.unused("CO")
+        self.control.cosine(wave, amplitude, hz=hz, phase_deg=_within_turn(phase_deg + 360.0 * hz * self._draft.dt))
         ramp = self._ramp(cycles / hz)
         self.control.formula(node, f"{wave}*{ramp}")
         self.driven(node, current=amplitude_v is None)
 
     def _ramp(self, rise_s: float) -> str:
         """The variable that rises smoothly from 0 to 1 within a time; one serves all sources of that time."""
-        ramps = self._drafted.ramps
+        ramps = self._draft.contents.ramps
         if rise_s not in ramps:
-            part, ramp = self._unused("RA"), self._unused("RB")
+            part, ramp = self._draft.unused("RA"), self._draft.unused("RB")
             time = fields.fitted(rise_s, columns.WINDOW_TIMES.field("open")).text
             self.control.formula(part, f"TIMEX/{time}*(TIMEX.LT.{time})+(TIMEX.GE.{time})")
             self.control.formula(ramp, f"{part}*{part}*(3.-2.*{part})")
@@ -66,8 +67,9 @@ class Compound(Network):
     ) -> None:
         """A source that goes straight from point to point: V, or A with `current`, at times in s that rise strictly.
 
-        Before the first point it has the first value, behind the last one the last. In the case's first step it is 0, since
-        the control begins at rest. Arrays of shape (points,), from 2 to 4,500 points: tables of the control of 64 points each.
+        Before the first point it has the first value, behind the last one the last. In the case's first step it is 0,
+        since the control begins at rest. Arrays of shape (points,), from 2 to 4,500 points: tables of the control of
+        64 points each.
         """
         t, v = np.asarray(times_s, dtype=float), np.asarray(values, dtype=float)
         if t.ndim != 1 or t.shape != v.shape or not 2 <= len(t) <= 4500:
@@ -78,15 +80,15 @@ class Compound(Network):
         for first in range(0, len(t) - 1, 63):
             piece = slice(first, first + 64)
             base = 0.0 if first == 0 else v[first]
-            pieces.append(self._unused("W"))
+            pieces.append(self._draft.unused("W"))
             # the source reads the step before
-            points = [(_rounded(a - self.dt, 12), _rounded(b - base, 9)) for a, b in zip(t[piece], v[piece])]
+            points = [(_rounded(a - self._draft.dt, 12), _rounded(b - base, 9)) for a, b in zip(t[piece], v[piece])]
             self.control.table(pieces[-1], "TIMEX", points=points)
         while len(pieces) > SUMMANDS:
             parts = [pieces[k : k + SUMMANDS] for k in range(0, len(pieces), SUMMANDS)]
             pieces = []
             for part in parts:
-                pieces.append(self._unused("W"))
+                pieces.append(self._draft.unused("W"))
                 self.control.formula(pieces[-1], "+".join(part))
         self.control.formula(node, "+".join(pieces))
         self.driven(node, current=current)
@@ -105,11 +107,12 @@ class Compound(Network):
         margin_a: float = 0.0,
         ask: str = "",
     ) -> Switch:
-        """A time switch that closes `later_s` after another one, and opens `opens_later_s` (`later_s` without it) after it.
+        """A time switch that closes `later_s` after another one, and opens `opens_later_s` (`later_s` without it)
+        after it.
 
         In a batch its times follow those of its leader in each row.
         """
-        if leader.kind != "time" or not any(leader is it for it in self._drafted.switches):
+        if leader.kind != "time" or not any(leader is it for it in self._draft.contents.switches):
             raise CaseError("a pole is tied to a time switch of the same case, as the method switch answers it")
         later = (float(later_s), float(later_s if opens_later_s is None else opens_later_s))
         close_s, open_s = after((leader.close_s, leader.open_s), later)
@@ -133,7 +136,7 @@ class Compound(Network):
 
         `later_s` are the times by which each pole closes and opens after close_s and open_s; the first one is 0.
         """
-        a, b = _three(a, "a"), _three(b, "b")
+        a, b = three_names(a, "a"), three_names(b, "b")
         if len(later_s) != 3 or later_s[0] != 0:
             raise CaseError("later_s has three times, of which the first is 0")
         first = self.switch(a[0], b[0], close_s=close_s, open_s=open_s, margin_a=margin_a, ask=ask)
@@ -154,12 +157,14 @@ class Compound(Network):
         behind_mh: float,
         ask: str = "",
     ) -> None:
-        """An ideal ratio (secondary over primary voltage) behind a leakage l_mh and r_ohm, which is on the secondary side.
+        """An ideal ratio (secondary over primary voltage) behind a leakage l_mh and r_ohm, which is on the secondary
+        side.
 
-        The control measures the voltage of `primary` and the secondary current, and puts the other two quantities there one
-        step later. That is stable where the inductance behind the primary node, as the node sees it, is small beside the
-        leakage: behind_mh * ratio^2 below l_mh (each step takes the part behind_mh * ratio^2 / l_mh of an error back and
-        forth). Capacitances at `primary` make it worse; a resistance across it, better. `ask` is as of the leakage's branch.
+        The control measures the voltage of `primary` and the secondary current, and puts the other two quantities
+        there one step later. That is stable where the inductance behind the primary node, as the node sees it, is
+        small beside the leakage: behind_mh * ratio^2 below l_mh (each step takes the part behind_mh * ratio^2 / l_mh
+        of an error back and forth). Capacitances at `primary` make it worse; a resistance across it, better. `ask` is
+        as of the leakage's branch.
         """
         for what, value in (("ratio", ratio), ("l_mh", l_mh), ("behind_mh", behind_mh)):
             fields.exact(value, what)
@@ -168,10 +173,10 @@ class Compound(Network):
         part = behind_mh * ratio**2 / l_mh
         if part >= 1:
             raise CaseError(
-                f"the ratio by the control is stable where behind_mh * ratio^2, {behind_mh * ratio**2:g} mH, is below l_mh, "
-                f"{l_mh:g} mH: put more of the leakage on the secondary side, or less in front of the primary node"
+                f"the ratio by the control is stable where behind_mh * ratio^2, {behind_mh * ratio**2:g} mH, is below "
+                f"l_mh, {l_mh:g} mH: put more of the leakage on the secondary side, or less in front of the primary node"
             )
-        induced, inner, drawn = self._unused("E"), self._unused("X"), self._unused("P")
+        induced, inner, drawn = self._draft.unused("E"), self._draft.unused("X"), self._draft.unused("P")
         self.measuring(primary, drawn, ask="")
         self.measuring(induced, inner, ask="")
         self.series(inner, secondary, r_ohm=r_ohm, l_mh=l_mh, ask=ask)
@@ -181,18 +186,18 @@ class Compound(Network):
         self.control.formula(drawn, f"-{factor}*{inner}")
         self.driven(induced)
         self.driven(drawn, current=True)
-        self._tell(
+        self._draft.tell(
             f"{joined((primary, secondary))}: a ratio of {ratio:g} by the control, one step late each way, which takes "
             f"{part:.2g} of an error back and forth"
         )
 
     def _measured(self, node: str) -> str:
         """A variable that has the voltage of a node, by a name that a formula can have."""
-        if not any(it.kind == 90 and it.name == node for it in self._drafted.control_sources):
+        if not any(it.kind == 90 and it.name == node for it in self._draft.contents.control_sources):
             self.control.voltage(node)
         if node.isalnum() and node.isascii() and node[0].isalpha() and node not in FUNCTIONS:
             return node
-        name = self._unused("V")
+        name = self._draft.unused("V")
         self.control.delay(name, [("+", node)], time_s=0.0)
         return name
 

@@ -1,13 +1,10 @@
-"""The cards of the control (TACS). docs/control.md has what each of them means, and in which order they are computed."""
+"""The cards of the control (TACS). docs/control.md says what each means, and in which order they are computed."""
 
 import typing
 
 from . import columns, fields, formula
 from .columns import Card, Field
-from .draft import STANDING, CaseError, Source, Variable, Written, writes
-
-if typing.TYPE_CHECKING:
-    from .network import Network
+from .draft import STANDING, CaseError, Draft, Source, Variable, Written, writes
 
 MOST_CARDS = 200  # blocks, sources, supplemental cards, of each
 GROUPS = (99, 88, 98)
@@ -20,13 +17,14 @@ Limit = float | str | None
 class Control:
     """Writes the cards of the control; each but `output` defines the variable `name`, of six characters at most.
 
-    Inputs are names of variables, of which a "-" in front turns the sign: "A", ["A", "-B"]; a pair ("-", "NAME") does the same
-    for a name that itself begins with a sign. Of supplemental cards, formulas and devices, `group` is 99 (computed before the
-    blocks) or 98 or 88 (behind them). A name reads the value of this step where it was computed before, else the last one.
+    Inputs are names of variables, of which a "-" in front turns the sign: "A", ["A", "-B"]; a pair ("-", "NAME") does
+    the same for a name that itself begins with a sign. Of supplemental cards, formulas and devices, `group` is 99
+    (computed before the blocks) or 98 or 88 (behind them). A name reads the value of this step where it was computed
+    before, else the last one.
     """
 
-    def __init__(self, case: "Network") -> None:
-        self._case = case
+    def __init__(self, draft: Draft) -> None:
+        self._draft = draft
 
     # ---- sources
 
@@ -100,11 +98,11 @@ class Control:
         texts = {"type": str(kind), "name": self._new(name)}
         if amplitude is not None:
             texts |= {"amplitude": self._number(card, "amplitude", amplitude, name)}
-            texts |= self._case._times(start_s, stop_s, name)
+            texts |= self._draft.times(start_s, stop_s, name)
         texts |= {field: self._number(card, field, value, name) for field, value in values.items()}
-        drafted = self._case._drafted
-        self._case._bounded(drafted.control_sources, MOST_CARDS, "sources of the control")
-        drafted.control_sources.append(Source(kind, name, False, self._case._written(card, texts)))
+        contents = self._draft.contents
+        self._draft.bounded(contents.control_sources, MOST_CARDS, "sources of the control")
+        contents.control_sources.append(Source(kind, name, False, self._draft.written(card, texts)))
 
     # ---- blocks
 
@@ -122,8 +120,8 @@ class Control:
     ) -> None:
         """A transfer function gain * (n0 + n1 s + ..) / (d0 + d1 s + ..), of order 7 at most, with limits.
 
-        `numerator` and `denominator` are the coefficients of the powers of s from 0 on. A limit is a number, or the name of a
-        variable. A block of order 0 is its gain.
+        `numerator` and `denominator` are the coefficients of the powers of s from 0 on. A limit is a number, or the
+        name of a variable. A block of order 0 is its gain.
         """
         order = max(len(numerator), len(denominator)) - 1
         if not 0 <= order <= 7:
@@ -141,12 +139,12 @@ class Control:
         kept = [limits[side][2] for side in ("low", "high")]
         if None not in kept and kept[0] > kept[1]:
             raise CaseError(f"the low limit, {low}, is above the high one, {high}")
-        cards = [self._case._written(card, texts)]
+        cards = [self._draft.written(card, texts)]
         if order:
             cards += [self._coefficients(it, name) for it in (numerator, denominator)]
         reads = self._read(inputs) + tuple(limits[side][1] for side in limits if limits[side][1])
-        self._case._bounded(self._case._drafted.blocks, MOST_CARDS, "blocks")
-        self._case._drafted.blocks.append(Variable(name, cards, reads))
+        self._draft.bounded(self._draft.contents.blocks, MOST_CARDS, "blocks")
+        self._draft.contents.blocks.append(Variable(name, cards, reads))
 
     def _limit(self, side: str, limit: Limit, name: str) -> tuple[dict[str, str], str, int | None]:
         """The field of a limit; the variable that it names; the number that is kept of it."""
@@ -158,7 +156,7 @@ class Control:
                 limit,
                 None,
             )
-        found = self._case._number(columns.BLOCK, f"{side} limit", limit, name)
+        found = self._draft.number(columns.BLOCK, f"{side} limit", limit, name)
         return {f"{side} limit": found.text}, "", found.kept
 
     def _coefficients(self, values: typing.Sequence[float], name: str) -> Written:
@@ -166,7 +164,7 @@ class Control:
         texts = {
             f"power {power}": self._number(card, f"power {power}", value, name) for power, value in enumerate(values)
         }
-        return self._case._written(card, texts)
+        return self._draft.written(card, texts)
 
     # ---- supplemental cards
 
@@ -187,7 +185,7 @@ class Control:
                 f"the formula has {len(laid)} characters, and a card {place.width}: compute a part before it"
             )
         texts = {"type": self._group(group), "name": self._new(name), "expression": laid}
-        self._extra(Variable(name, [self._case._written(columns.FORMULA, texts)], found.names))
+        self._extra(Variable(name, [self._draft.written(columns.FORMULA, texts)], found.names))
 
     @writes
     def gate(
@@ -309,30 +307,30 @@ class Control:
         texts = {"type": self._group(group), "name": self._new(name), "code": str(code)} | self._inputs(card, inputs)
         kept = {}
         for field, value in (("A", a), ("B", b), ("C", c)):
-            found = self._case._number(card, field, value, name)
+            found = self._draft.number(card, field, value, name)
             kept[field] = found.kept
             texts[field] = found.text if found.kept or (code == 66 and field == "A") else ""
         texts |= {field: fields.named(value, card.field(field)) for field, value in (("D", d), ("E", e)) if value}
-        cards = [self._case._written(card, texts), *self._points(code, points)]
+        cards = [self._draft.written(card, texts), *self._points(code, points)]
         reads = self._read(inputs) + tuple(it for it in (d, e) if it)
         self._extra(Variable(name, cards, reads, self._past(code, kept["A"])))
 
     def _past(self, code: int, a: int) -> int:
         """How many values of the past a device keeps, for its A as it is kept."""
-        dt = self._case._dt
+        dt = self._draft.dt_ps
         if code in (53, 54):
             return (2 * a + dt) // (2 * dt) + 1
         return max(1, round(10**18 / (a * dt))) if code == 66 else 0
 
     def _points(self, code: int, points: typing.Sequence[tuple[float, float]]) -> list[Written]:
         """The cards of the points of a table, or of the times of a window."""
-        case = self._case
+        draft = self._draft
         if code not in (56, 57):
             if len(points):
                 raise CaseError(f"a device of code {code} has no points")
             return []
         names = ("input", "output") if code == 56 else ("close", "open")
-        kept = case._pairs(columns.TABLE_POINT if code == 56 else columns.WINDOW_TIMES, names, points, 58 - code, 64)
+        kept = draft.pairs(columns.TABLE_POINT if code == 56 else columns.WINDOW_TIMES, names, points, 58 - code, 64)
         before: int | None = None
         for number, ((first, second), _) in enumerate(kept, 1):
             if code == 56 and before is not None and first <= before:
@@ -340,15 +338,15 @@ class Control:
             if code == 57 and not (before or 0) <= first < second:
                 raise CaseError(f"window {number} has to close before it opens, and not before the one before opens")
             before = first if code == 56 else second
-        return [written for _, written in kept] + [case._ending()]
+        return [written for _, written in kept] + [draft.ending()]
 
     # ---- outputs
 
     @writes
     def output(self, *names: str) -> None:
         """These variables are channels of the record, `T NAME`, in this order."""
-        self._case._drafted.control = True
-        self._case._ask(self._case._drafted.control_outputs, names)
+        self._draft.contents.control = True
+        self._draft.ask(self._draft.contents.control_outputs, names)
 
     # ---- what several cards have
 
@@ -357,17 +355,17 @@ class Control:
         fields.named(name, columns.TACS_SOURCE.field("name"))
         if name in STANDING:
             raise CaseError(f"{name} is a variable of every case, and no card defines it")
-        drafted = self._case._drafted
-        if name in drafted.variables:
+        contents = self._draft.contents
+        if name in contents.variables:
             raise CaseError(f"the variable {name} is there already")
-        self._case._free(name)
-        drafted.variables[name] = None
-        drafted.control = True
+        self._draft.free(name)
+        contents.variables[name] = None
+        contents.control = True
         return name
 
     def _number(self, card: Card, field: str, value: float, name: str) -> str:
         """The text of a field, blank where it is 0 and a blank is 0."""
-        found = self._case._number(card, field, value, name)
+        found = self._draft.number(card, field, value, name)
         return found.text if found.kept or card.field(field).blank != "0" else ""
 
     def _inputs(self, card: Card, inputs: Inputs) -> dict[str, str]:
@@ -390,9 +388,9 @@ class Control:
         return str(group)
 
     def _extra(self, variable: Variable) -> None:
-        drafted = self._case._drafted
-        self._case._bounded(drafted.extras, MOST_CARDS, "formulas and devices")
-        drafted.extras.append(variable)
+        contents = self._draft.contents
+        self._draft.bounded(contents.extras, MOST_CARDS, "formulas and devices")
+        contents.extras.append(variable)
 
 
 def _signed(inputs: Inputs) -> list[tuple[str, str]]:

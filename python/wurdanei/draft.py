@@ -1,4 +1,4 @@
-"""What a case is made of while it is written: its cards, each with the call that wrote it, and what was told of them."""
+"""What a case is made of while it is written: its cards, with the calls that wrote them, and what was told."""
 
 import copy
 import functools
@@ -30,7 +30,8 @@ class Call:
 
 
 class CaseError(ValueError):
-    """Why a case can't be written so, in words of the model; `call` is the call that it is about, where it is about one."""
+    """Why a case can't be written so, in words of the model; `call` is the call that it is about, where it is about
+    one."""
 
     def __init__(self, words: str, call: Call | None = None) -> None:
         super().__init__(words)
@@ -67,7 +68,8 @@ class Branch:
 
     @property
     def history(self) -> int:
-        """How many values of the past are kept of both ends: of the zero sequence or a single line, and of the positive one."""
+        """How many values of the past are kept of both ends: of the zero sequence or a single line, and of the
+        positive one."""
         return {"line": 2, "second": 6}.get(self.kind, 0) * (self.steps + 1)
 
 
@@ -119,7 +121,7 @@ class Variable:
 
 
 @dataclass
-class Drafted:
+class Contents:
     """All that was written, section by section."""
 
     branches: list[Branch] = field(default_factory=list)
@@ -137,9 +139,9 @@ class Drafted:
     control: bool = False
     told: list[str] = field(default_factory=list)
 
-    def kept(self) -> "Drafted":
+    def copied(self) -> "Contents":
         """The same, with lists of its own."""
-        return Drafted(**{name: copy.copy(value) for name, value in vars(self).items()})
+        return Contents(**{name: copy.copy(value) for name, value in vars(self).items()})
 
 
 def joined(ends: tuple[str, str]) -> str:
@@ -155,21 +157,21 @@ def writes(method: Method) -> Method:
 
     @functools.wraps(method)
     def written(self, *words, **named):
-        draft: Draft = self if isinstance(self, Draft) else self._case
-        if draft._call is not None:  # within a compound call
+        draft: Draft = self._draft
+        if draft.call is not None:  # within a compound call
             return method(self, *words, **named)
-        draft._call = called(method.__name__, words, named)
-        before = draft._drafted.kept()
+        draft.call = called(method.__name__, words, named)
+        before = draft.contents.copied()
         try:
             return method(self, *words, **named)
         except (FieldError, CaseError) as fault:
-            draft._drafted = before
-            raise CaseError(getattr(fault, "words", str(fault)), draft._call) from None
+            draft.contents = before
+            raise CaseError(getattr(fault, "words", str(fault)), draft.call) from None
         except BaseException:
-            draft._drafted = before
+            draft.contents = before
             raise
         finally:
-            draft._call = None
+            draft.call = None
 
     return typing.cast(Method, written)
 
@@ -185,54 +187,106 @@ def called(name: str, words: tuple, named: dict) -> Call:
 
 
 class Draft:
-    """Holds what was written, and writes cards into it."""
+    """A case while it is written: its time step, what was written, and the call that writes."""
 
     def __init__(self) -> None:
-        self._drafted = Drafted()
-        self._call: Call | None = None
+        self.contents = Contents()
+        self.call: Call | None = None
+        self.dt_ps = 0
 
     @property
-    def told(self) -> list[str]:
-        """What was done beyond the letter of the calls, each once: digits that a field lost, pieces that were cut."""
-        return list(self._drafted.told)
+    def dt(self) -> float:
+        """The time step in s."""
+        return self.dt_ps / 1e12
 
-    def _tell(self, words: str) -> None:
-        if words not in self._drafted.told:
-            self._drafted.told.append(words)
+    def tell(self, words: str) -> None:
+        """Tells something, once."""
+        if words not in self.contents.told:
+            self.contents.told.append(words)
 
-    def _number(self, kind: Card, name: str, value: typing.Any, what: str = "") -> Fitted:
+    # ---- fields and cards
+
+    def number(self, kind: Card, name: str, value: typing.Any, what: str = "") -> Fitted:
         """The value of a field; what it loses is told."""
         place = kind.field(name)
         found = fields.roomy(value, place)
         if found.loss > fields.KEEPS:
             kept = fields.shown(found.kept, place.scale, place.unit)
-            self._tell(f"{what}: {name} = {value} becomes {kept}, {found.loss:.1g} of it lost in {place.width} columns")
+            self.tell(f"{what}: {name} = {value} becomes {kept}, {found.loss:.1g} of it lost in {place.width} columns")
         return found
 
-    def _written(self, kind: Card, texts: dict[str, str]) -> Written:
-        return Written(kind, fields.card(kind, texts), self._call)
+    def written(self, kind: Card, texts: dict[str, str]) -> Written:
+        """The card of these fields."""
+        return Written(kind, fields.card(kind, texts), self.call)
 
-    def _bounded(self, items: typing.Sized, most: int, what: str) -> None:
+    def pairs(
+        self, card: Card, names: tuple[str, str], points: typing.Sequence[tuple[float, float]], least: int, most: int
+    ) -> list[tuple[tuple[int, int], Written]]:
+        """The kept numbers of pairs, and their cards."""
+        if not least <= len(points) <= most:
+            raise CaseError(f"there are {least} to {most} points, and here {len(points)}")
+        found = []
+        for number, point in enumerate(points, 1):
+            if len(point) != 2:
+                raise CaseError(f"point {number} has two numbers, {names[0]} and {names[1]}")
+            both = [self.number(card, name, value, f"point {number}") for name, value in zip(names, point)]
+            if both[0].kept == 9999 * 10 ** card.field(names[0]).scale:
+                raise CaseError(
+                    f"point {number}: the {names[0]} 9999 ends the points of a card; take a number beside it"
+                )
+            found.append(((both[0].kept, both[1].kept), self.written(card, {n: it.text for n, it in zip(names, both)})))
+        return found
+
+    def ending(self) -> Written:
+        """The card that ends points."""
+        return Written(columns.POINT, columns.END_OF_POINTS, self.call)
+
+    def times(self, start_s: float, stop_s: float | None, name: str) -> dict[str, str]:
+        """TSTART and TSTOP of a source, of the network or of the control."""
+        start = self.number(columns.SOURCE, "TSTART", start_s, name)
+        if stop_s is None:
+            return {"TSTART": start.text if start.kept else ""}
+        stop = self.number(columns.SOURCE, "TSTOP", stop_s, name)
+        if stop.kept <= 0:
+            raise CaseError(f"stop_s, {stop_s} s, has to be after 0; without it the source never stops")
+        if stop.kept <= start.kept:
+            self.tell(f"{name}: the source never acts, since it stops at {stop_s} s and starts at {start_s} s")
+        return {"TSTART": start.text if start.kept else "", "TSTOP": stop.text}
+
+    def ask(self, asked: list[Asked], names: tuple[str, ...]) -> None:
+        """Writes the output cards of these names."""
+        if not names:
+            raise CaseError("no name is given")
+        for first in range(0, len(names), 13):
+            row = names[first : first + 13]
+            texts = {
+                f"name {k}": fields.named(name, columns.OUTPUT.field(f"name {k}")) for k, name in enumerate(row, 1)
+            }
+            asked.append(Asked(tuple(row), self.written(columns.OUTPUT, texts)))
+
+    # ---- limits and names
+
+    def bounded(self, items: typing.Sized, most: int, what: str) -> None:
         """There is room for one more."""
         if len(items) >= most:
             raise CaseError(f"a case has at most {most:,} {what}")
 
-    def _unused(self, stem: str) -> str:
+    def unused(self, stem: str) -> str:
         """A name of a node or a variable that a compound call needs, and that no other one may have."""
         number = 1
-        drafted = self._drafted
-        taken = drafted.reserved.keys() | drafted.nodes.keys() | drafted.variables.keys()
+        contents = self.contents
+        taken = contents.reserved.keys() | contents.nodes.keys() | contents.variables.keys()
         while f"{stem}{number}" in taken:
             number += 1
         name = f"{stem}{number}"
         if len(name) > 6:
             raise CaseError(f"no name is left behind {stem}")
-        drafted.reserved[name] = self._call
+        contents.reserved[name] = self.call
         return name
 
-    def _free(self, name: str) -> str:
+    def free(self, name: str) -> str:
         """The name isn't one that another compound call has made."""
-        maker = self._drafted.reserved.get(name, self._call)
-        if maker is not self._call:
+        maker = self.contents.reserved.get(name, self.call)
+        if maker is not self.call:
             raise CaseError(f"{name} is a name that {maker} has made; take another one")
         return name

@@ -1,7 +1,8 @@
 """How values become the texts of fields, and fields a card.
 
-A number is written with all the digits that its columns hold, and never silently with fewer: what a field loses is told with
-it. Python's floats count as the shortest decimal that reads back as the same float, which is what was typed.
+A number is written with all the digits that its columns hold, and never silently with fewer: what a field loses is
+told with it. Python's floats count as the shortest decimal that reads back as the same float, which is what was
+typed.
 """
 
 import numbers
@@ -91,7 +92,8 @@ def spellings(digits: str, power: int) -> typing.Iterator[str]:
 
 
 def rounded(kept: int, count: int) -> tuple[str, int]:
-    """The nearest number of so many digits at most: digits without zeros at their end, and the power of ten behind them."""
+    """The nearest number of so many digits at most: digits without zeros at their end, and the power of ten behind
+    them."""
     text = str(kept)
     power = max(0, len(text) - count)
     digits = str(nearest(EXACT.scaleb(Decimal(kept), -power)))
@@ -147,7 +149,8 @@ def within(number: Decimal, field: Field) -> int:
 
 
 def roomy(value: numbers.Real | Decimal | float, field: Field) -> Fitted:
-    """The value with a column left for a blank, where that loses no more than KEEPS of it and a point is there; else in all columns."""
+    """The value with a column left for a blank, where that loses no more than KEEPS of it and a point is there; else
+    in all columns."""
     whole = fitted(value, field)
     try:
         found = fitted(value, field, field.width - 1)

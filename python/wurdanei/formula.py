@@ -46,7 +46,8 @@ class Formula:
 
 
 def words_of(text: str) -> list[Word]:
-    """The words of a text up to a character that begins none, which stands in its place; behind them the empty one of the end."""
+    """The words of a text up to a character that begins none, which stands in its place; behind them the empty one of
+    the end."""
     found, at, end = [], 0, len(text.rstrip(" "))
     while at < end:
         match = WORD.match(text, at)

@@ -44,7 +44,8 @@ class Entry:
 
 @dataclass
 class Line:
-    """A record of a listing, with the lines that belong to it: the points of a characteristic, the coefficients of a block.
+    """A record of a listing, with the lines that belong to it: the points of a characteristic, the coefficients of a
+    block.
 
     `line` is the number of its card's line in the case, where it has one; `kind` is as `series branch` or `node`.
     """
@@ -63,7 +64,8 @@ class Line:
         raise KeyError(name)
 
     def __getitem__(self, name: str) -> Decimal | str | None:
-        """The value of an entry: a number, or a name; None for never, always and no variable. Names are never numbers here."""
+        """The value of an entry: a number, or a name; None for never, always and no variable. Names are never numbers
+        here."""
         return Entry(name, self.text(name)).value
 
     def name(self, name: str) -> str | None:

@@ -16,15 +16,14 @@ Three = typing.Sequence[str]
 Ends = tuple[str, str]
 
 
-class Network(Draft):
+class Network:
     """Writes the cards of the network.
 
-    `a` and `b` are names of nodes, of six characters at most; ground is the empty name. `ask` is what of a branch or a switch
-    the record has: "i" its current from a to b, "u" its voltage, "iu" both; of a switch its state besides.
+    `a` and `b` are names of nodes, of six characters at most; ground is the empty name. `ask` is what of a branch or
+    a switch the record has: "i" its current from a to b, "u" its voltage, "iu" both; of a switch its state besides.
     """
 
-    dt: float
-    _dt: int  # ps
+    _draft: Draft
 
     # ---- branches
 
@@ -43,9 +42,9 @@ class Network(Draft):
     ) -> None:
         """Resistance, inductance and capacitance in series, of which each may be absent.
 
-        With `peak_a`, the greatest current to come in A, an inductance that would leave the range of the program
-        (2 L i / dt below 1e9 V) is cut into pieces in series; `told` says so. `like` are the ends of an earlier series branch
-        whose values are taken. Ranges: 0 to 1e9 ohm, 0 to 1e9 mH, 0 to 1e6 uF.
+        With `peak_a`, the greatest current to come in A, an inductance that would leave the range of the program (2 L
+        i / dt below 1e9 V) is cut into pieces in series; `told` says so. `like` are the ends of an earlier series
+        branch whose values are taken. Ranges: 0 to 1e9 ohm, 0 to 1e9 mH, 0 to 1e6 uF.
         """
         if like is not None:
             self._without(r_ohm=r_ohm, l_mh=l_mh, c_uf=c_uf, peak_a=peak_a or 0.0)
@@ -63,35 +62,38 @@ class Network(Draft):
         ends = self._ends(a, b)
         kind, fitted = self._series_values(values, joined(ends))
         r, l, c = (it.kept for it in fitted)
-        z = r + _near(2 * 10**9 * l, self._dt) + (_near(10**9 * self._dt, 2 * c) if c else 0)
+        z = r + _near(2 * 10**9 * l, self._draft.dt_ps) + (_near(10**9 * self._draft.dt_ps, 2 * c) if c else 0)
         if not LEAST_OHM <= z <= MOST_OHM:
             raise CaseError(
-                f"R + 2 L / dt + dt / (2 C) is {z / 1e6:g} ohm with a step of {self.dt:g} s, "
+                f"R + 2 L / dt + dt / (2 C) is {z / 1e6:g} ohm with a step of {self._draft.dt:g} s, "
                 "and has to lie from 1e-5 to 1e9 ohm"
             )
         texts = {name: it.text if it.kept else "" for name, it in zip("RLC", fitted)}
-        self._branch("series", ends, ask, [self._written(kind, self._bus(ends) | texts | _asking(ask))], l_mh=values[1])
+        self._branch(
+            "series", ends, ask, [self._draft.written(kind, self._bus(ends) | texts | _asking(ask))], l_mh=values[1]
+        )
 
     def _series_values(self, values: tuple[float, float, float], name: str) -> tuple[Card, list[Fitted]]:
-        """The fields of R, L and C: narrow ones where these hold the values with a blank between them, else wide ones."""
+        """The fields of R, L and C: narrow ones where these hold the values with a blank between them, else wide
+        ones."""
         try:
             narrow = [fields.fitted(value, columns.SERIES.field(it), 5) for it, value in zip("RLC", values)]
             if all(it.loss <= fields.KEEPS for it in narrow):
                 return columns.SERIES, narrow
         except fields.FieldError:
             pass  # judged by the wide fields
-        return columns.WIDE, [self._number(columns.WIDE, it, value, name) for it, value in zip("RLC", values)]
+        return columns.WIDE, [self._draft.number(columns.WIDE, it, value, name) for it, value in zip("RLC", values)]
 
     def _series_copy(self, a: str, b: str, like: Ends, ask: str) -> None:
         ends = self._ends(a, b)
         copied = self._copied("series", like)
         texts = self._bus(ends) | _copying(like) | _asking(ask)
-        self._branch("series", ends, ask, [self._written(columns.SERIES, texts)], l_mh=copied.l_mh)
+        self._branch("series", ends, ask, [self._draft.written(columns.SERIES, texts)], l_mh=copied.l_mh)
 
     def _pieces(self, l_mh: float, peak_a: float) -> int:
         """Into how many pieces an inductance has to be cut: 2 L i / dt stays below nine tenths of 1e9 V in each."""
         fields.exact(l_mh, "l_mh"), fields.exact(peak_a, "peak_a")
-        return max(1, math.ceil(2e-3 * l_mh * abs(peak_a) / self.dt / 0.9e9))
+        return max(1, math.ceil(2e-3 * l_mh * abs(peak_a) / self._draft.dt / 0.9e9))
 
     def _cut(self, a: str, b: str, values: tuple[float, float, float], pieces: int, peak_a: float, ask: str) -> None:
         if "u" in ask:
@@ -99,15 +101,15 @@ class Network(Draft):
                 "an inductance that is cut has no voltage as one channel: ask for the voltages of its nodes"
             )
         self._ends(a, b)
-        inner = [self._unused("L.") for _ in range(pieces - 1)]
+        inner = [self._draft.unused("L.") for _ in range(pieces - 1)]
         r_ohm, l_mh, c_uf = values
         piece = fields.exact(l_mh, "l_mh") / pieces
         for number, (one, other) in enumerate(zip([a, *inner], [*inner, b])):
             first = number == 0
             self._series(one, other, (r_ohm if first else 0.0, piece, c_uf if first else 0.0), ask if first else "")
-        self._tell(
+        self._draft.tell(
             f"{joined((a, b))}: {l_mh:g} mH are cut into {pieces} pieces in series, since 2 L i / dt would be "
-            f"{2e-3 * l_mh * abs(peak_a) / self.dt:.3g} V at {peak_a:g} A; their nodes are {', '.join(inner)}"
+            f"{2e-3 * l_mh * abs(peak_a) / self._draft.dt:.3g} V at {peak_a:g} A; their nodes are {', '.join(inner)}"
         )
 
     @writes
@@ -128,9 +130,9 @@ class Network(Draft):
     ) -> None:
         """A line of one phase, given by l_mh and c_uf, by zc_ohm and velocity, or by zc_ohm and tau_us.
 
-        `r_ohm`, `l_mh` and `c_uf` are those of a unit of length, whichever unit `length` has; `velocity` is in lengths a second;
-        `tau_us` is the travel time of the whole line in us, at least a time step. `like` are the ends of an earlier line, or
-        of the first phase of a three-phase line, whose values are taken.
+        `r_ohm`, `l_mh` and `c_uf` are those of a unit of length, whichever unit `length` has; `velocity` is in
+        lengths a second; `tau_us` is the travel time of the whole line in us, at least a time step. `like` are the
+        ends of an earlier line, or of the first phase of a three-phase line, whose values are taken.
         """
         ends = self._ends(a, b)
         mode = dict(length=length, r_ohm=r_ohm, l_mh=l_mh, c_uf=c_uf, zc_ohm=zc_ohm, velocity=velocity, tau_us=tau_us)
@@ -152,15 +154,20 @@ class Network(Draft):
     ) -> None:
         """A transposed line of three phases, from the nodes a[0], a[1], a[2] to b[0], b[1], b[2].
 
-        `zero` and `positive` are the values of the two sequences: each a mapping with the words of `line` (r_ohm with l_mh and
-        c_uf, zc_ohm and velocity, or zc_ohm and tau_us; `length` where it isn't the common one; or `like` alone). `like` are
-        the ends of an earlier three-phase line, as (a, b), whose values are taken. `ask` is one text for all phases, or three.
+        `zero` and `positive` are the values of the two sequences: each a mapping with the words of `line` (r_ohm with
+        l_mh and c_uf, zc_ohm and velocity, or zc_ohm and tau_us; `length` where it isn't the common one; or `like`
+        alone). `like` are the ends of an earlier three-phase line, as (a, b), whose values are taken. `ask` is one
+        text for all phases, or three.
         """
-        a, b, asks = _three(a, "a"), _three(b, "b"), [ask] * 3 if isinstance(ask, str) else _three(ask, "ask")
+        a, b, asks = (
+            three_names(a, "a"),
+            three_names(b, "b"),
+            [ask] * 3 if isinstance(ask, str) else three_names(ask, "ask"),
+        )
         if like is not None:
             if zero is not None or positive is not None:
                 raise CaseError("a line that copies has no values of its own: give like, or zero and positive")
-            others = _three(like[0], "like[0]"), _three(like[1], "like[1]")
+            others = three_names(like[0], "like[0]"), three_names(like[1], "like[1]")
             zero, positive = ({"like": (others[0][k], others[1][k])} for k in (0, 1))
         if zero is None or positive is None:
             raise CaseError("a three-phase line has the values of two sequences: give zero and positive")
@@ -174,7 +181,7 @@ class Network(Draft):
             cards.append(card)
             steps.append(own)
         texts = {"type": "-3"} | self._bus(ends[2]) | _asking(asks[2])
-        cards.append(self._written(columns.LINE, texts))
+        cards.append(self._draft.written(columns.LINE, texts))
         for kind, own, asked, card, count in zip(("line", "second", "third"), ends, asks, cards, [*steps, 0]):
             self._branch(kind, own, asked, [card], steps=count)
 
@@ -183,7 +190,7 @@ class Network(Draft):
         texts = {"type": kind} | self._bus(ends) | _asking(ask)
         if "like" in given:
             copied = self._copied("line" if kind == "-1" else "second", given["like"])
-            return self._written(columns.LINE, texts | _copying(given["like"])), copied.steps
+            return self._draft.written(columns.LINE, texts | _copying(given["like"])), copied.steps
         unknown = given.keys() - {"length", "r_ohm", "l_mh", "c_uf", "zc_ohm", "velocity", "tau_us"}
         if unknown:
             raise CaseError(f"{what}a line has no {', '.join(sorted(unknown))}")
@@ -207,14 +214,14 @@ class Network(Draft):
         name = what + joined(ends)
         names = [field.name for field in columns.LINE_VALUES[iline]]
         fitted = {
-            "R": self._number(card, "R", given.get("r_ohm", 0.0), name),
-            names[0]: self._number(card, names[0], first, name),
-            names[1]: self._number(card, names[1], second, name),
-            "length": self._number(card, "length", given.get("length", 1.0), name),
+            "R": self._draft.number(card, "R", given.get("r_ohm", 0.0), name),
+            names[0]: self._draft.number(card, names[0], first, name),
+            names[1]: self._draft.number(card, names[1], second, name),
+            "length": self._draft.number(card, "length", given.get("length", 1.0), name),
         }
         steps = self._judged_line(iline, *(it.kept for it in fitted.values()), what)
         texts |= {key: it.text for key, it in fitted.items() if it.kept} | {"ILINE": str(iline) if iline else ""}
-        return self._written(card, texts), steps
+        return self._draft.written(card, texts), steps
 
     def _judged_line(self, iline: int, r: int, first: int, second: int, length: int, what: str) -> int:
         """The whole steps of the travel time of a line of these kept values; what is out of its range is refused."""
@@ -226,16 +233,18 @@ class Network(Draft):
             zc, tau = first, length / second * 1e12 if iline == 1 else second
         if not (LEAST_OHM * (1 - 1e-9) <= zc and zc + total / 4 <= MOST_OHM * (1 + 1e-9)):
             raise CaseError(f"{what}the surge impedance, {zc / 1e6:g} ohm, has to lie from 1e-5 to 1e9 ohm")
-        if tau < self._dt * (1 - 1e-9) - 1:
-            raise CaseError(f"{what}the travel time, {tau / 1e6:g} us, is below the time step, {self._dt / 1e6:g} us")
-        return int(tau // self._dt)
+        if tau < self._draft.dt_ps * (1 - 1e-9) - 1:
+            raise CaseError(
+                f"{what}the travel time, {tau / 1e6:g} us, is below the time step, {self._draft.dt_ps / 1e6:g} us"
+            )
+        return int(tau // self._draft.dt_ps)
 
     @writes
     def arrester(self, a: str, b: str = "", *, points: Points = (), like: Ends | None = None, ask: str = "") -> None:
         """A nonlinear resistor: 1 to 64 points of current in A and voltage in V, both rising strictly.
 
-        The characteristic is odd, goes straight from point to point, from the origin to the first one, and on beyond the last.
-        `like` are the ends of an earlier one whose points are taken.
+        The characteristic is odd, goes straight from point to point, from the origin to the first one, and on beyond
+        the last. `like` are the ends of an earlier one whose points are taken.
         """
         self._nonlinear("resistor", "99", a, b, points, like, ask)
 
@@ -251,15 +260,15 @@ class Network(Draft):
             if len(points):
                 raise CaseError("a branch that copies has no points of its own: give like or points")
             self._copied(kind, like)
-            self._branch(kind, ends, ask, [self._written(columns.NONLINEAR, texts | _copying(like))])
+            self._branch(kind, ends, ask, [self._draft.written(columns.NONLINEAR, texts | _copying(like))])
             return
-        cards = [self._written(columns.NONLINEAR, texts), *self._characteristic(kind, points)]
+        cards = [self._draft.written(columns.NONLINEAR, texts), *self._characteristic(kind, points)]
         self._branch(kind, ends, ask, cards)
 
     def _characteristic(self, kind: str, points: Points) -> list[Written]:
         """The cards of the points of a characteristic, and the one that ends them."""
         card, other, scale = (columns.POINT, "voltage", 9) if kind == "resistor" else (columns.FLUX_POINT, "flux", 12)
-        kept = self._pairs(card, ("current", other), points, 1, MOST_POINTS)
+        kept = self._draft.pairs(card, ("current", other), points, 1, MOST_POINTS)
         before = (0, 0)
         for number, (now, _) in enumerate(kept, 1):
             if not (now[0] > before[0] and now[1] > before[1]):
@@ -267,35 +276,11 @@ class Network(Draft):
             ratio = (now[1] - before[1]) / (now[0] - before[0]) * 10.0 ** (9 - scale)  # ohm or H
             if kind == "resistor" and not 1e-5 * (1 - 1e-6) <= ratio <= 1e9 * (1 + 1e-6):
                 raise CaseError(f"point {number}: the slope, {ratio:g} ohm, has to lie from 1e-5 to 1e9 ohm")
-            if kind == "reactor" and not 1e-12 * (1 - 1e-6) <= self.dt / 2 / ratio <= 1e5 * (1 + 1e-6):
-                raise CaseError(
-                    f"point {number}: dt / 2 over the slope, {self.dt / 2 / ratio:g} S, has to lie from 1e-12 to 1e5 S"
-                )
+            if kind == "reactor" and not 1e-12 * (1 - 1e-6) <= self._draft.dt / 2 / ratio <= 1e5 * (1 + 1e-6):
+                slope = self._draft.dt / 2 / ratio
+                raise CaseError(f"point {number}: dt / 2 over the slope, {slope:g} S, has to lie from 1e-12 to 1e5 S")
             before = now
-        return [written for _, written in kept] + [self._ending()]
-
-    def _pairs(
-        self, card: Card, names: tuple[str, str], points: Points, least: int, most: int
-    ) -> list[tuple[tuple[int, int], Written]]:
-        """The kept numbers of pairs, and their cards."""
-        if not least <= len(points) <= most:
-            raise CaseError(f"there are {least} to {most} points, and here {len(points)}")
-        found = []
-        for number, point in enumerate(points, 1):
-            if len(point) != 2:
-                raise CaseError(f"point {number} has two numbers, {names[0]} and {names[1]}")
-            both = [self._number(card, name, value, f"point {number}") for name, value in zip(names, point)]
-            if both[0].kept == 9999 * 10 ** card.field(names[0]).scale:
-                raise CaseError(
-                    f"point {number}: the {names[0]} 9999 ends the points of a card; take a number beside it"
-                )
-            found.append(
-                ((both[0].kept, both[1].kept), self._written(card, {n: it.text for n, it in zip(names, both)}))
-            )
-        return found
-
-    def _ending(self) -> Written:
-        return Written(columns.POINT, columns.END_OF_POINTS, self._call)
+        return [written for _, written in kept] + [self._draft.ending()]
 
     # ---- switches
 
@@ -323,19 +308,19 @@ class Network(Draft):
         name = joined(ends)
         closing = -1.0 if close_s is None else close_s
         texts = self._bus(ends) | _asking(ask)
-        texts["T-CLOSE"] = self._number(columns.SWITCH, "T-CLOSE", closing, name).text
+        texts["T-CLOSE"] = self._draft.number(columns.SWITCH, "T-CLOSE", closing, name).text
         if open_s is not None:
-            texts["T-OPEN"] = self._number(columns.SWITCH, "T-OPEN", open_s, name).text
-        margin = self._number(columns.SWITCH, "margin", margin_a, name)
+            texts["T-OPEN"] = self._draft.number(columns.SWITCH, "T-OPEN", open_s, name).text
+        margin = self._draft.number(columns.SWITCH, "margin", margin_a, name)
         texts["margin"] = margin.text if margin.kept else ""
-        card = self._written(columns.SWITCH, texts)
+        card = self._draft.written(columns.SWITCH, texts)
         return self._switch(Switch("time", ends, ASKED[ask], card, close_s=float(closing), open_s=open_s))
 
     @writes
     def measuring(self, a: str, b: str = "", *, ask: str = "i") -> None:
         """A switch that is always closed: it joins its nodes, and measures the current between them."""
         ends = self._ends(a, b)
-        card = self._written(columns.SWITCH, self._bus(ends) | {"word": "MEASURING"} | _asking(ask))
+        card = self._draft.written(columns.SWITCH, self._bus(ends) | {"word": "MEASURING"} | _asking(ask))
         self._switch(Switch("measuring", ends, ASKED[ask], card))
 
     @writes
@@ -349,14 +334,14 @@ class Network(Draft):
         control: str = "",
         ask: str = "",
     ) -> None:
-        """A valve from a to b: it closes where its voltage is above 0 and at least `ignition_v` and its control, if it has one, is
-        above 0; it opens where its current is below `holding_a`."""
+        """A valve from a to b: it closes where its voltage is above 0 and at least `ignition_v` and its control, if
+        it has one, is above 0; it opens where its current is below `holding_a`."""
         ends = self._ends(a, b)
         texts = {"type": "11"} | self._bus(ends) | _asking(ask) | self._control(control)
         for field, value in (("ignition", ignition_v), ("holding", holding_a)):
-            found = self._number(columns.VALVE, field, value, joined(ends))
+            found = self._draft.number(columns.VALVE, field, value, joined(ends))
             texts[field] = found.text if found.kept else ""
-        self._switch(Switch("valve", ends, ASKED[ask], self._written(columns.VALVE, texts), control))
+        self._switch(Switch("valve", ends, ASKED[ask], self._draft.written(columns.VALVE, texts), control))
 
     @writes
     def controlled(self, a: str, b: str = "", *, control: str, ask: str = "") -> None:
@@ -364,15 +349,17 @@ class Network(Draft):
         ends = self._ends(a, b)
         if not control:
             raise CaseError("a controlled switch has a control: the name of a variable")
-        card = self._written(columns.VALVE, {"type": "13"} | self._bus(ends) | self._control(control) | _asking(ask))
+        card = self._draft.written(
+            columns.VALVE, {"type": "13"} | self._bus(ends) | self._control(control) | _asking(ask)
+        )
         self._switch(Switch("controlled", ends, ASKED[ask], card, control))
 
     def _control(self, name: str) -> dict[str, str]:
         return {"control": fields.named(name, columns.VALVE.field("control"))} if name else {}
 
     def _switch(self, switch: Switch) -> Switch:
-        self._bounded(self._drafted.switches, MOST_SWITCHES, "switches")
-        self._drafted.switches.append(switch)
+        self._draft.bounded(self._draft.contents.switches, MOST_SWITCHES, "switches")
+        self._draft.contents.switches.append(switch)
         self._seen(switch.ends)
         return switch
 
@@ -403,7 +390,7 @@ class Network(Draft):
         stop_s: float | None = None,
     ) -> None:
         """A source that rises straight to its amplitude within `rise_s` from `start_s` on, and stays there."""
-        rise = self._number(columns.with_fields(columns.SOURCE, columns.RISE), "T0", rise_s, node)
+        rise = self._draft.number(columns.with_fields(columns.SOURCE, columns.RISE), "T0", rise_s, node)
         self._source(12, node, amplitude_v, amplitude_a, start_s, stop_s, {"T0": rise.text})
 
     @writes
@@ -423,14 +410,15 @@ class Network(Draft):
         Every case starts at rest: `smooth_cosine` rises slowly, and rings less.
         """
         texts = {
-            "frequency": self._number(columns.SOURCE, "frequency", hz, node).text,
-            "phase": self._number(columns.SOURCE, "phase", phase_deg, node).text,
+            "frequency": self._draft.number(columns.SOURCE, "frequency", hz, node).text,
+            "phase": self._draft.number(columns.SOURCE, "phase", phase_deg, node).text,
         }
         self._source(14, node, amplitude_v, amplitude_a, start_s, stop_s, texts)
 
     @writes
     def driven(self, node: str, *, current: bool = False, start_s: float = 0.0, stop_s: float | None = None) -> None:
-        """A source whose value is the variable of the node's name in the control, in the step before: V, or A with `current`."""
+        """A source whose value is the variable of the node's name in the control, in the step before: V, or A with
+        `current`."""
         self._source(60, node, None if current else 0.0, 0.0 if current else None, start_s, stop_s)
 
     def _source(
@@ -449,52 +437,30 @@ class Network(Draft):
         card = columns.CURRENT_SOURCE if current else columns.SOURCE
         card = columns.with_fields(card, columns.RISE) if kind == 12 else card
         fields.named(node, card.field("name"))
-        drafted = self._drafted
-        if not current and any(it.name == node and not it.current for it in drafted.sources):
+        contents = self._draft.contents
+        if not current and any(it.name == node and not it.current for it in contents.sources):
             raise CaseError(f"{node} has a voltage source already")
         own = (
             {"type": str(kind), "name": node, "kind": "-1" if current else ""}
             | (texts or {})
-            | self._times(start_s, stop_s, node)
+            | self._draft.times(start_s, stop_s, node)
         )
         if kind != 60:
-            own["amplitude"] = self._number(card, "amplitude", amplitude_a if current else amplitude_v, node).text
-        self._bounded(drafted.sources, MOST_SOURCES, "sources")
-        drafted.sources.append(Source(kind, node, current, self._written(card, own)))
-
-    def _times(self, start_s: float, stop_s: float | None, name: str) -> dict[str, str]:
-        """TSTART and TSTOP of a source, of the network or of the control."""
-        start = self._number(columns.SOURCE, "TSTART", start_s, name)
-        if stop_s is None:
-            return {"TSTART": start.text if start.kept else ""}
-        stop = self._number(columns.SOURCE, "TSTOP", stop_s, name)
-        if stop.kept <= 0:
-            raise CaseError(f"stop_s, {stop_s} s, has to be after 0; without it the source never stops")
-        if stop.kept <= start.kept:
-            self._tell(f"{name}: the source never acts, since it stops at {stop_s} s and starts at {start_s} s")
-        return {"TSTART": start.text if start.kept else "", "TSTOP": stop.text}
+            own["amplitude"] = self._draft.number(card, "amplitude", amplitude_a if current else amplitude_v, node).text
+        self._draft.bounded(contents.sources, MOST_SOURCES, "sources")
+        contents.sources.append(Source(kind, node, current, self._draft.written(card, own)))
 
     # ---- outputs
 
     @writes
     def output(self, *nodes: str) -> None:
         """The voltages of these nodes are channels of the record, `V NODE`, in this order."""
-        self._ask(self._drafted.outputs, nodes)
+        self._draft.ask(self._draft.contents.outputs, nodes)
 
     @writes
     def output_all(self) -> None:
         """The voltages of all nodes are channels of the record."""
-        self._drafted.outputs.append(Asked((), self._written(columns.OUTPUT, {"type": "1"})))
-
-    def _ask(self, asked: list[Asked], names: tuple[str, ...]) -> None:
-        if not names:
-            raise CaseError("no name is given")
-        for first in range(0, len(names), 13):
-            row = names[first : first + 13]
-            texts = {
-                f"name {k}": fields.named(name, columns.OUTPUT.field(f"name {k}")) for k, name in enumerate(row, 1)
-            }
-            asked.append(Asked(tuple(row), self._written(columns.OUTPUT, texts)))
+        self._draft.contents.outputs.append(Asked((), self._draft.written(columns.OUTPUT, {"type": "1"})))
 
     # ---- what several cards have
 
@@ -502,7 +468,7 @@ class Network(Draft):
         """The two ends of a branch or a switch, which differ."""
         for name in (a, b):
             if name != "":
-                self._free(fields.named(name, columns.SERIES.field("BUS1")))
+                self._draft.free(fields.named(name, columns.SERIES.field("BUS1")))
         if a == b:
             raise CaseError(f"both ends are {a or 'ground'}")
         return a, b
@@ -511,24 +477,24 @@ class Network(Draft):
         return {"BUS1": ends[0], "BUS2": ends[1]}
 
     def _branch(self, kind: str, ends: Ends, ask: str, cards: list[Written], steps: int = 0, l_mh: float = 0.0) -> None:
-        self._bounded(self._drafted.branches, MOST_BRANCHES, "branches")
-        self._drafted.branches.append(Branch(kind, ends, ASKED[ask], cards, steps, float(l_mh)))
+        self._draft.bounded(self._draft.contents.branches, MOST_BRANCHES, "branches")
+        self._draft.contents.branches.append(Branch(kind, ends, ASKED[ask], cards, steps, float(l_mh)))
         self._seen(ends)
 
     def _seen(self, ends: Ends) -> None:
         """The nodes of a card; there is room for them."""
         for name in ends:
             if name == "0":
-                self._tell("the node 0 is not ground, which is the empty name")
-            if name and name not in self._drafted.nodes:
-                self._bounded(self._drafted.nodes, MOST_NODES, "nodes")
-                self._drafted.nodes[name] = None
+                self._draft.tell("the node 0 is not ground, which is the empty name")
+            if name and name not in self._draft.contents.nodes:
+                self._draft.bounded(self._draft.contents.nodes, MOST_NODES, "nodes")
+                self._draft.contents.nodes[name] = None
 
     def _copied(self, kind: str, like: Ends) -> Branch:
         """The first branch of this kind between these ends in this order, whose values a card takes."""
         if len(like) != 2 or not any(like):
             raise CaseError("like has the two ends of an earlier branch, of which one may be ground")
-        found = [it for it in self._drafted.branches if it.kind == kind and it.ends == tuple(like)]
+        found = [it for it in self._draft.contents.branches if it.kind == kind and it.ends == tuple(like)]
         if not found:
             raise CaseError(
                 f"like: no earlier branch of this type goes from {like[0] or 'ground'} to {like[1] or 'ground'}"
@@ -549,7 +515,7 @@ class Network(Draft):
             raise CaseError(f"a branch that copies has no values of its own: give like, or {' and '.join(given)}")
 
 
-def _three(names: Three, what: str) -> list[str]:
+def three_names(names: Three, what: str) -> list[str]:
     if isinstance(names, str) or len(names) != 3:
         raise CaseError(f"{what} has three names, and here {names!r}")
     return list(names)

@@ -1,7 +1,7 @@
 """Finds the two programs, emtp and emtp_show, and calls them.
 
-The environment variables EMTP and EMTP_SHOW name them. Where they don't, it is those of the checkout in which this package
-stands, else the ones of PATH.
+The environment variables EMTP and EMTP_SHOW name them. Where they don't, it is those of the checkout in which this
+package stands, else the ones of PATH.
 """
 
 import functools
@@ -30,7 +30,8 @@ class Ended:
 
 
 def checkout() -> pathlib.Path | None:
-    """The checkout that this package stands in, where it stands in one: the folder of the script `emtp` and of `crates`."""
+    """The checkout that this package stands in, where it stands in one: the folder of the script `emtp` and of
+    `crates`."""
     top = pathlib.Path(__file__).resolve().parents[2]
     return top if (top / "emtp").is_file() and (top / "crates").is_dir() else None
 
@@ -47,7 +48,7 @@ def shower() -> pathlib.Path:
 
 @functools.lru_cache
 def _found(name: str, given: str, path: str) -> pathlib.Path:
-    """The program of this name; the two texts are those of the environment, so that a changed one is looked at again."""
+    """The program of this name; the two texts are those of the environment, so that a changed one counts."""
     if given:
         return _given(VARIABLES[name], given)
     top = checkout()
@@ -78,7 +79,8 @@ def _of_checkout(top: pathlib.Path, name: str) -> pathlib.Path:
 
 
 def run(words: typing.Sequence[str], folder: str | os.PathLike[str]) -> Ended:
-    """Calls the program of these words in this folder, as `emtp run CASE CFG DAT` or `emtp show CASE` would be called there.
+    """Calls the program of these words in this folder, as `emtp run CASE CFG DAT` or `emtp show CASE` would be called
+    there.
 
     Raises ProgramError where there is no program, or where a signal ended it.
     """
