@@ -1,4 +1,4 @@
-"""What emtp_show prints (docs/show.md, docs/warnings.md): the patterns of its lines, and what else has to hold of them."""
+"""What emtp_show prints (docs/show.md): the patterns of its lines, and what else has to hold of them."""
 import re
 
 BAD_CARD = rb"BAD CARD LINE (?P<line>\d+) COLUMN \d+ REASON \d+ [A-Za-z0-9]+\n"
@@ -8,6 +8,7 @@ PARTS = {
     "count": rb"(?:0|[1-9]\d*)",
     "number": rb"(?!-0(?!\.))-?(?:0|[1-9]\d*)(?:\.\d*[1-9])?",
     "name": rb"(?! )[ -+\--~]{1,6}(?<! )",
+    "written": rb"[0-9+.DEde-]{1,16}",
 }
 CHOICES = {
     "time": ["never", "<number> s"],
@@ -34,7 +35,8 @@ CHOICES = {
              "a source card", "a node output card", "a card after the last section", "a block card", "a card of coefficients",
              "a TACS source", "a supplemental card", "a TACS output", "an initial condition",
              "a point or the card that ends them"],
-    "columns": ["not read", "two numbers touch", "no other branch, switch or source has the node", "node 0 is not ground",
+    "columns": ["not read", "two numbers touch: <written> and <written>", "no other branch, switch or source has the node", "node 0 is not ground",
+                "another node's name differs in case alone",
                 "after the end of the run", "cosine of frequency 0", "every case starts at rest", "the source never acts",
                 "opens before it closes"],
 }
@@ -81,7 +83,10 @@ CARDS = ["line <count>, first miscellaneous card, TMAX=<number> s\nline <count>,
 COPIES = ["line <count>, copies line=<count>\n"]
 ASKING = ["line <count>, asks for channel=<count>\n"]
 LINE_WARNINGS = ["warning, line <count>, columns <count>-<count>, <columns>\n",
-                 "warning, line <count>, travel time below two steps\n"]
+                 "warning, line <count>, travel time below two steps\n",
+                 "warning, line <count>, travel time after the end of the run\n",
+                 "warning, line <count>, a capacitance below 1 pF; C is in uF\n",
+                 "warning, line <count>, closed beside a switch between the same nodes: one of the two carries nothing\n"]
 CHANNEL_WARNINGS = ["warning, channel <count>, asked for twice\n"]
 
 
@@ -111,8 +116,13 @@ ASKED = rb"(?P<asked>" + any_of(ASKING) + rb"*)"
 WARNED = any_of(LINE_WARNINGS) + b"*" + any_of(CHANNEL_WARNINGS) + b"*"
 # as what the refused card was read, or which card is due where the file ends
 TOLD = rb"line (?P=line): (?:read as " + pattern("<card>") + rb"|the file ends where " + pattern("<card>") + rb" is due)\n"
+# as what each line is read, and which card is due behind the last one
+READ = re.compile(rb"(?:\d+\t(?:" + pattern("<card>") + rb"|the end of a section)\n)*(?:\d+\tdue: " + pattern("<card>") + rb"\n)?")
+# what helps to mend a card
+MENDS = re.compile(rb"(?:(?:[ -~]*\n){1,3}Line (?P<line>\d+) is read as [ -~]+\.\n|The case ends behind line \d+, where [ -~]+ is due;"
+                   rb" a line BLANK ends a section\.\n)(?:The [A-Za-z ]+ ended at line \d+(?:, which is blank)?\.\n)*|The case has more [ -~]+\.\n")
 NOTES = {
-    0: re.compile(rb"(?P<count>" + PARTS["count"] + rb")\n|" + LISTED + any_of(CARDS) + any_of(COPIES) + b"*" + ASKED + WARNED),
+    0: re.compile(rb"(?P<count>" + PARTS["count"] + rb")\n|" + WARNED + LISTED + any_of(CARDS) + any_of(COPIES) + b"*" + ASKED),
     1: re.compile(rb"USAGE\n"),
     2: re.compile(LISTED + rb"?" + BAD_CARD + TOLD),
 }
@@ -164,5 +174,5 @@ def refusal(note):
 
 
 def warning_count(note):
-    """How many warnings stand below a listing."""
+    """How many warnings stand before a listing."""
     return len(re.findall(rb"^warning, ", note, re.MULTILINE))
