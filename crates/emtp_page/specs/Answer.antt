@@ -1,0 +1,42 @@
+-- What a host is told of a call.
+use Rattle.std.specs.Prelude.{◌≡◌, ℕ, Bool, false, List, length, take, Option, is_some, IfSome, IfNone}
+use Rattle.emtp_io.specs.Cabinet.{CreatedOutput, Outputs}
+use Rattle.emtp_page.specs.declared.answer.Answer.{Answer}
+use Rattle.emtp_page.specs.declared.answer.Left.{Left}
+use Rattle.emtp_run.specs.declared.status.Status.{Status}
+use Rattle.emtp_run.specs.declared.status.Status.TheVariants.{Done, Usage, BadCard, Ended, ReadFault, WriteFault, NoMemory, Refused, Differs, BadRow}
+
+-- the number that the program exits with
+abbrev pub number_of : Status → ℕ
+number_of Done = 0
+number_of Usage = 1
+number_of BadCard = 2
+number_of Ended = 3
+number_of ReadFault = 4
+number_of WriteFault = 5
+number_of NoMemory = 6
+number_of Refused = 7
+number_of Differs = 8
+number_of BadRow = 9
+
+-- an output stands in the room for it, or as much of it as there is room for
+pub record IsShown (out : Option CreatedOutput) (left : Left) (room : List ℕ) : Type 0 where
+  pub created : left.created ≡ is_some out
+  pub count : IfSome out (λ e. left.length ≡ length e.bytes)
+  pub bytes : IfSome out (λ e. take (length e.bytes) room ≡ take (length room) e.bytes)
+
+-- a status, and each output in the room for it
+pub record Tells (status : Status) (outputs : Outputs) (answer : Answer) (cfg dat note summary : List ℕ) : Type 0 where
+  pub number : answer.status ≡ number_of status
+  pub cfg : IsShown outputs.cfg answer.cfg cfg
+  pub dat : IsShown outputs.dat answer.dat dat
+  pub note : IsShown outputs.note answer.note note
+  pub summary : IsShown outputs.summary answer.summary summary
+
+-- of an output that wasn't created
+abbrev pub absent : Left
+absent = record { created = false; length = 0 }
+
+-- there was no memory, and nothing is left
+abbrev pub wanting : Answer
+wanting = record { status = 6; cfg = absent; dat = absent; note = absent; summary = absent }
