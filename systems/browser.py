@@ -250,7 +250,9 @@ class Browser:
                 file.unlink()
                 return got
             self.take(0.1)
-        raise Fault(f"{name} wasn't saved within {seconds:g} s; there are {[it.name for it in self.downloads.iterdir()]}")
+        raise Fault(
+            f"{name} wasn't saved within {seconds:g} s; there are {[it.name for it in self.downloads.iterdir()]}"
+        )
 
     def picture(self, path: Path, whole: bool = False) -> None:
         """A picture of what the window shows, or of the whole page."""

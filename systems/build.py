@@ -104,7 +104,7 @@ def kit() -> Path:
     """The folder of the toolchain, by where its command is."""
     found = shutil.which(os.environ.get("RT", "rt"))
     if not found:
-        raise Lacking("rt isn't there (docs/trust.md, \"Trusted\")")
+        raise Lacking('rt isn\'t there (docs/trust.md, "Trusted")')
     folder = Path(found).resolve().parent.parent
     for file in ("bin/rattle", "toolchain/bin/clang", "toolchain/bin/ld.lld", "rattle/logic/antt-project.json"):
         if not (folder / file).exists():
@@ -161,7 +161,16 @@ def module(room: Path) -> Path:
     for folder in sorted((TOP / "crates").glob("*/out/rlib")):
         words += ["-L", f"dependency={folder}"]
     words += ["--antt-project", kit() / "rattle/logic/antt-project.json", "--logic-built", kit() / "logic_built"]
-    words += ["--incremental", "out/incremental", "--jobs", "1", "--links", f"{CRATE.name}=", "--crate-type", "staticlib"]
+    words += [
+        "--incremental",
+        "out/incremental",
+        "--jobs",
+        "1",
+        "--links",
+        f"{CRATE.name}=",
+        "--crate-type",
+        "staticlib",
+    ]
     words += ["--backend", "llvm", "--toolchain", keeping_toolchain(room), "-o", room / "again.a"]
     ran(kit() / "bin" / "rattle", "build", *words, folder=CRATE)
     made = room / "module.bc"
@@ -181,7 +190,7 @@ def taken_by(text: str) -> set[str]:
 
 def adapted(text: str, target: Target) -> str:
     """The module for another system: its layout, its triple and its processor are replaced."""
-    for mark in (' asm ', ' asm sideeffect ', "llvm.x86."):
+    for mark in (" asm ", " asm sideeffect ", "llvm.x86."):
         if mark in text:
             raise Lacking(f"the module has what is of x86-64 alone: {mark.strip()}")
     if taken_by(text) - HEAP:
@@ -202,7 +211,8 @@ def adapted(text: str, target: Target) -> str:
             line = re.sub(r'"target-cpu"="[^"]*"', own, line)
             line = re.sub(r' ?"target-features"="[^"]*"| ?"tune-cpu"="[^"]*"', "", line)
             if not target.triple.startswith("x86_64-unknown"):
-                line = line.replace('"probe-stack"="inline-asm"', "")
+                # a word that LLVM doesn't know, and so takes for nothing, since no group may be empty
+                line = line.replace('"probe-stack"="inline-asm"', '"no-probe-stack"')
         lines.append(line)
     return "\n".join(lines)
 
@@ -230,7 +240,14 @@ def wasm(text: str, room: Path) -> bytes:
         objects.append(room / f"{name}.o")
         how = (f"--target={WASM.triple}", *WASM.flags, *COMMON, "-O2", "-ffreestanding", "-c")
         clang(*how, "-x", "c", HERE / f"{name}.c", "-o", objects[-1], folder=room)
-    words: list[str | Path] = [kit() / "toolchain/bin/ld.lld", "-flavor", "wasm", "-mwasm64", "--no-entry", "--stack-first"]
+    words: list[str | Path] = [
+        kit() / "toolchain/bin/ld.lld",
+        "-flavor",
+        "wasm",
+        "-mwasm64",
+        "--no-entry",
+        "--stack-first",
+    ]
     words += ["-z", f"stack-size={STACK}", "--gc-sections", "--fatal-warnings", "--threads=1", "--strip-all"]
     words += [f"--export={name}" for name in EXPORTS]
     ran(*words, "-o", room / "module64.wasm", *objects, folder=room)

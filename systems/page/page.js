@@ -201,9 +201,9 @@ const link = {
 const program = {
   module: null,
   kind: "",
-  // The module that this browser takes. The one with memory of 32 bits is the faster one where both go.
-  async load() {
-    for (const kind of ["module32", "module64"]) {
+  // The first module that this browser takes, of these.
+  async load(kinds = ["module32", "module64"]) {
+    for (const kind of kinds) {
       const packed = $(kind).textContent.trim();
       if (!packed) continue;
       const bytes = await through(new DecompressionStream("gzip"), bytesOfBase64(packed));
@@ -351,13 +351,20 @@ const editor = (() => {
       }
       for (const it of own) if (it.from) put(it.kind, row, it.from, it.to);
       if (own.length) {
-        const from = Math.max(lines[row].length + 2, ...own.map(it => (it.to || 0) + 2));
-        put(`said by-${worst}`, row, from, 0, { textContent: own.map(it => it.text).join("; ") });
+        const text = own.map(it => it.text).join("; ");
+        put(`said by-${worst}`, row, freeColumn(lines[row], Math.max(0, ...own.map(it => it.to || 0)), text), 0, { textContent: text });
       }
     }
     $("gutter").replaceChildren(...gutter);
     $("layer").replaceChildren(...layer);
     drawRuler(line, column, fields, scrollLeft);
+  }
+
+  // The first column behind these where a line has room for what is said of it.
+  function freeColumn(line, behind, text) {
+    const wanted = Math.ceil(text.length * 6.2 / wide) + 2;
+    for (const gap of line.slice(behind).matchAll(/ {2,}/g)) if (gap[0].length >= wanted) return behind + gap.index + 2;
+    return Math.max(line.length, behind) + 2;
   }
 
   const TENS = Array.from({ length: 8 }, (_, place) => String(place + 1).padStart(10)).join("");
@@ -958,6 +965,7 @@ const results = (() => {
     take, follow, tellNote,
     get listing() { return listing; },
     get record() { return record; },
+    axis: (place = 0) => plot.picture?.axes[place],
     setListing(text) {
       listing = text;
       showListing();

@@ -1,5 +1,5 @@
 -- What a host is told of a call.
-use Rattle.std.specs.Prelude.{◌≡◌, ℕ, Bool, false, List, length, take, Option, is_some, IfSome, IfNone}
+use Rattle.std.specs.Prelude.{◌≡◌, ℕ, Bool, false, List, length, take, Option, is_some, IfSome}
 use Rattle.emtp_io.specs.Cabinet.{CreatedOutput, Outputs}
 use Rattle.emtp_page.specs.declared.answer.Answer.{Answer}
 use Rattle.emtp_page.specs.declared.answer.Left.{Left}
@@ -28,10 +28,10 @@ pub record IsShown (out : Option CreatedOutput) (left : Left) (room : List ℕ) 
 -- a status, and each output in the room for it
 pub record Tells (status : Status) (outputs : Outputs) (answer : Answer) (cfg dat note summary : List ℕ) : Type 0 where
   pub number : answer.status ≡ number_of status
-  pub cfg : IsShown outputs.cfg answer.cfg cfg
-  pub dat : IsShown outputs.dat answer.dat dat
-  pub note : IsShown outputs.note answer.note note
-  pub summary : IsShown outputs.summary answer.summary summary
+  pub cfg_shown : IsShown outputs.cfg answer.cfg cfg
+  pub dat_shown : IsShown outputs.dat answer.dat dat
+  pub note_shown : IsShown outputs.note answer.note note
+  pub summary_shown : IsShown outputs.summary answer.summary summary
 
 -- of an output that wasn't created
 abbrev pub absent : Left

@@ -32,7 +32,7 @@ pub record Keeps (words : List (List ℕ)) (status : Status) (old new : CabinetS
   pub nature : new.nature ≡ old.nature
   pub cause : HasStatusCause status old new
   pub no_record : Leaves status old new
-  pub outcome : Settles status (outcome words old.nature.files) old new
+  pub settles : Settles status (outcome words old.nature.files) old new
   pub taken : TakesWithin (fits words) status old new
   pub residual : HasRun status → All SamplesBalance (cases_of words old.nature.files)
   pub early_end : HasRun status → All EndsWithin (cases_of words old.nature.files)
@@ -43,25 +43,25 @@ pub record Keeps (words : List (List ℕ)) (status : Status) (old new : CabinetS
 abbrev pub Shows : List (List ℕ) → Status → CabinetState → CabinetState → Type 0
 Shows words status old new = Inspects (asked words) status old new
 
--- a call of which this holds was made over files of these names and bytes, with so much room for each output, and left this
-pub record Called (holds : Status → CabinetState → CabinetState → Type 0) (files : List (List ℕ × List ℕ)) (room : ℕ)
+-- a call of which this is said was made over files of these names and bytes, with so much room for each output, and left this
+pub record Called (says : Status → CabinetState → CabinetState → Type 0) (files : List (List ℕ × List ℕ)) (room : ℕ)
     (status : Status) (outputs : Outputs) : Type 0 where
   pub held : List File
-  pub named : named held ≡ files
+  pub same : named held ≡ files
   pub new : CabinetState
   pub left : new.outputs ≡ outputs
-  pub holds : holds status (fresh held room) new
+  pub said : says status (fresh held room) new
 
 -- a host is told what such a call came to
-pub record Answered (holds : Status → CabinetState → CabinetState → Type 0) (files : List (List ℕ × List ℕ)) (room : ℕ)
+pub record Answered (says : Status → CabinetState → CabinetState → Type 0) (files : List (List ℕ × List ℕ)) (room : ℕ)
     (answer : Answer) (cfg dat note summary : List ℕ) : Type 0 where
   pub status : Status
   pub outputs : Outputs
-  pub called : Called holds files room status outputs
+  pub called : Called says files room status outputs
   pub told : Tells status outputs answer cfg dat note summary
 
 -- there was no memory for the words, the files and the room; or a host is told what such a call came to
 abbrev pub Answers : (Status → CabinetState → CabinetState → Type 0) → List (List ℕ × List ℕ) → ℕ → Answer
     → List ℕ → List ℕ → List ℕ → List ℕ → Type 0
-Answers holds files room answer cfg dat note summary =
-    (answer ≡ wanting) ⊎ Answered holds files room answer cfg dat note summary
+Answers says files room answer cfg dat note summary =
+    (answer ≡ wanting) ⊎ Answered says files room answer cfg dat note summary
