@@ -169,19 +169,18 @@ class Browser:
             raise Fault(details.get("exception", {}).get("description") or details["text"])
         return answer["result"].get("value")
 
-    def wait(self, script: str, seconds: float = 60) -> Any:
-        """Waits until an expression is true, and gives its value."""
+    def wait(self, script: str, seconds: float = 120) -> None:
+        """Waits until an expression is true."""
         until = time.monotonic() + seconds
         while time.monotonic() < until:
-            value = self.run(script)
-            if value:
-                return value
+            if self.run(f"Boolean({script})"):
+                return
             self.take(0.05)
         raise Fault(f"not within {seconds:g} s: {script}")
 
     def key(self, name: str, modifiers: int = 0) -> None:
         """Presses a key: one of KEYS, or a letter."""
-        code, number, text = KEYS.get(name, ("", ord(name.upper()[0]), name))
+        code, number, text = KEYS.get(name, ("", ord(name.upper()) if name.isalnum() else 0, name))
         what = {"key": name, "code": code, "windowsVirtualKeyCode": number, "modifiers": modifiers}
         typed = text if not modifiers & (CONTROL | ALT | META) else ""
         self.call("Input.dispatchKeyEvent", type="keyDown" if typed else "rawKeyDown", text=typed, **what)

@@ -3,8 +3,10 @@
 
     systems/build.py page FOLDER      emtp.html: the program in a page of a browser, in one file
     systems/build.py systems FOLDER   emtp.exe (Windows), emtp-aarch64 and emtp-x86_64 (Linux, static)
+    systems/build.py anew FILE        emtp.html once more, of its parts as they stand and the modules that are in it
+    systems/build.py same FILE        whether emtp.html is that
 
-Both begin with the LLVM module that the toolchain's compiler makes of the library once it is proved: `rt lib` proves and
+The first two begin with the LLVM module that the toolchain's compiler makes of the library once it is proved: `rt lib` proves and
 builds it, and a second build, over what the first one kept, hands the same module out (its archive has to be the same, byte
 for byte). The module is made for x86-64; its layout of data, triple and processor are replaced by those of the other
 system, and clang compiles it. What it takes from around it are the three functions of the heap alone, which stand beside this
@@ -298,10 +300,32 @@ def dist(folder: Path) -> list[Path]:
     with in_room() as room:
         made = modules(room)
         version = ran(os.environ.get("RT", "rt"), "version").strip().split("\n")[0]
-        made_page = pages.page(TOP, made, f"the proved library emtp_page, by {version}")
+        made_page = pages.page(
+            TOP, {kind: pages.packed(it) for kind, it in made.items()}, f"the proved library emtp_page, by {version}"
+        )
     folder.mkdir(parents=True, exist_ok=True)
     (folder / "emtp.html").write_text(made_page, encoding="utf-8", newline="\n")
     return [folder / "emtp.html"]
+
+
+def of_parts(file: Path) -> str:
+    """A page of the parts as they stand, with the modules of a page that was made before."""
+    made = file.read_text(encoding="utf-8")
+    return pages.page(TOP, pages.modules_of(made), pages.source_of(made))
+
+
+def anew(file: Path) -> list[Path]:
+    """Makes a page once more of its parts; its modules stay."""
+    made = of_parts(file)
+    file.write_text(made, encoding="utf-8", newline="\n")
+    return [file]
+
+
+def same(file: Path) -> list[Path]:
+    """Holds a page to its parts."""
+    if of_parts(file).encode() != file.read_bytes():
+        raise Lacking(f"{file} isn't what its parts make: systems/build.py anew {file}")
+    return [file]
 
 
 def linked(name: str, target: Target, linker: str, flags: tuple[str, ...], text: str, room: Path, folder: Path) -> Path:
@@ -331,7 +355,7 @@ def systems(folder: Path) -> list[Path]:
 
 def main() -> int:
     words = sys.argv[1:]
-    kinds = {"page": dist, "systems": systems}
+    kinds = {"page": dist, "systems": systems, "anew": anew, "same": same}
     if words == ["--help"]:
         print(__doc__.strip())
         return 0

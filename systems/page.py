@@ -1,7 +1,7 @@
 """The page: one file of HTML with the program, its script, the examples and the tables of the cards in it.
 
-`page(top, modules)` gives its text. `modules` are the WebAssembly modules by their kind, `module64` and `module32`; a
-page may lack one of them. What the page is made of stands in the folder page/ beside this file.
+`page(top, modules, source)` gives its text. `modules` are the WebAssembly modules by their kind, `module64` and `module32`, as
+`packed` makes them; a page may lack one of them. What the page is made of stands in the folder page/ beside this file.
 """
 from __future__ import annotations
 
@@ -9,6 +9,7 @@ import base64
 import gzip
 import hashlib
 import json
+import re
 from pathlib import Path
 from typing import Any
 
@@ -63,9 +64,24 @@ def examples(top: Path) -> list[dict[str, Any]]:
     return sorted(found, key=lambda it: it["name"] != FIRST)
 
 
-def packed(module: bytes | None) -> str:
-    """A module, packed by gzip, in base64. It is the same text each time."""
-    return base64.b64encode(gzip.compress(module, 9, mtime=0)).decode() if module else ""
+def packed(module: bytes) -> str:
+    """A module as it stands in a page: packed by gzip, in base64."""
+    return base64.b64encode(gzip.compress(module, 9, mtime=0)).decode()
+
+
+def unpacked(module: str) -> bytes:
+    return gzip.decompress(base64.b64decode(module))
+
+
+def modules_of(made: str) -> dict[str, str]:
+    """The modules that stand in a page, packed as they are there."""
+    return dict(re.findall(r'id="(module\d\d)">([A-Za-z0-9+/=]+)</script>', made))
+
+
+def source_of(made: str) -> str:
+    """What a page says that its modules were made of."""
+    found = re.search(r'"about":"Made of (.*?); the module with', made)
+    return found[1] if found else ""
 
 
 def sum_of(part: str) -> str:
@@ -73,11 +89,13 @@ def sum_of(part: str) -> str:
     return f"'sha256-{base64.b64encode(hashlib.sha256(part.encode()).digest()).decode()}'"
 
 
-def page(top: Path, modules: dict[str, bytes], source: str) -> str:
-    """The page, of these modules, made of the sources that `source` names."""
+def page(top: Path, modules: dict[str, str], source: str) -> str:
+    """The page, of these packed modules, made of what `source` names."""
     told = tables.tables(top)
-    sizes = ", ".join(f"{kind[-2:]} bits {len(module):,} bytes" for kind, module in sorted(modules.items()))
-    told["about"] = f"Made of {source}; the program's module with addresses of {sizes}."
+    sizes = ", ".join(
+        f"{kind[-2:]} bits has {len(unpacked(module)):,} bytes" for kind, module in sorted(modules.items())
+    )
+    told["about"] = f"Made of {source}; the module with addresses of {sizes}."
     script, style = joined(SCRIPT), text(PARTS / "page.css")
     parts = {
         "STYLE_SUM": sum_of(style),
@@ -85,8 +103,8 @@ def page(top: Path, modules: dict[str, bytes], source: str) -> str:
         "STYLE": style,
         "TABLES": within(json.dumps(told, ensure_ascii=False, separators=(",", ":"))),
         "EXAMPLES": within(json.dumps(examples(top), ensure_ascii=False, separators=(",", ":"))),
-        "MODULE32": packed(modules.get("module32")),
-        "MODULE64": packed(modules.get("module64")),
+        "MODULE32": modules.get("module32", ""),
+        "MODULE64": modules.get("module64", ""),
         "WORKER": joined(WORKER),
         "SCRIPT": script,
     }

@@ -23,6 +23,9 @@ fresh files room = record {
   outputs = no_outputs;
   faults_in = 0;
   faults_out = 0;
+  opens = 0;
+  creates = 0;
+  turns = record { cfg = 0; dat = 0; note = 0; summary = 0 };
 }
 
 -- what the clauses of `emtp` say of these words over a cabinet that tells what it holds and never fails by itself

@@ -4,9 +4,9 @@ use Rattle.emtp_io.specs.held.Memory.{memory_state}
 use Rattle.emtp_page.specs.Calls.{fresh}
 use Rattle.emtp_page.proofs.over_memory.call.Goals as goal
 
--- the cabinet of these files, before the call
 pub returns : goal.returns
 returns c =
+    -- the cabinet of these files, before the call
     let made : memory_state c.in_ok-cabinet.cabinet ≡ fresh c.args.files.items c.args.room = rw (c.in_ok-cabinet.ensures, c.new.ensures.items) refl in
     record {
       held = c.args.files.items;
