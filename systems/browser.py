@@ -180,7 +180,7 @@ class Browser:
 
     def key(self, name: str, modifiers: int = 0) -> None:
         """Presses a key: one of KEYS, or a letter."""
-        code, number, text = KEYS.get(name, ("", ord(name.upper()) if name.isalnum() else 0, name))
+        code, number, text = KEYS.get(name) or ("", ord(name.upper()) if name.isalnum() else 0, name)
         what = {"key": name, "code": code, "windowsVirtualKeyCode": number, "modifiers": modifiers}
         typed = text if not modifiers & (CONTROL | ALT | META) else ""
         self.call("Input.dispatchKeyEvent", type="keyDown" if typed else "rawKeyDown", text=typed, **what)
