@@ -1,23 +1,10 @@
 -- What a host is told of a call.
-use Rattle.std.specs.Prelude.{◌≡◌, ℕ, Bool, false, List, length, take, Option, is_some, IfSome}
+use Rattle.std.specs.Prelude.{◌≡◌, ℕ, false, List, length, take, Option, is_some, IfSome}
 use Rattle.emtp_io.specs.Cabinet.{CreatedOutput, Outputs}
 use Rattle.emtp_page.specs.declared.answer.Answer.{Answer}
 use Rattle.emtp_page.specs.declared.answer.Left.{Left}
+use Rattle.emtp_run.specs.Status.{exit_code}
 use Rattle.emtp_run.specs.declared.status.Status.{Status}
-use Rattle.emtp_run.specs.declared.status.Status.TheVariants.{Done, Usage, BadCard, Ended, ReadFault, WriteFault, NoMemory, Refused, Differs, BadRow}
-
--- the number that the program exits with
-abbrev pub number_of : Status → ℕ
-number_of Done = 0
-number_of Usage = 1
-number_of BadCard = 2
-number_of Ended = 3
-number_of ReadFault = 4
-number_of WriteFault = 5
-number_of NoMemory = 6
-number_of Refused = 7
-number_of Differs = 8
-number_of BadRow = 9
 
 -- an output stands in the room for it, or as much of it as there is room for
 pub record IsShown (out : Option CreatedOutput) (left : Left) (room : List ℕ) : Type 0 where
@@ -27,7 +14,7 @@ pub record IsShown (out : Option CreatedOutput) (left : Left) (room : List ℕ) 
 
 -- a status, and each output in the room for it
 pub record Tells (status : Status) (outputs : Outputs) (answer : Answer) (cfg dat note summary : List ℕ) : Type 0 where
-  pub number : answer.status ≡ number_of status
+  pub number : answer.status ≡ exit_code status
   pub cfg_shown : IsShown outputs.cfg answer.cfg cfg
   pub dat_shown : IsShown outputs.dat answer.dat dat
   pub note_shown : IsShown outputs.note answer.note note

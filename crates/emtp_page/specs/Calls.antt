@@ -9,7 +9,7 @@ use Rattle.emtp_machine.specs.Laws.{EndsWithin, SamplesBalance}
 use Rattle.emtp_page.specs.Answer.{wanting, Tells}
 use Rattle.emtp_page.specs.Given.{named}
 use Rattle.emtp_page.specs.declared.answer.Answer.{Answer}
-use Rattle.emtp_run.specs.Command.{cases_of, outcome, OpensNothing, TakesWithin}
+use Rattle.emtp_run.specs.Command.{cases_of, outcome, CreatesInTurn, OpensNothing, OpensOnce, TakesWithin}
 use Rattle.emtp_run.specs.Outcome.{HasRoomFor, HasRun, HasStatusCause, IsCalmRun, IsComplete, Leaves, Settles}
 use Rattle.emtp_run.specs.Words.{fits}
 use Rattle.emtp_run.specs.declared.status.Status.{Status}
@@ -34,6 +34,8 @@ pub record Keeps (words : List (List ℕ)) (status : Status) (old new : CabinetS
   pub unopened : OpensNothing (fits words) status old new
   pub nature : new.nature ≡ old.nature
   pub cause : HasStatusCause status old new
+  pub opened : OpensOnce (fits words) status old new
+  pub created : CreatesInTurn (fits words) status old new
   pub no_record : Leaves status old new
   pub settles : Settles status (outcome words old.nature.files) old new
   pub taken : TakesWithin (fits words) status old new

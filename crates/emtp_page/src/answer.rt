@@ -1,7 +1,7 @@
 //! What a host is told.
 ghost use Rattle.std.specs.Prelude.{◌≡◌, false, length, take};
 ghost use Rattle.emtp_io.specs.Cabinet.{output};
-ghost use Rattle.emtp_page.specs.Answer.{absent, number_of, wanting, IsShown, Tells};
+ghost use Rattle.emtp_page.specs.Answer.{absent, wanting, IsShown, Tells};
 
 use emtp_io::{MemoryCabinet, Output};
 use emtp_run::Status;
@@ -44,7 +44,7 @@ pub(crate) fn tell(
     ensures { Tells status cabinet.now.outputs result cfg.new dat.new note.new summary.new }
 {
     Answer {
-        status: status as u32,
+        status: u32::from(status.code()),
         cfg: show(cabinet, Output::Cfg, cfg),
         dat: show(cabinet, Output::Dat, dat),
         note: show(cabinet, Output::Note, note),
@@ -57,7 +57,7 @@ pub(crate) fn tell_wanting() -> Answer
     ensures { result ≡ wanting }
 {
     Answer {
-        status: Status::NoMemory as u32,
+        status: u32::from(Status::NoMemory.code()),
         cfg: absent(),
         dat: absent(),
         note: absent(),
