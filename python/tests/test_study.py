@@ -271,7 +271,7 @@ class Parts(unittest.TestCase):
 
     def run_words(self, *words, **others):
         ran = self.start(*words, **others)
-        out, told = ran.communicate(timeout=60)
+        out, told = ran.communicate(timeout=600)
         return ran.returncode, out, told
 
     def test_parts_are_joined(self):
@@ -295,12 +295,12 @@ class Parts(unittest.TestCase):
         words = ("a.case", "a.times", "--jobs", "1", "--out", "s")
         ran = self.start(*words, SLOW="1")
         done = self.place / "s" / "part000001.status"
-        for _ in range(200):
+        for _ in range(3000):
             if done.exists():
                 break
             time.sleep(0.1)
         ran.send_signal(signal.SIGTERM)
-        ran.communicate(timeout=60)
+        ran.communicate(timeout=600)
         self.assertEqual(ran.returncode, 143)
         before = done.stat().st_mtime_ns
         self.assertFalse((self.place / "s" / "summary").exists())
