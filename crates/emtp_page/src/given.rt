@@ -86,7 +86,15 @@ fn three_files(
     ensures differ { IfOk result (λ files. AllPairs (λ a b. string_bytes a.0 ≢ string_bytes b.0) files.items) }
 {
     if first_name != second_name && first_name != third_name && second_name != third_name {
-        three_apart(alloc, first_name, first, second_name, second, third_name, third)
+        three_apart(
+            alloc,
+            first_name,
+            first,
+            second_name,
+            second,
+            third_name,
+            third,
+        )
     } else {
         Ok(Vec::new(alloc))
     }
@@ -141,7 +149,15 @@ pub fn files(
     match names {
         [a] => one_file(alloc, a.as_str(), first),
         [a, b] => two_files(alloc, a.as_str(), first, b.as_str(), second),
-        [a, b, c] => three_files(alloc, a.as_str(), first, b.as_str(), second, c.as_str(), third),
+        [a, b, c] => three_files(
+            alloc,
+            a.as_str(),
+            first,
+            b.as_str(),
+            second,
+            c.as_str(),
+            third,
+        ),
         _ => Ok(Vec::new(alloc)),
     }
 }
