@@ -21,7 +21,6 @@ typedef char Letter;
 
 enum { USAGE = 1, READ_FAULT = 4, WRITE_FAULT = 5, NO_MEMORY = 6 };
 
-#define MOST_WORDS 8 // more than any command has
 #define MOST_FILES 3
 #define OUTPUTS 4
 #define TEXT_BOUND 9000001 // a byte more than a case may have is enough to refuse it
@@ -188,8 +187,7 @@ static int leave(const Answer *answer, uint8_t *const outputs[OUTPUTS], const Le
 }
 
 static int run(int count, Letter **given) {
-    char *words[MOST_WORDS];
-    if (count > MOST_WORDS) count = MOST_WORDS; // as many fit no command
+    char **words = memory((uint64_t)count * sizeof *words);
     for (int at = 0; at < count; at++) {
         words[at] = utf8(given[at]);
         if (!words[at]) count = 0;

@@ -1,10 +1,7 @@
-"""What the page tells of cards, in the words of the pages of docs/ and of the script emtp.
+"""What the page tells of cards, in the words of docs/.
 
-`tables(top)` reads, below the folder `top` of the repository:
-
-- docs/cards.md and docs/control.md: the rulers, which name the fields of a card over their columns, and below each the
-  table of these fields;
-- the script emtp: each reason of a refusal, and each cause of an early end, in words.
+`tables(top)` reads docs/cards.md and docs/control.md below the folder `top` of the repository: the rulers, which name the
+fields of a card over their columns, and below each the table of these fields.
 
 It stops with ValueError where a page has another form than these.
 """
@@ -218,46 +215,13 @@ def cards_of(heading: str, lines: list[str]) -> list[dict[str, Any]]:
     return cards
 
 
-def echoed(body: str) -> str:
-    """What a script echoes, with its marks for a host: {name}, {step}, and {node} and {rest} of a name with a number behind."""
-    text = re.search(r'echo "(.*?)"', body, re.DOTALL)
-    if not text:
-        raise ValueError(f"nothing is echoed: {body[:60]}")
-    told = " ".join(text[1].split())
-    return (
-        told.replace("${name% *}", "{node}")
-        .replace("${name##* }", "{rest}")
-        .replace("$name", "{name}")
-        .replace("$step", "{step}")
-    )
-
-
-def words_of(script: str) -> dict[str, Any]:
-    """The reasons and the causes in words, as the script emtp has them."""
-    reason = script[script.index("\nreason() {") : script.index("\n# card_kind")]
-    reasons = {name: echoed(body) for name, body in re.findall(r"^    (\w+)\) (echo .*?) ;;", reason, re.MULTILINE)}
-    ended = script[script.index("\nended() {") : script.index("\n# not_solved")]
-    causes = {
-        f"{cause}:{'' if kind == '*' else kind}": echoed(body)
-        for cause, kind, body in re.findall(
-            r"^    ([A-Z]+):(\*|step|steady)\) (echo \".*?\") ;;", ended, re.MULTILINE | re.DOTALL
-        )
-    }
-    causes |= {
-        f"{cause}:": echoed(body)
-        for cause, body in re.findall(r"^    ([A-Z]+):\*\) (echo \".*?\") ;;", ended, re.MULTILINE | re.DOTALL)
-    }
-    unsolved = dict(re.findall(r'^    (\w+)\) why="(.*?)"', script, re.MULTILINE))
-    if len(reasons) < 18 or len(causes) < 6 or len(unsolved) < 5:
-        raise ValueError("the script emtp tells reasons and causes in another form")
-    return {"reasons": reasons, "causes": causes, "unsolved": unsolved}
-
-
 def tables(top: Path) -> dict[str, Any]:
-    """All that the page tells of cards: `cards`, by section and ruler, and `words`."""
+    """All that the page tells of cards: `cards`, by section and ruler."""
     cards: dict[str, Any] = {}
     for page in ("cards.md", "control.md"):
         for heading, lines in sections((top / "docs" / page).read_text(encoding="utf-8")):
             for card in cards_of(heading, lines):
                 cards[card.pop("card")] = card
-    return {"cards": cards, "words": words_of((top / "emtp").read_text(encoding="utf-8"))}
+    if len(cards) < 15:
+        raise ValueError(f"docs/cards.md and docs/control.md have {len(cards)} rulers alone")
+    return {"cards": cards}

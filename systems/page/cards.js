@@ -1,6 +1,6 @@
 // ---- cards: as what each line of a case is read, and its fields
 
-// `tables` is what systems/tables.py reads of docs/: { cards: { "Line 1": { ruler, fields, kinds } }, words }.
+// `tables` is what systems/tables.py reads of docs/: { cards: { "Line 1": { ruler, fields, kinds } } }.
 const Cards = (tables => {
   const SECTIONS = ["a block card", "a TACS source", "a supplemental card", "a TACS output", "an initial condition",
     "a branch card", "a switch card", "a source card", "a node output card"];

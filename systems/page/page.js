@@ -3,7 +3,6 @@
 const $ = id => document.getElementById(id);
 const data = id => JSON.parse($(id).textContent);
 const TABLES = data("tables"), EXAMPLES = data("examples");
-const WORDS = TABLES.words;
 const cards = Cards(TABLES);
 
 // An element with properties and children; text is text, never markup.
@@ -460,22 +459,25 @@ const editor = (() => {
 
 // ---- refusals and warnings, beside the cards as they are written
 
-// Why a card is refused, in words: { line, from, to, text }, from the note.
-function refusalOf(note) {
+// What the program says of a text of its own, by the words behind `show`.
+const explaining = new Caller();
+async function explained(words, files = []) {
+  const told = await explaining.call({ show: true, words, files });
+  return told.summary ? Records.text(told.summary).trimEnd() : "";
+}
+
+// Why a card is refused: { line, from, to, text, more }, from the note and from what `show --why` says of the case.
+function refusalOf(note, why) {
   const found = /^BAD CARD LINE (\d+) COLUMN (\d+) REASON \d+ (\w+)/m.exec(note);
   if (!found) return null;
   const line = Number(found[1]), column = Number(found[2]);
-  const [kind, ruler] = editor.kind(line), card = editor.line(line);
-  if (found[3] === "MissingSection") {
-    return { kind: "refused", line: Math.min(line, editor.count()), from: 0, to: 0, text: `${WORDS.reasons.MissingSection}: a line BLANK ends a section` };
-  }
-  let to = column;
-  const field = cards.fieldsAt(ruler, card, column).find(it => it.from === column);
-  if (field && !/^Byte|^Past/.test(found[3])) to = field.to;
-  else if (!/^Byte|^Past/.test(found[3])) to = column - 1 + Math.max(1, /^\s*\S*/.exec(card.slice(column - 1))[0].length);
-  let why = WORDS.reasons[found[3]] ?? found[3];
-  if (found[3] === "ByteOutside" && card[column - 1] === "\t") why = "a tab; a field's columns need blanks";
-  return { kind: "refused", line, from: column, to, text: `${why}${field ? ` (${cards.nameOf(field)})` : ""}`, card: kind };
+  const lines = why.split("\n"), marked = lines.findIndex(text => /^ *\^ /.test(text));
+  const said = { kind: "refused", line: Math.min(line, editor.count()), text: marked < 0 ? lines[0] : lines[marked].trim().slice(2), more: lines.slice(Math.max(marked, 0) + 1).join(" ") };
+  if (found[3] === "MissingSection" || found[3] === "TooManyLines") return { ...said, from: 0, to: 0 };
+  const card = editor.line(line), field = cards.fieldsAt(editor.kind(line)[1], card, column).find(it => it.from === column);
+  if (found[3] === "ByteOutside" || found[3] === "PastColumn80") return { ...said, from: column, to: column };
+  if (field) return { ...said, from: column, to: field.to, text: `${cards.nameOf(field)}: ${said.text}` };
+  return { ...said, from: column, to: column - 1 + Math.max(1, /^\s*\S*/.exec(card.slice(column - 1))[0].length) };
 }
 
 // The warnings of a listing; of one that names a channel, the line of the card that asks for it.
@@ -503,7 +505,9 @@ const checking = (() => {
       return;
     }
     const listing = Records.text(told.summary ?? told.note ?? new Uint8Array());
-    const refusal = told.status === 2 ? refusalOf(listing) : null;
+    const why = told.status === 2 ? await explained(["--why", "case"], [{ name: "case", bytes: bytesOf(text) }]) : "";
+    if (text !== editor.text()) return;
+    const refusal = told.status === 2 ? refusalOf(listing, why) : null;
     found = refusal ? [refusal] : warningsOf(listing);
     at = -1;
     editor.setMarks(found);
@@ -514,7 +518,7 @@ const checking = (() => {
   function tell() {
     $("messages").replaceChildren(...found.slice(0, 200).map(it => {
       const place = `Line ${it.line}${it.from ? `, column${it.to > it.from ? "s" : ""} ${it.from}${it.to > it.from ? "-" + it.to : ""}` : ""}`;
-      const button = make("button", { type: "button", textContent: `${place}: ${it.text}.${it.card ? ` Read as ${it.card}.` : ""}` });
+      const button = make("button", { type: "button", textContent: `${place}: ${it.text}.${it.more ? ` ${it.more}` : ""}` });
       button.onclick = () => editor.goto(it.line, it.from || 1, it.to ? it.to + 1 : 1);
       return make("li", { class: it.kind }, button);
     }));
@@ -601,43 +605,45 @@ async function run() {
   const told = await running.call(call);
   const seconds = (performance.now() - begun) / 1000;
   busy(false, `${seconds < 10 ? seconds.toFixed(2) : seconds.toFixed(1)} s`);
-  results.take(what, name, told);
+  await results.take(what, name, call, told);
 }
 
 // ---- what came of it
 
-// What a status means, in words; nothing where the note says it all.
-function meaning(what, status, note) {
-  if (status === 1) {
-    if (what === "scan") return "The frequencies are whole hertz from 1 to 10,000,000, the first not above the last, and at most 10,000 of them.";
-    return what === "trial" ? "The number of sections is a whole number from 1 to 900." : "The words don't fit.";
+// A line of a file, as the program may be asked about it.
+const lineOf = (bytes, line) => (Records.text(bytes).split("\n")[line - 1] ?? "").replace(/\r$/, "").replace(/[^ -~]/g, "?");
+
+// What a status means, in the program's words; nothing where the note says it all.
+async function meaning(call, status, note) {
+  const numbers = note.match(/\d+/g)?.map(Number) ?? [];
+  const file = name => call.files.find(it => it.name === name)?.bytes ?? new Uint8Array();
+  switch (status) {
+    case 1: return explained(["--misfit", ...call.words]);
+    case 2: return call.files.length ? explained(["--why", "case"], call.files.slice(0, 1)) : "";
+    case 3: {
+      const found = /ENDED (?:STEP (\d+) )?(\w+) (.*)/.exec(note);
+      return found ? explained(["--ended", found[2], found[1] ?? "", found[3].replace(/ SAMPLES .*/, "")]) : "";
+    }
+    case 5: return "The record has no room in this page.";
+    case 6: return "There wasn't enough memory; nothing was made.";
+    case 7: {
+      const found = /REFUSED LINE (\d+) REASON \d+ (\w+)/.exec(note);
+      if (!found) return "";
+      return `${found[1] === "1" ? "" : editor.line(Number(found[1])) + "\n"}${await explained(["--unsolved", found[2]])}`;
+    }
+    case 8: {
+      const found = /DIFFERS (CFG|DAT) LINE (\d+) FIELD (\d+) (\w+)/.exec(note);
+      if (!found) return "";
+      const text = found[3] === "1" && found[4] === "MISSING" ? "" : lineOf(file(found[1].toLowerCase()), Number(found[2]));
+      return `${await explained(["--field", text, found[3], found[4]])}\nThis is line ${found[2]} of the ${found[1].toLowerCase()}, field ${found[3]}.`;
+    }
+    case 9: {
+      const [line, item] = numbers, row = lineOf(file("times"), line);
+      if (!line) return "The table has more than 9,000,000 bytes.";
+      return row ? explained(["--item", row, String(item)]) : "The table has no row.";
+    }
+    default: return "";
   }
-  if (status === 2) {
-    const it = refusalOf(note);
-    return it ? `Line ${it.line}: ${it.text}.${it.card ? ` Read as ${it.card}.` : ""}` : "";
-  }
-  if (status === 3) {
-    const steady = !/ENDED STEP/.test(note);
-    const found = (steady ? /ENDED (\w+) (.*)/ : /ENDED STEP \d+ (\w+) (.*?) SAMPLES/).exec(note);
-    const step = steady ? "the steady state" : "step " + /STEP (\d+)/.exec(note)?.[1];
-    const told = found && (WORDS.causes[`${found[1]}:${steady ? "steady" : "step"}`] ?? WORDS.causes[found[1] + ":"]);
-    if (!told) return "The run ended early.";
-    const [node, rest = ""] = found[2].split(/ (?=-?\d+$)/);
-    return told.replaceAll("{name}", found[2]).replaceAll("{node}", node).replaceAll("{rest}", rest).replaceAll("{step}", step);
-  }
-  if (status === 5) return "The record has no room in this page.";
-  if (status === 6) return "There wasn't enough memory; nothing was made.";
-  if (status === 7) {
-    const found = /REFUSED LINE (\d+) REASON \d+ (\w+)/.exec(note);
-    const why = found && WORDS.unsolved[found[2]];
-    return why ? `${why[0].toUpperCase()}${why.slice(1)}${Number(found[1]) ? ` (line ${found[1]})` : ""}.` : "";
-  }
-  if (status === 8) return "The record isn't that of this case: this is the first field that differs.";
-  if (status === 9) {
-    const found = /LINE (\d+) ITEM (\d+)/.exec(note);
-    return found ? `Line ${found[1]} of the table, item ${found[2]}, is refused.` : "";
-  }
-  return "";
 }
 
 const results = (() => {
@@ -701,7 +707,7 @@ const results = (() => {
     $("note").className = kind;
     const parts = [];
     if (note) parts.push(make("code", { textContent: note }));
-    if (said) parts.push(make("div", { class: "said", textContent: said }));
+    if (said) parts.push(make("pre", { class: "said", textContent: said }));
     $("note").replaceChildren(...parts);
     if (time) $("progress").textContent = time;
   }
@@ -928,7 +934,7 @@ const results = (() => {
     return `${peaks.length.toLocaleString("en")} rows; ${ended.length ? `${ended.length} ended early (${early})` : "all ran to their ends"}.`;
   }
 
-  function take(what, name, told) {
+  async function take(what, name, call, told) {
     if (told.fault) {
       tellNote("bad", "", told.fault);
       return;
@@ -936,7 +942,7 @@ const results = (() => {
     const { status } = told;
     const note = told.note ? Records.text(told.note) : "", summary = told.summary ? Records.text(told.summary) : "";
     const shown = note || (summary.length < 300 ? summary : "");
-    const said = status === 0 ? summed(what, told) : meaning(what, status, note || summary);
+    const said = status === 0 ? summed(what, told) : await meaning(call, status, note || summary);
     tellNote(status === 0 ? "good" : "bad", what === "show" ? "" : shown.trimEnd(), said);
     $("text").textContent = summary.length + note.length > 300000 ? (summary + note).slice(0, 300000) + "\n.. the rest is in the file" : summary + note;
     files = [];
