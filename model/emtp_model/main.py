@@ -133,7 +133,11 @@ def main(arguments: list[str] | None = None) -> int:
     words = [os.fsencode(word) for word in (sys.argv[1:] if arguments is None else arguments)]
     trace = None
     if words[:1] == [b"--trace"] and len(words) > 1:
-        trace = open(words[1], "w", encoding="latin-1")
+        try:
+            trace = open(words[1], "w", encoding="latin-1")
+        except (OSError, ValueError) as error:
+            print(f"emtp: the trace can't be written: {error}", file=sys.stderr)
+            return WRITE_FAULT
         del words[:2]
     if any(not is_text(word) for word in words):
         words = []  # the program's words are texts; else it is called with none
