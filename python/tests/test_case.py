@@ -527,6 +527,58 @@ class Answers(unittest.TestCase):
         case = Case(1e-3, 1e-2)
         case.series("A", r_ohm=1)
         self.assertEqual((case.run().names, len(case.run().times)), ([], 11))
+        self.assertEqual(case.told[-1], "no output is asked for, so the record has no channel")
+
+    def test_warnings_are_told_by_their_number(self) -> None:
+        case = line_and_breaker()
+        case.run()
+        self.assertEqual(case.told, [])
+        case.cosine("BUS", amplitude_a=1, hz=0)
+        with self.assertRaisesRegex(Refused, "lines with resistance"):
+            case.steady()
+        self.assertEqual(case.told, [])
+        case.run()
+        self.assertEqual(case.told, ["there is 1 warning of what was read: case.show().warnings"])
+        self.assertEqual(len(case.show().warnings), 1)
+        self.assertEqual(case.told, [])  # they are shown
+
+    def test_warnings_of_other_answers(self) -> None:
+        case = Case(1e-4, 1e-2)
+        case.series("A", "B", r_ohm=1)  # B is an open end
+        case.series("A", r_ohm=1)
+        case.cosine("A", amplitude_a=1, hz=50)
+        case.output("A")
+        for answer in (case.steady, lambda: case.scan(50, 50, 1)):
+            answer()
+            self.assertEqual(case.told, ["there is 1 warning of what was read: case.show().warnings"])
+        with self.assertRaisesRegex(CaseError, "^the case has no time switch"):
+            case.batch([[]])
+        case.switch("A", "B", close_s=1.0)  # behind the end
+        case.batch([0.0])
+        self.assertEqual(case.told, ["there is 1 warning of what was read: case.show().warnings"])
+
+    def test_rows_behind_the_end_of_the_run(self) -> None:
+        case = Case(1e-3, 1e-2)
+        case.series("A", r_ohm=1)
+        case.switch("A", close_s=0.001)
+        case.step("A", amplitude_a=1)
+        case.output("A")
+        found = case.batch([0.01, 0.0101, 5.0])
+        self.assertEqual(found.channel("V A").tolist(), [1.0, 1.0, 1.0])
+        self.assertEqual(case.told, ["of 2 of 3 rows all times lie behind the end of the run, 0.01 s"])
+
+    def test_a_steady_state_that_isn_t_there_has_the_cure(self) -> None:
+        case = Case(1e-5, 0.01)
+        case.series("A", "B", r_ohm=1)
+        case.line("B", "C", zc_ohm=400, tau_us=300)
+        case.cosine("A", amplitude_v=1000, hz=50)
+        case.output("C")
+        with self.assertRaisesRegex(
+            CaseError, "^no steady state, ZEROPIVOT at C: .* large resistance to ground, as 1.E6"
+        ):
+            case.steady()
+        case.series("C", r_ohm=1e6)
+        self.assertGreater(abs(case.steady()["C"]), 1000)
 
     def test_equal_switches_have_times_of_their_own(self) -> None:
         case = Case(1e-5, 0.01)

@@ -11,6 +11,7 @@ from .draft import Call, CaseError
 BAD_CARD = re.compile(r"^BAD CARD LINE (\d+) COLUMN (\d+) REASON (\d+) (\w+)$", re.MULTILINE)
 REFUSED = re.compile(r"^REFUSED LINE (\d+) REASON (\d+) (\w+)$", re.MULTILINE)
 ENDED = re.compile(r"^ENDED STEP (\d+) (\w+) (.*?) ?SAMPLES (\d+) REDONE (\d+)$", re.MULTILINE)
+UNSOLVED = re.compile(r"^PHASOR ENDED (\w+) (.+)$", re.MULTILINE)
 REASONS = {
     "ByteOutside": "a byte outside of 0x20 to 0x7E",
     "PastColumn80": "a byte past column 80",

@@ -23,7 +23,21 @@ import typing
 import numpy as np
 
 from . import columns, fields, listing, program, record
-from .answers import BAD_CARD, REFUSED, Batch, End, Refused, Scan, Steady, batch_of, end_of, scan_of, steady_of
+from .answers import (
+    BAD_CARD,
+    CAUSES,
+    REFUSED,
+    UNSOLVED,
+    Batch,
+    End,
+    Refused,
+    Scan,
+    Steady,
+    batch_of,
+    end_of,
+    scan_of,
+    steady_of,
+)
 from .compound import Compound, after
 from .control import Control
 from .draft import STANDING, Call, CaseError, Draft, Switch, Written, joined
@@ -54,6 +68,7 @@ class Case(Compound):
         iout: int = 1,
     ) -> None:
         self._draft = draft = Draft()
+        self._heard: list[str] = []  # of the last answer
         self.control = Control(draft)
         self.every = _whole(every, "every", 1, 10**6)
         iout = _whole(iout, "iout", -(10**7) + 1, 10**8 - 1)  # as many digits as its columns hold
@@ -77,8 +92,10 @@ class Case(Compound):
 
     @property
     def told(self) -> list[str]:
-        """What was done beyond the letter of the calls, each once: digits that a field lost, pieces that were cut."""
-        return list(self._draft.contents.told)
+        """What was done beyond the letter of the calls, each once: digits that a field lost, pieces that were cut. Then
+        what is seldom meant so of the last answer: how many warnings the case has, that it asks for no output, rows
+        of a batch that change nothing."""
+        return [*self._draft.contents.told, *self._heard]
 
     # ---- what the record has
 
@@ -221,6 +238,8 @@ class Case(Compound):
             place, stem = (pathlib.Path(room), "case") if save is None else _place(save)
             note = self._answer(["run", *(f"./{stem}.{ending}" for ending in ("case", "cfg", "dat"))], place, (0, 3))
             found = record.read(place / f"{stem}.cfg", place / f"{stem}.dat")
+        if not found.names and not found.state_names:
+            self._heard.append("no output is asked for, so the record has no channel")
         self.end_of_run = end_of(note, self.dt)
         if self.end_of_run:
             found.told.insert(0, str(self.end_of_run) + self._cure(self.end_of_run))
@@ -258,6 +277,8 @@ class Case(Compound):
         opening of inf is never. There may be any number of rows.
         """
         free = [it for it in self._draft.contents.switches if it.kind == "time" and it.leader is None]
+        if not free:
+            raise CaseError("the case has no time switch, whose times a batch would change")
         closing = _rows(closings, "closings", len(free))
         opening = np.full(closing.shape, np.nan) if openings is None else _rows(openings, "openings", len(free))
         if closing.shape != opening.shape:
@@ -267,6 +288,11 @@ class Case(Compound):
         for first in range(0, len(rows), MOST_ROWS):
             table = "".join(f"{row}\n" for row in rows[first : first + MOST_ROWS])
             notes.append(self._answered(["batch", "case.case", "times"], {"times": table}))
+        if not self.names:
+            self._heard.append("no output is asked for, so there are no peaks")
+        late = sum(min(float(it) for it in row.split() if it != "-") > self.end + 5e-13 for row in rows)
+        if late:
+            self._heard.append(f"of {late} of {len(rows)} rows all times lie behind the end of the run, {self.end:g} s")
         return batch_of(notes, self.names)
 
     def _row(self, closing: list[float], opening: list[float]) -> str:
@@ -301,8 +327,10 @@ class Case(Compound):
         """What a command prints of the case, which is written at the place; what isn't good is raised."""
         lines = self._lines()
         self.write(place / words[1], rulers=False)
+        self._heard = []
         ended = program.run(words, place)
         if ended.status in good:
+            self._heard = [] if words[0] == "show" else _warned(place, words[1])
             return ended.note
         refused = BAD_CARD.search(ended.note)
         barred = REFUSED.search(ended.note)
@@ -310,8 +338,26 @@ class Case(Compound):
             line = int((refused or barred)[1])
             column, reason = (int(refused[2]), refused[4]) if refused else (0, barred[3])
             raise Refused(line, column, reason, *_card_at(lines, line))
+        if unsolved := UNSOLVED.search(ended.note):
+            raise CaseError(f"no steady state, {unsolved[1]} at {unsolved[2]}: {_help(place, *unsolved.groups())}")
         told = (ended.note.strip() + " " + ended.told.strip()).strip()
         raise CaseError(f"emtp {words[0]} ended with status {ended.status}: {told[:1000] or 'nothing was said'}")
+
+
+def _warned(place: pathlib.Path, case: str) -> list[str]:
+    """How many warnings there are of a case that was accepted, where there are some."""
+    try:
+        count = program.run(["show", "--count", case], place).note.strip()
+    except program.ProgramError as fault:
+        return [f"warnings aren't counted: {fault}"]
+    there = {"": "", "0": "", "1": "there is 1 warning"}.get(count, f"there are {count} warnings")
+    return [f"{there} of what was read: case.show().warnings"] if there else []
+
+
+def _help(place: pathlib.Path, cause: str, name: str) -> str:
+    """The program's words for a cause that leaves no steady state, and the usual cure."""
+    told = program.run(["show", "--ended", cause, "", name], place)
+    return " ".join(told.note.split()) or CAUSES.get(cause, cause)
 
 
 def _known(name: str, names: typing.Collection[str], what: str, call: Call | None) -> None:
