@@ -209,6 +209,7 @@ class Varied(unittest.TestCase):
     def test_refusals(self):
         for asked, cause in (
             ("6:R", "it is LINE"), ("R=1", "it is LINE"), ("x:R=1", "it is LINE"), ("6:R=1,,2", "it is LINE"),
+            ("3:Q=1", "line 3, a first miscellaneous card, has 0 fields named Q"),
             ("6:Q=1", "a series branch card, has 0 fields named Q; it has type, R, L, C"),
             ("1:R=1", "it is no card"), ("9:R=1", "it is the end of a section"), ("99:R=1", "it is no card"),
             ("99:1-2=1", "has lines 1 to 17"), ("6:0-2=1", "they lie from 1 to 80"), ("6:9-2=1", "they lie from 1 to 80"),
@@ -288,7 +289,7 @@ class Parts(unittest.TestCase):
         self.assertRegex(out, r"ANY V \(pu\) +3.5 +4.5 +4.5  2")
         self.assertTrue((self.place / "a.study" / "peaks.png").read_bytes().startswith(b"\x89PNG"))
         status, _, told = self.run_words("a.case", "a.times")
-        self.assertEqual((status, told), (2, "study: a.study is there: --resume goes on with it, or remove it\n"))
+        self.assertEqual((status, told), (2, "emtp study: a.study is there: --resume goes on with it, or remove it\n"))
 
     def test_broken_off_and_gone_on_with(self):
         """A study that is ended leaves nothing running; --resume does what lacks, and only of the same files and program."""
@@ -310,13 +311,13 @@ class Parts(unittest.TestCase):
         self.assertEqual(done.stat().st_mtime_ns, before)
         (self.place / "a.times").write_text(".5 *\n")
         status, _, told = self.run_words(*words, "--resume")
-        self.assertEqual((status, told), (2, "study: s is of other files, of other words or of another program\n"))
+        self.assertEqual((status, told), (2, "emtp study: s is of other files, of other words or of another program\n"))
 
     def test_refused_row_has_its_own_line(self):
         (self.place / "a.times").write_text("# a\n.1 *\n\n.2 *\nbad *\n")
         status, _, told = self.run_words("a.case", "a.times", "--jobs", "3")
         self.assertEqual(status, 2)
-        self.assertTrue(told.endswith("study: a.times: line 5, item 1: bad *\n"), told)
+        self.assertTrue(told.endswith("emtp study: a.times: line 5, item 1: bad *\n"), told)
         self.assertFalse((self.place / "a.study").exists())
 
     def test_this_machine_in_a_list_of_machines(self):
@@ -360,6 +361,8 @@ class Parts(unittest.TestCase):
             (("a.case", "a.times", "--peaks-from", "-1"), "--peaks-from is a number of seconds"),
             (("a.case", "--times", "0", "--spread", "1", "1"), "at least 1"),
             (("a.case", "--times", "3", "--spread", "1", "nan"), "CYCLE and SIGMA"),
+            (("a.case", "--times", "3"), "--times N and --spread CYCLE SIGMA stand together"),
+            (("a.case", "a.times", "--spread", "1", "1"), "--times N and --spread CYCLE SIGMA stand together"),
             (("--cases", "list", "--vary", "1:R=1"), "are of one case"),
         ):
             with self.subTest(words=words):
@@ -414,6 +417,30 @@ class Whole(unittest.TestCase):
             [(it["6:R"], it["14:amplitude"]) for it in values],
             [("8.", "100."), ("8.", "300."), ("20.", "100."), ("20.", "300.")],
         )
+
+    def test_cases_without_a_record(self):
+        """What has none is told with its first one; where none has one, the study ends with a status of its own."""
+        refused = "BAD CARD LINE 6 COLUMN 27 REASON 3 NotANumber"
+        out, told = self.run_words("a.case", "--vary", "6:R=1.,x,y", "--out", "some")
+        self.assertEqual(out, "3 cases: some/cases.csv\n")
+        end = f"emtp study: 2 of 3 cases without a record; the first is a.case, 6:R = x: {refused}\n"
+        self.assertTrue(told.endswith(end), told)
+        with contextlib.chdir(self.place), contextlib.redirect_stdout(io.StringIO()) as out:
+            with contextlib.redirect_stderr(io.StringIO()) as told:
+                self.assertEqual(study.main(["a.case", "--vary", "6:R=x", "--out", "none"]), 2)
+        self.assertEqual(out.getvalue(), "1 case: none/cases.csv\n")
+        end = f"emtp study: 1 of 1 case without a record; the first is a.case, 6:R = x: {refused}\n"
+        self.assertTrue(told.getvalue().endswith(end), told.getvalue())
+
+    def test_times_behind_the_end_of_the_run(self):
+        table, told = self.run_words("a.case", "--times", "2", "--spread", ".001", "0", "--from", "1", "--poles", "2")
+        self.assertEqual(told, "emtp study: of 2 of 2 rows all times lie behind the end of the run, 0.05 s\n")
+        self.assertTrue(table.startswith("# 2 rows, poles 2 of 3"))
+        (self.place / "a.times").write_text("* * * * * *\n.05 * .06 * * *\n.0501 * * - * .07\n")
+        _, told = self.run_words("a.case", "a.times")
+        self.assertIn("of 1 of 3 rows all times lie behind the end of the run, 0.05 s\n", told)
+        _, told = self.run_words("a.case", "a.times", "--vary", "3:TMAX=.05,.07", "--out", "longer")
+        self.assertNotIn("behind the end", told)
 
     def test_values_alone(self):
         out, _ = self.run_words("a.case", "--vary", "7:R=1.,3.", "--base", "100")

@@ -5,7 +5,8 @@ As what each line is read is asked of `emtp show --kinds`; no rule of the cards 
 
 import os
 import re
-from decimal import Decimal
+from collections.abc import Sequence
+from decimal import ROUND_HALF_UP, Decimal
 
 from . import program
 
@@ -111,6 +112,21 @@ class Deck:
                 for section in CONTROL:
                     made += [*self._put.get(section, []), "BLANK"]
         return "".join(line + "\n" for line in made)
+
+
+def ends_of(path: str, texts: Sequence[str]) -> list[float]:
+    """When the last steps of cases are, in s; they have their first miscellaneous card where the case of the path has
+    its own. DeckError where one has no such time."""
+    line = next((line for line, kind in kinds(path).items() if kind == "the first miscellaneous card"), 0)
+    found = []
+    for text in texts:
+        card = text.split("\n")[line - 1]
+        try:
+            step, end = number(card[:8]), number(card[8:16])
+            found.append(float((end / step).to_integral_value(ROUND_HALF_UP) * step))
+        except (ValueError, ArithmeticError):
+            raise DeckError(f"{path}: line {line} has no end of the run") from None
+    return found
 
 
 def switch_cards(path: str) -> list[tuple[int, str]]:

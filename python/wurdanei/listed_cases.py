@@ -3,6 +3,7 @@
 import argparse
 import csv
 import os
+import sys
 from decimal import Decimal
 
 import numpy as np
@@ -35,7 +36,16 @@ def run_cases(words: argparse.Namespace, means: Means, names: list[str], cases: 
         for name, texts, part, its in zip(names, cases.values, made, found):
             note = parts.output_of(means.room, part)[0]
             out.writerow([name, *texts, part, note, *(its.get(it, "") for it in headings)])
-    print(f"{len(made)} cases: {table}")
+    print(f"{parts.counted(len(made), 'case')}: {table}")
+    lost = [place for place, part in enumerate(made) if status_of(means.room, part) not in (0, 3)]
+    if lost:
+        first = lost[0]
+        which = ", ".join(it for it in (names[first], cases.told(first)) if it)
+        note = parts.output_of(means.room, made[first])[0] or f"status {status_of(means.room, made[first])}"
+        told = f"{len(lost)} of {parts.counted(len(made), 'case')} without a record; the first is {which}: {note}"
+        if len(lost) == len(made):
+            raise StudyError(told)
+        print(f"emtp study: {told}", file=sys.stderr)
 
 
 def peaks_of(words: argparse.Namespace, means: Means, part: str, cases: Cases) -> dict[str, Decimal | str]:

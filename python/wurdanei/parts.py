@@ -48,6 +48,11 @@ class Means:
     resume: bool = False
 
 
+def counted(count: int, what: str) -> str:
+    """So many of these, in words."""
+    return f"{count} {what}" + "s" * (count != 1)
+
+
 def write_text(path: str, text: str) -> None:
     """Writes a text of bytes from 0 to 255 as they are."""
     with open(path, "w", encoding="latin-1", newline="") as file:
@@ -127,7 +132,7 @@ def run_parts(means: Means, parts: list[str], job: Job) -> None:
     """Runs what isn't done of the parts, again as long as that does some: a machine may be lost with what it had done."""
     left = [part for part in parts if status_of(means.room, part) is None]
     while left:
-        print(f"study: {len(left)} of {len(parts)} parts are left", file=sys.stderr)
+        print(f"emtp study: {counted(len(left), 'part')} of {len(parts)} left", file=sys.stderr)
         _run_left(means, left, job)
         was, left = left, [part for part in left if status_of(means.room, part) is None]
         if len(left) == len(was):

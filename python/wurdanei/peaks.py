@@ -159,4 +159,4 @@ def tell_whole(headings: list[str], cases: Cases) -> None:
     """Says on standard error which peaks aren't taken from a time on."""
     whole = [it for it in headings if cases.since not in it and not it.startswith("ANY ")]
     if cases.since and whole:
-        print(f"study: the peaks of {', '.join(whole)} are of the whole run", file=sys.stderr)
+        print(f"emtp study: the peaks of {', '.join(whole)} are of the whole run", file=sys.stderr)

@@ -33,7 +33,10 @@ def write_times(words: argparse.Namespace) -> None:
     tied = times.tied_of(words.after) if words.after else ()
     cycle, sigma = words.spread
     scatter = times.Scatter(words.times, cycle, sigma, words.begin, poles, tied, words.uniform, words.seed)
-    print("\n".join(times.scattered(scatter, count)))
+    lines = times.scattered(scatter, count)
+    with open(words.case, encoding="latin-1", newline="") as file:
+        times.tell_behind(lines[1:], words.case, [file.read()])
+    print("\n".join(lines))
 
 
 def _words() -> argparse.ArgumentParser:
@@ -52,7 +55,7 @@ one each case of a list (a name a line): their records part000001.cfg and .dat a
 writes a table: a row closes its switches at T, plus an offset that is uniform over CYCLE seconds, plus one of each pole
 of the deviation SIGMA. With --sshloginfile the parts run on several machines.
 It needs GNU parallel (Debian: parallel), for other machines rsync and ssh, for the picture matplotlib.
-Exit status: 0, or 2 where a study can't be made.""",
+Exit status: 0, or 2 where a study can't be made, or none of its cases has a record.""",
     )
     words.add_argument("case", metavar="CASE", nargs="?", help=argparse.SUPPRESS)
     words.add_argument("table", metavar="TIMES", nargs="?", help=argparse.SUPPRESS)
@@ -111,6 +114,8 @@ def _checked(words: argparse.ArgumentParser, given: argparse.Namespace) -> None:
     """Ends with the usage where a number is out of its range."""
     if given.jobs < 1 or (given.times is not None and given.times < 1):
         words.error("--jobs and --times are at least 1")
+    if (given.times is None) != (given.spread is None):
+        words.error("--times N and --spread CYCLE SIGMA stand together")
     if given.spread and not all(0 <= it < math.inf for it in given.spread):
         words.error("CYCLE and SIGMA are numbers of seconds, at least 0")
     if not math.isfinite(given.begin) or given.seed < 0:
@@ -158,9 +163,9 @@ def main(words: list[str]) -> int:
         RecordError,
         program.ProgramError,
     ) as fault:
-        print(f"study: {fault}", file=sys.stderr)
+        print(f"emtp study: {fault}", file=sys.stderr)
         return 2
     except KeyboardInterrupt:
-        print("study: broken off; --resume goes on with what has parts", file=sys.stderr)
+        print("emtp study: broken off; --resume goes on with what has parts", file=sys.stderr)
         return 130
     return 0

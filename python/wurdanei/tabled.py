@@ -90,6 +90,7 @@ def run_table(words: argparse.Namespace, means: Means) -> None:
     cases = varied.cases_of(words.case, words.vary, words.peaks_from)
     made = make_parts(words, means, cases, rows)
     channels = peaks.channels_of(first_record(words, means, cases), cases, words.any)
+    times.tell_behind([line for _, line in rows], words.case, cases.texts)
     parts.run_parts(means, [it.name for it in made], parts.VARIED if cases.headings else parts.BATCH)
     check_parts(words, means, cases, made, rows)
     found: list[list[peaks.Row]] = [[] for _ in cases.texts]
@@ -121,7 +122,9 @@ def answer(
     tables = [(texts, rows, its) for texts, its in zip(cases.values, found)]
     peaks.write_rows(table, cases.headings, tables, channels, words.base)
     first, last = (os.path.join(means.room, written[place]) for place in (0, -1))
-    print(f"{sum(map(len, found))} rows: {first if first == last else f'{first} to {written[-1]}'}, {table}")
+    print(
+        f"{parts.counted(sum(map(len, found)), 'row')}: {first if first == last else f'{first} to {written[-1]}'}, {table}"
+    )
     if not headings:
         return
     columns = [peaks.columns_of(its, channels, words.base) for its in found]
@@ -155,6 +158,6 @@ def draw(headings: list[str], columns: list[list[Decimal | str]], path: str) -> 
     try:
         picture.draw(batch_drawing(Summary(peaks=rows, names=headings), os.path.basename(path)), path)
     except RecordError as fault:
-        print(f"study: {fault}", file=sys.stderr)
+        print(f"emtp study: {fault}", file=sys.stderr)
     else:
         print(f"drawn: {path}")

@@ -5,9 +5,14 @@ the main pole of a breaker does after the auxiliary pole of its insertion resist
 """
 
 import math
+import sys
+from collections.abc import Sequence
 from dataclasses import dataclass, field
 
 import numpy as np
+
+from .deck import DeckError, ends_of
+from .parts import counted
 
 
 class TimesError(Exception):
@@ -96,7 +101,7 @@ def _uniform(chance: np.random.Generator, sigma: float) -> float:
 
 def _heading(scatter: Scatter, poles: tuple[int, ...], count: int) -> str:
     text = (
-        f"# {scatter.rows} rows, poles {','.join(map(str, poles))} of {count}: from {scatter.begin} s, uniform over "
+        f"# {counted(scatter.rows, 'row')}, poles {','.join(map(str, poles))} of {count}: from {scatter.begin} s, uniform over "
         f"{scatter.cycle} s, {'uniform' if scatter.uniform else 'normal'} by {scatter.sigma} s, seed {scatter.seed}"
     )
     for it in scatter.tied:
@@ -109,3 +114,30 @@ def rows_of(path: str) -> list[tuple[int, str]]:
     with open(path, encoding="latin-1", newline="") as file:
         lines = [line.removesuffix("\r") for line in file.read().split("\n")]
     return [(number, line) for number, line in enumerate(lines, 1) if line.strip(" ") and not line.startswith("#")]
+
+
+def behind(rows: Sequence[str], end: float) -> int:
+    """How many rows give times, and all of them after the end of the run, in s."""
+    count = 0
+    for row in rows:
+        try:
+            given = [float(word) for word in row.split() if word not in ("*", "-")]
+        except ValueError:  # the program refuses the row
+            continue
+        count += bool(given) and min(given) > end + 5e-13
+    return count
+
+
+def tell_behind(rows: Sequence[str], path: str, texts: Sequence[str]) -> None:
+    """Says on standard error in how many rows all times lie behind the end of the run; of several cases the longest run
+    counts."""
+    try:
+        end = max(ends_of(path, texts))
+    except DeckError:  # of a case that is refused the run tells more
+        return
+    late = behind(rows, end)
+    if late:
+        print(
+            f"emtp study: of {late} of {counted(len(rows), 'row')} all times lie behind the end of the run, {end:g} s",
+            file=sys.stderr,
+        )

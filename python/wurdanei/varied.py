@@ -72,7 +72,8 @@ def _columns_of(deck: Deck, line: int, field: str) -> tuple[int, int]:
     found = [it for it in card.fields if field.casefold() in (it.name.casefold(), it.label.casefold())]
     if len(found) != 1:
         names = ", ".join(dict.fromkeys(it.name for it in card.fields if it.kind in ("number", "whole")))
-        raise VariedError(f"line {line}, a {card.name} card, has {len(found)} fields named {field}; it has {names}")
+        kind = card.name if card.name.endswith("card") else f"{card.name} card"
+        raise VariedError(f"line {line}, a {kind}, has {len(found)} fields named {field}; it has {names}")
     return found[0].first, found[0].last
 
 
