@@ -233,7 +233,7 @@ class Command(unittest.TestCase):
                 self.assertIn(words, told)
         status, _, told = self.run_words("none.cfg", "measured.cfg")
         self.assertEqual(status, 2)
-        self.assertTrue(told.startswith("compare: "), told)
+        self.assertTrue(told.startswith("emtp compare: "), told)
         os.truncate(self.place / "fine.dat", 1000)
         self.assertEqual(self.run_words("case.cfg", "fine.cfg")[0], 2)
 

@@ -199,6 +199,12 @@ class Convert(Folder):
                 [source, self.out("o.cfg"), "--rate", "1e12"],
                 "300000001 samples at 1e+12 Hz: more than 50,000,000 aren't made",
             ),
+            (
+                [source, self.out("o.cfg"), "--date", "yesterday"],
+                "'yesterday' isn't of the form '2026-11-28 13:07:20.5'",
+            ),
+            ([source, self.out("o.cfg"), "--trigger", "5"], "--trigger 5: "),
+            ([source, self.out("o.cfg"), "--trigger=-1e-6"], "r.cfg lasts from 0 to 0.0003 s"),
             ([source, self.out("o.cfg"), "--frequency=-1"], "--frequency has to be 0 or above"),
             (
                 [source, self.out("o.cfg"), "--from", "1"],
@@ -209,7 +215,10 @@ class Convert(Folder):
             ([source, self.out("o.cfg"), "--secondary", "V*=4:1"], "the ratio '4:1' isn't of the form"),
             ([source, self.out("o.cfg"), "--secondary", "V*=4/0"], "the ratio '4/0' isn't of the form"),
             ([source, self.out("o.cfg"), "--phases", "V MID=ABC"], "the phase 'ABC' is longer than 2"),
-            ([source, self.out("o.cfg"), "--date", "28/11/2026"], "argument --date: invalid moment value"),
+            (
+                [source, self.out("o.cfg"), "--date", "28/11/2026"],
+                "argument --date: '28/11/2026' isn't of the form '2026-11-28 13:07:20.5'",
+            ),
         ):
             with self.subTest(said):
                 self.assertIn(said, self.run_words(*words, status=2))

@@ -215,7 +215,7 @@ class Command(unittest.TestCase):
                 self.assertEqual(told.count("\n"), 1)
                 self.assertFalse((self.place / "e.case").exists())
         status, _, told = self.run_words("a.case", "m.cfg", "BUS=V BUS", "--out", "there.case")
-        self.assertEqual((status, told), (2, "play: there.case is there already\n"))
+        self.assertEqual((status, told), (2, "emtp play: there.case is there already\n"))
         (self.place / "bad.case").write_text("BEGIN NEW DATA CASE\n")
         status, _, told = self.run_words("bad.case", "m.cfg", "BUS=V BUS", "--out", "e.case")
         self.assertEqual(status, 2)

@@ -28,6 +28,11 @@ class Ruler(unittest.TestCase):
         _, out, _ = printed("branch", "--comment")
         self.assertEqual([line[:2] + line[26:33] for line in out.splitlines()], ["C R-----L", "C R------"])
 
+    def test_a_line_says_which_iline_a_field_is_of(self) -> None:
+        rows = [line[9:].split("  ")[0] for line in printed("line")[1].splitlines() if line[:5] in ("33-38", "39-44")]
+        fields = ["L (ILINE 0)", "surge impedance (ILINE 1, 2)"]
+        self.assertEqual(rows, [*fields, "C (ILINE 0)", "velocity (ILINE 1)", "travel time (ILINE 2)"])
+
     def test_each_card_has_a_word(self) -> None:
         for card in columns.CARDS:
             for word in card.words:

@@ -381,13 +381,13 @@ def main(words: list[str]) -> int:
         )
         found = compare(case, measured, pairs, shift, window, given.lowpass)
         for line in found.told:
-            print(f"compare: {line}", file=sys.stderr)
+            print(f"emtp compare: {line}", file=sys.stderr)
         print(listing(found), flush=True)
         if given.out:
             from . import beside
 
             beside.draw(found, given.out)
     except (CompareError, RecordError) as fault:
-        print(f"compare: {fault}", file=sys.stderr)
+        print(f"emtp compare: {fault}", file=sys.stderr)
         return 2
     return 0 if found.within else 1

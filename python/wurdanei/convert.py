@@ -81,10 +81,13 @@ def number(word: str) -> float:
 
 def moment(word: str) -> datetime:
     """A date of the command line."""
-    made = datetime.fromisoformat(word)
-    if made.tzinfo is not None:
-        raise ValueError
-    return made
+    try:
+        made = datetime.fromisoformat(word)
+        if made.tzinfo is None:
+            return made
+    except ValueError:
+        pass
+    raise argparse.ArgumentTypeError(f"{word!r} isn't of the form '2026-11-28 13:07:20.5'")
 
 
 def main(words: list[str]) -> int:
@@ -163,6 +166,8 @@ def converted(record: Record, its: argparse.Namespace) -> Content:
         )  # fmt: skip
         channels.append(channel)
     begin = times[0]
+    if its.trigger is not None and not 0 <= its.trigger <= record.times[-1] + 1e-9:
+        raise RecordError(f"--trigger {its.trigger:g}: {record.path} lasts from 0 to {record.times[-1]:g} s")
     start = its.date or (record.start and record.start + timedelta(seconds=begin))
     trigger = its.trigger if its.trigger is not None else record.trigger
     frequency = its.frequency if its.frequency is not None else record.frequency

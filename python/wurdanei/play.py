@@ -291,6 +291,6 @@ def main(words: list[str]) -> int:
         print(f"{plan.begin:g} s of the record is {plan.lead:g} s of the case")
         print(*told, f"written: {given.out}", sep="\n", flush=True)
     except (PlayError, DeckError, RecordError, program.ProgramError) as fault:
-        print(f"play: {fault}", file=sys.stderr)
+        print(f"emtp play: {fault}", file=sys.stderr)
         return 2
     return 0

@@ -4,7 +4,7 @@ import argparse
 import sys
 
 from . import columns, fields
-from .columns import CARDS, OTHERS, Card, Field
+from .columns import CARDS, LINE_VALUES, OTHERS, Card, Field
 
 TENS = "".join(f"{ten:10d}" for ten in range(1, 9))
 ONES = "1234567890" * 8
@@ -29,13 +29,19 @@ def range_of(field: Field) -> str:
     return KINDS[field.kind]
 
 
+def name_of(card: Card, field: Field) -> str:
+    """The name of a field; of what a line has there by its ILINE alone, with these values of it."""
+    kinds = [str(iline) for iline, values in LINE_VALUES.items() if field in values] if card.name == "line" else []
+    return field.name + f" (ILINE {', '.join(kinds)})" * bool(kinds)
+
+
 def rows_of(card: Card) -> list[tuple[str, str, str, str]]:
     """Columns, name, range and blank of each field, those that stand there on another kind of the card among them."""
-    others = [it for it in OTHERS.get(card.name, ()) if it not in card.fields]
+    others = [it for it in dict.fromkeys(OTHERS.get(card.name, ())) if it not in card.fields]
     found = []
     for field in sorted([*card.fields, *others], key=lambda it: it.first):
         place = f"{field.first}-{field.last}" if field.first < field.last else f"{field.first}"
-        found.append((place, field.name, range_of(field), field.blank))
+        found.append((place, name_of(card, field), range_of(field), field.blank))
     return found
 
 
