@@ -562,6 +562,8 @@ class Answers(unittest.TestCase):
         case.series("A", r_ohm=1)
         case.switch("A", close_s=0.001)
         case.step("A", amplitude_a=1)
+        case.batch([0.01])
+        self.assertEqual(case.told, ["no output is asked for, so there are no peaks"])
         case.output("A")
         found = case.batch([0.01, 0.0101, 5.0])
         self.assertEqual(found.channel("V A").tolist(), [1.0, 1.0, 1.0])

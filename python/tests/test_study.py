@@ -107,6 +107,22 @@ class Times(unittest.TestCase):
         self.assertAlmostEqual(offset.std(), 0.001, delta=3e-5)
         self.assertTrue(np.isnan(rows[:, [0, 4, 6]]).all())
 
+    def test_rows_behind_the_end_of_the_run(self):
+        rows = ["* * * -", "1. 2. * *", ".5 2. * *", "1.5 - 2. *", "bad 2."]
+        self.assertEqual([times.behind(rows, end) for end in (0.4, 0.5, 1.0, 1.4, 2.0)], [3, 2, 1, 1, 0])
+
+    def test_the_end_of_the_run(self):
+        """The last step is the one that is nearest to TMAX, a half later."""
+        with tempfile.TemporaryDirectory() as room:
+            path = pathlib.Path(room, "a.case")
+            path.write_text(CASE)
+            texts = [CASE, CASE.replace("     .05", "   .0524"), CASE.replace("     .05", "   .0525")]
+            with mock.patch.object(deck, "kinds", lambda _: dict(enumerate(KINDS, 1))):
+                self.assertEqual(deck.ends_of(str(path), texts), [0.05, 0.052, 0.053])
+                for text in ("", CASE.replace("   1.E-3", "        "), CASE.replace("     .05", "       x")):
+                    with self.assertRaisesRegex(deck.DeckError, "line 3 has no end of the run"):
+                        deck.ends_of(str(path), [text])
+
     def test_equal_words_and_seed(self):
         self.assertEqual(self.closes(seed=4)[0], self.closes(seed=4)[0])
         self.assertNotEqual(self.closes(seed=4)[0][1:], self.closes(seed=5)[0][1:])

@@ -120,7 +120,7 @@ def ends_of(path: str, texts: Sequence[str]) -> list[float]:
     line = next((line for line, kind in kinds(path).items() if kind == "the first miscellaneous card"), 0)
     found = []
     for text in texts:
-        card = text.split("\n")[line - 1]
+        card = (["", *text.split("\n")] + [""] * line)[line]
         try:
             step, end = number(card[:8]), number(card[8:16])
             found.append(float((end / step).to_integral_value(ROUND_HALF_UP) * step))
