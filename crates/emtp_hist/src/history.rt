@@ -32,7 +32,8 @@ impl History {
         })
     }
 
-    /// Makes `value` the newest one. Where the history is full, it forgets the oldest.
+    /// Makes `value` the newest one. Where the history is full, it forgets the oldest. It takes no memory: the ring keeps its
+    /// capacity, which is the depth.
     pub fn push(&mut self, value: i64)
         ensures depth { self.new.depth ≡ self.old.depth }
         ensures pushes { (pushes : List ℤ) → Remembers self.old pushes → Remembers self.new (value ∷ pushes) }

@@ -1,7 +1,7 @@
 -- What a history shows, and the pushes that it stands for. No clause of the program reaches it.
 use Rattle.std.specs.Prelude.{◌≡◌, ℕ, ℤ, List, take}
 
--- how many pushes a history looks back on, and the values that it holds, newest first
+-- how many pushes a history looks back on, which is the capacity of its ring, and the values that it holds, newest first
 pub record Past : Type 0 where
   pub depth : ℕ
   pub values : List ℤ
