@@ -56,7 +56,7 @@ rest_states zero at = refl
 rest_states (suc n) zero = refl
 rest_states (suc n) (suc at) = rest_states n at
 
-pub rest_stands_for : (case : Parts) (held : List HeldDevice) → held ≡ map (λ e. held_at_rest (depth_of case.run.dt e)) case.extras → StandsFor (record { case = case; held = held }) (rest_of case ∷ [])
+pub rest_stands_for : {capacities : List ℕ} (case : Parts) (held : List HeldDevice) → held ≡ map (λ e. held_at_rest (depth_of case.run.dt e)) case.extras → StandsFor (record { case = case; held = held; capacities = capacities }) (rest_of case ∷ [])
 rest_stands_for case held are at x is = record {
   there = omega (arith, ap length are, length-map case.extras (λ (e : Extra). held_at_rest (depth_of case.run.dt e)), slice_get_within case.extras at (OfDevice x) is);
   stands = subst (λ state. DeviceStands (device_held held at) (state ∷ [])) (sym (rest_states (length case.extras) at))

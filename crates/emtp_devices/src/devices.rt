@@ -1,6 +1,6 @@
 //! All devices of a case.
 
-ghost use Rattle.std.specs.Prelude.{◌≡◌, ◌≤◌, ◌<◌, ◌∷◌, [], All, IfOk, unsigned_abs};
+ghost use Rattle.std.specs.Prelude.{◌≡◌, ◌≤◌, ◌∷◌, [], IfOk, unsigned_abs};
 ghost use Rattle.emtp_case.specs.StepRecord.{rest_of};
 ghost use Rattle.emtp_case.specs.declared.control.Device.{Device};
 ghost use Rattle.emtp_devices.specs.held.Devices.{IsDeviceAt, Moves, StandsFor};
@@ -22,7 +22,8 @@ pub struct Devices<'a> {
 }
 
 impl<'a> Model for Devices<'a> {
-    ghost use Rattle.emtp_devices.specs.held.Devices.{AreHeld, HeldDevices};
+    ghost use Rattle.std.specs.Prelude.{vec_capacity};
+    ghost use Rattle.emtp_devices.specs.held.Devices.{AreHeld, HeldDevices, capacities_of};
 
     ghost Value = { HeldDevices };
 
@@ -30,7 +31,11 @@ impl<'a> Model for Devices<'a> {
 
     ghost coded = { Prim.hlevel codes };
 
-    ghost view = { λ s. record { case = s.case.now.parts; held = s.held.items } };
+    ghost view = { λ s. record {
+      case = s.case.now.parts;
+      held = s.held.items;
+      capacities = capacities_of (vec_capacity s.held) s.held.items;
+    } };
 
     ghost invariant = { λ s. AreHeld s.case.now.parts s.held.items };
 }
@@ -47,11 +52,12 @@ impl<'a> Devices<'a> {
 
     /// Computes the device at a place among the supplemental cards in a step, from the values that names read at its turn,
     /// in nano; moves it by one step and answers its output in nano. Where the sum of its inputs or its output exceeds
-    /// 10^18 it is out of range.
+    /// 10^18 it is out of range. It takes no memory: the list of the devices and the ring of each keep their capacities.
     pub fn step(&mut self, extra: usize, step: u32, values: &[i64]) -> Result<i64, OutOfRange>
         requires device { (x : Device) × IsDeviceAt self.old.case extra x }
         requires values { AreKnown self.old.case values.now }
         ensures moves { Moves self.old self.new extra step values.now result }
+        ensures capacities { self.new.capacities ≡ self.old.capacities }
         ensures small { IfOk result (λ y. unsigned_abs y ≤ LARGEST_VALUE) }
     {
         match &self.case.parts.extras.as_slice()[extra] {

@@ -1,5 +1,5 @@
 -- What the devices of a case stand for, and how a step moves them. No clause of the program reaches it.
-use Rattle.std.specs.Prelude.{◌≡◌, ◌≢◌, ◌<◌, ◌∷◌, IfOk, List, None, OnErr, Option, Result, Some, length, slice_get, slice_index_or, ℕ, ℤ}
+use Rattle.std.specs.Prelude.{◌≡◌, ◌≢◌, ◌<◌, ◌∷◌, IfOk, List, None, OnErr, Option, Result, Some, length, map, slice_get, slice_index_or, ℕ, ℤ}
 use Rattle.emtp_case.specs.StepRecord.{StepRecord}
 use Rattle.emtp_case.specs.declared.case.Parts.{Parts}
 use Rattle.emtp_case.specs.declared.control.Device.{Device}
@@ -11,10 +11,15 @@ use Rattle.emtp_devices.specs.declared.held.HeldDevice.{HeldDevice}
 use Rattle.emtp_fix.specs.declared.limit.OutOfRange.{OutOfRange}
 use Rattle.emtp_devices.specs.Devices.{states_of}
 
--- what a contract sees: the case, and what is held of each supplemental card
+-- what a contract sees: the case, what is held of each supplemental card, and the capacities of the lists that a step writes
 pub record HeldDevices : Type 0 where
   pub case : Parts
   pub held : List HeldDevice
+  pub capacities : List ℕ
+
+-- the capacity of the list of what is held, and that of the ring of each supplemental card
+abbrev pub capacities_of : ℕ → List HeldDevice → List ℕ
+capacities_of capacity held = capacity ∷ map (λ (h : HeldDevice). h.inputs.depth) held
 
 -- a supplemental card of a case is this device
 abbrev pub IsDeviceAt : Parts → ℕ → Device → Type 0
@@ -43,8 +48,10 @@ pub record HasMoved (new : HeldDevices) (at : ℕ) (past : List DeviceState) (ne
 -- exactly where there is no next state, and changes nothing.
 pub record Moves (old new : HeldDevices) (extra step : ℕ) (values : List ℤ) (result : Result ℤ OutOfRange) : Type 0 where
   pub case : new.case ≡ old.case
-  pub moved : (x : Device) (past : List DeviceState) → IsDeviceAt old.case extra x → StandsAt old extra past → IfOk result (HasMoved new extra past (next_state old.case x step values past))
-  pub out : (x : Device) (past : List DeviceState) → IsDeviceAt old.case extra x → StandsAt old extra past → OnErr result (next_state old.case x step values past ≡ None)
+  pub moved : (x : Device) (past : List DeviceState) → IsDeviceAt old.case extra x → StandsAt old extra past
+      → IfOk result (HasMoved new extra past (next_state old.case x step values past))
+  pub out : (x : Device) (past : List DeviceState) → IsDeviceAt old.case extra x → StandsAt old extra past
+      → OnErr result (next_state old.case x step values past ≡ None)
   pub others : (at : ℕ) (past : List DeviceState) → at ≢ extra → StandsAt old at past → StandsAt new at past
   pub same : OnErr result (new ≡ old)
 
