@@ -141,13 +141,15 @@ output_by case x r GateAbove = gated (int_lt x.a (named_value r.values x.d)) x.b
 output_by case x r Delay = delayed (delay_steps case.run.dt x.a) r
 output_by case x r DelayedPulse = one_above_zero (delayed (delay_steps case.run.dt x.a) r)
 output_by case x r Table = table_value r.s (points_of case.points x.first x.count)
-output_by case x r Window = if is_within_pair (time_of case.run r.step) (points_of case.points x.first x.count) then r.s else pos 0
+output_by case x r Window =
+    if is_within_pair (time_of case.run r.step) (points_of case.points x.first x.count) then r.s else pos 0
 output_by case x r Integral =
     if is_positive false r.values x.e then pos 0
     else if is_positive true r.values x.d then integral case.run.dt r.s (last_input r.inputs) r.last
     else r.last
 output_by case x r Derivative = derivative case.run.dt r.s (last_input r.inputs)
-output_by case x r Selector = slice_index_or (map (brought r.values) x.inputs) (taken_input (named_value r.values x.d -ℤ x.a)) (pos 0)
+output_by case x r Selector =
+    slice_index_or (map (brought r.values) x.inputs) (taken_input (named_value r.values x.d -ℤ x.a)) (pos 0)
 output_by case x r SampleHold = if is_positive true r.values x.d then r.s else r.last
 output_by case x r Extreme = extreme x.a r.values x.inputs
 output_by case x r PeakHold = if is_positive false r.values x.d || r.step == 1 then r.s else extreme_of_two x.a r.last r.s
@@ -158,7 +160,8 @@ output_by case x r EffectiveValue = effective_value (period_steps case.run.dt x.
 
 -- what a step reads after this past
 abbrev pub reading_of : ℕ → List ℤ → List DeviceState → ℤ → Reading
-reading_of step values past s = record { step = step; values = values; s = s; inputs = inputs_of past; last = (newest past).output }
+reading_of step values past s =
+    record { step = step; values = values; s = s; inputs = inputs_of past; last = (newest past).output }
 
 -- what the next record keeps of a device; none where s or y is out of range
 unfoldable pub next_state : Parts → Device → ℕ → List ℤ → List DeviceState → Option DeviceState

@@ -16,7 +16,8 @@ pub(crate) fn effective_value(held: &HeldDevice, s: i64) -> i128
     requires held { IsHeld held.now }
     requires sum { held.now.squares ≡ sum_of_squares held.now.inputs.values }
     requires s { unsigned_abs s ≤ LARGEST_VALUE }
-    ensures { (inputs : List ℤ) → Remembers held.now.inputs inputs → result ≡ effective_value held.now.depth (s ∷ inputs) }
+    ensures { (inputs : List ℤ) → Remembers held.now.inputs inputs
+        → result ≡ effective_value held.now.depth (s ∷ inputs) }
 {
     isqrt(mean(squares_after(held, s), held.depth))
 }

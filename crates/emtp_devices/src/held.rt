@@ -57,8 +57,10 @@ impl HeldDevice {
         requires held { IsHeldOf case.now.parts.run.dt device.now self.old }
         requires values { AreKnown case.now.parts values.now }
         ensures fits { IsHeldOf case.now.parts.run.dt device.now self.new }
-        ensures moved { (past : List DeviceState) → DeviceStands self.old past → IfOk result (DeviceMoved self.new past (next_state case.now.parts device.now step values.now past)) }
-        ensures out { (past : List DeviceState) → DeviceStands self.old past → OnErr result (next_state case.now.parts device.now step values.now past ≡ None) }
+        ensures moved { (past : List DeviceState) → DeviceStands self.old past
+            → IfOk result (DeviceMoved self.new past (next_state case.now.parts device.now step values.now past)) }
+        ensures out { (past : List DeviceState) → DeviceStands self.old past
+            → OnErr result (next_state case.now.parts device.now step values.now past ≡ None) }
         ensures same { OnErr result (self.new ≡ self.old) }
         ensures small { IfOk result (λ y. unsigned_abs y ≤ LARGEST_VALUE) }
     {
@@ -93,7 +95,8 @@ fn next_squares(device: &Device, held: &HeldDevice, s: i64) -> i128
     requires held { IsHeld held.now }
     requires sum { device.now.code ≡ EffectiveValue → held.now.squares ≡ sum_of_squares held.now.inputs.values }
     requires s { unsigned_abs s ≤ LARGEST_VALUE }
-    ensures { device.now.code ≡ EffectiveValue → result ≡ sum_of_squares (take held.now.depth (s ∷ held.now.inputs.values)) }
+    ensures { device.now.code ≡ EffectiveValue
+        → result ≡ sum_of_squares (take held.now.depth (s ∷ held.now.inputs.values)) }
 {
     match device.code {
         DeviceCode::EffectiveValue => squares_after(held, s),
@@ -103,7 +106,8 @@ fn next_squares(device: &Device, held: &HeldDevice, s: i64) -> i128
 
 /// What is held of each supplemental card in record 0.
 pub(crate) fn all_at_rest(alloc: Global, case: &Case) -> Result<Vec<HeldDevice>, AllocError>
-    ensures { IfOk result (λ held. held.items ≡ map (λ e. held_at_rest (depth_of case.now.parts.run.dt e)) case.now.parts.extras) }
+    ensures { IfOk result (λ held.
+        held.items ≡ map (λ e. held_at_rest (depth_of case.now.parts.run.dt e)) case.now.parts.extras) }
 {
     let mut held = Vec::new(alloc);
     for extra in case.parts.extras.as_slice() {

@@ -11,6 +11,7 @@ ghost use Rattle.emtp_case.specs.declared.control.DeviceCode.TheVariants.{Counte
 ghost use Rattle.emtp_case.specs.declared.control.DeviceState.{DeviceState};
 ghost use Rattle.emtp_case.specs.declared.control.Input.{Input};
 ghost use Rattle.emtp_devices.specs.Device.{brought, gated, is_positive, newest, next_state};
+ghost use Rattle.emtp_devices.specs.Laws.{KeepsOutput, MeetsPoint};
 
 use emtp_case::Device;
 
@@ -23,50 +24,73 @@ pub fn gates_share_the_input()
 pub fn no_delay(device: &Device)
     requires code { device.now.code ≡ Delay }
     requires a { device.now.a ≡ pos 0 }
-    ensures { (case : Parts) (step : ℕ) (values : List ℤ) (past : List DeviceState) → IfSome (next_state case device.now step values past) (λ state. state.output ≡ state.input) }
+    ensures { (case : Parts) (step : ℕ) (values : List ℤ) (past : List DeviceState)
+        → IfSome (next_state case device.now step values past) (λ state. state.output ≡ state.input) }
 {}
 
 /// A delay by k + 1 steps puts out the input of the record k before the last one, and 0 before record 0.
 pub fn delay_looks_back(device: &Device)
     requires { device.now.code ≡ Delay }
-    ensures { (case : Parts) (step : ℕ) (values : List ℤ) (past : List DeviceState) (k : ℕ) → delay_steps case.run.dt device.now.a ≡ k + 1 → IfSome (next_state case device.now step values past) (λ state. state.output ≡ (slice_index_or past k no_device).input) }
+    ensures { (case : Parts) (step : ℕ) (values : List ℤ) (past : List DeviceState) (k : ℕ)
+        → delay_steps case.run.dt device.now.a ≡ k + 1
+        → IfSome (next_state case device.now step values past) (λ state.
+        state.output ≡ (slice_index_or past k no_device).input) }
 {}
 
 /// A table puts out the value of a point at the input of this point, to the last digit.
 pub fn table_meets_its_points(device: &Device)
     requires { device.now.code ≡ Table }
-    ensures { (case : Parts) (step : ℕ) (values : List ℤ) (past : List DeviceState) (k : ℕ) → IsTable (points_of case.points device.now.first device.now.count) → k < length (points_of case.points device.now.first device.now.count) → IfSome (next_state case device.now step values past) (λ state. state.input ≡ (slice_index_or (points_of case.points device.now.first device.now.count) k origin).current → state.output ≡ (slice_index_or (points_of case.points device.now.first device.now.count) k origin).other) }
+    ensures { (case : Parts) (step : ℕ) (values : List ℤ) (past : List DeviceState) (k : ℕ)
+        → let points = points_of case.points device.now.first device.now.count in
+        IsTable points → k < length points
+        → IfSome (next_state case device.now step values past) (MeetsPoint (slice_index_or points k origin)) }
 {}
 
 /// While D isn't above 0, an integral that isn't reset and a sample hold keep their value.
 pub fn holds_its_value(device: &Device)
-    ensures integral { (case : Parts) (step : ℕ) (values : List ℤ) (past : List DeviceState) → device.now.code ≡ Integral → is_positive false values device.now.e ≡ false → is_positive true values device.now.d ≡ false → IfSome (next_state case device.now step values past) (λ state. state.output ≡ (newest past).output) }
-    ensures sample { (case : Parts) (step : ℕ) (values : List ℤ) (past : List DeviceState) → device.now.code ≡ SampleHold → is_positive true values device.now.d ≡ false → IfSome (next_state case device.now step values past) (λ state. state.output ≡ (newest past).output) }
+    ensures integral { (case : Parts) (step : ℕ) (values : List ℤ) (past : List DeviceState) → device.now.code ≡ Integral
+        → is_positive false values device.now.e ≡ false → is_positive true values device.now.d ≡ false
+        → IfSome (next_state case device.now step values past) (KeepsOutput past) }
+    ensures sample { (case : Parts) (step : ℕ) (values : List ℤ) (past : List DeviceState) → device.now.code ≡ SampleHold
+        → is_positive true values device.now.d ≡ false
+        → IfSome (next_state case device.now step values past) (KeepsOutput past) }
 {}
 
 /// A steady input has no derivative.
 pub fn steady_input_has_no_derivative(device: &Device)
     requires { device.now.code ≡ Derivative }
-    ensures { (case : Parts) (step : ℕ) (values : List ℤ) (past : List DeviceState) → IfSome (next_state case device.now step values past) (λ state. state.input ≡ (newest past).input → state.output ≡ pos 0) }
+    ensures { (case : Parts) (step : ℕ) (values : List ℤ) (past : List DeviceState)
+        → IfSome (next_state case device.now step values past) (λ state.
+        state.input ≡ (newest past).input → state.output ≡ pos 0) }
 {}
 
 /// No input brings more than the greatest of them, nor less than the least; and one of them brings it.
 pub fn extreme_is_reached(device: &Device)
     requires { device.now.code ≡ Extreme }
-    ensures greatest { (case : Parts) (step : ℕ) (values : List ℤ) (past : List DeviceState) → pos 0 ≤ℤ device.now.a → IfSome (next_state case device.now step values past) (λ state. All (λ (i : Input). brought values i ≤ℤ state.output) device.now.inputs) }
-    ensures least { (case : Parts) (step : ℕ) (values : List ℤ) (past : List DeviceState) → device.now.a <ℤ pos 0 → IfSome (next_state case device.now step values past) (λ state. All (λ (i : Input). state.output ≤ℤ brought values i) device.now.inputs) }
-    ensures reached { (case : Parts) (step : ℕ) (values : List ℤ) (past : List DeviceState) → 0 < length device.now.inputs → IfSome (next_state case device.now step values past) (λ state. Contains (map (brought values) device.now.inputs) state.output) }
+    ensures greatest { (case : Parts) (step : ℕ) (values : List ℤ) (past : List DeviceState) → pos 0 ≤ℤ device.now.a
+        → IfSome (next_state case device.now step values past) (λ state.
+        All (λ (i : Input). brought values i ≤ℤ state.output) device.now.inputs) }
+    ensures least { (case : Parts) (step : ℕ) (values : List ℤ) (past : List DeviceState) → device.now.a <ℤ pos 0
+        → IfSome (next_state case device.now step values past) (λ state.
+        All (λ (i : Input). state.output ≤ℤ brought values i) device.now.inputs) }
+    ensures reached { (case : Parts) (step : ℕ) (values : List ℤ) (past : List DeviceState) → 0 < length device.now.inputs
+        → IfSome (next_state case device.now step values past) (λ state.
+        Contains (map (brought values) device.now.inputs) state.output) }
 {}
 
 /// A greatest value so far never falls while it isn't reset.
 pub fn peak_never_falls(device: &Device)
     requires code { device.now.code ≡ PeakHold }
     requires a { pos 0 ≤ℤ device.now.a }
-    ensures { (case : Parts) (step : ℕ) (values : List ℤ) (past : List DeviceState) → is_positive false values device.now.d ≡ false → 2 ≤ step → IfSome (next_state case device.now step values past) (λ state. (newest past).output ≤ℤ state.output) }
+    ensures { (case : Parts) (step : ℕ) (values : List ℤ) (past : List DeviceState)
+        → is_positive false values device.now.d ≡ false → 2 ≤ step
+        → IfSome (next_state case device.now step values past) (λ state. (newest past).output ≤ℤ state.output) }
 {}
 
 /// A counter that isn't reset keeps its value while its input is 0.
 pub fn counter_keeps(device: &Device)
     requires { device.now.code ≡ Counter }
-    ensures { (case : Parts) (step : ℕ) (values : List ℤ) (past : List DeviceState) → is_positive false values device.now.d ≡ false → IfSome (next_state case device.now step values past) (λ state. state.input ≡ pos 0 → state.output ≡ (newest past).output) }
+    ensures { (case : Parts) (step : ℕ) (values : List ℤ) (past : List DeviceState)
+        → is_positive false values device.now.d ≡ false
+        → IfSome (next_state case device.now step values past) (λ state. state.input ≡ pos 0 → KeepsOutput past state) }
 {}

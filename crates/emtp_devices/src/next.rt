@@ -32,7 +32,8 @@ pub(crate) fn next(
     requires device { IsDevice (sizes_of case.now.parts) case.now.parts.points device.now }
     requires held { IsHeldOf case.now.parts.run.dt device.now held.now }
     requires values { AreKnown case.now.parts values.now }
-    ensures value { (past : List DeviceState) → DeviceStands held.now past → result ≡ next_state case.now.parts device.now step values.now past }
+    ensures value { (past : List DeviceState) → DeviceStands held.now past
+        → result ≡ next_state case.now.parts device.now step values.now past }
     ensures input { IfSome result (λ state. unsigned_abs state.input ≤ LARGEST_VALUE) }
     ensures output { IfSome result (λ state. unsigned_abs state.output ≤ LARGEST_VALUE) }
 {
@@ -54,7 +55,9 @@ fn output(
     requires held { IsHeldOf case.now.parts.run.dt device.now held.now }
     requires values { AreKnown case.now.parts values.now }
     requires s { unsigned_abs s ≤ LARGEST_VALUE }
-    ensures { (inputs : List ℤ) → Remembers held.now.inputs inputs → result ≡ output_by case.now.parts device.now (record { step = step; values = values.now; s = s; inputs = inputs; last = held.now.output }) device.now.code }
+    ensures { (inputs : List ℤ) → Remembers held.now.inputs inputs
+        → result ≡ output_by case.now.parts device.now
+        (record { step = step; values = values.now; s = s; inputs = inputs; last = held.now.output }) device.now.code }
 {
     let run = &case.parts.run;
     let points = case.parts.points.as_slice();

@@ -21,7 +21,8 @@ pub(crate) fn gated(is_open: bool, b: i64, s: i64) -> i64
 /// 53, 54: the input of the steps of the delay before.
 pub(crate) fn delayed(held: &HeldDevice, s: i64) -> i64
     requires { IsHeld held.now }
-    ensures { (inputs : List ℤ) (k : ℕ) → held.now.depth ≡ k + 1 → Remembers held.now.inputs inputs → result ≡ value_before (s ∷ inputs) k }
+    ensures { (inputs : List ℤ) (k : ℕ) → held.now.depth ≡ k + 1 → Remembers held.now.inputs inputs
+        → result ≡ value_before (s ∷ inputs) k }
 {
     if held.depth == 1 {
         s
@@ -51,7 +52,9 @@ pub(crate) fn integrated(reset: bool, active: bool, held: &HeldDevice, dt: i64, 
     requires dt { IsTimeStep dt }
     requires held { IsHeld held.now }
     requires s { unsigned_abs s ≤ LARGEST_VALUE }
-    ensures { (inputs : List ℤ) → Remembers held.now.inputs inputs → result ≡ (if reset then pos 0 else if active then integral dt s (last_input inputs) held.now.output else held.now.output) }
+    ensures { (inputs : List ℤ) → Remembers held.now.inputs inputs
+        → result
+        ≡ (if reset then pos 0 else if active then integral dt s (last_input inputs) held.now.output else held.now.output) }
 {
     if reset {
         0

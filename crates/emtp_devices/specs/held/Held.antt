@@ -22,7 +22,12 @@ depth_of dt e = max 1 (extra_history_values dt e)
 
 -- a device of record 0; a formula is held likewise, and never read
 abbrev pub held_at_rest : ℕ → HeldDevice
-held_at_rest depth = record { depth = depth; output = pos 0; squares = pos 0; inputs = record { depth = depth; values = take depth (pos 0 ∷ []) } }
+held_at_rest depth = record {
+  depth = depth;
+  output = pos 0;
+  squares = pos 0;
+  inputs = record { depth = depth; values = take depth (pos 0 ∷ []) };
+}
 
 -- what is held of any card is in range, and the ring is of the depth that stands beside it
 pub record IsHeld (h : HeldDevice) : Type 0 where
