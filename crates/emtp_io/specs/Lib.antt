@@ -2,5 +2,6 @@
 pub mod Cabinet
 pub mod Whole
 pub mod Writes
+pub mod Disk
 -- what values hold for their proofs
 pub mod held

@@ -2,7 +2,7 @@
 ghost use Rattle.std.specs.Prelude.{◌≡◌, ◌<◌, ◌≤◌, true, false, length, is_some, None, IfSome, IsTrue, IsSome, OnSome, OnOk, OnErr, IfOk};
 ghost use Rattle.std.specs.Bool.{OnTrue, OnFalse};
 ghost use Rattle.emtp_io.specs.Cabinet.{one_more, HasCause};
-ghost use Rattle.emtp_io.specs.held.Disk.{Disk, counted, disk_state, is_created, with_created};
+ghost use Rattle.emtp_io.specs.Disk.{Disk, counted, disk_state, is_created, with_created};
 
 use crate::count::raise;
 use crate::turns::Turns;

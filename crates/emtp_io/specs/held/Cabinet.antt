@@ -1,13 +1,9 @@
 -- Beside `Cabinet`: what values hold for their proofs, and what premises say. No clause of the program reaches it.
-use Rattle.std.specs.Prelude.{ℕ, false, None}
-use Rattle.emtp_io.specs.Cabinet.{Nature, Outputs}
+use Rattle.std.specs.Prelude.{ℕ, None}
+use Rattle.emtp_io.specs.Cabinet.{Outputs}
 use Rattle.emtp_io.specs.declared.cabinet.Output.{Output}
 use Rattle.emtp_io.specs.declared.cabinet.Output.TheVariants.{Cfg, Dat, Note, Summary}
 use Rattle.emtp_io.specs.declared.turns.Turns.{Turns}
-
--- a cabinet that tells nothing
-abbrev pub untold : Nature
-untold = record { tells = false; calm = false; room = 0; files = λ _. None }
 
 abbrev pub no_outputs : Outputs
 no_outputs = record { cfg = None; dat = None; note = None; summary = None }

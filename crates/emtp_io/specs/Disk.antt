@@ -1,7 +1,6 @@
--- What a cabinet of real files has opened and created.
+-- What clauses see of a cabinet of real files: what it has opened and created, how often, and no byte.
 use Rattle.std.specs.Prelude.{ℕ, Bool, true, false, List, [], Option, Some, None}
-use Rattle.emtp_io.specs.Cabinet.{CabinetState, CreatedOutput, one_more}
-use Rattle.emtp_io.specs.held.Cabinet.{untold}
+use Rattle.emtp_io.specs.Cabinet.{CabinetState, CreatedOutput, Nature, one_more}
 use Rattle.emtp_io.specs.declared.cabinet.Output.{Output}
 use Rattle.emtp_io.specs.declared.cabinet.Output.TheVariants.{Cfg, Dat, Note, Summary}
 use Rattle.emtp_io.specs.declared.turns.Turns.{Turns}
@@ -45,6 +44,10 @@ created_where true = Some (record { name = []; bytes = [] })
 abbrev pub open_where : Bool → Option (List ℕ)
 open_where false = None
 open_where true = Some []
+
+-- a cabinet that tells nothing
+abbrev pub untold : Nature
+untold = record { tells = false; calm = false; room = 0; files = λ _. None }
 
 abbrev pub disk_state : Disk → CabinetState
 disk_state d = record {
