@@ -44,5 +44,3 @@ currents_of switches rows states leaving =
     map
     (λ s. if contains (bridges_of switches rows states) s then bridge_current switches rows (bridges_of switches rows states) leaving s else pos 0)
     (range_with_len 0 (length switches))
-
--- Kirchhoff's law
