@@ -4,7 +4,7 @@ use Rattle.std.specs.Prelude.{Contains}
 use Rattle.std.proofs.lemmas.List.Elements.{Contains-get_or}
 use Rattle.emtp_case.specs.StepRecord.{StepRecord}
 use Rattle.emtp_case.specs.declared.case.Parts.{Parts}
-use Rattle.emtp_machine.specs.Controlled.{IsNamed}
+use Rattle.emtp_machine.specs.Machine.{IsNamed}
 use Rattle.emtp_machine.specs.held.Controlled.{IsOf, StandsFor, StepsTo, Stops}
 use Rattle.emtp_machine.specs.History.{end_at, next_redone, redone_by}
 use Rattle.emtp_machine.specs.held.History.{next_ticks, ticks_by}

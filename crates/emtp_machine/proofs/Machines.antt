@@ -9,7 +9,7 @@ use Rattle.emtp_case.specs.declared.case.Parts.{Parts}
 use Rattle.emtp_machine.proofs.Histories.{ended, made, stays}
 use Rattle.emtp_machine.proofs.Sampling.{first, one_more, passed, room_left, taken}
 use Rattle.emtp_machine.specs.Channels.{sample_of}
-use Rattle.emtp_machine.specs.Controlled.{IsNamed}
+use Rattle.emtp_machine.specs.Machine.{IsNamed}
 use Rattle.emtp_machine.specs.held.Controlled.{IsOf, MayMove, StandsFor, StepsTo, Stops, redone_of}
 use Rattle.emtp_machine.specs.History.{History, end_at, history, history_upto, redone_in, rows_redone}
 use Rattle.emtp_machine.specs.held.Machine.{AreSamples, IsMachine, Progress, history_of, tried_of}

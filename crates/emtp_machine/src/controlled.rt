@@ -2,7 +2,7 @@
 
 ghost use Rattle.std.specs.Prelude.{◌≡◌, ◌+◌, ◌<◌, ◌≤◌, [], ◌∷◌, List, IfErr, IfOk, OnOk};
 ghost use Rattle.emtp_case.specs.StepRecord.{StepRecord, rest_of};
-ghost use Rattle.emtp_machine.specs.Controlled.{IsNamed};
+ghost use Rattle.emtp_machine.specs.Machine.{IsNamed};
 ghost use Rattle.emtp_machine.specs.held.Controlled.{IsOf, MayMove, StandsFor, StepsTo, redone_of};
 ghost use Rattle.emtp_machine.specs.History.{end_at};
 ghost use Rattle.emtp_machine.specs.held.History.{next_ticks, ticks_by};
