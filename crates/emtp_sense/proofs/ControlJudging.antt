@@ -20,7 +20,7 @@ use Rattle.emtp_sense.proofs.WithinLimits.{below, within}
 use Rattle.emtp_sense.proofs.Numbering.{AreAbove}
 use Rattle.emtp_walk.proofs.NoBad.{no_bad, nothing_before}
 use Rattle.emtp_walk.specs.Answer.{first_bad}
-use Rattle.emtp_sense.specs.ControlSense.{block_bad, block_sense, blocks_bad, card_history_values, device_bad, device_sense, entry_history_values, extra_bad, formula_sense, inputs_sense, is_measurable, is_unknown, judge_extras, measured_sense, names_sense, second_sense, tacs_source_bad, tacs_source_sense, tacs_sources_bad}
+use Rattle.emtp_sense.specs.ControlSense.{block_bad, block_sense, blocks_bad, card_history_values, device_bad, device_sense, entry_history_values, extra_bad, formula_sense, inputs_sense, is_measurable, is_unknown, judge_extras, measured_sense, names_sense, second_sense, tacs_source_bad, tacs_source_sense, tacs_sources_bad, unless_judged}
 use Rattle.emtp_sense.specs.held.ControlSensible.{AreKnownInputs, IsKnown}
 use Rattle.emtp_sense.specs.Limits.{too_many}
 use Rattle.emtp_sense.specs.Variables.{extra_name, unknown_name, variable_number}
@@ -29,7 +29,6 @@ use Rattle.emtp_walk.specs.declared.control_cards.ExtraEntry.{ExtraEntry}
 use Rattle.emtp_walk.specs.declared.control_cards.ExtraEntry.TheVariants.{Device as DeviceEntry, Formula as FormulaEntry}
 use Rattle.emtp_fix.proofs.Nearest.{unsigned_abs-near-le}
 use Rattle.emtp_fix.specs.Rounding.{near}
-use Rattle.emtp_netcards.specs.SourceCard.{unless_judged}
 use Rattle.emtp_netcards.specs.declared.source_card.SourceCard.{SourceCard}
 use Rattle.emtp_netcards.specs.declared.switch_card.SwitchCard.{SwitchCard}
 use Rattle.emtp_taccards.specs.declared.block_card.BlockCard.{BlockCard}

@@ -23,7 +23,6 @@ use Rattle.emtp_walk.specs.declared.control_cards.ExtraEntry.TheVariants.{Device
 use Rattle.emtp_walk.specs.declared.deck.Deck.{Deck}
 use Rattle.emtp_walk.specs.declared.deck.Place.{Place}
 use Rattle.emtp_walk.specs.declared.deck.Place.TheVariants.{Control}
-use Rattle.emtp_netcards.specs.SourceCard.{unless_judged}
 use Rattle.emtp_netcards.specs.declared.source_card.SourceCard.{SourceCard}
 use Rattle.emtp_netcards.specs.declared.switch_card.SwitchCard.{SwitchCard}
 use Rattle.emtp_taccards.specs.Inputs.{inputs}
@@ -149,6 +148,11 @@ card_history_values dt card = device_history_values dt card.code card.a
 abbrev pub entry_history_values : ℤ → ExtraEntry → ℕ
 entry_history_values dt (DeviceEntry card first count) = card_history_values dt card
 entry_history_values dt (FormulaEntry card) = 0
+
+-- what comes of the cards after one, unless it is refused
+abbrev pub unless_judged : {A : Type 0} → Option Bad → Result A Bad → Result A Bad
+unless_judged (Some bad) card = Err bad
+unless_judged None card = card
 
 -- the cards after so many, which need so many history values, the first of all having this number; it gives those of all
 abbrev pub judge_extras : List (List ℕ) → ℤ → ℕ → ℕ → ℕ → List ExtraEntry → Result ℕ Bad

@@ -1,8 +1,7 @@
 use mir.Syntax.{w64}
 use Rattle.std.proofs.Common.{◌+◌, arith, drop, sym, ap, ◌∙◌, to_z, of_z}
 use Rattle.std.proofs.lemmas.Int.{to_z-of_z}
-use Rattle.emtp_netcards.specs.SourceCard.{unless_judged}
-use Rattle.emtp_sense.specs.ControlSense.{extra_bad, judge_extras}
+use Rattle.emtp_sense.specs.ControlSense.{extra_bad, judge_extras, unless_judged}
 use Rattle.emtp_sense.proofs.ControlJudging.{extra_fine, extras_here, extras_next}
 use Rattle.emtp_sense.proofs.control_sense.judge_extras.Goals as goal
 
