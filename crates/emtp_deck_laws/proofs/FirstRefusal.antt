@@ -5,7 +5,7 @@ use Rattle.emtp_card.specs.declared.fault.Fault.{Fault}
 use Rattle.emtp_card.specs.declared.reason.Bad.{Bad}
 use Rattle.emtp_deck.specs.Made.{unless_fault}
 use Rattle.emtp_deck_laws.specs.JudgedCards.{Judged}
-use Rattle.emtp_netcards.specs.SourceCard.{unless_judged}
+use Rattle.emtp_sense.specs.ControlSense.{unless_judged}
 use Rattle.emtp_walk.specs.Answer.{first_bad, go_on}
 
 abbrev pub refusal_of : Judged → Option Bad

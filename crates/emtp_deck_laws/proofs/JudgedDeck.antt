@@ -18,8 +18,7 @@ use Rattle.emtp_deck_laws.specs.JudgedCards.{Judged, judged_branches, judged_car
 use Rattle.emtp_deck_laws.proofs.FirstRefusal.{bad_alone, first_refusal, judged_first, more_cards, refusals_in_turn}
 use Rattle.emtp_deck_laws.proofs.JudgedControl.{control_refused}
 use Rattle.emtp_deck_laws.proofs.JudgedNetwork.{branches_made, outputs_made, sources_made, switches_made, tacs_outputs_made}
-use Rattle.emtp_netcards.specs.SourceCard.{unless_judged}
-use Rattle.emtp_sense.specs.ControlSense.{control_bad}
+use Rattle.emtp_sense.specs.ControlSense.{control_bad, unless_judged}
 use Rattle.emtp_sense.specs.Names.{case_nodes, known_nodes}
 use Rattle.emtp_sense.specs.Variables.{variable_names}
 use Rattle.emtp_walk.specs.Answer.{first_bad, go_on}
