@@ -1,4 +1,4 @@
--- The reasons for which a card is refused.
+-- The numbers of the reasons for which a card is refused.
 use Rattle.std.specs.Prelude.{ℕ}
 use Rattle.emtp_card.specs.declared.reason.Why.{Why}
 use Rattle.emtp_card.specs.declared.reason.Why.TheVariants.{ByteOutside, PastColumn80, NotANumber, NotWhole, OutOfUnitRange, TooManyLines, BadType, BadName, BadImpedance, ShortLine, BadPoints, BadOrder, UnknownName, TwoSources, TooMany, MissingSection, TooManySamples, BadExpression}
