@@ -6,8 +6,6 @@ use Rattle.emtp_case.specs.declared.control.DeviceCode.TheVariants.{Counter, Del
 use Rattle.emtp_fix.specs.Rounding.{near}
 use Rattle.std.specs.Prelude.{◌*◌, ◌^◌, ◌*ℤ◌, Bool, List, false, pos, slice_index_or, suc, true, zero, ℕ, ℤ}
 
--- Values
-
 -- Blocks
 
 -- a coefficient that was taken so many times through the bilinear rule, s = (2/dt)*(1 - z)/(1 + z)
@@ -61,5 +59,3 @@ needs_d Extreme = false
 needs_d PeakHold = false
 needs_d Counter = false
 needs_d EffectiveValue = false
-
--- Formulas
