@@ -44,6 +44,7 @@ impl Waves {
     }
 
     /// Makes the waves of a step, in nA, the newest ones. `word` is the kept word of the time step.
+    #[inline(always)]
     pub(crate) fn push(&mut self, from: i64, to: i64, word: u64)
         requires { IsWaves self.old }
         ensures fits { IsWaves self.new }
