@@ -4,7 +4,7 @@ ghost use Rattle.std.specs.Prelude.{◌≡◌, ◌<◌, ℕ, List, length, slice
 ghost use Rattle.emtp_case.specs.StepRecord.{StepRecord};
 ghost use Rattle.emtp_blocks.specs.held.Block.{IsKept, IsLaw};
 ghost use Rattle.emtp_case.specs.held.Control.{AreKnown};
-ghost use Rattle.emtp_blocks.specs.held.BlockRows.{AreUnknowns, AreLaws, AcceptsAll, HasTaken, IsOut, StandsAt, places_of, no_kept};
+ghost use Rattle.emtp_blocks.specs.held.BlockRows.{AreUnknowns, AreLaws, AcceptsAll, HasTaken, IsOut, KeepsLimiters, StandsAt, places_of, no_kept};
 
 use crate::block_rows::BlockRange;
 use crate::inputs::input_sum;
@@ -96,8 +96,9 @@ pub(crate) fn accept_all(
     requires known { AreKnown case.now.parts known.now }
     requires xs { AreUnknowns case.now.parts xs.now }
     requires out { length out.old ≡ length case.now.parts.blocks }
-    ensures value { (H : List StepRecord) → ((i : ℕ) → StandsAt case.now.parts states.old H i) → AcceptsAll result case.now.parts states.new out.new H known.now xs.now }
-    ensures moved { OnOk result (moved.new ≡ false → (i : ℕ) → i < length states.old → (slice_index_or states.old i no_kept).limiter ≡ (slice_index_or states.new i no_kept).limiter) }
+    ensures value { (H : List StepRecord) → ((i : ℕ) → StandsAt case.now.parts states.old H i)
+        → AcceptsAll result case.now.parts states.new out.new H known.now xs.now }
+    ensures moved { OnOk result (moved.new ≡ false → KeepsLimiters states.old states.new) }
     ensures kept { All IsKept states.new }
     ensures small { OnOk result (AreUnknowns case.now.parts out.new) }
     ensures block { IfErr result (λ e. e.block < length case.now.parts.blocks) }

@@ -40,6 +40,7 @@ pub struct BlockRows<'a> {
 }
 
 impl<'a> Model for BlockRows<'a> {
+    ghost use Rattle.std.specs.Prelude.{[], ◌∷◌, vec_capacity};
     ghost use Rattle.emtp_blocks.specs.held.BlockRows.{Blocking, IsHeld};
 
     ghost Value = { Blocking };
@@ -48,7 +49,12 @@ impl<'a> Model for BlockRows<'a> {
 
     ghost coded = { Prim.hlevel codes };
 
-    ghost view = { λ s. record { case = s.case.now.parts; states = s.states.items; moved = s.moved } };
+    ghost view = { λ s. record {
+      case = s.case.now.parts;
+      states = s.states.items;
+      moved = s.moved;
+      capacities = vec_capacity s.states ∷ vec_capacity s.out ∷ [];
+    } };
 
     ghost invariant = { λ s. IsHeld s.case.now.parts s.places.items s.laws.items s.states.items s.out.items };
 }
@@ -98,13 +104,15 @@ impl<'a> BlockRows<'a> {
     }
 
     /// Takes the solved outputs, moves the states and leaves the recorded outputs in `x`. After an error what is left is
-    /// unstated.
+    /// unstated. It takes no memory: the lists that it writes keep their capacities.
     pub fn accept(&mut self, known: &[i64], x: &mut [i64]) -> Result<(), BlockRange>
         requires known { AreKnown self.old.case known.now }
         requires x { AreUnknowns self.old.case x.old }
         ensures case { self.new.case ≡ self.old.case }
+        ensures capacities { self.new.capacities ≡ self.old.capacities }
         ensures value { (H : List StepRecord) → StandsFor self.old H → Accepts result self.new x.new H known.now x.old }
-        ensures moved { OnOk result (self.new.moved ≡ false → limiters_kept self.new.states ≡ limiters_kept self.old.states) }
+        ensures moved { OnOk result (self.new.moved ≡ false
+            → limiters_kept self.new.states ≡ limiters_kept self.old.states) }
         ensures small { OnOk result (AreUnknowns self.old.case x.new) }
         ensures block { IfErr result (λ e. e.block < length self.old.case.blocks) }
     {

@@ -15,11 +15,13 @@ use Rattle.emtp_blocks.specs.declared.accepting.Accepted.{Accepted}
 use Rattle.emtp_blocks.specs.declared.block_rows.BlockRange.{BlockRange}
 use Rattle.emtp_fix.specs.declared.limit.TheConstants.{LARGEST_VALUE}
 
--- what a contract sees: the case, what is kept of each block, and whether the last step moved a limiter
+-- what a contract sees: the case, what is kept of each block, whether the last step moved a limiter, and the capacities of the
+-- lists that a step writes
 pub record Blocking : Type 0 where
   pub case : Parts
   pub states : List BlockState
   pub moved : Bool
+  pub capacities : List ℕ
 
 -- the matrix of the next step, as the rows give it
 abbrev pub limiters_kept : List BlockState → List Limiter
@@ -32,9 +34,13 @@ rows_of_blocks s = control_matrix s.case (limiters_kept s.states)
 abbrev pub no_kept : BlockState
 no_kept = record { limiter = Free; errors = []; chain = [] }
 
+-- this is what the last record has of the block at a place
+abbrev pub IsStateAt : Parts → BlockState → List StepRecord → ℕ → Type 0
+IsStateAt case state H i = (b : Block) → slice_get case.blocks i ≡ Some b → HasState b.order state (state_at H i)
+
 -- the block at a place is kept as the last record has it
 abbrev pub StandsAt : Parts → List BlockState → List StepRecord → ℕ → Type 0
-StandsAt case states H i = (b : Block) → slice_get case.blocks i ≡ Some b → HasState b.order (slice_index_or states i no_kept) (state_at H i)
+StandsAt case states H i = IsStateAt case (slice_index_or states i no_kept) H i
 
 -- the value stands for the records
 pub record StandsFor (s : Blocking) (H : List StepRecord) : Type 0 where
@@ -49,7 +55,8 @@ pub record HaveAccepted (s : Blocking) (x : List ℤ) (H : List StepRecord) (kno
   pub stands : (r : StepRecord) → r.blocks ≡ states_after s.case H known xs → StandsFor s (r ∷ H)
 
 -- what accepting answers: that, or the first block that is out of range
-abbrev pub Accepts : Result (Unit {0}) BlockRange → Blocking → List ℤ → List StepRecord → List ℤ → List ℤ → Type 0
+abbrev pub Accepts : Result (Unit {0}) BlockRange → Blocking → List ℤ → List StepRecord → List ℤ → List ℤ
+    → Type 0
 Accepts (Ok u) s x H known xs = HaveAccepted s x H known xs
 Accepts (Err e) s x H known xs = first_out s.case H known xs ≡ Some e.block
 
@@ -67,9 +74,11 @@ no_law = record { numerators = []; denominators = []; sum = pos 0; gain = pos 0 
 
 -- the first laws are those of the blocks
 abbrev pub AreLaws : Parts → List BlockLaw → ℕ → Type 0
-AreLaws case laws n = (i : ℕ) (b : Block) → i < n → slice_get case.blocks i ≡ Some b → IsLawOf case.run.dt b (slice_index_or laws i no_law)
+AreLaws case laws n = (i : ℕ) (b : Block) → i < n → slice_get case.blocks i ≡ Some b
+    → IsLawOf case.run.dt b (slice_index_or laws i no_law)
 
-pub record IsHeld (case : Parts) (places : List (Option ℕ)) (laws : List BlockLaw) (states : List BlockState) (out : List ℤ) : Type 0 where
+pub record IsHeld (case : Parts) (places : List (Option ℕ)) (laws : List BlockLaw) (states : List BlockState) (out : List ℤ)
+    : Type 0 where
   pub places_are : places ≡ places_of case
   pub law_each : length laws ≡ length case.blocks
   pub laws_are : AreLaws case laws (length case.blocks)
@@ -85,9 +94,15 @@ pub record BlockAfter : Type 0 where
   pub output : ℤ
   pub state : BlockState
 
+-- this is the next state of the block at a place, where there is one
+abbrev pub IsNextAt : Parts → BlockState → List StepRecord → List ℤ → List ℤ → ℕ → Type 0
+IsNextAt case state H known xs i = (s : BlockState) (b : Block) → next_at case H known xs i ≡ Some s
+    → slice_get case.blocks i ≡ Some b → HasState b.order state s
+
 -- it is in range, and both are what the definition says
 abbrev pub Gives : BlockAfter → Parts → List StepRecord → List ℤ → List ℤ → ℕ → Type 0
-Gives a case H known xs i = (IsSome (next_at case H known xs i)) × (a.output ≡ output_at case H known xs i) × ((s : BlockState) (b : Block) → next_at case H known xs i ≡ Some s → slice_get case.blocks i ≡ Some b → HasState b.order a.state s)
+Gives a case H known xs i =
+    (IsSome (next_at case H known xs i)) × (a.output ≡ output_at case H known xs i) × IsNextAt case a.state H known xs i
 
 -- One block took the solved outputs: no other state moved, and for every list of records that it was kept for it is kept
 -- as the definition says.
@@ -97,7 +112,8 @@ pub record HasTaken (case : Parts) (old new : List BlockState) (known xs : List 
   pub same : a.same ≡ true → (slice_index_or old at no_kept).limiter ≡ state.limiter
   pub kept : IsKept state
   pub small : unsigned_abs a.output ≤ LARGEST_VALUE
-  pub gives : (H : List StepRecord) → StandsAt case old H at → Gives (record { output = a.output; state = state }) case H known xs at
+  pub gives : (H : List StepRecord) → StandsAt case old H at
+      → Gives (record { output = a.output; state = state }) case H known xs at
 
 -- for no list of records that it was kept for it is in range
 abbrev pub IsOut : Parts → List BlockState → List ℤ → List ℤ → ℕ → Type 0
@@ -110,13 +126,21 @@ pub record AreUnknowns (case : Parts) (xs : List ℤ) : Type 0 where
 
 -- ---- all blocks
 
+-- the limiter of each block stands where it stood
+abbrev pub KeepsLimiters : List BlockState → List BlockState → Type 0
+KeepsLimiters old new = (i : ℕ) → i < length old
+    → (slice_index_or old i no_kept).limiter ≡ (slice_index_or new i no_kept).limiter
+
 -- each block before n is in range, puts out what the definition says, and is kept as it says
-pub record AreAccepted (case : Parts) (states : List BlockState) (out : List ℤ) (H : List StepRecord) (known xs : List ℤ) (n : ℕ) : Type 0 where
+pub record AreAccepted (case : Parts) (states : List BlockState) (out : List ℤ) (H : List StepRecord) (known xs : List ℤ)
+    (n : ℕ) : Type 0 where
   pub in_range : (i : ℕ) → i < n → IsSome (next_at case H known xs i)
   pub outputs_are : (i : ℕ) → i < n → item out i ≡ output_at case H known xs i
-  pub states_are : (i : ℕ) (s : BlockState) (b : Block) → i < n → next_at case H known xs i ≡ Some s → slice_get case.blocks i ≡ Some b → HasState b.order (slice_index_or states i no_kept) s
+  pub states_are : (i : ℕ) (s : BlockState) (b : Block) → i < n → next_at case H known xs i ≡ Some s
+      → slice_get case.blocks i ≡ Some b → HasState b.order (slice_index_or states i no_kept) s
 
-abbrev pub AcceptsAll : Result (Unit {0}) BlockRange → Parts → List BlockState → List ℤ → List StepRecord → List ℤ → List ℤ → Type 0
+abbrev pub AcceptsAll : Result (Unit {0}) BlockRange → Parts → List BlockState → List ℤ → List StepRecord → List ℤ
+    → List ℤ → Type 0
 AcceptsAll (Ok u) case states out H known xs = AreAccepted case states out H known xs (length case.blocks)
 AcceptsAll (Err e) case states out H known xs = first_out case H known xs ≡ Some e.block
 

@@ -1,4 +1,4 @@
-use Rattle.std.proofs.Common.{◌≡◌, ◌∙◌, sym, ap, subst, ◌∷◌, ◌++◌, ℕ, ℤ, All, List, length, arith, take, take_at, drop, Option}
+use Rattle.std.proofs.Common.{◌≡◌, ◌∙◌, sym, ap, subst, [], ◌∷◌, ◌++◌, ℕ, ℤ, All, List, length, arith, take, take_at, drop, Option}
 use Rattle.emtp_blocks.specs.held.Block.{IsKept, IsLaw}
 use Rattle.emtp_blocks.specs.held.BlockRows.{AreLaws, AreUnknowns, Blocking, IsHeld, StandsAt, StandsFor, limiters_kept}
 use Rattle.emtp_blocks.specs.declared.law.BlockLaw.{BlockLaw}
@@ -10,7 +10,7 @@ use Rattle.emtp_blocks.proofs.block_rows.BlockRows.accept.Goals as goal
 
 pub returns-in-Err-clause-value : goal.returns-in-Err-clause-value
 returns-in-Err-clause-value c = λ H stands.
-    let seen : Blocking = record { case = c.self.inside.case.now.parts; states = c.self.inside.states.items; moved = c.self.inside.moved } in
+    let seen : Blocking = record { case = c.self.inside.case.now.parts; states = c.self.inside.states.items; moved = c.self.inside.moved; capacities = c.self.inside.states.cap ∷ c.self.inside.out.cap ∷ [] } in
     let same : seen ≡ c.args.self.now = c.self.view_is in
     let stands' = let P : Blocking → Type 0 = λ s. StandsFor s H in subst P (sym same) stands in
     let Q : List BlockState → Type 0 = λ ks. (i : ℕ) → StandsAt seen.case ks H i in
@@ -18,7 +18,7 @@ returns-in-Err-clause-value c = λ H stands.
 
 pub returns-clause-value : goal.returns-clause-value
 returns-clause-value c = λ H stands.
-    let seen : Blocking = record { case = c.self.inside.case.now.parts; states = c.self.inside.states.items; moved = c.self.inside.moved } in
+    let seen : Blocking = record { case = c.self.inside.case.now.parts; states = c.self.inside.states.items; moved = c.self.inside.moved; capacities = c.self.inside.states.cap ∷ c.self.inside.out.cap ∷ [] } in
     let same : seen ≡ c.args.self.now = c.self.view_is in
     let stands' = let P : Blocking → Type 0 = λ s. StandsFor s H in subst P (sym same) stands in
     let Q : List BlockState → Type 0 = λ ks. (i : ℕ) → StandsAt seen.case ks H i in
@@ -50,7 +50,7 @@ returns-clause-moved c = λ still.
 
 pub returns-clause-small : goal.returns-clause-small
 returns-clause-small c =
-    let seen : Blocking = record { case = c.self.inside.case.now.parts; states = c.self.inside.states.items; moved = c.self.inside.moved } in
+    let seen : Blocking = record { case = c.self.inside.case.now.parts; states = c.self.inside.states.items; moved = c.self.inside.moved; capacities = c.self.inside.states.cap ∷ c.self.inside.out.cap ∷ [] } in
     let size' : length c.accept_all.new.out ≡ c.self.inside.out.len = omega (arith, c.deref_mut-2.ensures.len, c.accept_all.auto.out) in
     let O = take_at c.accept_all.new.out (drop (length c.accept_all.new.out) c.self.inside.out.items) c.self.inside.out.len size' in
     let R : List ℤ → Type 0 = λ xs. AreUnknowns seen.case xs in
@@ -121,3 +121,9 @@ returns-clause-case c = ap (λ (s : Blocking). s.case) c.self.view_is
 
 pub returns-in-Err-clause-block : goal.returns-in-Err-clause-block
 returns-in-Err-clause-block c = omega (arith, c.in-Err.ensures.block, ap (λ (s : Blocking). length s.case.blocks) c.self.view_is)
+
+pub returns-in-Err-clause-capacities : goal.returns-in-Err-clause-capacities
+returns-in-Err-clause-capacities c = ap (λ (s : Blocking). s.capacities) c.self.view_is
+
+pub returns-clause-capacities : goal.returns-clause-capacities
+returns-clause-capacities c = ap (λ (s : Blocking). s.capacities) c.self.view_is

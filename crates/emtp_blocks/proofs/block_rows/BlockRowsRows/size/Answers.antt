@@ -1,4 +1,4 @@
-use Rattle.std.proofs.Common.{◌∙◌, sym, ap, subst, [], pos, length}
+use Rattle.std.proofs.Common.{◌∙◌, sym, ap, subst, [], ◌∷◌, pos, length}
 use Rattle.emtp_elim.specs.held.Rows.{IsLawful}
 use Rattle.emtp_case.specs.declared.control.Block.{Block}
 use Rattle.emtp_case.specs.declared.control.Bound.TheVariants.{None as NoBound}
@@ -16,7 +16,7 @@ returns-clause-size c =
 
 pub returns-clause-law : goal.returns-clause-law
 returns-clause-law c =
-    let seen : Blocking = record { case = c.self.inside.case.now.parts; states = c.self.inside.states.items; moved = c.self.inside.moved } in
+    let seen : Blocking = record { case = c.self.inside.case.now.parts; states = c.self.inside.states.items; moved = c.self.inside.moved; capacities = c.self.inside.states.cap ∷ c.self.inside.out.cap ∷ [] } in
     let law = control_lawful seen.case (limiters_kept seen.states) no_card c.self.inside.case.now.fits in
     let P : Blocking → Type 0 = λ s. IsLawful (rows_of_blocks s) 0 in
     subst P c.self.view_is law
