@@ -101,12 +101,14 @@ abbrev pub kept_of : ℤ → Block → Limits → BlockState → ℤ → ℤ →
 kept_of dt b limits old u x z = record {
   limiter = limiter_for limits z;
   errors = padded b.order (error_of (numerator_of dt b) (denominator_of dt b) u x);
-  chain = padded b.order (chain_of b.order old.errors old.chain (error_of (numerator_of dt b) (denominator_of dt b) u x) (not (int_eq x z)));
+  chain = padded b.order
+      (chain_of b.order old.errors old.chain (error_of (numerator_of dt b) (denominator_of dt b) u x) (not (int_eq x z)));
 }
 
 -- z of a step
 abbrev pub unlimited_output : ℤ → Block → BlockState → ℤ → ℤ → ℤ
-unlimited_output dt b old solved s = unlimited (coefficient_sum dt b b.order) old.limiter (past_output b.order old.errors old.chain) solved (input_of b s)
+unlimited_output dt b old solved s =
+    unlimited (coefficient_sum dt b b.order) old.limiter (past_output b.order old.errors old.chain) solved (input_of b s)
 
 -- The state of a block after a step, from its solved x and the sum s of its inputs; none where u or a number of the chain
 -- is out of range.

@@ -62,7 +62,8 @@ row_entry place k inputs AtLow i j = unit i j
 
 abbrev pub entry_by : Parts → List Limiter → ℕ → ℕ → Option Block → ℤ
 entry_by case limiters i j None = pos 0
-entry_by case limiters i j (Some b) = row_entry (block_of case) (step_gain case.run.dt b) b.inputs (slice_index_or limiters i Free) i j
+entry_by case limiters i j (Some b) =
+    row_entry (block_of case) (step_gain case.run.dt b) b.inputs (slice_index_or limiters i Free) i j
 
 -- the matrix of the blocks, in card order: a function of the case and of where the limiters stand
 unfoldable pub control_matrix : Parts → List Limiter → Matrix
@@ -107,7 +108,8 @@ output_at case H known xs i = output_by H known xs i (slice_get case.blocks i)
 abbrev pub next_by : Parts → List StepRecord → List ℤ → List ℤ → ℕ → Option Block → Option BlockState
 next_by case H known xs i None = None
 next_by case H known xs i (Some b) =
-    next_state case.run.dt b (limits_of known b) (state_at H i) (item xs i) (input_sum (block_of case) known xs i (output_by H known xs i (Some b)) b.inputs)
+    next_state case.run.dt b (limits_of known b) (state_at H i) (item xs i)
+    (input_sum (block_of case) known xs i (output_by H known xs i (Some b)) b.inputs)
 
 abbrev pub next_at : Parts → List StepRecord → List ℤ → List ℤ → ℕ → Option BlockState
 next_at case H known xs i = next_by case H known xs i (slice_get case.blocks i)

@@ -114,7 +114,8 @@ fn add_input(gain: i64, input: &Input, place: Option<usize>, out: &mut [i128])
     requires gain { unsigned_abs gain ≤ LARGEST_VALUE }
     requires place { ForSome place (λ j. j < length out.old) }
     requires entries { (j : ℕ) → unsigned_abs (item out.old j) ≤ 10 ^ 26 }
-    ensures value { (j : ℕ) → j < length out.old → item out.new j ≡ item out.old j +ℤ coupling_by gain j input.now place }
+    ensures value { (j : ℕ) → j < length out.old
+        → item out.new j ≡ item out.old j +ℤ coupling_by gain j input.now place }
 {
     if let Some(j) = place {
         add_to(out, j, signed(input, negated(gain)) as i128);
@@ -128,7 +129,8 @@ fn add_inputs(places: &[Option<usize>], gain: i64, inputs: &[Input], out: &mut [
     requires blocks { All (λ p. ForSome p (λ j. j < length out.old)) places.now }
     requires gain { unsigned_abs gain ≤ LARGEST_VALUE }
     requires entries { (j : ℕ) → unsigned_abs (item out.old j) ≤ 10 ^ 12 }
-    ensures { (j : ℕ) → j < length out.old → item out.new j ≡ item out.old j +ℤ total (λ n. coupling_by gain j n (place_in places.now n.var)) inputs.now }
+    ensures { (j : ℕ) → j < length out.old
+        → item out.new j ≡ item out.old j +ℤ total (λ n. coupling_by gain j n (place_in places.now n.var)) inputs.now }
 {
     for input in inputs {
         add_input(gain, input, places[input.var as usize], out);
@@ -158,7 +160,8 @@ pub(crate) fn fill_row(
     requires there { All (λ (i : Input). i.var < length places.now) inputs.now }
     requires blocks { All (λ p. ForSome p (λ j. j < length out.old)) places.now }
     requires gain { unsigned_abs gain ≤ LARGEST_VALUE }
-    ensures { (j : ℕ) → j < length out.old → item out.new j ≡ row_entry (place_in places.now) gain inputs.now limiter i j }
+    ensures { (j : ℕ) → j < length out.old
+        → item out.new j ≡ row_entry (place_in places.now) gain inputs.now limiter i j }
 {
     fill_unit(i, out);
     match limiter {

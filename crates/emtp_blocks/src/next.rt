@@ -26,7 +26,8 @@ pub(crate) const LARGEST_CHAIN: u128 = 1_000_000_000_000_000_000_000_000_000_000
 fn input(gain: i64, s: i64) -> Option<i64>
     requires gain { unsigned_abs gain ≤ LARGEST_VALUE }
     requires s { unsigned_abs s ≤ 8 * 10 ^ 18 }
-    ensures value { result ≡ (if is_within LARGEST_VALUE (near (gain *ℤ s) PICO) then Some (near (gain *ℤ s) PICO) else None) }
+    ensures value { result
+        ≡ (if is_within LARGEST_VALUE (near (gain *ℤ s) PICO) then Some (near (gain *ℤ s) PICO) else None) }
     ensures small { IfSome result (λ u. unsigned_abs u ≤ LARGEST_VALUE) }
 {
     in_range(product(gain, s, PICO))
@@ -38,7 +39,8 @@ fn errors(law: &BlockLaw, order: usize, u: i64, x: i64) -> [i128; 8]
     requires law { IsLaw law.now }
     requires u { unsigned_abs u ≤ LARGEST_VALUE }
     requires x { unsigned_abs x ≤ LARGEST_VALUE }
-    ensures value { (j : ℕ) → j < order → item result j ≡ error_of (item law.now.numerators) (item law.now.denominators) u x j }
+    ensures value { (j : ℕ) → j < order
+        → item result j ≡ error_of (item law.now.numerators) (item law.now.denominators) u x j }
     ensures small { (j : ℕ) → unsigned_abs (item result j) ≤ 2 * 10 ^ 35 }
 {
     let mut errors = [0; 8];
@@ -71,7 +73,8 @@ fn chain(old: &BlockState, errors: &[i128], order: usize) -> [i128; 8]
     requires old { IsKept old.now }
     requires there { 8 ≤ length errors.now }
     requires small { (j : ℕ) → unsigned_abs (item errors.now j) ≤ 2 * 10 ^ 35 }
-    ensures value { (j : ℕ) → j < order → item result j ≡ carried old.now.errors old.now.chain (j + 1) -ℤ sum_below (j + 1) (item errors.now) }
+    ensures value { (j : ℕ) → j < order
+        → item result j ≡ carried old.now.errors old.now.chain (j + 1) -ℤ sum_below (j + 1) (item errors.now) }
     ensures past { (j : ℕ) → order ≤ j → item result j ≡ pos 0 }
     ensures size { 8 ≤ length result }
 {
@@ -120,7 +123,8 @@ fn last_error(law: &BlockLaw, u: i64, x: i64, order: usize, clamped: bool) -> i1
 fn past_at_limit(state: &BlockState, order: usize) -> i128
     requires order { order ≤ 7 }
     requires state { IsKept state.now }
-    ensures value { (c solved u : ℤ) → unlimited c state.now.limiter result solved u ≡ unlimited c state.now.limiter (past_output order state.now.errors state.now.chain) solved u }
+    ensures value { (c solved u : ℤ) → unlimited c state.now.limiter result solved u
+        ≡ unlimited c state.now.limiter (past_output order state.now.errors state.now.chain) solved u }
     ensures small { unsigned_abs result ≤ 10 ^ 30 }
 {
     match state.limiter {
@@ -169,7 +173,8 @@ pub(crate) fn next(
     requires x { unsigned_abs x ≤ LARGEST_VALUE }
     requires output { x ≡ output_of limits.now old.now.limiter solved }
     requires s { unsigned_abs s ≤ 8 * 10 ^ 18 }
-    ensures value { (dt : ℤ) (r : BlockState) → IsLawOf dt block.now law.now → HasState block.now.order old.now r → Keeps block.now.order result (next_state dt block.now limits.now r solved s) }
+    ensures value { (dt : ℤ) (r : BlockState) → IsLawOf dt block.now law.now → HasState block.now.order old.now r
+        → Keeps block.now.order result (next_state dt block.now limits.now r solved s) }
     ensures kept { IfSome result IsKept }
 {
     let order = block.order as usize;

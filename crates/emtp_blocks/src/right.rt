@@ -1,16 +1,16 @@
 //! The right side of the block system.
 
-ghost use Rattle.std.specs.Prelude.{◌≡◌, ◌*◌, ◌≤◌, ◌<◌, ◌+ℤ◌, ◌*ℤ◌, ℕ, ℤ, List, length, slice_get, unsigned_abs, All, Some};
+ghost use Rattle.std.specs.Prelude.{◌≡◌, ◌≤◌, ◌<◌, ◌+ℤ◌, ◌*ℤ◌, ℕ, ℤ, List, length, slice_get, unsigned_abs, All};
 ghost use Rattle.emtp_case.specs.StepRecord.{StepRecord};
 ghost use Rattle.emtp_case.specs.declared.control.Block.{Block};
 ghost use Rattle.emtp_case.specs.declared.control.Input.{Input};
 ghost use Rattle.emtp_elim.specs.Matrix.{item};
 ghost use Rattle.emtp_fix.specs.Rounding.{near};
 ghost use Rattle.emtp_blocks.specs.Block.{held, past_output};
-ghost use Rattle.emtp_blocks.specs.held.Block.{HasState, IsKept, IsLaw};
+ghost use Rattle.emtp_blocks.specs.held.Block.{IsKept, IsLaw};
 ghost use Rattle.emtp_case.specs.held.Control.{AreKnown};
-ghost use Rattle.emtp_blocks.specs.held.BlockRows.{AreLaws, StandsAt, places_of, place_in};
-ghost use Rattle.emtp_blocks.specs.System.{state_at, right, right_by, outside_sum};
+ghost use Rattle.emtp_blocks.specs.held.BlockRows.{AreLaws, IsStateAt, StandsAt, places_of, place_in};
+ghost use Rattle.emtp_blocks.specs.System.{right, right_by, outside_sum};
 ghost use Rattle.emtp_fix.specs.declared.limit.TheConstants.{LARGEST_VALUE, PICO};
 ghost use Rattle.emtp_blocks.specs.declared.next.TheConstants.{LARGEST_CHAIN};
 
@@ -37,7 +37,8 @@ fn free_right(
     requires state { IsKept state.now }
     requires places { length places.now ≡ length known.now }
     requires known { All (λ v. unsigned_abs v ≤ LARGEST_VALUE) known.now }
-    ensures value { result ≡ near (law.now.gain *ℤ outside_sum (place_in places.now) known.now block.now.inputs) PICO +ℤ past_output block.now.order state.now.errors state.now.chain }
+    ensures value { result ≡ near (law.now.gain *ℤ outside_sum (place_in places.now) known.now block.now.inputs) PICO
+        +ℤ past_output block.now.order state.now.errors state.now.chain }
     ensures small { unsigned_abs result ≤ LARGEST_CHAIN }
 {
     let s = outside_sum(places, known, block.inputs.as_slice());
@@ -60,7 +61,8 @@ fn right_of(
     requires laws_fit { All IsLaw laws.now }
     requires state { IsKept state.now }
     requires known { AreKnown case.now.parts known.now }
-    ensures value { (H : List StepRecord) → ((b : Block) → slice_get case.now.parts.blocks at ≡ Some b → HasState b.order state.now (state_at H at)) → result ≡ right_by case.now.parts H known.now at (slice_get case.now.parts.blocks at) }
+    ensures value { (H : List StepRecord) → IsStateAt case.now.parts state.now H at
+        → result ≡ right_by case.now.parts H known.now at (slice_get case.now.parts.blocks at) }
     ensures small { unsigned_abs result ≤ LARGEST_CHAIN }
 {
     let block = &case.parts.blocks.as_slice()[at];
@@ -89,7 +91,8 @@ pub(crate) fn fill_right(
     requires states_fit { All IsKept states.now }
     requires known { AreKnown case.now.parts known.now }
     requires rhs { length rhs.old ≡ length case.now.parts.blocks }
-    ensures value { (H : List StepRecord) → ((i : ℕ) → StandsAt case.now.parts states.now H i) → rhs.new ≡ right case.now.parts H known.now }
+    ensures value { (H : List StepRecord) → ((i : ℕ) → StandsAt case.now.parts states.now H i)
+        → rhs.new ≡ right case.now.parts H known.now }
     ensures small { (j : ℕ) → j < length rhs.old → unsigned_abs (item rhs.new j) ≤ LARGEST_CHAIN }
 {
     for at in 0..case.parts.blocks.len() {

@@ -5,7 +5,7 @@ ghost use Rattle.std.specs.Prelude.{◌≡◌, ◌^◌, ◌*◌, ◌≤◌, ◌*
 ghost use Rattle.emtp_fix.specs.Rounding.{near};
 ghost use Rattle.emtp_fix.specs.declared.limit.TheConstants.{NANO};
 
-use emtp_fix::{NANO, PICO, near, scaled};
+use emtp_fix::{NANO, near, scaled};
 
 /// `a * b / unit`, rounded.
 pub(crate) fn product(a: i64, b: i64, unit: i128) -> i128
