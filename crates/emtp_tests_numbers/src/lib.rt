@@ -7,8 +7,6 @@
 #![tactic(auto)]
 
 #[cfg(test)]
-mod dense;
-#[cfg(test)]
 mod elim;
 #[cfg(test)]
 mod fix;

@@ -3,7 +3,7 @@ ghost use Rattle.std.specs.Prelude.{◌≡◌, ◌*◌, ◌+◌, ◌^◌, ◌<�
 ghost use Rattle.emtp_elim.specs.held.Matrix.{AreWithin};
 ghost use Rattle.emtp_tests_numbers.specs.Tables.{unit_row, table_rows};
 
-use emtp_elim::{PlainFault, RowCause, Rows};
+use emtp_elim::Rows;
 use std::alloc::{AllocError, Global};
 
 /// 1 S in pS.
@@ -72,13 +72,4 @@ pub fn filled(alloc: Global, size: usize, fixed: usize, cells: &[i64]) -> Result
         fixed,
         cells: wide,
     })
-}
-
-/// What is wrong: the row, and the cause where it is the matrix.
-pub fn named(fault: PlainFault) -> Option<(usize, Option<RowCause>)> {
-    match fault {
-        PlainFault::Row(fault) => Some((fault.row, Some(fault.cause))),
-        PlainFault::Solve(fault) => Some((fault.row, None)),
-        PlainFault::NoMemory => None,
-    }
 }

@@ -1,11 +1,11 @@
-//! The kept factor and plain elimination side by side, and whole runs of calls.
+//! A whole run of calls of a kept factor, and a caller that has its clauses.
 ghost use Rattle.std.specs.Prelude.{◌≡◌, ◌*◌, ◌<◌, ◌≤◌, length, All, IfOk, OnOk, IfErr, Ok, Err};
 ghost use Rattle.emtp_elim.specs.Outcome.{outcome};
 ghost use Rattle.emtp_tail.specs.Runs.{FitsSize};
 ghost use Rattle.emtp_tests_numbers.specs.Tables.{table_rows};
 
-use crate::table::{P, Table, filled, named};
-use emtp_elim::{PlainFault, RowCause, RowFault, Rows, eliminate_plain};
+use crate::table::{P, Table, filled};
+use emtp_elim::{PlainFault, RowCause, RowFault, Rows};
 use emtp_fix::Steps;
 use emtp_tail::{Call, Kept, Reply, answer_all};
 use std::alloc::{AllocError, Global};
@@ -33,108 +33,6 @@ const RIGHT: [i128; 3] = [100_000_000_000, 0, 0];
 /// The solution with 0.5 ohm to ground.
 const DIVIDED: [i64; 3] = [100_000_000_000, 60_000_000_000, 20_000_000_000];
 
-/// Makes the factor that of a matrix.
-fn redone<L: Ledger>(kept: &mut Kept, rows: &Table, steps: &mut Steps<L>) -> Result<usize, RowFault>
-    requires { kept.old.size ≡ rows.now.size }
-    ensures size { kept.new.size ≡ kept.old.size }
-    ensures all { OnOk result (length kept.new.rows ≡ kept.new.size) }
-{
-    kept.update(rows, steps)
-}
-
-/// The numbers of a matrix whose first row is a unit row; the first row that is redone, or the one at fault; how many rows
-/// are good then; whether the right side is divided.
-type Update = ([i64; 9], Result<usize, RowFault>, usize, bool);
-
-/// Five changes of one matrix.
-const UPDATES: [Update; 5] = [
-    (AT_FIRST, Ok(0), 3, false),
-    (AT_FIRST, Ok(3), 3, false),
-    (LAST_CHANGED, Ok(2), 3, true),
-    (MIDDLE_GONE, Err(MIDDLE_FAULT), 1, false),
-    (LAST_CHANGED, Ok(1), 3, true),
-];
-
-/// Whether each of the changes redoes what it should.
-fn five_updates<L: Ledger>(rt: &impl Abort, alloc: Global, blank: Blank) -> bool
-    requires name { blank.name ≡ L.name }
-    requires parts { blank.parts ≡ L.parts }
-    requires some { 0 < blank.parts }
-{
-    let mut steps = Steps::<L>::new(blank);
-    let mut kept = opened(rt, alloc, 3, &AT_FIRST);
-    let are_right = redo_in_turn(rt, alloc, &mut kept, &mut steps);
-    drop(kept);
-    are_right
-}
-
-fn redo_in_turn<L: Ledger>(
-    rt: &impl Abort,
-    alloc: Global,
-    kept: &mut Kept,
-    steps: &mut Steps<L>,
-) -> bool
-    requires { kept.old.size ≡ 3 }
-{
-    if kept.size() != 3 || kept.good() != 0 {
-        return false;
-    }
-    for at in 0..5 {
-        if !redoes(rt, alloc, kept, &UPDATES[at], steps) {
-            return false;
-        }
-    }
-    true
-}
-
-/// Whether a change redoes what it should.
-fn redoes<L: Ledger>(
-    rt: &impl Abort,
-    alloc: Global,
-    kept: &mut Kept,
-    update: &Update,
-    steps: &mut Steps<L>,
-) -> bool
-    requires { kept.old.size ≡ 3 }
-    ensures { kept.new.size ≡ 3 }
-{
-    let (cells, answer, good, is_divided) = *update;
-    let rows = filled(alloc, 3, 1, &cells).expect(rt, "memory");
-    let found = (rows.fixed(), redone(kept, &rows, steps));
-    drop(rows);
-    found == (1, answer) && kept.good() == good && divides(kept) == is_divided
-}
-
-fn divides(kept: &Kept) -> bool {
-    if kept.size() != 3 || kept.good() != 3 {
-        return false;
-    }
-    let mut right = RIGHT;
-    let mut x = [0; 3];
-    kept.solve(&mut right, &mut x) == Ok(()) && x == DIVIDED
-}
-
-#[test]
-fn redoes_from_the_first_change(rt: HostRuntime) {
-    assert!(rt; five_updates::<Brand>(&rt, rt.alloc(), Blank::new(1)));
-}
-
-/// Matrices of three rows, each followed by one that changes it early or late, mends it or breaks it.
-const CHANGES: [[i64; 9]; 12] = [
-    [2 * P, -P, 0, -P, 2 * P, -P, 0, -P, 2 * P],
-    [2 * P, -P, 0, -P, 2 * P, -P, 0, -P, 3 * P],
-    [2 * P, -P, 0, -P, 5 * P, -P, 0, -P, 3 * P],
-    [0, -P, 0, -P, 5 * P, -P, 0, -P, 3 * P],
-    [2 * P, -P, 0, -P, 2 * P, -P, 0, -P, 2 * P],
-    [2 * P, -P, 0, -2 * P, P, 0, 0, -P, 2 * P],
-    [2 * P, -P, 0, -2 * P, P, 0, 0, 0, 7 * P],
-    [2 * P, -P, 0, -P, 3, 0, 0, 200_000 * P, 7 * P],
-    [1, 0, 0, 2_000_000, P, 0, 0, 0, P],
-    [3, P, -7, 5, -11, 13 * P, 17 * P, 19, 23],
-    [1, 0, 0, 0, P, 0, 0, 0, P],
-    [P, 0, 0, 100_000 * P, P, 0, 0, 0, P],
-];
-
 /// The voltages of this step, in nV, from the factor of the step before.
 fn voltages<R: Rows, L: Ledger>(
     kept: &mut Kept,
@@ -159,22 +57,6 @@ fn voltages<R: Rows, L: Ledger>(
     }
 }
 
-/// The solution of a table by the kept factor.
-pub fn solved<L: Ledger>(
-    kept: &mut Kept,
-    rows: &Table,
-    right: &mut [i128],
-    x: &mut [i64],
-    steps: &mut Steps<L>,
-) -> Result<(), PlainFault>
-    requires size { kept.old.size ≡ rows.now.size }
-    requires right { length right.old ≡ rows.now.size }
-    requires x { length x.old ≡ rows.now.size }
-    ensures { kept.new.size ≡ kept.old.size }
-{
-    voltages(kept, rows, right, x, steps)
-}
-
 /// A factor for the table of these numbers, of which no row is good yet.
 pub fn opened(rt: &impl Abort, alloc: Global, size: usize, cells: &[i64]) -> Kept
     requires few { size ≤ 1000 }
@@ -185,50 +67,6 @@ pub fn opened(rt: &impl Abort, alloc: Global, size: usize, cells: &[i64]) -> Kep
     let kept = Kept::open(alloc, &rows).expect(rt, "memory");
     drop(rows);
     kept
-}
-
-/// The kept factor and plain elimination, at each of the matrices in turn.
-fn side_by_side<L: Ledger>(rt: &impl Abort, alloc: Global, blank: Blank)
-    requires name { blank.name ≡ L.name }
-    requires parts { blank.parts ≡ L.parts }
-    requires some { 0 < blank.parts }
-{
-    let mut steps = Steps::<L>::new(blank);
-    let mut kept = opened(rt, alloc, 3, &CHANGES[0]);
-    for k in 0..12 {
-        agree(rt, alloc, &mut kept, &CHANGES[k], &mut steps);
-    }
-    drop(kept);
-}
-
-/// The kept factor and plain elimination answer the same.
-fn agree<L: Ledger>(
-    rt: &impl Abort,
-    alloc: Global,
-    kept: &mut Kept,
-    cells: &[i64; 9],
-    steps: &mut Steps<L>,
-)
-    requires { kept.old.size ≡ 3 }
-    ensures { kept.new.size ≡ 3 }
-{
-    let rows = filled(alloc, 3, 0, cells).expect(rt, "memory");
-    let currents = [20_000_000_000_000, 100_000_000_000, -300_000_000_000];
-    let mut expected = [0; 3];
-    let plain = eliminate_plain(alloc, &rows, &currents, &mut expected).map_err(named);
-    let mut right = currents;
-    let mut x = [0; 3];
-    let answer = solved(kept, &rows, &mut right, &mut x, steps).map_err(named);
-    drop(rows);
-    assert!(rt;
-        plain == answer && (answer.is_err() || x == expected),
-        "at {cells:?}"
-    );
-}
-
-#[test]
-fn answers_as_plain_elimination_does(rt: HostRuntime) {
-    side_by_side::<Brand>(&rt, rt.alloc(), Blank::new(1));
 }
 
 /// What a call is answered.
