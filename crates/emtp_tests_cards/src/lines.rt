@@ -1,181 +1,53 @@
 use emtp_card::*;
-use std::alloc::{AllocError, Global};
-use std::test::Fail;
+use std::alloc::Global;
+
+macro_rules! rows {
+    ($($line:expr => $comment:expr, $end:expr, $fault:expr;)*) => {
+        &[$(($line, $comment, $end, $fault)),*]
+    };
+}
 
 /// A line, whether it is a comment, whether it ends a section, and the first fault of its bytes.
-const LINES: &[(&str, bool, bool, Option<(u32, Why)>)] = &[
-    ("C", true, false, None),
-    ("C ", true, false, None),
-    ("C x", true, false, None),
-    ("C  comment", true, false, None),
-    ("CX", false, false, None),
-    ("c", false, false, None),
-    ("c ", false, false, None),
-    ("CC", false, false, None),
-    ("C1 2", false, false, None),
-    ("C\t", false, false, Some((2, Why::ByteOutside))),
-    ("C\r", false, false, Some((2, Why::ByteOutside))),
-    (" C", false, false, None),
-    ("  C ", false, false, None),
-    ("", false, true, None),
-    (" ", false, true, None),
-    ("    ", false, true, None),
-    (
-        "                                                                                ",
-        false,
-        true,
-        None,
-    ),
-    (
-        "                                                                                   ",
-        false,
-        true,
-        None,
-    ),
-    ("BLANK", false, true, None),
-    ("BLANK ", false, true, None),
-    ("BLANK CARD ENDING BRANCHES", false, true, None),
-    ("BLANKET", false, true, None),
-    ("blank", false, false, None),
-    (" BLANK", false, false, None),
-    ("BLAN", false, false, None),
-    ("BLAN K", false, false, None),
-    ("B", false, false, None),
-    ("BLANK\r", false, true, Some((6, Why::ByteOutside))),
-    ("BLANK\u{1}", false, true, Some((6, Why::ByteOutside))),
-    (
-        "BLANK                                                                                X",
-        false,
-        true,
-        Some((86, Why::PastColumn80)),
-    ),
-    (
-        "                                                                                X",
-        false,
-        false,
-        Some((81, Why::PastColumn80)),
-    ),
-    (
-        "                                                                                  X",
-        false,
-        false,
-        Some((83, Why::PastColumn80)),
-    ),
-    (
-        "                                                                                \u{7f}",
-        false,
-        false,
-        Some((81, Why::ByteOutside)),
-    ),
-    (
-        "                                                                                 \u{1f}",
-        false,
-        false,
-        Some((82, Why::ByteOutside)),
-    ),
-    ("  SRC   MID                  1.0", false, false, None),
-    ("11SRC        100.0", false, false, None),
-    ("~", false, false, None),
-    ("}", false, false, None),
-    ("\u{7f}", false, false, Some((1, Why::ByteOutside))),
-    ("\u{1f}", false, false, Some((1, Why::ByteOutside))),
-    (" \0", false, false, Some((2, Why::ByteOutside))),
-    ("\u{80}", false, false, Some((1, Why::ByteOutside))),
-    ("A\u{7f}B", false, false, Some((2, Why::ByteOutside))),
-    ("\tA", false, false, Some((1, Why::ByteOutside))),
-    ("A\t", false, false, Some((2, Why::ByteOutside))),
-    ("A\r", false, false, Some((2, Why::ByteOutside))),
-    (
-        "AAAAAAAAAAAAAAAAAAAAAAAAAAAAAAAAAAAAAAAAAAAAAAAAAAAAAAAAAAAAAAAAAAAAAAAAAAAAAAAA",
-        false,
-        false,
-        None,
-    ),
-    (
-        "AAAAAAAAAAAAAAAAAAAAAAAAAAAAAAAAAAAAAAAAAAAAAAAAAAAAAAAAAAAAAAAAAAAAAAAAAAAAAAAAA",
-        false,
-        false,
-        Some((81, Why::PastColumn80)),
-    ),
-    (
-        "AAAAAAAAAAAAAAAAAAAAAAAAAAAAAAAAAAAAAAAAAAAAAAAAAAAAAAAAAAAAAAAAAAAAAAAAAAAAAAAA ",
-        false,
-        false,
-        None,
-    ),
-    (
-        "AAAAAAAAAAAAAAAAAAAAAAAAAAAAAAAAAAAAAAAAAAAAAAAAAAAAAAAAAAAAAAAAAAAAAAAAAAAAAAAA                    ",
-        false,
-        false,
-        None,
-    ),
-    (
-        "AAAAAAAAAAAAAAAAAAAAAAAAAAAAAAAAAAAAAAAAAAAAAAAAAAAAAAAAAAAAAAAAAAAAAAAAAAAAAAAA B",
-        false,
-        false,
-        Some((82, Why::PastColumn80)),
-    ),
-    (
-        "AAAAAAAAAAAAAAAAAAAAAAAAAAAAAAAAAAAAAAAAAAAAAAAAAAAAAAAAAAAAAAAAAAAAAAAAAAAAAAA\u{1f}B",
-        false,
-        false,
-        Some((80, Why::ByteOutside)),
-    ),
-    (
-        "AAAAAAAAAAAAAAAAAAAAAAAAAAAAAAAAAAAAAAAAAAAAAAAAAAAAAAAAAAAAAAAAAAAAAAAAAAAAAAAA\u{1f}",
-        false,
-        false,
-        Some((81, Why::ByteOutside)),
-    ),
-    (
-        "AAAAAAAAAAAAAAAAAAAAAAAAAAAAAAAAAAAAAAAAAAAAAAAAAAAAAAAAAAAAAAAAAAAAAAAAAAAAAAAAB\u{1f}",
-        false,
-        false,
-        Some((81, Why::PastColumn80)),
-    ),
-    (
-        "AAAAAAAAAAAAAAAAAAAAAAAAAAAAAAAAAAAAAAAAAAAAAAAAAAAAAAAAAAAAAAAAAAAAAAAAAAAAAAAA \u{1f}B",
-        false,
-        false,
-        Some((82, Why::ByteOutside)),
-    ),
-    (
-        "\u{1f}AAAAAAAAAAAAAAAAAAAAAAAAAAAAAAAAAAAAAAAAAAAAAAAAAAAAAAAAAAAAAAAAAAAAAAAAAAAAAAAAAAAAAAAAAA",
-        false,
-        false,
-        Some((1, Why::ByteOutside)),
-    ),
-    (
-        "AAAAAAAAAAAAAAAAAAAAAAAAAAAAAAAAAAAAAAAAAAAAAAAAAAAAAAAAAAAAAAAAAAAAAAAAAAAAAAAAAA",
-        false,
-        false,
-        Some((81, Why::PastColumn80)),
-    ),
-    (
-        "                                                                               \u{7f}",
-        false,
-        false,
-        Some((80, Why::ByteOutside)),
-    ),
-    (
-        "C                                                                                X",
-        true,
-        false,
-        Some((82, Why::PastColumn80)),
-    ),
-    (
-        "C \u{7f}\u{7f}\u{7f}",
-        true,
-        false,
-        Some((3, Why::ByteOutside)),
-    ),
-    (
-        "C \0xxxxxxxxxxxxxxxxxxxxxxxxxxxxxxxxxxxxxxxxxxxxxxxxxxxxxxxxxxxxxxxxxxxxxxxxxxxxxxxxxxxxxxxxxxxxxxxxxxxx",
-        true,
-        false,
-        Some((3, Why::ByteOutside)),
-    ),
-];
+const LINES: &[(&str, bool, bool, Option<(u32, Why)>)] = rows! {
+    "C" => true, false, None; "C " => true, false, None; "C x" => true, false, None;
+    "C  comment" => true, false, None; "CX" => false, false, None; "c" => false, false, None;
+    "c " => false, false, None; "CC" => false, false, None; "C1 2" => false, false, None;
+    "C\t" => false, false, Some((2, Why::ByteOutside)); "C\r" => false, false, Some((2, Why::ByteOutside));
+    " C" => false, false, None; "  C " => false, false, None; "" => false, true, None; " " => false, true, None;
+    "    " => false, true, None;
+    "                                                                                " => false, true, None;
+    "                                                                                   " => false, true, None;
+    "BLANK" => false, true, None; "BLANK " => false, true, None; "BLANK CARD ENDING BRANCHES" => false, true, None;
+    "BLANKET" => false, true, None; "blank" => false, false, None; " BLANK" => false, false, None;
+    "BLAN" => false, false, None; "BLAN K" => false, false, None; "B" => false, false, None;
+    "BLANK\r" => false, true, Some((6, Why::ByteOutside)); "BLANK\u{1}" => false, true, Some((6, Why::ByteOutside));
+    "BLANK                                                                                X" => false, true, Some((86, Why::PastColumn80));
+    "                                                                                X" => false, false, Some((81, Why::PastColumn80));
+    "                                                                                  X" => false, false, Some((83, Why::PastColumn80));
+    "                                                                                \u{7f}" => false, false, Some((81, Why::ByteOutside));
+    "                                                                                 \u{1f}" => false, false, Some((82, Why::ByteOutside));
+    "  SRC   MID                  1.0" => false, false, None; "11SRC        100.0" => false, false, None;
+    "~" => false, false, None; "}" => false, false, None; "\u{7f}" => false, false, Some((1, Why::ByteOutside));
+    "\u{1f}" => false, false, Some((1, Why::ByteOutside)); " \0" => false, false, Some((2, Why::ByteOutside));
+    "\u{80}" => false, false, Some((1, Why::ByteOutside)); "A\u{7f}B" => false, false, Some((2, Why::ByteOutside));
+    "\tA" => false, false, Some((1, Why::ByteOutside)); "A\t" => false, false, Some((2, Why::ByteOutside));
+    "A\r" => false, false, Some((2, Why::ByteOutside));
+    "AAAAAAAAAAAAAAAAAAAAAAAAAAAAAAAAAAAAAAAAAAAAAAAAAAAAAAAAAAAAAAAAAAAAAAAAAAAAAAAA" => false, false, None;
+    "AAAAAAAAAAAAAAAAAAAAAAAAAAAAAAAAAAAAAAAAAAAAAAAAAAAAAAAAAAAAAAAAAAAAAAAAAAAAAAAAA" => false, false, Some((81, Why::PastColumn80));
+    "AAAAAAAAAAAAAAAAAAAAAAAAAAAAAAAAAAAAAAAAAAAAAAAAAAAAAAAAAAAAAAAAAAAAAAAAAAAAAAAA " => false, false, None;
+    "AAAAAAAAAAAAAAAAAAAAAAAAAAAAAAAAAAAAAAAAAAAAAAAAAAAAAAAAAAAAAAAAAAAAAAAAAAAAAAAA                    " => false, false, None;
+    "AAAAAAAAAAAAAAAAAAAAAAAAAAAAAAAAAAAAAAAAAAAAAAAAAAAAAAAAAAAAAAAAAAAAAAAAAAAAAAAA B" => false, false, Some((82, Why::PastColumn80));
+    "AAAAAAAAAAAAAAAAAAAAAAAAAAAAAAAAAAAAAAAAAAAAAAAAAAAAAAAAAAAAAAAAAAAAAAAAAAAAAAA\u{1f}B" => false, false, Some((80, Why::ByteOutside));
+    "AAAAAAAAAAAAAAAAAAAAAAAAAAAAAAAAAAAAAAAAAAAAAAAAAAAAAAAAAAAAAAAAAAAAAAAAAAAAAAAA\u{1f}" => false, false, Some((81, Why::ByteOutside));
+    "AAAAAAAAAAAAAAAAAAAAAAAAAAAAAAAAAAAAAAAAAAAAAAAAAAAAAAAAAAAAAAAAAAAAAAAAAAAAAAAAB\u{1f}" => false, false, Some((81, Why::PastColumn80));
+    "AAAAAAAAAAAAAAAAAAAAAAAAAAAAAAAAAAAAAAAAAAAAAAAAAAAAAAAAAAAAAAAAAAAAAAAAAAAAAAAA \u{1f}B" => false, false, Some((82, Why::ByteOutside));
+    "\u{1f}AAAAAAAAAAAAAAAAAAAAAAAAAAAAAAAAAAAAAAAAAAAAAAAAAAAAAAAAAAAAAAAAAAAAAAAAAAAAAAAAAAAAAAAAAA" => false, false, Some((1, Why::ByteOutside));
+    "AAAAAAAAAAAAAAAAAAAAAAAAAAAAAAAAAAAAAAAAAAAAAAAAAAAAAAAAAAAAAAAAAAAAAAAAAAAAAAAAAA" => false, false, Some((81, Why::PastColumn80));
+    "                                                                               \u{7f}" => false, false, Some((80, Why::ByteOutside));
+    "C                                                                                X" => true, false, Some((82, Why::PastColumn80));
+    "C \u{7f}\u{7f}\u{7f}" => true, false, Some((3, Why::ByteOutside));
+    "C \0xxxxxxxxxxxxxxxxxxxxxxxxxxxxxxxxxxxxxxxxxxxxxxxxxxxxxxxxxxxxxxxxxxxxxxxxxxxxxxxxxxxxxxxxxxxxxxxxxxxx" => true, false, Some((3, Why::ByteOutside));
+};
 
 /// A case, and its lines.
 const CASES: &[(&str, &[&str])] = &[
@@ -243,76 +115,4 @@ fn splits_into_lines(rt: HostRuntime) {
         let is = is_split(rt.alloc(), text.as_bytes(), lines);
         assert!(rt; is, "lines of {text}");
     }
-}
-
-/// Adds a byte so many times.
-pub fn add(text: &mut Vec<u8>, byte: u8, times: usize) -> Result<(), AllocError> {
-    text.resize(text.len().saturating_add(times), byte)
-}
-
-/// So many bytes and newlines behind a front.
-fn long_text(
-    alloc: Global,
-    front: &str,
-    bytes: usize,
-    newlines: usize,
-) -> Result<Vec<u8>, AllocError> {
-    let mut text = Vec::from_slice(alloc, front.as_bytes())?;
-    add(&mut text, b'x', bytes)?;
-    add(&mut text, b'\n', newlines)?;
-    Ok(text)
-}
-
-/// Whether a text is split, and the card that is refused else.
-fn split(alloc: Global, text: &[u8]) -> (bool, Option<Bad>) {
-    match Cards::split(alloc, text) {
-        Ok(_) => (true, None),
-        Err(Refused::Bad(bad)) => (false, Some(bad)),
-        Err(Refused::NoMemory) => (false, None),
-    }
-}
-
-/// The front of a case, its bytes and newlines behind it, and the line that is too far.
-const LONG_CASES: &[(&str, usize, usize, Option<u32>)] = &[
-    ("", 0, 100_000, None),
-    ("", 0, 100_001, Some(100_001)),
-    ("", 9_000_000, 0, None),
-    ("", 9_000_000, 1, Some(1)),
-    ("\n", 9_000_000, 0, Some(2)),
-    ("\n\n", 8_950_000, 100_001, Some(50_001)),
-    ("\n\n", 8_800_000, 200_001, Some(100_001)),
-];
-
-/// The refusal of a line that is too many, if there is one.
-fn too_many(line: Option<u32>) -> Option<Bad> {
-    let line = line?;
-    Some(Bad {
-        line,
-        column: 1,
-        why: Why::TooManyLines,
-    })
-}
-
-#[test]
-fn refuses_a_case_that_is_too_long(rt: HostRuntime) -> Result<(), Fail> {
-    for (front, bytes, newlines, line) in LONG_CASES {
-        let text = long_text(rt.alloc(), front, *bytes, *newlines)?;
-        let bad = too_many(*line);
-        let is = split(rt.alloc(), text.as_slice()) == (bad.is_none(), bad);
-        drop(text);
-        assert!(rt; is, "{bytes} bytes and {newlines} newlines");
-    }
-    Ok(())
-}
-
-#[test]
-fn names_the_reason(rt: HostRuntime) -> Result<(), Fail> {
-    let bad = Bad {
-        line: 7,
-        column: 27,
-        why: Why::NotANumber,
-    };
-    let text = format!(in rt.alloc(); "{}", Refused::Bad(bad))?;
-    assert_eq!(rt; text.as_str(), "line 7, column 27: NotANumber");
-    Ok(())
 }
