@@ -17,7 +17,7 @@ import numpy as np
 from wurdanei import listing, program
 from wurdanei.case import Case, CaseError, Refused
 
-ROWS = pathlib.Path(__file__).parents[2] / "rows" / "shown"
+CASES = pathlib.Path(__file__).parents[2] / "cases" / "shown"
 needs_program = unittest.skipUnless(program.is_there(), "the program isn't built, so it answers nothing")
 
 
@@ -490,7 +490,7 @@ class CompoundCalls(unittest.TestCase):
 class Page(unittest.TestCase):
     def test_the_first_case_of_the_page_runs_as_it_says(self) -> None:
         """docs/python.md, its code but for the picture."""
-        page = (ROWS.parents[1] / "docs" / "python.md").read_text(encoding="utf-8")
+        page = (CASES.parents[1] / "docs" / "python.md").read_text(encoding="utf-8")
         code = page.partition("```python\n")[2].partition("```")[0]
         lines = [line for line in code.splitlines() if "plt" not in line]
         printed = io.StringIO()
@@ -650,9 +650,9 @@ class Answers(unittest.TestCase):
         self.assertEqual(set(found.ends), {None})
 
     def test_what_is_shown_is_that_of_cases_written_by_hand(self) -> None:
-        """The listings of rows/shown, whose cases are written by hand, but for the numbers of lines."""
+        """The listings of cases/shown, whose cases are written by hand, but for the numbers of lines."""
         for name, case in (("shown_control", control_by_methods()), ("shown_lines_and_arresters", lines_by_methods())):
-            want = listing.read((ROWS / name / "expected.note").read_text())
+            want = listing.read((CASES / name / "expected.note").read_text())
             found = case.show()
             self.assertEqual(
                 [
@@ -669,7 +669,7 @@ class Answers(unittest.TestCase):
 
 
 def control_by_methods() -> Case:
-    """The case of rows/shown/shown_control."""
+    """The case of cases/shown/shown_control."""
     case = Case(1e-4, 0.01, 10)
     c = case.control
     c.block("FILTER", ["SENSE", "-BIAS"], gain=2, denominator=[1, 0.01], low=-1, high="TOP")
@@ -692,7 +692,7 @@ def control_by_methods() -> Case:
 
 
 def lines_by_methods() -> Case:
-    """The case of rows/shown/shown_lines_and_arresters."""
+    """The case of cases/shown/shown_lines_and_arresters."""
     case = Case(5e-5, 0.1, 4, tolerance_a=1e-4)
     zero, positive = dict(r_ohm=0.1, zc_ohm=600, velocity=2e5), dict(r_ohm=0.02, zc_ohm=300, velocity=2.5e5)
     case.line3(["SA", "SB", "SC"], ["RA", "RB", "RC"], length=100, zero=zero, positive=positive)

@@ -1,4 +1,4 @@
-"""Tests of wurdanei.listing: the listings of rows/shown, and what is no listing."""
+"""Tests of wurdanei.listing: the listings of cases/shown, and what is no listing."""
 
 import pathlib
 import unittest
@@ -6,11 +6,11 @@ from decimal import Decimal
 
 from wurdanei import listing
 
-ROWS = pathlib.Path(__file__).parents[2] / "rows" / "shown"
+CASES = pathlib.Path(__file__).parents[2] / "cases" / "shown"
 
 
 def shown(name: str) -> listing.Listing:
-    return listing.read((ROWS / name / "expected.note").read_text())
+    return listing.read((CASES / name / "expected.note").read_text())
 
 
 class Listing(unittest.TestCase):

@@ -1,6 +1,6 @@
 """The one table of the cards' fields: where each stands, its unit and its range.
 
-docs/cards.md and docs/control.md say what the fields mean; rows/scripts/rulers compares their rulers and tables with
+docs/cards.md and docs/control.md say what the fields mean; cases/scripts/rulers compares their rulers and tables with
 this one. Columns count from 1, and the last one belongs to the field.
 """
 

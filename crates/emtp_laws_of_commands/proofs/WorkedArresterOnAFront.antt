@@ -1,5 +1,5 @@
 -- `run arrester_on_a_front.case arrester_on_a_front.cfg arrester_on_a_front.dat` over the bytes of examples/arrester_on_a_front, from the words to each byte that
--- is written, by computation. rows/scripts/worked writes this file.
+-- is written, by computation. cases/scripts/worked writes this file.
 use Rattle.std.proofs.Common.{◌≡◌, ◌++◌, refl, ℕ, List, [], ◌∷◌, Option, Some, None, if◌then◌else◌}
 use Rattle.std.specs.Fmt as fmt
 use Rattle.std.specs.Prelude.{codes}

@@ -1,5 +1,5 @@
--- `run block_of_order_8.case block_of_order_8.cfg block_of_order_8.dat` over the bytes of rows/refusals/block_of_order_8, from the words to each byte that
--- is written, by computation. rows/scripts/worked writes this file.
+-- `run block_of_order_8.case block_of_order_8.cfg block_of_order_8.dat` over the bytes of cases/refusals/block_of_order_8, from the words to each byte that
+-- is written, by computation. cases/scripts/worked writes this file.
 use Rattle.std.proofs.Common.{◌≡◌, ◌++◌, refl, ℕ, List, [], ◌∷◌, Option, Some, None, if◌then◌else◌}
 use Rattle.std.specs.Fmt as fmt
 use Rattle.std.specs.Prelude.{codes}

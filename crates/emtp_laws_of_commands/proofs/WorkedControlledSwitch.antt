@@ -1,5 +1,5 @@
--- `run controlled_switch.case controlled_switch.cfg controlled_switch.dat` over the bytes of rows/control/controlled_switch, from the words to each byte that
--- is written, by computation. rows/scripts/worked writes this file.
+-- `run controlled_switch.case controlled_switch.cfg controlled_switch.dat` over the bytes of cases/control/controlled_switch, from the words to each byte that
+-- is written, by computation. cases/scripts/worked writes this file.
 use Rattle.std.proofs.Common.{◌≡◌, ◌++◌, refl, ℕ, List, [], ◌∷◌, Option, Some, None, if◌then◌else◌}
 use Rattle.std.specs.Fmt as fmt
 use Rattle.std.specs.Prelude.{codes}

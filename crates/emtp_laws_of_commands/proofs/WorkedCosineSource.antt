@@ -1,5 +1,5 @@
--- `run cosine_source.case cosine_source.cfg cosine_source.dat` over the bytes of rows/network/cosine_source, from the words to each byte that
--- is written, by computation. rows/scripts/worked writes this file.
+-- `run cosine_source.case cosine_source.cfg cosine_source.dat` over the bytes of cases/network/cosine_source, from the words to each byte that
+-- is written, by computation. cases/scripts/worked writes this file.
 use Rattle.std.proofs.Common.{◌≡◌, ◌++◌, refl, ℕ, List, [], ◌∷◌, Option, Some, None, if◌then◌else◌}
 use Rattle.std.specs.Fmt as fmt
 use Rattle.std.specs.Prelude.{codes}

@@ -1,5 +1,5 @@
--- `run derivative.case derivative.cfg derivative.dat` over the bytes of rows/control/derivative, from the words to each byte that
--- is written, by computation. rows/scripts/worked writes this file.
+-- `run derivative.case derivative.cfg derivative.dat` over the bytes of cases/control/derivative, from the words to each byte that
+-- is written, by computation. cases/scripts/worked writes this file.
 use Rattle.std.proofs.Common.{◌≡◌, ◌++◌, refl, ℕ, List, [], ◌∷◌, Option, Some, None, if◌then◌else◌}
 use Rattle.std.specs.Fmt as fmt
 use Rattle.std.specs.Prelude.{codes}

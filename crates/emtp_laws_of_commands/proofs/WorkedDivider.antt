@@ -1,5 +1,5 @@
 -- `run divider.case divider.cfg divider.dat` over the bytes of examples/divider, from the words to each byte that
--- is written, by computation. rows/scripts/worked writes this file.
+-- is written, by computation. cases/scripts/worked writes this file.
 use Rattle.std.proofs.Common.{◌≡◌, ◌++◌, refl, ℕ, List, [], ◌∷◌, Option, Some, None, if◌then◌else◌}
 use Rattle.std.specs.Fmt as fmt
 use Rattle.std.specs.Prelude.{codes}

@@ -1,5 +1,5 @@
--- `run formula_that_divides_by_zero.case formula_that_divides_by_zero.cfg formula_that_divides_by_zero.dat` over the bytes of rows/record/formula_that_divides_by_zero, from the words to each byte that
--- is written, by computation. rows/scripts/worked writes this file.
+-- `run formula_that_divides_by_zero.case formula_that_divides_by_zero.cfg formula_that_divides_by_zero.dat` over the bytes of cases/record/formula_that_divides_by_zero, from the words to each byte that
+-- is written, by computation. cases/scripts/worked writes this file.
 use Rattle.std.proofs.Common.{◌≡◌, ◌++◌, refl, ℕ, List, [], ◌∷◌, Option, Some, None, if◌then◌else◌}
 use Rattle.std.specs.Fmt as fmt
 use Rattle.std.specs.Prelude.{codes}

@@ -1,5 +1,5 @@
--- `run gain_loop_without_a_pivot.case gain_loop_without_a_pivot.cfg gain_loop_without_a_pivot.dat` over the bytes of rows/record/gain_loop_without_a_pivot, from the words to each byte that
--- is written, by computation. rows/scripts/worked writes this file.
+-- `run gain_loop_without_a_pivot.case gain_loop_without_a_pivot.cfg gain_loop_without_a_pivot.dat` over the bytes of cases/record/gain_loop_without_a_pivot, from the words to each byte that
+-- is written, by computation. cases/scripts/worked writes this file.
 use Rattle.std.proofs.Common.{◌≡◌, ◌++◌, refl, ℕ, List, [], ◌∷◌, Option, Some, None, if◌then◌else◌}
 use Rattle.std.specs.Fmt as fmt
 use Rattle.std.specs.Prelude.{codes}

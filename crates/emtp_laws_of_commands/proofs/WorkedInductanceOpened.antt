@@ -1,5 +1,5 @@
 -- `run inductance_opened.case inductance_opened.cfg inductance_opened.dat` over the bytes of examples/inductance_opened, from the words to each byte that
--- is written, by computation. rows/scripts/worked writes this file.
+-- is written, by computation. cases/scripts/worked writes this file.
 use Rattle.std.proofs.Common.{◌≡◌, ◌++◌, refl, ℕ, List, [], ◌∷◌, Option, Some, None, if◌then◌else◌}
 use Rattle.std.specs.Fmt as fmt
 use Rattle.std.specs.Prelude.{codes}

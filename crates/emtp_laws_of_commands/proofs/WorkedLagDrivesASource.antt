@@ -1,5 +1,5 @@
--- `run lag_drives_a_source.case lag_drives_a_source.cfg lag_drives_a_source.dat` over the bytes of rows/control/lag_drives_a_source, from the words to each byte that
--- is written, by computation. rows/scripts/worked writes this file.
+-- `run lag_drives_a_source.case lag_drives_a_source.cfg lag_drives_a_source.dat` over the bytes of cases/control/lag_drives_a_source, from the words to each byte that
+-- is written, by computation. cases/scripts/worked writes this file.
 use Rattle.std.proofs.Common.{◌≡◌, ◌++◌, refl, ℕ, List, [], ◌∷◌, Option, Some, None, if◌then◌else◌}
 use Rattle.std.specs.Fmt as fmt
 use Rattle.std.specs.Prelude.{codes}

@@ -1,5 +1,5 @@
 -- `run losses_lumped_on_a_line.case losses_lumped_on_a_line.cfg losses_lumped_on_a_line.dat` over the bytes of examples/losses_lumped_on_a_line, from the words to each byte that
--- is written, by computation. rows/scripts/worked writes this file.
+-- is written, by computation. cases/scripts/worked writes this file.
 use Rattle.std.proofs.Common.{◌≡◌, ◌++◌, refl, ℕ, List, [], ◌∷◌, Option, Some, None, if◌then◌else◌}
 use Rattle.std.specs.Fmt as fmt
 use Rattle.std.specs.Prelude.{codes}

@@ -1,5 +1,5 @@
--- `run pulses_and_a_saw_tooth.case pulses_and_a_saw_tooth.cfg pulses_and_a_saw_tooth.dat` over the bytes of rows/control/pulses_and_a_saw_tooth, from the words to each byte that
--- is written, by computation. rows/scripts/worked writes this file.
+-- `run pulses_and_a_saw_tooth.case pulses_and_a_saw_tooth.cfg pulses_and_a_saw_tooth.dat` over the bytes of cases/control/pulses_and_a_saw_tooth, from the words to each byte that
+-- is written, by computation. cases/scripts/worked writes this file.
 use Rattle.std.proofs.Common.{◌≡◌, ◌++◌, refl, ℕ, List, [], ◌∷◌, Option, Some, None, if◌then◌else◌}
 use Rattle.std.specs.Fmt as fmt
 use Rattle.std.specs.Prelude.{codes}

@@ -1,5 +1,5 @@
--- `run reactor_keeps_its_slope_within_a_step.case reactor_keeps_its_slope_within_a_step.cfg reactor_keeps_its_slope_within_a_step.dat` over the bytes of rows/network/reactor_keeps_its_slope_within_a_step, from the words to each byte that
--- is written, by computation. rows/scripts/worked writes this file.
+-- `run reactor_keeps_its_slope_within_a_step.case reactor_keeps_its_slope_within_a_step.cfg reactor_keeps_its_slope_within_a_step.dat` over the bytes of cases/network/reactor_keeps_its_slope_within_a_step, from the words to each byte that
+-- is written, by computation. cases/scripts/worked writes this file.
 use Rattle.std.proofs.Common.{◌≡◌, ◌++◌, refl, ℕ, List, [], ◌∷◌, Option, Some, None, if◌then◌else◌}
 use Rattle.std.specs.Fmt as fmt
 use Rattle.std.specs.Prelude.{codes}

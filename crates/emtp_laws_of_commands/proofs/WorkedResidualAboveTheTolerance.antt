@@ -1,5 +1,5 @@
--- `run residual_above_the_tolerance.case residual_above_the_tolerance.cfg residual_above_the_tolerance.dat` over the bytes of rows/record/residual_above_the_tolerance, from the words to each byte that
--- is written, by computation. rows/scripts/worked writes this file.
+-- `run residual_above_the_tolerance.case residual_above_the_tolerance.cfg residual_above_the_tolerance.dat` over the bytes of cases/record/residual_above_the_tolerance, from the words to each byte that
+-- is written, by computation. cases/scripts/worked writes this file.
 use Rattle.std.proofs.Common.{◌≡◌, ◌++◌, refl, ℕ, List, [], ◌∷◌, Option, Some, None, if◌then◌else◌}
 use Rattle.std.specs.Fmt as fmt
 use Rattle.std.specs.Prelude.{codes}

@@ -1,5 +1,5 @@
--- `run source_tied_to_ground.case source_tied_to_ground.cfg source_tied_to_ground.dat` over the bytes of rows/record/source_tied_to_ground, from the words to each byte that
--- is written, by computation. rows/scripts/worked writes this file.
+-- `run source_tied_to_ground.case source_tied_to_ground.cfg source_tied_to_ground.dat` over the bytes of cases/record/source_tied_to_ground, from the words to each byte that
+-- is written, by computation. cases/scripts/worked writes this file.
 use Rattle.std.proofs.Common.{◌≡◌, ◌++◌, refl, ℕ, List, [], ◌∷◌, Option, Some, None, if◌then◌else◌}
 use Rattle.std.specs.Fmt as fmt
 use Rattle.std.specs.Prelude.{codes}

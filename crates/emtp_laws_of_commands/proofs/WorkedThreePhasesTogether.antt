@@ -1,5 +1,5 @@
--- `run three_phases_together.case three_phases_together.cfg three_phases_together.dat` over the bytes of rows/network/three_phases_together, from the words to each byte that
--- is written, by computation. rows/scripts/worked writes this file.
+-- `run three_phases_together.case three_phases_together.cfg three_phases_together.dat` over the bytes of cases/network/three_phases_together, from the words to each byte that
+-- is written, by computation. cases/scripts/worked writes this file.
 use Rattle.std.proofs.Common.{◌≡◌, ◌++◌, refl, ℕ, List, [], ◌∷◌, Option, Some, None, if◌then◌else◌}
 use Rattle.std.specs.Fmt as fmt
 use Rattle.std.specs.Prelude.{codes}

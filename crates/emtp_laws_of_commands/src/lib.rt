@@ -9,8 +9,8 @@
 //! // now `audit` over the files that `run` makes of a case is known to say AUDIT SAME
 //! ```
 //!
-//! Beside the laws stand worked runs (`proofs/Worked*.antt`): of a folder of `examples/` or `rows/` each byte that is written, by
-//! computation from the bytes of its case. `rows/scripts/worked` writes these files and compares them with the folders.
+//! Beside the laws stand worked runs (`proofs/Worked*.antt`): of a folder of `examples/` or `cases/` each byte that is written, by
+//! computation from the bytes of its case. `cases/scripts/worked` writes these files and compares them with the folders.
 #![tactic(auto)]
 
 mod records;

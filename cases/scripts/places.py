@@ -1,4 +1,4 @@
-"""Where the programs and the folders of their runs stand: examples/NAME, and rows/GROUP/NAME."""
+"""Where the programs and the folders of their runs stand: examples/NAME, and cases/GROUP/NAME."""
 import glob
 import os
 import subprocess
@@ -36,7 +36,7 @@ def command_line(program, words):
 def folders():
     """The path of each folder by its name, in the order of the names; no two folders have one name."""
     found = {}
-    for path in glob.glob(os.path.join(TOP, "examples", "*", "")) + glob.glob(os.path.join(TOP, "rows", "*", "*", "")):
+    for path in glob.glob(os.path.join(TOP, "examples", "*", "")) + glob.glob(os.path.join(TOP, "cases", "*", "*", "")):
         path = os.path.normpath(path)
         group, name = os.path.split(path)
         if group == SCRIPTS:
