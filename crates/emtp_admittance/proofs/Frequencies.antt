@@ -1,5 +1,6 @@
 -- The frequency of a source is in range.
 use Rattle.std.proofs.Common.{◌≡◌, ◌∙◌, sym, suc, ◌^◌, ℤ, pos, Bool, true, false, if◌then◌else◌, All, List, [], ◌∷◌, Option, Some, None, refl, arith}
+use Rattle.std.specs.Option.{option_or}
 use Rattle.std.specs.Ordering.{int_eq}
 use Rattle.std.proofs.lemmas.Int.{ints}
 use Rattle.std.proofs.lemmas.Bool.{true≢false}
@@ -11,7 +12,7 @@ use Rattle.emtp_case.specs.held.Source.{HasShapeNumbers, IsSource}
 use Rattle.emtp_case.specs.declared.source.Shape.{Shape}
 use Rattle.emtp_case.specs.declared.source.Shape.TheVariants.{Cosine, NodeVoltage, Pulse, Ramp, Saw, Step, SwitchCurrent, SwitchStatus, Tacs}
 use Rattle.emtp_case.specs.declared.source.Source.{Source}
-use Rattle.emtp_admittance.specs.Refusals.{first_frequency, frequency_in, or_later}
+use Rattle.emtp_admittance.specs.Refusals.{first_frequency, frequency_in}
 
 none_some : {X : Type 0} (x : X) → None ≡ Some x → ⊥
 none_some x e = cc
@@ -34,7 +35,7 @@ by_shape s (NodeVoltage node) freq numbers e = absurd (none_some freq e)
 by_shape s (SwitchCurrent switch) freq numbers e = absurd (none_some freq e)
 by_shape s (SwitchStatus switch) freq numbers e = absurd (none_some freq e)
 
-chosen : (o p : Option ℤ) (freq : ℤ) → (o ≡ Some freq → IsFrequency freq) → (p ≡ Some freq → IsFrequency freq) → or_later o p ≡ Some freq → IsFrequency freq
+chosen : (o p : Option ℤ) (freq : ℤ) → (o ≡ Some freq → IsFrequency freq) → (p ≡ Some freq → IsFrequency freq) → option_or o p ≡ Some freq → IsFrequency freq
 chosen None p freq first later e = later e
 chosen (Some f) p freq first later e = first e
 

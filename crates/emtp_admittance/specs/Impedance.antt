@@ -1,6 +1,7 @@
 -- The admittances of branches at a frequency, which is in micro-hertz.
 use Rattle.std.specs.Ordering.{int_eq}
 use Rattle.std.specs.Prelude.{◌||◌, ◌^◌, ◌*◌, ℤ, pos, neg_ℤ, ◌+ℤ◌, ◌-ℤ◌, ◌*ℤ◌, unsigned_abs, nat_lt, Bool, if◌then◌else◌, List, map, Option, Some, None, Result, Ok, Err}
+use Rattle.emtp_fix.specs.Chain.{unless}
 use Rattle.emtp_fix.specs.Rounding.{near}
 use Rattle.emtp_fix.specs.declared.limit.TheConstants.{ATTO, LARGEST_ENTRY, LARGEST_IMPEDANCE, PICO}
 use Rattle.emtp_case.specs.declared.branch.Branch.{Branch}
@@ -82,12 +83,23 @@ abbrev pub or_refused : Refusal → Option TwoPort → Result TwoPort Refusal
 or_refused reason None = Err reason
 or_refused reason (Some y) = Ok y
 
+-- why no frequency makes a branch good
+abbrev pub barring_reason : Branch → Option Refusal
+barring_reason (OfLumped b) = None
+barring_reason (OfLine b) = if int_eq b.r (pos 0) then None else Some Loss
+barring_reason (OfPseudo b) = Some Nonlinear
+barring_reason (OfPhase b) = Some Phases
+
+-- the two-port of a branch that isn't barred
+abbrev pub linear_port : ℤ → Branch → Option TwoPort
+linear_port freq (OfLumped b) = series_port (angular_frequency freq) b
+linear_port freq (OfLine b) = line_port freq b
+linear_port freq (OfPseudo b) = None
+linear_port freq (OfPhase b) = None
+
 -- the two-port of a branch, or why it has none
 abbrev pub port_of : ℤ → Branch → Result TwoPort Refusal
-port_of freq (OfLumped b) = or_refused Impedance (series_port (angular_frequency freq) b)
-port_of freq (OfLine b) = if int_eq b.r (pos 0) then or_refused Impedance (line_port freq b) else Err Loss
-port_of freq (OfPseudo b) = Err Nonlinear
-port_of freq (OfPhase b) = Err Phases
+port_of freq b = unless (barring_reason b) (λ reason. reason) (or_refused Impedance (linear_port freq b))
 
 abbrev pub port_or_none : Result TwoPort Refusal → TwoPort
 port_or_none (Ok y) = y

@@ -1,16 +1,17 @@
 -- Which cases can be scanned, and the one source that a scan wants.
 use Rattle.std.specs.Ordering.{int_eq}
 use Rattle.std.specs.Prelude.{pos, int_lt, nat_lt, ◌&&◌, Bool, false, if◌then◌else◌, List, [], ◌∷◌, length, Option, Some, None, Result, Ok, Err}
+use Rattle.emtp_case.specs.Branch.{line_of}
 use Rattle.emtp_case.specs.declared.branch.Branch.{Branch}
-use Rattle.emtp_case.specs.declared.branch.Branch.TheVariants.{Lumped as OfLumped, Line as OfLine, Pseudo as OfPseudo, Phase as OfPhase}
 use Rattle.emtp_case.specs.declared.case.Parts.{Parts}
 use Rattle.emtp_case.specs.declared.source.Shape.{Shape}
 use Rattle.emtp_case.specs.declared.source.Shape.TheVariants.{Cosine, NodeVoltage, Pulse, Ramp, Saw, Step, SwitchCurrent, SwitchStatus, Tacs}
 use Rattle.emtp_case.specs.declared.source.Source.{Source}
-use Rattle.emtp_admittance.specs.Refusals.{at_line_one, control_cards, least_refusal, sooner, switch_refused}
+use Rattle.emtp_admittance.specs.Impedance.{barring_reason}
+use Rattle.emtp_admittance.specs.Refusals.{at_line_one, control_cards, least_refusal, least_switch, refused_in, sooner}
 use Rattle.emtp_admittance.specs.declared.limit.TheConstants.{MOST_PHASOR_NODES}
 use Rattle.emtp_admittance.specs.declared.probe.Probe.{Probe}
-use Rattle.emtp_admittance.specs.declared.refusal.Refusal.TheVariants.{Loss, Nonlinear, Phases, Probe as NoProbe, Size}
+use Rattle.emtp_admittance.specs.declared.refusal.Refusal.TheVariants.{Probe as NoProbe, Size}
 use Rattle.emtp_admittance.specs.declared.refusal.Refused.{Refused}
 
 -- ---- the source
@@ -43,14 +44,11 @@ probe_in (s ∷ other ∷ rest) = None
 
 -- a branch that no frequency makes good
 abbrev pub branch_barred : Branch → Option Refused
-branch_barred (OfLumped b) = None
-branch_barred (OfLine b) = if int_eq b.r (pos 0) then None else Some (record { line = b.line; reason = Loss })
-branch_barred (OfPseudo b) = Some (record { line = b.line; reason = Nonlinear })
-branch_barred (OfPhase b) = Some (record { line = b.line; reason = Phases })
+branch_barred b = refused_in (line_of b) (barring_reason b)
 
 -- the card of the least line that no frequency makes good
 abbrev pub card_barred : Parts → Option Refused
-card_barred case = sooner (control_cards case) (sooner (least_refusal switch_refused case.switches) (least_refusal branch_barred case.branches))
+card_barred case = sooner (control_cards case) (sooner (least_switch case) (least_refusal branch_barred case.branches))
 
 abbrev pub unless_barred : Option Refused → Probe → Result Probe Refused
 unless_barred None probe = Ok probe

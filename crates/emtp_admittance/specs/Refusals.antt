@@ -1,5 +1,6 @@
 -- Which cards are refused.
 use Rattle.std.specs.Ordering.{int_eq}
+use Rattle.std.specs.Option.{ok_or, option_or}
 use Rattle.std.specs.Prelude.{ℕ, ℤ, pos, nat_le, nat_lt, Bool, true, false, if◌then◌else◌, List, [], ◌∷◌, length, Option, Some, None, Result, Ok, Err}
 use Rattle.emtp_case.specs.Branch.{line_of}
 use Rattle.emtp_case.specs.declared.branch.Branch.{Branch}
@@ -31,6 +32,11 @@ abbrev pub least_refusal : {X : Type 0} → (X → Option Refused) → List X �
 least_refusal f [] = None
 least_refusal f (x ∷ xs) = sooner (f x) (least_refusal f xs)
 
+-- the card in this line, where there is a reason to refuse it
+abbrev pub refused_in : ℕ → Option Refusal → Option Refused
+refused_in line None = None
+refused_in line (Some reason) = Some (record { line = line; reason = reason })
+
 -- ---- branches
 
 abbrev pub refused_as : ℕ → Result TwoPort Refusal → Option Refused
@@ -39,6 +45,9 @@ refused_as line (Err reason) = Some (record { line = line; reason = reason })
 
 abbrev pub branch_refused : ℤ → Branch → Option Refused
 branch_refused freq b = refused_as (line_of b) (port_of freq b)
+
+abbrev pub least_branch : Parts → ℤ → Option Refused
+least_branch case freq = least_refusal (branch_refused freq) case.branches
 
 -- ---- sources
 
@@ -58,6 +67,9 @@ is_cosine asked (SwitchStatus switch) = false
 abbrev pub source_refused : Option ℤ → Source → Option Refused
 source_refused asked s = if is_cosine asked s.shape then None else Some (record { line = s.line; reason = OfSource })
 
+abbrev pub least_source : Parts → Option ℤ → Option Refused
+least_source case asked = least_refusal (source_refused asked) case.sources
+
 -- ---- switches and the control
 
 abbrev pub kind_refused : ℕ → SwitchKind → Option Refused
@@ -68,6 +80,9 @@ kind_refused line (ControlSwitch control) = Some (record { line = line; reason =
 
 abbrev pub switch_refused : Switch → Option Refused
 switch_refused s = kind_refused s.line s.kind
+
+abbrev pub least_switch : Parts → Option Refused
+least_switch case = least_refusal switch_refused case.switches
 
 abbrev pub control_refused : ℕ → Option Refused
 control_refused line = Some (record { line = line; reason = OfControl })
@@ -87,8 +102,7 @@ control_cards case =
 -- the refusal with the least line, where the frequency is this and the sources have to have the one that is asked for
 abbrev pub least_refused : Parts → ℤ → Option ℤ → Option Refused
 least_refused case freq asked =
-    sooner (control_cards case)
-    (sooner (least_refusal switch_refused case.switches) (sooner (least_refusal (branch_refused freq) case.branches) (least_refusal (source_refused asked) case.sources)))
+    sooner (control_cards case) (sooner (least_switch case) (sooner (least_branch case freq) (least_source case asked)))
 
 -- the first frequency of a cosine source that isn't 0
 abbrev pub frequency_in : Shape → Option ℤ
@@ -102,25 +116,17 @@ frequency_in (NodeVoltage node) = None
 frequency_in (SwitchCurrent switch) = None
 frequency_in (SwitchStatus switch) = None
 
-abbrev pub or_later : Option ℤ → Option ℤ → Option ℤ
-or_later None b = b
-or_later (Some a) b = Some a
-
 abbrev pub first_frequency : List Source → Option ℤ
 first_frequency [] = None
-first_frequency (s ∷ rest) = or_later (frequency_in s.shape) (first_frequency rest)
+first_frequency (s ∷ rest) = option_or (frequency_in s.shape) (first_frequency rest)
 
 abbrev pub at_line_one : Refusal → Refused
 at_line_one reason = record { line = 1; reason = reason }
 
-abbrev pub found_in : Option ℤ → Result ℤ Refused
-found_in None = Err (at_line_one NoSource)
-found_in (Some freq) = Ok freq
-
 -- the given frequency, or the first one of a source
 abbrev pub frequency_of : Option ℤ → Parts → Result ℤ Refused
 frequency_of (Some freq) case = Ok freq
-frequency_of None case = found_in (first_frequency case.sources)
+frequency_of None case = ok_or (first_frequency case.sources) (at_line_one NoSource)
 
 -- sources have to have the frequency where none was given
 abbrev pub frequency_asked : Option ℤ → ℤ → Option ℤ

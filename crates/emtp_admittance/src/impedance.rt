@@ -1,12 +1,12 @@
 //! The admittances of branches at a frequency.
 
-ghost use Rattle.std.specs.Prelude.{◌≡◌, ◌≢◌, ◌*◌, ◌^◌, ◌≤◌, ◌-ℤ◌, ◌*ℤ◌, pos, ℕ, unsigned_abs, false, IfSome, IfOk};
+ghost use Rattle.std.specs.Prelude.{◌≡◌, ◌≢◌, ◌*◌, ◌^◌, ◌≤◌, ◌-ℤ◌, ◌*ℤ◌, pos, unsigned_abs, false, IfSome, IfOk};
 ghost use Rattle.emtp_case.specs.held.Range.{IsBetween};
 ghost use Rattle.emtp_admittance.specs.held.Frequency.{IsFrequency};
 ghost use Rattle.emtp_fix.specs.Rounding.{near};
-ghost use Rattle.emtp_fix.specs.declared.limit.TheConstants.{ATTO, LARGEST_CAPACITANCE, LARGEST_ENTRY, LARGEST_IMPEDANCE, LARGEST_INDUCTANCE, LARGEST_TIME, LARGEST_WIDE, LEAST_IMPEDANCE};
+ghost use Rattle.emtp_fix.specs.declared.limit.TheConstants.{ATTO, LARGEST_CAPACITANCE, LARGEST_ENTRY, LARGEST_IMPEDANCE, LARGEST_INDUCTANCE, LARGEST_TIME, LEAST_IMPEDANCE};
 ghost use Rattle.emtp_admittance.specs.held.Admittances.{IsSmallAdmittance, IsSmallPort};
-ghost use Rattle.emtp_admittance.specs.Impedance.{across_ends, across_impedance, angular_frequency, capacitive_reactance, inductive_reactance, inverse, is_too_large, line_port, lossless_port, or_refused, port_of, reactance_port, series_port, squared, susceptance, turn_port, opposite_admittance};
+ghost use Rattle.emtp_admittance.specs.Impedance.{across_ends, across_impedance, angular_frequency, barring_reason, capacitive_reactance, inductive_reactance, inverse, is_too_large, line_port, linear_port, lossless_port, or_refused, port_of, reactance_port, series_port, squared, susceptance, turn_port, opposite_admittance};
 ghost use Rattle.emtp_admittance.specs.held.Numbers.{HasPortNumbers};
 
 use crate::admittance::{Admittance, TwoPort};
@@ -281,6 +281,32 @@ fn or_refused(reason: Refusal, port: Option<TwoPort>) -> Result<TwoPort, Refusal
     }
 }
 
+/// Why no frequency makes a branch good.
+pub(crate) fn barring_reason(branch: &Branch) -> Option<Refusal>
+    ensures { result ≡ barring_reason branch.now }
+{
+    match branch {
+        Branch::Lumped(_) => None,
+        Branch::Line(b) => { if b.r == 0 { None } else { Some(Refusal::Loss) } }
+        Branch::Pseudo(_) => Some(Refusal::Nonlinear),
+        Branch::Phase(_) => Some(Refusal::Phases),
+    }
+}
+
+/// The two-port of a branch that isn't barred.
+fn linear_port(table: &CosTable, freq: i64, branch: &Branch) -> Option<TwoPort>
+    requires freq { IsFrequency freq }
+    requires numbers { HasPortNumbers branch.now }
+    ensures value { result ≡ linear_port freq branch.now }
+    ensures small { IfSome result IsSmallPort }
+{
+    match branch {
+        Branch::Lumped(b) => series_port(angular_frequency(freq), b),
+        Branch::Line(b) => line_port(table, freq, b),
+        Branch::Pseudo(_) | Branch::Phase(_) => None,
+    }
+}
+
 /// The two-port of a branch, or why it has none.
 pub fn branch_port(table: &CosTable, freq: i64, branch: &Branch) -> Result<TwoPort, Refusal>
     requires freq { IsFrequency freq }
@@ -288,18 +314,8 @@ pub fn branch_port(table: &CosTable, freq: i64, branch: &Branch) -> Result<TwoPo
     ensures value { result ≡ port_of freq branch.now }
     ensures small { IfOk result IsSmallPort }
 {
-    match branch {
-        Branch::Lumped(b) => {
-            or_refused(Refusal::Impedance, series_port(angular_frequency(freq), b))
-        }
-        Branch::Line(b) => {
-            if b.r == 0 {
-                or_refused(Refusal::Impedance, line_port(table, freq, b))
-            } else {
-                Err(Refusal::Loss)
-            }
-        }
-        Branch::Pseudo(_) => Err(Refusal::Nonlinear),
-        Branch::Phase(_) => Err(Refusal::Phases),
+    match barring_reason(branch) {
+        Some(reason) => Err(reason),
+        None => or_refused(Refusal::Impedance, linear_port(table, freq, branch)),
     }
 }

@@ -5,7 +5,7 @@ ghost use Rattle.emtp_admittance.specs.held.Admittances.{IsSmallPort};
 ghost use Rattle.emtp_admittance.specs.held.Frequency.{IsFrequency};
 ghost use Rattle.emtp_admittance.specs.held.Numbers.{HasPortNumbers};
 ghost use Rattle.emtp_admittance.specs.Impedance.{port_of, port_or_none, ports_of};
-ghost use Rattle.emtp_admittance.specs.Refusals.{branch_refused, judged_frequency, least_refusal, least_refused};
+ghost use Rattle.emtp_admittance.specs.Refusals.{branch_refused, judged_frequency, least_branch, least_refused};
 
 use crate::admittance::{Admittance, TwoPort};
 use crate::impedance::branch_port;
@@ -50,17 +50,16 @@ fn judged_port(table: &CosTable, freq: i64, b: &Branch) -> (TwoPort, Option<Refu
 fn put_ports(table: &CosTable, case: &Case, freq: i64, out: &mut [TwoPort]) -> Option<Refused>
     requires freq { IsFrequency freq }
     requires out { length out.old ≡ length case.now.parts.branches }
-    ensures refused { result ≡ least_refusal (branch_refused freq) case.now.parts.branches }
+    ensures refused { result ≡ least_branch case.now.parts freq }
     ensures ports { out.new ≡ ports_of case.now.parts freq }
     ensures small { All IsSmallPort out.new }
 {
     let cards = case.parts.branches.as_slice();
     let mut best = None;
-    for step in 0..cards.len() {
-        let at = cards.len() - 1 - step;
+    for at in 0..cards.len() {
         let (port, refused) = judged_port(table, freq, &cards[at]);
         out[at] = port;
-        best = sooner(refused, best);
+        best = sooner(best, refused);
     }
     best
 }

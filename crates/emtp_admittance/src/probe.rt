@@ -6,8 +6,9 @@ ghost use Rattle.emtp_admittance.specs.held.Probes.{IsProbe};
 ghost use Rattle.emtp_admittance.specs.Refusals.{least_refusal};
 ghost use Rattle.emtp_admittance.specs.declared.limit.TheConstants.{MOST_PHASOR_NODES};
 
+use crate::impedance::barring_reason;
 use crate::limit::MOST_PHASOR_NODES;
-use crate::refusal::{Refusal, Refused, sooner};
+use crate::refusal::{Refusal, Refused, least_refusal, refused_in, sooner};
 use crate::refusals::{control_cards, least_switch};
 use emtp_case::{Branch, Case, Shape, Source};
 
@@ -62,39 +63,14 @@ fn probe_in(sources: &[Source]) -> Option<Probe>
 fn branch_barred(branch: &Branch) -> Option<Refused>
     ensures { result ≡ branch_barred branch.now }
 {
-    match branch {
-        Branch::Lumped(_) => None,
-        Branch::Line(b) => {
-            if b.r == 0 {
-                None
-            } else {
-                Some(Refused {
-                    line: b.line,
-                    reason: Refusal::Loss,
-                })
-            }
-        }
-        Branch::Pseudo(b) => Some(Refused {
-            line: b.line,
-            reason: Refusal::Nonlinear,
-        }),
-        Branch::Phase(b) => Some(Refused {
-            line: b.line,
-            reason: Refusal::Phases,
-        }),
-    }
+    refused_in(branch.line(), barring_reason(branch))
 }
 
 /// The first branch that no frequency makes good.
 fn least_barred(case: &Case) -> Option<Refused>
     ensures { result ≡ least_refusal branch_barred case.now.parts.branches }
 {
-    let cards = case.parts.branches.as_slice();
-    let mut best = None;
-    for step in 0..cards.len() {
-        best = sooner(branch_barred(&cards[cards.len() - 1 - step]), best);
-    }
-    best
+    least_refusal(case.parts.branches.as_slice(), |b| branch_barred(b))
 }
 
 fn card_barred(case: &Case) -> Option<Refused>

@@ -1,18 +1,16 @@
 //! Which card of a case is refused.
 
-ghost use Rattle.std.specs.Prelude.{◌≡◌, ◌≤◌, ◌^◌, length, IfOk, OnOk};
-ghost use Rattle.emtp_admittance.specs.held.Frequency.{IsFrequency};
-ghost use Rattle.emtp_admittance.specs.declared.limit.TheConstants.{MOST_PHASOR_NODES};
-ghost use Rattle.emtp_case.specs.declared.source.Source.{Source};
-ghost use Rattle.emtp_case.specs.declared.control.Block.{Block};
+ghost use Rattle.std.specs.Prelude.{◌≡◌, ◌≤◌, length, IfOk, OnOk};
 ghost use Rattle.std.specs.Option.{ForSome};
+ghost use Rattle.emtp_admittance.specs.declared.limit.TheConstants.{MOST_PHASOR_NODES};
+ghost use Rattle.emtp_admittance.specs.held.Frequency.{IsFrequency};
 ghost use Rattle.emtp_admittance.specs.held.Numbers.{HasPortNumbers};
-ghost use Rattle.emtp_admittance.specs.Refusals.{branch_refused, control_cards, control_refused, control_line, first_frequency, frequency_in, is_cosine, judged_frequency, kind_refused, least_refusal, least_refused, refused_as, source_refused, switch_refused, unless_refused};
+ghost use Rattle.emtp_admittance.specs.Refusals.{branch_refused, control_cards, control_line, control_refused, first_frequency, frequency_in, is_cosine, judged_frequency, kind_refused, least_branch, least_refused, least_source, least_switch, refused_as, source_refused, switch_refused, unless_refused};
 
 use crate::admittance::TwoPort;
 use crate::impedance::branch_port;
 use crate::limit::MOST_PHASOR_NODES;
-use crate::refusal::{Refusal, Refused, sooner};
+use crate::refusal::{Refusal, Refused, least_refusal, sooner};
 use emtp_case::{Branch, Case, Extra, Shape, Source, Switch, SwitchKind};
 use emtp_wave::CosTable;
 
@@ -37,15 +35,12 @@ fn branch_refused(table: &CosTable, freq: i64, b: &Branch) -> Option<Refused>
 /// The first refused branch at a frequency.
 pub(crate) fn least_branch(table: &CosTable, case: &Case, freq: i64) -> Option<Refused>
     requires { IsFrequency freq }
-    ensures { result ≡ least_refusal (branch_refused freq) case.now.parts.branches }
+    ensures { result ≡ least_branch case.now.parts freq }
 {
     let cards = case.parts.branches.as_slice();
     let mut best = None;
-    for step in 0..cards.len() {
-        best = sooner(
-            branch_refused(table, freq, &cards[cards.len() - 1 - step]),
-            best,
-        );
+    for at in 0..cards.len() {
+        best = sooner(best, branch_refused(table, freq, &cards[at]));
     }
     best
 }
@@ -77,14 +72,9 @@ fn source_refused(asked: Option<i64>, s: &Source) -> Option<Refused>
 
 /// The first refused source.
 pub(crate) fn least_source(case: &Case, asked: Option<i64>) -> Option<Refused>
-    ensures { result ≡ least_refusal (source_refused asked) case.now.parts.sources }
+    ensures { result ≡ least_source case.now.parts asked }
 {
-    let cards = case.parts.sources.as_slice();
-    let mut best = None;
-    for step in 0..cards.len() {
-        best = sooner(source_refused(asked, &cards[cards.len() - 1 - step]), best);
-    }
-    best
+    least_refusal(case.parts.sources.as_slice(), |s| source_refused(asked, s))
 }
 
 fn kind_refused(line: u32, kind: SwitchKind) -> Option<Refused>
@@ -107,14 +97,9 @@ fn switch_refused(s: &Switch) -> Option<Refused>
 
 /// The first refused switch.
 pub(crate) fn least_switch(case: &Case) -> Option<Refused>
-    ensures { result ≡ least_refusal switch_refused case.now.parts.switches }
+    ensures { result ≡ least_switch case.now.parts }
 {
-    let cards = case.parts.switches.as_slice();
-    let mut best = None;
-    for step in 0..cards.len() {
-        best = sooner(switch_refused(&cards[cards.len() - 1 - step]), best);
-    }
-    best
+    least_refusal(case.parts.switches.as_slice(), |s| switch_refused(s))
 }
 
 fn control_refused(line: u32) -> Option<Refused>
@@ -135,53 +120,20 @@ fn extra_line(x: &Extra) -> u32
     }
 }
 
-fn least_tacs_source(case: &Case) -> Option<Refused>
-    ensures { result ≡ least_refusal (λ (s : Source). control_refused s.line) case.now.parts.tacs_sources }
-{
-    let cards = case.parts.tacs_sources.as_slice();
-    let mut best = None;
-    for step in 0..cards.len() {
-        best = sooner(control_refused(cards[cards.len() - 1 - step].line), best);
-    }
-    best
-}
-
-fn least_block(case: &Case) -> Option<Refused>
-    ensures { result ≡ least_refusal (λ (b : Block). control_refused b.line) case.now.parts.blocks }
-{
-    let cards = case.parts.blocks.as_slice();
-    let mut best = None;
-    for step in 0..cards.len() {
-        best = sooner(control_refused(cards[cards.len() - 1 - step].line), best);
-    }
-    best
-}
-
-fn extra_refused(x: &Extra) -> Option<Refused>
-    ensures { result ≡ control_refused (control_line x.now) }
-{
-    control_refused(extra_line(x))
-}
-
-fn least_extra(case: &Case) -> Option<Refused>
-    ensures { result ≡ least_refusal (λ x. control_refused (control_line x)) case.now.parts.extras }
-{
-    let cards = case.parts.extras.as_slice();
-    let mut best = None;
-    for step in 0..cards.len() {
-        best = sooner(extra_refused(&cards[cards.len() - 1 - step]), best);
-    }
-    best
-}
-
 /// The first card of the control, which no frequency makes good.
 pub(crate) fn control_cards(case: &Case) -> Option<Refused>
     ensures { result ≡ control_cards case.now.parts }
 {
-    sooner(
-        least_tacs_source(case),
-        sooner(least_block(case), least_extra(case)),
-    )
+    let source = least_refusal(
+        case.parts.tacs_sources.as_slice(),
+        |s| control_refused(s.line),
+    );
+    let block = least_refusal(case.parts.blocks.as_slice(), |b| control_refused(b.line));
+    let extra = least_refusal(
+        case.parts.extras.as_slice(),
+        |x| control_refused(extra_line(x)),
+    );
+    sooner(source, sooner(block, extra))
 }
 
 /// The refused card of the least line.

@@ -1,10 +1,10 @@
-use Rattle.std.proofs.Common.{◌≡◌, ◌-◌, length, drop}
-use Rattle.emtp_admittance.specs.held.Ports.{ArePortsFrom}
-use Rattle.emtp_admittance.specs.Refusals.{branch_refused, least_refusal}
+use Rattle.std.proofs.Common.{◌≡◌, drop}
+use Rattle.emtp_admittance.specs.held.Ports.{AreFirstPorts}
+use Rattle.emtp_admittance.specs.Refusals.{branch_refused, least_branch, least_refusal, sooner}
 use Rattle.emtp_admittance.proofs.ports.put_ports.Given as goal
 
-abbrev pub invariant-loop-step : goal.invariant-loop-step
-invariant-loop-step l = record {
-  refused : l.best ≡ least_refusal (branch_refused l.freq) (drop (length l.case.parts.branches - l.step) l.case.parts.branches);
-  ports : ArePortsFrom l.case.parts l.freq l.out (length l.case.parts.branches - l.step);
+abbrev pub invariant-loop-at : goal.invariant-loop-at
+invariant-loop-at l = record {
+  refused : least_branch l.case.parts l.freq ≡ sooner l.best (least_refusal (branch_refused l.freq) (drop l.at l.case.parts.branches));
+  ports : AreFirstPorts l.case.parts l.freq l.out l.at;
 }
