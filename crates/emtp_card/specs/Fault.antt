@@ -5,6 +5,7 @@ use Rattle.emtp_card.specs.Reason.{reason_number}
 use Rattle.emtp_card.specs.declared.fault.Fault.{Fault}
 use Rattle.emtp_card.specs.declared.reason.Bad.{Bad}
 use Rattle.emtp_card.specs.declared.reason.Why.{Why}
+use Rattle.emtp_card.specs.declared.reason.Why.TheVariants.{OutOfUnitRange}
 
 -- by the lesser column, and there by the lesser number
 abbrev pub comes_before : Fault → Fault → Bool
@@ -25,6 +26,17 @@ abbrev pub filled_with : {A : Type 0} → A → Result (Option A) Why → Result
 filled_with blank (Ok None) = Ok blank
 filled_with blank (Ok (Some x)) = Ok x
 filled_with blank (Err why) = Err why
+
+-- a field that can't be blank
+abbrev pub required : {A : Type 0} → Result (Option A) Why → Result A Why
+required (Ok None) = Err OutOfUnitRange
+required (Ok (Some x)) = Ok x
+required (Err why) = Err why
+
+-- a field, its fault in its first column
+abbrev pub in_column : {A : Type 0} → ℕ → Result A Why → Result A Fault
+in_column column (Ok x) = Ok x
+in_column column (Err why) = Err (record { column = column; why = why })
 
 -- the refusal of a fault on a line
 abbrev pub bad_at : ℕ → Fault → Bad

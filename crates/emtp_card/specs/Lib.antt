@@ -6,6 +6,7 @@ pub mod Field
 pub mod Decimal
 pub mod Numeral
 pub mod Number
+pub mod NumberField
 pub mod Whole
 pub mod Name
 pub mod Fault

@@ -4,6 +4,7 @@ pub mod Fault
 pub mod Field
 pub mod Lines
 pub mod Number
+pub mod NumberField
 pub mod Numeral
 pub mod Rounding
 pub mod Whole

@@ -3,15 +3,12 @@
 //! A card reader is a table: an array with one entry a field or rule, alike in the code and in its definition, and
 //! [`least`] of it. So no reader keeps an order of columns, and a rule is silent where one of its fields is refused.
 
-ghost use Rattle.std.specs.Prelude.{◌≡◌, ◌≤◌, ◌≤ℤ◌, length, option_map, pos, IfOk, IfSome};
-ghost use Rattle.emtp_card.specs.Fault.{bad_at, comes_before, filled_with, judge, least, lesser};
+ghost use Rattle.std.specs.Prelude.{◌≡◌, ◌≤◌, length, option_map, IfSome};
+ghost use Rattle.emtp_card.specs.Fault.{bad_at, comes_before, in_column, judge, least, lesser};
 ghost use Rattle.emtp_card.specs.held.Fault.{IsLeastOf, fault_at, judge_due};
-ghost use Rattle.emtp_card.specs.Number.{number_field};
-ghost use Rattle.emtp_card.specs.held.Number.{IsWithin};
 
 use crate::cards::MAX_BYTES;
 use crate::lines::{Line, ends_section, line_fault};
-use crate::number::field_number;
 use crate::reason::{Bad, Why};
 
 /// A fault of a card: its column, counted from 1, and the reason.
@@ -41,6 +38,16 @@ impl Fault {
             column: self.column,
             why: self.why,
         }
+    }
+}
+
+/// A field that begins in this column.
+pub fn in_column<T: Copy>(column: u32, field: Result<T, Why>) -> Result<T, Fault>
+    ensures { result ≡ in_column column field }
+{
+    match field {
+        Ok(value) => Ok(value),
+        Err(why) => Err(Fault { column, why }),
     }
 }
 
@@ -110,33 +117,5 @@ fn on_line(line: u32, fields: Option<Fault>) -> Option<Bad>
     match fields {
         Some(fault) => Some(fault.on_line(line)),
         None => None,
-    }
-}
-
-/// A number field in which a blank means `blank`; columns, scale, range and reasons are those of [`field_number`].
-pub fn number_or(
-    blank: i64,
-    line: &[u8],
-    first: usize,
-    last: usize,
-    scale: i32,
-    low: i64,
-    high: i64,
-) -> Result<i64, Why>
-    requires first { 1 ≤ first }
-    requires order { first ≤ last }
-    requires last { last ≤ 80 }
-    requires scale_low { pos 0 ≤ℤ scale }
-    requires scale_high { scale ≤ℤ pos 18 }
-    requires range { low ≤ℤ high }
-    requires blank_low { low ≤ℤ blank }
-    requires blank_high { blank ≤ℤ high }
-    ensures value { result ≡ filled_with blank (number_field line.now first last scale low high) }
-    ensures range { IfOk result (IsWithin low high) }
-{
-    match field_number(line, first, last, scale, low, high) {
-        Ok(Some(value)) => Ok(value),
-        Ok(None) => Ok(blank),
-        Err(why) => Err(why),
     }
 }
