@@ -2,9 +2,10 @@
 use Rattle.std.proofs.Common.{◌≡◌, ◌∙◌, ap, sym, subst, refl, ℕ, ◌^◌, ℤ, pos, ◌*ℤ◌, ◌≤ℤ◌, int_le, int_lt, Bool, true, false, ◌&&◌, List, Option, Some, None, Result, Ok, Err, if◌then◌else◌, arith}
 use Rattle.std.proofs.lemmas.Int.{ints}
 use Rattle.emtp_card.specs.Lines.{fault_of_line}
-use Rattle.emtp_card.specs.Number.{number_field}
+use Rattle.emtp_card.specs.NumberField.{number_or}
 use Rattle.emtp_card.specs.held.Number.{IsWithin}
 use Rattle.emtp_card.specs.declared.fault.Fault.{Fault}
+use Rattle.emtp_card.specs.declared.number_field.NumberField.{NumberField}
 use Rattle.emtp_card.specs.declared.reason.Why.TheVariants.{BadImpedance, OutOfUnitRange, ShortLine}
 use Rattle.emtp_case.specs.Branch.{line_impedance, series_impedance}
 use Rattle.emtp_case.specs.held.Branch.{HasLineNumbers, HasSeriesNumbers}
@@ -12,9 +13,9 @@ use Rattle.emtp_case.specs.held.Range.{IsBetween}
 use Rattle.emtp_fix.specs.declared.limit.TheConstants.{LARGEST_IMPEDANCE, LARGEST_TIME, LEAST_IMPEDANCE}
 use Rattle.emtp_fix.specs.Rounding.{near}
 use Rattle.emtp_netcards.specs.BranchCard.{branch_card, copies_of, fields_of, kind_field, own_values, read_values, resistor_values, values_of}
-use Rattle.emtp_netcards.specs.Fields.{asked_field, ends_field, zero_in}
+use Rattle.emtp_netcards.specs.Fields.{asked_field, ends_field}
 use Rattle.emtp_netcards.specs.LineValues as lines
-use Rattle.emtp_netcards.specs.LineValues.{delay_of, form_field, is_surge, length_field, line_values, surge_by, surge_of, time_of, total_of, values_by, zc_of}
+use Rattle.emtp_netcards.specs.LineValues.{delay_of, form_field, is_surge, length_field, line_values, surge_by, surge_of, time_of, total_of, zc_of}
 use Rattle.emtp_netcards.specs.Reading.{◌>>=◌, both, in_column}
 use Rattle.emtp_netcards.specs.SeriesValues as series
 use Rattle.emtp_netcards.specs.SeriesValues.{is_branch_impedance, series_of, series_values}
@@ -25,22 +26,35 @@ use Rattle.emtp_netcards.specs.declared.branch_card.BranchKind.{BranchKind}
 use Rattle.emtp_netcards.specs.declared.branch_card.BranchKind.TheVariants.{Line as LineKind, Reactor as ReactorKind, Resistor as ResistorKind, Second as SecondKind, Series as SeriesKind, Third as ThirdKind}
 use Rattle.emtp_netcards.specs.declared.branch_card.BranchValues.{BranchValues}
 use Rattle.emtp_netcards.specs.declared.branch_card.BranchValues.TheVariants.{Copied as CopiedCard, Line as LineCard, Lumped as LumpedCard, Reactor as ReactorCard, Resistor as ResistorCard, Second as SecondCard, Third as ThirdCard}
+use Rattle.emtp_netcards.specs.declared.branch_card.TheConstants.{DELAY, FLASHOVER, JUMP}
 use Rattle.emtp_netcards.specs.declared.line_values.LineValues.{LineValues}
 use Rattle.emtp_netcards.specs.declared.line_values.Surge.{Surge}
+use Rattle.emtp_netcards.specs.declared.line_values.TheConstants.{LENGTH, RESISTANCE as UNIT_RESISTANCE}
 use Rattle.emtp_netcards.specs.declared.series_values.SeriesValues.{SeriesValues}
+use Rattle.emtp_netcards.specs.declared.series_values.TheConstants.{CAPACITANCE, INDUCTANCE, RESISTANCE, WIDE_CAPACITANCE, WIDE_INDUCTANCE, WIDE_RESISTANCE}
 use Rattle.emtp_netcards.proofs.Lines.{nonneg, total_between}
 use Rattle.emtp_netcards.proofs.Readings.{by, each_of, field_of_column, then_read, whole_by}
-use Rattle.emtp_netcards.proofs.FieldRanges.{filled_is, number_within, required_is}
+use Rattle.emtp_netcards.proofs.FieldRanges.{number_or_is, required_within}
 use Rattle.emtp_netcards.proofs.SwitchRanges.{asked_is, ends_are}
 
 -- ---- a series branch
 
-part_is : (line : List ℕ) (first last : ℕ) (scale x : ℤ) → series.part_field line first last scale ≡ Ok x → IsBetween 0 (10 ^ 15) x
-part_is line first last scale x e =
-    let w = filled_is (IsWithin (pos 0) (pos (10 ^ 15))) (pos 0) (number_field line first last scale (pos 0) (pos (10 ^ 15))) x
-    (record { least = omega (arith, ints); most = omega (arith, ints) })
-    (number_within line first last scale (pos 0) (pos (10 ^ 15))) (field_of_column first _ x e) in
-    record { least = w.least; most = w.most }
+part_is : (f : NumberField) → f.low ≡ pos 0 → f.high ≡ pos (10 ^ 15) → (line : List ℕ) (x : ℤ) → number_or f (pos 0) line ≡ Ok x → IsBetween 0 (10 ^ 15) x
+part_is f low high line x e =
+    let w = number_or_is f (pos 0) line x (record { least = omega (arith, ints, low); most = omega (arith, ints, high) }) e in
+    record { least = omega (arith, ints, low, w.least); most = omega (arith, ints, high, w.most) }
+
+r_is : (line : List ℕ) (wide : Bool) (x : ℤ) → series.r_field line wide ≡ Ok x → IsBetween 0 (10 ^ 15) x
+r_is line true x e = part_is WIDE_RESISTANCE refl refl line x e
+r_is line false x e = part_is RESISTANCE refl refl line x e
+
+l_is : (line : List ℕ) (wide : Bool) (x : ℤ) → series.l_field line wide ≡ Ok x → IsBetween 0 (10 ^ 15) x
+l_is line true x e = part_is WIDE_INDUCTANCE refl refl line x e
+l_is line false x e = part_is INDUCTANCE refl refl line x e
+
+c_is : (line : List ℕ) (wide : Bool) (x : ℤ) → series.c_field line wide ≡ Ok x → IsBetween 0 (10 ^ 15) x
+c_is line true x e = part_is WIDE_CAPACITANCE refl refl line x e
+c_is line false x e = part_is CAPACITANCE refl refl line x e
 
 pub both_true : (a b : Bool) → (a && b) ≡ true → (a ≡ true) × (b ≡ true)
 both_true true b e = (refl, e)
@@ -79,23 +93,19 @@ series_are line dt wide s e =
     let a = each_of r (both l c) t.0 t.1 in
     let b = each_of l c t.0.1 a.1 in
     series_is dt t.0.0 t.0.1.0 t.0.1.1 s
-    (part_is line 27 (if wide then 42 else 32) (pos 6) t.0.0 a.0)
-    (part_is line (if wide then 43 else 33) (if wide then 58 else 38) (pos 6) t.0.1.0 b.0)
-    (part_is line (if wide then 59 else 39) (if wide then 74 else 44) (pos 9) t.0.1.1 b.1) t.2
+    (r_is line wide t.0.0 a.0) (l_is line wide t.0.1.0 b.0) (c_is line wide t.0.1.1 b.1) t.2
 
 -- ---- a line
 
 unit_is : (line : List ℕ) (x : ℤ) → lines.r_field line ≡ Ok x → IsBetween 0 (10 ^ 12) x
 unit_is line x e =
-    let w = filled_is (IsWithin (pos 0) (pos (10 ^ 12))) (pos 0) (number_field line 27 32 (pos 6) (pos 0) (pos (10 ^ 12))) x
-    (record { least = omega (arith, ints); most = omega (arith, ints) })
-    (number_within line 27 32 (pos 6) (pos 0) (pos (10 ^ 12))) (field_of_column 27 _ x e) in
+    let zero : IsWithin (pos 0) (pos (10 ^ 12)) (pos 0) = record { least = omega (arith, ints); most = omega (arith, ints) } in
+    let w : IsWithin (pos 0) (pos (10 ^ 12)) x = number_or_is UNIT_RESISTANCE (pos 0) line x zero e in
     record { least = w.least; most = w.most }
 
 length_is : (line : List ℕ) (x : ℤ) → length_field line ≡ Ok x → IsBetween 1 (10 ^ 12) x
 length_is line x e =
-    let w = required_is (IsWithin (pos 1) (pos (10 ^ 12))) (number_field line 45 50 (pos 6) (pos 1) (pos (10 ^ 12))) x
-    (number_within line 45 50 (pos 6) (pos 1) (pos (10 ^ 12))) (field_of_column 45 _ x e) in
+    let w : IsWithin (pos 1) (pos (10 ^ 12)) x = required_within LENGTH line x e in
     record { least = w.least; most = w.most }
 
 total_is : (r length : Result ℤ Fault) (x : ℤ) → ((y : ℤ) → r ≡ Ok y → IsBetween 0 (10 ^ 12) y) → ((y : ℤ) → length ≡ Ok y → IsBetween 1 (10 ^ 12) y) → total_of r length ≡ Ok x → IsBetween 0 (10 ^ 18) x
@@ -169,7 +179,7 @@ line_are line dt v e =
 resistor_is : (line : List ℕ) (dt : ℤ) (values : BranchValues) → resistor_values line ≡ Ok values → HasValues dt values
 unfolding resistor_values
 resistor_is line dt values e =
-    let t = then_read (both (zero_in line 27 32) (both (zero_in line 33 38) (zero_in line 39 44))) _ values e in
+    let t = then_read (both (number_or FLASHOVER (pos 0) line) (both (number_or DELAY (pos 0) line) (number_or JUMP (pos 0) line))) _ values e in
     let is : ResistorCard ≡ values = cc in
     subst (HasValues dt) is tt
 
@@ -229,7 +239,7 @@ same_kind line dt wide SecondKind values e =
 same_kind line dt wide ThirdKind values e = let is : ThirdCard ≡ values = cc in ap kind_of_values (sym is)
 same_kind line dt wide ReactorKind values e = let is : ReactorCard ≡ values = cc in ap kind_of_values (sym is)
 same_kind line dt wide ResistorKind values e =
-    let t = then_read (both (zero_in line 27 32) (both (zero_in line 33 38) (zero_in line 39 44))) _ values e in
+    let t = then_read (both (number_or FLASHOVER (pos 0) line) (both (number_or DELAY (pos 0) line) (number_or JUMP (pos 0) line))) _ values e in
     let is : ResistorCard ≡ values = cc in ap kind_of_values (sym is)
 
 own_kind : (line : List ℕ) (dt : ℤ) (wide : Bool) (kind : BranchKind) (copies : Option (Option (List ℕ) × Option (List ℕ))) (values : BranchValues) → own_values line dt wide kind copies ≡ Ok values → kind_of_values values ≡ kind

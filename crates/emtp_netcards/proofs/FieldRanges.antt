@@ -1,22 +1,24 @@
 -- What fields hold that aren't refused.
-use Rattle.std.proofs.Common.{◌≡◌, ap, subst, refl, ℕ, suc, zero, ◌+◌, ◌-◌, ◌^◌, ◌≤◌, ℤ, pos, negsuc, neg_ℤ, ◌≤ℤ◌, int_lt, Bool, true, false, ◌||◌, List, [], ◌∷◌, length, drop, Option, Some, None, Result, Ok, Err, IfSome, if◌then◌else◌, cond, arith}
+use Rattle.std.proofs.Common.{◌≡◌, ap, subst, refl, ℕ, suc, zero, ◌+◌, ◌-◌, ◌≤◌, ℤ, pos, negsuc, ◌≤ℤ◌, int_lt, Bool, true, false, ◌||◌, List, [], ◌∷◌, length, drop, Option, Some, None, Result, Ok, Err, IfSome, if◌then◌else◌, cond, arith}
 use Rattle.std.proofs.lemmas.Int.{ints}
 use Rattle.std.proofs.lemmas.List.{length-take}
 use Rattle.std.specs.Int.{int_max, int_min}
 use Rattle.std.specs.List.{list_all, list_any}
 use Rattle.std.specs.Ordering.{int_eq}
-use Rattle.emtp_card.specs.Fault.{filled_with}
+use Rattle.emtp_card.specs.Fault.{filled_with, required}
 use Rattle.emtp_card.specs.Field.{columns, field_of, filled, trimmed, without_leading, without_trailing}
 use Rattle.emtp_card.specs.Lines.{fault_of_line, is_blank}
 use Rattle.emtp_card.specs.Name.{is_comma, name_field, named}
 use Rattle.emtp_card.specs.Number.{held_field, held_in, in_range, number_field, number_in, present, unless_blank}
+use Rattle.emtp_card.specs.NumberField.{held_of, held_or, number_of, number_or, required_of}
 use Rattle.emtp_card.specs.held.Number.{IsWithin}
+use Rattle.emtp_card.specs.declared.number_field.NumberField.{NumberField}
 use Rattle.emtp_card.specs.declared.reason.Why.{Why}
 use Rattle.emtp_card.specs.declared.reason.Why.TheVariants.{BadName, OutOfUnitRange}
 use Rattle.emtp_card.proofs.Names.{field_is_name}
 use Rattle.emtp_case.specs.held.Name.{IsName}
-use Rattle.emtp_netcards.specs.Fields.{needed, required, signed_number}
-use Rattle.emtp_netcards.specs.held.Fields.{IsSmall}
+use Rattle.emtp_netcards.specs.Fields.{needed}
+use Rattle.emtp_netcards.proofs.Readings.{field_of_column}
 
 -- ---- numbers
 
@@ -126,9 +128,23 @@ needed_is P (Err why) x all e = absurd (cc)
 pub needed_name : (line : List ℕ) (first : ℕ) (x : List ℕ) → fault_of_line line ≡ None → needed (name_field line first) ≡ Ok x → IsName x
 needed_name line first x whole e = needed_is IsName (name_field line first) x (λ field. name_is line first field whole) e
 
-pub signed_is : (line : List ℕ) (first last : ℕ) (scale x : ℤ) → signed_number line first last scale ≡ Ok x → IsSmall x
-signed_is line first last scale x e =
-    let w = filled_is (IsWithin (neg_ℤ (pos (10 ^ 18))) (pos (10 ^ 18))) (pos 0) (number_field line first last scale (neg_ℤ (pos (10 ^ 18))) (pos (10 ^ 18))) x
-    (record { least = omega (arith, ints); most = omega (arith, ints) })
-    (number_within line first last scale (neg_ℤ (pos (10 ^ 18))) (pos (10 ^ 18))) e in
-    omega (arith, ints, w.least, w.most)
+-- ---- number fields by name
+
+pub number_is : (f : NumberField) (line : List ℕ) (number : Option ℤ) → number_of f line ≡ Ok number → IfSome number (IsWithin f.low f.high)
+number_is f line number e = number_within line f.first f.last f.scale f.low f.high number (field_of_column f.first _ number e)
+
+pub number_or_is : (f : NumberField) (blank : ℤ) (line : List ℕ) (x : ℤ) → IsWithin f.low f.high blank → number_or f blank line ≡ Ok x → IsWithin f.low f.high x
+number_or_is f blank line x base e =
+    filled_is (IsWithin f.low f.high) blank (number_field line f.first f.last f.scale f.low f.high) x base (number_within line f.first f.last f.scale f.low f.high) (field_of_column f.first _ x e)
+
+pub required_within : (f : NumberField) (line : List ℕ) (x : ℤ) → required_of f line ≡ Ok x → IsWithin f.low f.high x
+required_within f line x e =
+    required_is (IsWithin f.low f.high) (number_field line f.first f.last f.scale f.low f.high) x (number_within line f.first f.last f.scale f.low f.high) (field_of_column f.first _ x e)
+
+pub held_of_is : (f : NumberField) (line : List ℕ) (number : Option ℤ) → f.low ≤ℤ f.high → held_of f line ≡ Ok number → IfSome number (IsWithin f.low f.high)
+held_of_is f line number order e = held_within line f.first f.last f.scale f.low f.high number order (field_of_column f.first _ number e)
+
+pub held_or_is : (f : NumberField) (blank : ℤ) (line : List ℕ) (x : ℤ) → IsWithin f.low f.high blank → held_or f blank line ≡ Ok x → IsWithin f.low f.high x
+held_or_is f blank line x base e =
+    let order : f.low ≤ℤ f.high = omega (arith, ints, base.least, base.most) in
+    filled_is (IsWithin f.low f.high) blank (held_field line f.first f.last f.scale f.low f.high) x base (λ number. held_within line f.first f.last f.scale f.low f.high number order) (field_of_column f.first _ x e)

@@ -1,48 +1,47 @@
 -- What a point card keeps that isn't refused.
-use Rattle.std.proofs.Common.{◌≡◌, ap, subst, refl, ℕ, ◌^◌, ◌≤◌, ◌<◌, nat_le, nat_lt, ℤ, pos, neg_ℤ, int_le, Bool, true, false, List, Option, Some, None, Result, Ok, Err, IfSome, IfNone, if◌then◌else◌, arith}
+use Rattle.std.proofs.Common.{◌≡◌, ap, subst, refl, ℕ, ◌^◌, ◌≤◌, ◌<◌, nat_le, nat_lt, ℤ, pos, int_le, Bool, true, false, List, Option, Some, None, Result, Ok, Err, IfSome, IfNone, if◌then◌else◌, arith}
 use Rattle.std.proofs.lemmas.Bool.{leb-false, ltb-false}
 use Rattle.std.proofs.lemmas.Int.{ints}
 use Rattle.emtp_card.specs.Lines.{fault_of_line, is_section_end}
-use Rattle.emtp_card.specs.Number.{number_field}
+use Rattle.emtp_card.specs.NumberField.{number_of}
 use Rattle.emtp_card.specs.held.Number.{IsWithin}
 use Rattle.emtp_card.specs.declared.fault.Fault.{Fault}
+use Rattle.emtp_card.specs.declared.number_field.NumberField.{NumberField}
 use Rattle.emtp_card.specs.declared.reason.Bad.{Bad}
-use Rattle.emtp_card.specs.declared.reason.Why.{Why}
 use Rattle.emtp_case.specs.Branch.{greatest_slope, least_slope, slope_of}
 use Rattle.emtp_case.specs.held.Branch.{IsSegment}
 use Rattle.emtp_case.specs.held.Range.{IsBetween}
 use Rattle.emtp_case.specs.declared.branch.Point.{Point}
 use Rattle.emtp_case.specs.declared.limit.TheConstants.{MOST_POINTS}
-use Rattle.emtp_fix.specs.declared.limit.TheConstants.{LARGEST_VALUE}
 use Rattle.emtp_netcards.specs.PointCard.{bad_point, enough, fewest_of, first_by, first_field, goes_on, in_room, is_after, is_ending, is_pair, is_slope, next_point, next_read, origin_or, point_after, points_end, present, room_for, second_by, second_field, segment_by, sloped, value_field}
 use Rattle.emtp_netcards.specs.Reading.{both, card_by, card_due, card_on}
 use Rattle.emtp_netcards.specs.held.PointCard.{Follows, IsPointOf, IsValueOf}
 use Rattle.emtp_netcards.specs.declared.point_card.PointScale.{PointScale}
+use Rattle.emtp_netcards.specs.declared.point_card.TheConstants.{CLOSING, CURRENT, FLUX, INPUT, OPENING, OUTPUT, VOLTAGE}
 use Rattle.emtp_netcards.specs.declared.point_card.PointScale.TheVariants.{Reactor, Resistor, Table, Times}
-use Rattle.emtp_netcards.proofs.Readings.{by, each_of, field_of_column, then_read}
-use Rattle.emtp_netcards.proofs.FieldRanges.{number_within}
+use Rattle.emtp_netcards.proofs.Readings.{by, each_of, then_read}
+use Rattle.emtp_netcards.proofs.FieldRanges.{number_is}
 use Rattle.emtp_netcards.proofs.BranchRanges.{both_true}
 
-present_is : (P : ℤ → Type 0) (read : Result (Option ℤ) Why) (x : ℤ) → ((field : Option ℤ) → read ≡ Ok field → IfSome field P) → present read ≡ Ok x → P x
-present_is P (Ok None) x all e = absurd (cc)
-present_is P (Ok (Some y)) x all e = let is : y ≡ x = cc in subst P is (all (Some y) refl)
-present_is P (Err why) x all e = absurd (cc)
+present_is : (P : ℤ → Type 0) (column : ℕ) (read : Result (Option ℤ) Fault) (x : ℤ) → ((field : Option ℤ) → read ≡ Ok field → IfSome field P) → present column read ≡ Ok x → P x
+present_is P column (Ok None) x all e = absurd (cc)
+present_is P column (Ok (Some y)) x all e = let is : y ≡ x = cc in subst P is (all (Some y) refl)
+present_is P column (Err fault) x all e = absurd (cc)
 
-value_is : (line : List ℕ) (first last : ℕ) (scale low x : ℤ) → value_field line first last scale low ≡ Ok x → IsWithin low (pos (10 ^ 18)) x
-value_is line first last scale low x e = present_is (IsWithin low (pos (10 ^ 18))) (number_field line first last scale low (pos (10 ^ 18))) x
-    (number_within line first last scale low (pos (10 ^ 18))) (field_of_column first _ x e)
+value_is : (line : List ℕ) (f : NumberField) (x : ℤ) → value_field line f ≡ Ok x → IsWithin f.low f.high x
+value_is line f x e = present_is (IsWithin f.low f.high) f.first (number_of f line) x (number_is f line) e
 
 first_is : (line : List ℕ) (scale : PointScale) (x : ℤ) → first_field line scale ≡ Ok x → IsValueOf scale x
-first_is line Resistor x e = value_is line 1 16 (pos 9) (pos 1) x e
-first_is line Reactor x e = value_is line 1 16 (pos 9) (pos 1) x e
-first_is line Table x e = let w = value_is line 1 16 (pos 9) (neg_ℤ (pos LARGEST_VALUE)) x e in record { least = w.least; most = w.most }
-first_is line Times x e = let w = value_is line 1 16 (pos 12) (pos 0) x e in record { least = w.least; most = w.most }
+first_is line Resistor x e = value_is line CURRENT x e
+first_is line Reactor x e = value_is line CURRENT x e
+first_is line Table x e = value_is line INPUT x e
+first_is line Times x e = value_is line CLOSING x e
 
 second_is : (line : List ℕ) (scale : PointScale) (y : ℤ) → second_field line scale ≡ Ok y → IsValueOf scale y
-second_is line Resistor x e = value_is line 17 32 (pos 9) (pos 1) x e
-second_is line Reactor x e = value_is line 17 32 (pos 12) (pos 1) x e
-second_is line Table x e = let w = value_is line 17 32 (pos 9) (neg_ℤ (pos LARGEST_VALUE)) x e in record { least = w.least; most = w.most }
-second_is line Times x e = let w = value_is line 17 32 (pos 12) (pos 0) x e in record { least = w.least; most = w.most }
+second_is line Resistor y e = value_is line VOLTAGE y e
+second_is line Reactor y e = value_is line FLUX y e
+second_is line Table y e = value_is line OUTPUT y e
+second_is line Times y e = value_is line OPENING y e
 
 -- ---- after the card before
 

@@ -3,7 +3,7 @@ use Rattle.std.proofs.Common.{◌≡◌, subst, refl, ℕ, ℤ, pos, int_lt, Boo
 use Rattle.std.proofs.lemmas.Int.{ints}
 use Rattle.std.specs.Ordering.{int_eq}
 use Rattle.emtp_card.specs.Lines.{fault_of_line, is_section_end}
-use Rattle.emtp_card.specs.Number.{number_field}
+use Rattle.emtp_card.specs.NumberField.{number_or}
 use Rattle.emtp_card.specs.Whole.{whole_field}
 use Rattle.emtp_card.specs.held.Number.{IsWithin}
 use Rattle.emtp_card.specs.declared.fault.Fault.{Fault}
@@ -13,24 +13,20 @@ use Rattle.emtp_card.specs.declared.reason.Why.TheVariants.{OutOfUnitRange}
 use Rattle.emtp_case.specs.declared.limit.TheConstants.{LARGEST_TIME_STEP, LEAST_TIME_STEP}
 use Rattle.emtp_fix.specs.declared.limit.TheConstants.{LARGEST_TOLERANCE}
 use Rattle.emtp_fix.specs.Rounding.{near}
-use Rattle.emtp_netcards.specs.Fields.{zero_in}
 use Rattle.emtp_netcards.specs.Reading.{both, card_on, in_column}
 use Rattle.emtp_netcards.specs.RunCards.{end_field, every_by, every_of, first_card, first_fields, second_card, second_fields, step_field, steps_of, times_by, tolerance_card, tolerance_field}
 use Rattle.emtp_netcards.specs.held.RunCards.{IsFirstCard, IsMillion}
 use Rattle.emtp_netcards.specs.declared.run_cards.FirstCard.{FirstCard}
+use Rattle.emtp_netcards.specs.declared.run_cards.TheConstants.{COPT, DELTAT, TOLERATED, XOPT}
 use Rattle.emtp_netcards.proofs.Readings.{by, each_of, field_of_column, then_read}
-use Rattle.emtp_netcards.proofs.FieldRanges.{not_zero, number_within, required_is}
+use Rattle.emtp_netcards.proofs.FieldRanges.{not_zero, required_within}
 
 pub tolerance_keeps : (number : ℕ) (line : List ℕ) (x : ℤ) → tolerance_card number line ≡ Ok x → IsWithin (pos 0) (pos LARGEST_TOLERANCE) x
 unfolding tolerance_card
-tolerance_keeps number line x e =
-    required_is (IsWithin (pos 0) (pos LARGEST_TOLERANCE)) (number_field line 25 32 (pos 9) (pos 0) (pos LARGEST_TOLERANCE)) x
-    (number_within line 25 32 (pos 9) (pos 0) (pos LARGEST_TOLERANCE)) (field_of_column 25 _ x (by number (fault_of_line line) (tolerance_field line) x e))
+tolerance_keeps number line x e = required_within TOLERATED line x (by number (fault_of_line line) (tolerance_field line) x e)
 
 step_is : (line : List ℕ) (x : ℤ) → step_field line ≡ Ok x → IsWithin (pos LEAST_TIME_STEP) (pos LARGEST_TIME_STEP) x
-step_is line x e =
-    required_is (IsWithin (pos LEAST_TIME_STEP) (pos LARGEST_TIME_STEP)) (number_field line 1 8 (pos 12) (pos LEAST_TIME_STEP) (pos LARGEST_TIME_STEP)) x
-    (number_within line 1 8 (pos 12) (pos LEAST_TIME_STEP) (pos LARGEST_TIME_STEP)) (field_of_column 1 _ x e)
+step_is line x e = required_within DELTAT line x e
 
 steps_are : (steps : ℤ) (n : ℕ) → steps_of steps ≡ Ok n → IsMillion n
 unfolding steps_of
@@ -57,7 +53,7 @@ first_are : (line : List ℕ) (card : FirstCard) → first_fields line ≡ Ok ca
 unfolding first_fields
 first_are line card e =
     let times = times_by (step_field line) (end_field line) in
-    let zeros = both (zero_in line 17 24) (zero_in line 25 32) in
+    let zeros = both (number_or XOPT (pos 0) line) (number_or COPT (pos 0) line) in
     let t = then_read (both times zeros) _ card e in
     let parts = each_of times zeros t.0 t.1 in
     let is : t.0.0 ≡ card = cc in

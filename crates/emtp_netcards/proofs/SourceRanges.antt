@@ -4,40 +4,42 @@ use Rattle.std.proofs.lemmas.Int.{ints}
 use Rattle.std.specs.Int.{int_rem_euclid}
 use Rattle.std.specs.Option.{ForSome}
 use Rattle.std.specs.Ordering.{int_eq}
-use Rattle.emtp_card.specs.Fault.{filled_with}
 use Rattle.emtp_card.specs.Lines.{fault_of_line}
 use Rattle.emtp_card.specs.Name.{name_field}
-use Rattle.emtp_card.specs.Number.{held_field, number_field}
+use Rattle.emtp_card.specs.NumberField.{held_of, number_or}
 use Rattle.emtp_card.specs.Whole.{whole_field}
 use Rattle.emtp_card.specs.held.Number.{IsWithin}
-use Rattle.emtp_card.specs.declared.reason.Why.{Why}
+use Rattle.emtp_card.specs.declared.fault.Fault.{Fault}
 use Rattle.emtp_case.specs.held.Range.{IsBetween}
 use Rattle.emtp_case.specs.declared.source.Shape.{Shape}
 use Rattle.emtp_case.specs.declared.source.Shape.TheVariants.{Cosine, Ramp, Step, Tacs}
 use Rattle.emtp_fix.specs.declared.limit.TheConstants.{LARGEST_TIME, TURN}
 use Rattle.emtp_fix.specs.Rounding.{near}
-use Rattle.emtp_netcards.specs.Fields.{held_time, needed, signed_number, zero_in}
+use Rattle.emtp_netcards.specs.Fields.{needed}
 use Rattle.emtp_netcards.specs.Reading.{◌>>=◌, both, in_column}
 use Rattle.emtp_netcards.specs.SourceCard.{active_times, amplitude_field, cosine_numbers, cosine_of, course_of, fields_of, frequency_field, phase_by, phase_field, phase_of, ramp_of, rise_field, source_card, source_of, source_record, start_field, stop_by, stop_field, type_field}
 use Rattle.emtp_netcards.specs.held.Fields.{IsSmall}
 use Rattle.emtp_netcards.specs.held.SourceCard.{HasSourceCardNumbers, IsCourse}
 use Rattle.emtp_netcards.specs.declared.source_card.SourceCard.{SourceCard}
 use Rattle.emtp_netcards.specs.declared.source_card.SourceType.{SourceType}
+use Rattle.emtp_netcards.specs.declared.source_card.TheConstants.{A1, AMPLITUDE, FREQUENCY, PHASE, RISE, START, STOP}
 use Rattle.emtp_netcards.specs.declared.source_card.SourceType.TheVariants.{Cosine as CosineType, Ramp as RampType, Step as StepType, Tacs as TacsType}
-use Rattle.emtp_netcards.proofs.Readings.{by, each_of, field_of_column, then_read}
-use Rattle.emtp_netcards.proofs.FieldRanges.{not_zero, filled_is, held_within, number_within, required_is, signed_is}
-use Rattle.emtp_netcards.proofs.SwitchRanges.{time_is, time_small}
+use Rattle.emtp_netcards.proofs.Readings.{by, each_of, then_read}
+use Rattle.emtp_netcards.proofs.FieldRanges.{held_of_is, held_or_is, not_zero, number_or_is, required_within}
+use Rattle.emtp_netcards.proofs.SwitchRanges.{time_small, zero_time}
 
 -- ---- fields
 
 pub amplitude_is : (line : List ℕ) (x : ℤ) → amplitude_field line ≡ Ok x → IsSmall x
-amplitude_is line x e = signed_is line 11 20 (pos 9) x (field_of_column 11 (signed_number line 11 20 (pos 9)) x e)
+amplitude_is line x e =
+    let zero : IsWithin (neg_ℤ (pos (10 ^ 18))) (pos (10 ^ 18)) (pos 0) = record { least = omega (arith, ints); most = omega (arith, ints) } in
+    let w : IsWithin (neg_ℤ (pos (10 ^ 18))) (pos (10 ^ 18)) x = number_or_is AMPLITUDE (pos 0) line x zero e in
+    omega (arith, ints, w.least, w.most)
 
-frequency_is : (line : List ℕ) (x : ℤ) → in_column 21 (frequency_field line) ≡ Ok x → IsBetween 0 (10 ^ 13) x
+frequency_is : (line : List ℕ) (x : ℤ) → frequency_field line ≡ Ok x → IsBetween 0 (10 ^ 13) x
 frequency_is line x e =
-    let w = filled_is (IsWithin (pos 0) (pos (10 ^ 13))) (pos 0) (number_field line 21 30 (pos 6) (pos 0) (pos (10 ^ 13))) x
-    (record { least = omega (arith, ints); most = omega (arith, ints) })
-    (number_within line 21 30 (pos 6) (pos 0) (pos (10 ^ 13))) (field_of_column 21 (frequency_field line) x e) in
+    let zero : IsWithin (pos 0) (pos (10 ^ 13)) (pos 0) = record { least = omega (arith, ints); most = omega (arith, ints) } in
+    let w : IsWithin (pos 0) (pos (10 ^ 13)) x = number_or_is FREQUENCY (pos 0) line x zero e in
     record { least = w.least; most = w.most }
 
 turn_between : (z : ℤ) → IsBetween 0 (TURN - 1) (int_rem_euclid z (pos TURN))
@@ -48,30 +50,26 @@ phase_between : (degrees : ℤ) → IsBetween 0 (TURN - 1) (phase_of degrees)
 unfolding phase_of
 phase_between degrees = turn_between (near (degrees *ℤ pos (10 ^ 9)) (pos 360))
 
-phase_by_is : (read : Result ℤ Why) (x : ℤ) → phase_by read ≡ Ok x → IsBetween 0 (TURN - 1) x
+phase_by_is : (read : Result ℤ Fault) (x : ℤ) → phase_by read ≡ Ok x → IsBetween 0 (TURN - 1) x
 phase_by_is (Ok degrees) x e = let is : phase_of degrees ≡ x = cc in subst (IsBetween 0 (TURN - 1)) is (phase_between degrees)
-phase_by_is (Err why) x e = absurd (cc)
+phase_by_is (Err fault) x e = absurd (cc)
 
-phase_is : (line : List ℕ) (x : ℤ) → in_column 31 (phase_field line) ≡ Ok x → IsBetween 0 (TURN - 1) x
-phase_is line x e = phase_by_is (filled_with (pos 0) (number_field line 31 40 (pos 9) (neg_ℤ (pos (10 ^ 15))) (pos (10 ^ 15)))) x (field_of_column 31 (phase_field line) x e)
+phase_is : (line : List ℕ) (x : ℤ) → phase_field line ≡ Ok x → IsBetween 0 (TURN - 1) x
+phase_is line x e = phase_by_is (number_or PHASE (pos 0) line) x e
 
-rise_is : (line : List ℕ) (x : ℤ) → in_column 31 (rise_field line) ≡ Ok x → IsBetween 1 LARGEST_TIME x
+rise_is : (line : List ℕ) (x : ℤ) → rise_field line ≡ Ok x → IsBetween 1 LARGEST_TIME x
 rise_is line x e =
-    let w = required_is (IsWithin (pos 1) (pos LARGEST_TIME)) (number_field line 31 40 (pos 12) (pos 1) (pos LARGEST_TIME)) x
-    (number_within line 31 40 (pos 12) (pos 1) (pos LARGEST_TIME)) (field_of_column 31 (rise_field line) x e) in
+    let w : IsWithin (pos 1) (pos LARGEST_TIME) x = required_within RISE line x e in
     record { least = w.least; most = w.most }
 
-start_is : (line : List ℕ) (x : ℤ) → in_column 61 (start_field line) ≡ Ok x → unsigned_abs x ≤ LARGEST_TIME
-start_is line x e =
-    let w = filled_is (IsWithin (neg_ℤ (pos LARGEST_TIME)) (pos LARGEST_TIME)) (pos 0) (held_time line 61 70) x
-    (record { least = omega (arith, ints); most = omega (arith, ints) }) (time_is line 61 70) (field_of_column 61 (start_field line) x e) in
-    time_small x w
+start_is : (line : List ℕ) (x : ℤ) → start_field line ≡ Ok x → unsigned_abs x ≤ LARGEST_TIME
+start_is line x e = time_small x (held_or_is START (pos 0) line x zero_time e)
 
-stop_of : (read : Result (Option ℤ) Why) (field : Option ℤ) → ((f : Option ℤ) → read ≡ Ok f → IfSome f (IsWithin (pos 0) (pos LARGEST_TIME))) → stop_by read ≡ Ok field → ForSome field (IsBetween 1 LARGEST_TIME)
+stop_of : (read : Result (Option ℤ) Fault) (field : Option ℤ) → ((f : Option ℤ) → read ≡ Ok f → IfSome f (IsWithin (pos 0) (pos LARGEST_TIME))) → stop_by read ≡ Ok field → ForSome field (IsBetween 1 LARGEST_TIME)
 stop_of (Ok None) field all e x f = absurd (cc)
 stop_of (Ok (Some t)) field all e x f = go (int_eq t (pos 0)) refl e
   where
-    answer : Bool → Result (Option ℤ) Why
+    answer : Bool → Result (Option ℤ) Fault
     answer zero' = if zero' then Ok None else Ok (Some t)
 
     go : (zero' : Bool) → int_eq t (pos 0) ≡ zero' → answer zero' ≡ Ok field → IsBetween 1 LARGEST_TIME x
@@ -80,18 +78,17 @@ stop_of (Ok (Some t)) field all e x f = go (int_eq t (pos 0)) refl e
         let w : IsWithin (pos 0) (pos LARGEST_TIME) t = all (Some t) refl in
         let is : t ≡ x = cc in
         subst (IsBetween 1 LARGEST_TIME) is (record { least = not_zero t z w.least; most = w.most })
-stop_of (Err why) field all e x f = absurd (cc)
+stop_of (Err fault) field all e x f = absurd (cc)
 
-stop_is : (line : List ℕ) (field : Option ℤ) → in_column 71 (stop_field line) ≡ Ok field → ForSome field (IsBetween 1 LARGEST_TIME)
-stop_is line field e = stop_of (held_field line 71 80 (pos 12) (pos 0) (pos LARGEST_TIME)) field
-    (λ f. held_within line 71 80 (pos 12) (pos 0) (pos LARGEST_TIME) f (omega (arith, ints))) (field_of_column 71 (stop_field line) field e)
+stop_is : (line : List ℕ) (field : Option ℤ) → stop_field line ≡ Ok field → ForSome field (IsBetween 1 LARGEST_TIME)
+stop_is line field e = stop_of (held_of STOP line) field (λ f. held_of_is STOP line f (omega (arith, ints))) e
 
 -- ---- courses
 
 ramp_is : (line : List ℕ) (course : Shape × ℤ) → ramp_of line ≡ Ok course → IsCourse course.0 course.1
 unfolding ramp_of
 ramp_is line course e =
-    let rise = in_column 31 (rise_field line) in
+    let rise = rise_field line in
     let r = then_read (both (amplitude_field line) rise) _ course e in
     let parts = each_of (amplitude_field line) rise r.0 r.1 in
     let is : (Ramp r.0.1, r.0.0) ≡ course = cc in
@@ -100,10 +97,10 @@ ramp_is line course e =
 pub cosine_are : (line : List ℕ) (numbers : ℤ × ℤ) → cosine_numbers line ≡ Ok numbers → IsBetween 0 (10 ^ 13) numbers.0 × IsBetween 0 (TURN - 1) numbers.1
 unfolding cosine_numbers
 cosine_are line numbers e =
-    let freq = in_column 21 (frequency_field line) in
-    let phase = in_column 31 (phase_field line) in
-    let r = then_read (both (both freq phase) (zero_in line 41 50)) _ numbers e in
-    let front = each_of (both freq phase) (zero_in line 41 50) r.0 r.1 in
+    let freq = frequency_field line in
+    let phase = phase_field line in
+    let r = then_read (both (both freq phase) (number_or A1 (pos 0) line)) _ numbers e in
+    let front = each_of (both freq phase) (number_or A1 (pos 0) line) r.0 r.1 in
     let parts = each_of freq phase r.0.0 front.0 in
     let is : (r.0.0.0, r.0.0.1) ≡ numbers = cc in
     subst (λ (n : ℤ × ℤ). IsBetween 0 (10 ^ 13) n.0 × IsBetween 0 (TURN - 1) n.1) is (frequency_is line r.0.0.0 parts.0, phase_is line r.0.0.1 parts.1)
@@ -132,7 +129,7 @@ course_is line TacsType course e =
 pub times_are : (line : List ℕ) (times : ℤ × Option ℤ) → active_times line ≡ Ok times → (unsigned_abs times.0 ≤ LARGEST_TIME) × ForSome times.1 (IsBetween 1 LARGEST_TIME)
 unfolding active_times
 times_are line times e =
-    let parts = each_of (in_column 61 (start_field line)) (in_column 71 (stop_field line)) times e in
+    let parts = each_of (start_field line) (stop_field line) times e in
     (start_is line times.0 parts.0, stop_is line times.1 parts.1)
 
 fields_keep : (number : ℕ) (line : List ℕ) (card : SourceCard) → fields_of number line ≡ Ok card → HasSourceCardNumbers card

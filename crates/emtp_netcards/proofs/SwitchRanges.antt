@@ -3,13 +3,13 @@ use Rattle.std.proofs.Common.{◌≡◌, subst, refl, ℕ, ◌≤◌, ◌<◌, �
 use Rattle.std.proofs.lemmas.Int.{ints}
 use Rattle.std.specs.Option.{ForSome}
 use Rattle.std.specs.Ordering.{int_eq}
-use Rattle.emtp_card.specs.Fault.{filled_with}
 use Rattle.emtp_card.specs.Lines.{fault_of_line}
 use Rattle.emtp_card.specs.Name.{name_field}
-use Rattle.emtp_card.specs.Number.{number_field}
+use Rattle.emtp_card.specs.NumberField.{held_of, held_or, number_or}
 use Rattle.emtp_card.specs.Whole.{whole_field}
 use Rattle.emtp_card.specs.held.Number.{IsWithin}
 use Rattle.emtp_card.specs.declared.fault.Fault.{Fault}
+use Rattle.emtp_card.specs.declared.number_field.NumberField.{NumberField}
 use Rattle.emtp_card.specs.declared.reason.Why.{Why}
 use Rattle.emtp_card.specs.declared.reason.Why.TheVariants.{BadName, OutOfUnitRange}
 use Rattle.emtp_case.specs.held.Name.{IsName}
@@ -18,16 +18,17 @@ use Rattle.emtp_case.specs.held.Switch.{IsSwitchKind}
 use Rattle.emtp_case.specs.declared.switch.SwitchKind.{SwitchKind}
 use Rattle.emtp_case.specs.declared.switch.SwitchKind.TheVariants.{Control, Measuring, Time, Valve}
 use Rattle.emtp_fix.specs.declared.limit.TheConstants.{LARGEST_TIME, LARGEST_VALUE}
-use Rattle.emtp_netcards.specs.Fields.{asked_field, asked_in, asked_of, distinct, ends_field, held_time, is_same_name, needed}
+use Rattle.emtp_netcards.specs.Fields.{asked_field, asked_in, asked_of, distinct, ends_field, is_same_name, needed}
 use Rattle.emtp_netcards.specs.Reading.{◌>>=◌, both, in_column}
-use Rattle.emtp_netcards.specs.SwitchCard.{fields_of, is_measuring, kind_of, number_of_control, part_field, switch_card, time_kind, times_of, type_field, valve_of, word_field}
+use Rattle.emtp_netcards.specs.SwitchCard.{fields_of, is_measuring, kind_of, number_of_control, switch_card, time_kind, times_of, type_field, valve_of, word_field}
 use Rattle.emtp_netcards.specs.held.Fields.{AreEndNames, one_variable}
 use Rattle.emtp_netcards.specs.held.SwitchCard.{HasSwitchNumbers}
 use Rattle.emtp_netcards.specs.declared.switch_card.SwitchCard.{SwitchCard}
 use Rattle.emtp_netcards.specs.declared.switch_card.SwitchType.{SwitchType}
+use Rattle.emtp_netcards.specs.declared.switch_card.TheConstants.{CLOSING, HOLDING, IGNITION, MARGIN, OPENING}
 use Rattle.emtp_netcards.specs.declared.switch_card.SwitchType.TheVariants.{Control as ControlType, Time as TimeType, Valve as ValveType}
 use Rattle.emtp_netcards.proofs.Readings.{by, each_of, field_of_column, then_read, whole_by}
-use Rattle.emtp_netcards.proofs.FieldRanges.{filled_is, held_within, name_is, number_within}
+use Rattle.emtp_netcards.proofs.FieldRanges.{held_of_is, held_or_is, name_is, number_or_is}
 
 -- ---- shared fields
 
@@ -70,18 +71,17 @@ asked_is line asked e = asked_by (whole_field line 80 80) asked (field_of_column
 
 -- ---- what opens and closes it
 
-pub part_is : (line : List ℕ) (first last : ℕ) (x : ℤ) → part_field line first last ≡ Ok x → IsBetween 0 LARGEST_VALUE x
-part_is line first last x e =
-    let w = filled_is (IsWithin (pos 0) (pos LARGEST_VALUE)) (pos 0) (number_field line first last (pos 9) (pos 0) (pos LARGEST_VALUE)) x
-    (record { least = omega (arith, ints); most = omega (arith, ints) })
-    (number_within line first last (pos 9) (pos 0) (pos LARGEST_VALUE)) (field_of_column first _ x e) in
-    record { least = w.least; most = w.most }
+value_is : (f : NumberField) → f.low ≡ pos 0 → f.high ≡ pos LARGEST_VALUE → (line : List ℕ) (x : ℤ) → number_or f (pos 0) line ≡ Ok x → IsBetween 0 LARGEST_VALUE x
+value_is f low high line x e =
+    let w = number_or_is f (pos 0) line x (record { least = omega (arith, ints, low); most = omega (arith, ints, high) }) e in
+    record { least = omega (arith, ints, low, w.least); most = omega (arith, ints, high, w.most) }
+
+-- 0 is a time
+pub zero_time : IsWithin (neg_ℤ (pos LARGEST_TIME)) (pos LARGEST_TIME) (pos 0)
+zero_time = record { least = omega (arith, ints); most = omega (arith, ints) }
 
 pub time_small : (x : ℤ) → IsWithin (neg_ℤ (pos LARGEST_TIME)) (pos LARGEST_TIME) x → unsigned_abs x ≤ LARGEST_TIME
 time_small x w = omega (arith, ints, w.least, w.most)
-
-pub time_is : (line : List ℕ) (first last : ℕ) (field : Option ℤ) → held_time line first last ≡ Ok field → IfSome field (IsWithin (neg_ℤ (pos LARGEST_TIME)) (pos LARGEST_TIME))
-time_is line first last field e = held_within line first last (pos 12) (neg_ℤ (pos LARGEST_TIME)) (pos LARGEST_TIME) field (omega (arith, ints)) e
 
 some_small : (field : Option ℤ) → IfSome field (IsWithin (neg_ℤ (pos LARGEST_TIME)) (pos LARGEST_TIME)) → ForSome field (λ t. unsigned_abs t ≤ LARGEST_TIME)
 some_small (Some y) w x e = let is : y ≡ x = cc in time_small x (subst (IsWithin (neg_ℤ (pos LARGEST_TIME)) (pos LARGEST_TIME)) is w)
@@ -90,18 +90,17 @@ some_small None w x e = absurd (cc)
 times_are : (line : List ℕ) (kind : SwitchKind) → times_of line ≡ Ok kind → IsSwitchKind one_variable kind
 unfolding times_of
 times_are line kind e =
-    let close = in_column 15 (filled_with (pos 0) (held_time line 15 24)) in
-    let open_at = in_column 25 (held_time line 25 34) in
-    let margin = part_field line 35 44 in
+    let close = held_or CLOSING (pos 0) line in
+    let open_at = held_of OPENING line in
+    let margin = number_or MARGIN (pos 0) line in
     let word = in_column 55 (word_field line) in
     let r = then_read (both (both close open_at) (both margin word)) _ kind e in
     let halves = each_of (both close open_at) (both margin word) r.0 r.1 in
     let first = each_of close open_at r.0.0 halves.0 in
     let second = each_of margin word r.0.1 halves.1 in
-    let zero_within : IsWithin (neg_ℤ (pos LARGEST_TIME)) (pos LARGEST_TIME) (pos 0) = record { least = omega (arith, ints); most = omega (arith, ints) } in
-    let c = filled_is (IsWithin (neg_ℤ (pos LARGEST_TIME)) (pos LARGEST_TIME)) (pos 0) (held_time line 15 24) r.0.0.0 zero_within (time_is line 15 24) (field_of_column 15 _ r.0.0.0 first.0) in
-    let o = some_small r.0.0.1 (time_is line 25 34 r.0.0.1 (field_of_column 25 _ r.0.0.1 first.1)) in
-    let m = part_is line 35 44 r.0.1.0 second.0 in
+    let c = held_or_is CLOSING (pos 0) line r.0.0.0 zero_time first.0 in
+    let o = some_small r.0.0.1 (held_of_is OPENING line r.0.0.1 (omega (arith, ints)) first.1) in
+    let m = value_is MARGIN refl refl line r.0.1.0 second.0 in
     let is : Time r.0.0.0 r.0.0.1 r.0.1.0 ≡ kind = cc in
     subst (IsSwitchKind one_variable) is (record { close_small = time_small r.0.0.0 c; open_small = o }, m)
 
@@ -119,14 +118,14 @@ control_is None v e = absurd (cc)
 valve_is : (line : List ℕ) (kind : SwitchKind × Option (List ℕ)) → valve_of line ≡ Ok kind → IsSwitchKind one_variable kind.0
 unfolding valve_of
 valve_is line kind e =
-    let ignition = part_field line 15 24 in
-    let holding = part_field line 25 34 in
+    let ignition = number_or IGNITION (pos 0) line in
+    let holding = number_or HOLDING (pos 0) line in
     let control = in_column 65 (name_field line 65) in
     let r = then_read (both ignition (both holding control)) _ kind e in
     let first = each_of ignition (both holding control) r.0 r.1 in
     let second = each_of holding control r.0.1 first.1 in
     let is : (Valve r.0.0 r.0.1.0 (number_of_control r.0.1.1), r.0.1.1) ≡ kind = cc in
-    subst (λ (k : SwitchKind × Option (List ℕ)). IsSwitchKind one_variable k.0) is (part_is line 15 24 r.0.0 first.0, part_is line 25 34 r.0.1.0 second.0, control_is r.0.1.1)
+    subst (λ (k : SwitchKind × Option (List ℕ)). IsSwitchKind one_variable k.0) is (value_is IGNITION refl refl line r.0.0 first.0, value_is HOLDING refl refl line r.0.1.0 second.0, control_is r.0.1.1)
 
 kind_is : (line : List ℕ) (type : SwitchType) (kind : SwitchKind × Option (List ℕ)) → kind_of line type ≡ Ok kind → IsSwitchKind one_variable kind.0
 kind_is line TimeType kind e =
