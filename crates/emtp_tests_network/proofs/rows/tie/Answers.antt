@@ -1,31 +1,29 @@
 use Rattle.std.proofs.Common.{arith, ℕ, zero, suc, ◌≡◌, ◌<◌, ◌∷◌, [], List, All, refl}
 use Rattle.emtp_case.specs.declared.row_kind.RowKind.{RowKind}
-use Rattle.emtp_case.specs.declared.row_kind.RowKind.TheVariants.{Ground, Source, Sum, Tie}
+use Rattle.emtp_case.specs.declared.row_kind.RowKind.TheVariants.{Kcl, Source, Tie}
 use Rattle.emtp_rows.specs.Nodal.{kind_at}
 use Rattle.emtp_case.specs.held.RowKinds.{AreKinds, TieIsThere}
-use Rattle.emtp_tests_network.proofs.rows.join.Goals as goal
+use Rattle.emtp_tests_network.proofs.rows.tie.Goals as goal
 
-joined : List RowKind
-joined = Source ∷ Tie 4 ∷ Ground ∷ Tie 0 ∷ Sum ∷ []
+tied : List RowKind
+tied = Source ∷ Tie 0 ∷ Kcl ∷ []
 
-first_is : (i : ℕ) → i < 1 → kind_at joined i ≡ Source
-unfolding joined
+first_is : (i : ℕ) → i < 1 → kind_at tied i ≡ Source
+unfolding tied
 first_is zero below = refl
 first_is (suc i) below = absurd (omega arith)
 
-are_there : All (TieIsThere 5) joined
-unfolding joined
+are_there : All (TieIsThere 3) tied
+unfolding tied
 are_there zero d below = tt
 are_there (suc zero) d below = omega arith
 are_there (suc (suc zero)) d below = tt
-are_there (suc (suc (suc zero))) d below = omega arith
-are_there (suc (suc (suc (suc zero)))) d below = tt
-are_there (suc (suc (suc (suc (suc i))))) d below = absurd (omega arith)
+are_there (suc (suc (suc i))) d below = absurd (omega arith)
 
-are_kinds : AreKinds 5 1 joined
-unfolding joined
+are_kinds : AreKinds 3 1 tied
+unfolding tied
 are_kinds = record { count = refl; sources = first_is; ties = are_there }
 
 pub set_kinds-requires : goal.set_kinds-requires
-unfolding joined
+unfolding tied
 set_kinds-requires c = rw (c.requires.fixed, c.requires.nodes) are_kinds
