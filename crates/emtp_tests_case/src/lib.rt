@@ -17,6 +17,4 @@ mod fixtures;
 #[cfg(test)]
 mod network;
 #[cfg(test)]
-mod numbers;
-#[cfg(test)]
 mod switch_times;

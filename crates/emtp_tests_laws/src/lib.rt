@@ -7,6 +7,8 @@
 #![tactic(auto)]
 
 #[cfg(test)]
+mod case;
+#[cfg(test)]
 mod fixtures;
 #[cfg(test)]
 mod hist;

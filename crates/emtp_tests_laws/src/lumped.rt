@@ -1,4 +1,4 @@
-//! The worked branches: 1 ohm with an inductance or a capacitance at 100 V, stepped by 100 microseconds.
+//! Two branches whose numbers don't divide evenly, stepped together by 100 microseconds.
 
 ghost use Rattle.std.specs.Prelude.{◌≡◌, ◌≢◌, ◌+◌, ◌<◌, [], ◌∷◌, List, ℕ, None, length, IfOk, OnOk, OnErr, IfErr};
 ghost use Rattle.emtp_case.specs.held.Branch.{IsLumped};
@@ -11,7 +11,7 @@ ghost use Rattle.emtp_lumped.specs.Lumps.{next_of};
 ghost use Rattle.emtp_lumped.specs.held.Lumps.{IsSeries, StandsAt, StandsFor, HasMoved};
 ghost use Rattle.emtp_tests_laws.specs.Stepping.{voltage_of, HaveMoved, IsNext, IsFirstOut};
 
-use crate::fixtures::{OUT, RUN, V, nodes};
+use crate::fixtures::{RUN, V, nodes};
 use emtp_case::{Branch, Case, Draft, Lumped};
 use emtp_fix::OutOfRange;
 use emtp_lumped::Lumps;
@@ -75,40 +75,10 @@ fn accept_all(
 
 // Cases.
 
-/// 1 ohm and 0.05 mH.
-#[tactic(auto, unfolding(emtp_fix::specs::Rounding::near, emtp_fix::specs::Rounding::near_abs, emtp_case::specs::Branch::capacitor_impedance))]
-fn coil() -> Lumped
-    ensures { IsLumped RUN (sizes_with 1) result }
-{
-    Lumped {
-        line: 4,
-        from: 1,
-        to: 0,
-        r: 1_000_000,
-        l: 50_000,
-        c: 0,
-    }
-}
-
-/// 1 ohm and 50 microfarad.
-#[tactic(auto, unfolding(emtp_fix::specs::Rounding::near, emtp_fix::specs::Rounding::near_abs, emtp_case::specs::Branch::capacitor_impedance))]
-fn capacitor() -> Lumped
-    ensures { IsLumped RUN (sizes_with 1) result }
-{
-    Lumped {
-        line: 4,
-        from: 1,
-        to: 0,
-        r: 1_000_000,
-        l: 0,
-        c: 50_000_000_000,
-    }
-}
-
-/// 10 ohm and 5 nH, whose impedance is 100 micro-ohm.
+/// 10 ohm and 5 nH, whose impedance is 100 micro-ohm, from node 1 to ground.
 #[tactic(auto, unfolding(emtp_fix::specs::Rounding::near, emtp_fix::specs::Rounding::near_abs, emtp_case::specs::Branch::capacitor_impedance))]
 fn short_lead() -> Lumped
-    ensures { IsLumped RUN (sizes_with 1) result }
+    ensures { IsLumped RUN (sizes_with 2) result }
 {
     Lumped {
         line: 4,
@@ -120,14 +90,14 @@ fn short_lead() -> Lumped
     }
 }
 
-/// All three parts, of numbers that don't divide evenly.
+/// All three parts from node 2 to ground.
 #[tactic(auto, unfolding(emtp_fix::specs::Rounding::near, emtp_fix::specs::Rounding::near_abs, emtp_case::specs::Branch::capacitor_impedance))]
 fn all_parts() -> Lumped
-    ensures { IsLumped RUN (sizes_with 1) result }
+    ensures { IsLumped RUN (sizes_with 2) result }
 {
     Lumped {
         line: 4,
-        from: 1,
+        from: 2,
         to: 0,
         r: 1_234_567,
         l: 76_543,
@@ -135,15 +105,13 @@ fn all_parts() -> Lumped
     }
 }
 
-/// A case of two branches from a node to ground.
-fn two_branches(alloc: Global, first: Lumped, second: Lumped) -> Result<Case, AllocError>
-    requires first { IsLumped RUN (sizes_with 1) first }
-    requires second { IsLumped RUN (sizes_with 1) second }
-    ensures branches { IfOk result (λ case. case.parts.branches ≡ Branch.Lumped first ∷ Branch.Lumped second ∷ []) }
-    ensures nodes { IfOk result (λ case. length case.parts.nodes ≡ 1) }
+/// A case of both branches.
+fn two_branches(alloc: Global) -> Result<Case, AllocError>
+    ensures branches { IfOk result (λ case. length case.parts.branches ≡ 2) }
+    ensures nodes { IfOk result (λ case. length case.parts.nodes ≡ 2) }
 {
-    let mut draft = nodes(alloc, 1)?;
-    match add_branches(&mut draft, first, second) {
+    let mut draft = nodes(alloc, 2)?;
+    match add_branches(&mut draft, short_lead(), all_parts()) {
         Ok(()) => Ok(draft.finish_network()),
         Err(error) => {
             drop(draft);
@@ -154,157 +122,68 @@ fn two_branches(alloc: Global, first: Lumped, second: Lumped) -> Result<Case, Al
 
 fn add_branches(draft: &mut Draft, first: Lumped, second: Lumped) -> Result<(), AllocError>
     requires empty { draft.old.parts ≡ record (empty_parts RUN) { nodes = draft.old.parts.nodes } }
-    requires nodes { length draft.old.parts.nodes ≡ 1 }
-    requires first { IsLumped RUN (sizes_with 1) first }
-    requires second { IsLumped RUN (sizes_with 1) second }
+    requires nodes { length draft.old.parts.nodes ≡ 2 }
+    requires first { IsLumped RUN (sizes_with 2) first }
+    requires second { IsLumped RUN (sizes_with 2) second }
     ensures { OnOk result (draft.new.parts ≡ record draft.old.parts { branches = Branch.Lumped first ∷ Branch.Lumped second ∷ [] }) }
 {
     draft.add_lumped(first)?;
     draft.add_lumped(second)
 }
 
-/// The voltages of the ends; then the history current before the step, and the current after it.
-type Row = ((i64, i64), i128, i64);
+/// The voltages of the nodes, ground first, and the currents that they make; or the branch that is out of range.
+type Row = ([i64; 3], Result<[i64; 2], usize>);
 
-/// The first row that a branch doesn't step like.
-fn difference(alloc: Global, branch: Lumped, rows: &[Row]) -> Result<Option<usize>, AllocError>
-    requires { IsLumped RUN (sizes_with 1) branch }
-{
-    let case = two_branches(alloc, branch, branch)?;
-    let found = walk(alloc, &case, rows);
-    drop(case);
-    found
-}
+/// 0.5 GA through the short lead are in range, 2.5 GA through the other branch aren't.
+const STEPS: [Row; 4] = [
+    (
+        [0, 100 * V, 124_444_443_333],
+        Ok([9_999_900_001, 15_897_496_659]),
+    ),
+    (
+        [0, 100 * V, -55_555_555_562],
+        Ok([10_000_099_997, -21_441_695_325]),
+    ),
+    (
+        [0, 100 * V, 31 - 100 * V],
+        Ok([9_999_900_005, -20_208_049_890]),
+    ),
+    ([0, 5_000_000_000 * V, 5_000_000_000 * V], Err(1)),
+];
 
-fn walk(alloc: Global, case: &Case, rows: &[Row]) -> Result<Option<usize>, AllocError>
-    requires { (x : Lumped) × IsSeries case.now.parts 0 x }
-{
-    let mut lumps = Lumps::open(alloc, case)?;
-    let found = first_difference(&mut lumps, rows);
-    drop(lumps);
-    Ok(found)
-}
-
-fn first_difference(lumps: &mut Lumps<'_>, rows: &[Row]) -> Option<usize>
-    requires { (x : Lumped) × IsSeries lumps.old.case 0 x }
-{
-    for at in 0..rows.len() {
-        let (voltages, history, current) = rows[at];
-        let (before, after) = step(lumps, voltages);
-        if before != history || after != current {
-            return Some(at);
-        }
-    }
-    None
-}
-
-fn step(lumps: &mut Lumps<'_>, voltages: (i64, i64)) -> (i128, i64)
-    requires { (x : Lumped) × IsSeries lumps.old.case 0 x }
+/// Whether a step ends so.
+fn ends(case: &Case, lumps: &mut Lumps<'_>, row: &Row) -> bool
+    requires same { lumps.old.case ≡ case.now.parts }
+    requires nodes { length case.now.parts.nodes ≡ 2 }
+    requires branches { length case.now.parts.branches ≡ 2 }
     ensures { lumps.new.case ≡ lumps.old.case }
 {
-    let history = lumps.history_current(0);
-    (
-        history,
-        lumps.accept(0, voltages.0, voltages.1).unwrap_or(OUT),
-    )
+    let (voltages, wanted) = *row;
+    let mut currents = [0; 2];
+    match accept_all(case, lumps, &voltages, &mut currents) {
+        Ok(()) => wanted == Ok(currents),
+        Err(branch) => wanted == Err(branch),
+    }
 }
 
-const COIL: &[Row] = &[
-    ((100 * V, 0), 0, 50 * V),
-    ((100 * V, 0), 50_000_000_000, 100 * V),
-    ((100 * V, 0), 50_000_000_000, 100 * V),
-];
-
-const CAPACITOR: &[Row] = &[
-    ((100 * V, 0), 0, 50 * V),
-    ((100 * V, 0), -50_000_000_000, 0),
-    ((100 * V, 0), -50_000_000_000, 0),
-];
-
-const SHORT_LEAD: &[Row] = &[
-    ((100 * V, 0), 0, 9_999_900_001),
-    ((100 * V, 0), 199_996, 10_000_099_997),
-    ((100 * V, 0), 4, 9_999_900_005),
-];
-
-const ALL_PARTS: &[Row] = &[
-    ((123_456_789_012, -987_654_321), 0, 15_897_496_659),
-    ((-55_555_555_555, 7), -14_344_598_538, -21_441_695_325),
-    ((31, 100 * V), -7_433_275_679, -20_208_049_890),
-];
-
-/// A difference of voltages that 64 bits don't hold comes first.
-const FAR_ENDS: &[Row] = &[
-    ((i64::MAX, i64::MIN), 0, OUT),
-    ((100 * V, 0), 0, 50 * V),
-    ((V, V), 50_000_000_000, 50 * V),
-];
-
-/// The first differences of all branches.
-fn differences(alloc: Global) -> [Result<Option<usize>, AllocError>; 5] {
-    [
-        difference(alloc, coil(), COIL),
-        difference(alloc, capacitor(), CAPACITOR),
-        difference(alloc, short_lead(), SHORT_LEAD),
-        difference(alloc, all_parts(), ALL_PARTS),
-        difference(alloc, coil(), FAR_ENDS),
-    ]
-}
-
-#[test]
-fn worked_branches(rt: HostRuntime) -> Result<(), Fail> {
-    assert_eq!(rt; differences(rt.alloc()), [Ok(None); 5]);
-    Ok(())
-}
-
-/// The conductances of both branches.
-fn conductances_of(alloc: Global, case: &Case) -> Result<[i64; 2], AllocError>
-    requires first { (x : Lumped) × IsSeries case.now.parts 0 x }
-    requires second { (x : Lumped) × IsSeries case.now.parts 1 x }
-{
-    let lumps = Lumps::open(alloc, case)?;
-    let found = [lumps.conductance(0), lumps.conductance(1)];
-    drop(lumps);
-    Ok(found)
-}
-
-#[test]
-fn conductances(rt: HostRuntime) -> Result<(), Fail> {
-    let case = two_branches(rt.alloc(), coil(), short_lead())?;
-    let found = conductances_of(rt.alloc(), &case);
-    drop(case);
-    // 10^18 over 10,000,100 micro-ohm
-    assert_eq!(rt; found?, [500_000_000_000, 99_999_000_010]);
-    Ok(())
-}
-
-/// What a step of both branches at 100 V answers, their currents, and what the next answers at 5 GV.
-fn steps_of_both(
-    alloc: Global,
-    case: &Case,
-) -> Result<(Result<(), usize>, [i64; 2], Result<(), usize>), AllocError>
-    requires nodes { length case.now.parts.nodes ≡ 1 }
+fn all_end(alloc: Global, case: &Case) -> Result<bool, AllocError>
+    requires nodes { length case.now.parts.nodes ≡ 2 }
     requires branches { length case.now.parts.branches ≡ 2 }
 {
     let mut lumps = Lumps::open(alloc, case)?;
-    let mut currents = [0; 2];
-    let near = accept_all(case, &mut lumps, &[0, 100 * V], &mut currents);
-    let far = accept_all(
-        case,
-        &mut lumps,
-        &[0, 5_000_000_000_000_000_000],
-        &mut [0; 2],
-    );
+    let are = ends(case, &mut lumps, &STEPS[0])
+        && ends(case, &mut lumps, &STEPS[1])
+        && ends(case, &mut lumps, &STEPS[2])
+        && ends(case, &mut lumps, &STEPS[3]);
     drop(lumps);
-    Ok((near, currents, far))
+    Ok(are)
 }
 
 #[test]
 fn all_branches_step_by_step(rt: HostRuntime) -> Result<(), Fail> {
-    let case = two_branches(rt.alloc(), short_lead(), coil())?;
-    let found = steps_of_both(rt.alloc(), &case);
+    let case = two_branches(rt.alloc())?;
+    let are = all_end(rt.alloc(), &case);
     drop(case);
-    // 0.5 GA through the short lead is in range, 2.5 GA through the coil isn't
-    assert_eq!(rt; found?, (Ok(()), [9_999_900_001, 50 * V], Err(1)));
+    assert!(rt; are?);
     Ok(())
 }

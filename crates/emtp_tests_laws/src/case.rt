@@ -2,17 +2,23 @@
 
 ghost use Rattle.emtp_case.specs.held.Control.{HasRangeOfA};
 
-use crate::fixtures::{RUN, point};
+use crate::fixtures::RUN;
 use emtp_case::{
-    Branch, Device, DeviceCode, Group, Items, Line, Point, Pseudo, RunData, Trio,
-    capacitor_impedance, inductor_impedance, line_impedance, series_impedance, slope,
+    Branch, Device, DeviceCode, Group, Items, Line, Point, Trio, capacitor_impedance,
+    inductor_impedance, line_impedance, series_impedance, slope,
 };
 use std::alloc::Global;
 
 /// Points at 1 A and 100 V, or 1 A and 100 Wb, in nA and nV or pWb.
-const NEAR: Point = point!(1_000_000_000, 100_000_000_000);
+const NEAR: Point = Point {
+    current: 1_000_000_000,
+    other: 100_000_000_000,
+};
 
-const FAR: Point = point!(4_000_000_000, 250_000_000_000);
+const FAR: Point = Point {
+    current: 4_000_000_000,
+    other: 250_000_000_000,
+};
 
 #[test]
 fn impedances_of_a_step(rt: HostRuntime) {
@@ -37,15 +43,6 @@ fn slopes_of_segments(rt: HostRuntime) {
     assert!(rt; slope(true, RUN.dt, NEAR, FAR) == 1_000_000_000);
 }
 
-const REACTOR: Pseudo = Pseudo {
-    line: 1,
-    from: 1,
-    to: 2,
-    reactor: true,
-    first: 0,
-    count: 2,
-};
-
 #[test]
 fn history_values_of_lines(rt: HostRuntime) {
     let modes = Trio {
@@ -67,7 +64,6 @@ fn history_values_of_lines(rt: HostRuntime) {
         assert!(rt; line.history_values(RUN.dt) == 22);
     }
     assert!(rt; modes.history_values(RUN.dt) == 108);
-    assert!(rt; Branch::Pseudo(REACTOR).history_values(RUN.dt) == 0);
 }
 
 /// How many past values a device of this code and this number A keeps.
@@ -101,17 +97,4 @@ fn history_values_of_devices(rt: HostRuntime) {
         && kept(alloc, DeviceCode::EffectiveValue, 1_000_000_000_000) == 1
         && kept(alloc, DeviceCode::Integral, -5) == 0;
     assert!(rt; are_kept);
-}
-
-#[test]
-fn samples_of_runs(rt: HostRuntime) {
-    // Record 0 and each every-th after it.
-    for (steps, every, samples) in [(3, 1, 4), (3, 2, 2), (3, 4, 1), (1_000_000, 1, 1_000_001)] {
-        let run = RunData {
-            steps,
-            every,
-            ..RUN
-        };
-        assert!(rt; 1 <= run.every && run.steps <= 1_000_000 && run.samples() == samples);
-    }
 }
