@@ -1,2 +1,1 @@
-pub mod Fixtures
 pub mod Stepping

@@ -11,61 +11,27 @@ use emtp_expr::{ExprFault, eval, parse};
 use emtp_fix::in_range;
 use std::alloc::{AllocError, Global};
 
+macro_rules! columns {
+    ($($text:expr => $column:expr;)*) => {
+        &[$(($text, $column)),*]
+    };
+}
+
 /// A text and the column of its fault. The columns are those of an independent program.
-const COLUMNS: &[(&str, Option<u32>)] = &[
-    ("", Some(1)),
-    ("   ", Some(1)),
-    ("1 +", Some(4)),
-    ("1 + ", Some(4)),
-    ("ABS1", None),
-    ("ABS 1", Some(5)),
-    ("ABS(1)", None),
-    ("A B", Some(3)),
-    ("ABCDEFG", Some(7)),
-    ("1.GT.2", None),
-    ("1..GT.2", None),
-    ("1.EQ.2", None),
-    ("1.EQ 2", Some(3)),
-    ("1.E5", None),
-    ("2E", Some(2)),
-    ("0E1234", Some(6)),
-    ("1E1234", Some(1)),
-    ("1e5", Some(2)),
-    ("A.GT.B.GT.C", Some(7)),
-    ("A*-B", Some(3)),
-    ("-A*B", None),
-    ("--A", Some(2)),
-    ("A .GT. -B", None),
-    (
-        ".NOT..NOT..NOT..NOT..NOT..NOT..NOT..NOT..NOT..NOT..NOT..NOT..NOT..NOT..NOT..NOT.A",
-        None,
-    ),
-    (
-        ".NOT..NOT..NOT..NOT..NOT..NOT..NOT..NOT..NOT..NOT..NOT..NOT..NOT..NOT..NOT..NOT..NOT.A",
-        Some(81),
-    ),
-    ("((((((((((((((((1))))))))))))))))", None),
-    ("(((((((((((((((((1)))))))))))))))))", Some(17)),
-    ("((((((((((((((((ABS(1)))))))))))))))))", Some(17)),
-    ("(A", Some(3)),
-    ("(A))", Some(4)),
-    ("()", Some(2)),
-    ("A ? B", Some(3)),
-    ("? B", Some(1)),
-    ("A .XX. B", Some(3)),
-    ("1.5.5", Some(4)),
-    (".", Some(1)),
-    ("1000000000", None),
-    ("1000000001", Some(1)),
-    ("A + .NOT. B", Some(5)),
-    ("SQRT", Some(5)),
-    ("A,B", Some(2)),
-    ("abs(1)", Some(4)),
-    ("TRUNC(1.5)+SIGN(-2)", None),
-    ("A.AND..NOT.B", None),
-    (" 1.0 +", Some(7)),
-    ("2.0*MID + 1.0", None),
-];
+const COLUMNS: &[(&str, Option<u32>)] = columns! {
+    "" => Some(1); "   " => Some(1); "1 +" => Some(4); "1 + " => Some(4); "ABS1" => None; "ABS 1" => Some(5);
+    "ABS(1)" => None; "A B" => Some(3); "ABCDEFG" => Some(7); "1.GT.2" => None; "1..GT.2" => None; "1.EQ.2" => None;
+    "1.EQ 2" => Some(3); "1.E5" => None; "2E" => Some(2); "0E1234" => Some(6); "1E1234" => Some(1); "1e5" => Some(2);
+    "A.GT.B.GT.C" => Some(7); "A*-B" => Some(3); "-A*B" => None; "--A" => Some(2); "A .GT. -B" => None;
+    ".NOT..NOT..NOT..NOT..NOT..NOT..NOT..NOT..NOT..NOT..NOT..NOT..NOT..NOT..NOT..NOT.A" => None;
+    ".NOT..NOT..NOT..NOT..NOT..NOT..NOT..NOT..NOT..NOT..NOT..NOT..NOT..NOT..NOT..NOT..NOT.A" => Some(81);
+    "((((((((((((((((1))))))))))))))))" => None; "(((((((((((((((((1)))))))))))))))))" => Some(17);
+    "((((((((((((((((ABS(1)))))))))))))))))" => Some(17); "(A" => Some(3); "(A))" => Some(4); "()" => Some(2);
+    "A ? B" => Some(3); "? B" => Some(1); "A .XX. B" => Some(3); "1.5.5" => Some(4); "." => Some(1);
+    "1000000000" => None; "1000000001" => Some(1); "A + .NOT. B" => Some(5); "SQRT" => Some(5); "A,B" => Some(2);
+    "abs(1)" => Some(4); "TRUNC(1.5)+SIGN(-2)" => None; "A.AND..NOT.B" => None; " 1.0 +" => Some(7);
+    "2.0*MID + 1.0" => None;
+};
 
 #[test]
 fn the_first_word_that_nothing_goes_on_with(rt: HostRuntime) {
@@ -86,108 +52,40 @@ fn column_of(alloc: Global, text: &[u8]) -> Option<u32>
     }
 }
 
+/// 1 in nano.
+const UNIT: i64 = 1_000_000_000;
+
+macro_rules! values {
+    ($($text:expr, $values:expr => $value:expr;)*) => {
+        &[$(($text, $values, $value)),*]
+    };
+}
+
 /// A text, the values of its names in order of first appearance, and its value, all in nano. The values are those of an
 /// independent program, and were worked out by hand.
-const VALUES: &[(&str, &[i64], Option<i64>)] = &[
-    ("2.0*MID + 1.0", &[50_000_000_000], Some(101_000_000_000)),
-    ("1.0 / ZERO", &[0], None),
-    (
-        "A-B-C",
-        &[10_000_000_000, 3_000_000_000, 2_000_000_000],
-        Some(5_000_000_000),
-    ),
-    (
-        "A/B/C",
-        &[8_000_000_000, 2_000_000_000, 2_000_000_000],
-        Some(2_000_000_000),
-    ),
-    (
-        "-A*B",
-        &[3_000_000_000, 2_000_000_000],
-        Some(-6_000_000_000),
-    ),
-    (
-        "-A+B",
-        &[3_000_000_000, 2_000_000_000],
-        Some(-1_000_000_000),
-    ),
-    (
-        "(A+B)*C",
-        &[1_000_000_000, 2_000_000_000, 3_000_000_000],
-        Some(9_000_000_000),
-    ),
-    (".NOT.A.AND.B", &[1_000_000_000, 0], Some(0)),
-    (
-        ".NOT.A.OR.B",
-        &[1_000_000_000, 1_000_000_000],
-        Some(1_000_000_000),
-    ),
-    ("A.OR.B.AND.C", &[1_000_000_000, 0, 0], Some(1_000_000_000)),
-    (
-        "A+B.GT.C",
-        &[1_000_000_000, 2_000_000_000, 2_500_000_000],
-        Some(1_000_000_000),
-    ),
-    (
-        "A.GE.B",
-        &[1_000_000_000, 1_000_000_000],
-        Some(1_000_000_000),
-    ),
-    ("A.LT.B", &[1_000_000_000, 1_000_000_000], Some(0)),
-    (
-        "A.LE.B",
-        &[1_000_000_000, 1_000_000_000],
-        Some(1_000_000_000),
-    ),
-    ("A.EQ.B", &[1_000_000_000, 1_000_000_001], Some(0)),
-    (
-        "A.NE.B",
-        &[1_000_000_000, 1_000_000_001],
-        Some(1_000_000_000),
-    ),
-    ("A.AND.B", &[1, -1], Some(0)),
-    ("A*B", &[1, 500_000_000], Some(1)),
-    ("A*B", &[-1, 500_000_000], Some(-1)),
-    ("A*B", &[1, 499_999_999], Some(0)),
-    ("A/B", &[1_000_000_000, 3_000_000_000], Some(333_333_333)),
-    ("A/B", &[2_000_000_000, 3_000_000_000], Some(666_666_667)),
-    ("TRUNC(A)", &[-1_500_000_000], Some(-1_000_000_000)),
-    ("TRUNC(A)", &[1_999_999_999], Some(1_000_000_000)),
-    ("SQRT(A)", &[2_000_000_000], Some(1_414_213_562)),
-    ("SQRT(A)", &[-1], None),
-    ("ABS(A)", &[-3_000_000_000], Some(3_000_000_000)),
-    ("SIGN(A)", &[-5], Some(-1_000_000_000)),
-    ("SIGN(A)", &[0], Some(0)),
-    (
-        "A+B",
-        &[1_000_000_000_000_000_000, 0],
-        Some(1_000_000_000_000_000_000),
-    ),
-    ("A+B", &[1_000_000_000_000_000_000, 1], None),
-    ("A-B", &[-1_000_000_000_000_000_000, 1], None),
-    (
-        "A*B",
-        &[1_000_000_000_000_000_000, 1_000_000_000],
-        Some(1_000_000_000_000_000_000),
-    ),
-    ("A*B", &[1_000_000_000_000_000_000, 1_000_000_001], None),
-    ("A/B", &[1_000_000_000_000_000_000, 999_999_999], None),
-    ("A.EQ.A", &[7], Some(1_000_000_000)),
-    ("1.5E3", &[], Some(1_500_000_000_000)),
-    ("1.5D-3", &[], Some(1_500_000)),
-    (".5E-9", &[], Some(1)),
-    (".4E-9", &[], Some(0)),
-    (
-        "ABS1-ABS2",
-        &[1_000_000_000, 2_000_000_000],
-        Some(-1_000_000_000),
-    ),
-    (
-        "ABS(A)-SQRT(B)",
-        &[-1_000_000_000, 4_000_000_000],
-        Some(-1_000_000_000),
-    ),
-];
+const VALUES: &[(&str, &[i64], Option<i64>)] = values! {
+    "2.0*MID + 1.0", &[50 * UNIT] => Some(101 * UNIT); "1.0 / ZERO", &[0] => None;
+    "A-B-C", &[10 * UNIT, 3 * UNIT, 2 * UNIT] => Some(5 * UNIT);
+    "A/B/C", &[8 * UNIT, 2 * UNIT, 2 * UNIT] => Some(2 * UNIT); "-A*B", &[3 * UNIT, 2 * UNIT] => Some(-6 * UNIT);
+    "-A+B", &[3 * UNIT, 2 * UNIT] => Some(-UNIT); "(A+B)*C", &[UNIT, 2 * UNIT, 3 * UNIT] => Some(9 * UNIT);
+    ".NOT.A.AND.B", &[UNIT, 0] => Some(0); ".NOT.A.OR.B", &[UNIT, UNIT] => Some(UNIT);
+    "A.OR.B.AND.C", &[UNIT, 0, 0] => Some(UNIT); "A+B.GT.C", &[UNIT, 2 * UNIT, 2_500_000_000] => Some(UNIT);
+    "A.GE.B", &[UNIT, UNIT] => Some(UNIT); "A.LT.B", &[UNIT, UNIT] => Some(0); "A.LE.B", &[UNIT, UNIT] => Some(UNIT);
+    "A.EQ.B", &[UNIT, 1_000_000_001] => Some(0); "A.NE.B", &[UNIT, 1_000_000_001] => Some(UNIT);
+    "A.AND.B", &[1, -1] => Some(0); "A*B", &[1, 500_000_000] => Some(1); "A*B", &[-1, 500_000_000] => Some(-1);
+    "A*B", &[1, 499_999_999] => Some(0); "A/B", &[UNIT, 3 * UNIT] => Some(333_333_333);
+    "A/B", &[2 * UNIT, 3 * UNIT] => Some(666_666_667); "TRUNC(A)", &[-1_500_000_000] => Some(-UNIT);
+    "TRUNC(A)", &[1_999_999_999] => Some(UNIT); "SQRT(A)", &[2 * UNIT] => Some(1_414_213_562);
+    "SQRT(A)", &[-1] => None; "ABS(A)", &[-3 * UNIT] => Some(3 * UNIT); "SIGN(A)", &[-5] => Some(-UNIT);
+    "SIGN(A)", &[0] => Some(0); "A+B", &[1_000_000_000_000_000_000, 0] => Some(1_000_000_000_000_000_000);
+    "A+B", &[1_000_000_000_000_000_000, 1] => None; "A-B", &[-1_000_000_000_000_000_000, 1] => None;
+    "A*B", &[1_000_000_000_000_000_000, UNIT] => Some(1_000_000_000_000_000_000);
+    "A*B", &[1_000_000_000_000_000_000, 1_000_000_001] => None;
+    "A/B", &[1_000_000_000_000_000_000, 999_999_999] => None; "A.EQ.A", &[7] => Some(UNIT);
+    "1.5E3", &[] => Some(1500 * UNIT); "1.5D-3", &[] => Some(1_500_000); ".5E-9", &[] => Some(1);
+    ".4E-9", &[] => Some(0); "ABS1-ABS2", &[UNIT, 2 * UNIT] => Some(-UNIT);
+    "ABS(A)-SQRT(B)", &[-UNIT, 4 * UNIT] => Some(-UNIT);
+};
 
 #[test]
 fn the_value_of_a_text(rt: HostRuntime) {

@@ -13,6 +13,4 @@ mod devices;
 #[cfg(test)]
 mod expr;
 #[cfg(test)]
-mod fixtures;
-#[cfg(test)]
 mod tacs;
