@@ -1,3 +1,0 @@
-pub mod Characteristics
-pub mod Lag
-pub mod Numbering
