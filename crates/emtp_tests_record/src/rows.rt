@@ -199,158 +199,40 @@ pub struct Row {
     pub made: &'static [Option<&'static str>; 4],
 }
 
+macro_rules! rows {
+    ($($words:expr, $files:expr, $read:expr => $status:ident, $cut:ident, $made:expr;)*) => {
+        &[$(Row {
+            words: $words,
+            files: &$files,
+            read: $read,
+            status: Status::$status,
+            cut: Status::$cut,
+            made: &$made,
+        }),*]
+    };
+}
+
 /// A run to its end, one with an early end, a refused card, words that don't fit, a trial; a batch, a refused row, and a
 /// refused card beside a table; an audit that finds the record the same, one that finds it cut, and a refused card beside a
 /// record; a steady state, one without a solution, one without a frequency, and a refused card; a scan, one whose source is
 /// refused, and a refused card.
-pub const ROWS: &[Row] = &[
-    Row {
-        words: RUN,
-        files: &[DIVIDER, "", ""],
-        read: 1,
-        status: Status::Done,
-        cut: Status::WriteFault,
-        made: &[Some(CFG), Some(DAT), Some(NOTE), None],
-    },
-    Row {
-        words: RUN,
-        files: &[UNBOUND, "", ""],
-        read: 1,
-        status: Status::Ended,
-        cut: Status::WriteFault,
-        made: &[
-            Some(UNBOUND_CFG),
-            Some(UNBOUND_DAT),
-            Some(UNBOUND_NOTE),
-            None,
-        ],
-    },
-    Row {
-        words: RUN,
-        files: &["", "", ""],
-        read: 1,
-        status: Status::BadCard,
-        cut: Status::BadCard,
-        made: &[None, None, Some(REFUSED), None],
-    },
-    Row {
-        words: &["run", "a.case", "a.dat", "a.dat"],
-        files: &[DIVIDER, "", ""],
-        read: 0,
-        status: Status::Usage,
-        cut: Status::Usage,
-        made: &[None, None, Some("USAGE\n"), None],
-    },
-    Row {
-        words: &["trial", "1"],
-        files: &[DIVIDER, "", ""],
-        read: 0,
-        status: Status::Done,
-        cut: Status::WriteFault,
-        made: &[None, None, None, Some(TRIAL)],
-    },
-    Row {
-        words: BATCH,
-        files: &[BREAKER, TIMES, ""],
-        read: 2,
-        status: Status::Done,
-        cut: Status::WriteFault,
-        made: &[None, None, None, Some(PEAKS)],
-    },
-    Row {
-        words: BATCH,
-        files: &[BREAKER, "", ""],
-        read: 2,
-        status: Status::BadRow,
-        cut: Status::BadRow,
-        made: &[None, None, Some(NO_ROW), None],
-    },
-    Row {
-        words: BATCH,
-        files: &["", TIMES, ""],
-        read: 2,
-        status: Status::BadCard,
-        cut: Status::BadCard,
-        made: &[None, None, Some(REFUSED), None],
-    },
-    Row {
-        words: AUDIT,
-        files: &[DIVIDER, CFG, DAT],
-        read: 3,
-        status: Status::Done,
-        cut: Status::WriteFault,
-        made: &[None, None, None, Some(SAME)],
-    },
-    Row {
-        words: AUDIT,
-        files: &[DIVIDER, CFG, SHORT_DAT],
-        read: 3,
-        status: Status::Differs,
-        cut: Status::Differs,
-        made: &[None, None, Some(DIFFERS), None],
-    },
-    Row {
-        words: AUDIT,
-        files: &["", CFG, DAT],
-        read: 3,
-        status: Status::BadCard,
-        cut: Status::BadCard,
-        made: &[None, None, Some(REFUSED), None],
-    },
-    Row {
-        words: PHASOR,
-        files: &[STEADY, "", ""],
-        read: 1,
-        status: Status::Done,
-        cut: Status::WriteFault,
-        made: &[None, None, None, Some(VOLTAGES)],
-    },
-    Row {
-        words: PHASOR,
-        files: &[UNBOUND_STEADY, "", ""],
-        read: 1,
-        status: Status::Ended,
-        cut: Status::WriteFault,
-        made: &[None, None, Some(NO_VOLTAGES), None],
-    },
-    Row {
-        words: PHASOR,
-        files: &[DIVIDER, "", ""],
-        read: 1,
-        status: Status::Refused,
-        cut: Status::Refused,
-        made: &[None, None, Some(NO_SOURCE), None],
-    },
-    Row {
-        words: PHASOR,
-        files: &["", "", ""],
-        read: 1,
-        status: Status::BadCard,
-        cut: Status::BadCard,
-        made: &[None, None, Some(REFUSED), None],
-    },
-    Row {
-        words: SCAN,
-        files: &[RESISTOR, "", ""],
-        read: 1,
-        status: Status::Done,
-        cut: Status::WriteFault,
-        made: &[None, None, None, Some(IMPEDANCES)],
-    },
-    Row {
-        words: SCAN,
-        files: &[STEADY, "", ""],
-        read: 1,
-        status: Status::Refused,
-        cut: Status::Refused,
-        made: &[None, None, Some(NO_PROBE), None],
-    },
-    Row {
-        words: SCAN,
-        files: &["", "", ""],
-        read: 1,
-        status: Status::BadCard,
-        cut: Status::BadCard,
-        made: &[None, None, Some(REFUSED), None],
-    },
-];
+pub const ROWS: &[Row] = rows! {
+    RUN, [DIVIDER, "", ""], 1 => Done, WriteFault, [Some(CFG), Some(DAT), Some(NOTE), None];
+    RUN, [UNBOUND, "", ""], 1 => Ended, WriteFault, [Some(UNBOUND_CFG), Some(UNBOUND_DAT), Some(UNBOUND_NOTE), None];
+    RUN, ["", "", ""], 1 => BadCard, BadCard, [None, None, Some(REFUSED), None];
+    &["run", "a.case", "a.dat", "a.dat"], [DIVIDER, "", ""], 0 => Usage, Usage, [None, None, Some("USAGE\n"), None];
+    &["trial", "1"], [DIVIDER, "", ""], 0 => Done, WriteFault, [None, None, None, Some(TRIAL)];
+    BATCH, [BREAKER, TIMES, ""], 2 => Done, WriteFault, [None, None, None, Some(PEAKS)];
+    BATCH, [BREAKER, "", ""], 2 => BadRow, BadRow, [None, None, Some(NO_ROW), None];
+    BATCH, ["", TIMES, ""], 2 => BadCard, BadCard, [None, None, Some(REFUSED), None];
+    AUDIT, [DIVIDER, CFG, DAT], 3 => Done, WriteFault, [None, None, None, Some(SAME)];
+    AUDIT, [DIVIDER, CFG, SHORT_DAT], 3 => Differs, Differs, [None, None, Some(DIFFERS), None];
+    AUDIT, ["", CFG, DAT], 3 => BadCard, BadCard, [None, None, Some(REFUSED), None];
+    PHASOR, [STEADY, "", ""], 1 => Done, WriteFault, [None, None, None, Some(VOLTAGES)];
+    PHASOR, [UNBOUND_STEADY, "", ""], 1 => Ended, WriteFault, [None, None, Some(NO_VOLTAGES), None];
+    PHASOR, [DIVIDER, "", ""], 1 => Refused, Refused, [None, None, Some(NO_SOURCE), None];
+    PHASOR, ["", "", ""], 1 => BadCard, BadCard, [None, None, Some(REFUSED), None];
+    SCAN, [RESISTOR, "", ""], 1 => Done, WriteFault, [None, None, None, Some(IMPEDANCES)];
+    SCAN, [STEADY, "", ""], 1 => Refused, Refused, [None, None, Some(NO_PROBE), None];
+    SCAN, ["", "", ""], 1 => BadCard, BadCard, [None, None, Some(REFUSED), None];
+};

@@ -172,41 +172,6 @@ fn refuses_words_as_clap_does(rt: HostRuntime) -> Result<(), Fail> {
     Ok(())
 }
 
-/// Words of a scan that don't fit: a frequency of 0, the first above the last, a leading 0, and 10,001 frequencies.
-const NO_SCANS: [[&str; 5]; 4] = [
-    ["scan", "A", "0", "10", "1"],
-    ["scan", "A", "10", "5", "1"],
-    ["scan", "A", "1", "010", "1"],
-    ["scan", "A", "1", "10001", "1"],
-];
-
-/// Whether the words are a scan from 1 to 10,000 Hz, in micro-hertz.
-fn is_scan(words: &[String]) -> bool {
-    match read_words(words) {
-        Some(Words::Scan(words)) => {
-            words.first == 1_000_000 && words.last == 10_000_000_000 && words.by == 1_000_000
-        }
-        _ => false,
-    }
-}
-
-fn scan_is_read(alloc: Global) -> Result<bool, AllocError> {
-    let words = owned(alloc, &["scan", "A", "1", "10000", "1"])?;
-    let is = is_scan(&words);
-    drop(words);
-    Ok(is)
-}
-
-#[test]
-fn reads_the_frequencies_of_a_scan(rt: HostRuntime) -> Result<(), Fail> {
-    let alloc = rt.alloc();
-    assert!(rt; scan_is_read(alloc)?);
-    for words in NO_SCANS.iter() {
-        assert!(rt; read_words(&owned(alloc, words.as_slice())?).is_none());
-    }
-    Ok(())
-}
-
 /// The trial case of two sections.
 const TRIAL: &str = concat!(
     "BEGIN NEW DATA CASE\n",
