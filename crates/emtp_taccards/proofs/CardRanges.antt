@@ -5,10 +5,11 @@ use Rattle.std.specs.Option.{ForSome}
 use Rattle.std.specs.Ordering.{int_eq}
 use Rattle.emtp_card.specs.Lines.{fault_of_line}
 use Rattle.emtp_card.specs.Name.{name_field}
-use Rattle.emtp_card.specs.Number.{number_field}
+use Rattle.emtp_card.specs.NumberField.{number_of, number_or}
 use Rattle.emtp_card.specs.Whole.{whole_field}
 use Rattle.emtp_card.specs.held.Number.{IsWithin}
 use Rattle.emtp_card.specs.declared.fault.Fault.{Fault}
+use Rattle.emtp_card.specs.declared.number_field.NumberField.{NumberField}
 use Rattle.emtp_card.specs.declared.reason.Bad.{Bad}
 use Rattle.emtp_card.specs.declared.reason.Why.{Why}
 use Rattle.emtp_card.specs.declared.reason.Why.TheVariants.{BadName, OutOfUnitRange}
@@ -28,24 +29,24 @@ use Rattle.emtp_expr.specs.declared.parsing.Parsed.{Parsed}
 use Rattle.emtp_expr.proofs.NamePlaces.{spelled_fits}
 use Rattle.emtp_expr.proofs.Texts.{spelled, spelled_whole}
 use Rattle.emtp_fix.specs.declared.limit.TheConstants.{LARGEST_TIME, LARGEST_VALUE, PICO}
-use Rattle.emtp_netcards.specs.Fields.{needed, signed_number}
+use Rattle.emtp_netcards.specs.Fields.{needed}
 use Rattle.emtp_netcards.specs.Reading.{◌>>=◌, both, card_on, in_column}
 use Rattle.emtp_netcards.specs.SourceCard.{active_times, amplitude_field, cosine_numbers, source_of}
 use Rattle.emtp_netcards.specs.held.Fields.{IsSmall}
 use Rattle.emtp_netcards.specs.declared.source_card.SourceCard.{SourceCard}
-use Rattle.emtp_netcards.proofs.FieldRanges.{filled_is, needed_name, number_within, required_is, signed_is}
+use Rattle.emtp_netcards.proofs.FieldRanges.{needed_name, number_is, number_or_is, required_within}
 use Rattle.emtp_netcards.proofs.PointRanges.{due_by}
 use Rattle.emtp_netcards.proofs.Readings.{by, each_of, field_of_column, then_read, whole_by}
 use Rattle.emtp_netcards.proofs.SourceRanges.{amplitude_is, cosine_are, times_are}
 use Rattle.emtp_taccards.specs.BlockCard as blocks
-use Rattle.emtp_taccards.specs.BlockCard.{Limits, are_crossed, block_card, block_record, gain_by, gain_field, in_order, limit_field, limits_of, order_and_name, order_by, order_field, order_of}
+use Rattle.emtp_taccards.specs.BlockCard.{Limits, are_crossed, block_card, block_record, gain_by, gain_field, in_order, limits_of, order_and_name, order_by, order_field, order_of}
 use Rattle.emtp_taccards.specs.DeviceCard as devices
-use Rattle.emtp_taccards.specs.DeviceCard.{Coded, Variables, a_by, code_field, coded_by, d_by, d_field, delay_field, device_card, device_record, hertz_field, plain_field, plain_fields, variables_of}
+use Rattle.emtp_taccards.specs.DeviceCard.{Coded, a_by, code_field, coded_by, d_by, d_field, delay_field, device_card, device_record, hertz_field, plain_fields, variables_of}
 use Rattle.emtp_taccards.specs.FormulaCard as formulas
-use Rattle.emtp_taccards.specs.FormulaCard.{equals_field, expression_by, expression_text, formula_by, formula_card}
+use Rattle.emtp_taccards.specs.FormulaCard.{equals_field, formula_by, formula_card}
 use Rattle.emtp_taccards.specs.Group.{group_field, head_of}
 use Rattle.emtp_taccards.specs.Inputs.{four_inputs, input, inputs}
-use Rattle.emtp_taccards.specs.PolynomialCard.{coefficient_field, coefficient_in, coefficients, four_of, pair_of, polynomial_card, stays, taken_by, taken_field}
+use Rattle.emtp_taccards.specs.PolynomialCard.{coefficient_at, coefficient_field, coefficients, four_of, pair_of, polynomial_card, stays, taken_by, taken_field}
 use Rattle.emtp_taccards.specs.TacsSourceCard as signals
 use Rattle.emtp_taccards.specs.TacsSourceCard.{Course, Times, cosine_of, driven, level_of, measured, period_field, pulse_of, saw_of, signal_field, source_record, tacs_source_card, value_of, width_field}
 use Rattle.emtp_taccards.specs.held.BlockCard.{HasBlockNumbers, HasLimitsInOrder}
@@ -54,9 +55,12 @@ use Rattle.emtp_taccards.specs.held.FormulaCard.{IsParsed}
 use Rattle.emtp_taccards.specs.held.PolynomialCard.{IsPolynomial}
 use Rattle.emtp_taccards.specs.held.TacsSourceCard.{HasTacsSourceNumbers, IsDriven, IsSignal, IsUnresolved}
 use Rattle.emtp_taccards.specs.declared.block_card.BlockCard.{BlockCard}
+use Rattle.emtp_taccards.specs.declared.block_card.TheConstants.{GAIN, HIGH, LOW}
 use Rattle.emtp_taccards.specs.declared.device_card.DeviceCard.{DeviceCard}
+use Rattle.emtp_taccards.specs.declared.device_card.TheConstants.{B, C, DELAY, FREQUENCY, PLAIN}
 use Rattle.emtp_taccards.specs.declared.formula_card.FormulaCard.{FormulaCard}
 use Rattle.emtp_taccards.specs.declared.tacs_source_card.Signal.{Signal}
+use Rattle.emtp_taccards.specs.declared.tacs_source_card.TheConstants.{PERIOD, WIDTH}
 use Rattle.emtp_taccards.specs.declared.tacs_source_card.Signal.TheVariants.{Cosine as CosineSignal, Level, NodeVoltage as OfNode, Pulse as PulseSignal, Saw as SawSignal, SwitchCurrent as OfSwitch, SwitchStatus as StatusOfSwitch}
 use Rattle.emtp_taccards.proofs.Coefficients.{card_kept, eight}
 
@@ -90,23 +94,29 @@ order_by_is (Err why) x e = absurd (cc)
 pub nonzero : (g : ℤ) → int_eq g (pos 0) ≡ false → g ≢ pos 0
 nonzero g e same = let no : true ≡ false = subst (λ z. int_eq z (pos 0) ≡ false) same e in absurd (cc)
 
-gain_is : (read : Result ℤ Why) (x : ℤ) → ((y : ℤ) → read ≡ Ok y → IsSmall y) → gain_by read ≡ Ok x → (x ≢ pos 0) × IsSmall x
+gain_is : (read : Result ℤ Fault) (x : ℤ) → ((y : ℤ) → read ≡ Ok y → IsSmall y) → gain_by read ≡ Ok x → (x ≢ pos 0) × IsSmall x
 gain_is (Ok g) x small e = go (int_eq g (pos 0)) refl e
   where
-    answer : Bool → Result ℤ Why
+    answer : Bool → Result ℤ Fault
     answer none = Ok (if none then PICO else g)
 
     go : (none : Bool) → int_eq g (pos 0) ≡ none → answer none ≡ Ok x → (x ≢ pos 0) × IsSmall x
     go true n e = let is : PICO ≡ x = cc in subst (λ z. (z ≢ pos 0) × IsSmall z) is (nonzero PICO refl, omega arith)
     go false n e = let is : g ≡ x = cc in subst (λ z. (z ≢ pos 0) × IsSmall z) is (nonzero g n, small g refl)
-gain_is (Err why) x small e = absurd (cc)
+gain_is (Err fault) x small e = absurd (cc)
 
-limit_is : (line : List ℕ) (first : ℕ) (field : Option ℤ) → limit_field line first ≡ Ok field → ForSome field IsSmall
-limit_is line first field e = go field (number_within line first (first + 5) (pos 9) (neg_ℤ (pos LARGEST_VALUE)) (pos LARGEST_VALUE) field e)
+limit_is : (f : NumberField) → f.low ≡ neg_ℤ (pos LARGEST_VALUE) → f.high ≡ pos LARGEST_VALUE → (line : List ℕ) (field : Option ℤ) → number_of f line ≡ Ok field → ForSome field IsSmall
+limit_is f low high line field e = go field (number_is f line field e)
   where
-    go : (f : Option ℤ) → IfSome f (IsWithin (neg_ℤ (pos LARGEST_VALUE)) (pos LARGEST_VALUE)) → ForSome f IsSmall
-    go (Some y) w x h = let is : y ≡ x = cc in subst IsSmall is (omega (arith, ints, w.least, w.most))
+    go : (field : Option ℤ) → IfSome field (IsWithin f.low f.high) → ForSome field IsSmall
+    go (Some y) w x h = let is : y ≡ x = cc in subst IsSmall is (omega (arith, ints, low, high, w.least, w.most))
     go None w x h = absurd (cc)
+
+-- a number of either sign, to 10^18 in magnitude
+signed_is : (f : NumberField) → f.low ≡ neg_ℤ (pos LARGEST_VALUE) → f.high ≡ pos LARGEST_VALUE → (line : List ℕ) (x : ℤ) → number_or f (pos 0) line ≡ Ok x → IsSmall x
+signed_is f low high line x e =
+    let w = number_or_is f (pos 0) line x (record { least = omega (arith, ints, low); most = omega (arith, ints, high) }) e in
+    omega (arith, ints, low, high, w.least, w.most)
 
 ordered : (low high : Option ℤ) (low_name high_name : Option (List ℕ)) (l : Limits) → in_order low high low_name high_name ≡ Ok l → (((low, high), (low_name, high_name)) ≡ l) × (are_crossed low high low_name high_name ≡ false)
 ordered low high low_name high_name l e = go (are_crossed low high low_name high_name) refl e
@@ -126,16 +136,16 @@ pub record AreLimits (l : Limits) : Type 0 where
 limits_are : (line : List ℕ) (l : Limits) → limits_of line ≡ Ok l → AreLimits l
 unfolding limits_of
 limits_are line l e =
-    let low = in_column 57 (limit_field line 57) in
-    let high = in_column 63 (limit_field line 63) in
+    let low = number_of LOW line in
+    let high = number_of HIGH line in
     let names = both (in_column 69 (name_field line 69)) (in_column 75 (name_field line 75)) in
     let t = then_read (both (both low high) names) _ l e in
     let halves = each_of (both low high) names t.0 t.1 in
     let parts = each_of low high t.0.0 halves.0 in
     let o = ordered t.0.0.0 t.0.0.1 t.0.1.0 t.0.1.1 l t.2 in
     subst AreLimits o.0 (record {
-      low = limit_is line 57 t.0.0.0 (field_of_column 57 _ t.0.0.0 parts.0);
-      high = limit_is line 63 t.0.0.1 (field_of_column 63 _ t.0.0.1 parts.1);
+      low = limit_is LOW refl refl line t.0.0.0 parts.0;
+      high = limit_is HIGH refl refl line t.0.0.1 parts.1;
       order = o.1;
     })
 
@@ -150,13 +160,13 @@ unfolding blocks.fields_of order_and_name
 block_fields number line card whole e =
     let order = in_column 1 (order_field line) in
     let name = in_column 3 (needed (name_field line 3)) in
-    let gain = in_column 51 (gain_field line) in
+    let gain = gain_field line in
     let t = then_read (both (both (order_and_name line) (inputs line)) (both gain (limits_of line))) _ card e in
     let halves = each_of (both (order_and_name line) (inputs line)) (both gain (limits_of line)) t.0 t.1 in
     let front = each_of (order_and_name line) (inputs line) t.0.0 halves.0 in
     let back = each_of gain (limits_of line) t.0.1 halves.1 in
     let head = each_of order name t.0.0.0 front.0 in
-    let g = gain_is (signed_number line 51 56 (pos 12)) t.0.1.0 (signed_is line 51 56 (pos 12)) (field_of_column 51 _ t.0.1.0 back.0) in
+    let g = gain_is (number_or GAIN (pos 0) line) t.0.1.0 (signed_is GAIN refl refl line) back.0 in
     let l = limits_are line t.0.1.1 back.1 in
     let made = block_record number t.0.0.0 t.0.0.1 t.0.1.0 t.0.1.1 in
     let is : made ≡ card = cc in
@@ -176,32 +186,32 @@ block_keeps number line card e = block_fields number line card (whole_by number 
 coefficient_small : (line : List ℕ) (order power : ℕ) (x : ℤ) → coefficient_field line order power ≡ Ok x → IsSmall x
 coefficient_small line order power x e = go (nat_le power order) e
   where
-    answer : Bool → Result ℤ Why
-    answer has = if has then signed_number line (10 * power + 1) (10 * power + 10) (pos 12) else Ok (pos 0)
+    answer : Bool → Result ℤ Fault
+    answer has = if has then number_or (coefficient_at power) (pos 0) line else Ok (pos 0)
 
     go : (has : Bool) → answer has ≡ Ok x → IsSmall x
-    go true e = signed_is line (10 * power + 1) (10 * power + 10) (pos 12) x e
+    go true e = signed_is (coefficient_at power) refl refl line x e
     go false e = let is : pos 0 ≡ x = cc in subst IsSmall is (omega arith)
 
-taken_small : (dt : ℤ) (power : ℕ) (read : Result ℤ Why) (x : ℤ) → ((y : ℤ) → read ≡ Ok y → IsSmall y) → taken_by dt power read ≡ Ok x → IsSmall x
+taken_small : (dt : ℤ) (power : ℕ) (read : Result ℤ Fault) (x : ℤ) → ((y : ℤ) → read ≡ Ok y → IsSmall y) → taken_by dt power read ≡ Ok x → IsSmall x
 unfolding taken_by
 taken_small dt power (Ok y) x small e = go (stays dt y power) e
   where
-    answer : Bool → Result ℤ Why
-    answer fit = if fit then Ok y else Err OutOfUnitRange
+    answer : Bool → Result ℤ Fault
+    answer fit = if fit then Ok y else Err (record { column = 10 * power + 1; why = OutOfUnitRange })
 
     go : (fit : Bool) → answer fit ≡ Ok x → IsSmall x
     go true e = let is : y ≡ x = cc in subst IsSmall is (small y refl)
     go false e = absurd (cc)
-taken_small dt power (Err why) x small e = absurd (cc)
+taken_small dt power (Err fault) x small e = absurd (cc)
 
-in_small : (line : List ℕ) (order : ℕ) (dt : ℤ) (power : ℕ) (x : ℤ) → coefficient_in line order dt power ≡ Ok x → IsSmall x
-in_small line order dt power x e = taken_small dt power (coefficient_field line order power) x (coefficient_small line order power) (field_of_column (10 * power + 1) (taken_field line order dt power) x e)
+in_small : (line : List ℕ) (order : ℕ) (dt : ℤ) (power : ℕ) (x : ℤ) → taken_field line order dt power ≡ Ok x → IsSmall x
+in_small line order dt power x e = taken_small dt power (coefficient_field line order power) x (coefficient_small line order power) e
 
 pair_small : (line : List ℕ) (order : ℕ) (dt : ℤ) (power : ℕ) (p : ℤ × ℤ) → pair_of line order dt power ≡ Ok p → IsSmall p.0 × IsSmall p.1
 unfolding pair_of
 pair_small line order dt power p e =
-    let parts = each_of (coefficient_in line order dt power) (coefficient_in line order dt (power + 1)) p e in
+    let parts = each_of (taken_field line order dt power) (taken_field line order dt (power + 1)) p e in
     (in_small line order dt power p.0 parts.0, in_small line order dt (power + 1) p.1 parts.1)
 
 coefficients_small : (line : List ℕ) (order : ℕ) (dt : ℤ) (xs : List ℤ) → coefficients line order dt ≡ Ok xs → All IsSmall xs
@@ -230,29 +240,29 @@ polynomial_keeps number line order dt xs e =
 
 delay_is : (line : List ℕ) (x : ℤ) → delay_field line ≡ Ok x → IsBetween 0 LARGEST_TIME x
 delay_is line x e =
-    let w = filled_is (IsWithin (pos 0) (pos LARGEST_TIME)) (pos 0) (number_field line 51 56 (pos 12) (pos 0) (pos LARGEST_TIME)) x
-    (record { least = omega (arith, ints); most = omega (arith, ints) }) (number_within line 51 56 (pos 12) (pos 0) (pos LARGEST_TIME)) e in
+    let zero : IsWithin (pos 0) (pos LARGEST_TIME) (pos 0) = record { least = omega (arith, ints); most = omega (arith, ints) } in
+    let w : IsWithin (pos 0) (pos LARGEST_TIME) x = number_or_is DELAY (pos 0) line x zero e in
     record { least = w.least; most = w.most }
 
 hertz_is : (line : List ℕ) (x : ℤ) → hertz_field line ≡ Ok x → IsBetween 1 (10 ^ 13) x
 hertz_is line x e =
-    let w = required_is (IsWithin (pos 1) (pos (10 ^ 13))) (number_field line 51 56 (pos 6) (pos 1) (pos (10 ^ 13))) x (number_within line 51 56 (pos 6) (pos 1) (pos (10 ^ 13))) e in
+    let w : IsWithin (pos 1) (pos (10 ^ 13)) x = required_within FREQUENCY line x e in
     record { least = w.least; most = w.most }
 
 a_is : (line : List ℕ) (code : DeviceCode) (x : ℤ) → a_by line code ≡ Ok x → HasRangeOfA code x
-a_is line Gate x e = record { small = signed_is line 51 56 (pos 9) x e; delay = λ c. absurd (cc); delayed_pulse = λ c. absurd (cc); frequency = λ c. absurd (cc) }
-a_is line GateAbove x e = record { small = signed_is line 51 56 (pos 9) x e; delay = λ c. absurd (cc); delayed_pulse = λ c. absurd (cc); frequency = λ c. absurd (cc) }
+a_is line Gate x e = record { small = signed_is PLAIN refl refl line x e; delay = λ c. absurd (cc); delayed_pulse = λ c. absurd (cc); frequency = λ c. absurd (cc) }
+a_is line GateAbove x e = record { small = signed_is PLAIN refl refl line x e; delay = λ c. absurd (cc); delayed_pulse = λ c. absurd (cc); frequency = λ c. absurd (cc) }
 a_is line Delay x e = let w = delay_is line x e in record { small = omega (arith, ints, w.least, w.most); delay = λ c. w.least; delayed_pulse = λ c. absurd (cc); frequency = λ c. absurd (cc) }
 a_is line DelayedPulse x e = let w = delay_is line x e in record { small = omega (arith, ints, w.least, w.most); delay = λ c. absurd (cc); delayed_pulse = λ c. w.least; frequency = λ c. absurd (cc) }
-a_is line Table x e = record { small = signed_is line 51 56 (pos 9) x e; delay = λ c. absurd (cc); delayed_pulse = λ c. absurd (cc); frequency = λ c. absurd (cc) }
-a_is line Window x e = record { small = signed_is line 51 56 (pos 9) x e; delay = λ c. absurd (cc); delayed_pulse = λ c. absurd (cc); frequency = λ c. absurd (cc) }
-a_is line Integral x e = record { small = signed_is line 51 56 (pos 9) x e; delay = λ c. absurd (cc); delayed_pulse = λ c. absurd (cc); frequency = λ c. absurd (cc) }
-a_is line Derivative x e = record { small = signed_is line 51 56 (pos 9) x e; delay = λ c. absurd (cc); delayed_pulse = λ c. absurd (cc); frequency = λ c. absurd (cc) }
-a_is line Selector x e = record { small = signed_is line 51 56 (pos 9) x e; delay = λ c. absurd (cc); delayed_pulse = λ c. absurd (cc); frequency = λ c. absurd (cc) }
-a_is line SampleHold x e = record { small = signed_is line 51 56 (pos 9) x e; delay = λ c. absurd (cc); delayed_pulse = λ c. absurd (cc); frequency = λ c. absurd (cc) }
-a_is line Extreme x e = record { small = signed_is line 51 56 (pos 9) x e; delay = λ c. absurd (cc); delayed_pulse = λ c. absurd (cc); frequency = λ c. absurd (cc) }
-a_is line PeakHold x e = record { small = signed_is line 51 56 (pos 9) x e; delay = λ c. absurd (cc); delayed_pulse = λ c. absurd (cc); frequency = λ c. absurd (cc) }
-a_is line Counter x e = record { small = signed_is line 51 56 (pos 9) x e; delay = λ c. absurd (cc); delayed_pulse = λ c. absurd (cc); frequency = λ c. absurd (cc) }
+a_is line Table x e = record { small = signed_is PLAIN refl refl line x e; delay = λ c. absurd (cc); delayed_pulse = λ c. absurd (cc); frequency = λ c. absurd (cc) }
+a_is line Window x e = record { small = signed_is PLAIN refl refl line x e; delay = λ c. absurd (cc); delayed_pulse = λ c. absurd (cc); frequency = λ c. absurd (cc) }
+a_is line Integral x e = record { small = signed_is PLAIN refl refl line x e; delay = λ c. absurd (cc); delayed_pulse = λ c. absurd (cc); frequency = λ c. absurd (cc) }
+a_is line Derivative x e = record { small = signed_is PLAIN refl refl line x e; delay = λ c. absurd (cc); delayed_pulse = λ c. absurd (cc); frequency = λ c. absurd (cc) }
+a_is line Selector x e = record { small = signed_is PLAIN refl refl line x e; delay = λ c. absurd (cc); delayed_pulse = λ c. absurd (cc); frequency = λ c. absurd (cc) }
+a_is line SampleHold x e = record { small = signed_is PLAIN refl refl line x e; delay = λ c. absurd (cc); delayed_pulse = λ c. absurd (cc); frequency = λ c. absurd (cc) }
+a_is line Extreme x e = record { small = signed_is PLAIN refl refl line x e; delay = λ c. absurd (cc); delayed_pulse = λ c. absurd (cc); frequency = λ c. absurd (cc) }
+a_is line PeakHold x e = record { small = signed_is PLAIN refl refl line x e; delay = λ c. absurd (cc); delayed_pulse = λ c. absurd (cc); frequency = λ c. absurd (cc) }
+a_is line Counter x e = record { small = signed_is PLAIN refl refl line x e; delay = λ c. absurd (cc); delayed_pulse = λ c. absurd (cc); frequency = λ c. absurd (cc) }
 a_is line EffectiveValue x e = let w = hertz_is line x e in record { small = omega (arith, ints, w.least, w.most); delay = λ c. absurd (cc); delayed_pulse = λ c. absurd (cc); frequency = λ c. w }
 
 d_is : (code : DeviceCode) (name d : Option (List ℕ)) → d_by code name ≡ Ok d → IsTrue (needs_d code) → IsSome d
@@ -273,15 +283,12 @@ pub record IsCoded (c : Coded) : Type 0 where
 coded_is : (line : List ℕ) (code : DeviceCode) (c : Coded) → coded_by line code ≡ Ok c → IsCoded c
 unfolding coded_by
 coded_is line code c e =
-    let a = in_column 51 (a_by line code) in
+    let a = a_by line code in
     let t = then_read (both a (d_field line code)) _ c e in
     let parts = each_of a (d_field line code) t.0 t.1 in
     let n = then_read (in_column 69 (name_field line 69)) (d_by code) t.0.1 parts.1 in
     let is : (code, (t.0.0, t.0.1)) ≡ c = cc in
-    subst IsCoded is (record { a = a_is line code t.0.0 (field_of_column 51 _ t.0.0 parts.0); d = d_is code n.0 t.0.1 n.2 })
-
-plain_is : (line : List ℕ) (first : ℕ) (x : ℤ) → plain_field line first ≡ Ok x → IsSmall x
-plain_is line first x e = signed_is line first (first + 5) (pos 9) x (field_of_column first _ x e)
+    subst IsCoded is (record { a = a_is line code t.0.0 parts.0; d = d_is code n.0 t.0.1 n.2 })
 
 pub record IsDeviceRead (card : DeviceCard) : Type 0 where
   pub name : IsName card.name
@@ -302,12 +309,12 @@ device_fields number line card whole e =
     let code = then_read (in_column 9 (code_field line)) (coded_by line) t.0.0.1 front.1 in
     let c = coded_is line code.0 t.0.0.1 code.2 in
     let ins = each_of (inputs line) (in_column 75 (name_field line 75)) t.0.1.0 back.0 in
-    let plain = each_of (plain_field line 57) (plain_field line 63) t.0.1.1 back.1 in
+    let plain = each_of (number_or B (pos 0) line) (number_or C (pos 0) line) t.0.1.1 back.1 in
     let made = device_record number t.0.0.0 t.0.0.1 t.0.1.0 t.0.1.1 in
     let is : made ≡ card = cc in
     subst IsDeviceRead is (record {
       name = needed_name line 3 t.0.0.0.1 whole (field_of_column 3 _ t.0.0.0.1 head.1);
-      numbers = record { a = c.a; b = plain_is line 57 t.0.1.1.0 plain.0; c = plain_is line 63 t.0.1.1.1 plain.1 };
+      numbers = record { a = c.a; b = signed_is B refl refl line t.0.1.1.0 plain.0; c = signed_is C refl refl line t.0.1.1.1 plain.1 };
       d = c.d;
       inputs = five line t.0.1.0.0 ins.0;
     })
@@ -353,16 +360,14 @@ formula_keeps number line text card e = formula_by_is number line text (card_on 
 
 -- ---- sources of the control
 
-period_is : (line : List ℕ) (x : ℤ) → in_column 21 (period_field line) ≡ Ok x → IsBetween 1 LARGEST_TIME x
+period_is : (line : List ℕ) (x : ℤ) → period_field line ≡ Ok x → IsBetween 1 LARGEST_TIME x
 period_is line x e =
-    let w = required_is (IsWithin (pos 1) (pos LARGEST_TIME)) (number_field line 21 30 (pos 12) (pos 1) (pos LARGEST_TIME)) x
-    (number_within line 21 30 (pos 12) (pos 1) (pos LARGEST_TIME)) (field_of_column 21 _ x e) in
+    let w : IsWithin (pos 1) (pos LARGEST_TIME) x = required_within PERIOD line x e in
     record { least = w.least; most = w.most }
 
-width_is : (line : List ℕ) (x : ℤ) → in_column 31 (width_field line) ≡ Ok x → IsBetween 1 LARGEST_TIME x
+width_is : (line : List ℕ) (x : ℤ) → width_field line ≡ Ok x → IsBetween 1 LARGEST_TIME x
 width_is line x e =
-    let w = required_is (IsWithin (pos 1) (pos LARGEST_TIME)) (number_field line 31 40 (pos 12) (pos 1) (pos LARGEST_TIME)) x
-    (number_within line 31 40 (pos 12) (pos 1) (pos LARGEST_TIME)) (field_of_column 31 _ x e) in
+    let w : IsWithin (pos 1) (pos LARGEST_TIME) x = required_within WIDTH line x e in
     record { least = w.least; most = w.most }
 
 level_is : (line : List ℕ) (course : Course) → level_of line ≡ Ok course → IsDriven course
@@ -383,8 +388,8 @@ cosine_is line course e =
 pulse_is : (line : List ℕ) (course : Course) → pulse_of line ≡ Ok course → IsDriven course
 unfolding pulse_of
 pulse_is line course e =
-    let period = in_column 21 (period_field line) in
-    let width = in_column 31 (width_field line) in
+    let period = period_field line in
+    let width = width_field line in
     let t = then_read (both (amplitude_field line) (both period width)) _ course e in
     let parts = each_of (amplitude_field line) (both period width) t.0 t.1 in
     let p = each_of period width t.0.1 parts.1 in
@@ -394,7 +399,7 @@ pulse_is line course e =
 saw_is : (line : List ℕ) (course : Course) → saw_of line ≡ Ok course → IsDriven course
 unfolding saw_of
 saw_is line course e =
-    let period = in_column 21 (period_field line) in
+    let period = period_field line in
     let t = then_read (both (amplitude_field line) period) _ course e in
     let parts = each_of (amplitude_field line) period t.0 t.1 in
     let is : (Saw t.0.1, t.0.0) ≡ course = cc in

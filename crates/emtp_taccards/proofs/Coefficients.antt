@@ -5,17 +5,16 @@ use Rattle.std.proofs.lemmas.Bool.Decides.{nat_tests}
 use Rattle.std.specs.Prelude.{IfOk, if◌then◌else◌, nat_le, slice_index_or, ◌&&◌}
 use Rattle.emtp_card.specs.declared.fault.Fault.{Fault}
 use Rattle.emtp_card.specs.declared.reason.Bad.{Bad}
-use Rattle.emtp_card.specs.declared.reason.Why.{Why}
 use Rattle.emtp_card.specs.declared.reason.Why.TheVariants.{OutOfUnitRange}
 use Rattle.emtp_case.specs.Control.{bilinear}
 use Rattle.emtp_case.specs.held.Control.{HasWay}
 use Rattle.emtp_fix.specs.Rounding.{near}
 use Rattle.emtp_fix.proofs.Quotients.{near-zero_times}
 use Rattle.emtp_netcards.proofs.BranchRanges.{both_true}
-use Rattle.emtp_netcards.proofs.Readings.{each_of, field_of_column, made_of}
+use Rattle.emtp_netcards.proofs.Readings.{each_of, made_of}
 use Rattle.emtp_netcards.specs.Reading.{both}
 use Rattle.emtp_netcards.specs.held.Fields.{IsSmall}
-use Rattle.emtp_taccards.specs.PolynomialCard.{coefficient_field, coefficient_in, coefficients, four_of, pair_of, stays, taken_by, taken_field}
+use Rattle.emtp_taccards.specs.PolynomialCard.{coefficient_field, coefficients, four_of, pair_of, stays, taken_by, taken_field}
 use Rattle.emtp_taccards.specs.held.PolynomialCard.{IsPolynomial}
 
 -- ---- the way through the bilinear rule
@@ -70,12 +69,12 @@ eight P a b c d e f g h p q r s t u v w (suc (suc (suc (suc (suc (suc zero))))))
 eight P a b c d e f g h p q r s t u v w (suc (suc (suc (suc (suc (suc (suc zero))))))) y l = w
 eight P a b c d e f g h p q r s t u v w (suc (suc (suc (suc (suc (suc (suc (suc k)))))))) y l = absurd (omega (arith, l))
 
-way_of : (dt : ℤ) (power : ℕ) (r : Result ℤ Why) (x : ℤ) → taken_by dt power r ≡ Ok x → IsSmall x → HasWay dt x power
+way_of : (dt : ℤ) (power : ℕ) (r : Result ℤ Fault) (x : ℤ) → taken_by dt power r ≡ Ok x → IsSmall x → HasWay dt x power
 unfolding taken_by
-way_of dt power (Err why) x e small = absurd (cc)
+way_of dt power (Err fault) x e small = absurd (cc)
 way_of dt power (Ok y) x e small = by_test (stays dt y power) refl e
   where
-    by_test : (t : Bool) → stays dt y power ≡ t → if◌then◌else◌ {A = Result ℤ Why} t (Ok y) (Err OutOfUnitRange) ≡ Ok x → HasWay dt x power
+    by_test : (t : Bool) → stays dt y power ≡ t → if◌then◌else◌ {A = Result ℤ Fault} t (Ok y) (Err (record { column = 10 * power + 1; why = OutOfUnitRange })) ≡ Ok x → HasWay dt x power
     by_test true is h = let same : y ≡ x = cc in stays_way dt x power small (subst (λ (z : ℤ). stays dt z power ≡ true) same is)
     by_test false is h = absurd (cc)
 
@@ -91,9 +90,7 @@ list_of p = p.0.0.0 ∷ p.0.0.1 ∷ p.0.1.0 ∷ p.0.1.1 ∷ p.1.0.0 ∷ p.1.0.1 
 
 pair_read : (dt : ℤ) (line : List ℕ) (order power : ℕ) (pair : Pair) → pair_of line order dt power ≡ Ok pair → (taken_field line order dt power ≡ Ok pair.0) × (taken_field line order dt (power + 1) ≡ Ok pair.1)
 unfolding pair_of
-pair_read dt line order power pair e =
-    let each = each_of (coefficient_in line order dt power) (coefficient_in line order dt (power + 1)) pair e in
-    (field_of_column (10 * power + 1) (taken_field line order dt power) pair.0 each.0, field_of_column (10 * (power + 1) + 1) (taken_field line order dt (power + 1)) pair.1 each.1)
+pair_read dt line order power pair e = each_of (taken_field line order dt power) (taken_field line order dt (power + 1)) pair e
 
 -- there are no more than eight, and those behind them are 0
 ways : (dt : ℤ) (line : List ℕ) (order : ℕ) (p : Pairs) → pair_of line order dt 0 ≡ Ok p.0.0 → pair_of line order dt 2 ≡ Ok p.0.1 → pair_of line order dt 4 ≡ Ok p.1.0 → pair_of line order dt 6 ≡ Ok p.1.1

@@ -1,18 +1,19 @@
 -- Block cards: the fields and rules, and the card.
-use Rattle.std.specs.Prelude.{ℕ, ◌+◌, ℤ, pos, neg_ℤ, int_lt, unsigned_abs, Bool, false, ◌||◌, List, Option, Some, None, Result, Ok, Err, if◌then◌else◌}
+use Rattle.std.specs.Prelude.{ℕ, ℤ, pos, int_lt, unsigned_abs, Bool, false, ◌||◌, List, Option, Some, None, Result, Ok, Err, if◌then◌else◌}
 use Rattle.std.specs.Ordering.{int_eq}
 use Rattle.emtp_card.specs.Name.{name_field}
-use Rattle.emtp_card.specs.Number.{number_field}
+use Rattle.emtp_card.specs.NumberField.{number_of, number_or}
 use Rattle.emtp_card.specs.Whole.{whole_field}
 use Rattle.emtp_card.specs.declared.fault.Fault.{Fault}
 use Rattle.emtp_card.specs.declared.reason.Bad.{Bad}
 use Rattle.emtp_card.specs.declared.reason.Why.{Why}
 use Rattle.emtp_card.specs.declared.reason.Why.TheVariants.{OutOfUnitRange}
-use Rattle.emtp_fix.specs.declared.limit.TheConstants.{LARGEST_VALUE, PICO}
-use Rattle.emtp_netcards.specs.Fields.{needed, signed_number}
+use Rattle.emtp_fix.specs.declared.limit.TheConstants.{PICO}
+use Rattle.emtp_netcards.specs.Fields.{needed}
 use Rattle.emtp_netcards.specs.Reading.{◌>>=◌, both, card_on, in_column}
 use Rattle.emtp_taccards.specs.Inputs.{inputs}
 use Rattle.emtp_taccards.specs.declared.block_card.BlockCard.{BlockCard}
+use Rattle.emtp_taccards.specs.declared.block_card.TheConstants.{GAIN, HIGH, LOW}
 
 -- columns 1 and 2: the order
 abbrev pub order_of : ℤ → Result ℕ Why
@@ -30,18 +31,14 @@ unfoldable pub order_and_name : List ℕ → Result (ℕ × List ℕ) Fault
 order_and_name line = both (in_column 1 (order_field line)) (in_column 3 (needed (name_field line 3)))
 
 -- columns 51 to 56: the gain; a blank and 0 mean 1
-abbrev pub gain_by : Result ℤ Why → Result ℤ Why
+abbrev pub gain_by : Result ℤ Fault → Result ℤ Fault
 gain_by (Ok gain) = Ok (if int_eq gain (pos 0) then PICO else gain)
-gain_by (Err why) = Err why
+gain_by (Err fault) = Err fault
 
-abbrev pub gain_field : List ℕ → Result ℤ Why
-gain_field line = gain_by (signed_number line 51 56 (pos 12))
+abbrev pub gain_field : List ℕ → Result ℤ Fault
+gain_field line = gain_by (number_or GAIN (pos 0) line)
 
--- a fixed limit in six columns; a blank means none
-abbrev pub limit_field : List ℕ → ℕ → Result (Option ℤ) Why
-limit_field line first = number_field line first (first + 5) (pos 9) (neg_ℤ (pos LARGEST_VALUE)) (pos LARGEST_VALUE)
-
--- the fixed limits, low and high, and those that a variable is
+-- the fixed limits, low and high, of which a blank means none, and those that a variable is
 abbrev pub Limits : Type 0
 Limits = (Option ℤ × Option ℤ) × (Option (List ℕ) × Option (List ℕ))
 
@@ -58,9 +55,12 @@ in_order low high low_name high_name =
     if are_crossed low high low_name high_name then Err (record { column = 57; why = OutOfUnitRange })
     else Ok ((low, high), (low_name, high_name))
 
+abbrev pub limit_names : List ℕ → Result (Option (List ℕ) × Option (List ℕ)) Fault
+limit_names line = both (in_column 69 (name_field line 69)) (in_column 75 (name_field line 75))
+
 unfoldable pub limits_of : List ℕ → Result Limits Fault
 limits_of line = do
-  ((low, high), (low_name, high_name)) ← both (both (in_column 57 (limit_field line 57)) (in_column 63 (limit_field line 63))) (both (in_column 69 (name_field line 69)) (in_column 75 (name_field line 75)))
+  ((low, high), (low_name, high_name)) ← both (both (number_of LOW line) (number_of HIGH line)) (limit_names line)
   in_order low high low_name high_name
 
 abbrev pub block_record : ℕ → ℕ × List ℕ → List (Option (Bool × List ℕ)) → ℤ → Limits → BlockCard
@@ -83,7 +83,7 @@ block_with number head inputs gain limits = do
 
 -- the card
 unfoldable pub fields_of : ℕ → List ℕ → Result BlockCard Fault
-fields_of number line = block_with number (order_and_name line) (inputs line) (in_column 51 (gain_field line)) (limits_of line)
+fields_of number line = block_with number (order_and_name line) (inputs line) (gain_field line) (limits_of line)
 
 unfoldable pub block_card : ℕ → List ℕ → Result BlockCard Bad
 block_card number line = card_on number line (fields_of number line)

@@ -1,10 +1,8 @@
 -- The cards of devices: the fields and rules, and the card.
-use Rattle.emtp_fix.specs.declared.limit.TheConstants.{LARGEST_TIME}
-use Rattle.std.specs.Prelude.{ℕ, ◌+◌, ◌^◌, ℤ, pos, Bool, List, Option, Some, None, Result, Ok, Err, if◌then◌else◌}
+use Rattle.std.specs.Prelude.{ℕ, ℤ, pos, Bool, List, Option, Some, None, Result, Ok, Err, if◌then◌else◌}
 use Rattle.std.specs.Ordering.{int_eq}
-use Rattle.emtp_card.specs.Fault.{filled_with}
 use Rattle.emtp_card.specs.Name.{name_field}
-use Rattle.emtp_card.specs.Number.{number_field}
+use Rattle.emtp_card.specs.NumberField.{number_or, required_of}
 use Rattle.emtp_card.specs.Whole.{whole_field}
 use Rattle.emtp_card.specs.declared.fault.Fault.{Fault}
 use Rattle.emtp_card.specs.declared.reason.Bad.{Bad}
@@ -14,11 +12,11 @@ use Rattle.emtp_case.specs.Control.{needs_d}
 use Rattle.emtp_case.specs.declared.control.DeviceCode.{DeviceCode}
 use Rattle.emtp_case.specs.declared.control.DeviceCode.TheVariants.{Counter, Delay, DelayedPulse, Derivative, EffectiveValue, Extreme, Gate, GateAbove, Integral, PeakHold, SampleHold, Selector, Table, Window}
 use Rattle.emtp_case.specs.declared.control.Group.{Group}
-use Rattle.emtp_netcards.specs.Fields.{required, signed_number}
 use Rattle.emtp_netcards.specs.Reading.{◌>>=◌, both, card_on, in_column}
 use Rattle.emtp_taccards.specs.Group.{head_of}
 use Rattle.emtp_taccards.specs.Inputs.{inputs}
 use Rattle.emtp_taccards.specs.declared.device_card.DeviceCard.{DeviceCard}
+use Rattle.emtp_taccards.specs.declared.device_card.TheConstants.{B, C, DELAY, FREQUENCY, PLAIN}
 
 -- columns 9 and 10: the code
 abbrev pub code_of : ℤ → Result DeviceCode Why
@@ -48,26 +46,26 @@ abbrev pub code_field : List ℕ → Result DeviceCode Why
 code_field line = code_by (whole_field line 9 10)
 
 -- columns 51 to 56: A, a time in seconds for both delays, a frequency in hertz for the effective value
-abbrev pub delay_field : List ℕ → Result ℤ Why
-delay_field line = filled_with (pos 0) (number_field line 51 56 (pos 12) (pos 0) (pos LARGEST_TIME))
+abbrev pub delay_field : List ℕ → Result ℤ Fault
+delay_field line = number_or DELAY (pos 0) line
 
-abbrev pub hertz_field : List ℕ → Result ℤ Why
-hertz_field line = required (number_field line 51 56 (pos 6) (pos 1) (pos (10 ^ 13)))
+abbrev pub hertz_field : List ℕ → Result ℤ Fault
+hertz_field line = required_of FREQUENCY line
 
-abbrev pub a_by : List ℕ → DeviceCode → Result ℤ Why
-a_by line Gate = signed_number line 51 56 (pos 9)
-a_by line GateAbove = signed_number line 51 56 (pos 9)
+abbrev pub a_by : List ℕ → DeviceCode → Result ℤ Fault
+a_by line Gate = number_or PLAIN (pos 0) line
+a_by line GateAbove = number_or PLAIN (pos 0) line
 a_by line Delay = delay_field line
 a_by line DelayedPulse = delay_field line
-a_by line Table = signed_number line 51 56 (pos 9)
-a_by line Window = signed_number line 51 56 (pos 9)
-a_by line Integral = signed_number line 51 56 (pos 9)
-a_by line Derivative = signed_number line 51 56 (pos 9)
-a_by line Selector = signed_number line 51 56 (pos 9)
-a_by line SampleHold = signed_number line 51 56 (pos 9)
-a_by line Extreme = signed_number line 51 56 (pos 9)
-a_by line PeakHold = signed_number line 51 56 (pos 9)
-a_by line Counter = signed_number line 51 56 (pos 9)
+a_by line Table = number_or PLAIN (pos 0) line
+a_by line Window = number_or PLAIN (pos 0) line
+a_by line Integral = number_or PLAIN (pos 0) line
+a_by line Derivative = number_or PLAIN (pos 0) line
+a_by line Selector = number_or PLAIN (pos 0) line
+a_by line SampleHold = number_or PLAIN (pos 0) line
+a_by line Extreme = number_or PLAIN (pos 0) line
+a_by line PeakHold = number_or PLAIN (pos 0) line
+a_by line Counter = number_or PLAIN (pos 0) line
 a_by line EffectiveValue = hertz_field line
 
 -- a device that looks at a variable D has one
@@ -85,15 +83,12 @@ Coded = DeviceCode × (ℤ × Option (List ℕ))
 
 unfoldable pub coded_by : List ℕ → DeviceCode → Result Coded Fault
 coded_by line code = do
-  (a, d) ← both (in_column 51 (a_by line code)) (d_field line code)
+  (a, d) ← both (a_by line code) (d_field line code)
   Ok (code, (a, d))
 
 -- the numbers B in columns 57 to 62 and C in columns 63 to 68
-abbrev pub plain_field : List ℕ → ℕ → Result ℤ Fault
-plain_field line first = in_column first (signed_number line first (first + 5) (pos 9))
-
 unfoldable pub plain_fields : List ℕ → Result (ℤ × ℤ) Fault
-plain_fields line = both (plain_field line 57) (plain_field line 63)
+plain_fields line = both (number_or B (pos 0) line) (number_or C (pos 0) line)
 
 -- the inputs, and the variable E in columns 75 to 80
 abbrev pub Variables : Type 0

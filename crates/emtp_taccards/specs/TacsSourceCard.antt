@@ -1,10 +1,9 @@
 -- Source cards of the control: the fields, and the card. Fields that they share with the network's sources are those of
 -- emtp_netcards.
-use Rattle.emtp_fix.specs.declared.limit.TheConstants.{LARGEST_TIME}
 use Rattle.std.specs.Prelude.{ℕ, ℤ, pos, false, List, Option, Some, None, Result, Ok, Err, if◌then◌else◌}
 use Rattle.std.specs.Ordering.{int_eq}
 use Rattle.emtp_card.specs.Name.{name_field}
-use Rattle.emtp_card.specs.Number.{number_field}
+use Rattle.emtp_card.specs.NumberField.{required_of}
 use Rattle.emtp_card.specs.Whole.{whole_field}
 use Rattle.emtp_card.specs.declared.fault.Fault.{Fault}
 use Rattle.emtp_card.specs.declared.reason.Bad.{Bad}
@@ -12,11 +11,12 @@ use Rattle.emtp_card.specs.declared.reason.Why.{Why}
 use Rattle.emtp_card.specs.declared.reason.Why.TheVariants.{BadType}
 use Rattle.emtp_case.specs.declared.source.Shape.{Shape}
 use Rattle.emtp_case.specs.declared.source.Shape.TheVariants.{Cosine, NodeVoltage, Pulse, Saw, Step, SwitchCurrent, SwitchStatus}
-use Rattle.emtp_netcards.specs.Fields.{needed, required}
+use Rattle.emtp_netcards.specs.Fields.{needed}
 use Rattle.emtp_netcards.specs.Reading.{◌>>=◌, both, card_on, in_column}
 use Rattle.emtp_netcards.specs.SourceCard.{active_times, amplitude_field, cosine_numbers}
 use Rattle.emtp_netcards.specs.declared.source_card.SourceCard.{SourceCard}
 use Rattle.emtp_taccards.specs.declared.tacs_source_card.Signal.{Signal}
+use Rattle.emtp_taccards.specs.declared.tacs_source_card.TheConstants.{PERIOD, WIDTH}
 use Rattle.emtp_taccards.specs.declared.tacs_source_card.Signal.TheVariants.{Cosine as CosineSignal, Level, NodeVoltage as OfNode, Pulse as PulseSignal, Saw as SawSignal, SwitchCurrent as OfSwitch, SwitchStatus as StatusOfSwitch}
 
 -- columns 1 and 2: the type
@@ -40,11 +40,11 @@ abbrev pub signal_field : List ℕ → Result Signal Why
 signal_field line = signal_by (whole_field line 1 2)
 
 -- the period and the width of a pulse in seconds
-abbrev pub period_field : List ℕ → Result ℤ Why
-period_field line = required (number_field line 21 30 (pos 12) (pos 1) (pos LARGEST_TIME))
+abbrev pub period_field : List ℕ → Result ℤ Fault
+period_field line = required_of PERIOD line
 
-abbrev pub width_field : List ℕ → Result ℤ Why
-width_field line = required (number_field line 31 40 (pos 12) (pos 1) (pos LARGEST_TIME))
+abbrev pub width_field : List ℕ → Result ℤ Fault
+width_field line = required_of WIDTH line
 
 -- the course in time and the amplitude
 abbrev pub Course : Type 0
@@ -66,12 +66,12 @@ cosine_of line = do
 
 unfoldable pub pulse_of : List ℕ → Result Course Fault
 pulse_of line = do
-  (amplitude, (period, width)) ← both (amplitude_field line) (both (in_column 21 (period_field line)) (in_column 31 (width_field line)))
+  (amplitude, (period, width)) ← both (amplitude_field line) (both (period_field line) (width_field line))
   Ok (Pulse period width, amplitude)
 
 unfoldable pub saw_of : List ℕ → Result Course Fault
 saw_of line = do
-  (amplitude, period) ← both (amplitude_field line) (in_column 21 (period_field line))
+  (amplitude, period) ← both (amplitude_field line) (period_field line)
   Ok (Saw period, amplitude)
 
 -- a source whose value the card gives

@@ -1,17 +1,45 @@
 //! Block cards.
 
-ghost use Rattle.std.specs.Prelude.{◌≡◌, ◌≢◌, ◌+◌, ◌≤◌, false, length, pos, IfOk};
+ghost use Rattle.std.specs.Prelude.{◌≡◌, ◌≢◌, ◌≤◌, false, length, pos, IfOk};
 ghost use Rattle.std.specs.Option.{ForSome};
 ghost use Rattle.emtp_netcards.specs.held.Fields.{IsSmall};
-ghost use Rattle.emtp_taccards.specs.BlockCard.{are_crossed, block_card, block_record, block_with, fields_of, gain_field, in_order, limit_field, limits_of, order_and_name, order_field, order_of};
+ghost use Rattle.emtp_taccards.specs.BlockCard.{are_crossed, block_card, block_record, block_with, fields_of, gain_field, in_order, limits_of, order_and_name, order_field, order_of};
 ghost use Rattle.emtp_taccards.specs.held.BlockCard.{HasBlockNumbers, HasLimitsInOrder};
 
-use crate::EXA;
 use crate::inputs::inputs;
-use emtp_card::{Bad, Fault, Line, MAX_BYTES, Why, field_name, field_number, field_whole};
+use emtp_card::{
+    Bad, Fault, Line, MAX_BYTES, NumberField, Why, field_name, field_whole, in_column,
+};
 use emtp_case::Name;
-use emtp_fix::PICO;
-use emtp_netcards::{both, card_on, in_column, needed_name, signed_number};
+use emtp_fix::{LARGEST_COEFFICIENT, LARGEST_VALUE, PICO};
+use emtp_netcards::{both, card_on, needed_name};
+
+/// The gain, in 10^-12; 0 means 1.
+const GAIN: NumberField = NumberField {
+    first: 51,
+    last: 56,
+    scale: 12,
+    low: -(LARGEST_COEFFICIENT as i64),
+    high: LARGEST_COEFFICIENT as i64,
+};
+
+/// The fixed low limit, in nano.
+const LOW: NumberField = NumberField {
+    first: 57,
+    last: 62,
+    scale: 9,
+    low: -(LARGEST_VALUE as i64),
+    high: LARGEST_VALUE as i64,
+};
+
+/// The fixed high limit, in nano.
+const HIGH: NumberField = NumberField {
+    first: 63,
+    last: 68,
+    scale: 9,
+    low: -(LARGEST_VALUE as i64),
+    high: LARGEST_VALUE as i64,
+};
 
 /// 1 in the unit of a gain.
 const ONE: i64 = PICO as i64;
@@ -62,8 +90,7 @@ fn fields(number: u32, line: &[u8]) -> Result<BlockCard, Fault>
     ensures limits { IfOk result HasLimitsInOrder }
 {
     let head = order_and_name(line);
-    let gain = in_column(51, gain(line));
-    block_with(number, head, inputs(line), gain, limits(line))
+    block_with(number, head, inputs(line), gain(line), limits(line))
 }
 
 fn block_with(
@@ -152,15 +179,15 @@ fn order_of(number: i64) -> Result<u8, Why>
     }
 }
 
-fn gain(line: &[u8]) -> Result<i64, Why>
+fn gain(line: &[u8]) -> Result<i64, Fault>
     ensures value { result ≡ gain_field line.now }
     ensures some { IfOk result (λ gain. gain ≢ pos 0) }
     ensures small { IfOk result IsSmall }
 {
-    match signed_number(line, 51, 56, 12) {
+    match GAIN.number_or(0, line) {
         Ok(0) => Ok(ONE),
         Ok(gain) => Ok(gain),
-        Err(why) => Err(why),
+        Err(fault) => Err(fault),
     }
 }
 
@@ -172,22 +199,12 @@ fn limits(line: &[u8]) -> Result<BlockLimits, Fault>
     ensures high { IfOk result (λ limits. ForSome limits.0.1 IsSmall) }
     ensures uncrossed { IfOk result (λ limits. are_crossed limits.0.0 limits.0.1 limits.1.0 limits.1.1 ≡ false) }
 {
-    let low = in_column(57, limit(line, 57));
-    let high = in_column(63, limit(line, 63));
+    let low = LOW.number(line);
+    let high = HIGH.number(line);
     let low_name = in_column(69, field_name(line, 69));
     let high_name = in_column(75, field_name(line, 75));
     let ((low, high), (low_name, high_name)) = both(both(low, high), both(low_name, high_name))?;
     in_order(low, high, low_name, high_name)
-}
-
-/// The fixed limit in the six columns from `first` on.
-fn limit(line: &[u8], first: usize) -> Result<Option<i64>, Why>
-    requires low { 1 ≤ first }
-    requires high { first ≤ 75 }
-    ensures value { result ≡ limit_field line.now first }
-    ensures small { IfOk result (λ limit. ForSome limit IsSmall) }
-{
-    field_number(line, first, first + 5, 9, -EXA, EXA)
 }
 
 fn in_order(

@@ -1,21 +1,68 @@
 //! The cards of devices.
 
 ghost use Rattle.emtp_fix.specs.declared.limit.TheConstants.{LARGEST_TIME};
-ghost use Rattle.std.specs.Prelude.{◌≡◌, ◌+◌, ◌^◌, ◌≤◌, length, IfOk, IsSome, IsTrue};
+ghost use Rattle.std.specs.Prelude.{◌≡◌, ◌^◌, ◌≤◌, length, IfOk, IsSome, IsTrue};
 ghost use Rattle.emtp_case.specs.Control.{needs_d};
 ghost use Rattle.emtp_case.specs.held.Control.{HasRangeOfA};
 ghost use Rattle.emtp_case.specs.held.Range.{IsBetween};
 ghost use Rattle.emtp_netcards.specs.held.Fields.{IsSmall};
 ghost use Rattle.emtp_netcards.specs.held.Reading.{judged};
-ghost use Rattle.emtp_taccards.specs.DeviceCard.{a_by, code_field, code_of, coded_by, d_by, d_field, delay_field, device_card, device_record, device_with, fields_of, hertz_field, plain_field, plain_fields, variables_of};
+ghost use Rattle.emtp_taccards.specs.DeviceCard.{a_by, code_field, code_of, coded_by, d_by, d_field, delay_field, device_card, device_record, device_with, fields_of, hertz_field, plain_fields, variables_of};
 ghost use Rattle.emtp_taccards.specs.held.DeviceCard.{HasDeviceNumbers, HasItsD};
 
-use crate::EXA;
 use crate::group::head;
 use crate::inputs::inputs;
-use emtp_card::{Bad, Fault, Line, MAX_BYTES, Why, field_name, field_whole, number_or};
+use emtp_card::{
+    Bad, Fault, Line, MAX_BYTES, NumberField, Why, field_name, field_whole, in_column,
+};
 use emtp_case::{DeviceCode, Group, Name};
-use emtp_netcards::{both, card_on, in_column, required, signed_number};
+use emtp_fix::{LARGEST_TIME, LARGEST_VALUE};
+use emtp_netcards::{LARGEST_FREQUENCY, both, card_on};
+
+/// A, in nano.
+const PLAIN: NumberField = NumberField {
+    first: 51,
+    last: 56,
+    scale: 9,
+    low: -(LARGEST_VALUE as i64),
+    high: LARGEST_VALUE as i64,
+};
+
+/// A of a delay and a delayed pulse, in ps.
+const DELAY: NumberField = NumberField {
+    first: 51,
+    last: 56,
+    scale: 12,
+    low: 0,
+    high: LARGEST_TIME as i64,
+};
+
+/// A of an effective value, in micro-hertz.
+const FREQUENCY: NumberField = NumberField {
+    first: 51,
+    last: 56,
+    scale: 6,
+    low: 1,
+    high: LARGEST_FREQUENCY,
+};
+
+/// B, in nano.
+const B: NumberField = NumberField {
+    first: 57,
+    last: 62,
+    scale: 9,
+    low: -(LARGEST_VALUE as i64),
+    high: LARGEST_VALUE as i64,
+};
+
+/// C, in nano.
+const C: NumberField = NumberField {
+    first: 63,
+    last: 68,
+    scale: 9,
+    low: -(LARGEST_VALUE as i64),
+    high: LARGEST_VALUE as i64,
+};
 
 /// The code of a device, with the number A and the variable D that it asks for.
 type Coded = (DeviceCode, (i64, Option<Name>));
@@ -169,33 +216,33 @@ fn coded_by(line: &[u8], code: DeviceCode) -> Result<Coded, Fault>
     ensures a { IfOk result (λ coded. HasRangeOfA coded.0 coded.1.0) }
     ensures d { IfOk result (λ coded. IsTrue (needs_d coded.0) → IsSome coded.1.1) }
 {
-    let (a, d) = both(in_column(51, a_by(line, code)), named_d(line, code))?;
+    let (a, d) = both(a_by(line, code), named_d(line, code))?;
     Ok((code, (a, d)))
 }
 
-fn a_by(line: &[u8], code: DeviceCode) -> Result<i64, Why>
+fn a_by(line: &[u8], code: DeviceCode) -> Result<i64, Fault>
     ensures value { result ≡ a_by line.now code }
     ensures range { IfOk result (HasRangeOfA code) }
 {
     match code {
         DeviceCode::Delay | DeviceCode::DelayedPulse => delay(line),
         DeviceCode::EffectiveValue => hertz(line),
-        _ => signed_number(line, 51, 56, 9),
+        _ => PLAIN.number_or(0, line),
     }
 }
 
-fn delay(line: &[u8]) -> Result<i64, Why>
+fn delay(line: &[u8]) -> Result<i64, Fault>
     ensures value { result ≡ delay_field line.now }
     ensures range { IfOk result (IsBetween 0 LARGEST_TIME) }
 {
-    number_or(0, line, 51, 56, 12, 0, EXA)
+    DELAY.number_or(0, line)
 }
 
-fn hertz(line: &[u8]) -> Result<i64, Why>
+fn hertz(line: &[u8]) -> Result<i64, Fault>
     ensures value { result ≡ hertz_field line.now }
     ensures range { IfOk result (IsBetween 1 (10 ^ 13)) }
 {
-    required(line, 51, 56, 6, 1, 10_000_000_000_000)
+    FREQUENCY.required(line)
 }
 
 /// The variable D.
@@ -245,16 +292,5 @@ fn plain_numbers(line: &[u8]) -> Result<(i64, i64), Fault>
     ensures b { IfOk result (λ plain. IsSmall plain.0) }
     ensures c { IfOk result (λ plain. IsSmall plain.1) }
 {
-    both(plain(line, 57), plain(line, 63))
-}
-
-/// The number in the six columns from `first` on.
-fn plain(line: &[u8], first: u32) -> Result<i64, Fault>
-    requires low { 1 ≤ first }
-    requires high { first ≤ 75 }
-    ensures value { result ≡ plain_field line.now first }
-    ensures small { IfOk result IsSmall }
-{
-    let last = first as usize + 5;
-    in_column(first, signed_number(line, first as usize, last, 9))
+    both(B.number_or(0, line), C.number_or(0, line))
 }

@@ -6,10 +6,10 @@ ghost use Rattle.emtp_taccards.specs.FormulaCard.{equals_field, expression_by, e
 ghost use Rattle.emtp_taccards.specs.held.FormulaCard.{IsParsed};
 
 use crate::group::head;
-use emtp_card::{Bad, Fault, Line, MAX_BYTES, Refused, Why, byte_at, columns};
+use emtp_card::{Bad, Fault, Line, MAX_BYTES, Refused, Why, byte_at, columns, in_column};
 use emtp_case::{Group, Name};
 use emtp_expr::{ExprFault, Parsed, parse};
-use emtp_netcards::{both, card_on, in_column};
+use emtp_netcards::{both, card_on};
 use std::alloc::Global;
 
 /// The card of a formula.

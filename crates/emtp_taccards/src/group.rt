@@ -3,9 +3,9 @@
 ghost use Rattle.std.specs.Prelude.{◌≡◌};
 ghost use Rattle.emtp_taccards.specs.Group.{group_field, group_of, head_of};
 
-use emtp_card::{Fault, Why, field_whole};
+use emtp_card::{Fault, Why, field_whole, in_column};
 use emtp_case::{Group, Name};
-use emtp_netcards::{both, in_column, needed_name};
+use emtp_netcards::{both, needed_name};
 
 /// The group and the name of a card.
 #[tactic(auto, unfolding(crate::specs::Group::head_of))]

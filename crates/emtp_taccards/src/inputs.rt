@@ -3,9 +3,9 @@
 ghost use Rattle.std.specs.Prelude.{◌≡◌, ◌≤◌};
 ghost use Rattle.emtp_taccards.specs.Inputs.{four_inputs, input, inputs, is_minus, minus_field, signed_name};
 
-use emtp_card::{Fault, Why, byte_at, field_name};
+use emtp_card::{Fault, Why, byte_at, field_name, in_column};
 use emtp_case::Name;
-use emtp_netcards::{both, in_column};
+use emtp_netcards::both;
 
 /// An input: whether it is a minus, and its name.
 type Input = Option<(bool, Name)>;

@@ -32,6 +32,3 @@ pub use formula_card::FormulaCard;
 pub use polynomial_card::polynomial;
 pub use tacs_output_card::tacs_outputs;
 pub use tacs_source_card::tacs_source;
-
-/// The greatest magnitude of most fields, in their units.
-const EXA: i64 = 1_000_000_000_000_000_000;

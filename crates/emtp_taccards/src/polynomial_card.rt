@@ -1,14 +1,16 @@
 //! Numerator and denominator cards of a block.
 
 ghost use Rattle.std.specs.Prelude.{◌≡◌, ◌≤◌, length, All, IfOk};
+ghost use Rattle.emtp_card.specs.held.NumberField.{IsNumberField};
 ghost use Rattle.emtp_case.specs.held.RunData.{IsTimeStep};
 ghost use Rattle.emtp_netcards.specs.held.Fields.{IsSmall};
-ghost use Rattle.emtp_taccards.specs.PolynomialCard.{coefficient_field, coefficient_in, coefficients, four_of, pair_of, polynomial_card, stays, taken_field};
+ghost use Rattle.emtp_taccards.specs.PolynomialCard.{coefficient_at, coefficient_field, coefficients, four_of, pair_of, polynomial_card, stays, taken_field};
 ghost use Rattle.emtp_taccards.specs.held.PolynomialCard.{IsPolynomial};
 
-use emtp_card::{Bad, Fault, Line, MAX_BYTES, Why};
+use emtp_card::{Bad, Fault, Line, MAX_BYTES, NumberField, Why};
 use emtp_case::bilinear_step;
-use emtp_netcards::{both, card_due, in_column, signed_number};
+use emtp_fix::LARGEST_COEFFICIENT;
+use emtp_netcards::{both, card_due};
 
 /// The greatest magnitude of a coefficient on its way through the bilinear rule.
 const LARGEST_ON_WAY: u128 = 80_000_000_000_000_000_000_000_000;
@@ -71,24 +73,14 @@ fn pair(line: &[u8], order: u8, dt: i64, power: u8) -> Result<Pair, Fault>
     ensures second { IfOk result (λ pair. IsSmall pair.1) }
 {
     both(
-        coefficient_in(line, order, dt, power),
-        coefficient_in(line, order, dt, power + 1),
+        taken(line, order, dt, power),
+        taken(line, order, dt, power + 1),
     )
-}
-
-/// The coefficient of a power, its fault in the first of its ten columns.
-fn coefficient_in(line: &[u8], order: u8, dt: i64, power: u8) -> Result<i64, Fault>
-    requires dt { IsTimeStep dt }
-    requires power { power ≤ 7 }
-    ensures value { result ≡ coefficient_in line.now order dt power }
-    ensures small { IfOk result IsSmall }
-{
-    in_column(10 * power as u32 + 1, taken(line, order, dt, power))
 }
 
 /// The coefficient of a power, which the bilinear rule takes as often as the power says.
 #[tactic(auto, unfolding(crate::specs::PolynomialCard::taken_by))]
-fn taken(line: &[u8], order: u8, dt: i64, power: u8) -> Result<i64, Why>
+fn taken(line: &[u8], order: u8, dt: i64, power: u8) -> Result<i64, Fault>
     requires dt { IsTimeStep dt }
     requires power { power ≤ 7 }
     ensures value { result ≡ taken_field line.now order dt power }
@@ -96,12 +88,15 @@ fn taken(line: &[u8], order: u8, dt: i64, power: u8) -> Result<i64, Why>
 {
     match coefficient(line, order, power) {
         Ok(x) if stays(dt, x, power) => Ok(x),
-        Ok(_) => Err(Why::OutOfUnitRange),
-        Err(why) => Err(why),
+        Ok(_) => Err(Fault {
+            column: coefficient_at(power).first,
+            why: Why::OutOfUnitRange,
+        }),
+        Err(fault) => Err(fault),
     }
 }
 
-fn coefficient(line: &[u8], order: u8, power: u8) -> Result<i64, Why>
+fn coefficient(line: &[u8], order: u8, power: u8) -> Result<i64, Fault>
     requires { power ≤ 7 }
     ensures value { result ≡ coefficient_field line.now order power }
     ensures small { IfOk result IsSmall }
@@ -109,8 +104,23 @@ fn coefficient(line: &[u8], order: u8, power: u8) -> Result<i64, Why>
     if power > order {
         return Ok(0);
     }
-    let first = 10 * power as usize + 1;
-    signed_number(line, first, first + 9, 12)
+    coefficient_at(power).number_or(0, line)
+}
+
+/// The field of the coefficient of a power, in 10^-12.
+fn coefficient_at(power: u8) -> NumberField
+    requires { power ≤ 7 }
+    ensures value { result ≡ coefficient_at power }
+    ensures field { IsNumberField result }
+{
+    let first = 10 * power as u32 + 1;
+    NumberField {
+        first,
+        last: first + 9,
+        scale: 12,
+        low: -(LARGEST_COEFFICIENT as i64),
+        high: LARGEST_COEFFICIENT as i64,
+    }
 }
 
 /// Whether a coefficient stays in range while it is taken so many times through the bilinear rule.

@@ -3,9 +3,9 @@
 ghost use Rattle.std.specs.Prelude.{◌≡◌, ◌≤◌, length};
 ghost use Rattle.emtp_taccards.specs.TacsOutputCard.{fields_of, no_mark_field, tacs_output_card};
 
-use emtp_card::{Bad, Fault, Line, MAX_BYTES, Why, field_whole};
+use emtp_card::{Bad, Fault, Line, MAX_BYTES, Why, field_whole, in_column};
 use emtp_case::Name;
-use emtp_netcards::{both, card_on, in_column, name_list};
+use emtp_netcards::{both, card_on, name_list};
 
 /// Reads an output card of the control: 13 names of variables, of which blank ones are skipped. No mark asks for all.
 ///

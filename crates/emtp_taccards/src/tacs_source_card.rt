@@ -7,12 +7,29 @@ ghost use Rattle.emtp_netcards.specs.held.Reading.{judged};
 ghost use Rattle.emtp_taccards.specs.TacsSourceCard.{cosine_of, driven, fields_of, level_of, period_field, pulse_of, saw_of, signal_field, signal_of, source_record, source_with, tacs_source_card, value_of, width_field};
 ghost use Rattle.emtp_taccards.specs.held.TacsSourceCard.{HasTacsSourceNumbers, IsDriven, IsSignal};
 
-use crate::EXA;
-use emtp_card::{Bad, Fault, Line, MAX_BYTES, Why, field_whole};
+use emtp_card::{Bad, Fault, Line, MAX_BYTES, NumberField, Why, field_whole, in_column};
 use emtp_case::{Name, Shape};
+use emtp_fix::LARGEST_TIME;
 use emtp_netcards::{
-    SourceCard, active_times, amplitude, both, card_on, cosine_numbers, in_column, needed_name,
-    required,
+    SourceCard, active_times, amplitude, both, card_on, cosine_numbers, needed_name,
+};
+
+/// The period of a pulse or a saw tooth, in ps.
+const PERIOD: NumberField = NumberField {
+    first: 21,
+    last: 30,
+    scale: 12,
+    low: 1,
+    high: LARGEST_TIME as i64,
+};
+
+/// The width of a pulse, in ps.
+const WIDTH: NumberField = NumberField {
+    first: 31,
+    last: 40,
+    scale: 12,
+    low: 1,
+    high: LARGEST_TIME as i64,
 };
 
 /// The course of a source in time, and its amplitude.
@@ -163,9 +180,8 @@ fn pulse(line: &[u8]) -> Result<Course, Fault>
     ensures value { result ≡ pulse_of line.now }
     ensures numbers { IfOk result IsDriven }
 {
-    let period = in_column(21, period(line));
-    let width = in_column(31, width(line));
-    let (amplitude, (period, width)) = both(amplitude(line), both(period, width))?;
+    let times = both(period(line), width(line));
+    let (amplitude, (period, width)) = both(amplitude(line), times)?;
     Ok((Shape::Pulse { period, width }, amplitude))
 }
 
@@ -174,21 +190,21 @@ fn saw(line: &[u8]) -> Result<Course, Fault>
     ensures value { result ≡ saw_of line.now }
     ensures numbers { IfOk result IsDriven }
 {
-    let (amplitude, period) = both(amplitude(line), in_column(21, period(line)))?;
+    let (amplitude, period) = both(amplitude(line), period(line))?;
     Ok((Shape::Saw { period }, amplitude))
 }
 
 /// The time from one pulse or tooth to the next.
-fn period(line: &[u8]) -> Result<i64, Why>
+fn period(line: &[u8]) -> Result<i64, Fault>
     ensures value { result ≡ period_field line.now }
     ensures range { IfOk result (IsBetween 1 LARGEST_TIME) }
 {
-    required(line, 21, 30, 12, 1, EXA)
+    PERIOD.required(line)
 }
 
-fn width(line: &[u8]) -> Result<i64, Why>
+fn width(line: &[u8]) -> Result<i64, Fault>
     ensures value { result ≡ width_field line.now }
     ensures range { IfOk result (IsBetween 1 LARGEST_TIME) }
 {
-    required(line, 31, 40, 12, 1, EXA)
+    WIDTH.required(line)
 }
