@@ -13,7 +13,7 @@ use Rattle.emtp_netcards.specs.BranchCard.{copies_of, fields_of, kind_by, kind_f
 use Rattle.emtp_netcards.specs.Fields.{asked_field, asked_in, ends_field}
 use Rattle.emtp_netcards.specs.Reading.{both, in_column}
 use Rattle.emtp_netcards.specs.held.Reading.{judged}
-use Rattle.emtp_netcards.specs.SeriesValues.{c_field, l_field, part_field, r_field, series_values}
+use Rattle.emtp_netcards.specs.SeriesValues.{c_field, l_field, r_field, series_values}
 use Rattle.emtp_netcards.specs.declared.branch_card.BranchKind.{BranchKind}
 use Rattle.emtp_netcards.specs.declared.branch_card.BranchKind.TheVariants.{Series as SeriesKind}
 use Rattle.emtp_netcards.specs.declared.branch_card.BranchValues.{BranchValues}
@@ -40,6 +40,10 @@ name_same a b first same = ap (λ bytes. if list_any is_comma bytes then Err Bad
 whole_same : (a b : List ℕ) (first last : ℕ) → columns a first last ≡ columns b first last → whole_field a first last ≡ whole_field b first last
 unfolding whole_field
 whole_same a b first last same = ap (λ bytes. unless_blank (trimmed bytes) (whole_in (trimmed bytes))) same
+
+-- a field from 0 to 10^15 in its unit, of which a blank is 0
+abbrev part_field : List ℕ → ℕ → ℕ → ℤ → Result ℤ Fault
+part_field line first last scale = in_column first (filled_with (pos 0) (number_field line first last scale (pos 0) (pos (10 ^ 15))))
 
 part_goes : (a b : List ℕ) (first last other_first other_last : ℕ) (scale : ℤ) → field_of a first last ≡ field_of b other_first other_last → Goes (part_field a first last scale) (part_field b other_first other_last scale)
 unfolding number_field

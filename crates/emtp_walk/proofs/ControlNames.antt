@@ -54,7 +54,7 @@ block_name number line card h =
     let order = in_column 1 (order_field line) in
     let name = in_column 3 (needed (name_field line 3)) in
     let head = both order name in
-    let gain = in_column 51 (gain_field line) in
+    let gain = gain_field line in
     let record_of : BlockParts → BlockCard = λ p. block_record number p.0.0 p.0.1 p.1.0 p.1.1 in
     made_of (IsName card.name) (both (both head (inputs line)) (both gain (limits_of line))) record_of card (by number (fault_of_line line) _ card h) (λ p read same.
     let front = each_of head (inputs line) p.0 (each_of (both head (inputs line)) (both gain (limits_of line)) p read).0 in
