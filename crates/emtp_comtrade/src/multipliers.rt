@@ -1,8 +1,9 @@
 //! The multipliers of the analog channels of a record.
-ghost use Rattle.std.specs.Prelude.{◌≡◌, ◌≢◌, ℕ, ℤ, List, false, ◌+◌, ◌<◌, length, pos};
+ghost use Rattle.std.specs.Prelude.{◌≡◌, ◌≢◌, ℕ, ℤ, List, false, ◌+◌, ◌^◌, ◌<◌, ◌≤◌, length, pos, slice_index_or};
 ghost use Rattle.emtp_comtrade.specs.Record.{is_status_at, analog_before, multiplier_at};
-ghost use Rattle.emtp_comtrade.specs.held.Record.{MultipliersBelow, AreMultipliers};
-ghost use Rattle.emtp_machine.specs.Samples.{value_at, greatest};
+ghost use Rattle.emtp_comtrade.specs.Multiplier.{multiplier_of};
+ghost use Rattle.emtp_comtrade.specs.held.Record.{MultipliersBelow, AreMultipliers, AreGreatest};
+ghost use Rattle.emtp_machine.specs.Samples.{value_at};
 ghost use Rattle.emtp_comtrade.specs.held.Multiplier.{IsMultiplier, IsHeld};
 
 use crate::multiplier::least_multiplier;
@@ -19,24 +20,27 @@ pub fn scales(case: &Case, samples: &Samples) -> [i64; 64]
         → is_status_at case.now.parts place ≡ false
         → IsHeld (value_at samples.now.rows sample place) (multiplier_at samples.now.rows place) }
 {
+    let magnitudes = greatest_magnitudes(samples);
     let mut multipliers = [1; 64];
     let mut analog = 0;
     for place in 0..case.parts.channels.len() {
-        analog = put_multiplier(&mut multipliers, analog, case, samples, place);
+        analog = put_multiplier(&mut multipliers, analog, case, samples, &magnitudes, place);
     }
     multipliers
 }
 
 /// Puts the multiplier of the channel at a place after those of the analog channels before it, and answers how many
-/// they are then.
+/// they are then. Only the clauses read the samples, which the magnitudes are of.
 fn put_multiplier(
     multipliers: &mut [i64; 64],
     analog: usize,
     case: &Case,
     samples: &Samples,
+    magnitudes: &[u64; 64],
     place: usize,
 ) -> usize
     requires channels { samples.now.channels ≡ length case.now.parts.channels }
+    requires magnitudes { AreGreatest samples.now.rows samples.now.channels (length samples.now.rows) 0 magnitudes.now }
     requires place { place < length case.now.parts.channels }
     requires analog { analog ≡ analog_before case.now.parts place }
     requires multipliers { MultipliersBelow case.now.parts samples.now.rows place multipliers.old }
@@ -46,18 +50,44 @@ fn put_multiplier(
     if is_status_at(case, place) {
         return analog;
     }
-    multipliers[analog] = channel_multiplier(samples, place);
+    multipliers[analog] = channel_multiplier(magnitudes, place);
     analog + 1
 }
 
 /// The multiplier of the channel at a place.
-fn channel_multiplier(samples: &Samples, place: usize) -> i64
-    requires { place < samples.now.channels }
-    ensures value { result ≡ pos (multiplier_at samples.now.rows place) }
-    ensures least { IsMultiplier (greatest samples.now.rows place (length samples.now.rows))
-        (multiplier_at samples.now.rows place) }
+fn channel_multiplier(magnitudes: &[u64; 64], place: usize) -> i64
+    requires place { place < 64 }
+    requires small { slice_index_or magnitudes.now place 0 ≤ 2 ^ 63 }
+    ensures value { result ≡ pos (multiplier_of (slice_index_or magnitudes.now place 0)) }
+    ensures least { IsMultiplier (slice_index_or magnitudes.now place 0)
+        (multiplier_of (slice_index_or magnitudes.now place 0)) }
 {
-    least_multiplier(samples.greatest(place)) as i64
+    least_multiplier(magnitudes[place]) as i64
+}
+
+/// The greatest magnitudes of the channels in all samples, in one pass: a pass a channel would load each sample anew.
+fn greatest_magnitudes(samples: &Samples) -> [u64; 64]
+    requires { samples.now.channels ≤ 64 }
+    ensures { AreGreatest samples.now.rows samples.now.channels (length samples.now.rows) 0 result }
+{
+    let mut magnitudes = [0; 64];
+    for sample in 0..samples.count() {
+        raise_magnitudes(&mut magnitudes, samples, sample);
+    }
+    magnitudes
+}
+
+/// Raises the greatest magnitudes of the samples before one to those with that sample.
+fn raise_magnitudes(magnitudes: &mut [u64; 64], samples: &Samples, sample: u32)
+    requires channels { samples.now.channels ≤ 64 }
+    requires sample { sample < length samples.now.rows }
+    requires magnitudes { AreGreatest samples.now.rows samples.now.channels sample 0 magnitudes.old }
+    ensures { AreGreatest samples.now.rows samples.now.channels (sample + 1) 0 magnitudes.new }
+{
+    for place in 0..samples.channels() {
+        let magnitude = samples.value(sample, place).unsigned_abs();
+        magnitudes[place] = magnitudes[place].max(magnitude);
+    }
 }
 
 /// The multiplier of the analog channel at a place, before which so many analog channels stand.

@@ -1,5 +1,5 @@
 -- Beside `Record`: what values hold for their proofs, and what premises say. No clause of the program reaches it.
-use Rattle.std.specs.Prelude.{◌≡◌, ℕ, ◌<◌, ◌≤◌, ℤ, pos, false, List, length, slice_index_or}
+use Rattle.std.specs.Prelude.{◌≡◌, ℕ, ◌+◌, ◌^◌, ◌<◌, ◌≤◌, ℤ, pos, false, List, length, slice_index_or}
 use Rattle.emtp_case.specs.declared.case.Parts.{Parts}
 use Rattle.emtp_machine.specs.Samples.{greatest}
 use Rattle.emtp_comtrade.specs.held.Multiplier.{IsMultiplier}
@@ -16,3 +16,9 @@ pub record MultipliersBelow (p : Parts) (samples : List (List ℤ)) (n : ℕ) (m
 -- the multipliers of the analog channels, in order, and 1 after them
 abbrev pub AreMultipliers : Parts → List (List ℤ) → List ℤ → Type 0
 AreMultipliers p samples multipliers = MultipliersBelow p samples (length p.channels) multipliers
+
+-- the greatest magnitudes of the channels in the first n samples, and of those below k in one more
+pub record AreGreatest (rows : List (List ℤ)) (channels n k : ℕ) (magnitudes : List ℕ) : Type 0 where
+  pub raised : (place : ℕ) → place < k → slice_index_or magnitudes place 0 ≡ greatest rows place (n + 1)
+  pub left : (place : ℕ) → k ≤ place → place < channels → slice_index_or magnitudes place 0 ≡ greatest rows place n
+  pub small : (place : ℕ) → place < channels → slice_index_or magnitudes place 0 ≤ 2 ^ 63
