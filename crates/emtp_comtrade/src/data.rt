@@ -1,6 +1,6 @@
 //! The lines of the data.
-ghost use Rattle.std.specs.Prelude.{◌≡◌, ◌≢◌, ◌+◌, ◌*◌, ◌<◌, ◌≤◌, ◌++◌, pos, ◌-ℤ◌, ◌*ℤ◌, unsigned_abs, length, ◌==◌, OnOk};
-ghost use Rattle.emtp_fix.specs.Rounding.{near};
+ghost use Rattle.std.specs.Prelude.{true, ◌≡◌, ◌≢◌, ℕ, ◌+◌, ◌*◌, ◌^◌, ◌<◌, ◌≤◌, ◌++◌, pos, ◌<ℤ◌, ◌-ℤ◌, ◌*ℤ◌, unsigned_abs, length, ◌==◌, OnOk};
+ghost use Rattle.emtp_fix.specs.Rounding.{near, near_abs};
 ghost use Rattle.emtp_io.specs.held.Whole.{Appends};
 ghost use Rattle.emtp_comtrade.specs.Record.{joined, is_status_at, analog_before, raw_at, state_at, dat_line, dat_text};
 ghost use Rattle.emtp_comtrade.specs.held.Record.{AreMultipliers};
@@ -34,6 +34,70 @@ pub fn raw_value(value: i64, multiplier: i64) -> i128
     near(i128::from(value), i128::from(multiplier))
 }
 
+/// The same in 64 bits, where it fits 16, without a division where `word` is that of the multiplier.
+fn raw_value_by(value: i64, multiplier: i64, word: u64) -> i64
+    requires positive { pos 0 <ℤ multiplier }
+    requires held { unsigned_abs (near value multiplier) ≤ 32767 }
+    ensures { result ≡ near value multiplier }
+{
+    let magnitude = raw_magnitude(value.unsigned_abs(), multiplier.unsigned_abs(), word);
+    with_sign_of(value, magnitude)
+}
+
+fn with_sign_of(value: i64, magnitude: u64) -> i64
+    requires { magnitude ≤ 32767 }
+    ensures { (d : ℕ) → magnitude ≡ near_abs (unsigned_abs value) d → result ≡ near value (pos d) }
+{
+    if value < 0 {
+        -(magnitude as i64)
+    } else {
+        magnitude as i64
+    }
+}
+
+/// The word gives a guess, which is checked. With any other word the answer is the same, by a division.
+fn raw_magnitude(value: u64, multiplier: u64, word: u64) -> u64
+    requires positive { 0 < multiplier }
+    requires value { value ≤ 2 ^ 63 }
+    ensures { result ≡ near_abs value multiplier }
+{
+    let raised = value + multiplier / 2;
+    let guess = guess(raised, multiplier, word);
+    if is_quotient(raised, multiplier, guess) {
+        guess
+    } else {
+        raised / multiplier
+    }
+}
+
+/// A guess of `x / multiplier`. It is right where `word` is that of the multiplier.
+fn guess(x: u64, multiplier: u64, word: u64) -> u64 {
+    let low = (u128::from(x).wrapping_mul(u128::from(word)) / (1 << 64)) as u64;
+    let left = x.wrapping_sub(low.wrapping_mul(multiplier));
+    if left >= multiplier {
+        low.wrapping_add(1)
+    } else {
+        low
+    }
+}
+
+/// Whether `guess` is `x / multiplier`.
+fn is_quotient(x: u64, multiplier: u64, guess: u64) -> bool
+    ensures { result ≡ true → (guess * multiplier ≤ x) × (x < guess * multiplier + multiplier) }
+{
+    let product = u128::from(guess) * u128::from(multiplier);
+    product <= u128::from(x) && u128::from(x) - product < u128::from(multiplier)
+}
+
+/// The words of the multipliers, each of which divides once a sample: (2^64 - 1) / multiplier.
+fn words_of(multipliers: &[i64; 64]) -> [u64; 64] {
+    let mut words = [0; 64];
+    for channel in 0..64 {
+        words[channel] = u64::MAX / multipliers[channel].unsigned_abs().max(1);
+    }
+    words
+}
+
 /// Writes the data: a line a sample, and the end mark. The caller created `Dat`. It takes no memory.
 #[tactic(auto, unfolding(crate::specs::Record::dat_text))]
 pub fn write_dat<C: Cabinet>(
@@ -47,8 +111,9 @@ pub fn write_dat<C: Cabinet>(
     ensures { Appends (C.state cabinet.old) (C.state cabinet.new) Output.Dat
         (dat_text case.now.parts samples.now.rows) result }
 {
+    let words = words_of(multipliers);
     let mut text = Text::new();
-    write_samples(cabinet, &mut text, case, samples, multipliers)?;
+    write_samples(cabinet, &mut text, case, samples, multipliers, &words)?;
     text.push(b"\x1a");
     flush(cabinet, Output::Dat, &mut text)
 }
@@ -60,6 +125,7 @@ fn write_samples<C: Cabinet>(
     case: &Case,
     samples: &Samples,
     multipliers: &[i64; 64],
+    words: &[u64; 64],
 ) -> Result<(), Failed>
     requires channels { samples.now.channels ≡ length case.now.parts.channels }
     requires multipliers { AreMultipliers case.now.parts samples.now.rows multipliers.now }
@@ -69,7 +135,7 @@ fn write_samples<C: Cabinet>(
     ensures room { OnOk result (length text.new + LINE_ROOM ≤ TEXT_ROOM) }
 {
     for sample in 0..samples.count() {
-        push_sample(text, case, samples, multipliers, sample);
+        push_sample(text, case, samples, multipliers, words, sample);
         make_room(cabinet, Output::Dat, text)?;
     }
     Ok(())
@@ -82,6 +148,7 @@ pub fn push_sample(
     case: &Case,
     samples: &Samples,
     multipliers: &[i64; 64],
+    words: &[u64; 64],
     sample: u32,
 )
     requires channels { samples.now.channels ≡ length case.now.parts.channels }
@@ -94,13 +161,20 @@ pub fn push_sample(
     text.push_number(u64::from(sample) + 1);
     text.push(b",");
     text.push_number(sample);
-    push_raws(text, case, samples, multipliers, sample);
+    push_raws(text, case, samples, multipliers, words, sample);
     push_states(text, case, samples, sample);
     text.push(b"\r\n");
 }
 
 /// Puts a comma and the raw value of each analog channel after the text.
-fn push_raws(text: &mut Text, case: &Case, samples: &Samples, multipliers: &[i64; 64], sample: u32)
+fn push_raws(
+    text: &mut Text,
+    case: &Case,
+    samples: &Samples,
+    multipliers: &[i64; 64],
+    words: &[u64; 64],
+    sample: u32,
+)
     requires channels { samples.now.channels ≡ length case.now.parts.channels }
     requires multipliers { AreMultipliers case.now.parts samples.now.rows multipliers.now }
     requires sample { sample < length samples.now.rows }
@@ -111,7 +185,16 @@ fn push_raws(text: &mut Text, case: &Case, samples: &Samples, multipliers: &[i64
 {
     let mut analog = 0;
     for place in 0..case.parts.channels.len() {
-        analog = push_raw(text, case, samples, multipliers, sample, place, analog);
+        analog = push_raw(
+            text,
+            case,
+            samples,
+            multipliers,
+            words,
+            sample,
+            place,
+            analog,
+        );
     }
 }
 
@@ -122,6 +205,7 @@ fn push_raw(
     case: &Case,
     samples: &Samples,
     multipliers: &[i64; 64],
+    words: &[u64; 64],
     sample: u32,
     place: usize,
     analog: usize,
@@ -141,7 +225,8 @@ fn push_raw(
     }
     text.push(b",");
     let multiplier = multiplier_at(case, multipliers, place, analog);
-    text.push_number(raw_value(samples.value(sample, place), multiplier));
+    let value = samples.value(sample, place);
+    text.push_number(raw_value_by(value, multiplier, words[analog]));
     analog + 1
 }
 

@@ -1,5 +1,5 @@
 //! The multipliers of the analog channels of a record.
-ghost use Rattle.std.specs.Prelude.{◌≡◌, ◌≢◌, ℕ, ℤ, List, false, ◌+◌, ◌^◌, ◌<◌, ◌≤◌, length, pos, slice_index_or};
+ghost use Rattle.std.specs.Prelude.{◌≡◌, ℕ, ℤ, ◌<ℤ◌, List, false, ◌+◌, ◌^◌, ◌<◌, ◌≤◌, length, pos, slice_index_or};
 ghost use Rattle.emtp_comtrade.specs.Record.{is_status_at, analog_before, multiplier_at};
 ghost use Rattle.emtp_comtrade.specs.Multiplier.{multiplier_of};
 ghost use Rattle.emtp_comtrade.specs.held.Record.{MultipliersBelow, AreMultipliers, AreGreatest};
@@ -100,8 +100,8 @@ pub fn multiplier_at(case: &Case, multipliers: &[i64; 64], place: usize, analog:
     // Whatever the samples are that these are the multipliers of.
     ensures value { (samples : List (List ℤ)) → AreMultipliers case.now.parts samples multipliers.now
         → result ≡ pos (multiplier_at samples place) }
-    ensures nonzero { (samples : List (List ℤ)) → AreMultipliers case.now.parts samples multipliers.now
-        → result ≢ pos 0 }
+    ensures positive { (samples : List (List ℤ)) → AreMultipliers case.now.parts samples multipliers.now
+        → pos 0 <ℤ result }
 {
     multipliers[analog]
 }

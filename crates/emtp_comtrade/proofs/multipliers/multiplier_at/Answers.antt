@@ -1,4 +1,5 @@
-use Rattle.std.proofs.Common.{rules, ◌≡◌, ◌<◌, ℕ, pos, ap, arith, sym, ◌∙◌, length, slice_index_or, to_z, of_z, w64}
+use Rattle.std.proofs.Common.{rules, ◌≡◌, ◌<◌, ℕ, pos, ap, arith, ◌∙◌, length, slice_index_or, to_z, of_z, w64}
+use Rattle.std.proofs.lemmas.Int.{ints}
 use Rattle.emtp_comtrade.specs.Record.{multiplier_at}
 use Rattle.emtp_comtrade.proofs.ChannelMultipliers.{analog_before-within}
 use Rattle.emtp_comtrade.proofs.LeastMultiplier.{multiplier-positive}
@@ -23,14 +24,12 @@ returns-clause-value c = λ samples multipliers.
     ∙ multipliers.analog c.args.place c.requires.place c.requires.kind in
     search (rules, entry)
 
-pub returns-clause-nonzero : goal.returns-clause-nonzero
-returns-clause-nonzero c = λ samples multipliers zero.
+pub returns-clause-positive : goal.returns-clause-positive
+returns-clause-positive c = λ samples multipliers.
     let entry : slice_index_or c.args.multipliers.now c.args.analog (pos 0) ≡ pos (multiplier_at samples c.args.place) =
     ap (λ (n : ℕ). slice_index_or c.args.multipliers.now n (pos 0)) c.requires.analog
     ∙ multipliers.analog c.args.place c.requires.place c.requires.kind in
     let value : to_z w64 (of_z w64 (slice_index_or c.args.multipliers.now c.args.analog (pos 0))) ≡ pos (multiplier_at samples c.args.place) =
     search (rules, entry) in
     let positive : 0 < multiplier_at samples c.args.place = multiplier-positive _ _ (multipliers.least c.args.place c.requires.place c.requires.kind) in
-    let none : pos (multiplier_at samples c.args.place) ≡ pos 0 = sym value ∙ zero in
-    let nothing : multiplier_at samples c.args.place ≡ 0 = cc in
-    omega (arith, positive, nothing)
+    rw value (omega (arith, ints, positive))
