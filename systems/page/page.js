@@ -28,8 +28,12 @@ const plainName = name => name.replace(/_/g, " ");
 const bytesOfBase64 = text => Uint8Array.from(atob(text), letter => letter.charCodeAt(0));
 const number = value => Number.isFinite(value) ? String(Number(value.toPrecision(6))) : "–";
 
+// The bytes that a stream makes of these. It is read piece by piece: of a fault in the body of a Response Firefox writes to the
+// console, even where it is caught.
 async function through(stream, bytes) {
-  return new Uint8Array(await new Response(new Blob([bytes]).stream().pipeThrough(stream)).arrayBuffer());
+  const reader = new Blob([bytes]).stream().pipeThrough(stream).getReader(), parts = [];
+  for (let part; !(part = await reader.read()).done;) parts.push(part.value);
+  return new Uint8Array(await new Blob(parts).arrayBuffer());
 }
 
 // ---- the case that is open
@@ -852,6 +856,7 @@ const results = (() => {
       return;
     }
     const batch = picture.kind === "batch";
+    $("channels").className = batch ? "" : "no-cursor no-mark";
     const heads = ["channel", "unit", ...(batch ? ["half of the rows up to", "at most 2 % exceed", "greatest", "in row"] : ["at the cursor", "from the mark", "least", "greatest"])];
     const body = [];
     for (const pane of picture.panes) {
@@ -891,6 +896,10 @@ const results = (() => {
     const axis = at && plot.picture?.axes[at.axis];
     $("under").textContent = !axis ? "" : `at ${number(at.x)} ${axis.unit}${at.mark === null ? "" : `, ${number(at.x - at.mark)} ${axis.unit} from the mark at ${number(at.mark)}`
       + (plot.picture.kind === "record" && at.x !== at.mark ? ` (${number(1e3 / Math.abs(at.x - at.mark))} Hz)` : "")}`;
+    if (plot.picture?.kind !== "batch") {
+      $("channels").classList.toggle("no-cursor", !axis);
+      $("channels").classList.toggle("no-mark", !axis || at.mark === null);
+    }
     for (const { it, pane, cells } of rows) {
       if (plot.picture?.kind === "batch") break;
       const own = axis && pane.axis === at.axis, values = it.y ?? it.values;
