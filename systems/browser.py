@@ -46,6 +46,8 @@ def program() -> str | None:
 class Browser:
     """A headless Chromium with one page, until `close`."""
 
+    drops = True  # whether files can be dropped on the page
+
     def __init__(self, width: int = 1400, height: int = 1000, dark: bool = False, ratio: float = 1.0) -> None:
         found = program()
         if not found:
@@ -244,7 +246,8 @@ class Browser:
         until = time.monotonic() + seconds
         while time.monotonic() < until:
             file = self.downloads / name
-            if file.is_file() and not list(self.downloads.glob("*.crdownload")):
+            under_way = [it for it in self.downloads.iterdir() if it.suffix in (".crdownload", ".part")]
+            if file.is_file() and file.stat().st_size and not under_way:
                 got = file.read_bytes()
                 file.unlink()
                 return got
