@@ -33,6 +33,7 @@ TOP = HERE.parent
 sys.path.insert(0, str(HERE))
 
 import page as pages  # noqa: E402  (beside this file)
+import wide  # noqa: E402
 
 CRATE = TOP / "crates" / "emtp_page"
 EXPORTS = ["emtp_page_call", "emtp_page_show"]
@@ -227,8 +228,14 @@ def compiled(text: str, target: Target, room: Path) -> Path:
     name = target.triple.split("-")[0] + "-" + target.triple.split("-")[2]
     (room / f"{name}.ll").write_text(adapted(text, target), encoding="utf-8")
     made = room / f"{name}.o"
-    how = (f"--target={target.triple}", *target.flags, *COMMON, "-O3", "-c")
-    clang(*how, "-x", "ir", room / f"{name}.ll", "-o", made, folder=room)
+    how = (f"--target={target.triple}", *target.flags, *COMMON, "-O3", "-x", "ir")
+    if target is not WASM:
+        clang(*how, "-c", room / f"{name}.ll", "-o", made, folder=room)
+        return made
+    optimised = room / "optimised.ll"
+    clang(*how, "-S", "-emit-llvm", room / f"{name}.ll", "-o", optimised, folder=room)
+    optimised.write_text(wide.narrowed(optimised.read_text(encoding="utf-8")), encoding="utf-8")
+    clang(*how, "-Xclang", "-disable-llvm-passes", "-c", optimised, "-o", made, folder=room)
     return made
 
 
