@@ -26,13 +26,13 @@ and_both a b h k = ap (λ t. t && b) h ∙ k
 pub free-both : (b : ℕ) (xs ys : List ℕ) → IsFree b xs → IsFree b ys → IsFree b (xs ++ ys)
 free-both b xs ys f g = list_all-append (λ x. not (x == b)) xs ys ∙ and_both _ _ f g
 
-free-head : (b y : ℕ) (ys : List ℕ) → IsFree b (y ∷ ys) → y ≢ b
+pub free-head : (b y : ℕ) (ys : List ℕ) → IsFree b (y ∷ ys) → y ≢ b
 free-head b y ys free = other b y (and_first (not (y == b)) (list_all (λ x. not (x == b)) ys) free)
   where
     other : (b y : ℕ) → not (y == b) ≡ true → y ≢ b
     other b y h = grind (arith, nat_tests)
 
-free-tail : (b y : ℕ) (ys : List ℕ) → IsFree b (y ∷ ys) → IsFree b ys
+pub free-tail : (b y : ℕ) (ys : List ℕ) → IsFree b (y ∷ ys) → IsFree b ys
 free-tail b y ys free = and_rest (not (y == b)) (list_all (λ x. not (x == b)) ys) free
 
 head-same : (x y : ℕ) (xs ys : List ℕ) → x ∷ xs ≡ y ∷ ys → x ≡ y

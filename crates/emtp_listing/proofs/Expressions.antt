@@ -1,26 +1,30 @@
 -- Formulas are known by their lines.
-use Rattle.std.proofs.Common.{◌≡◌, ◌∙◌, sym, ap, refl, arith, ◌^◌, ◌<◌, List, [], ℕ, ℤ, length, map, get_or, drop, codes}
-use Rattle.std.specs.Prelude.{All, if◌then◌else◌}
-use Rattle.std.specs.Str.{bytes_eq}
+use Rattle.std.proofs.Common.{◌≡◌, ◌++◌, ◌+◌, ◌∙◌, sym, ap, refl, arith, subst, ◌^◌, ◌<◌, Bool, true, false, List, [], ◌∷◌, ℕ, length, map, get_or, drop, take, codes, decimal}
+use Rattle.std.specs.Prelude.{◌&&◌, All, if◌then◌else◌}
 use Rattle.std.proofs.lemmas.List.Elements.{All-weaker}
 use Rattle.emtp_case.specs.held.Control.{IsFormula}
-use Rattle.emtp_case.specs.held.Expr.{FitsPlaces}
+use Rattle.emtp_case.specs.held.Expr.{FitsPlaces, IsWhole}
+use Rattle.emtp_case.specs.held.Name.{IsName}
 use Rattle.emtp_case.specs.declared.control.Formula.{Formula}
 use Rattle.emtp_case.specs.declared.control.Group.{Group}
 use Rattle.emtp_case.specs.declared.control.Group.TheVariants.{Input as BeforeBlocks, Inside, Output}
 use Rattle.emtp_case.specs.declared.expr.BinaryOp.{BinaryOp}
 use Rattle.emtp_case.specs.declared.expr.BinaryOp.TheVariants.{Add, And, Div, Eq, Ge, Gt, Le, Lt, Mul, Ne, Or, Sub}
 use Rattle.emtp_case.specs.declared.expr.Node.{Node}
-use Rattle.emtp_case.specs.declared.expr.Node.TheVariants.{Binary, Number, Unary, Var}
 use Rattle.emtp_case.specs.declared.expr.UnaryOp.{UnaryOp}
 use Rattle.emtp_case.specs.declared.expr.UnaryOp.TheVariants.{Abs, Minus, Not, Sign, Sqrt, Trunc}
-use Rattle.emtp_listing.specs.ControlLines.{binary_word, formula_entries, group_number, node_of_expr_entry, unary_word}
-use Rattle.emtp_listing.specs.Entry.{count_entry, variable_entry}
+use Rattle.emtp_fix.specs.declared.limit.TheConstants.{LARGEST_VALUE}
+use Rattle.emtp_listing.specs.ControlLines.{formula_entries, group_number}
+use Rattle.emtp_listing.specs.Entry.{count_entry, variable_entry, word_entry}
+use Rattle.emtp_listing.specs.ExpressionText.{binary_text, binary_word, expression_text, is_new, is_plain, opening, unary_text, variable_text}
 use Rattle.emtp_listing.specs.Law.{IsFree, AllFree, AreApart, Around, HasVarNames}
-use Rattle.emtp_listing.proofs.Entries.{count-marked, figure-marked, place-marked}
+use Rattle.emtp_listing.proofs.Cut.{free-both}
+use Rattle.emtp_listing.proofs.Entries.{count-marked}
 use Rattle.emtp_listing.proofs.Lists.{all-free, front-same, map-free, map-length, map-same}
-use Rattle.emtp_listing.proofs.Marks.{IsMark, IsText, between-small, word-free, word-same}
-use Rattle.emtp_listing.proofs.Numbers.{count-same, figure-same, place-same}
+use Rattle.emtp_listing.proofs.Marks.{IsMark, IsText, between-small, name_at-text, word-same}
+use Rattle.emtp_listing.proofs.Numbers.{count-same, decimal-free, fixed-free}
+use Rattle.emtp_listing.proofs.Trees.{Amount, IsTree, One, Place, Tree, Two, nodes_of, text_of, tree-fits, whole-tree}
+use Rattle.emtp_listing.proofs.TreeTexts.{HasVars, tree-same}
 use Rattle.emtp_listing.proofs.Words.{variable-free, variable-same}
 
 -- ---- groups, by the numbers of their cards
@@ -44,67 +48,15 @@ group_numbers-same Output Output e = refl
 pub group-same : (name : List ℕ) (g h : Group) → count_entry name (group_number g) ≡ count_entry name (group_number h) → g ≡ h
 group-same name g h e = group_numbers-same g h (count-same name (group_number g) (group_number h) (group-small g) (group-small h) e)
 
--- ---- operators, by their words
+-- ---- the text of an expression
 
-abbrev unary_of : List ℕ → UnaryOp
-unary_of word =
-    if bytes_eq word (codes "-") then Minus
-    else if bytes_eq word (codes ".NOT.") then Not
-    else if bytes_eq word (codes "ABS") then Abs
-    else if bytes_eq word (codes "SQRT") then Sqrt
-    else if bytes_eq word (codes "TRUNC") then Trunc
-    else Sign
-
-unary-back : (op : UnaryOp) → unary_of (unary_word op) ≡ op
-unary-back Minus = refl
-unary-back Not = refl
-unary-back Abs = refl
-unary-back Sqrt = refl
-unary-back Trunc = refl
-unary-back Sign = refl
-
-unary-same : (a b : UnaryOp) → unary_word a ≡ unary_word b → a ≡ b
-unary-same a b e = sym (unary-back a) ∙ ap unary_of e ∙ unary-back b
-
-unary-text : (op : UnaryOp) → IsText (unary_word op)
-unary-text Minus = refl
-unary-text Not = refl
-unary-text Abs = refl
-unary-text Sqrt = refl
-unary-text Trunc = refl
-unary-text Sign = refl
-
-abbrev binary_of : List ℕ → BinaryOp
-binary_of word =
-    if bytes_eq word (codes "+") then Add
-    else if bytes_eq word (codes "-") then Sub
-    else if bytes_eq word (codes "*") then Mul
-    else if bytes_eq word (codes "/") then Div
-    else if bytes_eq word (codes ".GT.") then Gt
-    else if bytes_eq word (codes ".GE.") then Ge
-    else if bytes_eq word (codes ".LT.") then Lt
-    else if bytes_eq word (codes ".LE.") then Le
-    else if bytes_eq word (codes ".EQ.") then Eq
-    else if bytes_eq word (codes ".NE.") then Ne
-    else if bytes_eq word (codes ".AND.") then And
-    else Or
-
-binary-back : (op : BinaryOp) → binary_of (binary_word op) ≡ op
-binary-back Add = refl
-binary-back Sub = refl
-binary-back Mul = refl
-binary-back Div = refl
-binary-back Gt = refl
-binary-back Ge = refl
-binary-back Lt = refl
-binary-back Le = refl
-binary-back Eq = refl
-binary-back Ne = refl
-binary-back And = refl
-binary-back Or = refl
-
-binary-same : (a b : BinaryOp) → binary_word a ≡ binary_word b → a ≡ b
-binary-same a b e = sym (binary-back a) ∙ ap binary_of e ∙ binary-back b
+opening-text : (op : UnaryOp) → IsText (opening op)
+opening-text Minus = refl
+opening-text Not = refl
+opening-text Abs = refl
+opening-text Sqrt = refl
+opening-text Trunc = refl
+opening-text Sign = refl
 
 binary-text : (op : BinaryOp) → IsText (binary_word op)
 binary-text Add = refl
@@ -120,36 +72,56 @@ binary-text Ne = refl
 binary-text And = refl
 binary-text Or = refl
 
--- ---- nodes
+unary-free : (b : ℕ) (op : UnaryOp) (a : List ℕ) → IsMark b → IsFree b a → IsFree b (unary_text op a)
+unary-free b op a mark f = free-both b (opening op) (a ++ 41 ∷ []) (mark.texts (opening op) (opening-text op)) (free-both b a (41 ∷ []) f (mark.texts (41 ∷ []) refl))
 
-node_entry-free : (b places : ℕ) (x : Node) → IsMark b → places < 2 ^ 63 → FitsPlaces places x → IsFree b (node_of_expr_entry x)
-node_entry-free b places (Number x) mark few is = figure-marked b (codes "number") 9 [] x mark refl refl (between-small 0 (10 ^ 18) x (omega arith) is)
-node_entry-free b places (Var at) mark few is = place-marked b (codes "variable") at mark refl (omega (arith, few, is))
-node_entry-free b places (Unary op) mark few is = word-free b (codes "function") (unary_word op) mark refl (unary-text op)
-node_entry-free b places (Binary op) mark few is = word-free b (codes "operator") (binary_word op) mark refl (binary-text op)
+joined-free : (b : ℕ) (op : BinaryOp) (x y : List ℕ) → IsMark b → IsFree b x → IsFree b y → IsFree b (binary_text op x y)
+joined-free b op x y mark f g =
+    free-both b (40 ∷ []) (x ++ 32 ∷ (binary_word op ++ 32 ∷ (y ++ 41 ∷ []))) (mark.texts (40 ∷ []) refl)
+    (free-both b x (32 ∷ (binary_word op ++ 32 ∷ (y ++ 41 ∷ []))) f
+    (free-both b (32 ∷ []) (binary_word op ++ 32 ∷ (y ++ 41 ∷ [])) (mark.texts (32 ∷ []) refl)
+    (free-both b (binary_word op) (32 ∷ (y ++ 41 ∷ [])) (mark.texts (binary_word op) (binary-text op))
+    (free-both b (32 ∷ []) (y ++ 41 ∷ []) (mark.texts (32 ∷ []) refl) (free-both b y (41 ∷ []) g (mark.texts (41 ∷ []) refl))))))
 
-node_entry-same : (m n : ℕ) (x y : Node) → m < 2 ^ 63 → n < 2 ^ 63 → FitsPlaces m x → FitsPlaces n y → node_of_expr_entry x ≡ node_of_expr_entry y → x ≡ y
-node_entry-same m n (Number x) (Number y) few few2 is js e = ap (λ (z : ℤ). Number z) (figure-same (codes "number") 9 [] x y (between-small 0 (10 ^ 18) x (omega arith) is) (between-small 0 (10 ^ 18) y (omega arith) js) e)
-node_entry-same m n (Number x) (Var y) few few2 is js e = let l : 110 ≡ 118 = ap (λ (l : List ℕ). get_or l 0 0) e in absurd (omega (arith, l))
-node_entry-same m n (Number x) (Unary y) few few2 is js e = let l : 110 ≡ 102 = ap (λ (l : List ℕ). get_or l 0 0) e in absurd (omega (arith, l))
-node_entry-same m n (Number x) (Binary y) few few2 is js e = let l : 110 ≡ 111 = ap (λ (l : List ℕ). get_or l 0 0) e in absurd (omega (arith, l))
-node_entry-same m n (Var x) (Number y) few few2 is js e = let l : 118 ≡ 110 = ap (λ (l : List ℕ). get_or l 0 0) e in absurd (omega (arith, l))
-node_entry-same m n (Var x) (Var y) few few2 is js e = ap (λ (z : ℕ). Var z) (place-same (codes "variable") x y (omega (arith, few, is)) (omega (arith, few2, js)) e)
-node_entry-same m n (Var x) (Unary y) few few2 is js e = let l : 118 ≡ 102 = ap (λ (l : List ℕ). get_or l 0 0) e in absurd (omega (arith, l))
-node_entry-same m n (Var x) (Binary y) few few2 is js e = let l : 118 ≡ 111 = ap (λ (l : List ℕ). get_or l 0 0) e in absurd (omega (arith, l))
-node_entry-same m n (Unary x) (Number y) few few2 is js e = let l : 102 ≡ 110 = ap (λ (l : List ℕ). get_or l 0 0) e in absurd (omega (arith, l))
-node_entry-same m n (Unary x) (Var y) few few2 is js e = let l : 102 ≡ 118 = ap (λ (l : List ℕ). get_or l 0 0) e in absurd (omega (arith, l))
-node_entry-same m n (Unary x) (Unary y) few few2 is js e = ap (λ (z : UnaryOp). Unary z) (unary-same x y (word-same (codes "function") (unary_word x) (unary_word y) e))
-node_entry-same m n (Unary x) (Binary y) few few2 is js e = let l : 102 ≡ 111 = ap (λ (l : List ℕ). get_or l 0 0) e in absurd (omega (arith, l))
-node_entry-same m n (Binary x) (Number y) few few2 is js e = let l : 111 ≡ 110 = ap (λ (l : List ℕ). get_or l 0 0) e in absurd (omega (arith, l))
-node_entry-same m n (Binary x) (Var y) few few2 is js e = let l : 111 ≡ 118 = ap (λ (l : List ℕ). get_or l 0 0) e in absurd (omega (arith, l))
-node_entry-same m n (Binary x) (Unary y) few few2 is js e = let l : 111 ≡ 102 = ap (λ (l : List ℕ). get_or l 0 0) e in absurd (omega (arith, l))
-node_entry-same m n (Binary x) (Binary y) few few2 is js e = ap (λ (z : BinaryOp). Binary z) (binary-same x y (word-same (codes "operator") (binary_word x) (binary_word y) e))
+place-free : (b : ℕ) (names : List (List ℕ)) (vars : List ℕ) (at : ℕ) → IsMark b → All IsName names → All (λ v. v < length names) vars → at < length vars → length vars < 2 ^ 63
+    → IsFree b (variable_text names vars at)
+place-free b names vars at mark named there within few =
+    either (is_plain (get_or names (get_or vars at 0) []) && is_new (get_or vars at 0) (take at vars))
+  where
+    either : (c : Bool) → IsFree b (if c then get_or names (get_or vars at 0) [] else 35 ∷ decimal (at + 1))
+    either true = mark.texts (get_or names (get_or vars at 0) []) (name_at-text names (get_or vars at 0) named)
+    either false = free-both b (35 ∷ []) (decimal (at + 1)) (mark.texts (35 ∷ []) refl) (decimal-free b (at + 1) (omega (arith, mark.low)) (omega (arith, within, few)))
+
+tree-free : (b : ℕ) (names : List (List ℕ)) (vars : List ℕ) (t : Tree) → IsMark b → All IsName names → All (λ v. v < length names) vars → length vars < 2 ^ 63 → IsTree (length vars) t
+    → IsFree b (text_of names vars t)
+tree-free b names vars (Amount x) mark named there few is = fixed-free b x 9 mark.low (between-small 0 LARGEST_VALUE x (omega arith) is)
+tree-free b names vars (Place at) mark named there few is = place-free b names vars at mark named there is few
+tree-free b names vars (One op a) mark named there few is = unary-free b op (text_of names vars a) mark (tree-free b names vars a mark named there few is)
+tree-free b names vars (Two op a c) mark named there few is =
+    joined-free b op (text_of names vars a) (text_of names vars c) mark (tree-free b names vars a mark named there few is.0) (tree-free b names vars c mark named there few is.1)
+
+expression-free : (b : ℕ) (names : List (List ℕ)) (vars : List ℕ) (nodes : List Node) → IsMark b → All IsName names → All (λ v. v < length names) vars → length vars < 2 ^ 63
+    → All (FitsPlaces (length vars)) nodes → IsWhole nodes → IsFree b (expression_text names vars nodes)
+expression-free b names vars nodes mark named there few fits is =
+    let has = whole-tree names vars nodes is in
+    subst (IsFree b) (sym has.text_is) (tree-free b names vars has.tree mark named there few (tree-fits (length vars) has.tree (subst (All (FitsPlaces (length vars))) (sym has.nodes_are) fits)))
+
+expression-same : (names : List (List ℕ)) (vars : List ℕ) (x y : List Node) → HasVars names vars → All (FitsPlaces (length vars)) x → All (FitsPlaces (length vars)) y → IsWhole x → IsWhole y
+    → expression_text names vars x ≡ expression_text names vars y → x ≡ y
+expression-same names vars x y has fits fits2 is js e =
+    let one = whole-tree names vars x is in
+    let two = whole-tree names vars y js in
+    let trees = tree-same names vars one.tree two.tree has (tree-fits (length vars) one.tree (subst (All (FitsPlaces (length vars))) (sym one.nodes_are) fits))
+    (tree-fits (length vars) two.tree (subst (All (FitsPlaces (length vars))) (sym two.nodes_are) fits2)) (sym one.text_is ∙ e ∙ two.text_is) in
+    sym one.nodes_are ∙ ap nodes_of trees ∙ two.nodes_are
 
 -- ---- formulas
 
 among-names : (n m : ℕ) (vs : List ℕ) → n ≡ m → All (λ v. v < n) vs → All (λ v. v < m) vs
 among-names n m vs same all = All-weaker (λ v. v < n) (λ v. v < m) (λ v h. omega (arith, same, h)) vs all
+
+value-free : (b : ℕ) (text : List ℕ) → IsMark b → IsFree b text → IsFree b (word_entry (codes "value") text)
+value-free b text mark free = free-both b (codes "value=") text (mark.texts (codes "value=") refl) free
 
 pub formula-free : (b : ℕ) (w : Around) (vars : List (List ℕ)) (x : Formula) → IsMark b → HasVarNames w vars → length x.vars < 2 ^ 63 → IsFormula w.sizes x → AllFree b (formula_entries vars x)
 formula-free b w vars x mark named few is =
@@ -159,9 +131,9 @@ formula-free b w vars x mark named few is =
         count-marked b (codes "card") (group_number x.group) mark refl (group-small x.group),
         (
           count-marked b (codes "variables") (length x.vars) mark refl (omega (arith, few)),
-          all-free b (map (variable_entry (codes "names") vars) x.vars) (map node_of_expr_entry x.expr)
+          all-free b (map (variable_entry (codes "names") vars) x.vars) (word_entry (codes "value") (expression_text vars x.vars x.expr) ∷ [])
               (map-free b (variable_entry (codes "names") vars) (λ v. v < length vars) (λ v h. variable-free b (codes "names") vars v mark refl named.names h) x.vars names)
-              (map-free b node_of_expr_entry (FitsPlaces (length x.vars)) (λ n h. node_entry-free b (length x.vars) n mark few h) x.expr is.nodes),
+              (value-free b (expression_text vars x.vars x.expr) mark (expression-free b vars x.vars x.expr mark named.names names few is.nodes is.whole), tt),
         ),
       ),
     )
@@ -172,11 +144,16 @@ formula-same w v vars x y named named2 apart few few2 is js line e =
     let e1 = variable-same (codes "NAME") vars x.var y.var apart (omega (arith, named.count, is.there)) (omega (arith, named2.count, js.there)) (ap (λ (l : List (List ℕ)). get_or l 0 []) e) in
     let e2 = group-same (codes "card") x.group y.group (ap (λ (l : List (List ℕ)). get_or l 1 []) e) in
     let long = count-same (codes "variables") (length x.vars) (length y.vars) (omega (arith, few)) (omega (arith, few2)) (ap (λ (l : List (List ℕ)). get_or l 2 []) e) in
-    let parts = front-same (map (variable_entry (codes "names") vars) x.vars) (map (variable_entry (codes "names") vars) y.vars) (map node_of_expr_entry x.expr) (map node_of_expr_entry y.expr)
+    let text = word_entry (codes "value") (expression_text vars x.vars x.expr) in
+    let text2 = word_entry (codes "value") (expression_text vars y.vars y.expr) in
+    let parts = front-same (map (variable_entry (codes "names") vars) x.vars) (map (variable_entry (codes "names") vars) y.vars) (text ∷ []) (text2 ∷ [])
     (map-length (variable_entry (codes "names") vars) x.vars ∙ long ∙ sym (map-length (variable_entry (codes "names") vars) y.vars)) (ap (λ (l : List (List ℕ)). drop 3 l) e) in
+    let names = among-names w.sizes.vars (length vars) x.vars named.count is.names in
     let e3 = map-same (variable_entry (codes "names") vars) (λ v. v < length vars) (λ v. v < length vars) (λ m n h k same. variable-same (codes "names") vars m n apart h k same) x.vars y.vars
-    (among-names w.sizes.vars (length vars) x.vars named.count is.names) (among-names v.sizes.vars (length vars) y.vars named2.count js.names) parts.0 in
-    let e4 = map-same node_of_expr_entry (FitsPlaces (length x.vars)) (FitsPlaces (length y.vars)) (λ m n h k same. node_entry-same (length x.vars) (length y.vars) m n few few2 h k same) x.expr y.expr is.nodes js.nodes parts.1 in
+    names (among-names v.sizes.vars (length vars) y.vars named2.count js.names) parts.0 in
+    let values = word-same (codes "value") (expression_text vars x.vars x.expr) (expression_text vars y.vars y.expr) (ap (λ (l : List (List ℕ)). get_or l 0 []) parts.1) in
+    let e4 = expression-same vars x.vars x.expr y.expr (record { apart = apart; there = names; few = few }) is.nodes (subst (λ (vs : List ℕ). All (FitsPlaces (length vs)) y.expr) (sym e3) js.nodes) is.whole js.whole
+    (values ∙ ap (λ (vs : List ℕ). expression_text vars vs y.expr) (sym e3)) in
     ap (λ (z : ℕ). made z x.var x.group x.expr x.vars) line
     ∙ ap (λ (z : ℕ). made y.line z x.group x.expr x.vars) e1
     ∙ ap (λ (z : Group). made y.line y.var z x.expr x.vars) e2

@@ -17,6 +17,8 @@ pub mod Switches
 pub mod Shapes
 pub mod Sources
 pub mod Blocks
+pub mod Trees
+pub mod TreeTexts
 pub mod Expressions
 pub mod Devices
 pub mod Channels

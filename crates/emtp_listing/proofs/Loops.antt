@@ -1,10 +1,12 @@
 -- Lists whose items are put one by one.
-use Rattle.std.proofs.Common.{◌≡◌, ◌++◌, ◌∙◌, ◌+◌, ◌<◌, sym, ap, arith, subst, true, false, List, [], ◌∷◌, ℕ, zero, suc, append_assoc, append-nil, take, map, length, get_or}
+use Rattle.std.proofs.Common.{◌≡◌, ◌++◌, ◌∙◌, ◌+◌, ◌<◌, sym, ap, arith, subst, true, false, List, [], ◌∷◌, ℕ, zero, suc, append_assoc, append-nil, drop, drop-cons, take, map, length, get_or}
 use Rattle.std.proofs.lemmas.List.{map_more}
 use Rattle.std.proofs.lemmas.List.Sums.{count_by_more_no, count_by_more_yes}
 use Rattle.emtp_case.specs.Channel.{is_status}
 use Rattle.emtp_case.specs.declared.channel.Channel.{Channel}
+use Rattle.emtp_case.specs.declared.expr.Node.{Node}
 use Rattle.emtp_listing.specs.ChannelLines.{states_upto}
+use Rattle.emtp_listing.specs.ExpressionText.{texts_after, texts_of}
 use Rattle.emtp_listing.specs.Lines.{all_separated, grouped, lines_text, numbered, separated}
 use Rattle.emtp_listing.specs.Puts.{Puts}
 use Rattle.emtp_listing.proofs.Chains.{ended, entries_then, last, lines_then, retext}
@@ -80,6 +82,18 @@ power-more {X} {old} {a} {new} f xs i n number d less counts front entry =
     let entry' : Puts a (separated (f (i + n) (get_or xs i d))) new = subst (λ (k : ℕ). Puts a (separated (f k (get_or xs i d))) new) counts entry in
     retext (sym (ap (λ (k : ℕ). all_separated (numbered f n (take k xs))) (next_place i) ∙ ap all_separated (numbered-more f xs i n d less)))
     (entries_then (numbered f n (take i xs)) (f (i + n) (get_or xs i d) ∷ []) front (last entry'))
+
+-- the texts of an expression, with one more node
+
+pub text-more : (names : List (List ℕ)) (vars vs : List ℕ) (nodes ns : List Node) (i : ℕ) (d : Node) (whole texts new : List (List ℕ)) → vs ≡ vars → ns ≡ nodes → i < length ns
+    → whole ≡ texts_of names vars (drop i nodes) texts → new ≡ texts_after names vs (get_or ns i d) texts → whole ≡ texts_of names vars (drop (i + 1) nodes) new
+text-more names vars vs nodes ns i d whole texts new same_vars same less front one =
+    let less' : i < length nodes = subst (λ (zs : List Node). i < length zs) same less in
+    let one' : new ≡ texts_after names vars (get_or nodes i d) texts =
+    one ∙ ap (λ (us : List ℕ). texts_after names us (get_or ns i d) texts) same_vars ∙ ap (λ (zs : List Node). texts_after names vars (get_or zs i d) texts) same in
+    front ∙ ap (λ (zs : List Node). texts_of names vars zs texts) (drop-cons nodes i d less')
+    ∙ ap (λ (t : List (List ℕ)). texts_of names vars (drop (suc i) nodes) t) (sym one')
+    ∙ ap (λ (k : ℕ). texts_of names vars (drop k nodes) new) (sym (next_place i))
 
 -- how many of the first channels are states, with one more channel
 

@@ -128,6 +128,17 @@ plus-same x y places small_x small_y e =
     let r = sym (point-read places (x % 10 ^ places) (mod-lt x some)) ∙ ap (λ (l : List ℕ). written places (drop 1 l)) parts.1 ∙ point-read places (y % 10 ^ places) (mod-lt y some) in
     sym (div-add-mod' x (10 ^ places)) ∙ ap (λ (v : ℕ). v * 10 ^ places + x % 10 ^ places) q ∙ ap (λ (v : ℕ). (y / 10 ^ places) * 10 ^ places + v) r ∙ div-add-mod' y (10 ^ places)
 
+-- a number that isn't below 0 begins with a digit
+pub first-digit : (x places : ℕ) (s : List ℕ) → x < 2 ^ 64 → is_ascii_digit (get_or (fixed_text (pos x) places ++ s) 0 0) ≡ true
+first-digit x places s small =
+    let q = less_part x (10 ^ places) (power-above places) small in
+    ap (λ (l : List ℕ). is_ascii_digit (get_or (l ++ s) 0 0)) (plus x places)
+    ∙ first (decimal (x / 10 ^ places)) (point_fraction places (x % 10 ^ places)) (decimal-digits _ q) (decimal_nonempty _ q)
+  where
+    first : (ds tail : List ℕ) → AreAllDigits ds → 0 < length ds → is_ascii_digit (get_or ((ds ++ tail) ++ s) 0 0) ≡ true
+    first [] tail are some = absurd (omega (arith, some))
+    first (d ∷ ds) tail are some = and_first (is_ascii_digit d) (list_all is_ascii_digit ds) are
+
 -- the text of a number below 0 isn't that of another
 signs-differ : (x y places : ℕ) → x < 2 ^ 64 → fixed_text (pos x) places ≡ 45 ∷ fixed_text (pos y) places → ⊥
 signs-differ x y places small e =

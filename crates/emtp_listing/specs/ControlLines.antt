@@ -14,14 +14,9 @@ use Rattle.emtp_case.specs.declared.control.Formula.{Formula}
 use Rattle.emtp_case.specs.declared.control.Group.{Group}
 use Rattle.emtp_case.specs.declared.control.Group.TheVariants.{Input as BeforeBlocks, Inside, Output}
 use Rattle.emtp_case.specs.declared.control.Input.{Input}
-use Rattle.emtp_case.specs.declared.expr.BinaryOp.{BinaryOp}
-use Rattle.emtp_case.specs.declared.expr.BinaryOp.TheVariants.{Add, And, Div, Eq, Ge, Gt, Le, Lt, Mul, Ne, Or, Sub}
-use Rattle.emtp_case.specs.declared.expr.Node.{Node}
-use Rattle.emtp_case.specs.declared.expr.Node.TheVariants.{Binary, Number, Unary, Var}
-use Rattle.emtp_case.specs.declared.expr.UnaryOp.{UnaryOp}
-use Rattle.emtp_case.specs.declared.expr.UnaryOp.TheVariants.{Abs, Minus, Not, Sign, Sqrt, Trunc}
 use Rattle.emtp_case.specs.declared.source.Source.{Source}
 use Rattle.emtp_listing.specs.Entry.{choice_entry, count_entry, figure_entry, number_entry, place_entry, time_entry, variable_entry, word_entry}
+use Rattle.emtp_listing.specs.ExpressionText.{expression_text}
 use Rattle.emtp_listing.specs.Lines.{all_separated, card_line, head_text, numbered}
 use Rattle.emtp_listing.specs.NetworkLines.{shape_entries}
 
@@ -143,42 +138,13 @@ table_line code number p = head_text (codes "point") number ++ all_separated (ta
 
 -- ---- formulas
 
-abbrev pub unary_word : UnaryOp → List ℕ
-unary_word Minus = codes "-"
-unary_word Not = codes ".NOT."
-unary_word Abs = codes "ABS"
-unary_word Sqrt = codes "SQRT"
-unary_word Trunc = codes "TRUNC"
-unary_word Sign = codes "SIGN"
-
-abbrev pub binary_word : BinaryOp → List ℕ
-binary_word Add = codes "+"
-binary_word Sub = codes "-"
-binary_word Mul = codes "*"
-binary_word Div = codes "/"
-binary_word Gt = codes ".GT."
-binary_word Ge = codes ".GE."
-binary_word Lt = codes ".LT."
-binary_word Le = codes ".LE."
-binary_word Eq = codes ".EQ."
-binary_word Ne = codes ".NE."
-binary_word And = codes ".AND."
-binary_word Or = codes ".OR."
-
--- a node of the expression: a variable by its place among those of the formula
-abbrev pub node_of_expr_entry : Node → List ℕ
-node_of_expr_entry (Number x) = figure_entry (codes "number") 9 [] x
-node_of_expr_entry (Var at) = place_entry (codes "variable") at
-node_of_expr_entry (Unary op) = word_entry (codes "function") (unary_word op)
-node_of_expr_entry (Binary op) = word_entry (codes "operator") (binary_word op)
-
--- the variables that the expression names, and its nodes in postfix order
+-- the variables that the expression names, and its text
 abbrev pub formula_entries : List (List ℕ) → Formula → List (List ℕ)
 formula_entries vars x =
     variable_entry (codes "NAME") vars x.var
     ∷ count_entry (codes "card") (group_number x.group)
     ∷ count_entry (codes "variables") (length x.vars)
-    ∷ map (variable_entry (codes "names") vars) x.vars ++ map node_of_expr_entry x.expr
+    ∷ map (variable_entry (codes "names") vars) x.vars ++ word_entry (codes "value") (expression_text vars x.vars x.expr) ∷ []
 
 -- ---- supplemental cards
 

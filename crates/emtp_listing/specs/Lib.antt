@@ -2,6 +2,7 @@
 pub mod Entry
 pub mod Lines
 pub mod NetworkLines
+pub mod ExpressionText
 pub mod ControlLines
 pub mod ChannelLines
 pub mod Listing

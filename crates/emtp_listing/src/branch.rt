@@ -1,7 +1,7 @@
 //! The lines of branches.
 
 ghost use Rattle.emtp_case.specs.declared.limit.TheConstants.{MOST_POINTS};
-ghost use Rattle.std.specs.Prelude.{◌≡◌, ◌+◌, ◌≤◌, ◌++◌, ◌∷◌, [], OnOk, codes, length};
+ghost use Rattle.std.specs.Prelude.{◌≡◌, ◌+◌, ◌≤◌, OnOk, codes, length};
 ghost use Rattle.emtp_case.specs.Branch.{from_of, points_of, to_of};
 ghost use Rattle.emtp_case.specs.held.Branch.{IsBranch};
 ghost use Rattle.emtp_case.specs.held.Sizes.{sizes_of};

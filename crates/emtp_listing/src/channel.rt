@@ -1,14 +1,14 @@
 //! The lines of channels.
 
-ghost use Rattle.std.specs.Prelude.{◌≡◌, ◌+◌, ◌-◌, ◌<◌, ◌≤◌, ◌++◌, ◌∷◌, [], OnOk, codes, count_by, length, slice_index_or};
+ghost use Rattle.std.specs.Prelude.{◌≡◌, ◌+◌, ◌-◌, ◌<◌, ◌≤◌, OnOk, codes, count_by, length, slice_index_or};
 ghost use Rattle.emtp_case.specs.Channel.{is_status};
 ghost use Rattle.emtp_case.specs.held.Channel.{IsChannel};
-ghost use Rattle.emtp_case.specs.ChannelName.{name_of_channel, text_of};
+ghost use Rattle.emtp_case.specs.ChannelName.{name_of_channel};
 ghost use Rattle.emtp_case.specs.held.Sizes.{sizes_of};
 ghost use Rattle.emtp_case.specs.declared.channel.Channel.{Channel};
 ghost use Rattle.emtp_listing.specs.ChannelLines.{channel_line, measured_entry, measured_word, record_entry, states_upto};
 ghost use Rattle.emtp_listing.specs.Entry.{word_entry};
-ghost use Rattle.emtp_listing.specs.Lines.{all_separated, head_text, lines_text, numbered, separated};
+ghost use Rattle.emtp_listing.specs.Lines.{lines_text, numbered, separated};
 ghost use Rattle.emtp_listing.specs.Puts.{Puts};
 
 use crate::piece::{

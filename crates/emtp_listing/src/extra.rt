@@ -1,42 +1,53 @@
 //! The lines of supplemental cards: devices and formulas.
 
 ghost use Rattle.emtp_case.specs.declared.limit.TheConstants.{MOST_POINTS};
-ghost use Rattle.std.specs.Prelude.{◌≡◌, ◌+◌, ◌<◌, ◌≤◌, ◌++◌, ◌∷◌, [], All, OnOk, codes, length, map};
+ghost use Rattle.std.specs.Prelude.{◌≡◌, ◌+◌, ◌<◌, ◌≤◌, All, OnOk, codes, length, map};
 ghost use Rattle.emtp_case.specs.held.Control.{IsDevice, IsExtra, IsFormula};
 ghost use Rattle.emtp_case.specs.held.Sizes.{sizes_of};
-ghost use Rattle.emtp_listing.specs.ControlLines.{a_places, a_tail, binary_word, code_number, device_entries, extra_card_line, extra_lines, extra_points, formula_entries, group_number, node_of_expr_entry, table_entries, table_line, unary_word};
+ghost use Rattle.emtp_listing.specs.ControlLines.{a_places, a_tail, code_number, device_entries, extra_card_line, extra_lines, extra_points, formula_entries, group_number, table_entries, table_line};
 ghost use Rattle.emtp_listing.specs.Entry.{variable_entry};
-ghost use Rattle.emtp_listing.specs.Lines.{all_separated, card_line, lines_text, numbered, separated};
+ghost use Rattle.emtp_listing.specs.Lines.{all_separated, card_line, lines_text, numbered};
 ghost use Rattle.emtp_listing.specs.Puts.{Puts};
 
 use crate::branch::points_from;
 use crate::control::put_inputs;
+use crate::expression::expression_text;
 use crate::piece::{
     put_choice, put_count, put_end, put_figure, put_head, put_named, put_place, put_quantity,
     put_variable, put_word,
 };
-use emtp_case::{BinaryOp, Device, DeviceCode, Extra, Formula, Group, Node, Parts, Point, UnaryOp};
-use std::alloc::AllocError;
+use emtp_case::{Device, DeviceCode, Extra, Formula, Group, Parts, Point};
+use std::alloc::{AllocError, Global};
 
 /// Puts the lines of a supplemental card and of its points after a text.
-pub(crate) fn put_extra(out: &mut Vec<u8>, parts: &Parts, extra: &Extra) -> Result<(), AllocError>
+pub(crate) fn put_extra(
+    alloc: Global,
+    out: &mut Vec<u8>,
+    parts: &Parts,
+    extra: &Extra,
+) -> Result<(), AllocError>
     requires { IsExtra (sizes_of parts.now) parts.now.points extra.now }
     ensures { OnOk result (Puts out.old.items (lines_text (extra_lines parts.now.vars parts.now.points extra.now)) out.new.items) }
 {
-    put_extra_card(out, parts, extra)?;
+    put_extra_card(alloc, out, parts, extra)?;
     put_end(out)?;
     put_extra_points(out, parts, extra)?;
     Ok(())
 }
 
 /// Puts the line of a supplemental card after a text.
-fn put_extra_card(out: &mut Vec<u8>, parts: &Parts, extra: &Extra) -> Result<(), AllocError>
+fn put_extra_card(
+    alloc: Global,
+    out: &mut Vec<u8>,
+    parts: &Parts,
+    extra: &Extra,
+) -> Result<(), AllocError>
     requires { IsExtra (sizes_of parts.now) parts.now.points extra.now }
     ensures { OnOk result (Puts out.old.items (extra_card_line parts.now.vars extra.now) out.new.items) }
 {
     match extra {
         Extra::Device(device) => put_device(out, parts, device),
-        Extra::Formula(formula) => put_formula(out, parts, formula),
+        Extra::Formula(formula) => put_formula(alloc, out, parts, formula),
     }
 }
 
@@ -166,7 +177,12 @@ fn put_pair(out: &mut Vec<u8>, code: DeviceCode, point: &Point) -> Result<(), Al
 }
 
 /// Puts the line of a formula after a text.
-fn put_formula(out: &mut Vec<u8>, parts: &Parts, formula: &Formula) -> Result<(), AllocError>
+fn put_formula(
+    alloc: Global,
+    out: &mut Vec<u8>,
+    parts: &Parts,
+    formula: &Formula,
+) -> Result<(), AllocError>
     requires { IsFormula (sizes_of parts.now) formula.now }
     ensures { OnOk result (Puts out.old.items (card_line formula.now.line (codes "formula") (formula_entries parts.now.vars formula.now)) out.new.items) }
 {
@@ -176,7 +192,8 @@ fn put_formula(out: &mut Vec<u8>, parts: &Parts, formula: &Formula) -> Result<()
     put_count(out, b"card", group_number(formula.group))?;
     put_count(out, b"variables", formula.vars.len())?;
     put_variables(out, parts, formula.vars.as_slice())?;
-    put_expression(out, formula.expr.as_slice())?;
+    let text = expression_text(alloc, parts, formula)?;
+    put_named(out, b"value", text.as_slice())?;
     Ok(())
 }
 
@@ -189,58 +206,4 @@ fn put_variables(out: &mut Vec<u8>, parts: &Parts, vars: &[u32]) -> Result<(), A
         put_variable(out, b"names", parts, *var)?;
     }
     Ok(())
-}
-
-/// Puts an entry for each node of an expression after a text.
-fn put_expression(out: &mut Vec<u8>, nodes: &[Node]) -> Result<(), AllocError>
-    ensures { OnOk result (Puts out.old.items (all_separated (map node_of_expr_entry nodes.now)) out.new.items) }
-{
-    for node in nodes {
-        put_expression_node(out, node)?;
-    }
-    Ok(())
-}
-
-/// Puts an entry for a node of an expression after a text.
-fn put_expression_node(out: &mut Vec<u8>, node: &Node) -> Result<(), AllocError>
-    ensures { OnOk result (Puts out.old.items (separated (node_of_expr_entry node.now)) out.new.items) }
-{
-    match node {
-        Node::Number(x) => put_figure(out, b"number", 9, b"", x),
-        Node::Var(at) => put_place(out, b"variable", *at),
-        Node::Unary(op) => put_named(out, b"function", unary_word(*op)),
-        Node::Binary(op) => put_named(out, b"operator", binary_word(*op)),
-    }
-}
-
-fn unary_word(op: UnaryOp) -> &'static [u8]
-    ensures { result.now ≡ unary_word op }
-{
-    match op {
-        UnaryOp::Minus => b"-",
-        UnaryOp::Not => b".NOT.",
-        UnaryOp::Abs => b"ABS",
-        UnaryOp::Sqrt => b"SQRT",
-        UnaryOp::Trunc => b"TRUNC",
-        UnaryOp::Sign => b"SIGN",
-    }
-}
-
-fn binary_word(op: BinaryOp) -> &'static [u8]
-    ensures { result.now ≡ binary_word op }
-{
-    match op {
-        BinaryOp::Add => b"+",
-        BinaryOp::Sub => b"-",
-        BinaryOp::Mul => b"*",
-        BinaryOp::Div => b"/",
-        BinaryOp::Gt => b".GT.",
-        BinaryOp::Ge => b".GE.",
-        BinaryOp::Lt => b".LT.",
-        BinaryOp::Le => b".LE.",
-        BinaryOp::Eq => b".EQ.",
-        BinaryOp::Ne => b".NE.",
-        BinaryOp::And => b".AND.",
-        BinaryOp::Or => b".OR.",
-    }
 }

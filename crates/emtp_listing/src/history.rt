@@ -3,7 +3,7 @@
 ghost use Rattle.std.specs.List.{sum_by};
 ghost use Rattle.std.specs.Prelude.{◌≡◌};
 ghost use Rattle.emtp_case.specs.held.Case.{IsCase};
-ghost use Rattle.emtp_case.specs.held.Control.{HasRangeOfA, IsExtra};
+ghost use Rattle.emtp_case.specs.held.Control.{IsExtra};
 ghost use Rattle.emtp_case.specs.HistoryValues.{branch_history_values, extra_history_values, history_values_of, trio_history_values};
 ghost use Rattle.emtp_case.specs.held.RunData.{IsTimeStep};
 ghost use Rattle.emtp_case.specs.held.Sizes.{sizes_of};

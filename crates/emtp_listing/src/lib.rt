@@ -11,6 +11,7 @@
 //!
 //! - `sections`: the whole, section by section
 //! - `branch`, `switch`, `source`, `control`, `extra`, `channel`: the lines of one kind of record
+//! - `expression`: the text of a formula's expression
 //! - `piece`: the entries of a line
 //! - `history`: how many history values there are
 //! - `laws`: what is true of listings
@@ -19,6 +20,7 @@
 mod branch;
 mod channel;
 mod control;
+mod expression;
 mod extra;
 mod history;
 mod laws;

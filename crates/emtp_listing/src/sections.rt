@@ -1,9 +1,9 @@
 //! The listing of a case, section by section.
 
-ghost use Rattle.std.specs.Prelude.{◌≡◌, ◌≤◌, ◌++◌, ◌∷◌, [], IfOk, OnOk, codes, length, map};
+ghost use Rattle.std.specs.Prelude.{◌≡◌, ◌≤◌, ◌∷◌, [], IfOk, OnOk, length, map};
 ghost use Rattle.emtp_case.specs.held.Case.{IsCase};
 ghost use Rattle.emtp_listing.specs.ControlLines.{block_lines, extra_lines, tacs_source_line};
-ghost use Rattle.emtp_listing.specs.Lines.{all_separated, grouped, lines_text, numbered};
+ghost use Rattle.emtp_listing.specs.Lines.{grouped, lines_text, numbered};
 ghost use Rattle.emtp_listing.specs.Listing.{case_line, control_part, listing, name_line, network_lines, record_line, run_line};
 ghost use Rattle.emtp_listing.specs.NetworkLines.{branch_group, source_line, switch_line, trio_line};
 ghost use Rattle.emtp_listing.specs.Puts.{Puts};
@@ -39,7 +39,7 @@ pub fn listing(alloc: Global, case: &Case) -> Result<Vec<u8>, AllocError>
     put_names(&mut out, b"node", 1, case.parts.nodes.as_slice())?;
     put_names(&mut out, b"variable", 0, case.parts.vars.as_slice())?;
     put_network(&mut out, &case.parts)?;
-    put_control(&mut out, case)?;
+    put_control(alloc, &mut out, case)?;
     Ok(out)
 }
 
@@ -56,12 +56,12 @@ fn put_network(out: &mut Vec<u8>, parts: &Parts) -> Result<(), AllocError>
 }
 
 /// Puts the lines of the control's records and of the channels after a text.
-fn put_control(out: &mut Vec<u8>, case: &Case) -> Result<(), AllocError>
+fn put_control(alloc: Global, out: &mut Vec<u8>, case: &Case) -> Result<(), AllocError>
     ensures { OnOk result (Puts out.old.items (lines_text (control_part case.now.parts)) out.new.items) }
 {
     put_tacs_sources(out, &case.parts)?;
     put_blocks(out, &case.parts)?;
-    put_extras(out, &case.parts)?;
+    put_extras(alloc, out, &case.parts)?;
     put_channels(out, case)?;
     Ok(())
 }
@@ -225,12 +225,12 @@ fn put_blocks(out: &mut Vec<u8>, parts: &Parts) -> Result<(), AllocError>
 }
 
 /// Puts the lines of all supplemental cards after a text.
-fn put_extras(out: &mut Vec<u8>, parts: &Parts) -> Result<(), AllocError>
+fn put_extras(alloc: Global, out: &mut Vec<u8>, parts: &Parts) -> Result<(), AllocError>
     requires { IsCase parts.now }
     ensures { OnOk result (Puts out.old.items (lines_text (grouped (extra_lines parts.now.vars parts.now.points) parts.now.extras)) out.new.items) }
 {
     for extra in parts.extras.as_slice() {
-        put_extra(out, parts, extra)?;
+        put_extra(alloc, out, parts, extra)?;
     }
     Ok(())
 }

@@ -1,12 +1,12 @@
 //! The lines of sources, of the network and of the control.
 
-ghost use Rattle.std.specs.Prelude.{◌≡◌, ◌≤◌, ◌++◌, [], ◌∷◌, OnOk, codes, length};
+ghost use Rattle.std.specs.Prelude.{◌≡◌, OnOk};
 ghost use Rattle.emtp_case.specs.held.Sizes.{sizes_of};
 ghost use Rattle.emtp_case.specs.held.Source.{IsSource, IsTacsSource};
 ghost use Rattle.emtp_listing.specs.ControlLines.{tacs_source_line};
 ghost use Rattle.emtp_listing.specs.HeldLines.{IsListedShape};
 ghost use Rattle.emtp_listing.specs.Puts.{Puts};
-ghost use Rattle.emtp_listing.specs.Lines.{all_separated, card_line};
+ghost use Rattle.emtp_listing.specs.Lines.{all_separated};
 ghost use Rattle.emtp_listing.specs.NetworkLines.{degrees, source_word, source_unit, shape_entries, source_line};
 
 use crate::piece::{

@@ -1,10 +1,10 @@
 //! The lines of switches.
 
-ghost use Rattle.std.specs.Prelude.{◌≡◌, ◌≤◌, ◌++◌, [], ◌∷◌, OnOk, codes, length};
+ghost use Rattle.std.specs.Prelude.{◌≡◌, OnOk};
 ghost use Rattle.emtp_case.specs.held.Sizes.{sizes_of};
 ghost use Rattle.emtp_case.specs.held.Switch.{IsSwitch, IsSwitchKind};
 ghost use Rattle.emtp_listing.specs.Puts.{Puts};
-ghost use Rattle.emtp_listing.specs.Lines.{all_separated, card_line};
+ghost use Rattle.emtp_listing.specs.Lines.{all_separated};
 ghost use Rattle.emtp_listing.specs.NetworkLines.{switch_word, switch_kind_entries, switch_line};
 
 use crate::piece::{
