@@ -1,5 +1,5 @@
 -- The names of a card's fields over their columns.
-use Rattle.std.specs.Prelude.{[], ◌==◌, Bool, List, Result, Ok, Err, codes, if◌then◌else◌, length, ℕ}
+use Rattle.std.specs.Prelude.{[], ◌+◌, ◌-◌, ◌==◌, Bool, List, Result, Ok, Err, codes, drop, if◌then◌else◌, length, reverse, take, take_while, ℕ}
 use Rattle.emtp_card.specs.Field.{field_of}
 use Rattle.emtp_card.specs.declared.reason.Why.{Why}
 use Rattle.emtp_netcards.specs.BranchCard.{kind_field}
@@ -77,3 +77,16 @@ legend line (read.Point scale) = point_legend scale
 legend line read.Switch = switch_legend (type_field line)
 legend line read.Source = codes "TYNAME--KIAMPLITUDE-FREQUENCY-T0/PHASE--A1--------          TSTART----TSTOP-----"
 legend line other = []
+
+-- ---- the name of one field
+
+-- how many dashes stand at the end, which fill a name up to the width of its field
+abbrev pub dash_count : List ℕ → ℕ
+dash_count name = length (take_while (λ byte. byte == 45) (reverse name))
+
+abbrev pub without_dashes : List ℕ → List ℕ
+without_dashes name = take (length name - dash_count name) name
+
+-- the name of the field that the card of a line has in these columns
+abbrev pub field_name : List ℕ → Kind → ℕ → ℕ → List ℕ
+field_name line kind first last = without_dashes (take (last + 1 - first) (drop (first - 1) (legend line kind)))

@@ -1,10 +1,9 @@
 //! The names of a card's fields over their columns.
 
-ghost use Rattle.std.specs.Prelude.{◌≡◌};
-ghost use Rattle.emtp_causes.specs.Legend.{branch_legend, extra_legend, legend, point_legend, switch_legend};
-ghost use Rattle.emtp_netcards.specs.SwitchCard.{type_field};
+ghost use Rattle.std.specs.Prelude.{◌≡◌, ◌≤◌, length, take_while};
+ghost use Rattle.emtp_causes.specs.Legend.{branch_legend, dash_count, extra_legend, field_name, legend, point_legend, switch_legend, without_dashes};
 
-use emtp_card::{Why, field_text};
+use emtp_card::{Why, columns, field_text};
 use emtp_netcards::{BranchKind, PointScale, SwitchType, branch_kind, switch_type};
 use emtp_walk::Kind;
 
@@ -38,6 +37,30 @@ pub(crate) fn legend(line: &[u8], kind: Kind) -> &'static [u8]
         | Kind::Vintage
         | Kind::After => b"",
     }
+}
+
+/// The name of the field that the card of a line has in these columns; nothing where it has none.
+pub fn field_name(line: &[u8], kind: Kind, first: usize, last: usize) -> &'static [u8]
+    requires some { 1 ≤ first }
+    requires order { first ≤ last }
+    ensures { result.now ≡ field_name line.now kind first last }
+{
+    without_dashes(columns(legend(line, kind), first, last))
+}
+
+/// A name that dashes fill up to the width of its field.
+fn without_dashes(name: &'static [u8]) -> &'static [u8]
+    ensures { result.now ≡ without_dashes name.now }
+{
+    &name[..name.len() - dash_count(name)]
+}
+
+/// How many dashes stand at the end.
+fn dash_count(name: &[u8]) -> usize
+    ensures count { result ≡ dash_count name.now }
+    ensures within { result ≤ length name.now }
+{
+    name.iter().rev().take_while(|byte| **byte == b'-').count()
 }
 
 /// A card of no known type is shown as a series branch.

@@ -3,7 +3,8 @@
 //! A note names the line, the column and the reason of the first card that is refused. [`put_refusal`] writes what helps to
 //! mend it: the card below the names of its fields, a mark under the column with the cause in words, as what kind of card the
 //! line was read, and where the sections before it ended. A line that was meant otherwise (a card of ATP that isn't read here,
-//! `blank` in small letters, a comment without its blank) is told as such. [`kind_name`] names what a line is read as.
+//! `blank` in small letters, a comment without its blank) is told as such. [`kind_name`] names what a line is read as, and [`field_name`] a
+//! field of it.
 //!
 //! The crate stands on the lines of `emtp_card`, on the types of cards of `emtp_netcards`, on what `emtp_walk` says that each
 //! line is read as, and on `emtp_text`.
@@ -39,5 +40,6 @@ mod slip;
 
 pub use ends::{put_end, unsolved};
 pub use kinds::kind_name;
+pub use legend::field_name;
 pub use parts::{put_field, put_item};
 pub use refusal::{put_refusal, put_size};

@@ -1,6 +1,6 @@
 //! A line, and a mark below it.
 
-ghost use Rattle.std.specs.Prelude.{◌≡◌, ◌+◌, ◌++◌, ◌≤◌, OnOk, map, replicate};
+ghost use Rattle.std.specs.Prelude.{◌≡◌, ◌+◌, ◌++◌, OnOk, map, replicate};
 ghost use Rattle.emtp_causes.specs.Marked.{mark, shown_byte, shown_line};
 
 use emtp_card::columns;

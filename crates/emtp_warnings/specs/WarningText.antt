@@ -1,6 +1,9 @@
 -- The text of warnings, a line each.
 use Rattle.std.specs.Prelude.{ℕ, ◌+◌, ◌-◌, ◌++◌, ◌∷◌, [], List, Option, Some, None, codes, decimal, drop, max, slice_get, take}
 use Rattle.emtp_card.specs.Field.{trimmed}
+use Rattle.emtp_causes.specs.Legend.{field_name}
+use Rattle.emtp_walk.specs.declared.kind.Kind.{Kind}
+use Rattle.emtp_walk.specs.declared.kind.LineReading.{LineReading}
 use Rattle.emtp_warnings.specs.declared.finding.Finding.{Finding}
 use Rattle.emtp_warnings.specs.declared.finding.Finding.TheVariants.{AfterEnd, AskedTwice, CaseAlone, EarlyCosine, LateTravel, LoneNode, NeverActs, NoFrequency, NodeZero, NotRead, NumbersTouch, OpensFirst, ShortTravel, SideBySide, SmallCapacitance}
 use Rattle.emtp_warnings.specs.declared.finding.Spot.{Spot}
@@ -36,24 +39,30 @@ spot_text (Channel place) = codes "channel " ++ decimal place
 abbrev pub piece : List ℕ → ℕ → ℕ → List ℕ
 piece line first last = trimmed (take (max last (max first 1) + 1 - max first 1) (drop (max first 1 - 1) line))
 
-unfoldable pub pair_text : List ℕ → List ℕ → List ℕ
-pair_text one other = codes ": " ++ one ++ codes " and " ++ other
+-- a number as it is read, behind the name of its field
+unfoldable pub number_text : List ℕ → Kind → ℕ → ℕ → List ℕ
+number_text line kind first last = field_name line kind (max first 1) (max last (max first 1)) ++ codes "=" ++ piece line first last
 
-abbrev pub pair_of : Option (List ℕ) → ℕ → ℕ → ℕ → ℕ → List ℕ
-pair_of (Some line) at next first last = pair_text (piece line first at) (piece line next last)
-pair_of None at next first last = []
+unfoldable pub pair_text : List ℕ → Kind → ℕ → ℕ → ℕ → ℕ → List ℕ
+pair_text line kind at next first last = codes ": " ++ number_text line kind first at ++ codes ", " ++ number_text line kind next last
 
--- two numbers that touch, as they are read
-abbrev pub numbers_by : List (List ℕ) → Spot → Finding → List ℕ
-numbers_by lines (Columns line at next) (NumbersTouch first last) = pair_of (slice_get lines (line - 1)) at next first last
-numbers_by lines spot finding = []
+abbrev pub pair_of : Option (List ℕ) → Option LineReading → ℕ → ℕ → ℕ → ℕ → List ℕ
+pair_of None read at next first last = []
+pair_of (Some line) None at next first last = []
+pair_of (Some line) (Some read) at next first last = pair_text line read.kind at next first last
 
-abbrev pub numbers_text : List (List ℕ) → Warning → List ℕ
-numbers_text lines w = numbers_by lines w.spot w.finding
+-- two numbers that touch, as they are read, behind the names of their fields
+abbrev pub numbers_by : List LineReading → List (List ℕ) → Spot → Finding → List ℕ
+numbers_by readings lines (Columns line at next) (NumbersTouch first last) = pair_of (slice_get lines (line - 1)) (slice_get readings (line - 1)) at next first last
+numbers_by readings lines spot finding = []
 
-unfoldable pub warning_line : List (List ℕ) → Warning → List ℕ
-warning_line lines w = codes "warning, " ++ spot_text w.spot ++ codes ", " ++ finding_text w.finding ++ numbers_text lines w ++ codes "\n"
+abbrev pub numbers_text : List LineReading → List (List ℕ) → Warning → List ℕ
+numbers_text readings lines w = numbers_by readings lines w.spot w.finding
 
-abbrev pub warnings_text : List (List ℕ) → List Warning → List ℕ
-warnings_text lines [] = []
-warnings_text lines (w ∷ ws) = warning_line lines w ++ warnings_text lines ws
+unfoldable pub warning_line : List LineReading → List (List ℕ) → Warning → List ℕ
+warning_line readings lines w =
+    codes "warning, " ++ spot_text w.spot ++ codes ", " ++ finding_text w.finding ++ numbers_text readings lines w ++ codes "\n"
+
+abbrev pub warnings_text : List LineReading → List (List ℕ) → List Warning → List ℕ
+warnings_text readings lines [] = []
+warnings_text readings lines (w ∷ ws) = warning_line readings lines w ++ warnings_text readings lines ws

@@ -9,7 +9,7 @@
 //! ```text
 //! let readings = line_readings(alloc, &cards)?;
 //! let found = warnings(alloc, &cards, &readings, &case)?;
-//! warnings_text(alloc, &cards, &found)?    "warning, line 39, columns 45-54, not read" is one of its lines
+//! warnings_text(alloc, &cards, &readings, &found)?    "warning, line 39, columns 45-54, not read" is one of its lines
 //! ```
 //!
 //! - `finding`: what a warning is

@@ -1,11 +1,13 @@
 //! The text of warnings, a line each.
 
 ghost use Rattle.std.specs.Prelude.{◌≡◌, ◌++◌, IfOk, OnOk};
-ghost use Rattle.emtp_warnings.specs.WarningText.{columns_text, finding_text, numbers_text, pair_text, piece, spot_text, warning_line, warnings_text};
+ghost use Rattle.emtp_warnings.specs.WarningText.{columns_text, finding_text, number_text, numbers_text, pair_text, piece, spot_text, warning_line, warnings_text};
 
 use crate::finding::{Finding, Spot, Warning};
 use emtp_card::{Cards, columns, trim};
+use emtp_causes::field_name;
 use emtp_text::{put, put_number};
+use emtp_walk::{Kind, LineReading};
 use std::alloc::{AllocError, Global};
 
 /// The text of warnings, a line each: `warning, line 39, columns 45-54, not read` and so on. This project's own form.
@@ -16,33 +18,44 @@ use std::alloc::{AllocError, Global};
 pub fn warnings_text(
     alloc: Global,
     cards: &Cards<'_>,
+    readings: &[LineReading],
     found: &[Warning],
 ) -> Result<Vec<u8>, AllocError>
-    ensures { IfOk result (λ text. text.items ≡ warnings_text cards.now found.now) }
+    ensures { IfOk result (λ text. text.items ≡ warnings_text readings.now cards.now found.now) }
 {
     let mut text = Vec::new(alloc);
     for warning in found {
-        put_warning(&mut text, cards, warning)?;
+        put_warning(&mut text, cards, readings, warning)?;
     }
     Ok(text)
 }
 
 /// Puts the line of a warning after a text.
 #[tactic(auto, unfolding(crate::specs::WarningText::warning_line))]
-fn put_warning(text: &mut Vec<u8>, cards: &Cards<'_>, warning: &Warning) -> Result<(), AllocError>
-    ensures { OnOk result (text.new.items ≡ text.old.items ++ warning_line cards.now warning.now) }
+fn put_warning(
+    text: &mut Vec<u8>,
+    cards: &Cards<'_>,
+    readings: &[LineReading],
+    warning: &Warning,
+) -> Result<(), AllocError>
+    ensures { OnOk result (text.new.items ≡ text.old.items ++ warning_line readings.now cards.now warning.now) }
 {
     put(text, b"warning, ")?;
     put_spot(text, &warning.spot)?;
     put(text, b", ")?;
     put(text, finding_text(warning.finding))?;
-    put_numbers(text, cards, warning)?;
+    put_numbers(text, cards, readings, warning)?;
     put(text, b"\n")
 }
 
-/// Puts two numbers that touch after a text, as they are read.
-fn put_numbers(text: &mut Vec<u8>, cards: &Cards<'_>, warning: &Warning) -> Result<(), AllocError>
-    ensures { OnOk result (text.new.items ≡ text.old.items ++ numbers_text cards.now warning.now) }
+/// Puts two numbers that touch after a text, as they are read, behind the names of their fields.
+fn put_numbers(
+    text: &mut Vec<u8>,
+    cards: &Cards<'_>,
+    readings: &[LineReading],
+    warning: &Warning,
+) -> Result<(), AllocError>
+    ensures { OnOk result (text.new.items ≡ text.old.items ++ numbers_text readings.now cards.now warning.now) }
 {
     match (warning.spot, warning.finding) {
         (
@@ -53,23 +66,49 @@ fn put_numbers(text: &mut Vec<u8>, cards: &Cards<'_>, warning: &Warning) -> Resu
             },
             Finding::NumbersTouch { first, last },
         ) => {
-            match cards.lines().get(line.saturating_sub(1) as usize) {
-                Some(bytes) => put_pair(text, piece(bytes, first, at), piece(bytes, next, last)),
-                None => Ok(()),
+            let before = line.saturating_sub(1) as usize;
+            match (cards.lines().get(before), readings.get(before)) {
+                (Some(line), Some(read)) => {
+                    put_pair(text, line, read.kind, (first, at), (next, last))
+                }
+                _ => Ok(()),
             }
         }
         _ => Ok(()),
     }
 }
 
+/// Puts the numbers of two fields after a text, each by its first and its last column.
 #[tactic(auto, unfolding(crate::specs::WarningText::pair_text))]
-fn put_pair(text: &mut Vec<u8>, one: &[u8], other: &[u8]) -> Result<(), AllocError>
-    ensures { OnOk result (text.new.items ≡ text.old.items ++ pair_text one.now other.now) }
+fn put_pair(
+    text: &mut Vec<u8>,
+    line: &[u8],
+    kind: Kind,
+    one: (usize, usize),
+    other: (usize, usize),
+) -> Result<(), AllocError>
+    ensures { OnOk result (text.new.items ≡ text.old.items ++ pair_text line.now kind one.1 other.0 one.0 other.1) }
 {
     put(text, b": ")?;
-    put(text, one)?;
-    put(text, b" and ")?;
-    put(text, other)
+    put_field(text, line, kind, one)?;
+    put(text, b", ")?;
+    put_field(text, line, kind, other)
+}
+
+/// Puts the number of a field after a text, behind the field's name.
+#[tactic(auto, unfolding(crate::specs::WarningText::number_text))]
+fn put_field(
+    text: &mut Vec<u8>,
+    line: &[u8],
+    kind: Kind,
+    field: (usize, usize),
+) -> Result<(), AllocError>
+    ensures { OnOk result (text.new.items ≡ text.old.items ++ number_text line.now kind field.0 field.1) }
+{
+    let first = field.0.max(1);
+    put(text, field_name(line, kind, first, field.1.max(first)))?;
+    put(text, b"=")?;
+    put(text, piece(line, field.0, field.1))
 }
 
 /// What stands in columns, without the outer blanks.
