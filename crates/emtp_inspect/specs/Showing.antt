@@ -15,7 +15,7 @@ use Rattle.emtp_run.specs.held.Inputs.{ReadsInputs}
 use Rattle.emtp_run.specs.Outcome.{Outcome, refusal, summarised, usage}
 use Rattle.emtp_run.specs.held.Outcome.{Ends, EndsAfterReading}
 use Rattle.emtp_run.specs.declared.status.Status.{Status}
-use Rattle.emtp_run.specs.declared.status.Status.TheVariants.{BadCard, NoMemory, ReadFault}
+use Rattle.emtp_run.specs.declared.status.Status.TheVariants.{BadCard, NoMemory, ReadFault, Usage}
 
 -- ---- what it comes to
 
@@ -24,11 +24,15 @@ abbrev pub told_outcome : Told → Outcome
 told_outcome (Answer text) = summarised text
 told_outcome (Refusal text) = refusal BadCard text
 
+-- how it ends where a file wasn't read
+abbrev pub unread_status : ReadEnd → Status
+unread_status Failed = ReadFault
+unread_status Wanting = NoMemory
+
 -- what comes after the reading of a file, by its bytes or by why it couldn't be read
 abbrev pub TellsOf : Wanted → Result (Vec ℕ Global) ReadEnd → Status → CabinetState → CabinetState → Type 0
 TellsOf wanted (Ok bytes) status old new = EndsAfterReading status (told_outcome (told_of wanted bytes.items)) old new
-TellsOf wanted (Err Failed) status old new = (status ≡ ReadFault) × (new ≡ old)
-TellsOf wanted (Err Wanting) status old new = (status ≡ NoMemory) × (new ≡ old)
+TellsOf wanted (Err end) status old new = (status ≡ unread_status end) × (new ≡ old)
 
 -- a file is read, as the commands of `emtp` read theirs, and then what is wanted of it is told
 pub record Shows (wanted : Wanted) (name : List ℕ) (status : Status) (old new : CabinetState) : Type 0 where
@@ -41,6 +45,7 @@ pub record Shows (wanted : Wanted) (name : List ℕ) (status : Status) (old new 
 
 -- words that don't fit leave the note of usage, and open no file
 pub record RefusesWords (status : Status) (old new : CabinetState) : Type 0 where
+  pub status_is : status ≡ Usage
   pub unread : new.unread ≡ old.unread
   pub ends : Ends status (Some usage) old new
 

@@ -67,7 +67,7 @@ cards_text readings lines case = run_text readings lines ++ copies_text readings
 
 -- its warnings, and behind them its listing and what the cards say besides
 abbrev pub listing_text : List LineReading → List (List ℕ) → Parts → List ℕ
-listing_text readings lines case = warnings_text lines (warnings readings lines case) ++ listing case ++ cards_text readings lines case
+listing_text readings lines case = warnings_text readings lines (warnings readings lines case) ++ listing case ++ cards_text readings lines case
 
 -- or how many these are
 abbrev pub count_text : List LineReading → List (List ℕ) → Parts → List ℕ

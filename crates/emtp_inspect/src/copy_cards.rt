@@ -4,7 +4,7 @@ ghost use Rattle.emtp_case.specs.declared.limit.TheConstants.{MOST_NODES};
 ghost use Rattle.std.specs.Prelude.{◌≡◌, ◌++◌, ◌≤◌, ◌<◌, IfSome, OnOk, length, position};
 ghost use Rattle.std.specs.Str.{bytes_eq};
 ghost use Rattle.emtp_deck.specs.Copies.{earlier_of, type_of_kind, values_from};
-ghost use Rattle.emtp_inspect.specs.CopyCards.{copied_line, copies_text, copy_in, copy_line, copy_text, line_of_values};
+ghost use Rattle.emtp_inspect.specs.CopyCards.{copied_line, copies_text, copy_line, copy_text, line_of_values};
 ghost use Rattle.emtp_inspect.specs.EachCard.{branch_in};
 ghost use Rattle.emtp_sense.specs.Names.{node_number};
 

@@ -1,8 +1,6 @@
 //! What words of a note mean.
 
 ghost use Rattle.std.specs.Prelude.{◌≡◌, IfOk, Some, None, option_map};
-ghost use Rattle.emtp_causes.specs.Ends.{end_text, unsolved_text};
-ghost use Rattle.emtp_causes.specs.Parts.{field_line, item_line, number_or_one};
 ghost use Rattle.emtp_inspect.specs.Asking.{explained, explained_four, explained_note, explained_three, explained_two};
 ghost use Rattle.emtp_run.specs.Words.{texts};
 

@@ -1,6 +1,6 @@
 //! What the miscellaneous cards say that no case keeps.
 
-ghost use Rattle.std.specs.Prelude.{◌≡◌, ◌++◌, ◌≤◌, OnOk, length};
+ghost use Rattle.std.specs.Prelude.{◌≡◌, ◌++◌, OnOk};
 ghost use Rattle.emtp_inspect.specs.RunCards.{card_text, end_text, first_text, print_of, print_text, run_text, second_text};
 
 use emtp_card::{Cards, Line, Why, field_number, field_whole};

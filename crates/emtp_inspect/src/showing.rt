@@ -1,7 +1,7 @@
 //! The file that is read, and the output that is made.
-ghost use Rattle.std.specs.Prelude.{None};
+ghost use Rattle.std.specs.Prelude.{◌≡◌, None};
 ghost use Rattle.emtp_inspect.specs.Asking.{asked, explained};
-ghost use Rattle.emtp_inspect.specs.Showing.{Explains, Inspects, Shows, told_outcome};
+ghost use Rattle.emtp_inspect.specs.Showing.{Explains, Inspects, Shows, told_outcome, unread_status};
 ghost use Rattle.emtp_inspect.specs.Telling.{told_of};
 ghost use Rattle.emtp_run.specs.held.Outcome.{EndsAfterReading};
 ghost use Rattle.emtp_run.specs.Words.{texts};
@@ -49,8 +49,17 @@ fn show<C: Cabinet>(alloc: Global, wanted: Wanted, name: &str, cabinet: &mut C) 
 {
     match read_input(alloc, text_file(name), cabinet) {
         Ok(bytes) => leave(alloc, wanted, &bytes, cabinet),
-        Err(ReadEnd::Failed) => Status::ReadFault,
-        Err(ReadEnd::NoMemory) => Status::NoMemory,
+        Err(end) => unread_status(end),
+    }
+}
+
+/// How it ends where a file wasn't read.
+fn unread_status(end: ReadEnd) -> Status
+    ensures { result ≡ unread_status end }
+{
+    match end {
+        ReadEnd::Failed => Status::ReadFault,
+        ReadEnd::NoMemory => Status::NoMemory,
     }
 }
 

@@ -2,7 +2,7 @@
 ghost use Rattle.std.specs.Prelude.{◌≡◌, ◌++◌, IfOk, OnOk, Some, codes, decimal, take};
 ghost use Rattle.emtp_deck.specs.Deck.{deck_of};
 ghost use Rattle.emtp_inspect.specs.KindText.{kinds_text};
-ghost use Rattle.emtp_inspect.specs.Telling.{cards_text, cause_of, count_text, ends_text, listed_front, listed_of, listed_lines_of, listing_text, refused_by, refused_text, told_case, told_of, told_of_lines, told_unread};
+ghost use Rattle.emtp_inspect.specs.Telling.{cards_text, cause_of, count_text, listed_front, listed_of, listed_lines_of, listing_text, refused_by, refused_text, told_case, told_of, told_of_lines, told_unread};
 ghost use Rattle.emtp_listing.specs.Lines.{lines_text};
 ghost use Rattle.emtp_run.specs.Note.{card_note};
 
@@ -144,7 +144,7 @@ fn listing_with(
     ensures { IfOk result (λ text. text.items ≡ listing_text readings.now cards.now case.now.parts) }
 {
     let found = warnings(alloc, cards, readings, case)?;
-    let mut text = warnings_text(alloc, cards, &found)?;
+    let mut text = warnings_text(alloc, cards, readings, &found)?;
     let listed = listing(alloc, case)?;
     put(&mut text, &listed)?;
     put_cards(alloc, &mut text, cards, readings, case)?;

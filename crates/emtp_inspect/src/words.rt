@@ -1,5 +1,5 @@
 //! What the words of a command line ask for.
-ghost use Rattle.std.specs.Prelude.{◌≡◌, ◌∷◌, [], None, option_map};
+ghost use Rattle.std.specs.Prelude.{◌≡◌, None, option_map};
 ghost use Rattle.emtp_inspect.specs.Asking.{asked, counted, named};
 ghost use Rattle.emtp_run.specs.Words.{texts};
 

@@ -40,8 +40,8 @@ fn main(rt: HostRuntime) -> ExitCode {
     match words(&rt) {
         Ok(words) => {
             let mut cabinet = DiskCabinet::new(rt);
-            ExitCode::from(inspect(alloc, &words, &mut cabinet) as u8)
+            ExitCode::from(inspect(alloc, &words, &mut cabinet).code())
         }
-        Err(_) => ExitCode::from(Status::NoMemory as u8),
+        Err(_) => ExitCode::from(Status::NoMemory.code()),
     }
 }
