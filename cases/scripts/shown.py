@@ -8,6 +8,8 @@ PARTS = {
     "count": rb"(?:0|[1-9]\d*)",
     "number": rb"(?!-0(?!\.))-?(?:0|[1-9]\d*)(?:\.\d*[1-9])?",
     "name": rb"(?! )[ -+\--~]{1,6}(?<! )",
+    "variable": rb"[A-Za-z][A-Za-z0-9]{0,5}",
+    "field": rb"[A-Z](?:[A-Z0-9/-]*[A-Z0-9])?",
     "written": rb"[0-9+.DEde-]{1,16}",
 }
 CHOICES = {
@@ -21,9 +23,10 @@ CHOICES = {
     "power": [f", s^{power}=<number>" for power in range(8)],
     "input": [", input=+<name>", ", input=-<name>"],
     "named": [", names=<name>"],
-    "unary": ["-", ".NOT.", "ABS", "SQRT", "TRUNC", "SIGN"],
+    "opening": ["(-", "(.NOT. ", "ABS(", "SQRT(", "TRUNC(", "SIGN("],
     "binary": ["+", "-", "*", "/", ".GT.", ".GE.", ".LT.", ".LE.", ".EQ.", ".NE.", ".AND.", ".OR."],
-    "term": [", number=<number>", ", variable=<count>", ", function=<unary>", ", operator=<binary>"],
+    "term": ["<number>", "<variable>"],
+    "word": ["<opening>", "(", ")", " <binary> ", "<term>"],
     "shape": ["step", "ramp, T0=<number> s", "cosine, frequency=<number> Hz, phase=<number> turn, angle=<number> degree",
               "driven, control=<name>", "pulse, period=<number> s, width=<number> s", "sawtooth, period=<number> s",
               "voltage of a node, node=<node>", "current of a switch, switch=<count>", "state of a switch, switch=<count>"],
@@ -35,7 +38,7 @@ CHOICES = {
              "a source card", "a node output card", "a card after the last section", "a block card", "a card of coefficients",
              "a TACS source", "a supplemental card", "a TACS output", "an initial condition",
              "a point or the card that ends them"],
-    "columns": ["not read", "two numbers touch: <written> and <written>", "no other branch, switch or source has the node", "node 0 is not ground",
+    "columns": ["not read", "two numbers touch: <field>=<written>, <field>=<written>", "no other branch, switch or source has the node", "node 0 is not ground",
                 "another node's name differs in case alone",
                 "after the end of the run", "cosine of frequency 0", "every case starts at rest", "the source never acts",
                 "opens before it closes"],
@@ -69,7 +72,7 @@ RECORDS = [
      "numerator<power>*\ndenominator<power>*\n"],
     ["line <count>, device, NAME=<name>, card=<count>, code=<count>, A=<factor>, B=<number>, C=<number>, D=<choice>, "
      "E=<choice>, first point=<count>, points=<count>, inputs=<count><input>*\n<pair>*",
-     "line <count>, formula, NAME=<name>, card=<count>, variables=<count><named>*<term>*\n"],
+     "line <count>, formula, NAME=<name>, card=<count>, variables=<count><named>*, value=<word>*\n"],
     ["channel <count>, node voltage, node=<node>, name=V <name>, analog channel=<count>\n",
      "channel <count>, branch current, branch=<count>, name=I <name>-<name>, analog channel=<count>\n",
      "channel <count>, branch voltage, branch=<count>, name=U <name>-<name>, analog channel=<count>\n",
@@ -118,6 +121,8 @@ WARNED = any_of(LINE_WARNINGS) + b"*" + any_of(CHANNEL_WARNINGS) + b"*"
 TOLD = rb"line (?P=line): (?:read as " + pattern("<card>") + rb"|the file ends where " + pattern("<card>") + rb" is due)\n"
 # as what each line is read, and which card is due behind the last one
 READ = re.compile(rb"(?:\d+\t(?:" + pattern("<card>") + rb"|the end of a section)\n)*(?:\d+\tdue: " + pattern("<card>") + rb"\n)?")
+# an operator or a function of numbers and variables, behind no name
+APPLIED = re.compile(rb"(?<![A-Za-z0-9])(?:" + any_of(["<opening><term>)", "(<term> <binary> <term>)"]) + rb")")
 # what helps to mend a card
 MENDS = re.compile(rb"(?:(?:[ -~]*\n){1,3}Line (?P<line>\d+) is read as [ -~]+\.\n|The case ends behind line \d+, where [ -~]+ is due;"
                    rb" a line BLANK ends a section\.\n)(?:The [A-Za-z ]+ ended at line \d+(?:, which is blank)?\.\n)*|The case has more [ -~]+\.\n")
@@ -133,6 +138,14 @@ def numbers(start, text):
     return [int(number) for number in re.findall(rb"^" + start + rb"(\d+)", text, re.MULTILINE)]
 
 
+def is_expression(text):
+    """Whether each operator and its sides, and what each function works on, stand in parentheses."""
+    applied = None
+    while applied != text:
+        applied, text = text, APPLIED.sub(b"0", text)
+    return re.fullmatch(pattern("<term>"), text) is not None
+
+
 def listing_complaint(listed):
     """What is wrong with a listing whose lines have their forms and their order, or None."""
     head = HEAD.match(listed)
@@ -146,6 +159,9 @@ def listing_complaint(listed):
             at = record.end()
     if at != len(listed):
         return "more records than the first line says"
+    for text in re.findall(rb", value=(.*)\n", listed):
+        if not is_expression(text):
+            return f"{text.decode()}, which is no expression with its parentheses"
     for word, first in (b"node ", 1), (b"variable ", 0), (b"channel ", 1):
         found = numbers(word, listed)
         if found != list(range(first, first + len(found))):

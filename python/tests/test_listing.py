@@ -42,9 +42,6 @@ class Listing(unittest.TestCase):
         self.assertEqual(len(found.of("device")[0].below), 2)
         tree = (".OR.", (".GT.", "FILTER", "0.25"), (".NOT.", "GATE"))
         self.assertEqual(listing.tree_of(found.of("formula")[0]), tree)
-        text = "line 20, formula, NAME=FIRE, card=88, value=((FILTER.GT.0.25).OR.(.NOT.GATE))"
-        told = listing.read("case, nodes=1 of 1000\n" + text)
-        self.assertEqual(listing.tree_of(told.of("formula")[0]), tree)
 
     def test_warnings_may_stand_above(self) -> None:
         lines = shown("shown_warnings_of_each_kind").text.splitlines()

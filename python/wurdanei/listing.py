@@ -1,7 +1,6 @@
 """Reads what `emtp show` prints of a case (docs/show.md): the records with their values and units, and the warnings."""
 
 import re
-import typing
 from dataclasses import dataclass, field
 from decimal import Decimal, InvalidOperation
 
@@ -140,29 +139,5 @@ def _line(printed: str, number: int) -> Line:
 
 
 def tree_of(line: Line) -> str | tuple:
-    """The tree of a formula's line, as wurdanei.formula has it: numbers and names as texts, (operator, tree, ..).
-
-    The line has the formula's nodes behind what they work on, or its text with all parentheses.
-    """
-    names = line.all("names")
-    stack: list[typing.Any] = []
-    for entry in line.entries:
-        if entry.name == "number":
-            stack.append(entry.text)
-        elif entry.name == "variable":
-            stack.append(names[int(entry.text or 0) - 1])
-        elif entry.name == "function":
-            stack.append((entry.text, stack.pop()))
-        elif entry.name == "operator":
-            right = stack.pop()
-            stack.append((entry.text, stack.pop(), right))
-    if not stack:
-        texts = [
-            entry.text
-            for entry in line.entries
-            if entry.text and entry.name not in ("NAME", "card", "variables", "names")
-        ]
-        stack = [formula.read(text, deepest=100).tree for text in texts]
-    if len(stack) != 1:
-        raise ListingError("the nodes of a formula make no tree")
-    return stack[0]
+    """The tree of a formula's line, as wurdanei.formula has it: numbers and names as texts, (operator, tree, ..)."""
+    return formula.read(line.text("value"), deepest=100).tree
