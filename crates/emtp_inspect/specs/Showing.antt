@@ -1,5 +1,5 @@
 -- How a call ends that reads a file and tells what was read.
-use Rattle.std.specs.Prelude.{◌≡◌, ◌∷◌, [], List, Option, Some, None, Result, Ok, Err, IfOk, IsTrue, ℕ}
+use Rattle.std.specs.Prelude.{◌≡◌, ◌⊎◌, ◌∷◌, [], List, Option, Some, None, Result, Ok, Err, IfOk, IsTrue, ℕ}
 use Rattle.std.specs.declared.alloc.Global.{Global}
 use Rattle.std.specs.declared.vec.Vec.{Vec}
 use Rattle.emtp_inspect.specs.Telling.{told_of}
@@ -49,9 +49,9 @@ pub record RefusesWords (status : Status) (old new : CabinetState) : Type 0 wher
   pub unread : new.unread ≡ old.unread
   pub ends : Ends status (Some usage) old new
 
--- words of a note leave what they mean
+-- words of a note leave what they mean; others don't fit, or memory was wanting to tell which they are, and nothing was done
 abbrev pub Explains : Option (List ℕ) → Status → CabinetState → CabinetState → Type 0
-Explains None status old new = RefusesWords status old new
+Explains None status old new = RefusesWords status old new ⊎ ((status ≡ NoMemory) × (new ≡ old))
 Explains (Some text) status old new = EndsAfterReading status (summarised text) old new
 
 abbrev pub Inspects : Option (Wanted × List ℕ) → Option (List ℕ) → Status → CabinetState → CabinetState → Type 0

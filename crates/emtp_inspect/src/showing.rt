@@ -1,7 +1,7 @@
 //! The file that is read, and the output that is made.
-ghost use Rattle.std.specs.Prelude.{◌≡◌, None};
+ghost use Rattle.std.specs.Prelude.{◌≡◌};
 ghost use Rattle.emtp_inspect.specs.Asking.{asked, explained};
-ghost use Rattle.emtp_inspect.specs.Showing.{Explains, Inspects, Shows, told_outcome, unread_status};
+ghost use Rattle.emtp_inspect.specs.Showing.{Explains, Inspects, RefusesWords, Shows, told_outcome, unread_status};
 ghost use Rattle.emtp_inspect.specs.Telling.{told_of};
 ghost use Rattle.emtp_run.specs.held.Outcome.{EndsAfterReading};
 ghost use Rattle.emtp_run.specs.Words.{texts};
@@ -38,7 +38,7 @@ fn explain<C: Cabinet>(alloc: Global, words: &[String], cabinet: &mut C) -> Stat
 
 /// Makes the note of words that don't fit.
 fn refuse_words<C: Cabinet>(cabinet: &mut C) -> Status
-    ensures { Explains None result (C.state cabinet.old) (C.state cabinet.new) }
+    ensures { RefusesWords result (C.state cabinet.old) (C.state cabinet.new) }
 {
     refuse(cabinet, Status::Usage, usage().as_slice())
 }
