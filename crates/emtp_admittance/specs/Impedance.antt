@@ -54,7 +54,8 @@ is_too_large x = nat_lt LARGEST_IMPEDANCE (unsigned_abs x)
 
 -- a resistance and two reactances in series
 abbrev pub reactance_port : ℤ → ℤ → ℤ → Option TwoPort
-reactance_port r inductive capacitive = if is_too_large inductive || is_too_large capacitive then None else across_impedance r (inductive -ℤ capacitive)
+reactance_port r inductive capacitive =
+    if is_too_large inductive || is_too_large capacitive then None else across_impedance r (inductive -ℤ capacitive)
 
 unfoldable pub series_port : ℤ → Lumped → Option TwoPort
 series_port w b = reactance_port b.r (inductive_reactance w b.l) (capacitive_reactance w b.c)
@@ -68,7 +69,10 @@ susceptance b = record { conductance = pos 0; susceptance = b }
 abbrev pub lossless_port : ℤ → ℤ → ℤ → Option TwoPort
 lossless_port cs sn zc =
     if nat_lt LARGEST_ENTRY (unsigned_abs (near (pos (10 ^ 30)) (sn *ℤ zc))) then None
-    else Some (record { own = susceptance (neg_ℤ (near (cs *ℤ ATTO) (sn *ℤ zc))); other = susceptance (near (pos (10 ^ 30)) (sn *ℤ zc)) })
+    else Some (record {
+      own = susceptance (neg_ℤ (near (cs *ℤ ATTO) (sn *ℤ zc)));
+      other = susceptance (near (pos (10 ^ 30)) (sn *ℤ zc));
+    })
 
 abbrev pub turn_port : ℤ → ℤ → ℤ → Option TwoPort
 turn_port cs sn zc = if int_eq sn (pos 0) then None else lossless_port cs sn zc

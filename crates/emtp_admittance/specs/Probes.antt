@@ -60,4 +60,6 @@ scanned_by case (Some probe) = unless_barred (card_barred case) probe
 
 -- the source of a scan, or the refusal that decides
 unfoldable pub judged_probe : Parts → Result Probe Refused
-judged_probe case = if nat_lt MOST_PHASOR_NODES (length case.nodes) then Err (at_line_one Size) else scanned_by case (probe_in case.sources)
+judged_probe case =
+    if nat_lt MOST_PHASOR_NODES (length case.nodes) then Err (at_line_one Size)
+    else scanned_by case (probe_in case.sources)

@@ -97,7 +97,8 @@ control_line (OfFormula x) = x.line
 abbrev pub control_cards : Parts → Option Refused
 control_cards case =
     sooner (least_refusal (λ (s : Source). control_refused s.line) case.tacs_sources)
-    (sooner (least_refusal (λ (b : Block). control_refused b.line) case.blocks) (least_refusal (λ x. control_refused (control_line x)) case.extras))
+    (sooner (least_refusal (λ (b : Block). control_refused b.line) case.blocks)
+    (least_refusal (λ x. control_refused (control_line x)) case.extras))
 
 -- the refusal with the least line, where the frequency is this and the sources have to have the one that is asked for
 abbrev pub least_refused : Parts → ℤ → Option ℤ → Option Refused
@@ -143,4 +144,6 @@ judged_at case given (Ok freq) = unless_refused (least_refused case freq (freque
 
 -- the frequency of the steady state, or the refusal that decides
 unfoldable pub judged_frequency : Parts → Option ℤ → Result ℤ Refused
-judged_frequency case given = if nat_lt MOST_PHASOR_NODES (length case.nodes) then Err (at_line_one Size) else judged_at case given (frequency_of given case)
+judged_frequency case given =
+    if nat_lt MOST_PHASOR_NODES (length case.nodes) then Err (at_line_one Size)
+    else judged_at case given (frequency_of given case)

@@ -65,7 +65,8 @@ abbrev pub analog_rule : Parts → ℕ → LineRule
 analog_rule p place = named_rule (analog_before p place + 1) (name_of_channel p place) (unit_at p place)
 
 abbrev pub status_rule : Parts → ℕ → LineRule
-status_rule p place = Fields (number_is (pos (status_before p place + 1)) ∷ text_is (name_of_channel p place) ∷ replicate 3 any_field)
+status_rule p place =
+    Fields (number_is (pos (status_before p place + 1)) ∷ text_is (name_of_channel p place) ∷ replicate 3 any_field)
 
 abbrev pub analog_rule_at : Parts → ℕ → List LineRule
 analog_rule_at p place = if is_status_at p place then [] else analog_rule p place ∷ []
@@ -76,7 +77,8 @@ status_rule_at p place = if is_status_at p place then status_rule p place ∷ []
 -- the numbers of all channels, of analog ones and of status ones
 abbrev pub numbers_rule : Parts → LineRule
 numbers_rule p =
-    Fields (number_is (pos (length p.channels)) ∷ counts 65 (analog_before p (length p.channels)) ∷ counts 68 (status_before p (length p.channels)) ∷ [])
+    Fields (number_is (pos (length p.channels)) ∷ counts 65 (analog_before p (length p.channels))
+    ∷ counts 68 (status_before p (length p.channels)) ∷ [])
 
 -- the station and the numbers of channels
 abbrev pub head_rules : Parts → List LineRule

@@ -36,7 +36,8 @@ state_text value = if unsigned_abs value == 0 then codes "0" else codes "1"
 -- a state: the one byte `0` or `1`
 abbrev pub state_is : ℤ → Rule
 state_is value field =
-    if bytes_eq field (codes "0") || bytes_eq field (codes "1") then unless_wrong (bytes_eq field (state_text value)) else Some NotNumber
+    if bytes_eq field (codes "0") || bytes_eq field (codes "1") then unless_wrong (bytes_eq field (state_text value))
+    else Some NotNumber
 
 -- the rule of the channel at a place, where it is an analog one, and where it is a status
 abbrev pub raw_rule_at : Parts → List (List ℤ) → Scales → ℕ → ℕ → List Rule

@@ -20,7 +20,8 @@ file_word false = codes "CFG"
 -- of a record that differs: where it does first, and why
 unfoldable pub differs_note : Differs → List ℕ
 differs_note differs =
-    codes "DIFFERS " ++ file_word differs.dat ++ codes " LINE " ++ decimal differs.line ++ codes " FIELD " ++ decimal differs.field
+    codes "DIFFERS " ++ file_word differs.dat ++ codes " LINE " ++ decimal differs.line ++ codes " FIELD "
+    ++ decimal differs.field
     ++ codes " " ++ difference_word differs.cause ++ codes "\n"
 
 -- of a record that doesn't, with so many samples

@@ -33,7 +33,9 @@ times_or_item at (Some close) (Some opening) = Ok (record { close = close; open_
 
 -- the times of a switch from the items at its place; a lacking item gives none
 abbrev pub times_at : ℕ → Times → List (List ℕ) → Result Times ℕ
-times_at at card items = times_or_item at (option_and_then (closing_time card.close) (slice_get items 0)) (option_and_then (opening_time card.open_at) (slice_get items 1))
+times_at at card items =
+    times_or_item at (option_and_then (closing_time card.close) (slice_get items 0))
+    (option_and_then (opening_time card.open_at) (slice_get items 1))
 
 -- ---- rows
 

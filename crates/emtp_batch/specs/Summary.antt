@@ -20,7 +20,9 @@ peaks_text (peak ∷ more) = codes " " ++ fixed_text peak PLACES ++ peaks_text m
 
 -- the line of a row, whose number counts from 1
 unfoldable pub row_line : ℕ → RowReport → List ℕ
-row_line number report = codes "ROW " ++ decimal number ++ codes " " ++ end_text report.end ++ codes " PEAKS" ++ peaks_text report.peaks ++ codes "\n"
+row_line number report =
+    codes "ROW " ++ decimal number ++ codes " " ++ end_text report.end ++ codes " PEAKS" ++ peaks_text report.peaks
+    ++ codes "\n"
 
 abbrev pub row_lines : ℕ → List RowReport → List ℕ
 row_lines number [] = []
@@ -40,10 +42,13 @@ first_row_with channel peak reports = unwrap_or (position (λ report. int_eq (pe
 
 -- the line of an analog channel, whose place counts from 0: its number, its greatest peak, and the first row that has it
 unfoldable pub max_line : ℕ → ℤ → ℕ → List ℕ
-max_line channel peak row = codes "MAX " ++ decimal (channel + 1) ++ codes " " ++ fixed_text peak PLACES ++ codes " ROW " ++ decimal row ++ codes "\n"
+max_line channel peak row =
+    codes "MAX " ++ decimal (channel + 1) ++ codes " " ++ fixed_text peak PLACES ++ codes " ROW " ++ decimal row
+    ++ codes "\n"
 
 abbrev pub max_of : List RowReport → ℕ → List ℕ
-max_of reports channel = max_line channel (greatest_peak channel reports) (first_row_with channel (greatest_peak channel reports) reports)
+max_of reports channel =
+    max_line channel (greatest_peak channel reports) (first_row_with channel (greatest_peak channel reports) reports)
 
 -- the lines of the first channels
 abbrev pub max_lines : List RowReport → ℕ → List ℕ

@@ -45,4 +45,6 @@ rows_in cards bytes = some_rows (length (lines_of bytes) + 1) (rows_from cards 1
 
 -- the rows of a table for a case, or the place for which it is refused; one byte too many is refused first
 unfoldable pub times_table : List ℕ → Parts → Result (List Row) FaultyItem
-times_table bytes case = if nat_lt MAX_BYTES (length bytes) then Err (record { line = 0; item = 0 }) else rows_in (card_times case.switches) bytes
+times_table bytes case =
+    if nat_lt MAX_BYTES (length bytes) then Err (record { line = 0; item = 0 })
+    else rows_in (card_times case.switches) bytes

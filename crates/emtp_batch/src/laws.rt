@@ -21,13 +21,15 @@ pub fn stars_keep_the_cards()
 
 /// A row with the times of the cards gives the case's own end and its own peaks.
 pub fn own_times_give_the_case(case: &Case)
-    ensures { (row : Row) → row.times ≡ card_times case.now.parts.switches → report_of (altered case.now.parts row) ≡ report_of case.now.parts }
+    ensures { (row : Row) → row.times ≡ card_times case.now.parts.switches
+        → report_of (altered case.now.parts row) ≡ report_of case.now.parts }
 {}
 
 /// The report of a row doesn't depend on the rows before and after it.
 pub fn each_row_stands_alone(case: &Case)
     ensures { (before after : List Row) (row : Row)
-        → slice_get (reports_of case.now.parts (before ++ row ∷ after)) (length before) ≡ Some (report_of (altered case.now.parts row)) }
+        → slice_get (reports_of case.now.parts (before ++ row ∷ after)) (length before)
+        ≡ Some (report_of (altered case.now.parts row)) }
 {}
 
 /// Each peak of a case's run is from 0 to 10^18 units.

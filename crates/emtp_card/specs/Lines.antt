@@ -28,7 +28,10 @@ is_section_end line = list_all is_blank line || starts_with nat_eq line (codes "
 
 -- why a byte may not stand in a column, if it may not: it isn't from 0x20 to 0x7E, or is no blank past column 80
 abbrev pub fault_of_byte : ℕ → ℕ → Option Why
-fault_of_byte column byte = if nat_lt byte 32 || nat_lt 126 byte then Some ByteOutside else if nat_lt 80 column && not (is_blank byte) then Some PastColumn80 else None
+fault_of_byte column byte =
+    if nat_lt byte 32 || nat_lt 126 byte then Some ByteOutside
+    else if nat_lt 80 column && not (is_blank byte) then Some PastColumn80
+    else None
 
 -- a fault here, or else a later one
 abbrev pub first_of : Option Why → ℕ → Option (ℕ × Why) → Option (ℕ × Why)

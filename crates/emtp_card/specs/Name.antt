@@ -15,4 +15,6 @@ named (byte ∷ bytes) = Some (byte ∷ bytes)
 
 -- the name in six columns: their bytes without outer blanks, none of them a comma
 unfoldable pub name_field : List ℕ → ℕ → Result (Option (List ℕ)) Why
-name_field line first = if list_any is_comma (columns line first (first + 5)) then Err BadName else Ok (named (field_of line first (first + 5)))
+name_field line first =
+    if list_any is_comma (columns line first (first + 5)) then Err BadName
+    else Ok (named (field_of line first (first + 5)))

@@ -21,7 +21,9 @@ fraction_of (byte ∷ bytes) = if byte == 46 then digits_of bytes else ([], byte
 -- one digit to so many, and nothing else
 abbrev pub few_digits : ℕ → List ℕ → Option ℕ
 few_digits most bytes =
-    if list_all is_ascii_digit bytes && (nat_le 1 (length bytes) && nat_le (length bytes) most) then Some (number_of bytes) else None
+    if list_all is_ascii_digit bytes && (nat_le 1 (length bytes) && nat_le (length bytes) most)
+    then Some (number_of bytes)
+    else None
 
 -- a sign or none, and one digit to so many
 unfoldable pub limited_whole : ℕ → List ℕ → Option ℤ
@@ -45,7 +47,11 @@ exponent_of (byte ∷ bytes) = if is_marker byte then power_of bytes else if is_
 
 -- a decimal of its parts; digits after the point lessen the power
 abbrev pub composed : Bool → List ℕ → List ℕ → ℤ → Decimal
-composed negative whole fraction exponent = record { negative = negative; digits = number_of (whole ++ fraction); power = exponent -ℤ pos (length fraction) }
+composed negative whole fraction exponent = record {
+  negative = negative;
+  digits = number_of (whole ++ fraction);
+  power = exponent -ℤ pos (length fraction);
+}
 
 -- the decimal that a text spells, if it is a number
 unfoldable pub decimal_of : List ℕ → Option Decimal

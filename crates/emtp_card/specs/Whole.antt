@@ -19,7 +19,9 @@ in_billion value = if nat_lt (10 ^ 9) (unsigned_abs value) then Err OutOfUnitRan
 
 -- an optional sign and digits
 unfoldable pub whole_in : List ℕ → Result ℤ Why
-whole_in text = if all_digits (sign_of text).1 then in_billion (signed (sign_of text).0 (number_of (sign_of text).1)) else Err NotWhole
+whole_in text =
+    if all_digits (sign_of text).1 then in_billion (signed (sign_of text).0 (number_of (sign_of text).1))
+    else Err NotWhole
 
 -- a field that holds a whole number
 unfoldable pub whole_field : List ℕ → ℕ → ℕ → Result (Option ℤ) Why

@@ -155,7 +155,8 @@ fn count_newlines(bytes: &[u8]) -> usize
 /// A line ends with LF, and one CR just before it is dropped; a last piece without LF is a line as it stands. It
 /// serves every text of lines, also one that [`Cards::split`] refuses for its length.
 pub fn next_line(rest: &[u8]) -> Option<(&[u8], &[u8])>
-    ensures lines { MatchOption result (lines_of rest.now ≡ []) (λ found. lines_of rest.now ≡ found.0.now ∷ lines_of found.1.now) }
+    ensures lines { MatchOption result (lines_of rest.now ≡ [])
+        (λ found. lines_of rest.now ≡ found.0.now ∷ lines_of found.1.now) }
     ensures short { IfSome result (λ found. (length found.0.now ≤ length rest.now) × (length found.1.now < length rest.now)) }
 {
     match newline(rest) {

@@ -86,7 +86,8 @@ impl NumberField {
     fn read_or(&self, blank: i64, line: &[u8]) -> Result<i64, Why>
         requires field { IsNumberField self.now }
         requires blank { IsWithin self.now.low self.now.high blank }
-        ensures value { result ≡ filled_with blank (number_field line.now self.now.first self.now.last self.now.scale self.now.low self.now.high) }
+        ensures value { result ≡ filled_with blank
+            (number_field line.now self.now.first self.now.last self.now.scale self.now.low self.now.high) }
         ensures range { IfOk result (IsWithin self.now.low self.now.high) }
     {
         match self.read(line) {
@@ -98,7 +99,8 @@ impl NumberField {
 
     fn read_required(&self, line: &[u8]) -> Result<i64, Why>
         requires { IsNumberField self.now }
-        ensures value { result ≡ required (number_field line.now self.now.first self.now.last self.now.scale self.now.low self.now.high) }
+        ensures value { result ≡ required
+            (number_field line.now self.now.first self.now.last self.now.scale self.now.low self.now.high) }
         ensures range { IfOk result (IsWithin self.now.low self.now.high) }
     {
         match self.read(line) {
@@ -120,7 +122,8 @@ impl NumberField {
     fn read_held_or(&self, blank: i64, line: &[u8]) -> Result<i64, Why>
         requires field { IsNumberField self.now }
         requires blank { IsWithin self.now.low self.now.high blank }
-        ensures value { result ≡ filled_with blank (held_field line.now self.now.first self.now.last self.now.scale self.now.low self.now.high) }
+        ensures value { result ≡ filled_with blank
+            (held_field line.now self.now.first self.now.last self.now.scale self.now.low self.now.high) }
         ensures range { IfOk result (IsWithin self.now.low self.now.high) }
     {
         match self.read_held(line) {

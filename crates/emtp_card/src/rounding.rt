@@ -47,7 +47,8 @@ impl Numeral<'_> {
     /// The digits as a whole number, times a power of ten.
     fn shifted(&self, places: u32) -> Option<u128>
         requires parts { IsNumeral self.now }
-        ensures { SomeIff result (number_of (digits_in self.now) * 10 ^ places ≤ MOST) (number_of (digits_in self.now) * 10 ^ places) }
+        ensures { SomeIff result (number_of (digits_in self.now) * 10 ^ places ≤ MOST)
+            (number_of (digits_in self.now) * 10 ^ places) }
     {
         match self.front(self.len()) {
             Some(number) => times_power_of_ten(number, places),
@@ -59,7 +60,8 @@ impl Numeral<'_> {
     fn rounded(&self, cut: usize) -> Option<u128>
         requires parts { IsNumeral self.now }
         requires cut { 1 ≤ cut }
-        ensures { SomeIff result (near_abs (number_of (digits_in self.now)) (10 ^ cut) ≤ MOST) (near_abs (number_of (digits_in self.now)) (10 ^ cut)) }
+        ensures { SomeIff result (near_abs (number_of (digits_in self.now)) (10 ^ cut) ≤ MOST)
+            (near_abs (number_of (digits_in self.now)) (10 ^ cut)) }
     {
         let len = self.len();
         if cut > len {
@@ -88,7 +90,8 @@ impl Numeral<'_> {
     fn front(&self, count: usize) -> Option<u128>
         requires parts { IsNumeral self.now }
         requires count { count ≤ length (digits_in self.now) }
-        ensures { SomeIff result (number_of (take count (digits_in self.now)) ≤ MOST) (number_of (take count (digits_in self.now))) }
+        ensures { SomeIff result (number_of (take count (digits_in self.now)) ≤ MOST)
+            (number_of (take count (digits_in self.now))) }
     {
         if count <= self.whole.len() {
             return append_digits(0, &self.whole[..count]);

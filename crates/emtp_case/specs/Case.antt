@@ -30,4 +30,5 @@ empty_parts run = record {
 -- the three phases of a three-phase line, whose numbers are to be set
 abbrev pub phase_branches : ℕ → Phase → Phase → Phase → List Branch
 phase_branches t a b c =
-    OfPhase (record a { trio = t; phase = 0 }) ∷ OfPhase (record b { trio = t; phase = 1 }) ∷ OfPhase (record c { trio = t; phase = 2 }) ∷ []
+    OfPhase (record a { trio = t; phase = 0 }) ∷ OfPhase (record b { trio = t; phase = 1 })
+    ∷ OfPhase (record c { trio = t; phase = 2 }) ∷ []

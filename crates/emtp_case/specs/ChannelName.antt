@@ -22,7 +22,9 @@ abbrev pub name_of_branch : Parts → ℕ → List ℕ
 name_of_branch p b = name_of_ends p (slice_index_or (map from_of p.branches) b 0) (slice_index_or (map to_of p.branches) b 0)
 
 abbrev pub name_of_switch : Parts → ℕ → List ℕ
-name_of_switch p s = name_of_ends p (slice_index_or (map (λ (x : Switch). x.from) p.switches) s 0) (slice_index_or (map (λ (x : Switch). x.to) p.switches) s 0)
+name_of_switch p s =
+    name_of_ends p (slice_index_or (map (λ (x : Switch). x.from) p.switches) s 0)
+    (slice_index_or (map (λ (x : Switch). x.to) p.switches) s 0)
 
 -- a letter for the kind, a blank, and what is measured
 abbrev pub text_of : Parts → Channel → List ℕ

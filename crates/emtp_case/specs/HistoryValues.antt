@@ -59,4 +59,5 @@ extra_history_values dt (OfFormula x) = 0
 -- all history values of a case
 abbrev pub history_values_of : Parts → ℕ
 history_values_of p =
-    sum_by (branch_history_values p.run.dt) p.branches + sum_by (trio_history_values p.run.dt) p.trios + sum_by (extra_history_values p.run.dt) p.extras
+    sum_by (branch_history_values p.run.dt) p.branches + sum_by (trio_history_values p.run.dt) p.trios
+    + sum_by (extra_history_values p.run.dt) p.extras

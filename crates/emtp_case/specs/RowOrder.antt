@@ -61,7 +61,9 @@ class_rank Changing = 2
 
 -- by class, then by ends, then by node
 abbrev pub key_cmp : Key → Key → Ordering
-key_cmp = then_cmp (on (λ (k : Key). class_rank k.class) nat_cmp) (then_cmp (on (λ (k : Key). k.ends) nat_cmp) (on (λ (k : Key). k.node) nat_cmp))
+key_cmp =
+    then_cmp (on (λ (k : Key). class_rank k.class) nat_cmp)
+    (then_cmp (on (λ (k : Key). k.ends) nat_cmp) (on (λ (k : Key). k.node) nat_cmp))
 
 abbrev pub goes_before : Parts → ℕ → ℕ → Bool
 goes_before p a b = is_lt (key_cmp (key_of p a) (key_of p b))

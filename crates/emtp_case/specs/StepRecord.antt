@@ -100,7 +100,15 @@ pub record StepRecord : Type 0 where
 
 -- a record before record 0: all that is read from it is 0
 abbrev pub before_start : StepRecord
-before_start = record { voltages = []; branches = []; switch_states = []; switch_currents = []; values = []; blocks = []; devices = [] }
+before_start = record {
+  voltages = [];
+  branches = [];
+  switch_states = [];
+  switch_currents = [];
+  values = [];
+  blocks = [];
+  devices = [];
+}
 
 -- the record so many steps before the last one
 abbrev pub record_back : List StepRecord → ℕ → StepRecord

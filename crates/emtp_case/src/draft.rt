@@ -90,7 +90,9 @@ impl Draft {
     pub fn add_lumped(&mut self, branch: Lumped) -> Result<(), AllocError>
         requires room { length self.old.parts.branches < MOST_BRANCHES }
         requires fits { IsLumped self.old.parts.run (sizes_of self.old.parts) branch }
-        ensures ok { OnOk result (self.new.parts ≡ record self.old.parts { branches = self.old.parts.branches ++ Branch.Lumped branch ∷ [] }) }
+        ensures ok { OnOk result
+            (self.new.parts ≡ record self.old.parts
+            { branches = self.old.parts.branches ++ Branch.Lumped branch ∷ [] }) }
         ensures history { OnOk result (history_values_of self.new.parts ≡ history_values_of self.old.parts) }
         ensures err { OnErr result (self.new ≡ self.old) }
     {
@@ -102,9 +104,12 @@ impl Draft {
         requires room { length self.old.parts.branches < MOST_BRANCHES }
         requires single { IsSingle branch }
         requires fits { IsBranch self.old.parts.run (sizes_of self.old.parts) self.old.parts.points branch }
-        requires history { history_values_of self.old.parts + branch_history_values self.old.parts.run.dt branch ≤ MOST_HISTORY_VALUES }
+        requires history { history_values_of self.old.parts + branch_history_values self.old.parts.run.dt branch
+            ≤ MOST_HISTORY_VALUES }
         ensures ok { OnOk result (self.new.parts ≡ record self.old.parts { branches = self.old.parts.branches ++ branch ∷ [] }) }
-        ensures history { OnOk result (history_values_of self.new.parts ≡ history_values_of self.old.parts + branch_history_values self.old.parts.run.dt branch) }
+        ensures history { OnOk result
+            (history_values_of self.new.parts
+            ≡ history_values_of self.old.parts + branch_history_values self.old.parts.run.dt branch) }
         ensures err { OnErr result (self.new ≡ self.old) }
     {
         self.parts.branches.push(branch)?;
@@ -119,7 +124,13 @@ impl Draft {
         requires some { 1 ≤ length points.now }
         requires few { length points.now ≤ MOST_POINTS }
         requires characteristic { IsCharacteristic branch.reactor self.old.parts.run.dt points.now }
-        ensures ok { OnOk result (self.new.parts ≡ record self.old.parts { points = self.old.parts.points ++ points.now; branches = self.old.parts.branches ++ Branch.Pseudo (record branch { first = length self.old.parts.points; count = length points.now }) ∷ [] }) }
+        ensures ok { OnOk result
+            (self.new.parts ≡ record self.old.parts {
+              points = self.old.parts.points ++ points.now;
+              branches = self.old.parts.branches
+                  ++ Branch.Pseudo (record branch
+                  { first = length self.old.parts.points; count = length points.now }) ∷ [];
+            }) }
         ensures history { OnOk result (history_values_of self.new.parts ≡ history_values_of self.old.parts) }
         ensures err { OnErr result (self.new ≡ self.old) }
     {
@@ -144,9 +155,16 @@ impl Draft {
         requires b { AreEnds (length self.old.parts.nodes) b.from b.to }
         requires c { AreEnds (length self.old.parts.nodes) c.from c.to }
         requires modes { IsTrio self.old.parts.run modes }
-        requires history { history_values_of self.old.parts + trio_history_values self.old.parts.run.dt modes ≤ MOST_HISTORY_VALUES }
-        ensures ok { OnOk result (self.new.parts ≡ record self.old.parts { branches = self.old.parts.branches ++ phase_branches (length self.old.parts.trios) a b c; trios = self.old.parts.trios ++ record modes { first = length self.old.parts.branches } ∷ [] }) }
-        ensures history { OnOk result (history_values_of self.new.parts ≡ history_values_of self.old.parts + trio_history_values self.old.parts.run.dt modes) }
+        requires history { history_values_of self.old.parts + trio_history_values self.old.parts.run.dt modes
+            ≤ MOST_HISTORY_VALUES }
+        ensures ok { OnOk result
+            (self.new.parts ≡ record self.old.parts {
+              branches = self.old.parts.branches ++ phase_branches (length self.old.parts.trios) a b c;
+              trios = self.old.parts.trios ++ record modes { first = length self.old.parts.branches } ∷ [];
+            }) }
+        ensures history { OnOk result
+            (history_values_of self.new.parts
+            ≡ history_values_of self.old.parts + trio_history_values self.old.parts.run.dt modes) }
         ensures err { OnErr result (self.new ≡ self.old) }
     {
         let first = self.parts.branches.len() as u32;
@@ -214,7 +232,8 @@ impl Draft {
     pub fn add_tacs_source(&mut self, source: Source) -> Result<(), AllocError>
         requires room { length self.old.parts.tacs_sources < MOST_CONTROL_CARDS }
         requires fits { IsTacsSource (sizes_of self.old.parts) source }
-        ensures ok { OnOk result (self.new.parts ≡ record self.old.parts { tacs_sources = self.old.parts.tacs_sources ++ source ∷ [] }) }
+        ensures ok { OnOk result
+            (self.new.parts ≡ record self.old.parts { tacs_sources = self.old.parts.tacs_sources ++ source ∷ [] }) }
         ensures err { OnErr result (self.new ≡ self.old) }
     {
         self.parts.tacs_sources.push(source)?;
@@ -238,9 +257,18 @@ impl Draft {
         requires card { IsDeviceCard (sizes_of self.old.parts) device }
         requires few { length points.now ≤ MOST_POINTS }
         requires points { HasDevicePoints device.code points.now }
-        requires history { history_values_of self.old.parts + device_history_values self.old.parts.run.dt device.code device.a ≤ MOST_HISTORY_VALUES }
-        ensures ok { OnOk result (self.new.parts ≡ record self.old.parts { points = self.old.parts.points ++ points.now; extras = self.old.parts.extras ++ Extra.Device (record device { first = length self.old.parts.points; count = length points.now }) ∷ [] }) }
-        ensures history { OnOk result (history_values_of self.new.parts ≡ history_values_of self.old.parts + device_history_values self.old.parts.run.dt device.code device.a) }
+        requires history { history_values_of self.old.parts
+            + device_history_values self.old.parts.run.dt device.code device.a ≤ MOST_HISTORY_VALUES }
+        ensures ok { OnOk result
+            (self.new.parts ≡ record self.old.parts {
+              points = self.old.parts.points ++ points.now;
+              extras = self.old.parts.extras
+                  ++ Extra.Device (record device
+                  { first = length self.old.parts.points; count = length points.now }) ∷ [];
+            }) }
+        ensures history { OnOk result
+            (history_values_of self.new.parts
+            ≡ history_values_of self.old.parts + device_history_values self.old.parts.run.dt device.code device.a) }
         ensures err { OnErr result (self.new ≡ self.old) }
     {
         device.first = self.parts.points.len() as u32;
@@ -257,7 +285,9 @@ impl Draft {
     pub fn add_formula(&mut self, formula: Formula) -> Result<(), AllocError>
         requires room { length self.old.parts.extras < MOST_CONTROL_CARDS }
         requires fits { IsFormula (sizes_of self.old.parts) formula }
-        ensures ok { OnOk result (self.new.parts ≡ record self.old.parts { extras = self.old.parts.extras ++ Extra.Formula formula ∷ [] }) }
+        ensures ok { OnOk result
+            (self.new.parts ≡ record self.old.parts
+            { extras = self.old.parts.extras ++ Extra.Formula formula ∷ [] }) }
         ensures history { OnOk result (history_values_of self.new.parts ≡ history_values_of self.old.parts) }
         ensures err { OnErr result (self.new ≡ self.old) }
     {

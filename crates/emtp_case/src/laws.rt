@@ -17,7 +17,11 @@ use crate::run_data::RunData;
 /// Where the TACS sources, the blocks and the supplemental cards number their variables one after another from 6 on,
 /// each variable is defined once.
 pub fn defined_in_turn(parts: &Parts)
-    ensures { (sources blocks extras : ℕ) → map (λ (s : Source). s.node) parts.now.tacs_sources ≡ range_with_len 6 sources → map (λ (b : Block). b.var) parts.now.blocks ≡ range_with_len (6 + sources) blocks → map var_of parts.now.extras ≡ range_with_len (6 + (sources + blocks)) extras → 6 + (sources + blocks + extras) ≡ length parts.now.vars → DefinesEach parts.now }
+    ensures { (sources blocks extras : ℕ)
+        → map (λ (s : Source). s.node) parts.now.tacs_sources ≡ range_with_len 6 sources
+        → map (λ (b : Block). b.var) parts.now.blocks ≡ range_with_len (6 + sources) blocks
+        → map var_of parts.now.extras ≡ range_with_len (6 + (sources + blocks)) extras
+        → 6 + (sources + blocks + extras) ≡ length parts.now.vars → DefinesEach parts.now }
 {}
 
 /// One more point of a characteristic.
@@ -43,8 +47,10 @@ pub fn one_more_pair(points: &[Point], p: Point)
 
 /// A three-phase line of two modes.
 pub fn two_modes(run: &RunData, modes: &Trio)
-    requires zero { HasLineNumbers run.now.dt (slice_index_or modes.now.zc 0 (pos 0)) (slice_index_or modes.now.r 0 (pos 0)) (slice_index_or modes.now.delay 0 (pos 0)) }
-    requires positive { HasLineNumbers run.now.dt (slice_index_or modes.now.zc 1 (pos 0)) (slice_index_or modes.now.r 1 (pos 0)) (slice_index_or modes.now.delay 1 (pos 0)) }
+    requires zero { HasLineNumbers run.now.dt (slice_index_or modes.now.zc 0 (pos 0))
+        (slice_index_or modes.now.r 0 (pos 0)) (slice_index_or modes.now.delay 0 (pos 0)) }
+    requires positive { HasLineNumbers run.now.dt (slice_index_or modes.now.zc 1 (pos 0))
+        (slice_index_or modes.now.r 1 (pos 0)) (slice_index_or modes.now.delay 1 (pos 0)) }
     ensures { IsTrio run.now modes.now }
 {}
 

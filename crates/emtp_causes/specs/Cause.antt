@@ -34,7 +34,9 @@ abbrev pub hex_digit : ℕ → ℕ
 hex_digit number = if nat_lt number 10 then 48 + number else 87 + number
 
 unfoldable pub odd_byte : ℕ → List ℕ
-odd_byte byte = codes "the byte 0x" ++ (hex_digit (byte / 16) ∷ hex_digit (byte % 16) ∷ []) ++ codes "; only 0x20 to 0x7E are allowed"
+odd_byte byte =
+    codes "the byte 0x" ++ (hex_digit (byte / 16) ∷ hex_digit (byte % 16) ∷ [])
+    ++ codes "; only 0x20 to 0x7E are allowed"
 
 -- in front of a file, that of UTF-8 or of UTF-16
 abbrev pub is_mark : ℕ → ℕ → ℕ → Bool
@@ -70,7 +72,9 @@ has_comma line column width = has_byte (take (max column 1 + width - 1 + 1 - max
 -- what ends a section ends no points
 abbrev pub point_cause : List ℕ → Kind → ℕ → Why → List ℕ
 point_cause line (read.Point scale) column why =
-    if column == 1 && is_section_end line then codes "a card with 9999 in columns 1 to 16 has to end the points before this" else reason why
+    if column == 1 && is_section_end line
+    then codes "a card with 9999 in columns 1 to 16 has to end the points before this"
+    else reason why
 point_cause line other column why = reason why
 
 abbrev pub number_cause : List ℕ → Kind → ℕ → Why → List ℕ
@@ -120,8 +124,10 @@ type_cause line kind column = if column == 1 then types_of kind else sign_cause 
 
 abbrev pub place_cause : Kind → ℕ → Why → List ℕ
 place_cause read.Begin column BadOrder = codes "the first card of a case is BEGIN NEW DATA CASE"
-place_cause read.Switch column BadName = if column == 55 then codes "the word of a switch is MEASURING or none" else reason BadName
-place_cause read.Extra column BadExpression = if column == 11 then codes "a formula has its = in column 11, behind two blanks" else reason BadExpression
+place_cause read.Switch column BadName =
+    if column == 55 then codes "the word of a switch is MEASURING or none" else reason BadName
+place_cause read.Extra column BadExpression =
+    if column == 11 then codes "a formula has its = in column 11, behind two blanks" else reason BadExpression
 place_cause other column why = reason why
 
 -- ---- the cause

@@ -37,7 +37,8 @@ branch_legend wide (Err why) = series_legend wide
 -- a formula is known by its blank columns 9 and 10
 abbrev pub extra_legend : List ℕ → List ℕ
 extra_legend line =
-    if length (field_of line 9 10) == 0 then codes "GRNAME--  =EXPRESSION-----------------------------------------------------------"
+    if length (field_of line 9 10) == 0
+    then codes "GRNAME--  =EXPRESSION-----------------------------------------------------------"
     else codes "GRNAME--COSINPUT-.SINPUT-.SINPUT-.SINPUT-.SINPUT-.A-----B-----C-----D-----E-----"
 
 abbrev pub point_legend : PointScale → List ℕ

@@ -34,7 +34,8 @@ left_behind begins left = if begins then left - 1 else left
 abbrev pub item_rest : ℕ → Bool → List ℕ → List ℕ
 item_rest left blank [] = []
 item_rest left blank (byte ∷ bytes) =
-    if begins_here blank byte && nat_le left 1 then byte ∷ bytes else item_rest (left_behind (begins_here blank byte) left) (byte == 32) bytes
+    if begins_here blank byte && nat_le left 1 then byte ∷ bytes
+    else item_rest (left_behind (begins_here blank byte) left) (byte == 32) bytes
 
 abbrev pub cut_at : List ℕ → Option ℕ → List ℕ
 cut_at text (Some at) = take at text
@@ -57,11 +58,14 @@ odd_cause item =
 abbrev pub item_cause : List ℕ → ℕ → List ℕ
 item_cause item number =
     if length item == 0 then codes "an item is missing: a row has a closing and an opening time for each time switch of the case"
-    else if bytes_eq item (codes "-") && number % 2 == 1 then codes "a closing time is a number of seconds, or * for the card's own"
+    else if bytes_eq item (codes "-") && number % 2 == 1
+    then codes "a closing time is a number of seconds, or * for the card's own"
     else odd_cause item
 
 abbrev pub item_line : List ℕ → ℕ → List ℕ
-item_line row number = marked_part row (column_of (length row) (length (item_rest number true row))) (item_cause (up_to_blank (item_rest number true row)) number)
+item_line row number =
+    marked_part row (column_of (length row) (length (item_rest number true row)))
+    (item_cause (up_to_blank (item_rest number true row)) number)
 
 -- ---- fields, parted by commas
 
@@ -78,13 +82,16 @@ skipped (byte ∷ bytes) = if is_blank byte then skipped bytes else byte ∷ byt
 
 abbrev pub difference : List ℕ → List ℕ
 difference cause =
-    if bytes_eq cause (codes "WRONG") then codes "this isn't that of the case's own record" else codes "no number as it has to be here, or out of its range"
+    if bytes_eq cause (codes "WRONG") then codes "this isn't that of the case's own record"
+    else codes "no number as it has to be here, or out of its range"
 
 abbrev pub field_cause : List ℕ → ℕ → List ℕ
 field_cause cause number =
-    if bytes_eq cause (codes "MISSING") then if number == 1 then codes "the file ends before this line" else codes "a field isn't there"
+    if bytes_eq cause (codes "MISSING") then if number == 1 then codes "the file ends before this line"
+    else codes "a field isn't there"
     else if bytes_eq cause (codes "EXTRA") then if number == 1 then codes "a line too many" else codes "a field too many"
     else difference cause
 
 abbrev pub field_line : List ℕ → ℕ → List ℕ → List ℕ
-field_line line number cause = marked_part line (column_of (length line) (length (skipped (field_rest number line)))) (field_cause cause number)
+field_line line number cause =
+    marked_part line (column_of (length line) (length (skipped (field_rest number line)))) (field_cause cause number)

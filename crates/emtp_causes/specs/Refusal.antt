@@ -15,12 +15,15 @@ legend_line legend = if length legend == 0 then [] else legend ++ codes "\n"
 -- the card below the names of its fields, a mark under its column with the cause, and as what it was read
 unfoldable pub refused_card : List ℕ → Kind → Bad → List ℕ
 refused_card line kind bad =
-    legend_line (legend line kind) ++ shown_line line bad.column ++ mark bad.column ++ cause_text bad.line line kind bad.column bad.why
+    legend_line (legend line kind) ++ shown_line line bad.column ++ mark bad.column
+    ++ cause_text bad.line line kind bad.column bad.why
     ++ codes "\nLine " ++ decimal bad.line ++ codes " is read as " ++ kind_name kind ++ codes ".\n"
 
 -- behind so many lines another one is due
 unfoldable pub missing_line : ℕ → Kind → List ℕ
-missing_line before kind = codes "The case ends behind line " ++ decimal before ++ codes ", where " ++ kind_name kind ++ codes " is due; a line BLANK ends a section.\n"
+missing_line before kind =
+    codes "The case ends behind line " ++ decimal before ++ codes ", where " ++ kind_name kind
+    ++ codes " is due; a line BLANK ends a section.\n"
 
 abbrev pub line_text : Option (List ℕ) → Bad → Kind → List ℕ
 line_text (Some line) bad kind = refused_card line kind bad
@@ -35,7 +38,8 @@ reading_text lines bad None = []
 
 -- the card and where the sections before it ended
 abbrev pub refusal_text : List LineReading → List (List ℕ) → Bad → List ℕ
-refusal_text readings lines bad = reading_text lines bad (slice_get readings (bad.line - 1)) ++ sections_text (take (bad.line - 1) readings) lines
+refusal_text readings lines bad =
+    reading_text lines bad (slice_get readings (bad.line - 1)) ++ sections_text (take (bad.line - 1) readings) lines
 
 -- of a file that is too long no line is read
 abbrev pub size_text : List ℕ

@@ -55,7 +55,9 @@ end_text section number line other = []
 abbrev pub sections_from : Section → ℕ → List LineReading → List (List ℕ) → List ℕ
 sections_from section number readings [] = []
 sections_from section number [] (line ∷ lines) = []
-sections_from section number (reading ∷ readings) (line ∷ lines) = end_text section number line reading.kind ++ sections_from (after section reading.kind) (number + 1) readings lines
+sections_from section number (reading ∷ readings) (line ∷ lines) =
+    end_text section number line reading.kind
+    ++ sections_from (after section reading.kind) (number + 1) readings lines
 
 -- each section that a line ends, by that line
 abbrev pub sections_text : List LineReading → List (List ℕ) → List ℕ

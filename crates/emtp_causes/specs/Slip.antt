@@ -38,7 +38,9 @@ is_request text = begins_a_request text || stands_among_cards text
 
 -- as /BRANCH or $INCLUDE; a vintage card is read
 abbrev pub begins_a_section : List ℕ → Bool
-begins_a_section line = starts_with nat_eq line (codes "/") || (starts_with nat_eq line (codes "$") && not (starts_with nat_eq line (codes "$VINTAGE")))
+begins_a_section line =
+    starts_with nat_eq line (codes "/")
+    || (starts_with nat_eq line (codes "$") && not (starts_with nat_eq line (codes "$VINTAGE")))
 
 abbrev pub is_special : List ℕ → Bool
 is_special line = begins_a_section line || is_request (field_of line 1 80)

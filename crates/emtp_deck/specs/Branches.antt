@@ -40,7 +40,11 @@ counts_of m = record { branches = length m.parts.branches; history = history_val
 
 -- with one more card, which needs so many history values
 abbrev pub with_counts : Counts → BranchCard → ℕ → Counts
-with_counts n card history = record { branches = n.branches + 1; history = n.history + history; channels = n.channels + channel_count card.asked }
+with_counts n card history = record {
+  branches = n.branches + 1;
+  history = n.history + history;
+  channels = n.channels + channel_count card.asked;
+}
 
 -- a line keeps the past values of a travel time at both ends of so many phases
 abbrev pub line_history : ℕ → ℤ → Option LineNumbers → ℕ
@@ -128,12 +132,21 @@ with_branch p branch = record p { branches = p.branches ++ branch ∷ [] }
 abbrev pub with_points : List Point → Parts → ℕ → ℕ → ℕ → Bool → Parts
 with_points points p line a b reactor = record p {
   points = p.points ++ points;
-  branches = p.branches ++ OfPseudo (record { line = line; «from» = a; to = b; reactor = reactor; first = length p.points; count = length points }) ∷ [];
+  branches =
+      p.branches ++ OfPseudo (record {
+        line = line;
+        «from» = a;
+        to = b;
+        reactor = reactor;
+        first = length p.points;
+        count = length points;
+      }) ∷ [];
 }
 
 -- a card's own values; no second or third phase stands alone, and a card that copies has none
 abbrev pub with_own : List Point → Parts → ℕ → ℕ → ℕ → BranchValues → Parts
-with_own points p line a b (LumpedCard r l c) = with_branch p (OfLumped (record { line = line; «from» = a; to = b; r = r; l = l; c = c }))
+with_own points p line a b (LumpedCard r l c) =
+    with_branch p (OfLumped (record { line = line; «from» = a; to = b; r = r; l = l; c = c }))
 with_own points p line a b (LineCard zc r delay) = with_branch p (line_branch line a b (record { zc = zc; r = r; delay = delay }))
 with_own points p line a b ReactorCard = with_points points p line a b true
 with_own points p line a b ResistorCard = with_points points p line a b false
@@ -146,10 +159,17 @@ with_values points p card a b Missing = p
 
 -- the branch of a card
 abbrev pub with_single : List Point → Parts → BranchCard → Parts
-with_single points p card = with_values points p card (node_number p.nodes card.from) (node_number p.nodes card.to) (values_behind p card)
+with_single points p card =
+    with_values points p card (node_number p.nodes card.from) (node_number p.nodes card.to) (values_behind p card)
 
 abbrev pub phase_for : Parts → BranchCard → Phase
-phase_for p card = record { line = card.line; «from» = node_number p.nodes card.from; to = node_number p.nodes card.to; trio = 0; phase = 0 }
+phase_for p card = record {
+  line = card.line;
+  «from» = node_number p.nodes card.from;
+  to = node_number p.nodes card.to;
+  trio = 0;
+  phase = 0;
+}
 
 -- the phases of a line, if its modes are there
 abbrev pub with_modes : Parts → Phase → Phase → Phase → Option Trio → Parts
@@ -161,7 +181,8 @@ with_modes p a b c None = p
 
 abbrev pub with_phases : Parts → BranchCard → BranchCard → BranchCard → Parts
 with_phases p zero' positive third =
-    with_modes p (phase_for p zero') (phase_for p positive) (phase_for p third) (modes_for (numbers_behind p zero') (numbers_behind p positive))
+    with_modes p (phase_for p zero') (phase_for p positive) (phase_for p third)
+    (modes_for (numbers_behind p zero') (numbers_behind p positive))
 
 -- the channels of the branch at a place
 abbrev pub branch_channels : ℕ → BranchCard → List Channel
@@ -169,11 +190,13 @@ branch_channels at card = channels_of card.asked (BranchCurrent at) (BranchVolta
 
 abbrev pub entry_channels : ℕ → BranchEntry → List Channel
 entry_channels at (Single card first count) = branch_channels at card
-entry_channels at (TrioEntry zero' positive third) = branch_channels at zero' ++ branch_channels (at + 1) positive ++ branch_channels (at + 2) third
+entry_channels at (TrioEntry zero' positive third) =
+    branch_channels at zero' ++ branch_channels (at + 1) positive ++ branch_channels (at + 2) third
 
 abbrev pub entry_count : BranchEntry → ℕ
 entry_count (Single card first count) = channel_count card.asked
-entry_count (TrioEntry zero' positive third) = channel_count zero'.asked + channel_count positive.asked + channel_count third.asked
+entry_count (TrioEntry zero' positive third) =
+    channel_count zero'.asked + channel_count positive.asked + channel_count third.asked
 
 abbrev pub with_branches : List Point → Parts → BranchEntry → Parts
 with_branches points p (Single card first count) = with_single (points_of points first count) p card

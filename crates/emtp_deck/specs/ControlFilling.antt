@@ -94,8 +94,10 @@ with_device points p device = record p {
 }
 
 abbrev pub with_extra : List (List ℕ) → List Point → Parts → ExtraEntry → Parts
-with_extra variables points p (DeviceEntry card first count) = with_device (points_of points first count) p (device_of variables card)
-with_extra variables points p (FormulaEntry card) = record p { extras = p.extras ++ FormulaExtra (formula_of variables card) ∷ [] }
+with_extra variables points p (DeviceEntry card first count) =
+    with_device (points_of points first count) p (device_of variables card)
+with_extra variables points p (FormulaEntry card) =
+    record p { extras = p.extras ++ FormulaExtra (formula_of variables card) ∷ [] }
 
 -- the nodes and the variables, the blocks and the supplemental cards, before the network
 abbrev pub control_parts : List (List ℕ) → List (List ℕ) → Deck → Parts

@@ -72,7 +72,11 @@ missing_fault Missing = Some (record { column = 15; why = UnknownName })
 
 -- the numbers of one mode of a three-phase line
 abbrev pub mode_numbers : Trio → ℕ → LineNumbers
-mode_numbers t m = record { zc = slice_index_or t.zc m (pos 0); r = slice_index_or t.r m (pos 0); delay = slice_index_or t.delay m (pos 0) }
+mode_numbers t m = record {
+  zc = slice_index_or t.zc m (pos 0);
+  r = slice_index_or t.r m (pos 0);
+  delay = slice_index_or t.delay m (pos 0);
+}
 
 abbrev pub no_trio : Trio
 no_trio = record { first = 0; zc = []; r = []; delay = [] }

@@ -54,10 +54,12 @@ count_of_entry nodes entry = output_count nodes entry.card
 -- all channels of the entries of a deck
 abbrev pub deck_count : List (List ℕ) → List (List ℕ) → Deck → ℕ
 deck_count nodes variables deck =
-    sum_by (count_of_variables variables) deck.control.outputs + sum_by entry_count deck.branches + sum_by count_of_switch deck.switches + sum_by (count_of_entry nodes) deck.outputs
+    sum_by (count_of_variables variables) deck.control.outputs + sum_by entry_count deck.branches
+    + sum_by count_of_switch deck.switches + sum_by (count_of_entry nodes) deck.outputs
 
 abbrev pub has_too_many : List (List ℕ) → List (List ℕ) → Deck → Place → Bool
-has_too_many nodes variables deck place = nat_lt MOST_STORED_VALUES ((deck_count nodes variables deck + pending_count place) * samples_of deck.run)
+has_too_many nodes variables deck place =
+    nat_lt MOST_STORED_VALUES ((deck_count nodes variables deck + pending_count place) * samples_of deck.run)
 
 -- the second miscellaneous card says how many records are samples
 abbrev pub samples_bad : Deck → Bad

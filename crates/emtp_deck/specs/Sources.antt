@@ -37,7 +37,9 @@ node_fault card sources (Some node) = if is_second card node sources then Some (
 
 -- the faults of sense of a card, given the number of its node, if it is one
 abbrev pub source_fault : Parts → SourceCard → Option ℕ → Option Fault
-source_fault p card node = least (too_many (nat_le MOST_SOURCES (length p.sources)) 1 ∷ node_fault card p.sources node ∷ driver_fault p.vars card ∷ [])
+source_fault p card node =
+    least (too_many (nat_le MOST_SOURCES (length p.sources)) 1 ∷ node_fault card p.sources node
+    ∷ driver_fault p.vars card ∷ [])
 
 abbrev pub driven_shape : List (List ℕ) → List ℕ → Shape → Shape
 driven_shape variables name (Tacs variable) = Tacs (variable_number variables name)
@@ -49,7 +51,8 @@ source_at variables card node = record (source_of card) { node = node; shape = d
 
 abbrev pub with_source : Made → SourceCard → Option ℕ → Made
 with_source m card None = m
-with_source m card (Some node) = record m { parts = record m.parts { sources = m.parts.sources ++ source_at m.parts.vars card node ∷ [] } }
+with_source m card (Some node) =
+    record m { parts = record m.parts { sources = m.parts.sources ++ source_at m.parts.vars card node ∷ [] } }
 
 unfoldable pub take_source : Made → SourceCard → Result Made Bad
 take_source m card =

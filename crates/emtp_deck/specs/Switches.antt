@@ -24,7 +24,8 @@ control_number variables (Some name) = variable_number variables name
 abbrev pub controlled_kind : List (List ℕ) → Option (List ℕ) → SwitchKind → SwitchKind
 controlled_kind variables control (Time close open_at margin) = Time close open_at margin
 controlled_kind variables control Measuring = Measuring
-controlled_kind variables control (Valve ignition holding number) = Valve ignition holding (option_map (variable_number variables) control)
+controlled_kind variables control (Valve ignition holding number) =
+    Valve ignition holding (option_map (variable_number variables) control)
 controlled_kind variables control (Control number) = Control (control_number variables control)
 
 -- the faults of sense of a card

@@ -301,10 +301,15 @@ fn add_own(
     requires ends { AreEnds (length draft.old.parts.nodes) from to }
     requires single { is_phase (Ok (kind_of_values card.now.values)) ≡ false }
     requires values { HasValues draft.old.parts.run.dt card.now.values }
-    requires points { is_pseudo card.now.values ≡ true → AreOwnPoints (is_reactor card.now.values) draft.old.parts.run.dt points.now }
-    requires history { history_values_of draft.old.parts + line_history 1 draft.old.parts.run.dt (numbers_of_card card.now.values) ≤ MOST_HISTORY_VALUES }
+    requires points { is_pseudo card.now.values ≡ true
+        → AreOwnPoints (is_reactor card.now.values) draft.old.parts.run.dt points.now }
+    requires history { history_values_of draft.old.parts
+        + line_history 1 draft.old.parts.run.dt (numbers_of_card card.now.values) ≤ MOST_HISTORY_VALUES }
     ensures ok { OnOk result (draft.new.parts ≡ with_own points.now draft.old.parts card.now.line from to card.now.values) }
-    ensures history { OnOk result (history_values_of draft.new.parts ≡ history_values_of draft.old.parts + line_history 1 draft.old.parts.run.dt (numbers_of_card card.now.values)) }
+    ensures history { OnOk result
+        (history_values_of draft.new.parts
+        ≡ history_values_of draft.old.parts
+        + line_history 1 draft.old.parts.run.dt (numbers_of_card card.now.values)) }
     ensures err { IfErr result IsWant }
 {
     let line = card.line;

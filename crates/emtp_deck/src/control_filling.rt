@@ -96,7 +96,9 @@ fn add_blocks(
     requires room { length draft.old.parts.blocks + length entries.now ≤ MOST_CONTROL_CARDS }
     requires entries { All (IsBlockEntry draft.old.parts.run.dt) entries.now }
     requires sensible { All (IsSensibleBlock variables.now.keys) entries.now }
-    ensures ok { OnOk result (draft.new.parts ≡ record draft.old.parts { blocks = draft.old.parts.blocks ++ map (block_of variables.now.keys) entries.now }) }
+    ensures ok { OnOk result
+        (draft.new.parts ≡ record draft.old.parts
+        { blocks = draft.old.parts.blocks ++ map (block_of variables.now.keys) entries.now }) }
     ensures err { IfErr result IsWant }
 {
     for entry in entries {
@@ -182,9 +184,12 @@ fn add_extra(
     requires room { length draft.old.parts.extras < MOST_CONTROL_CARDS }
     requires entry { IsExtraEntry points.now entry.now }
     requires sensible { IsSensibleExtra variables.now.keys entry.now }
-    requires history { history_values_of draft.old.parts + entry_history_values draft.old.parts.run.dt entry.now ≤ MOST_HISTORY_VALUES }
+    requires history { history_values_of draft.old.parts + entry_history_values draft.old.parts.run.dt entry.now
+        ≤ MOST_HISTORY_VALUES }
     ensures ok { OnOk result (draft.new.parts ≡ with_extra variables.now.keys points.now draft.old.parts entry.now) }
-    ensures history { OnOk result (history_values_of draft.new.parts ≡ history_values_of draft.old.parts + entry_history_values draft.old.parts.run.dt entry.now) }
+    ensures history { OnOk result
+        (history_values_of draft.new.parts
+        ≡ history_values_of draft.old.parts + entry_history_values draft.old.parts.run.dt entry.now) }
     ensures err { IfErr result IsWant }
 {
     match entry {
@@ -209,8 +214,10 @@ fn add_extras(
     requires room { length draft.old.parts.extras + length entries.now ≤ MOST_CONTROL_CARDS }
     requires entries { All (IsExtraEntry points.now) entries.now }
     requires sensible { All (IsSensibleExtra variables.now.keys) entries.now }
-    requires history { history_values_of draft.old.parts + sum_by (entry_history_values draft.old.parts.run.dt) entries.now ≤ MOST_HISTORY_VALUES }
-    ensures ok { IfOk result (λ total. draft.new.parts ≡ fold (with_extra variables.now.keys points.now) draft.old.parts entries.now) }
+    requires history { history_values_of draft.old.parts
+        + sum_by (entry_history_values draft.old.parts.run.dt) entries.now ≤ MOST_HISTORY_VALUES }
+    ensures ok { IfOk result
+        (λ total. draft.new.parts ≡ fold (with_extra variables.now.keys points.now) draft.old.parts entries.now) }
     ensures history { IfOk result (λ total. history_values_of draft.new.parts ≡ history_values_of draft.old.parts + total) }
     ensures err { IfErr result IsWant }
 {
@@ -320,7 +327,12 @@ pub(crate) fn add_tacs_sources(
     requires switches { length switches.now ≡ length filling.old.draft.parts.switches }
     requires cards { All IsTacsSourceCard cards.now }
     requires sensible { All (IsSensibleTacsSource filling.old.nodes.keys switches.now filling.old.variables.keys) cards.now }
-    ensures ok { OnOk result (filling.new.draft.parts ≡ record filling.old.draft.parts { tacs_sources = map (tacs_source_of filling.old.nodes.keys switches.now filling.old.variables.keys) cards.now }) }
+    ensures ok { OnOk result
+        (filling.new.draft.parts
+        ≡ record filling.old.draft.parts {
+          tacs_sources = map (tacs_source_of filling.old.nodes.keys switches.now filling.old.variables.keys)
+              cards.now;
+        }) }
     ensures asked { filling.new.asked ≡ filling.old.asked }
     ensures err { IfErr result IsWant }
 {

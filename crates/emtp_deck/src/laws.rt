@@ -32,5 +32,6 @@ pub fn blanks_at_ends_do_not_matter()
 ///
 /// The limit of a file's bytes, which counts each CR, is judged before the lines are: see `size_fault` of emtp_card.
 pub fn returns_do_not_matter()
-    ensures { (before after : List ℕ) → without_return before ≡ before → deck_of (lines_of (before ++ 13 ∷ 10 ∷ after)) ≡ deck_of (lines_of (before ++ 10 ∷ after)) }
+    ensures { (before after : List ℕ) → without_return before ≡ before
+        → deck_of (lines_of (before ++ 13 ∷ 10 ∷ after)) ≡ deck_of (lines_of (before ++ 10 ∷ after)) }
 {}

@@ -52,7 +52,8 @@ fn fill(filling: &mut Filling, deck: &Deck) -> Result<(), Refused>
 fn add_channels(draft: &mut Draft, channels: &[Channel]) -> Result<(), Refused>
     requires room { length draft.old.parts.channels + length channels.now ≤ MOST_CHANNELS }
     requires fits { All (IsChannel (sizes_of draft.old.parts)) channels.now }
-    requires stored { (length draft.old.parts.channels + length channels.now) * samples_of draft.old.parts.run ≤ MOST_STORED_VALUES }
+    requires stored { (length draft.old.parts.channels + length channels.now) * samples_of draft.old.parts.run
+        ≤ MOST_STORED_VALUES }
     ensures ok { OnOk result (draft.new.parts ≡ record draft.old.parts { channels = draft.old.parts.channels ++ channels.now }) }
     ensures err { IfErr result IsWant }
 {

@@ -98,7 +98,8 @@ fn add_switch(filling: &mut Filling, card: &SwitchCard) -> Result<(), Refused>
     requires room { length filling.old.draft.parts.switches < MOST_SWITCHES }
     requires asked { count_asked filling.old.asked + switch_channel_count card.now.asked ≤ MOST_CHANNELS }
     requires control { IsKnown filling.old.variables.keys card.now.control }
-    requires ends { AreEnds (length filling.old.draft.parts.nodes) (node_number filling.old.nodes.keys card.now.from) (node_number filling.old.nodes.keys card.now.to) }
+    requires ends { AreEnds (length filling.old.draft.parts.nodes) (node_number filling.old.nodes.keys card.now.from)
+        (node_number filling.old.nodes.keys card.now.to) }
     ensures ok { OnOk result (made_of filling.new ≡ with_switch (made_of filling.old) card.now) }
     ensures err { IfErr result IsWant }
     ensures filling { OnOk result (IsFilling filling.new) }

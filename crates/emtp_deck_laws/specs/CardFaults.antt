@@ -60,7 +60,9 @@ device_faults variables at next history card =
     ∷ []
 
 abbrev pub formula_faults : List (List ℕ) → ℕ → ℕ → FormulaCard → List (Option Fault)
-formula_faults variables at next card = too_many (nat_le MOST_CONTROL_CARDS at) 1 ∷ second_sense variables next card.name ∷ names_sense variables card.parsed.names ∷ []
+formula_faults variables at next card =
+    too_many (nat_le MOST_CONTROL_CARDS at) 1 ∷ second_sense variables next card.name
+    ∷ names_sense variables card.parsed.names ∷ []
 
 -- ---- the network
 
@@ -110,11 +112,13 @@ asking_variable m None = m
 asking_variable m (Some channel) = record m { asked = record m.asked { variables = m.asked.variables ++ channel ∷ [] } }
 
 -- names of six columns each, from a column on, of which blank ones are none; each is a channel, and is asked for
-abbrev pub names_faults : (Parts → List ℕ → Option Channel) → (Made → Option Channel → Made) → Made → ℕ → List (Option (List ℕ)) → List (Option Fault)
+abbrev pub names_faults : (Parts → List ℕ → Option Channel) → (Made → Option Channel → Made) → Made → ℕ
+    → List (Option (List ℕ)) → List (Option Fault)
 names_faults channel asking m column [] = []
 names_faults channel asking m column (None ∷ names) = names_faults channel asking m (column + 6) names
 names_faults channel asking m column (Some name ∷ names) =
-    name_fault m.asked column (channel m.parts name) ∷ names_faults channel asking (asking m (channel m.parts name)) (column + 6) names
+    name_fault m.asked column (channel m.parts name)
+    ∷ names_faults channel asking (asking m (channel m.parts name)) (column + 6) names
 
 abbrev pub output_faults : Made → OutputCard → List (Option Fault)
 output_faults m AllNodes = too_many (no_room m.asked (length m.parts.nodes)) 1 ∷ []
@@ -125,7 +129,8 @@ output_faults m (Names names) = names_faults channel_of_node asking_output m 3 n
 -- more stored values than a record may have
 abbrev pub samples_faults : Deck → Place → List (Option Fault)
 samples_faults deck place =
-    (if has_too_many (known_nodes deck place) (variable_names deck place) deck place then Some (record { column = 9; why = TooManySamples }) else None) ∷ []
+    (if has_too_many (known_nodes deck place) (variable_names deck place) deck place
+    then Some (record { column = 9; why = TooManySamples }) else None) ∷ []
 
 -- a file that ends before its sections do
 abbrev pub end_faults : Place → List (Option Fault)

@@ -66,7 +66,10 @@ judged_device variables at next history card = record { line = card.line; faults
 
 abbrev pub judged_extra : List (List ℕ) → ℕ → ℕ → ℕ → ExtraEntry → Judged
 judged_extra variables at next history (DeviceEntry card first count) = judged_device variables at next history card
-judged_extra variables at next history (FormulaEntry card) = record { line = card.line; faults = formula_faults variables at next card }
+judged_extra variables at next history (FormulaEntry card) = record {
+  line = card.line;
+  faults = formula_faults variables at next card;
+}
 
 -- the cards after so many, which need so many history values
 abbrev pub judged_extras : List (List ℕ) → ℤ → ℕ → ℕ → ℕ → List ExtraEntry → List Judged
@@ -128,7 +131,9 @@ made_outputs m (e ∷ es) = made_outputs (made_output m e.card) es
 
 abbrev pub judged_tacs_outputs : Made → List TacsOutputEntry → List Judged
 judged_tacs_outputs m [] = []
-judged_tacs_outputs m (e ∷ es) = record { line = e.line; faults = names_faults channel_of_variable asking_variable m 3 e.names } ∷ judged_tacs_outputs (made_names channel_of_variable asking_variable m e.names) es
+judged_tacs_outputs m (e ∷ es) =
+    record { line = e.line; faults = names_faults channel_of_variable asking_variable m 3 e.names }
+    ∷ judged_tacs_outputs (made_names channel_of_variable asking_variable m e.names) es
 
 abbrev pub made_tacs_outputs : Made → List TacsOutputEntry → Made
 made_tacs_outputs m [] = m
@@ -142,15 +147,22 @@ judged_first m card =
 
 abbrev pub judged_second : Made → BranchCard → BranchCard → Judged
 judged_second m zero' positive =
-    record { line = positive.line; faults = branch_faults m.parts.nodes (second_counts m zero' positive) positive (values_behind m.parts positive) }
+    record {
+      line = positive.line;
+      faults = branch_faults m.parts.nodes (second_counts m zero' positive) positive (values_behind m.parts positive);
+    }
 
 abbrev pub judged_third : Made → BranchCard → BranchCard → BranchCard → Judged
 judged_third m zero' positive third =
-    record { line = third.line; faults = branch_faults m.parts.nodes (with_counts (second_counts m zero' positive) third 0) third OwnValues }
+    record {
+      line = third.line;
+      faults = branch_faults m.parts.nodes (with_counts (second_counts m zero' positive) third 0) third OwnValues;
+    }
 
 abbrev pub judged_entry : Made → BranchEntry → List Judged
 judged_entry m (Single card first count) = judged_first m card ∷ []
-judged_entry m (Trio zero' positive third) = judged_first m zero' ∷ judged_second m zero' positive ∷ judged_third m zero' positive third ∷ []
+judged_entry m (Trio zero' positive third) =
+    judged_first m zero' ∷ judged_second m zero' positive ∷ judged_third m zero' positive third ∷ []
 
 abbrev pub judged_branches : List Point → Made → List BranchEntry → List Judged
 judged_branches points m [] = []
@@ -171,7 +183,8 @@ judged_cut_branches m other = []
 
 abbrev pub judged_switches : Made → List SwitchCard → List Judged
 judged_switches m [] = []
-judged_switches m (card ∷ cards) = record { line = card.line; faults = switch_faults m card } ∷ judged_switches (with_switch m card) cards
+judged_switches m (card ∷ cards) =
+    record { line = card.line; faults = switch_faults m card } ∷ judged_switches (with_switch m card) cards
 
 abbrev pub made_switches : Made → List SwitchCard → Made
 made_switches m [] = m
@@ -180,7 +193,8 @@ made_switches m (card ∷ cards) = made_switches (with_switch m card) cards
 abbrev pub judged_sources : Made → List SourceCard → List Judged
 judged_sources m [] = []
 judged_sources m (card ∷ cards) =
-    record { line = card.line; faults = source_faults m card } ∷ judged_sources (with_source m card (find_node m.parts.nodes card.name)) cards
+    record { line = card.line; faults = source_faults m card }
+    ∷ judged_sources (with_source m card (find_node m.parts.nodes card.name)) cards
 
 abbrev pub made_sources : Made → List SourceCard → Made
 made_sources m [] = m
@@ -222,4 +236,5 @@ judged_cards lines deck place =
     record { line = deck.second; faults = samples_faults deck place }
     ∷ (judged_control nodes variables deck place
     ++ judged_sections (case_nodes nodes) variables deck
-    ++ (judged_cut_branches (made_of_all (case_nodes nodes) variables deck) place ++ record { line = lines + 1; faults = end_faults place } ∷ []))
+    ++ (judged_cut_branches (made_of_all (case_nodes nodes) variables deck) place
+    ++ record { line = lines + 1; faults = end_faults place } ∷ []))

@@ -20,4 +20,5 @@ pub record HaveSameTexts (narrow wide : List ℕ) : Type 0 where
 -- where the one is read as a series branch's card, so is the other, as the same card
 abbrev pub IsReadAlike : List ℕ → Bool → List ℕ → Bool → Type 0
 IsReadAlike one is_wide other other_is_wide =
-    (number : ℕ) (dt : ℤ) (card : BranchCard) → kind_field one ≡ Ok SeriesKind → fields_of number one dt is_wide ≡ Ok card → fields_of number other dt other_is_wide ≡ Ok card
+    (number : ℕ) (dt : ℤ) (card : BranchCard) → kind_field one ≡ Ok SeriesKind
+    → fields_of number one dt is_wide ≡ Ok card → fields_of number other dt other_is_wide ≡ Ok card

@@ -18,5 +18,6 @@ pub fn accepted_decks_are_cases()
 
 /// Two decks of the same listing are the same case, where the numbers of their lines are below 2^32.
 pub fn decks_of_one_listing_are_one_case()
-    ensures { (xs ys : List (List ℕ)) (p q : Parts) → deck_of xs ≡ Ok p → deck_of ys ≡ Ok q → FitsTypes p → FitsTypes q → listing p ≡ listing q → AreSame p q }
+    ensures { (xs ys : List (List ℕ)) (p q : Parts) → deck_of xs ≡ Ok p → deck_of ys ≡ Ok q → FitsTypes p
+        → FitsTypes q → listing p ≡ listing q → AreSame p q }
 {}

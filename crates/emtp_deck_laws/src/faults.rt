@@ -16,13 +16,21 @@ ghost use Rattle.emtp_walk.specs.declared.deck.Place.TheVariants.{Begin};
 /// reason: one card has it, and no card has one that comes before it. A file whose cards have no fault is a case. The cards
 /// are judged in the order of their lines, the second miscellaneous card first and the end of the file last.
 pub fn the_fault_is_the_least()
-    ensures order { (lines : List (List ℕ)) (deck : Deck) (place : Place) → walk 1 empty_deck Begin lines ≡ Ok (deck, place) → Rises deck.second (map (λ (card : Judged). card.line) (judged_cards (length lines) deck place)) (length lines + 2) }
-    ensures refused { (lines : List (List ℕ)) (deck : Deck) (place : Place) (bad : Bad) → walk 1 empty_deck Begin lines ≡ Ok (deck, place) → deck_of lines ≡ Err bad → IsLeastAmong (judged_cards (length lines) deck place) bad }
-    ensures accepted { (lines : List (List ℕ)) (deck : Deck) (place : Place) (case : Parts) (bad : Bad) → walk 1 empty_deck Begin lines ≡ Ok (deck, place) → deck_of lines ≡ Ok case → ¬ IsFaultAmong (judged_cards (length lines) deck place) bad }
+    ensures order { (lines : List (List ℕ)) (deck : Deck) (place : Place)
+        → walk 1 empty_deck Begin lines ≡ Ok (deck, place)
+        → Rises deck.second (map (λ (card : Judged). card.line) (judged_cards (length lines) deck place))
+        (length lines + 2) }
+    ensures refused { (lines : List (List ℕ)) (deck : Deck) (place : Place) (bad : Bad)
+        → walk 1 empty_deck Begin lines ≡ Ok (deck, place) → deck_of lines ≡ Err bad
+        → IsLeastAmong (judged_cards (length lines) deck place) bad }
+    ensures accepted { (lines : List (List ℕ)) (deck : Deck) (place : Place) (case : Parts) (bad : Bad)
+        → walk 1 empty_deck Begin lines ≡ Ok (deck, place) → deck_of lines ≡ Ok case
+        → ¬ IsFaultAmong (judged_cards (length lines) deck place) bad }
 {}
 
 /// Lines behind a card that can't be read don't matter: where the lines of a file as far as one of them are refused, so is
 /// the file, whatever comes behind within the limits of a file's lines and bytes.
 pub fn lines_behind_a_fault_do_not_matter()
-    ensures { (front behind : List (List ℕ)) (bad : Bad) → walk 1 empty_deck Begin front ≡ Err bad → deck_of (front ++ behind) ≡ Err bad }
+    ensures { (front behind : List (List ℕ)) (bad : Bad) → walk 1 empty_deck Begin front ≡ Err bad
+        → deck_of (front ++ behind) ≡ Err bad }
 {}

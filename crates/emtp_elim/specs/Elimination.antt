@@ -46,7 +46,8 @@ unknown rows right k later =
 -- the last n unknowns of a triangular system, from the last row back
 unfoldable pub last_unknowns : Matrix → List ℤ → ℕ → List ℤ
 last_unknowns rows right zero = []
-last_unknowns rows right (suc n) = unknown rows right (length rows - suc n) (last_unknowns rows right n) ∷ last_unknowns rows right n
+last_unknowns rows right (suc n) =
+    unknown rows right (length rows - suc n) (last_unknowns rows right n) ∷ last_unknowns rows right n
 
 -- all unknowns
 abbrev pub solution : Matrix → List ℤ → List ℤ

@@ -17,7 +17,8 @@ each_below (suc n) p = p n && each_below n p
 
 -- no entry of row i leaves its range once k columns have been cleared: each from column k on
 abbrev pub is_stage_in_range : Matrix → ℕ → ℕ → Bool
-is_stage_in_range rows i k = each_below (length (row_of rows i)) (λ j. nat_lt j k || is_within LARGEST_ENTRY (entry (stage rows k) i j))
+is_stage_in_range rows i k =
+    each_below (length (row_of rows i)) (λ j. nat_lt j k || is_within LARGEST_ENTRY (entry (stage rows k) i j))
 
 abbrev pub is_ratio_in_range : Matrix → ℕ → ℕ → Bool
 is_ratio_in_range rows i k = is_within LARGEST_RATIO (ratio (stage rows k) k i)

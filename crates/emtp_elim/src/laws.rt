@@ -19,7 +19,8 @@ pub fn finished_rows_stay()
 
 /// The least faulty row of a matrix ends each system with it.
 pub fn row_fault_ends_systems()
-    ensures { (rows : Matrix) (right : List ℤ) (fault : RowFault) → IsRowFault rows fault.row fault.cause → outcome rows right ≡ Err (PlainFault.Row fault) }
+    ensures { (rows : Matrix) (right : List ℤ) (fault : RowFault) → IsRowFault rows fault.row fault.cause
+        → outcome rows right ≡ Err (PlainFault.Row fault) }
 {}
 
 /// Elimination is odd in the right side: the opposite right sides give the opposite unknowns, to the last digit, and a system

@@ -55,7 +55,8 @@ pub fn store_next(
     requires room { extent.diagonal < length work.now }
     requires finished { IsFinishedRow (length work.now) extent.diagonal work.now }
     ensures stored { AreStored (length work.now) (extent.diagonal + 1) starts.new pivots.new columns.new values.new words.new }
-    ensures rows { rows_kept (length work.now) (extent.diagonal + 1) starts.new columns.new values.new ≡ rows_kept (length work.now) extent.diagonal starts.old columns.old values.old ++ work.now ∷ [] }
+    ensures rows { rows_kept (length work.now) (extent.diagonal + 1) starts.new columns.new values.new
+        ≡ rows_kept (length work.now) extent.diagonal starts.old columns.old values.old ++ work.now ∷ [] }
 {
     let count = extent.diagonal;
     let pivot = pack(work, extent.first, count, columns, values, starts[count]);

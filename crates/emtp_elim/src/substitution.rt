@@ -23,8 +23,12 @@ fn reduced(right: &[i128], i: usize, row: FinishedRow<'_>) -> Option<i128>
     requires row { IsRow (length right.now) i row }
     requires before { (k : ℕ) → k < i → unsigned_abs (item right.now k) ≤ LARGEST_VALUE }
     ensures value { IfSome result (λ v. v ≡ partial_right (item right.now i) (numbers (length right.now) row.entry) right.now i) }
-    ensures within { OnSome result ((k : ℕ) → k ≤ i → unsigned_abs (partial_right (item right.now i) (numbers (length right.now) row.entry) right.now k) ≤ LARGEST_VALUE) }
-    ensures out { IfNone result ((k : ℕ) × (k ≤ i) × (LARGEST_VALUE < unsigned_abs (partial_right (item right.now i) (numbers (length right.now) row.entry) right.now k))) }
+    ensures within { OnSome result
+        ((k : ℕ) → k ≤ i → unsigned_abs
+        (partial_right (item right.now i) (numbers (length right.now) row.entry) right.now k) ≤ LARGEST_VALUE) }
+    ensures out { IfNone result
+        ((k : ℕ) × (k ≤ i) × (LARGEST_VALUE
+        < unsigned_abs (partial_right (item right.now i) (numbers (length right.now) row.entry) right.now k))) }
 {
     if right[i].unsigned_abs() > LARGEST_VALUE {
         return None;
@@ -47,8 +51,11 @@ pub fn reduce_right(done: &SparseRows, right: &mut [i128]) -> Result<(), SolveFa
     requires full { length done.now.rows ≡ done.now.size }
     requires size { length right.old ≡ done.now.size }
     ensures within { OnOk result (AreWithin LARGEST_VALUE right.new) }
-    ensures reduced { OnOk result ((rows : Matrix) → AreAllFinished rows done.now.rows → AreReduced rows right.old (length right.old) right.new) }
-    ensures fault { IfErr result (λ fault. (rows : Matrix) → AreAllFinished rows done.now.rows → IsRightFault rows right.old fault.row) }
+    ensures reduced { OnOk result
+        ((rows : Matrix) → AreAllFinished rows done.now.rows
+        → AreReduced rows right.old (length right.old) right.new) }
+    ensures fault { IfErr result
+        (λ fault. (rows : Matrix) → AreAllFinished rows done.now.rows → IsRightFault rows right.old fault.row) }
     ensures row { IfErr result (λ fault. fault.row < done.now.size) }
 {
     for i in 0..right.len() {
@@ -69,7 +76,8 @@ fn remainder(right: &[i128], k: usize, row: FinishedRow<'_>, x: &[i64]) -> i128
     requires row { IsRow (length x.now) k row }
     requires right { AreWithin LARGEST_VALUE right.now }
     requires found { (j : ℕ) → k < j → unsigned_abs (item x.now j) ≤ LARGEST_VALUE }
-    ensures value { result ≡ item right.now k *ℤ PICO -ℤ products (drop (k + 1) (numbers (length x.now) row.entry)) (drop (k + 1) x.now) (length x.now - (k + 1)) }
+    ensures value { result ≡ item right.now k *ℤ PICO
+        -ℤ products (drop (k + 1) (numbers (length x.now) row.entry)) (drop (k + 1) x.now) (length x.now - (k + 1)) }
     ensures bound { unsigned_abs result ≤ LARGEST_WIDE }
 {
     let mut left = right[k] * PICO;

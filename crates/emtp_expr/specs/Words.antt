@@ -32,7 +32,8 @@ dotted_words =
 -- the first word of a table with which a text begins
 abbrev pub begun_with : List (List ℕ × Word) → List ℕ → Option Taken
 begun_with [] text = None
-begun_with (entry ∷ table) text = if starts_with nat_eq text entry.0 then Some (taken entry.1 (length entry.0)) else begun_with table text
+begun_with (entry ∷ table) text =
+    if starts_with nat_eq text entry.0 then Some (taken entry.1 (length entry.0)) else begun_with table text
 
 -- the dotted word in front
 unfoldable pub dotted : List ℕ → Option Taken

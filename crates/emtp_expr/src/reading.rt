@@ -229,7 +229,9 @@ impl Reading {
     /// Takes the name of a variable.
     fn take_name(&mut self, names: &mut IndexSet<Name>, name: &Name) -> Result<bool, AllocError>
         requires { length names.old.keys ≤ MAX_BYTES }
-        ensures value { Takes result self.new (if wants_value self.old.expects then Some (with_value self.old (Node.Var (place_in names.old.keys name.now))) else None) }
+        ensures value { Takes result self.new
+            (if wants_value self.old.expects
+            then Some (with_value self.old (Node.Var (place_in names.old.keys name.now))) else None) }
         ensures names { IfTaken result (names.new.keys ≡ insert_key bytes_eq names.old.keys name.now) }
     {
         if !self.expects.wants_value() {

@@ -67,7 +67,8 @@ asking_lines readings lines p group = each_card (asking_in p group) readings lin
 -- card by card.
 abbrev pub lines_of_channels : List LineReading → List (List ℕ) → Parts → List ℕ
 lines_of_channels readings lines p =
-    asking_lines readings lines p NodeVoltages ++ asking_lines readings lines p BranchValues ++ asking_lines readings lines p SwitchValues
+    asking_lines readings lines p NodeVoltages ++ asking_lines readings lines p BranchValues
+    ++ asking_lines readings lines p SwitchValues
     ++ asking_lines readings lines p ControlVariables ++ asking_lines readings lines p SwitchStates
 
 -- ---- the text

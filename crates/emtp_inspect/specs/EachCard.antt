@@ -11,7 +11,8 @@ use Rattle.emtp_walk.specs.declared.kind.LineReading.{LineReading}
 abbrev pub given_from : {X : Type 0} → (ℕ → List ℕ → Kind → List X) → ℕ → List LineReading → List (List ℕ) → List X
 given_from given number readings [] = []
 given_from given number [] (line ∷ lines) = []
-given_from given number (kind ∷ readings) (line ∷ lines) = given number line kind.kind ++ given_from given (number + 1) readings lines
+given_from given number (kind ∷ readings) (line ∷ lines) =
+    given number line kind.kind ++ given_from given (number + 1) readings lines
 
 -- what all lines of a case give
 abbrev pub each_card : {X : Type 0} → (ℕ → List ℕ → Kind → List X) → List LineReading → List (List ℕ) → List X

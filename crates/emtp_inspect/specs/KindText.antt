@@ -38,4 +38,5 @@ kind_text number there kind = line_or_due number there (kind_name kind)
 -- from the line of a number on, of so many
 abbrev pub kinds_text : ℕ → ℕ → List LineReading → List ℕ
 kinds_text count number [] = []
-kinds_text count number (kind ∷ readings) = kind_text number (nat_le number count) kind.kind ++ kinds_text count (number + 1) readings
+kinds_text count number (kind ∷ readings) =
+    kind_text number (nat_le number count) kind.kind ++ kinds_text count (number + 1) readings

@@ -20,10 +20,12 @@ unfoldable pub unknown_line : List ℕ → List ℕ
 unknown_line command = codes "No command is named " ++ command ++ codes ".\n"
 
 unfoldable pub count_line : List ℕ → List ℕ → List ℕ → List ℕ
-count_line command form given = codes "Behind " ++ command ++ codes " stands " ++ form ++ codes ", and here " ++ given ++ codes ".\n"
+count_line command form given =
+    codes "Behind " ++ command ++ codes " stands " ++ form ++ codes ", and here " ++ given ++ codes ".\n"
 
 abbrev pub other_count : List ℕ → List ℕ → List ℕ
-other_count command given = if length (form_of command) == 0 then unknown_line command else count_line command (form_of command) given
+other_count command given =
+    if length (form_of command) == 0 then unknown_line command else count_line command (form_of command) given
 
 -- ---- names of files
 
@@ -34,7 +36,8 @@ unfoldable pub dash_line : List ℕ → List ℕ
 dash_line name = name ++ codes " begins with a dash, so it names no file; ./" ++ name ++ codes " does.\n"
 
 abbrev pub name_text : List ℕ → List ℕ
-name_text name = if length name == 0 then codes "A name of a file is empty.\n" else if is_odd_name name then dash_line name else []
+name_text name =
+    if length name == 0 then codes "A name of a file is empty.\n" else if is_odd_name name then dash_line name else []
 
 unfoldable pub twice_line : List ℕ → List ℕ
 twice_line name = name ++ codes " stands twice; the files have to differ.\n"
@@ -111,10 +114,13 @@ abbrev pub two_text : List ℕ → List ℕ → List ℕ → List ℕ
 two_text command a b = if bytes_eq command (codes "batch") then names_text a b else other_count command (codes "2")
 
 abbrev pub three_text : List ℕ → List ℕ → List ℕ → List ℕ → List ℕ
-three_text command a b c = if bytes_eq command (codes "run") || bytes_eq command (codes "audit") then files_text a b c else other_count command (codes "3")
+three_text command a b c =
+    if bytes_eq command (codes "run") || bytes_eq command (codes "audit") then files_text a b c
+    else other_count command (codes "3")
 
 abbrev pub scan_text : List ℕ → List ℕ → List ℕ → List ℕ → List ℕ → List ℕ
-scan_text command case first last by = if bytes_eq command (codes "scan") then frequencies_text case first last by else other_count command (codes "4")
+scan_text command case first last by =
+    if bytes_eq command (codes "scan") then frequencies_text case first last by else other_count command (codes "4")
 
 abbrev pub misfit_text : List (List ℕ) → List ℕ
 misfit_text [] = codes "No command is given.\n"

@@ -17,7 +17,8 @@ end_text (Err why) = []
 
 unfoldable pub first_text : ℕ → List ℕ → List ℕ
 first_text number line =
-    codes "line " ++ decimal number ++ codes ", first miscellaneous card" ++ end_text (number_field line 9 16 (pos 12) (pos 1) (pos (10 ^ 18))) ++ codes "\n"
+    codes "line " ++ decimal number ++ codes ", first miscellaneous card"
+    ++ end_text (number_field line 9 16 (pos 12) (pos 1) (pos (10 ^ 18))) ++ codes "\n"
 
 -- IOUT is 0 where it is blank, or where the line ends a section and so has blank fields
 abbrev pub print_of : Result (Option ℤ) Why → ℤ
@@ -30,7 +31,8 @@ print_text number = figure_entry (codes "IOUT") 0 [] number
 
 unfoldable pub second_text : ℕ → List ℕ → List ℕ
 second_text number line =
-    codes "line " ++ decimal number ++ codes ", second miscellaneous card, " ++ print_text (print_of (whole_field line 1 8)) ++ codes "\n"
+    codes "line " ++ decimal number ++ codes ", second miscellaneous card, "
+    ++ print_text (print_of (whole_field line 1 8)) ++ codes "\n"
 
 abbrev pub card_text : ℕ → List ℕ → Kind → List ℕ
 card_text number line FirstRun = first_text number line

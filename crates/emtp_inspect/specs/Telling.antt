@@ -54,7 +54,8 @@ listed_front lines count = listed_of (lines_text (take count lines) ++ ends_text
 abbrev pub refused_by : List (List ℕ) → Bad → Option LineReading → List ℕ
 refused_by lines bad None = card_note bad
 refused_by lines bad (Some read) =
-    (listed_front lines (read.first - 1) ++ card_note bad) ++ section_text bad.line (nat_le bad.line (length lines)) (kind_name read.kind)
+    (listed_front lines (read.first - 1) ++ card_note bad)
+    ++ section_text bad.line (nat_le bad.line (length lines)) (kind_name read.kind)
 
 abbrev pub refused_text : List LineReading → List (List ℕ) → Bad → List ℕ
 refused_text readings lines bad = refused_by lines bad (slice_get readings (bad.line - 1))
@@ -67,7 +68,8 @@ cards_text readings lines case = run_text readings lines ++ copies_text readings
 
 -- its warnings, and behind them its listing and what the cards say besides
 abbrev pub listing_text : List LineReading → List (List ℕ) → Parts → List ℕ
-listing_text readings lines case = warnings_text readings lines (warnings readings lines case) ++ listing case ++ cards_text readings lines case
+listing_text readings lines case =
+    warnings_text readings lines (warnings readings lines case) ++ listing case ++ cards_text readings lines case
 
 -- or how many these are
 abbrev pub count_text : List LineReading → List (List ℕ) → Parts → List ℕ
@@ -75,7 +77,8 @@ count_text readings lines case = decimal (length (warnings readings lines case))
 
 -- ---- the whole
 
-abbrev pub told_case : (List LineReading → List (List ℕ) → Parts → List ℕ) → List LineReading → List (List ℕ) → Result Parts Bad → Told
+abbrev pub told_case : (List LineReading → List (List ℕ) → Parts → List ℕ) → List LineReading → List (List ℕ)
+    → Result Parts Bad → Told
 told_case text readings lines (Ok case) = Answer (text readings lines case)
 told_case text readings lines (Err bad) = Refusal (refused_text readings lines bad)
 

@@ -17,7 +17,8 @@ use std::alloc::Global;
 /// was read is told with its warnings, or, behind the word `--count`, how many warnings there are. The status is Done where
 /// it is a case, BadCard where a card is refused, and Usage where the words don't fit.
 pub fn inspect<C: Cabinet>(alloc: Global, words: &[String], cabinet: &mut C) -> Status
-    ensures { Inspects (asked (texts words.now)) (explained (texts words.now)) result (C.state cabinet.old) (C.state cabinet.new) }
+    ensures { Inspects (asked (texts words.now)) (explained (texts words.now)) result (C.state cabinet.old)
+        (C.state cabinet.new) }
 {
     match read_words(words) {
         Some((wanted, name)) => show(alloc, wanted, name, cabinet),

@@ -27,7 +27,12 @@ HasTwoPolesAlone case = All (λ (x : Branch). is_two_pole x ≡ true) case.branc
 
 -- the same line seen from its other end
 abbrev pub reversed_line : LineState → LineState
-reversed_line s = record { from_current = s.to_current; to_current = s.from_current; from_wave = s.to_wave; to_wave = s.from_wave }
+reversed_line s = record {
+  from_current = s.to_current;
+  to_current = s.from_current;
+  from_wave = s.to_wave;
+  to_wave = s.from_wave;
+}
 
 -- the same series branch, put in the other way round
 abbrev pub reversed_series : Lumped → Lumped
@@ -47,7 +52,8 @@ excess_voltage x v s = pos (10 ^ 6) *ℤ v -ℤ (x.r *ℤ s.current +ℤ pos (10
 abbrev pub AddsUpDrops : ℤ → Lumped → LumpedState → ℤ → LumpedState → Type 0
 AddsUpDrops dt x old v new =
     let z = unsigned_abs (series_impedance dt x.r x.l x.c) in
-    2 * 10 ^ 12 * unsigned_abs (excess_voltage x v new) ≤ 3 * 10 ^ 18 + 2 * 10 ^ 12 * z + z * (unsigned_abs v + unsigned_abs old.history_voltage)
+    2 * 10 ^ 12 * unsigned_abs (excess_voltage x v new)
+    ≤ 3 * 10 ^ 18 + 2 * 10 ^ 12 * z + z * (unsigned_abs v + unsigned_abs old.history_voltage)
 
 -- the history voltage that a record keeps is that of its current and of its two other voltages
 abbrev pub HasItsHistoryVoltage : Companion → LumpedState → Type 0
@@ -77,7 +83,8 @@ phase_histories m first past = (phase_from_history m first past, phase_to_histor
 -- no history current of a phase exceeds the greatest waves of both kinds but for 2 nA of rounding
 abbrev pub DoesNotAmplify : Modes → Type 0
 DoesNotAmplify m =
-    (first past : List PhaseState) (zero_limit limit : ℕ) → ArePhaseWavesWithin zero_limit limit first past → AreHistoriesWithin (zero_limit + limit + 2) (phase_histories m first past)
+    (first past : List PhaseState) (zero_limit limit : ℕ) → ArePhaseWavesWithin zero_limit limit first past
+    → AreHistoriesWithin (zero_limit + limit + 2) (phase_histories m first past)
 
 -- the branch at place b is this resistor: it has neither inductance nor capacitance
 pub record IsResistorAt (case : Parts) (b : ℕ) (x : Lumped) : Type 0 where

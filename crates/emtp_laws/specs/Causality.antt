@@ -32,8 +32,10 @@ in_control case step measured s = record { variable = s.node; value = source_val
 -- measured.
 pub record DifferAfter (n : ℕ) (case other : Parts) : Type 0 where
   pub else_same : other ≡ record case { sources = other.sources; tacs_sources = other.tacs_sources }
-  pub network : (k : ℕ) → 1 ≤ k → k ≤ n → (variables : List ℤ) → map (in_network case.run k variables) other.sources ≡ map (in_network case.run k variables) case.sources
-  pub control : (k : ℕ) → 1 ≤ k → k ≤ n → (measured : Measured) → map (in_control case k measured) other.tacs_sources ≡ map (in_control case k measured) case.tacs_sources
+  pub network : (k : ℕ) → 1 ≤ k → k ≤ n → (variables : List ℤ)
+      → map (in_network case.run k variables) other.sources ≡ map (in_network case.run k variables) case.sources
+  pub control : (k : ℕ) → 1 ≤ k → k ≤ n → (measured : Measured)
+      → map (in_control case k measured) other.tacs_sources ≡ map (in_control case k measured) case.tacs_sources
 
 -- the end of a source that comes before a time; one that comes at it or later hasn't come
 abbrev pub stop_before : ℤ → Option ℤ → Option ℤ
@@ -56,4 +58,6 @@ AgreeUpto n case other = (k : ℕ) → k ≤ n → history_upto other k ≡ hist
 
 -- the samples of the other run begin with those of the case up to each step as far as step n
 abbrev pub SamplesAgreeUpto : ℕ → Parts → Parts → Type 0
-SamplesAgreeUpto n case other = (k : ℕ) → k ≤ n → k ≤ case.run.steps → BeginsWith (samples other (history other)) (samples case (history_upto case k))
+SamplesAgreeUpto n case other =
+    (k : ℕ) → k ≤ n → k ≤ case.run.steps
+    → BeginsWith (samples other (history other)) (samples case (history_upto case k))

@@ -38,7 +38,8 @@ measured_in r = record { voltages = r.voltages; currents = r.switch_currents; cl
 pub record KeepsLimits (case : Parts) (past : List StepRecord) (r : StepRecord) (b : Block) : Type 0 where
   pub known : SoFar
   pub is : known_before case past (measured_in r) ≡ Ok known
-  pub within : AreOrderedLimits (limit_of known.values b.low) (limit_of known.values b.high) → IsWithinLimits (limit_of known.values b.low) (limit_of known.values b.high) (item r.values b.var)
+  pub within : AreOrderedLimits (limit_of known.values b.low) (limit_of known.values b.high)
+      → IsWithinLimits (limit_of known.values b.low) (limit_of known.values b.high) (item r.values b.var)
 
 -- so do those of all blocks in the last record of a run, after the ones before it; in record 0 all is 0
 abbrev pub AreLimitsKept : Parts → List StepRecord → Type 0
@@ -49,7 +50,9 @@ AreLimitsKept case (r ∷ s ∷ past) = (i : ℕ) (b : Block) → slice_get case
 -- Over a step, number j + 1 of a block's chain rises by what number j is more than the error of power j, at the beginning and at
 -- the end of the step; number 0 is 0.
 abbrev pub RisesByTheRule : BlockState → ℕ → BlockState → Type 0
-RisesByTheRule old j new = chain_number new.chain (suc j) -ℤ chain_number old.chain (suc j) ≡ (chain_number new.chain j -ℤ item new.errors j) +ℤ (chain_number old.chain j -ℤ item old.errors j)
+RisesByTheRule old j new =
+    chain_number new.chain (suc j) -ℤ chain_number old.chain (suc j)
+    ≡ (chain_number new.chain j -ℤ item new.errors j) +ℤ (chain_number old.chain j -ℤ item old.errors j)
 
 -- no limit changes the output of a step
 abbrev pub IsUnchanged : ℤ → Block → List ℤ → BlockState → ℤ → ℤ → Type 0
@@ -57,7 +60,9 @@ IsUnchanged dt b known old solved s = output_of (limits_of known b) old.limiter 
 
 -- number j + 1 of a block's chain goes by the rule in each step; the last one where no limit changes the output
 abbrev pub GoesByTheRule : ℤ → Block → ℕ → Type 0
-GoesByTheRule dt b j = (known : List ℤ) (old : BlockState) (solved s : ℤ) → (suc j ≡ b.order → IsUnchanged dt b known old solved s) → IfSome (next_state dt b (limits_of known b) old solved s) (RisesByTheRule old j)
+GoesByTheRule dt b j =
+    (known : List ℤ) (old : BlockState) (solved s : ℤ) → (suc j ≡ b.order → IsUnchanged dt b known old solved s)
+    → IfSome (next_state dt b (limits_of known b) old solved s) (RisesByTheRule old j)
 
 -- A block that no other one reaches within a step: it is at a limit, or none of its inputs is the output of a block.
 abbrev pub StandsAlone : Parts → Block → Limiter → Type 0
@@ -71,4 +76,7 @@ solved_output case H known i = item (solution (matrix case H) (right case H know
 
 -- the block at place i has the output of its card, where it stands alone: k s + h, or its limit
 abbrev pub IsExactAlone : Parts → List StepRecord → List ℤ → ℕ → Type 0
-IsExactAlone case H known i = (b : Block) → slice_get case.blocks i ≡ Some b → StandsAlone case b (state_at H i).limiter → solved_output case H known i ≡ held (limits_of known b) (state_at H i).limiter (free_right case known (state_at H i) b)
+IsExactAlone case H known i =
+    (b : Block) → slice_get case.blocks i ≡ Some b → StandsAlone case b (state_at H i).limiter
+    → solved_output case H known i
+    ≡ held (limits_of known b) (state_at H i).limiter (free_right case known (state_at H i) b)

@@ -57,10 +57,20 @@ pub record HasNoSign (case : Parts) : Type 0 where
 -- ---- records
 
 abbrev pub mirrored_lumped : LumpedState → LumpedState
-mirrored_lumped s = record { current = neg_ℤ s.current; v_l = neg_ℤ s.v_l; v_c = neg_ℤ s.v_c; history_voltage = neg_ℤ s.history_voltage }
+mirrored_lumped s = record {
+  current = neg_ℤ s.current;
+  v_l = neg_ℤ s.v_l;
+  v_c = neg_ℤ s.v_c;
+  history_voltage = neg_ℤ s.history_voltage;
+}
 
 abbrev pub mirrored_line : LineState → LineState
-mirrored_line s = record { from_current = neg_ℤ s.from_current; to_current = neg_ℤ s.to_current; from_wave = neg_ℤ s.from_wave; to_wave = neg_ℤ s.to_wave }
+mirrored_line s = record {
+  from_current = neg_ℤ s.from_current;
+  to_current = neg_ℤ s.to_current;
+  from_wave = neg_ℤ s.from_wave;
+  to_wave = neg_ℤ s.to_wave;
+}
 
 abbrev pub mirrored_phase : PhaseState → PhaseState
 mirrored_phase s = record {
@@ -80,7 +90,11 @@ mirrored_branch (PhaseBranch s) = PhaseBranch (mirrored_phase s)
 
 -- the states of the switches and what the control keeps stay
 abbrev pub mirrored_record : StepRecord → StepRecord
-mirrored_record r = record r { voltages = opposites r.voltages; branches = map mirrored_branch r.branches; switch_currents = opposites r.switch_currents }
+mirrored_record r = record r {
+  voltages = opposites r.voltages;
+  branches = map mirrored_branch r.branches;
+  switch_currents = opposites r.switch_currents;
+}
 
 abbrev pub mirrored_records : List StepRecord → List StepRecord
 mirrored_records H = map mirrored_record H
@@ -109,7 +123,11 @@ without_control H = map bare H
 
 -- the network's part of a record
 abbrev pub mirrored_part : NetworkPart → NetworkPart
-mirrored_part p = record p { voltages = opposites p.voltages; branches = map mirrored_branch p.branches; switch_currents = opposites p.switch_currents }
+mirrored_part p = record p {
+  voltages = opposites p.voltages;
+  branches = map mirrored_branch p.branches;
+  switch_currents = opposites p.switch_currents;
+}
 
 -- a fault stays the same: its node, its cause, and what was measured, which is a magnitude
 abbrev pub mirrored_step : Result NetworkPart NetFault → Result NetworkPart NetFault

@@ -18,7 +18,8 @@ use Rattle.emtp_switch.specs.States.{next_states}
 -- both ends of each closed switch have the same voltage, to the last digit
 abbrev pub JoinEnds : Parts → List SwitchState → List ℤ → Type 0
 JoinEnds case states voltages =
-    (s : ℕ) → s < length case.switches → is_closed_at states s ≡ true → item voltages (from_at case.switches s) ≡ item voltages (to_at case.switches s)
+    (s : ℕ) → s < length case.switches → is_closed_at states s ≡ true
+    → item voltages (from_at case.switches s) ≡ item voltages (to_at case.switches s)
 
 -- the node of each voltage source has its value in the step after the records, to the last digit
 abbrev pub KeepSources : Parts → List StepRecord → List ℤ → Type 0
@@ -36,7 +37,9 @@ labels_next case H = labels_of case.switches (order_of case) (next_states case H
 
 -- each node that closed switches join to ground in the step after the records, through other nodes too, is exactly at 0
 abbrev pub KeepsGround : Parts → List StepRecord → List ℤ → Type 0
-KeepsGround case H voltages = (n : ℕ) → n ≤ length case.nodes → slice_index (labels_next case H) n ≡ slice_index (labels_next case H) 0 → item voltages n ≡ pos 0
+KeepsGround case H voltages =
+    (n : ℕ) → n ≤ length case.nodes → slice_index (labels_next case H) n ≡ slice_index (labels_next case H) 0
+    → item voltages n ≡ pos 0
 
 -- the same in the last record of a run, after the ones before it; in record 0 all is 0
 abbrev pub IsGroundKept : Parts → List StepRecord → Type 0
@@ -53,7 +56,8 @@ root_next case H m = root_of (order_of case) (labels_next case H) m
 -- no closed switches join node n to ground or to a node with a voltage source in the step after the records
 pub record HasUnknownVoltage (case : Parts) (H : List StepRecord) (n : ℕ) : Type 0 where
   pub off_ground : slice_index (labels_next case H) 0 ≢ slice_index (labels_next case H) n
-  pub off_sources : (m : ℕ) → 1 ≤ m → m ≤ length case.nodes → has_source case m ≡ true → slice_index (labels_next case H) m ≢ slice_index (labels_next case H) n
+  pub off_sources : (m : ℕ) → 1 ≤ m → m ≤ length case.nodes → has_source case m ≡ true
+      → slice_index (labels_next case H) m ≢ slice_index (labels_next case H) n
 
 -- the current that leaves node n in the step after the records: through branches, less what current sources bring, and through
 -- switches
@@ -63,7 +67,8 @@ leaving_node case H part n = leaving case H part.branches n +ℤ through_switche
 -- Kirchhoff's current law: what leaves a node of unknown voltage is 0 within the tolerance, and exactly 0 at each node but the
 -- root of its group
 pub record HoldsCurrentLaw (case : Parts) (H : List StepRecord) (part : NetworkPart) : Type 0 where
-  pub within : (n : ℕ) → 1 ≤ n → n ≤ length case.nodes → HasUnknownVoltage case H n → unsigned_abs (leaving_node case H part n) ≤ unsigned_abs case.run.tolerance
+  pub within : (n : ℕ) → 1 ≤ n → n ≤ length case.nodes → HasUnknownVoltage case H n
+      → unsigned_abs (leaving_node case H part n) ≤ unsigned_abs case.run.tolerance
   pub exact : (n : ℕ) → 1 ≤ n → n ≤ length case.nodes → n ≢ root_next case H n → leaving_node case H part n ≡ pos 0
 
 -- the same in the last record of a run, after the ones before it

@@ -24,7 +24,9 @@ reversed_phases (Err out) = Err out
 
 -- with the voltages of its ends exchanged each phase has at each end what it had at the other
 abbrev pub AnswersReversed : Modes → Type 0
-AnswersReversed m = (past : ℕ → List PhaseState) (v w : List ℤ) → next_phases m (λ p. map reversed_phase (past p)) w v ≡ reversed_phases (next_phases m past v w)
+AnswersReversed m =
+    (past : ℕ → List PhaseState) (v w : List ℤ)
+    → next_phases m (λ p. map reversed_phase (past p)) w v ≡ reversed_phases (next_phases m past v w)
 
 -- a new number of the phases: which phase of before each of them is
 pub record Renumbering : Type 0 where
@@ -53,8 +55,10 @@ pub record KeepsRenumbered (n : Renumbering) (past new : ℕ → List PhaseState
 -- those history currents; the wave of the zero sequence belongs to no phase.
 pub record AnswersRenumbered (n : Renumbering) (m : Modes) (before new v : List ℤ) : Type 0 where
   pub currents : phase_currents m new (renumbered n v) ≡ renumbered n (phase_currents m before v)
-  pub waves : phase_waves m (renumbered n v) (phase_currents m new (renumbered n v)) ≡ renumbered n (phase_waves m v (phase_currents m before v))
-  pub zero_sequence : zero_wave m (renumbered n v) (phase_currents m new (renumbered n v)) ≡ zero_wave m v (phase_currents m before v)
+  pub waves : phase_waves m (renumbered n v) (phase_currents m new (renumbered n v))
+      ≡ renumbered n (phase_waves m v (phase_currents m before v))
+  pub zero_sequence : zero_wave m (renumbered n v) (phase_currents m new (renumbered n v))
+      ≡ zero_wave m v (phase_currents m before v)
 
 -- so do both ends in a step after these records, whatever their voltages are
 pub record AnswersAtBothEnds (n : Renumbering) (m : Modes) (past new : ℕ → List PhaseState) : Type 0 where

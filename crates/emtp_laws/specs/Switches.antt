@@ -29,8 +29,11 @@ abbrev pub OpensBreakersRightly : Parts → List StepRecord → Type 0
 OpensBreakersRightly case [] = Unit {0}
 OpensBreakersRightly case (r ∷ []) = Unit {0}
 OpensBreakersRightly case (r ∷ s ∷ past) =
-    (k : ℕ) (close : ℤ) (open_at : Option ℤ) (margin : ℤ) → (switch_at case.switches k).kind ≡ Time close open_at margin → switch_state_at k s ≡ Closed → switch_state_at k r ≡ Opened
-    → MayOpen open_at (time_of case.run (length (s ∷ past))) margin (switch_current_at k s) (switch_current_at k (record_back (s ∷ past) 1))
+    (k : ℕ) (close : ℤ) (open_at : Option ℤ) (margin : ℤ)
+    → (switch_at case.switches k).kind ≡ Time close open_at margin → switch_state_at k s ≡ Closed
+    → switch_state_at k r ≡ Opened
+    → MayOpen open_at (time_of case.run (length (s ∷ past))) margin (switch_current_at k s)
+    (switch_current_at k (record_back (s ∷ past) 1))
 
 -- ---- switches without a current
 

@@ -18,9 +18,18 @@ use emtp_case::Case;
 /// block that was at a limit, whatever the solved output is. And a block is only at a limit that it has, in whatever step: so
 /// in each step of a run the output lies between its limits, wherever the limiter stood before.
 pub fn outputs_lie_between_their_limits(case: &Case)
-    ensures output { (H : List StepRecord) (known xs : List ℤ) (i : ℕ) (b : Block) → slice_get case.now.parts.blocks i ≡ Some b → AreOrderedLimits (limit_of known b.low) (limit_of known b.high) → HasItsLimit (limit_of known b.low) (limit_of known b.high) (state_at H i).limiter → IsWithinLimits (limit_of known b.low) (limit_of known b.high) (output_at case.now.parts H known xs i) }
-    ensures limiter { (b : Block) (known later : List ℤ) (old : BlockState) (solved s : ℤ) → IfSome (next_state case.now.parts.run.dt b (limits_of known b) old solved s) (λ new. HasItsLimit (limit_of later b.low) (limit_of later b.high) new.limiter) }
-    ensures run { (n : ℕ) (known xs : List ℤ) (i : ℕ) (b : Block) → slice_get case.now.parts.blocks i ≡ Some b → AreOrderedLimits (limit_of known b.low) (limit_of known b.high) → IsWithinLimits (limit_of known b.low) (limit_of known b.high) (output_at case.now.parts (records_upto case.now.parts n) known xs i) }
+    ensures output { (H : List StepRecord) (known xs : List ℤ) (i : ℕ) (b : Block)
+        → slice_get case.now.parts.blocks i ≡ Some b
+        → AreOrderedLimits (limit_of known b.low) (limit_of known b.high)
+        → HasItsLimit (limit_of known b.low) (limit_of known b.high) (state_at H i).limiter
+        → IsWithinLimits (limit_of known b.low) (limit_of known b.high) (output_at case.now.parts H known xs i) }
+    ensures limiter { (b : Block) (known later : List ℤ) (old : BlockState) (solved s : ℤ)
+        → IfSome (next_state case.now.parts.run.dt b (limits_of known b) old solved s)
+        (λ new. HasItsLimit (limit_of later b.low) (limit_of later b.high) new.limiter) }
+    ensures run { (n : ℕ) (known xs : List ℤ) (i : ℕ) (b : Block) → slice_get case.now.parts.blocks i ≡ Some b
+        → AreOrderedLimits (limit_of known b.low) (limit_of known b.high)
+        → IsWithinLimits (limit_of known b.low) (limit_of known b.high)
+        (output_at case.now.parts (records_upto case.now.parts n) known xs i) }
 {}
 
 /// In each record of a run the variable of each block lies between the block's limits, where the low one is at most the high
@@ -32,7 +41,10 @@ pub fn block_variables_lie_between_their_limits(case: &Case)
 /// In each step of the control the variable of a block has the output that the blocks record: no other card writes it behind
 /// them.
 pub fn block_variables_have_their_outputs(case: &Case)
-    ensures { (H : List StepRecord) (m : Measured) (known : SoFar) (part : ControlPart) (i : ℕ) (b : Block) → length (latest H).values ≡ length case.now.parts.vars → known_before case.now.parts H m ≡ Ok known → control_step case.now.parts H m ≡ Ok part → slice_get case.now.parts.blocks i ≡ Some b → (xs : List ℤ) × (item part.values b.var ≡ output_at case.now.parts H known.values xs i) }
+    ensures { (H : List StepRecord) (m : Measured) (known : SoFar) (part : ControlPart) (i : ℕ) (b : Block)
+        → length (latest H).values ≡ length case.now.parts.vars → known_before case.now.parts H m ≡ Ok known
+        → control_step case.now.parts H m ≡ Ok part → slice_get case.now.parts.blocks i ≡ Some b
+        → (xs : List ℤ) × (item part.values b.var ≡ output_at case.now.parts H known.values xs i) }
 {}
 
 /// A block of any order goes by the trapezoidal rule in each number of its chain, and no rounding enters it: over a step a number

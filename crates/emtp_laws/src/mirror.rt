@@ -28,21 +28,27 @@ pub fn quiet_network_stays_at_rest(case: &Case)
 pub fn mirrored_run(case: &Case)
     requires plain { HasNoSign case.now.parts }
     requires control { HasNoControl case.now.parts }
-    ensures samples { samples (mirror_image case.now.parts) (history (mirror_image case.now.parts)) ≡ map (mirrored_sample case.now.parts.channels) (samples case.now.parts (history case.now.parts)) }
+    ensures samples { samples (mirror_image case.now.parts) (history (mirror_image case.now.parts))
+        ≡ map (mirrored_sample case.now.parts.channels) (samples case.now.parts (history case.now.parts)) }
     ensures records { (n : ℕ) → history_upto (mirror_image case.now.parts) n ≡ mirrored_history (history_upto case.now.parts n) }
 {}
 
 /// So has each step after the mirrored records, whatever they are; a step that ends in a fault ends in the same one.
 pub fn mirrored_step(case: &Case)
     requires plain { HasNoSign case.now.parts }
-    ensures { (H : List StepRecord) → network_part (mirror_image case.now.parts) (mirrored_records H) ≡ mirror.mirrored_step (network_part case.now.parts H) }
+    ensures { (H : List StepRecord)
+        → network_part (mirror_image case.now.parts) (mirrored_records H)
+        ≡ mirror.mirrored_step (network_part case.now.parts H) }
 {}
 
 /// With a control that the network doesn't go by, and without a valve, the network's records are mirrored as long as neither
 /// run has ended, whatever the control computes.
 pub fn mirrored_run_with_control(case: &Case)
     requires plain { HasNoSign case.now.parts }
-    ensures { (n : ℕ) → (history_upto case.now.parts n).end ≡ None → (history_upto (mirror_image case.now.parts) n).end ≡ None → without_control (records_upto (mirror_image case.now.parts) n) ≡ bare_records (records_upto case.now.parts n) }
+    ensures { (n : ℕ) → (history_upto case.now.parts n).end ≡ None
+        → (history_upto (mirror_image case.now.parts) n).end ≡ None
+        → without_control (records_upto (mirror_image case.now.parts) n)
+        ≡ bare_records (records_upto case.now.parts n) }
 {}
 
 /// A network that doesn't go by the control, and has no valve, takes the same step whatever the control keeps.

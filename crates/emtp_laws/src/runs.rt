@@ -9,14 +9,17 @@ use emtp_case::Case;
 
 /// A run of more steps begins with the same records: how many steps a case has doesn't matter for any of them.
 pub fn longer_run_begins_alike(case: &Case)
-    ensures samples { (fewer more : ℕ) → fewer ≤ more → BeginsWith (samples (with_steps more case.now.parts) (history (with_steps more case.now.parts))) (samples (with_steps fewer case.now.parts) (history (with_steps fewer case.now.parts))) }
+    ensures samples { (fewer more : ℕ) → fewer ≤ more
+        → BeginsWith (samples (with_steps more case.now.parts) (history (with_steps more case.now.parts)))
+        (samples (with_steps fewer case.now.parts) (history (with_steps fewer case.now.parts))) }
     ensures records { (steps n : ℕ) → history_upto (with_steps steps case.now.parts) n ≡ history_upto case.now.parts n }
 {}
 
 /// A run has a sample for each multiple of IPLOT up to its last step: their number is the steps made over IPLOT, whole part, and
 /// one. A run without an end makes all its steps.
 pub fn samples_are_counted(case: &Case)
-    ensures samples { length (samples case.now.parts (history case.now.parts)) ≡ steps_made case.now.parts / case.now.parts.run.every + 1 }
+    ensures samples { length (samples case.now.parts (history case.now.parts))
+        ≡ steps_made case.now.parts / case.now.parts.run.every + 1 }
     ensures steps { (history case.now.parts).end ≡ None → steps_made case.now.parts ≡ case.now.parts.run.steps }
 {}
 

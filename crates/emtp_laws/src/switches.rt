@@ -17,12 +17,18 @@ use emtp_case::Case;
 /// A breaker opens only once its opening time has come, and only where its current is within its margin or has changed its
 /// sign: in each step after whatever records, and in each record of a run.
 pub fn breaker_opens_near_zero_current(case: &Case)
-    ensures step { (H : List StepRecord) (s : ℕ) (close : ℤ) (open_at : Option ℤ) (margin : ℤ) → (switch_at case.now.parts.switches s).kind ≡ Time close open_at margin → switch_state_at s (latest H) ≡ Closed → next_state case.now.parts H s ≡ Opened → MayOpen open_at (time_of case.now.parts.run (length H)) margin (switch_current_at s (latest H)) (switch_current_at s (record_back H 1)) }
+    ensures step { (H : List StepRecord) (s : ℕ) (close : ℤ) (open_at : Option ℤ) (margin : ℤ)
+        → (switch_at case.now.parts.switches s).kind ≡ Time close open_at margin
+        → switch_state_at s (latest H) ≡ Closed → next_state case.now.parts H s ≡ Opened
+        → MayOpen open_at (time_of case.now.parts.run (length H)) margin (switch_current_at s (latest H))
+        (switch_current_at s (record_back H 1)) }
     ensures run { (n : ℕ) → OpensBreakersRightly case.now.parts (records_upto case.now.parts n) }
 {}
 
 /// An open switch has no current, and neither has a slack one, which closes a loop of closed switches.
 pub fn idle_switches_have_no_current(case: &Case)
-    ensures step { (H : List StepRecord) (part : NetworkPart) → network_part case.now.parts H ≡ Ok part → AreIdleSwitchesDead case.now.parts part.switch_states part.switch_currents }
-    ensures run { (n : ℕ) → AreIdleSwitchesDead case.now.parts (latest (records_upto case.now.parts n)).switch_states (latest (records_upto case.now.parts n)).switch_currents }
+    ensures step { (H : List StepRecord) (part : NetworkPart) → network_part case.now.parts H ≡ Ok part
+        → AreIdleSwitchesDead case.now.parts part.switch_states part.switch_currents }
+    ensures run { (n : ℕ) → AreIdleSwitchesDead case.now.parts (latest (records_upto case.now.parts n)).switch_states
+        (latest (records_upto case.now.parts n)).switch_currents }
 {}

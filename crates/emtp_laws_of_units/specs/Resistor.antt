@@ -29,10 +29,13 @@ excess_over_ohms r v i = pos (10 ^ 6) *ℤ v -ℤ r *ℤ i
 -- It is at most R times the tolerance, 0.5 nA and 0.5 pS |V|: what the sum of the currents and the current itself leave, and what
 -- the conductance rounds.
 abbrev pub HasOhmsVoltage : ℕ → ℤ → ℤ → ℤ → Type 0
-HasOhmsVoltage tolerance r v i = 2 * 10 ^ 12 * unsigned_abs (excess_over_ohms r v i) ≤ unsigned_abs r * (10 ^ 12 + 2 * 10 ^ 12 * tolerance + unsigned_abs v)
+HasOhmsVoltage tolerance r v i =
+    2 * 10 ^ 12 * unsigned_abs (excess_over_ohms r v i)
+    ≤ unsigned_abs r * (10 ^ 12 + 2 * 10 ^ 12 * tolerance + unsigned_abs v)
 
 -- so it is in the last record of a run, with the currents that the sources bring in its step; record 0 is rest
 abbrev pub ObeysOhm : Parts → ℕ → Lumped → List StepRecord → Type 0
 ObeysOhm case n x [] = Unit {0}
 ObeysOhm case n x (r ∷ []) = Unit {0}
-ObeysOhm case n x (r ∷ s ∷ past) = HasOhmsVoltage (unsigned_abs case.run.tolerance) x.r (voltage_at n r) (sources_into case (s ∷ past) n)
+ObeysOhm case n x (r ∷ s ∷ past) =
+    HasOhmsVoltage (unsigned_abs case.run.tolerance) x.r (voltage_at n r) (sources_into case (s ∷ past) n)

@@ -16,5 +16,6 @@ pub fn cosine_table_adds_up()
 /// A cosine repeats after its period, to the last digit: where its frequency in uHz times a time in ps makes whole turns of 10^18,
 /// it has the same value that time later.
 pub fn cosine_repeats_after_its_period()
-    ensures { (amplitude freq phase t later : ℤ) (k : ℕ) → freq *ℤ later ≡ pos (k * TURN) → cosine_wave amplitude freq phase (t +ℤ later) ≡ cosine_wave amplitude freq phase t }
+    ensures { (amplitude freq phase t later : ℤ) (k : ℕ) → freq *ℤ later ≡ pos (k * TURN)
+        → cosine_wave amplitude freq phase (t +ℤ later) ≡ cosine_wave amplitude freq phase t }
 {}

@@ -11,5 +11,6 @@ use emtp_case::Case;
 /// node's voltage in each record after record 0 is R times the current that the sources bring into the node in that step, within
 /// R times the case's tolerance, half a nA and half a pS times the voltage.
 pub fn resistor_has_the_voltage_of_its_current(case: &Case)
-    ensures { (m b n : ℕ) (x : Lumped) → LeadsAlone case.now.parts b n x → ObeysOhm case.now.parts n x (records_upto case.now.parts m) }
+    ensures { (m b n : ℕ) (x : Lumped) → LeadsAlone case.now.parts b n x
+        → ObeysOhm case.now.parts n x (records_upto case.now.parts m) }
 {}

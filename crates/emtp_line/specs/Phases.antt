@@ -50,17 +50,25 @@ zero_to_waves first = map (λ (s : PhaseState). s.to_zero_wave) first
 
 -- the history currents of a phase in the next step: what both sequences bring
 abbrev pub phase_from_history : Modes → List PhaseState → List PhaseState → ℤ
-phase_from_history m first past = history_of m.zero_sequence (zero_to_waves first) (zero_from_waves first) +ℤ history_of m.positive (phase_to_waves past) (phase_from_waves past)
+phase_from_history m first past =
+    history_of m.zero_sequence (zero_to_waves first) (zero_from_waves first)
+    +ℤ history_of m.positive (phase_to_waves past) (phase_from_waves past)
 
 abbrev pub phase_to_history : Modes → List PhaseState → List PhaseState → ℤ
-phase_to_history m first past = history_of m.zero_sequence (zero_from_waves first) (zero_to_waves first) +ℤ history_of m.positive (phase_from_waves past) (phase_to_waves past)
+phase_to_history m first past =
+    history_of m.zero_sequence (zero_from_waves first) (zero_to_waves first)
+    +ℤ history_of m.positive (phase_from_waves past) (phase_to_waves past)
 
 -- those of all three phases, where `past p` is what the records keep of phase p
 abbrev pub from_histories : Modes → (ℕ → List PhaseState) → List ℤ
-from_histories m past = phase_from_history m (past 0) (past 0) ∷ phase_from_history m (past 0) (past 1) ∷ phase_from_history m (past 0) (past 2) ∷ []
+from_histories m past =
+    phase_from_history m (past 0) (past 0) ∷ phase_from_history m (past 0) (past 1)
+    ∷ phase_from_history m (past 0) (past 2) ∷ []
 
 abbrev pub to_histories : Modes → (ℕ → List PhaseState) → List ℤ
-to_histories m past = phase_to_history m (past 0) (past 0) ∷ phase_to_history m (past 0) (past 1) ∷ phase_to_history m (past 0) (past 2) ∷ []
+to_histories m past =
+    phase_to_history m (past 0) (past 0) ∷ phase_to_history m (past 0) (past 1)
+    ∷ phase_to_history m (past 0) (past 2) ∷ []
 
 -- ---- one end
 
@@ -74,7 +82,8 @@ mean xs = near (of_phase xs 0 +ℤ of_phase xs 1 +ℤ of_phase xs 2) (pos 3)
 -- i(p) = gd*v(p) + go*(v of the other two) + I(p)
 abbrev pub phase_current : Modes → List ℤ → List ℤ → ℕ → ℤ
 phase_current m histories v p =
-    near (own_conductance m *ℤ of_phase v p +ℤ mutual_conductance m *ℤ of_phase v ((p + 1) % 3) +ℤ mutual_conductance m *ℤ of_phase v ((p + 2) % 3)) PICO +ℤ of_phase histories p
+    near (own_conductance m *ℤ of_phase v p +ℤ mutual_conductance m *ℤ of_phase v ((p + 1) % 3)
+    +ℤ mutual_conductance m *ℤ of_phase v ((p + 2) % 3)) PICO +ℤ of_phase histories p
 
 abbrev pub phase_currents : Modes → List ℤ → List ℤ → List ℤ
 phase_currents m histories v = phase_current m histories v 0 ∷ phase_current m histories v 1 ∷ phase_current m histories v 2 ∷ []

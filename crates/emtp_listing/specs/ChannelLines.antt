@@ -41,5 +41,6 @@ states_upto channels number = count_by is_status (take number channels)
 abbrev pub channel_line : Parts → ℕ → Channel → List ℕ
 channel_line p number channel =
     head_text (codes "channel") number
-    ++ all_separated (measured_word channel ∷ measured_entry p.nodes p.vars channel ∷ word_entry (codes "name") (text_of p channel)
+    ++ all_separated (measured_word channel ∷ measured_entry p.nodes p.vars channel
+    ∷ word_entry (codes "name") (text_of p channel)
     ∷ record_entry (is_status channel) number (states_upto p.channels number) ∷ [])

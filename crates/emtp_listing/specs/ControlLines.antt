@@ -130,7 +130,8 @@ device_entries vars x =
 
 -- a point of a table, or the times of a window
 abbrev pub table_entries : DeviceCode → Point → List (List ℕ)
-table_entries Window p = number_entry (codes "close") 12 (codes "s") p.current ∷ number_entry (codes "open") 12 (codes "s") p.other ∷ []
+table_entries Window p =
+    number_entry (codes "close") 12 (codes "s") p.current ∷ number_entry (codes "open") 12 (codes "s") p.other ∷ []
 table_entries code p = figure_entry (codes "input") 9 [] p.current ∷ figure_entry (codes "output") 9 [] p.other ∷ []
 
 abbrev pub table_line : DeviceCode → ℕ → Point → List ℕ

@@ -58,7 +58,8 @@ name_line word number name = head_text word number ++ all_separated (word_entry 
 abbrev pub control_part : Parts → List (List ℕ)
 control_part p =
     map (tacs_source_line p.nodes p.vars) p.tacs_sources
-    ++ (grouped (block_lines p.vars) p.blocks ++ (grouped (extra_lines p.vars p.points) p.extras ++ numbered (channel_line p) 1 p.channels))
+    ++ (grouped (block_lines p.vars) p.blocks
+    ++ (grouped (extra_lines p.vars p.points) p.extras ++ numbered (channel_line p) 1 p.channels))
 
 abbrev pub network_lines : Parts → List (List ℕ)
 network_lines p =
@@ -68,7 +69,8 @@ network_lines p =
 abbrev pub listed_lines : Parts → List (List ℕ)
 listed_lines p =
     case_line p ∷ run_line p.run ∷ record_line p
-    ∷ (numbered (name_line (codes "node")) 1 p.nodes ++ (numbered (name_line (codes "variable")) 0 p.vars ++ (network_lines p ++ control_part p)))
+    ∷ (numbered (name_line (codes "node")) 1 p.nodes
+    ++ (numbered (name_line (codes "variable")) 0 p.vars ++ (network_lines p ++ control_part p)))
 
 unfoldable pub listing : Parts → List ℕ
 listing p = lines_text (listed_lines p)

@@ -68,8 +68,10 @@ branch_line nodes (OfPhase b) = card_line b.line (codes "phase of a line") (phas
 -- ---- points of a characteristic: the current, and the voltage of a resistor or the flux of a reactor
 
 abbrev pub segment_entries : Bool → Point → List (List ℕ)
-segment_entries false p = number_entry (codes "current") 9 (codes "A") p.current ∷ number_entry (codes "voltage") 9 (codes "V") p.other ∷ []
-segment_entries true p = number_entry (codes "current") 9 (codes "A") p.current ∷ number_entry (codes "flux") 12 (codes "Wb") p.other ∷ []
+segment_entries false p =
+    number_entry (codes "current") 9 (codes "A") p.current ∷ number_entry (codes "voltage") 9 (codes "V") p.other ∷ []
+segment_entries true p =
+    number_entry (codes "current") 9 (codes "A") p.current ∷ number_entry (codes "flux") 12 (codes "Wb") p.other ∷ []
 
 abbrev pub segment_line : Bool → ℕ → Point → List ℕ
 segment_line reactor number p = head_text (codes "point") number ++ all_separated (segment_entries reactor p)

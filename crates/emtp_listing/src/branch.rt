@@ -21,7 +21,8 @@ pub(crate) fn put_branch(
     branch: &Branch,
 ) -> Result<(), AllocError>
     requires { IsBranch parts.now.run (sizes_of parts.now) parts.now.points branch.now }
-    ensures { OnOk result (Puts out.old.items (lines_text (branch_group parts.now.nodes parts.now.points branch.now)) out.new.items) }
+    ensures { OnOk result (Puts out.old.items (lines_text (branch_group parts.now.nodes parts.now.points branch.now))
+        out.new.items) }
 {
     put_kind(out, parts, branch)?;
     put_end(out)?;
@@ -46,7 +47,8 @@ fn put_kind(out: &mut Vec<u8>, parts: &Parts, branch: &Branch) -> Result<(), All
 fn put_series(out: &mut Vec<u8>, parts: &Parts, b: &Lumped) -> Result<(), AllocError>
     requires from_there { b.now.from ≤ length parts.now.nodes }
     requires to_there { b.now.to ≤ length parts.now.nodes }
-    ensures { OnOk result (Puts out.old.items (card_line b.now.line (codes "series branch") (series_entries parts.now.nodes b.now)) out.new.items) }
+    ensures { OnOk result (Puts out.old.items
+        (card_line b.now.line (codes "series branch") (series_entries parts.now.nodes b.now)) out.new.items) }
 {
     put_head(out, b"line", b.line)?;
     put_word(out, b"series branch")?;
@@ -61,7 +63,8 @@ fn put_series(out: &mut Vec<u8>, parts: &Parts, b: &Lumped) -> Result<(), AllocE
 fn put_line(out: &mut Vec<u8>, parts: &Parts, b: &Line) -> Result<(), AllocError>
     requires from_there { b.now.from ≤ length parts.now.nodes }
     requires to_there { b.now.to ≤ length parts.now.nodes }
-    ensures { OnOk result (Puts out.old.items (card_line b.now.line (codes "line") (line_entries parts.now.nodes b.now)) out.new.items) }
+    ensures { OnOk result (Puts out.old.items
+        (card_line b.now.line (codes "line") (line_entries parts.now.nodes b.now)) out.new.items) }
 {
     put_head(out, b"line", b.line)?;
     put_word(out, b"line")?;
@@ -86,7 +89,8 @@ fn pseudo_word(reactor: bool) -> &'static [u8]
 fn put_pseudo(out: &mut Vec<u8>, parts: &Parts, b: &Pseudo) -> Result<(), AllocError>
     requires from_there { b.now.from ≤ length parts.now.nodes }
     requires to_there { b.now.to ≤ length parts.now.nodes }
-    ensures { OnOk result (Puts out.old.items (card_line b.now.line (pseudo_word b.now.reactor) (pseudo_entries parts.now.nodes b.now)) out.new.items) }
+    ensures { OnOk result (Puts out.old.items
+        (card_line b.now.line (pseudo_word b.now.reactor) (pseudo_entries parts.now.nodes b.now)) out.new.items) }
 {
     put_head(out, b"line", b.line)?;
     put_word(out, pseudo_word(b.reactor))?;
@@ -100,7 +104,8 @@ fn put_pseudo(out: &mut Vec<u8>, parts: &Parts, b: &Pseudo) -> Result<(), AllocE
 fn put_phase(out: &mut Vec<u8>, parts: &Parts, b: &Phase) -> Result<(), AllocError>
     requires from_there { b.now.from ≤ length parts.now.nodes }
     requires to_there { b.now.to ≤ length parts.now.nodes }
-    ensures { OnOk result (Puts out.old.items (card_line b.now.line (codes "phase of a line") (phase_entries parts.now.nodes b.now)) out.new.items) }
+    ensures { OnOk result (Puts out.old.items
+        (card_line b.now.line (codes "phase of a line") (phase_entries parts.now.nodes b.now)) out.new.items) }
 {
     put_head(out, b"line", b.line)?;
     put_word(out, b"phase of a line")?;

@@ -19,7 +19,8 @@ use std::alloc::AllocError;
 
 /// Puts the lines of the channels of a case after a text.
 pub(crate) fn put_channels(out: &mut Vec<u8>, case: &Case) -> Result<(), AllocError>
-    ensures { OnOk result (Puts out.old.items (lines_text (numbered (channel_line case.now.parts) 1 case.now.parts.channels)) out.new.items) }
+    ensures { OnOk result (Puts out.old.items
+        (lines_text (numbered (channel_line case.now.parts) 1 case.now.parts.channels)) out.new.items) }
 {
     let mut number = 1;
     let mut states = 0;
@@ -92,7 +93,8 @@ fn put_record_number(
 /// Puts an entry with the name of a channel in the record, by its place, after a text.
 fn put_name(out: &mut Vec<u8>, case: &Case, at: usize) -> Result<(), AllocError>
     requires { at < length case.now.parts.channels }
-    ensures { OnOk result (Puts out.old.items (separated (word_entry (codes "name") (name_of_channel case.now.parts at))) out.new.items) }
+    ensures { OnOk result (Puts out.old.items
+        (separated (word_entry (codes "name") (name_of_channel case.now.parts at))) out.new.items) }
 {
     let mut name = [0; 16];
     let len = case.channel_name(at, &mut name);
@@ -116,7 +118,8 @@ fn measured_word(channel: &Channel) -> &'static [u8]
 /// Puts an entry with what a channel measures after a text.
 fn put_measured(out: &mut Vec<u8>, parts: &Parts, channel: &Channel) -> Result<(), AllocError>
     requires { IsChannel (sizes_of parts.now) channel.now }
-    ensures { OnOk result (Puts out.old.items (separated (measured_entry parts.now.nodes parts.now.vars channel.now)) out.new.items) }
+    ensures { OnOk result (Puts out.old.items (separated (measured_entry parts.now.nodes parts.now.vars channel.now))
+        out.new.items) }
 {
     match channel {
         Channel::NodeVoltage(node) => put_node(out, b"node", parts, *node),

@@ -30,7 +30,8 @@ pub(crate) fn put_block(out: &mut Vec<u8>, parts: &Parts, block: &Block) -> Resu
 /// Puts the line of a block after a text.
 fn put_block_card(out: &mut Vec<u8>, parts: &Parts, block: &Block) -> Result<(), AllocError>
     requires { IsBlock parts.now.run (sizes_of parts.now) block.now }
-    ensures { OnOk result (Puts out.old.items (card_line block.now.line (codes "block") (block_entries parts.now.vars block.now)) out.new.items) }
+    ensures { OnOk result (Puts out.old.items
+        (card_line block.now.line (codes "block") (block_entries parts.now.vars block.now)) out.new.items) }
 {
     put_head(out, b"line", block.line)?;
     put_word(out, b"block")?;

@@ -27,7 +27,8 @@ pub(crate) fn put_extra(
     extra: &Extra,
 ) -> Result<(), AllocError>
     requires { IsExtra (sizes_of parts.now) parts.now.points extra.now }
-    ensures { OnOk result (Puts out.old.items (lines_text (extra_lines parts.now.vars parts.now.points extra.now)) out.new.items) }
+    ensures { OnOk result (Puts out.old.items (lines_text (extra_lines parts.now.vars parts.now.points extra.now))
+        out.new.items) }
 {
     put_extra_card(alloc, out, parts, extra)?;
     put_end(out)?;
@@ -68,7 +69,8 @@ fn put_extra_points(out: &mut Vec<u8>, parts: &Parts, extra: &Extra) -> Result<(
 /// Puts the line of a device after a text.
 fn put_device(out: &mut Vec<u8>, parts: &Parts, device: &Device) -> Result<(), AllocError>
     requires { IsDevice (sizes_of parts.now) parts.now.points device.now }
-    ensures { OnOk result (Puts out.old.items (card_line device.now.line (codes "device") (device_entries parts.now.vars device.now)) out.new.items) }
+    ensures { OnOk result (Puts out.old.items
+        (card_line device.now.line (codes "device") (device_entries parts.now.vars device.now)) out.new.items) }
 {
     put_head(out, b"line", device.line)?;
     put_word(out, b"device")?;
@@ -184,7 +186,8 @@ fn put_formula(
     formula: &Formula,
 ) -> Result<(), AllocError>
     requires { IsFormula (sizes_of parts.now) formula.now }
-    ensures { OnOk result (Puts out.old.items (card_line formula.now.line (codes "formula") (formula_entries parts.now.vars formula.now)) out.new.items) }
+    ensures { OnOk result (Puts out.old.items
+        (card_line formula.now.line (codes "formula") (formula_entries parts.now.vars formula.now)) out.new.items) }
 {
     put_head(out, b"line", formula.line)?;
     put_word(out, b"formula")?;
@@ -200,7 +203,8 @@ fn put_formula(
 /// Puts an entry for each variable that a formula names after a text.
 fn put_variables(out: &mut Vec<u8>, parts: &Parts, vars: &[u32]) -> Result<(), AllocError>
     requires { All (λ v. v < length parts.now.vars) vars.now }
-    ensures { OnOk result (Puts out.old.items (all_separated (map (variable_entry (codes "names") parts.now.vars) vars.now)) out.new.items) }
+    ensures { OnOk result (Puts out.old.items
+        (all_separated (map (variable_entry (codes "names") parts.now.vars) vars.now)) out.new.items) }
 {
     for var in vars {
         put_variable(out, b"names", parts, *var)?;

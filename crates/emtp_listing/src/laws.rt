@@ -12,7 +12,8 @@ ghost use Rattle.emtp_listing.specs.Listing.{listing};
 /// Two cases of the same listing are the same case: their run, their nodes and variables by name and number, all records
 /// with the points of each, and their channels. A listing hides nothing.
 pub fn same_listing_is_same_case()
-    ensures { (p q : Parts) → IsCase p → IsCase q → FitsTypes p → FitsTypes q → AreApart p.nodes → AreApart p.vars → listing p ≡ listing q → AreSame p q }
+    ensures { (p q : Parts) → IsCase p → IsCase q → FitsTypes p → FitsTypes q → AreApart p.nodes → AreApart p.vars
+        → listing p ≡ listing q → AreSame p q }
 {}
 
 /// No count of a case is above the limit that is listed beside it.
@@ -22,7 +23,8 @@ pub fn counts_are_within_their_limits()
 
 /// A decimal is known by its text.
 pub fn decimals_differ()
-    ensures { (x y : ℤ) (places : ℕ) → unsigned_abs x < 2 ^ 64 → unsigned_abs y < 2 ^ 64 → fixed_text x places ≡ fixed_text y places → x ≡ y }
+    ensures { (x y : ℤ) (places : ℕ) → unsigned_abs x < 2 ^ 64 → unsigned_abs y < 2 ^ 64
+        → fixed_text x places ≡ fixed_text y places → x ≡ y }
 {}
 
 /// Lines without LF are known by their text.

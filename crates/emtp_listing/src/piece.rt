@@ -165,7 +165,8 @@ pub(crate) fn put_choice(
     choice: Option<u32>,
 ) -> Result<(), AllocError>
     requires { ForSome choice (λ v. v < length parts.now.vars) }
-    ensures { OnOk result (Puts out.old.items (separated (choice_entry name.now absent.now parts.now.vars choice)) out.new.items) }
+    ensures { OnOk result (Puts out.old.items (separated (choice_entry name.now absent.now parts.now.vars choice))
+        out.new.items) }
 {
     match choice {
         None => put_named(out, name, absent),

@@ -158,7 +158,8 @@ fn put_names(out: &mut Vec<u8>, word: &[u8], first: u32, names: &[Name]) -> Resu
 /// Puts the lines of all branches after a text.
 fn put_branches(out: &mut Vec<u8>, parts: &Parts) -> Result<(), AllocError>
     requires { IsCase parts.now }
-    ensures { OnOk result (Puts out.old.items (lines_text (grouped (branch_group parts.now.nodes parts.now.points) parts.now.branches)) out.new.items) }
+    ensures { OnOk result (Puts out.old.items
+        (lines_text (grouped (branch_group parts.now.nodes parts.now.points) parts.now.branches)) out.new.items) }
 {
     for branch in parts.branches.as_slice() {
         put_branch(out, parts, branch)?;
@@ -180,7 +181,8 @@ fn put_trios(out: &mut Vec<u8>, parts: &Parts) -> Result<(), AllocError>
 /// Puts the lines of all switches after a text.
 fn put_switches(out: &mut Vec<u8>, parts: &Parts) -> Result<(), AllocError>
     requires { IsCase parts.now }
-    ensures { OnOk result (Puts out.old.items (lines_text (map (switch_line parts.now.nodes parts.now.vars) parts.now.switches)) out.new.items) }
+    ensures { OnOk result (Puts out.old.items
+        (lines_text (map (switch_line parts.now.nodes parts.now.vars) parts.now.switches)) out.new.items) }
 {
     for switch in parts.switches.as_slice() {
         put_switch(out, parts, switch)?;
@@ -192,7 +194,8 @@ fn put_switches(out: &mut Vec<u8>, parts: &Parts) -> Result<(), AllocError>
 /// Puts the lines of all sources of the network after a text.
 fn put_sources(out: &mut Vec<u8>, parts: &Parts) -> Result<(), AllocError>
     requires { IsCase parts.now }
-    ensures { OnOk result (Puts out.old.items (lines_text (map (source_line parts.now.nodes parts.now.vars) parts.now.sources)) out.new.items) }
+    ensures { OnOk result (Puts out.old.items
+        (lines_text (map (source_line parts.now.nodes parts.now.vars) parts.now.sources)) out.new.items) }
 {
     for source in parts.sources.as_slice() {
         put_source(out, parts, source)?;
@@ -204,7 +207,8 @@ fn put_sources(out: &mut Vec<u8>, parts: &Parts) -> Result<(), AllocError>
 /// Puts the lines of all sources of the control after a text.
 fn put_tacs_sources(out: &mut Vec<u8>, parts: &Parts) -> Result<(), AllocError>
     requires { IsCase parts.now }
-    ensures { OnOk result (Puts out.old.items (lines_text (map (tacs_source_line parts.now.nodes parts.now.vars) parts.now.tacs_sources)) out.new.items) }
+    ensures { OnOk result (Puts out.old.items
+        (lines_text (map (tacs_source_line parts.now.nodes parts.now.vars) parts.now.tacs_sources)) out.new.items) }
 {
     for source in parts.tacs_sources.as_slice() {
         put_tacs_source(out, parts, source)?;
@@ -216,7 +220,8 @@ fn put_tacs_sources(out: &mut Vec<u8>, parts: &Parts) -> Result<(), AllocError>
 /// Puts the lines of all blocks after a text.
 fn put_blocks(out: &mut Vec<u8>, parts: &Parts) -> Result<(), AllocError>
     requires { IsCase parts.now }
-    ensures { OnOk result (Puts out.old.items (lines_text (grouped (block_lines parts.now.vars) parts.now.blocks)) out.new.items) }
+    ensures { OnOk result (Puts out.old.items (lines_text (grouped (block_lines parts.now.vars) parts.now.blocks))
+        out.new.items) }
 {
     for block in parts.blocks.as_slice() {
         put_block(out, parts, block)?;
@@ -227,7 +232,8 @@ fn put_blocks(out: &mut Vec<u8>, parts: &Parts) -> Result<(), AllocError>
 /// Puts the lines of all supplemental cards after a text.
 fn put_extras(alloc: Global, out: &mut Vec<u8>, parts: &Parts) -> Result<(), AllocError>
     requires { IsCase parts.now }
-    ensures { OnOk result (Puts out.old.items (lines_text (grouped (extra_lines parts.now.vars parts.now.points) parts.now.extras)) out.new.items) }
+    ensures { OnOk result (Puts out.old.items
+        (lines_text (grouped (extra_lines parts.now.vars parts.now.points) parts.now.extras)) out.new.items) }
 {
     for extra in parts.extras.as_slice() {
         put_extra(alloc, out, parts, extra)?;

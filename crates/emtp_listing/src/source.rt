@@ -86,7 +86,8 @@ fn degrees(phase: &i64) -> i64
 /// Puts the entries of the course of a source after a text.
 fn put_shape(out: &mut Vec<u8>, parts: &Parts, shape: &Shape) -> Result<(), AllocError>
     requires { IsListedShape (sizes_of parts.now) shape.now }
-    ensures { OnOk result (Puts out.old.items (all_separated (shape_entries parts.now.nodes parts.now.vars shape.now)) out.new.items) }
+    ensures { OnOk result (Puts out.old.items
+        (all_separated (shape_entries parts.now.nodes parts.now.vars shape.now)) out.new.items) }
 {
     match shape {
         Shape::Step => put_word(out, b"step"),

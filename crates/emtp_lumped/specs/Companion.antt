@@ -8,4 +8,8 @@ use Rattle.emtp_lumped.specs.declared.companion.Companion.{Companion}
 
 -- g = 1/Z, zL and zC
 abbrev pub companion_of : ℤ → Lumped → Companion
-companion_of dt b = record { conductance = near ATTO (series_impedance dt b.r b.l b.c); inductor = inductor_impedance dt b.l; capacitor = capacitor_impedance dt b.c }
+companion_of dt b = record {
+  conductance = near ATTO (series_impedance dt b.r b.l b.c);
+  inductor = inductor_impedance dt b.l;
+  capacitor = capacitor_impedance dt b.c;
+}

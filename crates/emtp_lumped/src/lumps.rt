@@ -56,7 +56,8 @@ impl<'a> Lumps<'a> {
     pub fn conductance(&self, branch: usize) -> i64
         requires { (x : Lumped) × IsSeries self.now.case branch x }
         ensures bound { IsBetween 0 LARGEST_ENTRY result }
-        ensures value { (x : Lumped) → IsSeries self.now.case branch x → result ≡ (companion_of self.now.case.run.dt x).conductance }
+        ensures value { (x : Lumped) → IsSeries self.now.case branch x
+            → result ≡ (companion_of self.now.case.run.dt x).conductance }
     {
         self.held[branch].companion.conductance
     }
@@ -66,7 +67,9 @@ impl<'a> Lumps<'a> {
     pub fn history_current(&self, branch: usize) -> i128
         requires { (x : Lumped) × IsSeries self.now.case branch x }
         ensures bound { unsigned_abs result ≤ 10 ^ 30 }
-        ensures value { (x : Lumped) (past : List LumpedState) → IsSeries self.now.case branch x → StandsAt self.now branch past → result ≡ history_current_of (companion_of self.now.case.run.dt x) (newest past) }
+        ensures value { (x : Lumped) (past : List LumpedState) → IsSeries self.now.case branch x
+            → StandsAt self.now branch past
+            → result ≡ history_current_of (companion_of self.now.case.run.dt x) (newest past) }
     {
         self.held[branch].history_current
     }

@@ -18,11 +18,13 @@ abbrev pub voltage_between : StepRecord → ℕ → ℕ → ℤ
 voltage_between r a b = within_range (voltage_at a r -ℤ voltage_at b r)
 
 abbrev pub branch_voltage_at : Parts → ℕ → StepRecord → ℤ
-branch_voltage_at case b r = voltage_between r (slice_index (map from_of case.branches) b) (slice_index (map to_of case.branches) b)
+branch_voltage_at case b r =
+    voltage_between r (slice_index (map from_of case.branches) b) (slice_index (map to_of case.branches) b)
 
 abbrev pub switch_voltage_at : Parts → ℕ → StepRecord → ℤ
 switch_voltage_at case s r =
-    voltage_between r (slice_index (map (λ (x : Switch). x.from) case.switches) s) (slice_index (map (λ (x : Switch). x.to) case.switches) s)
+    voltage_between r (slice_index (map (λ (x : Switch). x.from) case.switches) s)
+    (slice_index (map (λ (x : Switch). x.to) case.switches) s)
 
 -- the value of a channel in a record, and 1 for a closed switch
 abbrev pub channel_value : Parts → StepRecord → Channel → ℤ
@@ -41,4 +43,5 @@ sample_of case r = map (channel_value case r) case.channels
 -- each every-th record from rest on is a sample, of these records newest first; the samples stand oldest first
 unfoldable pub samples_in : Parts → List StepRecord → List (List ℤ)
 samples_in case [] = []
-samples_in case (r ∷ past) = if length past % case.run.every == 0 then samples_in case past ++ sample_of case r ∷ [] else samples_in case past
+samples_in case (r ∷ past) =
+    if length past % case.run.every == 0 then samples_in case past ++ sample_of case r ∷ [] else samples_in case past

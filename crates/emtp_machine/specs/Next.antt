@@ -42,7 +42,11 @@ control_fault case fault = record { name = variable_name case fault.var; cause =
 
 -- what the control reads of the network's part of the same step
 abbrev pub measured_of : NetworkPart → Measured
-measured_of network = record { voltages = network.voltages; currents = network.switch_currents; closed = map is_closed network.switch_states }
+measured_of network = record {
+  voltages = network.voltages;
+  currents = network.switch_currents;
+  closed = map is_closed network.switch_states;
+}
 
 -- the record of both parts
 abbrev pub record_of : NetworkPart → ControlPart → StepRecord

@@ -99,9 +99,12 @@ impl<'c> ControlledNetwork<'c> {
         requires case { IsOf case.now.parts self.old }
         requires left { MayMove case.now.parts self.old }
         ensures case { IsOf case.now.parts self.new }
-        ensures step { (H : List StepRecord) → StandsFor self.old H → StepsTo result case.now.parts self.new step H (next case.now.parts H) }
-        ensures ticks { (H : List StepRecord) → StandsFor self.old H → OnOk result (steps.new ≡ steps.old + next_ticks case.now.parts H) }
-        ensures most { (H : List StepRecord) → StandsFor self.old H → IfErr result (λ end. steps.new ≤ steps.old + ticks_by end.cause case.now.parts H) }
+        ensures step { (H : List StepRecord) → StandsFor self.old H
+            → StepsTo result case.now.parts self.new step H (next case.now.parts H) }
+        ensures ticks { (H : List StepRecord) → StandsFor self.old H
+            → OnOk result (steps.new ≡ steps.old + next_ticks case.now.parts H) }
+        ensures most { (H : List StepRecord) → StandsFor self.old H
+            → IfErr result (λ end. steps.new ≤ steps.old + ticks_by end.cause case.now.parts H) }
         ensures number { IfErr result (λ end. end.step ≡ step) }
         ensures named { IfErr result (λ end. IsNamed case.now.parts end.name) }
     {

@@ -40,20 +40,29 @@ voltages_of case x = pos 0 ∷ map (λ n. item x (row_at case n)) (range_with_le
 
 -- the voltages of the three phases of a line at an end
 abbrev pub phase_voltages : Parts → Bool → ℕ → List ℤ → List ℤ
-phase_voltages case second t vs = item vs (phase_node case second t 0) ∷ item vs (phase_node case second t 1) ∷ item vs (phase_node case second t 2) ∷ []
+phase_voltages case second t vs =
+    item vs (phase_node case second t 0) ∷ item vs (phase_node case second t 1)
+    ∷ item vs (phase_node case second t 2) ∷ []
 
 -- what a phase keeps of the next step, by the modes of its line and the past of all three phases
 abbrev pub phase_by : Parts → List ℤ → Phase → Modes → (ℕ → List PhaseState) → Option PhaseState
 phase_by case vs x m past =
-    phase_state (phase_end m (from_histories m past) (phase_voltages case false x.trio vs)) (phase_end m (to_histories m past) (phase_voltages case true x.trio vs)) x.phase
+    phase_state (phase_end m (from_histories m past) (phase_voltages case false x.trio vs))
+    (phase_end m (to_histories m past) (phase_voltages case true x.trio vs)) x.phase
 
 -- what a branch keeps of the next step at these voltages; none where a number is out of range
 abbrev pub state_by : Parts → List StepRecord → List ℤ → ℕ → Option Branch → Option BranchState
 state_by case H vs b None = None
-state_by case H vs b (Some (OfLumped x)) = option_map LumpedBranch (lumped.next_of case x (lumped.states_of b H) (item vs x.from -ℤ item vs x.to))
-state_by case H vs b (Some (OfLine x)) = option_map LineBranch (next_line (mode_of_line case.run.dt x) (lined.states_of b H) (item vs x.from) (item vs x.to))
-state_by case H vs b (Some (OfPseudo x)) = option_map PseudoBranch (pseudo.next_of case x (pseudo.moments_of x b H) (item vs x.from -ℤ item vs x.to))
-state_by case H vs b (Some (OfPhase x)) = option_map PhaseBranch (phase_by case vs x (modes_of case.run.dt (lined.trio_of case x.trio)) (lined.phase_states_of case x.trio H))
+state_by case H vs b (Some (OfLumped x)) =
+    option_map LumpedBranch (lumped.next_of case x (lumped.states_of b H) (item vs x.from -ℤ item vs x.to))
+state_by case H vs b (Some (OfLine x)) =
+    option_map LineBranch (next_line (mode_of_line case.run.dt x) (lined.states_of b H) (item vs x.from)
+    (item vs x.to))
+state_by case H vs b (Some (OfPseudo x)) =
+    option_map PseudoBranch (pseudo.next_of case x (pseudo.moments_of x b H) (item vs x.from -ℤ item vs x.to))
+state_by case H vs b (Some (OfPhase x)) =
+    option_map PhaseBranch (phase_by case vs x (modes_of case.run.dt (lined.trio_of case x.trio))
+    (lined.phase_states_of case x.trio H))
 
 abbrev pub state_at : Parts → List StepRecord → List ℤ → ℕ → Option BranchState
 state_at case H vs b = state_by case H vs b (slice_get case.branches b)
@@ -64,7 +73,8 @@ first_out case H vs = position (λ b. is_none (state_at case H vs b)) (range_wit
 
 -- what all branches keep, where each is in range
 abbrev pub states_at : Parts → List StepRecord → List ℤ → List BranchState
-states_at case H vs = map (λ b. unwrap_or (state_at case H vs b) (LumpedBranch no_lumped)) (range_with_len 0 (length case.branches))
+states_at case H vs =
+    map (λ b. unwrap_or (state_at case H vs b) (LumpedBranch no_lumped)) (range_with_len 0 (length case.branches))
 
 -- ---- currents that leave a node
 
@@ -88,7 +98,8 @@ leaving_rows case H branches = list_of (length case.nodes) (λ i. leaving case H
 
 -- the switch currents of the next step
 abbrev pub switch_currents_at : Parts → List StepRecord → List BranchState → List ℤ
-switch_currents_at case H branches = switched.currents_of case.switches (order_of case) (next_states case H) (leaving_rows case H branches)
+switch_currents_at case H branches =
+    switched.currents_of case.switches (order_of case) (next_states case H) (leaving_rows case H branches)
 
 -- the part at these voltages, where each branch and each switch is in range
 unfoldable pub part_at : Parts → List StepRecord → List ℤ → NetworkPart

@@ -59,10 +59,14 @@ switched case part = unless (first_beyond part.switch_currents) (λ s. Range (no
 
 -- the first row whose residual exceeds the tolerance
 abbrev pub first_unbalanced : Parts → List StepRecord → List BranchState → Option ℕ
-first_unbalanced case H branches = position (λ i. nat_lt (unsigned_abs case.run.tolerance) (residual_of case H branches i)) (range_with_len 0 (length case.nodes))
+first_unbalanced case H branches =
+    position (λ i. nat_lt (unsigned_abs case.run.tolerance) (residual_of case H branches i))
+    (range_with_len 0 (length case.nodes))
 
 abbrev pub balanced : Parts → List StepRecord → NetworkPart → Result NetworkPart NetFault
-balanced case H part = unless (first_unbalanced case H part.branches) (λ i. Residual (node_at case i) (pos (residual_of case H part.branches i))) (Ok part)
+balanced case H part =
+    unless (first_unbalanced case H part.branches)
+    (λ i. Residual (node_at case i) (pos (residual_of case H part.branches i))) (Ok part)
 
 -- the network's part of the next record, or the first fault
 unfoldable pub network_part : Parts → List StepRecord → Result NetworkPart NetFault

@@ -89,13 +89,16 @@ through i = (neg_ℤ i, i)
 -- the history currents that a branch brings to its two nodes
 abbrev pub history_by : Parts → List StepRecord → ℕ → Option Branch → ℤ × ℤ
 history_by case H b None = (pos 0, pos 0)
-history_by case H b (Some (OfLumped x)) = through (history_current_of (companion_of case.run.dt x) (lumped.newest (lumped.states_of b H)))
+history_by case H b (Some (OfLumped x)) =
+    through (history_current_of (companion_of case.run.dt x) (lumped.newest (lumped.states_of b H)))
 history_by case H b (Some (OfLine x)) = taken (line_histories (mode_of_line case.run.dt x) (lined.states_of b H))
 history_by case H b (Some (OfPseudo x)) = through (pseudo.next_history_current case x (pseudo.moments_of x b H))
 history_by case H b (Some (OfPhase x)) =
     taken (
-      phase_from_history (modes_of case.run.dt (lined.trio_of case x.trio)) (lined.phase_states_of case x.trio H 0) (lined.phase_states_of case x.trio H x.phase),
-      phase_to_history (modes_of case.run.dt (lined.trio_of case x.trio)) (lined.phase_states_of case x.trio H 0) (lined.phase_states_of case x.trio H x.phase),
+      phase_from_history (modes_of case.run.dt (lined.trio_of case x.trio)) (lined.phase_states_of case x.trio H 0)
+          (lined.phase_states_of case x.trio H x.phase),
+      phase_to_history (modes_of case.run.dt (lined.trio_of case x.trio)) (lined.phase_states_of case x.trio H 0)
+          (lined.phase_states_of case x.trio H x.phase),
     )
 
 abbrev pub history_at : Parts → List StepRecord → ℕ → ℤ × ℤ

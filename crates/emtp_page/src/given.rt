@@ -82,7 +82,9 @@ fn three_files(
     third_name: &str,
     third: &[u8],
 ) -> Result<Vec<(String, Vec<u8>)>, AllocError>
-    ensures named { IfOk result (λ files. named files.items ≡ three_files first_name.now first.now second_name.now second.now third_name.now third.now) }
+    ensures named { IfOk result
+        (λ files. named files.items
+        ≡ three_files first_name.now first.now second_name.now second.now third_name.now third.now) }
     ensures differ { IfOk result (λ files. AllPairs (λ a b. string_bytes a.0 ≢ string_bytes b.0) files.items) }
 {
     if first_name != second_name && first_name != third_name && second_name != third_name {

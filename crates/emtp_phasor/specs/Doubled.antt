@@ -23,18 +23,25 @@ pub record Doubled : Type 0 where
 abbrev pub between_nodes : Bool → Bool → TwoPort → ℕ → ℕ → Option Branch → ℤ
 between_nodes row column y n m None = pos 0
 between_nodes row column y n m (Some b) =
-    (same_node (from_of b) n *ℤ in_block row column y.own *ℤ same_node (from_of b) m +ℤ same_node (from_of b) n *ℤ in_block row column y.other *ℤ same_node (to_of b) m)
-    +ℤ (same_node (to_of b) n *ℤ in_block row column y.own *ℤ same_node (to_of b) m +ℤ same_node (to_of b) n *ℤ in_block row column y.other *ℤ same_node (from_of b) m)
+    (same_node (from_of b) n *ℤ in_block row column y.own *ℤ same_node (from_of b) m
+    +ℤ same_node (from_of b) n *ℤ in_block row column y.other *ℤ same_node (to_of b) m)
+    +ℤ (same_node (to_of b) n *ℤ in_block row column y.own *ℤ same_node (to_of b) m
+    +ℤ same_node (to_of b) n *ℤ in_block row column y.other *ℤ same_node (from_of b) m)
 
 -- the admittance between nodes n and m, and of node n itself: the sum over all branches
 abbrev pub admittance_entry : Parts → List TwoPort → Bool → Bool → ℕ → ℕ → ℤ
-admittance_entry case ports row column n m = sum_below (length case.branches) (λ b. between_nodes row column (port_at ports b) n m (slice_get case.branches b))
+admittance_entry case ports row column n m =
+    sum_below (length case.branches) (λ b. between_nodes row column (port_at ports b) n m (slice_get case.branches b))
 
 -- the entry of row r in column c: the current that leaves the node or the group, a voltage that is equal to another one,
 -- or a voltage that is known; part by part
 abbrev pub doubled_entry : Doubled → ℕ → ℕ → RowKind → ℤ
-doubled_entry s r c Kcl = admittance_entry s.case s.ports (is_imaginary r) (is_imaginary c) (node_at s.case (r / 2)) (node_at s.case (c / 2))
-doubled_entry s r c Sum = group_sum s.case s.kinds (r / 2) (λ n. admittance_entry s.case s.ports (is_imaginary r) (is_imaginary c) n (node_at s.case (c / 2)))
+doubled_entry s r c Kcl =
+    admittance_entry s.case s.ports (is_imaginary r) (is_imaginary c) (node_at s.case (r / 2))
+    (node_at s.case (c / 2))
+doubled_entry s r c Sum =
+    group_sum s.case s.kinds (r / 2)
+    (λ n. admittance_entry s.case s.ports (is_imaginary r) (is_imaginary c) n (node_at s.case (c / 2)))
 doubled_entry s r c (Tie row) = unit r c -ℤ unit (2 * row + r % 2) c
 doubled_entry s r c Ground = unit r c
 doubled_entry s r c Source = unit r c

@@ -63,4 +63,5 @@ line_at case probe freq = record { freq = freq; answer = answer_by case probe (j
 
 -- a line for each frequency
 abbrev pub scan_lines : Parts → Probe → ℤ → ℤ → ℤ → List ScanLine
-scan_lines case probe first last by = map (λ k. line_at case probe (frequency_at first by k)) (range_with_len 0 (frequency_count first last by))
+scan_lines case probe first last by =
+    map (λ k. line_at case probe (frequency_at first by k)) (range_with_len 0 (frequency_count first last by))

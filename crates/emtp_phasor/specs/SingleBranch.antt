@@ -25,9 +25,12 @@ reactance_at freq b = inductive_reactance (angular_frequency freq) b.l -ℤ capa
 abbrev pub sight_bound : ℤ → ℤ → ℤ → ℤ → ℤ → ℤ → ℕ
 sight_bound r x tolerance amplitude re im =
     10 ^ 18 * unsigned_abs amplitude
-    + (unsigned_abs r + unsigned_abs x) * (10 ^ 21 * (2 * unsigned_abs tolerance + 1) + (unsigned_abs re + unsigned_abs im + 1) * unsigned_abs amplitude)
+    + (unsigned_abs r + unsigned_abs x)
+    * (10 ^ 21 * (2 * unsigned_abs tolerance + 1) + (unsigned_abs re + unsigned_abs im + 1) * unsigned_abs amplitude)
 
 -- re + j im, in 10^-9 ohm, is R + jX, in micro-ohm, within that bound
 pub record IsSeen (r x tolerance amplitude re im : ℤ) : Type 0 where
-  pub resistance : 2 * 10 ^ 18 * unsigned_abs (re -ℤ pos 1000 *ℤ r) * unsigned_abs amplitude ≤ sight_bound r x tolerance amplitude re im
-  pub reactance : 2 * 10 ^ 18 * unsigned_abs (im -ℤ pos 1000 *ℤ x) * unsigned_abs amplitude ≤ sight_bound r x tolerance amplitude re im
+  pub resistance : 2 * 10 ^ 18 * unsigned_abs (re -ℤ pos 1000 *ℤ r) * unsigned_abs amplitude
+      ≤ sight_bound r x tolerance amplitude re im
+  pub reactance : 2 * 10 ^ 18 * unsigned_abs (im -ℤ pos 1000 *ℤ x) * unsigned_abs amplitude
+      ≤ sight_bound r x tolerance amplitude re im

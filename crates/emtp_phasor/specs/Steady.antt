@@ -51,7 +51,8 @@ steady_right case = doubled_right case (resting_kinds case)
 -- a part of the current that enters a branch at an end with voltage v, where the other end has voltage u
 abbrev pub entering : Bool → TwoPort → Phasor → Phasor → ℤ
 entering part y v u =
-    near ((in_block part false y.own *ℤ v.re +ℤ in_block part true y.own *ℤ v.im) +ℤ (in_block part false y.other *ℤ u.re +ℤ in_block part true y.other *ℤ u.im)) PICO
+    near ((in_block part false y.own *ℤ v.re +ℤ in_block part true y.own *ℤ v.im)
+    +ℤ (in_block part false y.other *ℤ u.re +ℤ in_block part true y.other *ℤ u.im)) PICO
 
 -- the same at the first end of a branch and at the second
 abbrev pub first_current : Bool → TwoPort → List Phasor → Branch → ℤ
@@ -67,27 +68,38 @@ is_in_range i = is_within LARGEST_VALUE i
 abbrev pub flows : TwoPort → List Phasor → Option Branch → Bool
 flows y volts None = true
 flows y volts (Some b) =
-    (is_in_range (first_current false y volts b) && is_in_range (first_current true y volts b)) && (is_in_range (second_current false y volts b) && is_in_range (second_current true y volts b))
+    (is_in_range (first_current false y volts b) && is_in_range (first_current true y volts b))
+    && (is_in_range (second_current false y volts b) && is_in_range (second_current true y volts b))
 
 abbrev pub first_flow_out : Parts → List TwoPort → List Phasor → Option ℕ
-first_flow_out case ports volts = position (λ b. not (flows (port_at ports b) volts (slice_get case.branches b))) (range_with_len 0 (length case.branches))
+first_flow_out case ports volts =
+    position (λ b. not (flows (port_at ports b) volts (slice_get case.branches b)))
+    (range_with_len 0 (length case.branches))
 
 -- ---- residuals
 
 -- a part of the current that leaves node n through a branch
 abbrev pub leaving_through : Bool → TwoPort → List Phasor → ℕ → Option Branch → ℤ
 leaving_through part y volts n None = pos 0
-leaving_through part y volts n (Some b) = (if from_of b == n then first_current part y volts b else pos 0) +ℤ (if to_of b == n then second_current part y volts b else pos 0)
+leaving_through part y volts n (Some b) =
+    (if from_of b == n then first_current part y volts b else pos 0)
+    +ℤ (if to_of b == n then second_current part y volts b else pos 0)
 
 -- a part of the current that leaves node n through branches, less what its current sources bring
 abbrev pub leaving_node : Parts → List TwoPort → List Phasor → Bool → ℕ → ℤ
-leaving_node case ports volts part n = sum_below (length case.branches) (λ b. leaving_through part (port_at ports b) volts n (slice_get case.branches b)) -ℤ source_phasors_into case part n
+leaving_node case ports volts part n =
+    sum_below (length case.branches)
+    (λ b. leaving_through part (port_at ports b) volts n (slice_get case.branches b))
+    -ℤ source_phasors_into case part n
 
 -- the greater magnitude of the two parts
 abbrev pub residual_in : Parts → List TwoPort → List Phasor → ℕ → RowKind → ℕ
-residual_in case ports volts i Kcl = max (unsigned_abs (leaving_node case ports volts false (node_at case i))) (unsigned_abs (leaving_node case ports volts true (node_at case i)))
+residual_in case ports volts i Kcl =
+    max (unsigned_abs (leaving_node case ports volts false (node_at case i)))
+    (unsigned_abs (leaving_node case ports volts true (node_at case i)))
 residual_in case ports volts i Sum =
-    max (unsigned_abs (group_sum case (resting_kinds case) i (leaving_node case ports volts false))) (unsigned_abs (group_sum case (resting_kinds case) i (leaving_node case ports volts true)))
+    max (unsigned_abs (group_sum case (resting_kinds case) i (leaving_node case ports volts false)))
+    (unsigned_abs (group_sum case (resting_kinds case) i (leaving_node case ports volts true)))
 residual_in case ports volts i (Tie row) = 0
 residual_in case ports volts i Ground = 0
 residual_in case ports volts i SourceRow = 0
@@ -96,7 +108,9 @@ abbrev pub row_residual : Parts → List TwoPort → List Phasor → ℕ → ℕ
 row_residual case ports volts i = residual_in case ports volts i (kind_at (resting_kinds case) i)
 
 abbrev pub first_residual_above : Parts → List TwoPort → List Phasor → Option ℕ
-first_residual_above case ports volts = position (λ i. nat_lt (unsigned_abs case.run.tolerance) (row_residual case ports volts i)) (range_with_len 0 (length case.nodes))
+first_residual_above case ports volts =
+    position (λ i. nat_lt (unsigned_abs case.run.tolerance) (row_residual case ports volts i))
+    (range_with_len 0 (length case.nodes))
 
 abbrev pub greatest_below : ℕ → (ℕ → ℕ) → ℕ
 greatest_below zero f = 0
@@ -125,7 +139,9 @@ pub record State : Type 0 where
   pub residual : ℕ
 
 abbrev pub untied_at_rest : Parts → Result (Unit {0}) Ending
-untied_at_rest case = unless (tied_of case.switches (order_of case) (rest_of case).switch_states) (λ s. ending_at (node_of_switch case s) Tied) (Ok tt)
+untied_at_rest case =
+    unless (tied_of case.switches (order_of case) (rest_of case).switch_states)
+    (λ s. ending_at (node_of_switch case s) Tied) (Ok tt)
 
 abbrev pub named_ending : Parts → Result (List ℤ) PlainFault → Result (List ℤ) Ending
 named_ending case (Ok x) = Ok x
@@ -140,7 +156,8 @@ within case ports volts = unless (first_flow_out case ports volts) (λ b. ending
 
 abbrev pub balanced_residuals : Parts → List TwoPort → List Phasor → Result State Ending
 balanced_residuals case ports volts =
-    unless (first_residual_above case ports volts) (λ i. record { node = node_at case i; cause = Residual; measured = pos (row_residual case ports volts i) })
+    unless (first_residual_above case ports volts)
+    (λ i. record { node = node_at case i; cause = Residual; measured = pos (row_residual case ports volts i) })
     (Ok (record { volts = volts; residual = greatest_below (length case.nodes) (row_residual case ports volts) }))
 
 unfoldable pub steady : Parts → ℤ → Result State Ending

@@ -45,11 +45,13 @@ source_part imaginary s = near (s.amplitude *ℤ cosine (part_phase imaginary (c
 
 -- a part of what the current sources bring to node n
 abbrev pub source_phasors_into : Parts → Bool → ℕ → ℤ
-source_phasors_into case imaginary n = total (λ (s : Source). if s.current && (s.node == n) then source_part imaginary s else pos 0) case.sources
+source_phasors_into case imaginary n =
+    total (λ (s : Source). if s.current && (s.node == n) then source_part imaginary s else pos 0) case.sources
 
 -- a part of the voltage that a source keeps at node n
 abbrev pub source_phasor_at : Parts → Bool → ℕ → ℤ
-source_phasor_at case imaginary n = unwrap_or (option_map (source_part imaginary) (find (is_voltage_source_at n) case.sources)) (pos 0)
+source_phasor_at case imaginary n =
+    unwrap_or (option_map (source_part imaginary) (find (is_voltage_source_at n) case.sources)) (pos 0)
 
 -- ---- the right side
 

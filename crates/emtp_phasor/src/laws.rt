@@ -30,30 +30,40 @@ pub fn matrix_is_complex()
 
 /// The admittance between two nodes is the same from either of them, part by part.
 pub fn admittances_are_symmetric()
-    ensures { (case : Parts) (ports : List TwoPort) (row column : Bool) (n m : ℕ) → admittance_entry case ports row column n m ≡ admittance_entry case ports row column m n }
+    ensures { (case : Parts) (ports : List TwoPort) (row column : Bool) (n m : ℕ)
+        → admittance_entry case ports row column n m ≡ admittance_entry case ports row column m n }
 {}
 
 /// The current of a series branch of the admittance G + jB goes by the difference a + jb of the voltages at its ends alone:
 /// it is (G a - B b) + j (B a + G b), each part rounded once.
 pub fn series_current_goes_by_the_difference()
-    ensures real { (y : Admittance) (v u : Phasor) → entering false (across_ends y) v u ≡ near (y.conductance *ℤ (v.re -ℤ u.re) -ℤ y.susceptance *ℤ (v.im -ℤ u.im)) PICO }
-    ensures imaginary { (y : Admittance) (v u : Phasor) → entering true (across_ends y) v u ≡ near (y.susceptance *ℤ (v.re -ℤ u.re) +ℤ y.conductance *ℤ (v.im -ℤ u.im)) PICO }
+    ensures real { (y : Admittance) (v u : Phasor)
+        → entering false (across_ends y) v u
+        ≡ near (y.conductance *ℤ (v.re -ℤ u.re) -ℤ y.susceptance *ℤ (v.im -ℤ u.im)) PICO }
+    ensures imaginary { (y : Admittance) (v u : Phasor)
+        → entering true (across_ends y) v u
+        ≡ near (y.susceptance *ℤ (v.re -ℤ u.re) +ℤ y.conductance *ℤ (v.im -ℤ u.im)) PICO }
 {}
 
 /// Each line of a scan is that of its frequency alone.
 pub fn scan_lines_stand_alone()
-    ensures { (case : Parts) (probe : Probe) (first last by : ℤ) (k : ℕ) → k < frequency_count first last by → slice_get (scan_lines case probe first last by) k ≡ Some (line_at case probe (frequency_at first by k)) }
+    ensures { (case : Parts) (probe : Probe) (first last by : ℤ) (k : ℕ) → k < frequency_count first last by
+        → slice_get (scan_lines case probe first last by) k ≡ Some (line_at case probe (frequency_at first by k)) }
 {}
 
 /// Where a case has a steady state at a frequency, the line of a scan has the voltage that this state has at the source's
 /// node, over the amplitude.
 pub fn scan_line_is_the_phasor()
-    ensures { (case : Parts) (probe : Probe) (freq : ℤ) (p : Phasors) → IsSolved case (Some freq) p → (line_at case probe freq).answer ≡ impedance_seen case probe (volt_at (nothing ∷ p.volts.items) probe.node) }
+    ensures { (case : Parts) (probe : Probe) (freq : ℤ) (p : Phasors) → IsSolved case (Some freq) p
+        → (line_at case probe freq).answer
+        ≡ impedance_seen case probe (volt_at (nothing ∷ p.volts.items) probe.node) }
 {}
 
 /// The source of a scan that feeds a single series branch to ground, at a node that no closed switch joins with another one, sees
 /// R + jX, each part within half a nano-ohm, |R| + |X| times the tolerance and half a nA over the amplitude, and |R| + |X| times
 /// half a pS times the magnitudes that it sees and 1 nano-ohm.
 pub fn single_branch_is_seen_as_r_and_x()
-    ensures { (case : Parts) (probe : Probe) (b : Lumped) (freq re im : ℤ) → judged_probe case ≡ Ok probe → IsBranchToGround case b probe.node → (line_at case probe freq).answer ≡ Impedance re im → IsSeen b.r (reactance_at freq b) case.run.tolerance probe.amplitude re im }
+    ensures { (case : Parts) (probe : Probe) (b : Lumped) (freq re im : ℤ) → judged_probe case ≡ Ok probe
+        → IsBranchToGround case b probe.node → (line_at case probe freq).answer ≡ Impedance re im
+        → IsSeen b.r (reactance_at freq b) case.run.tolerance probe.amplitude re im }
 {}

@@ -38,7 +38,8 @@ fn branches_at(alloc: Global, case: &Case, node: u32) -> Result<Vec<u32>, AllocE
 /// Adds the place of a branch, where it has an end at the node.
 fn add_place(places: &mut Vec<u32>, case: &Case, node: u32, at: usize) -> Result<(), AllocError>
     requires { at < length case.now.parts.branches }
-    ensures { OnOk result (places.new.items ≡ places.old.items ++ place_if (has_end_at node (slice_get case.now.parts.branches at)) at) }
+    ensures { OnOk result (places.new.items
+        ≡ places.old.items ++ place_if (has_end_at node (slice_get case.now.parts.branches at)) at) }
 {
     if has_end_at(node, &case.parts.branches.as_slice()[at]) {
         places.push(at as u32)?;

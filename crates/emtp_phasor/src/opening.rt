@@ -45,7 +45,8 @@ pub(crate) fn row_kinds(
     requires lawful { IsRowOrder case.now.parts order.now }
     ensures kinds { IfOk result (λ kinds. kinds.items ≡ resting_kinds case.now.parts) }
     ensures are { IfOk result (λ kinds. AreKinds (length case.now.parts.nodes) order.now.fixed kinds.items) }
-    ensures untied { OnOk result (tied_of case.now.parts.switches (order_of case.now.parts) (rest_of case.now.parts).switch_states ≡ None) }
+    ensures untied { OnOk result
+        (tied_of case.now.parts.switches (order_of case.now.parts) (rest_of case.now.parts).switch_states ≡ None) }
     ensures closed { IfErr result (IsClosed case.now.parts) }
 {
     let mut kinds = vec![in alloc; RowKind::Kcl; case.parts.nodes.len()]?;

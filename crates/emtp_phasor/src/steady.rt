@@ -102,7 +102,9 @@ pub(crate) fn solve_right(
     requires x { length x.old ≡ 2 * length network.case.now.parts.nodes }
     ensures solved { OnOk result ((rows : Matrix) → AreAllFinished rows done.now.rows → outcome rows right.now ≡ Ok x.new) }
     ensures within { OnOk result (AreWithin LARGEST_VALUE x.new) }
-    ensures fault { IfErr result (λ e. (rows : Matrix) → AreAllFinished rows done.now.rows → named_ending network.entry.case.now.parts (outcome rows right.now) ≡ Err e) }
+    ensures fault { IfErr result
+        (λ e. (rows : Matrix) → AreAllFinished rows done.now.rows
+        → named_ending network.entry.case.now.parts (outcome rows right.now) ≡ Err e) }
     ensures node { IfErr result (λ e. IsNode network.entry.case.now.parts e.node) }
 {
     rhs.copy_from_slice(right);

@@ -239,7 +239,8 @@ impl System {
         requires ports { HasPorts case.now.parts freq self.old }
         ensures ready { IsReady case.now.parts self.new }
         ensures ports { HasPorts case.now.parts freq self.new }
-        ensures solved { OnOk result (outcome (doubled_system case.now.parts freq) (steady_right case.now.parts) ≡ Ok self.new.x.items) }
+        ensures solved { OnOk result
+            (outcome (doubled_system case.now.parts freq) (steady_right case.now.parts) ≡ Ok self.new.x.items) }
         ensures within { OnOk result (AreWithin LARGEST_VALUE self.new.x.items) }
         ensures fault { IfErr result (λ e. doubled_solution case.now.parts freq ≡ Err e) }
         ensures node { IfErr result (λ e. IsNode case.now.parts e.node) }

@@ -40,7 +40,9 @@ refusal_name Probe = codes "Probe"
 
 -- which card is refused, and why
 unfoldable pub refusal_note : ℕ → Refusal → List ℕ
-refusal_note line reason = codes "REFUSED LINE " ++ decimal line ++ codes " REASON " ++ decimal (refusal_number reason) ++ codes " " ++ refusal_name reason ++ codes "\n"
+refusal_note line reason =
+    codes "REFUSED LINE " ++ decimal line ++ codes " REASON " ++ decimal (refusal_number reason) ++ codes " "
+    ++ refusal_name reason ++ codes "\n"
 
 -- how a solution ended
 unfoldable pub steady_end_note : Cause → List ℕ → ℤ → List ℕ
@@ -53,16 +55,20 @@ zero_phasor = record { re = pos 0; im = pos 0 }
 
 -- the line of a node
 unfoldable pub node_line : List ℕ → Phasor → List ℕ
-node_line name v = codes "NODE " ++ name ++ codes " RE " ++ fixed_text v.re NANO_PLACES ++ codes " IM " ++ fixed_text v.im NANO_PLACES ++ codes "\n"
+node_line name v =
+    codes "NODE " ++ name ++ codes " RE " ++ fixed_text v.re NANO_PLACES ++ codes " IM "
+    ++ fixed_text v.im NANO_PLACES ++ codes "\n"
 
 -- the lines of the first nodes
 abbrev pub node_lines : List (List ℕ) → List Phasor → ℕ → List ℕ
 node_lines names volts zero = []
-node_lines names volts (suc n) = node_lines names volts n ++ node_line (slice_index_or names n []) (slice_index_or volts n zero_phasor)
+node_lines names volts (suc n) =
+    node_lines names volts n ++ node_line (slice_index_or names n []) (slice_index_or volts n zero_phasor)
 
 -- the first line
 unfoldable pub steady_line : ℤ → ℤ → List ℕ
-steady_line freq residual = codes "PHASOR F " ++ fixed_text freq HERTZ_PLACES ++ codes " RESIDUAL " ++ signed_decimal residual ++ codes "\n"
+steady_line freq residual =
+    codes "PHASOR F " ++ fixed_text freq HERTZ_PLACES ++ codes " RESIDUAL " ++ signed_decimal residual ++ codes "\n"
 
 abbrev pub steady_summary : List (List ℕ) → ℤ → ℤ → List Phasor → List ℕ
 steady_summary names freq residual volts = steady_line freq residual ++ node_lines names volts (length names)
@@ -104,7 +110,8 @@ resonance_by false freq = []
 resonance_by true freq = codes "RESONANCE " ++ fixed_text freq HERTZ_PLACES ++ codes "\n"
 
 unfoldable pub resonance_line : ScanLine → ScanLine → ScanLine → List ℕ
-resonance_line before here after = resonance_by (is_peak (size_seen before.answer) (size_seen here.answer) (size_seen after.answer)) here.freq
+resonance_line before here after =
+    resonance_by (is_peak (size_seen before.answer) (size_seen here.answer) (size_seen after.answer)) here.freq
 
 -- for each line but the first and the last
 abbrev pub resonance_lines : List ScanLine → List ℕ

@@ -48,7 +48,13 @@ outward reactor dt points k = record {
 
 -- the mirror image of a segment: base point and ends are turned, and the ends change places
 abbrev pub mirrored : Segment → Segment
-mirrored s = record { conductance = s.conductance; base = mirrored_point s.base; rise = s.rise; upper = mirrored_end s.lower; lower = mirrored_end s.upper }
+mirrored s = record {
+  conductance = s.conductance;
+  base = mirrored_point s.base;
+  rise = s.rise;
+  upper = mirrored_end s.lower;
+  lower = mirrored_end s.upper;
+}
 
 -- any segment
 unfoldable pub segment_of : Bool → ℤ → List Point → ℤ → Segment

@@ -17,7 +17,9 @@ moment_at_rest = record { state = no_pseudo; voltage = pos 0 }
 -- J: of a resistor ib - g*yb, of a reactor g*v' + ib + (flux' - yb)*di/dy
 abbrev pub history_current_of : Bool → Segment → Moment → ℤ
 history_current_of false s old = s.base.current -ℤ near (s.conductance *ℤ s.base.other) PICO
-history_current_of true s old = (near (s.conductance *ℤ old.voltage) PICO +ℤ s.base.current) +ℤ near (s.rise.current *ℤ (old.state.flux -ℤ s.base.other)) s.rise.other
+history_current_of true s old =
+    (near (s.conductance *ℤ old.voltage) PICO +ℤ s.base.current)
+    +ℤ near (s.rise.current *ℤ (old.state.flux -ℤ s.base.other)) s.rise.other
 
 -- i = g*v + J
 abbrev pub current_of : Bool → Segment → Moment → ℤ → ℤ

@@ -57,7 +57,9 @@ impl HeldBranch {
         requires card { IsPseudo case.now.parts.run (sizes_of case.now.parts) case.now.parts.points self.now.card }
         requires held { IsHeld case.now.parts self.now.card self.now }
         requires v { unsigned_abs v ≤ 2 ^ 64 }
-        ensures value { option_map moment_in result ≡ option_map (moment_at v) (next_state self.now.card.reactor case.now.parts.run.dt self.now.segment self.now.moment v) }
+        ensures value { option_map moment_in result
+            ≡ option_map (moment_at v)
+            (next_state self.now.card.reactor case.now.parts.run.dt self.now.segment self.now.moment v) }
         ensures held { IfSome result (IsHeld case.now.parts self.now.card) }
     {
         let state = next(

@@ -19,11 +19,14 @@ pub fn rest_stays(case: &Case, x: &Pseudo)
 
 /// A step leaves its segment for no other than one of the two beside it.
 pub fn one_segment_a_step(case: &Case, x: &Pseudo)
-    ensures { (past : List Moment) (v : ℤ) → IfSome (next_of case.now.parts x.now past v) (λ state. unsigned_abs (state.segment -ℤ (newest past).state.segment) ≤ 1) }
+    ensures { (past : List Moment) (v : ℤ)
+        → IfSome (next_of case.now.parts x.now past v)
+        (λ state. unsigned_abs (state.segment -ℤ (newest past).state.segment) ≤ 1) }
 {}
 
 /// The branch is odd: with the last record and the voltage turned, current, flux and segment are turned.
 pub fn odd_symmetry(case: &Case, x: &Pseudo)
     requires { IsPseudo case.now.parts.run (sizes_of case.now.parts) case.now.parts.points x.now }
-    ensures { (past turned : List Moment) (v : ℤ) → newest turned ≡ mirrored_moment (newest past) → next_of case.now.parts x.now turned (neg_ℤ v) ≡ mirrored_next (next_of case.now.parts x.now past v) }
+    ensures { (past turned : List Moment) (v : ℤ) → newest turned ≡ mirrored_moment (newest past)
+        → next_of case.now.parts x.now turned (neg_ℤ v) ≡ mirrored_next (next_of case.now.parts x.now past v) }
 {}

@@ -55,7 +55,8 @@ impl<'a> Pseudos<'a> {
     pub fn conductance(&self, branch: usize) -> i64
         requires { (x : Pseudo) × IsPseudoAt self.now.case branch x }
         ensures bound { IsBetween 0 LARGEST_ENTRY result }
-        ensures value { (x : Pseudo) (past : List Moment) → IsPseudoAt self.now.case branch x → StandsAt self.now branch past → result ≡ (present self.now.case x past).conductance }
+        ensures value { (x : Pseudo) (past : List Moment) → IsPseudoAt self.now.case branch x
+            → StandsAt self.now branch past → result ≡ (present self.now.case x past).conductance }
     {
         self.held[branch].segment.conductance
     }
@@ -65,7 +66,8 @@ impl<'a> Pseudos<'a> {
     pub fn history_current(&self, branch: usize) -> i128
         requires { (x : Pseudo) × IsPseudoAt self.now.case branch x }
         ensures bound { unsigned_abs result ≤ 10 ^ 30 }
-        ensures value { (x : Pseudo) (past : List Moment) → IsPseudoAt self.now.case branch x → StandsAt self.now branch past → result ≡ next_history_current self.now.case x past }
+        ensures value { (x : Pseudo) (past : List Moment) → IsPseudoAt self.now.case branch x
+            → StandsAt self.now branch past → result ≡ next_history_current self.now.case x past }
     {
         self.held[branch].history_current
     }

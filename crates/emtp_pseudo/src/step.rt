@@ -34,7 +34,8 @@ pub(crate) fn next(
     ensures value { result ≡ next_state reactor dt segment.now old.now v }
     ensures current { IfSome result (λ state. unsigned_abs state.current ≤ LARGEST_VALUE) }
     ensures flux { IfSome result (λ state. unsigned_abs state.flux ≤ LARGEST_VALUE) }
-    ensures segment { IfSome result (λ state. state.segment ≡ next_segment segment.now old.now.state.segment (place_of reactor state.flux v)) }
+    ensures segment { IfSome result
+        (λ state. state.segment ≡ next_segment segment.now old.now.state.segment (place_of reactor state.flux v)) }
 {
     let current = in_range(current(reactor, segment, old, history, v))?;
     let flux = in_range(flux(reactor, dt, old, v))?;

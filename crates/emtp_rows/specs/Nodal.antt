@@ -45,12 +45,14 @@ phase_node case second t phase = slice_index_or (map (end_node second) case.bran
 
 -- what a phase puts between the node at an end and the node that another phase of its line has at the same end
 abbrev pub to_phase : Parts → Bool → Phase → ℕ → ℤ → ℕ → ℕ → ℤ
-to_phase case second x other coupled n m = same_node (end_node second (OfPhase x)) n *ℤ coupled *ℤ same_node (phase_node case second x.trio other) m
+to_phase case second x other coupled n m =
+    same_node (end_node second (OfPhase x)) n *ℤ coupled *ℤ same_node (phase_node case second x.trio other) m
 
 -- what a phase puts at one end: its own conductance to ground, and the mutual one to each of the two other phases
 abbrev pub phase_end : Parts → Bool → Phase → ℤ → ℤ → ℕ → ℕ → ℤ
 phase_end case second x own coupled n m =
-    to_ground second (OfPhase x) own n m +ℤ to_phase case second x ((x.phase + 1) % 3) coupled n m +ℤ to_phase case second x ((x.phase + 2) % 3) coupled n m
+    to_ground second (OfPhase x) own n m +ℤ to_phase case second x ((x.phase + 1) % 3) coupled n m
+    +ℤ to_phase case second x ((x.phase + 2) % 3) coupled n m
 
 -- what the branch at a place puts between nodes n and m, by its own conductance and the mutual ones of all lines
 abbrev pub between : Parts → ℤ → List ℤ → ℕ → ℕ → Option Branch → ℤ
@@ -58,11 +60,13 @@ between case g coupling n m None = pos 0
 between case g coupling n m (Some (OfLumped x)) = across (OfLumped x) g n m
 between case g coupling n m (Some (OfPseudo x)) = across (OfPseudo x) g n m
 between case g coupling n m (Some (OfLine x)) = to_ground false (OfLine x) g n m +ℤ to_ground true (OfLine x) g n m
-between case g coupling n m (Some (OfPhase x)) = phase_end case false x g (item coupling x.trio) n m +ℤ phase_end case true x g (item coupling x.trio) n m
+between case g coupling n m (Some (OfPhase x)) =
+    phase_end case false x g (item coupling x.trio) n m +ℤ phase_end case true x g (item coupling x.trio) n m
 
 -- the conductance between nodes n and m, and of node n itself: the sum over all branches
 abbrev pub current_entry : Parts → List ℤ → List ℤ → ℕ → ℕ → ℤ
-current_entry case own coupling n m = sum_below (length case.branches) (λ b. between case (item own b) coupling n m (slice_get case.branches b))
+current_entry case own coupling n m =
+    sum_below (length case.branches) (λ b. between case (item own b) coupling n m (slice_get case.branches b))
 
 -- ---- the rows
 

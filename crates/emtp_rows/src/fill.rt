@@ -31,7 +31,8 @@ pub(crate) fn fill_row(
     requires terms { AreRowTerms (length rows.now) (length own.now) (length coupling.now) rows.now }
     requires own { All IsSmall own.now }
     requires coupling { All IsSmall coupling.now }
-    ensures { (j : ℕ) → j < length out.old → item out.new j ≡ filled_entry rows.now own.now coupling.now kinds.now i j (kind_at kinds.now i) }
+    ensures { (j : ℕ) → j < length out.old
+        → item out.new j ≡ filled_entry rows.now own.now coupling.now kinds.now i j (kind_at kinds.now i) }
 {
     out.fill(0);
     match kinds[i] {
@@ -61,7 +62,10 @@ fn add_group(
     requires terms { AreRowTerms (length rows.now) (length own.now) (length coupling.now) rows.now }
     requires own { All IsSmall own.now }
     requires coupling { All IsSmall coupling.now }
-    ensures { (j : ℕ) → j < length out.old → item out.new j ≡ sum_below (length rows.now) (λ k. if is_member kinds.now i k then total (in_column own.now coupling.now j) (slice_index_or rows.now k []) else pos 0) }
+    ensures { (j : ℕ) → j < length out.old
+        → item out.new j ≡ sum_below (length rows.now)
+        (λ k. if is_member kinds.now i k
+        then total (in_column own.now coupling.now j) (slice_index_or rows.now k []) else pos 0) }
 {
     for k in 0..rows.len() {
         add_member(
@@ -81,7 +85,9 @@ fn add_member(terms: &[Term], own: &[i64], coupling: &[i64], is_member: bool, ou
     requires own { All IsSmall own.now }
     requires coupling { All IsSmall coupling.now }
     requires out { (j : ℕ) → j < length out.old → unsigned_abs (item out.old j) ≤ 10 ^ 30 }
-    ensures { (j : ℕ) → j < length out.old → item out.new j ≡ item out.old j +ℤ (if is_member then total (in_column own.now coupling.now j) terms.now else pos 0) }
+    ensures { (j : ℕ) → j < length out.old
+        → item out.new j ≡ item out.old j
+        +ℤ (if is_member then total (in_column own.now coupling.now j) terms.now else pos 0) }
 {
     if is_member {
         add_terms(terms, own, coupling, out);
@@ -111,7 +117,8 @@ fn add_terms(terms: &[Term], own: &[i64], coupling: &[i64], out: &mut [i128])
     requires own { All IsSmall own.now }
     requires coupling { All IsSmall coupling.now }
     requires out { (j : ℕ) → j < length out.old → unsigned_abs (item out.old j) ≤ 10 ^ 30 }
-    ensures { (j : ℕ) → j < length out.old → item out.new j ≡ item out.old j +ℤ total (in_column own.now coupling.now j) terms.now }
+    ensures { (j : ℕ) → j < length out.old
+        → item out.new j ≡ item out.old j +ℤ total (in_column own.now coupling.now j) terms.now }
 {
     for term in terms {
         add_to(

@@ -116,7 +116,8 @@ fn add_phases(
     requires order { order.now ≡ order_of case.now.parts }
     requires trio { phase.now.trio < length case.now.parts.trios }
     requires phase { phase.now.phase < 3 }
-    ensures { OnOk result (Adds case.now.parts (drop 1 (end_terms case.now.parts 0 second (OfPhase phase.now))) terms.old.items terms.new.items) }
+    ensures { OnOk result (Adds case.now.parts (drop 1 (end_terms case.now.parts 0 second (OfPhase phase.now)))
+        terms.old.items terms.new.items) }
 {
     let coupling = Amount::Mutual(phase.trio);
     let next = phase_node(case, second, phase.trio, (phase.phase + 1) % 3);

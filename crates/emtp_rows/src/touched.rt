@@ -46,7 +46,8 @@ pub(crate) fn touched_by_branch(kinds: &[RowKind], ends: (u32, u32)) -> usize
 pub(crate) fn touched_by_phases(kinds: &[RowKind], ends: &[(u32, u32)], first: usize) -> usize
     requires there { first + 3 ≤ length ends.now }
     requires rows { (b : ℕ) (e : ℕ × ℕ) → slice_get ends.now b ≡ Some e → (e.0 ≤ length kinds.now) × (e.1 ≤ length kinds.now) }
-    ensures { (p : ℕ) (e : ℕ × ℕ) → p < 3 → slice_get ends.now (first + p) ≡ Some e → (result ≤ equation_row kinds.now e.0) × (result ≤ equation_row kinds.now e.1) }
+    ensures { (p : ℕ) (e : ℕ × ℕ) → p < 3 → slice_get ends.now (first + p) ≡ Some e
+        → (result ≤ equation_row kinds.now e.0) × (result ≤ equation_row kinds.now e.1) }
 {
     touched_by_branch(kinds, ends[first])
         .min(touched_by_branch(kinds, ends[first + 1]))

@@ -11,4 +11,5 @@ run_note case h = note_by h.end (length h.records - 1) (length (samples case h))
 
 -- the summary of the trial of a number
 abbrev pub trial_text : ℕ → Parts → History → List ℕ
-trial_text number case h = trial_summary number h.end (length h.records - 1) (redone case h) (samples case h) (length case.channels)
+trial_text number case h =
+    trial_summary number h.end (length h.records - 1) (redone case h) (samples case h) (length case.channels)

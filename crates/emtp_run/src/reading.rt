@@ -36,7 +36,8 @@ pub fn read_texts<C: Cabinet>(
     ensures unopened { UnlessAny (reads (task_of words.entry)) (IsUntouched (C.state cabinet.old) (C.state cabinet.new) result) }
     ensures texts { IsTrue (C.state cabinet.old).nature.tells →
         IfOk result (λ v. texts_for (task_of words.entry) (C.state cabinet.old).nature.files ≡ Some (texts_of v.items)) }
-    ensures count { IfOk result (λ v. length v.items ≡ length (own_texts (task_of words.entry)) + length (reads (task_of words.entry))) }
+    ensures count { IfOk result
+        (λ v. length v.items ≡ length (own_texts (task_of words.entry)) + length (reads (task_of words.entry))) }
 {
     match words {
         Words::Run(words) => read_inputs(alloc, &[text_file(words.case)], cabinet),

@@ -32,7 +32,8 @@ pub fn tell_scan<C: Cabinet>(
     cabinet: &mut C,
 ) -> Status
     requires { IsScan words.first words.last words.by }
-    ensures { EndsAfterReading result (report_outcome (scan_report case.now.parts words.entry.first words.entry.last words.entry.by))
+    ensures { EndsAfterReading result
+        (report_outcome (scan_report case.now.parts words.entry.first words.entry.last words.entry.by))
         (C.state cabinet.old) (C.state cabinet.new) }
 {
     match scan_report(alloc, case, words.first, words.last, words.by) {

@@ -171,7 +171,8 @@ impl<'c> Ran<'c> {
         requires case { self.old.machine.case ≡ case.now.parts }
         ensures balance { SamplesBalance case.now.parts }
         ensures names { EndsWithin case.now.parts }
-        ensures ends { EndsAfterReading result (ran case.now.parts (writes_of product.entry case.now.parts (history case.now.parts)))
+        ensures ends { EndsAfterReading result
+            (ran case.now.parts (writes_of product.entry case.now.parts (history case.now.parts)))
             (C.state cabinet.old) (C.state cabinet.new) }
     {
         self.end = self.machine.run_alone();

@@ -88,7 +88,8 @@ pub fn read_words(words: &[String]) -> Option<Words<'_>>
 
 /// What `run CASE CFG DAT` and `audit CASE CFG DAT` name.
 fn record_words<'a>(command: &str, case: &'a str, cfg: &'a str, dat: &'a str) -> Option<Words<'a>>
-    ensures value { option_map (λ w. task_of w) result ≡ fits (command.now ∷ case.entry.now ∷ cfg.entry.now ∷ dat.entry.now ∷ []) }
+    ensures value { option_map (λ w. task_of w) result
+        ≡ fits (command.now ∷ case.entry.now ∷ cfg.entry.now ∷ dat.entry.now ∷ []) }
     ensures task { IfSome result (λ w. IsTask (task_of w)) }
 {
     if is_name(case) && is_name(cfg) && is_name(dat) && differ(case, cfg, dat) {
@@ -158,7 +159,8 @@ fn scan_words<'a>(
     last: &str,
     by: &str,
 ) -> Option<Words<'a>>
-    ensures value { option_map (λ w. task_of w) result ≡ fits (command.now ∷ case.entry.now ∷ first.now ∷ last.now ∷ by.now ∷ []) }
+    ensures value { option_map (λ w. task_of w) result
+        ≡ fits (command.now ∷ case.entry.now ∷ first.now ∷ last.now ∷ by.now ∷ []) }
     ensures task { IfSome result (λ w. IsTask (task_of w)) }
 {
     if command == "scan" && is_name(case) {

@@ -33,7 +33,8 @@ use Rattle.emtp_taccards.specs.declared.formula_card.FormulaCard.{FormulaCard}
 -- A card defines the next variable. Its definition is a second one where the name has a lesser number: that of an earlier
 -- card, or of a variable of every case.
 abbrev pub second_sense : List (List ℕ) → ℕ → List ℕ → Option Fault
-second_sense variables next name = if nat_lt (variable_number variables name) next then Some (record { column = 3; why = TwoSources }) else None
+second_sense variables next name =
+    if nat_lt (variable_number variables name) next then Some (record { column = 3; why = TwoSources }) else None
 
 abbrev pub first_fault : Option Fault → Option Fault → Option Fault
 first_fault (Some fault) other = Some fault
@@ -43,7 +44,8 @@ first_fault None other = other
 abbrev pub inputs_sense : List (List ℕ) → ℕ → List (Option (Bool × List ℕ)) → Option Fault
 inputs_sense variables column [] = None
 inputs_sense variables column (input ∷ inputs) =
-    first_fault (unknown_name variables column (option_map (λ (i : Bool × List ℕ). i.1) input)) (inputs_sense variables (column + 8) inputs)
+    first_fault (unknown_name variables column (option_map (λ (i : Bool × List ℕ). i.1) input))
+    (inputs_sense variables (column + 8) inputs)
 
 -- ---- blocks
 
@@ -97,13 +99,15 @@ tacs_source_sense nodes switches variables at next card =
     ∷ [])
 
 abbrev pub tacs_source_bad : List (List ℕ) → List SwitchCard → List (List ℕ) → ℕ → ℕ → SourceCard → Option Bad
-tacs_source_bad nodes switches variables at next card = option_map (bad_at card.line) (tacs_source_sense nodes switches variables at next card)
+tacs_source_bad nodes switches variables at next card =
+    option_map (bad_at card.line) (tacs_source_sense nodes switches variables at next card)
 
 -- the sources after so many, the first of all having this number
 abbrev pub tacs_sources_bad : List (List ℕ) → List SwitchCard → List (List ℕ) → ℕ → ℕ → List SourceCard → Option Bad
 tacs_sources_bad nodes switches variables first at [] = None
 tacs_sources_bad nodes switches variables first at (card ∷ cards) =
-    first_bad (tacs_source_bad nodes switches variables at (first + at) card) (tacs_sources_bad nodes switches variables first (at + 1) cards)
+    first_bad (tacs_source_bad nodes switches variables at (first + at) card)
+    (tacs_sources_bad nodes switches variables first (at + 1) cards)
 
 -- ---- supplemental cards
 
@@ -112,7 +116,8 @@ is_unknown variables name = not (is_some (find_variable variables name))
 
 -- the names of an expression have one column
 abbrev pub names_sense : List (List ℕ) → List (List ℕ) → Option Fault
-names_sense variables names = if list_any (is_unknown variables) names then Some (record { column = 12; why = UnknownName }) else None
+names_sense variables names =
+    if list_any (is_unknown variables) names then Some (record { column = 12; why = UnknownName }) else None
 
 -- the device after so many cards, which needs so many history values with those before it
 unfoldable pub device_sense : List (List ℕ) → ℕ → ℕ → ℕ → DeviceCard → Option Fault

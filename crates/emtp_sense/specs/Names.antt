@@ -21,7 +21,8 @@ with_ends names a b = with_name (with_name names a) b
 
 abbrev pub with_entry_names : List (List ℕ) → BranchEntry → List (List ℕ)
 with_entry_names names (Single card first count) = with_ends names card.from card.to
-with_entry_names names (Trio zero' positive third) = with_ends (with_ends (with_ends names zero'.from zero'.to) positive.from positive.to) third.from third.to
+with_entry_names names (Trio zero' positive third) =
+    with_ends (with_ends (with_ends names zero'.from zero'.to) positive.from positive.to) third.from third.to
 
 abbrev pub with_switch_names : List (List ℕ) → SwitchCard → List (List ℕ)
 with_switch_names names card = with_ends names card.from card.to

@@ -50,7 +50,9 @@ with_pending_variable names other = names
 
 -- the variables that the cards define, after the six of every case
 abbrev pub defined_variables : ControlCards → List (List ℕ)
-defined_variables cards = fold with_extra_name (fold with_source_name (fold with_block_name standing_names cards.blocks) cards.sources) cards.extras
+defined_variables cards =
+    fold with_extra_name (fold with_source_name (fold with_block_name standing_names cards.blocks) cards.sources)
+    cards.extras
 
 abbrev pub variable_names : Deck → Place → List (List ℕ)
 variable_names deck place = with_pending_variable (defined_variables deck.control) place

@@ -11,7 +11,8 @@ use Rattle.std.specs.Prelude.{◌==◌, if◌then◌else◌, Bool, List, length,
 -- what leaves the nodes that have a label, where what leaves each node goes by row
 abbrev pub leaving_side : Rows → List ℕ → ℕ → List ℤ → ℤ
 leaving_side rows labels l leaving =
-    sum_below (length rows.nodes) (λ row. if slice_index labels (slice_index rows.nodes row) == l then item leaving row else pos 0)
+    sum_below (length rows.nodes)
+    (λ row. if slice_index labels (slice_index rows.nodes row) == l then item leaving row else pos 0)
 
 -- the current from one end to the other, by labels that part the ends: what leaves the side without the root
 abbrev pub crossing : Rows → List ℕ → ℕ → ℕ → ℕ → List ℤ → ℤ
@@ -42,5 +43,6 @@ contains es s = list_any (λ e. e == s) es
 abbrev pub currents_of : List Switch → Rows → List SwitchState → List ℤ → List ℤ
 currents_of switches rows states leaving =
     map
-    (λ s. if contains (bridges_of switches rows states) s then bridge_current switches rows (bridges_of switches rows states) leaving s else pos 0)
+    (λ s. if contains (bridges_of switches rows states) s
+    then bridge_current switches rows (bridges_of switches rows states) leaving s else pos 0)
     (range_with_len 0 (length switches))

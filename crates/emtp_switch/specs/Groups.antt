@@ -93,12 +93,15 @@ knows known labels l = list_any (λ k. slice_index labels k == l) known
 -- a switch that would join two groups that both hold a known voltage
 abbrev pub ties : List Switch → List ℕ → List ℕ → ℕ → Bool
 ties switches known labels s =
-    divides switches labels s && (knows known labels (slice_index labels (from_at switches s)) && knows known labels (slice_index labels (to_at switches s)))
+    divides switches labels s
+    && (knows known labels (slice_index labels (from_at switches s))
+    && knows known labels (slice_index labels (to_at switches s)))
 
 -- the first such among switches that are taken in this order
 abbrev pub first_tied : List Switch → List ℕ → List ℕ → List ℕ → Option ℕ
 first_tied switches known labels [] = None
-first_tied switches known labels (s ∷ rest) = if ties switches known labels s then Some s else first_tied switches known (join switches labels s) rest
+first_tied switches known labels (s ∷ rest) =
+    if ties switches known labels s then Some s else first_tied switches known (join switches labels s) rest
 
 abbrev pub tied_of : List Switch → Rows → List SwitchState → Option ℕ
 tied_of switches rows states = first_tied switches (known_nodes rows) (alone (length rows.nodes)) (closed_switches states)

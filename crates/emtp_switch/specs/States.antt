@@ -29,7 +29,8 @@ is_due (Some open_at) time = int_le open_at time
 
 abbrev pub breaker_state : ℤ → Option ℤ → ℤ → View → SwitchState → SwitchState
 breaker_state close open_at margin seen Waiting = if int_le close seen.time then Closed else Waiting
-breaker_state close open_at margin seen Closed = if is_due open_at seen.time && interrupts margin seen.current seen.before then Opened else Closed
+breaker_state close open_at margin seen Closed =
+    if is_due open_at seen.time && interrupts margin seen.current seen.before then Opened else Closed
 breaker_state close open_at margin seen Opened = Opened
 
 -- Valves

@@ -76,7 +76,8 @@ block_record number head inputs gain limits = record {
   high_name = limits.1.1;
 }
 
-abbrev pub block_with : ℕ → Result (ℕ × List ℕ) Fault → Result (List (Option (Bool × List ℕ))) Fault → Result ℤ Fault → Result Limits Fault → Result BlockCard Fault
+abbrev pub block_with : ℕ → Result (ℕ × List ℕ) Fault → Result (List (Option (Bool × List ℕ))) Fault → Result ℤ Fault
+    → Result Limits Fault → Result BlockCard Fault
 block_with number head inputs gain limits = do
   ((head, inputs), (gain, limits)) ← both (both head inputs) (both gain limits)
   Ok (block_record number head inputs gain limits)

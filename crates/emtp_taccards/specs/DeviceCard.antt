@@ -111,14 +111,17 @@ device_record number head coded variables plain = record {
   e = variables.1;
 }
 
-abbrev pub device_with : ℕ → Result (Group × List ℕ) Fault → Result Coded Fault → Result Variables Fault → Result (ℤ × ℤ) Fault → Result DeviceCard Fault
+abbrev pub device_with : ℕ → Result (Group × List ℕ) Fault → Result Coded Fault → Result Variables Fault
+    → Result (ℤ × ℤ) Fault → Result DeviceCard Fault
 device_with number head coded variables plain = do
   ((head, coded), (variables, plain)) ← both (both head coded) (both variables plain)
   Ok (device_record number head coded variables plain)
 
 -- the card; without a code, A and D aren't read
 unfoldable pub fields_of : ℕ → List ℕ → Result DeviceCard Fault
-fields_of number line = device_with number (head_of line) (in_column 9 (code_field line) >>= coded_by line) (variables_of line) (plain_fields line)
+fields_of number line =
+    device_with number (head_of line) (in_column 9 (code_field line) >>= coded_by line) (variables_of line)
+    (plain_fields line)
 
 unfoldable pub device_card : ℕ → List ℕ → Result DeviceCard Bad
 device_card number line = card_on number line (fields_of number line)

@@ -110,7 +110,8 @@ source_with number name signal = do
 
 -- the card
 unfoldable pub fields_of : ℕ → List ℕ → Result SourceCard Fault
-fields_of number line = source_with number (in_column 3 (needed (name_field line 3))) (in_column 1 (signal_field line) >>= value_of line)
+fields_of number line =
+    source_with number (in_column 3 (needed (name_field line 3))) (in_column 1 (signal_field line) >>= value_of line)
 
 unfoldable pub tacs_source_card : ℕ → List ℕ → Result SourceCard Bad
 tacs_source_card number line = card_on number line (fields_of number line)

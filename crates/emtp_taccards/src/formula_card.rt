@@ -28,8 +28,12 @@ pub struct FormulaCard {
 /// Reads a formula.
 pub(crate) fn formula(alloc: Global, line: &Line<'_>) -> Result<FormulaCard, Refused>
     requires { length line.now.bytes.now ≤ MAX_BYTES }
-    ensures ok { IfOk result (λ card. formula_card line.now.number line.now.bytes.now (expression_of (expression_text line.now.bytes.now)) ≡ Ok card) }
-    ensures bad { (bad : Bad) → result ≡ Err (Refused.Bad bad) → formula_card line.now.number line.now.bytes.now (expression_of (expression_text line.now.bytes.now)) ≡ Err bad }
+    ensures ok { IfOk result
+        (λ card. formula_card line.now.number line.now.bytes.now (expression_of (expression_text line.now.bytes.now))
+        ≡ Ok card) }
+    ensures bad { (bad : Bad) → result ≡ Err (Refused.Bad bad)
+        → formula_card line.now.number line.now.bytes.now
+        (expression_of (expression_text line.now.bytes.now)) ≡ Err bad }
     ensures numbers { IfOk result (λ card. IsParsed card.parsed) }
 {
     let parsed = match parse(alloc, expression_text(line.bytes)) {

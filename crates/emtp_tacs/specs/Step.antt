@@ -60,7 +60,10 @@ written var s (Some y) = Ok (record s { values = slice_set s.values var y })
 
 -- the values at the start of a step
 abbrev pub starting : Parts → List StepRecord → SoFar
-starting case H = record { values = standing_values case.run (length H) ++ drop 6 (latest H).values; devices = (latest H).devices }
+starting case H = record {
+  values = standing_values case.run (length H) ++ drop 6 (latest H).values;
+  devices = (latest H).devices;
+}
 
 -- ---- sources
 
@@ -151,7 +154,11 @@ pub record Solved : Type 0 where
 -- the blocks take the solved outputs xs, or the first of them is out of range
 abbrev pub accepted : Parts → List StepRecord → List ℤ → List ℤ → Option ℕ → Result Solved TacsFault
 accepted case H known xs (Some i) = Err (range_fault (block_var case i))
-accepted case H known xs None = Ok (record { values = with_outputs case (outputs case H known xs) (length case.blocks) known; blocks = states_after case H known xs })
+accepted case H known xs None =
+    Ok (record {
+      values = with_outputs case (outputs case H known xs) (length case.blocks) known;
+      blocks = states_after case H known xs;
+    })
 
 abbrev pub solved_by : Parts → List StepRecord → List ℤ → Result (List ℤ) PlainFault → Result Solved TacsFault
 solved_by case H known (Err fault) = Err (system_fault case fault)
@@ -170,7 +177,8 @@ known_before case H m = sources case (length H) m (starting case H) >>= extras c
 -- what the cards after the blocks make of it
 abbrev pub completed : Parts → List StepRecord → SoFar → Solved → Result ControlPart TacsFault
 completed case H known solved =
-    extras case H false (record known { values = solved.values }) >>= (λ last. Ok (record { values = last.values; blocks = solved.blocks; devices = last.devices }))
+    extras case H false (record known { values = solved.values }) >>=
+    (λ last. Ok (record { values = last.values; blocks = solved.blocks; devices = last.devices }))
 
 -- the control's part of the next record, or the first fault
 unfoldable pub control_step : Parts → List StepRecord → Measured → Result ControlPart TacsFault

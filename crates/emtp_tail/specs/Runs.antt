@@ -34,13 +34,16 @@ HasGood size rows kept = (kept.size ≡ size) × (kept.rows ≡ rows) × AreFini
 abbrev pub Step : {R : Type 0} → (R → Matrix) → Good → ℕ → Call R → Reply → Good → ℕ → Type 0
 -- a matrix without a fault is good as a whole, and each row from the first changed one on ticks
 Step matrix old before (Update rows) (Redone first) new after =
-    IsGoodMatrix (matrix rows) × (first ≡ first_change old.rows (matrix rows)) × HasGood old.size (matrix rows) new × (after + first ≡ before + old.size)
+    IsGoodMatrix (matrix rows) × (first ≡ first_change old.rows (matrix rows)) × HasGood old.size (matrix rows) new
+    × (after + first ≡ before + old.size)
 -- one with a fault is good up to it, and the faulty row ticks too
 Step matrix old before (Update rows) (Faulty fault) new after =
-    IsRowFault (matrix rows) fault.row fault.cause × HasGood old.size (take fault.row (matrix rows)) new × (after + first_change old.rows (matrix rows) ≡ before + fault.row + 1)
+    IsRowFault (matrix rows) fault.row fault.cause × HasGood old.size (take fault.row (matrix rows)) new
+    × (after + first_change old.rows (matrix rows) ≡ before + fault.row + 1)
 -- a right side is solved for as full elimination does
 Step matrix old before (Solve right) (Solved x) new after = SolvesTo old right.items (Solved x) × (new ≡ old) × (after ≡ before)
-Step matrix old before (Solve right) (TooLarge fault) new after = SolvesTo old right.items (TooLarge fault) × (new ≡ old) × (after ≡ before)
+Step matrix old before (Solve right) (TooLarge fault) new after =
+    SolvesTo old right.items (TooLarge fault) × (new ≡ old) × (after ≡ before)
 -- unless rows are missing
 Step matrix old before (Solve right) NotReady new after = (length old.rows < old.size) × (new ≡ old) × (after ≡ before)
 -- nothing else is answered

@@ -77,7 +77,8 @@ fn redo<R: Rows, L: Ledger>(
     steps: &mut Steps<L>,
 ) -> Result<(), RowFault>
     requires kept { IsKept (length (R.matrix rows.now)) given.old work.old done.old }
-    requires first { IsFirstChange (rows_in (length (R.matrix rows.now)) (length done.old.rows) given.old) (R.matrix rows.now) first }
+    requires first { IsFirstChange (rows_in (length (R.matrix rows.now)) (length done.old.rows) given.old)
+        (R.matrix rows.now) first }
     ensures redone { OnOk result (IsRedone (R.matrix rows.now) (length (R.matrix rows.now)) given.new done.new) }
     ensures ticks { OnOk result (steps.new + first ≡ steps.old + length (R.matrix rows.now)) }
     ensures fault { IfErr result (λ fault. IsRowFault (R.matrix rows.now) fault.row fault.cause) }
@@ -195,7 +196,8 @@ impl Kept {
         requires { self.old.size ≡ length (R.matrix rows.now) }
         ensures size { self.new.size ≡ self.old.size }
         ensures finished { AreFinished self.new.rows self.new.done }
-        ensures earlier { take (first_change self.old.rows (R.matrix rows.now)) self.new.done ≡ take (first_change self.old.rows (R.matrix rows.now)) self.old.done }
+        ensures earlier { take (first_change self.old.rows (R.matrix rows.now)) self.new.done
+            ≡ take (first_change self.old.rows (R.matrix rows.now)) self.old.done }
 
         // The matrix has no faulty row.
         ensures redone { IfOk result (λ first. first ≡ first_change self.old.rows (R.matrix rows.now)) }
@@ -207,7 +209,8 @@ impl Kept {
         ensures fault { IfErr result (λ fault. IsRowFault (R.matrix rows.now) fault.row fault.cause) }
         ensures ends { IfErr result (λ fault. (right : List ℤ) → outcome (R.matrix rows.now) right ≡ Err (PlainFault.Row fault)) }
         ensures prefix { IfErr result (λ fault. self.new.rows ≡ take fault.row (R.matrix rows.now)) }
-        ensures fault_ticks { IfErr result (λ fault. steps.new + first_change self.old.rows (R.matrix rows.now) ≡ steps.old + fault.row + 1) }
+        ensures fault_ticks { IfErr result
+            (λ fault. steps.new + first_change self.old.rows (R.matrix rows.now) ≡ steps.old + fault.row + 1) }
     {
         let first = self.changed_from(rows, 0);
         match self.update_from(rows, first, steps) {

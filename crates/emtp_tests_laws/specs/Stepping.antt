@@ -22,7 +22,8 @@ IsNext case H voltages r = (b : ℕ) (x : Lumped) → IsSeries case b x → next
 -- each series branch before n moved, and its current was written
 abbrev pub HaveMoved : Parts → List StepRecord → List ℤ → Lumping → List ℤ → ℕ → Type 0
 HaveMoved case H voltages new currents n =
-    (b : ℕ) (x : Lumped) → b < n → IsSeries case b x → HasMoved new b (states_of b H) (next_at case H voltages b x) (slice_index_or currents b (pos 0))
+    (b : ℕ) (x : Lumped) → b < n → IsSeries case b x
+    → HasMoved new b (states_of b H) (next_at case H voltages b x) (slice_index_or currents b (pos 0))
 
 -- the first series branch that has no next state
 pub record IsFirstOut (case : Parts) (H : List StepRecord) (voltages : List ℤ) (b : ℕ) : Type 0 where

@@ -8,4 +8,5 @@ unit_row n i = slice_set (replicate n (pos 0)) i (pos (10 ^ 12))
 
 -- the matrix whose rows stand one after another, but for the first ones, which are unit rows
 abbrev pub table_rows : ℕ → ℕ → List ℤ → Matrix
-table_rows size fixed cells = rows_of size (λ i. if nat_lt i fixed then unit_row size i else slice_range cells (i * size) (i * size + size))
+table_rows size fixed cells =
+    rows_of size (λ i. if nat_lt i fixed then unit_row size i else slice_range cells (i * size) (i * size + size))

@@ -39,12 +39,15 @@ no_control = record { blocks = []; sources = []; extras = []; outputs = [] }
 -- ---- blocks
 
 abbrev pub keep_block : Deck → BlockEntry → Deck × Place
-keep_block deck entry = (record deck { control = record deck.control { blocks = deck.control.blocks ++ entry ∷ [] } }, Control Blocks)
+keep_block deck entry =
+    (record deck { control = record deck.control { blocks = deck.control.blocks ++ entry ∷ [] } }, Control Blocks)
 
 -- a block of order 0 has no coefficients; those of another one are due
 abbrev pub take_block : Deck → BlockCard → Deck × Place
 take_block deck card =
-    if card.order == 0 then keep_block deck (record { card = card; top = replicate 8 (pos 0); bottom = replicate 8 (pos 0) }) else (deck, Control (Numerator card))
+    if card.order == 0 then keep_block deck
+    (record { card = card; top = replicate 8 (pos 0); bottom = replicate 8 (pos 0) })
+    else (deck, Control (Numerator card))
 
 unfoldable pub block_step : Deck → ℕ → List ℕ → Read
 block_step deck number line =
@@ -53,7 +56,8 @@ block_step deck number line =
 
 unfoldable pub numerator_step : Deck → ℕ → List ℕ → BlockCard → Read
 numerator_step deck number line card =
-    go_on (λ (top : List ℤ). Ok (deck, Control (Denominator card top number))) (polynomial_card number line card.order deck.run.dt)
+    go_on (λ (top : List ℤ). Ok (deck, Control (Denominator card top number)))
+    (polynomial_card number line card.order deck.run.dt)
 
 abbrev pub with_denominator : Deck → ℕ → BlockEntry → ℕ → Read
 with_denominator deck number entry top_line = unless_bad (divided_bad deck.run.dt entry top_line number) (keep_block deck entry)
@@ -61,7 +65,8 @@ with_denominator deck number entry top_line = unless_bad (divided_bad deck.run.d
 -- the faults that need both cards come after those of the denominator
 unfoldable pub denominator_step : Deck → ℕ → List ℕ → BlockCard → List ℤ → ℕ → Read
 denominator_step deck number line card top top_line =
-    go_on (λ (bottom : List ℤ). with_denominator deck number (record { card = card; top = top; bottom = bottom }) top_line) (polynomial_card number line card.order deck.run.dt)
+    go_on (λ (bottom : List ℤ). with_denominator deck number (record { card = card; top = top; bottom = bottom })
+    top_line) (polynomial_card number line card.order deck.run.dt)
 
 -- ---- sources
 
@@ -76,7 +81,8 @@ tacs_source_step deck number line =
 -- ---- supplemental cards
 
 abbrev pub keep_extra : Deck → ExtraEntry → Deck × Place
-keep_extra deck entry = (record deck { control = record deck.control { extras = deck.control.extras ++ entry ∷ [] } }, Control Extras)
+keep_extra deck entry =
+    (record deck { control = record deck.control { extras = deck.control.extras ++ entry ∷ [] } }, Control Extras)
 
 -- points follow a table, and times a window
 abbrev pub points_follow : DeviceCode → Bool
@@ -86,7 +92,8 @@ points_follow other = false
 
 abbrev pub take_device : Deck → DeviceCard → Deck × Place
 take_device deck card =
-    if points_follow card.code then (deck, Control (DevicePoints (record { card = card; first = length deck.points; count = 0; before = None })))
+    if points_follow card.code
+    then (deck, Control (DevicePoints (record { card = card; first = length deck.points; count = 0; before = None })))
     else keep_extra deck (DeviceEntry card 0 0)
 
 abbrev pub take_extra : Deck → ExtraCard → Deck × Place
@@ -103,8 +110,11 @@ device_scale Window = TimesScale
 device_scale other = TableScale
 
 abbrev pub take_device_point : Deck → DeviceGroup → Point → Deck × Place
-take_device_point deck group point =
-    (record deck { points = deck.points ++ point ∷ [] }, Control (DevicePoints (record group { count = group.count + 1; before = Some point })))
+take_device_point deck group point = (
+  record deck { points = deck.points ++ point ∷ [] },
+  Control
+      (DevicePoints (record group { count = group.count + 1; before = Some point })),
+)
 
 abbrev pub end_device : Deck → DeviceGroup → Deck × Place
 end_device deck group = keep_extra deck (DeviceEntry group.card group.first group.count)
@@ -121,16 +131,22 @@ device_point_step deck number line group =
 -- ---- outputs and initial conditions
 
 abbrev pub with_tacs_output : Deck → ℕ → List (Option (List ℕ)) → Deck
-with_tacs_output deck number names = record deck { control = record deck.control { outputs = deck.control.outputs ++ (record { line = number; names = names }) ∷ [] } }
+with_tacs_output deck number names =
+    record deck {
+      control = record deck.control
+          { outputs = deck.control.outputs ++ (record { line = number; names = names }) ∷ [] };
+    }
 
 unfoldable pub tacs_output_step : Deck → ℕ → List ℕ → Read
 tacs_output_step deck number line =
     if is_section_end line then Ok (deck, Control Initial)
-    else go_on (λ (names : List (Option (List ℕ))). Ok (with_tacs_output deck number names, Control TacsOutputs)) (tacs_output_card number line)
+    else go_on (λ (names : List (Option (List ℕ))). Ok (with_tacs_output deck number names, Control TacsOutputs))
+    (tacs_output_card number line)
 
 -- no card gives an initial condition
 unfoldable pub initial_place : ℕ → List ℕ → Result Place Bad
-initial_place number line = if is_section_end line then Ok (Branches false) else unless_bad (order_fault number line) (Branches false)
+initial_place number line =
+    if is_section_end line then Ok (Branches false) else unless_bad (order_fault number line) (Branches false)
 
 -- ---- all places
 

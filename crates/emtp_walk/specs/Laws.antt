@@ -86,7 +86,8 @@ output_lines entries = map (λ (entry : OutputEntry). entry.line) entries
 -- the lines of the cards in the order in which their sense is judged
 abbrev pub card_lines : Deck → Place → List ℕ
 card_lines deck place =
-    control_lines deck.control ++ branch_lines deck.branches ++ pending_lines place ++ switch_lines deck.switches ++ source_lines deck.sources ++ output_lines deck.outputs
+    control_lines deck.control ++ branch_lines deck.branches ++ pending_lines place ++ switch_lines deck.switches
+    ++ source_lines deck.sources ++ output_lines deck.outputs
 
 -- ---- as what lines are read
 
@@ -102,7 +103,16 @@ pub record CardLines : Type 0 where
   pub outputs : List ℕ
 
 abbrev pub no_cards : CardLines
-no_cards = record { blocks = []; tacs_sources = []; extras = []; tacs_outputs = []; branches = []; switches = []; sources = []; outputs = [] }
+no_cards = record {
+  blocks = [];
+  tacs_sources = [];
+  extras = [];
+  tacs_outputs = [];
+  branches = [];
+  switches = [];
+  sources = [];
+  outputs = [];
+}
 
 -- the number of a line that is read as a card stands behind those that are read so; any other line adds nothing
 abbrev pub with_line : ℕ → Kind → CardLines → CardLines

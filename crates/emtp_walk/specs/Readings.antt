@@ -130,7 +130,9 @@ unless_refused behind (Err bad) = []
 abbrev pub readings_from : ℕ → Deck → Place → List (List ℕ) → List LineReading
 readings_from number deck place [] = due number place ∷ []
 readings_from number deck place (line ∷ lines) =
-    line_reading number place line ∷ unless_refused (λ (next : Deck × Place). readings_from (number + 1) next.0 next.1 lines) (advance deck place number line)
+    line_reading number place line
+    ∷ unless_refused (λ (next : Deck × Place). readings_from (number + 1) next.0 next.1 lines)
+    (advance deck place number line)
 
 abbrev pub line_readings : List (List ℕ) → List LineReading
 line_readings lines = readings_from 1 empty_deck Begin lines

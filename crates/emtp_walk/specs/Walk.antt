@@ -52,7 +52,8 @@ empty_deck = record {
 -- ---- in front of the sections and behind them
 
 abbrev pub begin_fault : ℕ → List ℕ → Option Bad
-begin_fault number line = if starts_with nat_eq line (codes "BEGIN NEW DATA CASE") then judge number line None else order_fault number line
+begin_fault number line =
+    if starts_with nat_eq line (codes "BEGIN NEW DATA CASE") then judge number line None else order_fault number line
 
 unfoldable pub begin_place : ℕ → List ℕ → Result Place Bad
 begin_place number line = if is_section_end line then Ok Begin else unless_bad (begin_fault number line) (First false)
@@ -72,15 +73,18 @@ tolerance_step deck number line seen =
 
 unfoldable pub times_step : Deck → ℕ → List ℕ → Read
 times_step deck number line =
-    go_on (λ (card : FirstCard). Ok (record deck { run = record deck.run { dt = card.dt; steps = card.steps } }, Second)) (first_card number line)
+    go_on (λ (card : FirstCard). Ok
+    (record deck { run = record deck.run { dt = card.dt; steps = card.steps } }, Second)) (first_card number line)
 
 unfoldable pub first_step : Deck → ℕ → List ℕ → Bool → Read
 first_step deck number line seen =
-    if starts_with nat_eq line (codes "RESIDUAL TOLERANCE") then tolerance_step deck number line seen else times_step deck number line
+    if starts_with nat_eq line (codes "RESIDUAL TOLERANCE") then tolerance_step deck number line seen
+    else times_step deck number line
 
 unfoldable pub second_step : Deck → ℕ → List ℕ → Read
 second_step deck number line =
-    go_on (λ (every : ℕ). Ok (record deck { run = record deck.run { every = every }; second = number }, Start)) (second_card number line)
+    go_on (λ (every : ℕ). Ok (record deck { run = record deck.run { every = every }; second = number }, Start))
+    (second_card number line)
 
 -- ---- branches
 
@@ -89,7 +93,8 @@ abbrev pub with_card : Deck → BranchCard → Deck
 with_card deck card = record deck { branches = deck.branches ++ Single card 0 0 ∷ [] }
 
 abbrev pub points_follow : Deck → BranchCard → Bool → Deck × Place
-points_follow deck card wide = (deck, Points (record { card = card; first = length deck.points; count = 0; before = None; wide = wide }))
+points_follow deck card wide =
+    (deck, Points (record { card = card; first = length deck.points; count = 0; before = None; wide = wide }))
 
 -- no points follow a card that takes the values of another
 abbrev pub take_copied : Deck → BranchCard → Bool → BranchKind → Deck × Place
@@ -129,12 +134,15 @@ vintage_or deck (Some width) card = go_on (λ (wide : Bool). Ok (deck, Branches 
 
 unfoldable pub branch_step : Deck → ℕ → List ℕ → Bool → Read
 branch_step deck number line wide =
-    if is_section_end line then Ok (deck, Switches) else vintage_or deck (vintage_card number line) (card_step deck number line wide)
+    if is_section_end line then Ok (deck, Switches)
+    else vintage_or deck (vintage_card number line) (card_step deck number line wide)
 
 -- the card after a card -1: its second phase, or what comes after a line
 unfoldable pub waiting_step : Deck → ℕ → List ℕ → BranchCard → Bool → Read
 waiting_step deck number line card wide =
-    if is_second (kind_field line) then go_on (λ (positive : BranchCard). Ok (deck, Third card positive wide)) (branch_card number line deck.run.dt wide)
+    if is_second (kind_field line)
+    then go_on (λ (positive : BranchCard). Ok (deck, Third card positive wide))
+    (branch_card number line deck.run.dt wide)
     else branch_step (with_card deck card) number line wide
 
 abbrev pub with_trio : Deck → BranchCard → BranchCard → BranchCard → Deck
@@ -142,14 +150,16 @@ with_trio deck zero' positive third = record deck { branches = deck.branches ++ 
 
 abbrev pub take_third : Deck → ℕ → List ℕ → BranchCard → BranchCard → Bool → Read
 take_third deck number line zero' positive wide =
-    go_on (λ (third : BranchCard). Ok (with_trio deck zero' positive third, Branches wide)) (branch_card number line deck.run.dt wide)
+    go_on (λ (third : BranchCard). Ok (with_trio deck zero' positive third, Branches wide))
+    (branch_card number line deck.run.dt wide)
 
 -- the card after a card -2: its third phase alone; a type that isn't known is refused as such, but a vintage card has none
 abbrev pub third_by : Deck → ℕ → List ℕ → BranchCard → BranchCard → Bool → Result BranchKind Why → Read
 third_by deck number line zero' positive wide (Ok ThirdKind) = take_third deck number line zero' positive wide
 third_by deck number line zero' positive wide (Ok other) = unless_bad (order_fault number line) (deck, Branches wide)
 third_by deck number line zero' positive wide (Err why) =
-    if is_vintage line then unless_bad (order_fault number line) (deck, Branches wide) else take_third deck number line zero' positive wide
+    if is_vintage line then unless_bad (order_fault number line) (deck, Branches wide)
+    else take_third deck number line zero' positive wide
 
 unfoldable pub third_step : Deck → ℕ → List ℕ → BranchCard → BranchCard → Bool → Read
 third_step deck number line zero' positive wide =
@@ -179,24 +189,29 @@ point_or_end deck group None = end_group deck group
 
 unfoldable pub point_step : Deck → ℕ → List ℕ → Group → Read
 point_step deck number line group =
-    go_on (λ (point : Option Point). Ok (point_or_end deck group point)) (next_point number line (scale_of group) group.before group.count deck.run.dt)
+    go_on (λ (point : Option Point). Ok (point_or_end deck group point))
+    (next_point number line (scale_of group) group.before group.count deck.run.dt)
 
 -- ---- switches, sources, outputs
 
 unfoldable pub switch_step : Deck → ℕ → List ℕ → Read
 switch_step deck number line =
     if is_section_end line then Ok (deck, Sources)
-    else go_on (λ (card : SwitchCard). Ok (record deck { switches = deck.switches ++ card ∷ [] }, Switches)) (switch_card number line)
+    else go_on (λ (card : SwitchCard). Ok (record deck { switches = deck.switches ++ card ∷ [] }, Switches))
+    (switch_card number line)
 
 unfoldable pub source_step : Deck → ℕ → List ℕ → Read
 source_step deck number line =
     if is_section_end line then Ok (deck, Outputs)
-    else go_on (λ (card : SourceCard). Ok (record deck { sources = deck.sources ++ card ∷ [] }, Sources)) (source_card number line)
+    else go_on (λ (card : SourceCard). Ok (record deck { sources = deck.sources ++ card ∷ [] }, Sources))
+    (source_card number line)
 
 unfoldable pub output_step : Deck → ℕ → List ℕ → Read
 output_step deck number line =
     if is_section_end line then Ok (deck, After false)
-    else go_on (λ (card : OutputCard). Ok (record deck { outputs = deck.outputs ++ (record { line = number; card = card }) ∷ [] }, Outputs)) (output_card number line)
+    else go_on (λ (card : OutputCard). Ok
+    (record deck { outputs = deck.outputs ++ (record { line = number; card = card }) ∷ [] }, Outputs))
+    (output_card number line)
 
 -- the control stands right after the miscellaneous cards
 unfoldable pub start_step : Deck → ℕ → List ℕ → Read
@@ -228,4 +243,5 @@ advance deck place number line = if is_comment line then Ok (deck, place) else s
 -- the lines from a number on
 abbrev pub walk : ℕ → Deck → Place → List (List ℕ) → Read
 walk number deck place [] = Ok (deck, place)
-walk number deck place (line ∷ lines) = go_on (λ (next : Deck × Place). walk (number + 1) next.0 next.1 lines) (advance deck place number line)
+walk number deck place (line ∷ lines) =
+    go_on (λ (next : Deck × Place). walk (number + 1) next.0 next.1 lines) (advance deck place number line)

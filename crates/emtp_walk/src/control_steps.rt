@@ -127,7 +127,8 @@ fn denominator_step(
     requires whole { IsWhole deck.old }
     requires block { IsBlockDue card.now }
     requires numerator { IsPolynomial deck.old.run.dt card.now.order top.now }
-    ensures value { Leaves result (denominator_step deck.old line.now.number line.now.bytes.now card.now top.now top_line) deck.new }
+    ensures value { Leaves result
+        (denominator_step deck.old line.now.number line.now.bytes.now card.now top.now top_line) deck.new }
     ensures sound { IfOk result (IsSound deck.new) }
 {
     let bottom = match polynomial(*line, card.order, deck.run.dt) {

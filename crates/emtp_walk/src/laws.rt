@@ -18,19 +18,23 @@ pub fn walk_skips_comments()
 /// Blanks at the ends of lines don't matter: lines that are the same without them are as many, and give the same cards or
 /// the same fault.
 pub fn walk_skips_blanks_at_ends()
-    ensures walk { (xs ys : List (List ℕ)) → map without_trailing xs ≡ map without_trailing ys → walk 1 empty_deck Begin xs ≡ walk 1 empty_deck Begin ys }
+    ensures walk { (xs ys : List (List ℕ)) → map without_trailing xs ≡ map without_trailing ys
+        → walk 1 empty_deck Begin xs ≡ walk 1 empty_deck Begin ys }
     ensures count { (xs ys : List (List ℕ)) → map without_trailing xs ≡ map without_trailing ys → length xs ≡ length ys }
 {}
 
 /// The cards stand in the order of their lines, section by section, the second miscellaneous card first. The reader of the
 /// deck judges their sense in this order, so the first card that has a fault is the one with the least line.
 pub fn cards_stand_in_order()
-    ensures { (lines : List (List ℕ)) (deck : Deck) (place : Places) → walk 1 empty_deck Begin lines ≡ Ok (deck, place) → Rises (deck.second + 1) (card_lines deck place) (length lines + 1) }
+    ensures { (lines : List (List ℕ)) (deck : Deck) (place : Places)
+        → walk 1 empty_deck Begin lines ≡ Ok (deck, place)
+        → Rises (deck.second + 1) (card_lines deck place) (length lines + 1) }
 {}
 
 /// Where no line has a fault of form, the cards of the deck are those of the lines that are read so, in their order: its
 /// blocks, sources, supplemental cards and outputs of the control, its branches, switches, sources and outputs, those that
 /// wait for the cards behind them too. There is one reading more than lines, for what is due behind the last.
 pub fn readings_tell_the_cards()
-    ensures { (lines : List (List ℕ)) (deck : Deck) (place : Places) → walk 1 empty_deck Begin lines ≡ Ok (deck, place) → AreRead lines deck place }
+    ensures { (lines : List (List ℕ)) (deck : Deck) (place : Places)
+        → walk 1 empty_deck Begin lines ≡ Ok (deck, place) → AreRead lines deck place }
 {}

@@ -28,7 +28,9 @@ was_asked before (Some channel) = is_among before channel
 
 -- what the channel after so many warns of
 abbrev pub at_channel : List Channel → ℕ → List Warning
-at_channel channels place = when (was_asked (take place channels) (slice_get channels place)) (record { spot = OfChannel (place + 1); finding = AskedTwice })
+at_channel channels place =
+    when (was_asked (take place channels) (slice_get channels place))
+    (record { spot = OfChannel (place + 1); finding = AskedTwice })
 
 -- what the first channels warn of
 abbrev pub up_to_channel : List Channel → ℕ → List Warning

@@ -31,7 +31,8 @@ is_border mark next = is_ascii_digit mark && (is_ascii_digit next && not (mark =
 -- bytes of two numbers' fields that stand side by side
 abbrev pub touches : List ℕ → List ℕ → ℕ → Bool
 touches ruler line column =
-    is_border (byte_in ruler column) (byte_in ruler (column + 1)) && (not (is_blank (byte_in line column)) && not (is_blank (byte_in line (column + 1))))
+    is_border (byte_in ruler column) (byte_in ruler (column + 1))
+    && (not (is_blank (byte_in line column)) && not (is_blank (byte_in line (column + 1))))
 
 -- where the field of the next column begins
 abbrev pub first_with : List ℕ → ℕ → ℕ → ℕ
@@ -57,12 +58,14 @@ last_of ruler column = last_by ruler column (other_behind ruler column (byte_in 
 -- the first number ends with its point, and the second one fills its field: so a line is typed where each number ends with its field
 abbrev pub is_typed_so : List ℕ → ℕ → ℕ → Bool
 is_typed_so line column last =
-    byte_in line column == 46 && nat_le last (length line) && count_by (λ byte. byte == 32) (take (last + 1 - (column + 1)) (drop (column + 1 - 1) line)) == 0
+    byte_in line column == 46 && nat_le last (length line)
+    && count_by (λ byte. byte == 32) (take (last + 1 - (column + 1)) (drop (column + 1 - 1) line)) == 0
 
 -- the numbers of two fields that touch, where the first one begins
 abbrev pub touch_warnings : List ℕ → ℕ → List ℕ → ℕ → ℕ → List Warning
 touch_warnings ruler number line column first =
-    when (touches ruler line column && not (is_typed_so line column (last_of ruler (column + 1)))) (of_columns number column (column + 1) (NumbersTouch first (last_of ruler (column + 1))))
+    when (touches ruler line column && not (is_typed_so line column (last_of ruler (column + 1))))
+    (of_columns number column (column + 1) (NumbersTouch first (last_of ruler (column + 1))))
 
 -- what a column warns of, where the row that it ends begins, and where its field does
 abbrev pub at_column : List ℕ → ℕ → List ℕ → ℕ → Option ℕ → ℕ → List Warning
@@ -73,7 +76,8 @@ at_column ruler number line column run first =
 abbrev pub up_to_column : List ℕ → ℕ → List ℕ → ℕ → List Warning
 up_to_column ruler number line zero = []
 up_to_column ruler number line (suc before) =
-    up_to_column ruler number line before ++ at_column ruler number line (suc before) (run_to ruler line (suc before)) (first_to ruler before)
+    up_to_column ruler number line before
+    ++ at_column ruler number line (suc before) (run_to ruler line (suc before)) (first_to ruler before)
 
 abbrev pub column_warnings : List ℕ → ℕ → List ℕ → List Warning
 column_warnings ruler number line = up_to_column ruler number line (length line)

@@ -30,7 +30,8 @@ pub record EndNoSection (x y : List ℕ) : Type 0 where
 
 -- what is read of a line is given by the columns that its ruler marks: another line with the same bytes there gives the same
 abbrev pub IsReadUnder : {A : Type 0} → (ℕ → List ℕ → List ℕ) → (ℕ → List ℕ → A) → Type 0
-IsReadUnder ruler card = (x y : List ℕ) → AreFaultless x y → (number : ℕ) → AgreeUnder (ruler number x) x y → card number x ≡ card number y
+IsReadUnder ruler card =
+    (x y : List ℕ) → AreFaultless x y → (number : ℕ) → AgreeUnder (ruler number x) x y → card number x ≡ card number y
 
 -- the same of lines that end no section
 abbrev pub IsReadUnderUnlessEnd : {A : Type 0} → List ℕ → (ℕ → List ℕ → A) → Type 0
@@ -56,15 +57,18 @@ output_card_ruler number line = output_ruler (output_card number line)
 
 -- branches, with narrow and with wide fields
 abbrev pub AreBranchesReadUnder : Type 0
-AreBranchesReadUnder = (dt : ℤ) (wide : Bool) → IsReadUnder (branch_card_ruler wide) (λ number line. branch_card number line dt wide)
+AreBranchesReadUnder =
+    (dt : ℤ) (wide : Bool) → IsReadUnder (branch_card_ruler wide) (λ number line. branch_card number line dt wide)
 
 -- points after any others
 abbrev pub ArePointsReadUnder : Type 0
 ArePointsReadUnder =
     (scale : PointScale) (before : Option Point) (count : ℕ) (dt : ℤ)
-    → IsReadUnder (λ number line. point_ruler (ends_points number line scale)) (λ number line. next_point number line scale before count dt)
+    → IsReadUnder (λ number line. point_ruler (ends_points number line scale))
+    (λ number line. next_point number line scale before count dt)
 
 -- the coefficients of a block of each order, at each time step
 abbrev pub ArePolynomialsReadUnder : Type 0
 ArePolynomialsReadUnder =
-    (order : ℕ) → order ≤ 7 → (dt : ℤ) → IsReadUnder (λ number line. polynomial_ruler order) (λ number line. polynomial_card number line order dt)
+    (order : ℕ) → order ≤ 7 → (dt : ℤ)
+    → IsReadUnder (λ number line. polynomial_ruler order) (λ number line. polynomial_card number line order dt)

@@ -41,7 +41,9 @@ source_stands_at node s = s.node == node
 
 -- how many branches, switches and sources a node has
 abbrev pub records_at : Parts → ℕ → ℕ
-records_at p node = count_by (branch_ends_at node) p.branches + count_by (switch_ends_at node) p.switches + count_by (source_stands_at node) p.sources
+records_at p node =
+    count_by (branch_ends_at node) p.branches + count_by (switch_ends_at node) p.switches
+    + count_by (source_stands_at node) p.sources
 
 -- ground has no name
 abbrev pub is_lone : Parts → ℕ → Bool
@@ -69,7 +71,8 @@ is_case_alone p node = not (node == 0) && has_twin (take (min (node - 1) (length
 -- what the end of a branch or a switch warns of, by the columns of its name
 abbrev pub end_warnings : Parts → ℕ → ℕ → ℕ × ℕ → List Warning
 end_warnings p line node columns =
-    when (is_lone p node) (of_columns line columns.0 columns.1 LoneNode) ++ when (is_node_zero p node) (of_columns line columns.0 columns.1 NodeZero)
+    when (is_lone p node) (of_columns line columns.0 columns.1 LoneNode)
+    ++ when (is_node_zero p node) (of_columns line columns.0 columns.1 NodeZero)
     ++ when (is_case_alone p node) (of_columns line columns.0 columns.1 CaseAlone)
 
 -- BUS1 and BUS2
@@ -139,7 +142,8 @@ is_closed_after last time close open_at = not (int_lt last close) && opens_after
 
 -- both are closed at one time, by their times; a measuring switch is always closed
 abbrev pub are_closed : ℤ → SwitchKind → SwitchKind → Bool
-are_closed last (Time close open_at margin) (Time close' open' margin') = is_closed_after last close' close open_at && is_closed_after last close close' open'
+are_closed last (Time close open_at margin) (Time close' open' margin') =
+    is_closed_after last close' close open_at && is_closed_after last close close' open'
 are_closed last (Time close open_at margin) Measuring = is_closed_after last close close open_at
 are_closed last Measuring (Time close open_at margin) = is_closed_after last close close open_at
 are_closed last Measuring Measuring = true
@@ -173,12 +177,14 @@ is_idle start (Some stop) = not (int_lt start stop)
 -- of when a source acts
 abbrev pub acting_warnings : Source → List Warning
 acting_warnings s =
-    when (is_cosine s.shape && int_lt s.start (pos 0)) (of_columns s.line 61 70 EarlyCosine) ++ when (is_idle s.start s.stop) (of_columns s.line 71 80 NeverActs)
+    when (is_cosine s.shape && int_lt s.start (pos 0)) (of_columns s.line 61 70 EarlyCosine)
+    ++ when (is_idle s.start s.stop) (of_columns s.line 71 80 NeverActs)
 
 -- of the network, or of the control
 abbrev pub source_warnings : ℤ → Source → List Warning
 source_warnings last s =
-    when (is_constant s.shape) (of_columns s.line 21 30 NoFrequency) ++ when (int_lt last s.start) (of_columns s.line 61 70 AfterEnd)
+    when (is_constant s.shape) (of_columns s.line 21 30 NoFrequency)
+    ++ when (int_lt last s.start) (of_columns s.line 61 70 AfterEnd)
     ++ acting_warnings s
 
 -- ---- all records, in the order of their lines
@@ -186,4 +192,5 @@ source_warnings last s =
 abbrev pub record_warnings : Parts → List Warning
 record_warnings p =
     flat_map (source_warnings (end_of_run p)) p.tacs_sources
-    ++ (flat_map (branch_warnings p) p.branches ++ (flat_map (switch_warnings p) p.switches ++ flat_map (source_warnings (end_of_run p)) p.sources))
+    ++ (flat_map (branch_warnings p) p.branches
+    ++ (flat_map (switch_warnings p) p.switches ++ flat_map (source_warnings (end_of_run p)) p.sources))

@@ -41,10 +41,12 @@ piece line first last = trimmed (take (max last (max first 1) + 1 - max first 1)
 
 -- a number as it is read, behind the name of its field
 unfoldable pub number_text : List ℕ → Kind → ℕ → ℕ → List ℕ
-number_text line kind first last = field_name line kind (max first 1) (max last (max first 1)) ++ codes "=" ++ piece line first last
+number_text line kind first last =
+    field_name line kind (max first 1) (max last (max first 1)) ++ codes "=" ++ piece line first last
 
 unfoldable pub pair_text : List ℕ → Kind → ℕ → ℕ → ℕ → ℕ → List ℕ
-pair_text line kind at next first last = codes ": " ++ number_text line kind first at ++ codes ", " ++ number_text line kind next last
+pair_text line kind at next first last =
+    codes ": " ++ number_text line kind first at ++ codes ", " ++ number_text line kind next last
 
 abbrev pub pair_of : Option (List ℕ) → Option LineReading → ℕ → ℕ → ℕ → ℕ → List ℕ
 pair_of None read at next first last = []
@@ -53,7 +55,8 @@ pair_of (Some line) (Some read) at next first last = pair_text line read.kind at
 
 -- two numbers that touch, as they are read, behind the names of their fields
 abbrev pub numbers_by : List LineReading → List (List ℕ) → Spot → Finding → List ℕ
-numbers_by readings lines (Columns line at next) (NumbersTouch first last) = pair_of (slice_get lines (line - 1)) (slice_get readings (line - 1)) at next first last
+numbers_by readings lines (Columns line at next) (NumbersTouch first last) =
+    pair_of (slice_get lines (line - 1)) (slice_get readings (line - 1)) at next first last
 numbers_by readings lines spot finding = []
 
 abbrev pub numbers_text : List LineReading → List (List ℕ) → Warning → List ℕ

@@ -141,7 +141,8 @@ fn add_touch(
 ) -> Result<(), AllocError>
     requires some { 1 ≤ at }
     requires few { at ≤ MAX_BYTES }
-    ensures { OnOk result (AddsTo out.old.items (touch_warnings ruler.now line.now.number line.now.bytes.now at first) out.new.items) }
+    ensures { OnOk result (AddsTo out.old.items
+        (touch_warnings ruler.now line.now.number line.now.bytes.now at first) out.new.items) }
 {
     let last = last_of(ruler, at + 1);
     let touch = touches(ruler, line.bytes, at) && !is_typed_so(line.bytes, at, last);
@@ -160,7 +161,8 @@ fn add_at_column(
 ) -> Result<(), AllocError>
     requires some { 1 ≤ at }
     requires few { at ≤ MAX_BYTES }
-    ensures { OnOk result (AddsTo out.old.items (at_column ruler.now line.now.number line.now.bytes.now at run first) out.new.items) }
+    ensures { OnOk result (AddsTo out.old.items (at_column ruler.now line.now.number line.now.bytes.now at run first)
+        out.new.items) }
 {
     add_touch(out, ruler, line, at, first)?;
     let goes_on = is_unread(ruler, line.bytes, at + 1);

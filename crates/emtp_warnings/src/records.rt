@@ -143,7 +143,9 @@ fn add_ends_and_times(
     switch: &Switch,
 ) -> Result<(), AllocError>
     requires { last ≡ end_of_run parts.now }
-    ensures { OnOk result (AddsTo out.old.items (ends_warnings parts.now switch.now.line switch.now.from switch.now.to ++ times_warnings (end_of_run parts.now) switch.now.line switch.now.kind) out.new.items) }
+    ensures { OnOk result (AddsTo out.old.items
+        (ends_warnings parts.now switch.now.line switch.now.from switch.now.to
+        ++ times_warnings (end_of_run parts.now) switch.now.line switch.now.kind) out.new.items) }
 {
     add_ends(out, parts, switch.line, switch.from, switch.to)?;
     add_times(out, last, switch)?;

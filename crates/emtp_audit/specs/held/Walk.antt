@@ -26,7 +26,8 @@ Walks (Err differs) old new rules = (more : List Rule) → finds old (rules ++ m
 
 -- the next field was taken, or there is none
 abbrev pub TakesField : Result (List ℕ) Differs → Walked → Walked → Type 0
-TakesField (Ok field) old new = (old.fields ≡ field ∷ new.fields) × (new.line ≡ old.line) × (new.number ≡ old.number + 1) × (new.dat ≡ old.dat)
+TakesField (Ok field) old new =
+    (old.fields ≡ field ∷ new.fields) × (new.line ≡ old.line) × (new.number ≡ old.number + 1) × (new.dat ≡ old.dat)
 TakesField (Err differs) old new = (old.fields ≡ []) × (Some differs ≡ differs_at old.dat old.line old.number Missing)
 
 -- of the field that was taken last
@@ -42,8 +43,11 @@ difference_in (Err differs) = Some differs
 
 -- the next line was compared by a rule, and a text is left behind it
 abbrev pub LineWalks : Result (List ℕ) Differs → ℕ → LineRule → List ℕ → Type 0
-LineWalks (Ok tail) number rule rest = (more : List LineRule) → lines_differ true number (rule ∷ more) (audited_lines rest) ≡ lines_differ true (number + 1) more (audited_lines tail)
-LineWalks (Err differs) number rule rest = (more : List LineRule) → lines_differ true number (rule ∷ more) (audited_lines rest) ≡ Some differs
+LineWalks (Ok tail) number rule rest =
+    (more : List LineRule) → lines_differ true number (rule ∷ more) (audited_lines rest)
+    ≡ lines_differ true (number + 1) more (audited_lines tail)
+LineWalks (Err differs) number rule rest =
+    (more : List LineRule) → lines_differ true number (rule ∷ more) (audited_lines rest) ≡ Some differs
 
 -- the stamp in a line, or 0
 unfoldable pub stamp_in : List ℕ → ℤ

@@ -14,7 +14,8 @@ HasNoNewline bytes = All (λ byte. is_newline byte ≡ false) bytes
 -- what the lines are, piece by piece
 pub record SplitsIntoLines (bytes : List ℕ) : Type 0 where
   pub none : bytes ≡ [] → lines_of bytes ≡ []
-  pub ended : (piece rest : List ℕ) → HasNoNewline piece → bytes ≡ piece ++ 10 ∷ rest → lines_of bytes ≡ without_return piece ∷ lines_of rest
+  pub ended : (piece rest : List ℕ) → HasNoNewline piece → bytes ≡ piece ++ 10 ∷ rest
+      → lines_of bytes ≡ without_return piece ∷ lines_of rest
   pub last : HasNoNewline bytes → bytes ≢ [] → lines_of bytes ≡ bytes ∷ []
 
 -- the fault at a place of a line, counted from 0

@@ -41,7 +41,8 @@ pub record IsLine (run : RunData) (n : Sizes) (b : Line) : Type 0 where
 -- the numbers of both modes of a three-phase line
 abbrev pub IsTrio : RunData → Trio → Type 0
 IsTrio run t =
-    (m : ℕ) → m < 2 → HasLineNumbers run.dt (slice_index_or t.zc m (pos 0)) (slice_index_or t.r m (pos 0)) (slice_index_or t.delay m (pos 0))
+    (m : ℕ) → m < 2 → HasLineNumbers run.dt (slice_index_or t.zc m (pos 0)) (slice_index_or t.r m (pos 0))
+    (slice_index_or t.delay m (pos 0))
 
 pub record IsPhase (n : Sizes) (b : Phase) : Type 0 where
   pub ends : AreEnds n.nodes b.from b.to
@@ -64,7 +65,9 @@ pub record IsSegment (reactor : Bool) (dt : ℤ) (a b : Point) : Type 0 where
 
 -- the segments from the origin through all points
 abbrev pub IsCharacteristic : Bool → ℤ → List Point → Type 0
-IsCharacteristic reactor dt ps = (k : ℕ) → k < length ps → IsSegment reactor dt (slice_index_or (origin ∷ ps) k origin) (slice_index_or ps k origin)
+IsCharacteristic reactor dt ps =
+    (k : ℕ) → k < length ps
+    → IsSegment reactor dt (slice_index_or (origin ∷ ps) k origin) (slice_index_or ps k origin)
 
 pub record IsPseudo (run : RunData) (n : Sizes) (points : List Point) (b : Pseudo) : Type 0 where
   pub ends : AreEnds n.nodes b.from b.to

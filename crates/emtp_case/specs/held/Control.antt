@@ -79,7 +79,8 @@ pub record IsTable (points : List Point) : Type 0 where
   pub few : length points ≤ MOST_POINTS
   pub inputs : All (λ (p : Point). unsigned_abs p.current ≤ LARGEST_VALUE) points
   pub outputs : All (λ (p : Point). unsigned_abs p.other ≤ LARGEST_VALUE) points
-  pub rising : (k : ℕ) → k + 1 < length points → (slice_index_or points k origin).current <ℤ (slice_index_or points (k + 1) origin).current
+  pub rising : (k : ℕ) → k + 1 < length points
+      → (slice_index_or points k origin).current <ℤ (slice_index_or points (k + 1) origin).current
 
 -- 1 to 64 pairs of times: each closes before it opens, and not before the one before it opened
 pub record AreTimes (points : List Point) : Type 0 where
@@ -88,7 +89,8 @@ pub record AreTimes (points : List Point) : Type 0 where
   pub close : All (λ (p : Point). pos 0 ≤ℤ p.current) points
   pub «open» : All (λ (p : Point). p.other ≤ℤ pos LARGEST_TIME) points
   pub closes_first : All (λ (p : Point). p.current <ℤ p.other) points
-  pub in_turn : (k : ℕ) → k + 1 < length points → (slice_index_or points k origin).other ≤ℤ (slice_index_or points (k + 1) origin).current
+  pub in_turn : (k : ℕ) → k + 1 < length points
+      → (slice_index_or points k origin).other ≤ℤ (slice_index_or points (k + 1) origin).current
 
 -- the numbers of one more point of a table, whose input is above the last one
 pub record FollowsInTable (points : List Point) (p : Point) : Type 0 where

@@ -21,7 +21,8 @@ pair_history p zero' positive = card_history 1 p zero' + card_history 3 p positi
 
 -- the same, of the numbers that they take
 abbrev pub taken_history : Parts → TakenPair → ℕ
-taken_history p taken = line_history 1 p.run.dt taken.zero_sequence.numbers + line_history 3 p.run.dt taken.positive_sequence.numbers
+taken_history p taken =
+    line_history 1 p.run.dt taken.zero_sequence.numbers + line_history 3 p.run.dt taken.positive_sequence.numbers
 
 -- so many past values more
 abbrev pub NeedsMore : Parts → Parts → ℕ → Type 0
@@ -29,7 +30,8 @@ NeedsMore old new more = history_values_of new ≡ history_values_of old + more
 
 -- the channels of a line whose first phase is at a place
 abbrev pub line_channels : ℕ → BranchCard → BranchCard → BranchCard → List Channel
-line_channels at zero' positive third = branch_channels at zero' ++ branch_channels (at + 1) positive ++ branch_channels (at + 2) third
+line_channels at zero' positive third =
+    branch_channels at zero' ++ branch_channels (at + 1) positive ++ branch_channels (at + 2) third
 
 abbrev pub line_count : BranchCard → BranchCard → BranchCard → ℕ
 line_count zero' positive third = channel_count zero'.asked + channel_count positive.asked + channel_count third.asked

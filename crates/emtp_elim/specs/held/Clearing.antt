@@ -13,7 +13,8 @@ pub record IsFinishedRow (size i : ℕ) (row : List ℤ) : Type 0 where
 
 -- an entry after column k leaves its range when m times the row above is taken away
 abbrev pub LeavesRange : ℤ → ℕ → List ℤ → List ℤ → Type 0
-LeavesRange m k old above = (j : ℕ) × (k < j) × (j < length old) × (LARGEST_ENTRY < unsigned_abs (less_product (item old j) m (item above j)))
+LeavesRange m k old above =
+    (j : ℕ) × (k < j) × (j < length old) × (LARGEST_ENTRY < unsigned_abs (less_product (item old j) m (item above j)))
 
 -- column k has been cleared: the ratio stands in its place, and neither it nor an entry left its range
 pub record IsClearedRow (k : ℕ) (old above new : List ℤ) : Type 0 where
@@ -26,4 +27,5 @@ pub record IsClearedRow (k : ℕ) (old above new : List ℤ) : Type 0 where
 -- the ratio or an entry leaves its range when column k is cleared
 abbrev pub LeavesRangeAt : ℕ → List ℤ → List ℤ → Type 0
 LeavesRangeAt k old above =
-    (LARGEST_RATIO < unsigned_abs (quotient (item old k) (item above k))) ⊎ LeavesRange (quotient (item old k) (item above k)) k old above
+    (LARGEST_RATIO < unsigned_abs (quotient (item old k) (item above k)))
+    ⊎ LeavesRange (quotient (item old k) (item above k)) k old above

@@ -32,7 +32,8 @@ pub record AreAllFinished (rows done : Matrix) : Type 0 where
 -- fewer finished rows are finished too, and those of one matrix are those of each other one that begins with the same rows
 pub record FinishedRowsStay : Type 0 where
   pub fewer : (rows done : Matrix) (n : ℕ) → n ≤ length done → AreFinished rows done → AreFinished rows (take n done)
-  pub other : (rows others done : Matrix) → take (length done) rows ≡ take (length done) others → AreFinished rows done → AreFinished others done
+  pub other : (rows others done : Matrix) → take (length done) rows ≡ take (length done) others
+      → AreFinished rows done → AreFinished others done
 
 -- a matrix whose first rows are finished, and which goes on with this row
 pub record IsNext (rows done : Matrix) (row : List ℤ) : Type 0 where

@@ -16,7 +16,8 @@ dense_row size columns values first last = list_of size (number_in columns value
 
 -- the first rows, whose entries begin at these places and stand side by side
 abbrev pub rows_kept : ℕ → ℕ → List ℕ → List ℕ → List ℤ → Matrix
-rows_kept size count starts columns values = rows_of count (λ i. dense_row size columns values (slice_index starts i) (slice_index starts (i + 1)))
+rows_kept size count starts columns values =
+    rows_of count (λ i. dense_row size columns values (slice_index starts i) (slice_index starts (i + 1)))
 
 -- the entries from place `first` on and before `last` are numbers of the row, in rising columns, and its other numbers
 -- from column `from` on and before `upto` are 0
@@ -30,7 +31,8 @@ pub record AreEntries (row : List ℤ) (from upto : ℕ) (columns : List ℕ) (v
   pub others : (j : ℕ) → from ≤ j → j < upto → ((e : ℕ) → first ≤ e → e < last → slice_index columns e ≢ j) → item row j ≡ pos 0
 
 -- the entries of the row are put from place `first` on, and those before it stay
-pub record Packs (row : List ℤ) (from upto : ℕ) (columns new_columns : List ℕ) (values new_values : List ℤ) (first last : ℕ) : Type 0 where
+pub record Packs (row : List ℤ) (from upto : ℕ) (columns new_columns : List ℕ) (values new_values : List ℤ)
+    (first last : ℕ) : Type 0 where
   pub entries : AreEntries row from upto new_columns new_values first last
   pub same_columns : (e : ℕ) → e < first → slice_index new_columns e ≡ slice_index columns e
   pub same_values : (e : ℕ) → e < first → item new_values e ≡ item values e
@@ -57,4 +59,5 @@ pub record AreStored (size count : ℕ) (starts pivots columns : List ℕ) (valu
   pub room_words : length words ≡ size
   pub used : (i : ℕ) → i ≤ count → slice_index starts i ≤ i * size
   pub rising : (h i : ℕ) → h ≤ i → i ≤ count → slice_index starts h ≤ slice_index starts i
-  pub each : (i : ℕ) → i < count → IsStoredRow size i columns values (slice_index starts i) (slice_index pivots i) (slice_index starts (i + 1))
+  pub each : (i : ℕ) → i < count
+      → IsStoredRow size i columns values (slice_index starts i) (slice_index pivots i) (slice_index starts (i + 1))

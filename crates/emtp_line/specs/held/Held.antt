@@ -84,11 +84,15 @@ phase_held x p = if p == 0 then x.first else if p == 1 then x.second else x.thir
 -- the history currents of the three phases, of what both sequences hold
 abbrev pub held_from_histories : HeldTrio → List ℤ
 held_from_histories x =
-    (x.zero_sequence.from_history +ℤ x.first.waves.from_history) ∷ (x.zero_sequence.from_history +ℤ x.second.waves.from_history) ∷ (x.zero_sequence.from_history +ℤ x.third.waves.from_history) ∷ []
+    (x.zero_sequence.from_history +ℤ x.first.waves.from_history)
+    ∷ (x.zero_sequence.from_history +ℤ x.second.waves.from_history)
+    ∷ (x.zero_sequence.from_history +ℤ x.third.waves.from_history) ∷ []
 
 abbrev pub held_to_histories : HeldTrio → List ℤ
 held_to_histories x =
-    (x.zero_sequence.to_history +ℤ x.first.waves.to_history) ∷ (x.zero_sequence.to_history +ℤ x.second.waves.to_history) ∷ (x.zero_sequence.to_history +ℤ x.third.waves.to_history) ∷ []
+    (x.zero_sequence.to_history +ℤ x.first.waves.to_history)
+    ∷ (x.zero_sequence.to_history +ℤ x.second.waves.to_history)
+    ∷ (x.zero_sequence.to_history +ℤ x.third.waves.to_history) ∷ []
 
 abbrev pub trio_at_rest : ℤ → Trio → HeldTrio
 trio_at_rest dt t = record {
@@ -114,7 +118,8 @@ with_states states past p = state_at states p ∷ past p
 
 -- A three-phase line moved by one step: there are three next states, their currents are the answer, and they are the
 -- newest of what the line stands for.
-pub record TrioMoved (new : HeldTrio) (past : ℕ → List PhaseState) (next : Result (List PhaseState) PhaseRange) (i : List ℤ) : Type 0 where
+pub record TrioMoved (new : HeldTrio) (past : ℕ → List PhaseState) (next : Result (List PhaseState) PhaseRange)
+    (i : List ℤ) : Type 0 where
   pub states : List PhaseState
   pub is : next ≡ Ok states
   pub currents : i ≡ currents_of states

@@ -44,7 +44,15 @@ HasWaves (Some (OfPhase b)) = Unit {0}
 
 -- the numbers of a branch without waves: they are never read
 abbrev pub no_mode : Mode
-no_mode = record { conductance = pos 0; attenuation = pos 0; far_share = pos 0; near_share = pos 0; steps = 1; rest = pos 0; dt = pos 1 }
+no_mode = record {
+  conductance = pos 0;
+  attenuation = pos 0;
+  far_share = pos 0;
+  near_share = pos 0;
+  steps = 1;
+  rest = pos 0;
+  dt = pos 1;
+}
 
 abbrev pub line_held : List HeldLine → ℕ → HeldLine
 line_held lines b = slice_index_or lines b (held_at_rest no_mode)
@@ -69,19 +77,25 @@ pub record StandsFor (s : Lining) (H : List StepRecord) : Type 0 where
 
 -- two currents are those of the ends of the line at a place, by what it stands for
 abbrev pub AreLineEnds : Lining → ℕ → (Line → List LineState → ℤ × ℤ) → ℤ × ℤ → Type 0
-AreLineEnds s b of_line ends = (x : Line) (past : List LineState) → IsLineAt s.case b x → StandsAt s b past → ends ≡ of_line x past
+AreLineEnds s b of_line ends =
+    (x : Line) (past : List LineState) → IsLineAt s.case b x → StandsAt s b past → ends ≡ of_line x past
 
 -- or of the phase at it
 abbrev pub ArePhaseEnds : Lining → ℕ → (Phase → (ℕ → List PhaseState) → ℤ × ℤ) → ℤ × ℤ → Type 0
-ArePhaseEnds s b of_phase ends = (x : Phase) (past : ℕ → List PhaseState) → IsPhaseAt s.case b x → TrioStandsAt s x.trio past → ends ≡ of_phase x past
+ArePhaseEnds s b of_phase ends =
+    (x : Phase) (past : ℕ → List PhaseState) → IsPhaseAt s.case b x → TrioStandsAt s x.trio past
+    → ends ≡ of_phase x past
 
 -- the history currents of the next step
 abbrev pub line_history_currents : Parts → Line → List LineState → ℤ × ℤ
 line_history_currents case x past = line_histories (mode_of_line case.run.dt x) past
 
 abbrev pub phase_history_currents : Parts → Phase → (ℕ → List PhaseState) → ℤ × ℤ
-phase_history_currents case x past =
-    (phase_from_history (modes_of case.run.dt (trio_of case x.trio)) (past 0) (past x.phase), phase_to_history (modes_of case.run.dt (trio_of case x.trio)) (past 0) (past x.phase))
+phase_history_currents case x past = (
+  phase_from_history (modes_of case.run.dt (trio_of case x.trio)) (past 0) (past x.phase),
+  phase_to_history
+      (modes_of case.run.dt (trio_of case x.trio)) (past 0) (past x.phase),
+)
 
 -- the currents of the last record
 abbrev pub line_end_currents : Line → List LineState → ℤ × ℤ
@@ -101,14 +115,17 @@ pub record HasMoved (new : Lining) (branch : ℕ) (past : List LineState) (next 
 -- for; an Err comes exactly where there is no next state, and changes nothing.
 pub record Moves (old new : Lining) (branch : ℕ) (v w : ℤ) (result : Result ℤ OutOfRange) : Type 0 where
   pub case : new.case ≡ old.case
-  pub moved : (x : Line) (past : List LineState) → IsLineAt old.case branch x → StandsAt old branch past → IfOk result (HasMoved new branch past (next_state (mode_of_line old.case.run.dt x) past v w))
-  pub out : (x : Line) (past : List LineState) → IsLineAt old.case branch x → StandsAt old branch past → OnErr result (next_state (mode_of_line old.case.run.dt x) past v w ≡ None)
+  pub moved : (x : Line) (past : List LineState) → IsLineAt old.case branch x → StandsAt old branch past
+      → IfOk result (HasMoved new branch past (next_state (mode_of_line old.case.run.dt x) past v w))
+  pub out : (x : Line) (past : List LineState) → IsLineAt old.case branch x → StandsAt old branch past
+      → OnErr result (next_state (mode_of_line old.case.run.dt x) past v w ≡ None)
   pub others : (b : ℕ) (past : List LineState) → b ≢ branch → StandsAt old b past → StandsAt new b past
   pub trios : (t : ℕ) (past : ℕ → List PhaseState) → TrioStandsAt old t past → TrioStandsAt new t past
   pub same : OnErr result (new ≡ old)
 
 -- the same of a three-phase line
-pub record TrioHasMoved (new : Lining) (trio : ℕ) (past : ℕ → List PhaseState) (next : Result (List PhaseState) PhaseRange) (i : List ℤ) : Type 0 where
+pub record TrioHasMoved (new : Lining) (trio : ℕ) (past : ℕ → List PhaseState)
+    (next : Result (List PhaseState) PhaseRange) (i : List ℤ) : Type 0 where
   pub states : List PhaseState
   pub is : next ≡ Ok states
   pub currents : i ≡ currents_of states
@@ -118,8 +135,11 @@ pub record TrioHasMoved (new : Lining) (trio : ℕ) (past : ℕ → List PhaseSt
 -- is out of range.
 pub record TrioMoves (old new : Lining) (trio : ℕ) (v w : List ℤ) (result : Result (List ℤ) PhaseRange) : Type 0 where
   pub case : new.case ≡ old.case
-  pub moved : (past : ℕ → List PhaseState) → TrioStandsAt old trio past → IfOk result (TrioHasMoved new trio past (next_phases (modes_of old.case.run.dt (trio_of old.case trio)) past v w))
-  pub out : (past : ℕ → List PhaseState) → TrioStandsAt old trio past → IfErr result (λ fault. next_phases (modes_of old.case.run.dt (trio_of old.case trio)) past v w ≡ Err fault)
+  pub moved : (past : ℕ → List PhaseState) → TrioStandsAt old trio past
+      → IfOk result (TrioHasMoved new trio past
+      (next_phases (modes_of old.case.run.dt (trio_of old.case trio)) past v w))
+  pub out : (past : ℕ → List PhaseState) → TrioStandsAt old trio past
+      → IfErr result (λ fault. next_phases (modes_of old.case.run.dt (trio_of old.case trio)) past v w ≡ Err fault)
   pub others : (t : ℕ) (past : ℕ → List PhaseState) → t ≢ trio → TrioStandsAt old t past → TrioStandsAt new t past
   pub lines : (b : ℕ) (past : List LineState) → StandsAt old b past → StandsAt new b past
   pub same : OnErr result (new ≡ old)

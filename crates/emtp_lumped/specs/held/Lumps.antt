@@ -52,8 +52,10 @@ pub record HasMoved (new : Lumping) (branch : ℕ) (past : List LumpedState) (ne
 -- Err comes exactly where there is no next state, and changes nothing.
 pub record Moves (old new : Lumping) (branch : ℕ) (v : ℤ) (result : Result ℤ OutOfRange) : Type 0 where
   pub case : new.case ≡ old.case
-  pub moved : (x : Lumped) (past : List LumpedState) → IsSeries old.case branch x → StandsAt old branch past → IfOk result (HasMoved new branch past (next_of old.case x past v))
-  pub out : (x : Lumped) (past : List LumpedState) → IsSeries old.case branch x → StandsAt old branch past → OnErr result (next_of old.case x past v ≡ None)
+  pub moved : (x : Lumped) (past : List LumpedState) → IsSeries old.case branch x → StandsAt old branch past
+      → IfOk result (HasMoved new branch past (next_of old.case x past v))
+  pub out : (x : Lumped) (past : List LumpedState) → IsSeries old.case branch x → StandsAt old branch past
+      → OnErr result (next_of old.case x past v ≡ None)
   pub others : (b : ℕ) (past : List LumpedState) → b ≢ branch → StandsAt old b past → StandsAt new b past
   pub same : OnErr result (new ≡ old)
 

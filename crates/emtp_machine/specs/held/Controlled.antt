@@ -29,7 +29,8 @@ abbrev pub redone_of : ControlledNetwork → ℕ
 redone_of s = s.network.redone + s.control.redone
 
 -- the step after the records ends with this fault
-pub record Stops (case : Parts) (s : ControlledNetwork) (step : ℕ) (H : List StepRecord) (end : End) (fault : Fault) : Type 0 where
+pub record Stops (case : Parts) (s : ControlledNetwork) (step : ℕ) (H : List StepRecord) (end : End)
+    (fault : Fault) : Type 0 where
   pub end_is : end ≡ end_at step fault
   pub redone_is : redone_of s ≡ rows_redone case H + redone_by fault.cause case H
 

@@ -48,7 +48,8 @@ pub record AreSamples (case : Parts) (row : List ℤ) (s : Sampled) (made : ℕ)
 
 -- the machine has made so many steps of the history, of which this is the end; after the end nothing reads the network or
 -- the control
-pub record IsMachine (case : Parts) (network : ControlledNetwork) (row : List ℤ) (s : Sampled) (made : ℕ) (end : Option End) (h : History) : Type 0 where
+pub record IsMachine (case : Parts) (network : ControlledNetwork) (row : List ℤ) (s : Sampled) (made : ℕ)
+    (end : Option End) (h : History) : Type 0 where
   pub case_is : IsOf case network
   pub running : end ≡ None → StandsFor network h.records
   pub samples_are : AreSamples case row s made h

@@ -56,11 +56,14 @@ KeepsKinds case system rows switches = system.decided ≡ true → HasKinds case
 
 -- a branch has its conductance of the next step, for every list of records that the branches stand for
 abbrev pub HasConductance : Branches → Parts → List ℤ → ℕ → Type 0
-HasConductance branches case own b = (H : List StepRecord) → StandsFor branches H → item own b ≡ conductance_by case H b (slice_get case.branches b)
+HasConductance branches case own b =
+    (H : List StepRecord) → StandsFor branches H → item own b ≡ conductance_by case H b (slice_get case.branches b)
 
 -- branches that aren't pseudo-nonlinear have their conductances, which are the same in all steps
 abbrev pub HasFixed : Parts → List ℤ → Type 0
-HasFixed case own = (b : ℕ) (x : Branch) → slice_get case.branches b ≡ Some x → is_pseudo x ≡ false → item own b ≡ conductance_by case [] b (Some x)
+HasFixed case own =
+    (b : ℕ) (x : Branch) → slice_get case.branches b ≡ Some x → is_pseudo x ≡ false
+    → item own b ≡ conductance_by case [] b (Some x)
 
 -- the rows are those of the case, and the factor may be kept before the first touched row
 pub record HoldsRows (case : Parts) (rows : NodalRows) (kept : Good) : Type 0 where
@@ -98,7 +101,9 @@ pub record AreFew (case : Parts) (made redone : ℕ) : Type 0 where
   pub made_few : made ≤ case.run.steps
   pub redone_few : redone ≤ MOST_NODES * made
 
-pub record HoldsTogether (case : Parts) (order : Rows) (branches : Branches) (switches : Switching) (system : NodalSystem) (matrix : NodalMatrix) (voltages currents switch_currents : List ℤ) (closed : List Bool) (made : ℕ) : Type 0 where
+pub record HoldsTogether (case : Parts) (order : Rows) (branches : Branches) (switches : Switching)
+    (system : NodalSystem) (matrix : NodalMatrix) (voltages currents switch_currents : List ℤ) (closed : List Bool)
+    (made : ℕ) : Type 0 where
   pub order_is : order ≡ order_of case
   pub branches_case : HasCase branches case
   pub switches_hold : HoldsSwitches case switches

@@ -40,12 +40,15 @@ IsUnbalanced kinds sums limit (Some p) = IsFirstAbove kinds sums limit p
 -- the first row whose residual exceeds the tolerance, with the residual, where the branches keep these states
 abbrev pub Judges : Option (ℕ × ℤ) → Parts → List StepRecord → List BranchState → Type 0
 Judges None case H branches = first_unbalanced case H branches ≡ None
-Judges (Some p) case H branches = (first_unbalanced case H branches ≡ Some p.0) × (p.1 ≡ pos (residual_of case H branches p.0)) × (p.0 < length case.nodes)
+Judges (Some p) case H branches =
+    (first_unbalanced case H branches ≡ Some p.0) × (p.1 ≡ pos (residual_of case H branches p.0))
+    × (p.0 < length case.nodes)
 
 -- the same, by the kinds of the rows and what leaves their nodes
 abbrev pub JudgesRows : Option (ℕ × ℤ) → Parts → List RowKind → List ℤ → Type 0
 JudgesRows result case kinds leaving =
-    (H : List StepRecord) (branches : List BranchState) → kinds ≡ kinds_of case H → leaving ≡ leaving_rows case H branches → Judges result case H branches
+    (H : List StepRecord) (branches : List BranchState) → kinds ≡ kinds_of case H
+    → leaving ≡ leaving_rows case H branches → Judges result case H branches
 
 -- ---- what each call leaves in the rows, once the branches moved to a record
 

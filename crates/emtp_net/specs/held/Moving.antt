@@ -42,10 +42,13 @@ upto n b r H = if nat_lt b n then r ∷ H else H
 
 -- what moves at places below n stands for the next record too
 pub record StandsUpTo (s : Branches) (case : Parts) (H : List StepRecord) (r : StepRecord) (n : ℕ) : Type 0 where
-  pub lumps : (b : ℕ) (x : Lumped) → held_lumped.IsSeries case b x → held_lumped.StandsAt s.lumps b (lumped.states_of b (upto n b r H))
+  pub lumps : (b : ℕ) (x : Lumped) → held_lumped.IsSeries case b x
+      → held_lumped.StandsAt s.lumps b (lumped.states_of b (upto n b r H))
   pub lines : (b : ℕ) (x : Line) → held_lined.IsLineAt case b x → held_lined.StandsAt s.lines b (lined.states_of b (upto n b r H))
-  pub trios : (t : ℕ) → t < length case.trios → held_lined.TrioStandsAt s.lines t (lined.phase_states_of case t (upto n (first_of_trio case.trios t) r H))
-  pub pseudos : (b : ℕ) (x : Pseudo) → held_pseudo.IsPseudoAt case b x → held_pseudo.StandsAt s.pseudos b (pseudo.moments_of x b (upto n b r H))
+  pub trios : (t : ℕ) → t < length case.trios
+      → held_lined.TrioStandsAt s.lines t (lined.phase_states_of case t (upto n (first_of_trio case.trios t) r H))
+  pub pseudos : (b : ℕ) (x : Pseudo) → held_pseudo.IsPseudoAt case b x
+      → held_pseudo.StandsAt s.pseudos b (pseudo.moments_of x b (upto n b r H))
 
 -- each branch that moves at a place below n is in range
 abbrev pub AreInRange : Parts → List StepRecord → List ℤ → ℕ → Type 0
@@ -106,7 +109,8 @@ MovesAll result case vs currents s t =
 -- the current of the branch at a place in the last record
 abbrev pub IsCurrentAt : ℤ → Branches → Parts → List ℤ → ℕ → Type 0
 IsCurrentAt i s case currents at =
-    (r : StepRecord) (past : List StepRecord) → StandsFor s (r ∷ past) → AreCurrents case currents r (length case.branches) → AreLineCurrents case r
+    (r : StepRecord) (past : List StepRecord) → StandsFor s (r ∷ past)
+    → AreCurrents case currents r (length case.branches) → AreLineCurrents case r
     → i ≡ branch_current_at at r
 
 -- what the branch at a place brings to its two nodes, once all branches moved to a record

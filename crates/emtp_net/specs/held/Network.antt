@@ -68,13 +68,15 @@ MakesStep result old new tacs = (H : List StepRecord) → StandsWith old tacs H 
 
 -- A step eliminates as many rows as change where it is made, never more, and none where its switches tie two known
 -- voltages.
-pub record HasEliminated (result : Result (Unit {0}) NetFault) (case : Parts) (H : List StepRecord) (before after : ℕ) : Type 0 where
+pub record HasEliminated (result : Result (Unit {0}) NetFault) (case : Parts) (H : List StepRecord)
+    (before after : ℕ) : Type 0 where
   pub made : OnOk result (after ≡ before + step_ticks case H)
   pub most : after ≤ before + step_ticks case H
   pub tied : (node : ℕ) → network_part case H ≡ Err (Tied node) → after ≡ before
 
 abbrev pub TicksStep : Result (Unit {0}) NetFault → Net → List ℤ → ℕ → ℕ → Type 0
-TicksStep result old tacs before after = (H : List StepRecord) → StandsWith old tacs H → HasEliminated result old.case H before after
+TicksStep result old tacs before after =
+    (H : List StepRecord) → StandsWith old tacs H → HasEliminated result old.case H before after
 
 -- a step is counted however it ends, and neither redoes nor eliminates more rows than there may be
 pub record HasCounted (old new : Net) (before after : ℕ) : Type 0 where

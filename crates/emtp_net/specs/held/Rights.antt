@@ -44,12 +44,14 @@ row_value x v SourceRow = v
 -- the history currents of all branches
 abbrev pub FillsHistories : Parts → Branches → List ℤ → List ℤ → Type 0
 FillsHistories case branches old new =
-    (H : List StepRecord) → StandsFor branches H → (j : ℕ) → j < length old → item new j ≡ branch_sum case (history_at case H) (node_at case j)
+    (H : List StepRecord) → StandsFor branches H → (j : ℕ) → j < length old
+    → item new j ≡ branch_sum case (history_at case H) (node_at case j)
 
 -- beside what stood there, the current sources of these values
 abbrev pub AddsSources : Parts → List ℤ → List ℤ → List ℤ → Type 0
 AddsSources case values old new =
-    (f : Source → ℤ) → values ≡ map f case.sources → (j : ℕ) → j < length old → item new j ≡ item old j +ℤ brought f (node_at case j) case.sources
+    (f : Source → ℤ) → values ≡ map f case.sources → (j : ℕ) → j < length old
+    → item new j ≡ item old j +ℤ brought f (node_at case j) case.sources
 
 -- the right sides, by the sums of currents
 abbrev pub SetsRows : List RowKind → List ℕ → List ℤ → List ℤ → List ℤ → Type 0

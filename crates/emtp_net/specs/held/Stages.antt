@@ -46,7 +46,8 @@ abbrev pub IsUntied : Parts → List StepRecord → Type 0
 IsUntied case H = tied_of case.switches (order_of case) (next_states case H) ≡ None
 
 -- the switches have their next states, and the rows their kinds
-pub record IsDecided (case : Parts) (H : List StepRecord) (kinds : List RowKind) (rows : NodalRows) (switches : Switching) : Type 0 where
+pub record IsDecided (case : Parts) (H : List StepRecord) (kinds : List RowKind) (rows : NodalRows)
+    (switches : Switching) : Type 0 where
   pub free : IsUntied case H
   pub states_are : switches.states ≡ next_states case H
   pub kinds_are : kinds ≡ kinds_of case H
@@ -61,7 +62,8 @@ SetsKinds result case switches system rows =
 -- ---- the factor
 
 -- the factor is that of the last step's matrix, and rows have their next kinds
-pub record IsReady (case : Parts) (H : List StepRecord) (branches : Branches) (rows : NodalRows) (kept : Good) (made : ℕ) : Type 0 where
+pub record IsReady (case : Parts) (H : List StepRecord) (branches : Branches) (rows : NodalRows) (kept : Good)
+    (made : ℕ) : Type 0 where
   pub stands : BranchesStandFor branches H
   pub free : IsUntied case H
   pub kinds : rows.nodal.kinds ≡ kinds_of case H
@@ -69,7 +71,8 @@ pub record IsReady (case : Parts) (H : List StepRecord) (branches : Branches) (r
   pub steps : made + 1 ≡ length H
 
 -- the factor is made wherever the rows are ready, or the step ends; so many rows are redone, and so many eliminated
-pub record IsFactored (result : Result (Unit {0}) NetFault) (case : Parts) (H : List StepRecord) (old new : NodalMatrix) (before after : ℕ) : Type 0 where
+pub record IsFactored (result : Result (Unit {0}) NetFault) (case : Parts) (H : List StepRecord)
+    (old new : NodalMatrix) (before after : ℕ) : Type 0 where
   pub made : OnOk result (new.kept.rows ≡ matrix case H)
   pub ends : IfErr result (Ends case H (step_redone case H))
   pub redone : new.redone ≡ old.redone + step_redone case H
@@ -156,5 +159,6 @@ IsBalanced case H vs = first_unbalanced case H (states_at case H vs) ≡ None
 -- the residuals are judged by what leaves the nodes: none exceeds the tolerance, or the step ends
 abbrev pub JudgesStep : Result (Unit {0}) NetFault → Parts → NodalSystem → Type 0
 JudgesStep result case system =
-    (H : List StepRecord) (vs currents : List ℤ) → HasLeaving case H vs system → HasCurrents case H vs currents → system.kinds.items ≡ kinds_of case H
+    (H : List StepRecord) (vs currents : List ℤ) → HasLeaving case H vs system → HasCurrents case H vs currents
+    → system.kinds.items ≡ kinds_of case H
     → MatchResult result (λ u. IsBalanced case H vs) (Ends case H (step_redone case H))

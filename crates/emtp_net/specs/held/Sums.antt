@@ -47,5 +47,6 @@ pub record FoldsGroups (kinds : List RowKind) (old new : List ℤ) : Type 0 wher
 
 -- the rows below n that are tied to a sum have been added to it, and no other row is changed
 pub record IsFolded (kinds : List RowKind) (n : ℕ) (old new : List ℤ) : Type 0 where
-  pub sums : (j : ℕ) → j < length old → item new j ≡ item old j +ℤ sum_below n (λ k. if tied_to kinds j k then item old k else pos 0)
+  pub sums : (j : ℕ) → j < length old
+      → item new j ≡ item old j +ℤ sum_below n (λ k. if tied_to kinds j k then item old k else pos 0)
   pub size : length new ≡ length old

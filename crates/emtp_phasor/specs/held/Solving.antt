@@ -45,5 +45,6 @@ AnswersCase case given (Err fault) = FaultsAt case given fault
 
 abbrev pub FaultsAtFrequency : Parts → ℤ → PhasorFault → Type 0
 FaultsAtFrequency case freq (Refused line reason) = ⊥
-FaultsAtFrequency case freq (Ended name cause measured) = (end : Ending) × (steady case freq ≡ Err end) × TellsEnd case end name cause measured
+FaultsAtFrequency case freq (Ended name cause measured) =
+    (end : Ending) × (steady case freq ≡ Err end) × TellsEnd case end name cause measured
 FaultsAtFrequency case freq NoMemory = Unit {0}

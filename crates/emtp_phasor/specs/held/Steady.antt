@@ -30,7 +30,8 @@ AllFlow case ports volts count = (b : ℕ) → b < count → flows (port_at port
 
 -- row p.0 is the first one whose residual exceeds the tolerance, and p.1 is that residual; or none does, and the residual is
 -- the greatest one
-pub record IsFirstResidualAbove (case : Parts) (ports : List TwoPort) (volts : List Phasor) (row : ℕ) (measured : ℤ) : Type 0 where
+pub record IsFirstResidualAbove (case : Parts) (ports : List TwoPort) (volts : List Phasor) (row : ℕ)
+    (measured : ℤ) : Type 0 where
   pub there : row < length case.nodes
   pub first : first_residual_above case ports volts ≡ Some row
   pub is : measured ≡ pos (row_residual case ports volts row)

@@ -52,16 +52,21 @@ end_part n imaginary node y c = if node == node_at n.case.now.parts (c / 2) then
 -- by the branch at a place, where the row is that of a node
 abbrev pub branch_part : SteadyNetwork → Bool → ℕ → ℕ → ℕ → ℤ
 branch_part n imaginary node at c =
-    between_nodes imaginary (is_imaginary c) (port_at n.ports.now at) node (node_at n.case.now.parts (c / 2)) (slice_get n.case.now.parts.branches at)
+    between_nodes imaginary (is_imaginary c) (port_at n.ports.now at) node (node_at n.case.now.parts (c / 2))
+    (slice_get n.case.now.parts.branches at)
 
 -- by the node of a row of the network
 abbrev pub node_part : SteadyNetwork → Bool → ℕ → ℕ → ℤ
-node_part n imaginary row c = admittance_entry n.case.now.parts n.ports.now imaginary (is_imaginary c) (node_at n.case.now.parts row) (node_at n.case.now.parts (c / 2))
+node_part n imaginary row c =
+    admittance_entry n.case.now.parts n.ports.now imaginary (is_imaginary c) (node_at n.case.now.parts row)
+    (node_at n.case.now.parts (c / 2))
 
 -- by the group of a row of the network
 abbrev pub group_part : SteadyNetwork → Bool → ℕ → ℕ → ℤ
 group_part n imaginary row c =
-    group_sum n.case.now.parts n.kinds.now row (λ node. admittance_entry n.case.now.parts n.ports.now imaginary (is_imaginary c) node (node_at n.case.now.parts (c / 2)))
+    group_sum n.case.now.parts n.kinds.now row
+    (λ node. admittance_entry n.case.now.parts n.ports.now imaginary (is_imaginary c) node
+    (node_at n.case.now.parts (c / 2)))
 
 -- in the row of the doubled matrix
 abbrev pub row_part : SteadyNetwork → ℕ → ℕ → ℤ
@@ -88,4 +93,5 @@ node_leaves n volts imaginary row = leaving_node n.case.now.parts n.ports.now vo
 
 -- the group of a row
 abbrev pub group_leaves : SteadyNetwork → List Phasor → Bool → ℕ → ℤ
-group_leaves n volts imaginary row = group_sum n.case.now.parts n.kinds.now row (leaving_node n.case.now.parts n.ports.now volts imaginary)
+group_leaves n volts imaginary row =
+    group_sum n.case.now.parts n.kinds.now row (leaving_node n.case.now.parts n.ports.now volts imaginary)

@@ -47,7 +47,8 @@ StandsFor s H = (b : ℕ) (x : Pseudo) → IsPseudoAt s.case b x → StandsAt s 
 
 -- A branch moved by one step at a branch voltage: there is a next state, its current is the answer, and with the voltage it
 -- is the newest of what the value stands for.
-pub record HasMoved (new : HeldPseudos) (branch : ℕ) (past : List Moment) (v : ℤ) (next : Option PseudoState) (i : ℤ) : Type 0 where
+pub record HasMoved (new : HeldPseudos) (branch : ℕ) (past : List Moment) (v : ℤ) (next : Option PseudoState)
+    (i : ℤ) : Type 0 where
   pub state : PseudoState
   pub is : next ≡ Some state
   pub current : i ≡ state.current
@@ -57,8 +58,10 @@ pub record HasMoved (new : HeldPseudos) (branch : ℕ) (past : List Moment) (v :
 -- Err comes exactly where there is no next state, and changes nothing.
 pub record Moves (old new : HeldPseudos) (branch : ℕ) (v : ℤ) (result : Result ℤ OutOfRange) : Type 0 where
   pub case : new.case ≡ old.case
-  pub moved : (x : Pseudo) (past : List Moment) → IsPseudoAt old.case branch x → StandsAt old branch past → IfOk result (HasMoved new branch past v (next_of old.case x past v))
-  pub out : (x : Pseudo) (past : List Moment) → IsPseudoAt old.case branch x → StandsAt old branch past → OnErr result (next_of old.case x past v ≡ None)
+  pub moved : (x : Pseudo) (past : List Moment) → IsPseudoAt old.case branch x → StandsAt old branch past
+      → IfOk result (HasMoved new branch past v (next_of old.case x past v))
+  pub out : (x : Pseudo) (past : List Moment) → IsPseudoAt old.case branch x → StandsAt old branch past
+      → OnErr result (next_of old.case x past v ≡ None)
   pub others : (b : ℕ) (past : List Moment) → b ≢ branch → StandsAt old b past → StandsAt new b past
   pub same : OnErr result (new ≡ old)
 

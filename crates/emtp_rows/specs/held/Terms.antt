@@ -36,8 +36,10 @@ two_terms b node other = record { node = node; amount = Own b } ∷ record { nod
 
 -- what an end of the branch at a place brings into the current equation of its node
 abbrev pub end_terms : Parts → ℕ → Bool → Branch → List NodeTerm
-end_terms case b second (OfLumped x) = two_terms b (end_node second (OfLumped x)) (end_node (if second then false else true) (OfLumped x))
-end_terms case b second (OfPseudo x) = two_terms b (end_node second (OfPseudo x)) (end_node (if second then false else true) (OfPseudo x))
+end_terms case b second (OfLumped x) =
+    two_terms b (end_node second (OfLumped x)) (end_node (if second then false else true) (OfLumped x))
+end_terms case b second (OfPseudo x) =
+    two_terms b (end_node second (OfPseudo x)) (end_node (if second then false else true) (OfPseudo x))
 end_terms case b second (OfLine x) = record { node = end_node second (OfLine x); amount = Own b } ∷ []
 end_terms case b second (OfPhase x) =
     record { node = end_node second (OfPhase x); amount = Own b }
@@ -48,7 +50,8 @@ end_terms case b second (OfPhase x) =
 -- what the branch at a place brings into the current equation of node n
 abbrev pub terms_by : Parts → ℕ → ℕ → Option Branch → List NodeTerm
 terms_by case n b None = []
-terms_by case n b (Some x) = if from_of x == n then end_terms case b false x else if to_of x == n then end_terms case b true x else []
+terms_by case n b (Some x) =
+    if from_of x == n then end_terms case b false x else if to_of x == n then end_terms case b true x else []
 
 abbrev pub terms_at : Parts → ℕ → ℕ → List NodeTerm
 terms_at case n b = terms_by case n b (slice_get case.branches b)
@@ -74,20 +77,26 @@ pub record IsTerm (nodes branches trios : ℕ) (t : Term) : Type 0 where
 -- the list has grown by these terms of nodes, whatever the conductances are
 pub record Adds (case : Parts) (more : List NodeTerm) (old new : List Term) : Type 0 where
   pub sums :
-      (own coupling : List ℤ) (j : ℕ) → j < length case.nodes → total (in_column own coupling j) new ≡ total (in_column own coupling j) old +ℤ total (in_node own coupling (node_at case j)) more
+      (own coupling : List ℤ) (j : ℕ) → j < length case.nodes
+      → total (in_column own coupling j) new
+      ≡ total (in_column own coupling j) old +ℤ total (in_node own coupling (node_at case j)) more
   pub few : length new ≤ length old + length more
-  pub exist : All (IsTerm (length case.nodes) (length case.branches) (length case.trios)) old → All (IsTerm (length case.nodes) (length case.branches) (length case.trios)) new
+  pub exist : All (IsTerm (length case.nodes) (length case.branches) (length case.trios)) old
+      → All (IsTerm (length case.nodes) (length case.branches) (length case.trios)) new
 
 -- the list has the terms of the first `count` branches in the current equation of node n
 pub record HasTerms (case : Parts) (n count : ℕ) (terms : List Term) : Type 0 where
   pub sums :
-      (own coupling : List ℤ) (j : ℕ) → j < length case.nodes → total (in_column own coupling j) terms ≡ sum_below count (λ b. total (in_node own coupling (node_at case j)) (terms_at case n b))
+      (own coupling : List ℤ) (j : ℕ) → j < length case.nodes
+      → total (in_column own coupling j) terms
+      ≡ sum_below count (λ b. total (in_node own coupling (node_at case j)) (terms_at case n b))
   pub few : length terms ≤ 3 * count
   pub exist : All (IsTerm (length case.nodes) (length case.branches) (length case.trios)) terms
 
 -- each row holds the terms of its node
 abbrev pub HasAllTerms : Parts → List (List Term) → Type 0
-HasAllTerms case rows = (i : ℕ) → i < length rows → HasTerms case (node_at case i) (length case.branches) (slice_index_or rows i [])
+HasAllTerms case rows =
+    (i : ℕ) → i < length rows → HasTerms case (node_at case i) (length case.branches) (slice_index_or rows i [])
 
 -- a conductance in its range
 abbrev pub IsSmall : ℤ → Type 0
@@ -98,7 +107,8 @@ abbrev pub end_rows : Parts → Branch → ℕ × ℕ
 end_rows case b = (row_at case (from_of b), row_at case (to_of b))
 
 -- what is held of a case, the number of its source rows and the first touched row
-pub record IsHeld (case : Parts) (fixed touched : ℕ) (ends : List (ℕ × ℕ)) (rows : List (List Term)) (own coupling : List ℤ) (kinds : List RowKind) : Type 0 where
+pub record IsHeld (case : Parts) (fixed touched : ℕ) (ends : List (ℕ × ℕ)) (rows : List (List Term))
+    (own coupling : List ℤ) (kinds : List RowKind) : Type 0 where
   pub fixed_is : fixed ≡ (order_of case).fixed
   pub touched_within : touched ≤ length case.nodes
   pub ends_are : ends ≡ map (end_rows case) case.branches
@@ -130,12 +140,16 @@ nodal_at_rest case = record {
 
 -- the terms of each row are few, and exist
 abbrev pub AreRowTerms : ℕ → ℕ → ℕ → List (List Term) → Type 0
-AreRowTerms nodes branches trios rows = (k : ℕ) → k < length rows → (length (slice_index_or rows k []) ≤ 15000) × All (IsTerm nodes branches trios) (slice_index_or rows k [])
+AreRowTerms nodes branches trios rows =
+    (k : ℕ) → k < length rows
+    → (length (slice_index_or rows k []) ≤ 15000) × All (IsTerm nodes branches trios) (slice_index_or rows k [])
 
 -- an entry of row i, by its kind and by the terms
 abbrev pub filled_entry : List (List Term) → List ℤ → List ℤ → List RowKind → ℕ → ℕ → RowKind → ℤ
 filled_entry rows own coupling kinds i j Kcl = total (in_column own coupling j) (slice_index_or rows i [])
-filled_entry rows own coupling kinds i j Sum = sum_below (length rows) (λ k. if is_member kinds i k then total (in_column own coupling j) (slice_index_or rows k []) else pos 0)
+filled_entry rows own coupling kinds i j Sum =
+    sum_below (length rows)
+    (λ k. if is_member kinds i k then total (in_column own coupling j) (slice_index_or rows k []) else pos 0)
 filled_entry rows own coupling kinds i j (Tie row) = unit i j -ℤ unit row j
 filled_entry rows own coupling kinds i j Ground = unit i j
 filled_entry rows own coupling kinds i j Source = unit i j

@@ -17,7 +17,8 @@ abbrev pub IsKnown : List (List ℕ) → Option (List ℕ) → Type 0
 IsKnown variables name = ForSome name (λ n. variable_number variables n < length variables)
 
 abbrev pub AreKnownInputs : List (List ℕ) → List (Option (Bool × List ℕ)) → Type 0
-AreKnownInputs variables inputs = All (λ (i : Option (Bool × List ℕ)). IsKnown variables (option_map (λ (x : Bool × List ℕ). x.1) i)) inputs
+AreKnownInputs variables inputs =
+    All (λ (i : Option (Bool × List ℕ)). IsKnown variables (option_map (λ (x : Bool × List ℕ). x.1) i)) inputs
 
 -- the name that a card defines is that of a variable, and of none of every case
 pub record IsDefined (variables : List (List ℕ)) (name : List ℕ) : Type 0 where
@@ -44,6 +45,7 @@ abbrev pub IsSensibleExtra : List (List ℕ) → ExtraEntry → Type 0
 IsSensibleExtra variables (DeviceEntry card first count) = IsSensibleDevice variables card
 IsSensibleExtra variables (FormulaEntry card) = IsSensibleFormula variables card
 
-pub record IsSensibleTacsSource (nodes : List (List ℕ)) (switches : List SwitchCard) (variables : List (List ℕ)) (card : SourceCard) : Type 0 where
+pub record IsSensibleTacsSource (nodes : List (List ℕ)) (switches : List SwitchCard) (variables : List (List ℕ))
+    (card : SourceCard) : Type 0 where
   pub name : IsDefined variables card.name
   pub measures : is_measurable nodes switches card.name card.shape ≡ true

@@ -22,14 +22,18 @@ through_switches switches currents node =
 -- known voltage takes what is left of its group; one without has its row to make it 0.
 abbrev pub Balances : List Switch → Rows → List SwitchState → List ℤ → List ℤ → Type 0
 Balances switches rows states leaving currents =
-    (row : ℕ) → row < length rows.nodes → slice_index rows.nodes row ≢ root_of rows (labels_of switches rows states) (slice_index rows.nodes row)
+    (row : ℕ) → row < length rows.nodes
+    → slice_index rows.nodes row ≢ root_of rows (labels_of switches rows states) (slice_index rows.nodes row)
     → item leaving row +ℤ through_switches switches currents (slice_index rows.nodes row) ≡ pos 0
 
 -- at a root that is a node, what leaves it through branches and switches is what leaves its whole group through branches
 abbrev pub RootsBalance : List Switch → Rows → List SwitchState → List ℤ → List ℤ → Type 0
 RootsBalance switches rows states leaving currents =
-    (row : ℕ) → row < length rows.nodes → slice_index rows.nodes row ≡ root_of rows (labels_of switches rows states) (slice_index rows.nodes row)
-    → item leaving row +ℤ through_switches switches currents (slice_index rows.nodes row) ≡ leaving_side rows (labels_of switches rows states) (slice_index (labels_of switches rows states) (slice_index rows.nodes row)) leaving
+    (row : ℕ) → row < length rows.nodes
+    → slice_index rows.nodes row ≡ root_of rows (labels_of switches rows states) (slice_index rows.nodes row)
+    → item leaving row +ℤ through_switches switches currents (slice_index rows.nodes row)
+    ≡ leaving_side rows (labels_of switches rows states)
+    (slice_index (labels_of switches rows states) (slice_index rows.nodes row)) leaving
 
 -- the first current that exceeds its limit
 pub record IsFirstBeyond (currents : List ℤ) (s : ℕ) : Type 0 where

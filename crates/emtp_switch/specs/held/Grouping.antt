@@ -13,12 +13,14 @@ use Rattle.std.specs.Prelude.{◌≡◌, ◌≤◌, ◌+◌, Bool, List, length,
 -- the links are the tree of the bridges of the states of the switches
 pub record AreTree (switches : List Switch) (rows : Rows) (states : List SwitchState) (links : List Link) : Type 0 where
   pub links_are : AreLinks links (length rows.nodes + 1) (length switches)
-  pub tree : IsTree switches rows (bridges_of switches rows states) (groups switches (alone (length rows.nodes)) (bridges_of switches rows states)) links
+  pub tree : IsTree switches rows (bridges_of switches rows states)
+      (groups switches (alone (length rows.nodes)) (bridges_of switches rows states)) links
 
 -- the links are the tree of these bridges, where what is reached at first are the roots
 abbrev pub GrowsTree : List Switch → Rows → List ℕ → List Bool → List Link → Type 0
 GrowsTree switches rows es reached links =
-    StartsAtRoots rows (groups switches (alone (length rows.nodes)) es) reached → IsTree switches rows es (groups switches (alone (length rows.nodes)) es) links
+    StartsAtRoots rows (groups switches (alone (length rows.nodes)) es) reached
+    → IsTree switches rows es (groups switches (alone (length rows.nodes)) es) links
 
 -- one place for each node, and for ground but in the list of kinds
 pub record HasPlaces (p : Parts) (g : Groups) : Type 0 where

@@ -14,12 +14,14 @@ use Rattle.std.specs.Prelude.{◌≡◌, ◌+◌, ◌<◌, ◌≤◌, Bool, List
 
 -- a label is marked where its group holds one of some nodes
 abbrev pub MarksKnown : List ℕ → List ℕ → List Bool → Type 0
-MarksKnown known labels marks = (x : ℕ) → x < length labels → is_reached marks (slice_index labels x) ≡ knows known labels (slice_index labels x)
+MarksKnown known labels marks =
+    (x : ℕ) → x < length labels → is_reached marks (slice_index labels x) ≡ knows known labels (slice_index labels x)
 
 -- the first switch that joins two known voltages, whatever nodes are known that the marks stand for
 abbrev pub WatchesTied : List Switch → List SwitchState → List ℕ → List Bool → Option ℕ → Type 0
 WatchesTied switches states labels marks tied =
-    (known : List ℕ) → All (λ k. k < length labels) known → MarksKnown known labels marks → tied ≡ first_tied switches known labels (closed_switches states)
+    (known : List ℕ) → All (λ k. k < length labels) known → MarksKnown known labels marks
+    → tied ≡ first_tied switches known labels (closed_switches states)
 
 pub record IsPlan (p : Parts) (rows : Rows) (plan : Plan) : Type 0 where
   pub order : IsRowOrder p rows

@@ -40,15 +40,18 @@ pub record AreLatest (step : ℕ) (voltages currents values : List ℤ) (H : Lis
 -- the switches of a case moved: they stand for any further record that has their next states
 abbrev pub MovesSwitches : Switching → Switching → ℕ → List ℤ → List ℤ → List ℤ → Type 0
 MovesSwitches old new step voltages currents values =
-    (H : List StepRecord) (r : StepRecord) → StandsFor old H → AreLatest step voltages currents values H → r.switch_states ≡ next_states old.case H → StandsFor new (r ∷ H)
+    (H : List StepRecord) (r : StepRecord) → StandsFor old H → AreLatest step voltages currents values H
+    → r.switch_states ≡ next_states old.case H → StandsFor new (r ∷ H)
 
 -- the states of the switches are their next ones
 abbrev pub MovesStates : Parts → List SwitchState → List ℤ → ℕ → LastNumbers → List SwitchState → Type 0
 MovesStates case old before step last new =
-    (H : List StepRecord) → AreKept old before H → AreLatest step last.voltages.now last.currents.now last.values.now H → new ≡ next_states case H
+    (H : List StepRecord) → AreKept old before H
+    → AreLatest step last.voltages.now last.currents.now last.values.now H → new ≡ next_states case H
 
 -- what the value keeps
-pub record IsSwitching (p : Parts) (rows : Rows) (plan : Plan) (groups : Groups) (states : List SwitchState) (before rest flows : List ℤ) : Type 0 where
+pub record IsSwitching (p : Parts) (rows : Rows) (plan : Plan) (groups : Groups) (states : List SwitchState)
+    (before rest flows : List ℤ) : Type 0 where
   pub plan_is : IsPlan p rows plan
   pub groups_are : AreGroups p rows states groups
   pub states_size : length states ≡ length p.switches

@@ -89,29 +89,34 @@ abbrev pub past_of : Bool → List DeviceState → List StepRecord → ℕ → L
 past_of done devices H at = if done then slice_index_or devices at no_device ∷ states_of at H else states_of at H
 
 -- values and devices are what the step has so far, once a pass has come to place n
-pub record IsSoFar (case : Parts) (H : List StepRecord) (early : Bool) (n : ℕ) (values : List ℤ) (held : HeldDevices) (s : SoFar) : Type 0 where
+pub record IsSoFar (case : Parts) (H : List StepRecord) (early : Bool) (n : ℕ) (values : List ℤ) (held : HeldDevices)
+    (s : SoFar) : Type 0 where
   pub values_are : values ≡ s.values
   pub count : length s.devices ≡ length case.extras
   pub devices : (at : ℕ) (x : Device) → IsDeviceAt case at x → StandsAt held at (past_of (is_done case early n at) s.devices H at)
 
 -- a call that goes on to place n answers and leaves what the definition says
-abbrev pub Reaches : Result (Unit {0}) TacsFault → Parts → List StepRecord → Bool → ℕ → List ℤ → HeldDevices → Result SoFar TacsFault → Type 0
+abbrev pub Reaches : Result (Unit {0}) TacsFault → Parts → List StepRecord → Bool → ℕ → List ℤ → HeldDevices
+    → Result SoFar TacsFault → Type 0
 Reaches (Ok u) case H early n values held (Ok s) = IsSoFar case H early n values held s
 Reaches (Ok u) case H early n values held (Err fault) = ⊥
 Reaches (Err e) case H early n values held (Ok s) = ⊥
 Reaches (Err e) case H early n values held (Err fault) = e ≡ fault
 
 -- the same of a whole pass over the supplemental cards
-abbrev pub CompletesPass : Result (Unit {0}) TacsFault → Parts → List StepRecord → Bool → Variables → Result SoFar TacsFault → Type 0
+abbrev pub CompletesPass : Result (Unit {0}) TacsFault → Parts → List StepRecord → Bool → Variables
+    → Result SoFar TacsFault → Type 0
 CompletesPass result case H early v defined = Reaches result case H early (length case.extras) v.values.items v.devices defined
 
 -- what is known before the blocks of a step is computed, from all records for which the variables stood
 abbrev pub ComputesKnown : Result (Unit {0}) TacsFault → Parts → ℕ → Measured → Variables → Variables → Type 0
 ComputesKnown result case step m old new =
-    (H : List StepRecord) → step ≡ length H → VariablesStandFor case old H → CompletesPass result case H true new (known_before case H m)
+    (H : List StepRecord) → step ≡ length H → VariablesStandFor case old H
+    → CompletesPass result case H true new (known_before case H m)
 
 -- the card at a place has this value in a step: a device moves, and a formula lets all devices stay
-pub record ComputesValue (result : Result ℤ OutOfRange) (pass : Pass) (at : ℕ) (values : List ℤ) (held moved : HeldDevices) : Type 0 where
+pub record ComputesValue (result : Result ℤ OutOfRange) (pass : Pass) (at : ℕ) (values : List ℤ)
+    (held moved : HeldDevices) : Type 0 where
   pub device : (x : Device) → IsDeviceAt pass.case.now.parts at x → Moves held moved at pass.step values result
   pub formula : (x : Formula) → IsFormulaAt pass.case.now.parts at x → Evaluates result (formula_value values x)
   pub formula_same : (x : Formula) → IsFormulaAt pass.case.now.parts at x → moved ≡ held
@@ -176,10 +181,12 @@ FindsOutputs result case known old new =
 abbrev pub AcceptsOutputs : Result (Unit {0}) TacsFault → Parts → List ℤ → BlockSystem → BlockSystem → Type 0
 AcceptsOutputs result case known old new =
     (H : List StepRecord) → BlocksStandFor old.blocks H
-    → MatchResult result (λ u. HaveAccepted new.blocks new.x.items H known old.x.items) (λ e. IsSolution case H known old.x.items → EndsBlocks case H known e)
+    → MatchResult result (λ u. HaveAccepted new.blocks new.x.items H known old.x.items)
+    (λ e. IsSolution case H known old.x.items → EndsBlocks case H known e)
 
 -- the blocks of the step after the records are solved, and the factor is that of their matrix
-pub record AreSolved (result : Result (Unit {0}) TacsFault) (case : Parts) (H : List StepRecord) (known values : List ℤ) (s : BlockSystem) : Type 0 where
+pub record AreSolved (result : Result (Unit {0}) TacsFault) (case : Parts) (H : List StepRecord)
+    (known values : List ℤ) (s : BlockSystem) : Type 0 where
   pub solves : Solves result s.blocks values H (blocks case H known)
   pub kept : OnOk result (s.kept.rows ≡ matrix case H)
 
@@ -191,12 +198,14 @@ SolvesBlocks result case known values old new =
 
 -- all variables have their values of the next record: variables and blocks stand for the records and any further one with
 -- this control part, and the factor is that of the step's matrix
-pub record HaveAdvanced (case : Parts) (H : List StepRecord) (variables : Variables) (system : BlockSystem) (part : ControlPart) : Type 0 where
+pub record HaveAdvanced (case : Parts) (H : List StepRecord) (variables : Variables) (system : BlockSystem)
+    (part : ControlPart) : Type 0 where
   pub variables_stand : (r : StepRecord) → control_of r ≡ part → VariablesStandFor case variables (r ∷ H)
   pub blocks_stand : (r : StepRecord) → control_of r ≡ part → BlocksStandFor system.blocks (r ∷ H)
   pub kept : system.kept.rows ≡ matrix case H
 
-abbrev pub Advances : Result (Unit {0}) TacsFault → Parts → List StepRecord → Variables → BlockSystem → Result ControlPart TacsFault → Type 0
+abbrev pub Advances : Result (Unit {0}) TacsFault → Parts → List StepRecord → Variables → BlockSystem
+    → Result ControlPart TacsFault → Type 0
 Advances (Ok u) case H variables system (Ok part) = HaveAdvanced case H variables system part
 Advances (Ok u) case H variables system (Err fault) = ⊥
 Advances (Err e) case H variables system (Ok part) = ⊥

@@ -52,7 +52,8 @@ abbrev pub MakesStep : Result (Unit {0}) TacsFault → HeldControl → HeldContr
 MakesStep result old new m = (H : List StepRecord) → StandsFor old H → StepsTo result new H (control_step old.case H m)
 
 -- a step eliminates as many rows as change where it is made, and never more
-pub record HasEliminated (result : Result (Unit {0}) TacsFault) (case : Parts) (H : List StepRecord) (before after : ℕ) : Type 0 where
+pub record HasEliminated (result : Result (Unit {0}) TacsFault) (case : Parts) (H : List StepRecord)
+    (before after : ℕ) : Type 0 where
   pub made : OnOk result (after ≡ before + control_step_ticks case H)
   pub most : after ≤ before + control_step_ticks case H
 
