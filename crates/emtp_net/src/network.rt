@@ -23,6 +23,7 @@ use emtp_tail::Kept;
 use emtp_wave::CosTable;
 use std::alloc::{AllocError, Global};
 use std::marker::Model;
+use std::rc::Rc;
 use std::sync::ledger::Ledger;
 
 /// The network of a case, at its last step (Dommel 1969).
@@ -32,7 +33,7 @@ use std::sync::ledger::Ledger;
 pub struct Network<'a> {
     case: &'a Case,
     order: RowOrder,
-    table: CosTable,
+    table: Rc<CosTable>,
     branches: Branches<'a>,
     switches: Switches<'a>,
     system: NodalSystem,
@@ -79,8 +80,26 @@ impl<'a> Network<'a> {
         ensures rest { IfOk result (λ network. StandsFor network (rest_of case.now.parts ∷ [])) }
         ensures made { IfOk result (λ network. network.made ≡ 0) }
     {
+        let table = Rc::new(alloc, CosTable::open(alloc)?)?;
+        Network::open_with(alloc, case, &table)
+    }
+
+    /// The same with a table of the cosine that others may share.
+    ///
+    /// # Errors
+    ///
+    /// [`AllocError`] where there is no memory for it.
+    pub fn open_with(
+        alloc: Global,
+        case: &'a Case,
+        table: &Rc<CosTable>,
+    ) -> Result<Network<'a>, AllocError>
+        ensures case { IfOk result (λ network. network.case ≡ case.now.parts) }
+        ensures rest { IfOk result (λ network. StandsFor network (rest_of case.now.parts ∷ [])) }
+        ensures made { IfOk result (λ network. network.made ≡ 0) }
+    {
         // What is open is dropped by calls where a later part isn't opened: a drop in place is proved list by list.
-        let table = CosTable::open(alloc)?;
+        let table = table.clone()?;
         let order = order(alloc, case)?;
         let Ok(system) = NodalSystem::open(alloc, case, &order) else {
             drop((table, order));

@@ -22,6 +22,7 @@ use emtp_switch::Switches;
 use emtp_tail::Kept;
 use emtp_wave::CosTable;
 use std::alloc::{AllocError, Global};
+use std::rc::Rc;
 
 /// The nodal system of a step. All of it is room that is filled anew in each step but for `places` and `ends`, and for
 /// `kinds` where no switch changed.
@@ -118,7 +119,7 @@ impl NodalSystem {
     }
 
     /// Takes the values of the sources in the next step.
-    pub(crate) fn set_sources(&mut self, case: &Case, table: &CosTable, step: u32, tacs: &[i64])
+    pub(crate) fn set_sources(&mut self, case: &Case, table: &Rc<CosTable>, step: u32, tacs: &[i64])
         requires room { HasRoom case.now.parts self.old }
         requires step { step ≤ case.now.parts.run.steps }
         requires tacs { length tacs.now ≡ length case.now.parts.vars }

@@ -1,6 +1,6 @@
 use Rattle.std.proofs.Common.{◌≡◌, ◌∙◌, sym, refl, true, false, arith}
 use Rattle.emtp_net.proofs.Resting.{shown_rest, stands_rest}
-use Rattle.emtp_net.proofs.network.Network.open.Goals as goal
+use Rattle.emtp_net.proofs.network.Network.open_with.Goals as goal
 
 pub matrix_at_rest-requires-clause-rest : goal.matrix_at_rest-requires-clause-rest
 matrix_at_rest-requires-clause-rest c = c.in-Ok-open-2.ensures.rest
