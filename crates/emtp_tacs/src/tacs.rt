@@ -15,8 +15,10 @@ use crate::variables::Variables;
 use emtp_case::Case;
 use emtp_fix::Steps;
 use emtp_tail::Kept;
+use emtp_wave::CosTable;
 use std::alloc::{AllocError, Global};
 use std::marker::Model;
+use std::rc::Rc;
 use std::sync::ledger::Ledger;
 
 /// The control of a case, at its last step.
@@ -61,7 +63,25 @@ impl<'a> Tacs<'a> {
         ensures rest { IfOk result (λ tacs. StandsFor tacs (rest_of case.now.parts ∷ [])) }
         ensures made { IfOk result (λ tacs. tacs.made ≡ 0) }
     {
-        let variables = Variables::open(alloc, case)?;
+        let table = Rc::new(alloc, CosTable::open(alloc)?)?;
+        Tacs::open_with(alloc, case, &table)
+    }
+
+    /// The same with a table of the cosine that others may share.
+    ///
+    /// # Errors
+    ///
+    /// [`AllocError`] where there is no memory for it.
+    pub fn open_with(
+        alloc: Global,
+        case: &'a Case,
+        table: &Rc<CosTable>,
+    ) -> Result<Tacs<'a>, AllocError>
+        ensures case { IfOk result (λ tacs. tacs.case ≡ case.now.parts) }
+        ensures rest { IfOk result (λ tacs. StandsFor tacs (rest_of case.now.parts ∷ [])) }
+        ensures made { IfOk result (λ tacs. tacs.made ≡ 0) }
+    {
+        let variables = Variables::open(alloc, case, table)?;
         let system = BlockSystem::open(alloc, case)?;
         Ok(Tacs {
             case,

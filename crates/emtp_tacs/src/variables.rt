@@ -15,11 +15,12 @@ use emtp_case::{Case, Extra};
 use emtp_devices::Devices;
 use emtp_wave::CosTable;
 use std::alloc::{AllocError, Global};
+use std::rc::Rc;
 
 /// The variables of the control at the last record.
 #[derive(Drop)]
 pub(crate) struct Variables<'a> {
-    pub(crate) table: CosTable,
+    pub(crate) table: Rc<CosTable>,
     pub(crate) devices: Devices<'a>,
     /// The values by variable, in nano: to 10^18 in magnitude.
     pub(crate) values: Vec<i64>,
@@ -29,13 +30,17 @@ pub(crate) struct Variables<'a> {
 
 impl<'a> Variables<'a> {
     /// The variables of record 0. All memory is taken here.
-    pub(crate) fn open(alloc: Global, case: &'a Case) -> Result<Variables<'a>, AllocError>
+    pub(crate) fn open(
+        alloc: Global,
+        case: &'a Case,
+        table: &Rc<CosTable>,
+    ) -> Result<Variables<'a>, AllocError>
         ensures holds { IfOk result (HoldsVariables case.now.parts) }
         ensures rest { IfOk result (λ v. VariablesStandFor case.now.parts v (rest_of case.now.parts ∷ [])) }
     {
         let values = vec![in alloc; 0i64; case.parts.vars.len()]?;
         let names = vec![in alloc; 0i64; most_names(case)]?;
-        let table = CosTable::open(alloc)?;
+        let table = table.clone()?;
         let devices = Devices::open(alloc, case)?;
         Ok(Variables {
             table,
