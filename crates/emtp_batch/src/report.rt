@@ -12,7 +12,9 @@ ghost use Rattle.emtp_machine.specs.Ranges.{AreSamplesInRange};
 use crate::table::Row;
 use emtp_case::{Case, Items};
 use emtp_machine::{End, Machine, Samples, samples_are_in_range};
+use emtp_wave::CosTable;
 use std::alloc::{AllocError, Global};
+use std::rc::Rc;
 
 /// What the run of a row gives.
 #[derive(Drop)]
@@ -38,21 +40,22 @@ pub fn batch(alloc: Global, case: &mut Case, rows: &[Row]) -> Result<Vec<RowRepo
     ensures some { OnErr result (IsAfterSome case.old.parts rows.now case.new.parts) }
 {
     let mut reports = Vec::with_capacity(alloc, rows.len())?;
+    let table = Rc::new(alloc, CosTable::open(alloc)?)?;
     for row in rows {
         case.set_times(row.times.as_slice());
-        reports.push(run_case(alloc, case)?)?;
+        reports.push(run_case(alloc, case, &table)?)?;
     }
     Ok(reports)
 }
 
-/// Runs a case from rest on.
+/// Runs a case from rest on, with a table of the cosine that all rows share.
 #[tactic(auto, unfolding(crate::specs::Report::report_of))]
-fn run_case(alloc: Global, case: &Case) -> Result<RowReport, AllocError>
+fn run_case(alloc: Global, case: &Case, table: &Rc<CosTable>) -> Result<RowReport, AllocError>
     ensures report { IfOk result (λ report. report ≡ report_of case.now.parts) }
     ensures balance { OnOk result (SamplesBalance case.now.parts) }
     ensures names { OnOk result (EndsWithin case.now.parts) }
 {
-    let mut machine = Machine::open(alloc, case)?;
+    let mut machine = Machine::open_with(alloc, case, table)?;
     let end = machine.run_alone();
     samples_are_in_range(case);
     let peaks = peaks_of(alloc, case, machine.samples());

@@ -15,7 +15,9 @@ use emtp_case::{Case, Name};
 use emtp_fix::Steps;
 use emtp_net::{NetFault, Network};
 use emtp_tacs::{Tacs, TacsFault};
+use emtp_wave::CosTable;
 use std::alloc::{AllocError, Global};
+use std::rc::Rc;
 use std::sync::ledger::Ledger;
 
 /// The network of a case and its control, at the last record. In a step the network goes first, by the control's values
@@ -73,13 +75,17 @@ fn control_end(case: &Case, step: u32, fault: TacsFault) -> End
 }
 
 impl<'c> ControlledNetwork<'c> {
-    /// Both at record 0. No later call takes memory.
-    pub(crate) fn open(alloc: Global, case: &'c Case) -> Result<ControlledNetwork<'c>, AllocError>
+    /// Both at record 0, with one table of the cosine. No later call takes memory.
+    pub(crate) fn open(
+        alloc: Global,
+        case: &'c Case,
+        table: &Rc<CosTable>,
+    ) -> Result<ControlledNetwork<'c>, AllocError>
         ensures case { IfOk result (IsOf case.now.parts) }
         ensures rest { IfOk result (λ s. StandsFor s (rest_of case.now.parts ∷ [])) }
     {
-        let control = Tacs::open(alloc, case)?;
-        match Network::open(alloc, case) {
+        let control = Tacs::open_with(alloc, case, table)?;
+        match Network::open_with(alloc, case, table) {
             Ok(network) => Ok(ControlledNetwork { network, control }),
             Err(error) => {
                 // A call, since a drop in place is proved here list by list.

@@ -13,8 +13,10 @@ use crate::end::End;
 use crate::samples::Samples;
 use emtp_case::Case;
 use emtp_fix::Steps;
+use emtp_wave::CosTable;
 use std::alloc::{AllocError, Global};
 use std::marker::Model;
+use std::rc::Rc;
 use std::sync::ledger::Ledger;
 
 /// The machine of a case. It stands for the first records of the case's history, and for its end once it came.
@@ -55,11 +57,28 @@ impl<'c> Machine<'c> {
         ensures case { IfOk result (λ m. m.case ≡ case.now.parts) }
         ensures rest { IfOk result (λ m. m.tried ≡ 0) }
     {
+        let table = Rc::new(alloc, CosTable::open(alloc)?)?;
+        Machine::open_with(alloc, case, &table)
+    }
+
+    /// The same with a table of the cosine that other machines may share, since it is the same for each case.
+    ///
+    /// # Errors
+    ///
+    /// [`AllocError`] where there is no memory for it.
+    pub fn open_with(
+        alloc: Global,
+        case: &'c Case,
+        table: &Rc<CosTable>,
+    ) -> Result<Machine<'c>, AllocError>
+        ensures case { IfOk result (λ m. m.case ≡ case.now.parts) }
+        ensures rest { IfOk result (λ m. m.tried ≡ 0) }
+    {
         // What owns most is opened last, so that no way out has to drop it: a drop in place is proved list by list.
         let channels = case.parts.channels.len();
         let mut row = vec![in alloc; 0i64; channels]?;
         let mut samples = Samples::open(alloc, channels, case.parts.run.samples())?;
-        let network = ControlledNetwork::open(alloc, case)?;
+        let network = ControlledNetwork::open(alloc, case, table)?;
         network.take_sample(case, &mut row, &mut samples);
         Ok(Machine {
             case,

@@ -1,7 +1,7 @@
 use Rattle.std.proofs.Common.{◌∙◌, ◌*◌, ap, sym, [], ◌∷◌, length, ℕ}
 use Rattle.emtp_case.specs.StepRecord.{rest_of}
 use Rattle.emtp_machine.proofs.Machines.{starts, written}
-use Rattle.emtp_machine.proofs.machine.Machine.open.Goals as goal
+use Rattle.emtp_machine.proofs.machine.Machine.open_with.Goals as goal
 
 pub invariant_of-result : goal.invariant_of-result
 invariant_of-result c =
