@@ -32,6 +32,10 @@ use Rattle.emtp_lumped.specs.declared.companion.Companion.{Companion}
 use Rattle.emtp_lumped.specs.declared.held.HeldBranch.{HeldBranch}
 use Rattle.emtp_lumped.proofs.Bounds.{companion-fits}
 
+-- what a contract sees of these branches, in lists of these capacities
+abbrev pub shown : Parts → List ℕ → List HeldBranch → Lumping
+shown p capacities held = record { case = p; held = held; capacities = capacities }
+
 -- ---- one branch
 
 -- a history current is far below the limits of 128 bits
@@ -86,7 +90,7 @@ rest-lumping p held h is = subst (IsLumping p) (sym is) (record {
 })
 
 -- and stand for any past whose newest numbers are all 0
-rest-stands : (p : Parts) (held : List HeldBranch) (b : ℕ) (x : Lumped) (past : List LumpedState) → held ≡ map (rest_at p.run.dt) p.branches → IsSeries p b x → newest past ≡ no_lumped → StandsAt (record { case = p; held = held }) b past
+rest-stands : {capacities : List ℕ} (p : Parts) (held : List HeldBranch) (b : ℕ) (x : Lumped) (past : List LumpedState) → held ≡ map (rest_at p.run.dt) p.branches → IsSeries p b x → newest past ≡ no_lumped → StandsAt (shown p capacities held) b past
 rest-stands p held b x past is series none = record {
   there = omega (arith, ap length is, length-map p.branches (rest_at p.run.dt), slice_get_within p.branches b (OfLumped x) series);
   latest = ap (λ (hs : List HeldBranch). (branch_at hs b).state) is ∙ ap (λ (k : HeldBranch). k.state) (rest-read p b x series) ∙ sym none;
@@ -102,7 +106,7 @@ rest-numbers (OfPhase x ∷ bs) zero = refl
 rest-numbers (x ∷ bs) (suc b) = rest-numbers bs b
 
 -- so they stand for its list
-pub rest-stands-for : (p : Parts) (held : List HeldBranch) → held ≡ map (rest_at p.run.dt) p.branches → StandsFor (record { case = p; held = held }) (rest_of p ∷ [])
+pub rest-stands-for : {capacities : List ℕ} (p : Parts) (held : List HeldBranch) → held ≡ map (rest_at p.run.dt) p.branches → StandsFor (shown p capacities held) (rest_of p ∷ [])
 rest-stands-for p held is b x series = rest-stands p held b x (states_of b (rest_of p ∷ [])) is series (rest-numbers p.branches b)
 
 -- ---- a branch read
@@ -111,7 +115,7 @@ pub series_within : (p : Parts) (held : List HeldBranch) (b : ℕ) (x : Lumped) 
 series_within p held b x h series = omega (arith, h.one_each, slice_get_within p.branches b (OfLumped x) series)
 
 -- the same of a value that is seen
-pub seen_within : (p : Parts) (held : List HeldBranch) (s : Lumping) (b : ℕ) (x : Lumped) → record { case = p; held = held } ≡ s → IsLumping p held → IsSeries s.case b x → b < length held
+pub seen_within : {capacities : List ℕ} (p : Parts) (held : List HeldBranch) (s : Lumping) (b : ℕ) (x : Lumped) → shown p capacities held ≡ s → IsLumping p held → IsSeries s.case b x → b < length held
 seen_within p held s b x same h series = series_within p held b x h (subst (λ (t : Lumping). IsSeries t.case b x) (sym same) series)
 
 -- what an index read is the branch at the place
@@ -134,13 +138,13 @@ lumping-set p held at next h within same fits = record {
   fit = All-set IsHeld held at next fits h.fit;
 }
 
-stands-set : (p : Parts) (held : List HeldBranch) (at : ℕ) (next : HeldBranch) (past : List LumpedState) → at < length held → StandsAt (record { case = p; held = slice_set held at next }) at (next.state ∷ past)
+stands-set : {capacities : List ℕ} (p : Parts) (held : List HeldBranch) (at : ℕ) (next : HeldBranch) (past : List LumpedState) → at < length held → StandsAt (shown p capacities (slice_set held at next)) at (next.state ∷ past)
 stands-set p held at next past within = record {
   there = omega (arith, length-set held at next, within);
   latest = ap (λ (k : HeldBranch). k.state) (get_or-set_same held at next (held_at_rest no_companion) within);
 }
 
-stands-other : (p : Parts) (held : List HeldBranch) (at b : ℕ) (next : HeldBranch) (past : List LumpedState) → b ≢ at → StandsAt (record { case = p; held = held }) b past → StandsAt (record { case = p; held = slice_set held at next }) b past
+stands-other : {capacities : List ℕ} (p : Parts) (held : List HeldBranch) (at b : ℕ) (next : HeldBranch) (past : List LumpedState) → b ≢ at → StandsAt (shown p capacities held) b past → StandsAt (shown p capacities (slice_set held at next)) b past
 stands-other p held at b next past apart stands = record {
   there = omega (arith, length-set held at next, stands.there);
   latest = ap (λ (k : HeldBranch). k.state) (get_or-set_other held at b next (held_at_rest no_companion) apart) ∙ stands.latest;
@@ -163,7 +167,7 @@ none c (Some state) e = absurd (cc)
 none c None e = refl
 
 -- what a step at the branch makes of its past is what the companion of its card makes of it
-next-read : (p : Parts) (held : List HeldBranch) (at : ℕ) (v : ℤ) (x : Lumped) (past : List LumpedState) → IsLumping p held → IsSeries p at x → StandsAt (record { case = p; held = held }) at past → next_of p x past v ≡ next_state (branch_at held at).companion (branch_at held at).state v
+next-read : {capacities : List ℕ} (p : Parts) (held : List HeldBranch) (at : ℕ) (v : ℤ) (x : Lumped) (past : List LumpedState) → IsLumping p held → IsSeries p at x → StandsAt (shown p capacities held) at past → next_of p x past v ≡ next_state (branch_at held at).companion (branch_at held at).state v
 next-read p held at v x past h series stands = rw (h.companions at x series, stands.latest) refl
 
 pub lumping-moved : (p : Parts) (held : List HeldBranch) (at : ℕ) (v : ℤ) (next : HeldBranch) → IsLumping p held → at < length held → Some next ≡ option_map (with_state (branch_at held at).companion) (next_state (branch_at held at).companion (branch_at held at).state v) → IsHeld next → IsLumping p (slice_set held at next)
@@ -171,14 +175,15 @@ lumping-moved p held at v next h within after fits =
     let g = given (branch_at held at).companion (next_state (branch_at held at).companion (branch_at held at).state v) next after in
     lumping-set p held at next h within (ap (λ (k : HeldBranch). k.companion) g.next_is) fits
 
-pub moves-ok : (p : Parts) (held : List HeldBranch) (at : ℕ) (v i : ℤ) (next : HeldBranch) → IsLumping p held → at < length held → Some next ≡ option_map (with_state (branch_at held at).companion) (next_state (branch_at held at).companion (branch_at held at).state v) → i ≡ next.state.current
-    → Moves (record { case = p; held = held }) (record { case = p; held = slice_set held at next }) at v (Ok i)
-moves-ok p held at v i next h within after current =
-    let new : Lumping = record { case = p; held = slice_set held at next } in
+pub moves-ok : {capacities : List ℕ} (p : Parts) (held : List HeldBranch) (at : ℕ) (v i : ℤ) (next : HeldBranch) → IsLumping p held → at < length held → Some next ≡ option_map (with_state (branch_at held at).companion) (next_state (branch_at held at).companion (branch_at held at).state v) → i ≡ next.state.current
+    → Moves (shown p capacities held) (shown p capacities (slice_set held at next)) at v (Ok i)
+moves-ok {capacities = capacities} p held at v i next h within after current =
+    let new : Lumping = shown p capacities (slice_set held at next) in
     let g = given (branch_at held at).companion (next_state (branch_at held at).companion (branch_at held at).state v) next after in
     let state : next.state ≡ g.state = ap (λ (k : HeldBranch). k.state) g.next_is in
     record {
       case = refl;
+      capacities = refl;
       moved = λ x past series stands. record {
         state = g.state;
         is = next-read p held at v x past h series stands ∙ g.is;
@@ -190,10 +195,11 @@ moves-ok p held at v i next h within after current =
       same = tt;
     }
 
-pub moves-out : (p : Parts) (held : List HeldBranch) (at : ℕ) (v : ℤ) (e : OutOfRange) → IsLumping p held → None ≡ option_map (with_state (branch_at held at).companion) (next_state (branch_at held at).companion (branch_at held at).state v)
-    → Moves (record { case = p; held = held }) (record { case = p; held = held }) at v (Err e)
+pub moves-out : {capacities : List ℕ} (p : Parts) (held : List HeldBranch) (at : ℕ) (v : ℤ) (e : OutOfRange) → IsLumping p held → None ≡ option_map (with_state (branch_at held at).companion) (next_state (branch_at held at).companion (branch_at held at).state v)
+    → Moves (shown p capacities held) (shown p capacities held) at v (Err e)
 moves-out p held at v e h after = record {
   case = refl;
+  capacities = refl;
   moved = λ x past series stands. tt;
   out = λ x past series stands. next-read p held at v x past h series stands ∙ none (branch_at held at).companion (next_state (branch_at held at).companion (branch_at held at).state v) after;
   others = λ b past apart stands. stands;

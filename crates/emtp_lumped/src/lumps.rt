@@ -29,6 +29,7 @@ pub struct Lumps<'a> {
 }
 
 impl<'a> Model for Lumps<'a> {
+    ghost use Rattle.std.specs.Prelude.{◌∷◌, [], vec_capacity};
     ghost use Rattle.emtp_lumped.specs.held.Lumps.{Lumping, IsLumping};
 
     ghost Value = { Lumping };
@@ -37,7 +38,11 @@ impl<'a> Model for Lumps<'a> {
 
     ghost coded = { Prim.hlevel codes };
 
-    ghost view = { λ s. record { case = s.case.now.parts; held = s.held.items } };
+    ghost view = { λ s. record {
+      case = s.case.now.parts;
+      held = s.held.items;
+      capacities = vec_capacity s.held ∷ [];
+    } };
 
     ghost invariant = { λ s. IsLumping s.case.now.parts s.held.items };
 }
@@ -75,7 +80,8 @@ impl<'a> Lumps<'a> {
     }
 
     /// Takes the voltages `v` and `w` in nV of a branch's ends `from` and `to`, moves the branch by one step and answers
-    /// its current in nA, from `from` to `to`. Where a number that is kept exceeds 10^18 it is out of range.
+    /// its current in nA, from `from` to `to`. Where a number that is kept exceeds 10^18 it is out of range. It takes no
+    /// memory: the list of the branches keeps its capacity.
     pub fn accept(&mut self, branch: usize, v: i64, w: i64) -> Result<i64, OutOfRange>
         requires { (x : Lumped) × IsSeries self.old.case branch x }
         ensures { Moves self.old self.new branch (v -ℤ w) result }

@@ -14,10 +14,11 @@ use Rattle.emtp_lumped.specs.declared.companion.Companion.{Companion}
 use Rattle.emtp_lumped.specs.declared.held.HeldBranch.{HeldBranch}
 use Rattle.emtp_lumped.specs.Lumps.{newest, states_of, next_of}
 
--- what a contract sees: the case, and what is held of each branch
+-- what a contract sees: the case, what is held of each branch, and the capacities of the lists that a step writes
 pub record Lumping : Type 0 where
   pub case : Parts
   pub held : List HeldBranch
+  pub capacities : List ℕ
 
 -- a branch of a case is this series branch
 abbrev pub IsSeries : Parts → ℕ → Lumped → Type 0
@@ -49,9 +50,10 @@ pub record HasMoved (new : Lumping) (branch : ℕ) (past : List LumpedState) (ne
   pub stands : StandsAt new branch (state ∷ past)
 
 -- The whole of a call that takes a branch voltage into one branch. On Ok the branch moved, whatever past it stood for; an
--- Err comes exactly where there is no next state, and changes nothing.
+-- Err comes exactly where there is no next state, and changes nothing. No list takes memory.
 pub record Moves (old new : Lumping) (branch : ℕ) (v : ℤ) (result : Result ℤ OutOfRange) : Type 0 where
   pub case : new.case ≡ old.case
+  pub capacities : new.capacities ≡ old.capacities
   pub moved : (x : Lumped) (past : List LumpedState) → IsSeries old.case branch x → StandsAt old branch past
       → IfOk result (HasMoved new branch past (next_of old.case x past v))
   pub out : (x : Lumped) (past : List LumpedState) → IsSeries old.case branch x → StandsAt old branch past

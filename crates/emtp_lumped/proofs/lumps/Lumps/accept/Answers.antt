@@ -1,11 +1,11 @@
-use Rattle.std.proofs.Common.{◌∙◌, ap, subst, ◌-ℤ◌, slice_set, Ok, Err, option_map, FitsSigned, to_z, of_z, rules, arith}
+use Rattle.std.proofs.Common.{◌∙◌, ap, subst, [], ◌∷◌, ◌-ℤ◌, slice_set, Ok, Err, option_map, FitsSigned, to_z, of_z, rules, arith}
 use mir.Syntax.{w64, w128}
 use Rattle.std.proofs.lemmas.Int.{ints, to_z-of_z}
 use Rattle.emtp_lumped.specs.held.Held.{with_state}
 use Rattle.emtp_lumped.specs.held.Lumps.{Lumping, Moves}
 use Rattle.emtp_lumped.specs.Step.{next_state}
 use Rattle.emtp_lumped.specs.declared.held.HeldBranch.{HeldBranch}
-use Rattle.emtp_lumped.proofs.Holding.{seen_within, branch_read, lumping-moved, moves-ok, moves-out}
+use Rattle.emtp_lumped.proofs.Holding.{seen_within, branch_read, lumping-moved, moves-ok, moves-out, shown}
 use Rattle.emtp_lumped.proofs.lumps.Lumps.accept.Goals as goal
 
 pub overflow_sub-v : goal.overflow_sub-v
@@ -46,7 +46,7 @@ returns-in-Some c =
     let read = branch_read held c.args.branch c.index.result.now within c.index.ensures in
     let value = simp to_z-of_z at c.in-Some.ensures.value in
     let after = value ∙ ap (λ (k : HeldBranch). option_map (with_state k.companion) (next_state k.companion k.state (c.args.v -ℤ c.args.w))) read in
-    let left : Lumping = record { case = p; held = slice_set held c.args.branch c.in-Some.held } in
+    let left : Lumping = shown p (c.self.inside.held.cap ∷ []) (slice_set held c.args.branch c.in-Some.held) in
     let i : FitsSigned w64 c.in-Some.held.state.current = search rules in
     subst (λ (s : Lumping). Moves s left c.args.branch (c.args.v -ℤ c.args.w) (Ok (to_z w64 (of_z w64 c.in-Some.held.state.current)))) c.self.view_is
     (moves-ok p held c.args.branch (c.args.v -ℤ c.args.w) (to_z w64 (of_z w64 c.in-Some.held.state.current)) c.in-Some.held c.self.invariant within after (to_z-of_z w64 c.in-Some.held.state.current i))
