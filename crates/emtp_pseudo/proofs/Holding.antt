@@ -28,6 +28,10 @@ use Rattle.emtp_pseudo.specs.declared.moment.Moment.{Moment}
 use Rattle.emtp_pseudo.specs.declared.segment.Segment.{Segment}
 use Rattle.emtp_pseudo.proofs.Segments.{count_is, next_within}
 
+-- what a contract sees of these branches, in lists of these capacities
+abbrev pub shown : Parts → List ℕ → List HeldBranch → HeldPseudos
+shown case capacities held = record { case = case; held = held; capacities = capacities }
+
 -- ---- a branch read
 
 pub pseudo_fits : (case : Parts) (b : ℕ) (x : Pseudo) → IsCase case → IsPseudoAt case b x → IsPseudo case.run (sizes_of case) case.points x
@@ -41,7 +45,7 @@ branch_has_numbers case (OfPseudo b) h = h
 branch_has_numbers case (OfPhase b) h = tt
 
 -- a branch of the case that is seen is one of the case that is held
-pub at_seen : (case : Parts) (held : List HeldBranch) (s : HeldPseudos) (b : ℕ) (x : Pseudo) → record { case = case; held = held } ≡ s → IsPseudoAt s.case b x → IsPseudoAt case b x
+pub at_seen : {capacities : List ℕ} (case : Parts) (held : List HeldBranch) (s : HeldPseudos) (b : ℕ) (x : Pseudo) → shown case capacities held ≡ s → IsPseudoAt s.case b x → IsPseudoAt case b x
 at_seen case held s b x same at = subst (λ (t : HeldPseudos). IsPseudoAt t.case b x) (sym same) at
 
 pub there : (case : Parts) (held : List HeldBranch) (b : ℕ) (x : Pseudo) → AreHeld case held → IsPseudoAt case b x → b < length held
@@ -73,17 +77,17 @@ one_card case b x y at at' = ap card_or (sym at ∙ at')
     card_or (Some (OfPhase b)) = x
 
 -- the moment that an index read
-moment_read : (case : Parts) (held : List HeldBranch) (b : ℕ) (past : List Moment) (r : HeldBranch) → StandsAt (record { case = case; held = held }) b past → r ≡ get_or held b r → r.moment ≡ newest past
+moment_read : {capacities : List ℕ} (case : Parts) (held : List HeldBranch) (b : ℕ) (past : List Moment) (r : HeldBranch) → StandsAt (shown case capacities held) b past → r ≡ get_or held b r → r.moment ≡ newest past
 moment_read case held b past r stands e = ap moment_in (branch_read held b r stands.there e) ∙ stands.latest
 
 -- its segment and its history current are those of the records
 segment_read : (case : Parts) (x : Pseudo) (past : List Moment) (r : HeldBranch) → IsHeld case x r → r.moment ≡ newest past → r.segment ≡ present case x past
 segment_read case x past r h moment = h.segment ∙ ap (λ (m : Moment). segment_in case x m.state.segment) moment
 
-pub conductance_read : (case : Parts) (held : List HeldBranch) (b : ℕ) (x : Pseudo) (past : List Moment) (r : HeldBranch) → AreHeld case held → IsPseudoAt case b x → StandsAt (record { case = case; held = held }) b past → r ≡ get_or held b r → r.segment.conductance ≡ (present case x past).conductance
+pub conductance_read : {capacities : List ℕ} (case : Parts) (held : List HeldBranch) (b : ℕ) (x : Pseudo) (past : List Moment) (r : HeldBranch) → AreHeld case held → IsPseudoAt case b x → StandsAt (shown case capacities held) b past → r ≡ get_or held b r → r.segment.conductance ≡ (present case x past).conductance
 conductance_read case held b x past r h at stands e = ap (λ (s : Segment). s.conductance) (segment_read case x past r (held_read case held b x r h at e) (moment_read case held b past r stands e))
 
-pub history_read : (case : Parts) (held : List HeldBranch) (b : ℕ) (x : Pseudo) (past : List Moment) (r : HeldBranch) → AreHeld case held → IsPseudoAt case b x → StandsAt (record { case = case; held = held }) b past → r ≡ get_or held b r → r.history_current ≡ next_history_current case x past
+pub history_read : {capacities : List ℕ} (case : Parts) (held : List HeldBranch) (b : ℕ) (x : Pseudo) (past : List Moment) (r : HeldBranch) → AreHeld case held → IsPseudoAt case b x → StandsAt (shown case capacities held) b past → r ≡ get_or held b r → r.history_current ≡ next_history_current case x past
 history_read case held b x past r h at stands e =
     let fit = held_read case held b x r h at e in
     let moment = moment_read case held b past r stands e in
@@ -118,13 +122,13 @@ held_set case held at x new h is fits = record {
   ];
 }
 
-stands-set : (case : Parts) (held : List HeldBranch) (at : ℕ) (new : HeldBranch) (past : List Moment) → at < length held → StandsAt (record { case = case; held = slice_set held at new }) at (new.moment ∷ past)
+stands-set : {capacities : List ℕ} (case : Parts) (held : List HeldBranch) (at : ℕ) (new : HeldBranch) (past : List Moment) → at < length held → StandsAt (shown case capacities (slice_set held at new)) at (new.moment ∷ past)
 stands-set case held at new past within = record {
   there = omega (arith, length-set held at new, within);
   latest = ap moment_in (get_or-set_same held at new no_branch within);
 }
 
-stands-other : (case : Parts) (held : List HeldBranch) (at b : ℕ) (new : HeldBranch) (past : List Moment) → b ≢ at → StandsAt (record { case = case; held = held }) b past → StandsAt (record { case = case; held = slice_set held at new }) b past
+stands-other : {capacities : List ℕ} (case : Parts) (held : List HeldBranch) (at b : ℕ) (new : HeldBranch) (past : List Moment) → b ≢ at → StandsAt (shown case capacities held) b past → StandsAt (shown case capacities (slice_set held at new)) b past
 stands-other case held at b new past apart stands = record {
   there = omega (arith, length-set held at new, stands.there);
   latest = ap moment_in (get_or-set_other held at b new no_branch apart) ∙ stands.latest;
@@ -150,13 +154,14 @@ none : (v : ℤ) (o : Option PseudoState) → None ≡ option_map (moment_at v) 
 none v (Some state) e = absurd (cc)
 none v None e = refl
 
-pub moves-ok : (case : Parts) (held : List HeldBranch) (at : ℕ) (r new : HeldBranch) (v i : ℤ) → AreHeld case held → at < length held → r ≡ get_or held at r → Some new.moment ≡ option_map (moment_at v) (next_state r.card.reactor case.run.dt r.segment r.moment v) → i ≡ new.moment.state.current
-    → Moves (record { case = case; held = held }) (record { case = case; held = slice_set held at new }) at v (Ok i)
-moves-ok case held at r new v i h within read after current =
-    let left : HeldPseudos = record { case = case; held = slice_set held at new } in
+pub moves-ok : {capacities : List ℕ} (case : Parts) (held : List HeldBranch) (at : ℕ) (r new : HeldBranch) (v i : ℤ) → AreHeld case held → at < length held → r ≡ get_or held at r → Some new.moment ≡ option_map (moment_at v) (next_state r.card.reactor case.run.dt r.segment r.moment v) → i ≡ new.moment.state.current
+    → Moves (shown case capacities held) (shown case capacities (slice_set held at new)) at v (Ok i)
+moves-ok {capacities = capacities} case held at r new v i h within read after current =
+    let left : HeldPseudos = shown case capacities (slice_set held at new) in
     let g = given v (next_state r.card.reactor case.run.dt r.segment r.moment v) new after in
     record {
       case = refl;
+      capacities = refl;
       moved = λ x past is stands. record {
         state = g.state;
         is = sym (next_read case x r past v (held_read case held at x r h is read) (moment_read case held at past r stands read)) ∙ g.is;
@@ -168,10 +173,11 @@ moves-ok case held at r new v i h within read after current =
       same = tt;
     }
 
-pub moves-out : (case : Parts) (held : List HeldBranch) (at : ℕ) (r : HeldBranch) (v : ℤ) (e : OutOfRange) → AreHeld case held → r ≡ get_or held at r → None ≡ option_map (moment_at v) (next_state r.card.reactor case.run.dt r.segment r.moment v)
-    → Moves (record { case = case; held = held }) (record { case = case; held = held }) at v (Err e)
+pub moves-out : {capacities : List ℕ} (case : Parts) (held : List HeldBranch) (at : ℕ) (r : HeldBranch) (v : ℤ) (e : OutOfRange) → AreHeld case held → r ≡ get_or held at r → None ≡ option_map (moment_at v) (next_state r.card.reactor case.run.dt r.segment r.moment v)
+    → Moves (shown case capacities held) (shown case capacities held) at v (Err e)
 moves-out case held at r v e h read after = record {
   case = refl;
+  capacities = refl;
   moved = λ x past is stands. tt;
   out = λ x past is stands. sym (next_read case x r past v (held_read case held at x r h is read) (moment_read case held at past r stands read)) ∙ none v (next_state r.card.reactor case.run.dt r.segment r.moment v) after;
   others = λ b past apart stands. stands;
@@ -227,7 +233,7 @@ zeros (suc n) (suc k) = zeros n k
 rest_moment : (case : Parts) (b : ℕ) (x : Pseudo) → moment_of x b (rest_of case) ≡ moment_at_rest
 rest_moment case b x = rw (rest_pseudos case.branches b, zeros (length case.nodes + 1) x.from, zeros (length case.nodes + 1) x.to) refl
 
-pub rest_stands_for : (case : Parts) (held : List HeldBranch) → AreHeldAtRest case (length case.branches) held → StandsFor (record { case = case; held = held }) (rest_of case ∷ [])
+pub rest_stands_for : {capacities : List ℕ} (case : Parts) (held : List HeldBranch) → AreHeldAtRest case (length case.branches) held → StandsFor (shown case capacities held) (rest_of case ∷ [])
 rest_stands_for case held h b x at =
     let within = slice_get_within case.branches b (OfPseudo x) at in
     record {

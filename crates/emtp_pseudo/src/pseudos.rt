@@ -28,6 +28,7 @@ pub struct Pseudos<'a> {
 }
 
 impl<'a> Model for Pseudos<'a> {
+    ghost use Rattle.std.specs.Prelude.{◌∷◌, [], vec_capacity};
     ghost use Rattle.emtp_pseudo.specs.held.Pseudos.{HeldPseudos, AreHeld};
 
     ghost Value = { HeldPseudos };
@@ -36,7 +37,11 @@ impl<'a> Model for Pseudos<'a> {
 
     ghost coded = { Prim.hlevel codes };
 
-    ghost view = { λ s. record { case = s.case.now.parts; held = s.held.items } };
+    ghost view = { λ s. record {
+      case = s.case.now.parts;
+      held = s.held.items;
+      capacities = vec_capacity s.held ∷ [];
+    } };
 
     ghost invariant = { λ s. AreHeld s.case.now.parts s.held.items };
 }
@@ -74,7 +79,7 @@ impl<'a> Pseudos<'a> {
 
     /// Takes the voltages `v` and `w` in nV of a branch's ends `from` and `to`, moves the branch by one step and answers
     /// its current in nA, from `from` to `to`. Where a current in nA or a flux in pWb that is kept exceeds 10^18 it is out
-    /// of range.
+    /// of range. It takes no memory: the list of the branches keeps its capacity.
     pub fn accept(&mut self, branch: usize, v: i64, w: i64) -> Result<i64, OutOfRange>
         requires { (x : Pseudo) × IsPseudoAt self.old.case branch x }
         ensures { Moves self.old self.new branch (v -ℤ w) result }

@@ -14,10 +14,11 @@ use Rattle.emtp_pseudo.specs.declared.held.HeldBranch.{HeldBranch}
 use Rattle.emtp_pseudo.specs.declared.moment.Moment.{Moment}
 use Rattle.emtp_pseudo.specs.Pseudos.{moments_of, newest, next_of}
 
--- what a contract sees: the case, and what is held of each branch
+-- what a contract sees: the case, what is held of each branch, and the capacities of the lists that a step writes
 pub record HeldPseudos : Type 0 where
   pub case : Parts
   pub held : List HeldBranch
+  pub capacities : List ℕ
 
 -- a branch of a case is this pseudo-nonlinear one
 abbrev pub IsPseudoAt : Parts → ℕ → Pseudo → Type 0
@@ -55,9 +56,10 @@ pub record HasMoved (new : HeldPseudos) (branch : ℕ) (past : List Moment) (v :
   pub stands : StandsAt new branch (moment_at v state ∷ past)
 
 -- The whole of a call that takes a branch voltage into one branch. On Ok the branch moved, whatever past it stood for; an
--- Err comes exactly where there is no next state, and changes nothing.
+-- Err comes exactly where there is no next state, and changes nothing. No list takes memory.
 pub record Moves (old new : HeldPseudos) (branch : ℕ) (v : ℤ) (result : Result ℤ OutOfRange) : Type 0 where
   pub case : new.case ≡ old.case
+  pub capacities : new.capacities ≡ old.capacities
   pub moved : (x : Pseudo) (past : List Moment) → IsPseudoAt old.case branch x → StandsAt old branch past
       → IfOk result (HasMoved new branch past v (next_of old.case x past v))
   pub out : (x : Pseudo) (past : List Moment) → IsPseudoAt old.case branch x → StandsAt old branch past

@@ -1,10 +1,10 @@
-use Rattle.std.proofs.Common.{subst, ◌-ℤ◌, slice_set, Ok, Err, to_z, of_z, FitsSigned, rules, arith}
+use Rattle.std.proofs.Common.{subst, [], ◌∷◌, ◌-ℤ◌, slice_set, Ok, Err, to_z, of_z, FitsSigned, rules, arith}
 use mir.Syntax.{w64, w128}
 use Rattle.std.proofs.lemmas.Int.{to_z-of_z}
 use Rattle.emtp_case.specs.declared.branch.Pseudo.{Pseudo}
 use Rattle.emtp_pseudo.specs.held.Held.{IsHeld}
 use Rattle.emtp_pseudo.specs.held.Pseudos.{HeldPseudos, Moves}
-use Rattle.emtp_pseudo.proofs.Holding.{at_seen, there, held_read, own_held, own_card, held_set, apart_fits, moves-ok, moves-out}
+use Rattle.emtp_pseudo.proofs.Holding.{at_seen, there, held_read, own_held, own_card, held_set, apart_fits, moves-ok, moves-out, shown}
 use Rattle.emtp_pseudo.proofs.pseudos.Pseudos.accept.Goals as goal
 
 pub after-requires-clause-card : goal.after-requires-clause-card
@@ -43,7 +43,7 @@ returns-in-Some c =
     let w' : FitsSigned w128 c.args.w = search rules in
     let dv : FitsSigned w128 (c.args.v -ℤ c.args.w) = apart_fits c.args.v c.args.w v w in
     let value = simp to_z-of_z at c.in-Some.ensures.value in
-    let left : HeldPseudos = record { case = case; held = slice_set held c.args.branch c.in-Some.held } in
+    let left : HeldPseudos = shown case (c.self.inside.held.cap ∷ []) (slice_set held c.args.branch c.in-Some.held) in
     let i : FitsSigned w64 c.in-Some.held.moment.state.current = search rules in
     subst (λ (s : HeldPseudos). Moves s left c.args.branch (c.args.v -ℤ c.args.w) (Ok (to_z w64 (of_z w64 c.in-Some.held.moment.state.current)))) c.self.view_is
     (moves-ok case held c.args.branch c.index.result.now c.in-Some.held (c.args.v -ℤ c.args.w) (to_z w64 (of_z w64 c.in-Some.held.moment.state.current)) c.self.invariant within c.index.ensures value (to_z-of_z w64 c.in-Some.held.moment.state.current i))
