@@ -24,9 +24,9 @@ width-rows_kept size count starts columns values i h =
     ap length (row_of-rows_kept size count starts columns values i (omega (arith, length-rows_kept size count starts columns values))) ∙ length-dense_row size columns values (slice_index starts i) (slice_index starts (i + 1))
 
 -- how many rows the stored ones stand for
-pub count_is : (size count : ℕ) (starts columns : List ℕ) (values : List ℤ) (done : Finished) → record { size = size; rows = rows_kept size count starts columns values } ≡ done
-    → count ≡ length done.rows
-count_is size count starts columns values done is = sym (length-rows_kept size count starts columns values) ∙ ap (λ (v : Finished). length v.rows) is
+pub count_is : (size count : ℕ) (starts columns : List ℕ) (values : List ℤ) (capacities : List ℕ) (done : Finished)
+    → record { size = size; rows = rows_kept size count starts columns values; capacities = capacities } ≡ done → count ≡ length done.rows
+count_is size count starts columns values capacities done is = sym (length-rows_kept size count starts columns values) ∙ ap (λ (v : Finished). length v.rows) is
 
 -- fewer rows
 pub take-rows_kept : (size count n : ℕ) (starts columns : List ℕ) (values : List ℤ) → n ≤ count

@@ -1,5 +1,5 @@
 // The finished rows of a matrix, and the next row finished by them.
-ghost use Rattle.std.specs.Prelude.{◌≡◌, ℕ, ◌+◌, ◌<◌, ◌≤◌, length, take, [], IfOk, OnOk, OnErr, IfErr, Ok, Err};
+ghost use Rattle.std.specs.Prelude.{◌≡◌, ℕ, ◌+◌, ◌<◌, ◌≤◌, length, take, [], ◌∷◌, vec_capacity, IfOk, OnOk, OnErr, IfErr, Ok, Err};
 ghost use Rattle.emtp_fix.specs.declared.limit.TheConstants.{LARGEST_VALUE};
 ghost use Rattle.emtp_elim.specs.Matrix.{row_of};
 ghost use Rattle.emtp_elim.specs.held.Matrix.{AreWithin};
@@ -42,7 +42,17 @@ pub struct SparseRows {
 impl Model for SparseRows {
     ghost Value = { Finished };
 
-    ghost view = { λ s. record { size = s.size; rows = rows_kept s.size s.count s.starts.items s.columns.items s.values.items } };
+    ghost view = { λ s. record {
+      size = s.size;
+      rows = rows_kept s.size s.count s.starts.items s.columns.items s.values.items;
+      capacities =
+          vec_capacity s.starts
+          ∷ vec_capacity s.pivots
+          ∷ vec_capacity s.columns
+          ∷ vec_capacity s.values
+          ∷ vec_capacity s.words
+          ∷ [];
+    } };
 
     ghost invariant = { λ s. AreStored s.size s.count s.starts.items s.pivots.items s.columns.items s.values.items s.words.items };
 }
@@ -51,7 +61,7 @@ impl SparseRows {
     /// Room for `size` finished rows, at most `MOST_ROWS`.
     pub fn open(alloc: Global, size: usize) -> Result<SparseRows, AllocError>
         requires { size ≤ MOST_ROWS }
-        ensures { IfOk result (λ rows. rows ≡ record { size = size; rows = [] }) }
+        ensures { IfOk result (λ rows. rows ≡ record { size = size; rows = []; capacities = rows.capacities }) }
     {
         Ok(SparseRows {
             size,
@@ -120,6 +130,7 @@ impl SparseRows {
         requires size { length work.old ≡ self.old.size }
         requires room { length self.old.rows < self.old.size }
         ensures added { OnOk result (AddsRow self.old self.new work.old) }
+        ensures capacities { self.new.capacities ≡ self.old.capacities }
         ensures kept { OnErr result (self.new ≡ self.old) }
         ensures fault { IfErr result (FaultsRow self.old.rows work.old) }
     {
@@ -143,6 +154,7 @@ impl SparseRows {
         requires diagonal { given.diagonal ≡ length self.old.rows }
         ensures added { OnOk result (AddsRow self.old self.new work.old) }
         ensures extent { IfOk result (IsExtent work.new) }
+        ensures capacities { self.new.capacities ≡ self.old.capacities }
         ensures kept { OnErr result (self.new ≡ self.old) }
         ensures fault { IfErr result (FaultsRow self.old.rows work.old) }
     {
@@ -174,6 +186,7 @@ pub fn eliminate_row<L: Ledger>(
     requires room { length done.old.rows < done.old.size }
     ensures steps { steps.new ≡ steps.old + 1 }
     ensures added { OnOk result (AddsRow done.old done.new work.old) }
+    ensures capacities { done.new.capacities ≡ done.old.capacities }
     ensures kept { OnErr result (done.new ≡ done.old) }
     ensures fault { IfErr result (FaultsRow done.old.rows work.old) }
 {

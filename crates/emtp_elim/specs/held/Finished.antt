@@ -7,10 +7,11 @@ use Rattle.emtp_elim.specs.declared.fault.RowCause.{RowCause}
 use Rattle.emtp_elim.specs.declared.fault.PlainFault.{PlainFault}
 use Rattle.emtp_elim.specs.declared.fault.PlainFault.TheVariants.{Row, Solve, NoMemory}
 
--- how many entries a row has, and the rows that are finished so far
+-- how many entries a row has, the rows that are finished so far, and the capacities of the lists that hold them
 pub record Finished : Type 0 where
   pub size : ℕ
   pub rows : Matrix
+  pub capacities : List ℕ
 
 -- row i once the columns before k have been cleared from it, with their ratios in their places
 pub record IsPartRow (rows : Matrix) (i k : ℕ) (work : List ℤ) : Type 0 where
