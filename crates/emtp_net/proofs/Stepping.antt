@@ -1,6 +1,7 @@
 -- A step, from what its stages answer.
 use Rattle.emtp_case.specs.declared.limit.TheConstants.{MOST_NODES}
 use Rattle.std.proofs.Common.{◌≡◌, ◌∙◌, sym, ap, subst, ℕ, ◌+◌, ◌≤◌, ℤ, List, ◌∷◌, length, map, Result, Ok, Err, MatchResult, OnOk, IfErr, IsErrAnd, refl, arith}
+use Rattle.std.proofs.lemmas.Result.{err_from_is_err_and}
 use Rattle.emtp_case.specs.StepRecord.{StepRecord, is_closed}
 use Rattle.emtp_case.specs.declared.case.Parts.{Parts}
 use Rattle.emtp_case.specs.declared.row_kind.RowKind.{RowKind}
@@ -11,15 +12,16 @@ use Rattle.emtp_tail.proofs.RedoneRows.{matrix_before_is}
 use Rattle.emtp_tail.specs.held.Good.{Good}
 use Rattle.emtp_net.specs.held.Fault.{NamesNode}
 use Rattle.emtp_net.specs.held.Moving.{AreCurrents, AreLineCurrents, HaveMoved, IsNext}
-use Rattle.emtp_net.specs.held.Network.{HasCounted, HasEliminated, Net, StandsFor, StandsWith, StepsTo}
+use Rattle.emtp_net.specs.held.Network.{HasCounted, HasEliminated, MakesStep, Net, StandsFor, StandsWith, StepsTo, TicksStep}
 use Rattle.emtp_net.specs.Part.{NetworkPart, part_at, states_at, switch_currents_at}
 use Rattle.emtp_net.specs.held.Part.{network_of}
 use Rattle.emtp_net.specs.Redone.{net_redone, step_redone}
 use Rattle.emtp_net.specs.held.Redone.{last_matrix, step_ticks}
-use Rattle.emtp_net.specs.held.Stages.{AreVoltages, Ends, HasCurrents, IsBalanced, IsDecided, IsPosed, IsReady, IsUntied, step_adds}
+use Rattle.emtp_net.specs.held.Stages.{AreVoltages, Ends, HasCurrents, IsBalanced, IsDecided, IsFactored, IsPosed, IsReady, IsUntied, step_adds}
 use Rattle.emtp_net.specs.Step.{network_part}
 use Rattle.emtp_net.specs.System.{matrix}
 use Rattle.emtp_net.specs.held.System.{source_values}
+use Rattle.emtp_net.specs.declared.factor.NodalMatrix.{NodalMatrix}
 use Rattle.emtp_net.specs.declared.fault.NetFault.{NetFault}
 use Rattle.emtp_net.specs.declared.nodal_system.NodalSystem.{NodalSystem}
 use Rattle.emtp_net.proofs.Ending.{part_branches, part_currents, part_made, part_states, part_voltages}
@@ -49,6 +51,7 @@ states_here s now H voltages currents tacs switches moves case_is same stands fi
 -- a step whose kinds are decided, from what its first stages answer
 pub record HasBegun (s : Net) (H : List StepRecord) (kinds : List RowKind) (rows : NodalRows) (switches : switching.Switching) : Type 0 where
   pub stood : StandsFor s H
+  pub moves : (r : StepRecord) → r.switch_states ≡ next_states s.case H → switching.StandsFor switches (r ∷ H)
   pub states : switches.states ≡ next_states s.case H
   pub decided : IsDecided s.case H kinds rows switches
   pub ready : IsReady s.case H s.branches rows s.kept s.made
@@ -57,9 +60,10 @@ pub begun : (s now : Net) (H : List StepRecord) (voltages currents tacs : List �
     → s ≡ now → StandsWith now tacs H → voltages ≡ s.voltages → currents ≡ s.switch_currents → ((H : List StepRecord) → switches.states ≡ next_states s.case H → IsDecided s.case H kinds rows switches) → HasBegun s H kinds rows switches
 begun s now H voltages currents tacs kinds rows switches moves case_is same stands first second decides =
     let stood = subst (λ (n : Net). StandsFor n H) (sym same) stands.network in
-    let states = states_here s now H voltages currents tacs switches moves case_is same stands first second in
+    let moved = switches_next s now H voltages currents tacs switches moves case_is same stands first second in
+    let states = states_next s.case H switches moved in
     let decided = decides H states in
-    record { stood = stood; states = states; decided = decided; ready = ready_is s H kinds rows switches stood decided }
+    record { stood = stood; moves = moved; states = states; decided = decided; ready = ready_is s H kinds rows switches stood decided }
 
 pub posed_is : (s : Net) (H : List StepRecord) (rows : NodalRows) (switches : switching.Switching) (old system : NodalSystem) (kept : Good) → StandsFor s H → IsDecided s.case H old.kinds.items rows switches → system.kinds ≡ old.kinds → system.values.items ≡ source_values s.case H → kept.rows ≡ matrix s.case H
     → IsPosed s.case H s.branches system kept
@@ -102,6 +106,32 @@ ticked s now H result before after same free most made =
       most = most;
       tied = λ node is. absurd (free_isnt_tied s.case H node free is);
     })
+
+-- what a step promises
+abbrev pub Promises : Result (Unit {0}) NetFault → Net → Net → List ℤ → ℕ → ℕ → Type 0
+Promises result old new tacs before after = record {
+  counts : HasCounted old new before after;
+  step : MakesStep result old new tacs;
+  ticks : TicksStep result old tacs before after;
+  node : IfErr result (NamesNode old.case);
+}
+
+-- it ends by a fault of the factor, or of a later stage
+pub ends_by : (s now left : Net) (tacs : List ℤ) (kinds : List RowKind) (rows : NodalRows) (switches : switching.Switching) (made result : Result (Unit {0}) NetFault) (e : NetFault) (old new : NodalMatrix) (before after : ℕ) → s ≡ now → left.case ≡ s.case → left.made ≡ s.made + 1
+    → old.redone ≡ s.redone → left.redone ≡ new.redone → left.redone ≤ s.redone + MOST_NODES → after ≤ before + MOST_NODES → ((H : List StepRecord) → StandsWith now tacs H → HasBegun s H kinds rows switches) → ((H : List StepRecord) → IsReady s.case H s.branches rows s.kept s.made → IsFactored made s.case H old new before after)
+    → ((H : List StepRecord) → StandsWith now tacs H → HasBegun s H kinds rows switches → Ends s.case H (step_redone s.case H) e) → NamesNode s.case e → IsErrAnd result (λ y. y ≡ e) → Promises result now left tacs before after
+ends_by s now left tacs kinds rows switches made result e old new before after same case_is count was left_so few few_ticks begins factors ends names returned =
+    let returned_so = err_from_is_err_and result returned in
+    record {
+      counts = counted s now left before after same case_is count few few_ticks;
+      step = λ H stands.
+          let is = begins H stands in
+          err_steps s now left H result e (step_redone s.case H) same is.stood case_is (omega (arith, was, left_so, (factors H is.ready).redone)) (returned_so.1 ∙ ap Err returned_so.2) (ends H stands is);
+      ticks = λ H stands.
+          let is = begins H stands in
+          ticked s now H result before after same is.ready.free (factors H is.ready).most (err_claims (after ≡ before + step_ticks s.case H) result e returned);
+      node = err_names s now result e same returned names;
+    }
 
 -- all stages of a step after which the network is `left`
 pub record HasStepped (s left : Net) (H : List StepRecord) (vs : List ℤ) : Type 0 where
