@@ -6,7 +6,7 @@ ghost use Rattle.emtp_case.specs.held.Control.{AreKnown};
 ghost use Rattle.emtp_blocks.specs.held.BlockRows.{AreUnknowns, StandsFor as BlocksStandFor, rows_of_blocks};
 ghost use Rattle.emtp_case.specs.StepRecord.{rest_of};
 ghost use Rattle.emtp_elim.specs.declared.fault.PlainFault.{PlainFault};
-ghost use Rattle.emtp_tacs.specs.held.Stages.{AcceptsOutputs, FindsOutputs, HoldsSystem, NamesVariable, RefusesFactor, SolvesBlocks};
+ghost use Rattle.emtp_tacs.specs.held.Stages.{AcceptsOutputs, FindsOutputs, HoldsSystem, NamesVariable, RefusesFactor, SolvesBlocks, capacities_of_system};
 ghost use Rattle.emtp_tacs.specs.Step.{block_var, system_fault, with_outputs};
 ghost use Rattle.emtp_tail.specs.Good.{first_change};
 
@@ -64,6 +64,7 @@ impl<'a> BlockSystem<'a> {
         requires few { self.old.redone ≤ MOST_CONTROL_CARDS * made }
         requires made { made < case.now.parts.run.steps }
         ensures holds { HoldsSystem case.now.parts self.new }
+        ensures capacities { capacities_of_system self.new ≡ capacities_of_system self.old }
         ensures first { result ≡ first_change self.old.kept.rows (rows_of_blocks self.old.blocks) }
         ensures redone { self.new.redone ≡ self.old.redone + (if made == 0 then 0 else length case.now.parts.blocks - result) }
         ensures few { self.new.redone ≤ self.old.redone + MOST_CONTROL_CARDS }
@@ -91,6 +92,7 @@ impl<'a> BlockSystem<'a> {
         requires first { first ≡ first_change self.old.kept.rows (rows_of_blocks self.old.blocks) }
         requires values { AreKnown case.now.parts values.old }
         ensures holds { HoldsSystem case.now.parts self.new }
+        ensures capacities { capacities_of_system self.new ≡ capacities_of_system self.old }
         ensures values { AreKnown case.now.parts values.new }
         ensures redone { self.new.redone ≡ self.old.redone }
         ensures solves { SolvesBlocks result case.now.parts values.old values.new self.old self.new }
@@ -119,6 +121,7 @@ impl<'a> BlockSystem<'a> {
         requires holds { HoldsSystem case.now.parts self.old }
         requires first { first ≡ first_change self.old.kept.rows (rows_of_blocks self.old.blocks) }
         ensures holds { HoldsSystem case.now.parts self.new }
+        ensures capacities { capacities_of_system self.new ≡ capacities_of_system self.old }
         ensures blocks { self.new.blocks ≡ self.old.blocks }
         ensures redone { self.new.redone ≡ self.old.redone }
         ensures rows { OnOk result (self.new.kept.rows ≡ rows_of_blocks self.old.blocks) }
@@ -143,6 +146,7 @@ impl<'a> BlockSystem<'a> {
         requires rows { self.old.kept.rows ≡ rows_of_blocks self.old.blocks }
         requires values { AreKnown case.now.parts values.now }
         ensures holds { HoldsSystem case.now.parts self.new }
+        ensures capacities { capacities_of_system self.new ≡ capacities_of_system self.old }
         ensures blocks { self.new.blocks ≡ self.old.blocks }
         ensures kept { self.new.kept ≡ self.old.kept }
         ensures redone { self.new.redone ≡ self.old.redone }
@@ -165,6 +169,7 @@ impl<'a> BlockSystem<'a> {
         requires values { AreKnown case.now.parts values.now }
         requires x { AreUnknowns case.now.parts self.old.x.items }
         ensures holds { HoldsSystem case.now.parts self.new }
+        ensures capacities { capacities_of_system self.new ≡ capacities_of_system self.old }
         ensures kept { self.new.kept ≡ self.old.kept }
         ensures redone { self.new.redone ≡ self.old.redone }
         ensures accepts { AcceptsOutputs result case.now.parts values.now self.old self.new }

@@ -34,6 +34,7 @@ pub(crate) fn compute_extras(
     requires values { AreKnown pass.case.now.parts values.old }
     requires names { HasNameRoom pass.case.now.parts names.old }
     ensures same { devices.new.case ≡ pass.entry.case.now.parts }
+    ensures capacities { devices.new.capacities ≡ devices.old.capacities }
     ensures values { AreKnown pass.entry.case.now.parts values.new }
     ensures cards { ComputesCards result pass.entry values.old values.new devices.old devices.new }
     ensures var { IfErr result (NamesVariable pass.entry.case.now.parts) }
@@ -62,6 +63,7 @@ fn compute_extra(
     requires values { AreKnown pass.case.now.parts values.old }
     requires names { HasNameRoom pass.case.now.parts names.old }
     ensures same { devices.new.case ≡ pass.entry.case.now.parts }
+    ensures capacities { devices.new.capacities ≡ devices.old.capacities }
     ensures values { AreKnown pass.entry.case.now.parts values.new }
     ensures card { ComputesCard result pass.entry at values.old values.new devices.old devices.new }
     ensures var { IfErr result (NamesVariable pass.entry.case.now.parts) }
@@ -91,6 +93,7 @@ fn value_of(
     requires names { HasNameRoom pass.case.now.parts names.old }
     ensures value { ComputesValue result pass.entry at values.now devices.old devices.new }
     ensures same { devices.new.case ≡ pass.entry.case.now.parts }
+    ensures capacities { devices.new.capacities ≡ devices.old.capacities }
     ensures small { IfOk result (λ y. unsigned_abs y ≤ LARGEST_VALUE) }
 {
     match &pass.case.parts.extras.as_slice()[at] {

@@ -31,7 +31,7 @@ pub struct Tacs<'a> {
 }
 
 impl<'a> Model for Tacs<'a> {
-    ghost use Rattle.emtp_tacs.specs.held.Tacs.{HeldControl, HoldsTogether};
+    ghost use Rattle.emtp_tacs.specs.held.Tacs.{HeldControl, HoldsTogether, capacities_of};
 
     ghost Value = { HeldControl };
 
@@ -47,6 +47,7 @@ impl<'a> Model for Tacs<'a> {
       values = s.variables.values.items;
       made = s.made;
       redone = s.system.redone;
+      capacities = capacities_of s.variables s.system;
     } };
 
     ghost invariant = { λ s. HoldsTogether s.case.now.parts s.variables s.system s.made };
@@ -93,11 +94,13 @@ impl<'a> Tacs<'a> {
 
     /// Makes the next step, by the network's numbers of the same step: the node voltages by node number, ground first, in
     /// nV; the currents of the switches, in nA; and whether each switch is closed. Where no limiter moved in the step
-    /// before, no row is filled, compared or redone.
+    /// before, no row is filled, compared or redone. It takes no memory: the lists that it writes keep their capacities; of
+    /// those of the factor no clause says so.
     ///
     /// # Errors
     ///
-    /// The first fault of the step, with the variable that it is named by. After a fault only `redone` is stated.
+    /// The first fault of the step, with the variable that it is named by. After a fault only `redone` and the
+    /// capacities are stated.
     pub fn step<L: Ledger>(
         &mut self,
         voltages: &[i64],
@@ -108,6 +111,7 @@ impl<'a> Tacs<'a> {
         requires made { self.old.made < self.old.case.run.steps }
         requires measured { IsMeasured self.old.case (measured_from voltages.now currents.now closed.now) }
         ensures counts { HasCounted self.old self.new steps.old steps.new }
+        ensures capacities { self.new.capacities ≡ self.old.capacities }
         ensures step { MakesStep result self.old self.new (measured_from voltages.now currents.now closed.now) }
         ensures ticks { TicksStep result self.old steps.old steps.new }
         ensures var { IfErr result (NamesVariable self.old.case) }

@@ -4,7 +4,7 @@ ghost use Rattle.std.specs.Prelude.{◌≡◌, ◌≤◌, ◌∷◌, [], List, �
 ghost use Rattle.emtp_case.specs.declared.control.Extra.{Extra};
 ghost use Rattle.emtp_case.specs.declared.control.Formula.{Formula};
 ghost use Rattle.emtp_case.specs.StepRecord.{rest_of};
-ghost use Rattle.emtp_tacs.specs.held.Stages.{ComputesKnown, ComputesPass, HasNameRoom, HoldsVariables, IsMeasured, NamesVariable, VariablesStandFor, measured_by};
+ghost use Rattle.emtp_tacs.specs.held.Stages.{ComputesKnown, ComputesPass, HasNameRoom, HoldsVariables, IsMeasured, NamesVariable, VariablesStandFor, capacities_of_variables, measured_by};
 
 use crate::extras::{Pass, compute_extras};
 use crate::fault::TacsFault;
@@ -62,6 +62,7 @@ impl<'a> Variables<'a> {
         requires step { step ≤ case.now.parts.run.steps }
         requires measured { IsMeasured case.now.parts (measured_by measured) }
         ensures holds { HoldsVariables case.now.parts self.new }
+        ensures capacities { capacities_of_variables self.new ≡ capacities_of_variables self.old }
         ensures known { ComputesKnown result case.now.parts step (measured_by measured.entry) self.old self.new }
         ensures var { IfErr result (NamesVariable case.now.parts) }
     {
@@ -79,6 +80,7 @@ impl<'a> Variables<'a> {
     pub(crate) fn compute_extras(&mut self, pass: Pass<'_>) -> Result<(), TacsFault>
         requires holds { HoldsVariables pass.case.now.parts self.old }
         ensures holds { HoldsVariables pass.entry.case.now.parts self.new }
+        ensures capacities { capacities_of_variables self.new ≡ capacities_of_variables self.old }
         ensures pass { ComputesPass result pass.entry self.old self.new }
         ensures var { IfErr result (NamesVariable pass.entry.case.now.parts) }
     {

@@ -1,5 +1,5 @@
 -- What the stages of a step leave, one after the other.
-use Rattle.std.specs.Prelude.{◌≡◌, ◌≤◌, ◌<◌, ◌+◌, ℕ, ℤ, nat_lt, ◌&&◌, ◌||◌, if◌then◌else◌, Bool, false, true, List, ◌∷◌, length, slice_get, slice_index_or, Option, Some, None, Result, Ok, Err, IfErr, MatchResult, OnOk}
+use Rattle.std.specs.Prelude.{◌≡◌, ◌≤◌, ◌<◌, ◌+◌, ℕ, ℤ, nat_lt, ◌&&◌, ◌||◌, if◌then◌else◌, Bool, false, true, List, ◌∷◌, length, slice_get, slice_index_or, Option, Some, None, Result, Ok, Err, IfErr, MatchResult, OnOk, vec_capacity}
 use Rattle.emtp_case.specs.held.Control.{AreKnown}
 use Rattle.emtp_blocks.specs.held.BlockRows.{Blocking, HaveAccepted, rows_of_blocks, StandsFor as BlocksStandFor}
 use Rattle.emtp_blocks.specs.System.{matrix, right}
@@ -56,6 +56,10 @@ pub record HoldsVariables (case : Parts) (v : Variables) : Type 0 where
   pub devices : v.devices.case ≡ case
   pub values : AreKnown case v.values.items
   pub names : HasNameRoom case v.names.items
+
+-- the capacities of the lists that a step writes among the variables: the values, the room for names, and the devices'
+abbrev pub capacities_of_variables : Variables → List ℕ
+capacities_of_variables v = vec_capacity v.values ∷ vec_capacity v.names ∷ v.devices.capacities
 
 -- the variables and the devices stand for the records
 pub record VariablesStandFor (case : Parts) (v : Variables) (H : List StepRecord) : Type 0 where
@@ -146,6 +150,10 @@ pub record HoldsSystem (case : Parts) (s : BlockSystem) : Type 0 where
   pub current : s.current ≡ true → s.kept.rows ≡ rows_of_blocks s.blocks
   pub right : length s.right.items ≡ length case.blocks
   pub x : length s.x.items ≡ length case.blocks
+
+-- the capacities of the lists that a step writes there, but for the factor's: the right side, the outputs, and the blocks'
+abbrev pub capacities_of_system : BlockSystem → List ℕ
+capacities_of_system s = vec_capacity s.right ∷ vec_capacity s.x ∷ s.blocks.capacities
 
 -- the blocks moved: the values have their outputs, and they stand for the records and any further one that keeps this
 pub record HaveMoved (blocks : Blocking) (values : List ℤ) (H : List StepRecord) (s : Solved) : Type 0 where

@@ -1,6 +1,6 @@
 -- What the control stands for.
 use Rattle.emtp_case.specs.declared.limit.TheConstants.{MOST_CONTROL_CARDS}
-use Rattle.std.specs.Prelude.{◌≡◌, ◌+◌, ◌*◌, ◌≤◌, ◌∷◌, ℕ, ℤ, List, length, OnOk, Result, Ok, Err}
+use Rattle.std.specs.Prelude.{◌≡◌, ◌+◌, ◌*◌, ◌≤◌, ◌∷◌, ◌++◌, ℕ, ℤ, List, length, OnOk, Result, Ok, Err}
 use Rattle.emtp_blocks.specs.held.BlockRows.{Blocking, StandsFor as BlocksStandFor}
 use Rattle.emtp_case.specs.StepRecord.{StepRecord, latest}
 use Rattle.emtp_case.specs.declared.case.Parts.{Parts}
@@ -10,13 +10,13 @@ use Rattle.emtp_tacs.specs.Part.{ControlPart}
 use Rattle.emtp_tacs.specs.held.Part.{control_of}
 use Rattle.emtp_tacs.specs.Redone.{control_redone, control_step_redone}
 use Rattle.emtp_tacs.specs.held.Redone.{control_step_ticks, last_control_matrix}
-use Rattle.emtp_tacs.specs.held.Stages.{HoldsSystem, HoldsVariables}
+use Rattle.emtp_tacs.specs.held.Stages.{HoldsSystem, HoldsVariables, capacities_of_system, capacities_of_variables}
 use Rattle.emtp_tacs.specs.Step.{Measured, control_step}
 use Rattle.emtp_tacs.specs.declared.block_system.BlockSystem.{BlockSystem}
 use Rattle.emtp_tacs.specs.declared.fault.TacsFault.{TacsFault}
 use Rattle.emtp_tacs.specs.declared.variables.Variables.{Variables}
 
--- what a contract sees of the control
+-- what a contract sees of the control; the capacities are those of the lists that a step writes, but for the factor's
 pub record HeldControl : Type 0 where
   pub case : Parts
   pub blocks : Blocking
@@ -25,6 +25,11 @@ pub record HeldControl : Type 0 where
   pub values : List ℤ
   pub made : ℕ
   pub redone : ℕ
+  pub capacities : List ℕ
+
+-- the capacities of both
+abbrev pub capacities_of : Variables → BlockSystem → List ℕ
+capacities_of v s = capacities_of_variables v ++ capacities_of_system s
 
 -- the control stands for the records, newest first
 pub record StandsFor (s : HeldControl) (H : List StepRecord) : Type 0 where

@@ -31,14 +31,22 @@ loop-at-preserved c =
       | then-is_in_pass+in-Ok w ↦ rw (w.devices-is, w.values-is) (record {
         same = w.in-Ok.ensures.same;
         known = w.in-Ok.ensures.values;
+        capacities = w.in-Ok.ensures.capacities ∙ c.loop-at.invariant.capacities;
         reaches = λ H s long so_far. pass_more case H c.args.pass.early at (Ok tt) c.loop-at.values w.compute_extra.new.values c.loop-at.devices w.compute_extra.new.devices r s here (pass_is ∙ w.if-is_in_pass.true) (λ t so. w.in-Ok.ensures.card H c.args.pass.early r t long here (pass_is ∙ w.if-is_in_pass.true) so) (c.loop-at.invariant.reaches H s long so_far);
       })
       | else-is_in_pass w ↦ rw (w.devices-is, w.values-is) (record {
         same = c.loop-at.invariant.same;
         known = c.loop-at.invariant.known;
+        capacities = c.loop-at.invariant.capacities;
         reaches = λ H s long so_far. pass_skips case H c.args.pass.early at c.loop-at.values c.loop-at.devices r s here (pass_is ∙ w.if-is_in_pass.false) (c.loop-at.invariant.reaches H s long so_far);
       })
     ]
+
+pub returns-in-Err-clause-capacities : goal.returns-in-Err-clause-capacities
+returns-in-Err-clause-capacities c = c.in-Err.ensures.capacities ∙ c.loop-at.invariant.capacities
+
+pub returns-clause-capacities : goal.returns-clause-capacities
+returns-clause-capacities c = c.loop-at.invariant.capacities
 
 pub returns-clause-cards : goal.returns-clause-cards
 returns-clause-cards c = λ H s long so_far.

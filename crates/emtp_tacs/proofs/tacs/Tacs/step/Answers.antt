@@ -1,15 +1,14 @@
-use Rattle.std.proofs.Common.{◌∙◌, ◌+◌, ◌<◌, ◌≤◌, length, sym, ap, subst, List, ℤ, Ok, Err, IfErr, false, refl, arith}
+use Rattle.std.proofs.Common.{◌∙◌, ◌+◌, ◌<◌, ◌≤◌, length, sym, ap, subst, List, ℤ, Ok, IfErr, false, refl, arith}
 use Rattle.std.proofs.lemmas.List.{with_items_is}
-use Rattle.std.proofs.lemmas.Result.{err_from_is_err_and}
 use Rattle.emtp_blocks.specs.held.BlockRows.{Blocking, StandsFor as BlocksStandFor, rows_of_blocks}
 use Rattle.emtp_case.specs.held.Control.{AreKnown}
 use Rattle.emtp_tail.specs.Good.{first_change}
 use Rattle.emtp_tail.specs.held.Good.{Good}
-use Rattle.emtp_tacs.specs.Step.{Measured, blocks, control_step}
-use Rattle.emtp_tacs.specs.held.Stages.{IsMeasured, IsSoFar, NamesVariable, Solves, measured_from}
-use Rattle.emtp_tacs.specs.held.Tacs.{HeldControl, StandsFor, StepsTo}
+use Rattle.emtp_tacs.specs.Step.{Measured, blocks}
+use Rattle.emtp_tacs.specs.held.Stages.{IsMeasured, IsSoFar, NamesVariable, Solves, capacities_of_system, capacities_of_variables, measured_from}
+use Rattle.emtp_tacs.specs.held.Tacs.{HeldControl}
 use Rattle.emtp_tacs.proofs.Advancing.{advances, blocks_done, blocks_refused, known_refused}
-use Rattle.emtp_tacs.proofs.Stepping.{counted, err_steps, few_next, first_is, held_of, ok_claims, redone_is, steps_to, ticked, variables_stand}
+use Rattle.emtp_tacs.proofs.Stepping.{HasBegun, capacities_stay, counted, few_next, makes, ok_claims, refuses, ticks, variables_stand}
 use Rattle.emtp_tacs.proofs.Systems.{err_claims, err_names}
 use Rattle.emtp_tacs.proofs.tacs.Tacs.step.Goals as goal
 
@@ -42,17 +41,16 @@ returns-in_err-compute_known g c =
     let made = c.self.inside.made in
     let first = c.first_changed-first.result in
     let m : Measured = measured_from c.args.voltages.now c.args.currents.now c.args.closed.now in
+    let result = c.from_residual.result in
+    let returned = c.from_residual.ensures.1 in
+    let begun : HasBegun c.args.self.now case v s made first = record { seen = c.self.view_is; case_is = c.self.invariant.system_holds.case_is; first_is = c.first_changed-first.ensures.first } in
     record {
       counts = counted _ _ _ _ _ c.self.view_is refl refl c.first_changed-first.ensures.few (omega arith);
-      step = λ H stands.
-          let stood : StandsFor (held_of case v s made) H = subst (λ (t : HeldControl). StandsFor t H) (sym c.self.view_is) stands in
-          let vars = variables_stand case v s made H stood in
-          let redone = redone_is case v s c.first_changed-first.new.self made first H stood c.self.invariant.system_holds.case_is c.first_changed-first.ensures.first c.first_changed-first.ensures.redone in
-          let returned = err_from_is_err_and c.from_residual.result c.from_residual.ensures.1 in
-          err_steps (held_of case v s made) _ _ H m c.from_residual.result _ c.self.view_is stood refl redone (returned.1 ∙ ap Err returned.2)
-          (known_refused case H m (length case.extras) c.compute_known.new.self.values.items c.compute_known.new.self.devices _ (c.in_err-compute_known.ensures.known H stood.steps vars));
-      ticks = λ H stands. record { made = err_claims _ c.from_residual.result _ c.from_residual.ensures.1; most = omega arith };
-      var = subst (λ (t : HeldControl). IfErr c.from_residual.result (NamesVariable t.case)) c.self.view_is (err_names case c.from_residual.result _ c.from_residual.ensures.1 c.in_err-compute_known.ensures.var);
+      capacities = capacities_stay case v s made (capacities_of_variables c.compute_known.new.self) (capacities_of_system c.first_changed-first.new.self) c.self.view_is c.compute_known.ensures.capacities c.first_changed-first.ensures.capacities;
+      step = refuses _ case v s made first m result _ begun refl c.first_changed-first.ensures.redone returned
+          (λ H stood. known_refused case H m (length case.extras) c.compute_known.new.self.values.items c.compute_known.new.self.devices _ (c.in_err-compute_known.ensures.known H stood.steps (variables_stand case v s made H stood)));
+      ticks = λ H stands. record { made = err_claims _ result _ returned; most = omega arith };
+      var = subst (λ (t : HeldControl). IfErr result (NamesVariable t.case)) c.self.view_is (err_names case result _ returned c.in_err-compute_known.ensures.var);
     }
 
 pub returns-in_err-solve : goal.returns-in_err-solve
@@ -63,22 +61,19 @@ returns-in_err-solve g c =
     let made = c.self.inside.made in
     let first = c.first_changed-first.result in
     let m : Measured = measured_from c.args.voltages.now c.args.currents.now c.args.closed.now in
+    let result = c.from_residual-in_err-solve.result in
+    let returned = c.from_residual-in_err-solve.ensures.1 in
+    let begun : HasBegun c.args.self.now case v s made first = record { seen = c.self.view_is; case_is = c.self.invariant.system_holds.case_is; first_is = c.first_changed-first.ensures.first } in
     record {
       counts = counted _ _ _ _ _ c.self.view_is refl refl (omega (arith, c.solve.ensures.redone, c.first_changed-first.ensures.few)) (omega (arith, c.solve.ensures.most, c.self.inside.case.now.fits.draft.counts.blocks));
-      step = λ H stands.
-          let stood : StandsFor (held_of case v s made) H = subst (λ (t : HeldControl). StandsFor t H) (sym c.self.view_is) stands in
-          let vars = variables_stand case v s made H stood in
+      capacities = capacities_stay case v s made (capacities_of_variables c.compute_known.new.self) (capacities_of_system c.solve.new.self) c.self.view_is c.compute_known.ensures.capacities (c.solve.ensures.capacities ∙ c.first_changed-first.ensures.capacities);
+      step = refuses _ case v s made first m result _ begun refl (c.solve.ensures.redone ∙ c.first_changed-first.ensures.redone) returned
+          (λ H stood.
           let blocks_stand = subst (λ (b : Blocking). BlocksStandFor b H) (sym c.first_changed-first.ensures.blocks) stood.blocks in
-          let redone = redone_is case v s c.solve.new.self made first H stood c.self.invariant.system_holds.case_is c.first_changed-first.ensures.first (c.solve.ensures.redone ∙ c.first_changed-first.ensures.redone) in
-          let known = c.compute_known.new.self.values.items in
-          let returned = err_from_is_err_and c.from_residual-in_err-solve.result c.from_residual-in_err-solve.ensures.1 in
-          err_steps (held_of case v s made) _ _ H m c.from_residual-in_err-solve.result _ c.self.view_is stood refl redone (returned.1 ∙ ap Err returned.2)
-          (blocks_refused case H m known c.deref_mut.result.now c.solve.new.values c.compute_known.new.self.devices c.solve.new.self.blocks _ c.deref_mut.ensures.value (c.in_ok-compute_known.ensures.known H stood.steps vars) (c.in_err-solve.ensures.solves H blocks_stand).solves);
-      ticks = λ H stands.
-          let stood : StandsFor (held_of case v s made) H = subst (λ (t : HeldControl). StandsFor t H) (sym c.self.view_is) stands in
-          let found = first_is case v s made first H stood c.self.invariant.system_holds.case_is c.first_changed-first.ensures.first in
-          ticked (held_of case v s made) _ H first _ _ c.from_residual-in_err-solve.result c.self.view_is found c.solve.ensures.most (err_claims _ c.from_residual-in_err-solve.result _ c.from_residual-in_err-solve.ensures.1);
-      var = subst (λ (t : HeldControl). IfErr c.from_residual-in_err-solve.result (NamesVariable t.case)) c.self.view_is (err_names case c.from_residual-in_err-solve.result _ c.from_residual-in_err-solve.ensures.1 c.in_err-solve.ensures.var);
+          blocks_refused case H m c.compute_known.new.self.values.items c.deref_mut.result.now c.solve.new.values c.compute_known.new.self.devices c.solve.new.self.blocks _ c.deref_mut.ensures.value
+          (c.in_ok-compute_known.ensures.known H stood.steps (variables_stand case v s made H stood)) (c.in_err-solve.ensures.solves H blocks_stand).solves);
+      ticks = ticks case v s made first _ _ result begun c.solve.ensures.most (err_claims _ result _ returned);
+      var = subst (λ (t : HeldControl). IfErr result (NamesVariable t.case)) c.self.view_is (err_names case result _ returned c.in_err-solve.ensures.var);
     }
 
 pub returns : goal.returns
@@ -89,28 +84,24 @@ returns g c =
     let made = c.self.inside.made in
     let first = c.first_changed-first.result in
     let m : Measured = measured_from c.args.voltages.now c.args.currents.now c.args.closed.now in
+    let result = c.compute_extras.result in
+    let begun : HasBegun c.args.self.now case v s made first = record { seen = c.self.view_is; case_is = c.self.invariant.system_holds.case_is; first_is = c.first_changed-first.ensures.first } in
     record {
       counts = counted _ _ _ _ _ c.self.view_is refl refl (omega (arith, c.solve.ensures.redone, c.first_changed-first.ensures.few)) (omega (arith, c.solve.ensures.most, c.self.inside.case.now.fits.draft.counts.blocks));
-      step = λ H stands.
-          let stood : StandsFor (held_of case v s made) H = subst (λ (t : HeldControl). StandsFor t H) (sym c.self.view_is) stands in
-          let vars = variables_stand case v s made H stood in
+      capacities = capacities_stay case v s made (capacities_of_variables c.compute_extras.new.self) (capacities_of_system c.solve.new.self) c.self.view_is (c.compute_extras.ensures.capacities ∙ c.compute_known.ensures.capacities) (c.solve.ensures.capacities ∙ c.first_changed-first.ensures.capacities);
+      step = makes case v c.compute_extras.new.self s c.solve.new.self made first m result begun c.solve.ensures.holds (c.solve.ensures.redone ∙ c.first_changed-first.ensures.redone)
+          (λ H stood.
           let blocks_stand = subst (λ (b : Blocking). BlocksStandFor b H) (sym c.first_changed-first.ensures.blocks) stood.blocks in
-          let known = c.compute_known.new.self.values.items in
           let held = c.compute_known.new.self.devices in
           let whole = with_items_is c.compute_known.new.self.values c.solve.new.values (c.solve.auto.values ∙ c.deref_mut.ensures.len) in
           let solved = c.in_ok-solve.ensures.solves H blocks_stand in
           let took = subst (λ (xs : List ℤ). Solves (Ok tt) c.solve.new.self.blocks c.solve.new.values H (blocks case H xs)) c.deref_mut.ensures.value solved.solves in
-          let done = blocks_done case H m known c.solve.new.values held c.solve.new.self.blocks (c.in_ok-compute_known.ensures.known H stood.steps vars) took in
+          let done = blocks_done case H m c.compute_known.new.self.values.items c.solve.new.values held c.solve.new.self.blocks (c.in_ok-compute_known.ensures.known H stood.steps (variables_stand case v s made H stood)) took in
           let so_far = subst (λ (ys : List ℤ). IsSoFar case H false 0 ys held (record done.s { values = done.t.values })) (sym whole) done.so_far in
-          let advanced = advances case H m c.compute_extras.result c.solve.new.self.blocks c.solve.new.values held c.compute_extras.new.self c.solve.new.self c.compute_extras.ensures.holds refl solved.kept done
-          (c.compute_extras.ensures.pass H (record done.s { values = done.t.values }) stood.steps so_far) in
-          let stepped = steps_to case v c.compute_extras.new.self s c.solve.new.self made first H c.compute_extras.result (control_step case H m) stood c.self.invariant.system_holds c.solve.ensures.holds c.first_changed-first.ensures.first (c.solve.ensures.redone ∙ c.first_changed-first.ensures.redone) advanced in
-          subst (λ (t : HeldControl). StepsTo c.compute_extras.result (held_of case c.compute_extras.new.self c.solve.new.self (made + 1)) H (control_step t.case H m)) c.self.view_is stepped;
-      ticks = λ H stands.
-          let stood : StandsFor (held_of case v s made) H = subst (λ (t : HeldControl). StandsFor t H) (sym c.self.view_is) stands in
-          let found = first_is case v s made first H stood c.self.invariant.system_holds.case_is c.first_changed-first.ensures.first in
-          ticked (held_of case v s made) _ H first _ _ c.compute_extras.result c.self.view_is found c.solve.ensures.most (ok_claims _ c.compute_extras.result c.in_ok-solve.ensures.ticks);
-      var = subst (λ (t : HeldControl). IfErr c.compute_extras.result (NamesVariable t.case)) c.self.view_is c.compute_extras.ensures.var;
+          advances case H m result c.solve.new.self.blocks c.solve.new.values held c.compute_extras.new.self c.solve.new.self c.compute_extras.ensures.holds refl solved.kept done
+          (c.compute_extras.ensures.pass H (record done.s { values = done.t.values }) stood.steps so_far));
+      ticks = ticks case v s made first _ _ result begun c.solve.ensures.most (ok_claims _ result c.in_ok-solve.ensures.ticks);
+      var = subst (λ (t : HeldControl). IfErr result (NamesVariable t.case)) c.self.view_is c.compute_extras.ensures.var;
     }
 
 pub first_changed-first-requires-clause-made : goal.first_changed-first-requires-clause-made
