@@ -193,10 +193,14 @@ ends case n (Some e) network now row s end running = absurd (cc)
 
 -- ---- what a machine knows before a step
 
-pub is_running : (m : Progress) (case : Parts) (n : ℕ) (over : Option End) → record { case = case; tried = tried_of n over } ≡ m → (history_of m).end ≡ None → (history_upto case (tried_of n over)).end ≡ over → over ≡ None
+-- the machine as a contract sees it
+abbrev pub seen : Parts → ℕ → Option End → List ℕ → Progress
+seen case n over held = record { case = case; tried = tried_of n over; capacities = held }
+
+pub is_running : {held : List ℕ} (m : Progress) (case : Parts) (n : ℕ) (over : Option End) → seen case n over held ≡ m → (history_of m).end ≡ None → (history_upto case (tried_of n over)).end ≡ over → over ≡ None
 is_running m case n over view running is = sym is ∙ ap (λ (p : Progress). (history_of p).end) view ∙ running
 
-pub is_left : (m : Progress) (case : Parts) (n : ℕ) (over : Option End) → record { case = case; tried = tried_of n over } ≡ m → over ≡ None → m.tried < m.case.run.steps → n < case.run.steps
+pub is_left : {held : List ℕ} (m : Progress) (case : Parts) (n : ℕ) (over : Option End) → seen case n over held ≡ m → over ≡ None → m.tried < m.case.run.steps → n < case.run.steps
 is_left m case n over view none left =
     let same : n ≡ m.tried = ap (tried_of n) (sym none) ∙ ap (λ (p : Progress). p.tried) view in
     let steps : case.run.steps ≡ m.case.run.steps = ap (λ (p : Progress). p.case.run.steps) view in
@@ -216,10 +220,6 @@ pub has_room : (case : Parts) (n : ℕ) (row : List ℤ) (s : Sampled) (h : Hist
 has_room case n row s h are due some left =
     let room = room_left (length s.rows) n case.run.every case.run.steps are.few due some left in
     rw are.room room
-
--- the machine as a contract sees it
-abbrev pub seen : Parts → ℕ → Option End → Progress
-seen case n over = record { case = case; tried = tried_of n over }
 
 -- ---- the machine at rest
 
@@ -257,10 +257,10 @@ over_by case n k None is over within = absurd (over refl)
 over_by case n k (Some end) is over within = sym (stays case n (k - n) k end (omega (arith, within)) is)
 
 -- a machine whose end came has the whole history
-pub over-ended : (m : Progress) (case : Parts) (network : ControlledNetwork) (row : List ℤ) (s : Sampled) (n : ℕ) (over : Option End) → seen case n over ≡ m → IsMachine case network row s n over (history_upto case (tried_of n over)) → over ≢ None
+pub over-ended : {held : List ℕ} (m : Progress) (case : Parts) (network : ControlledNetwork) (row : List ℤ) (s : Sampled) (n : ℕ) (over : Option End) → seen case n over held ≡ m → IsMachine case network row s n over (history_upto case (tried_of n over)) → over ≢ None
     → history_of m ≡ history m.case
 over-ended m case network row s n over view is some = subst (λ (p : Progress). history_of p ≡ history p.case) view (over_by case (tried_of n over) case.run.steps over is.ended some is.few)
 
 -- the case of a machine stays
-pub steps_of : (m p : Progress) (case : Parts) (n : ℕ) (over : Option End) → p.case ≡ m.case → seen case n over ≡ p → 1 ≤ case.run.steps → 1 ≤ m.case.run.steps
+pub steps_of : {held : List ℕ} (m p : Progress) (case : Parts) (n : ℕ) (over : Option End) → p.case ≡ m.case → seen case n over held ≡ p → 1 ≤ case.run.steps → 1 ≤ m.case.run.steps
 steps_of m p case n over same view some = subst (λ (c : Parts). 1 ≤ c.run.steps) (ap (λ (q : Progress). q.case) view ∙ same) some

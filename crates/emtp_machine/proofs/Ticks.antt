@@ -47,31 +47,31 @@ made-ticks case n network now row s before after m answers counted =
     let more = ticks-moved case n now m.ended m.count moved in
     omega (arith, more, counted (history_upto case n).records (m.running refl))
 
-all-ticked : (m : Progress) (case : Parts) (n k : ℕ) (before after : ℕ) → record { case = case; tried = n } ≡ m → after + ticks case (history_upto case n) ≡ before + ticks case (history_upto case k) → HasTicked m (record { case = case; tried = k }) before after
-all-ticked m case n k before after view is = subst (λ (p : Progress). HasTicked p (record { case = case; tried = k }) before after) view (record { most = omega (arith, is); all = λ running. is })
+all-ticked : {held kept : List ℕ} (m : Progress) (case : Parts) (n k : ℕ) (before after : ℕ) → record { case = case; tried = n; capacities = held } ≡ m → after + ticks case (history_upto case n) ≡ before + ticks case (history_upto case k) → HasTicked m (record { case = case; tried = k; capacities = kept }) before after
+all-ticked {kept = kept} m case n k before after view is = subst (λ (p : Progress). HasTicked p (record { case = case; tried = k; capacities = kept }) before after) view (record { most = omega (arith, is); all = λ running. is })
 
-pub ticks-made : (m : Progress) (case : Parts) (n : ℕ) (over : Option End) (network now : ControlledNetwork) (row : List ℤ) (s : Sampled) (before after : ℕ) → seen case n over ≡ m → over ≡ None → IsMachine case network row s n over (history_upto case (tried_of n over))
+pub ticks-made : {held kept : List ℕ} (m : Progress) (case : Parts) (n : ℕ) (over : Option End) (network now : ControlledNetwork) (row : List ℤ) (s : Sampled) (before after : ℕ) → seen case n over held ≡ m → over ≡ None → IsMachine case network row s n over (history_upto case (tried_of n over))
     → Answers (Ok tt) case network now (n + 1) → ((H : List StepRecord) → StandsFor network H → after ≡ before + next_ticks case H)
-    → HasTicked m (seen case (n + 1) over) before after
+    → HasTicked m (seen case (n + 1) over kept) before after
 ticks-made m case n None network now row s before after view none is answers counted = all-ticked m case n (n + 1) before after view (made-ticks case n network now row s before after is answers counted)
 ticks-made m case n (Some end) network now row s before after view none is answers counted = absurd (cc)
 
 -- the most rows that a step which ends the run eliminates
-ended-ticks : (m : Progress) (case : Parts) (n : ℕ) (network now : ControlledNetwork) (row : List ℤ) (s : Sampled) (before after : ℕ) (end : End) → record { case = case; tried = n } ≡ m → IsMachine case network row s n None (history_upto case n)
+ended-ticks : {held kept : List ℕ} (m : Progress) (case : Parts) (n : ℕ) (network now : ControlledNetwork) (row : List ℤ) (s : Sampled) (before after : ℕ) (end : End) → record { case = case; tried = n; capacities = held } ≡ m → IsMachine case network row s n None (history_upto case n)
     → Answers (Err end) case network now (n + 1) → ((H : List StepRecord) → StandsFor network H → after ≤ before + ticks_by end.cause case H)
-    → HasTicked m (record { case = case; tried = n + 1 }) before after
-ended-ticks m case n network now row s before after end view is answers counted =
+    → HasTicked m (record { case = case; tried = n + 1; capacities = kept }) before after
+ended-ticks {kept = kept} m case n network now row s before after end view is answers counted =
     let none = halts case n network now row s end is answers in
     let whole = history_ended case n now end is.ended is.count none in
     let first = none_over case (history_upto case n).records (history_upto case n).end is.ended in
     let step = counted (history_upto case n).records (is.running refl) in
     let all : after + ticks case (history_upto case n) ≤ before + ticks case (history_upto case (n + 1)) = rw whole (omega (arith, first, step)) in
     let over = ap (λ (h : History). h.end) whole in
-    subst (λ (p : Progress). HasTicked p (record { case = case; tried = n + 1 }) before after) view (record { most = all; all = λ running. absurd (cc (running, over)) })
+    subst (λ (p : Progress). HasTicked p (record { case = case; tried = n + 1; capacities = kept }) before after) view (record { most = all; all = λ running. absurd (cc (running, over)) })
 
-pub ticks-ended : (m : Progress) (case : Parts) (n : ℕ) (over : Option End) (network now : ControlledNetwork) (row : List ℤ) (s : Sampled) (before after : ℕ) (end : End) → seen case n over ≡ m → over ≡ None → IsMachine case network row s n over (history_upto case (tried_of n over))
+pub ticks-ended : {held kept : List ℕ} (m : Progress) (case : Parts) (n : ℕ) (over : Option End) (network now : ControlledNetwork) (row : List ℤ) (s : Sampled) (before after : ℕ) (end : End) → seen case n over held ≡ m → over ≡ None → IsMachine case network row s n over (history_upto case (tried_of n over))
     → Answers (Err end) case network now (n + 1) → ((H : List StepRecord) → StandsFor network H → after ≤ before + ticks_by end.cause case H)
-    → HasTicked m (seen case n (Some end)) before after
+    → HasTicked m (seen case n (Some end) kept) before after
 ticks-ended m case n None network now row s before after end view none = ended-ticks m case n network now row s before after end view
 ticks-ended m case n (Some e) network now row s before after end view none = absurd (cc)
 
@@ -149,8 +149,8 @@ by_none : {X P : Type 0} (o : Option X) → (o ≡ None → P) → IfNone o P
 by_none None holds = holds refl
 by_none (Some x) holds = tt
 
-pub run-all : (m p : Progress) (before after : ℕ) (case : Parts) (n : ℕ) (over : Option End) → HasTicked m p before after → p.case ≡ m.case → history_of p ≡ history p.case → IsWhole m.case (history m.case)
-    → seen case n over ≡ p → (history_upto case (tried_of n over)).end ≡ over → m.tried ≡ 0 → IfNone over (after ≡ before + rows_of_run m.case)
+pub run-all : {held : List ℕ} (m p : Progress) (before after : ℕ) (case : Parts) (n : ℕ) (over : Option End) → HasTicked m p before after → p.case ≡ m.case → history_of p ≡ history p.case → IsWhole m.case (history m.case)
+    → seen case n over held ≡ p → (history_upto case (tried_of n over)).end ≡ over → m.tried ≡ 0 → IfNone over (after ≡ before + rows_of_run m.case)
 run-all m p before after case n over ticked same whole some view ended fresh =
     let end : (history m.case).end ≡ over = ap (λ (h : History). h.end) (sym (to_whole m p same whole)) ∙ ap (λ (q : Progress). (history_of q).end) (sym view) ∙ ended in
     by_none over (λ none. run-rows m p before after ticked same whole some fresh (end ∙ none))

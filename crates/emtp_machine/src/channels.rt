@@ -67,6 +67,7 @@ impl<'c> ControlledNetwork<'c> {
         requires channels { samples.old.channels ≡ length case.now.parts.channels }
         requires room { length samples.old.rows < samples.old.room }
         ensures width { length row.new ≡ length row.old }
+        ensures capacity { samples.new.capacity ≡ samples.old.capacity }
         ensures samples { (H : List StepRecord) → StandsFor self.now H
             → samples.new ≡ record samples.old { rows = samples.old.rows ++ sample_of case.now.parts (latest H) ∷ [] } }
     {

@@ -3,7 +3,7 @@
 ghost use Rattle.std.specs.Prelude.{◌≡◌, ◌+◌, ◌<◌, ◌≤◌, [], ◌∷◌, List, IfErr, IfOk, OnOk};
 ghost use Rattle.emtp_case.specs.StepRecord.{StepRecord, rest_of};
 ghost use Rattle.emtp_machine.specs.Machine.{IsNamed};
-ghost use Rattle.emtp_machine.specs.held.Controlled.{IsOf, MayMove, StandsFor, StepsTo, redone_of};
+ghost use Rattle.emtp_machine.specs.held.Controlled.{IsOf, MayMove, StandsFor, StepsTo, capacities_of, redone_of};
 ghost use Rattle.emtp_machine.specs.History.{end_at};
 ghost use Rattle.emtp_machine.specs.held.History.{next_ticks, ticks_by};
 ghost use Rattle.emtp_machine.specs.Next.{control_fault, network_fault, next, node_name};
@@ -105,6 +105,7 @@ impl<'c> ControlledNetwork<'c> {
         requires case { IsOf case.now.parts self.old }
         requires left { MayMove case.now.parts self.old }
         ensures case { IsOf case.now.parts self.new }
+        ensures capacities { capacities_of self.new ≡ capacities_of self.old }
         ensures step { (H : List StepRecord) → StandsFor self.old H
             → StepsTo result case.now.parts self.new step H (next case.now.parts H) }
         ensures ticks { (H : List StepRecord) → StandsFor self.old H

@@ -33,8 +33,9 @@ pub struct Machine<'c> {
 }
 
 impl<'c> Model for Machine<'c> {
+    ghost use Rattle.std.specs.Prelude.{vec_capacity};
     ghost use Rattle.emtp_machine.specs.History.{history_upto};
-    ghost use Rattle.emtp_machine.specs.held.Machine.{IsMachine, Progress, tried_of};
+    ghost use Rattle.emtp_machine.specs.held.Machine.{IsMachine, Progress, capacities_of_machine, tried_of};
 
     ghost Value = { Progress };
 
@@ -42,7 +43,11 @@ impl<'c> Model for Machine<'c> {
 
     ghost coded = { Prim.hlevel codes };
 
-    ghost view = { λ m. record { case = m.case.now.parts; tried = tried_of m.made m.end } };
+    ghost view = { λ m. record {
+      case = m.case.now.parts;
+      tried = tried_of m.made m.end;
+      capacities = capacities_of_machine m.network (vec_capacity m.row) m.samples;
+    } };
 
     ghost invariant = { λ m. IsMachine m.case.now.parts m.network m.row.items m.samples m.made m.end (history_upto m.case.now.parts (tried_of m.made m.end)) };
 }
@@ -91,7 +96,8 @@ impl<'c> Machine<'c> {
     }
 
     /// Makes one step more, and takes its sample where it is due; or answers the end of the run, which stays. It takes
-    /// no memory.
+    /// no memory: the room for a sample, the samples and the control's lists keep their capacities; of the network's and
+    /// of a factor's no clause says so.
     ///
     /// # Errors
     ///
@@ -99,6 +105,7 @@ impl<'c> Machine<'c> {
     pub fn step<L: Ledger>(&mut self, steps: &mut Steps<L>) -> Result<(), End>
         requires { MayStep self.old }
         ensures case { self.new.case ≡ self.old.case }
+        ensures capacities { self.new.capacities ≡ self.old.capacities }
         ensures further { (history_of self.old).end ≡ None → self.new.tried ≡ self.old.tried + 1 }
         ensures stays { (history_of self.old).end ≢ None → self.new ≡ self.old }
         ensures answer { result ≡ answer_of (history_of self.new).end }
@@ -119,6 +126,7 @@ impl<'c> Machine<'c> {
         requires running { (history_of self.old).end ≡ None }
         requires left { self.old.tried < self.old.case.run.steps }
         ensures case { self.new.case ≡ self.old.case }
+        ensures capacities { self.new.capacities ≡ self.old.capacities }
         ensures further { self.new.tried ≡ self.old.tried + 1 }
         ensures ticks { HasTicked self.old self.new steps.old steps.new }
     {
@@ -135,9 +143,11 @@ impl<'c> Machine<'c> {
         }
     }
 
-    /// Makes all steps that are left, or those before the end, and answers the end, if it came. It takes no memory.
+    /// Makes all steps that are left, or those before the end, and answers the end, if it came. It takes no memory, as
+    /// no step does.
     pub fn run<L: Ledger>(&mut self, steps: &mut Steps<L>) -> Option<End>
         ensures case { self.new.case ≡ self.old.case }
+        ensures capacities { self.new.capacities ≡ self.old.capacities }
         ensures history { history_of self.new ≡ history self.old.case }
         ensures end { result ≡ (history self.old.case).end }
         ensures names { IfSome result (IsEnd self.old.case) }

@@ -16,6 +16,7 @@ impl<'c> Machine<'c> {
     /// eliminated are counted in a ledger that nobody else has. It takes no memory.
     pub fn run_alone(&mut self) -> Option<End>
         ensures case { self.new.case ≡ self.old.case }
+        ensures capacities { self.new.capacities ≡ self.old.capacities }
         ensures history { history_of self.new ≡ history self.old.case }
         ensures end { result ≡ (history self.old.case).end }
         ensures balance { SamplesBalance self.old.case }
@@ -31,6 +32,7 @@ fn run_counted<L: Ledger>(machine: &mut Machine<'_>, blank: Blank) -> Option<End
     requires parts { blank.parts ≡ L.parts }
     requires some { 0 < blank.parts }
     ensures case { machine.new.case ≡ machine.old.case }
+    ensures capacities { machine.new.capacities ≡ machine.old.capacities }
     ensures history { history_of machine.new ≡ history machine.old.case }
     ensures end { result ≡ (history machine.old.case).end }
     ensures balance { SamplesBalance machine.old.case }

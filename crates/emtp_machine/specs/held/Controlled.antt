@@ -24,6 +24,10 @@ pub record StandsFor (s : ControlledNetwork) (H : List StepRecord) : Type 0 wher
   pub network : NetworkStandsFor s.network H
   pub control : ControlStandsFor s.control H
 
+-- the capacities of the lists that a step of the control writes
+abbrev pub capacities_of : ControlledNetwork → List ℕ
+capacities_of s = s.control.capacities
+
 -- the rows redone in both
 abbrev pub redone_of : ControlledNetwork → ℕ
 redone_of s = s.network.redone + s.control.redone

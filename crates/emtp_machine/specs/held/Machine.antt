@@ -1,8 +1,8 @@
 -- What a machine stands for. No clause of the program reaches it.
-use Rattle.std.specs.Prelude.{◌≡◌, ◌⊎◌, ◌≢◌, ℕ, ◌+◌, ◌*◌, ◌<◌, ◌≤◌, ℤ, List, length, Option, Some, None, IfSome, Result, Ok, Err}
+use Rattle.std.specs.Prelude.{◌≡◌, ◌⊎◌, ◌≢◌, ◌∷◌, ℕ, ◌+◌, ◌*◌, ◌<◌, ◌≤◌, ℤ, List, length, Option, Some, None, IfSome, Result, Ok, Err}
 use Rattle.emtp_case.specs.RunData.{samples_of}
 use Rattle.emtp_case.specs.declared.case.Parts.{Parts}
-use Rattle.emtp_machine.specs.held.Controlled.{IsOf, StandsFor, redone_of}
+use Rattle.emtp_machine.specs.held.Controlled.{IsOf, StandsFor, capacities_of, redone_of}
 use Rattle.emtp_machine.specs.History.{History, history_upto, redone, samples}
 use Rattle.emtp_machine.specs.held.History.{ticks}
 use Rattle.emtp_machine.specs.held.Samples.{Sampled}
@@ -10,10 +10,12 @@ use Rattle.emtp_machine.specs.declared.controlled.ControlledNetwork.{ControlledN
 use Rattle.emtp_machine.specs.declared.end.End.{End}
 use Rattle.emtp_machine.specs.Machine.{IsEnd}
 
--- what a contract sees of a machine: its case, and how many steps were tried, the one that ended the run among them
+-- what a contract sees of a machine: its case, how many steps were tried, the one that ended the run among them, and the
+-- capacities of the lists that a step writes
 pub record Progress : Type 0 where
   pub case : Parts
   pub tried : ℕ
+  pub capacities : List ℕ
 
 -- what the machine stands for: the records of its steps, and the end if it came
 abbrev pub history_of : Progress → History
@@ -37,6 +39,10 @@ pub record HasTicked (m n : Progress) (before now : ℕ) : Type 0 where
 abbrev pub tried_of : ℕ → Option End → ℕ
 tried_of made None = made
 tried_of made (Some end) = made + 1
+
+-- the capacities of the room for a sample, of the samples, and of what the control's step writes
+abbrev pub capacities_of_machine : ControlledNetwork → ℕ → Sampled → List ℕ
+capacities_of_machine network row s = row ∷ s.capacity ∷ capacities_of network
 
 -- the samples are those of the history, and there is room for the others
 pub record AreSamples (case : Parts) (row : List ℤ) (s : Sampled) (made : ℕ) (h : History) : Type 0 where

@@ -5,6 +5,7 @@ use Rattle.emtp_machine.proofs.machine.Machine.run.Given as goal
 abbrev pub invariant-steps : goal.invariant-steps
 invariant-steps g l = record {
   same_case : l.self.case ≡ l.initial.self.case;
+  kept : l.self.capacities ≡ l.initial.self.capacities;
   ticked : HasTicked l.initial.self l.self l.initial.steps l.steps;
 }
 
