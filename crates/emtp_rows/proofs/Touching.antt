@@ -231,26 +231,26 @@ touches_first old new row is stay = record {
   before = stay new.touched (omega (arith, is, min-le_right old.touched row)) (omega (arith, is, min-le_left old.touched row));
 }
 
-pub conductance_touches : (s : NodalRows) (b row touched : ℕ) (x : Branch) (g : ℤ) → s.touched ≤ length s.nodal.case.nodes → touched ≡ min s.touched row → slice_get s.nodal.case.branches b ≡ Some x → IsLater s.nodal.case s.nodal.kinds x row
-    → Touches s (record { nodal = record s.nodal { own = slice_set s.nodal.own b g }; touched = touched })
-conductance_touches s b row touched x g within is branch later =
-    touches_first s (record { nodal = record s.nodal { own = slice_set s.nodal.own b g }; touched = touched }) row is (λ n before inside.
+pub conductance_touches : {capacities : List ℕ} (s : NodalRows) (b row touched : ℕ) (x : Branch) (g : ℤ) → s.touched ≤ length s.nodal.case.nodes → touched ≡ min s.touched row → slice_get s.nodal.case.branches b ≡ Some x → IsLater s.nodal.case s.nodal.kinds x row
+    → Touches s (record { nodal = record s.nodal { own = slice_set s.nodal.own b g }; touched = touched; capacities = capacities })
+conductance_touches {capacities = capacities} s b row touched x g within is branch later =
+    touches_first s (record { nodal = record s.nodal { own = slice_set s.nodal.own b g }; touched = touched; capacities = capacities }) row is (λ n before inside.
     equations_stay s.nodal.case (slice_set s.nodal.own b g) s.nodal.coupling s.nodal.own s.nodal.coupling s.nodal.kinds n (omega (arith, inside, within))
     (λ i below. conductance_stays s.nodal.case s.nodal.own s.nodal.coupling s.nodal.kinds b x g row i branch later (omega (arith, below, before))))
 
-pub coupling_touches : (s : NodalRows) (t row touched : ℕ) (c : ℤ) → s.touched ≤ length s.nodal.case.nodes → touched ≡ min s.touched row
+pub coupling_touches : {capacities : List ℕ} (s : NodalRows) (t row touched : ℕ) (c : ℤ) → s.touched ≤ length s.nodal.case.nodes → touched ≡ min s.touched row
     → ((b : ℕ) (p : Phase) → slice_get s.nodal.case.branches b ≡ Some (OfPhase p) → p.trio ≡ t → IsLater s.nodal.case s.nodal.kinds (OfPhase p) row)
-    → Touches s (record { nodal = record s.nodal { coupling = slice_set s.nodal.coupling t c }; touched = touched })
-coupling_touches s t row touched c within is later =
-    touches_first s (record { nodal = record s.nodal { coupling = slice_set s.nodal.coupling t c }; touched = touched }) row is (λ n before inside.
+    → Touches s (record { nodal = record s.nodal { coupling = slice_set s.nodal.coupling t c }; touched = touched; capacities = capacities })
+coupling_touches {capacities = capacities} s t row touched c within is later =
+    touches_first s (record { nodal = record s.nodal { coupling = slice_set s.nodal.coupling t c }; touched = touched; capacities = capacities }) row is (λ n before inside.
     equations_stay s.nodal.case s.nodal.own (slice_set s.nodal.coupling t c) s.nodal.own s.nodal.coupling s.nodal.kinds n (omega (arith, inside, within))
     (λ i below. coupling_stays s.nodal.case s.nodal.own s.nodal.coupling s.nodal.kinds t c row i later (omega (arith, below, before))))
 
-pub kinds_touch : (s : NodalRows) (new : List RowKind) (row touched : ℕ) → s.touched ≤ length s.nodal.case.nodes → touched ≡ min s.touched row → length new ≡ length s.nodal.case.nodes
+pub kinds_touch : {capacities : List ℕ} (s : NodalRows) (new : List RowKind) (row touched : ℕ) → s.touched ≤ length s.nodal.case.nodes → touched ≡ min s.touched row → length new ≡ length s.nodal.case.nodes
     → ((i k : ℕ) → i < row → k < length new → AgreesBy new i k (kind_at s.nodal.kinds k) (kind_at new k))
-    → Touches s (record { nodal = record s.nodal { kinds = new }; touched = touched })
-kinds_touch s new row touched within is count agrees =
-    touches_first s (record { nodal = record s.nodal { kinds = new }; touched = touched }) row is (λ n before inside.
+    → Touches s (record { nodal = record s.nodal { kinds = new }; touched = touched; capacities = capacities })
+kinds_touch {capacities = capacities} s new row touched within is count agrees =
+    touches_first s (record { nodal = record s.nodal { kinds = new }; touched = touched; capacities = capacities }) row is (λ n before inside.
     kinds_stay s.nodal.case s.nodal.own s.nodal.coupling s.nodal.kinds new n (omega (arith, inside, within))
     (λ i k below there. agrees i k (omega (arith, below, before)) (omega (arith, there, count))))
 

@@ -36,6 +36,7 @@ pub struct NetRows<'a> {
 }
 
 impl<'a> Model for NetRows<'a> {
+    ghost use Rattle.std.specs.Prelude.{◌∷◌, [], vec_capacity};
     ghost use Rattle.emtp_rows.specs.held.Terms.{IsHeld};
     ghost use Rattle.emtp_rows.specs.held.Touched.{NodalRows};
 
@@ -45,7 +46,16 @@ impl<'a> Model for NetRows<'a> {
 
     ghost coded = { Prim.hlevel codes };
 
-    ghost view = { λ s. record { nodal = record { case = s.case.now.parts; own = s.own.items; coupling = s.coupling.items; kinds = s.kinds.items }; touched = s.touched } };
+    ghost view = { λ s. record {
+      nodal = record {
+        case = s.case.now.parts;
+        own = s.own.items;
+        coupling = s.coupling.items;
+        kinds = s.kinds.items;
+      };
+      touched = s.touched;
+      capacities = vec_capacity s.own ∷ vec_capacity s.coupling ∷ vec_capacity s.kinds ∷ [];
+    } };
 
     ghost invariant = { λ s. IsHeld s.case.now.parts s.fixed s.touched s.ends.items s.rows.items s.own.items s.coupling.items s.kinds.items };
 }
@@ -82,6 +92,7 @@ impl<'a> NetRows<'a> {
         requires small { unsigned_abs g ≤ LARGEST_ENTRY }
         ensures nodal { self.new.nodal ≡ record self.old.nodal { own = slice_set self.old.nodal.own branch g } }
         ensures touched { Touches self.old self.new }
+        ensures capacities { self.new.capacities ≡ self.old.capacities }
         ensures same { g ≡ item self.old.nodal.own branch → self.new ≡ self.old }
     {
         if self.own[branch] != g {
@@ -97,6 +108,7 @@ impl<'a> NetRows<'a> {
         requires small { unsigned_abs g ≤ LARGEST_ENTRY }
         ensures nodal { self.new.nodal ≡ record self.old.nodal { coupling = slice_set self.old.nodal.coupling trio g } }
         ensures touched { Touches self.old self.new }
+        ensures capacities { self.new.capacities ≡ self.old.capacities }
         ensures same { g ≡ item self.old.nodal.coupling trio → self.new ≡ self.old }
     {
         if self.coupling[trio] != g {
@@ -112,6 +124,7 @@ impl<'a> NetRows<'a> {
         requires { AreKinds (length self.old.nodal.case.nodes) (order_of self.old.nodal.case).fixed kinds.now }
         ensures nodal { self.new.nodal ≡ record self.old.nodal { kinds = kinds.now } }
         ensures touched { Touches self.old self.new }
+        ensures capacities { self.new.capacities ≡ self.old.capacities }
         ensures same { kinds.now ≡ self.old.nodal.kinds → self.new ≡ self.old }
     {
         let row = touched_by_kinds(&self.kinds, kinds);

@@ -6,11 +6,12 @@ use Rattle.emtp_case.specs.declared.row_kind.RowKind.{RowKind}
 use Rattle.emtp_case.specs.declared.row_kind.RowKind.TheVariants.{Kcl, Sum, Tie, Ground, Source}
 use Rattle.emtp_rows.specs.Nodal.{Nodal, nodal_matrix, kind_at, is_tie_to}
 
--- what a contract sees of the rows: what their matrix depends on, and the row before which nothing was touched since it
--- was asked for last
+-- what a contract sees of the rows: what their matrix depends on, the row before which nothing was touched since it was
+-- asked for last, and the capacities of the lists that a step writes
 pub record NodalRows : Type 0 where
   pub nodal : Nodal
   pub touched : ℕ
+  pub capacities : List ℕ
 
 -- the rows before the first touched one are as they were
 pub record Touches (old new : NodalRows) : Type 0 where

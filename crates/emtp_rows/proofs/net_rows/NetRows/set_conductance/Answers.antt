@@ -1,4 +1,4 @@
-use Rattle.std.proofs.Common.{◌≡◌, ◌∙◌, ◌<◌, pos, sym, ap, subst, length, get_or, slice_get, slice_set, Some, to_z, of_z, FitsSigned, refl, length-set, arith}
+use Rattle.std.proofs.Common.{◌≡◌, ◌∙◌, ◌<◌, pos, sym, ap, subst, [], ◌∷◌, length, get_or, slice_get, slice_set, Some, to_z, of_z, FitsSigned, refl, length-set, arith}
 use mir.Syntax.{w64}
 use Rattle.std.proofs.lemmas.Int.{ints, to_z-of_z}
 use Rattle.std.proofs.lemmas.List.{set-get_or}
@@ -32,7 +32,7 @@ pub returns-then-index-g-clause-touched : goal.returns-then-index-g-clause-touch
 returns-then-index-g-clause-touched c =
     let inside = c.self.inside in
     let case = inside.case.now.parts in
-    let seen : NodalRows = record { nodal = record { case = case; own = inside.own.items; coupling = inside.coupling.items; kinds = inside.kinds.items }; touched = inside.touched } in
+    let seen : NodalRows = record { nodal = record { case = case; own = inside.own.items; coupling = inside.coupling.items; kinds = inside.kinds.items }; touched = inside.touched; capacities = inside.own.cap ∷ inside.coupling.cap ∷ inside.kinds.cap ∷ [] } in
     let there : c.args.branch < length case.branches = omega (arith, c.requires.there, ap (λ (s : NodalRows). length s.nodal.case.branches) c.self.view_is) in
     let x = get_or case.branches c.args.branch (OfLumped (record { line = 0; from = 0; to = 0; r = pos 0; l = pos 0; c = pos 0 })) in
     let is : slice_get case.branches c.args.branch ≡ Some x = slice_get-get_or case.branches c.args.branch _ there in
@@ -42,14 +42,15 @@ returns-then-index-g-clause-touched c =
     let at_to = rw c.deref.ensures.value at c.touched_by_branch-row.ensures.at_to in
     let later = later_at case inside.kinds.items inside.ends.items c.args.branch c.touched_by_branch-row.result x e c.self.invariant.ends_are is held at_from at_to in
     let g = to_z w64 (of_z w64 c.args.g) in
-    let touches = conductance_touches seen c.args.branch c.touched_by_branch-row.result c.min-self-inside.result x g c.self.invariant.touched_within c.min-self-inside.ensures is later in
-    let P : NodalRows → Type 0 = λ s. Touches s (record { nodal = record seen.nodal { own = slice_set seen.nodal.own c.args.branch g }; touched = c.min-self-inside.result }) in
+    let left = seen.capacities in
+    let touches = conductance_touches {capacities = left} seen c.args.branch c.touched_by_branch-row.result c.min-self-inside.result x g c.self.invariant.touched_within c.min-self-inside.ensures is later in
+    let P : NodalRows → Type 0 = λ s. Touches s (record { nodal = record seen.nodal { own = slice_set seen.nodal.own c.args.branch g }; touched = c.min-self-inside.result; capacities = left }) in
     subst P c.self.view_is touches
 
 pub returns-else-index-g-clause-nodal : goal.returns-else-index-g-clause-nodal
 returns-else-index-g-clause-nodal c =
     let inside = c.self.inside in
-    let seen : NodalRows = record { nodal = record { case = inside.case.now.parts; own = inside.own.items; coupling = inside.coupling.items; kinds = inside.kinds.items }; touched = inside.touched } in
+    let seen : NodalRows = record { nodal = record { case = inside.case.now.parts; own = inside.own.items; coupling = inside.coupling.items; kinds = inside.kinds.items }; touched = inside.touched; capacities = inside.own.cap ∷ inside.coupling.cap ∷ inside.kinds.cap ∷ [] } in
     let there : c.args.branch < length inside.own.items = omega (arith, c.requires.there, ap (λ (s : NodalRows). length s.nodal.case.branches) c.self.view_is, c.self.invariant.own_count) in
     let now = c.index.result.now in
     let small : IsSmall now = subst IsSmall (sym c.index.ensures) (c.self.invariant.own_small c.args.branch now there) in

@@ -1,4 +1,4 @@
-use Rattle.std.proofs.Common.{◌≡◌, ◌∙◌, sym, ap, subst, List, length, arith}
+use Rattle.std.proofs.Common.{◌≡◌, ℕ, ◌∙◌, sym, ap, subst, List, [], ◌∷◌, length, arith}
 use Rattle.std.proofs.Math.Nat.{min-le_left, min-eq_left}
 use Rattle.emtp_case.specs.RowOrder.{order_of}
 use Rattle.emtp_case.specs.declared.row_kind.RowKind.{RowKind}
@@ -35,12 +35,13 @@ invariant_of-self c =
 pub returns-clause-touched : goal.returns-clause-touched
 returns-clause-touched c =
     let inside = c.self.inside in
-    let seen : NodalRows = record { nodal = record { case = inside.case.now.parts; own = inside.own.items; coupling = inside.coupling.items; kinds = inside.kinds.items }; touched = inside.touched } in
+    let seen : NodalRows = record { nodal = record { case = inside.case.now.parts; own = inside.own.items; coupling = inside.coupling.items; kinds = inside.kinds.items }; touched = inside.touched; capacities = inside.own.cap ∷ inside.coupling.cap ∷ inside.kinds.cap ∷ [] } in
     let size = ap (λ (s : NodalRows). length s.nodal.case.nodes) c.self.view_is in
     let new = c.copy_from_slice.new.self.items in
     let agrees = rw (c.deref.ensures.value, sym c.copy_from_slice.ensures.items) at c.touched_by_kinds-row.ensures.agrees in
-    let touches = kinds_touch seen new c.touched_by_kinds-row.result c.min-self-inside.result c.self.invariant.touched_within c.min-self-inside.ensures (ap length c.copy_from_slice.ensures.items ∙ c.requires.count ∙ sym size) agrees in
-    let P : NodalRows → Type 0 = λ s. Touches s (record { nodal = record seen.nodal { kinds = new }; touched = c.min-self-inside.result }) in
+    let left = inside.own.cap ∷ inside.coupling.cap ∷ c.copy_from_slice.new.self.cap ∷ [] in
+    let touches = kinds_touch {capacities = left} seen new c.touched_by_kinds-row.result c.min-self-inside.result c.self.invariant.touched_within c.min-self-inside.ensures (ap length c.copy_from_slice.ensures.items ∙ c.requires.count ∙ sym size) agrees in
+    let P : NodalRows → Type 0 = λ s. Touches s (record { nodal = record seen.nodal { kinds = new }; touched = c.min-self-inside.result; capacities = left }) in
     subst P c.self.view_is touches
 
 pub returns-clause-same : goal.returns-clause-same
@@ -51,4 +52,9 @@ returns-clause-same c = λ same.
     let row = c.touched_by_kinds-row.ensures.same (c.deref.ensures.value ∙ kinds ∙ sym same) in
     let first : c.min-self-inside.result ≡ inside.touched = c.min-self-inside.ensures ∙ min-eq_left (omega (arith, row, c.requires.count, size, c.self.invariant.touched_within)) in
     let written : c.copy_from_slice.new.self.items ≡ inside.kinds.items = c.copy_from_slice.ensures.items ∙ same ∙ sym kinds in
-    rw (first, written) c.self.view_is
+    rw (first, written, c.copy_from_slice.ensures.capacity) c.self.view_is
+
+pub returns-clause-capacities : goal.returns-clause-capacities
+returns-clause-capacities c =
+    let inside = c.self.inside in
+    ap (λ (n : ℕ). inside.own.cap ∷ inside.coupling.cap ∷ n ∷ []) c.copy_from_slice.ensures.capacity ∙ ap (λ (s : NodalRows). s.capacities) c.self.view_is

@@ -1,4 +1,4 @@
-use Rattle.std.proofs.Common.{◌≡◌, ◌∙◌, ◌<◌, sym, ap, subst, [], length, slice_set, to_z, of_z, FitsSigned, refl, length-set, arith}
+use Rattle.std.proofs.Common.{◌≡◌, ◌∙◌, ◌<◌, sym, ap, subst, [], ◌∷◌, length, slice_set, to_z, of_z, FitsSigned, refl, length-set, arith}
 use mir.Syntax.{w64}
 use Rattle.std.proofs.lemmas.Int.{ints, to_z-of_z}
 use Rattle.std.proofs.lemmas.List.{length-map, set-get_or}
@@ -30,20 +30,21 @@ returns-then-index-g-clause-touched c =
     let inside = c.self.inside in
     let case = inside.case.now.parts in
     let network = inside.case.now.fits.draft.network in
-    let seen : NodalRows = record { nodal = record { case = case; own = inside.own.items; coupling = inside.coupling.items; kinds = inside.kinds.items }; touched = inside.touched } in
+    let seen : NodalRows = record { nodal = record { case = case; own = inside.own.items; coupling = inside.coupling.items; kinds = inside.kinds.items }; touched = inside.touched; capacities = inside.own.cap ∷ inside.coupling.cap ∷ inside.kinds.cap ∷ [] } in
     let there : c.args.trio < length case.trios = omega (arith, c.requires.there, ap (λ (s : NodalRows). length s.nodal.case.trios) c.self.view_is) in
     let first = first_is case.trios c.args.trio (record { first = 0; zc = []; r = []; delay = [] }) there in
     let rows = rw (c.as_slice.ensures, sym first, c.deref.ensures.value, c.deref-then-index-g.ensures.value) at c.touched_by_phases-row.ensures in
     let later = phases_later case inside.kinds.items inside.ends.items c.args.trio c.touched_by_phases-row.result network.in_threes network.branches c.self.invariant.ends_are rows in
     let g = to_z w64 (of_z w64 c.args.g) in
-    let touches = coupling_touches seen c.args.trio c.touched_by_phases-row.result c.min-self-inside.result g c.self.invariant.touched_within c.min-self-inside.ensures later in
-    let P : NodalRows → Type 0 = λ s. Touches s (record { nodal = record seen.nodal { coupling = slice_set seen.nodal.coupling c.args.trio g }; touched = c.min-self-inside.result }) in
+    let left = seen.capacities in
+    let touches = coupling_touches {capacities = left} seen c.args.trio c.touched_by_phases-row.result c.min-self-inside.result g c.self.invariant.touched_within c.min-self-inside.ensures later in
+    let P : NodalRows → Type 0 = λ s. Touches s (record { nodal = record seen.nodal { coupling = slice_set seen.nodal.coupling c.args.trio g }; touched = c.min-self-inside.result; capacities = left }) in
     subst P c.self.view_is touches
 
 pub returns-else-index-g-clause-nodal : goal.returns-else-index-g-clause-nodal
 returns-else-index-g-clause-nodal c =
     let inside = c.self.inside in
-    let seen : NodalRows = record { nodal = record { case = inside.case.now.parts; own = inside.own.items; coupling = inside.coupling.items; kinds = inside.kinds.items }; touched = inside.touched } in
+    let seen : NodalRows = record { nodal = record { case = inside.case.now.parts; own = inside.own.items; coupling = inside.coupling.items; kinds = inside.kinds.items }; touched = inside.touched; capacities = inside.own.cap ∷ inside.coupling.cap ∷ inside.kinds.cap ∷ [] } in
     let there : c.args.trio < length inside.coupling.items = omega (arith, c.requires.there, ap (λ (s : NodalRows). length s.nodal.case.trios) c.self.view_is, c.self.invariant.mutual_count) in
     let now = c.index.result.now in
     let small : IsSmall now = subst IsSmall (sym c.index.ensures) (c.self.invariant.mutual_small c.args.trio now there) in
