@@ -1,4 +1,5 @@
 pub mod Products
+pub mod SameReadings
 pub mod SeriesSteps
 pub mod Trapezoids
 pub mod LosslessLines

@@ -7,6 +7,7 @@ use Rattle.emtp_fix.specs.Rounding.{near, near_abs}
 use Rattle.emtp_fix.specs.declared.limit.TheConstants.{MICRO, PICO}
 use Rattle.emtp_laws_of_units.specs.Reactor.{LiesOnSegment, LinksFlux}
 use Rattle.emtp_laws_of_units.specs.Series.{ChargesCapacitance, DrivesInductance}
+use Rattle.emtp_laws_of_units.specs.Travel.{LiesBetween}
 use Rattle.emtp_pseudo.specs.Step.{moment_at_rest}
 use Rattle.emtp_pseudo.specs.declared.segment.Segment.{Segment}
 
@@ -64,6 +65,18 @@ half_slope = omega arith
 whole_slope : LiesOnSegment segment moment_at_rest (pos (10 ^ 9)) (reactor_state (near (near (pos 1000 *ℤ pos 1000 *ℤ pos 1000) (pos 1000) *ℤ pos (10 ^ 9)) PICO) (pos 500)) → ⊥
 unfolding near near_abs reactor_state segment
 whole_slope h = omega (arith, h)
+
+-- ---- a line, of whose travel time a quarter of a step is the rest: 1 mA left in the newer step, nothing in the older one
+
+-- three quarters of it come
+by_the_rest : LiesBetween (pos 1000) (pos 250) (pos (10 ^ 6) +ℤ near (pos 250 *ℤ (pos 0 -ℤ pos (10 ^ 6))) (pos 1000)) (pos (10 ^ 6)) (pos 0)
+unfolding near near_abs
+by_the_rest = omega arith
+
+-- and not a quarter
+by_what_it_lacks : LiesBetween (pos 1000) (pos 250) (pos (10 ^ 6) +ℤ near (pos 750 *ℤ (pos 0 -ℤ pos (10 ^ 6))) (pos 1000)) (pos (10 ^ 6)) (pos 0) → ⊥
+unfolding near near_abs
+by_what_it_lacks h = omega (arith, h)
 
 -- ---- a table: half a right angle
 

@@ -26,4 +26,4 @@ pub use series::{
     capacitance_follows_the_trapezoidal_rule, inductance_follows_the_trapezoidal_rule,
 };
 pub use time::memoryless_networks_go_by_time_alone;
-pub use travel::lossless_line_delays_by_its_travel_time;
+pub use travel::{lossless_line_delays_between_two_steps, lossless_line_delays_by_its_travel_time};
