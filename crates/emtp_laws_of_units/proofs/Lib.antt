@@ -9,6 +9,10 @@ pub mod AlikeRows
 pub mod AlikeSteps
 pub mod Memoryless
 pub mod CommonTimes
+pub mod LaterSources
+pub mod ChangedSources
+pub mod RestingRuns
+pub mod LaterRuns
 pub mod Reactors
 pub mod Directions
 pub mod TableSums

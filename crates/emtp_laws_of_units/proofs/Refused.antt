@@ -1,5 +1,6 @@
 -- Formulas that the laws refuse, by numbers: each beside the one that they take.
-use Rattle.std.proofs.Common.{◌*◌, ◌^◌, ◌≤◌, ℤ, pos, ◌+ℤ◌, ◌-ℤ◌, ◌*ℤ◌, unsigned_abs, None, arith}
+use Rattle.std.proofs.Common.{◌≡◌, ◌*◌, ◌^◌, ◌≤◌, refl, ℤ, pos, ◌+ℤ◌, ◌-ℤ◌, ◌*ℤ◌, unsigned_abs, None, arith}
+use Rattle.std.proofs.lemmas.Int.{ints}
 use Rattle.emtp_case.specs.Branch.{origin}
 use Rattle.emtp_case.specs.declared.branch.LumpedState.{LumpedState}
 use Rattle.emtp_case.specs.declared.branch.PseudoState.{PseudoState}
@@ -10,6 +11,7 @@ use Rattle.emtp_laws_of_units.specs.Series.{ChargesCapacitance, DrivesInductance
 use Rattle.emtp_laws_of_units.specs.Travel.{LiesBetween}
 use Rattle.emtp_pseudo.specs.Step.{moment_at_rest}
 use Rattle.emtp_pseudo.specs.declared.segment.Segment.{Segment}
+use Rattle.emtp_wave.specs.Wave.{ramp}
 
 -- ---- an inductance: 1 nH at 1 ns, and a rise of 1 mA
 
@@ -77,6 +79,17 @@ by_the_rest = omega arith
 by_what_it_lacks : LiesBetween (pos 1000) (pos 250) (pos (10 ^ 6) +ℤ near (pos 750 *ℤ (pos 0 -ℤ pos (10 ^ 6))) (pos 1000)) (pos (10 ^ 6)) (pos 0) → ⊥
 unfolding near near_abs
 by_what_it_lacks h = omega (arith, h)
+
+-- ---- a ramp to 1 mV in 5 ns, 1 ns after it began at 3 ns, and at 10 ns
+
+-- from its start
+since_its_start : ramp (pos (10 ^ 6)) (pos 5000) (pos 11000 -ℤ pos 10000) ≡ ramp (pos (10 ^ 6)) (pos 5000) (pos 4000 -ℤ pos 3000)
+since_its_start = refl
+
+-- and not from time 0
+since_time_0 : ramp (pos (10 ^ 6)) (pos 5000) (pos 11000) ≡ ramp (pos (10 ^ 6)) (pos 5000) (pos 4000) → ⊥
+unfolding near near_abs
+since_time_0 same = omega (arith, ints, same)
 
 -- ---- a table: half a right angle
 

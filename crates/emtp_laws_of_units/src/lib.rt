@@ -25,5 +25,5 @@ pub use resistor::resistor_has_the_voltage_of_its_current;
 pub use series::{
     capacitance_follows_the_trapezoidal_rule, inductance_follows_the_trapezoidal_rule,
 };
-pub use time::memoryless_networks_go_by_time_alone;
+pub use time::{later_sources_act_later, memoryless_networks_go_by_time_alone};
 pub use travel::{lossless_line_delays_between_two_steps, lossless_line_delays_by_its_travel_time};
