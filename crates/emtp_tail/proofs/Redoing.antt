@@ -139,19 +139,20 @@ rows_equal xs ys r e same =
 -- ---- the rows that are redone
 
 -- the first i rows of the new matrix are finished, and each from `first` on has ticked
-pub record IsRedoing (rows : Matrix) (first i : ℕ) (given work : List ℤ) (old : Matrix) (done : Finished) (before ticks : ℕ) : Type 0 where
+pub record IsRedoing (rows : Matrix) (first i : ℕ) (given work : List ℤ) (old done : Finished) (before ticks : ℕ) : Type 0 where
   pub from_first : first ≤ i
   pub few : length rows ≤ MOST_ROWS
   pub room : length given ≡ length rows * length rows
   pub room_work : length work ≡ length rows
   pub redone : IsRedone rows i given done
-  pub earlier : take first done.rows ≡ take first old
+  pub earlier : take first done.rows ≡ take first old.rows
+  pub capacities : done.capacities ≡ old.capacities
   pub ticked : ticks + first ≡ before + i
 
 -- the rows before the first change stay finished
 pub redoing_start : (rows : Matrix) (first : ℕ) (given work : List ℤ) (old new : Finished) (ticks : ℕ) → FinishedRowsStay → IsKept (length rows) given work old
     → IsFirstChange (rows_in (length rows) (length old.rows) given) rows first → new ≡ record old { rows = take first old.rows }
-    → IsRedoing rows first first given work old.rows new ticks ticks
+    → IsRedoing rows first first given work old new ticks ticks
 redoing_start rows first given work old new ticks stay kept change new_is =
     let good = length old.rows in
     let given_rows = rows_in (length rows) good given in
@@ -175,6 +176,7 @@ redoing_start rows first given work old new ticks stay kept change new_is =
         finished = stay.other given_rows rows new.rows (rw new_count agree) (rw new_is (stay.fewer given_rows old.rows first within kept.finished));
       };
       earlier = rw new_is (take-take first first old.rows (omega arith));
+      capacities = ap (λ (d : Finished). d.capacities) new_is;
       ticked = refl;
     }
 
@@ -194,11 +196,11 @@ given_kept rows i given row inside room was =
     let fits : i * length rows + length rows ≤ length rows * length rows = row_fits i (length rows) (length rows) (length rows) inside (omega arith) in
     rows_in-same (length rows) i _ given (λ h low. row_kept (length rows) i h given row (omega arith) low) ∙ was
 
-pub redoing_more : (rows : Matrix) (first i : ℕ) (given work row copied after : List ℤ) (old : Matrix) (done new : Finished) (before ticks later : ℕ)
+pub redoing_more : (rows : Matrix) (first i : ℕ) (given work row copied after : List ℤ) (old done new : Finished) (before ticks later : ℕ)
     → IsRedoing rows first i given work old done before ticks → i < length rows → row ≡ row_of rows i → length row ≡ length rows → copied ≡ row
-    → AddsRow done new row → length after ≡ length rows → later ≡ ticks + 1
+    → AddsRow done new row → new.capacities ≡ done.capacities → length after ≡ length rows → later ≡ ticks + 1
     → IsRedoing rows first (i + 1) (put_mid (i * length rows) (i * length rows + length rows - i * length rows) given copied) after old new before later
-redoing_more rows first i given work row copied after old done new before ticks later was inside row_is same_row copied_is adds same_after tick =
+redoing_more rows first i given work row copied after old done new before ticks later was inside row_is same_row copied_is adds same same_after tick =
     let fits : i * length rows + length rows ≤ length rows * length rows = row_fits i (length rows) (length rows) (length rows) inside (omega arith) in
     let count = was.redone.count in
     let same_first : take first (take (length done.rows) new.rows) ≡ take first new.rows = take-take first (length done.rows) new.rows (omega (arith, was.from_first)) in
@@ -214,6 +216,7 @@ redoing_more rows first i given work row copied after old done new before ticks 
         finished = adds.finished rows (record { finished = was.redone.finished; within = omega arith; row_is = ap (row_of rows) count ∙ sym row_is });
       };
       earlier = sym same_first ∙ rw adds.earlier was.earlier;
+      capacities = same ∙ was.capacities;
       ticked = omega (arith, was.ticked);
     })
 

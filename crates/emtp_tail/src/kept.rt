@@ -1,6 +1,6 @@
 // The kept factor.
 ghost use Rattle.emtp_fix.specs.declared.limit.TheConstants.{LARGEST_VALUE};
-ghost use Rattle.std.specs.Prelude.{◌≡◌, ◌+◌, ◌*◌, ◌<◌, ◌≤◌, ℤ, List, length, take, [], IfOk, OnOk, IfErr, Ok, Err};
+ghost use Rattle.std.specs.Prelude.{◌≡◌, ◌+◌, ◌*◌, ◌<◌, ◌≤◌, ℤ, List, length, take, [], ◌∷◌, vec_capacity, IfOk, OnOk, IfErr, Ok, Err};
 ghost use Rattle.emtp_elim.specs.held.Matrix.{AreWithin};
 ghost use Rattle.emtp_elim.specs.held.Fault.{IsRowFault, IsGoodMatrix};
 ghost use Rattle.emtp_elim.specs.held.Finished.{AreFinished};
@@ -35,7 +35,12 @@ pub struct Kept {
 impl Model for Kept {
     ghost Value = { Good };
 
-    ghost view = { λ k. record { size = k.size; rows = rows_in k.size (length k.done.rows) k.given.items; done = k.done.rows } };
+    ghost view = { λ k. record {
+      size = k.size;
+      rows = rows_in k.size (length k.done.rows) k.given.items;
+      done = k.done.rows;
+      capacities = vec_capacity k.given ∷ vec_capacity k.work ∷ k.done.capacities;
+    } };
 
     ghost invariant = { λ k. IsKept k.size k.given.items k.work.items k.done };
 }
@@ -86,6 +91,7 @@ fn redo<R: Rows, L: Ledger>(
     ensures fault_ticks { IfErr result (λ fault. steps.new + first ≡ steps.old + fault.row + 1) }
     ensures kept { IsKept (length (R.matrix rows.now)) given.new work.new done.new }
     ensures earlier { take first done.new.rows ≡ take first done.old.rows }
+    ensures capacities { done.new.capacities ≡ done.old.capacities }
 {
     finished_rows_stay();
     done.cut(first);
@@ -104,7 +110,8 @@ fn redo<R: Rows, L: Ledger>(
 impl Kept {
     /// Room for the factor of a matrix of this size, of which no row is good yet.
     pub fn open<R: Rows>(alloc: Global, rows: &R) -> Result<Kept, AllocError>
-        ensures { IfOk result (λ kept. kept ≡ record { size = length (R.matrix rows.now); rows = []; done = [] }) }
+        ensures { IfOk result (λ kept. kept
+            ≡ record { size = length (R.matrix rows.now); rows = []; done = []; capacities = kept.capacities }) }
     {
         let size = rows.size();
         Ok(Kept {
@@ -160,6 +167,7 @@ impl Kept {
         ensures size { self.new.size ≡ self.old.size }
         ensures finished { AreFinished self.new.rows self.new.done }
         ensures earlier { take first self.new.done ≡ take first self.old.done }
+        ensures capacities { self.new.capacities ≡ self.old.capacities }
 
         // The matrix has no faulty row.
         ensures rows { OnOk result (self.new.rows ≡ R.matrix rows.now) }
@@ -198,6 +206,7 @@ impl Kept {
         ensures finished { AreFinished self.new.rows self.new.done }
         ensures earlier { take (first_change self.old.rows (R.matrix rows.now)) self.new.done
             ≡ take (first_change self.old.rows (R.matrix rows.now)) self.old.done }
+        ensures capacities { self.new.capacities ≡ self.old.capacities }
 
         // The matrix has no faulty row.
         ensures redone { IfOk result (λ first. first ≡ first_change self.old.rows (R.matrix rows.now)) }

@@ -1,12 +1,14 @@
 -- What is kept of a matrix, and how far a new one agrees with it. No clause of the program reaches it.
-use Rattle.std.specs.Prelude.{◌≡◌, ◌≢◌, ℕ, ◌<◌, ◌≤◌, length}
+use Rattle.std.specs.Prelude.{◌≡◌, ◌≢◌, ℕ, ◌<◌, ◌≤◌, List, length}
 use Rattle.emtp_elim.specs.Matrix.{Matrix, row_of}
 
--- the size; the good rows, which are the first rows of the matrix that was given last; what elimination makes of them
+-- the size; the good rows, which are the first rows of the matrix that was given last; what elimination makes of them; the
+-- capacities of the lists that an update writes
 pub record Good : Type 0 where
   pub size : ℕ
   pub rows : Matrix
   pub done : Matrix
+  pub capacities : List ℕ
 
 -- row i is that row
 pub record IsFirstChange (old new : Matrix) (i : ℕ) : Type 0 where

@@ -46,8 +46,8 @@ loop-i-preserved g c =
     let i = c.loop-i.i in
     let was = c.loop-i.invariant in
     let inside : i < length rows = omega (arith, c.size-size.ensures.size) in
-    rw c.size-size.ensures.size (redoing_more rows c.args.first i c.loop-i.given c.loop-i.work c.row.new.out c.copy_from_slice.new.self c.eliminate_row.new.work c.args.done.now.rows
-    c.loop-i.done c.eliminate_row.new.done c.args.steps.now c.loop-i.steps c.eliminate_row.new.steps was inside c.row.ensures (omega (arith, was.room_work)) (search rules) c.in_default.ensures.added (omega (arith, was.room_work)) c.eliminate_row.ensures.steps)
+    rw c.size-size.ensures.size (redoing_more rows c.args.first i c.loop-i.given c.loop-i.work c.row.new.out c.copy_from_slice.new.self c.eliminate_row.new.work c.args.done.now
+    c.loop-i.done c.eliminate_row.new.done c.args.steps.now c.loop-i.steps c.eliminate_row.new.steps was inside c.row.ensures (omega (arith, was.room_work)) (search rules) c.in_default.ensures.added c.eliminate_row.ensures.capacities (omega (arith, was.room_work)) c.eliminate_row.ensures.steps)
 
 pub returns-in-Err-clause-kept : goal.returns-in-Err-clause-kept
 returns-in-Err-clause-kept g c =
@@ -101,6 +101,12 @@ returns-in-Err-clause-earlier g c = rw c.in-Err.ensures.kept c.loop-i.invariant.
 
 pub returns-clause-earlier : goal.returns-clause-earlier
 returns-clause-earlier g c = c.loop-i.invariant.earlier
+
+pub returns-in-Err-clause-capacities : goal.returns-in-Err-clause-capacities
+returns-in-Err-clause-capacities g c = c.eliminate_row.ensures.capacities ∙ c.loop-i.invariant.capacities
+
+pub returns-clause-capacities : goal.returns-clause-capacities
+returns-clause-capacities g c = c.loop-i.invariant.capacities
 
 row_low : (i size n : ℕ) → i < size → size ≡ n → n ≤ 1000 → i * size + size ≤ 1000 * 1000
 row_low i size n inside same few = row_fits i size 1000 1000 (omega arith) (omega arith)

@@ -1,4 +1,4 @@
-use Rattle.std.proofs.Common.{◌≡◌, ◌≤◌, length, ap, ◌∙◌, arith}
+use Rattle.std.proofs.Common.{◌≡◌, ◌≤◌, ℕ, List, ◌∷◌, length, ap, ◌∙◌, arith}
 use Rattle.std.proofs.lemmas.List.{take_all}
 use Rattle.std.proofs.lemmas.Result.{IfErr-weaker, on_ok_weaker}
 use Rattle.emtp_tail.specs.held.Good.{Good}
@@ -58,3 +58,8 @@ returns-clause-rows g c =
     let sized : c.self.inside.size ≡ length rows = ap (λ (v : Good). v.size) c.self.view_is ∙ c.requires.size in
     let whole = lent c.self.inside.given.len c.redo.new.given c.self.inside.given.items (omega (arith, c.deref_mut.ensures.len)) in
     on_ok_weaker c.redo.result (λ redone. rw (sized, whole, redone.count) (redone.given_first ∙ take_all (length rows) rows (omega arith))) c.redo.ensures.redone
+
+pub returns-clause-capacities : goal.returns-clause-capacities
+returns-clause-capacities g c =
+    let m = c.self.inside in
+    ap (λ (done : List ℕ). m.given.cap ∷ m.work.cap ∷ done) c.redo.ensures.capacities ∙ ap (λ (v : Good). v.capacities) c.self.view_is
