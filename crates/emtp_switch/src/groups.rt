@@ -4,7 +4,7 @@ ghost use Rattle.std.specs.Prelude.{◌≡◌, ◌≤◌, ◌<◌, ◌+◌, ℕ,
 ghost use Rattle.std.specs.List.{All};
 ghost use Rattle.emtp_case.specs.RowOrder.{Rows};
 ghost use Rattle.emtp_switch.specs.Groups.{alone, bridges, closed_switches, groups, tied_of};
-ghost use Rattle.emtp_switch.specs.held.Grouping.{AreGroups, HasPlaces};
+ghost use Rattle.emtp_switch.specs.held.Grouping.{AreGroups, HasPlaces, group_capacities};
 ghost use Rattle.emtp_switch.specs.Kinds.{kind_of};
 ghost use Rattle.emtp_switch.specs.held.Plan.{IsPlan};
 ghost use Rattle.emtp_switch.specs.held.Tree.{AreLinks, AreRoots, IsTree};
@@ -63,7 +63,7 @@ impl Groups {
         })
     }
 
-    /// Finds the groups of the states anew.
+    /// Finds the groups of the states anew, in the room that was taken.
     pub(crate) fn regroup(
         &mut self,
         case: &Case,
@@ -74,7 +74,8 @@ impl Groups {
         requires plan { IsPlan case.now.parts order.now plan.now }
         requires room { HasPlaces case.now.parts self.old }
         requires states { length states.now ≡ length case.now.parts.switches }
-        ensures { AreGroups case.now.parts order.now states.now self.new }
+        ensures groups { AreGroups case.now.parts order.now states.now self.new }
+        ensures capacities { group_capacities self.new ≡ group_capacities self.old }
     {
         let bridges = self.join(case, plan, states);
         self.grow(case, order, plan, bridges);
@@ -95,6 +96,7 @@ impl Groups {
         ensures numbers { All (λ s. s < length case.now.parts.switches) (take result self.new.bridges.items) }
         ensures tied { (rows : Rows) → IsPlan case.now.parts rows plan.now
             → self.new.tied ≡ tied_of case.now.parts.switches rows states.now }
+        ensures capacities { group_capacities self.new ≡ group_capacities self.old }
     {
         reset(&mut self.labels);
         self.knowing.copy_from_slice(&plan.known);
@@ -127,6 +129,7 @@ impl Groups {
             (length order.now.nodes + 1) (length case.now.parts.switches) }
         ensures tree { IsTree case.now.parts.switches order.now (take bridges self.old.bridges.items)
             self.old.labels.items (take self.new.link_count self.new.links.items) }
+        ensures capacities { group_capacities self.new ≡ group_capacities self.old }
     {
         find_roots(&plan.ranked, &self.labels, &mut self.roots);
         mark(&self.roots, &self.labels, &mut self.reached);
@@ -146,6 +149,7 @@ impl Groups {
         ensures links { self.new.links ≡ self.old.links }
         ensures link_count { self.new.link_count ≡ self.old.link_count }
         ensures kinds { self.new.kinds.items ≡ map (kind_of case.now.parts order.now self.old.labels.items) order.now.nodes }
+        ensures capacities { group_capacities self.new ≡ group_capacities self.old }
     {
         count(order, &self.labels, &plan.ends, &mut self.tallies);
         find_kinds(

@@ -45,6 +45,8 @@ pub struct Switches<'a> {
 }
 
 impl<'a> Model for Switches<'a> {
+    ghost use Rattle.std.specs.Prelude.{◌∷◌, vec_capacity};
+    ghost use Rattle.emtp_switch.specs.held.Grouping.{group_capacities};
     ghost use Rattle.emtp_switch.specs.held.Switching.{IsSwitching, Switching};
 
     ghost Value = { Switching };
@@ -53,7 +55,19 @@ impl<'a> Model for Switches<'a> {
 
     ghost coded = { Prim.hlevel codes };
 
-    ghost view = { λ s. record { case = s.case.now.parts; rows = s.order; states = s.states.items; before = s.before.items; changed = s.changed } };
+    ghost view = { λ s. record {
+      case = s.case.now.parts;
+      rows = s.order;
+      states = s.states.items;
+      before = s.before.items;
+      changed = s.changed;
+      capacities =
+          vec_capacity s.states
+          ∷ vec_capacity s.before
+          ∷ vec_capacity s.rest
+          ∷ vec_capacity s.flows
+          ∷ group_capacities s.groups;
+    } };
 
     ghost invariant = { λ s. IsSwitching s.case.now.parts s.order s.plan s.groups s.states.items s.before.items s.rest.items s.flows.items };
 }
@@ -89,7 +103,8 @@ impl<'a> Switches<'a> {
     }
 
     /// Moves the switches to their states of a step. The lists are the node voltages in nV with ground first, the switch
-    /// currents in nA and the values of the control of the record before.
+    /// currents in nA and the values of the control of the record before. It takes no memory: the lists that it writes keep
+    /// their capacities.
     pub fn decide(&mut self, step: u32, voltages: &[i64], currents: &[i64], tacs: &[i64])
         requires step { step ≤ self.old.case.run.steps }
         requires voltages { length voltages.now ≡ length self.old.case.nodes + 1 }
@@ -101,6 +116,7 @@ impl<'a> Switches<'a> {
         ensures stands { MovesSwitches self.old self.new step voltages.now currents.now tacs.now }
         ensures same { self.new.changed ≡ false → self.new.states ≡ self.old.states }
         ensures other { self.new.changed ≡ true → self.new.states ≢ self.old.states }
+        ensures capacities { self.new.capacities ≡ self.old.capacities }
     {
         let last = LastNumbers {
             voltages,

@@ -8,7 +8,7 @@ use Rattle.emtp_switch.specs.Kinds.{kinds_of}
 use Rattle.emtp_switch.specs.held.Tree.{AreLinks, IsTree, StartsAtRoots}
 use Rattle.emtp_switch.specs.declared.groups.Groups.{Groups}
 use Rattle.emtp_switch.specs.declared.sweep.Link.{Link}
-use Rattle.std.specs.Prelude.{◌≡◌, ◌≤◌, ◌+◌, Bool, List, length, take, ℕ}
+use Rattle.std.specs.Prelude.{◌≡◌, ◌≤◌, ◌+◌, ◌∷◌, [], Bool, List, length, take, vec_capacity, ℕ}
 
 -- the links are the tree of the bridges of the states of the switches
 pub record AreTree (switches : List Switch) (rows : Rows) (states : List SwitchState) (links : List Link) : Type 0 where
@@ -32,6 +32,19 @@ pub record HasPlaces (p : Parts) (g : Groups) : Type 0 where
   pub links_size : length g.links.items ≡ length p.nodes + 1
   pub tallies_size : length g.tallies.items ≡ length p.nodes + 1
   pub kinds_size : length g.kinds.items ≡ length p.nodes
+
+-- the capacities of the lists of the groups
+abbrev pub group_capacities : Groups → List ℕ
+group_capacities g =
+    vec_capacity g.labels
+    ∷ vec_capacity g.knowing
+    ∷ vec_capacity g.bridges
+    ∷ vec_capacity g.roots
+    ∷ vec_capacity g.reached
+    ∷ vec_capacity g.links
+    ∷ vec_capacity g.tallies
+    ∷ vec_capacity g.kinds
+    ∷ []
 
 -- the groups are those of the states of the switches
 pub record AreGroups (p : Parts) (rows : Rows) (states : List SwitchState) (g : Groups) : Type 0 where

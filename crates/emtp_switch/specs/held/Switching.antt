@@ -13,13 +13,14 @@ use Rattle.emtp_switch.specs.declared.states.LastNumbers.{LastNumbers}
 use Rattle.std.specs.Prelude.{◌≡◌, ◌+◌, ◌<◌, ◌∷◌, Bool, List, length, ℕ, ℤ}
 
 -- what a contract sees: the case and the order of its rows, the states of the last step and whether one of them was
--- another in the step before, and the currents of the step before
+-- another in the step before, the currents of the step before, and the capacities of the lists that a step writes
 pub record Switching : Type 0 where
   pub case : Parts
   pub rows : Rows
   pub states : List SwitchState
   pub before : List ℤ
   pub changed : Bool
+  pub capacities : List ℕ
 
 -- states and currents that are kept of the records, newest first: those of the last one and of the one before it
 pub record AreKept (states : List SwitchState) (before : List ℤ) (H : List StepRecord) : Type 0 where

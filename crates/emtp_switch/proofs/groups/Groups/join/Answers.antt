@@ -1,4 +1,4 @@
-use Rattle.std.proofs.Common.{◌≡◌, ◌+◌, [], length, take, ap, sym, ◌∙◌, arith}
+use Rattle.std.proofs.Common.{◌≡◌, ℕ, ◌+◌, [], ◌∷◌, length, take, ap, sym, ◌∙◌, arith}
 use Rattle.std.specs.Vec.{with_items}
 use Rattle.std.proofs.lemmas.List.{with_items_is}
 use Rattle.emtp_switch.specs.Groups.{alone, bridges, closed_switches, groups, known_nodes}
@@ -74,3 +74,8 @@ returns-clause-room c =
       tallies_size = room.tallies_size;
       kinds_size = room.kinds_size;
     }
+
+pub returns-clause-capacities : goal.returns-clause-capacities
+returns-clause-capacities c =
+    let s = c.args.self.now in
+    ap (λ (n : ℕ). s.labels.cap ∷ n ∷ s.bridges.cap ∷ s.roots.cap ∷ s.reached.cap ∷ s.links.cap ∷ s.tallies.cap ∷ s.kinds.cap ∷ []) c.copy_from_slice.ensures.capacity

@@ -24,8 +24,8 @@ find_kinds-requires-clause-labels c = λ x in_x.
     let small = labels_small p.switches n (closed_switches c.args.states.now) labels (n + 1) (switch_ends p c.args.case.now.fits) (same ∙ c.join-bridges.ensures.labels) refl x (omega (arith, c.grow.ensures.room.labels_size, c.requires.plan.same_nodes)) in
     omega (arith, small, c.requires.plan.same_nodes)
 
-pub returns : goal.returns
-returns c =
+pub returns-clause-groups : goal.returns-clause-groups
+returns-clause-groups c =
     let p = c.args.case.now.parts in
     let rows = c.args.order.now in
     let links = take c.find_kinds.new.self.link_count c.find_kinds.new.self.links.items in
@@ -46,3 +46,6 @@ returns c =
       tied = c.find_kinds.ensures.tied ∙ c.grow.ensures.tied ∙ c.join-bridges.ensures.tied rows c.requires.plan;
       kinds = c.find_kinds.ensures.kinds ∙ ap (λ v. map (kind_of p rows v.items) rows.nodes) c.grow.ensures.labels ∙ ap (λ l. map (kind_of p rows l) rows.nodes) labels_all;
     }
+
+pub returns-clause-capacities : goal.returns-clause-capacities
+returns-clause-capacities c = c.find_kinds.ensures.capacities ∙ c.grow.ensures.capacities ∙ c.join-bridges.ensures.capacities

@@ -4,7 +4,7 @@ use Rattle.std.proofs.lemmas.List.{with_items_is}
 use Rattle.emtp_case.specs.StepRecord.{StepRecord}
 use Rattle.emtp_case.specs.declared.case.Parts.{Parts}
 use Rattle.emtp_case.specs.declared.switch.SwitchState.{SwitchState}
-use Rattle.emtp_switch.specs.held.Grouping.{AreGroups}
+use Rattle.emtp_switch.specs.held.Grouping.{AreGroups, group_capacities}
 use Rattle.emtp_switch.specs.States.{next_states}
 use Rattle.emtp_switch.specs.held.Switching.{AreKept, AreLatest, StandsFor, Switching}
 use Rattle.emtp_switch.proofs.Deciding.{kept_next}
@@ -94,3 +94,16 @@ invariant_of-self-else-self c =
       rest_size = i.rest_size;
       flows_size = i.flows_size;
     }
+
+pub returns-then-self-clause-capacities : goal.returns-then-self-clause-capacities
+returns-then-self-clause-capacities c =
+    let s = c.self.inside in
+    ap (λ (n : ℕ). s.states.cap ∷ n ∷ s.rest.cap ∷ s.flows.cap ∷ group_capacities c.regroup.new.self) c.copy_from_slice.ensures.capacity
+    ∙ ap (λ (ns : List ℕ). s.states.cap ∷ s.before.cap ∷ s.rest.cap ∷ s.flows.cap ∷ ns) c.regroup.ensures.capacities
+    ∙ ap (λ (x : Switching). x.capacities) c.self.view_is
+
+pub returns-else-self-clause-capacities : goal.returns-else-self-clause-capacities
+returns-else-self-clause-capacities c =
+    let s = c.self.inside in
+    ap (λ (n : ℕ). s.states.cap ∷ n ∷ s.rest.cap ∷ s.flows.cap ∷ group_capacities s.groups) c.copy_from_slice.ensures.capacity
+    ∙ ap (λ (x : Switching). x.capacities) c.self.view_is

@@ -42,7 +42,7 @@ invariant_of-result c =
     let p = c.args.case.now.parts in
     record {
       plan_is = subst (λ (o : Rows). IsPlan p o c.in_ok-plan.plan) (sym c.in_ok-rows.ensures) c.in_ok-plan.ensures;
-      groups_are = subst (λ (o : Rows). AreGroups p o c.in_ok-states.states.items c.regroup.new.self) (sym c.in_ok-rows.ensures) (subst (λ states. AreGroups p c.args.order.now states c.regroup.new.self) c.deref.ensures.value c.regroup.ensures);
+      groups_are = subst (λ (o : Rows). AreGroups p o c.in_ok-states.states.items c.regroup.new.self) (sym c.in_ok-rows.ensures) (subst (λ states. AreGroups p c.args.order.now states c.regroup.new.self) c.deref.ensures.value c.regroup.ensures.groups);
       states_size = ap length c.in_ok-states.ensures ∙ length-map _ _;
       before_size = ap length c.in_ok-before.ensures ∙ length-replicate _ _ ∙ c.len-count.ensures;
       rest_size = omega (arith, c.in_ok-rest.ensures.len, c.in_ok-rest.rest.ok.0, c.len.ensures);
