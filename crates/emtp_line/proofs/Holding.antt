@@ -1,11 +1,13 @@
 -- What the lists of held lines and three-phase lines say of a branch.
 use Rattle.emtp_case.specs.held.RunData.{IsTimeStep}
-use Rattle.std.proofs.Common.{◌≡◌, ◌≢◌, ◌∙◌, ap, sym, subst, refl, zero, suc, ℕ, ◌<◌, ℤ, pos, List, [], ◌∷◌, All, length, map, get_or, slice_set, inl, inr, arith}
+use Rattle.std.proofs.Common.{◌≡◌, ◌≢◌, ◌∙◌, ap, sym, subst, refl, zero, suc, ℕ, ◌+◌, ◌<◌, ℤ, pos, List, [], ◌∷◌, ◌++◌, All, length, map, get_or, slice_set, inl, inr, arith}
 use Rattle.std.proofs.lemmas.Bool.{cases_eq}
 use Rattle.std.proofs.lemmas.List.{get_or-map, get_or_default, get_or-set_same, get_or-set_other, length-map}
 use Rattle.std.proofs.lemmas.List.Elements.{All-set, All-map, All-weaker}
 use Rattle.std.proofs.lemmas.Option.{slice_get_within, get_or_from_slice_get}
 use Rattle.std.proofs.Math.ListN.{length-set}
+use Rattle.std.proofs.Math.Seq.{map-set_same}
+use Rattle.std.specs.List.{concat}
 use Rattle.emtp_case.specs.held.Branch.{IsBranch}
 use Rattle.emtp_case.specs.held.Case.{IsCase}
 use Rattle.emtp_case.specs.held.Sizes.{Sizes, sizes_of}
@@ -20,15 +22,20 @@ use Rattle.emtp_case.specs.declared.run_data.RunData.{RunData}
 use Rattle.emtp_hist.specs.History.{value_before}
 use Rattle.emtp_line.specs.held.Held.{IsHeld, LineStands, held_at_rest}
 use Rattle.emtp_line.specs.Lines.{states_of}
-use Rattle.emtp_line.specs.held.Lines.{IsLining, IsLineAt, StandsAt, HasMode, mode_at, rest_at, line_held, no_mode}
+use Rattle.emtp_line.specs.held.Lines.{Lining, IsLining, IsLineAt, StandsAt, HasMode, capacities_of, line_rings, mode_at, rest_at, rings_of, line_held, no_mode, trio_rings}
 use Rattle.emtp_line.specs.Mode.{mode_of_line}
 use Rattle.emtp_line.specs.held.Mode.{IsMode}
 use Rattle.emtp_line.specs.held.Waves.{IsWaves, WavesStand, waves_at_rest}
 use Rattle.emtp_line.specs.declared.held.HeldLine.{HeldLine}
 use Rattle.emtp_line.specs.declared.held_trio.HeldTrio.{HeldTrio}
 use Rattle.emtp_line.specs.declared.mode.Mode.{Mode}
+use Rattle.emtp_line.specs.declared.waves.Waves.{Waves}
 use Rattle.emtp_line.proofs.Bounds.{mode_fits, no_mode_fits}
 use Rattle.emtp_line.proofs.Physics.{no_history}
+
+-- what a contract sees of these lines, in lists of these capacities
+abbrev pub shown : Parts → ℕ → ℕ → List HeldLine → List HeldTrio → Lining
+shown p n m lines trios = record { case = p; lines = lines; trios = trios; capacities = capacities_of n m lines trios }
 
 -- ---- rest
 
@@ -89,7 +96,7 @@ rest_numbers (OfPhase x ∷ bs) zero = refl
 rest_numbers (x ∷ bs) (suc b) = rest_numbers bs b
 
 -- the lines at rest stand for it
-pub rest_stands : (p : Parts) (lines : List HeldLine) (trios : List HeldTrio) (b : ℕ) (x : Line) → lines ≡ map (rest_at p.run.dt) p.branches → IsLineAt p b x → StandsAt (record { case = p; lines = lines; trios = trios }) b (states_of b (rest_of p ∷ []))
+pub rest_stands : {n m : ℕ} (p : Parts) (lines : List HeldLine) (trios : List HeldTrio) (b : ℕ) (x : Line) → lines ≡ map (rest_at p.run.dt) p.branches → IsLineAt p b x → StandsAt (shown p n m lines trios) b (states_of b (rest_of p ∷ []))
 rest_stands p lines trios b x are line = record {
   there = omega (arith, ap length are, length-map p.branches (rest_at p.run.dt), slice_get_within p.branches b (OfLine x) line);
   stands = subst (λ (s : LineState). LineStands (line_held lines b) (s ∷ [])) (sym (rest_numbers p.branches b))
@@ -124,14 +131,26 @@ lining-set p lines trios at next h within same fits = record {
   trios_fit = h.trios_fit;
 }
 
-pub stands-set : (p : Parts) (lines : List HeldLine) (trios : List HeldTrio) (at : ℕ) (next : HeldLine) (past : List LineState) → at < length lines → LineStands next past → StandsAt (record { case = p; lines = slice_set lines at next; trios = trios }) at past
+pub stands-set : {n m : ℕ} (p : Parts) (lines : List HeldLine) (trios : List HeldTrio) (at : ℕ) (next : HeldLine) (past : List LineState) → at < length lines → LineStands next past → StandsAt (shown p n m (slice_set lines at next) trios) at past
 stands-set p lines trios at next past within stands = record {
   there = omega (arith, length-set lines at next, within);
   stands = subst (λ (k : HeldLine). LineStands k past) (sym (get_or-set_same lines at next (held_at_rest no_mode) within)) stands;
 }
 
-pub stands-other : (p : Parts) (lines : List HeldLine) (trios : List HeldTrio) (at b : ℕ) (next : HeldLine) (past : List LineState) → b ≢ at → StandsAt (record { case = p; lines = lines; trios = trios }) b past → StandsAt (record { case = p; lines = slice_set lines at next; trios = trios }) b past
+pub stands-other : {n m : ℕ} (p : Parts) (lines : List HeldLine) (trios : List HeldTrio) (at b : ℕ) (next : HeldLine) (past : List LineState) → b ≢ at → StandsAt (shown p n m lines trios) b past → StandsAt (shown p n m (slice_set lines at next) trios) b past
 stands-other p lines trios at b next past apart stands = record {
   there = omega (arith, length-set lines at next, stands.there);
   stands = subst (λ (k : HeldLine). LineStands k past) (sym (get_or-set_other lines at b next (held_at_rest no_mode) apart)) stands.stands;
 }
+
+-- waves of one mode have rings of one capacity
+pub rings_kept : (old new : Waves) → IsWaves old → IsWaves new → new.mode ≡ old.mode → rings_of new ≡ rings_of old
+rings_kept old new was is same =
+    let from : new.from.depth ≡ old.from.depth = is.from_depth ∙ ap (λ (m : Mode). m.steps + 1) same ∙ sym was.from_depth in
+    let to : new.to.depth ≡ old.to.depth = is.to_depth ∙ ap (λ (m : Mode). m.steps + 1) same ∙ sym was.to_depth in
+    ap (λ (k : ℕ). k ∷ new.to.depth ∷ []) from ∙ ap (λ (k : ℕ). old.from.depth ∷ k ∷ []) to
+
+-- a line whose rings keep their capacities leaves all capacities
+pub capacities-set : (n m : ℕ) (lines : List HeldLine) (trios : List HeldTrio) (at : ℕ) (new : HeldLine) → line_rings new ≡ line_rings (line_held lines at) → capacities_of n m (slice_set lines at new) trios ≡ capacities_of n m lines trios
+capacities-set n m lines trios at new same =
+    ap (λ (rings : List (List ℕ)). n ∷ m ∷ concat rings ++ concat (map trio_rings trios)) (map-set_same line_rings lines at new (held_at_rest no_mode) same)

@@ -10,15 +10,15 @@ use Rattle.emtp_fix.specs.declared.limit.OutOfRange.{OutOfRange}
 use Rattle.emtp_line.specs.held.Held.{LineStands, LineMoved, TrioStands, TrioMoved, held_at_rest, held_modes, trio_at_rest, with_states}
 use Rattle.emtp_line.specs.Line.{next_state}
 use Rattle.emtp_line.specs.Lines.{no_trio}
-use Rattle.emtp_line.specs.held.Lines.{IsLining, StandsFor, Moves, TrioMoves, rest_at, line_held, trio_held, no_mode}
+use Rattle.emtp_line.specs.held.Lines.{IsLining, StandsFor, Moves, TrioMoves, line_rings, rest_at, line_held, trio_held, no_mode, trio_rings}
 use Rattle.emtp_line.specs.Phases.{Modes}
 use Rattle.emtp_line.specs.held.Phases.{next_phases}
 use Rattle.emtp_line.specs.declared.held.HeldLine.{HeldLine}
 use Rattle.emtp_line.specs.declared.held_trio.HeldTrio.{HeldTrio}
 use Rattle.emtp_line.specs.declared.mode.Mode.{Mode}
 use Rattle.emtp_line.specs.declared.phase_states.PhaseRange.{PhaseRange}
-use Rattle.emtp_line.proofs.Holding.{rest_lines_fit, rest_stands, rest_read, stands-set, stands-other}
-use Rattle.emtp_line.proofs.Trios.{rest_trios_fit, rest_trio_modes, rest_trios_stand, trio_stands-set, trio_stands-other}
+use Rattle.emtp_line.proofs.Holding.{capacities-set, rest_lines_fit, rest_stands, rest_read, shown, stands-set, stands-other}
+use Rattle.emtp_line.proofs.Trios.{rest_trios_fit, rest_trio_modes, rest_trios_stand, trio_capacities-set, trio_stands-set, trio_stands-other}
 
 -- ---- record 0
 
@@ -32,7 +32,7 @@ rest_lining p lines trios h are trios_are = rw (are, trios_are) (record {
   trios_fit = rest_trios_fit p h;
 })
 
-pub rest_stands_for : (p : Parts) (lines : List HeldLine) (trios : List HeldTrio) → lines ≡ map (rest_at p.run.dt) p.branches → trios ≡ map (trio_at_rest p.run.dt) p.trios → StandsFor (record { case = p; lines = lines; trios = trios }) (rest_of p ∷ [])
+pub rest_stands_for : {n m : ℕ} (p : Parts) (lines : List HeldLine) (trios : List HeldTrio) → lines ≡ map (rest_at p.run.dt) p.branches → trios ≡ map (trio_at_rest p.run.dt) p.trios → StandsFor (shown p n m lines trios) (rest_of p ∷ [])
 rest_stands_for p lines trios are trios_are = record {
   lines = λ b x line. rest_stands p lines trios b x are line;
   trios = λ t there. rest_trios_stand p lines trios t trios_are there;
@@ -41,13 +41,14 @@ rest_stands_for p lines trios are trios_are = record {
 -- ---- a step
 
 -- a line's step among all lines is its own step
-pub moves : (p : Parts) (lines : List HeldLine) (trios : List HeldTrio) (at : ℕ) (v w : ℤ) (result : Result ℤ OutOfRange) (old new : HeldLine) → IsLining p lines trios → at < length lines → old ≡ line_held lines at
+pub moves : {n m : ℕ} (p : Parts) (lines : List HeldLine) (trios : List HeldTrio) (at : ℕ) (v w : ℤ) (result : Result ℤ OutOfRange) (old new : HeldLine) → IsLining p lines trios → at < length lines → old ≡ line_held lines at
     → ((past : List LineState) → LineStands old past → IfOk result (LineMoved new past (next_state old.waves.mode past v w)))
     → ((past : List LineState) → LineStands old past → OnErr result (next_state old.waves.mode past v w ≡ None))
-    → OnErr result (new ≡ old)
-    → Moves (record { case = p; lines = lines; trios = trios }) (record { case = p; lines = slice_set lines at new; trios = trios }) at v w result
-moves p lines trios at v w (Ok i) old new h within read moved out same = record {
+    → OnErr result (new ≡ old) → line_rings new ≡ line_rings old
+    → Moves (shown p n m lines trios) (shown p n m (slice_set lines at new) trios) at v w result
+moves {n = n} {m = m} p lines trios at v w (Ok i) old new h within read moved out same rings = record {
   case = refl;
+  capacities = capacities-set n m lines trios at new (rings ∙ ap line_rings read);
   moved = λ x past line stands.
       let m = moved past (subst (λ (k : HeldLine). LineStands k past) (sym read) stands.stands) in
       record {
@@ -61,25 +62,27 @@ moves p lines trios at v w (Ok i) old new h within read moved out same = record 
   trios = λ t past stands. record { there = stands.there; stands = stands.stands };
   same = tt;
 }
-moves p lines trios at v w (Err e) old new h within read moved out same =
+moves {n = n} {m = m} p lines trios at v w (Err e) old new h within read moved out same rings =
     let kept : slice_set lines at new ≡ lines = ap (slice_set lines at) (same ∙ read) ∙ set-get_or lines at (held_at_rest no_mode) in
     record {
       case = refl;
+      capacities = capacities-set n m lines trios at new (rings ∙ ap line_rings read);
       moved = λ x past line stands. tt;
       out = λ x past line stands. ap (λ (n : Mode). next_state n past v w) (sym (ap (λ (k : HeldLine). k.waves.mode) read ∙ h.modes at x line)) ∙ out past (subst (λ (k : HeldLine). LineStands k past) (sym read) stands.stands);
       others = λ b past apart stands. stands-other p lines trios at b new past apart stands;
       trios = λ t past stands. record { there = stands.there; stands = stands.stands };
-      same = ap (λ (ks : List HeldLine). record { case = p; lines = ks; trios = trios }) kept;
+      same = ap (λ (ks : List HeldLine). shown p n m ks trios) kept;
     }
 
 -- and the same of a three-phase line
-pub trio_moves : (p : Parts) (lines : List HeldLine) (trios : List HeldTrio) (at : ℕ) (v w : List ℤ) (result : Result (List ℤ) PhaseRange) (old new : HeldTrio) → IsLining p lines trios → at < length p.trios → at < length trios → old ≡ trio_held trios at
+pub trio_moves : {n m : ℕ} (p : Parts) (lines : List HeldLine) (trios : List HeldTrio) (at : ℕ) (v w : List ℤ) (result : Result (List ℤ) PhaseRange) (old new : HeldTrio) → IsLining p lines trios → at < length p.trios → at < length trios → old ≡ trio_held trios at
     → ((past : ℕ → List PhaseState) → TrioStands old past → IfOk result (TrioMoved new past (next_phases (held_modes old) past v w)))
     → ((past : ℕ → List PhaseState) → TrioStands old past → IfErr result (λ fault. next_phases (held_modes old) past v w ≡ Err fault))
-    → OnErr result (new ≡ old) → IfErr result (λ fault. fault.phase < 3)
-    → TrioMoves (record { case = p; lines = lines; trios = trios }) (record { case = p; lines = lines; trios = slice_set trios at new }) at v w result
-trio_moves p lines trios at v w (Ok i) old new h there within read moved out same few = record {
+    → OnErr result (new ≡ old) → trio_rings new ≡ trio_rings old → IfErr result (λ fault. fault.phase < 3)
+    → TrioMoves (shown p n m lines trios) (shown p n m lines (slice_set trios at new)) at v w result
+trio_moves {n = n} {m = m} p lines trios at v w (Ok i) old new h there within read moved out same rings few = record {
   case = refl;
+  capacities = trio_capacities-set n m lines trios at new (rings ∙ ap trio_rings read);
   moved = λ past stands.
       let m = moved past (subst (λ (k : HeldTrio). TrioStands k past) (sym read) stands.stands) in
       record {
@@ -94,14 +97,15 @@ trio_moves p lines trios at v w (Ok i) old new h there within read moved out sam
   same = tt;
   phase = tt;
 }
-trio_moves p lines trios at v w (Err e) old new h there within read moved out same few =
+trio_moves {n = n} {m = m} p lines trios at v w (Err e) old new h there within read moved out same rings few =
     let kept : slice_set trios at new ≡ trios = ap (slice_set trios at) (same ∙ read) ∙ set-get_or trios at (trio_at_rest (pos 1) no_trio) in
     record {
       case = refl;
+      capacities = trio_capacities-set n m lines trios at new (rings ∙ ap trio_rings read);
       moved = λ past stands. tt;
       out = λ past stands. ap (λ (n : Modes). next_phases n past v w) (sym (ap held_modes read ∙ h.trio_modes at there)) ∙ out past (subst (λ (k : HeldTrio). TrioStands k past) (sym read) stands.stands);
       others = λ t past apart stands. trio_stands-other p lines trios at t new past apart stands;
       lines = λ b past stands. record { there = stands.there; stands = stands.stands };
-      same = ap (λ (ks : List HeldTrio). record { case = p; lines = lines; trios = ks }) kept;
+      same = ap (λ (ks : List HeldTrio). shown p n m lines ks) kept;
       phase = few;
     }

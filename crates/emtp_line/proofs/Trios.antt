@@ -1,11 +1,13 @@
 -- What is held of three-phase lines.
 use Rattle.emtp_case.specs.held.RunData.{IsTimeStep}
-use Rattle.std.proofs.Common.{◌≡◌, ◌≢◌, ◌∙◌, ap, sym, subst, refl, zero, suc, ℕ, ◌+◌, ◌<◌, ℤ, pos, List, [], ◌∷◌, All, length, map, get_or, slice_set, inl, inr, arith}
+use Rattle.std.proofs.Common.{◌≡◌, ◌≢◌, ◌∙◌, ap, sym, subst, refl, zero, suc, ℕ, ◌+◌, ◌<◌, ℤ, pos, List, [], ◌∷◌, ◌++◌, All, length, map, get_or, slice_set, inl, inr, arith}
 use Rattle.std.proofs.lemmas.Bool.{cases_eq}
 use Rattle.std.proofs.lemmas.Int.{ints}
 use Rattle.std.proofs.lemmas.List.{get_or-map, get_or_default, get_or-set_same, get_or-set_other, length-map}
 use Rattle.std.proofs.lemmas.List.Elements.{All-set, All-map, All-weaker}
 use Rattle.std.proofs.Math.ListN.{length-set}
+use Rattle.std.proofs.Math.Seq.{map-set_same}
+use Rattle.std.specs.List.{concat}
 use Rattle.emtp_case.specs.Branch.{first_of_trio}
 use Rattle.emtp_case.specs.held.Branch.{IsTrio}
 use Rattle.emtp_case.specs.held.Case.{IsCase}
@@ -19,15 +21,15 @@ use Rattle.emtp_case.specs.declared.case.Parts.{Parts}
 use Rattle.emtp_case.specs.declared.run_data.RunData.{RunData}
 use Rattle.emtp_line.specs.held.Held.{IsHeld, IsHeldTrio, PhaseStands, TrioStands, held_at_rest, held_modes, phase_held, trio_at_rest}
 use Rattle.emtp_line.specs.Lines.{trio_of, no_trio, phase_states_of}
-use Rattle.emtp_line.specs.held.Lines.{IsLining, TrioStandsAt, trio_held}
+use Rattle.emtp_line.specs.held.Lines.{IsLining, TrioStandsAt, capacities_of, line_rings, rings_of, trio_held, trio_rings}
 use Rattle.emtp_line.specs.held.Mode.{IsMode}
-use Rattle.emtp_line.specs.Phases.{modes_of, mode_of_trio, phase_from_waves, phase_to_waves}
+use Rattle.emtp_line.specs.Phases.{Modes, modes_of, mode_of_trio, phase_from_waves, phase_to_waves}
 use Rattle.emtp_line.specs.held.Waves.{WavesStand}
 use Rattle.emtp_line.specs.declared.held.HeldLine.{HeldLine}
 use Rattle.emtp_line.specs.declared.held_trio.HeldTrio.{HeldTrio}
 use Rattle.emtp_line.specs.declared.mode.Mode.{Mode}
 use Rattle.emtp_line.proofs.Bounds.{mode_fits, own_range, mutual_small}
-use Rattle.emtp_line.proofs.Holding.{rest_waves, rest_held, rest_waves_stand}
+use Rattle.emtp_line.proofs.Holding.{rest_waves, rest_held, rest_waves_stand, rings_kept, shown}
 
 -- ---- one of the three phases
 
@@ -97,7 +99,7 @@ rest_read : (p : Parts) (t : ℕ) → t < length p.trios → trio_held (map (tri
 rest_read p t there = get_or-map (trio_at_rest p.run.dt) p.trios t no_trio (trio_at_rest (pos 1) no_trio) there
 
 -- those at rest stand for record 0
-pub rest_trios_stand : (p : Parts) (lines : List HeldLine) (trios : List HeldTrio) (t : ℕ) → trios ≡ map (trio_at_rest p.run.dt) p.trios → t < length p.trios → TrioStandsAt (record { case = p; lines = lines; trios = trios }) t (phase_states_of p t (rest_of p ∷ []))
+pub rest_trios_stand : {n m : ℕ} (p : Parts) (lines : List HeldLine) (trios : List HeldTrio) (t : ℕ) → trios ≡ map (trio_at_rest p.run.dt) p.trios → t < length p.trios → TrioStandsAt (shown p n m lines trios) t (phase_states_of p t (rest_of p ∷ []))
 rest_trios_stand p lines trios t are there = record {
   there = omega (arith, ap length are, length-map p.trios (trio_at_rest p.run.dt), there);
   stands = subst (λ (x : HeldTrio). TrioStands x (phase_states_of p t (rest_of p ∷ []))) (sym (ap (λ xs. trio_held xs t) are ∙ rest_read p t there))
@@ -142,13 +144,13 @@ lining-set_trio p lines trios at next h within same fits = record {
   trios_fit = All-set IsHeldTrio trios at next fits h.trios_fit;
 }
 
-pub trio_stands-set : (p : Parts) (lines : List HeldLine) (trios : List HeldTrio) (at : ℕ) (next : HeldTrio) (past : ℕ → List PhaseState) → at < length trios → TrioStands next past → TrioStandsAt (record { case = p; lines = lines; trios = slice_set trios at next }) at past
+pub trio_stands-set : {n m : ℕ} (p : Parts) (lines : List HeldLine) (trios : List HeldTrio) (at : ℕ) (next : HeldTrio) (past : ℕ → List PhaseState) → at < length trios → TrioStands next past → TrioStandsAt (shown p n m lines (slice_set trios at next)) at past
 trio_stands-set p lines trios at next past within stands = record {
   there = omega (arith, length-set trios at next, within);
   stands = subst (λ (x : HeldTrio). TrioStands x past) (sym (get_or-set_same trios at next (trio_at_rest (pos 1) no_trio) within)) stands;
 }
 
-pub trio_stands-other : (p : Parts) (lines : List HeldLine) (trios : List HeldTrio) (at t : ℕ) (next : HeldTrio) (past : ℕ → List PhaseState) → t ≢ at → TrioStandsAt (record { case = p; lines = lines; trios = trios }) t past → TrioStandsAt (record { case = p; lines = lines; trios = slice_set trios at next }) t past
+pub trio_stands-other : {n m : ℕ} (p : Parts) (lines : List HeldLine) (trios : List HeldTrio) (at t : ℕ) (next : HeldTrio) (past : ℕ → List PhaseState) → t ≢ at → TrioStandsAt (shown p n m lines trios) t past → TrioStandsAt (shown p n m lines (slice_set trios at next)) t past
 trio_stands-other p lines trios at t next past apart stands = record {
   there = omega (arith, length-set trios at next, stands.there);
   stands = subst (λ (x : HeldTrio). TrioStands x past) (sym (get_or-set_other trios at t next (trio_at_rest (pos 1) no_trio) apart)) stands.stands;
@@ -162,3 +164,21 @@ phase_pushed old new part s past is from to waves stands = record {
   to_current = to ∙ ap (λ (x : LineState). x.to_current) is;
   waves = rw is at waves (phase_from_waves past) (phase_to_waves past) stands.waves;
 }
+
+-- the rings of a three-phase line whose modes stay keep their capacities
+pub trio_rings_kept : (old new : HeldTrio) → IsHeldTrio old → IsHeldTrio new → held_modes new ≡ held_modes old → trio_rings new ≡ trio_rings old
+trio_rings_kept old new was is same =
+    let positive : new.first.waves.mode ≡ old.first.waves.mode = ap (λ (m : Modes). m.positive) same in
+    let zero_sequence = rings_kept old.zero_sequence new.zero_sequence was.zero_sequence is.zero_sequence (ap (λ (m : Modes). m.zero_sequence) same) in
+    let first = rings_kept old.first.waves new.first.waves was.first.waves is.first.waves positive in
+    let second = rings_kept old.second.waves new.second.waves was.second.waves is.second.waves (is.second_mode ∙ positive ∙ sym was.second_mode) in
+    let third = rings_kept old.third.waves new.third.waves was.third.waves is.third.waves (is.third_mode ∙ positive ∙ sym was.third_mode) in
+    ap (λ (rings : List ℕ). rings ++ line_rings new.first ++ line_rings new.second ++ line_rings new.third) zero_sequence
+    ∙ ap (λ (rings : List ℕ). rings_of old.zero_sequence ++ rings ++ line_rings new.second ++ line_rings new.third) first
+    ∙ ap (λ (rings : List ℕ). rings_of old.zero_sequence ++ line_rings old.first ++ rings ++ line_rings new.third) second
+    ∙ ap (λ (rings : List ℕ). rings_of old.zero_sequence ++ line_rings old.first ++ line_rings old.second ++ rings) third
+
+-- and one whose rings do leaves all capacities
+pub trio_capacities-set : (n m : ℕ) (lines : List HeldLine) (trios : List HeldTrio) (at : ℕ) (new : HeldTrio) → trio_rings new ≡ trio_rings (trio_held trios at) → capacities_of n m lines (slice_set trios at new) ≡ capacities_of n m lines trios
+trio_capacities-set n m lines trios at new same =
+    ap (λ (rings : List (List ℕ)). n ∷ m ∷ concat (map line_rings lines) ++ concat rings) (map-set_same trio_rings trios at new (trio_at_rest (pos 1) no_trio) same)

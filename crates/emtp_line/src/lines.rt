@@ -35,7 +35,8 @@ pub struct Lines<'a> {
 }
 
 impl<'a> Model for Lines<'a> {
-    ghost use Rattle.emtp_line.specs.held.Lines.{Lining, IsLining};
+    ghost use Rattle.std.specs.Prelude.{vec_capacity};
+    ghost use Rattle.emtp_line.specs.held.Lines.{Lining, IsLining, capacities_of};
 
     ghost Value = { Lining };
 
@@ -43,7 +44,12 @@ impl<'a> Model for Lines<'a> {
 
     ghost coded = { Prim.hlevel codes };
 
-    ghost view = { λ s. record { case = s.case.now.parts; lines = s.lines.items; trios = s.trios.items } };
+    ghost view = { λ s. record {
+      case = s.case.now.parts;
+      lines = s.lines.items;
+      trios = s.trios.items;
+      capacities = capacities_of (vec_capacity s.lines) (vec_capacity s.trios) s.lines.items s.trios.items;
+    } };
 
     ghost invariant = { λ s. IsLining s.case.now.parts s.lines.items s.trios.items };
 }
@@ -104,7 +110,7 @@ impl<'a> Lines<'a> {
 
     /// Takes the voltages `v` and `w` in nV of a single line's ends `from` and `to`, moves the line by one step and
     /// answers its branch current in nA, which is that at `from`. Where a number that is kept exceeds 10^18 it is out of
-    /// range.
+    /// range. It takes no memory: the lists of the lines and the rings of the waves keep their capacities.
     pub fn accept(&mut self, branch: usize, v: i64, w: i64) -> Result<i64, OutOfRange>
         requires { (x : Line) × IsLineAt self.old.case branch x }
         ensures { Moves self.old self.new branch v w result }

@@ -1,5 +1,6 @@
 -- What the lines of a case stand for, and how a step moves them. No clause of the program reaches it.
-use Rattle.std.specs.Prelude.{◌≡◌, ◌≢◌, ◌<◌, ◌∷◌, ℕ, ℤ, List, All, length, pos, slice_get, slice_index_or, Option, Some, None, Result, Ok, Err, IfOk, IfErr, OnErr}
+use Rattle.std.specs.Prelude.{◌≡◌, ◌≢◌, ◌<◌, ◌∷◌, [], ◌++◌, ℕ, ℤ, List, All, length, map, pos, slice_get, slice_index_or, Option, Some, None, Result, Ok, Err, IfOk, IfErr, OnErr}
+use Rattle.std.specs.List.{concat}
 use Rattle.emtp_case.specs.held.Branch.{HasLineNumbers}
 use Rattle.emtp_case.specs.StepRecord.{StepRecord}
 use Rattle.emtp_case.specs.declared.branch.Branch.{Branch}
@@ -19,13 +20,30 @@ use Rattle.emtp_line.specs.declared.held.HeldLine.{HeldLine}
 use Rattle.emtp_line.specs.declared.held_trio.HeldTrio.{HeldTrio}
 use Rattle.emtp_line.specs.declared.mode.Mode.{Mode}
 use Rattle.emtp_line.specs.declared.phase_states.PhaseRange.{PhaseRange}
+use Rattle.emtp_line.specs.declared.waves.Waves.{Waves}
 use Rattle.emtp_line.specs.Lines.{no_trio, trio_of, states_of, phase_states_of}
 
--- what a contract sees: the case, what is held of each branch, and what is held of each three-phase line
+-- what a contract sees: the case, what is held of each branch, what is held of each three-phase line, and the capacities of
+-- the lists that a step writes
 pub record Lining : Type 0 where
   pub case : Parts
   pub lines : List HeldLine
   pub trios : List HeldTrio
+  pub capacities : List ℕ
+
+-- the capacities of the rings of the waves
+abbrev pub rings_of : Waves → List ℕ
+rings_of x = x.from.depth ∷ x.to.depth ∷ []
+
+abbrev pub line_rings : HeldLine → List ℕ
+line_rings x = rings_of x.waves
+
+abbrev pub trio_rings : HeldTrio → List ℕ
+trio_rings x = rings_of x.zero_sequence ++ line_rings x.first ++ line_rings x.second ++ line_rings x.third
+
+-- the capacities of the list of lines and of that of three-phase lines, and those of the rings of each
+abbrev pub capacities_of : ℕ → ℕ → List HeldLine → List HeldTrio → List ℕ
+capacities_of n m lines trios = n ∷ m ∷ concat (map line_rings lines) ++ concat (map trio_rings trios)
 
 -- a branch of a case is this line, or this phase
 abbrev pub IsLineAt : Parts → ℕ → Line → Type 0
@@ -112,9 +130,10 @@ pub record HasMoved (new : Lining) (branch : ℕ) (past : List LineState) (next 
   pub stands : StandsAt new branch (state ∷ past)
 
 -- The whole of a call that takes the voltages of its ends into one line. On Ok the line moved, whatever past it stood
--- for; an Err comes exactly where there is no next state, and changes nothing.
+-- for; an Err comes exactly where there is no next state, and changes nothing. No list takes memory.
 pub record Moves (old new : Lining) (branch : ℕ) (v w : ℤ) (result : Result ℤ OutOfRange) : Type 0 where
   pub case : new.case ≡ old.case
+  pub capacities : new.capacities ≡ old.capacities
   pub moved : (x : Line) (past : List LineState) → IsLineAt old.case branch x → StandsAt old branch past
       → IfOk result (HasMoved new branch past (next_state (mode_of_line old.case.run.dt x) past v w))
   pub out : (x : Line) (past : List LineState) → IsLineAt old.case branch x → StandsAt old branch past
@@ -135,6 +154,7 @@ pub record TrioHasMoved (new : Lining) (trio : ℕ) (past : ℕ → List PhaseSt
 -- is out of range.
 pub record TrioMoves (old new : Lining) (trio : ℕ) (v w : List ℤ) (result : Result (List ℤ) PhaseRange) : Type 0 where
   pub case : new.case ≡ old.case
+  pub capacities : new.capacities ≡ old.capacities
   pub moved : (past : ℕ → List PhaseState) → TrioStandsAt old trio past
       → IfOk result (TrioHasMoved new trio past
       (next_phases (modes_of old.case.run.dt (trio_of old.case trio)) past v w))

@@ -6,12 +6,13 @@ use Rattle.emtp_fix.specs.declared.limit.TheConstants.{LARGEST_ENTRY}
 use Rattle.emtp_line.specs.Lines.{trio_of}
 use Rattle.emtp_line.specs.held.Lines.{Lining, IsLineAt, IsPhaseAt, HasWaves}
 use Rattle.emtp_line.specs.Phases.{modes_of, own_conductance}
+use Rattle.emtp_line.proofs.Holding.{shown}
 use Rattle.emtp_line.proofs.Finding.{found_line, found_phase, no_line_found, no_phase_found, own_between, phase_own, line_conductance}
 use Rattle.emtp_line.proofs.lines.Lines.conductance.Goals as goal
 
 pub returns-in-Some-clause-bound : goal.returns-in-Some-clause-bound
 returns-in-Some-clause-bound c =
-    let seen : Lining = record { case = c.self.inside.case.now.parts; lines = c.self.inside.lines.items; trios = c.self.inside.trios.items } in
+    let seen : Lining = shown c.self.inside.case.now.parts c.self.inside.lines.cap c.self.inside.trios.cap c.self.inside.lines.items c.self.inside.trios.items in
     let same : seen ≡ c.args.self.now = c.self.view_is in
     let waves = let P = λ (s : Lining). HasWaves (slice_get s.case.branches c.args.branch) in subst P (sym same) c.requires in
     let kind = rw c.as_slice.ensures at c.phase_of.ensures in
@@ -21,7 +22,7 @@ returns-in-Some-clause-bound c =
 
 pub returns-in-Some-clause-line : goal.returns-in-Some-clause-line
 returns-in-Some-clause-line c = λ x line'.
-    let seen : Lining = record { case = c.self.inside.case.now.parts; lines = c.self.inside.lines.items; trios = c.self.inside.trios.items } in
+    let seen : Lining = shown c.self.inside.case.now.parts c.self.inside.lines.cap c.self.inside.trios.cap c.self.inside.lines.items c.self.inside.trios.items in
     let same : seen ≡ c.args.self.now = c.self.view_is in
     let waves = let P = λ (s : Lining). HasWaves (slice_get s.case.branches c.args.branch) in subst P (sym same) c.requires in
     let kind = rw c.as_slice.ensures at c.phase_of.ensures in
@@ -31,7 +32,7 @@ returns-in-Some-clause-line c = λ x line'.
 
 pub returns-in-Some-clause-phase : goal.returns-in-Some-clause-phase
 returns-in-Some-clause-phase c = λ x phase'.
-    let seen : Lining = record { case = c.self.inside.case.now.parts; lines = c.self.inside.lines.items; trios = c.self.inside.trios.items } in
+    let seen : Lining = shown c.self.inside.case.now.parts c.self.inside.lines.cap c.self.inside.trios.cap c.self.inside.lines.items c.self.inside.trios.items in
     let same : seen ≡ c.args.self.now = c.self.view_is in
     let waves = let P = λ (s : Lining). HasWaves (slice_get s.case.branches c.args.branch) in subst P (sym same) c.requires in
     let kind = rw c.as_slice.ensures at c.phase_of.ensures in
@@ -43,7 +44,7 @@ returns-in-Some-clause-phase c = λ x phase'.
 
 pub returns-in-None-clause-bound : goal.returns-in-None-clause-bound
 returns-in-None-clause-bound c =
-    let seen : Lining = record { case = c.self.inside.case.now.parts; lines = c.self.inside.lines.items; trios = c.self.inside.trios.items } in
+    let seen : Lining = shown c.self.inside.case.now.parts c.self.inside.lines.cap c.self.inside.trios.cap c.self.inside.lines.items c.self.inside.trios.items in
     let same : seen ≡ c.args.self.now = c.self.view_is in
     let waves = let P = λ (s : Lining). HasWaves (slice_get s.case.branches c.args.branch) in subst P (sym same) c.requires in
     let kind = rw c.as_slice.ensures at c.phase_of.ensures in
@@ -53,7 +54,7 @@ returns-in-None-clause-bound c =
 
 pub returns-in-None-clause-line : goal.returns-in-None-clause-line
 returns-in-None-clause-line c = λ x line'.
-    let seen : Lining = record { case = c.self.inside.case.now.parts; lines = c.self.inside.lines.items; trios = c.self.inside.trios.items } in
+    let seen : Lining = shown c.self.inside.case.now.parts c.self.inside.lines.cap c.self.inside.trios.cap c.self.inside.lines.items c.self.inside.trios.items in
     let same : seen ≡ c.args.self.now = c.self.view_is in
     let waves = let P = λ (s : Lining). HasWaves (slice_get s.case.branches c.args.branch) in subst P (sym same) c.requires in
     let kind = rw c.as_slice.ensures at c.phase_of.ensures in
@@ -64,7 +65,7 @@ returns-in-None-clause-line c = λ x line'.
 
 pub returns-in-None-clause-phase : goal.returns-in-None-clause-phase
 returns-in-None-clause-phase c = λ x phase'.
-    let seen : Lining = record { case = c.self.inside.case.now.parts; lines = c.self.inside.lines.items; trios = c.self.inside.trios.items } in
+    let seen : Lining = shown c.self.inside.case.now.parts c.self.inside.lines.cap c.self.inside.trios.cap c.self.inside.lines.items c.self.inside.trios.items in
     let same : seen ≡ c.args.self.now = c.self.view_is in
     let waves = let P = λ (s : Lining). HasWaves (slice_get s.case.branches c.args.branch) in subst P (sym same) c.requires in
     let kind = rw c.as_slice.ensures at c.phase_of.ensures in

@@ -1,11 +1,12 @@
 use Rattle.std.proofs.Common.{◌≡◌, ◌∙◌, sym, subst, refl, slice_get, arith}
 use Rattle.emtp_line.specs.held.Lines.{Lining, IsLineAt, IsPhaseAt, HasWaves, StandsAt, TrioStandsAt}
+use Rattle.emtp_line.proofs.Holding.{shown}
 use Rattle.emtp_line.proofs.Finding.{found_line, found_phase, no_line_found, no_phase_found, waves_within, line_currents_held, phase_currents_held}
 use Rattle.emtp_line.proofs.lines.Lines.end_currents.Goals as goal
 
 pub end_currents-requires-clause-held : goal.end_currents-requires-clause-held
 end_currents-requires-clause-held c =
-    let seen : Lining = record { case = c.self.inside.case.now.parts; lines = c.self.inside.lines.items; trios = c.self.inside.trios.items } in
+    let seen : Lining = shown c.self.inside.case.now.parts c.self.inside.lines.cap c.self.inside.trios.cap c.self.inside.lines.items c.self.inside.trios.items in
     let same : seen ≡ c.args.self.now = c.self.view_is in
     let waves = let P = λ (s : Lining). HasWaves (slice_get s.case.branches c.args.branch) in subst P (sym same) c.requires in
     let kind = rw c.as_slice.ensures at c.phase_of.ensures in
@@ -14,14 +15,14 @@ end_currents-requires-clause-held c =
 
 pub index-requires-in-None : goal.index-requires-in-None
 index-requires-in-None c =
-    let seen : Lining = record { case = c.self.inside.case.now.parts; lines = c.self.inside.lines.items; trios = c.self.inside.trios.items } in
+    let seen : Lining = shown c.self.inside.case.now.parts c.self.inside.lines.cap c.self.inside.trios.cap c.self.inside.lines.items c.self.inside.trios.items in
     let same : seen ≡ c.args.self.now = c.self.view_is in
     let waves = let P = λ (s : Lining). HasWaves (slice_get s.case.branches c.args.branch) in subst P (sym same) c.requires in
     omega (arith, c.self.invariant.one_each, waves_within seen.case c.args.branch _ refl waves)
 
 pub end_currents-requires-in-None : goal.end_currents-requires-in-None
 end_currents-requires-in-None c =
-    let seen : Lining = record { case = c.self.inside.case.now.parts; lines = c.self.inside.lines.items; trios = c.self.inside.trios.items } in
+    let seen : Lining = shown c.self.inside.case.now.parts c.self.inside.lines.cap c.self.inside.trios.cap c.self.inside.lines.items c.self.inside.trios.items in
     let same : seen ≡ c.args.self.now = c.self.view_is in
     let waves = let P = λ (s : Lining). HasWaves (slice_get s.case.branches c.args.branch) in subst P (sym same) c.requires in
     let kind = rw c.as_slice.ensures at c.phase_of.ensures in
@@ -30,7 +31,7 @@ end_currents-requires-in-None c =
 
 pub returns-in-Some-clause-line : goal.returns-in-Some-clause-line
 returns-in-Some-clause-line c = λ x past line' stands.
-    let seen : Lining = record { case = c.self.inside.case.now.parts; lines = c.self.inside.lines.items; trios = c.self.inside.trios.items } in
+    let seen : Lining = shown c.self.inside.case.now.parts c.self.inside.lines.cap c.self.inside.trios.cap c.self.inside.lines.items c.self.inside.trios.items in
     let same : seen ≡ c.args.self.now = c.self.view_is in
     let waves = let P = λ (s : Lining). HasWaves (slice_get s.case.branches c.args.branch) in subst P (sym same) c.requires in
     let kind = rw c.as_slice.ensures at c.phase_of.ensures in
@@ -40,7 +41,7 @@ returns-in-Some-clause-line c = λ x past line' stands.
 
 pub returns-in-Some-clause-phase : goal.returns-in-Some-clause-phase
 returns-in-Some-clause-phase c = λ x past phase' stands'.
-    let seen : Lining = record { case = c.self.inside.case.now.parts; lines = c.self.inside.lines.items; trios = c.self.inside.trios.items } in
+    let seen : Lining = shown c.self.inside.case.now.parts c.self.inside.lines.cap c.self.inside.trios.cap c.self.inside.lines.items c.self.inside.trios.items in
     let same : seen ≡ c.args.self.now = c.self.view_is in
     let waves = let P = λ (s : Lining). HasWaves (slice_get s.case.branches c.args.branch) in subst P (sym same) c.requires in
     let kind = rw c.as_slice.ensures at c.phase_of.ensures in
@@ -51,7 +52,7 @@ returns-in-Some-clause-phase c = λ x past phase' stands'.
 
 pub returns-in-None-clause-line : goal.returns-in-None-clause-line
 returns-in-None-clause-line c = λ x past line' stands'.
-    let seen : Lining = record { case = c.self.inside.case.now.parts; lines = c.self.inside.lines.items; trios = c.self.inside.trios.items } in
+    let seen : Lining = shown c.self.inside.case.now.parts c.self.inside.lines.cap c.self.inside.trios.cap c.self.inside.lines.items c.self.inside.trios.items in
     let same : seen ≡ c.args.self.now = c.self.view_is in
     let waves = let P = λ (s : Lining). HasWaves (slice_get s.case.branches c.args.branch) in subst P (sym same) c.requires in
     let kind = rw c.as_slice.ensures at c.phase_of.ensures in
@@ -62,7 +63,7 @@ returns-in-None-clause-line c = λ x past line' stands'.
 
 pub returns-in-None-clause-phase : goal.returns-in-None-clause-phase
 returns-in-None-clause-phase c = λ x past phase' stands.
-    let seen : Lining = record { case = c.self.inside.case.now.parts; lines = c.self.inside.lines.items; trios = c.self.inside.trios.items } in
+    let seen : Lining = shown c.self.inside.case.now.parts c.self.inside.lines.cap c.self.inside.trios.cap c.self.inside.lines.items c.self.inside.trios.items in
     let same : seen ≡ c.args.self.now = c.self.view_is in
     let waves = let P = λ (s : Lining). HasWaves (slice_get s.case.branches c.args.branch) in subst P (sym same) c.requires in
     let kind = rw c.as_slice.ensures at c.phase_of.ensures in

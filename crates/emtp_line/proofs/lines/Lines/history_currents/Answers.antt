@@ -4,12 +4,13 @@ use Rattle.emtp_line.specs.Mode.{mode_of_line}
 use Rattle.emtp_line.specs.Phases.{modes_of, phase_from_history, phase_to_history}
 use Rattle.emtp_line.specs.Lines.{trio_of}
 use Rattle.emtp_line.specs.held.Lines.{Lining, IsLineAt, IsPhaseAt, HasWaves, StandsAt, TrioStandsAt}
+use Rattle.emtp_line.proofs.Holding.{shown}
 use Rattle.emtp_line.proofs.Finding.{found_line, found_phase, no_line_found, no_phase_found, waves_within, line_histories_held, phase_histories_held}
 use Rattle.emtp_line.proofs.lines.Lines.history_currents.Goals as goal
 
 pub history_currents-requires-clause-held : goal.history_currents-requires-clause-held
 history_currents-requires-clause-held c =
-    let seen : Lining = record { case = c.self.inside.case.now.parts; lines = c.self.inside.lines.items; trios = c.self.inside.trios.items } in
+    let seen : Lining = shown c.self.inside.case.now.parts c.self.inside.lines.cap c.self.inside.trios.cap c.self.inside.lines.items c.self.inside.trios.items in
     let same : seen ≡ c.args.self.now = c.self.view_is in
     let waves = let P = λ (s : Lining). HasWaves (slice_get s.case.branches c.args.branch) in subst P (sym same) c.requires in
     let kind = rw c.as_slice.ensures at c.phase_of.ensures in
@@ -18,14 +19,14 @@ history_currents-requires-clause-held c =
 
 pub index-requires-in-None : goal.index-requires-in-None
 index-requires-in-None c =
-    let seen : Lining = record { case = c.self.inside.case.now.parts; lines = c.self.inside.lines.items; trios = c.self.inside.trios.items } in
+    let seen : Lining = shown c.self.inside.case.now.parts c.self.inside.lines.cap c.self.inside.trios.cap c.self.inside.lines.items c.self.inside.trios.items in
     let same : seen ≡ c.args.self.now = c.self.view_is in
     let waves = let P = λ (s : Lining). HasWaves (slice_get s.case.branches c.args.branch) in subst P (sym same) c.requires in
     omega (arith, c.self.invariant.one_each, waves_within seen.case c.args.branch _ refl waves)
 
 pub history_currents-requires-in-None : goal.history_currents-requires-in-None
 history_currents-requires-in-None c =
-    let seen : Lining = record { case = c.self.inside.case.now.parts; lines = c.self.inside.lines.items; trios = c.self.inside.trios.items } in
+    let seen : Lining = shown c.self.inside.case.now.parts c.self.inside.lines.cap c.self.inside.trios.cap c.self.inside.lines.items c.self.inside.trios.items in
     let same : seen ≡ c.args.self.now = c.self.view_is in
     let waves = let P = λ (s : Lining). HasWaves (slice_get s.case.branches c.args.branch) in subst P (sym same) c.requires in
     let kind = rw c.as_slice.ensures at c.phase_of.ensures in
@@ -34,7 +35,7 @@ history_currents-requires-in-None c =
 
 pub returns-in-Some-clause-line : goal.returns-in-Some-clause-line
 returns-in-Some-clause-line c = λ x past line' stands.
-    let seen : Lining = record { case = c.self.inside.case.now.parts; lines = c.self.inside.lines.items; trios = c.self.inside.trios.items } in
+    let seen : Lining = shown c.self.inside.case.now.parts c.self.inside.lines.cap c.self.inside.trios.cap c.self.inside.lines.items c.self.inside.trios.items in
     let same : seen ≡ c.args.self.now = c.self.view_is in
     let waves = let P = λ (s : Lining). HasWaves (slice_get s.case.branches c.args.branch) in subst P (sym same) c.requires in
     let kind = rw c.as_slice.ensures at c.phase_of.ensures in
@@ -44,7 +45,7 @@ returns-in-Some-clause-line c = λ x past line' stands.
 
 pub returns-in-Some-clause-phase : goal.returns-in-Some-clause-phase
 returns-in-Some-clause-phase c = λ x past phase' stands'.
-    let seen : Lining = record { case = c.self.inside.case.now.parts; lines = c.self.inside.lines.items; trios = c.self.inside.trios.items } in
+    let seen : Lining = shown c.self.inside.case.now.parts c.self.inside.lines.cap c.self.inside.trios.cap c.self.inside.lines.items c.self.inside.trios.items in
     let same : seen ≡ c.args.self.now = c.self.view_is in
     let waves = let P = λ (s : Lining). HasWaves (slice_get s.case.branches c.args.branch) in subst P (sym same) c.requires in
     let kind = rw c.as_slice.ensures at c.phase_of.ensures in
@@ -56,7 +57,7 @@ returns-in-Some-clause-phase c = λ x past phase' stands'.
 
 pub returns-in-None-clause-line : goal.returns-in-None-clause-line
 returns-in-None-clause-line c = λ x past line' stands'.
-    let seen : Lining = record { case = c.self.inside.case.now.parts; lines = c.self.inside.lines.items; trios = c.self.inside.trios.items } in
+    let seen : Lining = shown c.self.inside.case.now.parts c.self.inside.lines.cap c.self.inside.trios.cap c.self.inside.lines.items c.self.inside.trios.items in
     let same : seen ≡ c.args.self.now = c.self.view_is in
     let waves = let P = λ (s : Lining). HasWaves (slice_get s.case.branches c.args.branch) in subst P (sym same) c.requires in
     let kind = rw c.as_slice.ensures at c.phase_of.ensures in
@@ -68,7 +69,7 @@ returns-in-None-clause-line c = λ x past line' stands'.
 
 pub returns-in-None-clause-phase : goal.returns-in-None-clause-phase
 returns-in-None-clause-phase c = λ x past phase' stands.
-    let seen : Lining = record { case = c.self.inside.case.now.parts; lines = c.self.inside.lines.items; trios = c.self.inside.trios.items } in
+    let seen : Lining = shown c.self.inside.case.now.parts c.self.inside.lines.cap c.self.inside.trios.cap c.self.inside.lines.items c.self.inside.trios.items in
     let same : seen ≡ c.args.self.now = c.self.view_is in
     let waves = let P = λ (s : Lining). HasWaves (slice_get s.case.branches c.args.branch) in subst P (sym same) c.requires in
     let kind = rw c.as_slice.ensures at c.phase_of.ensures in

@@ -5,12 +5,13 @@ use Rattle.emtp_line.specs.Lines.{trio_of}
 use Rattle.emtp_line.specs.held.Lines.{Lining}
 use Rattle.emtp_line.specs.Phases.{modes_of, mutual_conductance}
 use Rattle.emtp_line.specs.declared.held_trio.HeldTrio.{HeldTrio}
+use Rattle.emtp_line.proofs.Holding.{shown}
 use Rattle.emtp_line.proofs.Trios.{trio_within, trio_read, held_trio_read}
 use Rattle.emtp_line.proofs.lines.Lines.mutual.Goals as goal
 
 pub returns-clause-value : goal.returns-clause-value
 returns-clause-value c =
-    let seen : Lining = record { case = c.self.inside.case.now.parts; lines = c.self.inside.lines.items; trios = c.self.inside.trios.items } in
+    let seen : Lining = shown c.self.inside.case.now.parts c.self.inside.lines.cap c.self.inside.trios.cap c.self.inside.lines.items c.self.inside.trios.items in
     let same : seen ≡ c.args.self.now = c.self.view_is in
     let there = let P = λ (s : Lining). c.args.trio < length s.case.trios in subst P (sym same) c.requires in
     let within = trio_within seen.case seen.lines seen.trios c.args.trio c.self.invariant there in
