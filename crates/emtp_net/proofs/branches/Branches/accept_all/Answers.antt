@@ -1,4 +1,4 @@
-use Rattle.std.proofs.Common.{◌≡◌, ◌<◌, sym, length, to_z, of_z, rules, arith}
+use Rattle.std.proofs.Common.{◌≡◌, ◌<◌, sym, length, rules, arith}
 use mir.Syntax.{w64}
 use Rattle.std.proofs.lemmas.Int.{to_z-of_z}
 use Rattle.emtp_net.proofs.AllMoved.{all_in_range, all_moved, currents_more, first_out, none_moved, range_more}
