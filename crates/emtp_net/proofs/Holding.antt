@@ -1,6 +1,6 @@
 -- The fields of a network hold together after each stage of a step.
 use Rattle.emtp_case.specs.declared.limit.TheConstants.{MOST_NODES}
-use Rattle.std.proofs.Common.{◌≡◌, ◌∙◌, ◌+◌, ◌<◌, ◌≤◌, sym, ap, subst, refl, ℕ, ℤ, All, Bool, List, length, unsigned_abs, arith}
+use Rattle.std.proofs.Common.{◌≡◌, ◌∙◌, ◌+◌, ◌<◌, ◌≤◌, sym, ap, subst, refl, ℕ, ℤ, All, Bool, List, [], ◌∷◌, ◌++◌, length, unsigned_abs, arith}
 use Rattle.std.specs.Vec.{with_items}
 use Rattle.std.proofs.lemmas.List.{with_items_is}
 use Rattle.emtp_case.specs.declared.case.Parts.{Parts}
@@ -8,7 +8,7 @@ use Rattle.emtp_fix.specs.declared.limit.TheConstants.{LARGEST_VALUE}
 use Rattle.emtp_rows.specs.held.Touched.{NodalRows, Touches}
 use Rattle.emtp_switch.specs.held.Switching.{Switching}
 use Rattle.emtp_net.specs.held.Branches.{HasCase}
-use Rattle.emtp_net.specs.held.Holding.{AreFew, HasRoom, HoldsRows, HoldsSwitches, HoldsTogether, KeepsKinds}
+use Rattle.emtp_net.specs.held.Holding.{AreFew, HasRoom, HoldsRows, HoldsSwitches, HoldsTogether, KeepsKinds, capacities_of}
 use Rattle.emtp_net.specs.held.Network.{Net}
 use Rattle.emtp_net.specs.declared.branches.Branches.{Branches}
 use Rattle.emtp_net.specs.declared.factor.NodalMatrix.{NodalMatrix}
@@ -31,6 +31,7 @@ seen n = record {
   closed = n.closed.items;
   made = n.made;
   redone = n.matrix.redone;
+  capacities = capacities_of n.system ++ n.voltages.cap ∷ n.currents.cap ∷ n.switch_currents.cap ∷ n.closed.cap ∷ [];
 }
 
 -- the fields of the network hold together
@@ -40,6 +41,10 @@ pub record Holds (n : Inside) : Type 0 where
 -- the network in a step more, with what the first stages wrote
 abbrev pub stepping : Inside → Switching → NodalSystem → NodalMatrix → Inside
 stepping n switches system matrix = record n { switches = switches; system = system; matrix = matrix; made = n.made + 1 }
+
+-- all capacities stay with those of the nodal system
+pub capacities_kept : (n : Inside) (system : NodalSystem) → capacities_of system ≡ capacities_of n.system → (seen (record n { system = system })).capacities ≡ (seen n).capacities
+capacities_kept n system kept = ap (λ cs. cs ++ n.voltages.cap ∷ n.currents.cap ∷ n.switch_currents.cap ∷ n.closed.cap ∷ []) kept
 
 -- a step is left
 pub step_left : (s now : Net) → s ≡ now → now.made < now.case.run.steps → s.made < s.case.run.steps

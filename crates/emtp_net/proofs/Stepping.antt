@@ -111,6 +111,7 @@ ticked s now H result before after same free most made =
 abbrev pub Promises : Result (Unit {0}) NetFault → Net → Net → List ℤ → ℕ → ℕ → Type 0
 Promises result old new tacs before after = record {
   counts : HasCounted old new before after;
+  capacities : new.capacities ≡ old.capacities;
   step : MakesStep result old new tacs;
   ticks : TicksStep result old tacs before after;
   node : IfErr result (NamesNode old.case);
@@ -118,12 +119,13 @@ Promises result old new tacs before after = record {
 
 -- it ends by a fault of the factor, or of a later stage
 pub ends_by : (s now left : Net) (tacs : List ℤ) (kinds : List RowKind) (rows : NodalRows) (switches : switching.Switching) (made result : Result (Unit {0}) NetFault) (e : NetFault) (old new : NodalMatrix) (before after : ℕ) → s ≡ now → left.case ≡ s.case → left.made ≡ s.made + 1
-    → old.redone ≡ s.redone → left.redone ≡ new.redone → left.redone ≤ s.redone + MOST_NODES → after ≤ before + MOST_NODES → ((H : List StepRecord) → StandsWith now tacs H → HasBegun s H kinds rows switches) → ((H : List StepRecord) → IsReady s.case H s.branches rows s.kept s.made → IsFactored made s.case H old new before after)
+    → old.redone ≡ s.redone → left.redone ≡ new.redone → left.redone ≤ s.redone + MOST_NODES → after ≤ before + MOST_NODES → left.capacities ≡ s.capacities → ((H : List StepRecord) → StandsWith now tacs H → HasBegun s H kinds rows switches) → ((H : List StepRecord) → IsReady s.case H s.branches rows s.kept s.made → IsFactored made s.case H old new before after)
     → ((H : List StepRecord) → StandsWith now tacs H → HasBegun s H kinds rows switches → Ends s.case H (step_redone s.case H) e) → NamesNode s.case e → IsErrAnd result (λ y. y ≡ e) → Promises result now left tacs before after
-ends_by s now left tacs kinds rows switches made result e old new before after same case_is count was left_so few few_ticks begins factors ends names returned =
+ends_by s now left tacs kinds rows switches made result e old new before after same case_is count was left_so few few_ticks capacities begins factors ends names returned =
     let returned_so = err_from_is_err_and result returned in
     record {
       counts = counted s now left before after same case_is count few few_ticks;
+      capacities = capacities ∙ ap (λ (n : Net). n.capacities) same;
       step = λ H stands.
           let is = begins H stands in
           err_steps s now left H result e (step_redone s.case H) same is.stood case_is (omega (arith, was, left_so, (factors H is.ready).redone)) (returned_so.1 ∙ ap Err returned_so.2) (ends H stands is);

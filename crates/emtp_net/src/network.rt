@@ -46,7 +46,8 @@ pub struct Network<'a> {
 }
 
 impl<'a> Model for Network<'a> {
-    ghost use Rattle.emtp_net.specs.held.Holding.{HoldsTogether};
+    ghost use Rattle.std.specs.Prelude.{[], ◌∷◌, ◌++◌, vec_capacity};
+    ghost use Rattle.emtp_net.specs.held.Holding.{HoldsTogether, capacities_of};
     ghost use Rattle.emtp_net.specs.held.Network.{Net};
 
     ghost Value = { Net };
@@ -67,6 +68,8 @@ impl<'a> Model for Network<'a> {
       closed = s.closed.items;
       made = s.made;
       redone = s.matrix.redone;
+      capacities = capacities_of s.system ++ vec_capacity s.voltages ∷ vec_capacity s.currents
+          ∷ vec_capacity s.switch_currents ∷ vec_capacity s.closed ∷ [];
     } };
 
     ghost invariant = { λ s. HoldsTogether s.case.now.parts s.order s.branches s.switches s.system s.matrix
@@ -138,7 +141,9 @@ impl<'a> Network<'a> {
     }
 
     /// Makes the next step, with the values of the control of the record before. It answers the first fault, with the
-    /// node that it is named by; after a fault only `redone` is stated.
+    /// node that it is named by; after a fault only `redone` is stated. However it ends, the lists that it writes here keep
+    /// their capacities: kinds of rows, values of sources, right side, unknowns, voltages, currents, switch currents, and
+    /// which switches are closed. Of the lists of its parts (rows, factor, branches, switches) `capacities` doesn't speak.
     ///
     /// Where no conductance and no kind of a row changed since the step before, no row is redone, and none is filled or
     /// compared; of filling and comparing no clause speaks.
@@ -146,6 +151,7 @@ impl<'a> Network<'a> {
         requires made { self.old.made < self.old.case.run.steps }
         requires tacs { length tacs.now ≡ length self.old.case.vars }
         ensures counts { HasCounted self.old self.new steps.old steps.new }
+        ensures capacities { self.new.capacities ≡ self.old.capacities }
         ensures step { MakesStep result self.old self.new tacs.now }
         ensures ticks { TicksStep result self.old tacs.now steps.old steps.new }
         ensures node { IfErr result (NamesNode self.old.case) }

@@ -6,7 +6,7 @@ ghost use Rattle.emtp_elim.specs.Matrix.{item};
 ghost use Rattle.emtp_fix.specs.declared.limit.TheConstants.{LARGEST_VALUE};
 ghost use Rattle.emtp_net.specs.held.Branches.{HasCase};
 ghost use Rattle.emtp_net.specs.held.Fault.{NamesNode};
-ghost use Rattle.emtp_net.specs.held.Holding.{HasRoom, HoldsSwitches, KeepsKinds};
+ghost use Rattle.emtp_net.specs.held.Holding.{HasRoom, HoldsSwitches, KeepsKinds, capacities_of};
 ghost use Rattle.emtp_net.specs.held.Stages.{FindsCurrents, FindsLeaving, FindsVoltages, JudgesStep, SetsKinds, SetsSources};
 ghost use Rattle.emtp_rows.specs.held.Touched.{Touches};
 
@@ -96,6 +96,7 @@ impl NodalSystem {
         requires rows { rows.old.nodal.case ≡ case.now.parts }
         requires keeps { switches.now.changed ≡ false → KeepsKinds case.now.parts self.old rows.old switches.now }
         ensures room { HasRoom case.now.parts self.new }
+        ensures capacities { capacities_of self.new ≡ capacities_of self.old }
         ensures touched { Touches rows.old rows.new }
         ensures rest { rows.new.nodal ≡ record rows.old.nodal { kinds = rows.new.nodal.kinds } }
         ensures keeps { KeepsKinds case.now.parts self.new rows.new switches.now }
@@ -124,6 +125,7 @@ impl NodalSystem {
         requires step { step ≤ case.now.parts.run.steps }
         requires tacs { length tacs.now ≡ length case.now.parts.vars }
         ensures room { HasRoom case.now.parts self.new }
+        ensures capacities { capacities_of self.new ≡ capacities_of self.old }
         ensures kinds { self.new.kinds ≡ self.old.kinds }
         ensures decided { self.new.decided ≡ self.old.decided }
         ensures values { SetsSources case.now.parts step tacs.now self.new }
@@ -146,6 +148,7 @@ impl NodalSystem {
         requires voltages { length voltages.old ≡ length network.case.now.parts.nodes + 1 }
         requires small { All (λ v. unsigned_abs v ≤ LARGEST_VALUE) voltages.old }
         ensures room { HasRoom network.entry.case.now.parts self.new }
+        ensures capacities { capacities_of self.new ≡ capacities_of self.old }
         ensures kinds { self.new.kinds ≡ self.old.kinds }
         ensures decided { self.new.decided ≡ self.old.decided }
         ensures values { self.new.values ≡ self.old.values }
@@ -178,6 +181,7 @@ impl NodalSystem {
         requires same { HasCase network.branches.now network.case.now.parts }
         requires currents { length currents.now ≡ length network.case.now.parts.branches }
         ensures room { HasRoom network.entry.case.now.parts self.new }
+        ensures capacities { capacities_of self.new ≡ capacities_of self.old }
         ensures kinds { self.new.kinds ≡ self.old.kinds }
         ensures decided { self.new.decided ≡ self.old.decided }
         ensures leaving { FindsLeaving network.entry.case.now.parts network.entry.branches.now currents.now self.old self.new }
@@ -218,6 +222,7 @@ impl NodalSystem {
         requires order { order.now ≡ order_of case.now.parts }
         requires small { (j : ℕ) → j < length case.now.parts.nodes → unsigned_abs (item self.old.right.items j) ≤ 10 ^ 24 }
         ensures room { HasRoom case.now.parts self.new }
+        ensures capacities { capacities_of self.new ≡ capacities_of self.old }
         ensures kinds { self.new.kinds ≡ self.old.kinds }
         ensures decided { self.new.decided ≡ self.old.decided }
         ensures judges { JudgesStep result case.now.parts self.old }

@@ -1,6 +1,6 @@
 -- How the fields of a network hold together.
 use Rattle.emtp_case.specs.declared.limit.TheConstants.{MOST_NODES}
-use Rattle.std.specs.Prelude.{◌≡◌, ◌+◌, ◌-◌, ◌*◌, ◌==◌, ◌≤◌, if◌then◌else◌, ℕ, ℤ, All, Bool, true, false, List, [], length, map, slice_get, Some, None, unsigned_abs, IfErr, OnOk, Result, Err}
+use Rattle.std.specs.Prelude.{◌≡◌, ◌+◌, ◌-◌, ◌*◌, ◌==◌, ◌≤◌, ◌∷◌, if◌then◌else◌, ℕ, ℤ, All, Bool, true, false, List, [], length, map, slice_get, Some, None, unsigned_abs, vec_capacity, IfErr, OnOk, Result, Err}
 use Rattle.emtp_case.specs.RowOrder.{Rows, is_pseudo, order_of}
 use Rattle.emtp_case.specs.StepRecord.{StepRecord}
 use Rattle.emtp_case.specs.declared.branch.Branch.{Branch}
@@ -38,6 +38,11 @@ pub record HasRoom (case : Parts) (system : NodalSystem) : Type 0 where
   pub values : length system.values.items ≡ length case.sources
   pub right : length system.right.items ≡ length case.nodes
   pub x : length system.x.items ≡ length case.nodes
+
+-- the capacities of the lists that a step fills anew
+abbrev pub capacities_of : NodalSystem → List ℕ
+capacities_of system =
+    vec_capacity system.kinds ∷ vec_capacity system.values ∷ vec_capacity system.right ∷ vec_capacity system.x ∷ []
 
 -- the switches go by the case and its row order
 pub record HoldsSwitches (case : Parts) (switches : Switching) : Type 0 where

@@ -18,7 +18,7 @@ use Rattle.emtp_net.specs.declared.branches.Branches.{Branches}
 use Rattle.emtp_net.specs.declared.fault.NetFault.{NetFault}
 use Rattle.emtp_net.specs.declared.fault.NetFault.TheVariants.{Tied}
 
--- what a contract sees of a network
+-- what a contract sees of a network; the capacities are those of the lists of its own that a step writes
 pub record Net : Type 0 where
   pub case : Parts
   pub branches : Branches
@@ -31,6 +31,7 @@ pub record Net : Type 0 where
   pub closed : List Bool
   pub made : ℕ
   pub redone : ℕ
+  pub capacities : List ℕ
 
 -- the network stands for the records, newest first
 pub record StandsFor (s : Net) (H : List StepRecord) : Type 0 where

@@ -10,7 +10,7 @@ use Rattle.emtp_net.specs.held.Fault.{NamesNode}
 use Rattle.emtp_net.specs.held.Moving.{HaveMoved}
 use Rattle.emtp_net.specs.held.Network.{Net, StandsFor, StandsWith}
 use Rattle.emtp_net.specs.held.Stages.{AreVoltages, HasLeaving, IsPosed}
-use Rattle.emtp_net.proofs.Holding.{Holds, branches_moved, closed_written, factor_made, few_next, kinds_set, seen, step_left, stepping, switch_currents_found, switches_stay, system_moved, voltages_found}
+use Rattle.emtp_net.proofs.Holding.{Holds, branches_moved, capacities_kept, closed_written, factor_made, few_next, kinds_set, seen, step_left, stepping, switch_currents_found, switches_stay, system_moved, voltages_found}
 use Rattle.emtp_net.proofs.Stepping.{HasBegun, HasStepped, begun, counted, counted_still, ends_by, err_claims, err_names, err_steps, judge_steps, ok_claims, posed_is, states_here, ticked}
 use Rattle.emtp_net.proofs.Switching.{keeps_still}
 use Rattle.emtp_net.proofs.network.Network.step.Given.{Over}
@@ -104,6 +104,7 @@ returns-in_err-set_kinds g c =
     let returned_so = err_from_is_err_and e returned in
     record {
       counts = counted_still _ _ _ _ c.self.view_is refl refl refl;
+      capacities = capacities_kept c.self.inside c.set_kinds.new.self c.set_kinds.ensures.capacities ∙ ap (λ (s : Net). s.capacities) c.self.view_is;
       step = λ H stands.
           let stood = subst (λ (s : Net). StandsFor s H) (sym c.self.view_is) stands.network in
           let states = states_here _ _ H c.deref.result.now c.deref-2.result.now c.args.tacs.now c.decide.new.self c.decide.ensures.stands c.self.invariant.switches_hold.case_is c.self.view_is stands c.deref.ensures.value c.deref-2.ensures.value in
@@ -115,25 +116,25 @@ returns-in_err-set_kinds g c =
 pub returns-in_err-factor : goal.returns-in_err-factor
 returns-in_err-factor g c =
     let at = goal.at.returns-in_err-factor g c in
-    ends_by _ _ _ _ _ _ _ _ _ _ _ _ _ _ c.self.view_is refl refl refl refl c.factor.ensures.few c.factor.ensures.few_ticks (begins g at.In_ok-set_kinds) c.factor.ensures.factors
+    ends_by _ _ _ _ _ _ _ _ _ _ _ _ _ _ c.self.view_is refl refl refl refl c.factor.ensures.few c.factor.ensures.few_ticks (capacities_kept c.self.inside c.set_kinds.new.self (c.set_kinds.ensures.capacities)) (begins g at.In_ok-set_kinds) c.factor.ensures.factors
     (λ H stands is. (c.in_err-factor.ensures.factors H is.ready).ends) c.in_err-factor.ensures.node c.from_residual-in_err-factor.ensures.1
 
 pub returns-in_err-solve : goal.returns-in_err-solve
 returns-in_err-solve g c =
     let at = goal.at.returns-in_err-solve g c in
-    ends_by _ _ _ _ _ _ _ _ _ _ _ _ _ _ c.self.view_is refl refl refl refl c.factor.ensures.few c.factor.ensures.few_ticks (begins g at.In_ok-set_kinds) c.factor.ensures.factors
+    ends_by _ _ _ _ _ _ _ _ _ _ _ _ _ _ c.self.view_is refl refl refl refl c.factor.ensures.few c.factor.ensures.few_ticks (capacities_kept c.self.inside c.solve.new.self (c.solve.ensures.capacities ∙ c.set_sources.ensures.capacities ∙ c.set_kinds.ensures.capacities)) (begins g at.In_ok-set_kinds) c.factor.ensures.factors
     (λ H stands is. c.in_err-solve.ensures.finds H (poses g at.After-set_sources H stands is)) c.in_err-solve.ensures.node c.from_residual-in_err-solve.ensures.1
 
 pub returns-in_err-accept : goal.returns-in_err-accept
 returns-in_err-accept g c =
     let at = goal.at.returns-in_err-accept g c in
-    ends_by _ _ _ _ _ _ _ _ _ _ _ _ _ _ c.self.view_is refl refl refl refl c.factor.ensures.few c.factor.ensures.few_ticks (begins g at.In_ok-set_kinds) c.factor.ensures.factors
+    ends_by _ _ _ _ _ _ _ _ _ _ _ _ _ _ c.self.view_is refl refl refl refl c.factor.ensures.few c.factor.ensures.few_ticks (capacities_kept c.self.inside c.solve.new.self (c.solve.ensures.capacities ∙ c.set_sources.ensures.capacities ∙ c.set_kinds.ensures.capacities)) (begins g at.In_ok-set_kinds) c.factor.ensures.factors
     (λ H stands is. c.in_err-accept.ensures.moves H is.stood.branches (finds g at.After-accept H (poses g at.After-set_sources H stands is))) c.in_err-accept.ensures.node c.from_residual-in_err-accept.ensures.1
 
 pub returns-in_err-find_currents : goal.returns-in_err-find_currents
 returns-in_err-find_currents g c =
     let at = goal.at.returns-in_err-find_currents g c in
-    ends_by _ _ _ _ _ _ _ _ _ _ _ _ _ _ c.self.view_is refl refl refl refl c.factor.ensures.few c.factor.ensures.few_ticks (begins g at.In_ok-set_kinds) c.factor.ensures.factors
+    ends_by _ _ _ _ _ _ _ _ _ _ _ _ _ _ c.self.view_is refl refl refl refl c.factor.ensures.few c.factor.ensures.few_ticks (capacities_kept c.self.inside c.find_leaving.new.self (c.find_leaving.ensures.capacities ∙ c.solve.ensures.capacities ∙ c.set_sources.ensures.capacities ∙ c.set_kinds.ensures.capacities)) (begins g at.In_ok-set_kinds) c.factor.ensures.factors
     (λ H stands is. c.in_err-find_currents.ensures.currents H c.deref-3.result.now (let posed = poses g at.After-set_sources H stands is in leaves g at.After-find_leaving H (finds g at.After-accept H posed) posed) is.states) c.in_err-find_currents.ensures.node c.from_residual-in_err-find_currents.ensures.1
 
 pub returns : goal.returns
@@ -142,6 +143,7 @@ returns g c =
     let case = c.self.inside.case.now.parts in
     record {
       counts = counted _ _ _ _ _ c.self.view_is refl refl c.factor.ensures.few c.factor.ensures.few_ticks;
+      capacities = capacities_kept c.self.inside c.judge.new.self (c.judge.ensures.capacities ∙ c.find_leaving.ensures.capacities ∙ c.solve.ensures.capacities ∙ c.set_sources.ensures.capacities ∙ c.set_kinds.ensures.capacities) ∙ ap (λ (s : Net). s.capacities) c.self.view_is;
       step = λ H stands.
           let is = begins g at.In_ok-set_kinds H stands in
           let posed = poses g at.After-set_sources H stands is in

@@ -30,6 +30,7 @@ pub returns : goal.returns
 returns c =
     record {
       room = room c.args.network.case.now.parts c.args.self.now c.fill_leaving.new.out c.requires.room (c.fill_leaving.auto.out ∙ ap length c.deref_mut.ensures.value) (with_items_is c.args.self.now.right c.fill_leaving.new.out (c.fill_leaving.auto.out ∙ c.deref_mut.ensures.len));
+      capacities = refl;
       kinds = refl;
       decided = refl;
       leaving = λ H vs moved values.

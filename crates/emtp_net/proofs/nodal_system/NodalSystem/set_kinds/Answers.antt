@@ -29,6 +29,7 @@ returns-then-has_kinds c =
     let has = keeps both.0 in
     record {
       room = c.requires.room;
+      capacities = refl;
       touched = record { earlier = omega arith; before = refl };
       rest = refl;
       keeps = keeps;
