@@ -188,30 +188,12 @@ impl<'a> Branches<'a> {
         ensures value { IsBroughtAt result self.now case.now.parts currents.now at }
     {
         match case.parts.branches.as_slice()[at] {
-            Branch::Lumped(_) => through_narrow(currents[at]),
-            Branch::Line(_) => taken_narrow(self.lines.end_currents(at)),
-            Branch::Pseudo(_) => through_narrow(currents[at]),
-            Branch::Phase(_) => taken_narrow(self.lines.end_currents(at)),
+            Branch::Lumped(_) => through(currents[at] as i128),
+            Branch::Line(_) => taken(wide(self.lines.end_currents(at))),
+            Branch::Pseudo(_) => through(currents[at] as i128),
+            Branch::Phase(_) => taken(wide(self.lines.end_currents(at))),
         }
     }
-}
-
-/// What a kept current through a branch brings to its first and its second node.
-fn through_narrow(current: i64) -> (i128, i128)
-    ensures value { result ≡ through current }
-    ensures first { unsigned_abs result.0 ≤ 10 ^ 19 }
-    ensures second { unsigned_abs result.1 ≤ 10 ^ 19 }
-{
-    (-(current as i128), current as i128)
-}
-
-/// What kept currents into both ends of a branch bring to its nodes.
-fn taken_narrow(currents: (i64, i64)) -> (i128, i128)
-    ensures value { result ≡ taken currents }
-    ensures first { unsigned_abs result.0 ≤ 10 ^ 19 }
-    ensures second { unsigned_abs result.1 ≤ 10 ^ 19 }
-{
-    (-(currents.0 as i128), -(currents.1 as i128))
 }
 
 /// The voltages of the three phases of a line at an end.
@@ -227,12 +209,21 @@ fn phase_voltages(case: &Case, second: bool, trio: u32, voltages: &[i64]) -> [i6
     ]
 }
 
+/// The same currents, as sums of currents are kept.
+fn wide(currents: (i64, i64)) -> (i128, i128)
+    ensures value { result ≡ currents }
+    ensures first { unsigned_abs result.0 ≤ 10 ^ 19 }
+    ensures second { unsigned_abs result.1 ≤ 10 ^ 19 }
+{
+    (currents.0 as i128, currents.1 as i128)
+}
+
 /// What a current through a branch brings to its first and its second node.
 fn through(current: i128) -> (i128, i128)
     requires { unsigned_abs current ≤ 10 ^ 30 }
     ensures value { result ≡ through current }
-    ensures first { unsigned_abs result.0 ≤ 10 ^ 30 }
-    ensures second { unsigned_abs result.1 ≤ 10 ^ 30 }
+    ensures first { unsigned_abs result.0 ≡ unsigned_abs current }
+    ensures second { unsigned_abs result.1 ≡ unsigned_abs current }
 {
     (-current, current)
 }
@@ -242,8 +233,8 @@ fn taken(currents: (i128, i128)) -> (i128, i128)
     requires first { unsigned_abs currents.0 ≤ 10 ^ 30 }
     requires second { unsigned_abs currents.1 ≤ 10 ^ 30 }
     ensures value { result ≡ taken currents }
-    ensures first { unsigned_abs result.0 ≤ 10 ^ 30 }
-    ensures second { unsigned_abs result.1 ≤ 10 ^ 30 }
+    ensures first { unsigned_abs result.0 ≡ unsigned_abs currents.0 }
+    ensures second { unsigned_abs result.1 ≡ unsigned_abs currents.1 }
 {
     (-currents.0, -currents.1)
 }

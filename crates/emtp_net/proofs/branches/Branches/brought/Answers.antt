@@ -1,5 +1,5 @@
-use Rattle.std.proofs.Common.{◌≡◌, ◌∙◌, ◌<◌, ◌+◌, ◌∷◌, sym, ap, length, slice_get, Some, rules, arith}
-use mir.Syntax.{w64}
+use Rattle.std.proofs.Common.{◌≡◌, ◌∙◌, ◌<◌, ◌+◌, ◌∷◌, sym, ap, to_z, of_z, length, slice_get, Some, rules, arith}
+use mir.Syntax.{w64, w128}
 use Rattle.std.proofs.lemmas.Int.{to_z-of_z}
 use Rattle.emtp_case.specs.Branch.{first_of_trio}
 use Rattle.emtp_case.specs.StepRecord.{phase_state_at}
@@ -25,8 +25,9 @@ returns-in-Lumped-clause-value c = λ H vs r next moved.
     let at = c.args.at in
     let x = c.in-Lumped.field-0 in
     let is : slice_get case.branches at ≡ Some (OfLumped x) = branch_read case _ at _ (OfLumped x) c.as_slice.ensures c.requires.there c.in-Lumped.is in
-    let same = to_z-of_z w64 (item c.args.currents.now at) (search rules) in
-    c.through_narrow.ensures.value ∙ ap through same ∙ lumped_brings case H vs c.args.currents.now r c.args.self.now at x c.requires.there is next moved
+    let i = item c.args.currents.now at in
+    let same = to_z-of_z w128 (to_z w64 (of_z w64 i)) (search rules) ∙ to_z-of_z w64 i (search rules) in
+    c.through.ensures.value ∙ ap through same ∙ lumped_brings case H vs c.args.currents.now r c.args.self.now at x c.requires.there is next moved
 
 pub returns-in-Pseudo-clause-value : goal.returns-in-Pseudo-clause-value
 returns-in-Pseudo-clause-value c = λ H vs r next moved.
@@ -34,8 +35,9 @@ returns-in-Pseudo-clause-value c = λ H vs r next moved.
     let at = c.args.at in
     let x = c.in-Pseudo.field-0 in
     let is : slice_get case.branches at ≡ Some (OfPseudo x) = branch_read case _ at _ (OfPseudo x) c.as_slice.ensures c.requires.there c.in-Pseudo.is in
-    let same = to_z-of_z w64 (item c.args.currents.now at) (search rules) in
-    c.through_narrow-in-Pseudo.ensures.value ∙ ap through same ∙ pseudo_brings case H vs c.args.currents.now r c.args.self.now at x c.requires.there is next moved
+    let i = item c.args.currents.now at in
+    let same = to_z-of_z w128 (to_z w64 (of_z w64 i)) (search rules) ∙ to_z-of_z w64 i (search rules) in
+    c.through-in-Pseudo.ensures.value ∙ ap through same ∙ pseudo_brings case H vs c.args.currents.now r c.args.self.now at x c.requires.there is next moved
 
 pub returns-in-Line-clause-value : goal.returns-in-Line-clause-value
 returns-in-Line-clause-value c = λ H vs r next moved.
@@ -46,7 +48,7 @@ returns-in-Line-clause-value c = λ H vs r next moved.
     let held = branch_in c.args.self.now.lines.case case at (OfLine x) c.requires.same.lines is in
     let stands = moved.stands r next in
     let value = c.end_currents.ensures.line x (lined.states_of at (r ∷ H)) held (stands.lines.lines at x held) in
-    c.taken_narrow.ensures.value ∙ ap taken value ∙ line_brings case H vs c.args.currents.now r c.args.self.now at x (next_line (mode_of_line case.run.dt x) (lined.states_of at H) (item vs x.from) (item vs x.to)) c.requires.there (ap (state_by case H vs at) is) next moved
+    c.taken.ensures.value ∙ ap taken (c.wide.ensures.value ∙ value) ∙ line_brings case H vs c.args.currents.now r c.args.self.now at x (next_line (mode_of_line case.run.dt x) (lined.states_of at H) (item vs x.from) (item vs x.to)) c.requires.there (ap (state_by case H vs at) is) next moved
 
 pub returns-in-Phase-clause-value : goal.returns-in-Phase-clause-value
 returns-in-Phase-clause-value c = λ H vs r next moved.
@@ -62,7 +64,7 @@ returns-in-Phase-clause-value c = λ H vs r next moved.
     let place : at ≡ first_of_trio case.trios x.trio + x.phase = network.in_threes.places at x.trio x.phase (phase_read case at (OfPhase x) c.requires.there is) in
     let value = c.end_currents-in-Phase.ensures.phase x (lined.phase_states_of c.args.self.now.lines.case x.trio (r ∷ H)) held (stands.lines.trios x.trio there) in
     let newest : phase_state_at (first_of_trio c.args.self.now.lines.case.trios x.trio + x.phase) r ≡ phase_state_at at r = ap (λ (p : Parts). phase_state_at (first_of_trio p.trios x.trio + x.phase) r) c.requires.same.lines ∙ ap (λ n. phase_state_at n r) (sym place) in
-    c.taken_narrow-in-Phase.ensures.value ∙ ap taken value ∙ ap (λ (z : PhaseState). taken (z.from_current, z.to_current)) newest
+    c.taken-in-Phase.ensures.value ∙ ap taken (c.wide-in-Phase.ensures.value ∙ value) ∙ ap (λ (z : PhaseState). taken (z.from_current, z.to_current)) newest
     ∙ phase_brings case H vs c.args.currents.now r c.args.self.now at (phase_next case H vs x.trio x.phase) c.requires.there (ap (state_by case H vs at) is) next moved
 
 pub end_currents-requires : goal.end_currents-requires

@@ -65,30 +65,6 @@ returns-in-Phase-clause-value c = λ H stands.
     ∙ ap (λ (p : Parts). (phase_from_history (modes_of p.run.dt (lined.trio_of p x.trio)) (lined.phase_states_of p x.trio H 0) (lined.phase_states_of p x.trio H x.phase), phase_to_history (modes_of p.run.dt (lined.trio_of p x.trio)) (lined.phase_states_of p x.trio H 0) (lined.phase_states_of p x.trio H x.phase))) c.requires.same.lines in
     c.taken-in-Phase.ensures.value ∙ ap taken value ∙ sym (ap (history_by case H at) is)
 
-pub returns-in-Lumped-clause-first : goal.returns-in-Lumped-clause-first
-returns-in-Lumped-clause-first c = c.through.ensures.first
-
-pub returns-in-Lumped-clause-second : goal.returns-in-Lumped-clause-second
-returns-in-Lumped-clause-second c = c.through.ensures.second
-
-pub returns-in-Line-clause-first : goal.returns-in-Line-clause-first
-returns-in-Line-clause-first c = c.taken.ensures.first
-
-pub returns-in-Line-clause-second : goal.returns-in-Line-clause-second
-returns-in-Line-clause-second c = c.taken.ensures.second
-
-pub returns-in-Pseudo-clause-first : goal.returns-in-Pseudo-clause-first
-returns-in-Pseudo-clause-first c = c.through-in-Pseudo.ensures.first
-
-pub returns-in-Pseudo-clause-second : goal.returns-in-Pseudo-clause-second
-returns-in-Pseudo-clause-second c = c.through-in-Pseudo.ensures.second
-
-pub returns-in-Phase-clause-first : goal.returns-in-Phase-clause-first
-returns-in-Phase-clause-first c = c.taken-in-Phase.ensures.first
-
-pub returns-in-Phase-clause-second : goal.returns-in-Phase-clause-second
-returns-in-Phase-clause-second c = c.taken-in-Phase.ensures.second
-
 pub through-requires : goal.through-requires
 through-requires c = omega (arith, ints, c.history_current.ensures.bound)
 
