@@ -1,4 +1,4 @@
-use Rattle.std.proofs.Common.{rules, ◌≡◌, ◌∙◌, ap, sym, ◌+◌, ◌*◌, ◌<◌, ◌≤◌, ◌++◌, [], ◌∷◌, length, length-append, length-take, get_or, take, List, ℤ, pos, to_z, of_z, FitsSigned, arith, append_assoc, if◌then◌else◌, Bool, ℕ}
+use Rattle.std.proofs.Common.{rules, ◌≡◌, ◌∙◌, ap, sym, ◌+◌, ◌<◌, ◌++◌, [], ◌∷◌, length, length-append, length-take, get_or, take, ℤ, pos, to_z, of_z, FitsSigned, arith, append_assoc, if◌then◌else◌, Bool, ℕ}
 use mir.Syntax.{w64}
 use Rattle.std.proofs.lemmas.Int.{to_z-of_z}
 use Rattle.std.proofs.lemmas.List.{take_more}
