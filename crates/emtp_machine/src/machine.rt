@@ -96,8 +96,8 @@ impl<'c> Machine<'c> {
     }
 
     /// Makes one step more, and takes its sample where it is due; or answers the end of the run, which stays. It takes
-    /// no memory: the room for a sample, the samples and the control's lists keep their capacities; of the network's and
-    /// of a factor's no clause says so.
+    /// no memory: the room for a sample, the samples, the control's lists and the network's own keep their capacities; of
+    /// both factors, and of the network's rows, branches and switches, no clause says so.
     ///
     /// # Errors
     ///

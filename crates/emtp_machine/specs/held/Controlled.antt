@@ -1,5 +1,5 @@
 -- What a network with its control stands for, and how a step moves it. No clause of the program reaches it.
-use Rattle.std.specs.Prelude.{◌≡◌, ◌+◌, ◌<◌, ◌∷◌, ℕ, List, Result, Ok, Err}
+use Rattle.std.specs.Prelude.{◌≡◌, ◌+◌, ◌<◌, ◌∷◌, ◌++◌, ℕ, List, Result, Ok, Err}
 use Rattle.emtp_case.specs.StepRecord.{StepRecord}
 use Rattle.emtp_case.specs.declared.case.Parts.{Parts}
 use Rattle.emtp_machine.specs.History.{end_at, redone_by, rows_redone}
@@ -24,9 +24,9 @@ pub record StandsFor (s : ControlledNetwork) (H : List StepRecord) : Type 0 wher
   pub network : NetworkStandsFor s.network H
   pub control : ControlStandsFor s.control H
 
--- the capacities of the lists that a step of the control writes
+-- the capacities of the lists that a step of each of them writes
 abbrev pub capacities_of : ControlledNetwork → List ℕ
-capacities_of s = s.control.capacities
+capacities_of s = s.network.capacities ++ s.control.capacities
 
 -- the rows redone in both
 abbrev pub redone_of : ControlledNetwork → ℕ

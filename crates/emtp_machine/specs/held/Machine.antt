@@ -40,7 +40,7 @@ abbrev pub tried_of : ℕ → Option End → ℕ
 tried_of made None = made
 tried_of made (Some end) = made + 1
 
--- the capacities of the room for a sample, of the samples, and of what the control's step writes
+-- the capacities of the room for a sample, of the samples, and of what network and control write in a step
 abbrev pub capacities_of_machine : ControlledNetwork → ℕ → Sampled → List ℕ
 capacities_of_machine network row s = row ∷ s.capacity ∷ capacities_of network
 

@@ -1,4 +1,4 @@
-use Rattle.std.proofs.Common.{◌≡◌, ◌∙◌, ap, sym, subst, refl, length, ℕ, ◌+◌, ◌≤◌, Ok, Err, arith}
+use Rattle.std.proofs.Common.{◌≡◌, ◌∙◌, ap, sym, subst, refl, length, ℕ, ◌+◌, ◌++◌, ◌≤◌, List, Ok, Err, arith}
 use Rattle.emtp_case.specs.declared.case.Parts.{Parts}
 use Rattle.emtp_machine.proofs.Joining.{ended_ticks, refused, refused_ticks, shown_by, steps_ended, steps_made}
 use Rattle.emtp_net.specs.held.Network.{StandsWith as NetworkStandsWith, StepsTo as NetworkStepsTo}
@@ -9,6 +9,9 @@ use Rattle.emtp_tacs.specs.held.Redone.{control_step_ticks}
 use Rattle.emtp_tacs.specs.Step.{Measured, control_step}
 use Rattle.emtp_tacs.specs.held.Tacs.{StepsTo as ControlStepsTo}
 use Rattle.emtp_machine.proofs.controlled.ControlledNetwork.step.Goals as goal
+
+both_stay : {ns ns' cs cs' : List ℕ} → ns' ≡ ns → cs' ≡ cs → ns' ++ cs' ≡ ns ++ cs
+both_stay {ns' = ns'} {cs = cs} network control = ap (λ (xs : List ℕ). ns' ++ xs) control ∙ ap (λ (xs : List ℕ). xs ++ cs) network
 
 pub returns-in-Err-clause-step : goal.returns-in-Err-clause-step
 returns-in-Err-clause-step g c = λ H stands.
@@ -61,6 +64,15 @@ returns-in-Err-step-clause-most g c = λ H stands.
     let first = subst (λ (p : Parts). c.step.new.steps ≡ c.args.steps.now + step_ticks p H) c.requires.case.network (c.in_default.ensures.ticks H both).made in
     let second = subst (λ (p : Parts). c.step-2.new.steps ≤ c.step.new.steps + control_step_ticks p H) c.requires.case.control (c.step-2.ensures.ticks H stands.control).most in
     ended_ticks c.args.case.now.parts H c.in-Err-step.fault c.control_end.result c.args.step c.args.steps.now c.step.new.steps c.step-2.new.steps first second c.control_end.ensures.value
+
+pub returns-in-Err-clause-capacities : goal.returns-in-Err-clause-capacities
+returns-in-Err-clause-capacities g c = ap (λ (ns : List ℕ). ns ++ c.args.self.now.control.capacities) c.step.ensures.capacities
+
+pub returns-in-Ok-clause-capacities : goal.returns-in-Ok-clause-capacities
+returns-in-Ok-clause-capacities g c = both_stay c.step.ensures.capacities c.step-2.ensures.capacities
+
+pub returns-in-Err-step-clause-capacities : goal.returns-in-Err-step-clause-capacities
+returns-in-Err-step-clause-capacities g c = both_stay c.step.ensures.capacities c.step-2.ensures.capacities
 
 pub returns-in-Ok-clause-case : goal.returns-in-Ok-clause-case
 returns-in-Ok-clause-case g c = record { network = c.step.ensures.counts.case ∙ c.requires.case.network; control = c.step-2.ensures.counts.case ∙ c.requires.case.control }
