@@ -26,7 +26,7 @@ pub nothing_made : {A E : Type 0} (P : A → Type 0) (Q : E → Type 0) (result 
 nothing_made P Q (Ok x) is = absurd is
 nothing_made P Q (Err e) is = tt
 
-pub rows_rest : (case : Parts) (H : List StepRecord) (rows : NodalRows) (kept : Good) → rows.nodal ≡ record (nodal_at_rest case) { own = conductances case H; coupling = couplings case } → kept ≡ record { size = length (nodal_matrix rows.nodal); rows = []; done = [] } → HoldsRows case rows kept
+pub rows_rest : (case : Parts) (H : List StepRecord) (rows : NodalRows) (kept : Good) → rows.nodal ≡ record (nodal_at_rest case) { own = conductances case H; coupling = couplings case } → kept ≡ record { size = length (nodal_matrix rows.nodal); rows = []; done = []; capacities = kept.capacities } → HoldsRows case rows kept
 rows_rest case H rows kept are is = record {
   case_is = ap (λ (n : Nodal). n.case) are;
   own_room = ap (λ (n : Nodal). length n.own) are ∙ length-map-range_with_len (λ b. conductance_by case H b (slice_get case.branches b)) 0 (length case.branches);
