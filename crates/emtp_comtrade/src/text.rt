@@ -19,6 +19,26 @@ pub const CHANNEL_ROOM: usize = 200;
 /// The most bytes of a number.
 pub const NUMBER_ROOM: usize = 40;
 
+/// Puts a piece after a text, which has room for it.
+pub fn push<const ROOM: usize>(text: &mut ArrayVec<u8, ROOM>, piece: &[u8])
+    requires { length text.old.items + length piece.now ≤ ROOM }
+    ensures text { text.new.items ≡ text.old.items ++ piece.now }
+    ensures length { length text.new.items ≡ length text.old.items + length piece.now }
+{
+    // There is room, so that this can't fail.
+    let _ = text.try_extend_from_slice(piece);
+}
+
+/// Puts a whole number after a text.
+pub fn push_number<I: Integer, const ROOM: usize>(text: &mut ArrayVec<u8, ROOM>, number: I)
+    requires { length text.old.items + NUMBER_ROOM ≤ ROOM }
+    ensures text { text.new.items ≡ text.old.items ++ I.text number }
+    ensures length { length text.new.items ≤ length text.old.items + NUMBER_ROOM }
+{
+    let mut buffer = Buffer::new();
+    push(text, buffer.format(number).as_bytes());
+}
+
 /// The front of a text that waits to be written. It takes no memory.
 #[derive(Drop)]
 pub struct Text {
@@ -70,8 +90,7 @@ impl Text {
         ensures text { self.new ≡ self.old ++ bytes.now }
         ensures length { length self.new ≡ length self.old + length bytes.now }
     {
-        // There is room, so that this can't fail.
-        let _ = self.bytes.try_extend_from_slice(bytes);
+        push(&mut self.bytes, bytes);
     }
 
     /// Puts a whole number after the text.
@@ -80,8 +99,7 @@ impl Text {
         ensures text { self.new ≡ self.old ++ I.text number }
         ensures length { length self.new ≤ length self.old + NUMBER_ROOM }
     {
-        let mut buffer = Buffer::new();
-        self.push(buffer.format(number).as_bytes());
+        push_number(&mut self.bytes, number);
     }
 
     /// Puts a decimal after the text: a whole number of units of 10^-places.
