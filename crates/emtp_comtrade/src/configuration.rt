@@ -1,5 +1,5 @@
 //! The configuration of a record.
-ghost use Rattle.std.specs.Prelude.{◌≡◌, ◌+◌, ◌<◌, ◌≤◌, ◌++◌, pos, ◌*ℤ◌, length, OnOk};
+ghost use Rattle.std.specs.Prelude.{◌≡◌, ◌+◌, ◌<◌, ◌≤◌, ◌++◌, pos, ℤ, ◌*ℤ◌, List, length, OnOk};
 ghost use Rattle.emtp_case.specs.ChannelName.{name_of_channel};
 ghost use Rattle.emtp_io.specs.held.Whole.{Appends};
 ghost use Rattle.emtp_comtrade.specs.Record.{joined, unit_of, unit_at, analog_before, status_before, analog_line, analog_line_at, status_line, status_line_at, cfg_head, cfg_tail, cfg_text};
@@ -94,7 +94,7 @@ fn write_analog_lines<C: Cabinet>(
 {
     let mut analog = 0;
     for place in 0..case.parts.channels.len() {
-        analog = push_analog(text, case, samples, multipliers, place, analog);
+        analog = push_analog(text, case, multipliers, place, analog);
         make_room(cabinet, Output::Cfg, text)?;
     }
     Ok(())
@@ -105,18 +105,19 @@ fn write_analog_lines<C: Cabinet>(
 fn push_analog(
     text: &mut Text,
     case: &Case,
-    samples: &Samples,
     multipliers: &[i64; 64],
     place: usize,
     analog: usize,
 ) -> usize
-    requires multipliers { AreMultipliers case.now.parts samples.now.rows multipliers.now }
     requires place { place < length case.now.parts.channels }
     requires analog { analog ≡ analog_before case.now.parts place }
     requires room { length text.old + CHANNEL_ROOM ≤ TEXT_ROOM }
-    ensures text { text.new ≡ text.old ++ analog_line_at case.now.parts samples.now.rows place }
     ensures length { length text.new ≤ length text.old + CHANNEL_ROOM }
     ensures analog { result ≡ analog_before case.now.parts (place + 1) }
+
+    // Whatever the samples are that these are the multipliers of.
+    ensures text { (samples : List (List ℤ)) → AreMultipliers case.now.parts samples multipliers.now
+        → text.new ≡ text.old ++ analog_line_at case.now.parts samples place }
 {
     if is_status_at(case, place) {
         return analog;

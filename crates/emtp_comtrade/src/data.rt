@@ -3,7 +3,7 @@ ghost use Rattle.std.specs.Prelude.{true, ◌≡◌, ◌≢◌, ℕ, ◌+◌, �
 ghost use Rattle.emtp_fix.specs.Rounding.{near, near_abs};
 ghost use Rattle.emtp_io.specs.held.Whole.{Appends};
 ghost use Rattle.emtp_comtrade.specs.Record.{joined, is_status_at, analog_before, raw_at, state_at, dat_line, dat_text};
-ghost use Rattle.emtp_comtrade.specs.held.Record.{AreMultipliers};
+ghost use Rattle.emtp_comtrade.specs.held.Record.{AreMultipliers, IsSheet};
 ghost use Rattle.emtp_comtrade.specs.held.Stream.{Gathers};
 
 use crate::multipliers::{is_status_at, multiplier_at};
@@ -22,6 +22,19 @@ const RAW_ROOM: usize = NUMBER_ROOM + 1;
 
 /// The bytes of a comma and a state.
 const STATE_ROOM: usize = 2;
+
+/// What the data is made of.
+#[derive(Clone, Copy)]
+pub(crate) struct Sheet<'a> {
+    /// The case.
+    case: &'a Case,
+    /// Its samples.
+    samples: &'a Samples,
+    /// The multipliers of its analog channels, and 1 after them.
+    multipliers: &'a [i64; 64],
+    /// The words of the multipliers, each of which divides once a sample.
+    words: &'a [u64; 64],
+}
 
 /// The raw value of an analog channel: the nearest whole number of multipliers, a half away from zero. It lies at
 /// most half a multiplier from the value, and within -32767 to 32767 for a multiplier of [`scales`](crate::scales).
@@ -89,7 +102,7 @@ fn is_quotient(x: u64, multiplier: u64, guess: u64) -> bool
     product <= u128::from(x) && u128::from(x) - product < u128::from(multiplier)
 }
 
-/// The words of the multipliers, each of which divides once a sample: (2^64 - 1) / multiplier.
+/// The words of the multipliers: (2^64 - 1) / multiplier.
 fn words_of(multipliers: &[i64; 64]) -> [u64; 64] {
     let mut words = [0; 64];
     for channel in 0..64 {
@@ -113,7 +126,13 @@ pub fn write_dat<C: Cabinet>(
 {
     let words = words_of(multipliers);
     let mut text = Text::new();
-    write_samples(cabinet, &mut text, case, samples, multipliers, &words)?;
+    let sheet = Sheet {
+        case,
+        samples,
+        multipliers,
+        words: &words,
+    };
+    write_samples(cabinet, &mut text, &sheet)?;
     text.push(b"\x1a");
     flush(cabinet, Output::Dat, &mut text)
 }
@@ -122,20 +141,17 @@ pub fn write_dat<C: Cabinet>(
 fn write_samples<C: Cabinet>(
     cabinet: &mut C,
     text: &mut Text,
-    case: &Case,
-    samples: &Samples,
-    multipliers: &[i64; 64],
-    words: &[u64; 64],
+    sheet: &Sheet<'_>,
 ) -> Result<(), Failed>
-    requires channels { samples.now.channels ≡ length case.now.parts.channels }
-    requires multipliers { AreMultipliers case.now.parts samples.now.rows multipliers.now }
+    requires sheet { IsSheet sheet.now }
     requires room { length text.old + LINE_ROOM ≤ TEXT_ROOM }
     ensures text { Gathers (C.state cabinet.old) (C.state cabinet.new) Output.Dat
-        (text.old ++ joined (length samples.now.rows) (dat_line case.now.parts samples.now.rows)) text.new result }
+        (text.old ++ joined (length sheet.now.samples.now.rows)
+        (dat_line sheet.now.case.now.parts sheet.now.samples.now.rows)) text.new result }
     ensures room { OnOk result (length text.new + LINE_ROOM ≤ TEXT_ROOM) }
 {
-    for sample in 0..samples.count() {
-        push_sample(text, case, samples, multipliers, words, sample);
+    for sample in 0..sheet.samples.count() {
+        push_sample(text, sheet, sample);
         make_room(cabinet, Output::Dat, text)?;
     }
     Ok(())
@@ -143,120 +159,85 @@ fn write_samples<C: Cabinet>(
 
 /// Puts the line of a sample after the text.
 #[tactic(auto, unfolding(crate::specs::Record::dat_line))]
-pub fn push_sample(
-    text: &mut Text,
-    case: &Case,
-    samples: &Samples,
-    multipliers: &[i64; 64],
-    words: &[u64; 64],
-    sample: u32,
-)
-    requires channels { samples.now.channels ≡ length case.now.parts.channels }
-    requires multipliers { AreMultipliers case.now.parts samples.now.rows multipliers.now }
-    requires sample { sample < length samples.now.rows }
+pub fn push_sample(text: &mut Text, sheet: &Sheet<'_>, sample: u32)
+    requires sheet { IsSheet sheet.now }
+    requires sample { sample < length sheet.now.samples.now.rows }
     requires room { length text.old + LINE_ROOM ≤ TEXT_ROOM }
-    ensures text { text.new ≡ text.old ++ dat_line case.now.parts samples.now.rows sample }
+    ensures text { text.new ≡ text.old ++ dat_line sheet.now.case.now.parts sheet.now.samples.now.rows sample }
     ensures length { length text.new ≤ length text.old + LINE_ROOM }
 {
     text.push_number(u64::from(sample) + 1);
     text.push(b",");
     text.push_number(sample);
-    push_raws(text, case, samples, multipliers, words, sample);
-    push_states(text, case, samples, sample);
+    push_raws(text, sheet, sample);
+    push_states(text, sheet, sample);
     text.push(b"\r\n");
 }
 
 /// Puts a comma and the raw value of each analog channel after the text.
-fn push_raws(
-    text: &mut Text,
-    case: &Case,
-    samples: &Samples,
-    multipliers: &[i64; 64],
-    words: &[u64; 64],
-    sample: u32,
-)
-    requires channels { samples.now.channels ≡ length case.now.parts.channels }
-    requires multipliers { AreMultipliers case.now.parts samples.now.rows multipliers.now }
-    requires sample { sample < length samples.now.rows }
+fn push_raws(text: &mut Text, sheet: &Sheet<'_>, sample: u32)
+    requires sheet { IsSheet sheet.now }
+    requires sample { sample < length sheet.now.samples.now.rows }
     requires room { length text.old + CHANNELS * RAW_ROOM ≤ TEXT_ROOM }
-    ensures text { text.new ≡ text.old
-        ++ joined (length case.now.parts.channels) (raw_at case.now.parts samples.now.rows sample) }
+    ensures text { text.new ≡ text.old ++ joined (length sheet.now.case.now.parts.channels)
+        (raw_at sheet.now.case.now.parts sheet.now.samples.now.rows sample) }
     ensures length { length text.new ≤ length text.old + CHANNELS * RAW_ROOM }
 {
     let mut analog = 0;
-    for place in 0..case.parts.channels.len() {
-        analog = push_raw(
-            text,
-            case,
-            samples,
-            multipliers,
-            words,
-            sample,
-            place,
-            analog,
-        );
+    for place in 0..sheet.case.parts.channels.len() {
+        analog = push_raw(text, sheet, sample, place, analog);
     }
 }
 
 /// Puts a comma and the raw value after the text, where an analog channel stands at the place. Answers
 /// how many analog channels stand up to there.
-fn push_raw(
-    text: &mut Text,
-    case: &Case,
-    samples: &Samples,
-    multipliers: &[i64; 64],
-    words: &[u64; 64],
-    sample: u32,
-    place: usize,
-    analog: usize,
-) -> usize
-    requires channels { samples.now.channels ≡ length case.now.parts.channels }
-    requires multipliers { AreMultipliers case.now.parts samples.now.rows multipliers.now }
-    requires sample { sample < length samples.now.rows }
-    requires place { place < length case.now.parts.channels }
-    requires analog { analog ≡ analog_before case.now.parts place }
+fn push_raw(text: &mut Text, sheet: &Sheet<'_>, sample: u32, place: usize, analog: usize) -> usize
+    requires sheet { IsSheet sheet.now }
+    requires sample { sample < length sheet.now.samples.now.rows }
+    requires place { place < length sheet.now.case.now.parts.channels }
+    requires analog { analog ≡ analog_before sheet.now.case.now.parts place }
     requires room { length text.old + RAW_ROOM ≤ TEXT_ROOM }
-    ensures text { text.new ≡ text.old ++ raw_at case.now.parts samples.now.rows sample place }
+    ensures text { text.new ≡ text.old ++ raw_at sheet.now.case.now.parts sheet.now.samples.now.rows sample place }
     ensures length { length text.new ≤ length text.old + RAW_ROOM }
-    ensures analog { result ≡ analog_before case.now.parts (place + 1) }
+    ensures analog { result ≡ analog_before sheet.now.case.now.parts (place + 1) }
 {
-    if is_status_at(case, place) {
+    if is_status_at(sheet.case, place) {
         return analog;
     }
     text.push(b",");
-    let multiplier = multiplier_at(case, multipliers, place, analog);
-    let value = samples.value(sample, place);
-    text.push_number(raw_value_by(value, multiplier, words[analog]));
+    let multiplier = multiplier_at(sheet.case, sheet.multipliers, place, analog);
+    let value = sheet.samples.value(sample, place);
+    text.push_number(raw_value_by(value, multiplier, sheet.words[analog]));
     analog + 1
 }
 
 /// Puts a comma and the state of each status channel after the text.
-fn push_states(text: &mut Text, case: &Case, samples: &Samples, sample: u32)
-    requires channels { samples.now.channels ≡ length case.now.parts.channels }
-    requires sample { sample < length samples.now.rows }
+fn push_states(text: &mut Text, sheet: &Sheet<'_>, sample: u32)
+    requires sheet { IsSheet sheet.now }
+    requires sample { sample < length sheet.now.samples.now.rows }
     requires room { length text.old + CHANNELS * STATE_ROOM ≤ TEXT_ROOM }
-    ensures text { text.new ≡ text.old
-        ++ joined (length case.now.parts.channels) (state_at case.now.parts samples.now.rows sample) }
+    ensures text { text.new ≡ text.old ++ joined (length sheet.now.case.now.parts.channels)
+        (state_at sheet.now.case.now.parts sheet.now.samples.now.rows sample) }
     ensures length { length text.new ≤ length text.old + CHANNELS * STATE_ROOM }
 {
-    for place in 0..case.parts.channels.len() {
-        push_state(text, case, samples, sample, place);
+    for place in 0..sheet.case.parts.channels.len() {
+        push_state(text, sheet, sample, place);
     }
 }
 
 /// Puts a comma and the state after the text, where a status channel stands at the place.
-fn push_state(text: &mut Text, case: &Case, samples: &Samples, sample: u32, place: usize)
-    requires channels { samples.now.channels ≡ length case.now.parts.channels }
-    requires sample { sample < length samples.now.rows }
-    requires place { place < length case.now.parts.channels }
+fn push_state(text: &mut Text, sheet: &Sheet<'_>, sample: u32, place: usize)
+    requires sheet { IsSheet sheet.now }
+    requires sample { sample < length sheet.now.samples.now.rows }
+    requires place { place < length sheet.now.case.now.parts.channels }
     requires room { length text.old + STATE_ROOM ≤ TEXT_ROOM }
-    ensures text { text.new ≡ text.old ++ state_at case.now.parts samples.now.rows sample place }
+    ensures text { text.new ≡ text.old ++ state_at sheet.now.case.now.parts sheet.now.samples.now.rows sample place }
     ensures length { length text.new ≤ length text.old + STATE_ROOM }
 {
-    if !is_status_at(case, place) {
+    if !is_status_at(sheet.case, place) {
         return;
     }
-    if is_zero(samples.value(sample, place)) {
+    if is_zero(sheet.samples.value(sample, place)) {
         text.push(b",0");
     } else {
         text.push(b",1");

@@ -2,6 +2,7 @@
 use Rattle.std.specs.Prelude.{◌≡◌, ℕ, ◌+◌, ◌^◌, ◌<◌, ◌≤◌, ℤ, pos, false, List, length, slice_index_or}
 use Rattle.emtp_case.specs.declared.case.Parts.{Parts}
 use Rattle.emtp_machine.specs.Samples.{greatest}
+use Rattle.emtp_comtrade.specs.declared.data.Sheet.{Sheet}
 use Rattle.emtp_comtrade.specs.held.Multiplier.{IsMultiplier}
 use Rattle.emtp_comtrade.specs.Record.{is_status_at, analog_before, multiplier_at}
 
@@ -16,6 +17,11 @@ pub record MultipliersBelow (p : Parts) (samples : List (List ℤ)) (n : ℕ) (m
 -- the multipliers of the analog channels, in order, and 1 after them
 abbrev pub AreMultipliers : Parts → List (List ℤ) → List ℤ → Type 0
 AreMultipliers p samples multipliers = MultipliersBelow p samples (length p.channels) multipliers
+
+-- the samples are of the channels of the case, and these are their multipliers
+pub record IsSheet (sheet : Sheet) : Type 0 where
+  pub channels : sheet.samples.now.channels ≡ length sheet.case.now.parts.channels
+  pub multipliers : AreMultipliers sheet.case.now.parts sheet.samples.now.rows sheet.multipliers.now
 
 -- the greatest magnitudes of the channels in the first n samples, and of those below k in one more
 pub record AreGreatest (rows : List (List ℤ)) (channels n k : ℕ) (magnitudes : List ℕ) : Type 0 where

@@ -6,13 +6,14 @@ use Rattle.emtp_comtrade.proofs.configuration.push_analog.Goals as goal
 
 pub returns-then-is_status_at-clause-text : goal.returns-then-is_status_at-clause-text
 returns-then-is_status_at-clause-text c =
-    analog_line_at-none c.args.case.now.parts c.args.samples.now.rows c.args.place c.args.text.now c.is_status_at.result c.is_status_at.ensures c.if-is_status_at.true
+    λ samples are. analog_line_at-none c.args.case.now.parts samples c.args.place c.args.text.now c.is_status_at.result c.is_status_at.ensures c.if-is_status_at.true
 
 pub returns-clause-text : goal.returns-clause-text
 returns-clause-text c =
-    let multiplier = c.multiplier_at-multiplier.ensures.value c.args.samples.now.rows c.requires.multipliers in
-    let multiplier : to_z w64 (of_z w64 c.multiplier_at-multiplier.result) ≡ pos (multiplier_at c.args.samples.now.rows c.args.place) = search (rules, multiplier) in
-    analog_line_at-some c.args.case.now.parts c.args.samples.now.rows c.args.place c.args.text.now c.push_analog_line.new.text c.is_status_at.result (to_z w64 (of_z w64 c.multiplier_at-multiplier.result))
+    λ samples are.
+    let multiplier = c.multiplier_at-multiplier.ensures.value samples are in
+    let multiplier : to_z w64 (of_z w64 c.multiplier_at-multiplier.result) ≡ pos (multiplier_at samples c.args.place) = search (rules, multiplier) in
+    analog_line_at-some c.args.case.now.parts samples c.args.place c.args.text.now c.push_analog_line.new.text c.is_status_at.result (to_z w64 (of_z w64 c.multiplier_at-multiplier.result))
     c.is_status_at.ensures c.if-is_status_at.false multiplier c.push_analog_line.ensures.text
 
 pub returns-clause-analog : goal.returns-clause-analog

@@ -10,12 +10,12 @@ pub returns-in_err-make_room-clause-text : goal.returns-in_err-make_room-clause-
 returns-in_err-make_room-clause-text g c =
     gathers-stopped c.args.text.now (analog_line_at c.args.case.now.parts c.args.samples.now.rows) c.loop-place.place (length c.args.case.now.parts.channels) _ c.from_residual.result (omega arith)
     c.from_residual.ensures.0
-    (gathers-line c.args.text.now (analog_line_at c.args.case.now.parts c.args.samples.now.rows) c.loop-place.place c.loop-place.invariant.text c.push_analog-analog.ensures.text c.in_err-make_room.ensures.text)
+    (gathers-line c.args.text.now (analog_line_at c.args.case.now.parts c.args.samples.now.rows) c.loop-place.place c.loop-place.invariant.text (c.push_analog-analog.ensures.text c.args.samples.now.rows c.requires.multipliers) c.in_err-make_room.ensures.text)
 
 pub loop-place-preserved : goal.loop-place-preserved
 loop-place-preserved g c = record {
   room = c.in_ok-make_room.ensures.room;
   analog = c.push_analog-analog.ensures.analog;
   text =
-      gathers-line c.args.text.now (analog_line_at c.args.case.now.parts c.args.samples.now.rows) c.loop-place.place c.loop-place.invariant.text c.push_analog-analog.ensures.text c.in_ok-make_room.ensures.text;
+      gathers-line c.args.text.now (analog_line_at c.args.case.now.parts c.args.samples.now.rows) c.loop-place.place c.loop-place.invariant.text (c.push_analog-analog.ensures.text c.args.samples.now.rows c.requires.multipliers) c.in_ok-make_room.ensures.text;
 }

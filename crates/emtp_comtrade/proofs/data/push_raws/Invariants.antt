@@ -5,7 +5,7 @@ use Rattle.emtp_comtrade.proofs.data.push_raws.Given as goal
 
 abbrev pub invariant-loop-place : goal.invariant-loop-place
 invariant-loop-place l = record {
-  text : l.text ≡ l.initial.text ++ joined l.place (raw_at l.case.parts l.samples.rows l.sample);
+  text : l.text ≡ l.initial.text ++ joined l.place (raw_at l.sheet.case.now.parts l.sheet.samples.now.rows l.sample);
   length : length l.text ≤ length l.initial.text + RAW_ROOM * l.place;
-  analog : l.analog ≡ analog_before l.case.parts l.place;
+  analog : l.analog ≡ analog_before l.sheet.case.now.parts l.place;
 }

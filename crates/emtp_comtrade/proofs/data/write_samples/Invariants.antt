@@ -10,5 +10,5 @@ abbrev pub invariant-loop-sample : goal.invariant-loop-sample
 invariant-loop-sample g l = record {
   room : length l.text + LINE_ROOM ≤ TEXT_ROOM;
   text : Gathers {T = Unit {0}} {E = Failed} (g.C.Cabinet.state l.initial.cabinet) (g.C.Cabinet.state l.cabinet) Dat
-      (l.initial.text ++ joined l.sample (dat_line l.case.parts l.samples.rows)) l.text (Ok tt);
+      (l.initial.text ++ joined l.sample (dat_line l.sheet.case.now.parts l.sheet.samples.now.rows)) l.text (Ok tt);
 }
