@@ -6,6 +6,7 @@ use Rattle.emtp_card.specs.Lines.{is_blank}
 use Rattle.emtp_card.specs.Number.{held_number}
 use Rattle.emtp_card.specs.Numeral.{few_digits}
 use Rattle.emtp_causes.specs.Marked.{mark, shown_line}
+use Rattle.emtp_fix.specs.declared.limit.TheConstants.{LARGEST_TIME}
 
 -- the column in which the rest of a line begins; a column behind it where nothing is left
 abbrev pub column_of : ℕ → ℕ → ℕ
@@ -46,7 +47,7 @@ up_to_blank text = cut_at text (position (λ byte. byte == 32) text)
 
 -- a number of seconds
 abbrev pub is_time : List ℕ → Bool
-is_time item = is_ok (held_number item (pos 12) (neg_ℤ (pos (10 ^ 18))) (pos (10 ^ 18)))
+is_time item = is_ok (held_number item (pos 12) (neg_ℤ (pos LARGEST_TIME)) (pos LARGEST_TIME))
 
 abbrev pub odd_cause : List ℕ → List ℕ
 odd_cause item =

@@ -5,11 +5,9 @@ ghost use Rattle.emtp_causes.specs.Parts.{begins_here, column_of, difference, fi
 
 use crate::marked::{put_line, put_mark};
 use emtp_card::{read_digits, read_held};
+use emtp_fix::LARGEST_TIME;
 use emtp_text::put;
 use std::alloc::AllocError;
-
-/// The greatest magnitude of a time, in ps.
-const LATEST: i64 = 1_000_000_000_000_000_000;
 
 /// The most digits of the number of an item or a field.
 const MOST_DIGITS: usize = 9;
@@ -158,7 +156,7 @@ fn odd_cause(item: &[u8]) -> &'static [u8]
 fn is_time(item: &[u8]) -> bool
     ensures { result ≡ is_time item.now }
 {
-    read_held(item, 12, -LATEST, LATEST).is_ok()
+    read_held(item, 12, -(LARGEST_TIME as i64), LARGEST_TIME as i64).is_ok()
 }
 
 // ---- fields
