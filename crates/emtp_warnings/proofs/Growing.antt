@@ -1,15 +1,11 @@
 -- One column, one record, one line more.
 use Rattle.std.proofs.Common.{◌≡◌, ◌++◌, ◌∙◌, ◌+◌, ◌≤◌, ◌⊎◌, inl, inr, min, length, arith, sym, ap, refl, subst, List, [], ◌∷◌, ℕ, zero, suc, append_assoc, take, drop, add-one, drop-cons}
-use Rattle.std.specs.Prelude.{Option, Some, slice_get}
+use Rattle.std.specs.Prelude.{Some, slice_get}
 use Rattle.std.proofs.lemmas.List.{drop_all}
 use Rattle.std.proofs.lemmas.Option.{slice_get_within, get_or_from_slice_get}
-use Rattle.emtp_case.specs.Branch.{from_of, line_of, to_of}
-use Rattle.emtp_case.specs.declared.branch.Branch.{Branch}
-use Rattle.emtp_case.specs.declared.case.Parts.{Parts}
 use Rattle.emtp_warnings.proofs.Adding.{rewritten, then}
 use Rattle.emtp_warnings.specs.AddsTo.{AddsTo}
 use Rattle.emtp_warnings.specs.ColumnWarnings.{at_column, first_to, first_with, run_to, run_with, up_to_column}
-use Rattle.emtp_warnings.specs.RecordWarnings.{branch_warnings, ends_warnings, value_warnings}
 use Rattle.emtp_warnings.specs.Warnings.{count_on, line_warnings, warnings_from}
 use Rattle.emtp_warnings.specs.declared.finding.Warning.{Warning}
 use Rattle.emtp_walk.specs.declared.kind.LineReading.{LineReading}
@@ -19,7 +15,7 @@ use Rattle.emtp_walk.specs.declared.kind.LineReading.{LineReading}
 run_turn : (ruler line : List ℕ) (before : ℕ) → run_with ruler line (before + 1) (run_to ruler line before) ≡ run_to ruler line (before + 1)
 run_turn ruler line before = rw add-one refl
 
-pub run-more : (ruler line : List ℕ) (before : ℕ) (run next : Option ℕ) → run ≡ run_to ruler line before → next ≡ run_with ruler line (before + 1) run → next ≡ run_to ruler line (before + 1)
+pub run-more : (ruler line : List ℕ) (before run next : ℕ) → run ≡ run_to ruler line before → next ≡ run_with ruler line (before + 1) run → next ≡ run_to ruler line (before + 1)
 run-more ruler line before run next same is = is ∙ ap (run_with ruler line (before + 1)) same ∙ run_turn ruler line before
 
 first_turn : (ruler : List ℕ) (before : ℕ) → first_with ruler (before + 1) (first_to ruler before) ≡ first_to ruler (before + 1)
@@ -30,28 +26,17 @@ pub first-more : (ruler : List ℕ) (before first next : ℕ) → first ≡ firs
 first-more ruler before first next same is = is ∙ ap (first_with ruler (before + 1)) same ∙ first_turn ruler before
 
 column_turn : (ruler : List ℕ) (number : ℕ) (line : List ℕ) (before : ℕ)
-    → up_to_column ruler number line before ++ at_column ruler number line (before + 1) (run_to ruler line (before + 1)) (first_to ruler before) ≡ up_to_column ruler number line (before + 1)
+    → up_to_column ruler number line before ++ at_column ruler number line (before + 1) (run_to ruler line before) (first_to ruler before) ≡ up_to_column ruler number line (before + 1)
 column_turn ruler number line before = rw add-one refl
 
-pub column-more : {old mid new : List Warning} (ruler : List ℕ) (number : ℕ) (line : List ℕ) (before : ℕ) (run : Option ℕ) (first : ℕ) → run ≡ run_to ruler line (before + 1) → first ≡ first_to ruler before
+pub column-more : {old mid new : List Warning} (ruler : List ℕ) (number : ℕ) (line : List ℕ) (before run first : ℕ) → run ≡ run_to ruler line before → first ≡ first_to ruler before
     → AddsTo old (up_to_column ruler number line before) mid → AddsTo mid (at_column ruler number line (before + 1) run first) new → AddsTo old (up_to_column ruler number line (before + 1)) new
 column-more ruler number line before run first same begins front here =
     rewritten
-    (ap (λ (r : Option ℕ). up_to_column ruler number line before ++ at_column ruler number line (before + 1) r first) same
-    ∙ ap (λ (f : ℕ). up_to_column ruler number line before ++ at_column ruler number line (before + 1) (run_to ruler line (before + 1)) f) begins
+    (ap (λ (r : ℕ). up_to_column ruler number line before ++ at_column ruler number line (before + 1) r first) same
+    ∙ ap (λ (f : ℕ). up_to_column ruler number line before ++ at_column ruler number line (before + 1) (run_to ruler line before) f) begins
     ∙ column_turn ruler number line before)
     (then front here)
-
--- ---- a branch
-
-pub branch-added : {old mid new : List Warning} (p : Parts) (b : Branch) (line a to : ℕ) → line ≡ line_of b → a ≡ from_of b → to ≡ to_of b
-    → AddsTo old (ends_warnings p line a to) mid → AddsTo mid (value_warnings p b) new → AddsTo old (branch_warnings p b) new
-branch-added p b line a to l f t ends values =
-    rewritten
-    (ap (λ (n : ℕ). ends_warnings p n a to ++ value_warnings p b) l
-    ∙ ap (λ (n : ℕ). ends_warnings p (line_of b) n to ++ value_warnings p b) f
-    ∙ ap (λ (n : ℕ). ends_warnings p (line_of b) (from_of b) n ++ value_warnings p b) t)
-    (then ends values)
 
 -- ---- lines
 

@@ -8,4 +8,5 @@ pub mod NetworkCards
 pub mod OutputCards
 pub mod PointCards
 pub mod PolynomialCards
+mod Recording
 mod Worked

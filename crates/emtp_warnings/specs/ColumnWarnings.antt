@@ -1,9 +1,9 @@
 -- The warnings of a line's columns, under the ruler of its card.
-use Rattle.std.specs.Prelude.{ℕ, zero, suc, ◌+◌, ◌-◌, ◌==◌, count_by, length, max, min, nat_le, position, take, drop, Bool, not, ◌&&◌, List, [], ◌++◌, Option, Some, None, unwrap_or, if◌then◌else◌}
+use Rattle.std.specs.Prelude.{ℕ, zero, suc, ◌+◌, ◌-◌, ◌==◌, count_by, length, max, min, nat_le, position, take, drop, Bool, not, ◌&&◌, List, [], ◌∷◌, ◌++◌, Option, Some, None, if◌then◌else◌}
 use Rattle.std.specs.Char.{is_ascii_digit}
 use Rattle.emtp_card.specs.Field.{byte_in}
 use Rattle.emtp_card.specs.Lines.{is_blank}
-use Rattle.emtp_warnings.specs.Finding.{of_columns, when}
+use Rattle.emtp_warnings.specs.Finding.{found, of_columns}
 use Rattle.emtp_warnings.specs.declared.finding.Finding.TheVariants.{NotRead, NumbersTouch}
 use Rattle.emtp_warnings.specs.declared.finding.Warning.{Warning}
 
@@ -11,18 +11,14 @@ use Rattle.emtp_warnings.specs.declared.finding.Warning.{Warning}
 abbrev pub is_unread : List ℕ → List ℕ → ℕ → Bool
 is_unread ruler line column = is_blank (byte_in ruler column) && not (is_blank (byte_in line column))
 
--- where the unread columns in a row begin that end with a column, if it is unread
-abbrev pub run_with : List ℕ → List ℕ → ℕ → Option ℕ → Option ℕ
-run_with ruler line column before = if is_unread ruler line column then Some (unwrap_or before column) else None
+-- where the unread columns in a row begin that may end with the next column
+abbrev pub run_with : List ℕ → List ℕ → ℕ → ℕ → ℕ
+run_with ruler line column run = if is_unread ruler line column then run else column + 1
 
-abbrev pub run_to : List ℕ → List ℕ → ℕ → Option ℕ
-run_to ruler line zero = None
+-- that may end with the column behind these
+abbrev pub run_to : List ℕ → List ℕ → ℕ → ℕ
+run_to ruler line zero = 1
 run_to ruler line (suc before) = run_with ruler line (suc before) (run_to ruler line before)
-
--- all of them in a row, where the next column isn't unread
-abbrev pub run_warnings : ℕ → Option ℕ → ℕ → Bool → List Warning
-run_warnings number None column goes_on = []
-run_warnings number (Some first) column goes_on = when (not goes_on) (of_columns number first column NotRead)
 
 -- the end of a number's field and the beginning of the next one's
 abbrev pub is_border : ℕ → ℕ → Bool
@@ -61,23 +57,22 @@ is_typed_so line column last =
     byte_in line column == 46 && nat_le last (length line)
     && count_by (λ byte. byte == 32) (take (last + 1 - (column + 1)) (drop (column + 1 - 1) line)) == 0
 
--- the numbers of two fields that touch, where the first one begins
-abbrev pub touch_warnings : List ℕ → ℕ → List ℕ → ℕ → ℕ → List Warning
-touch_warnings ruler number line column first =
-    when (touches ruler line column && not (is_typed_so line column (last_of ruler (column + 1))))
-    (of_columns number column (column + 1) (NumbersTouch first (last_of ruler (column + 1))))
-
--- what a column warns of, where the row that it ends begins, and where its field does
-abbrev pub at_column : List ℕ → ℕ → List ℕ → ℕ → Option ℕ → ℕ → List Warning
-at_column ruler number line column run first =
-    touch_warnings ruler number line column first ++ run_warnings number run column (is_unread ruler line (column + 1))
+-- what a column warns of, where the unread columns in a row begin that may end with it, and where its field does: the numbers
+-- of two fields that touch, and all unread columns in a row
+abbrev pub at_column : List ℕ → ℕ → List ℕ → ℕ → ℕ → ℕ → List Warning
+at_column ruler number line column run first = found
+    ((
+      touches ruler line column && not (is_typed_so line column (last_of ruler (column + 1))),
+      of_columns number column (column + 1) (NumbersTouch first (last_of ruler (column + 1))),
+    )
+    ∷ (is_unread ruler line column && not (is_unread ruler line (column + 1)), of_columns number run column NotRead) ∷ [])
 
 -- what the first columns warn of
 abbrev pub up_to_column : List ℕ → ℕ → List ℕ → ℕ → List Warning
 up_to_column ruler number line zero = []
 up_to_column ruler number line (suc before) =
     up_to_column ruler number line before
-    ++ at_column ruler number line (suc before) (run_to ruler line (suc before)) (first_to ruler before)
+    ++ at_column ruler number line (suc before) (run_to ruler line before) (first_to ruler before)
 
 abbrev pub column_warnings : List ℕ → ℕ → List ℕ → List Warning
 column_warnings ruler number line = up_to_column ruler number line (length line)

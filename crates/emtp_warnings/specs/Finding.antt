@@ -1,5 +1,5 @@
 -- What a warning is.
-use Rattle.std.specs.Prelude.{◌==◌, Bool, true, false, List, [], ◌∷◌, ℕ}
+use Rattle.std.specs.Prelude.{◌==◌, Bool, true, false, List, [], ◌∷◌, ℕ, flat_map}
 use Rattle.emtp_warnings.specs.declared.finding.Finding.{Finding}
 use Rattle.emtp_warnings.specs.declared.finding.Spot.{Spot}
 use Rattle.emtp_warnings.specs.declared.finding.Spot.TheVariants.{Channel, Columns, Line}
@@ -26,3 +26,11 @@ of_line line finding = record { spot = Line line; finding = finding }
 abbrev pub when : Bool → Warning → List Warning
 when true w = w ∷ []
 when false w = []
+
+-- of a row of a table: whether there is cause for a warning, and the warning
+abbrev pub of_row : Bool × Warning → List Warning
+of_row row = when row.0 row.1
+
+-- those of a table's warnings for which there is cause
+abbrev pub found : List (Bool × Warning) → List Warning
+found rows = flat_map of_row rows

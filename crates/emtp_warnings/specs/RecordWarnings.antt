@@ -1,5 +1,5 @@
 -- The warnings of the records of a case.
-use Rattle.std.specs.Prelude.{ℕ, ◌+◌, ◌-◌, ◌==◌, ℤ, pos, int_lt, nat_lt, ◌*ℤ◌, count_by, flat_map, length, min, slice_get, take, Bool, true, false, not, ◌&&◌, ◌||◌, List, [], ◌++◌, Option, Some, None, codes}
+use Rattle.std.specs.Prelude.{ℕ, ◌+◌, ◌-◌, ◌==◌, ℤ, pos, int_lt, nat_lt, ◌*ℤ◌, count_by, flat_map, length, min, slice_get, take, Bool, true, false, not, ◌&&◌, ◌||◌, List, [], ◌∷◌, ◌++◌, Option, Some, None, codes}
 use Rattle.std.specs.Ordering.{int_eq}
 use Rattle.std.specs.Str.{bytes_eq, str_eq_ignore_ascii_case}
 use Rattle.emtp_case.specs.Branch.{from_of, line_of, to_of}
@@ -14,7 +14,7 @@ use Rattle.emtp_case.specs.declared.source.Source.{Source}
 use Rattle.emtp_case.specs.declared.switch.Switch.{Switch}
 use Rattle.emtp_case.specs.declared.switch.SwitchKind.{SwitchKind}
 use Rattle.emtp_case.specs.declared.switch.SwitchKind.TheVariants.{Measuring, Time}
-use Rattle.emtp_warnings.specs.Finding.{of_columns, of_line, when}
+use Rattle.emtp_warnings.specs.Finding.{found, of_columns, of_line}
 use Rattle.emtp_warnings.specs.declared.finding.Finding.TheVariants.{AfterEnd, CaseAlone, EarlyCosine, LateTravel, LoneNode, NeverActs, NoFrequency, NodeZero, OpensFirst, ShortTravel, SideBySide, SmallCapacitance}
 use Rattle.emtp_warnings.specs.declared.finding.Warning.{Warning}
 
@@ -68,16 +68,15 @@ has_twin names (Some name) = not (count_by (is_twin name) names == 0)
 abbrev pub is_case_alone : Parts → ℕ → Bool
 is_case_alone p node = not (node == 0) && has_twin (take (min (node - 1) (length p.nodes)) p.nodes) (slice_get p.nodes (node - 1))
 
--- what the end of a branch or a switch warns of, by the columns of its name
-abbrev pub end_warnings : Parts → ℕ → ℕ → ℕ × ℕ → List Warning
-end_warnings p line node columns =
-    when (is_lone p node) (of_columns line columns.0 columns.1 LoneNode)
-    ++ when (is_node_zero p node) (of_columns line columns.0 columns.1 NodeZero)
-    ++ when (is_case_alone p node) (of_columns line columns.0 columns.1 CaseAlone)
-
--- BUS1 and BUS2
+-- what BUS1 and BUS2 of a branch or a switch warn of
 abbrev pub ends_warnings : Parts → ℕ → ℕ → ℕ → List Warning
-ends_warnings p line a b = end_warnings p line a (3, 8) ++ end_warnings p line b (9, 14)
+ends_warnings p line a b = found
+    ((is_lone p a, of_columns line 3 8 LoneNode)
+    ∷ (is_node_zero p a, of_columns line 3 8 NodeZero)
+    ∷ (is_case_alone p a, of_columns line 3 8 CaseAlone)
+    ∷ (is_lone p b, of_columns line 9 14 LoneNode)
+    ∷ (is_node_zero p b, of_columns line 9 14 NodeZero)
+    ∷ (is_case_alone p b, of_columns line 9 14 CaseAlone) ∷ [])
 
 -- ---- branches
 
@@ -105,26 +104,27 @@ is_small other = false
 
 -- what the values of a branch warn of
 abbrev pub value_warnings : Parts → Branch → List Warning
-value_warnings p b =
-    when (is_short p.run.dt (travel_time_of p b)) (of_line (line_of b) ShortTravel)
-    ++ when (is_after_end (end_of_run p) (travel_time_of p b)) (of_line (line_of b) LateTravel)
-    ++ when (is_small b) (of_line (line_of b) SmallCapacitance)
+value_warnings p b = found
+    ((is_short p.run.dt (travel_time_of p b), of_line (line_of b) ShortTravel)
+    ∷ (is_after_end (end_of_run p) (travel_time_of p b), of_line (line_of b) LateTravel)
+    ∷ (is_small b, of_line (line_of b) SmallCapacitance) ∷ [])
 
 abbrev pub branch_warnings : Parts → Branch → List Warning
 branch_warnings p b = ends_warnings p (line_of b) (from_of b) (to_of b) ++ value_warnings p b
 
 -- ---- switches
 
--- the times of a time switch; a switch that never opens has no T-OPEN
--- before a time, where there is one
+-- an opening before a time; a switch that never opens has no T-OPEN
 abbrev pub is_before : ℤ → Option ℤ → Bool
 is_before time None = false
 is_before time (Some open_at) = int_lt open_at time
 
+-- the times of a time switch
 abbrev pub times_warnings : ℤ → ℕ → SwitchKind → List Warning
-times_warnings last line (Time close open_at margin) =
-    when (int_lt last close) (of_columns line 15 24 AfterEnd) ++ when (is_after_end last open_at) (of_columns line 25 34 AfterEnd)
-    ++ when (is_before close open_at) (of_columns line 25 34 OpensFirst)
+times_warnings last line (Time close open_at margin) = found
+    ((int_lt last close, of_columns line 15 24 AfterEnd)
+    ∷ (is_after_end last open_at, of_columns line 25 34 AfterEnd)
+    ∷ (is_before close open_at, of_columns line 25 34 OpensFirst) ∷ [])
 times_warnings last line other = []
 
 -- between the same nodes
@@ -154,10 +154,12 @@ abbrev pub is_beside : ℤ → Switch → Switch → Bool
 is_beside last s other = nat_lt other.line s.line && joins_same s other && are_closed last s.kind other.kind
 
 abbrev pub beside_warnings : Parts → Switch → List Warning
-beside_warnings p s = when (not (count_by (is_beside (end_of_run p) s) p.switches == 0)) (of_line s.line SideBySide)
+beside_warnings p s =
+    found ((not (count_by (is_beside (end_of_run p) s) p.switches == 0), of_line s.line SideBySide) ∷ [])
 
 abbrev pub switch_warnings : Parts → Switch → List Warning
-switch_warnings p s = ends_warnings p s.line s.from s.to ++ times_warnings (end_of_run p) s.line s.kind ++ beside_warnings p s
+switch_warnings p s =
+    ends_warnings p s.line s.from s.to ++ times_warnings (end_of_run p) s.line s.kind ++ beside_warnings p s
 
 -- ---- sources
 
@@ -174,18 +176,13 @@ abbrev pub is_idle : ℤ → Option ℤ → Bool
 is_idle start None = false
 is_idle start (Some stop) = not (int_lt start stop)
 
--- of when a source acts
-abbrev pub acting_warnings : Source → List Warning
-acting_warnings s =
-    when (is_cosine s.shape && int_lt s.start (pos 0)) (of_columns s.line 61 70 EarlyCosine)
-    ++ when (is_idle s.start s.stop) (of_columns s.line 71 80 NeverActs)
-
 -- of the network, or of the control
 abbrev pub source_warnings : ℤ → Source → List Warning
-source_warnings last s =
-    when (is_constant s.shape) (of_columns s.line 21 30 NoFrequency)
-    ++ when (int_lt last s.start) (of_columns s.line 61 70 AfterEnd)
-    ++ acting_warnings s
+source_warnings last s = found
+    ((is_constant s.shape, of_columns s.line 21 30 NoFrequency)
+    ∷ (int_lt last s.start, of_columns s.line 61 70 AfterEnd)
+    ∷ (is_cosine s.shape && int_lt s.start (pos 0), of_columns s.line 61 70 EarlyCosine)
+    ∷ (is_idle s.start s.stop, of_columns s.line 71 80 NeverActs) ∷ [])
 
 -- ---- all records, in the order of their lines
 

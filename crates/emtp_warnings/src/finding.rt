@@ -1,7 +1,10 @@
 //! What a warning is.
 
-ghost use Rattle.std.specs.Prelude.{◌≡◌};
-ghost use Rattle.emtp_warnings.specs.Finding.{points_to};
+ghost use Rattle.std.specs.Prelude.{◌≡◌, OnOk};
+ghost use Rattle.emtp_warnings.specs.AddsTo.{AddsTo};
+ghost use Rattle.emtp_warnings.specs.Finding.{found, of_columns, of_line, points_to};
+
+use std::alloc::AllocError;
 
 /// Where a warning points.
 #[derive(Clone, Copy, PartialEq, Eq)]
@@ -81,4 +84,38 @@ impl Warning {
             Spot::Channel(_) => false,
         }
     }
+}
+
+/// A row of a table: where there is cause, a warning of columns of a line, from the first one to the last.
+pub(crate) fn columns_row(
+    line: u32,
+    columns: (usize, usize),
+    cause: bool,
+    finding: Finding,
+) -> (bool, Warning)
+    ensures { result ≡ (cause, of_columns line columns.0 columns.1 finding) }
+{
+    let (first, last) = columns;
+    let spot = Spot::Columns { line, first, last };
+    (cause, Warning { spot, finding })
+}
+
+/// A row of a table: where there is cause, a warning of a line.
+pub(crate) fn line_row(line: u32, cause: bool, finding: Finding) -> (bool, Warning)
+    ensures { result ≡ (cause, of_line line finding) }
+{
+    let spot = Spot::Line(line);
+    (cause, Warning { spot, finding })
+}
+
+/// Adds those of a table's warnings for which there is cause.
+pub(crate) fn add_found(out: &mut Vec<Warning>, rows: &[(bool, Warning)]) -> Result<(), AllocError>
+    ensures { OnOk result (AddsTo out.old.items (found rows.now) out.new.items) }
+{
+    for (cause, warning) in rows {
+        if *cause {
+            out.push(*warning)?;
+        }
+    }
+    Ok(())
 }

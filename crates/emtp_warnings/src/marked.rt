@@ -1,18 +1,19 @@
 //! Which columns of a line are read: the ruler of its card.
 
 ghost use Rattle.std.specs.Prelude.{◌≡◌, ◌≤◌, length};
+ghost use Rattle.emtp_netcards.specs.BranchCard.{kind_field};
 ghost use Rattle.emtp_netcards.specs.OutputCard.{output_card};
 ghost use Rattle.emtp_netcards.specs.SourceCard as sources;
 ghost use Rattle.emtp_netcards.specs.SwitchCard as switches;
 ghost use Rattle.emtp_taccards.specs.TacsSourceCard.{tacs_source_card};
-ghost use Rattle.emtp_warnings.specs.Marked.{copy_or, ends_points, extra_ruler, names_another, output_ruler, point_ruler, polynomial_ruler, ruler_of, ruler_of_kind, ruler_of_shape, series_ruler, source_ruler, switch_ruler, tacs_source_ruler, unless_end};
+ghost use Rattle.emtp_warnings.specs.Marked.{extra_ruler, names_another, output_ruler, ends_points, point_ruler, ruler_of, ruler_of_kind, source_ruler, switch_ruler, tacs_source_ruler};
 
 use crate::rulers::{
     ALL_NODES, BLOCK, CONTROLLED, COPY, COSINE, DEVICE, ENDING, FIRST_RUN, FORMULA, FREE, LEVEL,
     LINE, MEASURED, MEASURING, NAMES, POINT, POLYNOMIAL, PULSE, RAMP, RESISTOR, SAW, SECOND_RUN,
     SERIES, STEP, TACS_COSINE, THIRD_PHASE, TIME_SWITCH, TOLERANCE, VALVE, VARIABLE, WIDE_SERIES,
 };
-use emtp_card::{Line, MAX_BYTES, Why, ends_section, field_text};
+use emtp_card::{Line, MAX_BYTES, ends_section, field_text};
 use emtp_case::Shape;
 use emtp_netcards::{
     BranchKind, OutputCard, PointScale, SourceType, SwitchType, branch_kind, outputs, point,
@@ -21,7 +22,7 @@ use emtp_netcards::{
 use emtp_taccards::tacs_source;
 use emtp_walk::Kind;
 
-/// The ruler of a line by as what it is read.
+/// The ruler of a line by as what it is read. The coefficients of powers above the order aren't read.
 pub(crate) fn ruler_of(line: &Line<'_>, kind: Kind) -> &'static [u8]
     requires { length line.now.bytes.now ≤ MAX_BYTES }
     ensures { result.now ≡ ruler_of line.now.number line.now.bytes.now kind }
@@ -29,67 +30,41 @@ pub(crate) fn ruler_of(line: &Line<'_>, kind: Kind) -> &'static [u8]
     match kind {
         Kind::Tolerance => TOLERANCE,
         Kind::FirstRun => FIRST_RUN,
-        Kind::SecondRun => unless_end(line.bytes, SECOND_RUN),
+        Kind::SecondRun => {
+            if ends_section(line.bytes) {
+                FREE
+            } else {
+                SECOND_RUN
+            }
+        }
         Kind::Block => BLOCK,
-        Kind::Coefficients(order) => polynomial_ruler(order),
+        Kind::Coefficients(order) => &POLYNOMIAL[..(10 * (order as usize + 1)).min(80)],
         Kind::TacsSource => tacs_source_ruler(line),
         Kind::Extra => extra_ruler(line.bytes),
         Kind::TacsOutput => NAMES,
-        Kind::Branch(wide) => {
-            ruler_of_kind(wide, names_another(line.bytes), &branch_kind(line.bytes))
-        }
+        Kind::Branch(wide) => branch_ruler(line.bytes, wide),
         Kind::Point(scale) => point_ruler(line, scale),
         Kind::Switch => switch_ruler(line.bytes),
         Kind::Source => source_ruler(line.bytes),
         Kind::Output => output_ruler(line),
-        Kind::Comment
-        | Kind::SectionEnd
-        | Kind::Begin
-        | Kind::Hybrid
-        | Kind::Initial
-        | Kind::Vintage
-        | Kind::After => FREE,
+        _ => FREE,
     }
 }
 
-/// A line that ends a section is free.
-fn unless_end(line: &[u8], ruler: &'static [u8]) -> &'static [u8]
-    ensures { result.now ≡ unless_end line.now ruler.now }
+/// The values of a card that takes those of another, which columns 15 to 26 name, aren't read.
+fn branch_ruler(line: &[u8], wide: bool) -> &'static [u8]
+    ensures { result.now ≡ ruler_of_kind wide (names_another line.now) (kind_field line.now) }
 {
-    if ends_section(line) { FREE } else { ruler }
-}
-
-/// Whether columns 15 to 26 name another card.
-fn names_another(line: &[u8]) -> bool
-    ensures { result ≡ names_another line.now }
-{
-    !(field_text(line, 15, 20).is_empty() && field_text(line, 21, 26).is_empty())
-}
-
-fn ruler_of_kind(wide: bool, copies: bool, kind: &Result<BranchKind, Why>) -> &'static [u8]
-    ensures { result.now ≡ ruler_of_kind wide copies kind.now }
-{
-    match kind {
-        Ok(BranchKind::Series) => copy_or(copies, series_ruler(wide)),
-        Ok(BranchKind::Line) | Ok(BranchKind::Second) => copy_or(copies, LINE),
+    let copies = !(field_text(line, 15, 20).is_empty() && field_text(line, 21, 26).is_empty());
+    match branch_kind(line) {
         Ok(BranchKind::Third) => THIRD_PHASE,
         Ok(BranchKind::Reactor) => COPY,
-        Ok(BranchKind::Resistor) => copy_or(copies, RESISTOR),
         Err(_) => FREE,
+        Ok(_) if copies => COPY,
+        Ok(BranchKind::Series) => { if wide { WIDE_SERIES } else { SERIES } }
+        Ok(BranchKind::Line) | Ok(BranchKind::Second) => LINE,
+        Ok(BranchKind::Resistor) => RESISTOR,
     }
-}
-
-/// The values of a card that takes those of another aren't read.
-fn copy_or(copies: bool, own: &'static [u8]) -> &'static [u8]
-    ensures { result.now ≡ copy_or copies own.now }
-{
-    if copies { COPY } else { own }
-}
-
-fn series_ruler(wide: bool) -> &'static [u8]
-    ensures { result.now ≡ series_ruler wide }
-{
-    if wide { WIDE_SERIES } else { SERIES }
 }
 
 fn switch_ruler(line: &[u8]) -> &'static [u8]
@@ -127,46 +102,25 @@ fn output_ruler(line: &Line<'_>) -> &'static [u8]
     }
 }
 
-/// Whether it is the card that ends points.
-fn ends_points(line: &Line<'_>, scale: PointScale) -> bool
-    requires { length line.now.bytes.now ≤ MAX_BYTES }
-    ensures { result ≡ ends_points line.now.number line.now.bytes.now scale }
-{
-    matches!(point(*line, scale), Ok(None))
-}
-
+/// A card of its own ends points.
 fn point_ruler(line: &Line<'_>, scale: PointScale) -> &'static [u8]
     requires { length line.now.bytes.now ≤ MAX_BYTES }
     ensures { result.now ≡ point_ruler (ends_points line.now.number line.now.bytes.now scale) }
 {
-    if ends_points(line, scale) {
-        ENDING
-    } else {
-        POINT
+    match point(*line, scale) {
+        Ok(None) => ENDING,
+        _ => POINT,
     }
-}
-
-/// The coefficients of powers above the order aren't read.
-fn polynomial_ruler(order: u8) -> &'static [u8]
-    ensures { result.now ≡ polynomial_ruler order }
-{
-    &POLYNOMIAL[..(10 * (order as usize + 1)).min(80)]
 }
 
 fn tacs_source_ruler(line: &Line<'_>) -> &'static [u8]
     requires { length line.now.bytes.now ≤ MAX_BYTES }
     ensures { result.now ≡ tacs_source_ruler (tacs_source_card line.now.number line.now.bytes.now) }
 {
-    match tacs_source(*line) {
-        Ok(card) => ruler_of_shape(&card.shape),
-        Err(_) => FREE,
-    }
-}
-
-fn ruler_of_shape(shape: &Shape) -> &'static [u8]
-    ensures { result.now ≡ ruler_of_shape shape.now }
-{
-    match shape {
+    let Ok(card) = tacs_source(*line) else {
+        return FREE;
+    };
+    match card.shape {
         Shape::Step => LEVEL,
         Shape::Cosine { .. } => TACS_COSINE,
         Shape::Pulse { .. } => PULSE,
@@ -182,9 +136,6 @@ fn ruler_of_shape(shape: &Shape) -> &'static [u8]
 fn extra_ruler(line: &[u8]) -> &'static [u8]
     ensures { result.now ≡ extra_ruler line.now }
 {
-    if field_text(line, 9, 10).is_empty() {
-        FORMULA
-    } else {
-        DEVICE
-    }
+    let code = field_text(line, 9, 10);
+    if code.is_empty() { FORMULA } else { DEVICE }
 }

@@ -2,12 +2,10 @@
 
 ghost use Rattle.std.specs.Prelude.{◌≡◌, ◌==◌, ◌+◌, ◌<◌, ◌++◌, OnOk, count_by, flat_map, length, min, not, slice_get, take};
 ghost use Rattle.emtp_warnings.specs.AddsTo.{AddsTo};
-ghost use Rattle.emtp_warnings.specs.RecordWarnings.{acting_warnings, are_closed, beside_warnings, branch_ends_at, branch_warnings, travel_time_of, end_of_run, end_warnings, ends_warnings, has_twin, is_after_end, is_case_alone, is_before, is_beside, is_closed_after, is_constant, is_cosine, is_idle, is_lone, is_node_zero, is_short, is_small, is_twin, is_zero_name, joins_same, mode_delay, opens_after, record_warnings, records_at, source_stands_at, source_warnings, switch_ends_at, switch_warnings, times_warnings, value_warnings};
-ghost use Rattle.emtp_warnings.specs.Finding.{of_line, when};
+ghost use Rattle.emtp_warnings.specs.RecordWarnings.{are_closed, beside_warnings, branch_warnings, end_of_run, ends_warnings, has_twin, is_after_end, is_before, is_beside, is_case_alone, is_closed_after, is_constant, is_cosine, is_idle, is_lone, is_node_zero, is_short, is_small, is_twin, opens_after, record_warnings, source_warnings, switch_warnings, times_warnings, travel_time_of, value_warnings};
 
-use crate::columns::add_columns;
-use crate::finding::{Finding, Spot, Warning};
-use emtp_case::{Branch, Case, Name, Parts, Shape, Source, Switch, SwitchKind, Trio};
+use crate::finding::{Finding, Warning, add_found, columns_row, line_row};
+use emtp_case::{Branch, Case, Name, Parts, Shape, Source, Switch, SwitchKind};
 use std::alloc::AllocError;
 
 /// The columns of BUS1.
@@ -23,30 +21,35 @@ const LEAST_CAPACITANCE: i64 = 1000;
 pub(crate) fn add_records(out: &mut Vec<Warning>, case: &Case) -> Result<(), AllocError>
     ensures { OnOk result (AddsTo out.old.items (record_warnings case.now.parts) out.new.items) }
 {
-    let last = case.parts.run.time(case.parts.run.steps);
+    let last = end_of_run(case);
     add_sources(out, last, case.parts.tacs_sources.as_slice())?;
-    add_branches(out, &case.parts, last)?;
-    add_switches(out, &case.parts, last)?;
+    add_branches(out, case)?;
+    add_switches(out, case)?;
     add_sources(out, last, case.parts.sources.as_slice())?;
     Ok(())
 }
 
-fn add_branches(out: &mut Vec<Warning>, parts: &Parts, last: i64) -> Result<(), AllocError>
-    requires { last ≡ end_of_run parts.now }
-    ensures { OnOk result (AddsTo out.old.items (flat_map (branch_warnings parts.now) parts.now.branches) out.new.items) }
+/// The time of the last step, in ps.
+fn end_of_run(case: &Case) -> i64
+    ensures { result ≡ end_of_run case.now.parts }
 {
-    for branch in parts.branches.as_slice() {
-        add_branch(out, parts, last, branch)?;
+    case.parts.run.time(case.parts.run.steps)
+}
+
+fn add_branches(out: &mut Vec<Warning>, case: &Case) -> Result<(), AllocError>
+    ensures { OnOk result (AddsTo out.old.items (flat_map (branch_warnings case.now.parts) case.now.parts.branches) out.new.items) }
+{
+    for branch in case.parts.branches.as_slice() {
+        add_branch(out, case, branch)?;
     }
     Ok(())
 }
 
-fn add_switches(out: &mut Vec<Warning>, parts: &Parts, last: i64) -> Result<(), AllocError>
-    requires { last ≡ end_of_run parts.now }
-    ensures { OnOk result (AddsTo out.old.items (flat_map (switch_warnings parts.now) parts.now.switches) out.new.items) }
+fn add_switches(out: &mut Vec<Warning>, case: &Case) -> Result<(), AllocError>
+    ensures { OnOk result (AddsTo out.old.items (flat_map (switch_warnings case.now.parts) case.now.parts.switches) out.new.items) }
 {
-    for switch in parts.switches.as_slice() {
-        add_switch(out, parts, last, switch)?;
+    for switch in case.parts.switches.as_slice() {
+        add_switch(out, case, switch)?;
     }
     Ok(())
 }
@@ -61,135 +64,97 @@ fn add_sources(out: &mut Vec<Warning>, last: i64, sources: &[Source]) -> Result<
     Ok(())
 }
 
-fn add_branch(
-    out: &mut Vec<Warning>,
-    parts: &Parts,
-    last: i64,
-    branch: &Branch,
-) -> Result<(), AllocError>
-    requires { last ≡ end_of_run parts.now }
-    ensures { OnOk result (AddsTo out.old.items (branch_warnings parts.now branch.now) out.new.items) }
+// ---- branches
+
+fn add_branch(out: &mut Vec<Warning>, case: &Case, branch: &Branch) -> Result<(), AllocError>
+    ensures { OnOk result (AddsTo out.old.items (branch_warnings case.now.parts branch.now) out.new.items) }
 {
     let (from, to) = branch.ends();
-    add_ends(out, parts, branch.line(), from, to)?;
-    add_values(out, parts, last, branch)?;
+    add_ends(out, &case.parts, branch.line(), from, to)?;
+    add_values(out, case, branch)?;
     Ok(())
 }
 
 /// Adds the warnings of the travel time of a line and of the capacitance of a series branch.
-fn add_values(
-    out: &mut Vec<Warning>,
-    parts: &Parts,
-    last: i64,
-    branch: &Branch,
-) -> Result<(), AllocError>
-    requires { last ≡ end_of_run parts.now }
-    ensures { OnOk result (AddsTo out.old.items (value_warnings parts.now branch.now) out.new.items) }
+fn add_values(out: &mut Vec<Warning>, case: &Case, branch: &Branch) -> Result<(), AllocError>
+    ensures { OnOk result (AddsTo out.old.items (value_warnings case.now.parts branch.now) out.new.items) }
 {
     let line = branch.line();
-    add_line(out, is_short(parts, branch), line, Finding::ShortTravel)?;
-    let late = is_after_end(last, travel_time_of(parts, branch));
-    add_line(out, late, line, Finding::LateTravel)?;
-    add_line(out, is_small(branch), line, Finding::SmallCapacitance)?;
-    Ok(())
+    let delay = travel_time_of(&case.parts, branch);
+    let late = is_after_end(end_of_run(case), delay);
+    let rows = [
+        line_row(
+            line,
+            is_short(case.parts.run.dt, delay),
+            Finding::ShortTravel,
+        ),
+        line_row(line, late, Finding::LateTravel),
+        line_row(line, is_small(branch), Finding::SmallCapacitance),
+    ];
+    add_found(out, &rows)
 }
 
-/// Adds a warning of a line, where there is cause for it.
-fn add_line(
-    out: &mut Vec<Warning>,
-    cause: bool,
-    line: u32,
-    finding: Finding,
-) -> Result<(), AllocError>
-    ensures { OnOk result (AddsTo out.old.items (when cause (of_line line finding)) out.new.items) }
+/// The travel time of a line; that of the zero sequence of a first phase, and that of the positive one of a second.
+fn travel_time_of(parts: &Parts, branch: &Branch) -> Option<i64>
+    ensures { result ≡ travel_time_of parts.now branch.now }
 {
-    if cause {
-        out.push(Warning {
-            spot: Spot::Line(line),
-            finding,
-        })?;
+    match branch {
+        Branch::Line(line) => Some(line.delay),
+        Branch::Phase(phase) => {
+            let trio = parts.trios.as_slice().get(phase.trio as usize)?;
+            trio.delay.get(phase.phase as usize).copied()
+        }
+        _ => None,
     }
-    Ok(())
+}
+
+/// Whether the travel time of a line is below two steps.
+fn is_short(dt: i64, delay: Option<i64>) -> bool
+    ensures { result ≡ is_short dt delay }
+{
+    matches!(delay, Some(delay) if i128::from(delay) < 2 * i128::from(dt))
 }
 
 /// Whether a series branch has a capacitance below 1 pF.
 fn is_small(branch: &Branch) -> bool
     ensures { result ≡ is_small branch.now }
 {
-    match branch {
-        Branch::Lumped(lumped) => 0 < lumped.c && lumped.c < LEAST_CAPACITANCE,
-        _ => false,
-    }
+    matches!(branch, Branch::Lumped(lumped) if 0 < lumped.c && lumped.c < LEAST_CAPACITANCE)
 }
 
-fn add_switch(
-    out: &mut Vec<Warning>,
-    parts: &Parts,
-    last: i64,
-    switch: &Switch,
-) -> Result<(), AllocError>
-    requires { last ≡ end_of_run parts.now }
-    ensures { OnOk result (AddsTo out.old.items (switch_warnings parts.now switch.now) out.new.items) }
-{
-    add_ends_and_times(out, parts, last, switch)?;
-    add_beside(out, parts, last, switch)?;
-    Ok(())
-}
+// ---- switches
 
-fn add_ends_and_times(
-    out: &mut Vec<Warning>,
-    parts: &Parts,
-    last: i64,
-    switch: &Switch,
-) -> Result<(), AllocError>
-    requires { last ≡ end_of_run parts.now }
-    ensures { OnOk result (AddsTo out.old.items
-        (ends_warnings parts.now switch.now.line switch.now.from switch.now.to
-        ++ times_warnings (end_of_run parts.now) switch.now.line switch.now.kind) out.new.items) }
+fn add_switch(out: &mut Vec<Warning>, case: &Case, switch: &Switch) -> Result<(), AllocError>
+    ensures { OnOk result (AddsTo out.old.items (switch_warnings case.now.parts switch.now) out.new.items) }
 {
-    add_ends(out, parts, switch.line, switch.from, switch.to)?;
-    add_times(out, last, switch)?;
+    add_ends(out, &case.parts, switch.line, switch.from, switch.to)?;
+    add_times(out, case, switch)?;
+    add_beside(out, case, switch)?;
     Ok(())
 }
 
 /// Adds that a switch is closed beside another one, where it is.
-fn add_beside(
-    out: &mut Vec<Warning>,
-    parts: &Parts,
-    last: i64,
-    switch: &Switch,
-) -> Result<(), AllocError>
-    requires { last ≡ end_of_run parts.now }
-    ensures { OnOk result (AddsTo out.old.items (beside_warnings parts.now switch.now) out.new.items) }
+fn add_beside(out: &mut Vec<Warning>, case: &Case, switch: &Switch) -> Result<(), AllocError>
+    ensures { OnOk result (AddsTo out.old.items (beside_warnings case.now.parts switch.now) out.new.items) }
 {
-    let beside = is_side_by_side(parts.switches.as_slice(), last, switch);
-    add_line(out, beside, switch.line, Finding::SideBySide)
+    let beside = is_side_by_side(end_of_run(case), case.parts.switches.as_slice(), switch);
+    add_found(out, &[line_row(switch.line, beside, Finding::SideBySide)])
+}
+
+fn is_side_by_side(last: i64, switches: &[Switch], switch: &Switch) -> bool
+    ensures { result ≡ not (count_by (is_beside last switch.now) switches.now == 0) }
+{
+    let beside = |other: &&Switch| is_beside(last, switch, other);
+    switches.iter().filter(beside).count() != 0
 }
 
 /// Whether another switch before this one joins the same nodes while it is closed.
-fn is_side_by_side(switches: &[Switch], last: i64, switch: &Switch) -> bool
-    ensures { result ≡ not (count_by (is_beside last switch.now) switches.now == 0) }
-{
-    switches
-        .iter()
-        .filter(|other| is_beside(last, switch, other))
-        .count()
-        != 0
-}
-
 fn is_beside(last: i64, switch: &Switch, other: &Switch) -> bool
     ensures { result ≡ is_beside last switch.now other.now }
 {
-    other.line < switch.line
-        && joins_same(switch, other)
-        && are_closed(last, &switch.kind, &other.kind)
-}
-
-fn joins_same(switch: &Switch, other: &Switch) -> bool
-    ensures { result ≡ joins_same switch.now other.now }
-{
-    (switch.from == other.from && switch.to == other.to)
-        || (switch.from == other.to && switch.to == other.from)
+    let along = switch.from == other.from && switch.to == other.to;
+    let against = switch.from == other.to && switch.to == other.from;
+    other.line < switch.line && (along || against) && are_closed(last, &switch.kind, &other.kind)
 }
 
 /// Whether both are closed at one time, by their times; a measuring switch is always closed.
@@ -208,10 +173,8 @@ fn are_closed(last: i64, kind: &SwitchKind, other: &SwitchKind) -> bool
             is_closed_after(last, *its, *close, *open_at)
                 && is_closed_after(last, *close, *its, *its_open)
         }
-        (SwitchKind::Time { close, open_at, .. }, SwitchKind::Measuring) => {
-            is_closed_after(last, *close, *close, *open_at)
-        }
-        (SwitchKind::Measuring, SwitchKind::Time { close, open_at, .. }) => {
+        (SwitchKind::Time { close, open_at, .. }, SwitchKind::Measuring)
+        | (SwitchKind::Measuring, SwitchKind::Time { close, open_at, .. }) => {
             is_closed_after(last, *close, *close, *open_at)
         }
         (SwitchKind::Measuring, SwitchKind::Measuring) => true,
@@ -237,67 +200,55 @@ fn opens_after(time: i64, open_at: Option<i64>) -> bool
 }
 
 /// Adds the warnings of the times of a switch.
-fn add_times(out: &mut Vec<Warning>, last: i64, switch: &Switch) -> Result<(), AllocError>
-    ensures { OnOk result (AddsTo out.old.items (times_warnings last switch.now.line switch.now.kind) out.new.items) }
+fn add_times(out: &mut Vec<Warning>, case: &Case, switch: &Switch) -> Result<(), AllocError>
+    ensures { OnOk result (AddsTo out.old.items (times_warnings (end_of_run case.now.parts) switch.now.line switch.now.kind)
+        out.new.items) }
 {
-    match switch.kind {
-        SwitchKind::Time { close, open_at, .. } => {
-            add_columns(out, last < close, switch.line, (15, 24), Finding::AfterEnd)?;
-            let late = is_after_end(last, open_at);
-            add_columns(out, late, switch.line, (25, 34), Finding::AfterEnd)?;
-            let early = is_before(close, open_at);
-            add_columns(out, early, switch.line, (25, 34), Finding::OpensFirst)?;
-            Ok(())
-        }
-        _ => Ok(()),
-    }
+    let SwitchKind::Time { close, open_at, .. } = switch.kind else {
+        return Ok(());
+    };
+    let line = switch.line;
+    let last = end_of_run(case);
+    let late = is_after_end(last, open_at);
+    let first = is_before(close, open_at);
+    let rows = [
+        columns_row(line, (15, 24), last < close, Finding::AfterEnd),
+        columns_row(line, (25, 34), late, Finding::AfterEnd),
+        columns_row(line, (25, 34), first, Finding::OpensFirst),
+    ];
+    add_found(out, &rows)
 }
 
 /// Whether a time, where there is one, is after the end of the run.
 fn is_after_end(last: i64, time: Option<i64>) -> bool
     ensures { result ≡ is_after_end last time }
 {
-    match time {
-        None => false,
-        Some(time) => last < time,
-    }
+    matches!(time, Some(time) if last < time)
 }
 
 /// Whether an opening, where there is one, comes before this time.
 fn is_before(time: i64, open_at: Option<i64>) -> bool
     ensures { result ≡ is_before time open_at }
 {
-    match open_at {
-        None => false,
-        Some(open_at) => open_at < time,
-    }
+    matches!(open_at, Some(open_at) if open_at < time)
 }
+
+// ---- sources
 
 fn add_source(out: &mut Vec<Warning>, last: i64, source: &Source) -> Result<(), AllocError>
     ensures { OnOk result (AddsTo out.old.items (source_warnings last source.now) out.new.items) }
 {
+    let line = source.line;
     let constant = is_constant(&source.shape);
-    add_columns(out, constant, source.line, (21, 30), Finding::NoFrequency)?;
-    add_columns(
-        out,
-        last < source.start,
-        source.line,
-        (61, 70),
-        Finding::AfterEnd,
-    )?;
-    add_acting(out, source)?;
-    Ok(())
-}
-
-/// Adds the warnings of when a source acts.
-fn add_acting(out: &mut Vec<Warning>, source: &Source) -> Result<(), AllocError>
-    ensures { OnOk result (AddsTo out.old.items (acting_warnings source.now) out.new.items) }
-{
     let early = is_cosine(&source.shape) && source.start < 0;
-    add_columns(out, early, source.line, (61, 70), Finding::EarlyCosine)?;
     let idle = is_idle(source.start, source.stop);
-    add_columns(out, idle, source.line, (71, 80), Finding::NeverActs)?;
-    Ok(())
+    let rows = [
+        columns_row(line, (21, 30), constant, Finding::NoFrequency),
+        columns_row(line, (61, 70), last < source.start, Finding::AfterEnd),
+        columns_row(line, (61, 70), early, Finding::EarlyCosine),
+        columns_row(line, (71, 80), idle, Finding::NeverActs),
+    ];
+    add_found(out, &rows)
 }
 
 fn is_cosine(shape: &Shape) -> bool
@@ -306,27 +257,23 @@ fn is_cosine(shape: &Shape) -> bool
     matches!(shape, Shape::Cosine { .. })
 }
 
-/// Whether a source stops, where it does, before it starts or with it.
-fn is_idle(start: i64, stop: Option<i64>) -> bool
-    ensures { result ≡ is_idle start stop }
-{
-    match stop {
-        None => false,
-        Some(stop) => stop <= start,
-    }
-}
-
 /// Whether it is a cosine of frequency 0.
 fn is_constant(shape: &Shape) -> bool
     ensures { result ≡ is_constant shape.now }
 {
-    match shape {
-        Shape::Cosine { freq, .. } => *freq == 0,
-        _ => false,
-    }
+    matches!(shape, Shape::Cosine { freq, .. } if *freq == 0)
 }
 
-/// Adds the warnings of BUS1 and BUS2.
+/// Whether a source stops, where it does, before it starts or with it.
+fn is_idle(start: i64, stop: Option<i64>) -> bool
+    ensures { result ≡ is_idle start stop }
+{
+    matches!(stop, Some(stop) if stop <= start)
+}
+
+// ---- nodes
+
+/// Adds the warnings of BUS1 and BUS2 of a branch or a switch.
 fn add_ends(
     out: &mut Vec<Warning>,
     parts: &Parts,
@@ -336,152 +283,65 @@ fn add_ends(
 ) -> Result<(), AllocError>
     ensures { OnOk result (AddsTo out.old.items (ends_warnings parts.now line from to) out.new.items) }
 {
-    add_end(out, parts, line, from, BUS1)?;
-    add_end(out, parts, line, to, BUS2)?;
-    Ok(())
+    let rows = [
+        columns_row(line, BUS1, is_lone(parts, from), Finding::LoneNode),
+        columns_row(line, BUS1, is_node_zero(parts, from), Finding::NodeZero),
+        columns_row(line, BUS1, is_case_alone(parts, from), Finding::CaseAlone),
+        columns_row(line, BUS2, is_lone(parts, to), Finding::LoneNode),
+        columns_row(line, BUS2, is_node_zero(parts, to), Finding::NodeZero),
+        columns_row(line, BUS2, is_case_alone(parts, to), Finding::CaseAlone),
+    ];
+    add_found(out, &rows)
 }
 
-/// Adds the warnings of the end of a branch or a switch, by the columns of its name.
-fn add_end(
-    out: &mut Vec<Warning>,
-    parts: &Parts,
-    line: u32,
-    node: u32,
-    columns: (usize, usize),
-) -> Result<(), AllocError>
-    ensures { OnOk result (AddsTo out.old.items (end_warnings parts.now line node columns) out.new.items) }
-{
-    add_columns(out, is_lone(parts, node), line, columns, Finding::LoneNode)?;
-    add_columns(
-        out,
-        is_node_zero(parts, node),
-        line,
-        columns,
-        Finding::NodeZero,
-    )?;
-    let alone = is_case_alone(parts, node);
-    add_columns(out, alone, line, columns, Finding::CaseAlone)?;
-    Ok(())
-}
-
-/// Whether the name of a node that isn't ground differs in case alone from that of a node before it.
-fn is_case_alone(parts: &Parts, node: u32) -> bool
-    ensures { result ≡ is_case_alone parts.now node }
-{
-    node != 0 && is_earlier(parts.nodes.as_slice(), node as usize - 1)
-}
-
-fn is_earlier(names: &[Name], at: usize) -> bool
-    ensures { result ≡ has_twin (take (min at (length names.now)) names.now) (slice_get names.now at) }
-{
-    match names.get(at) {
-        None => false,
-        Some(name) => is_among(&names[..at.min(names.len())], name),
-    }
-}
-
-fn is_among(names: &[Name], name: &Name) -> bool
-    ensures { result ≡ not (count_by (is_twin name.now) names.now == 0) }
-{
-    names.iter().filter(|other| is_twin(name, other)).count() != 0
-}
-
-fn is_twin(name: &Name, other: &Name) -> bool
-    ensures { result ≡ is_twin name.now other.now }
-{
-    name.as_slice() != other.as_slice() && name.as_slice().eq_ignore_ascii_case(other.as_slice())
-}
-
-/// Whether a node has no other branch, switch or source.
+/// Whether a node that isn't ground has no other branch, switch or source.
 fn is_lone(parts: &Parts, node: u32) -> bool
     ensures { result ≡ is_lone parts.now node }
 {
-    node != 0 && records_at(parts, node) == 1
-}
-
-/// How many branches, switches and sources a node has.
-fn records_at(parts: &Parts, node: u32) -> u128
-    ensures { result ≡ records_at parts.now node }
-{
-    let branches = branches_at(parts.branches.as_slice(), node);
-    let switches = switches_at(parts.switches.as_slice(), node);
-    let sources = sources_at(parts.sources.as_slice(), node);
-    branches as u128 + switches as u128 + sources as u128
-}
-
-fn branches_at(branches: &[Branch], node: u32) -> usize
-    ensures { result ≡ count_by (branch_ends_at node) branches.now }
-{
-    branches
-        .iter()
-        .filter(|b| {
-            let (from, to) = b.ends();
-            from == node || to == node
-        })
-        .count()
-}
-
-fn switches_at(switches: &[Switch], node: u32) -> usize
-    ensures { result ≡ count_by (switch_ends_at node) switches.now }
-{
-    switches
+    let ends_at = |b: &&Branch| {
+        let (from, to) = b.ends();
+        from == node || to == node
+    };
+    let branches = parts.branches.as_slice().iter().filter(ends_at).count();
+    let switches = parts
+        .switches
+        .as_slice()
         .iter()
         .filter(|s| s.from == node || s.to == node)
-        .count()
-}
-
-fn sources_at(sources: &[Source], node: u32) -> usize
-    ensures { result ≡ count_by (source_stands_at node) sources.now }
-{
-    sources.iter().filter(|s| s.node == node).count()
+        .count();
+    let sources = parts
+        .sources
+        .as_slice()
+        .iter()
+        .filter(|s| s.node == node)
+        .count();
+    node != 0 && branches as u128 + switches as u128 + sources as u128 == 1
 }
 
 /// Whether a node that isn't ground has the name `0`.
 fn is_node_zero(parts: &Parts, node: u32) -> bool
     ensures { result ≡ is_node_zero parts.now node }
 {
-    node != 0 && is_zero_name(parts.nodes.as_slice(), node as usize - 1)
+    node != 0
+        && matches!(parts.nodes.as_slice().get(node as usize - 1), Some(name) if name.as_slice() == b"0".as_slice())
 }
 
-fn is_zero_name(names: &[Name], at: usize) -> bool
-    ensures { result ≡ is_zero_name (slice_get names.now at) }
+/// Whether the name of a node that isn't ground differs in case alone from that of a node before it.
+fn is_case_alone(parts: &Parts, node: u32) -> bool
+    ensures { result ≡ is_case_alone parts.now node }
 {
-    match names.get(at) {
-        None => false,
-        Some(name) => name.as_slice() == b"0".as_slice(),
-    }
+    node != 0 && has_twin(parts.nodes.as_slice(), node as usize - 1)
 }
 
-/// The travel time of a line; that of the zero sequence of a first phase, and that of the positive one of a second.
-fn travel_time_of(parts: &Parts, branch: &Branch) -> Option<i64>
-    ensures { result ≡ travel_time_of parts.now branch.now }
+fn has_twin(names: &[Name], at: usize) -> bool
+    ensures { result ≡ has_twin (take (min at (length names.now)) names.now) (slice_get names.now at) }
 {
-    match branch {
-        Branch::Line(line) => Some(line.delay),
-        Branch::Phase(phase) => mode_delay(
-            parts.trios.as_slice(),
-            phase.trio as usize,
-            phase.phase,
-        ),
-        _ => None,
-    }
+    let before = names[..at.min(names.len())].iter();
+    matches!(names.get(at), Some(name) if before.filter(|other| is_twin(name, other)).count() != 0)
 }
 
-fn mode_delay(trios: &[Trio], at: usize, phase: u8) -> Option<i64>
-    ensures { result ≡ mode_delay (slice_get trios.now at) phase }
+fn is_twin(name: &Name, other: &Name) -> bool
+    ensures { result ≡ is_twin name.now other.now }
 {
-    match trios.get(at) {
-        None => None,
-        Some(trio) => trio.delay.get(phase as usize).copied(),
-    }
-}
-
-/// Whether the travel time of a line is below two steps.
-fn is_short(parts: &Parts, branch: &Branch) -> bool
-    ensures { result ≡ is_short parts.now.run.dt (travel_time_of parts.now branch.now) }
-{
-    match travel_time_of(parts, branch) {
-        None => false,
-        Some(delay) => i128::from(delay) < 2 * i128::from(parts.run.dt),
-    }
+    name.as_slice() != other.as_slice() && name.as_slice().eq_ignore_ascii_case(other.as_slice())
 }
