@@ -4,8 +4,8 @@ ghost use Rattle.std.specs.List.{list_all};
 ghost use Rattle.emtp_card.specs.Lines.{lines_of};
 ghost use Rattle.emtp_comtrade.specs.Record.{analog_before};
 ghost use Rattle.emtp_audit.specs.Rules.{is_padding, audited_lines};
-ghost use Rattle.emtp_audit.specs.Dat.{dat_rule, first_stamp, dat_differs};
-ghost use Rattle.emtp_audit.specs.held.Dat.{told_by, IsScale};
+ghost use Rattle.emtp_audit.specs.Dat.{first_stamp, dat_differs};
+ghost use Rattle.emtp_audit.specs.held.Dat.{line_rule, told_by, IsAudited, IsScale};
 ghost use Rattle.emtp_audit.specs.held.Walk.{LineWalks, difference_in, stamp_in};
 ghost use Rattle.emtp_audit.specs.declared.limit.TheConstants.{LARGEST_UNIT};
 
@@ -14,7 +14,7 @@ use crate::fields::Fields;
 use crate::limit::MOST_BYTES;
 use crate::lines::next_audited;
 use crate::numbers::stamp;
-use crate::sample::read_line;
+use crate::sample::{Audited, read_line};
 use crate::scale::Cfg;
 use emtp_case::Case;
 use emtp_machine::Samples;
@@ -36,10 +36,11 @@ pub fn read_dat(bytes: &[u8], case: &Case, samples: &Samples, cfg: &Cfg) -> Resu
             cause: DifferCause::Long,
         });
     }
+    let audited = Audited { case, samples, cfg };
     let first = first_stamp(bytes);
     let mut rest = bytes;
     for sample in 0..samples.count() {
-        match read_sample(rest, case, samples, sample, cfg, first) {
+        match read_sample(rest, &audited, sample, first) {
             Ok(tail) => rest = tail,
             Err(differs) => return Err(differs),
         }
@@ -58,25 +59,19 @@ pub fn read_dat(bytes: &[u8], case: &Case, samples: &Samples, cfg: &Cfg) -> Resu
 /// Compares the first line of a text with a sample, and answers what stands after it.
 fn read_sample<'a>(
     rest: &'a [u8],
-    case: &Case,
-    samples: &Samples,
+    audited: &Audited<'_>,
     sample: u32,
-    cfg: &Cfg,
     first: i64,
 ) -> Result<&'a [u8], Differs>
-    requires channels { samples.now.channels ≡ length case.now.parts.channels }
-    requires sample { sample < length samples.now.rows }
+    requires audited { IsAudited audited.now }
+    requires sample { sample < length audited.now.samples.now.rows }
     requires room { sample + 1 < 2 ^ 32 }
-    requires count { length cfg.now.scales.items ≡ analog_before case.now.parts (length case.now.parts.channels) }
-    requires scales { All IsScale cfg.now.scales.items }
-    requires multiplier { unsigned_abs cfg.now.multiplier ≤ LARGEST_UNIT }
     requires first_low { pos 0 ≤ℤ first }
     requires first_high { unsigned_abs first < 10 ^ 10 }
-    ensures ok { IfOk result (λ tail. LineWalks (Ok tail.now) (sample + 1)
-        (dat_rule case.now.parts samples.now.rows (told_by cfg.now) first sample) rest.now) }
+    ensures ok { IfOk result (λ tail. LineWalks (Ok tail.now) (sample + 1) (line_rule audited.now first sample) rest.now) }
     ensures short { IfOk result (λ tail. length tail.now < length rest.now) }
-    ensures err { IfErr result (λ differs. LineWalks (Err differs) (sample + 1)
-        (dat_rule case.now.parts samples.now.rows (told_by cfg.now) first sample) rest.now) }
+    ensures err { IfErr result (λ differs.
+        LineWalks (Err differs) (sample + 1) (line_rule audited.now first sample) rest.now) }
 {
     match next_audited(rest) {
         None => Err(Differs {
@@ -86,7 +81,7 @@ fn read_sample<'a>(
             cause: DifferCause::Missing,
         }),
         Some((line, tail)) => {
-            match read_line(sample + 1, line, case, samples, sample, cfg, first) {
+            match read_line(sample + 1, line, audited, sample, first) {
                 Ok(()) => Ok(tail),
                 Err(differs) => Err(differs),
             }

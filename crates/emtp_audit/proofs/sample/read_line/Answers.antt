@@ -15,69 +15,69 @@ same_rule step unit first s u f k w more is_s is_u is_f =
 
 pub returns-in-Err : goal.returns-in-Err
 returns-in-Err c =
-    let p = c.args.case.now.parts in
+    let p = c.args.audited.now.case.now.parts in
     let n = length p.channels in
-    let raws = joined n (raw_rule_at p c.args.samples.now.rows (scales_of c.args.cfg.now.scales.items c.args.cfg.now.multiplier) c.args.sample) in
-    let states = joined n (state_rule_at p c.args.samples.now.rows c.args.sample) in
-    let stamps : List Rule = stamp_is (step_of p) c.args.cfg.now.multiplier c.args.first c.args.sample ∷ [] in
+    let raws = joined n (raw_rule_at p c.args.audited.now.samples.now.rows (scales_of c.args.audited.now.cfg.now.scales.items c.args.audited.now.cfg.now.multiplier) c.args.sample) in
+    let states = joined n (state_rule_at p c.args.audited.now.samples.now.rows c.args.sample) in
+    let stamps : List Rule = stamp_is (step_of p) c.args.audited.now.cfg.now.multiplier c.args.first c.args.sample ∷ [] in
     let rules : List Rule = number_is (pos (c.args.sample + 1)) ∷ (stamps ++ (raws ++ states)) in
     let start = ap (λ (w : Walked). finds w rules) (sym c.of-fields.ensures) in
     start ∙ c.in-Err.ensures.walks (stamps ++ (raws ++ states))
 
 pub returns-in-Err-walk_stamp : goal.returns-in-Err-walk_stamp
 returns-in-Err-walk_stamp c =
-    let p = c.args.case.now.parts in
+    let p = c.args.audited.now.case.now.parts in
     let n = length p.channels in
-    let raws = joined n (raw_rule_at p c.args.samples.now.rows (scales_of c.args.cfg.now.scales.items c.args.cfg.now.multiplier) c.args.sample) in
-    let states = joined n (state_rule_at p c.args.samples.now.rows c.args.sample) in
-    let stamps : List Rule = stamp_is (step_of p) c.args.cfg.now.multiplier c.args.first c.args.sample ∷ [] in
+    let raws = joined n (raw_rule_at p c.args.audited.now.samples.now.rows (scales_of c.args.audited.now.cfg.now.scales.items c.args.audited.now.cfg.now.multiplier) c.args.sample) in
+    let states = joined n (state_rule_at p c.args.audited.now.samples.now.rows c.args.sample) in
+    let stamps : List Rule = stamp_is (step_of p) c.args.audited.now.cfg.now.multiplier c.args.first c.args.sample ∷ [] in
     let rules : List Rule = number_is (pos (c.args.sample + 1)) ∷ (stamps ++ (raws ++ states)) in
     let start = ap (λ (w : Walked). finds w rules) (sym c.of-fields.ensures) in
     let first = c.in-Ok.ensures.walks (stamps ++ (raws ++ states)) in
-    let same = same_rule (step_of p) c.args.cfg.now.multiplier c.args.first _ _ _ c.args.sample c.walk_number.new.fields (raws ++ states)
-    (through_64 c.step.result (omega (arith, c.step.ensures.bound)) ∙ c.step.ensures.value) (through_64 c.args.cfg.now.multiplier c.requires.multiplier) (to_z-of_z w64 c.args.first c.ranges.first) in
+    let same = same_rule (step_of p) c.args.audited.now.cfg.now.multiplier c.args.first _ _ _ c.args.sample c.walk_number.new.fields (raws ++ states)
+    (through_64 c.step.result (omega (arith, c.step.ensures.bound)) ∙ c.step.ensures.value) (through_64 c.args.audited.now.cfg.now.multiplier c.requires.audited.multiplier) (to_z-of_z w64 c.args.first c.ranges.first) in
     start ∙ first ∙ same ∙ c.in-Err-walk_stamp.ensures.walks (raws ++ states)
 
 pub returns-in-Err-walk_raws : goal.returns-in-Err-walk_raws
 returns-in-Err-walk_raws c =
-    let p = c.args.case.now.parts in
+    let p = c.args.audited.now.case.now.parts in
     let n = length p.channels in
-    let raws = joined n (raw_rule_at p c.args.samples.now.rows (scales_of c.args.cfg.now.scales.items c.args.cfg.now.multiplier) c.args.sample) in
-    let states = joined n (state_rule_at p c.args.samples.now.rows c.args.sample) in
-    let stamps : List Rule = stamp_is (step_of p) c.args.cfg.now.multiplier c.args.first c.args.sample ∷ [] in
+    let raws = joined n (raw_rule_at p c.args.audited.now.samples.now.rows (scales_of c.args.audited.now.cfg.now.scales.items c.args.audited.now.cfg.now.multiplier) c.args.sample) in
+    let states = joined n (state_rule_at p c.args.audited.now.samples.now.rows c.args.sample) in
+    let stamps : List Rule = stamp_is (step_of p) c.args.audited.now.cfg.now.multiplier c.args.first c.args.sample ∷ [] in
     let rules : List Rule = number_is (pos (c.args.sample + 1)) ∷ (stamps ++ (raws ++ states)) in
     let start = ap (λ (w : Walked). finds w rules) (sym c.of-fields.ensures) in
     let first = c.in-Ok.ensures.walks (stamps ++ (raws ++ states)) in
-    let same = same_rule (step_of p) c.args.cfg.now.multiplier c.args.first _ _ _ c.args.sample c.walk_number.new.fields (raws ++ states)
-    (through_64 c.step.result (omega (arith, c.step.ensures.bound)) ∙ c.step.ensures.value) (through_64 c.args.cfg.now.multiplier c.requires.multiplier) (to_z-of_z w64 c.args.first c.ranges.first) in
+    let same = same_rule (step_of p) c.args.audited.now.cfg.now.multiplier c.args.first _ _ _ c.args.sample c.walk_number.new.fields (raws ++ states)
+    (through_64 c.step.result (omega (arith, c.step.ensures.bound)) ∙ c.step.ensures.value) (through_64 c.args.audited.now.cfg.now.multiplier c.requires.audited.multiplier) (to_z-of_z w64 c.args.first c.ranges.first) in
     start ∙ first ∙ same ∙ c.in-Ok-walk_stamp.ensures.walks (raws ++ states) ∙ c.in-Err-walk_raws.ensures.walks states
 
 pub returns-in-Err-walk_states : goal.returns-in-Err-walk_states
 returns-in-Err-walk_states c =
-    let p = c.args.case.now.parts in
+    let p = c.args.audited.now.case.now.parts in
     let n = length p.channels in
-    let raws = joined n (raw_rule_at p c.args.samples.now.rows (scales_of c.args.cfg.now.scales.items c.args.cfg.now.multiplier) c.args.sample) in
-    let states = joined n (state_rule_at p c.args.samples.now.rows c.args.sample) in
-    let stamps : List Rule = stamp_is (step_of p) c.args.cfg.now.multiplier c.args.first c.args.sample ∷ [] in
+    let raws = joined n (raw_rule_at p c.args.audited.now.samples.now.rows (scales_of c.args.audited.now.cfg.now.scales.items c.args.audited.now.cfg.now.multiplier) c.args.sample) in
+    let states = joined n (state_rule_at p c.args.audited.now.samples.now.rows c.args.sample) in
+    let stamps : List Rule = stamp_is (step_of p) c.args.audited.now.cfg.now.multiplier c.args.first c.args.sample ∷ [] in
     let rules : List Rule = number_is (pos (c.args.sample + 1)) ∷ (stamps ++ (raws ++ states)) in
     let start = ap (λ (w : Walked). finds w rules) (sym c.of-fields.ensures) in
     let first = c.in-Ok.ensures.walks (stamps ++ (raws ++ states)) in
-    let same = same_rule (step_of p) c.args.cfg.now.multiplier c.args.first _ _ _ c.args.sample c.walk_number.new.fields (raws ++ states)
-    (through_64 c.step.result (omega (arith, c.step.ensures.bound)) ∙ c.step.ensures.value) (through_64 c.args.cfg.now.multiplier c.requires.multiplier) (to_z-of_z w64 c.args.first c.ranges.first) in
+    let same = same_rule (step_of p) c.args.audited.now.cfg.now.multiplier c.args.first _ _ _ c.args.sample c.walk_number.new.fields (raws ++ states)
+    (through_64 c.step.result (omega (arith, c.step.ensures.bound)) ∙ c.step.ensures.value) (through_64 c.args.audited.now.cfg.now.multiplier c.requires.audited.multiplier) (to_z-of_z w64 c.args.first c.ranges.first) in
     start ∙ first ∙ same ∙ c.in-Ok-walk_stamp.ensures.walks (raws ++ states) ∙ c.in-Ok-walk_raws.ensures.walks states
     ∙ ap (finds c.walk_raws.new.fields) (sym (append-nil states)) ∙ c.in-Err-walk_states.ensures.walks []
 
 pub returns : goal.returns
 returns c =
-    let p = c.args.case.now.parts in
+    let p = c.args.audited.now.case.now.parts in
     let n = length p.channels in
-    let raws = joined n (raw_rule_at p c.args.samples.now.rows (scales_of c.args.cfg.now.scales.items c.args.cfg.now.multiplier) c.args.sample) in
-    let states = joined n (state_rule_at p c.args.samples.now.rows c.args.sample) in
-    let stamps : List Rule = stamp_is (step_of p) c.args.cfg.now.multiplier c.args.first c.args.sample ∷ [] in
+    let raws = joined n (raw_rule_at p c.args.audited.now.samples.now.rows (scales_of c.args.audited.now.cfg.now.scales.items c.args.audited.now.cfg.now.multiplier) c.args.sample) in
+    let states = joined n (state_rule_at p c.args.audited.now.samples.now.rows c.args.sample) in
+    let stamps : List Rule = stamp_is (step_of p) c.args.audited.now.cfg.now.multiplier c.args.first c.args.sample ∷ [] in
     let rules : List Rule = number_is (pos (c.args.sample + 1)) ∷ (stamps ++ (raws ++ states)) in
     let start = ap (λ (w : Walked). finds w rules) (sym c.of-fields.ensures) in
     let first = c.in-Ok.ensures.walks (stamps ++ (raws ++ states)) in
-    let same = same_rule (step_of p) c.args.cfg.now.multiplier c.args.first _ _ _ c.args.sample c.walk_number.new.fields (raws ++ states)
-    (through_64 c.step.result (omega (arith, c.step.ensures.bound)) ∙ c.step.ensures.value) (through_64 c.args.cfg.now.multiplier c.requires.multiplier) (to_z-of_z w64 c.args.first c.ranges.first) in
+    let same = same_rule (step_of p) c.args.audited.now.cfg.now.multiplier c.args.first _ _ _ c.args.sample c.walk_number.new.fields (raws ++ states)
+    (through_64 c.step.result (omega (arith, c.step.ensures.bound)) ∙ c.step.ensures.value) (through_64 c.args.audited.now.cfg.now.multiplier c.requires.audited.multiplier) (to_z-of_z w64 c.args.first c.ranges.first) in
     start ∙ first ∙ same ∙ c.in-Ok-walk_stamp.ensures.walks (raws ++ states) ∙ c.in-Ok-walk_raws.ensures.walks states
     ∙ ap (finds c.walk_raws.new.fields) (sym (append-nil states)) ∙ c.in-Ok-walk_states.ensures.walks [] ∙ c.finish.ensures

@@ -5,6 +5,6 @@ use Rattle.emtp_audit.proofs.sample.walk_raws.Goals as goal
 
 pub returns-in-Err-clause-walks : goal.returns-in-Err-clause-walks
 returns-in-Err-clause-walks c =
-    let p = c.args.case.now.parts in
-    walks-end c.args.fields.now c.loop-place.fields (raw_rule_at p c.args.samples.now.rows (scales_of c.args.cfg.now.scales.items c.args.cfg.now.multiplier) c.args.sample) c.loop-place.place (length p.channels) c.in-Err.differs
+    let p = c.args.audited.now.case.now.parts in
+    walks-end c.args.fields.now c.loop-place.fields (raw_rule_at p c.args.audited.now.samples.now.rows (scales_of c.args.audited.now.cfg.now.scales.items c.args.audited.now.cfg.now.multiplier) c.args.sample) c.loop-place.place (length p.channels) c.in-Err.differs
     (omega (arith, c.loop-place-test.true, c.len-place-end.ensures)) c.loop-place.invariant.walks c.in-Err.ensures.walks

@@ -7,7 +7,7 @@ use Rattle.emtp_audit.proofs.sample.walk_raws.Given as goal
 
 abbrev pub invariant-loop-place : goal.invariant-loop-place
 invariant-loop-place l = record {
-  analog : l.analog ≡ analog_before l.case.parts l.place;
-  walks : Walks (Ok (tt {0})) l.fn.fields l.fields (joined l.place (raw_rule_at l.case.parts l.samples.rows (scales_of l.cfg.scales.items l.cfg.multiplier) l.sample));
+  analog : l.analog ≡ analog_before l.audited.case.now.parts l.place;
+  walks : Walks (Ok (tt {0})) l.fn.fields l.fields (joined l.place (raw_rule_at l.audited.case.now.parts l.audited.samples.now.rows (scales_of l.audited.cfg.now.scales.items l.audited.cfg.now.multiplier) l.sample));
   next : l.fields.number ≤ l.fn.fields.number + l.place;
 }

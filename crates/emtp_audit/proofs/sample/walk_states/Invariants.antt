@@ -6,6 +6,6 @@ use Rattle.emtp_audit.proofs.sample.walk_states.Given as goal
 
 abbrev pub invariant-loop-place : goal.invariant-loop-place
 invariant-loop-place l = record {
-  walks : Walks (Ok (tt {0})) l.fn.fields l.fields (joined l.place (state_rule_at l.case.parts l.samples.rows l.sample));
+  walks : Walks (Ok (tt {0})) l.fn.fields l.fields (joined l.place (state_rule_at l.audited.case.now.parts l.audited.samples.now.rows l.sample));
   next : l.fields.number ≤ l.fn.fields.number + l.place;
 }
