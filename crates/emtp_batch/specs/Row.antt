@@ -5,14 +5,14 @@ use Rattle.std.specs.Result.{result_ok}
 use Rattle.std.specs.Str.{bytes_eq}
 use Rattle.emtp_card.specs.Number.{held_number}
 use Rattle.emtp_case.specs.declared.switch.Times.{Times}
+use Rattle.emtp_fix.specs.declared.limit.TheConstants.{LARGEST_TIME}
 use Rattle.emtp_batch.specs.Items.{items_of}
-use Rattle.emtp_batch.specs.declared.row.TheConstants.{LATEST_TIME}
 
 -- ---- items
 
 -- a number of seconds, in ps, held to the range of times
 abbrev pub time_of : List ℕ → Option ℤ
-time_of item = result_ok (held_number item (pos 12) (neg_ℤ LATEST_TIME) LATEST_TIME)
+time_of item = result_ok (held_number item (pos 12) (neg_ℤ (pos LARGEST_TIME)) (pos LARGEST_TIME))
 
 -- a closing time: the card's, where the item is `*`
 abbrev pub closing_time : ℤ → List ℕ → Option ℤ

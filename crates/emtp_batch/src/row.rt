@@ -16,10 +16,8 @@ use crate::items::next_item;
 use crate::table::{Row, TimesFault};
 use emtp_card::read_held;
 use emtp_case::{Case, Items, Times};
+use emtp_fix::LARGEST_TIME;
 use std::alloc::{AllocError, Global};
-
-/// The greatest magnitude of a time, in ps.
-pub(crate) const LATEST_TIME: i64 = 1_000_000_000_000_000_000;
 
 /// The times of the time switches of a case, in card order.
 pub(crate) fn card_times(alloc: Global, case: &Case) -> Result<Vec<Times>, AllocError>
@@ -36,12 +34,12 @@ pub(crate) fn card_times(alloc: Global, case: &Case) -> Result<Vec<Times>, Alloc
     Ok(times)
 }
 
-/// A number of seconds, in ps, held to 10^18 in magnitude.
+/// A number of seconds, in ps, held to the range of times.
 fn time_of(item: &[u8]) -> Option<i64>
     ensures value { result ≡ time_of item.now }
     ensures in_range { ForSome result (λ t. unsigned_abs t ≤ LARGEST_TIME) }
 {
-    read_held(item, 12, -LATEST_TIME, LATEST_TIME).ok()
+    read_held(item, 12, -(LARGEST_TIME as i64), LARGEST_TIME as i64).ok()
 }
 
 /// The closing time that an item gives.
