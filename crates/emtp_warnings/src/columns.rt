@@ -2,7 +2,7 @@
 
 ghost use Rattle.std.specs.Prelude.{◌≡◌, ◌==◌, ◌+◌, ◌<◌, ◌≤◌, IfSome, OnOk, count_by, length, not, position};
 ghost use Rattle.emtp_warnings.specs.AddsTo.{AddsTo};
-ghost use Rattle.emtp_warnings.specs.ColumnWarnings.{at_column, column_warnings, first_with, is_border, is_typed_so, is_unread, last_of, other_behind, run_with, touches};
+ghost use Rattle.emtp_warnings.specs.ColumnWarnings.{at_column, column_warnings, first_with, is_typed_so, is_unread, last_of, other_behind, run_with, touches};
 
 use crate::finding::{Finding, Warning, add_found, columns_row};
 use emtp_card::{Line, MAX_BYTES, byte_at, columns};
@@ -130,20 +130,16 @@ fn is_unread(ruler: &[u8], line: &[u8], column: usize) -> bool
     byte_at(ruler, column) == b' ' && byte_at(line, column) != b' '
 }
 
-/// Whether bytes of two numbers' fields stand side by side in a column and the next.
+/// Whether bytes of two numbers' fields stand side by side in a column and the next: one mark ends the first field, and the next
+/// begins the other.
 fn touches(ruler: &[u8], line: &[u8], column: usize) -> bool
     requires some { 1 ≤ column }
     requires few { column ≤ MAX_BYTES }
     ensures { result ≡ touches ruler.now line.now column }
 {
-    is_border(byte_at(ruler, column), byte_at(ruler, column + 1))
+    let mark = byte_at(ruler, column);
+    let next = byte_at(ruler, column + 1);
+    (mark.is_ascii_digit() && next.is_ascii_digit() && mark != next)
         && byte_at(line, column) != b' '
         && byte_at(line, column + 1) != b' '
-}
-
-/// Whether one mark ends a number's field and the next begins another's.
-fn is_border(mark: u8, next: u8) -> bool
-    ensures { result ≡ is_border mark next }
-{
-    mark.is_ascii_digit() && next.is_ascii_digit() && mark != next
 }

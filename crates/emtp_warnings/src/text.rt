@@ -1,7 +1,7 @@
 //! The text of warnings, a line each.
 
 ghost use Rattle.std.specs.Prelude.{◌≡◌, ◌++◌, IfOk, OnOk};
-ghost use Rattle.emtp_warnings.specs.WarningText.{columns_text, finding_text, number_text, numbers_text, pair_text, piece, spot_text, warning_line, warnings_text};
+ghost use Rattle.emtp_warnings.specs.WarningText.{finding_text, number_text, numbers_text, pair_text, piece, spot_text, warning_line, warnings_text};
 
 use crate::finding::{Finding, Spot, Warning};
 use emtp_card::{Cards, columns, trim};
@@ -120,11 +120,19 @@ fn piece(line: &[u8], first: usize, last: usize) -> &[u8]
 }
 
 /// Puts after a text where a warning points.
+#[tactic(auto, unfolding(crate::specs::WarningText::columns_text))]
 fn put_spot(text: &mut Vec<u8>, spot: &Spot) -> Result<(), AllocError>
     ensures { OnOk result (text.new.items ≡ text.old.items ++ spot_text spot.now) }
 {
     match spot {
-        Spot::Columns { line, first, last } => put_columns(text, *line, *first, *last),
+        Spot::Columns { line, first, last } => {
+            put(text, b"line ")?;
+            put_number(text, *line)?;
+            put(text, b", columns ")?;
+            put_number(text, *first)?;
+            put(text, b"-")?;
+            put_number(text, *last)
+        }
         Spot::Line(line) => {
             put(text, b"line ")?;
             put_number(text, *line)
@@ -134,19 +142,6 @@ fn put_spot(text: &mut Vec<u8>, spot: &Spot) -> Result<(), AllocError>
             put_number(text, *place)
         }
     }
-}
-
-/// Puts columns of a line after a text.
-#[tactic(auto, unfolding(crate::specs::WarningText::columns_text))]
-fn put_columns(text: &mut Vec<u8>, line: u32, first: usize, last: usize) -> Result<(), AllocError>
-    ensures { OnOk result (text.new.items ≡ text.old.items ++ columns_text line first last) }
-{
-    put(text, b"line ")?;
-    put_number(text, line)?;
-    put(text, b", columns ")?;
-    put_number(text, first)?;
-    put(text, b"-")?;
-    put_number(text, last)
 }
 
 /// The words for what is warned of.
