@@ -16,5 +16,7 @@ pub mod Networks
 pub mod ComplexMatrix
 pub mod PhasorLaws
 pub mod OhmsLaw
+pub mod Balancing
+pub mod NamedNodes
 pub mod SingleBranches
 pub mod Worked

@@ -42,6 +42,7 @@ use Rattle.emtp_admittance.specs.declared.limit.TheConstants.{MOST_PHASOR_NODES}
 use Rattle.emtp_admittance.specs.declared.probe.Probe.{Probe}
 use Rattle.emtp_admittance.specs.declared.refusal.Refusal.TheVariants.{Impedance as BadImpedance}
 use Rattle.emtp_admittance.specs.declared.refusal.Refused.{Refused}
+use Rattle.emtp_phasor.proofs.Balancing.{made_of, row_small}
 use Rattle.emtp_phasor.proofs.OhmsLaw.{seen}
 use Rattle.emtp_phasor.proofs.PhasorLaws.{imaginary_current, real_current}
 use Rattle.emtp_phasor.proofs.Volting.{kinds_size}
@@ -85,32 +86,6 @@ by_range : (case : Parts) (node : ℕ) (o p : Option ℤ) (re im : ℤ) → impe
 by_range case node None p re im e = absurd (cc)
 by_range case node (Some a) None re im e = absurd (cc)
 by_range case node (Some a) (Some b) re im e = let both = same_parts a b re im e in (ap Some both.0, ap Some both.1)
-
--- ---- what a steady state was made of
-
-made_of : (case : Parts) (freq : ℤ) (s : State) → steady case freq ≡ Ok s → (x : List ℤ) × (s.volts ≡ phasors_of case x) × (first_residual_above case (ports_of case freq) s.volts ≡ None)
-unfolding steady
-made_of case freq s made =
-    let ports = ports_of case freq in
-    let one = then_ok (untied_at_rest case) (λ none. doubled_solution case freq >>= (λ x. within case ports (phasors_of case x) >>= (λ volts. balanced_residuals case ports volts))) s made in
-    let two = then_ok (doubled_solution case freq) (λ x. within case ports (phasors_of case x) >>= (λ volts. balanced_residuals case ports volts)) s one.2 in
-    let three = then_ok (within case ports (phasors_of case two.0)) (λ volts. balanced_residuals case ports volts) s two.2 in
-    let flow = unless_ok (first_flow_out case ports (phasors_of case two.0)) _ (Ok (phasors_of case two.0)) three.0 three.1 in
-    let four = unless_ok (first_residual_above case ports three.0) _ (Ok _) s three.2 in
-    let same : three.0 ≡ s.volts = ap (λ (s : State). s.volts) (same_ok _ s four.1) in
-    (two.0, sym same ∙ sym (same_ok (phasors_of case two.0) three.0 flow.1), subst (λ v. first_residual_above case ports v ≡ None) same four.0)
-
-row_small : (case : Parts) (ports : List TwoPort) (volts : List Phasor) (row : ℕ) → first_residual_above case ports volts ≡ None → row < length case.nodes → row_residual case ports volts row ≤ unsigned_abs case.run.tolerance
-row_small case ports volts row none below =
-    let n = length case.nodes in
-    let limit = unsigned_abs case.run.tolerance in
-    let test : ℕ → Bool = λ i. nat_lt limit (row_residual case ports volts i) in
-    let off = position-None test (range_with_len 0 n) none row 0 (omega (arith, below, length-range_with_len 0 n)) in
-    let at : get_or (range_with_len 0 n) row 0 ≡ row = omega (arith, get_or-range_with_len 0 n row 0 below) in
-    elim (cases_lt limit (row_residual case ports volts row)) [
-      | inl above ↦ absurd (true≢false (sym (lt-ltb limit (row_residual case ports volts row) above) ∙ sym (ap test at) ∙ off))
-      | inr fine ↦ fine
-    ]
 
 -- ---- the row of the node
 

@@ -4,6 +4,7 @@ pub mod Volts
 pub mod Steady
 pub mod Scanning
 -- what laws say
+pub mod Balance
 pub mod ComplexEntries
 pub mod SingleBranch
 -- what values hold for their proofs

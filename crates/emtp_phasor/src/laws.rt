@@ -1,7 +1,7 @@
 //! What an engineer may count on in steady states and scans. The functions do nothing: their clauses are proved, and a caller
 //! has them by a call.
 
-ghost use Rattle.std.specs.Prelude.{◌≡◌, ◌<◌, ◌+ℤ◌, ◌-ℤ◌, ◌*ℤ◌, ℕ, ℤ, Bool, false, true, ◌∷◌, List, Some, Ok, length, slice_get};
+ghost use Rattle.std.specs.Prelude.{◌≡◌, ◌<◌, ◌+ℤ◌, ◌-ℤ◌, ◌*ℤ◌, ℕ, ℤ, Bool, false, true, ◌∷◌, List, Some, Ok, length, slice_get, IfErr, IfOk};
 ghost use Rattle.emtp_fix.specs.Rounding.{near};
 ghost use Rattle.emtp_fix.specs.declared.limit.TheConstants.{PICO};
 ghost use Rattle.emtp_admittance.specs.Impedance.{across_ends};
@@ -11,16 +11,19 @@ ghost use Rattle.emtp_admittance.specs.declared.admittance.TwoPort.{TwoPort};
 ghost use Rattle.emtp_admittance.specs.declared.probe.Probe.{Probe};
 ghost use Rattle.emtp_case.specs.declared.branch.Lumped.{Lumped};
 ghost use Rattle.emtp_case.specs.declared.case.Parts.{Parts};
+ghost use Rattle.emtp_phasor.specs.Balance.{IsBalanced, NamesNode};
 ghost use Rattle.emtp_phasor.specs.ComplexEntries.{IsComplexAt};
 ghost use Rattle.emtp_phasor.specs.Doubled.{Doubled, admittance_entry};
 ghost use Rattle.emtp_phasor.specs.Scanning.{frequency_at, frequency_count, impedance_seen, line_at, scan_lines};
 ghost use Rattle.emtp_phasor.specs.SingleBranch.{IsBranchToGround, IsSeen, reactance_at};
 ghost use Rattle.emtp_phasor.specs.held.Solving.{IsSolved};
-ghost use Rattle.emtp_phasor.specs.Steady.{entering};
+ghost use Rattle.emtp_phasor.specs.Steady.{entering, steady};
 ghost use Rattle.emtp_phasor.specs.Volts.{nothing, volt_at};
 ghost use Rattle.emtp_phasor.specs.declared.line.ScanAnswer.TheVariants.{Impedance};
 ghost use Rattle.emtp_phasor.specs.declared.phasor.Phasor.{Phasor};
 ghost use Rattle.emtp_phasor.specs.declared.solving.Phasors.{Phasors};
+
+use emtp_case::Case;
 
 /// The doubled matrix is one of complex numbers: wherever a row of the network meets a column, it has the block of g and -b
 /// over b and g.
@@ -66,4 +69,16 @@ pub fn single_branch_is_seen_as_r_and_x()
     ensures { (case : Parts) (probe : Probe) (b : Lumped) (freq re im : ℤ) → judged_probe case ≡ Ok probe
         → IsBranchToGround case b probe.node → (line_at case probe freq).answer ≡ Impedance re im
         → IsSeen b.r (reactance_at freq b) case.run.tolerance probe.amplitude re im }
+{}
+
+/// In a steady state the currents that leave each row of Kirchhoff's current law, a node's or that of a group that closed
+/// switches join, less those that its current sources bring, add up to 0 within the residual that is printed, in both parts;
+/// and this residual is within the tolerance of the case.
+pub fn steady_rows_balance()
+    ensures { (case : Parts) (freq : ℤ) → IfOk (steady case freq) (IsBalanced case freq) }
+{}
+
+/// Where a case has no steady state at a frequency, the end names a node of the case.
+pub fn steady_ends_name_a_node(case: &Case)
+    ensures { (freq : ℤ) → IfErr (steady case.now.parts freq) (NamesNode case.now.parts) }
 {}

@@ -34,6 +34,7 @@ pub use fault::PhasorFault;
 pub use laws::{
     admittances_are_symmetric, matrix_is_complex, scan_line_is_the_phasor, scan_lines_stand_alone,
     series_current_goes_by_the_difference, single_branch_is_seen_as_r_and_x,
+    steady_ends_name_a_node, steady_rows_balance,
 };
 pub use line::{ScanAnswer, ScanLine};
 pub use phasor::Phasor;
