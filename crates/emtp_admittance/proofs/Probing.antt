@@ -1,11 +1,12 @@
 -- The source of a scan stands in the case.
-use Rattle.std.proofs.Common.{◌≡◌, subst, ℤ, pos, ◌<ℤ◌, int_lt, ◌&&◌, Bool, true, false, if◌then◌else◌, All, List, [], ◌∷◌, Option, Some, None, Result, Ok, Err, IfOk, refl, arith}
+use Rattle.std.proofs.Common.{◌≡◌, sym, subst, ℤ, pos, ◌<ℤ◌, int_lt, ◌&&◌, Bool, true, false, if◌then◌else◌, All, List, [], ◌∷◌, Option, Some, None, Result, Ok, Err, IfOk, refl, arith}
 use Rattle.std.proofs.lemmas.Int.{ints}
+use Rattle.emtp_fix.proofs.Chaining.{same_ok, unless_ok}
 use Rattle.emtp_case.specs.held.Sizes.{sizes_of}
 use Rattle.emtp_case.specs.held.Source.{IsSource}
 use Rattle.emtp_case.specs.declared.case.Parts.{Parts}
 use Rattle.emtp_case.specs.declared.source.Source.{Source}
-use Rattle.emtp_admittance.specs.Probes.{card_barred, is_plain_cosine, is_probe, probe_in, scanned_by, unless_barred}
+use Rattle.emtp_admittance.specs.Probes.{card_barred, is_plain_cosine, is_probe, probe_in, scanned_by}
 use Rattle.emtp_admittance.specs.held.Probes.{IsProbe}
 use Rattle.emtp_admittance.specs.declared.probe.Probe.{Probe}
 use Rattle.emtp_admittance.specs.declared.refusal.Refused.{Refused}
@@ -33,13 +34,9 @@ probe_fits case [] p all e = absurd (none_some p e)
 probe_fits case (s ∷ []) p all e = by_test case s p (is_probe s) (all 0 s (omega arith)) refl e
 probe_fits case (s ∷ other ∷ rest) p all e = absurd (none_some p e)
 
-by_barred : (b : Option Refused) (p q : Probe) → Ok p ≡ unless_barred b q → q ≡ p
-by_barred None p q e = cc
-by_barred (Some r) p q e = absurd (cc)
-
 by_source : (case : Parts) (o : Option Probe) (p : Probe) → Ok p ≡ scanned_by case o → ((q : Probe) → o ≡ Some q → IsProbe case q) → IsProbe case p
 by_source case None p e fits = absurd (cc)
-by_source case (Some q) p e fits = subst (IsProbe case) (by_barred (card_barred case) p q e) (fits q refl)
+by_source case (Some q) p e fits = subst (IsProbe case) (same_ok q p (unless_ok (card_barred case) (λ refused. refused) (Ok q) p (sym e)).1) (fits q refl)
 
 pub scanned_fits : (case : Parts) (o : Option Probe) (r : Result Probe Refused) → r ≡ scanned_by case o → ((q : Probe) → o ≡ Some q → IsProbe case q) → IfOk r (IsProbe case)
 scanned_fits case o (Ok p) e fits = by_source case o p e fits

@@ -1,6 +1,7 @@
 -- Which cases can be scanned, and the one source that a scan wants.
 use Rattle.std.specs.Ordering.{int_eq}
 use Rattle.std.specs.Prelude.{pos, int_lt, nat_lt, ◌&&◌, Bool, false, if◌then◌else◌, List, [], ◌∷◌, length, Option, Some, None, Result, Ok, Err}
+use Rattle.emtp_fix.specs.Chain.{unless}
 use Rattle.emtp_case.specs.Branch.{line_of}
 use Rattle.emtp_case.specs.declared.branch.Branch.{Branch}
 use Rattle.emtp_case.specs.declared.case.Parts.{Parts}
@@ -50,13 +51,9 @@ branch_barred b = refused_in (line_of b) (barring_reason b)
 abbrev pub card_barred : Parts → Option Refused
 card_barred case = sooner (control_cards case) (sooner (least_switch case) (least_refusal branch_barred case.branches))
 
-abbrev pub unless_barred : Option Refused → Probe → Result Probe Refused
-unless_barred None probe = Ok probe
-unless_barred (Some r) probe = Err r
-
 abbrev pub scanned_by : Parts → Option Probe → Result Probe Refused
 scanned_by case None = Err (at_line_one NoProbe)
-scanned_by case (Some probe) = unless_barred (card_barred case) probe
+scanned_by case (Some probe) = unless (card_barred case) (λ refused. refused) (Ok probe)
 
 -- the source of a scan, or the refusal that decides
 unfoldable pub judged_probe : Parts → Result Probe Refused

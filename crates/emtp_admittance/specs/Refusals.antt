@@ -2,6 +2,7 @@
 use Rattle.std.specs.Ordering.{int_eq}
 use Rattle.std.specs.Option.{ok_or, option_or}
 use Rattle.std.specs.Prelude.{ℕ, ℤ, pos, nat_le, nat_lt, Bool, true, false, if◌then◌else◌, List, [], ◌∷◌, length, Option, Some, None, Result, Ok, Err}
+use Rattle.emtp_fix.specs.Chain.{unless}
 use Rattle.emtp_case.specs.Branch.{line_of}
 use Rattle.emtp_case.specs.declared.branch.Branch.{Branch}
 use Rattle.emtp_case.specs.declared.case.Parts.{Parts}
@@ -134,13 +135,9 @@ abbrev pub frequency_asked : Option ℤ → ℤ → Option ℤ
 frequency_asked None freq = Some freq
 frequency_asked (Some given) freq = None
 
-abbrev pub unless_refused : Option Refused → ℤ → Result ℤ Refused
-unless_refused None freq = Ok freq
-unless_refused (Some r) freq = Err r
-
 abbrev pub judged_at : Parts → Option ℤ → Result ℤ Refused → Result ℤ Refused
 judged_at case given (Err r) = Err r
-judged_at case given (Ok freq) = unless_refused (least_refused case freq (frequency_asked given freq)) freq
+judged_at case given (Ok freq) = unless (least_refused case freq (frequency_asked given freq)) (λ refused. refused) (Ok freq)
 
 -- the frequency of the steady state, or the refusal that decides
 unfoldable pub judged_frequency : Parts → Option ℤ → Result ℤ Refused

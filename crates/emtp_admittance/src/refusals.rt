@@ -1,11 +1,12 @@
 //! Which card of a case is refused.
 
-ghost use Rattle.std.specs.Prelude.{◌≡◌, ◌≤◌, length, IfOk, OnOk};
+ghost use Rattle.std.specs.Prelude.{◌≡◌, ◌≤◌, Ok, length, IfOk, OnOk};
 ghost use Rattle.std.specs.Option.{ForSome};
+ghost use Rattle.emtp_fix.specs.Chain.{unless};
 ghost use Rattle.emtp_admittance.specs.declared.limit.TheConstants.{MOST_PHASOR_NODES};
 ghost use Rattle.emtp_admittance.specs.held.Frequency.{IsFrequency};
 ghost use Rattle.emtp_admittance.specs.held.Numbers.{HasPortNumbers};
-ghost use Rattle.emtp_admittance.specs.Refusals.{branch_refused, control_cards, control_line, control_refused, first_frequency, frequency_in, is_cosine, judged_frequency, kind_refused, least_branch, least_refused, least_source, least_switch, refused_as, source_refused, switch_refused, unless_refused};
+ghost use Rattle.emtp_admittance.specs.Refusals.{branch_refused, control_cards, control_line, control_refused, first_frequency, frequency_in, is_cosine, judged_frequency, kind_refused, least_branch, least_refused, least_source, least_switch, refused_as, source_refused, switch_refused};
 
 use crate::admittance::TwoPort;
 use crate::impedance::branch_port;
@@ -204,7 +205,7 @@ pub fn judged_frequency(table: &CosTable, case: &Case, given: Option<i64>) -> Re
 
 fn judged_at(table: &CosTable, case: &Case, freq: i64, asked: Option<i64>) -> Result<i64, Refused>
     requires { IsFrequency freq }
-    ensures value { result ≡ unless_refused (least_refused case.now.parts freq asked) freq }
+    ensures value { result ≡ unless (least_refused case.now.parts freq asked) (λ refused. refused) (Ok freq) }
     ensures range { IfOk result IsFrequency }
 {
     match least_refused(table, case, freq, asked) {
