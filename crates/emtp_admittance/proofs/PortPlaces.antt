@@ -6,7 +6,7 @@ use Rattle.emtp_case.specs.declared.branch.Branch.{Branch}
 use Rattle.emtp_case.specs.declared.case.Parts.{Parts}
 use Rattle.emtp_admittance.specs.Admittances.{no_port, port_at}
 use Rattle.emtp_admittance.specs.held.Admittances.{IsSmallPort}
-use Rattle.emtp_admittance.specs.held.Ports.{AreFirstPorts}
+use Rattle.emtp_admittance.specs.held.Ports.{ArePorts}
 use Rattle.emtp_admittance.specs.Impedance.{port_of, port_or_none, ports_of}
 use Rattle.emtp_admittance.specs.declared.admittance.TwoPort.{TwoPort}
 
@@ -21,8 +21,8 @@ port_here case freq others at d x same there is =
 
 -- one more
 pub ports_more : (case : Parts) (freq : ℤ) (out : List TwoPort) (at : ℕ) (y : TwoPort) → at < length out → y ≡ port_at (ports_of case freq) at → IsSmallPort y
-    → AreFirstPorts case freq out at
-    → AreFirstPorts case freq (slice_set out at y) (at + 1)
+    → ArePorts case freq out at
+    → ArePorts case freq (slice_set out at y) (at + 1)
 ports_more case freq out at y inside is small before = record {
   value = λ k below. elim (cases_eq k at) [
     | inl same ↦ rw (same, get_or-set_same) is
@@ -36,12 +36,12 @@ ports_more case freq out at y inside is small before = record {
 
 -- all of them
 pub ports_all : (case : Parts) (freq : ℤ) (out : List TwoPort) (count : ℕ) → length out ≡ length case.branches → length case.branches ≤ count
-    → AreFirstPorts case freq out count
+    → ArePorts case freq out count
     → out ≡ ports_of case freq
 ports_all case freq out count long all ports =
     ext_get_or no_port out (ports_of case freq) (long ∙ sym (length-ports_of case freq)) (λ k below. ports.value k (omega (arith, below, long, all)))
 
 pub ports_small : (case : Parts) (freq : ℤ) (out : List TwoPort) (count : ℕ) → length out ≡ length case.branches → length case.branches ≤ count
-    → AreFirstPorts case freq out count
+    → ArePorts case freq out count
     → All IsSmallPort out
 ports_small case freq out count long all ports = λ k d below. rw (get_or_default out k d no_port below) (ports.small k (omega (arith, below, long, all)))

@@ -1,5 +1,6 @@
 -- The admittances of branches at a frequency, which is in micro-hertz.
 use Rattle.std.specs.Ordering.{int_eq}
+use Rattle.std.specs.Option.{ok_or}
 use Rattle.std.specs.Prelude.{◌||◌, ◌^◌, ◌*◌, ℤ, pos, neg_ℤ, ◌+ℤ◌, ◌-ℤ◌, ◌*ℤ◌, unsigned_abs, nat_lt, Bool, if◌then◌else◌, List, map, Option, Some, None, Result, Ok, Err}
 use Rattle.emtp_fix.specs.Chain.{unless}
 use Rattle.emtp_fix.specs.Rounding.{near}
@@ -83,10 +84,6 @@ line_port freq b = turn_port (cosine (freq *ℤ b.delay)) (cosine (freq *ℤ b.d
 
 -- ---- all branches
 
-abbrev pub or_refused : Refusal → Option TwoPort → Result TwoPort Refusal
-or_refused reason None = Err reason
-or_refused reason (Some y) = Ok y
-
 -- why no frequency makes a branch good
 abbrev pub barring_reason : Branch → Option Refusal
 barring_reason (OfLumped b) = None
@@ -103,7 +100,7 @@ linear_port freq (OfPhase b) = None
 
 -- the two-port of a branch, or why it has none
 abbrev pub port_of : ℤ → Branch → Result TwoPort Refusal
-port_of freq b = unless (barring_reason b) (λ reason. reason) (or_refused Impedance (linear_port freq b))
+port_of freq b = unless (barring_reason b) (λ reason. reason) (ok_or (linear_port freq b) Impedance)
 
 abbrev pub port_or_none : Result TwoPort Refusal → TwoPort
 port_or_none (Ok y) = y

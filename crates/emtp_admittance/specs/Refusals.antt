@@ -2,6 +2,7 @@
 use Rattle.std.specs.Ordering.{int_eq}
 use Rattle.std.specs.Option.{ok_or, option_or}
 use Rattle.std.specs.Prelude.{ℕ, ℤ, pos, nat_le, nat_lt, Bool, true, false, if◌then◌else◌, List, [], ◌∷◌, length, Option, Some, None, Result, Ok, Err}
+use Rattle.std.specs.Result.{result_err}
 use Rattle.emtp_fix.specs.Chain.{unless}
 use Rattle.emtp_case.specs.Branch.{line_of}
 use Rattle.emtp_case.specs.declared.branch.Branch.{Branch}
@@ -16,7 +17,6 @@ use Rattle.emtp_case.specs.declared.switch.Switch.{Switch}
 use Rattle.emtp_case.specs.declared.switch.SwitchKind.{SwitchKind}
 use Rattle.emtp_case.specs.declared.switch.SwitchKind.TheVariants.{Control as ControlSwitch, Measuring, Time, Valve}
 use Rattle.emtp_admittance.specs.Impedance.{port_of}
-use Rattle.emtp_admittance.specs.declared.admittance.TwoPort.{TwoPort}
 use Rattle.emtp_admittance.specs.declared.limit.TheConstants.{MOST_PHASOR_NODES}
 use Rattle.emtp_admittance.specs.declared.refusal.Refusal.{Refusal}
 use Rattle.emtp_admittance.specs.declared.refusal.Refusal.TheVariants.{Control as OfControl, Switch as OfSwitch, Source as OfSource, Size, NoSource}
@@ -40,12 +40,8 @@ refused_in line (Some reason) = Some (record { line = line; reason = reason })
 
 -- ---- branches
 
-abbrev pub refused_as : ℕ → Result TwoPort Refusal → Option Refused
-refused_as line (Ok y) = None
-refused_as line (Err reason) = Some (record { line = line; reason = reason })
-
 abbrev pub branch_refused : ℤ → Branch → Option Refused
-branch_refused freq b = refused_as (line_of b) (port_of freq b)
+branch_refused freq b = refused_in (line_of b) (result_err (port_of freq b))
 
 abbrev pub least_branch : Parts → ℤ → Option Refused
 least_branch case freq = least_refusal (branch_refused freq) case.branches

@@ -6,7 +6,7 @@ ghost use Rattle.emtp_admittance.specs.held.Frequency.{IsFrequency};
 ghost use Rattle.emtp_fix.specs.Rounding.{near};
 ghost use Rattle.emtp_fix.specs.declared.limit.TheConstants.{ATTO, LARGEST_CAPACITANCE, LARGEST_ENTRY, LARGEST_IMPEDANCE, LARGEST_INDUCTANCE, LARGEST_TIME, LEAST_IMPEDANCE};
 ghost use Rattle.emtp_admittance.specs.held.Admittances.{IsSmallAdmittance, IsSmallPort};
-ghost use Rattle.emtp_admittance.specs.Impedance.{across_ends, across_impedance, angular_frequency, barring_reason, capacitive_reactance, inductive_reactance, inverse, is_too_large, line_port, linear_port, lossless_port, or_refused, port_of, reactance_port, series_port, squared, susceptance, turn_port, opposite_admittance};
+ghost use Rattle.emtp_admittance.specs.Impedance.{across_ends, across_impedance, angular_frequency, barring_reason, capacitive_reactance, inductive_reactance, inverse, is_too_large, line_port, linear_port, lossless_port, port_of, reactance_port, series_port, squared, susceptance, turn_port, opposite_admittance};
 ghost use Rattle.emtp_admittance.specs.held.Numbers.{HasPortNumbers};
 
 use crate::admittance::{Admittance, TwoPort};
@@ -270,17 +270,6 @@ fn line_port(table: &CosTable, freq: i64, b: &Line) -> Option<TwoPort>
     )
 }
 
-fn or_refused(reason: Refusal, port: Option<TwoPort>) -> Result<TwoPort, Refusal>
-    requires { IfSome port IsSmallPort }
-    ensures value { result ≡ or_refused reason port }
-    ensures small { IfOk result IsSmallPort }
-{
-    match port {
-        Some(port) => Ok(port),
-        None => Err(reason),
-    }
-}
-
 /// Why no frequency makes a branch good.
 pub(crate) fn barring_reason(branch: &Branch) -> Option<Refusal>
     ensures { result ≡ barring_reason branch.now }
@@ -316,6 +305,9 @@ pub fn branch_port(table: &CosTable, freq: i64, branch: &Branch) -> Result<TwoPo
 {
     match barring_reason(branch) {
         Some(reason) => Err(reason),
-        None => or_refused(Refusal::Impedance, linear_port(table, freq, branch)),
+        None => match linear_port(table, freq, branch) {
+            Some(port) => Ok(port),
+            None => Err(Refusal::Impedance),
+        },
     }
 }

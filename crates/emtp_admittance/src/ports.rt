@@ -1,30 +1,22 @@
 //! The two-ports of all branches at a frequency, and which card is refused at it.
 
-ghost use Rattle.std.specs.Prelude.{◌≡◌, None, Some, All, length, IfOk, OnOk};
+ghost use Rattle.std.specs.Option.{ForSome};
+ghost use Rattle.std.specs.Prelude.{◌≡◌, ◌≤◌, All, Ok, length, IfOk, OnOk};
+ghost use Rattle.emtp_fix.specs.Chain.{unless};
+ghost use Rattle.emtp_admittance.specs.declared.limit.TheConstants.{MOST_PHASOR_NODES};
 ghost use Rattle.emtp_admittance.specs.held.Admittances.{IsSmallPort};
 ghost use Rattle.emtp_admittance.specs.held.Frequency.{IsFrequency};
 ghost use Rattle.emtp_admittance.specs.held.Numbers.{HasPortNumbers};
 ghost use Rattle.emtp_admittance.specs.Impedance.{port_of, port_or_none, ports_of};
 ghost use Rattle.emtp_admittance.specs.Refusals.{branch_refused, judged_frequency, least_branch, least_refused};
 
-use crate::admittance::{Admittance, TwoPort};
+use crate::admittance::{NO_PORT, TwoPort};
 use crate::impedance::branch_port;
 use crate::limit::MOST_PHASOR_NODES;
-use crate::refusal::{Refusal, Refused, sooner};
-use crate::refusals::{control_cards, least_source, least_switch};
+use crate::refusal::{Refusal, Refused, refused_in, sooner};
+use crate::refusals::{control_cards, first_frequency, least_source, least_switch};
 use emtp_case::{Branch, Case};
 use emtp_wave::CosTable;
-
-const NO_ADMITTANCE: Admittance = Admittance {
-    conductance: 0,
-    susceptance: 0,
-};
-
-/// The two-port of a branch that has none.
-const NO_PORT: TwoPort = TwoPort {
-    own: NO_ADMITTANCE,
-    other: NO_ADMITTANCE,
-};
 
 /// The two-port of a branch, and why it has none.
 fn judged_port(table: &CosTable, freq: i64, b: &Branch) -> (TwoPort, Option<Refused>)
@@ -36,13 +28,7 @@ fn judged_port(table: &CosTable, freq: i64, b: &Branch) -> (TwoPort, Option<Refu
 {
     match branch_port(table, freq, b) {
         Ok(port) => (port, None),
-        Err(reason) => (
-            NO_PORT,
-            Some(Refused {
-                line: b.line(),
-                reason,
-            }),
-        ),
+        Err(reason) => (NO_PORT, refused_in(b.line(), Some(reason))),
     }
 }
 
@@ -64,38 +50,20 @@ fn put_ports(table: &CosTable, case: &Case, freq: i64, out: &mut [TwoPort]) -> O
     best
 }
 
-/// The same of all cards, whatever frequency the sources have.
-fn put_ports_of_cards(
-    table: &CosTable,
-    case: &Case,
-    freq: i64,
-    out: &mut [TwoPort],
-) -> Option<Refused>
-    requires freq { IsFrequency freq }
-    requires out { length out.old ≡ length case.now.parts.branches }
-    ensures refused { result ≡ least_refused case.now.parts freq None }
-    ensures ports { out.new ≡ ports_of case.now.parts freq }
-    ensures small { All IsSmallPort out.new }
-{
-    let branch = put_ports(table, case, freq, out);
-    sooner(
-        control_cards(case),
-        sooner(least_switch(case), sooner(branch, least_source(case, None))),
-    )
-}
-
-/// The given frequency and the two-ports of all branches at it, or the refusal that decides.
+/// The frequency of the steady state and the two-ports of all branches at it, or the refusal that decides. Each branch is
+/// looked at once, for both. This project's own.
 #[tactic(auto, unfolding(crate::specs::Refusals::judged_frequency))]
 pub fn judged_ports(
     table: &CosTable,
     case: &Case,
-    freq: i64,
+    given: Option<i64>,
     out: &mut [TwoPort],
 ) -> Result<i64, Refused>
-    requires freq { IsFrequency freq }
+    requires given { ForSome given IsFrequency }
     requires out { length out.old ≡ length case.now.parts.branches }
-    ensures value { result ≡ judged_frequency case.now.parts (Some freq) }
+    ensures value { result ≡ judged_frequency case.now.parts given }
     ensures range { IfOk result IsFrequency }
+    ensures few { OnOk result (length case.now.parts.nodes ≤ MOST_PHASOR_NODES) }
     ensures ports { IfOk result (λ found. out.new ≡ ports_of case.now.parts found) }
     ensures small { OnOk result (All IsSmallPort out.new) }
 {
@@ -105,7 +73,39 @@ pub fn judged_ports(
             reason: Refusal::Size,
         });
     }
-    match put_ports_of_cards(table, case, freq, out) {
+    match given {
+        Some(freq) => judged_at(table, case, freq, None, out),
+        None => match first_frequency(case.parts.sources.as_slice()) {
+            Some(freq) => judged_at(table, case, freq, Some(freq), out),
+            None => Err(Refused {
+                line: 1,
+                reason: Refusal::NoSource,
+            }),
+        },
+    }
+}
+
+/// The same at a frequency that the sources have, where they are asked for one.
+fn judged_at(
+    table: &CosTable,
+    case: &Case,
+    freq: i64,
+    asked: Option<i64>,
+    out: &mut [TwoPort],
+) -> Result<i64, Refused>
+    requires freq { IsFrequency freq }
+    requires out { length out.old ≡ length case.now.parts.branches }
+    ensures value { result ≡ unless (least_refused case.now.parts freq asked) (λ refused. refused) (Ok freq) }
+    ensures range { IfOk result IsFrequency }
+    ensures ports { IfOk result (λ found. out.new ≡ ports_of case.now.parts found) }
+    ensures small { OnOk result (All IsSmallPort out.new) }
+{
+    let branch = put_ports(table, case, freq, out);
+    let source = least_source(case, asked);
+    match sooner(
+        control_cards(case),
+        sooner(least_switch(case), sooner(branch, source)),
+    ) {
         Some(refused) => Err(refused),
         None => Ok(freq),
     }

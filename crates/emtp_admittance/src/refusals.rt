@@ -1,50 +1,10 @@
-//! Which card of a case is refused.
+//! Which card of a case is refused, whatever its branches.
 
-ghost use Rattle.std.specs.Prelude.{◌≡◌, ◌≤◌, Ok, length, IfOk, OnOk};
-ghost use Rattle.std.specs.Option.{ForSome};
-ghost use Rattle.emtp_fix.specs.Chain.{unless};
-ghost use Rattle.emtp_admittance.specs.declared.limit.TheConstants.{MOST_PHASOR_NODES};
-ghost use Rattle.emtp_admittance.specs.held.Frequency.{IsFrequency};
-ghost use Rattle.emtp_admittance.specs.held.Numbers.{HasPortNumbers};
-ghost use Rattle.emtp_admittance.specs.Refusals.{branch_refused, control_cards, control_line, control_refused, first_frequency, frequency_in, is_cosine, judged_frequency, kind_refused, least_branch, least_refused, least_source, least_switch, refused_as, source_refused, switch_refused};
+ghost use Rattle.std.specs.Prelude.{◌≡◌};
+ghost use Rattle.emtp_admittance.specs.Refusals.{control_cards, control_line, control_refused, first_frequency, frequency_in, is_cosine, kind_refused, least_source, least_switch, source_refused, switch_refused};
 
-use crate::admittance::TwoPort;
-use crate::impedance::branch_port;
-use crate::limit::MOST_PHASOR_NODES;
 use crate::refusal::{Refusal, Refused, least_refusal, sooner};
-use emtp_case::{Branch, Case, Extra, Shape, Source, Switch, SwitchKind};
-use emtp_wave::CosTable;
-
-fn refused_as(line: u32, port: Result<TwoPort, Refusal>) -> Option<Refused>
-    ensures { result ≡ refused_as line port }
-{
-    match port {
-        Ok(_) => None,
-        Err(reason) => Some(Refused { line, reason }),
-    }
-}
-
-/// Why a branch is refused at a frequency.
-fn branch_refused(table: &CosTable, freq: i64, b: &Branch) -> Option<Refused>
-    requires freq { IsFrequency freq }
-    requires numbers { HasPortNumbers b.now }
-    ensures { result ≡ branch_refused freq b.now }
-{
-    refused_as(b.line(), branch_port(table, freq, b))
-}
-
-/// The first refused branch at a frequency.
-pub(crate) fn least_branch(table: &CosTable, case: &Case, freq: i64) -> Option<Refused>
-    requires { IsFrequency freq }
-    ensures { result ≡ least_branch case.now.parts freq }
-{
-    let cards = case.parts.branches.as_slice();
-    let mut best = None;
-    for at in 0..cards.len() {
-        best = sooner(best, branch_refused(table, freq, &cards[at]));
-    }
-    best
-}
+use emtp_case::{Case, Extra, Shape, Source, Switch, SwitchKind};
 
 fn is_cosine(asked: Option<i64>, shape: Shape) -> bool
     ensures { result ≡ is_cosine asked shape }
@@ -137,25 +97,6 @@ pub(crate) fn control_cards(case: &Case) -> Option<Refused>
     sooner(source, sooner(block, extra))
 }
 
-/// The refused card of the least line.
-pub(crate) fn least_refused(
-    table: &CosTable,
-    case: &Case,
-    freq: i64,
-    asked: Option<i64>,
-) -> Option<Refused>
-    requires { IsFrequency freq }
-    ensures { result ≡ least_refused case.now.parts freq asked }
-{
-    sooner(
-        control_cards(case),
-        sooner(
-            least_switch(case),
-            sooner(least_branch(table, case, freq), least_source(case, asked)),
-        ),
-    )
-}
-
 fn frequency_in(shape: Shape) -> Option<i64>
     ensures { result ≡ frequency_in shape }
 {
@@ -166,7 +107,7 @@ fn frequency_in(shape: Shape) -> Option<i64>
 }
 
 /// The first frequency of a source that isn't 0.
-fn first_frequency(sources: &[Source]) -> Option<i64>
+pub(crate) fn first_frequency(sources: &[Source]) -> Option<i64>
     ensures { result ≡ first_frequency sources.now }
 {
     for s in sources {
@@ -175,41 +116,4 @@ fn first_frequency(sources: &[Source]) -> Option<i64>
         }
     }
     None
-}
-
-/// The frequency of the steady state, or the refusal that decides.
-#[tactic(auto, unfolding(crate::specs::Refusals::judged_frequency))]
-pub fn judged_frequency(table: &CosTable, case: &Case, given: Option<i64>) -> Result<i64, Refused>
-    requires { ForSome given IsFrequency }
-    ensures value { result ≡ judged_frequency case.now.parts given }
-    ensures range { IfOk result IsFrequency }
-    ensures few { OnOk result (length case.now.parts.nodes ≤ MOST_PHASOR_NODES) }
-{
-    if case.parts.nodes.len() > MOST_PHASOR_NODES {
-        return Err(Refused {
-            line: 1,
-            reason: Refusal::Size,
-        });
-    }
-    match given {
-        Some(freq) => judged_at(table, case, freq, None),
-        None => match first_frequency(case.parts.sources.as_slice()) {
-            Some(freq) => judged_at(table, case, freq, Some(freq)),
-            None => Err(Refused {
-                line: 1,
-                reason: Refusal::NoSource,
-            }),
-        },
-    }
-}
-
-fn judged_at(table: &CosTable, case: &Case, freq: i64, asked: Option<i64>) -> Result<i64, Refused>
-    requires { IsFrequency freq }
-    ensures value { result ≡ unless (least_refused case.now.parts freq asked) (λ refused. refused) (Ok freq) }
-    ensures range { IfOk result IsFrequency }
-{
-    match least_refused(table, case, freq, asked) {
-        Some(refused) => Err(refused),
-        None => Ok(freq),
-    }
 }

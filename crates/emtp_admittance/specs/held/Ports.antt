@@ -7,6 +7,6 @@ use Rattle.emtp_admittance.specs.Impedance.{ports_of}
 use Rattle.emtp_admittance.specs.declared.admittance.TwoPort.{TwoPort}
 
 -- those of the first branches
-pub record AreFirstPorts (case : Parts) (freq : ℤ) (out : List TwoPort) (count : ℕ) : Type 0 where
+pub record ArePorts (case : Parts) (freq : ℤ) (out : List TwoPort) (count : ℕ) : Type 0 where
   pub value : (k : ℕ) → k < count → port_at out k ≡ port_at (ports_of case freq) k
   pub small : (k : ℕ) → k < count → IsSmallPort (port_at out k)
