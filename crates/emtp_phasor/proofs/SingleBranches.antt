@@ -1,21 +1,19 @@
 -- What a scan sees of a case of one series branch.
-use Rattle.std.proofs.Common.{◌≡◌, ◌∙◌, sym, ap, subst, ℕ, ◌*◌, ◌^◌, ◌<◌, ◌≤◌, ◌==◌, ◌&&◌, ◌⊎◌, ℤ, pos, ◌<ℤ◌, ◌+ℤ◌, ◌-ℤ◌, ◌*ℤ◌, neg_ℤ, int_lt, max, unsigned_abs, nat_le, nat_lt, Bool, true, false, if◌then◌else◌, List, [], ◌∷◌, length, get_or, slice_get, Option, Some, None, Result, Ok, Err, IfSome, refl, inl, inr, arith}
-use Rattle.std.specs.List.{range_with_len}
-use Rattle.std.proofs.lemmas.Bool.{cases_lt, lt-ltb, true≢false}
+use Rattle.std.proofs.Common.{◌≡◌, ◌∙◌, sym, ap, subst, ℕ, ◌*◌, ◌^◌, ◌<◌, ◌≤◌, ◌==◌, ◌&&◌, ◌⊎◌, ℤ, pos, ◌<ℤ◌, ◌+ℤ◌, ◌-ℤ◌, ◌*ℤ◌, neg_ℤ, int_lt, max, unsigned_abs, nat_le, nat_lt, Bool, true, false, if◌then◌else◌, List, [], ◌∷◌, length, slice_get, Option, Some, None, Result, Ok, Err, IfSome, refl, inl, inr, arith}
+use Rattle.std.specs.Option.{ok_or}
+use Rattle.std.specs.Result.{result_err}
+use Rattle.std.proofs.lemmas.Bool.{cases_lt}
 use Rattle.std.proofs.lemmas.Bool.Decides.{Decides-int_eq, nat_tests}
 use Rattle.std.proofs.lemmas.Int.{ints}
 use Rattle.std.proofs.lemmas.List.{get_or_past}
-use Rattle.std.proofs.lemmas.List.FromFn.{get_or-range_with_len, length-range_with_len}
 use Rattle.std.proofs.lemmas.List.Sums.{passes_at_first}
-use Rattle.emtp_fix.proofs.Chaining.{same_ok, then_ok, unless_ok}
+use Rattle.emtp_fix.proofs.Chaining.{same_ok, unless_ok}
 use Rattle.emtp_fix.proofs.Quotients.{near-exact, near-times_zero}
 use Rattle.emtp_fix.proofs.Ranges.{in_range-is}
-use Rattle.emtp_fix.specs.Chain.{◌>>=◌}
 use Rattle.emtp_fix.specs.Limit.{in_range}
 use Rattle.emtp_fix.specs.Rounding.{near, near_abs}
 use Rattle.emtp_fix.specs.declared.limit.TheConstants.{NANO, PICO}
 use Rattle.emtp_case.proofs.NodeOrder.{length-order_of}
-use Rattle.emtp_case.proofs.Places.{position-None}
 use Rattle.emtp_case.proofs.RowsOfNodes.{is_number, isnt_number, node_low}
 use Rattle.emtp_case.specs.NodeRows.{kind_at, node_at, row_at}
 use Rattle.emtp_case.specs.RowOrder.{order_of}
@@ -32,10 +30,10 @@ use Rattle.emtp_wave.proofs.Worked.{last}
 use Rattle.emtp_wave.specs.Cosine.{cosine, direction, in_quarter}
 use Rattle.emtp_admittance.proofs.InverseRests.{series_inverse}
 use Rattle.emtp_admittance.specs.Admittances.{port_at}
-use Rattle.emtp_admittance.specs.Impedance.{across_ends, angular_frequency, or_refused, ports_of, series_port}
+use Rattle.emtp_admittance.specs.Impedance.{across_ends, angular_frequency, ports_of, series_port}
 use Rattle.emtp_admittance.specs.Inverses.{IsInverseAcross}
-use Rattle.emtp_admittance.specs.Probes.{card_barred, is_plain_cosine, is_probe, judged_probe, probe_in, scanned_by, unless_barred}
-use Rattle.emtp_admittance.specs.Refusals.{branch_refused, control_cards, judged_at, judged_frequency, least_refusal, least_refused, refused_as, sooner, source_refused, switch_refused, unless_refused}
+use Rattle.emtp_admittance.specs.Probes.{card_barred, is_plain_cosine, is_probe, judged_probe, probe_in, scanned_by}
+use Rattle.emtp_admittance.specs.Refusals.{branch_refused, control_cards, judged_at, judged_frequency, least_refusal, least_refused, refused_in, sooner, source_refused, switch_refused}
 use Rattle.emtp_admittance.specs.declared.admittance.Admittance.{Admittance}
 use Rattle.emtp_admittance.specs.declared.admittance.TwoPort.{TwoPort}
 use Rattle.emtp_admittance.specs.declared.limit.TheConstants.{MOST_PHASOR_NODES}
@@ -48,7 +46,7 @@ use Rattle.emtp_phasor.proofs.PhasorLaws.{imaginary_current, real_current}
 use Rattle.emtp_phasor.proofs.Volting.{kinds_size}
 use Rattle.emtp_phasor.specs.Scanning.{answer_by, answer_of_state, impedance_or_range, impedance_seen, line_at, over_amplitude}
 use Rattle.emtp_phasor.specs.SingleBranch.{IsBranchToGround, IsSeen, reactance_at}
-use Rattle.emtp_phasor.specs.Steady.{State, balanced_residuals, doubled_solution, entering, first_flow_out, first_residual_above, leaving_node, leaving_through, resting_kinds, row_residual, steady, untied_at_rest, within}
+use Rattle.emtp_phasor.specs.Steady.{State, entering, first_residual_above, leaving_node, leaving_through, resting_kinds, steady}
 use Rattle.emtp_phasor.specs.Volts.{nothing, part_phase, cosine_phase, phasors_of, source_part, source_phasors_into, volt_at}
 use Rattle.emtp_phasor.specs.declared.ending.Ending.{Ending}
 use Rattle.emtp_phasor.specs.declared.line.ScanAnswer.TheVariants.{Impedance}
@@ -60,16 +58,13 @@ past_size : (b : Bool) (r : Refused) (q : Result ℤ Refused) (f : ℤ) → (if 
 past_size false r q f e = e
 past_size true r q f e = absurd (cc)
 
-unrefused : (o : Option Refused) (freq f : ℤ) → unless_refused o freq ≡ Ok f → (o ≡ None) × (freq ≡ f)
-unrefused None freq f e = (refl, cc)
-unrefused (Some r) freq f e = absurd (cc)
-
 -- a frequency that was given is kept, and no card is refused
 judged_is : (case : Parts) (freq f : ℤ) → judged_frequency case (Some freq) ≡ Ok f → (least_refused case freq None ≡ None) × (freq ≡ f)
 unfolding judged_frequency
 judged_is case freq f e =
-    unrefused (least_refused case freq None) freq f
-    (past_size (nat_lt MOST_PHASOR_NODES (length case.nodes)) _ (judged_at case (Some freq) (Ok freq)) f e)
+    let judged = past_size (nat_lt MOST_PHASOR_NODES (length case.nodes)) _ (judged_at case (Some freq) (Ok freq)) f e in
+    let kept = unless_ok (least_refused case freq None) (λ refused. refused) (Ok freq) f judged in
+    (kept.0, same_ok freq f kept.1)
 
 by_state : (case : Parts) (probe : Probe) (r : Result State Ending) (re im : ℤ) → answer_of_state case probe r ≡ Impedance re im → (s : State) × (r ≡ Ok s) × (impedance_seen case probe (volt_at s.volts probe.node) ≡ Impedance re im)
 by_state case probe (Ok s) re im e = (s, refl, e)
@@ -130,7 +125,7 @@ sooner_none (Some a) (Some b) e = absurd (by_line (nat_le a.line b.line) a b e)
     by_line true a b e = cc
     by_line false a b e = cc
 
-taken : (line : ℕ) (o : Option TwoPort) → refused_as line (or_refused BadImpedance o) ≡ None → (y : TwoPort) × (o ≡ Some y)
+taken : (line : ℕ) (o : Option TwoPort) → refused_in line (result_err (ok_or o BadImpedance)) ≡ None → (y : TwoPort) × (o ≡ Some y)
 taken line (Some y) e = (y, refl)
 taken line None e = absurd (cc)
 
@@ -235,13 +230,9 @@ by_sources [] p part e = absurd (cc)
 by_sources (s ∷ []) p part e = by_probe s p part (is_probe s) refl e
 by_sources (s ∷ other ∷ rest) p part e = absurd (cc)
 
-unbarred : (b : Option Refused) (p q : Probe) → unless_barred b q ≡ Ok p → q ≡ p
-unbarred None p q e = cc
-unbarred (Some r) p q e = absurd (cc)
-
 found : (case : Parts) (o : Option Probe) (p : Probe) → scanned_by case o ≡ Ok p → o ≡ Some p
 found case None p e = absurd (cc)
-found case (Some q) p e = ap Some (unbarred (card_barred case) p q e)
+found case (Some q) p e = ap Some (same_ok q p (unless_ok (card_barred case) (λ refused. refused) (Ok q) p e).1)
 
 probe_is : (case : Parts) (p : Probe) → judged_probe case ≡ Ok p → probe_in case.sources ≡ Some p
 unfolding judged_probe

@@ -1,8 +1,8 @@
--- Voltages by node, and two-ports by branch.
-use Rattle.std.proofs.Common.{◌≡◌, ◌≢◌, ◌∙◌, sym, ℕ, zero, suc, ◌+◌, ◌*◌, ◌<◌, ◌≤◌, ℤ, All, get_or, List, ◌∷◌, drop, length, map, slice_set, get_or-set_same, get_or-set_other, refl, inl, inr, arith}
+-- Voltages by node.
+use Rattle.std.proofs.Common.{◌≡◌, ◌≢◌, ◌∙◌, sym, ℕ, zero, suc, ◌+◌, ◌*◌, ◌<◌, ℤ, All, get_or, List, ◌∷◌, drop, length, map, slice_set, get_or-set_same, get_or-set_other, refl, inl, inr, arith}
 use Rattle.std.specs.List.{range_with_len}
 use Rattle.std.proofs.lemmas.Bool.{cases_eq}
-use Rattle.std.proofs.lemmas.List.{ext_get_or, get_or_default, length-map}
+use Rattle.std.proofs.lemmas.List.{ext_get_or, length-map}
 use Rattle.std.proofs.lemmas.List.FromFn.{length-map-range_with_len, get_or-map-range_with_len}
 use Rattle.std.proofs.lemmas.Int.{ints}
 use Rattle.std.proofs.lemmas.List.Elements.{All-cons, All-map}
@@ -14,15 +14,9 @@ use Rattle.emtp_case.proofs.NodeOrder.{length-order_of}
 use Rattle.emtp_case.proofs.RowsOfNodes.{IsRowOf}
 use Rattle.emtp_case.specs.NodeRows.{row_at}
 use Rattle.emtp_case.proofs.RowsOfNodes.{row_at_is}
-use Rattle.emtp_admittance.specs.Admittances.{no_port, port_at}
-use Rattle.emtp_admittance.specs.held.Admittances.{IsSmallPort}
-use Rattle.emtp_admittance.proofs.PortPlaces.{length-ports_of}
-use Rattle.emtp_admittance.specs.Impedance.{ports_of}
 use Rattle.emtp_phasor.specs.Steady.{resting_kinds}
-use Rattle.emtp_phasor.specs.held.Steady.{ArePorts}
 use Rattle.emtp_phasor.specs.Volts.{nothing, volt_at, volt_in, phasors_of}
 use Rattle.emtp_phasor.specs.held.Volts.{IsVolt}
-use Rattle.emtp_admittance.specs.declared.admittance.TwoPort.{TwoPort}
 use Rattle.emtp_phasor.specs.declared.phasor.Phasor.{Phasor}
 
 -- ---- voltages
@@ -68,27 +62,6 @@ length-voltages_of case x = omega (arith, length-map-range_with_len (λ n. volt_
 pub voltages_behind_ground : (case : Parts) (x : List ℤ) → phasors_of case x ≡ nothing ∷ drop 1 (phasors_of case x)
 unfolding phasors_of
 voltages_behind_ground case x = refl
-
--- ---- two-ports
-
-pub ports_more : (case : Parts) (freq : ℤ) (out : List TwoPort) (at : ℕ) (y : TwoPort) → at < length out → y ≡ port_at (ports_of case freq) at → IsSmallPort y → ArePorts case freq out at → ArePorts case freq (slice_set out at y) (at + 1)
-ports_more case freq out at y inside is small before = record {
-  value = λ k below. elim (cases_eq k at) [
-    | inl same ↦ rw (same, get_or-set_same) is
-    | inr ne ↦ rw get_or-set_other (before.value k (omega (arith, below, ne)))
-  ];
-  small = λ k below. elim (cases_eq k at) [
-    | inl same ↦ rw (same, get_or-set_same) small
-    | inr ne ↦ rw get_or-set_other (before.small k (omega (arith, below, ne)))
-  ];
-}
-
-pub ports_all : (case : Parts) (freq : ℤ) (out : List TwoPort) (count : ℕ) → length out ≡ length case.branches → length case.branches ≤ count → ArePorts case freq out count → out ≡ ports_of case freq
-ports_all case freq out count long all ports =
-    ext_get_or no_port out (ports_of case freq) (long ∙ sym (length-ports_of case freq)) (λ k below. ports.value k (omega (arith, below, long, all)))
-
-pub ports_small : (case : Parts) (freq : ℤ) (out : List TwoPort) (count : ℕ) → length out ≡ length case.branches → length case.branches ≤ count → ArePorts case freq out count → All IsSmallPort out
-ports_small case freq out count long all ports = λ k d below. rw (get_or_default out k d no_port below) (ports.small k (omega (arith, below, long, all)))
 
 -- ---- kinds
 

@@ -23,6 +23,8 @@ mod line;
 mod node_branches;
 mod opening;
 mod phasor;
+mod resting;
+mod room;
 mod scanning;
 mod solving;
 mod sources;

@@ -1,16 +1,15 @@
 //! The impedance that the one source of a case sees, over frequencies.
 
-ghost use Rattle.std.specs.Prelude.{◌≡◌, ◌<◌, ◌≤◌, ◌<ℤ◌, pos, Some, length, unsigned_abs, IfOk, IfErr};
+ghost use Rattle.std.specs.Prelude.{◌≡◌, ◌<◌, ◌≤◌, ◌<ℤ◌, pos, length, unsigned_abs, IfOk, IfErr};
 ghost use Rattle.emtp_admittance.specs.held.Frequency.{IsFrequency};
 ghost use Rattle.emtp_admittance.specs.held.Probes.{IsProbe};
-ghost use Rattle.emtp_admittance.specs.Refusals.{judged_frequency};
 ghost use Rattle.emtp_admittance.specs.declared.limit.TheConstants.{MOST_PHASOR_NODES};
 ghost use Rattle.emtp_case.specs.held.EndNames.{IsNode};
 ghost use Rattle.emtp_fix.specs.declared.limit.TheConstants.{LARGEST_VALUE};
 ghost use Rattle.emtp_phasor.specs.held.Ending.{EndsAlways};
 ghost use Rattle.emtp_phasor.specs.held.HeldSystem.{HasPorts, IsReady};
 ghost use Rattle.emtp_phasor.specs.held.Probed.{IsProbed, probed_answer, probed_lines};
-ghost use Rattle.emtp_phasor.specs.Scanning.{answer_by, answer_of_state, frequency_at, frequency_count, impedance_or_range, impedance_seen, over_amplitude, told_end};
+ghost use Rattle.emtp_phasor.specs.Scanning.{answer_of_state, frequency_at, frequency_count, impedance_or_range, impedance_seen, over_amplitude, told_end};
 ghost use Rattle.emtp_phasor.specs.held.Scanning.{FaultsScan, IsScan, IsScanned};
 ghost use Rattle.emtp_phasor.specs.Steady.{steady};
 ghost use Rattle.emtp_phasor.specs.held.Volts.{IsVolt};
@@ -19,8 +18,9 @@ use crate::ending::Ending;
 use crate::fault::PhasorFault;
 use crate::line::{ScanAnswer, ScanLine};
 use crate::phasor::Phasor;
-use crate::system::{Stop, System};
-use emtp_admittance::{Probe, judged_frequency, judged_probe};
+use crate::resting::Stop;
+use crate::system::{System, no_ports};
+use emtp_admittance::{Probe, TwoPort, judged_ports, judged_probe};
 use emtp_case::Case;
 use emtp_fix::{NANO, Steps, in_range, scaled};
 use emtp_machine::{Cause, node_name};
@@ -124,7 +124,8 @@ fn scan_from<L: Ledger>(
     ensures lines { IfOk result (λ lines. lines.items ≡ probed_lines probed.entry) }
     ensures fault { IfErr result (λ e. e ≡ PhasorFault.NoMemory) }
 {
-    match System::open(alloc, probed.table, probed.case) {
+    let ports = no_ports(alloc, probed.case)?;
+    match System::open(alloc, probed.table, probed.case, ports) {
         Ok(mut system) => {
             let mut steps = Steps::<L>::new(blank);
             match solved_lines(alloc, probed, &mut system, &mut steps) {
@@ -132,10 +133,13 @@ fn scan_from<L: Ledger>(
                 Err(_) => Err(PhasorFault::NoMemory),
             }
         }
-        Err(Stop::Ended(end)) => match tied_lines(alloc, probed, end) {
-            Ok(lines) => Ok(lines),
-            Err(_) => Err(PhasorFault::NoMemory),
-        },
+        Err(Stop::Ended(end)) => {
+            let mut ports = no_ports(alloc, probed.case)?;
+            match tied_lines(alloc, probed, end, &mut ports) {
+                Ok(lines) => Ok(lines),
+                Err(_) => Err(PhasorFault::NoMemory),
+            }
+        }
         Err(Stop::NoMemory) => Err(PhasorFault::NoMemory),
     }
 }
@@ -161,15 +165,21 @@ fn solved_lines<L: Ledger>(
 }
 
 /// The lines of a case whose switches tie two known voltages.
-fn tied_lines(alloc: Global, probed: Probed<'_>, end: Ending) -> Result<Vec<ScanLine>, AllocError>
+fn tied_lines(
+    alloc: Global,
+    probed: Probed<'_>,
+    end: Ending,
+    ports: &mut [TwoPort],
+) -> Result<Vec<ScanLine>, AllocError>
     requires probed { IsProbed probed }
     requires end { EndsAlways probed.case.now.parts end }
+    requires ports { length ports.old ≡ length probed.case.now.parts.branches }
     ensures { IfOk result (λ lines. lines.items ≡ probed_lines probed.entry) }
 {
     let mut lines = Vec::new(alloc);
     for k in 0..frequency_count(probed.span) {
         let freq = frequency_at(probed.span, k);
-        let answer = tied_answer(probed.table, probed.case, probed.probe, freq, end);
+        let answer = tied_answer(probed, freq, end, ports);
         lines.push(ScanLine { freq, answer })?;
     }
     Ok(lines)
@@ -210,19 +220,20 @@ fn solved_answer<L: Ledger>(
     ensures value { result ≡ answer_of_state case.now.parts probe.now (steady case.now.parts freq) }
 {
     match system.at(case, freq, steps) {
-        Ok(_) => impedance_seen(case, probe, system.volts[probe.node as usize]),
+        Ok(_) => impedance_seen(case, probe, system.room.volts[probe.node as usize]),
         Err(end) => told_end(case, end),
     }
 }
 
 /// The answer at a frequency where switches tie two known voltages.
-fn tied_answer(table: &CosTable, case: &Case, probe: &Probe, freq: i64, end: Ending) -> ScanAnswer
+fn tied_answer(probed: Probed<'_>, freq: i64, end: Ending, ports: &mut [TwoPort]) -> ScanAnswer
     requires freq { IsFrequency freq }
-    requires end { EndsAlways case.now.parts end }
-    ensures { result ≡ answer_by case.now.parts probe.now (judged_frequency case.now.parts (Some freq)) }
+    requires end { EndsAlways probed.case.now.parts end }
+    requires ports { length ports.old ≡ length probed.case.now.parts.branches }
+    ensures { result ≡ probed_answer probed.entry freq }
 {
-    match judged_frequency(table, case, Some(freq)) {
-        Ok(_) => told_end(case, end),
+    match judged_ports(probed.table, probed.case, Some(freq), ports) {
+        Ok(_) => told_end(probed.case, end),
         Err(refused) => ScanAnswer::Refused { line: refused.line },
     }
 }

@@ -3,8 +3,8 @@
 ghost use Rattle.std.specs.Prelude.{◌≡◌, ◌<◌, ◌≤◌, ◌∷◌, drop, length, IfOk, IfErr};
 ghost use Rattle.std.specs.Option.{ForSome};
 ghost use Rattle.emtp_admittance.specs.held.Frequency.{IsFrequency};
-ghost use Rattle.emtp_admittance.specs.declared.limit.TheConstants.{MOST_PHASOR_NODES};
-ghost use Rattle.emtp_phasor.specs.held.Ending.{EndsAlways, EndsSteady};
+ghost use Rattle.emtp_phasor.specs.held.Ending.{EndsAlways, EndsSteady, StopsOpening};
+ghost use Rattle.emtp_phasor.specs.held.HeldSystem.{HasPorts, IsReady};
 ghost use Rattle.emtp_phasor.specs.held.Solving.{AnswersCase, FaultsAtFrequency};
 ghost use Rattle.emtp_phasor.specs.held.Steady.{IsSteady};
 ghost use Rattle.emtp_phasor.specs.Volts.{nothing};
@@ -12,8 +12,9 @@ ghost use Rattle.emtp_phasor.specs.Volts.{nothing};
 use crate::ending::Ending;
 use crate::fault::PhasorFault;
 use crate::phasor::Phasor;
-use crate::system::{Stop, System};
-use emtp_admittance::judged_frequency;
+use crate::resting::Stop;
+use crate::system::{System, no_ports};
+use emtp_admittance::judged_ports;
 use emtp_case::Case;
 use emtp_fix::Steps;
 use emtp_machine::node_name;
@@ -36,34 +37,36 @@ pub struct Phasors {
 /// The steady state of a case at the given frequency, in micro-hertz, or at that of its first source that has one.
 ///
 /// The case is linear and without control: which cards are refused, and in which order, is decided by
-/// [`judged_frequency`]. The doubled system is eliminated from its first row, and each residual of an answer is within the
+/// [`judged_ports`]. The doubled system is eliminated from its first row, and each residual of an answer is within the
 /// tolerance of the case. This project's own.
 pub fn solve(alloc: Global, case: &Case, freq: Option<i64>) -> Result<Phasors, PhasorFault>
     requires { ForSome freq IsFrequency }
     ensures { AnswersCase case.now.parts freq result }
 {
-    match CosTable::open(alloc) {
-        Ok(table) => match judged_frequency(&table, case, freq) {
-            Ok(freq) => solve_at::<Brand>(alloc, &table, case, freq, Blank::new(1)),
-            Err(refused) => Err(PhasorFault::Refused {
-                line: refused.line,
-                reason: refused.reason,
-            }),
+    let table = CosTable::open(alloc)?;
+    let mut ports = no_ports(alloc, case)?;
+    match judged_ports(&table, case, freq, &mut ports) {
+        Ok(freq) => match System::open(alloc, &table, case, ports) {
+            Ok(mut system) => { solve_at::<Brand>(alloc, case, freq, &mut system, Blank::new(1)) }
+            Err(stop) => Err(stopped(case, freq, stop)),
         },
-        Err(_) => Err(PhasorFault::NoMemory),
+        Err(refused) => Err(PhasorFault::Refused {
+            line: refused.line,
+            reason: refused.reason,
+        }),
     }
 }
 
-/// The steady state at a frequency that is good.
+/// The steady state at a frequency that is good, by a system that has its two-ports.
 fn solve_at<L: Ledger>(
     alloc: Global,
-    table: &CosTable,
     case: &Case,
     freq: i64,
+    system: &mut System,
     blank: Blank,
 ) -> Result<Phasors, PhasorFault>
-    requires few { length case.now.parts.nodes ≤ MOST_PHASOR_NODES }
-    requires freq { IsFrequency freq }
+    requires ready { IsReady case.now.parts system.old }
+    requires ports { HasPorts case.now.parts freq system.old }
     requires name { blank.name ≡ L.name }
     requires parts { blank.parts ≡ L.parts }
     requires some { 0 < blank.parts }
@@ -71,24 +74,17 @@ fn solve_at<L: Ledger>(
     ensures good { IfOk result (λ p. IsSteady case.now.parts freq (nothing ∷ p.volts.items) p.residual) }
     ensures fault { IfErr result (FaultsAtFrequency case.now.parts freq) }
 {
-    match System::open(alloc, table, case) {
-        Ok(mut system) => {
-            let mut steps = Steps::<L>::new(blank);
-            system.set_frequency(table, case, freq);
-            match system.at(case, freq, &mut steps) {
-                Ok(residual) => match behind_ground(alloc, &system.volts) {
-                    Ok(volts) => Ok(Phasors {
-                        freq,
-                        residual,
-                        volts,
-                    }),
-                    Err(_) => Err(PhasorFault::NoMemory),
-                },
-                Err(end) => Err(ended(case, freq, end)),
-            }
-        }
-        Err(Stop::Ended(end)) => Err(always_ended(case, freq, end)),
-        Err(Stop::NoMemory) => Err(PhasorFault::NoMemory),
+    let mut steps = Steps::<L>::new(blank);
+    match system.at(case, freq, &mut steps) {
+        Ok(residual) => match behind_ground(alloc, &system.room.volts) {
+            Ok(volts) => Ok(Phasors {
+                freq,
+                residual,
+                volts,
+            }),
+            Err(_) => Err(PhasorFault::NoMemory),
+        },
+        Err(end) => Err(ended(case, freq, end)),
     }
 }
 
@@ -109,6 +105,17 @@ fn ended(case: &Case, freq: i64, end: Ending) -> PhasorFault
         name: node_name(case, end.node),
         cause: end.cause,
         measured: end.measured,
+    }
+}
+
+/// Why no system was opened.
+fn stopped(case: &Case, freq: i64, stop: Stop) -> PhasorFault
+    requires { StopsOpening case.now.parts stop }
+    ensures { FaultsAtFrequency case.now.parts freq result }
+{
+    match stop {
+        Stop::Ended(end) => always_ended(case, freq, end),
+        Stop::NoMemory => PhasorFault::NoMemory,
     }
 }
 

@@ -6,12 +6,9 @@ ghost use Rattle.emtp_elim.specs.held.Finished.{AreAllFinished};
 ghost use Rattle.emtp_elim.specs.Matrix.{Matrix};
 ghost use Rattle.emtp_elim.specs.held.Matrix.{AreWithin};
 ghost use Rattle.emtp_elim.specs.Outcome.{outcome};
-ghost use Rattle.emtp_admittance.specs.held.Frequency.{IsFrequency};
 ghost use Rattle.emtp_case.specs.held.EndNames.{IsNode};
 ghost use Rattle.emtp_case.specs.RowOrder.{order_of};
-ghost use Rattle.emtp_admittance.specs.held.Admittances.{IsSmallPort};
 ghost use Rattle.emtp_phasor.specs.held.SteadyNetwork.{IsSteadyNetwork};
-ghost use Rattle.emtp_admittance.specs.Impedance.{port_or_none, ports_of};
 ghost use Rattle.emtp_phasor.specs.Steady.{resting_kinds, named_ending};
 ghost use Rattle.emtp_phasor.specs.held.Steady.{AreGood, judged_volts};
 ghost use Rattle.emtp_phasor.specs.Volts.{volt_in, phasors_of};
@@ -21,46 +18,9 @@ use crate::ending::{Ending, ending_at};
 use crate::flow::{first_out, judge};
 use crate::phasor::{NOTHING, Phasor};
 use crate::steady_network::SteadyNetwork;
-use emtp_admittance::{Admittance, Refusal, TwoPort, branch_port};
 use emtp_case::{Case, RowOrder, branch_name};
 use emtp_elim::SparseRows;
 use emtp_machine::Cause;
-use emtp_wave::CosTable;
-
-const NO_ADMITTANCE: Admittance = Admittance {
-    conductance: 0,
-    susceptance: 0,
-};
-
-/// The two-port of a branch that has none.
-pub(crate) const NO_PORT: TwoPort = TwoPort {
-    own: NO_ADMITTANCE,
-    other: NO_ADMITTANCE,
-};
-
-fn port_or_none(port: Result<TwoPort, Refusal>) -> TwoPort
-    requires { IfOk port IsSmallPort }
-    ensures value { result ≡ port_or_none port }
-    ensures small { IsSmallPort result }
-{
-    match port {
-        Ok(port) => port,
-        Err(_) => NO_PORT,
-    }
-}
-
-/// The two-ports of all branches at a frequency.
-pub(crate) fn fill_ports(table: &CosTable, case: &Case, freq: i64, out: &mut [TwoPort])
-    requires freq { IsFrequency freq }
-    requires out { length out.old ≡ length case.now.parts.branches }
-    ensures value { out.new ≡ ports_of case.now.parts freq }
-    ensures small { All IsSmallPort out.new }
-{
-    let branches = case.parts.branches.as_slice();
-    for at in 0..branches.len() {
-        out[at] = port_or_none(branch_port(table, freq, &branches[at]));
-    }
-}
 
 /// The voltages by node, ground first, from the unknowns by row.
 pub(crate) fn fill_volts(case: &Case, order: &RowOrder, x: &[i64], out: &mut [Phasor])

@@ -12,25 +12,35 @@ use Rattle.emtp_phasor.specs.held.HeldBranches.{branches_by_row}
 use Rattle.emtp_phasor.specs.held.HeldGroups.{members_by_row}
 use Rattle.emtp_phasor.specs.held.HeldSources.{IsSmallBrought, brought_by_row}
 use Rattle.emtp_phasor.specs.Steady.{resting_kinds, steady_right}
+use Rattle.emtp_phasor.specs.declared.resting.RestingNetwork.{RestingNetwork}
+use Rattle.emtp_phasor.specs.declared.room.Room.{Room}
 use Rattle.emtp_phasor.specs.declared.system.System.{System}
 
--- it is of the case, whose switches tie no two known voltages at rest, its row at work is clear, and its room has its lengths
-pub record IsReady (case : Parts) (s : System) : Type 0 where
-  pub order_is : s.order ≡ order_of case
+-- it is of the case, whose switches tie no two known voltages at rest
+pub record IsResting (case : Parts) (n : RestingNetwork) : Type 0 where
+  pub order_is : n.order ≡ order_of case
   pub free : tied_of case.switches (order_of case) (rest_of case).switch_states ≡ None
-  pub kinds_are : s.kinds.items ≡ resting_kinds case
-  pub ties : All (TieIsThere (length case.nodes)) s.kinds.items
-  pub lists_are : s.lists.items ≡ branches_by_row case
-  pub groups_are : s.groups.items ≡ members_by_row (resting_kinds case)
-  pub brought_are : s.brought.items ≡ brought_by_row case
-  pub brought_small : IsSmallBrought case s.brought.items
-  pub done_size : s.done.size ≡ 2 * length case.nodes
-  pub work_clear : IsClearRow (2 * length case.nodes) s.work
+  pub kinds_are : n.kinds.items ≡ resting_kinds case
+  pub ties : All (TieIsThere (length case.nodes)) n.kinds.items
+  pub lists_are : n.lists.items ≡ branches_by_row case
+  pub groups_are : n.groups.items ≡ members_by_row (resting_kinds case)
+  pub brought_are : n.brought.items ≡ brought_by_row case
+  pub brought_small : IsSmallBrought case n.brought.items
+
+-- its row at work is clear, and each part has its length
+pub record HasRoom (case : Parts) (room : Room) : Type 0 where
+  pub done_size : room.done.size ≡ 2 * length case.nodes
+  pub work_clear : IsClearRow (2 * length case.nodes) room.work
+  pub rhs_count : length room.rhs.items ≡ 2 * length case.nodes
+  pub x_count : length room.x.items ≡ 2 * length case.nodes
+  pub volts_count : length room.volts.items ≡ length case.nodes + 1
+
+-- its network and its right side are those of the case, and it has its room
+pub record IsReady (case : Parts) (s : System) : Type 0 where
+  pub resting : IsResting case s.resting
   pub right_is : s.right.items ≡ steady_right case
   pub ports_count : length s.ports.items ≡ length case.branches
-  pub rhs_count : length s.rhs.items ≡ 2 * length case.nodes
-  pub x_count : length s.x.items ≡ 2 * length case.nodes
-  pub volts_count : length s.volts.items ≡ length case.nodes + 1
+  pub room : HasRoom case s.room
 
 -- its two-ports are those of a frequency
 pub record HasPorts (case : Parts) (freq : ℤ) (s : System) : Type 0 where

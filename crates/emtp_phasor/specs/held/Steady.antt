@@ -3,11 +3,9 @@ use Rattle.std.specs.Prelude.{◌≡◌, ◌<◌, ◌≤ℤ◌, ℕ, ℤ, pos, u
 use Rattle.emtp_fix.specs.Chain.{◌>>=◌}
 use Rattle.emtp_case.specs.declared.case.Parts.{Parts}
 use Rattle.emtp_admittance.specs.Admittances.{port_at}
-use Rattle.emtp_admittance.specs.held.Admittances.{IsSmallPort}
 use Rattle.emtp_admittance.specs.declared.admittance.TwoPort.{TwoPort}
 use Rattle.emtp_phasor.specs.declared.ending.Ending.{Ending}
 use Rattle.emtp_phasor.specs.declared.phasor.Phasor.{Phasor}
-use Rattle.emtp_admittance.specs.Impedance.{ports_of}
 use Rattle.emtp_phasor.specs.Steady.{flows, row_residual, first_residual_above, greatest_below, State, within, balanced_residuals, steady}
 
 -- the same from the voltages on
@@ -43,8 +41,3 @@ pub record AreBelow (case : Parts) (ports : List TwoPort) (volts : List Phasor) 
 abbrev pub JudgesResiduals : Parts → List TwoPort → List Phasor → Result ℤ (ℕ × ℤ) → Type 0
 JudgesResiduals case ports volts (Ok greatest) = AreBelow case ports volts greatest
 JudgesResiduals case ports volts (Err p) = IsFirstResidualAbove case ports volts p.0 p.1
-
--- the two-ports of the first branches are in their places
-pub record ArePorts (case : Parts) (freq : ℤ) (out : List TwoPort) (count : ℕ) : Type 0 where
-  pub value : (k : ℕ) → k < count → port_at out k ≡ port_at (ports_of case freq) k
-  pub small : (k : ℕ) → k < count → IsSmallPort (port_at out k)

@@ -4,7 +4,7 @@ use Rattle.emtp_phasor.specs.held.Opening.{IsClosed, IsTiedBy}
 use Rattle.emtp_phasor.specs.Steady.{ending_at}
 use Rattle.emtp_machine.specs.declared.end.Cause.TheVariants.{Tied}
 use Rattle.emtp_phasor.proofs.Steadying.{steady_tied}
-use Rattle.emtp_phasor.proofs.system.stop_of.Goals as goal
+use Rattle.emtp_phasor.proofs.resting.stop_of.Goals as goal
 
 pub returns-in-Tied : goal.returns-in-Tied
 returns-in-Tied c =
