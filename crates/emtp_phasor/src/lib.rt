@@ -10,6 +10,23 @@
 //! let state = solve(alloc, &case, None)?;                        // volts of each node, in nV
 //! let lines = scan(alloc, &case, 50_000_000, 2_000_000_000, 50_000_000)?;    // 50 Hz to 2 kHz
 //! ```
+//!
+//! - `solving`: the steady state at one frequency
+//! - `scanning`: the impedance over frequencies, line by line
+//! - `resting`: the network at rest, which is the same at all frequencies
+//! - `opening`: the kinds of its rows, and its right side
+//! - `groups`: the rows of each group that closed switches join
+//! - `node_branches`: the branches at each node
+//! - `sources`: what sources bring to rows
+//! - `steady_network`: the same network with its two-ports at a frequency
+//! - `fill`: a row of its doubled matrix
+//! - `eliminating`: the rows of this matrix, finished one after another
+//! - `room`: room for a solution, and the unknowns in it
+//! - `system`: network, two-ports and room, solved for one frequency after the other
+//! - `voltages`: the voltages by node, and whether they are good
+//! - `flow`: currents of branches, and residuals
+//! - `phasor`, `line`, `ending`, `fault`: a complex number, a line of a scan, how a solution ends, why there is no answer
+//! - `laws`: what an engineer may count on
 #![tactic(auto)]
 
 mod eliminating;
@@ -28,9 +45,9 @@ mod room;
 mod scanning;
 mod solving;
 mod sources;
-mod steady;
 mod steady_network;
 mod system;
+mod voltages;
 
 pub use fault::PhasorFault;
 pub use laws::{

@@ -14,8 +14,8 @@ ghost use Rattle.emtp_phasor.specs.held.SteadyNetwork.{IsSteadyNetwork, doubled_
 use crate::eliminating::eliminate_rows;
 use crate::ending::Ending;
 use crate::phasor::{NOTHING, Phasor};
-use crate::steady::solve_right;
 use crate::steady_network::SteadyNetwork;
+use crate::voltages::solve_right;
 use emtp_case::Case;
 use emtp_elim::{SparseRows, WorkRow};
 use emtp_fix::Steps;

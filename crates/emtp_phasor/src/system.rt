@@ -15,7 +15,7 @@ use crate::ending::Ending;
 use crate::opening::right_side;
 use crate::resting::{RestingNetwork, Stop};
 use crate::room::Room;
-use crate::steady::{fill_volts, judge_volts};
+use crate::voltages::{fill_volts, judge_volts};
 use emtp_admittance::{NO_PORT, Refused, TwoPort, judged_ports};
 use emtp_case::Case;
 use emtp_fix::Steps;

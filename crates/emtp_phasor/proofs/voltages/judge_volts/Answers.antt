@@ -1,6 +1,6 @@
 use Rattle.std.proofs.Common.{arith}
 use Rattle.emtp_case.proofs.RowsOfNodes.{order_size, row_node}
-use Rattle.emtp_phasor.proofs.steady.judge_volts.Goals as goal
+use Rattle.emtp_phasor.proofs.voltages.judge_volts.Goals as goal
 
 pub node_at-requires : goal.node_at-requires
 node_at-requires c = omega (arith, c.in-Err.ensures.there, order_size c.args.network.case.now.parts c.args.network.order.now c.requires.network.order_is)

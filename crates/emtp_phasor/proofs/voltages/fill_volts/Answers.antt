@@ -4,7 +4,7 @@ use Rattle.emtp_phasor.specs.Volts.{volt_in}
 use Rattle.emtp_phasor.specs.declared.phasor.Phasor.{Phasor}
 use Rattle.emtp_case.proofs.RowsOfNodes.{order_size, row_read}
 use Rattle.emtp_phasor.proofs.Volting.{row_is_at, voltages_all, voltages_more}
-use Rattle.emtp_phasor.proofs.steady.fill_volts.Goals as goal
+use Rattle.emtp_phasor.proofs.voltages.fill_volts.Goals as goal
 
 pub row_of-requires-clause-high : goal.row_of-requires-clause-high
 row_of-requires-clause-high c = omega (arith, order_size c.args.case.now.parts c.args.order.now c.requires.order, c.loop-at-test.true, c.len-at-end.ensures)

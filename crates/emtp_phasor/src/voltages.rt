@@ -1,4 +1,4 @@
-//! The steady state at a frequency.
+//! The voltages at a frequency, and whether they are good.
 
 ghost use Rattle.emtp_fix.specs.declared.limit.TheConstants.{LARGEST_VALUE};
 ghost use Rattle.std.specs.Prelude.{◌≡◌, ◌*◌, ◌+◌, ◌<◌, All, Ok, Err, length, IfOk, IfErr, OnOk};

@@ -6,7 +6,7 @@ use Rattle.emtp_elim.specs.Outcome.{outcome}
 use Rattle.emtp_machine.specs.declared.end.Cause.TheVariants.{Range}
 use Rattle.emtp_phasor.specs.Steady.{ending_at, named_ending}
 use Rattle.emtp_phasor.specs.declared.ending.Ending.{Ending}
-use Rattle.emtp_phasor.proofs.steady.solve_right.Goals as goal
+use Rattle.emtp_phasor.proofs.voltages.solve_right.Goals as goal
 
 pub node_at-requires : goal.node_at-requires
 node_at-requires c = omega (arith, c.in-Err.ensures.row, c.requires.size, order_size c.args.network.case.now.parts c.args.network.order.now c.requires.network.order_is)

@@ -1,7 +1,7 @@
 use Rattle.std.proofs.Common.{◌≡◌, ◌<◌, ◌+◌, ℕ}
 use Rattle.emtp_case.specs.NodeRows.{row_at}
 use Rattle.emtp_phasor.specs.Volts.{nothing, volt_at, volt_in}
-use Rattle.emtp_phasor.proofs.steady.fill_volts.Given as goal
+use Rattle.emtp_phasor.proofs.voltages.fill_volts.Given as goal
 
 abbrev pub invariant-loop-at : goal.invariant-loop-at
 invariant-loop-at l = record {
