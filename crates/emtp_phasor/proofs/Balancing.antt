@@ -1,5 +1,5 @@
 -- What a steady state was made of, and how its rows balance.
-use Rattle.std.proofs.Common.{◌≡◌, ◌∙◌, sym, ap, subst, ℕ, zero, suc, ◌<◌, ◌≤◌, ℤ, max, unsigned_abs, nat_lt, Bool, true, false, List, length, get_or, None, Result, Ok, Err, IfOk, refl, inl, inr, arith}
+use Rattle.std.proofs.Common.{◌≡◌, ◌∙◌, sym, ap, subst, ℕ, zero, suc, ◌<◌, ◌≤◌, ℤ, max, unsigned_abs, nat_lt, Bool, true, false, List, length, get_or, None, Result, Ok, Err, IfOk, inl, inr, arith}
 use Rattle.std.specs.List.{range_with_len}
 use Rattle.std.proofs.lemmas.Bool.{cases_eq, cases_lt, lt-ltb, true≢false}
 use Rattle.std.proofs.lemmas.List.FromFn.{get_or-range_with_len, length-range_with_len}

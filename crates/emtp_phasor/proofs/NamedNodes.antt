@@ -1,5 +1,5 @@
 -- The node that an end of a steady state names.
-use Rattle.std.proofs.Common.{◌≡◌, ◌∙◌, sym, ap, subst, ℕ, zero, suc, ◌-◌, ◌/◌, ◌==◌, ◌*◌, ◌<◌, ◌≤◌, ℤ, pos, unsigned_abs, nat_eq, if◌then◌else◌, Bool, true, false, List, [], length, Option, Some, None, Result, Ok, Err, IfSome, IfErr, refl, arith}
+use Rattle.std.proofs.Common.{◌≡◌, ◌∙◌, sym, ap, subst, ℕ, zero, suc, ◌-◌, ◌/◌, ◌==◌, ◌*◌, ◌<◌, ℤ, pos, unsigned_abs, nat_eq, if◌then◌else◌, Bool, true, false, List, [], length, Option, Some, None, Result, Ok, Err, IfSome, IfErr, refl, arith}
 use Rattle.std.specs.List.{position, range_with_len}
 use Rattle.std.specs.List.Sorted.{IsPermutation}
 use Rattle.std.proofs.lemmas.List.{get_or-map, length-map}
@@ -38,15 +38,12 @@ use Rattle.emtp_case.specs.declared.switch.Switch.{Switch}
 use Rattle.emtp_switch.proofs.RowKinds.{tied_there}
 use Rattle.emtp_switch.specs.Groups.{no_switch, tied_of}
 use Rattle.emtp_admittance.specs.Impedance.{ports_of}
-use Rattle.emtp_admittance.specs.declared.admittance.TwoPort.{TwoPort}
-use Rattle.emtp_machine.specs.Next.{node_name}
 use Rattle.emtp_machine.specs.declared.end.Cause.TheVariants.{Range, Residual, Tied}
 use Rattle.emtp_phasor.proofs.Doubling.{length-doubled_matrix}
 use Rattle.emtp_phasor.specs.Balance.{NamesNode}
-use Rattle.emtp_phasor.specs.Steady.{State, balanced_residuals, cause_of, doubled_solution, doubled_system, ending_at, ending_of, first_flow_out, first_residual_above, greatest_below, named_ending, row_residual, steady, steady_right, untied_at_rest, within}
+use Rattle.emtp_phasor.specs.Steady.{cause_of, doubled_solution, doubled_system, ending_at, first_flow_out, first_residual_above, named_ending, row_residual, steady, steady_right, untied_at_rest, within}
 use Rattle.emtp_phasor.specs.Volts.{phasors_of}
 use Rattle.emtp_phasor.specs.declared.ending.Ending.{Ending}
-use Rattle.emtp_phasor.specs.declared.phasor.Phasor.{Phasor}
 
 -- ---- stages
 
