@@ -21,7 +21,10 @@ was_asked before (Some channel) = list_any (is_same channel) before
 -- what the channel after so many warns of
 abbrev pub at_channel : List Channel → ℕ → List Warning
 at_channel channels place = found
-    ((was_asked (take place channels) (slice_get channels place), record { spot = OfChannel (place + 1); finding = AskedTwice }) ∷ [])
+    ((
+      was_asked (take place channels) (slice_get channels place),
+      record { spot = OfChannel (place + 1); finding = AskedTwice },
+    ) ∷ [])
 
 -- what the first channels warn of
 abbrev pub up_to_channel : List Channel → ℕ → List Warning

@@ -37,7 +37,8 @@ fn end_of_run(case: &Case) -> i64
 }
 
 fn add_branches(out: &mut Vec<Warning>, case: &Case) -> Result<(), AllocError>
-    ensures { OnOk result (AddsTo out.old.items (flat_map (branch_warnings case.now.parts) case.now.parts.branches) out.new.items) }
+    ensures { OnOk result (AddsTo out.old.items
+        (flat_map (branch_warnings case.now.parts) case.now.parts.branches) out.new.items) }
 {
     for branch in case.parts.branches.as_slice() {
         add_branch(out, case, branch)?;
@@ -46,7 +47,8 @@ fn add_branches(out: &mut Vec<Warning>, case: &Case) -> Result<(), AllocError>
 }
 
 fn add_switches(out: &mut Vec<Warning>, case: &Case) -> Result<(), AllocError>
-    ensures { OnOk result (AddsTo out.old.items (flat_map (switch_warnings case.now.parts) case.now.parts.switches) out.new.items) }
+    ensures { OnOk result (AddsTo out.old.items
+        (flat_map (switch_warnings case.now.parts) case.now.parts.switches) out.new.items) }
 {
     for switch in case.parts.switches.as_slice() {
         add_switch(out, case, switch)?;
