@@ -7,11 +7,11 @@ use Rattle.emtp_io.specs.declared.whole.ReadEnd.TheVariants.{Failed, NoMemory as
 use Rattle.emtp_run.proofs.Endings.{ends-complete}
 use Rattle.emtp_run.proofs.Contents.{contents-there, one_of, opened_all}
 use Rattle.emtp_run.proofs.Creating.{creates-by}
-use Rattle.emtp_run.specs.Command.{OpenedSoFar, TookSoFar, cases_in, outcome_for, outcome_of, own_texts, reads, runs_of, texts_for}
+use Rattle.emtp_run.specs.Command.{by_reading, cases_in, outcome_for, outcome_of, own_texts, reads, runs_of, texts_for}
 use Rattle.emtp_run.specs.held.Command.{IsAnswered, HoldsOfRuns}
 use Rattle.emtp_run.specs.Inputs.{Input, TookOfLast, UnlessAny, contents, opens_after}
 use Rattle.emtp_run.specs.held.Inputs.{FilesAreThere, IsUntouched, ReadsInputs}
-use Rattle.emtp_run.specs.Outcome.{HasRoomFor, HasRun, HasStatusCause, Leaves, Outcome, Settles}
+use Rattle.emtp_run.specs.Outcome.{HasRoomFor, HasRun, HasStatusCause, Outcome}
 use Rattle.emtp_run.specs.held.Outcome.{CreatesOf, Ends, EndsAfterReading}
 use Rattle.emtp_run.specs.Words.{Task, Audit, Batch, Phasor, Run, Scan, Trial}
 use Rattle.emtp_run.specs.declared.status.Status.{Status}
@@ -31,64 +31,17 @@ read_on-is inputs old mid x read =
     ∙ ap (λ (n : ℕ). let made : CabinetState = record mid { nature = old.nature; outputs = old.outputs; faults_in = old.faults_in; faults_out = old.faults_out; creates = n } in made) read.creates
     ∙ ap (λ (t : Turns). let made : CabinetState = record mid { nature = old.nature; outputs = old.outputs; faults_in = old.faults_in; faults_out = old.faults_out; creates = old.creates; turns = t } in made) read.turns
 
-cause_from : (s : Status) (old new : CabinetState) (u : Option (List ℕ)) (n : ℕ) → HasStatusCause s (read_on old u n) new → HasStatusCause s old new
-cause_from Done old new u n h = h
-cause_from Usage old new u n h = h
-cause_from BadCard old new u n h = h
-cause_from Ended old new u n h = h
-cause_from ReadFault old new u n h = h
-cause_from WriteFault old new u n h = h
-cause_from NoMemory old new u n h = h
-cause_from Refused old new u n h = h
-cause_from Differs old new u n h = h
-cause_from BadRow old new u n h = h
-
-leaves_from : (s : Status) (old new : CabinetState) (u : Option (List ℕ)) (n : ℕ) → Leaves s (read_on old u n) new → Leaves s old new
-leaves_from Done old new u n h = h
-leaves_from Usage old new u n h = h
-leaves_from BadCard old new u n h = h
-leaves_from Ended old new u n h = h
-leaves_from ReadFault old new u n h = h
-leaves_from WriteFault old new u n h = h
-leaves_from NoMemory old new u n h = h
-leaves_from Refused old new u n h = h
-leaves_from Differs old new u n h = h
-leaves_from BadRow old new u n h = h
-
-settles_from : (s : Status) (o : Option Outcome) (old new : CabinetState) (u : Option (List ℕ)) (n : ℕ) → Settles s o (read_on old u n) new → Settles s o old new
-settles_from Done o old new u n h = h
-settles_from Usage o old new u n h = h
-settles_from BadCard o old new u n h = h
-settles_from Ended o old new u n h = h
-settles_from ReadFault o old new u n h = h
-settles_from WriteFault o old new u n h = h
-settles_from NoMemory o old new u n h = h
-settles_from Refused o old new u n h = h
-settles_from Differs o old new u n h = h
-settles_from BadRow o old new u n h = h
-
-creates_from : (s : Status) (o : Outcome) (old new : CabinetState) (u : Option (List ℕ)) (n : ℕ) → CreatesOf s o (read_on old u n) new → CreatesOf s o old new
-creates_from Done o old new u n h = h
-creates_from Usage o old new u n h = h
-creates_from BadCard o old new u n h = h
-creates_from Ended o old new u n h = h
-creates_from ReadFault o old new u n h = h
-creates_from WriteFault o old new u n h = h
-creates_from NoMemory o old new u n h = h
-creates_from Refused o old new u n h = h
-creates_from Differs o old new u n h = h
-creates_from BadRow o old new u n h = h
-
+-- what a status says doesn't go by these two
 creates_after : {A : Type 0} (inputs : List Input) (s : Status) (o : Outcome) (old mid new : CabinetState) (x : A) → ReadsInputs {A = A} inputs old mid (Ok x) → CreatesOf s o mid new → CreatesOf s o old new
 creates_after inputs s o old mid new x read creates =
-    creates_from s o old new mid.unread mid.opens (subst (λ (c : CabinetState). CreatesOf s o c new) (read_on-is inputs old mid x read) creates)
+    subst (λ (c : CabinetState). CreatesOf s o c new) (read_on-is inputs old mid x read) creates
 
 ends_from : (s : Status) (o asked : Option Outcome) (old new : CabinetState) (u : Option (List ℕ)) (n : ℕ) → (IsTrue old.nature.tells → asked ≡ o) → Ends s o (read_on old u n) new → Ends s asked old new
 ends_from s o asked old new u n same ends = record {
   nature = ends.nature;
-  cause = cause_from s old new u n ends.cause;
-  no_record = leaves_from s old new u n ends.no_record;
-  outcome = λ tells. rw (same tells) (settles_from s o old new u n (ends.outcome tells));
+  cause = ends.cause;
+  no_record = ends.no_record;
+  outcome = λ tells. rw (same tells) (ends.outcome tells);
   calm = λ tells calm fit.
       let run = ends.calm tells calm (rw (same tells) at fit) in
       record { inputs = run.inputs; outputs = run.outputs; read = run.read; write = run.write };
@@ -125,31 +78,18 @@ inputs_from Refused old new read h = h.0
 inputs_from Differs old new read h = h.0
 inputs_from BadRow old new read h = h.0
 
--- the last file is open, whatever is answered then
-so_far : (s : Status) (files : List ℕ → Option (List ℕ)) (inputs : List Input) (old new : Option (List ℕ)) → TookOfLast files inputs old new → TookSoFar s files inputs old new
-so_far Done files inputs old new took = took
-so_far Usage files inputs old new took = took
-so_far BadCard files inputs old new took = took
-so_far Ended files inputs old new took = took
-so_far ReadFault files inputs old new took = one_of files inputs old new took
-so_far WriteFault files inputs old new took = took
-so_far NoMemory files inputs old new took = one_of files inputs old new took
-so_far Refused files inputs old new took = took
-so_far Differs files inputs old new took = took
-so_far BadRow files inputs old new took = took
-
--- each file was opened by one call, whatever is answered then
-opened_so_far : (s : Status) (inputs : List Input) (before now : ℕ) → now ≡ opens_after inputs before → OpenedSoFar s inputs before now
-opened_so_far Done inputs before now is = is
-opened_so_far Usage inputs before now is = is
-opened_so_far BadCard inputs before now is = is
-opened_so_far Ended inputs before now is = is
-opened_so_far ReadFault inputs before now is = opened_all inputs before now is
-opened_so_far WriteFault inputs before now is = is
-opened_so_far NoMemory inputs before now is = opened_all inputs before now is
-opened_so_far Refused inputs before now is = is
-opened_so_far Differs inputs before now is = is
-opened_so_far BadRow inputs before now is = is
+-- what holds past the reading, whatever is answered then
+past : {after within : Type 0} (s : Status) → (after → within) → after → by_reading after within s
+past Done so fact = fact
+past Usage so fact = fact
+past BadCard so fact = fact
+past Ended so fact = fact
+past ReadFault so fact = so fact
+past WriteFault so fact = fact
+past NoMemory so fact = so fact
+past Refused so fact = fact
+past Differs so fact = fact
+past BadRow so fact = fact
 
 -- ---- the three ways in which a reading ends
 
@@ -165,9 +105,9 @@ answered {A = A} task s texts old mid new x read untouched told hold after = rec
     inputs = inputs_from s mid new after.read after.ends.cause ∙ none.inputs;
     read = after.read;
   }) untouched;
-  opened = opened_so_far s (reads task) old.opens new.opens (after.opens ∙ read.opens);
+  opened = past s (opened_all (reads task) old.opens new.opens) (after.opens ∙ read.opens);
   created = creates-by task s texts old new (creates_after (reads task) s (outcome_of task texts) old mid new x read after.created);
-  taken = λ tells. so_far s old.nature.files (reads task) old.unread new.unread
+  taken = λ tells. past s (one_of old.nature.files (reads task) old.unread new.unread)
       (subst (λ (o : Option (List ℕ)). TookOfLast old.nature.files (reads task) old.unread o) (sym after.unread) (read.last tells));
   runs = λ tells ran. subst (λ (o : Option (List (List ℕ))). HoldsOfRuns (cases_in task o)) (sym (told tells)) (hold ran);
   ends = ends;

@@ -1,10 +1,10 @@
 -- How a call ends that makes a note and nothing else, or stops at an output, and that nothing else can happen.
-use Rattle.std.proofs.Common.{◌≡◌, ◌≢◌, ℕ, ◌≤◌, List, [], ◌∷◌, inl, inr, sym, refl, Some, None, Option, Result, Ok, Err, IsTrue, IsOk, IfSome}
+use Rattle.std.proofs.Common.{◌≡◌, ◌≢◌, ℕ, ◌≤◌, List, [], ◌∷◌, inl, inr, sym, refl, Some, None, Option, Result, Ok, Err, IsTrue, IsOk, IfSome, subst}
 use Rattle.emtp_io.specs.Cabinet.{CabinetState}
 use Rattle.emtp_io.specs.Writes.{Written}
 use Rattle.emtp_io.specs.held.Writes.{Makes}
 use Rattle.emtp_io.specs.declared.cabinet.Output.TheVariants.{Cfg, Dat}
-use Rattle.emtp_run.specs.Outcome.{Outcome, note, refusal, status_of, HasStatusCause, IsComplete, IsFinished, IsNoted, IsWholeOrCut, KeepsRecord, Leaves, Settles, TriesNote}
+use Rattle.emtp_run.specs.Outcome.{Outcome, note, refusal, says, status_of, IsComplete, IsFinished, IsNoted, IsWholeOrCut, KeepsRecord, Says, TriesNote}
 use Rattle.emtp_run.specs.held.Outcome.{Ends, EndsAfterReading, LeavesNote}
 use Rattle.emtp_run.specs.declared.status.Status.{Status}
 use Rattle.emtp_run.specs.declared.status.Status.TheVariants.{Done, Usage, BadCard, Ended, ReadFault, WriteFault, NoMemory, Refused, Differs, BadRow}
@@ -52,69 +52,36 @@ run-stopped end makes = record {
   };
 }
 
--- ---- what the tables of statuses say of a refusal
+-- ---- what the table of statuses says of a refusal
 
-noted_cause : (status : Status) (old new : CabinetState) → LeavesNote status → new.faults_in ≡ old.faults_in → old.faults_out ≤ new.faults_out → HasStatusCause status old new
-noted_cause Done old new is same later = elim is [ ]
-noted_cause Usage old new is same later = (same, later)
-noted_cause BadCard old new is same later = (same, later)
-noted_cause Ended old new is same later = elim is [ ]
-noted_cause ReadFault old new is same later = elim is [ ]
-noted_cause WriteFault old new is same later = elim is [ ]
-noted_cause NoMemory old new is same later = elim is [ ]
-noted_cause Refused old new is same later = (same, later)
-noted_cause Differs old new is same later = (same, later)
-noted_cause BadRow old new is same later = (same, later)
+of_note : (of : Says) (status : Status) → LeavesNote status → of.noted → says of status
+of_note of Done is fact = elim is [ ]
+of_note of Usage is fact = fact
+of_note of BadCard is fact = fact
+of_note of Ended is fact = elim is [ ]
+of_note of ReadFault is fact = elim is [ ]
+of_note of WriteFault is fact = elim is [ ]
+of_note of NoMemory is fact = elim is [ ]
+of_note of Refused is fact = fact
+of_note of Differs is fact = fact
+of_note of BadRow is fact = fact
 
-noted_leaves : (status : Status) (old new : CabinetState) → LeavesNote status → KeepsRecord old new → Leaves status old new
-noted_leaves Done old new is keeps = elim is [ ]
-noted_leaves Usage old new is keeps = keeps
-noted_leaves BadCard old new is keeps = keeps
-noted_leaves Ended old new is keeps = elim is [ ]
-noted_leaves ReadFault old new is keeps = elim is [ ]
-noted_leaves WriteFault old new is keeps = elim is [ ]
-noted_leaves NoMemory old new is keeps = elim is [ ]
-noted_leaves Refused old new is keeps = keeps
-noted_leaves Differs old new is keeps = keeps
-noted_leaves BadRow old new is keeps = keeps
-
-noted_settles : (status : Status) (o : Option Outcome) (old new : CabinetState) → LeavesNote status → IsNoted o status old new → Settles status o old new
-noted_settles Done o old new is noted = elim is [ ]
-noted_settles Usage o old new is noted = noted
-noted_settles BadCard o old new is noted = noted
-noted_settles Ended o old new is noted = elim is [ ]
-noted_settles ReadFault o old new is noted = elim is [ ]
-noted_settles WriteFault o old new is noted = elim is [ ]
-noted_settles NoMemory o old new is noted = elim is [ ]
-noted_settles Refused o old new is noted = noted
-noted_settles Differs o old new is noted = noted
-noted_settles BadRow o old new is noted = noted
-
-not_a_fault : (status : Status) → LeavesNote status → (status ≢ ReadFault) × (status ≢ WriteFault)
-not_a_fault Done is = elim is [ ]
-not_a_fault Usage is = ((λ same. cc), (λ same. cc))
-not_a_fault BadCard is = ((λ same. cc), (λ same. cc))
-not_a_fault Ended is = elim is [ ]
-not_a_fault ReadFault is = elim is [ ]
-not_a_fault WriteFault is = elim is [ ]
-not_a_fault NoMemory is = elim is [ ]
-not_a_fault Refused is = ((λ same. cc), (λ same. cc))
-not_a_fault Differs is = ((λ same. cc), (λ same. cc))
-not_a_fault BadRow is = ((λ same. cc), (λ same. cc))
+other_than : (status other : Status) → LeavesNote status → (LeavesNote other → ⊥) → status ≢ other
+other_than status other is bars = λ same. bars (subst LeavesNote same is)
 
 -- the note of a refusal was made, or it is cut short
 pub note-ends : {T E : Type 0} {old new : CabinetState} {text : List ℕ} (status : Status) (result : Result T E) → LeavesNote status
     → Makes old new (note text ∷ []) result → Ends status (Some (refusal status text)) old new
 note-ends {old = old} {new = new} {text = text} status result is makes = record {
   nature = makes.nature;
-  cause = noted_cause status old new is makes.faults_in makes.cause.later;
-  no_record = noted_leaves status old new is (keeps_record result makes);
-  outcome = λ tells. noted_settles status (Some (refusal status text)) old new is (refl, whole_or_cut result makes tells);
+  cause = of_note _ status is (makes.faults_in, makes.cause.later);
+  no_record = of_note _ status is (keeps_record result makes);
+  outcome = λ tells. of_note _ status is (refl, whole_or_cut result makes tells);
   calm = λ tells calm fit. record {
     inputs = makes.faults_in;
     outputs = no_fault result makes (makes.calm tells calm fit);
-    read = (not_a_fault status is).0;
-    write = (not_a_fault status is).1;
+    read = other_than status ReadFault is (λ left. left);
+    write = other_than status WriteFault is (λ left. left);
   };
 }
 

@@ -20,7 +20,7 @@ use Rattle.emtp_phasor_text.specs.Reports.{scan_report, steady_report}
 use Rattle.emtp_phasor_text.specs.declared.report.Report.{Report}
 use Rattle.emtp_phasor_text.specs.declared.report.Report.TheVariants.{Ended as TellsEnd, Refused as TellsRefusal, Summary as TellsSummary}
 use Rattle.emtp_run.specs.Inputs.{Input, contents, opens_after, text_at, OpenedSome, TookOfOne, TookOfLast, UnlessAny}
-use Rattle.emtp_run.specs.Outcome.{Outcome, bad_card, bad_row, ended_alone, refusal, summarised, usage, ran, record_writes, trial_writes, IsUnopened, TriesNote}
+use Rattle.emtp_run.specs.Outcome.{Outcome, bad_card, bad_row, ended_alone, refusal, summarised, usage, ran, record_writes, says, trial_writes, IsUnopened, Says, TriesNote}
 use Rattle.emtp_run.specs.Reading.{deck}
 use Rattle.emtp_run.specs.TrialDeck.{trial_cards}
 use Rattle.emtp_run.specs.Words.{Task, Audit, Batch, Phasor, Run, Scan, Trial, fits}
@@ -147,19 +147,14 @@ abbrev pub OpensNothing : Option Task → Status → CabinetState → CabinetSta
 OpensNothing None status old new = IsUnopened status old new
 OpensNothing (Some task) status old new = UnlessAny (reads task) (IsUnopened status old new)
 
+-- what is said of a call that came past its reading, and of one that didn't
+abbrev pub by_reading : Type 0 → Type 0 → Status → Type 0
+by_reading past within = says (record { made = past; noted = past; unread = within; cut = past; wanting = within })
+
 -- How much of these files was taken, by what is unread before and now: after a call that came past its reading the last of
 -- them is open, and else one of them, or none was opened.
 abbrev pub TookSoFar : Status → (List ℕ → Option (List ℕ)) → List Input → Option (List ℕ) → Option (List ℕ) → Type 0
-TookSoFar Done files inputs old new = TookOfLast files inputs old new
-TookSoFar Usage files inputs old new = TookOfLast files inputs old new
-TookSoFar BadCard files inputs old new = TookOfLast files inputs old new
-TookSoFar Ended files inputs old new = TookOfLast files inputs old new
-TookSoFar ReadFault files inputs old new = TookOfOne files inputs old new
-TookSoFar WriteFault files inputs old new = TookOfLast files inputs old new
-TookSoFar NoMemory files inputs old new = TookOfOne files inputs old new
-TookSoFar Refused files inputs old new = TookOfLast files inputs old new
-TookSoFar Differs files inputs old new = TookOfLast files inputs old new
-TookSoFar BadRow files inputs old new = TookOfLast files inputs old new
+TookSoFar status files inputs old new = by_reading (TookOfLast files inputs old new) (TookOfOne files inputs old new) status
 
 abbrev pub TakesWithin : Option Task → Status → CabinetState → CabinetState → Type 0
 TakesWithin None status old new = new.unread ≡ old.unread
@@ -168,16 +163,7 @@ TakesWithin (Some task) status old new = TookSoFar status old.nature.files (read
 -- How often `open` was called, over any cabinet: after a call that came past its reading once for each of these files, in their
 -- order, and else once for each as far as it came.
 abbrev pub OpenedSoFar : Status → List Input → ℕ → ℕ → Type 0
-OpenedSoFar Done inputs before now = now ≡ opens_after inputs before
-OpenedSoFar Usage inputs before now = now ≡ opens_after inputs before
-OpenedSoFar BadCard inputs before now = now ≡ opens_after inputs before
-OpenedSoFar Ended inputs before now = now ≡ opens_after inputs before
-OpenedSoFar ReadFault inputs before now = OpenedSome inputs before now
-OpenedSoFar WriteFault inputs before now = now ≡ opens_after inputs before
-OpenedSoFar NoMemory inputs before now = OpenedSome inputs before now
-OpenedSoFar Refused inputs before now = now ≡ opens_after inputs before
-OpenedSoFar Differs inputs before now = now ≡ opens_after inputs before
-OpenedSoFar BadRow inputs before now = now ≡ opens_after inputs before
+OpenedSoFar status inputs before now = by_reading (now ≡ opens_after inputs before) (OpenedSome inputs before now) status
 
 abbrev pub OpensOnce : Option Task → Status → CabinetState → CabinetState → Type 0
 OpensOnce None status old new = new.opens ≡ old.opens

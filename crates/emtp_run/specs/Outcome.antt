@@ -78,31 +78,39 @@ pub record IsUnopened (status : Status) (old new : CabinetState) : Type 0 where
   pub inputs : new.faults_in ≡ old.faults_in
   pub read : status ≢ ReadFault
 
+-- What is said of a call by how it ends: one thing for each of five ways.
+pub record Says : Type 1 where
+  -- all that it came to was made
+  pub made : Type 0
+  -- a refusal, whose note is all that is made
+  pub noted : Type 0
+  -- a file couldn't be read, and nothing is made
+  pub unread : Type 0
+  -- an output couldn't be made, and none after it is begun
+  pub cut : Type 0
+  -- memory was wanting, and nothing is made
+  pub wanting : Type 0
+
+-- the table of statuses: in which of these ways each ends
+abbrev pub says : Says → Status → Type 0
+says of Done = of.made
+says of Usage = of.noted
+says of BadCard = of.noted
+says of Ended = of.made
+says of ReadFault = of.unread
+says of WriteFault = of.cut
+says of NoMemory = of.wanting
+says of Refused = of.noted
+says of Differs = of.noted
+says of BadRow = of.noted
+
 -- the run came to its end, by itself or early
 abbrev pub IsFinished : Status → Type 0
-IsFinished Done = Unit {0}
-IsFinished Usage = ⊥
-IsFinished BadCard = ⊥
-IsFinished Ended = Unit {0}
-IsFinished ReadFault = ⊥
-IsFinished WriteFault = ⊥
-IsFinished NoMemory = ⊥
-IsFinished Refused = ⊥
-IsFinished Differs = ⊥
-IsFinished BadRow = ⊥
+IsFinished = says (record { made = Unit {0}; noted = ⊥; unread = ⊥; cut = ⊥; wanting = ⊥ })
 
--- the case was run, whether or not all that it came to could be written
+-- the case was run, whether or not all that it came to could be written; before a refusal only where a record differs
 abbrev pub HasRun : Status → Type 0
-HasRun Done = Unit {0}
-HasRun Usage = ⊥
-HasRun BadCard = ⊥
-HasRun Ended = Unit {0}
-HasRun ReadFault = ⊥
-HasRun WriteFault = Unit {0}
-HasRun NoMemory = ⊥
-HasRun Refused = ⊥
-HasRun Differs = Unit {0}
-HasRun BadRow = ⊥
+HasRun status = says (record { made = Unit {0}; noted = status ≡ Differs; unread = ⊥; cut = Unit {0}; wanting = ⊥ }) status
 
 -- all of it was made
 abbrev pub IsMade : Option Outcome → Status → CabinetState → CabinetState → Type 0
@@ -120,29 +128,20 @@ IsNoted o status old new = IsSomeAnd o (λ o. (o.status ≡ status) × IsWholeOr
 
 -- what a status says of the outputs of a call with this outcome
 abbrev pub Settles : Status → Option Outcome → CabinetState → CabinetState → Type 0
-Settles Done o old new = IsMade o Done old new
-Settles Usage o old new = IsNoted o Usage old new
-Settles BadCard o old new = IsNoted o BadCard old new
-Settles Ended o old new = IsMade o Ended old new
-Settles ReadFault o old new = new.outputs ≡ old.outputs
-Settles WriteFault o old new = IsSomeAnd o (λ o. IsFinished o.status × IsCutShort old.outputs o.writes new.outputs)
-Settles NoMemory o old new = new.outputs ≡ old.outputs
-Settles Refused o old new = IsNoted o Refused old new
-Settles Differs o old new = IsNoted o Differs old new
-Settles BadRow o old new = IsNoted o BadRow old new
+Settles status o old new =
+    let same = new.outputs ≡ old.outputs in
+    let short = IsSomeAnd o (λ o. IsFinished o.status × IsCutShort old.outputs o.writes new.outputs) in
+    says (record { made = IsMade o status old new; noted = IsNoted o status old new; unread = same; cut = short; wanting = same }) status
 
 -- what a status says of the counts of faults
 abbrev pub HasStatusCause : Status → CabinetState → CabinetState → Type 0
-HasStatusCause Done old new = (new.faults_in ≡ old.faults_in) × (new.faults_out ≡ old.faults_out)
-HasStatusCause Usage old new = (new.faults_in ≡ old.faults_in) × (old.faults_out ≤ new.faults_out)
-HasStatusCause BadCard old new = (new.faults_in ≡ old.faults_in) × (old.faults_out ≤ new.faults_out)
-HasStatusCause Ended old new = (new.faults_in ≡ old.faults_in) × (new.faults_out ≡ old.faults_out)
-HasStatusCause ReadFault old new = Rose old.faults_in new.faults_in × (new.faults_out ≡ old.faults_out)
-HasStatusCause WriteFault old new = (new.faults_in ≡ old.faults_in) × Rose old.faults_out new.faults_out
-HasStatusCause NoMemory old new = (new.faults_in ≡ old.faults_in) × (new.faults_out ≡ old.faults_out)
-HasStatusCause Refused old new = (new.faults_in ≡ old.faults_in) × (old.faults_out ≤ new.faults_out)
-HasStatusCause Differs old new = (new.faults_in ≡ old.faults_in) × (old.faults_out ≤ new.faults_out)
-HasStatusCause BadRow old new = (new.faults_in ≡ old.faults_in) × (old.faults_out ≤ new.faults_out)
+HasStatusCause status old new = says (record {
+  made = (new.faults_in ≡ old.faults_in) × (new.faults_out ≡ old.faults_out);
+  noted = (new.faults_in ≡ old.faults_in) × (old.faults_out ≤ new.faults_out);
+  unread = Rose old.faults_in new.faults_in × (new.faults_out ≡ old.faults_out);
+  cut = (new.faults_in ≡ old.faults_in) × Rose old.faults_out new.faults_out;
+  wanting = (new.faults_in ≡ old.faults_in) × (new.faults_out ≡ old.faults_out);
+}) status
 
 -- the record of a run is as it was
 abbrev pub KeepsRecord : CabinetState → CabinetState → Type 0
@@ -150,16 +149,9 @@ KeepsRecord old new = (new.outputs.cfg ≡ old.outputs.cfg) × (new.outputs.dat 
 
 -- what a status says of the outputs over any cabinet, whether it tells what they hold or not
 abbrev pub Leaves : Status → CabinetState → CabinetState → Type 0
-Leaves Done old new = Unit {0}
-Leaves Usage old new = KeepsRecord old new
-Leaves BadCard old new = KeepsRecord old new
-Leaves Ended old new = Unit {0}
-Leaves ReadFault old new = new.outputs ≡ old.outputs
-Leaves WriteFault old new = Unit {0}
-Leaves NoMemory old new = new.outputs ≡ old.outputs
-Leaves Refused old new = KeepsRecord old new
-Leaves Differs old new = KeepsRecord old new
-Leaves BadRow old new = KeepsRecord old new
+Leaves status old new =
+    let same = new.outputs ≡ old.outputs in
+    says (record { made = Unit {0}; noted = KeepsRecord old new; unread = same; cut = Unit {0}; wanting = same }) status
 
 -- One call of `create` was made, for the note: it was created and written, or one of the calls on it failed. So over any cabinet.
 abbrev pub TriesNote : CabinetState → CabinetState → Type 0

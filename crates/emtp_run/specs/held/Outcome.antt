@@ -10,8 +10,8 @@ use Rattle.emtp_run.specs.declared.outputs.Product.{Product}
 use Rattle.emtp_run.specs.declared.outputs.Product.TheVariants.{Record as OfRecord, Trial as OfTrial}
 use Rattle.emtp_run.specs.declared.outputs.Results.{Results}
 use Rattle.emtp_run.specs.declared.status.Status.{Status}
-use Rattle.emtp_run.specs.declared.status.Status.TheVariants.{Done, Usage, BadCard, Ended, ReadFault, WriteFault, NoMemory, Refused, Differs, BadRow}
-use Rattle.emtp_run.specs.Outcome.{Outcome, record_writes, trial_writes, Settles, HasStatusCause, Leaves, IsCalmRun, IsFinished, HasRoomFor, TriesNote}
+use Rattle.emtp_run.specs.declared.status.Status.TheVariants.{ReadFault, Usage}
+use Rattle.emtp_run.specs.Outcome.{Outcome, record_writes, says, trial_writes, Says, Settles, HasStatusCause, Leaves, IsCalmRun, IsFinished, HasRoomFor, TriesNote}
 
 abbrev pub writes_of : Product → Parts → History → List Written
 writes_of (OfRecord words) case h = record_writes (files_of words) case h
@@ -27,16 +27,7 @@ pub record AreResultsOf (case : Parts) (results : Results) : Type 0 where
 
 -- a status whose note is all that is made
 abbrev pub LeavesNote : Status → Type 0
-LeavesNote Done = ⊥
-LeavesNote Usage = Unit {0}
-LeavesNote BadCard = Unit {0}
-LeavesNote Ended = ⊥
-LeavesNote ReadFault = ⊥
-LeavesNote WriteFault = ⊥
-LeavesNote NoMemory = ⊥
-LeavesNote Refused = Unit {0}
-LeavesNote Differs = Unit {0}
-LeavesNote BadRow = Unit {0}
+LeavesNote = says (record { made = ⊥; noted = Unit {0}; unread = ⊥; cut = ⊥; wanting = ⊥ })
 
 -- how a call with this outcome ends, whatever it answers
 pub record Ends (status : Status) (o : Option Outcome) (old new : CabinetState) : Type 0 where
@@ -48,16 +39,11 @@ pub record Ends (status : Status) (o : Option Outcome) (old new : CabinetState) 
 
 -- what a status says, over any cabinet, of the calls of `create` that are to make this outcome
 abbrev pub CreatesOf : Status → Outcome → CabinetState → CabinetState → Type 0
-CreatesOf Done o old new = (o.status ≡ Done) × AreCreated (outs o.writes) old.creates new
-CreatesOf Usage o old new = TriesNote old new
-CreatesOf BadCard o old new = TriesNote old new
-CreatesOf Ended o old new = (o.status ≡ Ended) × AreCreated (outs o.writes) old.creates new
-CreatesOf ReadFault o old new = new.creates ≡ old.creates
-CreatesOf WriteFault o old new = IsFinished o.status × StopsCreating (outs o.writes) old.creates new
-CreatesOf NoMemory o old new = new.creates ≡ old.creates
-CreatesOf Refused o old new = TriesNote old new
-CreatesOf Differs o old new = TriesNote old new
-CreatesOf BadRow o old new = TriesNote old new
+CreatesOf status o old new =
+    let all = (o.status ≡ status) × AreCreated (outs o.writes) old.creates new in
+    let some = IsFinished o.status × StopsCreating (outs o.writes) old.creates new in
+    let none = new.creates ≡ old.creates in
+    says (record { made = all; noted = TriesNote old new; unread = none; cut = some; wanting = none }) status
 
 -- a call that ends so once the words fit and all files were read: it reads no more
 pub record EndsAfterReading (status : Status) (o : Outcome) (old new : CabinetState) : Type 0 where
