@@ -11,3 +11,6 @@ pub mod WideSeries
 pub mod Worked
 pub mod AcceptedDecks
 pub mod ApartNames
+pub mod TimedCards
+pub mod TimedWalks
+pub mod TimedCases

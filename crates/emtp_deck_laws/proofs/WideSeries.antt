@@ -33,11 +33,11 @@ moved : {X : Type 0} (field : Result X Why) (first other : ℕ) → Goes (in_col
 moved (Ok y) first other x is = is
 moved (Err why) first other x is = absurd (cc)
 
-name_same : (a b : List ℕ) (first : ℕ) → columns a first (first + 5) ≡ columns b first (first + 5) → name_field a first ≡ name_field b first
+pub name_same : (a b : List ℕ) (first : ℕ) → columns a first (first + 5) ≡ columns b first (first + 5) → name_field a first ≡ name_field b first
 unfolding name_field
 name_same a b first same = ap (λ bytes. if list_any is_comma bytes then Err BadName else Ok (named (trimmed bytes))) same
 
-whole_same : (a b : List ℕ) (first last : ℕ) → columns a first last ≡ columns b first last → whole_field a first last ≡ whole_field b first last
+pub whole_same : (a b : List ℕ) (first last : ℕ) → columns a first last ≡ columns b first last → whole_field a first last ≡ whole_field b first last
 unfolding whole_field
 whole_same a b first last same = ap (λ bytes. unless_blank (trimmed bytes) (whole_in (trimmed bytes))) same
 
@@ -114,7 +114,7 @@ all_go (Err f) ends' (Ok y) values' (Err g) asked' rule same_ends go same_asked 
 all_go (Err f) ends' (Err g) values' (Ok z) asked' rule same_ends go same_asked w is = absurd (cc)
 all_go (Err f) ends' (Err g) values' (Err h) asked' rule same_ends go same_asked w is = absurd (cc)
 
-ends_same : (a b : List ℕ) → name_field a 3 ≡ name_field b 3 → name_field a 9 ≡ name_field b 9 → ends_field a ≡ ends_field b
+pub ends_same : (a b : List ℕ) → name_field a 3 ≡ name_field b 3 → name_field a 9 ≡ name_field b 9 → ends_field a ≡ ends_field b
 unfolding ends_field
 ends_same a b one other = rw (one, other) refl
 

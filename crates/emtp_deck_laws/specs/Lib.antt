@@ -3,3 +3,4 @@ pub mod JudgedCards
 pub mod LeastFault
 pub mod WideCards
 pub mod NamesApart
+pub mod OtherTimes

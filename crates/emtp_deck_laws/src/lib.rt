@@ -16,5 +16,8 @@ mod cases;
 mod faults;
 
 pub use cards::wide_series_card_has_the_narrow_values;
-pub use cases::{accepted_decks_are_cases, decks_of_one_listing_are_one_case};
+pub use cases::{
+    accepted_decks_are_cases, decks_of_one_listing_are_one_case,
+    other_times_give_the_case_with_them,
+};
 pub use faults::{lines_behind_a_fault_do_not_matter, the_fault_is_the_least};
