@@ -14,3 +14,5 @@ pub mod ApartNames
 pub mod TimedCards
 pub mod TimedWalks
 pub mod TimedCases
+pub mod JudgedFields
+pub mod RefusedSwitches

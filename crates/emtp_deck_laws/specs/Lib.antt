@@ -4,3 +4,4 @@ pub mod LeastFault
 pub mod WideCards
 pub mod NamesApart
 pub mod OtherTimes
+pub mod FormFaults

@@ -20,4 +20,7 @@ pub use cases::{
     accepted_decks_are_cases, decks_of_one_listing_are_one_case,
     other_times_give_the_case_with_them,
 };
-pub use faults::{lines_behind_a_fault_do_not_matter, the_fault_is_the_least};
+pub use faults::{
+    a_switch_card_is_refused_for_its_least_fault, lines_behind_a_fault_do_not_matter,
+    the_fault_is_the_least, the_first_line_that_cannot_be_read_is_refused,
+};
