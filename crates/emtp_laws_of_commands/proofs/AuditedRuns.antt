@@ -32,7 +32,7 @@ read_of : (files : List ℕ → Option (List ℕ)) (name text : List ℕ) (bound
 read_of files name text bound is = ap (option_map (λ bytes. take bound bytes)) is
 
 -- what a run comes to over these files
-run_made : (f : RunFiles) (files : List ℕ → Option (List ℕ)) (text : List ℕ) (p : Parts) → fits (run_words f) ≡ Some (Run f) → files f.case ≡ Some text → deck (take (MAX_BYTES + 1) text) ≡ Ok p
+pub run_made : (f : RunFiles) (files : List ℕ → Option (List ℕ)) (text : List ℕ) (p : Parts) → fits (run_words f) ≡ Some (Run f) → files f.case ≡ Some text → deck (take (MAX_BYTES + 1) text) ≡ Ok p
     → outcome (run_words f) files ≡ Some (ran p (record_writes f p (history p)))
 run_made f files text p e there is =
     ap (λ t. outcome_for t files) e

@@ -1,5 +1,5 @@
 -- A row of a batch is the run of its case.
-use Rattle.std.proofs.Common.{◌≡◌, ◌∙◌, ◌+◌, ◌++◌, ap, sym, subst, refl, ℕ, suc, List, [], ◌∷◌, length, map, take, Option, Some, option_map, Ok, append_assoc, arith}
+use Rattle.std.proofs.Common.{◌≡◌, ◌∙◌, ◌+◌, ◌++◌, ap, sym, subst, refl, ℕ, suc, List, [], ◌∷◌, length, map, take, Option, Some, None, option_map, Ok, append_assoc, arith}
 use Rattle.std.specs.Prelude.{IsSomeAnd}
 use Rattle.emtp_batch.specs.Altered.{altered}
 use Rattle.emtp_batch.specs.Report.{report_of, reports_of}
@@ -7,14 +7,22 @@ use Rattle.emtp_batch.specs.Summary.{analog_count, batch_text, max_lines, row_li
 use Rattle.emtp_batch.specs.Table.{times_table}
 use Rattle.emtp_batch.specs.declared.report.RowReport.{RowReport}
 use Rattle.emtp_batch.specs.declared.table.Row.{Row}
+use Rattle.emtp_card.specs.Lines.{lines_of}
 use Rattle.emtp_card.specs.declared.cards.TheConstants.{MAX_BYTES}
+use Rattle.emtp_case.specs.Switch.{card_times, with_times}
 use Rattle.emtp_case.specs.declared.case.Parts.{Parts}
+use Rattle.emtp_deck_laws.specs.OtherTimes.{HasOtherTimes}
+use Rattle.emtp_deck_laws.proofs.TimedCases.{other_times}
+use Rattle.emtp_machine.specs.History.{history}
 use Rattle.emtp_run.specs.Command.{answer_by, batch_outcome, outcome, outcome_for, outcome_of, text_file}
 use Rattle.emtp_run.specs.Inputs.{and_content, contents}
-use Rattle.emtp_run.specs.Outcome.{summarised}
+use Rattle.emtp_run.specs.Outcome.{Outcome, ran, record_writes, summarised}
 use Rattle.emtp_run.specs.Reading.{deck}
-use Rattle.emtp_run.specs.Words.{Batch, BatchFiles, fits}
-use Rattle.emtp_laws_of_commands.specs.Rows.{HasRowLine, batch_words, report_of_run}
+use Rattle.emtp_run.specs.Words.{Batch, BatchFiles, Run, RunFiles, fits}
+use Rattle.emtp_laws_of_commands.specs.Files.{run_words}
+use Rattle.emtp_laws_of_commands.specs.Rows.{HasRowLine, IsRowOfRun, batch_words, report_of_run}
+use Rattle.emtp_laws_of_commands.proofs.AcceptedBytes.{lines_accepted}
+use Rattle.emtp_laws_of_commands.proofs.AuditedRuns.{run_made}
 
 own_report : (case : Parts) → report_of case ≡ report_of_run case
 unfolding report_of
@@ -74,3 +82,20 @@ row_is_run f files text times other p own before after row e there times_there i
     ap batch_text apart ∙ found.2 ∙ ap (λ r. found.0 ++ row_line (length before + 1) r ++ found.1) here in
     let came : outcome (batch_words f) files ≡ Some (summarised (batch_text (reports_of p (before ++ row ∷ after)))) = batch_made f files text times p e there times_there is ∙ ap (λ r. Some (batch_outcome p r)) rows in
     subst (λ o. IsSomeAnd o (HasRowLine (length before + 1) (report_of_run own))) (sym came) (record { front = found.0; behind = found.1; is = ap summarised line })
+
+-- beside a line of the batch, what its case comes to by itself
+beside_run : (number : ℕ) (f : RunFiles) (own : Parts) (made batched : Option Outcome) → made ≡ Some (ran own (record_writes f own (history own))) → IsSomeAnd batched (HasRowLine number (report_of_run own))
+    → IsSomeAnd made (λ run. IsSomeAnd batched (IsRowOfRun number f own run))
+beside_run number f own made (Some batch) is row =
+    subst (λ o. IsSomeAnd o (λ run. IsSomeAnd (Some batch) (IsRowOfRun number f own run))) (sym is) (record { run = refl; row = row })
+beside_run number f own made None is row = absurd row
+
+pub row_is_run_of_cards : (f : BatchFiles) (g : RunFiles) (files : List ℕ → Option (List ℕ)) (text times other : List ℕ) (p own : Parts) (before after : List Row) (row : Row) → fits (batch_words f) ≡ Some (Batch f) → fits (run_words g) ≡ Some (Run g)
+    → files f.case ≡ Some text → files f.times ≡ Some times → files g.case ≡ Some other → deck (take (MAX_BYTES + 1) text) ≡ Ok p → deck (take (MAX_BYTES + 1) other) ≡ Ok own
+    → HasOtherTimes (lines_of (take (MAX_BYTES + 1) text)) (lines_of (take (MAX_BYTES + 1) other)) → times_table (take (MAX_BYTES + 1) times) p ≡ Ok (before ++ row ∷ after) → row.times ≡ card_times own.switches
+    → IsSomeAnd (outcome (run_words g) files) (λ run. IsSomeAnd (outcome (batch_words f) files) (IsRowOfRun (length before + 1) g own run))
+row_is_run_of_cards f g files text times other p own before after row e h there times_there other_there is own_is alike rows same =
+    let timed = other_times (lines_of (take (MAX_BYTES + 1) text)) (lines_of (take (MAX_BYTES + 1) other)) p own alike (lines_accepted (take (MAX_BYTES + 1) text) p is) (lines_accepted (take (MAX_BYTES + 1) other) own own_is) in
+    let altered_is : own ≡ altered p row = timed ∙ ap (λ ts. record p { switches = with_times p.switches ts }) (sym same) in
+    beside_run (length before + 1) g own (outcome (run_words g) files) (outcome (batch_words f) files) (run_made g files other own h other_there own_is)
+    (row_is_run f files text times (take (MAX_BYTES + 1) other) p own before after row e there times_there is rows own_is altered_is)

@@ -5,8 +5,8 @@ use Rattle.emtp_batch.specs.Summary.{row_line}
 use Rattle.emtp_batch.specs.declared.report.RowReport.{RowReport}
 use Rattle.emtp_case.specs.declared.case.Parts.{Parts}
 use Rattle.emtp_machine.specs.History.{history, samples}
-use Rattle.emtp_run.specs.Outcome.{Outcome, summarised}
-use Rattle.emtp_run.specs.Words.{BatchFiles}
+use Rattle.emtp_run.specs.Outcome.{Outcome, ran, record_writes, summarised}
+use Rattle.emtp_run.specs.Words.{BatchFiles, RunFiles}
 
 abbrev pub batch_words : BatchFiles → List (List ℕ)
 batch_words f = codes "batch" ∷ f.case ∷ f.times ∷ []
@@ -20,3 +20,8 @@ pub record HasRowLine (number : ℕ) (report : RowReport) (o : Outcome) : Type 0
   pub front : List ℕ
   pub behind : List ℕ
   pub is : o ≡ summarised (front ++ row_line number report ++ behind)
+
+-- the one outcome is that of the run of a case, with its record and its note; the other has a line with its end and its peaks
+pub record IsRowOfRun (number : ℕ) (files : RunFiles) (case : Parts) (made batch : Outcome) : Type 0 where
+  pub run : made ≡ ran case (record_writes files case (history case))
+  pub row : HasRowLine number (report_of_run case) batch

@@ -17,4 +17,4 @@ mod records;
 mod rows;
 
 pub use records::own_record_is_audited_as_the_same;
-pub use rows::row_is_the_run_of_its_case;
+pub use rows::{row_is_the_run_of_its_case, row_is_the_run_of_the_cards_with_its_times};
