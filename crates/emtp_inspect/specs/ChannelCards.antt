@@ -4,8 +4,8 @@ use Rattle.emtp_card.specs.declared.reason.Bad.{Bad}
 use Rattle.emtp_case.specs.declared.case.Parts.{Parts}
 use Rattle.emtp_deck.specs.Channels.{channel_count}
 use Rattle.emtp_inspect.specs.EachCard.{branch_in, each_card}
-use Rattle.emtp_inspect.specs.declared.channel_cards.ChannelGroup.{ChannelGroup}
-use Rattle.emtp_inspect.specs.declared.channel_cards.ChannelGroup.TheVariants.{BranchValues, ControlVariables, NodeVoltages, SwitchStates, SwitchValues}
+use Rattle.emtp_inspect.specs.declared.channel_cards.Group.{Group}
+use Rattle.emtp_inspect.specs.declared.channel_cards.Group.TheVariants.{BranchValues, ControlVariables, NodeVoltages, SwitchStates, SwitchValues}
 use Rattle.emtp_netcards.specs.OutputCard.{output_card}
 use Rattle.emtp_netcards.specs.SwitchCard.{switch_card}
 use Rattle.emtp_netcards.specs.declared.branch_card.BranchCard.{BranchCard}
@@ -43,7 +43,7 @@ abbrev pub states_asked : Result SwitchCard Bad → ℕ
 states_asked (Ok card) = if card.asked == 0 then 0 else 1
 states_asked (Err bad) = 0
 
-abbrev pub asked_in : Parts → ChannelGroup → ℕ → List ℕ → Kind → ℕ
+abbrev pub asked_in : Parts → Group → ℕ → List ℕ → Kind → ℕ
 asked_in p NodeVoltages number line Output = nodes_asked (length p.nodes) (output_card number line)
 asked_in p NodeVoltages number line kind = 0
 asked_in p BranchValues number line kind = branch_asked (branch_in p.run.dt number line kind)
@@ -57,10 +57,10 @@ asked_in p SwitchStates number line kind = 0
 -- ---- the line of each channel
 
 -- the number of a line as often as it asks for a channel of a group
-abbrev pub asking_in : Parts → ChannelGroup → ℕ → List ℕ → Kind → List ℕ
+abbrev pub asking_in : Parts → Group → ℕ → List ℕ → Kind → List ℕ
 asking_in p group number line kind = replicate (asked_in p group number line kind) number
 
-abbrev pub asking_lines : List LineReading → List (List ℕ) → Parts → ChannelGroup → List ℕ
+abbrev pub asking_lines : List LineReading → List (List ℕ) → Parts → Group → List ℕ
 asking_lines readings lines p group = each_card (asking_in p group) readings lines
 
 -- The line that asks for each channel, in the order of the record (`all_asked` of emtp_deck): group by group, and in each of them

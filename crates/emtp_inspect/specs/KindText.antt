@@ -20,20 +20,18 @@ section_text number false kind = due_text number kind
 
 -- ---- of all lines
 
-unfoldable pub kind_line : ℕ → List ℕ → List ℕ
-kind_line number kind = decimal number ++ codes "\t" ++ kind ++ codes "\n"
+-- between a number and a kind, of a line that is there or not
+abbrev pub mark_of : Bool → List ℕ
+mark_of true = codes "\t"
+mark_of false = codes "\tdue: "
 
-unfoldable pub due_line : ℕ → List ℕ → List ℕ
-due_line number kind = decimal number ++ codes "\tdue: " ++ kind ++ codes "\n"
-
-abbrev pub line_or_due : ℕ → Bool → List ℕ → List ℕ
-line_or_due number true kind = kind_line number kind
-line_or_due number false kind = due_line number kind
+unfoldable pub kind_line : ℕ → List ℕ → List ℕ → List ℕ
+kind_line number mark kind = decimal number ++ mark ++ kind ++ codes "\n"
 
 -- a comment is passed over
 abbrev pub kind_text : ℕ → Bool → Kind → List ℕ
 kind_text number there read.Comment = []
-kind_text number there kind = line_or_due number there (kind_name kind)
+kind_text number there kind = kind_line number (mark_of there) (kind_name kind)
 
 -- from the line of a number on, of so many
 abbrev pub kinds_text : ℕ → ℕ → List LineReading → List ℕ

@@ -4,6 +4,10 @@ use Rattle.std.specs.Prelude.{[], ◌++◌, ◌-◌, ◌/◌, ◌==◌, ◌||◌
 use Rattle.std.specs.Str.{bytes_eq}
 use Rattle.emtp_card.specs.Numeral.{few_digits}
 
+-- a word between two texts
+unfoldable pub between : List ℕ → List ℕ → List ℕ → List ℕ
+between front word back = front ++ word ++ back
+
 -- ---- the number of words
 
 -- the words that stand behind a command; nothing of a word that is none
@@ -16,8 +20,8 @@ form_of command =
     else if bytes_eq command (codes "trial") then codes "N"
     else []
 
-unfoldable pub unknown_line : List ℕ → List ℕ
-unknown_line command = codes "No command is named " ++ command ++ codes ".\n"
+abbrev pub unknown_line : List ℕ → List ℕ
+unknown_line command = between (codes "No command is named ") command (codes ".\n")
 
 unfoldable pub count_line : List ℕ → List ℕ → List ℕ → List ℕ
 count_line command form given =
@@ -39,8 +43,8 @@ abbrev pub name_text : List ℕ → List ℕ
 name_text name =
     if length name == 0 then codes "A name of a file is empty.\n" else if is_odd_name name then dash_line name else []
 
-unfoldable pub twice_line : List ℕ → List ℕ
-twice_line name = name ++ codes " stands twice; the files have to differ.\n"
+abbrev pub twice_line : List ℕ → List ℕ
+twice_line name = between [] name (codes " stands twice; the files have to differ.\n")
 
 abbrev pub names_text : List ℕ → List ℕ → List ℕ
 names_text a b = if is_odd_name a then name_text a else if bytes_eq a b then twice_line a else name_text b
@@ -58,8 +62,8 @@ at_most (Some number) most = if nat_le number most then Some number else None
 abbrev pub number_of : List ℕ → ℕ → Option ℕ
 number_of word most = if starts_with nat_eq word (codes "0") then None else at_most (few_digits 8 word) most
 
-unfoldable pub trial_line : List ℕ → List ℕ
-trial_line word = codes "N is a whole number from 1 to 900, and " ++ word ++ codes " isn't.\n"
+abbrev pub trial_line : List ℕ → List ℕ
+trial_line word = between (codes "N is a whole number from 1 to 900, and ") word (codes " isn't.\n")
 
 abbrev pub trial_by : List ℕ → Option ℕ → List ℕ
 trial_by word (Some number) = []
@@ -68,8 +72,8 @@ trial_by word None = trial_line word
 abbrev pub trial_text : List ℕ → List ℕ
 trial_text word = trial_by word (number_of word 900)
 
-unfoldable pub hertz_line : List ℕ → List ℕ
-hertz_line word = word ++ codes " is no frequency: a whole number of hertz from 1 to 10000000.\n"
+abbrev pub hertz_line : List ℕ → List ℕ
+hertz_line word = between [] word (codes " is no frequency: a whole number of hertz from 1 to 10000000.\n")
 
 -- nothing of good numbers
 abbrev pub range_text : ℕ → ℕ → ℕ → List ℕ

@@ -2,24 +2,20 @@
 
 ghost use Rattle.std.specs.Prelude.{◌≡◌, ◌++◌, ◌≤◌, IfOk, OnOk, count_by, is_some, length, replicate};
 ghost use Rattle.emtp_deck.specs.Channels.{channel_count};
-ghost use Rattle.emtp_inspect.specs.ChannelCards.{asked_in, asking_lines, branch_asked, channel_text, channel_texts, channels_text, lines_of_channels, nodes_asked, states_asked, switch_asked, variables_asked};
-ghost use Rattle.emtp_inspect.specs.EachCard.{branch_in};
-ghost use Rattle.emtp_netcards.specs.OutputCard.{output_card};
-ghost use Rattle.emtp_netcards.specs.SwitchCard.{switch_card};
-ghost use Rattle.emtp_taccards.specs.TacsOutputCard.{tacs_output_card};
+ghost use Rattle.emtp_inspect.specs.ChannelCards.{asked_in, asking_lines, channel_text, channel_texts, channels_text, lines_of_channels};
 
-use crate::each_card::branch_in;
-use emtp_card::{Cards, Line, MAX_BYTES};
+use crate::each_card::{Shown, branch_in};
+use emtp_card::{Line, MAX_BYTES};
 use emtp_case::{Case, Name};
 use emtp_netcards::{OutputCard, outputs, switch};
 use emtp_taccards::tacs_outputs;
 use emtp_text::{put, put_number};
-use emtp_walk::{Kind, LineReading, read_at};
+use emtp_walk::{Kind, read_at};
 use std::alloc::{AllocError, Global};
 
 /// What channels are of. A record has the channels of one group behind those of the group before it.
 #[derive(Clone, Copy)]
-pub(crate) enum ChannelGroup {
+pub(crate) enum Group {
     /// Voltages of nodes, which output cards ask for.
     NodeVoltages,
     /// Currents and voltages of branches.
@@ -36,78 +32,39 @@ pub(crate) enum ChannelGroup {
 pub(crate) fn put_channels(
     alloc: Global,
     out: &mut Vec<u8>,
-    cards: &Cards<'_>,
-    readings: &[LineReading],
-    case: &Case,
+    shown: Shown<'_>,
 ) -> Result<(), AllocError>
-    ensures { OnOk result (out.new.items ≡ out.old.items ++ channels_text readings.now cards.now case.now.parts) }
+    ensures { OnOk result (out.new.items ≡ out.old.items
+        ++ channels_text shown.entry.readings.now shown.entry.cards.now shown.entry.case.now.parts) }
 {
-    let lines = lines_of_channels(alloc, cards, readings, case)?;
+    let lines = lines_of_channels(alloc, shown)?;
     put_lines(out, &lines)
 }
 
 /// The line of the card that asks for each channel, in the order of the record.
-fn lines_of_channels(
-    alloc: Global,
-    cards: &Cards<'_>,
-    readings: &[LineReading],
-    case: &Case,
-) -> Result<Vec<u32>, AllocError>
-    ensures { IfOk result (λ lines. lines.items ≡ lines_of_channels readings.now cards.now case.now.parts) }
+fn lines_of_channels(alloc: Global, shown: Shown<'_>) -> Result<Vec<u32>, AllocError>
+    ensures { IfOk result (λ lines. lines.items
+        ≡ lines_of_channels shown.entry.readings.now shown.entry.cards.now shown.entry.case.now.parts) }
 {
     let mut lines = Vec::new(alloc);
-    add_group(
-        &mut lines,
-        ChannelGroup::NodeVoltages,
-        cards,
-        readings,
-        case,
-    )?;
-    add_group(
-        &mut lines,
-        ChannelGroup::BranchValues,
-        cards,
-        readings,
-        case,
-    )?;
-    add_group(
-        &mut lines,
-        ChannelGroup::SwitchValues,
-        cards,
-        readings,
-        case,
-    )?;
-    add_group(
-        &mut lines,
-        ChannelGroup::ControlVariables,
-        cards,
-        readings,
-        case,
-    )?;
-    add_group(
-        &mut lines,
-        ChannelGroup::SwitchStates,
-        cards,
-        readings,
-        case,
-    )?;
+    add_group(&mut lines, Group::NodeVoltages, shown)?;
+    add_group(&mut lines, Group::BranchValues, shown)?;
+    add_group(&mut lines, Group::SwitchValues, shown)?;
+    add_group(&mut lines, Group::ControlVariables, shown)?;
+    add_group(&mut lines, Group::SwitchStates, shown)?;
     Ok(lines)
 }
 
 /// Adds the lines that ask for the channels of a group.
-fn add_group(
-    lines: &mut Vec<u32>,
-    group: ChannelGroup,
-    cards: &Cards<'_>,
-    readings: &[LineReading],
-    case: &Case,
-) -> Result<(), AllocError>
-    ensures { OnOk result (lines.new.items ≡ lines.old.items ++ asking_lines readings.now cards.now case.now.parts group) }
+fn add_group(lines: &mut Vec<u32>, group: Group, shown: Shown<'_>) -> Result<(), AllocError>
+    ensures { OnOk result (lines.new.items ≡ lines.old.items
+        ++ asking_lines shown.entry.readings.now shown.entry.cards.now shown.entry.case.now.parts group) }
 {
-    for at in 0..cards.len().min(readings.len()) {
-        let line = cards.line(at);
-        let read = read_at(readings, at);
-        add_times(lines, asked_in(case, group, &line, read.kind), line.number)?;
+    for at in 0..shown.cards.len().min(shown.readings.len()) {
+        let line = shown.cards.line(at);
+        let read = read_at(shown.readings, at);
+        let count = asked_in(shown.case, group, &line, read.kind);
+        add_times(lines, count, line.number)?;
     }
     Ok(())
 }
@@ -122,40 +79,35 @@ fn add_times(lines: &mut Vec<u32>, count: usize, number: u32) -> Result<(), Allo
     Ok(())
 }
 
-/// How many channels of a group a card asks for.
-fn asked_in(case: &Case, group: ChannelGroup, line: &Line<'_>, kind: Kind) -> usize
+/// How many channels of a group a card asks for: a channel for each name, or for each node, and the state of a switch of which
+/// anything is asked.
+fn asked_in(case: &Case, group: Group, line: &Line<'_>, kind: Kind) -> usize
     requires { length line.now.bytes.now ≤ MAX_BYTES }
     ensures { result ≡ asked_in case.now.parts group line.now.number line.now.bytes.now kind }
 {
     match (group, kind) {
-        (ChannelGroup::NodeVoltages, Kind::Output) => nodes_asked(case, line),
-        (ChannelGroup::BranchValues, _) => branch_asked(case, line, kind),
-        (ChannelGroup::SwitchValues, Kind::Switch) => switch_asked(line),
-        (ChannelGroup::ControlVariables, Kind::TacsOutput) => variables_asked(line),
-        (ChannelGroup::SwitchStates, Kind::Switch) => states_asked(line),
+        (Group::NodeVoltages, Kind::Output) => match outputs(*line) {
+            Ok(OutputCard::All) => case.parts.nodes.len(),
+            Ok(OutputCard::Names(names)) => name_count(&names),
+            Err(_) => 0,
+        },
+        (Group::BranchValues, _) => match branch_in(case, line, kind) {
+            Some(card) => channel_count(card.asked),
+            None => 0,
+        },
+        (Group::SwitchValues, Kind::Switch) => match switch(*line) {
+            Ok(card) => channel_count(card.asked),
+            Err(_) => 0,
+        },
+        (Group::ControlVariables, Kind::TacsOutput) => match tacs_outputs(*line) {
+            Ok(names) => name_count(&names),
+            Err(_) => 0,
+        },
+        (Group::SwitchStates, Kind::Switch) => match switch(*line) {
+            Ok(card) => if card.asked == 0 { 0 } else { 1 },
+            Err(_) => 0,
+        },
         _ => 0,
-    }
-}
-
-/// A channel for each name, or for each node.
-fn nodes_asked(case: &Case, line: &Line<'_>) -> usize
-    requires { length line.now.bytes.now ≤ MAX_BYTES }
-    ensures { result ≡ nodes_asked (length case.now.parts.nodes) (output_card line.now.number line.now.bytes.now) }
-{
-    match outputs(*line) {
-        Ok(OutputCard::All) => case.parts.nodes.len(),
-        Ok(OutputCard::Names(names)) => name_count(&names),
-        Err(_) => 0,
-    }
-}
-
-fn variables_asked(line: &Line<'_>) -> usize
-    requires { length line.now.bytes.now ≤ MAX_BYTES }
-    ensures { result ≡ variables_asked (tacs_output_card line.now.number line.now.bytes.now) }
-{
-    match tacs_outputs(*line) {
-        Ok(names) => name_count(&names),
-        Err(_) => 0,
     }
 }
 
@@ -164,37 +116,6 @@ fn name_count(names: &[Option<Name>]) -> usize
     ensures { result ≡ count_by is_some names.now }
 {
     names.iter().filter(|name| name.is_some()).count()
-}
-
-fn branch_asked(case: &Case, line: &Line<'_>, kind: Kind) -> usize
-    requires { length line.now.bytes.now ≤ MAX_BYTES }
-    ensures { result ≡ branch_asked (branch_in case.now.parts.run.dt line.now.number line.now.bytes.now kind) }
-{
-    match branch_in(case, line, kind) {
-        Some(card) => channel_count(card.asked),
-        None => 0,
-    }
-}
-
-fn switch_asked(line: &Line<'_>) -> usize
-    requires { length line.now.bytes.now ≤ MAX_BYTES }
-    ensures { result ≡ switch_asked (switch_card line.now.number line.now.bytes.now) }
-{
-    match switch(*line) {
-        Ok(card) => channel_count(card.asked),
-        Err(_) => 0,
-    }
-}
-
-/// The state of a switch of which anything is asked.
-fn states_asked(line: &Line<'_>) -> usize
-    requires { length line.now.bytes.now ≤ MAX_BYTES }
-    ensures { result ≡ states_asked (switch_card line.now.number line.now.bytes.now) }
-{
-    match switch(*line) {
-        Ok(card) => if card.asked == 0 { 0 } else { 1 },
-        Err(_) => 0,
-    }
 }
 
 /// How many channels column 80 asks for: the current, the voltage, or both.

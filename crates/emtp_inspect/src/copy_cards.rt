@@ -3,50 +3,41 @@
 ghost use Rattle.emtp_case.specs.declared.limit.TheConstants.{MOST_NODES};
 ghost use Rattle.std.specs.Prelude.{◌≡◌, ◌++◌, ◌≤◌, ◌<◌, IfSome, OnOk, length, position};
 ghost use Rattle.std.specs.Str.{bytes_eq};
-ghost use Rattle.emtp_deck.specs.Copies.{earlier_of, type_of_kind, values_from};
-ghost use Rattle.emtp_inspect.specs.CopyCards.{copied_line, copies_text, copy_line, copy_text, line_of_values};
+ghost use Rattle.emtp_deck.specs.Copies.{earlier_of, type_of_kind};
+ghost use Rattle.emtp_inspect.specs.CopyCards.{copied_line, copies_text, copy_text, line_of_values};
 ghost use Rattle.emtp_inspect.specs.EachCard.{branch_in};
 ghost use Rattle.emtp_sense.specs.Names.{node_number};
 
-use crate::each_card::branch_in;
-use emtp_card::{Cards, Line, MAX_BYTES};
+use crate::each_card::{Shown, branch_in};
+use emtp_card::{Line, MAX_BYTES};
 use emtp_case::{Case, MOST_NODES, Name};
 use emtp_deck::first_of_kind;
-use emtp_netcards::{BranchCard, BranchKind, BranchValues};
+use emtp_netcards::{BranchKind, BranchValues};
 use emtp_text::{put, put_number};
-use emtp_walk::{Kind, LineReading, read_at};
+use emtp_walk::{Kind, read_at};
 use std::alloc::AllocError;
 
 /// Puts a line after a text for each card of a case that copies.
-pub(crate) fn put_copies(
-    out: &mut Vec<u8>,
-    cards: &Cards<'_>,
-    readings: &[LineReading],
-    case: &Case,
-) -> Result<(), AllocError>
-    ensures { OnOk result (out.new.items ≡ out.old.items ++ copies_text readings.now cards.now case.now.parts) }
+pub(crate) fn put_copies(out: &mut Vec<u8>, shown: Shown<'_>) -> Result<(), AllocError>
+    ensures { OnOk result (out.new.items ≡ out.old.items
+        ++ copies_text shown.entry.readings.now shown.entry.cards.now shown.entry.case.now.parts) }
 {
-    for at in 0..cards.len().min(readings.len()) {
-        let line = cards.line(at);
-        let read = read_at(readings, at);
-        put_copy(out, line.number, copied_line(case, &line, read.kind))?;
+    for at in 0..shown.cards.len().min(shown.readings.len()) {
+        let line = shown.cards.line(at);
+        let read = read_at(shown.readings, at);
+        let copied = copied_line(shown.case, &line, read.kind);
+        put_copy(out, line.number, copied)?;
     }
     Ok(())
 }
 
+#[tactic(auto, unfolding(crate::specs::CopyCards::copy_line))]
 fn put_copy(out: &mut Vec<u8>, number: u32, copied: Option<u32>) -> Result<(), AllocError>
     ensures { OnOk result (out.new.items ≡ out.old.items ++ copy_text number copied) }
 {
-    match copied {
-        Some(copied) => put_copied(out, number, copied),
-        None => Ok(()),
-    }
-}
-
-#[tactic(auto, unfolding(crate::specs::CopyCards::copy_line))]
-fn put_copied(out: &mut Vec<u8>, number: u32, copied: u32) -> Result<(), AllocError>
-    ensures { OnOk result (out.new.items ≡ out.old.items ++ copy_line number copied) }
-{
+    let Some(copied) = copied else {
+        return Ok(());
+    };
     put(out, b"line ")?;
     put_number(out, number)?;
     put(out, b", copies line=")?;
@@ -59,17 +50,8 @@ fn copied_line(case: &Case, line: &Line<'_>, kind: Kind) -> Option<u32>
     requires { length line.now.bytes.now ≤ MAX_BYTES }
     ensures { result ≡ copied_line case.now.parts (branch_in case.now.parts.run.dt line.now.number line.now.bytes.now kind) }
 {
-    match branch_in(case, line, kind) {
-        Some(card) => line_of_values(case, &card),
-        None => None,
-    }
-}
-
-fn line_of_values(case: &Case, card: &BranchCard) -> Option<u32>
-    ensures { result ≡ line_of_values (values_from case.now.parts.nodes case.now.parts.branches card.now) }
-{
-    match &card.values {
-        BranchValues::Copied { kind, from, to } => first_line(case, *kind, from, to),
+    match branch_in(case, line, kind)?.values {
+        BranchValues::Copied { kind, from, to } => first_line(case, kind, &from, &to),
         _ => None,
     }
 }

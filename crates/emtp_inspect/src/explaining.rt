@@ -1,7 +1,7 @@
 //! What words of a note mean.
 
 ghost use Rattle.std.specs.Prelude.{◌≡◌, IfOk, Some, None, option_map};
-ghost use Rattle.emtp_inspect.specs.Asking.{explained, explained_four, explained_note, explained_three, explained_two};
+ghost use Rattle.emtp_inspect.specs.Asking.{explained, explained_four, explained_note};
 ghost use Rattle.emtp_run.specs.Words.{texts};
 
 use crate::misfit::put_misfit;
@@ -14,16 +14,12 @@ pub(crate) fn explained(alloc: Global, words: &[String]) -> Result<Option<Vec<u8
     ensures { IfOk result (λ found. option_map (λ text. text.items) found ≡ explained (texts words.now)) }
 {
     match words {
-        [] => Ok(None),
-        [first, rest @ ..] => {
-            if first.as_str() == "--misfit" {
-                let mut text = Vec::new(alloc);
-                put_misfit(&mut text, rest)?;
-                Ok(Some(text))
-            } else {
-                explained_note(alloc, words)
-            }
+        [first, rest @ ..] if first.as_str() == "--misfit" => {
+            let mut text = Vec::new(alloc);
+            put_misfit(&mut text, rest)?;
+            Ok(Some(text))
         }
+        _ => explained_note(alloc, words),
     }
 }
 
@@ -33,48 +29,24 @@ pub(crate) fn explained(alloc: Global, words: &[String]) -> Result<Option<Vec<u8
 fn explained_note(alloc: Global, words: &[String]) -> Result<Option<Vec<u8>>, AllocError>
     ensures { IfOk result (λ found. option_map (λ text. text.items) found ≡ explained_note (texts words.now)) }
 {
+    let mut text = Vec::new(alloc);
     match words {
-        [first, one] => explained_two(alloc, first.as_str(), one.as_str()),
-        [first, one, two] => explained_three(alloc, first.as_str(), one.as_str(), two.as_str()),
-        [first, one, two, three] => {
-            explained_four(
-                alloc,
-                first.as_str(),
-                one.as_str(),
-                two.as_str(),
-                three.as_str(),
-            )
+        [first, reason] if first.as_str() == "--unsolved" => {
+            put(&mut text, unsolved(reason.as_bytes()))?;
+            Ok(Some(text))
         }
+        [first, row, number] if first.as_str() == "--item" => {
+            put_item(&mut text, row.as_bytes(), number.as_bytes())?;
+            Ok(Some(text))
+        }
+        [first, one, two, three] => explained_four(
+            alloc,
+            first.as_str(),
+            one.as_str(),
+            two.as_str(),
+            three.as_str(),
+        ),
         _ => Ok(None),
-    }
-}
-
-fn explained_two(alloc: Global, first: &str, reason: &str) -> Result<Option<Vec<u8>>, AllocError>
-    ensures { IfOk result (λ found. option_map (λ text. text.items) found ≡ explained_two first.now reason.now) }
-{
-    if first == "--unsolved" {
-        let mut text = Vec::new(alloc);
-        put(&mut text, unsolved(reason.as_bytes()))?;
-        Ok(Some(text))
-    } else {
-        Ok(None)
-    }
-}
-
-fn explained_three(
-    alloc: Global,
-    first: &str,
-    row: &str,
-    number: &str,
-) -> Result<Option<Vec<u8>>, AllocError>
-    ensures { IfOk result (λ found. option_map (λ text. text.items) found ≡ explained_three first.now row.now number.now) }
-{
-    if first == "--item" {
-        let mut text = Vec::new(alloc);
-        put_item(&mut text, row.as_bytes(), number.as_bytes())?;
-        Ok(Some(text))
-    } else {
-        Ok(None)
     }
 }
 

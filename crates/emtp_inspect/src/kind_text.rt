@@ -1,6 +1,6 @@
 //! As what a line is read, in words.
 ghost use Rattle.std.specs.Prelude.{◌≡◌, ◌++◌, OnOk};
-ghost use Rattle.emtp_inspect.specs.KindText.{due_line, due_text, kind_line, kind_text, kinds_text, line_or_due, read_text, section_text};
+ghost use Rattle.emtp_inspect.specs.KindText.{due_text, kind_line, kind_text, kinds_text, mark_of, read_text, section_text};
 
 use emtp_causes::kind_name;
 use emtp_text::{put, put_number};
@@ -65,41 +65,23 @@ fn put_kind(out: &mut Vec<u8>, number: usize, there: bool, kind: Kind) -> Result
 {
     match kind {
         Kind::Comment => Ok(()),
-        _ => put_line_or_due(out, number, there, kind_name(kind)),
+        _ => put_line(out, number, mark_of(there), kind_name(kind)),
     }
-}
-
-fn put_line_or_due(
-    out: &mut Vec<u8>,
-    number: usize,
-    there: bool,
-    kind: &[u8],
-) -> Result<(), AllocError>
-    ensures { OnOk result (out.new.items ≡ out.old.items ++ line_or_due number there kind.now) }
-{
-    if there {
-        put_kind_line(out, number, kind)
-    } else {
-        put_due_line(out, number, kind)
-    }
-}
-
-#[tactic(auto, unfolding(crate::specs::KindText::due_line))]
-fn put_due_line(out: &mut Vec<u8>, number: usize, kind: &[u8]) -> Result<(), AllocError>
-    ensures { OnOk result (out.new.items ≡ out.old.items ++ due_line number kind.now) }
-{
-    put_number(out, number)?;
-    put(out, b"\tdue: ")?;
-    put(out, kind)?;
-    put(out, b"\n")
 }
 
 #[tactic(auto, unfolding(crate::specs::KindText::kind_line))]
-fn put_kind_line(out: &mut Vec<u8>, number: usize, kind: &[u8]) -> Result<(), AllocError>
-    ensures { OnOk result (out.new.items ≡ out.old.items ++ kind_line number kind.now) }
+fn put_line(out: &mut Vec<u8>, number: usize, mark: &[u8], kind: &[u8]) -> Result<(), AllocError>
+    ensures { OnOk result (out.new.items ≡ out.old.items ++ kind_line number mark.now kind.now) }
 {
     put_number(out, number)?;
-    put(out, b"\t")?;
+    put(out, mark)?;
     put(out, kind)?;
     put(out, b"\n")
+}
+
+/// What stands between a number and a kind: of a line that is there a tab, else also that the card is due.
+fn mark_of(there: bool) -> &'static [u8]
+    ensures { result.now ≡ mark_of there }
+{
+    if there { b"\t" } else { b"\tdue: " }
 }

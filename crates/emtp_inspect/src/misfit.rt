@@ -1,7 +1,7 @@
 //! Why words are no command of `emtp`.
 
 ghost use Rattle.std.specs.Prelude.{◌≡◌, ◌++◌, OnOk};
-ghost use Rattle.emtp_inspect.specs.Misfit.{at_most, by_text, count_line, dash_line, files_text, first_text, form_of, frequencies_text, hertz_line, is_odd_name, last_text, misfit_text, name_text, names_text, number_of, one_text, other_count, range_text, scan_text, three_text, trial_line, trial_text, twice_line, two_text, unknown_line};
+ghost use Rattle.emtp_inspect.specs.Misfit.{between, count_line, dash_line, files_text, form_of, frequencies_text, hertz_line, is_odd_name, misfit_text, name_text, names_text, number_of, one_text, other_count, range_text, three_text, trial_text, twice_line};
 ghost use Rattle.emtp_run.specs.Words.{texts};
 
 use emtp_card::read_digits;
@@ -25,21 +25,14 @@ pub(crate) fn put_misfit(out: &mut Vec<u8>, words: &[String]) -> Result<(), Allo
         [] => put(out, b"No command is given.\n"),
         [command] => put_other_count(out, command.as_str(), b"nothing"),
         [command, a] => put_one(out, command.as_str(), a.as_str()),
-        [command, a, b] => put_two(out, command.as_str(), a.as_str(), b.as_str()),
+        [command, a, b] if command.as_str() == "batch" => put_names(out, a.as_str(), b.as_str()),
+        [command, _, _] => put_other_count(out, command.as_str(), b"2"),
         [command, a, b, c] => put_three(out, command.as_str(), a.as_str(), b.as_str(), c.as_str()),
-        [command, a, b, c, d] => put_four(
-            out,
-            command.as_str(),
-            a.as_str(),
-            b.as_str(),
-            c.as_str(),
-            d.as_str(),
-        ),
-        _ => put(
-            out,
-            b"These are more words than any command has.
-",
-        ),
+        [command, a, b, c, d] if command.as_str() == "scan" => {
+            put_scan(out, a.as_str(), b.as_str(), c.as_str(), d.as_str())
+        }
+        [command, _, _, _, _] => put_other_count(out, command.as_str(), b"4"),
+        _ => put(out, b"These are more words than any command has.\n"),
     }
 }
 
@@ -47,18 +40,13 @@ pub(crate) fn put_misfit(out: &mut Vec<u8>, words: &[String]) -> Result<(), Allo
 fn form_of(command: &str) -> &'static [u8]
     ensures { result.now ≡ form_of command.now }
 {
-    if command == "run" || command == "audit" {
-        b"CASE CFG DAT"
-    } else if command == "show" || command == "phasor" {
-        b"CASE"
-    } else if command == "batch" {
-        b"CASE TIMES"
-    } else if command == "scan" {
-        b"CASE F0 F1 DF"
-    } else if command == "trial" {
-        b"N"
-    } else {
-        b""
+    match command {
+        "run" | "audit" => b"CASE CFG DAT",
+        "show" | "phasor" => b"CASE",
+        "batch" => b"CASE TIMES",
+        "scan" => b"CASE F0 F1 DF",
+        "trial" => b"N",
+        _ => b"",
     }
 }
 
@@ -68,19 +56,20 @@ fn put_other_count(out: &mut Vec<u8>, command: &str, given: &[u8]) -> Result<(),
 {
     let form = form_of(command);
     if form.is_empty() {
-        put_unknown(out, command)
+        put_between(out, b"No command is named ", command.as_bytes(), b".\n")
     } else {
         put_count(out, command.as_bytes(), form, given)
     }
 }
 
-#[tactic(auto, unfolding(crate::specs::Misfit::unknown_line))]
-fn put_unknown(out: &mut Vec<u8>, command: &str) -> Result<(), AllocError>
-    ensures { OnOk result (out.new.items ≡ out.old.items ++ unknown_line command.now) }
+/// Puts a word between two texts.
+#[tactic(auto, unfolding(crate::specs::Misfit::between))]
+fn put_between(out: &mut Vec<u8>, front: &[u8], word: &[u8], back: &[u8]) -> Result<(), AllocError>
+    ensures { OnOk result (out.new.items ≡ out.old.items ++ between front.now word.now back.now) }
 {
-    put(out, b"No command is named ")?;
-    put(out, command.as_bytes())?;
-    put(out, b".\n")
+    put(out, front)?;
+    put(out, word)?;
+    put(out, back)
 }
 
 fn put_count(out: &mut Vec<u8>, command: &[u8], form: &[u8], given: &[u8]) -> Result<(), AllocError>
@@ -99,49 +88,19 @@ fn put_count(out: &mut Vec<u8>, command: &[u8], form: &[u8], given: &[u8]) -> Re
 fn put_one(out: &mut Vec<u8>, command: &str, word: &str) -> Result<(), AllocError>
     ensures { OnOk result (out.new.items ≡ out.old.items ++ one_text command.now word.now) }
 {
-    if command == "trial" {
-        put_trial(out, word)
-    } else if command == "show" || command == "phasor" {
-        put_name(out, word)
-    } else {
-        put_other_count(out, command, b"1")
-    }
-}
-
-fn put_two(out: &mut Vec<u8>, command: &str, a: &str, b: &str) -> Result<(), AllocError>
-    ensures { OnOk result (out.new.items ≡ out.old.items ++ two_text command.now a.now b.now) }
-{
-    if command == "batch" {
-        put_names(out, a, b)
-    } else {
-        put_other_count(out, command, b"2")
+    match command {
+        "trial" => put_trial(out, word),
+        "show" | "phasor" => put_name(out, word),
+        _ => put_other_count(out, command, b"1"),
     }
 }
 
 fn put_three(out: &mut Vec<u8>, command: &str, a: &str, b: &str, c: &str) -> Result<(), AllocError>
     ensures { OnOk result (out.new.items ≡ out.old.items ++ three_text command.now a.now b.now c.now) }
 {
-    if command == "run" || command == "audit" {
-        put_files(out, a, b, c)
-    } else {
-        put_other_count(out, command, b"3")
-    }
-}
-
-fn put_four(
-    out: &mut Vec<u8>,
-    command: &str,
-    case: &str,
-    first: &str,
-    last: &str,
-    by: &str,
-) -> Result<(), AllocError>
-    ensures { OnOk result (out.new.items ≡ out.old.items ++ scan_text command.now case.now first.now last.now by.now) }
-{
-    if command == "scan" {
-        put_scan(out, case, first, last, by)
-    } else {
-        put_other_count(out, command, b"4")
+    match command {
+        "run" | "audit" => put_files(out, a, b, c),
+        _ => put_other_count(out, command, b"3"),
     }
 }
 
@@ -177,12 +136,15 @@ fn put_dash(out: &mut Vec<u8>, name: &[u8]) -> Result<(), AllocError>
     Ok(())
 }
 
-#[tactic(auto, unfolding(crate::specs::Misfit::twice_line))]
 fn put_twice(out: &mut Vec<u8>, name: &str) -> Result<(), AllocError>
     ensures { OnOk result (out.new.items ≡ out.old.items ++ twice_line name.now) }
 {
-    put(out, name.as_bytes())?;
-    put(out, b" stands twice; the files have to differ.\n")
+    put_between(
+        out,
+        b"",
+        name.as_bytes(),
+        b" stands twice; the files have to differ.\n",
+    )
 }
 
 fn put_names(out: &mut Vec<u8>, a: &str, b: &str) -> Result<(), AllocError>
@@ -216,17 +178,13 @@ fn put_trial(out: &mut Vec<u8>, word: &str) -> Result<(), AllocError>
 {
     match number_of(word, 900) {
         Some(_) => Ok(()),
-        None => put_no_trial(out, word.as_bytes()),
+        None => put_between(
+            out,
+            b"N is a whole number from 1 to 900, and ",
+            word.as_bytes(),
+            b" isn't.\n",
+        ),
     }
-}
-
-fn put_no_trial(out: &mut Vec<u8>, word: &[u8]) -> Result<(), AllocError>
-    ensures { OnOk result (out.new.items ≡ out.old.items ++ trial_line word.now) }
-{
-    put(out, b"N is a whole number from 1 to 900, and ")?;
-    put(out, word)?;
-    put(out, b" isn't.\n")?;
-    Ok(())
 }
 
 /// A whole number from 1 on, without a leading 0.
@@ -234,18 +192,11 @@ fn number_of(word: &str, most: u64) -> Option<u64>
     ensures { result ≡ number_of word.now most }
 {
     if word.as_bytes().starts_with(b"0") {
-        None
-    } else {
-        at_most(read_digits(word.as_bytes(), MOST_DIGITS), most)
+        return None;
     }
-}
-
-fn at_most(number: Option<u64>, most: u64) -> Option<u64>
-    ensures { result ≡ at_most number most }
-{
-    match number {
-        None => None,
-        Some(number) => { if number <= most { Some(number) } else { None } }
+    match read_digits(word.as_bytes(), MOST_DIGITS) {
+        Some(number) if number <= most => Some(number),
+        _ => None,
     }
 }
 
@@ -259,36 +210,17 @@ fn put_scan(
     ensures { OnOk result (out.new.items ≡ out.old.items ++ frequencies_text case.now first.now last.now by.now) }
 {
     if is_odd_name(case) {
-        put_name(out, case)
-    } else {
-        put_frequencies(out, first, last, by)
+        return put_name(out, case);
     }
-}
-
-fn put_frequencies(out: &mut Vec<u8>, first: &str, last: &str, by: &str) -> Result<(), AllocError>
-    ensures { OnOk result (out.new.items ≡ out.old.items ++ first_text first.now last.now by.now) }
-{
-    match number_of(first, MOST_HERTZ) {
-        None => put_no_hertz(out, first),
-        Some(low) => put_last(out, low, last, by),
-    }
-}
-
-fn put_last(out: &mut Vec<u8>, low: u64, last: &str, by: &str) -> Result<(), AllocError>
-    ensures { OnOk result (out.new.items ≡ out.old.items ++ last_text low last.now by.now) }
-{
-    match number_of(last, MOST_HERTZ) {
-        None => put_no_hertz(out, last),
-        Some(high) => put_step(out, low, high, by),
-    }
-}
-
-fn put_step(out: &mut Vec<u8>, low: u64, high: u64, by: &str) -> Result<(), AllocError>
-    ensures { OnOk result (out.new.items ≡ out.old.items ++ by_text low high by.now) }
-{
+    let Some(low) = number_of(first, MOST_HERTZ) else {
+        return put_no_hertz(out, first);
+    };
+    let Some(high) = number_of(last, MOST_HERTZ) else {
+        return put_no_hertz(out, last);
+    };
     match number_of(by, MOST_HERTZ) {
-        None => put_no_hertz(out, by),
         Some(step) => put(out, range_text(low, high, step)),
+        None => put_no_hertz(out, by),
     }
 }
 
@@ -305,13 +237,9 @@ fn range_text(low: u64, high: u64, step: u64) -> &'static [u8]
     }
 }
 
-#[tactic(auto, unfolding(crate::specs::Misfit::hertz_line))]
 fn put_no_hertz(out: &mut Vec<u8>, word: &str) -> Result<(), AllocError>
     ensures { OnOk result (out.new.items ≡ out.old.items ++ hertz_line word.now) }
 {
-    put(out, word.as_bytes())?;
-    put(
-        out,
-        b" is no frequency: a whole number of hertz from 1 to 10000000.\n",
-    )
+    let range = b" is no frequency: a whole number of hertz from 1 to 10000000.\n";
+    put_between(out, b"", word.as_bytes(), range)
 }

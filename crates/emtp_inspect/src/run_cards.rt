@@ -3,25 +3,23 @@
 ghost use Rattle.std.specs.Prelude.{◌≡◌, ◌++◌, OnOk};
 ghost use Rattle.emtp_inspect.specs.RunCards.{card_text, end_text, first_text, print_of, print_text, run_text, second_text};
 
-use emtp_card::{Cards, Line, Why, field_number, field_whole};
+use crate::each_card::Shown;
+use emtp_card::{Line, Why, field_number, field_whole};
+use emtp_fix::LARGEST_TIME;
 use emtp_text::{put, put_fixed, put_number};
-use emtp_walk::{Kind, LineReading, read_at};
+use emtp_walk::{Kind, read_at};
 use std::alloc::AllocError;
 
 /// The greatest TMAX, in ps.
-const LATEST: i64 = 1_000_000_000_000_000_000;
+const LATEST: i64 = LARGEST_TIME as i64;
 
 /// Puts a line for each miscellaneous card after a text: the first one with TMAX, the second with IOUT.
-pub(crate) fn put_run_cards(
-    out: &mut Vec<u8>,
-    cards: &Cards<'_>,
-    readings: &[LineReading],
-) -> Result<(), AllocError>
-    ensures { OnOk result (out.new.items ≡ out.old.items ++ run_text readings.now cards.now) }
+pub(crate) fn put_run_cards(out: &mut Vec<u8>, shown: Shown<'_>) -> Result<(), AllocError>
+    ensures { OnOk result (out.new.items ≡ out.old.items ++ run_text shown.entry.readings.now shown.entry.cards.now) }
 {
-    for at in 0..cards.len().min(readings.len()) {
-        let read = read_at(readings, at);
-        put_card(out, &cards.line(at), read.kind)?;
+    for at in 0..shown.cards.len().min(shown.readings.len()) {
+        let read = read_at(shown.readings, at);
+        put_card(out, &shown.cards.line(at), read.kind)?;
     }
     Ok(())
 }
@@ -57,8 +55,7 @@ fn put_end(out: &mut Vec<u8>, end: Result<Option<i64>, Why>) -> Result<(), Alloc
             put_fixed(out, end, 12)?;
             put(out, b" s")
         }
-        Ok(None) => Ok(()),
-        Err(_) => Ok(()),
+        _ => Ok(()),
     }
 }
 
@@ -87,7 +84,6 @@ fn print_of(print: Result<Option<i64>, Why>) -> i64
 {
     match print {
         Ok(Some(number)) => number,
-        Ok(None) => 0,
-        Err(_) => 0,
+        _ => 0,
     }
 }

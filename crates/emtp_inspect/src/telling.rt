@@ -1,18 +1,19 @@
 //! The text that the bytes of a file give.
-ghost use Rattle.std.specs.Prelude.{◌≡◌, ◌++◌, IfOk, OnOk, Some, codes, decimal, take};
+ghost use Rattle.std.specs.Prelude.{◌≡◌, ◌++◌, IfOk, OnOk, Some, take};
 ghost use Rattle.emtp_deck.specs.Deck.{deck_of};
 ghost use Rattle.emtp_inspect.specs.KindText.{kinds_text};
-ghost use Rattle.emtp_inspect.specs.Telling.{cards_text, cause_of, count_text, listed_front, listed_of, listed_lines_of, listing_text, refused_by, refused_text, told_case, told_of, told_of_lines, told_unread};
+ghost use Rattle.emtp_inspect.specs.Telling.{cards_text, cause_of, count_text, listed_front, listed_of, listing_text, refused_by, refused_text, told_case, told_of, told_of_lines, told_unread};
 ghost use Rattle.emtp_listing.specs.Lines.{lines_text};
 ghost use Rattle.emtp_run.specs.Note.{card_note};
 
 use crate::channel_cards::put_channels;
 use crate::copy_cards::put_copies;
+use crate::each_card::Shown;
 use crate::kind_text::{put_kinds, put_section};
 use crate::run_cards::put_run_cards;
 use crate::words::Wanted;
 use emtp_card::{Bad, Cards, Refused};
-use emtp_case::{Case, Items};
+use emtp_case::Items;
 use emtp_causes::{kind_name, put_refusal, put_size};
 use emtp_deck::read;
 use emtp_listing::listing;
@@ -108,7 +109,12 @@ fn tell_listing(
 {
     match read(alloc, cards) {
         Ok(case) => {
-            let text = listing_with(alloc, cards, readings, &case)?;
+            let shown = Shown {
+                cards,
+                readings,
+                case: &case,
+            };
+            let text = listing_with(alloc, shown)?;
             Ok(Told::Answer(Items::from_vec(text)))
         }
         Err(Refused::Bad(bad)) => tell_bad(alloc, cards, readings, &bad),
@@ -126,7 +132,9 @@ fn tell_count(
     match read(alloc, cards) {
         Ok(case) => {
             let found = warnings(alloc, cards, readings, &case)?;
-            let text = count_line(alloc, found.len())?;
+            let mut text = Vec::new(alloc);
+            put_number(&mut text, found.len())?;
+            put(&mut text, b"\n")?;
             Ok(Told::Answer(Items::from_vec(text)))
         }
         Err(Refused::Bad(bad)) => tell_bad(alloc, cards, readings, &bad),
@@ -135,45 +143,26 @@ fn tell_count(
 }
 
 /// The warnings of a case, and behind them its listing and what its cards say besides.
-fn listing_with(
-    alloc: Global,
-    cards: &Cards<'_>,
-    readings: &[LineReading],
-    case: &Case,
-) -> Result<Vec<u8>, AllocError>
-    ensures { IfOk result (λ text. text.items ≡ listing_text readings.now cards.now case.now.parts) }
+fn listing_with(alloc: Global, shown: Shown<'_>) -> Result<Vec<u8>, AllocError>
+    ensures { IfOk result (λ text. text.items
+        ≡ listing_text shown.entry.readings.now shown.entry.cards.now shown.entry.case.now.parts) }
 {
-    let found = warnings(alloc, cards, readings, case)?;
-    let mut text = warnings_text(alloc, cards, readings, &found)?;
-    let listed = listing(alloc, case)?;
+    let found = warnings(alloc, shown.cards, shown.readings, shown.case)?;
+    let mut text = warnings_text(alloc, shown.cards, shown.readings, &found)?;
+    let listed = listing(alloc, shown.case)?;
     put(&mut text, &listed)?;
-    put_cards(alloc, &mut text, cards, readings, case)?;
+    put_cards(alloc, &mut text, shown)?;
     Ok(text)
 }
 
 /// Puts after a text what the cards of a case say that no case keeps.
-fn put_cards(
-    alloc: Global,
-    out: &mut Vec<u8>,
-    cards: &Cards<'_>,
-    readings: &[LineReading],
-    case: &Case,
-) -> Result<(), AllocError>
-    ensures { OnOk result (out.new.items ≡ out.old.items ++ cards_text readings.now cards.now case.now.parts) }
+fn put_cards(alloc: Global, out: &mut Vec<u8>, shown: Shown<'_>) -> Result<(), AllocError>
+    ensures { OnOk result (out.new.items ≡ out.old.items
+        ++ cards_text shown.entry.readings.now shown.entry.cards.now shown.entry.case.now.parts) }
 {
-    put_run_cards(out, cards, readings)?;
-    put_copies(out, cards, readings, case)?;
-    put_channels(alloc, out, cards, readings, case)
-}
-
-/// A line with a count.
-fn count_line(alloc: Global, count: usize) -> Result<Vec<u8>, AllocError>
-    ensures { IfOk result (λ text. text.items ≡ decimal count ++ codes "\n") }
-{
-    let mut text = Vec::new(alloc);
-    put_number(&mut text, count)?;
-    put(&mut text, b"\n")?;
-    Ok(text)
+    put_run_cards(out, shown)?;
+    put_copies(out, shown)?;
+    put_channels(alloc, out, shown)
 }
 
 /// The note of a refusal alone.
@@ -246,17 +235,11 @@ fn listed_of(alloc: Global, text: &[u8]) -> Result<Vec<u8>, AllocError>
     ensures { IfOk result (λ listed. listed.items ≡ listed_of text.now) }
 {
     match Cards::split(alloc, text) {
-        Ok(cards) => listed_lines_of(alloc, &cards),
-        Err(Refused::Bad(_)) => Ok(Vec::new(alloc)),
-        Err(Refused::NoMemory) => Err(AllocError),
-    }
-}
-
-fn listed_lines_of(alloc: Global, cards: &Cards<'_>) -> Result<Vec<u8>, AllocError>
-    ensures { IfOk result (λ listed. listed.items ≡ listed_lines_of cards.now) }
-{
-    match read(alloc, cards) {
-        Ok(case) => listing(alloc, &case),
+        Ok(cards) => match read(alloc, &cards) {
+            Ok(case) => listing(alloc, &case),
+            Err(Refused::Bad(_)) => Ok(Vec::new(alloc)),
+            Err(Refused::NoMemory) => Err(AllocError),
+        },
         Err(Refused::Bad(_)) => Ok(Vec::new(alloc)),
         Err(Refused::NoMemory) => Err(AllocError),
     }

@@ -32,14 +32,11 @@ pub(crate) fn read_words(words: &[String]) -> Option<(Wanted, &str)>
 fn counted<'a>(first: &str, word: &'a str) -> Option<(Wanted, &'a str)>
     ensures { option_map (λ a. (a.0, a.1.now)) result ≡ counted first.now word.entry.now }
 {
-    if first == "--count" {
-        named(Wanted::WarningCount, word)
-    } else if first == "--kinds" {
-        named(Wanted::Kinds, word)
-    } else if first == "--why" {
-        named(Wanted::Cause, word)
-    } else {
-        None
+    match first {
+        "--count" => named(Wanted::WarningCount, word),
+        "--kinds" => named(Wanted::Kinds, word),
+        "--why" => named(Wanted::Cause, word),
+        _ => None,
     }
 }
 

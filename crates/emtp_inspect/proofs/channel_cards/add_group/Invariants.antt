@@ -6,4 +6,4 @@ use Rattle.emtp_inspect.proofs.channel_cards.add_group.Given as goal
 -- the lines so far and those of the cards that are left are all lines
 abbrev pub invariant-loop-at : goal.invariant-loop-at
 invariant-loop-at l =
-    l.lines.items ++ given_from (asking_in l.case.parts l.group) (l.at + 1) (drop l.at l.readings) (drop l.at l.cards) ≡ l.initial.lines.items ++ asking_lines l.readings l.cards l.case.parts l.group
+    l.lines.items ++ given_from (asking_in l.shown.case.now.parts l.group) (l.at + 1) (drop l.at l.shown.readings.now) (drop l.at l.shown.cards.now) ≡ l.initial.lines.items ++ asking_lines l.shown.readings.now l.shown.cards.now l.shown.case.now.parts l.group

@@ -5,4 +5,4 @@ use Rattle.emtp_inspect.proofs.run_cards.put_run_cards.Given as goal
 
 -- the lines so far and those of the cards that are left are all lines
 abbrev pub invariant-loop-at : goal.invariant-loop-at
-invariant-loop-at l = l.out.items ++ given_from card_text (l.at + 1) (drop l.at l.readings) (drop l.at l.cards) ≡ l.initial.out.items ++ run_text l.readings l.cards
+invariant-loop-at l = l.out.items ++ given_from card_text (l.at + 1) (drop l.at l.shown.readings.now) (drop l.at l.shown.cards.now) ≡ l.initial.out.items ++ run_text l.shown.readings.now l.shown.cards.now
