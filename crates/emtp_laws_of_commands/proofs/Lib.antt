@@ -12,9 +12,11 @@ pub mod WorkedDerivative
 pub mod WorkedDivider
 pub mod WorkedFormulaThatDividesByZero
 pub mod WorkedGainLoopWithoutAPivot
+pub mod WorkedGatesAndHolds
 pub mod WorkedInductanceOpened
 pub mod WorkedIntegral
 pub mod WorkedLagDrivesASource
+pub mod WorkedLagsOfEachOrder
 pub mod WorkedLeastInput
 pub mod WorkedLossesLumpedOnALine
 pub mod WorkedMeasuringSwitch
