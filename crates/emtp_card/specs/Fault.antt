@@ -50,8 +50,3 @@ judge_by number None fields = option_map (bad_at number) fields
 -- what refuses the card on a line, given the least fault of its fields and rules
 abbrev pub judge : ℕ → List ℕ → Option Fault → Option Bad
 judge number line fields = judge_by number (fault_of_line line) fields
-
--- the record of a card, unless it is refused
-abbrev pub unless_bad : {A : Type 0} → Option Bad → A → Result A Bad
-unless_bad (Some bad) card = Err bad
-unless_bad None card = Ok card

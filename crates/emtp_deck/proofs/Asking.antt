@@ -1,11 +1,11 @@
 -- How many channels the cards of a section ask for, where no card has a fault of sense; the nodes stay.
+use Rattle.emtp_fix.specs.Chain.{unless}
 use Rattle.emtp_case.specs.declared.branch.Trio as modes
 use Rattle.std.proofs.Common.{◌≡◌, ◌∙◌, sym, ap, refl, ℕ, ◌+◌, List, [], ◌∷◌, length, fold, Option, Some, None, Result, Ok, Err, arith, length-append, ◌++◌}
 use Rattle.std.proofs.lemmas.List.Sums.{sum_by-cons}
 use Rattle.std.specs.List.{sum_by}
 use Rattle.std.specs.Prelude.{if◌then◌else◌, is_some, option_map, position, map}
 use Rattle.std.specs.Str.{bytes_eq}
-use Rattle.emtp_card.specs.Fault.{unless_bad}
 use Rattle.emtp_card.specs.declared.fault.Fault.{Fault}
 use Rattle.emtp_card.specs.declared.reason.Bad.{Bad}
 use Rattle.emtp_case.specs.declared.branch.Branch.{Branch}
@@ -14,6 +14,7 @@ use Rattle.emtp_case.specs.declared.branch.Point.{Point}
 use Rattle.emtp_case.specs.declared.case.Parts.{Parts}
 use Rattle.emtp_case.specs.declared.channel.Channel.{Channel}
 use Rattle.emtp_case.specs.declared.channel.Channel.TheVariants.{NodeVoltage as NodeChannel, SwitchCurrent, SwitchVoltage, Tacs as VariableChannel}
+use Rattle.emtp_card.specs.Fault.{bad_at}
 use Rattle.emtp_deck.proofs.Growing.{length_entry}
 use Rattle.emtp_deck.proofs.Keeping.{length_of_nodes, length_of_switch}
 use Rattle.emtp_walk.specs.Answer.{go_on}
@@ -22,7 +23,7 @@ use Rattle.emtp_deck.specs.Channels.{channels_of, status_of}
 use Rattle.emtp_deck.specs.Copies.{modes_for, numbers_behind}
 use Rattle.emtp_deck.specs.ControlFilling.{block_of, control_parts, with_extra}
 use Rattle.emtp_deck.specs.Deck.{made_of_deck, control_made}
-use Rattle.emtp_deck.specs.Made.{Made, count_asked, no_room, unless_fault}
+use Rattle.emtp_deck.specs.Made.{Made, count_asked, no_room}
 use Rattle.emtp_sense.specs.Limits.{too_many}
 use Rattle.emtp_sense.specs.Names.{find_node}
 use Rattle.emtp_sense.specs.Variables.{find_variable}
@@ -75,11 +76,11 @@ pub go_on_ok : {A B : Type 0} (f : A → Result B Bad) (r : Result A Bad) (y : B
 go_on_ok f (Ok x) y e = (x, refl, e)
 go_on_ok f (Err bad) y e = absurd (cc)
 
-pub unless_bad_ok : {A : Type 0} (bad : Option Bad) (x y : A) → unless_bad bad x ≡ Ok y → x ≡ y
+pub unless_bad_ok : {A : Type 0} (bad : Option Bad) (x y : A) → unless bad (λ bad. bad) (Ok x) ≡ Ok y → x ≡ y
 unless_bad_ok (Some bad) x y e = absurd (cc)
 unless_bad_ok None x y e = cc
 
-pub unless_fault_ok : {A : Type 0} (line : ℕ) (fault : Option Fault) (x y : A) → unless_fault line fault x ≡ Ok y → x ≡ y
+pub unless_fault_ok : {A : Type 0} (line : ℕ) (fault : Option Fault) (x y : A) → unless fault (bad_at line) (Ok x) ≡ Ok y → x ≡ y
 unless_fault_ok line (Some fault) x y e = absurd (cc)
 unless_fault_ok line None x y e = cc
 
@@ -207,7 +208,7 @@ channels_added : (named : Named) (m : Made) (channels : List Channel) → IsAski
 channels_added Node m channels = record { nodes = refl; run = refl; control = same_control m.parts; switched = omega arith; asked = omega (arith, length-append m.asked.outputs channels) }
 channels_added Variable m channels = record { nodes = refl; run = refl; control = same_control m.parts; switched = omega arith; asked = omega (arith, length-append m.asked.variables channels) }
 
-channel_asks : (named : Named) (line : ℕ) (m m' : Made) (column : ℕ) (channel : Option Channel) → unless_fault line (name_fault m.asked column channel) (with_channel named m channel) ≡ Ok m' → IsAsking m m' 0 (if◌then◌else◌ {A = ℕ} (is_some channel) 1 0)
+channel_asks : (named : Named) (line : ℕ) (m m' : Made) (column : ℕ) (channel : Option Channel) → unless (name_fault m.asked column channel) (bad_at line) (Ok (with_channel named m channel)) ≡ Ok m' → IsAsking m m' 0 (if◌then◌else◌ {A = ℕ} (is_some channel) 1 0)
 channel_asks named line m m' column None h = absurd (cc)
 channel_asks named line m m' column (Some channel) h =
     let is = unless_fault_ok line (name_fault m.asked column (Some channel)) (with_channels named m (channel ∷ [])) m' h in

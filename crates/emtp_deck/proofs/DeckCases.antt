@@ -1,10 +1,10 @@
 -- What a deck of cards in their ranges gives is a case.
+use Rattle.emtp_fix.specs.Chain.{unless}
 use Rattle.emtp_case.specs.declared.limit.TheConstants.{MOST_CHANNELS, MOST_STORED_VALUES, MOST_VARIABLES}
 use Rattle.std.proofs.Common.{◌≡◌, ◌∙◌, ap, sym, subst, refl, ℕ, ◌+◌, ◌*◌, ◌≤◌, ◌++◌, Bool, true, false, List, [], ◌∷◌, length, map, drop, Option, Some, None, Ok, Err, if◌then◌else◌, arith, length-append, take-append-drop}
 use Rattle.std.specs.Prelude.{All}
 use Rattle.std.proofs.lemmas.List.{length-map}
 use Rattle.std.proofs.lemmas.List.Elements.{All-append, All-map, All-nil, All-tail}
-use Rattle.emtp_card.specs.Fault.{unless_bad}
 use Rattle.emtp_card.specs.declared.reason.Bad.{Bad}
 use Rattle.emtp_case.proofs.DraftSteps.{nothing_yet}
 use Rattle.emtp_case.specs.Case.{empty_parts, standing_names}
@@ -183,9 +183,9 @@ filled_at : (line : ℕ) (deck : Deck) (place : Place) (p : Parts) → IsSound d
 filled_at line deck place p sound whole inputs e =
     let nodes = known_nodes deck place in
     let variables = variable_names deck place in
-    let a = then_read (few_samples nodes variables deck place) (λ few. sensible_control nodes variables deck place >>= (λ sensible. made_of_deck (case_nodes nodes) variables deck >>= (λ m. unless_bad (unfinished line m place) (case_of deck m)))) p e in
-    let b = then_read (sensible_control nodes variables deck place) (λ sensible. made_of_deck (case_nodes nodes) variables deck >>= (λ m. unless_bad (unfinished line m place) (case_of deck m))) p a.2 in
-    let c = then_read (made_of_deck (case_nodes nodes) variables deck) (λ m. unless_bad (unfinished line m place) (case_of deck m)) p b.2 in
+    let a = then_read (few_samples nodes variables deck place) (λ few. sensible_control nodes variables deck place >>= (λ sensible. made_of_deck (case_nodes nodes) variables deck >>= (λ m. unless (unfinished line m place) (λ bad. bad) (Ok (case_of deck m))))) p e in
+    let b = then_read (sensible_control nodes variables deck place) (λ sensible. made_of_deck (case_nodes nodes) variables deck >>= (λ m. unless (unfinished line m place) (λ bad. bad) (Ok (case_of deck m)))) p a.2 in
+    let c = then_read (made_of_deck (case_nodes nodes) variables deck) (λ m. unless (unfinished line m place) (λ bad. bad) (Ok (case_of deck m))) p b.2 in
     let done = no_bad (unfinished line c.0 place) (case_of deck c.0) p c.2 in
     let none = (no_bad (control_bad nodes variables deck place) tt b.0 b.1).0 in
     let few = few_is (has_too_many nodes variables deck place) (samples_bad deck) a.0 a.1 in

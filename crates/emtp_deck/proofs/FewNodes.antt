@@ -1,16 +1,17 @@
 -- A deck whose cards have no fault of sense has no more nodes than a case may have.
+use Rattle.emtp_fix.specs.Chain.{unless}
 use Rattle.emtp_case.specs.declared.limit.TheConstants.{MOST_NODES}
 use Rattle.std.proofs.Common.{◌≡◌, ◌∙◌, refl, subst, Bool, ℕ, ◌≤◌, List, [], ◌∷◌, ◌++◌, Option, Some, None, Ok}
-use Rattle.emtp_card.specs.Fault.{unless_bad}
 use Rattle.emtp_card.specs.declared.fault.Fault.{Fault}
 use Rattle.emtp_card.specs.declared.reason.Bad.{Bad}
 use Rattle.emtp_case.specs.declared.branch.Point.{Point}
+use Rattle.emtp_card.specs.Fault.{bad_at}
 use Rattle.emtp_deck.proofs.Asking.{branches_ask, control_is, entry_asks, go_on_ok, sections, switch_asks, tacs_outputs_ask}
 use Rattle.emtp_deck.proofs.Judging.{sensible_switch}
 use Rattle.emtp_deck.proofs.Sensing.{few_ends}
 use Rattle.emtp_deck.specs.Branches.{entry_fault, take_branches, take_entry, with_entry}
 use Rattle.emtp_deck.specs.Deck.{control_made, made_of_deck}
-use Rattle.emtp_deck.specs.Made.{Made, unless_fault}
+use Rattle.emtp_deck.specs.Made.{Made}
 use Rattle.emtp_deck.specs.Switches.{switch_fault, take_switch, take_switches, with_switch}
 use Rattle.emtp_sense.proofs.CardNames.{all_nodes, branch_names, entry_names, switch_names}
 use Rattle.emtp_sense.proofs.Naming.{Each}
@@ -21,11 +22,11 @@ use Rattle.emtp_walk.specs.declared.deck.Deck.{Deck}
 use Rattle.emtp_walk.specs.declared.deck.Place.TheVariants.{After}
 use Rattle.emtp_netcards.specs.declared.switch_card.SwitchCard.{SwitchCard}
 
-pub no_bad_left : {A : Type 0} (bad : Option Bad) (x y : A) → unless_bad bad x ≡ Ok y → bad ≡ None
+pub no_bad_left : {A : Type 0} (bad : Option Bad) (x y : A) → unless bad (λ bad. bad) (Ok x) ≡ Ok y → bad ≡ None
 no_bad_left (Some bad) x y e = absurd (cc)
 no_bad_left None x y e = refl
 
-pub no_fault_left : {A : Type 0} (line : ℕ) (fault : Option Fault) (x y : A) → unless_fault line fault x ≡ Ok y → fault ≡ None
+pub no_fault_left : {A : Type 0} (line : ℕ) (fault : Option Fault) (x y : A) → unless fault (bad_at line) (Ok x) ≡ Ok y → fault ≡ None
 no_fault_left line (Some fault) x y e = absurd (cc)
 no_fault_left line None x y e = refl
 

@@ -1,4 +1,5 @@
 -- What is made of cards so far is a draft, and the channels that were asked for are there.
+use Rattle.emtp_fix.specs.Chain.{unless}
 use Rattle.emtp_case.specs.declared.limit.TheConstants.{MOST_CHANNELS}
 use Rattle.std.proofs.Common.{◌≡◌, ap, sym, subst, refl, ℕ, ◌+◌, ◌==◌, ◌<◌, ◌≤◌, Bool, true, false, not, ◌&&◌, List, [], ◌∷◌, ◌++◌, length, Option, Some, None, option_map, Result, Ok, arith, length-append, length-take}
 use Rattle.std.specs.Prelude.{All, if◌then◌else◌, position}
@@ -7,7 +8,6 @@ use Rattle.std.specs.Str.{bytes_eq}
 use Rattle.std.specs.Option.{ForSome}
 use Rattle.std.proofs.lemmas.List.Quantifiers.{position-Some}
 use Rattle.std.proofs.lemmas.List.Elements.{All-append, All-cons, All-head, All-nil, All-tail}
-use Rattle.emtp_card.specs.Fault.{unless_bad}
 use Rattle.emtp_card.specs.declared.fault.Fault.{Fault}
 use Rattle.emtp_card.specs.declared.reason.Bad.{Bad}
 use Rattle.emtp_case.proofs.DraftSteps as steps
@@ -21,13 +21,14 @@ use Rattle.emtp_case.specs.declared.channel.Channel.{Channel}
 use Rattle.emtp_case.specs.declared.channel.Channel.TheVariants.{NodeVoltage as NodeChannel, Status, SwitchCurrent, SwitchVoltage, Tacs as VariableChannel}
 use Rattle.emtp_case.specs.declared.switch.SwitchKind.{SwitchKind}
 use Rattle.emtp_case.specs.declared.switch.SwitchKind.TheVariants.{Control, Measuring, Time, Valve}
+use Rattle.emtp_card.specs.Fault.{bad_at}
 use Rattle.emtp_deck.proofs.Asking.{go_on_ok, unless_bad_ok, unless_fault_ok}
 use Rattle.emtp_deck.proofs.Driving.{driven_source}
 use Rattle.emtp_deck.proofs.FewNodes.{no_bad_left, no_fault_left}
 use Rattle.emtp_deck.proofs.Judging.{sensible_source, sensible_switch}
 use Rattle.emtp_deck.proofs.Keeping.{channels_of_there, length_of_nodes, length_of_switch, nodes_there, there_grows}
 use Rattle.emtp_deck.specs.Channels.{channels_of, status_of}
-use Rattle.emtp_deck.specs.Made.{Made, count_asked, no_room, unless_fault}
+use Rattle.emtp_deck.specs.Made.{Made, count_asked, no_room}
 use Rattle.emtp_deck.specs.Outputs.{channel_of, name_fault, node_channels, take_all_nodes, take_known_name, take_names, take_output, take_outputs, take_tacs_outputs, with_channel, with_channels}
 use Rattle.emtp_deck.specs.Sources.{source_at, source_fault, take_source, take_sources, with_source}
 use Rattle.emtp_deck.specs.Switches.{controlled_kind, switch_at, switch_fault, take_switch, take_switches, with_switch}
@@ -61,10 +62,10 @@ pub record IsGood (m : Made) : Type 0 where
 
 -- ---- answers
 
-pub no_bad : {A : Type 0} (bad : Option Bad) (x y : A) → unless_bad bad x ≡ Ok y → (bad ≡ None) × (x ≡ y)
+pub no_bad : {A : Type 0} (bad : Option Bad) (x y : A) → unless bad (λ bad. bad) (Ok x) ≡ Ok y → (bad ≡ None) × (x ≡ y)
 no_bad bad x y e = (no_bad_left bad x y e, unless_bad_ok bad x y e)
 
-no_fault : {A : Type 0} (line : ℕ) (fault : Option Fault) (x y : A) → unless_fault line fault x ≡ Ok y → (fault ≡ None) × (x ≡ y)
+no_fault : {A : Type 0} (line : ℕ) (fault : Option Fault) (x y : A) → unless fault (bad_at line) (Ok x) ≡ Ok y → (fault ≡ None) × (x ≡ y)
 no_fault line fault x y e = (no_fault_left line fault x y e, unless_fault_ok line fault x y e)
 
 -- ---- sources

@@ -1,10 +1,10 @@
 -- The case of a deck whose record isn't too large.
+use Rattle.emtp_fix.specs.Chain.{unless}
 use Rattle.emtp_case.specs.declared.limit.TheConstants.{MOST_STORED_VALUES}
 use Rattle.std.proofs.Common.{◌≡◌, ◌∙◌, ap, ℕ, ◌+◌, ◌*◌, ◌≤◌, false, Option, Some, Ok, Err, arith, Bool, None, Result}
 use Rattle.std.proofs.Math.Nat.{mul-le-mul_right}
 use Rattle.std.proofs.lemmas.Bool.Decides.{nat_tests}
 use Rattle.std.specs.Prelude.{nat_lt}
-use Rattle.emtp_card.specs.Fault.{unless_bad}
 use Rattle.emtp_card.specs.declared.reason.Bad.{Bad}
 use Rattle.emtp_card.specs.declared.reason.Refused.{Refused}
 use Rattle.emtp_card.specs.declared.reason.Refused.TheVariants.{Bad as OfBad, NoMemory}
@@ -47,15 +47,15 @@ stored_within deck seen m few h =
 pub of_control : (line : ℕ) (deck : Deck) (place : Place) (bad : Bad) → has_too_many (known_nodes deck place) (variable_names deck place) deck place ≡ false → control_bad (known_nodes deck place) (variable_names deck place) deck place ≡ Some bad → filled line deck place ≡ Err bad
 unfolding filled
 of_control line deck place bad few e =
-    rw few (ap (λ (b : Option Bad). go_on (λ (sensible : Unit {0}). go_on (λ (m : Made). unless_bad (unfinished line m place) (case_of deck m)) (made_of_deck (case_nodes (known_nodes deck place)) (variable_names deck place) deck)) (unless_bad b tt)) e)
+    rw few (ap (λ (b : Option Bad). go_on (λ (sensible : Unit {0}). go_on (λ (m : Made). unless (unfinished line m place) (λ bad. bad) (Ok (case_of deck m))) (made_of_deck (case_nodes (known_nodes deck place)) (variable_names deck place) deck)) (unless b (λ bad. bad) (Ok tt))) e)
 
 -- the faults of the network behind it
 pub of_network : (line : ℕ) (deck : Deck) (place : Place) (made : Result Made Bad) → has_too_many (known_nodes deck place) (variable_names deck place) deck place ≡ false → control_bad (known_nodes deck place) (variable_names deck place) deck place ≡ None
-    → made_of_deck (case_nodes (known_nodes deck place)) (variable_names deck place) deck ≡ made → filled line deck place ≡ go_on (λ (m : Made). unless_bad (unfinished line m place) (case_of deck m)) made
+    → made_of_deck (case_nodes (known_nodes deck place)) (variable_names deck place) deck ≡ made → filled line deck place ≡ go_on (λ (m : Made). unless (unfinished line m place) (λ bad. bad) (Ok (case_of deck m))) made
 unfolding filled
 of_network line deck place made few none h =
-    rw few (ap (λ (b : Option Bad). go_on (λ (sensible : Unit {0}). go_on (λ (m : Made). unless_bad (unfinished line m place) (case_of deck m)) (made_of_deck (case_nodes (known_nodes deck place)) (variable_names deck place) deck)) (unless_bad b tt)) none
-    ∙ ap (go_on (λ (m : Made). unless_bad (unfinished line m place) (case_of deck m))) h)
+    rw few (ap (λ (b : Option Bad). go_on (λ (sensible : Unit {0}). go_on (λ (m : Made). unless (unfinished line m place) (λ bad. bad) (Ok (case_of deck m))) (made_of_deck (case_nodes (known_nodes deck place)) (variable_names deck place) deck)) (unless b (λ bad. bad) (Ok tt))) none
+    ∙ ap (go_on (λ (m : Made). unless (unfinished line m place) (λ bad. bad) (Ok (case_of deck m)))) h)
 
 pub stopped : (line : ℕ) (deck : Deck) (place : Place) (refused : Refused) (left : Made) → has_too_many (known_nodes deck place) (variable_names deck place) deck place ≡ false → control_bad (known_nodes deck place) (variable_names deck place) deck place ≡ None
     → Fills (Err refused) (made_of_deck (case_nodes (known_nodes deck place)) (variable_names deck place) deck) left → IfBad refused (λ bad. filled line deck place ≡ Err bad)
@@ -64,7 +64,7 @@ stopped line deck place NoMemory left few none h = tt
 
 pub cut_off : (line : ℕ) (deck : Deck) (place : Place) (bad : Bad) (m : Made) → has_too_many (known_nodes deck place) (variable_names deck place) deck place ≡ false → control_bad (known_nodes deck place) (variable_names deck place) deck place ≡ None
     → made_of_deck (case_nodes (known_nodes deck place)) (variable_names deck place) deck ≡ Ok m → unfinished line m place ≡ Some bad → filled line deck place ≡ Err bad
-cut_off line deck place bad m few none h e = of_network line deck place (Ok m) few none h ∙ ap (λ b. unless_bad b (case_of deck m)) e
+cut_off line deck place bad m few none h e = of_network line deck place (Ok m) few none h ∙ ap (λ b. unless b (λ bad. bad) (Ok (case_of deck m))) e
 
 pub completed : (line : ℕ) (deck : Deck) (seen : Bool) (m : Made) → has_too_many (known_nodes deck (After seen)) (variable_names deck (After seen)) deck (After seen) ≡ false → control_bad (known_nodes deck (After seen)) (variable_names deck (After seen)) deck (After seen) ≡ None
     → made_of_deck (case_nodes (known_nodes deck (After seen))) (variable_names deck (After seen)) deck ≡ Ok m → filled line deck (After seen) ≡ Ok (case_of deck m)

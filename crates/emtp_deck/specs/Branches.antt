@@ -1,7 +1,8 @@
 -- Branches: what each card gives the case, unless it has a fault of sense. Of a card the least fault counts.
+use Rattle.emtp_fix.specs.Chain.{unless}
 use Rattle.emtp_case.specs.declared.limit.TheConstants.{MOST_BRANCHES, MOST_CHANNELS, MOST_HISTORY_VALUES, MOST_NODES}
 use Rattle.std.specs.Prelude.{ℕ, ◌+◌, ◌*◌, nat_lt, ℤ, Bool, true, false, List, [], ◌∷◌, ◌++◌, length, Option, Some, None, option_map, Result, Ok}
-use Rattle.emtp_card.specs.Fault.{bad_at, least, unless_bad}
+use Rattle.emtp_card.specs.Fault.{bad_at, least}
 use Rattle.emtp_card.specs.declared.fault.Fault.{Fault}
 use Rattle.emtp_card.specs.declared.reason.Bad.{Bad}
 use Rattle.emtp_case.specs.Branch.{points_of}
@@ -211,7 +212,7 @@ with_entry points m e = record {
 -- ---- all entries
 
 unfoldable pub take_entry : List Point → Made → BranchEntry → Result Made Bad
-take_entry points m e = unless_bad (entry_fault m e) (with_entry points m e)
+take_entry points m e = unless (entry_fault m e) (λ bad. bad) (Ok (with_entry points m e))
 
 -- the first entry that has a fault decides
 abbrev pub take_branches : List Point → Made → List BranchEntry → Result Made Bad

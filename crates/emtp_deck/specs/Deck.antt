@@ -2,7 +2,7 @@
 -- in the order of their lines, as the sections do.
 use Rattle.std.specs.Prelude.{ℕ, ◌+◌, Bool, true, false, List, length, Option, Some, None, Result, Ok, Err, if◌then◌else◌, map}
 use Rattle.std.specs.Str.Lines.{lines}
-use Rattle.emtp_card.specs.Fault.{unless_bad}
+use Rattle.emtp_fix.specs.Chain.{unless}
 use Rattle.emtp_card.specs.declared.reason.Bad.{Bad}
 use Rattle.emtp_card.specs.declared.reason.Why.TheVariants.{MissingSection}
 use Rattle.emtp_case.specs.declared.case.Parts.{Parts}
@@ -68,7 +68,7 @@ abbrev pub few_samples : List (List ℕ) → List (List ℕ) → Deck → Place 
 few_samples nodes variables deck place = if has_too_many nodes variables deck place then Err (samples_bad deck) else Ok tt
 
 abbrev pub sensible_control : List (List ℕ) → List (List ℕ) → Deck → Place → Result (Unit {0}) Bad
-sensible_control nodes variables deck place = unless_bad (control_bad nodes variables deck place) tt
+sensible_control nodes variables deck place = unless (control_bad nodes variables deck place) (λ bad. bad) (Ok tt)
 
 -- given the names of all nodes and variables: the size of the record, the control, the network with the nodes that a case may
 -- have, and what is missing at the end
@@ -77,7 +77,7 @@ filled_by nodes variables line deck place = do
   few ← few_samples nodes variables deck place
   sensible ← sensible_control nodes variables deck place
   m ← made_of_deck (case_nodes nodes) variables deck
-  unless_bad (unfinished line m place) (case_of deck m)
+  unless (unfinished line m place) (λ bad. bad) (Ok (case_of deck m))
 
 unfoldable pub filled : ℕ → Deck → Place → Result Parts Bad
 filled line deck place = filled_by (known_nodes deck place) (variable_names deck place) line deck place

@@ -25,8 +25,3 @@ none_asked = record { variables = []; outputs = []; branches = []; switches = []
 -- so many channels more than a record may have
 abbrev pub no_room : Asked → ℕ → Bool
 no_room a more = nat_lt MOST_CHANNELS (count_asked a + more)
-
--- what a card makes, unless it has a fault of sense
-abbrev pub unless_fault : {A : Type 0} → ℕ → Option Fault → A → Result A Bad
-unless_fault line (Some fault) x = Err (bad_at line fault)
-unless_fault line None x = Ok x

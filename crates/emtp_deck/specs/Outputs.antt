@@ -1,13 +1,15 @@
 -- Outputs: the channels that each card of the network and of the control asks for, unless it has a fault of sense.
 use Rattle.std.specs.Prelude.{ℕ, zero, suc, ◌+◌, List, [], ◌∷◌, ◌++◌, length, Option, Some, None, Result, Ok, option_map}
+use Rattle.emtp_fix.specs.Chain.{unless}
 use Rattle.emtp_card.specs.declared.fault.Fault.{Fault}
 use Rattle.emtp_card.specs.declared.reason.Bad.{Bad}
 use Rattle.emtp_card.specs.declared.reason.Why.TheVariants.{UnknownName}
 use Rattle.emtp_case.specs.declared.case.Parts.{Parts}
 use Rattle.emtp_case.specs.declared.channel.Channel.{Channel}
 use Rattle.emtp_case.specs.declared.channel.Channel.TheVariants.{NodeVoltage as NodeChannel, Tacs as VariableChannel}
+use Rattle.emtp_card.specs.Fault.{bad_at}
 use Rattle.emtp_walk.specs.Answer.{go_on}
-use Rattle.emtp_deck.specs.Made.{Made, no_room, unless_fault}
+use Rattle.emtp_deck.specs.Made.{Made, no_room}
 use Rattle.emtp_deck.specs.declared.asked.Asked.{Asked}
 use Rattle.emtp_deck.specs.declared.outputs.Named.{Named}
 use Rattle.emtp_deck.specs.declared.outputs.Named.TheVariants.{Node, Variable}
@@ -42,7 +44,7 @@ with_channel named m (Some channel) = with_channels named m (channel ∷ [])
 unfoldable pub take_known_name : Named → ℕ → Made → ℕ → List ℕ → Result Made Bad
 take_known_name named line m column name =
     let channel = channel_of named m.parts name in
-    unless_fault line (name_fault m.asked column channel) (with_channel named m channel)
+    unless (name_fault m.asked column channel) (bad_at line) (Ok (with_channel named m channel))
 
 -- blank names are skipped
 abbrev pub take_name : Named → ℕ → Made → ℕ → Option (List ℕ) → Result Made Bad
@@ -65,7 +67,7 @@ node_channels (suc n) = node_channels n ++ NodeChannel (suc n) ∷ []
 unfoldable pub take_all_nodes : ℕ → Made → Result Made Bad
 take_all_nodes line m =
     let nodes = length m.parts.nodes in
-    unless_fault line (too_many (no_room m.asked nodes) 1) (with_channels Node m (node_channels nodes))
+    unless (too_many (no_room m.asked nodes) 1) (bad_at line) (Ok (with_channels Node m (node_channels nodes)))
 
 -- ---- cards
 

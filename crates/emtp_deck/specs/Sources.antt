@@ -1,8 +1,9 @@
 -- Sources: what each card gives the case, unless it has a fault of sense. Of a card the least fault counts.
+use Rattle.emtp_fix.specs.Chain.{unless}
 use Rattle.emtp_case.specs.declared.limit.TheConstants.{MOST_SOURCES}
 use Rattle.std.specs.List.{list_any}
 use Rattle.std.specs.Prelude.{ℕ, nat_le, Bool, not, ◌&&◌, List, [], ◌∷◌, ◌++◌, length, Option, Some, None, Result, Ok, if◌then◌else◌}
-use Rattle.emtp_card.specs.Fault.{least}
+use Rattle.emtp_card.specs.Fault.{bad_at, least}
 use Rattle.emtp_card.specs.declared.fault.Fault.{Fault}
 use Rattle.emtp_card.specs.declared.reason.Bad.{Bad}
 use Rattle.emtp_card.specs.declared.reason.Why.TheVariants.{TwoSources, UnknownName}
@@ -12,7 +13,7 @@ use Rattle.emtp_case.specs.declared.source.Shape.{Shape}
 use Rattle.emtp_case.specs.declared.source.Shape.TheVariants.{Tacs}
 use Rattle.emtp_case.specs.declared.source.Source.{Source}
 use Rattle.emtp_walk.specs.Answer.{go_on}
-use Rattle.emtp_deck.specs.Made.{Made, unless_fault}
+use Rattle.emtp_deck.specs.Made.{Made}
 use Rattle.emtp_sense.specs.Limits.{too_many}
 use Rattle.emtp_sense.specs.Names.{find_node}
 use Rattle.emtp_sense.specs.Variables.{unknown_name, variable_number}
@@ -57,7 +58,7 @@ with_source m card (Some node) =
 unfoldable pub take_source : Made → SourceCard → Result Made Bad
 take_source m card =
     let node = find_node m.parts.nodes card.name in
-    unless_fault card.line (source_fault m.parts card node) (with_source m card node)
+    unless (source_fault m.parts card node) (bad_at card.line) (Ok (with_source m card node))
 
 -- the first card that has a fault decides
 abbrev pub take_sources : Made → List SourceCard → Result Made Bad

@@ -1,7 +1,8 @@
 -- Switches: what each card gives the case, unless it has a fault of sense. Of a card the least fault counts.
+use Rattle.emtp_fix.specs.Chain.{unless}
 use Rattle.emtp_case.specs.declared.limit.TheConstants.{MOST_NODES, MOST_SWITCHES}
 use Rattle.std.specs.Prelude.{ℕ, nat_le, nat_lt, List, [], ◌∷◌, ◌++◌, length, Option, Result, Ok, None, Some, option_map}
-use Rattle.emtp_card.specs.Fault.{least}
+use Rattle.emtp_card.specs.Fault.{bad_at, least}
 use Rattle.emtp_card.specs.declared.fault.Fault.{Fault}
 use Rattle.emtp_card.specs.declared.reason.Bad.{Bad}
 use Rattle.emtp_case.specs.declared.channel.Channel.TheVariants.{SwitchCurrent, SwitchVoltage}
@@ -10,7 +11,7 @@ use Rattle.emtp_case.specs.declared.switch.SwitchKind.{SwitchKind}
 use Rattle.emtp_case.specs.declared.switch.SwitchKind.TheVariants.{Control, Measuring, Time, Valve}
 use Rattle.emtp_walk.specs.Answer.{go_on}
 use Rattle.emtp_deck.specs.Channels.{channels_of, status_of, switch_channel_count}
-use Rattle.emtp_deck.specs.Made.{Made, no_room, unless_fault}
+use Rattle.emtp_deck.specs.Made.{Made, no_room}
 use Rattle.emtp_sense.specs.Limits.{too_many}
 use Rattle.emtp_sense.specs.Names.{node_number}
 use Rattle.emtp_sense.specs.Variables.{unknown_name, variable_number}
@@ -59,7 +60,7 @@ with_switch m card =
     }
 
 unfoldable pub take_switch : Made → SwitchCard → Result Made Bad
-take_switch m card = unless_fault card.line (switch_fault m card) (with_switch m card)
+take_switch m card = unless (switch_fault m card) (bad_at card.line) (Ok (with_switch m card))
 
 -- the first card that has a fault decides
 abbrev pub take_switches : Made → List SwitchCard → Result Made Bad

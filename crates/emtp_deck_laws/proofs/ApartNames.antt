@@ -5,7 +5,7 @@ use Rattle.std.specs.Str.{bytes_eq}
 use Rattle.std.proofs.lemmas.Bool.{cases_lt}
 use Rattle.std.proofs.lemmas.List.{get_or-take, length-take}
 use Rattle.std.proofs.lemmas.Slice.Eq.{bytes_eq-Decides}
-use Rattle.emtp_card.specs.Fault.{unless_bad}
+use Rattle.emtp_fix.specs.Chain.{unless}
 use Rattle.emtp_card.specs.declared.reason.Bad.{Bad}
 use Rattle.emtp_case.specs.Case.{standing_names}
 use Rattle.emtp_case.specs.declared.case.Parts.{Parts}
@@ -176,9 +176,9 @@ unfolding filled
 filled_apart line deck place p e =
     let nodes = known_nodes deck place in
     let variables = variable_names deck place in
-    let a = then_read (few_samples nodes variables deck place) (λ few. sensible_control nodes variables deck place >>= (λ sensible. made_of_deck (case_nodes nodes) variables deck >>= (λ m. unless_bad (unfinished line m place) (case_of deck m)))) p e in
-    let b = then_read (sensible_control nodes variables deck place) (λ sensible. made_of_deck (case_nodes nodes) variables deck >>= (λ m. unless_bad (unfinished line m place) (case_of deck m))) p a.2 in
-    let c = then_read (made_of_deck (case_nodes nodes) variables deck) (λ m. unless_bad (unfinished line m place) (case_of deck m)) p b.2 in
+    let a = then_read (few_samples nodes variables deck place) (λ few. sensible_control nodes variables deck place >>= (λ sensible. made_of_deck (case_nodes nodes) variables deck >>= (λ m. unless (unfinished line m place) (λ bad. bad) (Ok (case_of deck m))))) p e in
+    let b = then_read (sensible_control nodes variables deck place) (λ sensible. made_of_deck (case_nodes nodes) variables deck >>= (λ m. unless (unfinished line m place) (λ bad. bad) (Ok (case_of deck m)))) p a.2 in
+    let c = then_read (made_of_deck (case_nodes nodes) variables deck) (λ m. unless (unfinished line m place) (λ bad. bad) (Ok (case_of deck m))) p b.2 in
     let done = no_bad (unfinished line c.0 place) (case_of deck c.0) p c.2 in
     let asks = deck_asks (case_nodes nodes) variables deck c.0 c.1 in
     let is = control_is (case_nodes nodes) variables deck in

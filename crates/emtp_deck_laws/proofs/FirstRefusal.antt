@@ -1,11 +1,10 @@
 -- The refusal of a list of cards: that of the first card that has a fault, by its least one.
 use Rattle.std.proofs.Common.{◌≡◌, ◌∙◌, sym, ap, refl, ℕ, List, [], ◌∷◌, ◌++◌, Option, Some, None, option_map, Result}
-use Rattle.emtp_card.specs.Fault.{bad_at, least, unless_bad}
+use Rattle.emtp_fix.specs.Chain.{unless}
+use Rattle.emtp_card.specs.Fault.{bad_at, least}
 use Rattle.emtp_card.specs.declared.fault.Fault.{Fault}
 use Rattle.emtp_card.specs.declared.reason.Bad.{Bad}
-use Rattle.emtp_deck.specs.Made.{unless_fault}
 use Rattle.emtp_deck_laws.specs.JudgedCards.{Judged}
-use Rattle.emtp_sense.specs.ControlSense.{unless_judged}
 use Rattle.emtp_walk.specs.Answer.{first_bad, go_on}
 
 abbrev pub refusal_of : Judged → Option Bad
@@ -29,26 +28,26 @@ refusals_in_turn (x ∷ xs) ys = ap (first_bad (refusal_of x)) (refusals_in_turn
 
 -- ---- what is made unless a card is refused
 
-both : {A B : Type 0} (f : A → Result B Bad) (a b : Option Bad) (x : A) (y : B) → f x ≡ unless_bad b y → go_on f (unless_bad a x) ≡ unless_bad (first_bad a b) y
+both : {A B : Type 0} (f : A → Result B Bad) (a b : Option Bad) (x : A) (y : B) → f x ≡ unless b (λ bad. bad) (Ok y) → go_on f (unless a (λ bad. bad) (Ok x)) ≡ unless (first_bad a b) (λ bad. bad) (Ok y)
 both f (Some a) b x y e = refl
 both f None b x y e = e
 
 -- more cards after some
-pub more_cards : {A B : Type 0} (f : A → Result B Bad) (xs ys : List Judged) (r : Result A Bad) (x : A) (y : B) → r ≡ unless_bad (first_refusal xs) x → f x ≡ unless_bad (first_refusal ys) y → go_on f r ≡ unless_bad (first_refusal (xs ++ ys)) y
+pub more_cards : {A B : Type 0} (f : A → Result B Bad) (xs ys : List Judged) (r : Result A Bad) (x : A) (y : B) → r ≡ unless (first_refusal xs) (λ bad. bad) (Ok x) → f x ≡ unless (first_refusal ys) (λ bad. bad) (Ok y) → go_on f r ≡ unless (first_refusal (xs ++ ys)) (λ bad. bad) (Ok y)
 more_cards f xs ys r x y e h =
     ap (go_on f) e
     ∙ both f (first_refusal xs) (first_refusal ys) x y h
-    ∙ ap (λ bad. unless_bad bad y) (sym (refusals_in_turn xs ys))
+    ∙ ap (λ bad. unless bad (λ bad. bad) (Ok y)) (sym (refusals_in_turn xs ys))
 
-one : {A : Type 0} (line : ℕ) (fault : Option Fault) (x : A) → unless_fault line fault x ≡ unless_bad (first_bad (option_map (bad_at line) fault) None) x
+one : {A : Type 0} (line : ℕ) (fault : Option Fault) (x : A) → unless fault (bad_at line) (Ok x) ≡ unless (first_bad (option_map (bad_at line) fault) None) (λ bad. bad) (Ok x)
 one line (Some fault) x = refl
 one line None x = refl
 
 -- one card
-pub one_card : {A : Type 0} (line : ℕ) (faults : List (Option Fault)) (x : A) → unless_fault line (least faults) x ≡ unless_bad (first_refusal (record { line = line; faults = faults } ∷ [])) x
+pub one_card : {A : Type 0} (line : ℕ) (faults : List (Option Fault)) (x : A) → unless (least faults) (bad_at line) (Ok x) ≡ unless (first_refusal (record { line = line; faults = faults } ∷ [])) (λ bad. bad) (Ok x)
 one_card line faults x = one line (least faults) x
 
-pub judged_first : {A : Type 0} (a b : Option Bad) (y : A) → unless_judged a (unless_bad b y) ≡ unless_bad (first_bad a b) y
+pub judged_first : {A : Type 0} (a b : Option Bad) (y : A) → unless a (λ bad. bad) (unless b (λ bad. bad) (Ok y)) ≡ unless (first_bad a b) (λ bad. bad) (Ok y)
 judged_first (Some a) b y = refl
 judged_first None b y = refl
 

@@ -1,11 +1,12 @@
 -- The refusal of the control's cards is that of the first that has a fault.
 use Rattle.std.proofs.Common.{◌≡◌, ◌∙◌, sym, ap, refl, ℕ, ◌+◌, ℤ, List, [], ◌∷◌, ◌++◌, Option, Some, None, Result}
+use Rattle.emtp_fix.specs.Chain.{unless}
 use Rattle.emtp_card.specs.declared.reason.Bad.{Bad}
 use Rattle.emtp_deck_laws.specs.JudgedCards.{extras_history, judged_blocks, judged_control, judged_cut_control, judged_cut_place, judged_extra, judged_extras, judged_tacs_sources}
 use Rattle.emtp_deck_laws.proofs.FirstRefusal.{bad_alone, first_refusal, refusal_of, refusals_in_turn}
 use Rattle.emtp_netcards.specs.declared.source_card.SourceCard.{SourceCard}
 use Rattle.emtp_netcards.specs.declared.switch_card.SwitchCard.{SwitchCard}
-use Rattle.emtp_sense.specs.ControlSense.{block_bad, block_sense, blocks_bad, control_bad, device_sense, entry_history_values, extra_bad, extras_or_pending, first_extra, first_source, formula_sense, judge_extras, pending_control, pending_control_bad, tacs_source_bad, tacs_source_sense, tacs_sources_bad, unless_judged}
+use Rattle.emtp_sense.specs.ControlSense.{block_bad, block_sense, blocks_bad, control_bad, device_sense, entry_history_values, extra_bad, extras_or_pending, first_extra, first_source, formula_sense, judge_extras, pending_control, pending_control_bad, tacs_source_bad, tacs_source_sense, tacs_sources_bad}
 use Rattle.emtp_walk.specs.Answer.{first_bad}
 use Rattle.emtp_walk.specs.declared.control_cards.BlockEntry.{BlockEntry}
 use Rattle.emtp_walk.specs.declared.control_cards.ControlCards.{ControlCards}
@@ -59,7 +60,7 @@ place_refused variables deck history Sources = refl
 place_refused variables deck history Outputs = refl
 place_refused variables deck history (After seen) = refl
 
-judged_or_pending : (variables : List (List ℕ)) (deck : Deck) (place : Place) (a : Option Bad) (r : Result ℕ Bad) → extras_or_pending variables deck place (unless_judged a r) ≡ first_bad a (extras_or_pending variables deck place r)
+judged_or_pending : (variables : List (List ℕ)) (deck : Deck) (place : Place) (a : Option Bad) (r : Result ℕ Bad) → extras_or_pending variables deck place (unless a (λ bad. bad) r) ≡ first_bad a (extras_or_pending variables deck place r)
 judged_or_pending variables deck place (Some a) r = refl
 judged_or_pending variables deck place None r = refl
 

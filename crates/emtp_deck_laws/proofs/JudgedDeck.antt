@@ -1,7 +1,8 @@
 -- A deck whose cards were read is the case of them all, unless one has a fault: the first that has one is refused.
 use Rattle.std.proofs.Common.{◌≡◌, ◌∙◌, sym, ap, refl, ℕ, ◌+◌, Bool, true, false, List, [], ◌∷◌, ◌++◌, length, Option, Some, None, Result, Ok, Err}
 use Rattle.std.specs.Prelude.{if◌then◌else◌}
-use Rattle.emtp_card.specs.Fault.{least, unless_bad}
+use Rattle.emtp_fix.specs.Chain.{unless}
+use Rattle.emtp_card.specs.Fault.{least}
 use Rattle.emtp_card.specs.declared.fault.Fault.{Fault}
 use Rattle.emtp_card.specs.declared.reason.Bad.{Bad}
 use Rattle.emtp_card.specs.declared.reason.Why.TheVariants.{MissingSection, TooManySamples}
@@ -18,7 +19,7 @@ use Rattle.emtp_deck_laws.specs.JudgedCards.{Judged, judged_branches, judged_car
 use Rattle.emtp_deck_laws.proofs.FirstRefusal.{bad_alone, first_refusal, judged_first, more_cards, refusals_in_turn}
 use Rattle.emtp_deck_laws.proofs.JudgedControl.{control_refused}
 use Rattle.emtp_deck_laws.proofs.JudgedNetwork.{branches_made, outputs_made, sources_made, switches_made, tacs_outputs_made}
-use Rattle.emtp_sense.specs.ControlSense.{control_bad, unless_judged}
+use Rattle.emtp_sense.specs.ControlSense.{control_bad}
 use Rattle.emtp_sense.specs.Names.{case_nodes, known_nodes}
 use Rattle.emtp_sense.specs.Variables.{variable_names}
 use Rattle.emtp_walk.specs.Answer.{first_bad, go_on}
@@ -29,7 +30,7 @@ use Rattle.emtp_walk.specs.declared.deck.Place.TheVariants.{After, Begin, Branch
 
 -- ---- the sections
 
-sections_made : (nodes variables : List (List ℕ)) (deck : Deck) → made_of_deck nodes variables deck ≡ unless_bad (first_refusal (judged_sections nodes variables deck)) (made_of_all nodes variables deck)
+sections_made : (nodes variables : List (List ℕ)) (deck : Deck) → made_of_deck nodes variables deck ≡ unless (first_refusal (judged_sections nodes variables deck)) (λ bad. bad) (Ok (made_of_all nodes variables deck))
 sections_made nodes variables deck =
     let signals = judged_tacs_outputs (control_made nodes variables deck) deck.control.outputs in
     let m1 = made_before_branches nodes variables deck in
@@ -87,19 +88,19 @@ unfinished_refused line m place =
 
 -- ---- the whole deck
 
-stored : (many : Bool) (deck : Deck) (rest : List Judged) (r : Result Parts Bad) (case : Parts) → r ≡ unless_bad (first_refusal rest) case
+stored : (many : Bool) (deck : Deck) (rest : List Judged) (r : Result Parts Bad) (case : Parts) → r ≡ unless (first_refusal rest) (λ bad. bad) (Ok case)
     → go_on (λ (few : Unit {0}). r) (if◌then◌else◌ {A = Result (Unit {0}) Bad} many (Err (samples_bad deck)) (Ok tt))
-    ≡ unless_bad (first_refusal (record { line = deck.second; faults = (if◌then◌else◌ {A = Option Fault} many (Some (record { column = 9; why = TooManySamples })) None) ∷ [] } ∷ rest)) case
+    ≡ unless (first_refusal (record { line = deck.second; faults = (if◌then◌else◌ {A = Option Fault} many (Some (record { column = 9; why = TooManySamples })) None) ∷ [] } ∷ rest)) (λ bad. bad) (Ok case)
 unfolding least
 stored true deck rest r case e = refl
 stored false deck rest r case e = e
 
 -- what is judged before the cards stands before all that is made of them
-judged_before : {A B : Type 0} (b : Option Bad) (f : A → Result B Bad) (r : Result A Bad) → go_on (λ (sensible : Unit {0}). go_on f r) (unless_bad b tt) ≡ go_on f (unless_judged b r)
+judged_before : {A B : Type 0} (b : Option Bad) (f : A → Result B Bad) (r : Result A Bad) → go_on (λ (sensible : Unit {0}). go_on f r) (unless b (λ bad. bad) (Ok tt)) ≡ go_on f (unless b (λ bad. bad) r)
 judged_before (Some bad) f r = refl
 judged_before None f r = refl
 
-pub deck_refused : (lines : ℕ) (deck : Deck) (place : Place) → filled (lines + 1) deck place ≡ unless_bad (first_refusal (judged_cards lines deck place)) (case_of deck (made_of_all (case_nodes (known_nodes deck place)) (variable_names deck place) deck))
+pub deck_refused : (lines : ℕ) (deck : Deck) (place : Place) → filled (lines + 1) deck place ≡ unless (first_refusal (judged_cards lines deck place)) (λ bad. bad) (Ok (case_of deck (made_of_all (case_nodes (known_nodes deck place)) (variable_names deck place) deck)))
 unfolding filled
 deck_refused lines deck place =
     let nodes = known_nodes deck place in
@@ -109,26 +110,26 @@ deck_refused lines deck place =
     let m = made_of_all (case_nodes nodes) variables deck in
     let end : List Judged = judged_cut_branches m place ++ record { line = lines + 1; faults = end_faults place } ∷ [] in
     stored (has_too_many nodes variables deck place) deck (control ++ sections ++ end) _ (case_of deck m)
-    (judged_before (control_bad nodes variables deck place) (λ (made : Made). unless_bad (unfinished (lines + 1) made place) (case_of deck made)) (made_of_deck (case_nodes nodes) variables deck)
-    ∙ more_cards (λ (made : Made). unless_bad (unfinished (lines + 1) made place) (case_of deck made)) (control ++ sections) end _ m (case_of deck m)
-    (ap (unless_judged (control_bad nodes variables deck place)) (sections_made (case_nodes nodes) variables deck)
+    (judged_before (control_bad nodes variables deck place) (λ (made : Made). unless (unfinished (lines + 1) made place) (λ bad. bad) (Ok (case_of deck made))) (made_of_deck (case_nodes nodes) variables deck)
+    ∙ more_cards (λ (made : Made). unless (unfinished (lines + 1) made place) (λ bad. bad) (Ok (case_of deck made))) (control ++ sections) end _ m (case_of deck m)
+    (ap (unless (control_bad nodes variables deck place) (λ bad. bad)) (sections_made (case_nodes nodes) variables deck)
     ∙ judged_first (control_bad nodes variables deck place) (first_refusal sections) m
-    ∙ ap (λ a. unless_bad (first_bad a (first_refusal sections)) m) (control_refused nodes variables deck place)
-    ∙ ap (λ a. unless_bad a m) (sym (refusals_in_turn control sections)))
-    (ap (λ a. unless_bad a (case_of deck m)) (unfinished_refused (lines + 1) m place)))
+    ∙ ap (λ a. unless (first_bad a (first_refusal sections)) (λ bad. bad) (Ok m)) (control_refused nodes variables deck place)
+    ∙ ap (λ a. unless a (λ bad. bad) (Ok m)) (sym (refusals_in_turn control sections)))
+    (ap (λ a. unless a (λ bad. bad) (Ok (case_of deck m))) (unfinished_refused (lines + 1) m place)))
 
 -- ---- the deck of lines
 
 pub lines_refused : (lines : List (List ℕ)) (deck : Deck) (place : Place) → walk 1 empty_deck Begin lines ≡ Ok (deck, place)
-    → deck_of lines ≡ unless_bad (first_refusal (judged_cards (length lines) deck place)) (case_of deck (made_of_all (case_nodes (known_nodes deck place)) (variable_names deck place) deck))
+    → deck_of lines ≡ unless (first_refusal (judged_cards (length lines) deck place)) (λ bad. bad) (Ok (case_of deck (made_of_all (case_nodes (known_nodes deck place)) (variable_names deck place) deck)))
 unfolding deck_of
 lines_refused lines deck place e =
     ap (go_on (λ (read : Deck × Place). filled (length lines + 1) read.0 read.1)) e ∙ deck_refused (length lines) deck place
 
-pub refused : {A : Type 0} (found : Option Bad) (x : A) (bad : Bad) → unless_bad found x ≡ Err bad → found ≡ Some bad
+pub refused : {A : Type 0} (found : Option Bad) (x : A) (bad : Bad) → unless found (λ bad. bad) (Ok x) ≡ Err bad → found ≡ Some bad
 refused (Some b) x bad e = let same : b ≡ bad = cc in ap Some same
 refused None x bad e = absurd (cc)
 
-pub accepted : {A : Type 0} (found : Option Bad) (x y : A) → unless_bad found x ≡ Ok y → found ≡ None
+pub accepted : {A : Type 0} (found : Option Bad) (x y : A) → unless found (λ bad. bad) (Ok x) ≡ Ok y → found ≡ None
 accepted (Some b) x y e = absurd (cc)
 accepted None x y e = refl

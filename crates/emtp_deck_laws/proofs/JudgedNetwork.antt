@@ -2,7 +2,8 @@
 use Rattle.std.proofs.Common.{◌≡◌, ◌∙◌, sym, ap, refl, ℕ, ◌+◌, ◌<◌, ◌==◌, Bool, true, false, ◌||◌, ◌&&◌, List, [], ◌∷◌, length, Option, Some, None, Result, arith}
 use Rattle.std.specs.Prelude.{fold, nat_lt, if◌then◌else◌}
 use Rattle.std.proofs.lemmas.Bool.Decides.{nat_tests}
-use Rattle.emtp_card.specs.Fault.{comes_before, least, lesser, unless_bad}
+use Rattle.emtp_fix.specs.Chain.{unless}
+use Rattle.emtp_card.specs.Fault.{bad_at, comes_before, least, lesser}
 use Rattle.emtp_card.specs.Reason.{reason_number}
 use Rattle.emtp_card.specs.declared.fault.Fault.{Fault}
 use Rattle.emtp_card.specs.declared.reason.Bad.{Bad}
@@ -10,7 +11,7 @@ use Rattle.emtp_case.specs.declared.branch.Point.{Point}
 use Rattle.emtp_case.specs.declared.case.Parts.{Parts}
 use Rattle.emtp_case.specs.declared.channel.Channel.{Channel}
 use Rattle.emtp_deck.specs.Branches.{card_fault, entry_fault, first_fault, second_fault, take_branches, take_entry, third_fault, with_entry}
-use Rattle.emtp_deck.specs.Made.{Made, no_room, unless_fault}
+use Rattle.emtp_deck.specs.Made.{Made, no_room}
 use Rattle.emtp_deck.specs.Outputs.{channel_of, name_fault, take_all_nodes, take_known_name, take_names, take_output, take_outputs, take_tacs_outputs, with_channel}
 use Rattle.emtp_deck.specs.Sources.{take_source, take_sources, with_source}
 use Rattle.emtp_deck.specs.Switches.{take_switch, take_switches, with_switch}
@@ -39,17 +40,17 @@ entry_refused m (Trio zero' positive third) =
     bads_in_turn (first_fault m zero') (second_fault m zero' positive) (third_fault m zero' positive third)
     ∙ ap (λ a. first_bad (first_fault m zero') (first_bad (second_fault m zero' positive) a)) (bad_alone (third_fault m zero' positive third))
 
-pub branches_made : (points : List Point) (m : Made) (es : List BranchEntry) → take_branches points m es ≡ unless_bad (first_refusal (judged_branches points m es)) (made_branches points m es)
+pub branches_made : (points : List Point) (m : Made) (es : List BranchEntry) → take_branches points m es ≡ unless (first_refusal (judged_branches points m es)) (λ bad. bad) (Ok (made_branches points m es))
 unfolding take_entry
 branches_made points m [] = refl
 branches_made points m (e ∷ es) =
     let next = with_entry points m e in
     more_cards (λ (made : Made). take_branches points made es) (judged_entry m e) (judged_branches points next es) (take_entry points m e) next (made_branches points next es)
-    (ap (λ bad. unless_bad bad next) (entry_refused m e)) (branches_made points next es)
+    (ap (λ bad. unless bad (λ bad. bad) (Ok next)) (entry_refused m e)) (branches_made points next es)
 
 -- ---- switches and sources
 
-pub switches_made : (m : Made) (cards : List SwitchCard) → take_switches m cards ≡ unless_bad (first_refusal (judged_switches m cards)) (made_switches m cards)
+pub switches_made : (m : Made) (cards : List SwitchCard) → take_switches m cards ≡ unless (first_refusal (judged_switches m cards)) (λ bad. bad) (Ok (made_switches m cards))
 unfolding take_switch
 switches_made m [] = refl
 switches_made m (card ∷ cards) =
@@ -57,7 +58,7 @@ switches_made m (card ∷ cards) =
     more_cards (λ (made : Made). take_switches made cards) (record { line = card.line; faults = switch_faults m card } ∷ []) (judged_switches next cards) (take_switch m card) next (made_switches next cards)
     (one_card card.line (switch_faults m card) next) (switches_made next cards)
 
-pub sources_made : (m : Made) (cards : List SourceCard) → take_sources m cards ≡ unless_bad (first_refusal (judged_sources m cards)) (made_sources m cards)
+pub sources_made : (m : Made) (cards : List SourceCard) → take_sources m cards ≡ unless (first_refusal (judged_sources m cards)) (λ bad. bad) (Ok (made_sources m cards))
 unfolding take_source
 sources_made m [] = refl
 sources_made m (card ∷ cards) =
@@ -104,12 +105,12 @@ names_behind channel asking m column low (Some name ∷ names) h =
     let at = channel m.parts name in
     ((λ f e. omega (arith, column_of_name m.asked column at f e)), names_behind channel asking (asking m at) (column + 6) low names (omega arith))
 
-one_name : (line : ℕ) (next : Made → Result Made Bad) (fault : Option Fault) (x y : Made) (rest : List (Option Fault)) → ((f : Fault) → fault ≡ Some f → AreBehind f.column rest) → next x ≡ unless_fault line (least rest) y → go_on next (unless_fault line fault x) ≡ unless_fault line (least (fault ∷ rest)) y
+one_name : (line : ℕ) (next : Made → Result Made Bad) (fault : Option Fault) (x y : Made) (rest : List (Option Fault)) → ((f : Fault) → fault ≡ Some f → AreBehind f.column rest) → next x ≡ unless (least rest) (bad_at line) (Ok y) → go_on next (unless fault (bad_at line) (Ok x)) ≡ unless (least (fault ∷ rest)) (bad_at line) (Ok y)
 unfolding least
-one_name line next (Some f) x y rest behind e = ap (λ a. unless_fault line a y) (sym (stays f rest (behind f refl)))
+one_name line next (Some f) x y rest behind e = ap (λ a. unless a (bad_at line) (Ok y)) (sym (stays f rest (behind f refl)))
 one_name line next None x y rest behind e = e
 
-names_made : (named : _) (line : ℕ) (m : Made) (column : ℕ) (names : List (Option (List ℕ))) → take_names named line m column names ≡ unless_fault line (least (names_faults (channel_of named) (with_channel named) m column names)) (made_names (channel_of named) (with_channel named) m names)
+names_made : (named : _) (line : ℕ) (m : Made) (column : ℕ) (names : List (Option (List ℕ))) → take_names named line m column names ≡ unless (least (names_faults (channel_of named) (with_channel named) m column names)) (bad_at line) (Ok (made_names (channel_of named) (with_channel named) m names))
 unfolding least take_known_name
 names_made named line m column [] = refl
 names_made named line m column (None ∷ names) = names_made named line m (column + 6) names
@@ -123,21 +124,21 @@ names_made named line m column (Some name ∷ names) =
 
 -- ---- outputs
 
-output_made : (line : ℕ) (m : Made) (card : OutputCard) → take_output line m card ≡ unless_fault line (least (output_faults m card)) (made_output m card)
+output_made : (line : ℕ) (m : Made) (card : OutputCard) → take_output line m card ≡ unless (least (output_faults m card)) (bad_at line) (Ok (made_output m card))
 unfolding take_all_nodes
 output_made line m AllNodes =
     let fault = too_many (no_room m.asked (length m.parts.nodes)) 1 in
-    ap (λ a. unless_fault line a (made_output m AllNodes)) (sym (single_fault fault))
+    ap (λ a. unless a (bad_at line) (Ok (made_output m AllNodes))) (sym (single_fault fault))
 output_made line m (Names names) = names_made _ line m 3 names
 
-pub outputs_made : (m : Made) (es : List OutputEntry) → take_outputs m es ≡ unless_bad (first_refusal (judged_outputs m es)) (made_outputs m es)
+pub outputs_made : (m : Made) (es : List OutputEntry) → take_outputs m es ≡ unless (first_refusal (judged_outputs m es)) (λ bad. bad) (Ok (made_outputs m es))
 outputs_made m [] = refl
 outputs_made m (e ∷ es) =
     let next = made_output m e.card in
     more_cards (λ (made : Made). take_outputs made es) (record { line = e.line; faults = output_faults m e.card } ∷ []) (judged_outputs next es) (take_output e.line m e.card) next (made_outputs next es)
     (output_made e.line m e.card ∙ one_card e.line (output_faults m e.card) next) (outputs_made next es)
 
-pub tacs_outputs_made : (m : Made) (es : List TacsOutputEntry) → take_tacs_outputs m es ≡ unless_bad (first_refusal (judged_tacs_outputs m es)) (made_tacs_outputs m es)
+pub tacs_outputs_made : (m : Made) (es : List TacsOutputEntry) → take_tacs_outputs m es ≡ unless (first_refusal (judged_tacs_outputs m es)) (λ bad. bad) (Ok (made_tacs_outputs m es))
 tacs_outputs_made m [] = refl
 tacs_outputs_made m (e ∷ es) =
     let next = made_names channel_of_variable asking_variable m e.names in

@@ -2,7 +2,7 @@
 use Rattle.std.proofs.Common.{◌≡◌, ◌∙◌, ap, sym, subst, refl, ℕ, suc, ◌+◌, ℤ, List, [], ◌∷◌, ◌++◌, length, map, fold, Option, Some, None, Ok, inl, inr}
 use Rattle.std.specs.Prelude.{cond, nat_lt, not, unwrap_or}
 use Rattle.std.specs.List.{position_or_len}
-use Rattle.emtp_card.specs.Fault.{unless_bad}
+use Rattle.emtp_fix.specs.Chain.{unless}
 use Rattle.emtp_card.specs.declared.reason.Bad.{Bad}
 use Rattle.emtp_case.specs.Switch.{card_times, with_times}
 use Rattle.emtp_case.specs.declared.case.Parts.{Parts}
@@ -278,7 +278,7 @@ case_given nodes variables d cards p q h e f =
     given ∙ ap (λ ss. record (case_of d m) { switches = ss }) (sym (times_given m.parts.switches made.0 made.1))
     ∙ ap (λ (c : Parts). case_with_times c (card_times made.0)) (sym e) ∙ ap (case_with_times p) (sym times)
 
-not_bad : {A : Type 0} (found : Option Bad) (x y : A) → unless_bad found x ≡ Ok y → y ≡ x
+not_bad : {A : Type 0} (found : Option Bad) (x y : A) → unless found (λ bad. bad) (Ok x) ≡ Ok y → y ≡ x
 not_bad (Some bad) x y e = absurd (cc)
 not_bad None x y e = sym (ok_same x y e)
 

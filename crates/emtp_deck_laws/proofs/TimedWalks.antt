@@ -1,7 +1,7 @@
 -- Walks over lines of which the cards of time switches have other times.
 use Rattle.std.proofs.Common.{◌≡◌, ◌∙◌, ap, sym, subst, refl, ℕ, ◌+◌, Bool, true, false, List, [], ◌∷◌, ◌++◌, length, Option, Some, None, Result, Ok, Err, inl, inr, arith}
 use Rattle.std.specs.Prelude.{if◌then◌else◌}
-use Rattle.emtp_card.specs.Fault.{unless_bad}
+use Rattle.emtp_fix.specs.Chain.{unless}
 use Rattle.emtp_card.specs.Lines.{is_comment, is_section_end}
 use Rattle.emtp_card.specs.declared.reason.Bad.{Bad}
 use Rattle.emtp_netcards.specs.OutputCard.{output_card}
@@ -88,8 +88,8 @@ timed_deck : (d : Deck) (cards : List SwitchCard) → AllTimed d.switches cards 
 timed_deck d cards h = record { is = refl; cards = h }
 
 behind_all : (d : Deck) (cards : List SwitchCard) (number : ℕ) (line : List ℕ) (seen comment end : Bool) (bad : Option Bad) (one other : Deck × Place) → AllTimed d.switches cards
-    → (if comment then Ok (d, After seen) else place_of d (if end then Ok (After seen) else unless_bad bad (After true))) ≡ Ok one
-    → (if comment then Ok (with_cards d cards, After seen) else place_of (with_cards d cards) (if end then Ok (After seen) else unless_bad bad (After true))) ≡ Ok other → IsLateRead one other
+    → (if comment then Ok (d, After seen) else place_of d (if end then Ok (After seen) else unless bad (λ bad. bad) (Ok (After true)))) ≡ Ok one
+    → (if comment then Ok (with_cards d cards, After seen) else place_of (with_cards d cards) (if end then Ok (After seen) else unless bad (λ bad. bad) (Ok (After true)))) ≡ Ok other → IsLateRead one other
 behind_all d cards number line seen true end bad one other h f g = answered (d, After seen) (with_cards d cards, After seen) one other (at_place d (with_cards d cards) (After seen) tt (timed_deck d cards h)) f g
 behind_all d cards number line seen false true bad one other h f g = answered (d, After seen) (with_cards d cards, After seen) one other (at_place d (with_cards d cards) (After seen) tt (timed_deck d cards h)) f g
 behind_all d cards number line seen false false None one other h f g = answered (d, After true) (with_cards d cards, After true) one other (at_place d (with_cards d cards) (After true) tt (timed_deck d cards h)) f g

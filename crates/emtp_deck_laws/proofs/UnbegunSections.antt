@@ -2,7 +2,8 @@
 use Rattle.std.proofs.Common.{◌≡◌, subst, refl, ℕ, ◌+◌, ℤ, Bool, true, false, List, [], ◌∷◌, ◌++◌, length, Option, Some, None, Result, Ok, Err}
 use Rattle.std.specs.List.{starts_with}
 use Rattle.std.specs.Prelude.{IfOk, if◌then◌else◌, nat_eq, codes, replicate, pos, ◌==◌}
-use Rattle.emtp_card.specs.Fault.{judge, unless_bad}
+use Rattle.emtp_fix.specs.Chain.{unless}
+use Rattle.emtp_card.specs.Fault.{judge}
 use Rattle.emtp_card.specs.Lines.{is_comment, is_section_end}
 use Rattle.emtp_card.specs.declared.reason.Bad.{Bad}
 use Rattle.emtp_card.specs.declared.reason.Why.{Why}
@@ -98,7 +99,7 @@ placed deck (Err bad) h = tt
 begin_leads : (deck : Deck) (number : ℕ) (line : List ℕ) → HasNoOutputs deck → IfOk (begin_place number line) (λ place. IsUnbegun deck place)
 unfolding begin_place
 begin_leads deck number line h =
-    if_ok (λ (place : Place). IsUnbegun deck place) (is_section_end line) (Ok Begin) (unless_bad (begin_fault number line) (First false)) h
+    if_ok (λ (place : Place). IsUnbegun deck place) (is_section_end line) (Ok Begin) (unless (begin_fault number line) (λ bad. bad) (Ok (First false))) h
     (unless_ok (λ (place : Place). IsUnbegun deck place) (begin_fault number line) (First false) h)
 
 first_leads : (deck : Deck) (number : ℕ) (line : List ℕ) (seen : Bool) → HasNoOutputs deck → IfOk (first_step deck number line seen) Leads
@@ -107,7 +108,7 @@ first_leads deck number line seen h =
     let kept : ℤ → Read = λ z. Ok (record deck { run = record deck.run { tolerance = z } }, First true) in
     let timed : FirstCard → Read = λ card. Ok (record deck { run = record deck.run { dt = card.dt; steps = card.steps } }, Second) in
     if_ok Leads (starts_with nat_eq line (codes "RESIDUAL TOLERANCE")) (tolerance_step deck number line seen) (times_step deck number line)
-    (if_ok Leads seen (unless_bad (order_fault number line) (deck, First true)) (go_on kept (tolerance_card number line)) (unless_ok Leads (order_fault number line) (deck, First true) h)
+    (if_ok Leads seen (unless (order_fault number line) (λ bad. bad) (Ok (deck, First true))) (go_on kept (tolerance_card number line)) (unless_ok Leads (order_fault number line) (deck, First true) h)
     (go_ok Leads kept (tolerance_card number line) (λ z is. h)))
     (go_ok Leads timed (first_card number line) (λ card is. h))
 
@@ -171,7 +172,7 @@ tacs_output_leads deck number line h =
 initial_leads : (deck : Deck) (number : ℕ) (line : List ℕ) → HasNoBranches deck → IfOk (initial_place number line) (λ place. IsUnbegun deck place)
 unfolding initial_place
 initial_leads deck number line h =
-    if_ok (λ (place : Place). IsUnbegun deck place) (is_section_end line) (Ok (Branches false)) (unless_bad (order_fault number line) (Branches false)) h.1
+    if_ok (λ (place : Place). IsUnbegun deck place) (is_section_end line) (Ok (Branches false)) (unless (order_fault number line) (λ bad. bad) (Ok (Branches false))) h.1
     (unless_ok (λ (place : Place). IsUnbegun deck place) (order_fault number line) (Branches false) h.1)
 
 control_leads : (deck : Deck) (at : ControlPlace) (number : ℕ) (line : List ℕ) → IsControlUnbegun deck at → IfOk (control_step deck number line at) Leads
@@ -208,7 +209,7 @@ card_leads : (deck : Deck) (number : ℕ) (line : List ℕ) (wide : Bool) → Ha
 unfolding card_step
 card_leads deck number line wide h =
     let f : BranchCard → Read = λ card. Ok (take_branch deck card wide) in
-    if_ok Leads (is_phase (kind_field line)) (unless_bad (order_fault number line) (deck, Branches wide)) (go_on f (branch_card number line deck.run.dt wide))
+    if_ok Leads (is_phase (kind_field line)) (unless (order_fault number line) (λ bad. bad) (Ok (deck, Branches wide))) (go_on f (branch_card number line deck.run.dt wide))
     (unless_ok Leads (order_fault number line) (deck, Branches wide) h)
     (go_ok Leads f (branch_card number line deck.run.dt wide) (λ card is. values_lead deck card wide card.values h))
 
@@ -225,7 +226,7 @@ branch_leads deck number line wide h =
 start_leads : (deck : Deck) (number : ℕ) (line : List ℕ) → HasNoOutputs deck → IfOk (start_step deck number line) Leads
 unfolding start_step
 start_leads deck number line h =
-    let control : Read = unless_bad (judge number line None) (deck, Control Blocks) in
+    let control : Read = unless (judge number line None) (λ bad. bad) (Ok (deck, Control Blocks)) in
     if_ok Leads (starts_with nat_eq line (codes "TACS HYBRID")) control (branch_step deck number line false)
     (unless_ok Leads (judge number line None) (deck, Control Blocks) h)
     (branch_leads deck number line false h.1.1)
@@ -249,7 +250,7 @@ kind_leads deck number line zero' positive wide (Ok ThirdKind) h = taken_third d
 kind_leads deck number line zero' positive wide (Ok ReactorKind) h = unless_ok Leads (order_fault number line) (deck, Branches wide) h
 kind_leads deck number line zero' positive wide (Ok ResistorKind) h = unless_ok Leads (order_fault number line) (deck, Branches wide) h
 kind_leads deck number line zero' positive wide (Err why) h =
-    if_ok Leads (is_vintage line) (unless_bad (order_fault number line) (deck, Branches wide)) (take_third deck number line zero' positive wide)
+    if_ok Leads (is_vintage line) (unless (order_fault number line) (λ bad. bad) (Ok (deck, Branches wide))) (take_third deck number line zero' positive wide)
     (unless_ok Leads (order_fault number line) (deck, Branches wide) h) (taken_third deck number line zero' positive wide h)
 
 third_leads : (deck : Deck) (number : ℕ) (line : List ℕ) (zero' positive : BranchCard) (wide : Bool) → HasNoSwitches deck → IfOk (third_step deck number line zero' positive wide) Leads
@@ -290,7 +291,7 @@ output_leads deck number line =
 after_leads : (deck : Deck) (number : ℕ) (line : List ℕ) (seen : Bool) → IfOk (after_place number line seen) (λ place. IsUnbegun deck place)
 unfolding after_place
 after_leads deck number line seen =
-    if_ok (λ (place : Place). IsUnbegun deck place) (is_section_end line) (Ok (After seen)) (unless_bad (if seen then order_fault number line else begin_fault number line) (After true)) tt
+    if_ok (λ (place : Place). IsUnbegun deck place) (is_section_end line) (Ok (After seen)) (unless (if seen then order_fault number line else begin_fault number line) (λ bad. bad) (Ok (After true))) tt
     (unless_ok (λ (place : Place). IsUnbegun deck place) (if seen then order_fault number line else begin_fault number line) (After true) tt)
 
 -- ---- all lines

@@ -1,4 +1,5 @@
 -- What is known of the cards of the control that have no fault of sense.
+use Rattle.emtp_fix.specs.Chain.{unless}
 use Rattle.emtp_case.specs.declared.limit.TheConstants.{MOST_CONTROL_CARDS, MOST_HISTORY_VALUES}
 use Rattle.std.proofs.Common.{Bool, List, None, Option, Result, Some, [], arith, false, length, refl, subst, true, ℕ, ℤ, ◌+◌, ◌<◌, ◌∷◌, ◌≡◌, ◌≤◌, Ok, pos, unsigned_abs, ◌*ℤ◌, ◌*◌, ◌^◌, add-one, ap, drop, get_or, suc, sym, ◌∙◌}
 use Rattle.std.proofs.Math.Seq.{drop-cons}
@@ -20,7 +21,7 @@ use Rattle.emtp_sense.proofs.WithinLimits.{below, within}
 use Rattle.emtp_sense.proofs.Numbering.{AreAbove}
 use Rattle.emtp_walk.proofs.NoBad.{no_bad, nothing_before}
 use Rattle.emtp_walk.specs.Answer.{first_bad}
-use Rattle.emtp_sense.specs.ControlSense.{block_bad, block_sense, blocks_bad, card_history_values, device_bad, device_sense, entry_history_values, extra_bad, formula_sense, inputs_sense, is_measurable, is_unknown, judge_extras, measured_sense, names_sense, second_sense, tacs_source_bad, tacs_source_sense, tacs_sources_bad, unless_judged}
+use Rattle.emtp_sense.specs.ControlSense.{block_bad, block_sense, blocks_bad, card_history_values, device_bad, device_sense, entry_history_values, extra_bad, formula_sense, inputs_sense, is_measurable, is_unknown, judge_extras, measured_sense, names_sense, second_sense, tacs_source_bad, tacs_source_sense, tacs_sources_bad}
 use Rattle.emtp_sense.specs.held.ControlSensible.{AreKnownInputs, IsKnown}
 use Rattle.emtp_sense.specs.Limits.{too_many}
 use Rattle.emtp_sense.specs.Variables.{extra_name, unknown_name, variable_number}
@@ -192,7 +193,7 @@ extra_fine variables dt at next history (FormulaEntry card) e =
       names = known_names variables card.parsed.names (not_second (list_any (is_unknown variables) card.parsed.names) (record { column = 12; why = UnknownName }) none.1.1.0);
     }
 
-judged : (bad : Option Bad) (rest : Result ℕ Bad) (h : ℕ) → unless_judged bad rest ≡ Ok h → (bad ≡ None) × (rest ≡ Ok h)
+judged : (bad : Option Bad) (rest : Result ℕ Bad) (h : ℕ) → unless bad (λ bad. bad) rest ≡ Ok h → (bad ≡ None) × (rest ≡ Ok h)
 judged (Some bad) rest h e = absurd (cc)
 judged None rest h e = (refl, e)
 
@@ -256,12 +257,12 @@ sources_next nodes switches variables first at cards j x is l none =
     ap (tacs_sources_bad nodes switches variables first at) (here cards j x is l) ∙ ap (λ b. first_bad b (tacs_sources_bad nodes switches variables first (at + 1) (drop (j + 1) cards))) none
 
 pub extras_here : (variables : List (List ℕ)) (dt : ℤ) (first at history sum : ℕ) (es : List ExtraEntry) (j : ℕ) (x : ExtraEntry) → x ≡ get_or es j x → j < length es → sum ≡ history + entry_history_values dt x
-    → judge_extras variables dt first at history (drop j es) ≡ unless_judged (extra_bad variables at (first + at) sum x) (judge_extras variables dt first (at + 1) sum (drop (j + 1) es))
+    → judge_extras variables dt first at history (drop j es) ≡ unless (extra_bad variables at (first + at) sum x) (λ bad. bad) (judge_extras variables dt first (at + 1) sum (drop (j + 1) es))
 extras_here variables dt first at history sum es j x is l same =
     ap (judge_extras variables dt first at history) (here es j x is l)
-    ∙ ap (λ n. unless_judged (extra_bad variables at (first + at) n x) (judge_extras variables dt first (at + 1) n (drop (j + 1) es))) (sym same)
+    ∙ ap (λ n. unless (extra_bad variables at (first + at) n x) (λ bad. bad) (judge_extras variables dt first (at + 1) n (drop (j + 1) es))) (sym same)
 
 pub extras_next : (variables : List (List ℕ)) (dt : ℤ) (first at history sum : ℕ) (es : List ExtraEntry) (j : ℕ) (x : ExtraEntry) → x ≡ get_or es j x → j < length es → sum ≡ history + entry_history_values dt x → extra_bad variables at (first + at) sum x ≡ None
     → judge_extras variables dt first at history (drop j es) ≡ judge_extras variables dt first (at + 1) sum (drop (j + 1) es)
 extras_next variables dt first at history sum es j x is l same none =
-    extras_here variables dt first at history sum es j x is l same ∙ ap (λ b. unless_judged b (judge_extras variables dt first (at + 1) sum (drop (j + 1) es))) none
+    extras_here variables dt first at history sum es j x is l same ∙ ap (λ b. unless b (λ bad. bad) (judge_extras variables dt first (at + 1) sum (drop (j + 1) es))) none

@@ -1,5 +1,6 @@
 -- The faults of sense of the cards of the control, given the names of all nodes and variables. Of a card the least fault
 -- counts, and the first card that has one decides.
+use Rattle.emtp_fix.specs.Chain.{unless}
 use Rattle.emtp_case.specs.declared.limit.TheConstants.{MOST_CONTROL_CARDS, MOST_HISTORY_VALUES}
 use Rattle.std.specs.List.{list_any}
 use Rattle.std.specs.Prelude.{Bool, Err, List, None, Ok, Option, Result, Some, [], false, if◌then◌else◌, is_some, length, nat_le, nat_lt, not, option_map, position, true, ℕ, ℤ, ◌+◌, ◌||◌, ◌∷◌}
@@ -154,17 +155,12 @@ abbrev pub entry_history_values : ℤ → ExtraEntry → ℕ
 entry_history_values dt (DeviceEntry card first count) = card_history_values dt card
 entry_history_values dt (FormulaEntry card) = 0
 
--- what comes of the cards after one, unless it is refused
-abbrev pub unless_judged : {A : Type 0} → Option Bad → Result A Bad → Result A Bad
-unless_judged (Some bad) card = Err bad
-unless_judged None card = card
-
 -- the cards after so many, which need so many history values, the first of all having this number; it gives those of all
 abbrev pub judge_extras : List (List ℕ) → ℤ → ℕ → ℕ → ℕ → List ExtraEntry → Result ℕ Bad
 judge_extras variables dt first at history [] = Ok history
 judge_extras variables dt first at history (e ∷ es) =
     let sum = history + entry_history_values dt e in
-    unless_judged (extra_bad variables at (first + at) sum e) (judge_extras variables dt first (at + 1) sum es)
+    unless (extra_bad variables at (first + at) sum e) (λ bad. bad) (judge_extras variables dt first (at + 1) sum es)
 
 -- ---- all cards
 

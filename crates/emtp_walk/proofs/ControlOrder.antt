@@ -2,7 +2,7 @@
 use Rattle.std.proofs.Common.{◌∙◌, sym, ap, subst, refl, ℕ, ◌+◌, ℤ, Bool, true, false, List, [], ◌∷◌, ◌++◌, length, Option, Some, None, Ok, arith, append_assoc}
 use Rattle.std.specs.Prelude.{IfOk, if◌then◌else◌, map, pos, replicate, ◌==◌}
 use Rattle.std.proofs.lemmas.List.{append-nil, map-append}
-use Rattle.emtp_card.specs.Fault.{unless_bad}
+use Rattle.emtp_fix.specs.Chain.{unless}
 use Rattle.emtp_card.specs.Lines.{is_section_end}
 use Rattle.emtp_case.specs.declared.branch.Point.{Point}
 use Rattle.emtp_walk.specs.Answer.{go_on}
@@ -192,7 +192,7 @@ initial_order : (deck : Deck) (number : ℕ) (line : List ℕ) → IsAmongTacsOu
 unfolding initial_place
 initial_order deck number line h =
     let next = branches_next deck (number + 1) (tacs_outputs_later deck number h) in
-    if_ok (λ (place : Place). InOrder (number + 1) deck place) (is_section_end line) (Ok (Branches false)) (unless_bad (order_fault number line) (Branches false)) next
+    if_ok (λ (place : Place). InOrder (number + 1) deck place) (is_section_end line) (Ok (Branches false)) (unless (order_fault number line) (λ bad. bad) (Ok (Branches false))) next
     (unless_ok (λ (place : Place). InOrder (number + 1) deck place) (order_fault number line) (Branches false) next)
 
 pub control_order : (deck : Deck) (at : ControlPlace) (number : ℕ) (line : List ℕ) → IsAmongControl number deck at → IfOk (control_step deck number line at) (Orders (number + 1))

@@ -3,7 +3,8 @@ use Rattle.std.proofs.Common.{◌≡◌, ◌∙◌, sym, ap, subst, refl, ℕ, s
 use Rattle.std.specs.List.{starts_with}
 use Rattle.std.specs.Prelude.{IfOk, if◌then◌else◌, nat_eq, codes}
 use Rattle.std.proofs.lemmas.List.{append-nil, map-append}
-use Rattle.emtp_card.specs.Fault.{judge, unless_bad}
+use Rattle.emtp_fix.specs.Chain.{unless}
+use Rattle.emtp_card.specs.Fault.{judge}
 use Rattle.emtp_card.specs.Lines.{is_comment, is_section_end}
 use Rattle.emtp_card.specs.declared.reason.Bad.{Bad}
 use Rattle.emtp_card.specs.declared.reason.Why.{Why}
@@ -55,13 +56,13 @@ begin_order : (deck : Deck) (number : ℕ) (line : List ℕ) → IsHead deck num
 unfolding begin_place
 begin_order deck number line h =
     let next = head_later deck number h in
-    if_ok (λ (place : Place). InOrder (number + 1) deck place) (is_section_end line) (Ok Begin) (unless_bad (begin_fault number line) (First false)) next
+    if_ok (λ (place : Place). InOrder (number + 1) deck place) (is_section_end line) (Ok Begin) (unless (begin_fault number line) (λ bad. bad) (Ok (First false))) next
     (unless_ok (λ (place : Place). InOrder (number + 1) deck place) (begin_fault number line) (First false) next)
 
 after_order : (deck : Deck) (number : ℕ) (line : List ℕ) (seen : Bool) → IsAmongOutputs deck (number + 1) → IfOk (after_place number line seen) (λ place. InOrder (number + 1) deck place)
 unfolding after_place
 after_order deck number line seen h =
-    if_ok (λ (place : Place). InOrder (number + 1) deck place) (is_section_end line) (Ok (After seen)) (unless_bad (if seen then order_fault number line else begin_fault number line) (After true)) h
+    if_ok (λ (place : Place). InOrder (number + 1) deck place) (is_section_end line) (Ok (After seen)) (unless (if seen then order_fault number line else begin_fault number line) (λ bad. bad) (Ok (After true))) h
     (unless_ok (λ (place : Place). InOrder (number + 1) deck place) (if seen then order_fault number line else begin_fault number line) (After true) h)
 
 tolerance_order : (deck : Deck) (number : ℕ) (line : List ℕ) (seen : Bool) → IsHead deck number → IfOk (tolerance_step deck number line seen) (Orders (number + 1))
@@ -69,7 +70,7 @@ unfolding tolerance_step
 tolerance_order deck number line seen h =
     let next = head_later deck number h in
     let f : ℤ → Read = λ z. Ok (record deck { run = record deck.run { tolerance = z } }, First true) in
-    if_ok (Orders (number + 1)) seen (unless_bad (order_fault number line) (deck, First true)) (go_on f (tolerance_card number line)) (unless_ok (Orders (number + 1)) (order_fault number line) (deck, First true) next)
+    if_ok (Orders (number + 1)) seen (unless (order_fault number line) (λ bad. bad) (Ok (deck, First true))) (go_on f (tolerance_card number line)) (unless_ok (Orders (number + 1)) (order_fault number line) (deck, First true) next)
     (go_ok (Orders (number + 1)) f (tolerance_card number line) (λ z is. record {
       early = record { switches = h.early.switches; sources = h.early.sources; outputs = h.early.outputs };
       control = h.control;
@@ -145,7 +146,7 @@ card_order : (deck : Deck) (number : ℕ) (line : List ℕ) (wide : Bool) → Is
 unfolding card_step
 card_order deck number line wide h =
     let f : BranchCard → Read = λ card. Ok (take_branch deck card wide) in
-    if_ok (Orders (number + 1)) (is_phase (branches.kind_field line)) (unless_bad (order_fault number line) (deck, Branches wide)) (go_on f (branches.branch_card number line deck.run.dt wide))
+    if_ok (Orders (number + 1)) (is_phase (branches.kind_field line)) (unless (order_fault number line) (λ bad. bad) (Ok (deck, Branches wide))) (go_on f (branches.branch_card number line deck.run.dt wide))
     (unless_ok (Orders (number + 1)) (order_fault number line) (deck, Branches wide) (branches_later deck [] number h))
     (go_ok (Orders (number + 1)) f (branches.branch_card number line deck.run.dt wide)
     (λ card is. values_order deck card wide (number + 1) card.values (pend deck [] card.line number (branch_line number line deck.run.dt wide card is) h)))
@@ -180,7 +181,7 @@ control_begins deck number h = record {
 start_order : (deck : Deck) (number : ℕ) (line : List ℕ) → IsHead deck number → IfOk (start_step deck number line) (Orders (number + 1))
 unfolding start_step
 start_order deck number line h =
-    let control : Read = unless_bad (judge number line None) (deck, Control Blocks) in
+    let control : Read = unless (judge number line None) (λ bad. bad) (Ok (deck, Control Blocks)) in
     let branch : Read = branch_step deck number line false in
     let starts = starts_with nat_eq line (codes "TACS HYBRID") in
     if_ok (Orders (number + 1)) starts control branch
@@ -209,7 +210,7 @@ kind_order deck number line zero' positive wide (Ok ThirdKind) h = taken_third d
 kind_order deck number line zero' positive wide (Ok ReactorKind) h = unless_ok (Orders (number + 1)) (order_fault number line) (deck, Branches wide) (dropped deck (zero'.line ∷ positive.line ∷ []) number h)
 kind_order deck number line zero' positive wide (Ok ResistorKind) h = unless_ok (Orders (number + 1)) (order_fault number line) (deck, Branches wide) (dropped deck (zero'.line ∷ positive.line ∷ []) number h)
 kind_order deck number line zero' positive wide (Err why) h =
-    let misplaced : Read = unless_bad (order_fault number line) (deck, Branches wide) in
+    let misplaced : Read = unless (order_fault number line) (λ bad. bad) (Ok (deck, Branches wide)) in
     if_ok (Orders (number + 1)) (is_vintage line) misplaced (take_third deck number line zero' positive wide)
     (unless_ok (Orders (number + 1)) (order_fault number line) (deck, Branches wide) (dropped deck (zero'.line ∷ positive.line ∷ []) number h)) (taken_third deck number line zero' positive wide h)
 

@@ -3,7 +3,8 @@ use Rattle.std.proofs.Common.{◌≡◌, ◌∙◌, sym, ap, refl, subst, ℕ, s
 use Rattle.std.specs.List.{starts_with}
 use Rattle.std.specs.Prelude.{IfOk, if◌then◌else◌, nat_eq, codes, ◌==◌}
 use Rattle.std.proofs.lemmas.List.{append-nil, map-append}
-use Rattle.emtp_card.specs.Fault.{judge, judge_by, unless_bad}
+use Rattle.emtp_fix.specs.Chain.{unless}
+use Rattle.emtp_card.specs.Fault.{judge, judge_by}
 use Rattle.emtp_card.specs.Lines.{fault_of_line, is_comment, is_section_end}
 use Rattle.emtp_card.specs.declared.fault.Fault.{Fault}
 use Rattle.emtp_card.specs.declared.reason.Bad.{Bad}
@@ -80,7 +81,7 @@ by_test lines number false x y k l h i = i
 
 -- a line that ends a section, or a card that adds nothing, where the next place is known
 placed : (deck : Deck) (lines : CardLines) (number : ℕ) (kind : Kind) (b : Bool) (here next : Place) (bad : Option Bad) → lines_by_list deck here ≡ lines → lines_by_list deck next ≡ with_line number kind lines
-    → IfOk (place_of deck (if b then Ok here else unless_bad bad next)) (Adds lines number (if b then read.SectionEnd else kind))
+    → IfOk (place_of deck (if b then Ok here else unless bad (λ bad. bad) (Ok next))) (Adds lines number (if b then read.SectionEnd else kind))
 placed deck lines number kind true here next bad h i = h
 placed deck lines number kind false here next (Some bad) h i = tt
 placed deck lines number kind false here next None h i = i
@@ -91,11 +92,11 @@ through lines others number kind (Ok next) e h = h ∙ ap (with_line number kind
 through lines others number kind (Err bad) e h = tt
 
 -- a card that can't stand where it does is refused
-never : (P : Deck × Place → Type 0) (number : ℕ) (fault : Option (ℕ × Why)) (f : Fault) (x : Deck × Place) → IfOk (unless_bad (judge_by number fault (Some f)) x) P
+never : (P : Deck × Place → Type 0) (number : ℕ) (fault : Option (ℕ × Why)) (f : Fault) (x : Deck × Place) → IfOk (unless (judge_by number fault (Some f)) (λ bad. bad) (Ok x)) P
 never P number (Some bad) f x = tt
 never P number None f x = tt
 
-misplaced : (P : Deck × Place → Type 0) (number : ℕ) (line : List ℕ) (x : Deck × Place) → IfOk (unless_bad (order_fault number line) x) P
+misplaced : (P : Deck × Place → Type 0) (number : ℕ) (line : List ℕ) (x : Deck × Place) → IfOk (unless (order_fault number line) (λ bad. bad) (Ok x)) P
 misplaced P number line x = never P number (fault_of_line line) (record { column = 1; why = BadOrder }) x
 
 -- ---- one number more
@@ -130,7 +131,7 @@ unfolding tolerance_step
 tolerance_adds deck number line seen =
     let P = Adds (at_rest deck) number read.Tolerance in
     let f : ℤ → Read = λ z. Ok (record deck { run = record deck.run { tolerance = z } }, First true) in
-    if_ok P seen (unless_bad (order_fault number line) (deck, First true)) (go_on f (tolerance_card number line)) (unless_ok P (order_fault number line) (deck, First true) refl) (go_ok P f (tolerance_card number line) (λ z is. refl))
+    if_ok P seen (unless (order_fault number line) (λ bad. bad) (Ok (deck, First true))) (go_on f (tolerance_card number line)) (unless_ok P (order_fault number line) (deck, First true) refl) (go_ok P f (tolerance_card number line) (λ z is. refl))
 
 times_adds : (deck : Deck) (number : ℕ) (line : List ℕ) → IfOk (times_step deck number line) (Adds (at_rest deck) number read.FirstRun)
 unfolding times_step
@@ -290,7 +291,7 @@ unfolding card_step
 card_adds deck number line wide =
     let P = Adds (at_rest deck) number (read.Branch wide) in
     let f : BranchCard → Read = λ card. Ok (take_branch deck card wide) in
-    if_ok P (is_phase (branches.kind_field line)) (unless_bad (order_fault number line) (deck, Branches wide)) (go_on f (branches.branch_card number line deck.run.dt wide))
+    if_ok P (is_phase (branches.kind_field line)) (unless (order_fault number line) (λ bad. bad) (Ok (deck, Branches wide))) (go_on f (branches.branch_card number line deck.run.dt wide))
     (misplaced P number line (deck, Branches wide))
     (go_ok P f (branches.branch_card number line deck.run.dt wide)
     (λ card is. values_are deck card wide card.values ∙ with_branches (at_rest deck) _ _ (waits (branch_lines deck.branches) card.line number (branch_line number line deck.run.dt wide card is))))
@@ -309,7 +310,7 @@ branch_adds deck number line wide =
 start_adds : (deck : Deck) (number : ℕ) (line : List ℕ) → IfOk (start_step deck number line) (Adds (at_rest deck) number (start_kind line))
 unfolding start_step
 start_adds deck number line =
-    by_test (at_rest deck) number (starts_with nat_eq line (codes "TACS HYBRID")) (unless_bad (judge number line None) (deck, Control Blocks)) (branch_step deck number line false) read.Hybrid (branch_kind line false)
+    by_test (at_rest deck) number (starts_with nat_eq line (codes "TACS HYBRID")) (unless (judge number line None) (λ bad. bad) (Ok (deck, Control Blocks))) (branch_step deck number line false) read.Hybrid (branch_kind line false)
     (unless_ok (Adds (at_rest deck) number read.Hybrid) (judge number line None) (deck, Control Blocks) refl)
     (branch_adds deck number line false)
 
@@ -339,7 +340,7 @@ third_kind_adds deck number line zero' positive wide kind = by_kind kind
     P : Deck × Place → Type 0
     P next = Adds (with_more deck (zero'.line ∷ positive.line ∷ [])) number (read.Branch wide) next
 
-    other : IfOk (unless_bad (order_fault number line) (deck, Branches wide)) P
+    other : IfOk (unless (order_fault number line) (λ bad. bad) (Ok (deck, Branches wide))) P
     other = misplaced P number line (deck, Branches wide)
 
     by_kind : (kind : Result BranchKind Why) → IfOk (third_by deck number line zero' positive wide kind) P
@@ -349,7 +350,7 @@ third_kind_adds deck number line zero' positive wide kind = by_kind kind
     by_kind (Ok ThirdKind) = taken_third deck number line zero' positive wide
     by_kind (Ok ReactorKind) = other
     by_kind (Ok ResistorKind) = other
-    by_kind (Err why) = if_ok P (is_vintage line) (unless_bad (order_fault number line) (deck, Branches wide)) (take_third deck number line zero' positive wide) other (taken_third deck number line zero' positive wide)
+    by_kind (Err why) = if_ok P (is_vintage line) (unless (order_fault number line) (λ bad. bad) (Ok (deck, Branches wide))) (take_third deck number line zero' positive wide) other (taken_third deck number line zero' positive wide)
 
 third_adds : (deck : Deck) (number : ℕ) (line : List ℕ) (zero' positive : BranchCard) (wide : Bool) → IfOk (third_step deck number line zero' positive wide) (Adds (with_more deck (zero'.line ∷ positive.line ∷ [])) number (read.Branch wide))
 unfolding third_step

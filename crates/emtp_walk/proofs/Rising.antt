@@ -1,7 +1,7 @@
 -- The lines of the cards so far rise: what holds of the deck at each place of the walk.
 use Rattle.std.proofs.Common.{◌≡◌, sym, subst, refl, ℕ, ◌+◌, ◌≤◌, Bool, true, false, List, [], ◌∷◌, ◌++◌, Option, Some, None, Result, Ok, Err, arith, append_assoc}
 use Rattle.std.specs.Prelude.{IfOk, if◌then◌else◌, map}
-use Rattle.emtp_card.specs.Fault.{unless_bad}
+use Rattle.emtp_fix.specs.Chain.{unless}
 use Rattle.emtp_card.specs.declared.reason.Bad.{Bad}
 use Rattle.emtp_walk.specs.Answer.{go_on}
 use Rattle.emtp_walk.specs.ControlSteps.{no_control}
@@ -50,7 +50,7 @@ pub go_ok : {A : Type 0} (P : Deck × Place → Type 0) (f : A → Read) (r : Re
 go_ok P f (Ok x) h = h x refl
 go_ok P f (Err bad) h = tt
 
-pub unless_ok : {A : Type 0} (P : A → Type 0) (bad : Option Bad) (x : A) → P x → IfOk (unless_bad bad x) P
+pub unless_ok : {A : Type 0} (P : A → Type 0) (bad : Option Bad) (x : A) → P x → IfOk (unless bad (λ bad. bad) (Ok x)) P
 unless_ok P (Some bad) x h = tt
 unless_ok P None x h = h
 

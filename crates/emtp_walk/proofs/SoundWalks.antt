@@ -5,7 +5,8 @@ use Rattle.std.specs.Ordering.{int_eq}
 use Rattle.std.proofs.lemmas.Bool.Decides.{nat_tests}
 use Rattle.std.proofs.lemmas.Int.{ints}
 use Rattle.std.proofs.lemmas.List.Elements.{All-nil}
-use Rattle.emtp_card.specs.Fault.{judge, unless_bad}
+use Rattle.emtp_fix.specs.Chain.{unless}
+use Rattle.emtp_card.specs.Fault.{judge}
 use Rattle.emtp_card.specs.Lines.{is_comment, is_section_end}
 use Rattle.emtp_card.specs.declared.reason.Bad.{Bad}
 use Rattle.emtp_card.specs.declared.reason.Why.{Why}
@@ -115,12 +116,12 @@ placed deck (Err bad) h = tt
 begins : (deck : Deck) (number : ℕ) (line : List ℕ) → IsHead deck → HasFiveEach deck → IfOk (place_of deck (begin_place number line)) Keeps
 unfolding begin_place
 begins deck number line head five =
-    placed deck _ (if_ok (λ place. Keeps (deck, place)) (is_section_end line) (Ok Begin) (unless_bad (begin_fault number line) (First false)) (head, (five, tt)) (unless_ok (λ place. Keeps (deck, place)) (begin_fault number line) (First false) (head, (five, tt))))
+    placed deck _ (if_ok (λ place. Keeps (deck, place)) (is_section_end line) (Ok Begin) (unless (begin_fault number line) (λ bad. bad) (Ok (First false))) (head, (five, tt)) (unless_ok (λ place. Keeps (deck, place)) (begin_fault number line) (First false) (head, (five, tt))))
 
 ends : (deck : Deck) (number : ℕ) (line : List ℕ) (seen : Bool) → IsWhole deck → HasFiveEach deck → IfOk (place_of deck (after_place number line seen)) Keeps
 unfolding after_place
 ends deck number line seen whole five =
-    placed deck _ (if_ok (λ place. Keeps (deck, place)) (is_section_end line) (Ok (After seen)) (unless_bad (if seen then order_fault number line else begin_fault number line) (After true)) (whole, (five, tt))
+    placed deck _ (if_ok (λ place. Keeps (deck, place)) (is_section_end line) (Ok (After seen)) (unless (if seen then order_fault number line else begin_fault number line) (λ bad. bad) (Ok (After true))) (whole, (five, tt))
     (unless_ok (λ place. Keeps (deck, place)) (if seen then order_fault number line else begin_fault number line) (After true) (whole, (five, tt))))
 
 with_run : (deck : Deck) (run : RunData) → IsRun run → IsHead deck → IsHead (record deck { run = run })
@@ -132,7 +133,7 @@ same_five deck run five = record { blocks = five.blocks; extras = five.extras }
 firsts : (deck : Deck) (number : ℕ) (line : List ℕ) (seen : Bool) → IsHead deck → HasFiveEach deck → IfOk (first_step deck number line seen) Keeps
 unfolding first_step tolerance_step times_step
 firsts deck number line seen head five = if_ok Keeps (starts_with nat_eq line (codes "RESIDUAL TOLERANCE")) (tolerance_step deck number line seen) (times_step deck number line)
-    (if_ok Keeps seen (unless_bad (order_fault number line) (deck, First true)) (go_on (λ (z : ℤ). Ok (record deck { run = record deck.run { tolerance = z } }, First true)) (tolerance_card number line))
+    (if_ok Keeps seen (unless (order_fault number line) (λ bad. bad) (Ok (deck, First true))) (go_on (λ (z : ℤ). Ok (record deck { run = record deck.run { tolerance = z } }, First true)) (tolerance_card number line))
     (unless_ok Keeps (order_fault number line) (deck, First true) (head, (five, tt)))
     (go_ok Keeps _ (tolerance_card number line) (λ z e.
     let w = tolerance_keeps number line z e in
@@ -201,7 +202,7 @@ taken deck card wide (CopiedCard kind a b) is whole five numbers phase = copied 
 
 cards : (deck : Deck) (number : ℕ) (line : List ℕ) (wide : Bool) → IsWhole deck → HasFiveEach deck → IfOk (card_step deck number line wide) Keeps
 unfolding card_step
-cards deck number line wide whole five = if_test Keeps (is_phase (kind_field line)) (unless_bad (order_fault number line) (deck, Branches wide)) (go_on (λ (card : BranchCard). Ok (take_branch deck card wide)) (branch_card number line deck.run.dt wide))
+cards deck number line wide whole five = if_test Keeps (is_phase (kind_field line)) (unless (order_fault number line) (λ bad. bad) (Ok (deck, Branches wide))) (go_on (λ (card : BranchCard). Ok (take_branch deck card wide)) (branch_card number line deck.run.dt wide))
     (λ t. unless_ok Keeps (order_fault number line) (deck, Branches wide) (whole, (five, tt)))
     (λ t. go_ok Keeps _ (branch_card number line deck.run.dt wide) (λ card e.
     let kind = branch_kind_is number line deck.run.dt wide card e in
@@ -218,7 +219,7 @@ branches deck number line wide whole five = if_ok Keeps (is_section_end line) (O
 
 starts : (deck : Deck) (number : ℕ) (line : List ℕ) → IsWhole deck → HasFiveEach deck → IfOk (start_step deck number line) Keeps
 unfolding start_step
-starts deck number line whole five = if_ok Keeps (starts_with nat_eq line (codes "TACS HYBRID")) (unless_bad (judge number line None) (deck, Control Blocks)) (branch_step deck number line false)
+starts deck number line whole five = if_ok Keeps (starts_with nat_eq line (codes "TACS HYBRID")) (unless (judge number line None) (λ bad. bad) (Ok (deck, Control Blocks))) (branch_step deck number line false)
     (unless_ok Keeps (judge number line None) (deck, Control Blocks) (whole, (five, tt))) (branches deck number line false whole five)
 
 second_is : (k : BranchKind) → is_second (Ok k) ≡ true → k ≡ SecondKind
@@ -262,7 +263,7 @@ thirds_by deck number line zero' positive wide (Ok LineKind) whole trio five = u
 thirds_by deck number line zero' positive wide (Ok ReactorKind) whole trio five = unless_ok Keeps (order_fault number line) (deck, Branches wide) (whole, (five, tt))
 thirds_by deck number line zero' positive wide (Ok ResistorKind) whole trio five = unless_ok Keeps (order_fault number line) (deck, Branches wide) (whole, (five, tt))
 thirds_by deck number line zero' positive wide (Err why) whole trio five =
-    if_ok Keeps (is_vintage line) (unless_bad (order_fault number line) (deck, Branches wide)) (take_third deck number line zero' positive wide)
+    if_ok Keeps (is_vintage line) (unless (order_fault number line) (λ bad. bad) (Ok (deck, Branches wide))) (take_third deck number line zero' positive wide)
     (unless_ok Keeps (order_fault number line) (deck, Branches wide) (whole, (five, tt))) (third_taken deck number line zero' positive wide whole trio five)
 
 thirds : (deck : Deck) (number : ℕ) (line : List ℕ) (zero' positive : BranchCard) (wide : Bool) → IsWhole deck → IsTrioEntry deck.run zero' positive → HasFiveEach deck → IfOk (third_step deck number line zero' positive wide) Keeps
@@ -350,7 +351,7 @@ unfolding numerator_step
 numerators deck number line card whole due five inputs = go_ok Keeps _ (polynomial_card number line card.order deck.run.dt) (λ top e.
     ((whole, record { due = due; polynomial = polynomial_keeps number line card.order deck.run.dt top e }), (five, inputs)))
 
-unless_none : {A : Type 0} (P : A → Type 0) (bad : Option Bad) (x : A) → (bad ≡ None → P x) → IfOk (unless_bad bad x) P
+unless_none : {A : Type 0} (P : A → Type 0) (bad : Option Bad) (x : A) → (bad ≡ None → P x) → IfOk (unless bad (λ bad. bad) (Ok x)) P
 unless_none P (Some bad) x h = tt
 unless_none P None x h = h refl
 
@@ -438,7 +439,7 @@ tacs_outputs deck number line whole five =
 
 initials : (deck : Deck) (number : ℕ) (line : List ℕ) → IsWhole deck → HasFiveEach deck → IfOk (place_of deck (initial_place number line)) Keeps
 unfolding initial_place
-initials deck number line whole five = placed deck _ (if_ok (λ place. Keeps (deck, place)) (is_section_end line) (Ok (Branches false)) (unless_bad (order_fault number line) (Branches false)) (whole, (five, tt))
+initials deck number line whole five = placed deck _ (if_ok (λ place. Keeps (deck, place)) (is_section_end line) (Ok (Branches false)) (unless (order_fault number line) (λ bad. bad) (Ok (Branches false))) (whole, (five, tt))
     (unless_ok (λ place. Keeps (deck, place)) (order_fault number line) (Branches false) (whole, (five, tt))))
 
 controls : (deck : Deck) (number : ℕ) (line : List ℕ) (at : ControlPlace) → Keeps (deck, Control at) → IfOk (control_step deck number line at) Keeps

@@ -1,6 +1,6 @@
 -- Lines of the control: five sections, each ended by a line that ends a section.
 use Rattle.std.specs.Prelude.{Bool, List, None, Ok, Option, Result, Some, [], false, if◌then◌else◌, length, pos, replicate, true, ℕ, ℤ, ◌++◌, ◌+◌, ◌==◌, ◌∷◌}
-use Rattle.emtp_card.specs.Fault.{unless_bad}
+use Rattle.emtp_fix.specs.Chain.{unless}
 use Rattle.emtp_card.specs.Lines.{is_section_end}
 use Rattle.emtp_card.specs.declared.reason.Bad.{Bad}
 use Rattle.emtp_case.specs.declared.branch.Point.{Point}
@@ -60,7 +60,7 @@ numerator_step deck number line card =
     (polynomial_card number line card.order deck.run.dt)
 
 abbrev pub with_denominator : Deck → ℕ → BlockEntry → ℕ → Read
-with_denominator deck number entry top_line = unless_bad (divided_bad deck.run.dt entry top_line number) (keep_block deck entry)
+with_denominator deck number entry top_line = unless (divided_bad deck.run.dt entry top_line number) (λ bad. bad) (Ok (keep_block deck entry))
 
 -- the faults that need both cards come after those of the denominator
 unfoldable pub denominator_step : Deck → ℕ → List ℕ → BlockCard → List ℤ → ℕ → Read
@@ -146,7 +146,7 @@ tacs_output_step deck number line =
 -- no card gives an initial condition
 unfoldable pub initial_place : ℕ → List ℕ → Result Place Bad
 initial_place number line =
-    if is_section_end line then Ok (Branches false) else unless_bad (order_fault number line) (Branches false)
+    if is_section_end line then Ok (Branches false) else unless (order_fault number line) (λ bad. bad) (Ok (Branches false))
 
 -- ---- all places
 

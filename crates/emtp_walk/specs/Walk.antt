@@ -3,7 +3,8 @@
 use Rattle.std.specs.List.{starts_with}
 use Rattle.std.specs.Prelude.{ℕ, ◌+◌, ◌^◌, ℤ, pos, nat_eq, Bool, true, false, List, [], ◌∷◌, ◌++◌, length, codes, Option, Some, None, Result, Ok, Err, if◌then◌else◌}
 use Rattle.std.specs.Str.Lines.{lines}
-use Rattle.emtp_card.specs.Fault.{judge, unless_bad}
+use Rattle.emtp_fix.specs.Chain.{unless}
+use Rattle.emtp_card.specs.Fault.{judge}
 use Rattle.emtp_card.specs.Lines.{is_comment, is_section_end}
 use Rattle.emtp_card.specs.declared.reason.Bad.{Bad}
 use Rattle.emtp_card.specs.declared.reason.Why.{Why}
@@ -56,19 +57,19 @@ begin_fault number line =
     if starts_with nat_eq line (codes "BEGIN NEW DATA CASE") then judge number line None else order_fault number line
 
 unfoldable pub begin_place : ℕ → List ℕ → Result Place Bad
-begin_place number line = if is_section_end line then Ok Begin else unless_bad (begin_fault number line) (First false)
+begin_place number line = if is_section_end line then Ok Begin else unless (begin_fault number line) (λ bad. bad) (Ok (First false))
 
 -- at most one more BEGIN NEW DATA CASE may stand behind the sections
 unfoldable pub after_place : ℕ → List ℕ → Bool → Result Place Bad
 after_place number line seen =
     if is_section_end line then Ok (After seen)
-    else unless_bad (if seen then order_fault number line else begin_fault number line) (After true)
+    else unless (if seen then order_fault number line else begin_fault number line) (λ bad. bad) (Ok (After true))
 
 -- ---- miscellaneous cards
 
 unfoldable pub tolerance_step : Deck → ℕ → List ℕ → Bool → Read
 tolerance_step deck number line seen =
-    if seen then unless_bad (order_fault number line) (deck, First true)
+    if seen then unless (order_fault number line) (λ bad. bad) (Ok (deck, First true))
     else go_on (λ (z : ℤ). Ok (record deck { run = record deck.run { tolerance = z } }, First true)) (tolerance_card number line)
 
 unfoldable pub times_step : Deck → ℕ → List ℕ → Read
@@ -124,7 +125,7 @@ is_second other = false
 
 unfoldable pub card_step : Deck → ℕ → List ℕ → Bool → Read
 card_step deck number line wide =
-    if is_phase (kind_field line) then unless_bad (order_fault number line) (deck, Branches wide)
+    if is_phase (kind_field line) then unless (order_fault number line) (λ bad. bad) (Ok (deck, Branches wide))
     else go_on (λ (card : BranchCard). Ok (take_branch deck card wide)) (branch_card number line deck.run.dt wide)
 
 -- a vintage card says how wide the fields of the series branches after it are
@@ -156,9 +157,9 @@ take_third deck number line zero' positive wide =
 -- the card after a card -2: its third phase alone; a type that isn't known is refused as such, but a vintage card has none
 abbrev pub third_by : Deck → ℕ → List ℕ → BranchCard → BranchCard → Bool → Result BranchKind Why → Read
 third_by deck number line zero' positive wide (Ok ThirdKind) = take_third deck number line zero' positive wide
-third_by deck number line zero' positive wide (Ok other) = unless_bad (order_fault number line) (deck, Branches wide)
+third_by deck number line zero' positive wide (Ok other) = unless (order_fault number line) (λ bad. bad) (Ok (deck, Branches wide))
 third_by deck number line zero' positive wide (Err why) =
-    if is_vintage line then unless_bad (order_fault number line) (deck, Branches wide)
+    if is_vintage line then unless (order_fault number line) (λ bad. bad) (Ok (deck, Branches wide))
     else take_third deck number line zero' positive wide
 
 unfoldable pub third_step : Deck → ℕ → List ℕ → BranchCard → BranchCard → Bool → Read
@@ -216,7 +217,7 @@ output_step deck number line =
 -- the control stands right after the miscellaneous cards
 unfoldable pub start_step : Deck → ℕ → List ℕ → Read
 start_step deck number line =
-    if starts_with nat_eq line (codes "TACS HYBRID") then unless_bad (judge number line None) (deck, Control Blocks)
+    if starts_with nat_eq line (codes "TACS HYBRID") then unless (judge number line None) (λ bad. bad) (Ok (deck, Control Blocks))
     else branch_step deck number line false
 
 -- ---- all lines

@@ -1,6 +1,6 @@
 -- Beside `Branches`: what values hold for their proofs, and what premises say. No clause of the program reaches it.
 use Rattle.std.specs.Prelude.{List, Option, Result, length, ℕ, ◌+◌, ◌++◌, ◌≡◌}
-use Rattle.emtp_card.specs.Fault.{unless_bad}
+use Rattle.emtp_fix.specs.Chain.{unless}
 use Rattle.emtp_card.specs.declared.reason.Bad.{Bad}
 use Rattle.emtp_case.specs.HistoryValues.{history_values_of}
 use Rattle.emtp_case.specs.declared.branch.Phase.{Phase}
@@ -56,7 +56,7 @@ line_fault m zero' positive third = first_bad (pair_fault m zero' positive) (thi
 
 -- the same, unless a card is refused
 abbrev pub take_one : List Point → Made → BranchCard → Result Made Bad
-take_one points m card = unless_bad (first_fault m card) (with_one points m card)
+take_one points m card = unless (first_fault m card) (λ bad. bad) (Ok (with_one points m card))
 
 abbrev pub take_line : Made → BranchCard → BranchCard → BranchCard → Result Made Bad
-take_line m zero' positive third = unless_bad (line_fault m zero' positive third) (with_line m zero' positive third)
+take_line m zero' positive third = unless (line_fault m zero' positive third) (λ bad. bad) (Ok (with_line m zero' positive third))

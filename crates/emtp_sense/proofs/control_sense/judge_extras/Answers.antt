@@ -1,7 +1,8 @@
 use mir.Syntax.{w64}
 use Rattle.std.proofs.Common.{◌+◌, arith, drop, sym, ap, ◌∙◌, to_z, of_z}
 use Rattle.std.proofs.lemmas.Int.{to_z-of_z}
-use Rattle.emtp_sense.specs.ControlSense.{extra_bad, judge_extras, unless_judged}
+use Rattle.emtp_fix.specs.Chain.{unless}
+use Rattle.emtp_sense.specs.ControlSense.{extra_bad, judge_extras}
 use Rattle.emtp_sense.proofs.ControlJudging.{extra_fine, extras_here, extras_next}
 use Rattle.emtp_sense.proofs.control_sense.judge_extras.Goals as goal
 
@@ -30,4 +31,4 @@ returns-in-Some-clause-value c =
     let es = c.args.entries.now in
     sym (ap (λ d. judge_extras variables d c.args.first 0 0 es) (sym (to_z-of_z w64 c.args.dt c.ranges.dt)) ∙ c.loop-entry.invariant.same
     ∙ extras_here variables dt c.args.first at c.loop-entry.history sum es c.loop-entry.entry-index c.entry-item.result c.entry-item.is c.loop-entry-test.true (ap (λ n. c.loop-entry.history + n) c.entry_history_values-history.ensures.value)
-    ∙ ap (λ b. unless_judged b (judge_extras variables dt c.args.first (at + 1) sum (drop (c.loop-entry.entry-index + 1) es))) (sym c.extra_bad.ensures ∙ c.in-Some.is))
+    ∙ ap (λ b. unless b (λ bad. bad) (judge_extras variables dt c.args.first (at + 1) sum (drop (c.loop-entry.entry-index + 1) es))) (sym c.extra_bad.ensures ∙ c.in-Some.is))
