@@ -50,8 +50,9 @@ fn put_ports(table: &CosTable, case: &Case, freq: i64, out: &mut [TwoPort]) -> O
     best
 }
 
-/// The frequency of the steady state and the two-ports of all branches at it, or the refusal that decides. Each branch is
-/// looked at once, for both. This project's own.
+/// The frequency of the steady state (micro-hertz) and the two-ports of all branches at it (pS, one a branch), or the
+/// refusal that decides: at the given frequency (micro-hertz), or where none is given at that of the case's sources. Each
+/// branch is looked at once, for both. This project's own.
 #[tactic(auto, unfolding(crate::specs::Refusals::judged_frequency))]
 pub fn judged_ports(
     table: &CosTable,
