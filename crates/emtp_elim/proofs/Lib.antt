@@ -19,3 +19,5 @@ pub mod Prefix
 pub mod Opposites
 pub mod OddSolutions
 pub mod UnitRows
+pub mod ChainErrors
+pub mod RowsOfFaults
