@@ -15,3 +15,4 @@ pub mod RowTables
 pub mod KeyCompared
 pub mod RowsOfNodes
 pub mod Sums
+pub mod NamedEnds

@@ -65,3 +65,6 @@ first_none p n fails =
     let place = place_is p n n (omega arith) fails (λ h. absurd (omega (arith, h))) in
     let long = length-range_with_len 0 n in
     rw (place, long) (nowhere n)
+
+pub place_within : (p : ℕ → Bool) (n k : ℕ) → position p (range_with_len 0 n) ≡ Some k → k < n
+place_within p n k is = let there = position-Some p (range_with_len 0 n) k 0 is in omega (arith, there.0, length-range_with_len 0 n)

@@ -27,9 +27,15 @@ each_once case =
     let P : ℕ → Type 0 = λ n. IsPermutation (range_with_len 1 n) (order_of case).nodes in
     subst P (sym (length-order_of case)) order.each_once
 
+pub row_named : (case : Parts) (row : ℕ) → row < length case.nodes → IsNode case (node_at case row)
+row_named case row below =
+    let n = length-order_of case in
+    let both = nodes_within (order_of case).nodes (each_once case) row (omega (arith, below, n)) in
+    record { low = both.0; high = omega (arith, both.1, n) }
+
 -- no row is that of ground
 pub node_low : (case : Parts) (row : ℕ) → row < length case.nodes → 1 ≤ node_at case row
-node_low case row below = (nodes_within (order_of case).nodes (each_once case) row (omega (arith, below, length-order_of case))).0
+node_low case row below = (row_named case row below).low
 
 pub fixed_within : (case : Parts) → (order_of case).fixed ≤ length case.nodes
 fixed_within case = omega (arith, count_by-le-length (has_source case) (range_with_len 1 (length case.nodes)), length-range_with_len 1 (length case.nodes))
