@@ -6,7 +6,7 @@ use Rattle.emtp_case.specs.declared.branch.Trio.{Trio}
 use Rattle.emtp_fix.specs.Rounding.{near}
 use Rattle.emtp_fix.specs.declared.limit.TheConstants.{LARGEST_ENTRY, LARGEST_IMPEDANCE, LEAST_IMPEDANCE}
 use Rattle.std.specs.Ordering.{int_eq}
-use Rattle.std.specs.Prelude.{◌+◌, ◌*◌, ◌^◌, ◌+ℤ◌, ◌-ℤ◌, ◌*ℤ◌, if◌then◌else◌, Bool, List, drop, false, map, pos, slice_index_or, take, true, ℕ, ℤ}
+use Rattle.std.specs.Prelude.{◌*◌, ◌^◌, ◌+ℤ◌, ◌-ℤ◌, ◌*ℤ◌, if◌then◌else◌, Bool, List, drop, false, map, pos, slice_index_or, take, true, ℕ, ℤ}
 
 -- Series branches
 

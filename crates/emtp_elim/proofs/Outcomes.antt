@@ -1,5 +1,5 @@
 -- How an elimination ends, from the faults of its rows, right sides and unknowns.
-use Rattle.std.proofs.Common.{◌≡◌, ℕ, zero, suc, ◌+◌, ◌<◌, ◌≤◌, ℤ, List, length, Option, Some, None, Ok, Err, refl, ap, subst, sym, ◌∙◌, pos, inl, inr, arith}
+use Rattle.std.proofs.Common.{◌≡◌, ℕ, zero, suc, ◌<◌, ℤ, List, length, Option, Some, None, Ok, Err, refl, ap, subst, sym, ◌∙◌, pos, inl, inr, arith}
 use Rattle.std.proofs.lemmas.Bool.{cases_eq, cases_lt}
 use Rattle.std.proofs.lemmas.List.{get_or_past}
 use Rattle.emtp_fix.specs.declared.limit.TheConstants.{LARGEST_VALUE}
