@@ -15,7 +15,8 @@ use Rattle.emtp_elim.specs.Matrix.{item}
 use Rattle.emtp_case.specs.Sums.{total}
 use Rattle.emtp_blocks.specs.Block.{held, limits_of, next_state, output_of, past_output}
 use Rattle.emtp_blocks.specs.held.Block.{HasState, Keeps}
-use Rattle.emtp_blocks.specs.held.BlockRows.{BlockAfter, Gives, place_in, places_of}
+use Rattle.emtp_blocks.specs.held.BlockRows.{BlockAfter, Gives, IsDiagramOf, place_in, places_of}
+use Rattle.emtp_blocks.specs.declared.law.BlockLaw.{BlockLaw}
 use Rattle.emtp_blocks.specs.System.{block_of, inside_by, outside_by, outside_sum, free_right, right_by, right, row_entry, unit, coupling_by, input_sum, next_at, next_by, output_by, state_at}
 use Rattle.emtp_blocks.proofs.Chains.{carried_same}
 
@@ -35,6 +36,10 @@ place_there case k d x below is =
     first : (p : Block → Bool) (xs : List Block) (x : ℕ) → position p xs ≡ Some x → x < length xs
     first p [] x e = absurd (grind (arith, e))
     first p (b ∷ xs) x e = (position-Some p (b ∷ xs) x b e).0
+
+-- lists that are read as the held ones make the diagram that these make
+pub diagram_seen : (case : Parts) (places seen : List (Option ℕ)) (laws seen-2 : List BlockLaw) → seen ≡ places → seen-2 ≡ laws → IsDiagramOf case places laws → IsDiagramOf case seen seen-2
+diagram_seen case places seen laws seen-2 same same-2 held = subst (IsDiagramOf case seen) (sym same-2) (subst (λ (ps : List (Option ℕ)). IsDiagramOf case ps laws) (sym same) held)
 
 total_same : {X : Type 0} (f g : X → ℤ) (P : X → Type 0) (xs : List X) → All P xs → ((x : X) → P x → f x ≡ g x) → total f xs ≡ total g xs
 total_same f g P [] all same = refl

@@ -2,16 +2,15 @@
 
 ghost use Rattle.std.specs.Prelude.{◌≡◌, ◌<◌, ℕ, List, length, slice_set, slice_index_or, All, OnOk, IfErr, IfNone, IfSome, true, false};
 ghost use Rattle.emtp_case.specs.StepRecord.{StepRecord};
-ghost use Rattle.emtp_blocks.specs.held.Block.{IsKept, IsLaw};
-ghost use Rattle.emtp_case.specs.held.Control.{AreKnown};
-ghost use Rattle.emtp_blocks.specs.held.BlockRows.{AreUnknowns, AreLaws, AcceptsAll, HasTaken, IsOut, KeepsLimiters, StandsAt, places_of, no_kept};
+ghost use Rattle.emtp_blocks.specs.held.Block.{IsKept};
+ghost use Rattle.emtp_blocks.specs.held.BlockRows.{AreUnknowns, AreStepValues, IsDiagram, AcceptsAll, HasTaken, IsOut, KeepsLimiters, StandsAt, no_kept};
 
 use crate::block_rows::BlockRange;
-use crate::inputs::input_sum;
-use crate::law::BlockLaw;
+use crate::diagram::BlockDiagram;
+use crate::inputs::{StepValues, input_sum};
 use crate::limits::{limits_in_step, output};
-use crate::next::next;
-use emtp_case::{BlockState, Case, Limiter};
+use crate::next::{Signals, next};
+use emtp_case::{BlockState, Limiter};
 
 /// A block after a step, but for its state, which is large and moves in place.
 #[derive(Clone, Copy)]
@@ -25,32 +24,33 @@ pub(crate) struct Accepted {
 /// Takes the solved outputs into the block at a place, whose state moves; none where it is out of range, and then no state
 /// has moved.
 fn accept_one(
-    case: &Case,
-    places: &[Option<usize>],
-    laws: &[BlockLaw],
+    diagram: &BlockDiagram<'_>,
     states: &mut [BlockState],
-    known: &[i64],
-    xs: &[i64],
+    values: &StepValues<'_>,
     at: usize,
 ) -> Option<Accepted>
-    requires there { at < length case.now.parts.blocks }
-    requires places { places.now ≡ places_of case.now.parts }
-    requires law_each { length laws.now ≡ length case.now.parts.blocks }
-    requires laws { AreLaws case.now.parts laws.now (length case.now.parts.blocks) }
-    requires laws_fit { All IsLaw laws.now }
-    requires state_each { length states.old ≡ length case.now.parts.blocks }
+    requires there { at < length diagram.now.case.now.parts.blocks }
+    requires diagram { IsDiagram diagram.now }
+    requires state_each { length states.old ≡ length diagram.now.case.now.parts.blocks }
     requires state { IsKept (slice_index_or states.old at no_kept) }
-    requires known { AreKnown case.now.parts known.now }
-    requires xs { AreUnknowns case.now.parts xs.now }
-    ensures taken { IfSome result (HasTaken case.now.parts states.old states.new known.now xs.now at) }
-    ensures out { IfNone result (IsOut case.now.parts states.old known.now xs.now at) }
+    requires values { AreStepValues diagram.now.case.now.parts values.now }
+    ensures taken { IfSome result
+        (HasTaken diagram.now.case.now.parts states.old states.new values.now.known.now values.now.solved.now at) }
+    ensures out { IfNone result
+        (IsOut diagram.now.case.now.parts states.old values.now.known.now values.now.solved.now at) }
     ensures stays { IfNone result (states.new ≡ states.old) }
 {
-    let block = &case.parts.blocks.as_slice()[at];
-    let limits = limits_in_step(known, block);
-    let x = output(&limits, states[at].limiter, xs[at]);
-    let s = input_sum(places, known, xs, at, x, block.inputs.as_slice());
-    match next(block, &laws[at], &limits, &states[at], xs[at], x, s) {
+    let block = &diagram.case.parts.blocks.as_slice()[at];
+    let limits = limits_in_step(values.known, block);
+    let solved = values.solved[at];
+    let x = output(&limits, states[at].limiter, solved);
+    let s = input_sum(diagram.places, values, at, x, block.inputs.as_slice());
+    let signals = Signals {
+        sum: s,
+        solved,
+        output: x,
+    };
+    match next(block, &diagram.laws[at], &limits, &states[at], signals) {
         Some(state) => {
             let same = is_same(states[at].limiter, state.limiter);
             states[at] = state;
@@ -78,34 +78,27 @@ fn is_same(a: Limiter, b: Limiter) -> bool
 
 /// Takes the solved outputs into the blocks, in card order. An error is the first block that is out of range.
 pub(crate) fn accept_all(
-    case: &Case,
-    places: &[Option<usize>],
-    laws: &[BlockLaw],
+    diagram: &BlockDiagram<'_>,
     states: &mut [BlockState],
-    known: &[i64],
-    xs: &[i64],
+    values: &StepValues<'_>,
     out: &mut [i64],
     moved: &mut bool,
 ) -> Result<(), BlockRange>
-    requires places { places.now ≡ places_of case.now.parts }
-    requires law_each { length laws.now ≡ length case.now.parts.blocks }
-    requires laws { AreLaws case.now.parts laws.now (length case.now.parts.blocks) }
-    requires laws_fit { All IsLaw laws.now }
-    requires state_each { length states.old ≡ length case.now.parts.blocks }
+    requires diagram { IsDiagram diagram.now }
+    requires state_each { length states.old ≡ length diagram.now.case.now.parts.blocks }
     requires states_fit { All IsKept states.old }
-    requires known { AreKnown case.now.parts known.now }
-    requires xs { AreUnknowns case.now.parts xs.now }
-    requires out { length out.old ≡ length case.now.parts.blocks }
-    ensures value { (H : List StepRecord) → ((i : ℕ) → StandsAt case.now.parts states.old H i)
-        → AcceptsAll result case.now.parts states.new out.new H known.now xs.now }
+    requires values { AreStepValues diagram.now.case.now.parts values.now }
+    requires out { length out.old ≡ length diagram.now.case.now.parts.blocks }
+    ensures value { (H : List StepRecord) → ((i : ℕ) → StandsAt diagram.now.case.now.parts states.old H i)
+        → AcceptsAll result diagram.now.case.now.parts states.new out.new H values.now.known.now values.now.solved.now }
     ensures moved { OnOk result (moved.new ≡ false → KeepsLimiters states.old states.new) }
     ensures kept { All IsKept states.new }
-    ensures small { OnOk result (AreUnknowns case.now.parts out.new) }
-    ensures block { IfErr result (λ e. e.block < length case.now.parts.blocks) }
+    ensures small { OnOk result (AreUnknowns diagram.now.case.now.parts out.new) }
+    ensures block { IfErr result (λ e. e.block < length diagram.now.case.now.parts.blocks) }
 {
     *moved = false;
-    for at in 0..case.parts.blocks.len() {
-        match accept_one(case, places, laws, states, known, xs, at) {
+    for at in 0..diagram.case.parts.blocks.len() {
+        match accept_one(diagram, states, values, at) {
             Some(accepted) => *moved = put(out, *moved, at, accepted),
             None => return Err(BlockRange { block: at }),
         }

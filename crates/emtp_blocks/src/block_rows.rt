@@ -6,12 +6,13 @@ ghost use Rattle.emtp_case.specs.declared.control.Block.{Block};
 ghost use Rattle.emtp_elim.specs.Matrix.{item, row_of};
 ghost use Rattle.emtp_blocks.specs.held.Block.{IsLaw};
 ghost use Rattle.emtp_case.specs.held.Control.{AreKnown};
-ghost use Rattle.emtp_blocks.specs.held.BlockRows.{Blocking, StandsFor, Accepts, AreLaws, AreUnknowns, limiters_kept, places_of, IsAtRest};
+ghost use Rattle.emtp_blocks.specs.held.BlockRows.{Blocking, StandsFor, Accepts, AreLaws, AreUnknowns, limiters_kept, places_of, IsAtRest, IsDiagram};
 ghost use Rattle.emtp_blocks.specs.System.{block_of, control_matrix, right};
 ghost use Rattle.emtp_blocks.specs.declared.next.TheConstants.{LARGEST_CHAIN};
 
 use crate::accepting::accept_all;
-use crate::inputs::fill_row;
+use crate::diagram::BlockDiagram;
+use crate::inputs::{StepValues, add_inputs, fill_unit};
 use crate::law::{BlockLaw, law};
 use crate::right::fill_right;
 use emtp_case::{Block, BlockState, Case, Limiter};
@@ -93,14 +94,12 @@ impl<'a> BlockRows<'a> {
         ensures value { (H : List StepRecord) → StandsFor self.now H → rhs.new ≡ right self.now.case H known.now }
         ensures small { (j : ℕ) → j < length rhs.old → unsigned_abs (item rhs.new j) ≤ LARGEST_CHAIN }
     {
-        fill_right(
-            self.case,
-            &self.places,
-            &self.laws,
-            &self.states,
-            known,
-            rhs,
-        );
+        let diagram = BlockDiagram {
+            case: self.case,
+            places: &self.places,
+            laws: &self.laws,
+        };
+        fill_right(&diagram, &self.states, known, rhs);
     }
 
     /// Takes the solved outputs, moves the states and leaves the recorded outputs in `x`. After an error what is left is
@@ -116,13 +115,16 @@ impl<'a> BlockRows<'a> {
         ensures small { OnOk result (AreUnknowns self.old.case x.new) }
         ensures block { IfErr result (λ e. e.block < length self.old.case.blocks) }
     {
+        let diagram = BlockDiagram {
+            case: self.case,
+            places: &self.places,
+            laws: &self.laws,
+        };
+        let values = StepValues { known, solved: x };
         match accept_all(
-            self.case,
-            &self.places,
-            &self.laws,
+            &diagram,
             &mut self.states,
-            known,
-            x,
+            &values,
             &mut self.out,
             &mut self.moved,
         ) {
@@ -150,38 +152,35 @@ impl<'a> Rows for BlockRows<'a> {
     }
 
     fn row(&self, i: usize, out: &mut [i128]) {
-        fill_block(self.case, &self.places, &self.laws, &self.states, i, out);
+        let diagram = BlockDiagram {
+            case: self.case,
+            places: &self.places,
+            laws: &self.laws,
+        };
+        fill_block(&diagram, &self.states, i, out);
     }
 }
 
 /// Fills `out` with the row of block `i`.
-fn fill_block(
-    case: &Case,
-    places: &[Option<usize>],
-    laws: &[BlockLaw],
-    states: &[BlockState],
-    i: usize,
-    out: &mut [i128],
-)
-    requires there { i < length case.now.parts.blocks }
-    requires places { places.now ≡ places_of case.now.parts }
-    requires law_each { length laws.now ≡ length case.now.parts.blocks }
-    requires laws { AreLaws case.now.parts laws.now (length case.now.parts.blocks) }
-    requires laws_fit { All IsLaw laws.now }
-    requires state_each { length states.now ≡ length case.now.parts.blocks }
-    requires out { length out.old ≡ length case.now.parts.blocks }
-    ensures { out.new ≡ row_of (control_matrix case.now.parts (limiters_kept states.now)) i }
+fn fill_block(diagram: &BlockDiagram<'_>, states: &[BlockState], i: usize, out: &mut [i128])
+    requires there { i < length diagram.now.case.now.parts.blocks }
+    requires diagram { IsDiagram diagram.now }
+    requires state_each { length states.now ≡ length diagram.now.case.now.parts.blocks }
+    requires out { length out.old ≡ length diagram.now.case.now.parts.blocks }
+    ensures { out.new ≡ row_of (control_matrix diagram.now.case.now.parts (limiters_kept states.now)) i }
 {
-    let block = &case.parts.blocks.as_slice()[i];
-    let limiter = states[i].limiter;
-    fill_row(
-        places,
-        laws[i].gain,
-        block.inputs.as_slice(),
-        limiter,
-        i,
-        out,
-    );
+    let block = &diagram.case.parts.blocks.as_slice()[i];
+    fill_unit(i, out);
+    match states[i].limiter {
+        Limiter::Free => add_inputs(
+            diagram.places,
+            diagram.laws[i].gain,
+            block.inputs.as_slice(),
+            out,
+        ),
+        Limiter::AtHigh => {}
+        Limiter::AtLow => {}
+    }
 }
 
 /// The block of each variable.

@@ -6,11 +6,20 @@ ghost use Rattle.emtp_case.specs.declared.control.Input.{Input};
 ghost use Rattle.emtp_elim.specs.Matrix.{item};
 ghost use Rattle.emtp_case.specs.Sums.{total};
 ghost use Rattle.emtp_blocks.specs.held.BlockRows.{place_in};
-ghost use Rattle.emtp_blocks.specs.System.{signed, outside_by, outside_sum, inside_by, input_sum, coupling_by, row_entry, unit};
+ghost use Rattle.emtp_blocks.specs.System.{signed, outside_by, outside_sum, inside_by, input_sum, coupling_by, unit};
 ghost use Rattle.emtp_fix.specs.declared.limit.TheConstants.{LARGEST_VALUE};
 
-use emtp_case::{Input, Limiter};
+use emtp_case::Input;
 use emtp_fix::PICO;
+
+/// What the blocks take in at a step, in nano.
+#[derive(Clone, Copy)]
+pub(crate) struct StepValues<'a> {
+    /// Each variable's value where it is computed before the blocks, else that of the last record.
+    pub(crate) known: &'a [i64],
+    /// The solved output of each block.
+    pub(crate) solved: &'a [i64],
+}
 
 fn signed(input: &Input, z: i64) -> i64
     requires { unsigned_abs z ≤ LARGEST_VALUE }
@@ -58,43 +67,42 @@ pub(crate) fn outside_sum(places: &[Option<usize>], known: &[i64], inputs: &[Inp
 }
 
 /// What an input of block `at` brings.
-fn inside(known: &[i64], xs: &[i64], at: usize, x: i64, input: &Input, place: Option<usize>) -> i64
-    requires there { input.now.var < length known.now }
-    requires known { All (λ v. unsigned_abs v ≤ LARGEST_VALUE) known.now }
-    requires place { ForSome place (λ j. j < length xs.now) }
-    requires xs { All (λ v. unsigned_abs v ≤ LARGEST_VALUE) xs.now }
+fn inside(values: &StepValues<'_>, at: usize, x: i64, input: &Input, place: Option<usize>) -> i64
+    requires there { input.now.var < length values.now.known.now }
+    requires known { All (λ v. unsigned_abs v ≤ LARGEST_VALUE) values.now.known.now }
+    requires place { ForSome place (λ j. j < length values.now.solved.now) }
+    requires solved { All (λ v. unsigned_abs v ≤ LARGEST_VALUE) values.now.solved.now }
     requires x { unsigned_abs x ≤ LARGEST_VALUE }
-    ensures value { result ≡ inside_by known.now xs.now at x input.now place }
+    ensures value { result ≡ inside_by values.now.known.now values.now.solved.now at x input.now place }
     ensures small { unsigned_abs result ≤ LARGEST_VALUE }
 {
     match place {
-        Some(j) => signed(input, if j == at { x } else { xs[j] }),
-        None => signed(input, known[input.var as usize]),
+        Some(j) => signed(input, if j == at { x } else { values.solved[j] }),
+        None => signed(input, values.known[input.var as usize]),
     }
 }
 
 /// The sum of the inputs of block `at`, in nano.
 pub(crate) fn input_sum(
     places: &[Option<usize>],
-    known: &[i64],
-    xs: &[i64],
+    values: &StepValues<'_>,
     at: usize,
     x: i64,
     inputs: &[Input],
 ) -> i64
     requires few { length inputs.now ≤ 5 }
-    requires places { length places.now ≡ length known.now }
-    requires blocks { All (λ p. ForSome p (λ j. j < length xs.now)) places.now }
-    requires there { All (λ (i : Input). i.var < length known.now) inputs.now }
-    requires known { All (λ v. unsigned_abs v ≤ LARGEST_VALUE) known.now }
-    requires xs { All (λ v. unsigned_abs v ≤ LARGEST_VALUE) xs.now }
+    requires places { length places.now ≡ length values.now.known.now }
+    requires blocks { All (λ p. ForSome p (λ j. j < length values.now.solved.now)) places.now }
+    requires there { All (λ (i : Input). i.var < length values.now.known.now) inputs.now }
+    requires known { All (λ v. unsigned_abs v ≤ LARGEST_VALUE) values.now.known.now }
+    requires solved { All (λ v. unsigned_abs v ≤ LARGEST_VALUE) values.now.solved.now }
     requires x { unsigned_abs x ≤ LARGEST_VALUE }
-    ensures value { result ≡ input_sum (place_in places.now) known.now xs.now at x inputs.now }
+    ensures value { result ≡ input_sum (place_in places.now) values.now.known.now values.now.solved.now at x inputs.now }
     ensures small { unsigned_abs result ≤ 5 * LARGEST_VALUE }
 {
     let mut sum = 0;
     for input in inputs {
-        sum += inside(known, xs, at, x, input, places[input.var as usize]);
+        sum += inside(values, at, x, input, places[input.var as usize]);
     }
     sum
 }
@@ -123,7 +131,7 @@ fn add_input(gain: i64, input: &Input, place: Option<usize>, out: &mut [i128])
 }
 
 /// Adds what the inputs bring into the row of a free block.
-fn add_inputs(places: &[Option<usize>], gain: i64, inputs: &[Input], out: &mut [i128])
+pub(crate) fn add_inputs(places: &[Option<usize>], gain: i64, inputs: &[Input], out: &mut [i128])
     requires few { length inputs.now ≤ 5 }
     requires there { All (λ (i : Input). i.var < length places.now) inputs.now }
     requires blocks { All (λ p. ForSome p (λ j. j < length out.old)) places.now }
@@ -138,35 +146,10 @@ fn add_inputs(places: &[Option<usize>], gain: i64, inputs: &[Input], out: &mut [
 }
 
 /// Fills `out` with 1 in column `i` and 0 elsewhere.
-fn fill_unit(i: usize, out: &mut [i128])
+pub(crate) fn fill_unit(i: usize, out: &mut [i128])
     requires row { i < length out.old }
     ensures value { (j : ℕ) → j < length out.old → item out.new j ≡ unit i j }
 {
     out.fill(0);
     out[i] = PICO;
-}
-
-/// Fills `out` with the row of block `i`.
-pub(crate) fn fill_row(
-    places: &[Option<usize>],
-    gain: i64,
-    inputs: &[Input],
-    limiter: Limiter,
-    i: usize,
-    out: &mut [i128],
-)
-    requires few { length inputs.now ≤ 5 }
-    requires row { i < length out.old }
-    requires there { All (λ (i : Input). i.var < length places.now) inputs.now }
-    requires blocks { All (λ p. ForSome p (λ j. j < length out.old)) places.now }
-    requires gain { unsigned_abs gain ≤ LARGEST_VALUE }
-    ensures { (j : ℕ) → j < length out.old
-        → item out.new j ≡ row_entry (place_in places.now) gain inputs.now limiter i j }
-{
-    fill_unit(i, out);
-    match limiter {
-        Limiter::Free => add_inputs(places, gain, inputs, out),
-        Limiter::AtHigh => {}
-        Limiter::AtLow => {}
-    }
 }

@@ -15,6 +15,7 @@
 
 mod accepting;
 mod block_rows;
+mod diagram;
 mod inputs;
 mod law;
 mod laws;

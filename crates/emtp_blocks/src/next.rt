@@ -7,8 +7,8 @@ ghost use Rattle.emtp_elim.specs.Matrix.{item};
 ghost use Rattle.emtp_fix.specs.Rounding.{near};
 ghost use Rattle.emtp_case.specs.Sums.{sum_below};
 ghost use Rattle.emtp_fix.specs.Limit.{is_within};
-ghost use Rattle.emtp_blocks.specs.Block.{carried, error_of, each_within, output_of, past_output, unlimited, next_state};
-ghost use Rattle.emtp_blocks.specs.held.Block.{IsLaw, IsLawOf, IsKept, HasState, Keeps};
+ghost use Rattle.emtp_blocks.specs.Block.{carried, error_of, each_within, past_output, unlimited, next_state};
+ghost use Rattle.emtp_blocks.specs.held.Block.{AreSignals, IsLaw, IsLawOf, IsKept, HasState, Keeps};
 ghost use Rattle.emtp_fix.specs.declared.limit.TheConstants.{LARGEST_VALUE, PICO};
 ghost use Rattle.emtp_blocks.specs.declared.next.TheConstants.{LARGEST_CHAIN};
 
@@ -21,6 +21,17 @@ use emtp_fix::{PICO, in_range};
 
 /// The greatest magnitude of a number of a chain, in 10^-18.
 pub(crate) const LARGEST_CHAIN: u128 = 1_000_000_000_000_000_000_000_000_000_000_000_000;
+
+/// The numbers of a block in a step, in nano.
+#[derive(Clone, Copy)]
+pub(crate) struct Signals {
+    /// The sum of its inputs.
+    pub(crate) sum: i64,
+    /// Its solved output.
+    pub(crate) solved: i64,
+    /// Its recorded output.
+    pub(crate) output: i64,
+}
 
 /// The input of a block, in nano, from the sum of its inputs; none where it is out of range.
 fn input(gain: i64, s: i64) -> Option<i64>
@@ -154,32 +165,28 @@ fn is_in_range(chain: &[i128], order: usize) -> bool
     true
 }
 
-/// What is kept of a block after a step, from its solved output, its recorded output `x` and the sum of its inputs; none
-/// where its input or a number of its chain is out of range.
+/// What is kept of a block after a step; none where its input or a number of its chain is out of range.
 pub(crate) fn next(
     block: &Block,
     law: &BlockLaw,
     limits: &Limits,
     old: &BlockState,
-    solved: i64,
-    x: i64,
-    s: i64,
+    signals: Signals,
 ) -> Option<BlockState>
     requires order { block.now.order ≤ 7 }
     requires gain { unsigned_abs block.now.gain ≤ LARGEST_VALUE }
     requires law { IsLaw law.now }
     requires old { IsKept old.now }
-    requires solved { unsigned_abs solved ≤ LARGEST_VALUE }
-    requires x { unsigned_abs x ≤ LARGEST_VALUE }
-    requires output { x ≡ output_of limits.now old.now.limiter solved }
-    requires s { unsigned_abs s ≤ 8 * 10 ^ 18 }
+    requires signals { AreSignals limits.now old.now.limiter signals }
     ensures value { (dt : ℤ) (r : BlockState) → IsLawOf dt block.now law.now → HasState block.now.order old.now r
-        → Keeps block.now.order result (next_state dt block.now limits.now r solved s) }
+        → Keeps block.now.order result (next_state dt block.now limits.now r signals.solved signals.sum) }
     ensures kept { IfSome result IsKept }
 {
     let order = block.order as usize;
-    let u = input(block.gain, s)?;
-    let z = unlimited(law, old.limiter, past_at_limit(old, order), solved, u);
+    let x = signals.output;
+    let u = input(block.gain, signals.sum)?;
+    let past = past_at_limit(old, order);
+    let z = unlimited(law, old.limiter, past, signals.solved, u);
     let errors = errors(law, order, u, x);
     let clamped = differs(x, z);
     let last = last_error(law, u, x, order, clamped);

@@ -9,17 +9,18 @@ ghost use Rattle.emtp_fix.specs.Rounding.{near};
 ghost use Rattle.emtp_blocks.specs.Block.{held, past_output};
 ghost use Rattle.emtp_blocks.specs.held.Block.{IsKept, IsLaw};
 ghost use Rattle.emtp_case.specs.held.Control.{AreKnown};
-ghost use Rattle.emtp_blocks.specs.held.BlockRows.{AreLaws, IsStateAt, StandsAt, places_of, place_in};
+ghost use Rattle.emtp_blocks.specs.held.BlockRows.{IsDiagram, IsStateAt, StandsAt, place_in};
 ghost use Rattle.emtp_blocks.specs.System.{right, right_by, outside_sum};
 ghost use Rattle.emtp_fix.specs.declared.limit.TheConstants.{LARGEST_VALUE, PICO};
 ghost use Rattle.emtp_blocks.specs.declared.next.TheConstants.{LARGEST_CHAIN};
 
+use crate::diagram::BlockDiagram;
 use crate::inputs::outside_sum;
 use crate::law::BlockLaw;
 use crate::limits::{held, limits_in_step};
 use crate::moving::past_output;
 use crate::scaling::product;
-use emtp_case::{Block, BlockState, Case, Limiter};
+use emtp_case::{Block, BlockState, Limiter};
 use emtp_fix::PICO;
 
 /// The right side of a free block, in nano: what the inputs from outside and the past bring.
@@ -46,29 +47,19 @@ fn free_right(
 }
 
 /// The right side of a block, in nano.
-fn right_of(
-    case: &Case,
-    places: &[Option<usize>],
-    laws: &[BlockLaw],
-    state: &BlockState,
-    known: &[i64],
-    at: usize,
-) -> i128
-    requires there { at < length case.now.parts.blocks }
-    requires places { places.now ≡ places_of case.now.parts }
-    requires law_each { length laws.now ≡ length case.now.parts.blocks }
-    requires laws { AreLaws case.now.parts laws.now (length case.now.parts.blocks) }
-    requires laws_fit { All IsLaw laws.now }
+fn right_of(diagram: &BlockDiagram<'_>, state: &BlockState, known: &[i64], at: usize) -> i128
+    requires there { at < length diagram.now.case.now.parts.blocks }
+    requires diagram { IsDiagram diagram.now }
     requires state { IsKept state.now }
-    requires known { AreKnown case.now.parts known.now }
-    ensures value { (H : List StepRecord) → IsStateAt case.now.parts state.now H at
-        → result ≡ right_by case.now.parts H known.now at (slice_get case.now.parts.blocks at) }
+    requires known { AreKnown diagram.now.case.now.parts known.now }
+    ensures value { (H : List StepRecord) → IsStateAt diagram.now.case.now.parts state.now H at
+        → result ≡ right_by diagram.now.case.now.parts H known.now at (slice_get diagram.now.case.now.parts.blocks at) }
     ensures small { unsigned_abs result ≤ LARGEST_CHAIN }
 {
-    let block = &case.parts.blocks.as_slice()[at];
+    let block = &diagram.case.parts.blocks.as_slice()[at];
     let limits = limits_in_step(known, block);
     match state.limiter {
-        Limiter::Free => free_right(block, &laws[at], state, places, known),
+        Limiter::Free => free_right(block, &diagram.laws[at], state, diagram.places, known),
         Limiter::AtHigh => held(&limits, Limiter::AtHigh, 0) as i128,
         Limiter::AtLow => held(&limits, Limiter::AtLow, 0) as i128,
     }
@@ -76,26 +67,21 @@ fn right_of(
 
 /// Fills in the right sides of all blocks.
 pub(crate) fn fill_right(
-    case: &Case,
-    places: &[Option<usize>],
-    laws: &[BlockLaw],
+    diagram: &BlockDiagram<'_>,
     states: &[BlockState],
     known: &[i64],
     rhs: &mut [i128],
 )
-    requires places { places.now ≡ places_of case.now.parts }
-    requires law_each { length laws.now ≡ length case.now.parts.blocks }
-    requires laws { AreLaws case.now.parts laws.now (length case.now.parts.blocks) }
-    requires laws_fit { All IsLaw laws.now }
-    requires state_each { length states.now ≡ length case.now.parts.blocks }
+    requires diagram { IsDiagram diagram.now }
+    requires state_each { length states.now ≡ length diagram.now.case.now.parts.blocks }
     requires states_fit { All IsKept states.now }
-    requires known { AreKnown case.now.parts known.now }
-    requires rhs { length rhs.old ≡ length case.now.parts.blocks }
-    ensures value { (H : List StepRecord) → ((i : ℕ) → StandsAt case.now.parts states.now H i)
-        → rhs.new ≡ right case.now.parts H known.now }
+    requires known { AreKnown diagram.now.case.now.parts known.now }
+    requires rhs { length rhs.old ≡ length diagram.now.case.now.parts.blocks }
+    ensures value { (H : List StepRecord) → ((i : ℕ) → StandsAt diagram.now.case.now.parts states.now H i)
+        → rhs.new ≡ right diagram.now.case.now.parts H known.now }
     ensures small { (j : ℕ) → j < length rhs.old → unsigned_abs (item rhs.new j) ≤ LARGEST_CHAIN }
 {
-    for at in 0..case.parts.blocks.len() {
-        rhs[at] = right_of(case, places, laws, &states[at], known, at);
+    for at in 0..diagram.case.parts.blocks.len() {
+        rhs[at] = right_of(diagram, &states[at], known, at);
     }
 }

@@ -4,8 +4,12 @@ use Rattle.emtp_elim.specs.Matrix.{item}
 use Rattle.emtp_case.specs.Control.{numerator_of, denominator_of, coefficient_sum, step_gain}
 use Rattle.emtp_case.specs.declared.control.BlockState.{BlockState}
 use Rattle.emtp_case.specs.declared.control.Block.{Block}
+use Rattle.emtp_case.specs.declared.control.Limiter.{Limiter}
+use Rattle.emtp_blocks.specs.Block.{output_of}
 use Rattle.emtp_blocks.specs.declared.law.BlockLaw.{BlockLaw}
 use Rattle.emtp_fix.specs.declared.limit.TheConstants.{LARGEST_COEFFICIENT, LARGEST_VALUE}
+use Rattle.emtp_blocks.specs.declared.limits.Limits.{Limits}
+use Rattle.emtp_blocks.specs.declared.next.Signals.{Signals}
 use Rattle.emtp_blocks.specs.declared.next.TheConstants.{LARGEST_CHAIN}
 
 -- the coefficients of a block
@@ -32,6 +36,13 @@ pub record HasState (order : ℕ) (kept : BlockState) (s : BlockState) : Type 0 
 pub record IsKept (kept : BlockState) : Type 0 where
   pub errors_small : (j : ℕ) → unsigned_abs (item kept.errors j) ≤ 2 * 10 ^ 35
   pub chain_small : (j : ℕ) → unsigned_abs (item kept.chain j) ≤ LARGEST_CHAIN
+
+-- the numbers of a block in a step are in range, and the recorded output is what the limits make of the solved one
+pub record AreSignals (limits : Limits) (limiter : Limiter) (signals : Signals) : Type 0 where
+  pub sum : unsigned_abs signals.sum ≤ 8 * 10 ^ 18
+  pub solved : unsigned_abs signals.solved ≤ LARGEST_VALUE
+  pub output : unsigned_abs signals.output ≤ LARGEST_VALUE
+  pub limited : signals.output ≡ output_of limits limiter signals.solved
 
 -- the code's answer is the definition's
 abbrev pub Keeps : ℕ → Option BlockState → Option BlockState → Type 0

@@ -8,8 +8,11 @@ use Rattle.emtp_case.specs.declared.case.Parts.{Parts}
 use Rattle.emtp_case.specs.declared.control.Block.{Block}
 use Rattle.emtp_case.specs.declared.control.Limiter.{Limiter}
 use Rattle.emtp_case.specs.declared.control.Limiter.TheVariants.{Free}
+use Rattle.emtp_case.specs.held.Control.{AreKnown}
 use Rattle.emtp_blocks.specs.held.Block.{HasState, IsKept, IsLaw, IsLawOf}
 use Rattle.emtp_blocks.specs.System.{block_of, control_matrix, first_out, next_at, output_at, outputs, state_at, states_after}
+use Rattle.emtp_blocks.specs.declared.diagram.BlockDiagram.{BlockDiagram}
+use Rattle.emtp_blocks.specs.declared.inputs.StepValues.{StepValues}
 use Rattle.emtp_blocks.specs.declared.law.BlockLaw.{BlockLaw}
 use Rattle.emtp_blocks.specs.declared.accepting.Accepted.{Accepted}
 use Rattle.emtp_blocks.specs.declared.block_rows.BlockRange.{BlockRange}
@@ -77,12 +80,19 @@ abbrev pub AreLaws : Parts → List BlockLaw → ℕ → Type 0
 AreLaws case laws n = (i : ℕ) (b : Block) → i < n → slice_get case.blocks i ≡ Some b
     → IsLawOf case.run.dt b (slice_index_or laws i no_law)
 
-pub record IsHeld (case : Parts) (places : List (Option ℕ)) (laws : List BlockLaw) (states : List BlockState) (out : List ℤ)
-    : Type 0 where
+-- the table has the block of each variable, and the laws are those of the blocks, in range
+pub record IsDiagramOf (case : Parts) (places : List (Option ℕ)) (laws : List BlockLaw) : Type 0 where
   pub places_are : places ≡ places_of case
   pub law_each : length laws ≡ length case.blocks
   pub laws_are : AreLaws case laws (length case.blocks)
   pub laws_fit : All IsLaw laws
+
+abbrev pub IsDiagram : BlockDiagram → Type 0
+IsDiagram diagram = IsDiagramOf diagram.case.now.parts diagram.places.now diagram.laws.now
+
+pub record IsHeld (case : Parts) (places : List (Option ℕ)) (laws : List BlockLaw) (states : List BlockState) (out : List ℤ)
+    : Type 0 where
+  pub diagram : IsDiagramOf case places laws
   pub state_each : length states ≡ length case.blocks
   pub states_fit : All IsKept states
   pub out_each : length out ≡ length case.blocks
@@ -123,6 +133,11 @@ IsOut case old known xs at = (H : List StepRecord) → StandsAt case old H at �
 pub record AreUnknowns (case : Parts) (xs : List ℤ) : Type 0 where
   pub one_each : length xs ≡ length case.blocks
   pub small : All (λ v. unsigned_abs v ≤ LARGEST_VALUE) xs
+
+-- one value a variable and one solved output a block, each in range
+pub record AreStepValues (case : Parts) (values : StepValues) : Type 0 where
+  pub known : AreKnown case values.known.now
+  pub solved : AreUnknowns case values.solved.now
 
 -- ---- all blocks
 

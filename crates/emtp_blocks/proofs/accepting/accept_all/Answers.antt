@@ -11,21 +11,21 @@ use Rattle.emtp_blocks.proofs.accepting.accept_all.Goals as goal
 
 pub returns-in-None-clause-value : goal.returns-in-None-clause-value
 returns-in-None-clause-value c = λ H stands.
-    let case = c.args.case.now.parts in
+    let case = c.args.diagram.now.case.now.parts in
     let at = c.loop-at.at in
     let left = c.loop-at.invariant.left at (omega arith) in
     let has : (b : Block) → slice_get case.blocks at ≡ Some b → HasState b.order (get_or c.loop-at.states at no_kept) (state_at H at) = λ b here.
     let P : BlockState → Type 0 = λ k. HasState b.order k (state_at H at) in subst P (sym left) (stands at b here) in
-    first_out_is case H c.args.known.now c.args.xs.now at (omega arith) (c.in-None.ensures.out H has) (c.loop-at.invariant.accepted H stands).in_range
+    first_out_is case H c.args.values.now.known.now c.args.values.now.solved.now at (omega arith) (c.in-None.ensures.out H has) (c.loop-at.invariant.accepted H stands).in_range
 
 pub returns-clause-value : goal.returns-clause-value
 returns-clause-value c = λ H stands.
-    let all : c.loop-at.at ≡ length c.args.case.now.parts.blocks = omega arith in
+    let all : c.loop-at.at ≡ length c.args.diagram.now.case.now.parts.blocks = omega arith in
     rw all at (c.loop-at.invariant.accepted H stands)
 
 pub loop-at-preserved : goal.loop-at-preserved
 loop-at-preserved c =
-    let case = c.args.case.now.parts in
+    let case = c.args.diagram.now.case.now.parts in
     let at = c.loop-at.at in
     let a = c.in-Some.accepted in
     let taken = c.in-Some.ensures.taken in
@@ -39,7 +39,7 @@ loop-at-preserved c =
       accepted = λ H stands.
           let has : (b : Block) → slice_get case.blocks at ≡ Some b → HasState b.order (get_or c.loop-at.states at no_kept) (state_at H at) = λ b here.
           let P : BlockState → Type 0 = λ k. HasState b.order k (state_at H at) in subst P (sym left) (stands at b here) in
-          rw (states, out) (accepted_more case c.loop-at.states c.loop-at.out H c.args.known.now c.args.xs.now at (record { output = a.output; state = taken.state }) there there' (taken.gives H has) (c.loop-at.invariant.accepted H stands));
+          rw (states, out) (accepted_more case c.loop-at.states c.loop-at.out H c.args.values.now.known.now c.args.values.now.solved.now at (record { output = a.output; state = taken.state }) there there' (taken.gives H has) (c.loop-at.invariant.accepted H stands));
       small = rw out (set_first (10 ^ 18) c.loop-at.out at a.output there' taken.small c.loop-at.invariant.small);
       left = rw states (left_more c.loop-at.states c.args.states.now at taken.state c.loop-at.invariant.left);
       same = λ still.
@@ -49,8 +49,8 @@ loop-at-preserved c =
 
 pub returns-clause-small : goal.returns-clause-small
 returns-clause-small c =
-    let all : c.loop-at.at ≡ length c.args.case.now.parts.blocks = omega arith in
-    let long : length c.loop-at.out ≡ length c.args.case.now.parts.blocks = omega (arith, c.requires.out) in
+    let all : c.loop-at.at ≡ length c.args.diagram.now.case.now.parts.blocks = omega arith in
+    let long : length c.loop-at.out ≡ length c.args.diagram.now.case.now.parts.blocks = omega (arith, c.requires.out) in
     record { one_each = long; small = all_small (10 ^ 18) c.loop-at.out (λ i below. c.loop-at.invariant.small i (omega (arith, below, all, long))) }
 
 pub returns-in-None-clause-kept : goal.returns-in-None-clause-kept

@@ -9,7 +9,7 @@ use Rattle.emtp_blocks.proofs.accepting.accept_all.Given as goal
 abbrev pub invariant-loop-at : goal.invariant-loop-at
 invariant-loop-at l = record {
   fit : All IsKept l.states;
-  accepted : (H : List StepRecord) → ((i : ℕ) → StandsAt l.case.parts l.fn.states H i) → AreAccepted l.case.parts l.states l.out H l.known l.xs l.at;
+  accepted : (H : List StepRecord) → ((i : ℕ) → StandsAt l.diagram.case.now.parts l.fn.states H i) → AreAccepted l.diagram.case.now.parts l.states l.out H l.values.known.now l.values.solved.now l.at;
   small : (i : ℕ) → i < l.at → unsigned_abs (item l.out i) ≤ LARGEST_VALUE;
   left : (i : ℕ) → l.at ≤ i → slice_index_or l.states i no_kept ≡ slice_index_or l.fn.states i no_kept;
   same : l.moved ≡ false → (i : ℕ) → i < l.at → (slice_index_or l.fn.states i no_kept).limiter ≡ (slice_index_or l.states i no_kept).limiter;

@@ -20,28 +20,28 @@ use Rattle.emtp_blocks.proofs.accepting.accept_one.Goals as goal
 
 pub limits_in_step-limits-requires-clause-low : goal.limits_in_step-limits-requires-clause-low
 limits_in_step-limits-requires-clause-low c =
-    let case = c.args.case.now.parts in
+    let case = c.args.diagram.now.case.now.parts in
     let b = c.index-as_slice-at.result in
     let read : b ≡ get_or case.blocks c.args.at b = rw c.as_slice.ensures at c.index-as_slice-at.is in
-    let fits = let P = λ (y : Block). IsBlock case.run (sizes_of case) y in subst P (sym read) (c.args.case.now.fits.draft.control.blocks c.args.at b c.requires.there) in
-    (sizes_of case, sym c.requires.known.one_each, fits.low)
+    let fits = let P = λ (y : Block). IsBlock case.run (sizes_of case) y in subst P (sym read) (c.args.diagram.now.case.now.fits.draft.control.blocks c.args.at b c.requires.there) in
+    (sizes_of case, sym c.requires.values.known.one_each, fits.low)
 
 pub limits_in_step-limits-requires-clause-high : goal.limits_in_step-limits-requires-clause-high
 limits_in_step-limits-requires-clause-high c =
-    let case = c.args.case.now.parts in
+    let case = c.args.diagram.now.case.now.parts in
     let b = c.index-as_slice-at.result in
     let read : b ≡ get_or case.blocks c.args.at b = rw c.as_slice.ensures at c.index-as_slice-at.is in
-    let fits = let P = λ (y : Block). IsBlock case.run (sizes_of case) y in subst P (sym read) (c.args.case.now.fits.draft.control.blocks c.args.at b c.requires.there) in
-    (sizes_of case, sym c.requires.known.one_each, fits.high)
+    let fits = let P = λ (y : Block). IsBlock case.run (sizes_of case) y in subst P (sym read) (c.args.diagram.now.case.now.fits.draft.control.blocks c.args.at b c.requires.there) in
+    (sizes_of case, sym c.requires.values.known.one_each, fits.high)
 
 pub input_sum-s-requires-clause-places : goal.input_sum-s-requires-clause-places
-input_sum-s-requires-clause-places c = ap length c.requires.places ∙ length-places_of c.args.case.now.parts ∙ sym c.requires.known.one_each
+input_sum-s-requires-clause-places c = ap length c.requires.diagram.places_are ∙ length-places_of c.args.diagram.now.case.now.parts ∙ sym c.requires.values.known.one_each
 
 pub input_sum-s-requires-clause-blocks : goal.input_sum-s-requires-clause-blocks
 input_sum-s-requires-clause-blocks c = λ k d below x is.
-    let e = c.requires.places in
-    let there = place_there c.args.case.now.parts k d x (rw e at below) (rw e at is) in
-    omega (arith, there, c.requires.xs.one_each)
+    let e = c.requires.diagram.places_are in
+    let there = place_there c.args.diagram.now.case.now.parts k d x (rw e at below) (rw e at is) in
+    omega (arith, there, c.requires.values.solved.one_each)
 
 small_64 : (z : ℤ) → unsigned_abs z ≤ LARGEST_VALUE → unsigned_abs (to_z w64 (of_z w64 z)) ≤ LARGEST_VALUE
 small_64 z small = subst (λ (y : ℤ). unsigned_abs y ≤ LARGEST_VALUE) (sym (through_64 z small)) small
@@ -54,18 +54,18 @@ returns-in-Some-clause-taken c = record {
   kept = c.in-Some.ensures.kept;
   small = small_64 c.output-x.result c.output-x.ensures.small;
   gives = λ H stands.
-      let case = c.args.case.now.parts in
+      let case = c.args.diagram.now.case.now.parts in
       let at = c.args.at in
-      let known = c.args.known.now in
-      let xs = c.args.xs.now in
+      let known = c.args.values.now.known.now in
+      let xs = c.args.values.now.solved.now in
       let b = c.index-as_slice-at.result in
       let size = ap length c.as_slice.ensures in
       let read : b ≡ get_or case.blocks at b = rw c.as_slice.ensures at c.index-as_slice-at.is in
       let here : slice_get case.blocks at ≡ Some b = slice_get-get_or case.blocks at b c.requires.there ∙ ap Some (sym read) in
-      let fits = let P = λ (y : Block). IsBlock case.run (sizes_of case) y in subst P (sym read) (c.args.case.now.fits.draft.control.blocks at b c.requires.there) in
-      let law = c.requires.laws at b c.requires.there here in
+      let fits = let P = λ (y : Block). IsBlock case.run (sizes_of case) y in subst P (sym read) (c.args.diagram.now.case.now.fits.draft.control.blocks at b c.requires.there) in
+      let law = c.requires.diagram.laws_are at b c.requires.there here in
       let has = stands b here in
-      let small = c.requires.xs.small at (pos 0) (omega (arith, c.requires.there, c.requires.xs.one_each)) in
+      let small = c.requires.values.solved.small at (pos 0) (omega (arith, c.requires.there, c.requires.values.solved.one_each)) in
       let solved : to_z w64 (of_z w64 (item xs at)) ≡ item xs at = through_64 (item xs at) small in
       let x : to_z w64 (of_z w64 c.output-x.result) ≡ c.output-x.result = through_64 _ c.output-x.ensures.small in
       let s : to_z w64 (of_z w64 c.input_sum-s.result) ≡ c.input_sum-s.result = omega (arith, ints, c.input_sum-s.ensures.small) in
@@ -73,7 +73,7 @@ returns-in-Some-clause-taken c = record {
       let out : c.output-x.result ≡ output_of (limits_of known b) (state_at H at).limiter (item xs at) =
       rw solved at c.output-x.ensures.value ∙ ap (λ (l : Limits). output_of l (get_or c.args.states.now at no_kept).limiter (item xs at)) lim ∙ ap (λ l. output_of (limits_of known b) l (item xs at)) has.limiter_is in
       let sum : c.input_sum-s.result ≡ input_sum (block_of case) known xs at c.output-x.result b.inputs =
-      rw (x, c.as_slice-2.ensures, c.requires.places) at c.input_sum-s.ensures.value ∙ input_sum_is case known xs at c.output-x.result b.inputs fits.inputs in
+      rw (x, c.as_slice-2.ensures, c.requires.diagram.places_are) at c.input_sum-s.ensures.value ∙ input_sum_is case known xs at c.output-x.result b.inputs fits.inputs in
       let keeps = c.in-Some.ensures.value case.run.dt (state_at H at) law has in
       let K : Limits → ℤ → ℤ → Type 0 = λ l v n. Keeps b.order (Some c.in-Some.state) (next_state case.run.dt b l (state_at H at) v n) in
       let K1 : Limits → Type 0 = λ l. K l (item xs at) c.input_sum-s.result in
@@ -84,18 +84,18 @@ returns-in-Some-clause-taken c = record {
 
 pub returns-in-None-clause-out : goal.returns-in-None-clause-out
 returns-in-None-clause-out c = λ H stands.
-    let case = c.args.case.now.parts in
+    let case = c.args.diagram.now.case.now.parts in
     let at = c.args.at in
-    let known = c.args.known.now in
-    let xs = c.args.xs.now in
+    let known = c.args.values.now.known.now in
+    let xs = c.args.values.now.solved.now in
     let b = c.index-as_slice-at.result in
     let size = ap length c.as_slice.ensures in
     let read : b ≡ get_or case.blocks at b = rw c.as_slice.ensures at c.index-as_slice-at.is in
     let here : slice_get case.blocks at ≡ Some b = slice_get-get_or case.blocks at b c.requires.there ∙ ap Some (sym read) in
-    let fits = let P = λ (y : Block). IsBlock case.run (sizes_of case) y in subst P (sym read) (c.args.case.now.fits.draft.control.blocks at b c.requires.there) in
-    let law = c.requires.laws at b c.requires.there here in
+    let fits = let P = λ (y : Block). IsBlock case.run (sizes_of case) y in subst P (sym read) (c.args.diagram.now.case.now.fits.draft.control.blocks at b c.requires.there) in
+    let law = c.requires.diagram.laws_are at b c.requires.there here in
     let has = stands b here in
-    let small = c.requires.xs.small at (pos 0) (omega (arith, c.requires.there, c.requires.xs.one_each)) in
+    let small = c.requires.values.solved.small at (pos 0) (omega (arith, c.requires.there, c.requires.values.solved.one_each)) in
     let solved : to_z w64 (of_z w64 (item xs at)) ≡ item xs at = through_64 (item xs at) small in
     let x : to_z w64 (of_z w64 c.output-x.result) ≡ c.output-x.result = through_64 _ c.output-x.ensures.small in
     let s : to_z w64 (of_z w64 c.input_sum-s.result) ≡ c.input_sum-s.result = omega (arith, ints, c.input_sum-s.ensures.small) in
@@ -103,7 +103,7 @@ returns-in-None-clause-out c = λ H stands.
     let out : c.output-x.result ≡ output_of (limits_of known b) (state_at H at).limiter (item xs at) =
     rw solved at c.output-x.ensures.value ∙ ap (λ (l : Limits). output_of l (get_or c.args.states.now at no_kept).limiter (item xs at)) lim ∙ ap (λ l. output_of (limits_of known b) l (item xs at)) has.limiter_is in
     let sum : c.input_sum-s.result ≡ input_sum (block_of case) known xs at c.output-x.result b.inputs =
-    rw (x, c.as_slice-2.ensures, c.requires.places) at c.input_sum-s.ensures.value ∙ input_sum_is case known xs at c.output-x.result b.inputs fits.inputs in
+    rw (x, c.as_slice-2.ensures, c.requires.diagram.places_are) at c.input_sum-s.ensures.value ∙ input_sum_is case known xs at c.output-x.result b.inputs fits.inputs in
     let keeps = c.in-None.ensures.value case.run.dt (state_at H at) law has in
     let K : Limits → ℤ → ℤ → Type 0 = λ l v n. Keeps b.order None (next_state case.run.dt b l (state_at H at) v n) in
     let K1 : Limits → Type 0 = λ l. K l (item xs at) c.input_sum-s.result in
@@ -117,7 +117,7 @@ block_is : (case : Parts) (seen : List Block) (at : ℕ) (b : Block) → All (Is
 block_is case seen at b fit there same read = subst (IsBlock case.run (sizes_of case)) (sym (read ∙ ap (λ (xs : List Block). get_or xs at b) same)) (fit at b there)
 
 pub limits_in_step-limits-requires-clause-known : goal.limits_in_step-limits-requires-clause-known
-limits_in_step-limits-requires-clause-known c = c.requires.known.small
+limits_in_step-limits-requires-clause-known c = c.requires.values.known.small
 
 pub output-x-requires-clause-high : goal.output-x-requires-clause-high
 output-x-requires-clause-high c = c.limits_in_step-limits.ensures.high
@@ -126,39 +126,35 @@ pub output-x-requires-clause-low : goal.output-x-requires-clause-low
 output-x-requires-clause-low c = c.limits_in_step-limits.ensures.low
 
 pub output-x-requires-clause-solved : goal.output-x-requires-clause-solved
-output-x-requires-clause-solved c = small_64 (item c.args.xs.now c.args.at) (c.requires.xs.small c.args.at (pos 0) (omega (arith, c.requires.there, c.requires.xs.one_each)))
+output-x-requires-clause-solved c = small_64 (item c.args.values.now.solved.now c.args.at) (c.requires.values.solved.small c.args.at (pos 0) (omega (arith, c.requires.there, c.requires.values.solved.one_each)))
 
 pub input_sum-s-requires-clause-x : goal.input_sum-s-requires-clause-x
 input_sum-s-requires-clause-x c = small_64 c.output-x.result c.output-x.ensures.small
 
 pub input_sum-s-requires-clause-few : goal.input_sum-s-requires-clause-few
-input_sum-s-requires-clause-few c = subst (λ (xs : List Input). length xs ≤ 5) (sym c.as_slice-2.ensures) (block_is c.args.case.now.parts c.as_slice.result.now c.args.at c.index-as_slice-at.result c.args.case.now.fits.draft.control.blocks c.requires.there c.as_slice.ensures c.index-as_slice-at.is).few_inputs
+input_sum-s-requires-clause-few c = subst (λ (xs : List Input). length xs ≤ 5) (sym c.as_slice-2.ensures) (block_is c.args.diagram.now.case.now.parts c.as_slice.result.now c.args.at c.index-as_slice-at.result c.args.diagram.now.case.now.fits.draft.control.blocks c.requires.there c.as_slice.ensures c.index-as_slice-at.is).few_inputs
 
 pub input_sum-s-requires-clause-there : goal.input_sum-s-requires-clause-there
 input_sum-s-requires-clause-there c =
-    let named = subst (λ n. All (λ (i : Input). i.var < n) c.index-as_slice-at.result.inputs) (sym c.requires.known.one_each) (block_is c.args.case.now.parts c.as_slice.result.now c.args.at c.index-as_slice-at.result c.args.case.now.fits.draft.control.blocks c.requires.there c.as_slice.ensures c.index-as_slice-at.is).inputs in
-    subst (λ (xs : List Input). All (λ (i : Input). i.var < length c.args.known.now) xs) (sym c.as_slice-2.ensures) named
+    let named = subst (λ n. All (λ (i : Input). i.var < n) c.index-as_slice-at.result.inputs) (sym c.requires.values.known.one_each) (block_is c.args.diagram.now.case.now.parts c.as_slice.result.now c.args.at c.index-as_slice-at.result c.args.diagram.now.case.now.fits.draft.control.blocks c.requires.there c.as_slice.ensures c.index-as_slice-at.is).inputs in
+    subst (λ (xs : List Input). All (λ (i : Input). i.var < length c.args.values.now.known.now) xs) (sym c.as_slice-2.ensures) named
 
 pub next-requires-clause-order : goal.next-requires-clause-order
-next-requires-clause-order c = (block_is c.args.case.now.parts c.as_slice.result.now c.args.at c.index-as_slice-at.result c.args.case.now.fits.draft.control.blocks c.requires.there c.as_slice.ensures c.index-as_slice-at.is).order
+next-requires-clause-order c = (block_is c.args.diagram.now.case.now.parts c.as_slice.result.now c.args.at c.index-as_slice-at.result c.args.diagram.now.case.now.fits.draft.control.blocks c.requires.there c.as_slice.ensures c.index-as_slice-at.is).order
 
 pub next-requires-clause-gain : goal.next-requires-clause-gain
-next-requires-clause-gain c = (block_is c.args.case.now.parts c.as_slice.result.now c.args.at c.index-as_slice-at.result c.args.case.now.fits.draft.control.blocks c.requires.there c.as_slice.ensures c.index-as_slice-at.is).gain
+next-requires-clause-gain c = (block_is c.args.diagram.now.case.now.parts c.as_slice.result.now c.args.at c.index-as_slice-at.result c.args.diagram.now.case.now.fits.draft.control.blocks c.requires.there c.as_slice.ensures c.index-as_slice-at.is).gain
 
 pub next-requires-clause-law : goal.next-requires-clause-law
-next-requires-clause-law c = c.requires.laws_fit c.args.at no_law (omega (arith, c.requires.law_each, c.requires.there))
+next-requires-clause-law c = c.requires.diagram.laws_fit c.args.at no_law (omega (arith, c.requires.diagram.law_each, c.requires.there))
 
 pub next-requires-clause-old : goal.next-requires-clause-old
 next-requires-clause-old c = c.requires.state
 
-pub next-requires-clause-solved : goal.next-requires-clause-solved
-next-requires-clause-solved c = small_64 (item c.args.xs.now c.args.at) (c.requires.xs.small c.args.at (pos 0) (omega (arith, c.requires.there, c.requires.xs.one_each)))
-
-pub next-requires-clause-x : goal.next-requires-clause-x
-next-requires-clause-x c = small_64 c.output-x.result c.output-x.ensures.small
-
-pub next-requires-clause-output : goal.next-requires-clause-output
-next-requires-clause-output c = through_64 c.output-x.result c.output-x.ensures.small ∙ c.output-x.ensures.value
-
-pub next-requires-clause-s : goal.next-requires-clause-s
-next-requires-clause-s c = omega (arith, ints, c.input_sum-s.ensures.small)
+pub next-requires-clause-signals : goal.next-requires-clause-signals
+next-requires-clause-signals c = record {
+  sum = omega (arith, ints, c.input_sum-s.ensures.small);
+  solved = small_64 (item c.args.values.now.solved.now c.args.at) (c.requires.values.solved.small c.args.at (pos 0) (omega (arith, c.requires.there, c.requires.values.solved.one_each)));
+  output = small_64 c.output-x.result c.output-x.ensures.small;
+  limited = through_64 c.output-x.result c.output-x.ensures.small ∙ c.output-x.ensures.value;
+}

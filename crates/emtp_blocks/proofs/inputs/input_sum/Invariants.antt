@@ -6,6 +6,6 @@ use Rattle.emtp_blocks.proofs.inputs.input_sum.Given as goal
 
 abbrev pub invariant-loop-input : goal.invariant-loop-input
 invariant-loop-input l = record {
-  value : l.sum ≡ input_sum (place_in l.places) l.known l.xs l.at l.x (take l.input-index l.inputs);
+  value : l.sum ≡ input_sum (place_in l.places) l.values.known.now l.values.solved.now l.at l.x (take l.input-index l.inputs);
   small : unsigned_abs l.sum ≤ l.input-index * LARGEST_VALUE;
 }

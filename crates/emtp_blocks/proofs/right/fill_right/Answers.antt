@@ -8,7 +8,7 @@ use Rattle.emtp_blocks.proofs.right.fill_right.Goals as goal
 
 pub loop-at-preserved : goal.loop-at-preserved
 loop-at-preserved c =
-    let case = c.args.case.now.parts in
+    let case = c.args.diagram.now.case.now.parts in
     let at = c.loop-at.at in
     let r : to_z w128 (of_z w128 c.right_of.result) ≡ c.right_of.result = through _ (omega (arith, c.right_of.ensures.small)) in
     let inside : at < length c.loop-at.rhs = omega (arith, c.requires.rhs) in
@@ -19,5 +19,5 @@ loop-at-preserved c =
 
 pub returns-clause-value : goal.returns-clause-value
 returns-clause-value c = λ H stands.
-    let all : c.loop-at.at ≡ length c.args.case.now.parts.blocks = omega arith in
-    right_all c.args.case.now.parts H c.args.known.now c.loop-at.rhs (omega (arith, c.requires.rhs)) (λ i below. c.loop-at.invariant.done H stands i (omega (arith, all, below)))
+    let all : c.loop-at.at ≡ length c.args.diagram.now.case.now.parts.blocks = omega arith in
+    right_all c.args.diagram.now.case.now.parts H c.args.known.now c.loop-at.rhs (omega (arith, c.requires.rhs)) (λ i below. c.loop-at.invariant.done H stands i (omega (arith, all, below)))

@@ -7,6 +7,6 @@ use Rattle.emtp_blocks.proofs.right.fill_right.Given as goal
 
 abbrev pub invariant-loop-at : goal.invariant-loop-at
 invariant-loop-at l = record {
-  done : (H : List StepRecord) → ((i : ℕ) → StandsAt l.case.parts l.states H i) → (i : ℕ) → i < l.at → item l.rhs i ≡ right_by l.case.parts H l.known i (slice_get l.case.parts.blocks i);
+  done : (H : List StepRecord) → ((i : ℕ) → StandsAt l.diagram.case.now.parts l.states H i) → (i : ℕ) → i < l.at → item l.rhs i ≡ right_by l.diagram.case.now.parts H l.known i (slice_get l.diagram.case.now.parts.blocks i);
   small : (i : ℕ) → i < l.at → unsigned_abs (item l.rhs i) ≤ 10 ^ 36;
 }

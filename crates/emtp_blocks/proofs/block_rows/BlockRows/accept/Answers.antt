@@ -1,11 +1,12 @@
 use Rattle.std.proofs.Common.{◌≡◌, ◌∙◌, sym, ap, subst, [], ◌∷◌, ◌++◌, ℕ, ℤ, All, List, length, arith, take, take_at, drop, Option}
-use Rattle.emtp_blocks.specs.held.Block.{IsKept, IsLaw}
-use Rattle.emtp_blocks.specs.held.BlockRows.{AreLaws, AreUnknowns, Blocking, IsHeld, StandsAt, StandsFor, limiters_kept}
+use Rattle.emtp_blocks.specs.held.Block.{IsKept}
+use Rattle.emtp_blocks.specs.held.BlockRows.{AreUnknowns, Blocking, IsHeld, StandsAt, StandsFor, limiters_kept}
 use Rattle.emtp_blocks.specs.declared.law.BlockLaw.{BlockLaw}
 use Rattle.emtp_case.specs.held.Control.{AreKnown}
 use Rattle.emtp_case.specs.declared.case.Parts.{Parts}
 use Rattle.emtp_case.specs.declared.control.BlockState.{BlockState}
 use Rattle.emtp_blocks.proofs.OneByOne.{none_out_is, outputs_all, stands_next, limiters_same}
+use Rattle.emtp_blocks.proofs.Systems.{diagram_seen}
 use Rattle.emtp_blocks.proofs.block_rows.BlockRows.accept.Goals as goal
 
 pub returns-in-Err-clause-value : goal.returns-in-Err-clause-value
@@ -58,17 +59,8 @@ returns-clause-small c =
     let P : Blocking → Type 0 = λ s. AreUnknowns s.case c.copy_from_slice.new.self in
     subst P c.self.view_is here
 
-pub accept_all-requires-clause-places : goal.accept_all-requires-clause-places
-accept_all-requires-clause-places c = c.deref.ensures.value ∙ c.self.invariant.places_are
-
-pub accept_all-requires-clause-law_each : goal.accept_all-requires-clause-law_each
-accept_all-requires-clause-law_each c = ap length c.deref-2.ensures.value ∙ c.self.invariant.law_each
-
-pub accept_all-requires-clause-laws : goal.accept_all-requires-clause-laws
-accept_all-requires-clause-laws c = subst (λ (ls : List BlockLaw). AreLaws c.self.inside.case.now.parts ls (length c.self.inside.case.now.parts.blocks)) (sym c.deref-2.ensures.value) c.self.invariant.laws_are
-
-pub accept_all-requires-clause-laws_fit : goal.accept_all-requires-clause-laws_fit
-accept_all-requires-clause-laws_fit c = subst (All IsLaw) (sym c.deref-2.ensures.value) c.self.invariant.laws_fit
+pub accept_all-requires-clause-diagram : goal.accept_all-requires-clause-diagram
+accept_all-requires-clause-diagram c = diagram_seen c.self.inside.case.now.parts _ _ _ _ c.deref.ensures.value c.deref-2.ensures.value c.self.invariant.diagram
 
 pub accept_all-requires-clause-state_each : goal.accept_all-requires-clause-state_each
 accept_all-requires-clause-state_each c = ap length c.deref_mut.ensures.value ∙ c.self.invariant.state_each
@@ -76,14 +68,14 @@ accept_all-requires-clause-state_each c = ap length c.deref_mut.ensures.value �
 pub accept_all-requires-clause-states_fit : goal.accept_all-requires-clause-states_fit
 accept_all-requires-clause-states_fit c = subst (All IsKept) (sym c.deref_mut.ensures.value) c.self.invariant.states_fit
 
-pub accept_all-requires-clause-known : goal.accept_all-requires-clause-known
-accept_all-requires-clause-known c = subst (λ (s : Blocking). AreKnown s.case c.args.known.now) (sym c.self.view_is) c.requires.known
+pub accept_all-requires-clause-values : goal.accept_all-requires-clause-values
+accept_all-requires-clause-values c = record {
+  known = subst (λ (s : Blocking). AreKnown s.case c.args.known.now) (sym c.self.view_is) c.requires.known;
+  solved = subst (λ (s : Blocking). AreUnknowns s.case c.args.x.now) (sym c.self.view_is) c.requires.x;
+}
 
 pub accept_all-requires-clause-out : goal.accept_all-requires-clause-out
 accept_all-requires-clause-out c = ap length c.deref_mut-2.ensures.value ∙ c.self.invariant.out_each
-
-pub accept_all-requires-clause-xs : goal.accept_all-requires-clause-xs
-accept_all-requires-clause-xs c = subst (λ (s : Blocking). AreUnknowns s.case c.args.x.now) (sym c.self.view_is) c.requires.x
 
 -- lists of the same lengths are written over those that were held
 still_held : (case : Parts) (places : List (Option ℕ)) (laws : List BlockLaw) (states states-2 : List BlockState) (out out-2 : List ℤ) (n m : ℕ) → IsHeld case places laws states out → length states-2 ≡ n → n ≡ length states → length out-2 ≡ m → m ≡ length out → All IsKept states-2
@@ -92,10 +84,7 @@ still_held case places laws states states-2 out out-2 n m held sized states_size
     let S = take_at states-2 (drop (length states-2) states) n sized in
     let O = take_at out-2 (drop (length out-2) out) m out_sized in
     record {
-      places_are = held.places_are;
-      law_each = held.law_each;
-      laws_are = held.laws_are;
-      laws_fit = held.laws_fit;
+      diagram = held.diagram;
       state_each = ap length S ∙ sized ∙ states_sized ∙ held.state_each;
       states_fit = subst (All IsKept) (sym S) kept;
       out_each = ap length O ∙ out_sized ∙ out_held ∙ held.out_each;

@@ -1,23 +1,14 @@
 use Rattle.std.proofs.Common.{◌∙◌, sym, ap, subst, All, length, ℕ, List}
 use Rattle.emtp_case.specs.held.Control.{AreKnown}
 use Rattle.emtp_case.specs.declared.control.BlockState.{BlockState}
-use Rattle.emtp_blocks.specs.held.Block.{IsKept, IsLaw}
-use Rattle.emtp_blocks.specs.held.BlockRows.{AreLaws, Blocking, StandsAt, StandsFor}
+use Rattle.emtp_blocks.specs.held.Block.{IsKept}
+use Rattle.emtp_blocks.specs.held.BlockRows.{Blocking, StandsAt, StandsFor}
 use Rattle.emtp_blocks.specs.System.{right}
-use Rattle.emtp_blocks.specs.declared.law.BlockLaw.{BlockLaw}
+use Rattle.emtp_blocks.proofs.Systems.{diagram_seen}
 use Rattle.emtp_blocks.proofs.block_rows.BlockRows.history.Goals as goal
 
-pub fill_right-requires-clause-places : goal.fill_right-requires-clause-places
-fill_right-requires-clause-places c = c.deref.ensures.value ∙ c.self.invariant.places_are
-
-pub fill_right-requires-clause-law_each : goal.fill_right-requires-clause-law_each
-fill_right-requires-clause-law_each c = ap length c.deref-2.ensures.value ∙ c.self.invariant.law_each
-
-pub fill_right-requires-clause-laws : goal.fill_right-requires-clause-laws
-fill_right-requires-clause-laws c = subst (λ (ls : List BlockLaw). AreLaws c.self.inside.case.now.parts ls (length c.self.inside.case.now.parts.blocks)) (sym c.deref-2.ensures.value) c.self.invariant.laws_are
-
-pub fill_right-requires-clause-laws_fit : goal.fill_right-requires-clause-laws_fit
-fill_right-requires-clause-laws_fit c = subst (All IsLaw) (sym c.deref-2.ensures.value) c.self.invariant.laws_fit
+pub fill_right-requires-clause-diagram : goal.fill_right-requires-clause-diagram
+fill_right-requires-clause-diagram c = diagram_seen c.self.inside.case.now.parts _ _ _ _ c.deref.ensures.value c.deref-2.ensures.value c.self.invariant.diagram
 
 pub fill_right-requires-clause-state_each : goal.fill_right-requires-clause-state_each
 fill_right-requires-clause-state_each c = ap length c.deref-3.ensures.value ∙ c.self.invariant.state_each
