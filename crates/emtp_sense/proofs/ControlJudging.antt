@@ -1,4 +1,5 @@
 -- What is known of the cards of the control that have no fault of sense.
+use Rattle.emtp_fix.proofs.Chaining.{unless_ok}
 use Rattle.emtp_fix.specs.Chain.{unless}
 use Rattle.emtp_case.specs.declared.limit.TheConstants.{MOST_CONTROL_CARDS, MOST_HISTORY_VALUES}
 use Rattle.std.proofs.Common.{Bool, List, None, Option, Result, Some, [], arith, false, length, refl, subst, true, ℕ, ℤ, ◌+◌, ◌<◌, ◌∷◌, ◌≡◌, ◌≤◌, Ok, pos, unsigned_abs, ◌*ℤ◌, ◌*◌, ◌^◌, add-one, ap, drop, get_or, suc, sym, ◌∙◌}
@@ -193,10 +194,6 @@ extra_fine variables dt at next history (FormulaEntry card) e =
       names = known_names variables card.parsed.names (not_second (list_any (is_unknown variables) card.parsed.names) (record { column = 12; why = UnknownName }) none.1.1.0);
     }
 
-judged : (bad : Option Bad) (rest : Result ℕ Bad) (h : ℕ) → unless bad (λ bad. bad) rest ≡ Ok h → (bad ≡ None) × (rest ≡ Ok h)
-judged (Some bad) rest h e = absurd (cc)
-judged None rest h e = (refl, e)
-
 pub record AreFineExtras (variables : List (List ℕ)) (dt : ℤ) (first at history : ℕ) (es : List ExtraEntry) (all : ℕ) : Type 0 where
   pub few : at + length es ≤ MOST_CONTROL_CARDS
   pub above : AreAbove extra_name variables (first + at) es
@@ -210,7 +207,7 @@ extras_fine variables dt first at history [] all room e =
     record { few = omega arith; above = tt; names = All-nil (IsKnownExtra variables); sum = omega (arith, same); total = λ h. omega (arith, same, h) }
 extras_fine variables dt first at history (x ∷ xs) all room e =
     let sum = history + entry_history_values dt x in
-    let none = judged (extra_bad variables at (first + at) sum x) (judge_extras variables dt first (at + 1) sum xs) all e in
+    let none = unless_ok (extra_bad variables at (first + at) sum x) (λ bad. bad) (judge_extras variables dt first (at + 1) sum xs) all e in
     let here = extra_fine variables dt at (first + at) history x none.0 in
     let behind = extras_fine variables dt first (at + 1) sum xs all (omega (arith, here.room)) none.1 in
     let same : first + (at + 1) ≡ first + at + 1 = omega arith in
