@@ -1,5 +1,5 @@
 -- Beside `Branches`: what values hold for their proofs, and what premises say. No clause of the program reaches it.
-use Rattle.std.specs.Prelude.{List, Option, Result, length, ℕ, ◌+◌, ◌++◌, ◌≡◌}
+use Rattle.std.specs.Prelude.{List, Ok, Option, Result, length, ℕ, ◌+◌, ◌++◌, ◌≡◌}
 use Rattle.emtp_fix.specs.Chain.{unless}
 use Rattle.emtp_card.specs.declared.reason.Bad.{Bad}
 use Rattle.emtp_case.specs.HistoryValues.{history_values_of}
