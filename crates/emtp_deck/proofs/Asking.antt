@@ -1,13 +1,12 @@
 -- How many channels the cards of a section ask for, where no card has a fault of sense; the nodes stay.
+use Rattle.emtp_fix.proofs.Chaining.{same_ok, then_ok, unless_ok}
 use Rattle.emtp_fix.specs.Chain.{unless}
 use Rattle.emtp_case.specs.declared.branch.Trio as modes
-use Rattle.std.proofs.Common.{◌≡◌, ◌∙◌, sym, ap, refl, ℕ, ◌+◌, List, [], ◌∷◌, length, fold, Option, Some, None, Result, Ok, Err, arith, length-append, ◌++◌}
+use Rattle.std.proofs.Common.{◌≡◌, ◌∙◌, sym, ap, refl, ℕ, ◌+◌, List, [], ◌∷◌, length, fold, Option, Some, None, Ok, arith, length-append, ◌++◌}
 use Rattle.std.proofs.lemmas.List.Sums.{sum_by-cons}
 use Rattle.std.specs.List.{sum_by}
 use Rattle.std.specs.Prelude.{if◌then◌else◌, is_some, option_map, position, map}
 use Rattle.std.specs.Str.{bytes_eq}
-use Rattle.emtp_card.specs.declared.fault.Fault.{Fault}
-use Rattle.emtp_card.specs.declared.reason.Bad.{Bad}
 use Rattle.emtp_case.specs.declared.branch.Branch.{Branch}
 use Rattle.emtp_case.specs.declared.branch.Phase.{Phase}
 use Rattle.emtp_case.specs.declared.branch.Point.{Point}
@@ -72,17 +71,8 @@ same_asking m = record { nodes = refl; run = refl; control = record { vars = ref
 
 -- ---- what was no fault
 
-pub go_on_ok : {A B : Type 0} (f : A → Result B Bad) (r : Result A Bad) (y : B) → go_on f r ≡ Ok y → (x : A) × (r ≡ Ok x) × (f x ≡ Ok y)
-go_on_ok f (Ok x) y e = (x, refl, e)
-go_on_ok f (Err bad) y e = absurd (cc)
-
-pub unless_bad_ok : {A : Type 0} (bad : Option Bad) (x y : A) → unless bad (λ bad. bad) (Ok x) ≡ Ok y → x ≡ y
-unless_bad_ok (Some bad) x y e = absurd (cc)
-unless_bad_ok None x y e = cc
-
-pub unless_fault_ok : {A : Type 0} (line : ℕ) (fault : Option Fault) (x y : A) → unless fault (bad_at line) (Ok x) ≡ Ok y → x ≡ y
-unless_fault_ok line (Some fault) x y e = absurd (cc)
-unless_fault_ok line None x y e = cc
+pub no_fault : {X A E : Type 0} (o : Option X) (error : X → E) (x y : A) → unless o error (Ok x) ≡ Ok y → (o ≡ None) × (x ≡ y)
+no_fault o error x y e = let s = unless_ok o error (Ok x) y e in (s.0, same_ok x y s.1)
 
 -- ---- branches
 
@@ -124,7 +114,7 @@ more_branches v o b s t c n e = omega (arith, e)
 pub entry_asks : (points : List Point) (m m' : Made) (e : BranchEntry) → take_entry points m e ≡ Ok m' → IsAsking m m' 0 (entry_count e)
 unfolding take_entry
 entry_asks points m m' e h =
-    let is = unless_bad_ok (entry_fault m e) (with_entry points m e) m' h in
+    let is = (no_fault (entry_fault m e) (λ bad. bad) (with_entry points m e) m' h).1 in
     let added = length_entry (length m.parts.branches) e in
     let keeps = branches_kept points m.parts e in
     rw (sym is) (record {
@@ -152,7 +142,7 @@ after a b d e = record {
 pub branches_ask : (points : List Point) (m m' : Made) (es : List BranchEntry) → take_branches points m es ≡ Ok m' → IsAsking m m' 0 (sum_by entry_count es)
 branches_ask points m m' [] h = let is : m ≡ m' = cc in rw (sym is) (same_asking m)
 branches_ask points m m' (e ∷ es) h =
-    let s = go_on_ok (λ (made : Made). take_branches points made es) (take_entry points m e) m' h in
+    let s = then_ok (take_entry points m e) (λ (made : Made). take_branches points made es) m' h in
     let first = entry_asks points m s.0 e s.1 in
     let rest = branches_ask points s.0 m' es s.2 in
     after first rest refl (sum_by-cons entry_count e es)
@@ -162,7 +152,7 @@ branches_ask points m m' (e ∷ es) h =
 pub switch_asks : (m m' : Made) (card : SwitchCard) → take_switch m card ≡ Ok m' → IsAsking m m' 1 (count_of_switch card)
 unfolding take_switch
 switch_asks m m' card h =
-    let is = unless_fault_ok card.line (switch_fault m card) (with_switch m card) m' h in
+    let is = (no_fault (switch_fault m card) (bad_at card.line) (with_switch m card) m' h).1 in
     let at = length m.parts.switches in
     let shown = channels_of card.asked (SwitchCurrent at) (SwitchVoltage at) in
     rw (sym is) (record {
@@ -176,7 +166,7 @@ switch_asks m m' card h =
 pub switches_ask : (m m' : Made) (cards : List SwitchCard) → take_switches m cards ≡ Ok m' → IsAsking m m' (length cards) (sum_by count_of_switch cards)
 switches_ask m m' [] h = let is : m ≡ m' = cc in rw (sym is) (same_asking m)
 switches_ask m m' (card ∷ cards) h =
-    let s = go_on_ok (λ (made : Made). take_switches made cards) (take_switch m card) m' h in
+    let s = then_ok (take_switch m card) (λ (made : Made). take_switches made cards) m' h in
     let first = switch_asks m s.0 card s.1 in
     let rest = switches_ask s.0 m' cards s.2 in
     after first rest (omega arith) (sum_by-cons count_of_switch card cards)
@@ -191,13 +181,13 @@ source_asks : (m m' : Made) (card : SourceCard) → take_source m card ≡ Ok m'
 unfolding take_source
 source_asks m m' card h =
     let node = find_node m.parts.nodes card.name in
-    let is = unless_fault_ok card.line (source_fault m.parts card node) (with_source m card node) m' h in
+    let is = (no_fault (source_fault m.parts card node) (bad_at card.line) (with_source m card node) m' h).1 in
     rw (sym is) (source_added m card node)
 
 pub sources_ask : (m m' : Made) (cards : List SourceCard) → take_sources m cards ≡ Ok m' → IsAsking m m' 0 0
 sources_ask m m' [] h = let is : m ≡ m' = cc in rw (sym is) (same_asking m)
 sources_ask m m' (card ∷ cards) h =
-    let s = go_on_ok (λ (made : Made). take_sources made cards) (take_source m card) m' h in
+    let s = then_ok (take_source m card) (λ (made : Made). take_sources made cards) m' h in
     let first = source_asks m s.0 card s.1 in
     let rest = sources_ask s.0 m' cards s.2 in
     after first rest refl refl
@@ -211,7 +201,7 @@ channels_added Variable m channels = record { nodes = refl; run = refl; control 
 channel_asks : (named : Named) (line : ℕ) (m m' : Made) (column : ℕ) (channel : Option Channel) → unless (name_fault m.asked column channel) (bad_at line) (Ok (with_channel named m channel)) ≡ Ok m' → IsAsking m m' 0 (if◌then◌else◌ {A = ℕ} (is_some channel) 1 0)
 channel_asks named line m m' column None h = absurd (cc)
 channel_asks named line m m' column (Some channel) h =
-    let is = unless_fault_ok line (name_fault m.asked column (Some channel)) (with_channels named m (channel ∷ [])) m' h in
+    let is = (no_fault (name_fault m.asked column (Some channel)) (bad_at line) (with_channels named m (channel ∷ [])) m' h).1 in
     rw (sym is) (channels_added named m (channel ∷ []))
 
 -- what the names of a card can be
@@ -239,7 +229,7 @@ name_asks named line m m' column (Some name) h = rw (is_known named m.parts name
 names_ask : (named : Named) (line : ℕ) (m m' : Made) (column : ℕ) (names : List (Option (List ℕ))) → take_names named line m column names ≡ Ok m' → IsAsking m m' 0 (sum_by (name_count (names_of named m.parts)) names)
 names_ask named line m m' column [] h = let is : m ≡ m' = cc in rw (sym is) (same_asking m)
 names_ask named line m m' column (name ∷ names) h =
-    let s = go_on_ok (λ (made : Made). take_names named line made (column + 6) names) (take_name named line m column name) m' h in
+    let s = then_ok (take_name named line m column name) (λ (made : Made). take_names named line made (column + 6) names) m' h in
     let first = name_asks named line m s.0 column name s.1 in
     let rest = names_ask named line s.0 m' (column + 6) names s.2 in
     let same = same_names named m s.0 0 (name_count (names_of named m.parts) name) first in
@@ -249,7 +239,7 @@ output_asks : (line : ℕ) (m m' : Made) (card : OutputCard) → take_output lin
 unfolding take_all_nodes
 output_asks line m m' AllNodes h =
     let nodes = length m.parts.nodes in
-    let is = unless_fault_ok line (too_many (no_room m.asked nodes) 1) (with_channels Node m (node_channels nodes)) m' h in
+    let is = (no_fault (too_many (no_room m.asked nodes) 1) (bad_at line) (with_channels Node m (node_channels nodes)) m' h).1 in
     let added = channels_added Node m (node_channels nodes) in
     rw (sym is) (rw (length_of_nodes nodes) at added)
 output_asks line m m' (Names names) h = names_ask Node line m m' 3 names h
@@ -257,7 +247,7 @@ output_asks line m m' (Names names) h = names_ask Node line m m' 3 names h
 pub outputs_ask : (m m' : Made) (entries : List OutputEntry) → take_outputs m entries ≡ Ok m' → IsAsking m m' 0 (sum_by (count_of_entry m.parts.nodes) entries)
 outputs_ask m m' [] h = let is : m ≡ m' = cc in rw (sym is) (same_asking m)
 outputs_ask m m' (entry ∷ entries) h =
-    let s = go_on_ok (λ (made : Made). take_outputs made entries) (take_output entry.line m entry.card) m' h in
+    let s = then_ok (take_output entry.line m entry.card) (λ (made : Made). take_outputs made entries) m' h in
     let first = output_asks entry.line m s.0 entry.card s.1 in
     let rest = outputs_ask s.0 m' entries s.2 in
     after first (rw first.nodes at rest) refl (sum_by-cons (count_of_entry m.parts.nodes) entry entries)
@@ -265,7 +255,7 @@ outputs_ask m m' (entry ∷ entries) h =
 pub tacs_outputs_ask : (m m' : Made) (entries : List TacsOutputEntry) → take_tacs_outputs m entries ≡ Ok m' → IsAsking m m' 0 (sum_by (count_of_variables m.parts.vars) entries)
 tacs_outputs_ask m m' [] h = let is : m ≡ m' = cc in rw (sym is) (same_asking m)
 tacs_outputs_ask m m' (entry ∷ entries) h =
-    let s = go_on_ok (λ (made : Made). take_tacs_outputs made entries) (take_names Variable entry.line m 3 entry.names) m' h in
+    let s = then_ok (take_names Variable entry.line m 3 entry.names) (λ (made : Made). take_tacs_outputs made entries) m' h in
     let first = names_ask Variable entry.line m s.0 3 entry.names s.1 in
     let rest = tacs_outputs_ask s.0 m' entries s.2 in
     after first (rw first.control.vars at rest) refl (sum_by-cons (count_of_variables m.parts.vars) entry entries)
@@ -308,10 +298,10 @@ pub record AreSections (nodes variables : List (List ℕ)) (deck : Deck) (m : Ma
 pub sections : (nodes variables : List (List ℕ)) (deck : Deck) (m : Made) → made_of_deck nodes variables deck ≡ Ok m → AreSections nodes variables deck m
 sections nodes variables deck m h =
     let start = control_made nodes variables deck in
-    let d = go_on_ok (λ (made : Made). take_outputs made deck.outputs) (go_on (λ (made : Made). take_sources made deck.sources) (go_on (λ (made : Made). take_switches made deck.switches) (go_on (λ (made : Made). take_branches deck.points made deck.branches) (take_tacs_outputs start deck.control.outputs)))) m h in
-    let c = go_on_ok (λ (made : Made). take_sources made deck.sources) (go_on (λ (made : Made). take_switches made deck.switches) (go_on (λ (made : Made). take_branches deck.points made deck.branches) (take_tacs_outputs start deck.control.outputs))) d.0 d.1 in
-    let b = go_on_ok (λ (made : Made). take_switches made deck.switches) (go_on (λ (made : Made). take_branches deck.points made deck.branches) (take_tacs_outputs start deck.control.outputs)) c.0 c.1 in
-    let a = go_on_ok (λ (made : Made). take_branches deck.points made deck.branches) (take_tacs_outputs start deck.control.outputs) b.0 b.1 in
+    let d = then_ok (go_on (λ (made : Made). take_sources made deck.sources) (go_on (λ (made : Made). take_switches made deck.switches) (go_on (λ (made : Made). take_branches deck.points made deck.branches) (take_tacs_outputs start deck.control.outputs)))) (λ (made : Made). take_outputs made deck.outputs) m h in
+    let c = then_ok (go_on (λ (made : Made). take_switches made deck.switches) (go_on (λ (made : Made). take_branches deck.points made deck.branches) (take_tacs_outputs start deck.control.outputs))) (λ (made : Made). take_sources made deck.sources) d.0 d.1 in
+    let b = then_ok (go_on (λ (made : Made). take_branches deck.points made deck.branches) (take_tacs_outputs start deck.control.outputs)) (λ (made : Made). take_switches made deck.switches) c.0 c.1 in
+    let a = then_ok (take_tacs_outputs start deck.control.outputs) (λ (made : Made). take_branches deck.points made deck.branches) b.0 b.1 in
     record {
       before_branches = a.0;
       before_switches = b.0;

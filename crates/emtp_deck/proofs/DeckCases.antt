@@ -17,12 +17,12 @@ use Rattle.emtp_case.specs.held.Sizes.{sizes_of}
 use Rattle.emtp_case.specs.held.Source.{IsTacsSource}
 use Rattle.emtp_case.specs.declared.case.Parts.{Parts}
 use Rattle.emtp_case.specs.declared.channel.Channel.{Channel}
-use Rattle.emtp_deck.proofs.Asking.{branches_ask, control_is, sections, tacs_outputs_ask}
+use Rattle.emtp_deck.proofs.Asking.{branches_ask, control_is, no_fault, sections, tacs_outputs_ask}
 use Rattle.emtp_deck.proofs.CaseDrafts.{HasFewInputs, blocks_added, extras_added, nodes_added, tacs_sources_added, variables_added}
 use Rattle.emtp_deck.proofs.ControlRecords.{block_fits, source_fits}
 use Rattle.emtp_deck.proofs.ControlWhole.{control_sensible, whole_control}
 use Rattle.emtp_deck.proofs.GoodBranches.{branches_taken}
-use Rattle.emtp_deck.proofs.GoodMade.{IsGood, no_bad, outputs_taken, sources_taken, switches_taken, tacs_outputs_taken}
+use Rattle.emtp_deck.proofs.GoodMade.{IsGood, outputs_taken, sources_taken, switches_taken, tacs_outputs_taken}
 use Rattle.emtp_deck.proofs.WholeDeck.{stored_within}
 use Rattle.emtp_deck.specs.ControlFilling.{block_of, control_parts, inputs_of, tacs_source_of}
 use Rattle.emtp_deck.specs.Deck.{case_of, control_made, few_samples, filled, filled_by, made_of_deck, missing_bad, sensible_control, unfinished}
@@ -186,8 +186,8 @@ filled_at line deck place p sound whole inputs e =
     let a = then_read (few_samples nodes variables deck place) (λ few. sensible_control nodes variables deck place >>= (λ sensible. made_of_deck (case_nodes nodes) variables deck >>= (λ m. unless (unfinished line m place) (λ bad. bad) (Ok (case_of deck m))))) p e in
     let b = then_read (sensible_control nodes variables deck place) (λ sensible. made_of_deck (case_nodes nodes) variables deck >>= (λ m. unless (unfinished line m place) (λ bad. bad) (Ok (case_of deck m)))) p a.2 in
     let c = then_read (made_of_deck (case_nodes nodes) variables deck) (λ m. unless (unfinished line m place) (λ bad. bad) (Ok (case_of deck m))) p b.2 in
-    let done = no_bad (unfinished line c.0 place) (case_of deck c.0) p c.2 in
-    let none = (no_bad (control_bad nodes variables deck place) tt b.0 b.1).0 in
+    let done = no_fault (unfinished line c.0 place) (λ bad. bad) (case_of deck c.0) p c.2 in
+    let none = (no_fault (control_bad nodes variables deck place) (λ bad. bad) tt b.0 b.1).0 in
     let few = few_is (has_too_many nodes variables deck place) (samples_bad deck) a.0 a.1 in
     by place sound inputs few none c.0 c.1 (no_first (pending_fault c.0 place) (missing_bad line place) done.0) done.1
   where

@@ -1,12 +1,10 @@
 -- A deck whose cards have no fault of sense has no more nodes than a case may have.
-use Rattle.emtp_fix.specs.Chain.{unless}
+use Rattle.emtp_fix.proofs.Chaining.{then_ok}
 use Rattle.emtp_case.specs.declared.limit.TheConstants.{MOST_NODES}
-use Rattle.std.proofs.Common.{◌≡◌, ◌∙◌, refl, subst, Bool, ℕ, ◌≤◌, List, [], ◌∷◌, ◌++◌, Option, Some, None, Ok}
-use Rattle.emtp_card.specs.declared.fault.Fault.{Fault}
-use Rattle.emtp_card.specs.declared.reason.Bad.{Bad}
+use Rattle.std.proofs.Common.{◌≡◌, ◌∙◌, subst, Bool, ℕ, ◌≤◌, List, [], ◌∷◌, ◌++◌, Option, Ok}
 use Rattle.emtp_case.specs.declared.branch.Point.{Point}
 use Rattle.emtp_card.specs.Fault.{bad_at}
-use Rattle.emtp_deck.proofs.Asking.{branches_ask, control_is, entry_asks, go_on_ok, sections, switch_asks, tacs_outputs_ask}
+use Rattle.emtp_deck.proofs.Asking.{branches_ask, control_is, entry_asks, no_fault, sections, switch_asks, tacs_outputs_ask}
 use Rattle.emtp_deck.proofs.Judging.{sensible_switch}
 use Rattle.emtp_deck.proofs.Sensing.{few_ends}
 use Rattle.emtp_deck.specs.Branches.{entry_fault, take_branches, take_entry, with_entry}
@@ -22,21 +20,13 @@ use Rattle.emtp_walk.specs.declared.deck.Deck.{Deck}
 use Rattle.emtp_walk.specs.declared.deck.Place.TheVariants.{After}
 use Rattle.emtp_netcards.specs.declared.switch_card.SwitchCard.{SwitchCard}
 
-pub no_bad_left : {A : Type 0} (bad : Option Bad) (x y : A) → unless bad (λ bad. bad) (Ok x) ≡ Ok y → bad ≡ None
-no_bad_left (Some bad) x y e = absurd (cc)
-no_bad_left None x y e = refl
-
-pub no_fault_left : {A : Type 0} (line : ℕ) (fault : Option Fault) (x y : A) → unless fault (bad_at line) (Ok x) ≡ Ok y → fault ≡ None
-no_fault_left line (Some fault) x y e = absurd (cc)
-no_fault_left line None x y e = refl
-
 -- the numbers of all ends are within the limit
 branches_few : (nodes : List (List ℕ)) (points : List Point) (m m' : Made) (es : List BranchEntry) → m.parts.nodes ≡ nodes → take_branches points m es ≡ Ok m' → Each (λ x. node_number nodes x ≤ MOST_NODES) (branch_names es)
 unfolding take_entry
 branches_few nodes points m m' [] is h = tt
 branches_few nodes points m m' (e ∷ es) is h =
-    let s = go_on_ok (λ (made : Made). take_branches points made es) (take_entry points m e) m' h in
-    let none = no_bad_left (entry_fault m e) (with_entry points m e) s.0 s.1 in
+    let s = then_ok (take_entry points m e) (λ (made : Made). take_branches points made es) m' h in
+    let none = (no_fault (entry_fault m e) (λ bad. bad) (with_entry points m e) s.0 s.1).0 in
     each_two (λ x. node_number nodes x ≤ MOST_NODES) (entry_names e) (branch_names es)
     (subst (λ ns. Each (λ x. node_number ns x ≤ MOST_NODES) (entry_names e)) is (few_ends m e none))
     (branches_few nodes points s.0 m' es ((entry_asks points m s.0 e s.1).nodes ∙ is) s.2)
@@ -45,8 +35,8 @@ switches_few : (nodes : List (List ℕ)) (m m' : Made) (cards : List SwitchCard)
 unfolding take_switch
 switches_few nodes m m' [] is h = tt
 switches_few nodes m m' (card ∷ cards) is h =
-    let s = go_on_ok (λ (made : Made). take_switches made cards) (take_switch m card) m' h in
-    let sensible = sensible_switch m card (no_fault_left card.line (switch_fault m card) (with_switch m card) s.0 s.1) in (
+    let s = then_ok (take_switch m card) (λ (made : Made). take_switches made cards) m' h in
+    let sensible = sensible_switch m card ((no_fault (switch_fault m card) (bad_at card.line) (with_switch m card) s.0 s.1).0) in (
       subst (λ ns. node_number ns card.from ≤ MOST_NODES) is sensible.from_few,
       (
         subst (λ ns. node_number ns card.to ≤ MOST_NODES) is sensible.to_few,

@@ -1,10 +1,10 @@
 -- What is made of cards stays good where the branches of an entry are added.
+use Rattle.emtp_fix.proofs.Chaining.{same_ok, then_ok}
 use Rattle.emtp_case.specs.declared.limit.TheConstants.{MOST_BRANCHES, MOST_CHANNELS, MOST_HISTORY_VALUES}
 use Rattle.emtp_case.specs.declared.branch.Trio as modes
-use Rattle.std.proofs.Common.{◌≡◌, ◌∙◌, sym, ap, subst, refl, ℕ, ◌+◌, ◌<◌, ◌≤◌, true, false, List, [], ◌∷◌, ◌++◌, length, Option, Some, None, Result, Ok, arith, length-append}
+use Rattle.std.proofs.Common.{◌≡◌, ◌∙◌, sym, ap, subst, refl, ℕ, ◌+◌, ◌<◌, ◌≤◌, true, false, List, [], ◌∷◌, ◌++◌, length, Option, Some, None, Ok, arith, length-append}
 use Rattle.std.proofs.lemmas.List.Elements.{All-append, All-head, All-tail}
 use Rattle.std.specs.Prelude.{All, drop, find, take}
-use Rattle.emtp_card.specs.declared.reason.Bad.{Bad}
 use Rattle.emtp_case.proofs.DraftSteps as steps
 use Rattle.emtp_case.specs.HistoryValues.{history_values_of}
 use Rattle.emtp_case.specs.held.Branch.{IsSingle}
@@ -19,9 +19,9 @@ use Rattle.emtp_case.specs.declared.branch.Point.{Point}
 use Rattle.emtp_case.specs.declared.case.Parts.{Parts}
 use Rattle.emtp_case.specs.declared.channel.Channel.{Channel}
 use Rattle.emtp_case.specs.declared.channel.Channel.TheVariants.{BranchCurrent, BranchVoltage}
-use Rattle.emtp_deck.proofs.Asking.{entry_asks, go_on_ok}
+use Rattle.emtp_deck.proofs.Asking.{entry_asks, no_fault}
 use Rattle.emtp_deck.proofs.Copying.{earlier}
-use Rattle.emtp_deck.proofs.GoodMade.{IsGood, no_bad}
+use Rattle.emtp_deck.proofs.GoodMade.{IsGood}
 use Rattle.emtp_deck.proofs.Growing.{length_entry, length_of_channels, line_taken, one_taken, own_points}
 use Rattle.emtp_deck.proofs.Keeping.{channels_of_there, there_grows}
 use Rattle.emtp_deck.proofs.Modes.{has_modes, moved_fits, moved_values}
@@ -232,19 +232,16 @@ line_good m zero' positive third good trio numbers nodes none =
 entry_taken : (points : List Point) (m m' : Made) (e : BranchEntry) → IsGood m → IsEntry m.parts.run points e → HasEntryNodes m.parts.nodes e → take_entry points m e ≡ Ok m' → IsGood m'
 entry_taken points m m' (Single card first count) good entry nodes is =
     let own = take count (drop first points) in
-    let none = no_bad (first_fault m card) (with_one own m card) m' (sym (one_taken points m card first count count (Single card first count) refl refl) ∙ is) in
+    let none = no_fault (first_fault m card) (λ bad. bad) (with_one own m card) m' (sym (one_taken points m card first count count (Single card first count) refl refl) ∙ is) in
     subst IsGood none.1 (one_good own m card good entry.kind entry.numbers (own_points m.parts.run points card first count count refl entry) nodes none.0)
 entry_taken points m m' (Trio zero' positive third) good entry nodes is =
-    let none = no_bad (line_fault m zero' positive third) (with_line m zero' positive third) m' (sym (line_taken points m zero' positive third (Trio zero' positive third) refl) ∙ is) in
+    let none = no_fault (line_fault m zero' positive third) (λ bad. bad) (with_line m zero' positive third) m' (sym (line_taken points m zero' positive third (Trio zero' positive third) refl) ∙ is) in
     subst IsGood none.1 (line_good m zero' positive third good entry.0 entry.1 nodes none.0)
 
-made_same : (a b : Made) → (let r : Result Made Bad = Ok a in r) ≡ Ok b → a ≡ b
-made_same a b e = cc
-
 pub branches_taken : (points : List Point) (es : List BranchEntry) (m m' : Made) → IsGood m → All (IsEntry m.parts.run points) es → All (HasEntryNodes m.parts.nodes) es → take_branches points m es ≡ Ok m' → IsGood m'
-branches_taken points [] m m' good entries nodes is = subst IsGood (made_same m m' is) good
+branches_taken points [] m m' good entries nodes is = subst IsGood (same_ok m m' is) good
 branches_taken points (e ∷ es) m m' good entries nodes is =
-    let next = go_on_ok (λ (made : Made). take_branches points made es) (take_entry points m e) m' is in
+    let next = then_ok (take_entry points m e) (λ (made : Made). take_branches points made es) m' is in
     let asks = entry_asks points m next.0 e next.1 in
     let taken = entry_taken points m next.0 e good (All-head (IsEntry m.parts.run points) e es entries) (All-head (HasEntryNodes m.parts.nodes) e es nodes) next.1 in
     branches_taken points es next.0 m' taken

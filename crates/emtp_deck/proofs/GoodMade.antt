@@ -1,15 +1,13 @@
 -- What is made of cards so far is a draft, and the channels that were asked for are there.
-use Rattle.emtp_fix.specs.Chain.{unless}
+use Rattle.emtp_fix.proofs.Chaining.{same_ok, then_ok}
 use Rattle.emtp_case.specs.declared.limit.TheConstants.{MOST_CHANNELS}
-use Rattle.std.proofs.Common.{◌≡◌, ap, sym, subst, refl, ℕ, ◌+◌, ◌==◌, ◌<◌, ◌≤◌, Bool, true, false, not, ◌&&◌, List, [], ◌∷◌, ◌++◌, length, Option, Some, None, option_map, Result, Ok, arith, length-append, length-take}
+use Rattle.std.proofs.Common.{◌≡◌, ap, sym, subst, refl, ℕ, ◌+◌, ◌==◌, ◌<◌, ◌≤◌, Bool, true, false, not, ◌&&◌, List, [], ◌∷◌, ◌++◌, length, Option, Some, None, option_map, Ok, arith, length-append, length-take}
 use Rattle.std.specs.Prelude.{All, if◌then◌else◌, position}
 use Rattle.std.specs.List.{list_any}
 use Rattle.std.specs.Str.{bytes_eq}
 use Rattle.std.specs.Option.{ForSome}
 use Rattle.std.proofs.lemmas.List.Quantifiers.{position-Some}
 use Rattle.std.proofs.lemmas.List.Elements.{All-append, All-cons, All-head, All-nil, All-tail}
-use Rattle.emtp_card.specs.declared.fault.Fault.{Fault}
-use Rattle.emtp_card.specs.declared.reason.Bad.{Bad}
 use Rattle.emtp_case.proofs.DraftSteps as steps
 use Rattle.emtp_case.specs.Source.{is_voltage_source_at}
 use Rattle.emtp_case.specs.held.Case.{IsDraft}
@@ -22,9 +20,8 @@ use Rattle.emtp_case.specs.declared.channel.Channel.TheVariants.{NodeVoltage as 
 use Rattle.emtp_case.specs.declared.switch.SwitchKind.{SwitchKind}
 use Rattle.emtp_case.specs.declared.switch.SwitchKind.TheVariants.{Control, Measuring, Time, Valve}
 use Rattle.emtp_card.specs.Fault.{bad_at}
-use Rattle.emtp_deck.proofs.Asking.{go_on_ok, unless_bad_ok, unless_fault_ok}
+use Rattle.emtp_deck.proofs.Asking.{no_fault}
 use Rattle.emtp_deck.proofs.Driving.{driven_source}
-use Rattle.emtp_deck.proofs.FewNodes.{no_bad_left, no_fault_left}
 use Rattle.emtp_deck.proofs.Judging.{sensible_source, sensible_switch}
 use Rattle.emtp_deck.proofs.Keeping.{channels_of_there, length_of_nodes, length_of_switch, nodes_there, there_grows}
 use Rattle.emtp_deck.specs.Channels.{channels_of, status_of}
@@ -59,14 +56,6 @@ pub record IsGood (m : Made) : Type 0 where
   pub no_channels : m.parts.channels ≡ []
   pub few : count_asked m.asked ≤ MOST_CHANNELS
   pub there : AreThere (sizes_of m.parts) m.asked
-
--- ---- answers
-
-pub no_bad : {A : Type 0} (bad : Option Bad) (x y : A) → unless bad (λ bad. bad) (Ok x) ≡ Ok y → (bad ≡ None) × (x ≡ y)
-no_bad bad x y e = (no_bad_left bad x y e, unless_bad_ok bad x y e)
-
-no_fault : {A : Type 0} (line : ℕ) (fault : Option Fault) (x y : A) → unless fault (bad_at line) (Ok x) ≡ Ok y → (fault ≡ None) × (x ≡ y)
-no_fault line fault x y e = (no_fault_left line fault x y e, unless_fault_ok line fault x y e)
 
 -- ---- sources
 
@@ -105,16 +94,13 @@ source_taken : (m : Made) (card : SourceCard) (m' : Made) → IsGood m → HasSo
 unfolding take_source
 source_taken m card m' good numbers e =
     let found = find_node m.parts.nodes card.name in
-    let none = no_fault card.line (source_fault m.parts card found) (with_source m card found) m' e in
+    let none = no_fault (source_fault m.parts card found) (bad_at card.line) (with_source m card found) m' e in
     source_added m card found m' refl good numbers none.0 none.1
 
 pub sources_taken : (cards : List SourceCard) (m m' : Made) → IsGood m → All HasSourceCardNumbers cards → take_sources m cards ≡ Ok m' → IsGood m'
-sources_taken [] m m' good all e = subst IsGood (same m m' e) good
-  where
-    same : (a b : Made) → (let r : Result Made Bad = Ok a in r) ≡ Ok b → a ≡ b
-    same a b e = cc
+sources_taken [] m m' good all e = subst IsGood (same_ok m m' e) good
 sources_taken (card ∷ cards) m m' good all e =
-    let next = go_on_ok (λ (made : Made). take_sources made cards) (take_source m card) m' e in
+    let next = then_ok (take_source m card) (λ (made : Made). take_sources made cards) m' e in
     sources_taken cards next.0 m' (source_taken m card next.0 good (All-head HasSourceCardNumbers card cards all) next.1) (All-tail HasSourceCardNumbers card cards all) next.2
 
 -- ---- switches
@@ -166,16 +152,13 @@ switch_added m card good numbers nodes none =
 switch_taken : (m : Made) (card : SwitchCard) (m' : Made) → IsGood m → HasSwitchNumbers card → HasSwitchNodes m.parts.nodes card → take_switch m card ≡ Ok m' → IsGood m' × (m'.parts.nodes ≡ m.parts.nodes)
 unfolding take_switch
 switch_taken m card m' good numbers nodes e =
-    let none = no_fault card.line (switch_fault m card) (with_switch m card) m' e in
+    let none = no_fault (switch_fault m card) (bad_at card.line) (with_switch m card) m' e in
     (subst IsGood none.1 (switch_added m card good numbers nodes none.0), sym (ap (λ (k : Made). k.parts.nodes) none.1))
 
 pub switches_taken : (cards : List SwitchCard) (m m' : Made) → IsGood m → All HasSwitchNumbers cards → All (HasSwitchNodes m.parts.nodes) cards → take_switches m cards ≡ Ok m' → IsGood m'
-switches_taken [] m m' good all nodes e = subst IsGood (same m m' e) good
-  where
-    same : (a b : Made) → (let r : Result Made Bad = Ok a in r) ≡ Ok b → a ≡ b
-    same a b e = cc
+switches_taken [] m m' good all nodes e = subst IsGood (same_ok m m' e) good
 switches_taken (card ∷ cards) m m' good all nodes e =
-    let next = go_on_ok (λ (made : Made). take_switches made cards) (take_switch m card) m' e in
+    let next = then_ok (take_switch m card) (λ (made : Made). take_switches made cards) m' e in
     let taken = switch_taken m card next.0 good (All-head HasSwitchNumbers card cards all) (All-head (HasSwitchNodes m.parts.nodes) card cards nodes) next.1 in
     switches_taken cards next.0 m' taken.0 (All-tail HasSwitchNumbers card cards all) (subst (λ ns. All (HasSwitchNodes ns) cards) (sym taken.1) (All-tail (HasSwitchNodes m.parts.nodes) card cards nodes)) next.2
 
@@ -231,24 +214,21 @@ known_taken : (named : Named) (line : ℕ) (m : Made) (column : ℕ) (name : Lis
 unfolding take_known_name
 known_taken named line m column name m' good e =
     let o = channel_of named m.parts name in
-    let none = no_fault line (name_fault m.asked column o) (with_channel named m o) m' e in
+    let none = no_fault (name_fault m.asked column o) (bad_at line) (with_channel named m o) m' e in
     name_added named line m column name o m' refl good none.0 none.1
 
-made_same : (a b : Made) → (let r : Result Made Bad = Ok a in r) ≡ Ok b → a ≡ b
-made_same a b e = cc
-
 names_taken : (named : Named) (line : ℕ) (names : List (Option (List ℕ))) (m : Made) (column : ℕ) (m' : Made) → IsGood m → take_names named line m column names ≡ Ok m' → IsGood m'
-names_taken named line [] m column m' good e = subst IsGood (made_same m m' e) good
+names_taken named line [] m column m' good e = subst IsGood (same_ok m m' e) good
 names_taken named line (None ∷ names) m column m' good e = names_taken named line names m (column + 6) m' good e
 names_taken named line (Some name ∷ names) m column m' good e =
-    let next = go_on_ok (λ (made : Made). take_names named line made (column + 6) names) (take_known_name named line m column name) m' e in
+    let next = then_ok (take_known_name named line m column name) (λ (made : Made). take_names named line made (column + 6) names) m' e in
     names_taken named line names next.0 (column + 6) m' (known_taken named line m column name next.0 good next.1) next.2
 
 all_taken : (line : ℕ) (m m' : Made) → IsGood m → take_all_nodes line m ≡ Ok m' → IsGood m'
 unfolding take_all_nodes
 all_taken line m m' good e =
     let n = length m.parts.nodes in
-    let none = no_fault line (too_many (no_room m.asked n) 1) (with_channels Node m (node_channels n)) m' e in
+    let none = no_fault (too_many (no_room m.asked n) 1) (bad_at line) (with_channels Node m (node_channels n)) m' e in
     let room = within MOST_CHANNELS (count_asked m.asked + n) 1 none.0 in
     subst IsGood none.1 (more_channels Node m (node_channels n) good (omega (arith, room, length_of_nodes n)) (nodes_there (sizes_of m.parts) n (omega arith)))
 
@@ -257,13 +237,13 @@ output_taken line AllNodes m m' good e = all_taken line m m' good e
 output_taken line (Names names) m m' good e = names_taken Node line names m 3 m' good e
 
 pub outputs_taken : (entries : List OutputEntry) (m m' : Made) → IsGood m → take_outputs m entries ≡ Ok m' → IsGood m'
-outputs_taken [] m m' good e = subst IsGood (made_same m m' e) good
+outputs_taken [] m m' good e = subst IsGood (same_ok m m' e) good
 outputs_taken (entry ∷ entries) m m' good e =
-    let next = go_on_ok (λ (made : Made). take_outputs made entries) (take_output entry.line m entry.card) m' e in
+    let next = then_ok (take_output entry.line m entry.card) (λ (made : Made). take_outputs made entries) m' e in
     outputs_taken entries next.0 m' (output_taken entry.line entry.card m next.0 good next.1) next.2
 
 pub tacs_outputs_taken : (entries : List TacsOutputEntry) (m m' : Made) → IsGood m → take_tacs_outputs m entries ≡ Ok m' → IsGood m'
-tacs_outputs_taken [] m m' good e = subst IsGood (made_same m m' e) good
+tacs_outputs_taken [] m m' good e = subst IsGood (same_ok m m' e) good
 tacs_outputs_taken (entry ∷ entries) m m' good e =
-    let next = go_on_ok (λ (made : Made). take_tacs_outputs made entries) (take_names Variable entry.line m 3 entry.names) m' e in
+    let next = then_ok (take_names Variable entry.line m 3 entry.names) (λ (made : Made). take_tacs_outputs made entries) m' e in
     tacs_outputs_taken entries next.0 m' (names_taken Variable entry.line entry.names m 3 next.0 good next.1) next.2
