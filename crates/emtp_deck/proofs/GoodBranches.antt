@@ -11,10 +11,9 @@ use Rattle.emtp_case.specs.held.Branch.{IsSingle}
 use Rattle.emtp_case.specs.held.Case.{IsDraft}
 use Rattle.emtp_case.specs.held.Channel.{IsChannel}
 use Rattle.emtp_case.specs.held.Range.{AreEnds}
-use Rattle.emtp_case.specs.held.Sizes.{Sizes, sizes_of}
+use Rattle.emtp_case.specs.held.Sizes.{sizes_of}
 use Rattle.emtp_case.specs.declared.branch.Branch.{Branch}
 use Rattle.emtp_case.specs.declared.branch.Branch.TheVariants.{Line as OfLine, Lumped as OfLumped, Phase as OfPhase, Pseudo as OfPseudo}
-use Rattle.emtp_case.specs.declared.branch.Phase.{Phase}
 use Rattle.emtp_case.specs.declared.branch.Point.{Point}
 use Rattle.emtp_case.specs.declared.case.Parts.{Parts}
 use Rattle.emtp_case.specs.declared.channel.Channel.{Channel}
@@ -22,8 +21,8 @@ use Rattle.emtp_case.specs.declared.channel.Channel.TheVariants.{BranchCurrent, 
 use Rattle.emtp_deck.proofs.Asking.{entry_asks, no_fault}
 use Rattle.emtp_deck.proofs.Copying.{earlier}
 use Rattle.emtp_deck.proofs.GoodMade.{IsGood}
-use Rattle.emtp_deck.proofs.Growing.{length_entry, length_of_channels, line_taken, one_taken, own_points}
-use Rattle.emtp_deck.proofs.Keeping.{channels_of_there, there_grows}
+use Rattle.emtp_deck.proofs.Growing.{IsGrown, branch_there, length_entry, length_of_channels, line_taken, line_there, modes_grown, one_taken, own_points, single_grown}
+use Rattle.emtp_deck.proofs.Keeping.{there_grows}
 use Rattle.emtp_deck.proofs.Modes.{has_modes, moved_fits, moved_values}
 use Rattle.emtp_deck.proofs.Sensing.{line_takable, takable}
 use Rattle.emtp_deck.specs.Branches.{branch_channels, first_fault, line_branch, line_history, moved, phase_for, take_branches, take_entry, with_modes, with_phases, with_single, with_values}
@@ -31,7 +30,7 @@ use Rattle.emtp_deck.specs.held.Branches.{line_channels, line_fault, with_line, 
 use Rattle.emtp_deck.specs.Copies.{earlier_or_missing, is_like, line_numbers, missing_fault, modes_for, numbers_behind, type_of_kind, values_behind, values_by}
 use Rattle.emtp_deck.specs.held.Copies.{AreTakenBy, IsTaken}
 use Rattle.emtp_deck.specs.Made.{Made, count_asked}
-use Rattle.emtp_deck.specs.held.Sensible.{AreOwnPoints, FindsValues, HasOwnPoints, IsSensibleSingle, IsSensibleTrio}
+use Rattle.emtp_deck.specs.held.Sensible.{AreOwnPoints, HasOwnPoints, IsSensibleSingle, IsSensibleTrio}
 use Rattle.emtp_sense.specs.Names.{node_number}
 use Rattle.emtp_sense.specs.held.Naming.{HasEndNodes, HasEntryNodes, HasTrioNodes}
 use Rattle.emtp_walk.specs.held.Sound.{IsEntry, IsTrioEntry, is_pseudo, is_reactor}
@@ -43,82 +42,6 @@ use Rattle.emtp_netcards.specs.held.BranchCard.{HasNumbers, HasValues, kind_of_v
 use Rattle.emtp_netcards.specs.declared.branch_card.BranchCard.{BranchCard}
 use Rattle.emtp_netcards.specs.declared.branch_card.BranchValues.{BranchValues}
 use Rattle.emtp_netcards.specs.declared.branch_card.BranchValues.TheVariants.{Copied as CopiedCard, Line as LineCard, Lumped as LumpedCard, Reactor as ReactorCard, Resistor as ResistorCard, Second as SecondCard, Third as ThirdCard}
-
--- ---- records
-
--- so many branches more, and nothing else that a filling speaks of
-record IsGrown (p q : Parts) (more : ℕ) : Type 0 where
-  run : q.run ≡ p.run
-  nodes : q.nodes ≡ p.nodes
-  vars : q.vars ≡ p.vars
-  tacs_sources : q.tacs_sources ≡ p.tacs_sources
-  blocks : q.blocks ≡ p.blocks
-  extras : q.extras ≡ p.extras
-  channels : q.channels ≡ p.channels
-  switches : q.switches ≡ p.switches
-  branches : length q.branches ≡ length p.branches + more
-  trios : length p.trios ≤ length q.trios
-
-one_more : (p : Parts) (points : List Point) (b : Branch) → IsGrown p (record p { points = points; branches = p.branches ++ b ∷ [] }) 1
-one_more p points b = record {
-  run = refl;
-  nodes = refl;
-  vars = refl;
-  tacs_sources = refl;
-  blocks = refl;
-  extras = refl;
-  channels = refl;
-  switches = refl;
-  branches = length-append p.branches (b ∷ []);
-  trios = omega arith;
-}
-
-three_more : (p : Parts) (bs : List Branch) (ts : List modes.Trio) → length bs ≡ 3 → IsGrown p (record p { branches = p.branches ++ bs; trios = p.trios ++ ts }) 3
-three_more p bs ts e = record {
-  run = refl;
-  nodes = refl;
-  vars = refl;
-  tacs_sources = refl;
-  blocks = refl;
-  extras = refl;
-  channels = refl;
-  switches = refl;
-  branches = omega (arith, length-append p.branches bs, e);
-  trios = omega (arith, length-append p.trios ts);
-}
-
-values_grown : (points : List Point) (p : Parts) (card : BranchCard) (a b : ℕ) (values : BranchValues) → is_phase (Ok (kind_of_values values)) ≡ false
-    → missing_fault (values_by p.nodes p.branches values) ≡ None → IsGrown p (with_values points p (record card { values = values }) a b (values_by p.nodes p.branches values)) 1
-values_grown points p card a b (LumpedCard r l c) e t = one_more p p.points _
-values_grown points p card a b (LineCard zc r delay) e t = one_more p p.points _
-values_grown points p card a b (SecondCard zc r delay) e t = absurd (cc)
-values_grown points p card a b ThirdCard e t = absurd (cc)
-values_grown points p card a b ReactorCard e t = one_more p (p.points ++ points) _
-values_grown points p card a b ResistorCard e t = one_more p (p.points ++ points) _
-values_grown points p card a b (CopiedCard kind x y) e t = found_grown (find (is_like (type_of_kind kind) (node_number p.nodes x) (node_number p.nodes y)) p.branches) t
-  where
-    found_grown : (found : Option Branch) → missing_fault (earlier_or_missing found) ≡ None → IsGrown p (with_values points p (record card { values = CopiedCard kind x y }) a b (earlier_or_missing found)) 1
-    found_grown (Some branch) t = one_more p p.points _
-    found_grown None t = absurd (cc)
-
-single_grown : (points : List Point) (p : Parts) (card : BranchCard) → is_phase (Ok (kind_of_values card.values)) ≡ false → FindsValues p card → IsGrown p (with_single points p card) 1
-single_grown points p card kind taken = values_grown points p card (node_number p.nodes card.from) (node_number p.nodes card.to) card.values kind taken
-
-modes_grown : (p : Parts) (a b c : Phase) (o : Option modes.Trio) (trio : modes.Trio) → o ≡ Some trio → IsGrown p (with_modes p a b c o) 3
-modes_grown p a b c (Some x) trio e = three_more p _ _ refl
-modes_grown p a b c None trio e = absurd (cc)
-
-branch_there : (n : Sizes) (at : ℕ) (card : BranchCard) → at < n.branches → All (IsChannel n) (branch_channels at card)
-branch_there n at card l = channels_of_there (IsChannel n) card.asked (BranchCurrent at) (BranchVoltage at) l l
-
-line_there : (n : Sizes) (at : ℕ) (zero' positive third : BranchCard) → at + 3 ≤ n.branches → All (IsChannel n) (line_channels at zero' positive third)
-line_there n at zero' positive third l =
-    let zs = branch_channels at zero' in
-    let ps = branch_channels (at + 1) positive in
-    let ts = branch_channels (at + 2) third in
-    All-append (IsChannel n) (zs ++ ps) ts
-    (All-append (IsChannel n) zs ps (branch_there n at zero' (omega arith)) (branch_there n (at + 1) positive (omega arith)))
-    (branch_there n (at + 2) third (omega arith))
 
 -- ---- drafts
 

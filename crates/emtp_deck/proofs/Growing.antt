@@ -59,17 +59,17 @@ length_entry at (Trio zero' positive third) =
 -- ---- records
 
 -- so many branches more, and nothing else that a filling speaks of
-record IsGrown (p q : Parts) (more : ℕ) : Type 0 where
-  run : q.run ≡ p.run
-  nodes : q.nodes ≡ p.nodes
-  vars : q.vars ≡ p.vars
-  tacs_sources : q.tacs_sources ≡ p.tacs_sources
-  blocks : q.blocks ≡ p.blocks
-  extras : q.extras ≡ p.extras
-  channels : q.channels ≡ p.channels
-  switches : q.switches ≡ p.switches
-  branches : length q.branches ≡ length p.branches + more
-  trios : length p.trios ≤ length q.trios
+pub record IsGrown (p q : Parts) (more : ℕ) : Type 0 where
+  pub run : q.run ≡ p.run
+  pub nodes : q.nodes ≡ p.nodes
+  pub vars : q.vars ≡ p.vars
+  pub tacs_sources : q.tacs_sources ≡ p.tacs_sources
+  pub blocks : q.blocks ≡ p.blocks
+  pub extras : q.extras ≡ p.extras
+  pub channels : q.channels ≡ p.channels
+  pub switches : q.switches ≡ p.switches
+  pub branches : length q.branches ≡ length p.branches + more
+  pub trios : length p.trios ≤ length q.trios
 
 one_more : (p : Parts) (points : List Point) (b : Branch) → IsGrown p (record p { points = points; branches = p.branches ++ b ∷ [] }) 1
 one_more p points b = record {
@@ -113,17 +113,17 @@ values_grown points p card a b (CopiedCard kind x y) e t = found_grown (find (is
     found_grown (Some branch) t = one_more p p.points _
     found_grown None t = absurd (cc)
 
-single_grown : (points : List Point) (p : Parts) (card : BranchCard) → is_phase (Ok (kind_of_values card.values)) ≡ false → FindsValues p card → IsGrown p (with_single points p card) 1
+pub single_grown : (points : List Point) (p : Parts) (card : BranchCard) → is_phase (Ok (kind_of_values card.values)) ≡ false → FindsValues p card → IsGrown p (with_single points p card) 1
 single_grown points p card kind taken = values_grown points p card (node_number p.nodes card.from) (node_number p.nodes card.to) card.values kind taken
 
-modes_grown : (p : Parts) (a b c : Phase) (o : Option modes.Trio) (trio : modes.Trio) → o ≡ Some trio → IsGrown p (with_modes p a b c o) 3
+pub modes_grown : (p : Parts) (a b c : Phase) (o : Option modes.Trio) (trio : modes.Trio) → o ≡ Some trio → IsGrown p (with_modes p a b c o) 3
 modes_grown p a b c (Some x) trio e = three_more p _ _ refl
 modes_grown p a b c None trio e = absurd (cc)
 
-branch_there : (n : Sizes) (at : ℕ) (card : BranchCard) → at < n.branches → All (IsChannel n) (branch_channels at card)
+pub branch_there : (n : Sizes) (at : ℕ) (card : BranchCard) → at < n.branches → All (IsChannel n) (branch_channels at card)
 branch_there n at card l = channels_of_there (IsChannel n) card.asked (BranchCurrent at) (BranchVoltage at) l l
 
-line_there : (n : Sizes) (at : ℕ) (zero' positive third : BranchCard) → at + 3 ≤ n.branches → All (IsChannel n) (line_channels at zero' positive third)
+pub line_there : (n : Sizes) (at : ℕ) (zero' positive third : BranchCard) → at + 3 ≤ n.branches → All (IsChannel n) (line_channels at zero' positive third)
 line_there n at zero' positive third l =
     let zs = branch_channels at zero' in
     let ps = branch_channels (at + 1) positive in
