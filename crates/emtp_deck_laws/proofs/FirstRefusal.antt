@@ -1,5 +1,5 @@
 -- The refusal of a list of cards: that of the first card that has a fault, by its least one.
-use Rattle.std.proofs.Common.{◌≡◌, ◌∙◌, sym, ap, refl, ℕ, List, [], ◌∷◌, ◌++◌, Option, Some, None, option_map, Result}
+use Rattle.std.proofs.Common.{◌≡◌, ◌∙◌, sym, ap, refl, ℕ, List, [], ◌∷◌, ◌++◌, Option, Some, None, option_map, Result, Ok}
 use Rattle.emtp_fix.specs.Chain.{unless}
 use Rattle.emtp_card.specs.Fault.{bad_at, least}
 use Rattle.emtp_card.specs.declared.fault.Fault.{Fault}
