@@ -10,8 +10,7 @@ use Rattle.emtp_card.specs.declared.reason.Bad.{Bad}
 use Rattle.emtp_case.specs.Case.{standing_names}
 use Rattle.emtp_case.specs.declared.case.Parts.{Parts}
 use Rattle.emtp_case.specs.declared.limit.TheConstants.{MOST_NODES}
-use Rattle.emtp_deck.proofs.Asking.{control_is, deck_asks}
-use Rattle.emtp_deck.proofs.GoodMade.{no_bad}
+use Rattle.emtp_deck.proofs.Asking.{control_is, deck_asks, no_fault}
 use Rattle.emtp_deck_laws.specs.NamesApart.{HasNamesApart}
 use Rattle.emtp_listing.specs.Law.{AreApart}
 use Rattle.emtp_deck.specs.Deck.{case_of, deck_of, few_samples, filled, made_of_deck, sensible_control, unfinished}
@@ -179,7 +178,7 @@ filled_apart line deck place p e =
     let a = then_read (few_samples nodes variables deck place) (λ few. sensible_control nodes variables deck place >>= (λ sensible. made_of_deck (case_nodes nodes) variables deck >>= (λ m. unless (unfinished line m place) (λ bad. bad) (Ok (case_of deck m))))) p e in
     let b = then_read (sensible_control nodes variables deck place) (λ sensible. made_of_deck (case_nodes nodes) variables deck >>= (λ m. unless (unfinished line m place) (λ bad. bad) (Ok (case_of deck m)))) p a.2 in
     let c = then_read (made_of_deck (case_nodes nodes) variables deck) (λ m. unless (unfinished line m place) (λ bad. bad) (Ok (case_of deck m))) p b.2 in
-    let done = no_bad (unfinished line c.0 place) (case_of deck c.0) p c.2 in
+    let done = no_fault (unfinished line c.0 place) (λ bad. bad) (case_of deck c.0) p c.2 in
     let asks = deck_asks (case_nodes nodes) variables deck c.0 c.1 in
     let is = control_is (case_nodes nodes) variables deck in
     let n : c.0.parts.nodes ≡ case_nodes nodes = asks.nodes ∙ is.nodes_are in

@@ -129,7 +129,3 @@ lines_refused lines deck place e =
 pub refused : {A : Type 0} (found : Option Bad) (x : A) (bad : Bad) → unless found (λ bad. bad) (Ok x) ≡ Err bad → found ≡ Some bad
 refused (Some b) x bad e = let same : b ≡ bad = cc in ap Some same
 refused None x bad e = absurd (cc)
-
-pub accepted : {A : Type 0} (found : Option Bad) (x y : A) → unless found (λ bad. bad) (Ok x) ≡ Ok y → found ≡ None
-accepted (Some b) x y e = absurd (cc)
-accepted None x y e = refl

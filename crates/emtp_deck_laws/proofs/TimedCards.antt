@@ -1,8 +1,9 @@
 -- Cards of time switches that are the same but for their times are read as such.
-use Rattle.std.proofs.Common.{◌≡◌, ◌∙◌, ap, sym, subst, refl, ℕ, ◌+◌, ◌≤◌, ◌^◌, ℤ, pos, Bool, true, false, List, Option, None, Result, Ok, take, drop, inl, inr, arith}
+use Rattle.std.proofs.Common.{◌≡◌, ◌∙◌, ap, sym, subst, refl, ℕ, ◌+◌, ◌≤◌, ◌^◌, ℤ, pos, Bool, true, false, List, Option, None, Ok, take, drop, inl, inr, arith}
 use Rattle.std.specs.Prelude.{◌⊎◌, codes, if◌then◌else◌}
 use Rattle.std.specs.Str.{bytes_eq}
 use Rattle.std.proofs.lemmas.List.{drop-drop, drop-take, take-take}
+use Rattle.emtp_fix.proofs.Chaining.{same_ok}
 use Rattle.emtp_card.specs.Fault.{filled_with}
 use Rattle.emtp_card.specs.Field.{columns, filled, trimmed}
 use Rattle.emtp_card.specs.Lines.{fault_of_line}
@@ -19,9 +20,6 @@ use Rattle.emtp_netcards.specs.declared.switch_card.SwitchType.TheVariants.{Time
 use Rattle.emtp_netcards.proofs.Readings.{by, each_of, field_of_column, then_read}
 use Rattle.emtp_deck_laws.specs.OtherTimes.{AreTimed}
 use Rattle.emtp_deck_laws.proofs.WideSeries.{ends_same, name_same, whole_same}
-
-pub ok_same : {A E : Type 0} (x y : A) → ◌≡◌ {A = Result A E} (Ok x) (Ok y) → x ≡ y
-ok_same x y e = cc
 
 -- ---- columns within those that are the same
 
@@ -83,17 +81,17 @@ times_read line kind e =
     let r = then_read (both (both _ _) (both margin word)) _ kind e in
     let halves = each_of (both _ _) (both margin word) r.0 r.1 in
     let second = each_of margin word r.0.1 halves.1 in
-    (r.0.0.0, r.0.0.1, r.0.1.0, sym (ok_same (Time r.0.0.0 r.0.0.1 r.0.1.0) kind r.2), second.0)
+    (r.0.0.0, r.0.0.1, r.0.1.0, sym (same_ok (Time r.0.0.0 r.0.0.1 r.0.1.0) kind r.2), second.0)
 
 kinds_alike : (x y : List ℕ) (k l : SwitchKind) → HasSameFields x y → time_kind x ≡ Ok k → time_kind y ≡ Ok l → AreTimedKinds k l
 kinds_alike x y k l fields = go (is_measuring x) (is_measuring y) (ap (λ bytes. bytes_eq (trimmed bytes) (codes "MEASURING")) fields.word)
   where
     go : (a b : Bool) → a ≡ b → (if a then Ok Measuring else times_of x) ≡ Ok k → (if b then Ok Measuring else times_of y) ≡ Ok l → AreTimedKinds k l
-    go true true s e f = inl (sym (ok_same Measuring k e) ∙ ok_same Measuring l f)
+    go true true s e f = inl (sym (same_ok Measuring k e) ∙ same_ok Measuring l f)
     go false false s e f =
         let a = times_read x k e in
         let b = times_read y l f in
-        let same : a.2 ≡ b.2 = ok_same a.2 b.2 (sym a.4 ∙ number_same margin_field (pos 0) x y fields.margin ∙ b.4) in
+        let same : a.2 ≡ b.2 = same_ok a.2 b.2 (sym a.4 ∙ number_same margin_field (pos 0) x y fields.margin ∙ b.4) in
         inr (record { close = a.0; open_at = a.1; other_close = b.0; other_open_at = b.1; margin = a.2; one_is = a.3; other_is = b.3 ∙ ap (λ m. Time b.0 b.1 m) (sym same) })
     go true false s e f = absurd (cc)
     go false true s e f = absurd (cc)
@@ -131,7 +129,7 @@ fields_read number line card type e =
     let second = each_of kind asked r.0.1 first.1 in
     let timed : kind_of line TimeType ≡ Ok r.0.1.0 = sym (ap (λ t. in_column 1 t >>= kind_of line) type) ∙ second.0 in
     let k = then_read (time_kind line) _ r.0.1.0 timed in
-    let pair : r.0.1.0 ≡ (k.0, None) = sym (ok_same (k.0, None) r.0.1.0 k.2) in
+    let pair : r.0.1.0 ≡ (k.0, None) = sym (same_ok (k.0, None) r.0.1.0 k.2) in
     record {
       ends = r.0.0;
       kind = k.0;
@@ -139,7 +137,7 @@ fields_read number line card type e =
       ends_are = first.0;
       kind_is = k.1;
       asked_is = field_of_column 80 (asked_field line) r.0.1.1 second.1;
-      is = sym (ok_same (made_by number r.0.0 r.0.1.1 r.0.1.0) card r.2) ∙ ap (made_by number r.0.0 r.0.1.1) pair;
+      is = sym (same_ok (made_by number r.0.0 r.0.1.1 r.0.1.0) card r.2) ∙ ap (made_by number r.0.0 r.0.1.1) pair;
     }
 
 -- the same in all but the kind
@@ -158,8 +156,8 @@ read_alike number x y card other timed e f =
     let ends = ends_same x y (name_same x y 3 fields.from_name) (name_same x y 9 fields.to_name) in
     let asked = ap asked_in (whole_same x y 80 80 fields.asked) in
     kind_alone number a.ends b.ends a.kind b.kind a.asked b.asked card other
-    (ok_same a.ends b.ends (sym a.ends_are ∙ ends ∙ b.ends_are))
-    (ok_same a.asked b.asked (sym a.asked_is ∙ asked ∙ b.asked_is))
+    (same_ok a.ends b.ends (sym a.ends_are ∙ ends ∙ b.ends_are))
+    (same_ok a.asked b.asked (sym a.asked_is ∙ asked ∙ b.asked_is))
     (kinds_alike x y a.kind b.kind fields a.kind_is b.kind_is) a.is b.is
 
 pub cards_alike : (number : ℕ) (x y : List ℕ) (card other : SwitchCard) → AreTimed x y → switch_card number x ≡ Ok card → switch_card number y ≡ Ok other → IsTimedCard card other

@@ -2,8 +2,6 @@
 use Rattle.std.proofs.Common.{◌≡◌, ◌∙◌, ap, sym, subst, refl, ℕ, suc, ◌+◌, ℤ, List, [], ◌∷◌, ◌++◌, length, map, fold, Option, Some, None, Ok, inl, inr}
 use Rattle.std.specs.Prelude.{cond, nat_lt, not, unwrap_or}
 use Rattle.std.specs.List.{position_or_len}
-use Rattle.emtp_fix.specs.Chain.{unless}
-use Rattle.emtp_card.specs.declared.reason.Bad.{Bad}
 use Rattle.emtp_case.specs.Switch.{card_times, with_times}
 use Rattle.emtp_case.specs.declared.case.Parts.{Parts}
 use Rattle.emtp_case.specs.declared.channel.Channel.{Channel}
@@ -15,6 +13,7 @@ use Rattle.emtp_case.specs.declared.switch.Switch.{Switch}
 use Rattle.emtp_case.specs.declared.switch.SwitchKind.{SwitchKind}
 use Rattle.emtp_case.specs.declared.switch.SwitchKind.TheVariants.{Control, Measuring, Time, Valve}
 use Rattle.emtp_case.specs.declared.switch.Times.{Times}
+use Rattle.emtp_deck.proofs.Asking.{no_fault}
 use Rattle.emtp_deck.specs.Channels.{channels_of, status_of}
 use Rattle.emtp_deck.specs.ControlFilling.{measuring, switch_place, tacs_source_of}
 use Rattle.emtp_deck.specs.Deck.{case_of, deck_of, filled}
@@ -39,7 +38,7 @@ use Rattle.emtp_deck_laws.specs.JudgedCards.{judged_cards, made_before_switches,
 use Rattle.emtp_deck_laws.specs.OtherTimes.{HasOtherTimes, case_with_times}
 use Rattle.emtp_deck_laws.proofs.FirstRefusal.{first_refusal}
 use Rattle.emtp_deck_laws.proofs.JudgedDeck.{deck_refused}
-use Rattle.emtp_deck_laws.proofs.TimedCards.{AreTimedKinds, ok_same}
+use Rattle.emtp_deck_laws.proofs.TimedCards.{AreTimedKinds}
 use Rattle.emtp_deck_laws.proofs.TimedWalks.{AllTimed, walks_alike, with_cards}
 
 -- ---- names of nodes, and the switches at them
@@ -278,10 +277,6 @@ case_given nodes variables d cards p q h e f =
     given ∙ ap (λ ss. record (case_of d m) { switches = ss }) (sym (times_given m.parts.switches made.0 made.1))
     ∙ ap (λ (c : Parts). case_with_times c (card_times made.0)) (sym e) ∙ ap (case_with_times p) (sym times)
 
-not_bad : {A : Type 0} (found : Option Bad) (x y : A) → unless found (λ bad. bad) (Ok x) ≡ Ok y → y ≡ x
-not_bad (Some bad) x y e = absurd (cc)
-not_bad None x y e = sym (ok_same x y e)
-
 -- what a deck's cards make
 record IsMadeOf (lines : List (List ℕ)) (p : Parts) : Type 0 where
   read : Deck × Place
@@ -295,7 +290,7 @@ made_of_lines lines p e =
     record {
       read = r.0;
       walked = r.1;
-      is = not_bad (first_refusal (judged_cards (length lines) r.0.0 r.0.1)) (case_of r.0.0 (made_of_all (case_nodes (known_nodes r.0.0 r.0.1)) (variable_names r.0.0 r.0.1) r.0.0)) p (sym (deck_refused (length lines) r.0.0 r.0.1) ∙ r.2);
+      is = sym (no_fault (first_refusal (judged_cards (length lines) r.0.0 r.0.1)) (λ bad. bad) (case_of r.0.0 (made_of_all (case_nodes (known_nodes r.0.0 r.0.1)) (variable_names r.0.0 r.0.1) r.0.0)) p (sym (deck_refused (length lines) r.0.0 r.0.1) ∙ r.2)).1;
     }
 
 pub other_times : (xs ys : List (List ℕ)) (p q : Parts) → HasOtherTimes xs ys → deck_of xs ≡ Ok p → deck_of ys ≡ Ok q → q ≡ case_with_times p (card_times q.switches)

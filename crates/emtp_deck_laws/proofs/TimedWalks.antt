@@ -1,6 +1,7 @@
 -- Walks over lines of which the cards of time switches have other times.
 use Rattle.std.proofs.Common.{◌≡◌, ◌∙◌, ap, sym, subst, refl, ℕ, ◌+◌, Bool, true, false, List, [], ◌∷◌, ◌++◌, length, Option, Some, None, Result, Ok, Err, inl, inr, arith}
 use Rattle.std.specs.Prelude.{if◌then◌else◌}
+use Rattle.emtp_fix.proofs.Chaining.{same_ok}
 use Rattle.emtp_fix.specs.Chain.{unless}
 use Rattle.emtp_card.specs.Lines.{is_comment, is_section_end}
 use Rattle.emtp_card.specs.declared.reason.Bad.{Bad}
@@ -18,7 +19,7 @@ use Rattle.emtp_walk.specs.declared.deck.Deck.{Deck}
 use Rattle.emtp_walk.specs.declared.deck.Place.{Place}
 use Rattle.emtp_walk.specs.declared.deck.Place.TheVariants.{After, Begin, Branches, Control, First, Outputs, Points, Second, Sources, Start, Switches, Third, Waiting}
 use Rattle.emtp_deck_laws.specs.OtherTimes.{AreTimedLines, HasOtherTimes, IsTimedLine}
-use Rattle.emtp_deck_laws.proofs.TimedCards.{IsTimedCard, cards_alike, ok_same}
+use Rattle.emtp_deck_laws.proofs.TimedCards.{IsTimedCard, cards_alike}
 
 -- ---- decks that differ in the times of their switches
 
@@ -66,7 +67,7 @@ record IsLateRead (one other : Deck × Place) : Type 0 where
 
 -- what was read is what is answered
 answered : (a b one other : Deck × Place) → IsLateRead a b → ◌≡◌ {A = Read} (Ok a) (Ok one) → ◌≡◌ {A = Read} (Ok b) (Ok other) → IsLateRead one other
-answered a b one other h e f = subst (λ x. IsLateRead x other) (ok_same a one e) (subst (λ x. IsLateRead a x) (ok_same b other f) h)
+answered a b one other h e f = subst (λ x. IsLateRead x other) (same_ok a one e) (subst (λ x. IsLateRead a x) (same_ok b other f) h)
 
 at_place : (d e : Deck) (place : Place) → IsLate place → AreTimedDecks d e → IsLateRead (d, place) (e, place)
 at_place d e place late decks = record { late = late; reads = record { place = refl; decks = decks } }
@@ -141,7 +142,7 @@ card_at : (d : Deck) (number : ℕ) (line : List ℕ) (comment end : Bool) (read
     → (card : SwitchCard) × (read ≡ Ok card) × (one ≡ (record d { switches = d.switches ++ card ∷ [] }, Switches))
 card_at d number line true end read one c s f = absurd (cc)
 card_at d number line false true read one c s f = absurd (cc)
-card_at d number line false false (Ok card) one c s f = (card, refl, sym (ok_same (record d { switches = d.switches ++ card ∷ [] }, Switches) one f))
+card_at d number line false false (Ok card) one c s f = (card, refl, sym (same_ok (record d { switches = d.switches ++ card ∷ [] }, Switches) one f))
 card_at d number line false false (Err bad) one c s f = absurd (cc)
 
 card_read : (d : Deck) (number : ℕ) (line : List ℕ) (one : Deck × Place) → is_comment line ≡ false → is_section_end line ≡ false → advance d Switches number line ≡ Ok one
@@ -157,9 +158,9 @@ record AreAmong (one other : Deck × Place) : Type 0 where
 
 stays : (d : Deck) (number : ℕ) (line : List ℕ) (comment end : Bool) (read : Result SwitchCard Bad) (one : Deck × Place) → end ≡ false
     → read_as d (λ (card : SwitchCard). record d { switches = d.switches ++ card ∷ [] }) Switches Sources comment end read ≡ Ok one → one.1 ≡ Switches
-stays d number line true end read one s f = sym (ap (λ (n : Deck × Place). n.1) (ok_same (d, Switches) one f))
+stays d number line true end read one s f = sym (ap (λ (n : Deck × Place). n.1) (same_ok (d, Switches) one f))
 stays d number line false true read one s f = absurd (cc)
-stays d number line false false (Ok card) one s f = sym (ap (λ (n : Deck × Place). n.1) (ok_same (record d { switches = d.switches ++ card ∷ [] }, Switches) one f))
+stays d number line false false (Ok card) one s f = sym (ap (λ (n : Deck × Place). n.1) (same_ok (record d { switches = d.switches ++ card ∷ [] }, Switches) one f))
 stays d number line false false (Err bad) one s f = absurd (cc)
 
 line_stays : (d : Deck) (number : ℕ) (line : List ℕ) (one : Deck × Place) → is_section_end line ≡ false → advance d Switches number line ≡ Ok one → one.1 ≡ Switches
@@ -205,7 +206,7 @@ by_read (Err bad) number lines rest deck place on e = absurd (cc)
 
 pub walked_front : (front rest : List (List ℕ)) (number : ℕ) (d deck : Deck) (at place : Place) → walk number d at front ≡ Ok (deck, place) → walk number d at (front ++ rest) ≡ walk (number + length front) deck place rest
 walked_front [] rest number d deck at place e =
-    let same = ok_same (d, at) (deck, place) e in
+    let same = same_ok (d, at) (deck, place) e in
     let none : number ≡ number + 0 = omega arith in
     ap (λ (n : Deck × Place). walk number n.0 n.1 rest) same ∙ ap (λ n. walk n deck place rest) none
 walked_front (line ∷ front) rest number d deck at place e =
