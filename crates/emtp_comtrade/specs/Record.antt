@@ -85,13 +85,17 @@ cfg_head p =
     ++ decimal (analog_before p (length p.channels))
     ++ codes "A," ++ decimal (status_before p (length p.channels)) ++ codes "D" ++ end_of_line
 
+-- the time between two samples, in ps
+abbrev pub sample_time : Parts → ℤ
+sample_time p = pos p.run.every *ℤ p.run.dt
+
 -- the line frequency, no sampling rate, the number of samples, both dates, the file's type, and the
 -- unit of time stamps in microseconds
 unfoldable pub cfg_tail : Parts → ℕ → List ℕ
 cfg_tail p count =
     codes "60" ++ end_of_line ++ codes "0" ++ end_of_line ++ codes "0," ++ decimal count ++ end_of_line
     ++ codes "01/01/2000,00:00:00.000000" ++ end_of_line ++ codes "01/01/2000,00:00:00.000000" ++ end_of_line
-    ++ codes "ASCII" ++ end_of_line ++ fixed_text (pos p.run.every *ℤ p.run.dt) 6 ++ end_of_line
+    ++ codes "ASCII" ++ end_of_line ++ fixed_text (sample_time p) 6 ++ end_of_line
 
 unfoldable pub cfg_text : Parts → List (List ℤ) → List ℕ
 cfg_text p samples =

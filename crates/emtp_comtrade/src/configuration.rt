@@ -1,8 +1,9 @@
 //! The configuration of a record.
-ghost use Rattle.std.specs.Prelude.{◌≡◌, ◌+◌, ◌<◌, ◌≤◌, ◌++◌, pos, ℤ, ◌*ℤ◌, List, length, OnOk};
+ghost use Rattle.std.specs.Prelude.{◌≡◌, ◌+◌, ◌<◌, ◌≤◌, ◌++◌, ℤ, unsigned_abs, List, length, OnOk};
 ghost use Rattle.emtp_case.specs.ChannelName.{name_of_channel};
+ghost use Rattle.emtp_fix.specs.declared.limit.TheConstants.{LARGEST_TIME};
 ghost use Rattle.emtp_io.specs.held.Whole.{Appends};
-ghost use Rattle.emtp_comtrade.specs.Record.{joined, unit_of, unit_at, analog_before, status_before, analog_line, analog_line_at, status_line, status_line_at, cfg_head, cfg_tail, cfg_text};
+ghost use Rattle.emtp_comtrade.specs.Record.{joined, unit_of, unit_at, analog_before, status_before, analog_line, analog_line_at, status_line, status_line_at, sample_time, cfg_head, cfg_tail, cfg_text};
 ghost use Rattle.emtp_comtrade.specs.held.Record.{AreMultipliers};
 ghost use Rattle.emtp_comtrade.specs.held.Stream.{Gathers};
 
@@ -244,9 +245,10 @@ fn push_tail(text: &mut Text, case: &Case, samples: u32)
     text.push(b"\r\n");
 }
 
-/// The time between two samples in ps.
-fn sample_time(case: &Case) -> i64
-    ensures { result ≡ pos case.now.parts.run.every *ℤ case.now.parts.run.dt }
+/// The time between two samples in ps, from 1,000 to 1e18.
+pub fn sample_time(case: &Case) -> i64
+    ensures value { result ≡ sample_time case.now.parts }
+    ensures bound { unsigned_abs result ≤ LARGEST_TIME }
 {
     i64::from(case.parts.run.every) * case.parts.run.dt
 }

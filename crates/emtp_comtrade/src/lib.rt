@@ -20,7 +20,7 @@ mod multipliers;
 mod stream;
 mod text;
 
-pub use configuration::{analog_count, status_count, unit_at, write_cfg};
+pub use configuration::{analog_count, sample_time, status_count, unit_at, write_cfg};
 pub use data::{raw_value, write_dat};
 pub use limit::LARGEST_MULTIPLIER;
 pub use multipliers::{is_status_at, scales};

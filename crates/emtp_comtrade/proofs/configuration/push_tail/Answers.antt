@@ -6,7 +6,7 @@ pub returns : goal.returns
 unfolding cfg_tail
 returns c =
     let held : to_z w64 (of_z w64 c.sample_time.result) ≡ c.sample_time.result = search rules in
-    let time = held ∙ c.sample_time.ensures in
+    let time = held ∙ c.sample_time.ensures.value in
     record {
       text =
           simp (
