@@ -2,7 +2,7 @@
 ghost use Rattle.std.specs.Prelude.{◌≡◌, ℕ, ℤ, ◌<ℤ◌, List, false, ◌+◌, ◌^◌, ◌<◌, ◌≤◌, length, pos, slice_index_or};
 ghost use Rattle.emtp_comtrade.specs.Record.{is_status_at, analog_before, multiplier_at};
 ghost use Rattle.emtp_comtrade.specs.Multiplier.{multiplier_of};
-ghost use Rattle.emtp_comtrade.specs.held.Record.{MultipliersBelow, AreMultipliers, AreGreatest};
+ghost use Rattle.emtp_comtrade.specs.held.Record.{AreMultipliers, AreGreatest};
 ghost use Rattle.emtp_machine.specs.Samples.{value_at};
 ghost use Rattle.emtp_comtrade.specs.held.Multiplier.{IsMultiplier, IsHeld};
 
@@ -24,34 +24,13 @@ pub fn scales(case: &Case, samples: &Samples) -> [i64; 64]
     let mut multipliers = [1; 64];
     let mut analog = 0;
     for place in 0..case.parts.channels.len() {
-        analog = put_multiplier(&mut multipliers, analog, case, samples, &magnitudes, place);
+        if is_status_at(case, place) {
+            continue;
+        }
+        multipliers[analog] = channel_multiplier(&magnitudes, place);
+        analog += 1;
     }
     multipliers
-}
-
-/// Puts the multiplier of the channel at a place after those of the analog channels before it, and answers how many
-/// they are then. Only the clauses read the samples, which the magnitudes are of.
-fn put_multiplier(
-    multipliers: &mut [i64; 64],
-    analog: usize,
-    case: &Case,
-    samples: &Samples,
-    magnitudes: &[u64; 64],
-    place: usize,
-) -> usize
-    requires channels { samples.now.channels ≡ length case.now.parts.channels }
-    requires magnitudes { AreGreatest samples.now.rows samples.now.channels (length samples.now.rows) 0 magnitudes.now }
-    requires place { place < length case.now.parts.channels }
-    requires analog { analog ≡ analog_before case.now.parts place }
-    requires multipliers { MultipliersBelow case.now.parts samples.now.rows place multipliers.old }
-    ensures analog { result ≡ analog_before case.now.parts (place + 1) }
-    ensures multipliers { MultipliersBelow case.now.parts samples.now.rows (place + 1) multipliers.new }
-{
-    if is_status_at(case, place) {
-        return analog;
-    }
-    multipliers[analog] = channel_multiplier(magnitudes, place);
-    analog + 1
 }
 
 /// The multiplier of the channel at a place.
