@@ -10,9 +10,9 @@ use Rattle.emtp_case.specs.declared.case.Parts.{Parts}
 use Rattle.emtp_audit.specs.Audit.{audit_differs}
 use Rattle.emtp_machine.specs.Ranges.{AreSamplesInRange}
 use Rattle.emtp_audit.specs.Cfg.{cfg_rules, rates_in, scales_in, cfg_differs}
-use Rattle.emtp_audit.specs.Dat.{step_of, dat_differs}
+use Rattle.emtp_audit.specs.Dat.{dat_differs}
 use Rattle.emtp_comtrade.specs.held.Multiplier.{IsMultiplier}
-use Rattle.emtp_comtrade.specs.Record.{multiplier_at, cfg_text, dat_text}
+use Rattle.emtp_comtrade.specs.Record.{multiplier_at, sample_time, cfg_text, dat_text}
 use Rattle.emtp_audit.specs.Rules.{differs_or_later, audited_lines, lines_differ}
 use Rattle.emtp_machine.specs.Samples.{value_at, greatest}
 use Rattle.emtp_comtrade.proofs.LeastMultiplier.{IsMultiplier-multiplier_of}
@@ -60,12 +60,12 @@ pub are-held : (p : Parts) (rows : List (List ℤ)) → AreSamplesInRange p rows
 are-held p rows samples sample place there place_there analog =
     value-held (greatest rows place (length rows)) (multiplier_at rows place) (value_at rows sample place) (multiplier-is p rows place samples) (value-greatest rows place sample (length rows) there)
 
--- ---- the time of a sample step
+-- ---- the time between two samples
 
 -- a number of ps from 1 to the greatest unit
 pub record IsUnit (p : Parts) : Type 0 where
   pub unit : ℕ
-  pub is : step_of p ≡ pos unit
+  pub is : sample_time p ≡ pos unit
   pub some : 1 ≤ unit
   pub most : unit ≤ LARGEST_UNIT
 

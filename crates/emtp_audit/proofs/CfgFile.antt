@@ -17,10 +17,9 @@ use Rattle.emtp_case.specs.held.Case.{IsCase}
 use Rattle.emtp_case.specs.declared.case.Parts.{Parts}
 use Rattle.emtp_audit.specs.Numbers.{whole_of}
 use Rattle.emtp_audit.specs.held.Pieces.{ended}
-use Rattle.emtp_comtrade.specs.Record.{joined, is_status_at, is_analog_at, analog_before, status_before, multiplier_at, analog_line, status_line, analog_line_at, status_line_at, cfg_head, cfg_tail, cfg_text, end_of_line}
+use Rattle.emtp_comtrade.specs.Record.{joined, is_status_at, is_analog_at, analog_before, status_before, multiplier_at, analog_line, status_line, analog_line_at, status_line_at, sample_time, cfg_head, cfg_tail, cfg_text, end_of_line}
 use Rattle.emtp_audit.specs.Rules.{Rule, LineRule, Anything, Fields, any_field, text_is, number_is, is_padding, audited_lines}
 use Rattle.emtp_audit.specs.Cfg.{counts, is_read, unit_number, rates_number, analog_rule, status_rule, analog_rule_at, status_rule_at, head_rules, middle_rules, end_rules, letters_are, cfg_rules}
-use Rattle.emtp_audit.specs.Dat.{step_of}
 use Rattle.emtp_audit.proofs.FieldsOfPieces.{with_commas}
 use Rattle.emtp_audit.proofs.Plain.{ArePlain, trimmed-plain, plain-both}
 use Rattle.emtp_audit.proofs.Whole.{decimal-digits}
@@ -115,7 +114,7 @@ date = codes "01/01/2000,00:00:00.000000"
 abbrev pub tail_lines : ℕ → ℕ → List (List ℕ)
 tail_lines count unit = codes "60" ∷ codes "0" ∷ (codes "0," ++ decimal count) ∷ date ∷ date ∷ codes "ASCII" ∷ fixed_text (pos unit) 6 ∷ []
 
-pub tail-ended : (p : Parts) (count unit : ℕ) → step_of p ≡ pos unit
+pub tail-ended : (p : Parts) (count unit : ℕ) → sample_time p ≡ pos unit
     → cfg_tail p count ≡ ended (codes "60") ++ (ended (codes "0") ++ (ended (codes "0," ++ decimal count) ++ (ended date ++ (ended date ++ (ended (codes "ASCII") ++ ended (fixed_text (pos unit) 6))))))
 unfolding cfg_tail
 tail-ended p count unit is =
@@ -151,7 +150,7 @@ solid-fixed unit few =
     let q_small : unit / 10 ^ 6 < 2 ^ 64 = omega (arith, div-le_self unit (10 ^ 6)) in
     ap is_padding (fixed_text-plus unit 6) ∙ padding-digits (decimal (unit / 10 ^ 6)) (point_fraction 6 (unit % 10 ^ 6)) (decimal-digits (unit / 10 ^ 6) q_small) (decimal_nonempty (unit / 10 ^ 6) q_small)
 
-makes-tail : (p : Parts) (count unit : ℕ) → step_of p ≡ pos unit → count ≤ 1000001 → 1 ≤ unit → unit ≤ LARGEST_UNIT
+makes-tail : (p : Parts) (count unit : ℕ) → sample_time p ≡ pos unit → count ≤ 1000001 → 1 ≤ unit → unit ≤ LARGEST_UNIT
     → Makes (cfg_tail p count) (middle_rules count 0 ++ end_rules) (tail_lines count unit)
 makes-tail p count unit is few some small =
     subst (λ (text : List ℕ). Makes text (middle_rules count 0 ++ end_rules) (tail_lines count unit)) (sym (tail-ended p count unit is))
@@ -174,7 +173,7 @@ abbrev pub cfg_lines : Parts → List (List ℤ) → ℕ → List (List ℕ)
 cfg_lines p rows unit =
     head_lines p ++ (joined (length p.channels) (analog_lines_at p rows) ++ (joined (length p.channels) (status_lines_at p) ++ tail_lines (length rows) unit))
 
-pub makes-cfg : (p : Parts) (rows : List (List ℤ)) (unit : ℕ) → IsCase p → AreSmall p rows → step_of p ≡ pos unit → length rows ≤ 1000001 → 1 ≤ unit → unit ≤ LARGEST_UNIT
+pub makes-cfg : (p : Parts) (rows : List (List ℤ)) (unit : ℕ) → IsCase p → AreSmall p rows → sample_time p ≡ pos unit → length rows ≤ 1000001 → 1 ≤ unit → unit ≤ LARGEST_UNIT
     → Makes (cfg_text p rows) (cfg_rules p (length rows) 0) (cfg_lines p rows unit)
 unfolding cfg_text
 makes-cfg p rows unit is small step few some most =

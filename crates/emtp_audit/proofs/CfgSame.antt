@@ -10,12 +10,11 @@ use Rattle.emtp_card.specs.Field.{trimmed}
 use Rattle.emtp_case.specs.held.Case.{IsCase}
 use Rattle.emtp_case.specs.declared.case.Parts.{Parts}
 use Rattle.emtp_audit.specs.declared.scale.Scale.{Scale}
-use Rattle.emtp_comtrade.specs.Record.{joined, is_status_at, is_analog_at, analog_before, multiplier_at, cfg_text}
+use Rattle.emtp_comtrade.specs.Record.{joined, is_status_at, is_analog_at, analog_before, multiplier_at, sample_time, cfg_text}
 use Rattle.emtp_audit.specs.Rules.{audited_lines, comma_fields}
 use Rattle.emtp_comtrade.proofs.Places.{count_below-le, count_below-less}
 use Rattle.emtp_audit.specs.Cfg.{scale_number, unit_number, rates_in, rates_on, scale_on, unit_on, unit_in, scales_in}
 use Rattle.emtp_audit.proofs.Joined.{joined-at}
-use Rattle.emtp_audit.specs.Dat.{step_of}
 use Rattle.emtp_audit.specs.Numbers.{whole_of}
 use Rattle.emtp_audit.proofs.FieldsOfPieces.{fields-pieces}
 use Rattle.emtp_audit.proofs.CfgFields.{scale_number-fixed, unit_number-fixed, plain-fixed}
@@ -109,7 +108,7 @@ scale-read p rows unit place is small there analog =
     two : (k : ℕ) → 2 + k ≡ suc (suc k)
     two k = omega arith
 
-pub scaled-cfg : (p : Parts) (rows : List (List ℤ)) (unit : ℕ) → IsCase p → AreSmall p rows → step_of p ≡ pos unit → length rows ≤ 1000001 → 1 ≤ unit → unit ≤ LARGEST_UNIT
+pub scaled-cfg : (p : Parts) (rows : List (List ℤ)) (unit : ℕ) → IsCase p → AreSmall p rows → sample_time p ≡ pos unit → length rows ≤ 1000001 → 1 ≤ unit → unit ≤ LARGEST_UNIT
     → IsScaledBy p rows (scales_in p (cfg_text p rows))
 unfolding scales_in
 scaled-cfg p rows unit is small step few some most =

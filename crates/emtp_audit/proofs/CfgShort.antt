@@ -9,8 +9,7 @@ use Rattle.emtp_case.specs.declared.case.Parts.{Parts}
 use Rattle.emtp_case.specs.declared.channel.Channel.{Channel}
 use Rattle.emtp_case.specs.declared.channel.Channel.TheVariants.{BranchCurrent, BranchVoltage, SwitchCurrent as CurrentChannel, NodeVoltage as NodeChannel, Tacs as OfTacs, Status, SwitchVoltage}
 use Rattle.emtp_audit.specs.held.Pieces.{ended}
-use Rattle.emtp_comtrade.specs.Record.{joined, is_status_at, is_analog_at, analog_before, status_before, unit_at, unit_of, multiplier_at, analog_line, status_line, analog_line_at, status_line_at, cfg_head, cfg_tail, cfg_text}
-use Rattle.emtp_audit.specs.Dat.{step_of}
+use Rattle.emtp_comtrade.specs.Record.{joined, is_status_at, is_analog_at, analog_before, status_before, unit_at, unit_of, multiplier_at, analog_line, status_line, analog_line_at, status_line_at, sample_time, cfg_head, cfg_tail, cfg_text}
 use Rattle.emtp_audit.proofs.FieldsOfPieces.{with_commas}
 use Rattle.emtp_audit.proofs.Names.{name-text}
 use Rattle.emtp_audit.proofs.CfgFields.{length-fixed}
@@ -93,14 +92,14 @@ head-short p few =
     parts : (n a s : List ℕ) → length (with_commas n ((a ++ codes "A") ∷ (s ++ codes "D") ∷ [])) ≡ length n + length a + length s + 4
     parts n a s = omega (arith, length-append n (44 ∷ ((a ++ codes "A") ++ 44 ∷ (s ++ codes "D"))), length-append (a ++ codes "A") (44 ∷ (s ++ codes "D")), length-append a (codes "A"), length-append s (codes "D"))
 
-tail-short : (p : Parts) (count unit : ℕ) → step_of p ≡ pos unit → count ≤ 1000001 → unit ≤ LARGEST_UNIT → length (cfg_tail p count) ≤ 200
+tail-short : (p : Parts) (count unit : ℕ) → sample_time p ≡ pos unit → count ≤ 1000001 → unit ≤ LARGEST_UNIT → length (cfg_tail p count) ≤ 200
 tail-short p count unit step few small =
     omega (arith, ap length (tail-ended p count unit step), parts (decimal count) (fixed_text (pos unit) 6), length-decimal-le 7 count (omega arith) (omega arith) (omega arith), length-fixed unit 6 (omega arith))
   where
     parts : (c f : List ℕ) → length (ended (codes "60") ++ (ended (codes "0") ++ (ended (codes "0," ++ c) ++ (ended date ++ (ended date ++ (ended (codes "ASCII") ++ ended f)))))) ≡ length c + length f + 76
     parts c f = omega (arith, length-append (c ++ 13 ∷ 10 ∷ []) (ended date ++ (ended date ++ (ended (codes "ASCII") ++ ended f))), length-append c (13 ∷ 10 ∷ []), length-append f (13 ∷ 10 ∷ []))
 
-pub cfg_text-short : (p : Parts) (rows : List (List ℤ)) (unit : ℕ) → IsCase p → AreSmall p rows → step_of p ≡ pos unit → length rows ≤ 1000001 → unit ≤ LARGEST_UNIT
+pub cfg_text-short : (p : Parts) (rows : List (List ℤ)) (unit : ℕ) → IsCase p → AreSmall p rows → sample_time p ≡ pos unit → length rows ≤ 1000001 → unit ≤ LARGEST_UNIT
     → length (cfg_text p rows) ≤ MOST_BYTES
 unfolding cfg_text
 cfg_text-short p rows unit is small step few most =

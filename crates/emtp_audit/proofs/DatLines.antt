@@ -15,11 +15,11 @@ use Rattle.emtp_case.specs.declared.case.Parts.{Parts}
 use Rattle.emtp_audit.specs.declared.scale.Scale.{Scale}
 use Rattle.emtp_audit.specs.declared.differs.DifferCause.TheVariants.{NotNumber}
 use Rattle.emtp_audit.specs.held.Pieces.{ended}
-use Rattle.emtp_comtrade.specs.Record.{joined, is_status_at, analog_before, multiplier_at, raw_at, state_at, dat_line, end_of_line}
+use Rattle.emtp_comtrade.specs.Record.{joined, is_status_at, analog_before, multiplier_at, sample_time, raw_at, state_at, dat_line, end_of_line}
 use Rattle.emtp_comtrade.specs.held.Multiplier.{IsHeld}
 use Rattle.emtp_machine.specs.Samples.{value_at}
 use Rattle.emtp_audit.specs.Rules.{judged_number, unless_wrong, number_is, is_padding}
-use Rattle.emtp_audit.specs.Dat.{Scales, stands_for, raw_is, is_time, stamp_is, state_text, state_is, raw_rule_at, state_rule_at, step_of, dat_rule}
+use Rattle.emtp_audit.specs.Dat.{Scales, stands_for, raw_is, is_time, stamp_is, state_text, state_is, raw_rule_at, state_rule_at, dat_rule}
 use Rattle.emtp_audit.proofs.Plain.{ArePlain, trimmed-plain, plain-signed, plain-digits, plain-no_comma, plain-one_line}
 use Rattle.emtp_audit.proofs.Whole.{whole-decimal, whole-signed, stamp-decimal, decimal-digits, AreAllDigits}
 use Rattle.emtp_audit.proofs.Matches.{Adds, adds-none, adds-piece, adds-both, adds-joined, MeetsLine, meets-fields}
@@ -164,7 +164,7 @@ padding-digits (x ∷ xs) tail are some =
 
 -- what the configuration of the program says
 pub record IsScaledBy (p : Parts) (rows : List (List ℤ)) (scales : Scales) : Type 0 where
-  pub unit : scales.unit ≡ step_of p
+  pub unit : scales.unit ≡ sample_time p
   pub scale : (place : ℕ) → place < length p.channels → is_status_at p place ≡ false → scales.scale (analog_before p place) ≡ scale_by (multiplier_at rows place)
 
 -- each value is held by its raw value
@@ -183,11 +183,11 @@ pub meets-dat : (p : Parts) (rows : List (List ℤ)) (scales : Scales) (sample :
 meets-dat p rows scales sample scaled held few there =
     let digits = plain-digits (decimal (sample + 1)) (decimal-digits (sample + 1) (omega arith)) in
     let stamp = plain-digits (decimal sample) (decimal-digits sample (omega arith)) in
-    let in_time : stamp_is (step_of p) scales.unit (pos 0) sample (trimmed (decimal sample)) ≡ None =
-    ap (λ (u : ℤ). stamp_is (step_of p) u (pos 0) sample (trimmed (decimal sample))) scaled.unit ∙ stamp_is-decimal sample (step_of p) (omega arith) in
+    let in_time : stamp_is (sample_time p) scales.unit (pos 0) sample (trimmed (decimal sample)) ≡ None =
+    ap (λ (u : ℤ). stamp_is (sample_time p) u (pos 0) sample (trimmed (decimal sample))) scaled.unit ∙ stamp_is-decimal sample (sample_time p) (omega arith) in
     meets-fields (decimal (sample + 1)) (44 ∷ decimal sample ++ dat_tail p rows sample) (number_is (pos (sample + 1))) _
     (plain-no_comma (decimal (sample + 1)) digits) (plain-one_line (decimal (sample + 1)) digits) (number_is-decimal (sample + 1) (omega arith))
-    (adds-both (44 ∷ decimal sample) (dat_tail p rows sample) (stamp_is (step_of p) scales.unit (pos 0) sample ∷ []) _
-    (adds-piece (decimal sample) (stamp_is (step_of p) scales.unit (pos 0) sample) (plain-no_comma (decimal sample) stamp) (plain-one_line (decimal sample) stamp) in_time)
+    (adds-both (44 ∷ decimal sample) (dat_tail p rows sample) (stamp_is (sample_time p) scales.unit (pos 0) sample ∷ []) _
+    (adds-piece (decimal sample) (stamp_is (sample_time p) scales.unit (pos 0) sample) (plain-no_comma (decimal sample) stamp) (plain-one_line (decimal sample) stamp) in_time)
     (adds-values p rows scales sample scaled held there))
     (padding-digits (decimal (sample + 1)) _ (decimal-digits (sample + 1) (omega arith)) (decimal_nonempty (sample + 1) (omega arith)))

@@ -2,10 +2,9 @@
 use Rattle.std.specs.Prelude.{ℕ, ◌+◌, ◌^◌, ◌==◌, nat_le, ℤ, pos, ◌+ℤ◌, ◌-ℤ◌, ◌*ℤ◌, unsigned_abs, Bool, true, ◌||◌, List, [], ◌∷◌, ◌++◌, length, slice_index_or, codes, Option, Some, unwrap_or, if◌then◌else◌}
 use Rattle.std.specs.Str.{bytes_eq}
 use Rattle.emtp_case.specs.declared.case.Parts.{Parts}
-use Rattle.emtp_comtrade.specs.Record.{is_status_at, analog_before}
+use Rattle.emtp_comtrade.specs.Record.{joined, is_status_at, analog_before, sample_time}
 use Rattle.emtp_machine.specs.Samples.{value_at}
 use Rattle.emtp_audit.specs.Numbers.{whole_of, stamp_of}
-use Rattle.emtp_comtrade.specs.Record.{joined}
 use Rattle.emtp_audit.specs.Rules.{Rule, LineRule, Fields, judged_number, unless_wrong, number_is, file_differs, audited_lines, comma_fields}
 use Rattle.emtp_audit.specs.declared.differs.DifferCause.TheVariants.{NotNumber}
 use Rattle.emtp_audit.specs.declared.differs.Differs.{Differs}
@@ -47,14 +46,10 @@ raw_rule_at p rows scales sample place =
 abbrev pub state_rule_at : Parts → List (List ℤ) → ℕ → ℕ → List Rule
 state_rule_at p rows sample place = if is_status_at p place then state_is (value_at rows sample place) ∷ [] else []
 
--- the time of a sample step
-abbrev pub step_of : Parts → ℤ
-step_of p = pos p.run.every *ℤ p.run.dt
-
 -- the line of a sample, from 0
 abbrev pub dat_rule : Parts → List (List ℤ) → Scales → ℤ → ℕ → LineRule
 dat_rule p rows scales first sample =
-    Fields (number_is (pos (sample + 1)) ∷ stamp_is (step_of p) scales.unit first sample
+    Fields (number_is (pos (sample + 1)) ∷ stamp_is (sample_time p) scales.unit first sample
     ∷ (joined (length p.channels) (raw_rule_at p rows scales sample) ++ joined (length p.channels) (state_rule_at p rows sample)))
 
 abbrev pub dat_rules : Parts → List (List ℤ) → Scales → ℤ → List LineRule

@@ -5,7 +5,7 @@
 //! that the configuration tells, each to within one step. [`read_cfg`] compares the configuration and answers what it
 //! says of the data ([`Cfg`]); [`read_dat`] compares the data in one pass, without memory. The crate stands on `emtp_card`
 //! for lines and numbers, on `emtp_case` for the channels' names, on `emtp_machine` for the samples, and on
-//! `emtp_comtrade` for the channels' units and counts.
+//! `emtp_comtrade` for the channels' units and counts, and for the time between two samples.
 //!
 //! ```text
 //! match audit(alloc, &case, machine.samples(), cfg_bytes, dat_bytes) {

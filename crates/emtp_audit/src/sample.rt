@@ -3,17 +3,16 @@ ghost use Rattle.std.specs.Prelude.{◌≡◌, true, ◌+◌, ◌<◌, ◌≤◌
 ghost use Rattle.emtp_comtrade.specs.Record.{is_status_at, analog_before};
 ghost use Rattle.emtp_comtrade.specs.Record.{joined};
 ghost use Rattle.emtp_audit.specs.Rules.{line_differs, Fields};
-ghost use Rattle.emtp_audit.specs.Dat.{step_of};
 ghost use Rattle.emtp_audit.specs.held.Dat.{line_rule, raw_rules, state_rules, IsAudited};
 ghost use Rattle.emtp_audit.specs.held.Walk.{Walked, Walks, finds, difference_in};
-ghost use Rattle.emtp_audit.specs.declared.limit.TheConstants.{LARGEST_UNIT, MOST_FIELDS};
+ghost use Rattle.emtp_audit.specs.declared.limit.TheConstants.{MOST_FIELDS};
 
 use crate::differs::{DifferCause, Differs};
 use crate::fields::{Fields, walk_number};
 use crate::scale::Cfg;
 use crate::values::{walk_raw, walk_stamp, walk_state};
 use emtp_case::Case;
-use emtp_comtrade::is_status_at;
+use emtp_comtrade::{is_status_at, sample_time};
 use emtp_machine::Samples;
 
 /// What the data is compared with.
@@ -49,7 +48,7 @@ pub(crate) fn read_line(
     }
     match walk_stamp(
         &mut fields,
-        step(audited.case),
+        sample_time(audited.case),
         audited.cfg.multiplier,
         first,
         sample,
@@ -66,14 +65,6 @@ pub(crate) fn read_line(
         Err(differs) => return Err(differs),
     }
     fields.finish()
-}
-
-/// The time of a sample step, in ps.
-fn step(case: &Case) -> i64
-    ensures value { result ≡ step_of case.now.parts }
-    ensures bound { unsigned_abs result ≤ LARGEST_UNIT }
-{
-    i64::from(case.parts.run.every) * case.parts.run.dt
 }
 
 /// The raw values of a sample have to come next.
