@@ -1,5 +1,5 @@
 -- The end of a run names what its cause blames.
-use Rattle.std.proofs.Common.{◌≡◌, ℕ, Bool, true, false, List, [], Option, Some, None, IfSome, Result, Ok, Err, sym, subst}
+use Rattle.std.proofs.Common.{◌≡◌, ℕ, Bool, true, false, List, [], Option, Some, None, IfErr, IfSome, Result, Ok, Err, sym, subst}
 use Rattle.std.specs.Prelude.{Contains}
 use Rattle.emtp_case.specs.held.Case.{IsCase}
 use Rattle.emtp_case.specs.StepRecord.{StepRecord}
@@ -14,16 +14,15 @@ use Rattle.emtp_net.specs.Part.{NetworkPart}
 use Rattle.emtp_net.specs.Step.{network_part}
 use Rattle.emtp_net.specs.declared.fault.NetFault.{NetFault}
 use Rattle.emtp_net.specs.declared.fault.NetFault.TheVariants.{Range, Residual, Tied, ZeroPivot}
-use Rattle.emtp_case.specs.held.EndNames.{IsNode}
 use Rattle.emtp_tacs.specs.Part.{ControlPart}
 use Rattle.emtp_tacs.specs.Step.{control_step}
 use Rattle.emtp_tacs.specs.declared.fault.TacsFault.{TacsFault}
 use Rattle.std.proofs.lemmas.List.Elements.{Contains-get_or}
 use Rattle.emtp_laws.specs.Runs.{NamesByCause}
-use Rattle.emtp_laws.proofs.NamedNodes.{IsNamed, node_of, part_named}
+use Rattle.emtp_laws.proofs.NamedNodes.{BlamesNode, part_named}
 use Rattle.emtp_laws.proofs.NamedVariables.{IsFine, control_fine}
 
-by_network : (case : Parts) (fault : NetFault) → IsNode case (node_of fault) → NamesByCause case (network_fault case fault).cause (network_fault case fault).name
+by_network : (case : Parts) (fault : NetFault) → BlamesNode case fault → NamesByCause case (network_fault case fault).cause (network_fault case fault).name
 by_network case (Tied node) is = node_named case node is
 by_network case (ZeroPivot node) is = node_named case node is
 by_network case (Range node) is = node_named case node is
@@ -39,7 +38,7 @@ joined_named case part (Err f) fault fine is =
     let same : control_fault case f ≡ fault = cc in
     subst (λ (x : Fault). NamesByCause case x.cause x.name) same (by_control case f.pivot (variable_name case f.var) (Contains-get_or case.vars f.var [] fine))
 
-part_by : (case : Parts) (H : List StepRecord) (o : Result NetworkPart NetFault) (fault : Fault) → IsCase case → IsNamed case o → with_control case H o ≡ Err fault → NamesByCause case fault.cause fault.name
+part_by : (case : Parts) (H : List StepRecord) (o : Result NetworkPart NetFault) (fault : Fault) → IsCase case → IfErr o (BlamesNode case) → with_control case H o ≡ Err fault → NamesByCause case fault.cause fault.name
 part_by case H (Ok part) fault fits named is = joined_named case part (control_step case H (measured_of part)) fault (control_fine case H (measured_of part) fits) is
 part_by case H (Err f) fault fits named is =
     let same : network_fault case f ≡ fault = cc in

@@ -1,8 +1,9 @@
 -- A step of the control that has no part names a variable of the case.
-use Rattle.std.proofs.Common.{◌≡◌, ◌<◌, ℕ, zero, suc, ℤ, if◌then◌else◌, Bool, true, false, List, length, map, slice_get, slice_index_or, All, [], ◌∷◌, Option, Some, None, Result, Ok, Err, refl, subst, arith}
+use Rattle.std.proofs.Common.{◌≡◌, ◌<◌, ℕ, zero, suc, ℤ, if◌then◌else◌, Bool, true, false, List, length, map, slice_get, slice_index_or, All, [], ◌∷◌, Option, Some, None, Result, Ok, Err, IfErr, refl, subst, arith}
 use Rattle.std.proofs.lemmas.Option.{get_or_from_slice_get, slice_get_within}
 use Rattle.emtp_blocks.proofs.Matrices.{length-control_matrix}
 use Rattle.emtp_blocks.specs.System.{first_out, limiters_of, matrix, right}
+use Rattle.emtp_case.proofs.Places.{place_within}
 use Rattle.emtp_case.specs.held.Case.{IsCase}
 use Rattle.emtp_case.specs.held.Control.{IsExtra}
 use Rattle.emtp_case.specs.held.Sizes.{sizes_of}
@@ -13,27 +14,22 @@ use Rattle.emtp_case.specs.declared.control.DeviceState.{DeviceState}
 use Rattle.emtp_case.specs.declared.control.Extra.{Extra}
 use Rattle.emtp_case.specs.declared.control.Extra.TheVariants.{Device as OfDevice, Formula as OfFormula}
 use Rattle.emtp_case.specs.declared.source.Source.{Source}
+use Rattle.emtp_elim.proofs.ChainErrors.{then_err}
+use Rattle.emtp_elim.proofs.RowsOfFaults.{NamesRow, outcome_names_row}
 use Rattle.emtp_elim.specs.Outcome.{outcome}
 use Rattle.emtp_elim.specs.declared.fault.PlainFault.{PlainFault}
 use Rattle.emtp_elim.specs.declared.fault.PlainFault.TheVariants.{NoMemory, Row, Solve}
-use Rattle.emtp_fix.specs.Chain.{◌>>=◌}
 use Rattle.emtp_tacs.specs.held.Stages.{NamesVariable}
 use Rattle.emtp_tacs.specs.Step.{Measured, SoFar, accepted, block_var, blocks, control_step, device_by, extra_at, extra_by, extra_of, extras, group_of, in_turn, is_in_pass, known_before, solved_by, source_at, source_by, sources, starting, written}
 use Rattle.emtp_tacs.specs.declared.fault.TacsFault.{TacsFault}
-use Rattle.emtp_laws.proofs.NamedNodes.{NamesRow, found_below, outcome_named}
 
 -- a fault, if there is one, names a variable
 abbrev pub IsFine : {A : Type 0} → Parts → Result A TacsFault → Type 0
-IsFine case (Ok x) = Unit {0}
-IsFine case (Err fault) = NamesVariable case fault
-
-next_fine : {A B : Type 0} (case : Parts) (m : Result A TacsFault) (f : A → Result B TacsFault) → IsFine case m → ((x : A) → IsFine case (f x)) → IsFine case (m >>= f)
-next_fine case (Ok x) f first after = after x
-next_fine case (Err fault) f first after = first
+IsFine case r = IfErr r (NamesVariable case)
 
 in_turn_fine : (case : Parts) (f : ℕ → SoFar → Result SoFar TacsFault) (n : ℕ) (s : SoFar) → ((k : ℕ) (t : SoFar) → IsFine case (f k t)) → IsFine case (in_turn f n s)
 in_turn_fine case f zero s each = tt
-in_turn_fine case f (suc n) s each = next_fine case (in_turn f n s) (f n) (in_turn_fine case f n s each) (each n)
+in_turn_fine case f (suc n) s each = then_err (NamesVariable case) (in_turn f n s) (f n) (in_turn_fine case f n s each) (λ t is. each n t)
 
 -- ---- cards
 
@@ -93,24 +89,25 @@ accepted_fine : (case : Parts) (H : List StepRecord) (known xs : List ℤ) (o : 
 accepted_fine case H known xs None fits there = tt
 accepted_fine case H known xs (Some i) fits there = var_there case i fits (there i refl)
 
-solved_fine : (case : Parts) (H : List StepRecord) (known : List ℤ) (o : Result (List ℤ) PlainFault) → IsCase case → ((fault : PlainFault) → o ≡ Err fault → NamesRow (length case.blocks) fault) → IsFine case (solved_by case H known o)
-solved_fine case H known (Ok xs) fits is = accepted_fine case H known xs (first_out case H known xs) fits (λ i e. found_below _ (length case.blocks) i e)
-solved_fine case H known (Err (Row fault)) fits is = var_there case fault.row fits (is (Row fault) refl)
-solved_fine case H known (Err (Solve fault)) fits is = var_there case fault.row fits (is (Solve fault) refl)
-solved_fine case H known (Err NoMemory) fits is = absurd (is NoMemory refl)
+solved_fine : (case : Parts) (H : List StepRecord) (known : List ℤ) (o : Result (List ℤ) PlainFault) → IsCase case → IfErr o (NamesRow (length case.blocks)) → IsFine case (solved_by case H known o)
+solved_fine case H known (Ok xs) fits there = accepted_fine case H known xs (first_out case H known xs) fits (λ i is. place_within _ (length case.blocks) i is)
+solved_fine case H known (Err (Row fault)) fits there = var_there case fault.row fits there
+solved_fine case H known (Err (Solve fault)) fits there = var_there case fault.row fits there
+solved_fine case H known (Err NoMemory) fits there = absurd there
 
 blocks_fine : (case : Parts) (H : List StepRecord) (known : List ℤ) → IsCase case → IsFine case (blocks case H known)
 blocks_fine case H known fits =
-    solved_fine case H known (outcome (matrix case H) (right case H known)) fits
-    (λ fault is. subst (λ n. NamesRow n fault) (length-control_matrix case (limiters_of case H)) (outcome_named (matrix case H) (right case H known) fault is))
+    let solved = outcome (matrix case H) (right case H known) in
+    solved_fine case H known solved fits (subst (λ n. IfErr solved (NamesRow n)) (length-control_matrix case (limiters_of case H)) (outcome_names_row (matrix case H) (right case H known)))
 
 -- ---- the step
 
 pub control_fine : (case : Parts) (H : List StepRecord) (m : Measured) → IsCase case → IsFine case (control_step case H m)
 unfolding control_step
 control_fine case H m fits =
-    next_fine case (known_before case H m) _
-    (next_fine case (sources case (length H) m (starting case H)) (extras case H true) (sources_fine case (length H) m (starting case H) fits) (λ s. extras_fine case H true s fits))
-    (λ known.
-    next_fine case (blocks case H known.values) _ (blocks_fine case H known.values fits)
-    (λ solved. next_fine case (extras case H false (record known { values = solved.values })) _ (extras_fine case H false (record known { values = solved.values }) fits) (λ last. tt)))
+    let P = NamesVariable case in
+    then_err P (known_before case H m) _
+    (then_err P (sources case (length H) m (starting case H)) (extras case H true) (sources_fine case (length H) m (starting case H) fits) (λ s is. extras_fine case H true s fits))
+    (λ known is.
+    then_err P (blocks case H known.values) _ (blocks_fine case H known.values fits)
+    (λ solved is. then_err P (extras case H false (record known { values = solved.values })) _ (extras_fine case H false (record known { values = solved.values }) fits) (λ last is. tt)))
