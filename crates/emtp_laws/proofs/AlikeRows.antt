@@ -1,4 +1,4 @@
--- A case with other sources and another number of steps has the same rows, where the same nodes have sources.
+-- A case with other sources, another time step and another number of steps has the same rows, where the same nodes have sources.
 use Rattle.std.proofs.Common.{◌≡◌, ◌∙◌, ◌==◌, ◌&&◌, not, ℕ, zero, suc, ℤ, pos, if◌then◌else◌, Bool, List, map, length, slice_index, refl, ap}
 use Rattle.std.specs.List.{count_by, position_or_len, range_with_len}
 use Rattle.std.specs.Ordering.{is_lt}
@@ -21,12 +21,13 @@ use Rattle.emtp_switch.specs.Kinds.{count_members, has_feed, has_member, kind_by
 
 -- what may be another number or list
 pub record Other : Type 0 where
+  pub dt : ℤ
   pub steps : ℕ
   pub sources : List Source
   pub tacs_sources : List Source
 
 abbrev pub changed : Other → Parts → Parts
-changed o case = record case { run = record case.run { steps = o.steps }; sources = o.sources; tacs_sources = o.tacs_sources }
+changed o case = record case { run = record case.run { dt = o.dt; steps = o.steps }; sources = o.sources; tacs_sources = o.tacs_sources }
 
 -- the same nodes have voltage sources
 abbrev pub SameKnown : Other → Parts → Type 0

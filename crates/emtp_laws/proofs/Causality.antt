@@ -27,7 +27,7 @@ use Rattle.emtp_wave.specs.Wave.{active_value, is_over, value_of}
 use Rattle.emtp_laws.specs.Causality.{AgreeUpto, DifferAfter, DifferInLaterStops, InControl, InNetwork, SamplesAgreeUpto, as_far_as, in_control, in_network, stop_before}
 use Rattle.emtp_laws.proofs.AlikeRows.{Other, changed}
 use Rattle.emtp_laws.proofs.AlikeRuns.{AreStepsAlike, history_alike, samples_alike}
-use Rattle.emtp_laws.proofs.AlikeSteps.{AreAlike, next_same}
+use Rattle.emtp_laws.proofs.AlikeSteps.{BringAlike, next_same}
 use Rattle.emtp_laws.proofs.LongerSamples.{begins, steps}
 use Rattle.emtp_laws.proofs.MirroredNumbers.{any_map}
 
@@ -45,6 +45,10 @@ find_map : {X Y Z : Type 0} (f : Y → Z) (p : Y → Bool) (g : X → Y) (xs : L
 find_map f p g [] = refl
 find_map f p g (x ∷ xs) = found f g (p (g x)) x (find p (map g xs)) (find (λ y. p (g y)) xs) (find_map f p g xs)
 
+-- the sources of the other case
+abbrev sources_of : Parts → Parts → Other
+sources_of case other = record { dt = case.run.dt; steps = case.run.steps; sources = other.sources; tacs_sources = other.tacs_sources }
+
 -- ---- the network
 
 abbrev keeps_voltage : ℕ → InNetwork → Bool
@@ -56,32 +60,32 @@ brings_current node x = x.current && (x.node == node)
 abbrev brought : ℕ → InNetwork → ℤ
 brought node x = if brings_current node x then x.value else pos 0
 
-abbrev SeenAlike : Parts → Other → List StepRecord → Type 0
-SeenAlike case o H = map (in_network case.run (length H) (latest H).values) o.sources ≡ map (in_network case.run (length H) (latest H).values) case.sources
+abbrev SeenAlike : Parts → Parts → List StepRecord → Type 0
+SeenAlike case other H = map (in_network case.run (length H) (latest H).values) other.sources ≡ map (in_network case.run (length H) (latest H).values) case.sources
 
-any_same : (case : Parts) (o : Other) (H : List StepRecord) → SeenAlike case o H → (p : InNetwork → Bool)
-    → list_any (λ (s : Source). p (in_network case.run (length H) (latest H).values s)) o.sources ≡ list_any (λ (s : Source). p (in_network case.run (length H) (latest H).values s)) case.sources
-any_same case o H seen p =
+any_same : (case other : Parts) (H : List StepRecord) → SeenAlike case other H → (p : InNetwork → Bool)
+    → list_any (λ (s : Source). p (in_network case.run (length H) (latest H).values s)) other.sources ≡ list_any (λ (s : Source). p (in_network case.run (length H) (latest H).values s)) case.sources
+any_same case other H seen p =
     let see = in_network case.run (length H) (latest H).values in
-    sym (any_map p see o.sources) ∙ ap (list_any p) seen ∙ any_map p see case.sources
+    sym (any_map p see other.sources) ∙ ap (list_any p) seen ∙ any_map p see case.sources
 
-known_same : (case : Parts) (o : Other) (H : List StepRecord) → SeenAlike case o H → has_source (changed o case) ≡ has_source case
-known_same case o H seen = fun_ext (λ node. any_same case o H seen (keeps_voltage node))
+known_same : (case other : Parts) (H : List StepRecord) → SeenAlike case other H → has_source (changed (sources_of case other) case) ≡ has_source case
+known_same case other H seen = fun_ext (λ node. any_same case other H seen (keeps_voltage node))
 
-feed_same : (case : Parts) (o : Other) (H : List StepRecord) → SeenAlike case o H → has_feed (changed o case) ≡ has_feed case
-feed_same case o H seen = fun_ext (λ node. ap (λ b. list_any (is_branch_at node) case.branches || b) (any_same case o H seen (brings_current node)))
+feed_same : (case other : Parts) (H : List StepRecord) → SeenAlike case other H → has_feed (changed (sources_of case other) case) ≡ has_feed case
+feed_same case other H seen = fun_ext (λ node. ap (λ b. list_any (is_branch_at node) case.branches || b) (any_same case other H seen (brings_current node)))
 
-into_same : (case : Parts) (o : Other) (H : List StepRecord) → SeenAlike case o H → sources_into (changed o case) H ≡ sources_into case H
-into_same case o H seen = fun_ext (λ node.
+into_same : (case other : Parts) (H : List StepRecord) → SeenAlike case other H → sources_into (changed (sources_of case other) case) H ≡ sources_into case H
+into_same case other H seen = fun_ext (λ node.
     let see = in_network case.run (length H) (latest H).values in
-    sym (total_map (brought node) see o.sources) ∙ ap (total (brought node)) seen ∙ total_map (brought node) see case.sources)
+    sym (total_map (brought node) see other.sources) ∙ ap (total (brought node)) seen ∙ total_map (brought node) see case.sources)
 
-held_same : (case : Parts) (o : Other) (H : List StepRecord) → SeenAlike case o H → voltage_of (changed o case) H ≡ voltage_of case H
-held_same case o H seen = fun_ext (λ node.
+held_same : (case other : Parts) (H : List StepRecord) → SeenAlike case other H → voltage_of (changed (sources_of case other) case) H ≡ voltage_of case H
+held_same case other H seen = fun_ext (λ node.
     let see = in_network case.run (length H) (latest H).values in
     let value : InNetwork → ℤ = λ x. x.value in
     ap (λ (v : Option ℤ). unwrap_or v (pos 0)) (
-    sym (find_map value (keeps_voltage node) see o.sources)
+    sym (find_map value (keeps_voltage node) see other.sources)
     ∙ ap (λ (xs : List InNetwork). option_map value (find (keeps_voltage node) xs)) seen
     ∙ find_map value (keeps_voltage node) see case.sources))
 
@@ -108,18 +112,16 @@ all_given case k m s =
 
 -- ---- a step, and a run
 
-abbrev sources_of : Parts → Parts → Other
-sources_of case other = record { steps = case.run.steps; sources = other.sources; tacs_sources = other.tacs_sources }
-
 steps_alike : (n : ℕ) (case other : Parts) → DifferAfter n case other → AreStepsAlike case (sources_of case other) n
 steps_alike n case other d = λ H some few.
     let o = sources_of case other in
     let seen = d.network (length H) some few (latest H).values in
-    let alike : AreAlike case o H = record {
-      known = known_same case o H seen;
-      feed = feed_same case o H seen;
-      into = into_same case o H seen;
-      held = held_same case o H seen;
+    let alike : BringAlike case o H = record {
+      dt = refl;
+      known = known_same case other H seen;
+      feed = feed_same case other H seen;
+      into = into_same case other H seen;
+      held = held_same case other H seen;
       control = λ m s. all_given (changed o case) (length H) m s ∙ ap (λ (xs : List InControl). given xs s) (d.control (length H) some few m) ∙ sym (all_given case (length H) m s);
     } in
     next_same case o H alike

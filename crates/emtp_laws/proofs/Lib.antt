@@ -30,7 +30,8 @@ mod SeriesVoltages
 mod OddSegments
 mod MirroredRecords
 mod MirroredBranches
-mod AlikeRows
+pub mod AlikeRows
+pub mod AlikeNetworks
 mod AlikeSteps
 mod AlikeRuns
 mod MirroredRows

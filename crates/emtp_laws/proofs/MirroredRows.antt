@@ -16,7 +16,7 @@ use Rattle.emtp_laws.proofs.MirroredNumbers.{any_map}
 
 -- the mirrored sources
 abbrev opposite : Parts → Other
-opposite case = record { steps = case.run.steps; sources = map mirrored_source case.sources; tacs_sources = case.tacs_sources }
+opposite case = record { dt = case.run.dt; steps = case.run.steps; sources = map mirrored_source case.sources; tacs_sources = case.tacs_sources }
 
 has_source_same : (case : Parts) → has_source (mirror_image case) ≡ has_source case
 has_source_same case = fun_ext (λ node. any_map (is_voltage_source_at node) mirrored_source case.sources)
