@@ -26,6 +26,8 @@ mod SampleCounts
 mod MirroredNumbers
 mod OddBranches
 mod ReversedSeries
+pub mod Products
+pub mod SeriesSteps
 mod SeriesVoltages
 mod OddSegments
 mod MirroredRecords

@@ -1,6 +1,6 @@
 -- The voltage of a series branch is the sum of its drops, within the rounding of a step.
-use Rattle.std.proofs.Common.{◌≡◌, ◌≢◌, ◌∙◌, ◌+◌, ◌*◌, ◌^◌, ◌≤◌, ℕ, zero, suc, ℤ, pos, negsuc, neg_ℤ, ◌+ℤ◌, ◌-ℤ◌, ◌*ℤ◌, ◌≤ℤ◌, unsigned_abs, List, slice_get, Option, Some, None, refl, ap, sym, subst, arith}
-use Rattle.std.proofs.Math.IntN.{*ℤ-zero, *ℤ_comm}
+use Rattle.std.proofs.Common.{◌≡◌, ◌≢◌, ◌∙◌, ◌+◌, ◌*◌, ◌^◌, ◌≤◌, ℕ, ℤ, pos, ◌+ℤ◌, ◌-ℤ◌, ◌*ℤ◌, ◌≤ℤ◌, unsigned_abs, List, slice_get, Some, refl, ap, sym, subst, arith}
+use Rattle.std.proofs.Math.IntN.{*ℤ_comm}
 use Rattle.std.proofs.lemmas.Int.{ints, unsigned_abs-mul}
 use Rattle.std.proofs.lemmas.Nat.{mul-le}
 use Rattle.std.proofs.lemmas.Option.{slice_get_within}
@@ -13,54 +13,17 @@ use Rattle.emtp_case.specs.StepRecord.{no_lumped}
 use Rattle.emtp_case.specs.declared.case.Parts.{Parts}
 use Rattle.emtp_fix.proofs.Nearest.{near-rest}
 use Rattle.emtp_fix.proofs.Quotients.{near-times_zero}
-use Rattle.emtp_fix.proofs.Ranges.{in_range-is}
-use Rattle.emtp_fix.proofs.Wide.{mul_add, mul_neg}
-use Rattle.emtp_fix.specs.Limit.{in_range, ◌>>=◌}
+use Rattle.emtp_fix.proofs.Wide.{mul_add}
 use Rattle.emtp_fix.specs.Rounding.{near}
 use Rattle.emtp_fix.specs.declared.limit.TheConstants.{ATTO, MICRO, PICO}
 use Rattle.emtp_lumped.specs.Companion.{companion_of}
 use Rattle.emtp_lumped.specs.Lumps.{newest, next_of}
 use Rattle.emtp_net.proofs.Nodes.{branch_fits}
-use Rattle.emtp_lumped.specs.Step.{capacitor_voltage_of, current_of, history_voltage_of, inductor_voltage_of, next_state}
+use Rattle.emtp_lumped.specs.Step.{history_voltage_of, next_state}
 use Rattle.emtp_lumped.specs.declared.companion.Companion.{Companion}
 use Rattle.emtp_laws.specs.Branches.{AddsUpDrops, HasItsHistoryVoltage}
-
--- ---- products
-
-mul_sub : (g x y : ℤ) → g *ℤ (x -ℤ y) ≡ g *ℤ x -ℤ g *ℤ y
-mul_sub g x y =
-    let turned : x -ℤ y ≡ x +ℤ neg_ℤ y = omega (arith, ints) in
-    ap (λ z. g *ℤ z) turned ∙ mul_add g x (neg_ℤ y) ∙ ap (λ z. g *ℤ x +ℤ z) (mul_neg g y) ∙ minus (g *ℤ x) (g *ℤ y)
-  where
-    minus : (a b : ℤ) → a +ℤ neg_ℤ b ≡ a -ℤ b
-    minus a b = omega (arith, ints)
-
-add_mul : (x y g : ℤ) → (x +ℤ y) *ℤ g ≡ x *ℤ g +ℤ y *ℤ g
-add_mul x y g = *ℤ_comm (x +ℤ y) g ∙ mul_add g x y ∙ ap (λ z. z +ℤ g *ℤ y) (*ℤ_comm g x) ∙ ap (λ z. x *ℤ g +ℤ z) (*ℤ_comm g y)
-
-sub_mul : (x y g : ℤ) → (x -ℤ y) *ℤ g ≡ x *ℤ g -ℤ y *ℤ g
-sub_mul x y g = *ℤ_comm (x -ℤ y) g ∙ mul_sub g x y ∙ ap (λ z. z -ℤ g *ℤ y) (*ℤ_comm g x) ∙ ap (λ z. x *ℤ g -ℤ z) (*ℤ_comm g y)
-
-one_time_more : (g : ℤ) (n : ℕ) → g *ℤ pos (suc n) ≡ g *ℤ pos n +ℤ g
-one_time_more g n =
-    let split : pos (suc n) ≡ pos n +ℤ pos 1 = omega (arith, ints) in
-    let one : g *ℤ pos 1 ≡ g = omega (arith, ints) in
-    ap (λ z. g *ℤ z) split ∙ mul_add g (pos n) (pos 1) ∙ ap (λ z. g *ℤ pos n +ℤ z) one
-
-mul_assoc_pos : (a b : ℤ) (n : ℕ) → a *ℤ b *ℤ pos n ≡ a *ℤ (b *ℤ pos n)
-mul_assoc_pos a b zero = *ℤ-zero (a *ℤ b) ∙ sym (ap (λ z. a *ℤ z) (*ℤ-zero b) ∙ *ℤ-zero a)
-mul_assoc_pos a b (suc n) =
-    one_time_more (a *ℤ b) n ∙ ap (λ z. z +ℤ a *ℤ b) (mul_assoc_pos a b n)
-    ∙ sym (mul_add a (b *ℤ pos n) b) ∙ sym (ap (λ z. a *ℤ z) (one_time_more b n))
-
-mul_assoc : (a b c : ℤ) → a *ℤ b *ℤ c ≡ a *ℤ (b *ℤ c)
-mul_assoc a b (pos n) = mul_assoc_pos a b n
-mul_assoc a b (negsuc n) =
-    mul_neg (a *ℤ b) (pos (suc n)) ∙ ap neg_ℤ (mul_assoc_pos a b (suc n))
-    ∙ sym (ap (λ z. a *ℤ z) (mul_neg b (pos (suc n))) ∙ mul_neg a (b *ℤ pos (suc n)))
-
-swapped : (z t i : ℤ) → z *ℤ (t *ℤ i) ≡ t *ℤ (z *ℤ i)
-swapped z t i = sym (mul_assoc z t i) ∙ ap (λ p. p *ℤ i) (*ℤ_comm z t) ∙ mul_assoc t z i
+use Rattle.emtp_laws.proofs.Products.{add_mul, mul_assoc, mul_sub, sub_mul, swapped}
+use Rattle.emtp_laws.proofs.SeriesSteps.{IsMoved, moved}
 
 -- ---- the drops, up to the rests of three quotients
 
@@ -108,37 +71,6 @@ small z g v e h k in_g in_v in_e =
   where
     joined : (x p q c w z s u : ℕ) → 10 ^ 12 * x ≤ p + q → p ≡ c * w → q ≡ z * s → 2 * c * w ≤ z * u → z * (2 * s) ≤ z * (2 * 10 ^ 12) → 2 * 10 ^ 12 * x ≤ z * u + 2 * 10 ^ 12 * z
     joined x p q c w z s u a first second left right = omega arith
-
--- ---- a step, inverted
-
-then_some : {A B : Type 0} (o : Option A) (f : A → Option B) (y : B) → (o >>= f) ≡ Some y → (a : A) × (o ≡ Some a) × (f a ≡ Some y)
-then_some (Some a) f y e = (a, refl, e)
-then_some None f y e = absurd (cc)
-
-same_some : {A : Type 0} (x y : A) → Some x ≡ Some y → x ≡ y
-same_some x y e = cc
-
--- what is kept follows from the voltage and from what was kept
-record IsMoved (c : Companion) (old : LumpedState) (v : ℤ) (new : LumpedState) : Type 0 where
-  current : new.current ≡ current_of c old v
-  inductor : new.v_l ≡ inductor_voltage_of c old new.current
-  capacitor : new.v_c ≡ capacitor_voltage_of c old new.current
-  history : new.history_voltage ≡ history_voltage_of c new.current new.v_l new.v_c
-
-moved : (c : Companion) (old : LumpedState) (v : ℤ) (new : LumpedState) → next_state c old v ≡ Some new → IsMoved c old v new
-unfolding next_state
-moved c old v new e =
-    let i = then_some (in_range (current_of c old v)) _ new e in
-    let l = then_some (in_range (inductor_voltage_of c old i.0)) _ new i.2 in
-    let k = then_some (in_range (capacitor_voltage_of c old i.0)) _ new l.2 in
-    let h = then_some (in_range (history_voltage_of c i.0 l.0 k.0)) _ new k.2 in
-    let made : LumpedState = record { current = i.0; v_l = l.0; v_c = k.0; history_voltage = h.0 } in
-    subst (IsMoved c old v) (same_some made new h.2) (record {
-      current = in_range-is (current_of c old v) i.0 i.1;
-      inductor = in_range-is (inductor_voltage_of c old i.0) l.0 l.1;
-      capacitor = in_range-is (capacitor_voltage_of c old i.0) k.0 k.1;
-      history = in_range-is (history_voltage_of c i.0 l.0 k.0) h.0 h.1;
-    })
 
 -- ---- the law
 
