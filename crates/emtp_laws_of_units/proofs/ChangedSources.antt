@@ -15,8 +15,8 @@ use Rattle.emtp_elim.specs.Matrix.{list_of}
 use Rattle.emtp_net.specs.Step.{network_part}
 use Rattle.emtp_net.specs.System.{source_value, sources_into, voltage_of}
 use Rattle.emtp_switch.specs.Kinds.{has_feed, is_branch_at, is_current_source_at}
-use Rattle.emtp_laws_of_units.proofs.AlikeRows.{changed}
-use Rattle.emtp_laws_of_units.proofs.AlikeSteps.{AreAlike, network_same}
+use Rattle.emtp_laws.proofs.AlikeRows.{changed}
+use Rattle.emtp_laws.proofs.AlikeNetworks.{TakeAlike, network_same}
 use Rattle.emtp_laws_of_units.proofs.Memoryless.{emptied}
 use Rattle.emtp_laws_of_units.proofs.SameReadings.{PastsReadAlike, conductance_same, having, history_same, state_same}
 
@@ -75,7 +75,7 @@ module _ (case : Parts) (g : Source → Source) (K H : List StepRecord) (act : A
   voltage_same = fun_ext (λ n. ap (λ o. unwrap_or o (pos 0))
       (found_changed (is_voltage_source_at n) (is_voltage_source_at n) (source_value (changed (having (map g case.sources) case) case) K) (source_value case H) g (held_at n) case.sources act.values))
 
-  alike : case.switches ≡ [] → PastsReadAlike K H → AreAlike case (having (map g case.sources) case) K H
+  alike : case.switches ≡ [] → PastsReadAlike K H → TakeAlike case (having (map g case.sources) case) K H
   alike none same = record {
     known = known_same;
     feed = feed_same;

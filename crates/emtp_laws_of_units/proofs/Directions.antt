@@ -10,7 +10,7 @@ use Rattle.emtp_wave.proofs.Circle.{direction_small}
 use Rattle.emtp_wave.specs.Cosine.{direction, turned}
 use Rattle.emtp_wave.specs.held.Cosine.{IsSmall}
 use Rattle.emtp_wave.specs.declared.direction.Direction.{Direction}
-use Rattle.emtp_laws_of_units.proofs.Products.{mul_sub, swapped}
+use Rattle.emtp_laws.proofs.Products.{mul_sub, swapped}
 
 -- cosine and sine of a hundredth of a degree, in 10^-18
 abbrev A : ℕ

@@ -1,12 +1,8 @@
-pub mod Products
 pub mod SameReadings
-pub mod SeriesSteps
 pub mod Trapezoids
 pub mod LosslessLines
 pub mod LineSteps
 pub mod LineRuns
-pub mod AlikeRows
-pub mod AlikeSteps
 pub mod Memoryless
 pub mod CommonTimes
 pub mod LaterSources

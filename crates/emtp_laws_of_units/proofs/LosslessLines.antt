@@ -1,9 +1,10 @@
 -- A line without loss whose travel time is whole steps: its numbers by the card, and a step of it.
-use Rattle.std.proofs.Common.{◌≡◌, ◌∙◌, ◌≢◌, ◌+◌, ◌-◌, ◌*◌, ◌^◌, ◌<◌, ◌≤◌, ◌%◌, ap, sym, subst, refl, ℕ, ℤ, pos, negsuc, neg_ℤ, ◌+ℤ◌, ◌-ℤ◌, ◌*ℤ◌, ◌≤ℤ◌, ◌<ℤ◌, unsigned_abs, List, get_or, Option, Some, None, arith}
+use Rattle.std.proofs.Common.{◌≡◌, ◌∙◌, ◌≢◌, ◌+◌, ◌-◌, ◌*◌, ◌^◌, ◌<◌, ◌≤◌, ◌%◌, ap, sym, subst, refl, ℕ, ℤ, pos, negsuc, neg_ℤ, ◌+ℤ◌, ◌-ℤ◌, ◌*ℤ◌, ◌≤ℤ◌, ◌<ℤ◌, unsigned_abs, List, get_or, Some, arith}
 use Rattle.std.proofs.Math.IntN.{*ℤ_comm}
 use Rattle.std.proofs.Math.Nat.{mod-eq-sub-div-mul}
 use Rattle.std.proofs.lemmas.Int.{ints}
 use Rattle.std.proofs.lemmas.Nat.{div-mul-add}
+use Rattle.std.proofs.lemmas.Option.{same_Some}
 use Rattle.emtp_case.specs.held.Range.{IsBetween}
 use Rattle.emtp_case.specs.held.RunData.{IsTimeStep}
 use Rattle.emtp_case.specs.StepRecord.{no_line}
@@ -13,7 +14,7 @@ use Rattle.emtp_fix.proofs.Nearest.{near-rest, near-zero}
 use Rattle.emtp_fix.proofs.Quotients.{near-exact, near-zero_times}
 use Rattle.emtp_fix.proofs.Ranges.{in_range-is}
 use Rattle.emtp_fix.proofs.Wide.{mul_add}
-use Rattle.emtp_fix.specs.Limit.{in_range, ◌>>=◌}
+use Rattle.emtp_fix.specs.Limit.{in_range}
 use Rattle.emtp_fix.specs.Rounding.{near}
 use Rattle.emtp_fix.specs.declared.limit.TheConstants.{ATTO, LARGEST_IMPEDANCE, LEAST_IMPEDANCE, PICO}
 use Rattle.emtp_line.proofs.Physics.{arrives, lossless, waves_read}
@@ -23,8 +24,9 @@ use Rattle.emtp_line.specs.Line.{from_waves, line_histories, line_state, next_st
 use Rattle.emtp_line.specs.Mode.{mode_of, mode_of_line}
 use Rattle.emtp_line.specs.Wave.{between, current_of, end_of, history_of, past_wave, wave_of}
 use Rattle.emtp_line.specs.declared.mode.Mode.{Mode}
+use Rattle.emtp_laws.proofs.Products.{mul_sub, sub_mul}
+use Rattle.emtp_laws.proofs.SeriesSteps.{then_some}
 use Rattle.emtp_laws_of_units.specs.Travel.{LiesBetween, received, sent, surge_conductance}
-use Rattle.emtp_laws_of_units.proofs.Products.{mul_sub, sub_mul}
 
 -- ---- its numbers
 
@@ -73,10 +75,6 @@ whole_mode dt x k step surge none travels =
 
 -- ---- a step, inverted
 
-then_some : {A B : Type 0} (o : Option A) (f : A → Option B) (y : B) → (o >>= f) ≡ Some y → (a : A) × (o ≡ Some a) × (f a ≡ Some y)
-then_some (Some a) f y e = (a, refl, e)
-then_some None f y e = absurd (cc)
-
 -- current and wave of an end follow from its history current and its voltage
 pub record IsEnd (m : Mode) (history v i w : ℤ) : Type 0 where
   pub current : i ≡ current_of m history v
@@ -87,10 +85,7 @@ unfolding end_of
 ends m history v s e =
     let i = then_some (in_range (current_of m history v)) _ s e in
     let w = then_some (in_range (wave_of m v i.0)) _ s i.2 in
-    subst (λ (t : ℤ × ℤ). IsEnd m history v t.0 t.1) (same (i.0, w.0) s w.2) (record { current = in_range-is (current_of m history v) i.0 i.1; wave = in_range-is (wave_of m v i.0) w.0 w.1 })
-  where
-    same : (a b : ℤ × ℤ) → Some a ≡ Some b → a ≡ b
-    same a b e = cc
+    subst (λ (t : ℤ × ℤ). IsEnd m history v t.0 t.1) (same_Some (i.0, w.0) s w.2) (record { current = in_range-is (current_of m history v) i.0 i.1; wave = in_range-is (wave_of m v i.0) w.0 w.1 })
 
 pub record IsLineStep (m : Mode) (past : List LineState) (v w : ℤ) (new : LineState) : Type 0 where
   pub «from» : IsEnd m (line_histories m past).0 v new.from_current new.from_wave
@@ -102,13 +97,10 @@ stepped m past v w new e =
     let f = then_some (end_of m (line_histories m past).0 v) _ new e in
     let t = then_some (end_of m (line_histories m past).1 w) _ new f.2 in
     let made : LineState = record { from_current = f.0.0; to_current = t.0.0; from_wave = f.0.1; to_wave = t.0.1 } in
-    subst (IsLineStep m past v w) (same made new t.2) (record {
+    subst (IsLineStep m past v w) (same_Some made new t.2) (record {
       «from» = ends m (line_histories m past).0 v f.0 f.1;
       to = ends m (line_histories m past).1 w t.0 t.1;
     })
-  where
-    same : (a b : LineState) → Some a ≡ Some b → a ≡ b
-    same a b e = cc
 
 -- ---- what comes to an end
 

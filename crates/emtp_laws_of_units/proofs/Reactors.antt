@@ -3,6 +3,7 @@ use Rattle.std.proofs.Common.{◌≡◌, ◌≢◌, ◌∙◌, ◌+◌, ◌*◌,
 use Rattle.std.proofs.Math.IntN.{*ℤ_comm}
 use Rattle.std.proofs.lemmas.Int.{ints, unsigned_abs-mul}
 use Rattle.std.proofs.lemmas.Nat.{mul-le}
+use Rattle.std.proofs.lemmas.Option.{same_Some}
 use Rattle.emtp_case.specs.Branch.{points_of}
 use Rattle.emtp_case.specs.held.Branch.{IsCharacteristic}
 use Rattle.emtp_case.specs.held.Case.{IsCase}
@@ -24,9 +25,9 @@ use Rattle.emtp_pseudo.specs.Step.{DOUBLE_NANO, current_of, flux_of, next_state}
 use Rattle.emtp_pseudo.specs.held.Pseudos.{IsPseudoAt}
 use Rattle.emtp_pseudo.specs.declared.moment.Moment.{Moment}
 use Rattle.emtp_pseudo.specs.declared.segment.Segment.{Segment}
+use Rattle.emtp_laws.proofs.Products.{mul_assoc, mul_sub, sub_mul, swapped}
+use Rattle.emtp_laws.proofs.SeriesSteps.{then_some}
 use Rattle.emtp_laws_of_units.specs.Reactor.{LiesOnSegment, LinksFlux}
-use Rattle.emtp_laws_of_units.proofs.Products.{mul_assoc, mul_sub, sub_mul, swapped}
-use Rattle.emtp_laws_of_units.proofs.SeriesSteps.{same_some, then_some}
 
 -- ---- a step, inverted
 
@@ -39,7 +40,7 @@ unfolding next_state
 reactor_stepped dt s old v new e =
     let i = then_some (in_range (current_of true s old v)) _ new e in
     let f = then_some (in_range (flux_of true dt old v)) _ new i.2 in
-    subst (IsReactorStep dt s old v) (same_some _ new f.2) (record {
+    subst (IsReactorStep dt s old v) (same_Some _ new f.2) (record {
       current = in_range-is (current_of true s old v) i.0 i.1;
       flux = in_range-is (flux_of true dt old v) f.0 f.1;
     })

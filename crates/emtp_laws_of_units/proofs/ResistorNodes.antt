@@ -28,6 +28,7 @@ use Rattle.emtp_fix.specs.Limit.{in_range, ◌>>=◌}
 use Rattle.emtp_fix.specs.Rounding.{near}
 use Rattle.emtp_fix.specs.declared.limit.TheConstants.{ATTO, LEAST_IMPEDANCE, PICO}
 use Rattle.emtp_laws.proofs.NodeCurrents.{run_law}
+use Rattle.emtp_laws.proofs.Products.{mul_assoc, mul_sub, sub_mul}
 use Rattle.emtp_laws.proofs.SolvedSteps.{next_made, step_solved}
 use Rattle.emtp_laws.specs.Nodes.{HasUnknownVoltage, KeepsCurrentLaw, labels_next}
 use Rattle.emtp_lumped.specs.Lumps as lumped
@@ -50,7 +51,6 @@ use Rattle.emtp_laws_of_units.specs.Resistor.{HasOhmsVoltage, LeadsAlone, ObeysO
 use Rattle.emtp_laws_of_units.proofs.CommonTimes.{chain_history}
 use Rattle.emtp_laws_of_units.proofs.LineSteps.{is_next, part_moved}
 use Rattle.emtp_laws_of_units.proofs.Memoryless.{plain_forgets, plain_of}
-use Rattle.emtp_laws_of_units.proofs.Products.{mul_assoc, mul_sub, sub_mul}
 
 -- ---- V by R and I
 

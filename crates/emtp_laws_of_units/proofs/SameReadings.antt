@@ -30,7 +30,7 @@ use Rattle.emtp_pseudo.specs.Moment.{moment_at, segment_in}
 use Rattle.emtp_pseudo.specs.Pseudos as pseudo
 use Rattle.emtp_pseudo.specs.Step as segmented
 use Rattle.emtp_pseudo.specs.declared.moment.Moment.{Moment}
-use Rattle.emtp_laws_of_units.proofs.AlikeRows.{Other, changed}
+use Rattle.emtp_laws.proofs.AlikeRows.{Other, changed}
 
 -- ---- what is read of a record
 
@@ -186,7 +186,7 @@ tos_alike m past own same =
 
 -- the same case with other sources
 abbrev pub having : List Source → Parts → Other
-having sources case = record { dt = case.run.dt; sources = sources }
+having sources case = record { dt = case.run.dt; steps = case.run.steps; sources = sources; tacs_sources = case.tacs_sources }
 
 module _ (case : Parts) (sources : List Source) (K H : List StepRecord) (same : PastsReadAlike K H) where
   lumped_same : (b : ℕ) → lumped.newest (lumped.states_of b K) ≡ lumped.newest (lumped.states_of b H)

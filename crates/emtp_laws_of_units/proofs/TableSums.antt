@@ -6,8 +6,8 @@ use Rattle.emtp_fix.proofs.Nearest.{near-rest}
 use Rattle.emtp_fix.proofs.Wide.{abs-add-le}
 use Rattle.emtp_wave.proofs.Circle.{direction_small}
 use Rattle.emtp_wave.specs.Cosine.{direction, entry}
+use Rattle.emtp_laws.proofs.Products.{mul_assoc, mul_sub, sub_mul, swapped}
 use Rattle.emtp_laws_of_units.proofs.Directions.{drift_small, multiplied, sized, spread_small, swapped_off}
-use Rattle.emtp_laws_of_units.proofs.Products.{mul_assoc, mul_sub, sub_mul, swapped}
 use Rattle.emtp_laws_of_units.specs.CosineTable.{excess_of_squares, excess_of_sum, sine_entry}
 
 -- a number of the table is that of a direction in 10^-18, within so much
