@@ -1,5 +1,5 @@
 -- The voltage of a node that one resistance leads to ground.
-use Rattle.std.proofs.Common.{◌≡◌, ◌≢◌, ◌∙◌, ◌+◌, ◌*◌, ◌^◌, ◌≤◌, ◌==◌, ◌||◌, ap, sym, subst, refl, ℕ, zero, suc, ℤ, pos, neg_ℤ, ◌+ℤ◌, ◌-ℤ◌, ◌*ℤ◌, unsigned_abs, if◌then◌else◌, Bool, true, false, List, [], ◌∷◌, length, map, slice_get, slice_index, slice_index_or, ◌≤ℤ◌, Option, Some, None, IsSome, Ok, option_map, inl, inr, arith}
+use Rattle.std.proofs.Common.{◌≡◌, ◌≢◌, ◌∙◌, ◌+◌, ◌*◌, ◌^◌, ◌≤◌, ◌==◌, ◌||◌, ap, sym, subst, refl, ℕ, zero, suc, ℤ, pos, neg_ℤ, ◌+ℤ◌, ◌-ℤ◌, ◌*ℤ◌, unsigned_abs, if◌then◌else◌, Bool, true, false, List, [], ◌∷◌, length, map, slice_get, slice_index, slice_index_or, ◌≤ℤ◌, Some, Ok, inl, inr, arith}
 use Rattle.std.specs.List.{range_with_len}
 use Rattle.std.proofs.Math.IntN.{*ℤ_comm}
 use Rattle.std.proofs.lemmas.Bool.{eq-eqb, ne_eqb}
@@ -10,7 +10,7 @@ use Rattle.std.proofs.lemmas.Option.{slice_get_cases, slice_get_within}
 use Rattle.emtp_case.proofs.NodeOrder.{length-order_of}
 use Rattle.emtp_case.specs.Branch.{capacitor_impedance, from_of, inductor_impedance, series_impedance, to_of}
 use Rattle.emtp_case.specs.RowOrder.{has_source, order_of}
-use Rattle.emtp_case.specs.StepRecord.{BranchState, LumpedBranch, StepRecord, no_lumped, voltage_at}
+use Rattle.emtp_case.specs.StepRecord.{BranchState, LumpedBranch, StepRecord, voltage_at}
 use Rattle.emtp_case.specs.Sums.{sum_below}
 use Rattle.emtp_case.specs.held.Case.{IsCase}
 use Rattle.emtp_case.specs.declared.branch.Branch.{Branch}
@@ -19,27 +19,21 @@ use Rattle.emtp_case.specs.declared.branch.Lumped.{Lumped}
 use Rattle.emtp_case.specs.declared.branch.LumpedState.{LumpedState}
 use Rattle.emtp_case.specs.declared.case.Parts.{Parts}
 use Rattle.emtp_case.specs.declared.switch.Switch.{Switch}
-use Rattle.emtp_elim.specs.Matrix.{item}
 use Rattle.emtp_fix.proofs.Nearest.{near-rest}
 use Rattle.emtp_fix.proofs.Quotients.{near-zero_times}
-use Rattle.emtp_fix.proofs.Ranges.{in_range-is}
 use Rattle.emtp_fix.proofs.Wide.{abs-add-le}
-use Rattle.emtp_fix.specs.Limit.{in_range, ◌>>=◌}
 use Rattle.emtp_fix.specs.Rounding.{near}
 use Rattle.emtp_fix.specs.declared.limit.TheConstants.{ATTO, LEAST_IMPEDANCE, PICO}
 use Rattle.emtp_laws.proofs.NodeCurrents.{run_law}
 use Rattle.emtp_laws.proofs.Products.{mul_assoc, mul_sub, sub_mul}
 use Rattle.emtp_laws.proofs.SolvedSteps.{next_made, step_solved}
 use Rattle.emtp_laws.specs.Nodes.{HasUnknownVoltage, KeepsCurrentLaw, labels_next}
-use Rattle.emtp_lumped.specs.Lumps as lumped
-use Rattle.emtp_lumped.specs.held.Step.{current_alone}
 use Rattle.emtp_machine.proofs.Chains.{chain}
 use Rattle.emtp_machine.specs.Laws.{records_upto}
 use Rattle.emtp_machine.specs.Next.{next}
 use Rattle.emtp_machine.specs.held.Laws.{IsChain}
-use Rattle.emtp_net.proofs.Bringing.{record_reads, there_is}
 use Rattle.emtp_net.proofs.Nodes.{branch_fits}
-use Rattle.emtp_net.specs.Part.{NetworkPart, brought_by, state_at, state_by, voltages_of}
+use Rattle.emtp_net.specs.Part.{NetworkPart, brought_by, voltages_of}
 use Rattle.emtp_net.specs.System.{at_node, branch_sum, sources_into}
 use Rattle.emtp_net.specs.held.Part.{network_of}
 use Rattle.emtp_switch.proofs.Flows.{sum_below-none, sum_below-one}
@@ -48,9 +42,8 @@ use Rattle.emtp_switch.specs.Kinds.{is_branch_at}
 use Rattle.emtp_switch.specs.States.{next_state}
 use Rattle.emtp_switch.specs.held.Currents.{through_switches}
 use Rattle.emtp_laws_of_units.specs.Resistor.{HasOhmsVoltage, LeadsAlone, ObeysOhm}
-use Rattle.emtp_laws_of_units.proofs.CommonTimes.{chain_history}
-use Rattle.emtp_laws_of_units.proofs.LineSteps.{is_next, part_moved}
-use Rattle.emtp_laws_of_units.proofs.Memoryless.{plain_forgets, plain_of}
+use Rattle.emtp_laws_of_units.proofs.CommonTimes.{chain_history, keeps_current, lone_current, plain_current}
+use Rattle.emtp_laws_of_units.proofs.Memoryless.{plain_of}
 
 -- ---- V by R and I
 
@@ -89,17 +82,6 @@ ohm_within r g v i j tolerance in_g in_i off =
 
 -- ---- the current of the resistance
 
-current_is : (i : ℤ) (s : LumpedState) → current_alone i ≡ Some s → s.current ≡ i
-current_is i s is = by (in_range i) refl is
-  where
-    by : (o : Option ℤ) → in_range i ≡ o → (o >>= (λ j. Some (let t : LumpedState = record { current = j; v_l = pos 0; v_c = pos 0; history_voltage = pos 0 } in t))) ≡ Some s → s.current ≡ i
-    by (Some j) here e = sym (ap (λ (o : Option LumpedState). (of o).current) e) ∙ in_range-is i j here
-      where
-        of : Option LumpedState → LumpedState
-        of None = no_lumped
-        of (Some t) = t
-    by None here e = absurd (cc)
-
 -- what a resistance keeps of a step
 record IsKept (b : ℕ) (x : Lumped) (r : StepRecord) : Type 0 where
   state : LumpedState
@@ -107,22 +89,11 @@ record IsKept (b : ℕ) (x : Lumped) (r : StepRecord) : Type 0 where
   current : state.current ≡ near (near ATTO x.r *ℤ (voltage_at x.from r -ℤ voltage_at x.to r)) PICO
 
 kept : (case : Parts) (H : List StepRecord) (r : StepRecord) (b : ℕ) (x : Lumped) → next case H ≡ Ok r → IsChain case H → slice_get case.branches b ≡ Some (OfLumped x) → x.l ≡ pos 0 → x.c ≡ pos 0 → IsKept b x r
-kept case H r b x is past there no_l no_c =
-    let made = next_made case H r is in
-    let from = part_moved case H made.part made.made in
-    let vs = made.part.voltages in
-    let next = is_next case H made.part r from made.is in
-    let inside = slice_get_within case.branches b (OfLumped x) there in
-    let v = item vs x.from -ℤ item vs x.to in
-    let old = chain_history case H b x (no_l, no_c) past there in
-    let of : state_at case H vs b ≡ option_map LumpedBranch (lumped.next_of case x (lumped.states_of b H) v) = ap (state_by case H vs b) there in
-    let found = there_is LumpedBranch (lumped.next_of case x (lumped.states_of b H) v) (subst IsSome of (from.in_range b inside)) in
-    let c = current_is (near ((plain_of x).conductance *ℤ v) PICO) found.0 (sym (plain_forgets case.run.dt x (lumped.newest (lumped.states_of b H)) v no_l no_c old) ∙ found.1) in
-    record {
-      state = found.0;
-      read = record_reads case H vs r b (LumpedBranch found.0) next inside (of ∙ ap (option_map LumpedBranch) found.1);
-      current = subst (λ us. found.0.current ≡ near (near ATTO x.r *ℤ (item us x.from -ℤ item us x.to)) PICO) (sym next.voltages) (c ∙ ap (λ g. near (g *ℤ v) PICO) (plain_is x no_l no_c));
-    }
+kept case H r b x is past there no_l no_c = record {
+  state = lone_current (plain_current x r);
+  read = (keeps_current case H r b x is there (no_l, no_c) (chain_history case H b x (no_l, no_c) past there)).there;
+  current = ap (λ g. near (g *ℤ (voltage_at x.from r -ℤ voltage_at x.to r)) PICO) (plain_is x no_l no_c);
+}
   where
     twice : (r : ℤ) → r +ℤ pos 0 +ℤ pos 0 ≡ r
     twice r = omega (arith, ints)
