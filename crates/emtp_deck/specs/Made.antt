@@ -1,9 +1,6 @@
 -- What is made of the cards so far: the records of the case, and the channels that were asked for.
 use Rattle.emtp_case.specs.declared.limit.TheConstants.{MOST_CHANNELS}
-use Rattle.std.specs.Prelude.{ℕ, ◌+◌, ◌++◌, [], List, length, nat_lt, Option, Some, None, Result, Ok, Err, Bool}
-use Rattle.emtp_card.specs.Fault.{bad_at}
-use Rattle.emtp_card.specs.declared.fault.Fault.{Fault}
-use Rattle.emtp_card.specs.declared.reason.Bad.{Bad}
+use Rattle.std.specs.Prelude.{ℕ, ◌+◌, ◌++◌, [], List, length, nat_lt, Bool}
 use Rattle.emtp_case.specs.declared.case.Parts.{Parts}
 use Rattle.emtp_case.specs.declared.channel.Channel.{Channel}
 use Rattle.emtp_deck.specs.declared.asked.Asked.{Asked}

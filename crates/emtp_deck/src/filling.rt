@@ -2,6 +2,7 @@
 
 ghost use Rattle.emtp_case.specs.declared.limit.TheConstants.{MOST_NODES};
 ghost use Rattle.std.specs.Prelude.{◌≡◌, ◌≤◌, All, length, IfErr, IfOk, OnOk};
+ghost use Rattle.emtp_case.specs.Case.{empty_parts};
 ghost use Rattle.emtp_case.specs.held.Case.{DefinesEach};
 ghost use Rattle.emtp_case.specs.held.Name.{IsName};
 ghost use Rattle.emtp_case.specs.held.RunData.{IsRun};
@@ -44,8 +45,7 @@ impl Filling {
         ensures variables { IfOk result (λ filling. filling.variables.keys ≡ names.variables.keys) }
         ensures history { IfOk result (λ filling. filling.history ≡ 0) }
     {
-        let mut draft = Draft::new(alloc, run)?;
-        add_nodes(&mut draft, &names.nodes)?;
+        let draft = draft_with(alloc, run, &names.nodes)?;
         let KnownNames { nodes, variables } = names;
         Ok(Filling {
             draft,
@@ -74,6 +74,19 @@ impl Filling {
         drop(asked);
         draft.finish()
     }
+}
+
+/// The draft of the miscellaneous cards, with these nodes.
+fn draft_with(alloc: Global, run: RunData, nodes: &IndexSet<Name>) -> Result<Draft, Refused>
+    requires run { IsRun run }
+    requires few { length nodes.now.keys ≤ MOST_NODES }
+    requires names { All IsName nodes.now.keys }
+    ensures ok { IfOk result (λ draft. draft.parts ≡ record (empty_parts run) { nodes = nodes.now.keys }) }
+    ensures err { IfErr result IsWant }
+{
+    let mut draft = Draft::new(alloc, run)?;
+    add_nodes(&mut draft, nodes)?;
+    Ok(draft)
 }
 
 /// Gives a draft the nodes that are new.
