@@ -7,8 +7,8 @@ use Rattle.std.proofs.lemmas.List.Folds.{list_any_at}
 use Rattle.std.proofs.lemmas.List.FromFn.{get_or-map-range_with_len, length-map-range_with_len}
 use Rattle.std.proofs.lemmas.Option.{slice_get_cases}
 use Rattle.emtp_case.proofs.NodeOrder.{length-order_of, order_of-IsRowOrder}
-use Rattle.emtp_case.proofs.RowTables.{node_there, nodes_within}
-use Rattle.emtp_case.proofs.RowsOfNodes.{fixed_within, row_at_is, rows_apart}
+use Rattle.emtp_case.proofs.RowTables.{node_there}
+use Rattle.emtp_case.proofs.RowsOfNodes.{fixed_within, row_at_is, row_named, rows_apart}
 use Rattle.emtp_case.proofs.Sums.{sum_below_same}
 use Rattle.emtp_case.specs.Branch.{from_of, to_of}
 use Rattle.emtp_case.specs.held.Case.{IsCase}
@@ -116,19 +116,13 @@ record IsFreeRoot (case : Parts) (H : List StepRecord) (i : ℕ) : Type 0 where
   free : nat_lt i (order_of case).fixed ≡ false
   filled : empty_next case H (node_at case i) ≡ false
 
-pub above : (case : Parts) (i : ℕ) → i < length case.nodes → (1 ≤ node_at case i) × (node_at case i ≤ length case.nodes)
-above case i inside =
-    let n = length-order_of case in
-    let both = nodes_within (order_of case).nodes (once_each case (order_of case) (order_of-IsRowOrder case)) i (omega (arith, inside, n)) in
-    (both.0, omega (arith, both.1, n))
-
 root_row : (case : Parts) (H : List StepRecord) (k : ℕ) → k < length case.nodes → root_next case H (node_at case k) ≢ 0 → (r : ℕ) × (r < length case.nodes) × (node_at case r ≡ root_next case H (node_at case k))
 root_row case H k inside some =
     let rows = order_of case in
     let n = length-order_of case in
     let order = order_of-IsRowOrder case in
     let root = root_next case H (node_at case k) in
-    let high = root_within rows (labels_next case H) (by_rank rows) (rank_is case rows order) (node_at case k) (omega (arith, (above case k inside).1, n)) in
+    let high = root_within rows (labels_next case H) (by_rank rows) (rank_is case rows order) (node_at case k) (omega (arith, (row_named case k inside).high, n)) in
     let (r, below, at) = node_there rows.nodes (once_each case rows order) root (omega (arith, some)) high in
     (r, omega (arith, below, n), at)
 
@@ -152,7 +146,7 @@ members case H i k is inside =
             | inl same ↦
                 let root_is : root ≡ n = root_same rows labels m n same ∙ is.own in
                 let at : row_at case root ≡ i = row_at_is case root i is.inside (sym root_is) in
-                let low = (above case i is.inside).0 in
+                let low = (row_named case i is.inside).low in
                 tied (root == 0) (nat_lt (row_at case root) rows.fixed) (empty_next case H m) (m == root) (single_next case H m) (row_at case root) i
                 (ne_eqb root 0 (λ e. omega (arith, e, root_is, low)))
                 (ap (λ (r : ℕ). nat_lt r rows.fixed) at ∙ is.free)
@@ -248,7 +242,7 @@ free_kind case H i empty single inside own free is_empty_is single_is =
     ∙ ap (λ (r : ℕ). kind_by rows m r (empty_next case H m) (single_next case H m)) own
     ∙ ap (λ (b : Bool). kind_by rows m m b (single_next case H m)) is_empty_is
     ∙ ap (λ (b : Bool). kind_by rows m m empty b) single_is
-    ∙ by_tests (m == 0) (nat_lt (row_at case m) rows.fixed) (m == m) empty single (row_at case m) (ne_eqb m 0 (λ e. omega (arith, e, (above case i inside).0)))
+    ∙ by_tests (m == 0) (nat_lt (row_at case m) rows.fixed) (m == m) empty single (row_at case m) (ne_eqb m 0 (λ e. omega (arith, e, (row_named case i inside).low)))
     (ap (λ (r : ℕ). nat_lt r rows.fixed) (row_at_is case m i inside refl) ∙ free) (eq-eqb m m refl)
   where
     by_tests : (ground known mine empty single : Bool) (r : ℕ) → ground ≡ false → known ≡ false → mine ≡ true
@@ -301,8 +295,8 @@ root_at case H part i fits made inside own unknown =
     let size = length-order_of case in
     let m = node_at case i in
     let takes = ap (λ x. x +ℤ through_switches case.switches part.switch_currents m) (sym (leaving_at case H part.branches i inside)) ∙ (balanced_nodes case H part fits made).roots i (omega (arith, inside, size)) own in
-    let bounds = above case i inside in
-    let source : has_source case m ≡ false = off (has_source case m) (λ on. unknown.off_sources m bounds.0 bounds.1 on refl) in
+    let bounds = row_named case i inside in
+    let source : has_source case m ≡ false = off (has_source case m) (λ on. unknown.off_sources m bounds.low bounds.high on refl) in
     let free : nat_lt i (order_of case).fixed ≡ false = sym ((order_of-IsRowOrder case).sources_first i (omega (arith, inside, size))) ∙ source in
     subst (λ x. unsigned_abs x ≤ unsigned_abs case.run.tolerance) (sym takes) (group_small case H part i (empty_next case H m) (single_next case H m) made inside (sym own) free refl refl)
 
