@@ -1,4 +1,4 @@
-use Rattle.std.proofs.Common.{◌≡◌, ◌≢◌, ◌≤◌, ◌*◌, ◌+ℤ◌, ◌∙◌, ◌==◌, unsigned_abs, pos, to_z, of_z, arith, ap, sym, refl, ℕ, ℤ, Bool, true, false, List, Some, FitsSigned}
+use Rattle.std.proofs.Common.{◌≡◌, ◌≢◌, ◌≤◌, ◌+ℤ◌, ◌∙◌, ◌==◌, unsigned_abs, pos, to_z, of_z, arith, ap, sym, refl, ℕ, ℤ, Bool, true, false, List, Some}
 use Rattle.std.specs.Prelude.{◌&&◌, if◌then◌else◌}
 use mir.Syntax.{w128}
 use Rattle.std.proofs.lemmas.Int.{ints}
