@@ -1,7 +1,8 @@
 -- A step ends as tied only where its switches tie two known voltages.
-use Rattle.std.proofs.Common.{◌≡◌, sym, subst, ℕ, ℤ, pos, List, Option, Some, None, Result, Ok, Err}
+use Rattle.std.proofs.Common.{◌≡◌, sym, subst, ℕ, ℤ, pos, List, Result, Ok, Err, IfErr}
 use Rattle.emtp_case.specs.StepRecord.{StepRecord}
 use Rattle.emtp_case.specs.declared.case.Parts.{Parts}
+use Rattle.emtp_elim.proofs.ChainErrors.{then_err, unless_err}
 use Rattle.emtp_elim.specs.Outcome.{outcome}
 use Rattle.emtp_fix.specs.Chain.{◌>>=◌, unless}
 use Rattle.emtp_elim.specs.declared.fault.PlainFault.{PlainFault}
@@ -25,16 +26,7 @@ IsLater (Range node) = Unit {0}
 IsLater (Residual node x) = Unit {0}
 
 abbrev EndsLater : {A : Type 0} → Result A NetFault → Type 0
-EndsLater (Ok x) = Unit {0}
-EndsLater (Err fault) = IsLater fault
-
-later_bind : {A B : Type 0} (m : Result A NetFault) (f : A → Result B NetFault) → EndsLater m → ((x : A) → EndsLater (f x)) → EndsLater (m >>= f)
-later_bind (Ok x) f first then = then x
-later_bind (Err fault) f first then = first
-
-later_unless : {A : Type 0} (o : Option ℕ) (fault : ℕ → NetFault) (x : A) → ((n : ℕ) → IsLater (fault n)) → EndsLater (unless o fault (Ok x))
-later_unless None fault x later = tt
-later_unless (Some n) fault x later = later n
+EndsLater r = IfErr r IsLater
 
 later_row : (cause : RowCause) (node : ℕ) → IsLater (fault_by cause node)
 later_row RowRange node = tt
@@ -50,10 +42,10 @@ later : (case : Parts) (H : List StepRecord) → IsUntied case H → EndsLater (
 unfolding network_part
 later case H free =
     subst (λ o. EndsLater (unless o (λ s. Tied (node_of_switch case s)) (Ok tt) >>= (λ none. solution case H >>= (λ x. moved case H (voltages_of case x) >>= (λ part. switched case part >>= (λ within. balanced case H within)))))) (sym free)
-    (later_bind (solution case H) (λ x. moved case H (voltages_of case x) >>= (λ part. switched case part >>= (λ within. balanced case H within))) (later_named case (outcome (matrix case H) (right case H)))
-    (λ x. later_bind (moved case H (voltages_of case x)) (λ part. switched case part >>= (λ within. balanced case H within)) (later_unless (first_out case H (voltages_of case x)) (λ b. Range (node_of_branch case b)) (part_at case H (voltages_of case x)) (λ n. tt))
-    (λ part. later_bind (switched case part) (λ within. balanced case H within) (later_unless (first_beyond part.switch_currents) (λ s. Range (node_of_switch case s)) part (λ n. tt))
-    (λ within. later_unless (first_unbalanced case H within.branches) (λ i. Residual (node_at case i) (pos (residual_of case H within.branches i))) within (λ n. tt)))))
+    (then_err IsLater (solution case H) (λ x. moved case H (voltages_of case x) >>= (λ part. switched case part >>= (λ within. balanced case H within))) (later_named case (outcome (matrix case H) (right case H)))
+    (λ x solved. then_err IsLater (moved case H (voltages_of case x)) (λ part. switched case part >>= (λ within. balanced case H within)) (unless_err IsLater (first_out case H (voltages_of case x)) (λ b. Range (node_of_branch case b)) (Ok (part_at case H (voltages_of case x))) (λ b out. tt) tt)
+    (λ part is. then_err IsLater (switched case part) (λ within. balanced case H within) (unless_err IsLater (first_beyond part.switch_currents) (λ s. Range (node_of_switch case s)) (Ok part) (λ s beyond. tt) tt)
+    (λ within is. unless_err IsLater (first_unbalanced case H within.branches) (λ i. Residual (node_at case i) (pos (residual_of case H within.branches i))) (Ok within) (λ i unbalanced. tt) tt))))
 
 -- where no two known voltages are tied, no step ends so
 pub free_isnt_tied : (case : Parts) (H : List StepRecord) (node : ℕ) → IsUntied case H → network_part case H ≡ Err (Tied node) → ⊥
