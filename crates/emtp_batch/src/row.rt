@@ -99,7 +99,6 @@ fn read_pair<'a>(text: &'a [u8], card: &Times, at: u32) -> Result<(Times, &'a [u
 }
 
 /// The row of a line, whose number is `line`, for time switches with these times on their cards.
-#[tactic(auto, unfolding(crate::specs::Row::row_times))]
 pub(crate) fn read_row(
     alloc: Global,
     text: &[u8],
