@@ -1,5 +1,5 @@
 -- The rows of a table, one line after another.
-use Rattle.std.proofs.Common.{◌≡◌, ◌∙◌, ap, sym, ℕ, ◌+◌, List, [], ◌∷◌, ◌++◌, true, false, length, length-append, Result, Ok, Err, refl}
+use Rattle.std.proofs.Common.{◌≡◌, ◌∙◌, ap, sym, ℕ, ◌+◌, List, [], ◌∷◌, ◌++◌, true, false, length, length-append, Result, Ok, refl}
 use Rattle.emtp_case.specs.declared.switch.Times.{Times}
 use Rattle.emtp_card.specs.Lines.{lines_of}
 use Rattle.emtp_batch.specs.Row.{cons_result}
@@ -17,11 +17,6 @@ row_step front cards line count text more row h is =
     append_result-one front row (rows_from cards (line + 1) (count + 1) more)
     ∙ ap (λ r. append_result front (cons_result r (rows_from cards (line + 1) (count + 1) more))) (sym is)
     ∙ rw h refl
-
-pub row_stops : (front : List Row) (cards : List Times) (line count : ℕ) (text : List ℕ) (more : List (List ℕ)) (place : FaultyItem) → is_skipped text ≡ false → row_on_line cards line count text ≡ Err place
-    → append_result front (rows_from cards line count (text ∷ more)) ≡ Err place
-row_stops front cards line count text more place h is =
-    rw h (ap (λ r. append_result front (cons_result r (rows_from cards (line + 1) (count + 1) more))) is)
 
 -- what a turn of the loop keeps
 pub skipped : (front : List Row) (cards : List Times) (line : ℕ) (text rest tail : List ℕ) (whole : Result (List Row) FaultyItem) → lines_of rest ≡ text ∷ lines_of tail → is_skipped text ≡ true
