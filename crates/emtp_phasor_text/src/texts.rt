@@ -51,7 +51,6 @@ fn refusal_name(reason: Refusal) -> &'static [u8]
 }
 
 /// Puts which card is refused, and why.
-#[tactic(auto, unfolding(crate::specs::Texts::refusal_note))]
 pub(crate) fn put_refusal(text: &mut Vec<u8>, line: u32, reason: Refusal) -> Result<(), AllocError>
     ensures { OnOk result (text.new.items ≡ text.old.items ++ refusal_note line reason) }
 {
@@ -65,7 +64,6 @@ pub(crate) fn put_refusal(text: &mut Vec<u8>, line: u32, reason: Refusal) -> Res
 }
 
 /// Puts how a solution ended.
-#[tactic(auto, unfolding(crate::specs::Texts::steady_end_note))]
 pub(crate) fn put_end(
     text: &mut Vec<u8>,
     cause: Cause,
@@ -80,7 +78,6 @@ pub(crate) fn put_end(
 }
 
 /// Puts the first line of a steady state.
-#[tactic(auto, unfolding(crate::specs::Texts::steady_line))]
 fn put_head(text: &mut Vec<u8>, freq: i64, residual: i128) -> Result<(), AllocError>
     ensures { OnOk result (text.new.items ≡ text.old.items ++ steady_line freq residual) }
 {
@@ -92,7 +89,6 @@ fn put_head(text: &mut Vec<u8>, freq: i64, residual: i128) -> Result<(), AllocEr
 }
 
 /// Puts the line of a node.
-#[tactic(auto, unfolding(crate::specs::Texts::node_line))]
 fn put_node(text: &mut Vec<u8>, name: &Name, v: Phasor) -> Result<(), AllocError>
     ensures { OnOk result (text.new.items ≡ text.old.items ++ node_line name.now v) }
 {
