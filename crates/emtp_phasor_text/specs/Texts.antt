@@ -1,6 +1,6 @@
 -- The texts of steady states and scans. The numbers of their lines are this project's own.
 use Rattle.std.specs.Fmt.{signed_decimal}
-use Rattle.std.specs.Prelude.{ℕ, zero, suc, ◌+◌, ◌-◌, ◌*◌, ℤ, pos, unsigned_abs, nat_lt, ◌&&◌, Bool, true, false, List, [], ◌∷◌, ◌++◌, length, slice_index_or, codes, decimal, Option, Some, None}
+use Rattle.std.specs.Prelude.{ℕ, zero, suc, ◌+◌, ◌*◌, ℤ, pos, unsigned_abs, nat_lt, ◌&&◌, Bool, true, false, List, [], ◌∷◌, ◌++◌, length, slice_index_or, codes, decimal, Option, Some, None}
 use Rattle.emtp_fix.specs.Decimal.{fixed_text}
 use Rattle.emtp_admittance.specs.declared.refusal.Refusal.{Refusal}
 use Rattle.emtp_admittance.specs.declared.refusal.Refusal.TheVariants.{Control, Impedance as ImpedanceRefusal, Loss, NoSource, Nonlinear, Phases, Probe, Size, Source, Switch}
