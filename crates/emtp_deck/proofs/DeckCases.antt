@@ -1,4 +1,5 @@
 -- What a deck of cards in their ranges gives is a case.
+use Rattle.emtp_fix.proofs.Chaining.{then_ok}
 use Rattle.emtp_fix.specs.Chain.{unless}
 use Rattle.emtp_case.specs.declared.limit.TheConstants.{MOST_CHANNELS, MOST_STORED_VALUES, MOST_VARIABLES}
 use Rattle.std.proofs.Common.{◌≡◌, ◌∙◌, ap, sym, subst, refl, ℕ, ◌+◌, ◌*◌, ◌≤◌, ◌++◌, Bool, true, false, List, [], ◌∷◌, length, map, drop, Option, Some, None, Ok, Err, if◌then◌else◌, arith, length-append, take-append-drop}
@@ -42,7 +43,6 @@ use Rattle.emtp_walk.specs.declared.control_cards.BlockEntry.{BlockEntry}
 use Rattle.emtp_walk.specs.declared.deck.Deck.{Deck}
 use Rattle.emtp_walk.specs.declared.deck.Place.{Place}
 use Rattle.emtp_walk.specs.declared.deck.Place.TheVariants.{After, Begin, Branches, First, Outputs, Points, Second, Sources, Start, Switches, Third, Waiting, Control}
-use Rattle.emtp_netcards.proofs.Readings.{then_read}
 
 -- no card of the control has more than five inputs
 pub record HasFewInputsEach (variables : List (List ℕ)) (deck : Deck) : Type 0 where
@@ -183,9 +183,9 @@ filled_at : (line : ℕ) (deck : Deck) (place : Place) (p : Parts) → IsSound d
 filled_at line deck place p sound whole inputs e =
     let nodes = known_nodes deck place in
     let variables = variable_names deck place in
-    let a = then_read (few_samples nodes variables deck place) (λ few. sensible_control nodes variables deck place >>= (λ sensible. made_of_deck (case_nodes nodes) variables deck >>= (λ m. unless (unfinished line m place) (λ bad. bad) (Ok (case_of deck m))))) p e in
-    let b = then_read (sensible_control nodes variables deck place) (λ sensible. made_of_deck (case_nodes nodes) variables deck >>= (λ m. unless (unfinished line m place) (λ bad. bad) (Ok (case_of deck m)))) p a.2 in
-    let c = then_read (made_of_deck (case_nodes nodes) variables deck) (λ m. unless (unfinished line m place) (λ bad. bad) (Ok (case_of deck m))) p b.2 in
+    let a = then_ok (few_samples nodes variables deck place) (λ few. sensible_control nodes variables deck place >>= (λ sensible. made_of_deck (case_nodes nodes) variables deck >>= (λ m. unless (unfinished line m place) (λ bad. bad) (Ok (case_of deck m))))) p e in
+    let b = then_ok (sensible_control nodes variables deck place) (λ sensible. made_of_deck (case_nodes nodes) variables deck >>= (λ m. unless (unfinished line m place) (λ bad. bad) (Ok (case_of deck m)))) p a.2 in
+    let c = then_ok (made_of_deck (case_nodes nodes) variables deck) (λ m. unless (unfinished line m place) (λ bad. bad) (Ok (case_of deck m))) p b.2 in
     let done = no_fault (unfinished line c.0 place) (λ bad. bad) (case_of deck c.0) p c.2 in
     let none = (no_fault (control_bad nodes variables deck place) (λ bad. bad) tt b.0 b.1).0 in
     let few = few_is (has_too_many nodes variables deck place) (samples_bad deck) a.0 a.1 in

@@ -1,4 +1,5 @@
 -- The names of an accepted deck's nodes are apart, and so are those of its variables.
+use Rattle.emtp_fix.proofs.Chaining.{then_ok}
 use Rattle.std.proofs.Common.{◌≡◌, ◌≢◌, ◌∙◌, ap, sym, subst, refl, ℕ, zero, suc, ◌+◌, ◌<◌, Bool, true, false, ◌||◌, List, [], ◌∷◌, ◌++◌, length, take, fold, get_or, Option, Some, None, Result, Ok, Err, if◌then◌else◌, inl, inr, length-append, arith}
 use Rattle.std.specs.List.{list_any}
 use Rattle.std.specs.Str.{bytes_eq}
@@ -14,7 +15,6 @@ use Rattle.emtp_deck.proofs.Asking.{control_is, deck_asks, no_fault}
 use Rattle.emtp_deck_laws.specs.NamesApart.{HasNamesApart}
 use Rattle.emtp_listing.specs.Law.{AreApart}
 use Rattle.emtp_deck.specs.Deck.{case_of, deck_of, few_samples, filled, made_of_deck, sensible_control, unfinished}
-use Rattle.emtp_netcards.proofs.Readings.{then_read}
 use Rattle.emtp_netcards.specs.declared.source_card.SourceCard.{SourceCard}
 use Rattle.emtp_netcards.specs.declared.switch_card.SwitchCard.{SwitchCard}
 use Rattle.emtp_sense.specs.Names.{case_nodes, known_nodes, node_names, with_ends, with_entry_names, with_name, with_pending_nodes, with_switch_names}
@@ -175,9 +175,9 @@ unfolding filled
 filled_apart line deck place p e =
     let nodes = known_nodes deck place in
     let variables = variable_names deck place in
-    let a = then_read (few_samples nodes variables deck place) (λ few. sensible_control nodes variables deck place >>= (λ sensible. made_of_deck (case_nodes nodes) variables deck >>= (λ m. unless (unfinished line m place) (λ bad. bad) (Ok (case_of deck m))))) p e in
-    let b = then_read (sensible_control nodes variables deck place) (λ sensible. made_of_deck (case_nodes nodes) variables deck >>= (λ m. unless (unfinished line m place) (λ bad. bad) (Ok (case_of deck m)))) p a.2 in
-    let c = then_read (made_of_deck (case_nodes nodes) variables deck) (λ m. unless (unfinished line m place) (λ bad. bad) (Ok (case_of deck m))) p b.2 in
+    let a = then_ok (few_samples nodes variables deck place) (λ few. sensible_control nodes variables deck place >>= (λ sensible. made_of_deck (case_nodes nodes) variables deck >>= (λ m. unless (unfinished line m place) (λ bad. bad) (Ok (case_of deck m))))) p e in
+    let b = then_ok (sensible_control nodes variables deck place) (λ sensible. made_of_deck (case_nodes nodes) variables deck >>= (λ m. unless (unfinished line m place) (λ bad. bad) (Ok (case_of deck m)))) p a.2 in
+    let c = then_ok (made_of_deck (case_nodes nodes) variables deck) (λ m. unless (unfinished line m place) (λ bad. bad) (Ok (case_of deck m))) p b.2 in
     let done = no_fault (unfinished line c.0 place) (λ bad. bad) (case_of deck c.0) p c.2 in
     let asks = deck_asks (case_nodes nodes) variables deck c.0 c.1 in
     let is = control_is (case_nodes nodes) variables deck in

@@ -3,7 +3,7 @@ use Rattle.std.proofs.Common.{◌≡◌, ◌∙◌, ap, sym, subst, refl, ℕ, �
 use Rattle.std.specs.Prelude.{◌⊎◌, codes, if◌then◌else◌}
 use Rattle.std.specs.Str.{bytes_eq}
 use Rattle.std.proofs.lemmas.List.{drop-drop, drop-take, take-take}
-use Rattle.emtp_fix.proofs.Chaining.{same_ok}
+use Rattle.emtp_fix.proofs.Chaining.{same_ok, then_ok}
 use Rattle.emtp_card.specs.Fault.{filled_with}
 use Rattle.emtp_card.specs.Field.{columns, filled, trimmed}
 use Rattle.emtp_card.specs.Lines.{fault_of_line}
@@ -17,7 +17,7 @@ use Rattle.emtp_netcards.specs.Reading.{◌>>=◌, both, in_column}
 use Rattle.emtp_netcards.specs.SwitchCard.{fields_of, is_measuring, kind_of, switch_card, time_kind, times_of, type_by, type_field, word_field}
 use Rattle.emtp_netcards.specs.declared.switch_card.SwitchCard.{SwitchCard}
 use Rattle.emtp_netcards.specs.declared.switch_card.SwitchType.TheVariants.{Time as TimeType}
-use Rattle.emtp_netcards.proofs.Readings.{by, each_of, field_of_column, then_read}
+use Rattle.emtp_netcards.proofs.Readings.{by, each_of, field_of_column}
 use Rattle.emtp_deck_laws.specs.OtherTimes.{AreTimed}
 use Rattle.emtp_deck_laws.proofs.WideSeries.{ends_same, name_same, whole_same}
 
@@ -78,7 +78,7 @@ unfolding times_of
 times_read line kind e =
     let margin = number_or margin_field (pos 0) line in
     let word = in_column 55 (word_field line) in
-    let r = then_read (both (both _ _) (both margin word)) _ kind e in
+    let r = then_ok (both (both _ _) (both margin word)) _ kind e in
     let halves = each_of (both _ _) (both margin word) r.0 r.1 in
     let second = each_of margin word r.0.1 halves.1 in
     (r.0.0.0, r.0.0.1, r.0.1.0, sym (same_ok (Time r.0.0.0 r.0.0.1 r.0.1.0) kind r.2), second.0)
@@ -124,11 +124,11 @@ unfolding fields_of
 fields_read number line card type e =
     let kind = in_column 1 (type_field line) >>= kind_of line in
     let asked = in_column 80 (asked_field line) in
-    let r = then_read (both (ends_field line) (both kind asked)) _ card e in
+    let r = then_ok (both (ends_field line) (both kind asked)) _ card e in
     let first = each_of (ends_field line) (both kind asked) r.0 r.1 in
     let second = each_of kind asked r.0.1 first.1 in
     let timed : kind_of line TimeType ≡ Ok r.0.1.0 = sym (ap (λ t. in_column 1 t >>= kind_of line) type) ∙ second.0 in
-    let k = then_read (time_kind line) _ r.0.1.0 timed in
+    let k = then_ok (time_kind line) _ r.0.1.0 timed in
     let pair : r.0.1.0 ≡ (k.0, None) = sym (same_ok (k.0, None) r.0.1.0 k.2) in
     record {
       ends = r.0.0;

@@ -1,4 +1,5 @@
 -- Decks of which the cards of time switches have other times give the same case with these times.
+use Rattle.emtp_fix.proofs.Chaining.{then_ok}
 use Rattle.std.proofs.Common.{◌≡◌, ◌∙◌, ap, sym, subst, refl, ℕ, suc, ◌+◌, ℤ, List, [], ◌∷◌, ◌++◌, length, map, fold, Option, Some, None, Ok, inl, inr}
 use Rattle.std.specs.Prelude.{cond, nat_lt, not, unwrap_or}
 use Rattle.std.specs.List.{position_or_len}
@@ -24,7 +25,6 @@ use Rattle.emtp_netcards.specs.declared.output_card.OutputCard.{OutputCard}
 use Rattle.emtp_netcards.specs.declared.output_card.OutputCard.TheVariants.{All as AllNodes, Names}
 use Rattle.emtp_netcards.specs.declared.source_card.SourceCard.{SourceCard}
 use Rattle.emtp_netcards.specs.declared.switch_card.SwitchCard.{SwitchCard}
-use Rattle.emtp_netcards.proofs.Readings.{then_read}
 use Rattle.emtp_sense.specs.ControlSense.{ends_at}
 use Rattle.emtp_sense.specs.Names.{case_nodes, find_node, known_nodes, with_entry_names, with_pending_nodes, with_switch_names}
 use Rattle.emtp_sense.specs.Variables.{variable_names}
@@ -286,7 +286,7 @@ record IsMadeOf (lines : List (List ℕ)) (p : Parts) : Type 0 where
 made_of_lines : (lines : List (List ℕ)) (p : Parts) → deck_of lines ≡ Ok p → IsMadeOf lines p
 unfolding deck_of
 made_of_lines lines p e =
-    let r = then_read (walk 1 empty_deck Begin lines) (λ (read : Deck × Place). filled (length lines + 1) read.0 read.1) p e in
+    let r = then_ok (walk 1 empty_deck Begin lines) (λ (read : Deck × Place). filled (length lines + 1) read.0 read.1) p e in
     record {
       read = r.0;
       walked = r.1;

@@ -1,7 +1,7 @@
 -- Walks over lines of which the cards of time switches have other times.
 use Rattle.std.proofs.Common.{◌≡◌, ◌∙◌, ap, sym, subst, refl, ℕ, ◌+◌, Bool, true, false, List, [], ◌∷◌, ◌++◌, length, Option, Some, None, Result, Ok, Err, inl, inr, arith}
 use Rattle.std.specs.Prelude.{if◌then◌else◌}
-use Rattle.emtp_fix.proofs.Chaining.{same_ok}
+use Rattle.emtp_fix.proofs.Chaining.{same_ok, then_ok}
 use Rattle.emtp_fix.specs.Chain.{unless}
 use Rattle.emtp_card.specs.Lines.{is_comment, is_section_end}
 use Rattle.emtp_card.specs.declared.reason.Bad.{Bad}
@@ -11,7 +11,6 @@ use Rattle.emtp_netcards.specs.SwitchCard.{switch_card}
 use Rattle.emtp_netcards.specs.declared.output_card.OutputCard.{OutputCard}
 use Rattle.emtp_netcards.specs.declared.source_card.SourceCard.{SourceCard}
 use Rattle.emtp_netcards.specs.declared.switch_card.SwitchCard.{SwitchCard}
-use Rattle.emtp_netcards.proofs.Readings.{then_read}
 use Rattle.emtp_walk.specs.Answer.{go_on}
 use Rattle.emtp_walk.specs.LineRead.{Read, order_fault, place_of}
 use Rattle.emtp_walk.specs.Walk.{advance, after_place, begin_fault, empty_deck, output_step, source_step, switch_step, walk}
@@ -129,8 +128,8 @@ late_walk : (lines : List (List ℕ)) (number : ℕ) (d e : Deck) (place : Place
     → walk number d place lines ≡ Ok one → walk number e place lines ≡ Ok other → AreTimedReads one other
 late_walk [] number d e place one other late decks f g = (answered (d, place) (e, place) one other (at_place d e place late decks) f g).reads
 late_walk (line ∷ lines) number d e place one other late decks f g =
-    let a = then_read (advance d place number line) (λ (next : Deck × Place). walk (number + 1) next.0 next.1 lines) one f in
-    let b = then_read (advance e place number line) (λ (next : Deck × Place). walk (number + 1) next.0 next.1 lines) other g in
+    let a = then_ok (advance d place number line) (λ (next : Deck × Place). walk (number + 1) next.0 next.1 lines) one f in
+    let b = then_ok (advance e place number line) (λ (next : Deck × Place). walk (number + 1) next.0 next.1 lines) other g in
     let here = late_line d e place number line a.0 b.0 late decks a.1 b.1 in
     late_walk lines (number + 1) a.0.0 b.0.0 a.0.1 one other here.late here.reads.decks a.2
     (ap (λ p. walk (number + 1) b.0.0 p lines) here.reads.place ∙ b.2)
@@ -189,8 +188,8 @@ timed_walk [] [] behind number d e one other h decks f g = late_walk behind numb
 timed_walk [] (y ∷ ys) behind number d e one other h decks f g = absurd h
 timed_walk (x ∷ xs) [] behind number d e one other h decks f g = absurd h
 timed_walk (x ∷ xs) (y ∷ ys) behind number d e one other h decks f g =
-    let a = then_read (advance d Switches number x) (λ (next : Deck × Place). walk (number + 1) next.0 next.1 (xs ++ behind)) one f in
-    let b = then_read (advance e Switches number y) (λ (next : Deck × Place). walk (number + 1) next.0 next.1 (ys ++ behind)) other g in
+    let a = then_ok (advance d Switches number x) (λ (next : Deck × Place). walk (number + 1) next.0 next.1 (xs ++ behind)) one f in
+    let b = then_ok (advance e Switches number y) (λ (next : Deck × Place). walk (number + 1) next.0 next.1 (ys ++ behind)) other g in
     let here = timed_line d e number x y a.0 b.0 h.0 decks a.1 b.1 in
     timed_walk xs ys behind (number + 1) a.0.0 b.0.0 one other h.1 here.decks
     (ap (λ p. walk (number + 1) a.0.0 p (xs ++ behind)) (sym here.here) ∙ a.2)

@@ -1,4 +1,5 @@
 -- What a branch card keeps that isn't refused.
+use Rattle.emtp_fix.proofs.Chaining.{then_ok}
 use Rattle.std.proofs.Common.{◌≡◌, ◌∙◌, ap, sym, subst, refl, ℕ, ◌^◌, ℤ, pos, ◌*ℤ◌, ◌≤ℤ◌, int_le, int_lt, Bool, true, false, ◌&&◌, List, Option, Some, None, Result, Ok, Err, if◌then◌else◌, arith}
 use Rattle.std.proofs.lemmas.Int.{ints}
 use Rattle.emtp_card.specs.Lines.{fault_of_line}
@@ -33,7 +34,7 @@ use Rattle.emtp_netcards.specs.declared.line_values.TheConstants.{LENGTH, RESIST
 use Rattle.emtp_netcards.specs.declared.series_values.SeriesValues.{SeriesValues}
 use Rattle.emtp_netcards.specs.declared.series_values.TheConstants.{CAPACITANCE, INDUCTANCE, RESISTANCE, WIDE_CAPACITANCE, WIDE_INDUCTANCE, WIDE_RESISTANCE}
 use Rattle.emtp_netcards.proofs.Lines.{nonneg, total_between}
-use Rattle.emtp_netcards.proofs.Readings.{by, each_of, field_of_column, then_read, whole_by}
+use Rattle.emtp_netcards.proofs.Readings.{by, each_of, field_of_column, whole_by}
 use Rattle.emtp_netcards.proofs.FieldRanges.{number_or_is, required_within}
 use Rattle.emtp_netcards.proofs.SwitchRanges.{asked_is, ends_are}
 
@@ -89,7 +90,7 @@ series_are line dt wide s e =
     let r = series.r_field line wide in
     let l = series.l_field line wide in
     let c = series.c_field line wide in
-    let t = then_read (both r (both l c)) _ s e in
+    let t = then_ok (both r (both l c)) _ s e in
     let a = each_of r (both l c) t.0 t.1 in
     let b = each_of l c t.0.1 a.1 in
     series_is dt t.0.0 t.0.1.0 t.0.1.1 s
@@ -110,7 +111,7 @@ length_is line x e =
 
 total_is : (r length : Result ℤ Fault) (x : ℤ) → ((y : ℤ) → r ≡ Ok y → IsBetween 0 (10 ^ 12) y) → ((y : ℤ) → length ≡ Ok y → IsBetween 1 (10 ^ 12) y) → total_of r length ≡ Ok x → IsBetween 0 (10 ^ 18) x
 total_is r length x hr hl e =
-    let t = then_read (both r length) _ x e in
+    let t = then_ok (both r length) _ x e in
     let parts = each_of r length t.0 t.1 in
     let is : near (t.0.0 *ℤ t.0.1) (pos (10 ^ 6)) ≡ x = cc in
     subst (IsBetween 0 (10 ^ 18)) is (total_between t.0.0 t.0.1 (hr t.0.0 parts.0) (hl t.0.1 parts.1))
@@ -139,7 +140,7 @@ surge_is zc r s low e = go (is_surge zc r (line_impedance zc r)) refl e
 
 surge_by_is : (zc total : Result ℤ Fault) (s : Surge) → ((x : ℤ) → total ≡ Ok x → pos 0 ≤ℤ x) → surge_by zc total ≡ Ok s → IsSurge s
 surge_by_is zc total s low e =
-    let t = then_read (both zc total) _ s e in
+    let t = then_ok (both zc total) _ s e in
     let parts = each_of zc total t.0 t.1 in
     surge_is t.0.0 t.0.1 s (low t.0.1 parts.1) t.2
 
@@ -165,10 +166,10 @@ line_are line dt v e =
     let surge = surge_by zc total in
     let time = form >>= time_of a b (length_field line) in
     let delay = time >>= delay_of dt in
-    let t = then_read (both surge delay) _ v e in
+    let t = then_ok (both surge delay) _ v e in
     let parts = each_of surge delay t.0 t.1 in
     let s = surge_by_is zc total t.0.0 (λ x h. nonneg x (total_is (lines.r_field line) (length_field line) x (unit_is line) (length_is line) h)) parts.0 in
-    let d = then_read time (delay_of dt) t.0.1 parts.1 in
+    let d = then_ok time (delay_of dt) t.0.1 parts.1 in
     let h = delay_is dt d.0 t.0.1 d.2 in
     let made : LineValues = record { zc = t.0.0.zc; r = t.0.0.r; delay = t.0.1 } in
     let is : made ≡ v = cc in
@@ -179,21 +180,21 @@ line_are line dt v e =
 resistor_is : (line : List ℕ) (dt : ℤ) (values : BranchValues) → resistor_values line ≡ Ok values → HasValues dt values
 unfolding resistor_values
 resistor_is line dt values e =
-    let t = then_read (both (number_or FLASHOVER (pos 0) line) (both (number_or DELAY (pos 0) line) (number_or JUMP (pos 0) line))) _ values e in
+    let t = then_ok (both (number_or FLASHOVER (pos 0) line) (both (number_or DELAY (pos 0) line) (number_or JUMP (pos 0) line))) _ values e in
     let is : ResistorCard ≡ values = cc in
     subst (HasValues dt) is tt
 
 read_are : (line : List ℕ) (dt : ℤ) (wide : Bool) (kind : BranchKind) (values : BranchValues) → read_values line dt wide kind ≡ Ok values → HasValues dt values
 read_are line dt wide SeriesKind values e =
-    let t = then_read (series_values line dt wide) _ values e in
+    let t = then_ok (series_values line dt wide) _ values e in
     let is : LumpedCard t.0.r t.0.l t.0.c ≡ values = cc in
     subst (HasValues dt) is (series_are line dt wide t.0 t.1)
 read_are line dt wide LineKind values e =
-    let t = then_read (line_values line dt) _ values e in
+    let t = then_ok (line_values line dt) _ values e in
     let is : LineCard t.0.zc t.0.r t.0.delay ≡ values = cc in
     subst (HasValues dt) is (line_are line dt t.0 t.1)
 read_are line dt wide SecondKind values e =
-    let t = then_read (line_values line dt) _ values e in
+    let t = then_ok (line_values line dt) _ values e in
     let is : SecondCard t.0.zc t.0.r t.0.delay ≡ values = cc in
     subst (HasValues dt) is (line_are line dt t.0 t.1)
 read_are line dt wide ThirdKind values e = let is : ThirdCard ≡ values = cc in subst (HasValues dt) is tt
@@ -211,10 +212,10 @@ fields_keep number line dt wide card whole e =
     let copies = copies_of line kind in
     let values = values_of line dt wide kind in
     let asked = in_column 80 (asked_field line) in
-    let t = then_read (both (ends_field line) (both values asked)) _ card e in
+    let t = then_ok (both (ends_field line) (both values asked)) _ card e in
     let first = each_of (ends_field line) (both values asked) t.0 t.1 in
     let second = each_of values asked t.0.1 first.1 in
-    let v = then_read (both kind copies) _ t.0.1.0 second.0 in
+    let v = then_ok (both kind copies) _ t.0.1.0 second.0 in
     let made : BranchCard = record { line = number; «from» = t.0.0.0; to = t.0.0.1; values = t.0.1.0; asked = t.0.1.1 } in
     let is : made ≡ card = cc in
     subst (HasNumbers dt) is (record { ends = ends_are line t.0.0 whole first.0; values = own_are line dt wide v.0.0 v.0.1 t.0.1.0 v.2; few = asked_is line t.0.1.1 second.1 })
@@ -228,18 +229,18 @@ branch_keeps number line dt wide card e = fields_keep number line dt wide card (
 same_kind : (line : List ℕ) (dt : ℤ) (wide : Bool) (kind : BranchKind) (values : BranchValues) → read_values line dt wide kind ≡ Ok values → kind_of_values values ≡ kind
 unfolding resistor_values
 same_kind line dt wide SeriesKind values e =
-    let t = then_read (series_values line dt wide) _ values e in
+    let t = then_ok (series_values line dt wide) _ values e in
     let is : LumpedCard t.0.r t.0.l t.0.c ≡ values = cc in ap kind_of_values (sym is)
 same_kind line dt wide LineKind values e =
-    let t = then_read (line_values line dt) _ values e in
+    let t = then_ok (line_values line dt) _ values e in
     let is : LineCard t.0.zc t.0.r t.0.delay ≡ values = cc in ap kind_of_values (sym is)
 same_kind line dt wide SecondKind values e =
-    let t = then_read (line_values line dt) _ values e in
+    let t = then_ok (line_values line dt) _ values e in
     let is : SecondCard t.0.zc t.0.r t.0.delay ≡ values = cc in ap kind_of_values (sym is)
 same_kind line dt wide ThirdKind values e = let is : ThirdCard ≡ values = cc in ap kind_of_values (sym is)
 same_kind line dt wide ReactorKind values e = let is : ReactorCard ≡ values = cc in ap kind_of_values (sym is)
 same_kind line dt wide ResistorKind values e =
-    let t = then_read (both (number_or FLASHOVER (pos 0) line) (both (number_or DELAY (pos 0) line) (number_or JUMP (pos 0) line))) _ values e in
+    let t = then_ok (both (number_or FLASHOVER (pos 0) line) (both (number_or DELAY (pos 0) line) (number_or JUMP (pos 0) line))) _ values e in
     let is : ResistorCard ≡ values = cc in ap kind_of_values (sym is)
 
 own_kind : (line : List ℕ) (dt : ℤ) (wide : Bool) (kind : BranchKind) (copies : Option (Option (List ℕ) × Option (List ℕ))) (values : BranchValues) → own_values line dt wide kind copies ≡ Ok values → kind_of_values values ≡ kind
@@ -253,10 +254,10 @@ fields_kind number line dt wide card e =
     let copies = copies_of line kind in
     let values = values_of line dt wide kind in
     let asked = in_column 80 (asked_field line) in
-    let t = then_read (both (ends_field line) (both values asked)) _ card e in
+    let t = then_ok (both (ends_field line) (both values asked)) _ card e in
     let first = each_of (ends_field line) (both values asked) t.0 t.1 in
     let second = each_of values asked t.0.1 first.1 in
-    let v = then_read (both kind copies) _ t.0.1.0 second.0 in
+    let v = then_ok (both kind copies) _ t.0.1.0 second.0 in
     let parts = each_of kind copies v.0 v.1 in
     let made : BranchCard = record { line = number; «from» = t.0.0.0; to = t.0.0.1; values = t.0.1.0; asked = t.0.1.1 } in
     let is : made ≡ card = cc in

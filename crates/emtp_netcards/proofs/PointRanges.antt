@@ -1,4 +1,5 @@
 -- What a point card keeps that isn't refused.
+use Rattle.emtp_fix.proofs.Chaining.{then_ok}
 use Rattle.std.proofs.Common.{◌≡◌, ap, subst, refl, ℕ, ◌^◌, ◌≤◌, ◌<◌, nat_le, nat_lt, ℤ, pos, int_le, Bool, true, false, List, Option, Some, None, Result, Ok, Err, IfSome, IfNone, if◌then◌else◌, arith}
 use Rattle.std.proofs.lemmas.Bool.{leb-false, ltb-false}
 use Rattle.std.proofs.lemmas.Int.{ints}
@@ -19,7 +20,7 @@ use Rattle.emtp_netcards.specs.held.PointCard.{Follows, IsPointOf, IsValueOf}
 use Rattle.emtp_netcards.specs.declared.point_card.PointScale.{PointScale}
 use Rattle.emtp_netcards.specs.declared.point_card.TheConstants.{CLOSING, CURRENT, FLUX, INPUT, OPENING, OUTPUT, VOLTAGE}
 use Rattle.emtp_netcards.specs.declared.point_card.PointScale.TheVariants.{Reactor, Resistor, Table, Times}
-use Rattle.emtp_netcards.proofs.Readings.{by, each_of, then_read}
+use Rattle.emtp_netcards.proofs.Readings.{by, each_of}
 use Rattle.emtp_netcards.proofs.FieldRanges.{number_is}
 use Rattle.emtp_netcards.proofs.BranchRanges.{both_true}
 
@@ -48,7 +49,7 @@ second_is line Times y e = value_is line OPENING y e
 first_by_is : (scale : PointScale) (before : Option Point) (first : Result ℤ Fault) (x : ℤ) → first_by scale before first ≡ Ok x → (first ≡ Ok x) × (goes_on scale before x ≡ true)
 unfolding first_by
 first_by_is scale before first x e =
-    let t = then_read first _ x e in
+    let t = then_ok first _ x e in
     go t.0 t.1 (goes_on scale before t.0) refl t.2
   where
     answer : ℤ → Bool → Result ℤ Fault
@@ -61,7 +62,7 @@ first_by_is scale before first x e =
 second_by_is : (scale : PointScale) (before : Option Point) (x : ℤ) (second : Result ℤ Fault) (y : ℤ) → second_by scale before x second ≡ Ok y → (second ≡ Ok y) × (is_pair scale before x y ≡ true)
 unfolding second_by
 second_by_is scale before x second y e =
-    let t = then_read second _ y e in
+    let t = then_ok second _ y e in
     go t.0 t.1 (is_pair scale before x t.0) refl t.2
   where
     answer : ℤ → Bool → Result ℤ Fault
@@ -134,8 +135,8 @@ after_is : (scale : PointScale) (before : Option Point) (dt : ℤ) (first second
     → point_after scale before dt first second ≡ Ok p → IsPointOf scale p × Follows scale dt before p
 unfolding point_after
 after_is scale before dt first second p hx hy e =
-    let t = then_read (first_by scale before first) _ p e in
-    let s = then_read (second_by scale before t.0 second) _ p t.2 in
+    let t = then_ok (first_by scale before first) _ p e in
+    let s = then_ok (second_by scale before t.0 second) _ p t.2 in
     let f = first_by_is scale before first t.0 t.1 in
     let g = second_by_is scale before t.0 second s.0 s.1 in
     segment_is scale before dt t.0 s.0 p (hx t.0 f.0) (hy s.0 g.0) f.1 g.1 s.2
@@ -183,11 +184,11 @@ next_is line scale before count dt point e = go (is_ending line scale) e
 
     go : (ends : Bool) → answer ends ≡ Ok point → IsNextPoint scale before count dt point
     go true e =
-        let t = then_read (enough scale count) _ point e in
+        let t = then_ok (enough scale count) _ point e in
         let is : None ≡ point = cc in
         subst (IsNextPoint scale before count dt) is (record { range = tt; room = tt; follows = tt; some = enough_is scale count t.0 t.1 })
     go false e =
-        let t = then_read (both (room_for count) next) _ point e in
+        let t = then_ok (both (room_for count) next) _ point e in
         let parts = each_of (room_for count) next t.0 t.1 in
         let is : Some t.0.1 ≡ point = cc in
         let p = after_is scale before dt (first_field line scale) (second_field line scale) t.0.1 (first_is line scale) (second_is line scale) parts.1 in

@@ -16,10 +16,6 @@ whole_by number (Some fault) read card e = absurd (cc)
 whole_by number None read card e = refl
 
 -- what goes on with what was read
-pub then_read : {A B E : Type 0} (read : Result A E) (f : A → Result B E) (y : B) → (read >>= f) ≡ Ok y → (x : A) × (read ≡ Ok x) × (f x ≡ Ok y)
-then_read (Ok x) f y e = (x, refl, e)
-then_read (Err g) f y e = absurd (cc)
-
 -- both parts were read
 pub each_of : {A B : Type 0} (a : Result A Fault) (b : Result B Fault) (pair : A × B) → both a b ≡ Ok pair → (a ≡ Ok pair.0) × (b ≡ Ok pair.1)
 each_of {A} {B} (Ok x) (Ok y) pair e =

@@ -1,4 +1,5 @@
 -- What the miscellaneous cards keep that aren't refused.
+use Rattle.emtp_fix.proofs.Chaining.{then_ok}
 use Rattle.std.proofs.Common.{◌≡◌, subst, refl, ℕ, ℤ, pos, int_lt, Bool, true, false, ◌||◌, List, Option, Some, None, Result, Ok, Err, if◌then◌else◌, unsigned_abs, arith}
 use Rattle.std.proofs.lemmas.Int.{ints}
 use Rattle.std.specs.Ordering.{int_eq}
@@ -18,7 +19,7 @@ use Rattle.emtp_netcards.specs.RunCards.{end_field, every_by, every_of, first_ca
 use Rattle.emtp_netcards.specs.held.RunCards.{IsFirstCard, IsMillion}
 use Rattle.emtp_netcards.specs.declared.run_cards.FirstCard.{FirstCard}
 use Rattle.emtp_netcards.specs.declared.run_cards.TheConstants.{COPT, DELTAT, TOLERATED, XOPT}
-use Rattle.emtp_netcards.proofs.Readings.{by, each_of, field_of_column, then_read}
+use Rattle.emtp_netcards.proofs.Readings.{by, each_of, field_of_column}
 use Rattle.emtp_netcards.proofs.FieldRanges.{not_zero, required_within}
 
 pub tolerance_keeps : (number : ℕ) (line : List ℕ) (x : ℤ) → tolerance_card number line ≡ Ok x → IsWithin (pos 0) (pos LARGEST_TOLERANCE) x
@@ -42,9 +43,9 @@ steps_are steps n e = go (int_lt steps (pos 1)) (int_lt (pos 1000000) steps) ref
 
 times_are : (dt end : Result ℤ Fault) (card : FirstCard) → ((x : ℤ) → dt ≡ Ok x → IsWithin (pos LEAST_TIME_STEP) (pos LARGEST_TIME_STEP) x) → times_by dt end ≡ Ok card → IsFirstCard card
 times_are dt end card within e =
-    let t = then_read (both dt end) _ card e in
+    let t = then_ok (both dt end) _ card e in
     let parts = each_of dt end t.0 t.1 in
-    let s = then_read (steps_of (near t.0.1 t.0.0)) _ card t.2 in
+    let s = then_ok (steps_of (near t.0.1 t.0.0)) _ card t.2 in
     let made : FirstCard = record { dt = t.0.0; steps = s.0 } in
     let is : made ≡ card = cc in
     subst IsFirstCard is (record { dt = within t.0.0 parts.0; steps = steps_are (near t.0.1 t.0.0) s.0 s.1 })
@@ -54,7 +55,7 @@ unfolding first_fields
 first_are line card e =
     let times = times_by (step_field line) (end_field line) in
     let zeros = both (number_or XOPT (pos 0) line) (number_or COPT (pos 0) line) in
-    let t = then_read (both times zeros) _ card e in
+    let t = then_ok (both times zeros) _ card e in
     let parts = each_of times zeros t.0 t.1 in
     let is : t.0.0 ≡ card = cc in
     subst IsFirstCard is (times_are (step_field line) (end_field line) t.0.0 (step_is line) parts.0)
@@ -98,7 +99,7 @@ unfolding second_fields
 second_are line x e =
     let print = in_column 1 (whole_field line 1 8) in
     let every = in_column 9 (every_by (whole_field line 9 16)) in
-    let t = then_read (both print every) _ x e in
+    let t = then_ok (both print every) _ x e in
     let parts = each_of print every t.0 t.1 in
     let is : t.0.1 ≡ x = cc in
     subst IsMillion is (every_by_is (whole_field line 9 16) t.0.1 (field_of_column 9 _ t.0.1 parts.1))

@@ -1,4 +1,5 @@
 -- What a source card keeps that isn't refused.
+use Rattle.emtp_fix.proofs.Chaining.{then_ok}
 use Rattle.std.proofs.Common.{◌≡◌, subst, refl, ℕ, ◌-◌, ◌^◌, ◌≤◌, ℤ, pos, negsuc, neg_ℤ, ◌*ℤ◌, Bool, true, false, List, Option, Some, None, Result, Ok, Err, IfSome, if◌then◌else◌, unsigned_abs, arith}
 use Rattle.std.proofs.lemmas.Int.{ints}
 use Rattle.std.specs.Int.{int_rem_euclid}
@@ -24,7 +25,7 @@ use Rattle.emtp_netcards.specs.declared.source_card.SourceCard.{SourceCard}
 use Rattle.emtp_netcards.specs.declared.source_card.SourceType.{SourceType}
 use Rattle.emtp_netcards.specs.declared.source_card.TheConstants.{A1, AMPLITUDE, FREQUENCY, PHASE, RISE, START, STOP}
 use Rattle.emtp_netcards.specs.declared.source_card.SourceType.TheVariants.{Cosine as CosineType, Ramp as RampType, Step as StepType, Tacs as TacsType}
-use Rattle.emtp_netcards.proofs.Readings.{by, each_of, then_read}
+use Rattle.emtp_netcards.proofs.Readings.{by, each_of}
 use Rattle.emtp_netcards.proofs.FieldRanges.{held_of_is, held_or_is, not_zero, number_or_is, required_within}
 use Rattle.emtp_netcards.proofs.SwitchRanges.{time_small, zero_time}
 
@@ -89,7 +90,7 @@ ramp_is : (line : List ℕ) (course : Shape × ℤ) → ramp_of line ≡ Ok cour
 unfolding ramp_of
 ramp_is line course e =
     let rise = rise_field line in
-    let r = then_read (both (amplitude_field line) rise) _ course e in
+    let r = then_ok (both (amplitude_field line) rise) _ course e in
     let parts = each_of (amplitude_field line) rise r.0 r.1 in
     let is : (Ramp r.0.1, r.0.0) ≡ course = cc in
     subst (λ (c : Shape × ℤ). IsCourse c.0 c.1) is (record { small = amplitude_is line r.0.0 parts.0; network = tt; numbers = λ s a. rise_is line r.0.1 parts.1 })
@@ -99,7 +100,7 @@ unfolding cosine_numbers
 cosine_are line numbers e =
     let freq = frequency_field line in
     let phase = phase_field line in
-    let r = then_read (both (both freq phase) (number_or A1 (pos 0) line)) _ numbers e in
+    let r = then_ok (both (both freq phase) (number_or A1 (pos 0) line)) _ numbers e in
     let front = each_of (both freq phase) (number_or A1 (pos 0) line) r.0 r.1 in
     let parts = each_of freq phase r.0.0 front.0 in
     let is : (r.0.0.0, r.0.0.1) ≡ numbers = cc in
@@ -108,14 +109,14 @@ cosine_are line numbers e =
 cosine_is : (line : List ℕ) (course : Shape × ℤ) → cosine_of line ≡ Ok course → IsCourse course.0 course.1
 unfolding cosine_of
 cosine_is line course e =
-    let r = then_read (both (amplitude_field line) (cosine_numbers line)) _ course e in
+    let r = then_ok (both (amplitude_field line) (cosine_numbers line)) _ course e in
     let parts = each_of (amplitude_field line) (cosine_numbers line) r.0 r.1 in
     let is : (Cosine r.0.1.0 r.0.1.1, r.0.0) ≡ course = cc in
     subst (λ (c : Shape × ℤ). IsCourse c.0 c.1) is (record { small = amplitude_is line r.0.0 parts.0; network = tt; numbers = λ s a. cosine_are line r.0.1 parts.1 })
 
 course_is : (line : List ℕ) (type : SourceType) (course : Shape × ℤ) → course_of line type ≡ Ok course → IsCourse course.0 course.1
 course_is line StepType course e =
-    let r = then_read (amplitude_field line) _ course e in
+    let r = then_ok (amplitude_field line) _ course e in
     let is : (Step, r.0) ≡ course = cc in
     subst (λ (c : Shape × ℤ). IsCourse c.0 c.1) is (record { small = amplitude_is line r.0 r.1; network = tt; numbers = λ s a. tt })
 course_is line RampType course e = ramp_is line course e
@@ -139,10 +140,10 @@ fields_keep number line card e =
     let sign = in_column 9 (whole_field line 9 10) in
     let course = in_column 1 (type_field line) >>= course_of line in
     let times = active_times line in
-    let r = then_read (both (both name sign) (both course times)) _ card e in
+    let r = then_ok (both (both name sign) (both course times)) _ card e in
     let halves = each_of (both name sign) (both course times) r.0 r.1 in
     let parts = each_of course times r.0.1 halves.1 in
-    let type = then_read (in_column 1 (type_field line)) (course_of line) r.0.1.0 parts.0 in
+    let type = then_ok (in_column 1 (type_field line)) (course_of line) r.0.1.0 parts.0 in
     let c = course_is line type.0 r.0.1.0 type.2 in
     let t = times_are line r.0.1.1 parts.1 in
     let made = source_record number r.0.0.0 r.0.0.1 r.0.1.0 r.0.1.1 in

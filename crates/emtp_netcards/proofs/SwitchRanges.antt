@@ -1,4 +1,5 @@
 -- What a switch card keeps that isn't refused.
+use Rattle.emtp_fix.proofs.Chaining.{then_ok}
 use Rattle.std.proofs.Common.{◌≡◌, subst, refl, ℕ, ◌≤◌, ◌<◌, ℤ, pos, neg_ℤ, Bool, true, false, List, Option, Some, None, Result, Ok, Err, IfSome, if◌then◌else◌, unsigned_abs, arith}
 use Rattle.std.proofs.lemmas.Int.{ints}
 use Rattle.std.specs.Option.{ForSome}
@@ -27,7 +28,7 @@ use Rattle.emtp_netcards.specs.declared.switch_card.SwitchCard.{SwitchCard}
 use Rattle.emtp_netcards.specs.declared.switch_card.SwitchType.{SwitchType}
 use Rattle.emtp_netcards.specs.declared.switch_card.TheConstants.{CLOSING, HOLDING, IGNITION, MARGIN, OPENING}
 use Rattle.emtp_netcards.specs.declared.switch_card.SwitchType.TheVariants.{Control as ControlType, Time as TimeType, Valve as ValveType}
-use Rattle.emtp_netcards.proofs.Readings.{by, each_of, field_of_column, then_read, whole_by}
+use Rattle.emtp_netcards.proofs.Readings.{by, each_of, field_of_column, whole_by}
 use Rattle.emtp_netcards.proofs.FieldRanges.{held_of_is, held_or_is, name_is, number_or_is}
 
 -- ---- shared fields
@@ -45,7 +46,7 @@ distinct_is a b ends ha hb e = go (is_same_name a b) refl e
 pub ends_are : (line : List ℕ) (ends : Option (List ℕ) × Option (List ℕ)) → fault_of_line line ≡ None → ends_field line ≡ Ok ends → AreEndNames ends.0 ends.1
 unfolding ends_field
 ends_are line ends whole e =
-    let r = then_read (both (in_column 3 (name_field line 3)) (in_column 9 (name_field line 9))) _ ends e in
+    let r = then_ok (both (in_column 3 (name_field line 3)) (in_column 9 (name_field line 9))) _ ends e in
     let parts = each_of (in_column 3 (name_field line 3)) (in_column 9 (name_field line 9)) r.0 r.1 in
     let a = name_is line 3 r.0.0 whole (field_of_column 3 (name_field line 3) r.0.0 parts.0) in
     let b = name_is line 9 r.0.1 whole (field_of_column 9 (name_field line 9) r.0.1 parts.1) in
@@ -94,7 +95,7 @@ times_are line kind e =
     let open_at = held_of OPENING line in
     let margin = number_or MARGIN (pos 0) line in
     let word = in_column 55 (word_field line) in
-    let r = then_read (both (both close open_at) (both margin word)) _ kind e in
+    let r = then_ok (both (both close open_at) (both margin word)) _ kind e in
     let halves = each_of (both close open_at) (both margin word) r.0 r.1 in
     let first = each_of close open_at r.0.0 halves.0 in
     let second = each_of margin word r.0.1 halves.1 in
@@ -121,7 +122,7 @@ valve_is line kind e =
     let ignition = number_or IGNITION (pos 0) line in
     let holding = number_or HOLDING (pos 0) line in
     let control = in_column 65 (name_field line 65) in
-    let r = then_read (both ignition (both holding control)) _ kind e in
+    let r = then_ok (both ignition (both holding control)) _ kind e in
     let first = each_of ignition (both holding control) r.0 r.1 in
     let second = each_of holding control r.0.1 first.1 in
     let is : (Valve r.0.0 r.0.1.0 (number_of_control r.0.1.1), r.0.1.1) ≡ kind = cc in
@@ -129,12 +130,12 @@ valve_is line kind e =
 
 kind_is : (line : List ℕ) (type : SwitchType) (kind : SwitchKind × Option (List ℕ)) → kind_of line type ≡ Ok kind → IsSwitchKind one_variable kind.0
 kind_is line TimeType kind e =
-    let r = then_read (time_kind line) _ kind e in
+    let r = then_ok (time_kind line) _ kind e in
     let is : (r.0, None) ≡ kind = cc in
     subst (λ (k : SwitchKind × Option (List ℕ)). IsSwitchKind one_variable k.0) is (time_kind_is line r.0 r.1)
 kind_is line ValveType kind e = valve_is line kind e
 kind_is line ControlType kind e =
-    let r = then_read (in_column 65 (needed (name_field line 65))) _ kind e in
+    let r = then_ok (in_column 65 (needed (name_field line 65))) _ kind e in
     let is : (Control 0, Some r.0) ≡ kind = cc in
     subst (λ (k : SwitchKind × Option (List ℕ)). IsSwitchKind one_variable k.0) is (omega arith)
 
@@ -145,10 +146,10 @@ unfolding fields_of
 fields_keep number line card whole e =
     let kind = in_column 1 (type_field line) >>= kind_of line in
     let asked = in_column 80 (asked_field line) in
-    let r = then_read (both (ends_field line) (both kind asked)) _ card e in
+    let r = then_ok (both (ends_field line) (both kind asked)) _ card e in
     let first = each_of (ends_field line) (both kind asked) r.0 r.1 in
     let second = each_of kind asked r.0.1 first.1 in
-    let type = then_read (in_column 1 (type_field line)) (kind_of line) r.0.1.0 second.0 in
+    let type = then_ok (in_column 1 (type_field line)) (kind_of line) r.0.1.0 second.0 in
     let made : SwitchCard = record { line = number; «from» = r.0.0.0; to = r.0.0.1; kind = r.0.1.0.0; control = r.0.1.0.1; asked = r.0.1.1 } in
     let is : made ≡ card = cc in
     subst HasSwitchNumbers is (record { ends = ends_are line r.0.0 whole first.0; kind = kind_is line type.0 r.0.1.0 type.2; few = asked_is line r.0.1.1 second.1 })

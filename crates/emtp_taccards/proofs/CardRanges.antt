@@ -1,4 +1,5 @@
 -- What the cards of the control keep that aren't refused.
+use Rattle.emtp_fix.proofs.Chaining.{then_ok}
 use Rattle.std.proofs.Common.{◌≡◌, ◌≢◌, ap, sym, subst, refl, ℕ, ◌+◌, ◌*◌, ◌^◌, ◌≤◌, nat_le, ℤ, pos, neg_ℤ, int_lt, Bool, true, false, ◌||◌, List, [], ◌∷◌, length, Option, Some, None, Result, Ok, Err, IfSome, IfOk, IsSome, IsTrue, All, if◌then◌else◌, unsigned_abs, arith}
 use Rattle.std.proofs.lemmas.Int.{ints}
 use Rattle.std.specs.Option.{ForSome}
@@ -36,7 +37,7 @@ use Rattle.emtp_netcards.specs.held.Fields.{IsSmall}
 use Rattle.emtp_netcards.specs.declared.source_card.SourceCard.{SourceCard}
 use Rattle.emtp_netcards.proofs.FieldRanges.{needed_name, number_is, number_or_is, required_within}
 use Rattle.emtp_netcards.proofs.PointRanges.{due_by}
-use Rattle.emtp_netcards.proofs.Readings.{by, each_of, field_of_column, then_read, whole_by}
+use Rattle.emtp_netcards.proofs.Readings.{by, each_of, field_of_column, whole_by}
 use Rattle.emtp_netcards.proofs.SourceRanges.{amplitude_is, cosine_are, times_are}
 use Rattle.emtp_taccards.specs.BlockCard as blocks
 use Rattle.emtp_taccards.specs.BlockCard.{Limits, are_crossed, block_card, block_record, gain_by, gain_field, in_order, limits_of, order_and_name, order_by, order_field, order_of}
@@ -69,7 +70,7 @@ use Rattle.emtp_taccards.proofs.Coefficients.{card_kept, eight}
 five : (line : List ℕ) (xs : List (Option (Bool × List ℕ))) → inputs line ≡ Ok xs → length xs ≡ 5
 unfolding inputs
 five line xs e =
-    let t = then_read (both (four_inputs line) (input line 43)) _ xs e in
+    let t = then_ok (both (four_inputs line) (input line 43)) _ xs e in
     let is : (t.0.0.0.0 ∷ t.0.0.0.1 ∷ t.0.0.1.0 ∷ t.0.0.1.1 ∷ t.0.1 ∷ []) ≡ xs = cc in
     ap length (sym is)
 
@@ -139,7 +140,7 @@ limits_are line l e =
     let low = number_of LOW line in
     let high = number_of HIGH line in
     let names = both (in_column 69 (name_field line 69)) (in_column 75 (name_field line 75)) in
-    let t = then_read (both (both low high) names) _ l e in
+    let t = then_ok (both (both low high) names) _ l e in
     let halves = each_of (both low high) names t.0 t.1 in
     let parts = each_of low high t.0.0 halves.0 in
     let o = ordered t.0.0.0 t.0.0.1 t.0.1.0 t.0.1.1 l t.2 in
@@ -161,7 +162,7 @@ block_fields number line card whole e =
     let order = in_column 1 (order_field line) in
     let name = in_column 3 (needed (name_field line 3)) in
     let gain = gain_field line in
-    let t = then_read (both (both (order_and_name line) (inputs line)) (both gain (limits_of line))) _ card e in
+    let t = then_ok (both (both (order_and_name line) (inputs line)) (both gain (limits_of line))) _ card e in
     let halves = each_of (both (order_and_name line) (inputs line)) (both gain (limits_of line)) t.0 t.1 in
     let front = each_of (order_and_name line) (inputs line) t.0.0 halves.0 in
     let back = each_of gain (limits_of line) t.0.1 halves.1 in
@@ -219,7 +220,7 @@ unfolding coefficients four_of
 coefficients_small line order dt xs e =
     let low = both (pair_of line order dt 0) (pair_of line order dt 2) in
     let high = both (pair_of line order dt 4) (pair_of line order dt 6) in
-    let t = then_read (both low high) _ xs e in
+    let t = then_ok (both low high) _ xs e in
     let halves = each_of low high t.0 t.1 in
     let first = each_of (pair_of line order dt 0) (pair_of line order dt 2) t.0.0 halves.0 in
     let last = each_of (pair_of line order dt 4) (pair_of line order dt 6) t.0.1 halves.1 in
@@ -284,9 +285,9 @@ coded_is : (line : List ℕ) (code : DeviceCode) (c : Coded) → coded_by line c
 unfolding coded_by
 coded_is line code c e =
     let a = a_by line code in
-    let t = then_read (both a (d_field line code)) _ c e in
+    let t = then_ok (both a (d_field line code)) _ c e in
     let parts = each_of a (d_field line code) t.0 t.1 in
-    let n = then_read (in_column 69 (name_field line 69)) (d_by code) t.0.1 parts.1 in
+    let n = then_ok (in_column 69 (name_field line 69)) (d_by code) t.0.1 parts.1 in
     let is : (code, (t.0.0, t.0.1)) ≡ c = cc in
     subst IsCoded is (record { a = a_is line code t.0.0 parts.0; d = d_is code n.0 t.0.1 n.2 })
 
@@ -301,12 +302,12 @@ unfolding devices.fields_of head_of variables_of plain_fields
 device_fields number line card whole e =
     let name = in_column 3 (needed (name_field line 3)) in
     let coded = in_column 9 (code_field line) >>= coded_by line in
-    let t = then_read (both (both (head_of line) coded) (both (variables_of line) (plain_fields line))) _ card e in
+    let t = then_ok (both (both (head_of line) coded) (both (variables_of line) (plain_fields line))) _ card e in
     let halves = each_of (both (head_of line) coded) (both (variables_of line) (plain_fields line)) t.0 t.1 in
     let front = each_of (head_of line) coded t.0.0 halves.0 in
     let back = each_of (variables_of line) (plain_fields line) t.0.1 halves.1 in
     let head = each_of (in_column 1 (group_field line)) name t.0.0.0 front.0 in
-    let code = then_read (in_column 9 (code_field line)) (coded_by line) t.0.0.1 front.1 in
+    let code = then_ok (in_column 9 (code_field line)) (coded_by line) t.0.0.1 front.1 in
     let c = coded_is line code.0 t.0.0.1 code.2 in
     let ins = each_of (inputs line) (in_column 75 (name_field line 75)) t.0.1.0 back.0 in
     let plain = each_of (number_or B (pos 0) line) (number_or C (pos 0) line) t.0.1.1 back.1 in
@@ -337,7 +338,7 @@ unfolding formulas.fields_of head_of
 head_name line head whole e =
     let equals = in_column 11 (equals_field line) in
     let name = in_column 3 (needed (name_field line 3)) in
-    let t = then_read (both (head_of line) equals) _ head e in
+    let t = then_ok (both (head_of line) equals) _ head e in
     let parts = each_of (head_of line) equals t.0 t.1 in
     let h = each_of (in_column 1 (group_field line)) name t.0.0 parts.0 in
     let is : t.0.0 ≡ head = cc in
@@ -373,14 +374,14 @@ width_is line x e =
 level_is : (line : List ℕ) (course : Course) → level_of line ≡ Ok course → IsDriven course
 unfolding level_of
 level_is line course e =
-    let t = then_read (amplitude_field line) _ course e in
+    let t = then_ok (amplitude_field line) _ course e in
     let is : (Step, t.0) ≡ course = cc in
     subst IsDriven is (record { small = amplitude_is line t.0 t.1; shape = tt; numbers = λ s. tt })
 
 cosine_is : (line : List ℕ) (course : Course) → cosine_of line ≡ Ok course → IsDriven course
 unfolding cosine_of
 cosine_is line course e =
-    let t = then_read (both (amplitude_field line) (cosine_numbers line)) _ course e in
+    let t = then_ok (both (amplitude_field line) (cosine_numbers line)) _ course e in
     let parts = each_of (amplitude_field line) (cosine_numbers line) t.0 t.1 in
     let is : (Cosine t.0.1.0 t.0.1.1, t.0.0) ≡ course = cc in
     subst IsDriven is (record { small = amplitude_is line t.0.0 parts.0; shape = tt; numbers = λ s. cosine_are line t.0.1 parts.1 })
@@ -390,7 +391,7 @@ unfolding pulse_of
 pulse_is line course e =
     let period = period_field line in
     let width = width_field line in
-    let t = then_read (both (amplitude_field line) (both period width)) _ course e in
+    let t = then_ok (both (amplitude_field line) (both period width)) _ course e in
     let parts = each_of (amplitude_field line) (both period width) t.0 t.1 in
     let p = each_of period width t.0.1 parts.1 in
     let is : (Pulse t.0.1.0 t.0.1.1, t.0.0) ≡ course = cc in
@@ -400,7 +401,7 @@ saw_is : (line : List ℕ) (course : Course) → saw_of line ≡ Ok course → I
 unfolding saw_of
 saw_is line course e =
     let period = period_field line in
-    let t = then_read (both (amplitude_field line) period) _ course e in
+    let t = then_ok (both (amplitude_field line) period) _ course e in
     let parts = each_of (amplitude_field line) period t.0 t.1 in
     let is : (Saw t.0.1, t.0.0) ≡ course = cc in
     subst IsDriven is (record { small = amplitude_is line t.0.0 parts.0; shape = tt; numbers = λ s. period_is line t.0.1 parts.1 })
@@ -435,9 +436,9 @@ unfolding signals.fields_of
 source_fields number line card whole e =
     let name = in_column 3 (needed (name_field line 3)) in
     let signal = in_column 1 (signal_field line) >>= value_of line in
-    let t = then_read (both name signal) _ card e in
+    let t = then_ok (both name signal) _ card e in
     let parts = each_of name signal t.0 t.1 in
-    let s = then_read (in_column 1 (signal_field line)) (value_of line) t.0.1 parts.1 in
+    let s = then_ok (in_column 1 (signal_field line)) (value_of line) t.0.1 parts.1 in
     let v = value_is line s.0 t.0.1 s.2 in
     let made = source_record number t.0.0 t.0.1.0 t.0.1.1 in
     let is : made ≡ card = cc in
