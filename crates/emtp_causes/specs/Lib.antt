@@ -1,4 +1,5 @@
 pub mod Kinds
+pub mod KindText
 pub mod Legend
 pub mod Slip
 pub mod Cause
@@ -7,3 +8,4 @@ pub mod Sections
 pub mod Refusal
 pub mod Ends
 pub mod Parts
+pub mod Misfit

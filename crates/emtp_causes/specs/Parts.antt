@@ -1,5 +1,5 @@
 -- An item of a table's row, or a field of a record's line, with a mark below it and the cause for which it is refused.
-use Rattle.std.specs.Prelude.{[], ◌%◌, ◌&&◌, ◌+◌, ◌++◌, ◌-◌, ◌==◌, ◌^◌, ◌||◌, ◌∷◌, Bool, List, None, Option, Some, codes, if◌then◌else◌, length, min, nat_le, neg_ℤ, not, pos, position, take, true, ℕ}
+use Rattle.std.specs.Prelude.{[], ◌%◌, ◌&&◌, ◌+◌, ◌++◌, ◌-◌, ◌==◌, ◌||◌, ◌∷◌, Bool, List, None, Option, Some, codes, if◌then◌else◌, length, min, nat_le, neg_ℤ, not, pos, position, take, true, ℕ}
 use Rattle.std.specs.Result.{is_ok}
 use Rattle.std.specs.Str.{bytes_eq}
 use Rattle.emtp_card.specs.Lines.{is_blank}

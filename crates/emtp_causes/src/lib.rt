@@ -3,8 +3,9 @@
 //! A note names the line, the column and the reason of the first card that is refused. [`put_refusal`] writes what helps to
 //! mend it: the card below the names of its fields, a mark under the column with the cause in words, as what kind of card the
 //! line was read, and where the sections before it ended. A line that was meant otherwise (a card of ATP that isn't read here,
-//! `blank` in small letters, a comment without its blank) is told as such. [`kind_name`] names what a line is read as, and [`field_name`] a
-//! field of it.
+//! `blank` in small letters, a comment without its blank) is told as such. [`put_kinds`] and [`put_section`] write as what lines
+//! are read, by the names of [`kind_name`]; [`field_name`] names a field of a card; [`put_misfit`] writes why words are no
+//! command.
 //!
 //! The crate stands on the lines of `emtp_card`, on the types of cards of `emtp_netcards`, on what `emtp_walk` says that each
 //! line is read as, and on `emtp_text`.
@@ -18,6 +19,7 @@
 //! ```
 //!
 //! - `kinds`: the names of kinds of lines
+//! - `kind_text`: as what a line is read
 //! - `legend`: the names of a card's fields over their columns
 //! - `slip`: what a line was meant as that isn't read here
 //! - `cause`: the cause of a refusal
@@ -26,20 +28,25 @@
 //! - `sections`: where sections end
 //! - `refusal`: the whole text of a refusal
 //! - `ends`: what an early end means, and why a case has no steady state
+//! - `misfit`: why words are no command
 #![tactic(auto)]
 
 mod cause;
 mod ends;
+mod kind_text;
 mod kinds;
 mod legend;
 mod marked;
+mod misfit;
 mod parts;
 mod refusal;
 mod sections;
 mod slip;
 
 pub use ends::{put_end, unsolved};
+pub use kind_text::{put_kinds, put_section};
 pub use kinds::kind_name;
 pub use legend::field_name;
+pub use misfit::put_misfit;
 pub use parts::{put_field, put_item};
 pub use refusal::{put_refusal, put_size};

@@ -2,8 +2,8 @@
 use Rattle.std.specs.Prelude.{◌∷◌, [], List, Option, Some, None, codes, if◌then◌else◌, ℕ}
 use Rattle.std.specs.Str.{bytes_eq}
 use Rattle.emtp_causes.specs.Ends.{end_text, unsolved_text}
+use Rattle.emtp_causes.specs.Misfit.{misfit_text}
 use Rattle.emtp_causes.specs.Parts.{field_line, item_line, number_or_one}
-use Rattle.emtp_inspect.specs.Misfit.{misfit_text}
 use Rattle.emtp_inspect.specs.declared.words.Wanted.{Wanted}
 use Rattle.emtp_inspect.specs.declared.words.Wanted.TheVariants.{Cause, Kinds, Listing, WarningCount}
 use Rattle.emtp_run.specs.Words.{is_name}

@@ -1,11 +1,9 @@
 -- what is told of a file
-pub mod KindText
 pub mod EachCard
 pub mod RunCards
 pub mod CopyCards
 pub mod ChannelCards
 pub mod Telling
 -- and what the words ask for, and how a call ends that tells it
-pub mod Misfit
 pub mod Asking
 pub mod Showing

@@ -4,13 +4,13 @@ use Rattle.emtp_card.specs.Cards.{size_fault}
 use Rattle.emtp_card.specs.Lines.{lines_of}
 use Rattle.emtp_card.specs.declared.reason.Bad.{Bad}
 use Rattle.emtp_case.specs.declared.case.Parts.{Parts}
+use Rattle.emtp_causes.specs.KindText.{kinds_text, section_text}
 use Rattle.emtp_causes.specs.Kinds.{kind_name}
 use Rattle.emtp_causes.specs.Refusal.{refusal_text, size_text}
 use Rattle.emtp_deck.specs.Deck.{deck_of}
 use Rattle.emtp_inspect.specs.ChannelCards.{channels_text}
 use Rattle.emtp_inspect.specs.CopyCards.{copies_text}
 use Rattle.emtp_inspect.specs.RunCards.{run_text}
-use Rattle.emtp_inspect.specs.KindText.{kinds_text, section_text}
 use Rattle.emtp_inspect.specs.declared.telling.Told.{Told}
 use Rattle.emtp_inspect.specs.declared.telling.Told.TheVariants.{Answer, Refusal}
 use Rattle.emtp_inspect.specs.declared.words.Wanted.{Wanted}

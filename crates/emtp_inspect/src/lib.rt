@@ -15,17 +15,13 @@
 //! - `showing`: the file that is read, and the output that is made
 //! - `telling`: the text that the bytes of a file give
 //! - `each_card`, `run_cards`, `copy_cards`, `channel_cards`: what the cards say that no case keeps
-//! - `kind_text`: as what a line is read
 //! - `explaining`: what words of a note mean
-//! - `misfit`: why words are no command
 #![tactic(auto)]
 
 mod channel_cards;
 mod copy_cards;
 mod each_card;
 mod explaining;
-mod kind_text;
-mod misfit;
 mod run_cards;
 mod showing;
 mod telling;

@@ -1,7 +1,7 @@
 //! The text that the bytes of a file give.
 ghost use Rattle.std.specs.Prelude.{◌≡◌, ◌++◌, IfOk, OnOk, Some, take};
 ghost use Rattle.emtp_deck.specs.Deck.{deck_of};
-ghost use Rattle.emtp_inspect.specs.KindText.{kinds_text};
+ghost use Rattle.emtp_causes.specs.KindText.{kinds_text};
 ghost use Rattle.emtp_inspect.specs.Telling.{cards_text, cause_of, count_text, listed_front, listed_of, listing_text, refused_by, refused_text, told_case, told_of, told_of_lines, told_unread};
 ghost use Rattle.emtp_listing.specs.Lines.{lines_text};
 ghost use Rattle.emtp_run.specs.Note.{card_note};
@@ -9,12 +9,11 @@ ghost use Rattle.emtp_run.specs.Note.{card_note};
 use crate::channel_cards::put_channels;
 use crate::copy_cards::put_copies;
 use crate::each_card::Shown;
-use crate::kind_text::{put_kinds, put_section};
 use crate::run_cards::put_run_cards;
 use crate::words::Wanted;
 use emtp_card::{Bad, Cards, Refused};
 use emtp_case::Items;
-use emtp_causes::{kind_name, put_refusal, put_size};
+use emtp_causes::{kind_name, put_kinds, put_refusal, put_section, put_size};
 use emtp_deck::read;
 use emtp_listing::listing;
 use emtp_run::bad_card;

@@ -1,6 +1,6 @@
 use Rattle.emtp_causes.proofs.Chains.{one, then, whole}
-use Rattle.emtp_inspect.specs.Misfit.{dash_line}
-use Rattle.emtp_inspect.proofs.misfit.put_dash.Goals as goal
+use Rattle.emtp_causes.specs.Misfit.{dash_line}
+use Rattle.emtp_causes.proofs.misfit.put_dash.Goals as goal
 
 pub returns : goal.returns
 unfolding dash_line

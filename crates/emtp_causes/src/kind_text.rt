@@ -1,14 +1,14 @@
 //! As what a line is read, in words.
 ghost use Rattle.std.specs.Prelude.{◌≡◌, ◌++◌, OnOk};
-ghost use Rattle.emtp_inspect.specs.KindText.{due_text, kind_line, kind_text, kinds_text, mark_of, read_text, section_text};
+ghost use Rattle.emtp_causes.specs.KindText.{due_line, kind_line, kind_text, kinds_text, mark_of, read_line, section_text};
 
-use emtp_causes::kind_name;
+use crate::kinds::kind_name;
 use emtp_text::{put, put_number};
 use emtp_walk::{Kind, LineReading};
 use std::alloc::AllocError;
 
 /// Puts a line after a text that says as what the line of a number was read, or what is due where the file ends.
-pub(crate) fn put_section(
+pub fn put_section(
     out: &mut Vec<u8>,
     number: u32,
     there: bool,
@@ -23,9 +23,9 @@ pub(crate) fn put_section(
     }
 }
 
-#[tactic(auto, unfolding(crate::specs::KindText::read_text))]
+#[tactic(auto, unfolding(crate::specs::KindText::read_line))]
 fn put_read(out: &mut Vec<u8>, number: u32, kind: &[u8]) -> Result<(), AllocError>
-    ensures { OnOk result (out.new.items ≡ out.old.items ++ read_text number kind.now) }
+    ensures { OnOk result (out.new.items ≡ out.old.items ++ read_line number kind.now) }
 {
     put(out, b"line ")?;
     put_number(out, number)?;
@@ -34,9 +34,9 @@ fn put_read(out: &mut Vec<u8>, number: u32, kind: &[u8]) -> Result<(), AllocErro
     put(out, b"\n")
 }
 
-#[tactic(auto, unfolding(crate::specs::KindText::due_text))]
+#[tactic(auto, unfolding(crate::specs::KindText::due_line))]
 fn put_due(out: &mut Vec<u8>, number: u32, kind: &[u8]) -> Result<(), AllocError>
-    ensures { OnOk result (out.new.items ≡ out.old.items ++ due_text number kind.now) }
+    ensures { OnOk result (out.new.items ≡ out.old.items ++ due_line number kind.now) }
 {
     put(out, b"line ")?;
     put_number(out, number)?;
@@ -47,7 +47,7 @@ fn put_due(out: &mut Vec<u8>, number: u32, kind: &[u8]) -> Result<(), AllocError
 
 /// Puts a line after a text for each line of so many that is no comment: its number, and as what it is read; and what is due
 /// behind them.
-pub(crate) fn put_kinds(
+pub fn put_kinds(
     out: &mut Vec<u8>,
     count: usize,
     readings: &[LineReading],

@@ -7,16 +7,16 @@ use Rattle.emtp_walk.specs.declared.kind.LineReading.{LineReading}
 
 -- ---- of one card
 
-unfoldable pub read_text : ℕ → List ℕ → List ℕ
-read_text number kind = codes "line " ++ decimal number ++ codes ": read as " ++ kind ++ codes "\n"
+unfoldable pub read_line : ℕ → List ℕ → List ℕ
+read_line number kind = codes "line " ++ decimal number ++ codes ": read as " ++ kind ++ codes "\n"
 
-unfoldable pub due_text : ℕ → List ℕ → List ℕ
-due_text number kind = codes "line " ++ decimal number ++ codes ": the file ends where " ++ kind ++ codes " is due\n"
+unfoldable pub due_line : ℕ → List ℕ → List ℕ
+due_line number kind = codes "line " ++ decimal number ++ codes ": the file ends where " ++ kind ++ codes " is due\n"
 
 -- of the line of a number, which is there or not
 abbrev pub section_text : ℕ → Bool → List ℕ → List ℕ
-section_text number true kind = read_text number kind
-section_text number false kind = due_text number kind
+section_text number true kind = read_line number kind
+section_text number false kind = due_line number kind
 
 -- ---- of all lines
 

@@ -1,6 +1,6 @@
 use Rattle.std.proofs.Common.{◌≡◌, ◌+◌, ◌++◌, drop}
-use Rattle.emtp_inspect.specs.KindText.{kinds_text}
-use Rattle.emtp_inspect.proofs.kind_text.put_kinds.Given as goal
+use Rattle.emtp_causes.specs.KindText.{kinds_text}
+use Rattle.emtp_causes.proofs.kind_text.put_kinds.Given as goal
 
 -- the lines so far and those that are left are all lines
 abbrev pub invariant-loop-at : goal.invariant-loop-at

@@ -1,8 +1,7 @@
 //! Why words are no command of `emtp`.
 
-ghost use Rattle.std.specs.Prelude.{◌≡◌, ◌++◌, OnOk};
-ghost use Rattle.emtp_inspect.specs.Misfit.{between, count_line, dash_line, files_text, form_of, frequencies_text, hertz_line, is_odd_name, misfit_text, name_text, names_text, number_of, one_text, other_count, range_text, three_text, trial_text, twice_line};
-ghost use Rattle.emtp_run.specs.Words.{texts};
+ghost use Rattle.std.specs.Prelude.{◌≡◌, ◌++◌, ◌∷◌, OnOk, map, string_bytes};
+ghost use Rattle.emtp_causes.specs.Misfit.{between, count_line, dash_line, files_text, form_of, frequencies_text, hertz_line, is_odd_name, misfit_text, name_text, names_text, number_of, one_text, other_count, range_fault, three_text, trial_text, twice_line};
 
 use emtp_card::read_digits;
 use emtp_text::put;
@@ -18,20 +17,27 @@ const MOST_HERTZ: u64 = 10_000_000;
 const MOST_FREQUENCIES: u64 = 10_000;
 
 /// Puts after a text why these words are no command; nothing where they may be one.
-pub(crate) fn put_misfit(out: &mut Vec<u8>, words: &[String]) -> Result<(), AllocError>
-    ensures { OnOk result (out.new.items ≡ out.old.items ++ misfit_text (texts words.now)) }
+pub fn put_misfit(out: &mut Vec<u8>, words: &[String]) -> Result<(), AllocError>
+    ensures { OnOk result (out.new.items ≡ out.old.items ++ misfit_text (map (λ word. string_bytes word) words.now)) }
 {
     match words {
         [] => put(out, b"No command is given.\n"),
-        [command] => put_other_count(out, command.as_str(), b"nothing"),
-        [command, a] => put_one(out, command.as_str(), a.as_str()),
-        [command, a, b] if command.as_str() == "batch" => put_names(out, a.as_str(), b.as_str()),
-        [command, _, _] => put_other_count(out, command.as_str(), b"2"),
-        [command, a, b, c] => put_three(out, command.as_str(), a.as_str(), b.as_str(), c.as_str()),
-        [command, a, b, c, d] if command.as_str() == "scan" => {
-            put_scan(out, a.as_str(), b.as_str(), c.as_str(), d.as_str())
-        }
-        [command, _, _, _, _] => put_other_count(out, command.as_str(), b"4"),
+        [command, behind @ ..] => put_command(out, command, behind),
+    }
+}
+
+/// Puts why a command has no such words behind it.
+fn put_command(out: &mut Vec<u8>, command: &str, behind: &[String]) -> Result<(), AllocError>
+    ensures { OnOk result (out.new.items ≡ out.old.items ++ misfit_text (command.now ∷ map (λ word. string_bytes word) behind.now)) }
+{
+    match behind {
+        [] => put_other_count(out, command, b"nothing"),
+        [a] => put_one(out, command, a),
+        [a, b] if command == "batch" => put_names(out, a, b),
+        [_, _] => put_other_count(out, command, b"2"),
+        [a, b, c] => put_three(out, command, a, b, c),
+        [case, first, last, by] if command == "scan" => put_scan(out, case, first, last, by),
+        [_, _, _, _] => put_other_count(out, command, b"4"),
         _ => put(out, b"These are more words than any command has.\n"),
     }
 }
@@ -219,14 +225,14 @@ fn put_scan(
         return put_no_hertz(out, last);
     };
     match number_of(by, MOST_HERTZ) {
-        Some(step) => put(out, range_text(low, high, step)),
+        Some(step) => put(out, range_fault(low, high, step)),
         None => put_no_hertz(out, by),
     }
 }
 
 /// What is wrong with the numbers of a scan; nothing of good ones.
-fn range_text(low: u64, high: u64, step: u64) -> &'static [u8]
-    ensures { result.now ≡ range_text low high step }
+fn range_fault(low: u64, high: u64, step: u64) -> &'static [u8]
+    ensures { result.now ≡ range_fault low high step }
 {
     if high < low {
         b"F0 is above F1.\n"

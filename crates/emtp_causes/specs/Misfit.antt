@@ -76,14 +76,14 @@ abbrev pub hertz_line : List ℕ → List ℕ
 hertz_line word = between [] word (codes " is no frequency: a whole number of hertz from 1 to 10000000.\n")
 
 -- nothing of good numbers
-abbrev pub range_text : ℕ → ℕ → ℕ → List ℕ
-range_text low high step =
+abbrev pub range_fault : ℕ → ℕ → ℕ → List ℕ
+range_fault low high step =
     if nat_lt high low then codes "F0 is above F1.\n"
     else if nat_le 10000 ((high - low) / max step 1) then codes "These are more than 10,000 frequencies.\n"
     else []
 
 abbrev pub step_by : ℕ → ℕ → List ℕ → Option ℕ → List ℕ
-step_by low high by (Some step) = range_text low high step
+step_by low high by (Some step) = range_fault low high step
 step_by low high by None = hertz_line by
 
 abbrev pub by_text : ℕ → ℕ → List ℕ → List ℕ
