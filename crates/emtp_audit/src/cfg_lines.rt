@@ -3,7 +3,7 @@ ghost use Rattle.std.specs.Prelude.{◌≡◌, false, ◌+◌, ◌<◌, ◌≤�
 ghost use Rattle.emtp_comtrade.specs.Record.{analog_before};
 ghost use Rattle.emtp_audit.specs.Cfg.{analog_rule, named_rule, identity_rules, scale_rule, rates_rule, unit_rule, file_line, scale_number, scale_on, rates_number, rates_on, unit_number, unit_on};
 ghost use Rattle.emtp_audit.specs.held.Dat.{IsScale};
-ghost use Rattle.emtp_audit.specs.Rules.{any_field, line_differs};
+ghost use Rattle.emtp_audit.specs.Rules.{line_differs};
 ghost use Rattle.emtp_audit.specs.held.Walk.{Walks, Behind, difference_in, Passes, StopsAt};
 ghost use Rattle.emtp_audit.specs.declared.limit.TheConstants.{LARGEST_SCALE, LARGEST_UNIT, MOST_FIELDS};
 

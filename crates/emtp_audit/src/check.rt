@@ -1,10 +1,10 @@
 //! The table of what the fields of a line have to be.
-ghost use Rattle.std.specs.Prelude.{◌≡◌, false, ◌+◌, ◌-◌, ◌≤◌, ◌<◌, [], ◌∷◌, length, map, pos, slice_index_or, OnOk};
+ghost use Rattle.std.specs.Prelude.{◌≡◌, false, ◌+◌, ◌-◌, ◌≤◌, ◌<◌, [], ◌∷◌, length, map, slice_index_or, OnOk};
 ghost use Rattle.std.specs.Char.{to_ascii_uppercase};
 ghost use Rattle.emtp_audit.specs.Cfg.{letters_are, counts, is_read};
 ghost use Rattle.emtp_audit.specs.held.Check.{rule_of};
 ghost use Rattle.emtp_audit.specs.Numbers.{whole_of};
-ghost use Rattle.emtp_audit.specs.Rules.{LineRule, Fields, line_differs, text_is};
+ghost use Rattle.emtp_audit.specs.Rules.{LineRule, Fields, line_differs};
 ghost use Rattle.emtp_audit.specs.held.Walk.{Walks, Behind, difference_in};
 ghost use Rattle.emtp_audit.specs.declared.limit.TheConstants.{MOST_FIELDS};
 

@@ -1,9 +1,6 @@
 //! The lines of the data, one after the other.
-ghost use Rattle.std.specs.Prelude.{◌≡◌, true, ◌+◌, ◌<◌, ◌≤◌, ◌∷◌, [], ℕ, ℤ, List, pos, ◌≤ℤ◌, unsigned_abs, ◌^◌, length, All, Ok, Err, IfOk, IfErr, MatchOption};
-ghost use Rattle.std.specs.List.{list_all};
-ghost use Rattle.emtp_card.specs.Lines.{lines_of};
+ghost use Rattle.std.specs.Prelude.{◌≡◌, true, ◌+◌, ◌<◌, ◌≤◌, ℤ, pos, ◌≤ℤ◌, unsigned_abs, ◌^◌, length, All, Ok, Err, IfOk, IfErr};
 ghost use Rattle.emtp_comtrade.specs.Record.{analog_before};
-ghost use Rattle.emtp_audit.specs.Rules.{is_padding, audited_lines};
 ghost use Rattle.emtp_audit.specs.Dat.{first_stamp, dat_differs};
 ghost use Rattle.emtp_audit.specs.held.Dat.{line_rule, told_by, IsAudited, IsScale};
 ghost use Rattle.emtp_audit.specs.held.Walk.{LineWalks, difference_in, stamp_in};

@@ -1,7 +1,6 @@
 //! The fields of a line, one after the other.
-ghost use Rattle.std.specs.Prelude.{◌≡◌, ◌+◌, ◌<◌, ◌≤◌, [], ◌∷◌, List, ℕ, pos, unsigned_abs, Ok, Err, Result, MatchOption, IfOk, IfErr, OnOk, position, length, Some, None};
+ghost use Rattle.std.specs.Prelude.{◌≡◌, ◌+◌, ◌<◌, ◌≤◌, [], ◌∷◌, ℕ, pos, Ok, Err, Result, MatchOption, IfOk, IfErr, OnOk, position, Some, None};
 ghost use Rattle.emtp_card.specs.Name.{is_comma};
-ghost use Rattle.emtp_card.specs.Field.{trimmed};
 ghost use Rattle.emtp_audit.specs.Rules.{comma_fields, differs_at, number_is, unless_wrong};
 ghost use Rattle.emtp_audit.specs.held.Walk.{Walked, Walks, TakesField, JudgesField, finds, difference_in};
 ghost use Rattle.emtp_audit.specs.declared.limit.TheConstants.{MOST_FIELDS};

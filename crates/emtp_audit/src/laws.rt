@@ -1,7 +1,6 @@
 // What is true of the definitions in the reader's own words. The functions do nothing: their clauses are proved.
-ghost use Rattle.std.specs.Prelude.{◌≡◌, ℕ, ℤ, List, [], ◌∷◌, ◌++◌, Some, None, pos, ◌<◌, ◌≤◌, ◌*◌, ◌-◌, ◌^◌, decimal, unsigned_abs};
+ghost use Rattle.std.specs.Prelude.{◌≡◌, ℕ, ℤ, List, [], ◌∷◌, ◌++◌, Some, None, pos, ◌<◌, ◌^◌, decimal, unsigned_abs};
 ghost use Rattle.std.specs.Fmt.{signed_decimal};
-ghost use Rattle.emtp_fix.specs.Decimal.{fixed_text};
 ghost use Rattle.emtp_card.specs.held.Lines.{HasNoNewline};
 ghost use Rattle.emtp_case.specs.held.Case.{IsCase};
 ghost use Rattle.emtp_case.specs.declared.case.Parts.{Parts};

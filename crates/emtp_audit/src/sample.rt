@@ -1,13 +1,13 @@
 //! The comparison of the data.
-ghost use Rattle.std.specs.Prelude.{◌≡◌, true, ◌+◌, ◌<◌, ◌≤◌, ◌++◌, ◌∷◌, [], ℕ, ℤ, List, pos, ◌≤ℤ◌, unsigned_abs, ◌^◌, length, All, OnOk, IfOk};
+ghost use Rattle.std.specs.Prelude.{◌≡◌, true, ◌+◌, ◌<◌, ◌≤◌, ℤ, pos, ◌≤ℤ◌, unsigned_abs, ◌^◌, length, OnOk, IfOk};
 ghost use Rattle.emtp_comtrade.specs.Record.{is_status_at, analog_before};
 ghost use Rattle.emtp_comtrade.specs.Record.{joined};
 ghost use Rattle.emtp_audit.specs.Rules.{line_differs, Fields};
 ghost use Rattle.emtp_audit.specs.held.Dat.{line_rule, raw_rules, state_rules, IsAudited};
-ghost use Rattle.emtp_audit.specs.held.Walk.{Walked, Walks, finds, difference_in};
+ghost use Rattle.emtp_audit.specs.held.Walk.{Walks, difference_in};
 ghost use Rattle.emtp_audit.specs.declared.limit.TheConstants.{MOST_FIELDS};
 
-use crate::differs::{DifferCause, Differs};
+use crate::differs::Differs;
 use crate::fields::{Fields, walk_number};
 use crate::scale::Cfg;
 use crate::values::{walk_raw, walk_stamp, walk_state};

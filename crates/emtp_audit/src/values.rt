@@ -3,7 +3,7 @@ ghost use Rattle.std.specs.Prelude.{◌≡◌, ◌+◌, ◌*◌, ◌<◌, ◌≤
 ghost use Rattle.emtp_fix.specs.declared.limit.TheConstants.{LARGEST_WIDE};
 ghost use Rattle.emtp_audit.specs.Dat.{is_time, stamp_is, stands_for, raw_is, state_text, state_is};
 ghost use Rattle.emtp_audit.specs.held.Dat.{IsScale};
-ghost use Rattle.emtp_audit.specs.held.Walk.{Walked, Walks};
+ghost use Rattle.emtp_audit.specs.held.Walk.{Walks};
 ghost use Rattle.emtp_audit.specs.declared.limit.TheConstants.{LARGEST_SCALE, LARGEST_UNIT, MOST_FIELDS};
 
 use crate::differs::{DifferCause, Differs};

@@ -2,9 +2,8 @@
 
 ghost use Rattle.emtp_case.specs.declared.limit.TheConstants.{MOST_SWITCHES};
 ghost use Rattle.emtp_fix.specs.declared.limit.TheConstants.{LARGEST_TIME};
-ghost use Rattle.std.specs.Prelude.{◌≡◌, ◌+◌, ◌≤◌, ◌<◌, ◌++◌, ◌∷◌, [], length, count_by, drop, map, All, Some, Ok, Err, IfOk, IfErr, unsigned_abs};
+ghost use Rattle.std.specs.Prelude.{◌≡◌, ◌+◌, ◌≤◌, ◌<◌, length, count_by, drop, All, Some, Ok, Err, IfOk, IfErr, unsigned_abs};
 ghost use Rattle.std.specs.Option.{ForSome};
-ghost use Rattle.emtp_card.specs.held.Number.{IsWithin};
 ghost use Rattle.emtp_case.specs.Switch.{card_times, is_time_switch};
 ghost use Rattle.emtp_batch.specs.held.Answer.{IsRefused};
 ghost use Rattle.emtp_batch.specs.Items.{items_of};

@@ -1,7 +1,7 @@
 //! The table of switch times: a row a line.
 
 ghost use Rattle.emtp_case.specs.declared.limit.TheConstants.{MOST_SWITCHES};
-ghost use Rattle.std.specs.Prelude.{◌≡◌, ◌≤◌, length, count_by, All, IfOk, IfErr};
+ghost use Rattle.std.specs.Prelude.{◌≡◌, ◌≤◌, length, All, IfOk, IfErr};
 ghost use Rattle.emtp_batch.specs.held.Altered.{time_switches};
 ghost use Rattle.emtp_batch.specs.held.Answer.{IsRefused};
 ghost use Rattle.emtp_batch.specs.held.Row.{AreTimesInRange, IsRowFor};

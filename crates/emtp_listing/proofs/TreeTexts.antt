@@ -1,5 +1,5 @@
 -- The text of a tree tells the tree: each side ends at a blank or at a parenthesis.
-use Rattle.std.proofs.Common.{◌≡◌, ◌≢◌, ◌++◌, ◌∙◌, ◌+◌, ◌^◌, ◌<◌, ◌≤◌, ◌==◌, sym, ap, refl, arith, subst, Bool, true, false, not, List, [], ◌∷◌, ℕ, ℤ, zero, suc, pos, negsuc, length, get_or, drop, take, append_assoc, codes, decimal, inl, inr}
+use Rattle.std.proofs.Common.{◌≡◌, ◌++◌, ◌∙◌, ◌+◌, ◌^◌, ◌<◌, ◌≤◌, ◌==◌, sym, ap, refl, arith, subst, Bool, true, false, not, List, [], ◌∷◌, ℕ, ℤ, zero, suc, pos, negsuc, length, get_or, drop, take, append_assoc, codes, decimal, inl, inr}
 use Rattle.std.specs.Prelude.{◌&&◌, ◌⊎◌, All, if◌then◌else◌}
 use Rattle.std.specs.Char.{is_ascii_alphabetic, is_ascii_alphanumeric, is_ascii_digit}
 use Rattle.std.specs.List.{list_all}
@@ -17,7 +17,7 @@ use Rattle.emtp_case.specs.declared.expr.UnaryOp.{UnaryOp}
 use Rattle.emtp_case.specs.declared.expr.UnaryOp.TheVariants.{Abs, Minus, Not, Sign, Sqrt, Trunc}
 use Rattle.emtp_fix.specs.Decimal.{fixed_text}
 use Rattle.emtp_fix.specs.declared.limit.TheConstants.{LARGEST_VALUE}
-use Rattle.emtp_listing.specs.ExpressionText.{binary_text, binary_word, is_new, is_plain, opening, unary_text, variable_text}
+use Rattle.emtp_listing.specs.ExpressionText.{binary_text, binary_word, is_new, is_plain, opening, variable_text}
 use Rattle.emtp_listing.specs.Law.{AreApart, IsFree}
 use Rattle.emtp_listing.proofs.Cut.{and_both, and_first, and_rest, cut, free-head, free-tail}
 use Rattle.emtp_listing.proofs.Marks.{between-small}

@@ -1,5 +1,5 @@
 -- The nodes of a whole expression are those of a tree, and the text of the expression is the tree's.
-use Rattle.std.proofs.Common.{◌≡◌, ◌++◌, ◌∙◌, ◌+◌, ◌<◌, sym, ap, refl, arith, subst, Bool, true, false, List, [], ◌∷◌, ℕ, ℤ, zero, suc, Option, Some, None, map, length, get_or, append_assoc, append-nil}
+use Rattle.std.proofs.Common.{◌≡◌, ◌++◌, ◌∙◌, ◌+◌, ◌<◌, sym, ap, refl, arith, Bool, true, false, List, [], ◌∷◌, ℕ, ℤ, suc, Option, Some, None, map, length, get_or, append_assoc, append-nil}
 use Rattle.std.specs.Prelude.{All, if◌then◌else◌, nat_lt}
 use Rattle.std.proofs.lemmas.List.Elements.{All-cons, All-head, All-nil, All-tail}
 use Rattle.emtp_case.specs.held.Expr.{FitsPlaces, IsWhole, height, height_after}

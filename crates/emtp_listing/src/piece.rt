@@ -1,6 +1,6 @@
 //! The entries of a line, each put after a text.
 
-ghost use Rattle.std.specs.Prelude.{◌≡◌, ◌+◌, ◌<◌, ◌≤◌, ◌^◌, ◌∷◌, [], OnOk, length};
+ghost use Rattle.std.specs.Prelude.{◌≡◌, ◌+◌, ◌<◌, ◌≤◌, ◌∷◌, [], OnOk, length};
 ghost use Rattle.std.specs.Option.{ForSome};
 ghost use Rattle.emtp_listing.specs.Entry.{choice_entry, count_entry, figure_entry, limited_entry, node_entry, node_word, number_entry, place_entry, time_entry, variable_entry, word_entry};
 ghost use Rattle.emtp_listing.specs.Lines.{head_text, separated};

@@ -1,5 +1,5 @@
 -- What holds of a call over files that a host hands over.
-use Rattle.std.specs.Prelude.{◌≡◌, ◌↔◌, ◌⊎◌, ℕ, true, List, Option, Some, None, IfSome, All}
+use Rattle.std.specs.Prelude.{◌≡◌, ◌↔◌, ◌⊎◌, ℕ, true, List, None, IfSome, All}
 use Rattle.emtp_inspect.specs.Asking.{asked, explained}
 use Rattle.emtp_inspect.specs.Showing.{Inspects}
 use Rattle.emtp_io.specs.Cabinet.{CabinetState, Outputs}

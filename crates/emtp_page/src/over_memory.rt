@@ -1,5 +1,5 @@
 //! A call over a cabinet in memory.
-ghost use Rattle.std.specs.Prelude.{◌≡◌, ◌≢◌, AllPairs, IfOk, string_bytes};
+ghost use Rattle.std.specs.Prelude.{◌≢◌, AllPairs, IfOk, string_bytes};
 ghost use Rattle.emtp_page.specs.Calls.{Called, Keeps, Shows};
 ghost use Rattle.emtp_page.specs.Given.{named};
 ghost use Rattle.emtp_run.specs.Words.{texts};

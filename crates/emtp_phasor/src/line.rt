@@ -1,7 +1,5 @@
 //! The lines of a scan.
 
-ghost use Rattle.std.specs.Prelude.{◌≡◌};
-
 use emtp_case::Name;
 use emtp_machine::Cause;
 

@@ -1,9 +1,9 @@
 //! What is told of a case.
 
-ghost use Rattle.std.specs.Prelude.{◌≡◌, ◌∷◌, ◌≤◌, length, IfOk};
+ghost use Rattle.std.specs.Prelude.{◌≡◌, IfOk};
 ghost use Rattle.std.specs.Option.{ForSome};
 ghost use Rattle.emtp_admittance.specs.held.Frequency.{IsFrequency};
-ghost use Rattle.emtp_phasor.specs.held.Scanning.{FaultsScan, IsScan};
+ghost use Rattle.emtp_phasor.specs.held.Scanning.{IsScan};
 ghost use Rattle.emtp_phasor.specs.held.Solving.{FaultsAt, IsSolved};
 ghost use Rattle.emtp_phasor_text.specs.Reports.{scan_report, steady_report};
 

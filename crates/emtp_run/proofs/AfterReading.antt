@@ -9,7 +9,7 @@ use Rattle.emtp_run.proofs.Contents.{contents-there, one_of, opened_all}
 use Rattle.emtp_run.proofs.Creating.{creates-by}
 use Rattle.emtp_run.specs.Command.{by_reading, cases_in, outcome_for, outcome_of, own_texts, reads, runs_of, texts_for}
 use Rattle.emtp_run.specs.held.Command.{IsAnswered, HoldsOfRuns}
-use Rattle.emtp_run.specs.Inputs.{Input, TookOfLast, UnlessAny, contents, opens_after}
+use Rattle.emtp_run.specs.Inputs.{Input, TookOfLast, UnlessAny, contents}
 use Rattle.emtp_run.specs.held.Inputs.{FilesAreThere, IsUntouched, ReadsInputs}
 use Rattle.emtp_run.specs.Outcome.{HasRoomFor, HasRun, HasStatusCause, Outcome}
 use Rattle.emtp_run.specs.held.Outcome.{CreatesOf, Ends, EndsAfterReading}

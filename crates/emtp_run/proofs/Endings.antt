@@ -1,10 +1,10 @@
 -- How a call ends that makes a note and nothing else, or stops at an output, and that nothing else can happen.
-use Rattle.std.proofs.Common.{◌≡◌, ◌≢◌, ℕ, ◌≤◌, List, [], ◌∷◌, inl, inr, sym, refl, Some, None, Option, Result, Ok, Err, IsTrue, IsOk, IfSome, subst}
+use Rattle.std.proofs.Common.{◌≡◌, ◌≢◌, ℕ, List, [], ◌∷◌, inl, inr, sym, refl, Some, None, Option, Result, Ok, Err, IsTrue, IsOk, IfSome, subst}
 use Rattle.emtp_io.specs.Cabinet.{CabinetState}
 use Rattle.emtp_io.specs.Writes.{Written}
 use Rattle.emtp_io.specs.held.Writes.{Makes}
 use Rattle.emtp_io.specs.declared.cabinet.Output.TheVariants.{Cfg, Dat}
-use Rattle.emtp_run.specs.Outcome.{Outcome, note, refusal, says, status_of, IsComplete, IsFinished, IsNoted, IsWholeOrCut, KeepsRecord, Says, TriesNote}
+use Rattle.emtp_run.specs.Outcome.{Outcome, note, refusal, says, status_of, IsComplete, IsFinished, IsWholeOrCut, KeepsRecord, Says, TriesNote}
 use Rattle.emtp_run.specs.held.Outcome.{Ends, EndsAfterReading, LeavesNote}
 use Rattle.emtp_run.specs.declared.status.Status.{Status}
 use Rattle.emtp_run.specs.declared.status.Status.TheVariants.{Done, Usage, BadCard, Ended, ReadFault, WriteFault, NoMemory, Refused, Differs, BadRow}

@@ -20,7 +20,7 @@ use Rattle.emtp_phasor_text.specs.Reports.{scan_report, steady_report}
 use Rattle.emtp_phasor_text.specs.declared.report.Report.{Report}
 use Rattle.emtp_phasor_text.specs.declared.report.Report.TheVariants.{Ended as TellsEnd, Refused as TellsRefusal, Summary as TellsSummary}
 use Rattle.emtp_run.specs.Inputs.{Input, contents, opens_after, text_at, OpenedSome, TookOfOne, TookOfLast, UnlessAny}
-use Rattle.emtp_run.specs.Outcome.{Outcome, bad_card, bad_row, ended_alone, refusal, summarised, usage, ran, record_writes, says, trial_writes, IsUnopened, Says, TriesNote}
+use Rattle.emtp_run.specs.Outcome.{Outcome, bad_card, bad_row, ended_alone, refusal, summarised, usage, ran, record_writes, says, trial_writes, IsUnopened, TriesNote}
 use Rattle.emtp_run.specs.Reading.{deck}
 use Rattle.emtp_run.specs.TrialDeck.{trial_cards}
 use Rattle.emtp_run.specs.Words.{Task, Audit, Batch, Phasor, Run, Scan, Trial, fits}

@@ -1,5 +1,5 @@
 //! The commands `phasor CASE` and `scan CASE F0 F1 DF`: the steady state of a case, and its impedance over frequencies.
-ghost use Rattle.std.specs.Prelude.{◌≡◌, None};
+ghost use Rattle.std.specs.Prelude.{None};
 ghost use Rattle.emtp_phasor.specs.held.Scanning.{IsScan};
 ghost use Rattle.emtp_phasor_text.specs.Reports.{scan_report, steady_report};
 ghost use Rattle.emtp_run.specs.Command.{report_outcome};

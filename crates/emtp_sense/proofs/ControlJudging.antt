@@ -2,7 +2,7 @@
 use Rattle.emtp_fix.proofs.Chaining.{unless_ok}
 use Rattle.emtp_fix.specs.Chain.{unless}
 use Rattle.emtp_case.specs.declared.limit.TheConstants.{MOST_CONTROL_CARDS, MOST_HISTORY_VALUES}
-use Rattle.std.proofs.Common.{Bool, List, None, Option, Result, Some, [], arith, false, length, refl, subst, true, ℕ, ℤ, ◌+◌, ◌<◌, ◌∷◌, ◌≡◌, ◌≤◌, Ok, pos, unsigned_abs, ◌*ℤ◌, ◌*◌, ◌^◌, add-one, ap, drop, get_or, suc, sym, ◌∙◌}
+use Rattle.std.proofs.Common.{Bool, List, None, Option, Some, [], arith, false, length, refl, subst, true, ℕ, ℤ, ◌+◌, ◌<◌, ◌∷◌, ◌≡◌, ◌≤◌, Ok, pos, unsigned_abs, ◌*ℤ◌, ◌*◌, ◌^◌, add-one, ap, drop, get_or, suc, sym, ◌∙◌}
 use Rattle.std.proofs.Math.Seq.{drop-cons}
 use Rattle.std.proofs.lemmas.Bool.Decides.{nat_tests}
 use Rattle.std.proofs.lemmas.List.Elements.{All-cons, All-nil}
@@ -11,7 +11,6 @@ use Rattle.std.specs.List.{list_any, sum_by}
 use Rattle.std.specs.Prelude.{All, if◌then◌else◌, nat_le, nat_lt}
 use Rattle.emtp_card.proofs.Faults.{least_none}
 use Rattle.emtp_card.specs.declared.fault.Fault.{Fault}
-use Rattle.emtp_card.specs.declared.reason.Bad.{Bad}
 use Rattle.emtp_card.specs.declared.reason.Why.TheVariants.{TwoSources, UnknownName}
 use Rattle.emtp_case.specs.held.Control.{HasRangeOfA}
 use Rattle.emtp_case.specs.HistoryValues.{device_history_values}

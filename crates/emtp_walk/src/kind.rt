@@ -1,7 +1,6 @@
 //! As what a line is read, by the place where it stands.
 
 ghost use Rattle.std.specs.Prelude.{◌≡◌};
-ghost use Rattle.emtp_netcards.specs.BranchCard.{kind_field};
 ghost use Rattle.emtp_walk.specs.ControlSteps.{device_scale};
 ghost use Rattle.emtp_walk.specs.Readings.{branch_kind, card_kind, control_due, control_kind, due, end_or, first_kind, first_of, first_of_control, first_waiting, kind_at, kind_due, line_reading, start_kind, waiting_kind};
 ghost use Rattle.emtp_walk.specs.Walk.{is_second, scale_of};

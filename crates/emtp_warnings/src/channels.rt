@@ -3,7 +3,7 @@
 ghost use Rattle.std.specs.List.{list_any};
 ghost use Rattle.std.specs.Prelude.{◌≡◌, ◌+◌, ◌<◌, OnOk, length, slice_get, take};
 ghost use Rattle.emtp_warnings.specs.AddsTo.{AddsTo};
-ghost use Rattle.emtp_warnings.specs.ChannelWarnings.{at_channel, channel_warnings, is_same, was_asked};
+ghost use Rattle.emtp_warnings.specs.ChannelWarnings.{channel_warnings, is_same, was_asked};
 
 use crate::finding::{Finding, Spot, Warning, add_found};
 use emtp_case::Channel;

@@ -1,6 +1,6 @@
 //! The warnings of the records of a case.
 
-ghost use Rattle.std.specs.Prelude.{◌≡◌, ◌==◌, ◌+◌, ◌<◌, ◌++◌, OnOk, count_by, flat_map, length, min, not, slice_get, take};
+ghost use Rattle.std.specs.Prelude.{◌≡◌, ◌==◌, ◌+◌, ◌<◌, OnOk, count_by, flat_map, length, min, not, slice_get, take};
 ghost use Rattle.emtp_warnings.specs.AddsTo.{AddsTo};
 ghost use Rattle.emtp_warnings.specs.RecordWarnings.{are_closed, beside_warnings, branch_warnings, end_of_run, ends_warnings, has_twin, is_after_end, is_before, is_beside, is_case_alone, is_closed_after, is_constant, is_cosine, is_idle, is_lone, is_node_zero, is_short, is_small, is_twin, opens_after, record_warnings, source_warnings, switch_warnings, times_warnings, travel_time_of, value_warnings};
 

@@ -11,7 +11,7 @@ use Rattle.emtp_run.specs.declared.outputs.Product.TheVariants.{Record as OfReco
 use Rattle.emtp_run.specs.declared.outputs.Results.{Results}
 use Rattle.emtp_run.specs.declared.status.Status.{Status}
 use Rattle.emtp_run.specs.declared.status.Status.TheVariants.{ReadFault, Usage}
-use Rattle.emtp_run.specs.Outcome.{Outcome, record_writes, says, trial_writes, Says, Settles, HasStatusCause, Leaves, IsCalmRun, IsFinished, HasRoomFor, TriesNote}
+use Rattle.emtp_run.specs.Outcome.{Outcome, record_writes, says, trial_writes, Settles, HasStatusCause, Leaves, IsCalmRun, IsFinished, HasRoomFor, TriesNote}
 
 abbrev pub writes_of : Product → Parts → History → List Written
 writes_of (OfRecord words) case h = record_writes (files_of words) case h
