@@ -1,10 +1,11 @@
 //! The command `show CASE`: what was read of a case.
 //!
 //! [`inspect`] reads the file of a case, and leaves the listing of its records (`emtp_listing`) with what its cards say
-//! besides, and the warnings in front of it (`emtp_warnings`), or how many warnings there are; or it tells which card is refused, as
-//! what it was read, and the records before it. It stands on `emtp_deck` for cases, on `emtp_walk` for the place of a card, on
-//! `emtp_netcards` and `emtp_taccards` for cards, on `emtp_io` for the files, and on `emtp_run` for the reading of a file, for
-//! the outputs and for their statuses and notes.
+//! besides, and the warnings in front of it (`emtp_warnings`), or how many warnings there are; or it tells which card is
+//! refused, as what it was read, and the records before it; or what the words of a note or of a command line mean
+//! (`emtp_causes`). It stands on `emtp_deck` for cases, on `emtp_walk` for the place of a card, on `emtp_netcards` and
+//! `emtp_taccards` for cards, on `emtp_io` for the files, and on `emtp_run` for the reading of a file, for the outputs and for
+//! their statuses and notes.
 //!
 //! ```text
 //! let words = [breaker.case];
