@@ -5,3 +5,6 @@ pub mod Wide
 pub mod Roots
 pub mod Ranges
 pub mod Digits
+pub mod Lifted
+pub mod Guessed
+pub mod Pivots

@@ -13,8 +13,11 @@
 mod decimal;
 mod laws;
 mod limit;
+mod overflowing;
+mod pivot;
 mod product;
 mod quotient;
+mod ratio;
 mod root;
 mod rounding;
 mod steps;
@@ -26,7 +29,12 @@ pub use limit::{
     LARGEST_INDUCTANCE, LARGEST_RATIO, LARGEST_TIME, LARGEST_TOLERANCE, LARGEST_VALUE,
     LARGEST_WIDE, LEAST_IMPEDANCE, MICRO, NANO, OutOfRange, PICO, TURN, fit, in_range,
 };
-pub use product::{micro_sum, narrow_product, scaled};
+pub use overflowing::{
+    overflowing_micro_sum, overflowing_near_micro, overflowing_near_pico, overflowing_pico_sum,
+};
+pub use pivot::Pivot;
+pub use product::{micro_sum, narrow_product, scaled, wide_product};
+pub use ratio::{ratio_product, ratio_word};
 pub use root::isqrt;
 pub use rounding::{near, near_by, word_of};
 pub use steps::Steps;

@@ -24,6 +24,15 @@ pub fn scaled(a: i128, b: i128, unit: i128) -> i128
     near(a * b, unit)
 }
 
+/// `a * b`, which is at most 2^126 in magnitude.
+#[inline(always)]
+pub fn wide_product(a: i64, b: i64) -> i128
+    ensures value { result ≡ a *ℤ b }
+    ensures small { unsigned_abs result ≤ 2 ^ 126 }
+{
+    i128::from(a) * i128::from(b)
+}
+
 /// `a * b / 10^12`, rounded as by [`near`], where its magnitude is at most 4e18; else None. It costs less than
 /// [`scaled`], since what comes after is in 64 bits.
 pub fn narrow_product(a: i64, b: i64) -> Option<i64>

@@ -112,18 +112,40 @@ fn atto_near(x: u128) -> u64
     one_more(x, ATTO, guess)
 }
 
-/// A quotient that is `guess` or one more.
-fn one_more(x: u128, b: u64, guess: u64) -> u64
+/// A quotient that is `guess` or one more; elsewhere `guess` or one more all the same.
+#[inline(always)]
+pub(crate) fn one_more(x: u128, b: u64, guess: u64) -> u64
     requires b { b < 2 ^ 60 }
     requires guess { guess < 2 ^ 63 }
-    requires low { guess * b ≤ x }
-    requires high { x < guess * b + b + b }
-    ensures low { result * b ≤ x }
-    ensures high { x < result * b + b }
+    ensures value { guess * b ≤ x → x < guess * b + b + b → (result * b ≤ x) × (x < result * b + b) }
     ensures small { result ≤ guess + 1 }
 {
     let left = ((x % (1 << 64)) as u64).wrapping_sub(guess.wrapping_mul(b));
     if left >= b { guess + 1 } else { guess }
+}
+
+// The same of any number: right below a limit, and at least small elsewhere. The limit is tested by whoever calls.
+
+/// `x / 10^6`, where `x` is below 2^81.
+#[inline(always)]
+pub(crate) fn micro_or_any(x: u128) -> u64
+    ensures value { x < 2 ^ 81 → result ≡ x / 10 ^ 6 }
+    ensures small { result ≤ 2418 * 10 ^ 15 }
+{
+    let top = (x / (1 << 17) % (1 << 64)) as u64;
+    let guess = (u128::from(top) * u128::from(PER_MICRO) / (1 << 66)) as u64;
+    one_more(x, MICRO, guess)
+}
+
+/// `x / 10^12`, where `x` is below 2^101.
+#[inline(always)]
+pub(crate) fn pico_or_any(x: u128) -> u64
+    ensures value { x < 2 ^ 101 → result ≡ x / 10 ^ 12 }
+    ensures small { result ≤ 2536 * 10 ^ 15 }
+{
+    let top = (x / (1 << 37) % (1 << 64)) as u64;
+    let guess = (u128::from(top) * u128::from(PER_PICO) / (1 << 66)) as u64;
+    one_more(x, PICO, guess)
 }
 
 // Quotients of at most 4e18, so that what comes after them is in 64 bits.

@@ -1,5 +1,5 @@
 -- Beside `Rounding`: what values hold for their proofs, and what premises say. No clause of the program reaches it.
-use Rattle.std.specs.Prelude.{◌≡◌, ℕ, ◌*◌, ◌≤◌, ℤ, ◌-ℤ◌, ◌*ℤ◌, unsigned_abs}
+use Rattle.std.specs.Prelude.{◌≡◌, ℕ, ◌≤◌, ℤ, ◌-ℤ◌, ◌*ℤ◌, unsigned_abs}
 
 -- the magnitude of what is left of a once z times b is taken away
 abbrev pub rest : ℤ → ℤ → ℤ → ℕ
