@@ -1,6 +1,6 @@
 -- What the list of held branches says of a branch.
 use Rattle.emtp_case.specs.held.RunData.{IsTimeStep}
-use Rattle.std.proofs.Common.{◌≡◌, ◌≢◌, ◌∙◌, ap, sym, subst, refl, ℕ, zero, suc, ◌<◌, ℤ, pos, List, [], ◌∷◌, length, map, slice_set, get_or, ◌^◌, ◌≤◌, unsigned_abs, Option, Some, None, Ok, Err, option_map, inl, inr, arith}
+use Rattle.std.proofs.Common.{◌≡◌, ◌≢◌, ◌∙◌, ap, sym, subst, refl, ℕ, zero, suc, ◌<◌, ℤ, pos, List, [], ◌∷◌, length, map, slice_set, get_or, ◌^◌, ◌≤◌, unsigned_abs, Some, None, Ok, Err, inl, inr, arith}
 use Rattle.std.proofs.lemmas.Bool.{cases_eq}
 use Rattle.std.proofs.lemmas.Int.{ints}
 use Rattle.std.proofs.lemmas.List.{get_or-map, get_or_default, get_or-set_same, get_or-set_other, length-map}
@@ -25,7 +25,7 @@ use Rattle.emtp_lumped.specs.held.Companion.{IsCompanion}
 use Rattle.emtp_fix.specs.declared.limit.OutOfRange.{OutOfRange}
 use Rattle.emtp_lumped.specs.Step.{history_current_of, next_state}
 use Rattle.emtp_lumped.specs.held.Step.{IsInRange}
-use Rattle.emtp_lumped.specs.held.Held.{IsHeld, held_at_rest, with_state}
+use Rattle.emtp_lumped.specs.held.Held.{IsHeld, held_at_rest}
 use Rattle.emtp_lumped.specs.Lumps.{states_of, newest, next_of}
 use Rattle.emtp_lumped.specs.held.Lumps.{Lumping, IsLumping, IsSeries, StandsAt, StandsFor, HasNumbers, rest_at, branch_at, no_companion, Moves}
 use Rattle.emtp_lumped.specs.declared.companion.Companion.{Companion}
@@ -49,7 +49,7 @@ pub rest-held : (c : Companion) → IsCompanion c → IsHeld (held_at_rest c)
 rest-held c fits = record {
   companion = fits;
   state = record { current = omega arith; inductor = omega arith; capacitor = omega arith; history = omega arith };
-  history = rest-history c;
+  history = record { far = omega (arith); is = λ small. rest-history c };
 }
 
 pub no_companion-fits : IsCompanion no_companion
@@ -152,56 +152,33 @@ stands-other p held at b next past apart stands = record {
 
 -- ---- a branch moved
 
--- the next state that the branch after a step has
-record Given (c : Companion) (o : Option LumpedState) (next : HeldBranch) : Type 0 where
-  state : LumpedState
-  is : o ≡ Some state
-  next_is : next ≡ with_state c state
-
-given : (c : Companion) (o : Option LumpedState) (next : HeldBranch) → Some next ≡ option_map (with_state c) o → Given c o next
-given c (Some state) next e = record { state = state; is = refl; next_is = cc }
-given c None next e = absurd (cc)
-
-none : (c : Companion) (o : Option LumpedState) → None ≡ option_map (with_state c) o → o ≡ None
-none c (Some state) e = absurd (cc)
-none c None e = refl
-
 -- what a step at the branch makes of its past is what the companion of its card makes of it
 next-read : {capacities : List ℕ} (p : Parts) (held : List HeldBranch) (at : ℕ) (v : ℤ) (x : Lumped) (past : List LumpedState) → IsLumping p held → IsSeries p at x → StandsAt (shown p capacities held) at past → next_of p x past v ≡ next_state (branch_at held at).companion (branch_at held at).state v
 next-read p held at v x past h series stands = rw (h.companions at x series, stands.latest) refl
 
-pub lumping-moved : (p : Parts) (held : List HeldBranch) (at : ℕ) (v : ℤ) (next : HeldBranch) → IsLumping p held → at < length held → Some next ≡ option_map (with_state (branch_at held at).companion) (next_state (branch_at held at).companion (branch_at held at).state v) → IsHeld next → IsLumping p (slice_set held at next)
-lumping-moved p held at v next h within after fits =
-    let g = given (branch_at held at).companion (next_state (branch_at held at).companion (branch_at held at).state v) next after in
-    lumping-set p held at next h within (ap (λ (k : HeldBranch). k.companion) g.next_is) fits
-
-pub moves-ok : {capacities : List ℕ} (p : Parts) (held : List HeldBranch) (at : ℕ) (v i : ℤ) (next : HeldBranch) → IsLumping p held → at < length held → Some next ≡ option_map (with_state (branch_at held at).companion) (next_state (branch_at held at).companion (branch_at held at).state v) → i ≡ next.state.current
+pub moves-ok : {capacities : List ℕ} (p : Parts) (held : List HeldBranch) (at : ℕ) (v i : ℤ) (next : HeldBranch) → IsLumping p held → at < length held → next_state (branch_at held at).companion (branch_at held at).state v ≡ Some next.state → i ≡ next.state.current
     → Moves (shown p capacities held) (shown p capacities (slice_set held at next)) at v (Ok i)
-moves-ok {capacities = capacities} p held at v i next h within after current =
-    let new : Lumping = shown p capacities (slice_set held at next) in
-    let g = given (branch_at held at).companion (next_state (branch_at held at).companion (branch_at held at).state v) next after in
-    let state : next.state ≡ g.state = ap (λ (k : HeldBranch). k.state) g.next_is in
-    record {
-      case = refl;
-      capacities = refl;
-      moved = λ x past series stands. record {
-        state = g.state;
-        is = next-read p held at v x past h series stands ∙ g.is;
-        current = current ∙ ap (λ (s : LumpedState). s.current) state;
-        stands = subst (λ (s : LumpedState). StandsAt new at (s ∷ past)) state (stands-set p held at next past within);
-      };
-      out = λ x past series stands. tt;
-      others = λ b past apart stands. stands-other p held at b next past apart stands;
-      same = tt;
-    }
+moves-ok p held at v i next h within after current = record {
+  case = refl;
+  capacities = refl;
+  moved = λ x past series stands. record {
+    state = next.state;
+    is = next-read p held at v x past h series stands ∙ after;
+    current = current;
+    stands = stands-set p held at next past within;
+  };
+  out = λ x past series stands. tt;
+  others = λ b past apart stands. stands-other p held at b next past apart stands;
+  same = tt;
+}
 
-pub moves-out : {capacities : List ℕ} (p : Parts) (held : List HeldBranch) (at : ℕ) (v : ℤ) (e : OutOfRange) → IsLumping p held → None ≡ option_map (with_state (branch_at held at).companion) (next_state (branch_at held at).companion (branch_at held at).state v)
+pub moves-out : {capacities : List ℕ} (p : Parts) (held : List HeldBranch) (at : ℕ) (v : ℤ) (e : OutOfRange) → IsLumping p held → next_state (branch_at held at).companion (branch_at held at).state v ≡ None
     → Moves (shown p capacities held) (shown p capacities held) at v (Err e)
 moves-out p held at v e h after = record {
   case = refl;
   capacities = refl;
   moved = λ x past series stands. tt;
-  out = λ x past series stands. next-read p held at v x past h series stands ∙ none (branch_at held at).companion (next_state (branch_at held at).companion (branch_at held at).state v) after;
+  out = λ x past series stands. next-read p held at v x past h series stands ∙ after;
   others = λ b past apart stands. stands;
   same = refl;
 }

@@ -15,6 +15,7 @@ mod companion;
 mod held;
 mod laws;
 mod lumps;
+mod overflowing;
 mod step;
 
 pub use companion::Companion;

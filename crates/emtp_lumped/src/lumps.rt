@@ -76,7 +76,7 @@ impl<'a> Lumps<'a> {
             → StandsAt self.now branch past
             → result ≡ history_current_of (companion_of self.now.case.run.dt x) (newest past) }
     {
-        self.held[branch].history_current
+        self.held[branch].history_current()
     }
 
     /// Takes the voltages `v` and `w` in nV of a branch's ends `from` and `to`, moves the branch by one step and answers
@@ -86,13 +86,11 @@ impl<'a> Lumps<'a> {
         requires { (x : Lumped) × IsSeries self.old.case branch x }
         ensures { Moves self.old self.new branch (v -ℤ w) result }
     {
-        match self.held[branch].after(v as i128 - w as i128) {
-            Some(held) => {
-                self.held[branch] = held;
-                Ok(held.state.current)
-            }
-            None => Err(OutOfRange),
+        let held = &mut self.held[branch];
+        if !held.step(v, w) {
+            return Err(OutOfRange);
         }
+        Ok(held.state.current)
     }
 }
 

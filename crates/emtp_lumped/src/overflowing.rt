@@ -1,0 +1,91 @@
+//! One step of a series branch without a test: numbers that may be wrong, and an overflow word that says so.
+
+ghost use Rattle.std.specs.Prelude.{◌≡◌, ◌^◌, ◌*◌, ◌<◌, ◌≤◌, ◌-ℤ◌, unsigned_abs, Some};
+ghost use Rattle.emtp_lumped.specs.held.Companion.{IsCompanion};
+ghost use Rattle.emtp_lumped.specs.Step.{history_current_of, next_state};
+ghost use Rattle.emtp_lumped.specs.held.Held.{IsKeptHistory};
+ghost use Rattle.emtp_lumped.specs.held.Step.{IsInRange};
+
+use crate::companion::Companion;
+use emtp_case::LumpedState;
+use emtp_fix::{overflowing_micro_sum, overflowing_near_pico, overflowing_pico_sum, wide_product};
+
+/// A branch after one more step, where `overflow` is 0; elsewhere its numbers say nothing.
+#[derive(Clone, Copy)]
+pub(crate) struct NextStep {
+    /// The numbers of the next record.
+    pub(crate) state: LumpedState,
+    /// The history current of the step after it, in nA: to 1.3e18 in magnitude.
+    pub(crate) history_current: i64,
+    /// The overflow word.
+    pub(crate) overflow: u64,
+}
+
+/// The step of a branch at a voltage, from its kept history current.
+#[inline(always)]
+pub(crate) fn overflowing_next(
+    companion: &Companion,
+    old: &LumpedState,
+    history: i64,
+    v: i64,
+    overflow: u64,
+) -> NextStep
+    requires companion { IsCompanion companion.now }
+    requires old { IsInRange old.now }
+    requires history { IsKeptHistory companion.now old.now history }
+    ensures value { result.overflow ≡ 0 → next_state companion.now old.now v ≡ Some result.state }
+    ensures range { result.overflow ≡ 0 → IsInRange result.state }
+    ensures history { result.overflow ≡ 0 → result.history_current ≡ history_current_of companion.now result.state }
+    ensures small { unsigned_abs result.history_current ≤ 13 * 10 ^ 17 }
+    ensures overflow { result.overflow ≡ 0 → overflow ≡ 0 }
+{
+    let (current, overflow) = overflowing_pico_sum(companion.conductance, v, history, overflow);
+    let (v_l, overflow) = overflowing_micro_sum(
+        companion.inductor,
+        current - old.current,
+        -old.v_l,
+        overflow,
+    );
+    let (v_c, overflow) = overflowing_micro_sum(
+        companion.capacitor,
+        current + old.current,
+        old.v_c,
+        overflow,
+    );
+    let (history_voltage, overflow) = overflowing_micro_sum(
+        companion.inductor - companion.capacitor,
+        current,
+        v_l - v_c,
+        overflow,
+    );
+    let (history_current, overflow) = overflowing_near_pico(
+        wide_product(companion.conductance, history_voltage),
+        overflow,
+    );
+    NextStep {
+        state: LumpedState {
+            current,
+            v_l,
+            v_c,
+            history_voltage,
+        },
+        history_current,
+        overflow,
+    }
+}
+
+/// `v - w`, and an overflow word: 0 only where both are at most 2^59 in magnitude, so that they are in range.
+#[inline(always)]
+pub(crate) fn overflowing_difference(v: i64, w: i64) -> (i64, u64)
+    ensures { result.1 ≡ 0 → result.0 ≡ v -ℤ w }
+{
+    (v.wrapping_sub(w), (lifted(v) | lifted(w)) / (1 << 60))
+}
+
+/// Below 2^60 only where `x` is at most 2^59 in magnitude.
+#[inline(always)]
+fn lifted(x: i64) -> u64
+    ensures { result < 2 ^ 60 → unsigned_abs x ≤ 2 ^ 59 }
+{
+    x.wrapping_add(1 << 59).cast_unsigned()
+}
