@@ -1,14 +1,17 @@
 -- Finished rows as they are kept, by their entries.
 use Rattle.emtp_fix.specs.declared.limit.TheConstants.{LARGEST_ENTRY}
-use Rattle.std.proofs.Common.{◌≡◌, ◌≢◌, ℕ, pos, ◌+◌, ◌*◌, ◌<◌, ◌≤◌, ℤ, unsigned_abs, List, [], ◌∷◌, ◌++◌, length, take, slice_index, slice_set, length-set, refl, ap, sym, ◌∙◌, inl, inr, arith}
+use Rattle.std.proofs.Common.{◌≡◌, ◌≢◌, ℕ, pos, ◌+◌, ◌*◌, ◌<◌, ◌≤◌, ℤ, unsigned_abs, List, [], ◌∷◌, ◌++◌, length, take, slice_index, slice_index_or, slice_set, false, ◌/◌, ◌-◌, length-set, refl, ap, sym, ◌∙◌, inl, inr, arith}
 use Rattle.std.proofs.lemmas.List.{get_or-set_same, get_or-set_other}
 use Rattle.std.proofs.lemmas.List.FromFn.{length-map-range_with_len, get_or-map-range_with_len, map-range_with_len_more, take-map-range_with_len, fill_by_all}
 use Rattle.std.proofs.lemmas.Nat.{row_fits}
+use Rattle.std.proofs.Math.Nat.{mul-le-mul}
 use Rattle.std.proofs.lemmas.Bool.{cases_eq}
 use Rattle.emtp_elim.specs.Matrix.{item, row_of}
 use Rattle.emtp_elim.specs.held.Clearing.{IsFinishedRow}
 use Rattle.emtp_elim.specs.held.Finished.{Finished}
+use Rattle.emtp_elim.specs.held.RowWords.{AreWordsOf, KeepsWords}
 use Rattle.emtp_elim.specs.held.Stored.{dense_row, rows_kept, Packs, IsStoredRow, AreStored}
+use Rattle.emtp_elim.specs.declared.row_words.RowWords.{RowWords}
 use Rattle.emtp_elim.proofs.Entries.{entries_more, entries_same, entries_joined, length-dense_row, dense_row_is, dense_row_same}
 
 pub length-rows_kept : (size count : ℕ) (starts columns : List ℕ) (values : List ℤ) → length (rows_kept size count starts columns values) ≡ count
@@ -34,7 +37,7 @@ pub take-rows_kept : (size count n : ℕ) (starts columns : List ℕ) (values : 
 take-rows_kept size count n starts columns values h = take-map-range_with_len _ 0 count n h
 
 -- the first rows are kept as finished too
-pub stored_first : (size count n : ℕ) (starts pivots columns : List ℕ) (values : List ℤ) (words : List ℕ) → AreStored size count starts pivots columns values words → n ≤ count
+pub stored_first : (size count n : ℕ) (starts pivots columns : List ℕ) (values : List ℤ) (words : RowWords) → AreStored size count starts pivots columns values words → n ≤ count
     → AreStored size n starts pivots columns values words
 stored_first size count n starts pivots columns values words was h = record {
   few = was.few;
@@ -47,6 +50,7 @@ stored_first size count n starts pivots columns values words was h = record {
   used = λ i low. was.used i (omega arith);
   rising = λ g i low high. was.rising g i low (omega arith);
   each = λ i low. was.each i (omega arith);
+  words_are = λ i low. was.words_are i (omega arith);
 }
 
 -- the pivot and the later entries of a kept row are in range
@@ -73,6 +77,21 @@ stored_same size i columns new_columns values new_values first pivot last was lo
       pivot_within = was.pivot_within;
       pivot_is = rw row_is (same_value pivot was.pivot_within ∙ was.pivot_is);
       later = rw row_is (entries_same _ (i + 1) size columns new_columns values new_values (pivot + 1) last was.later same_column same_value);
+    }
+
+-- the places of the words of earlier rows come before those of later ones
+pub words_before : (h i : ℕ) → h < i → h * h / 2 + h ≤ i * i / 2
+words_before h i less = let most : (h + 1) * (h + 1) ≤ i * i = mul-le-mul (omega arith) (omega arith) in omega (arith, most)
+
+-- a row's words stay while its ratios and their words do
+words_same : (i : ℕ) (words new_words : RowWords) {values new_values : List ℤ} {first pivot : ℕ} → AreWordsOf i values first pivot words → pivot ≤ first + i
+    → ((e : ℕ) → e < pivot → item new_values e ≡ item values e) → slice_index_or new_words.has_words.items i false ≡ slice_index_or words.has_words.items i false
+    → ((w : ℕ) → w < i * i / 2 + i → item new_words.ratio_words.items w ≡ item words.ratio_words.items w) → AreWordsOf i new_values first pivot new_words
+words_same i words new_words {first = first} was few same_value same_flag same_word = λ is.
+    let had = was (sym same_flag ∙ is) in
+    record {
+      small = λ e low high. rw (same_value e high) (had.small e low high);
+      word_is = λ e low high. rw (same_value e high, same_word (i * i / 2 + (e - first)) (omega arith)) (had.word_is e low high);
     }
 
 -- the ratios of a row, its pivot and its later entries have been put after those of `count` rows
@@ -114,11 +133,11 @@ row_put size count starts columns mid_columns new_columns values mid_values new_
     )
 
 -- and the rows before it are as they were
-pub stored_more : (size count word : ℕ) (starts pivots columns mid_columns new_columns : List ℕ) (values mid_values new_values : List ℤ) (words : List ℕ) (pivot end : ℕ) (work : List ℤ)
-    → AreStored size count starts pivots columns values words → Adds size count starts columns mid_columns new_columns values mid_values new_values pivot end work
-    → AreStored size (count + 1) (slice_set starts (count + 1) end) (slice_set pivots count pivot) new_columns new_values (slice_set words count word)
+pub stored_more : (size count : ℕ) (starts pivots columns mid_columns new_columns : List ℕ) (values mid_values new_values : List ℤ) (words new_words : RowWords) (pivot end : ℕ) (work : List ℤ)
+    → AreStored size count starts pivots columns values words → KeepsWords size count new_values (slice_index starts count) pivot words new_words → Adds size count starts columns mid_columns new_columns values mid_values new_values pivot end work
+    → AreStored size (count + 1) (slice_set starts (count + 1) end) (slice_set pivots count pivot) new_columns new_values new_words
     × (rows_kept size (count + 1) (slice_set starts (count + 1) end) new_columns new_values ≡ rows_kept size count starts columns values ++ work ∷ [])
-stored_more size count word starts pivots columns mid_columns new_columns values mid_values new_values words pivot end work was adds =
+stored_more size count starts pivots columns mid_columns new_columns values mid_values new_values words new_words pivot end work was keeps adds =
     let start = slice_index starts count in
     let new_starts = slice_set starts (count + 1) end in
     let used : start ≤ count * size = was.used count (omega arith) in
@@ -150,7 +169,7 @@ stored_more size count word starts pivots columns mid_columns new_columns values
         room_pivots = length-set pivots count pivot ∙ was.room_pivots;
         room_columns = adds.long_columns ∙ was.room_columns;
         room_values = adds.long_values ∙ was.room_values;
-        room_words = length-set words count word ∙ was.room_words;
+        room_words = keeps.room;
         used = λ i low. elim (cases_eq i (count + 1)) [
           | inl here ↦ rw (here, end_is) (omega arith)
           | inr other ↦ rw (start_is i (omega arith)) (was.used i (omega arith))
@@ -167,6 +186,13 @@ stored_more size count word starts pivots columns mid_columns new_columns values
           | inr other ↦ rw (start_is i (omega arith), start_is (i + 1) (omega arith), get_or-set_other pivots count i pivot 0 other)
               (stored_same size i columns new_columns values new_values _ _ _ (was.each i (omega arith)) adds.long_columns adds.long_values
               (λ e h. same_column e (omega (arith, earlier i (omega arith)))) (λ e h. same_value e (omega (arith, earlier i (omega arith)))))
+        ];
+        words_are = λ i low. elim (cases_eq i count) [
+          | inl here ↦ rw (here, start_is count (omega arith), get_or-set_same pivots count pivot 0 in_pivots) keeps.words
+          | inr other ↦ rw (start_is i (omega arith), get_or-set_other pivots count i pivot 0 other)
+              (let row = was.each i (omega arith) in
+              words_same i words new_words (was.words_are i (omega arith)) (omega (arith, row.ratios.few)) (λ e h. same_value e (omega (arith, h, row.pivot_within, earlier i (omega arith)))) (keeps.others i other)
+              (λ w h. keeps.earlier w (omega (arith, h, words_before i count (omega arith)))))
         ];
       },
       map-range_with_len_more (λ i. dense_row size new_columns new_values (slice_index new_starts i) (slice_index new_starts (i + 1))) 0 count count (omega arith)

@@ -6,6 +6,7 @@ pub mod Finished
 pub mod Matrix
 pub mod Outcome
 pub mod Row
+pub mod RowWords
 pub mod Rows
 pub mod Stored
 pub mod Substitution

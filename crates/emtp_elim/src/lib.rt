@@ -23,6 +23,7 @@ mod laws;
 mod limit;
 mod plain;
 mod row;
+mod row_words;
 mod rows;
 mod sparse;
 mod storing;

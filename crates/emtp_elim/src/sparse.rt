@@ -6,7 +6,7 @@ ghost use Rattle.emtp_elim.specs.held.Matrix.{AreWithin};
 ghost use Rattle.emtp_elim.specs.held.Extent.{IsExtent};
 ghost use Rattle.emtp_elim.specs.held.Finished.{Finished, AddsRow, FaultsRow};
 ghost use Rattle.emtp_elim.specs.held.Stored.{AreStored, rows_kept};
-ghost use Rattle.emtp_elim.specs.held.Row.{numbers, IsRow};
+ghost use Rattle.emtp_elim.specs.held.Row.{numbers, HasWords, IsRow};
 ghost use Rattle.emtp_elim.specs.held.Substitution.{SolvesAs};
 ghost use Rattle.emtp_elim.specs.declared.fault.PlainFault.{PlainFault};
 ghost use Rattle.emtp_elim.specs.declared.limit.TheConstants.{MOST_ROWS};
@@ -15,6 +15,7 @@ use crate::extent::{Extent, extent_of};
 use crate::fault::{RowCause, SolveFault};
 use crate::finishing::finish_row;
 use crate::row::FinishedRow;
+use crate::row_words::RowWords;
 use crate::storing::store_next;
 use crate::substitution::{reduce_right, substitute_back};
 use emtp_fix::Steps;
@@ -26,8 +27,8 @@ use std::sync::ledger::Ledger;
 ///
 /// `values` has the numbers that aren't 0, in units of 1e-12, row after row without gaps, and `columns` beside each its
 /// column. The entries of row `i` stand from place `starts[i]` on and before `starts[i + 1]`, its pivot at the place
-/// `pivots[i]`. So the work on later rows and right sides meets no zeros. `words[i]` is the word by which
-/// [`near_by`](emtp_fix::near_by) divides by that pivot, in every solution.
+/// `pivots[i]`. So the work on later rows and right sides meets no zeros. `words` makes the work on right sides short, in
+/// every solution.
 #[derive(Drop)]
 pub struct SparseRows {
     size: usize,
@@ -36,7 +37,7 @@ pub struct SparseRows {
     pivots: Vec<usize>,
     columns: Vec<u16>,
     values: Vec<i64>,
-    words: Vec<u64>,
+    words: RowWords,
 }
 
 impl Model for SparseRows {
@@ -50,11 +51,13 @@ impl Model for SparseRows {
           ∷ vec_capacity s.pivots
           ∷ vec_capacity s.columns
           ∷ vec_capacity s.values
-          ∷ vec_capacity s.words
+          ∷ vec_capacity s.words.has_words
+          ∷ vec_capacity s.words.ratio_words
+          ∷ vec_capacity s.words.dividers
           ∷ [];
     } };
 
-    ghost invariant = { λ s. AreStored s.size s.count s.starts.items s.pivots.items s.columns.items s.values.items s.words.items };
+    ghost invariant = { λ s. AreStored s.size s.count s.starts.items s.pivots.items s.columns.items s.values.items s.words };
 }
 
 impl SparseRows {
@@ -70,7 +73,7 @@ impl SparseRows {
             pivots: vec![in alloc; 0usize; size]?,
             columns: vec![in alloc; 0u16; size * size]?,
             values: vec![in alloc; 0i64; size * size]?,
-            words: vec![in alloc; 0u64; size]?,
+            words: RowWords::open(alloc, size)?,
         })
     }
 
@@ -89,14 +92,18 @@ impl SparseRows {
         ensures row { IsRow self.now.size i result }
         ensures numbers { numbers self.now.size result ≡ row_of self.now.rows i }
         ensures few { self.now.size ≤ MOST_ROWS }
+        ensures words { HasWords i result }
     {
         FinishedRow {
             columns: &self.columns,
             values: &self.values,
+            ratio_words: &self.words.ratio_words,
             first: self.starts[i],
             pivot: self.pivots[i],
             last: self.starts[i + 1],
-            word: self.words[i],
+            words_from: i * i / 2,
+            has_words: self.words.has_words[i],
+            divider: &self.words.dividers[i],
         }
     }
 

@@ -1,5 +1,5 @@
 // A finished row put after those that are kept.
-ghost use Rattle.std.specs.Prelude.{◌≡◌, ℕ, ◌+◌, ◌<◌, ◌≤◌, unsigned_abs, length, [], ◌∷◌, ◌++◌};
+ghost use Rattle.std.specs.Prelude.{◌≡◌, ℕ, ◌+◌, ◌<◌, ◌≤◌, unsigned_abs, length, vec_capacity, [], ◌∷◌, ◌++◌};
 ghost use Rattle.emtp_fix.specs.declared.limit.TheConstants.{LARGEST_RATIO};
 ghost use Rattle.emtp_elim.specs.Matrix.{item};
 ghost use Rattle.emtp_elim.specs.held.Clearing.{IsFinishedRow};
@@ -8,7 +8,7 @@ ghost use Rattle.emtp_elim.specs.held.Stored.{Packs, AreStored, rows_kept};
 ghost use Rattle.emtp_elim.specs.declared.limit.TheConstants.{MOST_ROWS};
 
 use crate::extent::Extent;
-use emtp_fix::word_of;
+use crate::row_words::RowWords;
 
 /// Puts the numbers of a row that aren't 0, from column `from` on and before `upto`, with their columns after the
 /// `first` entries that are kept, and answers how many are kept then.
@@ -40,13 +40,13 @@ fn pack(
     at
 }
 
-/// Keeps a finished row, and the word of its pivot, after those that are kept: as many as the number of its diagonal.
+/// Keeps a finished row, and its words, after those that are kept: as many as the number of its diagonal.
 pub fn store_next(
     starts: &mut [usize],
     pivots: &mut [usize],
     columns: &mut [u16],
     values: &mut [i64],
-    words: &mut [u64],
+    words: &mut RowWords,
     extent: Extent,
     work: &[i128],
 )
@@ -57,6 +57,9 @@ pub fn store_next(
     ensures stored { AreStored (length work.now) (extent.diagonal + 1) starts.new pivots.new columns.new values.new words.new }
     ensures rows { rows_kept (length work.now) (extent.diagonal + 1) starts.new columns.new values.new
         ≡ rows_kept (length work.now) extent.diagonal starts.old columns.old values.old ++ work.now ∷ [] }
+    ensures has_words { vec_capacity words.new.has_words ≡ vec_capacity words.old.has_words }
+    ensures ratio_words { vec_capacity words.new.ratio_words ≡ vec_capacity words.old.ratio_words }
+    ensures dividers { vec_capacity words.new.dividers ≡ vec_capacity words.old.dividers }
 {
     let count = extent.diagonal;
     let pivot = pack(work, extent.first, count, columns, values, starts[count]);
@@ -64,6 +67,6 @@ pub fn store_next(
     values[pivot] = work[count] as i64;
     let end = pack(work, count + 1, extent.end, columns, values, pivot + 1);
     pivots[count] = pivot;
-    words[count] = word_of(work[count]);
+    words.keep(count, values, starts[count], pivot);
     starts[count + 1] = end;
 }

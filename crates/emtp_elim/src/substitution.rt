@@ -1,12 +1,13 @@
 // The work on the right sides, and the unknowns from the last row back.
-ghost use Rattle.std.specs.Prelude.{◌≡◌, ℕ, ◌*◌, ◌+◌, ◌-◌, ◌<◌, ◌≤◌, ◌*ℤ◌, ◌-ℤ◌, unsigned_abs, length, drop, IfSome, OnSome, IfNone, OnOk, IfErr};
+ghost use Rattle.std.specs.Prelude.{◌≡◌, ◌≢◌, ℕ, ◌*◌, ◌+◌, ◌-◌, ◌^◌, ◌<◌, ◌≤◌, pos, ◌*ℤ◌, ◌-ℤ◌, unsigned_abs, true, length, drop, IfSome, OnSome, IfNone, OnOk, IfErr};
+ghost use Rattle.emtp_fix.specs.Rounding.{near};
 ghost use Rattle.emtp_fix.specs.declared.limit.TheConstants.{LARGEST_VALUE, LARGEST_WIDE, PICO};
 ghost use Rattle.emtp_elim.specs.Matrix.{Matrix, item, products};
 ghost use Rattle.emtp_elim.specs.held.Matrix.{AreWithin, IsSquare};
 ghost use Rattle.emtp_elim.specs.Elimination.{last_unknowns};
 ghost use Rattle.emtp_elim.specs.held.Fault.{IsRightFault};
 ghost use Rattle.emtp_elim.specs.held.Finished.{AreAllFinished};
-ghost use Rattle.emtp_elim.specs.held.Row.{numbers, IsRow};
+ghost use Rattle.emtp_elim.specs.held.Row.{numbers, HasWords, IsRow};
 ghost use Rattle.emtp_elim.specs.held.Substitution.{partial_right, AreReduced, IsLastFault};
 ghost use Rattle.emtp_elim.specs.declared.limit.TheConstants.{MOST_ROWS};
 
@@ -14,11 +15,73 @@ use crate::arithmetic::less_in_range;
 use crate::fault::SolveFault;
 use crate::row::FinishedRow;
 use crate::sparse::SparseRows;
-use emtp_fix::{LARGEST_VALUE, PICO, near_by};
+use emtp_fix::{LARGEST_VALUE, PICO, Pivot, near, ratio_product};
 
 /// The right side of row `i` less the products of the row's ratios and the right sides before it. None where it leaves
 /// its range.
+#[inline(always)]
 fn reduced(right: &[i128], i: usize, row: FinishedRow<'_>) -> Option<i128>
+    requires index { i < length right.now }
+    requires row { IsRow (length right.now) i row }
+    requires words { HasWords i row }
+    requires before { (k : ℕ) → k < i → unsigned_abs (item right.now k) ≤ LARGEST_VALUE }
+    ensures value { IfSome result (λ v. v ≡ partial_right (item right.now i) (numbers (length right.now) row.entry) right.now i) }
+    ensures within { OnSome result
+        ((k : ℕ) → k ≤ i → unsigned_abs
+        (partial_right (item right.now i) (numbers (length right.now) row.entry) right.now k) ≤ LARGEST_VALUE) }
+    ensures out { IfNone result
+        ((k : ℕ) × (k ≤ i) × (LARGEST_VALUE
+        < unsigned_abs (partial_right (item right.now i) (numbers (length right.now) row.entry) right.now k))) }
+{
+    if row.has_words && right[i].unsigned_abs() <= LARGEST_VALUE {
+        let (value, overflow) = overflowing_reduced(right, i, row);
+        if overflow == 0 {
+            return Some(i128::from(value));
+        }
+    }
+    reduced_with_care(right, i, row)
+}
+
+/// The same without a test at a product, and an overflow word: 0 only where the number is right and none on the way to it
+/// left its range.
+#[inline(always)]
+fn overflowing_reduced(right: &[i128], i: usize, row: FinishedRow<'_>) -> (i64, u64)
+    requires index { i < length right.now }
+    requires row { IsRow (length right.now) i row }
+    requires words { HasWords i row }
+    requires has_words { row.has_words ≡ true }
+    requires start { unsigned_abs (item right.now i) ≤ LARGEST_VALUE }
+    requires before { (k : ℕ) → k < i → unsigned_abs (item right.now k) ≤ LARGEST_VALUE }
+    ensures value { result.1 ≡ 0 → result.0 ≡ partial_right (item right.now i) (numbers (length right.now) row.entry) right.now i }
+    ensures within { result.1 ≡ 0 → (k : ℕ) → k ≤ i → unsigned_abs
+        (partial_right (item right.now i) (numbers (length right.now) row.entry) right.now k) ≤ LARGEST_VALUE }
+{
+    let mut value = right[i] as i64;
+    let mut seen = 0u64;
+    let columns = row.columns;
+    let values = row.values;
+    let words = row.ratio_words;
+    for e in row.first..row.pivot {
+        let above = right[columns[e] as usize] as i64;
+        let word = words[row.words_from + (e - row.first)];
+        value = value.wrapping_sub(ratio_product(values[e], word, above));
+        seen |= lifted(value);
+    }
+    (value, seen / (1 << 60))
+}
+
+/// Below 2^60 only where `x` is at most 2^59 in magnitude.
+#[inline(always)]
+fn lifted(x: i64) -> u64
+    ensures { result < 2 ^ 60 → unsigned_abs x ≤ 2 ^ 59 }
+{
+    x.wrapping_add(1 << 59).cast_unsigned()
+}
+
+/// The same with a test at each product.
+#[cold]
+#[inline(never)]
+fn reduced_with_care(right: &[i128], i: usize, row: FinishedRow<'_>) -> Option<i128>
     requires index { i < length right.now }
     requires row { IsRow (length right.now) i row }
     requires before { (k : ℕ) → k < i → unsigned_abs (item right.now k) ≤ LARGEST_VALUE }
@@ -104,11 +167,47 @@ pub fn substitute_back(done: &SparseRows, right: &[i128], x: &mut [i64]) -> Resu
     for k in (0..done.rows()).rev() {
         let row = done.row(k);
         let left = remainder(right, k, row, x);
-        let unknown = near_by(left, i128::from(row.values[row.pivot]), row.word);
-        if unknown.unsigned_abs() > LARGEST_VALUE {
-            return Err(SolveFault { row: k });
+        match unknown(left, row.values[row.pivot], row.divider) {
+            Some(unknown) => x[k] = unknown,
+            None => return Err(SolveFault { row: k }),
         }
-        x[k] = unknown as i64;
     }
     Ok(())
+}
+
+/// What is left of a right side, in units of 1e-21, divided by the pivot. None where it leaves its range.
+#[inline(always)]
+fn unknown(left: i128, pivot: i64, divider: &Option<Pivot>) -> Option<i64>
+    requires left { unsigned_abs left ≤ LARGEST_WIDE }
+    requires pivot { pivot ≢ pos 0 }
+    ensures value { IfSome result (λ x. x ≡ near left pivot) }
+    ensures within { IfSome result (λ x. unsigned_abs x ≤ LARGEST_VALUE) }
+    ensures out { IfNone result (LARGEST_VALUE < unsigned_abs (near left pivot)) }
+{
+    let (unknown, overflow) = match divider {
+        Some(divider) => divider.overflowing_near(left, pivot.cast_unsigned(), 0),
+        None => (0, 1),
+    };
+    if overflow == 0 && pivot > 0 && unknown.unsigned_abs() <= LARGEST_VALUE as u64 {
+        return Some(unknown);
+    }
+    unknown_with_care(left, pivot)
+}
+
+/// The same by a division of 128 bits.
+#[cold]
+#[inline(never)]
+fn unknown_with_care(left: i128, pivot: i64) -> Option<i64>
+    requires left { unsigned_abs left ≤ LARGEST_WIDE }
+    requires pivot { pivot ≢ pos 0 }
+    ensures value { IfSome result (λ x. x ≡ near left pivot) }
+    ensures within { IfSome result (λ x. unsigned_abs x ≤ LARGEST_VALUE) }
+    ensures out { IfNone result (LARGEST_VALUE < unsigned_abs (near left pivot)) }
+{
+    let unknown = near(left, i128::from(pivot));
+    if unknown.unsigned_abs() <= LARGEST_VALUE {
+        Some(unknown as i64)
+    } else {
+        None
+    }
 }

@@ -2,6 +2,8 @@
 use Rattle.std.specs.Prelude.{◌≡◌, ℕ, zero, suc, ◌*◌, ◌+◌, ◌-◌, ◌<◌, ◌≤◌, ◌≢◌, nat_eq, ℤ, pos, List, length, slice_index, if◌then◌else◌}
 use Rattle.emtp_elim.specs.Matrix.{Matrix, item, list_of, rows_of}
 use Rattle.emtp_elim.specs.held.Clearing.{IsFinishedRow}
+use Rattle.emtp_elim.specs.held.RowWords.{AreWordsOf, HasRoom}
+use Rattle.emtp_elim.specs.declared.row_words.RowWords.{RowWords}
 use Rattle.emtp_elim.specs.declared.limit.TheConstants.{MOST_ROWS}
 
 -- the number that the n entries from place `first` on have in column j, or 0 where they have none
@@ -49,15 +51,16 @@ pub record IsStoredRow (size i : ℕ) (columns : List ℕ) (values : List ℤ) (
   pub later : AreEntries (dense_row size columns values first last) (i + 1) size columns values (pivot + 1) last
 
 -- there is room for `size` rows, and the first ones are kept as finished
-pub record AreStored (size count : ℕ) (starts pivots columns : List ℕ) (values : List ℤ) (words : List ℕ) : Type 0 where
+pub record AreStored (size count : ℕ) (starts pivots columns : List ℕ) (values : List ℤ) (words : RowWords) : Type 0 where
   pub few : size ≤ MOST_ROWS
   pub within : count ≤ size
   pub room_starts : length starts ≡ size + 1
   pub room_pivots : length pivots ≡ size
   pub room_columns : length columns ≡ size * size
   pub room_values : length values ≡ size * size
-  pub room_words : length words ≡ size
+  pub room_words : HasRoom size words
   pub used : (i : ℕ) → i ≤ count → slice_index starts i ≤ i * size
   pub rising : (h i : ℕ) → h ≤ i → i ≤ count → slice_index starts h ≤ slice_index starts i
   pub each : (i : ℕ) → i < count
       → IsStoredRow size i columns values (slice_index starts i) (slice_index pivots i) (slice_index starts (i + 1))
+  pub words_are : (i : ℕ) → i < count → AreWordsOf i values (slice_index starts i) (slice_index pivots i) words

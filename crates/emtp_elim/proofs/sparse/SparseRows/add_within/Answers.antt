@@ -24,4 +24,4 @@ pub store_next-requires-clause-stored : goal.store_next-requires-clause-stored
 store_next-requires-clause-stored c =
     let same : c.in_ok-extent.extent.diagonal ≡ c.self.inside.count = c.in_ok-extent.ensures.diagonal ∙ sym (count_is _ _ _ _ _ _ _ c.self.view_is) in
     let size : length c.finish_row.new.work ≡ c.self.inside.size = c.in_ok-extent.ensures.numbers.length_is ∙ sym (ap (λ (d : Finished). d.size) c.self.view_is) in
-    rw (size, same, c.deref_mut.ensures.value, c.deref_mut-2.ensures.value, c.deref_mut-3.ensures.value, c.deref_mut-4.ensures.value, c.deref_mut-5.ensures.value) c.self.invariant
+    rw (size, same, c.deref_mut.ensures.value, c.deref_mut-2.ensures.value, c.deref_mut-3.ensures.value, c.deref_mut-4.ensures.value) c.self.invariant

@@ -6,7 +6,7 @@ use Rattle.emtp_fix.proofs.Wide.{narrow_is, through_64}
 use Rattle.emtp_elim.specs.Matrix.{item}
 use Rattle.emtp_elim.proofs.Entries.{at_end}
 use Rattle.emtp_elim.proofs.RightSides.{partial_start, partial_next, partial_more}
-use Rattle.emtp_elim.proofs.substitution.reduced.Goals as goal
+use Rattle.emtp_elim.proofs.substitution.reduced_with_care.Goals as goal
 
 pub loop-e-init : goal.loop-e-init
 loop-e-init c =
