@@ -7,26 +7,27 @@ use Rattle.emtp_card.specs.declared.reason.Why.TheVariants.{BadExpression, BadIm
 use Rattle.emtp_causes.specs.Slip.{slip}
 use Rattle.emtp_walk.specs.declared.kind.Kind.{Kind}
 use Rattle.emtp_walk.specs.declared.kind.Kind.TheVariants as read
+use Rattle.emtp_causes.specs.declared.texts.TheConstants.{ALLOWED_BYTES, A_COMMA, A_TAB, BAD_END_TIME, BAD_EXPRESSION, BAD_IMPEDANCE, BAD_NAME, BAD_ORDER, BAD_POINTS, BAD_STEP, BAD_TYPE, BRANCH_TYPES, BYTE_ORDER_MARK, BYTE_OUTSIDE, DEVICE_CODES, END_MARK_OF_DOS, FIRST_CARD, FORMULA_PLACE, MISSING_SECTION, NOT_A_NUMBER, NOT_WHOLE, NO_END_TIME, OTHER_UNITS, OUTPUT_MARKS, OUT_OF_RANGE, PAST_COLUMN_80, POINTS_WITHOUT_END, SHORT_LINE, SIGNS, SOURCE_TYPES, SUPPLEMENTAL_TYPES, SWITCH_TYPES, SWITCH_WORDS, TACS_OUTPUT_MARKS, TACS_SOURCE_TYPES, THE_BYTE, TOO_MANY, TOO_MANY_LINES, TOO_MANY_SAMPLES, TWO_SOURCES, UNKNOWN_NAME, VINTAGE_ENDS}
 
 abbrev pub reason : Why → List ℕ
-reason ByteOutside = codes "a byte outside of 0x20 to 0x7E"
-reason PastColumn80 = codes "a byte past column 80"
-reason NotANumber = codes "this field is no number"
-reason NotWhole = codes "this field is no whole number"
-reason OutOfUnitRange = codes "out of the field's range, or blank where it must not be"
-reason TooManyLines = codes "more than 100,000 lines or 9,000,000 bytes"
-reason BadType = codes "no type, mark or word that is known here"
-reason BadName = codes "no name that is allowed here"
-reason BadImpedance = codes "the impedance is out of range"
-reason ShortLine = codes "the travel time is below the time step"
-reason BadPoints = codes "a point out of order, out of range or out of place"
-reason BadOrder = codes "this card can't stand here"
-reason UnknownName = codes "nothing has this name"
-reason TwoSources = codes "a second voltage source of this node, or a second card of this variable"
-reason TooMany = codes "a limit by count is exceeded"
-reason MissingSection = codes "the case ends before its last section does"
-reason TooManySamples = codes "the record would have more than 4,000,000 values"
-reason BadExpression = codes "no expression goes on so"
+reason ByteOutside = BYTE_OUTSIDE.now
+reason PastColumn80 = PAST_COLUMN_80.now
+reason NotANumber = NOT_A_NUMBER.now
+reason NotWhole = NOT_WHOLE.now
+reason OutOfUnitRange = OUT_OF_RANGE.now
+reason TooManyLines = TOO_MANY_LINES.now
+reason BadType = BAD_TYPE.now
+reason BadName = BAD_NAME.now
+reason BadImpedance = BAD_IMPEDANCE.now
+reason ShortLine = SHORT_LINE.now
+reason BadPoints = BAD_POINTS.now
+reason BadOrder = BAD_ORDER.now
+reason UnknownName = UNKNOWN_NAME.now
+reason TwoSources = TWO_SOURCES.now
+reason TooMany = TOO_MANY.now
+reason MissingSection = MISSING_SECTION.now
+reason TooManySamples = TOO_MANY_SAMPLES.now
+reason BadExpression = BAD_EXPRESSION.now
 
 -- ---- bytes
 
@@ -35,8 +36,8 @@ hex_digit number = if nat_lt number 10 then 48 + number else 87 + number
 
 unfoldable pub odd_byte : ℕ → List ℕ
 odd_byte byte =
-    codes "the byte 0x" ++ (hex_digit (byte / 16) ∷ hex_digit (byte % 16) ∷ [])
-    ++ codes "; only 0x20 to 0x7E are allowed"
+    THE_BYTE.now ++ (hex_digit (byte / 16) ∷ hex_digit (byte % 16) ∷ [])
+    ++ ALLOWED_BYTES.now
 
 -- in front of a file, that of UTF-8 or of UTF-16
 abbrev pub is_mark : ℕ → ℕ → ℕ → Bool
@@ -44,9 +45,9 @@ is_mark number column byte = number == 1 && column == 1 && (byte == 239 || byte 
 
 abbrev pub byte_text : ℕ → ℕ → ℕ → List ℕ
 byte_text number column byte =
-    if byte == 9 then codes "a tab; a field's columns need blanks"
-    else if byte == 26 then codes "Ctrl-Z, the end mark of DOS; save the file without it"
-    else if is_mark number column byte then codes "a byte-order mark; save the file without it, as plain ASCII"
+    if byte == 9 then A_TAB.now
+    else if byte == 26 then END_MARK_OF_DOS.now
+    else if is_mark number column byte then BYTE_ORDER_MARK.now
     else odd_byte byte
 
 -- ---- numbers
@@ -73,20 +74,20 @@ has_comma line column width = has_byte (take (max column 1 + width - 1 + 1 - max
 abbrev pub point_cause : List ℕ → Kind → ℕ → Why → List ℕ
 point_cause line (read.Point scale) column why =
     if column == 1 && is_section_end line
-    then codes "a card with 9999 in columns 1 to 16 has to end the points before this"
+    then POINTS_WITHOUT_END.now
     else reason why
 point_cause line other column why = reason why
 
 abbrev pub number_cause : List ℕ → Kind → ℕ → Why → List ℕ
 number_cause line kind column why =
-    if has_comma line column (number_width kind) then codes "a comma; a number has a point" else point_cause line kind column why
+    if has_comma line column (number_width kind) then A_COMMA.now else point_cause line kind column why
 
 abbrev pub first_cause : List ℕ → Kind → ℕ → List ℕ
 first_cause line read.FirstRun column =
-    if column == 1 then codes "DELTAT is blank, or isn't from 1E-9 to 1 second"
+    if column == 1 then BAD_STEP.now
     else if column == 9 then
-    if length (field_of line 9 16) == 0 then codes "TMAX is blank" else codes "TMAX / DELTAT has to be from 1 to 1,000,000 steps"
-    else codes "XOPT and COPT have to be 0 or blank: L is in mH, C in uF"
+    if length (field_of line 9 16) == 0 then NO_END_TIME.now else BAD_END_TIME.now
+    else OTHER_UNITS.now
 first_cause line other column = reason OutOfUnitRange
 
 -- ---- types, codes, marks, signs
@@ -96,25 +97,25 @@ has_equals line = has_byte (take (80 + 1 - 9) (drop (9 - 1) line)) 61
 
 abbrev pub extra_cause : List ℕ → ℕ → List ℕ
 extra_cause line column =
-    if has_equals line then codes "a formula has its = in column 11, behind two blanks"
-    else if column == 9 then codes "a device is of code 51 to 54, 56 to 60 or 62 to 66"
-    else codes "a sign is a blank, + or -"
+    if has_equals line then FORMULA_PLACE.now
+    else if column == 9 then DEVICE_CODES.now
+    else SIGNS.now
 
 abbrev pub sign_cause : List ℕ → Kind → ℕ → List ℕ
-sign_cause line read.Vintage column = codes "a vintage card ends with 0 or 1"
-sign_cause line read.Block column = codes "a sign is a blank, + or -"
+sign_cause line read.Vintage column = VINTAGE_ENDS.now
+sign_cause line read.Block column = SIGNS.now
 sign_cause line read.Extra column = extra_cause line column
 sign_cause line other column = reason BadType
 
 -- in the first columns
 abbrev pub types_of : Kind → List ℕ
-types_of (read.Branch wide) = codes "a branch is of type 0 or blank, -1, 98 or 99 (a -1 may be followed by -2 and -3)"
-types_of read.Switch = codes "a switch is of type 0 or blank, 11 or 13"
-types_of read.Source = codes "a source is of type 11, 12, 14 or 60"
-types_of read.TacsSource = codes "a TACS source is of type 11, 14, 23, 24, 90, 91 or 93"
-types_of read.Extra = codes "a supplemental card is of type 99, 88 or 98"
-types_of read.Output = codes "a mark is a blank, 0 or 1"
-types_of read.TacsOutput = codes "a mark is a blank or 0"
+types_of (read.Branch wide) = BRANCH_TYPES.now
+types_of read.Switch = SWITCH_TYPES.now
+types_of read.Source = SOURCE_TYPES.now
+types_of read.TacsSource = TACS_SOURCE_TYPES.now
+types_of read.Extra = SUPPLEMENTAL_TYPES.now
+types_of read.Output = OUTPUT_MARKS.now
+types_of read.TacsOutput = TACS_OUTPUT_MARKS.now
 types_of other = reason BadType
 
 abbrev pub type_cause : List ℕ → Kind → ℕ → List ℕ
@@ -123,11 +124,11 @@ type_cause line kind column = if column == 1 then types_of kind else sign_cause 
 -- ---- places, words, names
 
 abbrev pub place_cause : Kind → ℕ → Why → List ℕ
-place_cause read.Begin column BadOrder = codes "the first card of a case is BEGIN NEW DATA CASE"
+place_cause read.Begin column BadOrder = FIRST_CARD.now
 place_cause read.Switch column BadName =
-    if column == 55 then codes "the word of a switch is MEASURING or none" else reason BadName
+    if column == 55 then SWITCH_WORDS.now else reason BadName
 place_cause read.Extra column BadExpression =
-    if column == 11 then codes "a formula has its = in column 11, behind two blanks" else reason BadExpression
+    if column == 11 then FORMULA_PLACE.now else reason BadExpression
 place_cause other column why = reason why
 
 -- ---- the cause

@@ -4,14 +4,15 @@ use Rattle.emtp_causes.specs.Kinds.{kind_name}
 use Rattle.emtp_walk.specs.declared.kind.Kind.{Kind}
 use Rattle.emtp_walk.specs.declared.kind.Kind.TheVariants as read
 use Rattle.emtp_walk.specs.declared.kind.LineReading.{LineReading}
+use Rattle.emtp_causes.specs.declared.texts.TheConstants.{DUE, ENDS_WHERE, IS_DUE, LINE_NUMBER, READ_AS}
 
 -- ---- of one card
 
 unfoldable pub read_line : ℕ → List ℕ → List ℕ
-read_line number kind = codes "line " ++ decimal number ++ codes ": read as " ++ kind ++ codes "\n"
+read_line number kind = LINE_NUMBER.now ++ decimal number ++ READ_AS.now ++ kind ++ codes "\n"
 
 unfoldable pub due_line : ℕ → List ℕ → List ℕ
-due_line number kind = codes "line " ++ decimal number ++ codes ": the file ends where " ++ kind ++ codes " is due\n"
+due_line number kind = LINE_NUMBER.now ++ decimal number ++ ENDS_WHERE.now ++ kind ++ IS_DUE.now
 
 -- of the line of a number, which is there or not
 abbrev pub section_text : ℕ → Bool → List ℕ → List ℕ
@@ -23,7 +24,7 @@ section_text number false kind = due_line number kind
 -- between a number and a kind, of a line that is there or not
 abbrev pub mark_of : Bool → List ℕ
 mark_of true = codes "\t"
-mark_of false = codes "\tdue: "
+mark_of false = DUE.now
 
 unfoldable pub kind_line : ℕ → List ℕ → List ℕ → List ℕ
 kind_line number mark kind = decimal number ++ mark ++ kind ++ codes "\n"

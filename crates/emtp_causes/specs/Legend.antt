@@ -12,17 +12,18 @@ use Rattle.emtp_netcards.specs.declared.switch_card.SwitchType.{SwitchType}
 use Rattle.emtp_netcards.specs.declared.switch_card.SwitchType.TheVariants.{Control as ControlType, Time as TimeType, Valve as ValveType}
 use Rattle.emtp_walk.specs.declared.kind.Kind.{Kind}
 use Rattle.emtp_walk.specs.declared.kind.Kind.TheVariants as read
+use Rattle.emtp_causes.specs.declared.texts.TheConstants.{BLOCK_FIELDS, CHARACTERISTIC_FIELDS, COEFFICIENT_FIELDS, DEVICE_FIELDS, FIRST_RUN_FIELDS, FORMULA_FIELDS, LINE_FIELDS, OUTPUT_FIELDS, PAIR_FIELDS, RESISTOR_FIELDS, SECOND_RUN_FIELDS, SERIES_FIELDS, SOURCE_FIELDS, TACS_SOURCE_FIELDS, TIME_SWITCH_FIELDS, TOLERANCE_FIELDS, VALVE_FIELDS, WIDE_SERIES_FIELDS}
 
 abbrev pub series_legend : Bool → List ℕ
 series_legend wide =
-    if wide then codes "TYBUS1--BUS2--BUS3--BUS4--R---------------L---------------C---------------     A"
-    else codes "TYBUS1--BUS2--BUS3--BUS4--R-----L-----C-----                                   A"
+    if wide then WIDE_SERIES_FIELDS.now
+    else SERIES_FIELDS.now
 
 abbrev pub line_legend : List ℕ
-line_legend = codes "TYBUS1--BUS2--BUS3--BUS4--R-----A-----B-----LENGTHIL                           A"
+line_legend = LINE_FIELDS.now
 
 abbrev pub pseudo_legend : List ℕ
-pseudo_legend = codes "TYBUS1--BUS2--BUS3--BUS4--FLASH-DELAY-JUMP--                                   A"
+pseudo_legend = RESISTOR_FIELDS.now
 
 -- a card of no known type is shown as a series branch
 abbrev pub branch_legend : Bool → Result BranchKind Why → List ℕ
@@ -38,20 +39,20 @@ branch_legend wide (Err why) = series_legend wide
 abbrev pub extra_legend : List ℕ → List ℕ
 extra_legend line =
     if length (field_of line 9 10) == 0
-    then codes "GRNAME--  =EXPRESSION-----------------------------------------------------------"
-    else codes "GRNAME--COSINPUT-.SINPUT-.SINPUT-.SINPUT-.SINPUT-.A-----B-----C-----D-----E-----"
+    then FORMULA_FIELDS.now
+    else DEVICE_FIELDS.now
 
 abbrev pub point_legend : PointScale → List ℕ
-point_legend OfResistor = codes "CURRENT---------VOLTAGE/FLUX----"
-point_legend OfReactor = codes "CURRENT---------VOLTAGE/FLUX----"
-point_legend Table = codes "INPUT/CLOSE-----OUTPUT/OPEN-----"
-point_legend Times = codes "INPUT/CLOSE-----OUTPUT/OPEN-----"
+point_legend OfResistor = CHARACTERISTIC_FIELDS.now
+point_legend OfReactor = CHARACTERISTIC_FIELDS.now
+point_legend Table = PAIR_FIELDS.now
+point_legend Times = PAIR_FIELDS.now
 
 abbrev pub time_legend : List ℕ
-time_legend = codes "TYBUS1--BUS2--T-CLOSE---T-OPEN----MARGIN----          WORD------               A"
+time_legend = TIME_SWITCH_FIELDS.now
 
 abbrev pub control_legend : List ℕ
-control_legend = codes "TYBUS1--BUS2--IGNITION--HOLDING---                              CONTRO         A"
+control_legend = VALVE_FIELDS.now
 
 abbrev pub switch_legend : Result SwitchType Why → List ℕ
 switch_legend (Ok TimeType) = time_legend
@@ -60,23 +61,23 @@ switch_legend (Ok ControlType) = control_legend
 switch_legend (Err why) = time_legend
 
 abbrev pub names_legend : List ℕ
-names_legend = codes "MKNAME--NAME--NAME--NAME--NAME--NAME--NAME--NAME--NAME--NAME--NAME--NAME--NAME--"
+names_legend = OUTPUT_FIELDS.now
 
 -- nothing where the line has no fields
 abbrev pub legend : List ℕ → Kind → List ℕ
-legend line read.Tolerance = codes "RESIDUAL TOLERANCE      TOLER---"
-legend line read.FirstRun = codes "DELTAT--TMAX----XOPT----COPT----"
-legend line read.SecondRun = codes "IOUT----IPLOT---"
-legend line read.Block = codes "ORNAME--  SINPUT-.SINPUT-.SINPUT-.SINPUT-.SINPUT-.GAIN--LOW---HIGH--LOW---HIGH--"
-legend line (read.Coefficients order) = codes "POWER-----POWER-----POWER-----POWER-----POWER-----POWER-----POWER-----POWER-----"
-legend line read.TacsSource = codes "TYNAME--  AMPLITUDE-FREQ/PER--PHASE/WID-A1--------          TSTART----TSTOP-----"
+legend line read.Tolerance = TOLERANCE_FIELDS.now
+legend line read.FirstRun = FIRST_RUN_FIELDS.now
+legend line read.SecondRun = SECOND_RUN_FIELDS.now
+legend line read.Block = BLOCK_FIELDS.now
+legend line (read.Coefficients order) = COEFFICIENT_FIELDS.now
+legend line read.TacsSource = TACS_SOURCE_FIELDS.now
 legend line read.Extra = extra_legend line
 legend line read.TacsOutput = names_legend
 legend line read.Output = names_legend
 legend line (read.Branch wide) = branch_legend wide (kind_field line)
 legend line (read.Point scale) = point_legend scale
 legend line read.Switch = switch_legend (type_field line)
-legend line read.Source = codes "TYNAME--KIAMPLITUDE-FREQUENCY-T0/PHASE--A1--------          TSTART----TSTOP-----"
+legend line read.Source = SOURCE_FIELDS.now
 legend line other = []
 
 -- ---- the name of one field

@@ -9,3 +9,4 @@ pub mod Refusal
 pub mod Ends
 pub mod Parts
 pub mod Misfit
+pub mod Notes

@@ -3,6 +3,7 @@ use Rattle.std.specs.List.{starts_with}
 use Rattle.std.specs.Prelude.{[], ◌++◌, ◌-◌, ◌/◌, ◌==◌, ◌||◌, ◌∷◌, Bool, List, None, Option, Some, codes, if◌then◌else◌, length, max, nat_eq, nat_le, nat_lt, ℕ}
 use Rattle.std.specs.Str.{bytes_eq}
 use Rattle.emtp_card.specs.Numeral.{few_digits}
+use Rattle.emtp_causes.specs.declared.texts.TheConstants.{AND_HERE, BATCH_FORM, BEGINS_WITH_DASH, BEHIND, CASE_FORM, DOES, EMPTY_NAME, FALLING_SCAN, IS_NOT, LONG_SCAN, MORE_WORDS, NOTHING, NO_COMMAND, NO_COMMAND_NAMED, NO_FREQUENCY, RECORD_FORM, SCAN_FORM, STANDS, STANDS_TWICE, TRIAL_FORM, TRIAL_NUMBER}
 
 -- a word between two texts
 unfoldable pub between : List ℕ → List ℕ → List ℕ → List ℕ
@@ -13,19 +14,19 @@ between front word back = front ++ word ++ back
 -- the words that stand behind a command; nothing of a word that is none
 abbrev pub form_of : List ℕ → List ℕ
 form_of command =
-    if bytes_eq command (codes "run") || bytes_eq command (codes "audit") then codes "CASE CFG DAT"
-    else if bytes_eq command (codes "show") || bytes_eq command (codes "phasor") then codes "CASE"
-    else if bytes_eq command (codes "batch") then codes "CASE TIMES"
-    else if bytes_eq command (codes "scan") then codes "CASE F0 F1 DF"
-    else if bytes_eq command (codes "trial") then codes "N"
+    if bytes_eq command (codes "run") || bytes_eq command (codes "audit") then RECORD_FORM.now
+    else if bytes_eq command (codes "show") || bytes_eq command (codes "phasor") then CASE_FORM.now
+    else if bytes_eq command (codes "batch") then BATCH_FORM.now
+    else if bytes_eq command (codes "scan") then SCAN_FORM.now
+    else if bytes_eq command (codes "trial") then TRIAL_FORM.now
     else []
 
 abbrev pub unknown_line : List ℕ → List ℕ
-unknown_line command = between (codes "No command is named ") command (codes ".\n")
+unknown_line command = between NO_COMMAND_NAMED.now command (codes ".\n")
 
 unfoldable pub count_line : List ℕ → List ℕ → List ℕ → List ℕ
 count_line command form given =
-    codes "Behind " ++ command ++ codes " stands " ++ form ++ codes ", and here " ++ given ++ codes ".\n"
+    BEHIND.now ++ command ++ STANDS.now ++ form ++ AND_HERE.now ++ given ++ codes ".\n"
 
 abbrev pub other_count : List ℕ → List ℕ → List ℕ
 other_count command given =
@@ -37,14 +38,14 @@ abbrev pub is_odd_name : List ℕ → Bool
 is_odd_name name = length name == 0 || starts_with nat_eq name (codes "-")
 
 unfoldable pub dash_line : List ℕ → List ℕ
-dash_line name = name ++ codes " begins with a dash, so it names no file; ./" ++ name ++ codes " does.\n"
+dash_line name = name ++ BEGINS_WITH_DASH.now ++ name ++ DOES.now
 
 abbrev pub name_text : List ℕ → List ℕ
 name_text name =
-    if length name == 0 then codes "A name of a file is empty.\n" else if is_odd_name name then dash_line name else []
+    if length name == 0 then EMPTY_NAME.now else if is_odd_name name then dash_line name else []
 
 abbrev pub twice_line : List ℕ → List ℕ
-twice_line name = between [] name (codes " stands twice; the files have to differ.\n")
+twice_line name = between [] name STANDS_TWICE.now
 
 abbrev pub names_text : List ℕ → List ℕ → List ℕ
 names_text a b = if is_odd_name a then name_text a else if bytes_eq a b then twice_line a else name_text b
@@ -63,7 +64,7 @@ abbrev pub number_of : List ℕ → ℕ → Option ℕ
 number_of word most = if starts_with nat_eq word (codes "0") then None else at_most (few_digits 8 word) most
 
 abbrev pub trial_line : List ℕ → List ℕ
-trial_line word = between (codes "N is a whole number from 1 to 900, and ") word (codes " isn't.\n")
+trial_line word = between TRIAL_NUMBER.now word IS_NOT.now
 
 abbrev pub trial_by : List ℕ → Option ℕ → List ℕ
 trial_by word (Some number) = []
@@ -73,13 +74,13 @@ abbrev pub trial_text : List ℕ → List ℕ
 trial_text word = trial_by word (number_of word 900)
 
 abbrev pub hertz_line : List ℕ → List ℕ
-hertz_line word = between [] word (codes " is no frequency: a whole number of hertz from 1 to 10000000.\n")
+hertz_line word = between [] word NO_FREQUENCY.now
 
 -- nothing of good numbers
 abbrev pub range_fault : ℕ → ℕ → ℕ → List ℕ
 range_fault low high step =
-    if nat_lt high low then codes "F0 is above F1.\n"
-    else if nat_le 10000 ((high - low) / max step 1) then codes "These are more than 10,000 frequencies.\n"
+    if nat_lt high low then FALLING_SCAN.now
+    else if nat_le 10000 ((high - low) / max step 1) then LONG_SCAN.now
     else []
 
 abbrev pub step_by : ℕ → ℕ → List ℕ → Option ℕ → List ℕ
@@ -127,10 +128,10 @@ scan_text command case first last by =
     if bytes_eq command (codes "scan") then frequencies_text case first last by else other_count command (codes "4")
 
 abbrev pub misfit_text : List (List ℕ) → List ℕ
-misfit_text [] = codes "No command is given.\n"
-misfit_text (command ∷ []) = other_count command (codes "nothing")
+misfit_text [] = NO_COMMAND.now
+misfit_text (command ∷ []) = other_count command NOTHING.now
 misfit_text (command ∷ a ∷ []) = one_text command a
 misfit_text (command ∷ a ∷ b ∷ []) = two_text command a b
 misfit_text (command ∷ a ∷ b ∷ c ∷ []) = three_text command a b c
 misfit_text (command ∷ a ∷ b ∷ c ∷ d ∷ []) = scan_text command a b c d
-misfit_text (command ∷ a ∷ b ∷ c ∷ d ∷ e ∷ more) = codes "These are more words than any command has.\n"
+misfit_text (command ∷ a ∷ b ∷ c ∷ d ∷ e ∷ more) = MORE_WORDS.now

@@ -7,6 +7,7 @@ use Rattle.emtp_card.specs.Number.{held_number}
 use Rattle.emtp_card.specs.Numeral.{few_digits}
 use Rattle.emtp_causes.specs.Marked.{mark, shown_line}
 use Rattle.emtp_fix.specs.declared.limit.TheConstants.{LARGEST_TIME}
+use Rattle.emtp_causes.specs.declared.texts.TheConstants.{CLOSING_TIME, EXTRA_FIELD, EXTRA_ITEM, EXTRA_LINE, MISSING_FIELD, MISSING_ITEM, MISSING_LINE, NO_FIELD_NUMBER, NO_TIME, WRONG_FIELD}
 
 -- the column in which the rest of a line begins; a column behind it where nothing is left
 abbrev pub column_of : ℕ → ℕ → ℕ
@@ -52,15 +53,15 @@ is_time item = is_ok (held_number item (pos 12) (neg_ℤ (pos LARGEST_TIME)) (po
 abbrev pub odd_cause : List ℕ → List ℕ
 odd_cause item =
     if bytes_eq item (codes "-") || bytes_eq item (codes "*") || is_time item then
-    codes "an item too many: a row has a closing and an opening time for each time switch of the case"
-    else codes "no time: a number of seconds, * for the card's own or, as an opening time, - for never"
+    EXTRA_ITEM.now
+    else NO_TIME.now
 
 -- closing times have the odd numbers
 abbrev pub item_cause : List ℕ → ℕ → List ℕ
 item_cause item number =
-    if length item == 0 then codes "an item is missing: a row has a closing and an opening time for each time switch of the case"
+    if length item == 0 then MISSING_ITEM.now
     else if bytes_eq item (codes "-") && number % 2 == 1
-    then codes "a closing time is a number of seconds, or * for the card's own"
+    then CLOSING_TIME.now
     else odd_cause item
 
 abbrev pub item_line : List ℕ → ℕ → List ℕ
@@ -83,14 +84,14 @@ skipped (byte ∷ bytes) = if is_blank byte then skipped bytes else byte ∷ byt
 
 abbrev pub difference : List ℕ → List ℕ
 difference cause =
-    if bytes_eq cause (codes "WRONG") then codes "this isn't that of the case's own record"
-    else codes "no number as it has to be here, or out of its range"
+    if bytes_eq cause (codes "WRONG") then WRONG_FIELD.now
+    else NO_FIELD_NUMBER.now
 
 abbrev pub field_cause : List ℕ → ℕ → List ℕ
 field_cause cause number =
-    if bytes_eq cause (codes "MISSING") then if number == 1 then codes "the file ends before this line"
-    else codes "a field isn't there"
-    else if bytes_eq cause (codes "EXTRA") then if number == 1 then codes "a line too many" else codes "a field too many"
+    if bytes_eq cause (codes "MISSING") then if number == 1 then MISSING_LINE.now
+    else MISSING_FIELD.now
+    else if bytes_eq cause (codes "EXTRA") then if number == 1 then EXTRA_LINE.now else EXTRA_FIELD.now
     else difference cause
 
 abbrev pub field_line : List ℕ → ℕ → List ℕ → List ℕ

@@ -8,6 +8,7 @@ use Rattle.emtp_causes.specs.Marked.{mark, shown_line}
 use Rattle.emtp_causes.specs.Sections.{sections_text}
 use Rattle.emtp_walk.specs.declared.kind.Kind.{Kind}
 use Rattle.emtp_walk.specs.declared.kind.LineReading.{LineReading}
+use Rattle.emtp_causes.specs.declared.texts.TheConstants.{CARD_IS_DUE, CASE_ENDS, IS_READ_AS, LONG_CASE, THIS_CARD, WHERE}
 
 abbrev pub legend_line : List ℕ → List ℕ
 legend_line legend = if length legend == 0 then [] else legend ++ codes "\n"
@@ -17,13 +18,13 @@ unfoldable pub refused_card : List ℕ → Kind → Bad → List ℕ
 refused_card line kind bad =
     legend_line (legend line kind) ++ shown_line line bad.column ++ mark bad.column
     ++ cause_text bad.line line kind bad.column bad.why
-    ++ codes "\nLine " ++ decimal bad.line ++ codes " is read as " ++ kind_name kind ++ codes ".\n"
+    ++ THIS_CARD.now ++ decimal bad.line ++ IS_READ_AS.now ++ kind_name kind ++ codes ".\n"
 
 -- behind so many lines another one is due
 unfoldable pub missing_line : ℕ → Kind → List ℕ
 missing_line before kind =
-    codes "The case ends behind line " ++ decimal before ++ codes ", where " ++ kind_name kind
-    ++ codes " is due; a line BLANK ends a section.\n"
+    CASE_ENDS.now ++ decimal before ++ WHERE.now ++ kind_name kind
+    ++ CARD_IS_DUE.now
 
 abbrev pub line_text : Option (List ℕ) → Bad → Kind → List ℕ
 line_text (Some line) bad kind = refused_card line kind bad
@@ -43,4 +44,4 @@ refusal_text readings lines bad =
 
 -- of a file that is too long no line is read
 abbrev pub size_text : List ℕ
-size_text = codes "The case has more than 100,000 lines or 9,000,000 bytes.\n"
+size_text = LONG_CASE.now

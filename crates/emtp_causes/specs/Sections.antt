@@ -6,18 +6,19 @@ use Rattle.emtp_causes.specs.declared.sections.Section.TheVariants.{Blocks, Bran
 use Rattle.emtp_walk.specs.declared.kind.Kind.{Kind}
 use Rattle.emtp_walk.specs.declared.kind.Kind.TheVariants as read
 use Rattle.emtp_walk.specs.declared.kind.LineReading.{LineReading}
+use Rattle.emtp_causes.specs.declared.texts.TheConstants.{BLOCKS, BRANCHES, ENDED_AT_LINE, INITIAL_CONDITIONS, NODE_OUTPUTS, SOURCES, SUPPLEMENTAL_CARDS, SWITCHES, TACS_OUTPUTS, TACS_SOURCES, THE_SECTION, WHICH_IS_BLANK}
 
 abbrev pub section_name : Section → List ℕ
 section_name Outside = []
-section_name Blocks = codes "blocks"
-section_name TacsSources = codes "TACS sources"
-section_name Extras = codes "supplemental cards"
-section_name TacsOutputs = codes "TACS outputs"
-section_name Initial = codes "initial conditions"
-section_name Branches = codes "branches"
-section_name Switches = codes "switches"
-section_name Sources = codes "sources"
-section_name Outputs = codes "node outputs"
+section_name Blocks = BLOCKS.now
+section_name TacsSources = TACS_SOURCES.now
+section_name Extras = SUPPLEMENTAL_CARDS.now
+section_name TacsOutputs = TACS_OUTPUTS.now
+section_name Initial = INITIAL_CONDITIONS.now
+section_name Branches = BRANCHES.now
+section_name Switches = SWITCHES.now
+section_name Sources = SOURCES.now
+section_name Outputs = NODE_OUTPUTS.now
 
 abbrev pub next : Section → Section
 next Blocks = TacsSources
@@ -40,10 +41,10 @@ after section other = section
 
 -- a blank line may be one by mistake
 abbrev pub blank_text : List ℕ → List ℕ
-blank_text line = if starts_with nat_eq line (codes "BLANK") then [] else codes ", which is blank"
+blank_text line = if starts_with nat_eq line (codes "BLANK") then [] else WHICH_IS_BLANK.now
 
 unfoldable pub end_line : List ℕ → ℕ → List ℕ → List ℕ
-end_line name number line = codes "The " ++ name ++ codes " ended at line " ++ decimal number ++ blank_text line ++ codes ".\n"
+end_line name number line = THE_SECTION.now ++ name ++ ENDED_AT_LINE.now ++ decimal number ++ blank_text line ++ codes ".\n"
 
 -- outside of the sections a line ends none
 abbrev pub end_text : Section → ℕ → List ℕ → Kind → List ℕ

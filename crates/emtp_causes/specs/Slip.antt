@@ -3,6 +3,7 @@ use Rattle.std.specs.List.{starts_with}
 use Rattle.std.specs.Prelude.{[], ◌&&◌, ◌||◌, Bool, List, codes, if◌then◌else◌, nat_eq, not, ℕ}
 use Rattle.std.specs.Str.{bytes_eq}
 use Rattle.emtp_card.specs.Field.{field_of}
+use Rattle.emtp_causes.specs.declared.texts.TheConstants.{COMMENT_WITHOUT_BLANK, SMALL_BLANK, SMALL_COMMENT, SPECIAL_REQUEST}
 
 -- those that stand in front of the miscellaneous cards
 abbrev pub begins_a_request : List ℕ → Bool
@@ -58,8 +59,8 @@ is_comment_like line = starts_with nat_eq line (codes "C")
 -- what is said of a line that was meant so; nothing of any other
 abbrev pub slip : List ℕ → List ℕ
 slip line =
-    if is_special line then codes "a special request card of ATP; not read here"
-    else if is_small_blank line then codes "a section ends with BLANK in capitals, or with a blank line"
-    else if is_small_comment line then codes "a comment has a capital C in column 1"
-    else if is_comment_like line then codes "a comment has a C in column 1 and a blank in column 2"
+    if is_special line then SPECIAL_REQUEST.now
+    else if is_small_blank line then SMALL_BLANK.now
+    else if is_small_comment line then SMALL_COMMENT.now
+    else if is_comment_like line then COMMENT_WITHOUT_BLANK.now
     else []

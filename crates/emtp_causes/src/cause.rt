@@ -6,6 +6,15 @@ ghost use Rattle.emtp_causes.specs.Cause.{byte_text, card_cause, cause, cause_te
 ghost use Rattle.emtp_causes.specs.Slip.{slip};
 
 use crate::slip::slip;
+use crate::texts::{
+    A_COMMA, A_TAB, ALLOWED_BYTES, BAD_END_TIME, BAD_EXPRESSION, BAD_IMPEDANCE, BAD_NAME,
+    BAD_ORDER, BAD_POINTS, BAD_STEP, BAD_TYPE, BRANCH_TYPES, BYTE_ORDER_MARK, BYTE_OUTSIDE,
+    DEVICE_CODES, END_MARK_OF_DOS, FIRST_CARD, FORMULA_PLACE, MISSING_SECTION, NO_END_TIME,
+    NOT_A_NUMBER, NOT_WHOLE, OTHER_UNITS, OUT_OF_RANGE, OUTPUT_MARKS, PAST_COLUMN_80,
+    POINTS_WITHOUT_END, SHORT_LINE, SIGNS, SOURCE_TYPES, SUPPLEMENTAL_TYPES, SWITCH_TYPES,
+    SWITCH_WORDS, TACS_OUTPUT_MARKS, TACS_SOURCE_TYPES, THE_BYTE, TOO_MANY, TOO_MANY_LINES,
+    TOO_MANY_SAMPLES, TWO_SOURCES, UNKNOWN_NAME, VINTAGE_ENDS,
+};
 use emtp_card::{Why, columns, ends_section, field_text};
 use emtp_text::put;
 use emtp_walk::Kind;
@@ -63,17 +72,11 @@ fn put_byte(out: &mut Vec<u8>, number: u32, column: u32, byte: u8) -> Result<(),
     ensures { OnOk result (out.new.items ≡ out.old.items ++ byte_text number column byte) }
 {
     if byte == 9 {
-        put(out, b"a tab; a field's columns need blanks")
+        put(out, A_TAB)
     } else if byte == 0x1A {
-        put(
-            out,
-            b"Ctrl-Z, the end mark of DOS; save the file without it",
-        )
+        put(out, END_MARK_OF_DOS)
     } else if is_mark(number, column, byte) {
-        put(
-            out,
-            b"a byte-order mark; save the file without it, as plain ASCII",
-        )
+        put(out, BYTE_ORDER_MARK)
     } else {
         put_odd_byte(out, byte)
     }
@@ -90,9 +93,9 @@ fn is_mark(number: u32, column: u32, byte: u8) -> bool
 fn put_odd_byte(out: &mut Vec<u8>, byte: u8) -> Result<(), AllocError>
     ensures { OnOk result (out.new.items ≡ out.old.items ++ odd_byte byte) }
 {
-    put(out, b"the byte 0x")?;
+    put(out, THE_BYTE)?;
     put(out, &[hex_digit(byte / 16), hex_digit(byte % 16)])?;
-    put(out, b"; only 0x20 to 0x7E are allowed")
+    put(out, ALLOWED_BYTES)
 }
 
 /// The digit of a number below 16.
@@ -128,7 +131,7 @@ fn number_cause(line: &[u8], kind: Kind, column: u32, why: Why) -> &'static [u8]
     ensures { result.now ≡ number_cause line.now kind column why }
 {
     if has_comma(line, column, number_width(kind)) {
-        b"a comma; a number has a point"
+        A_COMMA
     } else {
         point_cause(line, kind, column, why)
     }
@@ -172,7 +175,7 @@ fn point_cause(line: &[u8], kind: Kind, column: u32, why: Why) -> &'static [u8]
     match kind {
         Kind::Point(_) => {
             if column == 1 && ends_section(line) {
-                b"a card with 9999 in columns 1 to 16 has to end the points before this"
+                POINTS_WITHOUT_END
             } else {
                 reason(why)
             }
@@ -188,15 +191,15 @@ fn first_cause(line: &[u8], kind: Kind, column: u32) -> &'static [u8]
     match kind {
         Kind::FirstRun => {
             if column == 1 {
-                b"DELTAT is blank, or isn't from 1E-9 to 1 second"
+                BAD_STEP
             } else if column == 9 {
                 if field_text(line, 9, 16).is_empty() {
-                    b"TMAX is blank"
+                    NO_END_TIME
                 } else {
-                    b"TMAX / DELTAT has to be from 1 to 1,000,000 steps"
+                    BAD_END_TIME
                 }
             } else {
-                b"XOPT and COPT have to be 0 or blank: L is in mH, C in uF"
+                OTHER_UNITS
             }
         }
         _ => reason(Why::OutOfUnitRange),
@@ -219,14 +222,13 @@ fn types_of(kind: Kind) -> &'static [u8]
     ensures { result.now ≡ types_of kind }
 {
     match kind {
-        Kind::Branch(_) =>
-            b"a branch is of type 0 or blank, -1, 98 or 99 (a -1 may be followed by -2 and -3)",
-        Kind::Switch => b"a switch is of type 0 or blank, 11 or 13",
-        Kind::Source => b"a source is of type 11, 12, 14 or 60",
-        Kind::TacsSource => b"a TACS source is of type 11, 14, 23, 24, 90, 91 or 93",
-        Kind::Extra => b"a supplemental card is of type 99, 88 or 98",
-        Kind::Output => b"a mark is a blank, 0 or 1",
-        Kind::TacsOutput => b"a mark is a blank or 0",
+        Kind::Branch(_) => BRANCH_TYPES,
+        Kind::Switch => SWITCH_TYPES,
+        Kind::Source => SOURCE_TYPES,
+        Kind::TacsSource => TACS_SOURCE_TYPES,
+        Kind::Extra => SUPPLEMENTAL_TYPES,
+        Kind::Output => OUTPUT_MARKS,
+        Kind::TacsOutput => TACS_OUTPUT_MARKS,
         _ => reason(Why::BadType),
     }
 }
@@ -236,8 +238,8 @@ fn sign_cause(line: &[u8], kind: Kind, column: u32) -> &'static [u8]
     ensures { result.now ≡ sign_cause line.now kind column }
 {
     match kind {
-        Kind::Vintage => b"a vintage card ends with 0 or 1",
-        Kind::Block => b"a sign is a blank, + or -",
+        Kind::Vintage => VINTAGE_ENDS,
+        Kind::Block => SIGNS,
         Kind::Extra => extra_cause(line, column),
         _ => reason(Why::BadType),
     }
@@ -248,11 +250,11 @@ fn extra_cause(line: &[u8], column: u32) -> &'static [u8]
     ensures { result.now ≡ extra_cause line.now column }
 {
     if has_equals(line) {
-        b"a formula has its = in column 11, behind two blanks"
+        FORMULA_PLACE
     } else if column == 9 {
-        b"a device is of code 51 to 54, 56 to 60 or 62 to 66"
+        DEVICE_CODES
     } else {
-        b"a sign is a blank, + or -"
+        SIGNS
     }
 }
 
@@ -268,17 +270,17 @@ fn place_cause(kind: Kind, column: u32, why: Why) -> &'static [u8]
     ensures { result.now ≡ place_cause kind column why }
 {
     match (kind, why) {
-        (Kind::Begin, Why::BadOrder) => b"the first card of a case is BEGIN NEW DATA CASE",
+        (Kind::Begin, Why::BadOrder) => FIRST_CARD,
         (Kind::Switch, Why::BadName) => {
             if column == 55 {
-                b"the word of a switch is MEASURING or none"
+                SWITCH_WORDS
             } else {
                 reason(why)
             }
         }
         (Kind::Extra, Why::BadExpression) => {
             if column == 11 {
-                b"a formula has its = in column 11, behind two blanks"
+                FORMULA_PLACE
             } else {
                 reason(why)
             }
@@ -292,24 +294,23 @@ fn reason(why: Why) -> &'static [u8]
     ensures { result.now ≡ reason why }
 {
     match why {
-        Why::ByteOutside => b"a byte outside of 0x20 to 0x7E",
-        Why::PastColumn80 => b"a byte past column 80",
-        Why::NotANumber => b"this field is no number",
-        Why::NotWhole => b"this field is no whole number",
-        Why::OutOfUnitRange => b"out of the field's range, or blank where it must not be",
-        Why::TooManyLines => b"more than 100,000 lines or 9,000,000 bytes",
-        Why::BadType => b"no type, mark or word that is known here",
-        Why::BadName => b"no name that is allowed here",
-        Why::BadImpedance => b"the impedance is out of range",
-        Why::ShortLine => b"the travel time is below the time step",
-        Why::BadPoints => b"a point out of order, out of range or out of place",
-        Why::BadOrder => b"this card can't stand here",
-        Why::UnknownName => b"nothing has this name",
-        Why::TwoSources =>
-            b"a second voltage source of this node, or a second card of this variable",
-        Why::TooMany => b"a limit by count is exceeded",
-        Why::MissingSection => b"the case ends before its last section does",
-        Why::TooManySamples => b"the record would have more than 4,000,000 values",
-        Why::BadExpression => b"no expression goes on so",
+        Why::ByteOutside => BYTE_OUTSIDE,
+        Why::PastColumn80 => PAST_COLUMN_80,
+        Why::NotANumber => NOT_A_NUMBER,
+        Why::NotWhole => NOT_WHOLE,
+        Why::OutOfUnitRange => OUT_OF_RANGE,
+        Why::TooManyLines => TOO_MANY_LINES,
+        Why::BadType => BAD_TYPE,
+        Why::BadName => BAD_NAME,
+        Why::BadImpedance => BAD_IMPEDANCE,
+        Why::ShortLine => SHORT_LINE,
+        Why::BadPoints => BAD_POINTS,
+        Why::BadOrder => BAD_ORDER,
+        Why::UnknownName => UNKNOWN_NAME,
+        Why::TwoSources => TWO_SOURCES,
+        Why::TooMany => TOO_MANY,
+        Why::MissingSection => MISSING_SECTION,
+        Why::TooManySamples => TOO_MANY_SAMPLES,
+        Why::BadExpression => BAD_EXPRESSION,
     }
 }

@@ -3,6 +3,7 @@ ghost use Rattle.std.specs.Prelude.{◌≡◌, ◌++◌, OnOk};
 ghost use Rattle.emtp_causes.specs.KindText.{due_line, kind_line, kind_text, kinds_text, mark_of, read_line, section_text};
 
 use crate::kinds::kind_name;
+use crate::texts::{DUE, ENDS_WHERE, IS_DUE, LINE_NUMBER, READ_AS};
 use emtp_text::{put, put_number};
 use emtp_walk::{Kind, LineReading};
 use std::alloc::AllocError;
@@ -27,9 +28,9 @@ pub fn put_section(
 fn put_read(out: &mut Vec<u8>, number: u32, kind: &[u8]) -> Result<(), AllocError>
     ensures { OnOk result (out.new.items ≡ out.old.items ++ read_line number kind.now) }
 {
-    put(out, b"line ")?;
+    put(out, LINE_NUMBER)?;
     put_number(out, number)?;
-    put(out, b": read as ")?;
+    put(out, READ_AS)?;
     put(out, kind)?;
     put(out, b"\n")
 }
@@ -38,11 +39,11 @@ fn put_read(out: &mut Vec<u8>, number: u32, kind: &[u8]) -> Result<(), AllocErro
 fn put_due(out: &mut Vec<u8>, number: u32, kind: &[u8]) -> Result<(), AllocError>
     ensures { OnOk result (out.new.items ≡ out.old.items ++ due_line number kind.now) }
 {
-    put(out, b"line ")?;
+    put(out, LINE_NUMBER)?;
     put_number(out, number)?;
-    put(out, b": the file ends where ")?;
+    put(out, ENDS_WHERE)?;
     put(out, kind)?;
-    put(out, b" is due\n")
+    put(out, IS_DUE)
 }
 
 /// Puts a line after a text for each line of so many that is no comment: its number, and as what it is read; and what is due
@@ -83,5 +84,5 @@ fn put_line(out: &mut Vec<u8>, number: usize, mark: &[u8], kind: &[u8]) -> Resul
 fn mark_of(there: bool) -> &'static [u8]
     ensures { result.now ≡ mark_of there }
 {
-    if there { b"\t" } else { b"\tdue: " }
+    if there { b"\t" } else { DUE }
 }

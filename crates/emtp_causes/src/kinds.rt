@@ -3,6 +3,12 @@
 ghost use Rattle.std.specs.Prelude.{◌≡◌};
 ghost use Rattle.emtp_causes.specs.Kinds.{kind_name};
 
+use crate::texts::{
+    BEGIN_CARD, BLOCK_CARD, BRANCH_CARD, CARD_BEHIND, COEFFICIENT_CARD, COMMENT_LINE,
+    FIRST_RUN_CARD, HYBRID_CARD, INITIAL_CARD, OUTPUT_CARD, POINT_CARD, SECOND_RUN_CARD,
+    SECTION_END, SOURCE_CARD, SUPPLEMENTAL_CARD, SWITCH_CARD, TACS_OUTPUT_CARD, TACS_SOURCE_CARD,
+    TOLERANCE_CARD, VINTAGE_CARD,
+};
 use emtp_walk::Kind;
 
 /// The words for a kind of line.
@@ -10,25 +16,25 @@ pub fn kind_name(kind: Kind) -> &'static [u8]
     ensures { result.now ≡ kind_name kind }
 {
     match kind {
-        Kind::Comment => b"a comment",
-        Kind::SectionEnd => b"the end of a section",
-        Kind::Begin => b"the card BEGIN NEW DATA CASE",
-        Kind::Tolerance => b"the card RESIDUAL TOLERANCE",
-        Kind::FirstRun => b"the first miscellaneous card",
-        Kind::SecondRun => b"the second miscellaneous card",
-        Kind::Hybrid => b"the card TACS HYBRID",
-        Kind::Block => b"a block card",
-        Kind::Coefficients(_) => b"a card of coefficients",
-        Kind::TacsSource => b"a TACS source",
-        Kind::Extra => b"a supplemental card",
-        Kind::TacsOutput => b"a TACS output",
-        Kind::Initial => b"an initial condition",
-        Kind::Vintage => b"a vintage card",
-        Kind::Branch(_) => b"a branch card",
-        Kind::Point(_) => b"a point or the card that ends them",
-        Kind::Switch => b"a switch card",
-        Kind::Source => b"a source card",
-        Kind::Output => b"a node output card",
-        Kind::After => b"a card after the last section",
+        Kind::Comment => COMMENT_LINE,
+        Kind::SectionEnd => SECTION_END,
+        Kind::Begin => BEGIN_CARD,
+        Kind::Tolerance => TOLERANCE_CARD,
+        Kind::FirstRun => FIRST_RUN_CARD,
+        Kind::SecondRun => SECOND_RUN_CARD,
+        Kind::Hybrid => HYBRID_CARD,
+        Kind::Block => BLOCK_CARD,
+        Kind::Coefficients(_) => COEFFICIENT_CARD,
+        Kind::TacsSource => TACS_SOURCE_CARD,
+        Kind::Extra => SUPPLEMENTAL_CARD,
+        Kind::TacsOutput => TACS_OUTPUT_CARD,
+        Kind::Initial => INITIAL_CARD,
+        Kind::Vintage => VINTAGE_CARD,
+        Kind::Branch(_) => BRANCH_CARD,
+        Kind::Point(_) => POINT_CARD,
+        Kind::Switch => SWITCH_CARD,
+        Kind::Source => SOURCE_CARD,
+        Kind::Output => OUTPUT_CARD,
+        Kind::After => CARD_BEHIND,
     }
 }

@@ -3,6 +3,12 @@
 ghost use Rattle.std.specs.Prelude.{◌≡◌, ◌≤◌, length, take_while};
 ghost use Rattle.emtp_causes.specs.Legend.{branch_legend, dash_count, extra_legend, field_name, legend, point_legend, switch_legend, without_dashes};
 
+use crate::texts::{
+    BLOCK_FIELDS, CHARACTERISTIC_FIELDS, COEFFICIENT_FIELDS, DEVICE_FIELDS, FIRST_RUN_FIELDS,
+    FORMULA_FIELDS, LINE_FIELDS, OUTPUT_FIELDS, PAIR_FIELDS, RESISTOR_FIELDS, SECOND_RUN_FIELDS,
+    SERIES_FIELDS, SOURCE_FIELDS, TACS_SOURCE_FIELDS, TIME_SWITCH_FIELDS, TOLERANCE_FIELDS,
+    VALVE_FIELDS, WIDE_SERIES_FIELDS,
+};
 use emtp_card::{Why, columns, field_text};
 use emtp_netcards::{BranchKind, PointScale, SwitchType, branch_kind, switch_type};
 use emtp_walk::Kind;
@@ -12,23 +18,18 @@ pub(crate) fn legend(line: &[u8], kind: Kind) -> &'static [u8]
     ensures { result.now ≡ legend line.now kind }
 {
     match kind {
-        Kind::Tolerance => b"RESIDUAL TOLERANCE      TOLER---",
-        Kind::FirstRun => b"DELTAT--TMAX----XOPT----COPT----",
-        Kind::SecondRun => b"IOUT----IPLOT---",
-        Kind::Block =>
-            b"ORNAME--  SINPUT-.SINPUT-.SINPUT-.SINPUT-.SINPUT-.GAIN--LOW---HIGH--LOW---HIGH--",
-        Kind::Coefficients(_) =>
-            b"POWER-----POWER-----POWER-----POWER-----POWER-----POWER-----POWER-----POWER-----",
-        Kind::TacsSource =>
-            b"TYNAME--  AMPLITUDE-FREQ/PER--PHASE/WID-A1--------          TSTART----TSTOP-----",
+        Kind::Tolerance => TOLERANCE_FIELDS,
+        Kind::FirstRun => FIRST_RUN_FIELDS,
+        Kind::SecondRun => SECOND_RUN_FIELDS,
+        Kind::Block => BLOCK_FIELDS,
+        Kind::Coefficients(_) => COEFFICIENT_FIELDS,
+        Kind::TacsSource => TACS_SOURCE_FIELDS,
         Kind::Extra => extra_legend(line),
-        Kind::TacsOutput | Kind::Output =>
-            b"MKNAME--NAME--NAME--NAME--NAME--NAME--NAME--NAME--NAME--NAME--NAME--NAME--NAME--",
+        Kind::TacsOutput | Kind::Output => OUTPUT_FIELDS,
         Kind::Branch(wide) => branch_legend(wide, &branch_kind(line)),
         Kind::Point(scale) => point_legend(scale),
         Kind::Switch => switch_legend(&switch_type(line)),
-        Kind::Source =>
-            b"TYNAME--KIAMPLITUDE-FREQUENCY-T0/PHASE--A1--------          TSTART----TSTOP-----",
+        Kind::Source => SOURCE_FIELDS,
         Kind::Comment
         | Kind::SectionEnd
         | Kind::Begin
@@ -68,15 +69,13 @@ fn branch_legend(wide: bool, kind: &Result<BranchKind, Why>) -> &'static [u8]
     ensures { result.now ≡ branch_legend wide kind.now }
 {
     match kind {
-        Ok(BranchKind::Line) | Ok(BranchKind::Second) | Ok(BranchKind::Third) =>
-            b"TYBUS1--BUS2--BUS3--BUS4--R-----A-----B-----LENGTHIL                           A",
-        Ok(BranchKind::Reactor) | Ok(BranchKind::Resistor) =>
-            b"TYBUS1--BUS2--BUS3--BUS4--FLASH-DELAY-JUMP--                                   A",
+        Ok(BranchKind::Line) | Ok(BranchKind::Second) | Ok(BranchKind::Third) => LINE_FIELDS,
+        Ok(BranchKind::Reactor) | Ok(BranchKind::Resistor) => RESISTOR_FIELDS,
         Ok(BranchKind::Series) | Err(_) => {
             if wide {
-                b"TYBUS1--BUS2--BUS3--BUS4--R---------------L---------------C---------------     A"
+                WIDE_SERIES_FIELDS
             } else {
-                b"TYBUS1--BUS2--BUS3--BUS4--R-----L-----C-----                                   A"
+                SERIES_FIELDS
             }
         }
     }
@@ -87,9 +86,9 @@ fn extra_legend(line: &[u8]) -> &'static [u8]
     ensures { result.now ≡ extra_legend line.now }
 {
     if field_text(line, 9, 10).is_empty() {
-        b"GRNAME--  =EXPRESSION-----------------------------------------------------------"
+        FORMULA_FIELDS
     } else {
-        b"GRNAME--COSINPUT-.SINPUT-.SINPUT-.SINPUT-.SINPUT-.A-----B-----C-----D-----E-----"
+        DEVICE_FIELDS
     }
 }
 
@@ -97,8 +96,8 @@ fn point_legend(scale: PointScale) -> &'static [u8]
     ensures { result.now ≡ point_legend scale }
 {
     match scale {
-        PointScale::Resistor | PointScale::Reactor => b"CURRENT---------VOLTAGE/FLUX----",
-        PointScale::Table | PointScale::Times => b"INPUT/CLOSE-----OUTPUT/OPEN-----",
+        PointScale::Resistor | PointScale::Reactor => CHARACTERISTIC_FIELDS,
+        PointScale::Table | PointScale::Times => PAIR_FIELDS,
     }
 }
 
@@ -106,9 +105,7 @@ fn switch_legend(kind: &Result<SwitchType, Why>) -> &'static [u8]
     ensures { result.now ≡ switch_legend kind.now }
 {
     match kind {
-        Ok(SwitchType::Valve) | Ok(SwitchType::Control) =>
-            b"TYBUS1--BUS2--IGNITION--HOLDING---                              CONTRO         A",
-        Ok(SwitchType::Time) | Err(_) =>
-            b"TYBUS1--BUS2--T-CLOSE---T-OPEN----MARGIN----          WORD------               A",
+        Ok(SwitchType::Valve) | Ok(SwitchType::Control) => VALVE_FIELDS,
+        Ok(SwitchType::Time) | Err(_) => TIME_SWITCH_FIELDS,
     }
 }

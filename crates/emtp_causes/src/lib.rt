@@ -18,6 +18,7 @@
 //!     Line 8 is read as a branch card.
 //! ```
 //!
+//! - `texts`: every text
 //! - `kinds`: the names of kinds of lines
 //! - `kind_text`: as what a line is read
 //! - `legend`: the names of a card's fields over their columns
@@ -29,6 +30,7 @@
 //! - `refusal`: the whole text of a refusal
 //! - `ends`: what an early end means, and why a case has no steady state
 //! - `misfit`: why words are no command
+//! - `notes`: what a note means, with the line of the file that it names
 #![tactic(auto)]
 
 mod cause;
@@ -38,15 +40,18 @@ mod kinds;
 mod legend;
 mod marked;
 mod misfit;
+mod notes;
 mod parts;
 mod refusal;
 mod sections;
 mod slip;
+mod texts;
 
 pub use ends::{put_end, unsolved};
 pub use kind_text::{put_kinds, put_section};
 pub use kinds::kind_name;
 pub use legend::field_name;
 pub use misfit::put_misfit;
+pub use notes::{item_of, number_in, put_differs, put_ended, put_row, put_unsolved};
 pub use parts::{put_field, put_item};
 pub use refusal::{put_refusal, put_size};

@@ -3,6 +3,11 @@
 ghost use Rattle.std.specs.Prelude.{◌≡◌, ◌++◌, ◌∷◌, OnOk, map, string_bytes};
 ghost use Rattle.emtp_causes.specs.Misfit.{between, count_line, dash_line, files_text, form_of, frequencies_text, hertz_line, is_odd_name, misfit_text, name_text, names_text, number_of, one_text, other_count, range_fault, three_text, trial_text, twice_line};
 
+use crate::texts::{
+    AND_HERE, BATCH_FORM, BEGINS_WITH_DASH, BEHIND, CASE_FORM, DOES, EMPTY_NAME, FALLING_SCAN,
+    IS_NOT, LONG_SCAN, MORE_WORDS, NO_COMMAND, NO_COMMAND_NAMED, NO_FREQUENCY, NOTHING,
+    RECORD_FORM, SCAN_FORM, STANDS, STANDS_TWICE, TRIAL_FORM, TRIAL_NUMBER,
+};
 use emtp_card::read_digits;
 use emtp_text::put;
 use std::alloc::AllocError;
@@ -21,7 +26,7 @@ pub fn put_misfit(out: &mut Vec<u8>, words: &[String]) -> Result<(), AllocError>
     ensures { OnOk result (out.new.items ≡ out.old.items ++ misfit_text (map (λ word. string_bytes word) words.now)) }
 {
     match words {
-        [] => put(out, b"No command is given.\n"),
+        [] => put(out, NO_COMMAND),
         [command, behind @ ..] => put_command(out, command, behind),
     }
 }
@@ -31,14 +36,14 @@ fn put_command(out: &mut Vec<u8>, command: &str, behind: &[String]) -> Result<()
     ensures { OnOk result (out.new.items ≡ out.old.items ++ misfit_text (command.now ∷ map (λ word. string_bytes word) behind.now)) }
 {
     match behind {
-        [] => put_other_count(out, command, b"nothing"),
+        [] => put_other_count(out, command, NOTHING),
         [a] => put_one(out, command, a),
         [a, b] if command == "batch" => put_names(out, a, b),
         [_, _] => put_other_count(out, command, b"2"),
         [a, b, c] => put_three(out, command, a, b, c),
         [case, first, last, by] if command == "scan" => put_scan(out, case, first, last, by),
         [_, _, _, _] => put_other_count(out, command, b"4"),
-        _ => put(out, b"These are more words than any command has.\n"),
+        _ => put(out, MORE_WORDS),
     }
 }
 
@@ -47,11 +52,11 @@ fn form_of(command: &str) -> &'static [u8]
     ensures { result.now ≡ form_of command.now }
 {
     match command {
-        "run" | "audit" => b"CASE CFG DAT",
-        "show" | "phasor" => b"CASE",
-        "batch" => b"CASE TIMES",
-        "scan" => b"CASE F0 F1 DF",
-        "trial" => b"N",
+        "run" | "audit" => RECORD_FORM,
+        "show" | "phasor" => CASE_FORM,
+        "batch" => BATCH_FORM,
+        "scan" => SCAN_FORM,
+        "trial" => TRIAL_FORM,
         _ => b"",
     }
 }
@@ -62,7 +67,7 @@ fn put_other_count(out: &mut Vec<u8>, command: &str, given: &[u8]) -> Result<(),
 {
     let form = form_of(command);
     if form.is_empty() {
-        put_between(out, b"No command is named ", command.as_bytes(), b".\n")
+        put_between(out, NO_COMMAND_NAMED, command.as_bytes(), b".\n")
     } else {
         put_count(out, command.as_bytes(), form, given)
     }
@@ -81,11 +86,11 @@ fn put_between(out: &mut Vec<u8>, front: &[u8], word: &[u8], back: &[u8]) -> Res
 fn put_count(out: &mut Vec<u8>, command: &[u8], form: &[u8], given: &[u8]) -> Result<(), AllocError>
     ensures { OnOk result (out.new.items ≡ out.old.items ++ count_line command.now form.now given.now) }
 {
-    put(out, b"Behind ")?;
+    put(out, BEHIND)?;
     put(out, command)?;
-    put(out, b" stands ")?;
+    put(out, STANDS)?;
     put(out, form)?;
-    put(out, b", and here ")?;
+    put(out, AND_HERE)?;
     put(out, given)?;
     put(out, b".\n")?;
     Ok(())
@@ -124,7 +129,7 @@ fn put_name(out: &mut Vec<u8>, name: &str) -> Result<(), AllocError>
     ensures { OnOk result (out.new.items ≡ out.old.items ++ name_text name.now) }
 {
     if name.is_empty() {
-        put(out, b"A name of a file is empty.\n")
+        put(out, EMPTY_NAME)
     } else if is_odd_name(name) {
         put_dash(out, name.as_bytes())
     } else {
@@ -136,21 +141,16 @@ fn put_dash(out: &mut Vec<u8>, name: &[u8]) -> Result<(), AllocError>
     ensures { OnOk result (out.new.items ≡ out.old.items ++ dash_line name.now) }
 {
     put(out, name)?;
-    put(out, b" begins with a dash, so it names no file; ./")?;
+    put(out, BEGINS_WITH_DASH)?;
     put(out, name)?;
-    put(out, b" does.\n")?;
+    put(out, DOES)?;
     Ok(())
 }
 
 fn put_twice(out: &mut Vec<u8>, name: &str) -> Result<(), AllocError>
     ensures { OnOk result (out.new.items ≡ out.old.items ++ twice_line name.now) }
 {
-    put_between(
-        out,
-        b"",
-        name.as_bytes(),
-        b" stands twice; the files have to differ.\n",
-    )
+    put_between(out, b"", name.as_bytes(), STANDS_TWICE)
 }
 
 fn put_names(out: &mut Vec<u8>, a: &str, b: &str) -> Result<(), AllocError>
@@ -184,12 +184,7 @@ fn put_trial(out: &mut Vec<u8>, word: &str) -> Result<(), AllocError>
 {
     match number_of(word, 900) {
         Some(_) => Ok(()),
-        None => put_between(
-            out,
-            b"N is a whole number from 1 to 900, and ",
-            word.as_bytes(),
-            b" isn't.\n",
-        ),
+        None => put_between(out, TRIAL_NUMBER, word.as_bytes(), IS_NOT),
     }
 }
 
@@ -235,9 +230,9 @@ fn range_fault(low: u64, high: u64, step: u64) -> &'static [u8]
     ensures { result.now ≡ range_fault low high step }
 {
     if high < low {
-        b"F0 is above F1.\n"
+        FALLING_SCAN
     } else if (high - low) / step.max(1) >= MOST_FREQUENCIES {
-        b"These are more than 10,000 frequencies.\n"
+        LONG_SCAN
     } else {
         b""
     }
@@ -246,6 +241,6 @@ fn range_fault(low: u64, high: u64, step: u64) -> &'static [u8]
 fn put_no_hertz(out: &mut Vec<u8>, word: &str) -> Result<(), AllocError>
     ensures { OnOk result (out.new.items ≡ out.old.items ++ hertz_line word.now) }
 {
-    let range = b" is no frequency: a whole number of hertz from 1 to 10000000.\n";
+    let range = NO_FREQUENCY;
     put_between(out, b"", word.as_bytes(), range)
 }

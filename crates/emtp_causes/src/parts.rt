@@ -4,6 +4,10 @@ ghost use Rattle.std.specs.Prelude.{◌≡◌, ◌==◌, ◌++◌, ◌<◌, IfSo
 ghost use Rattle.emtp_causes.specs.Parts.{begins_here, column_of, difference, field_cause, field_line, field_rest, item_cause, item_line, item_rest, is_time, left_behind, marked_part, number_or_one, odd_cause, one_less, skipped, up_to_blank};
 
 use crate::marked::{put_line, put_mark};
+use crate::texts::{
+    CLOSING_TIME, EXTRA_FIELD, EXTRA_ITEM, EXTRA_LINE, MISSING_FIELD, MISSING_ITEM, MISSING_LINE,
+    NO_FIELD_NUMBER, NO_TIME, WRONG_FIELD,
+};
 use emtp_card::{read_digits, read_held};
 use emtp_fix::LARGEST_TIME;
 use emtp_text::put;
@@ -80,7 +84,7 @@ fn number_or_one(text: &[u8]) -> u64
 // ---- items
 
 /// What is left of a row from an item on; nothing where it isn't there.
-fn item_rest(row: &[u8], number: u64) -> &[u8]
+pub(crate) fn item_rest(row: &[u8], number: u64) -> &[u8]
     ensures { result.now ≡ item_rest number true row.now }
 {
     let mut rest = row;
@@ -113,7 +117,7 @@ fn left_behind(begins: bool, left: u64) -> u64
 }
 
 /// The bytes in front of the first blank.
-fn up_to_blank(text: &[u8]) -> &[u8]
+pub(crate) fn up_to_blank(text: &[u8]) -> &[u8]
     ensures { result.now ≡ up_to_blank text.now }
 {
     match first_blank(text) {
@@ -122,7 +126,7 @@ fn up_to_blank(text: &[u8]) -> &[u8]
     }
 }
 
-fn first_blank(text: &[u8]) -> Option<usize>
+pub(crate) fn first_blank(text: &[u8]) -> Option<usize>
     ensures value { result ≡ position (λ byte. byte == 32) text.now }
     ensures within { IfSome result (λ at. at < length text.now) }
 {
@@ -134,9 +138,9 @@ fn item_cause(item: &[u8], number: u64) -> &'static [u8]
     ensures { result.now ≡ item_cause item.now number }
 {
     if item.is_empty() {
-        b"an item is missing: a row has a closing and an opening time for each time switch of the case"
+        MISSING_ITEM
     } else if item == b"-".as_slice() && number % 2 == 1 {
-        b"a closing time is a number of seconds, or * for the card's own"
+        CLOSING_TIME
     } else {
         odd_cause(item)
     }
@@ -147,9 +151,9 @@ fn odd_cause(item: &[u8]) -> &'static [u8]
     ensures { result.now ≡ odd_cause item.now }
 {
     if item == b"-".as_slice() || item == b"*".as_slice() || is_time(item) {
-        b"an item too many: a row has a closing and an opening time for each time switch of the case"
+        EXTRA_ITEM
     } else {
-        b"no time: a number of seconds, * for the card's own or, as an opening time, - for never"
+        NO_TIME
     }
 }
 
@@ -201,16 +205,12 @@ fn field_cause(cause: &[u8], number: u64) -> &'static [u8]
 {
     if cause == b"MISSING".as_slice() {
         if number == 1 {
-            b"the file ends before this line"
+            MISSING_LINE
         } else {
-            b"a field isn't there"
+            MISSING_FIELD
         }
     } else if cause == b"EXTRA".as_slice() {
-        if number == 1 {
-            b"a line too many"
-        } else {
-            b"a field too many"
-        }
+        if number == 1 { EXTRA_LINE } else { EXTRA_FIELD }
     } else {
         difference(cause)
     }
@@ -220,8 +220,8 @@ fn difference(cause: &[u8]) -> &'static [u8]
     ensures { result.now ≡ difference cause.now }
 {
     if cause == b"WRONG".as_slice() {
-        b"this isn't that of the case's own record"
+        WRONG_FIELD
     } else {
-        b"no number as it has to be here, or out of its range"
+        NO_FIELD_NUMBER
     }
 }

@@ -10,6 +10,7 @@ use crate::kinds::kind_name;
 use crate::legend::legend;
 use crate::marked::{put_line, put_mark};
 use crate::sections::put_sections;
+use crate::texts::{CARD_IS_DUE, CASE_ENDS, IS_READ_AS, LONG_CASE, THIS_CARD, WHERE};
 use emtp_card::{Bad, Cards};
 use emtp_text::{put, put_number};
 use emtp_walk::{Kind, LineReading};
@@ -41,10 +42,7 @@ pub fn put_refusal(
 pub fn put_size(out: &mut Vec<u8>) -> Result<(), AllocError>
     ensures { OnOk result (out.new.items ≡ out.old.items ++ size_text) }
 {
-    put(
-        out,
-        b"The case has more than 100,000 lines or 9,000,000 bytes.\n",
-    )
+    put(out, LONG_CASE)
 }
 
 /// Puts the card that is refused, or which one is due behind the last line.
@@ -65,9 +63,9 @@ fn put_card(out: &mut Vec<u8>, line: &[u8], kind: Kind, bad: &Bad) -> Result<(),
     put_line(out, line, bad.column)?;
     put_mark(out, bad.column)?;
     put_cause(out, bad.line, line, kind, bad.column, bad.why)?;
-    put(out, b"\nLine ")?;
+    put(out, THIS_CARD)?;
     put_number(out, bad.line)?;
-    put(out, b" is read as ")?;
+    put(out, IS_READ_AS)?;
     put_kind(out, kind)?;
     put(out, b".\n")?;
     Ok(())
@@ -100,10 +98,10 @@ fn put_names(out: &mut Vec<u8>, names: &[u8]) -> Result<(), AllocError>
 fn put_missing(out: &mut Vec<u8>, before: usize, kind: Kind) -> Result<(), AllocError>
     ensures { OnOk result (out.new.items ≡ out.old.items ++ missing_line before kind) }
 {
-    put(out, b"The case ends behind line ")?;
+    put(out, CASE_ENDS)?;
     put_number(out, before)?;
-    put(out, b", where ")?;
+    put(out, WHERE)?;
     put_kind(out, kind)?;
-    put(out, b" is due; a line BLANK ends a section.\n")?;
+    put(out, CARD_IS_DUE)?;
     Ok(())
 }

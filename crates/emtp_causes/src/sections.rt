@@ -3,6 +3,10 @@
 ghost use Rattle.std.specs.Prelude.{◌≡◌, ◌++◌, OnOk};
 ghost use Rattle.emtp_causes.specs.Sections.{after, blank_text, end_line, end_text, next, section_name, sections_text};
 
+use crate::texts::{
+    BLOCKS, BRANCHES, ENDED_AT_LINE, INITIAL_CONDITIONS, NODE_OUTPUTS, SOURCES, SUPPLEMENTAL_CARDS,
+    SWITCHES, TACS_OUTPUTS, TACS_SOURCES, THE_SECTION, WHICH_IS_BLANK,
+};
 use emtp_card::Cards;
 use emtp_text::{put, put_number};
 use emtp_walk::{Kind, LineReading, read_at};
@@ -104,9 +108,9 @@ fn put_end_line(
 ) -> Result<(), AllocError>
     ensures { OnOk result (out.new.items ≡ out.old.items ++ end_line name.now number line.now) }
 {
-    put(out, b"The ")?;
+    put(out, THE_SECTION)?;
     put(out, name)?;
-    put(out, b" ended at line ")?;
+    put(out, ENDED_AT_LINE)?;
     put_number(out, number)?;
     put_blank(out, line)?;
     put(out, b".\n")?;
@@ -127,7 +131,7 @@ fn blank_text(line: &[u8]) -> &'static [u8]
     if line.starts_with(b"BLANK") {
         b""
     } else {
-        b", which is blank"
+        WHICH_IS_BLANK
     }
 }
 
@@ -136,14 +140,14 @@ fn section_name(section: Section) -> &'static [u8]
 {
     match section {
         Section::Outside => b"",
-        Section::Blocks => b"blocks",
-        Section::TacsSources => b"TACS sources",
-        Section::Extras => b"supplemental cards",
-        Section::TacsOutputs => b"TACS outputs",
-        Section::Initial => b"initial conditions",
-        Section::Branches => b"branches",
-        Section::Switches => b"switches",
-        Section::Sources => b"sources",
-        Section::Outputs => b"node outputs",
+        Section::Blocks => BLOCKS,
+        Section::TacsSources => TACS_SOURCES,
+        Section::Extras => SUPPLEMENTAL_CARDS,
+        Section::TacsOutputs => TACS_OUTPUTS,
+        Section::Initial => INITIAL_CONDITIONS,
+        Section::Branches => BRANCHES,
+        Section::Switches => SWITCHES,
+        Section::Sources => SOURCES,
+        Section::Outputs => NODE_OUTPUTS,
     }
 }

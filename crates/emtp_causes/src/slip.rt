@@ -3,6 +3,7 @@
 ghost use Rattle.std.specs.Prelude.{◌≡◌};
 ghost use Rattle.emtp_causes.specs.Slip.{begins_a_request, begins_a_section, is_comment_like, is_request, is_small_blank, is_small_comment, is_special, slip, stands_among_cards};
 
+use crate::texts::{COMMENT_WITHOUT_BLANK, SMALL_BLANK, SMALL_COMMENT, SPECIAL_REQUEST};
 use emtp_card::field_text;
 
 /// What is said of a line that was meant as a card of ATP, as the end of a section or as a comment; nothing of any other.
@@ -10,13 +11,13 @@ pub(crate) fn slip(line: &[u8]) -> &'static [u8]
     ensures { result.now ≡ slip line.now }
 {
     if is_special(line) {
-        b"a special request card of ATP; not read here"
+        SPECIAL_REQUEST
     } else if is_small_blank(line) {
-        b"a section ends with BLANK in capitals, or with a blank line"
+        SMALL_BLANK
     } else if is_small_comment(line) {
-        b"a comment has a capital C in column 1"
+        SMALL_COMMENT
     } else if is_comment_like(line) {
-        b"a comment has a C in column 1 and a blank in column 2"
+        COMMENT_WITHOUT_BLANK
     } else {
         b""
     }
