@@ -614,40 +614,11 @@ async function run() {
 
 // ---- what came of it
 
-// A line of a file, as the program may be asked about it.
-const lineOf = (bytes, line) => (Records.text(bytes).split("\n")[line - 1] ?? "").replace(/\r$/, "").replace(/[^ -~]/g, "?");
-
-// What a status means, in the program's words; nothing where the note says it all.
-async function meaning(call, status, note) {
-  const numbers = note.match(/\d+/g)?.map(Number) ?? [];
-  const file = name => call.files.find(it => it.name === name)?.bytes ?? new Uint8Array();
-  switch (status) {
-    case 1: return explained(["--misfit", ...call.words]);
-    case 2: return call.files.length ? explained(["--why", "case"], call.files.slice(0, 1)) : "";
-    case 3: {
-      const found = /ENDED (?:STEP (\d+) )?(\w+) (.*)/.exec(note);
-      return found ? explained(["--ended", found[2], found[1] ?? "", found[3].replace(/ SAMPLES .*/, "")]) : "";
-    }
-    case 5: return "The record has no room in this page.";
-    case 6: return "There wasn't enough memory; nothing was made.";
-    case 7: {
-      const found = /REFUSED LINE (\d+) REASON \d+ (\w+)/.exec(note);
-      if (!found) return "";
-      return `${found[1] === "1" ? "" : editor.line(Number(found[1])) + "\n"}${await explained(["--unsolved", found[2]])}`;
-    }
-    case 8: {
-      const found = /DIFFERS (CFG|DAT) LINE (\d+) FIELD (\d+) (\w+)/.exec(note);
-      if (!found) return "";
-      const text = found[3] === "1" && found[4] === "MISSING" ? "" : lineOf(file(found[1].toLowerCase()), Number(found[2]));
-      return `${await explained(["--field", text, found[3], found[4]])}\nThis is line ${found[2]} of the ${found[1].toLowerCase()}, field ${found[3]}.`;
-    }
-    case 9: {
-      const [line, item] = numbers, row = lineOf(file("times"), line);
-      if (!line) return "The table has more than 9,000,000 bytes.";
-      return row ? explained(["--item", row, String(item)]) : "The table has no row.";
-    }
-    default: return "";
-  }
+// What a status means, in the program's words.
+function meaning(call, status, note) {
+  if (status === 5) return "The record has no room in this page.";
+  const words = call.show ? ["show", ...call.words] : call.words;
+  return explained(["--told", String(status), note.split("\n", 1)[0], ...words], call.files);
 }
 
 const results = (() => {
