@@ -1,8 +1,9 @@
 // The program on a system for which the toolchain makes none: the words of its command line and C's files, around the proved
 // calls. `emtp WORDS` does what the program `emtp` does, and `emtp show WORDS` what `emtp_show` does, with their exit statuses.
+// Where a run isn't whole, it says on standard error what its status means.
 //
-// It isn't proved. What it decides itself is which words name files that are read; whether words fit, and all else, the calls
-// decide.
+// It isn't proved. What it decides itself is which words name files that are read; whether words fit, what a status means, and all
+// else, the calls decide.
 #include <stdbool.h>
 #include <stdint.h>
 #include <stdio.h>
@@ -19,7 +20,7 @@ typedef wchar_t Letter; // of the system's own words and names
 typedef char Letter;
 #endif
 
-enum { USAGE = 1, READ_FAULT = 4, WRITE_FAULT = 5, NO_MEMORY = 6 };
+enum { DONE = 0, ENDED = 3, READ_FAULT = 4, WRITE_FAULT = 5, NO_MEMORY = 6 };
 
 #define MOST_FILES 3
 #define OUTPUTS 4
@@ -158,6 +159,11 @@ static int files_of(const char *command) {
     return strcmp(command, "trial") != 0;
 }
 
+// Whether a word behind `show` says what is asked of the case whose name stands behind it.
+static bool asks_of_case(const char *word) {
+    return !strcmp(word, "--count") || !strcmp(word, "--kinds") || !strcmp(word, "--why");
+}
+
 // ---- calls
 
 // Makes a call, with more room for its outputs until they have enough.
@@ -181,35 +187,80 @@ static int leave(const Answer *answer, uint8_t *const outputs[OUTPUTS], const Le
         bool whole = at < 2 ? write_file(at ? dat : cfg, bytes)
                             : fwrite(bytes.place, 1, bytes.count, stdout) == bytes.count && fflush(stdout) == 0;
         // a refusal keeps its status where its note can't be written
-        if (!whole) return answer->status == 0 || answer->status == 3 ? WRITE_FAULT : (int)answer->status;
+        if (!whole) return answer->status == DONE || answer->status == ENDED ? WRITE_FAULT : (int)answer->status;
     }
     return (int)answer->status;
 }
 
+// The first line of a note, as a word.
+static char *first_line(Bytes note) {
+    char *text = memory(note.count + 1);
+    memcpy(text, note.place, note.count);
+    text[note.count] = 0;
+    text[strcspn(text, "\r\n")] = 0;
+    return text;
+}
+
+// Says what a status means, by the note, the words and the files of its call.
+static void tell(int status, Bytes note, char **words, int count, Bytes names, const Bytes files[MOST_FILES]) {
+    char number[16];
+    snprintf(number, sizeof number, "%d", status);
+    char **asked = memory((uint64_t)(count + 3) * sizeof *asked);
+    asked[0] = "--told";
+    asked[1] = number;
+    asked[2] = first_line(note);
+    memcpy(asked + 3, words, (uint64_t)count * sizeof *asked);
+    uint8_t *outputs[OUTPUTS];
+    Answer answer = make(emtp_page_show, lines(asked, count + 3), names, files, outputs);
+    if (answer.status == DONE) fwrite(outputs[3], 1, answer.outputs[3].length, stderr);
+}
+
 static int run(int count, Letter **given) {
     char **words = memory((uint64_t)count * sizeof *words);
+    bool odd = false;
     for (int at = 0; at < count; at++) {
         words[at] = utf8(given[at]);
-        if (!words[at]) count = 0;
+        odd |= !words[at];
     }
+    if (odd) count = 0;
     bool shows = count > 0 && !strcmp(words[0], "show");
     int skipped = shows;
     stand_in(words, count);
-    Bytes files[MOST_FILES] = {{0}}, no_names = {0};
+    Bytes files[MOST_FILES] = {{0}}, names = {0};
     Bytes asked = lines(words + skipped, count - skipped);
     uint8_t *outputs[OUTPUTS];
     Call *call = shows ? emtp_page_show : emtp_page_call;
     // Over no files, words that don't fit are refused, and only those that name a file aren't answered.
-    Answer answer = make(call, asked, no_names, files, outputs);
+    Answer answer = make(call, asked, names, files, outputs);
     if (answer.status == READ_FAULT) {
-        int first = shows ? count - 1 : 1, wanted = shows ? 1 : files_of(words[0]), read = 0;
-        for (; read < wanted; read++) {
-            bool is_record = wanted == 3 && read > 0;
-            if (!read_file(given[first + read], is_record ? RECORD_BOUND : TEXT_BOUND, &files[read])) break;
+        // behind `show --told STATUS NOTE` stand the words of a run, of whose files some may not be there any more
+        bool again = shows && count > 5 && !strcmp(words[1], "--told");
+        int first = again ? 5 : shows ? count - 1 : 1, read = 0;
+        int wanted = again ? count - first : shows ? 1 : files_of(words[0]);
+        char *named[MOST_FILES];
+        for (int at = 0; at < wanted && read < MOST_FILES; at++) {
+            bool is_record = wanted == 3 && at > 0;
+            if (read_file(given[first + at], is_record ? RECORD_BOUND : TEXT_BOUND, &files[read])) {
+                named[read++] = words[first + at];
+            } else if (!again) {
+                break;
+            }
         }
-        answer = make(call, asked, lines(words + first, read), files, outputs);
+        names = lines(named, read);
+        answer = make(call, asked, names, files, outputs);
     }
-    return leave(&answer, outputs, count == 4 ? given[2] : 0, count == 4 ? given[3] : 0);
+    int status = leave(&answer, outputs, count == 4 ? given[2] : 0, count == 4 ? given[3] : 0);
+    if (odd) {
+        fputs("A word isn't UTF-8.\n", stderr);
+    } else if (status != DONE) {
+        if (shows && count == 3 && asks_of_case(words[1])) {
+            words[1] = words[2];
+            count = 2;
+        }
+        int said = answer.outputs[2].created ? 2 : 3; // a trial that ends early has a summary
+        tell(status, (Bytes){outputs[said], answer.outputs[said].length}, words, count, names, files);
+    }
+    return status;
 }
 
 #ifdef _WIN32
