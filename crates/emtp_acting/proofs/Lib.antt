@@ -1,0 +1,2 @@
+mod FictitiousRanges
+mod WorkedFictitious
