@@ -18,6 +18,7 @@ CHOICES = {
     "control": ["(always)", "<name>"],
     "choice": ["(no variable)", "<name>"],
     "factor": ["<number>", "<number> s", "<number> Hz"],
+    "clean": ["", ", none with L=<number> mH"],
     "low": ["no low limit", "fixed low limit=<number>", "variable low limit=<name>"],
     "high": ["no high limit", "fixed high limit=<number>", "variable high limit=<name>"],
     "power": [f", s^{power}=<number>" for power in range(8)],
@@ -89,6 +90,13 @@ LINE_WARNINGS = ["warning, line <count>, columns <count>-<count>, <columns>\n",
                  "warning, line <count>, travel time below two steps\n",
                  "warning, line <count>, travel time after the end of the run\n",
                  "warning, line <count>, a capacitance below 1 pF; C is in uF\n",
+                 "warning, line <count>, the rounding of its conductance acts as a resistance in series: r=<number> ohm, "
+                 "r T/L=<number><clean>\n",
+                 "warning, line <count>, R acts as another one: R + r=<number> ohm\n",
+                 "warning, line <count>, C acts as another one: acting C=<number> uF\n",
+                 "warning, line <count>, C acts as a wire\n",
+                 "warning, line <count>, an arrester at a line's end without the capacitance of ten steps: a steep wave makes "
+                 "voltages off its characteristic\n",
                  "warning, line <count>, closed beside a switch between the same nodes: one of the two carries nothing\n"]
 CHANNEL_WARNINGS = ["warning, channel <count>, asked for twice\n"]
 

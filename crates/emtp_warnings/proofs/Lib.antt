@@ -8,5 +8,7 @@ pub mod NetworkCards
 pub mod OutputCards
 pub mod PointCards
 pub mod PolynomialCards
+mod Drifting
+mod Pieces
 mod Recording
 mod Worked

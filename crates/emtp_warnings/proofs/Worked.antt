@@ -13,6 +13,8 @@ use Rattle.emtp_case.specs.declared.case.Parts.{Parts}
 use Rattle.emtp_case.specs.declared.channel.Channel.TheVariants.{NodeVoltage, Tacs as OfVariable}
 use Rattle.emtp_case.specs.declared.source.Shape.TheVariants.{Cosine, Step}
 use Rattle.emtp_case.specs.declared.switch.SwitchKind.TheVariants.{Time}
+use Rattle.emtp_case.specs.Branch.{capacitor_impedance}
+use Rattle.emtp_fix.specs.Rounding.{near, near_abs}
 use Rattle.emtp_netcards.specs.SourceCard.{active_times}
 use Rattle.emtp_taccards.specs.TacsSourceCard as sources
 use Rattle.emtp_taccards.specs.TacsSourceCard.{level_of, tacs_source_card}
@@ -80,6 +82,7 @@ records : record_warnings parts
     ≡ record { spot = Line 6; finding = ShortTravel }
     ∷ of_columns 8 9 14 LoneNode ∷ of_columns 8 9 14 NodeZero ∷ of_columns 8 25 34 AfterEnd ∷ of_columns 9 25 34 OpensFirst
     ∷ of_columns 10 21 30 NoFrequency ∷ of_columns 10 61 70 AfterEnd ∷ of_columns 11 61 70 EarlyCosine ∷ of_columns 12 71 80 NeverActs ∷ []
+unfolding near near_abs capacitor_impedance
 records = refl
 
 -- a node that two output cards name

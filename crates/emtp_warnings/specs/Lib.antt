@@ -2,6 +2,8 @@
 pub mod Finding
 pub mod Marked
 pub mod ColumnWarnings
+pub mod ActingWarnings
+pub mod ArresterWarnings
 pub mod RecordWarnings
 pub mod ChannelWarnings
 pub mod Warnings

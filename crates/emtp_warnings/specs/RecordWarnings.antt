@@ -14,8 +14,10 @@ use Rattle.emtp_case.specs.declared.source.Source.{Source}
 use Rattle.emtp_case.specs.declared.switch.Switch.{Switch}
 use Rattle.emtp_case.specs.declared.switch.SwitchKind.{SwitchKind}
 use Rattle.emtp_case.specs.declared.switch.SwitchKind.TheVariants.{Measuring, Time}
+use Rattle.emtp_warnings.specs.ActingWarnings.{series_warnings}
+use Rattle.emtp_warnings.specs.ArresterWarnings.{is_bare, stands_at}
 use Rattle.emtp_warnings.specs.Finding.{found, of_columns, of_line}
-use Rattle.emtp_warnings.specs.declared.finding.Finding.TheVariants.{AfterEnd, CaseAlone, EarlyCosine, LateTravel, LoneNode, NeverActs, NoFrequency, NodeZero, OpensFirst, ShortTravel, SideBySide, SmallCapacitance}
+use Rattle.emtp_warnings.specs.declared.finding.Finding.TheVariants.{AfterEnd, BareArrester, CaseAlone, EarlyCosine, LateTravel, LoneNode, NeverActs, NoFrequency, NodeZero, OpensFirst, ShortTravel, SideBySide, SmallCapacitance}
 use Rattle.emtp_warnings.specs.declared.finding.Warning.{Warning}
 
 -- ---- the end of the run
@@ -30,9 +32,6 @@ is_after_end last (Some time) = int_lt last time
 
 -- ---- nodes
 
-abbrev pub branch_ends_at : ℕ → Branch → Bool
-branch_ends_at node b = (from_of b == node) || (to_of b == node)
-
 abbrev pub switch_ends_at : ℕ → Switch → Bool
 switch_ends_at node s = (s.from == node) || (s.to == node)
 
@@ -42,7 +41,7 @@ source_stands_at node s = s.node == node
 -- how many branches, switches and sources a node has
 abbrev pub records_at : Parts → ℕ → ℕ
 records_at p node =
-    count_by (branch_ends_at node) p.branches + count_by (switch_ends_at node) p.switches
+    count_by (stands_at node) p.branches + count_by (switch_ends_at node) p.switches
     + count_by (source_stands_at node) p.sources
 
 -- ground has no name
@@ -107,10 +106,16 @@ abbrev pub value_warnings : Parts → Branch → List Warning
 value_warnings p b = found
     ((is_short p.run.dt (travel_time_of p b), of_line (line_of b) ShortTravel)
     ∷ (is_after_end (end_of_run p) (travel_time_of p b), of_line (line_of b) LateTravel)
-    ∷ (is_small b, of_line (line_of b) SmallCapacitance) ∷ [])
+    ∷ (is_small b, of_line (line_of b) SmallCapacitance)
+    ∷ (is_bare p b, of_line (line_of b) BareArrester) ∷ [])
+
+-- what a series branch acts as over the run
+abbrev pub acting_warnings : Parts → Branch → List Warning
+acting_warnings p (OfLumped b) = series_warnings p.run.dt (end_of_run p) b
+acting_warnings p other = []
 
 abbrev pub branch_warnings : Parts → Branch → List Warning
-branch_warnings p b = ends_warnings p (line_of b) (from_of b) (to_of b) ++ value_warnings p b
+branch_warnings p b = ends_warnings p (line_of b) (from_of b) (to_of b) ++ value_warnings p b ++ acting_warnings p b
 
 -- ---- switches
 

@@ -62,6 +62,24 @@ pub enum Finding {
     OpensFirst,
     /// A channel that was asked for before.
     AskedTwice,
+    /// A series branch that acts with another resistance in series, by which a current that nothing drives drifts over the
+    /// run.
+    Drifts {
+        /// That resistance, in 10^-9 ohm; below 0 the branch gives energy.
+        resistance: i64,
+        /// The part of the current that it takes over the run to the first order, in 10^-9; below 0 the current grows.
+        drift: i64,
+        /// The nearest inductance that drifts no more than it may, in nH, where there is one.
+        clean: Option<i64>,
+    },
+    /// A resistance that acts as half of itself or less, or as half as much again or more: as this, in 10^-9 ohm.
+    OtherResistance(i64),
+    /// A capacitance that acts as another one: as this, in fF.
+    OtherCapacitance(i64),
+    /// A capacitance that acts as a wire.
+    ActsAsWire,
+    /// A nonlinear resistor at the end of a line, where no capacitance holds a wave for ten steps.
+    BareArrester,
 }
 
 /// A warning.

@@ -17,10 +17,13 @@
 //! - `columns`: the warnings of a line's columns
 //! - `records`, `channels`: the warnings of a case
 //! - `listed`: all warnings, in order
-//! - `text`: their text
+//! - `acting`, `arresters`: the warnings of series branches that act as others, and of arresters that waves come to
+//! - `text`, `words`: their text
 //! - `laws`: what is true of columns that no field has
 #![tactic(auto)]
 
+mod acting;
+mod arresters;
 mod channels;
 mod columns;
 mod finding;
@@ -30,6 +33,7 @@ mod marked;
 mod records;
 mod rulers;
 mod text;
+mod words;
 
 pub use finding::{Finding, Spot, Warning};
 pub use laws::{

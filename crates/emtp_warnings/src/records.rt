@@ -1,9 +1,13 @@
 //! The warnings of the records of a case.
 
 ghost use Rattle.std.specs.Prelude.{◌≡◌, ◌==◌, ◌+◌, ◌<◌, OnOk, count_by, flat_map, length, min, not, slice_get, take};
+ghost use Rattle.emtp_case.specs.held.Branch.{IsBranch};
+ghost use Rattle.emtp_case.specs.held.Sizes.{sizes_of};
 ghost use Rattle.emtp_warnings.specs.AddsTo.{AddsTo};
-ghost use Rattle.emtp_warnings.specs.RecordWarnings.{are_closed, beside_warnings, branch_warnings, end_of_run, ends_warnings, has_twin, is_after_end, is_before, is_beside, is_case_alone, is_closed_after, is_constant, is_cosine, is_idle, is_lone, is_node_zero, is_short, is_small, is_twin, opens_after, record_warnings, source_warnings, switch_warnings, times_warnings, travel_time_of, value_warnings};
+ghost use Rattle.emtp_warnings.specs.RecordWarnings.{acting_warnings, are_closed, beside_warnings, branch_warnings, end_of_run, ends_warnings, has_twin, is_after_end, is_before, is_beside, is_case_alone, is_closed_after, is_constant, is_cosine, is_idle, is_lone, is_node_zero, is_short, is_small, is_twin, opens_after, record_warnings, source_warnings, switch_warnings, times_warnings, travel_time_of, value_warnings};
 
+use crate::acting::add_series;
+use crate::arresters::is_bare;
 use crate::finding::{Finding, Warning, add_found, columns_row, line_row};
 use emtp_case::{Branch, Case, Name, Parts, Shape, Source, Switch, SwitchKind};
 use std::alloc::AllocError;
@@ -69,15 +73,29 @@ fn add_sources(out: &mut Vec<Warning>, last: i64, sources: &[Source]) -> Result<
 // ---- branches
 
 fn add_branch(out: &mut Vec<Warning>, case: &Case, branch: &Branch) -> Result<(), AllocError>
+    requires { IsBranch case.now.parts.run (sizes_of case.now.parts) case.now.parts.points branch.now }
     ensures { OnOk result (AddsTo out.old.items (branch_warnings case.now.parts branch.now) out.new.items) }
 {
     let (from, to) = branch.ends();
     add_ends(out, &case.parts, branch.line(), from, to)?;
     add_values(out, case, branch)?;
+    add_acting(out, case, branch)?;
     Ok(())
 }
 
-/// Adds the warnings of the travel time of a line and of the capacitance of a series branch.
+/// Adds what a series branch acts as over the run, where that isn't what its card says.
+fn add_acting(out: &mut Vec<Warning>, case: &Case, branch: &Branch) -> Result<(), AllocError>
+    requires { IsBranch case.now.parts.run (sizes_of case.now.parts) case.now.parts.points branch.now }
+    ensures { OnOk result (AddsTo out.old.items (acting_warnings case.now.parts branch.now) out.new.items) }
+{
+    let run = &case.parts.run;
+    match branch {
+        Branch::Lumped(b) => add_series(out, run.dt, run.time(run.steps), b),
+        _ => Ok(()),
+    }
+}
+
+/// Adds the warnings of the travel time of a line, of the capacitance of a series branch and of an arrester at a line.
 fn add_values(out: &mut Vec<Warning>, case: &Case, branch: &Branch) -> Result<(), AllocError>
     ensures { OnOk result (AddsTo out.old.items (value_warnings case.now.parts branch.now) out.new.items) }
 {
@@ -92,6 +110,7 @@ fn add_values(out: &mut Vec<Warning>, case: &Case, branch: &Branch) -> Result<()
         ),
         line_row(line, late, Finding::LateTravel),
         line_row(line, is_small(branch), Finding::SmallCapacitance),
+        line_row(line, is_bare(&case.parts, branch), Finding::BareArrester),
     ];
     add_found(out, &rows)
 }

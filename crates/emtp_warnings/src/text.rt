@@ -1,12 +1,19 @@
 //! The text of warnings, a line each.
 
-ghost use Rattle.std.specs.Prelude.{◌≡◌, ◌++◌, IfOk, OnOk};
-ghost use Rattle.emtp_warnings.specs.WarningText.{finding_text, number_text, numbers_text, pair_text, piece, spot_text, warning_line, warnings_text};
+ghost use Rattle.std.specs.Prelude.{◌≡◌, ◌++◌, ◌≤◌, IfOk, OnOk};
+ghost use Rattle.emtp_warnings.specs.WarningText.{clean_text, drift_text, finding_text, number_text, numbers_text, pair_text, piece, quantity_text, spot_text, touching_text, warning_line, warnings_text};
 
 use crate::finding::{Finding, Spot, Warning};
+use crate::words::{
+    ACTING_CAPACITANCE, ACTS_AS_WIRE, AFTER_END, ASKED_TWICE, BARE_ARRESTER, CASE_ALONE, CLEAN,
+    DRIFT, DRIFTS, EARLY_COSINE, LATE_TRAVEL, LONE_NODE, MICROFARAD, MILLIHENRY, NEVER_ACTS,
+    NO_FREQUENCY, NO_UNIT, NODE_ZERO, NOT_READ, NUMBERS_TOUCH, OHM, OPENS_FIRST, OTHER_CAPACITANCE,
+    OTHER_RESISTANCE, SERIES_RESISTANCE, SHORT_TRAVEL, SIDE_BY_SIDE, SMALL_CAPACITANCE,
+    WHOLE_RESISTANCE,
+};
 use emtp_card::{Cards, columns, trim};
 use emtp_causes::field_name;
-use emtp_text::{put, put_number};
+use emtp_text::{put, put_fixed, put_number};
 use emtp_walk::{Kind, LineReading};
 use std::alloc::{AllocError, Global};
 
@@ -48,7 +55,7 @@ fn put_warning(
     put(text, b"\n")
 }
 
-/// Puts two numbers that touch after a text, as they are read, behind the names of their fields.
+/// Puts the numbers of a warning after a text.
 fn put_numbers(
     text: &mut Vec<u8>,
     cards: &Cards<'_>,
@@ -57,25 +64,91 @@ fn put_numbers(
 ) -> Result<(), AllocError>
     ensures { OnOk result (text.new.items ≡ text.old.items ++ numbers_text readings.now cards.now warning.now) }
 {
-    match (warning.spot, warning.finding) {
-        (
-            Spot::Columns {
-                line,
-                first: at,
-                last: next,
-            },
-            Finding::NumbersTouch { first, last },
-        ) => {
+    match &warning.finding {
+        Finding::NumbersTouch { first, last } => {
+            put_touching(text, cards, readings, &warning.spot, (*first, *last))
+        }
+        Finding::Drifts {
+            resistance,
+            drift,
+            clean,
+        } => put_drift(text, *resistance, *drift, *clean),
+        Finding::OtherResistance(acting) => put_quantity(text, WHOLE_RESISTANCE, *acting, 9, OHM),
+        Finding::OtherCapacitance(acting) => {
+            put_quantity(text, ACTING_CAPACITANCE, *acting, 9, MICROFARAD)
+        }
+        _ => Ok(()),
+    }
+}
+
+/// Puts two numbers that touch after a text, as they are read, behind the names of their fields: in the columns of a warning the
+/// first one's last byte and the second one's first, between the outer columns of both fields.
+fn put_touching(
+    text: &mut Vec<u8>,
+    cards: &Cards<'_>,
+    readings: &[LineReading],
+    spot: &Spot,
+    outer: (usize, usize),
+) -> Result<(), AllocError>
+    ensures { OnOk result (text.new.items ≡ text.old.items ++ touching_text readings.now cards.now spot.now outer.0 outer.1) }
+{
+    match spot {
+        Spot::Columns {
+            line,
+            first: at,
+            last: next,
+        } => {
             let before = line.saturating_sub(1) as usize;
             match (cards.lines().get(before), readings.get(before)) {
                 (Some(line), Some(read)) => {
-                    put_pair(text, line, read.kind, (first, at), (next, last))
+                    put_pair(text, line, read.kind, (outer.0, *at), (*next, outer.1))
                 }
                 _ => Ok(()),
             }
         }
         _ => Ok(()),
     }
+}
+
+/// Puts the resistance that a branch acts with after a text, what it does over the run, and the inductance that has none.
+#[tactic(auto, unfolding(crate::specs::WarningText::drift_text))]
+fn put_drift(
+    text: &mut Vec<u8>,
+    resistance: i64,
+    drift: i64,
+    clean: Option<i64>,
+) -> Result<(), AllocError>
+    ensures { OnOk result (text.new.items ≡ text.old.items ++ drift_text resistance drift clean) }
+{
+    put_quantity(text, SERIES_RESISTANCE, resistance, 9, OHM)?;
+    put_quantity(text, DRIFT, drift, 9, NO_UNIT)?;
+    put_clean(text, clean)
+}
+
+fn put_clean(text: &mut Vec<u8>, clean: Option<i64>) -> Result<(), AllocError>
+    ensures { OnOk result (text.new.items ≡ text.old.items ++ clean_text clean) }
+{
+    match clean {
+        None => Ok(()),
+        Some(l) => put_quantity(text, CLEAN, l, 6, MILLIHENRY),
+    }
+}
+
+/// Puts a number in parts of 10^-places after a text, between its name and its unit.
+#[tactic(auto, unfolding(crate::specs::WarningText::quantity_text))]
+fn put_quantity(
+    text: &mut Vec<u8>,
+    name: &[u8],
+    value: i64,
+    places: usize,
+    unit: &[u8],
+) -> Result<(), AllocError>
+    requires { places ≤ 18 }
+    ensures { OnOk result (text.new.items ≡ text.old.items ++ quantity_text name.now value places unit.now) }
+{
+    put(text, name)?;
+    put_fixed(text, value, places)?;
+    put(text, unit)
 }
 
 /// Puts the numbers of two fields after a text, each by its first and its last column.
@@ -149,21 +222,25 @@ fn finding_text(finding: Finding) -> &'static [u8]
     ensures { result.now ≡ finding_text finding }
 {
     match finding {
-        Finding::NotRead => b"not read",
-        Finding::NumbersTouch { .. } => b"two numbers touch",
-        Finding::LoneNode => b"no other branch, switch or source has the node",
-        Finding::NodeZero => b"node 0 is not ground",
-        Finding::CaseAlone => b"another node's name differs in case alone",
-        Finding::NoFrequency => b"cosine of frequency 0",
-        Finding::ShortTravel => b"travel time below two steps",
-        Finding::LateTravel => b"travel time after the end of the run",
-        Finding::SmallCapacitance => b"a capacitance below 1 pF; C is in uF",
-        Finding::SideBySide =>
-            b"closed beside a switch between the same nodes: one of the two carries nothing",
-        Finding::AfterEnd => b"after the end of the run",
-        Finding::EarlyCosine => b"every case starts at rest",
-        Finding::NeverActs => b"the source never acts",
-        Finding::OpensFirst => b"opens before it closes",
-        Finding::AskedTwice => b"asked for twice",
+        Finding::NotRead => NOT_READ,
+        Finding::NumbersTouch { .. } => NUMBERS_TOUCH,
+        Finding::LoneNode => LONE_NODE,
+        Finding::NodeZero => NODE_ZERO,
+        Finding::CaseAlone => CASE_ALONE,
+        Finding::NoFrequency => NO_FREQUENCY,
+        Finding::ShortTravel => SHORT_TRAVEL,
+        Finding::LateTravel => LATE_TRAVEL,
+        Finding::SmallCapacitance => SMALL_CAPACITANCE,
+        Finding::SideBySide => SIDE_BY_SIDE,
+        Finding::AfterEnd => AFTER_END,
+        Finding::EarlyCosine => EARLY_COSINE,
+        Finding::NeverActs => NEVER_ACTS,
+        Finding::OpensFirst => OPENS_FIRST,
+        Finding::AskedTwice => ASKED_TWICE,
+        Finding::Drifts { .. } => DRIFTS,
+        Finding::OtherResistance(_) => OTHER_RESISTANCE,
+        Finding::OtherCapacitance(_) => OTHER_CAPACITANCE,
+        Finding::ActsAsWire => ACTS_AS_WIRE,
+        Finding::BareArrester => BARE_ARRESTER,
     }
 }
