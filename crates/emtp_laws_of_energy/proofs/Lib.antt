@@ -1,0 +1,9 @@
+mod FictitiousDrops
+mod Courses
+mod SmallFictitious
+mod Drifts
+mod Energies
+mod Coils
+mod WorkedEnergy
+mod BranchSteps
+mod BranchRuns
