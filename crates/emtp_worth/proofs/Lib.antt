@@ -1,0 +1,6 @@
+mod Dues
+mod Ends
+mod Judging
+mod Lines
+mod Listing
+mod Worked

@@ -1,0 +1,6 @@
+-- what the clauses of the program say
+pub mod Characteristic
+pub mod Found
+pub mod Judged
+-- what values hold for their proofs
+pub mod held
