@@ -30,18 +30,18 @@ unread_status Failed = ReadFault
 unread_status Wanting = NoMemory
 
 -- what comes after the reading of a file, by its bytes or by why it couldn't be read
-abbrev pub TellsOf : Wanted → Result (Vec ℕ Global) ReadEnd → Status → CabinetState → CabinetState → Type 0
-TellsOf wanted (Ok bytes) status old new = EndsAfterReading status (told_outcome (told_of wanted bytes.items)) old new
-TellsOf wanted (Err end) status old new = (status ≡ unread_status end) × (new ≡ old)
+abbrev pub TellsOf : (List ℕ → Told) → Result (Vec ℕ Global) ReadEnd → Status → CabinetState → CabinetState → Type 0
+TellsOf told (Ok bytes) status old new = EndsAfterReading status (told_outcome (told bytes.items)) old new
+TellsOf told (Err end) status old new = (status ≡ unread_status end) × (new ≡ old)
 
--- a file is read, as the commands of `emtp` read theirs, and then what is wanted of it is told
-pub record Shows (wanted : Wanted) (name : List ℕ) (status : Status) (old new : CabinetState) : Type 0 where
+-- a file is read, as the commands of `emtp` read theirs, and then what its bytes give is told
+pub record Shows (told : List ℕ → Told) (name : List ℕ) (status : Status) (old new : CabinetState) : Type 0 where
   -- the cabinet once the file was read, and its bytes or why they aren't there
   pub between : CabinetState
   pub end : Result (Vec ℕ Global) ReadEnd
   pub reading : ReadsInputs (text_file name ∷ []) old between end
   pub bytes : IsTrue old.nature.tells → IfOk end (λ v. content old.nature.files (text_file name) ≡ Some v.items)
-  pub telling : TellsOf wanted end status between new
+  pub telling : TellsOf told end status between new
 
 -- words that don't fit leave the note of usage, and open no file
 pub record RefusesWords (status : Status) (old new : CabinetState) : Type 0 where
@@ -56,4 +56,4 @@ Explains (Some text) status old new = EndsAfterReading status (summarised text) 
 
 abbrev pub Inspects : Option (Wanted × List ℕ) → Option (List ℕ) → Status → CabinetState → CabinetState → Type 0
 Inspects None meaning status old new = Explains meaning status old new
-Inspects (Some a) meaning status old new = Shows a.0 a.1 status old new
+Inspects (Some a) meaning status old new = Shows (told_of a.0) a.1 status old new

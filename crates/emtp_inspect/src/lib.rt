@@ -28,6 +28,6 @@ mod showing;
 mod telling;
 mod words;
 
-pub use showing::inspect;
+pub use showing::{Teller, inspect, refuse_words, show};
 pub use telling::{Told, tell};
 pub use words::Wanted;

@@ -1,8 +1,8 @@
 //! The file that is read, and the output that is made.
-ghost use Rattle.std.specs.Prelude.{◌≡◌};
+ghost use Rattle.std.specs.Prelude.{◌≡◌, IfOk, List, ℕ};
 ghost use Rattle.emtp_inspect.specs.Asking.{asked, explained};
 ghost use Rattle.emtp_inspect.specs.Showing.{Explains, Inspects, RefusesWords, Shows, told_outcome, unread_status};
-ghost use Rattle.emtp_inspect.specs.Telling.{told_of};
+ghost use Rattle.emtp_inspect.specs.declared.telling.Told.{Told};
 ghost use Rattle.emtp_run.specs.held.Outcome.{EndsAfterReading};
 ghost use Rattle.emtp_run.specs.Words.{texts};
 
@@ -11,7 +11,31 @@ use crate::telling::{Told, tell};
 use crate::words::{Wanted, read_words};
 use emtp_io::{Cabinet, ReadEnd};
 use emtp_run::{Status, leave_summary, read_input, refuse, text_file, usage};
-use std::alloc::Global;
+use std::alloc::{AllocError, Global};
+
+/// What tells of the bytes of a file.
+pub trait Teller {
+    /// What it tells, by the bytes.
+    ghost told: { Self → List ℕ → Told };
+
+    /// Tells it.
+    ///
+    /// # Errors
+    ///
+    /// [`AllocError`] where memory is wanting.
+    fn tell(&self, alloc: Global, bytes: &[u8]) -> Result<Told, AllocError>
+        ensures { IfOk result (λ text. text ≡ told self.now bytes.now) };
+}
+
+impl Teller for Wanted {
+    ghost use Rattle.emtp_inspect.specs.Telling.{told_of};
+
+    ghost told = { told_of };
+
+    fn tell(&self, alloc: Global, bytes: &[u8]) -> Result<Told, AllocError> {
+        tell(alloc, *self, bytes)
+    }
+}
 
 /// Does what the words after the program's name ask for: the last word names the file of a case, which is read, and what
 /// was read is told with its warnings, or, behind the word `--count`, how many warnings there are. The status is Done where
@@ -21,7 +45,7 @@ pub fn inspect<C: Cabinet>(alloc: Global, words: &[String], cabinet: &mut C) -> 
         (C.state cabinet.new) }
 {
     match read_words(words) {
-        Some((wanted, name)) => show(alloc, wanted, name, cabinet),
+        Some((wanted, name)) => show(alloc, &wanted, name, cabinet),
         None => explain(alloc, words, cabinet),
     }
 }
@@ -38,18 +62,18 @@ fn explain<C: Cabinet>(alloc: Global, words: &[String], cabinet: &mut C) -> Stat
 }
 
 /// Makes the note of words that don't fit.
-fn refuse_words<C: Cabinet>(cabinet: &mut C) -> Status
+pub fn refuse_words<C: Cabinet>(cabinet: &mut C) -> Status
     ensures { RefusesWords result (C.state cabinet.old) (C.state cabinet.new) }
 {
     refuse(cabinet, Status::Usage, usage().as_slice())
 }
 
-/// Reads a file, and leaves what is told of it.
-fn show<C: Cabinet>(alloc: Global, wanted: Wanted, name: &str, cabinet: &mut C) -> Status
-    ensures { Shows wanted name.now result (C.state cabinet.old) (C.state cabinet.new) }
+/// Reads a file, and leaves what is told of it. The status is Done where it is an answer, BadCard where a card is refused.
+pub fn show<T: Teller, C: Cabinet>(alloc: Global, teller: &T, name: &str, cabinet: &mut C) -> Status
+    ensures { Shows (T.told teller.now) name.now result (C.state cabinet.old) (C.state cabinet.new) }
 {
     match read_input(alloc, text_file(name), cabinet) {
-        Ok(bytes) => leave(alloc, wanted, &bytes, cabinet),
+        Ok(bytes) => leave(alloc, teller, &bytes, cabinet),
         Err(end) => unread_status(end),
     }
 }
@@ -65,10 +89,10 @@ fn unread_status(end: ReadEnd) -> Status
 }
 
 /// Leaves what is told of these bytes, whole before any output is created.
-fn leave<C: Cabinet>(alloc: Global, wanted: Wanted, bytes: &[u8], cabinet: &mut C) -> Status
-    ensures { EndsAfterReading result (told_outcome (told_of wanted bytes.now)) (C.state cabinet.old) (C.state cabinet.new) }
+fn leave<T: Teller, C: Cabinet>(alloc: Global, teller: &T, bytes: &[u8], cabinet: &mut C) -> Status
+    ensures { EndsAfterReading result (told_outcome (T.told teller.now bytes.now)) (C.state cabinet.old) (C.state cabinet.new) }
 {
-    match tell(alloc, wanted, bytes) {
+    match teller.tell(alloc, bytes) {
         Ok(told) => leave_told(&told, cabinet),
         Err(_) => Status::NoMemory,
     }
