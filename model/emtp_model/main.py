@@ -11,13 +11,15 @@ from .cards import Bad
 from .deck import deck
 from .machine import history
 from .network import End
-from .record import cfg, dat, end_parts, note
+from .record import cfg, dat, end_parts, note, sample_lines
 from .trial import summary, trial_deck
 
 DONE, USAGE, BAD_CARD, ENDED, READ_FAULT, WRITE_FAULT = range(6)
 REFUSED, DIFFERS, BAD_ROW = 7, 8, 9
 CASE_BOUND = 9_000_001
 RECORD_BOUND = 64_000_001
+
+SAMPLES = b"judge\0--samples"  # a command of two words, as no word of a command line is
 
 # Command: (number of words behind it, how many of them from the first are names of files)
 COMMANDS = {
@@ -27,6 +29,7 @@ COMMANDS = {
     b"scan": (4, 1),
     b"audit": (3, 3),
     b"batch": (2, 2),
+    SAMPLES: (1, 1),
 }
 
 
@@ -50,8 +53,14 @@ def hertz(word: bytes) -> int | None:
     return int(word)
 
 
+def with_command(words: list[bytes]) -> list[bytes]:
+    """The words with a command of two words as one."""
+    return [SAMPLES, *words[2:]] if words[:2] == SAMPLES.split(b"\0") else words
+
+
 def fits(words: list[bytes]) -> bool:
     """Whether the words are those of a command."""
+    words = with_command(words)
     if not words or any(word == b"" or word.startswith(b"-") for word in words):
         return False
     if words[0] not in COMMANDS:
@@ -85,6 +94,7 @@ def outcome(words: list[bytes], trace: TextIO | None = None) -> tuple[int, list[
     """The status, and the outputs as a list of (name of a file, bytes), where None is standard output."""
     if not fits(words):
         return USAGE, [(None, b"USAGE\n")]
+    words = with_command(words)
     command = words[0]
     try:
         if command == b"trial":
@@ -103,6 +113,9 @@ def outcome(words: list[bytes], trace: TextIO | None = None) -> tuple[int, list[
             machine = history(case, trace)
             status = DONE if machine.end is None else ENDED
             return status, [(words[2], cfg(machine)), (words[3], dat(machine)), (None, note(machine))]
+        if command == SAMPLES:
+            machine = history(case, trace)
+            return DONE, [(None, note(machine) + sample_lines(machine))]
         if command == b"phasor":
             try:
                 return DONE, [(None, phasor_mod.phasor_text(case, phasor_mod.solve(case)))]

@@ -1,4 +1,4 @@
-"""The record as text: multipliers of channels, configuration, data, and the note of a run."""
+"""The record as text: multipliers of channels, configuration, data, the note of a run, and all digits of its samples."""
 from .fix import near, print_fixed
 from .machine import Machine
 from .network import End
@@ -67,3 +67,8 @@ def note(machine: Machine) -> bytes:
         return b"DONE STEPS %d SAMPLES %d REDONE %d\n" % (machine.done, samples, machine.redone)
     step, end = machine.end
     return b"ENDED STEP %d " % step + end_parts(end) + b" SAMPLES %d REDONE %d\n" % (samples, machine.redone)
+
+
+def sample_lines(machine: Machine) -> bytes:
+    """A line a sample, with the whole numbers of its channels."""
+    return "".join(" ".join(map(str, sample)) + "\n" for sample in machine.samples).encode()

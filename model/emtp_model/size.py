@@ -12,7 +12,7 @@ def size(words: list[str], files: dict[str, bytes]) -> int:
     if words[0] == "trial":
         return 2000 * 2 * int(words[1])
     try:
-        case = deck(files.get(words[1], b""))
+        case = deck(files.get(words[2 if words[0] == "judge" else 1], b""))
     except Bad:
         return 0
     parts = len(case.branches) + len(case.blocks) + len(case.extras) + 1
