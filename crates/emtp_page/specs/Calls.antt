@@ -1,5 +1,7 @@
 -- What holds of a call over files that a host hands over.
 use Rattle.std.specs.Prelude.{◌≡◌, ◌↔◌, ◌⊎◌, ℕ, true, List, None, IfSome, All}
+use Rattle.emtp_assess.specs.Asking.{question_in}
+use Rattle.emtp_assess.specs.Assessing.{Assesses}
 use Rattle.emtp_inspect.specs.Asking.{asked, explained}
 use Rattle.emtp_inspect.specs.Showing.{Inspects}
 use Rattle.emtp_io.specs.Cabinet.{CabinetState, Outputs}
@@ -47,6 +49,10 @@ pub record Keeps (words : List (List ℕ)) (status : Status) (old new : CabinetS
 -- what the clause of `inspect` says of these words
 abbrev pub Shows : List (List ℕ) → Status → CabinetState → CabinetState → Type 0
 Shows words status old new = Inspects (asked words) (explained words) status old new
+
+-- what the clause of `assess` says of these words
+abbrev pub JudgesRun : List (List ℕ) → Status → CabinetState → CabinetState → Type 0
+JudgesRun words status old new = Assesses (question_in words) status old new
 
 -- a call of which this is said was made over files of these names and bytes, with so much room for each output, and left this
 pub record Called (says : Status → CabinetState → CabinetState → Type 0) (files : List (List ℕ × List ℕ)) (room : ℕ)

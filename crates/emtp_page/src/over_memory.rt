@@ -1,9 +1,10 @@
 //! A call over a cabinet in memory.
 ghost use Rattle.std.specs.Prelude.{◌≢◌, AllPairs, IfOk, string_bytes};
-ghost use Rattle.emtp_page.specs.Calls.{Called, Keeps, Shows};
+ghost use Rattle.emtp_page.specs.Calls.{Called, JudgesRun, Keeps, Shows};
 ghost use Rattle.emtp_page.specs.Given.{named};
 ghost use Rattle.emtp_run.specs.Words.{texts};
 
+use emtp_assess::assess;
 use emtp_inspect::inspect;
 use emtp_io::MemoryCabinet;
 use emtp_run::{Status, emtp};
@@ -46,5 +47,20 @@ pub fn show(
 {
     let mut cabinet = MemoryCabinet::new(alloc, files, Vec::new(alloc), PIECE, room)?;
     let status = inspect(alloc, words, &mut cabinet);
+    Ok(Ran { status, cabinet })
+}
+
+/// Tells of a run what these words behind `judge` ask for, over these files.
+pub fn judge(
+    alloc: Global,
+    words: &[String],
+    files: Vec<(String, Vec<u8>)>,
+    room: usize,
+) -> Result<Ran, AllocError>
+    requires { AllPairs (λ a b. string_bytes a.0 ≢ string_bytes b.0) files.items }
+    ensures { IfOk result (λ ran. Called (JudgesRun (texts words.now)) (named files.items) room ran.status ran.cabinet.outputs) }
+{
+    let mut cabinet = MemoryCabinet::new(alloc, files, Vec::new(alloc), PIECE, room)?;
+    let status = assess(alloc, words, &mut cabinet);
     Ok(Ran { status, cabinet })
 }
