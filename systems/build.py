@@ -36,7 +36,7 @@ import page as pages  # noqa: E402  (beside this file)
 import wide  # noqa: E402
 
 CRATE = TOP / "crates" / "emtp_page"
-EXPORTS = ["emtp_page_call", "emtp_page_show"]
+EXPORTS = ["emtp_page_call", "emtp_page_show", "emtp_page_judge"]
 HEAP = {"rattle_alloc", "rattle_realloc", "rattle_dealloc"}
 STACK = 1 << 20  # bytes of the module's stack; it stands below all data, so that what needs more ends in a trap
 

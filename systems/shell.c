@@ -1,6 +1,6 @@
 // The program on a system for which the toolchain makes none: the words of its command line and C's files, around the proved
-// calls. `emtp WORDS` does what the program `emtp` does, and `emtp show WORDS` what `emtp_show` does, with their exit statuses.
-// Where a run isn't whole, it says on standard error what its status means.
+// calls. `emtp WORDS` does what the program `emtp` does, `emtp show WORDS` what `emtp_show` does, and `emtp judge WORDS` what
+// `emtp_judge` does, with their exit statuses. Where a run isn't whole, it says on standard error what its status means.
 //
 // It isn't proved. What it decides itself is which words name files that are read; whether words fit, what a status means, and all
 // else, the calls decide.
@@ -47,7 +47,7 @@ typedef struct {
 typedef void Call(const uint8_t *words, uint64_t, const uint8_t *names, uint64_t, const uint8_t *first, uint64_t,
                   const uint8_t *second, uint64_t, const uint8_t *third, uint64_t, uint64_t room, uint8_t *cfg, uint64_t,
                   uint8_t *dat, uint64_t, uint8_t *note, uint64_t, uint8_t *summary, uint64_t, Answer *answer);
-Call emtp_page_call, emtp_page_show;
+Call emtp_page_call, emtp_page_show, emtp_page_judge;
 
 static void *memory(uint64_t count) {
     void *place = malloc(count ? count : 1);
@@ -223,20 +223,20 @@ static int run(int count, Letter **given) {
         odd |= !words[at];
     }
     if (odd) count = 0;
-    bool shows = count > 0 && !strcmp(words[0], "show");
-    int skipped = shows;
+    bool shows = count > 0 && !strcmp(words[0], "show"), judges = count > 0 && !strcmp(words[0], "judge");
+    int skipped = shows || judges;
     stand_in(words, count);
     Bytes files[MOST_FILES] = {{0}}, names = {0};
     Bytes asked = lines(words + skipped, count - skipped);
     uint8_t *outputs[OUTPUTS];
-    Call *call = shows ? emtp_page_show : emtp_page_call;
+    Call *call = shows ? emtp_page_show : judges ? emtp_page_judge : emtp_page_call;
     // Over no files, words that don't fit are refused, and only those that name a file aren't answered.
     Answer answer = make(call, asked, names, files, outputs);
     if (answer.status == READ_FAULT) {
         // behind `show --told STATUS NOTE` stand the words of a run, of whose files some may not be there any more
         bool again = shows && count > 5 && !strcmp(words[1], "--told");
-        int first = again ? 5 : shows ? count - 1 : 1, read = 0;
-        int wanted = again ? count - first : shows ? 1 : files_of(words[0]);
+        int first = again ? 5 : skipped ? count - 1 : 1, read = 0;
+        int wanted = again ? count - first : skipped ? 1 : files_of(words[0]);
         char *named[MOST_FILES];
         for (int at = 0; at < wanted && read < MOST_FILES; at++) {
             bool is_record = wanted == 3 && at > 0;

@@ -1,14 +1,15 @@
 // ---- call: the words and files of a command, through the module
 
-// Makes one call: { show, words: [text], files: [{ name, bytes }], room }, and gives { status, cfg, dat, note, summary, ms,
+// Makes one call: { show, judge, words: [text], files: [{ name, bytes }], room }, and gives { status, cfg, dat, note, summary, ms,
 // memory }, each output as bytes, or null where it wasn't created. Each call has an instance of its own, so that it begins with
 // empty memory and leaves none.
-function callModule(module, { show, words, files, room }) {
+function callModule(module, { show, judge, words, files, room }) {
   const MOST_ROOM = 1 << 27, WRITE_FAULT = 5;
   const encoder = new TextEncoder();
   const lines = texts => encoder.encode(texts.map(text => text + "\n").join(""));
   for (room = Math.min(MOST_ROOM, room || 1 << 22); ; room = Math.min(MOST_ROOM, 8 * room)) {
-    const { memory, host_room, emtp_page_call, emtp_page_show } = new WebAssembly.Instance(module).exports;
+    const { memory, host_room, emtp_page_call, emtp_page_show, emtp_page_judge } = new WebAssembly.Instance(module).exports;
+    const call = show ? emtp_page_show : judge ? emtp_page_judge : emtp_page_call;
     const take = count => {
       const place = host_room(BigInt(count));
       if (!Number(place)) throw new RangeError("memory is wanting");
@@ -24,7 +25,7 @@ function callModule(module, { show, words, files, room }) {
     const rooms = [0, 1, 2, 3].map(() => take(room));
     const answer = take(72);
     const begun = performance.now();
-    (show ? emtp_page_show : emtp_page_call)(...places, BigInt(room), ...rooms.flatMap(place => [place, BigInt(room)]), answer);
+    call(...places, BigInt(room), ...rooms.flatMap(place => [place, BigInt(room)]), answer);
     const ms = performance.now() - begun;
     // the struct Answer: the status, and of each output whether it was created and its length
     const told = new DataView(memory.buffer, Number(answer), 72);
