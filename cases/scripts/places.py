@@ -9,11 +9,12 @@ TOP = os.path.dirname(os.path.dirname(SCRIPTS))
 
 
 def found():
-    """The programs emtp and emtp_show: those that EMTP and EMTP_SHOW name, else those that ./program finds."""
-    named = [os.environ.get("EMTP", ""), os.environ.get("EMTP_SHOW", "")]
+    """The programs emtp, emtp_show and emtp_judge: those that EMTP, EMTP_SHOW and EMTP_JUDGE name, else those that ./program
+    finds."""
+    named = [os.environ.get(name, "") for name in ("EMTP", "EMTP_SHOW", "EMTP_JUDGE")]
     if not all(named):
         told = subprocess.run(
-            [os.path.join(TOP, "program"), "emtp", "emtp_show"], stdout=subprocess.PIPE, check=False, encoding="utf-8"
+            [os.path.join(TOP, "program"), "emtp", "emtp_show", "emtp_judge"], stdout=subprocess.PIPE, check=False, encoding="utf-8"
         )
         if told.returncode:
             sys.exit(told.returncode)
@@ -21,16 +22,17 @@ def found():
     return [os.path.abspath(it) for it in named]
 
 
-PROGRAM, SHOWER = found()
+PROGRAM, SHOWER, JUDGE = found()
 
 
 def command_line(program, words):
     """What is run for the words of a row, where `program` is emtp: the program itself with them, or behind the word `show`
-    emtp_show with the others. That is the built one of the built program, and of another program the one beside it."""
-    if words[:1] != ["show"]:
+    emtp_show with the others, behind `judge` emtp_judge. That is the built one of the built program, and of another program the
+    one beside it."""
+    built = {"show": SHOWER, "judge": JUDGE}.get(words[0]) if words else None
+    if built is None:
         return [program] + words
-    shower = SHOWER if program == PROGRAM else os.path.join(os.path.dirname(program), "emtp_show")
-    return [shower] + words[1:]
+    return [built if program == PROGRAM else os.path.join(os.path.dirname(program), f"emtp_{words[0]}")] + words[1:]
 
 
 def folders():
