@@ -13,10 +13,11 @@
 //! - `words`: what the words ask for
 //! - `assessing`: the file that is read, and the output that is made
 //! - `telling`: the text that the bytes of a file give
-//! - `sample_lines`: the lines of the samples
+//! - `run_note`, `sample_lines`: the note of the run, the lines of its samples
 #![tactic(auto)]
 
 mod assessing;
+mod run_note;
 mod sample_lines;
 mod telling;
 mod words;

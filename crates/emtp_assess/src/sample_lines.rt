@@ -1,28 +1,14 @@
 //! Samples with all their digits: a line each.
-ghost use Rattle.std.specs.Prelude.{◌≡◌, ◌<◌, ◌++◌, length, IfOk, OnOk};
+ghost use Rattle.std.specs.Prelude.{◌≡◌, ◌<◌, ◌++◌, length, OnOk};
 ghost use Rattle.emtp_assess.specs.SampleLines.{sample_line, sample_lines, value_text};
 
 use emtp_machine::Samples;
 use emtp_text::{put, put_number};
-use std::alloc::{AllocError, Global};
+use std::alloc::AllocError;
 
-/// The note of a run, and behind it a line a sample: the whole numbers of its channels in the order of the record, parted by a
-/// blank, in nV, nA or 10^-9 of a unit, and 0 or 1 of a state.
-pub(crate) fn samples_text(
-    alloc: Global,
-    note: &[u8],
-    samples: &Samples,
-) -> Result<Vec<u8>, AllocError>
-    ensures { IfOk result (λ text. text.items ≡ note.now ++ sample_lines samples.now.rows samples.now.channels) }
-{
-    let mut text = Vec::new(alloc);
-    put(&mut text, note)?;
-    put_samples(&mut text, samples)?;
-    Ok(text)
-}
-
-/// Puts the lines of all samples after a text.
-fn put_samples(text: &mut Vec<u8>, samples: &Samples) -> Result<(), AllocError>
+/// Puts a line a sample after a text: the whole numbers of its channels in the order of the record, parted by a blank, in nV, nA
+/// or 10^-9 of a unit, and 0 or 1 of a state.
+pub(crate) fn put_samples(text: &mut Vec<u8>, samples: &Samples) -> Result<(), AllocError>
     ensures { OnOk result (text.new.items ≡ text.old.items ++ sample_lines samples.now.rows samples.now.channels) }
 {
     for sample in 0..samples.count() {

@@ -1,15 +1,19 @@
 //! The text that the bytes of a file give.
-ghost use Rattle.std.specs.Prelude.{◌≡◌, IfOk};
-ghost use Rattle.emtp_assess.specs.Telling.{judged_of, text_for};
-ghost use Rattle.emtp_run.specs.Note.{card_note};
+ghost use Rattle.std.specs.Prelude.{◌≡◌, ◌++◌, IfOk, length};
+ghost use Rattle.emtp_assess.specs.SampleLines.{sample_lines};
+ghost use Rattle.emtp_assess.specs.Telling.{judged_by, judged_of, text_for};
+ghost use Rattle.emtp_deck.specs.Deck.{deck_of};
+ghost use Rattle.emtp_run.specs.Note.{card_note, note_by};
 
-use crate::sample_lines::samples_text;
+use crate::run_note::put_note;
+use crate::sample_lines::put_samples;
 use crate::words::Question;
-use emtp_card::{Bad, Refused};
+use emtp_card::{Bad, Cards, Refused};
 use emtp_case::{Case, Items};
+use emtp_deck::read;
 use emtp_inspect::Told;
-use emtp_machine::Machine;
-use emtp_run::{bad_card, read_cards, run_note};
+use emtp_machine::{End, Machine, Samples};
+use emtp_run::bad_card;
 use emtp_text::put;
 use std::alloc::{AllocError, Global};
 
@@ -21,13 +25,19 @@ use std::alloc::{AllocError, Global};
 pub(crate) fn tell(alloc: Global, question: Question, bytes: &[u8]) -> Result<Told, AllocError>
     ensures { IfOk result (λ told. told ≡ judged_of question bytes.now) }
 {
-    match read_cards(alloc, bytes) {
-        Ok(case) => {
-            let told = tell_run(alloc, question, &case);
-            // A call, since a drop in place is proved here list by list.
-            drop(case);
-            told
-        }
+    match Cards::split(alloc, bytes) {
+        Ok(cards) => tell_cards(alloc, question, &cards),
+        Err(Refused::Bad(bad)) => tell_bad(alloc, &bad),
+        Err(Refused::NoMemory) => Err(AllocError),
+    }
+}
+
+/// What is told of the cards of a file.
+fn tell_cards(alloc: Global, question: Question, cards: &Cards<'_>) -> Result<Told, AllocError>
+    ensures { IfOk result (λ told. told ≡ judged_by question (deck_of cards.now)) }
+{
+    match read(alloc, cards) {
+        Ok(case) => tell_run(alloc, question, &case),
         Err(Refused::Bad(bad)) => tell_bad(alloc, &bad),
         Err(Refused::NoMemory) => Err(AllocError),
     }
@@ -57,10 +67,31 @@ fn tell_samples(alloc: Global, case: &Case) -> Result<Told, AllocError>
 {
     let mut machine = Machine::open(alloc, case)?;
     let end = machine.run_alone();
-    let samples = machine.samples();
-    let note = run_note(&end, machine.done(), samples.count(), machine.redone());
-    let text = samples_text(alloc, note.as_slice(), samples);
+    let text = samples_text(
+        alloc,
+        &end,
+        machine.done(),
+        machine.redone(),
+        machine.samples(),
+    );
     // A call, since a drop in place is proved here list by list.
     drop(machine);
     Ok(Told::Answer(Items::from_vec(text?)))
+}
+
+/// The note of a run, and behind it the lines of its samples.
+fn samples_text(
+    alloc: Global,
+    end: &Option<End>,
+    steps: u32,
+    redone: u64,
+    samples: &Samples,
+) -> Result<Vec<u8>, AllocError>
+    ensures { IfOk result (λ text. text.items
+        ≡ note_by end.now steps (length samples.now.rows) redone ++ sample_lines samples.now.rows samples.now.channels) }
+{
+    let mut text = Vec::new(alloc);
+    put_note(&mut text, end, steps, samples.count(), redone)?;
+    put_samples(&mut text, samples)?;
+    Ok(text)
 }

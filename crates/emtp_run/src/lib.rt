@@ -25,10 +25,10 @@ mod text;
 mod trial;
 mod words;
 
-pub use note::{bad_card, run_note, usage};
+pub use note::{bad_card, usage};
 pub use outputs::{leave_summary, refuse};
 pub use reading::{InputFile, read_input, text_file};
-pub use run::{emtp, read_cards};
+pub use run::emtp;
 pub use status::Status;
 pub use trial::trial_deck;
 pub use words::{BatchWords, RunWords, ScanWords, Words, is_name, read_words};

@@ -70,7 +70,7 @@ pub fn differs(differs: &Differs) -> Text
 }
 
 /// The note of a run of so many steps and samples, with the end of the step after them, if it came.
-pub fn run_note(end: &Option<End>, steps: u32, samples: u32, redone: u64) -> Text
+pub fn of_run(end: &Option<End>, steps: u32, samples: u32, redone: u64) -> Text
     ensures { result.items ≡ note_by end.now steps samples redone }
 {
     let mut note = Text::new();

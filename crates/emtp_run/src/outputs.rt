@@ -101,7 +101,7 @@ fn make_record<C: Cabinet>(
 {
     let samples = results.samples;
     let multipliers = scales(case, samples);
-    let text = note::run_note(results.end, results.steps, samples.count(), results.redone);
+    let text = note::of_run(results.end, results.steps, samples.count(), results.redone);
     make_cfg(cabinet, words.cfg, case, samples, &multipliers)?;
     make_dat(cabinet, words.dat, case, samples, &multipliers)?;
     make_note(cabinet, text.as_slice())

@@ -132,7 +132,7 @@ fn work<C: Cabinet>(
 }
 
 /// The case of these bytes.
-pub fn read_cards(alloc: Global, bytes: &[u8]) -> Result<Case, Refused>
+fn read_cards(alloc: Global, bytes: &[u8]) -> Result<Case, Refused>
     ensures ok { IfOk result (λ case. deck bytes.now ≡ Ok case.parts) }
     ensures bad { IfErr result (λ refused. IfBad refused (λ bad. deck bytes.now ≡ Err bad)) }
 {
