@@ -58,3 +58,19 @@ explained_note (first ∷ one ∷ two ∷ three ∷ next ∷ more) = None
 abbrev pub explained : List (List ℕ) → Option (List ℕ)
 explained [] = None
 explained (first ∷ rest) = if bytes_eq first (codes "--misfit") then Some (misfit_text rest) else explained_note (first ∷ rest)
+
+-- ---- a run that was made
+
+-- the number of its status, its note without the end of the line, and its words
+pub record PastRun : Type 0 where
+  pub status : List ℕ
+  pub note : List ℕ
+  pub words : List (List ℕ)
+
+-- a run of which is asked what its status means
+abbrev pub past_run : List (List ℕ) → Option PastRun
+past_run [] = None
+past_run (first ∷ []) = None
+past_run (first ∷ status ∷ []) = None
+past_run (first ∷ status ∷ note ∷ words) =
+    if bytes_eq first (codes "--told") then Some (record { status = status; note = note; words = words }) else None

@@ -7,3 +7,5 @@ pub mod Telling
 -- and what the words ask for, and how a call ends that tells it
 pub mod Asking
 pub mod Showing
+pub mod AfterRun
+pub mod Inspecting

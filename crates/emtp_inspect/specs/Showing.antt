@@ -54,6 +54,7 @@ abbrev pub Explains : Option (List ℕ) → Status → CabinetState → CabinetS
 Explains None status old new = RefusesWords status old new ⊎ ((status ≡ NoMemory) × (new ≡ old))
 Explains (Some text) status old new = EndsAfterReading status (summarised text) old new
 
-abbrev pub Inspects : Option (Wanted × List ℕ) → Option (List ℕ) → Status → CabinetState → CabinetState → Type 0
-Inspects None meaning status old new = Explains meaning status old new
-Inspects (Some a) meaning status old new = Shows (told_of a.0) a.1 status old new
+-- by what the words ask of a file, or else what they mean
+abbrev pub ShowsOrExplains : Option (Wanted × List ℕ) → Option (List ℕ) → Status → CabinetState → CabinetState → Type 0
+ShowsOrExplains None meaning status old new = Explains meaning status old new
+ShowsOrExplains (Some a) meaning status old new = Shows (told_of a.0) a.1 status old new

@@ -1,11 +1,13 @@
 //! The file that is read, and the output that is made.
 ghost use Rattle.std.specs.Prelude.{◌≡◌, IfOk, List, ℕ};
-ghost use Rattle.emtp_inspect.specs.Asking.{asked, explained};
-ghost use Rattle.emtp_inspect.specs.Showing.{Explains, Inspects, RefusesWords, Shows, told_outcome, unread_status};
+ghost use Rattle.emtp_inspect.specs.Asking.{asked, explained, past_run};
+ghost use Rattle.emtp_inspect.specs.Inspecting.{Inspects};
+ghost use Rattle.emtp_inspect.specs.Showing.{Explains, RefusesWords, Shows, ShowsOrExplains, told_outcome, unread_status};
 ghost use Rattle.emtp_inspect.specs.declared.telling.Told.{Told};
 ghost use Rattle.emtp_run.specs.held.Outcome.{EndsAfterReading};
 ghost use Rattle.emtp_run.specs.Words.{texts};
 
+use crate::after_run::tell_after;
 use crate::explaining::explained;
 use crate::telling::{Told, tell};
 use crate::words::{Wanted, read_words};
@@ -37,11 +39,25 @@ impl Teller for Wanted {
     }
 }
 
-/// Does what the words after the program's name ask for: the last word names the file of a case, which is read, and what
-/// was read is told with its warnings, or, behind the word `--count`, how many warnings there are. The status is Done where
-/// it is a case, BadCard where a card is refused, and Usage where the words don't fit.
+/// Does what the words after the program's name ask for. The last word names the file of a case, which is read, and what was
+/// read is told with its warnings, or, behind the word `--count`, how many warnings there are; the status is Done where it is a
+/// case, and BadCard where a card is refused. Behind `--told`, the number of a status and a note stand the words of a run, and
+/// what came of it is told. The status is Usage where the words don't fit.
 pub fn inspect<C: Cabinet>(alloc: Global, words: &[String], cabinet: &mut C) -> Status
-    ensures { Inspects (asked (texts words.now)) (explained (texts words.now)) result (C.state cabinet.old)
+    ensures { Inspects (past_run (texts words.now)) (asked (texts words.now)) (explained (texts words.now)) result
+        (C.state cabinet.old) (C.state cabinet.new) }
+{
+    match words {
+        [first, status, note, behind @ ..] if first.as_str() == "--told" => {
+            tell_after(alloc, status.as_str(), note.as_bytes(), behind, cabinet)
+        }
+        _ => show_or_explain(alloc, words, cabinet),
+    }
+}
+
+/// Tells of the file that the words name, or what they mean.
+fn show_or_explain<C: Cabinet>(alloc: Global, words: &[String], cabinet: &mut C) -> Status
+    ensures { ShowsOrExplains (asked (texts words.now)) (explained (texts words.now)) result (C.state cabinet.old)
         (C.state cabinet.new) }
 {
     match read_words(words) {
@@ -79,7 +95,7 @@ pub fn show<T: Teller, C: Cabinet>(alloc: Global, teller: &T, name: &str, cabine
 }
 
 /// How it ends where a file wasn't read.
-fn unread_status(end: ReadEnd) -> Status
+pub(crate) fn unread_status(end: ReadEnd) -> Status
     ensures { result ≡ unread_status end }
 {
     match end {

@@ -2,8 +2,8 @@
 use Rattle.std.specs.Prelude.{◌≡◌, ◌↔◌, ◌⊎◌, ℕ, true, List, None, IfSome, All}
 use Rattle.emtp_assess.specs.Asking.{question_in}
 use Rattle.emtp_assess.specs.Assessing.{Assesses}
-use Rattle.emtp_inspect.specs.Asking.{asked, explained}
-use Rattle.emtp_inspect.specs.Showing.{Inspects}
+use Rattle.emtp_inspect.specs.Asking.{asked, explained, past_run}
+use Rattle.emtp_inspect.specs.Inspecting.{Inspects}
 use Rattle.emtp_io.specs.Cabinet.{CabinetState, Outputs}
 use Rattle.emtp_io.specs.held.Cabinet.{no_outputs}
 use Rattle.emtp_io.specs.held.Files.{File, file_named}
@@ -48,7 +48,7 @@ pub record Keeps (words : List (List ℕ)) (status : Status) (old new : CabinetS
 
 -- what the clause of `inspect` says of these words
 abbrev pub Shows : List (List ℕ) → Status → CabinetState → CabinetState → Type 0
-Shows words status old new = Inspects (asked words) (explained words) status old new
+Shows words status old new = Inspects (past_run words) (asked words) (explained words) status old new
 
 -- what the clause of `assess` says of these words
 abbrev pub JudgesRun : List (List ℕ) → Status → CabinetState → CabinetState → Type 0
