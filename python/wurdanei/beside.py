@@ -27,7 +27,8 @@ def draw(found: Comparison, path: str) -> None:
 def _may_be(it: Compared) -> tuple[np.ndarray, np.ndarray]:
     """Between what measured less case has to lie: the band about the case, and the tolerance on either side."""
     most = it.wanted.tolerance / 100 * float(np.max(abs(it.measured)))
-    return it.low - it.case - most, it.high - it.case + most
+    low, high = it.band
+    return low - it.case - most, high - it.case + most
 
 
 def _verdict(it: Compared) -> str:
@@ -54,7 +55,7 @@ def _picture(found: Comparison, path: str) -> None:
     )
     for it, (upper,), (lower,) in zip(found.pairs, panes[::2], panes[1::2]):
         at = 1e3 * it.times
-        upper.fill_between(at, it.low, it.high, color=CASE, alpha=0.2, linewidth=0, label="band of the case")
+        upper.fill_between(at, *it.band, color=CASE, alpha=0.2, linewidth=0, label="band of the case")
         upper.plot(at, it.measured, color=MEASURED, linewidth=1.3, label=plain(f"measured {it.wanted.measured}"))
         upper.plot(at, it.case, color=CASE, linewidth=0.8, label=plain(f"case {it.wanted.case}"))
         upper.set_title(plain(_verdict(it)), fontsize="medium", loc="left")
@@ -88,7 +89,7 @@ def _page(found: Comparison, path: str) -> None:
     )
     for place, it in enumerate(found.pairs):
         upper, lower = 2 * place + 1, 2 * place + 2
-        _band(figure, upper, it.times, it.low, it.high, "rgba(0,114,178,.2)")
+        _band(figure, upper, it.times, *it.band, "rgba(0,114,178,.2)")
         _curve(figure, upper, it.times, it.measured, f"measured {it.wanted.measured}", MEASURED, it.unit)
         _curve(figure, upper, it.times, it.case, f"case {it.wanted.case}", CASE, it.unit)
         _band(figure, lower, it.times, *_may_be(it), "rgba(0,158,115,.25)")

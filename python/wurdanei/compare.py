@@ -7,7 +7,7 @@ docs/compare.md has the definitions and a worked study.
 import argparse
 import math
 import sys
-from dataclasses import dataclass
+from dataclasses import dataclass, field
 
 import numpy as np
 
@@ -15,57 +15,89 @@ from . import align, measures
 from .drawing import base_unit
 from .lowpass import lowpass
 from .record import Record, RecordError, read
+from .resample import even_spacing
 
 FEWEST = 10  # samples in common
 LEAST = 1e-12  # magnitude of a factor
 
 
-class CompareError(Exception):
+class CompareError(ValueError):
     """Why two records can't be compared, in words."""
 
 
 @dataclass(frozen=True)
 class Wanted:
     """A line of the table of pairs: the names of two channels, the factor of the measured one (None: it is found by
-    least squares) and the tolerance in %."""
+    least squares) and the tolerance in %. CompareError where one of them is out of its range."""
 
     case: str
     measured: str
     factor: float | None = 1.0
     tolerance: float = 5.0
 
-
-@dataclass(frozen=True)
-class Compared:
-    """A pair that was compared. The curves have the shape (samples,), at the measured instants `times`, in s of the case;
-    `low` and `high` are the band of the case; `measured` is multiplied by `factor`. Percentages are of the measured curve.
-    """
-
-    wanted: Wanted
-    unit: str
-    factor: float
-    times: np.ndarray
-    case: np.ndarray
-    measured: np.ndarray
-    low: np.ndarray
-    high: np.ndarray
-    rms: float  # %
-    peak: float  # %
-    beyond: float  # %
-    share: float  # % of samples
-    shift: float  # s, from the common one
-    features: measures.Features
+    def __post_init__(self) -> None:
+        if not (self.factor is None or LEAST <= abs(self.factor) <= 1 / LEAST) or not 0 <= self.tolerance <= 1 / LEAST:
+            raise CompareError(
+                f"a factor's magnitude is from {LEAST:g} to {1 / LEAST:g}, and a tolerance isn't below 0 %; "
+                f"here they are {self.factor} and {self.tolerance}"
+            )
 
     @property
     def name(self) -> str:
         """Both names."""
-        same = self.wanted.case == self.wanted.measured
-        return self.wanted.case if same else f"{self.wanted.case} | {self.wanted.measured}"
+        return self.case if self.case == self.measured else f"{self.case} | {self.measured}"
+
+
+@dataclass(frozen=True)
+class Compared:
+    """A pair that was compared, over `span` of its measured samples, at a shift in s. Percentages are of the measured
+    curve."""
+
+    wanted: Wanted
+    unit: str
+    factor: float
+    rms: float  # %
+    peak: float  # %
+    beyond: float  # %
+    share: float  # % of samples
+    shift: float  # s, from the common one; nan where nothing tells it
+    features: measures.Features
+    pair: align.Pair = field(repr=False)
+    span: slice = field(repr=False)
+    common: float = field(repr=False)  # the common shift, s
+
+    @property
+    def name(self) -> str:
+        """Both names."""
+        return self.wanted.name
 
     @property
     def within(self) -> bool:
         """Neither the effective difference nor the greatest one beyond the band is above the tolerance."""
         return max(self.rms, self.beyond) <= self.wanted.tolerance
+
+    # Curves, each made when it is asked for: shape (samples,), at the measured instants.
+
+    @property
+    def times(self) -> np.ndarray:
+        """The measured instants in s of the case."""
+        return self.pair.times[self.span] - self.common
+
+    @property
+    def case(self) -> np.ndarray:
+        """The case's curve."""
+        return self.pair.case_beside(self.span, self.common)
+
+    @property
+    def measured(self) -> np.ndarray:
+        """The measured curve times its factor."""
+        values = self.pair.values[self.span]
+        return values * self.factor if self.pair.free else values
+
+    @property
+    def band(self) -> tuple[np.ndarray, np.ndarray]:
+        """The least and the greatest value that the case has within one measured sample of each instant."""
+        return measures.band(self.pair.case_times, self.pair.case_values, self.times, self.pair.step)
 
 
 @dataclass(frozen=True)
@@ -111,12 +143,10 @@ def wanted_pairs(path: str, tolerance: float) -> list[Wanted]:
             most = _finite(limit) if limit else tolerance
         except ValueError as fault:
             raise CompareError(f"{path}, line {number}: {fault} is no number") from None
-        if not (value is None or LEAST <= abs(value) <= 1 / LEAST) or not 0 <= most <= 1 / LEAST:
-            raise CompareError(
-                f"{path}, line {number}: a factor's magnitude is from {LEAST:g} to {1 / LEAST:g}, "
-                "and a tolerance isn't below 0 %"
-            )
-        found.append(Wanted(fields[0], fields[1], value, most))
+        try:
+            found.append(Wanted(fields[0], fields[1], value, most))
+        except CompareError as fault:
+            raise CompareError(f"{path}, line {number}: {fault}") from None
     if not found:
         raise CompareError(f"{path} names no pair")
     return found
@@ -158,11 +188,13 @@ def _curve(record: Record, name: str, whose: str) -> tuple[np.ndarray, np.ndarra
     good = np.isfinite(values)
     if good.sum() < 2 or 2 * good.sum() < len(values):
         raise CompareError(f"{name} of {whose}: {len(values) - good.sum()} of its {len(values)} values are missing")
-    times, values = times[good], values[good]
+    if not good.all():
+        times, values = times[good], values[good]
     if not (np.diff(times) > 0).all():
         raise CompareError(f"{name} of {whose}: its times don't rise")
     scale, unit = base_unit(record.units[record.names.index(name)].strip())
-    return times, values * scale, unit
+    values *= scale
+    return times, values, unit
 
 
 def _filtered(times: np.ndarray, values: np.ndarray, corner: float) -> tuple[np.ndarray, np.ndarray]:
@@ -190,13 +222,15 @@ def laid_pair(
         )
     if missing := measured.missing(wanted.measured):
         told.append(f"{wanted.measured}: {missing} missing values are left out")
-    if corner:
+    if corner is not None:
         case_times, case_values = _filtered(case_times, case_values, corner)
-    if np.median(np.diff(case_times)) > 1.001 * np.median(np.diff(times)):
+    if wanted.factor is not None:
+        values *= wanted.factor
+    pair = align.Pair(case_times, case_values, times, values, wanted.factor is None, wanted.name)
+    if pair.case_step > 1.001 * pair.step:
         told.append(
             f"{wanted.case} has fewer samples a second than {wanted.measured}: between them it is taken as straight"
         )
-    pair = align.Pair(case_times, case_values, times, values * (wanted.factor or 1.0), wanted.factor is None)
     return pair, unit, told
 
 
@@ -205,35 +239,46 @@ def laid_pair(
 
 def _compared(pair: align.Pair, wanted: Wanted, unit: str, shift: float, window: tuple[float, float]) -> Compared:
     those = pair.inside(shift, window)
-    if those.sum() < FEWEST:
+    if those.stop - those.start < FEWEST:
         raise CompareError(
-            f"{wanted.case}, {wanted.measured}: they have {those.sum()} samples in common, fewer than {FEWEST}"
+            f"{wanted.case}, {wanted.measured}: they have {those.stop - those.start} samples in common, fewer than "
+            f"{FEWEST}"
         )
     times = pair.times[those] - shift
-    case, measured = pair.case_at(times), pair.values[those]
+    case, measured = pair.case_beside(those, shift), pair.values[those]
     found = align.factor_of(case, measured) if pair.free else 1.0
     measured = measured * found
-    step = float(np.median(np.diff(pair.times)))
-    low, high = measures.band(pair.case_times, pair.case_values, times, step)
+    low, high = measures.band(pair.case_times, pair.case_values, times, pair.step)
     off, peak = measures.beyond(measured, low, high), float(np.max(abs(measured)))
-    even = times[0] + step * np.arange(int((times[-1] - times[0]) / step * (1 + 1e-12)) + 1)
-    reach = 2 * min(step, float(np.median(np.diff(pair.case_times))))
+    if even_spacing(pair.times):
+        beside = case, measured
+    else:
+        even = times[0] + pair.step * np.arange(int((times[-1] - times[0]) / pair.step * (1 + 1e-12)) + 1)
+        beside = pair.case_at(even), np.interp(even, times, measured)
     return Compared(
         wanted=wanted,
         unit=unit,
         factor=found if wanted.factor is None else wanted.factor,
-        times=times,
-        case=case,
-        measured=measured,
-        low=low,
-        high=high,
         rms=measures.rms_difference(case, measured),
         peak=measures.peak_difference(case, measured),
         beyond=measures.percent(float(np.max(off)), peak),
         share=100 * float(np.mean(off > wanted.tolerance / 100 * peak)),
-        shift=align.refined([pair], shift, reach, window) - shift,
-        features=measures.features(pair.case_at(even), np.interp(even, times, measured)),
+        shift=_own_shift(pair, shift, window),
+        features=measures.features(*beside),
+        pair=pair,
+        span=those,
+        common=shift,
     )
+
+
+def _own_shift(pair: align.Pair, shift: float, window: tuple[float, float]) -> float:
+    """The shift of this pair alone, less the common one, in s; nan where nothing tells it."""
+    if not (np.ptp(pair.case_values) and np.ptp(pair.values)):
+        return math.nan
+    try:
+        return align.refined([pair], shift, 2 * max(pair.step, pair.case_step), window) - shift
+    except align.AlignError:
+        return math.nan
 
 
 def compare(
@@ -243,16 +288,22 @@ def compare(
     shift: float | None = None,
     window: tuple[float, float] = (-math.inf, math.inf),
     corner: float | None = None,
+    clock: float = 0.0,
 ) -> Comparison:
     """Compares the pairs of two records.
 
     `shift` is the measured time less the case's, in s; without one it is found. `window` is (begin, end) in s of the
-    case, `corner` that of the recorder's input filter in Hz, through which the case goes. CompareError where it can't.
+    case, `corner` that of the recorder's input filter in Hz, through which the case goes. `clock` is by which part the
+    measured clock gains on the case's (1e-6: a ppm); its times are taken less so much. CompareError where it can't.
     """
+    if not pairs:
+        raise CompareError("no pair of channels is named")
+    if not abs(clock) < 1:
+        raise CompareError(f"a clock gains by a part of the time, and {clock:g} is none")
     laid, units, told = [], [], [*(f"case: {it}" for it in case.told), *(f"measured: {it}" for it in measured.told)]
     for wanted in pairs:
         pair, unit, words = laid_pair(case, measured, wanted, corner)
-        laid.append(pair)
+        laid.append(align.with_clock(pair, clock))
         units.append(unit)
         told += words
     try:
@@ -260,7 +311,18 @@ def compare(
     except align.AlignError as fault:
         raise CompareError(str(fault)) from None
     its = [_compared(*it, found.seconds, window) for it in zip(laid, pairs, units)]
-    return Comparison(found, its, told)
+    return Comparison(found, its, told + found.told + [words for it in its for words in _scaled(it)])
+
+
+def _scaled(it: Compared) -> list[str]:
+    """That another factor explains most of a difference that is beyond its tolerance."""
+    if it.pair.free or it.within:
+        return []
+    case, measured = it.case, it.measured
+    other = align.factor_of(case, measured)
+    if 2 * measures.rms_difference(case, other * measured) > measures.rms_difference(case, measured):
+        return []
+    return [f"{it.name}: least squares find the factor {other * it.factor:.5g}, which explains most of the difference"]
 
 
 # ---- words
@@ -342,6 +404,9 @@ Exit status: 0 where all pairs are WITHIN their tolerance, 1 where one is BEYOND
     words.add_argument(
         "--to", metavar="T", dest="end", type=float, help="seconds of the case up to which it is compared"
     )
+    words.add_argument(
+        "--clock", metavar="PPM", type=float, default=0.0, help="so much the measured clock gains on the case's"
+    )
     words.add_argument("--lowpass", metavar="HZ", type=float, help="corner of the recorder's input filter")
     words.add_argument(
         "--tolerance", metavar="PERCENT", type=float, default=5.0, help="where PAIRS names none; %(default)s"
@@ -363,6 +428,8 @@ def _checked(words: argparse.Namespace) -> tuple[float | None, tuple[float, floa
         raise CompareError("--from is a number of seconds below that of --to")
     if words.lowpass is not None and not 0 < words.lowpass < math.inf:
         raise CompareError("--lowpass is a number of hertz above 0")
+    if not abs(words.clock) < 1e6:
+        raise CompareError("--clock is a number of ppm below a million")
     if not 0 <= words.tolerance < math.inf:
         raise CompareError("--tolerance is a number of % from 0 on")
     if words.out and not words.out.endswith((".png", ".html")):
@@ -379,7 +446,7 @@ def main(words: list[str]) -> int:
         pairs = (
             wanted_pairs(given.pairs, given.tolerance) if given.pairs else equal_names(case, measured, given.tolerance)
         )
-        found = compare(case, measured, pairs, shift, window, given.lowpass)
+        found = compare(case, measured, pairs, shift, window, given.lowpass, 1e-6 * given.clock)
         for line in found.told:
             print(f"emtp compare: {line}", file=sys.stderr)
         print(listing(found), flush=True)

@@ -7,6 +7,7 @@ measured curve. docs/compare.md has their definitions in formulas, with their so
 from typing import NamedTuple
 
 import numpy as np
+from scipy import fft
 
 NOTHING = 1e-9  # of the greatest magnitude: a part of a curve below it is what transforms round to
 
@@ -45,18 +46,10 @@ def band(
     ends = np.stack([np.interp(it, case_times, case_values) for it in (begin, end)])
     low, high = ends.min(0), ends.max(0)
     first, last = np.searchsorted(case_times, begin), np.searchsorted(case_times, end)
-    count = last - first
-    least = greatest = case_values
-    for level in range(int(count.max()).bit_length()):
-        # least[k] and greatest[k] are over 2**level samples from k on: two such spans cover each count of that length
-        those = (count >= 1 << level) & (count < 2 << level)
-        for place in (first[those], last[those] - (1 << level)):
-            low[those] = np.minimum(low[those], least[place])
-            high[those] = np.maximum(high[those], greatest[place])
-        if len(least) <= 1 << level:
-            break
-        least = np.minimum(least[: -(1 << level)], least[1 << level :])
-        greatest = np.maximum(greatest[: -(1 << level)], greatest[1 << level :])
+    some = last > first
+    spans = np.stack([first, last], axis=1)[some].ravel()
+    low[some] = np.minimum(low[some], np.minimum.reduceat(np.append(case_values, np.inf), spans)[::2])
+    high[some] = np.maximum(high[some], np.maximum.reduceat(np.append(case_values, -np.inf), spans)[::2])
     return low, high
 
 
@@ -78,13 +71,17 @@ def features(case: np.ndarray, measured: np.ndarray) -> Features:
 
     IEEE 1597.1-2008; A. P. Duffy et al., IEEE Transactions on Electromagnetic Compatibility 48 (2006), 449 to 459.
     """
+    if np.array_equal(case, measured):  # of which a transform of both would leave its rounding
+        return Features(0.0, 0.0, 0.0)
     samples, least = len(case), NOTHING * float(max(np.max(abs(case)), np.max(abs(measured))))
-    spectra = [np.fft.rfft(it) for it in (case, measured)]
-    place = np.arange(len(spectra[0]))
-    turn = min(_turn(it) for it in spectra)
+    both = fft.fft(case + 1j * measured)  # both spectra by one transform
+    half = np.arange(samples // 2 + 1)
+    mirrored = np.conj(both[-half])
+    turn = min(_turn(both[half] + mirrored), _turn(both[half] - mirrored))
+    place = np.minimum(np.arange(samples), samples - np.arange(samples))
     rest, slow = place >= 4, np.clip((turn + 3 - place) / 6, 0, 1)
-    shares = (1 - rest, rest * slow, rest * (1 - slow))
-    parts = [[np.fft.irfft(it * share, samples) for it in spectra] for share in shares]
+    parts = [[it.real, it.imag] for it in (fft.ifft(both * share) for share in (1 - rest, rest * slow))]
+    parts.append([whole - offset - low for whole, offset, low in zip((case, measured), *parts)])
     offsets, lows, highs = ([it if np.max(abs(it)) > least else 0 * it for it in its] for its in parts)
     low_slopes, high_slopes = ([np.gradient(it) for it in its] for its in (lows, highs))
     high_bends = [np.gradient(it) for it in high_slopes]

@@ -85,7 +85,8 @@ class Record:
 
     def times_of(self, name: str) -> np.ndarray:
         """The times of a channel's values, its skew applied: shape (samples,), float64, s."""
-        return self.times if name in self.state_names else self.times + self.skew(name)
+        skew = 0.0 if name in self.state_names else self.skew(name)
+        return self.times + skew if skew else self.times
 
     def states(self, name: str) -> np.ndarray:
         """States of a status channel: shape (samples,), uint8, 0 or 1."""
