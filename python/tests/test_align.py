@@ -77,6 +77,95 @@ class Seeded(unittest.TestCase):
         self.assertLess(abs(align.fitted(pairs).seconds - 0.06), 10e-6)
 
 
+def jump(times: np.ndarray, at: float = 0.05) -> np.ndarray:
+    """A 50 Hz wave in V that falls to 0.7 at a moment and rings at 640 Hz behind it: a jump of 0.3 of it and 40 kV."""
+    after = np.clip(times - at, 0, None)
+    ring = 4e4 * np.exp(-after / 0.008) * np.cos(2 * np.pi * 640 * after)
+    return np.where(times < at, 1, 0.7) * 3e5 * np.cos(curves.OMEGA * times - 0.4) + np.where(times < at, 0, ring)
+
+
+class Jumps(unittest.TestCase):
+    """Curves that jump between two samples, without a filter, recorded more slowly than the case is sampled."""
+
+    case = np.arange(20001) * 1e-5
+
+    def test_shift_of_records_by_formula(self):
+        """Eleven records of 1 to 5 kHz, begun 20 ms after the case, one of them 3.3 us later: right to 0.1 us."""
+        rows = [(rate, 0.0) for rate in (1000, 1200, 1600, 2000, 2400, 3200, 3840, 4000, 4800, 5000)]
+        for rate, late in [*rows, (4800, 3.3e-6)]:
+            with self.subTest(rate=rate, late=late):
+                times = np.arange(int(0.16 * rate)) / rate
+                pair = align.Pair(self.case, jump(self.case), times, jump(times + 0.02 + late))
+                self.assertLess(abs(align.fitted([pair]).seconds + 0.02 + late), 0.1e-6)
+
+    def test_deviation_of_noisy_records(self):
+        """Sixty records, seeds 0 to 59: event, begin and rate at random, 0.5 % noise."""
+        inside = 0
+        for seed in range(60):
+            chance = np.random.default_rng(seed)
+            event, late = chance.uniform(0.04, 0.06), chance.uniform(0, 2e-4)
+            rate = chance.choice([1000, 1200, 2000, 2400, 3840, 4800, 5000])
+            times = np.arange(int(0.16 * rate)) / rate
+            values = jump(times + 0.02 + late, event)
+            values = values + chance.normal(0, 0.005 * abs(values).max(), len(values))
+            shift = align.fitted([align.Pair(self.case, jump(self.case, event), times, values)])
+            error = abs(shift.seconds + 0.02 + late)
+            inside += error <= 3 * shift.deviation
+            self.assertLessEqual(error, max(3 * shift.deviation, 5e-6), seed)
+        self.assertGreaterEqual(inside, 58)
+
+    def test_the_search_goes_on_where_it_ends(self):
+        """From 3 ms beside the truth, with a reach of 0.1 ms."""
+        times = np.arange(800) / 5000
+        pair = align.Pair(self.case, jump(self.case), times, jump(times + 0.02))
+        found = align.refined([pair], -0.017, 1e-4, (-np.inf, np.inf))
+        self.assertLess(abs(found + 0.02), 0.1e-6)
+
+    def test_a_search_without_an_end_is_an_error(self):
+        """A ramp beside one that is far above it fits ever better the later it is laid."""
+        pair = align.Pair(self.case, self.case * 1.0, self.case[:1000], self.case[:1000] + 1e3)
+        with self.assertRaisesRegex(align.AlignError, "the best shift isn't found: beyond"):
+            align.refined([pair], -0.05, 1e-5, (-np.inf, np.inf))
+
+
+class Causes(unittest.TestCase):
+    """What explains a poor fit is told."""
+
+    case = np.arange(20001) * 1e-5
+
+    def test_a_clock_that_gains(self):
+        """100 ppm in 2 s are 200 us."""
+        case = np.arange(40001) * 5e-5
+        wave = lambda at: np.cos(curves.OMEGA * at) * (1 + 0.3 * np.sin(3 * at)) + 0.2 * np.cos(
+            7 * at * at
+        )  # noqa: E731
+        times = np.arange(9000) / 4800
+        for gain in (1e-4, -5e-5):
+            pair = align.Pair(case, wave(case), times, wave(times / (1 + gain) + 0.02), name="V X")
+            shift = align.fitted([pair])
+            self.assertIn(f"the measured clock gains {1e6 * gain:+.0f} ppm", shift.told[0])
+            right = align.fitted([align.with_clock(pair, gain)])
+            self.assertEqual(right.told, [])
+            self.assertLess(abs(right.seconds + 0.02), 0.1e-6)
+
+    def test_a_polarity_that_is_turned(self):
+        times = np.arange(700) / 4800
+        pairs = [
+            align.Pair(self.case, jump(self.case), times, sign * jump(times + 0.02), name=name)
+            for name, sign in (("V A", 1), ("V B", -1), ("V C", 1))
+        ]
+        told = align.fitted(pairs).told
+        self.assertRegex(told[0], r"^with the polarity of V B turned .* far better, at a shift of -20\.\d+ ms$")
+        self.assertEqual(align.fitted([pairs[0], pairs[2]]).told, [])
+
+    def test_an_overlap_that_is_too_short(self):
+        """A record that begins 120 ms into a case of 200 ms shares 80 ms, half of its own 160 ms."""
+        times = np.arange(768) / 4800
+        pair = align.Pair(self.case, jump(self.case, 0.15), times, jump(times + 0.12, 0.15))
+        told = align.fitted([pair]).told
+        self.assertRegex(told[-1], r"^at a shift of -120\.\d+ ms .* less than 80 % .* --align -0\.1")
+
+
 class Waves(unittest.TestCase):
     """What formulas say of plain waves."""
 

@@ -15,6 +15,7 @@ import curves  # noqa: E402
 import numpy as np  # noqa: E402
 from wurdanei import compare, measures, program  # noqa: E402
 from wurdanei.lowpass import lowpass  # noqa: E402
+from wurdanei.write import Channel, Content, write  # noqa: E402
 
 TURN = 2 * np.pi * np.arange(4000) / 4000
 
@@ -192,6 +193,38 @@ class Command(unittest.TestCase):
             self.assertEqual(status, 0)
             self.assertIn("drawn: ", out)
             self.assertTrue((self.place / name).read_bytes().startswith(begins))
+
+    def test_the_shift_of_a_pair(self):
+        """A channel that is late beside two others is told as late as it is, less a third of it that all get."""
+        times = np.arange(20001) * 1e-5
+        names = {"V A": 0.0, "V B": 0.0, "V C": 1.0}
+        ring = lambda at: np.cos(curves.OMEGA * at) + 0.3 * np.cos(2 * np.pi * 130 * at + 1)  # noqa: E731
+        curves.write_float(str(self.place / "one"), 1e-5, {it: ("V", ring(times)) for it in names})
+        for late in (10e-6, 50e-6, 200e-6, 500e-6):
+            its = {it: ("V", ring(np.arange(768) / 4800 - own * late + 0.02)) for it, own in names.items()}
+            seen = [Channel(it, unit, values) for it, (unit, values) in its.items()]
+            write(str(self.place / "late.cfg"), Content(np.arange(768) / 4800, seen, rates=[(4800, 768)]))
+            one, other = (curves.read(str(self.place / it)) for it in ("one.cfg", "late.cfg"))
+            found = compare.compare(one, other, compare.equal_names(one, other, 5.0))
+            self.assertLess(abs(found.pairs[2].shift + found.shift.seconds + 0.02 - late), 1e-6)
+
+    def test_what_the_interface_refuses(self):
+        case, measured = (curves.read(str(self.place / it)) for it in ("case.cfg", "measured.cfg"))
+        for factor, tolerance in ((0.0, 5.0), (np.nan, 5.0), (np.inf, 5.0), (1.0, np.nan), (1.0, -1.0)):
+            with self.assertRaisesRegex(compare.CompareError, "a factor's magnitude is from 1e-12 to 1e"):
+                compare.Wanted("V BUS", "U_L1", factor, tolerance)
+        with self.assertRaisesRegex(ValueError, "no pair of channels is named"):
+            compare.compare(case, measured, [])
+        with self.assertRaisesRegex(compare.CompareError, "a corner is above 0 Hz, and 0 Hz isn't"):
+            compare.compare(case, measured, [compare.Wanted("V BUS", "U_L1")], corner=0)
+        with self.assertRaisesRegex(compare.CompareError, "a clock gains by a part of the time"):
+            compare.compare(case, measured, [compare.Wanted("V BUS", "U_L1")], clock=np.nan)
+
+    def test_a_factor_that_explains_a_difference_is_told(self):
+        (self.place / "pairs10").write_text("V BUS,U_L1,10\nI BUS-LINE,I_L1,-1\n")
+        status, _, told = self.run_words("case.cfg", "measured.cfg", "pairs10", "--lowpass", "1500")
+        self.assertEqual(status, 1)
+        self.assertRegex(told, r"V BUS \| U_L1: least squares find the factor (1|0\.99\d*|1\.00\d*), which explains")
 
     def test_refusals(self):
         tables = {
