@@ -713,7 +713,7 @@ def fault_of(expected: Expected, line: listing.Line, cards: list[str]) -> str | 
     ranges = {name: number.within(cards[0]) for name, number in expected.numbers.items()}
     ranges |= expected.made(cards) if expected.made else {}
     for name, (low, high) in ranges.items():
-        value = line[name]
+        value = line.exact(name)
         if name == "angle" and isinstance(value, Decimal):
             value += 360 * round((Decimal((low + high) / 2) - value) / 360)  # listed from 0 to 360 degrees
         unit = (

@@ -4,18 +4,28 @@ answers.
 Where the program isn't built, the tests that need an answer of it are left out.
 """
 
+import concurrent.futures
 import contextlib
 import io
 import math
 import os
 import pathlib
+import signal
+import subprocess
+import sys
 import tempfile
+import time
 import unittest
+import warnings
+from unittest import mock
 
 import numpy as np
 
 from wurdanei import listing, program
-from wurdanei.case import Case, CaseError, Refused
+from wurdanei.case import Case, CaseError, EndedEarly, Refused
+from wurdanei.record import read
+
+PACKAGE = pathlib.Path(__file__).resolve().parents[1]
 
 CASES = pathlib.Path(__file__).parents[2] / "cases" / "shown"
 needs_program = unittest.skipUnless(program.is_there(), "the program isn't built, so it answers nothing")
@@ -432,7 +442,7 @@ class CompoundCalls(unittest.TestCase):
             case.series("Y", r_ohm=100)
             case.cosine("SRC", amplitude_v=1000, hz=50, phase_deg=-90)
             case.output("Y")
-            found = case.run()
+            found = case.run(early="keep")
             self.assertEqual(case.end_of_run is not None or abs(found.channel("V Y")).max() > 1e5, rings)
 
     @needs_program
@@ -499,14 +509,18 @@ class Page(unittest.TestCase):
         (names,) = [line.partition("# ")[2] for line in lines if "record.names" in line]
         self.assertEqual(printed.getvalue().splitlines()[0], names)
         # at most twice the crest, less what the arrester takes; 190 kV is its level at 1 A
-        self.assertRegex(printed.getvalue().splitlines()[1], r"^19\d{4}\.0 \[\]$")
+        self.assertRegex(printed.getvalue().splitlines()[1], r"^19\d{4}\.\d+ None$")
 
 
 @needs_program
 class Answers(unittest.TestCase):
     def test_a_record(self) -> None:
-        found = line_and_breaker().run()
-        self.assertEqual((found.names, found.told), (["V BUS", "V SEND", "V FAR", "I BUS-SEND"], []))
+        case = line_and_breaker()
+        found = case.run()
+        self.assertEqual(found.names, ["V BUS", "V SEND", "V FAR", "I BUS-SEND"])
+        steps = "values are those of 16 bits: V BUS by 10 V, V SEND by 10 V, V FAR by 10 V, I BUS-SEND by 0.02 A"
+        self.assertEqual(case.run(record=True).told, [steps])
+        self.assertEqual(found.told, [] if program.has_judge() else [steps])
         self.assertEqual(found.channel("V FAR").shape, (501,))
         # both are those of examples/README.md, by hand
         at = np.searchsorted(found.times, 5.76e-3 - 1e-9)
@@ -518,7 +532,7 @@ class Answers(unittest.TestCase):
         case.series("B", r_ohm=1)
         case.step("A", amplitude_v=9e8)
         case.output("B")
-        found = case.run()
+        found = case.run(early="keep")
         self.assertEqual(case.end_of_run.cause, "RANGE")
         self.assertEqual(len(found.times), case.end_of_run.step)
         self.assertRegex(found.told[0], r"^the run ended in step \d+ .*RANGE at [AB]: .*A-B at 500 A\): peak_a cuts it")
@@ -666,6 +680,258 @@ class Answers(unittest.TestCase):
                     if line.kind[:4] != "asks"
                 ],
             )
+
+
+RIPPLE = """#!/usr/bin/python3
+import math, sys
+assert sys.argv[1] == "--samples" and open(sys.argv[2]).read().startswith("BEGIN NEW DATA CASE")
+print("DONE STEPS 200 SAMPLES 201 REDONE 0")
+for k in range(201):
+    print(400_000_000_000_000 + round(3e9 * math.sin(2 * math.pi * k / 100)), -5 * k, 7 * k, k % 2)
+"""
+
+
+class AllDigits(unittest.TestCase):
+    """What `emtp_judge --samples` tells of a run is answered to the last digit."""
+
+    def setUp(self) -> None:
+        room = tempfile.TemporaryDirectory()
+        self.addCleanup(room.cleanup)
+        self.room = pathlib.Path(room.name)
+
+    def stand_in(self, text: str) -> None:
+        """A program in place of emtp_judge."""
+        path = self.room / "judge"
+        path.write_text(text)
+        path.chmod(0o755)
+        changed = mock.patch.dict(os.environ, EMTP_JUDGE=str(path))
+        changed.start()
+        self.addCleanup(changed.stop)
+        self.addCleanup(program._has_judge.cache_clear)
+        self.addCleanup(program._found.cache_clear)
+
+    def case(self) -> Case:
+        """400 kV dc with a ripple of 3 V at 1 kHz, behind 1 ohm."""
+        case = Case(1e-5, 2e-3)
+        case.control.step("DC", 4e5)
+        case.control.cosine("AC", 3, hz=1000, phase_deg=-90)
+        case.control.formula("N", "DC+AC")
+        case.control.output("AC")
+        case.series("N", "M", r_ohm=1)
+        case.switch("M", ask="i")
+        case.driven("N")
+        case.output("N")
+        return case
+
+    def test_of_a_program_that_stands_in(self) -> None:
+        self.stand_in(RIPPLE)
+        case = self.case()
+        found = case.run(early="raise")
+        self.assertEqual((found.names, found.state_names), (["V N", "I M-0", "T AC"], ["S M-0"]))
+        self.assertEqual((found.units, found.told, found.path), (["V", "A", "PU"], [], ""))
+        self.assertEqual(found.steps, {"V N": 1e-9, "I M-0": 1e-9, "T AC": 1e-9})
+        ripple = 3 * np.sin(2 * np.pi * np.arange(201) / 100)
+        self.assertLess(abs(found.channel("V N") - 4e5 - ripple).max(), 1e-9 + 1e-10)
+        np.testing.assert_allclose(found.times, np.arange(201) * 1e-5, rtol=1e-12)
+        np.testing.assert_allclose(found.channel("T AC"), 7e-9 * np.arange(201))
+        self.assertEqual(found.states("S M-0").tolist(), [k % 2 for k in range(201)])
+
+    @needs_program
+    def test_a_record_is_written_besides(self) -> None:
+        self.stand_in(RIPPLE)
+        found = self.case().run(save=self.room / "x" / "ripple")
+        self.assertEqual(sorted(os.listdir(self.room / "x")), ["ripple.case", "ripple.cfg", "ripple.dat"])
+        self.assertEqual((found.path, found.steps["V N"]), (str(self.room / "x" / "ripple.cfg"), 1e-9))
+        self.assertEqual(self.case().run(record=True).steps["V N"], 20.0)
+
+    def test_an_early_end(self) -> None:
+        self.stand_in("#!/bin/sh\necho ENDED STEP 2 RANGE N SAMPLES 2 REDONE 0\necho 0 0 0 0\necho 1 2 3 1\n")
+        case = self.case()
+        with self.assertWarnsRegex(RuntimeWarning, "the run ended in step 2 .2e-05 s., RANGE at N"):
+            found = case.run()
+        self.assertEqual((len(found.times), case.end_of_run.name), (2, "N"))
+
+    def test_what_is_no_answer(self) -> None:
+        for text in ("echo DONE", "echo DONE; echo 1 2 3", "echo DONE; echo 1 2 3 x", "printf 'DONE\\n1 2 3 4'"):
+            self.stand_in(f"#!/bin/sh\n{text}\n")
+            with self.assertRaisesRegex(ValueError, "emtp_judge answered .* and 4 a line are wanted|ended with status"):
+                self.case().run()
+
+    def test_a_refusal(self) -> None:
+        self.stand_in("#!/bin/sh\necho BAD CARD LINE 5 COLUMN 3 REASON 1 BadName\nexit 2\n")
+        with self.assertRaises(Refused) as raised:
+            self.case().run()
+        self.assertEqual((raised.exception.line, raised.exception.reason), (5, "BadName"))
+
+    @unittest.skipUnless(program.is_there() and program.has_judge(), "emtp_judge isn't built")
+    def test_a_ripple_of_3_v_on_400_kv(self) -> None:
+        """It comes back to 1 uV; sources of the control are one step late."""
+        found = self.case().run().channel("V N")
+        at = np.arange(1, 201)
+        hand = 4e5 + 3 * np.sin(2 * np.pi * (at - 1) / 100)
+        self.assertLess(abs(found[2:] - hand[1:]).max(), 1e-6)
+
+
+@needs_program
+class Runs(unittest.TestCase):
+    """Runs that end otherwise than whole, and what is kept of them."""
+
+    def ending(self) -> Case:
+        """A case whose control divides by 0 at once."""
+        case = Case(1e-3, 1e-2)
+        case.series("A", r_ohm=1)
+        case.control.formula("X", "1./ZERO")
+        case.output("A")
+        return case
+
+    def test_an_early_end_is_a_warning_or_an_error(self) -> None:
+        with self.assertWarnsRegex(RuntimeWarning, "the run ended in step .* TACSRANGE at X"):
+            self.ending().run()
+        with self.assertRaisesRegex(EndedEarly, "TACSRANGE at X") as raised:
+            self.ending().run(early="raise")
+        self.assertEqual((raised.exception.end.cause, len(raised.exception.record.times)), ("TACSRANGE", 1))
+        with warnings.catch_warnings():
+            warnings.simplefilter("error")
+            self.assertIn("TACSRANGE at X", self.ending().run(early="keep").told[0])
+        with self.assertRaisesRegex(CaseError, "early is 'warn', 'raise' or 'keep', and here 'no'"):
+            self.ending().run(early="no")
+
+    def test_two_runs_that_save_to_one_name(self) -> None:
+        """Each of eight threads is answered its own values, and the files that stay are of one run."""
+
+        def peak(volts: int) -> float:
+            case = Case(1e-4, 1e-2)
+            case.series("A", r_ohm=1)
+            case.step("A", amplitude_v=volts)
+            case.output("A")
+            return float(case.run(save=os.path.join(room, "same")).channel("V A").max())
+
+        with tempfile.TemporaryDirectory() as room:
+            with concurrent.futures.ThreadPoolExecutor(8) as pool:
+                found = list(pool.map(peak, range(1, 65)))
+            np.testing.assert_allclose(found, range(1, 65), rtol=2e-5)
+            self.assertEqual(sorted(os.listdir(room)), ["same.case", "same.cfg", "same.dat"])
+            own = read(os.path.join(room, "same.cfg")).channel("V A").max()
+            self.assertIn(f"11A{own:16g}.", pathlib.Path(room, "same.case").read_text())
+
+    def test_names_that_are_no_stem(self) -> None:
+        for name in ("", "out/", ".", "out/.."):
+            with self.assertRaisesRegex(CaseError, "save is a folder and a stem, .* has no stem"):
+                line_and_breaker().run(save=name)
+
+    def test_a_run_that_takes_too_long(self) -> None:
+        with self.assertRaisesRegex(TimeoutError, "was ended, since it took longer than 1e-06 s"):
+            line_and_breaker().run(timeout=1e-6)
+
+    def test_what_is_set_on_a_case(self) -> None:
+        case = line_and_breaker()
+        for name in ("dt", "end", "every", "steps"):
+            with self.assertRaisesRegex(AttributeError, f"{name} stands on the cards of a case from its start"):
+                setattr(case, name, 1e-3)
+        with self.assertRaisesRegex(AttributeError, "a Case has no evry that could be set"):
+            case.evry = 3
+        self.assertEqual((case.dt, case.every, case.steps), (1e-5, 8, 4000))
+        self.assertEqual(repr(case), "<Case of 4,000 steps of 1e-05 s: 4 nodes, 4 branches, 1 switches, 1 sources>")
+
+    def test_signals_leave_nothing(self) -> None:
+        """A script that a scheduler ends leaves neither its program nor a file."""
+        case = (
+            "import os, sys\nfrom wurdanei.case import Case\n"
+            "case = Case(1e-6, 1.0, 1000)\ncase.series('A', r_ohm=1)\ncase.cosine('A', amplitude_v=1, hz=50)\n"
+            "for k in range(400):\n    case.series('A', f'B{k}', r_ohm=1, l_mh=1)\n    case.series(f'B{k}', c_uf=1)\n"
+            "case.output('A')\nprint('runs', flush=True)\ncase.run()\nprint('done')\n"
+        )
+        for number in (signal.SIGTERM, signal.SIGHUP, signal.SIGKILL):
+            before = set(os.listdir(program.scratch() or "/tmp"))
+            ran = subprocess.Popen([sys.executable, "-c", case], stdout=subprocess.PIPE, text=True, cwd=PACKAGE)
+            self.assertEqual(ran.stdout.readline(), "runs\n")
+            child = None
+            for _ in range(200):
+                time.sleep(0.02)
+                children = pathlib.Path(f"/proc/{ran.pid}/task/{ran.pid}/children").read_text().split()
+                if children and "emtp" in pathlib.Path(f"/proc/{children[0]}/comm").read_text():
+                    child = children[0]
+                    break
+            self.assertIsNotNone(child)
+            ran.send_signal(number)
+            self.assertEqual(ran.communicate(timeout=10)[0], "")
+            for _ in range(100):
+                if not os.path.exists(f"/proc/{child}"):
+                    break
+                time.sleep(0.02)
+            self.assertFalse(os.path.exists(f"/proc/{child}/exe"), number)
+            made = {it for it in os.listdir(program.scratch() or "/tmp") if it.startswith("wurdanei.")} - before
+            self.assertEqual(made, set())
+
+
+class Noise(unittest.TestCase):
+    """What is below half of the last digit that a field keeps is 0, and told."""
+
+    def test_times_and_values_of_noise(self) -> None:
+        case = Case(1e-5, 1e-3)
+        case.series("A", "B", r_ohm=1e-12, l_mh=1)
+        case.switch("A", "B", close_s=0.1 * 3 - 0.3)
+        case.cosine("A", amplitude_v=np.sin(np.pi), hz=50, phase_deg=1e-14)
+        case.control.table("T", "TIMEX", points=[(1e-13, 0), (1, 1)])
+        case.waveform("B", times_s=[0.0, 1.04e-5, 2e-5], values=[0, 1, 2])
+        self.assertIn("A-B: T-CLOSE = 5.551115123125783e-17 becomes 0 s, 1 of it lost in 10 columns", case.told)
+        self.assertEqual(len([it for it in case.told if "1 of it lost" in it]), 5)
+        self.assertIn("  A     B             0.", cards(case))
+        for closing in np.arange(-0.3, 0.31, 0.1):
+            case.switch("A", close_s=closing)
+
+    def test_where_0_means_something_else(self) -> None:
+        case = Case(1e-5, 1e-3)
+        for write in (
+            lambda: case.series("A", r_ohm=1, c_uf=1e-10),
+            lambda: case.control.block("X", "TIMEX", gain=1e-13),
+            lambda: case.line("A", "B", zc_ohm=1e-9, tau_us=10),
+        ):
+            with self.assertRaises(CaseError):
+                write()
+
+
+class Errors(unittest.TestCase):
+    """Errors are those that Python's users wait for."""
+
+    def test_of_words(self) -> None:
+        case = Case(1e-5, 1e-3)
+        case.series("A", "B", r_ohm=1)
+        case.switch("A", close_s=0.0)
+        case.output("A")
+        for words, write in (
+            ("a row of a batch has times in s", lambda: case.batch([np.inf])),
+            ("closings are times in s, and here .'a'.", lambda: case.batch(["a"])),
+            ("are numbers", lambda: case.waveform("B", times_s="ab", values=[1, 2])),
+            ("a formula is a text, and here 5", lambda: case.control.formula("X", 5)),
+            ("points are pairs of current and voltage, and here None", lambda: case.arrester("A", points=None)),
+            ("point 1 has two numbers", lambda: case.arrester("A", points=[1, 2])),
+        ):
+            with self.subTest(words), self.assertRaisesRegex(CaseError, words):
+                write()
+
+    @needs_program
+    def test_of_names(self) -> None:
+        case = Case(1e-5, 1e-3)
+        case.series("A", r_ohm=1)
+        case.switch("A", close_s=0.0)
+        case.cosine("A", amplitude_v=1, hz=50)
+        case.output("A")
+        found, peaks = case.steady(), case.batch([0.0])
+        for kind in (KeyError, ValueError):
+            with self.assertRaisesRegex(kind, "^no node 'NOPE' is in the answer; there is A$"):
+                found["NOPE"]
+            with self.assertRaisesRegex(kind, "^no channel 'NOPE' is in the answer; there is V A$"):
+                peaks.channel("NOPE")
+            with self.assertRaisesRegex(kind, "^the record: no analog channel 'NOPE'; it has V A$"):
+                case.run(early="keep").channel("NOPE")
+
+    @needs_program
+    def test_listings_have_floats(self) -> None:
+        case = Case(1e-5, 1e-3)
+        case.line("A", "B", zc_ohm=300, tau_us=100)
+        case.step("A", amplitude_v=1)
+        self.assertEqual(case.show().of("line")[0]["travel time"] - 1e-4, 0.0)
 
 
 def control_by_methods() -> Case:

@@ -18,7 +18,8 @@ class Listing(unittest.TestCase):
         found = shown("shown_lines_and_arresters")
         self.assertEqual(found.nodes, ["SA", "RA", "SB", "RB", "SC", "RC", "FAR", "GA", "GB"])
         (line,) = found.of("line")
-        self.assertEqual((line.line, line.name("BUS1"), line["travel time"]), (8, "RA", Decimal("0.0005")))
+        self.assertEqual((line.line, line.name("BUS1"), line.exact("travel time")), (8, "RA", Decimal("0.0005")))
+        self.assertEqual(line["travel time"] - 1e-4, 0.0005 - 1e-4)  # numbers are floats
         (arrester,) = found.of("nonlinear resistor")
         self.assertEqual([point["voltage"] for point in arrester.below], [200000, 350000])
         self.assertEqual([arrester.name("BUS2"), arrester["BUS2"]], ["", ""])
@@ -29,7 +30,8 @@ class Listing(unittest.TestCase):
 
     def test_units_stand_behind_numbers(self) -> None:
         entry = listing.Entry("R", "10.2 ohm")
-        self.assertEqual((entry.value, entry.unit), (Decimal("10.2"), "ohm"))
+        self.assertEqual((entry.value, entry.exact, entry.unit), (10.2, Decimal("10.2"), "ohm"))
+        self.assertIs(type(entry.value), float)
         self.assertEqual(listing.Entry("nodes", "3 of 1000").value, 3)
         self.assertEqual(listing.Entry("step", None).value, None)
 
@@ -38,7 +40,7 @@ class Listing(unittest.TestCase):
         (block,) = found.of("block")
         self.assertEqual(block.all("input"), ["+SENSE", "-BIAS"])
         self.assertEqual([it.kind for it in block.below], ["numerator", "denominator"])
-        self.assertEqual(block.below[1]["s^1"], Decimal("0.01"))
+        self.assertEqual(block.below[1]["s^1"], 0.01)
         self.assertEqual(len(found.of("device")[0].below), 2)
         tree = (".OR.", (".GT.", "FILTER", "0.25"), (".NOT.", "GATE"))
         self.assertEqual(listing.tree_of(found.of("formula")[0]), tree)

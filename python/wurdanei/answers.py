@@ -7,6 +7,7 @@ from dataclasses import dataclass, field
 import numpy as np
 
 from .draft import Call, CaseError
+from .record import Record
 
 BAD_CARD = re.compile(r"^BAD CARD LINE (\d+) COLUMN (\d+) REASON (\d+) (\w+)$", re.MULTILINE)
 REFUSED = re.compile(r"^REFUSED LINE (\d+) REASON (\d+) (\w+)$", re.MULTILINE)
@@ -66,6 +67,19 @@ class Refused(CaseError):
         )
 
 
+class UnknownName(CaseError, KeyError):
+    """A name that an answer doesn't have."""
+
+    __str__ = CaseError.__str__
+
+
+def _place(name: str, names: list[str], what: str) -> int:
+    """The place of a name in an answer."""
+    if name not in names:
+        raise UnknownName(f"no {what} {name!r} is in the answer; there is {', '.join(names[:40]) or 'none'}")
+    return names.index(name)
+
+
 @dataclass(frozen=True)
 class End:
     """The early end of a run: its step and time in s, its cause, and the node or variable that is named."""
@@ -78,6 +92,15 @@ class End:
     def __str__(self) -> str:
         why = CAUSES.get(self.cause, self.cause)
         return f"the run ended in step {self.step} ({self.time:g} s), {self.cause} at {self.name}: {why}"
+
+
+class EndedEarly(CaseError):
+    """A run that ended early, where it was asked to be an error: `end` says where and why, `record` has the samples
+    before it."""
+
+    def __init__(self, words: str, end: End, record: Record) -> None:
+        self.end, self.record = end, record
+        super().__init__(words)
 
 
 @dataclass(frozen=True)
@@ -94,7 +117,7 @@ class Steady:
     volts: np.ndarray = field(repr=False)
 
     def __getitem__(self, node: str) -> complex:
-        return complex(self.volts[self.nodes.index(node)])
+        return complex(self.volts[_place(node, self.nodes, "node")])
 
 
 @dataclass(frozen=True)
@@ -125,7 +148,7 @@ class Batch:
 
     def channel(self, name: str) -> np.ndarray:
         """The peaks of a channel: shape (rows,)."""
-        return self.peaks[:, self.names.index(name)]
+        return self.peaks[:, _place(name, self.names, "channel")]
 
 
 def end_of(note: str, dt: float) -> End | None:

@@ -15,24 +15,31 @@ a `CaseError` that names the call; what the program refuses all the same is a `R
 besides.
 """
 
+from __future__ import annotations
+
+import contextlib
 import difflib
+import fcntl
 import os
 import pathlib
 import typing
+import warnings
 
 import numpy as np
 
-from . import columns, fields, listing, program, record
+from . import columns, fields, listing, program
 from .answers import (
     BAD_CARD,
     CAUSES,
     REFUSED,
     UNSOLVED,
     Batch,
+    EndedEarly,
     End,
     Refused,
     Scan,
     Steady,
+    UnknownName,
     batch_of,
     end_of,
     scan_of,
@@ -42,10 +49,27 @@ from .compound import Compound, after
 from .control import Control
 from .draft import STANDING, Call, CaseError, Draft, Switch, Written, joined
 from .fields import FieldError
+from .record import Record, computed, distinct, read
+from .samples import whole_values
+from .write import put
 
-__all__ = ["Case", "CaseError", "Refused", "End", "Steady", "Scan", "Batch", "Switch"]
+__all__ = [
+    "Batch",
+    "Case",
+    "CaseError",
+    "End",
+    "EndedEarly",
+    "Refused",
+    "Scan",
+    "Steady",
+    "Switch",
+    "UnknownName",
+]
 
+NOTHING = "nothing was said"
+STATUSES = {4: "the case can't be read", 5: "what it prints can't be written", 6: "there isn't enough memory"}
 MOST_STEPS, MOST_VALUES, MOST_CHANNELS, MOST_HISTORY, MOST_ROWS = 1_000_000, 4_000_000, 64, 2_000_000, 1000
+UNITS = {"V": "V", "U": "V", "I": "A"}  # of channels, by the first word of their names; else none, PU
 
 
 class Case(Compound):
@@ -54,8 +78,6 @@ class Case(Compound):
     `every` so many steps the record has a sample. `tolerance_a` is the greatest residual of Kirchhoff's current law,
     0.01 A without it. `remark` stands above the cards as comments. `control` has the methods of the control's cards.
     """
-
-    end_of_run: End | None = None  # the early end of the last run
 
     def __init__(
         self,
@@ -69,8 +91,10 @@ class Case(Compound):
     ) -> None:
         self._draft = draft = Draft()
         self._heard: list[str] = []  # of the last answer
+        self._unheard: bytes | None = None  # the case that it was of, whose warnings aren't counted yet
         self.control = Control(draft)
-        self.every = _whole(every, "every", 1, 10**6)
+        self.end_of_run: End | None = None  # the early end of the last run
+        self._every = _whole(every, "every", 1, 10**6)
         iout = _whole(iout, "iout", -(10**7) + 1, 10**8 - 1)  # as many digits as its columns hold
         try:
             step = draft.number(columns.FIRST, "DELTAT", dt, "case")
@@ -81,20 +105,62 @@ class Case(Compound):
                 head.insert(0, draft.written(columns.TOLERANCE, {"tolerance": text}))
         except FieldError as fault:
             raise CaseError(f"Case: {fault}") from None
-        self._head = [*head, draft.written(columns.SECOND, {"IOUT": str(iout), "IPLOT": str(self.every)})]
+        self._head = [*head, draft.written(columns.SECOND, {"IOUT": str(iout), "IPLOT": str(self._every)})]
         self._remark = [line.rstrip() for line in remark.splitlines()]
         draft.dt_ps = step.kept
-        self.dt = draft.dt
-        self.steps = (2 * until.kept + step.kept) // (2 * step.kept)
-        self.end = self.steps * self.dt
-        if not 1 <= self.steps <= MOST_STEPS:
-            raise CaseError(f"Case: end / dt is {self.steps:,} steps, and has to be from 1 to {MOST_STEPS:,}")
+        self._steps = (2 * until.kept + step.kept) // (2 * step.kept)
+        if not 1 <= self._steps <= MOST_STEPS:
+            raise CaseError(f"Case: end / dt is {self._steps:,} steps, and has to be from 1 to {MOST_STEPS:,}")
+
+    def __setattr__(self, name: str, value: object) -> None:
+        """What stands on the cards stays, and a name that means nothing is none of a case."""
+        if name in ("dt", "end", "every", "steps"):
+            raise AttributeError(f"{name} stands on the cards of a case from its start: make another Case")
+        if type(self) is Case and not name.startswith("_") and name not in ("control", "end_of_run"):
+            raise AttributeError(f"a Case has no {name} that could be set")
+        super().__setattr__(name, value)
+
+    def __repr__(self) -> str:
+        contents = self._draft.contents
+        counts = (
+            f"{len(it)} {what}"
+            for it, what in (
+                (contents.nodes, "nodes"),
+                (contents.branches, "branches"),
+                (contents.switches, "switches"),
+                (contents.sources, "sources"),
+            )
+        )
+        return f"<Case of {self.steps:,} steps of {self.dt:g} s: {', '.join(counts)}>"
+
+    @property
+    def dt(self) -> float:
+        """The time step, in s."""
+        return self._draft.dt
+
+    @property
+    def end(self) -> float:
+        """The time of the last step, in s."""
+        return self._steps * self.dt
+
+    @property
+    def steps(self) -> int:
+        """How many steps a run has."""
+        return self._steps
+
+    @property
+    def every(self) -> int:
+        """Each so many steps the record has a sample."""
+        return self._every
 
     @property
     def told(self) -> list[str]:
         """What was done beyond the letter of the calls, each once: digits that a field lost, pieces that were cut. Then
         what is seldom meant so of the last answer: how many warnings the case has, that it asks for no output, rows
         of a batch that change nothing."""
+        if self._unheard is not None:
+            self._heard = _warned(self._unheard) + self._heard
+            self._unheard = None
         return [*self._draft.contents.told, *self._heard]
 
     # ---- what the record has
@@ -109,12 +175,12 @@ class Case(Compound):
     @property
     def names(self) -> list[str]:
         """The names of the record's analog channels, in its order; a later one of the same name has .2, .3 behind."""
-        return record.distinct(self._analog_names(), set(), [])
+        return distinct(self._analog_names(), set(), [])
 
     @property
     def state_names(self) -> list[str]:
         """The names of the record's status channels, in its order."""
-        return record.distinct(self._status_names(), set(self.names), [])
+        return distinct(self._status_names(), set(self.names), [])
 
     def _analog_names(self) -> list[str]:
         """The names as the record has them."""
@@ -227,23 +293,67 @@ class Case(Compound):
 
     # ---- answers of the program
 
-    def run(self, save: str | os.PathLike[str] | None = None) -> record.Record:
-        """Runs the case; answers its record.
+    def run(
+        self,
+        save: str | os.PathLike[str] | None = None,
+        *,
+        record: bool = False,
+        early: typing.Literal["warn", "raise", "keep"] = "warn",
+        timeout: float | None = None,
+    ) -> Record:
+        """Runs the case; answers its record, with all digits where `emtp_judge` is found.
 
-        A run that ends early gives the samples before its end, which `record.told` says; `end_of_run` has it as a
-        value. With `save` a folder and a stem, as "out/line", the case and its record stay as out/line.case, .cfg and
-        .dat.
+        Without that program, or with `record`, the values are those of the record that the program writes, in 16 bits:
+        `record.steps` has the step of each channel, and `record.told` says them. With `save` a folder and a stem, as
+        "out/line", the case and its record are written as out/line.case, .cfg and .dat, all three or none.
+
+        A run that ends early gives the samples before its end. It is told in `record.told` and `end_of_run`; by `early`
+        it is a RuntimeWarning too, an EndedEarly, or no more than told. `timeout` is in s: a run that takes longer is a
+        TimeoutExpired.
         """
-        with program.room() as room:
-            place, stem = (pathlib.Path(room), "case") if save is None else _place(save)
-            note = self._answer(["run", *(f"./{stem}.{ending}" for ending in ("case", "cfg", "dat"))], place, (0, 3))
-            found = record.read(place / f"{stem}.cfg", place / f"{stem}.dat")
+        if early not in ("warn", "raise", "keep"):
+            raise CaseError(f"early is 'warn', 'raise' or 'keep', and here {early!r}")
+        place = None if save is None else _place(save)
+        exact = not record and program.has_judge()
+        if place or not exact:
+            note, found = self._recorded(place, timeout)
+        if exact:
+            note, found = self._computed(timeout)
+            found.path = f"{os.path.join(*place)}.cfg" if place else ""
+        self.end_of_run = end_of(note, self.dt)
         if not found.names and not found.state_names:
             self._heard.append("no output is asked for, so the record has no channel")
-        self.end_of_run = end_of(note, self.dt)
         if self.end_of_run:
-            found.told.insert(0, str(self.end_of_run) + self._cure(self.end_of_run))
+            words = str(self.end_of_run) + self._cure(self.end_of_run)
+            found.told.insert(0, words)
+            if early == "raise":
+                raise EndedEarly(words, self.end_of_run, found)
+            if early == "warn":
+                warnings.warn(words, RuntimeWarning, stacklevel=2)
         return found
+
+    def _recorded(self, place: tuple[str, str] | None, timeout: float | None) -> tuple[str, Record]:
+        """The note of a run, and the record that the program wrote, which is kept at the place, where there is one."""
+        with program.memory() as cfg, program.memory() as dat:
+            names = [program.path_of(it) for it in (cfg, dat)]
+            note = self._answer(["run"], names, (0, 3), (cfg, dat), timeout)
+            found = read(*names)
+            if place:
+                texts = [self.text().encode(), *(pathlib.Path(it).read_bytes() for it in names)]
+                _save(*place, dict(zip(("case", "cfg", "dat"), texts)))
+        found.path = f"{os.path.join(*place)}.cfg" if place else ""
+        steps = ", ".join(f"{name} by {step:g} {unit}" for (name, step), unit in zip(found.steps.items(), found.units))
+        if steps:
+            found.told.append(f"values are those of 16 bits: {steps}")
+        return note, found
+
+    def _computed(self, timeout: float | None) -> tuple[str, Record]:
+        """The note of a run, and its values with all digits."""
+        note, _, lines = self._answer(["judge", "--samples"], [], timeout=timeout).partition("\n")
+        names, states = self._analog_names(), self._status_names()
+        values = whole_values(lines, len(names) + len(states), "emtp_judge")
+        units = [UNITS.get(name.split(" ")[0], "PU") for name in names]
+        return note, computed(names, units, states, values, self.dt * self.every)
 
     def _cure(self, end: End) -> str:
         """What may help where a run left the range beside an inductance."""
@@ -255,7 +365,7 @@ class Case(Compound):
 
     def steady(self) -> Steady:
         """The voltages of the nodes in the steady state of the frequency of its sources (docs/phasor.md)."""
-        return steady_of(self._answered(["phasor", "case.case"]))
+        return steady_of(self._answer(["phasor"]))
 
     def scan(self, first: int, last: int, step: int) -> Scan:
         """The impedance that the one source sees, from a first to a last frequency in whole Hz (docs/phasor.md)."""
@@ -265,7 +375,7 @@ class Case(Compound):
                 "the first frequency has to be at most the last one, and 10,000 of them are scanned at most"
             )
         lines = self._lines()
-        return scan_of(self._answered(["scan", "case.case", *words]), lambda line: _card_at(lines, line)[0])
+        return scan_of(self._answer(["scan"], words), lambda line: _card_at(lines, line)[0])
 
     def batch(
         self, closings: typing.Sequence | np.ndarray, openings: typing.Sequence | np.ndarray | None = None
@@ -287,7 +397,8 @@ class Case(Compound):
         notes = []
         for first in range(0, len(rows), MOST_ROWS):
             table = "".join(f"{row}\n" for row in rows[first : first + MOST_ROWS])
-            notes.append(self._answered(["batch", "case.case", "times"], {"times": table}))
+            with program.memory(table.encode("ascii")) as times:
+                notes.append(self._answer(["batch"], [program.path_of(times)], files=(times,)))
         if not self.names:
             self._heard.append("no output is asked for, so there are no peaks")
         late = sum(min(float(it) for it in row.split() if it != "-") > self.end + 5e-13 for row in rows)
@@ -314,49 +425,52 @@ class Case(Compound):
     def show(self) -> listing.Listing:
         """What the program reads of the case: each record with its line, values and units, and the warnings
         (docs/show.md)."""
-        return listing.read(self._answered(["show", "case.case"]))
+        return listing.read(self._answer(["show"]))
 
-    def _answered(self, words: list[str], others: dict[str, str] | None = None) -> str:
-        """What a command prints of the case."""
-        with program.room() as room:
-            for name, text in (others or {}).items():
-                (pathlib.Path(room) / name).write_text(text, encoding="ascii")
-            return self._answer(words, pathlib.Path(room), (0,))
-
-    def _answer(self, words: list[str], place: pathlib.Path, good: tuple[int, ...]) -> str:
-        """What a command prints of the case, which is written at the place; what isn't good is raised."""
+    def _answer(
+        self,
+        before: list[str],
+        behind: typing.Sequence[str] = (),
+        good: tuple[int, ...] = (0,),
+        files: tuple[int, ...] = (),
+        timeout: float | None = None,
+    ) -> str:
+        """What a command prints of the case, which stands between these words; what isn't good is raised."""
         lines = self._lines()
-        self.write(place / words[1], rulers=False)
-        self._heard = []
-        ended = program.run(words, place)
+        self._heard, self._unheard, text = [], None, self.text().encode()
+        with program.memory(text) as case:
+            words = [*before, program.path_of(case), *behind]
+            ended = program.run(words, files=(case, *files), timeout=timeout)
         if ended.status in good:
-            self._heard = [] if words[0] == "show" else _warned(place, words[1])
+            self._unheard = None if before == ["show"] else text
             return ended.note
         refused = BAD_CARD.search(ended.note)
         barred = REFUSED.search(ended.note)
-        if refused or barred:
-            line = int((refused or barred)[1])
-            column, reason = (int(refused[2]), refused[4]) if refused else (0, barred[3])
-            raise Refused(line, column, reason, *_card_at(lines, line))
+        if found := refused or barred:
+            column, reason = (int(found[2]), found[4]) if refused else (0, found[3])
+            raise Refused(int(found[1]), column, reason, *_card_at(lines, int(found[1])))
         if unsolved := UNSOLVED.search(ended.note):
-            raise CaseError(f"no steady state, {unsolved[1]} at {unsolved[2]}: {_help(place, *unsolved.groups())}")
+            raise CaseError(f"no steady state, {unsolved[1]} at {unsolved[2]}: {_help(*unsolved.groups())}")
         told = (ended.note.strip() + " " + ended.told.strip()).strip()
-        raise CaseError(f"emtp {words[0]} ended with status {ended.status}: {told[:1000] or 'nothing was said'}")
+        raise CaseError(
+            f"emtp {before[0]} ended with status {ended.status}: {told[:1000] or STATUSES.get(ended.status, NOTHING)}"
+        )
 
 
-def _warned(place: pathlib.Path, case: str) -> list[str]:
+def _warned(text: bytes) -> list[str]:
     """How many warnings there are of a case that was accepted, where there are some."""
     try:
-        count = program.run(["show", "--count", case], place).note.strip()
+        with program.memory(text) as case:
+            count = program.run(["show", "--count", program.path_of(case)], files=(case,)).note.strip()
     except program.ProgramError as fault:
         return [f"warnings aren't counted: {fault}"]
     there = {"": "", "0": "", "1": "there is 1 warning"}.get(count, f"there are {count} warnings")
     return [f"{there} of what was read: case.show().warnings"] if there else []
 
 
-def _help(place: pathlib.Path, cause: str, name: str) -> str:
+def _help(cause: str, name: str) -> str:
     """The program's words for a cause that leaves no steady state, and the usual cure."""
-    told = program.run(["show", "--ended", cause, "", name], place)
+    told = program.run(["show", "--ended", cause, "", name])
     return " ".join(told.note.split()) or CAUSES.get(cause, cause)
 
 
@@ -375,11 +489,33 @@ def _whole(value: int, what: str, low: int, high: int) -> int:
     return int(value)
 
 
-def _place(save: str | os.PathLike[str]) -> tuple[pathlib.Path, str]:
-    """Folder and stem of the files that stay."""
-    path = pathlib.Path(save)
-    path.parent.mkdir(parents=True, exist_ok=True)
-    return path.parent, path.name
+def _place(save: str | os.PathLike[str]) -> tuple[str, str]:
+    """Folder and stem of the files that stay; the folder is made."""
+    folder, stem = os.path.split(os.fspath(save))
+    if stem in ("", ".", ".."):
+        raise CaseError(
+            f"save is a folder and a stem, as 'out/line' for out/line.cfg, and {os.fspath(save)!r} has no stem"
+        )
+    os.makedirs(folder or ".", exist_ok=True)
+    return folder, stem
+
+
+def _save(folder: str, stem: str, files: dict[str, bytes]) -> None:
+    """Puts the files of a run there, all of one run also where others put theirs at the same time."""
+    with _locked(folder or "."):
+        put({os.path.join(folder, f"{stem}.{ending}"): [data] for ending, data in files.items()})
+
+
+@contextlib.contextmanager
+def _locked(folder: str) -> typing.Iterator[None]:
+    """Alone with a folder, among those that ask for it so."""
+    opened = os.open(folder, os.O_RDONLY)
+    try:
+        with contextlib.suppress(OSError):  # some file systems have no locks
+            fcntl.flock(opened, fcntl.LOCK_EX)
+        yield
+    finally:
+        os.close(opened)
 
 
 def _own_times(switch: Switch, closing: float, opening: float) -> tuple[float, float | None]:
@@ -391,7 +527,10 @@ def _own_times(switch: Switch, closing: float, opening: float) -> tuple[float, f
 
 
 def _rows(times: typing.Sequence | np.ndarray, what: str, switches: int) -> np.ndarray:
-    found = np.asarray(times, dtype=float)
+    try:
+        found = np.asarray(times, dtype=float)
+    except (TypeError, ValueError):
+        raise CaseError(f"{what} are times in s, and here {times!r:.60}") from None
     if found.ndim == 1 and switches == 1:
         found = found[:, np.newaxis]
     if found.ndim != 2 or found.shape[1] != switches or not len(found):
@@ -403,6 +542,8 @@ def _rows(times: typing.Sequence | np.ndarray, what: str, switches: int) -> np.n
 
 def _time(seconds: float) -> str:
     """An item of a table of times, to the ps."""
+    if not np.isfinite(seconds):
+        raise CaseError(f"a row of a batch has times in s, nan for the switch's own, and here {seconds}")
     kept = fields.nearest(fields.EXACT.scaleb(fields.exact(seconds, "a time"), 12))
     return f"{fields.EXACT.scaleb(fields.exact(kept, 'a time'), -12):f}"
 

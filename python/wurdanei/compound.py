@@ -71,7 +71,10 @@ class Compound(Network):
         since the control begins at rest. Arrays of shape (points,), from 2 to 4,500 points: tables of the control of
         64 points each.
         """
-        t, v = np.asarray(times_s, dtype=float), np.asarray(values, dtype=float)
+        try:
+            t, v = np.asarray(times_s, dtype=float), np.asarray(values, dtype=float)
+        except (TypeError, ValueError):
+            raise CaseError("the times and the values of a waveform are numbers") from None
         if t.ndim != 1 or t.shape != v.shape or not 2 <= len(t) <= 4500:
             raise CaseError(f"a waveform has 2 to 4,500 times and as many values, and here {t.shape} and {v.shape}")
         if not (np.isfinite(t).all() and np.isfinite(v).all() and (np.diff(t) > 0).all()):

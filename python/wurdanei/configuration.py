@@ -20,7 +20,7 @@ NUMBER = re.compile(r"[+-]?(\d+\.?\d*|\.\d+)([eE][+-]?\d+)?", re.ASCII)
 MOMENT = re.compile(r"(\d{1,2})/(\d{1,2})/(\d{4}|\d{2}),(\d{1,2}):(\d{1,2}):(\d{1,2})(?:\.(\d{0,9}))?", re.ASCII)
 
 
-class RecordError(Exception):
+class RecordError(ValueError):
     """A record that can't be read or written: the file, the line or byte, and the cause, in words."""
 
 

@@ -175,6 +175,8 @@ class Control:
         Its words may be parted by blanks; without them it has 69 characters at most.
         """
         place = columns.FORMULA.field("expression")
+        if not isinstance(text, str):
+            raise CaseError(f"a formula is a text, and here {text!r}")
         try:
             found = formula.read(text)
         except formula.FormulaError as fault:

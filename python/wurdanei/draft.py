@@ -8,6 +8,8 @@ import sys
 import typing
 from dataclasses import dataclass, field
 
+import numpy as np
+
 from . import columns, fields
 from .columns import Card
 from .fields import FieldError, Fitted
@@ -223,11 +225,13 @@ class Draft:
         self, card: Card, names: tuple[str, str], points: typing.Sequence[tuple[float, float]], least: int, most: int
     ) -> list[tuple[tuple[int, int], Written]]:
         """The kept numbers of pairs, and their cards."""
+        if isinstance(points, str) or not isinstance(points, (typing.Sequence, np.ndarray)):
+            raise CaseError(f"points are pairs of {names[0]} and {names[1]}, and here {points!r}")
         if not least <= len(points) <= most:
             raise CaseError(f"there are {least} to {most} points, and here {len(points)}")
         found = []
         for number, point in enumerate(points, 1):
-            if len(point) != 2:
+            if not isinstance(point, (typing.Sequence, np.ndarray)) or len(point) != 2:
                 raise CaseError(f"point {number} has two numbers, {names[0]} and {names[1]}")
             both = [self.number(card, name, value, f"point {number}") for name, value in zip(names, point)]
             if both[0].kept == 9999 * 10 ** card.field(names[0]).scale:

@@ -104,7 +104,8 @@ def rounded(kept: int, count: int) -> tuple[str, int]:
 def fitted(value: numbers.Real | Decimal | float, field: Field, width: int | None = None) -> Fitted:
     """The value in at most `width` columns (those of the field), as near as they hold it.
 
-    Raises FieldError where the value is out of the field's range, or where more than LOSES of it would be lost.
+    Raises FieldError where the value is out of the field's range, or where more than LOSES of it would be lost; but
+    what is below half of the least number that is kept is 0.
     """
     width = field.width if width is None else width
     number = exact(value, field.name)
@@ -122,7 +123,9 @@ def fitted(value: numbers.Real | Decimal | float, field: Field, width: int | Non
             best = Fitted(sign + text, own, lost(number, own, field.scale))
             break
         count = len(digits) - 1
-    if best.loss > LOSES:
+    # below half of what is kept a number is noise of a computation, but where 0 says another thing than nothing
+    nothing = kept == 0 and field.unit != "uF" and field.blank != "1"
+    if best.loss > LOSES and not nothing:
         becomes = (
             f"{field.name} = {value} {field.unit}".rstrip() + f" becomes {shown(best.kept, field.scale, field.unit)}"
         )

@@ -2,12 +2,13 @@
 
 import re
 from dataclasses import dataclass, field
-from decimal import Decimal, InvalidOperation
+from decimal import Decimal
 
 from . import formula
 
 NOTHING = ("never", "(always)", "(no variable)")  # of a value that isn't there
 GROUND = "(ground)"
+NUMBER = re.compile(r"[+-]?(\d+\.?\d*|\.\d+)([eE][+-]?\d+)?", re.ASCII)
 # lines that go on with what the line before them began
 CONTINUED = ("point", "numerator", "denominator")
 
@@ -24,21 +25,25 @@ class Entry:
     text: str | None
 
     @property
-    def value(self) -> Decimal | str | None:
+    def value(self) -> float | str | None:
         """A number without its unit or limit; a name, ground the empty one; None for what isn't there."""
         if self.text is None or self.text in NOTHING:
             return None
         if self.text == GROUND:
             return ""
-        try:
-            return Decimal(self.text.split(" ")[0])
-        except InvalidOperation:
-            return self.text
+        exact = self.exact
+        return self.text if exact is None else float(exact)
+
+    @property
+    def exact(self) -> Decimal | None:
+        """A number with all its digits; None for what is none."""
+        word = (self.text or "").split(" ")[0]
+        return Decimal(word) if NUMBER.fullmatch(word) else None
 
     @property
     def unit(self) -> str:
         """What stands behind a number."""
-        return self.text.partition(" ")[2] if self.text and isinstance(self.value, Decimal) else ""
+        return self.text.partition(" ")[2] if self.text and isinstance(self.value, float) else ""
 
 
 @dataclass
@@ -62,10 +67,14 @@ class Line:
                 return entry.text
         raise KeyError(name)
 
-    def __getitem__(self, name: str) -> Decimal | str | None:
+    def __getitem__(self, name: str) -> float | str | None:
         """The value of an entry: a number, or a name; None for never, always and no variable. Names are never numbers
         here."""
         return Entry(name, self.text(name)).value
+
+    def exact(self, name: str) -> Decimal | None:
+        """The value of an entry that is a number, with all its digits; None for what is none."""
+        return Entry(name, self.text(name)).exact
 
     def name(self, name: str) -> str | None:
         """The value of an entry that is a name, which may look like a number."""

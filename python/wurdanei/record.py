@@ -22,13 +22,13 @@ from typing import TYPE_CHECKING, BinaryIO, Iterable, Iterator
 
 import numpy as np
 
-from .configuration import Configuration, RecordError, read_configuration, tell
-from .samples import Samples, line_of, read_samples
+from .configuration import Analog, Configuration, RecordError, State, read_configuration, tell
+from .samples import Samples, Whole, line_of, read_samples
 
 if TYPE_CHECKING:
     import pandas
 
-__all__ = ["Record", "RecordError", "read"]
+__all__ = ["Record", "RecordError", "UnknownChannel", "read"]
 
 LONGEST_HEAD = 200  # bytes of the line that begins a section of a cff
 BLOCK = 1 << 16  # samples whose times are made or compared at once, so that little memory is taken
@@ -37,15 +37,21 @@ SECTION = re.compile(
 )
 
 
-@dataclass
+class UnknownChannel(RecordError, KeyError):
+    """A channel that a record doesn't have."""
+
+    __str__ = RecordError.__str__
+
+
+@dataclass(eq=False, repr=False)
 class Record:
     """A record. Its channels are read on demand from what the file holds."""
 
-    path: str
+    path: str  # empty where it is in no file
     station: str
     device: str
     revision: int  # 1991, 1999 or 2013
-    form: str  # "ASCII", "BINARY", "BINARY32" or "FLOAT32"
+    form: str  # "ASCII", "BINARY", "BINARY32" or "FLOAT32"; "INT64" with all digits of a run
     times: np.ndarray = field(
         repr=False
     )  # shape (samples,), float64, s from the first sample's instant; skew not applied
@@ -91,7 +97,7 @@ class Record:
     def states(self, name: str) -> np.ndarray:
         """States of a status channel: shape (samples,), uint8, 0 or 1."""
         if name not in self.state_names:
-            raise RecordError(f"{self.path}: no status channel {name!r}; it has {listed(self.state_names)}")
+            raise UnknownChannel(f"{self._where}: no status channel {name!r}; it has {listed(self.state_names)}")
         return self._samples.state(self.state_names.index(name))
 
     def missing(self, name: str) -> int:
@@ -103,6 +109,12 @@ class Record:
         own = self._configuration.analogs[self._place(name)]
         ratio = own.primary / own.secondary if own.scaling == "S" else 1.0
         return math.nan if self.form == "FLOAT32" else abs(own.multiplier) * ratio
+
+    @property
+    def steps(self) -> dict[str, float]:
+        """Of each analog channel, in its unit, the distance between two values that can be told apart; nan in the form
+        FLOAT32, where it is 6e-8 of the value."""
+        return {name: self.multiplier(name) for name in self.names}
 
     def ratio(self, name: str) -> tuple[float, float]:
         """Primary and secondary side of a channel's instrument transformer; (1, 1) where none is named."""
@@ -124,10 +136,15 @@ class Record:
         }
         return pandas.DataFrame(columns, index=pandas.Index(self.times, name="s"))
 
+    @property
+    def _where(self) -> str:
+        """What an error says that it is of."""
+        return self.path or "the record"
+
     def _place(self, name: str) -> int:
         """The place of an analog channel, from 0."""
         if name not in self.names:
-            raise RecordError(f"{self.path}: no analog channel {name!r}; it has {listed(self.names)}")
+            raise UnknownChannel(f"{self._where}: no analog channel {name!r}; it has {listed(self.names)}")
         return self.names.index(name)
 
 
@@ -291,6 +308,39 @@ def made(path: str, own: Configuration, samples: Samples) -> Record:
     if record.secondary():
         tell(told, f"recorded as secondary values, answered as primary: {listed(record.secondary())}")
     return record
+
+
+def computed(names: list[str], units: list[str], states: list[str], values: np.ndarray, step: float) -> Record:
+    """The record of a run whose values are known with all digits: whole multiples of 1e-9 of the unit, shape (samples,
+    analog and then status channels), a sample each `step` seconds."""
+    analogs = [
+        Analog(name, "", "", unit, 1e-9, 0.0, 0.0, math.nan, math.nan, 1.0, 1.0, "P", 0)
+        for name, unit in zip(names, units)
+    ]
+    own = distinct(names, set(), [])
+    return Record(
+        path="",
+        station="EMTP",
+        device="CASE",
+        revision=2013,
+        form="INT64",
+        times=step * np.arange(len(values)),
+        names=own,
+        units=units,
+        phases=[""] * len(names),
+        circuits=[""] * len(names),
+        state_names=distinct(states, set(own), []),
+        frequency=math.nan,
+        trigger=0.0,
+        start=None,
+        rates=[],
+        told=[],
+        _configuration=Configuration(
+            "the run", "EMTP", "CASE", 2013, analogs, [State(name, "", "", 0) for name in states], math.nan,
+            [(0.0, len(values))], 0, None, None, "INT64", 1.0, "", [],
+        ),
+        _samples=Whole(values, len(names)),
+    )  # fmt: skip
 
 
 def distinct(names: list[str], taken: set[str], told: list[str]) -> list[str]:

@@ -264,6 +264,35 @@ class Text(Samples):
         return f"{self.path}: line {self.first_line + int(sample)}"
 
 
+class Whole(Samples):
+    """Samples that were computed: whole numbers of 64 bits, shape (samples, analog and then status channels)."""
+
+    def __init__(self, table: np.ndarray, analogs: int) -> None:
+        self.table, self.analogs, self.count = table, analogs, len(table)
+
+    def stamps(self) -> Iterator[np.ndarray]:
+        yield np.full(self.count, np.nan)
+
+    def raw(self, place: int) -> np.ndarray:
+        return self.table[:, place].astype(np.float64)
+
+    def state(self, place: int) -> np.ndarray:
+        return self.table[:, self.analogs + place].astype(np.uint8)
+
+    def where(self, sample: int) -> str:
+        return f"sample {int(sample) + 1}"
+
+
+def whole_values(text: str, channels: int, whose: str) -> np.ndarray:
+    """The whole numbers of lines with so many each, between blanks: shape (lines, channels), int64."""
+    lines = text.count("\n")
+    found = numbers_of(text, np.int64, " ") if channels and lines else np.zeros(0, np.int64)
+    if found is None or not text.endswith("\n") or len(found) != lines * channels:
+        count = "no" if found is None else len(found)
+        raise RecordError(f"{whose} answered {count} numbers in {lines} lines, and {channels} a line are wanted")
+    return found.reshape(lines, channels)
+
+
 def missing_mark(revision: int, high: float) -> float:
     """The raw value that says in an ASCII file that there is none; nan where a channel of 2013 ranges beyond it."""
     if revision == 1991:
@@ -289,12 +318,12 @@ def as_kept(values: np.ndarray) -> np.ndarray:
     return made
 
 
-def numbers_of(text: bytes) -> np.ndarray | None:
-    """The numbers between commas; None where something else stands there."""
+def numbers_of(text: bytes | str, kind: type = np.float64, between: str = " , ") -> np.ndarray | None:
+    """The numbers between commas, or what else stands between; None where something else stands there."""
     with warnings.catch_warnings():
         warnings.simplefilter("error", DeprecationWarning)  # of a text that is no list of numbers
         try:
-            return np.fromstring(text, np.float64, sep=" , ")
+            return np.fromstring(text, kind, sep=between)
         except (DeprecationWarning, ValueError):
             return None
 

@@ -10,6 +10,7 @@ from __future__ import annotations
 
 import math
 import os
+import threading
 from dataclasses import dataclass, field
 from datetime import datetime, timedelta
 from decimal import Decimal
@@ -282,7 +283,8 @@ def data_size(content: Content, form: str) -> int | None:
 def put(files: dict[str, Iterable[bytes]]) -> None:
     """Writes files, each in pieces: all beside their places, then moves them there, so that a fault leaves what was
     there before."""
-    beside = {path: f"{path}.{os.getpid()}.part" for path in files}
+    own = f"{os.getpid()}.{threading.get_ident()}.part"
+    beside = {path: f"{path}.{own}" for path in files}
     try:
         for path, parts in files.items():
             with open(beside[path], "wb") as file:
